@@ -1,0 +1,9 @@
+pub mod Slots
+pub mod Within
+pub mod Left
+pub mod Sweeps
+pub mod Hulls
+pub mod Equals
+pub mod Laws
+pub mod Examples
+pub mod Ordered

@@ -1,0 +1,11 @@
+-- what the public contracts say
+pub mod Sides
+pub mod Lists
+pub mod Boxes
+pub mod Regions
+pub mod BoxList
+-- between the crate's own types and functions
+pub mod PointSlots
+pub mod BoxSlots
+pub mod Sweep
+pub mod Widened

@@ -1,0 +1,6 @@
+-- Places in a list.
+use Rattle.std.specs.Prelude.{◌≡◌, ℕ, List, Some, slice_get}
+
+-- x stands in the list at place k
+abbrev pub At : {A : Type 0} → List A → ℕ → A → Type 0
+At xs k x = slice_get xs k ≡ Some x
