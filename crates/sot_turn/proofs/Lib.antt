@@ -1,0 +1,11 @@
+pub mod PrefixLemmas
+pub mod ViewLemmas
+pub mod Homes
+pub mod Parts
+pub mod Opening
+pub mod Drawing
+pub mod Looking
+pub mod Announcing
+pub mod Passing
+pub mod Splitting
+pub mod Joining

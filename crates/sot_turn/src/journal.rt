@@ -1,0 +1,17 @@
+//! What a value behind the lock has to be.
+ghost use Rattle.std.specs.Prelude.{◌≡◌, List, length};
+
+/// A value that stands for a ground and for a list of entries, both plain data.
+pub trait Journal {
+    type Ground;
+
+    type Entry;
+
+    ghost ground: { Self → Self.Ground };
+
+    ghost entries: { Self → List Self.Entry };
+
+    /// The length of the list. It takes no memory.
+    fn len(&self) -> u64
+        ensures { result ≡ length (entries self.now) };
+}
