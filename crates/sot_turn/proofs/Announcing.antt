@@ -1,5 +1,5 @@
 -- Announcing the length of the value in the slot keeps the rule.
-use Rattle.std.proofs.Common.{◌≡◌, ◌≢◌, ℕ, true, List, [], ◌∷◌, length, slice_set, Some, true≢false, sym, refl, ap, ◌∙◌, subst, arith, length-set, get_or-set_other, get_or-set_same}
+use Rattle.std.proofs.Common.{◌≡◌, ◌≢◌, ℕ, true, List, length, slice_set, Some, true≢false, sym, refl, ap, ◌∙◌, subst, arith, length-set, get_or-set_other, get_or-set_same}
 use mathlib.Core.Option as maybe
 use Rattle.atomic_table.specs.Table.{step, keeps, Allows}
 use Rattle.sot_turn.specs.declared.turn.rule.View.{View}
@@ -10,6 +10,7 @@ use Rattle.sot_turn.specs.Steps.{announces}
 use Rattle.sot_turn.proofs.PrefixLemmas.{IsPrefix-refl, IsPrefix-trans, All-map, some_is_not_none}
 use Rattle.sot_turn.proofs.ViewLemmas.{new_at_place, EachView-set, HaveDistinctTickets-kept, HaveEachTicket-kept}
 use Rattle.sot_turn.proofs.Homes.{out_is_not_home, one_taken}
+use Rattle.sot_turn.proofs.Handing.{HasPutBack}
 use Rattle.sot_turn.proofs.Parts.{Parts, kept_by_parts}
 
 module _ {Ground Entry : Type 0} (common list : List Entry) (base : Ground) (tickets now : ℕ) where
@@ -69,10 +70,9 @@ module _ {Value Ground Entry : Type 0} (ground_of : Value → Ground) (entries_o
       }
 
 module _ {Value Ground Entry : Type 0} (ground_of : Value → Ground) (entries_of : Value → List Entry) where
-  pub announces_keep : (slots place len : ℕ) (me : Seated Value Ground Entry) (value : Value) (own : Ground) →
-      me.0.turn ≡ true → me.0.own_ground ≡ Some own → me.1 ≡ (0, Some value) ∷ [] → IsPrefix me.0.seen (entries_of value) → len ≡ length (entries_of value) →
+  pub announces_keep : (slots place len : ℕ) (me : Seated Value Ground Entry) (value : Value) → HasPutBack ground_of entries_of value me → len ≡ length (entries_of value) →
       Allows (Kept ground_of entries_of) slots place me 2 (λ _. len) (λ _. announces entries_of (step slots 2 len 0 maybe.none) me len)
-  announces_keep slots place len me value own turn has taken goes_on is table rule _ at _ =
+  announces_keep slots place len me value has is table rule _ at _ =
       let three = rule.three_words in
       let new : View Ground Entry = record me.0 { seen = entries_of value } in (
         new,
@@ -83,6 +83,6 @@ module _ {Value Ground Entry : Type 0} (ground_of : Value → Ground) (entries_o
             (get_or-set_other table.words 2 0 len 0 (λ e. omega arith))
             (get_or-set_other table.words 2 1 len 0 (λ e. omega arith))
             (get_or-set_same table.words 2 len 0 (omega arith) ∙ is)
-            (announced_parts ground_of entries_of table rule place me.0 at turn own (entries_of value) has goes_on),
-        (λ other also. ap (λ (v : Value). (record me.0 { seen = entries_of v }, me.1)) (one_taken me.1 value other taken also)),
+            (announced_parts ground_of entries_of table rule place me.0 at has.turn (ground_of value) (entries_of value) has.own has.goes_on),
+        (λ other also. ap (λ (v : Value). (record me.0 { seen = entries_of v }, me.1)) (one_taken me.1 value other has.slot also)),
       )

@@ -74,6 +74,17 @@ module _ {Value Ground Entry : Type 0} (ground_of : Value → Ground) (entries_o
       (spent_fits between_rule.common between_rule.base (drawn between) (served between))
 
 -- the one ground that is kept is the seat's own
-pub kept_is_own : {Ground : Type 0} (own : Ground) (kept : Option Ground) → IsSome kept → All (λ g. g ≡ own) (list_of kept) → kept ≡ Some own
+kept_is_own : {Ground : Type 0} (own : Ground) (kept : Option Ground) → IsSome kept → All (λ g. g ≡ own) (list_of kept) → kept ≡ Some own
 kept_is_own own None has all = absurd (cc)
 kept_is_own own (Some g) has all = ap Some (all 0 g (omega arith))
+
+-- what a look tells of the grounds after a join
+pub one_ground : {Ground Entry : Type 0} (view other now : View Ground Entry) → IsIdle view → IsIdle other → now ≡ joined view other →
+    ((own : Ground) → now.own_ground ≡ Some own → All (λ kept. kept ≡ own) now.kept_grounds) →
+    (now.own_ground ≡ view.own_ground) × (now.own_ground ≡ other.own_ground)
+one_ground {Ground} {Entry} view other now idle other_idle is =
+    let has = has_some view.own_ground idle.2 in
+    subst
+    (λ (v : View Ground Entry). ((own : Ground) → v.own_ground ≡ Some own → All (λ kept. kept ≡ own) v.kept_grounds) → (v.own_ground ≡ view.own_ground) × (v.own_ground ≡ other.own_ground))
+    (sym is)
+    (λ told. (refl, has.1 ∙ sym (kept_is_own has.0 other.own_ground other_idle.2 (told has.0 has.1))))

@@ -5,6 +5,7 @@ pub mod Parts
 pub mod Opening
 pub mod Drawing
 pub mod Looking
+pub mod Handing
 pub mod Announcing
 pub mod Passing
 pub mod Splitting

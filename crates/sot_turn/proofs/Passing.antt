@@ -1,5 +1,5 @@
 -- Passing the turn keeps the rule.
-use Rattle.std.proofs.Common.{◌≡◌, ◌≢◌, ℕ, ◌+◌, ◌%◌, ◌^◌, ◌<◌, true, false, List, [], ◌∷◌, length, slice_set, Option, Some, None, true≢false, sym, refl, ap, ◌∙◌, subst, inr, arith, length-set, get_or-set_other, get_or-set_same, mod-eq_of_lt}
+use Rattle.std.proofs.Common.{◌≡◌, ◌≢◌, ℕ, ◌+◌, ◌%◌, ◌^◌, ◌<◌, true, false, List, length, slice_set, Option, Some, None, true≢false, sym, refl, ap, ◌∙◌, subst, inr, arith, length-set, get_or-set_other, get_or-set_same, mod-eq_of_lt}
 use mathlib.Core.Option as maybe
 use Rattle.atomic_table.specs.Table.{step, gives, put_back, Allows}
 use Rattle.sot_turn.specs.declared.turn.rule.View.{View}
@@ -9,6 +9,7 @@ use Rattle.sot_turn.specs.Steps.{passes}
 use Rattle.sot_turn.proofs.PrefixLemmas.{some_same, some_is_not_none}
 use Rattle.sot_turn.proofs.ViewLemmas.{EachView-set, HaveDistinctTickets-kept, HaveEachTicket-set}
 use Rattle.sot_turn.proofs.Homes.{one_at_home, IsHome-given}
+use Rattle.sot_turn.proofs.Handing.{HasAnnounced}
 use Rattle.sot_turn.proofs.Parts.{Parts, Fits-idle, kept_by_parts}
 use Rattle.sot_turn.proofs.Announcing.{nobody_else}
 
@@ -89,16 +90,16 @@ module _ {Value Ground Entry : Type 0} (ground_of : Value → Ground) (entries_o
       (passed_parts one)
 
 module _ {Value Ground Entry : Type 0} (ground_of : Value → Ground) (entries_of : Value → List Entry) where
-  pub passes_keep : (slots place : ℕ) (me : Seated Value Ground Entry) (value : Value) →
-      slots ≡ 1 → me.0.turn ≡ true → me.0.own_ground ≡ Some (ground_of value) → me.1 ≡ (0, Some value) ∷ [] → me.0.seen ≡ entries_of value →
+  pub passes_keep : (slots place : ℕ) (me : Seated Value Ground Entry) (value : Value) → slots ≡ 1 → HasAnnounced ground_of entries_of value me →
       Allows (Kept ground_of entries_of) slots place me 1 (λ n. (n + 1) % 2 ^ 64) (passes (step slots 1 1 0 maybe.none) me)
-  passes_keep slots place me value one turn has taken all table rule long at _ =
+  passes_keep slots place me value one has table rule long at _ =
       let new : View Ground Entry = record me.0 { ticket = None; turn = false } in (
         new,
         gives,
         tt,
-        subst (λ (slots : List (ℕ × Option Value)). Kept ground_of entries_of record { words = slice_set table.words 1 ((served table + 1) % 2 ^ 64); homes = put_back table.homes slots; views = slice_set table.views place new })
-            (sym taken)
-            (passed_kept ground_of entries_of table rule place me.0 at turn value has all (long ∙ one)),
+        subst
+            (λ (taken : List (ℕ × Option Value)). Kept ground_of entries_of record { words = slice_set table.words 1 ((served table + 1) % 2 ^ 64); homes = put_back table.homes taken; views = slice_set table.views place new })
+            (sym has.slot)
+            (passed_kept ground_of entries_of table rule place me.0 at has.turn value has.own has.all_seen (long ∙ one)),
         refl,
       )
