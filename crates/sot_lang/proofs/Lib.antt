@@ -1,0 +1,9 @@
+pub mod Lists
+pub mod Reaches
+pub mod Executes
+pub mod Rows
+pub mod ActRows
+pub mod LineReach
+pub mod ShortLists
+pub mod LineRules
+pub mod Places
