@@ -1,0 +1,94 @@
+-- The values of a list of expressions one after another, and how many names a plant has.
+use Rattle.std.proofs.Common.{◌≡◌, ℕ, zero, suc, ◌+◌, ◌*◌, ◌<◌, ◌≤◌, ℤ, List, [], ◌∷◌, ◌++◌, Ok, Err, take, length, get_or, refl, sym, ap, ap₂, ◌∙◌, subst, arith, length-append}
+use Rattle.std.specs.Prelude.{map, replicate, false}
+use Rattle.std.proofs.lemmas.List.{length-map, length-replicate}
+use Rattle.std.proofs.lemmas.Option.{get_or_from_slice_get}
+use Rattle.sot_box.specs.Lists.{At}
+use Rattle.sot_lang.specs.declared.term.Term.{Term}
+use Rattle.sot_lang.specs.declared.trap.Trap.{Trap}
+use Rattle.sot_lang.specs.declared.tables.PlantInfo.{PlantInfo}
+use Rattle.sot_lang.specs.declared.tables.StateInfo.{StateInfo}
+use Rattle.sot_lang.specs.declared.tables.NoiseInfo.{NoiseInfo}
+use Rattle.sot_lang.specs.Tables.{Tables}
+use Rattle.sot_lang.specs.OwnerNames.{width_of, seen_width, plant_truths, is_truth_scalar}
+use Rattle.sot_lang.specs.TermRules.{TermsFit}
+use Rattle.sot_lang.specs.TermPlaces.{HasPlaces, HavePlaces}
+use Rattle.sot_lang.specs.TableRules.{MeetsTableRules}
+use Rattle.sot_lang.specs.Values.{Outcome, value_of, one_more}
+use Rattle.sot_lang.specs.Ticks.{values}
+use Rattle.sot_code.specs.Recorded.{MayTickPlant}
+use Rattle.sot_lang.proofs.Places.{HavePlaces-TermsFit}
+
+module _ (env : List ℤ) where
+  -- one more value
+  pub values_more : (ts : List Term) (i : ℕ) (t : Term) (xs : List ℤ) (x : ℤ) → i < length ts → t ≡ get_or ts i t → values (take i ts) env ≡ Ok xs → value_of t env ≡ Ok x → values (take (i + 1) ts) env ≡ Ok (xs ++ x ∷ [])
+  values_more [] i t xs x lt is before now = absurd (omega arith)
+  values_more (y ∷ ts) zero t xs x lt is before now = (let none : [] ≡ xs = cc in rw (sym is, now) (ap (λ l. Ok (l ++ x ∷ [])) none))
+  values_more (y ∷ ts) (suc i) t xs x lt is before now =
+      let e : suc i + 1 ≡ suc (i + 1) = omega arith in
+      rw e (more (value_of y env) (values (take i ts) env) (values (take (i + 1) ts) env) xs before (λ zs h. values_more ts i t zs x (omega arith) is h now))
+    where
+      more : (o : Outcome ℤ) (os ps : Outcome (List ℤ)) (xs : List ℤ) → one_more o os ≡ Ok xs → ((zs : List ℤ) → os ≡ Ok zs → ps ≡ Ok (zs ++ x ∷ [])) → one_more o ps ≡ Ok (xs ++ x ∷ [])
+      more (Ok z) (Ok zs) ps xs e f = (let h : z ∷ zs ≡ xs = cc in ap (one_more (Ok z)) (f zs refl) ∙ ap (λ l. Ok (l ++ x ∷ [])) h)
+      more (Ok z) (Err t) ps xs e f = cc
+      more (Err t) os ps xs e f = cc
+
+  -- a value that traps is the outcome
+  pub values_stop : (ts : List Term) (i : ℕ) (t : Term) (xs : List ℤ) (e : Trap) → i < length ts → t ≡ get_or ts i t → values (take i ts) env ≡ Ok xs → value_of t env ≡ Err e → values ts env ≡ Err e
+  values_stop [] i t xs e lt is before now = absurd (omega arith)
+  values_stop (y ∷ ts) zero t xs e lt is before now = rw (sym is, now) refl
+  values_stop (y ∷ ts) (suc i) t xs e lt is before now =
+      stop (value_of y env) (values (take i ts) env) (values ts env) xs before (λ zs h. values_stop ts i t zs e (omega arith) is h now)
+    where
+      stop : (o : Outcome ℤ) (os ps : Outcome (List ℤ)) (xs : List ℤ) → one_more o os ≡ Ok xs → ((zs : List ℤ) → os ≡ Ok zs → ps ≡ Err e) → one_more o ps ≡ Err e
+      stop (Ok z) (Ok zs) ps xs b f = ap (one_more (Ok z)) (f zs refl)
+      stop (Ok z) (Err t) ps xs b f = cc
+      stop (Err t) os ps xs b f = cc
+
+pub have_at : (n : ℕ) (ts : List Term) (i : ℕ) (t : Term) → HavePlaces n ts → i < length ts → t ≡ get_or ts i t → HasPlaces n t
+have_at n [] i t h lt is = absurd (omega arith)
+have_at n (y ∷ ts) zero t h lt is = subst (HasPlaces n) (sym is) h.0
+have_at n (y ∷ ts) (suc i) t h lt is = have_at n ts i t h.1 (omega arith) is
+
+width_few : (plants : List PlantInfo) → ((k : ℕ) (plant : PlantInfo) → At plants k plant → length plant.states.items ≤ 4) → (k : ℕ) → width_of plants k ≤ 4
+width_few [] h k = omega arith
+width_few (plant ∷ rest) h zero = h 0 plant refl
+width_few (plant ∷ rest) h (suc k) = width_few rest (λ i x at. h (suc i) x at) k
+
+-- the plants that a plant sees have at most four state variables each
+pub seen_few : (p : Tables) → MeetsTableRules p → (ks : List ℕ) → seen_width p.plants ks ≤ 4 * length ks
+seen_few p rules [] = omega arith
+seen_few p rules (k ∷ ks) =
+    let a = width_few p.plants (λ i x at. (rules.plants i x at).states) k in
+    let b = seen_few p rules ks in
+    omega (arith, a, b)
+
+-- the places of a plant's expressions are below the count of its names
+pub plant_places : (p : Tables) (plant : PlantInfo) (ts : List Term) (n : ℕ) → TermsFit (plant_truths p plant) ts
+    → n ≡ length plant.states.items + length plant.inputs.items + seen_width p.plants plant.sees.items + length plant.noise.items → HavePlaces n ts
+plant_places p plant ts n h size =
+    let a = map (λ (s : StateInfo). false) plant.states.items in
+    let b = map (is_truth_scalar p.scalars) plant.inputs.items in
+    let c = replicate (seen_width p.plants plant.sees.items) false in
+    let d = map (λ (s : NoiseInfo). false) plant.noise.items in
+    let names : length (plant_truths p plant) ≡ length plant.states.items + length plant.inputs.items + seen_width p.plants plant.sees.items + length plant.noise.items =
+    length-append (a ++ b ++ c) d
+    ∙ ap₂ (λ x y. x + y) (length-append (a ++ b) c ∙ ap₂ (λ x y. x + y) (length-append a b ∙ ap₂ (λ x y. x + y) (length-map plant.states.items (λ (s : StateInfo). false)) (length-map plant.inputs.items (is_truth_scalar p.scalars))) (length-replicate (seen_width p.plants plant.sees.items) false)) (length-map plant.noise.items (λ (s : NoiseInfo). false)) in
+    subst (λ k. HavePlaces k ts) (names ∙ sym size) (HavePlaces-TermsFit (plant_truths p plant) ts h)
+
+pub plant_is : (p : Tables) (k : ℕ) (plant info : PlantInfo) → At p.plants k plant → info ≡ get_or p.plants k info → plant ≡ info
+plant_is p k plant info at is = sym (get_or_from_slice_get p.plants k plant info at) ∙ sym is
+
+-- a plant's names are at most eighty
+pub sizes : (p : Tables) (k : ℕ) (state held seen noise : List ℤ) → MeetsTableRules p → (m : MayTickPlant p k state held seen noise) → (length held ≤ 8) × (length seen ≤ 64) × (length noise ≤ 4)
+sizes p k state held seen noise rules m =
+    let r = rules.plants k m.plant m.is in
+    let s = seen_few p rules m.plant.sees.items in
+    (omega (arith, m.inputs, r.inputs), omega (arith, m.seen_are, s, r.sees), omega (arith, m.disturbances, r.noise))
+
+-- the numbers that are handed in are as many as the plant has names
+pub places_of : (p : Tables) (k : ℕ) (state held seen noise : List ℤ) (info : PlantInfo) → (m : MayTickPlant p k state held seen noise) → m.plant ≡ info
+    → length state + length held + length seen + length noise ≡ length info.states.items + length info.inputs.items + seen_width p.plants info.sees.items + length info.noise.items
+places_of p k state held seen noise info m same =
+    ap₂ (λ a b. a + b) (ap₂ (λ a b. a + b) (ap₂ (λ a b. a + b) m.states m.inputs) m.seen_are) m.disturbances
+    ∙ ap (λ (x : PlantInfo). length x.states.items + length x.inputs.items + seen_width p.plants x.sees.items + length x.noise.items) same

@@ -1,0 +1,18 @@
+use Rattle.std.proofs.Common.{rules, ◌≡◌, ◌<◌, length, get_or, ap, FitsSigned, w64, refl, sym, ◌∙◌}
+use Rattle.std.proofs.lemmas.Option.{slice_get-get_or}
+use Rattle.sot_lang.specs.Tables.{Tables}
+use Rattle.sot_code.proofs.Filling.{read_word}
+use Rattle.sot_code.proofs.RangeReads.{scalar_value}
+use Rattle.sot_code.proofs.body.published.Goals as goal
+
+pub returns : goal.returns
+returns c =
+    let info = c.index-info.result.now in
+    let z = c.in_ok-z.z in
+    let lo_fits : FitsSigned w64 info.lo = search rules in
+    let hi_fits : FitsSigned w64 info.hi = search rules in
+    let z_fits : FitsSigned w64 z = search rules in
+    let below : c.index.result.now < length c.args.p.now.scalars = c.requires.node.written c.args.slot c.index.result.now (rw (slice_get-get_or c.args.node.now.writes.items c.args.slot c.index.result.now c.requires.slot, ← c.index.ensures) refl) in
+    let here : info ≡ get_or c.args.p.now.scalars c.index.result.now info = c.index-info.ensures ∙ ap (λ (t : Tables). get_or t.scalars c.index.result.now info) c.p.view_is in
+    rw (read_word info.lo lo_fits, read_word info.hi hi_fits, read_word z z_fits) at c.inside.ensures
+    ∙ sym (scalar_value c.args.p.now c.args.node.now c.args.slot c.index.result.now info c.args.at _ z c.requires.slot c.index.ensures below here (sym c.value.ensures ∙ c.in_ok-z.was))

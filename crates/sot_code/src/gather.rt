@@ -1,0 +1,53 @@
+ghost use Rattle.std.specs.Prelude.{◌≡◌, ◌+◌, ◌≤◌, ◌++◌, length, take};
+
+use crate::locals::Locals;
+use crate::seen::Seen;
+use sot_box::Point;
+
+/// The numbers of an owner's names are at most so many.
+pub const MOST_NAMES: usize = 80;
+
+/// What a node reads, at the front.
+pub fn put_seen<V: Seen>(seen: &V, count: usize, numbers: &mut [i64])
+    requires count { length (V.numbers seen.now) ≡ count }
+    requires room { count ≤ length numbers.old }
+    ensures front { take count numbers.new ≡ V.numbers seen.now }
+    ensures size { length numbers.new ≡ length numbers.old }
+{
+    for i in 0..count {
+        numbers[i] = seen.read(i);
+    }
+}
+
+/// The locals, behind the first `from` numbers.
+pub fn put_locals(locals: &Locals, from: usize, numbers: &mut [i64])
+    requires room { from + length locals.now ≤ length numbers.old }
+    ensures front { take (from + length locals.now) numbers.new ≡ take from numbers.old ++ locals.now }
+    ensures size { length numbers.new ≡ length numbers.old }
+{
+    for i in 0..locals.len() {
+        numbers[from + i] = locals.at(i);
+    }
+}
+
+/// A point's coordinates, at the front.
+pub fn put_point(point: &Point, numbers: &mut [i64])
+    requires room { length point.now ≤ length numbers.old }
+    ensures front { take (length point.now) numbers.new ≡ point.now }
+    ensures size { length numbers.new ≡ length numbers.old }
+{
+    for i in 0..point.len() {
+        numbers[i] = point.at(i);
+    }
+}
+
+/// Numbers, behind the first `from` ones.
+pub fn put(part: &[i64], from: usize, numbers: &mut [i64])
+    requires room { from + length part.now ≤ length numbers.old }
+    ensures front { take (from + length part.now) numbers.new ≡ take from numbers.old ++ part.now }
+    ensures size { length numbers.new ≡ length numbers.old }
+{
+    for i in 0..part.len() {
+        numbers[from + i] = part[i];
+    }
+}

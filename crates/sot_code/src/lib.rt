@@ -1,0 +1,25 @@
+//! What a node's code and a plant's tick give, on numbers.
+//!
+//! `run_node` is the execution of a body and `plant_next` one tick, exactly as `sot_lang` defines them: the first trap with its
+//! place and kind, or the new numbers. Numbers are 64-bit words, and results are computed in 128 bits before they are tested.
+//! Nothing here takes memory. What a node reads is asked of a `Seen`, so that a caller can lend its own numbers.
+#![tactic(auto)]
+
+mod body;
+mod fired;
+mod gather;
+mod locals;
+mod node;
+mod numbers;
+mod plant;
+mod seen;
+mod term;
+
+pub use fired::Fired;
+pub use locals::Locals;
+pub use node::run_node;
+pub use plant::plant_next;
+pub use seen::Seen;
+
+#[cfg(test)]
+mod tests;

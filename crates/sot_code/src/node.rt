@@ -1,0 +1,48 @@
+ghost use Rattle.std.specs.Prelude.{◌≡◌, ◌+◌, ◌≤◌, length, take, drop};
+ghost use Rattle.sot_lang.specs.Bodies.{execution};
+ghost use Rattle.sot_lang.specs.Ranges.{local_ranges, write_ranges};
+ghost use Rattle.sot_lang.specs.OwnerNames.{node_truths};
+ghost use Rattle.sot_lang.specs.ActRules.{ActsFit};
+ghost use Rattle.sot_code.specs.Firings.{IsRunnable};
+ghost use Rattle.sot_code.specs.Recorded.{recorded, MayRun, IsExecution};
+
+use crate::body::run;
+use crate::fired::Fired;
+use crate::gather::{MOST_NAMES, put_locals, put_seen};
+use crate::locals::Locals;
+use crate::seen::Seen;
+use sot_lang::{Act, Draft, NodeInfo, Trap, Typed};
+
+// What the statements leave, from nothing drafted.
+fn fire(p: &Typed, node: &NodeInfo, acts: &[Act], numbers: &mut [i64]) -> Result<Fired, Trap>
+    requires node { IsRunnable p.now node.now }
+    requires few { length node.now.locals.items ≤ 16 }
+    requires fits { ActsFit (node_truths p.now node.now) (length node.now.locals.items) (length node.now.writes.items) acts.now }
+    requires size { length node.now.reads.items + length node.now.locals.items ≡ length numbers.old }
+    ensures { result ≡ recorded (execution acts.now (local_ranges node.now) (write_ranges p.now node.now)
+        (take (length node.now.reads.items) numbers.old) (drop (length node.now.reads.items) numbers.old)) }
+{
+    let mut draft = Draft::blank();
+    run(p, node, acts, numbers, &mut draft)?;
+    let (_, kept) = numbers.split_at(node.reads.len());
+    Ok(Fired {
+        locals: Locals::from_slice(kept),
+        draft,
+    })
+}
+
+/// The execution of a coded node's body on the numbers that it reads and its locals: the new locals and the draft, or the first
+/// trap.
+pub fn run_node<V: Seen>(p: &Typed, node: u32, seen: &V, locals: &Locals) -> Result<Fired, Trap>
+    requires { MayRun p.now node (V.numbers seen.now) locals.now }
+    ensures { IsExecution p.now node (V.numbers seen.now) locals.now result }
+{
+    let info = &p.nodes[node as usize];
+    let acts = info.body.as_ref().unwrap();
+    let mut inline = [0; MOST_NAMES];
+    let reads = info.reads.len();
+    put_seen(seen, reads, &mut inline);
+    put_locals(locals, reads, &mut inline);
+    let (numbers, _) = inline.split_at_mut(reads + locals.len());
+    fire(p, info, acts, numbers)
+}
