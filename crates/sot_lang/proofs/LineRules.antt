@@ -1,11 +1,12 @@
 -- The running example's tables meet the rules of tables.
-use Rattle.std.proofs.Common.{◌≡◌, ◌≢◌, ℕ, suc, ◌<◌, ◌≤◌, ◌+◌, true, false, Bool, List, [], ◌∷◌, Some, refl, sym, ap, ◌∙◌, subst, arith}
+use Rattle.std.proofs.Common.{◌≡◌, ◌≢◌, ℕ, suc, ◌<◌, ◌≤◌, ◌+◌, true, false, Bool, List, [], ◌∷◌, Some, refl, sym, ap, ◌∙◌, subst, arith, negsuc, ◌≤ℤ◌, length, pos}
 use Rattle.std.specs.Prelude.{slice_index_or, map, ◌==◌, if◌then◌else◌}
 use Rattle.std.proofs.lemmas.Int.{ints}
 use Rattle.std.proofs.lemmas.Option.{same_Some, none-some}
 use Rattle.std.proofs.lemmas.Bool.{false≢true}
 use Rattle.std.specs.Global.{Global}
 use Rattle.sot_box.specs.Lists.{At}
+use Rattle.sot_box.specs.Sides.{Side, AreOrdered}
 use Rattle.sot_box.specs.Boxes.{IsWithin}
 use Rattle.sot_lang.specs.Places.{Has}
 use Rattle.sot_lang.specs.declared.act.Act.{Act}
@@ -21,10 +22,10 @@ use Rattle.sot_lang.specs.declared.tables.Slot.TheVariants.{Scalar, State}
 use Rattle.sot_lang.specs.Ranges.{local_ranges}
 use Rattle.sot_lang.specs.OwnerNames.{width_of, node_truths}
 use Rattle.sot_lang.specs.ActRules.{ActsFit}
-use Rattle.sot_lang.specs.TableRules.{IsTyped, IsCoded, IsNarrow, AreDistinct, MeetsTableRules, MeetsScalarRules, MeetsPlantRules, MeetsNodeRules, MeetsModuleRules, MeetsLocalRules}
+use Rattle.sot_lang.specs.TableRules.{IsTyped, IsCoded, IsNarrow, AreDistinct, MeetsTableRules, MeetsScalarRules, MeetsPlantRules, MeetsNodeRules, MeetsModuleRules, MeetsLocalRules, IsRegionFor}
 use Rattle.sot_lang.specs.declared.cert.Cells.{Cells}
 use Rattle.sot_lang.specs.CertRules.{FitsTables, AreCellsOf}
-use Rattle.sot_lang.specs.Line.{line, line_cert, line_cells, cmd, cmd_number, fast, slow, nav, pos_plant, slow_acts, cmd_name, pos_name, fast_name, slow_name, nav_name}
+use Rattle.sot_lang.specs.Line.{side, line, line_cert, line_cells, cmd, cmd_number, fast, slow, nav, pos_plant, slow_acts, cmd_name, pos_name, fast_name, slow_name, nav_name}
 use Rattle.sot_lang.proofs.ShortLists.{at_none, at_more, at_one, at_two}
 
 plant_no : Slot → ℕ
@@ -161,6 +162,20 @@ module _ (g : Global) where
     body = λ acts coded. absurd (none-some coded.0 coded.1);
   }
 
+  one_box : (r : Side) → r.lo ≤ℤ r.hi → IsRegionFor (line g) 0 (record { width = 1; boxes = (r ∷ []) ∷ [] })
+  one_box r le = record { width = refl; boxes = omega arith; each = at_one (λ i b. (length b ≡ 1) × AreOrdered b) (r ∷ []) (refl, (le, tt)) }
+
+  closed_cells : AreCellsOf (line g) 0 (line_cells g).closed
+  closed_cells = record {
+    width = refl;
+    boxes = omega arith;
+    each = at_more (λ i b. (length b ≡ 1) × AreOrdered b) (side (negsuc 39) (negsuc 10) ∷ []) ((side (negsuc 9) (pos 10) ∷ []) ∷ (side (pos 11) (pos 40) ∷ []) ∷ []) (refl, (omega (arith, ints), tt))
+        (at_two (λ i b. (length b ≡ 1) × AreOrdered b) (side (negsuc 9) (pos 10) ∷ []) (side (pos 11) (pos 40) ∷ []) (refl, (omega (arith, ints), tt)) (refl, (omega (arith, ints), tt)));
+  }
+
+  reach_cells : AreCellsOf (line g) 0 (line_cells g).reach
+  reach_cells = record { width = refl; boxes = omega arith; each = at_one (λ i b. (length b ≡ 1) × AreOrdered b) (side (negsuc 9) (pos 10) ∷ []) (refl, (omega (arith, ints), tt)) }
+
   pub line_meets_rules : MeetsTableRules (line g)
   line_meets_rules = record {
     typed = line_typed;
@@ -172,7 +187,7 @@ module _ (g : Global) where
     scalars = at_one (λ k info. MeetsScalarRules (line g) info) (cmd_number g) one_number;
     plants = at_one (λ k plant. MeetsPlantRules (line g) k plant) (pos_plant g) the_plant;
     nodes = at_two (λ n node. MeetsNodeRules (line g) node) (fast g) (slow g) fast_node safe_node;
-    modules = at_one (λ m info. MeetsModuleRules (line g) info) (nav g) (record { period = omega arith; safe = record { width = refl; boxes = omega arith }; safer = record { width = refl; boxes = omega arith } });
+    modules = at_one (λ m info. MeetsModuleRules (line g) info) (nav g) (record { period = omega arith; safe = one_box (side (negsuc 39) (pos 40)) (omega (arith, ints)); safer = one_box (side (negsuc 9) (pos 10)) (omega (arith, ints)) });
     names_once = names_apart;
     fields_once = λ i j a b at_i at_j s f. at_one (λ i x. i ≡ j) (cmd_number g) (sym (at_one (λ i x. i ≡ 0) (cmd_number g) refl j b at_j)) i a at_i;
   }
@@ -180,8 +195,8 @@ module _ (g : Global) where
   pub line_cert_fits : FitsTables (line g) (line_cert g)
   line_cert_fits = record {
     entries = refl;
-    closed = λ m info cells at at_c. at_one (λ m info. At (line_cert g).modules.items m (Some cells) → AreCellsOf (line g) info.plant cells.closed) (nav g) (λ h. rw (sym (the_cells cells h)) (refl, omega arith)) m info at at_c;
-    reach = λ m info cells at at_c. at_one (λ m info. At (line_cert g).modules.items m (Some cells) → AreCellsOf (line g) info.plant cells.reach) (nav g) (λ h. rw (sym (the_cells cells h)) (refl, omega arith)) m info at at_c;
+    closed = λ m info cells at at_c. at_one (λ m info. At (line_cert g).modules.items m (Some cells) → AreCellsOf (line g) info.plant cells.closed) (nav g) (λ h. subst (λ c. AreCellsOf (line g) 0 c.closed) (the_cells cells h) closed_cells) m info at at_c;
+    reach = λ m info cells at at_c. at_one (λ m info. At (line_cert g).modules.items m (Some cells) → AreCellsOf (line g) info.plant cells.reach) (nav g) (λ h. subst (λ c. AreCellsOf (line g) 0 c.reach) (the_cells cells h) reach_cells) m info at at_c;
   }
     where
       the_cells : (cells : Cells) → At (line_cert g).modules.items 0 (Some cells) → line_cells g ≡ cells

@@ -44,11 +44,13 @@ abbrev mutual
       (λ z. if is_true z then acts seen locals writes us f else acts seen locals writes vs f)
   act seen locals writes (Repeat' n s us) f = times n (acts seen locals writes us) f
 
+  -- a block's statements, one after another
   pub acts : {m : _} → List ℤ → List Side → List Side → Row_of-Act m → Fired → Outcome Fired
   acts seen locals writes end_of-Act f = Ok f
   acts seen locals writes (more_of-Act a rest) f =
       then_with (act seen locals writes a f) (acts seen locals writes rest)
 
+-- a body, from the numbers read, the ranges of the locals and those of the written scalars
 abbrev pub body : List ℤ → List Side → List Side → List Act → Fired → Outcome Fired
 body seen locals writes [] f = Ok f
 body seen locals writes (a ∷ rest) f = then_with (act seen locals writes a f) (body seen locals writes rest)

@@ -1,16 +1,19 @@
 -- What a certificate that fits a program satisfies.
-use Rattle.std.specs.Prelude.{◌≡◌, ℕ, ◌≤◌, Some, length}
+use Rattle.std.specs.Prelude.{◌≡◌, ℕ, ◌≤◌, List, Some, length}
 use Rattle.sot_box.specs.Lists.{At}
 use Rattle.sot_box.specs.BoxList.{BoxList}
+use Rattle.sot_box.specs.Sides.{Side, AreOrdered}
 use Rattle.sot_lang.specs.declared.tables.ModuleInfo.{ModuleInfo}
 use Rattle.sot_lang.specs.declared.cert.Cells.{Cells}
 use Rattle.sot_lang.specs.declared.cert.Cert.{Cert}
 use Rattle.sot_lang.specs.Tables.{Tables}
 use Rattle.sot_lang.specs.OwnerNames.{width_of}
 
--- cells of a plant: at most 4,096, each with one side a state variable
-abbrev pub AreCellsOf : Tables → ℕ → BoxList → Type 0
-AreCellsOf p plant cells = (cells.width ≡ width_of p.plants plant) × (length cells.boxes ≤ 4096)
+-- cells of a plant: at most 4,096, each with one side a state variable, whose low end is at most its high end
+pub record AreCellsOf (p : Tables) (plant : ℕ) (cells : BoxList) : Type 0 where
+  pub width : cells.width ≡ width_of p.plants plant
+  pub boxes : length cells.boxes ≤ 4096
+  pub each : (i : ℕ) (b : List Side) → At cells.boxes i b → (length b ≡ cells.width) × AreOrdered b
 
 -- one entry, or none, for each module, in order, with cells of the module's plant
 pub record FitsTables (p : Tables) (cert : Cert) : Type 0 where

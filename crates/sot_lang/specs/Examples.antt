@@ -1,15 +1,16 @@
 -- Worked values of expressions, as statements that `values_are_as_stated` proves.
 use Rattle.std.specs.Prelude.{◌≡◌, ℕ, ℤ, pos, neg_ℤ, Ok, [], ◌∷◌, ◌^◌, ◌-◌}
+use Rattle.std.proofs.Common.{refl}
 use Rattle.std.specs.Global.{Global}
 use Rattle.sot_text.specs.declared.token.Span.{Span}
 use Rattle.sot_lang.specs.declared.trap.TrapKind.TheVariants.{ZeroDivisor, Wide}
 use Rattle.sot_lang.specs.declared.operator.Op.{Op}
 use Rattle.sot_lang.specs.declared.operator.Op.TheVariants.{Add, Sub, Mul, Div, Less, LessEqual, Greater, GreaterEqual, Equal, NotEqual, And, Or}
 use Rattle.sot_lang.specs.declared.operator.Func.TheVariants.{Min, Max, Abs, Clamp}
-use Rattle.sot_lang.specs.declared.term.Term.{Term}
+use Rattle.sot_lang.specs.declared.term.Term.{Term, Call}
 use Rattle.sot_lang.specs.declared.term.Term.TheVariants.{Number, Place, Binary', Rest', Neg', Not', Rescale', If'}
 use Rattle.sot_lang.specs.Values.{value_of, apply, called, rescaled, trap}
-use Rattle.sot_lang.specs.Line.{somewhere, boxed}
+use Rattle.sot_lang.specs.Line.{somewhere, boxed, vec}
 
 -- the number below 0 with this magnitude
 abbrev pub minus : ℕ → ℤ
@@ -103,3 +104,11 @@ module _ (g : Global) where
       × (value_of (Rest' (boxed g) (Number (minus 6)) (pos 3) somewhere) [] ≡ Ok (pos 0)) × (value_of (Neg' (boxed g) (Number (minus 5)) somewhere) [] ≡ Ok (pos 5))
       × (value_of (Neg' (boxed g) (Number (minus (2 ^ 63))) somewhere) [] ≡ trap somewhere Wide) × (value_of (Not' (boxed g) (Number (pos 0)) somewhere) [] ≡ Ok (pos 1))
       × (value_of (Not' (boxed g) (Number (pos 1)) somewhere) [] ≡ Ok (pos 0)) × (value_of (Rescale' (boxed g) (Place 1) 1 0 somewhere) (pos 4 ∷ minus 15 ∷ []) ≡ Ok (minus 2))
+
+  -- the parts of a call from the left: of two traps the earlier one is met; a clamp of 5 between 9 and 2 is 9, and of 1 between 0 and 2 is 1
+  abbrev pub Calls : Type 0
+  Calls =
+      (value_of (Call Min (vec g (wide_here ∷ zero_there ∷ []) refl) somewhere) [] ≡ trap somewhere Wide)
+      × (value_of (Call Min (vec g (zero_there ∷ wide_here ∷ []) refl) somewhere) [] ≡ trap elsewhere ZeroDivisor)
+      × (value_of (Call Clamp (vec g (Number (pos 5) ∷ Number (pos 9) ∷ Number (pos 2) ∷ []) refl) somewhere) [] ≡ Ok (pos 9))
+      × (value_of (Call Clamp (vec g (Place 1 ∷ Place 0 ∷ Place 2 ∷ []) refl) somewhere) (pos 0 ∷ pos 1 ∷ pos 2 ∷ []) ≡ Ok (pos 1))

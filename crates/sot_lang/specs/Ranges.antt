@@ -26,8 +26,10 @@ input_ranges p plant = map (range_of p.scalars) plant.inputs.items
 abbrev pub scalar_ranges : Tables → List Side
 scalar_ranges p = map (λ i. record { lo = i.lo; hi = i.hi }) p.scalars
 
+-- the ranges of a node's locals
 abbrev pub local_ranges : NodeInfo → List Side
 local_ranges node = map (λ l. record { lo = l.lo; hi = l.hi }) node.locals.items
 
+-- the ranges of the scalars that a node writes
 abbrev pub write_ranges : Tables → NodeInfo → List Side
 write_ranges p node = map (range_of p.scalars) node.writes.items

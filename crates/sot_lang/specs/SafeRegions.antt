@@ -26,6 +26,7 @@ AreHulls ms (k ∷ ks) (b ∷ bs) = IsHull (safe_of ms k) b × AreHulls ms ks bs
 AreHulls ms [] (b ∷ bs) = ⊥
 AreHulls ms (k ∷ ks) [] = ⊥
 
+-- the boxes of several plants as one, one plant after another
 abbrev pub joined_boxes : List (List Side) → List Side
 joined_boxes [] = []
 joined_boxes (b ∷ bs) = b ++ joined_boxes bs

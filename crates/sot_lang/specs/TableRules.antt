@@ -16,6 +16,7 @@ use Rattle.sot_box.specs.Boxes.{IsWithin}
 use Rattle.sot_lang.specs.Places.{Has}
 use Rattle.sot_lang.specs.Ranges.{scalar_ranges, local_ranges}
 use Rattle.sot_box.specs.BoxList.{BoxList}
+use Rattle.sot_box.specs.Sides.{Side, AreOrdered}
 use Rattle.sot_lang.specs.OwnerNames.{width_of, node_truths, plant_truths}
 use Rattle.sot_lang.specs.TermRules.{TermsFit}
 use Rattle.sot_lang.specs.ActRules.{ActsFit}
@@ -110,10 +111,11 @@ pub record MeetsNodeRules (p : Tables) (node : NodeInfo) : Type 0 where
   pub external : node.body ≡ None → node.locals.items ≡ []
   pub body : (acts : List Act) → IsCoded node acts → ActsFit (node_truths p node) (length node.locals.items) (length node.writes.items) acts
 
--- a region: at most 256 boxes, each with one side a state variable
+-- a region: at most 256 boxes, each with one side a state variable, whose low end is at most its high end
 pub record IsRegionFor (p : Tables) (plant : ℕ) (region : BoxList) : Type 0 where
   pub width : region.width ≡ width_of p.plants plant
   pub boxes : length region.boxes ≤ 256
+  pub each : (i : ℕ) (b : List Side) → At region.boxes i b → (length b ≡ region.width) × AreOrdered b
 
 -- a module: a period of at most 1,000, and two regions of its plant
 pub record MeetsModuleRules (p : Tables) (info : ModuleInfo) : Type 0 where

@@ -16,6 +16,7 @@ use Rattle.sot_lang.specs.declared.trap.TrapKind.TheVariants.{ZeroDivisor, Wide}
 abbrev pub Outcome : Type 0 → Type 0
 Outcome A = Result A Trap
 
+-- the trap of this kind, at this place
 abbrev pub trap : {A : Type 0} → Span → TrapKind → Outcome A
 trap at kind = Err (record { at = at; kind = kind })
 
@@ -23,9 +24,11 @@ trap at kind = Err (record { at = at; kind = kind })
 abbrev pub is_word : ℤ → Bool
 is_word z = int_le (neg_ℤ (pos (2 ^ 63))) z && int_lt z (pos (2 ^ 63))
 
+-- a result that is in 64 bits, else the trap `Wide`
 abbrev pub word : Span → ℤ → Outcome ℤ
 word at z = if is_word z then Ok z else trap at Wide
 
+-- a truth value as a number: 1 or 0
 abbrev pub truth : Bool → ℤ
 truth b = if b then pos 1 else pos 0
 
@@ -45,11 +48,13 @@ abbrev pub floor_div : ℤ → ℤ → ℤ
 floor_div a (pos b) = floor_by a b
 floor_div a (negsuc b) = floor_by (neg_ℤ a) (suc b)
 
+-- the floor of a quotient; a divisor of 0 is a trap
 abbrev pub quotient : Span → ℤ → ℤ → Outcome ℤ
 quotient at a (pos zero) = trap at ZeroDivisor
 quotient at a (pos (suc b)) = word at (floor_div a (pos (suc b)))
 quotient at a (negsuc b) = word at (floor_div a (negsuc b))
 
+-- the result of an operator at two numbers, computed over unbounded whole numbers and then tested
 abbrev pub apply : Op → Span → ℤ → ℤ → Outcome ℤ
 apply Add at a b = word at (a +ℤ b)
 apply Sub at a b = word at (a -ℤ b)
@@ -69,23 +74,28 @@ abbrev pub then_with : {A B : Type 0} → Outcome A → (A → Outcome B) → Ou
 then_with (Err t) f = Err t
 then_with (Ok x) f = f x
 
+-- two operands, the left one first: its trap wins
 abbrev pub both : (ℤ → ℤ → Outcome ℤ) → Outcome ℤ → Outcome ℤ → Outcome ℤ
 both f (Err t) b = Err t
 both f (Ok x) (Err t) = Err t
 both f (Ok x) (Ok y) = f x y
 
+-- a condition, and then the one branch that it takes
 abbrev pub branch : Outcome ℤ → Outcome ℤ → Outcome ℤ → Outcome ℤ
 branch (Err t) first second = Err t
 branch (Ok x) first second = if is_true x then first else second
 
+-- a list of values in order: the first trap wins
 abbrev pub one_more : Outcome ℤ → Outcome (List ℤ) → Outcome (List ℤ)
 one_more (Err t) rest = Err t
 one_more (Ok x) (Err t) = Err t
 one_more (Ok x) (Ok xs) = Ok (x ∷ xs)
 
+-- a number with `from` decimals as one with `to`: multiplied by a power of ten, or divided and rounded down; one of the two powers is 1
 abbrev pub rescaled : Span → ℕ → ℕ → ℤ → Outcome ℤ
 rescaled at from to a = word at (floor_by (a *ℤ pos (10 ^ (to - from))) (10 ^ (from - to)))
 
+-- the result of a function at its parts. Tables hold no call with another count of parts, so the last line is never met
 abbrev pub called : Func → Span → List ℤ → Outcome ℤ
 called Min at (a ∷ b ∷ []) = Ok (int_min a b)
 called Max at (a ∷ b ∷ []) = Ok (int_max a b)
@@ -106,6 +116,7 @@ abbrev mutual
   value_of (Rescale' p a from to at) env = then_with (value_of a env) (rescaled at from to)
   value_of (If' p c q a r b at) env = branch (value_of c env) (value_of a env) (value_of b env)
 
+  -- the values of a call's parts, in order
   pub values_of_parts : {m : _} → Row_of-Term m → List ℤ → Outcome (List ℤ)
   values_of_parts end_of-Term env = Ok []
   values_of_parts (more_of-Term t rest) env = one_more (value_of t env) (values_of_parts rest env)

@@ -1,5 +1,5 @@
 ghost use Rattle.std.specs.Global.{Global};
-ghost use Rattle.sot_lang.specs.Examples.{QuotientsAreFloors, ZeroDivides, WideResultsTrap, Comparisons, TruthTables, Functions, Rescales, OperandsFromTheLeft, OneBranch, OtherExpressions};
+ghost use Rattle.sot_lang.specs.Examples.{QuotientsAreFloors, ZeroDivides, WideResultsTrap, Comparisons, TruthTables, Functions, Rescales, OperandsFromTheLeft, OneBranch, Calls, OtherExpressions};
 ghost use Rattle.sot_lang.specs.BodyExamples.{LaterDrafts, AssignmentsAreRead, OutsideIsATrap, FirstTrap, Blocks, SlowTurnsBack, ReadingsInOrder, TickOfTheLine, PlantNamesInOrder, OldStateIsRead, ReachOfTheLine};
 ghost use Rattle.sot_lang.specs.TableRules.{MeetsTableRules};
 ghost use Rattle.sot_lang.specs.CertRules.{FitsTables};
@@ -16,6 +16,7 @@ pub fn values_are_as_stated()
     ensures rescales { Rescales }
     ensures from_the_left { (g : Global) → OperandsFromTheLeft g }
     ensures one_branch { (g : Global) → OneBranch g }
+    ensures calls { (g : Global) → Calls g }
     ensures others { (g : Global) → OtherExpressions g }
 {}
 

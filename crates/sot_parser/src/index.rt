@@ -23,7 +23,7 @@ pub fn index_of<'n>(alloc: Global, names: &'n [Name]) -> Result<IndexSet<&'n [u8
     ensures keys { IfOk result (λ index. slices index.keys ≡ names.now) }
     ensures differ { Tells result (all_differ bytes_eq names.now) }
 {
-    let mut index = IndexSet::new(alloc);
+    let mut index = IndexSet::with_capacity(alloc, names.len())?;
     for name in names {
         add(&mut index, name.as_bytes())?;
     }

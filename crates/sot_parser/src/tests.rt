@@ -19,7 +19,7 @@ enum Said {
     Memory,
 }
 
-fn said(alloc: Global, text: &str) -> Said {
+fn answer_of(alloc: Global, text: &str) -> Said {
     if text.len() > 10_000 {
         return Said::Memory;
     }
@@ -154,7 +154,7 @@ fn answers_by_the_grammar_and_its_conditions(rt: HostRuntime) -> Result<(), Fail
         let mut text = String::from_str(alloc, topics)?;
         text.push_str(nodes)?;
         text.push_str(module)?;
-        assert_eq!(rt; said(alloc, &text), want, "at {text}");
+        assert_eq!(rt; answer_of(alloc, &text), want, "at {text}");
     }
     Ok(())
 }
@@ -177,7 +177,7 @@ fn looks_through_the_whole_text(rt: HostRuntime) -> Result<(), Fail> {
         text.push_str(NODES)?;
         text.push_str(MODULE)?;
         text.push_str(behind)?;
-        assert_eq!(rt; said(alloc, &text), want, "behind it {behind}");
+        assert_eq!(rt; answer_of(alloc, &text), want, "behind it {behind}");
     }
     for (text, want) in [
         ("", Said::Form),
@@ -185,7 +185,7 @@ fn looks_through_the_whole_text(rt: HostRuntime) -> Result<(), Fail> {
         ("plant", Said::NotBuilt),
         ("; true", Said::NotBuilt),
     ] {
-        assert_eq!(rt; said(alloc, text), want, "at {text}");
+        assert_eq!(rt; answer_of(alloc, text), want, "at {text}");
     }
     Ok(())
 }

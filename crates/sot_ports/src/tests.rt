@@ -60,7 +60,7 @@ fn writes_whole_or_says_how_much(rt: HostRuntime) -> Result<(), Fail> {
         assert_eq!(rt; sink.bytes(), held.as_bytes(), "room {room} piece {piece}");
     }
     assert!(rt; write_whole(&mut NullSink::new(), b"abcde").is_ok());
-    assert!(rt; write_whole(&mut StdSink::new(rt.stdout()), b"").is_ok());
+    assert!(rt; write_whole(&mut StdSink::new(rt.stdout()), b"standard output\n").is_ok());
     Ok(())
 }
 

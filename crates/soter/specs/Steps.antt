@@ -1,0 +1,39 @@
+-- What the functions below `soter` promise it.
+use Rattle.std.specs.Prelude.{◌≡◌, ℕ, ◌+◌, ◌<◌, ◌≤◌, ◌⊎◌, List, Option, length, take, String}
+use Rattle.std.specs.Io.KnownBytes.{Appends}
+use Rattle.std.proofs.Common.{Global}
+use Rattle.sot_ports.specs.Faults.{Rose}
+use Rattle.sot_ports.specs.Whole.{ReadsAll, ReadsCount}
+use Rattle.sot_parser.specs.Header.{Head}
+use Rattle.soter.specs.declared.shape.Refusal.{Refusal}
+use Rattle.soter.specs.Shape.{HasShape, Refuses}
+use Rattle.soter.specs.Texts.{accepted_text, refusal_text, usage_text, long_text}
+use Rattle.soter.specs.Answers.{Checks, IsCheck, input_limit}
+
+-- what is said of a program
+abbrev pub Judges : Head → ℕ → List ℕ → Type 0
+Judges head status text =
+    ((status ≡ 0) × HasShape head × (text ≡ accepted_text head))
+    ⊎ ((status ≡ 1) × ((refusal : Refusal) × Refuses head refusal × (text ≡ refusal_text head refusal)))
+
+-- what is said of what a source gave: of all that it had left, or of too much
+abbrev pub ReadAnswer : Option (List ℕ) → Option (List ℕ) → ℕ → List ℕ → Type 0
+ReadAnswer left left_after status text =
+    ((bytes : List ℕ) × ReadsAll left left_after bytes × (length bytes ≤ input_limit) × Checks bytes status text)
+    ⊎ ((status ≡ 7) × ReadsCount left left_after (input_limit + 1) × (text ≡ long_text))
+
+-- what is said at the words
+abbrev pub WordAnswer : List (String Global) → Option (List ℕ) → Option (List ℕ) → ℕ → List ℕ → Type 0
+WordAnswer words left left_after status text =
+    (IsCheck words × ReadAnswer left left_after status text) ⊎ ((¬ (IsCheck words)) × (status ≡ 2) × (text ≡ usage_text))
+
+-- why nothing is said: memory, or a source that failed
+abbrev pub Silence : List (String Global) → ℕ → ℕ → ℕ → Type 0
+Silence words faults faults_after status =
+    (status ≡ 6) ⊎ ((status ≡ 4) × IsCheck words × Rose faults faults_after)
+
+-- a text was written and this is its status, or the sink failed before its end
+abbrev pub Written : Option (List ℕ) → Option (List ℕ) → ℕ → ℕ → ℕ → List ℕ → ℕ → Type 0
+Written held held_after faults faults_after said text status =
+    ((status ≡ said) × Appends held held_after text)
+    ⊎ ((status ≡ 5) × Rose faults faults_after × ((n : ℕ) × (n < length text) × Appends held held_after (take n text)))
