@@ -1,0 +1,96 @@
+-- The expressions of a plant one after another, and how many names a plant has.
+use Rattle.std.proofs.Common.{◌≡◌, ℕ, zero, suc, ◌+◌, ◌*◌, ◌<◌, ◌≤◌, List, [], ◌∷◌, ◌++◌, Ok, Err, take, length, get_or, refl, sym, ap, ap₂, ◌∙◌, subst, arith, length-append}
+use Rattle.std.specs.Prelude.{map, replicate, false}
+use Rattle.std.proofs.lemmas.List.{length-map, length-replicate}
+use Rattle.std.proofs.lemmas.Option.{get_or_from_slice_get}
+use Rattle.sot_box.specs.Sides.{Side}
+use Rattle.sot_box.specs.Lists.{At}
+use Rattle.sot_lang.specs.declared.term.Term.{Term}
+use Rattle.sot_lang.specs.declared.tables.PlantInfo.{PlantInfo}
+use Rattle.sot_lang.specs.declared.tables.StateInfo.{StateInfo}
+use Rattle.sot_lang.specs.declared.tables.NoiseInfo.{NoiseInfo}
+use Rattle.sot_lang.specs.Tables.{Tables}
+use Rattle.sot_lang.specs.Ranges.{bounds}
+use Rattle.sot_lang.specs.OwnerNames.{width_of, seen_width, plant_truths, is_truth_scalar}
+use Rattle.sot_lang.specs.TermRules.{TermsFit}
+use Rattle.sot_lang.specs.TermPlaces.{HavePlaces}
+use Rattle.sot_lang.specs.TableRules.{MeetsTableRules}
+use Rattle.sot_lang.proofs.Places.{HavePlaces-TermsFit}
+use Rattle.sot_iv.specs.declared.may_trap.MayTrap.{MayTrap}
+use Rattle.sot_iv.specs.TermIntervals.{OrMayTrap}
+use Rattle.sot_iv.specs.Evaluation.{joined, term_interval, term_intervals}
+use Rattle.sot_iv.specs.PlantTicks.{MayTickBox}
+
+abbrev put_first : OrMayTrap Side → OrMayTrap (List Side) → OrMayTrap (List Side)
+put_first = joined (λ x xs. Ok (x ∷ xs))
+
+module _ (names : List Side) where
+  -- one more interval
+  pub intervals_more : (ts : List Term) (i : ℕ) (t : Term) (xs : List Side) (x : Side) → i < length ts → t ≡ get_or ts i t → term_intervals (take i ts) names ≡ Ok xs → term_interval t names ≡ Ok x → term_intervals (take (i + 1) ts) names ≡ Ok (xs ++ x ∷ [])
+  intervals_more [] i t xs x lt is before now = absurd (omega arith)
+  intervals_more (y ∷ ts) zero t xs x lt is before now = (let none : [] ≡ xs = cc in rw (sym is, now) (ap (λ l. Ok (l ++ x ∷ [])) none))
+  intervals_more (y ∷ ts) (suc i) t xs x lt is before now =
+      let e : suc i + 1 ≡ suc (i + 1) = omega arith in
+      rw e (more (term_interval y names) (term_intervals (take i ts) names) (term_intervals (take (i + 1) ts) names) xs before (λ zs h. intervals_more ts i t zs x (omega arith) is h now))
+    where
+      more : (o : OrMayTrap Side) (os ps : OrMayTrap (List Side)) (xs : List Side) → put_first o os ≡ Ok xs → ((zs : List Side) → os ≡ Ok zs → ps ≡ Ok (zs ++ x ∷ [])) → put_first o ps ≡ Ok (xs ++ x ∷ [])
+      more (Ok z) (Ok zs) ps xs e f = (let h : z ∷ zs ≡ xs = cc in ap (put_first (Ok z)) (f zs refl) ∙ ap (λ l. Ok (l ++ x ∷ [])) h)
+      more (Ok z) (Err t) ps xs e f = cc
+      more (Err t) os ps xs e f = cc
+
+  -- a trap is the outcome
+  pub intervals_stop : (ts : List Term) (i : ℕ) (t : Term) (xs : List Side) (e : MayTrap) → i < length ts → t ≡ get_or ts i t → term_intervals (take i ts) names ≡ Ok xs → term_interval t names ≡ Err e → term_intervals ts names ≡ Err e
+  intervals_stop [] i t xs e lt is before now = absurd (omega arith)
+  intervals_stop (y ∷ ts) zero t xs e lt is before now = rw (sym is, now) refl
+  intervals_stop (y ∷ ts) (suc i) t xs e lt is before now =
+      stop (term_interval y names) (term_intervals (take i ts) names) (term_intervals ts names) xs before (λ zs h. intervals_stop ts i t zs e (omega arith) is h now)
+    where
+      stop : (o : OrMayTrap Side) (os ps : OrMayTrap (List Side)) (xs : List Side) → put_first o os ≡ Ok xs → ((zs : List Side) → os ≡ Ok zs → ps ≡ Err e) → put_first o ps ≡ Err e
+      stop (Ok z) (Ok zs) ps xs b f = ap (put_first (Ok z)) (f zs refl)
+      stop (Ok z) (Err t) ps xs b f = cc
+      stop (Err t) os ps xs b f = cc
+
+width_few : (plants : List PlantInfo) → ((k : ℕ) (plant : PlantInfo) → At plants k plant → length plant.states.items ≤ 4) → (k : ℕ) → width_of plants k ≤ 4
+width_few [] h k = omega arith
+width_few (plant ∷ rest) h zero = h 0 plant refl
+width_few (plant ∷ rest) h (suc k) = width_few rest (λ i x at. h (suc i) x at) k
+
+-- the plants that a plant sees have at most four state variables each
+seen_few : (p : Tables) → MeetsTableRules p → (ks : List ℕ) → seen_width p.plants ks ≤ 4 * length ks
+seen_few p rules [] = omega arith
+seen_few p rules (k ∷ ks) =
+    let a = width_few p.plants (λ i x at. (rules.plants i x at).states) k in
+    let b = seen_few p rules ks in
+    omega (arith, a, b)
+
+-- the places of a plant's expressions are below the count of its names
+pub plant_places : (p : Tables) (plant : PlantInfo) (n : ℕ) → TermsFit (plant_truths p plant) plant.next.items
+    → n ≡ length plant.states.items + length plant.inputs.items + seen_width p.plants plant.sees.items + length plant.noise.items → HavePlaces n plant.next.items
+plant_places p plant n h size =
+    let a = map (λ (s : StateInfo). false) plant.states.items in
+    let b = map (is_truth_scalar p.scalars) plant.inputs.items in
+    let c = replicate (seen_width p.plants plant.sees.items) false in
+    let d = map (λ (s : NoiseInfo). false) plant.noise.items in
+    let names : length (plant_truths p plant) ≡ length plant.states.items + length plant.inputs.items + seen_width p.plants plant.sees.items + length plant.noise.items =
+    length-append (a ++ b ++ c) d
+    ∙ ap₂ (λ x y. x + y) (length-append (a ++ b) c ∙ ap₂ (λ x y. x + y) (length-append a b ∙ ap₂ (λ x y. x + y) (length-map plant.states.items (λ (s : StateInfo). false)) (length-map plant.inputs.items (is_truth_scalar p.scalars))) (length-replicate (seen_width p.plants plant.sees.items) false)) (length-map plant.noise.items (λ (s : NoiseInfo). false)) in
+    subst (λ k. HavePlaces k plant.next.items) (names ∙ sym size) (HavePlaces-TermsFit (plant_truths p plant) plant.next.items h)
+
+pub plant_is : (p : Tables) (k : ℕ) (plant info : PlantInfo) → At p.plants k plant → info ≡ get_or p.plants k info → plant ≡ info
+plant_is p k plant info at is = sym (get_or_from_slice_get p.plants k plant info at) ∙ sym is
+
+-- a plant's names are at most eighty
+pub sizes : (p : Tables) (k : ℕ) (box held seen : List Side) → MeetsTableRules p → (m : MayTickBox p k box held seen) → (length box ≤ 4) × (length held ≤ 8) × (length seen ≤ 64)
+sizes p k box held seen rules m =
+    let r = rules.plants k m.plant m.is in
+    let s = seen_few p rules m.plant.sees.items in
+    (omega (arith, m.states, r.states), omega (arith, m.inputs, r.inputs), omega (arith, m.seen_are, s, r.sees))
+
+-- the intervals that are handed in are as many as the plant has names
+pub places_of : (p : Tables) (k : ℕ) (box held seen : List Side) (info : PlantInfo) → (m : MayTickBox p k box held seen) → m.plant ≡ info
+    → length (box ++ held ++ seen ++ bounds info) ≡ length info.states.items + length info.inputs.items + seen_width p.plants info.sees.items + length info.noise.items
+places_of p k box held seen info m same =
+    let counts : length box + length held + length seen ≡ length info.states.items + length info.inputs.items + seen_width p.plants info.sees.items =
+    ap₂ (λ a b. a + b) (ap₂ (λ a b. a + b) m.states m.inputs) m.seen_are ∙ ap (λ (x : PlantInfo). length x.states.items + length x.inputs.items + seen_width p.plants x.sees.items) same in
+    length-append (box ++ held ++ seen) (bounds info)
+    ∙ ap₂ (λ x y. x + y) (length-append (box ++ held) seen ∙ ap (λ x. x + length seen) (length-append box held) ∙ counts) (length-map info.noise.items (λ (d : NoiseInfo). record { lo = d.lo; hi = d.hi }))

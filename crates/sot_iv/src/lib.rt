@@ -1,0 +1,27 @@
+//! Least intervals of expressions, bodies and plant ticks.
+#![tactic(auto)]
+
+mod body;
+mod drafted;
+mod ends;
+mod laws;
+mod may_trap;
+mod node;
+mod operators;
+mod plant;
+mod ranges;
+mod term;
+
+pub use drafted::{Drafted, IvDraft};
+pub use laws::{
+    intervals_are_monotone, intervals_are_unique, intervals_hold_all_points, worked_evaluations,
+    worked_intervals,
+};
+pub use may_trap::MayTrap;
+pub use node::iv_node;
+pub use plant::iv_plant;
+pub use ranges::Ranges;
+pub use term::iv_term;
+
+#[cfg(test)]
+mod tests;
