@@ -1,0 +1,15 @@
+//! Tubes of boxes that hold each point a plant can come to, and what a certificate of such boxes shows of a program.
+#![tactic(auto)]
+
+mod accepted;
+mod facts;
+mod leave;
+mod theorems;
+
+pub use accepted::Accepted;
+pub use facts::{line_is_certified, refusals_are_as_stated, tubes_are_as_stated};
+pub use leave::Leave;
+pub use theorems::{
+    certified_is_well_formed, composed_by_scalars, covered_cells_never_trap, tubes_hold_the_reach,
+    tubes_leave_in_one_way, verdicts_are_exact,
+};
