@@ -1,0 +1,41 @@
+-- What reads of lists tell.
+use Rattle.std.proofs.Common.{◌≡◌, ℕ, ◌+◌, ◌-◌, ◌<◌, ◌≤◌, Bool, false, List, length, get_or, slice_index_or, refl, sym, subst, arith, ⊎_elim, ◌↔◌}
+use Rattle.std.proofs.lemmas.Option.{slice_get_read, slice_get_within, slice_get_cases}
+use Rattle.std.proofs.lemmas.List.{get_or_past}
+use Rattle.sot_box.specs.Lists.{At}
+use Rattle.sot_lang.specs.declared.tables.TopicInfo.{TopicInfo}
+use Rattle.sot_lang.specs.Tables.{Tables}
+use Rattle.sot_lang.specs.TableRules.{MeetsTableRules}
+use Rattle.sot_world.specs.Configurations.{Configuration}
+use Rattle.sot_world.specs.Calendar.{NothingLeft}
+use Rattle.sot_world.specs.Invariant.{KeepsInvariant}
+
+-- an element that was read, in an equal list
+pub read_at : {A : Type 0} (xs ys : List A) (k : ℕ) (x : A) → xs ≡ ys → k < length ys → x ≡ get_or xs k x → At ys k x
+read_at xs ys k x same lt is = slice_get_read ys (length ys) k x refl lt (subst (λ l. x ≡ get_or l k x) same is)
+
+-- a flag that was read as false
+pub read_false : (xs ys : List Bool) (k : ℕ) (x : Bool) → xs ≡ ys → x ≡ get_or xs k x → x ≡ false → slice_index_or ys k false ≡ false
+read_false xs ys k x same is e = sym (subst (λ y. y ≡ slice_index_or ys k y) e (subst (λ l. x ≡ get_or l k x) same is))
+
+-- a topic's scalars are there
+pub topic_inside : (p : Tables) → MeetsTableRules p → (t : ℕ) (info : TopicInfo) → At p.topics t info → info.first + info.count ≤ length p.scalars
+topic_inside p rules t info at =
+    let some = (rules.topics t info at).0 in
+    let last = rules.typed.topic_scalar t (info.first + info.count - 1) info at (omega (arith, some)) (omega (arith, some)) in
+    omega (arith, slice_get_within p.scalars (info.first + info.count - 1) last.0 last.1, some)
+
+-- a flag at any place, if each one in the list is not set
+flags_none : {A : Type 0} (xs : List A) (flags : List Bool) → length flags ≡ length xs → ((n : ℕ) (x : A) → At xs n x → slice_index_or flags n false ≡ false) → (n : ℕ) → slice_index_or flags n false ≡ false
+flags_none xs flags size each n =
+    ⊎_elim
+    (λ inside. each n inside.0 inside.2)
+    (λ past. get_or_past flags n false (omega (arith, past.0, size)))
+    (slice_get_cases xs n).1
+
+-- nothing is left exactly where no flag is set
+pub nothing_flags : (p : Tables) (C : Configuration) → KeepsInvariant p 0 C → (((n : ℕ) → slice_index_or C.left n false ≡ false) × ((n : ℕ) → slice_index_or C.left_dm n false ≡ false)) ↔ NothingLeft p C
+nothing_flags p C h = (
+  (λ f. record { nodes = λ n node at. f.0 n; modules = λ m a at. f.1 m }),
+  (λ none. (flags_none p.nodes C.left h.sizes.left none.nodes, flags_none p.modules C.left_dm h.sizes.left_dm none.modules)),
+)

@@ -1,0 +1,30 @@
+-- The records of a history stay what they are when numbers come behind its list.
+use Rattle.std.proofs.Common.{◌≡◌, ℕ, suc, ◌+◌, ◌≤◌, ℤ, List, [], ◌∷◌, ◌++◌, length, map, take, drop, refl, ap, ap₂, ◌∙◌, arith, length-drop}
+use Rattle.std.proofs.lemmas.List.{take-append-le, drop-append-le, map-append}
+use Rattle.std.specs.List.{All}
+use Rattle.sot_world.specs.declared.history.Record.{Record}
+use Rattle.sot_world.specs.declared.history.Record.TheVariants.{Input, Fire, Decide, Tick}
+use Rattle.sot_world.specs.HistoryEntry.{Logged, InputAt, TickAt}
+use Rattle.sot_world.specs.HistoryRecords.{logged, end_of}
+
+part_more : (ns more : List ℤ) (from count : ℕ) → from + count ≤ length ns → take count (drop from (ns ++ more)) ≡ take count (drop from ns)
+part_more ns more from count inside =
+    ap (take count) (drop-append-le from ns more (omega (arith, inside)))
+    ∙ take-append-le count (drop from ns) more (omega (arith, inside, length-drop from ns))
+
+pub logged_more : (ns more : List ℤ) (r : Record) → end_of r ≤ length ns → logged (ns ++ more) r ≡ logged ns r
+logged_more ns more (Input time topic from count) inside = ap (InputAt time topic) (part_more ns more from count inside)
+logged_more ns more (Fire time node draft enabled) inside = refl
+logged_more ns more (Decide time m mode) inside = refl
+logged_more ns more (Tick time from noise states) inside =
+    ap₂ (TickAt time) (part_more ns more from noise (omega (arith, inside))) (part_more ns more (from + noise) states inside)
+
+pub all_logged_more : (ns more : List ℤ) (rs : List Record) → All (λ r. end_of r ≤ length ns) rs → map (logged (ns ++ more)) rs ≡ map (logged ns) rs
+all_logged_more ns more [] inside = refl
+all_logged_more ns more (r ∷ rs) inside = ap₂ (λ x xs. x ∷ xs) (logged_more ns more r (inside 0 r (omega arith))) (all_logged_more ns more rs (λ k d lt. inside (suc k) d (omega (arith, lt))))
+
+-- a record behind the others
+pub logged_push : (ns more ns' : List ℤ) (rs : List Record) (r : Record) (e : Logged) → ns' ≡ ns ++ more → All (λ r. end_of r ≤ length ns) rs → logged ns' r ≡ e → map (logged ns') (rs ++ r ∷ []) ≡ map (logged ns) rs ++ e ∷ []
+logged_push ns more ns' rs r e behind inside same =
+    map-append (logged ns') rs (r ∷ [])
+    ∙ ap₂ (λ a b. a ++ b ∷ []) (ap (λ x. map (logged x) rs) behind ∙ all_logged_more ns more rs inside) same

@@ -1,0 +1,37 @@
+use Rattle.std.proofs.Common.{arith, sym, ap, ◌∙◌, subst, ◌+◌, length}
+use Rattle.std.proofs.lemmas.Bool.{false≢true}
+use Rattle.std.proofs.lemmas.Option.{same_Some, slice_get_within}
+use Rattle.sot_world.proofs.Reading.{read_at, topic_inside}
+use Rattle.sot_box.specs.Sides.{IsIn}
+use Rattle.sot_lang.specs.Ranges.{range_of}
+use Rattle.sot_lang.specs.TableRules.{MeetsTableRules}
+use Rattle.sot_world.proofs.world.World.can_take.Goals as goal
+
+pub is_in_type-requires : goal.is_in_type-requires
+is_in_type-requires c =
+    let tables = c.p.view_is ∙ c.typed-p.ensures.program ∙ ap (λ s. s.accepted.program) c.self.view_is in
+    let at = read_at _ _ c.args.topic _ (ap (λ t. t.topics) tables) (slice_get_within _ _ _ c.requires.1) c.index-info.ensures in
+    let scalars = c.deref.ensures.value ∙ ap (λ t. t.scalars) tables in
+    let rules = subst MeetsTableRules (ap (λ s. s.accepted.program) c.self.view_is) c.self.invariant.kept.rules in
+    let inside = topic_inside _ rules c.args.topic _ at in
+    let info = same_Some c.requires.0 c.index-info.result.now (sym c.requires.1 ∙ at) in
+    let count = c.requires.2 ∙ ap (λ x. x.count) info in
+    let size = ap length scalars in
+    omega (arith, inside, count, size)
+
+pub returns-then-is_in_type : goal.returns-then-is_in_type
+returns-then-is_in_type c =
+    let tables = c.p.view_is ∙ c.typed-p.ensures.program ∙ ap (λ s. s.accepted.program) c.self.view_is in
+    let at = read_at _ _ c.args.topic _ (ap (λ t. t.topics) tables) (slice_get_within _ _ _ c.requires.1) c.index-info.ensures in
+    let scalars = c.deref.ensures.value ∙ ap (λ t. t.scalars) tables in
+    (c.index-info.result.now, at, λ i z at_i. subst (λ l. IsIn (range_of l (c.index-info.result.now.first + i)) z) scalars (c.is_in_type.ensures.0 c.if-is_in_type.true i z at_i))
+
+pub returns-else-is_in_type : goal.returns-else-is_in_type
+returns-else-is_in_type c =
+    let tables = c.p.view_is ∙ c.typed-p.ensures.program ∙ ap (λ s. s.accepted.program) c.self.view_is in
+    let at = read_at _ _ c.args.topic _ (ap (λ t. t.topics) tables) (slice_get_within _ _ _ c.requires.1) c.index-info.ensures in
+    let scalars = c.deref.ensures.value ∙ ap (λ t. t.scalars) tables in
+    λ t.
+    let info = same_Some t.0 c.index-info.result.now (sym t.1 ∙ at) in
+    false≢true (sym c.if-is_in_type.false ∙ c.is_in_type.ensures.1 (λ i z at_i.
+    subst (λ l. IsIn (range_of l (c.index-info.result.now.first + i)) z) (sym scalars) (subst (λ x. IsIn (range_of c.args.self.now.accepted.program.scalars (x.first + i)) z) info (t.2 i z at_i))))

@@ -1,0 +1,242 @@
+ghost use Rattle.std.specs.Prelude.{◌≡◌, ℕ, ◌+◌, ◌<◌, ◌≤◌, [], ◌∷◌, ◌++◌, ℤ, List, length, slice_get, Some, IfOk, vec_len, vec_capacity};
+ghost use Rattle.sot_world.specs.Histories.{entry_of, numbers_in};
+ghost use Rattle.sot_world.specs.HistoryRecords.{logged, end_of};
+
+use crate::mode::Mode;
+use sot_lang::Draft;
+use std::alloc::{AllocError, Global};
+use std::marker::Model;
+
+/// An event of a run as it is recorded, with its time and its outcome.
+#[derive(Clone, Copy)]
+pub enum Entry<'h> {
+    Input {
+        time: u32,
+        topic: u32,
+        value: &'h [i64],
+    },
+    Fire {
+        time: u32,
+        node: u32,
+        draft: Draft,
+        enabled: bool,
+    },
+    Decide {
+        time: u32,
+        module: u32,
+        mode: Mode,
+    },
+    /// The disturbances of all plants, and their states after the tick, each one plant after another.
+    Tick {
+        time: u32,
+        noise: &'h [i64],
+        states: &'h [i64],
+    },
+}
+
+// An entry whose numbers stand in the history's list, from a place on.
+#[derive(Clone, Copy)]
+enum Record {
+    Input {
+        time: u32,
+        topic: u32,
+        from: usize,
+        count: usize,
+    },
+    Fire {
+        time: u32,
+        node: u32,
+        draft: Draft,
+        enabled: bool,
+    },
+    Decide {
+        time: u32,
+        module: u32,
+        mode: Mode,
+    },
+    Tick {
+        time: u32,
+        from: usize,
+        noise: usize,
+        states: usize,
+    },
+}
+
+/// The entries of a run, in order, in room that is taken at the start.
+#[derive(Drop)]
+pub struct History {
+    records: Vec<Record>,
+    numbers: Vec<i64>,
+    entries_left: usize,
+    numbers_left: usize,
+}
+
+impl Model for History {
+    ghost use Rattle.sot_world.specs.HistoryEntry.{Story};
+
+    ghost Value = { Story };
+
+    ghost use Rattle.sot_world.specs.HistoryView.{story_of, IsStory};
+
+    ghost view = { story_of };
+
+    ghost invariant = { IsStory };
+}
+
+impl History {
+    /// No entries yet, with room for so many, and for so many numbers in their slices.
+    pub fn none(alloc: Global, entries: u32, numbers: u32) -> Result<History, AllocError>
+        ensures { IfOk result (λ h. h ≡ record { entries = []; entries_left = entries; numbers_left = numbers }) }
+    {
+        Ok(History {
+            records: Vec::with_capacity(alloc, entries as usize)?,
+            numbers: Vec::with_capacity(alloc, numbers as usize)?,
+            entries_left: entries as usize,
+            numbers_left: numbers as usize,
+        })
+    }
+
+    /// Puts an entry behind the others, in the room that is left.
+    pub fn push(&mut self, e: &Entry<'_>)
+        requires entry { 0 < self.old.entries_left }
+        requires numbers { numbers_in (entry_of e.now) ≤ self.old.numbers_left }
+        ensures appended { self.new.entries ≡ self.old.entries ++ entry_of e.now ∷ [] }
+        ensures entries_left { self.new.entries_left + 1 ≡ self.old.entries_left }
+        ensures numbers_left { self.new.numbers_left + numbers_in (entry_of e.now) ≡ self.old.numbers_left }
+    {
+        let before = self.numbers.len();
+        let record = kept(&mut self.numbers, e);
+        self.numbers_left -= self.numbers.len() - before;
+        add(&mut self.records, record);
+        self.entries_left -= 1;
+    }
+
+    /// The number of entries.
+    pub fn len(&self) -> usize
+        ensures { result ≡ length self.now.entries }
+    {
+        self.records.len()
+    }
+
+    /// The entry at place `i`, in the order in which they were pushed.
+    pub fn entry(&self, i: usize) -> Entry<'_>
+        requires { i < length self.now.entries }
+        ensures { slice_get self.now.entries i ≡ Some (entry_of result) }
+    {
+        let record = self.records[i];
+        lent(&self.numbers, record)
+    }
+}
+
+// Appends a record for which there is room.
+fn add(to: &mut Vec<Record>, more: Record)
+    requires { vec_len to.old < vec_capacity to.old }
+    ensures items { to.new.items ≡ to.old.items ++ more ∷ [] }
+    ensures len { vec_len to.new ≡ vec_len to.old + 1 }
+    ensures capacity { vec_capacity to.old ≤ vec_capacity to.new }
+{
+    let _ = to.push(more);
+}
+
+// Appends numbers for which there is room.
+fn append(to: &mut Vec<i64>, more: &[i64])
+    requires { vec_len to.old + length more.now ≤ vec_capacity to.old }
+    ensures items { to.new.items ≡ to.old.items ++ more.now }
+    ensures len { vec_len to.new ≡ vec_len to.old + length more.now }
+    ensures capacity { vec_capacity to.old ≤ vec_capacity to.new }
+{
+    let _ = to.extend_from_slice(more);
+}
+
+// The record of an entry, whose numbers go behind the list.
+fn kept(numbers: &mut Vec<i64>, e: &Entry<'_>) -> Record
+    requires { vec_len numbers.old + numbers_in (entry_of e.now) ≤ vec_capacity numbers.old }
+    ensures same { logged numbers.new.items result ≡ entry_of e.now }
+    ensures inside { end_of result ≤ length numbers.new.items }
+    ensures behind { (more : List ℤ) × (numbers.new.items ≡ numbers.old.items ++ more) }
+    ensures len { vec_len numbers.new ≡ vec_len numbers.old + numbers_in (entry_of e.now) }
+    ensures capacity { vec_capacity numbers.old ≤ vec_capacity numbers.new }
+{
+    let from = numbers.len();
+    match *e {
+        Entry::Input { time, topic, value } => {
+            append(numbers, value);
+            Record::Input {
+                time,
+                topic,
+                from,
+                count: value.len(),
+            }
+        }
+        Entry::Fire {
+            time,
+            node,
+            draft,
+            enabled,
+        } => Record::Fire {
+            time,
+            node,
+            draft,
+            enabled,
+        },
+        Entry::Decide { time, module, mode } => Record::Decide { time, module, mode },
+        Entry::Tick {
+            time,
+            noise,
+            states,
+        } => {
+            append(numbers, noise);
+            append(numbers, states);
+            Record::Tick {
+                time,
+                from,
+                noise: noise.len(),
+                states: states.len(),
+            }
+        }
+    }
+}
+
+// The entry of a record, with its numbers from the list.
+fn lent(numbers: &[i64], kept: Record) -> Entry<'_>
+    requires { end_of kept ≤ length numbers.now }
+    ensures { entry_of result ≡ logged numbers.now kept }
+{
+    match kept {
+        Record::Input {
+            time,
+            topic,
+            from,
+            count,
+        } => Entry::Input {
+            time,
+            topic,
+            value: &numbers[from..from + count],
+        },
+        Record::Fire {
+            time,
+            node,
+            draft,
+            enabled,
+        } => Entry::Fire {
+            time,
+            node,
+            draft,
+            enabled,
+        },
+        Record::Decide { time, module, mode } => Entry::Decide { time, module, mode },
+        Record::Tick {
+            time,
+            from,
+            noise,
+            states,
+        } => {
+            let middle = from + noise;
+            Entry::Tick {
+                time,
+                noise: &numbers[from..middle],
+                states: &numbers[middle..middle + states],
+            }
+        }
+    }
+}

@@ -1,0 +1,36 @@
+//! Runs of a program, and the theorem that they are safe.
+//!
+//! A configuration goes to the next one by an input, a firing, a decision or a tick. In every run from plants in their safer
+//! regions each configuration satisfies an invariant of all modules together, and what satisfies it is safe.
+#![tactic(auto)]
+
+mod event;
+mod examples;
+mod history;
+mod looks;
+mod mode;
+mod open_fail;
+mod outcome;
+mod role;
+mod starts;
+mod theorems;
+mod world;
+
+pub use event::Event;
+pub use examples::{
+    disabled_nodes_publish_nothing, line_decides, line_fires, line_is_safe, line_opens,
+    line_switches, line_ticks, relay_takes_inputs, some_are_not_safe, twins_step,
+};
+pub use history::{Entry, History};
+pub use mode::Mode;
+pub use open_fail::OpenFail;
+pub use outcome::{Outcome, Why};
+pub use theorems::{
+    certified_runs_are_safe, firings_publish_what_is_drafted, possible_is_what_has_a_step,
+    runs_keep_the_invariant, something_can_happen, steps_are_unique, steps_keep_the_invariant,
+    the_invariant_is_safe, without_jitter,
+};
+pub use world::World;
+
+#[cfg(test)]
+mod tests;

@@ -1,0 +1,26 @@
+use crate::mode::Mode;
+use sot_lang::Draft;
+
+/// What is recorded of a step.
+#[derive(Clone, Copy, Debug, PartialEq, Eq)]
+pub enum Outcome {
+    Input,
+    /// The draft, with nothing in the slots past the node's scalars, and whether the node is enabled. Numbers outside their scalar's range are in it too.
+    Fired { draft: Draft, enabled: bool },
+    /// The mode after the decision.
+    Decided { mode: Mode },
+    Ticked,
+}
+
+/// Why an event cannot happen now.
+#[derive(Clone, Copy, Debug, PartialEq, Eq)]
+pub enum Why {
+    /// The node or the decision is not due at this time.
+    NotDue,
+    /// It is due and has fired in this instant.
+    AlreadyFired,
+    /// A tick, while something is left to fire.
+    NodesLeft,
+    /// A number of an input is outside its scalar's range, or a disturbance is outside its bounds.
+    OutsideType,
+}
