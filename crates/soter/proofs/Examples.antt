@@ -1,10 +1,9 @@
 -- The conditions and the texts, tried on small programs.
-use Rattle.std.proofs.Common.{◌≡◌, ℕ, ◌<◌, ◌≤◌, List, [], ◌∷◌, ◌++◌, inr, refl, sym, ap, subst, codes, arith}
-use Rattle.std.specs.Prelude.{◌≢◌}
+use Rattle.std.proofs.Common.{◌≡◌, ℕ, List, [], ◌∷◌, ◌++◌, inr, refl, sym, ap, subst, codes, arith}
 use Rattle.std.proofs.lemmas.Fmt.{decimal_digit}
 use Rattle.sot_parser.specs.Header.{Head}
 use Rattle.soter.specs.declared.shape.Refusal.TheVariants.{Periods, Outputs}
-use Rattle.soter.specs.Shape.{HasShape, Refuses, IsShared, IsFirstUnshared}
+use Rattle.soter.specs.Shape.{HasShape, Refuses, IsShared}
 use Rattle.soter.specs.Texts.{accepted_text, refusal_text}
 
 -- a module of period 4 with an AC of period 4, which writes these topics, and an SC of this period,

@@ -1,5 +1,5 @@
 -- A source that was not read.
-use Rattle.std.proofs.Common.{ℕ, ◌≤◌, List, [], Option, arith}
+use Rattle.std.proofs.Common.{ℕ, List, [], Option, arith}
 use Rattle.std.proofs.KnownBytes.{Consumes-nil}
 use Rattle.sot_ports.specs.Whole.{ReadsUpTo}
 

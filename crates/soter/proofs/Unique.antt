@@ -1,5 +1,5 @@
 -- A text decides one status.
-use Rattle.std.proofs.Common.{◌≡◌, ℕ, ◌<◌, ◌≤◌, List, inl, inr, sym, ap, ◌∙◌, subst, arith, Global}
+use Rattle.std.proofs.Common.{◌≡◌, ℕ, List, inl, inr, sym, ap, ◌∙◌, subst, arith, Global}
 use Rattle.std.specs.Prelude.{String}
 use Rattle.sot_parser.specs.Header.{Head}
 use Rattle.sot_parser.specs.Spells.{Spells}
@@ -7,7 +7,7 @@ use Rattle.sot_parser.proofs.Unique.{Spells-unique, NotBuilt-spells_none}
 use Rattle.soter.specs.declared.shape.Refusal.{Refusal}
 use Rattle.soter.specs.declared.shape.Refusal.TheVariants.{Periods, Outputs}
 use Rattle.soter.specs.Shape.{HasShape, Refuses, period_at}
-use Rattle.soter.specs.Answers.{Accepts, Refutes, Rejects, Checks, IsCheck}
+use Rattle.soter.specs.Answers.{Accepts, Refutes, Rejects, Checks}
 use Rattle.soter.specs.Ends.{Decides}
 
 -- a module that meets the conditions is not refused

@@ -1,5 +1,5 @@
 -- The one word that asks for a check.
-use Rattle.std.proofs.Common.{◌≡◌, ℕ, List, [], ◌∷◌, Bool, true, sym, ap, ◌∙◌, arith, length, get_or, codes, Global}
+use Rattle.std.proofs.Common.{◌≡◌, ℕ, List, [], ◌∷◌, Bool, sym, ap, ◌∙◌, arith, length, get_or, codes, Global}
 use Rattle.std.specs.Prelude.{String, IsTrue}
 use Rattle.std.specs.String.{string_bytes}
 use Rattle.std.specs.Str.{bytes_eq}
