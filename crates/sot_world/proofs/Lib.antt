@@ -25,3 +25,4 @@ pub mod Starting
 pub mod Unsafe
 pub mod TwinSteps
 pub mod Possible
+pub mod RelayFlight

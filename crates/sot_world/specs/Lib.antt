@@ -8,6 +8,7 @@ pub mod Progress
 pub mod Examples
 pub mod Publication
 pub mod Calendar
+pub mod Flights
 pub mod HistoryEntry
 pub mod Histories
 pub mod HistoryRecords
