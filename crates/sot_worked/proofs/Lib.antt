@@ -1,0 +1,6 @@
+mod Short
+pub mod DivideRules
+mod LineTerms
+pub mod LineRules
+pub mod Calls
+pub mod BrokenRules

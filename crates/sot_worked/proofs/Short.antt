@@ -1,0 +1,19 @@
+-- Lists that are equal to a list of one, or of none.
+use Rattle.std.proofs.Common.{◌≡◌, ℕ, List, [], ◌∷◌, refl, subst}
+use Rattle.std.proofs.lemmas.Option.{none-some}
+use Rattle.sot_box.specs.Lists.{At}
+use Rattle.sot_lang.specs.Places.{Has}
+use Rattle.sot_lang.proofs.ShortLists.{at_one}
+
+module _ {A : Type 0} where
+  -- what is in it
+  pub only : (a : A) (xs : List A) → xs ≡ a ∷ [] → (x : A) → Has xs x → a ≡ x
+  only a xs e x h = at_one (λ k y. a ≡ y) a refl h.0 x (subst (λ l. At l h.0 x) e h.1)
+
+  -- where it stands
+  pub only_place : (a : A) (xs : List A) → xs ≡ a ∷ [] → (k : ℕ) (x : A) → At xs k x → k ≡ 0
+  only_place a xs e k x at = at_one (λ k y. k ≡ 0) a refl k x (subst (λ l. At l k x) e at)
+
+  -- nothing is in none
+  pub nothing : (xs : List A) → xs ≡ [] → (k : ℕ) (x : A) → At xs k x → ⊥
+  nothing xs e k x at = none-some x (subst (λ l. At l k x) e at)

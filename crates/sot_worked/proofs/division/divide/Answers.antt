@@ -1,0 +1,20 @@
+use Rattle.sot_worked.proofs.DivideRules.{divide_meets_rules}
+use Rattle.sot_worked.proofs.division.divide.Goals as goal
+
+pub invariant_of-result : goal.invariant_of-result
+invariant_of-result c = divide_meets_rules _ (record {
+  topics = c.in_ok-topics.ensures;
+  scalars = c.in_ok-scalars.ensures;
+  plants = c.new.ensures.items;
+  nodes = (c.in_ok-calc.calc, c.in_ok-calc.ensures, c.in_ok-nodes.ensures.items);
+  modules = c.new-2.ensures.items;
+})
+
+pub returns : goal.returns
+returns c = record {
+  topics = c.in_ok-topics.ensures;
+  scalars = c.in_ok-scalars.ensures;
+  plants = c.new.ensures.items;
+  nodes = (c.in_ok-calc.calc, c.in_ok-calc.ensures, c.in_ok-nodes.ensures.items);
+  modules = c.new-2.ensures.items;
+}

@@ -1,0 +1,46 @@
+-- A node that divides by what it reads. Places are those of this text, whose first line is line 1:
+--   topic n: int[0..5] = 0;
+--   topic k: int[0..10] = 0;
+--   node calc period 1 offset 0 {
+--     reads n;
+--     writes k;
+--     do {
+--       publish k = 10 / n;
+--     }
+--   }
+use Rattle.std.specs.Prelude.{◌≡◌, pos, List, [], ◌∷◌}
+use Rattle.sot_lang.specs.declared.operator.Op.TheVariants.{Div}
+use Rattle.sot_lang.specs.declared.term.Term.{Term}
+use Rattle.sot_lang.specs.declared.term.Term.TheVariants.{Number, Place}
+use Rattle.sot_lang.specs.declared.act.Act.{Act}
+use Rattle.sot_lang.specs.declared.act.Act.TheVariants.{Publish}
+use Rattle.sot_lang.specs.declared.tables.Slot.TheVariants.{Scalar}
+use Rattle.sot_lang.specs.declared.tables.NodeInfo.{NodeInfo}
+use Rattle.sot_lang.specs.Tables.{Tables}
+use Rattle.sot_lang.specs.TableRules.{IsCoded}
+use Rattle.sot_worked.specs.Parts.{place, one_topic, whole_number, IsBinary}
+
+-- 10 / n: the division stands at line 7, column 20
+abbrev pub IsQuotient : Term → Type 0
+IsQuotient = IsBinary Div (Number (pos 10)) (Place 0) (place 7 20 128 129)
+
+-- publish k = 10 / n
+abbrev pub IsDivision : List Act → Type 0
+IsDivision acts = (t : Term) × IsQuotient t × (acts ≡ Publish 0 t (place 7 13 121 122) ∷ [])
+
+pub record IsCalc (node : NodeInfo) : Type 0 where
+  pub name : node.name ≡ 99 ∷ 97 ∷ 108 ∷ 99 ∷ []
+  pub period : node.period ≡ 1
+  pub offset : node.offset ≡ 0
+  pub reads : node.reads.items ≡ Scalar 0 ∷ []
+  pub writes : node.writes.items ≡ 1 ∷ []
+  pub locals : node.locals.items ≡ []
+  pub body : (acts : List Act) × IsCoded node acts × IsDivision acts
+
+-- the tables
+pub record IsDivide (p : Tables) : Type 0 where
+  pub topics : p.topics ≡ one_topic (110 ∷ []) 0 ∷ one_topic (107 ∷ []) 1 ∷ []
+  pub scalars : p.scalars ≡ whole_number 0 (pos 0) (pos 5) ∷ whole_number 1 (pos 0) (pos 10) ∷ []
+  pub plants : p.plants ≡ []
+  pub nodes : (calc : NodeInfo) × IsCalc calc × (p.nodes ≡ calc ∷ [])
+  pub modules : p.modules ≡ []

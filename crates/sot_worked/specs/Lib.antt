@@ -1,0 +1,6 @@
+-- what the public contracts say
+pub mod Line
+pub mod Divide
+pub mod Broken
+-- what they are made of
+pub mod Parts

@@ -1,0 +1,97 @@
+ghost use Rattle.std.specs.Prelude.{◌≡◌, ◌<◌, ◌≤◌, ◌≤ℤ◌, ◌∷◌, [], length, IfOk};
+ghost use Rattle.sot_worked.specs.Parts.{one_topic, whole_number, place, IsBinary, IsChoice};
+
+use sot_box::{BoxN, Interval, Region};
+use sot_lang::{Name, Op, ScalarInfo, Term, TopicInfo};
+use sot_text::Span;
+use std::alloc::{AllocError, Global};
+
+// A place in a text.
+pub(crate) fn span(line: u32, column: u32, from: usize, to: usize) -> Span
+    ensures { result ≡ place line column from to }
+{
+    Span {
+        line,
+        column,
+        from,
+        to,
+    }
+}
+
+// A topic that nodes write, with one scalar.
+pub(crate) fn topic(alloc: Global, name: &[u8], first: u32) -> Result<TopicInfo, AllocError>
+    requires some { 0 < length name.now }
+    requires short { length name.now ≤ 64 }
+    ensures { IfOk result (λ t. t ≡ one_topic name.now first) }
+{
+    Ok(TopicInfo {
+        name: Name::from_bytes(alloc, name)?,
+        outside: false,
+        first,
+        count: 1,
+    })
+}
+
+// The scalar of such a topic.
+pub(crate) fn number(topic: u32, lo: i64, hi: i64) -> ScalarInfo
+    ensures { result ≡ whole_number topic lo hi }
+{
+    ScalarInfo {
+        topic,
+        field: None,
+        scale: 0,
+        truth: false,
+        lo,
+        hi,
+        init: 0,
+    }
+}
+
+// An operator between two expressions.
+pub(crate) fn binary(
+    alloc: Global,
+    op: Op,
+    left: Term,
+    right: Term,
+    at: Span,
+) -> Result<Term, AllocError>
+    ensures { IfOk result (IsBinary op left right at) }
+{
+    Ok(Term::Binary {
+        op,
+        left: Box::new(alloc, left)?,
+        right: Box::new(alloc, right)?,
+        at,
+    })
+}
+
+// A condition and its two branches.
+pub(crate) fn choice(
+    alloc: Global,
+    cond: Term,
+    yes: Term,
+    no: Term,
+    at: Span,
+) -> Result<Term, AllocError>
+    ensures { IfOk result (IsChoice cond yes no at) }
+{
+    Ok(Term::If {
+        cond: Box::new(alloc, cond)?,
+        yes: Box::new(alloc, yes)?,
+        no: Box::new(alloc, no)?,
+        at,
+    })
+}
+
+// The region of one interval.
+pub(crate) fn interval(alloc: Global, lo: i64, hi: i64) -> Result<Region, AllocError>
+    requires { lo ≤ℤ hi }
+    ensures { IfOk result (λ r. r ≡ record { width = 1; boxes = (record { lo = lo; hi = hi } ∷ []) ∷ [] }) }
+{
+    let mut region = Region::none(alloc, 1);
+    let b = BoxN::of(&[Interval { lo, hi }]).unwrap();
+    match region.push(b) {
+        Ok(()) => Ok(region),
+        Err(_) => Err(AllocError),
+    }
+}

@@ -1,0 +1,163 @@
+ghost use Rattle.std.specs.Prelude.{◌≡◌, ◌∷◌, [], pos, negsuc, IfOk};
+ghost use Rattle.sot_lang.specs.Line.{cmd_name};
+ghost use Rattle.sot_worked.specs.Parts.{one_topic, whole_number};
+ghost use Rattle.sot_worked.specs.Line.{IsMove, IsPos, IsReturn, IsCommand, IsFast, IsSlow, IsLine, nav};
+
+use crate::parts::{binary, choice, interval, number, span, topic};
+use sot_lang::{
+    Act, ModuleInfo, Name, NodeInfo, NoiseInfo, Op, PlantInfo, ScalarInfo, Slot, StateInfo, Term,
+    TopicInfo, Typed,
+};
+use std::alloc::{AllocError, Global};
+
+fn topics(alloc: Global) -> Result<Vec<TopicInfo>, AllocError>
+    ensures { IfOk result (λ v. v.items ≡ one_topic cmd_name 0 ∷ []) }
+{
+    let cmd = topic(alloc, b"cmd", 0)?;
+    Ok(vec![in alloc; cmd]?)
+}
+
+fn scalars(alloc: Global) -> Result<Vec<ScalarInfo>, AllocError>
+    ensures { IfOk result (λ v. v.items ≡ whole_number 0 (negsuc 1) (pos 2) ∷ []) }
+{
+    Ok(vec![in alloc; number(0, -2, 2)]?)
+}
+
+// (x + cmd) + w
+fn moved(alloc: Global) -> Result<Term, AllocError>
+    ensures { IfOk result IsMove }
+{
+    let (inner, outer) = (span(6, 15, 105, 106), span(6, 22, 112, 113));
+    let sum = binary(alloc, Op::Add, Term::Place(0), Term::Place(1), inner)?;
+    binary(alloc, Op::Add, sum, Term::Place(2), outer)
+}
+
+fn state(alloc: Global) -> Result<StateInfo, AllocError>
+    ensures { IfOk result (λ s. s ≡ record { name = 120 ∷ []; scale = 0 }) }
+{
+    Ok(StateInfo {
+        name: Name::from_bytes(alloc, b"x")?,
+        scale: 0,
+    })
+}
+
+fn disturbance(alloc: Global) -> Result<NoiseInfo, AllocError>
+    ensures { IfOk result (λ d. d ≡ record { name = 119 ∷ []; scale = 0; lo = negsuc 0; hi = pos 1 }) }
+{
+    Ok(NoiseInfo {
+        name: Name::from_bytes(alloc, b"w")?,
+        scale: 0,
+        lo: -1,
+        hi: 1,
+    })
+}
+
+fn plant(alloc: Global) -> Result<PlantInfo, AllocError>
+    ensures { IfOk result IsPos }
+{
+    let state = state(alloc)?;
+    let disturbance = disturbance(alloc)?;
+    let next = moved(alloc)?;
+    Ok(PlantInfo {
+        name: Name::from_bytes(alloc, b"pos")?,
+        states: vec![in alloc; state]?,
+        inputs: vec![in alloc; 0]?,
+        sees: Vec::new(alloc),
+        noise: vec![in alloc; disturbance]?,
+        next: vec![in alloc; next]?,
+    })
+}
+
+fn fast(alloc: Global) -> Result<NodeInfo, AllocError>
+    ensures { IfOk result IsFast }
+{
+    Ok(NodeInfo {
+        name: Name::from_bytes(alloc, b"fast")?,
+        period: 4,
+        offset: 0,
+        reads: vec![in alloc; Slot::State { plant: 0, var: 0 }]?,
+        writes: vec![in alloc; 0]?,
+        locals: Vec::new(alloc),
+        body: None,
+    })
+}
+
+// if (pos.x > 10) then -2 else (if (pos.x < -10) then 2 else 0)
+fn returned(alloc: Global) -> Result<Term, AllocError>
+    ensures { IfOk result IsReturn }
+{
+    let (greater, less) = (span(16, 29, 274, 275), span(16, 59, 304, 305));
+    let above = binary(
+        alloc,
+        Op::Greater,
+        Term::Place(0),
+        Term::Number(10),
+        greater,
+    )?;
+    let below = binary(alloc, Op::Less, Term::Place(0), Term::Number(-10), less)?;
+    let (inner, outer) = (span(16, 49, 294, 296), span(16, 19, 264, 266));
+    let rest = choice(alloc, below, Term::Number(2), Term::Number(0), inner)?;
+    let value = choice(alloc, above, Term::Number(-2), rest, outer)?;
+    Ok(value)
+}
+
+fn acts(alloc: Global) -> Result<Vec<Act>, AllocError>
+    ensures { IfOk result (λ v. IsCommand v.items) }
+{
+    let value = returned(alloc)?;
+    let publish = Act::Publish {
+        slot: 0,
+        value,
+        at: span(16, 13, 258, 261),
+    };
+    Ok(vec![in alloc; publish]?)
+}
+
+fn slow(alloc: Global) -> Result<NodeInfo, AllocError>
+    ensures { IfOk result IsSlow }
+{
+    Ok(NodeInfo {
+        name: Name::from_bytes(alloc, b"slow")?,
+        period: 2,
+        offset: 0,
+        reads: vec![in alloc; Slot::State { plant: 0, var: 0 }]?,
+        writes: vec![in alloc; 0]?,
+        locals: Vec::new(alloc),
+        body: Some(acts(alloc)?),
+    })
+}
+
+fn module(alloc: Global) -> Result<ModuleInfo, AllocError>
+    ensures { IfOk result (λ m. m ≡ nav) }
+{
+    Ok(ModuleInfo {
+        name: Name::from_bytes(alloc, b"nav")?,
+        ac: 0,
+        sc: 1,
+        period: 4,
+        offset: 0,
+        plant: 0,
+        safe: interval(alloc, -40, 40)?,
+        safer: interval(alloc, -10, 10)?,
+    })
+}
+
+/// The tables of a mission with one plant, a vehicle on a line, whose node 1, `slow`, commands it back once it is more than 10
+/// away from 0. Node 0, `fast`, is external.
+pub fn line(alloc: Global) -> Result<Typed, AllocError>
+    ensures { IfOk result IsLine }
+{
+    let topics = topics(alloc)?;
+    let scalars = scalars(alloc)?;
+    let plant = plant(alloc)?;
+    let fast = fast(alloc)?;
+    let slow = slow(alloc)?;
+    let module = module(alloc)?;
+    Ok(Typed {
+        topics,
+        scalars,
+        plants: vec![in alloc; plant]?,
+        nodes: vec![in alloc; fast, slow]?,
+        modules: vec![in alloc; module]?,
+    })
+}
