@@ -11,3 +11,9 @@ pub mod LineBoxes
 pub mod LineTubes
 pub mod LineCertified
 pub mod LineRefused
+pub mod Walks
+pub mod HullWidth
+pub mod SeenHulls
+pub mod Follows
+pub mod InputTypes
+pub mod Kept

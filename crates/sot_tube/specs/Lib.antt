@@ -13,3 +13,6 @@ pub mod Verdict
 pub mod Theorems
 pub mod Examples
 pub mod RefusalExamples
+pub mod Calls
+pub mod Walk
+pub mod Seen

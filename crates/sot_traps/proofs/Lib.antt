@@ -1,0 +1,4 @@
+pub mod HullWidth
+pub mod SafeHulls
+pub mod SlotReadings
+pub mod Verdicts

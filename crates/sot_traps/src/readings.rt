@@ -1,0 +1,75 @@
+ghost use Rattle.std.specs.Prelude.{◌≡◌, ℕ, ◌+◌, ◌≤◌, ◌<◌, ◌≤ℤ◌, ◌++◌, [], ◌≢◌, length, map};
+ghost use Rattle.sot_box.specs.Lists.{At};
+ghost use Rattle.sot_lang.specs.Places.{Has};
+ghost use Rattle.sot_lang.specs.OwnerNames.{width_of};
+ghost use Rattle.sot_lang.specs.SafeRegions.{safe_of};
+ghost use Rattle.sot_lang.specs.Ranges.{range_of};
+ghost use Rattle.sot_lang.specs.declared.tables.Slot.{Slot as Read};
+ghost use Rattle.sot_lang.specs.declared.tables.LocalInfo.{LocalInfo as Local};
+ghost use Rattle.sot_traps.specs.Readings.{IsHullSide, IsReading, AreReadings, CanBeRead};
+
+use crate::hulls::safe_hull;
+use sot_box::Interval;
+use sot_iv::Ranges;
+use sot_lang::{LocalInfo, Slot, Typed};
+
+// The declared range of a scalar.
+fn scalar_side(p: &Typed, scalar: u32) -> Interval
+    requires { scalar < length p.now.scalars }
+    ensures { result ≡ range_of p.now.scalars scalar }
+{
+    let info = &p.scalars[scalar as usize];
+    Interval {
+        lo: info.lo,
+        hi: info.hi,
+    }
+}
+
+// The side of the hull of a plant's safe region on the axis of one state variable.
+fn state_side(p: &Typed, plant: u32, var: u32) -> Interval
+    requires boxes { safe_of p.now.modules plant ≢ [] }
+    requires inside { var < width_of p.now.plants plant }
+    ensures { IsHullSide p.now plant var result }
+{
+    let hull = safe_hull(p, plant).unwrap();
+    hull.side(var as usize)
+}
+
+// The interval of what a slot shows.
+fn slot_side(p: &Typed, slot: Slot) -> Interval
+    requires { CanBeRead p.now slot }
+    ensures { IsReading p.now slot result }
+{
+    match slot {
+        Slot::Scalar(scalar) => scalar_side(p, scalar),
+        Slot::State { plant, var } => state_side(p, plant, var),
+    }
+}
+
+/// The intervals of what some slots show, in order.
+pub(crate) fn readings(p: &Typed, slots: &[Slot]) -> Ranges
+    requires few { length slots.now ≤ 64 }
+    requires readable { (k : ℕ) (s : Read) → At slots.now k s → CanBeRead p.now s }
+    ensures { AreReadings p.now slots.now result }
+{
+    let mut sides = Ranges::none();
+    for slot in slots {
+        let side = slot_side(p, *slot);
+        sides.push(side);
+    }
+    sides
+}
+
+/// The declared ranges of locals, behind the other intervals.
+pub(crate) fn put_locals(locals: &[LocalInfo], sides: &mut Ranges)
+    requires room { length sides.old + length locals.now ≤ 80 }
+    requires ordered { (i : ℕ) (l : Local) → At locals.now i l → l.lo ≤ℤ l.hi }
+    ensures { sides.new ≡ sides.old ++ map (λ l. record { lo = l.lo; hi = l.hi }) locals.now }
+{
+    for info in locals {
+        sides.push(Interval {
+            lo: info.lo,
+            hi: info.hi,
+        });
+    }
+}

@@ -1,0 +1,28 @@
+use Rattle.std.proofs.Common.{◌≡◌, ℕ, suc, ◌+◌, ◌<◌, ◌≤◌, ◌++◌, length, take, sym, ap, ◌∙◌, subst, arith, length-append}
+use Rattle.std.specs.Prelude.{slice_index_or}
+use Rattle.std.proofs.lemmas.Option.{slice_get-get_or}
+use Rattle.sot_box.specs.Lists.{At}
+use Rattle.sot_lang.specs.OwnerNames.{width_of, seen_width}
+use Rattle.sot_tube.specs.Seen.{AreSeenHulls}
+use Rattle.sot_tube.proofs.SeenHulls.{seen_more, width_next, width_fits}
+use Rattle.sot_tube.proofs.hulls.seen_hulls.Goals as goal
+
+pub push_box-requires : goal.push_box-requires
+push_box-requires c =
+    let k = slice_index_or c.args.sees.now c.loop-i.i 0 in
+    let at : At c.args.sees.now c.loop-i.i k = slice_get-get_or c.args.sees.now c.loop-i.i 0 c.loop-i-test.true in
+    let fits = width_fits c.args.p.now.plants c.args.sees.now c.loop-i.i k at in
+    let wide : length c.in-Some.hull ≡ width_of c.args.p.now.plants k = c.in-Some.ensures.1 in
+    omega (arith, fits, wide, c.loop-i.invariant.1, c.requires.few)
+
+pub loop-i-preserved : goal.loop-i-preserved
+loop-i-preserved c =
+    let k = slice_index_or c.args.sees.now c.loop-i.i 0 in
+    let at : At c.args.sees.now c.loop-i.i k = slice_get-get_or c.args.sees.now c.loop-i.i 0 c.loop-i-test.true in
+    let wide : length c.in-Some.hull ≡ width_of c.args.p.now.plants k = c.in-Some.ensures.1 in
+    let more : AreSeenHulls c.args.p.now.modules (take (suc c.loop-i.i) c.args.sees.now) (c.loop-i.sides ++ c.in-Some.hull) = seen_more c.args.p.now.modules c.args.sees.now c.loop-i.i k c.loop-i.sides c.in-Some.hull at c.loop-i.invariant.0 c.in-Some.ensures.0 in
+    let next = width_next c.args.p.now.plants c.args.sees.now c.loop-i.i k at in
+    let long : length (c.loop-i.sides ++ c.in-Some.hull) ≡ seen_width c.args.p.now.plants (take (suc c.loop-i.i) c.args.sees.now) = omega (arith, next, wide, c.loop-i.invariant.1, length-append c.loop-i.sides c.in-Some.hull) in
+    let up : suc c.loop-i.i ≡ c.loop-i.i + 1 = omega arith in
+    subst (λ q. AreSeenHulls c.args.p.now.modules (take q c.args.sees.now) c.push_box.new.into × (length c.push_box.new.into ≡ seen_width c.args.p.now.plants (take q c.args.sees.now))) up
+    (subst (λ q. AreSeenHulls c.args.p.now.modules (take (suc c.loop-i.i) c.args.sees.now) q × (length q ≡ seen_width c.args.p.now.plants (take (suc c.loop-i.i) c.args.sees.now))) (sym c.push_box.ensures) (more, long))
