@@ -2,3 +2,4 @@ pub mod HullWidth
 pub mod SafeHulls
 pub mod SlotReadings
 pub mod Verdicts
+pub mod SafeReadings

@@ -5,8 +5,10 @@
 //! safe region; else the answer is the first operands or target of which some trap. The definition of both stands in `sot_iv`.
 #![tactic(auto)]
 
+mod facts;
 mod hulls;
 mod readings;
 mod verdict;
 
+pub use facts::trap_free_nodes_never_trap;
 pub use verdict::trap_free;

@@ -12,7 +12,7 @@ use Rattle.sot_lang.specs.Tables.{Tables}
 use Rattle.sot_lang.specs.Places.{Has}
 use Rattle.sot_lang.specs.OwnerNames.{width_of, seen_width}
 use Rattle.sot_lang.specs.Ranges.{range_of, input_ranges}
-use Rattle.sot_lang.specs.SafeRegions.{safe_of, joined_boxes}
+use Rattle.sot_lang.specs.SafeRegions.{safe_of}
 use Rattle.sot_lang.specs.TableRules.{MeetsTableRules}
 use Rattle.sot_lang.proofs.Lists.{at_same}
 use Rattle.sot_iv.specs.PlantTicks.{MayTickBox}

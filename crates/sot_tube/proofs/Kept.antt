@@ -1,12 +1,11 @@
 -- A module keeps its plant from a point on exactly where the tube from the point's box is inside.
-use Rattle.std.proofs.Common.{arith, ◌≡◌, ℕ, ◌+◌, ◌*◌, ℤ, List, Ok, Err, refl, ap, sym, ◌∙◌, subst}
+use Rattle.std.proofs.Common.{◌≡◌, ℕ, ◌+◌, ◌*◌, ℤ, List, Ok, Err, refl, sym, subst}
 use Rattle.std.specs.Prelude.{Result, IsTrue, ◌↔◌}
 use Rattle.std.specs.Result.{is_ok}
 use Rattle.std.proofs.lemmas.Bool.{false≢true}
 use Rattle.sot_box.specs.Lists.{At}
 use Rattle.sot_box.specs.Boxes.{point_box}
 use Rattle.sot_lang.specs.declared.tables.ModuleInfo.{ModuleInfo}
-use Rattle.sot_lang.specs.declared.tables.PlantInfo.{PlantInfo}
 use Rattle.sot_lang.specs.Tables.{Tables}
 use Rattle.sot_lang.specs.Ranges.{input_ranges}
 use Rattle.sot_lang.specs.TableRules.{IsTyped}

@@ -1,5 +1,5 @@
 -- A walk along a tube, tick by tick.
-use Rattle.std.proofs.Common.{◌≡◌, ℕ, zero, suc, ◌+◌, ◌-◌, ◌<◌, ◌≤◌, inl, inr, List, [], ◌∷◌, Ok, Err, length, refl, sym, ap, ◌∙◌, subst, arith}
+use Rattle.std.proofs.Common.{◌≡◌, ℕ, suc, ◌-◌, ◌<◌, inl, inr, List, [], ◌∷◌, Ok, Err, length, refl, sym, ap, ◌∙◌, subst, arith}
 use Rattle.std.specs.Prelude.{ℤ}
 use Rattle.sot_box.specs.Sides.{Side}
 use Rattle.sot_box.specs.Lists.{At}
@@ -8,10 +8,9 @@ use Rattle.sot_box.specs.Regions.{Covers, IsGap}
 use Rattle.sot_lang.specs.declared.tables.PlantInfo.{PlantInfo}
 use Rattle.sot_lang.specs.Tables.{Tables}
 use Rattle.sot_iv.specs.declared.may_trap.MayTrap.{MayTrap}
-use Rattle.sot_tube.specs.declared.leave.Leave.{Leave}
 use Rattle.sot_tube.specs.declared.leave.Leave.TheVariants.{Out, Trap}
 use Rattle.sot_iv.specs.PlantTicks.{MayTickBox, IsBoxAfterTick}
-use Rattle.sot_iv.specs.TermIntervals.{OrMayTrap, AreTermIntervals}
+use Rattle.sot_iv.specs.TermIntervals.{AreTermIntervals}
 use Rattle.sot_iv.proofs.Sound.{joins_ok}
 use Rattle.sot_lang.specs.declared.term.Term.{Term}
 use Rattle.sot_lang.specs.TableRules.{MeetsTableRules}

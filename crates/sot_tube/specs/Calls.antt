@@ -1,13 +1,12 @@
 -- What the calls that follow a tube ask for and answer.
-use Rattle.std.specs.Prelude.{ℕ, ◌-◌, ℤ, List, [], Result, Ok, Err, ◌≡◌, ◌≢◌, ◌+◌, ◌*◌, ◌<◌, length, MatchResult, Bool, IsTrue, ◌↔◌}
+use Rattle.std.specs.Prelude.{ℕ, List, [], Result, ◌≡◌, ◌≢◌, ◌<◌, length, MatchResult}
 use Rattle.sot_lang.specs.declared.tables.PlantInfo.{PlantInfo}
 use Rattle.sot_lang.specs.declared.tables.ModuleInfo.{ModuleInfo}
 use Rattle.sot_lang.specs.Tables.{Tables}
-use Rattle.sot_lang.specs.OwnerNames.{width_of, seen_width}
+use Rattle.sot_lang.specs.OwnerNames.{width_of}
 use Rattle.sot_box.specs.Sides.{Side}
 use Rattle.sot_box.specs.Lists.{At}
-use Rattle.sot_iv.specs.TermIntervals.{OrMayTrap}
-use Rattle.sot_tube.specs.Tubes.{IsNextBox, TubeInside, AnyTubeInside, Keeps}
+use Rattle.sot_tube.specs.Tubes.{TubeInside, AnyTubeInside}
 use Rattle.sot_tube.specs.Leaves.{Leave, TubeLeaves, AnyTubeLeaves}
 
 -- every safe region has a box, the module exists, and the box has a side for each state variable of its plant

@@ -1,5 +1,5 @@
 -- Between the crate's own functions: the hulls of seen plants, one after another.
-use Rattle.std.specs.Prelude.{ℕ, ◌-◌, List, ◌≡◌}
+use Rattle.std.specs.Prelude.{ℕ, List, ◌≡◌}
 use Rattle.sot_lang.specs.declared.tables.ModuleInfo.{ModuleInfo}
 use Rattle.sot_box.specs.Sides.{Side}
 use Rattle.sot_lang.specs.SafeRegions.{AreHulls, joined_boxes}

@@ -1,5 +1,5 @@
 -- Between the crate's own functions: how a walk along a tube stands after some ticks.
-use Rattle.std.specs.Prelude.{ℕ, ◌-◌, List, ◌+◌, length, ◌≡◌}
+use Rattle.std.specs.Prelude.{ℕ, ◌-◌, List}
 use Rattle.sot_lang.specs.declared.tables.PlantInfo.{PlantInfo}
 use Rattle.sot_box.specs.Sides.{Side}
 use Rattle.sot_tube.specs.Tubes.{StaysInside}

@@ -1,10 +1,8 @@
-ghost use Rattle.std.specs.Prelude.{◌≡◌, ℕ, ◌<◌, ◌≤◌, ◌≤ℤ◌, length, map, IsTrue, ◌↔◌};
+ghost use Rattle.std.specs.Prelude.{◌≡◌, ℕ, ◌<◌, ◌≤◌, ◌≤ℤ◌, length, map};
 ghost use Rattle.sot_lang.specs.Places.{Has};
 ghost use Rattle.sot_lang.specs.Ranges.{range_of};
-ghost use Rattle.sot_lang.specs.declared.tables.ModuleInfo.{ModuleInfo};
 ghost use Rattle.sot_lang.specs.declared.tables.ScalarInfo.{ScalarInfo};
 ghost use Rattle.sot_box.specs.Lists.{At};
-ghost use Rattle.sot_tube.specs.Tubes.{Keeps};
 ghost use Rattle.sot_tube.specs.Calls.{MayFollow, AreCommands, AnswersTube, AnswersAnyTube};
 
 use crate::hulls::seen_hulls;

@@ -4,3 +4,4 @@ mod LineTerms
 pub mod LineRules
 pub mod Calls
 pub mod BrokenRules
+pub mod Verdicts

@@ -4,8 +4,10 @@ ghost use Rattle.sot_code.specs.Recorded.{MayRun};
 use crate::{divide, line};
 use sot_box::Point;
 use sot_code::{Locals, Seen, plant_next, run_node};
+use sot_iv::MayTrap;
 use sot_lang::{Trap, TrapKind, Typed};
 use sot_text::Span;
+use sot_traps::trap_free;
 use std::alloc::{AllocError, Global};
 use std::test::Fail;
 
@@ -78,6 +80,36 @@ fn nodes_draft_and_trap(rt: HostRuntime) -> Result<(), Fail> {
     for (x, wanted) in [(12, -2), (0, 0), (-12, 2)] {
         assert_eq!(rt; slow(alloc, x)?, Ok(Some(wanted)), "slow at {x}");
     }
+    Ok(())
+}
+
+// Whether `calc` never traps.
+fn calc_is_free(alloc: Global) -> Result<Result<(), MayTrap>, AllocError> {
+    let p = divide(alloc)?;
+    Ok(trap_free(&p, 0))
+}
+
+// Whether `slow` never traps.
+fn slow_is_free(alloc: Global) -> Result<Result<(), MayTrap>, AllocError> {
+    let p = line(alloc)?;
+    Ok(trap_free(&p, 1))
+}
+
+#[test]
+fn a_division_by_what_may_be_nought_may_trap(rt: HostRuntime) -> Result<(), Fail> {
+    let zero = MayTrap {
+        at: Span {
+            line: 7,
+            column: 20,
+            from: 128,
+            to: 129,
+        },
+        kind: TrapKind::ZeroDivisor,
+        lo: 0,
+        hi: 5,
+    };
+    assert_eq!(rt; calc_is_free(rt.alloc())?, Err(zero));
+    assert_eq!(rt; slow_is_free(rt.alloc())?, Ok(()));
     Ok(())
 }
 

@@ -1,4 +1,4 @@
-use Rattle.std.proofs.Common.{◌≡◌, ℕ, suc, ◌+◌, ◌<◌, subst, arith}
+use Rattle.std.proofs.Common.{◌≡◌, suc, ◌+◌, subst, arith}
 use Rattle.sot_tube.proofs.Walks.{WalkSoFar, walk_next, walk_out, walk_trap, walk_out_last, walk_stays}
 use Rattle.sot_tube.proofs.walk.walk.Goals as goal
 
