@@ -25,6 +25,6 @@ module _ (p : Tables) (j : ℕ) (typed : IsTyped p) (well : IsWellFormed p j) wh
   pub run_holds : (C : Configuration) (es : List Event) (Ds : List Configuration) → KeepsInvariant p j C → Run p j C es Ds → (i : ℕ) (D : Configuration) → At (C ∷ Ds) i D → KeepsInvariant p j D
   run_holds C es Ds h r zero D at = subst (KeepsInvariant p j) (same_Some C D at) h
   run_holds C [] [] h r (suc i) D at = cc
-  run_holds C (e ∷ es) (D1 ∷ Ds) h r (suc i) D at = run_holds D1 es Ds (step_holds C D1 e h r.0) r.1 i D at
-  run_holds C [] (D1 ∷ Ds) h r (suc i) D at = absurd r
+  run_holds C (e ∷ es) (next ∷ Ds) h r (suc i) D at = run_holds next es Ds (step_holds C next e h r.0) r.1 i D at
+  run_holds C [] (next ∷ Ds) h r (suc i) D at = absurd r
   run_holds C (e ∷ es) [] h r (suc i) D at = absurd r
