@@ -1,11 +1,10 @@
 -- Each rule that is broken is told by one field of the rules.
-use Rattle.std.proofs.Common.{◌≡◌, ◌≤◌, ◌^◌, ◌≤ℤ◌, ℕ, pos, refl, [], ◌∷◌, arith}
+use Rattle.std.proofs.Common.{◌≡◌, ◌≤◌, ◌≤ℤ◌, ℕ, pos, refl, arith}
 use Rattle.std.proofs.lemmas.Int.{ints}
 use Rattle.std.specs.Global.{Global}
 use Rattle.sot_lang.specs.TableRules.{MeetsTableRules}
-use Rattle.sot_lang.specs.SafeRegions.{safe_of}
-use Rattle.sot_lang.specs.Line.{side, pos_name}
-use Rattle.sot_worked.specs.Broken.{reads_its_own, one_name_twice, sees_itself, seven_decimals, one_value_too_many, long_period, box_of_two_sides, turned_box, module_with}
+use Rattle.sot_lang.specs.Line.{pos_name}
+use Rattle.sot_worked.specs.Broken.{reads_its_own, one_name_twice, sees_itself, seven_decimals, one_value_too_many, long_period, box_of_two_sides, turned_box}
 
 module _ (g : Global) where
   pub own_read : MeetsTableRules (reads_its_own g) → ⊥

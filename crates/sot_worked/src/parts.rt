@@ -1,4 +1,6 @@
-ghost use Rattle.std.specs.Prelude.{◌≡◌, ◌<◌, ◌≤◌, ◌≤ℤ◌, ◌∷◌, [], length, IfOk};
+ghost use Rattle.std.specs.Prelude.{◌≡◌, ◌≤ℤ◌, ◌∷◌, [], IfOk};
+ghost use Rattle.sot_text.specs.declared.token.Kind.TheVariants.{Name as NameKind};
+ghost use Rattle.sot_text.specs.Lexeme.{IsTokenText};
 ghost use Rattle.sot_worked.specs.Parts.{one_topic, whole_number, place, IsBinary, IsChoice};
 
 use sot_box::{BoxN, Interval, Region};
@@ -20,8 +22,7 @@ pub(crate) fn span(line: u32, column: u32, from: usize, to: usize) -> Span
 
 // A topic that nodes write, with one scalar.
 pub(crate) fn topic(alloc: Global, name: &[u8], first: u32) -> Result<TopicInfo, AllocError>
-    requires some { 0 < length name.now }
-    requires short { length name.now ≤ 64 }
+    requires { IsTokenText NameKind name.now }
     ensures { IfOk result (λ t. t ≡ one_topic name.now first) }
 {
     Ok(TopicInfo {
