@@ -1,0 +1,38 @@
+-- What the functions behind `split` promise each other.
+use Rattle.std.specs.Prelude.{◌≡◌, ℕ, suc, ◌+◌, ◌≤◌, List, [], ◌∷◌, Bool, true, ◌==◌, if◌then◌else◌, length, Option, None, Some}
+use Rattle.sot_text.specs.Sections.{Section, Division, lines, division, place, title}
+
+-- how many bytes the first line has, with its line end
+abbrev pub line_len : List ℕ → ℕ
+line_len [] = 0
+line_len (b ∷ bs) = if b == 10 then 1 else suc (line_len bs)
+
+-- a text, of which the first line has this number, is divided so
+abbrev pub divided : ℕ → List ℕ → Division
+divided number bytes = division number (lines bytes)
+
+-- a section line begins here, or the text ends
+abbrev pub begins_section : List ℕ → Bool
+begins_section [] = true
+begins_section (b ∷ bs) = b == 37
+
+-- the number of the line behind the last
+abbrev pub end_line : ℕ → List ℕ → ℕ
+end_line number bytes = number + length (lines bytes)
+
+-- the rest of a text begins at a section line, has the sections that are left, and ends where the text ends
+pub record IsRest (left : List Section) (stop limit : ℕ) (number : ℕ) (bytes : List ℕ) : Type 0 where
+  pub begins : begins_section bytes ≡ true
+  pub same : (divided number bytes).sections ≡ left
+  pub end : end_line number bytes ≡ stop
+  pub room : number + length bytes ≤ limit
+
+-- the body of the first section, if it has this place
+abbrev pub first_body : ℕ → List Section → Option (List ℕ)
+first_body k [] = None
+first_body k (s ∷ ss) = if place (title s.mark) == k then Some s.body else None
+
+-- the sections behind it, or all of them
+abbrev pub behind_first : ℕ → List Section → List Section
+behind_first k [] = []
+behind_first k (s ∷ ss) = if place (title s.mark) == k then ss else s ∷ ss
