@@ -21,3 +21,4 @@ pub mod Joins
 pub mod Bodies
 pub mod BodyExamples
 pub mod Nodes
+pub mod HullWidth

@@ -4,6 +4,7 @@
 mod body;
 mod drafted;
 mod ends;
+mod hulls;
 mod laws;
 mod may_trap;
 mod node;
@@ -13,6 +14,7 @@ mod ranges;
 mod term;
 
 pub use drafted::{Drafted, IvDraft};
+pub use hulls::safe_hull;
 pub use laws::{
     intervals_are_monotone, intervals_are_unique, intervals_hold_all_points, worked_evaluations,
     worked_intervals,

@@ -1,5 +1,5 @@
-pub mod HullWidth
 pub mod SafeHulls
 pub mod SlotReadings
 pub mod Verdicts
+mod NodeReads
 pub mod SafeReadings

@@ -6,7 +6,6 @@
 #![tactic(auto)]
 
 mod facts;
-mod hulls;
 mod readings;
 mod verdict;
 

@@ -8,9 +8,8 @@ ghost use Rattle.sot_lang.specs.declared.tables.Slot.{Slot as Read};
 ghost use Rattle.sot_lang.specs.declared.tables.LocalInfo.{LocalInfo as Local};
 ghost use Rattle.sot_traps.specs.Readings.{IsHullSide, IsReading, AreReadings, CanBeRead};
 
-use crate::hulls::safe_hull;
 use sot_box::Interval;
-use sot_iv::Ranges;
+use sot_iv::{Ranges, safe_hull};
 use sot_lang::{LocalInfo, Slot, Typed};
 
 // The declared range of a scalar.

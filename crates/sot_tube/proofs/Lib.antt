@@ -12,7 +12,6 @@ pub mod LineTubes
 pub mod LineCertified
 pub mod LineRefused
 pub mod Walks
-pub mod HullWidth
 pub mod SeenHulls
 pub mod Follows
 pub mod InputTypes

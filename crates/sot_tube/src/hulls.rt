@@ -6,34 +6,9 @@ ghost use Rattle.sot_lang.specs.OwnerNames.{width_of, seen_width};
 ghost use Rattle.sot_lang.specs.SafeRegions.{safe_of, AreHulls, joined_boxes};
 ghost use Rattle.sot_tube.specs.Seen.{AreSeenHulls};
 
-use sot_box::{BoxN, Region};
-use sot_iv::Ranges;
+use sot_box::BoxN;
+use sot_iv::{Ranges, safe_hull};
 use sot_lang::Typed;
-
-/// The least box around a region, as wide as the region, and `None` where the region has no box.
-fn hull_of(region: &Region) -> Option<BoxN>
-    ensures { MatchOption result (region.now.boxes ≡ [])
-        (λ b. IsHull region.now.boxes b × (length b ≡ region.now.width)) }
-{
-    if region.len() == 0 {
-        return None;
-    }
-    let _first = region.at(0);
-    region.hull()
-}
-
-/// The least box around the safe region of a plant, which is that of the first module that names the plant.
-fn safe_hull(p: &Typed, plant: u32) -> Option<BoxN>
-    ensures { MatchOption result (safe_of p.now.modules plant ≡ [])
-        (λ b. IsHull (safe_of p.now.modules plant) b × (length b ≡ width_of p.now.plants plant)) }
-{
-    for info in &p.modules {
-        if info.plant == plant {
-            return hull_of(&info.safe);
-        }
-    }
-    None
-}
 
 // The sides of a box, behind the others.
 fn push_box(b: &BoxN, into: &mut Ranges)

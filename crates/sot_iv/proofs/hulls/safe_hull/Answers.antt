@@ -3,8 +3,8 @@ use Rattle.std.proofs.lemmas.Option.{slice_get_read}
 use Rattle.sot_box.specs.Lists.{At}
 use Rattle.sot_lang.specs.OwnerNames.{width_of}
 use Rattle.sot_lang.specs.TableRules.{MeetsTableRules}
-use Rattle.sot_traps.proofs.HullWidth.{safe_answer}
-use Rattle.sot_traps.proofs.hulls.safe_hull.Goals as goal
+use Rattle.sot_iv.proofs.HullWidth.{safe_answer}
+use Rattle.sot_iv.proofs.hulls.safe_hull.Goals as goal
 
 pub returns-then-info-plant : goal.returns-then-info-plant
 returns-then-info-plant c =

@@ -1,4 +1,4 @@
-ghost use Rattle.std.specs.Prelude.{◌≡◌, ◌≢◌, [], length, MatchOption};
+ghost use Rattle.std.specs.Prelude.{◌≡◌, [], length, MatchOption};
 ghost use Rattle.sot_box.specs.Regions.{IsHull};
 ghost use Rattle.sot_lang.specs.OwnerNames.{width_of};
 ghost use Rattle.sot_lang.specs.SafeRegions.{safe_of};
@@ -18,8 +18,9 @@ fn hull_of(region: &Region) -> Option<BoxN>
     region.hull()
 }
 
-/// The least box around the safe region of a plant, which is that of the first module that names the plant.
-pub(crate) fn safe_hull(p: &Typed, plant: u32) -> Option<BoxN>
+/// The least box around the safe region of a plant, which is that of the first module that names the plant; `None` where that
+/// region has no box, and there alone. Takes no memory.
+pub fn safe_hull(p: &Typed, plant: u32) -> Option<BoxN>
     ensures { MatchOption result (safe_of p.now.modules plant ≡ [])
         (λ b. IsHull (safe_of p.now.modules plant) b × (length b ≡ width_of p.now.plants plant)) }
 {
