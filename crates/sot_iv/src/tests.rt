@@ -1,116 +1,247 @@
-ghost use Rattle.std.specs.Prelude.{IfOk, IfSome, length, ◌≡◌};
+ghost use Rattle.std.specs.Prelude.{◌≡◌, ◌∷◌, [], false, IfOk, length};
+ghost use Rattle.sot_lang.specs.TermRules.{TermsFit, arity};
 ghost use Rattle.sot_lang.specs.TermPlaces.{HasPlaces};
 
+mod points;
+
 use super::*;
+use points::hull_at_points;
 use sot_box::Interval;
-use sot_lang::{Op, Term, TrapKind};
+use sot_lang::{Func, Op, Term, TrapKind};
 use sot_text::Span;
 use std::alloc::{AllocError, Global};
 use std::test::Fail;
 
-/// An operator, its operands, and what is expected: an interval, or the kind and the interval of a trap.
+// The two ends of an interval.
+type Ends = (i64, i64);
+
+// What is applied to the places 0, 1 and 2.
 #[derive(Clone, Copy, Debug)]
-struct Row {
-    op: Op,
-    left: (i64, i64),
-    right: (i64, i64),
-    trap: Option<TrapKind>,
-    lo: i128,
-    hi: i128,
+enum Form {
+    Between(Op),
+    // By so much, or by 1 in place of 0.
+    Rest(u8),
+    Neg,
+    Not,
+    Call(Func),
+    // From one count of decimals to another, both 6 where they are above it.
+    Scale(u8, u8),
 }
 
-const ROWS: [Row; 6] = [
-    Row {
-        op: Op::Mul,
-        left: (-3, 2),
-        right: (-5, 4),
-        trap: None,
-        lo: -12,
-        hi: 15,
-    },
-    Row {
-        op: Op::Div,
-        left: (10, 10),
-        right: (1, 5),
-        trap: None,
-        lo: 2,
-        hi: 10,
-    },
-    Row {
-        op: Op::Div,
-        left: (-7, 7),
-        right: (2, 2),
-        trap: None,
-        lo: -4,
-        hi: 3,
-    },
-    Row {
-        op: Op::Div,
-        left: (10, 10),
-        right: (0, 5),
-        trap: Some(TrapKind::ZeroDivisor),
-        lo: 0,
-        hi: 5,
-    },
-    Row {
-        op: Op::Less,
-        left: (0, 3),
-        right: (3, 5),
-        trap: None,
-        lo: 0,
-        hi: 1,
-    },
-    Row {
-        op: Op::Add,
-        left: (0, 9_223_372_036_854_775_807),
-        right: (0, 1),
-        trap: Some(TrapKind::Wide),
-        lo: 0,
-        hi: 9_223_372_036_854_775_808,
-    },
-];
+const AT: Span = Span {
+    line: 7,
+    column: 20,
+    from: 0,
+    to: 1,
+};
 
-fn applied(alloc: Global, op: Op) -> Result<Term, AllocError>
-    ensures { IfOk result (λ t. HasPlaces 2 t) }
+// As many of the three places as the function takes.
+fn parts(alloc: Global, func: Func) -> Result<Vec<Term>, AllocError>
+    ensures fit { IfOk result (λ v. TermsFit (false ∷ false ∷ false ∷ []) v.items) }
+    ensures count { IfOk result (λ v. length v.items ≡ arity func) }
 {
-    Ok(Term::Binary {
-        op,
-        left: Box::new(alloc, Term::Place(0))?,
-        right: Box::new(alloc, Term::Place(1))?,
-        at: Span {
-            line: 7,
-            column: 20,
-            from: 0,
-            to: 1,
-        },
+    match func {
+        Func::Min => Ok(vec![in alloc; Term::Place(0), Term::Place(1)]?),
+        Func::Max => Ok(vec![in alloc; Term::Place(0), Term::Place(1)]?),
+        Func::Abs => Ok(vec![in alloc; Term::Place(0)]?),
+        Func::Clamp => Ok(vec![in alloc; Term::Place(0), Term::Place(1), Term::Place(2)]?),
+    }
+}
+
+fn call(alloc: Global, func: Func) -> Result<Term, AllocError>
+    ensures { IfOk result (λ t. HasPlaces 3 t) }
+{
+    let parts = parts(alloc, func)?;
+    Ok(Term::Call {
+        func,
+        parts,
+        at: AT,
     })
 }
 
-fn ranges_of(row: Row) -> Option<Ranges>
-    ensures { IfSome result (λ r. length r ≡ 2) }
+fn applied(alloc: Global, form: Form) -> Result<Term, AllocError>
+    ensures { IfOk result (λ t. HasPlaces 3 t) }
 {
-    Ranges::of(&[
-        Interval::new(row.left.0, row.left.1)?,
-        Interval::new(row.right.0, row.right.1)?,
-    ])
+    match form {
+        Form::Between(op) => Ok(Term::Binary {
+            op,
+            left: Box::new(alloc, Term::Place(0))?,
+            right: Box::new(alloc, Term::Place(1))?,
+            at: AT,
+        }),
+        Form::Rest(by) => Ok(Term::Rest {
+            left: Box::new(alloc, Term::Place(0))?,
+            by: by.max(1) as i64,
+            at: AT,
+        }),
+        Form::Neg => Ok(Term::Neg {
+            part: Box::new(alloc, Term::Place(0))?,
+            at: AT,
+        }),
+        Form::Not => Ok(Term::Not {
+            part: Box::new(alloc, Term::Place(0))?,
+            at: AT,
+        }),
+        Form::Call(func) => call(alloc, func),
+        Form::Scale(from, to) => Ok(Term::Rescale {
+            part: Box::new(alloc, Term::Place(0))?,
+            from: from.min(6),
+            to: to.min(6),
+            at: AT,
+        }),
+    }
 }
+
+// The interval over these ranges of the three places.
+fn found(term: &Term, a: Ends, b: Ends, c: Ends) -> Option<Result<Ends, MayTrap>>
+    requires { HasPlaces 3 term.now }
+{
+    let ranges = Ranges::of(&[
+        Interval::new(a.0, a.1)?,
+        Interval::new(b.0, b.1)?,
+        Interval::new(c.0, c.1)?,
+    ])?;
+    match iv_term(term, &ranges) {
+        Ok(r) => Some(Ok((r.lo, r.hi))),
+        Err(trap) => Some(Err(trap)),
+    }
+}
+
+// What is applied, the ranges of the first two places, and what a person worked out.
+const ROWS: [(Form, Ends, Ends, Result<Ends, (TrapKind, i128, i128)>); 9] = [
+    (Form::Between(Op::Mul), (-3, 2), (-5, 4), Ok((-12, 15))),
+    (Form::Between(Op::Div), (10, 10), (1, 5), Ok((2, 10))),
+    (Form::Between(Op::Div), (-7, 7), (2, 2), Ok((-4, 3))),
+    (
+        Form::Between(Op::Div),
+        (10, 10),
+        (0, 5),
+        Err((TrapKind::ZeroDivisor, 0, 5)),
+    ),
+    (Form::Between(Op::Less), (0, 3), (3, 5), Ok((0, 1))),
+    (
+        Form::Between(Op::Add),
+        (0, 9_223_372_036_854_775_807),
+        (0, 1),
+        Err((TrapKind::Wide, 0, 9_223_372_036_854_775_808)),
+    ),
+    (Form::Rest(5), (8, 11), (0, 0), Ok((0, 4))),
+    (Form::Rest(5), (6, 9), (0, 0), Ok((1, 4))),
+    (Form::Call(Func::Abs), (-3, 2), (0, 0), Ok((0, 3))),
+];
 
 #[test]
 fn operators_give_the_worked_rows(rt: HostRuntime) -> Result<(), Fail> {
-    for row in ROWS {
-        let term = applied(rt.alloc(), row.op)?;
-        let ranges = ranges_of(row).ok_or("ranges")?;
-        match iv_term(&term, &ranges) {
-            Ok(r) => {
-                assert_eq!(rt; row.trap, None);
-                assert_eq!(rt; (r.lo as i128, r.hi as i128), (row.lo, row.hi));
-            }
-            Err(t) => {
-                assert_eq!(rt; row.trap, Some(t.kind));
-                assert_eq!(rt; (t.lo, t.hi), (row.lo, row.hi));
-                assert_eq!(rt; (t.at.line, t.at.column), (7, 20));
+    for (form, a, b, wanted) in ROWS {
+        let term = applied(rt.alloc(), form)?;
+        let answer = found(&term, a, b, (0, 0)).ok_or("ranges")?;
+        let wanted = match wanted {
+            Ok(ends) => Ok(ends),
+            Err((kind, lo, hi)) => Err(MayTrap {
+                at: AT,
+                kind,
+                lo,
+                hi,
+            }),
+        };
+        assert_eq!(rt; answer, wanted, "{form:?} at {a:?} and {b:?}");
+    }
+    Ok(())
+}
+
+// What is applied, and the least and the greatest number of its operands.
+const FORMS: [(Form, i64, i64); 25] = [
+    (Form::Between(Op::Add), -4, 4),
+    (Form::Between(Op::Sub), -4, 4),
+    (Form::Between(Op::Mul), -4, 4),
+    (Form::Between(Op::Div), -4, 4),
+    (Form::Between(Op::Less), -4, 4),
+    (Form::Between(Op::LessEqual), -4, 4),
+    (Form::Between(Op::Greater), -4, 4),
+    (Form::Between(Op::GreaterEqual), -4, 4),
+    (Form::Between(Op::Equal), -4, 4),
+    (Form::Between(Op::NotEqual), -4, 4),
+    (Form::Between(Op::And), 0, 1),
+    (Form::Between(Op::Or), 0, 1),
+    (Form::Rest(1), -12, 12),
+    (Form::Rest(3), -12, 12),
+    (Form::Rest(5), -12, 12),
+    (Form::Neg, -12, 12),
+    (Form::Not, 0, 1),
+    (Form::Call(Func::Min), -4, 4),
+    (Form::Call(Func::Max), -4, 4),
+    (Form::Call(Func::Abs), -12, 12),
+    (Form::Call(Func::Clamp), -2, 2),
+    (Form::Scale(0, 2), -12, 12),
+    (Form::Scale(1, 0), -25, 25),
+    (Form::Scale(6, 5), -25, 25),
+    (Form::Scale(3, 3), -12, 12),
+];
+
+// How many operands are read.
+fn count(form: Form) -> usize {
+    match form {
+        Form::Between(_) => 2,
+        Form::Call(Func::Abs) => 1,
+        Form::Call(Func::Clamp) => 3,
+        Form::Call(_) => 2,
+        _ => 1,
+    }
+}
+
+// All intervals between two numbers.
+fn intervals(alloc: Global, low: i64, high: i64) -> Result<Vec<Ends>, AllocError> {
+    let mut all = Vec::new(alloc);
+    for lo in low..=high {
+        for hi in lo..=high {
+            all.push((lo, hi))?;
+        }
+    }
+    Ok(all)
+}
+
+// The first ranges where the interval is not the hull of the results, or where it is given though some operands trap.
+fn first_difference(
+    term: &Term,
+    form: Form,
+    firsts: &[Ends],
+    seconds: &[Ends],
+    thirds: &[Ends],
+) -> Option<(Ends, Ends, Ends)>
+    requires { HasPlaces 3 term.now }
+{
+    for a in firsts {
+        for b in seconds {
+            for c in thirds {
+                let wanted = match hull_at_points(form, *a, *b, *c) {
+                    Some(ends) => Ok(ends),
+                    None => Err(MayTrap {
+                        at: AT,
+                        kind: TrapKind::ZeroDivisor,
+                        lo: b.0 as i128,
+                        hi: b.1 as i128,
+                    }),
+                };
+                if found(term, *a, *b, *c) != Some(wanted) {
+                    return Some((*a, *b, *c));
+                }
             }
         }
+    }
+    None
+}
+
+#[test]
+fn each_operator_gives_the_hull_of_its_results(rt: HostRuntime) -> Result<(), Fail> {
+    let alloc = rt.alloc();
+    for (form, low, high) in FORMS {
+        let term = applied(alloc, form)?;
+        let all = intervals(alloc, low, high)?;
+        let read = count(form);
+        let seconds = if read > 1 { &all[..] } else { &all[..1] };
+        let thirds = if read > 2 { &all[..] } else { &all[..1] };
+        let difference = first_difference(&term, form, &all, seconds, thirds);
+        assert_eq!(rt; difference, None, "{form:?}");
     }
     Ok(())
 }
