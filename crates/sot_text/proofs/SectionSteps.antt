@@ -99,8 +99,7 @@ bodies_left ss none =
     let r2 = behind_first 2 r1 in
     let gone : (k : ℕ) → body_of k (behind_first 3 r2) ≡ None = λ k. ap (body_of k) none in
     let c : body_of 1 r1 ≡ None = sym (body_step 1 2 r1 (omega arith)) ∙ sym (body_step 1 3 r2 (omega arith)) ∙ gone 1 in
-    let f : body_of 2 r2 ≡ None = sym (body_step 2 3 r2 (omega arith)) ∙ gone 2 in
-    (
+    let f : body_of 2 r2 ≡ None = sym (body_step 2 3 r2 (omega arith)) ∙ gone 2 in (
       body_first 1 ss c,
       sym (body_step 2 1 ss (omega arith)) ∙ body_first 2 r1 f,
       sym (body_step 3 1 ss (omega arith)) ∙ sym (body_step 3 2 r1 (omega arith)) ∙ body_first 3 r2 (gone 3),
@@ -192,11 +191,11 @@ collected bytes n₁ n₂ n₃ n₄ m₁ m₂ m₃ m₄ t₁ t₂ t₃ t₄ p c 
     unless_same (fault_behind 0 ss) (fault_behind 3 (divided n₄ t₄).sections)
     (or_missing (suc (length (lines bytes))) (needed need (divided 1 bytes).front (body_of 1 ss) (body_of 2 ss) (body_of 3 ss))) (or_missing n₄ (needed need p c f t)) faults
     (λ none.
-      let empty : (divided n₄ t₄).sections ≡ [] = none_left (divided n₄ t₄).sections none in
-      let bodies = bodies_left ss (sym s₄ ∙ empty) in
-      let ends : end_line n₄ t₄ ≡ end_line 1 bytes = r₄.end ∙ r₃.end ∙ r₂.end ∙ r₁.end in
-      let no_line : length (lines t₄) ≡ 0 = ap (λ (l : List ℕ). length (lines l)) (nothing_left n₄ t₄ r₄.begins empty) in
-      same_needed need (suc (length (lines bytes))) n₄ (divided 1 bytes).front p (body_of 1 ss) c (body_of 2 ss) f (body_of 3 ss) t (omega arith) (sym front)
-      (bodies.0 ∙ sym (is_c ∙ ap (first_body 1) r₁.same))
-      (bodies.1 ∙ sym (is_f ∙ ap (first_body 2) s₂))
-      (bodies.2 ∙ sym (is_t ∙ ap (first_body 3) s₃)))
+    let empty : (divided n₄ t₄).sections ≡ [] = none_left (divided n₄ t₄).sections none in
+    let bodies = bodies_left ss (sym s₄ ∙ empty) in
+    let ends : end_line n₄ t₄ ≡ end_line 1 bytes = r₄.end ∙ r₃.end ∙ r₂.end ∙ r₁.end in
+    let no_line : length (lines t₄) ≡ 0 = ap (λ (l : List ℕ). length (lines l)) (nothing_left n₄ t₄ r₄.begins empty) in
+    same_needed need (suc (length (lines bytes))) n₄ (divided 1 bytes).front p (body_of 1 ss) c (body_of 2 ss) f (body_of 3 ss) t (omega arith) (sym front)
+    (bodies.0 ∙ sym (is_c ∙ ap (first_body 1) r₁.same))
+    (bodies.1 ∙ sym (is_f ∙ ap (first_body 2) s₂))
+    (bodies.2 ∙ sym (is_t ∙ ap (first_body 3) s₃)))

@@ -199,7 +199,9 @@ fn answer<'a>(
     })
 }
 
-/// The sections of a mission. A line that begins with `%` is a section line, and the text before the first is the program.
+/// The sections of a mission, as far as they are needed. A line that begins with `%` is a section line; the program stands before
+/// the first, and each section from behind its line to the next. The whole text is looked through for a section line with a
+/// fault, also behind what is needed, and the first such line is told. Only where there is none can a section be missing.
 pub fn split<'a>(bytes: &'a [u8], need: Need) -> Result<Sections<'a>, SectionFault>
     requires { length bytes.now + 1 < 2 ^ 32 }
     ensures { answer_seen result ≡ split_of bytes.now need }

@@ -5,7 +5,7 @@ use Rattle.sot_text.proofs.SectionSteps.{collected}
 use Rattle.sot_text.proofs.mission.split.Goals as goal
 
 pub returns : goal.returns
-returns c = 
+returns c =
     let bytes = c.args.bytes.now in
     let front = c.front-program in
     let cert = c.take_section-cert in
