@@ -8,6 +8,8 @@ use Rattle.sot_box.specs.Lists.{At}
 use Rattle.sot_box.specs.Boxes.{IsWithin}
 use Rattle.sot_lang.specs.Places.{Has}
 use Rattle.sot_lang.specs.declared.act.Act.{Act}
+use Rattle.sot_lang.specs.declared.operator.Func.TheVariants.{Max}
+use Rattle.sot_lang.specs.declared.term.Term.{Term}
 use Rattle.sot_lang.specs.declared.tables.TopicInfo.{TopicInfo}
 use Rattle.sot_lang.specs.declared.tables.ScalarInfo.{ScalarInfo}
 use Rattle.sot_lang.specs.declared.tables.NodeInfo.{NodeInfo}
@@ -17,13 +19,14 @@ use Rattle.sot_lang.specs.declared.tables.Slot.TheVariants.{Scalar, State}
 use Rattle.sot_lang.specs.Tables.{Tables}
 use Rattle.sot_lang.specs.Ranges.{local_ranges}
 use Rattle.sot_lang.specs.OwnerNames.{node_truths, reads_truth}
-use Rattle.sot_lang.specs.TermRules.{TermFits}
+use Rattle.sot_lang.specs.TermRules.{TermFits, TermsFit}
 use Rattle.sot_lang.specs.ActRules.{ActsFit}
 use Rattle.sot_lang.specs.TableRules.{IsTyped, AreDistinct, MeetsTableRules, MeetsScalarRules, MeetsNodeRules}
 use Rattle.sot_lang.proofs.ShortLists.{at_more, at_one, at_two}
+use Rattle.sot_lang.proofs.Rows.{Call-TermFits}
 use Rattle.sot_code.proofs.Nodes.{one_body}
-use Rattle.sot_worked.specs.Parts.{one_topic, whole_number}
-use Rattle.sot_worked.specs.Divide.{IsCalc, IsDivision, IsDivide}
+use Rattle.sot_worked.specs.Parts.{place, one_topic, whole_number}
+use Rattle.sot_worked.specs.Divide.{IsAtLeastOne, IsCalc, IsDivision, IsDivide}
 use Rattle.sot_worked.proofs.Short.{only, only_place, nothing}
 
 number_of : Slot → ℕ
@@ -48,10 +51,18 @@ is_at = at_more (λ i x. i ≡ place_of x) (110 ∷ []) ((107 ∷ []) ∷ (99 �
 names_apart : AreDistinct ((110 ∷ []) ∷ (107 ∷ []) ∷ (99 ∷ 97 ∷ 108 ∷ 99 ∷ []) ∷ [])
 names_apart i j name a b = is_at i name a ∙ sym (is_at j name b)
 
--- the division is in form where one number is read and one scalar written
-division_fits : (truths : List Bool) (locals writes : ℕ) (acts : List Act) → truths ≡ false ∷ [] → writes ≡ 1 → IsDivision acts → ActsFit truths locals writes acts
-division_fits truths locals writes acts one some h =
-    subst (ActsFit truths locals writes) (sym h.2) ((omega (arith, some), subst (TermFits truths) (sym h.1.2) (tt, refl, omega (arith, ap length one))), tt)
+-- max(n, 1) is in form where one number is read
+pub at_least_one_fits : (truths : List Bool) (t : Term) → truths ≡ false ∷ [] → IsAtLeastOne t → TermFits truths t
+at_least_one_fits truths t one h =
+    let parts : TermsFit truths h.0.items = subst (TermsFit truths) (sym h.1) (omega (arith, ap length one), (refl, tt)) in
+    subst (TermFits truths) (sym h.2) (Call-TermFits Max h.0 (place 7 22 130 133) truths parts (ap length h.1))
+
+-- the division is in form where its divisor is, one number is read and one scalar written
+division_fits : (D : Term → Type 0) → ((truths : List Bool) (t : Term) → truths ≡ false ∷ [] → D t → TermFits truths t)
+    → (truths : List Bool) (locals writes : ℕ) (acts : List Act) → truths ≡ false ∷ [] → writes ≡ 1 → IsDivision D acts → ActsFit truths locals writes acts
+division_fits D fits truths locals writes acts one some h =
+    let quotient : TermFits truths h.0 = subst (TermFits truths) (sym h.1.2.2) (tt, refl, fits truths h.1.0 one h.1.1) in
+    subst (ActsFit truths locals writes) (sym h.2) ((omega (arith, some), quotient), tt)
 
 abbrev topic_n : TopicInfo
 topic_n = one_topic (110 ∷ []) 0
@@ -65,7 +76,7 @@ scalar_n = whole_number 0 (pos 0) (pos 5)
 abbrev scalar_k : ScalarInfo
 scalar_k = whole_number 1 (pos 0) (pos 10)
 
-module _ (calc : NodeInfo) (h : IsCalc calc) where
+module _ (D : Term → Type 0) (fits : (truths : List Bool) (t : Term) → truths ≡ false ∷ [] → D t → TermFits truths t) (calc : NodeInfo) (h : IsCalc D calc) where
   abbrev made : Tables
   made = record { topics = topic_n ∷ topic_k ∷ []; scalars = scalar_n ∷ scalar_k ∷ []; plants = []; nodes = calc ∷ []; modules = [] }
 
@@ -148,8 +159,8 @@ module _ (calc : NodeInfo) (h : IsCalc calc) where
     locals = omega (arith, ap length h.locals);
     local_ranges = λ i info at. absurd (no_local i info at);
     external = λ e. h.locals;
-    body = λ acts coded. division_fits (node_truths made calc) (length calc.locals.items) (length calc.writes.items) acts the_truths (ap length h.writes)
-        (subst IsDivision (one_body calc h.body.0 acts h.body.1 coded) h.body.2);
+    body = λ acts coded. division_fits D fits (node_truths made calc) (length calc.locals.items) (length calc.writes.items) acts the_truths (ap length h.writes)
+        (subst (IsDivision D) (one_body calc h.body.0 acts h.body.1 coded) h.body.2);
   }
 
   rules : MeetsTableRules made
@@ -168,13 +179,38 @@ module _ (calc : NodeInfo) (h : IsCalc calc) where
     fields_once = λ i j a b at_i at_j s f. sym (topic_is i a at_i) ∙ s ∙ topic_is j b at_j;
   }
 
-pub divide_meets_rules : (p : Tables) → IsDivide p → MeetsTableRules p
-divide_meets_rules p h =
-    let e : made h.nodes.0 h.nodes.1 ≡ p = λ i. record {
+pub divide_meets_rules : (D : Term → Type 0) → ((truths : List Bool) (t : Term) → truths ≡ false ∷ [] → D t → TermFits truths t) → (p : Tables) → IsDivide D p → MeetsTableRules p
+divide_meets_rules D fits p h =
+    let e : made D fits h.nodes.0 h.nodes.1 ≡ p = λ i. record {
       topics = sym h.topics i;
       scalars = sym h.scalars i;
       plants = sym h.plants i;
       nodes = sym h.nodes.2 i;
       modules = sym h.modules i;
     } in
-    subst MeetsTableRules e (rules h.nodes.0 h.nodes.1)
+    subst MeetsTableRules e (rules D fits h.nodes.0 h.nodes.1)
+
+-- what is said of one divisor is said of each that it may be
+pub divides_so : (C D : Term → Type 0) (p : Tables) → ((t : Term) → C t → D t) → IsDivide C p → IsDivide D p
+divides_so C D p more h =
+    let node = h.nodes.1 in
+    let body = node.body in
+    record {
+      topics = h.topics;
+      scalars = h.scalars;
+      plants = h.plants;
+      nodes = (
+        h.nodes.0,
+        record {
+          name = node.name;
+          period = node.period;
+          offset = node.offset;
+          reads = node.reads;
+          writes = node.writes;
+          locals = node.locals;
+          body = (body.0, body.1, (body.2.0, (body.2.1.0, more body.2.1.0 body.2.1.1, body.2.1.2), body.2.2));
+        },
+        h.nodes.2,
+      );
+      modules = h.modules;
+    }

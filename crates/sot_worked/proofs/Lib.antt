@@ -5,3 +5,4 @@ pub mod LineRules
 pub mod Calls
 pub mod BrokenRules
 pub mod Verdicts
+pub mod Follows

@@ -9,6 +9,7 @@ use Rattle.sot_box.specs.Sides.{Side, AreOrdered}
 use Rattle.sot_box.specs.Boxes.{IsWithin}
 use Rattle.sot_lang.specs.Places.{Has}
 use Rattle.sot_lang.specs.declared.act.Act.{Act}
+use Rattle.sot_lang.specs.declared.term.Term.{Term}
 use Rattle.sot_lang.specs.declared.tables.TopicInfo.{TopicInfo}
 use Rattle.sot_lang.specs.declared.tables.ScalarInfo.{ScalarInfo}
 use Rattle.sot_lang.specs.declared.tables.StateInfo.{StateInfo}
@@ -22,7 +23,7 @@ use Rattle.sot_lang.specs.declared.tables.Slot.TheVariants.{Scalar, State}
 use Rattle.sot_lang.specs.Tables.{Tables}
 use Rattle.sot_lang.specs.Ranges.{local_ranges}
 use Rattle.sot_lang.specs.OwnerNames.{width_of, seen_width, is_truth_scalar, node_truths, plant_truths, reads_truth}
-use Rattle.sot_lang.specs.TermRules.{TermsFit}
+use Rattle.sot_lang.specs.TermRules.{TermFits, TermsFit}
 use Rattle.sot_lang.specs.TableRules.{IsTyped, IsCoded, IsNarrow, AreDistinct, MeetsTableRules, MeetsScalarRules, MeetsPlantRules, MeetsNodeRules, MeetsModuleRules, IsRegionFor}
 use Rattle.sot_lang.specs.Line.{side, cmd_name, pos_name, fast_name, slow_name, nav_name}
 use Rattle.sot_lang.proofs.ShortLists.{at_more, at_one, at_two}
@@ -30,7 +31,7 @@ use Rattle.sot_code.proofs.Nodes.{one_body}
 use Rattle.sot_worked.specs.Parts.{one_topic, whole_number}
 use Rattle.sot_worked.specs.Line.{IsPos, IsFast, IsSlow, IsCommand, IsLine, nav}
 use Rattle.sot_worked.proofs.Short.{only, only_place, nothing}
-use Rattle.sot_worked.proofs.LineTerms.{move_fits, command_fits}
+use Rattle.sot_worked.proofs.LineTerms.{command_fits}
 
 plant_of : Slot → ℕ
 plant_of (Scalar k) = k
@@ -114,7 +115,8 @@ module _ (node : NodeInfo) (writes : node.writes.items ≡ 0 ∷ []) where
       let second : 0 ≡ k = at_one (λ k info. 0 ≡ k) number refl k b y in
       subst (λ k. Has node.writes.items k) (sym first ∙ second) h
 
-module _ (plant : PlantInfo) (fast slow : NodeInfo) (hp : IsPos plant) (hf : IsFast fast) (hs : IsSlow slow) where
+module _ (N : Term → Type 0) (fits : (truths : List Bool) (t : Term) → truths ≡ false ∷ false ∷ false ∷ [] → N t → TermFits truths t)
+    (plant : PlantInfo) (fast slow : NodeInfo) (hp : IsPos N plant) (hf : IsFast fast) (hs : IsSlow slow) where
   abbrev made : Tables
   made = record { topics = cmd ∷ []; scalars = number ∷ []; plants = plant ∷ []; nodes = fast ∷ slow ∷ []; modules = nav ∷ [] }
 
@@ -191,7 +193,7 @@ module _ (plant : PlantInfo) (fast slow : NodeInfo) (hp : IsPos plant) (hf : IsF
     noise = omega (arith, ap length hp.noise);
     noise_ranges = λ i info at. at_one (λ i (d : NoiseInfo). (d.scale ≤ 6) × IsNarrow d.lo d.hi) noise_w (omega arith, (omega (arith, ints), omega (arith, ints))) i info (subst (λ l. At l i info) hp.noise at);
     one_next = ap length hp.next.2 ∙ sym (ap length hp.states);
-    next = subst (TermsFit (plant_truths made plant)) (sym hp.next.2) (move_fits (plant_truths made plant) hp.next.0 three_truths hp.next.1, tt);
+    next = subst (TermsFit (plant_truths made plant)) (sym hp.next.2) (fits (plant_truths made plant) hp.next.0 three_truths hp.next.1, tt);
   }
 
   safe_node : MeetsNodeRules made slow
@@ -256,13 +258,36 @@ module _ (plant : PlantInfo) (fast slow : NodeInfo) (hp : IsPos plant) (hf : IsF
     fields_once = λ i j a b at_i at_j s f. at_one (λ i x. i ≡ j) number (sym (at_one (λ j x. j ≡ 0) number refl j b at_j)) i a at_i;
   }
 
-pub line_meets_rules : (p : Tables) → IsLine p → MeetsTableRules p
-line_meets_rules p h =
-    let e : made h.plants.0 h.nodes.0 h.nodes.1 h.plants.1 h.nodes.2 h.nodes.3 ≡ p = λ i. record {
+pub line_meets_rules : (N : Term → Type 0) → ((truths : List Bool) (t : Term) → truths ≡ false ∷ false ∷ false ∷ [] → N t → TermFits truths t) → (p : Tables) → IsLine N p → MeetsTableRules p
+line_meets_rules N fits p h =
+    let e : made N fits h.plants.0 h.nodes.0 h.nodes.1 h.plants.1 h.nodes.2 h.nodes.3 ≡ p = λ i. record {
       topics = sym h.topics i;
       scalars = sym h.scalars i;
       plants = sym h.plants.2 i;
       nodes = sym h.nodes.4 i;
       modules = sym h.modules i;
     } in
-    subst MeetsTableRules e (rules h.plants.0 h.nodes.0 h.nodes.1 h.plants.1 h.nodes.2 h.nodes.3)
+    subst MeetsTableRules e (rules N fits h.plants.0 h.nodes.0 h.nodes.1 h.plants.1 h.nodes.2 h.nodes.3)
+
+-- what is said of one tick is said of each that it may be
+pub ticks_so : (M N : Term → Type 0) (p : Tables) → ((t : Term) → M t → N t) → IsLine M p → IsLine N p
+ticks_so M N p more h =
+    let plant = h.plants.1 in
+    record {
+      topics = h.topics;
+      scalars = h.scalars;
+      plants = (
+        h.plants.0,
+        record {
+          name = plant.name;
+          states = plant.states;
+          inputs = plant.inputs;
+          sees = plant.sees;
+          noise = plant.noise;
+          next = (plant.next.0, more plant.next.0 plant.next.1, plant.next.2);
+        },
+        h.plants.2,
+      );
+      nodes = h.nodes;
+      modules = h.modules;
+    }

@@ -1,8 +1,10 @@
--- Lists that are equal to a list of one, or of none.
-use Rattle.std.proofs.Common.{◌≡◌, ℕ, List, [], ◌∷◌, refl, subst}
+-- Lists that are equal to a list of one, or of none; expressions that are this one.
+use Rattle.std.proofs.Common.{◌≡◌, ℕ, Bool, List, [], ◌∷◌, refl, sym, subst}
 use Rattle.std.proofs.lemmas.Option.{none-some}
 use Rattle.sot_box.specs.Lists.{At}
 use Rattle.sot_lang.specs.Places.{Has}
+use Rattle.sot_lang.specs.declared.term.Term.{Term}
+use Rattle.sot_lang.specs.TermRules.{TermFits}
 use Rattle.sot_lang.proofs.ShortLists.{at_one}
 
 module _ {A : Type 0} where
@@ -17,3 +19,7 @@ module _ {A : Type 0} where
   -- nothing is in none
   pub nothing : (xs : List A) → xs ≡ [] → (k : ℕ) (x : A) → At xs k x → ⊥
   nothing xs e k x at = none-some x (subst (λ l. At l k x) e at)
+
+-- an expression that is this one fits where this one does
+pub fits_as : (names : List Bool) (one : Term) → TermFits names one → (truths : List Bool) (t : Term) → truths ≡ names → t ≡ one → TermFits truths t
+fits_as names one h truths t e is = subst (λ ts. TermFits ts t) (sym e) (subst (TermFits names) (sym is) h)

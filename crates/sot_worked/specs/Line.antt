@@ -26,7 +26,7 @@
 --     safer [-10..10];
 --   }
 use Rattle.std.specs.Prelude.{◌≡◌, pos, negsuc, None, List, [], ◌∷◌}
-use Rattle.sot_lang.specs.declared.operator.Op.TheVariants.{Add, Greater, Less}
+use Rattle.sot_lang.specs.declared.operator.Op.TheVariants.{Add, Sub, Div, Greater, Less}
 use Rattle.sot_lang.specs.declared.term.Term.{Term}
 use Rattle.sot_lang.specs.declared.term.Term.TheVariants.{Number, Place}
 use Rattle.sot_lang.specs.declared.act.Act.{Act}
@@ -40,17 +40,26 @@ use Rattle.sot_lang.specs.TableRules.{IsCoded}
 use Rattle.sot_lang.specs.Line.{side, cmd_name, pos_name, fast_name, slow_name, nav_name}
 use Rattle.sot_worked.specs.Parts.{place, one_topic, whole_number, IsBinary, IsChoice}
 
--- (x + cmd) + w
+-- where the vehicle is next: (x + cmd) + w
 abbrev pub IsMove : Term → Type 0
 IsMove t = (sum : Term) × IsBinary Add (Place 0) (Place 1) (place 6 15 105 106) sum × IsBinary Add sum (Place 2) (place 6 22 112 113) t
 
-pub record IsPos (plant : PlantInfo) : Type 0 where
+-- with another tick in that line: (x + cmd) + (w / (x - 5))
+abbrev pub IsDrift : Term → Type 0
+IsDrift t =
+    (sum : Term) × (gap : Term) × (share : Term) × IsBinary Add (Place 0) (Place 1) (place 6 15 105 106) sum
+    × IsBinary Sub (Place 0) (Number (pos 5)) (place 6 32 122 123) gap
+    × IsBinary Div (Place 2) gap (place 6 27 117 118) share
+    × IsBinary Add sum share (place 6 22 112 113) t
+
+-- the vehicle, with such a tick
+pub record IsPos (IsNext : Term → Type 0) (plant : PlantInfo) : Type 0 where
   pub name : plant.name ≡ pos_name
   pub states : plant.states.items ≡ record { name = 120 ∷ []; scale = 0 } ∷ []
   pub inputs : plant.inputs.items ≡ 0 ∷ []
   pub sees : plant.sees.items ≡ []
   pub noise : plant.noise.items ≡ record { name = 119 ∷ []; scale = 0; lo = negsuc 0; hi = pos 1 } ∷ []
-  pub next : (t : Term) × IsMove t × (plant.next.items ≡ t ∷ [])
+  pub next : (t : Term) × IsNext t × (plant.next.items ≡ t ∷ [])
 
 -- if (pos.x > 10) then -2 else (if (pos.x < -10) then 2 else 0)
 abbrev pub IsReturn : Term → Type 0
@@ -97,10 +106,10 @@ nav = record {
   safer = record { width = 1; boxes = (side (negsuc 9) (pos 10) ∷ []) ∷ [] };
 }
 
--- the tables
-pub record IsLine (p : Tables) : Type 0 where
+-- the tables, with such a tick of the vehicle; all other places are those of the text above
+pub record IsLine (IsNext : Term → Type 0) (p : Tables) : Type 0 where
   pub topics : p.topics ≡ one_topic cmd_name 0 ∷ []
   pub scalars : p.scalars ≡ whole_number 0 (negsuc 1) (pos 2) ∷ []
-  pub plants : (plant : PlantInfo) × IsPos plant × (p.plants ≡ plant ∷ [])
+  pub plants : (plant : PlantInfo) × IsPos IsNext plant × (p.plants ≡ plant ∷ [])
   pub nodes : (fast : NodeInfo) × (slow : NodeInfo) × IsFast fast × IsSlow slow × (p.nodes ≡ fast ∷ slow ∷ [])
   pub modules : p.modules ≡ nav ∷ []

@@ -1,9 +1,10 @@
-ghost use Rattle.std.specs.Prelude.{◌≡◌, ◌∷◌, [], pos, IfOk};
+ghost use Rattle.std.specs.Prelude.{◌≡◌, ◌∷◌, [], pos, false, IfOk};
+ghost use Rattle.sot_lang.specs.TermRules.{TermFits};
 ghost use Rattle.sot_worked.specs.Parts.{one_topic, whole_number};
-ghost use Rattle.sot_worked.specs.Divide.{IsDivision, IsCalc, IsDivide};
+ghost use Rattle.sot_worked.specs.Divide.{IsWhatIsRead, IsAtLeastOne, IsDivision, IsCalc, IsDivide};
 
 use crate::parts::{binary, number, span, topic};
-use sot_lang::{Act, Name, NodeInfo, Op, ScalarInfo, Slot, Term, TopicInfo, Typed};
+use sot_lang::{Act, Func, Name, NodeInfo, Op, ScalarInfo, Slot, Term, TopicInfo, Typed};
 use std::alloc::{AllocError, Global};
 
 fn topics(alloc: Global) -> Result<Vec<TopicInfo>, AllocError>
@@ -20,12 +21,12 @@ fn scalars(alloc: Global) -> Result<Vec<ScalarInfo>, AllocError>
     Ok(vec![in alloc; number(0, 0, 5), number(1, 0, 10)]?)
 }
 
-// publish k = 10 / n
-fn acts(alloc: Global) -> Result<Vec<Act>, AllocError>
-    ensures { IfOk result (λ v. IsDivision v.items) }
+// publish k = 10 / divisor
+fn acts(alloc: Global, divisor: Term) -> Result<Vec<Act>, AllocError>
+    ensures { IfOk result (λ v. IsDivision (λ d. d ≡ divisor) v.items) }
 {
     let ten = Term::Number(10);
-    let value = binary(alloc, Op::Div, ten, Term::Place(0), span(7, 20, 128, 129))?;
+    let value = binary(alloc, Op::Div, ten, divisor, span(7, 20, 128, 129))?;
     let publish = Act::Publish {
         slot: 0,
         value,
@@ -34,8 +35,8 @@ fn acts(alloc: Global) -> Result<Vec<Act>, AllocError>
     Ok(vec![in alloc; publish]?)
 }
 
-fn calc(alloc: Global) -> Result<NodeInfo, AllocError>
-    ensures { IfOk result IsCalc }
+fn calc(alloc: Global, divisor: Term) -> Result<NodeInfo, AllocError>
+    ensures { IfOk result (IsCalc (λ d. d ≡ divisor)) }
 {
     Ok(NodeInfo {
         name: Name::from_bytes(alloc, b"calc")?,
@@ -44,17 +45,17 @@ fn calc(alloc: Global) -> Result<NodeInfo, AllocError>
         reads: vec![in alloc; Slot::Scalar(0)]?,
         writes: vec![in alloc; 1]?,
         locals: Vec::new(alloc),
-        body: Some(acts(alloc)?),
+        body: Some(acts(alloc, divisor)?),
     })
 }
 
-/// The tables of a mission with one node, `calc`, that reads the scalar 0 and divides 10 by it: at 0 it traps.
-pub fn divide(alloc: Global) -> Result<Typed, AllocError>
-    ensures { IfOk result IsDivide }
+fn tables(alloc: Global, divisor: Term) -> Result<Typed, AllocError>
+    requires { TermFits (false ∷ []) divisor }
+    ensures { IfOk result (IsDivide (λ d. d ≡ divisor)) }
 {
     let topics = topics(alloc)?;
     let scalars = scalars(alloc)?;
-    let calc = calc(alloc)?;
+    let calc = calc(alloc, divisor)?;
     let nodes = vec![in alloc; calc]?;
     Ok(Typed {
         topics,
@@ -63,4 +64,31 @@ pub fn divide(alloc: Global) -> Result<Typed, AllocError>
         nodes,
         modules: Vec::new(alloc),
     })
+}
+
+/// The tables of a mission with one node, `calc`, that reads the scalar 0 and divides 10 by it: at 0 it traps.
+pub fn divide(alloc: Global) -> Result<Typed, AllocError>
+    ensures { IfOk result (IsDivide IsWhatIsRead) }
+{
+    tables(alloc, Term::Place(0))
+}
+
+// max(n, 1)
+fn at_least_one(alloc: Global) -> Result<Term, AllocError>
+    ensures { IfOk result IsAtLeastOne }
+{
+    Ok(Term::Call {
+        func: Func::Max,
+        parts: vec![in alloc; Term::Place(0), Term::Number(1)]?,
+        at: span(7, 22, 130, 133),
+    })
+}
+
+/// The same, where `calc` divides by the greater one of the scalar and 1, so that it never traps.
+pub fn divide_by_at_least_one(alloc: Global) -> Result<Typed, AllocError>
+    ensures { IfOk result (IsDivide IsAtLeastOne) }
+{
+    let divisor = at_least_one(alloc)?;
+    let tables = tables(alloc, divisor)?;
+    Ok(tables)
 }

@@ -10,9 +10,9 @@ mod facts;
 mod parts;
 mod vehicle;
 
-pub use division::divide;
+pub use division::{divide, divide_by_at_least_one};
 pub use facts::{broken_tables_are_refused, the_first_module_counts};
-pub use vehicle::line;
+pub use vehicle::{drifting_line, line};
 
 #[cfg(test)]
 mod tests;

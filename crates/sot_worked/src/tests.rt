@@ -1,7 +1,9 @@
 ghost use Rattle.std.specs.Prelude.{◌≡◌, ◌∷◌, []};
 ghost use Rattle.sot_code.specs.Recorded.{MayRun};
 
-use crate::{divide, line};
+mod tubes;
+
+use crate::{divide, divide_by_at_least_one, line};
 use sot_box::Point;
 use sot_code::{Locals, Seen, plant_next, run_node};
 use sot_iv::MayTrap;
@@ -89,6 +91,12 @@ fn calc_is_free(alloc: Global) -> Result<Result<(), MayTrap>, AllocError> {
     Ok(trap_free(&p, 0))
 }
 
+// Whether `calc` never traps where it divides by at least 1.
+fn guarded_calc_is_free(alloc: Global) -> Result<Result<(), MayTrap>, AllocError> {
+    let p = divide_by_at_least_one(alloc)?;
+    Ok(trap_free(&p, 0))
+}
+
 // Whether `slow` never traps.
 fn slow_is_free(alloc: Global) -> Result<Result<(), MayTrap>, AllocError> {
     let p = line(alloc)?;
@@ -109,6 +117,7 @@ fn a_division_by_what_may_be_nought_may_trap(rt: HostRuntime) -> Result<(), Fail
         hi: 5,
     };
     assert_eq!(rt; calc_is_free(rt.alloc())?, Err(zero));
+    assert_eq!(rt; guarded_calc_is_free(rt.alloc())?, Ok(()));
     assert_eq!(rt; slow_is_free(rt.alloc())?, Ok(()));
     Ok(())
 }

@@ -1,7 +1,8 @@
-ghost use Rattle.std.specs.Prelude.{◌≡◌, ◌∷◌, [], pos, negsuc, IfOk};
+ghost use Rattle.std.specs.Prelude.{◌≡◌, ◌∷◌, [], pos, negsuc, false, IfOk};
 ghost use Rattle.sot_lang.specs.Line.{cmd_name};
+ghost use Rattle.sot_lang.specs.TermRules.{TermFits};
 ghost use Rattle.sot_worked.specs.Parts.{one_topic, whole_number};
-ghost use Rattle.sot_worked.specs.Line.{IsMove, IsPos, IsReturn, IsCommand, IsFast, IsSlow, IsLine, nav};
+ghost use Rattle.sot_worked.specs.Line.{IsMove, IsDrift, IsPos, IsReturn, IsCommand, IsFast, IsSlow, IsLine, nav};
 
 use crate::parts::{binary, choice, interval, number, span, topic};
 use sot_lang::{
@@ -32,6 +33,19 @@ fn moved(alloc: Global) -> Result<Term, AllocError>
     binary(alloc, Op::Add, sum, Term::Place(2), outer)
 }
 
+// (x + cmd) + (w / (x - 5))
+fn drifted(alloc: Global) -> Result<Term, AllocError>
+    ensures { IfOk result IsDrift }
+{
+    let (inner, outer) = (span(6, 15, 105, 106), span(6, 22, 112, 113));
+    let (minus, by) = (span(6, 32, 122, 123), span(6, 27, 117, 118));
+    let sum = binary(alloc, Op::Add, Term::Place(0), Term::Place(1), inner)?;
+    let gap = binary(alloc, Op::Sub, Term::Place(0), Term::Number(5), minus)?;
+    let share = binary(alloc, Op::Div, Term::Place(2), gap, by)?;
+    let next = binary(alloc, Op::Add, sum, share, outer)?;
+    Ok(next)
+}
+
 fn state(alloc: Global) -> Result<StateInfo, AllocError>
     ensures { IfOk result (λ s. s ≡ record { name = 120 ∷ []; scale = 0 }) }
 {
@@ -52,12 +66,11 @@ fn disturbance(alloc: Global) -> Result<NoiseInfo, AllocError>
     })
 }
 
-fn plant(alloc: Global) -> Result<PlantInfo, AllocError>
-    ensures { IfOk result IsPos }
+fn plant(alloc: Global, next: Term) -> Result<PlantInfo, AllocError>
+    ensures { IfOk result (IsPos (λ t. t ≡ next)) }
 {
     let state = state(alloc)?;
     let disturbance = disturbance(alloc)?;
-    let next = moved(alloc)?;
     Ok(PlantInfo {
         name: Name::from_bytes(alloc, b"pos")?,
         states: vec![in alloc; state]?,
@@ -142,14 +155,13 @@ fn module(alloc: Global) -> Result<ModuleInfo, AllocError>
     })
 }
 
-/// The tables of a mission with one plant, a vehicle on a line, whose node 1, `slow`, commands it back once it is more than 10
-/// away from 0. Node 0, `fast`, is external.
-pub fn line(alloc: Global) -> Result<Typed, AllocError>
-    ensures { IfOk result IsLine }
+fn tables(alloc: Global, next: Term) -> Result<Typed, AllocError>
+    requires { TermFits (false ∷ false ∷ false ∷ []) next }
+    ensures { IfOk result (IsLine (λ t. t ≡ next)) }
 {
     let topics = topics(alloc)?;
     let scalars = scalars(alloc)?;
-    let plant = plant(alloc)?;
+    let plant = plant(alloc, next)?;
     let fast = fast(alloc)?;
     let slow = slow(alloc)?;
     let module = module(alloc)?;
@@ -160,4 +172,23 @@ pub fn line(alloc: Global) -> Result<Typed, AllocError>
         nodes: vec![in alloc; fast, slow]?,
         modules: vec![in alloc; module]?,
     })
+}
+
+/// The tables of a mission with one plant, a vehicle on a line, whose node 1, `slow`, commands it back once it is more than 10
+/// away from 0. Node 0, `fast`, is external.
+pub fn line(alloc: Global) -> Result<Typed, AllocError>
+    ensures { IfOk result (IsLine IsMove) }
+{
+    let next = moved(alloc)?;
+    let tables = tables(alloc, next)?;
+    Ok(tables)
+}
+
+/// The same with a vehicle that divides its disturbance by how far it is past 5: there its tick traps.
+pub fn drifting_line(alloc: Global) -> Result<Typed, AllocError>
+    ensures { IfOk result (IsLine IsDrift) }
+{
+    let next = drifted(alloc)?;
+    let tables = tables(alloc, next)?;
+    Ok(tables)
 }

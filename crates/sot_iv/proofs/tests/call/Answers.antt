@@ -1,4 +1,5 @@
 use Rattle.std.proofs.Common.{false, [], ◌∷◌}
+use Rattle.sot_text.specs.declared.token.Span.{Span}
 use Rattle.sot_lang.specs.declared.term.Term.{Call}
 use Rattle.sot_lang.proofs.Rows.{Call-TermFits}
 use Rattle.sot_lang.proofs.Places.{HasPlaces-TermFits}
@@ -7,5 +8,6 @@ use Rattle.sot_iv.proofs.tests.call.Goals as goal
 pub returns : goal.returns
 returns c =
     let three = false ∷ false ∷ false ∷ [] in
-    let fits = Call-TermFits c.args.func c.in_ok-parts.parts _ three c.in_ok-parts.ensures.fit c.in_ok-parts.ensures.count in
-    HasPlaces-TermFits three (Call c.args.func c.in_ok-parts.parts _) fits
+    let at : Span = record { line = 7; column = 20; from = 0; to = 1 } in
+    let fits = Call-TermFits c.args.func c.in_ok-parts.parts at three c.in_ok-parts.ensures.fit c.in_ok-parts.ensures.count in
+    HasPlaces-TermFits three (Call c.args.func c.in_ok-parts.parts at) fits

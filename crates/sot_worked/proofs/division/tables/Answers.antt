@@ -1,8 +1,10 @@
+use Rattle.std.proofs.Common.{◌≡◌}
 use Rattle.sot_worked.proofs.DivideRules.{divide_meets_rules}
-use Rattle.sot_worked.proofs.division.divide.Goals as goal
+use Rattle.sot_worked.proofs.Short.{fits_as}
+use Rattle.sot_worked.proofs.division.tables.Goals as goal
 
 pub invariant_of-result : goal.invariant_of-result
-invariant_of-result c = divide_meets_rules _ (record {
+invariant_of-result c = divide_meets_rules (λ d. d ≡ c.args.divisor) (fits_as _ c.args.divisor c.requires) _ (record {
   topics = c.in_ok-topics.ensures;
   scalars = c.in_ok-scalars.ensures;
   plants = c.new.ensures.items;

@@ -1,9 +1,10 @@
-use Rattle.std.proofs.Common.{◌∷◌, [], ap, ◌∙◌}
+use Rattle.std.proofs.Common.{◌≡◌, ◌∷◌, [], ap, ◌∙◌}
 use Rattle.sot_worked.proofs.LineRules.{line_meets_rules}
-use Rattle.sot_worked.proofs.vehicle.line.Goals as goal
+use Rattle.sot_worked.proofs.Short.{fits_as}
+use Rattle.sot_worked.proofs.vehicle.tables.Goals as goal
 
 pub invariant_of-result : goal.invariant_of-result
-invariant_of-result c = line_meets_rules _ (record {
+invariant_of-result c = line_meets_rules (λ t. t ≡ c.args.next) (fits_as _ c.args.next c.requires) _ (record {
   topics = c.in_ok-topics.ensures;
   scalars = c.in_ok-scalars.ensures;
   plants = (c.in_ok-plant.plant, c.in_ok-plant.ensures, c.in_ok-vec.ensures.items);
