@@ -1,5 +1,5 @@
 -- What tubes of the vehicle ask for: its safe region has a box, and it has one state variable and one input.
-use Rattle.std.proofs.Common.{◌≡◌, ℕ, List, [], ◌∷◌, length, sym, ap, ◌∙◌, subst, arith}
+use Rattle.std.proofs.Common.{◌≡◌, List, length, sym, ap, ◌∙◌, subst, arith}
 use Rattle.std.proofs.lemmas.Option.{same_Some}
 use Rattle.sot_box.specs.Sides.{Side}
 use Rattle.sot_box.specs.Lists.{At}
