@@ -1,9 +1,7 @@
-ghost use Rattle.std.specs.Prelude.{◌≡◌, ◌≢◌, ℕ, [], ◌+◌, ◌≤◌, ◌++◌, List, length, take, drop, MatchOption};
-ghost use Rattle.sot_box.specs.Sides.{Side};
-ghost use Rattle.sot_box.specs.Regions.{IsHull};
+ghost use Rattle.std.specs.Prelude.{◌≡◌, ◌≢◌, ℕ, [], ◌+◌, ◌≤◌, ◌++◌, length};
 ghost use Rattle.sot_lang.specs.Places.{Has};
-ghost use Rattle.sot_lang.specs.OwnerNames.{width_of, seen_width};
-ghost use Rattle.sot_lang.specs.SafeRegions.{safe_of, AreHulls, joined_boxes};
+ghost use Rattle.sot_lang.specs.OwnerNames.{seen_width};
+ghost use Rattle.sot_lang.specs.SafeRegions.{safe_of};
 ghost use Rattle.sot_tube.specs.Seen.{AreSeenHulls};
 
 use sot_box::BoxN;
