@@ -26,3 +26,8 @@ pub mod Unsafe
 pub mod TwinSteps
 pub mod Possible
 pub mod RelayFlight
+pub mod Parts
+pub mod Stepping
+pub mod RoleModes
+pub mod FiringSteps
+pub mod TickSteps

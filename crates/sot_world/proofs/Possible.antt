@@ -21,16 +21,16 @@ cut_bounds : (plants : List PlantInfo) (w : List ℤ) → ((k : ℕ) (plant : Pl
 cut_bounds [] w h = tt
 cut_bounds (x ∷ xs) w h = (h 0 x refl, cut_bounds xs (drop (length x.noise.items) w) (λ k plant at. h (suc k) plant at))
 
-bounds_cut : (plants : List PlantInfo) (w : List ℤ) → IsInBounds plants w → (k : ℕ) (plant : PlantInfo) → At plants k plant → IsWithin (bounds plant) (slice_index_or (cut plants w) k [])
+pub bounds_cut : (plants : List PlantInfo) (w : List ℤ) → IsInBounds plants w → (k : ℕ) (plant : PlantInfo) → At plants k plant → IsWithin (bounds plant) (slice_index_or (cut plants w) k [])
 bounds_cut [] w h k plant at = absurd (none-some plant at)
 bounds_cut (x ∷ xs) w h zero plant at = subst (λ y. IsWithin (bounds y) (take (length x.noise.items) w)) (same_Some x plant at) h.0
 bounds_cut (x ∷ xs) w h (suc k) plant at = bounds_cut xs (drop (length x.noise.items) w) h.1 k plant at
 
-cut_length : (plants : List PlantInfo) (w : List ℤ) → length (cut plants w) ≡ length plants
+pub cut_length : (plants : List PlantInfo) (w : List ℤ) → length (cut plants w) ≡ length plants
 cut_length [] w = refl
 cut_length (x ∷ xs) w = ap suc (cut_length xs (drop (length x.noise.items) w))
 
-slots_of : (p : Tables) (n : ℕ) (node : NodeInfo) → At p.nodes n node → slot_count p n ≡ length node.writes.items
+pub slots_of : (p : Tables) (n : ℕ) (node : NodeInfo) → At p.nodes n node → slot_count p n ≡ length node.writes.items
 slots_of p n node at = get_or_from_slice_get (map (λ k. length k.writes.items) p.nodes) n (length node.writes.items) 0 (at_map (λ k. length k.writes.items) p.nodes n node at)
 
 pub possible_is_step : PossibleIsStep

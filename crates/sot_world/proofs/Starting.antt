@@ -22,7 +22,7 @@ use Rattle.sot_world.specs.State.{IsKept}
 use Rattle.sot_world.specs.Opens.{AreStarts, StartInside}
 use Rattle.sot_world.proofs.Opening.{opening_holds}
 
-width_at : (plants : List PlantInfo) (k : ℕ) (plant : PlantInfo) → At plants k plant → width_of plants k ≡ length plant.states.items
+pub width_at : (plants : List PlantInfo) (k : ℕ) (plant : PlantInfo) → At plants k plant → width_of plants k ≡ length plant.states.items
 width_at [] k plant at = absurd (none-some plant at)
 width_at (x ∷ xs) zero plant at = ap (λ z. length z.states.items) (same_Some x plant at)
 width_at (x ∷ xs) (suc k) plant at = width_at xs k plant at

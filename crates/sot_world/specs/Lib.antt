@@ -20,3 +20,5 @@ pub mod Events
 pub mod Bounds
 pub mod Opens
 pub mod Possible
+pub mod Changes
+pub mod StepOutcomes

@@ -1,4 +1,5 @@
 -- A world as its accepted program and its configuration.
+use Rattle.std.specs.Prelude.{◌≡◌, length}
 use Rattle.sot_world.specs.declared.world.World.TheInside.{Inside}
 use Rattle.sot_world.specs.Configurations.{Configuration}
 use Rattle.sot_world.specs.State.{State, IsKept}
@@ -22,3 +23,4 @@ state w = record { accepted = w.accepted.now; at = configuration w }
 pub record IsWorld (w : Inside) : Type 0 where
   pub kept : IsKept w.accepted.now (configuration w)
   pub roles : AreRoles w.accepted.now.program w.roles.items
+  pub next : length w.next.items ≡ length w.accepted.now.program.plants

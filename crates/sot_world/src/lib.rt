@@ -4,9 +4,13 @@
 //! regions each configuration satisfies an invariant of all modules together, and what satisfies it is safe.
 #![tactic(auto)]
 
+mod decide;
 mod event;
 mod examples;
+mod fire;
 mod history;
+mod input;
+mod lent;
 mod looks;
 mod mode;
 mod open_fail;
@@ -14,6 +18,7 @@ mod outcome;
 mod role;
 mod starts;
 mod theorems;
+mod tick;
 mod world;
 
 pub use event::Event;

@@ -23,6 +23,8 @@ use sot_tube::Accepted;
 use std::alloc::{AllocError, Global};
 use std::marker::Model;
 
+mod step;
+
 /// A configuration of a run of an accepted program. Its type keeps the invariant, for all modules together: in mode Ac any
 /// commands keep the plant in the safe region until a period after the next decision, and in mode Sc the present commands do
 /// until the safe node fires next.
@@ -37,6 +39,7 @@ pub struct World<'a> {
     scalars: Vec<i64>,
     locals: Vec<Locals>,
     points: Vec<Point>,
+    next: Vec<Point>,
 }
 
 impl<'a> Model for World<'a> {
@@ -98,6 +101,7 @@ impl<'a> World<'a> {
         let scalars = initial_scalars(alloc, &p.scalars)?;
         let locals = all_locals(alloc, &p.nodes)?;
         let points = Vec::from_slice(alloc, start)?;
+        let next = Vec::from_slice(alloc, start)?;
         Ok(World {
             accepted: acc,
             roles,
@@ -108,6 +112,7 @@ impl<'a> World<'a> {
             scalars,
             locals,
             points,
+            next,
         })
     }
 

@@ -1,4 +1,4 @@
-use Rattle.std.proofs.Common.{ap, ◌∙◌, subst, map}
+use Rattle.std.proofs.Common.{ap, ◌∙◌, subst, map, length}
 use Rattle.std.specs.Prelude.{◌==◌}
 use Rattle.sot_lang.specs.TableRules.{MeetsTableRules}
 use Rattle.sot_world.specs.Configurations.{Sc}
@@ -20,6 +20,7 @@ invariant_of-result c =
     record {
       kept = opens_kept c.args.acc.now c.args.start.now _ rules c.typed-p.ensures.certified opening safer;
       roles = subst (λ t. AreRoles t c.in_ok-roles.roles.items) c.typed-p.ensures.program c.in_ok-roles.ensures;
+      next = ap length c.in_ok-next.ensures.items ∙ c.requires.starts.each;
     }
 
 pub returns-clause-opening : goal.returns-clause-opening

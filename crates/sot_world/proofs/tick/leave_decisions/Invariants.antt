@@ -1,0 +1,11 @@
+use Rattle.std.proofs.Common.{◌≡◌, ◌↔◌, ℕ, ◌<◌, true, false, length, slice_index_or}
+use Rattle.sot_box.specs.Lists.{At}
+use Rattle.sot_calendar.specs.Due.{IsDue}
+use Rattle.sot_lang.specs.declared.tables.ModuleInfo.{ModuleInfo}
+use Rattle.sot_world.proofs.tick.leave_decisions.Given as goal
+
+abbrev pub invariant-loop-m : goal.invariant-loop-m
+invariant-loop-m l = record {
+  size : length l.left ≡ length l.modules;
+  before : (k : ℕ) → k < l.m → (a : ModuleInfo) → At l.modules k a → (slice_index_or l.left k false ≡ true) ↔ IsDue a.period a.offset l.time;
+}

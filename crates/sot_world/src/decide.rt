@@ -1,0 +1,33 @@
+//! What a decision gives.
+
+ghost use Rattle.std.specs.Prelude.{◌≡◌, ℕ, IsTrue, ◌↔◌};
+ghost use Rattle.sot_lang.specs.declared.tables.ModuleInfo.{ModuleInfo};
+ghost use Rattle.sot_box.specs.Lists.{At};
+ghost use Rattle.sot_box.specs.Boxes.{point_box};
+ghost use Rattle.sot_tube.specs.Calls.{MayFollow};
+ghost use Rattle.sot_world.specs.Configurations.{Ac};
+ghost use Rattle.sot_world.specs.Changes.{IsNextMode};
+
+use crate::mode::Mode;
+use sot_box::Point;
+use sot_lang::Typed;
+use sot_tube::keeps;
+
+// The mode of a module whose advanced node is trusted or not.
+fn mode_by(trusted: bool) -> Mode
+    ensures { (result ≡ Ac) ↔ IsTrue trusted }
+{
+    if trusted { Mode::Ac } else { Mode::Sc }
+}
+
+/// The mode after a module's decision, from this mode and with its plant at this point. The advanced node is trusted from the
+/// safer region on, for as long as the tube of two periods is inside the safe region.
+pub fn next_mode(p: &Typed, module: u32, mode: Mode, s: &Point) -> Mode
+    requires { MayFollow p.now «module» (point_box s.now) }
+    ensures { (a : ModuleInfo) → At p.now.modules «module» a → IsNextMode p.now a mode s.now result }
+{
+    match mode {
+        Mode::Ac => mode_by(keeps(p, module, s)),
+        Mode::Sc => mode_by(p.modules[module as usize].safer.has(s)),
+    }
+}

@@ -1,0 +1,116 @@
+//! What a tick moves, and what is due after it.
+
+ghost use Rattle.std.specs.Prelude.{◌≡◌, ℕ, ◌+◌, ◌<◌, ◌≤◌, ◌++◌, [], true, false, pos, length, map, take, slice_index_or, ◌↔◌};
+ghost use Rattle.sot_box.specs.Lists.{At};
+ghost use Rattle.sot_lang.specs.declared.tables.NodeInfo.{NodeInfo};
+ghost use Rattle.sot_lang.specs.declared.tables.ModuleInfo.{ModuleInfo};
+ghost use Rattle.sot_lang.specs.declared.tables.PlantInfo.{PlantInfo};
+ghost use Rattle.sot_lang.specs.Ticks.{joined};
+ghost use Rattle.sot_calendar.specs.Due.{IsDue};
+ghost use Rattle.sot_world.specs.Events.{cut, noise_count};
+ghost use Rattle.sot_world.specs.Changes.{ArePoints, MayMove, IsMoved};
+
+use sot_box::Point;
+use sot_calendar::due;
+use sot_code::plant_next;
+use sot_lang::{ModuleInfo, NodeInfo, Typed};
+
+// The numbers of a plant's inputs, at the front.
+fn put_inputs(inputs: &[u32], scalars: &[i64], held: &mut [i64])
+    requires there { (i k : ℕ) → At inputs.now i k → k < length scalars.now }
+    requires room { length inputs.now ≤ length held.old }
+    ensures { take (length inputs.now) held.new ≡ map (λ k. slice_index_or scalars.now k (pos 0)) inputs.now }
+{
+    for i in 0..inputs.len() {
+        held[i] = scalars[inputs[i] as usize];
+    }
+}
+
+// A point's coordinates, behind the first `from` numbers.
+fn put_point(point: &Point, from: usize, numbers: &mut [i64])
+    requires room { from + length point.now ≤ length numbers.old }
+    ensures front { take (from + length point.now) numbers.new ≡ take from numbers.old ++ point.now }
+{
+    for i in 0..point.len() {
+        numbers[from + i] = point.at(i);
+    }
+}
+
+// The points of the plants that a plant sees, one plant after another, and how many numbers these are.
+fn put_seen(sees: &[u32], points: &[Point], seen: &mut [i64]) -> usize
+    requires there { (i k : ℕ) → At sees.now i k → k < length points.now }
+    requires few { length sees.now ≤ 16 }
+    requires room { length seen.old ≡ 64 }
+    ensures few { result ≤ 64 }
+    ensures front { take result seen.new ≡ joined (map (λ k. slice_index_or points.now k []) sees.now) }
+{
+    let mut count = 0;
+    for i in 0..sees.len() {
+        let point = &points[sees[i] as usize];
+        let more = point.len();
+        put_point(point, count, seen);
+        count += more;
+    }
+    count
+}
+
+// A plant's point after a tick, from these scalars and points and with these disturbances.
+fn next_point(p: &Typed, plant: u32, scalars: &[i64], points: &[Point], noise: &[i64]) -> Point
+    requires points { ArePoints p.now points.now }
+    requires moves { MayMove p.now plant scalars.now points.now noise.now }
+    ensures { IsMoved p.now plant scalars.now points.now noise.now result }
+{
+    let info = &p.plants[plant as usize];
+    let mut held = [0; 8];
+    put_inputs(&info.inputs, scalars, &mut held);
+    let mut seen = [0; 64];
+    let count = put_seen(&info.sees, points, &mut seen);
+    let (held, _) = held.split_at(info.inputs.len());
+    let (seen, _) = seen.split_at(count);
+    match plant_next(p, plant, &points[plant as usize], held, seen, noise) {
+        Ok(point) => point,
+        Err(_) => unreachable!(),
+    }
+}
+
+/// All plants move, each from these points and with its part of the disturbances.
+pub fn move_all(p: &Typed, scalars: &[i64], points: &[Point], noise: &[i64], next: &mut [Point])
+    requires points { ArePoints p.now points.now }
+    requires moves { (k : ℕ) (plant : PlantInfo) → At p.now.plants k plant → MayMove p.now k scalars.now points.now (slice_index_or (cut p.now.plants noise.now) k []) }
+    requires noise { length noise.now ≡ noise_count p.now.plants }
+    requires size { length next.old ≡ length p.now.plants }
+    ensures { (k : ℕ) → k < length p.now.plants → IsMoved p.now k scalars.now points.now (slice_index_or (cut p.now.plants noise.now) k []) (slice_index_or next.new k []) }
+{
+    let (_, mut rest) = noise.split_at(0);
+    for k in 0..p.plants.len() {
+        let (own, more) = rest.split_at(p.plants[k].noise.len());
+        next[k] = next_point(p, k as u32, scalars, points, own);
+        rest = more;
+    }
+}
+
+/// The nodes that are due at a time are left to fire, and no others.
+pub fn leave_nodes(nodes: &[NodeInfo], time: u32, left: &mut [bool])
+    requires periods { (n : ℕ) (node : NodeInfo) → At nodes.now n node → (node.offset < node.period) × (node.period ≤ 1000) }
+    requires time { time ≤ 100000 }
+    requires size { length left.old ≡ length nodes.now }
+    ensures { (n : ℕ) (node : NodeInfo) → At nodes.now n node → (slice_index_or left.new n false ≡ true) ↔ IsDue node.period node.offset time }
+{
+    for n in 0..nodes.len() {
+        let info = &nodes[n];
+        left[n] = due(info.period, info.offset, time);
+    }
+}
+
+/// The modules whose decisions are due at a time are left to decide, and no others.
+pub fn leave_decisions(modules: &[ModuleInfo], time: u32, left: &mut [bool])
+    requires periods { (m : ℕ) (a : ModuleInfo) → At modules.now m a → (a.offset < a.period) × (a.period ≤ 1000) }
+    requires time { time ≤ 100000 }
+    requires size { length left.old ≡ length modules.now }
+    ensures { (m : ℕ) (a : ModuleInfo) → At modules.now m a → (slice_index_or left.new m false ≡ true) ↔ IsDue a.period a.offset time }
+{
+    for m in 0..modules.len() {
+        let info = &modules[m];
+        left[m] = due(info.period, info.offset, time);
+    }
+}

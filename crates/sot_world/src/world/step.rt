@@ -1,0 +1,110 @@
+//! The steps of a world. Each changes what the event touches, and no step meets a trap: the invariant that the type keeps rules
+//! it out.
+
+ghost use Rattle.std.specs.Prelude.{◌≡◌, ℕ, ◌<◌, length, true, None, List, take};
+ghost use Rattle.sot_box.specs.Lists.{At};
+ghost use Rattle.sot_lang.specs.declared.act.Act.{Act};
+ghost use Rattle.sot_lang.specs.declared.tables.TopicInfo.{TopicInfo};
+ghost use Rattle.sot_lang.specs.declared.tables.NodeInfo.{NodeInfo};
+ghost use Rattle.sot_lang.specs.TableRules.{IsCoded};
+ghost use Rattle.sot_world.specs.Configurations.{is_left, is_left_dm, mode_of};
+ghost use Rattle.sot_world.specs.Steps as steps;
+ghost use Rattle.sot_world.specs.Calendar.{NothingLeft};
+ghost use Rattle.sot_world.specs.Events.{Names, IsPossible, IsTypedInput, IsInBounds, event_of, noise_count, cut, slot_count, outcome_of};
+ghost use Rattle.sot_world.specs.Outcomes.{Recorded, RecordsCode, NodeFired};
+ghost use Rattle.sot_world.specs.StepOutcomes.{IsInTime, IsOutcome};
+
+use super::World;
+use crate::decide::next_mode;
+use crate::event::Event;
+use crate::fire::{enables, first_slots, publish_if, run};
+use crate::input::write;
+use crate::mode::Mode;
+use crate::outcome::Outcome;
+use crate::tick::{leave_decisions, leave_nodes, move_all};
+use sot_lang::Draft;
+use std::mem::swap;
+
+impl<'a> World<'a> {
+    fn take(&mut self, topic: u32, value: &[i64])
+        requires topic { (info : TopicInfo) × At self.old.accepted.program.topics topic info × (info.outside ≡ true) × (length value.now ≡ info.count) }
+        requires typed { IsTypedInput self.old.accepted.program topic value.now }
+        ensures step { steps.Inputs self.old.accepted.program topic value.now self.old.at self.new.at }
+        ensures accepted { self.new.accepted ≡ self.old.accepted }
+    {
+        let p = self.accepted.typed();
+        let first = p.topics[topic as usize].first as usize;
+        write(first, value, &mut self.scalars);
+    }
+
+    fn decide(&mut self, module: u32) -> Mode
+        requires there { «module» < length self.old.accepted.program.modules }
+        requires left { is_left_dm self.old.at «module» ≡ true }
+        ensures step { steps.Decides self.old.accepted.program 0 «module» self.old.at self.new.at }
+        ensures accepted { self.new.accepted ≡ self.old.accepted }
+        ensures mode { result ≡ mode_of self.new.at «module» }
+    {
+        let p = self.accepted.typed();
+        let plant = p.modules[module as usize].plant;
+        let before = self.modes[module as usize];
+        let mode = next_mode(p, module, before, &self.points[plant as usize]);
+        self.modes[module as usize] = mode;
+        self.left_dm[module as usize] = false;
+        mode
+    }
+
+    fn fire_code(&mut self, node: u32) -> Outcome
+        requires coded { (info : NodeInfo) × (acts : List Act) × At self.old.accepted.program.nodes node info × IsCoded info acts }
+        requires left { is_left self.old.at node ≡ true }
+        ensures step { steps.CodeFires self.old.accepted.program node self.old.at self.new.at }
+        ensures accepted { self.new.accepted ≡ self.old.accepted }
+        ensures outcome { (r : Recorded) × RecordsCode self.old.accepted.program node self.old.at r × (result ≡ outcome_of r) }
+    {
+        let p = self.accepted.typed();
+        let fired = run(p, node, &self.scalars, &self.points, &self.locals[node as usize]);
+        let enabled = enables(self.roles[node as usize], &self.modes);
+        let writes = &p.nodes[node as usize].writes;
+        publish_if(enabled, p, writes, &fired.draft, &mut self.scalars);
+        self.locals[node as usize] = fired.locals;
+        self.left[node as usize] = false;
+        Outcome::Fired {
+            draft: fired.draft,
+            enabled,
+        }
+    }
+
+    fn fire_guest(&mut self, node: u32, draft: &Draft) -> Outcome
+        requires external { (info : NodeInfo) × At self.old.accepted.program.nodes node info × (info.body ≡ None) }
+        requires left { is_left self.old.at node ≡ true }
+        ensures step { steps.GuestFires self.old.accepted.program node (take (slot_count self.old.accepted.program node) draft.now) self.old.at self.new.at }
+        ensures accepted { self.new.accepted ≡ self.old.accepted }
+        ensures outcome { result ≡ outcome_of (NodeFired (take (slot_count self.old.accepted.program node) draft.now) (steps.is_enabled self.old.accepted.program self.old.at node)) }
+    {
+        let p = self.accepted.typed();
+        let writes = &p.nodes[node as usize].writes;
+        let own = first_slots(draft, writes.len());
+        let enabled = enables(self.roles[node as usize], &self.modes);
+        publish_if(enabled, p, writes, draft, &mut self.scalars);
+        self.left[node as usize] = false;
+        Outcome::Fired {
+            draft: own,
+            enabled,
+        }
+    }
+
+    fn tick(&mut self, noise: &[i64])
+        requires noise { length noise.now ≡ noise_count self.old.accepted.program.plants }
+        requires nothing_left { NothingLeft self.old.accepted.program self.old.at }
+        requires bounded { IsInBounds self.old.accepted.program.plants noise.now }
+        requires time { self.old.at.time < 100000 }
+        ensures step { steps.Ticks self.old.accepted.program 0 (cut self.old.accepted.program.plants noise.now) self.old.at self.new.at }
+        ensures accepted { self.new.accepted ≡ self.old.accepted }
+    {
+        let p = self.accepted.typed();
+        move_all(p, &self.scalars, &self.points, noise, &mut self.next);
+        swap(&mut self.points, &mut self.next);
+        self.time += 1;
+        leave_nodes(&p.nodes, self.time, &mut self.left);
+        leave_decisions(&p.modules, self.time, &mut self.left_dm);
+    }
+}
