@@ -26,6 +26,35 @@ use sot_lang::Draft;
 use std::mem::swap;
 
 impl<'a> World<'a> {
+    /// Goes to the next configuration by an event that can happen now, and tells what is recorded of it. Of a firing this is the
+    /// draft, numbers that are refused included, and whether the node is enabled; of a decision the mode afterwards. A disabled
+    /// node has new locals and publishes nothing. Times are in ticks, at most 100,000.
+    pub fn step(&mut self, e: &Event<'_>) -> Outcome
+        requires names { Names self.old.accepted.program e.now }
+        requires possible { IsPossible self.old.accepted.program self.old.at e.now }
+        requires time { IsInTime self.old.at e.now }
+        ensures step { steps.Step self.old.accepted.program 0 self.old.at (event_of self.old.accepted.program e.now) self.new.at }
+        ensures accepted { self.new.accepted ≡ self.old.accepted }
+        ensures outcome { IsOutcome self.old.accepted.program self.old.at e.now self.new.at result }
+    {
+        match *e {
+            Event::Input { topic, value } => {
+                self.take(topic, value);
+                Outcome::Input
+            }
+            Event::Code { node } => self.fire_code(node),
+            Event::Guest { node, draft } => self.fire_guest(node, &draft),
+            Event::Decide { module } => Outcome::Decided {
+                mode: self.decide(module),
+            },
+            Event::Tick { noise } => {
+                self.tick(noise);
+                Outcome::Ticked
+            }
+        }
+    }
+
+    // A value comes on an environment topic.
     fn take(&mut self, topic: u32, value: &[i64])
         requires topic { (info : TopicInfo) × At self.old.accepted.program.topics topic info × (info.outside ≡ true) × (length value.now ≡ info.count) }
         requires typed { IsTypedInput self.old.accepted.program topic value.now }
@@ -37,6 +66,7 @@ impl<'a> World<'a> {
         write(first, value, &mut self.scalars);
     }
 
+    // A module decides.
     fn decide(&mut self, module: u32) -> Mode
         requires there { «module» < length self.old.accepted.program.modules }
         requires left { is_left_dm self.old.at «module» ≡ true }
@@ -53,6 +83,7 @@ impl<'a> World<'a> {
         mode
     }
 
+    // A coded node fires.
     fn fire_code(&mut self, node: u32) -> Outcome
         requires coded { (info : NodeInfo) × (acts : List Act) × At self.old.accepted.program.nodes node info × IsCoded info acts }
         requires left { is_left self.old.at node ≡ true }
@@ -73,6 +104,7 @@ impl<'a> World<'a> {
         }
     }
 
+    // An external node fires with a draft, of which its own slots alone are recorded.
     fn fire_guest(&mut self, node: u32, draft: &Draft) -> Outcome
         requires external { (info : NodeInfo) × At self.old.accepted.program.nodes node info × (info.body ≡ None) }
         requires left { is_left self.old.at node ≡ true }
@@ -92,6 +124,7 @@ impl<'a> World<'a> {
         }
     }
 
+    // All plants tick: their next points are all computed before one takes the place of an old one.
     fn tick(&mut self, noise: &[i64])
         requires noise { length noise.now ≡ noise_count self.old.accepted.program.plants }
         requires nothing_left { NothingLeft self.old.accepted.program self.old.at }
