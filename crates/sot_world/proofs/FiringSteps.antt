@@ -1,5 +1,5 @@
 -- A world's firings are steps of the semantics.
-use Rattle.std.proofs.Common.{◌≡◌, ℕ, zero, suc, ◌+◌, ◌-◌, ◌<◌, ◌≤◌, ℤ, Bool, true, false, List, [], ◌∷◌, ◌++◌, Option, None, Ok, map, take, replicate, length, refl, sym, ap, ◌∙◌, subst, arith, length-take-le}
+use Rattle.std.proofs.Common.{◌≡◌, ℕ, zero, suc, ◌-◌, ◌≤◌, ℤ, Bool, true, false, List, [], ◌∷◌, ◌++◌, Option, None, Ok, take, replicate, length, refl, sym, ap, ◌∙◌, subst, arith, length-take-le}
 use Rattle.std.specs.Prelude.{slice_index_or, slice_set}
 use Rattle.std.proofs.lemmas.List.{length-map}
 use Rattle.std.proofs.lemmas.Option.{slice_get_within}
@@ -10,7 +10,7 @@ use Rattle.sot_lang.specs.declared.tables.Slot.{Slot}
 use Rattle.sot_lang.specs.declared.tables.Slot.TheVariants.{Scalar, State}
 use Rattle.sot_lang.specs.declared.tables.NodeInfo.{NodeInfo}
 use Rattle.sot_lang.specs.Tables.{Tables}
-use Rattle.sot_lang.specs.TableRules.{IsCoded, MeetsTableRules}
+use Rattle.sot_lang.specs.TableRules.{IsCoded}
 use Rattle.sot_lang.specs.Places.{Has}
 use Rattle.sot_lang.specs.Ranges.{local_ranges, write_ranges}
 use Rattle.sot_lang.specs.Bodies.{Fired, execution}
@@ -18,7 +18,7 @@ use Rattle.sot_lang.specs.Readings.{reading}
 use Rattle.sot_lang.proofs.Lists.{within_length}
 use Rattle.sot_code.specs.Recorded.{in_slots}
 use Rattle.sot_tube.specs.Admitted.{Admitted}
-use Rattle.sot_world.specs.Configurations.{Configuration, is_left, locals_of, point_of}
+use Rattle.sot_world.specs.Configurations.{Configuration, is_left, locals_of}
 use Rattle.sot_world.specs.Steps.{Fires, CodeFires, GuestFires, is_enabled, published}
 use Rattle.sot_world.specs.Events.{slot_count, outcome_of}
 use Rattle.sot_world.specs.Outcomes.{Recorded, RecordsCode, NodeFired}

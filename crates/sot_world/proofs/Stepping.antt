@@ -1,48 +1,30 @@
 -- What a world's steps ask of its parts, and that they are steps of the semantics.
-use Rattle.std.proofs.Common.{◌≡◌, ℕ, suc, ◌+◌, ◌-◌, ◌<◌, ◌≤◌, ℤ, pos, Bool, true, false, ◌⊎◌, ◌↔◌, inl, inr, ⊎_elim, List, [], ◌∷◌, ◌++◌, Option, None, Some, Ok, map, take, replicate, length, refl, sym, ap, ◌∙◌, subst, arith, length-take-le}
-use Rattle.std.specs.Prelude.{slice_index_or, slice_set, not}
-use Rattle.std.proofs.lemmas.Bool.{cases_Bool, false≢true}
+use Rattle.std.proofs.Common.{◌≡◌, ℕ, suc, ◌+◌, ◌<◌, ◌≤◌, ℤ, Bool, true, false, ⊎_elim, List, [], ◌∷◌, length, refl, sym, ap, ◌∙◌, subst, arith}
+use Rattle.std.specs.Prelude.{slice_index_or, slice_set}
 use Rattle.std.proofs.lemmas.List.{get_or-set_same, length-map}
-use Rattle.std.proofs.lemmas.Option.{slice_get_within, same_Some}
+use Rattle.std.proofs.lemmas.Option.{slice_get_within}
 use Rattle.sot_box.specs.Sides.{Side, IsIn}
 use Rattle.sot_box.specs.Lists.{At}
-use Rattle.sot_box.specs.Boxes.{IsWithin, point_box}
+use Rattle.sot_box.specs.Boxes.{point_box}
 use Rattle.sot_box.specs.Regions.{IsInRegion}
-use Rattle.sot_lang.specs.declared.act.Act.{Act}
 use Rattle.sot_lang.specs.declared.tables.TopicInfo.{TopicInfo}
-use Rattle.sot_lang.specs.declared.tables.PlantInfo.{PlantInfo}
-use Rattle.sot_lang.specs.declared.tables.NodeInfo.{NodeInfo}
 use Rattle.sot_lang.specs.declared.tables.ModuleInfo.{ModuleInfo}
 use Rattle.sot_lang.specs.Tables.{Tables}
-use Rattle.sot_lang.specs.TableRules.{IsTyped, IsCoded, MeetsTableRules}
-use Rattle.sot_lang.specs.Places.{Has}
 use Rattle.sot_lang.specs.OwnerNames.{width_of}
-use Rattle.sot_lang.specs.Ranges.{bounds, local_ranges, write_ranges, range_of}
-use Rattle.sot_lang.specs.Bodies.{Fired, execution}
-use Rattle.sot_lang.specs.Readings.{reading}
+use Rattle.sot_lang.specs.Ranges.{range_of}
 use Rattle.sot_lang.proofs.Lists.{at_same, within_length}
-use Rattle.sot_calendar.specs.Due.{IsDue}
 use Rattle.sot_tube.specs.Calls.{MayFollow}
 use Rattle.sot_tube.specs.WellFormed.{IsWellFormed}
 use Rattle.sot_tube.specs.Admitted.{Admitted}
 use Rattle.sot_tube.proofs.Certificate.{certified_well}
-use Rattle.sot_world.specs.declared.role.Role.{Role}
-use Rattle.sot_world.specs.declared.role.Role.TheVariants.{Free, Advanced, Safe}
-use Rattle.sot_world.specs.Configurations.{Configuration, Mode, Ac, Sc, is_left, is_left_dm, mode_of, locals_of, point_of}
-use Rattle.sot_world.specs.Steps.{Event, Step, Decides, Inputs, Fires, CodeFires, GuestFires, Ticks, is_enabled, published, write_at}
-use Rattle.sot_world.specs.Calendar.{NothingLeft}
-use Rattle.sot_world.specs.Events.{cut, IsTypedInput, IsInBounds, noise_count, slot_count}
-use Rattle.sot_world.specs.Roles.{IsRole, AreRoles}
+use Rattle.sot_world.specs.Configurations.{Configuration, Mode, Sc, is_left_dm, mode_of, point_of}
+use Rattle.sot_world.specs.Steps.{Event, Step, Decides, Inputs, write_at}
+use Rattle.sot_world.specs.Events.{IsTypedInput}
 use Rattle.sot_world.specs.State.{State, IsKept}
-use Rattle.sot_world.specs.Invariant.{KeepsInvariant}
-use Rattle.sot_world.specs.Changes.{IsNextMode, is_ac, role_enables, IsOfModule, IsThere, AreThere, Runs, MayMove, IsMoved, ArePoints}
-use Rattle.sot_world.proofs.Safety.{in_safe, code_runs, tick_runs}
+use Rattle.sot_world.specs.Changes.{IsNextMode, ArePoints}
+use Rattle.sot_world.proofs.Safety.{in_safe}
 use Rattle.sot_world.proofs.Induction.{step_holds}
-use Rattle.sot_world.proofs.Calendar.{tick_settled}
 use Rattle.sot_world.proofs.Starting.{width_at}
-use Rattle.sot_world.proofs.Enables.{allowed_true, allowed_false, allows_ac, allows_sc, allows_not}
-use Rattle.sot_world.proofs.Modes.{same_module}
-use Rattle.sot_world.proofs.Possible.{bounds_cut, cut_length}
 
 region_width : (boxes : List (List Side)) (w : ℕ) (s : List ℤ) → ((i : ℕ) (b : List Side) → At boxes i b → length b ≡ w) → IsInRegion boxes s → length s ≡ w
 region_width [] w s each here = absurd here

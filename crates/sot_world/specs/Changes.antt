@@ -11,13 +11,13 @@ use Rattle.sot_lang.specs.Tables.{Tables}
 use Rattle.sot_lang.specs.TableRules.{IsCoded}
 use Rattle.sot_lang.specs.Ranges.{local_ranges, write_ranges}
 use Rattle.sot_lang.specs.Bodies as bodies
-use Rattle.sot_lang.specs.Readings.{number_at, reading}
+use Rattle.sot_lang.specs.Readings.{reading}
 use Rattle.sot_lang.specs.Ticks.{next_state, joined}
 use Rattle.sot_box.specs.Lists.{At}
 use Rattle.sot_box.specs.Regions.{IsInRegion}
 use Rattle.sot_tube.specs.Tubes.{Keeps}
 use Rattle.sot_code.specs.declared.fired.Fired.{Fired}
-use Rattle.sot_code.specs.Recorded.{in_slots, MayRun, MayTickPlant}
+use Rattle.sot_code.specs.Recorded.{in_slots}
 use Rattle.sot_world.specs.declared.role.Role.{Role}
 use Rattle.sot_world.specs.declared.role.Role.TheVariants.{Free, Advanced, Safe}
 use Rattle.sot_world.specs.Configurations.{Mode, Ac, Sc}

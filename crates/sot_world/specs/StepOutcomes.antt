@@ -1,5 +1,5 @@
 -- What `World::step` asks of an event beside its being possible, and what it answers.
-use Rattle.std.specs.Prelude.{ℕ, ◌<◌, ◌≡◌}
+use Rattle.std.specs.Prelude.{◌<◌, ◌≡◌}
 use Rattle.sot_lang.specs.Tables.{Tables}
 use Rattle.sot_world.specs.declared.event.Event.{Event}
 use Rattle.sot_world.specs.declared.event.Event.TheVariants.{Input, Code, Guest, Decide, Tick}

@@ -36,13 +36,7 @@ pub fn enables(role: Role, modes: &[Mode]) -> bool
 }
 
 /// What a coded node's body gives on the present numbers.
-pub fn run(
-    p: &Typed,
-    node: u32,
-    scalars: &[i64],
-    points: &[Point],
-    locals: &Locals,
-) -> Fired
+pub fn run(p: &Typed, node: u32, scalars: &[i64], points: &[Point], locals: &Locals) -> Fired
     requires { Runs p.now node scalars.now points.now locals.now }
     ensures { IsRun p.now node scalars.now points.now locals.now result }
 {

@@ -92,7 +92,13 @@ impl<'a> World<'a> {
         ensures outcome { (r : Recorded) × RecordsCode self.old.accepted.program node self.old.at r × (result ≡ outcome_of r) }
     {
         let p = self.accepted.typed();
-        let fired = run(p, node, &self.scalars, &self.points, &self.locals[node as usize]);
+        let fired = run(
+            p,
+            node,
+            &self.scalars,
+            &self.points,
+            &self.locals[node as usize],
+        );
         let enabled = enables(self.roles[node as usize], &self.modes);
         let writes = &p.nodes[node as usize].writes;
         publish_if(enabled, p, writes, &fired.draft, &mut self.scalars);

@@ -1,4 +1,4 @@
-use Rattle.std.proofs.Common.{slice_index_or, ◌≡◌, ℕ, length, drop, sym, ap, ◌∙◌, rules}
+use Rattle.std.proofs.Common.{slice_index_or, drop, sym, ap, ◌∙◌, rules}
 use Rattle.std.proofs.lemmas.Option.{slice_get-get_or}
 use Rattle.sot_lang.specs.Ranges.{range_of}
 use Rattle.sot_world.specs.Steps.{publish}

@@ -1,9 +1,9 @@
-use Rattle.std.proofs.Common.{◌≡◌, length, map, refl, sym, ap, ◌∙◌, Ok, Err}
+use Rattle.std.proofs.Common.{◌≡◌, length, map, sym, ap, ◌∙◌}
 use Rattle.std.proofs.lemmas.List.{length-map}
 use Rattle.std.proofs.lemmas.Option.{slice_get_within}
 use Rattle.sot_lang.specs.Ranges.{local_ranges, write_ranges}
 use Rattle.sot_lang.specs.Bodies as bodies
-use Rattle.sot_lang.specs.Readings.{number_at, reading}
+use Rattle.sot_lang.specs.Readings.{number_at}
 use Rattle.sot_lang.proofs.Lists.{at_same}
 use Rattle.sot_code.specs.declared.fired.Fired.{Fired}
 use Rattle.sot_code.specs.Recorded.{recorded, in_slots}

@@ -1,7 +1,6 @@
-use Rattle.std.proofs.Common.{◌≡◌, ◌<◌, ◌+◌, ◌-◌, ℕ, ℤ, List, [], length, drop, take, slice_index_or, sym, ap, ◌∙◌, subst, arith, length-drop}
+use Rattle.std.proofs.Common.{◌≡◌, ◌<◌, ◌+◌, [], length, drop, take, slice_index_or, sym, ap, ◌∙◌, subst, arith, length-drop}
 use Rattle.std.proofs.lemmas.List.{length-set}
-use Rattle.std.proofs.lemmas.Option.{slice_get_within}
-use Rattle.sot_world.specs.Events.{cut, noise_count}
+use Rattle.sot_world.specs.Events.{cut}
 use Rattle.sot_world.specs.Changes.{MayMove, IsMoved}
 use Rattle.sot_world.proofs.Reading.{read_at}
 use Rattle.sot_world.proofs.Places.{noise_from}

@@ -1,9 +1,9 @@
-use Rattle.std.proofs.Common.{◌≡◌, ◌<◌, [], length, map, take, pos, slice_index_or, Ok, sym, ap, ◌∙◌, arith}
+use Rattle.std.proofs.Common.{◌<◌, [], length, map, take, pos, slice_index_or, sym, ap, ◌∙◌, arith}
 use Rattle.std.proofs.lemmas.List.{length-map}
 use Rattle.std.proofs.lemmas.Option.{slice_get_within}
 use Rattle.sot_lang.specs.Ticks.{next_state, joined}
 use Rattle.sot_lang.proofs.Lists.{at_same}
-use Rattle.sot_world.specs.Changes.{held_of, seen_of}
+use Rattle.sot_world.specs.Changes.{held_of}
 use Rattle.sot_world.proofs.Reading.{read_at}
 use Rattle.sot_world.proofs.Starting.{read_list}
 use Rattle.sot_world.proofs.Parts.{seen_length}

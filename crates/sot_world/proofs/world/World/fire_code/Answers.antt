@@ -1,5 +1,5 @@
-use Rattle.std.proofs.Common.{◌≡◌, ◌<◌, ◌≤◌, ℕ, List, [], true, length, refl, sym, ap, ◌∙◌, subst, arith}
-use Rattle.std.specs.Prelude.{slice_set, None}
+use Rattle.std.proofs.Common.{◌≡◌, ◌<◌, ◌≤◌, List, [], true, length, refl, sym, ap, ◌∙◌, subst, arith}
+use Rattle.std.specs.Prelude.{slice_set}
 use Rattle.std.specs.Vec.{with_items}
 use Rattle.std.proofs.lemmas.List.{with_items_is}
 use Rattle.std.proofs.lemmas.Option.{slice_get_within}
@@ -9,16 +9,16 @@ use Rattle.sot_lang.specs.declared.tables.NodeInfo.{NodeInfo}
 use Rattle.sot_lang.specs.TableRules.{IsCoded}
 use Rattle.sot_lang.proofs.Lists.{at_same}
 use Rattle.sot_world.specs.Configurations.{is_left}
-use Rattle.sot_world.specs.Steps.{Code, Guest}
+use Rattle.sot_world.specs.Steps.{Code}
 use Rattle.sot_world.specs.declared.outcome.Outcome.TheVariants as outcome
-use Rattle.sot_world.specs.Outcomes.{Recorded, RecordsCode, NodeFired}
-use Rattle.sot_world.specs.Events.{outcome_of, slot_count}
+use Rattle.sot_world.specs.Outcomes.{Recorded, RecordsCode}
+use Rattle.sot_world.specs.Events.{outcome_of}
 use Rattle.sot_world.specs.Changes.{role_enables, IsOfModule}
 use Rattle.sot_world.specs.WorldView.{configuration}
 use Rattle.sot_world.proofs.Reading.{read_at, read_or}
 use Rattle.sot_world.proofs.Safety.{code_runs}
 use Rattle.sot_world.proofs.RoleModes.{role_enabled, role_inside}
-use Rattle.sot_world.proofs.FiringSteps.{may_run, code_so, guest_so, code_recorded, guest_recorded, runs_along, run_along, published_along, guest_along}
+use Rattle.sot_world.proofs.FiringSteps.{may_run, code_so, code_recorded, runs_along, run_along, published_along}
 use Rattle.sot_world.proofs.Stepping.{well_formed, step_kept, step_along}
 use Rattle.sot_world.proofs.world.World.fire_code.Goals as goal
 

@@ -1,25 +1,22 @@
-use Rattle.std.proofs.Common.{◌≡◌, ◌<◌, ◌≤◌, ℕ, List, [], true, length, take, refl, sym, ap, ◌∙◌, subst, arith}
-use Rattle.std.specs.Prelude.{slice_set, None}
+use Rattle.std.proofs.Common.{◌≡◌, ◌<◌, ◌≤◌, true, length, take, refl, sym, ap, ◌∙◌, subst, arith}
+use Rattle.std.specs.Prelude.{None}
 use Rattle.std.specs.Vec.{with_items}
 use Rattle.std.proofs.lemmas.List.{with_items_is}
 use Rattle.std.proofs.lemmas.Option.{slice_get_within}
 use Rattle.sot_box.specs.Lists.{At}
-use Rattle.sot_lang.specs.declared.act.Act.{Act}
 use Rattle.sot_lang.specs.declared.tables.NodeInfo.{NodeInfo}
-use Rattle.sot_lang.specs.TableRules.{IsCoded}
 use Rattle.sot_lang.proofs.Lists.{at_same}
 use Rattle.sot_world.specs.Configurations.{is_left}
-use Rattle.sot_world.specs.Steps.{Guest, GuestFires, is_enabled}
+use Rattle.sot_world.specs.Steps.{Guest, is_enabled}
 use Rattle.sot_world.specs.declared.outcome.Outcome.TheVariants as outcome
-use Rattle.sot_world.specs.Outcomes.{Recorded, RecordsCode, NodeFired}
+use Rattle.sot_world.specs.Outcomes.{NodeFired}
 use Rattle.sot_world.specs.Events.{outcome_of, slot_count}
 use Rattle.sot_world.specs.Changes.{role_enables, IsOfModule}
 use Rattle.sot_world.specs.WorldView.{configuration}
-use Rattle.sot_world.proofs.Reading.{read_at, read_or}
-use Rattle.sot_world.proofs.Safety.{code_runs}
+use Rattle.sot_world.proofs.Reading.{read_at}
 use Rattle.sot_world.proofs.RoleModes.{role_enabled, role_inside}
-use Rattle.sot_world.proofs.FiringSteps.{may_run, code_so, guest_so, code_recorded, guest_recorded, runs_along, run_along, published_along, guest_along}
-use Rattle.sot_world.proofs.Stepping.{well_formed, step_kept, step_along}
+use Rattle.sot_world.proofs.FiringSteps.{guest_so, guest_recorded, published_along, guest_along}
+use Rattle.sot_world.proofs.Stepping.{well_formed, step_kept}
 use Rattle.sot_world.proofs.world.World.fire_guest.Goals as goal
 
 pub enables-enabled-requires : goal.enables-enabled-requires

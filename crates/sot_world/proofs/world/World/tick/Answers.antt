@@ -1,17 +1,15 @@
 use Rattle.std.specs.Vec.{with_items}
 use Rattle.std.proofs.lemmas.List.{with_items_is}
-use Rattle.std.proofs.Common.{◌+◌, suc, ◌≡◌, ◌<◌, ◌≤◌, ℕ, ℤ, List, [], length, slice_index_or, refl, sym, ap, ◌∙◌, subst, arith}
+use Rattle.std.proofs.Common.{◌+◌, suc, ◌≡◌, ◌<◌, ℕ, ℤ, List, [], length, slice_index_or, sym, ap, ◌∙◌, subst, arith}
 use Rattle.sot_box.specs.Lists.{At}
 use Rattle.sot_lang.specs.declared.tables.PlantInfo.{PlantInfo}
-use Rattle.sot_lang.specs.declared.tables.NodeInfo.{NodeInfo}
-use Rattle.sot_lang.specs.declared.tables.ModuleInfo.{ModuleInfo}
 use Rattle.sot_lang.specs.Tables.{Tables}
 use Rattle.sot_world.specs.Steps.{Tick}
 use Rattle.sot_world.specs.Events.{cut, IsInBounds}
 use Rattle.sot_world.specs.Calendar.{NothingLeft}
 use Rattle.sot_world.specs.Changes.{ArePoints, MayMove}
 use Rattle.sot_world.specs.WorldView.{configuration}
-use Rattle.sot_world.proofs.Stepping.{are_points, step_kept, step_along}
+use Rattle.sot_world.proofs.Stepping.{are_points, step_kept}
 use Rattle.sot_world.proofs.TickSteps.{may_move, ticks_so, nodes_due_along, decisions_due_along, moved_along, ticks_along}
 use Rattle.sot_world.proofs.world.World.tick.Goals as goal
 
