@@ -3,7 +3,7 @@ use sot_lang::Draft;
 /// What happens in an instant of a run. Topics, nodes and modules are named by their places in declared order.
 #[derive(Clone, Copy)]
 pub enum Event<'e> {
-    /// A value comes on an environment topic, with one number for each of the topic's scalars.
+    /// A value comes on an environment topic, with one number for each of the topic's scalars, a mantissa at its scale.
     Input { topic: u32, value: &'e [i64] },
     /// A coded node fires, with what its body gives.
     Code { node: u32 },

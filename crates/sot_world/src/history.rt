@@ -7,20 +7,23 @@ use sot_lang::Draft;
 use std::alloc::{AllocError, Global};
 use std::marker::Model;
 
-/// An event of a run as it is recorded, with its time and its outcome.
+/// An event of a run as it is recorded, with its time in ticks and its outcome.
 #[derive(Clone, Copy)]
 pub enum Entry<'h> {
+    /// The numbers of a value that came on a topic.
     Input {
         time: u32,
         topic: u32,
         value: &'h [i64],
     },
+    /// The draft of a node, and whether it was enabled.
     Fire {
         time: u32,
         node: u32,
         draft: Draft,
         enabled: bool,
     },
+    /// The mode of a module after its decision.
     Decide {
         time: u32,
         module: u32,

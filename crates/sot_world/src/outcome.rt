@@ -4,11 +4,13 @@ use sot_lang::Draft;
 /// What is recorded of a step.
 #[derive(Clone, Copy, Debug, PartialEq, Eq)]
 pub enum Outcome {
+    /// A value came.
     Input,
     /// The draft, with nothing in the slots past the node's scalars, and whether the node is enabled. Numbers outside their scalar's range are in it too.
     Fired { draft: Draft, enabled: bool },
     /// The mode after the decision.
     Decided { mode: Mode },
+    /// All plants moved.
     Ticked,
 }
 

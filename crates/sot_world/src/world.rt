@@ -39,6 +39,7 @@ pub struct World<'a> {
     scalars: Vec<i64>,
     locals: Vec<Locals>,
     points: Vec<Point>,
+    // Room for the points after a tick.
     next: Vec<Point>,
 }
 
@@ -60,7 +61,10 @@ impl<'a> Model for World<'a> {
 }
 
 impl<'a> World<'a> {
-    /// The opening of a program at these points: time 0, all that is due left to fire, every module in mode Sc.
+    /// The opening of a program at these points, one for each plant with a coordinate for each of its state variables: time 0,
+    /// all that is due left to fire, every module in mode Sc. It takes all memory that the world will ever need.
+    ///
+    /// `NotSafer` names the first module whose plant starts outside the module's safer region; `Memory` says that there is none.
     pub fn open(
         alloc: Global,
         acc: &'a Accepted<'a>,
@@ -116,7 +120,7 @@ impl<'a> World<'a> {
         })
     }
 
-    /// The count of ticks so far.
+    /// The count of ticks so far, at most 100,000.
     pub fn time(&self) -> u32
         ensures value { result ≡ self.now.at.time }
         ensures horizon { result ≤ 100000 }
@@ -124,6 +128,7 @@ impl<'a> World<'a> {
         self.time
     }
 
+    /// Which of a module's nodes is enabled now.
     pub fn mode(&self, module: u32) -> Mode
         requires { «module» < length self.now.accepted.program.modules }
         ensures { result ≡ mode_of self.now.at «module» }
@@ -131,7 +136,7 @@ impl<'a> World<'a> {
         self.modes[module as usize]
     }
 
-    /// The point of a plant.
+    /// The point of a plant, with a coordinate for each of its state variables, in mantissas at their scales.
     pub fn state(&self, plant: u32) -> Point
         requires { plant < length self.now.accepted.program.plants }
         ensures { result ≡ point_of self.now.at plant }
@@ -139,6 +144,7 @@ impl<'a> World<'a> {
         self.points[plant as usize]
     }
 
+    /// The present number of a scalar, a mantissa at its scale.
     pub fn scalar(&self, scalar: u32) -> i64
         requires { scalar < length self.now.accepted.program.scalars }
         ensures { result ≡ number_of self.now.at scalar }
@@ -170,7 +176,8 @@ impl<'a> World<'a> {
         self.left_dm[module as usize]
     }
 
-    /// Whether an event can happen now, and else why not. Of a tick's two causes, what is left comes first.
+    /// Whether an event can happen now, and else why not. Of a tick's two causes, what is left comes first. The event names what
+    /// is there and of the right sort, and its lists have the lengths of what they are for.
     pub fn can(&self, e: &Event<'_>) -> Result<(), Why>
         requires { Names self.now.accepted.program e.now }
         ensures { MatchResult result
