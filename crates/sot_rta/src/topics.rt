@@ -1,0 +1,89 @@
+//! Which topics some scalars are of.
+
+ghost use Rattle.std.specs.Prelude.{ℕ, ◌<◌, ◌≡◌, length, true, false, IsTrue, ◌↔◌, MatchOption};
+ghost use Rattle.sot_lang.specs.Places.{Has};
+ghost use Rattle.sot_rta.specs.Topics.{AreSomeOf, IsOfOneAlone, IsMissing, AreAlike, GoesOver};
+
+use sot_lang::ScalarInfo;
+
+/// Whether some of these scalars is of a topic.
+pub fn are_some_of(infos: &[ScalarInfo], scalars: &[u32], topic: u32) -> bool
+    requires { (k : ℕ) → Has scalars.now k → k < length infos.now }
+    ensures { IsTrue result ↔ AreSomeOf infos.now scalars.now topic }
+{
+    for i in 0..scalars.len() {
+        let scalar = scalars[i] as usize;
+        if infos[scalar].topic == topic {
+            return true;
+        }
+    }
+    false
+}
+
+// Whether a topic is one of one of the two lists alone.
+#[tactic(auto, using(crate::proofs::Steps::differ, crate::proofs::Steps::agree))]
+fn is_of_one_alone(infos: &[ScalarInfo], some: &[u32], others: &[u32], topic: u32) -> bool
+    requires one { (k : ℕ) → Has some.now k → k < length infos.now }
+    requires other { (k : ℕ) → Has others.now k → k < length infos.now }
+    ensures alone { result ≡ true → IsOfOneAlone infos.now some.now others.now topic }
+    ensures alike { result ≡ false → AreAlike infos.now some.now others.now topic }
+{
+    let one = are_some_of(infos, some, topic);
+    let other = are_some_of(infos, others, topic);
+    one != other
+}
+
+// Whether a topic is one of `some` and none of `others`.
+#[tactic(auto, using(crate::proofs::Steps::missing, crate::proofs::Steps::over))]
+fn is_missing(infos: &[ScalarInfo], some: &[u32], others: &[u32], topic: u32) -> bool
+    requires one { (k : ℕ) → Has some.now k → k < length infos.now }
+    requires other { (k : ℕ) → Has others.now k → k < length infos.now }
+    ensures missing { result ≡ true → IsMissing infos.now some.now others.now topic }
+    ensures over { result ≡ false → GoesOver infos.now some.now others.now topic }
+{
+    let one = are_some_of(infos, some, topic);
+    let other = are_some_of(infos, others, topic);
+    one && !other
+}
+
+/// The first of so many topics that is a topic of one of the two lists of scalars alone.
+pub fn first_of_one_alone(
+    infos: &[ScalarInfo],
+    topics: u32,
+    some: &[u32],
+    others: &[u32],
+) -> Option<u32>
+    requires one { (k : ℕ) → Has some.now k → k < length infos.now }
+    requires other { (k : ℕ) → Has others.now k → k < length infos.now }
+    ensures { MatchOption result
+        ((t : ℕ) → t < topics → AreAlike infos.now some.now others.now t)
+        (λ t. IsOfOneAlone infos.now some.now others.now t × ((u : ℕ) → u < t → AreAlike infos.now some.now others.now u)) }
+{
+    for topic in 0..topics {
+        if is_of_one_alone(infos, some, others, topic) {
+            return Some(topic);
+        }
+    }
+    None
+}
+
+/// The first of so many topics that is a topic of `some` and none of `others`.
+pub fn first_missing(
+    infos: &[ScalarInfo],
+    topics: u32,
+    some: &[u32],
+    others: &[u32],
+) -> Option<u32>
+    requires one { (k : ℕ) → Has some.now k → k < length infos.now }
+    requires other { (k : ℕ) → Has others.now k → k < length infos.now }
+    ensures { MatchOption result
+        ((t : ℕ) → t < topics → GoesOver infos.now some.now others.now t)
+        (λ t. IsMissing infos.now some.now others.now t × ((u : ℕ) → u < t → GoesOver infos.now some.now others.now u)) }
+{
+    for topic in 0..topics {
+        if is_missing(infos, some, others, topic) {
+            return Some(topic);
+        }
+    }
+    None
+}
