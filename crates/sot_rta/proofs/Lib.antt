@@ -1,2 +1,4 @@
 pub mod Steps
 pub mod Found
+pub mod Loops
+pub mod Inputs

@@ -21,6 +21,13 @@ one_more P i before here t lt = elim (below_next t i lt) [
 pub all_below : (P : ℕ → Type 0) (i n : ℕ) → n ≤ i → ((t : ℕ) → t < i → P t) → (t : ℕ) → t < n → P t
 all_below P i n le before t lt = before t (omega (arith, le, lt))
 
+-- what holds below a number and from it on
+pub below_or_not : (P : ℕ → Type 0) (i : ℕ) → ((t : ℕ) → t < i → P t) → ((t : ℕ) → i ≤ t → P t) → (t : ℕ) → P t
+below_or_not P i less more t = elim (cases_Bool (nat_lt t i)) [
+      | inl yes_ ↦ less t (grind (arith, nat_tests))
+      | inr no_ ↦ more t (grind (arith, nat_tests))
+    ]
+
 -- a test that answers exactly
 pub holds : (b : Bool) (P : Type 0) → (IsTrue b ↔ P) → b ≡ true → P
 holds b P iff e = iff.0 (subst IsTrue (sym e) refl)

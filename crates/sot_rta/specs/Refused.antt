@@ -1,5 +1,6 @@
 -- A checker's answer, seen as a check.
-use Rattle.std.specs.Prelude.{Result, Ok, Err, MatchResult}
+use Rattle.std.specs.Prelude.{ℕ, ◌<◌, List, Result, Ok, Err, MatchResult}
+use Rattle.sot_box.specs.Lists.{At}
 use Rattle.sot_rta.specs.declared.refusal.Refusal.{Refusal as CodeRefusal}
 use Rattle.sot_rta.specs.declared.refusal.Refusal.TheVariants as codes
 use Rattle.sot_tube.specs.Refusals.{Refusal, Periods, Outputs, EmptyRegion, ClosedGap, ClosedTrap, ClosedLeaves, ReachGap, ReachLeaves, ReachTrap, SharedNode, SharedOutput, SharedPlant, ForeignInput, CodeMayTrap, NoCells}
@@ -25,3 +26,7 @@ refusal_view (codes.NoCells m) = NoCells m
 -- Ok exactly where the check passes, and else its refusal
 abbrev pub Answers : Check → Result (Unit {0}) CodeRefusal → Type 0
 Answers check result = MatchResult result (λ _. check.Passes) (λ r. check.Refuses (refusal_view r))
+
+-- each entry before place n passes
+abbrev pub PassBefore : {A : Type 0} → List A → (ℕ → A → Check) → ℕ → Type 0
+PassBefore {A} xs check n = (i : ℕ) (x : A) → i < n → At xs i x → (check i x).Passes

@@ -7,4 +7,6 @@ mod shape;
 mod topics;
 
 pub use refusal::Refusal;
+pub use places::{module_at, node_at, plant_at};
 pub use shape::check_shape;
+pub use topics::{are_some_of, first_missing};
