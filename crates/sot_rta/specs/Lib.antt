@@ -1,2 +1,4 @@
 pub mod Topics
 pub mod Refused
+pub mod Drafts
+pub mod Cells

@@ -45,7 +45,8 @@ readings_length p (s ∷ ss) (r ∷ rs) are = ap suc (readings_length p ss rs ar
 readings_length p [] (r ∷ rs) are = absurd are
 readings_length p (s ∷ ss) [] are = absurd are
 
-reading_is : (p : Tables) (hulls : List (List Side)) → AllHulls p hulls → (s : Slot) (r : Side) → ((k v : ℕ) → s ≡ State k v → (plant : PlantInfo) × At p.plants k plant) → IsReading p s r → r ≡ interval_at p hulls s
+-- one of them
+pub reading_is : (p : Tables) (hulls : List (List Side)) → AllHulls p hulls → (s : Slot) (r : Side) → ((k v : ℕ) → s ≡ State k v → (plant : PlantInfo) × At p.plants k plant) → IsReading p s r → r ≡ interval_at p hulls s
 reading_is p hulls all (Scalar k) r exists is = is
 reading_is p hulls all (State k v) r exists is =
     let plant = exists k v refl in

@@ -34,8 +34,8 @@ fn state_side(p: &Typed, plant: u32, var: u32) -> Interval
     hull.side(var as usize)
 }
 
-// The interval of what a slot shows.
-fn slot_side(p: &Typed, slot: Slot) -> Interval
+/// The interval of what a slot shows: a topic's scalar anywhere in its range, a plant anywhere in the hull of its safe region.
+pub fn slot_side(p: &Typed, slot: Slot) -> Interval
     requires { CanBeRead p.now slot }
     ensures { IsReading p.now slot result }
 {
@@ -60,7 +60,7 @@ pub(crate) fn readings(p: &Typed, slots: &[Slot]) -> Ranges
 }
 
 /// The declared ranges of locals, behind the other intervals.
-pub(crate) fn put_locals(locals: &[LocalInfo], sides: &mut Ranges)
+pub fn put_locals(locals: &[LocalInfo], sides: &mut Ranges)
     requires room { length sides.old + length locals.now ≤ 80 }
     requires ordered { (i : ℕ) (l : Local) → At locals.now i l → l.lo ≤ℤ l.hi }
     ensures { sides.new ≡ sides.old ++ map (λ l. record { lo = l.lo; hi = l.hi }) locals.now }

@@ -1,0 +1,63 @@
+-- What has to hold before the cells of modules are checked.
+use Rattle.std.specs.Prelude.{ℕ, ◌+◌, List, Result, MatchResult}
+use Rattle.sot_box.specs.Sides.{Side}
+use Rattle.sot_lang.specs.declared.tables.PlantInfo.{PlantInfo}
+use Rattle.sot_lang.specs.declared.tables.ModuleInfo.{ModuleInfo}
+use Rattle.sot_iv.specs.BodyIntervals.{Intervals}
+use Rattle.sot_tube.specs.Certified.{DraftsFrom, command_intervals}
+use Rattle.sot_tube.specs.Tubes.{TubeInside}
+use Rattle.sot_tube.specs.declared.leave.Leave.{Leave}
+use Rattle.sot_tube.specs.Leaves.{TubeLeaves}
+use Rattle.sot_tube.specs.Checks.{for_each}
+use Rattle.sot_tube.specs.Verdict.{closed_cell, reach_cell, cell_checks}
+use Rattle.sot_rta.specs.declared.refusal.Refusal.{Refusal}
+use Rattle.sot_rta.specs.Refused.{Answers}
+use Rattle.sot_lang.specs.declared.act.Act.{Act}
+use Rattle.sot_lang.specs.declared.tables.NodeInfo.{NodeInfo}
+use Rattle.sot_lang.specs.declared.cert.Cells.{Cells}
+use Rattle.sot_lang.specs.Tables.{Tables}
+use Rattle.sot_lang.specs.TableRules.{IsCoded}
+use Rattle.sot_box.specs.Lists.{At}
+use Rattle.sot_iv.specs.TrapFree.{IsTrapFree}
+use Rattle.sot_tube.specs.Composition.{NoSharedPlant}
+use Rattle.sot_traps.specs.Verdict.{HaveSafeBoxes}
+
+-- no plant belongs to two modules, each safe region has a box, and each coded node is trap-free
+pub record MayHaveCells (p : Tables) : Type 0 where
+  pub own_plant : NoSharedPlant p
+  pub boxes : HaveSafeBoxes p
+  pub free : (n : ℕ) (node : NodeInfo) (acts : List Act) → At p.nodes n node → IsCoded node acts → IsTrapFree p node acts
+
+-- whether the held tube of a cell is inside the safe region, with what the safe node surely drafts from the cell, and else how it leaves
+abbrev pub AnswersHeldTube : Tables → ModuleInfo → List Side → Result (Unit {0}) Leave → Type 0
+AnswersHeldTube p a cell result =
+    (plant : PlantInfo) (sc : NodeInfo) (acts : List Act) → At p.plants a.plant plant → At p.nodes a.sc sc → IsCoded sc acts
+    → (fired : Intervals) × DraftsFrom p a sc acts cell fired
+    × MatchResult result
+      (λ _. TubeInside p plant (command_intervals p plant sc fired.draft) a.safe.boxes cell (sc.period + 0))
+      (λ leave. TubeLeaves p plant (command_intervals p plant sc fired.draft) a.safe.boxes cell (sc.period + 0) leave)
+
+-- the answer of a closed cell
+abbrev pub AnswersClosedCell : Tables → ℕ → ModuleInfo → ℕ → List Side → Result (Unit {0}) Refusal → Type 0
+AnswersClosedCell p m a i cell result =
+    (plant : PlantInfo) (sc : NodeInfo) (acts : List Act) → At p.plants a.plant plant → At p.nodes a.sc sc → IsCoded sc acts
+    → Answers (closed_cell p 0 m a plant sc acts i cell) result
+
+-- of a reach cell
+abbrev pub AnswersReachCell : Tables → ℕ → ModuleInfo → ℕ → List Side → Result (Unit {0}) Refusal → Type 0
+AnswersReachCell p m a i cell result = (plant : PlantInfo) → At p.plants a.plant plant → Answers (reach_cell p 0 m a plant i cell) result
+
+-- of all closed cells, and of all reach cells
+abbrev pub AnswersClosedCells : Tables → ℕ → ModuleInfo → List (List Side) → Result (Unit {0}) Refusal → Type 0
+AnswersClosedCells p m a cells result =
+    (plant : PlantInfo) (sc : NodeInfo) (acts : List Act) → At p.plants a.plant plant → At p.nodes a.sc sc → IsCoded sc acts
+    → Answers (for_each cells (closed_cell p 0 m a plant sc acts)) result
+
+abbrev pub AnswersReachCells : Tables → ℕ → ModuleInfo → List (List Side) → Result (Unit {0}) Refusal → Type 0
+AnswersReachCells p m a cells result = (plant : PlantInfo) → At p.plants a.plant plant → Answers (for_each cells (reach_cell p 0 m a plant)) result
+
+-- of the whole
+abbrev pub AnswersCells : Tables → ℕ → ModuleInfo → Cells → Result (Unit {0}) Refusal → Type 0
+AnswersCells p m a cells result =
+    (plant : PlantInfo) (sc : NodeInfo) (acts : List Act) → At p.plants a.plant plant → At p.nodes a.sc sc → IsCoded sc acts
+    → Answers (cell_checks p 0 m a plant sc acts cells) result

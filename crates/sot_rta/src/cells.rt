@@ -1,0 +1,207 @@
+//! The cells of a module.
+
+ghost use Rattle.std.specs.Prelude.{◌≡◌, ◌<◌, length};
+ghost use Rattle.sot_box.specs.Lists.{At};
+ghost use Rattle.sot_box.specs.Sides.{AreOrdered};
+ghost use Rattle.sot_lang.specs.declared.tables.ModuleInfo.{ModuleInfo as Info};
+ghost use Rattle.sot_lang.specs.CertRules.{FitsTables, AreCellsOf};
+ghost use Rattle.sot_lang.specs.OwnerNames.{width_of};
+ghost use Rattle.sot_lang.specs.TableRules.{MeetsTableRules};
+ghost use Rattle.sot_box.specs.Regions.{Covers};
+ghost use Rattle.sot_tube.specs.Verdict.{closed_refusal, reach_refusal, cells_of};
+ghost use Rattle.sot_rta.specs.Cells.{MayHaveCells, AnswersHeldTube, AnswersClosedCell, AnswersReachCell, AnswersClosedCells, AnswersReachCells, AnswersCells};
+ghost use Rattle.sot_rta.specs.Refused.{Answers, refusal_view};
+
+use crate::commands::commands;
+use crate::draft::cell_draft;
+use crate::places::{module_at, node_at, plant_at};
+use crate::refusal::Refusal;
+use sot_box::{BoxN, Region, uncovered};
+use sot_lang::{Cells, Cert, ModuleInfo, Typed};
+use sot_tube::{Leave, any_inside, held_inside};
+
+// The refusal of a closed cell whose tube leaves.
+fn closed_refusal(module: u32, cell: u32, leave: Leave) -> Refusal
+    ensures { refusal_view result ≡ closed_refusal «module» cell leave }
+{
+    match leave {
+        Leave::Out { tick, area, point } => Refusal::ClosedLeaves {
+            module,
+            cell,
+            tick,
+            area,
+            point,
+        },
+        Leave::Trap { tick, at } => Refusal::ClosedTrap {
+            module,
+            cell,
+            tick,
+            at,
+        },
+    }
+}
+
+// The refusal of a reach cell whose tube leaves.
+fn reach_refusal(module: u32, cell: u32, leave: Leave) -> Refusal
+    ensures { refusal_view result ≡ reach_refusal «module» cell leave }
+{
+    match leave {
+        Leave::Out { tick, area, point } => Refusal::ReachLeaves {
+            module,
+            cell,
+            tick,
+            area,
+            point,
+        },
+        Leave::Trap { tick, at } => Refusal::ReachTrap {
+            module,
+            cell,
+            tick,
+            at,
+        },
+    }
+}
+
+// The held tube of a cell that the safe region covers.
+fn held_tube(p: &Typed, module: u32, info: &ModuleInfo, cell: &BoxN) -> Result<(), Leave>
+    requires is { At p.now.modules «module» info.now }
+    requires rules { MeetsTableRules p.now }
+    requires may { MayHaveCells p.now }
+    requires width { length cell.now ≡ width_of p.now.plants info.now.plant }
+    requires ordered { AreOrdered cell.now }
+    requires covered { Covers info.now.safe.boxes cell.now }
+    ensures { AnswersHeldTube p.now info.now cell.now result }
+{
+    let plant = plant_at(p, info.plant);
+    let sc = node_at(p, info.sc);
+    let draft = cell_draft(p, info, sc, cell).unwrap();
+    let held = commands(p, &plant.inputs, &sc.writes, &draft);
+    held_inside(p, module, cell, held.as_slice(), sc.period)
+}
+
+fn closed_cell(
+    p: &Typed,
+    module: u32,
+    info: &ModuleInfo,
+    i: u32,
+    cell: &BoxN,
+) -> Result<(), Refusal>
+    requires is { At p.now.modules «module» info.now }
+    requires rules { MeetsTableRules p.now }
+    requires may { MayHaveCells p.now }
+    requires width { length cell.now ≡ width_of p.now.plants info.now.plant }
+    requires ordered { AreOrdered cell.now }
+    ensures { AnswersClosedCell p.now «module» info.now i cell.now result }
+{
+    if let Some(point) = info.safe.gap(cell) {
+        return Err(Refusal::ClosedLeaves {
+            module,
+            cell: i,
+            tick: 0,
+            area: *cell,
+            point,
+        });
+    }
+    match held_tube(p, module, info, cell) {
+        Ok(()) => Ok(()),
+        Err(leave) => Err(closed_refusal(module, i, leave)),
+    }
+}
+
+fn reach_cell(
+    p: &Typed,
+    module: u32,
+    info: &ModuleInfo,
+    i: u32,
+    cell: &BoxN,
+) -> Result<(), Refusal>
+    requires is { At p.now.modules «module» info.now }
+    requires rules { MeetsTableRules p.now }
+    requires may { MayHaveCells p.now }
+    requires width { length cell.now ≡ width_of p.now.plants info.now.plant }
+    ensures { AnswersReachCell p.now «module» info.now i cell.now result }
+{
+    match any_inside(p, module, cell, 2 * info.period) {
+        Ok(()) => Ok(()),
+        Err(leave) => Err(reach_refusal(module, i, leave)),
+    }
+}
+
+fn closed_cells(
+    p: &Typed,
+    module: u32,
+    info: &ModuleInfo,
+    closed: &Region,
+) -> Result<(), Refusal>
+    requires is { At p.now.modules «module» info.now }
+    requires rules { MeetsTableRules p.now }
+    requires may { MayHaveCells p.now }
+    requires cells { AreCellsOf p.now info.now.plant closed.now }
+    ensures { AnswersClosedCells p.now «module» info.now closed.now.boxes result }
+{
+    for i in 0..closed.len() as u32 {
+        let cell = closed.at(i as usize);
+        if let Err(refusal) = closed_cell(p, module, info, i, &cell) {
+            return Err(refusal);
+        }
+    }
+    Ok(())
+}
+
+fn reach_cells(
+    p: &Typed,
+    module: u32,
+    info: &ModuleInfo,
+    reach: &Region,
+) -> Result<(), Refusal>
+    requires is { At p.now.modules «module» info.now }
+    requires rules { MeetsTableRules p.now }
+    requires may { MayHaveCells p.now }
+    requires cells { AreCellsOf p.now info.now.plant reach.now }
+    ensures { AnswersReachCells p.now «module» info.now reach.now.boxes result }
+{
+    for i in 0..reach.len() as u32 {
+        let cell = reach.at(i as usize);
+        if let Err(refusal) = reach_cell(p, module, info, i, &cell) {
+            return Err(refusal);
+        }
+    }
+    Ok(())
+}
+
+// The cells of a module that was found.
+fn cells_of(p: &Typed, module: u32, info: &ModuleInfo, cells: &Cells) -> Result<(), Refusal>
+    requires is { At p.now.modules «module» info.now }
+    requires rules { MeetsTableRules p.now }
+    requires may { MayHaveCells p.now }
+    requires closed { AreCellsOf p.now info.now.plant cells.now.closed }
+    requires reach { AreCellsOf p.now info.now.plant cells.now.reach }
+    ensures { AnswersCells p.now «module» info.now cells.now result }
+{
+    if let Some(point) = uncovered(&info.safe, &cells.closed) {
+        return Err(Refusal::ClosedGap { module, point });
+    }
+    if let Err(refusal) = closed_cells(p, module, info, &cells.closed) {
+        return Err(refusal);
+    }
+    if let Some(point) = uncovered(&info.safer, &cells.reach) {
+        return Err(Refusal::ReachGap { module, point });
+    }
+    reach_cells(p, module, info, &cells.reach)
+}
+
+/// Whether the cells that a certificate gives for a module show what they are to show, in this order: the closed cells cover the
+/// safe region; the held tube of each stays in it; the reach cells cover the safer region; the tube of each stays in the safe
+/// region for two periods. A module without an entry has no cells to check. Takes no memory.
+pub fn check_cells(p: &Typed, module: u32, c: &Cert) -> Result<(), Refusal>
+    requires module_is { «module» < length p.now.modules }
+    requires fits { FitsTables p.now c.now }
+    requires may { MayHaveCells p.now }
+    ensures { (a : Info) → At p.now.modules «module» a → Answers (cells_of p.now 0 c.now «module» a) result }
+{
+    let info = module_at(p, module);
+    match &c.modules[module as usize] {
+        Some(cells) => cells_of(p, module, info, cells),
+        None => Ok(()),
+    }
+}
