@@ -1,17 +1,15 @@
 -- What the searches for shared things say of a program.
-use Rattle.std.proofs.Common.{◌≡◌, ◌≢◌, ℕ, ◌+◌, ◌<◌, ◌≤◌, ◌⊎◌, inl, inr, ⊎_elim, List, length, refl, sym, ap, ◌∙◌, subst, arith, nat_lt, false}
+use Rattle.std.proofs.Common.{◌≡◌, ℕ, ◌<◌, inl, inr, ⊎_elim, List, length, refl, subst, arith, nat_lt, false}
 use Rattle.std.proofs.lemmas.Bool.{cases_Bool}
 use Rattle.std.proofs.lemmas.Bool.Decides.{nat_tests}
 use Rattle.std.proofs.lemmas.Option.{slice_get_within}
 use Rattle.sot_lang.specs.declared.tables.ModuleInfo.{ModuleInfo}
-use Rattle.sot_lang.specs.declared.tables.NodeInfo.{NodeInfo}
 use Rattle.sot_lang.specs.Tables.{Tables}
 use Rattle.sot_lang.specs.TableRules.{MeetsTableRules}
 use Rattle.sot_box.specs.Lists.{At}
-use Rattle.sot_tube.specs.Topics.{WritesTopic}
 use Rattle.sot_tube.specs.Composition.{UsesNode, ArePartners, NoSharedNode, NoSharedOutput, NoSharedPlant}
 use Rattle.sot_tube.specs.Checks.{IsLeastClash}
-use Rattle.sot_tube.specs.Verdict.{ShareNode, ShareOutput, SharePlant}
+use Rattle.sot_tube.specs.Verdict.{ShareOutput}
 use Rattle.sot_rta.proofs.Found.{ac_there, sc_there, topic_there}
 use Rattle.sot_compose.specs.declared.parts.Part.{Part}
 use Rattle.sot_compose.specs.declared.parts.Part.TheVariants.{Node, Plant}
@@ -21,22 +19,22 @@ use Rattle.sot_compose.specs.Outputs.{AreRelated, AreAllRelated, AreFirstWriters
 -- two numbers of which none is the lesser
 same_unless : (m n : ℕ) → (m < n → ⊥) → (n < m → ⊥) → m ≡ n
 same_unless m n f g = elim (cases_Bool (nat_lt m n)) [
-      | inl less ↦ absurd (f (grind (arith, nat_tests)))
-      | inr not_less ↦ elim (cases_Bool (nat_lt n m)) [
-            | inl more ↦ absurd (g (grind (arith, nat_tests)))
-            | inr not_more ↦ grind (arith, nat_tests)
-          ]
-    ]
+  | inl less ↦ absurd (f (grind (arith, nat_tests)))
+  | inr not_less ↦ elim (cases_Bool (nat_lt n m)) [
+    | inl more ↦ absurd (g (grind (arith, nat_tests)))
+    | inr not_more ↦ grind (arith, nat_tests)
+  ]
+]
 
 -- the first users, in an equal list of modules
 pub least_shared : (part : Part) (ms ns : List ModuleInfo) (x a b : ℕ) → ms ≡ ns → AreFirstUsers part ms x a b → ((y : ℕ) → y < x → IsOfOneModule part ms y) → IsLeastClash (IsShared part ns) x a b
 least_shared part ms ns x a b same first earlier = subst (λ l. IsLeastClash (IsShared part l) x a b) same (record {
-    before = first.before;
-    clash = first.shared;
-    least_x = λ y i k lt le s. earlier y lt i k le s;
-    least_a = λ i k lt le s. first.first i k lt s;
-    least_b = λ k lt gt s. first.second k gt lt s;
-  })
+  before = first.before;
+  clash = first.shared;
+  least_x = λ y i k lt le s. earlier y lt i k le s;
+  least_a = λ i k lt le s. first.first i k lt s;
+  least_b = λ k lt gt s. first.second k gt lt s;
+})
 
 node_there : (p : Tables) → MeetsTableRules p → (m : ℕ) (a : ModuleInfo) (n : ℕ) → At p.modules m a → UsesNode a n → n < length p.nodes
 node_there p rules m a n at (inl e) = subst (λ k. k < length p.nodes) e (ac_there p rules m a at)
@@ -79,6 +77,6 @@ no_shared_output p rules each n k a b t at at' w w' ne =
   where
     after : nat_lt n k ≡ false → k < n
     after e = elim (cases_Bool (nat_lt k n)) [
-          | inl less ↦ grind (arith, nat_tests)
-          | inr not_less ↦ absurd (ne (grind (arith, nat_tests)))
-        ]
+      | inl less ↦ grind (arith, nat_tests)
+      | inr not_less ↦ absurd (ne (grind (arith, nat_tests)))
+    ]

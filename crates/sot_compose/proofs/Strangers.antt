@@ -1,5 +1,5 @@
 -- Nodes that share a topic without being partners.
-use Rattle.std.proofs.Common.{◌≡◌, ℕ, ◌+◌, ◌<◌, ◌≤◌, Bool, true, false, List, length, refl, sym, ap, ◌∙◌, subst, arith, IsTrue, ◌↔◌, not, ◌&&◌}
+use Rattle.std.proofs.Common.{◌≡◌, ℕ, ◌≤◌, Bool, true, false, List, length, refl, sym, ◌∙◌, subst, arith, IsTrue, ◌↔◌, not}
 use Rattle.std.proofs.lemmas.Bool.{false≢true}
 use Rattle.std.proofs.lemmas.Option.{slice_get_within, same_Some}
 use Rattle.sot_lang.specs.declared.tables.NodeInfo.{NodeInfo}
@@ -7,7 +7,6 @@ use Rattle.sot_lang.specs.declared.tables.ModuleInfo.{ModuleInfo}
 use Rattle.sot_lang.specs.Tables.{Tables}
 use Rattle.sot_box.specs.Lists.{At}
 use Rattle.sot_tube.specs.Topics.{WritesTopic}
-use Rattle.sot_tube.specs.Composition.{ArePartners}
 use Rattle.sot_tube.specs.Verdict.{ShareOutput}
 use Rattle.sot_compose.specs.Outputs.{ArePartnersIn, Writes, AreRelated}
 

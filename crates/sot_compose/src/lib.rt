@@ -1,12 +1,16 @@
-//! Whether a program and its certificate are accepted.
+//! Whether a program is accepted with its certificate.
+//!
+//! [`check_all`] tests all fifteen conditions of a certificate in order: how the modules are put together, the shape of each, each
+//! coded node, and the cells of each module. It accepts exactly where all of them hold, and else gives the first that fails with
+//! its evidence. The conditions of one module stand in `sot_rta`, what they show of runs in `sot_tube` and `sot_world`.
 #![tactic(auto)]
 
+mod check;
 mod clash;
 mod composition;
+mod fail;
 mod outputs;
 mod parts;
 
-pub use clash::Clash;
-pub use composition::check_composition;
-pub use outputs::first_shared_output;
-pub use parts::{Part, first_shared};
+pub use check::check_all;
+pub use fail::CheckFail;

@@ -1,5 +1,5 @@
 -- The checks of a module's cells.
-use Rattle.std.proofs.Common.{◌≡◌, ℕ, ◌<◌, ⊎_elim, inl, inr, Option, Some, Ok, Err, List, [], ◌∷◌, ℤ, length, get_or, refl, sym, ◌∙◌, subst}
+use Rattle.std.proofs.Common.{◌≡◌, ℕ, ◌<◌, ⊎_elim, inr, Option, Some, Ok, Err, List, [], ◌∷◌, ℤ, length, get_or, refl, sym, ◌∙◌, subst}
 use Rattle.std.specs.Prelude.{Result}
 use Rattle.std.proofs.lemmas.Option.{same_Some}
 use Rattle.sot_box.specs.Sides.{Side}

@@ -1,22 +1,19 @@
 -- What a node reads with one plant in a cell.
-use Rattle.std.proofs.Common.{◌≡◌, ◌≢◌, ℕ, zero, suc, ◌+◌, ◌<◌, List, [], ◌∷◌, ◌++◌, length, take, drop, refl, sym, ap, ◌∙◌, subst, arith}
-use Rattle.std.specs.Prelude.{map, pos, slice_set, slice_index_or}
+use Rattle.std.proofs.Common.{◌≡◌, ℕ, zero, suc, ◌<◌, List, [], ◌∷◌, ◌++◌, length, take, drop, refl, sym, ap, ◌∙◌, subst, arith}
+use Rattle.std.specs.Prelude.{pos, slice_index_or}
 use Rattle.std.proofs.Math.Seq.{take-append_seam, drop-append_seam}
 use Rattle.std.proofs.lemmas.List.{get_or-set_other}
 use Rattle.sot_box.specs.Sides.{Side}
 use Rattle.sot_box.specs.Lists.{At}
 use Rattle.sot_lang.specs.declared.tables.PlantInfo.{PlantInfo}
 use Rattle.sot_lang.specs.declared.tables.NodeInfo.{NodeInfo}
-use Rattle.sot_lang.specs.declared.tables.Slot.{Slot}
-use Rattle.sot_lang.specs.declared.tables.Slot.TheVariants.{Scalar, State}
+use Rattle.sot_lang.specs.declared.tables.Slot.TheVariants.{State}
 use Rattle.sot_lang.specs.Tables.{Tables}
 use Rattle.sot_lang.specs.OwnerNames.{width_of}
 use Rattle.sot_lang.specs.Ranges.{local_ranges, write_ranges}
-use Rattle.sot_lang.specs.SafeRegions.{AllHulls}
 use Rattle.sot_iv.specs.declared.drafted.Drafted.{Drafted}
 use Rattle.sot_iv.specs.TermIntervals.{OrMayTrap}
-use Rattle.sot_iv.specs.BodyIntervals.{Intervals, IsExecutionIntervals}
-use Rattle.sot_iv.specs.NodeIntervals.{interval_at}
+use Rattle.sot_iv.specs.BodyIntervals.{IsExecutionIntervals}
 use Rattle.sot_iv.specs.NodeFirings.{IsNodeDraft}
 use Rattle.sot_traps.specs.Readings.{IsReading, CanBeRead}
 use Rattle.sot_traps.proofs.SlotReadings.{reading_is}

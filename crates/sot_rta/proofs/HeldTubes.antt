@@ -1,8 +1,7 @@
 -- The held tube of a cell that the safe region covers.
-use Rattle.std.proofs.Common.{◌≡◌, ℕ, ◌+◌, ◌<◌, ◌≤◌, ◌≤ℤ◌, List, [], ◌∷◌, ◌++◌, Ok, Err, length, refl, sym, ap, ap₂, ◌∙◌, subst, arith, replicate}
+use Rattle.std.proofs.Common.{◌≡◌, ℕ, ◌+◌, ◌≤ℤ◌, List, [], ◌∷◌, ◌++◌, Ok, length, refl, sym, ap, ap₂, ◌∙◌, subst, arith, replicate}
 use Rattle.std.specs.Prelude.{map, slice_set, Result, MatchResult, IsOk, ◌-◌}
 use Rattle.std.proofs.lemmas.Int.{ints}
-use Rattle.std.proofs.lemmas.List.{length-map}
 use Rattle.std.proofs.lemmas.Option.{same_Some}
 use Rattle.sot_box.specs.Sides.{Side, AreOrdered}
 use Rattle.sot_box.specs.Lists.{At}
@@ -14,7 +13,6 @@ use Rattle.sot_lang.specs.declared.tables.NodeInfo.{NodeInfo}
 use Rattle.sot_lang.specs.declared.tables.ModuleInfo.{ModuleInfo}
 use Rattle.sot_lang.specs.Tables.{Tables}
 use Rattle.sot_lang.specs.TableRules.{MeetsTableRules, IsCoded}
-use Rattle.sot_lang.specs.SafeRegions.{AllHulls}
 use Rattle.sot_iv.specs.declared.drafted.Drafted.{Drafted}
 use Rattle.sot_iv.specs.declared.drafted.Drafted.TheVariants.{Absent}
 use Rattle.sot_iv.specs.TermIntervals.{OrMayTrap}
@@ -57,8 +55,8 @@ module _ (p : Tables) (rules : MeetsTableRules p) (may : MayHaveCells p) (m : �
     Answered plant sc acts r =
         (fired : Intervals) × DraftsFrom p a sc acts cell fired
         × MatchResult r
-          (λ _. TubeInside p plant (command_intervals p plant sc fired.draft) a.safe.boxes cell (sc.period + 0))
-          (λ leave. TubeLeaves p plant (command_intervals p plant sc fired.draft) a.safe.boxes cell (sc.period + 0) leave)
+        (λ _. TubeInside p plant (command_intervals p plant sc fired.draft) a.safe.boxes cell (sc.period + 0))
+        (λ leave. TubeLeaves p plant (command_intervals p plant sc fired.draft) a.safe.boxes cell (sc.period + 0) leave)
 
     -- what it drafts from the cell, without a trap
     pub fires : (fired : Intervals) × DraftsFrom p a sc is_coded.0 cell fired × (result ≡ drafts_of (Ok fired))
@@ -89,6 +87,6 @@ module _ (p : Tables) (rules : MeetsTableRules p) (may : MayHaveCells p) (m : �
           f.0,
           f.1,
           subst (λ n. MatchResult r (λ _. TubeInside p plant (command_intervals p plant sc f.0.draft) a.safe.boxes cell n) (λ leave. TubeLeaves p plant (command_intervals p plant sc f.0.draft) a.safe.boxes cell n leave)) period
-          (subst (λ l. MatchResult r (λ _. TubeInside p plant l a.safe.boxes cell sc.period) (λ leave. TubeLeaves p plant l a.safe.boxes cell sc.period leave)) commands (tube a plant at plant_at)),
+              (subst (λ l. MatchResult r (λ _. TubeInside p plant l a.safe.boxes cell sc.period) (λ leave. TubeLeaves p plant l a.safe.boxes cell sc.period leave)) commands (tube a plant at plant_at)),
         ) in
         subst (λ q. Answered q sc' acts r) same_p (subst (λ q. Answered plant q acts r) same_s (subst (λ q. Answered plant sc q r) body found))

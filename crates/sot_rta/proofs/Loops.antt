@@ -1,5 +1,5 @@
 -- Checks of a list, entry by entry.
-use Rattle.std.proofs.Common.{◌≡◌, ℕ, ◌+◌, ◌<◌, ◌≤◌, List, length, sym, ◌∙◌, subst, arith}
+use Rattle.std.proofs.Common.{ℕ, ◌+◌, ◌≤◌, List, length, sym, ◌∙◌, subst, arith}
 use Rattle.std.proofs.lemmas.Option.{slice_get_within, same_Some}
 use Rattle.sot_box.specs.Lists.{At}
 use Rattle.sot_tube.specs.Refusals.{Refusal}

@@ -1,5 +1,5 @@
 -- Searches that go through numbers from 0 on.
-use Rattle.std.proofs.Common.{◌≡◌, ℕ, suc, ◌+◌, ◌<◌, ◌≤◌, ◌⊎◌, inl, inr, Bool, true, false, refl, sym, ap, ◌∙◌, subst, arith, IsTrue, ◌↔◌, nat_lt, not, ◌&&◌}
+use Rattle.std.proofs.Common.{◌≡◌, ℕ, ◌+◌, ◌<◌, ◌≤◌, ◌⊎◌, inl, inr, Bool, true, false, refl, sym, ◌∙◌, subst, arith, IsTrue, ◌↔◌, nat_lt, not, ◌&&◌}
 use Rattle.std.specs.Bool.{beq}
 use Rattle.std.proofs.lemmas.Bool.{cases_Bool, false≢true}
 use Rattle.std.proofs.lemmas.Bool.Decides.{nat_tests}
@@ -8,15 +8,15 @@ use Rattle.sot_tube.specs.Checks.{IsLeastNumber}
 -- what is below a number, or is it
 pub below_next : (t i : ℕ) → t < i + 1 → (t < i) ⊎ (t ≡ i)
 below_next t i lt = elim (cases_Bool (nat_lt t i)) [
-      | inl yes_ ↦ inl (grind (arith, nat_tests))
-      | inr no_ ↦ inr (grind (arith, nat_tests))
-    ]
+  | inl yes_ ↦ inl (grind (arith, nat_tests))
+  | inr no_ ↦ inr (grind (arith, nat_tests))
+]
 
 pub one_more : (P : ℕ → Type 0) (i : ℕ) → ((t : ℕ) → t < i → P t) → P i → (t : ℕ) → t < i + 1 → P t
 one_more P i before here t lt = elim (below_next t i lt) [
-      | inl less ↦ before t less
-      | inr same ↦ subst P (sym same) here
-    ]
+  | inl less ↦ before t less
+  | inr same ↦ subst P (sym same) here
+]
 
 pub all_below : (P : ℕ → Type 0) (i n : ℕ) → n ≤ i → ((t : ℕ) → t < i → P t) → (t : ℕ) → t < n → P t
 all_below P i n le before t lt = before t (omega (arith, le, lt))
@@ -24,9 +24,9 @@ all_below P i n le before t lt = before t (omega (arith, le, lt))
 -- what holds below a number and from it on
 pub below_or_not : (P : ℕ → Type 0) (i : ℕ) → ((t : ℕ) → t < i → P t) → ((t : ℕ) → i ≤ t → P t) → (t : ℕ) → P t
 below_or_not P i less more t = elim (cases_Bool (nat_lt t i)) [
-      | inl yes_ ↦ less t (grind (arith, nat_tests))
-      | inr no_ ↦ more t (grind (arith, nat_tests))
-    ]
+  | inl yes_ ↦ less t (grind (arith, nat_tests))
+  | inr no_ ↦ more t (grind (arith, nat_tests))
+]
 
 -- a test that answers exactly
 pub holds : (b : Bool) (P : Type 0) → (IsTrue b ↔ P) → b ≡ true → P

@@ -34,8 +34,8 @@ AnswersHeldTube p a cell result =
     (plant : PlantInfo) (sc : NodeInfo) (acts : List Act) → At p.plants a.plant plant → At p.nodes a.sc sc → IsCoded sc acts
     → (fired : Intervals) × DraftsFrom p a sc acts cell fired
     × MatchResult result
-      (λ _. TubeInside p plant (command_intervals p plant sc fired.draft) a.safe.boxes cell (sc.period + 0))
-      (λ leave. TubeLeaves p plant (command_intervals p plant sc fired.draft) a.safe.boxes cell (sc.period + 0) leave)
+    (λ _. TubeInside p plant (command_intervals p plant sc fired.draft) a.safe.boxes cell (sc.period + 0))
+    (λ leave. TubeLeaves p plant (command_intervals p plant sc fired.draft) a.safe.boxes cell (sc.period + 0) leave)
 
 -- the answer of a closed cell
 abbrev pub AnswersClosedCell : Tables → ℕ → ModuleInfo → ℕ → List Side → Result (Unit {0}) Refusal → Type 0

@@ -1,5 +1,5 @@
 -- A checker's answer, seen as a check.
-use Rattle.std.specs.Prelude.{ℕ, ◌<◌, List, Result, Ok, Err, MatchResult}
+use Rattle.std.specs.Prelude.{ℕ, ◌<◌, List, Result, MatchResult}
 use Rattle.sot_box.specs.Lists.{At}
 use Rattle.sot_rta.specs.declared.refusal.Refusal.{Refusal as CodeRefusal}
 use Rattle.sot_rta.specs.declared.refusal.Refusal.TheVariants as codes

@@ -108,13 +108,7 @@ fn closed_cell(
     }
 }
 
-fn reach_cell(
-    p: &Typed,
-    module: u32,
-    info: &ModuleInfo,
-    i: u32,
-    cell: &BoxN,
-) -> Result<(), Refusal>
+fn reach_cell(p: &Typed, module: u32, info: &ModuleInfo, i: u32, cell: &BoxN) -> Result<(), Refusal>
     requires is { At p.now.modules «module» info.now }
     requires rules { MeetsTableRules p.now }
     requires may { MayHaveCells p.now }
@@ -127,12 +121,7 @@ fn reach_cell(
     }
 }
 
-fn closed_cells(
-    p: &Typed,
-    module: u32,
-    info: &ModuleInfo,
-    closed: &Region,
-) -> Result<(), Refusal>
+fn closed_cells(p: &Typed, module: u32, info: &ModuleInfo, closed: &Region) -> Result<(), Refusal>
     requires is { At p.now.modules «module» info.now }
     requires rules { MeetsTableRules p.now }
     requires may { MayHaveCells p.now }
@@ -148,12 +137,7 @@ fn closed_cells(
     Ok(())
 }
 
-fn reach_cells(
-    p: &Typed,
-    module: u32,
-    info: &ModuleInfo,
-    reach: &Region,
-) -> Result<(), Refusal>
+fn reach_cells(p: &Typed, module: u32, info: &ModuleInfo, reach: &Region) -> Result<(), Refusal>
     requires is { At p.now.modules «module» info.now }
     requires rules { MeetsTableRules p.now }
     requires may { MayHaveCells p.now }

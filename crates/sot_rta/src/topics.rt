@@ -68,12 +68,7 @@ pub fn first_of_one_alone(
 }
 
 /// The first of so many topics that is a topic of `some` and none of `others`.
-pub fn first_missing(
-    infos: &[ScalarInfo],
-    topics: u32,
-    some: &[u32],
-    others: &[u32],
-) -> Option<u32>
+pub fn first_missing(infos: &[ScalarInfo], topics: u32, some: &[u32], others: &[u32]) -> Option<u32>
     requires one { (k : ℕ) → Has some.now k → k < length infos.now }
     requires other { (k : ℕ) → Has others.now k → k < length infos.now }
     ensures { MatchOption result

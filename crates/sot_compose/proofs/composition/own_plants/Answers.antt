@@ -1,4 +1,4 @@
-use Rattle.std.proofs.Common.{rules, arith, ◌≡◌, ℕ, ◌<◌, length, refl, ap, ◌∙◌}
+use Rattle.std.proofs.Common.{rules, arith, ◌≡◌, length, refl, ap, ◌∙◌}
 use Rattle.sot_lang.specs.Tables.{Tables}
 use Rattle.sot_compose.specs.declared.parts.Part.TheVariants.{Plant}
 use Rattle.sot_compose.proofs.Composed.{least_shared, no_shared_plant}

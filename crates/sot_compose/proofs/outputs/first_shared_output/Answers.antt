@@ -1,4 +1,4 @@
-use Rattle.std.proofs.Common.{rules, arith, ◌≡◌, ◌<◌, ◌≤◌, ℕ, length, sym, ap, subst}
+use Rattle.std.proofs.Common.{rules, arith, ◌≡◌, ◌<◌, ℕ, length, sym, subst}
 use Rattle.sot_compose.specs.Outputs.{AreAllRelated, AreFirstWriters}
 use Rattle.sot_rta.proofs.Steps.{one_more, all_below}
 use Rattle.sot_compose.proofs.outputs.first_shared_output.Goals as goal

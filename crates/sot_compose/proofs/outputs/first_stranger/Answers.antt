@@ -1,5 +1,4 @@
-use Rattle.std.proofs.Common.{rules, arith, ◌≡◌, ◌<◌, ◌≤◌, ℕ, length, sym, ap}
-use Rattle.sot_lang.specs.Tables.{Tables}
+use Rattle.std.proofs.Common.{rules, arith, ◌≡◌, ◌<◌, length}
 use Rattle.sot_compose.specs.Outputs.{AreRelated}
 use Rattle.sot_rta.proofs.Steps.{one_more, below_or_not}
 use Rattle.sot_compose.proofs.Strangers.{not_written, not_there}

@@ -1,4 +1,4 @@
-use Rattle.std.proofs.Common.{rules, arith, ◌≡◌, ◌<◌, ◌≤◌, ℕ, length, sym, ap}
+use Rattle.std.proofs.Common.{rules, arith, ◌≡◌, ◌<◌, ℕ, length}
 use Rattle.sot_compose.specs.Outputs.{AreRelated}
 use Rattle.sot_rta.proofs.Steps.{one_more, below_or_not}
 use Rattle.sot_compose.proofs.Strangers.{not_there}

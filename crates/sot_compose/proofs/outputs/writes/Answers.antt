@@ -1,4 +1,4 @@
-use Rattle.std.proofs.Common.{rules, ap, ◌∙◌, subst, IsTrue, ◌↔◌}
+use Rattle.std.proofs.Common.{ap, ◌∙◌, subst, IsTrue, ◌↔◌}
 use Rattle.sot_lang.specs.Tables.{Tables}
 use Rattle.sot_rta.proofs.Found.{written_there}
 use Rattle.sot_rta.specs.Topics.{AreSomeOf}

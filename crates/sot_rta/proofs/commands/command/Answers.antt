@@ -1,4 +1,4 @@
-use Rattle.std.proofs.Common.{rules, arith, ◌≡◌, ◌+◌, refl, sym, ap, ◌∙◌}
+use Rattle.std.proofs.Common.{rules, arith, ◌+◌, sym, ap, ◌∙◌}
 use Rattle.sot_lang.specs.Ranges.{range_of}
 use Rattle.sot_tube.specs.Certified.{sure_interval}
 use Rattle.sot_rta.proofs.CommandSides.{drafted_here, further, not_sure}

@@ -1,4 +1,4 @@
-use Rattle.std.proofs.Common.{rules, ◌≡◌, ℕ, ◌<◌, length, refl, sym, ap, ◌∙◌, subst, arith}
+use Rattle.std.proofs.Common.{rules, ◌≡◌, length, refl, ap, ◌∙◌, arith}
 use Rattle.sot_lang.specs.Tables.{Tables}
 use Rattle.sot_rta.proofs.Found.{written_there, least_alone, all_alike}
 use Rattle.sot_rta.proofs.shape.outputs.Goals as goal

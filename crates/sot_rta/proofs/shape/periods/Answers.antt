@@ -1,5 +1,4 @@
-use Rattle.std.proofs.Common.{arith, ◌≡◌, ◌<◌, inl, inr, refl}
-use Rattle.std.proofs.lemmas.Option.{same_Some}
+use Rattle.std.proofs.Common.{arith, inl, inr, refl}
 use Rattle.sot_rta.proofs.Found.{sc_there, not_longer}
 use Rattle.sot_rta.proofs.shape.periods.Goals as goal
 

@@ -1,4 +1,4 @@
-use Rattle.std.proofs.Common.{rules, arith, ℕ, ◌≡◌, ◌<◌, length, refl, sym, ap, ◌∙◌, subst, slice_index_or}
+use Rattle.std.proofs.Common.{rules, arith, ℕ, ◌≡◌, length, refl, sym, ◌∙◌, subst, slice_index_or}
 use Rattle.std.proofs.lemmas.Bool.{false≢true}
 use Rattle.std.proofs.lemmas.Option.{slice_get_read, slice_get-get_or, slice_get_within, same_Some}
 use Rattle.sot_lang.specs.declared.tables.ScalarInfo.{ScalarInfo}
@@ -28,12 +28,13 @@ loop-i-preserved c =
     one_more (λ j. (m : ℕ) (info : ScalarInfo) → At c.args.scalars.now j m → At c.args.infos.now m info → info.topic ≡ c.args.topic → ⊥) c.loop-i.i
     (λ j lt m info at_j at_m same. c.loop-i.invariant j m info lt at_j at_m same)
     (λ m info at_j at_m same.
-      let here : k ≡ m = same_Some k m (sym at_k ∙ at_j) in
-      let is : c.index-infos-scalar.result ≡ info = same_Some _ _ (sym at_info ∙ subst (λ x. At c.args.infos.now x info) (sym here) at_m) in
-      search (rules, is, same))
+    let here : k ≡ m = same_Some k m (sym at_k ∙ at_j) in
+    let is : c.index-infos-scalar.result ≡ info = same_Some _ _ (sym at_info ∙ subst (λ x. At c.args.infos.now x info) (sym here) at_m) in
+    search (rules, is, same))
     j lt m info at_j at_m same
 
 pub returns : goal.returns
-returns c =
-    ((λ f. absurd (false≢true f)),
-    (λ some. absurd (c.loop-i.invariant some.1.0 some.0 some.2.0 (omega (arith, slice_get_within c.args.scalars.now some.1.0 some.0 some.1.1, c.loop-i-test.false)) some.1.1 some.2.1 some.2.2)))
+returns c = (
+  (λ f. absurd (false≢true f)),
+  (λ some. absurd (c.loop-i.invariant some.1.0 some.0 some.2.0 (omega (arith, slice_get_within c.args.scalars.now some.1.0 some.0 some.1.1, c.loop-i-test.false)) some.1.1 some.2.1 some.2.2)),
+)
