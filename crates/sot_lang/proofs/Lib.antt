@@ -7,3 +7,6 @@ pub mod LineReach
 pub mod ShortLists
 pub mod LineRules
 pub mod Places
+pub mod Names
+pub mod CallRows
+pub mod BlockRows

@@ -17,3 +17,6 @@ pub mod TypedView
 pub mod Line
 pub mod Examples
 pub mod BodyExamples
+-- a program as it is written
+pub mod Trees
+pub mod TreeViews
