@@ -5,10 +5,10 @@ use Rattle.sot_iv.specs.Evaluation.{term_interval}
 use Rattle.sot_iv.proofs.Rows.{term_interval-Call}
 use Rattle.sot_iv.proofs.term.+interval.Goals as goal
 
-pub interval_of-call-requires : goal.interval_of-call-requires
-interval_of-call-requires t c =
+pub compound-call-requires : goal.compound-call-requires
+compound-call-requires t c =
     let p = HasPlaces-Call c.in-Call.func c.in-Call.parts c.in-Call.at _ (rw c.in-Call.is at c.requires) in
     (search (rules, the_lemmas, c.in-Call.is, c.decreases), p)
 
-pub interval_of-returns-in-Call : goal.interval_of-returns-in-Call
-interval_of-returns-in-Call t c = c.call.ensures ∙ sym (ap (λ e. term_interval e (c.args.seen.now ++ c.args.locals.now)) c.in-Call.is ∙ term_interval-Call _ _ _ _)
+pub compound-returns-in-Call : goal.compound-returns-in-Call
+compound-returns-in-Call t c = c.call.ensures ∙ sym (ap (λ e. term_interval e (c.args.seen.now ++ c.args.locals.now)) c.in-Call.is ∙ term_interval-Call _ _ _ _)
