@@ -1,2 +1,3 @@
 pub mod Strangers
 pub mod Composed
+pub mod Certified

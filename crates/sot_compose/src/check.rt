@@ -1,6 +1,7 @@
 //! All checks, in order.
 
-ghost use Rattle.std.specs.Prelude.{◌≡◌};
+ghost use Rattle.std.specs.Prelude.{◌≡◌, IfOk};
+ghost use Rattle.sot_world.specs.Headline.{EveryRunIsSafe};
 ghost use Rattle.sot_box.specs.Lists.{At};
 ghost use Rattle.sot_lang.specs.CertRules.{FitsTables};
 ghost use Rattle.sot_lang.specs.TableRules.{MeetsTableRules};
@@ -111,9 +112,13 @@ fn checked(p: &Typed, c: &Cert) -> Result<(), Refusal>
 /// with its evidence. The order is: no shared node, no shared output, no shared plant, no foreign input; then per module an entry,
 /// short periods, outputs in common, regions that are not empty; then per coded node no trap; then per module its closed cells
 /// and its reach cells. `c` is a certificate of this program. Takes no memory.
+///
+/// Of an accepted program every run from plants in their safer regions is safe: at each tick every module's plant is in the
+/// module's safe region, and no coded node traps.
 pub fn check_all<'a>(p: &'a Typed, c: &'a Cert) -> Result<Accepted<'a>, CheckFail>
     requires { FitsTables p.now c.now }
-    ensures { Accepts p.now c.now result }
+    ensures answer { Accepts p.now c.now result }
+    ensures safe { IfOk result (λ _. EveryRunIsSafe p.now 0) }
 {
     // A look at the tables brings their rules, which their type keeps.
     let _modules = p.modules.len();
