@@ -1,0 +1,15 @@
+-- Which words ask for which command.
+use Rattle.std.specs.Prelude.{◌≡◌, ℕ, List, [], ◌∷◌, codes, map, String}
+use Rattle.std.specs.String.{string_bytes}
+use Rattle.std.proofs.Common.{Global}
+use Rattle.soter.specs.declared.words.Command.{Command}
+use Rattle.soter.specs.declared.words.Command.TheVariants.{Check, Format}
+
+-- the word of a command
+abbrev pub word_of : Command → List ℕ
+word_of Check = codes "check"
+word_of Format = codes "format"
+
+-- the words ask for this command: they are its word alone
+abbrev pub Asks : List (String Global) → Command → Type 0
+Asks words command = map string_bytes words ≡ word_of command ∷ []
