@@ -1,0 +1,5 @@
+pub mod Laying
+pub mod Lists
+pub mod Blocks
+pub mod Numerals
+pub mod Declarations

@@ -1,0 +1,6 @@
+-- the canonical text, from words with their layout up to whole programs
+pub mod Words
+pub mod Leaves
+pub mod Expressions
+pub mod Statements
+pub mod Canonical

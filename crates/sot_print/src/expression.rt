@@ -1,0 +1,156 @@
+ghost use Rattle.std.specs.Prelude.{◌≡◌, ◌++◌, ◌∷◌, [], not, if◌then◌else◌, codes, OnOk};
+ghost use Rattle.std.specs.String.{string_bytes};
+ghost use Rattle.sot_lang.specs.TreeViews.{tree_view};
+ghost use Rattle.sot_print.specs.Words.{laid};
+ghost use Rattle.sot_print.specs.Expressions.{operator, function_name, is_plain, grouped_words, operand_words, expression_words};
+ghost use Rattle.sot_print.specs.Leaves.{listed};
+ghost use Rattle.sot_print.specs.declared.gap.Gap.TheVariants.{Touching};
+
+use crate::gap::{Gap, push_comma, push_word};
+use crate::leaf::{push_literal, push_reference, push_truth};
+use sot_lang::{Expr, Func, Op};
+use std::alloc::AllocError;
+
+fn operator_text(op: Op) -> &'static str
+    ensures { result.now ≡ (operator op).text }
+{
+    match op {
+        Op::Add => "+",
+        Op::Sub => "-",
+        Op::Mul => "*",
+        Op::Div => "/",
+        Op::Less => "<",
+        Op::LessEqual => "<=",
+        Op::Greater => ">",
+        Op::GreaterEqual => ">=",
+        Op::Equal => "==",
+        Op::NotEqual => "!=",
+        Op::And => "and",
+        Op::Or => "or",
+    }
+}
+
+fn push_operator(out: &mut String, op: Op) -> Result<(), AllocError>
+    ensures { OnOk result (string_bytes out.new ≡ string_bytes out.old ++ laid (operator op ∷ [])) }
+{
+    push_word(out, Gap::Space, operator_text(op))
+}
+
+fn function_text(func: Func) -> &'static str
+    ensures { result.now ≡ function_name func }
+{
+    match func {
+        Func::Min => "min",
+        Func::Max => "max",
+        Func::Abs => "abs",
+        Func::Clamp => "clamp",
+    }
+}
+
+// A literal, `true`, `false`, a name or a call.
+fn is_plain(expr: &Expr) -> bool
+    ensures { result ≡ is_plain (tree_view expr.now) }
+{
+    match expr {
+        Expr::Number(_) => true,
+        Expr::Truth { .. } => true,
+        Expr::Ref { .. } => true,
+        Expr::Call { .. } => true,
+        Expr::Rescale { .. } => true,
+        Expr::Binary { .. } => false,
+        Expr::Rest { .. } => false,
+        Expr::Neg { .. } => false,
+        Expr::Not { .. } => false,
+        Expr::If { .. } => false,
+    }
+}
+
+// In parentheses.
+#[cycle(expression)]
+fn push_grouped(out: &mut String, gap: Gap, expr: &Expr) -> Result<(), AllocError>
+    ensures { OnOk result (string_bytes out.new ≡ string_bytes out.old ++ laid (grouped_words gap (expression_words (tree_view expr.now)))) }
+{
+    push_word(out, gap, "(")?;
+    push_expression(out, Gap::Touching, expr)?;
+    push_word(out, Gap::Touching, ")")
+}
+
+// In parentheses unless it is plain.
+#[cycle(expression)]
+fn push_operand(out: &mut String, gap: Gap, expr: &Expr) -> Result<(), AllocError>
+    ensures { OnOk result (string_bytes out.new ≡ string_bytes out.old ++ laid (operand_words (tree_view expr.now) gap (expression_words (tree_view expr.now)))) }
+{
+    if is_plain(expr) {
+        push_expression(out, gap, expr)
+    } else {
+        push_grouped(out, gap, expr)
+    }
+}
+
+// The parts of a call, with a comma before each but the first.
+#[cycle(expression)]
+fn push_parts(out: &mut String, parts: &[Expr]) -> Result<(), AllocError>
+    ensures { OnOk result (string_bytes out.new ≡ string_bytes out.old ++ laid (listed (λ gap e. expression_words (tree_view e) gap) Touching parts.now)) }
+{
+    for (place, part) in parts.iter().enumerate() {
+        let gap = push_comma(out, place, Gap::Touching)?;
+        push_expression(out, gap, part)?;
+    }
+    Ok(())
+}
+
+#[cycle(expression)]
+pub fn push_expression(out: &mut String, gap: Gap, expr: &Expr) -> Result<(), AllocError>
+    ensures { OnOk result (string_bytes out.new ≡ string_bytes out.old ++ laid (expression_words (tree_view expr.now) gap)) }
+{
+    match expr {
+        Expr::Number(literal) => push_literal(out, gap, *literal),
+        Expr::Truth { value, .. } => push_truth(out, gap, *value),
+        Expr::Ref { first, field } => push_reference(out, gap, first, field),
+        Expr::Binary {
+            op,
+            left,
+            right,
+            ..
+        } => {
+            push_operand(out, gap, left)?;
+            push_operator(out, *op)?;
+            push_operand(out, Gap::Space, right)
+        }
+        Expr::Rest { left, by, .. } => {
+            push_operand(out, gap, left)?;
+            push_word(out, Gap::Space, "%")?;
+            push_literal(out, Gap::Space, *by)
+        }
+        Expr::Neg { part, .. } => {
+            push_word(out, gap, "-")?;
+            push_grouped(out, Gap::Touching, part)
+        }
+        Expr::Not { part, .. } => {
+            push_word(out, gap, "not")?;
+            push_grouped(out, Gap::Space, part)
+        }
+        Expr::Call { func, parts, .. } => {
+            push_word(out, gap, function_text(*func))?;
+            push_word(out, Gap::Touching, "(")?;
+            push_parts(out, parts)?;
+            push_word(out, Gap::Touching, ")")
+        }
+        Expr::Rescale { part, to, .. } => {
+            push_word(out, gap, "rescale")?;
+            push_word(out, Gap::Touching, "(")?;
+            push_expression(out, Gap::Touching, part)?;
+            push_word(out, Gap::Touching, ",")?;
+            push_literal(out, Gap::Space, *to)?;
+            push_word(out, Gap::Touching, ")")
+        }
+        Expr::If { cond, yes, no, .. } => {
+            push_word(out, gap, "if")?;
+            push_operand(out, Gap::Space, cond)?;
+            push_word(out, Gap::Space, "then")?;
+            push_operand(out, Gap::Space, yes)?;
+            push_word(out, Gap::Space, "else")?;
+            push_operand(out, Gap::Space, no)
+        }
+    }
+}
