@@ -3,3 +3,5 @@ pub mod Lists
 pub mod Blocks
 pub mod Numerals
 pub mod Declarations
+pub mod Ends
+pub mod ReadBack

@@ -4,3 +4,7 @@ pub mod Leaves
 pub mod Expressions
 pub mod Statements
 pub mod Canonical
+-- which words are read back
+pub mod Layout
+-- worked texts
+pub mod Examples

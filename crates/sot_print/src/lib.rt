@@ -4,11 +4,15 @@
 mod clause;
 mod declaration;
 mod expression;
+mod facts;
 mod gap;
+mod laws;
 mod leaf;
 mod numeral;
 mod program;
 mod statement;
 
+pub use facts::{declarations_are_as_stated, expressions_are_as_stated};
 pub use gap::Gap;
+pub use laws::words_are_read_back;
 pub use program::print;

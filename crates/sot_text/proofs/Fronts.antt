@@ -43,7 +43,7 @@ pub record IsWhole (bs : List ℕ) (kind : Kind) (len : ℕ) : Type 0 where
 token_is : (k l : Kind) (m n : ℕ) → Token k m ≡ Token l n → (k ≡ l) × (m ≡ n)
 token_is k l m n e = (cc, cc)
 
-word_takes : (text : List ℕ) (kind : Kind) (n : ℕ) → word text ≡ Token kind n → n ≡ length text
+pub word_takes : (text : List ℕ) (kind : Kind) (n : ℕ) → word text ≡ Token kind n → n ≡ length text
 word_takes text kind n e =
     elim (cases_Bool (is_keyword text)) [
       | inl key ↦ sym (token_is Keyword kind (length text) n (sym (cond-true (is_keyword text) _ _ key) ∙ e)).1
@@ -172,13 +172,13 @@ number_len-take xs =
     number_len_is (take (number_len xs) xs) ∙ ap (λ w. w + point_len (decimals_of (take (number_len xs) xs))) (digits_len-take xs)
     ∙ ap (λ d. digits_len xs + point_len d) (decimals_of-take xs) ∙ sym (number_len_is xs)
 
-number-take : (xs : List ℕ) → number (take (number_len xs) xs) ≡ number xs
+pub number-take : (xs : List ℕ) → number (take (number_len xs) xs) ≡ number xs
 number-take xs =
     ap (λ d. sized d (mantissa_of (take (number_len xs) xs)) (number_len (take (number_len xs) xs))) (decimals_of-take xs)
     ∙ ap (λ m. sized (decimals_of xs) m (number_len (take (number_len xs) xs))) (mantissa_of-take xs)
     ∙ ap (λ n. sized (decimals_of xs) (mantissa_of xs) n) (number_len-take xs)
 
-sized_takes : (d m n len : ℕ) (kind : Kind) → sized d m n ≡ Token kind len → len ≡ n
+pub sized_takes : (d m n len : ℕ) (kind : Kind) → sized d m n ≡ Token kind len → len ≡ n
 sized_takes d m n len kind e =
     elim (cases_Bool (nat_lt 6 d || nat_lt (10 ^ 12) m)) [
       | inl wide ↦ (let never : LiteralWide n ≡ Token kind len = sym (cond-true (nat_lt 6 d || nat_lt (10 ^ 12) m) _ _ wide) ∙ e in absurd cc)
@@ -206,7 +206,7 @@ whole_number b bs kind n no_word first e =
       whole = ap (λ k. front (take k xs)) len ∙ alone ∙ is;
     }
 
-sign_takes : (k n : ℕ) (kind : Kind) → sign k ≡ Token kind n → (n ≡ k) × (0 < k) × (Token kind n ≡ Token Sign k)
+pub sign_takes : (k n : ℕ) (kind : Kind) → sign k ≡ Token kind n → (n ≡ k) × (0 < k) × (Token kind n ≡ Token Sign k)
 sign_takes k n kind e =
     elim (cases_Bool (k == 0)) [
       | inl none ↦ (let never : BadByte ≡ Token kind n = sym (cond-true (k == 0) _ _ none) ∙ e in absurd cc)

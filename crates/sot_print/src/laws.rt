@@ -1,0 +1,9 @@
+ghost use Rattle.std.specs.Prelude.{List};
+ghost use Rattle.sot_print.specs.Words.{Word, text_of};
+ghost use Rattle.sot_print.specs.Layout.{AreTokens, AreParted, Reads};
+
+/// Words that are tokens, and that touch only where they may, are read back from their text.
+#[tactic(auto, using(crate::proofs::ReadBack::words_read))]
+pub fn words_are_read_back()
+    ensures { (ws : List Word) → AreTokens ws → AreParted ws → Reads (text_of ws) ws }
+{}
