@@ -16,3 +16,6 @@ pub use facts::{declarations_are_as_stated, expressions_are_as_stated};
 pub use gap::Gap;
 pub use laws::words_are_read_back;
 pub use program::print;
+
+#[cfg(test)]
+mod tests;
