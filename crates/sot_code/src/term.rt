@@ -8,9 +8,23 @@ use crate::numbers::{clamped, holds, magnitude, negate, operate, rescale, rest, 
 use sot_lang::{Func, Term, Trap};
 use sot_text::Span;
 
-/// The value of an expression, where each name has its number in the list.
+/// The value of an expression, where each name has its number in the list. Numbers and names are answered first: a function pays
+/// at its entry for the room that it needs.
 #[cycle(value)]
 pub fn value(term: &Term, numbers: &[i64]) -> Result<i64, Trap>
+    requires { HasPlaces (length numbers.now) term.now }
+    ensures { result ≡ value_of term.now numbers.now }
+{
+    match term {
+        Term::Number(z) => Ok(*z),
+        Term::Place(n) => Ok(numbers[*n as usize]),
+        _ => compound(term, numbers),
+    }
+}
+
+// The same, with room for the parts of an expression.
+#[cycle(value)]
+fn compound(term: &Term, numbers: &[i64]) -> Result<i64, Trap>
     requires { HasPlaces (length numbers.now) term.now }
     ensures { result ≡ value_of term.now numbers.now }
 {
