@@ -237,9 +237,10 @@ fn each_operator_gives_the_hull_of_its_results(rt: HostRuntime) -> Result<(), Fa
     for (form, low, high) in FORMS {
         let term = applied(alloc, form)?;
         let all = intervals(alloc, low, high)?;
+        let alone = intervals(alloc, 0, 0)?;
         let read = count(form);
-        let seconds = if read > 1 { &all[..] } else { &all[..1] };
-        let thirds = if read > 2 { &all[..] } else { &all[..1] };
+        let seconds = if read > 1 { &all[..] } else { &alone[..] };
+        let thirds = if read > 2 { &all[..] } else { &alone[..] };
         let difference = first_difference(&term, form, &all, seconds, thirds);
         assert_eq!(rt; difference, None, "{form:?}");
     }
