@@ -15,16 +15,10 @@ use Rattle.sot_box.specs.Lists.{At}
 use Rattle.sot_lang.specs.Tables.{Tables}
 use Rattle.sot_lang.specs.Ranges.{range_of}
 use Rattle.sot_lang.specs.Ticks.{joined}
-use Rattle.sot_world.specs.Steps.{write_at, publish, published}
+use Rattle.sot_world.specs.Steps.{publish, published}
 use Rattle.sot_world.specs.Changes.{put_drafted, IsNextMode}
 use Rattle.sot_world.proofs.Starting.{width_at}
 use Rattle.sot_world.proofs.Places.{drop_at}
-
--- one more number of a value is written
-pub write_step : (k i : ℕ) (zs xs : List ℤ) (z : ℤ) → At zs i z → write_at (k + i) (drop i zs) xs ≡ write_at (k + (i + 1)) (drop (i + 1) zs) (slice_set xs (k + i) z)
-write_step k i zs xs z at =
-    let e : suc (k + i) ≡ k + (i + 1) = omega arith in
-    ap (λ d. write_at (k + i) d xs) (drop_at zs i z at) ∙ ap (λ n. write_at n (drop (i + 1) zs) (slice_set xs (k + i) z)) e
 
 publish_one : (p : Tables) (k : ℕ) (ks : List ℕ) (slot : Option ℤ) (draft : List (Option ℤ)) (xs : List ℤ) → publish p (k ∷ ks) (slot ∷ draft) xs ≡ publish p ks draft (put_drafted (range_of p.scalars k) k slot xs)
 publish_one p k ks None draft xs = refl
