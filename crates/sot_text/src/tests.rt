@@ -31,6 +31,7 @@ fn place(line: u32, column: u32, from: usize, to: usize) -> Span {
 fn reads_tokens_with_their_places(rt: HostRuntime) -> Result<(), Fail> {
     let text = "topic x1: int[-2..\n\t2.5] # c := d\n  :=_9";
     let mut lexer = Lexer::new(text.as_bytes());
+    assert_eq!(rt; lexer.end(), place(3, 7, 40, 40));
     for (kind, word, at) in [
         (Kind::Keyword, "topic", place(1, 1, 0, 5)),
         (Kind::Name, "x1", place(1, 7, 6, 8)),

@@ -1,0 +1,15 @@
+use Rattle.std.proofs.Common.{◌≡◌, map, length, codes}
+use Rattle.sot_parser.proofs.Loops.{Loop}
+use Rattle.sot_lang.specs.TreeViews.{next_view}
+use Rattle.sot_parser.specs.Lexemes.{begins, is_keyword}
+use Rattle.sot_parser.specs.ListReads.{all_at}
+use Rattle.sot_parser.specs.DeclarationReads.{next_at}
+use Rattle.sot_parser.proofs.plant.nexts.Given as goal
+
+abbrev pub invariant-loop-alloc : goal.invariant-loop-alloc
+invariant-loop-alloc l =
+    Loop (begins (is_keyword (codes "next"))) (next_at l.room) (all_at (begins (is_keyword (codes "next"))) (next_at l.fn.room) l.fn.tokens.tokens) (map next_view l.nexts.items) l.tokens.tokens
+    × (l.tokens.end ≡ l.fn.tokens.end)
+
+abbrev pub decreases-loop-alloc : goal.decreases-loop-alloc
+decreases-loop-alloc l = length l.tokens.tokens

@@ -1,0 +1,90 @@
+ghost use Rattle.std.specs.Prelude.{◌≡◌, ◌≤◌, map, codes};
+ghost use Rattle.sot_lang.specs.TreeViews.{local_view, node_view};
+ghost use Rattle.sot_parser.specs.Lexemes.{begins, is_keyword};
+ghost use Rattle.sot_parser.specs.ListReads.{all_at};
+ghost use Rattle.sot_parser.specs.DeclarationReads.{local_at, coded_at, external_at};
+ghost use Rattle.sot_parser.specs.ReadViews.{Gives};
+
+use crate::items::optional;
+use crate::leaves::{expect_keyword, expect_sign, is_keyword, name};
+use crate::pieces::{constant, scalar, timing};
+use crate::statement::block;
+use crate::syntax::Fail;
+use crate::tokens::Tokens;
+use sot_lang::{LocalDecl, NodeDecl};
+use std::alloc::Global;
+
+#[tactic(auto, unfolding(crate::specs::DeclarationReads::local_at))]
+fn local(alloc: Global, tokens: &mut Tokens<'_>) -> Result<LocalDecl, Fail>
+    ensures { Gives local_view result tokens.old tokens.new (local_at tokens.old.tokens) }
+{
+    expect_keyword(tokens, b"local")?;
+    let name = name(alloc, tokens)?;
+    expect_sign(tokens, b":")?;
+    let scalar = scalar(tokens)?;
+    expect_sign(tokens, b"=")?;
+    let init = constant(tokens)?;
+    expect_sign(tokens, b";")?;
+    Ok(LocalDecl { name, scalar, init })
+}
+
+fn locals(alloc: Global, tokens: &mut Tokens<'_>) -> Result<Vec<LocalDecl>, Fail>
+    ensures { Gives (λ locals. map local_view locals.items) result tokens.old tokens.new (all_at (begins (is_keyword (codes "local"))) local_at tokens.old.tokens) }
+{
+    let mut locals = Vec::new(alloc);
+    while is_keyword(tokens, b"local") {
+        let local = local(alloc, tokens)?;
+        locals.push(local)?;
+    }
+    Ok(locals)
+}
+
+/// A node with a body of at most `room` levels.
+#[tactic(auto, unfolding(crate::specs::DeclarationReads::coded_at))]
+pub fn coded(alloc: Global, tokens: &mut Tokens<'_>, room: u32) -> Result<NodeDecl, Fail>
+    requires room { room ≤ 64 }
+    ensures { Gives node_view result tokens.old tokens.new (coded_at room tokens.old.tokens) }
+{
+    expect_keyword(tokens, b"node")?;
+    let name = name(alloc, tokens)?;
+    let (period, offset) = timing(tokens)?;
+    expect_sign(tokens, b"{")?;
+    let reads = optional(alloc, tokens, b"reads")?;
+    let writes = optional(alloc, tokens, b"writes")?;
+    let locals = locals(alloc, tokens)?;
+    expect_keyword(tokens, b"do")?;
+    let body = block(alloc, tokens, room)?;
+    expect_sign(tokens, b"}")?;
+    Ok(NodeDecl {
+        name,
+        period,
+        offset,
+        reads,
+        writes,
+        locals,
+        body: Some(body),
+    })
+}
+
+/// An external node.
+#[tactic(auto, unfolding(crate::specs::DeclarationReads::external_at))]
+pub fn external(alloc: Global, tokens: &mut Tokens<'_>) -> Result<NodeDecl, Fail>
+    ensures { Gives node_view result tokens.old tokens.new (external_at tokens.old.tokens) }
+{
+    expect_keyword(tokens, b"external")?;
+    let name = name(alloc, tokens)?;
+    let (period, offset) = timing(tokens)?;
+    expect_sign(tokens, b"{")?;
+    let reads = optional(alloc, tokens, b"reads")?;
+    let writes = optional(alloc, tokens, b"writes")?;
+    expect_sign(tokens, b"}")?;
+    Ok(NodeDecl {
+        name,
+        period,
+        offset,
+        reads,
+        writes,
+        locals: Vec::new(alloc),
+        body: None,
+    })
+}

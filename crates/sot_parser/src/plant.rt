@@ -1,0 +1,67 @@
+ghost use Rattle.std.specs.Prelude.{◌≡◌, ◌≤◌, map, codes};
+ghost use Rattle.sot_lang.specs.TreeViews.{tree_view, next_view, plant_view};
+ghost use Rattle.sot_parser.specs.Lexemes.{begins, is_keyword};
+ghost use Rattle.sot_parser.specs.Reads.{name_at};
+ghost use Rattle.sot_parser.specs.ListReads.{all_at};
+ghost use Rattle.sot_parser.specs.StatementReads.{tree_at};
+ghost use Rattle.sot_parser.specs.DeclarationReads.{next_at, plant_at};
+ghost use Rattle.sot_parser.specs.ReadViews.{Gives};
+
+use crate::items::{clause, optional};
+use crate::leaves::{expect_keyword, expect_sign, is_keyword, name};
+use crate::plain::tree;
+use crate::syntax::Fail;
+use crate::tokens::Tokens;
+use sot_lang::{NextDecl, PlantDecl};
+use std::alloc::Global;
+
+#[tactic(auto, unfolding(crate::specs::DeclarationReads::next_at))]
+fn next(alloc: Global, tokens: &mut Tokens<'_>, room: u32) -> Result<NextDecl, Fail>
+    requires room { (1 ≤ room) × (room ≤ 64) }
+    ensures { Gives next_view result tokens.old tokens.new (next_at room tokens.old.tokens) }
+{
+    expect_keyword(tokens, b"next")?;
+    let name = name(alloc, tokens)?;
+    expect_sign(tokens, b"=")?;
+    let value = tree(alloc, tokens, room)?;
+    expect_sign(tokens, b";")?;
+    Ok(NextDecl { name, value })
+}
+
+fn nexts(alloc: Global, tokens: &mut Tokens<'_>, room: u32) -> Result<Vec<NextDecl>, Fail>
+    requires room { (1 ≤ room) × (room ≤ 64) }
+    ensures { Gives (λ nexts. map next_view nexts.items) result tokens.old tokens.new (all_at (begins (is_keyword (codes "next"))) (next_at room) tokens.old.tokens) }
+{
+    let mut nexts = Vec::new(alloc);
+    while is_keyword(tokens, b"next") {
+        let next = next(alloc, tokens, room)?;
+        nexts.push(next)?;
+    }
+    Ok(nexts)
+}
+
+/// A plant, whose expressions have at most `room` levels.
+#[tactic(auto, unfolding(crate::specs::DeclarationReads::plant_at))]
+pub fn plant(alloc: Global, tokens: &mut Tokens<'_>, room: u32) -> Result<PlantDecl, Fail>
+    requires room { (1 ≤ room) × (room ≤ 64) }
+    ensures { Gives plant_view result tokens.old tokens.new (plant_at room tokens.old.tokens) }
+{
+    expect_keyword(tokens, b"plant")?;
+    let name = name(alloc, tokens)?;
+    expect_sign(tokens, b"{")?;
+    let states = clause(alloc, tokens, b"state")?;
+    let inputs = optional(alloc, tokens, b"input")?;
+    let sees = optional(alloc, tokens, b"sees")?;
+    let noise = optional(alloc, tokens, b"noise")?;
+    let next = nexts(alloc, tokens, room)?;
+    let end = expect_sign(tokens, b"}")?;
+    Ok(PlantDecl {
+        name,
+        states,
+        inputs,
+        sees,
+        noise,
+        next,
+        end,
+    })
+}

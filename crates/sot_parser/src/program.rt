@@ -1,0 +1,93 @@
+ghost use Rattle.std.specs.Prelude.{◌≡◌, IfOk, IsErrOf};
+ghost use Rattle.sot_text.specs.Ahead.{ahead_from};
+ghost use Rattle.sot_lang.specs.Trees.{Program as ProgramTree};
+ghost use Rattle.sot_lang.specs.TreeViews.{program_view};
+ghost use Rattle.sot_parser.specs.Programs.{Spells};
+ghost use Rattle.sot_parser.specs.DeclarationReads.{program_at};
+ghost use Rattle.sot_parser.specs.Answers.{stuck_syntax, deep_syntax, is_ended, fault_at, Answers};
+ghost use Rattle.sot_parser.specs.ReadViews.{Gives};
+
+use crate::declaration::declarations;
+use crate::syntax::{Fail, ParseFail, Syntax};
+use crate::tokens::Tokens;
+use sot_lang::Program;
+use sot_text::Lexer;
+use std::alloc::Global;
+
+const ROOM: u32 = 64;
+
+#[tactic(auto, unfolding(crate::specs::DeclarationReads::program_at))]
+fn program(alloc: Global, tokens: &mut Tokens<'_>) -> Result<Program, Fail>
+    ensures { Gives program_view result tokens.old tokens.new (program_at tokens.old.tokens) }
+{
+    let decls = declarations(alloc, tokens, ROOM)?;
+    Ok(Program { decls })
+}
+
+// Where no text of the grammar goes on: at the next token, at a piece that is none, or at the end of the text.
+fn stuck(lexer: &Lexer<'_>, tokens: &Tokens<'_>) -> Syntax
+    ensures { result ≡ stuck_syntax lexer.now.bytes tokens.now }
+{
+    match tokens.peek() {
+        Some(token) => Syntax::Token { at: token.at },
+        None => match tokens.fault() {
+            Some(fault) => Syntax::Lex(fault),
+            None => Syntax::Token { at: lexer.end() },
+        },
+    }
+}
+
+fn too_deep(lexer: &Lexer<'_>, tokens: &Tokens<'_>) -> Syntax
+    ensures { result ≡ deep_syntax lexer.now.bytes tokens.now }
+{
+    match tokens.peek() {
+        Some(token) => Syntax::Deep { at: token.at },
+        None => stuck(lexer, tokens),
+    }
+}
+
+// The text ends where its tokens do.
+fn is_ended(tokens: &Tokens<'_>) -> bool
+    ensures { result ≡ is_ended tokens.now }
+{
+    match tokens.peek() {
+        Some(_) => false,
+        None => tokens.fault().is_none(),
+    }
+}
+
+#[tactic(auto, using(crate::proofs::ProgramTexts::read_all, crate::proofs::ProgramTexts::not_all, crate::proofs::ProgramTexts::none_read, crate::proofs::ProgramTexts::stuck_place, crate::proofs::ProgramTexts::deep_place, crate::proofs::ProgramTexts::more_place))]
+fn answer(alloc: Global, lexer: &Lexer<'_>) -> Result<Program, ParseFail>
+    ensures { Answers result lexer.now.bytes (ahead_from lexer.now.bytes lexer.now.at) }
+{
+    let mut tokens = Tokens::new(lexer.again());
+    match program(alloc, &mut tokens) {
+        Ok(program) => {
+            if is_ended(&tokens) {
+                Ok(program)
+            } else {
+                Err(ParseFail::Syntax(stuck(lexer, &tokens)))
+            }
+        }
+        Err(Fail::Token) => Err(ParseFail::Syntax(stuck(lexer, &tokens))),
+        Err(Fail::Deep) => Err(ParseFail::Syntax(too_deep(lexer, &tokens))),
+        Err(Fail::Memory) => Err(ParseFail::Memory),
+    }
+}
+
+/// Reads a program, from where the lexer stands to the end of its text. The lexer stays there.
+#[tactic(auto, using(crate::proofs::ProgramTexts::answers_ok, crate::proofs::ProgramTexts::answers_only))]
+pub fn parse<'a>(alloc: Global, lexer: &mut Lexer<'a>) -> Result<Program, ParseFail>
+    ensures ok { IfOk result (λ program. Spells lexer.old.bytes lexer.old.at (program_view program)) }
+    ensures only { IfOk result (λ program. (other : ProgramTree) → Spells lexer.old.bytes lexer.old.at other → other ≡ program_view program) }
+    ensures syntax { (fault : _) → IsErrOf result (ParseFail.Syntax fault) → (program : ProgramTree) → ¬ (Spells lexer.old.bytes lexer.old.at program) }
+    ensures place { (fault : _) → IsErrOf result (ParseFail.Syntax fault) → fault ≡ fault_at lexer.old.bytes lexer.old.at }
+    ensures stays { lexer.new ≡ lexer.old }
+{
+    answer(alloc, lexer)
+}
+
+/// A text spells at most one program.
+pub fn programs_are_unique()
+    ensures { (bytes : _) → (at : _) → (first : ProgramTree) → (second : ProgramTree) → Spells bytes at first → Spells bytes at second → first ≡ second }
+{}

@@ -1,0 +1,102 @@
+ghost use Rattle.std.specs.Prelude.{◌≡◌, map, codes};
+ghost use Rattle.sot_lang.specs.TreeViews.{area_view, module_view};
+ghost use Rattle.sot_parser.specs.Lexemes.{begins, is_sign, is_keyword};
+ghost use Rattle.sot_parser.specs.ListReads.{further_at, separated_at};
+ghost use Rattle.sot_parser.specs.DeclarationReads.{box_at, no_box_at, region_at, bound_at, module_at};
+ghost use Rattle.sot_parser.specs.ReadViews.{Gives};
+
+use crate::items::separated;
+use crate::leaves::{expect_keyword, expect_sign, is_keyword, is_sign, name};
+use crate::pieces::{role, timing};
+use crate::syntax::Fail;
+use crate::tokens::Tokens;
+use sot_lang::{BoxDecl, ModuleDecl};
+use std::alloc::Global;
+
+#[tactic(auto, unfolding(crate::specs::DeclarationReads::box_at))]
+fn one_box(alloc: Global, tokens: &mut Tokens<'_>) -> Result<BoxDecl, Fail>
+    ensures { Gives area_view result tokens.old tokens.new (box_at tokens.old.tokens) }
+{
+    let at = expect_sign(tokens, b"[")?;
+    let sides = separated(alloc, tokens, b",")?;
+    expect_sign(tokens, b"]")?;
+    Ok(BoxDecl { sides, at })
+}
+
+#[tactic(auto, unfolding(crate::specs::ListReads::further_at))]
+fn further_box(alloc: Global, tokens: &mut Tokens<'_>) -> Result<BoxDecl, Fail>
+    ensures { Gives area_view result tokens.old tokens.new (further_at (codes "|") box_at tokens.old.tokens) }
+{
+    expect_sign(tokens, b"|")?;
+    one_box(alloc, tokens)
+}
+
+fn boxes(alloc: Global, tokens: &mut Tokens<'_>) -> Result<Vec<BoxDecl>, Fail>
+    ensures { Gives (λ boxes. map area_view boxes.items) result tokens.old tokens.new (separated_at (codes "|") box_at tokens.old.tokens) }
+{
+    let first = one_box(alloc, tokens)?;
+    let mut boxes = Vec::new(alloc);
+    boxes.push(first)?;
+    while is_sign(tokens, b"|") {
+        let next = further_box(alloc, tokens)?;
+        boxes.push(next)?;
+    }
+    Ok(boxes)
+}
+
+#[tactic(auto, unfolding(crate::specs::DeclarationReads::no_box_at))]
+fn no_box(alloc: Global, tokens: &mut Tokens<'_>) -> Result<Vec<BoxDecl>, Fail>
+    ensures { Gives (λ boxes. map area_view boxes.items) result tokens.old tokens.new (no_box_at tokens.old.tokens) }
+{
+    expect_keyword(tokens, b"none")?;
+    Ok(Vec::new(alloc))
+}
+
+#[tactic(auto, unfolding(crate::specs::DeclarationReads::region_at))]
+fn region(alloc: Global, tokens: &mut Tokens<'_>) -> Result<Vec<BoxDecl>, Fail>
+    ensures { Gives (λ boxes. map area_view boxes.items) result tokens.old tokens.new (region_at tokens.old.tokens) }
+{
+    if is_keyword(tokens, b"none") {
+        no_box(alloc, tokens)
+    } else {
+        boxes(alloc, tokens)
+    }
+}
+
+#[tactic(auto, unfolding(crate::specs::DeclarationReads::bound_at))]
+fn bound(alloc: Global, tokens: &mut Tokens<'_>, word: &[u8]) -> Result<Vec<BoxDecl>, Fail>
+    ensures { Gives (λ boxes. map area_view boxes.items) result tokens.old tokens.new (bound_at word.now tokens.old.tokens) }
+{
+    expect_keyword(tokens, word)?;
+    let region = region(alloc, tokens)?;
+    expect_sign(tokens, b";")?;
+    Ok(region)
+}
+
+/// A module.
+#[tactic(auto, unfolding(crate::specs::DeclarationReads::module_at))]
+pub fn mission_module(alloc: Global, tokens: &mut Tokens<'_>) -> Result<ModuleDecl, Fail>
+    ensures { Gives module_view result tokens.old tokens.new (module_at tokens.old.tokens) }
+{
+    expect_keyword(tokens, b"module")?;
+    let name = name(alloc, tokens)?;
+    expect_sign(tokens, b"{")?;
+    let ac = role(alloc, tokens, b"ac")?;
+    let sc = role(alloc, tokens, b"sc")?;
+    let (period, offset) = timing(tokens)?;
+    expect_sign(tokens, b";")?;
+    let plant = role(alloc, tokens, b"plant")?;
+    let safe = bound(alloc, tokens, b"safe")?;
+    let safer = bound(alloc, tokens, b"safer")?;
+    expect_sign(tokens, b"}")?;
+    Ok(ModuleDecl {
+        name,
+        ac,
+        sc,
+        period,
+        offset,
+        plant,
+        safe,
+        safer,
+    })
+}
