@@ -8,7 +8,9 @@ use Rattle.sot_parser.specs.Header.{Head}
 use Rattle.soter.specs.declared.shape.Refusal.{Refusal}
 use Rattle.soter.specs.Shape.{HasShape, Refuses}
 use Rattle.soter.specs.Texts.{accepted_text, refusal_text, usage_text, long_text}
-use Rattle.soter.specs.Answers.{Checks, IsCheck, input_limit}
+use Rattle.soter.specs.declared.words.Command.{Command}
+use Rattle.soter.specs.Words.{Asks, AsksSome, AsksNone}
+use Rattle.soter.specs.Answers.{Replies, input_limit}
 
 -- what is said of a program
 abbrev pub Judges : Head → ℕ → List ℕ → Type 0
@@ -17,20 +19,20 @@ Judges head status text =
     ⊎ ((status ≡ 1) × ((refusal : Refusal) × Refuses head refusal × (text ≡ refusal_text head refusal)))
 
 -- what is said of what a source gave: of all that it had left, or of too much
-abbrev pub ReadAnswer : Option (List ℕ) → Option (List ℕ) → ℕ → List ℕ → Type 0
-ReadAnswer left left_after status text =
-    ((bytes : List ℕ) × ReadsAll left left_after bytes × (length bytes ≤ input_limit) × Checks bytes status text)
+abbrev pub ReadAnswer : Command → Option (List ℕ) → Option (List ℕ) → ℕ → List ℕ → Type 0
+ReadAnswer command left left_after status text =
+    ((bytes : List ℕ) × ReadsAll left left_after bytes × (length bytes ≤ input_limit) × Replies command bytes status text)
     ⊎ ((status ≡ 7) × ReadsCount left left_after (input_limit + 1) × (text ≡ long_text))
 
 -- what is said at the words
 abbrev pub WordAnswer : List (String Global) → Option (List ℕ) → Option (List ℕ) → ℕ → List ℕ → Type 0
 WordAnswer words left left_after status text =
-    (IsCheck words × ReadAnswer left left_after status text) ⊎ ((¬ (IsCheck words)) × (status ≡ 2) × (text ≡ usage_text))
+    ((command : Command) × Asks words command × ReadAnswer command left left_after status text) ⊎ (AsksNone words × (status ≡ 2) × (text ≡ usage_text))
 
 -- why nothing is said: memory, or a source that failed
 abbrev pub Silence : List (String Global) → ℕ → ℕ → ℕ → Type 0
 Silence words faults faults_after status =
-    (status ≡ 6) ⊎ ((status ≡ 4) × IsCheck words × Rose faults faults_after)
+    (status ≡ 6) ⊎ ((status ≡ 4) × AsksSome words × Rose faults faults_after)
 
 -- a text was written and this is its status, or the sink failed before its end
 abbrev pub Written : Option (List ℕ) → Option (List ℕ) → ℕ → ℕ → ℕ → List ℕ → ℕ → Type 0

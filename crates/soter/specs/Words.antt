@@ -13,3 +13,10 @@ word_of Format = codes "format"
 -- the words ask for this command: they are its word alone
 abbrev pub Asks : List (String Global) → Command → Type 0
 Asks words command = map string_bytes words ≡ word_of command ∷ []
+
+-- they ask for some command, or for none
+abbrev pub AsksSome : List (String Global) → Type 0
+AsksSome words = (command : Command) × Asks words command
+
+abbrev pub AsksNone : List (String Global) → Type 0
+AsksNone words = (command : Command) → ¬ (Asks words command)
