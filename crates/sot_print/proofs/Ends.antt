@@ -30,7 +30,7 @@ prefix_stops p xs ys none =
       | inr some ↦ cond-false (prefix_len p xs == length xs) _ _ some
     ])
 
-word_goes : (a : ℕ) (as_ rest : List ℕ) (kind : Kind) → begins_word a ≡ true → IsTokenText kind (a ∷ as_) → word_len rest ≡ 0
+pub word_goes : (a : ℕ) (as_ rest : List ℕ) (kind : Kind) → begins_word a ≡ true → IsTokenText kind (a ∷ as_) → word_len rest ≡ 0
     → front ((a ∷ as_) ++ rest) ≡ Token kind (length (a ∷ as_))
 word_goes a as_ rest kind first is none =
     let text : List ℕ = a ∷ as_ in

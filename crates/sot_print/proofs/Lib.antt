@@ -5,3 +5,8 @@ pub mod Numerals
 pub mod Declarations
 pub mod Ends
 pub mod ReadBack
+pub mod Sits
+pub mod LeafSits
+pub mod ExpressionSits
+pub mod StatementSits
+pub mod ProgramSits

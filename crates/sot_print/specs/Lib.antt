@@ -6,5 +6,6 @@ pub mod Statements
 pub mod Canonical
 -- which words are read back
 pub mod Layout
+pub mod Spellable
 -- worked texts
 pub mod Examples

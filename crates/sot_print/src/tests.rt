@@ -167,5 +167,6 @@ fn the_empty_program_prints_nothing(rt: HostRuntime) -> Result<(), Fail> {
     expressions_are_as_stated();
     declarations_are_as_stated();
     words_are_read_back();
+    canonical_words_are_read_back();
     Ok(())
 }
