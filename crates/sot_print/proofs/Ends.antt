@@ -1,5 +1,5 @@
 -- A token with something behind it is the same token, unless that goes on with it.
-use Rattle.std.proofs.Common.{◌≡◌, ℕ, ◌+◌, ◌<◌, ◌≤◌, ◌==◌, Bool, true, false, cond, List, [], ◌∷◌, ◌++◌, length, take, drop, inl, inr, refl, sym, ap, ap₂, subst, ◌∙◌, arith}
+use Rattle.std.proofs.Common.{◌≡◌, ℕ, ◌+◌, ◌<◌, ◌==◌, Bool, true, false, cond, List, [], ◌∷◌, ◌++◌, length, take, drop, inl, inr, refl, sym, ap, ap₂, subst, ◌∙◌, arith}
 use Rattle.std.specs.List.{prefix_len}
 use Rattle.std.specs.Char.{is_ascii_digit}
 use Rattle.std.proofs.lemmas.Bool.{cases_Bool, cond-true, cond-false}
@@ -10,10 +10,10 @@ use Rattle.std.proofs.lemmas.List.Sums.{prefix_len-le-length}
 use Rattle.std.proofs.Math.Seq.{take-append_seam, take-length}
 use Rattle.sot_text.specs.declared.token.Kind.{Kind}
 use Rattle.sot_text.specs.declared.lexeme.Front.TheVariants.{Token, BadByte}
-use Rattle.sot_text.specs.Lexeme.{begins_word, is_in_word, is_blank, word_len, digits_len, decimals_len, decimals_of, mantissa_of, number_len, sign_len, word, number, sign, front, skipped, IsTokenText}
+use Rattle.sot_text.specs.Lexeme.{begins_word, is_in_word, is_blank, word_len, digits_len, decimals_len, decimals_of, mantissa_of, number_len, word, number, sign, front, skipped, IsTokenText}
 use Rattle.sot_text.specs.Inside.{is_long_sign, is_short_sign, sign_by_two}
 use Rattle.sot_text.proofs.Signs.{by_two}
-use Rattle.sot_text.proofs.Fronts.{front_word, front_number, front_sign, word_takes, sized_takes, sign_takes, number-take}
+use Rattle.sot_text.proofs.Fronts.{front_word, front_number, front_sign, word_takes, sized_takes, number-take}
 
 -- nothing behind a token goes on with it
 pub record IsEnd (text rest : List ℕ) : Type 0 where

@@ -1,5 +1,5 @@
 -- The words of expressions are tokens that may follow one another.
-use Rattle.std.proofs.Common.{◌≡◌, Bool, true, false, cond, List, [], ◌∷◌, ◌++◌, codes, refl}
+use Rattle.std.proofs.Common.{true, false, List, [], ◌∷◌, ◌++◌, codes, refl}
 use Rattle.sot_text.specs.declared.token.Kind.TheVariants.{Keyword}
 use Rattle.sot_text.specs.Lexeme.{IsTokenText}
 use Rattle.sot_lang.specs.declared.operator.Op.{Op}
@@ -10,7 +10,7 @@ use Rattle.sot_lang.specs.Trees.{Tree, Trees, number, truth, named, binary, rest
 use Rattle.sot_print.specs.declared.gap.Gap.{Gap}
 use Rattle.sot_print.specs.declared.gap.Gap.TheVariants.{Touching, Space}
 use Rattle.sot_print.specs.Words.{Word, keyword, sign}
-use Rattle.sot_print.specs.Leaves.{literal_words, separated}
+use Rattle.sot_print.specs.Leaves.{literal_words}
 use Rattle.sot_print.specs.Expressions.{operator, function_name, is_plain, grouped_words, operand_words, expression_words, parts_from}
 use Rattle.sot_print.specs.Spellable.{IsTree, AreTrees}
 use Rattle.sot_print.proofs.Sits.{IsTok, Sits, SitsAnywhere, Enters, spaced, ended, then_word, joined, choice, sign_token, closes, opens, round_ends, minus_ends}

@@ -5,8 +5,8 @@ use Rattle.std.proofs.lemmas.Bool.{cases_Bool, cond-true, cond-false}
 use Rattle.std.proofs.lemmas.Bool.Decides.{nat_tests}
 use Rattle.sot_text.specs.declared.token.Kind.{Kind}
 use Rattle.sot_text.specs.declared.token.Kind.TheVariants.{Name, Keyword, Number, Sign}
-use Rattle.sot_text.specs.declared.lexeme.Front.TheVariants.{Token, BadByte, NameLong, LiteralWide}
-use Rattle.sot_text.specs.Lexeme.{begins_word, is_in_word, digits_len, decimals_len, decimals_of, mantissa_of, number_len, sign_len, sized, front, sign, IsTokenText}
+use Rattle.sot_text.specs.declared.lexeme.Front.TheVariants.{Token, BadByte, LiteralWide}
+use Rattle.sot_text.specs.Lexeme.{begins_word, decimals_of, mantissa_of, number_len, sign_len, sized, front, sign, IsTokenText}
 use Rattle.sot_text.specs.Inside.{is_long_sign, sign_by_two}
 use Rattle.sot_text.proofs.Signs.{by_two}
 use Rattle.sot_text.proofs.Fronts.{front_number, front_sign}
@@ -21,10 +21,9 @@ use Rattle.sot_lang.specs.declared.tree.Const.TheVariants.{Number as Numeral, Tr
 use Rattle.sot_print.specs.declared.gap.Gap.{Gap}
 use Rattle.sot_print.specs.declared.gap.Gap.TheVariants.{Touching, Space}
 use Rattle.sot_print.specs.Words.{Word, keyword, sign as a_sign, name, number}
-use Rattle.sot_print.specs.Layout.{MayFollow}
-use Rattle.sot_print.specs.Leaves.{numeral, literal_words, ident_words, reference_words, truth_words, constant_words, separated, items_from, listed, bounds_words, range_words, fixed_words, scalar_words, field_words}
+use Rattle.sot_print.specs.Leaves.{numeral, literal_words, ident_words, reference_words, truth_words, constant_words, items_from, listed, bounds_words, range_words, fixed_words, scalar_words, field_words}
 use Rattle.sot_print.specs.Spellable.{Each, IsName, IsLiteral, IfThere, AreBounds, IsScalar, IsField, IsConst}
-use Rattle.sot_print.proofs.Ends.{IsEnd, front_goes, word_goes}
+use Rattle.sot_print.proofs.Ends.{front_goes, word_goes}
 use Rattle.sot_print.proofs.Sits.{IsTok, Sits, SitsAnywhere, Enters, spaced, ended, then_word, joined, choice, sign_token, closes, opens, round_ends, square_ends, minus_ends, dots_ends}
 
 -- numbers and signs are no names, and signs are no numbers

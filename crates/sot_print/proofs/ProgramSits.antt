@@ -1,5 +1,5 @@
 -- The words of declarations and programs are tokens that may follow one another.
-use Rattle.std.proofs.Common.{◌≡◌, ℕ, Bool, true, false, Option, None, Some, List, [], ◌∷◌, ◌++◌, append-nil, codes, refl, subst}
+use Rattle.std.proofs.Common.{ℕ, Bool, true, false, Option, None, Some, List, [], ◌∷◌, ◌++◌, append-nil, codes, refl, subst}
 use Rattle.sot_text.specs.declared.token.Kind.TheVariants.{Name, Keyword}
 use Rattle.sot_text.specs.Lexeme.{IsTokenText}
 use Rattle.sot_lang.specs.declared.tree.Ident.{Ident}
@@ -12,10 +12,10 @@ use Rattle.sot_print.specs.declared.gap.Gap.TheVariants.{Touching, Space, Line}
 use Rattle.sot_print.specs.Words.{Word, keyword, sign, name}
 use Rattle.sot_print.specs.Leaves.{literal_words, ident_words, constant_words, listed, bounds_words, scalar_words, field_words}
 use Rattle.sot_print.specs.Expressions.{expression_words}
-use Rattle.sot_print.specs.Statements.{semicolon, braced_words, block_words}
-use Rattle.sot_print.specs.Canonical.{clause, closing, shape_words, start_words, topic_head_words, topic_words, state_type_words, state_words, names_clause, noise_clause, next_clause, each, plant_clauses, plant_words, timing_words, local_name_words, local_clause, node_head_words, node_clauses, do_clause, node_of, node_words, area_words, bar, areas_from, region_words, control_clauses, region_clauses, module_words, declaration_words, own_line, declarations_from, words, canonical}
+use Rattle.sot_print.specs.Statements.{semicolon, block_words}
+use Rattle.sot_print.specs.Canonical.{clause, closing, shape_words, start_words, topic_head_words, topic_words, state_type_words, state_words, names_clause, noise_clause, next_clause, each, plant_clauses, plant_words, timing_words, local_name_words, local_clause, node_head_words, node_clauses, do_clause, node_of, area_words, bar, areas_from, region_words, control_clauses, region_clauses, module_words, declaration_words, declarations_from, words, canonical}
 use Rattle.sot_print.specs.Layout.{Reads}
-use Rattle.sot_print.specs.Spellable.{Each, IsName, IsLiteral, IfThere, AreBounds, IsScalar, IsField, IsConst, IsTree, IsBlock, IsForm, IsStart, IsTopic, IsState, IsNext, IsPlant, IsLocal, IsNode, IsArea, IsModule, IsDeclaration, IsSpellable}
+use Rattle.sot_print.specs.Spellable.{Each, IsName, IsLiteral, IfThere, AreBounds, IsField, IsConst, IsBlock, IsForm, IsStart, IsTopic, IsState, IsNext, IsPlant, IsLocal, IsNode, IsArea, IsModule, IsDeclaration, IsSpellable}
 use Rattle.sot_print.proofs.Sits.{IsTok, Follows, Sits, SitsAnywhere, Enters, spaced, lined, ended, then_word, joined, choice, sign_token, closes, opens, round_ends, square_ends, brace_ends, follows_parted}
 use Rattle.sot_print.proofs.LeafSits.{literal_sits, ident_sits, constant_sits, listed_sits, bounds_sits, fixed_sits, scalar_sits, field_sits}
 use Rattle.sot_print.proofs.ExpressionSits.{expression_sits}

@@ -1,21 +1,18 @@
 -- Words are read back from the text that lays them out.
-use Rattle.std.proofs.Common.{◌≡◌, ℕ, zero, suc, ◌+◌, ◌<◌, ◌==◌, ◌&&◌, ◌||◌, Bool, true, false, List, [], ◌∷◌, ◌++◌, length, take, drop, map, replicate, Option, None, Some, Result, Ok, refl, sym, ap, ap₂, subst, ◌∙◌, append_assoc, arith}
+use Rattle.std.proofs.Common.{◌≡◌, ℕ, zero, suc, ◌+◌, ◌==◌, ◌&&◌, ◌||◌, Bool, true, false, List, [], ◌∷◌, ◌++◌, length, take, drop, map, replicate, None, Some, Ok, refl, sym, ap, ap₂, ◌∙◌, append_assoc, arith}
 use Rattle.std.proofs.Math.Seq.{take-append_seam, drop-append_seam}
 use Rattle.std.proofs.lemmas.List.{drop-drop, length-replicate}
-use Rattle.std.proofs.lemmas.Bool.{cond-false}
 use Rattle.sot_text.specs.declared.token.Kind.{Kind}
-use Rattle.sot_text.specs.declared.token.LexFault.{LexFault}
 use Rattle.sot_text.specs.declared.lexeme.Front.TheVariants.{Token}
 use Rattle.sot_text.specs.Lexeme.{skipped, front, IsTokenText}
 use Rattle.sot_text.specs.Reading.{Lexeme, Lexes, lexed, next_from, next_lexeme, span}
-use Rattle.sot_text.specs.Ahead.{Ahead, Comes}
 use Rattle.sot_text.specs.Inside.{is_long_sign}
 use Rattle.sot_text.proofs.Limits.{some_text}
 use Rattle.sot_print.specs.declared.gap.Gap.{Gap}
 use Rattle.sot_print.specs.declared.gap.Gap.TheVariants.{Touching, Space, Line}
 use Rattle.sot_print.specs.Words.{Word, blanks, laid, text_of}
-use Rattle.sot_print.specs.Layout.{Spelled, token_spelled, word_spelled, AreTokens, MayTouch, MayFollow, MayGoOn, AreParted, Reads}
-use Rattle.sot_print.proofs.Ends.{IsEnd, front_goes, nothing_skipped, blank_ends}
+use Rattle.sot_print.specs.Layout.{Spelled, token_spelled, word_spelled, AreTokens, MayFollow, MayGoOn, AreParted, Reads}
+use Rattle.sot_print.proofs.Ends.{front_goes, nothing_skipped, blank_ends}
 
 and_false : (b : Bool) → (b && false) ≡ false
 and_false true = refl

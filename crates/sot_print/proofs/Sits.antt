@@ -1,21 +1,20 @@
 -- Words one after another, each of which may follow the one before.
-use Rattle.std.proofs.Common.{◌≡◌, ℕ, ◌<◌, ◌==◌, ◌&&◌, ◌||◌, not, Bool, true, false, cond, List, [], ◌∷◌, ◌++◌, length, codes, inl, inr, refl, sym, ap, subst, ◌∙◌, append_assoc, arith}
+use Rattle.std.proofs.Common.{◌≡◌, ℕ, ◌<◌, ◌==◌, ◌&&◌, ◌||◌, not, Bool, true, false, cond, List, [], ◌∷◌, ◌++◌, length, codes, refl, sym, ap, subst, ◌∙◌, append_assoc, arith}
 use Rattle.std.specs.Char.{is_ascii_digit}
-use Rattle.std.proofs.lemmas.Bool.{cases_Bool, cond-true, cond-false}
+use Rattle.std.proofs.lemmas.Bool.{cond-false}
 use Rattle.std.proofs.lemmas.Bool.Decides.{nat_tests}
-use Rattle.sot_text.specs.declared.token.Kind.{Kind}
-use Rattle.sot_text.specs.declared.token.Kind.TheVariants.{Name, Keyword, Number, Sign}
+use Rattle.sot_text.specs.declared.token.Kind.TheVariants.{Sign}
 use Rattle.sot_text.specs.declared.lexeme.Front.TheVariants.{Token}
 use Rattle.sot_text.specs.Lexeme.{begins_word, is_in_word, front, sign, IsTokenText}
-use Rattle.sot_text.specs.Inside.{is_long_sign, sign_by_two}
+use Rattle.sot_text.specs.Inside.{sign_by_two}
 use Rattle.sot_text.proofs.Signs.{by_two}
 use Rattle.sot_text.proofs.Fronts.{front_sign}
 use Rattle.sot_text.proofs.Limits.{some_text}
 use Rattle.sot_print.specs.declared.gap.Gap.{Gap}
 use Rattle.sot_print.specs.declared.gap.Gap.TheVariants.{Touching, Space, Line}
-use Rattle.sot_print.specs.Words.{Word, sign as a_sign, laid}
-use Rattle.sot_print.specs.Layout.{AreTokens, MayTouch, MayFollow, MayGoOn, AreParted}
-use Rattle.sot_print.proofs.Ends.{IsEnd, front_goes, blank_ends}
+use Rattle.sot_print.specs.Words.{Word, sign as a_sign}
+use Rattle.sot_print.specs.Layout.{AreTokens, MayFollow, MayGoOn, AreParted}
+use Rattle.sot_print.proofs.Ends.{front_goes, blank_ends}
 
 abbrev pub IsTok : Word → Type 0
 IsTok w = IsTokenText w.kind w.text

@@ -1,5 +1,5 @@
 -- The words of statements are tokens that may follow one another.
-use Rattle.std.proofs.Common.{◌≡◌, ℕ, ◌+◌, List, [], ◌∷◌, ◌++◌, codes, refl}
+use Rattle.std.proofs.Common.{ℕ, ◌+◌, List, [], ◌∷◌, ◌++◌, codes, refl}
 use Rattle.sot_lang.specs.Trees.{Statement, Block, assigned, published, branched, repeated, no_statement, statement}
 use Rattle.sot_print.specs.declared.gap.Gap.TheVariants.{Touching, Space, Line}
 use Rattle.sot_print.specs.Words.{Word, keyword, sign, name}
@@ -7,7 +7,7 @@ use Rattle.sot_print.specs.Leaves.{literal_words, reference_words}
 use Rattle.sot_print.specs.Expressions.{expression_words}
 use Rattle.sot_print.specs.Statements.{semicolon, braced_words, otherwise_words, statement_words, block_words}
 use Rattle.sot_print.specs.Spellable.{IsStatement, IsBlock}
-use Rattle.sot_print.proofs.Sits.{IsTok, Sits, SitsAnywhere, spaced, ended, then_word, joined, sign_token, closes}
+use Rattle.sot_print.proofs.Sits.{IsTok, SitsAnywhere, spaced, ended, then_word, joined, sign_token, closes}
 use Rattle.sot_print.proofs.LeafSits.{literal_sits, reference_sits}
 use Rattle.sot_print.proofs.ExpressionSits.{expression_sits}
 

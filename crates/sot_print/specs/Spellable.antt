@@ -1,5 +1,5 @@
 -- Programs whose names are names and whose literals are numbers of the language, as those of a text are.
-use Rattle.std.specs.Prelude.{ℕ, unsigned_abs, List, [], ◌∷◌, Option, None, Some}
+use Rattle.std.specs.Prelude.{unsigned_abs, List, [], ◌∷◌, Option, None, Some}
 use Rattle.sot_text.specs.declared.token.Kind.TheVariants.{Name, Number}
 use Rattle.sot_text.specs.Lexeme.{IsTokenText}
 use Rattle.sot_lang.specs.declared.tree.Ident.{Ident}

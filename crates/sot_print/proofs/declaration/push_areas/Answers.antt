@@ -1,4 +1,4 @@
-use Rattle.std.proofs.Common.{◌≡◌, ◌==◌, ◌++◌, ◌∙◌, ap, sym, append_assoc, map, refl}
+use Rattle.std.proofs.Common.{◌==◌, ◌++◌, ◌∙◌, ap, sym, append_assoc, map, refl}
 use Rattle.std.specs.String.{string_bytes}
 use Rattle.sot_lang.specs.TreeViews.{area_view}
 use Rattle.sot_print.specs.Words.{laid}

@@ -1,5 +1,4 @@
 use Rattle.std.proofs.Common.{◌++◌, ◌∙◌, true, map, ap, sym, ◌≡◌, ◌==◌, false, length, [], ◌∷◌}
-use Rattle.std.specs.String.{string_bytes}
 use Rattle.sot_lang.specs.TreeViews.{declaration_view}
 use Rattle.sot_print.specs.Words.{laid}
 use Rattle.sot_print.specs.Canonical.{declarations_from}

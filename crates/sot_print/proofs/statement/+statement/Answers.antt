@@ -1,10 +1,9 @@
 use Rattle.std.proofs.Common.{◌∙◌, ◌++◌, ap, sym, refl}
 use Rattle.std.specs.String.{string_bytes}
 use Rattle.std.proofs.lemmas.Result.{IfOk-equal}
-use Rattle.sot_lang.specs.TreeViews.{tree_view, statement_view, block_view}
+use Rattle.sot_lang.specs.TreeViews.{statement_view, block_view}
 use Rattle.sot_print.specs.declared.gap.Gap.TheVariants.{Line, Space}
 use Rattle.sot_print.specs.Words.{blanks, laid}
-use Rattle.sot_print.specs.Expressions.{expression_words}
 use Rattle.sot_print.specs.Statements.{braced_words, otherwise_words, statement_words, block_words}
 use Rattle.sot_print.proofs.Lists.{one_step}
 use Rattle.sot_print.proofs.Blocks.{otherwise_bytes, otherwise_written, branch_bytes, branch_written, repeat_bytes, repeat_written}
