@@ -270,24 +270,21 @@ line_meets_rules N fits p h =
     subst MeetsTableRules e (rules N fits h.plants.0 h.nodes.0 h.nodes.1 h.plants.1 h.nodes.2 h.nodes.3)
 
 -- what is said of one tick is said of each that it may be
+pub pos_so : (M N : Term → Type 0) (plant : PlantInfo) → ((t : Term) → M t → N t) → IsPos M plant → IsPos N plant
+pos_so M N plant more h = record {
+  name = h.name;
+  states = h.states;
+  inputs = h.inputs;
+  sees = h.sees;
+  noise = h.noise;
+  next = (h.next.0, more h.next.0 h.next.1, h.next.2);
+}
+
 pub ticks_so : (M N : Term → Type 0) (p : Tables) → ((t : Term) → M t → N t) → IsLine M p → IsLine N p
-ticks_so M N p more h =
-    let plant = h.plants.1 in
-    record {
-      topics = h.topics;
-      scalars = h.scalars;
-      plants = (
-        h.plants.0,
-        record {
-          name = plant.name;
-          states = plant.states;
-          inputs = plant.inputs;
-          sees = plant.sees;
-          noise = plant.noise;
-          next = (plant.next.0, more plant.next.0 plant.next.1, plant.next.2);
-        },
-        h.plants.2,
-      );
-      nodes = h.nodes;
-      modules = h.modules;
-    }
+ticks_so M N p more h = record {
+  topics = h.topics;
+  scalars = h.scalars;
+  plants = (h.plants.0, pos_so M N h.plants.0 more h.plants.1, h.plants.2);
+  nodes = h.nodes;
+  modules = h.modules;
+}

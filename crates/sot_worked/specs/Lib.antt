@@ -1,5 +1,6 @@
 -- what the public contracts say
 pub mod Line
+pub mod Pair
 pub mod Divide
 pub mod Broken
 -- what they are made of

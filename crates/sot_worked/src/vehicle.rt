@@ -81,7 +81,16 @@ fn plant(alloc: Global, next: Term) -> Result<PlantInfo, AllocError>
     })
 }
 
-fn fast(alloc: Global) -> Result<NodeInfo, AllocError>
+// The plant of the vehicle that moves by its command and its disturbance.
+pub(crate) fn moving_plant(alloc: Global) -> Result<PlantInfo, AllocError>
+    ensures { IfOk result (IsPos IsMove) }
+{
+    let next = moved(alloc)?;
+    let plant = plant(alloc, next)?;
+    Ok(plant)
+}
+
+pub(crate) fn fast(alloc: Global) -> Result<NodeInfo, AllocError>
     ensures { IfOk result IsFast }
 {
     Ok(NodeInfo {
@@ -126,7 +135,7 @@ fn acts(alloc: Global) -> Result<Vec<Act>, AllocError>
     Ok(vec![in alloc; publish]?)
 }
 
-fn slow(alloc: Global) -> Result<NodeInfo, AllocError>
+pub(crate) fn slow(alloc: Global) -> Result<NodeInfo, AllocError>
     ensures { IfOk result IsSlow }
 {
     Ok(NodeInfo {
@@ -140,7 +149,7 @@ fn slow(alloc: Global) -> Result<NodeInfo, AllocError>
     })
 }
 
-fn module(alloc: Global) -> Result<ModuleInfo, AllocError>
+pub(crate) fn module(alloc: Global) -> Result<ModuleInfo, AllocError>
     ensures { IfOk result (λ m. m ≡ nav) }
 {
     Ok(ModuleInfo {

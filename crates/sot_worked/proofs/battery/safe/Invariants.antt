@@ -1,0 +1,9 @@
+use Rattle.std.proofs.Common.{◌≡◌}
+use Rattle.sot_worked.specs.Pair.{stairs}
+use Rattle.sot_worked.proofs.battery.safe.Given as goal
+
+abbrev pub invariant-loop-h : goal.invariant-loop-h
+invariant-loop-h l = record {
+  width : l.region.width ≡ 2;
+  boxes : l.region.boxes ≡ stairs l.h;
+}

@@ -1,0 +1,250 @@
+ghost use Rattle.std.specs.Prelude.{◌≡◌, ◌≤ℤ◌, ◌∷◌, [], pos, negsuc, IfOk};
+ghost use Rattle.sot_lang.specs.Line.{cmd_name};
+ghost use Rattle.sot_worked.specs.Parts.{one_topic, whole_number};
+ghost use Rattle.sot_worked.specs.Pair.{IsHeight, IsAway, IsToll, IsDrain, IsBattery, IsCell, IsUp, IsDown, IsDescent, IsPair, stairs, fly};
+
+use crate::parts::{binary, choice, number, span, topic};
+use crate::vehicle::{fast, module, moving_plant, slow};
+use sot_box::{BoxN, Interval, Region};
+use sot_lang::{
+    Act, Func, ModuleInfo, Name, NodeInfo, NoiseInfo, Op, PlantInfo, ScalarInfo, Slot, StateInfo,
+    Term, TopicInfo, Typed,
+};
+use std::alloc::{AllocError, Global};
+
+fn topics(alloc: Global) -> Result<Vec<TopicInfo>, AllocError>
+    ensures { IfOk result (λ v. v.items ≡ one_topic cmd_name 0 ∷ one_topic (100 ∷ []) 1 ∷ []) }
+{
+    let cmd = topic(alloc, b"cmd", 0)?;
+    let d = topic(alloc, b"d", 1)?;
+    Ok(vec![in alloc; cmd, d]?)
+}
+
+fn scalars(alloc: Global) -> Result<Vec<ScalarInfo>, AllocError>
+    ensures { IfOk result (λ v. v.items ≡ whole_number 0 (negsuc 1) (pos 2) ∷ whole_number 1 (negsuc 0) (pos 1) ∷ []) }
+{
+    Ok(vec![in alloc; number(0, -2, 2), number(1, -1, 1)]?)
+}
+
+// clamp(h + d, 0, 10)
+fn height(alloc: Global) -> Result<Term, AllocError>
+    ensures { IfOk result IsHeight }
+{
+    let (plus, clamp) = (span(33, 20, 567, 568), span(33, 12, 559, 564));
+    let sum = binary(alloc, Op::Add, Term::Place(0), Term::Place(2), plus)?;
+    Ok(Term::Call {
+        func: Func::Clamp,
+        parts: vec![in alloc; sum, Term::Number(0), Term::Number(10)]?,
+        at: clamp,
+    })
+}
+
+// abs(pos.x)
+fn away(alloc: Global) -> Result<Term, AllocError>
+    ensures { IfOk result IsAway }
+{
+    Ok(Term::Call {
+        func: Func::Abs,
+        parts: vec![in alloc; Term::Place(3)]?,
+        at: span(34, 45, 624, 627),
+    })
+}
+
+// if (abs(pos.x) > 20) then 1 else 0
+fn toll(alloc: Global) -> Result<Term, AllocError>
+    ensures { IfOk result IsToll }
+{
+    let (greater, outer) = (span(34, 56, 635, 636), span(34, 41, 620, 622));
+    let away = away(alloc)?;
+    let far = binary(alloc, Op::Greater, away, Term::Number(20), greater)?;
+    let value = choice(alloc, far, Term::Number(1), Term::Number(0), outer)?;
+    Ok(value)
+}
+
+// ((b - 1) - such a number) - w
+fn drain(alloc: Global) -> Result<Term, AllocError>
+    ensures { IfOk result IsDrain }
+{
+    let (inner, middle) = (span(34, 33, 612, 613), span(34, 38, 617, 618));
+    let outer = span(34, 78, 657, 658);
+    let toll = toll(alloc)?;
+    let first = binary(alloc, Op::Sub, Term::Place(1), Term::Number(1), inner)?;
+    let second = binary(alloc, Op::Sub, first, toll, middle)?;
+    let value = binary(alloc, Op::Sub, second, Term::Place(4), outer)?;
+    Ok(value)
+}
+
+// if (h > 0) then such a number else b
+fn battery(alloc: Global) -> Result<Term, AllocError>
+    ensures { IfOk result IsBattery }
+{
+    let (greater, outer) = (span(34, 18, 597, 598), span(34, 12, 591, 593));
+    let flies = binary(
+        alloc,
+        Op::Greater,
+        Term::Place(0),
+        Term::Number(0),
+        greater,
+    )?;
+    let drained = drain(alloc)?;
+    let value = choice(alloc, flies, drained, Term::Place(1), outer)?;
+    Ok(value)
+}
+
+fn states(alloc: Global) -> Result<Vec<StateInfo>, AllocError>
+    ensures { IfOk result (λ v. v.items ≡ record { name = 104 ∷ []; scale = 0 } ∷ record { name = 98 ∷ []; scale = 0 } ∷ []) }
+{
+    let h = StateInfo {
+        name: Name::from_bytes(alloc, b"h")?,
+        scale: 0,
+    };
+    let b = StateInfo {
+        name: Name::from_bytes(alloc, b"b")?,
+        scale: 0,
+    };
+    Ok(vec![in alloc; h, b]?)
+}
+
+fn disturbance(alloc: Global) -> Result<NoiseInfo, AllocError>
+    ensures { IfOk result (λ d. d ≡ record { name = 119 ∷ []; scale = 0; lo = pos 0; hi = pos 1 }) }
+{
+    Ok(NoiseInfo {
+        name: Name::from_bytes(alloc, b"w")?,
+        scale: 0,
+        lo: 0,
+        hi: 1,
+    })
+}
+
+fn cell(alloc: Global) -> Result<PlantInfo, AllocError>
+    ensures { IfOk result IsCell }
+{
+    let states = states(alloc)?;
+    let disturbance = disturbance(alloc)?;
+    let height = height(alloc)?;
+    let battery = battery(alloc)?;
+    Ok(PlantInfo {
+        name: Name::from_bytes(alloc, b"cell")?,
+        states,
+        inputs: vec![in alloc; 1]?,
+        sees: vec![in alloc; 0]?,
+        noise: vec![in alloc; disturbance]?,
+        next: vec![in alloc; height, battery]?,
+    })
+}
+
+fn up(alloc: Global) -> Result<NodeInfo, AllocError>
+    ensures { IfOk result IsUp }
+{
+    Ok(NodeInfo {
+        name: Name::from_bytes(alloc, b"up")?,
+        period: 2,
+        offset: 0,
+        reads: vec![in alloc; Slot::State { plant: 1, var: 0 }, Slot::State { plant: 1, var: 1 }]?,
+        writes: vec![in alloc; 1]?,
+        locals: Vec::new(alloc),
+        body: None,
+    })
+}
+
+fn acts(alloc: Global) -> Result<Vec<Act>, AllocError>
+    ensures { IfOk result (λ v. IsDescent v.items) }
+{
+    let publish = Act::Publish {
+        slot: 0,
+        value: Term::Number(-1),
+        at: span(44, 13, 807, 808),
+    };
+    Ok(vec![in alloc; publish]?)
+}
+
+fn down(alloc: Global) -> Result<NodeInfo, AllocError>
+    ensures { IfOk result IsDown }
+{
+    Ok(NodeInfo {
+        name: Name::from_bytes(alloc, b"down")?,
+        period: 1,
+        offset: 0,
+        reads: vec![in alloc; Slot::State { plant: 1, var: 0 }, Slot::State { plant: 1, var: 1 }]?,
+        writes: vec![in alloc; 1]?,
+        locals: Vec::new(alloc),
+        body: Some(acts(alloc)?),
+    })
+}
+
+// At height h a battery of at least 3h.
+fn safe(alloc: Global) -> Result<Region, AllocError>
+    ensures { IfOk result (λ r. r ≡ record { width = 2; boxes = stairs 11 }) }
+{
+    let mut region = Region::none(alloc, 2);
+    for h in 0..11u32 {
+        let at = i64::from(h);
+        let height = Interval { lo: at, hi: at };
+        let battery = Interval {
+            lo: 3 * at,
+            hi: 1000,
+        };
+        let b = BoxN::of(&[height, battery]).unwrap();
+        if let Err(_) = region.push(b) {
+            return Err(AllocError);
+        }
+    }
+    Ok(region)
+}
+
+// Any height, with a battery of at least this.
+fn safer(alloc: Global, low: i64) -> Result<Region, AllocError>
+    requires { low ≤ℤ pos 1000 }
+    ensures { IfOk result (λ r. r ≡ (fly low).safer) }
+{
+    let mut region = Region::none(alloc, 2);
+    let height = Interval { lo: 0, hi: 10 };
+    let battery = Interval { lo: low, hi: 1000 };
+    let b = BoxN::of(&[height, battery]).unwrap();
+    match region.push(b) {
+        Ok(()) => Ok(region),
+        Err(_) => Err(AllocError),
+    }
+}
+
+fn flight(alloc: Global, low: i64) -> Result<ModuleInfo, AllocError>
+    requires { low ≤ℤ pos 1000 }
+    ensures { IfOk result (λ m. m ≡ fly low) }
+{
+    Ok(ModuleInfo {
+        name: Name::from_bytes(alloc, b"fly")?,
+        ac: 2,
+        sc: 3,
+        period: 2,
+        offset: 0,
+        plant: 1,
+        safe: safe(alloc)?,
+        safer: safer(alloc, low)?,
+    })
+}
+
+/// The tables of a mission with two plants: the vehicle on a line, and a battery, plant 1, that is drained in the air, and more
+/// where the vehicle, which it sees, is more than 20 away from 0. Node 2, `up`, is external, and node 3, `down`, lets it sink.
+/// Module 1 trusts `up` where the battery is at least at `low`.
+pub fn pair(alloc: Global, low: i64) -> Result<Typed, AllocError>
+    requires { low ≤ℤ pos 1000 }
+    ensures { IfOk result (IsPair low) }
+{
+    let topics = topics(alloc)?;
+    let scalars = scalars(alloc)?;
+    let vehicle = moving_plant(alloc)?;
+    let cell = cell(alloc)?;
+    let fast = fast(alloc)?;
+    let slow = slow(alloc)?;
+    let up = up(alloc)?;
+    let down = down(alloc)?;
+    let nav = module(alloc)?;
+    let fly = flight(alloc, low)?;
+    Ok(Typed {
+        topics,
+        scalars,
+        plants: vec![in alloc; vehicle, cell]?,
+        nodes: vec![in alloc; fast, slow, up, down]?,
+        modules: vec![in alloc; nav, fly]?,
+    })
+}
