@@ -1,0 +1,4 @@
+pub mod Entries
+pub mod Missions
+pub mod Times
+pub mod Views

@@ -1,0 +1,3 @@
+mod drive;
+mod verdicts;
+mod worlds;

@@ -1,0 +1,77 @@
+// Events as tests hand them to a world.
+ghost use Rattle.std.specs.Prelude.{◌≡◌, List, None, length, IsTrue};
+ghost use Rattle.sot_box.specs.Lists.{At};
+ghost use Rattle.sot_lang.specs.declared.act.Act.{Act};
+ghost use Rattle.sot_lang.specs.declared.tables.NodeInfo.{NodeInfo};
+ghost use Rattle.sot_lang.specs.TableRules.{IsCoded};
+ghost use Rattle.sot_world.specs.Events.{Names, noise_count};
+
+use sot_lang::{PlantInfo, Typed};
+use sot_world::{Event, Outcome, Why, World};
+
+// Whether there is one disturbance for each of the plants'.
+fn has_noise(plants: &[PlantInfo], noise: &[i64]) -> bool
+    ensures { IsTrue result → length noise.now ≡ noise_count plants.now }
+{
+    let (_, mut rest) = noise.split_at(0);
+    for plant in plants {
+        if rest.len() < plant.noise.len() {
+            return false;
+        }
+        let (_, more) = rest.split_at(plant.noise.len());
+        rest = more;
+    }
+    rest.len() == 0
+}
+
+fn has_code(p: &Typed, node: u32) -> bool
+    ensures { IsTrue result → (info : NodeInfo) × (acts : List Act) × At p.now.nodes node info × IsCoded info acts }
+{
+    if node as usize >= p.nodes.len() {
+        return false;
+    }
+    p.nodes[node as usize].body.is_some()
+}
+
+fn is_external(p: &Typed, node: u32) -> bool
+    ensures { IsTrue result → (info : NodeInfo) × At p.now.nodes node info × (info.body ≡ None) }
+{
+    if node as usize >= p.nodes.len() {
+        return false;
+    }
+    let info = &p.nodes[node as usize];
+    match &info.body {
+        Some(_) => false,
+        None => true,
+    }
+}
+
+// Whether an event names what is there. The tests hand in no inputs.
+fn names(p: &Typed, e: &Event<'_>) -> bool
+    ensures { IsTrue result → Names p.now e.now }
+{
+    match *e {
+        Event::Input { .. } => false,
+        Event::Code { node } => has_code(p, node),
+        Event::Guest { node, .. } => is_external(p, node),
+        Event::Decide { module } => (module as usize) < p.modules.len(),
+        Event::Tick { noise } => has_noise(&p.plants, noise),
+    }
+}
+
+// Steps by an event that can happen now, and else tells why not. `None` where the event names nothing.
+pub(super) fn happen(p: &Typed, w: &mut World<'_>, e: &Event<'_>) -> Option<Result<Outcome, Why>>
+    requires { w.old.accepted.program ≡ p.now }
+    ensures { w.new.accepted.program ≡ p.now }
+{
+    if !names(p, e) {
+        return None;
+    }
+    if w.time() >= 100000 {
+        return None;
+    }
+    match w.can(e) {
+        Ok(()) => Some(Ok(w.step(e))),
+        Err(why) => Some(Err(why)),
+    }
+}

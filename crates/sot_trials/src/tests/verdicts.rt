@@ -1,0 +1,156 @@
+// What is accepted, and for what the rest is refused. The evidence was worked out by hand, and again by a program that was
+// written from the rules alone.
+ghost use Rattle.std.specs.Prelude.{◌≤ℤ◌, ◌∷◌, [], ◌≡◌};
+ghost use Rattle.sot_trials.specs.Entries.{FitsAll};
+
+use crate::{line_cert, line_without_entry, nothing_to_certify};
+use sot_box::{BoxN, Interval, Point};
+use sot_compose::{CheckFail, check_all};
+use sot_lang::{Cert, TrapKind, Typed};
+use sot_rta::Refusal;
+use sot_text::Span;
+use sot_worked::{divide, divide_by_at_least_one, line};
+use std::alloc::{AllocError, Global};
+use std::test::Fail;
+
+type Answer = Result<(), CheckFail>;
+
+pub(super) fn side(lo: i64, hi: i64) -> Interval
+    requires { lo ≤ℤ hi }
+    ensures { result ≡ record { lo = lo; hi = hi } }
+{
+    Interval { lo, hi }
+}
+
+fn refused(r: Refusal) -> Answer {
+    Err(CheckFail::Refused(r))
+}
+
+fn line_answer(alloc: Global, c: &Cert) -> Result<Answer, AllocError>
+    requires { FitsAll (1 ∷ []) c.now }
+{
+    let p = line(alloc)?;
+    match check_all(&p, c) {
+        Ok(_) => Ok(Ok(())),
+        Err(fail) => Ok(Err(fail)),
+    }
+}
+
+// Whether the vehicle on a line is accepted with these cells.
+fn answer(alloc: Global, closed: &[Interval], reach: &[Interval]) -> Result<Answer, AllocError> {
+    let c = line_cert(alloc, closed, reach)?;
+    line_answer(alloc, &c)
+}
+
+fn answer_without_entry(alloc: Global) -> Result<Answer, AllocError> {
+    let c = line_without_entry(alloc)?;
+    line_answer(alloc, &c)
+}
+
+fn divide_answer(alloc: Global) -> Result<Answer, AllocError> {
+    let p = divide(alloc)?;
+    let c = nothing_to_certify(alloc);
+    match check_all(&p, &c) {
+        Ok(_) => Ok(Ok(())),
+        Err(fail) => Ok(Err(fail)),
+    }
+}
+
+fn guarded_divide_answer(alloc: Global) -> Result<Answer, AllocError> {
+    let p = divide_by_at_least_one(alloc)?;
+    let c = nothing_to_certify(alloc);
+    match check_all(&p, &c) {
+        Ok(_) => Ok(Ok(())),
+        Err(fail) => Ok(Err(fail)),
+    }
+}
+
+fn at(x: i64) -> Point {
+    Point::of(&[x]).unwrap()
+}
+
+fn closed_leaves(tick: u32, lo: i64, hi: i64) -> Answer
+    requires { lo ≤ℤ hi }
+{
+    refused(Refusal::ClosedLeaves {
+        module: 0,
+        cell: 0,
+        tick,
+        area: BoxN::of(&[side(lo, hi)]).unwrap(),
+        point: at(lo),
+    })
+}
+
+fn reach_leaves(tick: u32, lo: i64, hi: i64) -> Answer
+    requires { lo ≤ℤ hi }
+{
+    refused(Refusal::ReachLeaves {
+        module: 0,
+        cell: 0,
+        tick,
+        area: BoxN::of(&[side(lo, hi)]).unwrap(),
+        point: at(lo),
+    })
+}
+
+fn closed_gap(x: i64) -> Answer {
+    refused(Refusal::ClosedGap {
+        module: 0,
+        point: at(x),
+    })
+}
+
+fn reach_gap(x: i64) -> Answer {
+    refused(Refusal::ReachGap {
+        module: 0,
+        point: at(x),
+    })
+}
+
+#[test]
+fn cells_are_accepted_or_refused(rt: HostRuntime) -> Result<(), Fail> {
+    let alloc = rt.alloc();
+    let all = [side(-40, -11), side(-10, 10), side(11, 40)];
+    let one = [side(-40, 40)];
+    let outer = [side(-40, -11), side(11, 40)];
+    let ten = [side(-10, 10)];
+    let nine = [side(-10, 9)];
+    let sixteen = [side(-16, 16)];
+    let seventeen = [side(-17, 17)];
+    for (closed, reach, wanted) in [
+        (all.as_slice(), ten.as_slice(), Ok(())),
+        (all.as_slice(), sixteen.as_slice(), Ok(())),
+        (one.as_slice(), ten.as_slice(), closed_leaves(1, -43, 43)),
+        (outer.as_slice(), ten.as_slice(), closed_gap(-10)),
+        (all.as_slice(), nine.as_slice(), reach_gap(10)),
+        (
+            all.as_slice(),
+            seventeen.as_slice(),
+            reach_leaves(8, -41, 41),
+        ),
+    ] {
+        assert_eq!(rt; answer(alloc, closed, reach)?, wanted, "{closed:?} and {reach:?}");
+    }
+    let none = refused(Refusal::NoCells { module: 0 });
+    assert_eq!(rt; answer_without_entry(alloc)?, none);
+    Ok(())
+}
+
+#[test]
+fn a_node_that_may_trap_is_refused(rt: HostRuntime) -> Result<(), Fail> {
+    let trap = refused(Refusal::CodeMayTrap {
+        node: 0,
+        at: Span {
+            line: 7,
+            column: 20,
+            from: 128,
+            to: 129,
+        },
+        kind: TrapKind::ZeroDivisor,
+        lo: 0,
+        hi: 5,
+    });
+    assert_eq!(rt; divide_answer(rt.alloc())?, trap);
+    assert_eq!(rt; guarded_divide_answer(rt.alloc())?, Ok(()));
+    Ok(())
+}

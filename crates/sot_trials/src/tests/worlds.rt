@@ -1,0 +1,222 @@
+// The vehicle on a line, opened and stepped. What comes of each step was worked out by hand, and the flight again by a program
+// that was written from the rules alone.
+ghost use Rattle.std.specs.Prelude.{◌≡◌, ◌∷◌, [], IfOk, IfSome};
+ghost use Rattle.sot_lang.specs.CertRules.{FitsTables};
+ghost use Rattle.sot_worked.specs.Line.{IsLine, IsMove};
+ghost use Rattle.sot_trials.specs.Entries.{FitsAll};
+
+use super::drive::happen;
+use super::verdicts::side;
+use crate::line_cert;
+use sot_box::Point;
+use sot_compose::check_all;
+use sot_lang::{Cert, Draft, Typed};
+use sot_tube::Accepted;
+use sot_world::{Event, Mode, OpenFail, Outcome, Why, World};
+use sot_worked::line;
+use std::alloc::{AllocError, Global};
+use std::test::Fail;
+
+fn at(x: i64) -> Point
+    ensures { result ≡ x ∷ [] }
+{
+    Point::of(&[x]).unwrap()
+}
+
+// The certificate with its three closed cells and its reach cell.
+fn cert(alloc: Global) -> Result<Cert, AllocError>
+    ensures { IfOk result (FitsAll (1 ∷ [])) }
+{
+    let closed = [side(-40, -11), side(-10, 10), side(11, 40)];
+    let cert = line_cert(alloc, &closed, &[side(-10, 10)])?;
+    Ok(cert)
+}
+
+// The program, if it is accepted.
+pub(super) fn accepted<'a>(p: &'a Typed, c: &'a Cert) -> Option<Accepted<'a>>
+    requires { FitsTables p.now c.now }
+    ensures { IfSome result (λ acc. acc.program ≡ p.now) }
+{
+    match check_all(p, c) {
+        Ok(acc) => Some(acc),
+        Err(_) => None,
+    }
+}
+
+// Opens the vehicle at this place.
+fn opened<'a>(
+    alloc: Global,
+    p: &Typed,
+    acc: &'a Accepted<'a>,
+    x: i64,
+) -> Result<World<'a>, OpenFail>
+    requires program { acc.now.program ≡ p.now }
+    requires line { IsLine IsMove p.now }
+    ensures { IfOk result (λ w. w.accepted.program ≡ p.now) }
+{
+    let world = World::open(alloc, acc, &[at(x)])?;
+    Ok(world)
+}
+
+// What there is to see of a world of the vehicle.
+#[derive(Clone, Copy, PartialEq, Eq, Debug)]
+struct View {
+    time: u32,
+    mode: Mode,
+    x: Point,
+    cmd: i64,
+    locals: usize,
+    left: (bool, bool),
+    left_dm: bool,
+}
+
+fn view_of(p: &Typed, w: &World<'_>) -> View
+    requires program { w.now.accepted.program ≡ p.now }
+    requires line { IsLine IsMove p.now }
+{
+    View {
+        time: w.time(),
+        mode: w.mode(0),
+        x: w.state(0),
+        cmd: w.scalar(0),
+        locals: w.locals(0).len() + w.locals(1).len(),
+        left: (w.left(0), w.left(1)),
+        left_dm: w.left_dm(0),
+    }
+}
+
+fn seen(time: u32, mode: Mode, x: i64, cmd: i64, left: (bool, bool), left_dm: bool) -> View {
+    View {
+        time,
+        mode,
+        x: at(x),
+        cmd,
+        locals: 0,
+        left,
+        left_dm,
+    }
+}
+
+pub(super) fn draft(v: i64) -> Draft {
+    let mut draft = Draft::blank();
+    draft.set(0, v);
+    draft
+}
+
+fn fired(v: i64, enabled: bool) -> Result<Outcome, Why> {
+    Ok(Outcome::Fired {
+        draft: draft(v),
+        enabled,
+    })
+}
+
+#[test]
+fn a_world_opens_in_the_safer_region(rt: HostRuntime) -> Result<(), Fail> {
+    let alloc = rt.alloc();
+    let p = line(alloc)?;
+    let c = cert(alloc)?;
+    let Some(acc) = accepted(&p, &c) else {
+        panic!(rt; "the vehicle is accepted");
+    };
+    for (x, wanted) in [
+        (-11, Some(OpenFail::NotSafer { module: 0 })),
+        (-10, None),
+        (10, None),
+        (11, Some(OpenFail::NotSafer { module: 0 })),
+    ] {
+        assert_eq!(rt; opened(alloc, &p, &acc, x).err(), wanted, "at {x}");
+    }
+    Ok(())
+}
+
+const BOTH: (bool, bool) = (true, true);
+const SLOW: (bool, bool) = (false, true);
+const NONE: (bool, bool) = (false, false);
+
+#[test]
+fn an_instant_is_stepped_in_order(rt: HostRuntime) -> Result<(), Fail> {
+    let alloc = rt.alloc();
+    let p = line(alloc)?;
+    let c = cert(alloc)?;
+    let Some(acc) = accepted(&p, &c) else {
+        panic!(rt; "the vehicle is accepted");
+    };
+    let calm = Event::Tick { noise: &[0] };
+    let up = Event::Tick { noise: &[1] };
+    let wild = Event::Tick { noise: &[2] };
+    let decide = Event::Decide { module: 0 };
+    let slow = Event::Code { node: 1 };
+    let (sc, ac) = (Mode::Sc, Mode::Ac);
+    let decided = Ok(Outcome::Decided { mode: ac });
+    for (v, kept) in [(7, 0), (2, 2)] {
+        let fast = Event::Guest {
+            node: 0,
+            draft: draft(v),
+        };
+        let Ok(mut w) = opened(alloc, &p, &acc, 0) else {
+            panic!(rt; "the vehicle opens at 0");
+        };
+        for (e, wanted, after) in [
+            (calm, Err(Why::NodesLeft), seen(0, sc, 0, 0, BOTH, true)),
+            (decide, decided, seen(0, ac, 0, 0, BOTH, false)),
+            (decide, Err(Why::AlreadyFired), seen(0, ac, 0, 0, BOTH, false)),
+            (fast, fired(v, true), seen(0, ac, 0, kept, SLOW, false)),
+            (slow, fired(0, false), seen(0, ac, 0, kept, NONE, false)),
+            (slow, Err(Why::AlreadyFired), seen(0, ac, 0, kept, NONE, false)),
+            (wild, Err(Why::OutsideType), seen(0, ac, 0, kept, NONE, false)),
+            (up, Ok(Outcome::Ticked), seen(1, ac, kept + 1, kept, NONE, false)),
+            (decide, Err(Why::NotDue), seen(1, ac, kept + 1, kept, NONE, false)),
+            (fast, Err(Why::NotDue), seen(1, ac, kept + 1, kept, NONE, false)),
+        ] {
+            assert_eq!(rt; happen(&p, &mut w, &e), Some(wanted), "before {after:?}");
+            assert_eq!(rt; view_of(&p, &w), after);
+        }
+    }
+    Ok(())
+}
+
+// The safe node, then the advanced one with a draft of 2, then a calm tick: each where it can happen.
+fn fly(p: &Typed, w: &mut World<'_>)
+    requires { w.old.accepted.program ≡ p.now }
+    ensures { w.new.accepted.program ≡ p.now }
+{
+    let _slow = happen(p, w, &Event::Code { node: 1 });
+    let fast = Event::Guest {
+        node: 0,
+        draft: draft(2),
+    };
+    let _fast = happen(p, w, &fast);
+    let _tick = happen(p, w, &Event::Tick { noise: &[0] });
+}
+
+#[test]
+fn a_flight_switches_and_returns(rt: HostRuntime) -> Result<(), Fail> {
+    let alloc = rt.alloc();
+    let p = line(alloc)?;
+    let c = cert(alloc)?;
+    let Some(acc) = accepted(&p, &c) else {
+        panic!(rt; "the vehicle is accepted");
+    };
+    let Ok(mut w) = opened(alloc, &p, &acc, 0) else {
+        panic!(rt; "the vehicle opens at 0");
+    };
+    for (time, x, mode) in [
+        (0, 0, Mode::Ac),
+        (4, 8, Mode::Ac),
+        (8, 16, Mode::Ac),
+        (12, 24, Mode::Sc),
+        (16, 16, Mode::Sc),
+        (20, 8, Mode::Ac),
+        (24, 16, Mode::Ac),
+    ] {
+        let decided = happen(&p, &mut w, &Event::Decide { module: 0 });
+        assert_eq!(rt; decided, Some(Ok(Outcome::Decided { mode })), "at {time}");
+        let now = view_of(&p, &w);
+        assert_eq!(rt; (now.time, now.x), (time, at(x)));
+        fly(&p, &mut w);
+        fly(&p, &mut w);
+        fly(&p, &mut w);
+        fly(&p, &mut w);
+    }
+    Ok(())
+}
