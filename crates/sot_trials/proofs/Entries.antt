@@ -30,7 +30,6 @@ as_cells p plant sides cells wide h = record {
 pub one_more : (sides : ℕ) (xs ys : List (List Side)) (y : List Side) → AreOf sides xs → length y ≡ sides → AreOrdered y → ys ≡ xs ++ (y ∷ []) → AreOf sides ys
 one_more sides xs ys y all wide ordered e = rw e (snoc sides xs y all wide ordered)
 
-
 -- each entry has cells of its plant's width
 fit : (widths : List ℕ) (cert : Cert) → length cert.modules.items ≡ length widths
     → ((m : ℕ) (cells : Cells) → At cert.modules.items m (Some cells) → AreCellsBoth (slice_index_or widths m 0) cells) → FitsAll widths cert
@@ -44,14 +43,14 @@ fit widths cert count each p h = record {
 pub one_entry : (width : ℕ) (cells : Cells) (cert : Cert) → AreCellsBoth width cells → cert.modules.items ≡ Some cells ∷ [] → FitsAll (width ∷ []) cert
 one_entry width cells cert h e = fit (width ∷ []) cert (ap length e) (λ m other at.
     at_one (λ m (entry : Option Cells). (one : Cells) → entry ≡ Some one → AreCellsBoth (slice_index_or (width ∷ []) m 0) one) (Some cells)
-        (λ one same. subst (AreCellsBoth width) (same_Some cells one same) h) m (Some other) (subst (λ l. At l m (Some other)) e at) other refl)
+    (λ one same. subst (AreCellsBoth width) (same_Some cells one same) h) m (Some other) (subst (λ l. At l m (Some other)) e at) other refl)
 
 -- a certificate with two entries
 pub two_entries : (a b : ℕ) (first second : Cells) (cert : Cert) → AreCellsBoth a first → AreCellsBoth b second → cert.modules.items ≡ Some first ∷ Some second ∷ [] → FitsAll (a ∷ b ∷ []) cert
 two_entries a b first second cert h k e = fit (a ∷ b ∷ []) cert (ap length e) (λ m other at.
     at_two (λ m (entry : Option Cells). (one : Cells) → entry ≡ Some one → AreCellsBoth (slice_index_or (a ∷ b ∷ []) m 0) one) (Some first) (Some second)
-        (λ one same. subst (AreCellsBoth a) (same_Some first one same) h) (λ one same. subst (AreCellsBoth b) (same_Some second one same) k)
-        m (Some other) (subst (λ l. At l m (Some other)) e at) other refl)
+    (λ one same. subst (AreCellsBoth a) (same_Some first one same) h) (λ one same. subst (AreCellsBoth b) (same_Some second one same) k)
+    m (Some other) (subst (λ l. At l m (Some other)) e at) other refl)
 
 pub none_yet : (sides : ℕ) (xs : List (List Side)) → xs ≡ [] → AreOf sides xs
 none_yet sides xs e = rw e (λ i b at. absurd (none-some b at))

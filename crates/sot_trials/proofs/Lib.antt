@@ -2,3 +2,4 @@ pub mod Entries
 pub mod Missions
 pub mod Times
 pub mod Views
+pub mod PairViews

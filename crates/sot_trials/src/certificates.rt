@@ -1,5 +1,5 @@
-ghost use Rattle.std.specs.Prelude.{◌≡◌, ◌∷◌, [], IfOk};
-ghost use Rattle.sot_trials.specs.Entries.{AreCells, FitsAll};
+ghost use Rattle.std.specs.Prelude.{◌≡◌, ◌≤ℤ◌, ◌∷◌, [], pos, IfOk};
+ghost use Rattle.sot_trials.specs.Entries.{AreCells, AreCellsBoth, FitsAll};
 
 use sot_box::{BoxN, Interval, Region};
 use sot_lang::{Cells, Cert};
@@ -24,11 +24,7 @@ fn cells(alloc: Global, sides: &[Interval]) -> Result<Region, AllocError>
 }
 
 /// A certificate of the vehicle on a line with these cells, the first 4,096 of each kind.
-pub fn line_cert(
-    alloc: Global,
-    closed: &[Interval],
-    reach: &[Interval],
-) -> Result<Cert, AllocError>
+pub fn line_cert(alloc: Global, closed: &[Interval], reach: &[Interval]) -> Result<Cert, AllocError>
     ensures { IfOk result (FitsAll (1 ∷ [])) }
 {
     let closed = cells(alloc, closed)?;
@@ -55,4 +51,76 @@ pub fn nothing_to_certify(alloc: Global) -> Cert
     Cert {
         modules: Vec::new(alloc),
     }
+}
+
+// The boxes of the heights 0 to 10, with a battery of at least three times the height.
+fn stairs(alloc: Global) -> Result<Region, AllocError>
+    ensures { IfOk result (AreCells 2) }
+{
+    let mut region = Region::none(alloc, 2);
+    for h in 0..11u32 {
+        let at = i64::from(h);
+        let height = Interval { lo: at, hi: at };
+        let battery = Interval {
+            lo: 3 * at,
+            hi: 1000,
+        };
+        let cell = BoxN::of(&[height, battery]).unwrap();
+        // A look at the box brings that its ends are in order.
+        let _sides = cell.len();
+        if let Err(_) = region.push(cell) {
+            return Err(AllocError);
+        }
+    }
+    Ok(region)
+}
+
+// Any height, with a battery of at least this.
+fn charged(alloc: Global, low: i64) -> Result<Region, AllocError>
+    requires { low ≤ℤ pos 1000 }
+    ensures { IfOk result (AreCells 2) }
+{
+    let mut region = Region::none(alloc, 2);
+    let height = Interval { lo: 0, hi: 10 };
+    let battery = Interval { lo: low, hi: 1000 };
+    let cell = BoxN::of(&[height, battery]).unwrap();
+    // A look at the box brings that its ends are in order.
+    let _sides = cell.len();
+    match region.push(cell) {
+        Ok(()) => Ok(region),
+        Err(_) => Err(AllocError),
+    }
+}
+
+fn battery_cells(alloc: Global, low: i64) -> Result<Cells, AllocError>
+    requires { low ≤ℤ pos 1000 }
+    ensures { IfOk result (AreCellsBoth 2) }
+{
+    let closed = stairs(alloc)?;
+    let reach = charged(alloc, low)?;
+    Ok(Cells { closed, reach })
+}
+
+fn vehicle_cells(alloc: Global) -> Result<Cells, AllocError>
+    ensures { IfOk result (AreCellsBoth 1) }
+{
+    let left = Interval { lo: -40, hi: -11 };
+    let middle = Interval { lo: -10, hi: 10 };
+    let right = Interval { lo: 11, hi: 40 };
+    let closed = cells(alloc, &[left, middle, right])?;
+    let reach = cells(alloc, &[middle])?;
+    Ok(Cells { closed, reach })
+}
+
+/// A certificate of the vehicle beside a battery, which is trusted from this battery on: sixteen cells, of which the battery's are
+/// the boxes of its regions.
+pub fn pair_cert(alloc: Global, low: i64) -> Result<Cert, AllocError>
+    requires { low ≤ℤ pos 1000 }
+    ensures { IfOk result (FitsAll (1 ∷ 2 ∷ [])) }
+{
+    let vehicle = Some(vehicle_cells(alloc)?);
+    let battery = Some(battery_cells(alloc, low)?);
+    Ok(Cert {
+        modules: vec![in alloc; vehicle, battery]?,
+    })
 }

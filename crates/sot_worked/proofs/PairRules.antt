@@ -45,7 +45,7 @@ place_of : List ℕ → ℕ
 place_of name =
     let c = slice_index_or name 0 0 + 2 * slice_index_or name 1 0 in
     if c == 317 then 0 else (if c == 100 then 1 else (if c == 334 then 2 else (if c == 301 then 3 else (if c == 296 then 4 else (if c == 331 then 5
-        else (if c == 341 then 6 else (if c == 322 then 7 else (if c == 304 then 8 else 9))))))))
+    else (if c == 341 then 6 else (if c == 322 then 7 else (if c == 304 then 8 else 9))))))))
 
 abbrev all_names : List (List ℕ)
 all_names = cmd_name ∷ (100 ∷ []) ∷ pos_name ∷ cell_name ∷ fast_name ∷ slow_name ∷ up_name ∷ down_name ∷ nav_name ∷ fly_name ∷ []
@@ -288,7 +288,7 @@ module _ (low : ℤ) (in_order : low ≤ℤ pos 1000) (p : Tables) (h : IsPair l
   slow_rules : MeetsNodeRules made h.slow
   slow_rules = node_rules h.slow 0 1 0 width_pos (omega (arith, h.is_slow.period)) (omega (arith, ap length h.is_slow.reads)) (reads_x h.slow h.is_slow.reads) h.is_slow.writes h.is_slow.locals
       (λ acts coded. command_fits (node_truths made h.slow) (length h.slow.locals.items) (length h.slow.writes.items) acts (truths_x h.slow h.is_slow.reads h.is_slow.locals) (ap length h.is_slow.writes)
-          (subst IsCommand (one_body h.slow h.is_slow.body.0 acts h.is_slow.body.1 coded) h.is_slow.body.2))
+      (subst IsCommand (one_body h.slow h.is_slow.body.0 acts h.is_slow.body.1 coded) h.is_slow.body.2))
 
   up_rules : MeetsNodeRules made h.up
   up_rules = node_rules h.up 1 2 1 width_cell (omega (arith, h.is_up.period)) (omega (arith, ap length h.is_up.reads)) (reads_cell h.up h.is_up.reads) h.is_up.writes h.is_up.locals
@@ -297,7 +297,7 @@ module _ (low : ℤ) (in_order : low ≤ℤ pos 1000) (p : Tables) (h : IsPair l
   down_rules : MeetsNodeRules made h.down
   down_rules = node_rules h.down 1 2 1 width_cell (omega (arith, h.is_down.period)) (omega (arith, ap length h.is_down.reads)) (reads_cell h.down h.is_down.reads) h.is_down.writes h.is_down.locals
       (λ acts coded. descent_fits (node_truths made h.down) (length h.down.locals.items) (length h.down.writes.items) acts (ap length h.is_down.writes)
-          (subst IsDescent (one_body h.down h.is_down.body.0 acts h.is_down.body.1 coded) h.is_down.body.2))
+      (subst IsDescent (one_body h.down h.is_down.body.0 acts h.is_down.body.1 coded) h.is_down.body.2))
 
   one_box : (r : Side) → r.lo ≤ℤ r.hi → IsRegionFor made 0 (record { width = 1; boxes = (r ∷ []) ∷ [] })
   one_box r le = record {

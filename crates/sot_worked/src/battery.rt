@@ -79,13 +79,7 @@ fn battery(alloc: Global) -> Result<Term, AllocError>
     ensures { IfOk result IsBattery }
 {
     let (greater, outer) = (span(34, 18, 597, 598), span(34, 12, 591, 593));
-    let flies = binary(
-        alloc,
-        Op::Greater,
-        Term::Place(0),
-        Term::Number(0),
-        greater,
-    )?;
+    let flies = binary(alloc, Op::Greater, Term::Place(0), Term::Number(0), greater)?;
     let drained = drain(alloc)?;
     let value = choice(alloc, flies, drained, Term::Place(1), outer)?;
     Ok(value)
@@ -140,7 +134,10 @@ fn up(alloc: Global) -> Result<NodeInfo, AllocError>
         name: Name::from_bytes(alloc, b"up")?,
         period: 2,
         offset: 0,
-        reads: vec![in alloc; Slot::State { plant: 1, var: 0 }, Slot::State { plant: 1, var: 1 }]?,
+        reads: vec![in alloc;
+            Slot::State { plant: 1, var: 0 },
+            Slot::State { plant: 1, var: 1 },
+        ]?,
         writes: vec![in alloc; 1]?,
         locals: Vec::new(alloc),
         body: None,
@@ -165,7 +162,10 @@ fn down(alloc: Global) -> Result<NodeInfo, AllocError>
         name: Name::from_bytes(alloc, b"down")?,
         period: 1,
         offset: 0,
-        reads: vec![in alloc; Slot::State { plant: 1, var: 0 }, Slot::State { plant: 1, var: 1 }]?,
+        reads: vec![in alloc;
+            Slot::State { plant: 1, var: 0 },
+            Slot::State { plant: 1, var: 1 },
+        ]?,
         writes: vec![in alloc; 1]?,
         locals: Vec::new(alloc),
         body: Some(acts(alloc)?),

@@ -7,6 +7,7 @@ ghost use Rattle.sot_lang.specs.TableRules.{IsCoded};
 ghost use Rattle.sot_world.specs.Events.{Names, noise_count};
 
 use sot_lang::{PlantInfo, Typed};
+use sot_rta::node_at;
 use sot_world::{Event, Outcome, Why, World};
 
 // Whether there is one disturbance for each of the plants'.
@@ -30,7 +31,11 @@ fn has_code(p: &Typed, node: u32) -> bool
     if node as usize >= p.nodes.len() {
         return false;
     }
-    p.nodes[node as usize].body.is_some()
+    let info = node_at(p, node);
+    match &info.body {
+        Some(_) => true,
+        None => false,
+    }
 }
 
 fn is_external(p: &Typed, node: u32) -> bool
@@ -39,7 +44,7 @@ fn is_external(p: &Typed, node: u32) -> bool
     if node as usize >= p.nodes.len() {
         return false;
     }
-    let info = &p.nodes[node as usize];
+    let info = node_at(p, node);
     match &info.body {
         Some(_) => false,
         None => true,

@@ -129,7 +129,11 @@ fn cells_are_accepted_or_refused(rt: HostRuntime) -> Result<(), Fail> {
             reach_leaves(8, -41, 41),
         ),
     ] {
-        assert_eq!(rt; answer(alloc, closed, reach)?, wanted, "{closed:?} and {reach:?}");
+        assert_eq!(rt;
+            answer(alloc, closed, reach)?,
+            wanted,
+            "{closed:?} and {reach:?}"
+        );
     }
     let none = refused(Refusal::NoCells { module: 0 });
     assert_eq!(rt; answer_without_entry(alloc)?, none);

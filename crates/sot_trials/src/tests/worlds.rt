@@ -12,8 +12,8 @@ use sot_box::Point;
 use sot_compose::check_all;
 use sot_lang::{Cert, Draft, Typed};
 use sot_tube::Accepted;
-use sot_world::{Event, Mode, OpenFail, Outcome, Why, World};
 use sot_worked::line;
+use sot_world::{Event, Mode, OpenFail, Outcome, Why, World};
 use std::alloc::{AllocError, Global};
 use std::test::Fail;
 
@@ -130,8 +130,81 @@ fn a_world_opens_in_the_safer_region(rt: HostRuntime) -> Result<(), Fail> {
 }
 
 const BOTH: (bool, bool) = (true, true);
+
 const SLOW: (bool, bool) = (false, true);
+
 const NONE: (bool, bool) = (false, false);
+
+const CALM: u32 = 0;
+
+const GUST: u32 = 1;
+
+const WILD: u32 = 2;
+
+const DECIDE: u32 = 3;
+
+const FAST: u32 = 4;
+
+const SLOW_NODE: u32 = 5;
+
+// Steps by the event of this name, where the advanced node drafts `v`.
+fn ask(p: &Typed, w: &mut World<'_>, name: u32, v: i64) -> Option<Result<Outcome, Why>>
+    requires { w.old.accepted.program ≡ p.now }
+    ensures { w.new.accepted.program ≡ p.now }
+{
+    match name {
+        CALM => happen(p, w, &Event::Tick { noise: &[0] }),
+        GUST => happen(p, w, &Event::Tick { noise: &[1] }),
+        WILD => happen(p, w, &Event::Tick { noise: &[2] }),
+        DECIDE => happen(p, w, &Event::Decide { module: 0 }),
+        FAST => {
+            let fast = Event::Guest {
+                node: 0,
+                draft: draft(v),
+            };
+            happen(p, w, &fast)
+        }
+        _ => happen(p, w, &Event::Code { node: 1 }),
+    }
+}
+
+type Step = (u32, Result<Outcome, Why>, View);
+
+// What is asked of a world, what it answers and how it is then. The advanced node drafts `v`, and then the command is `cmd`.
+fn plan(v: i64, cmd: i64, x: i64) -> [Step; 10] {
+    [
+        (CALM, Err(Why::NodesLeft), opening()),
+        (DECIDE, Ok(Outcome::Decided { mode: Mode::Ac }), chosen()),
+        (DECIDE, Err(Why::AlreadyFired), chosen()),
+        (FAST, fired(v, true), drafted(cmd)),
+        (SLOW_NODE, fired(0, false), done(cmd)),
+        (SLOW_NODE, Err(Why::AlreadyFired), done(cmd)),
+        (WILD, Err(Why::OutsideType), done(cmd)),
+        (GUST, Ok(Outcome::Ticked), next(cmd, x)),
+        (DECIDE, Err(Why::NotDue), next(cmd, x)),
+        (FAST, Err(Why::NotDue), next(cmd, x)),
+    ]
+}
+
+fn opening() -> View {
+    seen(0, Mode::Sc, 0, 0, BOTH, true)
+}
+
+fn chosen() -> View {
+    seen(0, Mode::Ac, 0, 0, BOTH, false)
+}
+
+fn drafted(cmd: i64) -> View {
+    seen(0, Mode::Ac, 0, cmd, SLOW, false)
+}
+
+fn done(cmd: i64) -> View {
+    seen(0, Mode::Ac, 0, cmd, NONE, false)
+}
+
+fn next(cmd: i64, x: i64) -> View {
+    seen(1, Mode::Ac, x, cmd, NONE, false)
+}
 
 #[test]
 fn an_instant_is_stepped_in_order(rt: HostRuntime) -> Result<(), Fail> {
@@ -141,36 +214,32 @@ fn an_instant_is_stepped_in_order(rt: HostRuntime) -> Result<(), Fail> {
     let Some(acc) = accepted(&p, &c) else {
         panic!(rt; "the vehicle is accepted");
     };
-    let calm = Event::Tick { noise: &[0] };
-    let up = Event::Tick { noise: &[1] };
-    let wild = Event::Tick { noise: &[2] };
-    let decide = Event::Decide { module: 0 };
-    let slow = Event::Code { node: 1 };
-    let (sc, ac) = (Mode::Sc, Mode::Ac);
-    let decided = Ok(Outcome::Decided { mode: ac });
-    for (v, kept) in [(7, 0), (2, 2)] {
-        let fast = Event::Guest {
-            node: 0,
-            draft: draft(v),
-        };
-        let Ok(mut w) = opened(alloc, &p, &acc, 0) else {
-            panic!(rt; "the vehicle opens at 0");
-        };
-        for (e, wanted, after) in [
-            (calm, Err(Why::NodesLeft), seen(0, sc, 0, 0, BOTH, true)),
-            (decide, decided, seen(0, ac, 0, 0, BOTH, false)),
-            (decide, Err(Why::AlreadyFired), seen(0, ac, 0, 0, BOTH, false)),
-            (fast, fired(v, true), seen(0, ac, 0, kept, SLOW, false)),
-            (slow, fired(0, false), seen(0, ac, 0, kept, NONE, false)),
-            (slow, Err(Why::AlreadyFired), seen(0, ac, 0, kept, NONE, false)),
-            (wild, Err(Why::OutsideType), seen(0, ac, 0, kept, NONE, false)),
-            (up, Ok(Outcome::Ticked), seen(1, ac, kept + 1, kept, NONE, false)),
-            (decide, Err(Why::NotDue), seen(1, ac, kept + 1, kept, NONE, false)),
-            (fast, Err(Why::NotDue), seen(1, ac, kept + 1, kept, NONE, false)),
-        ] {
-            assert_eq!(rt; happen(&p, &mut w, &e), Some(wanted), "before {after:?}");
-            assert_eq!(rt; view_of(&p, &w), after);
-        }
+    let Ok(mut w) = opened(alloc, &p, &acc, 0) else {
+        panic!(rt; "the vehicle opens at 0");
+    };
+    assert_eq!(rt; view_of(&p, &w), seen(0, Mode::Sc, 0, 0, BOTH, true));
+    for (e, wanted, after) in plan(2, 2, 3) {
+        assert_eq!(rt; ask(&p, &mut w, e, 2), Some(wanted), "before {after:?}");
+        assert_eq!(rt; view_of(&p, &w), after);
+    }
+    Ok(())
+}
+
+#[test]
+fn a_draft_outside_its_range_is_recorded_alone(rt: HostRuntime) -> Result<(), Fail> {
+    let alloc = rt.alloc();
+    let p = line(alloc)?;
+    let c = cert(alloc)?;
+    let Some(acc) = accepted(&p, &c) else {
+        panic!(rt; "the vehicle is accepted");
+    };
+    let Ok(mut w) = opened(alloc, &p, &acc, 0) else {
+        panic!(rt; "the vehicle opens at 0");
+    };
+    assert_eq!(rt; view_of(&p, &w), seen(0, Mode::Sc, 0, 0, BOTH, true));
+    for (e, wanted, after) in plan(7, 0, 1) {
+        assert_eq!(rt; ask(&p, &mut w, e, 7), Some(wanted), "before {after:?}");
+        assert_eq!(rt; view_of(&p, &w), after);
     }
     Ok(())
 }
