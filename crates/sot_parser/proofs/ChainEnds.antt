@@ -1,5 +1,5 @@
 -- Where a chain of operators, and a call of three parts, read no further.
-use Rattle.std.proofs.Common.{◌≡◌, ◌≢◌, ℕ, zero, suc, ◌≤◌, nat_lt, cond, List, Option, Some, Ok, Err, false, refl, ap, ◌∙◌, arith, codes, max}
+use Rattle.std.proofs.Common.{◌≡◌, ◌≢◌, ℕ, zero, suc, ◌≤◌, nat_lt, cond, List, Some, Ok, Err, false, refl, ap, ◌∙◌, arith, codes, max}
 use Rattle.std.proofs.lemmas.Bool.Decides.{nat_tests}
 use Rattle.sot_text.specs.Reading.{Lexeme}
 use Rattle.sot_parser.specs.Lexemes.{is_sign}

@@ -79,7 +79,9 @@ fn reads_a_program(rt: HostRuntime) -> Result<(), Fail> {
         return Ok(());
     };
     assert_eq!(rt; module.safe.len(), 1);
-    assert_eq!(rt; module.safe[0].sides[0].lo.mantissa, -40);
+    let safe = &module.safe[0];
+    assert_eq!(rt; safe.sides.len(), 1);
+    assert_eq!(rt; safe.sides[0].lo.mantissa, -40);
     Ok(())
 }
 
@@ -91,6 +93,7 @@ a := 1; publish m.f = a; if a > 0 { } else { repeat 3 { a := a + 1; } } if true 
         assert!(rt; false);
         return Ok(());
     };
+    assert_eq!(rt; program.decls.len(), 1);
     let Decl::Node(node) = &program.decls[0] else {
         assert!(rt; false);
         return Ok(());
