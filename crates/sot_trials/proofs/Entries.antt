@@ -1,18 +1,17 @@
 -- Certificates made of one entry, or of none, fit.
 use Rattle.std.proofs.Common.{◌≡◌, ℕ, zero, suc, List, ◌++◌, ◌+◌, [], ◌∷◌, length, length-append, refl, sym, ap, ◌∙◌, subst}
-use Rattle.std.specs.Prelude.{Some, None, Option, slice_index_or}
+use Rattle.std.specs.Prelude.{Some, Option, slice_index_or}
 use Rattle.std.proofs.lemmas.Option.{same_Some, none-some}
 use Rattle.sot_box.specs.Lists.{At}
 use Rattle.sot_box.specs.BoxList.{BoxList}
 use Rattle.sot_box.specs.Sides.{Side, AreOrdered}
 use Rattle.sot_lang.specs.declared.cert.Cells.{Cells}
 use Rattle.sot_lang.specs.declared.cert.Cert.{Cert}
-use Rattle.sot_lang.specs.declared.tables.ModuleInfo.{ModuleInfo}
 use Rattle.sot_lang.specs.Tables.{Tables}
 use Rattle.sot_lang.specs.OwnerNames.{width_of}
-use Rattle.sot_lang.specs.CertRules.{AreCellsOf, FitsTables}
+use Rattle.sot_lang.specs.CertRules.{AreCellsOf}
 use Rattle.sot_lang.proofs.ShortLists.{at_one, at_two}
-use Rattle.sot_trials.specs.Entries.{HasWidths, AreOf, AreCells, AreCellsBoth, FitsAll}
+use Rattle.sot_trials.specs.Entries.{AreOf, AreCells, AreCellsBoth, FitsAll}
 
 snoc : (sides : ℕ) (xs : List (List Side)) (y : List Side) → AreOf sides xs → length y ≡ sides → AreOrdered y → AreOf sides (xs ++ (y ∷ []))
 snoc sides [] y all wide ordered i b at = at_one (λ i b. (length b ≡ sides) × AreOrdered b) y (wide, ordered) i b at

@@ -1,5 +1,5 @@
 -- What the vehicle beside a battery has, and what may be asked of its worlds.
-use Rattle.std.proofs.Common.{◌≡◌, ◌∙◌, ℕ, ℤ, List, [], ◌∷◌, length, ap, refl, sym, subst}
+use Rattle.std.proofs.Common.{◌≡◌, ◌∙◌, ℤ, List, [], ◌∷◌, length, ap, sym, subst}
 use Rattle.std.specs.Prelude.{slice_index_or}
 use Rattle.sot_box.specs.Lists.{At}
 use Rattle.sot_lang.specs.declared.tables.ModuleInfo.{ModuleInfo}

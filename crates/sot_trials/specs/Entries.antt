@@ -1,5 +1,5 @@
 -- Certificates that fit every program whose plants have these widths.
-use Rattle.std.specs.Prelude.{◌≡◌, ℕ, ◌≤◌, List, Some, length, slice_index_or}
+use Rattle.std.specs.Prelude.{◌≡◌, ℕ, ◌≤◌, List, length, slice_index_or}
 use Rattle.sot_box.specs.BoxList.{BoxList}
 use Rattle.sot_box.specs.Lists.{At}
 use Rattle.sot_box.specs.Sides.{Side, AreOrdered}

@@ -1,3 +1,4 @@
 mod drive;
+mod pairs;
 mod verdicts;
 mod worlds;

@@ -17,7 +17,7 @@ use sot_world::{Event, Mode, OpenFail, Outcome, Why, World};
 use std::alloc::{AllocError, Global};
 use std::test::Fail;
 
-fn at(x: i64) -> Point
+pub(super) fn at(x: i64) -> Point
     ensures { result ≡ x ∷ [] }
 {
     Point::of(&[x]).unwrap()

@@ -1,5 +1,5 @@
 use Rattle.std.proofs.Common.{arith}
-use Rattle.sot_trials.proofs.Views.{one_module, one_plant, two_nodes, one_scalar}
+use Rattle.sot_trials.proofs.Views.{one_module, one_plant, one_scalar}
 use Rattle.sot_trials.proofs.tests.worlds.view_of.Goals as goal
 
 pub mode-requires : goal.mode-requires
