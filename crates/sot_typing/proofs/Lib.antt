@@ -1,0 +1,13 @@
+pub mod Members
+pub mod TreeFaults
+pub mod StatementFaults
+pub mod ListFaults
+pub mod PartFaults
+pub mod DeclarationFaults
+pub mod Least
+pub mod FirstFault
+pub mod Lookups
+pub mod Loops
+pub mod Calls
+pub mod Branches
+pub mod Repeats

@@ -1,0 +1,16 @@
+-- what names mean, and of which sort an expression is
+pub mod Sorts
+pub mod Names
+pub mod TreeSorts
+-- the rules of typing
+pub mod Lists
+pub mod Tests
+pub mod Fails
+pub mod First
+-- all faults as a list
+pub mod Faults
+-- worked programs
+pub mod Examples
+pub mod Scopes
+pub mod Operands
+pub mod SeenNames
