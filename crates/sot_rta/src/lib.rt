@@ -12,5 +12,5 @@ mod topics;
 pub use cells::check_cells;
 pub use places::{module_at, node_at, plant_at};
 pub use refusal::Refusal;
-pub use shape::check_shape;
+pub use shape::{check_nodes, check_shape};
 pub use topics::{are_some_of, first_missing};

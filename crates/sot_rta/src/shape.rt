@@ -6,6 +6,7 @@ ghost use Rattle.sot_lang.specs.TableRules.{MeetsTableRules};
 ghost use Rattle.sot_box.specs.Lists.{At};
 ghost use Rattle.sot_lang.specs.declared.tables.ModuleInfo.{ModuleInfo as Info};
 ghost use Rattle.sot_tube.specs.Verdict.{entry, periods, outputs, boxes, shape};
+ghost use Rattle.sot_tube.specs.Checks.{and_then};
 ghost use Rattle.sot_rta.specs.Refused.{Answers};
 
 use crate::places::{module_at, node_at};
@@ -93,6 +94,27 @@ fn shape_of(p: &Typed, module: u32, info: &ModuleInfo, c: &Cert) -> Result<(), R
         return Err(refusal);
     }
     boxes(module, info)
+}
+
+// The periods and the outputs of a module that was found.
+fn nodes_of(p: &Typed, module: u32, info: &ModuleInfo) -> Result<(), Refusal>
+    requires is { At p.now.modules «module» info.now }
+    requires rules { MeetsTableRules p.now }
+    ensures { Answers (and_then (periods p.now «module» info.now) (outputs p.now «module» info.now)) result }
+{
+    if let Err(refusal) = periods(p, module, info) {
+        return Err(refusal);
+    }
+    outputs(p, module, info)
+}
+
+/// Whether a module's two nodes have short periods and outputs in common, in this order. It asks for no certificate, and
+/// takes no memory.
+pub fn check_nodes(p: &Typed, module: u32) -> Result<(), Refusal>
+    requires module_is { «module» < length p.now.modules }
+    ensures { (a : Info) → At p.now.modules «module» a → Answers (and_then (periods p.now «module» a) (outputs p.now «module» a)) result }
+{
+    nodes_of(p, module, module_at(p, module))
 }
 
 /// Whether a module has an entry in the certificate, short periods, outputs in common and regions that are not empty, in this

@@ -1,0 +1,57 @@
+-- Steps of the loops that note faults item by item.
+use Rattle.std.proofs.Common.{◌≡◌, ℕ, ◌+◌, ◌<◌, List, [], ◌∷◌, ◌++◌, length, get_or, drop, refl, sym, ap, ◌∙◌, Option, Bool, true, false, ◌||◌, fold}
+use Rattle.std.specs.List.{list_any}
+use Rattle.std.proofs.lemmas.List.{drop_more}
+use Rattle.sot_rules.specs.declared.fault.TypeFault.{TypeFault}
+use Rattle.sot_rules.specs.declared.sort.Sort.{Sort}
+use Rattle.sot_rules.specs.declared.operands.Operands.{Operands}
+use Rattle.sot_rules.specs.Sorts.{is_truthful, differ_after, given}
+use Rattle.sot_rules.specs.Operands.{with_operand}
+use Rattle.sot_rules.specs.Faults.{least}
+use Rattle.sot_rules.proofs.Least.{least_append}
+
+-- the rest of a list, from an item on
+pub rest_is : {X : Type 0} (xs : List X) (i : ℕ) (x : X) → i < length xs → x ≡ get_or xs i x → drop i xs ≡ x ∷ drop (i + 1) xs
+rest_is xs i x lt e = drop_more xs i x lt ∙ ap (λ z. z ∷ drop (i + 1) xs) (sym e)
+
+-- an item's faults are noted, and then what is left
+pub step_least : {X : Type 0} (faults : List X → List TypeFault) (one : X → List TypeFault) → ((x : X) (more : List X) → faults (x ∷ more) ≡ one x ++ faults more) → (xs : List X) (i : ℕ) (x : X) (a b c : Option TypeFault) → i < length xs → x ≡ get_or xs i x → least a (faults (drop i xs)) ≡ c → b ≡ least a (one x) → least b (faults (drop (i + 1) xs)) ≡ c
+step_least faults one shape xs i x a b c lt e inv now =
+    ap (λ z. least z (faults (drop (i + 1) xs))) now
+    ∙ sym (least_append a (one x) (faults (drop (i + 1) xs)))
+    ∙ ap (least a) (sym (shape x (drop (i + 1) xs)))
+    ∙ ap (λ z. least a (faults z)) (sym (rest_is xs i x lt e))
+    ∙ inv
+
+-- an operand is taken in, and then what is left
+pub step_fold : {X : Type 0} (of : List X → List Sort) (one : X → Sort) → ((x : X) (more : List X) → of (x ∷ more) ≡ one x ∷ of more) → (xs : List X) (i : ℕ) (x : X) (a b c : Operands) → i < length xs → x ≡ get_or xs i x → fold with_operand a (of (drop i xs)) ≡ c → b ≡ with_operand a (one x) → fold with_operand b (of (drop (i + 1) xs)) ≡ c
+step_fold of one shape xs i x a b c lt e inv now =
+    ap (λ z. fold with_operand z (of (drop (i + 1) xs))) now
+    ∙ ap (fold with_operand a) (sym (shape x (drop (i + 1) xs)))
+    ∙ ap (λ z. fold with_operand a (of z)) (sym (rest_is xs i x lt e))
+    ∙ inv
+
+-- what is kept of operands is what is asked of them
+or_assoc : (a b c : Bool) → ((a || b) || c) ≡ (a || (b || c))
+or_assoc true b c = refl
+or_assoc false b c = refl
+
+pub truth_of : (o : Operands) (xs : List Sort) → (fold with_operand o xs).truth ≡ (o.truth || list_any is_truthful xs)
+truth_of o [] = or_none o.truth
+  where
+    or_none : (b : Bool) → b ≡ (b || false)
+    or_none true = refl
+    or_none false = refl
+truth_of o (x ∷ xs) = truth_of (with_operand o x) xs ∙ or_assoc o.truth (is_truthful x) (list_any is_truthful xs)
+
+pub differ_of : (o : Operands) (xs : List Sort) → (fold with_operand o xs).differ ≡ (o.differ || differ_after o.last xs)
+differ_of o [] = or_none o.differ
+  where
+    or_none : (b : Bool) → b ≡ (b || false)
+    or_none true = refl
+    or_none false = refl
+differ_of o (x ∷ xs) = differ_of (with_operand o x) xs ∙ or_assoc o.differ _ (differ_after _ xs)
+
+pub sort_of : (o : Operands) (xs : List Sort) → (fold with_operand o xs).sort ≡ fold given o.sort xs
+sort_of o [] = refl
+sort_of o (x ∷ xs) = sort_of (with_operand o x) xs

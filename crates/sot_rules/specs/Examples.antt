@@ -1,0 +1,348 @@
+-- Worked programs with their first faults, and programs without one. Each stands on one line, and each place was read off another program.
+use Rattle.std.specs.Prelude.{ℕ, ◌+◌, ◌-◌, ℤ, pos, negsuc, true, false, List, [], ◌∷◌, length, Some, None, codes}
+use Rattle.sot_text.specs.declared.token.Span.{Span}
+use Rattle.sot_lang.specs.declared.operator.Op.TheVariants.{Add, Equal, Greater, Less}
+use Rattle.sot_lang.specs.declared.operator.Func.TheVariants.{Min}
+use Rattle.sot_lang.specs.declared.tree.Ident.{Ident}
+use Rattle.sot_lang.specs.declared.tree.Lit.{Lit}
+use Rattle.sot_lang.specs.declared.tree.Bounds.{Bounds}
+use Rattle.sot_lang.specs.declared.tree.Scalar.TheVariants.{Int, Fix, Bool as BoolScalar}
+use Rattle.sot_lang.specs.declared.tree.Const.TheVariants.{Number, Truth}
+use Rattle.sot_lang.specs.Trees.{number, truth, named, binary, rest, denied, called, rescaled, chosen, no_tree, one_more, assigned, published, branched, repeated, no_statement, statement, one, fields, one_value, values, a_topic, a_plant, a_node, a_module, Program}
+use Rattle.sot_rules.specs.declared.fault.TypeKind.TheVariants.{Unknown, Twice, ScaleDiffers, KindDiffers, RangeEmpty, InitOutside, ReadsAndWrites, TooMany, RangeWide, NoModule, PeriodOutside, NextMissing}
+use Rattle.sot_rules.specs.Fails.{Fails}
+use Rattle.sot_rules.specs.First.{IsFirstFault, IsFaultless}
+use Rattle.sot_rules.specs.Faults.{fault}
+
+-- so many bytes of the one line, from a column on
+abbrev pub at : ℕ → ℕ → Span
+at column size = record { line = 1; column = column; from = column - 1; to = (column - 1) + size }
+
+abbrev pub word : ℕ → List ℕ → Ident
+word column name = record { name = name; at = at column (length name) }
+
+abbrev pub decimal : ℕ → ℕ → ℤ → ℕ → Lit
+decimal column size mantissa scale = record { mantissa = mantissa; scale = scale; at = at column size }
+
+abbrev pub whole : ℕ → ℕ → ℤ → Lit
+whole column size mantissa = decimal column size mantissa 0
+
+abbrev pub range : Lit → Lit → Bounds
+range lo hi = record { lo = lo; hi = hi }
+
+-- A name that is declared nowhere.
+--   external n period 1 offset 0 { reads t; }
+abbrev pub unknown_name : Program
+unknown_name = record {
+  decls =
+      a_node (record { name = (word 10 (codes "n")); period = (whole 19 1 (pos 1)); offset = (whole 28 1 (pos 0)); reads = ((word 38 (codes "t")) ∷ []); writes = []; locals = []; body = None })
+      ∷ [];
+}
+
+-- A name that is declared again.
+--   topic t: bool = true; plant t { state x: int; next x = x; }
+abbrev pub second_name : Program
+second_name = record {
+  decls =
+      a_topic (record { outside = false; name = (word 7 (codes "t")); shape = one (BoolScalar (at 10 4)); init = one_value (Truth true (at 17 4)) })
+      ∷ a_plant (record { name = (word 29 (codes "t")); states = (record { name = (word 39 (codes "x")); scale = None } ∷ []); inputs = []; sees = []; noise = []; next = (record { name = (word 52 (codes "x")); value = (named (word 56 (codes "x")) None) } ∷ []); end = (at 59 1) })
+      ∷ [];
+}
+
+-- An end of a range of whole numbers with a decimal.
+--   topic t: int[0..1.5] = 0;
+abbrev pub other_scale : Program
+other_scale = record {
+  decls =
+      a_topic (record { outside = false; name = (word 7 (codes "t")); shape = one (Int (range (whole 14 1 (pos 0)) (decimal 17 3 (pos 15) 1))); init = one_value (Number (whole 24 1 (pos 0))) })
+      ∷ [];
+}
+
+-- A truth value for a number.
+--   topic t: int[0..1] = true;
+abbrev pub other_kind : Program
+other_kind = record {
+  decls =
+      a_topic (record { outside = false; name = (word 7 (codes "t")); shape = one (Int (range (whole 14 1 (pos 0)) (whole 17 1 (pos 1)))); init = one_value (Truth true (at 22 4)) })
+      ∷ [];
+}
+
+-- A lower end above the upper one.
+--   topic t: int[1..0] = 0;
+abbrev pub empty_range : Program
+empty_range = record {
+  decls =
+      a_topic (record { outside = false; name = (word 7 (codes "t")); shape = one (Int (range (whole 14 1 (pos 1)) (whole 17 1 (pos 0)))); init = one_value (Number (whole 22 1 (pos 0))) })
+      ∷ [];
+}
+
+-- An initial value outside its range.
+--   topic t: fix(1)[0.0..0.5] = 0.6;
+abbrev pub outside_start : Program
+outside_start = record {
+  decls =
+      a_topic (record { outside = false; name = (word 7 (codes "t")); shape = one (Fix (whole 14 1 (pos 1)) (range (decimal 17 3 (pos 0) 1) (decimal 22 3 (pos 5) 1))); init = one_value (Number (decimal 29 3 (pos 6) 1)) })
+      ∷ [];
+}
+
+-- A node that reads the topic that it writes.
+--   topic t: bool = true; external n period 1 offset 0 { reads t; writes t; }
+abbrev pub own_input : Program
+own_input = record {
+  decls =
+      a_topic (record { outside = false; name = (word 7 (codes "t")); shape = one (BoolScalar (at 10 4)); init = one_value (Truth true (at 17 4)) })
+      ∷ a_node (record { name = (word 32 (codes "n")); period = (whole 41 1 (pos 1)); offset = (whole 50 1 (pos 0)); reads = ((word 60 (codes "t")) ∷ []); writes = ((word 70 (codes "t")) ∷ []); locals = []; body = None })
+      ∷ [];
+}
+
+-- A record of nine fields.
+--   topic t: {a: bool, b: bool, c: bool, d: bool, e: bool, f: bool, g: bool, h: bool, i: bool} = {true, true, true, true, true, true, true, true, true};
+abbrev pub nine_fields : Program
+nine_fields = record {
+  decls =
+      a_topic (record { outside = false; name = (word 7 (codes "t")); shape = fields (record { name = (word 11 (codes "a")); scalar = (BoolScalar (at 14 4)) } ∷ record { name = (word 20 (codes "b")); scalar = (BoolScalar (at 23 4)) } ∷ record { name = (word 29 (codes "c")); scalar = (BoolScalar (at 32 4)) } ∷ record { name = (word 38 (codes "d")); scalar = (BoolScalar (at 41 4)) } ∷ record { name = (word 47 (codes "e")); scalar = (BoolScalar (at 50 4)) } ∷ record { name = (word 56 (codes "f")); scalar = (BoolScalar (at 59 4)) } ∷ record { name = (word 65 (codes "g")); scalar = (BoolScalar (at 68 4)) } ∷ record { name = (word 74 (codes "h")); scalar = (BoolScalar (at 77 4)) } ∷ record { name = (word 83 (codes "i")); scalar = (BoolScalar (at 86 4)) } ∷ []); init = values ((Truth true (at 95 4)) ∷ (Truth true (at 101 4)) ∷ (Truth true (at 107 4)) ∷ (Truth true (at 113 4)) ∷ (Truth true (at 119 4)) ∷ (Truth true (at 125 4)) ∷ (Truth true (at 131 4)) ∷ (Truth true (at 137 4)) ∷ (Truth true (at 143 4)) ∷ []) (at 94 1) })
+      ∷ [];
+}
+
+-- A range of 2^32 + 1 numbers.
+--   topic t: int[0..4294967296] = 0;
+abbrev pub wide_range : Program
+wide_range = record {
+  decls =
+      a_topic (record { outside = false; name = (word 7 (codes "t")); shape = one (Int (range (whole 14 1 (pos 0)) (whole 17 10 (pos 4294967296)))); init = one_value (Number (whole 31 1 (pos 0))) })
+      ∷ [];
+}
+
+-- A plant of no module.
+--   plant p { state x: int; next x = x; }
+abbrev pub lone_plant : Program
+lone_plant = record {
+  decls =
+      a_plant (record { name = (word 7 (codes "p")); states = (record { name = (word 17 (codes "x")); scale = None } ∷ []); inputs = []; sees = []; noise = []; next = (record { name = (word 30 (codes "x")); value = (named (word 34 (codes "x")) None) } ∷ []); end = (at 37 1) })
+      ∷ [];
+}
+
+-- A period of 0.
+--   external n period 0 offset 0 { }
+abbrev pub no_period : Program
+no_period = record {
+  decls =
+      a_node (record { name = (word 10 (codes "n")); period = (whole 19 1 (pos 0)); offset = (whole 28 1 (pos 0)); reads = []; writes = []; locals = []; body = None })
+      ∷ [];
+}
+
+-- A state variable without its `next` clause; the module's faults come later.
+--   plant p { state x: int; } module m { ac a; sc b; period 1 offset 0; plant p; safe none; safer none; }
+abbrev pub no_next : Program
+no_next = record {
+  decls =
+      a_plant (record { name = (word 7 (codes "p")); states = (record { name = (word 17 (codes "x")); scale = None } ∷ []); inputs = []; sees = []; noise = []; next = []; end = (at 25 1) })
+      ∷ a_module (record { name = (word 34 (codes "m")); ac = (word 41 (codes "a")); sc = (word 47 (codes "b")); period = (whole 57 1 (pos 1)); offset = (whole 66 1 (pos 0)); plant = (word 75 (codes "p")); safe = []; safer = [] })
+      ∷ [];
+}
+
+-- `next` clauses in another order than the state variables.
+--   plant p { state x: int, y: int; next y = y; next x = x; } module m { ac a; sc b; period 1 offset 0; plant p; safe none; safer none; }
+abbrev pub swapped_next : Program
+swapped_next = record {
+  decls =
+      a_plant (record { name = (word 7 (codes "p")); states = (record { name = (word 17 (codes "x")); scale = None } ∷ record { name = (word 25 (codes "y")); scale = None } ∷ []); inputs = []; sees = []; noise = []; next = (record { name = (word 38 (codes "y")); value = (named (word 42 (codes "y")) None) } ∷ record { name = (word 50 (codes "x")); value = (named (word 54 (codes "x")) None) } ∷ []); end = (at 57 1) })
+      ∷ a_module (record { name = (word 66 (codes "m")); ac = (word 73 (codes "a")); sc = (word 79 (codes "b")); period = (whole 89 1 (pos 1)); offset = (whole 98 1 (pos 0)); plant = (word 107 (codes "p")); safe = []; safer = [] })
+      ∷ [];
+}
+
+-- An `if` with a number as its condition, whose branches differ in scale: two rules fail at one token.
+--   topic t: int[0..1] = 0; node n period 1 offset 0 { writes t; do { publish t = if 1 then 1 else 1.5; } }
+abbrev pub two_at_one : Program
+two_at_one = record {
+  decls =
+      a_topic (record { outside = false; name = (word 7 (codes "t")); shape = one (Int (range (whole 14 1 (pos 0)) (whole 17 1 (pos 1)))); init = one_value (Number (whole 22 1 (pos 0))) })
+      ∷ a_node (record { name = (word 30 (codes "n")); period = (whole 39 1 (pos 1)); offset = (whole 48 1 (pos 0)); reads = []; writes = ((word 59 (codes "t")) ∷ []); locals = []; body = (Some (statement (published (word 75 (codes "t")) None (chosen (number (whole 82 1 (pos 1))) (number (whole 89 1 (pos 1))) (number (decimal 96 3 (pos 15) 1)) (at 79 2))) no_statement)) })
+      ∷ [];
+}
+
+-- Two rules fail at two places, and the earlier one has the greater number.
+--   topic t: int[1..0] = true;
+abbrev pub two_places : Program
+two_places = record {
+  decls =
+      a_topic (record { outside = false; name = (word 7 (codes "t")); shape = one (Int (range (whole 14 1 (pos 1)) (whole 17 1 (pos 0)))); init = one_value (Truth true (at 22 4)) })
+      ∷ [];
+}
+
+-- A comparison of two truth values.
+--   topic t: bool = true; node n period 1 offset 0 { writes t; do { publish t = true == false; } }
+abbrev pub two_truths : Program
+two_truths = record {
+  decls =
+      a_topic (record { outside = false; name = (word 7 (codes "t")); shape = one (BoolScalar (at 10 4)); init = one_value (Truth true (at 17 4)) })
+      ∷ a_node (record { name = (word 28 (codes "n")); period = (whole 37 1 (pos 1)); offset = (whole 46 1 (pos 0)); reads = []; writes = ((word 57 (codes "t")) ∷ []); locals = []; body = (Some (statement (published (word 73 (codes "t")) None (binary Equal (truth true (at 77 4)) (truth false (at 85 5)) (at 82 2))) no_statement)) })
+      ∷ [];
+}
+
+-- A record that is named without a field.
+--   topic r: {a: bool, b: bool} = {true, false}; node n period 1 offset 0 { writes r; do { publish r = true; } }
+abbrev pub bare_record : Program
+bare_record = record {
+  decls =
+      a_topic (record { outside = false; name = (word 7 (codes "r")); shape = fields (record { name = (word 11 (codes "a")); scalar = (BoolScalar (at 14 4)) } ∷ record { name = (word 20 (codes "b")); scalar = (BoolScalar (at 23 4)) } ∷ []); init = values ((Truth true (at 32 4)) ∷ (Truth false (at 38 5)) ∷ []) (at 31 1) })
+      ∷ a_node (record { name = (word 51 (codes "n")); period = (whole 60 1 (pos 1)); offset = (whole 69 1 (pos 0)); reads = []; writes = ((word 80 (codes "r")) ∷ []); locals = []; body = (Some (statement (published (word 96 (codes "r")) None (truth true (at 100 4))) no_statement)) })
+      ∷ [];
+}
+
+-- A local that has the name of a topic that the node reads.
+--   topic t: bool = true; node n period 1 offset 0 { reads t; local t: bool = true; do { } }
+abbrev pub hidden_topic : Program
+hidden_topic = record {
+  decls =
+      a_topic (record { outside = false; name = (word 7 (codes "t")); shape = one (BoolScalar (at 10 4)); init = one_value (Truth true (at 17 4)) })
+      ∷ a_node (record { name = (word 28 (codes "n")); period = (whole 37 1 (pos 1)); offset = (whole 46 1 (pos 0)); reads = ((word 56 (codes "t")) ∷ []); writes = []; locals = (record { name = (word 65 (codes "t")); scalar = (BoolScalar (at 68 4)); init = (Truth true (at 75 4)) } ∷ []); body = (Some no_statement) })
+      ∷ [];
+}
+
+-- A plant that sees itself, and has a state variable of that name.
+--   plant p { state p: int; sees p; next p = p; } module m { ac a; sc b; period 1 offset 0; plant p; safe none; safer none; }
+abbrev pub own_name_seen : Program
+own_name_seen = record {
+  decls =
+      a_plant (record { name = (word 7 (codes "p")); states = (record { name = (word 17 (codes "p")); scale = None } ∷ []); inputs = []; sees = ((word 30 (codes "p")) ∷ []); noise = []; next = (record { name = (word 38 (codes "p")); value = (named (word 42 (codes "p")) None) } ∷ []); end = (at 45 1) })
+      ∷ a_module (record { name = (word 54 (codes "m")); ac = (word 61 (codes "a")); sc = (word 67 (codes "b")); period = (whole 77 1 (pos 1)); offset = (whole 86 1 (pos 0)); plant = (word 95 (codes "p")); safe = []; safer = [] })
+      ∷ [];
+}
+
+-- 10,001 statements where each loop is written out: the last one is past the limit.
+--   topic t: bool = true; node n period 1 offset 0 { writes t; do { repeat 100 { repeat 99 { publish t = true; } } } }
+abbrev pub many_statements : Program
+many_statements = record {
+  decls =
+      a_topic (record { outside = false; name = (word 7 (codes "t")); shape = one (BoolScalar (at 10 4)); init = one_value (Truth true (at 17 4)) })
+      ∷ a_node (record { name = (word 28 (codes "n")); period = (whole 37 1 (pos 1)); offset = (whole 46 1 (pos 0)); reads = []; writes = ((word 57 (codes "t")) ∷ []); locals = []; body = (Some (statement (repeated (whole 72 3 (pos 100)) (statement (repeated (whole 85 2 (pos 99)) (statement (published (word 98 (codes "t")) None (truth true (at 102 4))) no_statement) (at 78 6)) no_statement) (at 65 6)) no_statement)) })
+      ∷ [];
+}
+
+-- An offset that is its period.
+--   external n period 5 offset 5 { }
+abbrev pub late_offset : Program
+late_offset = record {
+  decls =
+      a_node (record { name = (word 10 (codes "n")); period = (whole 19 1 (pos 5)); offset = (whole 28 1 (pos 5)); reads = []; writes = []; locals = []; body = None })
+      ∷ [];
+}
+
+-- A box with more sides than the plant has state variables.
+--   plant p { state x: int; next x = x; } external a period 1 offset 0 { } node b period 1 offset 0 { do { } } module m { ac a; sc b; period 1 offset 0; plant p; safe [0..1, 0..1]; safer none; }
+abbrev pub wide_box : Program
+wide_box = record {
+  decls =
+      a_plant (record { name = (word 7 (codes "p")); states = (record { name = (word 17 (codes "x")); scale = None } ∷ []); inputs = []; sees = []; noise = []; next = (record { name = (word 30 (codes "x")); value = (named (word 34 (codes "x")) None) } ∷ []); end = (at 37 1) })
+      ∷ a_node (record { name = (word 48 (codes "a")); period = (whole 57 1 (pos 1)); offset = (whole 66 1 (pos 0)); reads = []; writes = []; locals = []; body = None })
+      ∷ a_node (record { name = (word 77 (codes "b")); period = (whole 86 1 (pos 1)); offset = (whole 95 1 (pos 0)); reads = []; writes = []; locals = []; body = (Some no_statement) })
+      ∷ a_module (record { name = (word 115 (codes "m")); ac = (word 122 (codes "a")); sc = (word 128 (codes "b")); period = (whole 138 1 (pos 1)); offset = (whole 147 1 (pos 0)); plant = (word 156 (codes "p")); safe = (record { sides = (range (whole 165 1 (pos 0)) (whole 168 1 (pos 1)) ∷ range (whole 171 1 (pos 0)) (whole 174 1 (pos 1)) ∷ []); at = (at 164 1) } ∷ []); safer = [] })
+      ∷ [];
+}
+
+-- The running example.
+--   topic cmd: int[-2..2] = 0; plant pos { state x: int; input cmd; noise w: int[-1..1]; next x = (x + cmd) + w; } external fast period 4 offset 0 { reads pos; writes cmd; } node slow period 2 offset 0 { reads pos; writes cmd; do { publish cmd = if (pos.x > 10) then -2 else (if (pos.x < -10) then 2 else 0); } } module nav { ac fast; sc slow; period 4 offset 0; plant pos; safe [-40..40]; safer [-10..10]; }
+abbrev pub the_line : Program
+the_line = record {
+  decls =
+      a_topic (record { outside = false; name = (word 7 (codes "cmd")); shape = one (Int (range (whole 16 1 (negsuc 1)) (whole 20 1 (pos 2)))); init = one_value (Number (whole 25 1 (pos 0))) })
+      ∷ a_plant (record { name = (word 34 (codes "pos")); states = (record { name = (word 46 (codes "x")); scale = None } ∷ []); inputs = ((word 60 (codes "cmd")) ∷ []); sees = []; noise = (record { name = (word 71 (codes "w")); scalar = (Int (range (whole 78 1 (negsuc 0)) (whole 82 1 (pos 1)))) } ∷ []); next = (record { name = (word 91 (codes "x")); value = (binary Add (binary Add (named (word 96 (codes "x")) None) (named (word 100 (codes "cmd")) None) (at 98 1)) (named (word 107 (codes "w")) None) (at 105 1)) } ∷ []); end = (at 110 1) })
+      ∷ a_node (record { name = (word 121 (codes "fast")); period = (whole 133 1 (pos 4)); offset = (whole 142 1 (pos 0)); reads = ((word 152 (codes "pos")) ∷ []); writes = ((word 164 (codes "cmd")) ∷ []); locals = []; body = None })
+      ∷ a_node (record { name = (word 176 (codes "slow")); period = (whole 188 1 (pos 2)); offset = (whole 197 1 (pos 0)); reads = ((word 207 (codes "pos")) ∷ []); writes = ((word 219 (codes "cmd")) ∷ []); locals = []; body = (Some (statement (published (word 237 (codes "cmd")) None (chosen (binary Greater (named (word 247 (codes "pos")) (Some (word 251 (codes "x")))) (number (whole 255 2 (pos 10))) (at 253 1)) (number (whole 264 1 (negsuc 1))) (chosen (binary Less (named (word 277 (codes "pos")) (Some (word 281 (codes "x")))) (number (whole 285 1 (negsuc 9))) (at 283 1)) (number (whole 295 1 (pos 2))) (number (whole 302 1 (pos 0))) (at 273 2)) (at 243 2))) no_statement)) })
+      ∷ a_module (record { name = (word 317 (codes "nav")); ac = (word 326 (codes "fast")); sc = (word 335 (codes "slow")); period = (whole 348 1 (pos 4)); offset = (whole 357 1 (pos 0)); plant = (word 366 (codes "pos")); safe = (record { sides = (range (whole 377 1 (negsuc 39)) (whole 382 2 (pos 40)) ∷ []); at = (at 376 1) } ∷ []); safer = (record { sides = (range (whole 394 1 (negsuc 9)) (whole 399 2 (pos 10)) ∷ []); at = (at 393 1) } ∷ []) })
+      ∷ [];
+}
+
+-- A mission with a record, a truth value, decimals, a loop and a seen plant.
+--   environment topic wind: fix(1)[-0.5..0.5] = 0.0; topic r: {on: bool, v: int[0..9]} = {false, 3}; plant p { state x: fix(1); input r; noise w: fix(1)[-0.1..0.1]; next x = x + w; } plant q { state y: int; sees p; next y = if p.x > 0.5 then min(y, 3) else y % 7; } external a period 2 offset 1 { reads q, p; writes r; } node b period 1 offset 0 { reads p, wind; writes r; local n: int[0..9] = 1; do { repeat 3 { n := n; } if p.x > wind { publish r.on = not (n == 1); } else { publish r.v = rescale(p.x, 0); } } } module m { ac a; sc b; period 2 offset 0; plant p; safe [-1.0..1.0]; safer [0.0..0.5] | [0.5..0.5]; } module k { ac a; sc b; period 2 offset 0; plant q; safe none; safer none; }
+abbrev pub the_rest : Program
+the_rest = record {
+  decls =
+      a_topic (record { outside = true; name = (word 19 (codes "wind")); shape = one (Fix (whole 29 1 (pos 1)) (range (decimal 32 1 (negsuc 4) 1) (decimal 38 3 (pos 5) 1))); init = one_value (Number (decimal 45 3 (pos 0) 1)) })
+      ∷ a_topic (record { outside = false; name = (word 56 (codes "r")); shape = fields (record { name = (word 60 (codes "on")); scalar = (BoolScalar (at 64 4)) } ∷ record { name = (word 70 (codes "v")); scalar = (Int (range (whole 77 1 (pos 0)) (whole 80 1 (pos 9)))) } ∷ []); init = values ((Truth false (at 87 5)) ∷ (Number (whole 94 1 (pos 3))) ∷ []) (at 86 1) })
+      ∷ a_plant (record { name = (word 104 (codes "p")); states = (record { name = (word 114 (codes "x")); scale = (Some (whole 121 1 (pos 1))) } ∷ []); inputs = ((word 131 (codes "r")) ∷ []); sees = []; noise = (record { name = (word 140 (codes "w")); scalar = (Fix (whole 147 1 (pos 1)) (range (decimal 150 1 (negsuc 0) 1) (decimal 156 3 (pos 1) 1))) } ∷ []); next = (record { name = (word 167 (codes "x")); value = (binary Add (named (word 171 (codes "x")) None) (named (word 175 (codes "w")) None) (at 173 1)) } ∷ []); end = (at 178 1) })
+      ∷ a_plant (record { name = (word 186 (codes "q")); states = (record { name = (word 196 (codes "y")); scale = None } ∷ []); inputs = []; sees = ((word 209 (codes "p")) ∷ []); noise = []; next = (record { name = (word 217 (codes "y")); value = (chosen (binary Greater (named (word 224 (codes "p")) (Some (word 226 (codes "x")))) (number (decimal 230 3 (pos 5) 1)) (at 228 1)) (called Min (one_more (named (word 243 (codes "y")) None) (one_more (number (whole 246 1 (pos 3))) no_tree)) (at 239 3)) (rest (named (word 254 (codes "y")) None) (whole 258 1 (pos 7)) (at 256 1)) (at 221 2)) } ∷ []); end = (at 261 1) })
+      ∷ a_node (record { name = (word 272 (codes "a")); period = (whole 281 1 (pos 2)); offset = (whole 290 1 (pos 1)); reads = ((word 300 (codes "q")) ∷ (word 303 (codes "p")) ∷ []); writes = ((word 313 (codes "r")) ∷ []); locals = []; body = None })
+      ∷ a_node (record { name = (word 323 (codes "b")); period = (whole 332 1 (pos 1)); offset = (whole 341 1 (pos 0)); reads = ((word 351 (codes "p")) ∷ (word 354 (codes "wind")) ∷ []); writes = ((word 367 (codes "r")) ∷ []); locals = (record { name = (word 376 (codes "n")); scalar = (Int (range (whole 383 1 (pos 0)) (whole 386 1 (pos 9)))); init = (Number (whole 391 1 (pos 1))) } ∷ []); body = (Some (statement (repeated (whole 406 1 (pos 3)) (statement (assigned (word 410 (codes "n")) (named (word 415 (codes "n")) None)) no_statement) (at 399 6)) (statement (branched (binary Greater (named (word 423 (codes "p")) (Some (word 425 (codes "x")))) (named (word 429 (codes "wind")) None) (at 427 1)) (statement (published (word 444 (codes "r")) (Some (word 446 (codes "on"))) (denied (binary Equal (named (word 456 (codes "n")) None) (number (whole 461 1 (pos 1))) (at 458 2)) (at 451 3))) no_statement) (statement (published (word 482 (codes "r")) (Some (word 484 (codes "v"))) (rescaled (named (word 496 (codes "p")) (Some (word 498 (codes "x")))) (whole 501 1 (pos 0)) (at 488 7))) no_statement) (at 420 2)) no_statement))) })
+      ∷ a_module (record { name = (word 518 (codes "m")); ac = (word 525 (codes "a")); sc = (word 531 (codes "b")); period = (whole 541 1 (pos 2)); offset = (whole 550 1 (pos 0)); plant = (word 559 (codes "p")); safe = (record { sides = (range (decimal 568 1 (negsuc 9) 1) (decimal 574 3 (pos 10) 1) ∷ []); at = (at 567 1) } ∷ []); safer = (record { sides = (range (decimal 587 3 (pos 0) 1) (decimal 592 3 (pos 5) 1) ∷ []); at = (at 586 1) } ∷ record { sides = (range (decimal 600 3 (pos 5) 1) (decimal 605 3 (pos 5) 1) ∷ []); at = (at 599 1) } ∷ []) })
+      ∷ a_module (record { name = (word 620 (codes "k")); ac = (word 627 (codes "a")); sc = (word 633 (codes "b")); period = (whole 643 1 (pos 2)); offset = (whole 652 1 (pos 0)); plant = (word 661 (codes "q")); safe = []; safer = [] })
+      ∷ [];
+}
+
+-- the first fault of each
+abbrev pub FirstOfUnknownName : Type 0
+FirstOfUnknownName = IsFirstFault unknown_name (fault (at 38 1) Unknown)
+
+abbrev pub FirstOfSecondName : Type 0
+FirstOfSecondName = IsFirstFault second_name (fault (at 29 1) Twice)
+
+abbrev pub FirstOfOtherScale : Type 0
+FirstOfOtherScale = IsFirstFault other_scale (fault (at 17 3) ScaleDiffers)
+
+abbrev pub FirstOfOtherKind : Type 0
+FirstOfOtherKind = IsFirstFault other_kind (fault (at 22 4) KindDiffers)
+
+abbrev pub FirstOfEmptyRange : Type 0
+FirstOfEmptyRange = IsFirstFault empty_range (fault (at 14 1) RangeEmpty)
+
+abbrev pub FirstOfOutsideStart : Type 0
+FirstOfOutsideStart = IsFirstFault outside_start (fault (at 29 3) InitOutside)
+
+abbrev pub FirstOfOwnInput : Type 0
+FirstOfOwnInput = IsFirstFault own_input (fault (at 70 1) ReadsAndWrites)
+
+abbrev pub FirstOfNineFields : Type 0
+FirstOfNineFields = IsFirstFault nine_fields (fault (at 83 1) TooMany)
+
+abbrev pub FirstOfWideRange : Type 0
+FirstOfWideRange = IsFirstFault wide_range (fault (at 14 1) RangeWide)
+
+abbrev pub FirstOfLonePlant : Type 0
+FirstOfLonePlant = IsFirstFault lone_plant (fault (at 7 1) NoModule)
+
+abbrev pub FirstOfNoPeriod : Type 0
+FirstOfNoPeriod = IsFirstFault no_period (fault (at 19 1) PeriodOutside)
+
+abbrev pub FirstOfNoNext : Type 0
+FirstOfNoNext = IsFirstFault no_next (fault (at 25 1) NextMissing)
+
+abbrev pub FirstOfSwappedNext : Type 0
+FirstOfSwappedNext = IsFirstFault swapped_next (fault (at 38 1) NextMissing)
+
+abbrev pub FirstOfTwoAtOne : Type 0
+FirstOfTwoAtOne = IsFirstFault two_at_one (fault (at 79 2) ScaleDiffers)
+
+abbrev pub FirstOfTwoPlaces : Type 0
+FirstOfTwoPlaces = IsFirstFault two_places (fault (at 14 1) RangeEmpty)
+
+abbrev pub FirstOfTwoTruths : Type 0
+FirstOfTwoTruths = IsFirstFault two_truths (fault (at 82 2) KindDiffers)
+
+abbrev pub FirstOfBareRecord : Type 0
+FirstOfBareRecord = IsFirstFault bare_record (fault (at 96 1) Unknown)
+
+abbrev pub FirstOfHiddenTopic : Type 0
+FirstOfHiddenTopic = IsFirstFault hidden_topic (fault (at 65 1) Twice)
+
+abbrev pub FirstOfOwnNameSeen : Type 0
+FirstOfOwnNameSeen = IsFirstFault own_name_seen (fault (at 30 1) KindDiffers)
+
+abbrev pub FirstOfManyStatements : Type 0
+FirstOfManyStatements = IsFirstFault many_statements (fault (at 98 1) TooMany)
+
+abbrev pub FirstOfLateOffset : Type 0
+FirstOfLateOffset = IsFirstFault late_offset (fault (at 28 1) PeriodOutside)
+
+abbrev pub FirstOfWideBox : Type 0
+FirstOfWideBox = IsFirstFault wide_box (fault (at 164 1) KindDiffers)
+
+-- the other rule that fails at that token
+abbrev pub OtherOfTwoAtOne : Type 0
+OtherOfTwoAtOne = Fails two_at_one (at 79 2) KindDiffers
+
+abbrev pub NoneInTheLine : Type 0
+NoneInTheLine = IsFaultless the_line
+
+abbrev pub NoneInTheRest : Type 0
+NoneInTheRest = IsFaultless the_rest

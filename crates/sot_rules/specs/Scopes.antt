@@ -1,0 +1,41 @@
+-- The names that the code keeps in tables, as the things that they stand for.
+use Rattle.std.specs.Prelude.{ℕ, List, [], map, slice_index_or, Option, Some, None, Result, Ok, Err}
+use denote.Ref.{Bor}
+use Rattle.indexmap.specs.IndexMap.{IndexMap}
+use Rattle.sot_text.specs.declared.token.Span.{Span}
+use Rattle.sot_lang.specs.declared.tree.Ident.{Ident}
+use Rattle.sot_rules.specs.declared.sort.Sort.{Sort}
+use Rattle.sot_rules.specs.declared.scope.Names.{Names}
+use Rattle.sot_rules.specs.declared.scope.Scope.{Scope as CodeScope}
+use Rattle.sot_rules.specs.declared.scope.Seen.{Seen}
+use Rattle.sot_rules.specs.declared.scope.Seen.TheVariants.{Alone, Several}
+use Rattle.sot_rules.specs.Names.{Part, Parts, alone, several, Thing, Scope, Reading, gives, nothing_at, parts_reading}
+
+-- the parts of one thing, by their names
+abbrev pub parts_of : {S : Type 0} → IndexMap (Bor (List ℕ)) Sort S → List Part
+parts_of m = map (λ e. record { name = e.0.now; sort = e.1 }) m.entries
+
+-- what a name stands for, where its parts are in one of the tables
+abbrev pub seen_parts : List (List Part) → Seen → Parts
+seen_parts tables (Alone s) = alone s
+seen_parts tables (Several k) = several (slice_index_or tables k [])
+
+abbrev pub things_of : {S T : Type 0} → List (IndexMap (Bor (List ℕ)) Sort S) → IndexMap (Bor (List ℕ)) Seen T → List Thing
+things_of tables m = map (λ e. record { name = e.0.now; parts = seen_parts (map parts_of tables) e.1 }) m.entries
+
+-- what a look-up answers: a sort, or the place of the fault
+abbrev pub answer : Result Sort Span → Reading
+answer (Ok s) = gives s
+answer (Err at) = nothing_at at
+
+-- what a thing's name gives, where it is one
+abbrev pub reading_of : {X : Type 0} → (X → Parts) → Ident → Option Ident → Option X → Reading
+reading_of f first field None = nothing_at first.at
+reading_of f first field (Some x) = parts_reading first field (f x)
+
+-- the names that some expressions may use
+unfoldable pub names_in : Names → List Thing
+names_in n = things_of n.tables.now n.things
+
+abbrev pub scope_in : CodeScope → Scope
+scope_in s = record { read = names_in s.read; local = names_in s.local; written = names_in s.written }
