@@ -1,0 +1,4 @@
+-- the tables of a program
+pub mod Formulas
+pub mod Terms
+pub mod Resolved
