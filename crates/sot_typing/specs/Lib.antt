@@ -2,3 +2,5 @@
 pub mod Formulas
 pub mod Terms
 pub mod Resolved
+-- worked programs
+pub mod Examples

@@ -1,6 +1,8 @@
 //! The tables of a program, or the first rule of typing that it breaks.
 #![tactic(auto)]
 
+mod facts;
 mod program;
 
+pub use facts::tables_are_as_stated;
 pub use program::resolve;
