@@ -1,0 +1,11 @@
+pub mod Takes
+pub mod Numbers
+pub mod Texts
+pub mod Kept
+pub mod Leaves
+pub mod Lists
+pub mod Expressions
+pub mod Statements
+pub mod Declarations
+pub mod Programs
+pub mod Canonical

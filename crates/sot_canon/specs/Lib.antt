@@ -1,0 +1,2 @@
+-- when two programs are the same
+pub mod Unplaced

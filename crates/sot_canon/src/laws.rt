@@ -1,0 +1,10 @@
+ghost use Rattle.std.specs.Prelude.{ℕ, List};
+ghost use Rattle.sot_lang.specs.Trees.{Program};
+ghost use Rattle.sot_parser.specs.Programs.{Spells};
+ghost use Rattle.sot_print.specs.Canonical.{canonical};
+ghost use Rattle.sot_canon.specs.Unplaced.{AreSame};
+
+/// The canonical text of a program that some text spells is itself a text of the language, and spells the same program.
+pub fn canonical_texts_are_read_back()
+    ensures { (bytes : List ℕ) (at : ℕ) (p : Program) → Spells bytes at p → (q : Program) × Spells (canonical p) 0 q × AreSame p q }
+{}

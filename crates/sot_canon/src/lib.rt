@@ -1,0 +1,6 @@
+//! The canonical text of a program is a text of the language, and spells that program.
+#![tactic(auto)]
+
+mod laws;
+
+pub use laws::canonical_texts_are_read_back;
