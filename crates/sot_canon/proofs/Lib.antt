@@ -9,3 +9,4 @@ pub mod Statements
 pub mod Declarations
 pub mod Programs
 pub mod Canonical
+pub mod Apart

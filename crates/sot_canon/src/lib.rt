@@ -1,6 +1,8 @@
 //! The canonical text of a program is a text of the language, and spells that program.
 #![tactic(auto)]
 
+mod facts;
 mod laws;
 
+pub use facts::sameness_is_as_stated;
 pub use laws::canonical_texts_are_read_back;

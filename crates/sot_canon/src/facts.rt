@@ -1,0 +1,9 @@
+ghost use Rattle.sot_canon.specs.Examples.{PlacesDoNotCount, WordsCount, DeclarationsCount, BranchesCount};
+
+/// Worked programs: where their parts stand does not count, and all else does.
+pub fn sameness_is_as_stated()
+    ensures places { PlacesDoNotCount }
+    ensures words { WordsCount }
+    ensures declarations { DeclarationsCount }
+    ensures branches { BranchesCount }
+{}
