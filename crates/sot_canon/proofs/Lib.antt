@@ -10,3 +10,4 @@ pub mod Declarations
 pub mod Programs
 pub mod Canonical
 pub mod Apart
+pub mod SameWords

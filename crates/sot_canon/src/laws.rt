@@ -1,4 +1,4 @@
-ghost use Rattle.std.specs.Prelude.{ℕ, List};
+ghost use Rattle.std.specs.Prelude.{◌≡◌, ℕ, List};
 ghost use Rattle.sot_lang.specs.Trees.{Program};
 ghost use Rattle.sot_parser.specs.Programs.{Spells};
 ghost use Rattle.sot_print.specs.Canonical.{canonical};
@@ -7,4 +7,10 @@ ghost use Rattle.sot_canon.specs.Unplaced.{AreSame};
 /// The canonical text of a program that some text spells is itself a text of the language, and spells the same program.
 pub fn canonical_texts_are_read_back()
     ensures { (bytes : List ℕ) (at : ℕ) (p : Program) → Spells bytes at p → (q : Program) × Spells (canonical p) 0 q × AreSame p q }
+{}
+
+/// Programs that are the same have the same canonical text.
+#[tactic(auto, using(crate::proofs::SameWords::one_text))]
+pub fn same_programs_have_one_text()
+    ensures { (p q : Program) → AreSame p q → canonical p ≡ canonical q }
 {}

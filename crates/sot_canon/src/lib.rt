@@ -5,4 +5,4 @@ mod facts;
 mod laws;
 
 pub use facts::sameness_is_as_stated;
-pub use laws::canonical_texts_are_read_back;
+pub use laws::{canonical_texts_are_read_back, same_programs_have_one_text};
