@@ -24,7 +24,7 @@ pub record Again {G F T : Type 0} (p : Production G F T) (f : F) (ts us : List L
 
 pub record Kept {G F T : Type 0} (p : Production G F T) (f : F) : Type 0 where
   pub writable : p.IsWritable (p.tree f)
-  pub again : (gap : G) (ts us : List Lexeme) → Takes ts (p.words gap (p.tree f)) us → Again p f ts us
+  pub again : (before : G) (ts us : List Lexeme) → Takes ts (p.words before (p.tree f)) us → Again p f ts us
 
 abbrev pub Keeps : {G F T : Type 0} → Production G F T → Type 0
 Keeps {F = F} p = (f : F) (more : List Lexeme) → AreTexts (p.spelled f more) → Kept p f × AreTexts more

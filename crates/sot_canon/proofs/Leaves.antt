@@ -1,7 +1,8 @@
 -- Names, literals and types.
-use Rattle.std.proofs.Common.{◌≡◌, ℕ, zero, suc, ◌≤◌, List, [], ◌∷◌, false, ℤ, pos, neg_ℤ, int_lt, unsigned_abs, codes, refl, sym, ap, ap₂, ◌∙◌, subst, arith}
+use Rattle.std.proofs.Common.{◌≡◌, ℕ, zero, suc, List, [], ◌∷◌, false, ℤ, pos, neg_ℤ, int_lt, unsigned_abs, codes, refl, sym, ap, ap₂, ◌∙◌, subst, arith}
 use Rattle.std.proofs.lemmas.Bool.{cond-false}
 use Rattle.std.proofs.lemmas.Bool.Decides.{nat_tests}
+use Rattle.std.proofs.Math.Nat.{le_refl}
 use Rattle.sot_text.specs.declared.token.Kind.{Kind}
 use Rattle.sot_text.specs.declared.token.Kind.TheVariants.{Name, Number}
 use Rattle.sot_text.specs.Lexeme.{decimals_of, mantissa_of, IsTokenText}
@@ -27,9 +28,6 @@ use Rattle.sot_canon.proofs.Takes.{Takes, split, a_keyword, a_sign, a_name, a_nu
 use Rattle.sot_canon.proofs.Numbers.{IsNumeral, numeral_read, numeral_token}
 use Rattle.sot_canon.proofs.Kept.{Production, Again, Kept, Keeps, no_level}
 
-none_deeper : 0 ≤ 0
-none_deeper = omega arith
-
 -- NAME
 abbrev pub names : Production Gap Named Ident
 names = record { spelled = spelled_name; tree = name_of; unplaced = unplaced_name; levels = no_level; IsWritable = spellable.IsName; words = ident_words }
@@ -47,7 +45,7 @@ pub names_keep : Keeps names
 names_keep n more texts = (
   record {
     writable = name_text n.token n.is texts.0;
-    again = λ gap ts us h. record { form = a_name h.1; tokens = led h.1 h.2; same = same_name h.1.text; nests = none_deeper };
+    again = λ gap ts us h. record { form = a_name h.1; tokens = led h.1 h.2; same = same_name h.1.text; nests = le_refl 0 };
   },
   texts.1,
 )
@@ -95,7 +93,7 @@ numbers_keep n more texts =
         again = λ gap ts us h.
             let P : List Word → Type 0 = λ ws. Takes ts ws us in
             let one = subst P (number_words gap n.token) h in
-            record { form = a_number one.1; tokens = led one.1 one.2; same = same_literal pos one.1.token n.token read one.1.text; nests = none_deeper };
+            record { form = a_number one.1; tokens = led one.1 one.2; same = same_literal pos one.1.token n.token read one.1.text; nests = le_refl 0 };
       },
       texts.1,
     )
@@ -140,7 +138,7 @@ negative_kept minus n text =
       writable = negative_writable (mantissa_of n.token.text) n.token read refl;
       again = λ gap ts us h.
           let a = negative_again (mantissa_of n.token.text) n.token gap ts us read refl h in
-          record { form = a.form; tokens = a.tokens; same = a.same; nests = none_deeper };
+          record { form = a.form; tokens = a.tokens; same = a.same; nests = le_refl 0 };
     }
 
 pub literals_keep : Keeps literals
@@ -150,7 +148,7 @@ literals_keep (plain n) more texts =
         writable = kept.0.writable;
         again = λ gap ts us h.
             let a = kept.0.again gap ts us h in
-            record { form = plain a.form; tokens = a.tokens; same = a.same; nests = none_deeper };
+            record { form = plain a.form; tokens = a.tokens; same = a.same; nests = le_refl 0 };
       },
       kept.1,
     )
@@ -170,7 +168,7 @@ side_again s lo hi gap ts us h =
       form = record { lo = a.form; dots = a_sign dots.1; hi = b.form };
       tokens = onto (spelled_literal a.form) a.tokens (led dots.1 b.tokens);
       same = ap₂ (λ (x y : Lit). record { lo = x; hi = y }) a.same b.same;
-      nests = none_deeper;
+      nests = le_refl 0;
     }
 
 pub sides_keep : Keeps sides
@@ -192,7 +190,7 @@ range_again r side ts us h =
       form = record { opening = a_sign h.1; side = a.form; closing = a_sign closing.1 };
       tokens = led h.1 (onto (spelled_side a.form) a.tokens (led closing.1 closing.2));
       same = a.same;
-      nests = none_deeper;
+      nests = le_refl 0;
     }
 
 pub ranges_keep : Keeps ranges
@@ -214,7 +212,7 @@ fix_again f scale ts us h =
       form = record { fix = a_keyword h.1; opening = a_sign opening.1; scale = a.form; closing = a_sign closing.1 };
       tokens = led h.1 (led opening.1 (onto (spelled_number a.form) a.tokens (led closing.1 closing.2)));
       same = a.same;
-      nests = none_deeper;
+      nests = le_refl 0;
     }
 
 pub fixes_keep : Keeps fixes
@@ -231,7 +229,7 @@ fixed_again f r scale range ts us h =
     let parts = split (fixed_words (fix_of f)) (range_words (range_of r)) ts us h in
     let a = scale.again tt ts parts.0 parts.1 in
     let b = range.again tt parts.0 us parts.2 in
-    record { form = a_fix a.form b.form; tokens = onto (spelled_fix a.form) a.tokens b.tokens; same = ap₂ Fix a.same b.same; nests = none_deeper }
+    record { form = a_fix a.form b.form; tokens = onto (spelled_fix a.form) a.tokens b.tokens; same = ap₂ Fix a.same b.same; nests = le_refl 0 }
 
 pub scalars_keep : Keeps scalars
 scalars_keep (an_int word r) more texts =
@@ -240,7 +238,7 @@ scalars_keep (an_int word r) more texts =
         writable = range.0.writable;
         again = λ _ ts us h.
             let a = range.0.again tt h.0 us h.2 in
-            record { form = an_int (a_keyword h.1) a.form; tokens = led h.1 a.tokens; same = ap Int a.same; nests = none_deeper };
+            record { form = an_int (a_keyword h.1) a.form; tokens = led h.1 a.tokens; same = ap Int a.same; nests = le_refl 0 };
       },
       range.1,
     )
@@ -251,7 +249,7 @@ scalars_keep (a_fix f r) more texts =
 scalars_keep (a_bool word) more texts = (
   record {
     writable = tt;
-    again = λ _ ts us h. record { form = a_bool (a_keyword h.1); tokens = led h.1 h.2; same = refl; nests = none_deeper };
+    again = λ _ ts us h. record { form = a_bool (a_keyword h.1); tokens = led h.1 h.2; same = refl; nests = le_refl 0 };
   },
   texts.1,
 )
@@ -272,7 +270,7 @@ typed_names_keep f more texts =
               form = record { name = a_name h.1; colon = a_sign colon.1; scalar = a.form };
               tokens = led h.1 (led colon.1 a.tokens);
               same = ap₂ (λ (x : Ident) (y : Scalar). record { name = x; scalar = y }) (same_name h.1.text) a.same;
-              nests = none_deeper;
+              nests = le_refl 0;
             };
       },
       scalar.1,
@@ -289,21 +287,21 @@ constants_keep (a_literal l) more texts =
         writable = kept.0.writable;
         again = λ gap ts us h.
             let a = kept.0.again gap ts us h in
-            record { form = a_literal a.form; tokens = a.tokens; same = ap Numeral a.same; nests = none_deeper };
+            record { form = a_literal a.form; tokens = a.tokens; same = ap Numeral a.same; nests = le_refl 0 };
       },
       kept.1,
     )
 constants_keep (a_yes word) more texts = (
   record {
     writable = tt;
-    again = λ gap ts us h. record { form = a_yes (a_keyword h.1); tokens = led h.1 h.2; same = refl; nests = none_deeper };
+    again = λ gap ts us h. record { form = a_yes (a_keyword h.1); tokens = led h.1 h.2; same = refl; nests = le_refl 0 };
   },
   texts.1,
 )
 constants_keep (a_no word) more texts = (
   record {
     writable = tt;
-    again = λ gap ts us h. record { form = a_no (a_keyword h.1); tokens = led h.1 h.2; same = refl; nests = none_deeper };
+    again = λ gap ts us h. record { form = a_no (a_keyword h.1); tokens = led h.1 h.2; same = refl; nests = le_refl 0 };
   },
   texts.1,
 )

@@ -1,6 +1,7 @@
 -- Lists of items, and clauses of them.
 use Rattle.std.proofs.Common.{◌≡◌, ℕ, ◌≤◌, max, List, [], ◌∷◌, map, Option, None, Some, codes, false, refl, ap₂, subst, arith}
 use Rattle.std.proofs.lemmas.Int.{clamps}
+use Rattle.std.proofs.Math.Nat.{le_refl}
 use Rattle.sot_text.specs.Reading.{Lexeme}
 use Rattle.sot_parser.specs.Pieces.{each, maybe, Further, Separated, spelled_further, spelled_separated, further_of, separated_of, ClauseForm, spelled_clause, clause_of, clause_or_none}
 use Rattle.sot_parser.specs.Declarations.{most}
@@ -14,9 +15,6 @@ use Rattle.sot_print.specs.Canonical as canonical
 use Rattle.sot_print.specs.Spellable.{Each}
 use Rattle.sot_canon.proofs.Takes.{Takes, split, a_keyword, a_sign, led, onto}
 use Rattle.sot_canon.proofs.Kept.{Production, Again, Kept, Keeps, no_level}
-
-none_deeper : 0 ≤ 0
-none_deeper = omega arith
 
 pub cons_same : {A : Type 0} {x y : A} {xs ys : List A} → x ≡ y → xs ≡ ys → x ∷ xs ≡ y ∷ ys
 cons_same e more = ap₂ (λ x xs. x ∷ xs) e more
@@ -42,11 +40,11 @@ further_again p f fs item others gap ts us h =
       form = record { sign = a_sign h.1; item = a.form } ∷ b.form;
       tokens = led h.1 (onto (p.spelled a.form) a.tokens b.tokens);
       same = cons_same a.same b.same;
-      nests = none_deeper;
+      nests = le_refl 0;
     }
 
 further_keep : {F T : Type 0} (p : Production Gap F T) → Keeps p → Keeps (further_items p)
-further_keep p keeps [] more texts = (record { writable = tt; again = λ gap ts us h. record { form = []; tokens = h; same = refl; nests = none_deeper } }, texts)
+further_keep p keeps [] more texts = (record { writable = tt; again = λ gap ts us h. record { form = []; tokens = h; same = refl; nests = le_refl 0 } }, texts)
 further_keep p keeps (f ∷ fs) more texts =
     let item = keeps f.item (each (spelled_further p.spelled) fs more) texts.1 in
     let others = further_keep p keeps fs more item.1 in
@@ -73,7 +71,7 @@ list_again p s item others gap ts us h =
       form = record { first = a.form; further = b.form };
       tokens = onto (p.spelled a.form) a.tokens b.tokens;
       same = cons_same a.same b.same;
-      nests = none_deeper;
+      nests = le_refl 0;
     }
 
 pub lists_keep : {F T : Type 0} (p : Production Gap F T) → Keeps p → Keeps (lists p)
@@ -103,7 +101,7 @@ clause_again text p c items ts us h =
       form = record { word = a_keyword h.1; items = a.form; semicolon = a_sign last.1 };
       tokens = led h.1 (onto (spelled_separated p.spelled a.form) a.tokens (led last.1 last.2));
       same = a.same;
-      nests = none_deeper;
+      nests = le_refl 0;
     }
 
 pub clauses_keep : {F T : Type 0} (text : List ℕ) (p : Production Gap F T) → Keeps p → Keeps (clauses text p)
@@ -132,7 +130,7 @@ optional_keep text p words is keeps None more texts = (
     writable = tt;
     again = λ _ ts us h.
         let P : List Word → Type 0 = λ ws. Takes ts ws us in
-        record { form = None; tokens = subst P is.none h; same = refl; nests = none_deeper };
+        record { form = None; tokens = subst P is.none h; same = refl; nests = le_refl 0 };
   },
   texts,
 )
@@ -143,7 +141,7 @@ optional_keep text p words is keeps (Some c) more texts =
         again = λ _ ts us h.
             let P : List Word → Type 0 = λ ws. Takes ts ws us in
             let a = kept.0.again tt ts us (subst P (is.some (p.tree c.items.first) (map (further_of p.tree) c.items.further)) h) in
-            record { form = Some a.form; tokens = a.tokens; same = a.same; nests = none_deeper };
+            record { form = Some a.form; tokens = a.tokens; same = a.same; nests = le_refl 0 };
       },
       kept.1,
     )
@@ -176,7 +174,7 @@ row_again p f fs item others place ts us h =
     }
 
 pub rows_keep : {G F T : Type 0} (p : Production G F T) → Keeps p → Keeps (rows p)
-rows_keep p keeps [] more texts = (record { writable = tt; again = λ place ts us h. record { form = []; tokens = h; same = refl; nests = none_deeper } }, texts)
+rows_keep p keeps [] more texts = (record { writable = tt; again = λ place ts us h. record { form = []; tokens = h; same = refl; nests = le_refl 0 } }, texts)
 rows_keep p keeps (f ∷ fs) more texts =
     let item = keeps f (each p.spelled fs more) texts in
     let others = rows_keep p keeps fs more item.1 in

@@ -1,5 +1,5 @@
 -- Statements and blocks.
-use Rattle.std.proofs.Common.{◌≡◌, ℕ, ◌+◌, ◌≤◌, List, [], ◌∷◌, ◌++◌, Option, None, Some, codes, refl, ap, ap₂, arith}
+use Rattle.std.proofs.Common.{ℕ, ◌+◌, List, [], ◌∷◌, ◌++◌, Option, None, Some, codes, refl, ap, ap₂, arith}
 use Rattle.std.specs.Option.{option_map}
 use Rattle.std.proofs.lemmas.Int.{clamps}
 use Rattle.std.proofs.Math.Nat.{le_refl}
@@ -8,58 +8,20 @@ use Rattle.sot_lang.specs.declared.tree.Ident.{Ident}
 use Rattle.sot_lang.specs.declared.tree.Lit.{Lit}
 use Rattle.sot_lang.specs.Trees.{Tree, Statement, Block, assigned, published, branched, repeated, statement}
 use Rattle.sot_parser.specs.Pieces.{Keyword, Sign, Named, Digits, spelled_number, name_of, number_of, maybe}
-use Rattle.sot_parser.specs.Statements.{ExpressionForm, spelled_expression, expression_of, expression_levels, AssignForm, DotForm, spelled_dot, dot_of, PublishForm, StatementForm, BlockForm, ElseForm, StatementsForm, an_assign, a_publish, an_if, a_repeat, braces, no_else, with_else, no_more, one_more, spelled_statement, spelled_block, spelled_else, spelled_statements, statement_of, block_of, else_of, statements_of, statement_levels, block_levels, else_levels, statements_levels}
+use Rattle.sot_parser.specs.Statements.{ExpressionForm, spelled_expression, expression_of, AssignForm, DotForm, spelled_dot, dot_of, PublishForm, StatementForm, BlockForm, ElseForm, StatementsForm, an_assign, a_publish, an_if, a_repeat, braces, no_else, with_else, no_more, one_more, spelled_statement, spelled_block, spelled_else, spelled_statements, statement_of, block_of, else_of, statements_of, statement_levels, block_levels, else_levels, statements_levels}
 use Rattle.sot_print.specs.declared.gap.Gap.{Gap}
 use Rattle.sot_print.specs.declared.gap.Gap.TheVariants.{Space, Line}
 use Rattle.sot_print.specs.Words.{Word, sign}
 use Rattle.sot_print.specs.Leaves.{literal_words, reference_words}
 use Rattle.sot_print.specs.Expressions.{expression_words}
 use Rattle.sot_print.specs.Statements.{semicolon, braced_words, otherwise_words, statement_words, block_words}
-use Rattle.sot_print.specs.Spellable.{IsName as IsNameText, IfThere, IsTree, IsStatement, IsBlock}
-use Rattle.sot_canon.specs.Unplaced.{nowhere, unplaced_name, unplaced_tree, unplaced_statement, unplaced_block}
+use Rattle.sot_print.specs.Spellable.{IsName as IsNameText, IfThere, IsStatement, IsBlock}
+use Rattle.sot_canon.specs.Unplaced.{nowhere, unplaced_name, unplaced_statement, unplaced_block}
 use Rattle.sot_canon.proofs.Takes.{Takes, split, a_keyword, a_sign, a_name, led, onto}
 use Rattle.sot_canon.proofs.Texts.{AreTexts}
-use Rattle.sot_canon.proofs.Kept.{Production, Again, Kept, Keeps, no_level, also}
+use Rattle.sot_canon.proofs.Kept.{Production, Again, Kept, no_level, also}
 use Rattle.sot_canon.proofs.Leaves.{same_name, name_text, numbers, numbers_keep}
-use Rattle.sot_canon.proofs.Expressions.{phrases_keep}
-
--- expr
-abbrev pub expressions : Production Gap ExpressionForm Tree
-expressions = record {
-  spelled = spelled_expression;
-  tree = expression_of;
-  unplaced = unplaced_tree;
-  levels = expression_levels;
-  IsWritable = IsTree;
-  words = λ gap e. expression_words e gap;
-}
-
-pub expressions_keep : Keeps expressions
-expressions_keep e more texts =
-    let kept = phrases_keep e.phrase more e.is texts in (
-      record {
-        writable = kept.0.writable;
-        again = λ gap ts us h.
-            let a = kept.0.again gap ts us h in
-            record { form = record { phrase = a.form; is = a.is }; tokens = a.tokens; same = a.same; nests = a.nests };
-      },
-      kept.1,
-    )
-
--- an expression and ";"
-record Ended (e : ExpressionForm) (ts us : List Lexeme) : Type 0 where
-  form : ExpressionForm
-  last : Sign (codes ";")
-  tokens : ts ≡ spelled_expression form (last.token ∷ us)
-  same : unplaced_tree (expression_of form) ≡ unplaced_tree (expression_of e)
-  nests : expression_levels form ≤ expression_levels e
-
-ended_again : (e : ExpressionForm) → Kept expressions e → (ts us : List Lexeme) → Takes ts (expression_words (expression_of e) Space ++ semicolon) us → Ended e ts us
-ended_again e kept ts us h =
-    let parts = split (expression_words (expression_of e) Space) semicolon ts us h in
-    let a = kept.again Space ts parts.0 parts.1 in
-    let last = parts.2 in
-    record { form = a.form; last = a_sign last.1; tokens = onto (spelled_expression a.form) a.tokens (led last.1 last.2); same = a.same; nests = a.nests }
+use Rattle.sot_canon.proofs.Expressions.{expressions, expressions_keep, ended_again}
 
 -- a statement
 abbrev pub statements : Production ℕ StatementForm Statement
