@@ -1,11 +1,12 @@
 -- The canonical text of a program that a text spells is read back.
-use Rattle.std.proofs.Common.{◌≡◌, ℕ, ◌≤◌, List, [], true, Option, None, refl, sym, ap, subst, arith}
+use Rattle.std.proofs.Common.{◌≡◌, ℕ, ◌≤◌, List, [], true, Option, None, refl, sym, ap, ◌∙◌, subst, arith}
 use Rattle.sot_text.specs.Reading.{Lexeme}
 use Rattle.sot_text.specs.Ahead.{Ahead, Comes}
 use Rattle.sot_text.specs.declared.token.LexFault.{LexFault}
 use Rattle.sot_lang.specs.Trees.{Program, Declaration}
 use Rattle.sot_parser.specs.Declarations.{DeclarationForm}
 use Rattle.sot_parser.specs.Programs.{spelled_program, program_of, program_levels, Spells}
+use Rattle.sot_parser.proofs.ProgramTexts.{spells_unique}
 use Rattle.sot_print.specs.Canonical.{words, canonical}
 use Rattle.sot_print.specs.Layout.{Reads}
 use Rattle.sot_print.proofs.ProgramSits.{canonical_read}
@@ -13,6 +14,7 @@ use Rattle.sot_canon.specs.Unplaced.{AreSame}
 use Rattle.sot_canon.proofs.Takes.{all_taken}
 use Rattle.sot_canon.proofs.Texts.{AreTexts, lexes_texts}
 use Rattle.sot_canon.proofs.Kept.{Kept}
+use Rattle.sot_canon.proofs.SameWords.{one_text}
 use Rattle.sot_canon.proofs.Programs.{programs, programs_keep}
 
 abbrev ReadBack : Program → Type 0
@@ -47,3 +49,9 @@ canonical_text bytes at p spells =
     let ds : List DeclarationForm = spells.is.form in
     let texts : AreTexts spells.tokens = lexes_texts bytes at spells.tokens spells.text.0 spells.text.1 in
     subst ReadBack (sym spells.is.means) (form_read ds (subst AreTexts spells.is.spelled texts) spells.is.nests)
+
+-- the text spells no other program
+pub printed_again : (bytes : List ℕ) (at : ℕ) (p q : Program) → Spells bytes at p → Spells (canonical p) 0 q → canonical q ≡ canonical p
+printed_again bytes at p q spells again =
+    let back = canonical_text bytes at p spells in
+    ap canonical (spells_unique (canonical p) 0 q back.0 again back.1) ∙ sym (one_text p back.0 back.2)

@@ -14,3 +14,8 @@ pub fn canonical_texts_are_read_back()
 pub fn same_programs_have_one_text()
     ensures { (p q : Program) → AreSame p q → canonical p ≡ canonical q }
 {}
+
+/// A canonical text that is read and printed again stays as it is.
+pub fn canonical_texts_are_printed_again()
+    ensures { (bytes : List ℕ) (at : ℕ) (p q : Program) → Spells bytes at p → Spells (canonical p) 0 q → canonical q ≡ canonical p }
+{}

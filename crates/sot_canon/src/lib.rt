@@ -5,4 +5,6 @@ mod facts;
 mod laws;
 
 pub use facts::sameness_is_as_stated;
-pub use laws::{canonical_texts_are_read_back, same_programs_have_one_text};
+pub use laws::{
+    canonical_texts_are_printed_again, canonical_texts_are_read_back, same_programs_have_one_text,
+};
