@@ -1,5 +1,5 @@
 -- Worked programs that are the same, and others that are not, as statements that functions of this crate prove.
-use Rattle.std.specs.Prelude.{ℕ, pos, neg_ℤ, ℤ, Bool, true, false, List, [], ◌∷◌, Option, None, Some, codes}
+use Rattle.std.specs.Prelude.{◌≡◌, ℕ, pos, neg_ℤ, ℤ, Bool, true, false, List, [], ◌∷◌, Option, None, Some, codes}
 use Rattle.sot_text.specs.declared.token.Span.{Span}
 use Rattle.sot_lang.specs.declared.operator.Op.TheVariants.{Add, Less}
 use Rattle.sot_lang.specs.declared.operator.Func.TheVariants.{Abs}
@@ -9,6 +9,8 @@ use Rattle.sot_lang.specs.declared.tree.Bounds.{Bounds}
 use Rattle.sot_lang.specs.declared.tree.Scalar.TheVariants.{Int, Fix, Bool as Truths}
 use Rattle.sot_lang.specs.declared.tree.Const.TheVariants.{Number, Truth}
 use Rattle.sot_lang.specs.Trees.{Tree, number, truth, named, binary, rest, negated, denied, called, rescaled, chosen, no_tree, one_more, Statement, Block, assigned, published, branched, repeated, no_statement, statement, one, fields, one_value, values, Topic, Plant, Node, Module, Declaration, a_topic, a_plant, a_node, a_module, Program}
+use Rattle.sot_parser.specs.Pieces.{Keyword, Sign}
+use Rattle.sot_parser.specs.Statements.{braces, no_else, with_else, no_more, else_of}
 use Rattle.sot_canon.specs.Unplaced.{nowhere, AreSame}
 
 abbrev pub ident : Span → List ℕ → Ident
@@ -131,3 +133,7 @@ BranchesCount =
     (does (branched (truth true nowhere) no_statement (statement (assigned (ident nowhere (codes "x")) (x nowhere)) no_statement) nowhere))
     × AreOther (sets (negated (number (whole nowhere 5)) nowhere)) (literal (neg_ℤ (pos 5)) 0)
     × AreOther (sets (x nowhere)) (sets (named (ident nowhere (codes "x")) (Some (ident nowhere (codes "x")))))
+
+-- but an empty block behind `else` is the same as no `else`
+abbrev pub EmptyElseIsNone : Type 0
+EmptyElseIsNone = (word : Keyword (codes "else")) (opening : Sign (codes "{")) (closing : Sign (codes "}")) → else_of (with_else word (braces opening no_more closing)) ≡ else_of no_else

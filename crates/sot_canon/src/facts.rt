@@ -1,4 +1,4 @@
-ghost use Rattle.sot_canon.specs.Examples.{PlacesDoNotCount, WordsCount, DeclarationsCount, BranchesCount};
+ghost use Rattle.sot_canon.specs.Examples.{PlacesDoNotCount, WordsCount, DeclarationsCount, BranchesCount, EmptyElseIsNone};
 
 /// Worked programs: where their parts stand does not count, and all else does.
 pub fn sameness_is_as_stated()
@@ -6,4 +6,5 @@ pub fn sameness_is_as_stated()
     ensures words { WordsCount }
     ensures declarations { DeclarationsCount }
     ensures branches { BranchesCount }
+    ensures empty_else { EmptyElseIsNone }
 {}
