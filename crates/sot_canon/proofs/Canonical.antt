@@ -10,7 +10,7 @@ use Rattle.sot_parser.proofs.ProgramTexts.{spells_unique}
 use Rattle.sot_print.specs.Canonical.{words, canonical}
 use Rattle.sot_print.specs.Layout.{Reads}
 use Rattle.sot_print.proofs.ProgramSits.{canonical_read}
-use Rattle.sot_canon.specs.Unplaced.{AreSame}
+use Rattle.sot_canon.specs.Unplaced.{without_places, AreSame}
 use Rattle.sot_canon.proofs.Takes.{all_taken}
 use Rattle.sot_canon.proofs.Texts.{AreTexts, lexes_texts}
 use Rattle.sot_canon.proofs.Kept.{Kept}
@@ -55,3 +55,10 @@ pub printed_again : (bytes : List ℕ) (at : ℕ) (p q : Program) → Spells byt
 printed_again bytes at p q spells again =
     let back = canonical_text bytes at p spells in
     ap canonical (spells_unique (canonical p) 0 q back.0 again back.1) ∙ sym (one_text p back.0 back.2)
+
+pub told_apart : (a b : List ℕ) (i j : ℕ) (p q : Program) → Spells a i p → Spells b j q → canonical p ≡ canonical q → AreSame p q
+told_apart a b i j p q of_p of_q e =
+    let one = canonical_text a i p of_p in
+    let other = canonical_text b j q of_q in
+    let P : List ℕ → Type 0 = λ text. Spells text 0 other.0 in
+    one.2 ∙ ap without_places (spells_unique (canonical p) 0 one.0 other.0 one.1 (subst P (sym e) other.1)) ∙ sym other.2

@@ -15,6 +15,11 @@ pub fn same_programs_have_one_text()
     ensures { (p q : Program) → AreSame p q → canonical p ≡ canonical q }
 {}
 
+/// Programs of the language that have the same canonical text are the same.
+pub fn canonical_texts_tell_programs_apart()
+    ensures { (a b : List ℕ) (i j : ℕ) (p q : Program) → Spells a i p → Spells b j q → canonical p ≡ canonical q → AreSame p q }
+{}
+
 /// A canonical text that is read and printed again stays as it is.
 pub fn canonical_texts_are_printed_again()
     ensures { (bytes : List ℕ) (at : ℕ) (p q : Program) → Spells bytes at p → Spells (canonical p) 0 q → canonical q ≡ canonical p }

@@ -6,5 +6,6 @@ mod laws;
 
 pub use facts::sameness_is_as_stated;
 pub use laws::{
-    canonical_texts_are_printed_again, canonical_texts_are_read_back, same_programs_have_one_text,
+    canonical_texts_are_printed_again, canonical_texts_are_read_back,
+    canonical_texts_tell_programs_apart, same_programs_have_one_text,
 };
