@@ -1,0 +1,5 @@
+pub mod Lists
+pub mod Joined
+pub mod Once
+pub mod Declared
+pub mod Meanings
