@@ -5,3 +5,8 @@ pub mod Declared
 pub mod Meanings
 pub mod Ranges
 pub mod Readings
+pub mod FormulaRules
+pub mod SortCases
+pub mod Expressions
+pub mod Times
+pub mod Statements
