@@ -10,3 +10,6 @@ pub mod SortCases
 pub mod Expressions
 pub mod Times
 pub mod Statements
+pub mod Seen
+pub mod Topics
+pub mod ScalarFacts
