@@ -13,3 +13,5 @@ pub mod Statements
 pub mod Seen
 pub mod Topics
 pub mod ScalarFacts
+pub mod TopicLists
+pub mod PlantFacts

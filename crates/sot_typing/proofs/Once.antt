@@ -37,7 +37,7 @@ repeated names i j a b x y l e = record {
   here = refl;
 }
 
-order : (i j : ℕ) → (i ≡ j) ⊎ ((i < j) ⊎ (j < i))
+pub order : (i j : ℕ) → (i ≡ j) ⊎ ((i < j) ⊎ (j < i))
 order zero zero = inl refl
 order zero (suc j) = inr (inl (omega arith))
 order (suc i) zero = inr (inr (omega arith))
