@@ -15,3 +15,5 @@ pub mod Topics
 pub mod ScalarFacts
 pub mod TopicLists
 pub mod PlantFacts
+pub mod NodeFacts
+pub mod ModuleFacts

@@ -65,7 +65,7 @@ some_length : {A : Type 0} (xs : List A) → IsSome xs → 1 ≤ length xs
 some_length [] h = absurd h
 some_length (x ∷ xs) h = omega arith
 
-few : {A : Type 0} (limit : ℕ) (name : A → Ident) (xs : List A) → ((at : Span) → IsPast limit (places (map name xs)) at → ⊥) → length xs ≤ limit
+pub few : {A : Type 0} (limit : ℕ) (name : A → Ident) (xs : List A) → ((at : Span) → IsPast limit (places (map name xs)) at → ⊥) → length xs ≤ limit
 few limit name xs h =
     let a = not_past limit (λ i. i.at) (map name xs) h in
     let b = length-map xs name in
