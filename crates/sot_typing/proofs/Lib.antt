@@ -17,3 +17,4 @@ pub mod TopicLists
 pub mod PlantFacts
 pub mod NodeFacts
 pub mod ModuleFacts
+pub mod Owners

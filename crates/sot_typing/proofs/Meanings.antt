@@ -150,7 +150,7 @@ a_node_meant (Some (a_node n)) e = (n, refl)
 a_node_meant (Some (a_module m)) e = cc
 
 -- the scalars that a name stands for
-abbrev scalars_in : Program → Ident → Option Declaration → List ℕ
+abbrev pub scalars_in : Program → Ident → Option Declaration → List ℕ
 scalars_in p i o = elim o as (λ x. List ℕ) [ Some (a_topic t) ↦ counted_from (first_scalar p (topic_place p i)) (scalar_count t) | _ ↦ [] ]
 
 pub scalars_are : (p : Program) (i : Ident) (t : Topic) → meaning p i ≡ Some (a_topic t) → scalars_meant p i ≡ counted_from (first_scalar p (topic_place p i)) (scalar_count t)
@@ -177,7 +177,7 @@ length_scalars p i = by (meaning p i)
     by (Some (a_module l)) = refl
 
 -- the numbers that a node reads by a name
-abbrev slots_in : Program → Ident → Option Declaration → List Slot
+abbrev pub slots_in : Program → Ident → Option Declaration → List Slot
 slots_in p i o = elim o as (λ x. List Slot) [ Some (a_topic t) ↦ map (λ k. ScalarSlot k) (scalars_meant p i) | Some (a_plant q) ↦ map (λ v. State (plant_place p i) v) (counted_from 0 (length q.states)) | _ ↦ [] ]
 
 pub slots_of_topic : (p : Program) (i : Ident) (t : Topic) → meaning p i ≡ Some (a_topic t) → slots_meant p i ≡ map (λ k. ScalarSlot k) (scalars_meant p i)
