@@ -18,3 +18,5 @@ pub mod PlantFacts
 pub mod NodeFacts
 pub mod ModuleFacts
 pub mod Owners
+pub mod DeclaredNames
+pub mod Meets

@@ -116,7 +116,7 @@ module _ (p : Program) (t : Tables) (s : AreSeen p t) (f : IsFaultless p) where
       (b.0, module_info p m.0, module_in p t s b.0 m.0 b.1, plant_place_by p m.0.plant x.0.name m.2 ∙ (plant_own p f k x.0 x.1).1)
 
   -- what a plant sees is a plant
-  seen_meant : (k : ℕ) (q : Plant) → At (plants p) k q → (i : Ident) → Has q.sees i → (r : Plant) × (meaning p i ≡ Some (a_plant r))
+  pub seen_meant : (k : ℕ) (q : Plant) → At (plants p) k q → (i : Ident) → Has q.sees i → (r : Plant) × (meaning p i ≡ Some (a_plant r))
   seen_meant k q a i h =
       let none = plant_faultless p f k q a in
       let x = no_true (is_topic (meaning p i)) (λ e. none i.at KindDiffers (seen_topic h e)) in

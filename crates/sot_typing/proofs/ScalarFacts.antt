@@ -95,18 +95,23 @@ module _ (p : Program) (t : Tables) (s : AreSeen p t) (f : IsFaultless p) where
       let r = x.place in
       (topic_info p x.tree, subst (λ n. At t.topics n (topic_info p x.tree)) e (topic_in p t s x.topic x.tree x.stands), omega arith, omega arith)
 
+  -- a place within a topic is one of its scalars
+  scalar_from : (j m k : ℕ) (u : Topic) → At (topics p) j u → m < scalar_count u → first_scalar p j + m ≡ k → (info : ScalarInfo) × At t.scalars k info × (info.topic ≡ j)
+  scalar_from j m k u a l e =
+      let r = scalar_in j m u a l in
+      let b : At t.scalars k r.0 = subst (λ n. At t.scalars n r.0) e r.1 in
+      (r.0, b, topic_number j m k u r.0 (at_scalar k r.0 b) a l e)
+    where
+      topic_number : (j m k : ℕ) (u : Topic) (info : ScalarInfo) (x : IsScalarAt p k info) → At (topics p) j u → m < scalar_count u → first_scalar p j + m ≡ k → info.topic ≡ j
+      topic_number j m k u info x a l e = ap (λ (i : ScalarInfo). i.topic) x.is ∙ same_topic p x.topic j x.nth m x.tree u x.stands a x.below l (sym x.place ∙ sym e)
+
   pub scalar_of_topic : (j k : ℕ) (topic : TopicInfo) → At t.topics j topic → topic.first ≤ k → k < topic.first + topic.count → (info : ScalarInfo) × At t.scalars k info × (info.topic ≡ j)
   scalar_of_topic j k topic a low high =
       let u = of_topic p t s j topic a in
       let q = first_is j u.0 u.1 in
       let e : topic.first ≡ first_scalar p j = sym (ap (λ (i : TopicInfo). i.first) u.2) ∙ q in
       let c : topic.count ≡ scalar_count u.0 = sym (ap (λ (i : TopicInfo). i.count) u.2) in
-      let r = scalar_in j (k - first_scalar p j) u.0 u.1 (omega arith) in
-      let w : first_scalar p j + (k - first_scalar p j) ≡ k = omega arith in
-      let b : At t.scalars k r.0 = subst (λ n. At t.scalars n r.0) w r.1 in
-      let x = at_scalar k r.0 b in
-      let i = same_topic p x.topic j x.nth (k - first_scalar p j) x.tree u.0 x.stands u.1 x.below (omega arith) (sym x.place ∙ sym w) in
-      (r.0, b, ap (λ (i : ScalarInfo). i.topic) x.is ∙ i)
+      scalar_from j (k - first_scalar p j) k u.0 u.1 (omega arith) (omega arith)
 
   pub scalar_meets : (k : ℕ) (info : ScalarInfo) → At t.scalars k info → MeetsScalarRules t info
   scalar_meets k info a =

@@ -31,7 +31,7 @@ are_seen p t e = record {
 }
 
 -- two lists that are seen alike
-of_seen : {A B C : Type 0} (f : A → C) (g : B → C) (xs : List A) (ys : List B) → map f xs ≡ map g ys → (k : ℕ) (x : A) → At xs k x → (y : B) × At ys k y × (f x ≡ g y)
+pub of_seen : {A B C : Type 0} (f : A → C) (g : B → C) (xs : List A) (ys : List B) → map f xs ≡ map g ys → (k : ℕ) (x : A) → At xs k x → (y : B) × At ys k y × (f x ≡ g y)
 of_seen {C = C} f g xs ys e k x a =
     let b : At (map g ys) k (f x) = subst (λ (l : List C). At l k (f x)) e (at_map f xs k x a) in
     let r = of_map g ys k (f x) b in

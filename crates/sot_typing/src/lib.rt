@@ -2,7 +2,9 @@
 #![tactic(auto)]
 
 mod facts;
+mod laws;
 mod program;
 
 pub use facts::tables_are_as_stated;
+pub use laws::tables_meet_their_rules;
 pub use program::resolve;
