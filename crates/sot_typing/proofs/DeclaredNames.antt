@@ -1,7 +1,6 @@
 -- How many things a program may declare, and that names tell them apart.
-use Rattle.std.proofs.Common.{◌≡◌, ◌∙◌, ℕ, zero, suc, ◌+◌, ◌<◌, ◌≤◌, ◌⊎◌, inl, inr, List, [], ◌∷◌, ◌++◌, map, length, filter_map, refl, sym, ap, subst, Option, Some, None, option_map, arith}
+use Rattle.std.proofs.Common.{◌≡◌, ◌∙◌, ℕ, suc, ◌+◌, ◌<◌, ◌≤◌, ◌⊎◌, inl, inr, List, [], ◌∷◌, ◌++◌, map, length, filter_map, refl, sym, ap, subst, Option, Some, None, option_map, arith}
 use Rattle.std.specs.List.{cons_option}
-use Rattle.std.proofs.lemmas.List.{length-map}
 use Rattle.sot_box.specs.Lists.{At}
 use Rattle.sot_text.specs.declared.token.Span.{Span}
 use Rattle.sot_lang.specs.declared.tree.Ident.{Ident}
@@ -18,9 +17,9 @@ use Rattle.sot_rules.specs.Fails.{many_topics, many_nodes, many_modules, many_pl
 use Rattle.sot_rules.specs.Names.{declared_name}
 use Rattle.sot_rules.specs.Lists.{IsPast, places}
 use Rattle.sot_rules.specs.Tests.{topic_name, plant_name, node_name, module_name, names_of}
-use Rattle.sot_typing.specs.Resolved.{a_topic_of, a_plant_of, a_node_of, a_module_of, topics, plants, nodes, modules, topic_info, plant_table, node_table, module_info, PlantTable, NodeTable}
-use Rattle.sot_typing.proofs.Lists.{at_map, of_map, of_append, at_same, of_kept}
-use Rattle.sot_typing.proofs.Once.{AreOnce, not_past}
+use Rattle.sot_typing.specs.Resolved.{a_topic_of, a_plant_of, a_node_of, a_module_of, topics, plants, nodes, modules, PlantTable, NodeTable}
+use Rattle.sot_typing.proofs.Lists.{of_map, of_append, at_same, of_kept}
+use Rattle.sot_typing.proofs.Once.{not_past}
 use Rattle.sot_typing.proofs.Declared.{once_kept}
 use Rattle.sot_typing.proofs.Meanings.{topic_is, plant_is, node_is, module_is, topic_link, plant_link, node_link, module_link, declared_once}
 use Rattle.sot_typing.proofs.Seen.{AreSeen, of_topic, of_plant, of_node, of_module, topic_length, plant_length, node_length, module_length}

@@ -1,8 +1,7 @@
 -- An expression in which no rule fails: its sort is known, and with places for names it is in form.
-use Rattle.std.proofs.Common.{◌≡◌, ◌∙◌, ℕ, zero, suc, ◌+◌, ◌<◌, ◌≤◌, ◌^◌, ◌==◌, ℤ, pos, negsuc, ◌≤ℤ◌, neg_ℤ, int_le, int_lt, nat_abs, nat_lt, List, [], ◌∷◌, map, length, refl, sym, ap, subst, Option, Some, None, Bool, true, false, not, ◌||◌, ◌&&◌, if◌then◌else◌, arith}
+use Rattle.std.proofs.Common.{◌≡◌, ◌∙◌, ℕ, suc, ◌≤◌, ◌^◌, ◌==◌, ℤ, pos, negsuc, ◌≤ℤ◌, nat_abs, List, map, refl, sym, ap, subst, Option, Some, Bool, true, false, arith}
 use Rattle.std.specs.List.{list_any}
 use Rattle.std.proofs.lemmas.Int.{ints}
-use Rattle.std.proofs.lemmas.List.{length-map}
 use Rattle.sot_box.specs.Lists.{At}
 use Rattle.sot_text.specs.declared.token.Span.{Span}
 use Rattle.sot_lang.specs.Values.{is_word}
@@ -21,12 +20,13 @@ use Rattle.sot_rules.specs.declared.sort.Sort.TheVariants.{Scaled, Truthful, Any
 use Rattle.sot_rules.specs.Sorts.{is_truthful, is_scaled, differ, kinds_misfit, scales_misfit, operator_sort, given, some_differ, call_sort, branches_misfit}
 use Rattle.sot_rules.specs.Names.{Thing, Reading, gives, nothing_at, reading, reading_sort}
 use Rattle.sot_rules.specs.TreeSorts.{is_zero, is_no_scale, sort, sorts}
-use Rattle.sot_rules.specs.Formed.{IsLiteral, IsTree, AreTrees, part_count}
+use Rattle.sot_rules.specs.Formed.{IsTree, AreTrees, part_count}
 use Rattle.sot_rules.specs.Fails.{TreeFails, PartsFail, unknown, operands_kind, operands_scale, rest_kind, rest_scale, rest_zero, negated_truth, denied_number, call_kind, call_scale, rescaled_truth, rescaled_far, branches_kind, branches_scale, in_left, in_right, in_rest, in_negated, in_denied, in_call, in_rescaled, in_condition, in_then, in_else, in_first, in_later}
 use Rattle.sot_typing.specs.Formulas.{Formula}
 use Rattle.sot_typing.specs.Terms.{truth_number, sort_scale, place_of, formula_of, formulas_of}
 use Rattle.sot_typing.proofs.Lists.{at_lt, at_map}
-use Rattle.sot_typing.proofs.Ranges.{no_true, IsKnown, scale_known}
+use Rattle.sot_typing.proofs.Tests.{no_true}
+use Rattle.sot_typing.proofs.Ranges.{IsKnown, scale_known}
 use Rattle.sot_typing.proofs.Readings.{thing_sorts, place_is}
 use Rattle.sot_typing.proofs.FormulaRules.{IsTruthFormula, FormulasOperate, formula_count, FormulaFits, FormulasFit}
 use Rattle.sot_typing.proofs.SortCases.{OperandSorts, operation_is, unless_fails, neither, is_number, is_truth_value, given_known, branches_are, AreKnown, call_is}

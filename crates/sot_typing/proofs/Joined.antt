@@ -1,11 +1,11 @@
 -- Places in lists that are joined end to end, and sums of sizes.
-use Rattle.std.proofs.Common.{◌≡◌, ◌∙◌, ℕ, zero, suc, ◌+◌, ◌<◌, ◌≤◌, ◌⊎◌, inl, inr, List, [], ◌∷◌, ◌++◌, map, length, take, sum_by, flat_map, refl, sym, ap, subst, Option, Some, None, true, false, Bool, arith, append_assoc}
+use Rattle.std.proofs.Common.{◌≡◌, ℕ, zero, suc, ◌+◌, ◌<◌, ◌≤◌, ◌⊎◌, inl, inr, List, [], ◌∷◌, ◌++◌, length, take, sum_by, flat_map, refl, sym, ap, subst, Some, arith}
 use Rattle.std.proofs.lemmas.List.Sums.{sum_by-cons}
 use Rattle.std.proofs.lemmas.List.{length-append}
 use Rattle.sot_box.specs.Lists.{At}
 use Rattle.sot_lang.specs.Places.{Has}
 use Rattle.sot_typing.specs.Resolved.{counted_from}
-use Rattle.sot_typing.proofs.Lists.{at_lt, at_left, at_right, of_append}
+use Rattle.sot_typing.proofs.Lists.{at_left, at_right, of_append}
 
 -- the sums up to a place, and past it
 pub sum_next : {A : Type 0} (size : A → ℕ) (xs : List A) (k : ℕ) (x : A) → At xs k x → sum_by size (take (suc k) xs) ≡ sum_by size (take k xs) + size x
@@ -46,7 +46,8 @@ sum_within size (y ∷ ys) (suc j) x a =
 less : {A : Type 0} (size : A → ℕ) (xs : List A) (i j m n : ℕ) (x : A) → At xs i x → i < j → m < size x → sum_by size (take i xs) + m ≡ sum_by size (take j xs) + n → ⊥
 less size xs i j m n x a l b e = (let r = sum_below size xs i j x a l in absurd (omega arith))
 
-order : (i j : ℕ) → (i ≡ j) ⊎ ((i < j) ⊎ (j < i))
+-- two places are one, or one comes first
+pub order : (i j : ℕ) → (i ≡ j) ⊎ ((i < j) ⊎ (j < i))
 order zero zero = inl refl
 order zero (suc j) = inr (inl (omega arith))
 order (suc i) zero = inr (inr (omega arith))

@@ -1,27 +1,15 @@
 -- Places in lists that are made of others.
-use Rattle.std.proofs.Common.{◌≡◌, ◌∙◌, ℕ, zero, suc, ◌+◌, ◌<◌, ◌≤◌, ◌⊎◌, inl, inr, List, [], ◌∷◌, ◌++◌, map, length, take, zip, sum_by, filter_map, refl, sym, ap, subst, Option, Some, None, true, false, Bool, ◌||◌, arith}
-use Rattle.std.proofs.lemmas.List.Sums.{sum_by-cons}
+use Rattle.std.proofs.Common.{◌≡◌, ◌∙◌, ℕ, zero, suc, ◌+◌, ◌<◌, ◌⊎◌, inl, inr, List, [], ◌∷◌, ◌++◌, map, length, zip, filter_map, refl, sym, ap, subst, Option, Some, None, true, false, Bool, ◌||◌, arith}
 use Rattle.std.specs.List.{list_any, cons_option}
+pub use Rattle.std.proofs.lemmas.Option.{slice_get_within as at_lt}
+pub use Rattle.sot_lang.proofs.Lists.{at_map, at_same}
 use Rattle.sot_box.specs.Lists.{At}
 use Rattle.sot_rules.specs.Formed.{Each}
-
-pub at_lt : {A : Type 0} (xs : List A) (k : ℕ) (x : A) → At xs k x → k < length xs
-at_lt [] k x a = cc
-at_lt (y ∷ ys) zero x a = omega arith
-at_lt (y ∷ ys) (suc k) x a = (let r = at_lt ys k x a in omega arith)
 
 pub lt_at : {A : Type 0} (xs : List A) (k : ℕ) → k < length xs → (x : A) × At xs k x
 lt_at [] k l = absurd (omega arith)
 lt_at (y ∷ ys) zero l = (y, refl)
 lt_at (y ∷ ys) (suc k) l = lt_at ys k (omega arith)
-
-pub at_same : {A : Type 0} (xs : List A) (k : ℕ) (x y : A) → At xs k x → At xs k y → x ≡ y
-at_same xs k x y a b = cc
-
-pub at_map : {A B : Type 0} (f : A → B) (xs : List A) (k : ℕ) (x : A) → At xs k x → At (map f xs) k (f x)
-at_map f [] k x a = cc
-at_map f (y ∷ ys) zero x a = (let e : y ≡ x = cc in ap (λ z. Some (f z)) e)
-at_map f (y ∷ ys) (suc k) x a = at_map f ys k x a
 
 pub of_map : {A B : Type 0} (f : A → B) (xs : List A) (k : ℕ) (y : B) → At (map f xs) k y → (x : A) × At xs k x × (f x ≡ y)
 of_map f [] k y a = cc

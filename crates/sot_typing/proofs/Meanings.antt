@@ -1,5 +1,5 @@
 -- The declarations of a program in which no rule fails: their places, and what is known of each of them.
-use Rattle.std.proofs.Common.{◌≡◌, ◌∙◌, ℕ, zero, suc, ◌+◌, ◌<◌, List, [], ◌∷◌, map, length, refl, sym, ap, subst, Option, Some, None, Bool, true, false}
+use Rattle.std.proofs.Common.{◌≡◌, ◌∙◌, ℕ, ◌+◌, ◌<◌, List, [], map, length, refl, ap, Option, Some, None, true}
 use Rattle.std.proofs.lemmas.List.{length-map}
 use Rattle.std.proofs.lemmas.Option.{same_Some, none-some}
 use native.Mathlib.Omega.{arith}
@@ -19,8 +19,8 @@ use Rattle.sot_rules.specs.Names.{declared_name, meaning, is_topic, is_plant, is
 use Rattle.sot_rules.specs.Lists.{are_same}
 use Rattle.sot_rules.specs.Tests.{topic_size, read_size}
 use Rattle.sot_typing.specs.Resolved.{a_topic_of, a_plant_of, a_node_of, a_module_of, topics, plants, nodes, modules, topic_place, plant_place, node_place, scalar_count, first_scalar, counted_from, scalars_meant, slots_meant}
-use Rattle.sot_typing.proofs.Lists.{at_same, at_map, of_map, each_at, of_kept}
-use Rattle.sot_typing.proofs.Joined.{length_counted, at_counted, of_counted}
+use Rattle.sot_typing.proofs.Lists.{of_map, each_at, of_kept}
+use Rattle.sot_typing.proofs.Joined.{length_counted, of_counted}
 use Rattle.sot_typing.proofs.Once.{AreOnce, once_map, same_name}
 use Rattle.sot_typing.proofs.Declared.{of_find, place_found, own_found, own_place}
 

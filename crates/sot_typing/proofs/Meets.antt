@@ -1,35 +1,34 @@
 -- The tables of a program of the grammar in which no rule fails are in order.
-use Rattle.std.proofs.Common.{◌≡◌, ◌∙◌, ℕ, zero, suc, List, [], ◌∷◌, ◌++◌, map, length, refl, sym, ap, subst, Option, Some, None, option_map, replicate, Bool, true, false}
+use Rattle.std.proofs.Common.{◌≡◌, ◌∙◌, ℕ, suc, List, [], ◌∷◌, ◌++◌, map, length, refl, sym, ap, subst, Option, Some, None, option_map, replicate, Bool, true, false}
 use Rattle.std.specs.Global.{Vec}
 use Rattle.std.proofs.lemmas.Option.{none-some, same_Some}
 use Rattle.std.proofs.lemmas.List.{length-map}
 use Rattle.sot_box.specs.Lists.{At}
 use Rattle.sot_lang.specs.declared.act.Act.{Act}
 use Rattle.sot_lang.specs.declared.term.Term.{Term}
-use Rattle.sot_lang.specs.declared.tree.Field.{Field}
 use Rattle.sot_lang.specs.declared.tables.PlantInfo.{PlantInfo}
 use Rattle.sot_lang.specs.declared.tables.NodeInfo.{NodeInfo}
 use Rattle.sot_lang.specs.declared.tables.StateInfo.{StateInfo}
 use Rattle.sot_lang.specs.declared.tables.NoiseInfo.{NoiseInfo}
 use Rattle.sot_lang.specs.declared.tables.LocalInfo.{LocalInfo}
-use Rattle.sot_lang.specs.declared.tables.Slot.{Slot}
 use Rattle.sot_lang.specs.OwnerNames.{seen_width, is_truth_scalar, reads_truth, node_truths, plant_truths}
 use Rattle.sot_lang.specs.Tables.{Tables}
 use Rattle.sot_lang.specs.TableRules.{IsCoded, IsTyped, MeetsPlantRules, MeetsNodeRules, MeetsTableRules}
 use Rattle.sot_lang.specs.TermRules.{TermFits, TermsFit}
 use Rattle.sot_lang.specs.ActRules.{ActsFit}
-use Rattle.sot_lang.specs.Trees.{Plant, Node, Next, Local, Block, Program}
+use Rattle.sot_lang.specs.Trees.{Next, Program}
 use Rattle.sot_rules.specs.declared.fault.TypeKind.TheVariants.{KindDiffers}
 use Rattle.sot_rules.specs.First.{IsFaultless}
 use Rattle.sot_rules.specs.Formed.{IsFormed, IsNext, IsBlock, IfThere}
 use Rattle.sot_rules.specs.Fails.{noise_truth, noise_scalar, next_value, local_scalar, statements}
-use Rattle.sot_rules.specs.Names.{local_thing, node_scope, plant_scope, meaning, topic_meant}
+use Rattle.sot_rules.specs.Names.{local_thing, node_scope, plant_scope}
 use Rattle.sot_typing.specs.Formulas.{Deeds, formula_view, deeds_view}
 use Rattle.sot_typing.specs.Terms.{formula_of, deeds_of}
-use Rattle.sot_typing.specs.Resolved.{plants, nodes, AreTables, plant_place, state_info, noise_info, local_info, plant_table, plant_seen, PlantTable, node_table, node_seen, NodeTable}
+use Rattle.sot_typing.specs.Resolved.{AreTables, local_info, PlantTable, NodeTable}
 use Rattle.sot_typing.proofs.Lists.{each_at}
 use Rattle.sot_typing.proofs.Meanings.{plant_faultless, plant_formed, node_faultless, node_formed}
-use Rattle.sot_typing.proofs.Ranges.{no_true, scalar_is}
+use Rattle.sot_typing.proofs.Tests.{no_true}
+use Rattle.sot_typing.proofs.Ranges.{scalar_is}
 use Rattle.sot_typing.proofs.Readings.{thing_sorts}
 use Rattle.sot_typing.proofs.FormulaRules.{FormulaFits, DeedsFit, term_fits, acts_fit}
 use Rattle.sot_typing.proofs.Expressions.{AreNames, tree_sound}

@@ -1,46 +1,40 @@
 -- The modules of the tables of a program in which no rule fails.
-use Rattle.std.proofs.Common.{◌≡◌, ◌∙◌, ℕ, zero, suc, ◌+◌, ◌<◌, ◌≤◌, ◌==◌, ◌≢◌, ℤ, ◌≤ℤ◌, List, [], ◌∷◌, map, zip, length, nat_abs, refl, sym, ap, subst, Option, Some, None, option_map, is_none, Bool, true, false, not, arith}
+use Rattle.std.proofs.Common.{◌≡◌, ◌∙◌, ℕ, suc, ◌<◌, ◌≤◌, ◌≢◌, ◌≤ℤ◌, List, [], ◌∷◌, map, zip, length, refl, sym, ap, subst, Option, Some, None, option_map, is_none, Bool, true, false, arith}
 use Rattle.std.specs.Global.{Vec}
 use Rattle.std.proofs.lemmas.List.{length-map}
-use Rattle.std.proofs.lemmas.Option.{none-some, same_Some}
+use Rattle.std.proofs.lemmas.Option.{none-some}
 use Rattle.sot_box.specs.Lists.{At}
-use Rattle.sot_box.specs.BoxList.{BoxList}
 use Rattle.sot_box.specs.Sides.{Side, AreOrdered}
 use Rattle.sot_text.specs.declared.token.Span.{Span}
 use Rattle.sot_lang.specs.declared.act.Act.{Act}
-use Rattle.sot_lang.specs.declared.tree.Ident.{Ident}
 use Rattle.sot_lang.specs.declared.tree.Bounds.{Bounds}
-use Rattle.sot_lang.specs.declared.tree.StateDecl.{StateDecl}
 use Rattle.sot_lang.specs.declared.tables.PlantInfo.{PlantInfo}
 use Rattle.sot_lang.specs.declared.tables.NodeInfo.{NodeInfo}
 use Rattle.sot_lang.specs.declared.tables.ModuleInfo.{ModuleInfo}
 use Rattle.sot_lang.specs.Places.{Has}
 use Rattle.sot_lang.specs.TableRules.{IsCoded, IsRegionFor, MeetsModuleRules}
 use Rattle.sot_lang.specs.Tables.{Tables}
-use Rattle.sot_lang.specs.Trees.{Plant, Node, Module, Area, Block, Declaration, a_topic, a_plant, a_node, a_module, Program}
+use Rattle.sot_lang.specs.Trees.{Plant, Node, Module, Area, Block, Declaration, a_plant, a_node, Program}
 use Rattle.sot_rules.specs.declared.fault.TypeKind.{TypeKind}
 use Rattle.sot_rules.specs.declared.fault.TypeKind.TheVariants.{Unknown, Twice, KindDiffers, TooMany}
 use Rattle.sot_rules.specs.declared.sort.Sort.{Sort}
-use Rattle.sot_rules.specs.declared.sort.Sort.TheVariants.{Scaled}
 use Rattle.sot_rules.specs.First.{IsFaultless}
-use Rattle.sot_rules.specs.Formed.{IsFormed, IsModule}
+use Rattle.sot_rules.specs.Formed.{IsFormed}
 use Rattle.sot_rules.specs.Sorts.{state_sort}
 use Rattle.sot_rules.specs.Names.{meaning, is_topic, is_plant, is_node, is_external, node_scope}
 use Rattle.sot_rules.specs.Tests.{side_sorts, has_other_width, sides_of, free_sides}
-use Rattle.sot_rules.specs.Fails.{PlantFails, BoundsFail, RegionFails, other_width, side, many_boxes, ModuleFails, ac_unknown, sc_unknown, sc_external, same_node, module_times, plant_unknown, plant_topic, safe, safer}
+use Rattle.sot_rules.specs.Fails.{PlantFails, BoundsFail, RegionFails, other_width, side, many_boxes, ac_unknown, sc_unknown, sc_external, same_node, module_times, plant_unknown, plant_topic, safe, safer}
 use Rattle.sot_typing.specs.Formulas.{Deeds, deeds_view}
 use Rattle.sot_typing.specs.Terms.{deeds_of}
-use Rattle.sot_typing.specs.Resolved.{plants, nodes, modules, plant_place, node_place, side_of, state_count, region_of, node_table, node_seen, NodeTable, module_info}
+use Rattle.sot_typing.specs.Resolved.{nodes, modules, plant_place, node_place, side_of, state_count, region_of, NodeTable}
 use Rattle.sot_typing.proofs.Lists.{at_lt, lt_at, at_map, of_map, at_same, at_zip}
 use Rattle.sot_typing.proofs.Once.{not_past, name_same}
 use Rattle.sot_typing.proofs.Meanings.{node_at, plant_at, plant_faultless, module_faultless, module_formed, meaning_name, a_node_meant, a_plant_meant}
-use Rattle.sot_typing.proofs.Ranges.{no_true, IsRange, range_is}
+use Rattle.sot_typing.proofs.Tests.{no_true, no_false, same_number}
+use Rattle.sot_typing.proofs.Ranges.{range_is}
 use Rattle.sot_typing.proofs.Times.{times_are}
 use Rattle.sot_typing.proofs.Seen.{AreSeen, of_module, node_in}
-use Rattle.sot_typing.proofs.PlantFacts.{no_false, state_known, plant_meant, width_meant}
-
-same_length : (x y : ℕ) → not (x == y) ≡ false → x ≡ y
-same_length x y e = grind arith
+use Rattle.sot_typing.proofs.PlantFacts.{state_known, plant_meant, width_meant}
 
 -- a node with a body is coded
 coded : (o : Option (Vec Act)) (b : Option Block) (g : Block → Deeds) → option_map (λ (v : Vec Act). deeds_view v.items) o ≡ option_map g b → is_none b ≡ false → (v : Vec Act) × (o ≡ Some v)
@@ -75,7 +69,7 @@ module _ (p : Program) (q : Plant) (none : (at : Span) (k : TypeKind) → PlantF
   area_width : (a : Area) → Has areas a → (has_other_width width a ≡ false) × (length (map state_sort q.states) ≡ length a.sides)
   area_width a h =
       let w = no_true (has_other_width width a) (λ e. never a.at KindDiffers (other_width h e)) in
-      (w, same_length (length (map state_sort q.states)) (length a.sides) (ap (λ o. has_other_width o a) (sym is) ∙ w))
+      (w, same_number (length (map state_sort q.states)) (length a.sides) (ap (λ o. has_other_width o a) (sym is) ∙ w))
 
   pub boxes_are : (i : ℕ) (b : List Side) → At (map (λ (a : Area). map side_of a.sides) areas) i b → (length b ≡ length q.states) × AreOrdered b
   boxes_are i b c =
@@ -127,7 +121,7 @@ module _ (p : Program) (t : Tables) (s : AreSeen p t) (f : IsFaultless p) where
       let y = node_in p t s (node_place p x.0.sc) n.0 (node_at p x.0.sc n.0 n.1) in
       let e = no_true (is_external (meaning p x.0.sc)) (λ e. module_faultless p f k x.0 x.1 x.0.sc.at KindDiffers (sc_external e)) in
       let v = coded y.0.body n.0.body (deeds_of (node_scope p n.0)) (ap (λ (z : NodeTable). z.body) y.2) (ap is_external (sym n.1) ∙ e) in
-      (y.0, v.0.items, subst (λ (i : ModuleInfo). At t.nodes i.sc y.0) x.2 y.1, (v.0, v.1, refl))
+      (y.0, v.0.items, subst (λ (i : ModuleInfo). At t.nodes i.sc y.0) x.2 y.1, (v.0, v.1, refl {A = List Act}))
 
   pub apart : (k : ℕ) (info : ModuleInfo) → At t.modules k info → info.ac ≢ info.sc
   apart k info a e =

@@ -1,11 +1,10 @@
 -- The nodes of the tables of a program in which no rule fails, but for their bodies.
-use Rattle.std.proofs.Common.{◌≡◌, ◌∙◌, ℕ, zero, suc, ◌+◌, ◌<◌, ◌≤◌, ℤ, pos, ◌≤ℤ◌, List, [], ◌∷◌, map, length, sum_by, flat_map, nat_abs, refl, sym, ap, subst, Option, Some, None, option_map, Bool, true, false, arith}
+use Rattle.std.proofs.Common.{◌≡◌, ◌∙◌, ℕ, ◌+◌, ◌<◌, ◌≤◌, ◌≤ℤ◌, List, [], map, length, flat_map, refl, sym, ap, subst, Option, Some, None, option_map, true, false, arith}
 use Rattle.std.specs.Global.{Vec}
 use Rattle.std.proofs.lemmas.List.{length-map}
-use Rattle.std.proofs.lemmas.Option.{none-some, same_Some}
+use Rattle.std.proofs.lemmas.Option.{none-some}
 use Rattle.sot_box.specs.Lists.{At}
 use Rattle.sot_box.specs.Boxes.{IsWithin}
-use Rattle.sot_text.specs.declared.token.Span.{Span}
 use Rattle.sot_lang.specs.declared.act.Act.{Act}
 use Rattle.sot_lang.specs.declared.tree.Ident.{Ident}
 use Rattle.sot_lang.specs.declared.tables.TopicInfo.{TopicInfo}
@@ -20,33 +19,28 @@ use Rattle.sot_lang.specs.Places.{Has}
 use Rattle.sot_lang.specs.Ranges.{local_ranges}
 use Rattle.sot_lang.specs.TableRules.{MeetsLocalRules}
 use Rattle.sot_lang.specs.Tables.{Tables}
-use Rattle.sot_lang.specs.Trees.{Topic, Plant, Node, Local, Block, Declaration, a_topic, a_plant, Program}
-use Rattle.sot_rules.specs.declared.fault.TypeKind.{TypeKind}
+use Rattle.sot_lang.specs.Trees.{Topic, Plant, Local, a_plant, Program}
 use Rattle.sot_rules.specs.declared.fault.TypeKind.TheVariants.{Twice, KindDiffers, ReadsAndWrites, TooMany}
 use Rattle.sot_rules.specs.First.{IsFaultless}
-use Rattle.sot_rules.specs.Formed.{IsFormed, IsNode}
+use Rattle.sot_rules.specs.Formed.{IsFormed}
 use Rattle.sot_rules.specs.Names.{meaning, is_topic, is_environment, node_scope}
 use Rattle.sot_rules.specs.Lists.{is_among, are_same}
-use Rattle.sot_rules.specs.Tests.{topic_size, read_size}
-use Rattle.sot_rules.specs.Fails.{NodeFails, node_times, many_read, written_twice, written_outside, written_read, many_written, local_scalar, local_start, many_locals}
-use Rattle.sot_typing.specs.Formulas.{Deeds, deeds_view}
+use Rattle.sot_rules.specs.Tests.{read_size}
+use Rattle.sot_rules.specs.Fails.{node_times, many_read, written_twice, written_outside, written_read, many_written, local_scalar, local_start, many_locals}
+use Rattle.sot_typing.specs.Formulas.{deeds_view}
 use Rattle.sot_typing.specs.Terms.{deeds_of}
-use Rattle.sot_typing.specs.Resolved.{topics, plants, nodes, topic_place, plant_place, scalar_count, first_scalar, scalars_meant, slots_meant, topic_info, lowest, greatest, const_number, local_info, node_table, node_seen, NodeTable}
-use Rattle.sot_typing.proofs.Lists.{at_lt, at_map, of_map, at_same, any_at}
+use Rattle.sot_typing.specs.Resolved.{topics, topic_place, plant_place, scalar_count, first_scalar, scalars_meant, slots_meant, lowest, greatest, const_number, local_info, NodeTable}
+use Rattle.sot_typing.proofs.Lists.{of_map, at_same, any_at}
 use Rattle.sot_typing.proofs.Joined.{of_has_joined, length_joined, has_joined}
-use Rattle.sot_typing.proofs.Once.{not_past, not_passed, name_same}
-use Rattle.sot_typing.proofs.Meanings.{topic_at, plant_at, node_faultless, node_formed, of_scalar_slot, of_state_slot, length_slots}
-use Rattle.sot_typing.proofs.Ranges.{IsTyping, scalar_is, start_is}
+use Rattle.sot_typing.proofs.Once.{not_passed, name_same}
+use Rattle.sot_typing.proofs.Meanings.{topic_at, node_faultless, node_formed, of_scalar_slot, of_state_slot, length_slots}
+use Rattle.sot_typing.proofs.Ranges.{IsTyping, scalar_is, start_is, within_each}
 use Rattle.sot_typing.proofs.Times.{times_are}
 use Rattle.sot_typing.proofs.Seen.{AreSeen, of_topic, of_node}
 use Rattle.sot_typing.proofs.Topics.{same_topic}
-use Rattle.sot_typing.proofs.ScalarFacts.{first_is, scalar_below}
-use Rattle.sot_typing.proofs.TopicLists.{IsListed, of_listed, few_listed, listed_once, listed_below, listed_whole, one_name}
+use Rattle.sot_typing.proofs.ScalarFacts.{first_is}
+use Rattle.sot_typing.proofs.TopicLists.{of_listed, few_listed, listed_once, listed_below, listed_whole, one_name}
 use Rattle.sot_typing.proofs.PlantFacts.{few, plant_meant, width_meant}
-
-within_locals : (xs : List LocalInfo) → ((k : ℕ) (x : LocalInfo) → At xs k x → (x.lo ≤ℤ x.init) × (x.init ≤ℤ x.hi)) → IsWithin (map (λ (i : LocalInfo). record { lo = i.lo; hi = i.hi }) xs) (map (λ (i : LocalInfo). i.init) xs)
-within_locals [] h = tt
-within_locals (x ∷ xs) h = (let r = h 0 x refl in (r.0, r.1, within_locals xs (λ k y a. h (suc k) y a)))
 
 -- a scalar that is read, as one of a list of topics' scalars
 scalar_read : (p : Program) (names : List Ident) (k : ℕ) → Has (flat_map (slots_meant p) names) (ScalarSlot k) → Has (flat_map (scalars_meant p) names) k
@@ -176,7 +170,7 @@ module _ (p : Program) (t : Tables) (s : AreSeen p t) (f : IsFaultless p) where
       subst MeetsLocalRules x.1 (record { scale = x.2.scale; range = x.2.ordered; truth = x.2.truth })
 
   pub local_inits : (k : ℕ) (node : NodeInfo) → At t.nodes k node → IsWithin (local_ranges node) (map (λ (l : LocalInfo). l.init) node.locals.items)
-  local_inits k node a = within_locals node.locals.items (λ i info b. (let x = local_is k node a i info b in subst (λ (z : LocalInfo). (z.lo ≤ℤ z.init) × (z.init ≤ℤ z.hi)) x.1 (x.3, x.4)))
+  local_inits k node a = within_each (λ (i : LocalInfo). i.lo) (λ (i : LocalInfo). i.hi) (λ (i : LocalInfo). i.init) node.locals.items (λ i info b. (let x = local_is k node a i info b in subst (λ (z : LocalInfo). (z.lo ≤ℤ z.init) × (z.init ≤ℤ z.hi)) x.1 (x.3, x.4)))
 
   -- an external node has none
   pub external_locals : IsFormed p → (k : ℕ) (node : NodeInfo) → At t.nodes k node → node.body ≡ None → node.locals.items ≡ []

@@ -1,16 +1,13 @@
 -- Names that stand once, and limits that are kept: what is known where no rule fails.
-use Rattle.std.proofs.Common.{◌≡◌, ◌∙◌, ℕ, zero, suc, ◌+◌, ◌<◌, ◌≤◌, ◌⊎◌, inl, inr, List, [], ◌∷◌, ◌++◌, map, length, take, sum_by, filter_map, refl, sym, ap, subst, Option, Some, None, true, false, Bool, arith}
-use Rattle.std.specs.List.{cons_option}
-use Rattle.std.specs.Str.{bytes_eq}
-use Rattle.std.proofs.lemmas.List.Sums.{sum_by-cons}
+use Rattle.std.proofs.Common.{◌≡◌, ℕ, zero, suc, ◌+◌, ◌<◌, ◌≤◌, ◌⊎◌, inl, inr, List, [], ◌∷◌, map, length, take, sum_by, refl, sym, subst, true, arith}
 use Rattle.std.proofs.lemmas.List.{take_all}
 use Rattle.std.proofs.lemmas.Slice.Eq.{bytes_eq-Decides}
 use Rattle.sot_box.specs.Lists.{At}
 use Rattle.sot_text.specs.declared.token.Span.{Span}
 use Rattle.sot_lang.specs.declared.tree.Ident.{Ident}
-use Rattle.sot_rules.specs.Lists.{are_same, is_among, IsRepeated, IsPast, IsPassedBy, places}
-use Rattle.sot_typing.proofs.Lists.{at_lt, lt_at, of_map, at_map, any_at, of_kept}
-use Rattle.sot_typing.proofs.Joined.{sum_next}
+use Rattle.sot_rules.specs.Lists.{are_same, IsRepeated, IsPast, IsPassedBy}
+use Rattle.sot_typing.proofs.Lists.{lt_at, at_map, any_at}
+use Rattle.sot_typing.proofs.Joined.{order, sum_next}
 
 pub same_name : (a b : Ident) → are_same a b ≡ true → a.name ≡ b.name
 same_name a b e = (bytes_eq-Decides a.name b.name).0 e
@@ -36,17 +33,6 @@ repeated names i j a b x y l e = record {
   before = any_at (are_same b) (take j names) i a (at_take names i j a x l) (name_same b a (sym e));
   here = refl;
 }
-
-pub order : (i j : ℕ) → (i ≡ j) ⊎ ((i < j) ⊎ (j < i))
-order zero zero = inl refl
-order zero (suc j) = inr (inl (omega arith))
-order (suc i) zero = inr (inr (omega arith))
-order (suc i) (suc j) = by (order i j)
-  where
-    by : (i ≡ j) ⊎ ((i < j) ⊎ (j < i)) → (suc i ≡ suc j) ⊎ ((suc i < suc j) ⊎ (suc j < suc i))
-    by (inl e) = inl (ap suc e)
-    by (inr (inl l)) = inr (inl (omega arith))
-    by (inr (inr l)) = inr (inr (omega arith))
 
 pub names_once : (names : List Ident) → ((at : Span) → IsRepeated names at → ⊥) → AreOnce (λ (i : Ident). i) names
 names_once names none i j a b x y e = by (order i j)

@@ -1,12 +1,10 @@
 -- The names that a plant or a node may use, and which of them are truth values, in the program and in its tables.
 use Rattle.std.proofs.Common.{◌≡◌, ◌∙◌, ℕ, zero, suc, ◌+◌, ◌<◌, ◌≤◌, ◌⊎◌, inl, inr, List, [], ◌∷◌, ◌++◌, map, length, flat_map, filter_map, replicate, refl, sym, ap, subst, Option, Some, None, Bool, true, false, append-nil, arith}
-use Rattle.std.specs.Prelude.{slice_index_or}
 use Rattle.std.specs.List.{cons_option}
 use Rattle.std.proofs.lemmas.List.{length-map, map-append, replicate-append-replicate}
 use Rattle.std.proofs.lemmas.Option.{get_or_from_slice_get}
 use Rattle.std.proofs.lemmas.Grind.{flat_map-append}
 use Rattle.sot_box.specs.Lists.{At}
-use Rattle.sot_text.specs.declared.token.Span.{Span}
 use Rattle.sot_lang.specs.declared.tree.Ident.{Ident}
 use Rattle.sot_lang.specs.declared.tree.Field.{Field}
 use Rattle.sot_lang.specs.declared.tree.Scalar.{Scalar}
@@ -21,24 +19,23 @@ use Rattle.sot_lang.specs.OwnerNames.{width_of, seen_width, is_truth_scalar, rea
 use Rattle.sot_lang.specs.Places.{Has}
 use Rattle.sot_lang.specs.Tables.{Tables}
 use Rattle.sot_lang.specs.Trees.{Form, one, fields, Topic, Plant, Local, Declaration, a_topic, a_plant, a_node, a_module, Program}
-use Rattle.sot_rules.specs.declared.fault.TypeKind.{TypeKind}
 use Rattle.sot_rules.specs.declared.sort.Sort.{Sort}
-use Rattle.sot_rules.specs.declared.sort.Sort.TheVariants.{Scaled, Truthful, Anything}
+use Rattle.sot_rules.specs.declared.sort.Sort.TheVariants.{Scaled}
 use Rattle.sot_rules.specs.First.{IsFaultless}
-use Rattle.sot_rules.specs.Fails.{PlantFails, scalar}
+use Rattle.sot_rules.specs.Fails.{scalar}
 use Rattle.sot_rules.specs.Sorts.{scalar_sort, state_sort, is_truthful}
 use Rattle.sot_rules.specs.Names.{Thing, meaning, form_parts, field_part, state_part, topic_thing, plant_thing, local_thing, state_thing, noise_thing, topic_meant, plant_meant, either_meant}
 use Rattle.sot_rules.specs.Tests.{form_scalars}
-use Rattle.sot_typing.specs.Resolved.{topics, plants, topic_place, plant_place, scalar_count, first_scalar, counted_from, scalars_meant, slots_meant, state_info, noise_info, local_info}
-use Rattle.sot_typing.proofs.Lists.{at_lt, at_map, of_map, of_append, at_same, same_items}
+use Rattle.sot_typing.specs.Resolved.{topics, topic_place, plant_place, scalar_count, first_scalar, counted_from, scalars_meant, slots_meant, state_info, noise_info, local_info}
+use Rattle.sot_typing.proofs.Lists.{at_map, of_map, of_append, at_same, same_items}
 use Rattle.sot_typing.proofs.Joined.{of_counted, length_counted}
 use Rattle.sot_typing.proofs.Meanings.{topic_at, plant_at, topic_faultless, plant_faultless, scalars_in, scalars_are, slots_in, slots_of_topic, slots_of_plant}
-use Rattle.sot_typing.proofs.Ranges.{IsKnown, IsTyping, scalar_is}
+use Rattle.sot_typing.proofs.Ranges.{IsKnown, scalar_is}
 use Rattle.sot_typing.proofs.Readings.{parts_sorts, thing_sorts}
 use Rattle.sot_typing.proofs.Expressions.{AreNames}
 use Rattle.sot_typing.proofs.Seen.{AreSeen}
-use Rattle.sot_typing.proofs.Topics.{IsScalarAt, same_topic}
-use Rattle.sot_typing.proofs.ScalarFacts.{at_scalar, scalar_in, typing_is}
+use Rattle.sot_typing.proofs.Topics.{same_topic}
+use Rattle.sot_typing.proofs.ScalarFacts.{at_scalar, scalar_in}
 use Rattle.sot_typing.proofs.PlantFacts.{state_known, width_meant}
 
 pub no_names : AreNames [] []

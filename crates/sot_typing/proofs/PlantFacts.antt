@@ -1,10 +1,9 @@
 -- The plants of the tables of a program in which no rule fails, but for their `next` expressions.
-use Rattle.std.proofs.Common.{◌≡◌, ◌∙◌, ℕ, zero, suc, ◌+◌, ◌<◌, ◌≤◌, ◌≢◌, ◌⊎◌, inl, inr, List, [], ◌∷◌, map, length, flat_map, nat_abs, refl, sym, ap, subst, Option, Some, None, Bool, true, false, arith}
-use Rattle.std.specs.Prelude.{slice_get}
-use Rattle.std.specs.List.{list_any, position_or_len}
+use Rattle.std.proofs.Common.{◌≡◌, ◌∙◌, ℕ, zero, suc, ◌<◌, ◌≤◌, ◌≢◌, ◌⊎◌, inl, inr, List, [], ◌∷◌, map, length, flat_map, nat_abs, refl, sym, ap, subst, Option, Some, None, true, arith}
+use Rattle.std.specs.List.{position_or_len}
 use Rattle.std.specs.Str.{bytes_eq}
 use Rattle.std.proofs.lemmas.List.{length-map}
-use Rattle.std.proofs.lemmas.Option.{none-some, slice_get_past}
+use Rattle.std.proofs.lemmas.Option.{slice_get_past}
 use Rattle.sot_box.specs.Lists.{At}
 use Rattle.sot_text.specs.declared.token.Span.{Span}
 use Rattle.sot_lang.specs.declared.tree.Ident.{Ident}
@@ -23,29 +22,26 @@ use Rattle.sot_lang.specs.Tables.{Tables}
 use Rattle.sot_lang.specs.Trees.{Plant, Module, Next, Declaration, a_topic, a_plant, a_node, a_module, Program}
 use Rattle.sot_rules.specs.declared.fault.TypeKind.{TypeKind}
 use Rattle.sot_rules.specs.declared.fault.TypeKind.TheVariants.{Unknown, ScaleDiffers, KindDiffers, TooMany, NoModule, NextMissing}
-use Rattle.sot_rules.specs.declared.sort.Sort.{Sort}
-use Rattle.sot_rules.specs.declared.sort.Sort.TheVariants.{Scaled, Truthful, Anything}
+use Rattle.sot_rules.specs.declared.sort.Sort.TheVariants.{Scaled}
 use Rattle.sot_rules.specs.First.{IsFaultless}
-use Rattle.sot_rules.specs.Formed.{IsFormed, IsPlant, IsSome}
-use Rattle.sot_rules.specs.Sorts.{state_sort, scalar_sort, written_scale, is_truthful}
+use Rattle.sot_rules.specs.Formed.{IsFormed, IsSome}
+use Rattle.sot_rules.specs.Sorts.{state_sort, written_scale}
 use Rattle.sot_rules.specs.Names.{meaning, is_topic, is_plant, plant_scope}
-use Rattle.sot_rules.specs.Lists.{are_same, IsPast, places}
-use Rattle.sot_rules.specs.Tests.{has_module, is_plant_of, is_state, state_names, noise_names}
+use Rattle.sot_rules.specs.Lists.{IsPast, places}
+use Rattle.sot_rules.specs.Tests.{has_module, is_plant_of, is_state}
 use Rattle.sot_rules.specs.TreeSorts.{is_no_scale}
-use Rattle.sot_rules.specs.Fails.{PlantFails, no_module, many_states, state_scale, many_inputs, seen_unknown, seen_topic, sees_itself, many_seen, noise_truth, noise_scalar, many_noise, next_order, next_short}
+use Rattle.sot_rules.specs.Fails.{PlantFails, no_module, many_states, state_scale, many_inputs, seen_unknown, seen_topic, sees_itself, many_seen, noise_scalar, many_noise, next_order, next_short}
 use Rattle.sot_typing.specs.Formulas.{formula_view}
 use Rattle.sot_typing.specs.Terms.{sort_scale, formula_of}
-use Rattle.sot_typing.specs.Resolved.{plants, modules, a_module_of, plant_place, scalars_meant, state_info, noise_info, plant_table, plant_seen, PlantTable, module_info}
-use Rattle.sot_typing.proofs.Lists.{at_lt, lt_at, at_map, of_map, at_same, any_of, at_kept}
-use Rattle.sot_typing.proofs.Once.{order, not_past, same_name, name_same}
+use Rattle.sot_typing.specs.Resolved.{plants, a_module_of, plant_place, scalars_meant, state_info, noise_info, plant_table, plant_seen, PlantTable, module_info}
+use Rattle.sot_typing.proofs.Lists.{lt_at, of_map, at_same, any_of, at_kept}
+use Rattle.sot_typing.proofs.Joined.{order}
+use Rattle.sot_typing.proofs.Once.{not_past, same_name, name_same}
 use Rattle.sot_typing.proofs.Meanings.{plant_at, plant_own, plant_faultless, plant_formed, meaning_name, a_plant_meant}
-use Rattle.sot_typing.proofs.Ranges.{no_true, IsKnown, IsTyping, scale_known, scalar_is}
+use Rattle.sot_typing.proofs.Tests.{no_true, no_false}
+use Rattle.sot_typing.proofs.Ranges.{scale_known, scalar_is}
 use Rattle.sot_typing.proofs.Seen.{AreSeen, of_plant, plant_in, module_in}
 use Rattle.sot_typing.proofs.TopicLists.{few_listed, listed_below, listed_whole}
-
-pub no_false : (b : Bool) → (b ≡ false → ⊥) → b ≡ true
-no_false true h = refl
-no_false false h = absurd (h refl)
 
 -- a state variable is a number of at most 6 decimals
 pub state_known : (p : Program) (q : Plant) → ((at : Span) (k : TypeKind) → PlantFails p q at k → ⊥) → (s : StateDecl) → Has q.states s → (n : ℕ) × (state_sort s ≡ Scaled n) × (n ≤ 6)

@@ -1,6 +1,8 @@
 -- Scalars in which no rule fails: their scales, their ranges and their initial values.
-use Rattle.std.proofs.Common.{◌≡◌, ◌∙◌, ℕ, zero, suc, ◌+◌, ◌<◌, ◌≤◌, ◌^◌, ◌==◌, nat_lt, ℤ, pos, ◌≤ℤ◌, ◌-ℤ◌, ◌+ℤ◌, nat_abs, int_lt, int_le, refl, sym, ap, subst, true, false, Bool, not, ◌&&◌, ◌||◌, if◌then◌else◌, arith}
+use Rattle.std.proofs.Common.{List, [], ◌∷◌, map, ◌≡◌, ◌∙◌, ℕ, suc, ◌≤◌, ◌^◌, ◌==◌, nat_lt, ℤ, pos, ◌≤ℤ◌, ◌-ℤ◌, ◌+ℤ◌, nat_abs, int_lt, refl, sym, ap, subst, true, false, Bool, not, ◌&&◌, ◌||◌, if◌then◌else◌, arith}
 use Rattle.std.proofs.lemmas.Int.{ints}
+use Rattle.sot_box.specs.Boxes.{IsWithin}
+use Rattle.sot_box.specs.Lists.{At}
 use Rattle.sot_text.specs.declared.token.Span.{Span}
 use Rattle.sot_lang.specs.declared.tree.Lit.{Lit}
 use Rattle.sot_lang.specs.declared.tree.Bounds.{Bounds}
@@ -13,21 +15,13 @@ use Rattle.sot_rules.specs.declared.fault.TypeKind.{TypeKind}
 use Rattle.sot_rules.specs.declared.fault.TypeKind.TheVariants.{ScaleDiffers, KindDiffers, RangeEmpty, InitOutside, RangeWide}
 use Rattle.sot_rules.specs.declared.sort.Sort.{Sort}
 use Rattle.sot_rules.specs.declared.sort.Sort.TheVariants.{Scaled, Truthful, Anything}
-use Rattle.sot_rules.specs.Sorts.{scale_sort, scalar_sort, const_sort, differ, are_mixed, is_truthful}
-use Rattle.sot_rules.specs.Names.{gives}
-use Rattle.sot_rules.specs.TreeSorts.{is_no_scale, has_decimals}
-use Rattle.sot_rules.specs.Tests.{is_empty, is_wide, is_outside, starts_outside, sort_is, const_place}
+use Rattle.sot_rules.specs.Sorts.{scale_sort, scalar_sort, differ, are_mixed, is_truthful}
+use Rattle.sot_rules.specs.TreeSorts.{is_no_scale}
+use Rattle.sot_rules.specs.Tests.{is_outside, sort_is}
 use Rattle.sot_rules.specs.Fails.{BoundsFail, low_scale, high_scale, empty, wide, ScalarFails, no_scale, int_bounds, fix_bounds, StartFails, start_misfit, start_outside, target_kind, target_scale}
-use Rattle.sot_typing.specs.Terms.{truth_number, sort_scale}
+use Rattle.sot_typing.proofs.Tests.{no_true, and_tail, same_number}
+use Rattle.sot_typing.specs.Terms.{sort_scale}
 use Rattle.sot_typing.specs.Resolved.{lowest, greatest, const_number, scalar_scale, is_truth}
-
--- a test that does not pass
-pub no_true : (b : Bool) → (b ≡ true → ⊥) → b ≡ false
-no_true true h = absurd (h refl)
-no_true false h = refl
-
-pub same_scale : (s t : ℕ) → differ (Scaled s) (Scaled t) ≡ false → s ≡ t
-same_scale s t e = grind arith
 
 -- a sort of an expression in which no rule fails: a truth value, or a number of at most 6 decimals
 abbrev pub IsKnown : Sort → Type 0
@@ -57,8 +51,8 @@ not_wide s t w limit e h = not_empty s t w limit e h
 
 pub range_is : (limited : Bool) (scale : ℕ) (b : Bounds) → ((at : Span) (k : TypeKind) → BoundsFail limited (Scaled scale) b at k → ⊥) → IsRange limited scale b
 range_is limited scale b none =
-    let low = same_scale scale b.lo.scale (no_true _ (λ e. none b.lo.at ScaleDiffers (low_scale e))) in
-    let high = same_scale scale b.hi.scale (no_true _ (λ e. none b.hi.at ScaleDiffers (high_scale e))) in
+    let low = same_number scale b.lo.scale (no_true _ (λ e. none b.lo.at ScaleDiffers (low_scale e))) in
+    let high = same_number scale b.hi.scale (no_true _ (λ e. none b.hi.at ScaleDiffers (high_scale e))) in
     record {
       low = sym low;
       high = sym high;
@@ -95,23 +89,19 @@ inside : (s t u : ℕ) (lo hi z : ℤ) → s ≡ u → t ≡ u → (((s == u) &&
 inside s t u lo hi z p q h = (grind (arith, ints), grind (arith, ints))
 
 starts : (n : ℕ) (b : Bounds) (l : Lit) (limited : Bool) → IsRange limited n b → n ≡ l.scale → ((n == l.scale) && is_outside b l) ≡ false → (b.lo.mantissa ≤ℤ l.mantissa) × (l.mantissa ≤ℤ b.hi.mantissa)
-starts n b l limited r e h = inside b.lo.scale b.hi.scale l.scale b.lo.mantissa b.hi.mantissa l.mantissa (r.low ∙ e) (r.high ∙ e) (tail (n == l.scale) (is_outside b l) (grind arith) h)
-  where
-    tail : (x y : Bool) → x ≡ true → (x && y) ≡ false → y ≡ false
-    tail true y p q = q
-    tail false y p q = cc
+starts n b l limited r e h = inside b.lo.scale b.hi.scale l.scale b.lo.mantissa b.hi.mantissa l.mantissa (r.low ∙ e) (r.high ∙ e) (and_tail (n == l.scale) (is_outside b l) (grind arith) h)
 
 pub start_is : (limited : Bool) (s : Scalar) (c : Const) → ((at : Span) (k : TypeKind) → ScalarFails limited s at k → ⊥) → ((at : Span) (k : TypeKind) → StartFails s c at k → ⊥) → (lowest s ≤ℤ const_number c) × (const_number c ≤ℤ greatest s)
 start_is limited (Int b) (Number l) none never =
     starts 0 b l limited (range_is limited 0 b (λ at k h. none at k (int_bounds h)))
-    (same_scale 0 l.scale (no_true _ (λ e. never l.at ScaleDiffers (start_misfit (target_scale e)))))
+    (same_number 0 l.scale (no_true _ (λ e. never l.at ScaleDiffers (start_misfit (target_scale e)))))
     (no_true _ (λ e. never l.at InitOutside (start_outside e)))
 start_is limited (Int b) (Truth v at) none never = absurd (never at KindDiffers (start_misfit (target_kind refl)))
 start_is limited (Fix d b) (Number l) none never =
     let e = scale_known d (no_true _ (λ e. none d.at ScaleDiffers (no_scale e))) in
     starts (nat_abs d.mantissa) b l limited
     (range_is limited (nat_abs d.mantissa) b (λ at k h. none at k (fix_bounds (subst (λ s. BoundsFail limited s b at k) (sym e.0) h))))
-    (same_scale (nat_abs d.mantissa) l.scale (ap (λ s. differ s (Scaled l.scale)) (sym e.0) ∙ no_true _ (λ e. never l.at ScaleDiffers (start_misfit (target_scale e)))))
+    (same_number (nat_abs d.mantissa) l.scale (ap (λ s. differ s (Scaled l.scale)) (sym e.0) ∙ no_true _ (λ e. never l.at ScaleDiffers (start_misfit (target_scale e)))))
     (ap (λ s. sort_is s l.scale && is_outside b l) (sym e.0) ∙ no_true _ (λ e. never l.at InitOutside (start_outside e)))
 start_is limited (Fix d b) (Truth v at) none never =
     let e = scale_known d (no_true _ (λ e. none d.at ScaleDiffers (no_scale e))) in
@@ -119,3 +109,8 @@ start_is limited (Fix d b) (Truth v at) none never =
 start_is limited (BoolScalar w) (Number l) none never = absurd (never l.at KindDiffers (start_misfit (target_kind refl)))
 start_is limited (BoolScalar w) (Truth true at) none never = (omega (arith, ints), omega (arith, ints))
 start_is limited (BoolScalar w) (Truth false at) none never = (omega (arith, ints), omega (arith, ints))
+
+-- all initial values are in their ranges
+pub within_each : {A : Type 0} (lo hi init : A → ℤ) (xs : List A) → ((k : ℕ) (x : A) → At xs k x → (lo x ≤ℤ init x) × (init x ≤ℤ hi x)) → IsWithin (map (λ x. record { lo = lo x; hi = hi x }) xs) (map init xs)
+within_each lo hi init [] h = tt
+within_each lo hi init (x ∷ xs) h = (let r = h 0 x refl in (r.0, r.1, within_each lo hi init xs (λ k y a. h (suc k) y a)))

@@ -7,7 +7,7 @@ use Rattle.std.proofs.lemmas.List.Folds.{find_at}
 use Rattle.sot_box.specs.Lists.{At}
 use Rattle.sot_lang.specs.declared.tree.Ident.{Ident}
 use Rattle.sot_rules.specs.declared.sort.Sort.{Sort}
-use Rattle.sot_rules.specs.Names.{Part, Parts, alone, several, Thing, Reading, gives, nothing_at, part_reading, parts_reading, thing_reading, reading}
+use Rattle.sot_rules.specs.Names.{Part, Parts, alone, several, Thing, gives, part_reading, parts_reading, thing_reading, reading}
 use Rattle.sot_typing.specs.Terms.{Reference, parts_references, references, are_both, is_meant, place_of}
 use Rattle.sot_typing.proofs.Declared.{of_find}
 use Rattle.sot_typing.proofs.Lists.{at_lt, lt_at, at_map, at_left, at_right, of_map}

@@ -1,5 +1,5 @@
 -- The topics and the scalars of the tables of a program in which no rule fails.
-use Rattle.std.proofs.Common.{◌≡◌, ◌∙◌, ℕ, zero, suc, ◌+◌, ◌-◌, ◌<◌, ◌≤◌, ℤ, pos, ◌≤ℤ◌, List, [], ◌∷◌, map, length, sum_by, flat_map, refl, sym, ap, subst, Option, Some, None, Bool, true, false, arith}
+use Rattle.std.proofs.Common.{◌≡◌, ◌∙◌, ℕ, zero, suc, ◌+◌, ◌-◌, ◌<◌, ◌≤◌, pos, ◌≤ℤ◌, List, [], ◌∷◌, map, length, refl, sym, ap, subst, Option, Some, None, true, arith}
 use Rattle.std.proofs.lemmas.List.{length-map}
 use Rattle.std.proofs.lemmas.Option.{same_Some, none-some}
 use Rattle.sot_box.specs.Lists.{At}
@@ -8,31 +8,23 @@ use Rattle.sot_text.specs.declared.token.Span.{Span}
 use Rattle.sot_lang.specs.declared.tables.TopicInfo.{TopicInfo}
 use Rattle.sot_lang.specs.declared.tables.ScalarInfo.{ScalarInfo}
 use Rattle.sot_lang.specs.declared.tree.Field.{Field}
-use Rattle.sot_lang.specs.declared.tree.Scalar.{Scalar}
-use Rattle.sot_lang.specs.declared.tree.Const.{Const}
-use Rattle.sot_lang.specs.Places.{Has}
 use Rattle.sot_lang.specs.Ranges.{scalar_ranges}
 use Rattle.sot_lang.specs.TableRules.{MeetsScalarRules, IsNarrow}
 use Rattle.sot_lang.specs.Tables.{Tables}
 use Rattle.sot_lang.specs.Trees.{Form, one, fields, Topic, Program}
 use Rattle.sot_rules.specs.declared.fault.TypeKind.TheVariants.{Twice, TooMany}
 use Rattle.sot_rules.specs.First.{IsFaultless}
-use Rattle.sot_rules.specs.Formed.{IsFormed, IsForm, IsSome}
+use Rattle.sot_rules.specs.Formed.{IsFormed, IsForm}
 use Rattle.sot_rules.specs.Fails.{field_twice, many_fields, scalar, start}
 use Rattle.sot_rules.specs.Lists.{IsRepeated, IsPast, places}
 use Rattle.sot_rules.specs.Tests.{form_scalars, form_names}
-use Rattle.sot_typing.specs.Resolved.{topics, topic_place, scalar_count, first_scalar, field_names, topic_info, topic_scalars, lowest, greatest, const_number}
-use Rattle.sot_typing.proofs.Lists.{at_lt, at_map, of_map, at_same}
-use Rattle.sot_typing.proofs.Joined.{sum_within}
+use Rattle.sot_typing.specs.Resolved.{topics, topic_place, scalar_count, first_scalar, field_names, topic_info}
+use Rattle.sot_typing.proofs.Lists.{at_lt, of_map, at_same}
 use Rattle.sot_typing.proofs.Once.{once_map, not_past}
 use Rattle.sot_typing.proofs.Meanings.{topic_own, topic_faultless, topic_formed}
-use Rattle.sot_typing.proofs.Ranges.{IsTyping, scalar_is, start_is}
+use Rattle.sot_typing.proofs.Ranges.{IsTyping, scalar_is, start_is, within_each}
 use Rattle.sot_typing.proofs.Seen.{AreSeen, of_topic, topic_in}
-use Rattle.sot_typing.proofs.Topics.{IsScalarAt, of_scalar, scalar_there, scalar_total, same_topic}
-
-within_each : (xs : List ScalarInfo) → ((k : ℕ) (x : ScalarInfo) → At xs k x → (x.lo ≤ℤ x.init) × (x.init ≤ℤ x.hi)) → IsWithin (map (λ (i : ScalarInfo). record { lo = i.lo; hi = i.hi }) xs) (map (λ (i : ScalarInfo). i.init) xs)
-within_each [] h = tt
-within_each (x ∷ xs) h = (let r = h 0 x refl in (r.0, r.1, within_each xs (λ k y a. h (suc k) y a)))
+use Rattle.sot_typing.proofs.Topics.{IsScalarAt, of_scalar, scalar_there, same_topic}
 
 -- one field has one place
 field_once : (s : Form) → ((at : Span) → IsRepeated (form_names s) at → ⊥) → (m n : ℕ) (x : Option (List ℕ)) → At (field_names s) m x → At (field_names s) n x → m ≡ n
@@ -84,7 +76,7 @@ module _ (p : Program) (t : Tables) (s : AreSeen p t) (f : IsFaultless p) where
   scalar_below j m u a l = (let r = scalar_in j m u a l in at_lt t.scalars _ r.0 r.1)
 
   pub inits : IsWithin (scalar_ranges t) (map (λ i. i.init) t.scalars)
-  inits = within_each t.scalars (λ k x a. starts_inside p f k x (at_scalar k x a))
+  inits = within_each (λ (i : ScalarInfo). i.lo) (λ (i : ScalarInfo). i.hi) (λ (i : ScalarInfo). i.init) t.scalars (λ k x a. starts_inside p f k x (at_scalar k x a))
 
   pub topic_of_scalar : (k : ℕ) (info : ScalarInfo) → At t.scalars k info → (topic : TopicInfo) × At t.topics info.topic topic × (topic.first ≤ k) × (k < topic.first + topic.count)
   topic_of_scalar k info a =
@@ -137,7 +129,7 @@ module _ (p : Program) (t : Tables) (s : AreSeen p t) (f : IsFaultless p) where
       let same : x.tree ≡ y.tree = at_same (topics p) y.topic x.tree y.tree (subst (λ n. At (topics p) n x.tree) n x.stands) y.stands in
       let g : x.field ≡ y.field = sym (ap (λ (i : ScalarInfo). i.field) x.is) ∙ q ∙ ap (λ (i : ScalarInfo). i.field) y.is in
       let m = field_once y.tree.shape (λ at h. topic_faultless p f y.topic y.tree y.stands at Twice (field_twice h)) x.nth y.nth y.field
-          (subst (λ (r : Topic). At (field_names r.shape) x.nth y.field) same (x.named ∙ ap Some g)) y.named in
+      (subst (λ (r : Topic). At (field_names r.shape) x.nth y.field) same (x.named ∙ ap Some g)) y.named in
       x.place ∙ ap (λ k. first_scalar p k + x.nth) n ∙ ap (λ k. first_scalar p y.topic + k) m ∙ sym y.place
 
   pub topic_counts : IsFormed p → (j : ℕ) (topic : TopicInfo) → At t.topics j topic → (1 ≤ topic.count) × (topic.count ≤ 8)

@@ -1,5 +1,5 @@
 -- Periods, offsets and loop counts in which no rule fails.
-use Rattle.std.proofs.Common.{◌≡◌, ◌∙◌, ℕ, ◌+◌, ◌<◌, ◌≤◌, ◌==◌, ℤ, pos, negsuc, ◌≤ℤ◌, int_le, int_lt, nat_abs, refl, sym, Bool, true, false, not, ◌||◌, ◌&&◌, arith}
+use Rattle.std.proofs.Common.{◌≡◌, ◌<◌, ◌≤◌, ◌==◌, ℤ, pos, negsuc, ◌≤ℤ◌, int_le, int_lt, nat_abs, false, ◌||◌, arith}
 use Rattle.std.proofs.lemmas.Bool.{not-false}
 use Rattle.std.proofs.lemmas.Int.{ints}
 use Rattle.sot_text.specs.declared.token.Span.{Span}
@@ -10,11 +10,7 @@ use Rattle.sot_rules.specs.Formed.{IsNumber}
 use Rattle.sot_rules.specs.Fails.{TimesFail, period_decimals, offset_decimals, period_off, offset_late}
 use Rattle.sot_rules.specs.TreeSorts.{has_decimals}
 use Rattle.sot_rules.specs.Tests.{is_off, is_late}
-use Rattle.sot_typing.proofs.Ranges.{no_true}
-
-tail : (x y : Bool) → x ≡ true → (x && y) ≡ false → y ≡ false
-tail true y p q = q
-tail false y p q = cc
+use Rattle.sot_typing.proofs.Tests.{no_true, and_tail}
 
 counted : (z : ℤ) → pos 0 ≤ℤ z → (int_lt z (pos 1) || int_lt (pos 1000) z) ≡ false → (1 ≤ nat_abs z) × (nat_abs z ≤ 1000)
 counted (pos n) h e = (grind (arith, ints), grind (arith, ints))
@@ -22,7 +18,7 @@ counted (negsuc n) h e = absurd (omega (arith, ints))
 
 -- a count is 1 to 1,000
 pub count_is : (l : Lit) → pos 0 ≤ℤ l.mantissa → has_decimals l ≡ false → is_off l ≡ false → (1 ≤ nat_abs l.mantissa) × (nat_abs l.mantissa ≤ 1000)
-count_is l h d e = counted l.mantissa h (tail (l.scale == 0) _ (not-false (l.scale == 0) d) e)
+count_is l h d e = counted l.mantissa h (and_tail (l.scale == 0) _ (not-false (l.scale == 0) d) e)
 
 before : (x y : ℤ) → pos 0 ≤ℤ x → pos 0 ≤ℤ y → int_le y x ≡ false → nat_abs x < nat_abs y
 before (pos m) (pos n) h k e = grind (arith, ints)
@@ -37,4 +33,4 @@ times_are period offset f g none =
     let c = no_true (is_off period) (λ e. none period.at PeriodOutside (period_off e)) in
     let d = no_true (is_late period offset) (λ e. none offset.at PeriodOutside (offset_late e)) in
     let n = count_is period f.1 a c in
-    (n.1, before offset.mantissa period.mantissa g.1 f.1 (tail (offset.scale == 0) _ (not-false (offset.scale == 0) b) (tail (period.scale == 0) _ (not-false (period.scale == 0) a) d)))
+    (n.1, before offset.mantissa period.mantissa g.1 f.1 (and_tail (offset.scale == 0) _ (not-false (offset.scale == 0) b) (and_tail (period.scale == 0) _ (not-false (period.scale == 0) a) d)))

@@ -1,5 +1,5 @@
 -- Lists of topics by name, and the scalars that they stand for.
-use Rattle.std.proofs.Common.{◌≡◌, ◌∙◌, ℕ, ◌+◌, ◌<◌, ◌≤◌, List, map, length, take, sum_by, flat_map, refl, sym, ap, subst, Option, Some, arith}
+use Rattle.std.proofs.Common.{◌≡◌, ◌∙◌, ℕ, ◌+◌, ◌<◌, ◌≤◌, List, length, take, sum_by, flat_map, sym, ap, subst, Some, arith}
 use Rattle.sot_box.specs.Lists.{At}
 use Rattle.sot_text.specs.declared.token.Span.{Span}
 use Rattle.sot_lang.specs.declared.tree.Ident.{Ident}
@@ -11,13 +11,13 @@ use Rattle.sot_rules.specs.First.{IsFaultless}
 use Rattle.sot_rules.specs.Names.{meaning}
 use Rattle.sot_rules.specs.Lists.{IsRepeated, IsPassedBy}
 use Rattle.sot_rules.specs.Tests.{topic_size}
-use Rattle.sot_typing.specs.Resolved.{topics, topic_place, scalar_count, first_scalar, counted_from, scalars_meant}
+use Rattle.sot_typing.specs.Resolved.{topics, topic_place, scalar_count, first_scalar, scalars_meant}
 use Rattle.sot_typing.proofs.Lists.{at_same}
 use Rattle.sot_typing.proofs.Joined.{of_joined, length_joined, has_joined, of_has_joined, at_counted}
 use Rattle.sot_typing.proofs.Once.{names_once, not_passed}
 use Rattle.sot_typing.proofs.Meanings.{topic_at, meaning_name, scalars_are, of_scalars, length_scalars}
 use Rattle.sot_typing.proofs.Seen.{AreSeen}
-use Rattle.sot_typing.proofs.Topics.{IsScalarAt, same_topic}
+use Rattle.sot_typing.proofs.Topics.{same_topic}
 use Rattle.sot_typing.proofs.ScalarFacts.{at_scalar, scalar_below}
 
 -- a scalar that a list of names stands for, with its name and its topic

@@ -1,30 +1,23 @@
 -- The scalars of a program's topics: they lie one topic behind another.
-use Rattle.std.proofs.Common.{◌≡◌, ◌∙◌, ℕ, ◌+◌, ◌<◌, ◌≤◌, ◌==◌, List, [], ◌∷◌, map, zip, length, take, sum_by, flat_map, refl, sym, ap, subst, Option, Some, None, Bool, true, false, not, arith}
-use Rattle.std.proofs.lemmas.Bool.{not-false}
+use Rattle.std.proofs.Common.{◌≡◌, ◌∙◌, ℕ, ◌+◌, ◌<◌, List, [], zip, length, sum_by, flat_map, refl, sym, ap, subst, Option, Some, Bool, true, false, arith}
 use Rattle.std.proofs.lemmas.List.{length-map}
 use Rattle.sot_box.specs.Lists.{At}
-use Rattle.sot_text.specs.declared.token.Span.{Span}
 use Rattle.sot_lang.specs.declared.tables.ScalarInfo.{ScalarInfo}
 use Rattle.sot_lang.specs.declared.tree.Scalar.{Scalar}
 use Rattle.sot_lang.specs.declared.tree.Const.{Const}
-use Rattle.sot_lang.specs.declared.tree.Field.{Field}
 use Rattle.sot_lang.specs.Trees.{Form, one, fields, Topic, Program}
-use Rattle.sot_rules.specs.declared.fault.TypeKind.{TypeKind}
 use Rattle.sot_rules.specs.declared.fault.TypeKind.TheVariants.{KindDiffers}
 use Rattle.sot_rules.specs.First.{IsFaultless}
 use Rattle.sot_rules.specs.Fails.{other_count}
 use Rattle.sot_rules.specs.Tests.{form_scalars, start_values, start_place, counts_differ, starts}
 use Rattle.sot_typing.specs.Resolved.{topics, topic_place, scalar_count, first_scalar, field_names, scalar_info, topic_scalars}
-use Rattle.sot_typing.proofs.Lists.{at_lt, lt_at, at_map, of_map, at_zip, of_zip, length_zip}
-use Rattle.sot_typing.proofs.Joined.{sum_place, at_joined, of_joined, length_joined, sum_within}
+use Rattle.sot_typing.proofs.Lists.{at_lt, lt_at, of_map, of_zip, length_zip}
+use Rattle.sot_typing.proofs.Joined.{sum_place, at_joined, of_joined, length_joined}
 use Rattle.sot_typing.proofs.Meanings.{topic_own, topic_faultless}
-use Rattle.sot_typing.proofs.Ranges.{no_true}
+use Rattle.sot_typing.proofs.Tests.{no_true, same_number}
 
 pub as_many : (p : Program) → IsFaultless p → (j : ℕ) (t : Topic) → At (topics p) j t → counts_differ t ≡ false
 as_many p f j t a = no_true (counts_differ t) (λ e. topic_faultless p f j t a (start_place t.init) KindDiffers (other_count e))
-
-same_count : (x y : ℕ) → not (x == y) ≡ false → x ≡ y
-same_count x y e = grind arith
 
 abbrev starts_by : Topic → Bool → List (Scalar × Const)
 starts_by t b = elim b as (λ x. List (Scalar × Const)) [ true ↦ [] | false ↦ zip (form_scalars t.shape) (start_values t.init) ]
@@ -33,7 +26,7 @@ pub starts_are : (t : Topic) → counts_differ t ≡ false → starts t ≡ zip 
 starts_are t e = ap (starts_by t) e
 
 pub length_starts : (t : Topic) → counts_differ t ≡ false → length (starts t) ≡ scalar_count t
-length_starts t e = ap length (starts_are t e) ∙ length_zip (form_scalars t.shape) (start_values t.init) (same_count (length (form_scalars t.shape)) (length (start_values t.init)) e)
+length_starts t e = ap length (starts_are t e) ∙ length_zip (form_scalars t.shape) (start_values t.init) (same_number (length (form_scalars t.shape)) (length (start_values t.init)) e)
 
 length_fields : (s : Form) → length (field_names s) ≡ length (form_scalars s)
 length_fields (one s) = refl
