@@ -22,3 +22,7 @@ pub mod Programs
 pub mod Canonical
 pub mod SameWords
 pub mod Apart
+-- what a text spells is formed
+pub mod FormedParts
+pub mod FormedBodies
+pub mod FormedPrograms

@@ -2,6 +2,7 @@ ghost use Rattle.std.specs.Prelude.{◌≡◌, ℕ, List};
 ghost use Rattle.sot_lang.specs.Trees.{Program};
 ghost use Rattle.sot_parser.specs.Programs.{Spells};
 ghost use Rattle.sot_print.specs.Canonical.{canonical};
+ghost use Rattle.sot_rules.specs.Formed.{IsFormed};
 ghost use Rattle.sot_canon.specs.Unplaced.{AreSame};
 
 /// The canonical text of a program that some text spells is itself a text of the language, and spells the same program.
@@ -23,4 +24,9 @@ pub fn canonical_texts_tell_programs_apart()
 /// A canonical text that is read and printed again stays as it is.
 pub fn canonical_texts_are_printed_again()
     ensures { (bytes : List ℕ) (at : ℕ) (p q : Program) → Spells bytes at p → Spells (canonical p) 0 q → canonical q ≡ canonical p }
+{}
+
+/// What a text spells is formed: the grammar alone makes sure of it.
+pub fn spelled_programs_are_formed()
+    ensures { (bytes : List ℕ) (at : ℕ) (p : Program) → Spells bytes at p → IsFormed p }
 {}
