@@ -26,7 +26,7 @@ further_make spelled tree Is make (f ∷ fs) more texts =
     ((item.0, others.0), others.1)
 
 abbrev pub SomeEach : {T : Type 0} → (T → Type 0) → List T → Type 0
-SomeEach Is xs = formed.IsSome xs × formed.Each Is xs
+SomeEach Is xs = formed.HasItem xs × formed.Each Is xs
 
 pub separated_make : {F T : Type 0} {text : List ℕ} (spelled : F → List Lexeme → List Lexeme) (tree : F → T) (Is : T → Type 0) → Makes spelled tree Is
     → (s : Separated text F) (more : List Lexeme) → AreTexts (spelled_separated spelled s more) → SomeEach Is (separated_of tree s) × AreTexts more

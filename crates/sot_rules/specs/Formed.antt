@@ -23,9 +23,9 @@ IfThere P None = Unit {0}
 IfThere P (Some x) = P x
 
 -- a list with an item
-abbrev pub IsSome : {A : Type 0} → List A → Type 0
-IsSome [] = ⊥
-IsSome (x ∷ xs) = Unit {0}
+abbrev pub HasItem : {A : Type 0} → List A → Type 0
+HasItem [] = ⊥
+HasItem (x ∷ xs) = Unit {0}
 
 -- names are words of the language
 abbrev pub IsName : Ident → Type 0
@@ -90,11 +90,11 @@ abbrev mutual
 -- a record has a field
 abbrev pub IsForm : Form → Type 0
 IsForm (one s) = IsScalar s
-IsForm (fields fs) = IsSome fs × Each IsField fs
+IsForm (fields fs) = HasItem fs × Each IsField fs
 
 abbrev pub IsStart : Start → Type 0
 IsStart (one_value c) = IsConst c
-IsStart (values cs at) = IsSome cs × Each IsConst cs
+IsStart (values cs at) = HasItem cs × Each IsConst cs
 
 abbrev pub IsTopic : Topic → Type 0
 IsTopic t = IsName t.name × IsForm t.shape × IsStart t.init
@@ -108,7 +108,7 @@ IsNext n = IsName n.name × IsTree n.value
 -- a plant has a state variable
 pub record IsPlant (q : Plant) : Type 0 where
   pub name : IsName q.name
-  pub some : IsSome q.states
+  pub some : HasItem q.states
   pub states : Each IsState q.states
   pub inputs : Each IsName q.inputs
   pub sees : Each IsName q.sees
@@ -131,7 +131,7 @@ pub record IsNode (n : Node) : Type 0 where
 
 -- a box has a side
 abbrev pub IsArea : Area → Type 0
-IsArea a = IsSome a.sides × Each AreBounds a.sides
+IsArea a = HasItem a.sides × Each AreBounds a.sides
 
 pub record IsModule (m : Module) : Type 0 where
   pub name : IsName m.name

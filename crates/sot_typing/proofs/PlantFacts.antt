@@ -24,7 +24,7 @@ use Rattle.sot_rules.specs.declared.fault.TypeKind.{TypeKind}
 use Rattle.sot_rules.specs.declared.fault.TypeKind.TheVariants.{Unknown, ScaleDiffers, KindDiffers, TooMany, NoModule, NextMissing}
 use Rattle.sot_rules.specs.declared.sort.Sort.TheVariants.{Scaled}
 use Rattle.sot_rules.specs.First.{IsFaultless}
-use Rattle.sot_rules.specs.Formed.{IsFormed, IsSome}
+use Rattle.sot_rules.specs.Formed.{IsFormed, HasItem}
 use Rattle.sot_rules.specs.Sorts.{state_sort, written_scale}
 use Rattle.sot_rules.specs.Names.{meaning, is_topic, is_plant, plant_scope}
 use Rattle.sot_rules.specs.Lists.{IsPast, places}
@@ -57,7 +57,7 @@ width_at [] k i a = cc
 width_at (x ∷ xs) zero i a = (let e : x ≡ i = cc in ap (λ (z : PlantInfo). length z.states.items) e)
 width_at (x ∷ xs) (suc k) i a = width_at xs k i a
 
-some_length : {A : Type 0} (xs : List A) → IsSome xs → 1 ≤ length xs
+some_length : {A : Type 0} (xs : List A) → HasItem xs → 1 ≤ length xs
 some_length [] h = absurd h
 some_length (x ∷ xs) h = omega arith
 
