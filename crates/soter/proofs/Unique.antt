@@ -1,35 +1,48 @@
 -- A text decides one status.
-use Rattle.std.proofs.Common.{◌≡◌, ℕ, List, [], ◌∷◌, inl, inr, refl, sym, ap, ◌∙◌, subst, arith, codes, Global}
+use Rattle.std.proofs.Common.{◌≡◌, ℕ, List, [], ◌∷◌, Result, Ok, Err, inl, inr, refl, sym, ap, ◌∙◌, subst, arith, codes, Global}
 use Rattle.std.specs.Prelude.{String}
-use Rattle.sot_parser.specs.Header.{Head}
-use Rattle.sot_parser.specs.Spells.{Spells}
+use Rattle.sot_text.specs.declared.mission.Need.TheVariants as needs
+use Rattle.sot_text.specs.declared.mission.SectionFault.{SectionFault}
+use Rattle.sot_text.specs.Sections.{Parts, split_of}
+use Rattle.sot_lang.specs.Trees.{Program}
+use Rattle.sot_parser.specs.Programs.{Spells}
+use Rattle.sot_parser.proofs.ProgramTexts.{spells_unique}
+use Rattle.sot_rules.specs.First.{IsFaultless}
+use Rattle.sot_typing.specs.Resolved.{AreTables}
 use Rattle.soter.specs.declared.words.Command.{Command}
 use Rattle.soter.specs.declared.words.Command.TheVariants.{Check, Format}
 use Rattle.soter.specs.Words.{Asks}
-use Rattle.sot_parser.proofs.Unique.{Spells-unique, NotBuilt-spells_none}
-use Rattle.soter.specs.declared.shape.Refusal.{Refusal}
-use Rattle.soter.specs.declared.shape.Refusal.TheVariants.{Periods, Outputs}
-use Rattle.soter.specs.Shape.{HasShape, Refuses, period_at}
-use Rattle.soter.specs.Answers.{Accepts, Refutes, Rejects, Replies}
+use Rattle.soter.specs.Answers.{HasProgram, IsOf, HasTypeFault, Accepts, Refutes, Rejects, Replies}
 use Rattle.soter.specs.Ends.{Decides}
+use Rattle.soter.proofs.Shown.{shape_not_refused}
 
--- a module that meets the conditions is not refused
-shape_refused : (h : Head) (r : Refusal) → HasShape h → Refuses h r → ⊥
-shape_refused h (Periods node) shape (slow, inl is) =
-    let same = ap (period_at h) is in
-    absurd (omega (arith, shape.ac_fast, same))
-shape_refused h (Periods node) shape (slow, inr (is, fast)) =
-    let same = ap (period_at h) is in
-    absurd (omega (arith, shape.sc_fast, same))
-shape_refused h (Outputs topic) shape refuses = refuses.2.alone (shape.shared topic refuses.2.declared)
+-- a mission has one program's text, and that spells one program
+one_split : (x : Result Parts SectionFault) (a b : Parts) → x ≡ Ok a → x ≡ Ok b → a ≡ b
+one_split x a b e f = (let same = sym e ∙ f in cc)
 
+same_source : (bytes source other : List ℕ) → HasProgram bytes source → HasProgram bytes other → source ≡ other
+same_source bytes source other (parts, split, is) (parts', split', is') =
+    let same : parts ≡ parts' = one_split (split_of bytes needs.Check) parts parts' split split' in
+    is ∙ ap (λ (x : Parts). x.program) same ∙ sym is'
+
+same_program : (bytes : List ℕ) (p q : Program) → IsOf bytes p → IsOf bytes q → p ≡ q
+same_program bytes p q (source, has, spells) (other, has', spells') =
+    spells_unique source 0 p q spells (subst (λ (s : List ℕ). Spells s 0 q) (same_source bytes other source has' has) spells')
+
+-- a program that has its shape does not lack it
 accepted_refuted : (bytes text text' : List ℕ) → Accepts Check bytes text → Refutes Check bytes text' → ⊥
-accepted_refuted bytes text text' (h, spells, shape, says) (k, spells', (r, refuses, says')) =
-    shape_refused h r shape (subst (λ (x : Head). Refuses x r) (Spells-unique bytes 0 k h spells' spells) refuses)
+accepted_refuted bytes text text' (p, of_p, (t, of_t, passes, says)) (q, of_q, (u, of_u, (r, refuses, says'))) =
+    let same : q ≡ p = same_program bytes q p of_q of_p in
+    shape_not_refused p t u r of_t.1 (subst (λ (x : Program). AreTables x u) same of_u.1) passes refuses
 
-spelled_rejected : (bytes text : List ℕ) (h : Head) → Spells bytes 0 h → Rejects Check bytes text → ⊥
-spelled_rejected bytes text h spells (inl (not_built, says)) = NotBuilt-spells_none bytes 0 h not_built spells
-spelled_rejected bytes text h spells (inr (malformed, says)) = malformed.no_head h spells
+-- a program that breaks no rule of typing is not rejected
+faultless_rejected : (bytes text : List ℕ) (p : Program) → IsOf bytes p → IsFaultless p → Rejects Check bytes text → ⊥
+faultless_rejected bytes text p (source, (parts, split, is), spells) faultless (inl (fault, split', says)) = (let e = sym split ∙ split' in absurd cc)
+faultless_rejected bytes text p (source, has, spells) faultless (inr (inl (other, has', none, says))) =
+    none p (subst (λ (s : List ℕ). Spells s 0 p) (same_source bytes source other has has') spells)
+faultless_rejected bytes text p of_p faultless (inr (inr (q, of_q, (fault, first, says)))) =
+    let same : p ≡ q = same_program bytes p q of_p of_q in
+    subst (λ (x : Program). IsFaultless x) same faultless fault.at fault.kind first.fails
 
 -- what is accepted is neither refused nor rejected, and what is refused is not rejected
 not_refuted : (c : Command) (bytes text text' : List ℕ) → Accepts c bytes text → Refutes c bytes text' → ⊥
@@ -37,11 +50,11 @@ not_refuted Check bytes text text' a r = accepted_refuted bytes text text' a r
 not_refuted Format bytes text text' a r = r
 
 not_rejected : (c : Command) (bytes text text' : List ℕ) → Accepts c bytes text → Rejects c bytes text' → ⊥
-not_rejected Check bytes text text' a r = spelled_rejected bytes text' a.0 a.1 r
+not_rejected Check bytes text text' (p, of_p, (t, of_t, passes, says)) r = faultless_rejected bytes text' p of_p of_t.0 r
 not_rejected Format bytes text text' a r = r.0 a.0 a.1
 
 refuted_not_rejected : (c : Command) (bytes text text' : List ℕ) → Refutes c bytes text → Rejects c bytes text' → ⊥
-refuted_not_rejected Check bytes text text' a r = spelled_rejected bytes text' a.0 a.1 r
+refuted_not_rejected Check bytes text text' (p, of_p, (t, of_t, lacks)) r = faultless_rejected bytes text' p of_p of_t.0 r
 refuted_not_rejected Format bytes text text' a r = a
 
 -- a command answers one status

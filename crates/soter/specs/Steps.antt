@@ -4,19 +4,32 @@ use Rattle.std.specs.Io.KnownBytes.{Appends}
 use Rattle.std.proofs.Common.{Global}
 use Rattle.sot_ports.specs.Faults.{Rose}
 use Rattle.sot_ports.specs.Whole.{ReadsAll, ReadsCount}
-use Rattle.sot_parser.specs.Header.{Head}
-use Rattle.soter.specs.declared.shape.Refusal.{Refusal}
-use Rattle.soter.specs.Shape.{HasShape, Refuses}
-use Rattle.soter.specs.Texts.{accepted_text, refusal_text, usage_text, long_text}
+use Rattle.sot_lang.specs.Tables.{Tables}
+use Rattle.sot_lang.specs.Trees.{Program}
+use Rattle.sot_parser.specs.Programs.{Spells}
+use Rattle.sot_parser.specs.Answers.{fault_at}
+use Rattle.sot_tube.specs.Refusals.{Refusal}
+use Rattle.soter.specs.Shape.{shape}
+use Rattle.soter.specs.Texts.{shape_text, refusal_text, syntax_text, usage_text, long_text}
 use Rattle.soter.specs.declared.words.Command.{Command}
 use Rattle.soter.specs.Words.{Asks, AsksSome, AsksNone}
-use Rattle.soter.specs.Answers.{Replies, input_limit}
+use Rattle.soter.specs.Answers.{SpellsNone, HasShape, LacksShape, HasTypeFault, Replies, input_limit}
+
+-- what is said of a program's tables
+abbrev pub TellsShape : Tables → ℕ → List ℕ → Type 0
+TellsShape t status text =
+    ((status ≡ 0) × (shape t).Passes × (text ≡ shape_text t))
+    ⊎ ((status ≡ 1) × ((r : Refusal) × (shape t).Refuses r × (text ≡ refusal_text t r)))
 
 -- what is said of a program
-abbrev pub Judges : Head → ℕ → List ℕ → Type 0
-Judges head status text =
-    ((status ≡ 0) × HasShape head × (text ≡ accepted_text head))
-    ⊎ ((status ≡ 1) × ((refusal : Refusal) × Refuses head refusal × (text ≡ refusal_text head refusal)))
+abbrev pub Judges : Program → ℕ → List ℕ → Type 0
+Judges p status text = ((status ≡ 0) × HasShape p text) ⊎ ((status ≡ 1) × LacksShape p text) ⊎ ((status ≡ 3) × HasTypeFault p text)
+
+-- what is said of a program's text
+abbrev pub TellsProgram : List ℕ → ℕ → List ℕ → Type 0
+TellsProgram source status text =
+    ((p : Program) × Spells source 0 p × Judges p status text)
+    ⊎ ((status ≡ 3) × SpellsNone source × (text ≡ syntax_text (fault_at source 0)))
 
 -- what is said of what a source gave: of all that it had left, or of too much
 abbrev pub ReadAnswer : Command → Option (List ℕ) → Option (List ℕ) → ℕ → List ℕ → Type 0
