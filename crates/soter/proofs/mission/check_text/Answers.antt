@@ -1,10 +1,10 @@
 use Rattle.std.proofs.Common.{Err, ap}
-use Rattle.soter.proofs.Formed.{spelled_is_formed}
+use Rattle.sot_canon.proofs.FormedPrograms.{spelled_formed}
 use Rattle.soter.proofs.Forms.{spelled_result, unspelled_result}
 use Rattle.soter.proofs.mission.check_text.Goals as goal
 
 pub check_tree-requires : goal.check_tree-requires
-check_tree-requires c = record { formed = spelled_is_formed _ _ _ c.in-Ok.ensures.ok }
+check_tree-requires c = record { formed = spelled_formed _ _ _ c.in-Ok.ensures.ok }
 
 pub returns-in-Ok : goal.returns-in-Ok
 returns-in-Ok c =
