@@ -11,3 +11,16 @@ pub mod Loops
 pub mod Calls
 pub mod Branches
 pub mod Repeats
+pub mod Limits
+pub mod Pairs
+pub mod Sizes
+pub mod NameSets
+pub mod Sequences
+pub mod Mapped
+pub mod NameTables
+pub mod Indexes
+pub mod StandsFor
+pub mod Alike
+pub mod Reached
+pub mod Nexts
+pub mod Bodies

@@ -1,5 +1,6 @@
 -- Names that were seen, as the keys of a set.
-use Rattle.std.proofs.Common.{◌≡◌, ◌∙◌, ℕ, ◌+◌, ◌<◌, List, [], ◌∷◌, ◌++◌, length, get_or, drop, Option, Bool, true, false, not, ◌||◌, if◌then◌else◌, refl, sym, ap}
+use Rattle.std.proofs.Common.{◌≡◌, ◌∙◌, ℕ, ◌+◌, ◌<◌, ◌≤◌, List, [], ◌∷◌, ◌++◌, length, get_or, drop, Option, Bool, true, false, not, ◌||◌, if◌then◌else◌, map, fold, refl, sym, ap}
+use Rattle.std.proofs.lemmas.List.{drop_all}
 use Rattle.std.specs.List.{list_any}
 use Rattle.std.specs.Str.{bytes_eq}
 use denote.Ref.{Bor}
@@ -31,13 +32,24 @@ seen_insert keys k i e =
     ∙ ap (λ n. if list_any (bytes_eq n) (seen_names keys) then seen_names keys else seen_names keys ++ n ∷ []) e
 
 -- a name is noted, and then what is left
-pub step_repeats : (xs : List Ident) (i : ℕ) (x : Ident) (seen now_seen : List (List ℕ)) (a b c : Option TypeFault) → i < length xs → x ≡ get_or xs i x → least a (repeats seen (drop i xs)) ≡ c → b ≡ least a (when (list_any (bytes_eq x.name) seen) x.at Twice) → now_seen ≡ with_name seen x → least b (repeats now_seen (drop (i + 1) xs)) ≡ c
-step_repeats xs i x seen now_seen a b c lt e inv noted more =
-    ap (λ z. least b (repeats z (drop (i + 1) xs))) more
-    ∙ ap (λ z. least z (repeats (with_name seen x) (drop (i + 1) xs))) noted
-    ∙ sym (least_append a (when (list_any (bytes_eq x.name) seen) x.at Twice) (repeats (with_name seen x) (drop (i + 1) xs)))
-    ∙ ap (λ z. least a (repeats seen z)) (sym (rest_is xs i x lt e))
+pub step_repeats : {X : Type 0} (f : X → Ident) (xs : List X) (i : ℕ) (x : X) (n : Ident) (seen now_seen : List (List ℕ)) (a b c : Option TypeFault) → i < length xs → x ≡ get_or xs i x → n ≡ f x → least a (repeats seen (map f (drop i xs))) ≡ c → b ≡ least a (when (list_any (bytes_eq n.name) seen) n.at Twice) → now_seen ≡ with_name seen n → least b (repeats now_seen (map f (drop (i + 1) xs))) ≡ c
+step_repeats f xs i x n seen now_seen a b c lt e named inv noted more =
+    ap (λ z. least b (repeats z (map f (drop (i + 1) xs)))) (more ∙ ap (with_name seen) named)
+    ∙ ap (λ z. least z (repeats (with_name seen (f x)) (map f (drop (i + 1) xs)))) (noted ∙ ap (λ z. least a (when (list_any (bytes_eq z.name) seen) z.at Twice)) named)
+    ∙ sym (least_append a (when (list_any (bytes_eq (f x).name) seen) (f x).at Twice) (repeats (with_name seen (f x)) (map f (drop (i + 1) xs))))
+    ∙ ap (λ z. least a (repeats seen (map f z))) (sym (rest_is xs i x lt e))
     ∙ inv
+
+-- a name is added, and then what is left
+pub step_names : {X : Type 0} (f : X → Ident) (xs : List X) (i : ℕ) (x : X) (n : Ident) (seen now_seen c : List (List ℕ)) → i < length xs → x ≡ get_or xs i x → n ≡ f x → fold with_name seen (map f (drop i xs)) ≡ c → now_seen ≡ with_name seen n → fold with_name now_seen (map f (drop (i + 1) xs)) ≡ c
+step_names f xs i x n seen now_seen c lt e named inv more =
+    ap (λ z. fold with_name z (map f (drop (i + 1) xs))) (more ∙ ap (with_name seen) named)
+    ∙ ap (λ z. fold with_name seen (map f z)) (sym (rest_is xs i x lt e))
+    ∙ inv
+
+-- no name is left
+pub names_end : {X : Type 0} (f : X → Ident) (xs : List X) (i : ℕ) (seen c : List (List ℕ)) → length xs ≤ i → fold with_name seen (map f (drop i xs)) ≡ c → seen ≡ c
+names_end f xs i seen c le inv = ap (λ z. fold with_name seen (map f z)) (sym (drop_all i xs le)) ∙ inv
 
 -- a name is new exactly where it was not seen
 pub noted_by : (added found : Bool) (first now : Option TypeFault) (i : Ident) → added ≡ not found → now ≡ least first (when (not added) i.at Twice) → now ≡ least first (when found i.at Twice)

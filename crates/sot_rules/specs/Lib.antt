@@ -13,6 +13,15 @@ pub mod Formed
 pub mod Faults
 -- worked programs
 pub mod Examples
+-- what the code keeps in tables
+pub mod NameTables
+pub mod Indexes
 pub mod Scopes
-pub mod Operands
+pub mod Alike
 pub mod SeenNames
+pub mod Meanings
+pub mod Kinds
+pub mod Operands
+pub mod Groups
+pub mod Reached
+pub mod Nexts

@@ -1,14 +1,16 @@
 -- The names that the code keeps in tables, as the things that they stand for.
-use Rattle.std.specs.Prelude.{ℕ, List, [], map, slice_index_or, Option, Some, None, Result, Ok, Err}
+use Rattle.std.specs.Prelude.{ℕ, List, [], map, slice_index_or, Option, Some, None, option_map, Result, Ok, Err}
 use denote.Ref.{Bor}
 use Rattle.indexmap.specs.IndexMap.{IndexMap}
 use Rattle.sot_text.specs.declared.token.Span.{Span}
 use Rattle.sot_lang.specs.declared.tree.Ident.{Ident}
+use Rattle.sot_lang.specs.declared.tree.StateDecl.{StateDecl}
 use Rattle.sot_rules.specs.declared.sort.Sort.{Sort}
 use Rattle.sot_rules.specs.declared.scope.Names.{Names}
 use Rattle.sot_rules.specs.declared.scope.Scope.{Scope as CodeScope}
 use Rattle.sot_rules.specs.declared.scope.Seen.{Seen}
 use Rattle.sot_rules.specs.declared.scope.Seen.TheVariants.{Alone, Several}
+use Rattle.sot_rules.specs.Sorts.{state_sort}
 use Rattle.sot_rules.specs.Names.{Part, Parts, alone, several, Thing, Scope, Reading, gives, nothing_at, parts_reading}
 
 -- the parts of one thing, by their names
@@ -39,3 +41,7 @@ names_in n = things_of n.tables.now n.things
 
 abbrev pub scope_in : CodeScope → Scope
 scope_in s = record { read = names_in s.read; local = names_in s.local; written = names_in s.written }
+
+-- the sorts of the state variables of a plant, where it is known
+abbrev pub sorts_in : Option (Bor (List StateDecl)) → Option (List Sort)
+sorts_in states = option_map (λ (s : Bor (List StateDecl)). map state_sort s.now) states

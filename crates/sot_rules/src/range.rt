@@ -81,7 +81,8 @@ fn const_sort(c: Const) -> Sort
     }
 }
 
-fn const_place(c: Const) -> Span
+/// Where a written value stands.
+pub fn const_place(c: Const) -> Span
     ensures { result ≡ const_place c }
 {
     match c {

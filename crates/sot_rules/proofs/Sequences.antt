@@ -1,0 +1,28 @@
+-- Faults that are noted one list after another.
+use Rattle.std.proofs.Common.{◌≡◌, ◌∙◌, List, [], ◌∷◌, ◌++◌, Option, ap, sym}
+use Rattle.sot_rules.specs.declared.fault.TypeFault.{TypeFault}
+use Rattle.sot_rules.specs.Faults.{least, together}
+use Rattle.sot_rules.proofs.Least.{least_append}
+
+-- three lists
+pub three_noted : (x y z : List TypeFault) (a b c d : Option TypeFault) → b ≡ least a x → c ≡ least b y → d ≡ least c z → d ≡ least a (x ++ (y ++ z))
+three_noted x y z a b c d p q r =
+    r ∙ ap (λ e. least e z) (q ∙ ap (λ e. least e y) p) ∙ sym (least_append (least a x) y z) ∙ sym (least_append a x (y ++ z))
+
+-- the lists of a node, by what is noted together
+pub node_noted : (t d1 d2 d3 e1 e2 e3 f1 f2 f3 g : List TypeFault) (a b c d e f : Option TypeFault) → b ≡ least a t → c ≡ least b (d1 ++ (d2 ++ d3)) → d ≡ least c (e1 ++ (e2 ++ e3)) → e ≡ least d (f1 ++ (f2 ++ f3)) → f ≡ least e g → f ≡ least a (together (t ∷ d1 ∷ d2 ∷ d3 ∷ e1 ∷ e2 ∷ e3 ∷ f1 ∷ f2 ∷ f3 ∷ g ∷ []))
+node_noted t d1 d2 d3 e1 e2 e3 f1 f2 f3 g a b c d e f p q r s u =
+    u ∙ ap (λ z. least z g) (s ∙ ap (λ z. least z (f1 ++ (f2 ++ f3))) (r ∙ ap (λ z. least z (e1 ++ (e2 ++ e3))) (q ∙ ap (λ z. least z (d1 ++ (d2 ++ d3))) p)))
+    ∙ simp least_append
+
+-- the lists of a plant, by what is noted together
+pub plant_noted : (t d1 d2 d3 e1 e2 e3 f1 f2 f3 g1 g2 g3 h1 h2 h3 : List TypeFault) (a b c d e f g : Option TypeFault) → b ≡ least a t → c ≡ least b (d1 ++ (d2 ++ d3)) → d ≡ least c (e1 ++ (e2 ++ e3)) → e ≡ least d (f1 ++ (f2 ++ f3)) → f ≡ least e (g1 ++ (g2 ++ g3)) → g ≡ least f (h1 ++ (h2 ++ h3)) → g ≡ least a (together (t ∷ d1 ∷ d2 ∷ d3 ∷ e1 ∷ e2 ∷ e3 ∷ f1 ∷ f2 ∷ f3 ∷ g1 ∷ g2 ∷ g3 ∷ h1 ∷ h2 ∷ h3 ∷ []))
+plant_noted t d1 d2 d3 e1 e2 e3 f1 f2 f3 g1 g2 g3 h1 h2 h3 a b c d e f g p q r s u v =
+    v ∙ ap (λ z. least z (h1 ++ (h2 ++ h3))) (u ∙ ap (λ z. least z (g1 ++ (g2 ++ g3))) (s ∙ ap (λ z. least z (f1 ++ (f2 ++ f3))) (r ∙ ap (λ z. least z (e1 ++ (e2 ++ e3))) (q ∙ ap (λ z. least z (d1 ++ (d2 ++ d3))) p))))
+    ∙ simp least_append
+
+-- the lists of a program
+pub program_noted : (x y z u v w : List TypeFault) (a b c d e f g : Option TypeFault) → b ≡ least a x → c ≡ least b y → d ≡ least c z → e ≡ least d u → f ≡ least e v → g ≡ least f w → g ≡ least a (together (x ∷ y ∷ z ∷ u ∷ v ∷ w ∷ []))
+program_noted x y z u v w a b c d e f g p q r s t o =
+    o ∙ ap (λ h. least h w) (t ∙ ap (λ h. least h v) (s ∙ ap (λ h. least h u) (r ∙ ap (λ h. least h z) (q ∙ ap (λ h. least h y) p))))
+    ∙ simp least_append

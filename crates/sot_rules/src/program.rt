@@ -1,0 +1,81 @@
+ghost use Rattle.std.specs.Prelude.{◌≡◌, Some, None, map, flat_map, OnOk, IfOk};
+ghost use Rattle.sot_lang.specs.TreeViews.{declaration_view, program_view};
+ghost use Rattle.sot_rules.specs.declared.fault.TypeFault.{TypeFault};
+ghost use Rattle.sot_rules.specs.First.{IsFirstFault, IsFaultless};
+ghost use Rattle.sot_rules.specs.Faults.{least, declaration_faults, faults};
+ghost use Rattle.sot_rules.specs.Indexes.{program_in, IsIndex};
+
+use crate::fault::TypeFault;
+use crate::index::Index;
+use crate::kind::{DeclKind, note_past_kind};
+use crate::list::note_repeats;
+use crate::module::note_module;
+use crate::node::note_node;
+use crate::plant::note_plant;
+use crate::topic::note_topic;
+use sot_lang::{Decl, Program};
+use std::alloc::{AllocError, Global};
+
+fn note_declaration<'p>(
+    alloc: Global,
+    index: &Index<'p>,
+    d: &'p Decl,
+    first: &mut Option<TypeFault>,
+) -> Result<(), AllocError>
+    requires { IsIndex index.now }
+    ensures { OnOk result (first.new ≡ least first.old (declaration_faults (program_in index.now) (declaration_view d.now))) }
+{
+    match d {
+        Decl::Topic(t) => note_topic(alloc, t, first),
+        Decl::Plant(q) => note_plant(alloc, index, q, first),
+        Decl::Node(n) => note_node(alloc, index, n, first),
+        Decl::Module(m) => {
+            note_module(index, m, first);
+            Ok(())
+        }
+    }
+}
+
+fn note_declarations<'p>(
+    alloc: Global,
+    index: &Index<'p>,
+    decls: &'p [Decl],
+    first: &mut Option<TypeFault>,
+) -> Result<(), AllocError>
+    requires { IsIndex index.now }
+    ensures { OnOk result (first.new ≡ least first.old (flat_map (declaration_faults (program_in index.now)) (map declaration_view decls.now))) }
+{
+    for d in decls {
+        note_declaration(alloc, index, d, first)?;
+    }
+    Ok(())
+}
+
+fn note_program(
+    alloc: Global,
+    index: &Index,
+    first: &mut Option<TypeFault>,
+) -> Result<(), AllocError>
+    requires { IsIndex index.now }
+    ensures { OnOk result (first.new ≡ least first.old (faults (program_in index.now))) }
+{
+    note_repeats(alloc, index.decls, first)?;
+    note_past_kind(DeclKind::Topic, 512, index.decls, first);
+    note_past_kind(DeclKind::Node, 300, index.decls, first);
+    note_past_kind(DeclKind::Module, 100, index.decls, first);
+    note_past_kind(DeclKind::Plant, 100, index.decls, first);
+    note_declarations(alloc, index, index.decls, first)?;
+    Ok(())
+}
+
+/// The first rule of typing that a program breaks, by its place and then by its number, or nothing where it breaks none. It takes
+/// memory for tables of the names, and time that grows with the length of the program times the depth of its loops.
+pub fn first_fault(alloc: Global, program: &Program) -> Result<Option<TypeFault>, AllocError>
+    ensures faultless { IfOk result (λ f. f ≡ None → IsFaultless (program_view program.now)) }
+    ensures first { IfOk result (λ f. (g : TypeFault) → f ≡ Some g → IsFirstFault (program_view program.now) g) }
+{
+    let index = Index::of(alloc, program)?;
+    let mut first = None;
+    note_program(alloc, &index, &mut first)?;
+    Ok(first)
+}
