@@ -25,3 +25,20 @@ pub mod ModuleFacts
 pub mod DeclaredNames
 pub mod Owners
 pub mod Meets
+-- how the tables are made
+pub mod Scalars
+pub mod Counting
+pub mod Counted
+pub mod Found
+pub mod Gathered
+pub mod Fitting
+-- expressions and bodies with places for names
+mod Rows
+mod Searches
+mod Faultless
+mod Prefixes
+mod PartLoops
+mod ActLoops
+mod Listings
+pub mod Small
+mod OwnerFaults

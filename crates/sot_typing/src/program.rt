@@ -1,4 +1,4 @@
-ghost use Rattle.std.specs.Prelude.{◌≡◌, IfOk, IfErr};
+ghost use Rattle.std.specs.Prelude.{◌≡◌, None, IfOk, IfErr};
 ghost use Rattle.sot_lang.specs.TreeViews.{program_view};
 ghost use Rattle.sot_rules.specs.First.{IsFirstFault, IsFaultless};
 ghost use Rattle.sot_rules.specs.Formed.{IsFormed};
@@ -6,9 +6,29 @@ ghost use Rattle.sot_rules.specs.declared.fault.TypeFault.{TypeFault as AFault};
 ghost use Rattle.sot_rules.specs.declared.fault.TypeFail.TheVariants.{Fault};
 ghost use Rattle.sot_typing.specs.Resolved.{AreTables};
 
+use crate::numbers::numbers;
+use crate::tables::all_tables;
 use sot_lang::{Program, Typed};
-use sot_rules::TypeFail;
-use std::alloc::Global;
+use sot_rules::{Index, TypeFail, first_fault};
+use std::alloc::{AllocError, Global};
+
+// The tables of a program in which no rule of typing fails.
+fn faultless_tables(alloc: Global, program: &Program) -> Result<Typed, AllocError>
+    requires formed { IsFormed (program_view program.now) }
+    requires faultless { IsFaultless (program_view program.now) }
+    ensures { IfOk result (λ t. AreTables (program_view program.now) t) }
+{
+    let index = Index::of(alloc, program)?;
+    let numbers = numbers(alloc, &program.decls)?;
+    let drafted = all_tables(alloc, &index, &numbers)?;
+    Ok(Typed {
+        topics: drafted.topics,
+        scalars: drafted.scalars,
+        plants: drafted.plants,
+        nodes: drafted.nodes,
+        modules: drafted.modules,
+    })
+}
 
 /// The tables of a program, or the first rule of typing that it breaks, by its place in the text and then by its number.
 /// The tree is one of the grammar, as that of a text is.
@@ -18,5 +38,14 @@ pub fn resolve(alloc: Global, program: &Program) -> Result<Typed, TypeFail>
     ensures tables { IfOk result (λ t. AreTables (program_view program.now) t) }
     ensures fault { IfErr result (λ e. (f : AFault) → e ≡ Fault f → IsFirstFault (program_view program.now) f) }
 {
-    Err(TypeFail::Memory)
+    let Ok(first) = first_fault(alloc, program) else {
+        return Err(TypeFail::Memory);
+    };
+    if let Some(fault) = first {
+        return Err(TypeFail::Fault(fault));
+    }
+    match faultless_tables(alloc, program) {
+        Ok(tables) => Ok(tables),
+        Err(_) => Err(TypeFail::Memory),
+    }
 }

@@ -1,0 +1,255 @@
+-- The declarations of a program of the grammar in which no rule fails fit, and are few.
+use Rattle.std.proofs.Common.{◌≡◌, ◌∙◌, ℕ, suc, ◌+◌, ◌*◌, ◌<◌, ◌≤◌, List, [], ◌∷◌, length, map, sum_by, filter_map, Option, Some, None, is_some, true, false, refl, sym, ap, subst, inl, arith}
+use Rattle.std.specs.List.{All, cons_option}
+use Rattle.std.proofs.lemmas.List.{length-map}
+use Rattle.std.proofs.lemmas.List.Sums.{sum_by-cons}
+use Rattle.std.proofs.lemmas.List.Elements.{All-nil, All-cons}
+use Rattle.std.proofs.lemmas.Option.{get_or_from_slice_get}
+use Rattle.sot_box.specs.Lists.{At}
+use Rattle.sot_box.specs.Sides.{Side, AreOrdered}
+use Rattle.sot_text.specs.declared.token.Span.{Span}
+use Rattle.sot_lang.specs.Places.{Has}
+use Rattle.sot_lang.specs.declared.tree.Ident.{Ident}
+use Rattle.sot_lang.specs.declared.tree.Bounds.{Bounds}
+use Rattle.sot_lang.specs.declared.tree.Scalar.{Scalar}
+use Rattle.sot_lang.specs.declared.tree.Field.{Field}
+use Rattle.sot_lang.specs.declared.tree.StateDecl.{StateDecl}
+use Rattle.sot_lang.specs.Trees.{Form, one, fields, Topic, Plant, Node, Module, Area, Declaration, a_topic, a_plant, a_node, a_module, Program}
+use Rattle.sot_rules.specs.declared.fault.TypeFault.{TypeFault}
+use Rattle.sot_rules.specs.declared.fault.TypeKind.{TypeKind}
+use Rattle.sot_rules.specs.declared.fault.TypeKind.TheVariants.{Unknown, KindDiffers, TooMany}
+use Rattle.sot_rules.specs.Fails.{ScalarFails, scalar, many_fields, many_states, seen_unknown, seen_topic, noise_scalar, node_times, local_scalar, ac_unknown, sc_unknown, module_times, plant_unknown, plant_topic, safe, safer, many_topics, many_plants, many_nodes, many_modules, declaration}
+use Rattle.sot_rules.specs.First.{IsFaultless}
+use Rattle.sot_rules.specs.Formed.{IsFormed, IsDeclaration, IsForm, IsField, IsState, IsLocal, HasItem}
+use Rattle.sot_rules.specs.Faults.{declaration_faults}
+use Rattle.sot_rules.specs.Lists.{IsPast, are_same, places}
+use Rattle.sot_rules.specs.Names.{declared_name, meaning, is_topic, is_plant, is_node}
+use Rattle.sot_rules.specs.Sorts.{state_sort}
+use Rattle.sot_rules.specs.Tests.{form_scalars, form_names, topic_name, plant_name, node_name, module_name, names_of, side_sorts}
+use Rattle.sot_rules.proofs.Members.{In}
+use Rattle.sot_rules.proofs.DeclarationFaults.{of_declaration}
+use Rattle.sot_typing.specs.Terms.{sort_scale}
+use Rattle.sot_typing.specs.Resolved.{a_topic_of, a_plant_of, a_node_of, a_module_of, topics, scalar_count, state_count, side_of}
+use Rattle.sot_typing.specs.Parts.{StateFits, FieldFits, LocalFits, FormFits, SideFits, AreaFits}
+use Rattle.sot_typing.specs.Numbers.{AreFew, nothing_counted}
+use Rattle.sot_typing.specs.Fits.{TopicIsOwn, PlantFits, NodeFits, ModuleFits, AllFit}
+use Rattle.sot_typing.proofs.Lists.{lt_at, at_map, at_kept, each_at}
+use Rattle.sot_typing.proofs.Declared.{of_find}
+use Rattle.sot_typing.proofs.Tests.{no_true, no_false}
+use Rattle.sot_typing.proofs.Once.{not_past}
+use Rattle.sot_typing.proofs.Meanings.{topic_own, topic_faultless, plant_faultless, node_faultless, module_faultless, a_plant_meant}
+use Rattle.sot_typing.proofs.Small.{no_faults, node_small, plant_small}
+use Rattle.sot_typing.proofs.Ranges.{scalar_is}
+use Rattle.sot_typing.proofs.Times.{times_are}
+use Rattle.sot_typing.proofs.Topics.{as_many}
+use Rattle.sot_typing.proofs.PlantFacts.{state_known, few}
+use Rattle.sot_typing.proofs.ModuleFacts.{boxes_are}
+
+-- what holds of each item
+all_has : {A : Type 0} (P : A → Type 0) (xs : List A) → ((x : A) → Has xs x → P x) → All P xs
+all_has P xs h k d lt = (let r = lt_at xs k lt in subst P (sym (get_or_from_slice_get xs k r.0 d r.1)) (h r.0 (k, r.1)))
+
+-- no fault is listed of a declaration
+none_listed : (xs : List TypeFault) → ((f : TypeFault) → In f xs → ⊥) → xs ≡ []
+none_listed [] h = refl
+none_listed (x ∷ xs) h = absurd (h x (inl refl))
+
+none_of : (p : Program) → IsFaultless p → (d : Declaration) → Has p.decls d → declaration_faults p d ≡ []
+none_of p f d has = none_listed (declaration_faults p d) (λ x h. f x.at x.kind (declaration has (of_declaration p d x.at x.kind h)))
+
+-- topics
+shape_fits : (s : Form) → IsForm s → ((x : Scalar) (at : Span) (k : TypeKind) → Has (form_scalars s) x → ScalarFails true x at k → ⊥) → FormFits s
+shape_fits (one s) formed none = (scalar_is true s (λ at k h. none s at k (0, refl) h)).scale
+shape_fits (fields fs) formed none =
+    all_has FieldFits fs
+    (λ f h. record {
+      name = (each_at IsField fs h.0 f formed.1 h.1).0;
+      scale = (scalar_is true f.scalar (λ at k x. none f.scalar at k (h.0, at_map (λ (f : Field). f.scalar) fs h.0 f h.1) x)).scale;
+    })
+
+few_scalars : (s : Form) → ((at : Span) → IsPast 8 (places (form_names s)) at → ⊥) → length (form_scalars s) ≤ 8
+few_scalars (one s) none = omega arith
+few_scalars (fields fs) none = (let a = few 8 (λ (f : Field). f.name) fs none in let b = length-map fs (λ (f : Field). f.scalar) in omega arith)
+
+-- regions
+ordered_all : (sides : List Bounds) → AreOrdered (map side_of sides) → All SideFits sides
+ordered_all [] h = All-nil SideFits
+ordered_all (b ∷ sides) h = All-cons SideFits b sides h.0 (ordered_all sides h.1)
+
+areas_fit : (width : ℕ) (areas : List Area) → ((i : ℕ) (b : List Side) → At (map (λ (a : Area). map side_of a.sides) areas) i b → (length b ≡ width) × AreOrdered b) → All (AreaFits width) areas
+areas_fit width areas h =
+    all_has (AreaFits width) areas
+    (λ a x. let r = h x.0 (map side_of a.sides) (at_map (λ (a : Area). map side_of a.sides) areas x.0 a x.1) in
+    record { width = sym (length-map a.sides side_of) ∙ r.0; sides = ordered_all a.sides r.1 })
+
+abbrev count_meant : Option Declaration → ℕ
+count_meant o = elim o as (λ x. ℕ) [ Some (a_plant q) ↦ length q.states | _ ↦ 0 ]
+
+some_states : {A : Type 0} (xs : List A) → HasItem xs → 0 < length xs
+some_states [] h = absurd h
+some_states (x ∷ xs) h = omega arith
+
+-- counts
+as_many_names : {X : Type 0} (pick : Declaration → Option X) (name : Declaration → Option Ident) → ((d : Declaration) → is_some (name d) ≡ is_some (pick d)) → (ds : List Declaration) → length (filter_map pick ds) ≡ length (filter_map name ds)
+as_many_names pick name same [] = refl
+as_many_names {X = X} pick name same (d ∷ ds) = by (pick d) (name d) (same d) (as_many_names pick name same ds)
+  where
+    by : (o : Option X) (n : Option Ident) → is_some n ≡ is_some o → length (filter_map pick ds) ≡ length (filter_map name ds) → length (cons_option o (filter_map pick ds)) ≡ length (cons_option n (filter_map name ds))
+    by None None e h = h
+    by (Some x) (Some i) e h = ap suc h
+    by None (Some i) e h = cc
+    by (Some x) None e h = cc
+
+-- at most as many of a sort as the limit on their names says
+within : {X : Type 0} (pick : Declaration → Option X) (name : Declaration → Option Ident) → ((d : Declaration) → is_some (name d) ≡ is_some (pick d)) → (p : Program) (limit : ℕ) → ((at : Span) → IsPast limit (places (names_of name p)) at → ⊥) → 0 + length (filter_map pick p.decls) ≤ limit
+within pick name same p limit none =
+    let a = not_past limit (λ (i : Ident). i.at) (names_of name p) none in
+    let b = as_many_names pick name same p.decls in
+    omega arith
+
+topics_alike : (d : Declaration) → is_some (topic_name d) ≡ is_some (a_topic_of d)
+topics_alike (a_topic t) = refl
+topics_alike (a_plant q) = refl
+topics_alike (a_node n) = refl
+topics_alike (a_module m) = refl
+
+plants_alike : (d : Declaration) → is_some (plant_name d) ≡ is_some (a_plant_of d)
+plants_alike (a_topic t) = refl
+plants_alike (a_plant q) = refl
+plants_alike (a_node n) = refl
+plants_alike (a_module m) = refl
+
+nodes_alike : (d : Declaration) → is_some (node_name d) ≡ is_some (a_node_of d)
+nodes_alike (a_topic t) = refl
+nodes_alike (a_plant q) = refl
+nodes_alike (a_node n) = refl
+nodes_alike (a_module m) = refl
+
+modules_alike : (d : Declaration) → is_some (module_name d) ≡ is_some (a_module_of d)
+modules_alike (a_topic t) = refl
+modules_alike (a_plant q) = refl
+modules_alike (a_node n) = refl
+modules_alike (a_module m) = refl
+
+few_each : (ts : List Topic) → ((j : ℕ) (t : Topic) → At ts j t → scalar_count t ≤ 8) → sum_by scalar_count ts ≤ 8 * length ts
+few_each [] h = omega arith
+few_each (t ∷ ts) h =
+    let a = few_each ts (λ j u b. h (suc j) u b) in
+    let b = h 0 t refl in
+    let c = sum_by-cons scalar_count t ts in
+    omega arith
+
+module _ (p : Program) (formed : IsFormed p) (f : IsFaultless p) where
+  topic_few : (j : ℕ) (t : Topic) → At (topics p) j t → scalar_count t ≤ 8
+  topic_few j t b = few_scalars t.shape (λ at h. topic_faultless p f j t b at TooMany (many_fields h))
+
+  topic_fits : (k : ℕ) (t : Topic) → At p.decls k (a_topic t) → TopicIsOwn p t
+  topic_fits k t a =
+      let j = at_kept a_topic_of p.decls k (a_topic t) t a refl in
+      let form = each_at IsDeclaration p.decls k (a_topic t) formed a in
+      record {
+        fits = record {
+          name = form.0;
+          shape = shape_fits t.shape form.1 (λ x at kind h s. topic_faultless p f j.0 t j.1 at kind (scalar h s));
+          few = topic_few j.0 t j.1;
+          starts = as_many p f j.0 t j.1;
+        };
+        own = (topic_own p f j.0 t j.1).0;
+      }
+
+  -- plants
+  pub plant_narrow : (k : ℕ) (q : Plant) → At p.decls k (a_plant q) → length q.states ≤ 4
+  plant_narrow k q a =
+      let j = at_kept a_plant_of p.decls k (a_plant q) q a refl in
+      few 4 (λ (s : StateDecl). s.name) q.states (λ at h. plant_faultless p f j.0 q j.1 at TooMany (many_states h))
+
+  plant_fits : (k : ℕ) (q : Plant) → At p.decls k (a_plant q) → PlantFits p q
+  plant_fits k q a =
+      let j = at_kept a_plant_of p.decls k (a_plant q) q a refl in
+      let form = each_at IsDeclaration p.decls k (a_plant q) formed a in
+      let none = plant_faultless p f j.0 q j.1 in
+      record {
+        name = form.name;
+        states = all_has StateFits q.states
+            (λ s h. let r = state_known p q none s h in record {
+              name = (each_at IsState q.states h.0 s form.states h.1).0;
+              scale = subst (λ z. sort_scale z ≤ 6) (sym r.1) r.2;
+            });
+        sees = all_has (λ i. is_plant (meaning p i) ≡ true) q.sees
+            (λ i h.
+            let t = no_true (is_topic (meaning p i)) (λ e. none i.at KindDiffers (seen_topic h e)) in
+            no_false (is_plant (meaning p i)) (λ e. none i.at Unknown (seen_unknown h t e)));
+        noise = all_has FieldFits q.noise
+            (λ n h. record {
+              name = (each_at IsField q.noise h.0 n form.noise h.1).0;
+              scale = (scalar_is true n.scalar (λ at kind x. none at kind (noise_scalar h x))).scale;
+            });
+        few = plant_small p (no_faults p f) q (none_of p f (a_plant q) (k, a));
+        faultless = none_of p f (a_plant q) (k, a);
+      }
+
+  -- nodes
+  node_fits : (k : ℕ) (n : Node) → At p.decls k (a_node n) → NodeFits p n
+  node_fits k n a =
+      let j = at_kept a_node_of p.decls k (a_node n) n a refl in
+      let form = each_at IsDeclaration p.decls k (a_node n) formed a in
+      let none = node_faultless p f j.0 n j.1 in
+      let times = times_are n.period n.offset form.period form.offset (λ at kind h. none at kind (node_times h)) in
+      record {
+        name = form.name;
+        period = times.0;
+        offset = omega (arith, times.0, times.1);
+        locals = all_has LocalFits n.locals
+            (λ l h. record {
+              name = (each_at IsLocal n.locals h.0 l form.locals h.1).0;
+              scale = (scalar_is false l.scalar (λ at kind x. none at kind (local_scalar h x))).scale;
+            });
+        few = node_small p (no_faults p f) n (none_of p f (a_node n) (k, a));
+        faultless = none_of p f (a_node n) (k, a);
+      }
+
+  -- modules
+  module_fits : (k : ℕ) (m : Module) → At p.decls k (a_module m) → ModuleFits p m
+  module_fits k m a =
+      let j = at_kept a_module_of p.decls k (a_module m) m a refl in
+      let form = each_at IsDeclaration p.decls k (a_module m) formed a in
+      let none = module_faultless p f j.0 m j.1 in
+      let times = times_are m.period m.offset form.period form.offset (λ at kind h. none at kind (module_times h)) in
+      let other = no_true (is_topic (meaning p m.plant)) (λ e. none m.plant.at KindDiffers (plant_topic e)) in
+      let plant = no_false (is_plant (meaning p m.plant)) (λ e. none m.plant.at Unknown (plant_unknown other e)) in
+      let q = a_plant_meant (meaning p m.plant) plant in
+      let there = of_find (λ d. are_same m.plant (declared_name d)) p.decls (a_plant q.0) q.1 in
+      let i = at_kept a_plant_of p.decls there.0 (a_plant q.0) q.0 there.1 refl in
+      let counted : state_count p m.plant ≡ length q.0.states = ap count_meant q.1 in
+      let region = boxes_are p q.0 (plant_faultless p f i.0 q.0 i.1) in
+      let sorts : side_sorts (meaning p m.plant) ≡ Some (map state_sort q.0.states) = ap side_sorts q.1 in
+      record {
+        name = form.name;
+        ac = no_false (is_node (meaning p m.ac)) (λ e. none m.ac.at Unknown (ac_unknown e));
+        sc = no_false (is_node (meaning p m.sc)) (λ e. none m.sc.at Unknown (sc_unknown e));
+        period = times.0;
+        offset = omega (arith, times.0, times.1);
+        plant = plant;
+        some = subst (λ n. 0 < n) (sym counted) (some_states q.0.states (each_at IsDeclaration p.decls there.0 (a_plant q.0) formed there.1).some);
+        few = subst (λ n. n ≤ 4) (sym counted) (plant_narrow there.0 q.0 there.1);
+        safe = subst (λ n. All (AreaFits n) m.safe) (sym counted) (areas_fit _ m.safe (region m.safe _ sorts (λ at kind h. none at kind (safe h))));
+        safer = subst (λ n. All (AreaFits n) m.safer) (sym counted) (areas_fit _ m.safer (region m.safer _ sorts (λ at kind h. none at kind (safer h))));
+      }
+
+  pub are_few : AreFew nothing_counted p.decls
+  are_few =
+      let few_topics = within a_topic_of topic_name topics_alike p 512 (λ at h. f at TooMany (many_topics h)) in
+      let sum = few_each (topics p) topic_few in
+      record {
+        topics = few_topics;
+        scalars = omega (arith, sum, few_topics);
+        plants = within a_plant_of plant_name plants_alike p 100 (λ at h. f at TooMany (many_plants h));
+        nodes = within a_node_of node_name nodes_alike p 300 (λ at h. f at TooMany (many_nodes h));
+        modules = within a_module_of module_name modules_alike p 100 (λ at h. f at TooMany (many_modules h));
+      }
+
+  pub all_fit : AllFit p
+  all_fit k (a_topic t) a = topic_fits k t a
+  all_fit k (a_plant q) a = plant_fits k q a
+  all_fit k (a_node n) a = node_fits k n a
+  all_fit k (a_module m) a = module_fits k m a

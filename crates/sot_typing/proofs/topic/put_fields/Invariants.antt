@@ -1,0 +1,11 @@
+use Rattle.std.proofs.Common.{◌≡◌, ◌++◌, drop}
+use Rattle.sot_lang.specs.TreeViews.{init_view}
+use Rattle.sot_rules.specs.Tests.{start_values}
+use Rattle.sot_typing.specs.Parts.{field_scalars}
+use Rattle.sot_typing.proofs.topic.put_fields.Given as goal
+
+-- what stands, and then the scalars of the fields that are left
+abbrev pub invariant-loop-k : goal.invariant-loop-k
+invariant-loop-k l =
+    l.scalars.items ++ field_scalars l.topic (drop l.k l.fields) (drop l.k (start_values (init_view l.init)))
+    ≡ l.initial.scalars.items ++ field_scalars l.topic l.fields (start_values (init_view l.init))

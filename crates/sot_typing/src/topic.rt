@@ -1,0 +1,114 @@
+ghost use Rattle.std.specs.Prelude.{◌≡◌, ◌<◌, ◌≤◌, ◌++◌, length, slice_get, Some, IfOk, OnOk};
+ghost use Rattle.std.specs.List.{All};
+ghost use Rattle.sot_lang.specs.TreeViews.{init_view, shape_view, topic_view};
+ghost use Rattle.sot_rules.specs.Tests.{form_scalars, start_values};
+ghost use Rattle.sot_typing.specs.Resolved.{scalar_count, scalar_info, scalar_scale};
+ghost use Rattle.sot_typing.specs.Parts.{FieldFits, TopicFits, field_scalars, scalars_at};
+
+use crate::range::{const_number, copied, greatest, is_truth, lowest, scalar_scale};
+use sot_lang::{Const, Field, Init, Scalar, ScalarInfo, Shape, TopicDecl, TopicInfo};
+use std::alloc::{AllocError, Global};
+
+// The initial value at a place.
+fn start_at(init: &Init, place: usize) -> Const
+    requires { place < length (start_values (init_view init.now)) }
+    ensures { slice_get (start_values (init_view init.now)) place ≡ Some result }
+{
+    match init {
+        Init::One(c) => *c,
+        Init::Fields { items, .. } => items[place],
+    }
+}
+
+/// How many scalars a topic of this type has.
+pub fn shape_len(shape: &Shape) -> usize
+    ensures { result ≡ length (form_scalars (shape_view shape.now)) }
+{
+    match shape {
+        Shape::One(_) => 1,
+        Shape::Fields(fields) => fields.len(),
+    }
+}
+
+fn lone_scalar(topic: u32, s: Scalar, c: Const) -> ScalarInfo
+    requires { scalar_scale s ≤ 6 }
+    ensures { result ≡ scalar_info topic None s c }
+{
+    ScalarInfo {
+        topic,
+        field: None,
+        scale: scalar_scale(s),
+        truth: is_truth(s),
+        lo: lowest(s),
+        hi: greatest(s),
+        init: const_number(c),
+    }
+}
+
+fn field_scalar(alloc: Global, topic: u32, f: &Field, c: Const) -> Result<ScalarInfo, AllocError>
+    requires { FieldFits f.now }
+    ensures { IfOk result (λ i. i ≡ scalar_info topic (Some f.now.name.name) f.now.scalar c) }
+{
+    let name = copied(alloc, &f.name)?;
+    Ok(ScalarInfo {
+        topic,
+        field: Some(name),
+        scale: scalar_scale(f.scalar),
+        truth: is_truth(f.scalar),
+        lo: lowest(f.scalar),
+        hi: greatest(f.scalar),
+        init: const_number(c),
+    })
+}
+
+fn put_fields(
+    alloc: Global,
+    topic: u32,
+    fields: &[Field],
+    init: &Init,
+    scalars: &mut Vec<ScalarInfo>,
+) -> Result<(), AllocError>
+    requires fields { All FieldFits fields.now }
+    requires starts { length fields.now ≡ length (start_values (init_view init.now)) }
+    ensures { OnOk result (scalars.new.items ≡ scalars.old.items ++ field_scalars topic fields.now (start_values (init_view init.now))) }
+{
+    for (k, f) in fields.iter().enumerate() {
+        let start = start_at(init, k);
+        scalars.push(field_scalar(alloc, topic, f, start)?)?;
+    }
+    Ok(())
+}
+
+/// Puts the scalars of a topic with this number behind the others.
+pub fn put_scalars(
+    alloc: Global,
+    topic: u32,
+    t: &TopicDecl,
+    scalars: &mut Vec<ScalarInfo>,
+) -> Result<(), AllocError>
+    requires { TopicFits (topic_view t.now) }
+    ensures { OnOk result (scalars.new.items ≡ scalars.old.items ++ scalars_at topic (topic_view t.now)) }
+{
+    match &t.shape {
+        Shape::One(s) => {
+            let start = start_at(&t.init, 0);
+            scalars.push(lone_scalar(topic, *s, start))?;
+            Ok(())
+        }
+        Shape::Fields(fields) => put_fields(alloc, topic, fields, &t.init, scalars),
+    }
+}
+
+/// A topic whose first scalar stands at this place.
+pub fn topic_info(alloc: Global, t: &TopicDecl, first: u32) -> Result<TopicInfo, AllocError>
+    requires { TopicFits (topic_view t.now) }
+    ensures { IfOk result (λ i. i ≡ record { name = t.now.name.name; outside = t.now.outside; first = first; count = scalar_count (topic_view t.now) }) }
+{
+    let name = copied(alloc, &t.name)?;
+    Ok(TopicInfo {
+        name,
+        outside: t.outside,
+        first,
+        count: shape_len(&t.shape) as u32,
+    })
+}
