@@ -1,5 +1,5 @@
 -- The parts of a mission are parts of its text.
-use Rattle.std.proofs.Common.{◌≡◌, ℕ, suc, ◌≤◌, List, ◌++◌, Option, None, Some, Result, Ok, Err, length, sym, ap, arith}
+use Rattle.std.proofs.Common.{◌≡◌, ℕ, suc, ◌≤◌, List, ◌++◌, Option, None, Some, Ok, length, ap, arith}
 use Rattle.std.specs.List.{flat_map}
 use Rattle.std.proofs.lemmas.List.{length-append}
 use Rattle.sot_text.specs.declared.mission.Need.TheVariants as needs

@@ -1,6 +1,5 @@
 -- All tables of a program show the same to the checks of its shape.
 use Rattle.std.proofs.Common.{◌≡◌, ℕ, zero, suc, ◌≤◌, inl, inr, ⊎_elim, List, [], ◌∷◌, map, sym, ap, ◌∙◌, subst, refl, arith}
-use Rattle.std.specs.Prelude.{◌⊎◌}
 use Rattle.sot_box.specs.Lists.{At}
 use Rattle.sot_lang.specs.Places.{Has}
 use Rattle.sot_lang.specs.Tables.{Tables}

@@ -1,5 +1,5 @@
 -- A text decides one status.
-use Rattle.std.proofs.Common.{◌≡◌, ℕ, List, [], ◌∷◌, Result, Ok, Err, inl, inr, refl, sym, ap, ◌∙◌, subst, arith, codes, Global}
+use Rattle.std.proofs.Common.{◌≡◌, ℕ, List, [], ◌∷◌, Result, Ok, inl, inr, refl, sym, ap, ◌∙◌, subst, arith, codes, Global}
 use Rattle.std.specs.Prelude.{String}
 use Rattle.sot_text.specs.declared.mission.Need.TheVariants as needs
 use Rattle.sot_text.specs.declared.mission.SectionFault.{SectionFault}
@@ -12,7 +12,7 @@ use Rattle.sot_typing.specs.Resolved.{AreTables}
 use Rattle.soter.specs.declared.words.Command.{Command}
 use Rattle.soter.specs.declared.words.Command.TheVariants.{Check, Format}
 use Rattle.soter.specs.Words.{Asks}
-use Rattle.soter.specs.Answers.{HasProgram, IsOf, HasTypeFault, Accepts, Refutes, Rejects, Replies}
+use Rattle.soter.specs.Answers.{HasProgram, IsOf, Accepts, Refutes, Rejects, Replies}
 use Rattle.soter.specs.Ends.{Decides}
 use Rattle.soter.proofs.Shown.{shape_not_refused}
 

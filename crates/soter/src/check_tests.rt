@@ -7,32 +7,17 @@ use std::test::Fail;
 const EMPTY: &str = "%certificate\n{\"format\":1,\"modules\":{}}\n";
 
 // Modules that share nothing, each with its number.
-const MODULE: &str = "plant p# { state x: int; next x = x; }
+pub const MODULE: &str = "plant p# { state x: int; next x = x; }
 external a# period 1 offset 0 { }
 node s# period 1 offset 0 { do { } }
 module m# { ac a#; sc s#; period 1 offset 0; plant p#; safe [0..1]; safer [0..1]; }
 ";
 
 // The module of a plant q.
-const OWN_MODULE: &str = "external e period 1 offset 0 { }
+pub const OWN_MODULE: &str = "external e period 1 offset 0 { }
 node s period 1 offset 0 { do { } }
 module m { ac e; sc s; period 1 offset 0; plant q; safe none; safer none; }
 ";
-
-// A topic of eight truth values, and one of eight numbers.
-const RECORD: &str =
-    "topic r#: {a: bool, b: bool, c: bool, d: bool, e: bool, f: bool, g: bool, h: bool} = {true, true, true, true, true, true, true, true};
-";
-
-const INPUT: &str =
-    "topic r#: {a: int[0..1], b: int[0..1], c: int[0..1], d: int[0..1], e: int[0..1], f: int[0..1], g: int[0..1], h: int[0..1]} = {0, 0, 0, 0, 0, 0, 0, 0};
-";
-
-// A program up to the boxes of a region.
-const REGION: &str = "plant q { state x: int; next x = x; }
-external e period 1 offset 0 { }
-node s period 1 offset 0 { do { } }
-module m { ac e; sc s; period 1 offset 0; plant q; safe ";
 
 // A module with a slow node, and one with a topic of one node alone.
 const SLOW: &str = "plant q { state x: int; next x = x; }
@@ -49,7 +34,7 @@ module n { ac f; sc g; period 1 offset 0; plant k; safe [0..1]; safer [0..1]; }
 ";
 
 // The status and the text of `check` on a text.
-fn checked(alloc: Global, text: &[u8]) -> Result<(u8, Vec<u8>), Fail> {
+pub fn checked(alloc: Global, text: &[u8]) -> Result<(u8, Vec<u8>), Fail> {
     let mut words = Vec::new(alloc);
     words.push(String::from_str(alloc, "check")?)?;
     let mut source = PureSource::new(Vec::from_slice(alloc, text)?);
@@ -59,7 +44,7 @@ fn checked(alloc: Global, text: &[u8]) -> Result<(u8, Vec<u8>), Fail> {
 }
 
 // Each piece so many times, with its number where it has a `#`, and an empty certificate.
-fn mission(alloc: Global, pieces: &[(u32, &str)]) -> Result<Vec<u8>, Fail> {
+pub fn mission(alloc: Global, pieces: &[(u32, &str)]) -> Result<Vec<u8>, Fail> {
     let mut text = Vec::new(alloc);
     for (count, piece) in pieces {
         for i in 0..*count {
@@ -232,350 +217,6 @@ fn tells_the_first_rule_that_a_program_breaks(rt: HostRuntime) -> Result<(), Fai
         text.as_slice(),
         b"fault type line 1 column 25 NextMissing\n".as_slice()
     );
-    Ok(())
-}
-
-#[test]
-fn knows_the_limits_of_a_program(rt: HostRuntime) -> Result<(), Fail> {
-    let alloc = rt.alloc();
-    for (limit, pieces, status, said) in [
-        (
-            "512 topics",
-            [(512, "topic t#: int[0..1] = 0;\n")].as_slice(),
-            0,
-            "shape holds\nmodules 0 nodes 0\n",
-        ),
-        (
-            "513 topics",
-            [(513, "topic t#: int[0..1] = 0;\n")].as_slice(),
-            3,
-            "fault type line 513 column 7 TooMany\n",
-        ),
-        (
-            "300 nodes",
-            [(300, "external e# period 1 offset 0 { }\n")].as_slice(),
-            0,
-            "shape holds\nmodules 0 nodes 300\n",
-        ),
-        (
-            "301 nodes",
-            [(301, "external e# period 1 offset 0 { }\n")].as_slice(),
-            3,
-            "fault type line 301 column 10 TooMany\n",
-        ),
-        (
-            "100 modules, 100 plants",
-            [(100, MODULE)].as_slice(),
-            0,
-            "shape holds\nmodules 100 nodes 200\n",
-        ),
-        (
-            "101 modules",
-            [
-                (100, MODULE),
-                (
-                    1,
-                    "module last { ac a0; sc s0; period 1 offset 0; plant p0; safe [0..1]; safer [0..1]; }\n",
-                ),
-            ]
-            .as_slice(),
-            3,
-            "fault type line 401 column 8 TooMany\n",
-        ),
-        (
-            "101 plants",
-            [
-                (100, MODULE),
-                (1, "plant last { state x: int; next x = x; }\n"),
-            ]
-            .as_slice(),
-            3,
-            "fault type line 401 column 7 TooMany\n",
-        ),
-        (
-            "8 fields",
-            [
-                (1, "topic r: {"),
-                (7, "f#: bool, "),
-                (1, "g: bool} = {"),
-                (7, "true, "),
-                (1, "true};\n"),
-            ]
-            .as_slice(),
-            0,
-            "shape holds\nmodules 0 nodes 0\n",
-        ),
-        (
-            "9 fields",
-            [
-                (1, "topic r: {"),
-                (8, "f#: bool, "),
-                (1, "g: bool} = {"),
-                (8, "true, "),
-                (1, "true};\n"),
-            ]
-            .as_slice(),
-            3,
-            "fault type line 1 column 91 TooMany\n",
-        ),
-        (
-            "8 scalars written",
-            [
-                (1, RECORD),
-                (1, "external e period 1 offset 0 { writes r0; }\n"),
-            ]
-            .as_slice(),
-            0,
-            "shape holds\nmodules 0 nodes 1\n",
-        ),
-        (
-            "9 scalars written",
-            [
-                (1, RECORD),
-                (
-                    1,
-                    "topic one: bool = true;\nexternal e period 1 offset 0 { writes r0, one; }\n",
-                ),
-            ]
-            .as_slice(),
-            3,
-            "fault type line 3 column 43 TooMany\n",
-        ),
-        (
-            "8 scalars as inputs",
-            [
-                (1, INPUT),
-                (1, "plant q { state x: int; input r0; next x = x; }\n"),
-                (1, OWN_MODULE),
-            ]
-            .as_slice(),
-            0,
-            "shape holds\nmodules 1 nodes 2\n",
-        ),
-        (
-            "9 scalars as inputs",
-            [
-                (1, INPUT),
-                (
-                    1,
-                    "topic one: int[0..1] = 0;\nplant q { state x: int; input r0, one; next x = x; }\n",
-                ),
-                (1, OWN_MODULE),
-            ]
-            .as_slice(),
-            3,
-            "fault type line 3 column 35 TooMany\n",
-        ),
-        (
-            "64 numbers read",
-            [
-                (8, RECORD),
-                (1, "external e period 1 offset 0 { reads "),
-                (7, "r#, "),
-                (1, "r7; }\n"),
-            ]
-            .as_slice(),
-            0,
-            "shape holds\nmodules 0 nodes 1\n",
-        ),
-        (
-            "65 numbers read",
-            [
-                (8, RECORD),
-                (
-                    1,
-                    "topic one: bool = true;\nexternal e period 1 offset 0 { reads ",
-                ),
-                (8, "r#, "),
-                (1, "one; }\n"),
-            ]
-            .as_slice(),
-            3,
-            "fault type line 10 column 70 TooMany\n",
-        ),
-        (
-            "16 locals",
-            [
-                (1, "node n period 1 offset 0 { "),
-                (16, "local l#: bool = true; "),
-                (1, "do { } }\n"),
-            ]
-            .as_slice(),
-            0,
-            "shape holds\nmodules 0 nodes 1\n",
-        ),
-        (
-            "17 locals",
-            [
-                (1, "node n period 1 offset 0 { "),
-                (17, "local l#: bool = true; "),
-                (1, "do { } }\n"),
-            ]
-            .as_slice(),
-            3,
-            "fault type line 1 column 408 TooMany\n",
-        ),
-        (
-            "4 states",
-            [
-                (1, "plant q { state "),
-                (3, "x#: int, "),
-                (1, "y: int; "),
-                (3, "next x# = y; "),
-                (1, "next y = y; }\n"),
-                (1, OWN_MODULE),
-            ]
-            .as_slice(),
-            0,
-            "shape holds\nmodules 1 nodes 2\n",
-        ),
-        (
-            "5 states",
-            [
-                (1, "plant q { state "),
-                (4, "x#: int, "),
-                (1, "y: int; "),
-                (4, "next x# = y; "),
-                (1, "next y = y; }\n"),
-                (1, OWN_MODULE),
-            ]
-            .as_slice(),
-            3,
-            "fault type line 1 column 53 TooMany\n",
-        ),
-        (
-            "4 disturbances",
-            [
-                (1, "plant q { state x: int; noise "),
-                (3, "w#: int[0..1], "),
-                (1, "v: int[0..1]; next x = x; }\n"),
-                (1, OWN_MODULE),
-            ]
-            .as_slice(),
-            0,
-            "shape holds\nmodules 1 nodes 2\n",
-        ),
-        (
-            "5 disturbances",
-            [
-                (1, "plant q { state x: int; noise "),
-                (4, "w#: int[0..1], "),
-                (1, "v: int[0..1]; next x = x; }\n"),
-                (1, OWN_MODULE),
-            ]
-            .as_slice(),
-            3,
-            "fault type line 1 column 91 TooMany\n",
-        ),
-        (
-            "16 seen plants",
-            [
-                (16, MODULE),
-                (1, "plant q { state x: int; sees "),
-                (15, "p#, "),
-                (1, "p15; next x = x; }\n"),
-                (1, OWN_MODULE),
-            ]
-            .as_slice(),
-            0,
-            "shape holds\nmodules 17 nodes 34\n",
-        ),
-        (
-            "17 seen plants",
-            [
-                (17, MODULE),
-                (1, "plant q { state x: int; sees "),
-                (16, "p#, "),
-                (1, "p16; next x = x; }\n"),
-                (1, OWN_MODULE),
-            ]
-            .as_slice(),
-            3,
-            "fault type line 69 column 100 TooMany\n",
-        ),
-        (
-            "256 boxes",
-            [
-                (1, REGION),
-                (255, "[0..1] | "),
-                (1, "[0..1]; safer none; }\n"),
-            ]
-            .as_slice(),
-            0,
-            "shape holds\nmodules 1 nodes 2\n",
-        ),
-        (
-            "257 boxes",
-            [
-                (1, REGION),
-                (256, "[0..1] | "),
-                (1, "[0..1]; safer none; }\n"),
-            ]
-            .as_slice(),
-            3,
-            "fault type line 4 column 2361 TooMany\n",
-        ),
-        (
-            "10,000 statements",
-            [
-                (
-                    1,
-                    "node n period 1 offset 0 { local a: int[0..1] = 0; do { repeat 1000 { ",
-                ),
-                (9, "a := 0; "),
-                (1, "} "),
-                (999, "a := 0; "),
-                (1, "} }\n"),
-            ]
-            .as_slice(),
-            0,
-            "shape holds\nmodules 0 nodes 1\n",
-        ),
-        (
-            "10,001 statements",
-            [
-                (
-                    1,
-                    "node n period 1 offset 0 { local a: int[0..1] = 0; do { repeat 1000 { ",
-                ),
-                (9, "a := 0; "),
-                (1, "} "),
-                (1000, "a := 0; "),
-                (1, "} }\n"),
-            ]
-            .as_slice(),
-            3,
-            "fault type line 1 column 8137 TooMany\n",
-        ),
-        (
-            "2^32 numbers",
-            [(1, "topic t: int[-1..4294967294] = 0;\n")].as_slice(),
-            0,
-            "shape holds\nmodules 0 nodes 0\n",
-        ),
-        (
-            "2^32 + 1 numbers",
-            [(1, "topic t: int[-1..4294967295] = 0;\n")].as_slice(),
-            3,
-            "fault type line 1 column 14 RangeWide\n",
-        ),
-        (
-            "a period of 1,000",
-            [(1, "external e period 1000 offset 999 { }\n")].as_slice(),
-            0,
-            "shape holds\nmodules 0 nodes 1\n",
-        ),
-        (
-            "a period of 1,001",
-            [(1, "external e period 1001 offset 999 { }\n")].as_slice(),
-            3,
-            "fault type line 1 column 19 PeriodOutside\n",
-        ),
-    ] {
-        let (ended, text) = checked(alloc, &mission(alloc, pieces)?)?;
-        assert_eq!(rt; ended, status, "of {limit}");
-        assert_eq!(rt; text.as_slice(), said.as_bytes(), "of {limit}");
-    }
     Ok(())
 }
 

@@ -1,4 +1,3 @@
-use Rattle.std.proofs.Common.{Err, ap}
 use Rattle.soter.proofs.Forms.{resolved_result, mistyped_result}
 use Rattle.soter.proofs.mission.check_tree.Goals as goal
 
