@@ -9,10 +9,10 @@ use Rattle.sot_rules.proofs.Loops.{rest_is}
 use Rattle.sot_typing.specs.declared.numbers.Number.{Number}
 use Rattle.sot_typing.specs.declared.numbers.Counts.{Counts}
 use Rattle.sot_typing.specs.Resolved.{a_topic_of, scalar_count}
-use Rattle.sot_typing.specs.Numbers.{counted, numbered, numbers_from, AreFew, HasRoom}
+use Rattle.sot_typing.specs.Numbers.{counted, numbered, numbers_from, FitLimits, HasRoom}
 
 -- where all of a list fit, the first one does
-pub room : (c : Counts) (d : Declaration) (ds : List Declaration) → AreFew c (d ∷ ds) → HasRoom c d
+pub room : (c : Counts) (d : Declaration) (ds : List Declaration) → FitLimits c (d ∷ ds) → HasRoom c d
 room c (a_topic t) ds few = record {
   topics = omega (arith, few.topics);
   scalars = (let e = sum_by-cons scalar_count t (filter_map a_topic_of ds) in omega (arith, few.scalars));
@@ -43,7 +43,7 @@ room c (a_module m) ds few = record {
 }
 
 -- and then the rest do
-pub few_left : (c : Counts) (d : Declaration) (ds : List Declaration) → AreFew c (d ∷ ds) → AreFew (counted c d) ds
+pub few_left : (c : Counts) (d : Declaration) (ds : List Declaration) → FitLimits c (d ∷ ds) → FitLimits (counted c d) ds
 few_left c (a_topic t) ds few = record {
   topics = omega (arith, few.topics);
   scalars = (let e = sum_by-cons scalar_count t (filter_map a_topic_of ds) in omega (arith, few.scalars));

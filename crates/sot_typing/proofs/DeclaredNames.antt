@@ -33,31 +33,32 @@ kept_length {X = X} pick name of h (d ∷ ds) = by (pick d) (h d) (kept_length p
     by None e r = ap (λ x. length (cons_option x (filter_map name ds))) e ∙ r
     by (Some x) e r = ap (λ x. length (cons_option x (filter_map name ds))) e ∙ ap suc r
 
-within : {X : Type 0} (pick : Declaration → Option X) (name : Declaration → Option Ident) (of : X → Ident) → ((d : Declaration) → name d ≡ option_map of (pick d)) → (p : Program) (limit : ℕ) → ((at : Span) → IsPast limit (places (names_of name p)) at → ⊥) → length (filter_map pick p.decls) ≤ limit
+-- at most as many things as names
+pub within : {X : Type 0} (pick : Declaration → Option X) (name : Declaration → Option Ident) (of : X → Ident) → ((d : Declaration) → name d ≡ option_map of (pick d)) → (p : Program) (limit : ℕ) → ((at : Span) → IsPast limit (places (names_of name p)) at → ⊥) → length (filter_map pick p.decls) ≤ limit
 within pick name of h p limit none =
     let a = not_past limit (λ (i : Ident). i.at) (filter_map name p.decls) none in
     let b = kept_length pick name of h p.decls in
     omega arith
 
-topic_names : (d : Declaration) → topic_name d ≡ option_map (λ (t : Topic). t.name) (a_topic_of d)
+pub topic_names : (d : Declaration) → topic_name d ≡ option_map (λ (t : Topic). t.name) (a_topic_of d)
 topic_names (a_topic t) = refl
 topic_names (a_plant q) = refl
 topic_names (a_node n) = refl
 topic_names (a_module m) = refl
 
-plant_names : (d : Declaration) → plant_name d ≡ option_map (λ (q : Plant). q.name) (a_plant_of d)
+pub plant_names : (d : Declaration) → plant_name d ≡ option_map (λ (q : Plant). q.name) (a_plant_of d)
 plant_names (a_topic t) = refl
 plant_names (a_plant q) = refl
 plant_names (a_node n) = refl
 plant_names (a_module m) = refl
 
-node_names : (d : Declaration) → node_name d ≡ option_map (λ (n : Node). n.name) (a_node_of d)
+pub node_names : (d : Declaration) → node_name d ≡ option_map (λ (n : Node). n.name) (a_node_of d)
 node_names (a_topic t) = refl
 node_names (a_plant q) = refl
 node_names (a_node n) = refl
 node_names (a_module m) = refl
 
-module_names : (d : Declaration) → module_name d ≡ option_map (λ (m : Module). m.name) (a_module_of d)
+pub module_names : (d : Declaration) → module_name d ≡ option_map (λ (m : Module). m.name) (a_module_of d)
 module_names (a_topic t) = refl
 module_names (a_plant q) = refl
 module_names (a_node n) = refl

@@ -1,6 +1,6 @@
 -- The declarations of a program of the grammar in which no rule fails fit, and are few.
-use Rattle.std.proofs.Common.{◌≡◌, ◌∙◌, ℕ, suc, ◌+◌, ◌*◌, ◌<◌, ◌≤◌, List, [], ◌∷◌, length, map, sum_by, filter_map, Option, Some, None, is_some, true, false, refl, sym, ap, subst, inl, arith}
-use Rattle.std.specs.List.{All, cons_option}
+use Rattle.std.proofs.Common.{◌≡◌, ◌∙◌, ℕ, suc, ◌*◌, ◌<◌, ◌≤◌, List, [], ◌∷◌, length, map, sum_by, Option, Some, true, false, refl, sym, ap, subst, arith}
+use Rattle.std.specs.List.{All}
 use Rattle.std.proofs.lemmas.List.{length-map}
 use Rattle.std.proofs.lemmas.List.Sums.{sum_by-cons}
 use Rattle.std.proofs.lemmas.List.Elements.{All-nil, All-cons}
@@ -9,36 +9,32 @@ use Rattle.sot_box.specs.Lists.{At}
 use Rattle.sot_box.specs.Sides.{Side, AreOrdered}
 use Rattle.sot_text.specs.declared.token.Span.{Span}
 use Rattle.sot_lang.specs.Places.{Has}
-use Rattle.sot_lang.specs.declared.tree.Ident.{Ident}
 use Rattle.sot_lang.specs.declared.tree.Bounds.{Bounds}
 use Rattle.sot_lang.specs.declared.tree.Scalar.{Scalar}
 use Rattle.sot_lang.specs.declared.tree.Field.{Field}
 use Rattle.sot_lang.specs.declared.tree.StateDecl.{StateDecl}
 use Rattle.sot_lang.specs.Trees.{Form, one, fields, Topic, Plant, Node, Module, Area, Declaration, a_topic, a_plant, a_node, a_module, Program}
-use Rattle.sot_rules.specs.declared.fault.TypeFault.{TypeFault}
 use Rattle.sot_rules.specs.declared.fault.TypeKind.{TypeKind}
 use Rattle.sot_rules.specs.declared.fault.TypeKind.TheVariants.{Unknown, KindDiffers, TooMany}
-use Rattle.sot_rules.specs.Fails.{ScalarFails, scalar, many_fields, many_states, seen_unknown, seen_topic, noise_scalar, node_times, local_scalar, ac_unknown, sc_unknown, module_times, plant_unknown, plant_topic, safe, safer, many_topics, many_plants, many_nodes, many_modules, declaration}
+use Rattle.sot_rules.specs.Fails.{ScalarFails, scalar, many_fields, many_states, seen_unknown, seen_topic, noise_scalar, node_times, local_scalar, ac_unknown, sc_unknown, module_times, plant_unknown, plant_topic, safe, safer, many_topics, many_plants, many_nodes, many_modules}
 use Rattle.sot_rules.specs.First.{IsFaultless}
 use Rattle.sot_rules.specs.Formed.{IsFormed, IsDeclaration, IsForm, IsField, IsState, IsLocal, HasItem}
-use Rattle.sot_rules.specs.Faults.{declaration_faults}
+use Rattle.sot_rules.specs.Faults.{declaration_faults, program_lists, faults}
 use Rattle.sot_rules.specs.Lists.{IsPast, are_same, places}
 use Rattle.sot_rules.specs.Names.{declared_name, meaning, is_topic, is_plant, is_node}
 use Rattle.sot_rules.specs.Sorts.{state_sort}
-use Rattle.sot_rules.specs.Tests.{form_scalars, form_names, topic_name, plant_name, node_name, module_name, names_of, side_sorts}
-use Rattle.sot_rules.proofs.Members.{In}
-use Rattle.sot_rules.proofs.DeclarationFaults.{of_declaration}
+use Rattle.sot_rules.specs.Tests.{form_scalars, form_names, topic_name, plant_name, node_name, module_name, side_sorts}
 use Rattle.sot_typing.specs.Terms.{sort_scale}
 use Rattle.sot_typing.specs.Resolved.{a_topic_of, a_plant_of, a_node_of, a_module_of, topics, scalar_count, state_count, side_of}
 use Rattle.sot_typing.specs.Parts.{StateFits, FieldFits, LocalFits, FormFits, SideFits, AreaFits}
-use Rattle.sot_typing.specs.Numbers.{AreFew, nothing_counted}
+use Rattle.sot_typing.specs.Numbers.{FitLimits, nothing_counted}
 use Rattle.sot_typing.specs.Fits.{TopicIsOwn, PlantFits, NodeFits, ModuleFits, AllFit}
 use Rattle.sot_typing.proofs.Lists.{lt_at, at_map, at_kept, each_at}
 use Rattle.sot_typing.proofs.Declared.{of_find}
 use Rattle.sot_typing.proofs.Tests.{no_true, no_false}
-use Rattle.sot_typing.proofs.Once.{not_past}
 use Rattle.sot_typing.proofs.Meanings.{topic_own, topic_faultless, plant_faultless, node_faultless, module_faultless, a_plant_meant}
-use Rattle.sot_typing.proofs.Small.{no_faults, node_small, plant_small}
+use Rattle.sot_typing.proofs.DeclaredNames.{within, topic_names, plant_names, node_names, module_names}
+use Rattle.sot_typing.proofs.Small.{no_faults, nth_empty, each_empty, node_small, plant_small}
 use Rattle.sot_typing.proofs.Ranges.{scalar_is}
 use Rattle.sot_typing.proofs.Times.{times_are}
 use Rattle.sot_typing.proofs.Topics.{as_many}
@@ -50,12 +46,10 @@ all_has : {A : Type 0} (P : A → Type 0) (xs : List A) → ((x : A) → Has xs 
 all_has P xs h k d lt = (let r = lt_at xs k lt in subst P (sym (get_or_from_slice_get xs k r.0 d r.1)) (h r.0 (k, r.1)))
 
 -- no fault is listed of a declaration
-none_listed : (xs : List TypeFault) → ((f : TypeFault) → In f xs → ⊥) → xs ≡ []
-none_listed [] h = refl
-none_listed (x ∷ xs) h = absurd (h x (inl refl))
-
 none_of : (p : Program) → IsFaultless p → (d : Declaration) → Has p.decls d → declaration_faults p d ≡ []
-none_of p f d has = none_listed (declaration_faults p d) (λ x h. f x.at x.kind (declaration has (of_declaration p d x.at x.kind h)))
+none_of p f d has =
+    each_at (λ d. declaration_faults p d ≡ []) p.decls has.0 d
+    (each_empty (declaration_faults p) p.decls (nth_empty (program_lists p) 5 (unfold faults in no_faults p f))) has.1
 
 -- topics
 shape_fits : (s : Form) → IsForm s → ((x : Scalar) (at : Span) (k : TypeKind) → Has (form_scalars s) x → ScalarFails true x at k → ⊥) → FormFits s
@@ -89,48 +83,7 @@ some_states : {A : Type 0} (xs : List A) → HasItem xs → 0 < length xs
 some_states [] h = absurd h
 some_states (x ∷ xs) h = omega arith
 
--- counts
-as_many_names : {X : Type 0} (pick : Declaration → Option X) (name : Declaration → Option Ident) → ((d : Declaration) → is_some (name d) ≡ is_some (pick d)) → (ds : List Declaration) → length (filter_map pick ds) ≡ length (filter_map name ds)
-as_many_names pick name same [] = refl
-as_many_names {X = X} pick name same (d ∷ ds) = by (pick d) (name d) (same d) (as_many_names pick name same ds)
-  where
-    by : (o : Option X) (n : Option Ident) → is_some n ≡ is_some o → length (filter_map pick ds) ≡ length (filter_map name ds) → length (cons_option o (filter_map pick ds)) ≡ length (cons_option n (filter_map name ds))
-    by None None e h = h
-    by (Some x) (Some i) e h = ap suc h
-    by None (Some i) e h = cc
-    by (Some x) None e h = cc
-
--- at most as many of a sort as the limit on their names says
-within : {X : Type 0} (pick : Declaration → Option X) (name : Declaration → Option Ident) → ((d : Declaration) → is_some (name d) ≡ is_some (pick d)) → (p : Program) (limit : ℕ) → ((at : Span) → IsPast limit (places (names_of name p)) at → ⊥) → 0 + length (filter_map pick p.decls) ≤ limit
-within pick name same p limit none =
-    let a = not_past limit (λ (i : Ident). i.at) (names_of name p) none in
-    let b = as_many_names pick name same p.decls in
-    omega arith
-
-topics_alike : (d : Declaration) → is_some (topic_name d) ≡ is_some (a_topic_of d)
-topics_alike (a_topic t) = refl
-topics_alike (a_plant q) = refl
-topics_alike (a_node n) = refl
-topics_alike (a_module m) = refl
-
-plants_alike : (d : Declaration) → is_some (plant_name d) ≡ is_some (a_plant_of d)
-plants_alike (a_topic t) = refl
-plants_alike (a_plant q) = refl
-plants_alike (a_node n) = refl
-plants_alike (a_module m) = refl
-
-nodes_alike : (d : Declaration) → is_some (node_name d) ≡ is_some (a_node_of d)
-nodes_alike (a_topic t) = refl
-nodes_alike (a_plant q) = refl
-nodes_alike (a_node n) = refl
-nodes_alike (a_module m) = refl
-
-modules_alike : (d : Declaration) → is_some (module_name d) ≡ is_some (a_module_of d)
-modules_alike (a_topic t) = refl
-modules_alike (a_plant q) = refl
-modules_alike (a_node n) = refl
-modules_alike (a_module m) = refl
-
+-- how many scalars topics have
 few_each : (ts : List Topic) → ((j : ℕ) (t : Topic) → At ts j t → scalar_count t ≤ 8) → sum_by scalar_count ts ≤ 8 * length ts
 few_each [] h = omega arith
 few_each (t ∷ ts) h =
@@ -236,16 +189,19 @@ module _ (p : Program) (formed : IsFormed p) (f : IsFaultless p) where
         safer = subst (λ n. All (AreaFits n) m.safer) (sym counted) (areas_fit _ m.safer (region m.safer _ sorts (λ at kind h. none at kind (safer h))));
       }
 
-  pub are_few : AreFew nothing_counted p.decls
+  pub are_few : FitLimits nothing_counted p.decls
   are_few =
-      let few_topics = within a_topic_of topic_name topics_alike p 512 (λ at h. f at TooMany (many_topics h)) in
+      let few_topics = within a_topic_of topic_name (λ (t : Topic). t.name) topic_names p 512 (λ at h. f at TooMany (many_topics h)) in
+      let few_plants = within a_plant_of plant_name (λ (q : Plant). q.name) plant_names p 100 (λ at h. f at TooMany (many_plants h)) in
+      let few_nodes = within a_node_of node_name (λ (n : Node). n.name) node_names p 300 (λ at h. f at TooMany (many_nodes h)) in
+      let few_modules = within a_module_of module_name (λ (m : Module). m.name) module_names p 100 (λ at h. f at TooMany (many_modules h)) in
       let sum = few_each (topics p) topic_few in
       record {
-        topics = few_topics;
+        topics = omega (arith, few_topics);
         scalars = omega (arith, sum, few_topics);
-        plants = within a_plant_of plant_name plants_alike p 100 (λ at h. f at TooMany (many_plants h));
-        nodes = within a_node_of node_name nodes_alike p 300 (λ at h. f at TooMany (many_nodes h));
-        modules = within a_module_of module_name modules_alike p 100 (λ at h. f at TooMany (many_modules h));
+        plants = omega (arith, few_plants);
+        nodes = omega (arith, few_nodes);
+        modules = omega (arith, few_modules);
       }
 
   pub all_fit : AllFit p

@@ -20,7 +20,7 @@ use Rattle.sot_rules.specs.Lists.{are_same}
 use Rattle.sot_typing.specs.declared.numbers.Number.{Number}
 use Rattle.sot_typing.specs.declared.numbers.Counts.{Counts}
 use Rattle.sot_typing.specs.Resolved.{a_topic_of, a_plant_of, a_node_of, a_module_of, scalar_count, topic_place, first_scalar}
-use Rattle.sot_typing.specs.Numbers.{counted, numbered, numbers_from, nothing_counted, AreFew, HasRoom, scalars_in}
+use Rattle.sot_typing.specs.Numbers.{counted, numbered, numbers_from, nothing_counted, FitLimits, HasRoom, scalars_in}
 use Rattle.sot_typing.specs.Meant.{AreNumbers, IsMeant, number_meant}
 use Rattle.sot_typing.proofs.Counting.{room, few_left}
 
@@ -30,7 +30,7 @@ numbers_at c [] k d at = cc
 numbers_at c (x ∷ ds) zero d at = (let e : x ≡ d = cc in ap (λ z. Some (numbered c z)) e)
 numbers_at c (x ∷ ds) (suc k) d at = numbers_at (counted c x) ds k d at
 
-pub room_at : (c : Counts) (ds : List Declaration) (k : ℕ) (d : Declaration) → AreFew c ds → At ds k d → HasRoom (fold counted c (take k ds)) d
+pub room_at : (c : Counts) (ds : List Declaration) (k : ℕ) (d : Declaration) → FitLimits c ds → At ds k d → HasRoom (fold counted c (take k ds)) d
 room_at c [] k d few at = cc
 room_at c (x ∷ ds) zero d few at = (let e : x ≡ d = cc in subst (HasRoom c) e (room c x ds few))
 room_at c (x ∷ ds) (suc k) d few at = room_at (counted c x) ds k d (few_left c x ds few) at

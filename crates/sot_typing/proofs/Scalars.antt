@@ -1,15 +1,15 @@
 -- Scalars of topics, field by field.
-use Rattle.std.proofs.Common.{◌≡◌, ◌∙◌, ℕ, ◌+◌, ◌<◌, List, [], ◌∷◌, ◌++◌, length, get_or, drop, map, Some, Bool, true, false, refl, sym, ap, append_assoc}
+use Rattle.std.proofs.Common.{◌≡◌, ◌∙◌, ℕ, ◌+◌, ◌<◌, List, [], ◌∷◌, ◌++◌, length, get_or, drop, map, Some, false, refl, sym, ap, append_assoc}
 use Rattle.std.specs.Prelude.{zip}
 use Rattle.std.proofs.lemmas.List.{drop_more}
 use Rattle.std.proofs.lemmas.Option.{slice_get_within, get_or_from_slice_get}
 use Rattle.sot_box.specs.Lists.{At}
 use Rattle.sot_lang.specs.declared.tree.Const.{Const}
 use Rattle.sot_lang.specs.declared.tree.Field.{Field}
-use Rattle.sot_lang.specs.declared.tree.Scalar.{Scalar}
 use Rattle.sot_lang.specs.declared.tables.ScalarInfo.{ScalarInfo}
 use Rattle.sot_lang.specs.Trees.{Topic, fields}
-use Rattle.sot_rules.specs.Tests.{counts_differ, starts, form_scalars, start_values}
+use Rattle.sot_rules.specs.Tests.{counts_differ, form_scalars, start_values}
+use Rattle.sot_typing.proofs.Topics.{starts_are}
 use Rattle.sot_rules.proofs.Loops.{rest_is}
 use Rattle.sot_typing.specs.Resolved.{scalar_info, field_names}
 use Rattle.sot_typing.specs.Parts.{field_scalars, scalars_at}
@@ -33,13 +33,6 @@ pub fields_are : (topic : ℕ) (fs : List Field) (cs : List Const) → field_sca
 fields_are topic [] cs = refl
 fields_are topic (f ∷ fs) [] = refl
 fields_are topic (f ∷ fs) (c ∷ cs) = ap (λ z. scalar_info topic (Some f.name.name) f.scalar c ∷ z) (fields_are topic fs cs)
-
-starts_by : (b : Bool) (xs : List (Scalar × Const)) → b ≡ false → (elim b as (λ x. List (Scalar × Const)) [ true ↦ [] | false ↦ xs ]) ≡ xs
-starts_by false xs e = refl
-starts_by true xs e = cc
-
-starts_are : (t : Topic) → counts_differ t ≡ false → starts t ≡ zip (form_scalars t.shape) (start_values t.init)
-starts_are t e = starts_by (counts_differ t) _ e
 
 -- the scalars of a topic that is a record
 pub record_scalars : (topic : ℕ) (t : Topic) (fs : List Field) → t.shape ≡ fields fs → counts_differ t ≡ false → field_scalars topic fs (start_values t.init) ≡ scalars_at topic t

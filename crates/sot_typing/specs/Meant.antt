@@ -10,13 +10,13 @@ use Rattle.sot_rules.specs.Lists.{are_same}
 use Rattle.sot_rules.specs.Names.{meaning}
 use Rattle.sot_typing.specs.declared.numbers.Number.{Number}
 use Rattle.sot_typing.specs.Resolved.{modules, topic_place, plant_place, node_place, first_scalar}
-use Rattle.sot_typing.specs.Numbers.{AreFew, nothing_counted, numbers_of, scalars_in}
+use Rattle.sot_typing.specs.Numbers.{FitLimits, nothing_counted, numbers_of, scalars_in}
 
 -- the index holds its program, the numbers are those of its declarations, and nothing is more than may be
 pub record AreNumbers (x : Index) (numbers : List Number) : Type 0 where
   pub index : IsIndex x
   pub are : numbers ≡ numbers_of (program_in x).decls
-  pub few : AreFew nothing_counted (program_in x).decls
+  pub few : FitLimits nothing_counted (program_in x).decls
   pub narrow : (k : ℕ) (q : Plant) → At (program_in x).decls k (a_plant q) → length q.states ≤ 4
 
 -- the number of a name that means this declaration

@@ -31,7 +31,7 @@ abbrev pub numbers_of : List Declaration → List Number
 numbers_of ds = numbers_from nothing_counted ds
 
 -- with these, nothing is more than a program without faults may have
-pub record AreFew (c : Counts) (ds : List Declaration) : Type 0 where
+pub record FitLimits (c : Counts) (ds : List Declaration) : Type 0 where
   pub topics : c.topics + length (filter_map a_topic_of ds) ≤ 512
   pub scalars : c.scalars + sum_by scalar_count (filter_map a_topic_of ds) ≤ 4096
   pub plants : c.plants + length (filter_map a_plant_of ds) ≤ 100

@@ -1,5 +1,5 @@
 -- The names of an owner, as the code keeps them.
-use Rattle.std.specs.Prelude.{◌≤◌, List, map, length}
+use Rattle.std.specs.Prelude.{◌≤◌, List, map, length, Option}
 use Rattle.sot_lang.specs.declared.tree.Ident.{Ident}
 use Rattle.sot_rules.specs.Names.{Parts, alone, several, Thing, field_part, state_part, reading, reading_sort}
 use Rattle.sot_typing.specs.declared.things.Parts.{Parts as KeptParts}
@@ -21,4 +21,4 @@ things_in xs = map thing_in xs
 -- an owner has at most 80 numbers, and each that is named has at most 6 decimals
 pub record AreFew (things : List Thing) : Type 0 where
   pub count : length (references things) ≤ 80
-  pub decimals : (first : Ident) (field : _) → sort_scale (reading_sort (reading things first field)) ≤ 6
+  pub decimals : (first : Ident) (field : Option Ident) → sort_scale (reading_sort (reading things first field)) ≤ 6

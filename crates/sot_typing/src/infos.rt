@@ -6,10 +6,10 @@ ghost use Rattle.sot_typing.specs.Meant.{AreNumbers};
 ghost use Rattle.sot_typing.specs.Fits.{PlantFits, NodeFits, ModuleFits};
 
 use crate::bodies::{node_body, plant_next};
+use crate::name::copied;
 use crate::numbers::Number;
 use crate::part::{local_infos, noise_infos, state_infos};
 use crate::places::{node_number, plant_number, plant_numbers, scalars_meant, slots_meant};
-use crate::range::copied;
 use crate::region::region;
 use sot_lang::{
     Decl, Ident, Lit, ModuleDecl, ModuleInfo, NodeDecl, NodeInfo, PlantDecl, PlantInfo,

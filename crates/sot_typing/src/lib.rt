@@ -7,6 +7,7 @@ mod facts;
 mod infos;
 mod laws;
 mod meant;
+mod name;
 mod naming;
 mod numbers;
 mod part;

@@ -8,22 +8,22 @@ use crate::numbers::Number;
 use sot_lang::{Decl, Ident};
 use sot_rules::Index;
 
-/// What a name means, with its number.
+/// A declaration with its number.
 #[derive(Clone, Copy)]
-pub struct Meant<'x> {
+pub struct Numbered<'x> {
     pub decl: &'x Decl,
     pub number: Number,
 }
 
 /// What a name means: its first declaration.
-pub fn look_up<'x>(index: &'x Index, numbers: &[Number], name: &Ident) -> Option<Meant<'x>>
+pub fn look_up<'x>(index: &'x Index, numbers: &[Number], name: &Ident) -> Option<Numbered<'x>>
     requires { AreNumbers index.now numbers.now }
     ensures { MatchOption result (meaning (program_in index.now) name.now ≡ None)
         (λ m. IsMeant (program_in index.now) name.now (declaration_view m.decl.now) m.number) }
 {
     let place = index.place(name)?;
     let decls: &'x [Decl] = index.decls;
-    Some(Meant {
+    Some(Numbered {
         decl: &decls[place],
         number: numbers[place],
     })

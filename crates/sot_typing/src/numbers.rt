@@ -1,6 +1,6 @@
 ghost use Rattle.std.specs.Prelude.{◌≡◌, [], map, IfOk};
 ghost use Rattle.sot_lang.specs.TreeViews.{declaration_view};
-ghost use Rattle.sot_typing.specs.Numbers.{AreFew, HasRoom, counted, nothing_counted, numbered, numbers_of};
+ghost use Rattle.sot_typing.specs.Numbers.{FitLimits, HasRoom, counted, nothing_counted, numbered, numbers_of};
 
 use crate::topic::shape_len;
 use sot_lang::Decl;
@@ -59,7 +59,7 @@ fn count(counts: &mut Counts, d: &Decl) -> Number
 
 /// The numbers of these declarations, beside them.
 pub fn numbers(alloc: Global, decls: &[Decl]) -> Result<Vec<Number>, AllocError>
-    requires { AreFew nothing_counted (map declaration_view decls.now) }
+    requires { FitLimits nothing_counted (map declaration_view decls.now) }
     ensures { IfOk result (λ v. v.items ≡ numbers_of (map declaration_view decls.now)) }
 {
     let mut counts = Counts {

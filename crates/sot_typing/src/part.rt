@@ -4,7 +4,8 @@ ghost use Rattle.sot_lang.specs.TreeViews.{local_view};
 ghost use Rattle.sot_typing.specs.Resolved.{state_info, noise_info, local_info};
 ghost use Rattle.sot_typing.specs.Parts.{StateFits, FieldFits, LocalFits};
 
-use crate::range::{const_number, copied, greatest, is_truth, lowest, scalar_scale, state_scale};
+use crate::name::copied;
+use crate::range::{const_number, greatest, is_truth, lowest, scalar_scale, state_scale};
 use sot_lang::{Field, LocalDecl, LocalInfo, NoiseInfo, StateDecl, StateInfo};
 use std::alloc::{AllocError, Global};
 

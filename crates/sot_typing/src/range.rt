@@ -1,19 +1,9 @@
-ghost use Rattle.std.specs.Prelude.{◌≡◌, ◌≤◌, IfOk};
+ghost use Rattle.std.specs.Prelude.{◌≡◌, ◌≤◌};
 ghost use Rattle.sot_rules.specs.Sorts.{scale_sort, state_sort, scalar_sort};
 ghost use Rattle.sot_typing.specs.Terms.{sort_scale, truth_number};
 ghost use Rattle.sot_typing.specs.Resolved.{lowest, greatest, const_number, scalar_scale, is_truth};
-ghost use Rattle.sot_rules.specs.Formed.{IsName};
 
-use sot_lang::{Const, Ident, Lit, Name, Scalar, StateDecl};
-use std::alloc::{AllocError, Global};
-
-/// A copy of a name.
-pub fn copied(alloc: Global, name: &Ident) -> Result<Name, AllocError>
-    requires { IsName name.now }
-    ensures { IfOk result (λ n. n ≡ name.now.name) }
-{
-    Name::from_bytes(alloc, name.name.as_bytes())
-}
+use sot_lang::{Const, Lit, Scalar, StateDecl};
 
 // A written count of decimals.
 fn written(d: Lit) -> u8

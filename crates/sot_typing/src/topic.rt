@@ -5,7 +5,8 @@ ghost use Rattle.sot_rules.specs.Tests.{form_scalars, start_values};
 ghost use Rattle.sot_typing.specs.Resolved.{scalar_count, scalar_info, scalar_scale};
 ghost use Rattle.sot_typing.specs.Parts.{FieldFits, TopicFits, field_scalars, scalars_at};
 
-use crate::range::{const_number, copied, greatest, is_truth, lowest, scalar_scale};
+use crate::name::copied;
+use crate::range::{const_number, greatest, is_truth, lowest, scalar_scale};
 use sot_lang::{Const, Field, Init, Scalar, ScalarInfo, Shape, TopicDecl, TopicInfo};
 use std::alloc::{AllocError, Global};
 

@@ -4,7 +4,7 @@ use Rattle.sot_lang.specs.declared.tree.Decl.{Decl}
 use Rattle.sot_lang.specs.Trees.{Plant, a_plant, Program}
 use Rattle.sot_lang.specs.TreeViews.{declaration_view, program_view}
 use Rattle.sot_typing.specs.Resolved.{AreTables}
-use Rattle.sot_typing.specs.Numbers.{AreFew, nothing_counted, numbers_of}
+use Rattle.sot_typing.specs.Numbers.{FitLimits, nothing_counted, numbers_of}
 use Rattle.sot_typing.specs.Fits.{AllFit}
 use Rattle.sot_typing.specs.Drafted.{lists_of}
 use Rattle.sot_typing.proofs.Fitting.{are_few, all_fit, plant_narrow}
@@ -13,7 +13,7 @@ use Rattle.sot_typing.proofs.program.faultless_tables.Goals as goal
 
 pub numbers-requires : goal.numbers-requires
 numbers-requires c =
-    subst (λ (ds : List Decl). AreFew nothing_counted (map declaration_view ds)) (sym c.deref.ensures.value)
+    subst (λ (ds : List Decl). FitLimits nothing_counted (map declaration_view ds)) (sym c.deref.ensures.value)
     (are_few (program_view c.args.program.now) c.requires.formed c.requires.faultless)
 
 pub all_tables-requires-clause-numbers : goal.all_tables-requires-clause-numbers
@@ -23,7 +23,7 @@ all_tables-requires-clause-numbers c =
     record {
       index = c.in_ok-index.ensures.holds;
       are = c.deref-2.ensures.value ∙ c.in_ok-numbers.ensures ∙ ap (λ (ds : List Decl). numbers_of (map declaration_view ds)) c.deref.ensures.value ∙ ap (λ (z : Program). numbers_of z.decls) same;
-      few = subst (λ (z : Program). AreFew nothing_counted z.decls) same (are_few p c.requires.formed c.requires.faultless);
+      few = subst (λ (z : Program). FitLimits nothing_counted z.decls) same (are_few p c.requires.formed c.requires.faultless);
       narrow = subst (λ (z : Program). (k : ℕ) (q : Plant) → At z.decls k (a_plant q) → length q.states ≤ 4) same (plant_narrow p c.requires.formed c.requires.faultless);
     }
 
