@@ -2,7 +2,7 @@
 use Rattle.std.proofs.Common.{◌≡◌, ℕ, zero, suc, ℤ, pos, negsuc, ◌≤ℤ◌, ◌<ℤ◌, inl, inr, List, [], ◌∷◌, Option, Some, None, arith, refl, ap}
 use Rattle.std.proofs.lemmas.Int.{ints, by_lt_z}
 use Rattle.sot_box.specs.Sides.{Side}
-use Rattle.sot_box.specs.Lists.{At}
+use Rattle.sot_lists.specs.Places.{At}
 use Rattle.sot_box.specs.Boxes.{IsWithin, IsBefore, lows, highs, point_box}
 use Rattle.sot_box.specs.Regions.{IsInRegion, Covers, IsGap, IsFirstGap, IsHull}
 use Rattle.sot_box.proofs.Laws.{gap_uncovered}

@@ -7,3 +7,4 @@ pub mod Equals
 pub mod Laws
 pub mod Examples
 pub mod Ordered
+pub mod Ranges

@@ -6,7 +6,7 @@ use Rattle.std.proofs.lemmas.Bool.{cases_lt, cases_eq, cases_order}
 use lib.Signed.{≤ℤ_refl}
 use Rattle.std.proofs.Math.ListN.{set, length-set}
 use Rattle.sot_box.specs.Sides.{Side}
-use Rattle.sot_box.specs.Lists.{At}
+use Rattle.sot_lists.specs.Places.{At}
 use Rattle.sot_box.specs.Boxes.{IsWithin, IsBefore, lows, highs}
 use Rattle.sot_box.specs.Regions.{IsInRegion, Covers, IsGap}
 use Rattle.sot_box.specs.Sweep.{HoldsAt, coordinate, IsAlong, AreCorners, IsSlab, IsPassed, IsSwept, IsNarrowed}

@@ -4,7 +4,7 @@ use Rattle.std.proofs.lemmas.List.{take_more_set, take_more, length-map}
 use Rattle.std.proofs.Math.ListN.{set}
 use Rattle.std.proofs.lemmas.Option.{slice_get_read}
 use Rattle.sot_box.specs.Sides.{Side, AreOrdered}
-use Rattle.sot_box.specs.Lists.{At}
+use Rattle.sot_lists.specs.Places.{At}
 use Rattle.sot_box.specs.Boxes.{IsWithin, IsBefore, lows, highs}
 use Rattle.sot_box.specs.Regions.{IsInRegion, Covers, CoversAll, IsGap, IsFirstGap}
 use Rattle.sot_box.specs.Sweep.{HoldsAt, coordinate}

@@ -1,6 +1,5 @@
 -- what the public contracts say
 pub mod Sides
-pub mod Lists
 pub mod Boxes
 pub mod Regions
 pub mod BoxList

@@ -1,7 +1,7 @@
 -- Regions, which are lists of boxes: what they cover, their gaps and their hulls.
 use Rattle.std.specs.Prelude.{ℕ, ℤ, ◌⊎◌, List, [], ◌∷◌}
 use Rattle.sot_box.specs.Sides.{Side}
-use Rattle.sot_box.specs.Lists.{At}
+use Rattle.sot_lists.specs.Places.{At}
 use Rattle.sot_box.specs.Boxes.{IsWithin, IsBefore}
 
 -- a point is in a region where it is in some box

@@ -17,14 +17,14 @@ pub struct Region {
 }
 
 impl Model for Region {
-    ghost use Rattle.std.specs.Prelude.{◌≡◌, length};
+    ghost use Rattle.std.specs.Prelude.{◌≡◌, length, false};
     ghost use Rattle.std.specs.List.{All};
     ghost use Rattle.sot_box.specs.Sides.{AreOrdered};
     ghost use Rattle.sot_box.specs.BoxList.{BoxList};
 
     ghost Value = { BoxList };
 
-    ghost view = { λ r. record { width = r.width; boxes = r.boxes.items } };
+    ghost view = { λ r. record { width = r.width; boxes = r.boxes.items; settled = false } };
 
     ghost invariant = { λ r. All (λ b. (length b ≡ r.width) × AreOrdered b) r.boxes.items };
 }

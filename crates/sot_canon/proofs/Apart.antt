@@ -1,7 +1,7 @@
 -- What two programs that are the same agree in.
 use Rattle.std.proofs.Common.{◌≡◌, ℕ, ℤ, pos, int_lt, List, [], ◌∷◌, get_or, ap}
-use Rattle.sot_lang.specs.declared.tree.Lit.{Lit}
-use Rattle.sot_lang.specs.Trees.{Declaration, a_topic, a_plant, a_node, a_module, Program}
+use Rattle.sot_tree.specs.declared.tree.Lit.{Lit}
+use Rattle.sot_tree.specs.Trees.{Declaration, a_topic, a_plant, a_node, a_module, Program}
 use Rattle.sot_canon.specs.Unplaced.{nowhere, AreSame}
 use Rattle.sot_canon.specs.Examples.{literal}
 

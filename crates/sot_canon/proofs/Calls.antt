@@ -4,10 +4,10 @@ use Rattle.std.proofs.lemmas.Int.{clamps}
 use Rattle.std.proofs.lemmas.List.{append-nil}
 use Rattle.sot_text.specs.declared.token.Kind.TheVariants.{Keyword as KeywordKind}
 use Rattle.sot_text.specs.Reading.{Lexeme}
-use Rattle.sot_lang.specs.declared.operator.Func.{Func}
-use Rattle.sot_lang.specs.declared.operator.Func.TheVariants.{Min, Max, Abs, Clamp}
-use Rattle.sot_lang.specs.declared.tree.Lit.{Lit}
-use Rattle.sot_lang.specs.Trees.{Tree, called, rescaled, no_tree, one_more}
+use Rattle.sot_tree.specs.declared.operator.Func.{Func}
+use Rattle.sot_tree.specs.declared.operator.Func.TheVariants.{Min, Max, Abs, Clamp}
+use Rattle.sot_tree.specs.declared.tree.Lit.{Lit}
+use Rattle.sot_tree.specs.Trees.{Tree, called, rescaled, no_tree, one_more}
 use Rattle.sot_parser.specs.Lexemes.{IsNumber, literal}
 use Rattle.sot_parser.specs.Phrases.{Phrase, an_abs, a_pair, a_clamp, a_rescale, spelled, IsPairWord, tree_of}
 use Rattle.sot_print.specs.declared.gap.Gap.{Gap}

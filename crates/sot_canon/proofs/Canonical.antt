@@ -3,7 +3,7 @@ use Rattle.std.proofs.Common.{◌≡◌, ℕ, ◌≤◌, List, [], true, Option,
 use Rattle.sot_text.specs.Reading.{Lexeme}
 use Rattle.sot_text.specs.Ahead.{Ahead, Comes}
 use Rattle.sot_text.specs.declared.token.LexFault.{LexFault}
-use Rattle.sot_lang.specs.Trees.{Program, Declaration}
+use Rattle.sot_tree.specs.Trees.{Program, Declaration}
 use Rattle.sot_parser.specs.Declarations.{DeclarationForm}
 use Rattle.sot_parser.specs.Programs.{spelled_program, program_of, program_levels, Spells}
 use Rattle.sot_parser.proofs.ProgramTexts.{spells_unique}

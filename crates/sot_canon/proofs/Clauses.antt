@@ -3,12 +3,12 @@ use Rattle.std.proofs.Common.{ℕ, List, [], ◌∷◌, ◌++◌, Option, Some, 
 use Rattle.std.specs.Option.{option_map}
 use Rattle.std.proofs.Math.Nat.{le_refl}
 use Rattle.sot_text.specs.Reading.{Lexeme}
-use Rattle.sot_lang.specs.declared.tree.Ident.{Ident}
-use Rattle.sot_lang.specs.declared.tree.Lit.{Lit}
-use Rattle.sot_lang.specs.declared.tree.Scalar.{Scalar}
-use Rattle.sot_lang.specs.declared.tree.Const.{Const}
-use Rattle.sot_lang.specs.declared.tree.StateDecl.{StateDecl}
-use Rattle.sot_lang.specs.Trees.{Tree, Form, one, fields, Start, one_value, values, Next, Local}
+use Rattle.sot_tree.specs.declared.tree.Ident.{Ident}
+use Rattle.sot_tree.specs.declared.tree.Lit.{Lit}
+use Rattle.sot_tree.specs.declared.tree.Scalar.{Scalar}
+use Rattle.sot_tree.specs.declared.tree.Const.{Const}
+use Rattle.sot_tree.specs.declared.tree.StateDecl.{StateDecl}
+use Rattle.sot_tree.specs.Trees.{Tree, Form, one, fields, Start, one_value, values, Next, Local}
 use Rattle.sot_parser.specs.Pieces.{Sign, number_of, spelled_number, Separated, spelled_separated, separated_of, spelled_scalar, scalar_of, FieldForm, spelled_field, field_of, ConstForm, spelled_const, const_of, RoleForm, spelled_role, role_of, TimingForm, spelled_timing, timing_of}
 use Rattle.sot_parser.specs.Statements.{spelled_expression, expression_of}
 use Rattle.sot_parser.specs.Declarations.{ShapeForm, one_scalar, a_record, spelled_shape, shape_of, InitForm, one_const, consts, spelled_init, init_of, ScaleForm, whole, scaled, spelled_scale, scale_of, StateForm, spelled_state, state_of, NextForm, spelled_next, next_of, next_levels, LocalForm, spelled_local, local_of}

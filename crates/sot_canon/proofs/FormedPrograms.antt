@@ -1,12 +1,12 @@
 -- Declarations and programs: what a text spells is formed.
 use Rattle.std.proofs.Common.{ℕ, List, [], ◌∷◌, Option, None, Some, codes, refl, sym, subst}
 use Rattle.sot_text.specs.Reading.{Lexeme}
-use Rattle.sot_lang.specs.Trees.{Program}
+use Rattle.sot_tree.specs.Trees.{Program}
 use Rattle.sot_parser.specs.Pieces.{Keyword, Named, spelled_name, name_of, each, maybe, ClauseForm, clause_or_none, spelled_clause, spelled_const, spelled_field, field_of, const_of, spelled_side, side_of, spelled_timing, spelled_role}
 use Rattle.sot_parser.specs.Statements.{spelled_block}
 use Rattle.sot_parser.specs.Declarations.{one_scalar, a_record, spelled_shape, shape_of, one_const, consts, spelled_init, init_of, spelled_outside, spelled_topic, topic_of, whole, scaled, spelled_scale, scale_of, spelled_state, state_of, spelled_next, next_of, spelled_names, spelled_plant, plant_of, spelled_local, local_of, spelled_coded, coded_of, spelled_external, external_of, spelled_box, box_of, no_box, some_boxes, spelled_region, region_of, BoundForm, spelled_bound, bound_of, spelled_module, module_of, DeclarationForm, a_topic, a_plant, a_coded, an_external, a_module, spelled_declaration, declaration_of}
 use Rattle.sot_parser.specs.Programs.{spelled_program, program_of, Spells}
-use Rattle.sot_rules.specs.Formed as formed
+use Rattle.sot_tree.specs.Formed as formed
 use Rattle.sot_canon.proofs.Texts.{AreTexts, lexes_texts}
 use Rattle.sot_canon.proofs.Leaves.{name_text}
 use Rattle.sot_canon.proofs.FormedParts.{Makes, separated_make, rows_make, clause_make, optional_make, names_make, role_make, timing_make, sides_make, fixes_make, scalars_make, fields_make, consts_make}

@@ -8,14 +8,14 @@ use Rattle.sot_text.specs.declared.token.Kind.TheVariants.{Name, Number}
 use Rattle.sot_text.specs.Lexeme.{decimals_of, mantissa_of, IsTokenText}
 use Rattle.sot_text.specs.Reading.{Lexeme}
 use Rattle.sot_text.proofs.Limits.{token_fits}
-use Rattle.sot_lang.specs.declared.tree.Ident.{Ident}
-use Rattle.sot_lang.specs.declared.tree.Lit.{Lit}
-use Rattle.sot_lang.specs.declared.tree.Bounds.{Bounds}
-use Rattle.sot_lang.specs.declared.tree.Scalar.{Scalar}
-use Rattle.sot_lang.specs.declared.tree.Scalar.TheVariants.{Int, Fix}
-use Rattle.sot_lang.specs.declared.tree.Field.{Field}
-use Rattle.sot_lang.specs.declared.tree.Const.{Const}
-use Rattle.sot_lang.specs.declared.tree.Const.TheVariants.{Number as Numeral}
+use Rattle.sot_tree.specs.declared.tree.Ident.{Ident}
+use Rattle.sot_tree.specs.declared.tree.Lit.{Lit}
+use Rattle.sot_tree.specs.declared.tree.Bounds.{Bounds}
+use Rattle.sot_tree.specs.declared.tree.Scalar.{Scalar}
+use Rattle.sot_tree.specs.declared.tree.Scalar.TheVariants.{Int, Fix}
+use Rattle.sot_tree.specs.declared.tree.Field.{Field}
+use Rattle.sot_tree.specs.declared.tree.Const.{Const}
+use Rattle.sot_tree.specs.declared.tree.Const.TheVariants.{Number as Numeral}
 use Rattle.sot_parser.specs.Lexemes.{IsNumber, IsName, literal, negative_literal}
 use Rattle.sot_parser.specs.Pieces.{Sign, Named, Digits, spelled_name, spelled_number, name_of, number_of, LiteralForm, plain, negative, spelled_literal, literal_of, SideForm, spelled_side, side_of, RangeForm, spelled_range, range_of, FixForm, spelled_fix, fix_of, ScalarForm, an_int, a_fix, a_bool, spelled_scalar, scalar_of, FieldForm, spelled_field, field_of, ConstForm, a_literal, a_yes, a_no, spelled_const, const_of}
 use Rattle.sot_print.specs.declared.gap.Gap.{Gap}

@@ -2,9 +2,9 @@
 use Rattle.std.proofs.Common.{List, ◌∷◌, ◌++◌, codes, ap₂, ◌∙◌}
 use Rattle.std.proofs.Math.Nat.{le_refl}
 use Rattle.sot_text.specs.Reading.{Lexeme}
-use Rattle.sot_lang.specs.declared.tree.Ident.{Ident}
-use Rattle.sot_lang.specs.declared.tree.Lit.{Lit}
-use Rattle.sot_lang.specs.Trees.{Area, Module}
+use Rattle.sot_tree.specs.declared.tree.Ident.{Ident}
+use Rattle.sot_tree.specs.declared.tree.Lit.{Lit}
+use Rattle.sot_tree.specs.Trees.{Area, Module}
 use Rattle.sot_parser.specs.Pieces.{spelled_role, spelled_timing}
 use Rattle.sot_parser.specs.Declarations.{spelled_bound, ModuleForm, spelled_module, module_of}
 use Rattle.sot_print.specs.declared.gap.Gap.{Gap}

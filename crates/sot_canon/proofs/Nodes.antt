@@ -2,9 +2,9 @@
 use Rattle.std.proofs.Common.{ℕ, List, [], ◌∷◌, ◌++◌, map, Option, None, Some, codes, sym, ap, ap₂, subst, ◌∙◌}
 use Rattle.std.proofs.Math.Nat.{le_refl}
 use Rattle.sot_text.specs.Reading.{Lexeme}
-use Rattle.sot_lang.specs.declared.tree.Ident.{Ident}
-use Rattle.sot_lang.specs.declared.tree.Lit.{Lit}
-use Rattle.sot_lang.specs.Trees.{Block, Local, Node}
+use Rattle.sot_tree.specs.declared.tree.Ident.{Ident}
+use Rattle.sot_tree.specs.declared.tree.Lit.{Lit}
+use Rattle.sot_tree.specs.Trees.{Block, Local, Node}
 use Rattle.sot_parser.specs.Pieces.{Keyword, Sign, Named, name_of, each, ClauseForm, clause_or_none, TimingForm, spelled_timing, timing_of}
 use Rattle.sot_parser.specs.Statements.{spelled_block, block_of, block_levels}
 use Rattle.sot_parser.specs.Declarations.{spelled_names, spelled_local, local_of, CodedForm, spelled_coded, coded_of, ExternalForm, spelled_external, external_of}

@@ -1,10 +1,10 @@
 -- Plants, and clauses of names.
 use Rattle.std.proofs.Common.{ℕ, List, ◌∷◌, ◌++◌, codes, refl, ap₂}
 use Rattle.sot_text.specs.Reading.{Lexeme}
-use Rattle.sot_lang.specs.declared.tree.Ident.{Ident}
-use Rattle.sot_lang.specs.declared.tree.Field.{Field}
-use Rattle.sot_lang.specs.declared.tree.StateDecl.{StateDecl}
-use Rattle.sot_lang.specs.Trees.{Next, Plant}
+use Rattle.sot_tree.specs.declared.tree.Ident.{Ident}
+use Rattle.sot_tree.specs.declared.tree.Field.{Field}
+use Rattle.sot_tree.specs.declared.tree.StateDecl.{StateDecl}
+use Rattle.sot_tree.specs.Trees.{Next, Plant}
 use Rattle.sot_parser.specs.Pieces.{each, maybe, spelled_clause, spelled_field}
 use Rattle.sot_parser.specs.Declarations.{spelled_state, spelled_next, PlantForm, spelled_names, spelled_plant, plant_of, plant_levels}
 use Rattle.sot_print.specs.declared.gap.Gap.{Gap}

@@ -2,8 +2,8 @@
 use Rattle.std.proofs.Common.{ℕ, List, [], ◌∷◌, map, false, codes, refl, ap}
 use Rattle.std.proofs.Math.Nat.{le_refl}
 use Rattle.sot_text.specs.Reading.{Lexeme}
-use Rattle.sot_lang.specs.declared.tree.Bounds.{Bounds}
-use Rattle.sot_lang.specs.Trees.{Area}
+use Rattle.sot_tree.specs.declared.tree.Bounds.{Bounds}
+use Rattle.sot_tree.specs.Trees.{Area}
 use Rattle.sot_parser.specs.Pieces.{each, Further, Separated, spelled_further, spelled_separated, further_of, separated_of, spelled_side, side_of}
 use Rattle.sot_parser.specs.Declarations.{BoxForm, spelled_box, box_of, RegionForm, no_box, some_boxes, spelled_region, region_of, BoundForm, spelled_bound, bound_of}
 use Rattle.sot_print.specs.declared.gap.Gap.TheVariants.{Touching}

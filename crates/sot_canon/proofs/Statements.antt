@@ -4,9 +4,9 @@ use Rattle.std.specs.Option.{option_map}
 use Rattle.std.proofs.lemmas.Int.{clamps}
 use Rattle.std.proofs.Math.Nat.{le_refl}
 use Rattle.sot_text.specs.Reading.{Lexeme}
-use Rattle.sot_lang.specs.declared.tree.Ident.{Ident}
-use Rattle.sot_lang.specs.declared.tree.Lit.{Lit}
-use Rattle.sot_lang.specs.Trees.{Tree, Statement, Block, assigned, published, branched, repeated, statement}
+use Rattle.sot_tree.specs.declared.tree.Ident.{Ident}
+use Rattle.sot_tree.specs.declared.tree.Lit.{Lit}
+use Rattle.sot_tree.specs.Trees.{Tree, Statement, Block, assigned, published, branched, repeated, statement}
 use Rattle.sot_parser.specs.Pieces.{Keyword, Sign, Named, Digits, spelled_number, name_of, number_of, maybe}
 use Rattle.sot_parser.specs.Statements.{ExpressionForm, spelled_expression, expression_of, AssignForm, DotForm, spelled_dot, dot_of, PublishForm, StatementForm, BlockForm, ElseForm, StatementsForm, an_assign, a_publish, an_if, a_repeat, braces, no_else, with_else, no_more, one_more, spelled_statement, spelled_block, spelled_else, spelled_statements, statement_of, block_of, else_of, statements_of, statement_levels, block_levels, else_levels, statements_levels}
 use Rattle.sot_print.specs.declared.gap.Gap.{Gap}

@@ -2,8 +2,8 @@
 use Rattle.std.proofs.Common.{List, ◌∷◌, ◌++◌, Option, None, Some, Bool, codes, refl, ap₂}
 use Rattle.std.proofs.Math.Nat.{le_refl}
 use Rattle.sot_text.specs.Reading.{Lexeme}
-use Rattle.sot_lang.specs.declared.tree.Ident.{Ident}
-use Rattle.sot_lang.specs.Trees.{Form, Start, Topic}
+use Rattle.sot_tree.specs.declared.tree.Ident.{Ident}
+use Rattle.sot_tree.specs.Trees.{Form, Start, Topic}
 use Rattle.sot_parser.specs.Pieces.{Keyword, name_of}
 use Rattle.sot_parser.specs.Declarations.{TopicForm, spelled_outside, spelled_topic, is_given, topic_of, spelled_shape, shape_of, spelled_init, init_of}
 use Rattle.sot_print.specs.declared.gap.Gap.{Gap}

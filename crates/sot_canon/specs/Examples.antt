@@ -1,14 +1,14 @@
 -- Worked programs that are the same, and others that are not, as statements that functions of this crate prove.
 use Rattle.std.specs.Prelude.{◌≡◌, ℕ, pos, neg_ℤ, ℤ, Bool, true, false, List, [], ◌∷◌, Option, None, Some, codes}
 use Rattle.sot_text.specs.declared.token.Span.{Span}
-use Rattle.sot_lang.specs.declared.operator.Op.TheVariants.{Add, Less}
-use Rattle.sot_lang.specs.declared.operator.Func.TheVariants.{Abs}
-use Rattle.sot_lang.specs.declared.tree.Ident.{Ident}
-use Rattle.sot_lang.specs.declared.tree.Lit.{Lit}
-use Rattle.sot_lang.specs.declared.tree.Bounds.{Bounds}
-use Rattle.sot_lang.specs.declared.tree.Scalar.TheVariants.{Int, Fix, Bool as Truths}
-use Rattle.sot_lang.specs.declared.tree.Const.TheVariants.{Number, Truth}
-use Rattle.sot_lang.specs.Trees.{Tree, number, truth, named, binary, rest, negated, denied, called, rescaled, chosen, no_tree, one_more, Statement, Block, assigned, published, branched, repeated, no_statement, statement, one, fields, one_value, values, Topic, Plant, Node, Module, Declaration, a_topic, a_plant, a_node, a_module, Program}
+use Rattle.sot_tree.specs.declared.operator.Op.TheVariants.{Add, Less}
+use Rattle.sot_tree.specs.declared.operator.Func.TheVariants.{Abs}
+use Rattle.sot_tree.specs.declared.tree.Ident.{Ident}
+use Rattle.sot_tree.specs.declared.tree.Lit.{Lit}
+use Rattle.sot_tree.specs.declared.tree.Bounds.{Bounds}
+use Rattle.sot_tree.specs.declared.tree.Scalar.TheVariants.{Int, Fix, Bool as Truths}
+use Rattle.sot_tree.specs.declared.tree.Const.TheVariants.{Number, Truth}
+use Rattle.sot_tree.specs.Trees.{Tree, number, truth, named, binary, rest, negated, denied, called, rescaled, chosen, no_tree, one_more, Statement, Block, assigned, published, branched, repeated, no_statement, statement, one, fields, one_value, values, Topic, Plant, Node, Module, Declaration, a_topic, a_plant, a_node, a_module, Program}
 use Rattle.sot_parser.specs.Pieces.{Keyword, Sign}
 use Rattle.sot_parser.specs.Statements.{braces, no_else, with_else, no_more, else_of}
 use Rattle.sot_canon.specs.Unplaced.{nowhere, AreSame}

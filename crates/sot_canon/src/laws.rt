@@ -1,8 +1,8 @@
 ghost use Rattle.std.specs.Prelude.{◌≡◌, ℕ, List};
-ghost use Rattle.sot_lang.specs.Trees.{Program};
+ghost use Rattle.sot_tree.specs.Trees.{Program};
 ghost use Rattle.sot_parser.specs.Programs.{Spells};
 ghost use Rattle.sot_print.specs.Canonical.{canonical};
-ghost use Rattle.sot_rules.specs.Formed.{IsFormed};
+ghost use Rattle.sot_tree.specs.Formed.{IsFormed};
 ghost use Rattle.sot_canon.specs.Unplaced.{AreSame};
 
 /// The canonical text of a program that some text spells is itself a text of the language, and spells the same program.

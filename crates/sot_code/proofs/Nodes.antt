@@ -2,16 +2,15 @@
 use Rattle.std.proofs.Common.{◌≡◌, ℕ, ◌-◌, ◌≤◌, ℤ, Option, None, List, ◌++◌, Ok, Err, take, drop, length, replicate, get_or, sym, ap, ◌∙◌, arith}
 use Rattle.std.proofs.lemmas.Option.{get_or_from_slice_get, same_Some}
 use Rattle.std.proofs.lemmas.List.{length-map, take-append-drop, take-replicate, drop-replicate, length-take-le}
-use Rattle.sot_box.specs.Lists.{At}
+use Rattle.sot_lists.specs.Places.{At}
 use Rattle.sot_lang.specs.declared.act.Act.{Act}
 use Rattle.sot_lang.specs.declared.trap.Trap.{Trap}
 use Rattle.sot_lang.specs.declared.tables.NodeInfo.{NodeInfo}
 use Rattle.sot_lang.specs.Tables.{Tables}
 use Rattle.sot_lang.specs.Ranges.{local_ranges, write_ranges, range_of}
-use Rattle.sot_lang.specs.TableRules.{IsCoded}
+use Rattle.sot_lang.specs.TableRules.{IsCoded, MeetsTableRules}
 use Rattle.sot_lang.specs.Bodies as bodies
 use Rattle.std.proofs.Math.Seq.{take-append_seam, drop-append_seam}
-use Rattle.sot_lang.specs.TableRules.{MeetsTableRules}
 use Rattle.sot_code.specs.Firings.{fired_at, run_of, IsRunnable}
 use Rattle.sot_code.specs.Recorded.{in_slots, recorded}
 
@@ -49,14 +48,6 @@ module _ (p : Tables) (node : NodeInfo) (acts : List Act) (numbers : List ℤ) (
 -- a node of tables that meet their rules can run
 pub runnable : (p : Tables) (n : ℕ) (node : NodeInfo) → MeetsTableRules p → At p.nodes n node → IsRunnable p node
 runnable p n node rules at = record { few = (rules.nodes n node at).writes; written = λ i k h. rules.typed.inside n node k at (i, h) }
-
--- what is read at a place of the nodes is the node there
-pub node_is : (p : Tables) (n : ℕ) (node info : NodeInfo) → At p.nodes n node → info ≡ get_or p.nodes n info → node ≡ info
-node_is p n node info at is = sym (get_or_from_slice_get p.nodes n node info at) ∙ sym is
-
--- a node has one body
-pub one_body : (node : NodeInfo) (us vs : List Act) → IsCoded node us → IsCoded node vs → us ≡ vs
-one_body node us vs a b = sym a.2 ∙ ap (λ v. v.items) (same_Some a.0 b.0 (sym a.1 ∙ b.1)) ∙ b.2
 
 -- numbers that are joined are taken apart again
 pub taken_front : (seen locals numbers : List ℤ) (n : ℕ) → length seen ≡ n → numbers ≡ seen ++ locals → take n numbers ≡ seen

@@ -3,7 +3,7 @@ use Rattle.std.proofs.Common.{◌≡◌, ℕ, zero, suc, ◌+◌, ◌*◌, ◌<�
 use Rattle.std.specs.Prelude.{map, replicate, false}
 use Rattle.std.proofs.lemmas.List.{length-map, length-replicate}
 use Rattle.std.proofs.lemmas.Option.{get_or_from_slice_get}
-use Rattle.sot_box.specs.Lists.{At}
+use Rattle.sot_lists.specs.Places.{At}
 use Rattle.sot_lang.specs.declared.term.Term.{Term}
 use Rattle.sot_lang.specs.declared.trap.Trap.{Trap}
 use Rattle.sot_lang.specs.declared.tables.PlantInfo.{PlantInfo}
@@ -18,6 +18,7 @@ use Rattle.sot_lang.specs.Values.{Outcome, value_of, one_more}
 use Rattle.sot_lang.specs.Ticks.{values}
 use Rattle.sot_code.specs.Recorded.{MayTickPlant}
 use Rattle.sot_lang.proofs.Places.{HavePlaces-TermsFit}
+use Rattle.sot_lang.proofs.Owners.{seen_few}
 
 module _ (env : List ℤ) where
   -- one more value
@@ -49,35 +50,6 @@ pub have_at : (n : ℕ) (ts : List Term) (i : ℕ) (t : Term) → HavePlaces n t
 have_at n [] i t h lt is = absurd (omega arith)
 have_at n (y ∷ ts) zero t h lt is = subst (HasPlaces n) (sym is) h.0
 have_at n (y ∷ ts) (suc i) t h lt is = have_at n ts i t h.1 (omega arith) is
-
-width_few : (plants : List PlantInfo) → ((k : ℕ) (plant : PlantInfo) → At plants k plant → length plant.states.items ≤ 4) → (k : ℕ) → width_of plants k ≤ 4
-width_few [] h k = omega arith
-width_few (plant ∷ rest) h zero = h 0 plant refl
-width_few (plant ∷ rest) h (suc k) = width_few rest (λ i x at. h (suc i) x at) k
-
--- the plants that a plant sees have at most four state variables each
-pub seen_few : (p : Tables) → MeetsTableRules p → (ks : List ℕ) → seen_width p.plants ks ≤ 4 * length ks
-seen_few p rules [] = omega arith
-seen_few p rules (k ∷ ks) =
-    let a = width_few p.plants (λ i x at. (rules.plants i x at).states) k in
-    let b = seen_few p rules ks in
-    omega (arith, a, b)
-
--- the places of a plant's expressions are below the count of its names
-pub plant_places : (p : Tables) (plant : PlantInfo) (ts : List Term) (n : ℕ) → TermsFit (plant_truths p plant) ts
-    → n ≡ length plant.states.items + length plant.inputs.items + seen_width p.plants plant.sees.items + length plant.noise.items → HavePlaces n ts
-plant_places p plant ts n h size =
-    let a = map (λ (s : StateInfo). false) plant.states.items in
-    let b = map (is_truth_scalar p.scalars) plant.inputs.items in
-    let c = replicate (seen_width p.plants plant.sees.items) false in
-    let d = map (λ (s : NoiseInfo). false) plant.noise.items in
-    let names : length (plant_truths p plant) ≡ length plant.states.items + length plant.inputs.items + seen_width p.plants plant.sees.items + length plant.noise.items =
-    length-append (a ++ b ++ c) d
-    ∙ ap₂ (λ x y. x + y) (length-append (a ++ b) c ∙ ap₂ (λ x y. x + y) (length-append a b ∙ ap₂ (λ x y. x + y) (length-map plant.states.items (λ (s : StateInfo). false)) (length-map plant.inputs.items (is_truth_scalar p.scalars))) (length-replicate (seen_width p.plants plant.sees.items) false)) (length-map plant.noise.items (λ (s : NoiseInfo). false)) in
-    subst (λ k. HavePlaces k ts) (names ∙ sym size) (HavePlaces-TermsFit (plant_truths p plant) ts h)
-
-pub plant_is : (p : Tables) (k : ℕ) (plant info : PlantInfo) → At p.plants k plant → info ≡ get_or p.plants k info → plant ≡ info
-plant_is p k plant info at is = sym (get_or_from_slice_get p.plants k plant info at) ∙ sym is
 
 -- a plant's names are at most eighty
 pub sizes : (p : Tables) (k : ℕ) (state held seen noise : List ℤ) → MeetsTableRules p → (m : MayTickPlant p k state held seen noise) → (length held ≤ 8) × (length seen ≤ 64) × (length noise ≤ 4)

@@ -2,28 +2,21 @@
 use Rattle.std.proofs.Common.{◌≡◌, ℕ, zero, suc, ◌<◌, ℤ, List, [], ◌∷◌, length, get_or, Ok, refl, ap, sym, ◌∙◌, arith}
 use Rattle.std.specs.Prelude.{map, slice_index_or}
 use Rattle.sot_text.specs.declared.token.Span.{Span}
-use Rattle.sot_box.specs.Sides.{Side}
+use Rattle.sot_box.specs.Sides.{Side, nought}
 use Rattle.sot_lang.specs.declared.tables.ScalarInfo.{ScalarInfo}
 use Rattle.sot_lang.specs.Values.{Outcome, then_with}
 use Rattle.sot_lang.specs.declared.tables.LocalInfo.{LocalInfo}
 use Rattle.sot_lang.specs.declared.tables.NodeInfo.{NodeInfo}
 use Rattle.sot_lang.specs.Tables.{Tables}
-use Rattle.sot_lang.specs.Ranges.{nought, range_of, local_ranges, write_ranges}
+use Rattle.sot_lang.specs.Ranges.{range_of, local_ranges, write_ranges}
 use Rattle.sot_lang.specs.Bodies.{within, in_range}
+use Rattle.sot_lang.proofs.Owners.{range_of-get}
 
 module _ {A : Type 0} (f : A → Side) where
   pub in_range-map : (infos : List A) (k : ℕ) (d : A) (at : Span) (z : ℤ) → k < length infos → in_range (map f infos) k at z ≡ within (f (get_or infos k d)) at z
   in_range-map [] k d at z lt = absurd (omega arith)
   in_range-map (x ∷ infos) zero d at z lt = refl
   in_range-map (x ∷ infos) (suc k) d at z lt = in_range-map infos k d at z (omega arith)
-
-  index-map : (infos : List A) (k : ℕ) (d : A) (s : Side) → k < length infos → slice_index_or (map f infos) k s ≡ f (get_or infos k d)
-  index-map [] k d s lt = absurd (omega arith)
-  index-map (x ∷ infos) zero d s lt = refl
-  index-map (x ∷ infos) (suc k) d s lt = index-map infos k d s (omega arith)
-
-pub range_of-get : (infos : List ScalarInfo) (k : ℕ) (d : ScalarInfo) → k < length infos → range_of infos k ≡ record { lo = (get_or infos k d).lo; hi = (get_or infos k d).hi }
-range_of-get infos k d lt = index-map (λ i. record { lo = i.lo; hi = i.hi }) infos k d nought lt
 
 -- the value of a local's next assignment, and of a scalar's next draft
 pub local_value : (node : NodeInfo) (k : ℕ) (info : LocalInfo) (at : Span) (o : Outcome ℤ) (z : ℤ) → k < length node.locals.items → info ≡ get_or node.locals.items k info → o ≡ Ok z

@@ -94,25 +94,6 @@ pub ends_same : {U : Type 0} (node : NodeInfo) (o : Result U Trap) (numbers : Li
 ends_same node (Ok u) numbers draft x y e h = sym e ∙ h
 ends_same node (Err t) numbers draft x y e h = sym e ∙ h
 
--- what stands at a place of a body that fits
-pub fits_at : (truths : List Bool) (n m : ℕ) (us : List Act) (i : ℕ) (one : Act) → ActsFit truths n m us → i < length us → one ≡ get_or us i one → ActFits truths n m one
-fits_at truths n m [] i one h lt is = absurd (omega arith)
-fits_at truths n m (a ∷ us) zero one h lt is = subst (ActFits truths n m) (sym is) h.0
-fits_at truths n m (a ∷ us) (suc i) one h lt is = fits_at truths n m us i one h.1 (omega arith) is
-
--- the places of a node's expressions are below the count of its names
-pub node_places : (p : Tables) (node : NodeInfo) (t : Term) (n : ℕ) → TermFits (node_truths p node) t → length node.reads.items + length node.locals.items ≡ n → HasPlaces n t
-node_places p node t n h size =
-    let names : length (node_truths p node) ≡ n =
-    length-append (map (reads_truth p.scalars) node.reads.items) (map (λ l. l.truth) node.locals.items)
-    ∙ ap₂ (λ a b. a + b) (length-map node.reads.items (reads_truth p.scalars)) (length-map node.locals.items (λ (l : LocalInfo). l.truth)) ∙ size in
-    subst (λ k. HasPlaces k t) names (HasPlaces-TermFits (node_truths p node) t h)
-
-pub true_of_ne : (z : ℤ) → (z ≡ pos 0 → ⊥) → is_true z ≡ true
-true_of_ne (pos zero) ne = absurd (ne refl)
-true_of_ne (pos (suc n)) ne = refl
-true_of_ne (negsuc n) ne = refl
-
 pub zero_of_bits : (z : ℤ) → FitsSigned w64 z → of_z w64 z ≡ 0 → z ≡ pos 0
 zero_of_bits (pos n) f e = ap pos e
 zero_of_bits (negsuc n) f e = absurd (omega (arith, f.sfits))

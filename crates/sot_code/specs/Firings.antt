@@ -1,7 +1,7 @@
 -- Firings as the code makes them.
 use Rattle.std.specs.Prelude.{◌≡◌, ℕ, ◌<◌, ◌≤◌, ℤ, List, Option, Some, slice_set, Result, Ok, Err, length, take, drop}
 use Rattle.sot_text.specs.declared.token.Span.{Span}
-use Rattle.sot_box.specs.Lists.{At}
+use Rattle.sot_lists.specs.Places.{At}
 use Rattle.sot_lang.specs.declared.act.Act.{Act}
 use Rattle.sot_lang.specs.declared.trap.Trap.{Trap}
 use Rattle.sot_lang.specs.declared.tables.NodeInfo.{NodeInfo}

@@ -1,6 +1,6 @@
 -- What a firing hands out, and what may be fired and ticked.
 use Rattle.std.specs.Prelude.{◌≡◌, ℕ, ◌-◌, ℤ, List, ◌++◌, Option, None, Result, Ok, Err, length, replicate}
-use Rattle.sot_box.specs.Lists.{At}
+use Rattle.sot_lists.specs.Places.{At}
 use Rattle.sot_lang.specs.declared.act.Act.{Act}
 use Rattle.sot_lang.specs.declared.trap.Trap.{Trap}
 use Rattle.sot_lang.specs.declared.tables.NodeInfo.{NodeInfo}

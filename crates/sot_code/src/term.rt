@@ -1,11 +1,12 @@
 ghost use Rattle.std.specs.Prelude.{◌≡◌, length};
 ghost use Rattle.sot_lang.specs.Values.{value_of, then_with, called};
 ghost use Rattle.sot_lang.specs.Ticks.{values};
-ghost use Rattle.sot_lang.specs.TermRules.{arity};
+ghost use Rattle.sot_tree.specs.Functions.{arity};
 ghost use Rattle.sot_lang.specs.TermPlaces.{HasPlaces, HavePlaces};
 
 use crate::numbers::{clamped, holds, magnitude, negate, operate, rescale, rest, truth_value};
-use sot_lang::{Func, Term, Trap};
+use sot_lang::{Term, Trap};
+use sot_tree::Func;
 use sot_text::Span;
 
 /// The value of an expression, where each name has its number in the list. Numbers and names are answered first: a function pays

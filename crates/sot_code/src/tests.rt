@@ -1,6 +1,7 @@
 use super::*;
 use crate::numbers::{clamped, magnitude, negate, operate, rescale, rest};
-use sot_lang::{Op, Trap, TrapKind};
+use sot_lang::{Trap, TrapKind};
+use sot_tree::Op;
 use sot_text::Span;
 use std::test::Fail;
 

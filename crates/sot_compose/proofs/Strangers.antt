@@ -5,7 +5,7 @@ use Rattle.std.proofs.lemmas.Option.{slice_get_within, same_Some}
 use Rattle.sot_lang.specs.declared.tables.NodeInfo.{NodeInfo}
 use Rattle.sot_lang.specs.declared.tables.ModuleInfo.{ModuleInfo}
 use Rattle.sot_lang.specs.Tables.{Tables}
-use Rattle.sot_box.specs.Lists.{At}
+use Rattle.sot_lists.specs.Places.{At}
 use Rattle.sot_tube.specs.Topics.{WritesTopic}
 use Rattle.sot_tube.specs.Verdict.{ShareOutput}
 use Rattle.sot_compose.specs.Outputs.{ArePartnersIn, Writes, AreRelated}

@@ -1,7 +1,7 @@
 -- Nodes and plants that two modules share.
 use Rattle.std.specs.Prelude.{ℕ, ◌≡◌, ◌<◌, ◌≤◌, List}
 use Rattle.sot_lang.specs.declared.tables.ModuleInfo.{ModuleInfo}
-use Rattle.sot_box.specs.Lists.{At}
+use Rattle.sot_lists.specs.Places.{At}
 use Rattle.sot_tube.specs.Composition.{UsesNode}
 use Rattle.sot_compose.specs.declared.parts.Part.{Part}
 use Rattle.sot_compose.specs.declared.parts.Part.TheVariants.{Node, Plant}

@@ -1,7 +1,7 @@
 //! How the modules of a program are put together.
 
 ghost use Rattle.std.specs.Prelude.{◌≡◌, ◌<◌, length};
-ghost use Rattle.sot_box.specs.Lists.{At};
+ghost use Rattle.sot_lists.specs.Places.{At};
 ghost use Rattle.sot_lang.specs.TableRules.{MeetsTableRules};
 ghost use Rattle.sot_tube.specs.Checks.{for_each};
 ghost use Rattle.sot_tube.specs.Verdict.{shared_node, shared_output, shared_plant, foreign_input, composition};

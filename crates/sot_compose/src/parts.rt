@@ -1,7 +1,7 @@
 //! Nodes and plants that two modules share.
 
 ghost use Rattle.std.specs.Prelude.{ℕ, ◌≡◌, ◌<◌, ◌≤◌, length, ◌^◌, IsTrue, ◌↔◌, MatchOption};
-ghost use Rattle.sot_box.specs.Lists.{At};
+ghost use Rattle.sot_lists.specs.Places.{At};
 ghost use Rattle.sot_compose.specs.Parts.{Uses, IsUnused, IsFirstUser, IsOfOneModule, AreFirstUsers};
 
 use crate::clash::Clash;

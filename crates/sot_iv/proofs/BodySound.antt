@@ -3,7 +3,7 @@ use Rattle.std.proofs.Common.{◌≡◌, ℕ, zero, suc, ℤ, true, false, inl, 
 use Rattle.std.specs.Prelude.{slice_set, int_le, ◌&&◌, if◌then◌else◌}
 use Rattle.std.proofs.lemmas.Bool.{cases_Bool, and_parts, and_from}
 use Rattle.std.proofs.lemmas.Int.{ints}
-use Rattle.sot_box.specs.Sides.{Side}
+use Rattle.sot_box.specs.Sides.{Side, IsIn}
 use Rattle.sot_text.specs.declared.token.Span.{Span}
 use Rattle.sot_lang.specs.declared.act.Act.{Act, Row_of-Act, end_of-Act, more_of-Act}
 use Rattle.sot_lang.specs.declared.act.Act.TheVariants.{Assign, Publish, If', Repeat'}
@@ -11,13 +11,12 @@ use Rattle.sot_lang.specs.Values.{Outcome, value_of, then_with, is_true}
 use Rattle.sot_box.specs.Boxes.{IsWithin}
 use Rattle.sot_lang.specs.Bodies.{Fired, in_range, times, act, acts, body, execution}
 use Rattle.sot_iv.specs.TermIntervals.{OrMayTrap, IsTermInterval, CanBe}
-use Rattle.sot_box.specs.Sides.{IsIn}
 use Rattle.sot_iv.specs.declared.drafted.Drafted.{Drafted}
 use Rattle.sot_iv.specs.declared.drafted.Drafted.TheVariants.{Absent, Maybe, Sure}
 use Rattle.sot_iv.specs.BodyIntervals.{Intervals, IsPut, AreIntervalHulls, IsDraftJoin, AreDraftJoins, IsTimes, IsActIntervals, AreActIntervals, IsBodyIntervals, IsExecutionIntervals}
 pub use Rattle.sot_iv.specs.Soundness.{IsDrafted, AreDrafted, Lies}
 use Rattle.sot_iv.proofs.Sound.{sound, after_ok}
-use Rattle.sot_lang.proofs.Lists.{within_append}
+use Rattle.sot_box.proofs.Ranges.{within_append}
 
 abbrev Ends : Intervals → Outcome Fired → Type 0
 Ends f o = (g : Fired) × (o ≡ Ok g) × Lies f g

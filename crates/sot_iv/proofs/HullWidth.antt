@@ -8,10 +8,10 @@ use Rattle.std.proofs.lemmas.Int.{ints}
 use Rattle.std.proofs.lemmas.List.{length-map}
 use Rattle.std.proofs.lemmas.Option.{same_Some, none-some}
 use Rattle.sot_box.specs.Sides.{Side, AreOrdered}
-use Rattle.sot_box.specs.Lists.{At}
+use Rattle.sot_lists.specs.Places.{At}
 use Rattle.sot_box.specs.Boxes.{IsWithin, lows}
 use Rattle.sot_box.specs.Regions.{IsInRegion, IsHull}
-use Rattle.sot_lang.proofs.Lists.{within_length}
+use Rattle.sot_box.proofs.Ranges.{within_length}
 
 lows_in : (b : List Side) → AreOrdered b → IsWithin b (lows b)
 lows_in [] o = tt

@@ -3,13 +3,12 @@ use Rattle.std.proofs.Common.{◌≡◌, ℕ, zero, suc, ℤ, pos, ◌≤ℤ◌,
 use Rattle.std.specs.Prelude.{slice_index_or}
 use Rattle.std.proofs.lemmas.Int.{ints}
 use Rattle.sot_text.specs.declared.token.Span.{Span}
-use Rattle.sot_box.specs.Sides.{Side, IsIn}
+use Rattle.sot_box.specs.Sides.{Side, IsIn, nought}
 use Rattle.sot_box.specs.Boxes.{IsWithin}
-use Rattle.sot_lang.specs.declared.operator.Op.{Op}
-use Rattle.sot_lang.specs.declared.operator.Op.TheVariants.{Add, Sub, Mul, Div, Less, LessEqual, Greater, GreaterEqual, Equal, NotEqual, And, Or}
+use Rattle.sot_tree.specs.declared.operator.Op.{Op}
+use Rattle.sot_tree.specs.declared.operator.Op.TheVariants.{Add, Sub, Mul, Div, Less, LessEqual, Greater, GreaterEqual, Equal, NotEqual, And, Or}
 use Rattle.sot_lang.specs.declared.term.Term.{Term, Row_of-Term, end_of-Term, more_of-Term}
 use Rattle.sot_lang.specs.declared.term.Term.TheVariants.{Number, Place, Binary', Rest', Neg', Not', Call', Rescale', If'}
-use Rattle.sot_lang.specs.Ranges.{nought}
 use Rattle.sot_iv.specs.TermIntervals.{OrMayTrap, After, Joins, consed, IsLeast, IsFitted, IsLeastResult, IsImage, IsIntervalHull, MayDivideByZero, IsWordRange, CanBe, Chooses, rest_result, neg_result, not_result, rescale_result, called_result, IsTermInterval, ArePartIntervals, AreTermIntervals}
 use Rattle.sot_iv.specs.Monotony.{IsNarrower, AreNarrower}
 use Rattle.sot_iv.proofs.Sound.{between, after_ok, joins_ok}

@@ -2,7 +2,7 @@
 use Rattle.std.proofs.Common.{◌≡◌, ℕ, List, [], ◌∷◌, zero, suc, take, drop, get_or, sym, ap, ◌∙◌}
 use Rattle.std.proofs.lemmas.Option.{get_or_from_slice_get, same_Some}
 use Rattle.sot_box.specs.Sides.{Side, AreOrdered}
-use Rattle.sot_box.specs.Lists.{At}
+use Rattle.sot_lists.specs.Places.{At}
 use Rattle.sot_lang.specs.declared.act.Act.{Act}
 use Rattle.sot_lang.specs.declared.tables.NodeInfo.{NodeInfo}
 use Rattle.sot_lang.specs.Tables.{Tables}
@@ -12,14 +12,6 @@ use Rattle.sot_iv.specs.Firings.{IsRunnable}
 -- a node of tables that meet their rules can run
 pub runnable : (p : Tables) (n : ℕ) (node : NodeInfo) → MeetsTableRules p → At p.nodes n node → IsRunnable p node
 runnable p n node rules at = record { few_locals = (rules.nodes n node at).locals; few = (rules.nodes n node at).writes; written = λ i k h. rules.typed.inside n node k at (i, h) }
-
--- what is read at a place of the nodes is the node there
-pub node_is : (p : Tables) (n : ℕ) (node info : NodeInfo) → At p.nodes n node → info ≡ get_or p.nodes n info → node ≡ info
-node_is p n node info at is = sym (get_or_from_slice_get p.nodes n node info at) ∙ sym is
-
--- a node has one body
-pub one_body : (node : NodeInfo) (us vs : List Act) → IsCoded node us → IsCoded node vs → us ≡ vs
-one_body node us vs a b = sym a.2 ∙ ap (λ v. v.items) (same_Some a.0 b.0 (sym a.1 ∙ b.1)) ∙ b.2
 
 -- the first and the last of some intervals in order
 pub front_ordered : (rs : List Side) (n : ℕ) → AreOrdered rs → AreOrdered (take n rs)

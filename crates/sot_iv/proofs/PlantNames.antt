@@ -4,7 +4,7 @@ use Rattle.std.specs.Prelude.{map, replicate, false}
 use Rattle.std.proofs.lemmas.List.{length-map, length-replicate}
 use Rattle.std.proofs.lemmas.Option.{get_or_from_slice_get}
 use Rattle.sot_box.specs.Sides.{Side}
-use Rattle.sot_box.specs.Lists.{At}
+use Rattle.sot_lists.specs.Places.{At}
 use Rattle.sot_lang.specs.declared.term.Term.{Term}
 use Rattle.sot_lang.specs.declared.tables.PlantInfo.{PlantInfo}
 use Rattle.sot_lang.specs.declared.tables.StateInfo.{StateInfo}
@@ -20,6 +20,7 @@ use Rattle.sot_iv.specs.declared.may_trap.MayTrap.{MayTrap}
 use Rattle.sot_iv.specs.TermIntervals.{OrMayTrap}
 use Rattle.sot_iv.specs.Evaluation.{joined, term_interval, term_intervals}
 use Rattle.sot_iv.specs.PlantTicks.{MayTickBox}
+use Rattle.sot_lang.proofs.Owners.{seen_few}
 
 abbrev put_first : OrMayTrap Side → OrMayTrap (List Side) → OrMayTrap (List Side)
 put_first = joined (λ x xs. Ok (x ∷ xs))
@@ -49,35 +50,6 @@ module _ (names : List Side) where
       stop (Ok z) (Ok zs) ps xs b f = ap (put_first (Ok z)) (f zs refl)
       stop (Ok z) (Err t) ps xs b f = cc
       stop (Err t) os ps xs b f = cc
-
-width_few : (plants : List PlantInfo) → ((k : ℕ) (plant : PlantInfo) → At plants k plant → length plant.states.items ≤ 4) → (k : ℕ) → width_of plants k ≤ 4
-width_few [] h k = omega arith
-width_few (plant ∷ rest) h zero = h 0 plant refl
-width_few (plant ∷ rest) h (suc k) = width_few rest (λ i x at. h (suc i) x at) k
-
--- the plants that a plant sees have at most four state variables each
-seen_few : (p : Tables) → MeetsTableRules p → (ks : List ℕ) → seen_width p.plants ks ≤ 4 * length ks
-seen_few p rules [] = omega arith
-seen_few p rules (k ∷ ks) =
-    let a = width_few p.plants (λ i x at. (rules.plants i x at).states) k in
-    let b = seen_few p rules ks in
-    omega (arith, a, b)
-
--- the places of a plant's expressions are below the count of its names
-pub plant_places : (p : Tables) (plant : PlantInfo) (n : ℕ) → TermsFit (plant_truths p plant) plant.next.items
-    → n ≡ length plant.states.items + length plant.inputs.items + seen_width p.plants plant.sees.items + length plant.noise.items → HavePlaces n plant.next.items
-plant_places p plant n h size =
-    let a = map (λ (s : StateInfo). false) plant.states.items in
-    let b = map (is_truth_scalar p.scalars) plant.inputs.items in
-    let c = replicate (seen_width p.plants plant.sees.items) false in
-    let d = map (λ (s : NoiseInfo). false) plant.noise.items in
-    let names : length (plant_truths p plant) ≡ length plant.states.items + length plant.inputs.items + seen_width p.plants plant.sees.items + length plant.noise.items =
-    length-append (a ++ b ++ c) d
-    ∙ ap₂ (λ x y. x + y) (length-append (a ++ b) c ∙ ap₂ (λ x y. x + y) (length-append a b ∙ ap₂ (λ x y. x + y) (length-map plant.states.items (λ (s : StateInfo). false)) (length-map plant.inputs.items (is_truth_scalar p.scalars))) (length-replicate (seen_width p.plants plant.sees.items) false)) (length-map plant.noise.items (λ (s : NoiseInfo). false)) in
-    subst (λ k. HavePlaces k plant.next.items) (names ∙ sym size) (HavePlaces-TermsFit (plant_truths p plant) plant.next.items h)
-
-pub plant_is : (p : Tables) (k : ℕ) (plant info : PlantInfo) → At p.plants k plant → info ≡ get_or p.plants k info → plant ≡ info
-plant_is p k plant info at is = sym (get_or_from_slice_get p.plants k plant info at) ∙ sym is
 
 -- a plant's names are at most eighty
 pub sizes : (p : Tables) (k : ℕ) (box held seen : List Side) → MeetsTableRules p → (m : MayTickBox p k box held seen) → (length box ≤ 4) × (length held ≤ 8) × (length seen ≤ 64)

@@ -7,7 +7,7 @@ use Rattle.sot_lang.specs.declared.term.Term.{Term}
 use Rattle.sot_lang.specs.declared.tables.PlantInfo.{PlantInfo}
 use Rattle.sot_lang.specs.Ranges.{bounds}
 use Rattle.sot_lang.specs.Ticks.{values, next_state}
-use Rattle.sot_lang.proofs.Lists.{within_append}
+use Rattle.sot_box.proofs.Ranges.{within_append}
 use Rattle.sot_iv.specs.TermIntervals.{OrMayTrap, IsTermInterval, AreTermIntervals}
 use Rattle.sot_iv.specs.PlantIntervals.{IsNextBox}
 use Rattle.sot_iv.specs.Monotony.{AreNarrower}

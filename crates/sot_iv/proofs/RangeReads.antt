@@ -2,28 +2,21 @@
 use Rattle.std.proofs.Common.{◌≡◌, ℕ, zero, suc, ◌<◌, List, [], ◌∷◌, length, get_or, Ok, refl, ap, sym, ◌∙◌, arith}
 use Rattle.std.specs.Prelude.{map, slice_index_or}
 use Rattle.sot_text.specs.declared.token.Span.{Span}
-use Rattle.sot_box.specs.Sides.{Side}
+use Rattle.sot_box.specs.Sides.{Side, nought}
 use Rattle.sot_lang.specs.declared.tables.ScalarInfo.{ScalarInfo}
 use Rattle.sot_lang.specs.declared.tables.LocalInfo.{LocalInfo}
 use Rattle.sot_lang.specs.declared.tables.NodeInfo.{NodeInfo}
 use Rattle.sot_lang.specs.Tables.{Tables}
-use Rattle.sot_lang.specs.Ranges.{nought, range_of, local_ranges, write_ranges}
+use Rattle.sot_lang.specs.Ranges.{range_of, local_ranges, write_ranges}
 use Rattle.sot_iv.specs.TermIntervals.{OrMayTrap}
 use Rattle.sot_iv.specs.Evaluation.{and_then, put, put_at}
+use Rattle.sot_lang.proofs.Owners.{range_of-get}
 
 module _ {A : Type 0} (f : A → Side) where
   put_at-map : (infos : List A) (k : ℕ) (d : A) (at : Span) (x : Side) → k < length infos → put_at (map f infos) k at x ≡ put (f (get_or infos k d)) at x
   put_at-map [] k d at x lt = absurd (omega arith)
   put_at-map (y ∷ infos) zero d at x lt = refl
   put_at-map (y ∷ infos) (suc k) d at x lt = put_at-map infos k d at x (omega arith)
-
-  index-map : (infos : List A) (k : ℕ) (d : A) (s : Side) → k < length infos → slice_index_or (map f infos) k s ≡ f (get_or infos k d)
-  index-map [] k d s lt = absurd (omega arith)
-  index-map (x ∷ infos) zero d s lt = refl
-  index-map (x ∷ infos) (suc k) d s lt = index-map infos k d s (omega arith)
-
-range_of-get : (infos : List ScalarInfo) (k : ℕ) (d : ScalarInfo) → k < length infos → range_of infos k ≡ record { lo = (get_or infos k d).lo; hi = (get_or infos k d).hi }
-range_of-get infos k d lt = index-map (λ i. record { lo = i.lo; hi = i.hi }) infos k d nought lt
 
 -- the interval of a local's next assignment, and of a scalar's next draft
 pub local_value : (node : NodeInfo) (k : ℕ) (info : LocalInfo) (at : Span) (o : OrMayTrap Side) (x : Side) → k < length node.locals.items → info ≡ get_or node.locals.items k info → o ≡ Ok x

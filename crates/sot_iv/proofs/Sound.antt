@@ -4,19 +4,17 @@ use Rattle.std.specs.Prelude.{slice_index_or, int_le, int_lt, not}
 use Rattle.std.proofs.lemmas.Bool.{cases_Bool, and_parts, and_from}
 use Rattle.std.proofs.lemmas.Int.{ints}
 use Rattle.sot_text.specs.declared.token.Span.{Span}
-use Rattle.sot_box.specs.Sides.{Side}
-use Rattle.sot_lang.specs.declared.operator.Op.{Op}
-use Rattle.sot_lang.specs.declared.operator.Op.TheVariants.{Add, Sub, Mul, Div, Less, LessEqual, Greater, GreaterEqual, Equal, NotEqual, And, Or}
-use Rattle.sot_lang.specs.declared.operator.Func.{Func}
-use Rattle.sot_lang.specs.declared.operator.Func.TheVariants.{Min, Max, Abs, Clamp}
+use Rattle.sot_box.specs.Sides.{Side, IsIn, nought}
+use Rattle.sot_tree.specs.declared.operator.Op.{Op}
+use Rattle.sot_tree.specs.declared.operator.Op.TheVariants.{Add, Sub, Mul, Div, Less, LessEqual, Greater, GreaterEqual, Equal, NotEqual, And, Or}
+use Rattle.sot_tree.specs.declared.operator.Func.{Func}
+use Rattle.sot_tree.specs.declared.operator.Func.TheVariants.{Min, Max, Abs, Clamp}
 use Rattle.sot_lang.specs.declared.term.Term.{Term, Row_of-Term, end_of-Term, more_of-Term}
 use Rattle.sot_lang.specs.declared.term.Term.TheVariants.{Number, Place, Binary', Rest', Neg', Not', Call', Rescale', If'}
 use Rattle.sot_lang.specs.Values.{Outcome, value_of, values_of_parts, branch, word, is_word, truth, is_true, floor_div, floor_by, apply, called}
 use Rattle.sot_box.specs.Boxes.{IsWithin}
 use Rattle.sot_iv.specs.TermIntervals.{OrMayTrap, After, Joins, consed, IsLeast, IsResult, IsFitted, IsLeastResult, IsImage, IsIntervalHull, MayDivideByZero, IsWordRange, CanBe, result, rest_result, neg_result, not_result, rescale_result, called_result, IsTermInterval, ArePartIntervals}
-use Rattle.sot_box.specs.Sides.{IsIn}
-use Rattle.sot_lang.proofs.Lists.{within_read}
-use Rattle.sot_lang.specs.Ranges.{nought}
+use Rattle.sot_box.proofs.Ranges.{within_read}
 
 -- a number between two of 64 bits is of 64 bits
 pub between : (r : Side) (z : ℤ) → IsWordRange r → IsIn r z → is_word z ≡ true

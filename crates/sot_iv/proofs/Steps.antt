@@ -79,20 +79,6 @@ pub leaves_same : {U : Type 0} (o : Result U MayTrap) (locals : List Side) (draf
 leaves_same (Ok u) locals draft x y e h = sym e ∙ h
 leaves_same (Err t) locals draft x y e h = sym e ∙ h
 
--- what stands at a place of a body that fits
-pub fits_at : (truths : List Bool) (n m : ℕ) (us : List Act) (i : ℕ) (one : Act) → ActsFit truths n m us → i < length us → one ≡ get_or us i one → ActFits truths n m one
-fits_at truths n m [] i one h lt is = absurd (omega arith)
-fits_at truths n m (a ∷ us) zero one h lt is = subst (ActFits truths n m) (sym is) h.0
-fits_at truths n m (a ∷ us) (suc i) one h lt is = fits_at truths n m us i one h.1 (omega arith) is
-
--- the places of a node's expressions are below the count of its names
-pub node_places : (p : Tables) (node : NodeInfo) (t : Term) (n m : ℕ) → TermFits (node_truths p node) t → n ≡ length node.reads.items → m ≡ length node.locals.items → HasPlaces (n + m) t
-node_places p node t n m h reads locals =
-    let names : length (node_truths p node) ≡ n + m =
-    length-append (map (reads_truth p.scalars) node.reads.items) (map (λ l. l.truth) node.locals.items)
-    ∙ ap₂ (λ a b. a + b) (length-map node.reads.items (reads_truth p.scalars) ∙ sym reads) (length-map node.locals.items (λ (l : LocalInfo). l.truth) ∙ sym locals) in
-    subst (λ k. HasPlaces k t) names (HasPlaces-TermFits (node_truths p node) t h)
-
 -- what a run that ends, or that traps, says of the evaluation
 pub leaves_ok : {U : Type 0} (o : Result U MayTrap) (locals : List Side) (draft : List Drafted) (x : OrMayTrap Intervals) (u : U) → o ≡ Ok u → Leaves o locals draft x → x ≡ Ok (state locals draft)
 leaves_ok (Ok v) locals draft x u e h = h

@@ -6,8 +6,8 @@ use Rattle.std.proofs.lemmas.Int.{ints}
 use Rattle.sot_text.specs.declared.token.Span.{Span}
 use Rattle.sot_box.specs.Sides.{Side, IsIn, AreOrdered}
 use Rattle.sot_box.specs.Boxes.{IsWithin, lows}
-use Rattle.sot_lang.specs.declared.operator.Op.{Op}
-use Rattle.sot_lang.specs.declared.operator.Op.TheVariants.{Add, Sub, Mul, Div, Less, LessEqual, Greater, GreaterEqual, Equal, NotEqual, And, Or}
+use Rattle.sot_tree.specs.declared.operator.Op.{Op}
+use Rattle.sot_tree.specs.declared.operator.Op.TheVariants.{Add, Sub, Mul, Div, Less, LessEqual, Greater, GreaterEqual, Equal, NotEqual, And, Or}
 use Rattle.sot_lang.specs.declared.term.Term.{Term, Row_of-Term, end_of-Term, more_of-Term, items-the_row-Term}
 use Rattle.sot_lang.specs.declared.term.Term.TheVariants.{Number, Place, Binary', Rest', Neg', Not', Call', Rescale', If'}
 use Rattle.sot_lang.specs.Values.{truth, is_true}
@@ -20,16 +20,7 @@ use Rattle.sot_iv.proofs.Truths.{Decides, decides_least, decides_swap, less_deci
 use Rattle.sot_iv.proofs.Images.{image_of, negation_least, rescaled_least, denied_least, truths_fit, called_least}
 use Rattle.sot_iv.proofs.Rests.{rest_least}
 use Rattle.sot_iv.proofs.Sound.{sound, sound_row}
-
-pub lows_within : (rs : List Side) → AreOrdered rs → IsWithin rs (lows rs)
-lows_within [] o = tt
-lows_within (r ∷ rs) o = (omega (arith, ints), o.0, lows_within rs o.1)
-
-within_in_order : (rs : List Side) (zs : List ℤ) → IsWithin rs zs → AreOrdered rs
-within_in_order [] [] w = tt
-within_in_order (r ∷ rs) (z ∷ zs) w = (in_ordered r z (w.0, w.1), within_in_order rs zs w.2)
-within_in_order [] (z ∷ zs) w = absurd w
-within_in_order (r ∷ rs) [] w = absurd w
+use Rattle.sot_box.proofs.Ranges.{lows_within, within_in_order}
 
 -- an interval of an expression has a number in it
 pub interval_ordered : (t : Term) (rs : List Side) (r : Side) → AreOrdered rs → IsTermInterval t rs (Ok r) → IsOrdered r

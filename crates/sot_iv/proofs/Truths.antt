@@ -5,11 +5,12 @@ use Rattle.std.specs.Int.{int_max}
 use Rattle.std.proofs.lemmas.Bool.{cases_Bool, and_parts, and_from}
 use Rattle.std.proofs.lemmas.Int.{ints, clamps}
 use Rattle.sot_box.specs.Sides.{Side, IsIn}
-use Rattle.sot_lang.specs.declared.operator.Op.{Op}
+use Rattle.sot_tree.specs.declared.operator.Op.{Op}
 use Rattle.sot_lang.specs.Values.{truth, is_true}
 use Rattle.sot_iv.specs.TermIntervals.{IsLeast, IsResult, CanBe, result}
 use Rattle.sot_iv.specs.Ends.{truths, holds_zero, is_always, is_ever}
 use Rattle.sot_iv.proofs.Least.{IsOrdered, low_in, high_in}
+use Rattle.sot_lang.proofs.Owners.{true_of_ne}
 
 pub truth_between : (u v w : Bool) → (u ≡ true → v ≡ true) → (w ≡ false → v ≡ false) → IsIn (truths u w) (truth v)
 truth_between true true true a b = (omega (arith, ints), omega (arith, ints))
@@ -131,11 +132,6 @@ module _ (x y : Side) (xo : IsOrdered x) (yo : IsOrdered y) where
 
   pub unequal_decides : Decides (λ a b. not (int_le a b && int_le b a)) x y (not (int_le x.lo y.hi && int_le y.lo x.hi)) (not (int_le x.hi y.lo && int_le y.hi x.lo))
   unequal_decides = decides_not _ x y _ _ equal_decides
-
-true_of_ne : (z : ℤ) → (z ≡ pos 0 → ⊥) → is_true z ≡ true
-true_of_ne (pos zero) ne = absurd (ne refl)
-true_of_ne (pos (suc n)) ne = refl
-true_of_ne (negsuc n) ne = refl
 
 false_of_zero : (z : ℤ) → z ≡ pos 0 → is_true z ≡ false
 false_of_zero z e = ap is_true e

@@ -1,16 +1,15 @@
 -- The interval evaluation as the code does it: expressions and bodies, by the ends.
 use Rattle.std.specs.Prelude.{ℕ, zero, suc, if◌then◌else◌, ◌&&◌, int_le, List, [], ◌∷◌, ◌++◌, Ok, Err, ◌≡◌, Result, slice_index_or, slice_set}
 use Rattle.sot_text.specs.declared.token.Span.{Span}
-use Rattle.sot_lang.specs.declared.operator.Func.{Func}
-use Rattle.sot_lang.specs.declared.operator.Func.TheVariants.{Min, Max, Abs, Clamp}
+use Rattle.sot_tree.specs.declared.operator.Func.{Func}
+use Rattle.sot_tree.specs.declared.operator.Func.TheVariants.{Min, Max, Abs, Clamp}
 use Rattle.sot_lang.specs.declared.term.Term.{Term, Row_of-Term, end_of-Term, more_of-Term}
 use Rattle.sot_lang.specs.declared.term.Term.TheVariants.{Number, Place, Binary', Rest', Neg', Not', Call', Rescale', If'}
 use Rattle.sot_lang.specs.declared.act.Act.{Act, Row_of-Act, end_of-Act, more_of-Act}
 use Rattle.sot_lang.specs.declared.act.Act.TheVariants.{Assign, Publish, Repeat'}
 use Rattle.sot_lang.specs.declared.act.Act.TheVariants as act_of
 use Rattle.sot_lang.specs.declared.trap.TrapKind.TheVariants.{OutsideRange}
-use Rattle.sot_lang.specs.Ranges.{nought}
-use Rattle.sot_box.specs.Sides.{Side}
+use Rattle.sot_box.specs.Sides.{nought, Side}
 use Rattle.sot_iv.specs.declared.may_trap.MayTrap.{MayTrap}
 use Rattle.sot_iv.specs.declared.drafted.Drafted.{Drafted}
 use Rattle.sot_iv.specs.declared.drafted.Drafted.TheVariants.{Absent, Maybe, Sure}

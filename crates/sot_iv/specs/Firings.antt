@@ -7,7 +7,7 @@ use Rattle.sot_iv.specs.TermIntervals.{OrMayTrap}
 use Rattle.sot_iv.specs.Evaluation.{and_then, put_at, act_intervals, body_intervals, repeated}
 use Rattle.sot_lang.specs.declared.act.Act.{Act}
 use Rattle.sot_box.specs.Sides.{Side}
-use Rattle.sot_box.specs.Lists.{At}
+use Rattle.sot_lists.specs.Places.{At}
 use Rattle.sot_lang.specs.declared.tables.NodeInfo.{NodeInfo}
 use Rattle.sot_lang.specs.Tables.{Tables}
 use Rattle.sot_iv.specs.declared.drafted.Drafted.{Drafted}

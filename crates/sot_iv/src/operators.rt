@@ -4,7 +4,7 @@ ghost use Rattle.sot_iv.specs.Ends.{fitted, operated, quotient_or_trap, rest, ne
 
 use crate::{MayTrap, ends};
 use sot_box::Interval;
-use sot_lang::Op;
+use sot_tree::Op;
 use sot_text::Span;
 
 fn divide(at: Span, a: Interval, b: Interval) -> Result<Interval, MayTrap>

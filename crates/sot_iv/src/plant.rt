@@ -1,5 +1,5 @@
 ghost use Rattle.std.specs.Prelude.{◌≡◌, ℕ, ◌≤◌, ◌≤ℤ◌, ◌+◌, ◌++◌, length, map};
-ghost use Rattle.sot_box.specs.Lists.{At};
+ghost use Rattle.sot_lists.specs.Places.{At};
 ghost use Rattle.sot_lang.specs.declared.tables.NoiseInfo.{NoiseInfo};
 ghost use Rattle.sot_lang.specs.TermPlaces.{HavePlaces};
 ghost use Rattle.sot_iv.specs.Evaluation.{term_intervals};

@@ -1,14 +1,15 @@
 ghost use Rattle.std.specs.Prelude.{◌≡◌, ◌+◌, ◌<◌, ◌≤◌, ◌≤ℤ◌, ◌++◌, pos, Ok, length, slice_index_or};
-ghost use Rattle.sot_lang.specs.TermRules.{arity};
+ghost use Rattle.sot_tree.specs.Functions.{arity};
 ghost use Rattle.sot_lang.specs.TermPlaces.{HasPlaces, HavePlaces};
-ghost use Rattle.sot_lang.specs.Ranges.{nought};
+ghost use Rattle.sot_box.specs.Sides.{nought};
 ghost use Rattle.sot_iv.specs.TermIntervals.{IsTermInterval};
 ghost use Rattle.sot_iv.specs.Evaluation.{term_interval, term_intervals, called_side, and_then};
 ghost use Rattle.sot_iv.specs.Ends.{fitted, rest, negation, denied, rescaled};
 
 use crate::{MayTrap, Ranges, ends, operators};
 use sot_box::Interval;
-use sot_lang::{Func, Term};
+use sot_lang::Term;
+use sot_tree::Func;
 use sot_text::Span;
 
 /// The least interval of an expression over these ranges of its names, operator by operator, or the first operands of which some

@@ -1,5 +1,6 @@
 ghost use Rattle.std.specs.Prelude.{◌≡◌, ◌∷◌, [], false, IfOk, length};
-ghost use Rattle.sot_lang.specs.TermRules.{TermsFit, arity};
+ghost use Rattle.sot_lang.specs.TermRules.{TermsFit};
+ghost use Rattle.sot_tree.specs.Functions.{arity};
 ghost use Rattle.sot_lang.specs.TermPlaces.{HasPlaces};
 
 mod points;
@@ -7,7 +8,8 @@ mod points;
 use super::*;
 use points::hull_at_points;
 use sot_box::Interval;
-use sot_lang::{Func, Op, Term, TrapKind};
+use sot_lang::{Term, TrapKind};
+use sot_tree::{Func, Op};
 use sot_text::Span;
 use std::alloc::{AllocError, Global};
 use std::test::Fail;

@@ -1,20 +1,16 @@
 -- A body that does not trap leaves its locals in their ranges and drafts numbers in theirs.
 use Rattle.std.proofs.Common.{◌≡◌, ℕ, zero, suc, ℤ, ◌⊎◌, inl, inr, ⊎_elim, List, [], ◌∷◌, ◌++◌, Some, None, Ok, Err, length, replicate, refl, sym, ap, subst}
-use Rattle.std.specs.Prelude.{slice_set, int_le, ◌&&◌}
+use Rattle.std.specs.Prelude.{slice_set, int_le, ◌&&◌, if◌then◌else◌}
 use Rattle.std.proofs.lemmas.Bool.{cases_Bool}
-use Rattle.sot_box.specs.Sides.{Side}
+use Rattle.sot_box.specs.Sides.{Side, IsIn, nought}
 use Rattle.sot_text.specs.declared.token.Span.{Span}
 use Rattle.sot_lang.specs.declared.act.Act.{Act, Row_of-Act, end_of-Act, more_of-Act}
 use Rattle.sot_lang.specs.declared.act.Act.TheVariants.{Assign, Publish, If', Repeat'}
 use Rattle.sot_lang.specs.Values.{Outcome, value_of, then_with, is_true}
-use Rattle.sot_box.specs.Lists.{At}
+use Rattle.sot_lists.specs.Places.{At}
 use Rattle.sot_box.specs.Boxes.{IsWithin}
-use Rattle.sot_box.specs.Sides.{IsIn}
-use Rattle.std.specs.Prelude.{if◌then◌else◌}
 use Rattle.std.proofs.lemmas.Option.{get_or_from_slice_get, same_Some}
-use Rattle.sot_lang.proofs.Lists.{within_set}
-use Rattle.sot_lang.specs.Ranges.{nought}
-use Rattle.sot_lang.proofs.Lists.{in_range_is}
+use Rattle.sot_box.proofs.Ranges.{within_set, in_range_is}
 use Rattle.sot_lang.specs.Bodies.{Fired, in_range, times, act, acts, body, execution}
 
 -- locals and draft in their ranges

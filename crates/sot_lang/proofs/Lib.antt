@@ -1,12 +1,9 @@
-pub mod Lists
 pub mod Reaches
 pub mod Executes
 pub mod Rows
 pub mod ActRows
 pub mod LineReach
-pub mod ShortLists
 pub mod LineRules
 pub mod Places
-pub mod Names
-pub mod CallRows
-pub mod BlockRows
+pub mod SafeRegions
+pub mod Owners

@@ -5,10 +5,9 @@ use Rattle.std.proofs.lemmas.Int.{ints}
 use Rattle.std.proofs.lemmas.Option.{same_Some, none-some}
 use Rattle.std.proofs.lemmas.Bool.{false≢true}
 use Rattle.std.specs.Global.{Global}
-use Rattle.sot_box.specs.Lists.{At}
+use Rattle.sot_lists.specs.Places.{At, Has}
 use Rattle.sot_box.specs.Sides.{Side, AreOrdered}
 use Rattle.sot_box.specs.Boxes.{IsWithin}
-use Rattle.sot_lang.specs.Places.{Has}
 use Rattle.sot_lang.specs.declared.act.Act.{Act}
 use Rattle.sot_lang.specs.declared.tables.TopicInfo.{TopicInfo}
 use Rattle.sot_lang.specs.declared.tables.ScalarInfo.{ScalarInfo}
@@ -26,7 +25,7 @@ use Rattle.sot_lang.specs.TableRules.{IsTyped, IsCoded, IsNarrow, AreDistinct, M
 use Rattle.sot_lang.specs.declared.cert.Cells.{Cells}
 use Rattle.sot_lang.specs.CertRules.{FitsTables, AreCellsOf}
 use Rattle.sot_lang.specs.Line.{side, line, line_cert, line_cells, cmd, cmd_number, fast, slow, nav, pos_plant, slow_acts, cmd_name, pos_name, fast_name, slow_name, nav_name}
-use Rattle.sot_lang.proofs.ShortLists.{at_none, at_more, at_one, at_two}
+use Rattle.sot_lists.proofs.ShortLists.{at_none, at_more, at_one, at_two}
 
 plant_no : Slot → ℕ
 plant_no (Scalar k) = k
@@ -162,7 +161,7 @@ module _ (g : Global) where
     body = λ acts coded. absurd (none-some coded.0 coded.1);
   }
 
-  one_box : (r : Side) → r.lo ≤ℤ r.hi → IsRegionFor (line g) 0 (record { width = 1; boxes = (r ∷ []) ∷ [] })
+  one_box : (r : Side) → r.lo ≤ℤ r.hi → IsRegionFor (line g) 0 (record { width = 1; boxes = (r ∷ []) ∷ []; settled = false })
   one_box r le = record { width = refl; boxes = omega arith; each = at_one (λ i b. (length b ≡ 1) × AreOrdered b) (r ∷ []) (refl, (le, tt)) }
 
   closed_cells : AreCellsOf (line g) 0 (line_cells g).closed
@@ -197,6 +196,8 @@ module _ (g : Global) where
     entries = refl;
     closed = λ m info cells at at_c. at_one (λ m info. At (line_cert g).modules.items m (Some cells) → AreCellsOf (line g) info.plant cells.closed) (nav g) (λ h. subst (λ c. AreCellsOf (line g) 0 c.closed) (the_cells cells h) closed_cells) m info at at_c;
     reach = λ m info cells at at_c. at_one (λ m info. At (line_cert g).modules.items m (Some cells) → AreCellsOf (line g) info.plant cells.reach) (nav g) (λ h. subst (λ c. AreCellsOf (line g) 0 c.reach) (the_cells cells h) reach_cells) m info at at_c;
+    node_jitter = at_two (λ n node. 0 < node.period) (fast g) (slow g) (omega arith) (omega arith);
+    module_jitter = at_one (λ m info. 0 < info.period) (nav g) (omega arith);
   }
     where
       the_cells : (cells : Cells) → At (line_cert g).modules.items 0 (Some cells) → line_cells g ≡ cells

@@ -1,8 +1,9 @@
 -- What a certificate that fits a program satisfies.
-use Rattle.std.specs.Prelude.{◌≡◌, ℕ, ◌≤◌, List, Some, length}
-use Rattle.sot_box.specs.Lists.{At}
+use Rattle.std.specs.Prelude.{◌≡◌, ℕ, ◌≤◌, ◌<◌, List, Some, length}
+use Rattle.sot_lists.specs.Places.{At}
 use Rattle.sot_box.specs.BoxList.{BoxList}
 use Rattle.sot_box.specs.Sides.{Side, AreOrdered}
+use Rattle.sot_lang.specs.declared.tables.NodeInfo.{NodeInfo}
 use Rattle.sot_lang.specs.declared.tables.ModuleInfo.{ModuleInfo}
 use Rattle.sot_lang.specs.declared.cert.Cells.{Cells}
 use Rattle.sot_lang.specs.declared.cert.Cert.{Cert}
@@ -15,8 +16,10 @@ pub record AreCellsOf (p : Tables) (plant : ℕ) (cells : BoxList) : Type 0 wher
   pub boxes : length cells.boxes ≤ 4096
   pub each : (i : ℕ) (b : List Side) → At cells.boxes i b → (length b ≡ cells.width) × AreOrdered b
 
--- one entry, or none, for each module, in order, with cells of the module's plant
+-- one entry, or none, for each module, in order, with cells of the module's plant; and a jitter below every period
 pub record FitsTables (p : Tables) (cert : Cert) : Type 0 where
   pub entries : length cert.modules.items ≡ length p.modules
   pub closed : (m : ℕ) (info : ModuleInfo) (cells : Cells) → At p.modules m info → At cert.modules.items m (Some cells) → AreCellsOf p info.plant cells.closed
   pub reach : (m : ℕ) (info : ModuleInfo) (cells : Cells) → At p.modules m info → At cert.modules.items m (Some cells) → AreCellsOf p info.plant cells.reach
+  pub node_jitter : (n : ℕ) (node : NodeInfo) → At p.nodes n node → cert.jitter < node.period
+  pub module_jitter : (m : ℕ) (info : ModuleInfo) → At p.modules m info → cert.jitter < info.period

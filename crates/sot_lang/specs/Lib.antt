@@ -1,5 +1,4 @@
 pub mod Values
-pub mod Places
 pub mod SafeRegions
 pub mod Bodies
 pub mod Ticks
@@ -17,6 +16,3 @@ pub mod TypedView
 pub mod Line
 pub mod Examples
 pub mod BodyExamples
--- a program as it is written
-pub mod Trees
-pub mod TreeViews

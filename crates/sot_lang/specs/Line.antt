@@ -13,7 +13,7 @@ use denote.RawPtr.{null_ptr}
 use Rattle.std.specs.Global.{Vec, Box, Global}
 use Rattle.sot_text.specs.declared.token.Span.{Span}
 use Rattle.sot_box.specs.Sides.{Side}
-use Rattle.sot_lang.specs.declared.operator.Op.TheVariants.{Add, Greater, Less}
+use Rattle.sot_tree.specs.declared.operator.Op.TheVariants.{Add, Greater, Less}
 use Rattle.sot_lang.specs.declared.term.Term.{Term}
 use Rattle.sot_lang.specs.declared.term.Term.TheVariants.{Number, Place, Binary', If'}
 use Rattle.sot_lang.specs.declared.act.Act.{Act}
@@ -118,8 +118,8 @@ module _ (g : Global) where
     period = 4;
     offset = 0;
     plant = 0;
-    safe = record { width = 1; boxes = (side (negsuc 39) (pos 40) ∷ []) ∷ [] };
-    safer = record { width = 1; boxes = (side (negsuc 9) (pos 10) ∷ []) ∷ [] };
+    safe = record { width = 1; boxes = (side (negsuc 39) (pos 40) ∷ []) ∷ []; settled = false };
+    safer = record { width = 1; boxes = (side (negsuc 9) (pos 10) ∷ []) ∷ []; settled = false };
   }
 
   -- the tables
@@ -135,9 +135,9 @@ module _ (g : Global) where
   -- its certificate: closed cells [-40..-11], [-10..10], [11..40], and one reach cell [-10..10]
   abbrev pub line_cells : Cells
   line_cells = record {
-    closed = record { width = 1; boxes = (side (negsuc 39) (negsuc 10) ∷ []) ∷ (side (negsuc 9) (pos 10) ∷ []) ∷ (side (pos 11) (pos 40) ∷ []) ∷ [] };
-    reach = record { width = 1; boxes = (side (negsuc 9) (pos 10) ∷ []) ∷ [] };
+    closed = record { width = 1; boxes = (side (negsuc 39) (negsuc 10) ∷ []) ∷ (side (negsuc 9) (pos 10) ∷ []) ∷ (side (pos 11) (pos 40) ∷ []) ∷ []; settled = false };
+    reach = record { width = 1; boxes = (side (negsuc 9) (pos 10) ∷ []) ∷ []; settled = false };
   }
 
   abbrev pub line_cert : Cert
-  line_cert = record { modules = vec (Some line_cells ∷ []) refl }
+  line_cert = record { jitter = 0; modules = vec (Some line_cells ∷ []) refl }

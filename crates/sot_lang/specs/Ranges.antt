@@ -4,11 +4,7 @@ use Rattle.sot_lang.specs.declared.tables.ScalarInfo.{ScalarInfo}
 use Rattle.sot_lang.specs.declared.tables.PlantInfo.{PlantInfo}
 use Rattle.sot_lang.specs.declared.tables.NodeInfo.{NodeInfo}
 use Rattle.sot_lang.specs.Tables.{Tables}
-use Rattle.sot_box.specs.Sides.{Side}
-
--- the interval of 0 alone
-abbrev pub nought : Side
-nought = record { lo = pos 0; hi = pos 0 }
+use Rattle.sot_box.specs.Sides.{Side, nought}
 
 -- the range of a scalar, by its place
 abbrev pub range_of : List ScalarInfo → ℕ → Side

@@ -11,9 +11,8 @@ use Rattle.sot_lang.specs.declared.tables.Slot.TheVariants.{Scalar, State}
 use Rattle.sot_lang.specs.declared.tables.NodeInfo.{NodeInfo}
 use Rattle.sot_lang.specs.declared.tables.ModuleInfo.{ModuleInfo}
 use Rattle.sot_lang.specs.Tables.{Tables}
-use Rattle.sot_box.specs.Lists.{At}
+use Rattle.sot_lists.specs.Places.{At, Has}
 use Rattle.sot_box.specs.Boxes.{IsWithin}
-use Rattle.sot_lang.specs.Places.{Has}
 use Rattle.sot_lang.specs.Ranges.{scalar_ranges, local_ranges}
 use Rattle.sot_box.specs.BoxList.{BoxList}
 use Rattle.sot_box.specs.Sides.{Side, AreOrdered}

@@ -2,7 +2,7 @@
 use Rattle.std.specs.Prelude.{◌≡◌, ℕ, ◌<◌, ◌≤◌, pos, ◌≤ℤ◌, List, [], ◌∷◌, length}
 use Rattle.sot_lang.specs.declared.term.Term.{Term, Row_of-Term, end_of-Term, more_of-Term, items-the_row-Term}
 use Rattle.sot_lang.specs.declared.term.Term.TheVariants.{Number, Place, Binary', Rest', Neg', Not', Call', Rescale', If'}
-use Rattle.sot_lang.specs.TermRules.{arity}
+use Rattle.sot_tree.specs.Functions.{arity}
 
 -- each place is below n, each call has the parts of its function, the divisor of a rest is at least 1, and scales are at most 6
 abbrev mutual

@@ -1,3 +1,5 @@
+//! Certificates as they are checked.
+
 use sot_box::Region;
 
 /// What a certificate gives for a module: cells that cover its safe region, and cells that cover its safer region.
@@ -7,8 +9,9 @@ pub struct Cells {
     pub reach: Region,
 }
 
-/// A certificate, with an entry for each module of a program.
+/// A certificate: by how many ticks a firing may be late, and an entry for each module of a program.
 #[derive(Drop)]
 pub struct Cert {
+    pub jitter: u32,
     pub modules: Vec<Option<Cells>>,
 }

@@ -1,5 +1,5 @@
-use crate::operator::{Func, Op};
 use sot_text::Span;
+use sot_tree::{Func, Op};
 
 /// An expression whose names are places: of a node its read slots and then its locals; of a plant its state variables, its
 /// inputs, the states of the plants that it sees, and its disturbances, in this order.

@@ -7,8 +7,8 @@ use Rattle.sot_parser.specs.declared.syntax.Fail.{Fail}
 use Rattle.sot_parser.specs.declared.syntax.Fail.TheVariants.{Token, Deep, Memory}
 use Rattle.sot_parser.specs.Reads.{Read, Fault, ◌>>=◌, deep, expect}
 use Rattle.sot_parser.specs.ReadViews.{Fails}
-use Rattle.sot_lang.specs.Trees.{called, no_tree, one_more}
-use Rattle.sot_lang.specs.declared.operator.Func.TheVariants.{Clamp}
+use Rattle.sot_tree.specs.Trees.{called, no_tree, one_more}
+use Rattle.sot_tree.specs.declared.operator.Func.TheVariants.{Clamp}
 use Rattle.sot_parser.specs.declared.operators.Infix.{Infix}
 use Rattle.sot_parser.specs.Operators.{infix_at}
 use Rattle.sot_parser.specs.ExpressionReads.{Reader, Part, over, gone_on, joined_at, chain_at, any_token, opened_at, further_at, clamp_at}

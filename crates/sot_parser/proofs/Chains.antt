@@ -3,8 +3,8 @@ use Rattle.std.proofs.Common.{◌≡◌, ℕ, ◌⊎◌, cond, zero, suc, ◌+�
 use Rattle.std.proofs.lemmas.Bool.{cases_Bool}
 use Rattle.std.proofs.lemmas.Bool.Decides.{nat_tests}
 use Rattle.sot_text.specs.Reading.{Lexeme}
-use Rattle.sot_lang.specs.declared.operator.Op.{Op}
-use Rattle.sot_lang.specs.Trees.{binary, rest}
+use Rattle.sot_tree.specs.declared.operator.Op.{Op}
+use Rattle.sot_tree.specs.Trees.{binary, rest}
 use Rattle.sot_parser.specs.declared.operators.Infix.TheVariants.{Joins, Rests}
 use Rattle.sot_parser.specs.Lexemes.{IsSign, IsNumber, is_number, literal}
 use Rattle.sot_parser.specs.Reads.{Read, ◌>>=◌, stuck, deep, number_at}

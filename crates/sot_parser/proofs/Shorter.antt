@@ -3,13 +3,13 @@ use Rattle.std.proofs.Common.{ℕ, zero, suc, ◌<◌, ◌≤◌, ◌||◌, ◌=
 use Rattle.sot_text.specs.Reading.{Lexeme}
 use Rattle.sot_text.specs.Ahead.{Ahead}
 use Rattle.std.specs.Prelude.{IfOk}
-use Rattle.sot_lang.specs.declared.tree.Bounds.{Bounds}
-use Rattle.sot_lang.specs.declared.tree.Field.{Field}
-use Rattle.sot_lang.specs.declared.tree.Const.{Const}
-use Rattle.sot_lang.specs.declared.tree.StateDecl.{StateDecl}
+use Rattle.sot_tree.specs.declared.tree.Bounds.{Bounds}
+use Rattle.sot_tree.specs.declared.tree.Field.{Field}
+use Rattle.sot_tree.specs.declared.tree.Const.{Const}
+use Rattle.sot_tree.specs.declared.tree.StateDecl.{StateDecl}
 use Rattle.sot_parser.specs.declared.syntax.Fail.{Fail}
 use Rattle.sot_parser.specs.ReadViews.{Gives}
-use Rattle.sot_lang.specs.Trees.{Tree, Statement, Block, no_statement}
+use Rattle.sot_tree.specs.Trees.{Tree, Statement, Block, no_statement}
 use Rattle.sot_parser.specs.Lexemes.{begins, is_sign, is_keyword, is_name, is_number, ident, literal}
 use Rattle.sot_parser.specs.Reads.{Read, ◌>>=◌, one_token, expect, name_at, number_at, literal_at}
 use Rattle.sot_parser.specs.ListReads.{repeated, all_at, further_at, separated_at, clause_at, optional_at}

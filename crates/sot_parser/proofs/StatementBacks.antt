@@ -2,7 +2,7 @@
 use Rattle.std.proofs.Common.{◌≡◌, ℕ, zero, suc, ◌≤◌, ◌<◌, ◌==◌, ◌||◌, not, codes, length, List, [], ◌∷◌, Bool, true, false, Option, None, Some, Ok, refl, sym, ap, subst, ◌∙◌, arith}
 use Rattle.std.proofs.lemmas.Bool.Decides.{nat_tests}
 use Rattle.sot_text.specs.Reading.{Lexeme}
-use Rattle.sot_lang.specs.Trees.{Statement, Block, statement}
+use Rattle.sot_tree.specs.Trees.{Statement, Block, statement}
 use Rattle.sot_parser.specs.Lexemes.{begins, is_sign, is_keyword}
 use Rattle.sot_parser.specs.Phrases as phrases
 use Rattle.sot_parser.specs.ListReads.{repeated, all_at}

@@ -3,12 +3,12 @@ use Rattle.std.proofs.Common.{◌≡◌, ℕ, zero, suc, ◌-◌, ◌≤◌, con
 use Rattle.std.specs.Global.{Vec}
 use Rattle.sot_text.specs.Reading.{Lexeme}
 use Rattle.sot_text.specs.declared.token.Span.{Span}
-use Rattle.sot_lang.specs.declared.tree.Lit.{Lit}
-use Rattle.sot_lang.specs.declared.tree.Expr.{Expr}
-use Rattle.sot_lang.specs.declared.tree.Stmt.{Stmt, If, Repeat}
-use Rattle.sot_lang.specs.Trees.{Tree, Statement, Block, statement}
-use Rattle.sot_lang.specs.TreeViews.{tree_view, statement_view, block_view}
-use Rattle.sot_lang.proofs.BlockRows.{branch_view, repeat_view}
+use Rattle.sot_tree.specs.declared.tree.Lit.{Lit}
+use Rattle.sot_tree.specs.declared.tree.Expr.{Expr}
+use Rattle.sot_tree.specs.declared.tree.Stmt.{Stmt, If, Repeat}
+use Rattle.sot_tree.specs.Trees.{Tree, Statement, Block, statement}
+use Rattle.sot_tree.specs.TreeViews.{tree_view, statement_view, block_view}
+use Rattle.sot_tree.proofs.BlockRows.{branch_view, repeat_view}
 use Rattle.sot_parser.specs.Lexemes.{is_sign, is_keyword}
 use Rattle.sot_parser.specs.Reads.{Read, stuck, deep, expect, number_at}
 use Rattle.sot_parser.specs.ListReads.{all_at}

@@ -3,9 +3,9 @@ use Rattle.std.specs.Prelude.{◌≡◌, ℕ, Bool, true, false, List, [], ◌�
 use Rattle.sot_text.specs.declared.token.LexFault.{LexFault}
 use Rattle.sot_text.specs.Reading.{span}
 use Rattle.sot_text.specs.Ahead.{Ahead, ahead_from}
-use Rattle.sot_lang.specs.declared.tree.Program.{Program as CodeProgram}
-use Rattle.sot_lang.specs.Trees.{Program}
-use Rattle.sot_lang.specs.TreeViews.{program_view}
+use Rattle.sot_tree.specs.declared.tree.Program.{Program as CodeProgram}
+use Rattle.sot_tree.specs.Trees.{Program}
+use Rattle.sot_tree.specs.TreeViews.{program_view}
 use Rattle.sot_parser.specs.declared.syntax.Syntax.{Syntax}
 use Rattle.sot_parser.specs.declared.syntax.Syntax.TheVariants.{Lex, Token, Deep}
 use Rattle.sot_parser.specs.declared.syntax.ParseFail.{ParseFail}

@@ -1,16 +1,16 @@
 -- What tokens spell of a declaration, read from the left.
 use Rattle.std.specs.Prelude.{ℕ, List, [], ◌∷◌, Bool, true, false, ◌||◌, codes, Option, None, Some, Ok, if◌then◌else◌}
 use Rattle.sot_text.specs.Reading.{Lexeme}
-use Rattle.sot_lang.specs.declared.tree.Ident.{Ident}
-use Rattle.sot_lang.specs.declared.tree.Lit.{Lit}
-use Rattle.sot_lang.specs.declared.tree.Bounds.{Bounds}
-use Rattle.sot_lang.specs.declared.tree.Scalar.{Scalar}
-use Rattle.sot_lang.specs.declared.tree.Scalar.TheVariants.{Int, Fix, Bool as Truths}
-use Rattle.sot_lang.specs.declared.tree.Field.{Field}
-use Rattle.sot_lang.specs.declared.tree.Const.{Const}
-use Rattle.sot_lang.specs.declared.tree.Const.TheVariants as consts
-use Rattle.sot_lang.specs.declared.tree.StateDecl.{StateDecl}
-use Rattle.sot_lang.specs.Trees.{Form, one, fields, Start, one_value, values, Topic, Next, Local, Plant, Node, Area, Module, Declaration, a_topic, a_plant, a_node, a_module, Program}
+use Rattle.sot_tree.specs.declared.tree.Ident.{Ident}
+use Rattle.sot_tree.specs.declared.tree.Lit.{Lit}
+use Rattle.sot_tree.specs.declared.tree.Bounds.{Bounds}
+use Rattle.sot_tree.specs.declared.tree.Scalar.{Scalar}
+use Rattle.sot_tree.specs.declared.tree.Scalar.TheVariants.{Int, Fix, Bool as Truths}
+use Rattle.sot_tree.specs.declared.tree.Field.{Field}
+use Rattle.sot_tree.specs.declared.tree.Const.{Const}
+use Rattle.sot_tree.specs.declared.tree.Const.TheVariants as consts
+use Rattle.sot_tree.specs.declared.tree.StateDecl.{StateDecl}
+use Rattle.sot_tree.specs.Trees.{Form, one, fields, Start, one_value, values, Topic, Next, Local, Plant, Node, Area, Module, Declaration, a_topic, a_plant, a_node, a_module, Program}
 use Rattle.sot_parser.specs.Lexemes.{begins, is_sign, is_keyword}
 use Rattle.sot_parser.specs.Reads.{Read, ◌>>=◌, expect, name_at, number_at, literal_at}
 use Rattle.sot_parser.specs.ListReads.{all_at, separated_at, clause_at, optional_at}

@@ -1,10 +1,10 @@
 -- The grammar of declarations.
 use Rattle.std.specs.Prelude.{ℕ, max, List, [], ◌∷◌, Bool, true, false, codes, map, Option, None, Some}
 use Rattle.sot_text.specs.Reading.{Lexeme}
-use Rattle.sot_lang.specs.declared.tree.Lit.{Lit}
-use Rattle.sot_lang.specs.declared.tree.StateDecl.{StateDecl}
-use Rattle.sot_lang.specs.Trees.{Form, one, fields, Start, one_value, values, Topic, Next, Local, Plant, Node, Area, Module, Declaration}
-use Rattle.sot_lang.specs.Trees as trees
+use Rattle.sot_tree.specs.declared.tree.Lit.{Lit}
+use Rattle.sot_tree.specs.declared.tree.StateDecl.{StateDecl}
+use Rattle.sot_tree.specs.Trees.{Form, one, fields, Start, one_value, values, Topic, Next, Local, Plant, Node, Area, Module, Declaration}
+use Rattle.sot_tree.specs.Trees as trees
 use Rattle.sot_parser.specs.Pieces.{Keyword, Sign, Named, name_of, number_of, spelled_keyword, each, maybe, Separated, spelled_name, spelled_separated, separated_of, SideForm, spelled_side, side_of, ScalarForm, spelled_scalar, scalar_of, FixForm, spelled_fix, fix_of, FieldForm, spelled_field, field_of, ConstForm, spelled_const, const_of, ClauseForm, spelled_clause, clause_of, clause_or_none, RoleForm, spelled_role, role_of, TimingForm, spelled_timing}
 use Rattle.sot_parser.specs.Statements.{ExpressionForm, spelled_expression, expression_of, expression_levels, BlockForm, spelled_block, block_of, block_levels}
 

@@ -1,10 +1,10 @@
 -- What tokens spell as an expression, read from the left: its tree, with how deep it nests, or the first token at fault.
 use Rattle.std.specs.Prelude.{ℕ, zero, suc, ◌+◌, List, [], ◌∷◌, Bool, true, false, ◌==◌, ◌||◌, not, nat_lt, max, codes, Option, None, Some, Ok, Err, if◌then◌else◌}
 use Rattle.sot_text.specs.Reading.{Lexeme}
-use Rattle.sot_lang.specs.declared.operator.Func.{Func}
-use Rattle.sot_lang.specs.declared.operator.Func.TheVariants.{Abs, Clamp}
-use Rattle.sot_lang.specs.declared.tree.Ident.{Ident}
-use Rattle.sot_lang.specs.Trees.{Tree, number, truth, named, binary, rest, negated, denied, called, rescaled, chosen, no_tree, one_more}
+use Rattle.sot_tree.specs.declared.operator.Func.{Func}
+use Rattle.sot_tree.specs.declared.operator.Func.TheVariants.{Abs, Clamp}
+use Rattle.sot_tree.specs.declared.tree.Ident.{Ident}
+use Rattle.sot_tree.specs.Trees.{Tree, number, truth, named, binary, rest, negated, denied, called, rescaled, chosen, no_tree, one_more}
 use Rattle.sot_parser.specs.declared.operators.Infix.{Infix}
 use Rattle.sot_parser.specs.declared.operators.Infix.TheVariants.{Joins, Rests}
 use Rattle.sot_parser.specs.declared.operators.Opening.{Opening}

@@ -1,7 +1,7 @@
 -- The expressions that functions return, and what the functions of one expression promise each other.
 use Rattle.std.specs.Prelude.{ℕ, ◌+◌, ◌-◌, ◌≤◌, Bool, true, false, ◌&&◌, if◌then◌else◌, List}
 use Rattle.sot_text.specs.Reading.{Lexeme}
-use Rattle.sot_lang.specs.TreeViews.{tree_view}
+use Rattle.sot_tree.specs.TreeViews.{tree_view}
 use Rattle.sot_parser.specs.declared.part.Part.{Part as CodePart}
 use Rattle.sot_parser.specs.Reads.{Read}
 use Rattle.sot_parser.specs.ExpressionReads.{Part, Around, part_at}

@@ -1,9 +1,9 @@
 -- Operators between two operands, and what an operand begins with.
 use Rattle.std.specs.Prelude.{ℕ, List, [], ◌∷◌, Bool, true, false, ◌==◌, codes, Option, None, Some, if◌then◌else◌}
 use Rattle.sot_text.specs.Reading.{Lexeme}
-use Rattle.sot_lang.specs.declared.operator.Op.{Op}
-use Rattle.sot_lang.specs.declared.operator.Op.TheVariants.{Add, Sub, Mul, Div, Less, LessEqual, Greater, GreaterEqual, Equal, NotEqual, And, Or}
-use Rattle.sot_lang.specs.declared.operator.Func.TheVariants.{Min, Max}
+use Rattle.sot_tree.specs.declared.operator.Op.{Op}
+use Rattle.sot_tree.specs.declared.operator.Op.TheVariants.{Add, Sub, Mul, Div, Less, LessEqual, Greater, GreaterEqual, Equal, NotEqual, And, Or}
+use Rattle.sot_tree.specs.declared.operator.Func.TheVariants.{Min, Max}
 use Rattle.sot_parser.specs.declared.operators.Infix.{Infix}
 use Rattle.sot_parser.specs.declared.operators.Infix.TheVariants.{Joins, Rests}
 use Rattle.sot_parser.specs.declared.operators.Opening.{Opening}

@@ -1,11 +1,11 @@
 -- The grammar of expressions: what the tokens of an expression are, one case for each production.
 use Rattle.std.specs.Prelude.{◌≡◌, ℕ, ◌+◌, ◌<◌, ◌≤◌, max, ◌==◌, List, ◌∷◌, Bool, true, false, codes, None, Some, if◌then◌else◌}
 use Rattle.sot_text.specs.Reading.{Lexeme}
-use Rattle.sot_lang.specs.declared.operator.Op.{Op}
-use Rattle.sot_lang.specs.declared.operator.Op.TheVariants.{Add, Sub, Mul, Div, Less, LessEqual, Greater, GreaterEqual, Equal, NotEqual, And, Or}
-use Rattle.sot_lang.specs.declared.operator.Func.{Func}
-use Rattle.sot_lang.specs.declared.operator.Func.TheVariants.{Min, Max, Abs, Clamp}
-use Rattle.sot_lang.specs.Trees.{Tree, number, truth, named, binary, rest, negated, denied, called, rescaled, chosen, no_tree, one_more}
+use Rattle.sot_tree.specs.declared.operator.Op.{Op}
+use Rattle.sot_tree.specs.declared.operator.Op.TheVariants.{Add, Sub, Mul, Div, Less, LessEqual, Greater, GreaterEqual, Equal, NotEqual, And, Or}
+use Rattle.sot_tree.specs.declared.operator.Func.{Func}
+use Rattle.sot_tree.specs.declared.operator.Func.TheVariants.{Min, Max, Abs, Clamp}
+use Rattle.sot_tree.specs.Trees.{Tree, number, truth, named, binary, rest, negated, denied, called, rescaled, chosen, no_tree, one_more}
 use Rattle.sot_parser.specs.Lexemes.{IsKeyword, IsSign, IsName, IsNumber, begins, is_sign, ident, literal, negative_literal}
 use Rattle.sot_parser.specs.Upcoming.{first_of}
 use Rattle.sot_parser.specs.Operators.{operator_from, tier_of_op}

@@ -1,9 +1,9 @@
 -- What tokens spell of a statement, read from the left.
 use Rattle.std.specs.Prelude.{ℕ, zero, suc, List, [], ◌∷◌, Bool, not, ◌||◌, ◌==◌, codes, Option, None, Some, Ok, Err, if◌then◌else◌}
 use Rattle.sot_text.specs.Reading.{Lexeme}
-use Rattle.sot_lang.specs.declared.tree.Ident.{Ident}
-use Rattle.sot_lang.specs.Trees.{Tree, Statement, Block, assigned, published, branched, no_statement, statement}
-use Rattle.sot_lang.specs.Trees as trees
+use Rattle.sot_tree.specs.declared.tree.Ident.{Ident}
+use Rattle.sot_tree.specs.Trees.{Tree, Statement, Block, assigned, published, branched, no_statement, statement}
+use Rattle.sot_tree.specs.Trees as trees
 use Rattle.sot_parser.specs.Lexemes.{begins, is_sign, is_keyword, is_name}
 use Rattle.sot_parser.specs.Reads.{Read, stuck, deep, ◌>>=◌, expect, name_at, number_at}
 use Rattle.sot_parser.specs.ListReads.{all_at}

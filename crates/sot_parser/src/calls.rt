@@ -1,10 +1,10 @@
 ghost use Rattle.std.specs.Prelude.{◌≡◌};
-ghost use Rattle.sot_lang.specs.Trees.{called, one_more, no_tree};
-ghost use Rattle.sot_lang.specs.TreeViews.{tree_view};
+ghost use Rattle.sot_tree.specs.Trees.{called, one_more, no_tree};
+ghost use Rattle.sot_tree.specs.TreeViews.{tree_view};
 ghost use Rattle.sot_parser.specs.ReadViews.{Makes};
 
 use crate::syntax::Fail;
-use sot_lang::{Expr, Func};
+use sot_tree::{Expr, Func};
 use sot_text::Span;
 use std::alloc::Global;
 

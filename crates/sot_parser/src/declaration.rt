@@ -1,5 +1,5 @@
 ghost use Rattle.std.specs.Prelude.{◌≡◌, ◌≤◌, ◌||◌, map, codes};
-ghost use Rattle.sot_lang.specs.TreeViews.{declaration_view};
+ghost use Rattle.sot_tree.specs.TreeViews.{declaration_view};
 ghost use Rattle.sot_parser.specs.Lexemes.{begins, is_keyword};
 ghost use Rattle.sot_parser.specs.DeclarationReads.{a_topic_at, a_plant_at, a_coded_at, an_external_at, a_module_at, declaration_at, declarations_at, is_some};
 ghost use Rattle.sot_parser.specs.ReadViews.{Gives};
@@ -11,7 +11,7 @@ use crate::regions::mission_module;
 use crate::syntax::Fail;
 use crate::tokens::Tokens;
 use crate::topic::topic;
-use sot_lang::Decl;
+use sot_tree::Decl;
 use std::alloc::Global;
 
 #[tactic(auto, unfolding(crate::specs::DeclarationReads::a_topic_at))]

@@ -12,7 +12,7 @@ use crate::operators::{Infix, Opening, infix_at, opening_at};
 use crate::part::Part;
 use crate::syntax::Fail;
 use crate::tokens::Tokens;
-use sot_lang::{Expr, Func, Ident};
+use sot_tree::{Expr, Func, Ident};
 use sot_text::Token;
 use std::alloc::Global;
 

@@ -1,7 +1,7 @@
 use crate::expression::expression;
 use crate::syntax::Fail;
 use crate::tokens::Tokens;
-use sot_lang::{Expr, Ident, Lit};
+use sot_tree::{Expr, Ident, Lit};
 use sot_text::Lexer;
 use std::alloc::{AllocError, Global};
 use std::test::Fail as TestFail;

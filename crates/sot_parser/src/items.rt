@@ -8,7 +8,7 @@ ghost use Rattle.sot_parser.specs.ReadViews.{Gives};
 use crate::leaves::{expect_keyword, expect_sign, is_keyword, is_sign, name};
 use crate::syntax::Fail;
 use crate::tokens::Tokens;
-use sot_lang::Ident;
+use sot_tree::Ident;
 use std::alloc::Global;
 
 /// What stands in lists.

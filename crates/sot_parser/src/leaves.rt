@@ -8,7 +8,7 @@ ghost use Rattle.sot_parser.specs.ReadViews.{Gives};
 
 use crate::syntax::Fail;
 use crate::tokens::Tokens;
-use sot_lang::{Ident, Lit, Name};
+use sot_tree::{Ident, Lit, Name};
 use sot_text::{Kind, Span, Token, numeral_of};
 use std::alloc::Global;
 

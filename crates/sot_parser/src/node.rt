@@ -1,5 +1,5 @@
 ghost use Rattle.std.specs.Prelude.{◌≡◌, ◌≤◌, map, codes};
-ghost use Rattle.sot_lang.specs.TreeViews.{local_view, node_view};
+ghost use Rattle.sot_tree.specs.TreeViews.{local_view, node_view};
 ghost use Rattle.sot_parser.specs.Lexemes.{begins, is_keyword};
 ghost use Rattle.sot_parser.specs.ListReads.{all_at};
 ghost use Rattle.sot_parser.specs.DeclarationReads.{local_at, coded_at, external_at};
@@ -11,7 +11,7 @@ use crate::pieces::{constant, scalar, timing};
 use crate::statement::block;
 use crate::syntax::Fail;
 use crate::tokens::Tokens;
-use sot_lang::{LocalDecl, NodeDecl};
+use sot_tree::{LocalDecl, NodeDecl};
 use std::alloc::Global;
 
 #[tactic(auto, unfolding(crate::specs::DeclarationReads::local_at))]

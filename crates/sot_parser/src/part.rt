@@ -1,4 +1,4 @@
-use sot_lang::Expr;
+use sot_tree::Expr;
 
 /// An expression that was read, with how deep it nests. `bare` where it is a pair of parentheses.
 #[derive(Drop)]

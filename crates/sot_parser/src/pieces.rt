@@ -8,7 +8,7 @@ use crate::items::Item;
 use crate::leaves::{expect_keyword, expect_sign, is_keyword, literal, name, number};
 use crate::syntax::Fail;
 use crate::tokens::Tokens;
-use sot_lang::{Bounds, Const, Field, Ident, Lit, Scalar, StateDecl};
+use sot_tree::{Bounds, Const, Field, Ident, Lit, Scalar, StateDecl};
 use std::alloc::Global;
 
 #[tactic(auto, unfolding(crate::specs::DeclarationReads::side_at))]

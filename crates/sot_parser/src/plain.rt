@@ -1,5 +1,5 @@
 ghost use Rattle.std.specs.Prelude.{◌≡◌, ◌≤◌, codes};
-ghost use Rattle.sot_lang.specs.TreeViews.{tree_view, statement_view};
+ghost use Rattle.sot_tree.specs.TreeViews.{tree_view, statement_view};
 ghost use Rattle.sot_parser.specs.Lexemes.{begins, is_sign, is_keyword};
 ghost use Rattle.sot_parser.specs.StatementReads.{tree_at, assign_at, field_at, dot_at, publish_at, plain_at};
 ghost use Rattle.sot_parser.specs.ReadViews.{Gives};
@@ -8,7 +8,7 @@ use crate::expression::expression;
 use crate::leaves::{expect_keyword, expect_sign, is_keyword, is_sign, name};
 use crate::syntax::Fail;
 use crate::tokens::Tokens;
-use sot_lang::{Expr, Ident, Stmt};
+use sot_tree::{Expr, Ident, Stmt};
 use std::alloc::Global;
 
 /// An expression of at most `room` levels.

@@ -1,5 +1,5 @@
 ghost use Rattle.std.specs.Prelude.{◌≡◌, ◌≤◌, map, codes};
-ghost use Rattle.sot_lang.specs.TreeViews.{tree_view, next_view, plant_view};
+ghost use Rattle.sot_tree.specs.TreeViews.{tree_view, next_view, plant_view};
 ghost use Rattle.sot_parser.specs.Lexemes.{begins, is_keyword};
 ghost use Rattle.sot_parser.specs.Reads.{name_at};
 ghost use Rattle.sot_parser.specs.ListReads.{all_at};
@@ -12,7 +12,7 @@ use crate::leaves::{expect_keyword, expect_sign, is_keyword, name};
 use crate::plain::tree;
 use crate::syntax::Fail;
 use crate::tokens::Tokens;
-use sot_lang::{NextDecl, PlantDecl};
+use sot_tree::{NextDecl, PlantDecl};
 use std::alloc::Global;
 
 #[tactic(auto, unfolding(crate::specs::DeclarationReads::next_at))]

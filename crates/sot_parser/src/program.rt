@@ -1,7 +1,7 @@
 ghost use Rattle.std.specs.Prelude.{◌≡◌, IfOk, IsErrOf};
 ghost use Rattle.sot_text.specs.Ahead.{ahead_from};
-ghost use Rattle.sot_lang.specs.Trees.{Program as ProgramTree};
-ghost use Rattle.sot_lang.specs.TreeViews.{program_view};
+ghost use Rattle.sot_tree.specs.Trees.{Program as ProgramTree};
+ghost use Rattle.sot_tree.specs.TreeViews.{program_view};
 ghost use Rattle.sot_parser.specs.Programs.{Spells};
 ghost use Rattle.sot_parser.specs.DeclarationReads.{program_at};
 ghost use Rattle.sot_parser.specs.Answers.{stuck_syntax, deep_syntax, is_ended, fault_at, Answers};
@@ -10,7 +10,7 @@ ghost use Rattle.sot_parser.specs.ReadViews.{Gives};
 use crate::declaration::declarations;
 use crate::syntax::{Fail, ParseFail, Syntax};
 use crate::tokens::Tokens;
-use sot_lang::Program;
+use sot_tree::Program;
 use sot_text::Lexer;
 use std::alloc::Global;
 

@@ -1,5 +1,5 @@
 use super::*;
-use sot_lang::{Decl, Program, Stmt};
+use sot_tree::{Decl, Program, Stmt};
 use sot_text::{LexFault, Lexer};
 use std::alloc::Global;
 use std::test::Fail;

@@ -1,5 +1,5 @@
 ghost use Rattle.std.specs.Prelude.{◌≡◌, map, codes};
-ghost use Rattle.sot_lang.specs.TreeViews.{area_view, module_view};
+ghost use Rattle.sot_tree.specs.TreeViews.{area_view, module_view};
 ghost use Rattle.sot_parser.specs.Lexemes.{begins, is_sign, is_keyword};
 ghost use Rattle.sot_parser.specs.ListReads.{further_at, separated_at};
 ghost use Rattle.sot_parser.specs.DeclarationReads.{box_at, no_box_at, region_at, bound_at, module_at};
@@ -10,7 +10,7 @@ use crate::leaves::{expect_keyword, expect_sign, is_keyword, is_sign, name};
 use crate::pieces::{role, timing};
 use crate::syntax::Fail;
 use crate::tokens::Tokens;
-use sot_lang::{BoxDecl, ModuleDecl};
+use sot_tree::{BoxDecl, ModuleDecl};
 use std::alloc::Global;
 
 #[tactic(auto, unfolding(crate::specs::DeclarationReads::box_at))]

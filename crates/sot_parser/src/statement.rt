@@ -1,5 +1,5 @@
 ghost use Rattle.std.specs.Prelude.{◌≡◌, ◌≤◌, map, codes};
-ghost use Rattle.sot_lang.specs.TreeViews.{statement_view, block_view};
+ghost use Rattle.sot_tree.specs.TreeViews.{statement_view, block_view};
 ghost use Rattle.sot_parser.specs.Lexemes.{begins, is_sign, is_keyword};
 ghost use Rattle.sot_parser.specs.ListReads.{all_at};
 ghost use Rattle.sot_parser.specs.StatementReads.{tree_at, otherwise_at, else_at, branch_at, loop_at, choice_at, nested_at, begins_nested, begins_statement, goes_on, block_at, statement_at};
@@ -9,7 +9,7 @@ use crate::leaves::{expect_keyword, expect_sign, is_keyword, is_name, is_sign, n
 use crate::plain::{plain, tree};
 use crate::syntax::Fail;
 use crate::tokens::Tokens;
-use sot_lang::Stmt;
+use sot_tree::Stmt;
 use std::alloc::Global;
 
 fn is_nested(tokens: &Tokens<'_>) -> bool

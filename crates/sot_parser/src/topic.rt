@@ -1,5 +1,5 @@
 ghost use Rattle.std.specs.Prelude.{◌≡◌, codes};
-ghost use Rattle.sot_lang.specs.TreeViews.{shape_view, init_view, topic_view};
+ghost use Rattle.sot_tree.specs.TreeViews.{shape_view, init_view, topic_view};
 ghost use Rattle.sot_parser.specs.Lexemes.{begins, is_sign, is_keyword};
 ghost use Rattle.sot_parser.specs.DeclarationReads.{fields_at, one_scalar_at, shape_at, consts_at, one_const_at, init_at, environment_at, outside_at, topic_at};
 ghost use Rattle.sot_parser.specs.ReadViews.{Gives};
@@ -9,7 +9,7 @@ use crate::leaves::{expect_keyword, expect_sign, is_keyword, is_sign, name};
 use crate::pieces::{constant, scalar};
 use crate::syntax::Fail;
 use crate::tokens::Tokens;
-use sot_lang::{Init, Shape, TopicDecl};
+use sot_tree::{Init, Shape, TopicDecl};
 use std::alloc::Global;
 
 #[tactic(auto, unfolding(crate::specs::DeclarationReads::fields_at))]

@@ -2,11 +2,11 @@
 use Rattle.std.proofs.Common.{true, false, List, [], ◌∷◌, ◌++◌, codes, refl}
 use Rattle.sot_text.specs.declared.token.Kind.TheVariants.{Keyword}
 use Rattle.sot_text.specs.Lexeme.{IsTokenText}
-use Rattle.sot_lang.specs.declared.operator.Op.{Op}
-use Rattle.sot_lang.specs.declared.operator.Op.TheVariants.{Add, Sub, Mul, Div, Less, LessEqual, Greater, GreaterEqual, Equal, NotEqual, And, Or}
-use Rattle.sot_lang.specs.declared.operator.Func.{Func}
-use Rattle.sot_lang.specs.declared.operator.Func.TheVariants.{Min, Max, Abs, Clamp}
-use Rattle.sot_lang.specs.Trees.{Tree, Trees, number, truth, named, binary, rest, negated, denied, called, rescaled, chosen, no_tree, one_more}
+use Rattle.sot_tree.specs.declared.operator.Op.{Op}
+use Rattle.sot_tree.specs.declared.operator.Op.TheVariants.{Add, Sub, Mul, Div, Less, LessEqual, Greater, GreaterEqual, Equal, NotEqual, And, Or}
+use Rattle.sot_tree.specs.declared.operator.Func.{Func}
+use Rattle.sot_tree.specs.declared.operator.Func.TheVariants.{Min, Max, Abs, Clamp}
+use Rattle.sot_tree.specs.Trees.{Tree, Trees, number, truth, named, binary, rest, negated, denied, called, rescaled, chosen, no_tree, one_more}
 use Rattle.sot_print.specs.declared.gap.Gap.{Gap}
 use Rattle.sot_print.specs.declared.gap.Gap.TheVariants.{Touching, Space}
 use Rattle.sot_print.specs.Words.{Word, keyword, sign}

@@ -10,14 +10,14 @@ use Rattle.sot_text.specs.Lexeme.{begins_word, decimals_of, mantissa_of, number_
 use Rattle.sot_text.specs.Inside.{is_long_sign, sign_by_two}
 use Rattle.sot_text.proofs.Signs.{by_two}
 use Rattle.sot_text.proofs.Fronts.{front_number, front_sign}
-use Rattle.sot_lang.specs.declared.tree.Ident.{Ident}
-use Rattle.sot_lang.specs.declared.tree.Lit.{Lit}
-use Rattle.sot_lang.specs.declared.tree.Bounds.{Bounds}
-use Rattle.sot_lang.specs.declared.tree.Scalar.{Scalar}
-use Rattle.sot_lang.specs.declared.tree.Scalar.TheVariants.{Int, Fix, Bool as Truths}
-use Rattle.sot_lang.specs.declared.tree.Field.{Field}
-use Rattle.sot_lang.specs.declared.tree.Const.{Const}
-use Rattle.sot_lang.specs.declared.tree.Const.TheVariants.{Number as Numeral, Truth}
+use Rattle.sot_tree.specs.declared.tree.Ident.{Ident}
+use Rattle.sot_tree.specs.declared.tree.Lit.{Lit}
+use Rattle.sot_tree.specs.declared.tree.Bounds.{Bounds}
+use Rattle.sot_tree.specs.declared.tree.Scalar.{Scalar}
+use Rattle.sot_tree.specs.declared.tree.Scalar.TheVariants.{Int, Fix, Bool as Truths}
+use Rattle.sot_tree.specs.declared.tree.Field.{Field}
+use Rattle.sot_tree.specs.declared.tree.Const.{Const}
+use Rattle.sot_tree.specs.declared.tree.Const.TheVariants.{Number as Numeral, Truth}
 use Rattle.sot_print.specs.declared.gap.Gap.{Gap}
 use Rattle.sot_print.specs.declared.gap.Gap.TheVariants.{Touching, Space}
 use Rattle.sot_print.specs.Words.{Word, keyword, sign as a_sign, name, number}

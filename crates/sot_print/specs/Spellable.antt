@@ -2,16 +2,16 @@
 use Rattle.std.specs.Prelude.{unsigned_abs, List, [], ◌∷◌, Option, None, Some}
 use Rattle.sot_text.specs.declared.token.Kind.TheVariants.{Name, Number}
 use Rattle.sot_text.specs.Lexeme.{IsTokenText}
-use Rattle.sot_lang.specs.declared.tree.Ident.{Ident}
-use Rattle.sot_lang.specs.declared.tree.Lit.{Lit}
-use Rattle.sot_lang.specs.declared.tree.Bounds.{Bounds}
-use Rattle.sot_lang.specs.declared.tree.Scalar.{Scalar}
-use Rattle.sot_lang.specs.declared.tree.Scalar.TheVariants.{Int, Fix, Bool as Truths}
-use Rattle.sot_lang.specs.declared.tree.Field.{Field}
-use Rattle.sot_lang.specs.declared.tree.Const.{Const}
-use Rattle.sot_lang.specs.declared.tree.Const.TheVariants.{Number as Numeral, Truth}
-use Rattle.sot_lang.specs.declared.tree.StateDecl.{StateDecl}
-use Rattle.sot_lang.specs.Trees.{Tree, Trees, number, truth, named, binary, rest, negated, denied, called, rescaled, chosen, no_tree, one_more, Statement, Block, assigned, published, branched, repeated, no_statement, statement, Form, one, fields, Start, one_value, values, Topic, Next, Local, Plant, Node, Area, Module, Declaration, a_topic, a_plant, a_node, a_module, Program}
+use Rattle.sot_tree.specs.declared.tree.Ident.{Ident}
+use Rattle.sot_tree.specs.declared.tree.Lit.{Lit}
+use Rattle.sot_tree.specs.declared.tree.Bounds.{Bounds}
+use Rattle.sot_tree.specs.declared.tree.Scalar.{Scalar}
+use Rattle.sot_tree.specs.declared.tree.Scalar.TheVariants.{Int, Fix, Bool as Truths}
+use Rattle.sot_tree.specs.declared.tree.Field.{Field}
+use Rattle.sot_tree.specs.declared.tree.Const.{Const}
+use Rattle.sot_tree.specs.declared.tree.Const.TheVariants.{Number as Numeral, Truth}
+use Rattle.sot_tree.specs.declared.tree.StateDecl.{StateDecl}
+use Rattle.sot_tree.specs.Trees.{Tree, Trees, number, truth, named, binary, rest, negated, denied, called, rescaled, chosen, no_tree, one_more, Statement, Block, assigned, published, branched, repeated, no_statement, statement, Form, one, fields, Start, one_value, values, Topic, Next, Local, Plant, Node, Area, Module, Declaration, a_topic, a_plant, a_node, a_module, Program}
 use Rattle.sot_print.specs.Leaves.{numeral}
 
 abbrev pub Each : {A : Type 0} → (A → Type 0) → List A → Type 0

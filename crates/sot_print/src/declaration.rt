@@ -1,6 +1,6 @@
 ghost use Rattle.std.specs.Prelude.{◌≡◌, ◌∷◌, ◌==◌, ◌++◌, true, map, OnOk};
 ghost use Rattle.std.specs.String.{string_bytes};
-ghost use Rattle.sot_lang.specs.TreeViews.{topic_view, next_view, plant_view, local_view, node_view, area_view, module_view, declaration_view, block_view};
+ghost use Rattle.sot_tree.specs.TreeViews.{topic_view, next_view, plant_view, local_view, node_view, area_view, module_view, declaration_view, block_view};
 ghost use Rattle.sot_print.specs.declared.gap.Gap.TheVariants.{Space};
 ghost use Rattle.sot_print.specs.Words.{laid, keyword};
 ghost use Rattle.sot_print.specs.Leaves.{ident_words};
@@ -13,9 +13,7 @@ use crate::clause::{
 use crate::gap::{Gap, push_word};
 use crate::leaf::push_ident;
 use crate::statement::{push_block, push_semicolon};
-use sot_lang::{
-    BoxDecl, Decl, Ident, LocalDecl, ModuleDecl, NextDecl, NodeDecl, PlantDecl, Stmt, TopicDecl,
-};
+use sot_tree::{BoxDecl, Decl, Ident, LocalDecl, ModuleDecl, NextDecl, NodeDecl, PlantDecl, Stmt, TopicDecl};
 use std::alloc::AllocError;
 
 // The closing brace of a declaration.

@@ -1,6 +1,6 @@
 ghost use Rattle.std.specs.Prelude.{◌≡◌, ◌++◌, ◌∷◌, [], not, if◌then◌else◌, codes, OnOk};
 ghost use Rattle.std.specs.String.{string_bytes};
-ghost use Rattle.sot_lang.specs.TreeViews.{tree_view};
+ghost use Rattle.sot_tree.specs.TreeViews.{tree_view};
 ghost use Rattle.sot_print.specs.Words.{laid};
 ghost use Rattle.sot_print.specs.Expressions.{operator, function_name, is_plain, grouped_words, operand_words, expression_words};
 ghost use Rattle.sot_print.specs.Leaves.{listed};
@@ -8,7 +8,7 @@ ghost use Rattle.sot_print.specs.declared.gap.Gap.TheVariants.{Touching};
 
 use crate::gap::{Gap, push_comma, push_word};
 use crate::leaf::{push_literal, push_reference, push_truth};
-use sot_lang::{Expr, Func, Op};
+use sot_tree::{Expr, Func, Op};
 use std::alloc::AllocError;
 
 fn operator_text(op: Op) -> &'static str

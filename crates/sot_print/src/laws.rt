@@ -1,5 +1,5 @@
 ghost use Rattle.std.specs.Prelude.{List};
-ghost use Rattle.sot_lang.specs.Trees.{Program};
+ghost use Rattle.sot_tree.specs.Trees.{Program};
 ghost use Rattle.sot_print.specs.Words.{Word, text_of};
 ghost use Rattle.sot_print.specs.Canonical.{words, canonical};
 ghost use Rattle.sot_print.specs.Layout.{AreTokens, AreParted, Reads};

@@ -5,7 +5,7 @@ ghost use Rattle.sot_print.specs.Leaves.{literal_words, ident_words, reference_w
 
 use crate::gap::{Gap, push_gap, push_word};
 use crate::numeral::push_numeral;
-use sot_lang::{Bounds, Const, Field, Ident, Lit, Scalar};
+use sot_tree::{Bounds, Const, Field, Ident, Lit, Scalar};
 use std::alloc::AllocError;
 
 pub fn push_ident(out: &mut String, gap: Gap, ident: &Ident) -> Result<(), AllocError>

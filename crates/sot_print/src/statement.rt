@@ -1,7 +1,7 @@
 ghost use Rattle.std.specs.Prelude.{◌≡◌, ◌∷◌, ◌++◌, OnOk};
 ghost use Rattle.sot_print.specs.declared.gap.Gap.TheVariants.{Space};
 ghost use Rattle.std.specs.String.{string_bytes};
-ghost use Rattle.sot_lang.specs.TreeViews.{tree_view, statement_view, block_view};
+ghost use Rattle.sot_tree.specs.TreeViews.{tree_view, statement_view, block_view};
 ghost use Rattle.sot_print.specs.Words.{laid};
 ghost use Rattle.sot_print.specs.Expressions.{expression_words};
 ghost use Rattle.sot_print.specs.Statements.{semicolon, braced_words, otherwise_words, statement_words, block_words};
@@ -9,7 +9,7 @@ ghost use Rattle.sot_print.specs.Statements.{semicolon, braced_words, otherwise_
 use crate::expression::push_expression;
 use crate::gap::{Gap, push_word};
 use crate::leaf::{push_ident, push_literal, push_reference};
-use sot_lang::{Expr, Stmt};
+use sot_tree::{Expr, Stmt};
 use std::alloc::AllocError;
 
 pub fn push_semicolon(out: &mut String) -> Result<(), AllocError>

@@ -2,10 +2,7 @@ ghost use Rattle.sot_text.specs.declared.token.Kind.TheVariants.{Name as NameKin
 ghost use Rattle.sot_text.specs.Lexeme.{IsTokenText};
 
 use super::*;
-use sot_lang::{
-    Bounds, BoxDecl, Const, Decl, Expr, Ident, Init, Lit, ModuleDecl, Name, NodeDecl, Op, Program,
-    Scalar, Shape, Stmt, TopicDecl,
-};
+use sot_tree::{Bounds, BoxDecl, Const, Decl, Expr, Ident, Init, Lit, ModuleDecl, Name, NodeDecl, Op, Program, Scalar, Shape, Stmt, TopicDecl};
 use sot_text::Span;
 use std::alloc::{AllocError, Global};
 use std::test::Fail;

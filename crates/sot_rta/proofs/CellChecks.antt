@@ -3,7 +3,7 @@ use Rattle.std.proofs.Common.{◌≡◌, ℕ, ◌<◌, ⊎_elim, inr, Option, So
 use Rattle.std.specs.Prelude.{Result}
 use Rattle.std.proofs.lemmas.Option.{same_Some}
 use Rattle.sot_box.specs.Sides.{Side}
-use Rattle.sot_box.specs.Lists.{At}
+use Rattle.sot_lists.specs.Places.{At}
 use Rattle.sot_box.specs.Regions.{IsInRegion, CoversAll}
 use Rattle.sot_lang.specs.declared.cert.Cells.{Cells}
 use Rattle.sot_lang.specs.declared.cert.Cert.{Cert}
@@ -20,7 +20,7 @@ use Rattle.sot_tube.specs.Verdict.{closed_cover, reach_cover, closed_cell, reach
 use Rattle.sot_rta.specs.declared.refusal.Refusal.{Refusal}
 use Rattle.sot_rta.specs.Refused.{Answers}
 use Rattle.sot_rta.specs.Cells.{AnswersCells}
-use Rattle.sot_rta.proofs.Found.{read_at}
+use Rattle.sot_lists.proofs.Places.{read_at}
 
 -- boxes that are covered, point by point
 pub covers_points : (boxes region : List (List Side)) → CoversAll boxes region → (s : List ℤ) → IsInRegion boxes s → IsInRegion region s

@@ -3,19 +3,14 @@ use Rattle.std.proofs.Common.{◌≡◌, ℕ, ◌<◌, ◌≤◌, List, length, 
 use Rattle.std.proofs.lemmas.Option.{slice_get_read, slice_get_within, same_Some}
 use Rattle.sot_lang.specs.declared.tables.NodeInfo.{NodeInfo}
 use Rattle.sot_lang.specs.declared.tables.ScalarInfo.{ScalarInfo}
-use Rattle.sot_lang.specs.Places.{Has}
+use Rattle.sot_lists.specs.Places.{Has, At}
 use Rattle.sot_tube.specs.Modules.{AreSameOutputs}
 use Rattle.sot_tube.specs.Checks.{IsLeastNumber}
 use Rattle.sot_tube.specs.Verdict.{IsLonger, IsWrittenByOne}
 use Rattle.sot_rta.specs.Topics.{AreSomeOf, IsOfOneAlone, AreAlike}
-use Rattle.sot_box.specs.Lists.{At}
 use Rattle.sot_lang.specs.declared.tables.ModuleInfo.{ModuleInfo}
 use Rattle.sot_lang.specs.Tables.{Tables}
 use Rattle.sot_lang.specs.TableRules.{MeetsTableRules}
-
--- an element that was read, in an equal list
-pub read_at : {A : Type 0} (xs ys : List A) (k : ℕ) (x : A) → xs ≡ ys → k < length ys → x ≡ get_or xs k x → At ys k x
-read_at xs ys k x same lt is = slice_get_read ys (length ys) k x refl lt (subst (λ l. x ≡ get_or l k x) same is)
 
 module _ (p : Tables) (rules : MeetsTableRules p) (m : ℕ) (a : ModuleInfo) (at : At p.modules m a) where
   pub ac_there : a.ac < length p.nodes

@@ -4,7 +4,7 @@ use Rattle.std.specs.Prelude.{map, slice_set, Result, MatchResult, IsOk, ◌-◌
 use Rattle.std.proofs.lemmas.Int.{ints}
 use Rattle.std.proofs.lemmas.Option.{same_Some}
 use Rattle.sot_box.specs.Sides.{Side, AreOrdered}
-use Rattle.sot_box.specs.Lists.{At}
+use Rattle.sot_lists.specs.Places.{At}
 use Rattle.sot_box.specs.Boxes.{IsWithin, lows}
 use Rattle.sot_box.specs.Regions.{Covers}
 use Rattle.sot_lang.specs.declared.act.Act.{Act}
@@ -19,7 +19,7 @@ use Rattle.sot_iv.specs.TermIntervals.{OrMayTrap}
 use Rattle.sot_iv.specs.BodyIntervals.{Intervals}
 use Rattle.sot_iv.specs.NodeFirings.{drafts_of}
 use Rattle.sot_iv.specs.NodeIntervals.{IsNodeExecution}
-use Rattle.sot_iv.proofs.Nodes.{one_body}
+use Rattle.sot_lang.proofs.Owners.{one_body}
 use Rattle.sot_traps.proofs.SafeHulls.{all_hulls}
 use Rattle.sot_tube.specs.declared.leave.Leave.{Leave}
 use Rattle.sot_tube.specs.Tubes.{TubeInside}

@@ -7,8 +7,7 @@ use Rattle.sot_lang.specs.declared.tables.NodeInfo.{NodeInfo}
 use Rattle.sot_lang.specs.declared.tables.ModuleInfo.{ModuleInfo}
 use Rattle.sot_lang.specs.Tables.{Tables}
 use Rattle.sot_lang.specs.TableRules.{MeetsTableRules}
-use Rattle.sot_lang.specs.Places.{Has}
-use Rattle.sot_box.specs.Lists.{At}
+use Rattle.sot_lists.specs.Places.{Has, At}
 use Rattle.sot_tube.specs.Composition.{NoForeignInput}
 use Rattle.sot_tube.specs.Checks.{IsLeastNumber}
 use Rattle.sot_tube.specs.Verdict.{IsForeignInput}

@@ -17,7 +17,7 @@ use Rattle.sot_lang.specs.declared.tables.NodeInfo.{NodeInfo}
 use Rattle.sot_lang.specs.declared.cert.Cells.{Cells}
 use Rattle.sot_lang.specs.Tables.{Tables}
 use Rattle.sot_lang.specs.TableRules.{IsCoded}
-use Rattle.sot_box.specs.Lists.{At}
+use Rattle.sot_lists.specs.Places.{At}
 use Rattle.sot_iv.specs.TrapFree.{IsTrapFree}
 use Rattle.sot_tube.specs.Composition.{NoSharedPlant}
 use Rattle.sot_traps.specs.Verdict.{HaveSafeBoxes}

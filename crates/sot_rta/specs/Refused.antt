@@ -1,6 +1,6 @@
 -- A checker's answer, seen as a check.
 use Rattle.std.specs.Prelude.{ℕ, ◌<◌, List, Result, MatchResult}
-use Rattle.sot_box.specs.Lists.{At}
+use Rattle.sot_lists.specs.Places.{At}
 use Rattle.sot_rta.specs.declared.refusal.Refusal.{Refusal as CodeRefusal}
 use Rattle.sot_rta.specs.declared.refusal.Refusal.TheVariants as codes
 use Rattle.sot_tube.specs.Refusals.{Refusal, Periods, Outputs, EmptyRegion, ClosedGap, ClosedTrap, ClosedLeaves, ReachGap, ReachLeaves, ReachTrap, SharedNode, SharedOutput, SharedPlant, ForeignInput, CodeMayTrap, NoCells}

@@ -1,8 +1,7 @@
 -- Which topics some scalars are of.
 use Rattle.std.specs.Prelude.{ℕ, ◌≡◌, ◌⊎◌, List}
 use Rattle.sot_lang.specs.declared.tables.ScalarInfo.{ScalarInfo}
-use Rattle.sot_box.specs.Lists.{At}
-use Rattle.sot_lang.specs.Places.{Has}
+use Rattle.sot_lists.specs.Places.{At, Has}
 
 -- some of these scalars is of topic t
 abbrev pub AreSomeOf : List ScalarInfo → List ℕ → ℕ → Type 0

@@ -1,7 +1,7 @@
 //! The cells of a module.
 
 ghost use Rattle.std.specs.Prelude.{◌≡◌, ◌<◌, length};
-ghost use Rattle.sot_box.specs.Lists.{At};
+ghost use Rattle.sot_lists.specs.Places.{At};
 ghost use Rattle.sot_box.specs.Sides.{AreOrdered};
 ghost use Rattle.sot_lang.specs.declared.tables.ModuleInfo.{ModuleInfo as Info};
 ghost use Rattle.sot_lang.specs.CertRules.{FitsTables, AreCellsOf};

@@ -1,7 +1,7 @@
 //! The intervals of a plant's commands.
 
 ghost use Rattle.std.specs.Prelude.{ℕ, ◌≡◌, ◌<◌, ◌≤◌, length, map};
-ghost use Rattle.sot_lang.specs.Places.{Has};
+ghost use Rattle.sot_lists.specs.Places.{Has};
 ghost use Rattle.sot_tube.specs.Certified.{command_interval};
 
 use sot_box::Interval;

@@ -2,7 +2,7 @@
 
 ghost use Rattle.std.specs.Prelude.{ℕ, ◌≡◌, ◌<◌, ◌≤◌, List, length, map, slice_set};
 ghost use Rattle.sot_box.specs.Sides.{Side};
-ghost use Rattle.sot_box.specs.Lists.{At};
+ghost use Rattle.sot_lists.specs.Places.{At};
 ghost use Rattle.sot_lang.specs.declared.act.Act.{Act};
 ghost use Rattle.sot_lang.specs.declared.tables.Slot.{Slot as Read};
 ghost use Rattle.sot_lang.specs.OwnerNames.{width_of};

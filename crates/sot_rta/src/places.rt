@@ -1,8 +1,7 @@
 //! Things of a program by their places.
 
 ghost use Rattle.std.specs.Prelude.{◌<◌, length};
-ghost use Rattle.sot_box.specs.Lists.{At};
-ghost use Rattle.sot_lang.specs.Places.{Has};
+ghost use Rattle.sot_lists.specs.Places.{At, Has};
 ghost use Rattle.sot_lang.specs.TableRules.{MeetsTableRules};
 
 use sot_lang::{ModuleInfo, NodeInfo, PlantInfo, Typed};

@@ -3,7 +3,7 @@
 ghost use Rattle.std.specs.Prelude.{◌≡◌, ◌<◌, length};
 ghost use Rattle.sot_lang.specs.CertRules.{FitsTables};
 ghost use Rattle.sot_lang.specs.TableRules.{MeetsTableRules};
-ghost use Rattle.sot_box.specs.Lists.{At};
+ghost use Rattle.sot_lists.specs.Places.{At};
 ghost use Rattle.sot_lang.specs.declared.tables.ModuleInfo.{ModuleInfo as Info};
 ghost use Rattle.sot_tube.specs.Verdict.{entry, periods, outputs, boxes, shape};
 ghost use Rattle.sot_tube.specs.Checks.{and_then};

@@ -1,7 +1,7 @@
 //! Which topics some scalars are of.
 
 ghost use Rattle.std.specs.Prelude.{ℕ, ◌<◌, ◌≡◌, length, true, false, IsTrue, ◌↔◌, MatchOption};
-ghost use Rattle.sot_lang.specs.Places.{Has};
+ghost use Rattle.sot_lists.specs.Places.{Has};
 ghost use Rattle.sot_rta.specs.Topics.{AreSomeOf, IsOfOneAlone, IsMissing, AreAlike, GoesOver};
 
 use sot_lang::ScalarInfo;

@@ -1,6 +1,6 @@
 -- The body of a node, from what is noted of its statements and of their count.
 use Rattle.std.proofs.Common.{◌≡◌, ◌∙◌, Option, Some, ap, sym}
-use Rattle.sot_lang.specs.Trees.{Block}
+use Rattle.sot_tree.specs.Trees.{Block}
 use Rattle.sot_rules.specs.declared.fault.TypeFault.{TypeFault}
 use Rattle.sot_rules.specs.Names.{Scope}
 use Rattle.sot_rules.specs.Tests.{block_unrolled}

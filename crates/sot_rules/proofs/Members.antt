@@ -1,7 +1,7 @@
 -- What is in a list of faults that is put together of parts.
 use Rattle.std.proofs.Common.{◌≡◌, ℕ, zero, suc, ◌⊎◌, inl, inr, List, [], ◌∷◌, ◌++◌, refl, ap, subst, Some, true, false, Bool}
 use Rattle.std.specs.Prelude.{flat_map, slice_index_or}
-use Rattle.sot_lang.specs.Places.{Has}
+use Rattle.sot_lists.specs.Places.{Has}
 use Rattle.sot_text.specs.declared.token.Span.{Span}
 use Rattle.sot_rules.specs.declared.fault.TypeFault.{TypeFault}
 use Rattle.sot_rules.specs.declared.fault.TypeKind.{TypeKind}

@@ -2,10 +2,10 @@
 use Rattle.std.proofs.Common.{◌≡◌, ◌∙◌, ℕ, zero, suc, ◌+◌, ◌<◌, List, [], ◌∷◌, ◌++◌, length, get_or, drop, map, flat_map, Option, Bool, not, None, refl, sym, ap, ap₂, nat_lt, add-one}
 use Rattle.std.specs.List.{slice_get}
 use Rattle.std.proofs.lemmas.List.{length-map}
-use Rattle.sot_lang.specs.declared.tree.NextDecl.{NextDecl}
-use Rattle.sot_lang.specs.declared.tree.StateDecl.{StateDecl}
-use Rattle.sot_lang.specs.Trees.{Next, Plant, Program}
-use Rattle.sot_lang.specs.TreeViews.{next_view}
+use Rattle.sot_tree.specs.declared.tree.NextDecl.{NextDecl}
+use Rattle.sot_tree.specs.declared.tree.StateDecl.{StateDecl}
+use Rattle.sot_tree.specs.Trees.{Next, Plant, Program}
+use Rattle.sot_tree.specs.TreeViews.{next_view}
 use Rattle.sot_rules.specs.declared.fault.TypeFault.{TypeFault}
 use Rattle.sot_rules.specs.declared.fault.TypeKind.TheVariants.{NextMissing}
 use Rattle.sot_rules.specs.Names.{Thing, plant_scope, state_scope}

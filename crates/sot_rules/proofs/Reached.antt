@@ -5,11 +5,11 @@ use Rattle.std.proofs.lemmas.List.{drop_all}
 use Rattle.std.specs.Global.{Vec}
 use Rattle.std.proofs.Math.Nat.{suc-mul, div-lt_iff_lt-mul}
 use Rattle.sot_text.specs.declared.token.Span.{Span}
-use Rattle.sot_lang.specs.declared.tree.Lit.{Lit}
-use Rattle.sot_lang.specs.declared.tree.Expr.{Expr}
-use Rattle.sot_lang.specs.declared.tree.Stmt.{Stmt, If, Repeat}
-use Rattle.sot_lang.specs.TreeViews.{statement_view, block_view}
-use Rattle.sot_lang.proofs.BlockRows.{branch_view, repeat_view}
+use Rattle.sot_tree.specs.declared.tree.Lit.{Lit}
+use Rattle.sot_tree.specs.declared.tree.Expr.{Expr}
+use Rattle.sot_tree.specs.declared.tree.Stmt.{Stmt, If, Repeat}
+use Rattle.sot_tree.specs.TreeViews.{statement_view, block_view}
+use Rattle.sot_tree.proofs.BlockRows.{branch_view, repeat_view}
 use Rattle.sot_rules.specs.declared.unrolled.Reached.{Reached}
 use Rattle.sot_rules.specs.declared.unrolled.Reached.TheVariants.{At, Left}
 use Rattle.sot_rules.specs.Tests.{copies, unrolled, block_unrolled}

@@ -8,8 +8,8 @@ use Rattle.std.proofs.lemmas.List.{append_assoc, take_all, take_more}
 use Rattle.std.proofs.lemmas.List.Elements.{filter_map-append}
 use denote.Ref.{Bor}
 use Rattle.indexmap.specs.IndexMap.{IndexMap}
-use Rattle.sot_lang.specs.declared.tree.Ident.{Ident}
-use Rattle.sot_lang.specs.Trees.{Form, one, fields, Declaration, a_topic, a_plant, a_node, a_module}
+use Rattle.sot_tree.specs.declared.tree.Ident.{Ident}
+use Rattle.sot_tree.specs.Trees.{Form, one, fields, Declaration, a_topic, a_plant, a_node, a_module}
 use Rattle.sot_rules.specs.declared.sort.Sort.{Sort}
 use Rattle.sot_rules.specs.declared.scope.Seen.{Seen}
 use Rattle.sot_rules.specs.declared.scope.Seen.TheVariants.{Alone}

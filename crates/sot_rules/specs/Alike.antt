@@ -3,8 +3,8 @@ use Rattle.std.specs.Prelude.{◌++◌, filter_map, ◌≡◌, ℕ, List, map, f
 use Rattle.std.specs.Str.{bytes_eq}
 use denote.Ref.{Bor}
 use Rattle.indexmap.specs.IndexMap.{IndexMap}
-use Rattle.sot_lang.specs.declared.tree.Ident.{Ident}
-use Rattle.sot_lang.specs.Trees.{Form, one, fields, Declaration, a_topic, a_plant, Program}
+use Rattle.sot_tree.specs.declared.tree.Ident.{Ident}
+use Rattle.sot_tree.specs.Trees.{Form, one, fields, Declaration, a_topic, a_plant, Program}
 use Rattle.sot_rules.specs.declared.index.Index.{Index}
 use Rattle.sot_rules.specs.declared.scope.Seen.{Seen}
 use Rattle.sot_rules.specs.declared.scope.Seen.TheVariants.{Alone, Several}

@@ -1,14 +1,14 @@
 -- Worked programs with their first faults, and programs without one. Each stands on one line, and each place was read off another program.
 use Rattle.std.specs.Prelude.{ℕ, ◌+◌, ◌-◌, ℤ, pos, negsuc, true, false, List, [], ◌∷◌, length, Some, None, codes}
 use Rattle.sot_text.specs.declared.token.Span.{Span}
-use Rattle.sot_lang.specs.declared.operator.Op.TheVariants.{Add, Equal, Greater, Less}
-use Rattle.sot_lang.specs.declared.operator.Func.TheVariants.{Min}
-use Rattle.sot_lang.specs.declared.tree.Ident.{Ident}
-use Rattle.sot_lang.specs.declared.tree.Lit.{Lit}
-use Rattle.sot_lang.specs.declared.tree.Bounds.{Bounds}
-use Rattle.sot_lang.specs.declared.tree.Scalar.TheVariants.{Int, Fix, Bool as BoolScalar}
-use Rattle.sot_lang.specs.declared.tree.Const.TheVariants.{Number, Truth}
-use Rattle.sot_lang.specs.Trees.{number, truth, named, binary, rest, denied, called, rescaled, chosen, no_tree, one_more, assigned, published, branched, repeated, no_statement, statement, one, fields, one_value, values, a_topic, a_plant, a_node, a_module, Program}
+use Rattle.sot_tree.specs.declared.operator.Op.TheVariants.{Add, Equal, Greater, Less}
+use Rattle.sot_tree.specs.declared.operator.Func.TheVariants.{Min}
+use Rattle.sot_tree.specs.declared.tree.Ident.{Ident}
+use Rattle.sot_tree.specs.declared.tree.Lit.{Lit}
+use Rattle.sot_tree.specs.declared.tree.Bounds.{Bounds}
+use Rattle.sot_tree.specs.declared.tree.Scalar.TheVariants.{Int, Fix, Bool as BoolScalar}
+use Rattle.sot_tree.specs.declared.tree.Const.TheVariants.{Number, Truth}
+use Rattle.sot_tree.specs.Trees.{number, truth, named, binary, rest, denied, called, rescaled, chosen, no_tree, one_more, assigned, published, branched, repeated, no_statement, statement, one, fields, one_value, values, a_topic, a_plant, a_node, a_module, Program}
 use Rattle.sot_rules.specs.declared.fault.TypeKind.TheVariants.{Unknown, Twice, ScaleDiffers, KindDiffers, RangeEmpty, InitOutside, ReadsAndWrites, TooMany, RangeWide, NoModule, PeriodOutside, NextMissing}
 use Rattle.sot_rules.specs.Fails.{Fails}
 use Rattle.sot_rules.specs.First.{IsFirstFault, IsFaultless}

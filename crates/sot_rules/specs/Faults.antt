@@ -3,15 +3,15 @@ use Rattle.std.specs.Prelude.{ℕ, ◌+◌, nat_lt, nat_le, ◌==◌, Bool, true
 use Rattle.std.specs.List.{list_any}
 use Rattle.std.specs.Str.{bytes_eq}
 use Rattle.sot_text.specs.declared.token.Span.{Span}
-use Rattle.sot_lang.specs.declared.tree.Ident.{Ident}
-use Rattle.sot_lang.specs.declared.tree.Lit.{Lit}
-use Rattle.sot_lang.specs.declared.tree.Bounds.{Bounds}
-use Rattle.sot_lang.specs.declared.tree.Scalar.{Scalar}
-use Rattle.sot_lang.specs.declared.tree.Scalar.TheVariants.{Int, Fix, Bool as BoolScalar}
-use Rattle.sot_lang.specs.declared.tree.Const.{Const}
-use Rattle.sot_lang.specs.declared.tree.Field.{Field}
-use Rattle.sot_lang.specs.declared.tree.StateDecl.{StateDecl}
-use Rattle.sot_lang.specs.Trees.{Tree, Trees, number, truth, named, binary, rest, negated, denied, called, rescaled, chosen, no_tree, one_more, Statement, Block, assigned, published, branched, repeated, no_statement, statement, Topic, Plant, Node, Module, Local, Next, Area, Declaration, a_topic, a_plant, a_node, a_module, Program}
+use Rattle.sot_tree.specs.declared.tree.Ident.{Ident}
+use Rattle.sot_tree.specs.declared.tree.Lit.{Lit}
+use Rattle.sot_tree.specs.declared.tree.Bounds.{Bounds}
+use Rattle.sot_tree.specs.declared.tree.Scalar.{Scalar}
+use Rattle.sot_tree.specs.declared.tree.Scalar.TheVariants.{Int, Fix, Bool as BoolScalar}
+use Rattle.sot_tree.specs.declared.tree.Const.{Const}
+use Rattle.sot_tree.specs.declared.tree.Field.{Field}
+use Rattle.sot_tree.specs.declared.tree.StateDecl.{StateDecl}
+use Rattle.sot_tree.specs.Trees.{Tree, Trees, number, truth, named, binary, rest, negated, denied, called, rescaled, chosen, no_tree, one_more, Statement, Block, assigned, published, branched, repeated, no_statement, statement, Topic, Plant, Node, Module, Local, Next, Area, Declaration, a_topic, a_plant, a_node, a_module, Program}
 use Rattle.sot_rules.specs.declared.fault.TypeFault.{TypeFault}
 use Rattle.sot_rules.specs.declared.fault.TypeKind.{TypeKind}
 use Rattle.sot_rules.specs.declared.fault.TypeKind.TheVariants.{Unknown, Twice, ScaleDiffers, KindDiffers, RangeEmpty, InitOutside, ReadsAndWrites, TooMany, RangeWide, NoModule, PeriodOutside, NextMissing}

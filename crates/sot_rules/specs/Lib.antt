@@ -7,8 +7,6 @@ pub mod Lists
 pub mod Tests
 pub mod Fails
 pub mod First
--- what the grammar makes sure of
-pub mod Formed
 -- all faults as a list
 pub mod Faults
 -- worked programs

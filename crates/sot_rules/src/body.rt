@@ -1,5 +1,5 @@
 ghost use Rattle.std.specs.Prelude.{◌≡◌, OnOk};
-ghost use Rattle.sot_lang.specs.TreeViews.{block_view, node_view};
+ghost use Rattle.sot_tree.specs.TreeViews.{block_view, node_view};
 ghost use Rattle.sot_rules.specs.Names.{node_scope};
 ghost use Rattle.sot_rules.specs.Tests.{block_unrolled};
 ghost use Rattle.sot_rules.specs.Faults.{body_faults, least, past};
@@ -11,7 +11,7 @@ use crate::note::note;
 use crate::scopes::node_scope;
 use crate::statement::block;
 use crate::unrolled::{Reached, reach_block};
-use sot_lang::{NodeDecl, Stmt};
+use sot_tree::{NodeDecl, Stmt};
 use std::alloc::{AllocError, Global};
 
 // The first statement past 10,000.

@@ -1,5 +1,5 @@
 ghost use Rattle.std.specs.Prelude.{◌≡◌, ◌||◌, ◌++◌, fold, nat_abs};
-ghost use Rattle.sot_lang.specs.TreeViews.{tree_view, parts_view};
+ghost use Rattle.sot_tree.specs.TreeViews.{tree_view, parts_view};
 ghost use Rattle.sot_rules.specs.Sorts.{unless, given, kinds_misfit, scales_misfit, operator_sort, differ, branches_misfit, is_truthful, is_scaled};
 ghost use Rattle.sot_rules.specs.Names.{reading_sort};
 ghost use Rattle.sot_rules.specs.declared.sort.Sort.TheVariants.{Scaled};
@@ -17,7 +17,7 @@ use crate::sort::{
     Sort, branches_misfit, differ, given, is_no_scale, is_scaled, is_truthful, kinds_misfit,
     operator_sort, scales_misfit, unless,
 };
-use sot_lang::{Expr, Lit, Op};
+use sot_tree::{Expr, Lit, Op};
 use sot_text::Span;
 
 /// The two rules on operands.

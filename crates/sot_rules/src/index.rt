@@ -1,6 +1,6 @@
 ghost use Rattle.std.specs.Prelude.{◌≡◌, ◌++◌, ◌∷◌, [], ◌||◌, ◌<◌, ℕ, List, length, is_some, map, position, slice_get, Option, option_map, IfOk, OnOk, IfSome};
-ghost use Rattle.sot_lang.specs.Trees.{Declaration};
-ghost use Rattle.sot_lang.specs.TreeViews.{declaration_view, program_view};
+ghost use Rattle.sot_tree.specs.Trees.{Declaration};
+ghost use Rattle.sot_tree.specs.TreeViews.{declaration_view, program_view};
 ghost use Rattle.sot_rules.specs.Names.{declared_name, field_part, meaning, state_part};
 ghost use Rattle.sot_rules.specs.Sorts.{state_sort};
 ghost use Rattle.sot_rules.specs.Tests.{has_module, is_plant_of};
@@ -12,7 +12,7 @@ use crate::scope::PartTable;
 use crate::sort::{Sort, scale_sort};
 use crate::table::add;
 use indexmap::{IndexMap, IndexSet};
-use sot_lang::{Decl, Field, Ident, Program, Shape, StateDecl};
+use sot_tree::{Decl, Field, Ident, Program, Shape, StateDecl};
 use std::alloc::{AllocError, Global};
 
 /// The declarations of a program by their names, with the parts of those that have several.

@@ -1,12 +1,12 @@
 ghost use Rattle.std.specs.Prelude.{◌≡◌, map, filter_map, option_map};
-ghost use Rattle.sot_lang.specs.TreeViews.{declaration_view};
+ghost use Rattle.sot_tree.specs.TreeViews.{declaration_view};
 ghost use Rattle.sot_rules.specs.Lists.{places};
 ghost use Rattle.sot_rules.specs.Faults.{least, past};
 ghost use Rattle.sot_rules.specs.Kinds.{name_of};
 
 use crate::fault::{TypeFault, TypeKind};
 use crate::note::note;
-use sot_lang::{Decl, Ident};
+use sot_tree::{Decl, Ident};
 
 /// The kinds of declarations.
 #[derive(Clone, Copy, Debug, PartialEq, Eq)]

@@ -1,5 +1,5 @@
 ghost use Rattle.std.specs.Prelude.{◌≡◌, map};
-ghost use Rattle.sot_lang.specs.TreeViews.{area_view};
+ghost use Rattle.sot_tree.specs.TreeViews.{area_view};
 ghost use Rattle.sot_rules.specs.Names.{meaning};
 ghost use Rattle.sot_rules.specs.Lists.{places};
 ghost use Rattle.sot_rules.specs.Faults.{least, past, passes};
@@ -11,7 +11,7 @@ use crate::index::Index;
 use crate::meant::size_of;
 use crate::named::Named;
 use crate::note::note;
-use sot_lang::{BoxDecl, Ident};
+use sot_tree::{BoxDecl, Ident};
 
 /// The first item of a list past a limit.
 pub fn note_past<T: Named>(limit: usize, items: &[T], first: &mut Option<TypeFault>)

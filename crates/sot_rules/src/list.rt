@@ -1,7 +1,7 @@
 ghost use Rattle.std.specs.Prelude.{◌≡◌, List, ◌++◌, [], map, OnOk, IfOk};
 ghost use Rattle.std.specs.List.{list_any};
 ghost use Rattle.std.specs.Str.{bytes_eq};
-ghost use Rattle.sot_lang.specs.declared.tree.Ident.{Ident};
+ghost use Rattle.sot_tree.specs.declared.tree.Ident.{Ident};
 ghost use Rattle.sot_rules.specs.declared.fault.TypeKind.TheVariants.{Twice};
 ghost use Rattle.sot_rules.specs.Lists.{are_same};
 ghost use Rattle.sot_rules.specs.Faults.{least, when, repeats};
@@ -11,7 +11,7 @@ use crate::fault::{TypeFault, TypeKind};
 use crate::named::Named;
 use crate::note::note;
 use indexmap::IndexSet;
-use sot_lang::Ident;
+use sot_tree::Ident;
 use std::alloc::{AllocError, Global};
 
 /// One name of a list, where the earlier ones were seen.

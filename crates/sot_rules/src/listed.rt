@@ -1,6 +1,6 @@
 ghost use Rattle.std.specs.Prelude.{◌≡◌, ◌++◌, ℕ, List, Option, map, filter_map, OnOk};
 ghost use Rattle.std.specs.Option.{option_to_list};
-ghost use Rattle.sot_lang.specs.TreeViews.{declaration_view, local_view, shape_view};
+ghost use Rattle.sot_tree.specs.TreeViews.{declaration_view, local_view, shape_view};
 ghost use Rattle.sot_rules.specs.Names.{Part, Thing, meaning, local_thing, noise_thing, state_thing};
 ghost use Rattle.sot_rules.specs.Indexes.{program_in, IsIndex};
 ghost use Rattle.sot_rules.specs.Alike.{Adds, StandsForThing, form_seen, listed_seen, listed_thing, listed_things, tables_in};
@@ -10,7 +10,7 @@ use crate::range::scalar_sort;
 use crate::scope::Seen;
 use crate::table::add;
 use indexmap::IndexMap;
-use sot_lang::{Decl, Field, Ident, LocalDecl, Shape, StateDecl};
+use sot_tree::{Decl, Field, Ident, LocalDecl, Shape, StateDecl};
 use std::alloc::AllocError;
 
 /// Which declarations a list of names is of. A name of another one adds nothing.

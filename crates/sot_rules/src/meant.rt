@@ -5,7 +5,7 @@ ghost use Rattle.sot_rules.specs.Scopes.{sorts_in};
 ghost use Rattle.sot_rules.specs.Meanings.{meant, size_of};
 
 use crate::topic::scalar_count;
-use sot_lang::{Decl, StateDecl};
+use sot_tree::{Decl, StateDecl};
 
 pub fn is_topic(d: Option<&Decl>) -> bool
     ensures { result ≡ is_topic (meant d.entry) }

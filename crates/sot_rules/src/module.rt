@@ -1,5 +1,5 @@
 ghost use Rattle.std.specs.Prelude.{◌≡◌};
-ghost use Rattle.sot_lang.specs.TreeViews.{module_view};
+ghost use Rattle.sot_tree.specs.TreeViews.{module_view};
 ghost use Rattle.sot_rules.specs.Faults.{least, together, module_lists};
 ghost use Rattle.sot_rules.specs.Indexes.{program_in, IsIndex};
 ghost use Rattle.sot_rules.specs.Groups.{nodes_faults};
@@ -11,7 +11,7 @@ use crate::meant::{is_external, is_node, is_plant, is_topic, states_of};
 use crate::note::note;
 use crate::range::note_times;
 use crate::region::note_region;
-use sot_lang::ModuleDecl;
+use sot_tree::ModuleDecl;
 
 // The two nodes of a module.
 #[tactic(auto, using(crate::proofs::Least::least_append))]

@@ -1,10 +1,10 @@
 ghost use Rattle.std.specs.Prelude.{◌≡◌};
-ghost use Rattle.sot_lang.specs.declared.tree.Ident.{Ident};
-ghost use Rattle.sot_lang.specs.TreeViews.{declaration_view};
+ghost use Rattle.sot_tree.specs.declared.tree.Ident.{Ident};
+ghost use Rattle.sot_tree.specs.TreeViews.{declaration_view};
 ghost use Rattle.sot_rules.specs.Names.{declared_name};
 
 use crate::index::declared_name;
-use sot_lang::{Decl, Field, Ident, LocalDecl, StateDecl};
+use sot_tree::{Decl, Field, Ident, LocalDecl, StateDecl};
 
 /// What has a name of its own in a list.
 pub trait Named {

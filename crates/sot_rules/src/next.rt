@@ -1,5 +1,5 @@
 ghost use Rattle.std.specs.Prelude.{◌≡◌, ◌++◌, length, map, flat_map, nat_lt, not, slice_get, OnOk};
-ghost use Rattle.sot_lang.specs.TreeViews.{next_view, plant_view};
+ghost use Rattle.sot_tree.specs.TreeViews.{next_view, plant_view};
 ghost use Rattle.sot_rules.specs.declared.fault.TypeKind.TheVariants.{NextMissing};
 ghost use Rattle.sot_rules.specs.Tests.{is_state};
 ghost use Rattle.sot_rules.specs.Faults.{least, next_faults, order_faults, when};
@@ -15,7 +15,7 @@ use crate::note::note;
 use crate::scope::Names;
 use crate::scopes::{plant_names, state_names};
 use crate::statement::{note_target, reading_alone};
-use sot_lang::{Ident, NextDecl, PlantDecl, StateDecl};
+use sot_tree::{Ident, NextDecl, PlantDecl, StateDecl};
 use sot_text::Span;
 use std::alloc::{AllocError, Global};
 

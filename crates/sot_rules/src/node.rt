@@ -1,6 +1,6 @@
 ghost use Rattle.std.specs.Prelude.{◌≡◌, ◌++◌, map, flat_map, OnOk};
-ghost use Rattle.sot_lang.specs.TreeViews.{local_view, node_view};
-ghost use Rattle.sot_lang.specs.Trees.{Node};
+ghost use Rattle.sot_tree.specs.TreeViews.{local_view, node_view};
+ghost use Rattle.sot_tree.specs.Trees.{Node};
 ghost use Rattle.sot_rules.specs.Faults.{least, together, read_faults, write_lists, local_lists, node_lists};
 ghost use Rattle.sot_rules.specs.SeenNames.{HasNames};
 ghost use Rattle.sot_rules.specs.Indexes.{program_in, IsIndex};
@@ -15,7 +15,7 @@ use crate::meant::{is_environment, is_plant, is_topic};
 use crate::note::note;
 use crate::range::{note_scalar, note_start, note_times};
 use indexmap::IndexSet;
-use sot_lang::{Ident, LocalDecl, NodeDecl};
+use sot_tree::{Ident, LocalDecl, NodeDecl};
 use std::alloc::{AllocError, Global};
 
 // A name among those that a node reads.

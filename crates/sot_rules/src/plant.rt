@@ -1,6 +1,6 @@
 ghost use Rattle.std.specs.Prelude.{◌≡◌, ◌++◌, flat_map, OnOk};
-ghost use Rattle.sot_lang.specs.Trees.{Plant};
-ghost use Rattle.sot_lang.specs.TreeViews.{plant_view};
+ghost use Rattle.sot_tree.specs.Trees.{Plant};
+ghost use Rattle.sot_tree.specs.TreeViews.{plant_view};
 ghost use Rattle.sot_rules.specs.Tests.{state_names};
 ghost use Rattle.sot_rules.specs.Faults.{least, together, scale_faults, input_faults, seen_lists, noise_lists, plant_lists};
 ghost use Rattle.sot_rules.specs.SeenNames.{HasNames};
@@ -17,7 +17,7 @@ use crate::note::note;
 use crate::range::{note_scalar, scalar_sort};
 use crate::sort::{is_no_scale, is_truthful};
 use indexmap::IndexSet;
-use sot_lang::{Field, Ident, Lit, PlantDecl, StateDecl};
+use sot_tree::{Field, Ident, Lit, PlantDecl, StateDecl};
 use std::alloc::{AllocError, Global};
 
 fn note_scale(scale: Option<Lit>, first: &mut Option<TypeFault>)

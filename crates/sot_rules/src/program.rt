@@ -1,5 +1,5 @@
 ghost use Rattle.std.specs.Prelude.{◌≡◌, Some, None, map, flat_map, OnOk, IfOk};
-ghost use Rattle.sot_lang.specs.TreeViews.{declaration_view, program_view};
+ghost use Rattle.sot_tree.specs.TreeViews.{declaration_view, program_view};
 ghost use Rattle.sot_rules.specs.declared.fault.TypeFault.{TypeFault};
 ghost use Rattle.sot_rules.specs.First.{IsFirstFault, IsFaultless};
 ghost use Rattle.sot_rules.specs.Faults.{least, declaration_faults, faults};
@@ -13,7 +13,7 @@ use crate::module::note_module;
 use crate::node::note_node;
 use crate::plant::note_plant;
 use crate::topic::note_topic;
-use sot_lang::{Decl, Program};
+use sot_tree::{Decl, Program};
 use std::alloc::{AllocError, Global};
 
 fn note_declaration<'p>(

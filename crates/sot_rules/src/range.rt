@@ -7,7 +7,7 @@ use crate::fault::{TypeFault, TypeKind};
 use crate::note::note;
 use crate::sort::{Sort, differ, has_decimals, is_no_scale, scale_sort};
 use crate::statement::{is_off, note_target};
-use sot_lang::{Bounds, Const, Lit, Scalar};
+use sot_tree::{Bounds, Const, Lit, Scalar};
 use sot_text::Span;
 
 // Ends of one scale, of which the lower is above the upper.

@@ -1,6 +1,6 @@
 ghost use Rattle.std.specs.Prelude.{◌≡◌, false, length, map, zip, flat_map};
-ghost use Rattle.sot_lang.specs.TreeViews.{area_view};
-ghost use Rattle.sot_lang.specs.declared.tree.Bounds.{Bounds};
+ghost use Rattle.sot_tree.specs.TreeViews.{area_view};
+ghost use Rattle.sot_tree.specs.declared.tree.Bounds.{Bounds};
 ghost use Rattle.sot_rules.specs.declared.sort.Sort.{Sort};
 ghost use Rattle.sot_rules.specs.declared.sort.Sort.TheVariants.{Anything};
 ghost use Rattle.sot_rules.specs.Sorts.{state_sort};
@@ -13,7 +13,7 @@ use crate::limit::note_past_boxes;
 use crate::note::note;
 use crate::range::note_bounds;
 use crate::sort::Sort;
-use sot_lang::{Bounds, BoxDecl, StateDecl};
+use sot_tree::{Bounds, BoxDecl, StateDecl};
 
 // The sides of a box whose plant is not known, or that has not one side a state variable.
 fn note_free_sides(sides: &[Bounds], first: &mut Option<TypeFault>)

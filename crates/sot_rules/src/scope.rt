@@ -5,7 +5,7 @@ ghost use Rattle.sot_rules.specs.Scopes.{parts_of, seen_parts, names_in, answer,
 
 use crate::sort::Sort;
 use indexmap::IndexMap;
-use sot_lang::Ident;
+use sot_tree::Ident;
 use sot_text::Span;
 
 /// What a name stands for: one number or truth value, or several, whose names are in one of the tables of parts.

@@ -1,5 +1,5 @@
 ghost use Rattle.std.specs.Prelude.{◌++◌, IfOk, filter_map, map};
-ghost use Rattle.sot_lang.specs.TreeViews.{node_view, plant_view};
+ghost use Rattle.sot_tree.specs.TreeViews.{node_view, plant_view};
 ghost use Rattle.sot_rules.specs.Names.{either_meant, meaning, local_thing, node_scope, plant_scope, state_scope, topic_meant};
 ghost use Rattle.sot_rules.specs.Scopes.{names_in, scope_in};
 ghost use Rattle.sot_rules.specs.Indexes.{program_in, IsIndex};
@@ -9,7 +9,7 @@ use crate::index::Index;
 use crate::listed::{Listed, add_listed, add_locals, add_noise, add_states};
 use crate::scope::{Names, Scope};
 use indexmap::IndexMap;
-use sot_lang::{NodeDecl, PlantDecl};
+use sot_tree::{NodeDecl, PlantDecl};
 use std::alloc::{AllocError, Global};
 
 // What a node's expressions name.

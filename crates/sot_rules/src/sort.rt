@@ -2,7 +2,7 @@ ghost use Rattle.std.specs.Prelude.{◌≡◌, false, nat_abs};
 ghost use Rattle.sot_rules.specs.Sorts.{scale_sort, is_truthful, is_scaled, differ, are_mixed, kinds_misfit, scales_misfit, operator_sort, unless, given, branches_misfit};
 ghost use Rattle.sot_rules.specs.TreeSorts.{has_decimals, is_no_scale};
 
-use sot_lang::{Lit, Op};
+use sot_tree::{Lit, Op};
 
 /// What an expression gives: a number with so many decimals, a truth value, or anything, where a fault is inside it.
 #[derive(Clone, Copy, Debug, PartialEq, Eq)]

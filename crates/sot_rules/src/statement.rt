@@ -1,5 +1,5 @@
 ghost use Rattle.std.specs.Prelude.{◌≡◌, None};
-ghost use Rattle.sot_lang.specs.TreeViews.{statement_view, block_view};
+ghost use Rattle.sot_tree.specs.TreeViews.{statement_view, block_view};
 ghost use Rattle.sot_rules.specs.Names.{reading};
 ghost use Rattle.sot_rules.specs.Tests.{is_off};
 ghost use Rattle.sot_rules.specs.Faults.{least, target_faults, statement_faults, block_faults};
@@ -10,7 +10,7 @@ use crate::fault::{TypeFault, TypeKind};
 use crate::note::note;
 use crate::scope::{Names, Scope, reading};
 use crate::sort::{Sort, are_mixed, differ, has_decimals, is_scaled};
-use sot_lang::{Ident, Lit, Stmt};
+use sot_tree::{Ident, Lit, Stmt};
 use sot_text::Span;
 
 /// A value of a sort, for a target.

@@ -1,5 +1,5 @@
 ghost use Rattle.std.specs.Prelude.{◌≡◌, ◌<◌, map, zip, length, true, slice_get, flat_map, Some, OnOk};
-ghost use Rattle.sot_lang.specs.TreeViews.{shape_view, init_view, topic_view};
+ghost use Rattle.sot_tree.specs.TreeViews.{shape_view, init_view, topic_view};
 ghost use Rattle.sot_rules.specs.Tests.{form_scalars, start_values, start_place};
 ghost use Rattle.sot_rules.specs.Faults.{least, together, scalar_faults, start_faults, topic_lists};
 ghost use Rattle.sot_rules.specs.Groups.{names_faults, starts_faults};
@@ -9,7 +9,7 @@ use crate::limit::note_past;
 use crate::list::note_repeats;
 use crate::note::note;
 use crate::range::{const_place, note_scalar, note_start};
-use sot_lang::{Const, Field, Init, Scalar, Shape, TopicDecl};
+use sot_tree::{Const, Field, Init, Scalar, Shape, TopicDecl};
 use sot_text::Span;
 use std::alloc::{AllocError, Global};
 

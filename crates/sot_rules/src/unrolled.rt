@@ -1,9 +1,9 @@
 ghost use Rattle.std.specs.Prelude.{◌≡◌, ◌+◌, ◌*◌, ◌<◌, ◌∷◌, [], IfNone, IfSome, nat_abs};
-ghost use Rattle.sot_lang.specs.TreeViews.{statement_view, block_view};
+ghost use Rattle.sot_tree.specs.TreeViews.{statement_view, block_view};
 ghost use Rattle.sot_rules.specs.Tests.{unrolled, block_unrolled};
 ghost use Rattle.sot_rules.specs.Reached.{IsReached};
 
-use sot_lang::{Lit, Stmt};
+use sot_tree::{Lit, Stmt};
 use sot_text::Span;
 
 /// What stands at a place of a list, or how far the place is past the list's end.

@@ -3,7 +3,7 @@ use Rattle.std.proofs.Common.{◌≡◌, ℕ, ◌+◌, ◌≤◌, ◌≤ℤ◌, 
 use Rattle.std.specs.Prelude.{map}
 use Rattle.std.proofs.lemmas.List.{length-map}
 use Rattle.sot_box.specs.Sides.{Side}
-use Rattle.sot_box.specs.Lists.{At}
+use Rattle.sot_lists.specs.Places.{At}
 use Rattle.sot_lang.specs.declared.act.Act.{Act}
 use Rattle.sot_lang.specs.declared.tables.LocalInfo.{LocalInfo}
 use Rattle.sot_lang.specs.declared.tables.NodeInfo.{NodeInfo}
@@ -14,7 +14,7 @@ use Rattle.sot_lang.specs.TableRules.{MeetsTableRules, IsCoded}
 use Rattle.sot_iv.specs.declared.drafted.Drafted.{Drafted}
 use Rattle.sot_iv.specs.TermIntervals.{OrMayTrap}
 use Rattle.sot_iv.specs.NodeFirings.{MayEvaluate, IsNodeDraft}
-use Rattle.sot_iv.proofs.Nodes.{node_is}
+use Rattle.sot_lang.proofs.Owners.{node_is}
 use Rattle.sot_traps.specs.Readings.{AreReadings, CanBeRead}
 use Rattle.sot_traps.specs.Verdict.{HaveSafeBoxes, IsCodedNode, IsVerdictOf}
 use Rattle.sot_traps.proofs.SlotReadings.{can_be_read, readings_length}

@@ -5,7 +5,7 @@ use Rattle.std.specs.Int.{int_min, int_max}
 use Rattle.std.proofs.lemmas.Option.{none-some, same_Some}
 use Rattle.std.proofs.lemmas.Bool.{cond-true, eq-eqb}
 use Rattle.sot_box.specs.Sides.{Side, AreOrdered}
-use Rattle.sot_box.specs.Lists.{At}
+use Rattle.sot_lists.specs.Places.{At}
 use Rattle.sot_box.specs.Boxes.{lows, highs}
 use Rattle.sot_box.specs.Regions.{IsHull}
 use Rattle.sot_box.specs.Sweep.{coordinate}

@@ -2,7 +2,7 @@
 use Rattle.std.proofs.Common.{◌≡◌, ℕ, suc, ℤ, List, [], ◌∷◌, Some, refl, ap}
 use Rattle.std.specs.Prelude.{map, slice_index_or, Ok}
 use Rattle.sot_box.specs.Sides.{Side, IsIn}
-use Rattle.sot_box.specs.Lists.{At}
+use Rattle.sot_lists.specs.Places.{At, Has}
 use Rattle.sot_box.specs.Boxes.{IsWithin}
 use Rattle.sot_lang.specs.declared.act.Act.{Act}
 use Rattle.sot_lang.specs.declared.tables.PlantInfo.{PlantInfo}
@@ -10,13 +10,12 @@ use Rattle.sot_lang.specs.declared.tables.NodeInfo.{NodeInfo}
 use Rattle.sot_lang.specs.declared.tables.Slot.{Slot}
 use Rattle.sot_lang.specs.declared.tables.Slot.TheVariants.{Scalar, State}
 use Rattle.sot_lang.specs.Tables.{Tables}
-use Rattle.sot_lang.specs.Places.{Has}
 use Rattle.sot_lang.specs.TableRules.{IsTyped}
 use Rattle.sot_lang.specs.Bodies.{Fired, execution}
 use Rattle.sot_lang.specs.Readings.{number_at, reading}
 use Rattle.sot_lang.specs.Ranges.{scalar_ranges, local_ranges, write_ranges}
 use Rattle.sot_lang.specs.SafeRegions.{AllSafe, AllHulls}
-use Rattle.sot_lang.proofs.Lists.{within_read}
+use Rattle.sot_box.proofs.Ranges.{within_read}
 use Rattle.sot_iv.specs.NodeIntervals.{interval_at, reading_intervals}
 use Rattle.sot_iv.specs.TrapFree.{IsTrapFree}
 use Rattle.sot_iv.proofs.BodySound.{exec_sound}

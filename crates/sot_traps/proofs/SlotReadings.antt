@@ -4,14 +4,13 @@ use Rattle.std.specs.Prelude.{map, pos, slice_index_or, Some}
 use Rattle.std.proofs.lemmas.Option.{none-some, same_Some, get_or_from_slice_get}
 use Rattle.std.proofs.lemmas.List.{take_more}
 use Rattle.sot_box.specs.Sides.{Side}
-use Rattle.sot_box.specs.Lists.{At}
+use Rattle.sot_lists.specs.Places.{At, Has}
 use Rattle.sot_box.proofs.Laws.{hull_unique}
 use Rattle.sot_lang.specs.declared.tables.ScalarInfo.{ScalarInfo}
 use Rattle.sot_lang.specs.declared.tables.PlantInfo.{PlantInfo}
 use Rattle.sot_lang.specs.declared.tables.Slot.{Slot}
 use Rattle.sot_lang.specs.declared.tables.Slot.TheVariants.{Scalar, State}
 use Rattle.sot_lang.specs.Tables.{Tables}
-use Rattle.sot_lang.specs.Places.{Has}
 use Rattle.sot_lang.specs.Ranges.{range_of}
 use Rattle.sot_lang.specs.SafeRegions.{safe_of, AllHulls}
 use Rattle.sot_iv.specs.NodeIntervals.{interval_at}
@@ -20,12 +19,6 @@ use Rattle.sot_lang.specs.TableRules.{MeetsTableRules}
 use Rattle.sot_traps.specs.Readings.{IsReading, AreReadings, CanBeRead}
 use Rattle.sot_traps.specs.Verdict.{HaveSafeBoxes}
 use Rattle.sot_traps.proofs.SafeHulls.{safe_some}
-
--- the range of a scalar is that of its entry
-pub range_at : (infos : List ScalarInfo) (k : ℕ) (i : ScalarInfo) → At infos k i → range_of infos k ≡ record { lo = i.lo; hi = i.hi }
-range_at [] k i at = absurd (none-some i at)
-range_at (x ∷ infos) zero i at = ap (λ (y : ScalarInfo). record { lo = y.lo; hi = y.hi }) (same_Some x i at)
-range_at (x ∷ infos) (suc k) i at = range_at infos k i at
 
 more : (p : Tables) (ss : List Slot) (rs : List Side) (s : Slot) (r : Side) → AreReadings p ss rs → IsReading p s r → AreReadings p (ss ++ s ∷ []) (rs ++ r ∷ [])
 more p [] [] s r are is = (is, tt)

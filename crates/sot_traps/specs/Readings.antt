@@ -1,7 +1,7 @@
 -- The intervals of what a node reads, one by one.
 use Rattle.std.specs.Prelude.{◌≡◌, ◌≢◌, ℕ, ◌<◌, List, [], ◌∷◌, length}
 use Rattle.sot_box.specs.Sides.{Side}
-use Rattle.sot_box.specs.Lists.{At}
+use Rattle.sot_lists.specs.Places.{At}
 use Rattle.sot_box.specs.Regions.{IsHull}
 use Rattle.sot_lang.specs.declared.tables.Slot.{Slot}
 use Rattle.sot_lang.specs.declared.tables.Slot.TheVariants.{Scalar, State}

@@ -1,6 +1,6 @@
 -- What a trap-free node may be trusted with.
 use Rattle.std.specs.Prelude.{◌≡◌, ℕ, ℤ, List, Ok}
-use Rattle.sot_box.specs.Lists.{At}
+use Rattle.sot_lists.specs.Places.{At}
 use Rattle.sot_box.specs.Boxes.{IsWithin}
 use Rattle.sot_lang.specs.declared.act.Act.{Act}
 use Rattle.sot_lang.specs.declared.tables.NodeInfo.{NodeInfo}

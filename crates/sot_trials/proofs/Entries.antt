@@ -2,7 +2,7 @@
 use Rattle.std.proofs.Common.{◌≡◌, ℕ, zero, suc, List, ◌++◌, ◌+◌, [], ◌∷◌, length, length-append, refl, sym, ap, ◌∙◌, subst}
 use Rattle.std.specs.Prelude.{Some, Option, slice_index_or}
 use Rattle.std.proofs.lemmas.Option.{same_Some, none-some}
-use Rattle.sot_box.specs.Lists.{At}
+use Rattle.sot_lists.specs.Places.{At}
 use Rattle.sot_box.specs.BoxList.{BoxList}
 use Rattle.sot_box.specs.Sides.{Side, AreOrdered}
 use Rattle.sot_lang.specs.declared.cert.Cells.{Cells}
@@ -10,7 +10,7 @@ use Rattle.sot_lang.specs.declared.cert.Cert.{Cert}
 use Rattle.sot_lang.specs.Tables.{Tables}
 use Rattle.sot_lang.specs.OwnerNames.{width_of}
 use Rattle.sot_lang.specs.CertRules.{AreCellsOf}
-use Rattle.sot_lang.proofs.ShortLists.{at_one, at_two}
+use Rattle.sot_lists.proofs.ShortLists.{at_one, at_two}
 use Rattle.sot_trials.specs.Entries.{AreOf, AreCells, AreCellsBoth, FitsAll}
 
 snoc : (sides : ℕ) (xs : List (List Side)) (y : List Side) → AreOf sides xs → length y ≡ sides → AreOrdered y → AreOf sides (xs ++ (y ∷ []))

@@ -1,12 +1,12 @@
 -- What the vehicle beside a battery has, and what may be asked of its worlds.
 use Rattle.std.proofs.Common.{◌≡◌, ◌∙◌, ℤ, List, [], ◌∷◌, length, ap, sym, subst}
 use Rattle.std.specs.Prelude.{slice_index_or}
-use Rattle.sot_box.specs.Lists.{At}
+use Rattle.sot_lists.specs.Places.{At}
 use Rattle.sot_lang.specs.declared.tables.ModuleInfo.{ModuleInfo}
 use Rattle.sot_lang.specs.declared.tables.PlantInfo.{PlantInfo}
 use Rattle.sot_lang.specs.Tables.{Tables}
 use Rattle.sot_lang.specs.OwnerNames.{width_of}
-use Rattle.sot_lang.proofs.ShortLists.{at_two}
+use Rattle.sot_lists.proofs.ShortLists.{at_two}
 use Rattle.sot_world.specs.Opens.{AreStarts}
 use Rattle.sot_worked.specs.Line.{nav}
 use Rattle.sot_worked.specs.Pair.{IsPair, fly}

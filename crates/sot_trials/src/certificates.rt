@@ -31,6 +31,7 @@ pub fn line_cert(alloc: Global, closed: &[Interval], reach: &[Interval]) -> Resu
     let reach = cells(alloc, reach)?;
     let entry = Some(Cells { closed, reach });
     Ok(Cert {
+        jitter: 0,
         modules: vec![in alloc; entry]?,
     })
 }
@@ -40,6 +41,7 @@ pub fn line_without_entry(alloc: Global) -> Result<Cert, AllocError>
     ensures { IfOk result (FitsAll (1 ∷ [])) }
 {
     Ok(Cert {
+        jitter: 0,
         modules: vec![in alloc; None]?,
     })
 }
@@ -49,6 +51,7 @@ pub fn nothing_to_certify(alloc: Global) -> Cert
     ensures { FitsAll [] result }
 {
     Cert {
+        jitter: 0,
         modules: Vec::new(alloc),
     }
 }
@@ -121,6 +124,7 @@ pub fn pair_cert(alloc: Global, low: i64) -> Result<Cert, AllocError>
     let vehicle = Some(vehicle_cells(alloc)?);
     let battery = Some(battery_cells(alloc, low)?);
     Ok(Cert {
+        jitter: 0,
         modules: vec![in alloc; vehicle, battery]?,
     })
 }

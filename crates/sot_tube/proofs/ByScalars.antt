@@ -3,15 +3,11 @@ use Rattle.std.proofs.Common.{ℕ, ◌<◌, ⊎_elim, List, length, refl, sym, �
 use Rattle.std.proofs.lemmas.Option.{slice_get_cases}
 use Rattle.sot_lang.specs.declared.tables.NodeInfo.{NodeInfo}
 use Rattle.sot_lang.specs.Tables.{Tables}
-use Rattle.sot_box.specs.Lists.{At}
-use Rattle.sot_lang.specs.Places.{Has}
+use Rattle.sot_lists.specs.Places.{At, Has}
 use Rattle.sot_lang.specs.TableRules.{IsTyped}
 use Rattle.sot_tube.specs.Topics.{IsOfTopic, WritesTopic}
 use Rattle.sot_tube.specs.Composition.{IsComposed, IsComposedByScalars}
-
--- a list has something at each place below its length
-pub at_below : {A : Type 0} (xs : List A) (k : ℕ) → k < length xs → (x : A) × At xs k x
-at_below xs k lt = ⊎_elim (λ inside. (inside.0, inside.2)) (λ past. absurd (omega (arith, past.0))) (slice_get_cases xs k).1
+use Rattle.sot_lists.proofs.Places.{at_below}
 
 -- a scalar that a node writes has a topic, which the node writes
 pub writes_its_topic : (p : Tables) → IsTyped p → (n : ℕ) (node : NodeInfo) (k : ℕ) → At p.nodes n node → Has node.writes.items k → (t : ℕ) × IsOfTopic p k t × WritesTopic p node t

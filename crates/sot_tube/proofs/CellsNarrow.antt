@@ -6,7 +6,7 @@ use Rattle.std.proofs.lemmas.Bool.{cases_eq}
 use Rattle.std.proofs.lemmas.List.{get_or-set_same, get_or-set_other}
 use Rattle.std.proofs.lemmas.Option.{slice_get_within}
 use Rattle.sot_box.specs.Sides.{Side}
-use Rattle.sot_box.specs.Lists.{At}
+use Rattle.sot_lists.specs.Places.{At, Has}
 use Rattle.sot_box.specs.Boxes.{IsWithin, lows, highs}
 use Rattle.sot_box.specs.Regions.{Covers, IsHull}
 use Rattle.sot_lang.specs.declared.act.Act.{Act}
@@ -16,11 +16,10 @@ use Rattle.sot_lang.specs.declared.tables.PlantInfo.{PlantInfo}
 use Rattle.sot_lang.specs.declared.tables.NodeInfo.{NodeInfo}
 use Rattle.sot_lang.specs.declared.tables.ModuleInfo.{ModuleInfo}
 use Rattle.sot_lang.specs.Tables.{Tables}
-use Rattle.sot_lang.specs.Places.{Has}
 use Rattle.sot_lang.specs.Ranges.{scalar_ranges, local_ranges, write_ranges}
 use Rattle.sot_lang.specs.SafeRegions.{safe_of, AllHulls}
 use Rattle.sot_lang.specs.TableRules.{IsTyped}
-use Rattle.sot_lang.proofs.Lists.{safe_of_is}
+use Rattle.sot_lang.proofs.SafeRegions.{safe_of_is}
 use Rattle.sot_iv.specs.TermIntervals.{OrMayTrap}
 use Rattle.sot_iv.specs.BodyIntervals.{Intervals}
 use Rattle.sot_iv.specs.NodeIntervals.{interval_at, reading_intervals, IsNodeExecution}

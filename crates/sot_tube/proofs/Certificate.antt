@@ -4,7 +4,7 @@ use Rattle.std.specs.Prelude.{slice_index_or, slice_set}
 use Rattle.std.proofs.lemmas.Bool.{cases_eq, eq-eqb, ne_eqb, cond-true, cond-false}
 use Rattle.std.proofs.lemmas.List.{get_or-set_same, get_or-set_other, length-map}
 use Rattle.std.proofs.lemmas.Option.{slice_get_within, same_Some}
-use Rattle.sot_box.specs.Sides.{Side}
+use Rattle.sot_box.specs.Sides.{Side, IsIn}
 use Rattle.sot_lang.specs.declared.tables.Slot.{Slot}
 use Rattle.sot_lang.specs.declared.tables.Slot.TheVariants.{Scalar, State}
 use Rattle.sot_lang.specs.declared.act.Act.{Act}
@@ -13,23 +13,20 @@ use Rattle.sot_lang.specs.declared.tables.NodeInfo.{NodeInfo}
 use Rattle.sot_lang.specs.declared.tables.ModuleInfo.{ModuleInfo}
 use Rattle.sot_lang.specs.declared.cert.Cert.{Cert}
 use Rattle.sot_lang.specs.Tables.{Tables}
-use Rattle.sot_box.specs.Lists.{At}
-use Rattle.sot_lang.specs.Places.{Has}
+use Rattle.sot_lists.specs.Places.{At, Has}
 use Rattle.sot_box.specs.Boxes.{IsWithin}
 use Rattle.sot_box.specs.Regions.{IsInRegion}
-use Rattle.sot_lang.specs.Ranges.{range_of, input_ranges}
-use Rattle.sot_box.specs.Sides.{IsIn}
+use Rattle.sot_lang.specs.Ranges.{range_of, input_ranges, local_ranges, write_ranges, scalar_ranges}
 use Rattle.sot_lang.specs.Readings.{number_at, reading}
-use Rattle.sot_lang.specs.Ranges.{local_ranges, write_ranges}
 use Rattle.sot_iv.specs.declared.drafted.Drafted.{Drafted}
 use Rattle.sot_iv.specs.declared.drafted.Drafted.TheVariants.{Absent, Maybe, Sure}
-use Rattle.sot_lang.specs.Ranges.{scalar_ranges}
 use Rattle.sot_lang.specs.SafeRegions.{AllHulls}
 use Rattle.sot_lang.specs.TableRules.{IsCoded, IsTyped}
 use Rattle.sot_tube.specs.WellFormed.{MayMeet, NeverTraps, HoldsForAPeriod, HoldsForTwoPeriods, IsWellFormed}
 use Rattle.sot_iv.specs.NodeIntervals.{interval_at, reading_intervals}
 use Rattle.sot_tube.specs.Certified.{sure_interval, command_interval, command_intervals, IsWellCertified}
-use Rattle.sot_lang.proofs.Lists.{at_map, within_read, within_length, within_at}
+use Rattle.sot_lists.proofs.Places.{at_map}
+use Rattle.sot_box.proofs.Ranges.{within_read, within_length, within_at}
 use Rattle.sot_tube.proofs.Tubes.{tube_inside}
 use Rattle.sot_iv.proofs.BodySound.{IsDrafted, AreDrafted, exec_sound}
 

@@ -1,8 +1,8 @@
 -- Checks that are put together from exact checks are exact.
 use Rattle.std.proofs.Common.{◌≡◌, ℕ, ◌<◌, ⊎_elim, List, sym, subst, arith}
 use Rattle.std.proofs.lemmas.Bool.{cases_lt}
-use Rattle.sot_box.specs.Lists.{At}
-use Rattle.sot_lang.proofs.Lists.{at_same}
+use Rattle.sot_lists.specs.Places.{At}
+use Rattle.sot_lists.proofs.Places.{at_same}
 use Rattle.sot_tube.specs.Checks.{Check, and_then, for_each, of_the, IsLeastNumber, IsLeastClash, IsExact}
 
 pub and_then_exact : (a b : Check) → IsExact a → IsExact b → IsExact (and_then a b)

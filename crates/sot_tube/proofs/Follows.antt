@@ -5,22 +5,20 @@ use Rattle.std.proofs.lemmas.Bool.{cond-true, cond-false, cases_eq, eq-eqb, ne_e
 use Rattle.std.proofs.lemmas.List.{length-map}
 use Rattle.std.proofs.lemmas.Option.{get_or_from_slice_get, none-some, same_Some, slice_get_within}
 use Rattle.sot_box.specs.Sides.{Side}
-use Rattle.sot_box.specs.Lists.{At}
+use Rattle.sot_lists.specs.Places.{At, Has}
 use Rattle.sot_lang.specs.declared.tables.ModuleInfo.{ModuleInfo}
 use Rattle.sot_lang.specs.declared.tables.PlantInfo.{PlantInfo}
 use Rattle.sot_lang.specs.Tables.{Tables}
-use Rattle.sot_lang.specs.Places.{Has}
 use Rattle.sot_lang.specs.OwnerNames.{width_of, seen_width}
 use Rattle.sot_lang.specs.Ranges.{range_of, input_ranges}
 use Rattle.sot_lang.specs.SafeRegions.{safe_of}
 use Rattle.sot_lang.specs.TableRules.{MeetsTableRules}
-use Rattle.sot_lang.proofs.Lists.{at_same}
+use Rattle.sot_lists.proofs.Places.{at_same, at_below}
 use Rattle.sot_iv.specs.PlantTicks.{MayTickBox}
 use Rattle.sot_tube.specs.Seen.{AreSeenHulls}
 use Rattle.sot_tube.specs.Tubes.{StaysInside, TubeInside}
 use Rattle.sot_tube.specs.Leaves.{Leave, Leaves, TubeLeaves}
 use Rattle.sot_tube.specs.Calls.{MayFollow, AreCommands, AnswersTube, AnswersAnyTube}
-use Rattle.sot_tube.proofs.ByScalars.{at_below}
 
 -- what is read at a place that is there
 at_read : {A : Type 0} (xs : List A) (k : ℕ) (x : A) → k < length xs → x ≡ get_or xs k x → At xs k x

@@ -4,14 +4,12 @@ use Rattle.std.proofs.lemmas.Int.{to_z-of_z}
 use Rattle.std.proofs.lemmas.List.{map-append}
 use Rattle.std.proofs.lemmas.Option.{get_or_from_slice_get}
 use Rattle.std.proofs.Math.Seq.{take-suc}
-use Rattle.sot_box.specs.Sides.{Side}
-use Rattle.sot_box.specs.Lists.{At}
+use Rattle.sot_box.specs.Sides.{Side, nought}
+use Rattle.sot_lists.specs.Places.{At}
 use Rattle.sot_lang.specs.declared.tables.ScalarInfo.{ScalarInfo}
-use Rattle.sot_lang.specs.Ranges.{range_of, nought}
-use Rattle.sot_lang.proofs.Lists.{at_map}
-
-range_at : (infos : List ScalarInfo) (k : ℕ) (info : ScalarInfo) → At infos k info → range_of infos k ≡ record { lo = info.lo; hi = info.hi }
-range_at infos k info at = get_or_from_slice_get (map (λ i. record { lo = i.lo; hi = i.hi }) infos) k (record { lo = info.lo; hi = info.hi }) nought (at_map (λ i. let s : Side = record { lo = i.lo; hi = i.hi } in s) infos k info at)
+use Rattle.sot_lang.specs.Ranges.{range_of}
+use Rattle.sot_lists.proofs.Places.{at_map}
+use Rattle.sot_lang.proofs.Owners.{range_at}
 
 -- an interval of words is the interval of their numbers
 pub word_side : (lo hi : ℤ) → SFits w64 lo → SFits w64 hi → (let s : Side = record { lo = to_z w64 (of_z w64 lo); hi = to_z w64 (of_z w64 hi) } in s) ≡ record { lo = lo; hi = hi }

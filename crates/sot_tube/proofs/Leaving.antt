@@ -2,20 +2,18 @@
 use Rattle.std.proofs.Common.{◌≡◌, ℕ, zero, suc, ⊎_elim, ◌⊎◌, List, [], ◌∷◌, Ok, Err, length, refl, sym, ap₂, ◌∙◌, subst, arith}
 use Rattle.sot_lang.specs.declared.tables.PlantInfo.{PlantInfo}
 use Rattle.sot_box.specs.Sides.{Side}
-use Rattle.sot_box.specs.Lists.{At}
-use Rattle.sot_box.specs.Regions.{IsHull}
-use Rattle.sot_tube.specs.Tubes.{StaysInside}
+use Rattle.sot_lists.specs.Places.{At}
+use Rattle.sot_box.specs.Regions.{IsHull, Covers}
+use Rattle.sot_tube.specs.Tubes.{StaysInside, IsNextBox, TubeInside}
 use Rattle.sot_tube.specs.Leaves.{Leave, GoesOut, Leaves, TubeLeaves}
 use Rattle.sot_tube.specs.declared.leave.Leave.TheVariants.{Trap}
-use Rattle.sot_tube.specs.Tubes.{IsNextBox, TubeInside}
 use Rattle.sot_iv.specs.declared.may_trap.MayTrap.{MayTrap}
 use Rattle.sot_lang.specs.declared.tables.ModuleInfo.{ModuleInfo}
 use Rattle.sot_lang.specs.Tables.{Tables}
 use Rattle.sot_lang.specs.SafeRegions.{safe_of, AreHulls, AllHulls, joined_boxes}
 use Rattle.sot_box.proofs.Laws.{gap_unique, gap_uncovered, hull_unique}
-use Rattle.sot_tube.proofs.ByScalars.{at_below}
+use Rattle.sot_lists.proofs.Places.{at_below}
 use Rattle.std.proofs.lemmas.Option.{slice_get_within, get_or_from_slice_get}
-use Rattle.sot_box.specs.Regions.{Covers}
 use Rattle.sot_iv.proofs.Plants.{plant_same}
 
 pub leaves_not : (plant : PlantInfo) (cs hs : List Side) (region : List (List Side)) (b : List Side) (n k : ℕ) (leave : Leave) → Leaves plant cs hs region b n k leave → StaysInside plant cs hs region b k → ⊥

@@ -5,7 +5,7 @@ use Rattle.std.proofs.lemmas.Int.{ints, by_lt_z}
 use Rattle.std.proofs.lemmas.Option.{same_Some, none-some}
 use Rattle.std.specs.Global.{Global, Vec}
 use Rattle.sot_box.specs.Sides.{Side}
-use Rattle.sot_box.specs.Lists.{At}
+use Rattle.sot_lists.specs.Places.{At}
 use Rattle.sot_box.specs.Regions.{IsInRegion, IsHull}
 use Rattle.sot_lang.specs.declared.act.Act.{Act}
 use Rattle.sot_lang.specs.declared.cert.Cells.{Cells}
@@ -15,7 +15,7 @@ use Rattle.sot_lang.specs.declared.tables.ModuleInfo.{ModuleInfo}
 use Rattle.sot_lang.specs.SafeRegions.{safe_of, AllHulls}
 use Rattle.sot_lang.specs.TableRules.{IsCoded}
 use Rattle.sot_lang.specs.Line.{line, line_cert, line_cells, side, vec, pos_plant, fast, slow, nav, slow_acts}
-use Rattle.sot_lang.proofs.ShortLists.{at_one, at_two, at_more}
+use Rattle.sot_lists.proofs.ShortLists.{at_one, at_two, at_more}
 use Rattle.sot_iv.specs.declared.drafted.Drafted.TheVariants.{Sure}
 use Rattle.sot_iv.specs.NodeIntervals.{IsNodeIntervals}
 use Rattle.sot_iv.specs.TrapFree.{IsTrapFree}

@@ -5,7 +5,7 @@ use Rattle.std.proofs.lemmas.Int.{ints}
 use Rattle.std.proofs.lemmas.Option.{same_Some, none-some}
 use Rattle.std.specs.Global.{Global, Vec}
 use Rattle.sot_box.specs.Sides.{Side}
-use Rattle.sot_box.specs.Lists.{At}
+use Rattle.sot_lists.specs.Places.{At, Has}
 use Rattle.sot_box.specs.Boxes.{IsWithin, IsBefore}
 use Rattle.sot_box.specs.Regions.{IsInRegion, IsGap}
 use Rattle.sot_lang.specs.declared.act.Act.{Act}
@@ -15,20 +15,17 @@ use Rattle.sot_lang.specs.declared.tables.ModuleInfo.{ModuleInfo}
 use Rattle.sot_lang.specs.declared.tables.Slot.{Slot}
 use Rattle.sot_lang.specs.declared.tables.Slot.TheVariants.{Scalar, State}
 use Rattle.sot_lang.specs.declared.trap.TrapKind.TheVariants.{ZeroDivisor}
-use Rattle.sot_lang.specs.Places.{Has}
 use Rattle.sot_lang.specs.SafeRegions.{safe_of}
 use Rattle.sot_lang.specs.Line.{vec, line_cells, side, somewhere, pos_plant, fast, slow, nav, cmd_number}
-use Rattle.sot_lang.proofs.ShortLists.{at_one, at_two, at_more}
+use Rattle.sot_lists.proofs.ShortLists.{at_one, at_two, at_more}
 use Rattle.sot_iv.specs.declared.may_trap.MayTrap.{MayTrap}
 use Rattle.sot_iv.specs.declared.drafted.Drafted.TheVariants.{Sure}
 use Rattle.sot_tube.specs.declared.leave.Leave.TheVariants.{Out, Trap}
-use Rattle.sot_tube.specs.Topics.{WritesTopic}
+use Rattle.sot_tube.specs.Topics.{WritesTopic, IsInputTopic}
 use Rattle.sot_tube.specs.Composition.{UsesNode, ArePartners, NoSharedNode, NoSharedOutput}
-use Rattle.sot_tube.specs.Topics.{IsInputTopic}
-use Rattle.sot_tube.specs.Verdict.{ShareNode, code}
+use Rattle.sot_tube.specs.Verdict.{ShareNode, code, IsLonger, IsWrittenByOne, ShareOutput, IsForeignInput}
 use Rattle.sot_tube.specs.Tubes.{IsNextBox}
 use Rattle.sot_tube.specs.Refusals.{ClosedLeaves, ReachLeaves}
-use Rattle.sot_tube.specs.Verdict.{IsLonger, IsWrittenByOne, ShareOutput, IsForeignInput}
 use Rattle.sot_tube.specs.Examples.{segment, at_x, nav_with, line_body, line_nodes, cells_with, divider, with_unread, WholeCellLeaves, WideCellLeavesAtOnce, UnreadPlantsAreNoPremise}
 use Rattle.sot_tube.specs.RefusalExamples.{slow_5, fast_5, fast_alt, slow_alt, two_topics, third_writer, two_inputs, foreign, calc_acts, crossed, rivals, other_fast, other_slow, dividing, WideReachIsRefused, OneClosedCellIsRefused, GapsAreRefused, LongPeriodsAreRefused, OtherOutputsAreRefused, EmptyRegionsAreRefused, SharedNodesAreRefused, SharedOutputsAreRefused, ForeignInputsAreRefused, TrapsAreRefused, CrossedNodesAreRefused, RivalsAreRefusedInOrder, OtherTopicsAreNoInputs, VerdictsAreInOrder, TrapsOfCellsAreRefused, ShapeIsWellFormed}
 use Rattle.sot_tube.proofs.LineBoxes.{covers, near, undecided}

@@ -5,11 +5,11 @@ use Rattle.std.proofs.lemmas.Int.{ints}
 use Rattle.std.proofs.lemmas.Option.{same_Some}
 use Rattle.std.specs.Global.{Global}
 use Rattle.sot_box.specs.Sides.{Side}
-use Rattle.sot_box.specs.Lists.{At}
+use Rattle.sot_lists.specs.Places.{At}
 use Rattle.sot_box.specs.Boxes.{IsWithin, IsBefore}
 use Rattle.sot_box.specs.Regions.{IsInRegion, Covers, IsGap, IsHull}
 use Rattle.sot_lang.specs.Line.{side, somewhere, pos_plant, nav}
-use Rattle.sot_lang.proofs.ShortLists.{at_one}
+use Rattle.sot_lists.proofs.ShortLists.{at_one}
 use Rattle.sot_tube.specs.declared.leave.Leave.{Leave}
 use Rattle.sot_tube.specs.declared.leave.Leave.TheVariants.{Out}
 use Rattle.sot_lang.specs.declared.trap.TrapKind.TheVariants.{ZeroDivisor}

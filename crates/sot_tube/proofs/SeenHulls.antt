@@ -1,7 +1,7 @@
 -- The hulls of seen plants, one more at a time.
 use Rattle.std.proofs.Common.{◌≡◌, ℕ, zero, suc, ◌+◌, ◌≤◌, List, [], ◌∷◌, ◌++◌, take, refl, sym, ap, ◌∙◌, subst, append_assoc, append-nil, arith}
 use Rattle.sot_box.specs.Sides.{Side}
-use Rattle.sot_box.specs.Lists.{At}
+use Rattle.sot_lists.specs.Places.{At}
 use Rattle.sot_box.specs.Regions.{IsHull}
 use Rattle.std.proofs.lemmas.Option.{none-some, same_Some}
 use Rattle.sot_lang.specs.declared.tables.ModuleInfo.{ModuleInfo}

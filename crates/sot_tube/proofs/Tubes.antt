@@ -6,17 +6,16 @@ use Rattle.sot_lang.specs.declared.tables.PlantInfo.{PlantInfo}
 use Rattle.sot_lang.specs.declared.tables.ModuleInfo.{ModuleInfo}
 use Rattle.sot_lang.specs.Tables.{Tables}
 use Rattle.sot_lang.specs.Values.{Outcome}
-use Rattle.sot_box.specs.Lists.{At}
-use Rattle.sot_box.specs.Boxes.{IsWithin}
+use Rattle.sot_lists.specs.Places.{At}
+use Rattle.sot_box.specs.Boxes.{IsWithin, point_box}
 use Rattle.sot_box.specs.Regions.{Covers}
-use Rattle.sot_lang.specs.SafeRegions.{AreSafe}
+use Rattle.sot_lang.specs.SafeRegions.{AreSafe, AreHulls, joined_boxes}
 use Rattle.sot_lang.specs.Reach.{TicksTo, ComesTo, Reach, AnyReach, AllInside, IsInside}
 use Rattle.sot_lang.specs.Ranges.{input_ranges}
 use Rattle.sot_lang.specs.Ticks.{joined}
-use Rattle.sot_lang.specs.SafeRegions.{AreHulls, joined_boxes}
 use Rattle.sot_tube.specs.Tubes.{IsNextBox, StaysInside, TubeInside, AnyTubeInside, Keeps}
-use Rattle.sot_box.specs.Boxes.{point_box}
-use Rattle.sot_lang.proofs.Lists.{at_same, within_append}
+use Rattle.sot_lists.proofs.Places.{at_same}
+use Rattle.sot_box.proofs.Ranges.{within_append}
 use Rattle.sot_iv.proofs.Plants.{plant_sound}
 
 pub within_box_of : (s : List ℤ) → IsWithin (point_box s) s

@@ -11,9 +11,9 @@ use Rattle.sot_lang.specs.declared.tables.ModuleInfo.{ModuleInfo}
 use Rattle.sot_lang.specs.Tables.{Tables}
 use Rattle.sot_lang.specs.Ranges.{input_ranges, local_ranges, write_ranges}
 use Rattle.sot_lang.specs.TableRules.{IsCoded}
-use Rattle.sot_lang.proofs.Lists.{at_same}
+use Rattle.sot_lists.proofs.Places.{at_same}
 use Rattle.sot_box.specs.Sides.{Side}
-use Rattle.sot_box.specs.Lists.{At}
+use Rattle.sot_lists.specs.Places.{At}
 use Rattle.sot_iv.specs.TermIntervals.{OrMayTrap}
 use Rattle.sot_iv.specs.BodyIntervals.{Intervals, IsExecutionIntervals}
 use Rattle.sot_iv.specs.NodeIntervals.{reading_intervals}

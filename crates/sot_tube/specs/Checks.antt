@@ -1,6 +1,6 @@
 -- Checks that stop at the first failure, which they tell.
 use Rattle.std.specs.Prelude.{ℕ, List, ◌≡◌, ◌⊎◌, ◌<◌}
-use Rattle.sot_box.specs.Lists.{At}
+use Rattle.sot_lists.specs.Places.{At}
 use Rattle.sot_tube.specs.Refusals.{Refusal}
 
 -- a check: what passes it, and the refusals that it gives

@@ -4,8 +4,7 @@ use Rattle.sot_lang.specs.declared.tables.PlantInfo.{PlantInfo}
 use Rattle.sot_lang.specs.declared.tables.NodeInfo.{NodeInfo}
 use Rattle.sot_lang.specs.declared.tables.ModuleInfo.{ModuleInfo}
 use Rattle.sot_lang.specs.Tables.{Tables}
-use Rattle.sot_box.specs.Lists.{At}
-use Rattle.sot_lang.specs.Places.{Has}
+use Rattle.sot_lists.specs.Places.{At, Has}
 use Rattle.sot_tube.specs.Topics.{WritesTopic, IsInputTopic}
 
 -- a module uses a node as its advanced or as its safe node

@@ -4,7 +4,7 @@ use Rattle.std.proofs.Common.{refl}
 use Rattle.std.specs.Global.{Global, Vec}
 use Rattle.sot_lang.specs.declared.act.Act.{Act}
 use Rattle.sot_box.specs.Sides.{Side}
-use Rattle.sot_lang.specs.declared.operator.Op.TheVariants.{Add, Div}
+use Rattle.sot_tree.specs.declared.operator.Op.TheVariants.{Add, Div}
 use Rattle.sot_lang.specs.declared.term.Term.TheVariants.{Number, Place, Binary'}
 use Rattle.sot_lang.specs.declared.cert.Cells.{Cells}
 use Rattle.sot_lang.specs.declared.cert.Cert.{Cert}
@@ -33,7 +33,7 @@ at_x x = x ∷ []
 module _ (g : Global) where
   -- the running example with another safer region of its module
   abbrev pub nav_with : List (List Side) → ModuleInfo
-  nav_with safer = record (nav g) { safer = record { width = 1; boxes = safer } }
+  nav_with safer = record (nav g) { safer = record { width = 1; boxes = safer; settled = false } }
 
   abbrev pub line_with : List (List Side) → Tables
   line_with safer = record (line g) { modules = nav_with safer ∷ [] }
@@ -44,10 +44,10 @@ module _ (g : Global) where
 
   -- its certificate with other cells
   abbrev pub cells_with : List (List Side) → List (List Side) → Cells
-  cells_with closed reach = record { closed = record { width = 1; boxes = closed }; reach = record { width = 1; boxes = reach } }
+  cells_with closed reach = record { closed = record { width = 1; boxes = closed; settled = false }; reach = record { width = 1; boxes = reach; settled = false } }
 
   abbrev pub cert_with : Cells → Cert
-  cert_with cells = record { modules = vec g (Some cells ∷ []) refl }
+  cert_with cells = record { jitter = 0; modules = vec g (Some cells ∷ []) refl }
 
   -- the running example with other nodes
   abbrev pub line_nodes : NodeInfo → NodeInfo → Tables
@@ -102,7 +102,7 @@ module _ (g : Global) where
 
   -- the safe region in two pieces
   abbrev pub split : Tables
-  split = record (line g) { modules = record (nav g) { safe = record { width = 1; boxes = segment (negsuc 39) (negsuc 29) ∷ segment (pos 30) (pos 40) ∷ [] } } ∷ [] }
+  split = record (line g) { modules = record (nav g) { safe = record { width = 1; boxes = segment (negsuc 39) (negsuc 29) ∷ segment (pos 30) (pos 40) ∷ []; settled = false } } ∷ [] }
 
   -- a seen plant is anywhere in the least box around its safe region: not in its safer region, and also between the pieces
   abbrev pub SeenPlantsAreInHulls : Type 0
@@ -127,7 +127,7 @@ module _ (g : Global) where
   abbrev pub with_unread : Tables
   with_unread = record (line g) {
     plants = pos_plant g ∷ pos_plant g ∷ [];
-    modules = nav g ∷ record (nav g) { plant = 1; safe = record { width = 1; boxes = [] } } ∷ [];
+    modules = nav g ∷ record (nav g) { plant = 1; safe = record { width = 1; boxes = []; settled = false } } ∷ [];
   }
 
   -- no point is safe for all plants, and yet there is something that the safe node may meet

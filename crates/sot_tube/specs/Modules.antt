@@ -3,7 +3,7 @@ use Rattle.std.specs.Prelude.{ℕ, ◌⊎◌, ◌≤◌}
 use Rattle.sot_lang.specs.declared.tables.NodeInfo.{NodeInfo}
 use Rattle.sot_lang.specs.declared.tables.ModuleInfo.{ModuleInfo}
 use Rattle.sot_lang.specs.Tables.{Tables}
-use Rattle.sot_box.specs.Lists.{At}
+use Rattle.sot_lists.specs.Places.{At}
 use Rattle.sot_tube.specs.Topics.{WritesTopic}
 
 -- the periods of the advanced and of the safe node are at most the module's

@@ -2,7 +2,7 @@
 use Rattle.std.specs.Prelude.{pos, negsuc, true, false, List, [], ◌∷◌, Some, None}
 use Rattle.std.proofs.Common.{refl}
 use Rattle.std.specs.Global.{Global}
-use Rattle.sot_lang.specs.declared.operator.Op.TheVariants.{Div}
+use Rattle.sot_tree.specs.declared.operator.Op.TheVariants.{Div}
 use Rattle.sot_lang.specs.declared.term.Term.TheVariants.{Number, Place, Binary'}
 use Rattle.sot_lang.specs.declared.act.Act.TheVariants.{Publish}
 use Rattle.sot_lang.specs.declared.act.Act.{Act}
@@ -72,13 +72,13 @@ module _ (g : Global) where
 
   -- no box of the safer region, and no entry of the certificate, which comes first
   abbrev pub no_entry : Cert
-  no_entry = record { modules = vec g (None ∷ []) refl }
+  no_entry = record { jitter = 0; modules = vec g (None ∷ []) refl }
 
   abbrev pub EmptyRegionsAreRefused : Type 0
   EmptyRegionsAreRefused =
       (shape (line_with g []) (line_cert g) 0 (nav_with g [])).Refuses (EmptyRegion 0 true)
       × (shape (line_with g []) no_entry 0 (nav_with g [])).Refuses (NoCells 0)
-      × (boxes 0 (record (nav_with g []) { safe = record { width = 1; boxes = [] } })).Refuses (EmptyRegion 0 false)
+      × (boxes 0 (record (nav_with g []) { safe = record { width = 1; boxes = []; settled = false } })).Refuses (EmptyRegion 0 false)
 
   -- two modules with the same nodes and plant: the least node and the two modules are named; then the plant, where the nodes differ
   abbrev pub twins : Tables

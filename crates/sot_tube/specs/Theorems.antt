@@ -10,7 +10,7 @@ use Rattle.sot_lang.specs.TableRules.{IsTyped}
 use Rattle.sot_lang.specs.SafeRegions.{AllHulls}
 use Rattle.sot_lang.specs.Reach.{AnyReach, HeldReach, AllInside}
 use Rattle.sot_box.specs.Sides.{Side}
-use Rattle.sot_box.specs.Lists.{At}
+use Rattle.sot_lists.specs.Places.{At}
 use Rattle.sot_box.specs.Boxes.{IsWithin}
 use Rattle.sot_box.specs.Regions.{Covers, IsHull}
 use Rattle.sot_iv.specs.TermIntervals.{OrMayTrap}

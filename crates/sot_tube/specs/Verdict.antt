@@ -8,7 +8,7 @@ use Rattle.sot_lang.specs.declared.tables.NodeInfo.{NodeInfo}
 use Rattle.sot_lang.specs.declared.tables.ModuleInfo.{ModuleInfo}
 use Rattle.sot_lang.specs.Tables.{Tables}
 use Rattle.sot_box.specs.Sides.{Side}
-use Rattle.sot_box.specs.Lists.{At}
+use Rattle.sot_lists.specs.Places.{At}
 use Rattle.sot_box.specs.Regions.{IsInRegion, Covers, IsFirstGap}
 use Rattle.sot_lang.specs.TableRules.{IsCoded}
 use Rattle.sot_iv.specs.declared.may_trap.MayTrap.{MayTrap}

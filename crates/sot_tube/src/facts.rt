@@ -1,11 +1,8 @@
 //! Worked examples of the definitions: each of these functions does nothing, and its contract is what a person worked out.
 
 ghost use Rattle.std.specs.Global.{Global};
-ghost use Rattle.sot_tube.specs.Examples.{LineIsCertified, KeptAt12, JitterIsTwice, TubesOfTheLine, CommandsAreSureOrWhole};
-ghost use Rattle.sot_tube.specs.Examples.{WholeCellLeaves, WideCellLeavesAtOnce, SeenPlantsAreInHulls, OutComesBeforeTrap, UnreadPlantsAreNoPremise};
-ghost use Rattle.sot_tube.specs.RefusalExamples.{WideReachIsRefused, OneClosedCellIsRefused, GapsAreRefused, LongPeriodsAreRefused, OtherOutputsAreRefused};
-ghost use Rattle.sot_tube.specs.RefusalExamples.{EmptyRegionsAreRefused, SharedNodesAreRefused, SharedOutputsAreRefused, ForeignInputsAreRefused, TrapsAreRefused, ShapeIsWellFormed};
-ghost use Rattle.sot_tube.specs.RefusalExamples.{CrossedNodesAreRefused, RivalsAreRefusedInOrder, OtherTopicsAreNoInputs, VerdictsAreInOrder, TrapsOfCellsAreRefused};
+ghost use Rattle.sot_tube.specs.Examples.{LineIsCertified, KeptAt12, JitterIsTwice, TubesOfTheLine, CommandsAreSureOrWhole, WholeCellLeaves, WideCellLeavesAtOnce, SeenPlantsAreInHulls, OutComesBeforeTrap, UnreadPlantsAreNoPremise};
+ghost use Rattle.sot_tube.specs.RefusalExamples.{WideReachIsRefused, OneClosedCellIsRefused, GapsAreRefused, LongPeriodsAreRefused, OtherOutputsAreRefused, EmptyRegionsAreRefused, SharedNodesAreRefused, SharedOutputsAreRefused, ForeignInputsAreRefused, TrapsAreRefused, ShapeIsWellFormed, CrossedNodesAreRefused, RivalsAreRefusedInOrder, OtherTopicsAreNoInputs, VerdictsAreInOrder, TrapsOfCellsAreRefused};
 
 /// The running example is well certified; what is well formed asks for more than safety needs, and no unread plant makes it
 /// hold for nothing.

@@ -1,5 +1,5 @@
 ghost use Rattle.std.specs.Prelude.{◌≡◌, ◌≢◌, ℕ, [], ◌+◌, ◌≤◌, ◌++◌, length};
-ghost use Rattle.sot_lang.specs.Places.{Has};
+ghost use Rattle.sot_lists.specs.Places.{Has};
 ghost use Rattle.sot_lang.specs.OwnerNames.{seen_width};
 ghost use Rattle.sot_lang.specs.SafeRegions.{safe_of};
 ghost use Rattle.sot_tube.specs.Seen.{AreSeenHulls};

@@ -1,6 +1,6 @@
 ghost use Rattle.std.specs.Prelude.{◌≡◌, IsTrue, ◌↔◌};
 ghost use Rattle.sot_lang.specs.declared.tables.ModuleInfo.{ModuleInfo};
-ghost use Rattle.sot_box.specs.Lists.{At};
+ghost use Rattle.sot_lists.specs.Places.{At};
 ghost use Rattle.sot_box.specs.Boxes.{point_box};
 ghost use Rattle.sot_tube.specs.Tubes.{Keeps};
 ghost use Rattle.sot_tube.specs.Calls.{MayFollow};

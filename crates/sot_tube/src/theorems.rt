@@ -1,8 +1,6 @@
 //! What certificates, tubes and verdicts are good for: each of these functions does nothing, and its contract is the theorem.
 
-ghost use Rattle.sot_tube.specs.Theorems.{CertifiedIsWellFormed, AnyTubeHoldsAnyReach, HeldTubeHoldsHeldReach, SharesNoScalar};
-ghost use Rattle.sot_tube.specs.Theorems.{TubesLeaveInOneWay, HullsAreUnique, CoveredCellsNeverTrap};
-ghost use Rattle.sot_tube.specs.Theorems.{VerdictsAreExact, AcceptedIsWellCertified, AcceptedWithoutJitter};
+ghost use Rattle.sot_tube.specs.Theorems.{CertifiedIsWellFormed, AnyTubeHoldsAnyReach, HeldTubeHoldsHeldReach, SharesNoScalar, TubesLeaveInOneWay, HullsAreUnique, CoveredCellsNeverTrap, VerdictsAreExact, AcceptedIsWellCertified, AcceptedWithoutJitter};
 
 /// A program that is well certified, by boxes, is well formed, point by point.
 pub fn certified_is_well_formed()

@@ -1,8 +1,7 @@
 ghost use Rattle.std.specs.Prelude.{◌≡◌, ℕ, ◌<◌, ◌≤◌, ◌≤ℤ◌, length, map};
-ghost use Rattle.sot_lang.specs.Places.{Has};
+ghost use Rattle.sot_lists.specs.Places.{Has, At};
 ghost use Rattle.sot_lang.specs.Ranges.{range_of};
 ghost use Rattle.sot_lang.specs.declared.tables.ScalarInfo.{ScalarInfo};
-ghost use Rattle.sot_box.specs.Lists.{At};
 ghost use Rattle.sot_tube.specs.Calls.{MayFollow, AreCommands, AnswersTube, AnswersAnyTube};
 
 use crate::hulls::seen_hulls;

@@ -1,6 +1,6 @@
 ghost use Rattle.std.specs.Prelude.{◌≡◌, ◌<◌, length, MatchResult};
 ghost use Rattle.sot_lang.specs.declared.tables.PlantInfo.{PlantInfo};
-ghost use Rattle.sot_box.specs.Lists.{At};
+ghost use Rattle.sot_lists.specs.Places.{At};
 ghost use Rattle.sot_iv.specs.PlantTicks.{MayTickBox};
 ghost use Rattle.sot_lang.specs.TableRules.{MeetsTableRules};
 ghost use Rattle.sot_tube.specs.Tubes.{StaysInside};

@@ -2,9 +2,9 @@
 use Rattle.std.proofs.Common.{◌≡◌, ◌∙◌, ℕ, ◌+◌, ◌<◌, List, [], ◌∷◌, ◌++◌, length, get_or, drop, map, sym, ap, append_assoc, arith}
 use Rattle.std.specs.Prelude.{filter_map}
 use Rattle.std.proofs.lemmas.List.Sums.{sum_by-cons}
-use Rattle.sot_lang.specs.declared.tree.Decl.{Decl}
-use Rattle.sot_lang.specs.TreeViews.{declaration_view}
-use Rattle.sot_lang.specs.Trees.{Declaration, a_topic, a_plant, a_node, a_module}
+use Rattle.sot_tree.specs.declared.tree.Decl.{Decl}
+use Rattle.sot_tree.specs.TreeViews.{declaration_view}
+use Rattle.sot_tree.specs.Trees.{Declaration, a_topic, a_plant, a_node, a_module}
 use Rattle.sot_rules.proofs.Loops.{rest_is}
 use Rattle.sot_typing.specs.declared.numbers.Number.{Number}
 use Rattle.sot_typing.specs.declared.numbers.Counts.{Counts}

@@ -1,8 +1,8 @@
 -- The declarations of one sort: where the name of each leads.
 use Rattle.std.proofs.Common.{◌≡◌, ◌∙◌, ℕ, zero, suc, ◌+◌, List, [], ◌∷◌, find, cond, not, filter_map, refl, sym, ap, subst, Option, Some, None, true, false, Bool, arith}
 use Rattle.std.specs.List.{cons_option, position_or_len}
-use Rattle.sot_box.specs.Lists.{At}
-use Rattle.sot_lang.specs.declared.tree.Ident.{Ident}
+use Rattle.sot_lists.specs.Places.{At}
+use Rattle.sot_tree.specs.declared.tree.Ident.{Ident}
 use Rattle.sot_rules.specs.Lists.{are_same}
 use Rattle.sot_typing.proofs.Lists.{of_kept, at_same}
 use Rattle.sot_typing.proofs.Once.{AreOnce, same_name, name_same}

@@ -2,10 +2,10 @@
 use Rattle.std.proofs.Common.{◌≡◌, List, [], ◌∷◌, ◌++◌, Bool, true, false, ◌||◌, nat_abs, Result, Ok, Err, IfOk, refl, ap, ap₂, sym, ◌∙◌}
 use Rattle.std.specs.List.{list_any}
 use Rattle.sot_text.specs.declared.token.Span.{Span}
-use Rattle.sot_lang.specs.declared.operator.Op.{Op}
-use Rattle.sot_lang.specs.declared.operator.Func.{Func}
-use Rattle.sot_lang.specs.declared.tree.Lit.{Lit}
-use Rattle.sot_lang.specs.Trees.{Tree, Trees, binary, called, rescaled, chosen}
+use Rattle.sot_tree.specs.declared.operator.Op.{Op}
+use Rattle.sot_tree.specs.declared.operator.Func.{Func}
+use Rattle.sot_tree.specs.declared.tree.Lit.{Lit}
+use Rattle.sot_tree.specs.Trees.{Tree, Trees, binary, called, rescaled, chosen}
 use Rattle.sot_rules.specs.declared.fault.TypeKind.{TypeKind}
 use Rattle.sot_rules.specs.declared.sort.Sort.{Sort}
 use Rattle.sot_rules.specs.declared.sort.Sort.TheVariants.{Scaled}

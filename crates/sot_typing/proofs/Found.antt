@@ -7,12 +7,12 @@ use Rattle.std.proofs.lemmas.List.Elements.{filter_map-append}
 use Rattle.std.proofs.lemmas.List.Sums.{sum_by-cons}
 use Rattle.std.proofs.lemmas.Option.{slice_get_read, get_or_from_slice_get, same_Some}
 use Rattle.std.proofs.lemmas.List.Quantifiers.{position-Some}
-use Rattle.sot_box.specs.Lists.{At}
-use Rattle.sot_lang.specs.declared.tree.Ident.{Ident}
-use Rattle.sot_lang.specs.declared.tree.Decl.{Decl}
-use Rattle.sot_lang.specs.TreeViews.{declaration_view}
-use Rattle.sot_lang.specs.Trees.{Topic, Plant, Node, Module, Declaration, a_topic, a_plant, a_node, a_module, Program}
-use Rattle.sot_lang.proofs.Lists.{at_map}
+use Rattle.sot_lists.specs.Places.{At}
+use Rattle.sot_tree.specs.declared.tree.Ident.{Ident}
+use Rattle.sot_tree.specs.declared.tree.Decl.{Decl}
+use Rattle.sot_tree.specs.TreeViews.{declaration_view}
+use Rattle.sot_tree.specs.Trees.{Topic, Plant, Node, Module, Declaration, a_topic, a_plant, a_node, a_module, Program}
+use Rattle.sot_lists.proofs.Places.{at_map}
 use Rattle.sot_rules.specs.Names.{meaning}
 use Rattle.sot_rules.specs.declared.index.Index.{Index}
 use Rattle.sot_rules.specs.Indexes.{is_named, program_in}

@@ -3,11 +3,11 @@ use Rattle.std.proofs.Common.{◌≡◌, ◌∙◌, ℕ, ◌<◌, List, [], ◌�
 use Rattle.std.specs.Prelude.{flat_map, filter_map}
 use Rattle.std.specs.List.{All, cons_option}
 use Rattle.std.proofs.lemmas.List.{get_or-map, length-map, append-nil}
-use Rattle.sot_lang.specs.declared.tree.Decl.{Decl}
-use Rattle.sot_lang.specs.declared.tree.TopicDecl.{TopicDecl}
-use Rattle.sot_lang.specs.declared.tree.Decl.TheVariants as decls
-use Rattle.sot_lang.specs.TreeViews.{declaration_view, topic_view}
-use Rattle.sot_lang.specs.Trees.{Program}
+use Rattle.sot_tree.specs.declared.tree.Decl.{Decl}
+use Rattle.sot_tree.specs.declared.tree.TopicDecl.{TopicDecl}
+use Rattle.sot_tree.specs.declared.tree.Decl.TheVariants as decls
+use Rattle.sot_tree.specs.TreeViews.{declaration_view, topic_view}
+use Rattle.sot_tree.specs.Trees.{Program}
 use Rattle.sot_lang.specs.Tables.{Tables}
 use Rattle.sot_rules.specs.declared.index.Index.{Index}
 use Rattle.sot_rules.specs.Indexes.{program_in}

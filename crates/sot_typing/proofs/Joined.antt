@@ -2,8 +2,7 @@
 use Rattle.std.proofs.Common.{◌≡◌, ℕ, zero, suc, ◌+◌, ◌<◌, ◌≤◌, ◌⊎◌, inl, inr, List, [], ◌∷◌, ◌++◌, length, take, sum_by, flat_map, refl, sym, ap, subst, Some, arith}
 use Rattle.std.proofs.lemmas.List.Sums.{sum_by-cons}
 use Rattle.std.proofs.lemmas.List.{length-append}
-use Rattle.sot_box.specs.Lists.{At}
-use Rattle.sot_lang.specs.Places.{Has}
+use Rattle.sot_lists.specs.Places.{At, Has}
 use Rattle.sot_typing.specs.Resolved.{counted_from}
 use Rattle.sot_typing.proofs.Lists.{at_left, at_right, of_append}
 

@@ -2,9 +2,9 @@
 use Rattle.std.proofs.Common.{◌≡◌, ◌∙◌, ℕ, zero, suc, ◌+◌, ◌<◌, ◌⊎◌, inl, inr, List, [], ◌∷◌, ◌++◌, map, length, zip, filter_map, refl, sym, ap, subst, Option, Some, None, true, false, Bool, ◌||◌, arith}
 use Rattle.std.specs.List.{list_any, cons_option}
 pub use Rattle.std.proofs.lemmas.Option.{slice_get_within as at_lt}
-pub use Rattle.sot_lang.proofs.Lists.{at_map, at_same}
-use Rattle.sot_box.specs.Lists.{At}
-use Rattle.sot_rules.specs.Formed.{Each}
+pub use Rattle.sot_lists.proofs.Places.{at_map, at_same}
+use Rattle.sot_lists.specs.Places.{At}
+use Rattle.sot_tree.specs.Formed.{Each}
 
 pub lt_at : {A : Type 0} (xs : List A) (k : ℕ) → k < length xs → (x : A) × At xs k x
 lt_at [] k l = absurd (omega arith)

@@ -3,7 +3,7 @@ use Rattle.std.proofs.Common.{◌≡◌, ◌∙◌, ℕ, suc, List, [], ◌∷�
 use Rattle.std.specs.Global.{Vec}
 use Rattle.std.proofs.lemmas.Option.{none-some, same_Some}
 use Rattle.std.proofs.lemmas.List.{length-map}
-use Rattle.sot_box.specs.Lists.{At}
+use Rattle.sot_lists.specs.Places.{At}
 use Rattle.sot_lang.specs.declared.act.Act.{Act}
 use Rattle.sot_lang.specs.declared.term.Term.{Term}
 use Rattle.sot_lang.specs.declared.tables.PlantInfo.{PlantInfo}
@@ -16,10 +16,10 @@ use Rattle.sot_lang.specs.Tables.{Tables}
 use Rattle.sot_lang.specs.TableRules.{IsCoded, IsTyped, MeetsPlantRules, MeetsNodeRules, MeetsTableRules}
 use Rattle.sot_lang.specs.TermRules.{TermFits, TermsFit}
 use Rattle.sot_lang.specs.ActRules.{ActsFit}
-use Rattle.sot_lang.specs.Trees.{Next, Program}
+use Rattle.sot_tree.specs.Trees.{Next, Program}
 use Rattle.sot_rules.specs.declared.fault.TypeKind.TheVariants.{KindDiffers}
 use Rattle.sot_rules.specs.First.{IsFaultless}
-use Rattle.sot_rules.specs.Formed.{IsFormed, IsNext, IsBlock, IfThere}
+use Rattle.sot_tree.specs.Formed.{IsFormed, IsNext, IsBlock, IfThere}
 use Rattle.sot_rules.specs.Fails.{noise_truth, noise_scalar, next_value, local_scalar, statements}
 use Rattle.sot_rules.specs.Names.{local_thing, node_scope, plant_scope}
 use Rattle.sot_typing.specs.Formulas.{Deeds, formula_view, deeds_view}

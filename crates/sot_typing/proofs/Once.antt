@@ -2,9 +2,9 @@
 use Rattle.std.proofs.Common.{◌≡◌, ℕ, zero, suc, ◌+◌, ◌<◌, ◌≤◌, ◌⊎◌, inl, inr, List, [], ◌∷◌, map, length, take, sum_by, refl, sym, subst, true, arith}
 use Rattle.std.proofs.lemmas.List.{take_all}
 use Rattle.std.proofs.lemmas.Slice.Eq.{bytes_eq-Decides}
-use Rattle.sot_box.specs.Lists.{At}
+use Rattle.sot_lists.specs.Places.{At}
 use Rattle.sot_text.specs.declared.token.Span.{Span}
-use Rattle.sot_lang.specs.declared.tree.Ident.{Ident}
+use Rattle.sot_tree.specs.declared.tree.Ident.{Ident}
 use Rattle.sot_rules.specs.Lists.{are_same, IsRepeated, IsPast, IsPassedBy}
 use Rattle.sot_typing.proofs.Lists.{lt_at, at_map, any_at}
 use Rattle.sot_typing.proofs.Joined.{order, sum_next}

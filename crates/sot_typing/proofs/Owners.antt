@@ -4,11 +4,11 @@ use Rattle.std.specs.List.{cons_option}
 use Rattle.std.proofs.lemmas.List.{length-map, map-append, replicate-append-replicate}
 use Rattle.std.proofs.lemmas.Option.{get_or_from_slice_get}
 use Rattle.std.proofs.lemmas.Grind.{flat_map-append}
-use Rattle.sot_box.specs.Lists.{At}
-use Rattle.sot_lang.specs.declared.tree.Ident.{Ident}
-use Rattle.sot_lang.specs.declared.tree.Field.{Field}
-use Rattle.sot_lang.specs.declared.tree.Scalar.{Scalar}
-use Rattle.sot_lang.specs.declared.tree.StateDecl.{StateDecl}
+use Rattle.sot_lists.specs.Places.{At, Has}
+use Rattle.sot_tree.specs.declared.tree.Ident.{Ident}
+use Rattle.sot_tree.specs.declared.tree.Field.{Field}
+use Rattle.sot_tree.specs.declared.tree.Scalar.{Scalar}
+use Rattle.sot_tree.specs.declared.tree.StateDecl.{StateDecl}
 use Rattle.sot_lang.specs.declared.tables.ScalarInfo.{ScalarInfo}
 use Rattle.sot_lang.specs.declared.tables.StateInfo.{StateInfo}
 use Rattle.sot_lang.specs.declared.tables.NoiseInfo.{NoiseInfo}
@@ -16,9 +16,8 @@ use Rattle.sot_lang.specs.declared.tables.LocalInfo.{LocalInfo}
 use Rattle.sot_lang.specs.declared.tables.Slot.{Slot}
 use Rattle.sot_lang.specs.declared.tables.Slot.TheVariants.{Scalar as ScalarSlot, State}
 use Rattle.sot_lang.specs.OwnerNames.{width_of, seen_width, is_truth_scalar, reads_truth}
-use Rattle.sot_lang.specs.Places.{Has}
 use Rattle.sot_lang.specs.Tables.{Tables}
-use Rattle.sot_lang.specs.Trees.{Form, one, fields, Topic, Plant, Local, Declaration, a_topic, a_plant, a_node, a_module, Program}
+use Rattle.sot_tree.specs.Trees.{Form, one, fields, Topic, Plant, Local, Declaration, a_topic, a_plant, a_node, a_module, Program}
 use Rattle.sot_rules.specs.declared.sort.Sort.{Sort}
 use Rattle.sot_rules.specs.declared.sort.Sort.TheVariants.{Scaled}
 use Rattle.sot_rules.specs.First.{IsFaultless}

@@ -4,27 +4,26 @@ use Rattle.std.specs.List.{position_or_len}
 use Rattle.std.specs.Str.{bytes_eq}
 use Rattle.std.proofs.lemmas.List.{length-map}
 use Rattle.std.proofs.lemmas.Option.{slice_get_past}
-use Rattle.sot_box.specs.Lists.{At}
+use Rattle.sot_lists.specs.Places.{At, Has}
 use Rattle.sot_text.specs.declared.token.Span.{Span}
-use Rattle.sot_lang.specs.declared.tree.Ident.{Ident}
-use Rattle.sot_lang.specs.declared.tree.Lit.{Lit}
-use Rattle.sot_lang.specs.declared.tree.Field.{Field}
-use Rattle.sot_lang.specs.declared.tree.StateDecl.{StateDecl}
+use Rattle.sot_tree.specs.declared.tree.Ident.{Ident}
+use Rattle.sot_tree.specs.declared.tree.Lit.{Lit}
+use Rattle.sot_tree.specs.declared.tree.Field.{Field}
+use Rattle.sot_tree.specs.declared.tree.StateDecl.{StateDecl}
 use Rattle.sot_lang.specs.declared.tables.PlantInfo.{PlantInfo}
 use Rattle.sot_lang.specs.declared.tables.StateInfo.{StateInfo}
 use Rattle.sot_lang.specs.declared.tables.NoiseInfo.{NoiseInfo}
 use Rattle.sot_lang.specs.declared.tables.ScalarInfo.{ScalarInfo}
 use Rattle.sot_lang.specs.declared.tables.ModuleInfo.{ModuleInfo}
 use Rattle.sot_lang.specs.OwnerNames.{width_of}
-use Rattle.sot_lang.specs.Places.{Has}
 use Rattle.sot_lang.specs.TableRules.{IsNarrow}
 use Rattle.sot_lang.specs.Tables.{Tables}
-use Rattle.sot_lang.specs.Trees.{Plant, Module, Next, Declaration, a_topic, a_plant, a_node, a_module, Program}
+use Rattle.sot_tree.specs.Trees.{Plant, Module, Next, Declaration, a_topic, a_plant, a_node, a_module, Program}
 use Rattle.sot_rules.specs.declared.fault.TypeKind.{TypeKind}
 use Rattle.sot_rules.specs.declared.fault.TypeKind.TheVariants.{Unknown, ScaleDiffers, KindDiffers, TooMany, NoModule, NextMissing}
 use Rattle.sot_rules.specs.declared.sort.Sort.TheVariants.{Scaled}
 use Rattle.sot_rules.specs.First.{IsFaultless}
-use Rattle.sot_rules.specs.Formed.{IsFormed, HasItem}
+use Rattle.sot_tree.specs.Formed.{IsFormed, HasItem}
 use Rattle.sot_rules.specs.Sorts.{state_sort, written_scale}
 use Rattle.sot_rules.specs.Names.{meaning, is_topic, is_plant, plant_scope}
 use Rattle.sot_rules.specs.Lists.{IsPast, places}
@@ -42,6 +41,7 @@ use Rattle.sot_typing.proofs.Tests.{no_true, no_false}
 use Rattle.sot_typing.proofs.Ranges.{scale_known, scalar_is}
 use Rattle.sot_typing.proofs.Seen.{AreSeen, of_plant, plant_in, module_in}
 use Rattle.sot_typing.proofs.TopicLists.{few_listed, listed_below, listed_whole}
+use Rattle.sot_lang.proofs.Owners.{width_at}
 
 -- a state variable is a number of at most 6 decimals
 pub state_known : (p : Program) (q : Plant) → ((at : Span) (k : TypeKind) → PlantFails p q at k → ⊥) → (s : StateDecl) → Has q.states s → (n : ℕ) × (state_sort s ≡ Scaled n) × (n ≤ 6)
@@ -50,12 +50,6 @@ state_known p q none s h = by s.scale refl
     by : (o : Option Lit) → s.scale ≡ o → (n : ℕ) × (state_sort s ≡ Scaled n) × (n ≤ 6)
     by None e = (0, ap written_scale e, omega arith)
     by (Some d) e = (let r = scale_known d (no_true (is_no_scale d) (λ w. none d.at ScaleDiffers (state_scale h e w))) in (nat_abs d.mantissa, ap written_scale e ∙ r.0, r.1))
-
--- how many state variables a plant has in the tables
-pub width_at : (xs : List PlantInfo) (k : ℕ) (i : PlantInfo) → At xs k i → width_of xs k ≡ length i.states.items
-width_at [] k i a = cc
-width_at (x ∷ xs) zero i a = (let e : x ≡ i = cc in ap (λ (z : PlantInfo). length z.states.items) e)
-width_at (x ∷ xs) (suc k) i a = width_at xs k i a
 
 some_length : {A : Type 0} (xs : List A) → HasItem xs → 1 ≤ length xs
 some_length [] h = absurd h

@@ -2,14 +2,14 @@
 use Rattle.std.proofs.Common.{List, [], ◌∷◌, map, ◌≡◌, ◌∙◌, ℕ, suc, ◌≤◌, ◌^◌, ◌==◌, nat_lt, ℤ, pos, ◌≤ℤ◌, ◌-ℤ◌, ◌+ℤ◌, nat_abs, int_lt, refl, sym, ap, subst, true, false, Bool, not, ◌&&◌, ◌||◌, if◌then◌else◌, arith}
 use Rattle.std.proofs.lemmas.Int.{ints}
 use Rattle.sot_box.specs.Boxes.{IsWithin}
-use Rattle.sot_box.specs.Lists.{At}
+use Rattle.sot_lists.specs.Places.{At}
 use Rattle.sot_text.specs.declared.token.Span.{Span}
-use Rattle.sot_lang.specs.declared.tree.Lit.{Lit}
-use Rattle.sot_lang.specs.declared.tree.Bounds.{Bounds}
-use Rattle.sot_lang.specs.declared.tree.Scalar.{Scalar}
-use Rattle.sot_lang.specs.declared.tree.Scalar.TheVariants.{Int, Fix, Bool as BoolScalar}
-use Rattle.sot_lang.specs.declared.tree.Const.{Const}
-use Rattle.sot_lang.specs.declared.tree.Const.TheVariants.{Number, Truth}
+use Rattle.sot_tree.specs.declared.tree.Lit.{Lit}
+use Rattle.sot_tree.specs.declared.tree.Bounds.{Bounds}
+use Rattle.sot_tree.specs.declared.tree.Scalar.{Scalar}
+use Rattle.sot_tree.specs.declared.tree.Scalar.TheVariants.{Int, Fix, Bool as BoolScalar}
+use Rattle.sot_tree.specs.declared.tree.Const.{Const}
+use Rattle.sot_tree.specs.declared.tree.Const.TheVariants.{Number, Truth}
 use Rattle.sot_lang.specs.TableRules.{IsNarrow}
 use Rattle.sot_rules.specs.declared.fault.TypeKind.{TypeKind}
 use Rattle.sot_rules.specs.declared.fault.TypeKind.TheVariants.{ScaleDiffers, KindDiffers, RangeEmpty, InitOutside, RangeWide}

@@ -3,20 +3,17 @@ use Rattle.std.proofs.Common.{◌≡◌, ◌∙◌, ℕ, ◌+◌, ◌<◌, List,
 use Rattle.std.specs.Prelude.{zip}
 use Rattle.std.proofs.lemmas.List.{drop_more}
 use Rattle.std.proofs.lemmas.Option.{slice_get_within, get_or_from_slice_get}
-use Rattle.sot_box.specs.Lists.{At}
-use Rattle.sot_lang.specs.declared.tree.Const.{Const}
-use Rattle.sot_lang.specs.declared.tree.Field.{Field}
+use Rattle.sot_lists.specs.Places.{At}
+use Rattle.sot_tree.specs.declared.tree.Const.{Const}
+use Rattle.sot_tree.specs.declared.tree.Field.{Field}
 use Rattle.sot_lang.specs.declared.tables.ScalarInfo.{ScalarInfo}
-use Rattle.sot_lang.specs.Trees.{Topic, fields}
+use Rattle.sot_tree.specs.Trees.{Topic, fields}
 use Rattle.sot_rules.specs.Tests.{counts_differ, form_scalars, start_values}
 use Rattle.sot_typing.proofs.Topics.{starts_are}
 use Rattle.sot_rules.proofs.Loops.{rest_is}
 use Rattle.sot_typing.specs.Resolved.{scalar_info, field_names}
 use Rattle.sot_typing.specs.Parts.{field_scalars, scalars_at}
-
--- the rest of a list, from the item at a place on
-pub rest_at : {X : Type 0} (xs : List X) (k : ℕ) (x : X) → At xs k x → drop k xs ≡ x ∷ drop (k + 1) xs
-rest_at xs k x at = drop_more xs k x (slice_get_within xs k x at) ∙ ap (λ z. z ∷ drop (k + 1) xs) (get_or_from_slice_get xs k x x at)
+use Rattle.sot_lists.proofs.Places.{drop_at}
 
 -- one field's scalar is put, and then those of the fields that are left
 pub step_fields : (topic : ℕ) (fs : List Field) (cs : List Const) (k : ℕ) (f : Field) (c : Const) (i : ScalarInfo) (out more all : List ScalarInfo) → k < length fs → f ≡ get_or fs k f → At cs k c → i ≡ scalar_info topic (Some f.name.name) f.scalar c → more ≡ out ++ i ∷ [] → out ++ field_scalars topic (drop k fs) (drop k cs) ≡ all → more ++ field_scalars topic (drop (k + 1) fs) (drop (k + 1) cs) ≡ all
@@ -25,7 +22,7 @@ step_fields topic fs cs k f c i out more all lt e at is pushed inv =
     ap (λ z. z ++ rest) pushed
     ∙ append_assoc out (i ∷ []) rest
     ∙ ap (λ z. out ++ z ∷ rest) is
-    ∙ sym (ap (λ z. out ++ field_scalars topic z (drop k cs)) (rest_is fs k f lt e) ∙ ap (λ z. out ++ field_scalars topic (f ∷ drop (k + 1) fs) z) (rest_at cs k c at))
+    ∙ sym (ap (λ z. out ++ field_scalars topic z (drop k cs)) (rest_is fs k f lt e) ∙ ap (λ z. out ++ field_scalars topic (f ∷ drop (k + 1) fs) z) (drop_at cs k c at))
     ∙ inv
 
 -- the scalars of a record are those of its fields

@@ -1,13 +1,13 @@
 -- The tables of a program, entry by entry.
 use Rattle.std.proofs.Common.{◌≡◌, ◌∙◌, ℕ, List, map, flat_map, length, sym, ap, subst}
 use Rattle.std.proofs.lemmas.List.{length-map}
-use Rattle.sot_box.specs.Lists.{At}
+use Rattle.sot_lists.specs.Places.{At}
 use Rattle.sot_lang.specs.declared.tables.TopicInfo.{TopicInfo}
 use Rattle.sot_lang.specs.declared.tables.PlantInfo.{PlantInfo}
 use Rattle.sot_lang.specs.declared.tables.NodeInfo.{NodeInfo}
 use Rattle.sot_lang.specs.declared.tables.ModuleInfo.{ModuleInfo}
 use Rattle.sot_lang.specs.Tables.{Tables}
-use Rattle.sot_lang.specs.Trees.{Topic, Plant, Node, Module, Program}
+use Rattle.sot_tree.specs.Trees.{Topic, Plant, Node, Module, Program}
 use Rattle.sot_typing.specs.Resolved.{topics, plants, nodes, modules, topic_info, topic_scalars, plant_table, plant_seen, node_table, node_seen, module_info, tables_of, AreTables}
 use Rattle.sot_typing.proofs.Lists.{at_map, of_map}
 

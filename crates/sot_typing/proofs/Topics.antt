@@ -1,11 +1,11 @@
 -- The scalars of a program's topics: they lie one topic behind another.
 use Rattle.std.proofs.Common.{◌≡◌, ◌∙◌, ℕ, ◌+◌, ◌<◌, List, [], zip, length, sum_by, flat_map, refl, sym, ap, subst, Option, Some, Bool, true, false, arith}
 use Rattle.std.proofs.lemmas.List.{length-map}
-use Rattle.sot_box.specs.Lists.{At}
+use Rattle.sot_lists.specs.Places.{At}
 use Rattle.sot_lang.specs.declared.tables.ScalarInfo.{ScalarInfo}
-use Rattle.sot_lang.specs.declared.tree.Scalar.{Scalar}
-use Rattle.sot_lang.specs.declared.tree.Const.{Const}
-use Rattle.sot_lang.specs.Trees.{Form, one, fields, Topic, Program}
+use Rattle.sot_tree.specs.declared.tree.Scalar.{Scalar}
+use Rattle.sot_tree.specs.declared.tree.Const.{Const}
+use Rattle.sot_tree.specs.Trees.{Form, one, fields, Topic, Program}
 use Rattle.sot_rules.specs.declared.fault.TypeKind.TheVariants.{KindDiffers}
 use Rattle.sot_rules.specs.First.{IsFaultless}
 use Rattle.sot_rules.specs.Fails.{other_count}

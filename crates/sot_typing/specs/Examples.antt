@@ -1,11 +1,11 @@
 -- Worked programs and their tables. Each stands on one line; what they should give was computed by another program.
 use Rattle.std.specs.Prelude.{pos, negsuc, true, false, [], ◌∷◌, Some, None, codes}
-use Rattle.sot_lang.specs.declared.operator.Op.TheVariants.{Add, And, Greater, Less, Mul, Sub}
-use Rattle.sot_lang.specs.declared.operator.Func.TheVariants.{Min}
-use Rattle.sot_lang.specs.declared.tree.Scalar.TheVariants.{Int, Fix, Bool as BoolScalar}
-use Rattle.sot_lang.specs.declared.tree.Const.TheVariants.{Number, Truth}
+use Rattle.sot_tree.specs.declared.operator.Op.TheVariants.{Add, And, Greater, Less, Mul, Sub}
+use Rattle.sot_tree.specs.declared.operator.Func.TheVariants.{Min}
+use Rattle.sot_tree.specs.declared.tree.Scalar.TheVariants.{Int, Fix, Bool as BoolScalar}
+use Rattle.sot_tree.specs.declared.tree.Const.TheVariants.{Number, Truth}
 use Rattle.sot_lang.specs.declared.tables.Slot.TheVariants.{Scalar as ScalarSlot, State}
-use Rattle.sot_lang.specs.Trees.{number, named, binary, rest, negated, denied, called, rescaled, chosen, no_tree, one_more, assigned, published, branched, repeated, no_statement, statement, one, fields, one_value, values, a_topic, a_plant, a_node, a_module, Program}
+use Rattle.sot_tree.specs.Trees.{number, named, binary, rest, negated, denied, called, rescaled, chosen, no_tree, one_more, assigned, published, branched, repeated, no_statement, statement, one, fields, one_value, values, a_topic, a_plant, a_node, a_module, Program}
 use Rattle.sot_rules.specs.Examples.{at, word, decimal, whole, range}
 use Rattle.sot_typing.specs.Formulas as to
 use Rattle.sot_typing.specs.Resolved.{ProgramTables}
@@ -97,7 +97,7 @@ line_tables = record {
       }
       ∷ [];
   modules =
-      record { name = codes "nav"; ac = 0; sc = 1; period = 4; offset = 0; plant = 0; safe = record { width = 1; boxes = ((record { lo = (negsuc 39); hi = (pos 40) } ∷ []) ∷ []) }; safer = record { width = 1; boxes = ((record { lo = (negsuc 9); hi = (pos 10) } ∷ []) ∷ []) } }
+      record { name = codes "nav"; ac = 0; sc = 1; period = 4; offset = 0; plant = 0; safe = record { width = 1; boxes = ((record { lo = (negsuc 39); hi = (pos 40) } ∷ []) ∷ []); settled = false }; safer = record { width = 1; boxes = ((record { lo = (negsuc 9); hi = (pos 10) } ∷ []) ∷ []); settled = false } }
       ∷ [];
 }
 
@@ -225,7 +225,7 @@ many_tables = record {
       }
       ∷ [];
   modules =
-      record { name = codes "a"; ac = 1; sc = 0; period = 8; offset = 3; plant = 0; safe = record { width = 2; boxes = ((record { lo = (pos 0); hi = (pos 10) } ∷ record { lo = (negsuc 2); hi = (pos 4) } ∷ []) ∷ (record { lo = (pos 25); hi = (pos 25) } ∷ record { lo = (pos 0); hi = (pos 0) } ∷ []) ∷ []) }; safer = record { width = 2; boxes = [] } }
-      ∷ record { name = codes "b"; ac = 1; sc = 0; period = 4; offset = 0; plant = 1; safe = record { width = 1; boxes = ((record { lo = (pos 0); hi = (pos 9) } ∷ []) ∷ []) }; safer = record { width = 1; boxes = ((record { lo = (pos 0); hi = (pos 1) } ∷ []) ∷ []) } }
+      record { name = codes "a"; ac = 1; sc = 0; period = 8; offset = 3; plant = 0; safe = record { width = 2; boxes = ((record { lo = (pos 0); hi = (pos 10) } ∷ record { lo = (negsuc 2); hi = (pos 4) } ∷ []) ∷ (record { lo = (pos 25); hi = (pos 25) } ∷ record { lo = (pos 0); hi = (pos 0) } ∷ []) ∷ []); settled = false }; safer = record { width = 2; boxes = []; settled = false } }
+      ∷ record { name = codes "b"; ac = 1; sc = 0; period = 4; offset = 0; plant = 1; safe = record { width = 1; boxes = ((record { lo = (pos 0); hi = (pos 9) } ∷ []) ∷ []); settled = false }; safer = record { width = 1; boxes = ((record { lo = (pos 0); hi = (pos 1) } ∷ []) ∷ []); settled = false } }
       ∷ [];
 }

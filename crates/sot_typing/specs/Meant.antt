@@ -1,9 +1,9 @@
 -- What the code knows of names: the index of a program's declarations and their numbers.
 use Rattle.std.specs.Prelude.{◌≡◌, ℕ, ◌+◌, ◌≤◌, List, length, Some}
 use Rattle.std.specs.List.{position_or_len}
-use Rattle.sot_box.specs.Lists.{At}
-use Rattle.sot_lang.specs.declared.tree.Ident.{Ident}
-use Rattle.sot_lang.specs.Trees.{Plant, Declaration, a_topic, a_plant, a_node, a_module, Program}
+use Rattle.sot_lists.specs.Places.{At}
+use Rattle.sot_tree.specs.declared.tree.Ident.{Ident}
+use Rattle.sot_tree.specs.Trees.{Plant, Declaration, a_topic, a_plant, a_node, a_module, Program}
 use Rattle.sot_rules.specs.declared.index.Index.{Index}
 use Rattle.sot_rules.specs.Indexes.{program_in, IsIndex}
 use Rattle.sot_rules.specs.Lists.{are_same}

@@ -3,14 +3,14 @@ use Rattle.std.specs.Prelude.{◌≡◌, ℕ, zero, suc, Bool, ℤ, pos, List, [
 use Rattle.std.specs.List.{position_or_len}
 use Rattle.sot_box.specs.BoxList.{BoxList}
 use Rattle.sot_box.specs.Sides.{Side}
-use Rattle.sot_lang.specs.declared.tree.Ident.{Ident}
-use Rattle.sot_lang.specs.declared.tree.Bounds.{Bounds}
-use Rattle.sot_lang.specs.declared.tree.Scalar.{Scalar}
-use Rattle.sot_lang.specs.declared.tree.Scalar.TheVariants.{Int, Fix, Bool as BoolScalar}
-use Rattle.sot_lang.specs.declared.tree.Const.{Const}
-use Rattle.sot_lang.specs.declared.tree.Const.TheVariants.{Number, Truth}
-use Rattle.sot_lang.specs.declared.tree.Field.{Field}
-use Rattle.sot_lang.specs.declared.tree.StateDecl.{StateDecl}
+use Rattle.sot_tree.specs.declared.tree.Ident.{Ident}
+use Rattle.sot_tree.specs.declared.tree.Bounds.{Bounds}
+use Rattle.sot_tree.specs.declared.tree.Scalar.{Scalar}
+use Rattle.sot_tree.specs.declared.tree.Scalar.TheVariants.{Int, Fix, Bool as BoolScalar}
+use Rattle.sot_tree.specs.declared.tree.Const.{Const}
+use Rattle.sot_tree.specs.declared.tree.Const.TheVariants.{Number, Truth}
+use Rattle.sot_tree.specs.declared.tree.Field.{Field}
+use Rattle.sot_tree.specs.declared.tree.StateDecl.{StateDecl}
 use Rattle.sot_lang.specs.declared.tables.TopicInfo.{TopicInfo}
 use Rattle.sot_lang.specs.declared.tables.ScalarInfo.{ScalarInfo}
 use Rattle.sot_lang.specs.declared.tables.StateInfo.{StateInfo}
@@ -22,7 +22,7 @@ use Rattle.sot_lang.specs.declared.tables.ModuleInfo.{ModuleInfo}
 use Rattle.sot_lang.specs.declared.tables.Slot.{Slot}
 use Rattle.sot_lang.specs.declared.tables.Slot.TheVariants.{Scalar as ScalarSlot, State}
 use Rattle.sot_lang.specs.Tables.{Tables}
-use Rattle.sot_lang.specs.Trees.{Form, one, fields, Topic, Plant, Node, Module, Local, Area, Declaration, a_topic, a_plant, a_node, a_module, Program}
+use Rattle.sot_tree.specs.Trees.{Form, one, fields, Topic, Plant, Node, Module, Local, Area, Declaration, a_topic, a_plant, a_node, a_module, Program}
 use Rattle.sot_rules.specs.Sorts.{scalar_sort, state_sort, is_truthful}
 use Rattle.sot_rules.specs.Names.{meaning, node_scope, plant_scope}
 use Rattle.sot_rules.specs.Tests.{form_scalars, starts}
@@ -227,7 +227,7 @@ abbrev pub state_count : Program → Ident → ℕ
 state_count p i = elim (meaning p i) as (λ x. ℕ) [ Some (a_plant q) ↦ length q.states | _ ↦ 0 ]
 
 abbrev pub region_of : Program → Ident → List Area → BoxList
-region_of p plant areas = record { width = state_count p plant; boxes = map (λ a. map side_of a.sides) areas }
+region_of p plant areas = record { width = state_count p plant; boxes = map (λ a. map side_of a.sides) areas; settled = false }
 
 abbrev pub module_info : Program → Module → ModuleInfo
 module_info p m = record {

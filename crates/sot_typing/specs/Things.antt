@@ -1,6 +1,6 @@
 -- The names of an owner, as the code keeps them.
 use Rattle.std.specs.Prelude.{◌≤◌, List, map, length, Option}
-use Rattle.sot_lang.specs.declared.tree.Ident.{Ident}
+use Rattle.sot_tree.specs.declared.tree.Ident.{Ident}
 use Rattle.sot_rules.specs.Names.{Parts, alone, several, Thing, field_part, state_part, reading, reading_sort}
 use Rattle.sot_typing.specs.declared.things.Parts.{Parts as KeptParts}
 use Rattle.sot_typing.specs.declared.things.Parts.TheVariants.{Alone, Fields, States}

@@ -1,5 +1,5 @@
 ghost use Rattle.std.specs.Prelude.{◌≡◌, [], IfOk, None, false, nat_abs};
-ghost use Rattle.sot_lang.specs.TreeViews.{tree_view, statement_view, block_view};
+ghost use Rattle.sot_tree.specs.TreeViews.{tree_view, statement_view, block_view};
 ghost use Rattle.sot_rules.specs.Names.{reading};
 ghost use Rattle.sot_rules.specs.TreeSorts.{has_decimals};
 ghost use Rattle.sot_rules.specs.Tests.{is_off};
@@ -11,7 +11,8 @@ ghost use Rattle.sot_typing.specs.Bodies.{scope_in, IsSmall};
 
 use crate::terms::term;
 use crate::things::{Thing, named};
-use sot_lang::{Act, Expr, Ident, Lit, Stmt};
+use sot_lang::Act;
+use sot_tree::{Expr, Ident, Lit, Stmt};
 use std::alloc::{AllocError, Global};
 
 /// The names that a node's statements use: those that its expressions read, its locals, and the topics that it writes.

@@ -1,5 +1,5 @@
 ghost use Rattle.std.specs.Prelude.{◌≡◌, [], IfOk, All, map, option_map};
-ghost use Rattle.sot_lang.specs.TreeViews.{tree_view, block_view, plant_view, node_view};
+ghost use Rattle.sot_tree.specs.TreeViews.{tree_view, block_view, plant_view, node_view};
 ghost use Rattle.sot_rules.specs.Names.{local_thing, node_scope, plant_scope};
 ghost use Rattle.sot_rules.specs.Faults.{together, node_lists, plant_lists, tree_faults, block_faults};
 ghost use Rattle.sot_rules.specs.Indexes.{program_in, IsIndex};
@@ -12,7 +12,8 @@ use crate::acts::{Names, acts};
 use crate::naming::{Meant, add_locals, add_meant, add_noise, add_states};
 use crate::terms::term;
 use crate::things::Thing;
-use sot_lang::{Act, NextDecl, NodeDecl, PlantDecl, Stmt, Term};
+use sot_lang::{Act, Term};
+use sot_tree::{NextDecl, NodeDecl, PlantDecl, Stmt};
 use sot_rules::Index;
 use std::alloc::{AllocError, Global};
 

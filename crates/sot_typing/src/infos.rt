@@ -1,5 +1,5 @@
 ghost use Rattle.std.specs.Prelude.{◌≡◌, ◌≤◌, nat_abs, IfOk};
-ghost use Rattle.sot_lang.specs.TreeViews.{plant_view, node_view, module_view};
+ghost use Rattle.sot_tree.specs.TreeViews.{plant_view, node_view, module_view};
 ghost use Rattle.sot_rules.specs.Indexes.{IsIndex, program_in};
 ghost use Rattle.sot_typing.specs.Resolved.{plant_seen, plant_table, node_seen, node_table, module_info, state_count};
 ghost use Rattle.sot_typing.specs.Meant.{AreNumbers};
@@ -11,9 +11,8 @@ use crate::numbers::Number;
 use crate::part::{local_infos, noise_infos, state_infos};
 use crate::places::{node_number, plant_number, plant_numbers, scalars_meant, slots_meant};
 use crate::region::region;
-use sot_lang::{
-    Decl, Ident, Lit, ModuleDecl, ModuleInfo, NodeDecl, NodeInfo, PlantDecl, PlantInfo,
-};
+use sot_lang::{ModuleInfo, NodeInfo, PlantInfo};
+use sot_tree::{Decl, Ident, Lit, ModuleDecl, NodeDecl, PlantDecl};
 use sot_rules::Index;
 use std::alloc::{AllocError, Global};
 

@@ -1,8 +1,8 @@
 ghost use Rattle.sot_lang.specs.TableRules.{MeetsTableRules};
 ghost use Rattle.sot_lang.specs.Tables.{Tables};
-ghost use Rattle.sot_lang.specs.Trees.{Program};
+ghost use Rattle.sot_tree.specs.Trees.{Program};
 ghost use Rattle.sot_rules.specs.First.{IsFaultless};
-ghost use Rattle.sot_rules.specs.Formed.{IsFormed};
+ghost use Rattle.sot_tree.specs.Formed.{IsFormed};
 ghost use Rattle.sot_typing.specs.Resolved.{AreTables};
 
 /// The tables of a program of the grammar in which no rule of typing fails satisfy what tables must.

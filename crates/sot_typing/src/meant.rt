@@ -1,11 +1,11 @@
 ghost use Rattle.std.specs.Prelude.{◌≡◌, MatchOption, None};
-ghost use Rattle.sot_lang.specs.TreeViews.{declaration_view};
+ghost use Rattle.sot_tree.specs.TreeViews.{declaration_view};
 ghost use Rattle.sot_rules.specs.Indexes.{program_in};
 ghost use Rattle.sot_rules.specs.Names.{meaning};
 ghost use Rattle.sot_typing.specs.Meant.{AreNumbers, IsMeant};
 
 use crate::numbers::Number;
-use sot_lang::{Decl, Ident};
+use sot_tree::{Decl, Ident};
 use sot_rules::Index;
 
 /// A declaration with its number.

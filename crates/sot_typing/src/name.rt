@@ -1,7 +1,7 @@
 ghost use Rattle.std.specs.Prelude.{◌≡◌, IfOk};
-ghost use Rattle.sot_rules.specs.Formed.{IsName};
+ghost use Rattle.sot_tree.specs.Formed.{IsName};
 
-use sot_lang::{Ident, Name};
+use sot_tree::{Ident, Name};
 use std::alloc::{AllocError, Global};
 
 /// A copy of a name.

@@ -1,13 +1,13 @@
 ghost use Rattle.std.specs.Prelude.{◌≡◌, ◌++◌, OnOk, map, filter_map, option_map};
 ghost use Rattle.std.specs.Option.{option_to_list};
-ghost use Rattle.sot_lang.specs.TreeViews.{topic_view, plant_view, local_view, declaration_view};
+ghost use Rattle.sot_tree.specs.TreeViews.{topic_view, plant_view, local_view, declaration_view};
 ghost use Rattle.sot_rules.specs.Names.{meaning, topic_thing, plant_thing, local_thing, state_thing, noise_thing};
 ghost use Rattle.sot_rules.specs.Indexes.{program_in, IsIndex};
 ghost use Rattle.sot_typing.specs.Things.{thing_in, things_in};
 ghost use Rattle.sot_typing.specs.MeantThings.{meant};
 
 use crate::things::{Parts, Thing};
-use sot_lang::{Decl, Field, Ident, LocalDecl, PlantDecl, Shape, StateDecl, TopicDecl};
+use sot_tree::{Decl, Field, Ident, LocalDecl, PlantDecl, Shape, StateDecl, TopicDecl};
 use sot_rules::{Index, scalar_sort, state_sort};
 use std::alloc::AllocError;
 

@@ -1,9 +1,9 @@
 ghost use Rattle.std.specs.Prelude.{◌≡◌, [], map, IfOk};
-ghost use Rattle.sot_lang.specs.TreeViews.{declaration_view};
+ghost use Rattle.sot_tree.specs.TreeViews.{declaration_view};
 ghost use Rattle.sot_typing.specs.Numbers.{FitLimits, HasRoom, counted, nothing_counted, numbered, numbers_of};
 
 use crate::topic::shape_len;
-use sot_lang::Decl;
+use sot_tree::Decl;
 use std::alloc::{AllocError, Global};
 
 /// The number of a declaration among those of its sort, from 0 on, and of a topic the place of its first scalar.

@@ -1,12 +1,13 @@
 ghost use Rattle.std.specs.Prelude.{◌≡◌, map, IfOk};
 ghost use Rattle.std.specs.List.{All};
-ghost use Rattle.sot_lang.specs.TreeViews.{local_view};
+ghost use Rattle.sot_tree.specs.TreeViews.{local_view};
 ghost use Rattle.sot_typing.specs.Resolved.{state_info, noise_info, local_info};
 ghost use Rattle.sot_typing.specs.Parts.{StateFits, FieldFits, LocalFits};
 
 use crate::name::copied;
 use crate::range::{const_number, greatest, is_truth, lowest, scalar_scale, state_scale};
-use sot_lang::{Field, LocalDecl, LocalInfo, NoiseInfo, StateDecl, StateInfo};
+use sot_lang::{LocalInfo, NoiseInfo, StateInfo};
+use sot_tree::{Field, LocalDecl, StateDecl};
 use std::alloc::{AllocError, Global};
 
 fn state_info(alloc: Global, s: &StateDecl) -> Result<StateInfo, AllocError>

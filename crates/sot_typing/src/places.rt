@@ -8,7 +8,8 @@ ghost use Rattle.sot_typing.specs.Meant.{AreNumbers};
 use crate::meant::look_up;
 use crate::numbers::Number;
 use crate::topic::shape_len;
-use sot_lang::{Decl, Ident, Slot};
+use sot_lang::Slot;
+use sot_tree::{Decl, Ident};
 use sot_rules::Index;
 use std::alloc::{AllocError, Global};
 

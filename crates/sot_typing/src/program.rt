@@ -1,14 +1,15 @@
 ghost use Rattle.std.specs.Prelude.{◌≡◌, None, IfOk, IfErr};
-ghost use Rattle.sot_lang.specs.TreeViews.{program_view};
+ghost use Rattle.sot_tree.specs.TreeViews.{program_view};
 ghost use Rattle.sot_rules.specs.First.{IsFirstFault, IsFaultless};
-ghost use Rattle.sot_rules.specs.Formed.{IsFormed};
+ghost use Rattle.sot_tree.specs.Formed.{IsFormed};
 ghost use Rattle.sot_rules.specs.declared.fault.TypeFault.{TypeFault as AFault};
 ghost use Rattle.sot_rules.specs.declared.fault.TypeFail.TheVariants.{Fault};
 ghost use Rattle.sot_typing.specs.Resolved.{AreTables};
 
 use crate::numbers::numbers;
 use crate::tables::all_tables;
-use sot_lang::{Program, Typed};
+use sot_lang::Typed;
+use sot_tree::Program;
 use sot_rules::{Index, TypeFail, first_fault};
 use std::alloc::{AllocError, Global};
 

@@ -1,11 +1,11 @@
 ghost use Rattle.std.specs.Prelude.{◌≡◌, ◌<◌, ◌≤◌, ◌≤ℤ◌, length, map, IfOk};
 ghost use Rattle.std.specs.List.{All};
-ghost use Rattle.sot_lang.specs.TreeViews.{area_view};
+ghost use Rattle.sot_tree.specs.TreeViews.{area_view};
 ghost use Rattle.sot_typing.specs.Resolved.{side_of};
 ghost use Rattle.sot_typing.specs.Parts.{AreaFits, SideFits};
 
 use sot_box::{BoxN, Interval, Region};
-use sot_lang::{Bounds, BoxDecl};
+use sot_tree::{Bounds, BoxDecl};
 use std::alloc::{AllocError, Global};
 
 fn side(b: Bounds) -> Interval
@@ -39,7 +39,7 @@ pub fn region(alloc: Global, width: usize, boxes: &[BoxDecl]) -> Result<Region, 
     requires some { 0 < width }
     requires few { width ≤ 4 }
     requires boxes { All (λ b. AreaFits width (area_view b)) boxes.now }
-    ensures { IfOk result (λ r. r ≡ record { width = width; boxes = map (λ a. map side_of a.sides) (map area_view boxes.now) }) }
+    ensures { IfOk result (λ r. r ≡ record { width = width; boxes = map (λ a. map side_of a.sides) (map area_view boxes.now); settled = false }) }
 {
     let mut region = Region::none(alloc, width);
     for b in boxes {

@@ -1,5 +1,5 @@
 ghost use Rattle.std.specs.Prelude.{◌≡◌, ◌++◌, ◌∷◌, [], map, flat_map, filter_map, OnOk, IfOk};
-ghost use Rattle.sot_lang.specs.TreeViews.{declaration_view};
+ghost use Rattle.sot_tree.specs.TreeViews.{declaration_view};
 ghost use Rattle.sot_rules.specs.Indexes.{program_in};
 ghost use Rattle.sot_typing.specs.Resolved.{a_topic_of, a_plant_of, a_node_of, a_module_of, topics, plants, nodes, modules, topic_info, topic_scalars, plant_seen, plant_table, node_seen, node_table, module_info, AreTables};
 ghost use Rattle.sot_typing.specs.Meant.{AreNumbers};
@@ -10,7 +10,8 @@ use crate::infos::{module_info, node_info, plant_info};
 use crate::numbers::Number;
 use crate::places::topic_number;
 use crate::topic::{put_scalars, topic_info};
-use sot_lang::{Decl, ModuleInfo, NodeInfo, PlantInfo, ScalarInfo, TopicInfo};
+use sot_lang::{ModuleInfo, NodeInfo, PlantInfo, ScalarInfo, TopicInfo};
+use sot_tree::Decl;
 use sot_rules::Index;
 use std::alloc::{AllocError, Global};
 

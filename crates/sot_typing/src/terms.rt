@@ -1,5 +1,5 @@
 ghost use Rattle.std.specs.Prelude.{◌≡◌, ◌≤◌, [], IfOk, false, nat_abs};
-ghost use Rattle.sot_lang.specs.TreeViews.{tree_view, parts_view};
+ghost use Rattle.sot_tree.specs.TreeViews.{tree_view, parts_view};
 ghost use Rattle.sot_rules.specs.Sorts.{kinds_misfit, scales_misfit, operator_sort, given, call_sort};
 ghost use Rattle.sot_rules.specs.Names.{reading, reading_sort};
 ghost use Rattle.sot_rules.specs.TreeSorts.{sort, sorts, is_no_scale};
@@ -11,7 +11,8 @@ ghost use Rattle.sot_typing.specs.Things.{things_in, AreFew};
 ghost use Rattle.sot_typing.specs.Sorted.{formulas_view, IsSorted, AreSorted};
 
 use crate::things::{Thing, named};
-use sot_lang::{Expr, Func, Ident, Lit, Op, Term};
+use sot_lang::Term;
+use sot_tree::{Expr, Func, Ident, Lit, Op};
 use sot_rules::{Sort, given, operator_sort};
 use sot_text::Span;
 use std::alloc::{AllocError, Global};

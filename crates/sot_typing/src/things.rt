@@ -1,13 +1,13 @@
 ghost use Rattle.std.specs.Prelude.{◌≡◌, ℕ, ◌≤◌, [], List, length, map, find, true};
 ghost use Rattle.std.specs.List.{position_or_len};
 ghost use Rattle.std.specs.Str.{bytes_eq};
-ghost use Rattle.sot_lang.specs.declared.tree.Ident.{Ident as AnIdent};
+ghost use Rattle.sot_tree.specs.declared.tree.Ident.{Ident as AnIdent};
 ghost use Rattle.sot_rules.specs.Names.{field_part, state_part, part_reading, parts_reading, reading, reading_sort};
 ghost use Rattle.sot_rules.specs.Faults.{reading_faults};
 ghost use Rattle.sot_typing.specs.Terms.{is_meant, parts_references, place_of};
 ghost use Rattle.sot_typing.specs.Things.{parts_in, things_in, AreFew};
 
-use sot_lang::{Field, Ident, StateDecl};
+use sot_tree::{Field, Ident, StateDecl};
 use sot_rules::{Sort, scalar_sort, state_sort};
 
 /// What a name stands for: one number or truth value, the fields of a record, or the state variables of a plant.

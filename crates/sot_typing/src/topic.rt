@@ -1,13 +1,14 @@
 ghost use Rattle.std.specs.Prelude.{◌≡◌, ◌<◌, ◌≤◌, ◌++◌, length, slice_get, Some, IfOk, OnOk};
 ghost use Rattle.std.specs.List.{All};
-ghost use Rattle.sot_lang.specs.TreeViews.{init_view, shape_view, topic_view};
+ghost use Rattle.sot_tree.specs.TreeViews.{init_view, shape_view, topic_view};
 ghost use Rattle.sot_rules.specs.Tests.{form_scalars, start_values};
 ghost use Rattle.sot_typing.specs.Resolved.{scalar_count, scalar_info, scalar_scale};
 ghost use Rattle.sot_typing.specs.Parts.{FieldFits, TopicFits, field_scalars, scalars_at};
 
 use crate::name::copied;
 use crate::range::{const_number, greatest, is_truth, lowest, scalar_scale};
-use sot_lang::{Const, Field, Init, Scalar, ScalarInfo, Shape, TopicDecl, TopicInfo};
+use sot_lang::{ScalarInfo, TopicInfo};
+use sot_tree::{Const, Field, Init, Scalar, Shape, TopicDecl};
 use std::alloc::{AllocError, Global};
 
 // The initial value at a place.

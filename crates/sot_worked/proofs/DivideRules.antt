@@ -4,11 +4,10 @@ use Rattle.std.specs.Prelude.{slice_index_or, map, ◌++◌, ◌==◌, if◌then
 use Rattle.std.proofs.lemmas.Int.{ints}
 use Rattle.std.proofs.lemmas.Option.{same_Some, none-some}
 use Rattle.std.proofs.lemmas.Bool.{false≢true}
-use Rattle.sot_box.specs.Lists.{At}
+use Rattle.sot_lists.specs.Places.{At, Has}
 use Rattle.sot_box.specs.Boxes.{IsWithin}
-use Rattle.sot_lang.specs.Places.{Has}
 use Rattle.sot_lang.specs.declared.act.Act.{Act}
-use Rattle.sot_lang.specs.declared.operator.Func.TheVariants.{Max}
+use Rattle.sot_tree.specs.declared.operator.Func.TheVariants.{Max}
 use Rattle.sot_lang.specs.declared.term.Term.{Term}
 use Rattle.sot_lang.specs.declared.tables.TopicInfo.{TopicInfo}
 use Rattle.sot_lang.specs.declared.tables.ScalarInfo.{ScalarInfo}
@@ -22,9 +21,9 @@ use Rattle.sot_lang.specs.OwnerNames.{node_truths, reads_truth}
 use Rattle.sot_lang.specs.TermRules.{TermFits, TermsFit}
 use Rattle.sot_lang.specs.ActRules.{ActsFit}
 use Rattle.sot_lang.specs.TableRules.{IsTyped, AreDistinct, MeetsTableRules, MeetsScalarRules, MeetsNodeRules}
-use Rattle.sot_lang.proofs.ShortLists.{at_more, at_one, at_two}
+use Rattle.sot_lists.proofs.ShortLists.{at_more, at_one, at_two}
 use Rattle.sot_lang.proofs.Rows.{Call-TermFits}
-use Rattle.sot_code.proofs.Nodes.{one_body}
+use Rattle.sot_lang.proofs.Owners.{one_body}
 use Rattle.sot_worked.specs.Parts.{place, one_topic, whole_number}
 use Rattle.sot_worked.specs.Divide.{IsAtLeastOne, IsCalc, IsDivision, IsDivide}
 use Rattle.sot_worked.proofs.Short.{only, only_place, nothing}

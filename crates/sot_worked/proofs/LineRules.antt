@@ -4,10 +4,9 @@ use Rattle.std.specs.Prelude.{slice_index_or, replicate, map, ◌++◌, ◌==◌
 use Rattle.std.proofs.lemmas.Int.{ints}
 use Rattle.std.proofs.lemmas.Option.{same_Some, none-some}
 use Rattle.std.proofs.lemmas.Bool.{false≢true}
-use Rattle.sot_box.specs.Lists.{At}
+use Rattle.sot_lists.specs.Places.{At, Has}
 use Rattle.sot_box.specs.Sides.{Side, AreOrdered}
 use Rattle.sot_box.specs.Boxes.{IsWithin}
-use Rattle.sot_lang.specs.Places.{Has}
 use Rattle.sot_lang.specs.declared.act.Act.{Act}
 use Rattle.sot_lang.specs.declared.term.Term.{Term}
 use Rattle.sot_lang.specs.declared.tables.TopicInfo.{TopicInfo}
@@ -26,8 +25,8 @@ use Rattle.sot_lang.specs.OwnerNames.{width_of, seen_width, is_truth_scalar, nod
 use Rattle.sot_lang.specs.TermRules.{TermFits, TermsFit}
 use Rattle.sot_lang.specs.TableRules.{IsTyped, IsCoded, IsNarrow, AreDistinct, MeetsTableRules, MeetsScalarRules, MeetsPlantRules, MeetsNodeRules, MeetsModuleRules, IsRegionFor}
 use Rattle.sot_lang.specs.Line.{side, cmd_name, pos_name, fast_name, slow_name, nav_name}
-use Rattle.sot_lang.proofs.ShortLists.{at_more, at_one, at_two}
-use Rattle.sot_code.proofs.Nodes.{one_body}
+use Rattle.sot_lists.proofs.ShortLists.{at_more, at_one, at_two}
+use Rattle.sot_lang.proofs.Owners.{one_body}
 use Rattle.sot_worked.specs.Parts.{one_topic, whole_number}
 use Rattle.sot_worked.specs.Line.{IsPos, IsFast, IsSlow, IsCommand, IsLine, nav}
 use Rattle.sot_worked.proofs.Short.{only, only_place, nothing}
@@ -225,7 +224,7 @@ module _ (N : Term → Type 0) (fits : (truths : List Bool) (t : Term) → truth
     body = λ acts coded. absurd (none-some coded.0 (sym hf.body ∙ coded.1));
   }
 
-  one_box : (r : Side) → r.lo ≤ℤ r.hi → IsRegionFor made 0 (record { width = 1; boxes = (r ∷ []) ∷ [] })
+  one_box : (r : Side) → r.lo ≤ℤ r.hi → IsRegionFor made 0 (record { width = 1; boxes = (r ∷ []) ∷ []; settled = false })
   one_box r le = record {
     width = sym width_one;
     boxes = omega arith;

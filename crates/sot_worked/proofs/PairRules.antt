@@ -4,10 +4,9 @@ use Rattle.std.specs.Prelude.{slice_index_or, replicate, map, ◌++◌, ◌==◌
 use Rattle.std.proofs.lemmas.Int.{ints}
 use Rattle.std.proofs.lemmas.Option.{same_Some, none-some}
 use Rattle.std.proofs.lemmas.Bool.{false≢true}
-use Rattle.sot_box.specs.Lists.{At}
+use Rattle.sot_lists.specs.Places.{At, Has}
 use Rattle.sot_box.specs.Sides.{Side, AreOrdered}
 use Rattle.sot_box.specs.Boxes.{IsWithin}
-use Rattle.sot_lang.specs.Places.{Has}
 use Rattle.sot_lang.specs.declared.act.Act.{Act}
 use Rattle.sot_lang.specs.declared.term.Term.{Term}
 use Rattle.sot_lang.specs.declared.tables.TopicInfo.{TopicInfo}
@@ -27,8 +26,8 @@ use Rattle.sot_lang.specs.TermRules.{TermFits, TermsFit}
 use Rattle.sot_lang.specs.ActRules.{ActsFit}
 use Rattle.sot_lang.specs.TableRules.{IsTyped, IsCoded, IsNarrow, AreDistinct, MeetsTableRules, MeetsScalarRules, MeetsPlantRules, MeetsNodeRules, MeetsModuleRules, IsRegionFor}
 use Rattle.sot_lang.specs.Line.{side, cmd_name, pos_name, fast_name, slow_name, nav_name}
-use Rattle.sot_lang.proofs.ShortLists.{at_more, at_one, at_two}
-use Rattle.sot_code.proofs.Nodes.{one_body}
+use Rattle.sot_lists.proofs.ShortLists.{at_more, at_one, at_two}
+use Rattle.sot_lang.proofs.Owners.{one_body}
 use Rattle.sot_worked.specs.Parts.{one_topic, whole_number}
 use Rattle.sot_worked.specs.Line.{IsMove, IsPos, IsFast, IsSlow, IsCommand, nav}
 use Rattle.sot_worked.specs.Pair.{IsCell, IsUp, IsDown, IsDescent, IsPair, fly, stair, stairs, cell_name, up_name, down_name, fly_name}
@@ -299,7 +298,7 @@ module _ (low : ℤ) (in_order : low ≤ℤ pos 1000) (p : Tables) (h : IsPair l
       (λ acts coded. descent_fits (node_truths made h.down) (length h.down.locals.items) (length h.down.writes.items) acts (ap length h.is_down.writes)
       (subst IsDescent (one_body h.down h.is_down.body.0 acts h.is_down.body.1 coded) h.is_down.body.2))
 
-  one_box : (r : Side) → r.lo ≤ℤ r.hi → IsRegionFor made 0 (record { width = 1; boxes = (r ∷ []) ∷ [] })
+  one_box : (r : Side) → r.lo ≤ℤ r.hi → IsRegionFor made 0 (record { width = 1; boxes = (r ∷ []) ∷ []; settled = false })
   one_box r le = record {
     width = sym width_pos;
     boxes = omega arith;

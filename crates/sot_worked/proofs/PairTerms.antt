@@ -1,6 +1,6 @@
 -- The expressions of the battery and the body of its safe node are in form.
 use Rattle.std.proofs.Common.{◌≡◌, ℕ, Bool, false, List, [], ◌∷◌, refl, sym, ap, subst, arith, length}
-use Rattle.sot_lang.specs.declared.operator.Func.TheVariants.{Abs, Clamp}
+use Rattle.sot_tree.specs.declared.operator.Func.TheVariants.{Abs, Clamp}
 use Rattle.sot_lang.specs.declared.act.Act.{Act}
 use Rattle.sot_lang.specs.declared.term.Term.{Term}
 use Rattle.sot_lang.specs.TermRules.{TermFits, TermsFit, IsTruth}

@@ -1,11 +1,10 @@
 -- Lists that are equal to a list of one, or of none; expressions that are this one.
 use Rattle.std.proofs.Common.{◌≡◌, ℕ, Bool, List, [], ◌∷◌, refl, sym, subst}
 use Rattle.std.proofs.lemmas.Option.{none-some}
-use Rattle.sot_box.specs.Lists.{At}
-use Rattle.sot_lang.specs.Places.{Has}
+use Rattle.sot_lists.specs.Places.{At, Has}
 use Rattle.sot_lang.specs.declared.term.Term.{Term}
 use Rattle.sot_lang.specs.TermRules.{TermFits}
-use Rattle.sot_lang.proofs.ShortLists.{at_one}
+use Rattle.sot_lists.proofs.ShortLists.{at_one}
 
 module _ {A : Type 0} where
   -- what is in it

@@ -35,11 +35,11 @@ module _ (g : Global) where
 
   -- its safe region has a box of two sides
   abbrev pub box_of_two_sides : Tables
-  box_of_two_sides = record (line g) { modules = record (nav g) { safe = record { width = 1; boxes = (side (pos 0) (pos 1) ∷ side (pos 0) (pos 1) ∷ []) ∷ [] } } ∷ [] }
+  box_of_two_sides = record (line g) { modules = record (nav g) { safe = record { width = 1; boxes = (side (pos 0) (pos 1) ∷ side (pos 0) (pos 1) ∷ []) ∷ []; settled = false } } ∷ [] }
 
   -- its safe region has a box whose ends are exchanged
   abbrev pub turned_box : Tables
-  turned_box = record (line g) { modules = record (nav g) { safe = record { width = 1; boxes = (side (pos 1) (pos 0) ∷ []) ∷ [] } } ∷ [] }
+  turned_box = record (line g) { modules = record (nav g) { safe = record { width = 1; boxes = (side (pos 1) (pos 0) ∷ []) ∷ []; settled = false } } ∷ [] }
 
   -- a module of its plant with this safe region
   abbrev pub module_with : BoxList → ModuleInfo

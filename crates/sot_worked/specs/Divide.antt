@@ -11,8 +11,8 @@
 --   }
 use Rattle.std.specs.Prelude.{◌≡◌, pos, List, [], ◌∷◌}
 use Rattle.std.specs.Global.{Vec}
-use Rattle.sot_lang.specs.declared.operator.Func.TheVariants.{Max}
-use Rattle.sot_lang.specs.declared.operator.Op.TheVariants.{Div}
+use Rattle.sot_tree.specs.declared.operator.Func.TheVariants.{Max}
+use Rattle.sot_tree.specs.declared.operator.Op.TheVariants.{Div}
 use Rattle.sot_lang.specs.declared.term.Term.{Term, Call}
 use Rattle.sot_lang.specs.declared.term.Term.TheVariants.{Number, Place}
 use Rattle.sot_lang.specs.declared.act.Act.{Act}

@@ -26,7 +26,7 @@
 --     safer [-10..10];
 --   }
 use Rattle.std.specs.Prelude.{◌≡◌, pos, negsuc, None, List, [], ◌∷◌}
-use Rattle.sot_lang.specs.declared.operator.Op.TheVariants.{Add, Sub, Div, Greater, Less}
+use Rattle.sot_tree.specs.declared.operator.Op.TheVariants.{Add, Sub, Div, Greater, Less}
 use Rattle.sot_lang.specs.declared.term.Term.{Term}
 use Rattle.sot_lang.specs.declared.term.Term.TheVariants.{Number, Place}
 use Rattle.sot_lang.specs.declared.act.Act.{Act}
@@ -102,8 +102,8 @@ nav = record {
   period = 4;
   offset = 0;
   plant = 0;
-  safe = record { width = 1; boxes = (side (negsuc 39) (pos 40) ∷ []) ∷ [] };
-  safer = record { width = 1; boxes = (side (negsuc 9) (pos 10) ∷ []) ∷ [] };
+  safe = record { width = 1; boxes = (side (negsuc 39) (pos 40) ∷ []) ∷ []; settled = false };
+  safer = record { width = 1; boxes = (side (negsuc 9) (pos 10) ∷ []) ∷ []; settled = false };
 }
 
 -- the tables, with such a tick of the vehicle; all other places are those of the text above

@@ -31,8 +31,8 @@
 use Rattle.std.specs.Prelude.{◌≡◌, ℕ, zero, suc, ◌*◌, ℤ, pos, negsuc, None, List, [], ◌∷◌, ◌++◌}
 use Rattle.std.specs.Global.{Vec}
 use Rattle.sot_box.specs.Sides.{Side}
-use Rattle.sot_lang.specs.declared.operator.Op.TheVariants.{Add, Sub, Greater}
-use Rattle.sot_lang.specs.declared.operator.Func.TheVariants.{Abs, Clamp}
+use Rattle.sot_tree.specs.declared.operator.Op.TheVariants.{Add, Sub, Greater}
+use Rattle.sot_tree.specs.declared.operator.Func.TheVariants.{Abs, Clamp}
 use Rattle.sot_lang.specs.declared.term.Term.{Term, Call}
 use Rattle.sot_lang.specs.declared.term.Term.TheVariants.{Number, Place}
 use Rattle.sot_lang.specs.declared.act.Act.{Act}
@@ -153,8 +153,8 @@ fly low = record {
   period = 2;
   offset = 0;
   plant = 1;
-  safe = record { width = 2; boxes = stairs 11 };
-  safer = record { width = 2; boxes = (side (pos 0) (pos 10) ∷ side low (pos 1000) ∷ []) ∷ [] };
+  safe = record { width = 2; boxes = stairs 11; settled = false };
+  safer = record { width = 2; boxes = (side (pos 0) (pos 10) ∷ side low (pos 1000) ∷ []) ∷ []; settled = false };
 }
 
 -- the tables, with such a low end of the battery in the safer region

@@ -2,7 +2,7 @@
 use Rattle.std.specs.Prelude.{◌≡◌, ℕ, ℤ, pos, false, None, List}
 use Rattle.std.specs.Global.{Box}
 use Rattle.sot_text.specs.declared.token.Span.{Span}
-use Rattle.sot_lang.specs.declared.operator.Op.{Op}
+use Rattle.sot_tree.specs.declared.operator.Op.{Op}
 use Rattle.sot_lang.specs.declared.term.Term.{Term}
 use Rattle.sot_lang.specs.declared.term.Term.TheVariants.{Binary', If'}
 use Rattle.sot_lang.specs.declared.tables.TopicInfo.{TopicInfo}

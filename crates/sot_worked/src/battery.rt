@@ -6,10 +6,8 @@ ghost use Rattle.sot_worked.specs.Pair.{IsHeight, IsAway, IsToll, IsDrain, IsBat
 use crate::parts::{binary, choice, number, span, topic};
 use crate::vehicle::{fast, module, moving_plant, slow};
 use sot_box::{BoxN, Interval, Region};
-use sot_lang::{
-    Act, Func, ModuleInfo, Name, NodeInfo, NoiseInfo, Op, PlantInfo, ScalarInfo, Slot, StateInfo,
-    Term, TopicInfo, Typed,
-};
+use sot_lang::{Act, ModuleInfo, NodeInfo, NoiseInfo, PlantInfo, ScalarInfo, Slot, StateInfo, Term, TopicInfo, Typed};
+use sot_tree::{Func, Name, Op};
 use std::alloc::{AllocError, Global};
 
 fn topics(alloc: Global) -> Result<Vec<TopicInfo>, AllocError>
@@ -174,7 +172,7 @@ fn down(alloc: Global) -> Result<NodeInfo, AllocError>
 
 // At height h a battery of at least 3h.
 fn safe(alloc: Global) -> Result<Region, AllocError>
-    ensures { IfOk result (λ r. r ≡ record { width = 2; boxes = stairs 11 }) }
+    ensures { IfOk result (λ r. r ≡ record { width = 2; boxes = stairs 11; settled = false }) }
 {
     let mut region = Region::none(alloc, 2);
     for h in 0..11u32 {

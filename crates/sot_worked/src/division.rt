@@ -4,7 +4,8 @@ ghost use Rattle.sot_worked.specs.Parts.{one_topic, whole_number};
 ghost use Rattle.sot_worked.specs.Divide.{IsWhatIsRead, IsAtLeastOne, IsDivision, IsCalc, IsDivide};
 
 use crate::parts::{binary, number, span, topic};
-use sot_lang::{Act, Func, Name, NodeInfo, Op, ScalarInfo, Slot, Term, TopicInfo, Typed};
+use sot_lang::{Act, NodeInfo, ScalarInfo, Slot, Term, TopicInfo, Typed};
+use sot_tree::{Func, Name, Op};
 use std::alloc::{AllocError, Global};
 
 fn topics(alloc: Global) -> Result<Vec<TopicInfo>, AllocError>

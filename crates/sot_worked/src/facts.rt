@@ -19,6 +19,6 @@ pub fn broken_tables_are_refused()
 
 /// Of two modules that name a plant, the first one's safe region is the plant's.
 pub fn the_first_module_counts()
-    ensures { (g : Global) → safe_of (module_with g (record { width = 1; boxes = (side (pos 0) (pos 1) ∷ []) ∷ [] })
-        ∷ module_with g (record { width = 1; boxes = (side (pos 5) (pos 6) ∷ []) ∷ [] }) ∷ []) 0 ≡ (side (pos 0) (pos 1) ∷ []) ∷ [] }
+    ensures { (g : Global) → safe_of (module_with g (record { width = 1; boxes = (side (pos 0) (pos 1) ∷ []) ∷ []; settled = false })
+        ∷ module_with g (record { width = 1; boxes = (side (pos 5) (pos 6) ∷ []) ∷ []; settled = false }) ∷ []) 0 ≡ (side (pos 0) (pos 1) ∷ []) ∷ [] }
 {}

@@ -4,7 +4,8 @@ ghost use Rattle.sot_text.specs.Lexeme.{IsTokenText};
 ghost use Rattle.sot_worked.specs.Parts.{one_topic, whole_number, place, IsBinary, IsChoice};
 
 use sot_box::{BoxN, Interval, Region};
-use sot_lang::{Name, Op, ScalarInfo, Term, TopicInfo};
+use sot_lang::{ScalarInfo, Term, TopicInfo};
+use sot_tree::{Name, Op};
 use sot_text::Span;
 use std::alloc::{AllocError, Global};
 
@@ -87,7 +88,7 @@ pub(crate) fn choice(
 // The region of one interval.
 pub(crate) fn interval(alloc: Global, lo: i64, hi: i64) -> Result<Region, AllocError>
     requires { lo ≤ℤ hi }
-    ensures { IfOk result (λ r. r ≡ record { width = 1; boxes = (record { lo = lo; hi = hi } ∷ []) ∷ [] }) }
+    ensures { IfOk result (λ r. r ≡ record { width = 1; boxes = (record { lo = lo; hi = hi } ∷ []) ∷ []; settled = false }) }
 {
     let mut region = Region::none(alloc, 1);
     let b = BoxN::of(&[Interval { lo, hi }]).unwrap();

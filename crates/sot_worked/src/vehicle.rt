@@ -5,10 +5,8 @@ ghost use Rattle.sot_worked.specs.Parts.{one_topic, whole_number};
 ghost use Rattle.sot_worked.specs.Line.{IsMove, IsDrift, IsPos, IsReturn, IsCommand, IsFast, IsSlow, IsLine, nav};
 
 use crate::parts::{binary, choice, interval, number, span, topic};
-use sot_lang::{
-    Act, ModuleInfo, Name, NodeInfo, NoiseInfo, Op, PlantInfo, ScalarInfo, Slot, StateInfo, Term,
-    TopicInfo, Typed,
-};
+use sot_lang::{Act, ModuleInfo, NodeInfo, NoiseInfo, PlantInfo, ScalarInfo, Slot, StateInfo, Term, TopicInfo, Typed};
+use sot_tree::{Name, Op};
 use std::alloc::{AllocError, Global};
 
 fn topics(alloc: Global) -> Result<Vec<TopicInfo>, AllocError>

@@ -7,19 +7,16 @@ use Rattle.sot_lang.specs.Tables.{Tables}
 use Rattle.sot_box.specs.Boxes.{IsWithin}
 use Rattle.sot_box.specs.Regions.{IsInRegion}
 use Rattle.sot_lang.specs.Reach.{AnyReach, HeldReach, AllInside}
-use Rattle.sot_lang.specs.Ranges.{input_ranges}
-use Rattle.sot_calendar.specs.Due.{IsUntil}
+use Rattle.sot_lang.specs.Ranges.{input_ranges, local_ranges, scalar_ranges}
+use Rattle.sot_calendar.specs.Due.{IsUntil, IsStillDue}
 use Rattle.sot_tube.specs.Tubes.{Keeps}
 use Rattle.sot_world.specs.Configurations.{Configuration, Ac, Sc, is_left, is_left_dm, mode_of, point_of, commands}
-use Rattle.sot_lang.specs.Ranges.{local_ranges}
 use Rattle.sot_world.specs.Steps.{Decides}
-use Rattle.sot_lang.specs.Ranges.{scalar_ranges}
 use Rattle.sot_lang.specs.TableRules.{IsTyped}
 use Rattle.sot_tube.specs.WellFormed.{IsWellFormed}
 use Rattle.sot_world.specs.Invariant.{KeepsInvariant}
-use Rattle.sot_calendar.specs.Due.{IsStillDue}
 use Rattle.sot_calendar.proofs.Clock.{until_exists, until_bound}
-use Rattle.sot_lang.proofs.Lists.{within_picked}
+use Rattle.sot_box.proofs.Ranges.{within_picked}
 use Rattle.sot_lang.proofs.Reaches.{inside_fewer, inside_held}
 use Rattle.sot_tube.proofs.Tubes.{keeps_inside}
 use Rattle.sot_world.proofs.Modes.{cases_mode, same_module, left_same, left_none}

@@ -4,18 +4,17 @@ use Rattle.std.specs.Prelude.{slice_index_or, slice_set}
 use Rattle.std.proofs.lemmas.List.{length-map}
 use Rattle.std.proofs.lemmas.Option.{slice_get_within}
 use Rattle.sot_box.specs.Sides.{Side}
-use Rattle.sot_box.specs.Lists.{At}
+use Rattle.sot_lists.specs.Places.{At, Has}
 use Rattle.sot_lang.specs.declared.act.Act.{Act}
 use Rattle.sot_lang.specs.declared.tables.Slot.{Slot}
 use Rattle.sot_lang.specs.declared.tables.Slot.TheVariants.{Scalar, State}
 use Rattle.sot_lang.specs.declared.tables.NodeInfo.{NodeInfo}
 use Rattle.sot_lang.specs.Tables.{Tables}
 use Rattle.sot_lang.specs.TableRules.{IsCoded}
-use Rattle.sot_lang.specs.Places.{Has}
 use Rattle.sot_lang.specs.Ranges.{local_ranges, write_ranges}
 use Rattle.sot_lang.specs.Bodies.{Fired, execution}
 use Rattle.sot_lang.specs.Readings.{reading}
-use Rattle.sot_lang.proofs.Lists.{within_length}
+use Rattle.sot_box.proofs.Ranges.{within_length}
 use Rattle.sot_code.specs.Recorded.{in_slots}
 use Rattle.sot_tube.specs.Admitted.{Admitted}
 use Rattle.sot_world.specs.Configurations.{Configuration, is_left, locals_of}
@@ -28,7 +27,7 @@ use Rattle.sot_world.specs.State.{IsKept}
 use Rattle.sot_world.specs.State as worlds
 use Rattle.sot_world.specs.Changes.{IsThere, AreThere, Runs, IsRun}
 use Rattle.sot_world.proofs.Safety.{code_runs}
-use Rattle.sot_world.proofs.Starting.{width_at}
+use Rattle.sot_lang.proofs.Owners.{width_at}
 use Rattle.sot_world.proofs.Parts.{published_padded, published_taken}
 use Rattle.sot_world.proofs.Possible.{slots_of}
 use Rattle.sot_world.proofs.Stepping.{well_formed, are_points}

@@ -8,24 +8,21 @@ use Rattle.sot_lang.specs.declared.tables.PlantInfo.{PlantInfo}
 use Rattle.sot_lang.specs.declared.tables.NodeInfo.{NodeInfo}
 use Rattle.sot_lang.specs.declared.tables.ModuleInfo.{ModuleInfo}
 use Rattle.sot_lang.specs.Tables.{Tables}
-use Rattle.sot_box.specs.Lists.{At}
-use Rattle.sot_lang.specs.Places.{Has}
+use Rattle.sot_lists.specs.Places.{At, Has}
 use Rattle.sot_box.specs.Boxes.{IsWithin}
 use Rattle.sot_lang.specs.Reach.{AnyReach, HeldReach, AllInside}
-use Rattle.sot_lang.specs.Ranges.{input_ranges, range_of}
-use Rattle.sot_calendar.specs.Due.{IsUntil}
+use Rattle.sot_lang.specs.Ranges.{input_ranges, range_of, local_ranges, write_ranges, scalar_ranges}
+use Rattle.sot_calendar.specs.Due.{IsUntil, IsStillDue}
 use Rattle.sot_world.specs.Configurations.{Configuration, Ac, Sc, is_left, is_left_dm, mode_of, number_of, locals_of, point_of, commands}
 use Rattle.sot_lang.specs.Readings.{reading}
-use Rattle.sot_lang.specs.Ranges.{local_ranges, write_ranges}
 use Rattle.sot_world.specs.Steps.{is_enabled, published, Fires, CodeFires, GuestFires}
 use Rattle.sot_box.specs.Sides.{IsIn}
-use Rattle.sot_lang.specs.Ranges.{scalar_ranges}
 use Rattle.sot_lang.specs.TableRules.{IsTyped}
 use Rattle.sot_tube.specs.WellFormed.{IsWellFormed}
 use Rattle.sot_world.specs.Invariant.{KeepsInvariant}
-use Rattle.sot_calendar.specs.Due.{IsStillDue}
 use Rattle.sot_calendar.proofs.Clock.{until_bound}
-use Rattle.sot_lang.proofs.Lists.{at_same, at_map, within_picked, has_cases, map_same}
+use Rattle.sot_lists.proofs.Places.{at_same, at_map, has_cases, map_same}
+use Rattle.sot_box.proofs.Ranges.{within_picked}
 use Rattle.sot_lang.proofs.Reaches.{inside_fewer}
 use Rattle.sot_world.proofs.Publishes.{publish_within, publish_other, publish_set}
 use Rattle.sot_lang.proofs.Executes.{exec_locals, exec_draft}

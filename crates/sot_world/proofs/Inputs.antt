@@ -4,16 +4,14 @@ use Rattle.std.specs.Prelude.{slice_index_or}
 use Rattle.sot_lang.specs.Tables.{Tables}
 use Rattle.sot_box.specs.Boxes.{IsWithin}
 use Rattle.sot_lang.specs.Reach.{AnyReach, HeldReach, AllInside}
-use Rattle.sot_calendar.specs.Due.{IsUntil}
+use Rattle.sot_calendar.specs.Due.{IsUntil, IsStillDue}
 use Rattle.sot_world.specs.Configurations.{Configuration, is_left, is_left_dm, mode_of, number_of, point_of, commands}
-use Rattle.sot_lang.specs.Ranges.{local_ranges}
+use Rattle.sot_lang.specs.Ranges.{local_ranges, scalar_ranges}
 use Rattle.sot_world.specs.Steps.{Inputs}
-use Rattle.sot_lang.specs.Ranges.{scalar_ranges}
 use Rattle.sot_lang.specs.TableRules.{IsTyped}
 use Rattle.sot_tube.specs.WellFormed.{IsWellFormed}
 use Rattle.sot_world.specs.Invariant.{KeepsInvariant}
-use Rattle.sot_calendar.specs.Due.{IsStillDue}
-use Rattle.sot_lang.proofs.Lists.{map_same}
+use Rattle.sot_lists.proofs.Places.{map_same}
 use Rattle.sot_tube.proofs.ByScalars.{composed_by_scalars}
 use Rattle.sot_world.proofs.Writes.{write_within, write_other, write_length}
 

@@ -11,7 +11,7 @@ use Rattle.sot_lang.specs.Ticks.{next_state, joined}
 use Rattle.sot_lang.specs.Ranges.{bounds}
 use Rattle.sot_box.specs.Boxes.{IsWithin}
 use Rattle.sot_box.specs.Regions.{IsInRegion}
-use Rattle.sot_lang.proofs.ShortLists.{at_one, at_two}
+use Rattle.sot_lists.proofs.ShortLists.{at_one, at_two}
 use Rattle.sot_calendar.specs.Due.{IsDue}
 use Rattle.sot_calendar.proofs.Clock.{last_now}
 use Rattle.sot_world.specs.Configurations.{Configuration, IsOpening, IsSafer, is_left, is_left_dm, point_of, commands, seen_points}

@@ -7,9 +7,10 @@ use Rattle.sot_lang.specs.Tables.{Tables}
 use Rattle.sot_lang.specs.Ranges.{scalar_ranges}
 use Rattle.sot_box.specs.Sides.{Side}
 use Rattle.sot_box.specs.Boxes.{IsWithin}
-use Rattle.sot_box.specs.Lists.{At}
+use Rattle.sot_lists.specs.Places.{At}
 use Rattle.sot_world.specs.Configurations.{Mode, Ac, Sc}
-use Rattle.sot_lang.proofs.Lists.{at_same, within_length}
+use Rattle.sot_lists.proofs.Places.{at_same}
+use Rattle.sot_box.proofs.Ranges.{within_length}
 
 pub cases_mode : (x : Mode) → (x ≡ Ac) ⊎ (x ≡ Sc)
 cases_mode Ac = inl refl

@@ -4,16 +4,15 @@ use Rattle.std.specs.Prelude.{slice_index_or}
 use Rattle.std.proofs.lemmas.Option.{get_or_from_slice_get}
 use Rattle.sot_lang.specs.Tables.{Tables}
 use Rattle.sot_box.specs.Boxes.{IsWithin}
-use Rattle.sot_lang.specs.Ranges.{input_ranges}
+use Rattle.sot_lang.specs.Ranges.{input_ranges, local_ranges, scalar_ranges}
 use Rattle.sot_world.specs.Configurations.{Configuration, Ac, Sc, is_left, mode_of, point_of, commands, IsOpening, IsSafer}
-use Rattle.sot_lang.specs.Ranges.{local_ranges}
-use Rattle.sot_lang.specs.Ranges.{scalar_ranges}
 use Rattle.sot_lang.specs.TableRules.{IsTyped}
 use Rattle.sot_tube.specs.WellFormed.{IsWellFormed}
 use Rattle.sot_world.specs.Invariant.{KeepsInvariant}
 use Rattle.sot_calendar.specs.Due.{IsStillDue}
 use Rattle.sot_calendar.proofs.Clock.{until_bound, last_now}
-use Rattle.sot_lang.proofs.Lists.{at_map, within_picked}
+use Rattle.sot_lists.proofs.Places.{at_map}
+use Rattle.sot_box.proofs.Ranges.{within_picked}
 use Rattle.sot_lang.proofs.Reaches.{inside_fewer, inside_held}
 use Rattle.sot_world.proofs.Modes.{every_sc}
 

@@ -11,14 +11,14 @@ use Rattle.sot_lang.specs.OwnerNames.{width_of, seen_width}
 use Rattle.sot_tube.specs.Tubes.{Keeps}
 use Rattle.sot_world.specs.Configurations.{Mode, Ac, Sc}
 use Rattle.sot_world.specs.Events.{cut}
-use Rattle.sot_box.specs.Lists.{At}
+use Rattle.sot_lists.specs.Places.{At}
 use Rattle.sot_lang.specs.Tables.{Tables}
 use Rattle.sot_lang.specs.Ranges.{range_of}
 use Rattle.sot_lang.specs.Ticks.{joined}
 use Rattle.sot_world.specs.Steps.{publish, published}
 use Rattle.sot_world.specs.Changes.{put_drafted, IsNextMode}
-use Rattle.sot_world.proofs.Starting.{width_at}
-use Rattle.sot_world.proofs.Places.{drop_at}
+use Rattle.sot_lang.proofs.Owners.{width_at}
+use Rattle.sot_lists.proofs.Places.{drop_at}
 
 publish_one : (p : Tables) (k : ℕ) (ks : List ℕ) (slot : Option ℤ) (draft : List (Option ℤ)) (xs : List ℤ) → publish p (k ∷ ks) (slot ∷ draft) xs ≡ publish p ks draft (put_drafted (range_of p.scalars k) k slot xs)
 publish_one p k ks None draft xs = refl

@@ -3,22 +3,14 @@ use Rattle.std.specs.Prelude.{slice_get}
 use Rattle.std.proofs.lemmas.Bool.{cases_lt}
 use Rattle.std.proofs.Common.{⊎_elim, arith, ◌≡◌, ℕ, zero, suc, ◌+◌, ◌<◌, ℤ, Bool, IsTrue, FitsSigned, w64, to_z, of_z, to_z-of_z, ◌↔◌, List, [], ◌∷◌, map, length, drop, sym, ap, ◌∙◌, subst, add-one}
 use Rattle.std.proofs.lemmas.Option.{none-some, same_Some, get_or_from_slice_get}
-use Rattle.sot_box.specs.Sides.{Side, IsIn}
-use Rattle.sot_box.specs.Lists.{At}
+use Rattle.sot_box.specs.Sides.{Side, IsIn, nought}
+use Rattle.sot_lists.specs.Places.{At}
 use Rattle.sot_box.specs.Boxes.{IsWithin}
 use Rattle.sot_lang.specs.declared.tables.ScalarInfo.{ScalarInfo}
 use Rattle.sot_lang.specs.declared.tables.PlantInfo.{PlantInfo}
-use Rattle.sot_lang.specs.Ranges.{range_of, nought}
-use Rattle.sot_lang.proofs.Lists.{at_map}
+use Rattle.sot_lang.specs.Ranges.{range_of}
+use Rattle.sot_lists.proofs.Places.{at_map, drop_at}
 use Rattle.sot_world.specs.Events.{IsInBounds, noise_count}
-
-pub drop_at : {A : Type 0} (xs : List A) (i : ℕ) (x : A) → At xs i x → drop i xs ≡ x ∷ drop (i + 1) xs
-drop_at xs i x at = rw (add-one i) (from xs i at)
-  where
-    from : (ys : List _) (k : ℕ) → At ys k x → drop k ys ≡ x ∷ drop (suc k) ys
-    from [] k e = absurd (none-some x e)
-    from (y ∷ ys) zero e = ap (λ z. z ∷ ys) (same_Some y x e)
-    from (y ∷ ys) (suc k) e = from ys k e
 
 -- what is within from a place on is what is within there and from the next place on
 pub within_from : (rs : List Side) (xs : List ℤ) (i : ℕ) (r : Side) (x : ℤ) → At rs i r → At xs i x → IsWithin (drop i rs) (drop i xs) ↔ (IsIn r x × IsWithin (drop (i + 1) rs) (drop (i + 1) xs))
@@ -26,9 +18,6 @@ within_from rs xs i r x at_r at_x = (
   (λ w. let v = subst (λ ys. IsWithin (r ∷ drop (i + 1) rs) ys) (drop_at xs i x at_x) (subst (λ qs. IsWithin qs (drop i xs)) (drop_at rs i r at_r) w) in ((v.0, v.1), v.2)),
   (λ h. subst (λ qs. IsWithin qs (drop i xs)) (sym (drop_at rs i r at_r)) (subst (λ ys. IsWithin (r ∷ drop (i + 1) rs) ys) (sym (drop_at xs i x at_x)) (h.0.0, h.0.1, h.1))),
 )
-
-pub range_at : (infos : List ScalarInfo) (k : ℕ) (info : ScalarInfo) → At infos k info → range_of infos k ≡ record { lo = info.lo; hi = info.hi }
-range_at infos k info at = get_or_from_slice_get (map (λ i. record { lo = i.lo; hi = i.hi }) infos) k (record { lo = info.lo; hi = info.hi }) nought (at_map (λ i. let s : Side = record { lo = i.lo; hi = i.hi } in s) infos k info at)
 
 -- the same for the disturbances of several plants
 pub bounds_from : (plants : List PlantInfo) (i : ℕ) (plant : PlantInfo) (w : List ℤ) → At plants i plant → IsInBounds (drop i plants) w ≡ IsInBounds (plant ∷ drop (i + 1) plants) w

@@ -6,8 +6,8 @@ use Rattle.sot_lang.specs.declared.tables.PlantInfo.{PlantInfo}
 use Rattle.sot_lang.specs.declared.tables.NodeInfo.{NodeInfo}
 use Rattle.sot_lang.specs.Tables.{Tables}
 use Rattle.sot_lang.specs.Ranges.{range_of, bounds}
-use Rattle.sot_lang.proofs.Lists.{at_map}
-use Rattle.sot_box.specs.Lists.{At}
+use Rattle.sot_lists.proofs.Places.{at_map}
+use Rattle.sot_lists.specs.Places.{At}
 use Rattle.sot_box.specs.Sides.{IsIn}
 use Rattle.sot_box.specs.Boxes.{IsWithin}
 use Rattle.sot_world.specs.declared.event.Event.TheVariants.{Input, Code, Guest, Decide, Tick}

@@ -1,8 +1,8 @@
 -- Something can happen wherever the invariant holds.
 use Rattle.sot_lang.specs.declared.tables.TopicInfo.{TopicInfo}
-use Rattle.sot_lang.specs.Ranges.{range_of}
-use Rattle.sot_world.specs.Steps.{Input, write_at}
-use Rattle.sot_world.specs.Outcomes.{InputTaken}
+use Rattle.sot_lang.specs.Ranges.{range_of, bounds}
+use Rattle.sot_world.specs.Steps.{Input, write_at, Code, Guest, Decide, Tick, is_enabled, published, Fires, MayTick}
+use Rattle.sot_world.specs.Outcomes.{InputTaken, NodeFired, ModuleDecided, PlantsTicked}
 use Rattle.std.proofs.Common.{◌+◌, ◌≡◌, ℕ, zero, suc, ◌<◌, ℤ, Bool, true, false, ◌⊎◌, ◌↔◌, inl, inr, ⊎_elim, List, [], ◌∷◌, Option, None, Ok, length, refl, sym, ap, subst, arith}
 use Rattle.std.specs.Prelude.{slice_index_or, slice_set}
 use Rattle.std.proofs.lemmas.Bool.{false≢true}
@@ -14,10 +14,9 @@ use Rattle.sot_lang.specs.declared.tables.PlantInfo.{PlantInfo}
 use Rattle.sot_lang.specs.declared.tables.NodeInfo.{NodeInfo}
 use Rattle.sot_lang.specs.declared.tables.ModuleInfo.{ModuleInfo}
 use Rattle.sot_lang.specs.Tables.{Tables}
-use Rattle.sot_box.specs.Lists.{At}
+use Rattle.sot_lists.specs.Places.{At}
 use Rattle.sot_box.specs.Boxes.{IsWithin}
 use Rattle.sot_box.specs.Regions.{IsInRegion}
-use Rattle.sot_lang.specs.Ranges.{bounds}
 use Rattle.sot_lang.specs.Ticks.{next_state, joined}
 use Rattle.sot_lang.specs.TableRules.{IsCoded, IsTyped}
 use Rattle.sot_calendar.specs.Due.{IsDue}
@@ -25,8 +24,6 @@ use Rattle.sot_calendar.proofs.Clock.{cases_due}
 use Rattle.sot_tube.specs.Tubes.{Keeps}
 use Rattle.sot_tube.specs.WellFormed.{IsWellFormed}
 use Rattle.sot_world.specs.Configurations.{Configuration, Mode, Ac, Sc, is_left, is_left_dm, mode_of, locals_of, point_of, commands, seen_points}
-use Rattle.sot_world.specs.Steps.{Code, Guest, Decide, Tick, is_enabled, published, Fires, MayTick}
-use Rattle.sot_world.specs.Outcomes.{NodeFired, ModuleDecided, PlantsTicked}
 use Rattle.sot_world.specs.Invariant.{KeepsInvariant}
 use Rattle.sot_world.specs.Progress.{Happens, SomethingCanHappen}
 use Rattle.sot_world.proofs.Publishes.{in_range_cases}

@@ -5,7 +5,7 @@ use Rattle.std.proofs.lemmas.Bool.{cases_Bool}
 use Rattle.std.proofs.lemmas.List.{get_or-set_same}
 use Rattle.std.proofs.lemmas.Option.{slice_get_within}
 use Rattle.sot_lang.specs.Ranges.{range_of}
-use Rattle.sot_box.specs.Lists.{At}
+use Rattle.sot_lists.specs.Places.{At}
 use Rattle.sot_box.specs.Sides.{IsIn}
 use Rattle.sot_world.specs.Configurations.{number_of}
 use Rattle.sot_world.specs.Steps.{is_enabled, publish, published}

@@ -4,16 +4,13 @@ use Rattle.std.specs.Prelude.{slice_index_or, slice_set, int_le, ◌&&◌}
 use Rattle.std.proofs.lemmas.Bool.{cases_Bool, false≢true}
 use Rattle.std.proofs.lemmas.List.{get_or-set_same, get_or-set_other, length-set}
 use Rattle.std.proofs.lemmas.Int.{ints}
-use Rattle.sot_box.specs.Sides.{Side}
+use Rattle.sot_box.specs.Sides.{Side, IsIn}
 use Rattle.sot_lang.specs.Tables.{Tables}
-use Rattle.sot_box.specs.Lists.{At}
-use Rattle.sot_lang.specs.Places.{Has}
+use Rattle.sot_lists.specs.Places.{At, Has}
 use Rattle.sot_box.specs.Boxes.{IsWithin}
-use Rattle.sot_lang.specs.Ranges.{range_of}
-use Rattle.sot_box.specs.Sides.{IsIn}
+use Rattle.sot_lang.specs.Ranges.{range_of, scalar_ranges}
 use Rattle.sot_world.specs.Steps.{put, publish}
-use Rattle.sot_lang.specs.Ranges.{scalar_ranges}
-use Rattle.sot_lang.proofs.Lists.{within_set, in_range_is}
+use Rattle.sot_box.proofs.Ranges.{within_set, in_range_is}
 
 abbrev pub in_range : Side → ℤ → Bool
 in_range r z = int_le r.lo z && int_le z r.hi

@@ -2,17 +2,13 @@
 use Rattle.std.proofs.Common.{◌≡◌, ℕ, ◌+◌, ◌-◌, ◌<◌, ◌≤◌, Bool, false, List, length, get_or, slice_index_or, refl, sym, subst, arith, ⊎_elim, ◌↔◌}
 use Rattle.std.proofs.lemmas.Option.{slice_get_read, slice_get_within, slice_get_cases, get_or_from_slice_get}
 use Rattle.std.proofs.lemmas.List.{get_or_past}
-use Rattle.sot_box.specs.Lists.{At}
+use Rattle.sot_lists.specs.Places.{At}
 use Rattle.sot_lang.specs.declared.tables.TopicInfo.{TopicInfo}
 use Rattle.sot_lang.specs.Tables.{Tables}
 use Rattle.sot_lang.specs.TableRules.{MeetsTableRules}
 use Rattle.sot_world.specs.Configurations.{Configuration}
 use Rattle.sot_world.specs.Calendar.{NothingLeft}
 use Rattle.sot_world.specs.Invariant.{KeepsInvariant}
-
--- an element that was read, in an equal list
-pub read_at : {A : Type 0} (xs ys : List A) (k : ℕ) (x : A) → xs ≡ ys → k < length ys → x ≡ get_or xs k x → At ys k x
-read_at xs ys k x same lt is = slice_get_read ys (length ys) k x refl lt (subst (λ l. x ≡ get_or l k x) same is)
 
 -- a flag that was read as false
 pub read_false : (xs ys : List Bool) (k : ℕ) (x : Bool) → xs ≡ ys → x ≡ get_or xs k x → x ≡ false → slice_index_or ys k false ≡ false
@@ -39,7 +35,3 @@ nothing_flags p C h = (
   (λ f. record { nodes = λ n node at. f.0 n; modules = λ m a at. f.1 m }),
   (λ none. (flags_none p.nodes C.left h.sizes.left none.nodes, flags_none p.modules C.left_dm h.sizes.left_dm none.modules)),
 )
-
--- an element that was read at a place is the one there, whatever stands for none
-pub read_or : {A : Type 0} (xs : List A) (k : ℕ) (x d : A) → k < length xs → x ≡ get_or xs k x → x ≡ slice_index_or xs k d
-read_or xs k x d lt is = sym (get_or_from_slice_get xs k x d (slice_get_read xs (length xs) k x refl lt is))

@@ -2,7 +2,7 @@
 use Rattle.std.proofs.Common.{◌≡◌, ℕ, ℤ, pos, true, false, refl, List, [], ◌∷◌, Option, arith, ◌↔◌}
 use Rattle.std.proofs.lemmas.Option.{none-some}
 use Rattle.std.specs.Global.{Global}
-use Rattle.sot_lang.proofs.ShortLists.{at_one}
+use Rattle.sot_lists.proofs.ShortLists.{at_one}
 use Rattle.sot_calendar.specs.Due.{IsDue}
 use Rattle.sot_world.specs.Configurations.{is_left, IsOpening}
 use Rattle.sot_world.specs.Steps.{Code}

@@ -6,7 +6,7 @@ use Rattle.std.proofs.lemmas.Bool.{false≢true}
 use Rattle.std.specs.Global.{Global}
 use Rattle.sot_lang.specs.Bodies.{execution}
 use Rattle.sot_lang.specs.Ranges.{range_of}
-use Rattle.sot_lang.proofs.ShortLists.{at_one}
+use Rattle.sot_lists.proofs.ShortLists.{at_one}
 use Rattle.sot_box.specs.Sides.{IsIn}
 use Rattle.sot_world.specs.Configurations.{Configuration}
 use Rattle.sot_world.specs.Steps.{Step, Input, Code}

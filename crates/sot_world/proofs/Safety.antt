@@ -6,27 +6,24 @@ use Rattle.sot_lang.specs.declared.tables.PlantInfo.{PlantInfo}
 use Rattle.sot_lang.specs.declared.tables.NodeInfo.{NodeInfo}
 use Rattle.sot_lang.specs.declared.tables.ModuleInfo.{ModuleInfo}
 use Rattle.sot_lang.specs.Tables.{Tables}
-use Rattle.sot_box.specs.Lists.{At}
+use Rattle.sot_lists.specs.Places.{At}
 use Rattle.sot_box.specs.Boxes.{IsWithin}
 use Rattle.sot_box.specs.Regions.{IsInRegion}
-use Rattle.sot_lang.specs.SafeRegions.{safe_of, AreSafe}
+use Rattle.sot_lang.specs.SafeRegions.{safe_of, AreSafe, AllSafe}
 use Rattle.sot_lang.specs.Values.{Outcome}
 use Rattle.sot_lang.specs.Bodies.{Fired, execution}
-use Rattle.sot_lang.specs.Ticks.{next_state}
+use Rattle.sot_lang.specs.Ticks.{next_state, joined}
 use Rattle.sot_lang.specs.Reach.{Reach, AllInside}
-use Rattle.sot_lang.specs.Ranges.{input_ranges, bounds}
-use Rattle.sot_lang.specs.Ticks.{joined}
+use Rattle.sot_lang.specs.Ranges.{input_ranges, bounds, local_ranges, write_ranges, scalar_ranges}
 use Rattle.sot_world.specs.Configurations.{Configuration, is_left, is_left_dm, mode_of, locals_of, point_of, commands, seen_points}
 use Rattle.sot_lang.specs.Readings.{reading}
-use Rattle.sot_lang.specs.Ranges.{local_ranges, write_ranges}
 use Rattle.sot_world.specs.Steps.{MayTick}
-use Rattle.sot_lang.specs.Ranges.{scalar_ranges}
-use Rattle.sot_lang.specs.SafeRegions.{AllSafe}
 use Rattle.sot_lang.specs.TableRules.{IsCoded, IsTyped}
 use Rattle.sot_tube.specs.WellFormed.{IsWellFormed, MayMeet}
 use Rattle.sot_world.specs.Invariant.{KeepsInvariant}
 use Rattle.sot_calendar.proofs.Clock.{until_later, until_exists}
-use Rattle.sot_lang.proofs.Lists.{within_picked, safe_of_is, are_safe}
+use Rattle.sot_box.proofs.Ranges.{within_picked}
+use Rattle.sot_lang.proofs.SafeRegions.{safe_of_is, are_safe}
 use Rattle.sot_lang.proofs.Reaches.{inside_here, inside_fewer, inside_no_trap}
 use Rattle.sot_world.specs.Headline.{IsSafeNow}
 use Rattle.sot_world.proofs.Modes.{cases_mode}

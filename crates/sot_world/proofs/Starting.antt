@@ -5,14 +5,14 @@ use Rattle.std.proofs.lemmas.Bool.{cases_lt, eqb-true, eq-eqb}
 use Rattle.std.proofs.lemmas.List.{length-map}
 use Rattle.std.proofs.Math.Nat.{zero-mod}
 use Rattle.std.proofs.lemmas.Option.{slice_get_within, none-some, same_Some, get_or_from_slice_get}
-use Rattle.sot_box.specs.Lists.{At}
+use Rattle.sot_lists.specs.Places.{At}
 use Rattle.sot_box.specs.Regions.{IsInRegion}
 use Rattle.sot_lang.specs.declared.tables.PlantInfo.{PlantInfo}
 use Rattle.sot_lang.specs.declared.tables.ModuleInfo.{ModuleInfo}
 use Rattle.sot_lang.specs.Tables.{Tables}
 use Rattle.sot_lang.specs.TableRules.{MeetsTableRules}
 use Rattle.sot_lang.specs.OwnerNames.{width_of}
-use Rattle.sot_lang.proofs.Lists.{at_map}
+use Rattle.sot_lists.proofs.Places.{at_map}
 use Rattle.sot_calendar.specs.Due.{IsDue}
 use Rattle.sot_tube.specs.Admitted.{Admitted}
 use Rattle.sot_tube.specs.Certified.{IsWellCertified}
@@ -21,11 +21,7 @@ use Rattle.sot_world.specs.Configurations.{Configuration, Mode, Sc, IsOpening, I
 use Rattle.sot_world.specs.State.{IsKept}
 use Rattle.sot_world.specs.Opens.{AreStarts, StartInside}
 use Rattle.sot_world.proofs.Opening.{opening_holds}
-
-pub width_at : (plants : List PlantInfo) (k : ℕ) (plant : PlantInfo) → At plants k plant → width_of plants k ≡ length plant.states.items
-width_at [] k plant at = absurd (none-some plant at)
-width_at (x ∷ xs) zero plant at = ap (λ z. length z.states.items) (same_Some x plant at)
-width_at (x ∷ xs) (suc k) plant at = width_at xs k plant at
+use Rattle.sot_lang.proofs.Owners.{width_at}
 
 -- the point of a module's plant has the width of its safer region
 pub start_width : (p : Tables) (start : List (List ℤ)) (m : ℕ) (a : ModuleInfo) → MeetsTableRules p → AreStarts p start → At p.modules m a → length (slice_index_or start a.plant []) ≡ a.safer.width

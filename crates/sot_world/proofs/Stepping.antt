@@ -4,7 +4,7 @@ use Rattle.std.specs.Prelude.{slice_index_or, slice_set}
 use Rattle.std.proofs.lemmas.List.{get_or-set_same, length-map}
 use Rattle.std.proofs.lemmas.Option.{slice_get_within}
 use Rattle.sot_box.specs.Sides.{Side, IsIn}
-use Rattle.sot_box.specs.Lists.{At}
+use Rattle.sot_lists.specs.Places.{At}
 use Rattle.sot_box.specs.Boxes.{point_box}
 use Rattle.sot_box.specs.Regions.{IsInRegion}
 use Rattle.sot_lang.specs.declared.tables.TopicInfo.{TopicInfo}
@@ -12,7 +12,8 @@ use Rattle.sot_lang.specs.declared.tables.ModuleInfo.{ModuleInfo}
 use Rattle.sot_lang.specs.Tables.{Tables}
 use Rattle.sot_lang.specs.OwnerNames.{width_of}
 use Rattle.sot_lang.specs.Ranges.{range_of}
-use Rattle.sot_lang.proofs.Lists.{at_same, within_length}
+use Rattle.sot_lists.proofs.Places.{at_same}
+use Rattle.sot_box.proofs.Ranges.{within_length}
 use Rattle.sot_tube.specs.Calls.{MayFollow}
 use Rattle.sot_tube.specs.WellFormed.{IsWellFormed}
 use Rattle.sot_tube.specs.Admitted.{Admitted}
@@ -24,7 +25,7 @@ use Rattle.sot_world.specs.State.{State, IsKept}
 use Rattle.sot_world.specs.Changes.{IsNextMode, ArePoints}
 use Rattle.sot_world.proofs.Safety.{in_safe}
 use Rattle.sot_world.proofs.Induction.{step_holds}
-use Rattle.sot_world.proofs.Starting.{width_at}
+use Rattle.sot_lang.proofs.Owners.{width_at}
 
 region_width : (boxes : List (List Side)) (w : ℕ) (s : List ℤ) → ((i : ℕ) (b : List Side) → At boxes i b → length b ≡ w) → IsInRegion boxes s → length s ≡ w
 region_width [] w s each here = absurd here

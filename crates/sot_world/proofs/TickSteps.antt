@@ -5,13 +5,13 @@ use Rattle.std.proofs.lemmas.Bool.{false≢true}
 use Rattle.std.proofs.lemmas.List.{length-map}
 use Rattle.std.proofs.lemmas.Option.{slice_get_within}
 use Rattle.sot_box.specs.Sides.{Side}
-use Rattle.sot_box.specs.Lists.{At}
+use Rattle.sot_lists.specs.Places.{At}
 use Rattle.sot_lang.specs.declared.tables.PlantInfo.{PlantInfo}
 use Rattle.sot_lang.specs.declared.tables.NodeInfo.{NodeInfo}
 use Rattle.sot_lang.specs.declared.tables.ModuleInfo.{ModuleInfo}
 use Rattle.sot_lang.specs.Tables.{Tables}
 use Rattle.sot_lang.specs.Ranges.{bounds}
-use Rattle.sot_lang.proofs.Lists.{within_length}
+use Rattle.sot_box.proofs.Ranges.{within_length}
 use Rattle.sot_calendar.specs.Due.{IsDue}
 use Rattle.sot_tube.specs.Admitted.{Admitted}
 use Rattle.sot_world.specs.Configurations.{Configuration, is_left, is_left_dm}

@@ -5,21 +5,19 @@ use Rattle.sot_lang.specs.declared.tables.PlantInfo.{PlantInfo}
 use Rattle.sot_lang.specs.declared.tables.NodeInfo.{NodeInfo}
 use Rattle.sot_lang.specs.declared.tables.ModuleInfo.{ModuleInfo}
 use Rattle.sot_lang.specs.Tables.{Tables}
-use Rattle.sot_box.specs.Lists.{At}
+use Rattle.sot_lists.specs.Places.{At}
 use Rattle.sot_box.specs.Boxes.{IsWithin}
 use Rattle.sot_lang.specs.Reach.{TicksTo, HeldReach, AllInside}
-use Rattle.sot_lang.specs.Ranges.{input_ranges}
-use Rattle.sot_calendar.specs.Due.{IsDue, IsUntil}
+use Rattle.sot_lang.specs.Ranges.{input_ranges, local_ranges, scalar_ranges}
+use Rattle.sot_calendar.specs.Due.{IsDue, IsUntil, IsStillDue}
 use Rattle.sot_world.specs.Configurations.{Configuration, is_left, is_left_dm, mode_of, point_of, commands, seen_points}
-use Rattle.sot_lang.specs.Ranges.{local_ranges}
 use Rattle.sot_world.specs.Steps.{Ticks}
-use Rattle.sot_lang.specs.Ranges.{scalar_ranges}
 use Rattle.sot_lang.specs.TableRules.{IsTyped}
 use Rattle.sot_tube.specs.WellFormed.{IsWellFormed}
 use Rattle.sot_world.specs.Invariant.{KeepsInvariant}
-use Rattle.sot_calendar.specs.Due.{IsStillDue}
 use Rattle.sot_calendar.proofs.Clock.{until_tick, still_due_tick}
-use Rattle.sot_lang.proofs.Lists.{within_picked, are_safe}
+use Rattle.sot_box.proofs.Ranges.{within_picked}
+use Rattle.sot_lang.proofs.SafeRegions.{are_safe}
 use Rattle.sot_lang.proofs.Reaches.{inside_fewer, inside_next}
 use Rattle.sot_world.proofs.Safety.{all_safe}
 

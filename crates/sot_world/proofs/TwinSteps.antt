@@ -7,7 +7,7 @@ use Rattle.std.specs.Global.{Global}
 use Rattle.sot_lang.specs.Line.{nav}
 use Rattle.sot_lang.specs.Ticks.{next_state, joined}
 use Rattle.sot_lang.specs.Ranges.{bounds, range_of}
-use Rattle.sot_lang.proofs.ShortLists.{at_none, at_two}
+use Rattle.sot_lists.proofs.ShortLists.{at_none, at_two}
 use Rattle.sot_box.specs.Sides.{IsIn}
 use Rattle.sot_box.specs.Boxes.{IsWithin}
 use Rattle.sot_calendar.specs.Due.{IsDue}

@@ -6,13 +6,13 @@ use Rattle.std.proofs.lemmas.Option.{slice_get_cases, same_Some}
 use Rattle.sot_lang.specs.declared.act.Act.{Act}
 use Rattle.sot_lang.specs.declared.tables.NodeInfo.{NodeInfo}
 use Rattle.sot_lang.specs.Tables.{Tables}
-use Rattle.sot_box.specs.Lists.{At}
+use Rattle.sot_lists.specs.Places.{At}
 use Rattle.sot_box.specs.Regions.{IsInRegion}
 use Rattle.sot_lang.specs.Ranges.{local_ranges, write_ranges}
 use Rattle.sot_lang.specs.Bodies.{Fired, execution}
 use Rattle.sot_lang.specs.Readings.{reading}
 use Rattle.sot_lang.specs.TableRules.{IsCoded}
-use Rattle.sot_lang.proofs.Lists.{at_same}
+use Rattle.sot_lists.proofs.Places.{at_same}
 use Rattle.sot_calendar.specs.Due.{IsDue}
 use Rattle.sot_tube.specs.Tubes.{Keeps}
 use Rattle.sot_world.specs.Configurations.{Configuration, Mode, Ac, Sc, is_left, is_left_dm, mode_of, locals_of, point_of}

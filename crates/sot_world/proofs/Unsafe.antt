@@ -9,7 +9,7 @@ use Rattle.sot_lang.specs.Line.{line, nav, pos_plant}
 use Rattle.sot_lang.specs.Bodies.{execution}
 use Rattle.sot_lang.specs.Ticks.{next_state, joined}
 use Rattle.sot_lang.specs.Ranges.{bounds}
-use Rattle.sot_lang.proofs.ShortLists.{at_one, at_two}
+use Rattle.sot_lists.proofs.ShortLists.{at_one, at_two}
 use Rattle.sot_box.specs.Boxes.{IsWithin}
 use Rattle.sot_box.specs.Regions.{IsInRegion}
 use Rattle.sot_calendar.specs.Due.{IsDue}

@@ -2,13 +2,11 @@
 use Rattle.std.proofs.Common.{◌≡◌, ℕ, suc, ◌+◌, ◌<◌, ℤ, pos, List, [], ◌∷◌, length, refl, ◌∙◌, arith, add-zero}
 use Rattle.std.specs.Prelude.{slice_index_or, slice_set}
 use Rattle.std.proofs.lemmas.List.{get_or-set_other, length-set}
-use Rattle.sot_box.specs.Sides.{Side}
-use Rattle.sot_box.specs.Lists.{At}
+use Rattle.sot_box.specs.Sides.{Side, IsIn, nought}
+use Rattle.sot_lists.specs.Places.{At}
 use Rattle.sot_box.specs.Boxes.{IsWithin}
 use Rattle.sot_world.specs.Steps.{write_at}
-use Rattle.sot_box.specs.Sides.{IsIn}
-use Rattle.sot_lang.specs.Ranges.{nought}
-use Rattle.sot_lang.proofs.Lists.{within_set}
+use Rattle.sot_box.proofs.Ranges.{within_set}
 
 pub write_within : (rs : List Side) (k : ℕ) (zs xs : List ℤ) → IsWithin rs xs → ((i : ℕ) (z : ℤ) → At zs i z → IsIn (slice_index_or rs (k + i) nought) z) → IsWithin rs (write_at k zs xs)
 write_within rs k [] xs w h = w

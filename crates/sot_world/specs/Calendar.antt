@@ -3,7 +3,7 @@ use Rattle.std.specs.Prelude.{ℕ, ◌≡◌, ◌↔◌, true, false}
 use Rattle.sot_lang.specs.declared.tables.NodeInfo.{NodeInfo}
 use Rattle.sot_lang.specs.declared.tables.ModuleInfo.{ModuleInfo}
 use Rattle.sot_lang.specs.Tables.{Tables}
-use Rattle.sot_box.specs.Lists.{At}
+use Rattle.sot_lists.specs.Places.{At}
 use Rattle.sot_calendar.specs.Due.{IsDue, IsDueIn, IsUntil, IsStillDue}
 use Rattle.sot_world.specs.Configurations.{Configuration, is_left, is_left_dm}
 use Rattle.sot_world.specs.Steps.{MayTick}

@@ -13,7 +13,7 @@ use Rattle.sot_lang.specs.Ranges.{local_ranges, write_ranges}
 use Rattle.sot_lang.specs.Bodies as bodies
 use Rattle.sot_lang.specs.Readings.{reading}
 use Rattle.sot_lang.specs.Ticks.{next_state, joined}
-use Rattle.sot_box.specs.Lists.{At}
+use Rattle.sot_lists.specs.Places.{At}
 use Rattle.sot_box.specs.Regions.{IsInRegion}
 use Rattle.sot_tube.specs.Tubes.{Keeps}
 use Rattle.sot_code.specs.declared.fired.Fired.{Fired}

@@ -8,7 +8,7 @@ use Rattle.sot_lang.specs.declared.tables.ModuleInfo.{ModuleInfo}
 use Rattle.sot_lang.specs.Tables.{Tables}
 use Rattle.sot_lang.specs.TableRules.{IsCoded}
 use Rattle.sot_lang.specs.Ranges.{range_of, bounds}
-use Rattle.sot_box.specs.Lists.{At}
+use Rattle.sot_lists.specs.Places.{At}
 use Rattle.sot_box.specs.Sides.{IsIn}
 use Rattle.sot_box.specs.Boxes.{IsWithin}
 use Rattle.sot_calendar.specs.Due.{IsDue}

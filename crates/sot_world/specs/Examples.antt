@@ -2,7 +2,7 @@
 use Rattle.std.specs.Prelude.{ℕ, ℤ, pos, negsuc, true, false, Option, Some, None, List, [], ◌∷◌}
 use Rattle.std.proofs.Common.{refl}
 use Rattle.std.specs.Global.{Global}
-use Rattle.sot_lang.specs.declared.operator.Op.TheVariants.{Add, Div}
+use Rattle.sot_tree.specs.declared.operator.Op.TheVariants.{Add, Div}
 use Rattle.sot_lang.specs.declared.term.Term.TheVariants.{Number, Place, Binary'}
 use Rattle.sot_lang.specs.declared.act.Act.{Act}
 use Rattle.sot_lang.specs.declared.act.Act.TheVariants.{Assign, Publish}
@@ -121,7 +121,7 @@ idle_counter n = record decided { left = false ∷ true ∷ []; locals = [] ∷ 
 -- programs that are not safe
 module _ (g : Global) where
   abbrev pub segments : ℤ → ℤ → BoxList
-  segments lo hi = record { width = 1; boxes = (side lo hi ∷ []) ∷ [] }
+  segments lo hi = record { width = 1; boxes = (side lo hi ∷ []) ∷ []; settled = false }
 
   -- the running example with the safe region [-5..5], smaller than its safer one
   abbrev pub narrow : Tables

@@ -3,7 +3,7 @@ use Rattle.std.specs.Prelude.{ℕ, ◌<◌, ◌≡◌, ℤ, List, [], length, sl
 use Rattle.sot_lang.specs.declared.tables.PlantInfo.{PlantInfo}
 use Rattle.sot_lang.specs.declared.tables.ModuleInfo.{ModuleInfo}
 use Rattle.sot_lang.specs.Tables.{Tables}
-use Rattle.sot_box.specs.Lists.{At}
+use Rattle.sot_lists.specs.Places.{At}
 use Rattle.sot_world.specs.declared.open_fail.OpenFail.{OpenFail}
 use Rattle.sot_world.specs.declared.open_fail.OpenFail.TheVariants.{NotSafer, Memory}
 use Rattle.sot_box.specs.Regions.{IsInRegion}

@@ -3,7 +3,7 @@ use Rattle.std.specs.Prelude.{ℕ, suc, ℤ, Bool, false, ◌&&◌, not, int_le,
 use Rattle.sot_lang.specs.declared.act.Act.{Act}
 use Rattle.sot_lang.specs.declared.tables.NodeInfo.{NodeInfo}
 use Rattle.sot_lang.specs.Tables.{Tables}
-use Rattle.sot_box.specs.Lists.{At}
+use Rattle.sot_lists.specs.Places.{At}
 use Rattle.sot_lang.specs.Ranges.{range_of, local_ranges, write_ranges}
 use Rattle.sot_lang.specs.Bodies.{Fired, execution}
 use Rattle.sot_lang.specs.Readings.{reading}

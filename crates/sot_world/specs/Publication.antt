@@ -3,10 +3,9 @@ use Rattle.std.specs.Prelude.{ℕ, ℤ, List, ◌≡◌, Some, None, Option, fal
 use Rattle.sot_lang.specs.declared.tables.NodeInfo.{NodeInfo}
 use Rattle.sot_lang.specs.Tables.{Tables}
 use Rattle.sot_lang.specs.TableRules.{IsTyped}
-use Rattle.sot_lang.specs.Places.{Has}
+use Rattle.sot_lists.specs.Places.{Has, At}
 use Rattle.sot_lang.specs.Ranges.{range_of}
 use Rattle.sot_box.specs.Sides.{IsIn}
-use Rattle.sot_box.specs.Lists.{At}
 use Rattle.sot_world.specs.Configurations.{Configuration, IsSized, number_of, locals_of}
 use Rattle.sot_world.specs.Steps.{Fires, is_enabled}
 

@@ -7,7 +7,7 @@ use Rattle.sot_lang.specs.declared.tables.NodeInfo.{NodeInfo}
 use Rattle.sot_lang.specs.declared.tables.ModuleInfo.{ModuleInfo}
 use Rattle.sot_lang.specs.Tables.{Tables}
 use Rattle.sot_box.specs.Sides.{Side, IsIn}
-use Rattle.sot_box.specs.Lists.{At}
+use Rattle.sot_lists.specs.Places.{At}
 use Rattle.sot_box.specs.Boxes.{IsWithin}
 use Rattle.sot_box.specs.Regions.{IsInRegion}
 use Rattle.sot_lang.specs.Ranges.{range_of, bounds, local_ranges, write_ranges}

@@ -1,7 +1,7 @@
 //! What a firing publishes.
 
 ghost use Rattle.std.specs.Prelude.{◌≡◌, ℕ, ℤ, Option, ◌-◌, ◌<◌, ◌≤◌, ◌++◌, None, length, take, replicate, slice_set};
-ghost use Rattle.sot_box.specs.Lists.{At};
+ghost use Rattle.sot_lists.specs.Places.{At};
 ghost use Rattle.sot_lang.specs.Ranges.{range_of};
 ghost use Rattle.sot_world.specs.Steps as steps;
 ghost use Rattle.sot_world.specs.Changes.{is_ac, role_enables, IsOfModule, put_drafted, Runs, IsRun};

@@ -1,7 +1,7 @@
 //! Looks at lists of flags and numbers.
 
 ghost use Rattle.std.specs.Prelude.{◌≡◌, ℕ, ◌+◌, ◌<◌, ◌≤◌, ℤ, true, false, length, slice_index_or, IsTrue, ◌↔◌, int_le, ◌&&◌};
-ghost use Rattle.sot_box.specs.Lists.{At};
+ghost use Rattle.sot_lists.specs.Places.{At};
 ghost use Rattle.sot_box.specs.Sides.{IsIn};
 ghost use Rattle.sot_box.specs.Boxes.{IsWithin};
 ghost use Rattle.sot_lang.specs.Ranges.{range_of};

@@ -4,7 +4,7 @@ ghost use Rattle.std.specs.Prelude.{◌≡◌, ℕ, ◌<◌, ◌≤◌, ◌==◌
 ghost use Rattle.sot_world.specs.Opens.{AreStarts, StartInside, IsFirstOutside};
 ghost use Rattle.sot_world.specs.Configurations.{Sc};
 ghost use Rattle.sot_world.specs.Roles.{AreRoles, IsRole};
-ghost use Rattle.sot_box.specs.Lists.{At};
+ghost use Rattle.sot_lists.specs.Places.{At};
 ghost use Rattle.sot_lang.specs.declared.tables.NodeInfo.{NodeInfo};
 
 use crate::mode::Mode;

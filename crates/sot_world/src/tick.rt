@@ -1,7 +1,7 @@
 //! What a tick moves, and what is due after it.
 
 ghost use Rattle.std.specs.Prelude.{◌≡◌, ℕ, ◌+◌, ◌<◌, ◌≤◌, ◌++◌, [], true, false, pos, length, map, take, slice_index_or, ◌↔◌};
-ghost use Rattle.sot_box.specs.Lists.{At};
+ghost use Rattle.sot_lists.specs.Places.{At};
 ghost use Rattle.sot_lang.specs.declared.tables.NodeInfo.{NodeInfo};
 ghost use Rattle.sot_lang.specs.declared.tables.ModuleInfo.{ModuleInfo};
 ghost use Rattle.sot_lang.specs.declared.tables.PlantInfo.{PlantInfo};

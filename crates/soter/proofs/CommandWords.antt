@@ -1,13 +1,12 @@
 -- `clap` takes exactly the word of a command, alone.
 use Rattle.std.proofs.Common.{◌≡◌, ℕ, List, [], ◌∷◌, ◌++◌, Bool, true, false, ◌||◌, inl, inr, Option, Some, None, refl, sym, ap, ◌∙◌, subst, codes, map, append_assoc, Global, ◌≢◌, ◌⊎◌, Result, Ok, Err}
-use Rattle.std.specs.Prelude.{option_map, find, fold, if◌then◌else◌, String, IfOk, IsOk, IsErrOf}
+use Rattle.std.specs.Prelude.{option_map, find, fold, if◌then◌else◌, String, IfOk, IsOk, IsErrOf, Box}
 use Rattle.std.specs.List.{list_any}
 use Rattle.std.specs.Str.{bytes_eq}
 use Rattle.std.specs.String.{string_bytes}
 use Rattle.std.proofs.lemmas.Bool.{cases_Bool, or_parts}
 use Rattle.std.proofs.lemmas.List.{append-nil}
 use Rattle.std.proofs.lemmas.Option.{same_Some}
-use Rattle.std.specs.Prelude.{Box}
 use Rattle.std.specs.Box.{box_value}
 use Rattle.clap.specs.declared.parser.matches.SubCommand.{SubCommand}
 use Rattle.clap.specs.declared.parser.matches.ArgMatches.TheViews.{out-SubCommand}

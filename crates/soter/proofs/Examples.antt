@@ -9,7 +9,7 @@ use Rattle.sot_parser.specs.declared.syntax.Syntax.TheVariants.{Token}
 use Rattle.sot_lang.specs.declared.tables.NodeInfo.{NodeInfo}
 use Rattle.sot_lang.specs.Tables.{Tables}
 use Rattle.sot_lang.specs.Line.{line, fast, slow, nav}
-use Rattle.sot_lang.proofs.ShortLists.{at_one}
+use Rattle.sot_lists.proofs.ShortLists.{at_one}
 use Rattle.sot_tube.specs.Refusals.{Periods, Outputs}
 use Rattle.sot_tube.specs.Modules.{AreShortPeriods, AreSameOutputs}
 use Rattle.sot_tube.specs.Topics.{WritesTopic}

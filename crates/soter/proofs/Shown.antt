@@ -1,24 +1,17 @@
 -- All tables of a program show the same to the checks of its shape.
 use Rattle.std.proofs.Common.{◌≡◌, ℕ, zero, suc, ◌≤◌, inl, inr, ⊎_elim, List, [], ◌∷◌, map, sym, ap, ◌∙◌, subst, refl, arith}
-use Rattle.sot_box.specs.Lists.{At}
-use Rattle.sot_lang.specs.Places.{Has}
+use Rattle.sot_lists.specs.Places.{At, Has}
 use Rattle.sot_lang.specs.Tables.{Tables}
 use Rattle.sot_lang.specs.declared.tables.ScalarInfo.{ScalarInfo}
 use Rattle.sot_lang.specs.declared.tables.NodeInfo.{NodeInfo}
 use Rattle.sot_lang.specs.declared.tables.ModuleInfo.{ModuleInfo}
-use Rattle.sot_lang.specs.Trees.{Program}
-use Rattle.sot_lang.proofs.Lists.{at_map}
+use Rattle.sot_tree.specs.Trees.{Program}
+use Rattle.sot_lists.proofs.Places.{at_map, at_mapped}
 use Rattle.sot_typing.specs.Resolved.{ProgramTables, NodeTable, node_seen, tables_seen, AreTables}
 use Rattle.sot_tube.specs.Refusals.{Refusal}
 use Rattle.sot_tube.specs.Modules.{AreShortPeriods, AreSameOutputs}
 use Rattle.sot_tube.specs.Topics.{WritesTopic}
 use Rattle.soter.specs.Shape.{nodes_of, shape}
-
--- what stands in a mapped list at a place is the image of what stands there in the list
-at_mapped : {A B : Type 0} (f : A → B) (xs : List A) (k : ℕ) (y : B) → At (map f xs) k y → (x : A) × At xs k x × (f x ≡ y)
-at_mapped f [] k y at = absurd cc
-at_mapped f (x ∷ xs) zero y at = (x, refl, cc)
-at_mapped f (x ∷ xs) (suc k) y at = at_mapped f xs k y at
 
 module _ (t u : Tables) (same : tables_seen t ≡ tables_seen u) where
   -- a node of one is shown as that of the other

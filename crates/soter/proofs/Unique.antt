@@ -4,7 +4,7 @@ use Rattle.std.specs.Prelude.{String}
 use Rattle.sot_text.specs.declared.mission.Need.TheVariants as needs
 use Rattle.sot_text.specs.declared.mission.SectionFault.{SectionFault}
 use Rattle.sot_text.specs.Sections.{Parts, split_of}
-use Rattle.sot_lang.specs.Trees.{Program}
+use Rattle.sot_tree.specs.Trees.{Program}
 use Rattle.sot_parser.specs.Programs.{Spells}
 use Rattle.sot_parser.proofs.ProgramTexts.{spells_unique}
 use Rattle.sot_rules.specs.First.{IsFaultless}

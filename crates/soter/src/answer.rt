@@ -1,8 +1,8 @@
 ghost use Rattle.std.specs.Prelude.{◌≡◌, IfOk};
-ghost use Rattle.sot_lang.specs.TreeViews.{program_view};
+ghost use Rattle.sot_tree.specs.TreeViews.{program_view};
 ghost use Rattle.sot_print.specs.Canonical.{canonical};
 
-use sot_lang::Program;
+use sot_tree::Program;
 use sot_print::print;
 use std::alloc::{AllocError, Global};
 

@@ -1,8 +1,8 @@
 //! What is said of a mission.
 
 ghost use Rattle.std.specs.Prelude.{◌≡◌, ◌≤◌, length, IfOk};
-ghost use Rattle.sot_lang.specs.TreeViews.{program_view};
-ghost use Rattle.sot_rules.specs.Formed.{IsFormed};
+ghost use Rattle.sot_tree.specs.TreeViews.{program_view};
+ghost use Rattle.sot_tree.specs.Formed.{IsFormed};
 ghost use Rattle.soter.specs.Answers.{input_limit, Replies};
 ghost use Rattle.soter.specs.Steps.{Judges, TellsProgram};
 ghost use Rattle.soter.specs.declared.words.Command.TheVariants.{Check as CheckCommand};
@@ -10,7 +10,7 @@ ghost use Rattle.soter.specs.declared.words.Command.TheVariants.{Check as CheckC
 use crate::answer::Answer;
 use crate::fault::{missectioned, misspelled, mistyped};
 use crate::shape::check_shape;
-use sot_lang::Program;
+use sot_tree::Program;
 use sot_parser::{ParseFail, parse};
 use sot_rules::TypeFail;
 use sot_text::{Lexer, Need, split};

@@ -1,6 +1,6 @@
 // What operators give at numbers, in plain arithmetic: a reading of the rules beside the one that is proved.
 use super::{Ends, Form};
-use sot_lang::{Func, Op};
+use sot_tree::{Func, Op};
 
 // The greatest whole number that is at most the quotient.
 fn floor(a: i64, b: i64) -> Option<i64> {

@@ -1,6 +1,6 @@
 // Events as tests hand them to a world.
 ghost use Rattle.std.specs.Prelude.{◌≡◌, List, None, length, IsTrue};
-ghost use Rattle.sot_box.specs.Lists.{At};
+ghost use Rattle.sot_lists.specs.Places.{At};
 ghost use Rattle.sot_lang.specs.declared.act.Act.{Act};
 ghost use Rattle.sot_lang.specs.declared.tables.NodeInfo.{NodeInfo};
 ghost use Rattle.sot_lang.specs.TableRules.{IsCoded};

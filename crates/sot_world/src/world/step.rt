@@ -2,7 +2,7 @@
 //! it out.
 
 ghost use Rattle.std.specs.Prelude.{◌≡◌, ℕ, ◌<◌, length, true, None, List, take};
-ghost use Rattle.sot_box.specs.Lists.{At};
+ghost use Rattle.sot_lists.specs.Places.{At};
 ghost use Rattle.sot_lang.specs.declared.act.Act.{Act};
 ghost use Rattle.sot_lang.specs.declared.tables.TopicInfo.{TopicInfo};
 ghost use Rattle.sot_lang.specs.declared.tables.NodeInfo.{NodeInfo};

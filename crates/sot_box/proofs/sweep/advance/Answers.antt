@@ -3,9 +3,8 @@ use Rattle.std.proofs.lemmas.Int.{ints}
 use Rattle.std.proofs.lemmas.Option.{get_or_from_slice_get}
 use Rattle.sot_box.specs.Boxes.{lows, highs}
 use Rattle.sot_box.specs.Sweep.{coordinate}
-use Rattle.sot_box.proofs.Sweeps.{IsCarried}
+use Rattle.sot_box.proofs.Sweeps.{IsCarried, IsPut, put-by, carry-on, carry-before, carry-back}
 use Rattle.sot_box.proofs.Within.{lows-at, highs-at}
-use Rattle.sot_box.proofs.Sweeps.{IsPut, put-by, carry-on, carry-before, carry-back}
 use Rattle.sot_box.proofs.sweep.advance.Goals as goal
 
 pub returns-then-reached-side : goal.returns-then-reached-side

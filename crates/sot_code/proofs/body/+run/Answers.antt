@@ -6,7 +6,8 @@ use Rattle.sot_lang.specs.Values.{is_true}
 use Rattle.sot_lang.specs.ActRules.{ActsFit}
 use Rattle.sot_lang.proofs.ActRows.{ActFits-If, ActFits-Repeat, act-Repeat}
 use Rattle.sot_code.specs.Firings.{fired_at, step_of, run_of, turns_of}
-use Rattle.sot_code.proofs.Steps.{run_more, run_stops, turn_more, turns_stop, takes_first, takes_second, ends_same, fits_at, node_places, true_of_ne, zero_of_bits}
+use Rattle.sot_code.proofs.Steps.{run_more, run_stops, turn_more, turns_stop, takes_first, takes_second, ends_same, zero_of_bits}
+use Rattle.sot_lang.proofs.Owners.{fits_at, node_places, true_of_ne}
 use Rattle.sot_code.proofs.body.+run.Goals as goal
 
 pub run-step-requires : goal.run-step-requires

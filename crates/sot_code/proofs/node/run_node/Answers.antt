@@ -1,12 +1,13 @@
 use Rattle.std.proofs.Common.{arith, ◌≡◌, ◌+◌, ◌++◌, length, take, drop, get_or, ap, sym, ◌∙◌, subst}
 use Rattle.std.specs.Option.{option_copied}
-use Rattle.sot_box.specs.Lists.{At}
+use Rattle.sot_lists.specs.Places.{At}
 use Rattle.sot_lang.specs.Tables.{Tables}
 use Rattle.sot_lang.specs.Bodies.{execution}
 use Rattle.sot_lang.specs.Ranges.{local_ranges, write_ranges}
 use Rattle.sot_lang.specs.TableRules.{MeetsTableRules, IsCoded}
 use Rattle.sot_code.specs.Recorded.{recorded}
-use Rattle.sot_code.proofs.Nodes.{runnable, node_is, one_body, taken_front, taken_back}
+use Rattle.sot_code.proofs.Nodes.{runnable, taken_front, taken_back}
+use Rattle.sot_lang.proofs.Owners.{node_is, one_body}
 use Rattle.sot_code.proofs.node.run_node.Goals as goal
 
 pub fire-requires-clause-node : goal.fire-requires-clause-node

@@ -1,13 +1,14 @@
 use Rattle.std.proofs.Common.{arith, ◌≡◌, ◌++◌, length, get_or, take, pos, ap, sym, ◌∙◌, subst}
 use Rattle.std.proofs.lemmas.List.{length-replicate}
-use Rattle.sot_box.specs.Lists.{At}
+use Rattle.sot_lists.specs.Places.{At}
 use Rattle.sot_lang.specs.Tables.{Tables}
 use Rattle.sot_lang.specs.Ticks.{values, next_state}
 use Rattle.sot_lang.specs.OwnerNames.{plant_truths}
 use Rattle.sot_lang.specs.TermRules.{TermsFit}
 use Rattle.sot_lang.specs.TableRules.{MeetsTableRules}
 use Rattle.sot_code.specs.Recorded.{MayTickPlant}
-use Rattle.sot_code.proofs.Plants.{sizes, plant_is, plant_places, places_of}
+use Rattle.sot_code.proofs.Plants.{sizes, places_of}
+use Rattle.sot_lang.proofs.Owners.{plant_is, plant_places}
 use Rattle.sot_code.proofs.plant.plant_next.Goals as goal
 
 pub put-requires-2 : goal.put-requires-2

@@ -1,4 +1,4 @@
-use Rattle.std.proofs.Common.{rules, arith, ap, ◌∙◌, sym, subst, ◌≡◌, length, Ok, Err, ap₂}
+use Rattle.std.proofs.Common.{rules, arith, ap, ◌∙◌, sym, subst, ◌≡◌, length, Ok, Err, ap₂, ◌+◌}
 use Rattle.std.proofs.lemmas.Result.{err_from_is_err_and}
 use Rattle.sot_lang.specs.declared.act.Act.{the_lemmas}
 use Rattle.sot_lang.specs.OwnerNames.{node_truths}
@@ -6,7 +6,8 @@ use Rattle.sot_lang.specs.ActRules.{ActsFit}
 use Rattle.sot_lang.proofs.ActRows.{ActFits-If, ActFits-Repeat}
 use Rattle.sot_iv.specs.Firings.{state, step_of, run_of, turns_of}
 use Rattle.sot_iv.proofs.Rows.{act_intervals-Repeat}
-use Rattle.sot_iv.proofs.Steps.{run_more, run_stops, turn_more, turns_stop, takes_first, takes_second, takes_both, leaves_same, fits_at, node_places, leaves_ok, leaves_err, first_stops, second_stops, both_join}
+use Rattle.sot_iv.proofs.Steps.{run_more, run_stops, turn_more, turns_stop, takes_first, takes_second, takes_both, leaves_same, leaves_ok, leaves_err, first_stops, second_stops, both_join}
+use Rattle.sot_lang.proofs.Owners.{fits_at, node_places}
 use Rattle.sot_iv.proofs.body.+run.Goals as goal
 
 pub run-step-requires : goal.run-step-requires
@@ -33,17 +34,17 @@ run-returns-in_err-step t c =
 pub step-assign-requires-clause-places : goal.step-assign-requires-clause-places
 step-assign-requires-clause-places t c =
     let f = rw c.in-Assign.is at c.requires.fits in
-    node_places c.args.p.now c.args.node.now c.in-Assign.value _ _ f.1 c.requires.reads c.requires.size
+    node_places c.args.p.now c.args.node.now c.in-Assign.value _ f.1 (sym (ap₂ (λ a b. a + b) c.requires.reads c.requires.size))
 
 pub step-publish-requires-clause-places : goal.step-publish-requires-clause-places
 step-publish-requires-clause-places t c =
     let f = rw c.in-Publish.is at c.requires.fits in
-    node_places c.args.p.now c.args.node.now c.in-Publish.value _ _ f.1 c.requires.reads c.requires.size
+    node_places c.args.p.now c.args.node.now c.in-Publish.value _ f.1 (sym (ap₂ (λ a b. a + b) c.requires.reads c.requires.size))
 
 pub step-interval_of-requires : goal.step-interval_of-requires
 step-interval_of-requires t c =
     let f = ActFits-If _ _ _ c.in-If.cond c.in-If.yes c.in-If.no (rw c.in-If.is at c.requires.fits) in
-    node_places c.args.p.now c.args.node.now c.in-If.cond _ _ f.1 c.requires.reads c.requires.size
+    node_places c.args.p.now c.args.node.now c.in-If.cond _ f.1 (sym (ap₂ (λ a b. a + b) c.requires.reads c.requires.size))
 
 pub step-run-requires : goal.step-run-requires
 step-run-requires t c =

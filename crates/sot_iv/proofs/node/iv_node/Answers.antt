@@ -1,6 +1,6 @@
 use Rattle.std.proofs.Common.{arith, ◌≡◌, ◌+◌, length, take, drop, get_or, replicate, List, ap, ap₂, sym, ◌∙◌, subst}
 use Rattle.std.specs.Option.{option_copied}
-use Rattle.sot_box.specs.Lists.{At}
+use Rattle.sot_lists.specs.Places.{At}
 use Rattle.sot_lang.specs.Tables.{Tables}
 use Rattle.sot_lang.specs.TableRules.{MeetsTableRules, IsCoded}
 use Rattle.std.proofs.lemmas.List.{length-map}
@@ -16,7 +16,8 @@ use Rattle.sot_iv.specs.BodyIntervals.{Intervals, IsExecutionIntervals}
 use Rattle.sot_iv.specs.Firings.{state, run_of}
 use Rattle.sot_iv.specs.NodeFirings.{drafts_of}
 use Rattle.sot_iv.proofs.Bodies.{execution_is}
-use Rattle.sot_iv.proofs.Nodes.{runnable, node_is, one_body, front_ordered, back_ordered}
+use Rattle.sot_iv.proofs.Nodes.{runnable, front_ordered, back_ordered}
+use Rattle.sot_lang.proofs.Owners.{node_is, one_body}
 use Rattle.sot_iv.proofs.node.iv_node.Goals as goal
 
 -- what holds of the node and the body that the code reads holds of those that the caller names

@@ -1,6 +1,6 @@
 use Rattle.std.proofs.Common.{arith, ◌≡◌, ◌++◌, length, get_or, ap, sym, ◌∙◌, subst, length-append}
 use Rattle.sot_box.specs.Sides.{AreOrdered}
-use Rattle.sot_box.specs.Lists.{At}
+use Rattle.sot_lists.specs.Places.{At}
 use Rattle.sot_lang.specs.Tables.{Tables}
 use Rattle.sot_lang.specs.declared.tables.NoiseInfo.{NoiseInfo}
 use Rattle.sot_lang.specs.Ranges.{bounds}
@@ -10,7 +10,8 @@ use Rattle.sot_iv.specs.TermIntervals.{AreTermIntervals}
 use Rattle.sot_iv.specs.Evaluation.{term_intervals}
 use Rattle.std.specs.Prelude.{map}
 use Rattle.sot_iv.specs.PlantIntervals.{IsNextBox}
-use Rattle.sot_iv.proofs.PlantNames.{sizes, plant_is, plant_places, places_of}
+use Rattle.sot_iv.proofs.PlantNames.{sizes, places_of}
+use Rattle.sot_lang.proofs.Owners.{plant_is, plant_places}
 use Rattle.sot_iv.proofs.Terms.{terms_are}
 use Rattle.sot_iv.proofs.plant.iv_plant.Goals as goal
 
@@ -90,7 +91,7 @@ box_of-requires-clause-places c =
     c.as_slice.ensures.value ∙ c.put_bounds.ensures
     ∙ ap (λ l. l ++ map (λ (d : NoiseInfo). record { lo = d.lo; hi = d.hi }) c.deref.result.now) (c.extend-2.ensures ∙ ap (λ l. l ++ v) (c.extend.ensures ∙ ap (λ l. l ++ h) c.names_from-names.ensures))
     ∙ ap (λ l. b ++ h ++ v ++ map (λ (d : NoiseInfo). record { lo = d.lo; hi = d.hi }) l) c.deref.ensures.value in
-    let places = plant_places p info (length (b ++ h ++ v ++ bounds info)) r.next (places_of p c.args.plant b h v info c.requires same) in
+    let places = plant_places p info info.next.items (length (b ++ h ++ v ++ bounds info)) r.next (places_of p c.args.plant b h v info c.requires same) in
     let at_names : HavePlaces (length c.as_slice.result.now) info.next.items = subst (λ l. HavePlaces (length l) info.next.items) (sym names) places in
     subst (HavePlaces (length c.as_slice.result.now)) (sym c.deref-2.ensures.value) at_names
 
@@ -110,7 +111,7 @@ returns c plant at =
     c.as_slice.ensures.value ∙ c.put_bounds.ensures
     ∙ ap (λ l. l ++ map (λ (d : NoiseInfo). record { lo = d.lo; hi = d.hi }) c.deref.result.now) (c.extend-2.ensures ∙ ap (λ l. l ++ v) (c.extend.ensures ∙ ap (λ l. l ++ h) c.names_from-names.ensures))
     ∙ ap (λ l. b ++ h ++ v ++ map (λ (d : NoiseInfo). record { lo = d.lo; hi = d.hi }) l) c.deref.ensures.value in
-    let places = plant_places p info (length (b ++ h ++ v ++ bounds info)) r.next (places_of p c.args.plant b h v info c.requires same) in
+    let places = plant_places p info info.next.items (length (b ++ h ++ v ++ bounds info)) r.next (places_of p c.args.plant b h v info c.requires same) in
     let theirs : info ≡ plant = sym (plant_is p c.args.plant plant info at is) in
     let e : c.box_of.result ≡ term_intervals info.next.items (b ++ h ++ v ++ bounds info) =
     c.box_of.ensures ∙ ap (λ l. term_intervals c.deref-2.result.now l) names ∙ ap (λ ts. term_intervals ts (b ++ h ++ v ++ bounds info)) c.deref-2.ensures.value in

@@ -1,7 +1,7 @@
 use Rattle.std.proofs.Common.{rules, ◌≡◌, [], ◌∷◌, ap, ◌∙◌}
-use Rattle.sot_lang.specs.Trees.{called}
-use Rattle.sot_lang.specs.TreeViews.{parts_view}
-use Rattle.sot_lang.proofs.CallRows.{call_view}
+use Rattle.sot_tree.specs.Trees.{called}
+use Rattle.sot_tree.specs.TreeViews.{parts_view}
+use Rattle.sot_tree.proofs.CallRows.{call_view}
 use Rattle.sot_parser.proofs.calls.call_of_three.Goals as goal
 
 pub returns : goal.returns

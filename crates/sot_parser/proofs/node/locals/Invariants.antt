@@ -1,6 +1,6 @@
 use Rattle.std.proofs.Common.{◌≡◌, map, length, codes}
 use Rattle.sot_parser.proofs.Loops.{Loop}
-use Rattle.sot_lang.specs.TreeViews.{local_view}
+use Rattle.sot_tree.specs.TreeViews.{local_view}
 use Rattle.sot_parser.specs.Lexemes.{begins, is_keyword}
 use Rattle.sot_parser.specs.ListReads.{all_at}
 use Rattle.sot_parser.specs.DeclarationReads.{local_at}

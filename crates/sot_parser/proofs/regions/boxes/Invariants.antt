@@ -1,5 +1,5 @@
 use Rattle.std.proofs.Common.{◌≡◌, map, length, codes}
-use Rattle.sot_lang.specs.TreeViews.{area_view}
+use Rattle.sot_tree.specs.TreeViews.{area_view}
 use Rattle.sot_parser.specs.Lexemes.{begins, is_sign}
 use Rattle.sot_parser.specs.ListReads.{further_at, separated_at}
 use Rattle.sot_parser.specs.DeclarationReads.{box_at}

@@ -1,7 +1,7 @@
 use Rattle.std.proofs.Common.{◌∙◌, ◌++◌, ap, sym}
 use Rattle.std.specs.String.{string_bytes}
 use Rattle.std.proofs.lemmas.Result.{IfOk-equal}
-use Rattle.sot_lang.specs.TreeViews.{tree_view}
+use Rattle.sot_tree.specs.TreeViews.{tree_view}
 use Rattle.sot_print.specs.declared.gap.Gap.TheVariants.{Touching}
 use Rattle.sot_print.specs.Words.{blanks, laid}
 use Rattle.sot_print.specs.Leaves.{listed}

@@ -1,7 +1,7 @@
 use Rattle.std.proofs.Common.{◌∙◌, ◌++◌, ap, sym, refl}
 use Rattle.std.specs.String.{string_bytes}
 use Rattle.std.proofs.lemmas.Result.{IfOk-equal}
-use Rattle.sot_lang.specs.TreeViews.{statement_view, block_view}
+use Rattle.sot_tree.specs.TreeViews.{statement_view, block_view}
 use Rattle.sot_print.specs.declared.gap.Gap.TheVariants.{Line, Space}
 use Rattle.sot_print.specs.Words.{blanks, laid}
 use Rattle.sot_print.specs.Statements.{braced_words, otherwise_words, statement_words, block_words}

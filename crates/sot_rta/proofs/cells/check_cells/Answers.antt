@@ -1,6 +1,6 @@
 use Rattle.std.proofs.Common.{None, Some, sym, ◌∙◌, subst}
 use Rattle.std.proofs.lemmas.Option.{same_Some, none-some}
-use Rattle.sot_box.specs.Lists.{At}
+use Rattle.sot_lists.specs.Places.{At}
 use Rattle.sot_tube.specs.Verdict.{cells_of}
 use Rattle.sot_rta.specs.Refused.{Answers}
 use Rattle.sot_rta.proofs.CellChecks.{entry_there, found_cells}

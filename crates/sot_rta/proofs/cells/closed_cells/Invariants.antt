@@ -1,5 +1,5 @@
 use Rattle.std.proofs.Common.{List}
-use Rattle.sot_box.specs.Lists.{At}
+use Rattle.sot_lists.specs.Places.{At}
 use Rattle.sot_lang.specs.declared.act.Act.{Act}
 use Rattle.sot_lang.specs.declared.tables.PlantInfo.{PlantInfo}
 use Rattle.sot_lang.specs.declared.tables.NodeInfo.{NodeInfo}

@@ -1,4 +1,4 @@
-use Rattle.sot_box.specs.Lists.{At}
+use Rattle.sot_lists.specs.Places.{At}
 use Rattle.sot_lang.specs.declared.tables.PlantInfo.{PlantInfo}
 use Rattle.sot_tube.specs.Verdict.{reach_cell}
 use Rattle.sot_rta.specs.Refused.{PassBefore}

@@ -1,6 +1,6 @@
 use Rattle.std.proofs.Common.{◌∙◌, None, Option, Some, ap}
-use Rattle.sot_lang.specs.Trees.{Block}
-use Rattle.sot_lang.specs.TreeViews.{block_view, node_view}
+use Rattle.sot_tree.specs.Trees.{Block}
+use Rattle.sot_tree.specs.TreeViews.{block_view, node_view}
 use Rattle.sot_rules.specs.Names.{node_scope}
 use Rattle.sot_rules.specs.Tests.{block_unrolled}
 use Rattle.sot_rules.specs.Faults.{block_faults, least, past}

@@ -1,5 +1,5 @@
 use Rattle.std.proofs.Common.{◌∙◌, ap, sym, refl, fold}
-use Rattle.sot_lang.specs.TreeViews.{tree_view, parts_view}
+use Rattle.sot_tree.specs.TreeViews.{tree_view, parts_view}
 use Rattle.sot_rules.specs.TreeSorts.{sort, sorts}
 use Rattle.sot_rules.specs.Faults.{least, tree_faults, parts_faults}
 use Rattle.sot_rules.specs.Scopes.{names_in}

@@ -1,5 +1,5 @@
 use Rattle.std.proofs.Common.{◌≡◌, drop, fold}
-use Rattle.sot_lang.specs.TreeViews.{parts_view}
+use Rattle.sot_tree.specs.TreeViews.{parts_view}
 use Rattle.sot_rules.specs.TreeSorts.{sorts}
 use Rattle.sot_rules.specs.Faults.{least, parts_faults}
 use Rattle.sot_rules.specs.Scopes.{names_in}

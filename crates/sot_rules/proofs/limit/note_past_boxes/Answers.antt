@@ -1,5 +1,5 @@
 use Rattle.std.proofs.Common.{ap, sym, get_or}
-use Rattle.sot_lang.specs.TreeViews.{area_view}
+use Rattle.sot_tree.specs.TreeViews.{area_view}
 use Rattle.sot_rules.proofs.Limits.{past_noted, none_past}
 use Rattle.sot_rules.proofs.limit.note_past_boxes.Goals as goal
 

@@ -1,6 +1,6 @@
 use Rattle.std.proofs.Common.{◌++◌, Option, take}
 use Rattle.std.specs.List.{filter_map}
-use Rattle.sot_lang.specs.declared.tree.Ident.{Ident}
+use Rattle.sot_tree.specs.declared.tree.Ident.{Ident}
 use Rattle.sot_rules.specs.Names.{Thing, meaning}
 use Rattle.sot_rules.specs.Indexes.{program_in}
 use Rattle.sot_rules.specs.Alike.{listed_thing, tables_in}

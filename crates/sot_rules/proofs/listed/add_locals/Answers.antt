@@ -1,6 +1,6 @@
 use Rattle.std.proofs.Common.{ap, ◌++◌}
-use Rattle.sot_lang.specs.declared.tree.LocalDecl.{LocalDecl}
-use Rattle.sot_lang.specs.TreeViews.{local_view}
+use Rattle.sot_tree.specs.declared.tree.LocalDecl.{LocalDecl}
+use Rattle.sot_tree.specs.TreeViews.{local_view}
 use Rattle.sot_rules.specs.Names.{alone, local_thing}
 use Rattle.sot_rules.proofs.StandsFor.{alone_more, map_twice, mapped_all, stands_same}
 use Rattle.sot_rules.proofs.listed.add_locals.Goals as goal

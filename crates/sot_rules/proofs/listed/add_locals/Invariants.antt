@@ -1,5 +1,5 @@
 use Rattle.std.proofs.Common.{List, ◌++◌, map, take}
-use Rattle.sot_lang.specs.TreeViews.{local_view}
+use Rattle.sot_tree.specs.TreeViews.{local_view}
 use Rattle.sot_rules.specs.Names.{Part, Thing, local_thing}
 use Rattle.sot_rules.specs.Alike.{StandsFor}
 use Rattle.sot_rules.proofs.listed.add_locals.Given as goal

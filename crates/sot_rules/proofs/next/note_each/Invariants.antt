@@ -1,5 +1,5 @@
 use Rattle.std.proofs.Common.{◌≡◌, drop, flat_map, map}
-use Rattle.sot_lang.specs.TreeViews.{next_view}
+use Rattle.sot_tree.specs.TreeViews.{next_view}
 use Rattle.sot_rules.specs.Faults.{least}
 use Rattle.sot_rules.specs.Scopes.{names_in}
 use Rattle.sot_rules.specs.Nexts.{next_faults_in}

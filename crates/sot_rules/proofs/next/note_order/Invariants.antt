@@ -1,5 +1,5 @@
 use Rattle.std.proofs.Common.{◌≡◌, drop, map}
-use Rattle.sot_lang.specs.TreeViews.{next_view}
+use Rattle.sot_tree.specs.TreeViews.{next_view}
 use Rattle.sot_rules.specs.Faults.{least, order_faults}
 use Rattle.sot_rules.proofs.next.note_order.Given as goal
 

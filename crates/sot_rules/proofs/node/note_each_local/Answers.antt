@@ -1,4 +1,4 @@
-use Rattle.sot_lang.specs.TreeViews.{local_view}
+use Rattle.sot_tree.specs.TreeViews.{local_view}
 use Rattle.sot_rules.specs.Faults.{together, local_lists}
 use Rattle.sot_rules.proofs.Loops.{step_viewed}
 use Rattle.sot_rules.proofs.node.note_each_local.Goals as goal

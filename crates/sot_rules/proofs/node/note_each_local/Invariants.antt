@@ -1,7 +1,7 @@
 use Rattle.std.proofs.Common.{◌≡◌, ◌++◌, map, drop}
 use Rattle.std.specs.Prelude.{flat_map}
-use Rattle.sot_lang.specs.Trees.{Node}
-use Rattle.sot_lang.specs.TreeViews.{local_view}
+use Rattle.sot_tree.specs.Trees.{Node}
+use Rattle.sot_tree.specs.TreeViews.{local_view}
 use Rattle.sot_rules.specs.Faults.{least, together, local_lists}
 use Rattle.sot_rules.specs.SeenNames.{HasNames}
 use Rattle.sot_rules.proofs.node.note_each_local.Given as goal

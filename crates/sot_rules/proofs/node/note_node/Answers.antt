@@ -1,6 +1,6 @@
 use Rattle.std.proofs.Common.{◌∙◌, [], ◌++◌, ap}
 use Rattle.std.specs.Prelude.{flat_map}
-use Rattle.sot_lang.specs.TreeViews.{node_view}
+use Rattle.sot_tree.specs.TreeViews.{node_view}
 use Rattle.sot_rules.specs.Lists.{places}
 use Rattle.sot_rules.specs.Names.{meaning, node_scope}
 use Rattle.sot_rules.specs.Tests.{topic_size, read_size, local_names}

@@ -1,6 +1,6 @@
 use Rattle.std.proofs.Common.{◌≡◌, drop}
 use Rattle.std.specs.Prelude.{flat_map}
-use Rattle.sot_lang.specs.Trees.{Node}
+use Rattle.sot_tree.specs.Trees.{Node}
 use Rattle.sot_rules.specs.Faults.{least, together, write_lists}
 use Rattle.sot_rules.specs.Indexes.{program_in}
 use Rattle.sot_rules.specs.SeenNames.{HasNames}

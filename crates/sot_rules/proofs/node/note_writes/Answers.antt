@@ -1,6 +1,6 @@
 use Rattle.std.proofs.Common.{◌∙◌, [], ap}
 use Rattle.std.specs.Prelude.{flat_map}
-use Rattle.sot_lang.specs.TreeViews.{node_view}
+use Rattle.sot_tree.specs.TreeViews.{node_view}
 use Rattle.sot_rules.specs.Names.{meaning}
 use Rattle.sot_rules.specs.Tests.{topic_size}
 use Rattle.sot_rules.specs.Faults.{least, together, repeats, passes, write_lists}

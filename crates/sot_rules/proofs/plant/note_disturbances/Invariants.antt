@@ -1,6 +1,6 @@
 use Rattle.std.proofs.Common.{◌≡◌, ◌++◌, drop}
 use Rattle.std.specs.Prelude.{flat_map}
-use Rattle.sot_lang.specs.Trees.{Plant}
+use Rattle.sot_tree.specs.Trees.{Plant}
 use Rattle.sot_rules.specs.Tests.{state_names}
 use Rattle.sot_rules.specs.Faults.{least, together, noise_lists}
 use Rattle.sot_rules.specs.SeenNames.{HasNames}

@@ -1,7 +1,7 @@
 use Rattle.std.proofs.Common.{◌∙◌, [], ap}
 use Rattle.std.specs.Prelude.{flat_map}
-use Rattle.sot_lang.specs.declared.tree.StateDecl.{StateDecl}
-use Rattle.sot_lang.specs.TreeViews.{plant_view}
+use Rattle.sot_tree.specs.declared.tree.StateDecl.{StateDecl}
+use Rattle.sot_tree.specs.TreeViews.{plant_view}
 use Rattle.sot_rules.specs.Names.{meaning}
 use Rattle.sot_rules.specs.Tests.{topic_size, state_names}
 use Rattle.sot_rules.specs.Faults.{least, repeats, passes, input_faults}

@@ -1,4 +1,4 @@
-use Rattle.sot_lang.specs.declared.tree.StateDecl.{StateDecl}
+use Rattle.sot_tree.specs.declared.tree.StateDecl.{StateDecl}
 use Rattle.sot_rules.specs.Faults.{scale_faults}
 use Rattle.sot_rules.proofs.Loops.{step_each}
 use Rattle.sot_rules.proofs.plant.note_scales.Goals as goal

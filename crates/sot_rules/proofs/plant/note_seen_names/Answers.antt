@@ -1,4 +1,4 @@
-use Rattle.sot_lang.specs.TreeViews.{plant_view}
+use Rattle.sot_tree.specs.TreeViews.{plant_view}
 use Rattle.sot_rules.specs.Faults.{together, seen_lists}
 use Rattle.sot_rules.specs.Indexes.{program_in}
 use Rattle.sot_rules.proofs.Loops.{step_each}

@@ -1,6 +1,6 @@
 use Rattle.std.proofs.Common.{◌≡◌, drop}
 use Rattle.std.specs.Prelude.{flat_map}
-use Rattle.sot_lang.specs.TreeViews.{plant_view}
+use Rattle.sot_tree.specs.TreeViews.{plant_view}
 use Rattle.sot_rules.specs.Faults.{least, together, seen_lists}
 use Rattle.sot_rules.specs.Indexes.{program_in}
 use Rattle.sot_rules.proofs.plant.note_seen_names.Given as goal

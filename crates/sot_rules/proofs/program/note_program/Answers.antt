@@ -1,6 +1,6 @@
 use Rattle.std.proofs.Common.{◌∙◌, [], map, ap}
 use Rattle.std.specs.Prelude.{flat_map}
-use Rattle.sot_lang.specs.TreeViews.{declaration_view}
+use Rattle.sot_tree.specs.TreeViews.{declaration_view}
 use Rattle.sot_rules.specs.Lists.{places}
 use Rattle.sot_rules.specs.Names.{declared_name}
 use Rattle.sot_rules.specs.Tests.{topic_name, plant_name, node_name, module_name, names_of}

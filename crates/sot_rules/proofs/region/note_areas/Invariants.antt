@@ -1,6 +1,6 @@
 use Rattle.std.proofs.Common.{◌≡◌, map, drop}
 use Rattle.std.specs.Prelude.{flat_map}
-use Rattle.sot_lang.specs.TreeViews.{area_view}
+use Rattle.sot_tree.specs.TreeViews.{area_view}
 use Rattle.sot_rules.specs.Scopes.{sorts_in}
 use Rattle.sot_rules.specs.Faults.{least, area_faults}
 use Rattle.sot_rules.proofs.region.note_areas.Given as goal

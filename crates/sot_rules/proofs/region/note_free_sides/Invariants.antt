@@ -1,6 +1,6 @@
 use Rattle.std.proofs.Common.{◌≡◌, false, map, drop}
 use Rattle.std.specs.Prelude.{flat_map}
-use Rattle.sot_lang.specs.declared.tree.Bounds.{Bounds}
+use Rattle.sot_tree.specs.declared.tree.Bounds.{Bounds}
 use Rattle.sot_rules.specs.declared.sort.Sort.{Sort}
 use Rattle.sot_rules.specs.declared.sort.Sort.TheVariants.{Anything}
 use Rattle.sot_rules.specs.Faults.{least, bounds_faults}

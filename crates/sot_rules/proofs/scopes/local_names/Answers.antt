@@ -1,5 +1,5 @@
 use Rattle.std.proofs.Common.{[], ap, map}
-use Rattle.sot_lang.specs.TreeViews.{local_view}
+use Rattle.sot_tree.specs.TreeViews.{local_view}
 use Rattle.sot_rules.specs.Names.{local_thing}
 use Rattle.sot_rules.specs.Scopes.{parts_of}
 use Rattle.sot_rules.specs.Alike.{tables_in}

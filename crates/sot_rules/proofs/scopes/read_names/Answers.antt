@@ -1,6 +1,6 @@
 use Rattle.std.proofs.Common.{[], ◌++◌, ap, ap₂, map}
 use Rattle.std.specs.List.{filter_map}
-use Rattle.sot_lang.specs.TreeViews.{local_view}
+use Rattle.sot_tree.specs.TreeViews.{local_view}
 use Rattle.sot_rules.specs.Names.{either_meant, local_thing, meaning}
 use Rattle.sot_rules.specs.Scopes.{parts_of}
 use Rattle.sot_rules.specs.Indexes.{program_in}

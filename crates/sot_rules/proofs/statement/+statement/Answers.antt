@@ -1,5 +1,5 @@
 use Rattle.std.proofs.Common.{◌∙◌, ap, sym, refl}
-use Rattle.sot_lang.specs.TreeViews.{statement_view, block_view}
+use Rattle.sot_tree.specs.TreeViews.{statement_view, block_view}
 use Rattle.sot_rules.specs.Sorts.{is_scaled}
 use Rattle.sot_rules.specs.Faults.{least, statement_faults, block_faults}
 use Rattle.sot_rules.specs.Scopes.{scope_in}

@@ -1,5 +1,5 @@
 use Rattle.std.proofs.Common.{◌≡◌, drop}
-use Rattle.sot_lang.specs.TreeViews.{block_view}
+use Rattle.sot_tree.specs.TreeViews.{block_view}
 use Rattle.sot_rules.specs.Faults.{least, block_faults}
 use Rattle.sot_rules.specs.Scopes.{scope_in}
 use Rattle.sot_rules.proofs.statement.+statement.Given as goal

@@ -1,6 +1,6 @@
 use Rattle.std.proofs.Common.{◌≡◌, drop}
 use Rattle.std.specs.Prelude.{flat_map, zip}
-use Rattle.sot_lang.specs.TreeViews.{shape_view, init_view}
+use Rattle.sot_tree.specs.TreeViews.{shape_view, init_view}
 use Rattle.sot_rules.specs.Tests.{form_scalars, start_values}
 use Rattle.sot_rules.specs.Faults.{least, start_faults}
 use Rattle.sot_rules.proofs.topic.note_pairs.Given as goal

@@ -1,5 +1,5 @@
 use Rattle.std.proofs.Common.{◌≡◌, ◌+◌, ◌-◌, ◌%◌, arith, subst, sym}
-use Rattle.sot_lang.specs.TreeViews.{statement_view, block_view}
+use Rattle.sot_tree.specs.TreeViews.{statement_view, block_view}
 use Rattle.sot_rules.specs.declared.unrolled.Reached.TheVariants.{At, Left}
 use Rattle.sot_rules.specs.Tests.{unrolled, block_unrolled}
 use Rattle.sot_rules.specs.Reached.{IsReached}

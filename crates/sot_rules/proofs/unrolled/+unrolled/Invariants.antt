@@ -1,5 +1,5 @@
 use Rattle.std.proofs.Common.{drop}
-use Rattle.sot_lang.specs.TreeViews.{block_view}
+use Rattle.sot_tree.specs.TreeViews.{block_view}
 use Rattle.sot_rules.specs.declared.unrolled.Reached.{Reached}
 use Rattle.sot_rules.specs.Tests.{block_unrolled}
 use Rattle.sot_rules.specs.Reached.{IsReached}

@@ -1,7 +1,7 @@
 use Rattle.std.proofs.Common.{◌≡◌, suc, ◌+◌, ◌++◌, length, take, sym, subst, arith, length-append}
 use Rattle.std.specs.Prelude.{slice_index_or}
 use Rattle.std.proofs.lemmas.Option.{slice_get-get_or}
-use Rattle.sot_box.specs.Lists.{At}
+use Rattle.sot_lists.specs.Places.{At}
 use Rattle.sot_lang.specs.OwnerNames.{width_of, seen_width}
 use Rattle.sot_tube.specs.Seen.{AreSeenHulls}
 use Rattle.sot_tube.proofs.SeenHulls.{seen_more, width_next, width_fits}

@@ -3,7 +3,7 @@ use Rattle.std.specs.Prelude.{IsTrue, ◌↔◌}
 use Rattle.sot_lang.specs.Tables.{Tables}
 use Rattle.sot_lang.specs.TableRules.{MeetsTableRules}
 use Rattle.sot_box.specs.Boxes.{point_box}
-use Rattle.sot_lang.proofs.Lists.{at_same}
+use Rattle.sot_lists.proofs.Places.{at_same}
 use Rattle.sot_tube.specs.Tubes.{Keeps}
 use Rattle.sot_tube.specs.Calls.{AnswersAnyTube}
 use Rattle.sot_tube.proofs.Follows.{info_at}

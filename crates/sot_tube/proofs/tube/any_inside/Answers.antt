@@ -1,6 +1,6 @@
 use Rattle.std.proofs.Common.{◌≡◌, ◌<◌, length, map, get_or, sym, ap, ◌∙◌, subst}
 use Rattle.sot_lang.specs.Tables.{Tables}
-use Rattle.sot_lang.specs.Places.{Has}
+use Rattle.sot_lists.specs.Places.{Has}
 use Rattle.sot_lang.specs.Ranges.{range_of, input_ranges}
 use Rattle.sot_lang.specs.TableRules.{MeetsTableRules}
 use Rattle.sot_tube.proofs.Follows.{inputs_below, are_commands, any_answers}

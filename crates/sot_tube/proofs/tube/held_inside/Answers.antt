@@ -1,6 +1,6 @@
 use Rattle.std.proofs.Common.{◌≡◌, length, get_or, sym, ap, ◌∙◌, subst}
 use Rattle.sot_lang.specs.Tables.{Tables}
-use Rattle.sot_lang.specs.Places.{Has}
+use Rattle.sot_lists.specs.Places.{Has}
 use Rattle.sot_lang.specs.OwnerNames.{seen_width}
 use Rattle.sot_lang.specs.TableRules.{MeetsTableRules}
 use Rattle.sot_tube.specs.Seen.{AreSeenHulls}

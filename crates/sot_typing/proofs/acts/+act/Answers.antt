@@ -1,5 +1,5 @@
 use Rattle.std.proofs.Common.{rules, arith}
-use Rattle.sot_lang.specs.declared.tree.Stmt.{the_lemmas}
+use Rattle.sot_tree.specs.declared.tree.Stmt.{the_lemmas}
 use Rattle.sot_typing.specs.Bodies.{scope_in}
 use Rattle.sot_typing.proofs.ActLoops.{condition_faultless, taken_faultless, other_faultless, branch_is, body_faultless, repeat_is, statement_faultless, rest_faultless, deeds_next, deeds_done}
 use Rattle.sot_typing.proofs.acts.+act.Goals as goal

@@ -1,5 +1,5 @@
 use Rattle.std.proofs.Common.{◌≡◌, [], drop}
-use Rattle.sot_lang.specs.TreeViews.{block_view}
+use Rattle.sot_tree.specs.TreeViews.{block_view}
 use Rattle.sot_rules.specs.Faults.{block_faults}
 use Rattle.sot_typing.specs.Terms.{deeds_of}
 use Rattle.sot_typing.specs.Bodies.{scope_in}

@@ -1,7 +1,7 @@
 use Rattle.std.proofs.Common.{List, sym, subst}
 use Rattle.std.specs.List.{All}
-use Rattle.sot_lang.specs.declared.tree.LocalDecl.{LocalDecl}
-use Rattle.sot_lang.specs.TreeViews.{local_view}
+use Rattle.sot_tree.specs.declared.tree.LocalDecl.{LocalDecl}
+use Rattle.sot_tree.specs.TreeViews.{local_view}
 use Rattle.sot_typing.specs.Parts.{LocalFits}
 use Rattle.sot_typing.proofs.Gathered.{all_mapped}
 use Rattle.sot_typing.proofs.infos.node_info.Goals as goal

@@ -1,6 +1,6 @@
 use Rattle.std.proofs.Common.{◌∙◌, ◌<◌, ap, length, map, arith}
 use Rattle.std.proofs.lemmas.List.{length-map, get_or_default}
-use Rattle.sot_lang.specs.TreeViews.{declaration_view}
+use Rattle.sot_tree.specs.TreeViews.{declaration_view}
 use Rattle.sot_typing.specs.Numbers.{nothing_counted}
 use Rattle.sot_typing.proofs.Found.{numbers_length, decl_at, is_meant}
 use Rattle.sot_typing.proofs.meant.look_up.Goals as goal

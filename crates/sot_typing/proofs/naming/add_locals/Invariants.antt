@@ -1,5 +1,5 @@
 use Rattle.std.proofs.Common.{◌≡◌, ◌++◌, drop, map}
-use Rattle.sot_lang.specs.TreeViews.{local_view}
+use Rattle.sot_tree.specs.TreeViews.{local_view}
 use Rattle.sot_rules.specs.Names.{local_thing}
 use Rattle.sot_typing.specs.Things.{things_in}
 use Rattle.sot_typing.proofs.naming.add_locals.Given as goal

@@ -1,5 +1,5 @@
 use Rattle.std.proofs.Common.{subst, sym, map, drop, ◌+◌}
-use Rattle.sot_lang.specs.TreeViews.{declaration_view}
+use Rattle.sot_tree.specs.TreeViews.{declaration_view}
 use Rattle.sot_typing.specs.Numbers.{FitLimits}
 use Rattle.sot_typing.proofs.Counting.{room, few_left, left_are, step_numbers}
 use Rattle.sot_typing.proofs.numbers.numbers.Goals as goal

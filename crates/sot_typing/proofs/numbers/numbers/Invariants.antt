@@ -1,5 +1,5 @@
 use Rattle.std.proofs.Common.{◌≡◌, ◌++◌, map, drop}
-use Rattle.sot_lang.specs.TreeViews.{declaration_view}
+use Rattle.sot_tree.specs.TreeViews.{declaration_view}
 use Rattle.sot_typing.specs.Numbers.{FitLimits, numbers_from, numbers_of}
 use Rattle.sot_typing.proofs.numbers.numbers.Given as goal
 

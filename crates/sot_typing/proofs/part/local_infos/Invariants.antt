@@ -1,5 +1,5 @@
 use Rattle.std.proofs.Common.{◌≡◌, map, take}
-use Rattle.sot_lang.specs.TreeViews.{local_view}
+use Rattle.sot_tree.specs.TreeViews.{local_view}
 use Rattle.sot_typing.specs.Resolved.{local_info}
 use Rattle.sot_typing.proofs.part.local_infos.Given as goal
 

@@ -1,5 +1,5 @@
 use Rattle.std.proofs.Common.{arith, ap}
-use Rattle.sot_lang.specs.TreeViews.{declaration_view}
+use Rattle.sot_tree.specs.TreeViews.{declaration_view}
 use Rattle.sot_typing.proofs.places.put_slots_meant.Goals as goal
 
 pub put_state_slots-requires : goal.put_state_slots-requires

@@ -1,8 +1,8 @@
 use Rattle.std.proofs.Common.{◌∙◌, ◌≤◌, ℕ, List, length, map, sym, ap, subst}
-use Rattle.sot_box.specs.Lists.{At}
-use Rattle.sot_lang.specs.declared.tree.Decl.{Decl}
-use Rattle.sot_lang.specs.Trees.{Plant, a_plant, Program}
-use Rattle.sot_lang.specs.TreeViews.{declaration_view, program_view}
+use Rattle.sot_lists.specs.Places.{At}
+use Rattle.sot_tree.specs.declared.tree.Decl.{Decl}
+use Rattle.sot_tree.specs.Trees.{Plant, a_plant, Program}
+use Rattle.sot_tree.specs.TreeViews.{declaration_view, program_view}
 use Rattle.sot_typing.specs.Resolved.{AreTables}
 use Rattle.sot_typing.specs.Numbers.{FitLimits, nothing_counted, numbers_of}
 use Rattle.sot_typing.specs.Fits.{AllFit}

@@ -1,5 +1,5 @@
 use Rattle.std.proofs.Common.{◌≡◌, map, take}
-use Rattle.sot_lang.specs.TreeViews.{area_view}
+use Rattle.sot_tree.specs.TreeViews.{area_view}
 use Rattle.sot_typing.specs.Resolved.{side_of}
 use Rattle.sot_typing.proofs.region.region.Given as goal
 

@@ -1,6 +1,6 @@
 use Rattle.std.proofs.Common.{◌≡◌, ◌++◌, map, drop}
 use Rattle.std.specs.Prelude.{filter_map}
-use Rattle.sot_lang.specs.TreeViews.{declaration_view}
+use Rattle.sot_tree.specs.TreeViews.{declaration_view}
 use Rattle.sot_rules.specs.Indexes.{program_in}
 use Rattle.sot_typing.specs.Resolved.{a_plant_of, plant_seen, plant_table}
 use Rattle.sot_typing.proofs.tables.plants.Given as goal

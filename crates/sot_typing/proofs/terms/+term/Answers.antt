@@ -1,8 +1,8 @@
 use Rattle.std.proofs.Common.{rules, arith, ◌≤◌, ap, ap₂, sym, subst, ◌∙◌}
-use Rattle.sot_lang.specs.declared.tree.Expr.{the_lemmas}
-use Rattle.sot_lang.specs.Trees.{binary, rescaled, chosen, called}
-use Rattle.sot_lang.specs.TreeViews.{tree_view, parts_view}
-use Rattle.sot_lang.proofs.CallRows.{call_view}
+use Rattle.sot_tree.specs.declared.tree.Expr.{the_lemmas}
+use Rattle.sot_tree.specs.Trees.{binary, rescaled, chosen, called}
+use Rattle.sot_tree.specs.TreeViews.{tree_view, parts_view}
+use Rattle.sot_tree.proofs.CallRows.{call_view}
 use Rattle.sot_rules.specs.Faults.{tree_faults}
 use Rattle.sot_typing.specs.Terms.{sort_scale}
 use Rattle.sot_typing.specs.Things.{things_in}

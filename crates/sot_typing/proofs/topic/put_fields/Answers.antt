@@ -1,4 +1,4 @@
-use Rattle.sot_lang.specs.TreeViews.{init_view}
+use Rattle.sot_tree.specs.TreeViews.{init_view}
 use Rattle.sot_rules.specs.Tests.{start_values}
 use Rattle.sot_typing.proofs.Scalars.{step_fields}
 use Rattle.sot_typing.proofs.topic.put_fields.Goals as goal

@@ -1,5 +1,5 @@
 use Rattle.std.proofs.Common.{◌≡◌, ◌++◌, drop}
-use Rattle.sot_lang.specs.TreeViews.{init_view}
+use Rattle.sot_tree.specs.TreeViews.{init_view}
 use Rattle.sot_rules.specs.Tests.{start_values}
 use Rattle.sot_typing.specs.Parts.{field_scalars}
 use Rattle.sot_typing.proofs.topic.put_fields.Given as goal

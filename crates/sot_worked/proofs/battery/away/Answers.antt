@@ -1,5 +1,5 @@
 use Rattle.std.proofs.Common.{ap}
-use Rattle.sot_lang.specs.declared.operator.Func.TheVariants.{Abs}
+use Rattle.sot_tree.specs.declared.operator.Func.TheVariants.{Abs}
 use Rattle.sot_lang.specs.declared.term.Term.{Call}
 use Rattle.sot_worked.proofs.battery.away.Goals as goal
 

@@ -1,5 +1,5 @@
 use Rattle.std.proofs.Common.{pos, subst}
-use Rattle.sot_lang.specs.declared.operator.Op.TheVariants.{Greater}
+use Rattle.sot_tree.specs.declared.operator.Op.TheVariants.{Greater}
 use Rattle.sot_lang.specs.declared.term.Term.TheVariants.{Number, Place}
 use Rattle.sot_worked.specs.Parts.{IsBinary, IsChoice}
 use Rattle.sot_worked.proofs.battery.battery.Goals as goal

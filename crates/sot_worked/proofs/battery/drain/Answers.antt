@@ -1,5 +1,5 @@
 use Rattle.std.proofs.Common.{pos, subst}
-use Rattle.sot_lang.specs.declared.operator.Op.TheVariants.{Sub}
+use Rattle.sot_tree.specs.declared.operator.Op.TheVariants.{Sub}
 use Rattle.sot_lang.specs.declared.term.Term.TheVariants.{Number, Place}
 use Rattle.sot_worked.specs.Parts.{IsBinary}
 use Rattle.sot_worked.proofs.battery.drain.Goals as goal

@@ -1,6 +1,6 @@
 use Rattle.std.proofs.Common.{ap, subst}
-use Rattle.sot_lang.specs.declared.operator.Op.TheVariants.{Add}
-use Rattle.sot_lang.specs.declared.operator.Func.TheVariants.{Clamp}
+use Rattle.sot_tree.specs.declared.operator.Op.TheVariants.{Add}
+use Rattle.sot_tree.specs.declared.operator.Func.TheVariants.{Clamp}
 use Rattle.sot_lang.specs.declared.term.Term.{Call}
 use Rattle.sot_lang.specs.declared.term.Term.TheVariants.{Place}
 use Rattle.sot_worked.specs.Parts.{IsBinary}

@@ -3,8 +3,7 @@ use Rattle.std.proofs.lemmas.List.{length-map}
 use Rattle.sot_box.specs.Sides.{Side}
 use Rattle.sot_box.specs.Regions.{IsInRegion}
 use Rattle.sot_lang.specs.TableRules.{MeetsTableRules}
-use Rattle.sot_lang.proofs.Lists.{at_same}
-use Rattle.sot_world.proofs.Reading.{read_at}
+use Rattle.sot_lists.proofs.Places.{at_same, read_at}
 use Rattle.sot_world.proofs.Parts.{next_by_keeps, next_by_safer}
 use Rattle.sot_world.proofs.decide.next_mode.Goals as goal
 

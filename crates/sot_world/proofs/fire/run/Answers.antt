@@ -4,10 +4,9 @@ use Rattle.std.proofs.lemmas.Option.{slice_get_within}
 use Rattle.sot_lang.specs.Ranges.{local_ranges, write_ranges}
 use Rattle.sot_lang.specs.Bodies as bodies
 use Rattle.sot_lang.specs.Readings.{number_at}
-use Rattle.sot_lang.proofs.Lists.{at_same}
+use Rattle.sot_lists.proofs.Places.{at_same, read_at}
 use Rattle.sot_code.specs.declared.fired.Fired.{Fired}
 use Rattle.sot_code.specs.Recorded.{recorded, in_slots}
-use Rattle.sot_world.proofs.Reading.{read_at}
 use Rattle.sot_world.proofs.fire.run.Goals as goal
 
 pub run_node-requires : goal.run_node-requires

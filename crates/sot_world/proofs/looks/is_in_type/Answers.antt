@@ -3,7 +3,8 @@ use Rattle.std.proofs.lemmas.Bool.{false≢true}
 use Rattle.std.proofs.lemmas.Option.{slice_get_read, slice_get-get_or, slice_get_within}
 use Rattle.sot_box.specs.Sides.{IsIn}
 use Rattle.sot_lang.specs.Ranges.{range_of}
-use Rattle.sot_world.proofs.Places.{range_at, words_in, tested, one_further}
+use Rattle.sot_lang.proofs.Owners.{range_at}
+use Rattle.sot_world.proofs.Places.{words_in, tested, one_further}
 use Rattle.sot_world.proofs.looks.is_in_type.Goals as goal
 
 pub returns-then-not-is_in : goal.returns-then-not-is_in

@@ -1,5 +1,5 @@
 use Rattle.std.proofs.Common.{ℕ, ◌+◌, ◌<◌, ℤ}
-use Rattle.sot_box.specs.Lists.{At}
+use Rattle.sot_lists.specs.Places.{At}
 use Rattle.sot_box.specs.Sides.{IsIn}
 use Rattle.sot_lang.specs.Ranges.{range_of}
 use Rattle.sot_world.proofs.looks.is_in_type.Given as goal

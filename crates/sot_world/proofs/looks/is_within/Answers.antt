@@ -2,7 +2,7 @@ use Rattle.std.proofs.Common.{rules, arith, pos, get_or, length, refl, sym}
 use Rattle.std.proofs.lemmas.Bool.{false≢true}
 use Rattle.std.proofs.lemmas.Option.{slice_get_read, slice_get-get_or}
 use Rattle.sot_box.specs.Sides.{Side}
-use Rattle.sot_lang.proofs.Lists.{at_map}
+use Rattle.sot_lists.proofs.Places.{at_map}
 use Rattle.sot_world.proofs.Places.{within_from, words_in, tested}
 use Rattle.sot_world.proofs.looks.is_within.Goals as goal
 

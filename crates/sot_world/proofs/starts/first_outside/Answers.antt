@@ -2,7 +2,7 @@ use Rattle.std.proofs.Common.{arith, sym, ap, ◌∙◌, subst, ◌<◌, length}
 use Rattle.std.proofs.lemmas.Bool.{false≢true}
 use Rattle.sot_box.specs.Regions.{IsInRegion}
 use Rattle.sot_lang.specs.TableRules.{MeetsTableRules}
-use Rattle.sot_world.proofs.Reading.{read_at}
+use Rattle.sot_lists.proofs.Places.{read_at}
 use Rattle.sot_world.proofs.Starting.{start_width, start_there, one_more_inside, read_list}
 use Rattle.sot_world.proofs.starts.first_outside.Goals as goal
 

@@ -1,5 +1,5 @@
 use Rattle.std.proofs.Common.{◌≡◌, ℕ, length}
-use Rattle.sot_box.specs.Lists.{At}
+use Rattle.sot_lists.specs.Places.{At}
 use Rattle.sot_world.specs.declared.role.Role.{Role}
 use Rattle.sot_world.specs.Roles.{IsRole}
 use Rattle.sot_world.proofs.starts.roles.Given as goal

@@ -2,7 +2,7 @@ use Rattle.std.proofs.Common.{◌≡◌, ◌<◌, ◌+◌, [], length, drop, tak
 use Rattle.std.proofs.lemmas.List.{length-set}
 use Rattle.sot_world.specs.Events.{cut}
 use Rattle.sot_world.specs.Changes.{MayMove, IsMoved}
-use Rattle.sot_world.proofs.Reading.{read_at}
+use Rattle.sot_lists.proofs.Places.{read_at}
 use Rattle.sot_world.proofs.Places.{noise_from}
 use Rattle.sot_world.proofs.Parts.{cut_step, set_more}
 use Rattle.sot_world.proofs.tick.move_all.Goals as goal

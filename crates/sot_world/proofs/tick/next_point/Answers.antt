@@ -2,9 +2,8 @@ use Rattle.std.proofs.Common.{◌<◌, [], length, map, take, pos, slice_index_o
 use Rattle.std.proofs.lemmas.List.{length-map}
 use Rattle.std.proofs.lemmas.Option.{slice_get_within}
 use Rattle.sot_lang.specs.Ticks.{next_state, joined}
-use Rattle.sot_lang.proofs.Lists.{at_same}
+use Rattle.sot_lists.proofs.Places.{at_same, read_at}
 use Rattle.sot_world.specs.Changes.{held_of}
-use Rattle.sot_world.proofs.Reading.{read_at}
 use Rattle.sot_world.proofs.Starting.{read_list}
 use Rattle.sot_world.proofs.Parts.{seen_length}
 use Rattle.sot_world.proofs.tick.next_point.Goals as goal

@@ -1,7 +1,6 @@
-use Rattle.std.proofs.Common.{◌≡◌, ◌<◌, length, arith, rules, ◌∙◌, w64, SFits, to_z, of_z}
+use Rattle.std.proofs.Common.{◌≡◌, ◌<◌, length, arith, rules, ◌∙◌, w64, SFits, to_z, of_z, ap, sym}
 use Rattle.std.specs.Int.{int_min, int_max}
 use Rattle.std.proofs.Math.ListN.{length-set}
-use Rattle.std.proofs.Common.{ap, sym}
 use Rattle.std.proofs.lemmas.Int.{to_z-of_z}
 use Rattle.sot_box.specs.Boxes.{lows, highs}
 use Rattle.sot_box.specs.Sweep.{coordinate}

@@ -1,5 +1,5 @@
 use Rattle.std.proofs.Common.{◌≡◌, map, take}
-use Rattle.sot_lang.specs.TreeViews.{declaration_view}
+use Rattle.sot_tree.specs.TreeViews.{declaration_view}
 use Rattle.sot_rules.specs.Indexes.{Indexes}
 use Rattle.sot_rules.proofs.index.Index.of.Given as goal
 

@@ -1,6 +1,6 @@
 use Rattle.std.proofs.Common.{◌∙◌, [], ap, length}
-use Rattle.sot_lang.specs.declared.tree.Ident.{Ident}
-use Rattle.sot_lang.specs.TreeViews.{declaration_view}
+use Rattle.sot_tree.specs.declared.tree.Ident.{Ident}
+use Rattle.sot_tree.specs.TreeViews.{declaration_view}
 use Rattle.sot_rules.proofs.Indexes.{counted, places_more, owned_more, parts_more}
 use Rattle.sot_rules.proofs.index.Index.take_in.Goals as goal
 

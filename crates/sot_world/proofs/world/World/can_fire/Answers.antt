@@ -2,7 +2,8 @@ use Rattle.std.proofs.Common.{sym, ap, ◌∙◌, subst}
 use Rattle.std.proofs.lemmas.Bool.{false≢true}
 use Rattle.std.proofs.lemmas.Option.{same_Some}
 use Rattle.sot_calendar.specs.Due.{IsDue}
-use Rattle.sot_world.proofs.Reading.{read_at, read_false}
+use Rattle.sot_lists.proofs.Places.{read_at}
+use Rattle.sot_world.proofs.Reading.{read_false}
 use Rattle.sot_world.proofs.world.World.can_fire.Goals as goal
 
 pub returns-then-due : goal.returns-then-due

@@ -1,7 +1,8 @@
 use Rattle.std.proofs.Common.{arith, sym, ap, ◌∙◌, subst, ◌+◌, length}
 use Rattle.std.proofs.lemmas.Bool.{false≢true}
 use Rattle.std.proofs.lemmas.Option.{same_Some, slice_get_within}
-use Rattle.sot_world.proofs.Reading.{read_at, topic_inside}
+use Rattle.sot_lists.proofs.Places.{read_at}
+use Rattle.sot_world.proofs.Reading.{topic_inside}
 use Rattle.sot_box.specs.Sides.{IsIn}
 use Rattle.sot_lang.specs.Ranges.{range_of}
 use Rattle.sot_lang.specs.TableRules.{MeetsTableRules}

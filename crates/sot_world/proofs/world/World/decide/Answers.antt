@@ -1,13 +1,13 @@
 use Rattle.std.proofs.Common.{◌≡◌, ◌<◌, [], true, length, refl, sym, ap, ◌∙◌, subst, arith}
 use Rattle.std.proofs.lemmas.Option.{slice_get_within}
-use Rattle.sot_box.specs.Lists.{At}
+use Rattle.sot_lists.specs.Places.{At}
 use Rattle.sot_box.specs.Boxes.{point_box}
 use Rattle.sot_tube.specs.Calls.{MayFollow}
 use Rattle.sot_world.specs.Configurations.{Sc, is_left_dm, mode_of, point_of}
 use Rattle.sot_world.specs.Steps.{Decide}
 use Rattle.sot_world.specs.Changes.{IsNextMode}
 use Rattle.sot_world.specs.WorldView.{configuration}
-use Rattle.sot_world.proofs.Reading.{read_at, read_or}
+use Rattle.sot_lists.proofs.Places.{read_at, read_or}
 use Rattle.sot_world.proofs.Stepping.{may_follow, decides_so, step_kept, step_along}
 use Rattle.sot_world.proofs.world.World.decide.Goals as goal
 

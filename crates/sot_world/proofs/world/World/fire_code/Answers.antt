@@ -3,11 +3,11 @@ use Rattle.std.specs.Prelude.{slice_set}
 use Rattle.std.specs.Vec.{with_items}
 use Rattle.std.proofs.lemmas.List.{with_items_is}
 use Rattle.std.proofs.lemmas.Option.{slice_get_within}
-use Rattle.sot_box.specs.Lists.{At}
+use Rattle.sot_lists.specs.Places.{At}
 use Rattle.sot_lang.specs.declared.act.Act.{Act}
 use Rattle.sot_lang.specs.declared.tables.NodeInfo.{NodeInfo}
 use Rattle.sot_lang.specs.TableRules.{IsCoded}
-use Rattle.sot_lang.proofs.Lists.{at_same}
+use Rattle.sot_lists.proofs.Places.{at_same, read_at, read_or}
 use Rattle.sot_world.specs.Configurations.{is_left}
 use Rattle.sot_world.specs.Steps.{Code}
 use Rattle.sot_world.specs.declared.outcome.Outcome.TheVariants as outcome
@@ -15,7 +15,6 @@ use Rattle.sot_world.specs.Outcomes.{Recorded, RecordsCode}
 use Rattle.sot_world.specs.Events.{outcome_of}
 use Rattle.sot_world.specs.Changes.{role_enables, IsOfModule}
 use Rattle.sot_world.specs.WorldView.{configuration}
-use Rattle.sot_world.proofs.Reading.{read_at, read_or}
 use Rattle.sot_world.proofs.Safety.{code_runs}
 use Rattle.sot_world.proofs.RoleModes.{role_enabled, role_inside}
 use Rattle.sot_world.proofs.FiringSteps.{may_run, code_so, code_recorded, runs_along, run_along, published_along}

@@ -3,9 +3,9 @@ use Rattle.std.specs.Prelude.{None}
 use Rattle.std.specs.Vec.{with_items}
 use Rattle.std.proofs.lemmas.List.{with_items_is}
 use Rattle.std.proofs.lemmas.Option.{slice_get_within}
-use Rattle.sot_box.specs.Lists.{At}
+use Rattle.sot_lists.specs.Places.{At}
 use Rattle.sot_lang.specs.declared.tables.NodeInfo.{NodeInfo}
-use Rattle.sot_lang.proofs.Lists.{at_same}
+use Rattle.sot_lists.proofs.Places.{at_same, read_at}
 use Rattle.sot_world.specs.Configurations.{is_left}
 use Rattle.sot_world.specs.Steps.{Guest, is_enabled}
 use Rattle.sot_world.specs.declared.outcome.Outcome.TheVariants as outcome
@@ -13,7 +13,6 @@ use Rattle.sot_world.specs.Outcomes.{NodeFired}
 use Rattle.sot_world.specs.Events.{outcome_of, slot_count}
 use Rattle.sot_world.specs.Changes.{role_enables, IsOfModule}
 use Rattle.sot_world.specs.WorldView.{configuration}
-use Rattle.sot_world.proofs.Reading.{read_at}
 use Rattle.sot_world.proofs.RoleModes.{role_enabled, role_inside}
 use Rattle.sot_world.proofs.FiringSteps.{guest_so, guest_recorded, published_along, guest_along}
 use Rattle.sot_world.proofs.Stepping.{well_formed, step_kept}

@@ -1,7 +1,7 @@
 use Rattle.std.specs.Vec.{with_items}
 use Rattle.std.proofs.lemmas.List.{with_items_is}
 use Rattle.std.proofs.Common.{◌+◌, suc, ◌≡◌, ◌<◌, ℕ, ℤ, List, [], length, slice_index_or, sym, ap, ◌∙◌, subst, arith}
-use Rattle.sot_box.specs.Lists.{At}
+use Rattle.sot_lists.specs.Places.{At}
 use Rattle.sot_lang.specs.declared.tables.PlantInfo.{PlantInfo}
 use Rattle.sot_lang.specs.Tables.{Tables}
 use Rattle.sot_world.specs.Steps.{Tick}

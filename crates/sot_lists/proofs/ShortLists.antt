@@ -1,7 +1,7 @@
 -- What holds of each element of a short list.
 use Rattle.std.proofs.Common.{ℕ, zero, suc, List, [], ◌∷◌, sym}
 use Rattle.std.proofs.lemmas.Option.{same_Some, none-some}
-use Rattle.sot_box.specs.Lists.{At}
+use Rattle.sot_lists.specs.Places.{At}
 
 module _ {A : Type 0} where
   pub at_none : (P : ℕ → A → Type 0) (n : ℕ) (x : A) → At [] n x → P n x

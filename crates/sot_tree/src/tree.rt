@@ -1,3 +1,5 @@
+//! The trees of a program as it is written.
+
 use crate::name::Name;
 use crate::operator::{Func, Op};
 use sot_text::Span;

@@ -2,12 +2,12 @@
 use Rattle.std.proofs.Common.{◌≡◌, refl, ap, ap₂, ◌∙◌}
 use Rattle.std.specs.Global.{Vec}
 use Rattle.sot_text.specs.declared.token.Span.{Span}
-use Rattle.sot_lang.specs.declared.tree.Lit.{Lit}
-use Rattle.sot_lang.specs.declared.tree.Expr.{Expr}
-use Rattle.sot_lang.specs.declared.tree.Stmt.{Stmt, If, Repeat, Row_of-Stmt, end_of-Stmt, more_of-Stmt, items-the_row-Stmt, items_hidden-the_row-Stmt-0}
-use Rattle.sot_lang.specs.declared.tree.Stmt.TheBlock.{hidden-the_row-Stmt-0}
-use Rattle.sot_lang.specs.Trees.{branched, repeated, statement}
-use Rattle.sot_lang.specs.TreeViews.{tree_view, statement_view, row_view, block_view}
+use Rattle.sot_tree.specs.declared.tree.Lit.{Lit}
+use Rattle.sot_tree.specs.declared.tree.Expr.{Expr}
+use Rattle.sot_tree.specs.declared.tree.Stmt.{Stmt, If, Repeat, Row_of-Stmt, end_of-Stmt, more_of-Stmt, items-the_row-Stmt, items_hidden-the_row-Stmt-0}
+use Rattle.sot_tree.specs.declared.tree.Stmt.TheBlock.{hidden-the_row-Stmt-0}
+use Rattle.sot_tree.specs.Trees.{branched, repeated, statement}
+use Rattle.sot_tree.specs.TreeViews.{tree_view, statement_view, row_view, block_view}
 
 row_items : {m : _} (ss : Row_of-Stmt m) → row_view ss ≡ block_view (items-the_row-Stmt _ ss)
 row_items end_of-Stmt = refl

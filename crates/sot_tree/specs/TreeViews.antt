@@ -1,22 +1,22 @@
 -- The trees that the code holds, as contracts see them.
 use Rattle.std.specs.Prelude.{List, [], ◌∷◌, map, Option, None, Some}
-use Rattle.sot_lang.specs.declared.tree.Expr.{Expr, Number, Truth, Ref, Binary', Rest', Neg', Not', Call', Rescale', If', Row_of-Expr, end_of-Expr, more_of-Expr}
-use Rattle.sot_lang.specs.declared.tree.Stmt.{Stmt, Assign, Publish, If' as IfStmt', Repeat', Row_of-Stmt, end_of-Stmt, more_of-Stmt}
-use Rattle.sot_lang.specs.declared.tree.Shape.{Shape}
-use Rattle.sot_lang.specs.declared.tree.Shape.TheVariants as shapes
-use Rattle.sot_lang.specs.declared.tree.Init.{Init}
-use Rattle.sot_lang.specs.declared.tree.Init.TheVariants as inits
-use Rattle.sot_lang.specs.declared.tree.TopicDecl.{TopicDecl}
-use Rattle.sot_lang.specs.declared.tree.NextDecl.{NextDecl}
-use Rattle.sot_lang.specs.declared.tree.LocalDecl.{LocalDecl}
-use Rattle.sot_lang.specs.declared.tree.PlantDecl.{PlantDecl}
-use Rattle.sot_lang.specs.declared.tree.NodeDecl.{NodeDecl}
-use Rattle.sot_lang.specs.declared.tree.BoxDecl.{BoxDecl}
-use Rattle.sot_lang.specs.declared.tree.ModuleDecl.{ModuleDecl}
-use Rattle.sot_lang.specs.declared.tree.Decl.{Decl}
-use Rattle.sot_lang.specs.declared.tree.Decl.TheVariants as decls
-use Rattle.sot_lang.specs.declared.tree.Program.{Program as CodeProgram}
-use Rattle.sot_lang.specs.Trees.{Tree, Trees, number, truth, named, binary, rest, negated, denied, called, rescaled, chosen, no_tree, one_more, Statement, Block, assigned, published, branched, repeated, no_statement, statement, Form, one, fields, Start, one_value, values, Topic, Next, Local, Plant, Node, Area, Module, Declaration, a_topic, a_plant, a_node, a_module, Program}
+use Rattle.sot_tree.specs.declared.tree.Expr.{Expr, Number, Truth, Ref, Binary', Rest', Neg', Not', Call', Rescale', If', Row_of-Expr, end_of-Expr, more_of-Expr}
+use Rattle.sot_tree.specs.declared.tree.Stmt.{Stmt, Assign, Publish, If' as IfStmt', Repeat', Row_of-Stmt, end_of-Stmt, more_of-Stmt}
+use Rattle.sot_tree.specs.declared.tree.Shape.{Shape}
+use Rattle.sot_tree.specs.declared.tree.Shape.TheVariants as shapes
+use Rattle.sot_tree.specs.declared.tree.Init.{Init}
+use Rattle.sot_tree.specs.declared.tree.Init.TheVariants as inits
+use Rattle.sot_tree.specs.declared.tree.TopicDecl.{TopicDecl}
+use Rattle.sot_tree.specs.declared.tree.NextDecl.{NextDecl}
+use Rattle.sot_tree.specs.declared.tree.LocalDecl.{LocalDecl}
+use Rattle.sot_tree.specs.declared.tree.PlantDecl.{PlantDecl}
+use Rattle.sot_tree.specs.declared.tree.NodeDecl.{NodeDecl}
+use Rattle.sot_tree.specs.declared.tree.BoxDecl.{BoxDecl}
+use Rattle.sot_tree.specs.declared.tree.ModuleDecl.{ModuleDecl}
+use Rattle.sot_tree.specs.declared.tree.Decl.{Decl}
+use Rattle.sot_tree.specs.declared.tree.Decl.TheVariants as decls
+use Rattle.sot_tree.specs.declared.tree.Program.{Program as CodeProgram}
+use Rattle.sot_tree.specs.Trees.{Tree, Trees, number, truth, named, binary, rest, negated, denied, called, rescaled, chosen, no_tree, one_more, Statement, Block, assigned, published, branched, repeated, no_statement, statement, Form, one, fields, Start, one_value, values, Topic, Next, Local, Plant, Node, Area, Module, Declaration, a_topic, a_plant, a_node, a_module, Program}
 
 abbrev mutual
   pub tree_view : Expr → Tree

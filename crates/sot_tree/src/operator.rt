@@ -1,3 +1,5 @@
+//! Operators and functions.
+
 /// An operator between two operands.
 #[derive(Clone, Copy, Debug, PartialEq, Eq)]
 pub enum Op {

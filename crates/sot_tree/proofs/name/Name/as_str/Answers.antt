@@ -1,7 +1,7 @@
 use Rattle.std.proofs.Common.{sym, subst}
 use Rattle.std.specs.Str.{IsUtf8}
-use Rattle.sot_lang.proofs.Names.{name_utf8}
-use Rattle.sot_lang.proofs.name.Name.as_str.Goals as goal
+use Rattle.sot_tree.proofs.Names.{name_utf8}
+use Rattle.sot_tree.proofs.name.Name.as_str.Goals as goal
 
 pub unreachable-requires : goal.unreachable-requires
 unreachable-requires c = c.in-Err.ensures.cases.0 (subst IsUtf8 (sym c.deref.ensures.value) (name_utf8 c.self.inside.bytes.items c.self.invariant))

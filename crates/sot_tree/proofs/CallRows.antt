@@ -2,11 +2,11 @@
 use Rattle.std.proofs.Common.{◌≡◌, refl, ap, ◌∙◌}
 use Rattle.std.specs.Global.{Vec}
 use Rattle.sot_text.specs.declared.token.Span.{Span}
-use Rattle.sot_lang.specs.declared.operator.Func.{Func}
-use Rattle.sot_lang.specs.declared.tree.Expr.{Expr, Call, Row_of-Expr, end_of-Expr, more_of-Expr, items-the_row-Expr, items_hidden-the_row-Expr-0}
-use Rattle.sot_lang.specs.declared.tree.Expr.TheBlock.{hidden-the_row-Expr-0}
-use Rattle.sot_lang.specs.Trees.{called, one_more}
-use Rattle.sot_lang.specs.TreeViews.{tree_view, trees_view, parts_view}
+use Rattle.sot_tree.specs.declared.operator.Func.{Func}
+use Rattle.sot_tree.specs.declared.tree.Expr.{Expr, Call, Row_of-Expr, end_of-Expr, more_of-Expr, items-the_row-Expr, items_hidden-the_row-Expr-0}
+use Rattle.sot_tree.specs.declared.tree.Expr.TheBlock.{hidden-the_row-Expr-0}
+use Rattle.sot_tree.specs.Trees.{called, one_more}
+use Rattle.sot_tree.specs.TreeViews.{tree_view, trees_view, parts_view}
 
 row_items : {m : _} (es : Row_of-Expr m) → trees_view es ≡ parts_view (items-the_row-Expr _ es)
 row_items end_of-Expr = refl

@@ -1,0 +1,6 @@
+-- a program as it is written
+pub mod Trees
+pub mod TreeViews
+pub mod Functions
+-- what the grammar makes sure of
+pub mod Formed

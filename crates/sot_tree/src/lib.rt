@@ -1,0 +1,13 @@
+//! A program as it is written: names, operators, and the trees of declarations, statements and expressions.
+#![tactic(auto)]
+
+mod name;
+mod operator;
+mod tree;
+
+pub use name::Name;
+pub use operator::{Func, Op};
+pub use tree::{
+    Bounds, BoxDecl, Const, Decl, Expr, Field, Ident, Init, Lit, LocalDecl, ModuleDecl, NextDecl,
+    NodeDecl, PlantDecl, Program, Scalar, Shape, StateDecl, Stmt, TopicDecl,
+};
