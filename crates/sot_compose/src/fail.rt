@@ -1,3 +1,5 @@
+//! Why a program is not accepted.
+
 use sot_rta::Refusal;
 
 /// Why a program is not accepted.

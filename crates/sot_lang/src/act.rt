@@ -1,3 +1,5 @@
+//! Statements whose names are places.
+
 use crate::term::Term;
 use sot_text::Span;
 

@@ -1,3 +1,5 @@
+//! Drafts: what a firing writes.
+
 ghost use Rattle.std.specs.Prelude.{◌≡◌, ◌<◌, None, Some, replicate, slice_get, slice_set};
 
 use std::marker::Model;

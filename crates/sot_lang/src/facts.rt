@@ -1,3 +1,5 @@
+//! Worked values, firings and ticks, and the running example.
+
 ghost use Rattle.std.specs.Global.{Global};
 ghost use Rattle.sot_lang.specs.Examples.{QuotientsAreFloors, ZeroDivides, WideResultsTrap, Comparisons, TruthTables, Functions, Rescales, OperandsFromTheLeft, OneBranch, Calls, OtherExpressions};
 ghost use Rattle.sot_lang.specs.BodyExamples.{LaterDrafts, AssignmentsAreRead, OutsideIsATrap, FirstTrap, Blocks, SlowTurnsBack, ReadingsInOrder, TickOfTheLine, PlantNamesInOrder, OldStateIsRead, ReachOfTheLine};

@@ -1,3 +1,5 @@
+//! The rows of a program's tables.
+
 use crate::act::Act;
 use crate::term::Term;
 use sot_box::Region;

@@ -1,3 +1,5 @@
+//! Expressions whose names are places.
+
 use sot_text::Span;
 use sot_tree::{Func, Op};
 

@@ -1,3 +1,5 @@
+//! Traps: where and why an evaluation stops.
+
 use sot_text::Span;
 
 /// Why an evaluation stops.

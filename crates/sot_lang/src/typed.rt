@@ -1,3 +1,5 @@
+//! The tables of a program together, with the rules that they keep.
+
 use crate::tables::{ModuleInfo, NodeInfo, PlantInfo, ScalarInfo, TopicInfo};
 use std::marker::Model;
 

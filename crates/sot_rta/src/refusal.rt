@@ -1,3 +1,5 @@
+//! The fifteen refusals, with their evidence.
+
 use sot_box::{BoxN, Point};
 use sot_lang::TrapKind;
 use sot_text::Span;

@@ -1,3 +1,5 @@
+//! Certificates of worked missions, made from the cells that are handed in.
+
 ghost use Rattle.std.specs.Prelude.{◌≡◌, ◌≤ℤ◌, ◌∷◌, [], pos, IfOk};
 ghost use Rattle.sot_trials.specs.Entries.{AreCells, AreCellsBoth, FitsAll};
 

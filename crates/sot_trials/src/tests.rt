@@ -1,4 +1,7 @@
+//! Tests of the layers together.
+
 mod drive;
+mod histories;
 mod pairs;
 mod verdicts;
 mod worlds;

@@ -1,5 +1,5 @@
 -- Worked tubes, certificates and well-formed programs, as statements that functions without a body prove.
-use Rattle.std.specs.Prelude.{ℤ, pos, negsuc, Option, List, [], ◌∷◌, Some, ◌≡◌}
+use Rattle.std.specs.Prelude.{ℤ, pos, negsuc, Option, List, [], ◌∷◌, Some, ◌≡◌, false}
 use Rattle.std.proofs.Common.{refl}
 use Rattle.std.specs.Global.{Global, Vec}
 use Rattle.sot_lang.specs.declared.act.Act.{Act}

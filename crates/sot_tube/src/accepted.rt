@@ -1,3 +1,5 @@
+//! A program with the certificate that shows it to be safe.
+
 ghost use Rattle.std.specs.Prelude.{◌≡◌};
 ghost use Rattle.sot_tube.specs.Certified.{IsWellCertified};
 

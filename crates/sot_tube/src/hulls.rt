@@ -1,3 +1,5 @@
+//! The least boxes around the safe regions of the plants that a plant sees.
+
 ghost use Rattle.std.specs.Prelude.{◌≡◌, ◌≢◌, ℕ, [], ◌+◌, ◌≤◌, ◌++◌, length};
 ghost use Rattle.sot_lists.specs.Places.{Has};
 ghost use Rattle.sot_lang.specs.OwnerNames.{seen_width};

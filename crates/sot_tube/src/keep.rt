@@ -1,3 +1,5 @@
+//! Whether a module keeps its plant safe from a point on.
+
 ghost use Rattle.std.specs.Prelude.{◌≡◌, IsTrue, ◌↔◌};
 ghost use Rattle.sot_lang.specs.declared.tables.ModuleInfo.{ModuleInfo};
 ghost use Rattle.sot_lists.specs.Places.{At};

@@ -1,3 +1,5 @@
+//! How a tube leaves a region.
+
 use sot_box::{BoxN, Point};
 use sot_text::Span;
 

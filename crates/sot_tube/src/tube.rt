@@ -1,3 +1,5 @@
+//! Whether a tube of a module's plant is inside its safe region.
+
 ghost use Rattle.std.specs.Prelude.{◌≡◌, ℕ, ◌<◌, ◌≤◌, ◌≤ℤ◌, length, map};
 ghost use Rattle.sot_lists.specs.Places.{Has, At};
 ghost use Rattle.sot_lang.specs.Ranges.{range_of};

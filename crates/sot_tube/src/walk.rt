@@ -1,3 +1,5 @@
+//! A tube, followed box by box.
+
 ghost use Rattle.std.specs.Prelude.{◌≡◌, ◌<◌, length, MatchResult};
 ghost use Rattle.sot_lang.specs.declared.tables.PlantInfo.{PlantInfo};
 ghost use Rattle.sot_lists.specs.Places.{At};

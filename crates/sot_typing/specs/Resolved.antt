@@ -1,5 +1,5 @@
 -- The tables of a program.
-use Rattle.std.specs.Prelude.{◌≡◌, ℕ, zero, suc, Bool, ℤ, pos, List, [], ◌∷◌, map, length, zip, Option, Some, None, option_map, nat_abs, flat_map, filter_map, sum_by, take}
+use Rattle.std.specs.Prelude.{◌≡◌, ℕ, zero, suc, Bool, ℤ, pos, List, [], ◌∷◌, map, length, zip, Option, Some, None, option_map, nat_abs, flat_map, filter_map, sum_by, take, false}
 use Rattle.std.specs.List.{position_or_len}
 use Rattle.sot_box.specs.BoxList.{BoxList}
 use Rattle.sot_box.specs.Sides.{Side}

@@ -1,4 +1,4 @@
-ghost use Rattle.std.specs.Prelude.{◌≡◌, ◌<◌, ◌≤◌, ◌≤ℤ◌, length, map, IfOk};
+ghost use Rattle.std.specs.Prelude.{◌≡◌, ◌<◌, ◌≤◌, ◌≤ℤ◌, length, map, IfOk, false};
 ghost use Rattle.std.specs.List.{All};
 ghost use Rattle.sot_tree.specs.TreeViews.{area_view};
 ghost use Rattle.sot_typing.specs.Resolved.{side_of};

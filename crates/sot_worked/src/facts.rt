@@ -1,4 +1,4 @@
-ghost use Rattle.std.specs.Prelude.{◌≡◌, pos, [], ◌∷◌};
+ghost use Rattle.std.specs.Prelude.{◌≡◌, pos, [], ◌∷◌, false};
 ghost use Rattle.std.specs.Global.{Global};
 ghost use Rattle.sot_lang.specs.Line.{side};
 ghost use Rattle.sot_lang.specs.SafeRegions.{safe_of};

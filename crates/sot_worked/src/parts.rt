@@ -1,4 +1,4 @@
-ghost use Rattle.std.specs.Prelude.{◌≡◌, ◌≤ℤ◌, ◌∷◌, [], IfOk};
+ghost use Rattle.std.specs.Prelude.{◌≡◌, ◌≤ℤ◌, ◌∷◌, [], IfOk, false};
 ghost use Rattle.sot_text.specs.declared.token.Kind.TheVariants.{Name as NameKind};
 ghost use Rattle.sot_text.specs.Lexeme.{IsTokenText};
 ghost use Rattle.sot_worked.specs.Parts.{one_topic, whole_number, place, IsBinary, IsChoice};

@@ -1,3 +1,5 @@
+//! What happens in an instant.
+
 use sot_lang::Draft;
 
 /// What happens in an instant of a run. Topics, nodes and modules are named by their places in declared order.

@@ -1,3 +1,5 @@
+//! Worked configurations, steps and runs.
+
 ghost use Rattle.std.specs.Prelude.{◌≡◌, ℤ, pos, negsuc, true, false, Some, None, List, [], ◌∷◌};
 ghost use Rattle.std.specs.Global.{Global};
 ghost use Rattle.sot_lang.specs.Line.{line};

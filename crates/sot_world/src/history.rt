@@ -1,3 +1,5 @@
+//! The events of a run as they are recorded.
+
 ghost use Rattle.std.specs.Prelude.{◌≡◌, ℕ, ◌+◌, ◌<◌, ◌≤◌, [], ◌∷◌, ◌++◌, ℤ, List, length, slice_get, Some, IfOk, vec_len, vec_capacity};
 ghost use Rattle.sot_world.specs.Histories.{entry_of, numbers_in};
 ghost use Rattle.sot_world.specs.HistoryRecords.{logged, end_of};

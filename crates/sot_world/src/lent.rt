@@ -1,3 +1,5 @@
+//! The numbers that a node reads, lent from a world.
+
 ghost use Rattle.std.specs.Prelude.{◌≡◌, map};
 ghost use Rattle.sot_lang.specs.Readings.{number_at};
 ghost use Rattle.sot_world.specs.Changes.{IsThere, AreThere};

@@ -36,6 +36,3 @@ pub use theorems::{
     the_invariant_is_safe, without_jitter,
 };
 pub use world::World;
-
-#[cfg(test)]
-mod tests;

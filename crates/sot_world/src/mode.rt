@@ -1,3 +1,5 @@
+//! The two modes of a module.
+
 /// Which of a module's two nodes is enabled.
 #[derive(Clone, Copy, Debug, PartialEq, Eq)]
 pub enum Mode {

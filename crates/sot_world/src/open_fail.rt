@@ -1,3 +1,5 @@
+//! Why no world opens.
+
 /// Why no world opens.
 #[derive(Clone, Copy, Debug, PartialEq, Eq)]
 pub enum OpenFail {

@@ -1,3 +1,5 @@
+//! What a step records, and why an event cannot happen.
+
 use crate::mode::Mode;
 use sot_lang::Draft;
 

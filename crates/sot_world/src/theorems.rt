@@ -1,3 +1,5 @@
+//! The theorems on runs.
+
 ghost use Rattle.sot_world.specs.Headline.{OpeningsKeepInvariant, StepsKeepInvariant, WellFormedRunsKeepInvariant, InvariantIsSafe, CertifiedRunsAreSafe};
 ghost use Rattle.sot_world.specs.Progress.{StepsAreUnique, SomethingCanHappen};
 ghost use Rattle.sot_world.specs.Possible.{PossibleIsStep};

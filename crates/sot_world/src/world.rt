@@ -1,3 +1,5 @@
+//! A configuration of a run of an accepted program.
+
 ghost use Rattle.std.specs.Prelude.{◌≡◌, ℕ, ◌<◌, ◌≤◌, length, true, MatchResult, IsTrue, ◌↔◌, IfOk, IfErr};
 ghost use Rattle.sot_lists.specs.Places.{At};
 ghost use Rattle.sot_lang.specs.declared.tables.TopicInfo.{TopicInfo};

@@ -1,3 +1,5 @@
+//! Answers: a status with the text that is written with it.
+
 ghost use Rattle.std.specs.Prelude.{◌≡◌, IfOk};
 ghost use Rattle.sot_tree.specs.TreeViews.{program_view};
 ghost use Rattle.sot_print.specs.Canonical.{canonical};

@@ -1,3 +1,5 @@
+//! Tests of `check` on whole missions.
+
 use super::*;
 use crate::top::soter;
 use sot_ports::{MemSink, PureSource};

@@ -1,3 +1,5 @@
+//! Tests of the limits of programs, one below and one above each.
+
 use super::*;
 use crate::check_tests::{MODULE, OWN_MODULE, checked, mission};
 use std::alloc::Global;

@@ -1,3 +1,5 @@
+//! How a test hands an event to a world: only where the event names things that are there.
+
 // Events as tests hand them to a world.
 ghost use Rattle.std.specs.Prelude.{◌≡◌, List, None, length, IsTrue};
 ghost use Rattle.sot_lists.specs.Places.{At};

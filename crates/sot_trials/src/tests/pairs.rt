@@ -1,3 +1,5 @@
+//! The vehicle beside a battery: verdicts, and one instant in all its orders.
+
 // The vehicle beside a battery that sees it. All numbers were worked out by hand, and those of the checks again by a program that
 // was written from the rules alone.
 ghost use Rattle.std.specs.Prelude.{◌≡◌, ◌≤ℤ◌, ◌∷◌, [], pos, IfOk};

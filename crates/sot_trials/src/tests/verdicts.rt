@@ -1,3 +1,5 @@
+//! Verdicts on the vehicle on a line and on divisions.
+
 // What is accepted, and for what the rest is refused. The evidence was worked out by hand, and again by a program that was
 // written from the rules alone.
 ghost use Rattle.std.specs.Prelude.{◌≤ℤ◌, ◌∷◌, [], ◌≡◌};

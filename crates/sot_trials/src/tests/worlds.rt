@@ -1,5 +1,6 @@
-// The vehicle on a line, opened and stepped. What comes of each step was worked out by hand, and the flight again by a program
-// that was written from the rules alone.
+//! The vehicle on a line, opened and stepped. What comes of each step was worked out by hand, and the flight again by a program
+//! that was written from the rules alone.
+
 ghost use Rattle.std.specs.Prelude.{◌≡◌, ◌∷◌, [], IfOk, IfSome};
 ghost use Rattle.sot_lang.specs.CertRules.{FitsTables};
 ghost use Rattle.sot_worked.specs.Line.{IsLine, IsMove};

@@ -1,5 +1,7 @@
-use super::*;
+//! What a history hands out.
+
 use sot_lang::Draft;
+use sot_world::{Entry, History, Mode};
 
 #[test]
 fn a_history_hands_out_what_was_pushed(rt: HostRuntime) {
