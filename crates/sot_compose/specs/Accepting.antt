@@ -11,10 +11,10 @@ use Rattle.sot_compose.specs.declared.fail.CheckFail.TheVariants.{Refused, Memor
 
 -- the first condition that fails; nothing takes memory
 abbrev pub Fails : Tables → Cert → CheckFail → Type 0
-Fails p cert (Refused r) = (verdict p 0 cert).Refuses (refusal_view r)
+Fails p cert (Refused r) = (verdict p cert.jitter cert).Refuses (refusal_view r)
 Fails p cert Memory = ⊥
 
 -- this program with this certificate, which is well certified; or the first condition that fails
 abbrev pub Accepts : Tables → Cert → Result Admitted CheckFail → Type 0
-Accepts p cert (Ok accepted) = (accepted ≡ record { program = p; cert = cert }) × IsWellCertified p 0 cert
+Accepts p cert (Ok accepted) = (accepted ≡ record { program = p; cert = cert }) × IsWellCertified p cert.jitter cert
 Accepts p cert (Err fail) = Fails p cert fail

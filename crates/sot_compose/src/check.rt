@@ -80,7 +80,7 @@ fn cells(p: &Typed, c: &Cert) -> Result<(), Refusal>
     requires rules { MeetsTableRules p.now }
     requires fits { FitsTables p.now c.now }
     requires may { MayHaveCells p.now }
-    ensures { Answers (for_each p.now.modules (cells_of p.now 0 c.now)) result }
+    ensures { Answers (for_each p.now.modules (cells_of p.now c.now.jitter c.now)) result }
 {
     for module in 0..p.modules.len() as u32 {
         let _info = module_at(p, module);
@@ -94,7 +94,7 @@ fn cells(p: &Typed, c: &Cert) -> Result<(), Refusal>
 fn checked(p: &Typed, c: &Cert) -> Result<(), Refusal>
     requires rules { MeetsTableRules p.now }
     requires fits { FitsTables p.now c.now }
-    ensures { Answers (verdict p.now 0 c.now) result }
+    ensures { Answers (verdict p.now c.now.jitter c.now) result }
 {
     if let Err(refusal) = check_composition(p) {
         return Err(refusal);
@@ -113,12 +113,12 @@ fn checked(p: &Typed, c: &Cert) -> Result<(), Refusal>
 /// short periods, outputs in common, regions that are not empty; then per coded node no trap; then per module its closed cells
 /// and its reach cells. `c` is a certificate of this program. Takes no memory.
 ///
-/// Of an accepted program every run from plants in their safer regions is safe: at each tick every module's plant is in the
-/// module's safe region, and no coded node traps.
+/// Of an accepted program every run from plants in their safer regions is safe, with firings up to the certificate's jitter late:
+/// at each tick every module's plant is in the module's safe region, and no coded node traps.
 pub fn check_all<'a>(p: &'a Typed, c: &'a Cert) -> Result<Accepted<'a>, CheckFail>
     requires { FitsTables p.now c.now }
     ensures answer { Accepts p.now c.now result }
-    ensures safe { IfOk result (λ _. EveryRunIsSafe p.now 0) }
+    ensures safe { IfOk result (λ _. EveryRunIsSafe p.now c.now.jitter) }
 {
     // A look at the tables brings their rules, which their type keeps.
     let _modules = p.modules.len();

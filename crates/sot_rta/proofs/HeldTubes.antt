@@ -51,12 +51,12 @@ module _ (p : Tables) (rules : MeetsTableRules p) (may : MayHaveCells p) (m : �
       (n.1, subst (λ (x : NodeInfo). IsCoded x n.1) (same_Some n.0 sc (sym n.2 ∙ sc_at)) n.3)
 
   module _ (cell : List Side) (ordered : AreOrdered cell) (covered : Covers a.safe.boxes cell) (result : OrMayTrap (List Drafted)) (drafts : IsCellDraft p a.plant cell sc result) where
-    abbrev Answered : PlantInfo → NodeInfo → List Act → Result (Unit {0}) Leave → Type 0
-    Answered plant sc acts r =
+    abbrev Answered : ℕ → PlantInfo → NodeInfo → List Act → Result (Unit {0}) Leave → Type 0
+    Answered jitter plant sc acts r =
         (fired : Intervals) × DraftsFrom p a sc acts cell fired
         × MatchResult r
-        (λ _. TubeInside p plant (command_intervals p plant sc fired.draft) a.safe.boxes cell (sc.period + 0))
-        (λ leave. TubeLeaves p plant (command_intervals p plant sc fired.draft) a.safe.boxes cell (sc.period + 0) leave)
+        (λ _. TubeInside p plant (command_intervals p plant sc fired.draft) a.safe.boxes cell (sc.period + jitter))
+        (λ leave. TubeLeaves p plant (command_intervals p plant sc fired.draft) a.safe.boxes cell (sc.period + jitter) leave)
 
     -- what it drafts from the cell, without a trap
     pub fires : (fired : Intervals) × DraftsFrom p a sc is_coded.0 cell fired × (result ≡ drafts_of (Ok fired))
@@ -71,9 +71,9 @@ module _ (p : Tables) (rules : MeetsTableRules p) (may : MayHaveCells p) (m : �
     is_ok = subst IsOk (sym fires.2) refl
 
     -- the tube's answer, with the commands that were found
-    pub answers : (draft : List Drafted) → result ≡ Ok draft → (inputs writes : List ℕ) (held : List Side) → inputs ≡ plant.inputs.items → writes ≡ sc.writes.items → held ≡ map (command_interval p writes draft) inputs
-        → (r : Result (Unit {0}) Leave) → AnswersTube p m held cell sc.period r → AnswersHeldTube p a cell r
-    answers draft is inputs writes held inputs_are writes_are held_is r tube plant' sc' acts plant_at' sc_at' coded =
+    pub answers : (jitter : ℕ) (draft : List Drafted) → result ≡ Ok draft → (inputs writes : List ℕ) (held : List Side) → inputs ≡ plant.inputs.items → writes ≡ sc.writes.items → held ≡ map (command_interval p writes draft) inputs
+        → (r : Result (Unit {0}) Leave) → AnswersTube p m held cell (sc.period + jitter) r → AnswersHeldTube p jitter a cell r
+    answers jitter draft is inputs writes held inputs_are writes_are held_is r tube plant' sc' acts plant_at' sc_at' coded =
         let same_p : plant ≡ plant' = same_Some plant plant' (sym plant_at ∙ plant_at') in
         let same_s : sc ≡ sc' = same_Some sc sc' (sym sc_at ∙ sc_at') in
         let body : is_coded.0 ≡ acts = one_body sc is_coded.0 acts is_coded.1 (subst (λ (x : NodeInfo). IsCoded x acts) (sym same_s) coded) in
@@ -82,11 +82,9 @@ module _ (p : Tables) (rules : MeetsTableRules p) (may : MayHaveCells p) (m : �
         let commands : held ≡ command_intervals p plant sc f.0.draft =
         held_is ∙ ap (map (command_interval p writes draft)) inputs_are ∙ ap (λ l. map (command_interval p l draft) plant.inputs.items) writes_are ∙ ap (λ l. map (command_interval p sc.writes.items l) plant.inputs.items) drafted
         ∙ map_same (command_interval p sc.writes.items (f.0.draft ++ replicate (8 - length f.0.draft) Absent)) (command_interval p sc.writes.items f.0.draft) plant.inputs.items (λ k. padded p k sc.writes.items f.0.draft (8 - length f.0.draft)) in
-        let period : sc.period ≡ sc.period + 0 = omega arith in
-        let found : Answered plant sc is_coded.0 r = (
+        let found : Answered jitter plant sc is_coded.0 r = (
           f.0,
           f.1,
-          subst (λ n. MatchResult r (λ _. TubeInside p plant (command_intervals p plant sc f.0.draft) a.safe.boxes cell n) (λ leave. TubeLeaves p plant (command_intervals p plant sc f.0.draft) a.safe.boxes cell n leave)) period
-              (subst (λ l. MatchResult r (λ _. TubeInside p plant l a.safe.boxes cell sc.period) (λ leave. TubeLeaves p plant l a.safe.boxes cell sc.period leave)) commands (tube a plant at plant_at)),
+          subst (λ l. MatchResult r (λ _. TubeInside p plant l a.safe.boxes cell (sc.period + jitter)) (λ leave. TubeLeaves p plant l a.safe.boxes cell (sc.period + jitter) leave)) commands (tube a plant at plant_at),
         ) in
-        subst (λ q. Answered q sc' acts r) same_p (subst (λ q. Answered plant q acts r) same_s (subst (λ q. Answered plant sc q r) body found))
+        subst (λ q. Answered jitter q sc' acts r) same_p (subst (λ q. Answered jitter plant q acts r) same_s (subst (λ q. Answered jitter plant sc q r) body found))

@@ -29,35 +29,35 @@ pub record MayHaveCells (p : Tables) : Type 0 where
   pub free : (n : ℕ) (node : NodeInfo) (acts : List Act) → At p.nodes n node → IsCoded node acts → IsTrapFree p node acts
 
 -- whether the held tube of a cell is inside the safe region, with what the safe node surely drafts from the cell, and else how it leaves
-abbrev pub AnswersHeldTube : Tables → ModuleInfo → List Side → Result (Unit {0}) Leave → Type 0
-AnswersHeldTube p a cell result =
+abbrev pub AnswersHeldTube : Tables → ℕ → ModuleInfo → List Side → Result (Unit {0}) Leave → Type 0
+AnswersHeldTube p jitter a cell result =
     (plant : PlantInfo) (sc : NodeInfo) (acts : List Act) → At p.plants a.plant plant → At p.nodes a.sc sc → IsCoded sc acts
     → (fired : Intervals) × DraftsFrom p a sc acts cell fired
     × MatchResult result
-    (λ _. TubeInside p plant (command_intervals p plant sc fired.draft) a.safe.boxes cell (sc.period + 0))
-    (λ leave. TubeLeaves p plant (command_intervals p plant sc fired.draft) a.safe.boxes cell (sc.period + 0) leave)
+    (λ _. TubeInside p plant (command_intervals p plant sc fired.draft) a.safe.boxes cell (sc.period + jitter))
+    (λ leave. TubeLeaves p plant (command_intervals p plant sc fired.draft) a.safe.boxes cell (sc.period + jitter) leave)
 
 -- the answer of a closed cell
-abbrev pub AnswersClosedCell : Tables → ℕ → ModuleInfo → ℕ → List Side → Result (Unit {0}) Refusal → Type 0
-AnswersClosedCell p m a i cell result =
+abbrev pub AnswersClosedCell : Tables → ℕ → ℕ → ModuleInfo → ℕ → List Side → Result (Unit {0}) Refusal → Type 0
+AnswersClosedCell p jitter m a i cell result =
     (plant : PlantInfo) (sc : NodeInfo) (acts : List Act) → At p.plants a.plant plant → At p.nodes a.sc sc → IsCoded sc acts
-    → Answers (closed_cell p 0 m a plant sc acts i cell) result
+    → Answers (closed_cell p jitter m a plant sc acts i cell) result
 
 -- of a reach cell
-abbrev pub AnswersReachCell : Tables → ℕ → ModuleInfo → ℕ → List Side → Result (Unit {0}) Refusal → Type 0
-AnswersReachCell p m a i cell result = (plant : PlantInfo) → At p.plants a.plant plant → Answers (reach_cell p 0 m a plant i cell) result
+abbrev pub AnswersReachCell : Tables → ℕ → ℕ → ModuleInfo → ℕ → List Side → Result (Unit {0}) Refusal → Type 0
+AnswersReachCell p jitter m a i cell result = (plant : PlantInfo) → At p.plants a.plant plant → Answers (reach_cell p jitter m a plant i cell) result
 
 -- of all closed cells, and of all reach cells
-abbrev pub AnswersClosedCells : Tables → ℕ → ModuleInfo → List (List Side) → Result (Unit {0}) Refusal → Type 0
-AnswersClosedCells p m a cells result =
+abbrev pub AnswersClosedCells : Tables → ℕ → ℕ → ModuleInfo → List (List Side) → Result (Unit {0}) Refusal → Type 0
+AnswersClosedCells p jitter m a cells result =
     (plant : PlantInfo) (sc : NodeInfo) (acts : List Act) → At p.plants a.plant plant → At p.nodes a.sc sc → IsCoded sc acts
-    → Answers (for_each cells (closed_cell p 0 m a plant sc acts)) result
+    → Answers (for_each cells (closed_cell p jitter m a plant sc acts)) result
 
-abbrev pub AnswersReachCells : Tables → ℕ → ModuleInfo → List (List Side) → Result (Unit {0}) Refusal → Type 0
-AnswersReachCells p m a cells result = (plant : PlantInfo) → At p.plants a.plant plant → Answers (for_each cells (reach_cell p 0 m a plant)) result
+abbrev pub AnswersReachCells : Tables → ℕ → ℕ → ModuleInfo → List (List Side) → Result (Unit {0}) Refusal → Type 0
+AnswersReachCells p jitter m a cells result = (plant : PlantInfo) → At p.plants a.plant plant → Answers (for_each cells (reach_cell p jitter m a plant)) result
 
 -- of the whole
-abbrev pub AnswersCells : Tables → ℕ → ModuleInfo → Cells → Result (Unit {0}) Refusal → Type 0
-AnswersCells p m a cells result =
+abbrev pub AnswersCells : Tables → ℕ → ℕ → ModuleInfo → Cells → Result (Unit {0}) Refusal → Type 0
+AnswersCells p jitter m a cells result =
     (plant : PlantInfo) (sc : NodeInfo) (acts : List Act) → At p.plants a.plant plant → At p.nodes a.sc sc → IsCoded sc acts
-    → Answers (cell_checks p 0 m a plant sc acts cells) result
+    → Answers (cell_checks p jitter m a plant sc acts cells) result

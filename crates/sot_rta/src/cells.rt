@@ -63,35 +63,38 @@ fn reach_refusal(module: u32, cell: u32, leave: Leave) -> Refusal
 }
 
 // The held tube of a cell that the safe region covers.
-fn held_tube(p: &Typed, module: u32, info: &ModuleInfo, cell: &BoxN) -> Result<(), Leave>
+fn held_tube(p: &Typed, jitter: u32, module: u32, info: &ModuleInfo, cell: &BoxN) -> Result<(), Leave>
+    requires jitter { jitter < 1000 }
     requires is { At p.now.modules «module» info.now }
     requires rules { MeetsTableRules p.now }
     requires may { MayHaveCells p.now }
     requires width { length cell.now ≡ width_of p.now.plants info.now.plant }
     requires ordered { AreOrdered cell.now }
     requires covered { Covers info.now.safe.boxes cell.now }
-    ensures { AnswersHeldTube p.now info.now cell.now result }
+    ensures { AnswersHeldTube p.now jitter info.now cell.now result }
 {
     let plant = plant_at(p, info.plant);
     let sc = node_at(p, info.sc);
     let draft = cell_draft(p, info, sc, cell).unwrap();
     let held = commands(p, &plant.inputs, &sc.writes, &draft);
-    held_inside(p, module, cell, held.as_slice(), sc.period)
+    held_inside(p, module, cell, held.as_slice(), sc.period + jitter)
 }
 
 fn closed_cell(
     p: &Typed,
+    jitter: u32,
     module: u32,
     info: &ModuleInfo,
     i: u32,
     cell: &BoxN,
 ) -> Result<(), Refusal>
+    requires jitter { jitter < 1000 }
     requires is { At p.now.modules «module» info.now }
     requires rules { MeetsTableRules p.now }
     requires may { MayHaveCells p.now }
     requires width { length cell.now ≡ width_of p.now.plants info.now.plant }
     requires ordered { AreOrdered cell.now }
-    ensures { AnswersClosedCell p.now «module» info.now i cell.now result }
+    ensures { AnswersClosedCell p.now jitter «module» info.now i cell.now result }
 {
     if let Some(point) = info.safe.gap(cell) {
         return Err(Refusal::ClosedLeaves {
@@ -102,51 +105,54 @@ fn closed_cell(
             point,
         });
     }
-    match held_tube(p, module, info, cell) {
+    match held_tube(p, jitter, module, info, cell) {
         Ok(()) => Ok(()),
         Err(leave) => Err(closed_refusal(module, i, leave)),
     }
 }
 
-fn reach_cell(p: &Typed, module: u32, info: &ModuleInfo, i: u32, cell: &BoxN) -> Result<(), Refusal>
+fn reach_cell(p: &Typed, jitter: u32, module: u32, info: &ModuleInfo, i: u32, cell: &BoxN) -> Result<(), Refusal>
+    requires jitter { jitter < 1000 }
     requires is { At p.now.modules «module» info.now }
     requires rules { MeetsTableRules p.now }
     requires may { MayHaveCells p.now }
     requires width { length cell.now ≡ width_of p.now.plants info.now.plant }
-    ensures { AnswersReachCell p.now «module» info.now i cell.now result }
+    ensures { AnswersReachCell p.now jitter «module» info.now i cell.now result }
 {
-    match any_inside(p, module, cell, 2 * info.period) {
+    match any_inside(p, module, cell, 2 * (info.period + jitter)) {
         Ok(()) => Ok(()),
         Err(leave) => Err(reach_refusal(module, i, leave)),
     }
 }
 
-fn closed_cells(p: &Typed, module: u32, info: &ModuleInfo, closed: &Region) -> Result<(), Refusal>
+fn closed_cells(p: &Typed, jitter: u32, module: u32, info: &ModuleInfo, closed: &Region) -> Result<(), Refusal>
+    requires jitter { jitter < 1000 }
     requires is { At p.now.modules «module» info.now }
     requires rules { MeetsTableRules p.now }
     requires may { MayHaveCells p.now }
     requires cells { AreCellsOf p.now info.now.plant closed.now }
-    ensures { AnswersClosedCells p.now «module» info.now closed.now.boxes result }
+    ensures { AnswersClosedCells p.now jitter «module» info.now closed.now.boxes result }
 {
     for i in 0..closed.len() as u32 {
         let cell = closed.at(i as usize);
-        if let Err(refusal) = closed_cell(p, module, info, i, &cell) {
+        if let Err(refusal) = closed_cell(p, jitter, module, info, i, &cell) {
             return Err(refusal);
         }
     }
     Ok(())
 }
 
-fn reach_cells(p: &Typed, module: u32, info: &ModuleInfo, reach: &Region) -> Result<(), Refusal>
+fn reach_cells(p: &Typed, jitter: u32, module: u32, info: &ModuleInfo, reach: &Region) -> Result<(), Refusal>
+    requires jitter { jitter < 1000 }
     requires is { At p.now.modules «module» info.now }
     requires rules { MeetsTableRules p.now }
     requires may { MayHaveCells p.now }
     requires cells { AreCellsOf p.now info.now.plant reach.now }
-    ensures { AnswersReachCells p.now «module» info.now reach.now.boxes result }
+    ensures { AnswersReachCells p.now jitter «module» info.now reach.now.boxes result }
 {
     for i in 0..reach.len() as u32 {
         let cell = reach.at(i as usize);
-        if let Err(refusal) = reach_cell(p, module, info, i, &cell) {
+        if let Err(refusal) = reach_cell(p, jitter, module, info, i, &cell) {
             return Err(refusal);
         }
     }
@@ -154,38 +160,39 @@ fn reach_cells(p: &Typed, module: u32, info: &ModuleInfo, reach: &Region) -> Res
 }
 
 // The cells of a module that was found.
-fn cells_of(p: &Typed, module: u32, info: &ModuleInfo, cells: &Cells) -> Result<(), Refusal>
+fn cells_of(p: &Typed, jitter: u32, module: u32, info: &ModuleInfo, cells: &Cells) -> Result<(), Refusal>
+    requires jitter { jitter < 1000 }
     requires is { At p.now.modules «module» info.now }
     requires rules { MeetsTableRules p.now }
     requires may { MayHaveCells p.now }
     requires closed { AreCellsOf p.now info.now.plant cells.now.closed }
     requires reach { AreCellsOf p.now info.now.plant cells.now.reach }
-    ensures { AnswersCells p.now «module» info.now cells.now result }
+    ensures { AnswersCells p.now jitter «module» info.now cells.now result }
 {
     if let Some(point) = uncovered(&info.safe, &cells.closed) {
         return Err(Refusal::ClosedGap { module, point });
     }
-    if let Err(refusal) = closed_cells(p, module, info, &cells.closed) {
+    if let Err(refusal) = closed_cells(p, jitter, module, info, &cells.closed) {
         return Err(refusal);
     }
     if let Some(point) = uncovered(&info.safer, &cells.reach) {
         return Err(Refusal::ReachGap { module, point });
     }
-    reach_cells(p, module, info, &cells.reach)
+    reach_cells(p, jitter, module, info, &cells.reach)
 }
 
 /// Whether the cells that a certificate gives for a module show what they are to show, in this order: the closed cells cover the
 /// safe region; the held tube of each stays in it; the reach cells cover the safer region; the tube of each stays in the safe
-/// region for two periods. A module without an entry has no cells to check. Takes no memory.
+/// region for two periods. Each period is longer by the certificate's jitter. A module without an entry has no cells to check. Takes no memory.
 pub fn check_cells(p: &Typed, module: u32, c: &Cert) -> Result<(), Refusal>
     requires module_is { «module» < length p.now.modules }
     requires fits { FitsTables p.now c.now }
     requires may { MayHaveCells p.now }
-    ensures { (a : Info) → At p.now.modules «module» a → Answers (cells_of p.now 0 c.now «module» a) result }
+    ensures { (a : Info) → At p.now.modules «module» a → Answers (cells_of p.now c.now.jitter c.now «module» a) result }
 {
     let info = module_at(p, module);
     match &c.modules[module as usize] {
-        Some(cells) => cells_of(p, module, info, cells),
+        Some(cells) => cells_of(p, c.jitter, module, info, cells),
         None => Ok(()),
     }
 }

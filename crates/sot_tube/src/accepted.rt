@@ -27,13 +27,13 @@ impl<'a> Model for Accepted<'a> {
 
     ghost view = { λ a. record { program = a.program.now; cert = a.cert.now } };
 
-    ghost invariant = { λ a. MeetsTableRules a.program.now × IsWellCertified a.program.now 0 a.cert.now };
+    ghost invariant = { λ a. MeetsTableRules a.program.now × IsWellCertified a.program.now a.cert.now.jitter a.cert.now };
 }
 
 impl<'a> Accepted<'a> {
     /// Tests nothing: that the conditions hold is the caller's to show.
     pub fn of(program: &'a Typed, cert: &'a Cert) -> Accepted<'a>
-        requires { IsWellCertified program.now 0 cert.now }
+        requires { IsWellCertified program.now cert.now.jitter cert.now }
         ensures program { result.program ≡ program.now }
         ensures cert { result.cert ≡ cert.now }
     {
@@ -45,8 +45,15 @@ impl<'a> Accepted<'a> {
     /// The program, which lives on where this value does not.
     pub fn typed(&self) -> &'a Typed
         ensures program { result.now ≡ self.now.program }
-        ensures certified { IsWellCertified self.now.program 0 self.now.cert }
+        ensures certified { IsWellCertified self.now.program self.now.cert.jitter self.now.cert }
     {
         self.program
+    }
+
+    /// The certificate, which lives on where this value does not.
+    pub fn cert(&self) -> &'a Cert
+        ensures cert { result.now ≡ self.now.cert }
+    {
+        self.cert
     }
 }

@@ -19,8 +19,8 @@ cells_of-requires-clause-reach c =
 pub returns-in-Some : goal.returns-in-Some
 returns-in-Some c a at =
     let entry = subst (At c.args.c.now.modules.items c.args.«module») c.in-Some.is (entry_there c.args.p.now c.args.c.now c.requires.fits c.args.«module» _ c.requires.module_is c.index.ensures) in
-    subst (λ x. Answers (cells_of c.args.p.now 0 c.args.c.now c.args.«module» x) c.cells_of.result) (same_Some c.module_at-info.result.now a (sym c.module_at-info.ensures.is ∙ at))
-    (found_cells c.args.p.now c.module_at-info.ensures.rules c.args.c.now c.args.«module» c.module_at-info.result.now c.module_at-info.ensures.is c.in-Some.cells entry c.cells_of.result c.cells_of.ensures)
+    subst (λ x. Answers (cells_of c.args.p.now c.args.c.now.jitter c.args.c.now c.args.«module» x) c.cells_of.result) (same_Some c.module_at-info.result.now a (sym c.module_at-info.ensures.is ∙ at))
+    (found_cells c.args.p.now c.module_at-info.ensures.rules c.args.c.now.jitter c.args.c.now c.args.«module» c.module_at-info.result.now c.module_at-info.ensures.is c.in-Some.cells entry c.cells_of.result c.cells_of.ensures)
 
 pub returns-in-None : goal.returns-in-None
 returns-in-None c a at plant plant_at sc sc_at acts coded cells has =

@@ -11,4 +11,4 @@ use Rattle.sot_rta.proofs.cells.closed_cells.Given as goal
 abbrev pub invariant-loop-i : goal.invariant-loop-i
 invariant-loop-i l =
     (plant : PlantInfo) (sc : NodeInfo) (acts : List Act) → At l.p.plants l.info.plant plant → At l.p.nodes l.info.sc sc → IsCoded sc acts
-    → PassBefore l.closed.boxes (closed_cell l.p 0 l.«module» l.info plant sc acts) l.i
+    → PassBefore l.closed.boxes (closed_cell l.p l.jitter l.«module» l.info plant sc acts) l.i

@@ -5,4 +5,4 @@ use Rattle.sot_rta.specs.Refused.{PassBefore}
 use Rattle.sot_rta.proofs.cells.reach_cells.Given as goal
 
 abbrev pub invariant-loop-i : goal.invariant-loop-i
-invariant-loop-i l = (plant : PlantInfo) → At l.p.plants l.info.plant plant → PassBefore l.reach.boxes (reach_cell l.p 0 l.«module» l.info plant) l.i
+invariant-loop-i l = (plant : PlantInfo) → At l.p.plants l.info.plant plant → PassBefore l.reach.boxes (reach_cell l.p l.jitter l.«module» l.info plant) l.i
