@@ -44,3 +44,11 @@ abbrev pub IsUntil : ℕ → Bool → ℕ → ℕ → ℕ → ℕ → Type 0
 IsUntil jitter true period offset t r =
     (d : ℕ) × IsLastDue period offset t d × (t + r ≡ d + jitter)
 IsUntil jitter false period offset t r = (d : ℕ) × IsDueIn period offset t d × (r ≡ d + jitter)
+
+-- due at t, or at most so many ticks before
+abbrev pub IsDueWithin : ℕ → ℕ → ℕ → ℕ → Type 0
+IsDueWithin jitter period offset t = (d : ℕ) × IsDue period offset d × (d ≤ t) × (t ≤ d + jitter)
+
+-- t is the deadline of the last due time: that time and the jitter
+abbrev pub IsDeadline : ℕ → ℕ → ℕ → ℕ → Type 0
+IsDeadline jitter period offset t = (d : ℕ) × IsLastDue period offset t d × (d + jitter ≡ t)

@@ -48,7 +48,7 @@ module _ (a : Admitted) (C : Configuration) (kept : IsKept a C) where
   -- a coded node can be run
   pub may_run : (n : ℕ) (node : NodeInfo) (acts : List Act) → At a.program.nodes n node → IsCoded node acts → Runs a.program n C.scalars C.points (locals_of C n)
   may_run n node acts at coded =
-      let run = code_runs a.program 0 kept.rules.typed (well_formed a C kept) C n node acts kept.holds at coded in
+      let run = code_runs a.program a.cert.jitter kept.rules.typed (well_formed a C kept) C n node acts kept.holds at coded in
       record {
         node = node;
         acts = acts;

@@ -16,6 +16,7 @@ pub mod LineSteps
 pub mod RelaySteps
 pub mod Publication
 pub mod Calendar
+pub mod Deadlines
 pub mod LineDecisions
 pub mod Records
 pub mod Places

@@ -135,14 +135,14 @@ set_there (y ∷ ys) zero x at = ap (λ z. z ∷ ys) (same_Some y x at)
 set_there (y ∷ ys) (suc i) x at = ap (λ zs. y ∷ zs) (set_there ys i x at)
 
 -- the mode after a decision in mode Ac, and in mode Sc
-pub next_by_keeps : (p : Tables) (a : ModuleInfo) (mode next : Mode) (s : List ℤ) (b : Bool) → mode ≡ Ac → ((next ≡ Ac) ↔ IsTrue b) → (IsTrue b ↔ Keeps p 0 a s) → IsNextMode p a mode s next
-next_by_keeps p a mode next s b is n k = (
+pub next_by_keeps : (p : Tables) (j : ℕ) (a : ModuleInfo) (mode next : Mode) (s : List ℤ) (b : Bool) → mode ≡ Ac → ((next ≡ Ac) ↔ IsTrue b) → (IsTrue b ↔ Keeps p j a s) → IsNextMode p j a mode s next
+next_by_keeps p j a mode next s b is n k = (
   (λ e. inr (is, k.0 (n.0 e))),
   (λ o. ⊎_elim (λ x. let e : Sc ≡ Ac = sym x.0 ∙ is in cc) (λ x. n.1 (k.1 x.1)) o),
 )
 
-pub next_by_safer : (p : Tables) (a : ModuleInfo) (mode next : Mode) (s : List ℤ) (b : Bool) → mode ≡ Sc → ((next ≡ Ac) ↔ IsTrue b) → (IsTrue b ↔ IsInRegion a.safer.boxes s) → IsNextMode p a mode s next
-next_by_safer p a mode next s b is n k = (
+pub next_by_safer : (p : Tables) (j : ℕ) (a : ModuleInfo) (mode next : Mode) (s : List ℤ) (b : Bool) → mode ≡ Sc → ((next ≡ Ac) ↔ IsTrue b) → (IsTrue b ↔ IsInRegion a.safer.boxes s) → IsNextMode p j a mode s next
+next_by_safer p j a mode next s b is n k = (
   (λ e. inl (is, k.0 (n.0 e))),
   (λ o. ⊎_elim (λ x. n.1 (k.1 x.1)) (λ x. let e : Sc ≡ Ac = sym is ∙ x.0 in cc) o),
 )

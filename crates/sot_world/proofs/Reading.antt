@@ -20,18 +20,3 @@ topic_inside p rules t info at =
     let some = (rules.topics t info at).0 in
     let last = rules.typed.topic_scalar t (info.first + info.count - 1) info at (omega (arith, some)) (omega (arith, some)) in
     omega (arith, slice_get_within p.scalars (info.first + info.count - 1) last.0 last.1, some)
-
--- a flag at any place, if each one in the list is not set
-flags_none : {A : Type 0} (xs : List A) (flags : List Bool) → length flags ≡ length xs → ((n : ℕ) (x : A) → At xs n x → slice_index_or flags n false ≡ false) → (n : ℕ) → slice_index_or flags n false ≡ false
-flags_none xs flags size each n =
-    ⊎_elim
-    (λ inside. each n inside.0 inside.2)
-    (λ past. get_or_past flags n false (omega (arith, past.0, size)))
-    (slice_get_cases xs n).1
-
--- nothing is left exactly where no flag is set
-pub nothing_flags : (p : Tables) (C : Configuration) → KeepsInvariant p 0 C → (((n : ℕ) → slice_index_or C.left n false ≡ false) × ((n : ℕ) → slice_index_or C.left_dm n false ≡ false)) ↔ NothingLeft p C
-nothing_flags p C h = (
-  (λ f. record { nodes = λ n node at. f.0 n; modules = λ m a at. f.1 m }),
-  (λ none. (flags_none p.nodes C.left h.sizes.left none.nodes, flags_none p.modules C.left_dm h.sizes.left_dm none.modules)),
-)

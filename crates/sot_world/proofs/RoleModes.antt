@@ -18,7 +18,7 @@ same_flag : (b c : Bool) → (c ≡ true → b ≡ true) → (c ≡ false → b 
 same_flag b true yes' no' = yes' refl
 same_flag b false yes' no' = no' refl
 
-module _ (p : Tables) (typed : IsTyped p) (well : IsWellFormed p 0) (C : Configuration) (n : ℕ) where
+module _ {j : ℕ} (p : Tables) (typed : IsTyped p) (well : IsWellFormed p j) (C : Configuration) (n : ℕ) where
   -- a node is enabled exactly where its role is, since no node is of two modules
   pub role_enabled : (role : Role) → IsRole p.modules n role → role_enables role C.modes ≡ is_enabled p C n
   role_enabled Free none = same_flag true (is_enabled p C n) (λ e. refl) (λ e.

@@ -93,10 +93,10 @@ pub starts_safer : (p : Tables) (start points : List (List ℤ)) → points ≡ 
 starts_safer p start points q inside m a at =
     subst (λ ps. IsInRegion a.safer.boxes (slice_index_or ps a.plant [])) (sym q) (inside m a (slice_get_within p.modules m a at) at)
 
-pub opens_kept : (a : Admitted) (start : List (List ℤ)) (C : Configuration) → MeetsTableRules a.program → IsWellCertified a.program 0 a.cert → IsOpening a.program start C → IsSafer a.program C → IsKept a C
+pub opens_kept : (a : Admitted) (start : List (List ℤ)) (C : Configuration) → MeetsTableRules a.program → IsWellCertified a.program a.cert.jitter a.cert → IsOpening a.program start C → IsSafer a.program C → IsKept a C
 opens_kept a start C rules certified opening safer = record {
   rules = rules;
   certified = certified;
-  holds = opening_holds a.program 0 rules.typed (certified_well a.program 0 a.cert rules.typed certified) start C opening safer;
+  holds = opening_holds a.program a.cert.jitter rules.typed (certified_well a.program a.cert.jitter a.cert rules.typed certified) start C opening safer;
   time = omega (arith, opening.time);
 }

@@ -36,15 +36,15 @@ region_width (b ∷ bs) w s each here =
     here
 
 module _ (a : Admitted) (C : Configuration) (kept : IsKept a C) where
-  pub well_formed : IsWellFormed a.program 0
-  well_formed = certified_well a.program 0 a.cert kept.rules.typed kept.certified
+  pub well_formed : IsWellFormed a.program a.cert.jitter
+  well_formed = certified_well a.program a.cert.jitter a.cert kept.rules.typed kept.certified
 
   -- what a step leads to is kept
-  pub step_kept : (D : Configuration) (e : Event) → Step a.program 0 C e D → D.time ≤ 100000 → IsKept a D
+  pub step_kept : (D : Configuration) (e : Event) → Step a.program a.cert.jitter C e D → D.time ≤ 100000 → IsKept a D
   step_kept D e s time = record {
     rules = kept.rules;
     certified = kept.certified;
-    holds = step_holds a.program 0 kept.rules.typed well_formed C D e kept.holds s;
+    holds = step_holds a.program a.cert.jitter kept.rules.typed well_formed C D e kept.holds s;
     time = time;
   }
 
@@ -55,7 +55,7 @@ module _ (a : Admitted) (C : Configuration) (kept : IsKept a C) where
     widths = λ k plant at.
         let n = kept.rules.typed.named k plant at in
         let at_p : At a.program.plants n.1.plant plant = subst (λ i. At a.program.plants i plant) (sym n.3) at in
-        let here = in_safe a.program 0 kept.rules.typed well_formed C kept.holds n.0 n.1 plant n.2 at_p in
+        let here = in_safe a.program a.cert.jitter kept.rules.typed well_formed C kept.holds n.0 n.1 plant n.2 at_p in
         let region = (kept.rules.modules n.0 n.1 n.2).safe in
         let wide = region_width n.1.safe.boxes n.1.safe.width (point_of C n.1.plant) (λ i b x. (region.each i b x).0) here in
         subst (λ i. length (point_of C i) ≡ length plant.states.items) n.3 (wide ∙ region.width ∙ width_at a.program.plants n.1.plant plant at_p);
@@ -75,10 +75,10 @@ module _ (a : Admitted) (C : Configuration) (kept : IsKept a C) where
 
 -- a decision
 pub decides_so :
-    (p : Tables) (C : Configuration) (m : ℕ) (info : ModuleInfo) (next : Mode) (left_dm : List Bool) (modes : List Mode) → length C.modes ≡ length p.modules → At p.modules m info → is_left_dm C m ≡ true
-    → IsNextMode p info (mode_of C m) (point_of C info.plant) next → left_dm ≡ slice_set C.left_dm m false → modes ≡ slice_set C.modes m next
-    → Decides p 0 m C (record C { left_dm = left_dm; modes = modes })
-decides_so p C m info next left_dm modes size at left is d e =
+    (p : Tables) (j : ℕ) (C : Configuration) (m : ℕ) (info : ModuleInfo) (next : Mode) (left_dm : List Bool) (modes : List Mode) → length C.modes ≡ length p.modules → At p.modules m info → is_left_dm C m ≡ true
+    → IsNextMode p j info (mode_of C m) (point_of C info.plant) next → left_dm ≡ slice_set C.left_dm m false → modes ≡ slice_set C.modes m next
+    → Decides p j m C (record C { left_dm = left_dm; modes = modes })
+decides_so p j C m info next left_dm modes size at left is d e =
     let lt : m < length C.modes = omega (arith, slice_get_within p.modules m info at, size) in
     let now : slice_index_or modes m Sc ≡ next = ap (λ l. slice_index_or l m Sc) e ∙ get_or-set_same C.modes m next Sc lt in
     record {
@@ -87,7 +87,7 @@ decides_so p C m info next left_dm modes size at left is d e =
       was_left = left;
       left_dm = d;
       modes = e ∙ ap (slice_set C.modes m) (sym now);
-      mode = subst (λ y. IsNextMode p info (mode_of C m) (point_of C info.plant) y) (sym now) is;
+      mode = subst (λ y. IsNextMode p j info (mode_of C m) (point_of C info.plant) y) (sym now) is;
       rest = refl;
     }
 
@@ -108,5 +108,5 @@ inputs_so p C topic value info scalars at outside size typed s =
     }
 
 -- a step from a state that is another one's
-pub step_along : (s t : State) (e : Event) (D : Configuration) → s ≡ t → Step s.accepted.program 0 s.at e D → Step t.accepted.program 0 t.at e D
-step_along s t e D same step = subst (λ x. Step x.accepted.program 0 x.at e D) same step
+pub step_along : (s t : State) (e : Event) (D : Configuration) → s ≡ t → Step s.accepted.program s.accepted.cert.jitter s.at e D → Step t.accepted.program t.accepted.cert.jitter t.at e D
+step_along s t e D same step = subst (λ x. Step x.accepted.program x.accepted.cert.jitter x.at e D) same step

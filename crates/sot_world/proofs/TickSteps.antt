@@ -15,29 +15,20 @@ use Rattle.sot_box.proofs.Ranges.{within_length}
 use Rattle.sot_calendar.specs.Due.{IsDue}
 use Rattle.sot_tube.specs.Admitted.{Admitted}
 use Rattle.sot_world.specs.Configurations.{Configuration, is_left, is_left_dm}
-use Rattle.sot_world.specs.Steps.{Ticks}
-use Rattle.sot_world.specs.Calendar.{NothingLeft}
+use Rattle.sot_world.specs.Steps.{Ticks, MayTick}
 use Rattle.sot_world.specs.Events.{cut, IsInBounds}
 use Rattle.sot_world.specs.State.{State, IsKept}
 use Rattle.sot_world.specs.Changes.{MayMove, IsMoved}
 use Rattle.sot_world.proofs.Safety.{tick_runs}
-use Rattle.sot_world.proofs.Calendar.{tick_settled}
 use Rattle.sot_world.proofs.Possible.{bounds_cut, cut_length}
 use Rattle.sot_world.proofs.Stepping.{well_formed}
 
--- where nothing was left, what is left is what is due
-left_by : (was now : Bool) (Due : Type 0) → was ≡ false → (now ≡ true) ↔ Due → (now ≡ true) ↔ ((was ≡ true) ⊎ Due)
-left_by was now Due none is = (
-  (λ e. inr (is.0 e)),
-  (λ o. is.1 (⊎_elim (λ e. absurd (false≢true (sym none ∙ e))) (λ d. d) o)),
-)
-
-module _ (a : Admitted) (C : Configuration) (kept : IsKept a C) (noise : List ℤ) (none : NothingLeft a.program C) (within : IsInBounds a.program.plants noise) where
+module _ (a : Admitted) (C : Configuration) (kept : IsKept a C) (noise : List ℤ) (may : MayTick a.program a.cert.jitter C) (within : IsInBounds a.program.plants noise) where
   -- each plant can move
   pub may_move : (k : ℕ) (plant : PlantInfo) → At a.program.plants k plant → MayMove a.program k C.scalars C.points (slice_index_or (cut a.program.plants noise) k [])
   may_move k plant at =
       let own = bounds_cut a.program.plants noise within k plant at in
-      let ticks = tick_runs a.program 0 kept.rules.typed (well_formed a C kept) C kept.holds ((tick_settled a.program C kept.holds).1 none) k plant (slice_index_or (cut a.program.plants noise) k []) at own in
+      let ticks = tick_runs a.program a.cert.jitter kept.rules.typed (well_formed a C kept) C kept.holds may k plant (slice_index_or (cut a.program.plants noise) k []) at own in
       record {
         plant = plant;
         is = at;
@@ -52,36 +43,38 @@ module _ (a : Admitted) (C : Configuration) (kept : IsKept a C) (noise : List �
   pub ticks_so :
       (time : ℕ) (left left_dm : List Bool) (points : List (List ℤ)) → time ≡ suc C.time
       → length left ≡ length a.program.nodes → length left_dm ≡ length a.program.modules → length points ≡ length a.program.plants
-      → ((n : ℕ) (node : NodeInfo) → At a.program.nodes n node → (slice_index_or left n false ≡ true) ↔ IsDue node.period node.offset time)
-      → ((m : ℕ) (info : ModuleInfo) → At a.program.modules m info → (slice_index_or left_dm m false ≡ true) ↔ IsDue info.period info.offset time)
+      → ((n : ℕ) (node : NodeInfo) → At a.program.nodes n node → (slice_index_or left n false ≡ true) ↔ ((is_left C n ≡ true) ⊎ IsDue node.period node.offset time))
+      → ((m : ℕ) (info : ModuleInfo) → At a.program.modules m info → (slice_index_or left_dm m false ≡ true) ↔ ((is_left_dm C m ≡ true) ⊎ IsDue info.period info.offset time))
       → ((k : ℕ) → k < length a.program.plants → IsMoved a.program k C.scalars C.points (slice_index_or (cut a.program.plants noise) k []) (slice_index_or points k []))
-      → Ticks a.program 0 (cut a.program.plants noise) C (record C { time = time; left = left; left_dm = left_dm; points = points })
+      → Ticks a.program a.cert.jitter (cut a.program.plants noise) C (record C { time = time; left = left; left_dm = left_dm; points = points })
   ticks_so time left left_dm points t l d q nodes modules moved = record {
-    may = (tick_settled a.program C kept.holds).1 none;
+    may = may;
     each = cut_length a.program.plants noise;
     bounded = bounds_cut a.program.plants noise within;
     moves = λ k plant at. moved k (slice_get_within a.program.plants k plant at) plant at;
     time = t;
-    left = λ n node at. left_by (is_left C n) (slice_index_or left n false) (IsDue node.period node.offset time) (none.nodes n node at) (nodes n node at);
-    left_dm = λ m info at. left_by (is_left_dm C m) (slice_index_or left_dm m false) (IsDue info.period info.offset time) (none.modules m info at) (modules m info at);
+    left = nodes;
+    left_dm = modules;
     sizes = record { left = l; left_dm = d; modes = kept.holds.sizes.modes; scalars = kept.holds.sizes.scalars; locals = kept.holds.sizes.locals; points = q };
     rest = refl;
   }
 
 -- the same of equal lists
 pub nodes_due_along :
-    (xs ys : List NodeInfo) (flags kept : List Bool) (t : ℕ) → xs ≡ ys → kept ≡ flags
-    → ((n : ℕ) (node : NodeInfo) → At xs n node → (slice_index_or flags n false ≡ true) ↔ IsDue node.period node.offset t)
-    → (n : ℕ) (node : NodeInfo) → At ys n node → (slice_index_or kept n false ≡ true) ↔ IsDue node.period node.offset t
-nodes_due_along xs ys flags kept t a b due n node at =
-    subst (λ l. (slice_index_or l n false ≡ true) ↔ IsDue node.period node.offset t) (sym b) (due n node (subst (λ l. At l n node) (sym a) at))
+    (xs ys : List NodeInfo) (before was flags kept : List Bool) (t : ℕ) → xs ≡ ys → before ≡ was → kept ≡ flags
+    → ((n : ℕ) (node : NodeInfo) → At xs n node → (slice_index_or flags n false ≡ true) ↔ ((slice_index_or before n false ≡ true) ⊎ IsDue node.period node.offset t))
+    → (n : ℕ) (node : NodeInfo) → At ys n node → (slice_index_or kept n false ≡ true) ↔ ((slice_index_or was n false ≡ true) ⊎ IsDue node.period node.offset t)
+nodes_due_along xs ys before was flags kept t a e b due n node at =
+    subst (λ q. (slice_index_or kept n false ≡ true) ↔ ((slice_index_or q n false ≡ true) ⊎ IsDue node.period node.offset t)) e
+    (subst (λ l. (slice_index_or l n false ≡ true) ↔ ((slice_index_or before n false ≡ true) ⊎ IsDue node.period node.offset t)) (sym b) (due n node (subst (λ l. At l n node) (sym a) at)))
 
 pub decisions_due_along :
-    (xs ys : List ModuleInfo) (flags kept : List Bool) (t : ℕ) → xs ≡ ys → kept ≡ flags
-    → ((m : ℕ) (info : ModuleInfo) → At xs m info → (slice_index_or flags m false ≡ true) ↔ IsDue info.period info.offset t)
-    → (m : ℕ) (info : ModuleInfo) → At ys m info → (slice_index_or kept m false ≡ true) ↔ IsDue info.period info.offset t
-decisions_due_along xs ys flags kept t a b due m info at =
-    subst (λ l. (slice_index_or l m false ≡ true) ↔ IsDue info.period info.offset t) (sym b) (due m info (subst (λ l. At l m info) (sym a) at))
+    (xs ys : List ModuleInfo) (before was flags kept : List Bool) (t : ℕ) → xs ≡ ys → before ≡ was → kept ≡ flags
+    → ((m : ℕ) (info : ModuleInfo) → At xs m info → (slice_index_or flags m false ≡ true) ↔ ((slice_index_or before m false ≡ true) ⊎ IsDue info.period info.offset t))
+    → (m : ℕ) (info : ModuleInfo) → At ys m info → (slice_index_or kept m false ≡ true) ↔ ((slice_index_or was m false ≡ true) ⊎ IsDue info.period info.offset t)
+decisions_due_along xs ys before was flags kept t a e b due m info at =
+    subst (λ q. (slice_index_or kept m false ≡ true) ↔ ((slice_index_or q m false ≡ true) ⊎ IsDue info.period info.offset t)) e
+    (subst (λ l. (slice_index_or l m false ≡ true) ↔ ((slice_index_or before m false ≡ true) ⊎ IsDue info.period info.offset t)) (sym b) (due m info (subst (λ l. At l m info) (sym a) at)))
 
 -- all plants have moved
 abbrev pub AllMoved : Tables → List ℤ → List (List ℤ) → List ℤ → List (List ℤ) → Type 0
@@ -92,5 +85,5 @@ moved_along p q s t x y noise next kept a b d e moved =
     subst (λ z. AllMoved q t y noise z) (sym e) (subst (λ z. AllMoved q t z noise next) d (subst (λ z. AllMoved q z x noise next) b (subst (λ z. AllMoved z s x noise next) a moved)))
 
 -- a tick from a state that is another one's
-pub ticks_along : (s t : State) (noise : List ℤ) (D : Configuration) → s ≡ t → Ticks s.accepted.program 0 (cut s.accepted.program.plants noise) s.at D → Ticks t.accepted.program 0 (cut t.accepted.program.plants noise) t.at D
-ticks_along s t noise D same step = subst (λ x. Ticks x.accepted.program 0 (cut x.accepted.program.plants noise) x.at D) same step
+pub ticks_along : (s t : State) (noise : List ℤ) (D : Configuration) → s ≡ t → Ticks s.accepted.program s.accepted.cert.jitter (cut s.accepted.program.plants noise) s.at D → Ticks t.accepted.program t.accepted.cert.jitter (cut t.accepted.program.plants noise) t.at D
+ticks_along s t noise D same step = subst (λ x. Ticks x.accepted.program x.accepted.cert.jitter (cut x.accepted.program.plants noise) x.at D) same step

@@ -24,8 +24,8 @@ use Rattle.sot_world.specs.Configurations.{Mode, Ac, Sc}
 use Rattle.sot_world.specs.Steps.{put}
 
 -- the mode after a decision from this mode, with the module's plant at this point
-abbrev pub IsNextMode : Tables → ModuleInfo → Mode → List ℤ → Mode → Type 0
-IsNextMode p a mode s next = (next ≡ Ac) ↔ (((mode ≡ Sc) × IsInRegion a.safer.boxes s) ⊎ ((mode ≡ Ac) × Keeps p 0 a s))
+abbrev pub IsNextMode : Tables → ℕ → ModuleInfo → Mode → List ℤ → Mode → Type 0
+IsNextMode p jitter a mode s next = (next ≡ Ac) ↔ (((mode ≡ Sc) × IsInRegion a.safer.boxes s) ⊎ ((mode ≡ Ac) × Keeps p jitter a s))
 
 abbrev pub is_ac : Mode → Bool
 is_ac Ac = true

@@ -11,7 +11,7 @@ use Rattle.sot_lang.specs.Ranges.{range_of, bounds}
 use Rattle.sot_lists.specs.Places.{At}
 use Rattle.sot_box.specs.Sides.{IsIn}
 use Rattle.sot_box.specs.Boxes.{IsWithin}
-use Rattle.sot_calendar.specs.Due.{IsDue}
+use Rattle.sot_calendar.specs.Due.{IsDueWithin}
 use Rattle.sot_world.specs.declared.event.Event.{Event}
 use Rattle.sot_world.specs.declared.event.Event.TheVariants.{Input, Code, Guest, Decide, Tick}
 use Rattle.sot_world.specs.declared.outcome.Why.{Why}
@@ -21,7 +21,6 @@ use Rattle.sot_world.specs.declared.outcome.Outcome.TheVariants as outcome
 use Rattle.sot_world.specs.Configurations.{Configuration, is_left, is_left_dm}
 use Rattle.sot_world.specs.Steps as steps
 use Rattle.sot_world.specs.Outcomes.{Recorded, InputTaken, NodeFired, ModuleDecided, PlantsTicked}
-use Rattle.sot_world.specs.Calendar.{NothingLeft}
 
 -- how many scalars a node writes
 abbrev pub slot_count : Tables → ℕ → ℕ
@@ -66,35 +65,35 @@ IsInBounds (k ∷ ks) w = IsWithin (bounds k) (take (length k.noise.items) w) ×
 abbrev pub IsTypedInput : Tables → ℕ → List ℤ → Type 0
 IsTypedInput p topic value = (info : TopicInfo) × At p.topics topic info × IsInType p info.first value
 
--- an event can happen now: a value is in its topic's type, what fires or decides is left to do so, and for a tick nothing is left and all disturbances are in bounds
-abbrev pub IsPossible : Tables → Configuration → Event → Type 0
-IsPossible p C (Input topic value) = IsTypedInput p topic value.now
-IsPossible p C (Code n) = is_left C n ≡ true
-IsPossible p C (Guest n draft) = is_left C n ≡ true
-IsPossible p C (Decide m) = is_left_dm C m ≡ true
-IsPossible p C (Tick noise) = NothingLeft p C × IsInBounds p.plants noise.now
+-- an event can happen now: a value is in its topic's type, what fires or decides is left to do so, and for a tick nothing that is left has its deadline now and all disturbances are in bounds
+abbrev pub IsPossible : Tables → ℕ → Configuration → Event → Type 0
+IsPossible p jitter C (Input topic value) = IsTypedInput p topic value.now
+IsPossible p jitter C (Code n) = is_left C n ≡ true
+IsPossible p jitter C (Guest n draft) = is_left C n ≡ true
+IsPossible p jitter C (Decide m) = is_left_dm C m ≡ true
+IsPossible p jitter C (Tick noise) = steps.MayTick p jitter C × IsInBounds p.plants noise.now
 
--- a node is due now
-abbrev pub IsNodeDue : Tables → Configuration → ℕ → Type 0
-IsNodeDue p C n = (node : NodeInfo) × At p.nodes n node × IsDue node.period node.offset C.time
+-- a node is due now, or was at most as many ticks ago as the jitter
+abbrev pub IsNodeDue : Tables → ℕ → Configuration → ℕ → Type 0
+IsNodeDue p jitter C n = (node : NodeInfo) × At p.nodes n node × IsDueWithin jitter node.period node.offset C.time
 
--- a decision is due now
-abbrev pub IsDecisionDue : Tables → Configuration → ℕ → Type 0
-IsDecisionDue p C m = (a : ModuleInfo) × At p.modules m a × IsDue a.period a.offset C.time
+-- the same of a decision
+abbrev pub IsDecisionDue : Tables → ℕ → Configuration → ℕ → Type 0
+IsDecisionDue p jitter C m = (a : ModuleInfo) × At p.modules m a × IsDueWithin jitter a.period a.offset C.time
 
--- why a node cannot fire now
-abbrev pub RefusesNode : Tables → Configuration → ℕ → Why → Type 0
-RefusesNode p C n NotDue = IsNodeDue p C n → ⊥
-RefusesNode p C n AlreadyFired = IsNodeDue p C n × (is_left C n ≡ false)
-RefusesNode p C n NodesLeft = ⊥
-RefusesNode p C n OutsideType = ⊥
+-- why a node cannot fire now: there is no such due time, or it has fired for it
+abbrev pub RefusesNode : Tables → ℕ → Configuration → ℕ → Why → Type 0
+RefusesNode p jitter C n NotDue = IsNodeDue p jitter C n → ⊥
+RefusesNode p jitter C n AlreadyFired = IsNodeDue p jitter C n × (is_left C n ≡ false)
+RefusesNode p jitter C n NodesLeft = ⊥
+RefusesNode p jitter C n OutsideType = ⊥
 
 -- why a decision cannot be made now
-abbrev pub RefusesDecision : Tables → Configuration → ℕ → Why → Type 0
-RefusesDecision p C m NotDue = IsDecisionDue p C m → ⊥
-RefusesDecision p C m AlreadyFired = IsDecisionDue p C m × (is_left_dm C m ≡ false)
-RefusesDecision p C m NodesLeft = ⊥
-RefusesDecision p C m OutsideType = ⊥
+abbrev pub RefusesDecision : Tables → ℕ → Configuration → ℕ → Why → Type 0
+RefusesDecision p jitter C m NotDue = IsDecisionDue p jitter C m → ⊥
+RefusesDecision p jitter C m AlreadyFired = IsDecisionDue p jitter C m × (is_left_dm C m ≡ false)
+RefusesDecision p jitter C m NodesLeft = ⊥
+RefusesDecision p jitter C m OutsideType = ⊥
 
 -- why an input cannot be taken
 abbrev pub RefusesInput : Tables → ℕ → List ℤ → Why → Type 0
@@ -103,20 +102,20 @@ RefusesInput p topic value AlreadyFired = ⊥
 RefusesInput p topic value NodesLeft = ⊥
 RefusesInput p topic value OutsideType = IsTypedInput p topic value → ⊥
 
--- why no tick can come now; what is left comes first
-abbrev pub RefusesTick : Tables → Configuration → List ℤ → Why → Type 0
-RefusesTick p C noise NotDue = ⊥
-RefusesTick p C noise AlreadyFired = ⊥
-RefusesTick p C noise NodesLeft = NothingLeft p C → ⊥
-RefusesTick p C noise OutsideType = NothingLeft p C × (IsInBounds p.plants noise → ⊥)
+-- why no tick can come now; what is left and has its deadline now comes first
+abbrev pub RefusesTick : Tables → ℕ → Configuration → List ℤ → Why → Type 0
+RefusesTick p jitter C noise NotDue = ⊥
+RefusesTick p jitter C noise AlreadyFired = ⊥
+RefusesTick p jitter C noise NodesLeft = steps.MayTick p jitter C → ⊥
+RefusesTick p jitter C noise OutsideType = steps.MayTick p jitter C × (IsInBounds p.plants noise → ⊥)
 
 -- why an event cannot happen now
-abbrev pub Refuses : Tables → Configuration → Event → Why → Type 0
-Refuses p C (Input topic value) why = RefusesInput p topic value.now why
-Refuses p C (Code n) why = RefusesNode p C n why
-Refuses p C (Guest n draft) why = RefusesNode p C n why
-Refuses p C (Decide m) why = RefusesDecision p C m why
-Refuses p C (Tick noise) why = RefusesTick p C noise.now why
+abbrev pub Refuses : Tables → ℕ → Configuration → Event → Why → Type 0
+Refuses p jitter C (Input topic value) why = RefusesInput p topic value.now why
+Refuses p jitter C (Code n) why = RefusesNode p jitter C n why
+Refuses p jitter C (Guest n draft) why = RefusesNode p jitter C n why
+Refuses p jitter C (Decide m) why = RefusesDecision p jitter C m why
+Refuses p jitter C (Tick noise) why = RefusesTick p jitter C noise.now why
 
 -- the outcome that tells what is recorded, with nothing in the slots past the node's
 abbrev pub outcome_of : Recorded → Outcome

@@ -20,5 +20,6 @@ pub mod Events
 pub mod Bounds
 pub mod Opens
 pub mod Possible
+pub mod Deadlines
 pub mod Changes
 pub mod StepOutcomes

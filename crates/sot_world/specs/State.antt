@@ -14,6 +14,6 @@ pub record State : Type 0 where
 -- the configuration of a world satisfies the invariant, for all modules together, and its time is at most the greatest horizon
 pub record IsKept (a : Admitted) (C : Configuration) : Type 0 where
   pub rules : MeetsTableRules a.program
-  pub certified : IsWellCertified a.program 0 a.cert
-  pub holds : KeepsInvariant a.program 0 C
+  pub certified : IsWellCertified a.program a.cert.jitter a.cert
+  pub holds : KeepsInvariant a.program a.cert.jitter C
   pub time : C.time ≤ 100000

@@ -1,6 +1,6 @@
 //! What a decision gives.
 
-ghost use Rattle.std.specs.Prelude.{◌≡◌, ℕ, IsTrue, ◌↔◌};
+ghost use Rattle.std.specs.Prelude.{◌≡◌, ◌<◌, ℕ, IsTrue, ◌↔◌};
 ghost use Rattle.sot_lang.specs.declared.tables.ModuleInfo.{ModuleInfo};
 ghost use Rattle.sot_lists.specs.Places.{At};
 ghost use Rattle.sot_box.specs.Boxes.{point_box};
@@ -21,13 +21,14 @@ fn mode_by(trusted: bool) -> Mode
 }
 
 /// The mode after a module's decision, from this mode and with its plant at this point. The advanced node is trusted from the
-/// safer region on, for as long as the tube of two periods is inside the safe region.
-pub fn next_mode(p: &Typed, module: u32, mode: Mode, s: &Point) -> Mode
-    requires { MayFollow p.now «module» (point_box s.now) }
-    ensures { (a : ModuleInfo) → At p.now.modules «module» a → IsNextMode p.now a mode s.now result }
+/// safer region on, for as long as the tube of two periods, each longer by the jitter, is inside the safe region.
+pub fn next_mode(p: &Typed, jitter: u32, module: u32, mode: Mode, s: &Point) -> Mode
+    requires follow { MayFollow p.now «module» (point_box s.now) }
+    requires jitter { jitter < 1000 }
+    ensures { (a : ModuleInfo) → At p.now.modules «module» a → IsNextMode p.now jitter a mode s.now result }
 {
     match mode {
-        Mode::Ac => mode_by(keeps(p, module, s)),
+        Mode::Ac => mode_by(keeps(p, module, s, jitter)),
         Mode::Sc => mode_by(p.modules[module as usize].safer.has(s)),
     }
 }

@@ -4,6 +4,7 @@
 //! regions each configuration satisfies an invariant of all modules together, and what satisfies it is safe.
 #![tactic(auto)]
 
+mod clock;
 mod decide;
 mod event;
 mod examples;

@@ -1,6 +1,6 @@
-//! Looks at lists of flags and numbers.
+//! Looks at lists of numbers.
 
-ghost use Rattle.std.specs.Prelude.{◌≡◌, ℕ, ◌+◌, ◌<◌, ◌≤◌, ℤ, true, false, length, slice_index_or, IsTrue, ◌↔◌, int_le, ◌&&◌};
+ghost use Rattle.std.specs.Prelude.{◌≡◌, ℕ, ◌+◌, ◌<◌, ◌≤◌, ℤ, length, IsTrue, ◌↔◌, int_le, ◌&&◌};
 ghost use Rattle.sot_lists.specs.Places.{At};
 ghost use Rattle.sot_box.specs.Sides.{IsIn};
 ghost use Rattle.sot_box.specs.Boxes.{IsWithin};
@@ -9,18 +9,6 @@ ghost use Rattle.sot_world.specs.Events.{IsInBounds, noise_count};
 ghost use Rattle.sot_world.specs.Bounds.{noise_ranges};
 
 use sot_lang::{NoiseInfo, PlantInfo, ScalarInfo};
-
-/// Whether no flag is set.
-pub fn none_set(flags: &[bool]) -> bool
-    ensures { IsTrue result ↔ ((n : ℕ) → slice_index_or flags.now n false ≡ false) }
-{
-    for i in 0..flags.len() {
-        if flags[i] {
-            return false;
-        }
-    }
-    true
-}
 
 /// Whether a number is in a range.
 pub fn is_in(lo: i64, hi: i64, z: i64) -> bool

@@ -5,12 +5,12 @@ ghost use Rattle.sot_lists.specs.Places.{At};
 ghost use Rattle.sot_lang.specs.declared.tables.TopicInfo.{TopicInfo};
 ghost use Rattle.sot_world.specs.Configurations.{is_left, is_left_dm, mode_of, number_of, locals_of, point_of, IsOpening, IsSafer};
 ghost use Rattle.sot_world.specs.Opens.{AreStarts, StartInside, IsFirstOutside, IfNotSafer};
-ghost use Rattle.sot_world.specs.Steps.{is_enabled};
 ghost use Rattle.sot_world.specs.Events.{Names, IsPossible, Refuses, RefusesNode, RefusesDecision, RefusesInput, RefusesTick, IsTypedInput, IsInBounds, noise_count};
-ghost use Rattle.sot_world.specs.Calendar.{NothingLeft};
+ghost use Rattle.sot_world.specs.Steps.{MayTick};
 
+use crate::clock::{due_within, no_decision_at_deadline, no_node_at_deadline};
 use crate::event::Event;
-use crate::looks::{is_in_bounds, is_in_type, none_set};
+use crate::looks::{is_in_bounds, is_in_type};
 use crate::mode::Mode;
 use crate::open_fail::OpenFail;
 use crate::outcome::Why;
@@ -19,7 +19,6 @@ use crate::starts::{
     all_locals, decisions_left, first_outside, initial_scalars, nodes_left, roles, safe_modes,
 };
 use sot_box::Point;
-use sot_calendar::due;
 use sot_code::Locals;
 use sot_tube::Accepted;
 use std::alloc::{AllocError, Global};
@@ -162,7 +161,7 @@ impl<'a> World<'a> {
         self.locals[node as usize]
     }
 
-    /// Whether a node is still to fire now.
+    /// Whether a node is still to fire.
     pub fn left(&self, node: u32) -> bool
         requires { node < length self.now.accepted.program.nodes }
         ensures { result ≡ is_left self.now.at node }
@@ -170,7 +169,7 @@ impl<'a> World<'a> {
         self.left[node as usize]
     }
 
-    /// Whether a module is still to decide now.
+    /// Whether a module is still to decide.
     pub fn left_dm(&self, module: u32) -> bool
         requires { «module» < length self.now.accepted.program.modules }
         ensures { result ≡ is_left_dm self.now.at «module» }
@@ -178,13 +177,15 @@ impl<'a> World<'a> {
         self.left_dm[module as usize]
     }
 
-    /// Whether an event can happen now, and else why not. Of a tick's two causes, what is left comes first. The event names what
-    /// is there and of the right sort, and its lists have the lengths of what they are for.
+    /// Whether an event can happen now, and else why not. `NotDue`: no due time of the node or decision is now or at most the
+    /// certificate's jitter ago. `AlreadyFired`: there is one, and it has fired for it. `NodesLeft`: at a tick something that is left
+    /// has its deadline now. `OutsideType`: a value or a disturbance is out of range; for a tick it is looked for last. The event names
+    /// what is there and of the right sort, and its lists have the lengths of what they are for.
     pub fn can(&self, e: &Event<'_>) -> Result<(), Why>
         requires { Names self.now.accepted.program e.now }
         ensures { MatchResult result
-            (λ _. IsPossible self.now.accepted.program self.now.at e.now)
-            (λ why. Refuses self.now.accepted.program self.now.at e.now why) }
+            (λ _. IsPossible self.now.accepted.program self.now.accepted.cert.jitter self.now.at e.now)
+            (λ why. Refuses self.now.accepted.program self.now.accepted.cert.jitter self.now.at e.now why) }
     {
         match *e {
             Event::Input { topic, value } => self.can_take(topic, value),
@@ -214,14 +215,15 @@ impl<'a> World<'a> {
         requires { node < length self.now.accepted.program.nodes }
         ensures { MatchResult result
             (λ _. is_left self.now.at node ≡ true)
-            (λ why. RefusesNode self.now.accepted.program self.now.at node why) }
+            (λ why. RefusesNode self.now.accepted.program self.now.accepted.cert.jitter self.now.at node why) }
     {
         if self.left[node as usize] {
             return Ok(());
         }
         let p = self.accepted.typed();
         let info = &p.nodes[node as usize];
-        if due(info.period, info.offset, self.time) {
+        let jitter = self.accepted.cert().jitter;
+        if due_within(jitter, info.period, info.offset, self.time) {
             Err(Why::AlreadyFired)
         } else {
             Err(Why::NotDue)
@@ -232,33 +234,37 @@ impl<'a> World<'a> {
         requires { «module» < length self.now.accepted.program.modules }
         ensures { MatchResult result
             (λ _. is_left_dm self.now.at «module» ≡ true)
-            (λ why. RefusesDecision self.now.accepted.program self.now.at «module» why) }
+            (λ why. RefusesDecision self.now.accepted.program self.now.accepted.cert.jitter self.now.at «module» why) }
     {
         if self.left_dm[module as usize] {
             return Ok(());
         }
         let p = self.accepted.typed();
         let info = &p.modules[module as usize];
-        if due(info.period, info.offset, self.time) {
+        let jitter = self.accepted.cert().jitter;
+        if due_within(jitter, info.period, info.offset, self.time) {
             Err(Why::AlreadyFired)
         } else {
             Err(Why::NotDue)
         }
     }
 
-    fn nothing_left(&self) -> bool
-        ensures { IsTrue result ↔ NothingLeft self.now.accepted.program self.now.at }
+    fn may_tick(&self) -> bool
+        ensures { IsTrue result ↔ MayTick self.now.accepted.program self.now.accepted.cert.jitter self.now.at }
     {
-        none_set(&self.left) && none_set(&self.left_dm)
+        let p = self.accepted.typed();
+        let jitter = self.accepted.cert().jitter;
+        no_node_at_deadline(jitter, &p.nodes, &self.left, self.time)
+            && no_decision_at_deadline(jitter, &p.modules, &self.left_dm, self.time)
     }
 
     fn can_tick(&self, noise: &[i64]) -> Result<(), Why>
         requires { length noise.now ≡ noise_count self.now.accepted.program.plants }
         ensures { MatchResult result
-            (λ _. NothingLeft self.now.accepted.program self.now.at × IsInBounds self.now.accepted.program.plants noise.now)
-            (λ why. RefusesTick self.now.accepted.program self.now.at noise.now why) }
+            (λ _. MayTick self.now.accepted.program self.now.accepted.cert.jitter self.now.at × IsInBounds self.now.accepted.program.plants noise.now)
+            (λ why. RefusesTick self.now.accepted.program self.now.accepted.cert.jitter self.now.at noise.now why) }
     {
-        if !self.nothing_left() {
+        if !self.may_tick() {
             return Err(Why::NodesLeft);
         }
         let p = self.accepted.typed();

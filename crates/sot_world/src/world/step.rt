@@ -9,7 +9,6 @@ ghost use Rattle.sot_lang.specs.declared.tables.NodeInfo.{NodeInfo};
 ghost use Rattle.sot_lang.specs.TableRules.{IsCoded};
 ghost use Rattle.sot_world.specs.Configurations.{is_left, is_left_dm, mode_of};
 ghost use Rattle.sot_world.specs.Steps as steps;
-ghost use Rattle.sot_world.specs.Calendar.{NothingLeft};
 ghost use Rattle.sot_world.specs.Events.{Names, IsPossible, IsTypedInput, IsInBounds, event_of, noise_count, cut, slot_count, outcome_of};
 ghost use Rattle.sot_world.specs.Outcomes.{Recorded, RecordsCode, NodeFired};
 ghost use Rattle.sot_world.specs.StepOutcomes.{IsInTime, IsOutcome};
@@ -31,9 +30,9 @@ impl<'a> World<'a> {
     /// node has new locals and publishes nothing. Times are in ticks, at most 100,000.
     pub fn step(&mut self, e: &Event<'_>) -> Outcome
         requires names { Names self.old.accepted.program e.now }
-        requires possible { IsPossible self.old.accepted.program self.old.at e.now }
+        requires possible { IsPossible self.old.accepted.program self.old.accepted.cert.jitter self.old.at e.now }
         requires time { IsInTime self.old.at e.now }
-        ensures step { steps.Step self.old.accepted.program 0 self.old.at (event_of self.old.accepted.program e.now) self.new.at }
+        ensures step { steps.Step self.old.accepted.program self.old.accepted.cert.jitter self.old.at (event_of self.old.accepted.program e.now) self.new.at }
         ensures accepted { self.new.accepted ≡ self.old.accepted }
         ensures outcome { IsOutcome self.old.accepted.program self.old.at e.now self.new.at result }
     {
@@ -70,14 +69,15 @@ impl<'a> World<'a> {
     fn decide(&mut self, module: u32) -> Mode
         requires there { «module» < length self.old.accepted.program.modules }
         requires left { is_left_dm self.old.at «module» ≡ true }
-        ensures step { steps.Decides self.old.accepted.program 0 «module» self.old.at self.new.at }
+        ensures step { steps.Decides self.old.accepted.program self.old.accepted.cert.jitter «module» self.old.at self.new.at }
         ensures accepted { self.new.accepted ≡ self.old.accepted }
         ensures mode { result ≡ mode_of self.new.at «module» }
     {
         let p = self.accepted.typed();
+        let jitter = self.accepted.cert().jitter;
         let plant = p.modules[module as usize].plant;
         let before = self.modes[module as usize];
-        let mode = next_mode(p, module, before, &self.points[plant as usize]);
+        let mode = next_mode(p, jitter, module, before, &self.points[plant as usize]);
         self.modes[module as usize] = mode;
         self.left_dm[module as usize] = false;
         mode
@@ -133,10 +133,10 @@ impl<'a> World<'a> {
     // All plants tick: their next points are all computed before one takes the place of an old one.
     fn tick(&mut self, noise: &[i64])
         requires noise { length noise.now ≡ noise_count self.old.accepted.program.plants }
-        requires nothing_left { NothingLeft self.old.accepted.program self.old.at }
+        requires may { steps.MayTick self.old.accepted.program self.old.accepted.cert.jitter self.old.at }
         requires bounded { IsInBounds self.old.accepted.program.plants noise.now }
         requires time { self.old.at.time < 100000 }
-        ensures step { steps.Ticks self.old.accepted.program 0 (cut self.old.accepted.program.plants noise.now) self.old.at self.new.at }
+        ensures step { steps.Ticks self.old.accepted.program self.old.accepted.cert.jitter (cut self.old.accepted.program.plants noise.now) self.old.at self.new.at }
         ensures accepted { self.new.accepted ≡ self.old.accepted }
     {
         let p = self.accepted.typed();

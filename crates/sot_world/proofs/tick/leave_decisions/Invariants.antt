@@ -1,4 +1,4 @@
-use Rattle.std.proofs.Common.{◌≡◌, ◌↔◌, ℕ, ◌<◌, true, false, length, slice_index_or}
+use Rattle.std.proofs.Common.{◌≡◌, ◌↔◌, ◌⊎◌, ℕ, ◌<◌, ◌≤◌, true, false, length, slice_index_or}
 use Rattle.sot_lists.specs.Places.{At}
 use Rattle.sot_calendar.specs.Due.{IsDue}
 use Rattle.sot_lang.specs.declared.tables.ModuleInfo.{ModuleInfo}
@@ -7,5 +7,6 @@ use Rattle.sot_world.proofs.tick.leave_decisions.Given as goal
 abbrev pub invariant-loop-m : goal.invariant-loop-m
 invariant-loop-m l = record {
   size : length l.left ≡ length l.modules;
-  before : (k : ℕ) → k < l.m → (a : ModuleInfo) → At l.modules k a → (slice_index_or l.left k false ≡ true) ↔ IsDue a.period a.offset l.time;
+  before : (k : ℕ) → k < l.m → (x : ModuleInfo) → At l.modules k x → (slice_index_or l.left k false ≡ true) ↔ ((slice_index_or l.initial.left k false ≡ true) ⊎ IsDue x.period x.offset l.time);
+  behind : (k : ℕ) → l.m ≤ k → slice_index_or l.left k false ≡ slice_index_or l.initial.left k false;
 }

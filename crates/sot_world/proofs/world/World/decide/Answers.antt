@@ -11,8 +11,8 @@ use Rattle.sot_lists.proofs.Places.{read_at, read_or}
 use Rattle.sot_world.proofs.Stepping.{may_follow, decides_so, step_kept, step_along}
 use Rattle.sot_world.proofs.world.World.decide.Goals as goal
 
-pub next_mode-mode-requires : goal.next_mode-mode-requires
-next_mode-mode-requires c =
+pub next_mode-mode-requires-clause-follow : goal.next_mode-mode-requires-clause-follow
+next_mode-mode-requires-clause-follow c =
     let C = configuration c.self.inside in
     let kept = c.self.invariant.kept in
     let there = subst (λ s. c.args.module < length s.accepted.program.modules) (sym c.self.view_is) c.requires.there in
@@ -39,10 +39,11 @@ invariant_of-self c =
     let info = c.index.result.now in
     let next = c.next_mode-mode.result in
     let told = c.next_mode-mode.ensures info (subst (λ t. At t.modules c.args.module info) (sym c.typed-p.ensures.program) at) in
-    let is = subst (λ t. IsNextMode t info (mode_of C c.args.module) (point_of C info.plant) next) c.typed-p.ensures.program
-    (subst (λ s. IsNextMode c.typed-p.result.now info (mode_of C c.args.module) s next) point
-    (subst (λ x. IsNextMode c.typed-p.result.now info x c.index-2.result.now next) before told)) in
-    let step = decides_so p C c.args.module info next _ _ kept.holds.sizes.modes at left is refl refl in
+    let with_its_own = subst (λ t. IsNextMode t (c.cert.result.now.jitter) info (mode_of C c.args.module) (point_of C info.plant) next) c.typed-p.ensures.program
+    (subst (λ s. IsNextMode c.typed-p.result.now (c.cert.result.now.jitter) info (mode_of C c.args.module) s next) point
+    (subst (λ x. IsNextMode c.typed-p.result.now (c.cert.result.now.jitter) info x c.index-2.result.now next) before told)) in
+    let is = subst (λ j. IsNextMode p j info (mode_of C c.args.module) (point_of C info.plant) next) (ap (λ k. k.jitter) c.cert.ensures.cert) with_its_own in
+    let step = decides_so p c.self.inside.accepted.now.cert.jitter C c.args.module info next _ _ kept.holds.sizes.modes at left is refl refl in
     record { kept = step_kept c.self.inside.accepted.now C kept _ (Decide c.args.module) step kept.time; roles = c.self.invariant.roles; next = c.self.invariant.next }
 
 pub returns-clause-step : goal.returns-clause-step
@@ -61,7 +62,8 @@ returns-clause-step c =
     let info = c.index.result.now in
     let next = c.next_mode-mode.result in
     let told = c.next_mode-mode.ensures info (subst (λ t. At t.modules c.args.module info) (sym c.typed-p.ensures.program) at) in
-    let is = subst (λ t. IsNextMode t info (mode_of C c.args.module) (point_of C info.plant) next) c.typed-p.ensures.program
-    (subst (λ s. IsNextMode c.typed-p.result.now info (mode_of C c.args.module) s next) point
-    (subst (λ x. IsNextMode c.typed-p.result.now info x c.index-2.result.now next) before told)) in
-    step_along _ _ (Decide c.args.module) _ c.self.view_is (decides_so p C c.args.module info next _ _ kept.holds.sizes.modes at left is refl refl)
+    let with_its_own = subst (λ t. IsNextMode t (c.cert.result.now.jitter) info (mode_of C c.args.module) (point_of C info.plant) next) c.typed-p.ensures.program
+    (subst (λ s. IsNextMode c.typed-p.result.now (c.cert.result.now.jitter) info (mode_of C c.args.module) s next) point
+    (subst (λ x. IsNextMode c.typed-p.result.now (c.cert.result.now.jitter) info x c.index-2.result.now next) before told)) in
+    let is = subst (λ j. IsNextMode p j info (mode_of C c.args.module) (point_of C info.plant) next) (ap (λ k. k.jitter) c.cert.ensures.cert) with_its_own in
+    step_along _ _ (Decide c.args.module) _ c.self.view_is (decides_so p c.self.inside.accepted.now.cert.jitter C c.args.module info next _ _ kept.holds.sizes.modes at left is refl refl)

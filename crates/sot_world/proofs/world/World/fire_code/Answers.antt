@@ -83,7 +83,7 @@ invariant_of-self c =
     let info = read_at _ _ c.args.node _ (ap (λ t. t.nodes) (c.p.view_is ∙ c.typed-p.ensures.program)) there c.index-3.ensures in
     let same = at_same a.program.nodes c.args.node _ coded.0 info coded.2 in
     let writes = c.deref-4.ensures.value ∙ ap (λ x. x.writes.items) same in
-    let run = code_runs a.program 0 kept.rules.typed (well_formed a C kept) C c.args.node coded.0 coded.1 kept.holds coded.2 coded.3 in
+    let run = code_runs a.program a.cert.jitter kept.rules.typed (well_formed a C kept) C c.args.node coded.0 coded.1 kept.holds coded.2 coded.3 in
     let told = run_along _ _ c.args.node _ _ _ _ _ _ c.run-fired.result c.typed-p.ensures.program c.deref.ensures.value c.deref-2.ensures.value locals c.run-fired.ensures coded.0 coded.1 run.0 coded.2 coded.3 run.1 in
     let put = with_items_is c.self.inside.scalars c.publish_if.new.scalars (omega (arith, c.publish_if.auto.scalars, c.deref_mut.ensures.len)) in
     let published = put ∙ published_along c.enables-enabled.result _ _ _ _ c.run-fired.result.draft _ _ _ c.typed-p.ensures.program writes c.deref_mut.ensures.value c.publish_if.ensures in
@@ -106,7 +106,7 @@ returns-clause-step c =
     let info = read_at _ _ c.args.node _ (ap (λ t. t.nodes) (c.p.view_is ∙ c.typed-p.ensures.program)) there c.index-3.ensures in
     let same = at_same a.program.nodes c.args.node _ coded.0 info coded.2 in
     let writes = c.deref-4.ensures.value ∙ ap (λ x. x.writes.items) same in
-    let run = code_runs a.program 0 kept.rules.typed (well_formed a C kept) C c.args.node coded.0 coded.1 kept.holds coded.2 coded.3 in
+    let run = code_runs a.program a.cert.jitter kept.rules.typed (well_formed a C kept) C c.args.node coded.0 coded.1 kept.holds coded.2 coded.3 in
     let told = run_along _ _ c.args.node _ _ _ _ _ _ c.run-fired.result c.typed-p.ensures.program c.deref.ensures.value c.deref-2.ensures.value locals c.run-fired.ensures coded.0 coded.1 run.0 coded.2 coded.3 run.1 in
     let put = with_items_is c.self.inside.scalars c.publish_if.new.scalars (omega (arith, c.publish_if.auto.scalars, c.deref_mut.ensures.len)) in
     let published = put ∙ published_along c.enables-enabled.result _ _ _ _ c.run-fired.result.draft _ _ _ c.typed-p.ensures.program writes c.deref_mut.ensures.value c.publish_if.ensures in
@@ -124,7 +124,7 @@ returns-clause-outcome c =
     let role_there : c.args.node < length c.self.inside.roles.items = omega (arith, there, c.self.invariant.roles.each) in
     let role = c.self.invariant.roles.are c.args.node _ (read_at _ _ c.args.node _ refl role_there c.index-2.ensures) in
     let on = c.enables-enabled.ensures ∙ ap (role_enables c.index-2.result.now) c.deref-3.ensures.value ∙ role_enabled a.program kept.rules.typed (well_formed a C kept) C c.args.node c.index-2.result.now role in
-    let run = code_runs a.program 0 kept.rules.typed (well_formed a C kept) C c.args.node coded.0 coded.1 kept.holds coded.2 coded.3 in
+    let run = code_runs a.program a.cert.jitter kept.rules.typed (well_formed a C kept) C c.args.node coded.0 coded.1 kept.holds coded.2 coded.3 in
     let told = run_along _ _ c.args.node _ _ _ _ _ _ c.run-fired.result c.typed-p.ensures.program c.deref.ensures.value c.deref-2.ensures.value locals c.run-fired.ensures coded.0 coded.1 run.0 coded.2 coded.3 run.1 in
     subst (λ s. (r : Recorded) × RecordsCode s.accepted.program c.args.node s.at r × (outcome.Fired c.run-fired.result.draft c.enables-enabled.result ≡ outcome_of r)) c.self.view_is
     (code_recorded a.program C c.args.node coded.0 coded.1 run.0 c.run-fired.result.draft c.enables-enabled.result coded.2 coded.3 run.1 told.1 on)
