@@ -6,7 +6,7 @@ ghost use Rattle.sot_lang.specs.TableRules.{MeetsTableRules};
 
 use sot_lang::{ModuleInfo, NodeInfo, PlantInfo, Typed};
 
-#[tactic(auto, using(crate::proofs::Found::read_at))]
+#[tactic(auto, using(sot_lists::proofs::Places::read_at))]
 pub fn node_at(p: &Typed, node: u32) -> &NodeInfo
     requires { node < length p.now.nodes }
     ensures is { At p.now.nodes node result.now }
