@@ -1,6 +1,6 @@
 use Rattle.std.proofs.Common.{ℕ, ◌<◌}
 use Rattle.sot_lang.specs.declared.tables.ModuleInfo.{ModuleInfo}
-use Rattle.sot_box.specs.Lists.{At}
+use Rattle.sot_lists.specs.Places.{At}
 use Rattle.sot_compose.specs.Outputs.{ArePair}
 use Rattle.sot_compose.proofs.outputs.are_partners.Given as goal
 
