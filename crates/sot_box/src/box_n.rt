@@ -1,3 +1,5 @@
+//! Boxes: an interval for each axis.
+
 ghost use Rattle.std.specs.Prelude.{◌≡◌, ◌<◌, ◌≤◌, ◌≤ℤ◌, ◌⊎◌, length, slice_get, slice_set, Some, MatchOption, IsTrue, ◌↔◌};
 ghost use Rattle.sot_box.specs.Sides.{AreOrdered};
 ghost use Rattle.sot_box.specs.Boxes.{IsWithin, lows, highs};
@@ -72,6 +74,14 @@ impl BoxN {
     {
         let slots = &self.sides;
         slots[i]
+    }
+
+    /// The interval of the first axis.
+    pub(crate) fn first(&self) -> Interval
+        ensures { slice_get self.now 0 ≡ Some result }
+    {
+        let slots = &self.sides;
+        slots[0]
     }
 
     /// Whether the point is in the box.

@@ -1,3 +1,5 @@
+//! Points: a number for each axis.
+
 ghost use Rattle.std.specs.Prelude.{◌≡◌, ◌<◌, ◌≤◌, ◌⊎◌, length, slice_get, slice_set, Some, replicate, pos, MatchOption};
 
 use std::marker::Model;
@@ -57,6 +59,14 @@ impl Point {
     {
         let slots = &self.at;
         slots[i]
+    }
+
+    /// The coordinate on the first axis.
+    pub(crate) fn first(&self) -> i64
+        ensures { slice_get self.now 0 ≡ Some result }
+    {
+        let slots = &self.at;
+        slots[0]
     }
 
     /// Changes the coordinate on axis `i` to `v`.
