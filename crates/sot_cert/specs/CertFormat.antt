@@ -39,7 +39,7 @@ cell width d = do
 
 -- the cells that a certificate gives, as a region
 abbrev pub region_of : ℕ → List (List Side) → BoxList
-region_of width boxes = record { width = width; boxes = boxes }
+region_of width boxes = record { width = width; boxes = boxes; settled = false }
 
 abbrev pub cell_limit : ℕ
 cell_limit = 4096

@@ -2,7 +2,7 @@
 ghost use Rattle.std.specs.Prelude.{◌≡◌, ◌≤◌, ◌<◌, length, codes, nat_lt, IfOk, OnOk};
 ghost use Rattle.std.specs.List.{list_all};
 ghost use Rattle.serde_json.specs.View.{view, members_view};
-ghost use Rattle.sot_box.specs.Lists.{At};
+ghost use Rattle.sot_lists.specs.Places.{At};
 ghost use Rattle.sot_lang.specs.OwnerNames.{width_of};
 ghost use Rattle.sot_lang.specs.TableRules.{MeetsTableRules};
 ghost use Rattle.sot_lang.specs.CertRules.{FitsTables};
@@ -62,7 +62,7 @@ fn plant_at(p: &Typed, plant: u32) -> &PlantInfo
 }
 
 /// How many state variables a plant has.
-#[tactic(auto, using(crate::proofs::Plants::width_is, crate::proofs::Plants::some_states, crate::proofs::Plants::few_states))]
+#[tactic(auto, using(sot_lang::proofs::Owners::width_at, crate::proofs::Plants::some_states, crate::proofs::Plants::few_states))]
 fn width_at(p: &Typed, plant: u32) -> usize
     requires { plant < length p.now.plants }
     ensures value { result ≡ width_of p.now.plants plant }
