@@ -2,5 +2,7 @@
 pub mod Pointers
 pub mod Says
 pub mod Json
-pub mod CertFormat
 pub mod Answers
+pub mod CertFormat
+-- worked values
+pub mod CertExamples

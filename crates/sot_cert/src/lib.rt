@@ -6,11 +6,13 @@
 #![tactic(auto)]
 
 mod cells;
+mod facts;
 mod fault;
 mod path;
 mod reading;
 mod value;
 
+pub use facts::{certificates_are_as_stated, faults_are_as_stated};
 pub use fault::{CertFail, JsonFail, JsonFault, JsonKind};
 pub use path::Path;
 pub use reading::read_cert;
