@@ -1,0 +1,9 @@
+pub mod Faults
+pub mod Escapes
+pub mod Lists
+pub mod Modules
+pub mod Binds
+pub mod Bounds
+pub mod Sides
+pub mod Plants
+pub mod Fits

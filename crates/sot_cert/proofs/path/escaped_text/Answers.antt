@@ -1,0 +1,15 @@
+use Rattle.std.proofs.Common.{encode_utf8, ap, sym, ◌∙◌, ◌++◌}
+use Rattle.std.specs.Str.{encode_utf8_all}
+use Rattle.std.proofs.lemmas.Iterator.{YieldsList-from_chars}
+use Rattle.std.proofs.lemmas.Iterator.Consumers.{YieldsList-end}
+use Rattle.sot_cert.specs.Pointers.{escaped}
+use Rattle.sot_cert.proofs.Escapes.{escaped_push, all_spelled}
+use Rattle.sot_cert.proofs.path.escaped_text.Goals as goal
+
+pub loop-c-preserved : goal.loop-c-preserved
+loop-c-preserved c = c.in_ok-push_escaped.ensures ∙ ap (λ t. t ++ escaped (encode_utf8 c.in-Some.c)) c.loop-c.invariant ∙ sym (escaped_push c.loop-c.yielded c.in-Some.c)
+
+pub returns : goal.returns
+returns c =
+    let t = YieldsList-end (YieldsList-from_chars c.args.name.now c.utf8.name cc) c.loop-c.yielded _ c.loop-c.yielded_by _ _ c.in-None.is c.next.ensures.steps in
+    c.loop-c.invariant ∙ ap escaped (all_spelled c.args.name.now c.loop-c.yielded c.utf8.name t.0)

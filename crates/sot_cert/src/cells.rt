@@ -1,0 +1,115 @@
+//! Sides, cells and lists of cells of a certificate.
+ghost use Rattle.std.specs.Prelude.{◌≡◌, ◌≤◌, length, IfOk};
+ghost use Rattle.serde_json.specs.View.{view, items_view};
+ghost use Rattle.sot_cert.specs.Json.{each};
+ghost use Rattle.sot_cert.specs.CertFormat.{number, side, cell, cells};
+ghost use Rattle.sot_cert.specs.Answers.{Gives};
+
+use crate::fault::{JsonFail, JsonKind};
+use crate::value::{fault_at, fault_under, fault_under_index, two_of, whole_of};
+use serde_json::Value;
+use sot_box::{BoxN, Interval, Region};
+use std::alloc::Global;
+
+const GREATEST: i64 = 1_000_000_000_000;
+
+const CELL_LIMIT: usize = 4096;
+
+#[tactic(auto, unfolding(crate::specs::CertFormat::number))]
+fn number_of(alloc: Global, value: &Value) -> Result<i64, JsonFail>
+    ensures { Gives (λ x. x) result (number (view value.now)) }
+{
+    whole_of(alloc, -GREATEST, GREATEST, value)
+}
+
+#[tactic(auto, unfolding(crate::specs::CertFormat::side), using(crate::proofs::Faults::part_fails))]
+fn side_of(alloc: Global, value: &Value) -> Result<Interval, JsonFail>
+    ensures { Gives (λ x. x) result (side (view value.now)) }
+{
+    let Some(list) = value.as_array() else {
+        return Err(fault_at(alloc, JsonKind::WrongShape));
+    };
+    let Some((lo, hi)) = two_of(list) else {
+        return Err(fault_at(alloc, JsonKind::Width));
+    };
+    let lo = match number_of(alloc, lo) {
+        Ok(lo) => lo,
+        Err(fail) => return Err(fault_under(alloc, "0", fail)),
+    };
+    let hi = match number_of(alloc, hi) {
+        Ok(hi) => hi,
+        Err(fail) => return Err(fault_under(alloc, "1", fail)),
+    };
+    match Interval::new(lo, hi) {
+        Some(side) => Ok(side),
+        None => Err(fault_at(alloc, JsonKind::Empty)),
+    }
+}
+
+#[tactic(auto, using(crate::proofs::Lists::goes_on, crate::proofs::Lists::ends, crate::proofs::Lists::is_done))]
+fn sides_of(alloc: Global, list: &Vec<Value>) -> Result<Vec<Interval>, JsonFail>
+    ensures { Gives (λ x. x.items) result (each side (items_view list.now.items)) }
+{
+    let mut found = Vec::new(alloc);
+    for item in list.iter() {
+        match side_of(alloc, item) {
+            Ok(side) => found.push(side)?,
+            Err(fail) => return Err(fault_under_index(alloc, found.len(), fail)),
+        }
+    }
+    Ok(found)
+}
+
+#[tactic(auto, unfolding(crate::specs::CertFormat::cell), using(crate::proofs::Lists::items_len_view, crate::proofs::Sides::cell_len))]
+fn cell_of(alloc: Global, width: usize, value: &Value) -> Result<BoxN, JsonFail>
+    requires { (1 ≤ width) × (width ≤ 4) }
+    ensures says { Gives (λ x. x) result (cell width (view value.now)) }
+    ensures width { IfOk result (λ b. length b ≡ width) }
+{
+    let Some(list) = value.as_array() else {
+        return Err(fault_at(alloc, JsonKind::WrongShape));
+    };
+    if list.len() != width {
+        return Err(fault_at(alloc, JsonKind::Width));
+    }
+    let sides = sides_of(alloc, list)?;
+    match BoxN::of(&sides) {
+        Some(cell) => Ok(cell),
+        None => unreachable!(),
+    }
+}
+
+#[tactic(auto, using(crate::proofs::Lists::goes_on, crate::proofs::Lists::ends, crate::proofs::Lists::is_done))]
+fn boxes_of(alloc: Global, width: usize, list: &Vec<Value>) -> Result<Region, JsonFail>
+    requires { (1 ≤ width) × (width ≤ 4) }
+    ensures says { Gives (λ r. r.boxes) result (each (cell width) (items_view list.now.items)) }
+    ensures width { IfOk result (λ r. r.width ≡ width) }
+{
+    let mut found = Region::none(alloc, width);
+    for item in list.iter() {
+        match cell_of(alloc, width, item) {
+            Ok(cell) => match found.push(cell) {
+                Ok(()) => {}
+                Err(_) => return Err(JsonFail::Memory),
+            },
+            Err(fail) => return Err(fault_under_index(alloc, found.len(), fail)),
+        }
+    }
+    Ok(found)
+}
+
+/// A list of cells, as a region of that width.
+#[tactic(auto, unfolding(crate::specs::CertFormat::cells), using(crate::proofs::Lists::items_len_view))]
+pub(crate) fn cells_of(alloc: Global, width: usize, value: &Value) -> Result<Region, JsonFail>
+    requires { (1 ≤ width) × (width ≤ 4) }
+    ensures { Gives (λ r. r) result (cells width (view value.now)) }
+{
+    let Some(list) = value.as_array() else {
+        return Err(fault_at(alloc, JsonKind::WrongShape));
+    };
+    if list.len() > CELL_LIMIT {
+        return Err(fault_at(alloc, JsonKind::TooMany));
+    }
+    let region = boxes_of(alloc, width, list)?;
+    Ok(region)
+}

@@ -1,0 +1,67 @@
+//! A JSON pointer: where a value stands in a JSON text.
+ghost use Rattle.std.specs.Prelude.{◌≡◌, ℕ, List, [], ◌∷◌, ◌++◌, IfOk, OnOk, encode_utf8, string_bytes};
+ghost use Rattle.sot_cert.specs.Pointers.{escaped};
+
+use std::alloc::{AllocError, Global};
+use std::marker::Model;
+
+/// A JSON pointer. Contracts see its bytes. The root is the empty one; print it as `/`.
+#[derive(Debug, Drop)]
+pub struct Path {
+    text: String,
+}
+
+impl Model for Path {
+    ghost Value = { List ℕ };
+
+    ghost view = { λ p. string_bytes p.text };
+}
+
+impl Path {
+    /// The path of the whole text.
+    pub fn root(alloc: Global) -> Path
+        ensures { result ≡ [] }
+    {
+        Path {
+            text: String::new(alloc),
+        }
+    }
+
+    /// This path, seen from the value that holds it under that name.
+    pub fn below(&self, alloc: Global, name: &str) -> Result<Path, AllocError>
+        ensures { IfOk result (λ p. p ≡ 47 ∷ escaped name.now ++ self.now) }
+    {
+        let name = escaped_text(alloc, name)?;
+        let front = name.as_str();
+        let rest = self.text.as_str();
+        let text = format!(in alloc; "/{front}{rest}")?;
+        Ok(Path { text })
+    }
+
+    pub fn as_str(&self) -> &str
+        ensures { result.now ≡ self.now }
+    {
+        self.text.as_str()
+    }
+}
+
+/// The name with `~0` for each `~` and `~1` for each `/`.
+fn escaped_text(alloc: Global, name: &str) -> Result<String, AllocError>
+    ensures { IfOk result (λ t. string_bytes t ≡ escaped name.now) }
+{
+    let mut text = String::new(alloc);
+    for c in name.chars() {
+        push_escaped(&mut text, c)?;
+    }
+    Ok(text)
+}
+
+fn push_escaped(text: &mut String, c: char) -> Result<(), AllocError>
+    ensures { OnOk result (string_bytes text.new ≡ string_bytes text.old ++ escaped (encode_utf8 c)) }
+{
+    match c {
+        '~' => text.push_str("~0"),
+        '/' => text.push_str("~1"),
+        _ => text.push(c),
+    }
+}

@@ -1,0 +1,285 @@
+//! Entries of modules, the jitter, and the whole certificate.
+ghost use Rattle.std.specs.Prelude.{◌≡◌, ◌≤◌, ◌<◌, length, codes, nat_lt, IfOk, OnOk};
+ghost use Rattle.std.specs.List.{list_all};
+ghost use Rattle.serde_json.specs.View.{view, members_view};
+ghost use Rattle.sot_lists.specs.Places.{At};
+ghost use Rattle.sot_lang.specs.OwnerNames.{width_of};
+ghost use Rattle.sot_lang.specs.TableRules.{MeetsTableRules};
+ghost use Rattle.sot_lang.specs.CertRules.{FitsTables};
+ghost use Rattle.sot_cert.specs.Json.{at, may, is_among, all_among};
+ghost use Rattle.sot_cert.specs.CertFormat.{cells, entry, entries, names, modules as modules_say, is_below_periods, jitter, jitter_in, has_jitter, keys, cert, cert_of, contents};
+ghost use Rattle.sot_cert.specs.Answers.{Gives};
+
+use crate::cells::cells_of;
+use crate::fault::{CertFail, JsonFail, JsonKind};
+use crate::value::{count_of, fault_at, fault_under, has_only, member_of, value_of, whole_of};
+use serde_json::{Map, Value};
+use sot_box::Region;
+use sot_lang::{Cells, Cert, PlantInfo, Typed};
+use std::alloc::Global;
+
+#[tactic(auto, unfolding(crate::specs::Json::at), using(crate::proofs::Faults::at_fails, crate::proofs::Faults::at_missing))]
+fn cells_at(
+    alloc: Global,
+    name: &str,
+    width: usize,
+    object: &Map<String, Value>,
+) -> Result<Region, JsonFail>
+    requires { (1 ≤ width) × (width ≤ 4) }
+    ensures { Gives (λ r. r) result (at name.now (cells width) (members_view object.now.entries)) }
+{
+    let Some(value) = member_of(object, name) else {
+        return Err(fault_under(alloc, name, fault_at(alloc, JsonKind::Missing)));
+    };
+    match cells_of(alloc, width, value) {
+        Ok(region) => Ok(region),
+        Err(fail) => Err(fault_under(alloc, name, fail)),
+    }
+}
+
+#[tactic(auto, unfolding(crate::specs::CertFormat::entry))]
+fn entry_of(alloc: Global, width: usize, value: &Value) -> Result<Cells, JsonFail>
+    requires { (1 ≤ width) × (width ≤ 4) }
+    ensures { Gives (λ x. x) result (entry width (view value.now)) }
+{
+    let Some(object) = value.as_object() else {
+        return Err(fault_at(alloc, JsonKind::WrongShape));
+    };
+    let closed = cells_at(alloc, "closed", width, object)?;
+    let reach = cells_at(alloc, "reach", width, object)?;
+    if !has_only(object, &["closed", "reach"]) {
+        return Err(fault_at(alloc, JsonKind::Unknown));
+    }
+    Ok(Cells { closed, reach })
+}
+
+fn plant_at(p: &Typed, plant: u32) -> &PlantInfo
+    requires { plant < length p.now.plants }
+    ensures is { At p.now.plants plant result.now }
+    ensures rules { MeetsTableRules p.now }
+{
+    &p.plants[plant as usize]
+}
+
+/// How many state variables a plant has.
+#[tactic(auto, using(sot_lang::proofs::Owners::width_at, crate::proofs::Plants::some_states, crate::proofs::Plants::few_states))]
+fn width_at(p: &Typed, plant: u32) -> usize
+    requires { plant < length p.now.plants }
+    ensures value { result ≡ width_of p.now.plants plant }
+    ensures some { 1 ≤ result }
+    ensures few { result ≤ 4 }
+{
+    plant_at(p, plant).states.len()
+}
+
+#[tactic(auto, using(crate::proofs::Faults::may_fails))]
+fn entry_at(
+    alloc: Global,
+    name: &str,
+    width: usize,
+    object: &Map<String, Value>,
+) -> Result<Option<Cells>, JsonFail>
+    requires { (1 ≤ width) × (width ≤ 4) }
+    ensures { Gives (λ o. o) result (may name.now (entry width) (members_view object.now.entries)) }
+{
+    let Some(value) = member_of(object, name) else {
+        return Ok(None);
+    };
+    match entry_of(alloc, width, value) {
+        Ok(cells) => Ok(Some(cells)),
+        Err(fail) => Err(fault_under(alloc, name, fail)),
+    }
+}
+
+#[tactic(auto, using(crate::proofs::Modules::entries_on, crate::proofs::Modules::entries_end, crate::proofs::Modules::entries_done))]
+fn entries_of(
+    alloc: Global,
+    p: &Typed,
+    object: &Map<String, Value>,
+) -> Result<Vec<Option<Cells>>, JsonFail>
+    ensures says { Gives (λ v. v.items) result (entries p.now.plants p.now.modules (members_view object.now.entries)) }
+    ensures rules { MeetsTableRules p.now }
+{
+    let mut found = Vec::new(alloc);
+    for info in p.modules.iter() {
+        let width = width_at(p, info.plant);
+        match entry_at(alloc, info.name.as_str(), width, object) {
+            Ok(entry) => found.push(entry)?,
+            Err(fail) => return Err(fail),
+        }
+    }
+    Ok(found)
+}
+
+#[tactic(auto, using(crate::proofs::Modules::among_from, crate::proofs::Modules::among_past))]
+fn is_module(p: &Typed, key: &str) -> bool
+    ensures { result ≡ is_among key.now (names p.now.modules) }
+{
+    for info in p.modules.iter() {
+        if key == info.name.as_str() {
+            return true;
+        }
+    }
+    false
+}
+
+fn has_only_modules(p: &Typed, object: &Map<String, Value>) -> bool
+    ensures { result ≡ all_among (members_view object.now.entries) (names p.now.modules) }
+{
+    for (key, _value) in object.iter() {
+        if !is_module(p, key.as_str()) {
+            return false;
+        }
+    }
+    true
+}
+
+#[tactic(auto, unfolding(crate::specs::CertFormat::modules))]
+fn modules_of(alloc: Global, p: &Typed, value: &Value) -> Result<Vec<Option<Cells>>, JsonFail>
+    ensures says { Gives (λ v. v.items) result (modules_say p.now (view value.now)) }
+    ensures rules { OnOk result (MeetsTableRules p.now) }
+{
+    let Some(object) = value.as_object() else {
+        return Err(fault_at(alloc, JsonKind::WrongShape));
+    };
+    let found = entries_of(alloc, p, object)?;
+    if !has_only_modules(p, object) {
+        return Err(fault_at(alloc, JsonKind::Unknown));
+    }
+    Ok(found)
+}
+
+#[tactic(auto, unfolding(crate::specs::Json::at), using(crate::proofs::Faults::at_fails, crate::proofs::Faults::at_missing))]
+fn modules_at(
+    alloc: Global,
+    p: &Typed,
+    object: &Map<String, Value>,
+) -> Result<Vec<Option<Cells>>, JsonFail>
+    ensures says { Gives (λ v. v.items) result (at (codes "modules") (modules_say p.now) (members_view object.now.entries)) }
+    ensures rules { OnOk result (MeetsTableRules p.now) }
+{
+    let Some(value) = member_of(object, "modules") else {
+        return Err(fault_under(alloc, "modules", fault_at(alloc, JsonKind::Missing)));
+    };
+    match modules_of(alloc, p, value) {
+        Ok(found) => Ok(found),
+        Err(fail) => Err(fault_under(alloc, "modules", fail)),
+    }
+}
+
+fn is_below_nodes(p: &Typed, jitter: u32) -> bool
+    ensures { result ≡ list_all (λ n. nat_lt jitter n.period) p.now.nodes }
+{
+    p.nodes.iter().all(|node| jitter < node.period)
+}
+
+fn is_below_modules(p: &Typed, jitter: u32) -> bool
+    ensures { result ≡ list_all (λ m. nat_lt jitter m.period) p.now.modules }
+{
+    p.modules.iter().all(|info| jitter < info.period)
+}
+
+/// Whether a jitter is below the period of every node and of every module.
+fn is_below_all(p: &Typed, jitter: u32) -> bool
+    ensures { result ≡ is_below_periods p.now jitter }
+{
+    is_below_nodes(p, jitter) && is_below_modules(p, jitter)
+}
+
+#[tactic(auto, unfolding(crate::specs::CertFormat::jitter))]
+fn jitter_of(alloc: Global, p: &Typed, value: &Value) -> Result<u32, JsonFail>
+    ensures { Gives (λ x. x) result (jitter p.now (view value.now)) }
+{
+    let jitter = count_of(alloc, 999, value)? as u32;
+    if !is_below_all(p, jitter) {
+        return Err(fault_at(alloc, JsonKind::OutsideRange));
+    }
+    Ok(jitter)
+}
+
+#[tactic(auto, unfolding(crate::specs::Json::at), using(crate::proofs::Faults::at_fails, crate::proofs::Faults::at_missing))]
+fn jitter_at(alloc: Global, p: &Typed, object: &Map<String, Value>) -> Result<u32, JsonFail>
+    ensures { Gives (λ x. x) result (at (codes "jitter") (jitter p.now) (members_view object.now.entries)) }
+{
+    let Some(value) = member_of(object, "jitter") else {
+        return Err(fault_under(alloc, "jitter", fault_at(alloc, JsonKind::Missing)));
+    };
+    match jitter_of(alloc, p, value) {
+        Ok(jitter) => Ok(jitter),
+        Err(fail) => Err(fault_under(alloc, "jitter", fail)),
+    }
+}
+
+#[tactic(auto, unfolding(crate::specs::CertFormat::has_jitter))]
+fn format_of(alloc: Global, value: &Value) -> Result<bool, JsonFail>
+    ensures { Gives (λ x. x) result (has_jitter (view value.now)) }
+{
+    let format = whole_of(alloc, 1, 2, value)?;
+    Ok(2 <= format)
+}
+
+#[tactic(auto, unfolding(crate::specs::Json::at), using(crate::proofs::Faults::at_fails, crate::proofs::Faults::at_missing))]
+fn format_at(alloc: Global, object: &Map<String, Value>) -> Result<bool, JsonFail>
+    ensures { Gives (λ x. x) result (at (codes "format") has_jitter (members_view object.now.entries)) }
+{
+    let Some(value) = member_of(object, "format") else {
+        return Err(fault_under(alloc, "format", fault_at(alloc, JsonKind::Missing)));
+    };
+    match format_of(alloc, value) {
+        Ok(jittered) => Ok(jittered),
+        Err(fail) => Err(fault_under(alloc, "format", fail)),
+    }
+}
+
+#[tactic(auto, unfolding(crate::specs::CertFormat::jitter_in))]
+fn jitter_where(
+    alloc: Global,
+    jittered: bool,
+    p: &Typed,
+    object: &Map<String, Value>,
+) -> Result<u32, JsonFail>
+    ensures { Gives (λ x. x) result (jitter_in jittered p.now (members_view object.now.entries)) }
+{
+    if jittered {
+        jitter_at(alloc, p, object)
+    } else {
+        Ok(0)
+    }
+}
+
+fn has_only_keys(jittered: bool, object: &Map<String, Value>) -> bool
+    ensures { result ≡ all_among (members_view object.now.entries) (keys jittered) }
+{
+    if jittered {
+        has_only(object, &["format", "jitter", "modules"])
+    } else {
+        has_only(object, &["format", "modules"])
+    }
+}
+
+#[tactic(auto, unfolding(crate::specs::CertFormat::cert), using(crate::proofs::Fits::cert_fits))]
+fn cert_in(alloc: Global, p: &Typed, value: &Value) -> Result<Cert, JsonFail>
+    ensures says { Gives contents result (cert p.now (view value.now)) }
+    ensures fits { IfOk result (λ c. FitsTables p.now c) }
+{
+    let Some(object) = value.as_object() else {
+        return Err(fault_at(alloc, JsonKind::WrongShape));
+    };
+    let jittered = format_at(alloc, object)?;
+    let jitter = jitter_where(alloc, jittered, p, object)?;
+    let modules = modules_at(alloc, p, object)?;
+    if !has_only_keys(jittered, object) {
+        return Err(fault_at(alloc, JsonKind::Unknown));
+    }
+    Ok(Cert { jitter, modules })
+}
+
+/// The certificate that the bytes say, with an entry or none for each module of the program in declared order, or their
+/// first fault in the order of the format. A module without an entry is no fault.
+pub fn read_cert(alloc: Global, p: &Typed, bytes: &[u8]) -> Result<Cert, CertFail>
+    ensures says { Gives contents result (cert_of p.now bytes.now) }
+    ensures fits { IfOk result (λ c. FitsTables p.now c) }
+{
+    let value = value_of(alloc, bytes)?;
+    cert_in(alloc, p, &value)
+}
