@@ -8,8 +8,8 @@ use Rattle.sot_tree.specs.declared.operator.Func.{Func}
 use Rattle.sot_tree.specs.declared.operator.Func.TheVariants.{Min, Max, Abs, Clamp}
 use Rattle.sot_tree.specs.declared.tree.Lit.{Lit}
 use Rattle.sot_tree.specs.Trees.{Tree, called, rescaled, no_tree, one_more}
-use Rattle.sot_parser.specs.Lexemes.{IsNumber, literal}
-use Rattle.sot_parser.specs.Phrases.{Phrase, an_abs, a_pair, a_clamp, a_rescale, spelled, IsPairWord, tree_of}
+use Rattle.sot_expression.specs.Lexemes.{IsNumber, literal}
+use Rattle.sot_expression.specs.Phrases.{Phrase, an_abs, a_pair, a_clamp, a_rescale, spelled, IsPairWord, tree_of}
 use Rattle.sot_print.specs.declared.gap.Gap.{Gap}
 use Rattle.sot_print.specs.declared.gap.Gap.TheVariants.{Touching, Space}
 use Rattle.sot_print.specs.Words.{Word, sign}

@@ -5,7 +5,7 @@ use Rattle.sot_tree.specs.declared.operator.Func.{Func}
 use Rattle.sot_tree.specs.declared.operator.Func.TheVariants.{Min, Max, Abs, Clamp}
 use Rattle.sot_tree.specs.Functions.{arity}
 use Rattle.sot_parser.specs.Pieces.{maybe}
-use Rattle.sot_parser.specs.Phrases.{Phrase, a_number, a_truth, a_name, a_field, a_group, an_abs, a_pair, a_clamp, a_rescale, a_minus, a_rest, a_join, a_not, an_if as a_choice, spelled, IsPhrase, IsPairWord, with_minus, tree_of}
+use Rattle.sot_expression.specs.Phrases.{Phrase, a_number, a_truth, a_name, a_field, a_group, an_abs, a_pair, a_clamp, a_rescale, a_minus, a_rest, a_join, a_not, an_if as a_choice, spelled, IsPhrase, IsPairWord, with_minus, tree_of}
 use Rattle.sot_parser.specs.Statements.{spelled_expression, expression_of, AssignForm, spelled_assign, spelled_dot, dot_of, PublishForm, spelled_publish, an_assign, a_publish, an_if, a_repeat, braces, no_else, with_else, no_more, one_more, spelled_statement, spelled_block, spelled_else, spelled_statements, statement_of, block_of, else_of, statements_of}
 use Rattle.sot_tree.specs.Formed as formed
 use Rattle.sot_canon.proofs.Texts.{AreTexts}

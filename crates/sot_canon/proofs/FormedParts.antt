@@ -6,7 +6,7 @@ use Rattle.sot_text.specs.declared.token.Kind.TheVariants.{Number}
 use Rattle.sot_text.specs.Lexeme.{decimals_of, mantissa_of, IsTokenText}
 use Rattle.sot_text.specs.Reading.{Lexeme}
 use Rattle.sot_text.proofs.Limits.{token_fits}
-use Rattle.sot_parser.specs.Lexemes.{IsNumber, literal, negative_literal}
+use Rattle.sot_expression.specs.Lexemes.{IsNumber, literal, negative_literal}
 use Rattle.sot_parser.specs.Pieces.{spelled_name, name_of, spelled_number, number_of, each, maybe, Further, Separated, spelled_further, spelled_separated, further_of, separated_of, plain, negative, spelled_literal, literal_of, spelled_side, side_of, spelled_range, range_of, spelled_fix, fix_of, an_int, a_fix, a_bool, spelled_scalar, scalar_of, spelled_field, field_of, a_literal, a_yes, a_no, spelled_const, const_of, ClauseForm, spelled_clause, clause_of, clause_or_none, RoleForm, spelled_role, role_of, TimingForm, spelled_timing, timing_of}
 use Rattle.sot_tree.specs.Formed as formed
 use Rattle.sot_canon.proofs.Texts.{AreTexts}

@@ -16,7 +16,7 @@ use Rattle.sot_tree.specs.declared.tree.Scalar.TheVariants.{Int, Fix}
 use Rattle.sot_tree.specs.declared.tree.Field.{Field}
 use Rattle.sot_tree.specs.declared.tree.Const.{Const}
 use Rattle.sot_tree.specs.declared.tree.Const.TheVariants.{Number as Numeral}
-use Rattle.sot_parser.specs.Lexemes.{IsNumber, IsName, literal, negative_literal}
+use Rattle.sot_expression.specs.Lexemes.{IsNumber, IsName, literal, negative_literal}
 use Rattle.sot_parser.specs.Pieces.{Sign, Named, Digits, spelled_name, spelled_number, name_of, number_of, LiteralForm, plain, negative, spelled_literal, literal_of, SideForm, spelled_side, side_of, RangeForm, spelled_range, range_of, FixForm, spelled_fix, fix_of, ScalarForm, an_int, a_fix, a_bool, spelled_scalar, scalar_of, FieldForm, spelled_field, field_of, ConstForm, a_literal, a_yes, a_no, spelled_const, const_of}
 use Rattle.sot_print.specs.declared.gap.Gap.{Gap}
 use Rattle.sot_print.specs.declared.gap.Gap.TheVariants.{Touching}

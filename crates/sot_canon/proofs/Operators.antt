@@ -9,10 +9,10 @@ use Rattle.sot_tree.specs.declared.operator.Op.{Op}
 use Rattle.sot_tree.specs.declared.operator.Op.TheVariants.{Add, Sub, Mul, Div, Less, LessEqual, Greater, GreaterEqual, Equal, NotEqual, And, Or}
 use Rattle.sot_tree.specs.declared.tree.Lit.{Lit}
 use Rattle.sot_tree.specs.Trees.{Tree, number, binary, rest, negated, denied, chosen}
-use Rattle.sot_parser.specs.Lexemes.{IsSign, IsNumber, literal, negative_literal}
+use Rattle.sot_expression.specs.Lexemes.{IsSign, IsNumber, literal, negative_literal}
 use Rattle.sot_parser.specs.Pieces.{LiteralForm, plain, negative, spelled_literal, literal_of}
-use Rattle.sot_parser.specs.Operators.{tier_of_op}
-use Rattle.sot_parser.specs.Phrases.{Phrase, a_number, a_truth, a_name, a_field, a_group, an_abs, a_pair, a_clamp, a_rescale, a_minus, a_rest, a_join, a_not, an_if, spelled, IsOperator, IsPhrase, with_minus, tree_of, is_numeral, levels_of}
+use Rattle.sot_expression.specs.Operators.{tier_of_op}
+use Rattle.sot_expression.specs.Phrases.{Phrase, a_number, a_truth, a_name, a_field, a_group, an_abs, a_pair, a_clamp, a_rescale, a_minus, a_rest, a_join, a_not, an_if, spelled, IsOperator, IsPhrase, with_minus, tree_of, is_numeral, levels_of}
 use Rattle.sot_print.specs.declared.gap.Gap.{Gap}
 use Rattle.sot_print.specs.declared.gap.Gap.TheVariants.{Touching, Space}
 use Rattle.sot_print.specs.Words.{Word, keyword, sign}

@@ -6,8 +6,8 @@ use Rattle.sot_text.specs.Lexeme.{IsTokenText}
 use Rattle.sot_text.specs.Reading.{Lexeme}
 use Rattle.sot_tree.specs.declared.tree.Ident.{Ident}
 use Rattle.sot_tree.specs.Trees.{number, named}
-use Rattle.sot_parser.specs.Lexemes.{IsKeyword, IsSign, IsName, IsNumber}
-use Rattle.sot_parser.specs.Phrases.{Phrase, a_number, a_truth, a_name, a_field, a_group, spelled, tier_of, IsPhrase, tree_of, is_group, levels_of}
+use Rattle.sot_expression.specs.Lexemes.{IsKeyword, IsSign, IsName, IsNumber}
+use Rattle.sot_expression.specs.Phrases.{Phrase, a_number, a_truth, a_name, a_field, a_group, spelled, tier_of, IsPhrase, tree_of, is_group, levels_of}
 use Rattle.sot_print.specs.declared.gap.Gap.{Gap}
 use Rattle.sot_print.specs.declared.gap.Gap.TheVariants.{Touching}
 use Rattle.sot_print.specs.Words.{Word, keyword, sign}

@@ -2,18 +2,20 @@
 use Rattle.std.proofs.Common.{◌≡◌, ℕ, ◌≤◌, ◌||◌, codes, map, List, [], ◌∷◌, Bool, true, false, Option, None, Some, Ok, refl, arith}
 use Rattle.std.specs.Str.{bytes_eq}
 use Rattle.sot_text.specs.Reading.{Lexeme}
-use Rattle.sot_parser.specs.Lexemes.{begins, is_sign, is_keyword}
-use Rattle.sot_parser.specs.Reads.{name_at}
-use Rattle.sot_parser.specs.ListReads.{optional_at}
+use Rattle.sot_expression.specs.Lexemes.{begins, is_sign, is_keyword}
+use Rattle.sot_expression.specs.Readers.{name_at}
+use Rattle.sot_parser.specs.ListReaders.{optional_at}
 use Rattle.sot_parser.specs.Pieces.{Keyword, Sign, Named, spelled_name, name_of, spelled_field, field_of, spelled_const, const_of, spelled_side, side_of, ConstForm, a_literal, a_yes, a_no, LiteralForm, plain, negative, spelled_literal, each, maybe, ClauseForm, spelled_clause, clause_or_none}
 use Rattle.sot_parser.specs.Declarations.{ShapeForm, one_scalar, a_record, spelled_shape, shape_of, InitForm, one_const, consts, spelled_init, init_of, TopicForm, spelled_outside, spelled_topic, topic_of, is_given, ScaleForm, whole, scaled, spelled_scale, scale_of, StateForm, spelled_state, state_of, NextForm, spelled_next, next_of, PlantForm, spelled_plant, spelled_names, plant_of, most, next_levels, plant_levels, LocalForm, spelled_local, local_of, CodedForm, spelled_coded, coded_of, ExternalForm, spelled_external, external_of, BoxForm, spelled_box, box_of, RegionForm, no_box, some_boxes, spelled_region, region_of, BoundForm, spelled_bound, bound_of, ModuleForm, spelled_module, module_of, DeclarationForm, a_topic, a_plant, a_coded, an_external, a_module, spelled_declaration, declaration_of, declaration_levels}
 use Rattle.sot_parser.specs.Statements.{block_levels}
-use Rattle.sot_parser.specs.DeclarationReads.{side_at, named_scalar_at, const_at, fields_at, one_scalar_at, shape_at, consts_at, one_const_at, init_at, environment_at, outside_at, topic_at, whole_at, scaled_at, scale_at, state_at, next_at, plant_at, local_at, coded_at, external_at, box_at, no_box_at, region_at, bound_at, module_at, a_topic_at, a_plant_at, a_coded_at, an_external_at, a_module_at, declaration_at, declarations_at, is_some}
+use Rattle.sot_parser.specs.DeclarationReaders.{side_at, named_scalar_at, const_at, fields_at, one_scalar_at, shape_at, consts_at, one_const_at, init_at, environment_at, outside_at, topic_at, whole_at, scaled_at, scale_at, state_at, next_at, signals_at, plant_at, local_at, head_at, code_at, coded_at, external_at, box_at, no_box_at, region_at, bound_at, pairing_at, bounds_at, module_at, a_topic_at, a_plant_at, a_coded_at, an_external_at, a_module_at, declaration_at, declarations_at, is_some}
+use Rattle.sot_parser.proofs.DeclarationParts.{SignalsForm, spelled_signals, signals_of, HeadForm, spelled_head, head_of, CodeForm, spelled_code, code_of, PairingForm, spelled_pairing, pairing_of, BoundsForm, spelled_bounds, bounds_of}
 use Rattle.sot_parser.proofs.ReadLaws.{Any}
 use Rattle.sot_parser.proofs.ListLaws.{Each}
 use Rattle.sot_parser.proofs.DeclarationLaws.{NextFits, DeclarationFits}
 use Rattle.sot_parser.proofs.Shorter.{name_short, side_short, named_scalar_short, const_short, state_short, next_short, local_short, box_short, declaration_short}
-use Rattle.sot_parser.proofs.FullLaws.{give, yes_by, no_by, keyword_full, sign_full, name_full, keyword_test, sign_test, keyword_other, sign_other, keyword_no_sign, sign_no_keyword, number_no_sign}
+use Rattle.sot_expression.proofs.ReadSteps.{give}
+use Rattle.sot_parser.proofs.FullLaws.{yes_by, no_by, keyword_full, sign_full, name_full, keyword_test, sign_test, keyword_other, sign_other, keyword_no_sign, sign_no_keyword, number_no_sign}
 use Rattle.sot_parser.proofs.ListBacks.{all_full, any_each, separated_full, clause_full, optional_full, other_clause}
 use Rattle.sot_parser.proofs.PieceBacks.{side_full, fix_full, scalar_full, field_full, const_full, scalar_no_sign, timing_full, role_full}
 use Rattle.sot_parser.proofs.StatementBacks.{tree_full, block_full, semicolon_stops}
@@ -78,23 +80,29 @@ nexts_other : (other : List ℕ) (ns : List NextForm) (closing : Sign (codes "}"
 nexts_other other [] closing us differ = sign_no_keyword other closing
 nexts_other other (n ∷ ns) closing us differ = keyword_other other n.word differ
 
+signals_full : (s : SignalsForm) (us : List Lexeme) → begins (is_keyword (codes "input")) us ≡ false → begins (is_keyword (codes "sees")) us ≡ false → begins (is_keyword (codes "noise")) us ≡ false
+    → signals_at (spelled_signals s us) ≡ Ok (signals_of s, us)
+unfolding signals_at
+signals_full s us no_input no_sees no_noise =
+    let noise : List Lexeme = maybe (spelled_clause spelled_field) s.noise us in
+    let sees : List Lexeme = spelled_names s.sees noise in
+    let sees_off : begins (is_keyword (codes "sees")) noise ≡ false = other_clause spelled_field (codes "sees") (codes "noise") s.noise us refl no_sees in
+    let input_off : begins (is_keyword (codes "input")) sees ≡ false =
+    other_clause spelled_name (codes "input") (codes "sees") s.sees noise refl (other_clause spelled_field (codes "input") (codes "noise") s.noise us refl no_input) in
+    give (clause_full spelled_state state_of state_at state_full state_short (codes "state") s.states _) _ _
+    (give (names_full (codes "input") s.inputs sees input_off) _ _
+    (give (names_full (codes "sees") s.sees noise sees_off) _ _
+    (give (optional_full spelled_field field_of named_scalar_at field_full named_scalar_short (codes "noise") s.noise us no_noise) _ _ refl)))
+
 plant_full : (room : ℕ) (p : PlantForm) (us : List Lexeme) → plant_levels p ≤ room → plant_at room (spelled_plant p us) ≡ Ok (plant_of p, us)
 unfolding plant_at
 plant_full room p us fits =
-    let rest : List Lexeme = each spelled_next p.next (p.closing.token ∷ us) in
-    let noise : List Lexeme = maybe (spelled_clause spelled_field) p.noise rest in
-    let sees : List Lexeme = spelled_names p.sees noise in
-    let no_sees : begins (is_keyword (codes "sees")) noise ≡ false = other_clause spelled_field (codes "sees") (codes "noise") p.noise rest refl (nexts_other (codes "sees") p.next p.closing us refl) in
-    let no_input : begins (is_keyword (codes "input")) sees ≡ false =
-    other_clause spelled_name (codes "input") (codes "sees") p.sees noise refl (other_clause spelled_field (codes "input") (codes "noise") p.noise rest refl (nexts_other (codes "input") p.next p.closing us refl)) in
+    let off : (other : List ℕ) → bytes_eq (codes "next") other ≡ false → begins (is_keyword other) (each spelled_next p.next (p.closing.token ∷ us)) ≡ false = λ other differ. nexts_other other p.next p.closing us differ in
     give (keyword_full p.word _) _ _ (give (name_full p.name _) _ _ (give (sign_full p.opening _) _ _
-    (give (clause_full spelled_state state_of state_at state_full state_short (codes "state") p.states _) _ _
-    (give (names_full (codes "input") p.inputs sees no_input) _ _
-    (give (names_full (codes "sees") p.sees noise no_sees) _ _
-    (give (optional_full spelled_field field_of named_scalar_at field_full named_scalar_short (codes "noise") p.noise rest (nexts_other (codes "noise") p.next p.closing us refl)) _ _
+    (give (signals_full (record { states = p.states; inputs = p.inputs; sees = p.sees; noise = p.noise }) (each spelled_next p.next (p.closing.token ∷ us)) (off (codes "input") refl) (off (codes "sees") refl) (off (codes "noise") refl)) _ _
     (give (all_full spelled_next next_of (NextFits room) (begins (is_keyword (codes "next"))) (next_at room) (next_full room) (λ n vs. keyword_test n.word) (next_short room) p.next (fit_most next_levels room p.next fits) (p.closing.token ∷ us)
     (sign_no_keyword (codes "next") p.closing)) _ _
-    (give (sign_full p.closing us) _ _ refl))))))))
+    (give (sign_full p.closing us) _ _ refl)))))
 
 local_full : (l : LocalForm) → Any l → (us : List Lexeme) → local_at (spelled_local l us) ≡ Ok (local_of l, us)
 unfolding local_at
@@ -105,21 +113,32 @@ locals_other : (other : List ℕ) (ls : List LocalForm) (word : Keyword (codes "
 locals_other other [] word us differ differ_too = keyword_other other word differ_too
 locals_other other (l ∷ ls) word us differ differ_too = keyword_other other l.word differ
 
+head_full : (h : HeadForm) (us : List Lexeme) → begins (is_keyword (codes "reads")) us ≡ false → begins (is_keyword (codes "writes")) us ≡ false → head_at (spelled_head h us) ≡ Ok (head_of h, us)
+unfolding head_at
+head_full h us no_reads no_writes =
+    give (name_full h.name _) _ _ (give (timing_full h.timing _) _ _ (give (sign_full h.opening _) _ _
+    (give (names_full (codes "reads") h.reads _ (other_clause spelled_name (codes "reads") (codes "writes") h.writes us refl no_reads)) _ _ (give (names_full (codes "writes") h.writes us no_writes) _ _ refl))))
+
+code_full : (room : ℕ) (c : CodeForm) (us : List Lexeme) → block_levels c.body ≤ room → code_at room (spelled_code c us) ≡ Ok (code_of c, us)
+unfolding code_at
+code_full room c us fits =
+    give (all_full spelled_local local_of Any (begins (is_keyword (codes "local"))) local_at local_full (λ l vs. keyword_test l.word) local_short c.locals (any_each c.locals) _ (keyword_other (codes "local") c.do_word refl)) _ _
+    (give (keyword_full c.do_word _) _ _ (give (block_full c.body room us fits) _ _ refl))
+
 coded_full : (room : ℕ) (n : CodedForm) (us : List Lexeme) → block_levels n.body ≤ room → coded_at room (spelled_coded n us) ≡ Ok (coded_of n, us)
 unfolding coded_at
 coded_full room n us fits =
-    give (keyword_full n.word _) _ _ (give (name_full n.name _) _ _ (give (timing_full n.timing _) _ _ (give (sign_full n.opening _) _ _
-    (give (names_full (codes "reads") n.reads _ (other_clause spelled_name (codes "reads") (codes "writes") n.writes _ refl (locals_other (codes "reads") n.locals n.do_word _ refl refl))) _ _
-    (give (names_full (codes "writes") n.writes _ (locals_other (codes "writes") n.locals n.do_word _ refl refl)) _ _
-    (give (all_full spelled_local local_of Any (begins (is_keyword (codes "local"))) local_at local_full (λ l vs. keyword_test l.word) local_short n.locals (any_each n.locals) _ (keyword_other (codes "local") n.do_word refl)) _ _
-    (give (keyword_full n.do_word _) _ _ (give (block_full n.body room _ fits) _ _ (give (sign_full n.closing us) _ _ refl)))))))))
+    let c : CodeForm = record { locals = n.locals; do_word = n.do_word; body = n.body } in
+    give (keyword_full n.word _) _ _
+    (give (head_full (record { name = n.name; timing = n.timing; opening = n.opening; reads = n.reads; writes = n.writes }) (spelled_code c (n.closing.token ∷ us)) (locals_other (codes "reads") n.locals n.do_word _ refl refl) (locals_other (codes "writes") n.locals n.do_word _ refl refl)) _ _
+    (give (code_full room c (n.closing.token ∷ us) fits) _ _ (give (sign_full n.closing us) _ _ refl)))
 
 external_full : (n : ExternalForm) (us : List Lexeme) → external_at (spelled_external n us) ≡ Ok (external_of n, us)
 unfolding external_at
 external_full n us =
-    give (keyword_full n.word _) _ _ (give (name_full n.name _) _ _ (give (timing_full n.timing _) _ _ (give (sign_full n.opening _) _ _
-    (give (names_full (codes "reads") n.reads _ (other_clause spelled_name (codes "reads") (codes "writes") n.writes _ refl (sign_no_keyword (codes "reads") n.closing))) _ _
-    (give (names_full (codes "writes") n.writes _ (sign_no_keyword (codes "writes") n.closing)) _ _ (give (sign_full n.closing us) _ _ refl))))))
+    give (keyword_full n.word _) _ _
+    (give (head_full (record { name = n.name; timing = n.timing; opening = n.opening; reads = n.reads; writes = n.writes }) (n.closing.token ∷ us) (sign_no_keyword (codes "reads") n.closing) (sign_no_keyword (codes "writes") n.closing)) _ _
+    (give (sign_full n.closing us) _ _ refl))
 
 box_full : (b : BoxForm) (us : List Lexeme) → box_at (spelled_box b us) ≡ Ok (box_of b, us)
 unfolding box_at
@@ -135,12 +154,22 @@ bound_full : (text : List ℕ) (b : BoundForm text) (us : List Lexeme) → bound
 unfolding bound_at
 bound_full text b us = give (keyword_full b.word _) _ _ (give (region_full b.region _ (sign_other (codes "|") b.semicolon refl)) _ _ (give (sign_full b.semicolon us) _ _ refl))
 
+pairing_full : (p : PairingForm) (us : List Lexeme) → pairing_at (spelled_pairing p us) ≡ Ok (pairing_of p, us)
+unfolding pairing_at
+pairing_full p us =
+    give (role_full (codes "ac") p.ac _) _ _ (give (role_full (codes "sc") p.sc _) _ _ (give (timing_full p.timing _) _ _ (give (sign_full p.semicolon _) _ _ (give (role_full (codes "plant") p.plant us) _ _ refl))))
+
+bounds_full : (b : BoundsForm) (us : List Lexeme) → bounds_at (spelled_bounds b us) ≡ Ok (bounds_of b, us)
+unfolding bounds_at
+bounds_full b us = give (bound_full (codes "safe") b.safe _) _ _ (give (bound_full (codes "safer") b.safer us) _ _ refl)
+
 module_full : (m : ModuleForm) (us : List Lexeme) → module_at (spelled_module m us) ≡ Ok (module_of m, us)
 unfolding module_at
 module_full m us =
-    give (keyword_full m.word _) _ _ (give (name_full m.name _) _ _ (give (sign_full m.opening _) _ _ (give (role_full (codes "ac") m.ac _) _ _ (give (role_full (codes "sc") m.sc _) _ _
-    (give (timing_full m.timing _) _ _ (give (sign_full m.semicolon _) _ _ (give (role_full (codes "plant") m.plant _) _ _ (give (bound_full (codes "safe") m.safe _) _ _ (give (bound_full (codes "safer") m.safer _) _ _
-    (give (sign_full m.closing us) _ _ refl))))))))))
+    let b : BoundsForm = record { safe = m.safe; safer = m.safer } in
+    give (keyword_full m.word _) _ _ (give (name_full m.name _) _ _ (give (sign_full m.opening _) _ _
+    (give (pairing_full (record { ac = m.ac; sc = m.sc; timing = m.timing; semicolon = m.semicolon; plant = m.plant }) (spelled_bounds b (m.closing.token ∷ us))) _ _
+    (give (bounds_full b (m.closing.token ∷ us)) _ _ (give (sign_full m.closing us) _ _ refl)))))
 
 -- the keyword that a declaration begins with
 or_first : (b c : Bool) → b ≡ true → (b || c) ≡ true

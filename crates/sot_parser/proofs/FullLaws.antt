@@ -6,16 +6,12 @@ use Rattle.std.proofs.lemmas.Slice.Eq.{bytes_eq-Decides}
 use Rattle.sot_text.specs.Reading.{Lexeme}
 use Rattle.sot_text.specs.declared.token.Kind.{Kind}
 use Rattle.sot_text.specs.declared.token.Kind.TheVariants as kinds
-use Rattle.sot_parser.specs.Lexemes.{is_keyword_kind, is_sign_kind, is_name_kind, is_number_kind, is_keyword, is_sign, is_name, is_number, ident, literal}
-use Rattle.sot_parser.specs.Reads.{Read, stuck, ◌>>=◌, one_token, expect, name_at, number_at}
+use Rattle.sot_expression.specs.Lexemes.{is_keyword_kind, is_sign_kind, is_name_kind, is_number_kind, is_keyword, is_sign, is_name, is_number, ident, literal}
+use Rattle.sot_expression.specs.Readers.{Read, stuck, ◌>>=◌, one_token, expect, name_at, number_at}
 use Rattle.sot_parser.specs.Pieces.{Keyword, Sign, Named, Digits, name_of, number_of}
 
 abbrev ok : {A : Type 0} → A × List Lexeme → Read A
 ok x = Ok x
-
--- one step of a chain
-pub give : {A B : Type 0} {m : Read A} {x : A × List Lexeme} → m ≡ Ok x → (k : A × List Lexeme → Read B) (r : Read B) → k x ≡ r → (m >>= k) ≡ r
-give e k r h = ap (λ n. n >>= k) e ∙ h
 
 -- the first or the second of two, by a test
 pub yes_by : {A : Type 0} {b : Bool} {m r : Read A} → b ≡ true → (n : Read A) → m ≡ r → cond b m n ≡ r

@@ -1,9 +1,9 @@
 -- Items one after another: what is read is of the grammar.
 use Rattle.std.proofs.Common.{ℕ, zero, suc, List, [], ◌∷◌, Bool, codes, map, length, Some, None}
 use Rattle.sot_text.specs.Reading.{Lexeme}
-use Rattle.sot_parser.specs.Lexemes.{begins, is_sign, is_keyword}
-use Rattle.sot_parser.specs.Reads.{Read}
-use Rattle.sot_parser.specs.ListReads.{repeated, all_at, further_at, separated_at, clause_at, optional_at}
+use Rattle.sot_expression.specs.Lexemes.{begins, is_sign, is_keyword}
+use Rattle.sot_expression.specs.Readers.{Read}
+use Rattle.sot_parser.specs.ListReaders.{repeated, all_at, further_at, separated_at, clause_at, optional_at}
 use Rattle.sot_parser.specs.Pieces.{each, maybe, spelled_further, further_of, spelled_separated, separated_of, spelled_clause, clause_of, clause_or_none}
 use Rattle.sot_parser.proofs.ReadLaws.{Sound, Any, take, close, here, either, done, done_within, keyword_sound, sign_sound}
 

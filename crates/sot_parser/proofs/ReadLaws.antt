@@ -6,23 +6,13 @@ use Rattle.std.proofs.lemmas.Slice.Eq.{bytes_eq-Decides}
 use Rattle.sot_text.specs.Reading.{Lexeme}
 use Rattle.sot_text.specs.declared.token.Kind.{Kind}
 use Rattle.sot_text.specs.declared.token.Kind.TheVariants as kinds
-use Rattle.sot_parser.specs.Lexemes.{IsKeyword, IsSign, is_keyword_kind, is_sign_kind, is_name_kind, is_number_kind, is_keyword, is_sign, is_name, is_number, ident, literal}
-use Rattle.sot_parser.specs.Reads.{Read, Fault, stuck, ◌>>=◌, one_token, expect, name_at, number_at}
+use Rattle.sot_expression.specs.Lexemes.{IsKeyword, IsSign, is_keyword_kind, is_sign_kind, is_name_kind, is_number_kind, is_keyword, is_sign, is_name, is_number, ident, literal}
+use Rattle.sot_expression.specs.Readers.{Read, Fault, stuck, ◌>>=◌, one_token, expect, name_at, number_at}
+use Rattle.sot_expression.proofs.ReadSteps.{bind_ok, ok_is, guard_ok}
 use Rattle.sot_parser.specs.Pieces.{spelled_keyword, spelled_sign, spelled_name, spelled_number, keyword_place, sign_place, name_of, number_of}
 
 abbrev ok : {A : Type 0} → A × List Lexeme → Read A
 ok x = Ok x
-
-pub bind_ok : {A B : Type 0} (m : Read A) (f : A × List Lexeme → Read B) (y : B × List Lexeme) → (m >>= f) ≡ Ok y → (x : A × List Lexeme) × (m ≡ Ok x) × (f x ≡ Ok y)
-bind_ok (Ok x) f y e = (x, refl, e)
-bind_ok (Err g) f y e = absurd cc
-
-pub ok_is : {A : Type 0} (x y : A × List Lexeme) → ok x ≡ ok y → x ≡ y
-ok_is x y e = cc
-
-pub guard_ok : {A : Type 0} (b : Bool) (m : Read A) (g : Fault × List Lexeme) (y : A × List Lexeme) → cond b m (Err g) ≡ Ok y → (b ≡ true) × (m ≡ Ok y)
-guard_ok true m g y e = (refl, e)
-guard_ok false m g y e = absurd cc
 
 -- a form of the grammar stands in front, and this is what it stands for
 abbrev pub Found : {F A : Type 0} → (F → List Lexeme → List Lexeme) → (F → A) → (F → Type 0) → List Lexeme → A × List Lexeme → Type 0
@@ -135,8 +125,3 @@ pub number_sound : Sound spelled_number number_of Any number_at
 number_sound ts y e =
     let t = token_ok is_number literal ts y e in
     (record { token = t.0; is = number_kind t.0.kind t.1 }, tt, t.2, t.3)
-
--- a choice by a test
-pub chosen_by : {A : Type 0} (b : Bool) (m n : Read A) (y : A × List Lexeme) (P : Type 0) → cond b m n ≡ Ok y → (b ≡ true → m ≡ Ok y → P) → (b ≡ false → n ≡ Ok y → P) → P
-chosen_by true m n y P e f g = f refl e
-chosen_by false m n y P e f g = g refl e

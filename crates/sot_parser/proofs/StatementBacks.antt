@@ -3,17 +3,19 @@ use Rattle.std.proofs.Common.{◌≡◌, ℕ, zero, suc, ◌≤◌, ◌<◌, ◌
 use Rattle.std.proofs.lemmas.Bool.Decides.{nat_tests}
 use Rattle.sot_text.specs.Reading.{Lexeme}
 use Rattle.sot_tree.specs.Trees.{Statement, Block, statement}
-use Rattle.sot_parser.specs.Lexemes.{begins, is_sign, is_keyword}
-use Rattle.sot_parser.specs.Phrases as phrases
-use Rattle.sot_parser.specs.ListReads.{repeated, all_at}
+use Rattle.sot_expression.specs.Lexemes.{begins, is_sign, is_keyword}
+use Rattle.sot_expression.specs.Phrases as phrases
+use Rattle.sot_parser.specs.ListReaders.{repeated, all_at}
 use Rattle.sot_parser.specs.Pieces.{Sign, maybe}
 use Rattle.sot_parser.specs.Statements.{ExpressionForm, spelled_expression, expression_of, expression_levels, AssignForm, spelled_assign, DotForm, spelled_dot, dot_of, PublishForm, spelled_publish, StatementForm, an_assign, a_publish, an_if, a_repeat, BlockForm, braces, ElseForm, no_else, with_else, StatementsForm, no_more, one_more, spelled_statement, spelled_block, spelled_else, spelled_statements, statement_of, block_of, else_of, statements_of, statement_levels, block_levels, else_levels, statements_levels}
-use Rattle.sot_parser.specs.StatementReads.{tree_at, assign_at, field_at, dot_at, publish_at, plain_at, otherwise_at, else_at, branch_at, loop_at, nested_at, begins_nested, block_from, goes_on, block_at, statement_at}
-use Rattle.sot_parser.proofs.PhraseLaws.{expression_full}
-use Rattle.sot_parser.proofs.FirstTokens.{some_levels}
+use Rattle.sot_expression.specs.ExpressionReaders.{tree_at}
+use Rattle.sot_parser.specs.StatementReaders.{assign_at, field_at, dot_at, publish_at, plain_at, otherwise_at, else_at, branch_at, loop_at, nested_at, begins_nested, block_from, goes_on, block_at, statement_at}
+use Rattle.sot_expression.proofs.PhraseLaws.{expression_full}
+use Rattle.sot_expression.proofs.FirstTokens.{some_levels}
 use Rattle.sot_parser.proofs.Shorter.{statement_short}
 use Rattle.sot_parser.proofs.StatementSteps.{plain_step}
-use Rattle.sot_parser.proofs.FullLaws.{give, yes_by, no_by, keyword_full, sign_full, name_full, number_full, keyword_test, sign_test, keyword_other, sign_other, keyword_no_sign, sign_no_keyword, name_no_sign, name_no_keyword, sign_token}
+use Rattle.sot_expression.proofs.ReadSteps.{give}
+use Rattle.sot_parser.proofs.FullLaws.{yes_by, no_by, keyword_full, sign_full, name_full, number_full, keyword_test, sign_test, keyword_other, sign_other, keyword_no_sign, sign_no_keyword, name_no_sign, name_no_keyword, sign_token}
 
 -- no expression goes on with a semicolon or a brace
 pub semicolon_stops : (s : Sign (codes ";")) (us : List Lexeme) → phrases.Stops (s.token ∷ us)
