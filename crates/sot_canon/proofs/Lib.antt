@@ -1,7 +1,6 @@
 -- words and tokens
 pub mod Takes
 pub mod Texts
-pub mod Numbers
 -- each production, from leaves to programs
 pub mod Kept
 pub mod Leaves
@@ -23,6 +22,4 @@ pub mod Canonical
 pub mod SameWords
 pub mod Apart
 -- what a text spells is formed
-pub mod FormedParts
-pub mod FormedBodies
 pub mod FormedPrograms

@@ -2,13 +2,13 @@
 use Rattle.std.proofs.Common.{◌≡◌, ℕ, zero, suc, ◌-◌, ◌<◌, Bool, true, false, List, [], ◌∷◌, ◌++◌, Ok, Err, refl, sym, ap, ◌∙◌, append_assoc, length, map, subst, arith}
 use Rattle.std.proofs.lemmas.List.{append-nil, map_push}
 use Rattle.sot_text.specs.Reading.{Lexeme}
-use Rattle.sot_parser.specs.declared.syntax.Fail.{Fail}
-use Rattle.sot_parser.specs.declared.syntax.Fail.TheVariants.{Token, Deep, Memory}
-use Rattle.sot_parser.specs.Reads.{Read, Fault, stuck, deep, ◌>>=◌}
-use Rattle.sot_parser.specs.ReadViews.{Fails}
+use Rattle.sot_expression.specs.declared.fail.Fail.{Fail}
+use Rattle.sot_expression.specs.declared.fail.Fail.TheVariants.{Token, Deep, Memory}
+use Rattle.sot_expression.specs.Readers.{Read, Fault, stuck, deep, ◌>>=◌}
+use Rattle.sot_expression.specs.Returned.{Fails}
 use Rattle.sot_parser.proofs.Shorter.{Short}
-use Rattle.sot_parser.specs.Lexemes.{begins, is_sign}
-use Rattle.sot_parser.specs.ListReads.{repeated, all_at, further_at, separated_at}
+use Rattle.sot_expression.specs.Lexemes.{begins, is_sign}
+use Rattle.sot_parser.specs.ListReaders.{repeated, all_at, further_at, separated_at}
 
 -- what was read before, and what is still read
 abbrev pub with_front : {A : Type 0} → List A → Read (List A) → Read (List A)

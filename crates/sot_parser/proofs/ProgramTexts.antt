@@ -14,13 +14,12 @@ use Rattle.sot_parser.specs.declared.syntax.ParseFail.TheVariants as fails
 use Rattle.sot_parser.specs.Pieces.{each}
 use Rattle.sot_parser.specs.Declarations.{spelled_declaration, declaration_levels}
 use Rattle.sot_parser.specs.Programs.{IsProgramText, Spells}
-use Rattle.sot_parser.specs.DeclarationReads.{declarations_at, program_at}
-use Rattle.sot_parser.specs.Answers.{IsRead, Answers, is_ended, stuck_syntax, deep_syntax, fault_of, fault_at}
-use Rattle.sot_parser.specs.Reads.{stuck, deep}
-use Rattle.sot_parser.proofs.ReadLaws.{bind_ok, ok_is}
-use Rattle.sot_parser.proofs.DeclarationLaws.{declarations_sound, most_fit}
-use Rattle.sot_parser.proofs.DeclarationBacks.{declarations_full}
-use Rattle.sot_parser.proofs.FullLaws.{give}
+use Rattle.sot_parser.specs.DeclarationReaders.{declarations_at, program_at}
+use Rattle.sot_parser.specs.ParseAnswers.{IsRead, Answers, is_ended, stuck_syntax, deep_syntax, fault_of, fault_at}
+use Rattle.sot_expression.specs.Readers.{stuck, deep}
+use Rattle.sot_expression.proofs.ReadSteps.{bind_ok, ok_is, give}
+use Rattle.sot_parser.proofs.DeclarationsSound.{declarations_sound, most_fit}
+use Rattle.sot_parser.proofs.DeclarationsFull.{declarations_full}
 
 pub text_read : (ts : List Lexeme) (p : Program) → program_at ts ≡ Ok (p, []) → IsProgramText ts p
 unfolding program_at

@@ -7,18 +7,19 @@ use Rattle.sot_tree.specs.declared.tree.Bounds.{Bounds}
 use Rattle.sot_tree.specs.declared.tree.Field.{Field}
 use Rattle.sot_tree.specs.declared.tree.Const.{Const}
 use Rattle.sot_tree.specs.declared.tree.StateDecl.{StateDecl}
-use Rattle.sot_parser.specs.declared.syntax.Fail.{Fail}
-use Rattle.sot_parser.specs.ReadViews.{Gives}
+use Rattle.sot_expression.specs.declared.fail.Fail.{Fail}
+use Rattle.sot_expression.specs.Returned.{Gives}
 use Rattle.sot_tree.specs.Trees.{Tree, Statement, Block, no_statement}
-use Rattle.sot_parser.specs.Lexemes.{begins, is_sign, is_keyword, is_name, is_number, ident, literal}
-use Rattle.sot_parser.specs.Reads.{Read, ◌>>=◌, one_token, expect, name_at, number_at, literal_at}
-use Rattle.sot_parser.specs.ListReads.{repeated, all_at, further_at, separated_at, clause_at, optional_at}
-use Rattle.sot_parser.specs.ExpressionReads.{expression_at}
-use Rattle.sot_parser.specs.StatementReads.{tree_at, assign_at, field_at, dot_at, publish_at, plain_at, otherwise_at, else_at, branch_at, loop_at, nested_at, block_at, statement_at, goes_on, begins_nested, begins_statement, statement_with}
-use Rattle.sot_parser.specs.DeclarationReads.{side_at, range_at, fix_at, int_scalar_at, fix_scalar_at, bool_scalar_at, scalar_at, named_scalar_at, truth_at, number_const_at, const_at, fields_at, one_scalar_at, shape_at, consts_at, one_const_at, init_at, environment_at, outside_at, topic_at, whole_at, scaled_at, scale_at, state_at, next_at, plant_at, timing_at, local_at, coded_at, external_at, box_at, no_box_at, region_at, bound_at, role_at, module_at, a_topic_at, a_plant_at, a_coded_at, an_external_at, a_module_at, declaration_at}
-use Rattle.sot_parser.proofs.ReadLaws.{Leads, bind_ok, ok_is, either, token_ok}
-use Rattle.sot_parser.proofs.PieceLaws.{literal_sound}
-use Rattle.sot_parser.proofs.PhraseLaws.{expression_sound, phrase_longer}
+use Rattle.sot_expression.specs.Lexemes.{begins, is_sign, is_keyword, is_name, is_number, ident, literal}
+use Rattle.sot_expression.specs.Readers.{Read, ◌>>=◌, one_token, expect, name_at, number_at, literal_at}
+use Rattle.sot_parser.specs.ListReaders.{repeated, all_at, further_at, separated_at, clause_at, optional_at}
+use Rattle.sot_expression.specs.ExpressionReaders.{expression_at, tree_at}
+use Rattle.sot_parser.specs.StatementReaders.{assign_at, field_at, dot_at, publish_at, plain_at, otherwise_at, else_at, branch_at, loop_at, nested_at, block_at, statement_at, goes_on, begins_nested, begins_statement, statement_with}
+use Rattle.sot_parser.specs.DeclarationReaders.{side_at, range_at, fix_at, int_scalar_at, fix_scalar_at, bool_scalar_at, scalar_at, named_scalar_at, truth_at, number_const_at, const_at, fields_at, one_scalar_at, shape_at, consts_at, one_const_at, init_at, environment_at, outside_at, topic_at, whole_at, scaled_at, scale_at, state_at, next_at, signals_at, plant_at, timing_at, local_at, head_at, code_at, coded_at, external_at, box_at, no_box_at, region_at, bound_at, role_at, pairing_at, bounds_at, module_at, a_topic_at, a_plant_at, a_coded_at, an_external_at, a_module_at, declaration_at}
+use Rattle.sot_parser.proofs.SoundSteps.{Leads, either, token_ok}
+use Rattle.sot_expression.proofs.ReadSteps.{bind_ok, ok_is}
+use Rattle.sot_parser.proofs.PiecesSound.{literal_sound}
+use Rattle.sot_expression.proofs.PhraseLaws.{expression_sound, phrase_longer}
 use Rattle.sot_parser.specs.Pieces.{LiteralForm, plain, negative, spelled_literal}
 
 abbrev pub Short : {A : Type 0} → (List Lexeme → Read A) → Type 0
@@ -316,19 +317,25 @@ next_short room =
     next (sign_short (codes ";")) _ (λ _.
     over _)))))
 
+signals_short : Short signals_at
+unfolding signals_at
+signals_short =
+    short (clause_short (codes "state") state_at state_short) _ (λ _.
+    slim (optional_slim (codes "input") name_at name_short) _ (λ _.
+    slim (optional_slim (codes "sees") name_at name_short) _ (λ _.
+    slim (optional_slim (codes "noise") named_scalar_at named_scalar_short) _ (λ _.
+    over _))))
+
 plant_short : (room : ℕ) → Short (plant_at room)
 unfolding plant_at
 plant_short room =
     short (keyword_short (codes "plant")) _ (λ _.
     next name_short _ (λ _.
     next (sign_short (codes "{")) _ (λ _.
-    next (clause_short (codes "state") state_at state_short) _ (λ _.
-    slim (optional_slim (codes "input") name_at name_short) _ (λ _.
-    slim (optional_slim (codes "sees") name_at name_short) _ (λ _.
-    slim (optional_slim (codes "noise") named_scalar_at named_scalar_short) _ (λ _.
+    next signals_short _ (λ _.
     slim (all_slim (begins (is_keyword (codes "next"))) (next_at room) (next_short room)) _ (λ _.
     next (sign_short (codes "}")) _ (λ _.
-    over _)))))))))
+    over _))))))
 
 timing_short : Short timing_at
 unfolding timing_at
@@ -351,32 +358,31 @@ local_short =
     next (sign_short (codes ";")) _ (λ _.
     over _)))))))
 
-coded_short : (room : ℕ) → Short (coded_at room)
-unfolding coded_at
-coded_short room =
-    short (keyword_short (codes "node")) _ (λ _.
-    next name_short _ (λ _.
+head_short : Short head_at
+unfolding head_at
+head_short =
+    short name_short _ (λ _.
     next timing_short _ (λ _.
     next (sign_short (codes "{")) _ (λ _.
     slim (optional_slim (codes "reads") name_at name_short) _ (λ _.
     slim (optional_slim (codes "writes") name_at name_short) _ (λ _.
+    over _)))))
+
+code_slim : (room : ℕ) → Slim (code_at room)
+unfolding code_at
+code_slim room =
     slim (all_slim (begins (is_keyword (codes "local"))) local_at local_short) _ (λ _.
     next (keyword_short (codes "do")) _ (λ _.
     next (body_short room) _ (λ _.
-    next (sign_short (codes "}")) _ (λ _.
-    over _))))))))))
+    over _)))
+
+coded_short : (room : ℕ) → Short (coded_at room)
+unfolding coded_at
+coded_short room = short (keyword_short (codes "node")) _ (λ _. next head_short _ (λ _. slim (code_slim room) _ (λ _. next (sign_short (codes "}")) _ (λ _. over _))))
 
 external_short : Short external_at
 unfolding external_at
-external_short =
-    short (keyword_short (codes "external")) _ (λ _.
-    next name_short _ (λ _.
-    next timing_short _ (λ _.
-    next (sign_short (codes "{")) _ (λ _.
-    slim (optional_slim (codes "reads") name_at name_short) _ (λ _.
-    slim (optional_slim (codes "writes") name_at name_short) _ (λ _.
-    next (sign_short (codes "}")) _ (λ _.
-    over _)))))))
+external_short = short (keyword_short (codes "external")) _ (λ _. next head_short _ (λ _. next (sign_short (codes "}")) _ (λ _. over _)))
 
 pub box_short : Short box_at
 unfolding box_at
@@ -402,21 +408,30 @@ role_short : (text : List ℕ) → Short (role_at text)
 unfolding role_at
 role_short text = short (keyword_short text) _ (λ _. next name_short _ (λ _. next (sign_short (codes ";")) _ (λ _. over _)))
 
+pairing_short : Short pairing_at
+unfolding pairing_at
+pairing_short =
+    short (role_short (codes "ac")) _ (λ _.
+    next (role_short (codes "sc")) _ (λ _.
+    next timing_short _ (λ _.
+    next (sign_short (codes ";")) _ (λ _.
+    next (role_short (codes "plant")) _ (λ _.
+    over _)))))
+
+bounds_short : Short bounds_at
+unfolding bounds_at
+bounds_short = short (bound_short (codes "safe")) _ (λ _. next (bound_short (codes "safer")) _ (λ _. over _))
+
 module_short : Short module_at
 unfolding module_at
 module_short =
     short (keyword_short (codes "module")) _ (λ _.
     next name_short _ (λ _.
     next (sign_short (codes "{")) _ (λ _.
-    next (role_short (codes "ac")) _ (λ _.
-    next (role_short (codes "sc")) _ (λ _.
-    next timing_short _ (λ _.
-    next (sign_short (codes ";")) _ (λ _.
-    next (role_short (codes "plant")) _ (λ _.
-    next (bound_short (codes "safe")) _ (λ _.
-    next (bound_short (codes "safer")) _ (λ _.
+    next pairing_short _ (λ _.
+    next bounds_short _ (λ _.
     next (sign_short (codes "}")) _ (λ _.
-    over _)))))))))))
+    over _))))))
 
 a_topic_short : Short a_topic_at
 unfolding a_topic_at

@@ -9,11 +9,12 @@ use Rattle.sot_tree.specs.declared.tree.Stmt.{Stmt, If, Repeat}
 use Rattle.sot_tree.specs.Trees.{Tree, Statement, Block, statement}
 use Rattle.sot_tree.specs.TreeViews.{tree_view, statement_view, block_view}
 use Rattle.sot_tree.proofs.BlockRows.{branch_view, repeat_view}
-use Rattle.sot_parser.specs.Lexemes.{is_sign, is_keyword}
-use Rattle.sot_parser.specs.Reads.{Read, stuck, deep, expect, number_at}
-use Rattle.sot_parser.specs.ListReads.{all_at}
-use Rattle.sot_parser.specs.StatementReads.{tree_at, plain_at, nested_at, begins_nested, begins_statement, block_at, block_from, branch_at, else_at, loop_at, goes_on, statement_at}
-use Rattle.sot_parser.proofs.FullLaws.{give}
+use Rattle.sot_expression.specs.Lexemes.{is_sign, is_keyword}
+use Rattle.sot_expression.specs.Readers.{Read, stuck, deep, expect, number_at}
+use Rattle.sot_parser.specs.ListReaders.{all_at}
+use Rattle.sot_expression.specs.ExpressionReaders.{tree_at}
+use Rattle.sot_parser.specs.StatementReaders.{plain_at, nested_at, begins_nested, begins_statement, block_at, block_from, branch_at, else_at, loop_at, goes_on, statement_at}
+use Rattle.sot_expression.proofs.ReadSteps.{give}
 
 pub plain_step : (room : ℕ) (ts : List Lexeme) → 1 ≤ room → begins_nested ts ≡ false → statement_at room ts ≡ plain_at (tree_at room) ts
 unfolding statement_at

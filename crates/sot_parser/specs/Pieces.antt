@@ -11,7 +11,7 @@ use Rattle.sot_tree.specs.declared.tree.Scalar.TheVariants.{Int, Fix, Bool as Tr
 use Rattle.sot_tree.specs.declared.tree.Field.{Field}
 use Rattle.sot_tree.specs.declared.tree.Const.{Const}
 use Rattle.sot_tree.specs.declared.tree.Const.TheVariants as consts
-use Rattle.sot_parser.specs.Lexemes.{IsKeyword, IsSign, IsName, IsNumber, ident, literal, negative_literal}
+use Rattle.sot_expression.specs.Lexemes.{IsKeyword, IsSign, IsName, IsNumber, ident, literal, negative_literal}
 
 -- this keyword
 pub record Keyword (text : List ℕ) : Type 0 where

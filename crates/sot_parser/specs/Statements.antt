@@ -4,8 +4,8 @@ use Rattle.sot_text.specs.Reading.{Lexeme}
 use Rattle.sot_tree.specs.declared.tree.Ident.{Ident}
 use Rattle.sot_tree.specs.Trees.{Tree, Statement, Block, assigned, published, branched, repeated, no_statement, statement}
 use Rattle.sot_parser.specs.Pieces.{Keyword, Sign, Named, Digits, name_of, number_of, maybe}
-use Rattle.sot_parser.specs.Phrases.{Phrase, IsPhrase}
-use Rattle.sot_parser.specs.Phrases as phrases
+use Rattle.sot_expression.specs.Phrases.{Phrase, IsPhrase}
+use Rattle.sot_expression.specs.Phrases as phrases
 
 -- expr
 pub record ExpressionForm : Type 0 where

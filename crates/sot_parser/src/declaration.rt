@@ -1,20 +1,19 @@
+//! Declarations, by the word that they begin with.
 ghost use Rattle.std.specs.Prelude.{◌≡◌, ◌≤◌, ◌||◌, map, codes};
 ghost use Rattle.sot_tree.specs.TreeViews.{declaration_view};
-ghost use Rattle.sot_parser.specs.Lexemes.{begins, is_keyword};
-ghost use Rattle.sot_parser.specs.DeclarationReads.{a_topic_at, a_plant_at, a_coded_at, an_external_at, a_module_at, declaration_at, declarations_at, is_some};
-ghost use Rattle.sot_parser.specs.ReadViews.{Gives};
+ghost use Rattle.sot_expression.specs.Lexemes.{begins, is_keyword};
+ghost use Rattle.sot_parser.specs.DeclarationReaders.{a_topic_at, a_plant_at, a_coded_at, an_external_at, a_module_at, declaration_at, declarations_at, is_some};
+ghost use Rattle.sot_expression.specs.Returned.{Gives};
 
-use crate::leaves::is_keyword;
 use crate::node::{coded, external};
 use crate::plant::plant;
 use crate::regions::mission_module;
-use crate::syntax::Fail;
-use crate::tokens::Tokens;
 use crate::topic::topic;
+use sot_expression::{Fail, Tokens, is_keyword};
 use sot_tree::Decl;
 use std::alloc::Global;
 
-#[tactic(auto, unfolding(crate::specs::DeclarationReads::a_topic_at))]
+#[tactic(auto, unfolding(crate::specs::DeclarationReaders::a_topic_at))]
 fn a_topic(alloc: Global, tokens: &mut Tokens<'_>) -> Result<Decl, Fail>
     ensures { Gives declaration_view result tokens.old tokens.new (a_topic_at tokens.old.tokens) }
 {
@@ -22,7 +21,7 @@ fn a_topic(alloc: Global, tokens: &mut Tokens<'_>) -> Result<Decl, Fail>
     Ok(Decl::Topic(topic))
 }
 
-#[tactic(auto, unfolding(crate::specs::DeclarationReads::a_plant_at))]
+#[tactic(auto, unfolding(crate::specs::DeclarationReaders::a_plant_at))]
 fn a_plant(alloc: Global, tokens: &mut Tokens<'_>, room: u32) -> Result<Decl, Fail>
     requires room { (1 ≤ room) × (room ≤ 64) }
     ensures { Gives declaration_view result tokens.old tokens.new (a_plant_at room tokens.old.tokens) }
@@ -31,7 +30,7 @@ fn a_plant(alloc: Global, tokens: &mut Tokens<'_>, room: u32) -> Result<Decl, Fa
     Ok(Decl::Plant(plant))
 }
 
-#[tactic(auto, unfolding(crate::specs::DeclarationReads::a_coded_at))]
+#[tactic(auto, unfolding(crate::specs::DeclarationReaders::a_coded_at))]
 fn a_coded_node(alloc: Global, tokens: &mut Tokens<'_>, room: u32) -> Result<Decl, Fail>
     requires room { (1 ≤ room) × (room ≤ 64) }
     ensures { Gives declaration_view result tokens.old tokens.new (a_coded_at room tokens.old.tokens) }
@@ -40,7 +39,7 @@ fn a_coded_node(alloc: Global, tokens: &mut Tokens<'_>, room: u32) -> Result<Dec
     Ok(Decl::Node(node))
 }
 
-#[tactic(auto, unfolding(crate::specs::DeclarationReads::an_external_at))]
+#[tactic(auto, unfolding(crate::specs::DeclarationReaders::an_external_at))]
 fn an_external_node(alloc: Global, tokens: &mut Tokens<'_>) -> Result<Decl, Fail>
     ensures { Gives declaration_view result tokens.old tokens.new (an_external_at tokens.old.tokens) }
 {
@@ -48,7 +47,7 @@ fn an_external_node(alloc: Global, tokens: &mut Tokens<'_>) -> Result<Decl, Fail
     Ok(Decl::Node(node))
 }
 
-#[tactic(auto, unfolding(crate::specs::DeclarationReads::a_module_at))]
+#[tactic(auto, unfolding(crate::specs::DeclarationReaders::a_module_at))]
 fn a_module(alloc: Global, tokens: &mut Tokens<'_>) -> Result<Decl, Fail>
     ensures { Gives declaration_view result tokens.old tokens.new (a_module_at tokens.old.tokens) }
 {
@@ -56,7 +55,7 @@ fn a_module(alloc: Global, tokens: &mut Tokens<'_>) -> Result<Decl, Fail>
     Ok(Decl::Module(last))
 }
 
-#[tactic(auto, unfolding(crate::specs::DeclarationReads::declaration_at))]
+#[tactic(auto, unfolding(crate::specs::DeclarationReaders::declaration_at))]
 fn declaration(alloc: Global, tokens: &mut Tokens<'_>, room: u32) -> Result<Decl, Fail>
     requires room { (1 ≤ room) × (room ≤ 64) }
     ensures { Gives declaration_view result tokens.old tokens.new (declaration_at room tokens.old.tokens) }
@@ -81,7 +80,7 @@ fn is_some(tokens: &Tokens<'_>) -> bool
 }
 
 /// Declarations to the end of the tokens, of at most `room` levels.
-#[tactic(auto, unfolding(crate::specs::DeclarationReads::declarations_at))]
+#[tactic(auto, unfolding(crate::specs::DeclarationReaders::declarations_at))]
 pub fn declarations(alloc: Global, tokens: &mut Tokens<'_>, room: u32) -> Result<Vec<Decl>, Fail>
     requires room { (1 ≤ room) × (room ≤ 64) }
     ensures { Gives (λ decls. map declaration_view decls.items) result tokens.old tokens.new (declarations_at room tokens.old.tokens) }

@@ -1,13 +1,12 @@
+//! Lists of items, and clauses of them.
 ghost use Rattle.std.specs.Prelude.{◌≡◌, ◌<◌, List, length, IfOk, codes};
 ghost use Rattle.sot_text.specs.Reading.{Lexeme};
-ghost use Rattle.sot_parser.specs.Lexemes.{begins, is_sign, is_keyword};
-ghost use Rattle.sot_parser.specs.Reads.{Read, name_at};
-ghost use Rattle.sot_parser.specs.ListReads.{further_at, separated_at, clause_at, optional_at};
-ghost use Rattle.sot_parser.specs.ReadViews.{Gives};
+ghost use Rattle.sot_expression.specs.Lexemes.{begins, is_sign, is_keyword};
+ghost use Rattle.sot_expression.specs.Readers.{Read, name_at};
+ghost use Rattle.sot_parser.specs.ListReaders.{further_at, separated_at, clause_at, optional_at};
+ghost use Rattle.sot_expression.specs.Returned.{Gives};
 
-use crate::leaves::{expect_keyword, expect_sign, is_keyword, is_sign, name};
-use crate::syntax::Fail;
-use crate::tokens::Tokens;
+use sot_expression::{Fail, Tokens, expect_keyword, expect_sign, is_keyword, is_sign, name};
 use sot_tree::Ident;
 use std::alloc::Global;
 
@@ -30,7 +29,7 @@ impl Item for Ident {
     }
 }
 
-#[tactic(auto, unfolding(crate::specs::ListReads::further_at))]
+#[tactic(auto, unfolding(crate::specs::ListReaders::further_at))]
 fn further<T: Item>(alloc: Global, tokens: &mut Tokens<'_>, sign: &[u8]) -> Result<T, Fail>
     ensures read { Gives (λ item. item) result tokens.old tokens.new (further_at sign.now T.reads tokens.old.tokens) }
     ensures shorter { IfOk result (λ _. length tokens.new.tokens < length tokens.old.tokens) }
@@ -59,7 +58,7 @@ pub fn separated<T: Item>(
 }
 
 /// A clause of items behind a keyword.
-#[tactic(auto, unfolding(crate::specs::ListReads::clause_at))]
+#[tactic(auto, unfolding(crate::specs::ListReaders::clause_at))]
 pub fn clause<T: Item>(alloc: Global, tokens: &mut Tokens<'_>, word: &[u8]) -> Result<Vec<T>, Fail>
     ensures { Gives (λ items. items.items) result tokens.old tokens.new (clause_at word.now T.reads tokens.old.tokens) }
 {
@@ -70,7 +69,7 @@ pub fn clause<T: Item>(alloc: Global, tokens: &mut Tokens<'_>, word: &[u8]) -> R
 }
 
 /// The same, and no item where the clause is left out.
-#[tactic(auto, unfolding(crate::specs::ListReads::optional_at))]
+#[tactic(auto, unfolding(crate::specs::ListReaders::optional_at))]
 pub fn optional<T: Item>(
     alloc: Global,
     tokens: &mut Tokens<'_>,

@@ -1,20 +1,19 @@
+//! Nodes.
 ghost use Rattle.std.specs.Prelude.{◌≡◌, ◌≤◌, map, codes};
-ghost use Rattle.sot_tree.specs.TreeViews.{local_view, node_view};
-ghost use Rattle.sot_parser.specs.Lexemes.{begins, is_keyword};
-ghost use Rattle.sot_parser.specs.ListReads.{all_at};
-ghost use Rattle.sot_parser.specs.DeclarationReads.{local_at, coded_at, external_at};
-ghost use Rattle.sot_parser.specs.ReadViews.{Gives};
+ghost use Rattle.sot_tree.specs.TreeViews.{local_view, block_view, node_view};
+ghost use Rattle.sot_expression.specs.Lexemes.{begins, is_keyword};
+ghost use Rattle.sot_parser.specs.ListReaders.{all_at};
+ghost use Rattle.sot_parser.specs.DeclarationReaders.{local_at, head_at, code_at, coded_at, external_at};
+ghost use Rattle.sot_expression.specs.Returned.{Gives};
 
 use crate::items::optional;
-use crate::leaves::{expect_keyword, expect_sign, is_keyword, name};
 use crate::pieces::{constant, scalar, timing};
 use crate::statement::block;
-use crate::syntax::Fail;
-use crate::tokens::Tokens;
-use sot_tree::{LocalDecl, NodeDecl};
+use sot_expression::{Fail, Tokens, expect_keyword, expect_sign, is_keyword, name};
+use sot_tree::{LocalDecl, NodeDecl, Stmt};
 use std::alloc::Global;
 
-#[tactic(auto, unfolding(crate::specs::DeclarationReads::local_at))]
+#[tactic(auto, unfolding(crate::specs::DeclarationReaders::local_at))]
 fn local(alloc: Global, tokens: &mut Tokens<'_>) -> Result<LocalDecl, Fail>
     ensures { Gives local_view result tokens.old tokens.new (local_at tokens.old.tokens) }
 {
@@ -39,45 +38,16 @@ fn locals(alloc: Global, tokens: &mut Tokens<'_>) -> Result<Vec<LocalDecl>, Fail
     Ok(locals)
 }
 
-/// A node with a body of at most `room` levels.
-#[tactic(auto, unfolding(crate::specs::DeclarationReads::coded_at))]
-pub fn coded(alloc: Global, tokens: &mut Tokens<'_>, room: u32) -> Result<NodeDecl, Fail>
-    requires room { room ≤ 64 }
-    ensures { Gives node_view result tokens.old tokens.new (coded_at room tokens.old.tokens) }
+// A node up to its code, as one that has none.
+#[tactic(auto, unfolding(crate::specs::DeclarationReaders::head_at))]
+fn head(alloc: Global, tokens: &mut Tokens<'_>) -> Result<NodeDecl, Fail>
+    ensures { Gives node_view result tokens.old tokens.new (head_at tokens.old.tokens) }
 {
-    expect_keyword(tokens, b"node")?;
     let name = name(alloc, tokens)?;
     let (period, offset) = timing(tokens)?;
     expect_sign(tokens, b"{")?;
     let reads = optional(alloc, tokens, b"reads")?;
     let writes = optional(alloc, tokens, b"writes")?;
-    let locals = locals(alloc, tokens)?;
-    expect_keyword(tokens, b"do")?;
-    let body = block(alloc, tokens, room)?;
-    expect_sign(tokens, b"}")?;
-    Ok(NodeDecl {
-        name,
-        period,
-        offset,
-        reads,
-        writes,
-        locals,
-        body: Some(body),
-    })
-}
-
-/// An external node.
-#[tactic(auto, unfolding(crate::specs::DeclarationReads::external_at))]
-pub fn external(alloc: Global, tokens: &mut Tokens<'_>) -> Result<NodeDecl, Fail>
-    ensures { Gives node_view result tokens.old tokens.new (external_at tokens.old.tokens) }
-{
-    expect_keyword(tokens, b"external")?;
-    let name = name(alloc, tokens)?;
-    let (period, offset) = timing(tokens)?;
-    expect_sign(tokens, b"{")?;
-    let reads = optional(alloc, tokens, b"reads")?;
-    let writes = optional(alloc, tokens, b"writes")?;
-    expect_sign(tokens, b"}")?;
     Ok(NodeDecl {
         name,
         period,
@@ -87,4 +57,52 @@ pub fn external(alloc: Global, tokens: &mut Tokens<'_>) -> Result<NodeDecl, Fail
         locals: Vec::new(alloc),
         body: None,
     })
+}
+
+// The locals and the body of a node.
+#[tactic(auto, unfolding(crate::specs::DeclarationReaders::code_at))]
+fn code(
+    alloc: Global,
+    tokens: &mut Tokens<'_>,
+    room: u32,
+) -> Result<(Vec<LocalDecl>, Vec<Stmt>), Fail>
+    requires room { room ≤ 64 }
+    ensures { Gives (λ code. (map local_view code.0.items, block_view code.1.items)) result tokens.old tokens.new (code_at room tokens.old.tokens) }
+{
+    let locals = locals(alloc, tokens)?;
+    expect_keyword(tokens, b"do")?;
+    let body = block(alloc, tokens, room)?;
+    Ok((locals, body))
+}
+
+/// A node with a body of at most `room` levels.
+#[tactic(auto, unfolding(crate::specs::DeclarationReaders::coded_at))]
+pub fn coded(alloc: Global, tokens: &mut Tokens<'_>, room: u32) -> Result<NodeDecl, Fail>
+    requires room { room ≤ 64 }
+    ensures { Gives node_view result tokens.old tokens.new (coded_at room tokens.old.tokens) }
+{
+    expect_keyword(tokens, b"node")?;
+    let head = head(alloc, tokens)?;
+    let (locals, body) = code(alloc, tokens, room)?;
+    expect_sign(tokens, b"}")?;
+    Ok(NodeDecl {
+        name: head.name,
+        period: head.period,
+        offset: head.offset,
+        reads: head.reads,
+        writes: head.writes,
+        locals,
+        body: Some(body),
+    })
+}
+
+/// An external node.
+#[tactic(auto, unfolding(crate::specs::DeclarationReaders::external_at))]
+pub fn external(alloc: Global, tokens: &mut Tokens<'_>) -> Result<NodeDecl, Fail>
+    ensures { Gives node_view result tokens.old tokens.new (external_at tokens.old.tokens) }
+{
+    expect_keyword(tokens, b"external")?;
+    let node = head(alloc, tokens)?;
+    expect_sign(tokens, b"}")?;
+    Ok(node)
 }

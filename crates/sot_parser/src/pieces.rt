@@ -1,17 +1,16 @@
+//! The small parts of declarations: ranges, types, constants, periods.
 ghost use Rattle.std.specs.Prelude.{◌≡◌, ◌<◌, length, IfOk, codes};
-ghost use Rattle.sot_parser.specs.Lexemes.{begins, is_sign, is_keyword};
-ghost use Rattle.sot_parser.specs.Reads.{literal_at};
-ghost use Rattle.sot_parser.specs.DeclarationReads.{side_at, range_at, fix_at, int_scalar_at, fix_scalar_at, bool_scalar_at, scalar_at, named_scalar_at, truth_at, number_const_at, const_at, whole_at, scaled_at, scale_at, state_at, timing_at, role_at};
-ghost use Rattle.sot_parser.specs.ReadViews.{Gives};
+ghost use Rattle.sot_expression.specs.Lexemes.{begins, is_sign, is_keyword};
+ghost use Rattle.sot_expression.specs.Readers.{literal_at};
+ghost use Rattle.sot_parser.specs.DeclarationReaders.{side_at, range_at, fix_at, int_scalar_at, fix_scalar_at, bool_scalar_at, scalar_at, named_scalar_at, truth_at, number_const_at, const_at, whole_at, scaled_at, scale_at, state_at, timing_at, role_at};
+ghost use Rattle.sot_expression.specs.Returned.{Gives};
 
 use crate::items::Item;
-use crate::leaves::{expect_keyword, expect_sign, is_keyword, literal, name, number};
-use crate::syntax::Fail;
-use crate::tokens::Tokens;
+use sot_expression::{Fail, Tokens, expect_keyword, expect_sign, is_keyword, literal, name, number};
 use sot_tree::{Bounds, Const, Field, Ident, Lit, Scalar, StateDecl};
 use std::alloc::Global;
 
-#[tactic(auto, unfolding(crate::specs::DeclarationReads::side_at))]
+#[tactic(auto, unfolding(crate::specs::DeclarationReaders::side_at))]
 fn side(tokens: &mut Tokens<'_>) -> Result<Bounds, Fail>
     ensures { Gives (λ side. side) result tokens.old tokens.new (side_at tokens.old.tokens) }
 {
@@ -30,7 +29,7 @@ impl Item for Bounds {
     }
 }
 
-#[tactic(auto, unfolding(crate::specs::DeclarationReads::range_at))]
+#[tactic(auto, unfolding(crate::specs::DeclarationReaders::range_at))]
 fn range(tokens: &mut Tokens<'_>) -> Result<Bounds, Fail>
     ensures { Gives (λ range. range) result tokens.old tokens.new (range_at tokens.old.tokens) }
 {
@@ -40,7 +39,7 @@ fn range(tokens: &mut Tokens<'_>) -> Result<Bounds, Fail>
     Ok(range)
 }
 
-#[tactic(auto, unfolding(crate::specs::DeclarationReads::fix_at))]
+#[tactic(auto, unfolding(crate::specs::DeclarationReaders::fix_at))]
 fn fix(tokens: &mut Tokens<'_>) -> Result<Lit, Fail>
     ensures { Gives (λ scale. scale) result tokens.old tokens.new (fix_at tokens.old.tokens) }
 {
@@ -51,7 +50,7 @@ fn fix(tokens: &mut Tokens<'_>) -> Result<Lit, Fail>
     Ok(scale)
 }
 
-#[tactic(auto, unfolding(crate::specs::DeclarationReads::int_scalar_at))]
+#[tactic(auto, unfolding(crate::specs::DeclarationReaders::int_scalar_at))]
 fn int_scalar(tokens: &mut Tokens<'_>) -> Result<Scalar, Fail>
     ensures { Gives (λ scalar. scalar) result tokens.old tokens.new (int_scalar_at tokens.old.tokens) }
 {
@@ -60,7 +59,7 @@ fn int_scalar(tokens: &mut Tokens<'_>) -> Result<Scalar, Fail>
     Ok(Scalar::Int(bounds))
 }
 
-#[tactic(auto, unfolding(crate::specs::DeclarationReads::fix_scalar_at))]
+#[tactic(auto, unfolding(crate::specs::DeclarationReaders::fix_scalar_at))]
 fn fix_scalar(tokens: &mut Tokens<'_>) -> Result<Scalar, Fail>
     ensures { Gives (λ scalar. scalar) result tokens.old tokens.new (fix_scalar_at tokens.old.tokens) }
 {
@@ -69,7 +68,7 @@ fn fix_scalar(tokens: &mut Tokens<'_>) -> Result<Scalar, Fail>
     Ok(Scalar::Fix { scale, bounds })
 }
 
-#[tactic(auto, unfolding(crate::specs::DeclarationReads::bool_scalar_at))]
+#[tactic(auto, unfolding(crate::specs::DeclarationReaders::bool_scalar_at))]
 fn bool_scalar(tokens: &mut Tokens<'_>) -> Result<Scalar, Fail>
     ensures { Gives (λ scalar. scalar) result tokens.old tokens.new (bool_scalar_at tokens.old.tokens) }
 {
@@ -78,7 +77,7 @@ fn bool_scalar(tokens: &mut Tokens<'_>) -> Result<Scalar, Fail>
 }
 
 /// The type of one number or truth value.
-#[tactic(auto, unfolding(crate::specs::DeclarationReads::scalar_at))]
+#[tactic(auto, unfolding(crate::specs::DeclarationReaders::scalar_at))]
 pub fn scalar(tokens: &mut Tokens<'_>) -> Result<Scalar, Fail>
     ensures { Gives (λ scalar. scalar) result tokens.old tokens.new (scalar_at tokens.old.tokens) }
 {
@@ -91,7 +90,7 @@ pub fn scalar(tokens: &mut Tokens<'_>) -> Result<Scalar, Fail>
     }
 }
 
-#[tactic(auto, unfolding(crate::specs::DeclarationReads::named_scalar_at))]
+#[tactic(auto, unfolding(crate::specs::DeclarationReaders::named_scalar_at))]
 fn named_scalar(alloc: Global, tokens: &mut Tokens<'_>) -> Result<Field, Fail>
     ensures { Gives (λ field. field) result tokens.old tokens.new (named_scalar_at tokens.old.tokens) }
 {
@@ -110,7 +109,7 @@ impl Item for Field {
     }
 }
 
-#[tactic(auto, unfolding(crate::specs::DeclarationReads::truth_at))]
+#[tactic(auto, unfolding(crate::specs::DeclarationReaders::truth_at))]
 fn truth(tokens: &mut Tokens<'_>, value: bool, word: &[u8]) -> Result<Const, Fail>
     ensures { Gives (λ truth. truth) result tokens.old tokens.new (truth_at value word.now tokens.old.tokens) }
 {
@@ -118,7 +117,7 @@ fn truth(tokens: &mut Tokens<'_>, value: bool, word: &[u8]) -> Result<Const, Fai
     Ok(Const::Truth { value, at })
 }
 
-#[tactic(auto, unfolding(crate::specs::DeclarationReads::number_const_at))]
+#[tactic(auto, unfolding(crate::specs::DeclarationReaders::number_const_at))]
 fn number_const(tokens: &mut Tokens<'_>) -> Result<Const, Fail>
     ensures { Gives (λ number. number) result tokens.old tokens.new (number_const_at tokens.old.tokens) }
 {
@@ -127,7 +126,7 @@ fn number_const(tokens: &mut Tokens<'_>) -> Result<Const, Fail>
 }
 
 /// A literal or a truth value.
-#[tactic(auto, unfolding(crate::specs::DeclarationReads::const_at))]
+#[tactic(auto, unfolding(crate::specs::DeclarationReaders::const_at))]
 pub fn constant(tokens: &mut Tokens<'_>) -> Result<Const, Fail>
     ensures { Gives (λ constant. constant) result tokens.old tokens.new (const_at tokens.old.tokens) }
 {
@@ -149,7 +148,7 @@ impl Item for Const {
     }
 }
 
-#[tactic(auto, unfolding(crate::specs::DeclarationReads::whole_at))]
+#[tactic(auto, unfolding(crate::specs::DeclarationReaders::whole_at))]
 fn whole(tokens: &mut Tokens<'_>) -> Result<Option<Lit>, Fail>
     ensures { Gives (λ scale. scale) result tokens.old tokens.new (whole_at tokens.old.tokens) }
 {
@@ -157,7 +156,7 @@ fn whole(tokens: &mut Tokens<'_>) -> Result<Option<Lit>, Fail>
     Ok(None)
 }
 
-#[tactic(auto, unfolding(crate::specs::DeclarationReads::scaled_at))]
+#[tactic(auto, unfolding(crate::specs::DeclarationReaders::scaled_at))]
 fn scaled(tokens: &mut Tokens<'_>) -> Result<Option<Lit>, Fail>
     ensures { Gives (λ scale. scale) result tokens.old tokens.new (scaled_at tokens.old.tokens) }
 {
@@ -165,7 +164,7 @@ fn scaled(tokens: &mut Tokens<'_>) -> Result<Option<Lit>, Fail>
     Ok(Some(scale))
 }
 
-#[tactic(auto, unfolding(crate::specs::DeclarationReads::scale_at))]
+#[tactic(auto, unfolding(crate::specs::DeclarationReaders::scale_at))]
 fn scale(tokens: &mut Tokens<'_>) -> Result<Option<Lit>, Fail>
     ensures { Gives (λ scale. scale) result tokens.old tokens.new (scale_at tokens.old.tokens) }
 {
@@ -176,7 +175,7 @@ fn scale(tokens: &mut Tokens<'_>) -> Result<Option<Lit>, Fail>
     }
 }
 
-#[tactic(auto, unfolding(crate::specs::DeclarationReads::state_at))]
+#[tactic(auto, unfolding(crate::specs::DeclarationReaders::state_at))]
 fn state(alloc: Global, tokens: &mut Tokens<'_>) -> Result<StateDecl, Fail>
     ensures { Gives (λ state. state) result tokens.old tokens.new (state_at tokens.old.tokens) }
 {
@@ -196,7 +195,7 @@ impl Item for StateDecl {
 }
 
 /// A period and an offset.
-#[tactic(auto, unfolding(crate::specs::DeclarationReads::timing_at))]
+#[tactic(auto, unfolding(crate::specs::DeclarationReaders::timing_at))]
 pub fn timing(tokens: &mut Tokens<'_>) -> Result<(Lit, Lit), Fail>
     ensures { Gives (λ timing. timing) result tokens.old tokens.new (timing_at tokens.old.tokens) }
 {
@@ -208,7 +207,7 @@ pub fn timing(tokens: &mut Tokens<'_>) -> Result<(Lit, Lit), Fail>
 }
 
 /// A name behind a keyword.
-#[tactic(auto, unfolding(crate::specs::DeclarationReads::role_at))]
+#[tactic(auto, unfolding(crate::specs::DeclarationReaders::role_at))]
 pub fn role(alloc: Global, tokens: &mut Tokens<'_>, word: &[u8]) -> Result<Ident, Fail>
     ensures { Gives (λ name. name) result tokens.old tokens.new (role_at word.now tokens.old.tokens) }
 {

@@ -1,27 +1,16 @@
+//! Statements with none inside.
 ghost use Rattle.std.specs.Prelude.{◌≡◌, ◌≤◌, codes};
-ghost use Rattle.sot_tree.specs.TreeViews.{tree_view, statement_view};
-ghost use Rattle.sot_parser.specs.Lexemes.{begins, is_sign, is_keyword};
-ghost use Rattle.sot_parser.specs.StatementReads.{tree_at, assign_at, field_at, dot_at, publish_at, plain_at};
-ghost use Rattle.sot_parser.specs.ReadViews.{Gives};
+ghost use Rattle.sot_tree.specs.TreeViews.{statement_view};
+ghost use Rattle.sot_expression.specs.Lexemes.{begins, is_sign, is_keyword};
+ghost use Rattle.sot_expression.specs.ExpressionReaders.{tree_at};
+ghost use Rattle.sot_parser.specs.StatementReaders.{assign_at, field_at, dot_at, publish_at, plain_at};
+ghost use Rattle.sot_expression.specs.Returned.{Gives};
 
-use crate::expression::expression;
-use crate::leaves::{expect_keyword, expect_sign, is_keyword, is_sign, name};
-use crate::syntax::Fail;
-use crate::tokens::Tokens;
-use sot_tree::{Expr, Ident, Stmt};
+use sot_expression::{Fail, Tokens, expect_keyword, expect_sign, is_keyword, is_sign, name, tree};
+use sot_tree::{Ident, Stmt};
 use std::alloc::Global;
 
-/// An expression of at most `room` levels.
-#[tactic(auto, unfolding(crate::specs::StatementReads::tree_at))]
-pub fn tree(alloc: Global, tokens: &mut Tokens<'_>, room: u32) -> Result<Expr, Fail>
-    requires room { (1 ≤ room) × (room ≤ 64) }
-    ensures { Gives tree_view result tokens.old tokens.new (tree_at room tokens.old.tokens) }
-{
-    let part = expression(alloc, tokens, room)?;
-    Ok(part.tree)
-}
-
-#[tactic(auto, unfolding(crate::specs::StatementReads::assign_at))]
+#[tactic(auto, unfolding(crate::specs::StatementReaders::assign_at))]
 fn assign(alloc: Global, tokens: &mut Tokens<'_>, room: u32) -> Result<Stmt, Fail>
     requires room { (1 ≤ room) × (room ≤ 64) }
     ensures { Gives statement_view result tokens.old tokens.new (assign_at (tree_at room) tokens.old.tokens) }
@@ -33,7 +22,7 @@ fn assign(alloc: Global, tokens: &mut Tokens<'_>, room: u32) -> Result<Stmt, Fai
     Ok(Stmt::Assign { target, value })
 }
 
-#[tactic(auto, unfolding(crate::specs::StatementReads::field_at))]
+#[tactic(auto, unfolding(crate::specs::StatementReaders::field_at))]
 fn field(alloc: Global, tokens: &mut Tokens<'_>) -> Result<Option<Ident>, Fail>
     ensures { Gives (λ field. field) result tokens.old tokens.new (field_at tokens.old.tokens) }
 {
@@ -42,7 +31,7 @@ fn field(alloc: Global, tokens: &mut Tokens<'_>) -> Result<Option<Ident>, Fail>
     Ok(Some(field))
 }
 
-#[tactic(auto, unfolding(crate::specs::StatementReads::dot_at))]
+#[tactic(auto, unfolding(crate::specs::StatementReaders::dot_at))]
 fn optional_field(alloc: Global, tokens: &mut Tokens<'_>) -> Result<Option<Ident>, Fail>
     ensures { Gives (λ field. field) result tokens.old tokens.new (dot_at tokens.old.tokens) }
 {
@@ -53,7 +42,7 @@ fn optional_field(alloc: Global, tokens: &mut Tokens<'_>) -> Result<Option<Ident
     }
 }
 
-#[tactic(auto, unfolding(crate::specs::StatementReads::publish_at))]
+#[tactic(auto, unfolding(crate::specs::StatementReaders::publish_at))]
 fn publish(alloc: Global, tokens: &mut Tokens<'_>, room: u32) -> Result<Stmt, Fail>
     requires room { (1 ≤ room) × (room ≤ 64) }
     ensures { Gives statement_view result tokens.old tokens.new (publish_at (tree_at room) tokens.old.tokens) }
@@ -72,7 +61,7 @@ fn publish(alloc: Global, tokens: &mut Tokens<'_>, room: u32) -> Result<Stmt, Fa
 }
 
 /// A statement with none inside, whose expression has at most `room` levels.
-#[tactic(auto, unfolding(crate::specs::StatementReads::plain_at))]
+#[tactic(auto, unfolding(crate::specs::StatementReaders::plain_at))]
 pub fn plain(alloc: Global, tokens: &mut Tokens<'_>, room: u32) -> Result<Stmt, Fail>
     requires room { (1 ≤ room) × (room ≤ 64) }
     ensures { Gives statement_view result tokens.old tokens.new (plain_at (tree_at room) tokens.old.tokens) }

@@ -1,21 +1,19 @@
+//! Plants.
 ghost use Rattle.std.specs.Prelude.{◌≡◌, ◌≤◌, map, codes};
 ghost use Rattle.sot_tree.specs.TreeViews.{tree_view, next_view, plant_view};
-ghost use Rattle.sot_parser.specs.Lexemes.{begins, is_keyword};
-ghost use Rattle.sot_parser.specs.Reads.{name_at};
-ghost use Rattle.sot_parser.specs.ListReads.{all_at};
-ghost use Rattle.sot_parser.specs.StatementReads.{tree_at};
-ghost use Rattle.sot_parser.specs.DeclarationReads.{next_at, plant_at};
-ghost use Rattle.sot_parser.specs.ReadViews.{Gives};
+ghost use Rattle.sot_expression.specs.Lexemes.{begins, is_keyword};
+ghost use Rattle.sot_expression.specs.Readers.{name_at};
+ghost use Rattle.sot_parser.specs.ListReaders.{all_at};
+ghost use Rattle.sot_expression.specs.ExpressionReaders.{tree_at};
+ghost use Rattle.sot_parser.specs.DeclarationReaders.{next_at, signals_at, plant_at};
+ghost use Rattle.sot_expression.specs.Returned.{Gives};
 
 use crate::items::{clause, optional};
-use crate::leaves::{expect_keyword, expect_sign, is_keyword, name};
-use crate::plain::tree;
-use crate::syntax::Fail;
-use crate::tokens::Tokens;
-use sot_tree::{NextDecl, PlantDecl};
+use sot_expression::{Fail, Tokens, expect_keyword, expect_sign, is_keyword, name, tree};
+use sot_tree::{Field, Ident, NextDecl, PlantDecl, StateDecl};
 use std::alloc::Global;
 
-#[tactic(auto, unfolding(crate::specs::DeclarationReads::next_at))]
+#[tactic(auto, unfolding(crate::specs::DeclarationReaders::next_at))]
 fn next(alloc: Global, tokens: &mut Tokens<'_>, room: u32) -> Result<NextDecl, Fail>
     requires room { (1 ≤ room) × (room ≤ 64) }
     ensures { Gives next_view result tokens.old tokens.new (next_at room tokens.old.tokens) }
@@ -40,8 +38,22 @@ fn nexts(alloc: Global, tokens: &mut Tokens<'_>, room: u32) -> Result<Vec<NextDe
     Ok(nexts)
 }
 
+type Signals = (Vec<StateDecl>, Vec<Ident>, Vec<Ident>, Vec<Field>);
+
+// What a plant holds and sees: the states, the inputs, the other plants and the noise.
+#[tactic(auto, unfolding(crate::specs::DeclarationReaders::signals_at))]
+fn signals(alloc: Global, tokens: &mut Tokens<'_>) -> Result<Signals, Fail>
+    ensures { Gives (λ signals. (signals.0.items, signals.1.items, signals.2.items, signals.3.items)) result tokens.old tokens.new (signals_at tokens.old.tokens) }
+{
+    let states = clause(alloc, tokens, b"state")?;
+    let inputs = optional(alloc, tokens, b"input")?;
+    let sees = optional(alloc, tokens, b"sees")?;
+    let noise = optional(alloc, tokens, b"noise")?;
+    Ok((states, inputs, sees, noise))
+}
+
 /// A plant, whose expressions have at most `room` levels.
-#[tactic(auto, unfolding(crate::specs::DeclarationReads::plant_at))]
+#[tactic(auto, unfolding(crate::specs::DeclarationReaders::plant_at))]
 pub fn plant(alloc: Global, tokens: &mut Tokens<'_>, room: u32) -> Result<PlantDecl, Fail>
     requires room { (1 ≤ room) × (room ≤ 64) }
     ensures { Gives plant_view result tokens.old tokens.new (plant_at room tokens.old.tokens) }
@@ -49,10 +61,7 @@ pub fn plant(alloc: Global, tokens: &mut Tokens<'_>, room: u32) -> Result<PlantD
     expect_keyword(tokens, b"plant")?;
     let name = name(alloc, tokens)?;
     expect_sign(tokens, b"{")?;
-    let states = clause(alloc, tokens, b"state")?;
-    let inputs = optional(alloc, tokens, b"input")?;
-    let sees = optional(alloc, tokens, b"sees")?;
-    let noise = optional(alloc, tokens, b"noise")?;
+    let (states, inputs, sees, noise) = signals(alloc, tokens)?;
     let next = nexts(alloc, tokens, room)?;
     let end = expect_sign(tokens, b"}")?;
     Ok(PlantDecl {

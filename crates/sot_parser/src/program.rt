@@ -1,22 +1,23 @@
+//! A whole program: its tree, or where it goes wrong.
 ghost use Rattle.std.specs.Prelude.{◌≡◌, IfOk, IsErrOf};
 ghost use Rattle.sot_text.specs.Ahead.{ahead_from};
 ghost use Rattle.sot_tree.specs.Trees.{Program as ProgramTree};
 ghost use Rattle.sot_tree.specs.TreeViews.{program_view};
 ghost use Rattle.sot_parser.specs.Programs.{Spells};
-ghost use Rattle.sot_parser.specs.DeclarationReads.{program_at};
-ghost use Rattle.sot_parser.specs.Answers.{stuck_syntax, deep_syntax, is_ended, fault_at, Answers};
-ghost use Rattle.sot_parser.specs.ReadViews.{Gives};
+ghost use Rattle.sot_parser.specs.DeclarationReaders.{program_at};
+ghost use Rattle.sot_parser.specs.ParseAnswers.{stuck_syntax, deep_syntax, is_ended, fault_at, Answers};
+ghost use Rattle.sot_expression.specs.Returned.{Gives};
 
 use crate::declaration::declarations;
-use crate::syntax::{Fail, ParseFail, Syntax};
-use crate::tokens::Tokens;
+use crate::syntax::{ParseFail, Syntax};
+use sot_expression::{Fail, Tokens};
 use sot_tree::Program;
 use sot_text::Lexer;
 use std::alloc::Global;
 
 const ROOM: u32 = 64;
 
-#[tactic(auto, unfolding(crate::specs::DeclarationReads::program_at))]
+#[tactic(auto, unfolding(crate::specs::DeclarationReaders::program_at))]
 fn program(alloc: Global, tokens: &mut Tokens<'_>) -> Result<Program, Fail>
     ensures { Gives program_view result tokens.old tokens.new (program_at tokens.old.tokens) }
 {
@@ -86,8 +87,3 @@ pub fn parse<'a>(alloc: Global, lexer: &mut Lexer<'a>) -> Result<Program, ParseF
 {
     answer(alloc, lexer)
 }
-
-/// A text spells at most one program.
-pub fn programs_are_unique()
-    ensures { (bytes : _) → (at : _) → (first : ProgramTree) → (second : ProgramTree) → Spells bytes at first → Spells bytes at second → first ≡ second }
-{}

@@ -1,19 +1,18 @@
+//! Modules and their regions.
 ghost use Rattle.std.specs.Prelude.{◌≡◌, map, codes};
 ghost use Rattle.sot_tree.specs.TreeViews.{area_view, module_view};
-ghost use Rattle.sot_parser.specs.Lexemes.{begins, is_sign, is_keyword};
-ghost use Rattle.sot_parser.specs.ListReads.{further_at, separated_at};
-ghost use Rattle.sot_parser.specs.DeclarationReads.{box_at, no_box_at, region_at, bound_at, module_at};
-ghost use Rattle.sot_parser.specs.ReadViews.{Gives};
+ghost use Rattle.sot_expression.specs.Lexemes.{begins, is_sign, is_keyword};
+ghost use Rattle.sot_parser.specs.ListReaders.{further_at, separated_at};
+ghost use Rattle.sot_parser.specs.DeclarationReaders.{box_at, no_box_at, region_at, bound_at, pairing_at, bounds_at, module_at};
+ghost use Rattle.sot_expression.specs.Returned.{Gives};
 
 use crate::items::separated;
-use crate::leaves::{expect_keyword, expect_sign, is_keyword, is_sign, name};
 use crate::pieces::{role, timing};
-use crate::syntax::Fail;
-use crate::tokens::Tokens;
-use sot_tree::{BoxDecl, ModuleDecl};
+use sot_expression::{Fail, Tokens, expect_keyword, expect_sign, is_keyword, is_sign, name};
+use sot_tree::{BoxDecl, Ident, Lit, ModuleDecl};
 use std::alloc::Global;
 
-#[tactic(auto, unfolding(crate::specs::DeclarationReads::box_at))]
+#[tactic(auto, unfolding(crate::specs::DeclarationReaders::box_at))]
 fn one_box(alloc: Global, tokens: &mut Tokens<'_>) -> Result<BoxDecl, Fail>
     ensures { Gives area_view result tokens.old tokens.new (box_at tokens.old.tokens) }
 {
@@ -23,7 +22,7 @@ fn one_box(alloc: Global, tokens: &mut Tokens<'_>) -> Result<BoxDecl, Fail>
     Ok(BoxDecl { sides, at })
 }
 
-#[tactic(auto, unfolding(crate::specs::ListReads::further_at))]
+#[tactic(auto, unfolding(crate::specs::ListReaders::further_at))]
 fn further_box(alloc: Global, tokens: &mut Tokens<'_>) -> Result<BoxDecl, Fail>
     ensures { Gives area_view result tokens.old tokens.new (further_at (codes "|") box_at tokens.old.tokens) }
 {
@@ -44,7 +43,7 @@ fn boxes(alloc: Global, tokens: &mut Tokens<'_>) -> Result<Vec<BoxDecl>, Fail>
     Ok(boxes)
 }
 
-#[tactic(auto, unfolding(crate::specs::DeclarationReads::no_box_at))]
+#[tactic(auto, unfolding(crate::specs::DeclarationReaders::no_box_at))]
 fn no_box(alloc: Global, tokens: &mut Tokens<'_>) -> Result<Vec<BoxDecl>, Fail>
     ensures { Gives (λ boxes. map area_view boxes.items) result tokens.old tokens.new (no_box_at tokens.old.tokens) }
 {
@@ -52,7 +51,7 @@ fn no_box(alloc: Global, tokens: &mut Tokens<'_>) -> Result<Vec<BoxDecl>, Fail>
     Ok(Vec::new(alloc))
 }
 
-#[tactic(auto, unfolding(crate::specs::DeclarationReads::region_at))]
+#[tactic(auto, unfolding(crate::specs::DeclarationReaders::region_at))]
 fn region(alloc: Global, tokens: &mut Tokens<'_>) -> Result<Vec<BoxDecl>, Fail>
     ensures { Gives (λ boxes. map area_view boxes.items) result tokens.old tokens.new (region_at tokens.old.tokens) }
 {
@@ -63,7 +62,7 @@ fn region(alloc: Global, tokens: &mut Tokens<'_>) -> Result<Vec<BoxDecl>, Fail>
     }
 }
 
-#[tactic(auto, unfolding(crate::specs::DeclarationReads::bound_at))]
+#[tactic(auto, unfolding(crate::specs::DeclarationReaders::bound_at))]
 fn bound(alloc: Global, tokens: &mut Tokens<'_>, word: &[u8]) -> Result<Vec<BoxDecl>, Fail>
     ensures { Gives (λ boxes. map area_view boxes.items) result tokens.old tokens.new (bound_at word.now tokens.old.tokens) }
 {
@@ -73,21 +72,45 @@ fn bound(alloc: Global, tokens: &mut Tokens<'_>, word: &[u8]) -> Result<Vec<BoxD
     Ok(region)
 }
 
+// The two nodes of a module, the period and the offset of its decisions, and its plant.
+#[tactic(auto, unfolding(crate::specs::DeclarationReaders::pairing_at))]
+fn pairing(
+    alloc: Global,
+    tokens: &mut Tokens<'_>,
+) -> Result<(Ident, Ident, Lit, Lit, Ident), Fail>
+    ensures { Gives (λ pairing. pairing) result tokens.old tokens.new (pairing_at tokens.old.tokens) }
+{
+    let ac = role(alloc, tokens, b"ac")?;
+    let sc = role(alloc, tokens, b"sc")?;
+    let (period, offset) = timing(tokens)?;
+    expect_sign(tokens, b";")?;
+    let plant = role(alloc, tokens, b"plant")?;
+    Ok((ac, sc, period, offset, plant))
+}
+
+// The safe and the safer region.
+#[tactic(auto, unfolding(crate::specs::DeclarationReaders::bounds_at))]
+fn bounds(
+    alloc: Global,
+    tokens: &mut Tokens<'_>,
+) -> Result<(Vec<BoxDecl>, Vec<BoxDecl>), Fail>
+    ensures { Gives (λ bounds. (map area_view bounds.0.items, map area_view bounds.1.items)) result tokens.old tokens.new (bounds_at tokens.old.tokens) }
+{
+    let safe = bound(alloc, tokens, b"safe")?;
+    let safer = bound(alloc, tokens, b"safer")?;
+    Ok((safe, safer))
+}
+
 /// A module.
-#[tactic(auto, unfolding(crate::specs::DeclarationReads::module_at))]
+#[tactic(auto, unfolding(crate::specs::DeclarationReaders::module_at))]
 pub fn mission_module(alloc: Global, tokens: &mut Tokens<'_>) -> Result<ModuleDecl, Fail>
     ensures { Gives module_view result tokens.old tokens.new (module_at tokens.old.tokens) }
 {
     expect_keyword(tokens, b"module")?;
     let name = name(alloc, tokens)?;
     expect_sign(tokens, b"{")?;
-    let ac = role(alloc, tokens, b"ac")?;
-    let sc = role(alloc, tokens, b"sc")?;
-    let (period, offset) = timing(tokens)?;
-    expect_sign(tokens, b";")?;
-    let plant = role(alloc, tokens, b"plant")?;
-    let safe = bound(alloc, tokens, b"safe")?;
-    let safer = bound(alloc, tokens, b"safer")?;
+    let (ac, sc, period, offset, plant) = pairing(alloc, tokens)?;
+    let (safe, safer) = bounds(alloc, tokens)?;
     expect_sign(tokens, b"}")?;
     Ok(ModuleDecl {
         name,

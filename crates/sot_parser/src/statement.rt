@@ -1,14 +1,14 @@
+//! Statements and blocks.
 ghost use Rattle.std.specs.Prelude.{◌≡◌, ◌≤◌, map, codes};
 ghost use Rattle.sot_tree.specs.TreeViews.{statement_view, block_view};
-ghost use Rattle.sot_parser.specs.Lexemes.{begins, is_sign, is_keyword};
-ghost use Rattle.sot_parser.specs.ListReads.{all_at};
-ghost use Rattle.sot_parser.specs.StatementReads.{tree_at, otherwise_at, else_at, branch_at, loop_at, choice_at, nested_at, begins_nested, begins_statement, goes_on, block_at, statement_at};
-ghost use Rattle.sot_parser.specs.ReadViews.{Gives};
+ghost use Rattle.sot_expression.specs.Lexemes.{begins, is_sign, is_keyword};
+ghost use Rattle.sot_parser.specs.ListReaders.{all_at};
+ghost use Rattle.sot_expression.specs.ExpressionReaders.{tree_at};
+ghost use Rattle.sot_parser.specs.StatementReaders.{otherwise_at, else_at, branch_at, loop_at, choice_at, nested_at, begins_nested, begins_statement, goes_on, block_at, statement_at};
+ghost use Rattle.sot_expression.specs.Returned.{Gives};
 
-use crate::leaves::{expect_keyword, expect_sign, is_keyword, is_name, is_sign, number};
-use crate::plain::{plain, tree};
-use crate::syntax::Fail;
-use crate::tokens::Tokens;
+use crate::plain::plain;
+use sot_expression::{Fail, Tokens, expect_keyword, expect_sign, is_keyword, is_name, is_sign, number, tree};
 use sot_tree::Stmt;
 use std::alloc::Global;
 
@@ -52,7 +52,7 @@ fn statement(alloc: Global, tokens: &mut Tokens<'_>, room: u32) -> Result<Stmt, 
 
 // A statement with others inside, whose parts have at most `room` levels.
 #[cycle(statement)]
-#[tactic(auto, unfolding(crate::specs::StatementReads::nested_at))]
+#[tactic(auto, unfolding(crate::specs::StatementReaders::nested_at))]
 fn nested(alloc: Global, tokens: &mut Tokens<'_>, room: u32) -> Result<Stmt, Fail>
     requires room { room ≤ 63 }
     ensures { Gives statement_view result tokens.old tokens.new (nested_at room (tree_at room) (block_at (statement_at room)) tokens.old.tokens) }
@@ -76,7 +76,7 @@ fn choice(alloc: Global, tokens: &mut Tokens<'_>, room: u32) -> Result<Stmt, Fai
 }
 
 #[cycle(statement)]
-#[tactic(auto, unfolding(crate::specs::StatementReads::branch_at))]
+#[tactic(auto, unfolding(crate::specs::StatementReaders::branch_at))]
 fn branch(alloc: Global, tokens: &mut Tokens<'_>, room: u32) -> Result<Stmt, Fail>
     requires room { (1 ≤ room) × (room ≤ 63) }
     ensures { Gives statement_view result tokens.old tokens.new (branch_at (tree_at room) (block_at (statement_at room)) tokens.old.tokens) }
@@ -89,7 +89,7 @@ fn branch(alloc: Global, tokens: &mut Tokens<'_>, room: u32) -> Result<Stmt, Fai
 }
 
 #[cycle(statement)]
-#[tactic(auto, unfolding(crate::specs::StatementReads::else_at))]
+#[tactic(auto, unfolding(crate::specs::StatementReaders::else_at))]
 fn optional_else(alloc: Global, tokens: &mut Tokens<'_>, room: u32) -> Result<Vec<Stmt>, Fail>
     requires room { room ≤ 63 }
     ensures { Gives (λ block. block_view block.items) result tokens.old tokens.new (else_at (block_at (statement_at room)) tokens.old.tokens) }
@@ -102,7 +102,7 @@ fn optional_else(alloc: Global, tokens: &mut Tokens<'_>, room: u32) -> Result<Ve
 }
 
 #[cycle(statement)]
-#[tactic(auto, unfolding(crate::specs::StatementReads::otherwise_at))]
+#[tactic(auto, unfolding(crate::specs::StatementReaders::otherwise_at))]
 fn otherwise(alloc: Global, tokens: &mut Tokens<'_>, room: u32) -> Result<Vec<Stmt>, Fail>
     requires room { room ≤ 63 }
     ensures { Gives (λ block. block_view block.items) result tokens.old tokens.new (otherwise_at (block_at (statement_at room)) tokens.old.tokens) }
@@ -112,7 +112,7 @@ fn otherwise(alloc: Global, tokens: &mut Tokens<'_>, room: u32) -> Result<Vec<St
 }
 
 #[cycle(statement)]
-#[tactic(auto, unfolding(crate::specs::StatementReads::loop_at))]
+#[tactic(auto, unfolding(crate::specs::StatementReaders::loop_at))]
 fn repeat(alloc: Global, tokens: &mut Tokens<'_>, room: u32) -> Result<Stmt, Fail>
     requires room { room ≤ 63 }
     ensures { Gives statement_view result tokens.old tokens.new (loop_at (block_at (statement_at room)) tokens.old.tokens) }
@@ -125,7 +125,7 @@ fn repeat(alloc: Global, tokens: &mut Tokens<'_>, room: u32) -> Result<Stmt, Fai
 
 /// A block, whose statements have at most `room` levels.
 #[cycle(statement)]
-#[tactic(auto, unfolding(crate::specs::StatementReads::block_at))]
+#[tactic(auto, unfolding(crate::specs::StatementReaders::block_at))]
 pub fn block(alloc: Global, tokens: &mut Tokens<'_>, room: u32) -> Result<Vec<Stmt>, Fail>
     requires room { room ≤ 64 }
     ensures { Gives (λ block. block_view block.items) result tokens.old tokens.new (block_at (statement_at room) tokens.old.tokens) }

@@ -1,18 +1,17 @@
+//! Topics.
 ghost use Rattle.std.specs.Prelude.{◌≡◌, codes};
 ghost use Rattle.sot_tree.specs.TreeViews.{shape_view, init_view, topic_view};
-ghost use Rattle.sot_parser.specs.Lexemes.{begins, is_sign, is_keyword};
-ghost use Rattle.sot_parser.specs.DeclarationReads.{fields_at, one_scalar_at, shape_at, consts_at, one_const_at, init_at, environment_at, outside_at, topic_at};
-ghost use Rattle.sot_parser.specs.ReadViews.{Gives};
+ghost use Rattle.sot_expression.specs.Lexemes.{begins, is_sign, is_keyword};
+ghost use Rattle.sot_parser.specs.DeclarationReaders.{fields_at, one_scalar_at, shape_at, consts_at, one_const_at, init_at, environment_at, outside_at, topic_at};
+ghost use Rattle.sot_expression.specs.Returned.{Gives};
 
 use crate::items::separated;
-use crate::leaves::{expect_keyword, expect_sign, is_keyword, is_sign, name};
 use crate::pieces::{constant, scalar};
-use crate::syntax::Fail;
-use crate::tokens::Tokens;
+use sot_expression::{Fail, Tokens, expect_keyword, expect_sign, is_keyword, is_sign, name};
 use sot_tree::{Init, Shape, TopicDecl};
 use std::alloc::Global;
 
-#[tactic(auto, unfolding(crate::specs::DeclarationReads::fields_at))]
+#[tactic(auto, unfolding(crate::specs::DeclarationReaders::fields_at))]
 fn fields(alloc: Global, tokens: &mut Tokens<'_>) -> Result<Shape, Fail>
     ensures { Gives shape_view result tokens.old tokens.new (fields_at tokens.old.tokens) }
 {
@@ -22,7 +21,7 @@ fn fields(alloc: Global, tokens: &mut Tokens<'_>) -> Result<Shape, Fail>
     Ok(Shape::Fields(fields))
 }
 
-#[tactic(auto, unfolding(crate::specs::DeclarationReads::one_scalar_at))]
+#[tactic(auto, unfolding(crate::specs::DeclarationReaders::one_scalar_at))]
 fn one_scalar(tokens: &mut Tokens<'_>) -> Result<Shape, Fail>
     ensures { Gives shape_view result tokens.old tokens.new (one_scalar_at tokens.old.tokens) }
 {
@@ -30,7 +29,7 @@ fn one_scalar(tokens: &mut Tokens<'_>) -> Result<Shape, Fail>
     Ok(Shape::One(scalar))
 }
 
-#[tactic(auto, unfolding(crate::specs::DeclarationReads::shape_at))]
+#[tactic(auto, unfolding(crate::specs::DeclarationReaders::shape_at))]
 fn shape(alloc: Global, tokens: &mut Tokens<'_>) -> Result<Shape, Fail>
     ensures { Gives shape_view result tokens.old tokens.new (shape_at tokens.old.tokens) }
 {
@@ -41,7 +40,7 @@ fn shape(alloc: Global, tokens: &mut Tokens<'_>) -> Result<Shape, Fail>
     }
 }
 
-#[tactic(auto, unfolding(crate::specs::DeclarationReads::consts_at))]
+#[tactic(auto, unfolding(crate::specs::DeclarationReaders::consts_at))]
 fn constants(alloc: Global, tokens: &mut Tokens<'_>) -> Result<Init, Fail>
     ensures { Gives init_view result tokens.old tokens.new (consts_at tokens.old.tokens) }
 {
@@ -51,7 +50,7 @@ fn constants(alloc: Global, tokens: &mut Tokens<'_>) -> Result<Init, Fail>
     Ok(Init::Fields { items, at })
 }
 
-#[tactic(auto, unfolding(crate::specs::DeclarationReads::one_const_at))]
+#[tactic(auto, unfolding(crate::specs::DeclarationReaders::one_const_at))]
 fn one_constant(tokens: &mut Tokens<'_>) -> Result<Init, Fail>
     ensures { Gives init_view result tokens.old tokens.new (one_const_at tokens.old.tokens) }
 {
@@ -59,7 +58,7 @@ fn one_constant(tokens: &mut Tokens<'_>) -> Result<Init, Fail>
     Ok(Init::One(value))
 }
 
-#[tactic(auto, unfolding(crate::specs::DeclarationReads::init_at))]
+#[tactic(auto, unfolding(crate::specs::DeclarationReaders::init_at))]
 fn init(alloc: Global, tokens: &mut Tokens<'_>) -> Result<Init, Fail>
     ensures { Gives init_view result tokens.old tokens.new (init_at tokens.old.tokens) }
 {
@@ -70,7 +69,7 @@ fn init(alloc: Global, tokens: &mut Tokens<'_>) -> Result<Init, Fail>
     }
 }
 
-#[tactic(auto, unfolding(crate::specs::DeclarationReads::environment_at))]
+#[tactic(auto, unfolding(crate::specs::DeclarationReaders::environment_at))]
 fn environment(tokens: &mut Tokens<'_>) -> Result<bool, Fail>
     ensures { Gives (λ outside. outside) result tokens.old tokens.new (environment_at tokens.old.tokens) }
 {
@@ -78,7 +77,7 @@ fn environment(tokens: &mut Tokens<'_>) -> Result<bool, Fail>
     Ok(true)
 }
 
-#[tactic(auto, unfolding(crate::specs::DeclarationReads::outside_at))]
+#[tactic(auto, unfolding(crate::specs::DeclarationReaders::outside_at))]
 fn outside(tokens: &mut Tokens<'_>) -> Result<bool, Fail>
     ensures { Gives (λ outside. outside) result tokens.old tokens.new (outside_at tokens.old.tokens) }
 {
@@ -90,7 +89,7 @@ fn outside(tokens: &mut Tokens<'_>) -> Result<bool, Fail>
 }
 
 /// A topic.
-#[tactic(auto, unfolding(crate::specs::DeclarationReads::topic_at))]
+#[tactic(auto, unfolding(crate::specs::DeclarationReaders::topic_at))]
 pub fn topic(alloc: Global, tokens: &mut Tokens<'_>) -> Result<TopicDecl, Fail>
     ensures { Gives topic_view result tokens.old tokens.new (topic_at tokens.old.tokens) }
 {

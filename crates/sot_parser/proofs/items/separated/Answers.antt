@@ -1,7 +1,7 @@
 use Rattle.std.proofs.Common.{sym, ◌∙◌}
 use Rattle.std.proofs.lemmas.Result.{err_from_is_err_and}
-use Rattle.sot_parser.specs.Lexemes.{begins, is_sign}
-use Rattle.sot_parser.specs.ListReads.{further_at, separated_at}
+use Rattle.sot_expression.specs.Lexemes.{begins, is_sign}
+use Rattle.sot_parser.specs.ListReaders.{further_at, separated_at}
 use Rattle.sot_parser.proofs.Loops.{begun_separated, separated_fails, stops, breaks_so}
 use Rattle.sot_parser.proofs.items.separated.Goals as goal
 

@@ -1,6 +1,6 @@
 use Rattle.std.proofs.Common.{◌≡◌, length}
-use Rattle.sot_parser.specs.Lexemes.{begins, is_sign}
-use Rattle.sot_parser.specs.ListReads.{further_at, separated_at}
+use Rattle.sot_expression.specs.Lexemes.{begins, is_sign}
+use Rattle.sot_parser.specs.ListReaders.{further_at, separated_at}
 use Rattle.sot_parser.proofs.Loops.{Loop}
 use Rattle.sot_parser.proofs.items.separated.Given as goal
 

@@ -1,9 +1,9 @@
 use Rattle.std.proofs.Common.{◌≡◌, map, length, codes}
 use Rattle.sot_parser.proofs.Loops.{Loop}
 use Rattle.sot_tree.specs.TreeViews.{local_view}
-use Rattle.sot_parser.specs.Lexemes.{begins, is_keyword}
-use Rattle.sot_parser.specs.ListReads.{all_at}
-use Rattle.sot_parser.specs.DeclarationReads.{local_at}
+use Rattle.sot_expression.specs.Lexemes.{begins, is_keyword}
+use Rattle.sot_parser.specs.ListReaders.{all_at}
+use Rattle.sot_parser.specs.DeclarationReaders.{local_at}
 use Rattle.sot_parser.proofs.node.locals.Given as goal
 
 abbrev pub invariant-loop-alloc : goal.invariant-loop-alloc

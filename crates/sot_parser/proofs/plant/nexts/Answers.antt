@@ -2,9 +2,9 @@ use Rattle.std.proofs.Common.{sym, ◌∙◌, refl, map, codes}
 use Rattle.std.proofs.lemmas.Result.{err_from_is_err_and}
 use Rattle.sot_parser.proofs.Loops.{begun, stops, breaks_so, again_seen}
 use Rattle.sot_tree.specs.TreeViews.{next_view}
-use Rattle.sot_parser.specs.Lexemes.{begins, is_keyword}
-use Rattle.sot_parser.specs.ListReads.{all_at}
-use Rattle.sot_parser.specs.DeclarationReads.{next_at}
+use Rattle.sot_expression.specs.Lexemes.{begins, is_keyword}
+use Rattle.sot_parser.specs.ListReaders.{all_at}
+use Rattle.sot_parser.specs.DeclarationReaders.{next_at}
 use Rattle.sot_parser.proofs.Shorter.{next_short}
 use Rattle.sot_parser.proofs.plant.nexts.Goals as goal
 

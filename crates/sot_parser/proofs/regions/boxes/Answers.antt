@@ -1,9 +1,9 @@
 use Rattle.std.proofs.Common.{sym, ◌∙◌, map, codes}
 use Rattle.std.proofs.lemmas.Result.{err_from_is_err_and}
 use Rattle.sot_tree.specs.TreeViews.{area_view}
-use Rattle.sot_parser.specs.Lexemes.{begins, is_sign}
-use Rattle.sot_parser.specs.ListReads.{further_at, separated_at}
-use Rattle.sot_parser.specs.DeclarationReads.{box_at}
+use Rattle.sot_expression.specs.Lexemes.{begins, is_sign}
+use Rattle.sot_parser.specs.ListReaders.{further_at, separated_at}
+use Rattle.sot_parser.specs.DeclarationReaders.{box_at}
 use Rattle.sot_parser.proofs.Shorter.{box_short, further_short}
 use Rattle.sot_parser.proofs.Loops.{begun_separated, separated_fails, stops, breaks_so, again_seen}
 use Rattle.sot_parser.proofs.regions.boxes.Goals as goal

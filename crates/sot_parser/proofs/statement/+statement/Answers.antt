@@ -2,8 +2,9 @@ use Rattle.std.proofs.Common.{sym, ◌∙◌, refl, map}
 use Rattle.std.proofs.lemmas.Result.{err_from_is_err_and}
 use Rattle.sot_parser.proofs.Loops.{begun, stops, breaks_so, again_seen}
 use Rattle.sot_tree.specs.TreeViews.{statement_view}
-use Rattle.sot_parser.specs.ListReads.{all_at}
-use Rattle.sot_parser.specs.StatementReads.{tree_at, block_at, goes_on, statement_at}
+use Rattle.sot_parser.specs.ListReaders.{all_at}
+use Rattle.sot_expression.specs.ExpressionReaders.{tree_at}
+use Rattle.sot_parser.specs.StatementReaders.{block_at, goes_on, statement_at}
 use Rattle.sot_parser.proofs.Shorter.{statement_short}
 use Rattle.sot_parser.proofs.StatementSteps.{block_read, branch_read, repeat_read}
 use Rattle.sot_parser.proofs.statement.+statement.Goals as goal

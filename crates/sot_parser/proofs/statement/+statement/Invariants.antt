@@ -1,7 +1,7 @@
 use Rattle.std.proofs.Common.{◌≡◌, ◌+◌, ◌*◌, map, length}
 use Rattle.sot_tree.specs.TreeViews.{statement_view}
-use Rattle.sot_parser.specs.ListReads.{all_at}
-use Rattle.sot_parser.specs.StatementReads.{goes_on, statement_at}
+use Rattle.sot_parser.specs.ListReaders.{all_at}
+use Rattle.sot_parser.specs.StatementReaders.{goes_on, statement_at}
 use Rattle.sot_parser.proofs.Loops.{Loop}
 use Rattle.sot_parser.proofs.statement.+statement.Given as goal
 

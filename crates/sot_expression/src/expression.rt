@@ -1,0 +1,529 @@
+//! The productions of expressions, one function for each.
+ghost use Rattle.std.specs.Prelude.{◌≡◌, ◌<◌, ◌≤◌, ◌-◌, IfOk, true, false};
+ghost use Rattle.sot_text.specs.Reading.{lexeme};
+ghost use Rattle.sot_expression.specs.ExpressionReaders.{any_token, operation_at, remainder_at, joined_at, chain_at, number_part, truth_part, field_at, named_at, group_at, opened_at, further_at, abs_at, pair_at, limits_at, clamp_at, target_at, rescale_at, atom_at, begins_unary, minus_at, unary_at, denied_at, denial_at, chosen_at, choice_at, turns, part_at, expression_at, tree_at};
+ghost use Rattle.sot_tree.specs.TreeViews.{tree_view};
+ghost use Rattle.sot_expression.specs.Parts.{part_view, Fits, below, inner, around};
+ghost use Rattle.sot_expression.specs.Returned.{Gives};
+
+use crate::fail::Fail;
+use crate::leaves::{
+    expect_keyword, expect_sign, is_keyword, is_number, is_sign, name, negated_number, number,
+};
+use crate::nodes;
+use crate::operators::{Infix, Opening, infix_at, opening_at};
+use crate::part::Part;
+use crate::tokens::Tokens;
+use sot_tree::{Expr, Func, Ident, Lit, Op};
+use sot_text::Token;
+use std::alloc::Global;
+
+// The next token, whatever it is.
+fn any_token<'a>(tokens: &mut Tokens<'a>) -> Result<Token<'a>, Fail>
+    ensures { Gives lexeme result tokens.old tokens.new (any_token tokens.old.tokens) }
+{
+    let Some(token) = tokens.peek() else {
+        return Err(Fail::Token);
+    };
+    tokens.advance();
+    Ok(token)
+}
+
+fn leaf(tree: Expr) -> Part
+    ensures tree { result.tree ≡ tree }
+    ensures levels { result.levels ≡ 1 }
+    ensures bare { result.bare ≡ false }
+{
+    Part {
+        tree,
+        levels: 1,
+        bare: false,
+    }
+}
+
+fn over(tree: Expr, levels: u32) -> Part
+    ensures tree { result.tree ≡ tree }
+    ensures levels { result.levels ≡ levels }
+    ensures bare { result.bare ≡ false }
+{
+    Part {
+        tree,
+        levels,
+        bare: false,
+    }
+}
+
+#[tactic(auto, unfolding(crate::specs::ExpressionReaders::number_part))]
+fn number_part(tokens: &mut Tokens<'_>) -> Result<Part, Fail>
+    ensures read { Gives part_view result tokens.old tokens.new (number_part tokens.old.tokens) }
+    ensures leaf { IfOk result (λ p. (p.levels ≡ 1) × (p.bare ≡ false)) }
+{
+    let number = number(tokens)?;
+    Ok(leaf(Expr::Number(number)))
+}
+
+#[tactic(auto, unfolding(crate::specs::ExpressionReaders::truth_part))]
+fn truth_part(tokens: &mut Tokens<'_>, value: bool) -> Result<Part, Fail>
+    ensures read { Gives part_view result tokens.old tokens.new (truth_part value tokens.old.tokens) }
+    ensures leaf { IfOk result (λ p. (p.levels ≡ 1) × (p.bare ≡ false)) }
+{
+    let token = any_token(tokens)?;
+    Ok(leaf(Expr::Truth {
+        value,
+        at: token.at,
+    }))
+}
+
+#[tactic(auto, unfolding(crate::specs::ExpressionReaders::field_at))]
+fn field(alloc: Global, tokens: &mut Tokens<'_>, first: Ident) -> Result<Part, Fail>
+    ensures read { Gives part_view result tokens.old tokens.new (field_at first tokens.old.tokens) }
+    ensures leaf { IfOk result (λ p. (p.levels ≡ 1) × (p.bare ≡ false)) }
+{
+    expect_sign(tokens, b".")?;
+    let field = name(alloc, tokens)?;
+    Ok(leaf(Expr::Ref {
+        first,
+        field: Some(field),
+    }))
+}
+
+// A name, or a field of what a name names.
+#[tactic(auto, unfolding(crate::specs::ExpressionReaders::named_at))]
+fn named(alloc: Global, tokens: &mut Tokens<'_>) -> Result<Part, Fail>
+    ensures read { Gives part_view result tokens.old tokens.new (named_at tokens.old.tokens) }
+    ensures leaf { IfOk result (λ p. (p.levels ≡ 1) × (p.bare ≡ false)) }
+{
+    let first = name(alloc, tokens)?;
+    if is_sign(tokens, b".") {
+        field(alloc, tokens, first)
+    } else {
+        Ok(leaf(Expr::Ref { first, field: None }))
+    }
+}
+
+fn begins_unary(tokens: &Tokens<'_>) -> bool
+    ensures { result ≡ begins_unary tokens.now.tokens }
+{
+    !matches!(opening_at(tokens), Opening::Other) || is_sign(tokens, b"-")
+}
+
+// How many operators of a tier may stand one after another.
+fn turns(tier: u8, room: u32) -> u32
+    ensures { result ≡ turns tier room }
+{
+    if tier == 3 { 1 } else { room }
+}
+
+// `%` and its number, behind a left part.
+#[tactic(auto, unfolding(crate::specs::ExpressionReaders::remainder_at))]
+fn remainder(
+    alloc: Global,
+    tokens: &mut Tokens<'_>,
+    room: u32,
+    left: Part,
+) -> Result<Part, Fail>
+    requires room { room ≤ 64 }
+    requires left { left.levels < room }
+    ensures read { Gives part_view result tokens.old tokens.new (remainder_at (part_view left) tokens.old.tokens) }
+    ensures fits { IfOk result (λ p. Fits room true p) }
+{
+    let at = any_token(tokens)?.at;
+    let by = number(tokens)?;
+    let levels = 1 + left.levels;
+    let tree = nodes::rest(alloc, left.tree, by, at)?;
+    Ok(over(tree, levels))
+}
+
+// The scale that a call rescales to, and its end.
+#[tactic(auto, unfolding(crate::specs::ExpressionReaders::target_at))]
+fn target(tokens: &mut Tokens<'_>) -> Result<Lit, Fail>
+    ensures { Gives (λ lit. lit) result tokens.old tokens.new (target_at tokens.old.tokens) }
+{
+    expect_sign(tokens, b",")?;
+    let to = number(tokens)?;
+    expect_sign(tokens, b")")?;
+    Ok(to)
+}
+
+// A part of a tier, of at most `room` levels; `held` directly behind a parenthesis that groups.
+#[cycle(expression)]
+#[tactic(auto, using(crate::proofs::Tiers::read_unary, crate::proofs::Tiers::read_denial, crate::proofs::Tiers::read_choice, crate::proofs::Tiers::read_chain))]
+fn read(
+    alloc: Global,
+    tokens: &mut Tokens<'_>,
+    room: u32,
+    held: bool,
+    tier: u8,
+) -> Result<Part, Fail>
+    requires room { (1 ≤ room) × (room ≤ 64) }
+    requires tier { tier ≤ 7 }
+    ensures read { Gives part_view result tokens.old tokens.new (part_at room held tier tokens.old.tokens) }
+    ensures fits { IfOk result (λ p. Fits room held p) }
+{
+    if tier == 0 {
+        unary(alloc, tokens, room, held)
+    } else if tier == 4 {
+        denial(alloc, tokens, room, held)
+    } else if tier == 7 {
+        choice(alloc, tokens, room, held)
+    } else {
+        let left = read(alloc, tokens, room, held, tier - 1)?;
+        chain(alloc, tokens, room, held, tier, turns(tier, room), left)
+    }
+}
+
+// Operators of one tier, grouped to the left.
+#[cycle(expression)]
+#[tactic(auto, unfolding(crate::specs::ExpressionReaders::chain_at))]
+fn chain(
+    alloc: Global,
+    tokens: &mut Tokens<'_>,
+    room: u32,
+    held: bool,
+    tier: u8,
+    turns: u32,
+    left: Part,
+) -> Result<Part, Fail>
+    requires room { (1 ≤ room) × (room ≤ 64) }
+    requires tier { (1 ≤ tier) × (tier ≤ 6) }
+    requires turns { turns ≤ 64 }
+    requires fits { Fits room held left }
+    ensures read { Gives part_view result tokens.old tokens.new (chain_at turns room tier (below room (tier - 1)) (part_view left) tokens.old.tokens) }
+    ensures fits { IfOk result (λ p. Fits room held p) }
+{
+    if turns == 0 {
+        return Ok(left);
+    }
+    let Some(operator) = infix_at(tokens, tier) else {
+        return Ok(left);
+    };
+    if left.levels >= room {
+        return Err(Fail::Deep);
+    }
+    let next = joined(alloc, tokens, room, tier, operator, left)?;
+    chain(alloc, tokens, room, held, tier, turns - 1, next)
+}
+
+// An operator, and what stands behind it.
+#[cycle(expression)]
+#[tactic(auto, unfolding(crate::specs::ExpressionReaders::joined_at))]
+fn joined(
+    alloc: Global,
+    tokens: &mut Tokens<'_>,
+    room: u32,
+    tier: u8,
+    operator: Infix,
+    left: Part,
+) -> Result<Part, Fail>
+    requires room { (2 ≤ room) × (room ≤ 64) }
+    requires tier { (1 ≤ tier) × (tier ≤ 6) }
+    requires left { left.levels < room }
+    ensures read { Gives part_view result tokens.old tokens.new (joined_at operator (below room (tier - 1)) (part_view left) tokens.old.tokens) }
+    ensures fits { IfOk result (λ p. Fits room true p) }
+{
+    match operator {
+        Infix::Joins(op) => operation(alloc, tokens, room, tier, op, left),
+        Infix::Rests => remainder(alloc, tokens, room, left),
+    }
+}
+
+#[cycle(expression)]
+#[tactic(auto, unfolding(crate::specs::ExpressionReaders::operation_at))]
+fn operation(
+    alloc: Global,
+    tokens: &mut Tokens<'_>,
+    room: u32,
+    tier: u8,
+    op: Op,
+    left: Part,
+) -> Result<Part, Fail>
+    requires room { (2 ≤ room) × (room ≤ 64) }
+    requires tier { (1 ≤ tier) × (tier ≤ 6) }
+    requires left { left.levels < room }
+    ensures read { Gives part_view result tokens.old tokens.new (operation_at op (below room (tier - 1)) (part_view left) tokens.old.tokens) }
+    ensures fits { IfOk result (λ p. Fits room true p) }
+{
+    let at = any_token(tokens)?.at;
+    let right = read(alloc, tokens, room - 1, false, tier - 1)?;
+    let levels = 1 + left.levels.max(right.levels);
+    let tree = nodes::binary(alloc, op, left.tree, right.tree, at)?;
+    Ok(over(tree, levels))
+}
+
+#[cycle(expression)]
+#[tactic(auto, unfolding(crate::specs::ExpressionReaders::unary_at))]
+fn unary(alloc: Global, tokens: &mut Tokens<'_>, room: u32, held: bool) -> Result<Part, Fail>
+    requires room { (1 ≤ room) × (room ≤ 64) }
+    ensures read { Gives part_view result tokens.old tokens.new (unary_at (around room held) tokens.old.tokens) }
+    ensures fits { IfOk result (λ p. Fits room held p) }
+{
+    if is_sign(tokens, b"-") {
+        let token = any_token(tokens)?;
+        minus(alloc, tokens, room, held, token)
+    } else {
+        atom(alloc, tokens, room, held)
+    }
+}
+
+// Behind a minus.
+#[cycle(expression)]
+#[tactic(auto, unfolding(crate::specs::ExpressionReaders::minus_at))]
+fn minus(
+    alloc: Global,
+    tokens: &mut Tokens<'_>,
+    room: u32,
+    held: bool,
+    token: Token<'_>,
+) -> Result<Part, Fail>
+    requires room { (1 ≤ room) × (room ≤ 64) }
+    ensures read { Gives part_view result tokens.old tokens.new (minus_at room (lexeme token.entry) (below room 0) tokens.old.tokens) }
+    ensures fits { IfOk result (λ p. Fits room held p) }
+{
+    if is_number(tokens) {
+        return Ok(leaf(Expr::Number(negated_number(tokens, token)?)));
+    }
+    if room < 2 {
+        return Err(if begins_unary(tokens) {
+            Fail::Deep
+        } else {
+            Fail::Token
+        });
+    }
+    let part = read(alloc, tokens, room - 1, false, 0)?;
+    let levels = 1 + part.levels;
+    let tree = nodes::negated(alloc, part.tree, token.at)?;
+    Ok(over(tree, levels))
+}
+
+#[cycle(expression)]
+#[tactic(auto, unfolding(crate::specs::ExpressionReaders::denial_at))]
+fn denial(alloc: Global, tokens: &mut Tokens<'_>, room: u32, held: bool) -> Result<Part, Fail>
+    requires room { (1 ≤ room) × (room ≤ 64) }
+    ensures read { Gives part_view result tokens.old tokens.new (denial_at room (below room 4) (part_at room held 3) tokens.old.tokens) }
+    ensures fits { IfOk result (λ p. Fits room held p) }
+{
+    if !is_keyword(tokens, b"not") {
+        return read(alloc, tokens, room, held, 3);
+    }
+    if room < 2 {
+        return Err(Fail::Deep);
+    }
+    denied(alloc, tokens, room, held)
+}
+
+#[cycle(expression)]
+#[tactic(auto, unfolding(crate::specs::ExpressionReaders::denied_at))]
+fn denied(alloc: Global, tokens: &mut Tokens<'_>, room: u32, held: bool) -> Result<Part, Fail>
+    requires room { (2 ≤ room) × (room ≤ 64) }
+    ensures read { Gives part_view result tokens.old tokens.new (denied_at (below room 4) tokens.old.tokens) }
+    ensures fits { IfOk result (λ p. Fits room held p) }
+{
+    let at = any_token(tokens)?.at;
+    let part = read(alloc, tokens, room - 1, false, 4)?;
+    let levels = 1 + part.levels;
+    let tree = nodes::denied(alloc, part.tree, at)?;
+    Ok(over(tree, levels))
+}
+
+#[cycle(expression)]
+#[tactic(auto, unfolding(crate::specs::ExpressionReaders::choice_at))]
+fn choice(alloc: Global, tokens: &mut Tokens<'_>, room: u32, held: bool) -> Result<Part, Fail>
+    requires room { (1 ≤ room) × (room ≤ 64) }
+    ensures read { Gives part_view result tokens.old tokens.new (choice_at room (below room 7) (part_at room held 6) tokens.old.tokens) }
+    ensures fits { IfOk result (λ p. Fits room held p) }
+{
+    if !is_keyword(tokens, b"if") {
+        return read(alloc, tokens, room, held, 6);
+    }
+    if room < 2 {
+        return Err(Fail::Deep);
+    }
+    chosen(alloc, tokens, room, held)
+}
+
+#[cycle(expression)]
+#[tactic(auto, unfolding(crate::specs::ExpressionReaders::chosen_at))]
+fn chosen(alloc: Global, tokens: &mut Tokens<'_>, room: u32, held: bool) -> Result<Part, Fail>
+    requires room { (2 ≤ room) × (room ≤ 64) }
+    ensures read { Gives part_view result tokens.old tokens.new (chosen_at (below room 7) tokens.old.tokens) }
+    ensures fits { IfOk result (λ p. Fits room held p) }
+{
+    let at = any_token(tokens)?.at;
+    let cond = read(alloc, tokens, room - 1, false, 7)?;
+    expect_keyword(tokens, b"then")?;
+    let yes = read(alloc, tokens, room - 1, false, 7)?;
+    expect_keyword(tokens, b"else")?;
+    let no = read(alloc, tokens, room - 1, false, 7)?;
+    let levels = 1 + cond.levels.max(yes.levels.max(no.levels));
+    let tree = nodes::chosen(alloc, cond.tree, yes.tree, no.tree, at)?;
+    Ok(over(tree, levels))
+}
+
+#[cycle(expression)]
+#[tactic(auto, unfolding(crate::specs::ExpressionReaders::atom_at, crate::specs::ExpressionReaders::atom_from))]
+fn atom(alloc: Global, tokens: &mut Tokens<'_>, room: u32, held: bool) -> Result<Part, Fail>
+    requires room { (1 ≤ room) × (room ≤ 64) }
+    ensures read { Gives part_view result tokens.old tokens.new (atom_at (around room held) tokens.old.tokens) }
+    ensures fits { IfOk result (λ p. Fits room held p) }
+{
+    let opening = opening_at(tokens);
+    match opening {
+        Opening::Number => number_part(tokens),
+        Opening::Name => named(alloc, tokens),
+        Opening::Truth(value) => truth_part(tokens, value),
+        Opening::Group if !held => group(alloc, tokens, room),
+        Opening::Other => Err(Fail::Token),
+        _ if room < 2 => Err(Fail::Deep),
+        Opening::Group => group(alloc, tokens, room - 1),
+        Opening::Pair(func) => pair(alloc, tokens, room, func),
+        Opening::Abs => absolute(alloc, tokens, room),
+        Opening::Clamp => clamp(alloc, tokens, room),
+        Opening::Rescale => rescale(alloc, tokens, room),
+    }
+}
+
+// An expression in parentheses.
+#[cycle(expression)]
+#[tactic(auto, unfolding(crate::specs::ExpressionReaders::group_at))]
+fn group(alloc: Global, tokens: &mut Tokens<'_>, room: u32) -> Result<Part, Fail>
+    requires room { (1 ≤ room) × (room ≤ 64) }
+    ensures read { Gives part_view result tokens.old tokens.new (group_at (part_at room true 7) tokens.old.tokens) }
+    ensures fits { IfOk result (λ p. (1 ≤ p.levels) × (p.levels ≤ room)) }
+{
+    any_token(tokens)?;
+    let part = read(alloc, tokens, room, true, 7)?;
+    expect_sign(tokens, b")")?;
+    Ok(Part {
+        tree: part.tree,
+        levels: if part.bare {
+            1 + part.levels
+        } else {
+            part.levels
+        },
+        bare: true,
+    })
+}
+
+// The first argument of a call.
+#[cycle(expression)]
+#[tactic(auto, unfolding(crate::specs::ExpressionReaders::opened_at))]
+fn opened(alloc: Global, tokens: &mut Tokens<'_>, room: u32) -> Result<Part, Fail>
+    requires room { (2 ≤ room) × (room ≤ 64) }
+    ensures read { Gives part_view result tokens.old tokens.new (opened_at (below room 7) tokens.old.tokens) }
+    ensures fits { IfOk result (λ p. (1 ≤ p.levels) × (p.levels < room)) }
+{
+    expect_sign(tokens, b"(")?;
+    read(alloc, tokens, room - 1, false, 7)
+}
+
+// A further argument.
+#[cycle(expression)]
+#[tactic(auto, unfolding(crate::specs::ExpressionReaders::further_at))]
+fn further(alloc: Global, tokens: &mut Tokens<'_>, room: u32) -> Result<Part, Fail>
+    requires room { (2 ≤ room) × (room ≤ 64) }
+    ensures read { Gives part_view result tokens.old tokens.new (further_at (below room 7) tokens.old.tokens) }
+    ensures fits { IfOk result (λ p. (1 ≤ p.levels) × (p.levels < room)) }
+{
+    expect_sign(tokens, b",")?;
+    read(alloc, tokens, room - 1, false, 7)
+}
+
+#[cycle(expression)]
+#[tactic(auto, unfolding(crate::specs::ExpressionReaders::abs_at, crate::specs::ExpressionReaders::opened_at))]
+fn absolute(alloc: Global, tokens: &mut Tokens<'_>, room: u32) -> Result<Part, Fail>
+    requires room { (2 ≤ room) × (room ≤ 64) }
+    ensures read { Gives part_view result tokens.old tokens.new (abs_at (below room 7) tokens.old.tokens) }
+    ensures fits { IfOk result (λ p. Fits room true p) }
+{
+    let at = any_token(tokens)?.at;
+    let part = opened(alloc, tokens, room)?;
+    expect_sign(tokens, b")")?;
+    let call = nodes::call_of_one(alloc, Func::Abs, part.tree, at)?;
+    Ok(over(call, 1 + part.levels))
+}
+
+// `min` or `max`.
+#[cycle(expression)]
+#[tactic(auto, unfolding(crate::specs::ExpressionReaders::pair_at, crate::specs::ExpressionReaders::opened_at, crate::specs::ExpressionReaders::further_at))]
+fn pair(alloc: Global, tokens: &mut Tokens<'_>, room: u32, func: Func) -> Result<Part, Fail>
+    requires room { (2 ≤ room) × (room ≤ 64) }
+    ensures read { Gives part_view result tokens.old tokens.new (pair_at func (below room 7) tokens.old.tokens) }
+    ensures fits { IfOk result (λ p. Fits room true p) }
+{
+    let at = any_token(tokens)?.at;
+    let first = opened(alloc, tokens, room)?;
+    let second = further(alloc, tokens, room)?;
+    expect_sign(tokens, b")")?;
+    let levels = 1 + first.levels.max(second.levels);
+    let call = nodes::call_of_two(alloc, func, first.tree, second.tree, at)?;
+    Ok(over(call, levels))
+}
+
+// The second and the third argument of a call, and its end.
+#[cycle(expression)]
+#[tactic(auto, unfolding(crate::specs::ExpressionReaders::limits_at))]
+fn limits(alloc: Global, tokens: &mut Tokens<'_>, room: u32) -> Result<(Part, Part), Fail>
+    requires room { (2 ≤ room) × (room ≤ 64) }
+    ensures read { Gives (λ limits. (part_view limits.0, part_view limits.1)) result tokens.old tokens.new (limits_at (below room 7) tokens.old.tokens) }
+    ensures low { IfOk result (λ limits. limits.0.levels < room) }
+    ensures high { IfOk result (λ limits. limits.1.levels < room) }
+{
+    let low = further(alloc, tokens, room)?;
+    let high = further(alloc, tokens, room)?;
+    expect_sign(tokens, b")")?;
+    Ok((low, high))
+}
+
+#[cycle(expression)]
+#[tactic(auto, unfolding(crate::specs::ExpressionReaders::clamp_at, crate::specs::ExpressionReaders::opened_at))]
+fn clamp(alloc: Global, tokens: &mut Tokens<'_>, room: u32) -> Result<Part, Fail>
+    requires room { (2 ≤ room) × (room ≤ 64) }
+    ensures read { Gives part_view result tokens.old tokens.new (clamp_at (below room 7) tokens.old.tokens) }
+    ensures fits { IfOk result (λ p. Fits room true p) }
+{
+    let at = any_token(tokens)?.at;
+    let value = opened(alloc, tokens, room)?;
+    let (low, high) = limits(alloc, tokens, room)?;
+    let levels = 1 + value.levels.max(low.levels.max(high.levels));
+    let call = nodes::call_of_three(alloc, Func::Clamp, value.tree, low.tree, high.tree, at)?;
+    Ok(over(call, levels))
+}
+
+#[cycle(expression)]
+#[tactic(auto, unfolding(crate::specs::ExpressionReaders::rescale_at, crate::specs::ExpressionReaders::opened_at))]
+fn rescale(alloc: Global, tokens: &mut Tokens<'_>, room: u32) -> Result<Part, Fail>
+    requires room { (2 ≤ room) × (room ≤ 64) }
+    ensures read { Gives part_view result tokens.old tokens.new (rescale_at (below room 7) tokens.old.tokens) }
+    ensures fits { IfOk result (λ p. Fits room true p) }
+{
+    let at = any_token(tokens)?.at;
+    let part = opened(alloc, tokens, room)?;
+    let to = target(tokens)?;
+    let levels = 1 + part.levels;
+    let tree = nodes::rescaled(alloc, part.tree, to, at)?;
+    Ok(over(tree, levels))
+}
+
+// The expression at the front of the tokens, with how deep it nests.
+#[tactic(auto, unfolding(crate::specs::ExpressionReaders::expression_at))]
+fn expression(alloc: Global, tokens: &mut Tokens<'_>, room: u32) -> Result<Part, Fail>
+    requires room { (1 ≤ room) × (room ≤ 64) }
+    ensures read { Gives part_view result tokens.old tokens.new (expression_at room tokens.old.tokens) }
+    ensures fits { IfOk result (λ part. (1 ≤ part.levels) × (part.levels ≤ room)) }
+{
+    read(alloc, tokens, room, false, 7)
+}
+
+/// The expression at the front of the tokens, of at most `room` levels.
+///
+/// # Errors
+///
+/// `Token` where no expression goes on with the next token, `Deep` where it would nest deeper, `Memory` where there is none.
+#[tactic(auto, unfolding(crate::specs::ExpressionReaders::tree_at))]
+pub fn tree(alloc: Global, tokens: &mut Tokens<'_>, room: u32) -> Result<Expr, Fail>
+    requires room { (1 ≤ room) × (room ≤ 64) }
+    ensures { Gives tree_view result tokens.old tokens.new (tree_at room tokens.old.tokens) }
+{
+    let part = expression(alloc, tokens, room)?;
+    Ok(part.tree)
+}

@@ -1,0 +1,148 @@
+//! Operators between two operands, and what an operand begins with.
+ghost use Rattle.std.specs.Prelude.{◌≡◌};
+ghost use Rattle.sot_expression.specs.Lexemes.{is_keyword, is_sign, is_name, is_number};
+ghost use Rattle.sot_text.specs.Reading.{lexeme};
+ghost use Rattle.sot_expression.specs.Operators.{operator_of, tier_of_op, tier_of_infix, infix_at, opening_of, opening_at};
+
+use crate::tokens::Tokens;
+use sot_tree::{Func, Op};
+use sot_text::{Kind, Token};
+
+/// What joins a left part to what stands behind it: an operator with an operand, or `%` with a number.
+#[derive(Clone, Copy)]
+pub enum Infix {
+    Joins(Op),
+    Rests,
+}
+
+/// What an atom begins with.
+#[derive(Clone, Copy)]
+pub enum Opening {
+    Number,
+    Name,
+    Group,
+    Truth(bool),
+    Pair(Func),
+    Abs,
+    Clamp,
+    Rescale,
+    Other,
+}
+
+fn is_sign(token: &Token<'_>, text: &[u8]) -> bool
+    ensures { result ≡ is_sign text.now (lexeme token.now) }
+{
+    matches!(token.kind, Kind::Sign) && token.text == text
+}
+
+fn is_keyword(token: &Token<'_>, text: &[u8]) -> bool
+    ensures { result ≡ is_keyword text.now (lexeme token.now) }
+{
+    matches!(token.kind, Kind::Keyword) && token.text == text
+}
+
+fn operator_of(token: &Token<'_>) -> Option<Infix>
+    ensures { result ≡ operator_of (lexeme token.now) }
+{
+    if is_sign(token, b"*") {
+        Some(Infix::Joins(Op::Mul))
+    } else if is_sign(token, b"/") {
+        Some(Infix::Joins(Op::Div))
+    } else if is_sign(token, b"%") {
+        Some(Infix::Rests)
+    } else if is_sign(token, b"+") {
+        Some(Infix::Joins(Op::Add))
+    } else if is_sign(token, b"-") {
+        Some(Infix::Joins(Op::Sub))
+    } else if is_sign(token, b"<") {
+        Some(Infix::Joins(Op::Less))
+    } else if is_sign(token, b"<=") {
+        Some(Infix::Joins(Op::LessEqual))
+    } else if is_sign(token, b">") {
+        Some(Infix::Joins(Op::Greater))
+    } else if is_sign(token, b">=") {
+        Some(Infix::Joins(Op::GreaterEqual))
+    } else if is_sign(token, b"==") {
+        Some(Infix::Joins(Op::Equal))
+    } else if is_sign(token, b"!=") {
+        Some(Infix::Joins(Op::NotEqual))
+    } else if is_keyword(token, b"and") {
+        Some(Infix::Joins(Op::And))
+    } else if is_keyword(token, b"or") {
+        Some(Infix::Joins(Op::Or))
+    } else {
+        None
+    }
+}
+
+fn tier_of_op(op: Op) -> u8
+    ensures { result ≡ tier_of_op op }
+{
+    match op {
+        Op::Mul | Op::Div => 1,
+        Op::Add | Op::Sub => 2,
+        Op::Less | Op::LessEqual | Op::Greater | Op::GreaterEqual | Op::Equal | Op::NotEqual => 3,
+        Op::And => 5,
+        Op::Or => 6,
+    }
+}
+
+fn tier_of(operator: Infix) -> u8
+    ensures { result ≡ tier_of_infix operator }
+{
+    match operator {
+        Infix::Joins(op) => tier_of_op(op),
+        Infix::Rests => 1,
+    }
+}
+
+/// The operator of a tier that comes next.
+pub fn infix_at(tokens: &Tokens<'_>, tier: u8) -> Option<Infix>
+    ensures { result ≡ infix_at tier tokens.now.tokens }
+{
+    let token = tokens.peek()?;
+    let operator = operator_of(&token)?;
+    if tier_of(operator) == tier {
+        Some(operator)
+    } else {
+        None
+    }
+}
+
+fn opening_of(token: &Token<'_>) -> Opening
+    ensures { result ≡ opening_of (lexeme token.now) }
+{
+    if matches!(token.kind, Kind::Number) {
+        Opening::Number
+    } else if matches!(token.kind, Kind::Name) {
+        Opening::Name
+    } else if is_sign(token, b"(") {
+        Opening::Group
+    } else if is_keyword(token, b"true") {
+        Opening::Truth(true)
+    } else if is_keyword(token, b"false") {
+        Opening::Truth(false)
+    } else if is_keyword(token, b"min") {
+        Opening::Pair(Func::Min)
+    } else if is_keyword(token, b"max") {
+        Opening::Pair(Func::Max)
+    } else if is_keyword(token, b"abs") {
+        Opening::Abs
+    } else if is_keyword(token, b"clamp") {
+        Opening::Clamp
+    } else if is_keyword(token, b"rescale") {
+        Opening::Rescale
+    } else {
+        Opening::Other
+    }
+}
+
+/// What the next token begins.
+pub fn opening_at(tokens: &Tokens<'_>) -> Opening
+    ensures { result ≡ opening_at tokens.now.tokens }
+{
+    match tokens.peek() {
+        Some(token) => opening_of(&token),
+        None => Opening::Other,
+    }
+}
