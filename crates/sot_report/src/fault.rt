@@ -1,0 +1,27 @@
+//! The faults of a mission.
+
+use sot_cert::JsonFault;
+use sot_parser::Syntax;
+use sot_rules::TypeFault;
+use sot_text::SectionFault;
+
+/// The first fault of the bytes of a mission, in the order of these kinds.
+#[derive(Drop)]
+pub enum Fault {
+    /// A section is unknown, out of order, or missing.
+    Section(SectionFault),
+    /// The program's section spells no program.
+    Syntax(Syntax),
+    /// The program breaks a rule of typing.
+    Typing(TypeFault),
+    /// The certificate's section says no certificate of the program.
+    Cert(JsonFault),
+}
+
+/// Why a mission was not loaded.
+#[derive(Drop)]
+pub enum LoadFail {
+    Fault(Fault),
+    /// There was no memory for it. It says nothing of the bytes.
+    Memory,
+}

@@ -1,0 +1,21 @@
+//! What the bytes of a mission spell, and what is said of it.
+//!
+//! [`load`] gives the program's tables and the certificate that the bytes spell, or their first fault: of the sections, else of
+//! syntax, else of typing, else of the certificate. [`fault_text`], [`refusal_text`] and [`accepted_text`] are the texts of all
+//! answers, each a line or two.
+#![tactic(auto)]
+
+mod accepted;
+mod facts;
+mod fault;
+mod fault_text;
+mod load;
+mod piece;
+mod refusal_text;
+
+pub use accepted::accepted_text;
+pub use facts::texts_are_as_stated;
+pub use fault::{Fault, LoadFail};
+pub use fault_text::fault_text;
+pub use load::{Loaded, load};
+pub use refusal_text::refusal_text;
