@@ -15,21 +15,11 @@ use Rattle.soter.specs.declared.words.Command.{Command}
 use Rattle.soter.specs.Words.{Asks, AsksSome, AsksNone}
 use Rattle.soter.specs.Answers.{SpellsNone, HasShape, LacksShape, HasTypeFault, Replies, input_limit}
 
--- what is said of a program's tables
-abbrev pub TellsShape : Tables → ℕ → List ℕ → Type 0
-TellsShape t status text =
-    ((status ≡ 0) × (shape t).Passes × (text ≡ shape_text t))
-    ⊎ ((status ≡ 1) × ((r : Refusal) × (shape t).Refuses r × (text ≡ refusal_text t r)))
-
--- what is said of a program
-abbrev pub Judges : Program → ℕ → List ℕ → Type 0
-Judges p status text = ((status ≡ 0) × HasShape p text) ⊎ ((status ≡ 1) × LacksShape p text) ⊎ ((status ≡ 3) × HasTypeFault p text)
-
--- what is said of a program's text
-abbrev pub TellsProgram : List ℕ → ℕ → List ℕ → Type 0
-TellsProgram source status text =
-    ((p : Program) × Spells source 0 p × Judges p status text)
-    ⊎ ((status ≡ 3) × SpellsNone source × (text ≡ syntax_text (fault_at source 0)))
+-- what is said of a program's tables with a certificate
+abbrev pub Judges : Tables → Cert → ℕ → List ℕ → Type 0
+Judges t cert status text =
+    ((status ≡ 0) × IsWellCertified t cert.jitter cert × EveryRunIsSafe t cert.jitter × (text ≡ accepted_text t cert))
+    ⊎ ((status ≡ 1) × ((r : Refusal) × (verdict t cert.jitter cert).Refuses r × (text ≡ refusal_text t r)))
 
 -- what is said of what a source gave: of all that it had left, or of too much
 abbrev pub ReadAnswer : Command → Option (List ℕ) → Option (List ℕ) → ℕ → List ℕ → Type 0

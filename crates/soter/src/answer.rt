@@ -2,10 +2,18 @@
 
 ghost use Rattle.std.specs.Prelude.{◌≡◌, IfOk};
 ghost use Rattle.sot_tree.specs.TreeViews.{program_view};
+ghost use Rattle.sot_lang.specs.CertRules.{FitsTables};
 ghost use Rattle.sot_print.specs.Canonical.{canonical};
+ghost use Rattle.sot_rta.specs.Refused.{refusal_view};
+ghost use Rattle.sot_report.specs.FaultTexts.{fault_text};
+ghost use Rattle.sot_report.specs.RefusalTexts.{refusal_text};
+ghost use Rattle.sot_report.specs.AcceptedTexts.{accepted_text};
 
-use sot_tree::Program;
+use sot_lang::{Cert, Typed};
 use sot_print::print;
+use sot_report::Fault;
+use sot_rta::Refusal;
+use sot_tree::Program;
 use std::alloc::{AllocError, Global};
 
 /// A status, and the text that is written with it.
@@ -34,6 +42,40 @@ pub fn canonical(alloc: Global, program: &Program) -> Result<Answer, AllocError>
     let text = print(alloc, program)?;
     Ok(Answer {
         status: 0,
+        text: text.into_bytes(),
+    })
+}
+
+/// Status 0: `accepted`, and a line of counts.
+pub fn accepted(alloc: Global, program: &Typed, cert: &Cert) -> Result<Answer, AllocError>
+    requires { FitsTables program.now cert.now }
+    ensures status { IfOk result (λ answer. answer.status ≡ 0) }
+    ensures text { IfOk result (λ answer. answer.text.items ≡ accepted_text program.now cert.now) }
+{
+    let text = sot_report::accepted_text(alloc, program, cert)?;
+    Ok(Answer {
+        status: 0,
+        text: text.into_bytes(),
+    })
+}
+
+/// Status 1: the line of a refusal.
+pub fn refused(alloc: Global, program: &Typed, refusal: &Refusal) -> Result<Answer, AllocError>
+    ensures status { IfOk result (λ answer. answer.status ≡ 1) }
+    ensures text { IfOk result (λ answer. answer.text.items ≡ refusal_text program.now (refusal_view refusal.now)) }
+{
+    let text = sot_report::refusal_text(alloc, program, refusal)?;
+    Ok(Answer { status: 1, text })
+}
+
+/// Status 3: the line of a fault.
+pub fn faulty(alloc: Global, fault: &Fault) -> Result<Answer, AllocError>
+    ensures status { IfOk result (λ answer. answer.status ≡ 3) }
+    ensures text { IfOk result (λ answer. answer.text.items ≡ fault_text fault.now) }
+{
+    let text = sot_report::fault_text(alloc, fault)?;
+    Ok(Answer {
+        status: 3,
         text: text.into_bytes(),
     })
 }

@@ -1,0 +1,38 @@
+//! `check`: what is said of a mission.
+
+ghost use Rattle.std.specs.Prelude.{◌≤◌, length, IfOk};
+ghost use Rattle.sot_lang.specs.CertRules.{FitsTables};
+ghost use Rattle.soter.specs.Answers.{input_limit, Replies};
+ghost use Rattle.soter.specs.Steps.{Judges};
+ghost use Rattle.soter.specs.declared.words.Command.TheVariants.{Check as CheckCommand};
+
+use crate::answer::{Answer, accepted, faulty, refused};
+use sot_compose::check_all;
+use sot_lang::{Cert, Typed};
+use sot_report::{LoadFail, load};
+use sot_rta::CheckFail;
+use std::alloc::{AllocError, Global};
+
+// Checks a program with its certificate.
+fn judge(alloc: Global, program: &Typed, cert: &Cert) -> Result<Answer, AllocError>
+    requires { FitsTables program.now cert.now }
+    ensures { IfOk result (λ answer. Judges program.now cert.now answer.status answer.text.items) }
+{
+    match check_all(program, cert) {
+        Ok(_accepted) => accepted(alloc, program, cert),
+        Err(CheckFail::Refused(refusal)) => refused(alloc, program, &refusal),
+        Err(CheckFail::Memory) => Err(AllocError),
+    }
+}
+
+/// Checks a mission: its sections, its program, its certificate, and then all conditions.
+pub fn check(alloc: Global, bytes: &[u8]) -> Result<Answer, AllocError>
+    requires { length bytes.now ≤ input_limit }
+    ensures { IfOk result (λ answer. Replies CheckCommand bytes.now answer.status answer.text.items) }
+{
+    match load(alloc, bytes) {
+        Ok(loaded) => judge(alloc, &loaded.program, &loaded.cert),
+        Err(LoadFail::Fault(fault)) => faulty(alloc, &fault),
+        Err(LoadFail::Memory) => Err(AllocError),
+    }
+}
