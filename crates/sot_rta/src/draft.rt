@@ -15,9 +15,9 @@ ghost use Rattle.sot_traps.specs.Verdict.{HaveSafeBoxes};
 ghost use Rattle.sot_rta.specs.Drafts.{IsCellReading, AreCellReadings, IsCellDraft};
 
 use sot_box::{BoxN, Interval};
-use sot_iv::{IvDraft, MayTrap, Ranges, iv_node};
+use sot_iv::{IvDraft, MayTrap, Ranges, iv_node, put_locals};
 use sot_lang::{ModuleInfo, NodeInfo, Slot, Typed};
-use sot_traps::{put_locals, slot_side};
+use sot_traps::slot_side;
 
 // The interval of what a slot shows, with one plant in a cell.
 fn cell_side(p: &Typed, slot: Slot, plant: u32, cell: &BoxN) -> Interval

@@ -15,7 +15,7 @@ use Rattle.sot_lang.specs.SafeRegions.{safe_of}
 use Rattle.sot_lang.specs.TableRules.{MeetsTableRules}
 use Rattle.sot_lists.proofs.Places.{at_same, at_below}
 use Rattle.sot_iv.specs.PlantTicks.{MayTickBox}
-use Rattle.sot_tube.specs.Seen.{AreSeenHulls}
+use Rattle.sot_iv.specs.SeenHulls.{AreSeenHulls}
 use Rattle.sot_tube.specs.Tubes.{StaysInside, TubeInside}
 use Rattle.sot_tube.specs.Leaves.{Leave, Leaves, TubeLeaves}
 use Rattle.sot_tube.specs.Calls.{MayFollow, AreCommands, AnswersTube, AnswersAnyTube}

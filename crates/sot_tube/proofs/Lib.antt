@@ -12,7 +12,5 @@ pub mod LineTubes
 pub mod LineCertified
 pub mod LineRefused
 pub mod Walks
-pub mod SeenHulls
 pub mod Follows
-pub mod InputTypes
 pub mod Kept

@@ -15,4 +15,3 @@ pub mod Examples
 pub mod RefusalExamples
 pub mod Calls
 pub mod Walk
-pub mod Seen

@@ -3,7 +3,6 @@
 
 mod accepted;
 mod facts;
-mod hulls;
 mod keep;
 mod leave;
 mod theorems;

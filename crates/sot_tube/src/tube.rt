@@ -1,36 +1,12 @@
 //! Whether a tube of a module's plant is inside its safe region.
 
-ghost use Rattle.std.specs.Prelude.{◌≡◌, ℕ, ◌<◌, ◌≤◌, ◌≤ℤ◌, length, map};
-ghost use Rattle.sot_lists.specs.Places.{Has, At};
-ghost use Rattle.sot_lang.specs.Ranges.{range_of};
-ghost use Rattle.sot_lang.specs.declared.tables.ScalarInfo.{ScalarInfo};
 ghost use Rattle.sot_tube.specs.Calls.{MayFollow, AreCommands, AnswersTube, AnswersAnyTube};
 
-use crate::hulls::seen_hulls;
 use crate::leave::Leave;
 use crate::walk::walk;
 use sot_box::{BoxN, Interval};
-use sot_iv::Ranges;
-use sot_lang::{ScalarInfo, Typed};
-
-// The types of these scalars.
-fn types_of(infos: &[ScalarInfo], scalars: &[u32]) -> Ranges
-    requires few { length scalars.now ≤ 8 }
-    requires inside { (k : ℕ) → Has scalars.now k → k < length infos.now }
-    requires ordered { (k : ℕ) (info : ScalarInfo) → At infos.now k info → info.lo ≤ℤ info.hi }
-    ensures { result ≡ map (range_of infos.now) scalars.now }
-{
-    let mut sides = Ranges::none();
-    for i in 0..scalars.len() {
-        let scalar = scalars[i] as usize;
-        let info = &infos[scalar];
-        sides.push(Interval {
-            lo: info.lo,
-            hi: info.hi,
-        });
-    }
-    sides
-}
+use sot_iv::{seen_hulls, types_of};
+use sot_lang::Typed;
 
 /// Whether the tube of a module's plant from a box, with commands in these intervals, one for each input of the plant, is
 /// inside the module's safe region for so many ticks; else how it first leaves. Takes no memory.

@@ -3,7 +3,7 @@ use Rattle.sot_lang.specs.Tables.{Tables}
 use Rattle.sot_lists.specs.Places.{Has}
 use Rattle.sot_lang.specs.OwnerNames.{seen_width}
 use Rattle.sot_lang.specs.TableRules.{MeetsTableRules}
-use Rattle.sot_tube.specs.Seen.{AreSeenHulls}
+use Rattle.sot_iv.specs.SeenHulls.{AreSeenHulls}
 use Rattle.sot_tube.proofs.Follows.{seen_fit, seen_safe, may_tick, region_width, answers}
 use Rattle.sot_tube.proofs.tube.held_inside.Goals as goal
 
