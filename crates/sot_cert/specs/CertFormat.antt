@@ -37,9 +37,9 @@ cell width d = do
   ok ← unless Width (items_len ds == width)
   each side ds
 
--- the cells that a certificate gives, as a region
+-- the cells that a certificate gives, as a region with its index
 abbrev pub region_of : ℕ → List (List Side) → BoxList
-region_of width boxes = record { width = width; boxes = boxes; settled = false }
+region_of width boxes = record { width = width; boxes = boxes; settled = true }
 
 abbrev pub cell_limit : ℕ
 cell_limit = 4096

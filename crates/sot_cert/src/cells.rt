@@ -110,6 +110,7 @@ pub(crate) fn cells_of(alloc: Global, width: usize, value: &Value) -> Result<Reg
     if list.len() > CELL_LIMIT {
         return Err(fault_at(alloc, JsonKind::TooMany));
     }
-    let region = boxes_of(alloc, width, list)?;
+    let mut region = boxes_of(alloc, width, list)?;
+    region.settle()?;
     Ok(region)
 }

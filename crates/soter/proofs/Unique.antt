@@ -1,60 +1,93 @@
 -- A text decides one status.
-use Rattle.std.proofs.Common.{◌≡◌, ℕ, List, [], ◌∷◌, Result, Ok, inl, inr, refl, sym, ap, ◌∙◌, subst, arith, codes, Global}
+use Rattle.std.proofs.Common.{◌≡◌, ℕ, List, [], ◌∷◌, Result, Ok, Err, inl, inr, refl, sym, ap, ◌∙◌, subst, arith, codes, Global}
 use Rattle.std.specs.Prelude.{String}
 use Rattle.sot_text.specs.declared.mission.Need.TheVariants as needs
 use Rattle.sot_text.specs.declared.mission.SectionFault.{SectionFault}
 use Rattle.sot_text.specs.Sections.{Parts, split_of}
 use Rattle.sot_tree.specs.Trees.{Program}
+use Rattle.sot_lang.specs.Tables.{Tables}
 use Rattle.sot_parser.specs.Programs.{Spells}
 use Rattle.sot_parser.proofs.ProgramTexts.{spells_unique}
 use Rattle.sot_rules.specs.First.{IsFaultless}
-use Rattle.sot_typing.specs.Resolved.{AreTables}
+use Rattle.sot_typing.specs.Resolved.{tables_seen, tables_of}
+use Rattle.sot_cert.specs.CertFormat.{Contents, contents, cert_of}
+use Rattle.sot_cert.specs.Says.{Says}
+use Rattle.sot_tube.specs.Certified.{IsWellCertified}
+use Rattle.sot_tube.specs.Refusals.{Refusal}
+use Rattle.sot_tube.proofs.Acceptance.{certified_passes}
+use Rattle.sot_tube.proofs.VerdictExact.{verdict_exact}
+use Rattle.sot_alike.proofs.Certificates.{certificates_alike}
+use Rattle.sot_alike.proofs.Certified.{certified_alike}
+use Rattle.sot_report.specs.declared.fault.Fault.{Fault}
+use Rattle.sot_report.specs.declared.fault.Fault.TheVariants as faults
+use Rattle.sot_report.specs.Missions.{Mission, SpellsMission, Resolves, HasParts, HasFault}
 use Rattle.soter.specs.declared.words.Command.{Command}
 use Rattle.soter.specs.declared.words.Command.TheVariants.{Check, Format}
 use Rattle.soter.specs.Words.{Asks}
-use Rattle.soter.specs.Answers.{HasProgram, IsOf, Accepts, Refutes, Rejects, Replies}
+use Rattle.soter.specs.Answers.{IsRefusedFor, Accepts, Refutes, Rejects, Replies}
 use Rattle.soter.specs.Ends.{Decides}
-use Rattle.soter.proofs.Shown.{shape_not_refused}
 
--- a mission has one program's text, and that spells one program
-one_split : (x : Result Parts SectionFault) (a b : Parts) → x ≡ Ok a → x ≡ Ok b → a ≡ b
-one_split x a b e f = (let same = sym e ∙ f in cc)
+-- bytes have one list of sections, and its program's text spells one program
+same_ok : {A E : Type 0} (x : Result A E) (a b : A) → x ≡ Ok a → x ≡ Ok b → a ≡ b
+same_ok x a b e f = (let same = sym e ∙ f in cc)
 
-same_source : (bytes source other : List ℕ) → HasProgram bytes source → HasProgram bytes other → source ≡ other
-same_source bytes source other (parts, split, is) (parts', split', is') =
-    let same : parts ≡ parts' = one_split (split_of bytes needs.Check) parts parts' split split' in
-    is ∙ ap (λ (x : Parts). x.program) same ∙ sym is'
+same_parts : (bytes : List ℕ) (a b : Parts) → HasParts bytes a → HasParts bytes b → a ≡ b
+same_parts bytes a b = same_ok (split_of bytes needs.Check) a b
 
-same_program : (bytes : List ℕ) (p q : Program) → IsOf bytes p → IsOf bytes q → p ≡ q
-same_program bytes p q (source, has, spells) (other, has', spells') =
-    spells_unique source 0 p q spells (subst (λ (s : List ℕ). Spells s 0 q) (same_source bytes other source has' has) spells')
+same_program : (a b : Parts) (p q : Program) → a ≡ b → Spells a.program 0 p → Spells b.program 0 q → p ≡ q
+same_program a b p q same spells spells' = spells_unique a.program 0 p q spells (subst (λ (x : Parts). Spells x.program 0 q) (sym same) spells')
 
--- a program that has its shape does not lack it
-accepted_refuted : (bytes text text' : List ℕ) → Accepts Check bytes text → Refutes Check bytes text' → ⊥
-accepted_refuted bytes text text' (p, of_p, (t, of_t, passes, says)) (q, of_q, (u, of_u, (r, refuses, says'))) =
-    let same : q ≡ p = same_program bytes q p of_q of_p in
-    shape_not_refused p t u r of_t.1 (subst (λ (x : Program). AreTables x u) same of_u.1) passes refuses
+-- tables of one program look the same
+same_seen : (p q : Program) (t u : Tables) → p ≡ q → Resolves p t → Resolves q u → tables_seen t ≡ tables_seen u
+same_seen p q t u same r s = r.tables ∙ ap tables_of same ∙ sym s.tables
 
--- a program that breaks no rule of typing is not rejected
-faultless_rejected : (bytes text : List ℕ) (p : Program) → IsOf bytes p → IsFaultless p → Rejects Check bytes text → ⊥
-faultless_rejected bytes text p (source, (parts, split, is), spells) faultless (inl (fault, split', says)) = (let e = sym split ∙ split' in absurd cc)
-faultless_rejected bytes text p (source, has, spells) faultless (inr (inl (other, has', none, says))) =
-    none p (subst (λ (s : List ℕ). Spells s 0 p) (same_source bytes source other has has') spells)
-faultless_rejected bytes text p of_p faultless (inr (inr (q, of_q, (fault, first, says)))) =
-    let same : p ≡ q = same_program bytes p q of_p of_q in
-    subst (λ (x : Program). IsFaultless x) same faultless fault.at fault.kind first.fails
+-- and the certificate's text says the same of them
+same_said : (a b : Parts) (t u : Tables) → a ≡ b → tables_seen t ≡ tables_seen u → cert_of t a.cert ≡ cert_of u b.cert
+same_said a b t u same seen = certificates_alike t u a.cert seen ∙ ap (λ (x : Parts). cert_of u x.cert) same
+
+module _ (bytes : List ℕ) (m n : Mission) (x : SpellsMission bytes m) (y : SpellsMission bytes n) where
+  sections : x.parts ≡ y.parts
+  sections = same_parts bytes x.parts y.parts x.divided y.divided
+
+  seen : tables_seen m.tables ≡ tables_seen n.tables
+  seen = same_seen m.program n.program m.tables n.tables (same_program x.parts y.parts m.program n.program sections x.spelled y.spelled) x.resolved y.resolved
+
+  said : contents m.cert ≡ contents n.cert
+  said = same_ok (cert_of n.tables y.parts.cert) (contents m.cert) (contents n.cert) (sym (same_said x.parts y.parts m.tables n.tables sections seen) ∙ x.certified) y.certified
+
+  -- a mission that is accepted is not refused
+  accepted_refused : (r : Refusal) → IsWellCertified m.tables m.cert.jitter m.cert → IsRefusedFor n r → ⊥
+  accepted_refused r certified refuses =
+      let jitter : m.cert.jitter ≡ n.cert.jitter = ap (λ (c : Contents). c.jitter) said in
+      let other = certified_alike m.tables n.tables m.cert.jitter m.cert n.cert seen (ap (λ (c : Contents). c.modules) said) certified in
+      let here = subst (λ j. IsWellCertified n.tables j n.cert) jitter other in
+      (verdict_exact n.tables n.cert.jitter n.cert).exclusive r refuses (certified_passes n.tables n.cert.jitter n.cert here)
+
+-- bytes that spell a mission have no fault
+spelled_faulty : (bytes : List ℕ) (m : Mission) (f : Fault) → SpellsMission bytes m → HasFault bytes f → ⊥
+spelled_faulty bytes m (faults.Section f) x split = (let e = sym x.divided ∙ split in absurd cc)
+spelled_faulty bytes m (faults.Syntax f) x (parts, has, none, is) =
+    none m.program (subst (λ (q : Parts). Spells q.program 0 m.program) (same_parts bytes x.parts parts x.divided has) x.spelled)
+spelled_faulty bytes m (faults.Typing f) x (parts, has, (p, spells, first)) =
+    let same : m.program ≡ p = same_program x.parts parts m.program p (same_parts bytes x.parts parts x.divided has) x.spelled spells in
+    subst (λ (q : Program). IsFaultless q) same x.resolved.faultless f.at f.kind first.fails
+spelled_faulty bytes m (faults.Cert f) x (parts, has, (p, t, spells, resolves, fails)) =
+    let here = same_parts bytes x.parts parts x.divided has in
+    let same : m.program ≡ p = same_program x.parts parts m.program p here x.spelled spells in
+    let e = sym x.certified ∙ same_said x.parts parts m.tables t here (same_seen m.program p m.tables t same x.resolved resolves) ∙ fails in
+    absurd cc
 
 -- what is accepted is neither refused nor rejected, and what is refused is not rejected
 not_refuted : (c : Command) (bytes text text' : List ℕ) → Accepts c bytes text → Refutes c bytes text' → ⊥
-not_refuted Check bytes text text' a r = accepted_refuted bytes text text' a r
+not_refuted Check bytes text text' (m, spells, certified, safe, says) (n, spells', (r, refuses, says')) = accepted_refused bytes m n r spells spells' certified refuses
 not_refuted Format bytes text text' a r = r
 
 not_rejected : (c : Command) (bytes text text' : List ℕ) → Accepts c bytes text → Rejects c bytes text' → ⊥
-not_rejected Check bytes text text' (p, of_p, (t, of_t, passes, says)) r = faultless_rejected bytes text' p of_p of_t.0 r
+not_rejected Check bytes text text' (m, spells, accepted) (f, has, says) = spelled_faulty bytes m f spells has
 not_rejected Format bytes text text' a r = r.0 a.0 a.1
 
 refuted_not_rejected : (c : Command) (bytes text text' : List ℕ) → Refutes c bytes text → Rejects c bytes text' → ⊥
-refuted_not_rejected Check bytes text text' (p, of_p, (t, of_t, lacks)) r = faultless_rejected bytes text' p of_p of_t.0 r
+refuted_not_rejected Check bytes text text' (m, spells, refused) (f, has, says) = spelled_faulty bytes m f spells has
 refuted_not_rejected Format bytes text text' a r = a
 
 -- a command answers one status

@@ -5,15 +5,17 @@ use Rattle.std.proofs.Common.{Global}
 use Rattle.sot_ports.specs.Faults.{Rose}
 use Rattle.sot_ports.specs.Whole.{ReadsAll, ReadsCount}
 use Rattle.sot_lang.specs.Tables.{Tables}
-use Rattle.sot_tree.specs.Trees.{Program}
-use Rattle.sot_parser.specs.Programs.{Spells}
-use Rattle.sot_parser.specs.ParseAnswers.{fault_at}
+use Rattle.sot_lang.specs.declared.cert.Cert.{Cert}
 use Rattle.sot_tube.specs.Refusals.{Refusal}
-use Rattle.soter.specs.Shape.{shape}
-use Rattle.soter.specs.Texts.{shape_text, refusal_text, syntax_text, usage_text, long_text}
+use Rattle.sot_tube.specs.Certified.{IsWellCertified}
+use Rattle.sot_tube.specs.Verdict.{verdict}
+use Rattle.sot_world.specs.Headline.{EveryRunIsSafe}
+use Rattle.sot_report.specs.AcceptedTexts.{accepted_text}
+use Rattle.sot_report.specs.RefusalTexts.{refusal_text}
+use Rattle.soter.specs.Texts.{usage_text, long_text}
+use Rattle.soter.specs.Answers.{Replies, input_limit}
 use Rattle.soter.specs.declared.words.Command.{Command}
 use Rattle.soter.specs.Words.{Asks, AsksSome, AsksNone}
-use Rattle.soter.specs.Answers.{SpellsNone, HasShape, LacksShape, HasTypeFault, Replies, input_limit}
 
 -- what is said of a program's tables with a certificate
 abbrev pub Judges : Tables → Cert → ℕ → List ℕ → Type 0

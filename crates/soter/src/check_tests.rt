@@ -21,20 +21,6 @@ node s period 1 offset 0 { do { } }
 module m { ac e; sc s; period 1 offset 0; plant q; safe none; safer none; }
 ";
 
-// A module with a slow node, and one with a topic of one node alone.
-const SLOW: &str = "plant q { state x: int; next x = x; }
-external e period 2 offset 0 { }
-node s period 1 offset 0 { do { } }
-module m { ac e; sc s; period 1 offset 0; plant q; safe [0..1]; safer [0..1]; }
-";
-
-const ALONE: &str = "topic t: bool = true;
-plant k { state x: int; next x = x; }
-external f period 1 offset 0 { writes t; }
-node g period 1 offset 0 { do { } }
-module n { ac f; sc g; period 1 offset 0; plant k; safe [0..1]; safer [0..1]; }
-";
-
 // The status and the text of `check` on a text.
 pub fn checked(alloc: Global, text: &[u8]) -> Result<(u8, Vec<u8>), Fail> {
     let mut words = Vec::new(alloc);
@@ -63,94 +49,193 @@ pub fn mission(alloc: Global, pieces: &[(u32, &str)]) -> Result<Vec<u8>, Fail> {
     Ok(text)
 }
 
-// A vehicle on a line, with more topics, and the nodes of its module.
-fn vehicle(alloc: Global, topics: &str, fast: &str, slow: &str) -> Result<String, Fail> {
+// A vehicle on a line: its topics, what its advanced node writes, its safe node's period, its safer region, and its certificate.
+fn vehicle(
+    alloc: Global,
+    topics: &str,
+    writes: &str,
+    period: u32,
+    safer: &str,
+    cert: &str,
+) -> Result<String, Fail> {
     let text = format!(in alloc;
         "topic cmd: int[-2..2] = 0;
 {topics}plant pos {{ state x: int; input cmd; noise w: int[-1..1]; next x = (x + cmd) + w; }}
-external fast {fast}
-node slow {slow}
-module nav {{ ac fast; sc slow; period 4 offset 0; plant pos; safe [-40..40]; safer [-10..10]; }}
+external fast period 4 offset 0 {{ reads pos; writes {writes}; }}
+node slow period {period} offset 0 {{
+  reads pos;
+  writes cmd;
+  do {{ publish cmd = if pos.x > 10 then -2 else if pos.x < -10 then 2 else 0; }}
+}}
+module nav {{ ac fast; sc slow; period 4 offset 0; plant pos; safe [-40..40]; safer {safer}; }}
+%certificate
+{cert}
 "
     )?;
     Ok(text)
 }
 
+// A certificate with this head, these closed cells and one reach cell.
+fn certificate(alloc: Global, head: &str, closed: &str, reach: &str) -> Result<String, Fail> {
+    let text = format!(in alloc;
+        "{{{head},\"modules\":{{\"nav\":{{\"closed\":[{closed}],\"reach\":[[{reach}]]}}}}}}"
+    )?;
+    Ok(text)
+}
+
+const CELLS: &str = "[[-40,-11]],[[-10,10]],[[11,40]]";
+
+// The status of a text of `check`.
+fn status_of(said: &str) -> u8 {
+    if said.starts_with("refused") {
+        1
+    } else if said.starts_with("fault") {
+        3
+    } else {
+        0
+    }
+}
+
 #[test]
-fn tells_the_first_condition_that_a_module_fails(rt: HostRuntime) -> Result<(), Fail> {
+fn accepts_a_mission_or_tells_the_condition_that_fails(rt: HostRuntime) -> Result<(), Fail> {
     let alloc = rt.alloc();
-    for (topics, fast, slow, status, said) in [
+    let one = "\"format\":1";
+    let late = "\"format\":2,\"jitter\":1";
+    for (period, safer, head, closed, reach, said) in [
+        (2, "[-10..10]", one, CELLS, "[-10,10]", "accepted\nmodules 1 nodes 2 cells 4\n"),
+        (2, "[-16..16]", one, CELLS, "[-16,16]", "accepted\nmodules 1 nodes 2 cells 4\n"),
         (
-            "",
-            "period 4 offset 0 { writes cmd; }",
-            "period 4 offset 0 { writes cmd; do { } }",
-            0,
-            "shape holds\nmodules 1 nodes 2\n",
+            2,
+            "[-17..17]",
+            one,
+            CELLS,
+            "[-17,17]",
+            "refused 8 ReachLeaves module nav cell 0 tick 8 box [-41..41] point (-41)\n",
         ),
         (
-            "",
-            "period 4 offset 0 { writes cmd; }",
-            "period 5 offset 0 { writes cmd; do { } }",
-            1,
-            "refused 1 Periods module nav node slow\n",
+            2,
+            "[-10..10]",
+            one,
+            "[[-40,40]]",
+            "[-10,10]",
+            "refused 6 ClosedLeaves module nav cell 0 tick 1 box [-43..43] point (-43)\n",
         ),
         (
-            "",
-            "period 6 offset 0 { writes cmd; }",
-            "period 5 offset 0 { writes cmd; do { } }",
-            1,
-            "refused 1 Periods module nav node fast\n",
+            2,
+            "[-10..10]",
+            one,
+            "[[-40,-11]],[[11,40]]",
+            "[-10,10]",
+            "refused 4 ClosedGap module nav point (-10)\n",
+        ),
+        (2, "[-10..10]", one, CELLS, "[-10,9]", "refused 7 ReachGap module nav point (10)\n"),
+        (5, "[-10..10]", one, CELLS, "[-10,10]", "refused 1 Periods module nav node slow\n"),
+        (2, "none", one, CELLS, "[-10,10]", "refused 3 EmptyRegion module nav safer\n"),
+        (2, "[-10..10]", late, CELLS, "[-10,10]", "accepted\nmodules 1 nodes 2 cells 4\n"),
+        (
+            2,
+            "[-11..11]",
+            late,
+            CELLS,
+            "[-11,11]",
+            "refused 8 ReachLeaves module nav cell 0 tick 10 box [-41..41] point (-41)\n",
         ),
         (
-            "topic alt: int[-2..2] = 0;\n",
-            "period 4 offset 0 { writes cmd, alt; }",
-            "period 2 offset 0 { writes cmd; do { } }",
-            1,
-            "refused 2 Outputs module nav topic alt\n",
+            2,
+            "[-10..10]",
+            "\"format\":2,\"jitter\":2",
+            CELLS,
+            "[-10,10]",
+            "fault certificate /jitter OutsideRange\n",
         ),
         (
-            "topic far: bool = true;\ntopic alt: int[-2..2] = 0;\n",
-            "period 4 offset 0 { writes cmd; }",
-            "period 2 offset 0 { writes alt, cmd, far; do { } }",
-            1,
-            "refused 2 Outputs module nav topic far\n",
+            3,
+            "[-10..10]",
+            "\"format\":2,\"jitter\":2",
+            CELLS,
+            "[-10,10]",
+            "refused 8 ReachLeaves module nav cell 0 tick 11 box [-43..43] point (-43)\n",
         ),
         (
-            "topic alt: int[-2..2] = 0;\n",
-            "period 4 offset 0 { writes cmd, alt; }",
-            "period 5 offset 0 { writes cmd; do { } }",
-            1,
-            "refused 1 Periods module nav node slow\n",
+            2,
+            "[-10..10]",
+            one,
+            "[[1,0]]",
+            "[-10,10]",
+            "fault certificate /modules/nav/closed/0/0 Empty\n",
         ),
+        (2, "[-10..10]", one, "[[0,1],[0,1]]", "[-10,10]", "fault certificate /modules/nav/closed/0 Width\n"),
     ] {
-        let program = vehicle(alloc, topics, fast, slow)?;
-        let (ended, text) = checked(alloc, &mission(alloc, &[(1, &program)])?)?;
-        assert_eq!(rt; ended, status, "at {program}");
-        assert_eq!(rt; text.as_slice(), said.as_bytes(), "at {program}");
+        let cert = certificate(alloc, head, closed, reach)?;
+        let text = vehicle(alloc, "", "cmd", period, safer, &cert)?;
+        let (ended, answer) = checked(alloc, text.as_bytes())?;
+        assert_eq!(rt; answer.as_slice(), said.as_bytes(), "at {text}");
+        assert_eq!(rt; ended, status_of(said), "at {text}");
     }
     Ok(())
 }
 
 #[test]
-fn tells_the_first_module_that_fails(rt: HostRuntime) -> Result<(), Fail> {
+fn tells_faults_of_a_certificate_and_of_its_shape(rt: HostRuntime) -> Result<(), Fail> {
     let alloc = rt.alloc();
-    for (pieces, said) in [
+    let alt = "topic alt: int[-2..2] = 0;\n";
+    for (topics, writes, period, safer, cert, said) in [
         (
-            [(1, MODULE), (1, SLOW)].as_slice(),
-            "refused 1 Periods module m node e\n",
+            alt,
+            "cmd, alt",
+            2,
+            "[-10..10]",
+            "{\"format\":1,\"modules\":{\"nav\":{\"closed\":[],\"reach\":[]}}}",
+            "refused 2 Outputs module nav topic alt\n",
         ),
         (
-            [(1, SLOW), (1, ALONE)].as_slice(),
-            "refused 1 Periods module m node e\n",
+            alt,
+            "cmd, alt",
+            5,
+            "[-10..10]",
+            "{\"format\":1,\"modules\":{\"nav\":{\"closed\":[],\"reach\":[]}}}",
+            "refused 1 Periods module nav node slow\n",
         ),
         (
-            [(1, ALONE), (1, SLOW)].as_slice(),
-            "refused 2 Outputs module n topic t\n",
+            "",
+            "cmd",
+            2,
+            "none",
+            "{\"format\":1,\"modules\":{}}",
+            "refused 15 NoCells module nav\n",
+        ),
+        ("", "cmd", 2, "none", "{\"format\":1,\"modules", "fault certificate / NotJson\n"),
+        ("", "cmd", 2, "none", "", "fault certificate / NotJson\n"),
+        (
+            "",
+            "cmd",
+            2,
+            "none",
+            "{\"format\":1.0,\"modules\":{}}",
+            "fault certificate /format NotWhole\n",
+        ),
+        ("", "cmd", 2, "none", "{\"modules\":{}}", "fault certificate /format Missing\n"),
+        (
+            "",
+            "cmd",
+            2,
+            "none",
+            "{\"format\":3,\"modules\":{}}",
+            "fault certificate /format OutsideRange\n",
+        ),
+        (
+            "",
+            "cmd",
+            2,
+            "none",
+            "{\"format\":1,\"modules\":{\"zap\":{}}}",
+            "fault certificate /modules Unknown\n",
         ),
     ] {
-        let (status, text) = checked(alloc, &mission(alloc, pieces)?)?;
-        assert_eq!(rt; status, 1);
-        assert_eq!(rt; text.as_slice(), said.as_bytes());
+        let text = vehicle(alloc, topics, writes, period, safer, cert)?;
+        let (ended, answer) = checked(alloc, text.as_bytes())?;
+        assert_eq!(rt; answer.as_slice(), said.as_bytes(), "at {text}");
+        assert_eq!(rt; ended, status_of(said), "at {text}");
     }
     Ok(())
 }

@@ -48,7 +48,7 @@ fn counts_up_to_its_limits(rt: HostRuntime) -> Result<(), Fail> {
             most: 512,
             piece: "topic t#: int[0..1] = 0;\n",
             back: "",
-            holds: "modules 0 nodes 0",
+            holds: "accepted\nmodules 0 nodes 0 cells 0",
             fault: "fault type line 513 column 7 TooMany",
         },
         Limit {
@@ -58,7 +58,7 @@ fn counts_up_to_its_limits(rt: HostRuntime) -> Result<(), Fail> {
             most: 300,
             piece: "external e# period 1 offset 0 { }\n",
             back: "",
-            holds: "modules 0 nodes 300",
+            holds: "accepted\nmodules 0 nodes 300 cells 0",
             fault: "fault type line 301 column 10 TooMany",
         },
         Limit {
@@ -68,7 +68,7 @@ fn counts_up_to_its_limits(rt: HostRuntime) -> Result<(), Fail> {
             most: 0,
             piece: "module last { ac a0; sc s0; period 1 offset 0; plant p0; safe [0..1]; safer [0..1]; }\n",
             back: "",
-            holds: "modules 100 nodes 200",
+            holds: "refused 15 NoCells module m0",
             fault: "fault type line 401 column 8 TooMany",
         },
         Limit {
@@ -78,7 +78,7 @@ fn counts_up_to_its_limits(rt: HostRuntime) -> Result<(), Fail> {
             most: 0,
             piece: "plant last { state x: int; next x = x; }\n",
             back: "",
-            holds: "modules 100 nodes 200",
+            holds: "refused 15 NoCells module m0",
             fault: "fault type line 401 column 7 TooMany",
         },
         Limit {
@@ -88,7 +88,7 @@ fn counts_up_to_its_limits(rt: HostRuntime) -> Result<(), Fail> {
             most: 7,
             piece: "f#: bool, ",
             back: "g: bool} = {true, true, true, true, true, true, true, true};\n",
-            holds: "modules 0 nodes 0",
+            holds: "accepted\nmodules 0 nodes 0 cells 0",
             fault: "fault type line 1 column 91 TooMany",
         },
         Limit {
@@ -98,7 +98,7 @@ fn counts_up_to_its_limits(rt: HostRuntime) -> Result<(), Fail> {
             most: 7,
             piece: "t#, ",
             back: "t8; }\n",
-            holds: "modules 0 nodes 1",
+            holds: "accepted\nmodules 0 nodes 1 cells 0",
             fault: "fault type line 10 column 71 TooMany",
         },
         Limit {
@@ -108,7 +108,7 @@ fn counts_up_to_its_limits(rt: HostRuntime) -> Result<(), Fail> {
             most: 7,
             piece: "t#, ",
             back: "t8; next x = x; }\n",
-            holds: "modules 1 nodes 2",
+            holds: "refused 13 ForeignInput module m topic t0",
             fault: "fault type line 13 column 63 TooMany",
         },
         Limit {
@@ -118,7 +118,7 @@ fn counts_up_to_its_limits(rt: HostRuntime) -> Result<(), Fail> {
             most: 63,
             piece: "t#, ",
             back: "t64; }\n",
-            holds: "modules 0 nodes 1",
+            holds: "accepted\nmodules 0 nodes 1 cells 0",
             fault: "fault type line 66 column 348 TooMany",
         },
         Limit {
@@ -128,7 +128,7 @@ fn counts_up_to_its_limits(rt: HostRuntime) -> Result<(), Fail> {
             most: 16,
             piece: "local l#: bool = true; ",
             back: "do { } }\n",
-            holds: "modules 0 nodes 1",
+            holds: "accepted\nmodules 0 nodes 1 cells 0",
             fault: "fault type line 1 column 408 TooMany",
         },
         Limit {
@@ -138,7 +138,7 @@ fn counts_up_to_its_limits(rt: HostRuntime) -> Result<(), Fail> {
             most: 3,
             piece: "x#: int, ",
             back: "y: int; next x0 = y; next x1 = y; next x2 = y; next y = y; }\n",
-            holds: "modules 1 nodes 2",
+            holds: "refused 15 NoCells module m",
             fault: "fault type line 4 column 53 TooMany",
         },
         Limit {
@@ -148,7 +148,7 @@ fn counts_up_to_its_limits(rt: HostRuntime) -> Result<(), Fail> {
             most: 3,
             piece: "w#: int[0..1], ",
             back: "v: int[0..1]; next x = x; }\n",
-            holds: "modules 1 nodes 2",
+            holds: "refused 15 NoCells module m",
             fault: "fault type line 4 column 91 TooMany",
         },
         Limit {
@@ -158,7 +158,7 @@ fn counts_up_to_its_limits(rt: HostRuntime) -> Result<(), Fail> {
             most: 15,
             piece: "p#, ",
             back: "p16; next x = x; }\n",
-            holds: "modules 18 nodes 36",
+            holds: "refused 15 NoCells module m0",
             fault: "fault type line 72 column 100 TooMany",
         },
         Limit {
@@ -168,7 +168,7 @@ fn counts_up_to_its_limits(rt: HostRuntime) -> Result<(), Fail> {
             most: 255,
             piece: "[0..1] | ",
             back: "[0..1]; safer none; }\n",
-            holds: "modules 1 nodes 2",
+            holds: "refused 15 NoCells module m",
             fault: "fault type line 4 column 2361 TooMany",
         },
         Limit {
@@ -178,17 +178,17 @@ fn counts_up_to_its_limits(rt: HostRuntime) -> Result<(), Fail> {
             most: 999,
             piece: "a := 0; ",
             back: "} }\n",
-            holds: "modules 0 nodes 1",
+            holds: "accepted\nmodules 0 nodes 1 cells 0",
             fault: "fault type line 1 column 8137 TooMany",
         },
     ] {
         let name = limit.name;
         let (status, text) = at(alloc, &limit, limit.most)?;
         let holds = limit.holds;
-        assert_eq!(rt; status, 0, "of {name}");
+        assert!(rt; status < 3, "of {name}");
         assert_eq!(rt;
             text.as_slice(),
-            format!(in alloc; "shape holds\n{holds}\n")?.as_bytes(),
+            format!(in alloc; "{holds}\n")?.as_bytes(),
             "of {name}"
         );
         let (status, text) = at(alloc, &limit, limit.most.saturating_add(1))?;
@@ -210,7 +210,7 @@ fn knows_the_width_of_a_range_and_the_longest_period(rt: HostRuntime) -> Result<
         (
             "topic t: int[-1..4294967294] = 0;\n",
             0,
-            "shape holds\nmodules 0 nodes 0\n",
+            "accepted\nmodules 0 nodes 0 cells 0\n",
         ),
         (
             "topic t: int[-1..4294967295] = 0;\n",
@@ -220,7 +220,7 @@ fn knows_the_width_of_a_range_and_the_longest_period(rt: HostRuntime) -> Result<
         (
             "external e period 1000 offset 999 { }\n",
             0,
-            "shape holds\nmodules 0 nodes 1\n",
+            "accepted\nmodules 0 nodes 1 cells 0\n",
         ),
         (
             "external e period 1001 offset 999 { }\n",

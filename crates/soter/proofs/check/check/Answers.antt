@@ -1,0 +1,9 @@
+use Rattle.std.proofs.Common.{arith}
+use Rattle.soter.proofs.Forms.{judged_result, faulty_result}
+use Rattle.soter.proofs.check.check.Goals as goal
+
+pub load-requires : goal.load-requires
+load-requires c = omega (arith, c.requires)
+
+pub returns-in-Ok : goal.returns-in-Ok
+returns-in-Ok c = judged_result c.judge.result c.args.bytes.now _ c.in-Ok.ensures.ok.mission c.judge.ensures
