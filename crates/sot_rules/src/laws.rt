@@ -1,3 +1,4 @@
+//! The list of a program's faults, and the rules that fail.
 ghost use Rattle.std.specs.Prelude.{◌≡◌, ◌↔◌, Some, None};
 ghost use Rattle.sot_lists.specs.Places.{Has};
 ghost use Rattle.sot_tree.specs.Trees.{Program};

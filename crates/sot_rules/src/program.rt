@@ -1,3 +1,4 @@
+//! The first fault of a program.
 ghost use Rattle.std.specs.Prelude.{◌≡◌, Some, None, map, flat_map, OnOk, IfOk};
 ghost use Rattle.sot_tree.specs.TreeViews.{declaration_view, program_view};
 ghost use Rattle.sot_rules.specs.declared.fault.TypeFault.{TypeFault};
@@ -5,14 +6,14 @@ ghost use Rattle.sot_rules.specs.First.{IsFirstFault, IsFaultless};
 ghost use Rattle.sot_rules.specs.Faults.{least, declaration_faults, faults};
 ghost use Rattle.sot_rules.specs.Indexes.{program_in, IsIndex};
 
+use crate::declarations::kind::{DeclKind, note_past_kind};
+use crate::declarations::module::note_module;
+use crate::declarations::node::note_node;
+use crate::declarations::plant::note_plant;
+use crate::declarations::topic::note_topic;
 use crate::fault::TypeFault;
-use crate::index::Index;
-use crate::kind::{DeclKind, note_past_kind};
-use crate::list::note_repeats;
-use crate::module::note_module;
-use crate::node::note_node;
-use crate::plant::note_plant;
-use crate::topic::note_topic;
+use crate::names::index::Index;
+use crate::names::repeats::note_repeats;
 use sot_tree::{Decl, Program};
 use std::alloc::{AllocError, Global};
 
