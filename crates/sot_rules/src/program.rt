@@ -24,7 +24,8 @@ fn note_declaration<'p>(
     first: &mut Option<TypeFault>,
 ) -> Result<(), AllocError>
     requires { IsIndex index.now }
-    ensures { OnOk result (first.new ≡ least first.old (declaration_faults (program_in index.now) (declaration_view d.now))) }
+    ensures { OnOk result (first.new
+        ≡ least first.old (declaration_faults (program_in index.now) (declaration_view d.now))) }
 {
     match d {
         Decl::Topic(t) => note_topic(alloc, t, first),
@@ -44,7 +45,9 @@ fn note_declarations<'p>(
     first: &mut Option<TypeFault>,
 ) -> Result<(), AllocError>
     requires { IsIndex index.now }
-    ensures { OnOk result (first.new ≡ least first.old (flat_map (declaration_faults (program_in index.now)) (map declaration_view decls.now))) }
+    ensures { OnOk result (first.new
+        ≡ least first.old (flat_map (declaration_faults (program_in index.now))
+        (map declaration_view decls.now))) }
 {
     for d in decls {
         note_declaration(alloc, index, d, first)?;
@@ -73,7 +76,8 @@ fn note_program(
 /// memory for tables of the names, and time that grows with the length of the program times the depth of its loops.
 pub fn first_fault(alloc: Global, program: &Program) -> Result<Option<TypeFault>, AllocError>
     ensures faultless { IfOk result (λ f. f ≡ None → IsFaultless (program_view program.now)) }
-    ensures first { IfOk result (λ f. (g : TypeFault) → f ≡ Some g → IsFirstFault (program_view program.now) g) }
+    ensures first { IfOk result
+        (λ f. (g : TypeFault) → f ≡ Some g → IsFirstFault (program_view program.now) g) }
 {
     let index = Index::of(alloc, program)?;
     let mut first = None;

@@ -43,7 +43,8 @@ fn name_of(kind: DeclKind, d: &Decl) -> Option<&Ident>
 
 /// The first declaration of a kind past a limit.
 pub fn note_past_kind(kind: DeclKind, limit: usize, decls: &[Decl], first: &mut Option<TypeFault>)
-    ensures { first.new ≡ least first.old (past limit (places (filter_map (name_of kind) (map declaration_view decls.now)))) }
+    ensures { first.new ≡ least first.old
+        (past limit (places (filter_map (name_of kind) (map declaration_view decls.now)))) }
 {
     let mut left = limit;
     for d in decls {

@@ -41,7 +41,8 @@ pub fn note_passes(
     first: &mut Option<TypeFault>,
 )
     requires { IsIndex index.now }
-    ensures { first.new ≡ least first.old (passes (λ i. size_of plants (meaning (program_in index.now) i)) limit 0 names.now) }
+    ensures { first.new ≡ least first.old
+        (passes (λ i. size_of plants (meaning (program_in index.now) i)) limit 0 names.now) }
 {
     let mut room = limit;
     for name in names {

@@ -17,7 +17,8 @@ use sot_tree::ModuleDecl;
 #[tactic(auto, using(crate::proofs::Least::least_append))]
 fn note_nodes(index: &Index, m: &ModuleDecl, first: &mut Option<TypeFault>)
     requires { IsIndex index.now }
-    ensures { first.new ≡ least first.old (nodes_faults (program_in index.now) (module_view m.now)) }
+    ensures { first.new ≡ least first.old
+        (nodes_faults (program_in index.now) (module_view m.now)) }
 {
     let advanced = index.meaning(&m.ac);
     let safe = index.meaning(&m.sc);
@@ -31,7 +32,8 @@ fn note_nodes(index: &Index, m: &ModuleDecl, first: &mut Option<TypeFault>)
 #[tactic(auto, using(crate::proofs::Least::least_append))]
 pub fn note_module(index: &Index, m: &ModuleDecl, first: &mut Option<TypeFault>)
     requires { IsIndex index.now }
-    ensures { first.new ≡ least first.old (together (module_lists (program_in index.now) (module_view m.now))) }
+    ensures { first.new ≡ least first.old
+        (together (module_lists (program_in index.now) (module_view m.now))) }
 {
     note_nodes(index, m, first);
     note_times(m.period, m.offset, first);

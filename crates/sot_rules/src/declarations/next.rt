@@ -22,7 +22,8 @@ use std::alloc::{AllocError, Global};
 // A `next` clause, over the names that it uses and those that it may give.
 #[tactic(auto, using(crate::proofs::Least::least_append))]
 fn note_next(n: &NextDecl, used: &Names, given: &Names, first: &mut Option<TypeFault>)
-    ensures { first.new ≡ least first.old (next_faults_in (names_in used.now) (names_in given.now) (next_view n.now)) }
+    ensures { first.new ≡ least first.old
+        (next_faults_in (names_in used.now) (names_in given.now) (next_view n.now)) }
 {
     let s = expression(&n.value, used, first);
     let wanted = reading_alone(given, &n.name);
@@ -30,7 +31,9 @@ fn note_next(n: &NextDecl, used: &Names, given: &Names, first: &mut Option<TypeF
 }
 
 fn note_each(next: &[NextDecl], used: &Names, given: &Names, first: &mut Option<TypeFault>)
-    ensures { first.new ≡ least first.old (flat_map (next_faults_in (names_in used.now) (names_in given.now)) (map next_view next.now)) }
+    ensures { first.new ≡ least first.old
+        (flat_map (next_faults_in (names_in used.now) (names_in given.now))
+        (map next_view next.now)) }
 {
     for n in next {
         note_next(n, used, given, first);
@@ -60,7 +63,8 @@ fn note_order(states: &[StateDecl], next: &[NextDecl], first: &mut Option<TypeFa
 
 // Fewer clauses than state variables.
 fn note_short(states: &[StateDecl], next: &[NextDecl], end: Span, first: &mut Option<TypeFault>)
-    ensures { first.new ≡ least first.old (when (nat_lt (length next.now) (length states.now)) end NextMissing) }
+    ensures { first.new ≡ least first.old
+        (when (nat_lt (length next.now) (length states.now)) end NextMissing) }
 {
     note(first, next.len() < states.len(), end, TypeKind::NextMissing);
 }
@@ -73,7 +77,8 @@ pub fn note_nexts<'p>(
     first: &mut Option<TypeFault>,
 ) -> Result<(), AllocError>
     requires { IsIndex index.now }
-    ensures { OnOk result (first.new ≡ least first.old (nexts_faults (program_in index.now) (plant_view q.now))) }
+    ensures { OnOk result (first.new
+        ≡ least first.old (nexts_faults (program_in index.now) (plant_view q.now))) }
 {
     let used = plant_names(alloc, index, q)?;
     let given = state_names(alloc, index, q)?;

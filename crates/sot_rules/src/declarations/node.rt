@@ -30,7 +30,8 @@ fn note_read(index: &Index, name: &Ident, first: &mut Option<TypeFault>)
 
 fn note_read_names(index: &Index, names: &[Ident], first: &mut Option<TypeFault>)
     requires { IsIndex index.now }
-    ensures { first.new ≡ least first.old (flat_map (read_faults (program_in index.now)) names.now) }
+    ensures { first.new ≡ least first.old
+        (flat_map (read_faults (program_in index.now)) names.now) }
 {
     for name in names {
         note_read(index, name, first);
@@ -46,7 +47,8 @@ fn note_reads(
     first: &mut Option<TypeFault>,
 ) -> Result<(), AllocError>
     requires { IsIndex index.now }
-    ensures { OnOk result (first.new ≡ least first.old (reads_faults (program_in index.now) names.now)) }
+    ensures { OnOk result (first.new
+        ≡ least first.old (reads_faults (program_in index.now) names.now)) }
 {
     note_read_names(index, names, first);
     note_repeated_names(alloc, names, first)?;
@@ -58,7 +60,8 @@ fn note_reads(
 #[tactic(auto, using(crate::proofs::Least::least_append))]
 fn note_write(index: &Index, reads: &IndexSet<&[u8]>, name: &Ident, first: &mut Option<TypeFault>)
     requires { IsIndex index.now }
-    ensures { (n : Node) → HasNames reads.now.keys n.reads → first.new ≡ least first.old (together (write_lists (program_in index.now) n name.now)) }
+    ensures { (n : Node) → HasNames reads.now.keys n.reads → first.new
+        ≡ least first.old (together (write_lists (program_in index.now) n name.now)) }
 {
     let meant = index.meaning(name);
     note(first, !is_topic(meant), name.at, TypeKind::Unknown);
@@ -79,7 +82,9 @@ fn note_write_names(
     first: &mut Option<TypeFault>,
 )
     requires { IsIndex index.now }
-    ensures { (n : Node) → HasNames reads.now.keys n.reads → first.new ≡ least first.old (flat_map (λ i. together (write_lists (program_in index.now) n i)) names.now) }
+    ensures { (n : Node) → HasNames reads.now.keys n.reads → first.new
+        ≡ least first.old (flat_map
+        (λ i. together (write_lists (program_in index.now) n i)) names.now) }
 {
     for name in names {
         note_write(index, reads, name, first);
@@ -95,7 +100,8 @@ fn note_writes(
     first: &mut Option<TypeFault>,
 ) -> Result<(), AllocError>
     requires { IsIndex index.now }
-    ensures { OnOk result (first.new ≡ least first.old (writes_faults (program_in index.now) (node_view n.now))) }
+    ensures { OnOk result (first.new
+        ≡ least first.old (writes_faults (program_in index.now) (node_view n.now))) }
 {
     let reads = names_of(alloc, &n.reads)?;
     note_write_names(index, &reads, &n.writes, first);
@@ -107,7 +113,8 @@ fn note_writes(
 // A local, where a set has the names of the topics and plants that its node uses.
 #[tactic(auto, using(crate::proofs::Least::least_append))]
 fn note_local(used: &IndexSet<&[u8]>, l: &LocalDecl, first: &mut Option<TypeFault>)
-    ensures { (n : Node) → HasNames used.now.keys (n.reads ++ n.writes) → first.new ≡ least first.old (together (local_lists n (local_view l.now))) }
+    ensures { (n : Node) → HasNames used.now.keys (n.reads ++ n.writes) → first.new
+        ≡ least first.old (together (local_lists n (local_view l.now))) }
 {
     note(first, has_name(used, &l.name), l.name.at, TypeKind::Twice);
     note_scalar(false, l.scalar, first);
@@ -115,7 +122,8 @@ fn note_local(used: &IndexSet<&[u8]>, l: &LocalDecl, first: &mut Option<TypeFaul
 }
 
 fn note_each_local(used: &IndexSet<&[u8]>, locals: &[LocalDecl], first: &mut Option<TypeFault>)
-    ensures { (n : Node) → HasNames used.now.keys (n.reads ++ n.writes) → first.new ≡ least first.old (flat_map (λ l. together (local_lists n l)) (map local_view locals.now)) }
+    ensures { (n : Node) → HasNames used.now.keys (n.reads ++ n.writes) → first.new
+        ≡ least first.old (flat_map (λ l. together (local_lists n l)) (map local_view locals.now)) }
 {
     for l in locals {
         note_local(used, l, first);
@@ -144,7 +152,8 @@ pub fn note_node<'p>(
     first: &mut Option<TypeFault>,
 ) -> Result<(), AllocError>
     requires { IsIndex index.now }
-    ensures { OnOk result (first.new ≡ least first.old (together (node_lists (program_in index.now) (node_view n.now)))) }
+    ensures { OnOk result (first.new
+        ≡ least first.old (together (node_lists (program_in index.now) (node_view n.now)))) }
 {
     note_times(n.period, n.offset, first);
     note_reads(alloc, index, &n.reads, first)?;

@@ -57,7 +57,8 @@ fn note_states(
 #[tactic(auto, using(crate::proofs::Least::least_append))]
 fn note_input(index: &Index, states: &IndexSet<&[u8]>, name: &Ident, first: &mut Option<TypeFault>)
     requires { IsIndex index.now }
-    ensures { (q : Plant) → HasNames states.now.keys (state_names q) → first.new ≡ least first.old (input_faults (program_in index.now) q name.now) }
+    ensures { (q : Plant) → HasNames states.now.keys (state_names q) → first.new
+        ≡ least first.old (input_faults (program_in index.now) q name.now) }
 {
     let meant = index.meaning(name);
     note(first, !is_topic(meant), name.at, TypeKind::Unknown);
@@ -72,7 +73,8 @@ fn note_input_names(
     first: &mut Option<TypeFault>,
 )
     requires { IsIndex index.now }
-    ensures { (q : Plant) → HasNames states.now.keys (state_names q) → first.new ≡ least first.old (flat_map (input_faults (program_in index.now) q) names.now) }
+    ensures { (q : Plant) → HasNames states.now.keys (state_names q) → first.new
+        ≡ least first.old (flat_map (input_faults (program_in index.now) q) names.now) }
 {
     for name in names {
         note_input(index, states, name, first);
@@ -87,7 +89,8 @@ fn note_inputs(
     first: &mut Option<TypeFault>,
 ) -> Result<(), AllocError>
     requires { IsIndex index.now }
-    ensures { OnOk result (first.new ≡ least first.old (inputs_faults (program_in index.now) (plant_view q.now))) }
+    ensures { OnOk result (first.new
+        ≡ least first.old (inputs_faults (program_in index.now) (plant_view q.now))) }
 {
     let states = names_of(alloc, &q.states)?;
     note_input_names(index, &states, &q.inputs, first);
@@ -107,7 +110,8 @@ fn note_seen(
 )
     requires indexed { IsIndex index.now }
     requires states { HasNames states.now.keys (state_names (plant_view q.now)) }
-    ensures { first.new ≡ least first.old (together (seen_lists (program_in index.now) (plant_view q.now) name.now)) }
+    ensures { first.new ≡ least first.old
+        (together (seen_lists (program_in index.now) (plant_view q.now) name.now)) }
 {
     let meant = index.meaning(name);
     let is_none = !is_topic(meant) && !is_plant(meant);
@@ -138,7 +142,9 @@ fn note_seen_names(
 )
     requires indexed { IsIndex index.now }
     requires states { HasNames states.now.keys (state_names (plant_view q.now)) }
-    ensures { first.new ≡ least first.old (flat_map (λ i. together (seen_lists (program_in index.now) (plant_view q.now) i)) names.now) }
+    ensures { first.new ≡ least first.old
+        (flat_map (λ i. together
+        (seen_lists (program_in index.now) (plant_view q.now) i)) names.now) }
 {
     for name in names {
         note_seen(index, states, q, name, first);
@@ -153,7 +159,8 @@ fn note_sees(
     first: &mut Option<TypeFault>,
 ) -> Result<(), AllocError>
     requires { IsIndex index.now }
-    ensures { OnOk result (first.new ≡ least first.old (sees_faults (program_in index.now) (plant_view q.now))) }
+    ensures { OnOk result (first.new
+        ≡ least first.old (sees_faults (program_in index.now) (plant_view q.now))) }
 {
     let states = names_of(alloc, &q.states)?;
     note_seen_names(index, &states, q, &q.sees, first);
@@ -165,7 +172,8 @@ fn note_sees(
 // A disturbance, where a set has the names that its plant uses.
 #[tactic(auto, using(crate::proofs::Least::least_append))]
 fn note_disturbance(used: &IndexSet<&[u8]>, f: &Field, first: &mut Option<TypeFault>)
-    ensures { (q : Plant) → HasNames used.now.keys (state_names q ++ q.inputs ++ q.sees) → first.new ≡ least first.old (together (noise_lists q f.now)) }
+    ensures { (q : Plant) → HasNames used.now.keys (state_names q ++ q.inputs ++ q.sees)
+        → first.new ≡ least first.old (together (noise_lists q f.now)) }
 {
     note(first, has_name(used, &f.name), f.name.at, TypeKind::Twice);
     let is_truth = is_truthful(scalar_sort(f.scalar));
@@ -174,7 +182,8 @@ fn note_disturbance(used: &IndexSet<&[u8]>, f: &Field, first: &mut Option<TypeFa
 }
 
 fn note_disturbances(used: &IndexSet<&[u8]>, noise: &[Field], first: &mut Option<TypeFault>)
-    ensures { (q : Plant) → HasNames used.now.keys (state_names q ++ q.inputs ++ q.sees) → first.new ≡ least first.old (flat_map (λ f. together (noise_lists q f)) noise.now) }
+    ensures { (q : Plant) → HasNames used.now.keys (state_names q ++ q.inputs ++ q.sees)
+        → first.new ≡ least first.old (flat_map (λ f. together (noise_lists q f)) noise.now) }
 {
     for f in noise {
         note_disturbance(used, f, first);
@@ -202,7 +211,8 @@ pub fn note_plant<'p>(
     first: &mut Option<TypeFault>,
 ) -> Result<(), AllocError>
     requires { IsIndex index.now }
-    ensures { OnOk result (first.new ≡ least first.old (together (plant_lists (program_in index.now) (plant_view q.now)))) }
+    ensures { OnOk result (first.new
+        ≡ least first.old (together (plant_lists (program_in index.now) (plant_view q.now)))) }
 {
     let is_lone = !index.has_module(&q.name);
     note(first, is_lone, q.name.at, TypeKind::NoModule);

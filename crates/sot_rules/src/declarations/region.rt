@@ -17,7 +17,9 @@ use sot_tree::{Bounds, BoxDecl, StateDecl};
 
 // The sides of a box whose plant is not known, or that has not one side a state variable.
 fn note_free_sides(sides: &[Bounds], first: &mut Option<TypeFault>)
-    ensures { first.new ≡ least first.old (flat_map {X = Sort × Bounds} (λ x. bounds_faults false x.0 x.1) (map (λ s. (Anything, s)) sides.now)) }
+    ensures { first.new ≡ least first.old
+        (flat_map {X = Sort × Bounds}
+        (λ x. bounds_faults false x.0 x.1) (map (λ s. (Anything, s)) sides.now)) }
 {
     for side in sides {
         note_bounds(false, Sort::Anything, *side, first);
@@ -27,7 +29,9 @@ fn note_free_sides(sides: &[Bounds], first: &mut Option<TypeFault>)
 // The sides of a box, each at its state variable.
 fn note_sides(states: &[StateDecl], sides: &[Bounds], first: &mut Option<TypeFault>)
     requires { length states.now ≡ length sides.now }
-    ensures { first.new ≡ least first.old (flat_map {X = Sort × Bounds} (λ x. bounds_faults false x.0 x.1) (zip (map state_sort states.now) sides.now)) }
+    ensures { first.new ≡ least first.old
+        (flat_map {X = Sort × Bounds}
+        (λ x. bounds_faults false x.0 x.1) (zip (map state_sort states.now) sides.now)) }
 {
     for i in 0..sides.len() {
         note_bounds(false, state_sort(&states[i]), sides[i], first);
@@ -35,7 +39,8 @@ fn note_sides(states: &[StateDecl], sides: &[Bounds], first: &mut Option<TypeFau
 }
 
 fn note_area(states: Option<&[StateDecl]>, area: &BoxDecl, first: &mut Option<TypeFault>)
-    ensures { first.new ≡ least first.old (area_faults (sorts_in states.entry) (area_view area.now)) }
+    ensures { first.new ≡ least first.old
+        (area_faults (sorts_in states.entry) (area_view area.now)) }
 {
     match states {
         None => note_free_sides(&area.sides, first),
@@ -51,7 +56,8 @@ fn note_area(states: Option<&[StateDecl]>, area: &BoxDecl, first: &mut Option<Ty
 }
 
 fn note_areas(states: Option<&[StateDecl]>, boxes: &[BoxDecl], first: &mut Option<TypeFault>)
-    ensures { first.new ≡ least first.old (flat_map (area_faults (sorts_in states.entry)) (map area_view boxes.now)) }
+    ensures { first.new ≡ least first.old
+        (flat_map (area_faults (sorts_in states.entry)) (map area_view boxes.now)) }
 {
     for area in boxes {
         note_area(states, area, first);
@@ -61,7 +67,8 @@ fn note_areas(states: Option<&[StateDecl]>, boxes: &[BoxDecl], first: &mut Optio
 /// A region: each box at the state variables of its plant, where it has one, and the count of boxes.
 #[tactic(auto, using(crate::proofs::Least::least_append))]
 pub fn note_region(states: Option<&[StateDecl]>, boxes: &[BoxDecl], first: &mut Option<TypeFault>)
-    ensures { first.new ≡ least first.old (region_faults (sorts_in states.entry) (map area_view boxes.now)) }
+    ensures { first.new ≡ least first.old
+        (region_faults (sorts_in states.entry) (map area_view boxes.now)) }
 {
     note_areas(states, boxes, first);
     note_past_boxes(boxes, first);

@@ -75,7 +75,8 @@ fn note_names(alloc: Global, shape: &Shape, first: &mut Option<TypeFault>) -> Re
 }
 
 fn note_fields(fields: &[Field], first: &mut Option<TypeFault>)
-    ensures { first.new ≡ least first.old (flat_map (scalar_faults true) (map (λ f. f.scalar) fields.now)) }
+    ensures { first.new ≡ least first.old
+        (flat_map (scalar_faults true) (map (λ f. f.scalar) fields.now)) }
 {
     for field in fields {
         note_scalar(true, field.scalar, first);
@@ -83,7 +84,8 @@ fn note_fields(fields: &[Field], first: &mut Option<TypeFault>)
 }
 
 fn note_scalars(shape: &Shape, first: &mut Option<TypeFault>)
-    ensures { first.new ≡ least first.old (flat_map (scalar_faults true) (form_scalars (shape_view shape.now))) }
+    ensures { first.new ≡ least first.old
+        (flat_map (scalar_faults true) (form_scalars (shape_view shape.now))) }
 {
     match shape {
         Shape::One(s) => note_scalar(true, *s, first),
@@ -93,8 +95,11 @@ fn note_scalars(shape: &Shape, first: &mut Option<TypeFault>)
 
 // Each scalar with its initial value.
 fn note_pairs(shape: &Shape, init: &Init, first: &mut Option<TypeFault>)
-    requires { length (form_scalars (shape_view shape.now)) ≡ length (start_values (init_view init.now)) }
-    ensures { first.new ≡ least first.old (flat_map (λ x. start_faults x.0 x.1) (zip (form_scalars (shape_view shape.now)) (start_values (init_view init.now)))) }
+    requires { length (form_scalars (shape_view shape.now))
+        ≡ length (start_values (init_view init.now)) }
+    ensures { first.new ≡ least first.old
+        (flat_map (λ x. start_faults x.0 x.1)
+        (zip (form_scalars (shape_view shape.now)) (start_values (init_view init.now)))) }
 {
     for i in 0..scalar_count(shape) {
         note_start(scalar_at(shape, i), start_value(init, i), first);
@@ -118,7 +123,8 @@ pub fn note_topic(
     t: &TopicDecl,
     first: &mut Option<TypeFault>,
 ) -> Result<(), AllocError>
-    ensures { OnOk result (first.new ≡ least first.old (together (topic_lists (topic_view t.now)))) }
+    ensures { OnOk result (first.new
+        ≡ least first.old (together (topic_lists (topic_view t.now)))) }
 {
     note_names(alloc, &t.shape, first)?;
     note_scalars(&t.shape, first);

@@ -45,8 +45,10 @@ pub fn note_reading(reading: Result<Sort, Span>, first: &mut Option<TypeFault>) 
 
 // An operator at its operands.
 fn apply(op: Op, a: Sort, b: Sort, at: Span, first: &mut Option<TypeFault>) -> Sort
-    ensures sort { result ≡ unless (kinds_misfit op a b || scales_misfit op a b) (given a (given b (operator_sort op a b))) }
-    ensures noted { first.new ≡ least first.old (misfits (kinds_misfit op a b) (scales_misfit op a b) at) }
+    ensures sort { result ≡ unless (kinds_misfit op a b || scales_misfit op a b)
+        (given a (given b (operator_sort op a b))) }
+    ensures noted { first.new
+        ≡ least first.old (misfits (kinds_misfit op a b) (scales_misfit op a b) at) }
 {
     let kind = kinds_misfit(op, a, b);
     let scale = scales_misfit(op, a, b);
@@ -61,7 +63,9 @@ fn apply(op: Op, a: Sort, b: Sort, at: Span, first: &mut Option<TypeFault>) -> S
 #[tactic(auto, using(crate::proofs::Least::least_append))]
 fn rest(a: Sort, by: Lit, at: Span, first: &mut Option<TypeFault>) -> Sort
     ensures sort { result ≡ unless (is_truthful a || (differ a (Scaled by.scale) || is_zero by)) a }
-    ensures noted { first.new ≡ least first.old (misfits (is_truthful a) (differ a (Scaled by.scale)) at ++ when (is_zero by) by.at KindDiffers) }
+    ensures noted { first.new
+        ≡ least first.old (misfits (is_truthful a) (differ a (Scaled by.scale)) at
+        ++ when (is_zero by) by.at KindDiffers) }
 {
     let kind = is_truthful(a);
     let scale = differ(a, Sort::Scaled(by.scale as u64));
@@ -74,8 +78,11 @@ fn rest(a: Sort, by: Lit, at: Span, first: &mut Option<TypeFault>) -> Sort
 // `rescale` at its operand and its number.
 #[tactic(auto, using(crate::proofs::Least::least_append))]
 fn rescale(a: Sort, to: Lit, at: Span, first: &mut Option<TypeFault>) -> Sort
-    ensures sort { result ≡ unless (is_truthful a || is_no_scale to) (given a (Scaled (nat_abs to.mantissa))) }
-    ensures noted { first.new ≡ least first.old (when (is_truthful a) at KindDiffers ++ when (is_no_scale to) to.at ScaleDiffers) }
+    ensures sort { result ≡ unless (is_truthful a || is_no_scale to)
+        (given a (Scaled (nat_abs to.mantissa))) }
+    ensures noted { first.new
+        ≡ least first.old (when (is_truthful a) at KindDiffers
+        ++ when (is_no_scale to) to.at ScaleDiffers) }
 {
     let kind = is_truthful(a);
     let scale = is_no_scale(to);
@@ -130,8 +137,10 @@ fn choose(c: Sort, a: Sort, b: Sort, at: Span, first: &mut Option<TypeFault>) ->
 // The operands of a call.
 #[cycle(expression)]
 fn operands(parts: &[Expr], names: &Names, first: &mut Option<TypeFault>) -> Operands
-    ensures sorts { result ≡ fold with_operand no_operand (sorts (names_in names.now) (parts_view parts.now)) }
-    ensures noted { first.new ≡ least first.old (parts_faults (names_in names.now) (parts_view parts.now)) }
+    ensures sorts { result ≡ fold with_operand no_operand
+        (sorts (names_in names.now) (parts_view parts.now)) }
+    ensures noted { first.new
+        ≡ least first.old (parts_faults (names_in names.now) (parts_view parts.now)) }
 {
     let mut o = Operands::none();
     for part in parts {
@@ -146,7 +155,8 @@ fn operands(parts: &[Expr], names: &Names, first: &mut Option<TypeFault>) -> Ope
 #[tactic(auto, using(crate::proofs::Least::least_append))]
 pub fn expression(e: &Expr, names: &Names, first: &mut Option<TypeFault>) -> Sort
     ensures sort { result ≡ sort (names_in names.now) (tree_view e.now) }
-    ensures noted { first.new ≡ least first.old (tree_faults (names_in names.now) (tree_view e.now)) }
+    ensures noted { first.new
+        ≡ least first.old (tree_faults (names_in names.now) (tree_view e.now)) }
 {
     match e {
         Expr::Number(l) => Sort::Scaled(l.scale as u64),

@@ -55,7 +55,8 @@ fn kept_of_list(list: NameList, d: &Decl, k: usize) -> Option<Kept>
 // What a name of a list stands for.
 fn kept(index: &Index, list: NameList, name: &Ident) -> Option<Kept>
     requires { IsIndex index.now }
-    ensures { StandsForThing (tables_in index.now) name.now.name result (thing_of_list list (meaning (program_in index.now) name.now)) }
+    ensures { StandsForThing (tables_in index.now) name.now.name result
+        (thing_of_list list (meaning (program_in index.now) name.now)) }
 {
     match index.place(name) {
         None => None,
@@ -69,7 +70,9 @@ fn add_kept<'p>(
     name: &'p Ident,
     kept: Option<Kept>,
 ) -> Result<(), AllocError>
-    ensures { OnOk result ((tables : List (List Part)) (x : Option Thing) → StandsForThing tables name.now.name kept x → Adds tables things.old things.new (option_to_list x)) }
+    ensures { OnOk result ((tables : List (List Part)) (x : Option Thing)
+        → StandsForThing tables name.now.name kept x
+        → Adds tables things.old things.new (option_to_list x)) }
 {
     match kept {
         None => Ok(()),
@@ -88,7 +91,8 @@ pub fn add_named<'p>(
     names: &'p [Ident],
 ) -> Result<(), AllocError>
     requires { IsIndex index.now }
-    ensures { OnOk result (Adds (tables_in index.now) things.old things.new (things_of_list (program_in index.now) list names.now)) }
+    ensures { OnOk result (Adds (tables_in index.now) things.old things.new
+        (things_of_list (program_in index.now) list names.now)) }
 {
     for name in names {
         add_kept(things, name, kept(index, list, name))?;
@@ -98,7 +102,8 @@ pub fn add_named<'p>(
 
 /// The locals of a node.
 pub fn add_locals<'p>(things: &mut Things<'p>, locals: &'p [LocalDecl]) -> Result<(), AllocError>
-    ensures { OnOk result ((tables : List (List Part)) → Adds tables things.old things.new (map local_thing (map local_view locals.now))) }
+    ensures { OnOk result ((tables : List (List Part))
+        → Adds tables things.old things.new (map local_thing (map local_view locals.now))) }
 {
     for l in locals {
         add(
@@ -112,7 +117,8 @@ pub fn add_locals<'p>(things: &mut Things<'p>, locals: &'p [LocalDecl]) -> Resul
 
 /// The state variables of a plant.
 pub fn add_states<'p>(things: &mut Things<'p>, states: &'p [StateDecl]) -> Result<(), AllocError>
-    ensures { OnOk result ((tables : List (List Part)) → Adds tables things.old things.new (map state_thing states.now)) }
+    ensures { OnOk result ((tables : List (List Part))
+        → Adds tables things.old things.new (map state_thing states.now)) }
 {
     for s in states {
         add(things, s.name.name.as_bytes(), Kept::Alone(state_sort(s)))?;
@@ -122,7 +128,8 @@ pub fn add_states<'p>(things: &mut Things<'p>, states: &'p [StateDecl]) -> Resul
 
 /// The disturbances of a plant.
 pub fn add_noise<'p>(things: &mut Things<'p>, noise: &'p [Field]) -> Result<(), AllocError>
-    ensures { OnOk result ((tables : List (List Part)) → Adds tables things.old things.new (map noise_thing noise.now)) }
+    ensures { OnOk result ((tables : List (List Part))
+        → Adds tables things.old things.new (map noise_thing noise.now)) }
 {
     for f in noise {
         add(

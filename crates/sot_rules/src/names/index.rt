@@ -52,7 +52,8 @@ pub fn declared_name(d: &Decl) -> &Ident
 
 // The fields of a record, by their names.
 fn field_table<'p>(alloc: Global, fields: &'p [Field]) -> Result<PartTable<'p>, AllocError>
-    ensures { IfOk result (λ t. (name : List ℕ) → found t name ≡ sort_in (map field_part fields.now) name) }
+    ensures { IfOk result (λ t. (name : List ℕ) → found t name
+        ≡ sort_in (map field_part fields.now) name) }
 {
     let mut table = IndexMap::new(alloc);
     for f in fields {
@@ -63,7 +64,8 @@ fn field_table<'p>(alloc: Global, fields: &'p [Field]) -> Result<PartTable<'p>, 
 
 // The state variables of a plant, by their names.
 fn state_table<'p>(alloc: Global, states: &'p [StateDecl]) -> Result<PartTable<'p>, AllocError>
-    ensures { IfOk result (λ t. (name : List ℕ) → found t name ≡ sort_in (map state_part states.now) name) }
+    ensures { IfOk result (λ t. (name : List ℕ) → found t name
+        ≡ sort_in (map state_part states.now) name) }
 {
     let mut table = IndexMap::new(alloc);
     for s in states {
@@ -74,7 +76,8 @@ fn state_table<'p>(alloc: Global, states: &'p [StateDecl]) -> Result<PartTable<'
 
 // The parts of a declaration that has several, by their names.
 fn part_table<'p>(alloc: Global, d: &'p Decl) -> Result<PartTable<'p>, AllocError>
-    ensures { IfOk result (λ t. (name : List ℕ) → found t name ≡ sort_in (declared_parts (declaration_view d.now)) name) }
+    ensures { IfOk result (λ t. (name : List ℕ) → found t name
+        ≡ sort_in (declared_parts (declaration_view d.now)) name) }
 {
     match d {
         Decl::Topic(t) => match &t.shape {
@@ -88,7 +91,8 @@ fn part_table<'p>(alloc: Global, d: &'p Decl) -> Result<PartTable<'p>, AllocErro
 
 // The plant that a module names as its own.
 fn note_owned<'p>(owned: &mut IndexSet<&'p [u8]>, d: &'p Decl) -> Result<(), AllocError>
-    ensures { OnOk result ((i : Ident) → is_key owned.new.keys i ≡ (is_key owned.old.keys i || is_plant_of i (declaration_view d.now))) }
+    ensures { OnOk result ((i : Ident) → is_key owned.new.keys i
+        ≡ (is_key owned.old.keys i || is_plant_of i (declaration_view d.now))) }
 {
     match d {
         Decl::Module(m) => {
@@ -119,7 +123,9 @@ impl<'p> Index<'p> {
 
     // One more declaration in the tables.
     fn take_in(&mut self, alloc: Global, d: &'p Decl) -> Result<(), AllocError>
-        ensures held { OnOk result ((ds : List Declaration) → Indexes ds self.old → Indexes (ds ++ declaration_view d.now ∷ []) self.new) }
+        ensures held { OnOk result
+            ((ds : List Declaration) → Indexes ds self.old
+            → Indexes (ds ++ declaration_view d.now ∷ []) self.new) }
         ensures decls { self.new.decls.now ≡ self.old.decls.now }
     {
         let place = self.parts.as_slice().len();
@@ -135,7 +141,9 @@ impl<'p> Index<'p> {
         requires { IsIndex self.now }
         ensures first { result ≡ position (is_named name.now.name) (program_in self.now).decls }
         ensures known { is_some result ≡ is_some (meaning (program_in self.now) name.now) }
-        ensures meant { IfSome result (λ k. slice_get (program_in self.now).decls k ≡ meaning (program_in self.now) name.now) }
+        ensures meant { IfSome result
+            (λ k. slice_get (program_in self.now).decls k
+            ≡ meaning (program_in self.now) name.now) }
         ensures within { IfSome result (λ k. k < length self.now.decls.now) }
     {
         self.places.get(name.name.as_bytes()).copied()
@@ -144,7 +152,8 @@ impl<'p> Index<'p> {
     /// What a name means: its first declaration.
     pub fn meaning(&self, name: &Ident) -> Option<&'p Decl>
         requires { IsIndex self.now }
-        ensures { option_map (λ d. declaration_view d.now) result ≡ meaning (program_in self.now) name.now }
+        ensures { option_map (λ d. declaration_view d.now) result
+            ≡ meaning (program_in self.now) name.now }
     {
         let decls: &'p [Decl] = self.decls;
         match self.place(name) {

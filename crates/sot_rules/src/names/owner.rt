@@ -6,8 +6,8 @@ ghost use Rattle.sot_rules.specs.Scopes.{names_in, scope_in};
 ghost use Rattle.sot_rules.specs.Indexes.{program_in, IsIndex};
 ghost use Rattle.sot_rules.specs.Alike.{ReadsAlike, ScopesAlike};
 
-use crate::names::index::Index;
 use crate::names::gather::{NameList, add_locals, add_named, add_noise, add_states};
+use crate::names::index::Index;
 use crate::names::scope::{Names, Scope};
 use indexmap::IndexMap;
 use sot_tree::{NodeDecl, PlantDecl};
@@ -20,7 +20,8 @@ fn read_names<'t, 'p>(
     n: &'p NodeDecl,
 ) -> Result<Names<'t, 'p>, AllocError>
     requires { IsIndex index.now }
-    ensures { IfOk result (λ x. ReadsAlike (names_in x) (node_scope (program_in index.now) (node_view n.now)).read) }
+    ensures { IfOk result (λ x. ReadsAlike (names_in x)
+        (node_scope (program_in index.now) (node_view n.now)).read) }
 {
     let mut things = IndexMap::new(alloc);
     add_named(&mut things, index, NameList::Both, &n.reads)?;
@@ -37,7 +38,8 @@ fn local_names<'t, 'p>(
     index: &'t Index<'p>,
     n: &'p NodeDecl,
 ) -> Result<Names<'t, 'p>, AllocError>
-    ensures { IfOk result (λ x. ReadsAlike (names_in x) (node_scope (program_in index.now) (node_view n.now)).local) }
+    ensures { IfOk result (λ x. ReadsAlike (names_in x)
+        (node_scope (program_in index.now) (node_view n.now)).local) }
 {
     let mut things = IndexMap::new(alloc);
     add_locals(&mut things, &n.locals)?;
@@ -54,7 +56,8 @@ fn written_names<'t, 'p>(
     n: &'p NodeDecl,
 ) -> Result<Names<'t, 'p>, AllocError>
     requires { IsIndex index.now }
-    ensures { IfOk result (λ x. ReadsAlike (names_in x) (node_scope (program_in index.now) (node_view n.now)).written) }
+    ensures { IfOk result (λ x. ReadsAlike (names_in x)
+        (node_scope (program_in index.now) (node_view n.now)).written) }
 {
     let mut things = IndexMap::new(alloc);
     add_named(&mut things, index, NameList::Topics, &n.writes)?;
@@ -71,7 +74,8 @@ pub fn node_scope<'t, 'p>(
     n: &'p NodeDecl,
 ) -> Result<Scope<'t, 'p>, AllocError>
     requires { IsIndex index.now }
-    ensures { IfOk result (λ s. ScopesAlike (scope_in s) (node_scope (program_in index.now) (node_view n.now))) }
+    ensures { IfOk result (λ s. ScopesAlike (scope_in s)
+        (node_scope (program_in index.now) (node_view n.now))) }
 {
     let read = read_names(alloc, index, n)?;
     let local = local_names(alloc, index, n)?;
@@ -90,7 +94,8 @@ pub fn plant_names<'t, 'p>(
     q: &'p PlantDecl,
 ) -> Result<Names<'t, 'p>, AllocError>
     requires { IsIndex index.now }
-    ensures { IfOk result (λ x. ReadsAlike (names_in x) (plant_scope (program_in index.now) (plant_view q.now))) }
+    ensures { IfOk result (λ x. ReadsAlike (names_in x)
+        (plant_scope (program_in index.now) (plant_view q.now))) }
 {
     let mut things = IndexMap::new(alloc);
     add_states(&mut things, &q.states)?;

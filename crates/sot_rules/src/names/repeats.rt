@@ -20,8 +20,11 @@ pub fn note_repeat<'p>(
     name: &'p Ident,
     first: &mut Option<TypeFault>,
 ) -> Result<(), AllocError>
-    ensures noted { OnOk result (first.new ≡ least first.old (when (list_any (bytes_eq name.now.name) (seen_names seen.old.keys)) name.now.at Twice)) }
-    ensures seen { OnOk result (seen_names seen.new.keys ≡ with_name (seen_names seen.old.keys) name.now) }
+    ensures noted { OnOk result
+        (first.new ≡ least first.old
+        (when (list_any (bytes_eq name.now.name) (seen_names seen.old.keys)) name.now.at Twice)) }
+    ensures seen { OnOk result
+        (seen_names seen.new.keys ≡ with_name (seen_names seen.old.keys) name.now) }
 {
     let (_, added) = seen.insert_full(name.name.as_bytes())?;
     note(first, !added, name.at, TypeKind::Twice);
@@ -59,7 +62,8 @@ pub fn add_names<'p, T: Named>(
     set: &mut IndexSet<&'p [u8]>,
     items: &'p [T],
 ) -> Result<(), AllocError>
-    ensures { OnOk result ((names : List Ident) → HasNames set.old.keys names → HasNames set.new.keys (names ++ map T.ident items.now)) }
+    ensures { OnOk result ((names : List Ident) → HasNames set.old.keys names
+        → HasNames set.new.keys (names ++ map T.ident items.now)) }
 {
     for item in items {
         set.insert_full(item.ident().name.as_bytes())?;

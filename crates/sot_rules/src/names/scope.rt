@@ -35,14 +35,16 @@ pub struct Scope<'t, 'p> {
 }
 
 fn part_sort(table: &PartTable, name: &[u8]) -> Option<Sort>
-    ensures { result ≡ option_map (λ x. x.sort) (find (λ x. bytes_eq name.now x.name) (parts_of table.now)) }
+    ensures { result ≡ option_map
+        (λ x. x.sort) (find (λ x. bytes_eq name.now x.name) (parts_of table.now)) }
 {
     table.get(name).copied()
 }
 
 // The sort of a part, or the place of its name.
 fn part(table: &PartTable, field: &Ident) -> Result<Sort, Span>
-    ensures { answer result ≡ part_reading field.now (find (λ x. bytes_eq field.now.name x.name) (parts_of table.now)) }
+    ensures { answer result ≡ part_reading field.now
+        (find (λ x. bytes_eq field.now.name x.name) (parts_of table.now)) }
 {
     match part_sort(table, field.name.as_bytes()) {
         None => Err(field.at),
@@ -51,7 +53,9 @@ fn part(table: &PartTable, field: &Ident) -> Result<Sort, Span>
 }
 
 fn part_of(tables: &[PartTable], k: usize, field: &Ident) -> Result<Sort, Span>
-    ensures { answer result ≡ part_reading field.now (find (λ x. bytes_eq field.now.name x.name) (slice_index_or (map parts_of tables.now) k [])) }
+    ensures { answer result ≡ part_reading field.now
+        (find (λ x. bytes_eq field.now.name x.name)
+        (slice_index_or (map parts_of tables.now) k [])) }
 {
     if k < tables.len() {
         part(&tables[k], field)
@@ -66,7 +70,8 @@ fn reading_of(
     first: &Ident,
     field: &Option<Ident>,
 ) -> Result<Sort, Span>
-    ensures { answer result ≡ reading_of (kept_parts (map parts_of tables.now)) first.now field.now kept }
+    ensures { answer result ≡ reading_of
+        (kept_parts (map parts_of tables.now)) first.now field.now kept }
 {
     match kept {
         None => Err(first.at),

@@ -12,7 +12,8 @@ pub fn add<'p, V: Drop>(
     name: &'p [u8],
     value: V,
 ) -> Result<(), AllocError>
-    ensures { OnOk result ((n : List ℕ) → found table.new n ≡ option_or (found table.old n) (entry name.now value n)) }
+    ensures { OnOk result ((n : List ℕ) → found table.new n
+        ≡ option_or (found table.old n) (entry name.now value n)) }
 {
     if !table.contains_key(name) {
         table.insert(name, value)?;

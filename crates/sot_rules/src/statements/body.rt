@@ -32,7 +32,9 @@ pub fn note_body<'p>(
     first: &mut Option<TypeFault>,
 ) -> Result<(), AllocError>
     requires { IsIndex index.now }
-    ensures { OnOk result (first.new ≡ least first.old (body_faults (node_scope (program_in index.now) (node_view n.now)) (node_view n.now).body)) }
+    ensures { OnOk result (first.new
+        ≡ least first.old (body_faults (node_scope (program_in index.now) (node_view n.now))
+        (node_view n.now).body)) }
 {
     match &n.body {
         None => Ok(()),

@@ -42,7 +42,8 @@ pub fn is_off(l: Lit) -> bool
 // The statements of a block.
 #[cycle(statement)]
 pub fn block(stmts: &[Stmt], scope: &Scope, first: &mut Option<TypeFault>)
-    ensures { first.new ≡ least first.old (block_faults (scope_in scope.now) (block_view stmts.now)) }
+    ensures { first.new ≡ least first.old
+        (block_faults (scope_in scope.now) (block_view stmts.now)) }
 {
     for stmt in stmts {
         statement(stmt, scope, first);
@@ -52,7 +53,8 @@ pub fn block(stmts: &[Stmt], scope: &Scope, first: &mut Option<TypeFault>)
 #[cycle(statement)]
 #[tactic(auto, using(crate::proofs::Least::least_append))]
 fn statement(stmt: &Stmt, scope: &Scope, first: &mut Option<TypeFault>)
-    ensures { first.new ≡ least first.old (statement_faults (scope_in scope.now) (statement_view stmt.now)) }
+    ensures { first.new ≡ least first.old
+        (statement_faults (scope_in scope.now) (statement_view stmt.now)) }
 {
     match stmt {
         Stmt::Assign { target, value } => {

@@ -1,3 +1,4 @@
+-- Of `note_passes`: its promises.
 use Rattle.std.proofs.Common.{◌∙◌, ap}
 use Rattle.sot_rules.specs.Names.{meaning}
 use Rattle.sot_rules.specs.Indexes.{program_in}

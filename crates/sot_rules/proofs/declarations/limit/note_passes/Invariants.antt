@@ -1,3 +1,4 @@
+-- The loop of `note_passes`: what is noted, and then what is left; the sum so far is the limit without the room.
 use Rattle.std.proofs.Common.{◌≡◌, ◌-◌, ◌≤◌, drop}
 use Rattle.sot_rules.specs.Names.{meaning}
 use Rattle.sot_rules.specs.Faults.{least, passes}
@@ -5,7 +6,6 @@ use Rattle.sot_rules.specs.Indexes.{program_in}
 use Rattle.sot_rules.specs.Meanings.{size_of}
 use Rattle.sot_rules.proofs.declarations.limit.note_passes.Given as goal
 
--- what is noted, and then what is left; the sum so far is the limit without the room
 abbrev pub invariant-loop-name : goal.invariant-loop-name
 invariant-loop-name l = record {
   within : l.room ≤ l.limit;

@@ -1,3 +1,4 @@
+-- Of `note_past`: its promises.
 use Rattle.sot_rules.proofs.Limits.{past_noted, none_past}
 use Rattle.sot_rules.proofs.declarations.limit.note_past.Goals as goal
 

@@ -1,3 +1,4 @@
+-- Of `note_past_boxes`: its promises.
 use Rattle.std.proofs.Common.{ap, sym, get_or}
 use Rattle.sot_tree.specs.TreeViews.{area_view}
 use Rattle.sot_rules.proofs.Limits.{past_noted, none_past}

@@ -1,3 +1,4 @@
+-- Of `note_nexts`: its promises.
 use Rattle.std.proofs.Common.{◌∙◌, ap, ap₂, flat_map, length, map, nat_lt}
 use Rattle.sot_tree.specs.TreeViews.{next_view, plant_view}
 use Rattle.sot_rules.specs.declared.fault.TypeKind.TheVariants.{NextMissing}

@@ -1,3 +1,4 @@
+-- Of `note_order`: that its loop keeps what it says.
 use Rattle.sot_rules.proofs.Nexts.{order_more}
 use Rattle.sot_rules.proofs.declarations.next.note_order.Goals as goal
 

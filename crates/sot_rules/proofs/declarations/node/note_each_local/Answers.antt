@@ -1,3 +1,4 @@
+-- Of `note_each_local`: that its loop keeps what it says.
 use Rattle.sot_tree.specs.TreeViews.{local_view}
 use Rattle.sot_rules.specs.Faults.{together, local_lists}
 use Rattle.sot_rules.proofs.Loops.{step_viewed}

@@ -1,3 +1,4 @@
+-- The loop of `note_each_local`: what is noted, and then what is left.
 use Rattle.std.proofs.Common.{◌≡◌, ◌++◌, map, drop}
 use Rattle.std.specs.Prelude.{flat_map}
 use Rattle.sot_tree.specs.Trees.{Node}
@@ -6,7 +7,6 @@ use Rattle.sot_rules.specs.Faults.{least, together, local_lists}
 use Rattle.sot_rules.specs.SeenNames.{HasNames}
 use Rattle.sot_rules.proofs.declarations.node.note_each_local.Given as goal
 
--- what is noted, and then what is left
 abbrev pub invariant-loop-l : goal.invariant-loop-l
 invariant-loop-l l =
     (n : Node) → HasNames l.used.keys (n.reads ++ n.writes) →

@@ -1,3 +1,4 @@
+-- Of `note_read_names`: that its loop keeps what it says.
 use Rattle.sot_rules.specs.Faults.{read_faults}
 use Rattle.sot_rules.specs.Indexes.{program_in}
 use Rattle.sot_rules.proofs.Loops.{step_each}

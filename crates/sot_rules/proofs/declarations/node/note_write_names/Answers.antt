@@ -1,3 +1,4 @@
+-- Of `note_write_names`: that its loop keeps what it says, and its promises.
 use Rattle.std.proofs.Common.{refl}
 use Rattle.std.specs.Prelude.{flat_map}
 use Rattle.sot_rules.specs.Faults.{together, write_lists}

@@ -1,3 +1,4 @@
+-- The loop of `note_write_names`: what is noted, and then what is left.
 use Rattle.std.proofs.Common.{◌≡◌, drop}
 use Rattle.std.specs.Prelude.{flat_map}
 use Rattle.sot_tree.specs.Trees.{Node}
@@ -6,7 +7,6 @@ use Rattle.sot_rules.specs.Indexes.{program_in}
 use Rattle.sot_rules.specs.SeenNames.{HasNames}
 use Rattle.sot_rules.proofs.declarations.node.note_write_names.Given as goal
 
--- what is noted, and then what is left
 abbrev pub invariant-loop-name : goal.invariant-loop-name
 invariant-loop-name l =
     (n : Node) → HasNames l.reads.keys n.reads →

@@ -1,3 +1,4 @@
+-- Of `note_writes`: its promises.
 use Rattle.std.proofs.Common.{◌∙◌, [], ap}
 use Rattle.std.specs.Prelude.{flat_map}
 use Rattle.sot_tree.specs.TreeViews.{node_view}

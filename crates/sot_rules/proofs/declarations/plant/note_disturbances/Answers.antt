@@ -1,3 +1,4 @@
+-- Of `note_disturbances`: that its loop keeps what it says, and its promises.
 use Rattle.std.proofs.Common.{refl}
 use Rattle.std.specs.Prelude.{flat_map}
 use Rattle.sot_rules.specs.Faults.{together, noise_lists}

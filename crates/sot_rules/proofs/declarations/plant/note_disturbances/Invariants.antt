@@ -1,3 +1,4 @@
+-- The loop of `note_disturbances`: what is noted, and then what is left.
 use Rattle.std.proofs.Common.{◌≡◌, ◌++◌, drop}
 use Rattle.std.specs.Prelude.{flat_map}
 use Rattle.sot_tree.specs.Trees.{Plant}
@@ -6,7 +7,6 @@ use Rattle.sot_rules.specs.Faults.{least, together, noise_lists}
 use Rattle.sot_rules.specs.SeenNames.{HasNames}
 use Rattle.sot_rules.proofs.declarations.plant.note_disturbances.Given as goal
 
--- what is noted, and then what is left
 abbrev pub invariant-loop-f : goal.invariant-loop-f
 invariant-loop-f l =
     (q : Plant) → HasNames l.used.keys (state_names q ++ q.inputs ++ q.sees) →

@@ -1,3 +1,4 @@
+-- Of `note_inputs`: its promises.
 use Rattle.std.proofs.Common.{◌∙◌, [], ap}
 use Rattle.std.specs.Prelude.{flat_map}
 use Rattle.sot_tree.specs.declared.tree.StateDecl.{StateDecl}

@@ -1,3 +1,4 @@
+-- Of `note_noise`: its promises.
 use Rattle.std.proofs.Common.{◌∙◌, [], ◌++◌, map, ap, List}
 use Rattle.std.specs.Prelude.{flat_map}
 use Rattle.sot_tree.specs.declared.tree.Field.{Field}

@@ -1,3 +1,4 @@
+-- Of `note_plant`: its promises.
 use Rattle.std.proofs.Common.{◌∙◌, [], ◌++◌, nat_lt, length, not, ap, map, List}
 use Rattle.std.specs.Prelude.{flat_map}
 use Rattle.sot_tree.specs.declared.tree.StateDecl.{StateDecl}

@@ -1,3 +1,4 @@
+-- Of `note_scales`: that its loop keeps what it says.
 use Rattle.sot_tree.specs.declared.tree.StateDecl.{StateDecl}
 use Rattle.sot_rules.specs.Faults.{scale_faults}
 use Rattle.sot_rules.proofs.Loops.{step_each}

@@ -1,3 +1,4 @@
+-- Of `note_sees`: its promises.
 use Rattle.std.proofs.Common.{◌∙◌, [], ap}
 use Rattle.std.specs.Prelude.{flat_map}
 use Rattle.std.proofs.lemmas.List.{map-id}

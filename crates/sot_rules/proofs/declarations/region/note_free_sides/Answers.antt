@@ -1,3 +1,4 @@
+-- Of `note_free_sides`: that its loop keeps what it says.
 use Rattle.std.proofs.Common.{refl, false, map, List, get_or}
 use Rattle.std.specs.Prelude.{flat_map}
 use Rattle.std.proofs.lemmas.Option.{slice_get-get_or}

@@ -1,3 +1,4 @@
+-- Of `note_sides`: that its loop keeps what it says, and its promises.
 use Rattle.std.proofs.Common.{◌≤◌, ◌∙◌, Some, false, ap, sym, arith, map, length, get_or, option_map, refl}
 use Rattle.std.proofs.lemmas.List.{length-map}
 use Rattle.std.proofs.lemmas.Option.{slice_get-map, slice_get_read, slice_get-get_or}

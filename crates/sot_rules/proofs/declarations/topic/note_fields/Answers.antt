@@ -1,3 +1,4 @@
+-- Of `note_fields`: that its loop keeps what it says.
 use Rattle.std.proofs.Common.{refl, true, map, List}
 use Rattle.std.specs.Prelude.{flat_map}
 use Rattle.sot_tree.specs.declared.tree.Field.{Field}

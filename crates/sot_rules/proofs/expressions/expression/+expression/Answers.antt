@@ -1,3 +1,4 @@
+-- Of the cycle `expression`: that the loops keep what they say, and their promises.
 use Rattle.std.proofs.Common.{◌∙◌, ap, sym, refl, fold}
 use Rattle.sot_tree.specs.TreeViews.{tree_view, parts_view}
 use Rattle.sot_rules.specs.TreeSorts.{sort, sorts}

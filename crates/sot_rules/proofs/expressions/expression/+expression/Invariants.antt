@@ -1,3 +1,4 @@
+-- The loops of the cycle `expression`: what is kept and noted, and then what is left.
 use Rattle.std.proofs.Common.{◌≡◌, drop, fold}
 use Rattle.sot_tree.specs.TreeViews.{parts_view}
 use Rattle.sot_rules.specs.TreeSorts.{sorts}
@@ -6,7 +7,6 @@ use Rattle.sot_rules.specs.Scopes.{names_in}
 use Rattle.sot_rules.specs.Operands.{no_operand, with_operand}
 use Rattle.sot_rules.proofs.expressions.expression.+expression.Given as goal
 
--- what is kept and noted, and then what is left
 abbrev pub invariant-operands-loop-part : goal.invariant-operands-loop-part
 invariant-operands-loop-part l = record {
   sorts : fold with_operand l.o (sorts (names_in l.names) (parts_view (drop l.part-index l.parts))) ≡ fold with_operand no_operand (sorts (names_in l.names) (parts_view l.parts));

@@ -1,3 +1,4 @@
+-- Of `add_kept`: its promises.
 use Rattle.std.proofs.Common.{subst}
 use Rattle.sot_rules.specs.Alike.{StandsForThing}
 use Rattle.sot_rules.proofs.StandsFor.{stands_added}

@@ -1,3 +1,4 @@
+-- Of `add_locals`: that its loop keeps what it says, and its promises.
 use Rattle.std.proofs.Common.{ap, ◌++◌}
 use Rattle.sot_tree.specs.declared.tree.LocalDecl.{LocalDecl}
 use Rattle.sot_tree.specs.TreeViews.{local_view}

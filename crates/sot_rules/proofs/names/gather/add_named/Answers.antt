@@ -1,3 +1,4 @@
+-- Of `add_named`: that its loop keeps what it says.
 use Rattle.std.proofs.Common.{◌++◌, Option, take}
 use Rattle.std.specs.List.{filter_map}
 use Rattle.sot_tree.specs.declared.tree.Ident.{Ident}

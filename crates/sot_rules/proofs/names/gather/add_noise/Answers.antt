@@ -1,3 +1,4 @@
+-- Of `add_noise`: that its loop keeps what it says, and its promises.
 use Rattle.std.proofs.Common.{ap}
 use Rattle.sot_rules.specs.Names.{alone, noise_thing}
 use Rattle.sot_rules.proofs.StandsFor.{alone_more, mapped_all}

@@ -1,3 +1,4 @@
+-- Of `kept`: its promises.
 use Rattle.std.proofs.Common.{◌≡◌, ◌∙◌, Some, ap, map, refl, sym}
 use Rattle.std.specs.Option.{option_map}
 use Rattle.std.specs.List.{slice_get}

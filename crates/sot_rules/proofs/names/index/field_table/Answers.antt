@@ -1,3 +1,4 @@
+-- Of `field_table`: that its loop keeps what it says.
 use Rattle.sot_rules.specs.Names.{field_part}
 use Rattle.sot_rules.proofs.NameTables.{sorts_more}
 use Rattle.sot_rules.proofs.names.index.field_table.Goals as goal

@@ -1,3 +1,4 @@
+-- Of `note_owned`: its promises.
 use Rattle.std.proofs.Common.{◌∙◌, ◌||◌, ap, sym}
 use Rattle.std.specs.Str.{bytes_eq}
 use Rattle.sot_tree.specs.TreeViews.{declaration_view}

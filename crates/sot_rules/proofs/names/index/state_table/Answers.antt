@@ -1,3 +1,4 @@
+-- Of `state_table`: that its loop keeps what it says.
 use Rattle.sot_rules.specs.Names.{state_part}
 use Rattle.sot_rules.proofs.NameTables.{sorts_more}
 use Rattle.sot_rules.proofs.names.index.state_table.Goals as goal

@@ -1,3 +1,4 @@
+-- Of `local_names`: its promises.
 use Rattle.std.proofs.Common.{[], ap, map}
 use Rattle.sot_tree.specs.TreeViews.{local_view}
 use Rattle.sot_rules.specs.Names.{local_thing}

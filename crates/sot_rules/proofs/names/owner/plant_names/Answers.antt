@@ -1,3 +1,4 @@
+-- Of `plant_names`: its promises.
 use Rattle.std.proofs.Common.{[], ◌++◌, ap, ap₂, map}
 use Rattle.std.specs.List.{filter_map}
 use Rattle.sot_rules.specs.Names.{meaning, noise_thing, plant_meant, state_thing, topic_meant}

@@ -1,3 +1,4 @@
+-- Of `read_names`: its promises.
 use Rattle.std.proofs.Common.{[], ◌++◌, ap, ap₂, map}
 use Rattle.std.specs.List.{filter_map}
 use Rattle.sot_tree.specs.TreeViews.{local_view}

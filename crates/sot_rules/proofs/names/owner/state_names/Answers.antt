@@ -1,3 +1,4 @@
+-- Of `state_names`: its promises.
 use Rattle.std.proofs.Common.{[], ap, map}
 use Rattle.sot_rules.specs.Names.{state_thing}
 use Rattle.sot_rules.specs.Scopes.{parts_of}

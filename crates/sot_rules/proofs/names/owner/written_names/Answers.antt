@@ -1,3 +1,4 @@
+-- Of `written_names`: its promises.
 use Rattle.std.proofs.Common.{[], ap, map}
 use Rattle.std.specs.List.{filter_map}
 use Rattle.sot_rules.specs.Names.{meaning, topic_meant}

@@ -1,3 +1,4 @@
+-- Of `add_names`: that its loop keeps what it says, and its promises.
 use Rattle.std.proofs.Common.{◌∙◌, ap, map}
 use Rattle.sot_rules.specs.SeenNames.{seen_names}
 use Rattle.sot_rules.proofs.NameSets.{more_held}

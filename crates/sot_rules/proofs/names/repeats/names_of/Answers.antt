@@ -1,3 +1,4 @@
+-- Of `names_of`: its promises.
 use Rattle.std.proofs.Common.{[]}
 use Rattle.sot_rules.proofs.NameSets.{none_held}
 use Rattle.sot_rules.proofs.names.repeats.names_of.Goals as goal

@@ -1,3 +1,4 @@
+-- Of `note_repeat`: its promises.
 use Rattle.std.proofs.Common.{◌∙◌, ℕ, List, Bool, Bor, ap}
 use Rattle.std.specs.List.{list_any}
 use Rattle.std.specs.Str.{bytes_eq}

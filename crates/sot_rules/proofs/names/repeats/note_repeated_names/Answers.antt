@@ -1,3 +1,4 @@
+-- Of `note_repeated_names`: its promises.
 use Rattle.std.proofs.Common.{◌≡◌, [], subst}
 use Rattle.std.specs.Prelude.{OnOk}
 use Rattle.std.proofs.lemmas.List.{map-id}

@@ -1,3 +1,4 @@
+-- Of `note_repeats`: that its loop keeps what it says.
 use Rattle.sot_rules.proofs.Repeats.{step_repeats}
 use Rattle.sot_rules.proofs.names.repeats.note_repeats.Goals as goal
 

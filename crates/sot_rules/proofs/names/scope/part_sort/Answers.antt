@@ -1,3 +1,4 @@
+-- Of `part_sort`: its promises.
 use Rattle.std.proofs.Common.{◌∙◌}
 use Rattle.sot_rules.proofs.Lookups.{part_found}
 use Rattle.sot_rules.proofs.names.scope.part_sort.Goals as goal

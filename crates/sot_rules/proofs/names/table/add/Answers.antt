@@ -1,3 +1,4 @@
+-- Of `add`: its promises.
 use Rattle.std.proofs.Common.{◌∙◌, sym}
 use Rattle.sot_rules.proofs.NameTables.{added, none_by}
 use Rattle.sot_rules.proofs.names.table.add.Goals as goal

@@ -1,3 +1,4 @@
+-- Of `note_body`: its promises.
 use Rattle.std.proofs.Common.{◌∙◌, None, Option, Some, ap}
 use Rattle.sot_tree.specs.Trees.{Block}
 use Rattle.sot_tree.specs.TreeViews.{block_view, node_view}

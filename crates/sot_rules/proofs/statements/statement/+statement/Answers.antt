@@ -1,3 +1,4 @@
+-- Of the cycle `statement`: that the loops keep what they say, and their promises.
 use Rattle.std.proofs.Common.{◌∙◌, ap, sym, refl}
 use Rattle.sot_tree.specs.TreeViews.{statement_view, block_view}
 use Rattle.sot_rules.specs.Sorts.{is_scaled}

@@ -1,3 +1,4 @@
+-- Of the cycle `unrolled`: that the loops keep what they say, and their promises.
 use Rattle.std.proofs.Common.{◌≡◌, ◌+◌, ◌-◌, ◌%◌, arith, subst, sym}
 use Rattle.sot_tree.specs.TreeViews.{statement_view, block_view}
 use Rattle.sot_rules.specs.declared.statements.unrolled.Reached.TheVariants.{At, Left}

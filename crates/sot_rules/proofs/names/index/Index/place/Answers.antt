@@ -1,3 +1,4 @@
+-- Of `place`: its promises.
 use Rattle.std.proofs.Common.{◌∙◌, ap, is_some, map}
 use Rattle.sot_tree.specs.TreeViews.{declaration_view}
 use Rattle.std.specs.Map.{lookup}

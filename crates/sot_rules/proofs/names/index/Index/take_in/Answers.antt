@@ -1,3 +1,4 @@
+-- Of `take_in`: its promises.
 use Rattle.std.proofs.Common.{◌∙◌, [], ap, length}
 use Rattle.sot_tree.specs.declared.tree.Ident.{Ident}
 use Rattle.sot_tree.specs.TreeViews.{declaration_view}
