@@ -1,0 +1,41 @@
+//! A program's tables, or the first rule of typing that it breaks.
+ghost use Rattle.std.specs.Prelude.{◌≡◌, None, IfOk, IfErr};
+ghost use Rattle.sot_tree.specs.TreeViews.{program_view};
+ghost use Rattle.sot_rules.specs.First.{IsFirstFault, IsFaultless};
+ghost use Rattle.sot_tree.specs.Formed.{IsFormed};
+ghost use Rattle.sot_rules.specs.declared.fault.TypeFault.{TypeFault as AFault};
+ghost use Rattle.sot_rules.specs.declared.fault.TypeFail.TheVariants.{Fault};
+ghost use Rattle.sot_typing.specs.Resolved.{AreTables};
+
+use crate::names::numbers::numbers;
+use crate::tables::lists::all_tables;
+use sot_lang::Typed;
+use sot_rules::{Index, TypeFail, first_fault};
+use sot_tree::Program;
+use std::alloc::{AllocError, Global};
+
+// The tables of a program in which no rule of typing fails.
+fn faultless_tables(alloc: Global, program: &Program) -> Result<Typed, AllocError>
+    requires formed { IsFormed (program_view program.now) }
+    requires faultless { IsFaultless (program_view program.now) }
+    ensures { IfOk result (λ t. AreTables (program_view program.now) t) }
+{
+    let index = Index::of(alloc, program)?;
+    let numbers = numbers(alloc, &program.decls)?;
+    all_tables(alloc, &index, &numbers)
+}
+
+/// The tables of a program, or the first rule of typing that it breaks, by its place in the text and then by its number.
+/// The tree is one of the grammar, as that of a text is.
+pub fn resolve(alloc: Global, program: &Program) -> Result<Typed, TypeFail>
+    requires formed { IsFormed (program_view program.now) }
+    ensures faultless { IfOk result (λ t. IsFaultless (program_view program.now)) }
+    ensures tables { IfOk result (λ t. AreTables (program_view program.now) t) }
+    ensures fault { IfErr result
+        (λ e. (f : AFault) → e ≡ Fault f → IsFirstFault (program_view program.now) f) }
+{
+    if let Some(fault) = first_fault(alloc, program)? {
+        return Err(TypeFail::Fault(fault));
+    }
+    Ok(faultless_tables(alloc, program)?)
+}
