@@ -4,14 +4,14 @@ use Rattle.std.specs.Str.{bytes_eq}
 use denote.Ref.{Bor}
 use Rattle.indexmap.specs.IndexMap.{IndexMap}
 use Rattle.sot_tree.specs.declared.tree.Ident.{Ident}
-use Rattle.sot_tree.specs.Trees.{Form, one, fields, Declaration, a_topic, a_plant, Program}
+use Rattle.sot_tree.specs.Trees.{Form, one, fields, Declaration, a_topic, a_plant}
 use Rattle.sot_rules.specs.declared.names.index.Index.{Index}
 use Rattle.sot_rules.specs.declared.names.scope.Kept.{Kept}
 use Rattle.sot_rules.specs.declared.names.scope.Kept.TheVariants.{Alone, Several}
 use Rattle.sot_rules.specs.declared.names.gather.NameList.{NameList}
 use Rattle.sot_rules.specs.declared.names.gather.NameList.TheVariants.{Topics, Plants, Both}
 use Rattle.sot_rules.specs.Sorts.{scalar_sort}
-use Rattle.sot_rules.specs.Names.{Part, Parts, Thing, Scope, meaning, parts_reading, reading, topic_meant, plant_meant, either_meant}
+use Rattle.sot_rules.specs.Names.{Part, Parts, Thing, Scope, parts_reading, reading}
 use Rattle.sot_rules.specs.NameTables.{found}
 use Rattle.sot_rules.specs.Scopes.{parts_of, kept_parts}
 
