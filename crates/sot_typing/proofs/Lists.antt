@@ -1,5 +1,5 @@
 -- Places in lists that are made of others.
-use Rattle.std.proofs.Common.{◌≡◌, ◌∙◌, ℕ, zero, suc, ◌+◌, ◌<◌, ◌⊎◌, inl, inr, List, [], ◌∷◌, ◌++◌, map, length, zip, filter_map, refl, sym, ap, subst, Option, Some, None, true, false, Bool, ◌||◌, arith}
+use Rattle.std.proofs.Common.{◌≡◌, ◌∙◌, ℕ, zero, suc, ◌+◌, ◌⊎◌, inl, inr, List, [], ◌∷◌, ◌++◌, length, zip, filter_map, refl, sym, ap, subst, Option, Some, None, true, false, Bool, ◌||◌, arith}
 use Rattle.std.specs.List.{list_any, cons_option}
 pub use Rattle.std.proofs.lemmas.Option.{slice_get_within as at_lt}
 pub use Rattle.sot_lists.proofs.Places.{at_map, at_same, at_below, at_mapped}
