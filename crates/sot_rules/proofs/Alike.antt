@@ -4,7 +4,7 @@ use Rattle.std.specs.List.{list_any}
 use Rattle.sot_tree.specs.Trees.{Tree, Trees, number, truth, named, binary, rest, negated, denied, called, rescaled, chosen, no_tree, one_more, Statement, Block, assigned, published, branched, repeated, no_statement, statement}
 use Rattle.sot_rules.specs.declared.fault.TypeFault.{TypeFault}
 use Rattle.sot_rules.specs.declared.fault.TypeKind.TheVariants.{ScaleDiffers, KindDiffers, PeriodOutside}
-use Rattle.sot_rules.specs.declared.sort.Sort.TheVariants.{Scaled}
+use Rattle.sot_rules.specs.declared.expressions.sort.Sort.TheVariants.{Scaled}
 use Rattle.std.specs.Prelude.{nat_abs}
 use Rattle.sot_rules.specs.Sorts.{is_truthful, is_scaled, differ, kinds_misfit, scales_misfit, operator_sort, unless, given, some_differ, call_sort, branches_misfit}
 use Rattle.sot_rules.specs.Names.{Thing, Scope, reading_sort}

@@ -8,7 +8,7 @@ use Rattle.sot_tree.specs.declared.tree.Expr.{Expr, Call}
 use Rattle.sot_tree.specs.TreeViews.{tree_view, parts_view}
 use Rattle.sot_tree.proofs.CallRows.{call_view}
 use Rattle.sot_rules.specs.declared.fault.TypeFault.{TypeFault}
-use Rattle.sot_rules.specs.declared.operands.Operands.{Operands}
+use Rattle.sot_rules.specs.declared.expressions.operands.Operands.{Operands}
 use Rattle.sot_rules.specs.Sorts.{is_truthful, some_differ, call_sort, unless}
 use Rattle.sot_rules.specs.Names.{Thing}
 use Rattle.sot_rules.specs.TreeSorts.{sort, sorts}

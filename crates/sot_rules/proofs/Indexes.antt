@@ -8,7 +8,7 @@ use denote.Ref.{Bor}
 use Rattle.indexmap.specs.IndexMap.{IndexMap}
 use Rattle.sot_tree.specs.declared.tree.Ident.{Ident}
 use Rattle.sot_tree.specs.Trees.{Declaration}
-use Rattle.sot_rules.specs.declared.sort.Sort.{Sort}
+use Rattle.sot_rules.specs.declared.expressions.sort.Sort.{Sort}
 use Rattle.sot_rules.specs.Names.{declared_name}
 use Rattle.sot_rules.specs.Tests.{is_plant_of}
 use Rattle.sot_rules.specs.NameTables.{found, entry}

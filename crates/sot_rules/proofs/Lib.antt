@@ -1,12 +1,14 @@
+-- each list of faults and the rules that fail
 pub mod Members
 pub mod TreeFaults
 pub mod StatementFaults
 pub mod ListFaults
 pub mod PartFaults
 pub mod DeclarationFaults
+-- the least of a list
 pub mod Least
 pub mod FirstFault
-pub mod Lookups
+-- how the walk notes it
 pub mod Loops
 pub mod Calls
 pub mod Branches
@@ -14,13 +16,15 @@ pub mod Repeats
 pub mod Limits
 pub mod Pairs
 pub mod Sizes
-pub mod NameSets
 pub mod Sequences
 pub mod Mapped
+pub mod Nexts
+pub mod Bodies
+pub mod Reached
+-- names in tables and sets
+pub mod Lookups
+pub mod NameSets
 pub mod NameTables
 pub mod Indexes
 pub mod StandsFor
 pub mod Alike
-pub mod Reached
-pub mod Nexts
-pub mod Bodies

@@ -4,8 +4,8 @@ use Rattle.std.specs.List.{list_any, slice_get, flat_map}
 use Rattle.std.proofs.lemmas.List.{drop_more, drop_all}
 use Rattle.std.proofs.lemmas.Option.{slice_get_within, get_or_from_slice_get}
 use Rattle.sot_rules.specs.declared.fault.TypeFault.{TypeFault}
-use Rattle.sot_rules.specs.declared.sort.Sort.{Sort}
-use Rattle.sot_rules.specs.declared.operands.Operands.{Operands}
+use Rattle.sot_rules.specs.declared.expressions.sort.Sort.{Sort}
+use Rattle.sot_rules.specs.declared.expressions.operands.Operands.{Operands}
 use Rattle.sot_rules.specs.Sorts.{is_truthful, differ_after, given}
 use Rattle.sot_rules.specs.Operands.{with_operand}
 use Rattle.sot_rules.specs.Faults.{least}

@@ -10,8 +10,8 @@ use Rattle.sot_tree.specs.declared.tree.Expr.{Expr}
 use Rattle.sot_tree.specs.declared.tree.Stmt.{Stmt, If, Repeat}
 use Rattle.sot_tree.specs.TreeViews.{statement_view, block_view}
 use Rattle.sot_tree.proofs.BlockRows.{branch_view, repeat_view}
-use Rattle.sot_rules.specs.declared.unrolled.Reached.{Reached}
-use Rattle.sot_rules.specs.declared.unrolled.Reached.TheVariants.{At, Left}
+use Rattle.sot_rules.specs.declared.statements.unrolled.Reached.{Reached}
+use Rattle.sot_rules.specs.declared.statements.unrolled.Reached.TheVariants.{At, Left}
 use Rattle.sot_rules.specs.Tests.{copies, unrolled, block_unrolled}
 use Rattle.sot_rules.specs.Reached.{IsReached}
 use Rattle.sot_rules.proofs.Loops.{rest_is}

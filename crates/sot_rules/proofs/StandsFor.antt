@@ -10,17 +10,18 @@ use denote.Ref.{Bor}
 use Rattle.indexmap.specs.IndexMap.{IndexMap}
 use Rattle.sot_tree.specs.declared.tree.Ident.{Ident}
 use Rattle.sot_tree.specs.Trees.{Form, one, fields, Declaration, a_topic, a_plant, a_node, a_module}
-use Rattle.sot_rules.specs.declared.sort.Sort.{Sort}
-use Rattle.sot_rules.specs.declared.scope.Seen.{Seen}
-use Rattle.sot_rules.specs.declared.scope.Seen.TheVariants.{Alone}
-use Rattle.sot_rules.specs.declared.listed.Listed.{Listed}
-use Rattle.sot_rules.specs.declared.listed.Listed.TheVariants.{Topics, Plants, Both}
+use Rattle.sot_rules.specs.declared.expressions.sort.Sort.{Sort}
+use Rattle.sot_rules.specs.declared.names.scope.Kept.{Kept}
+use Rattle.sot_rules.specs.declared.names.scope.Kept.TheVariants.{Alone}
+use Rattle.sot_rules.specs.declared.names.gather.NameList.{NameList}
+use Rattle.sot_rules.specs.declared.names.gather.NameList.TheVariants.{Topics, Plants, Both}
 use Rattle.sot_rules.specs.Names.{field_part, form_parts, state_part, Part, Parts, alone, several, Thing, declared_name, part_reading, parts_reading, thing_reading}
 use Rattle.sot_rules.specs.NameTables.{found, entry}
-use Rattle.sot_rules.specs.declared.scope.Names.{Names}
-use Rattle.sot_rules.specs.Scopes.{names_in, parts_of, seen_parts, things_of, reading_of}
+use Rattle.sot_rules.specs.declared.names.scope.Names.{Names}
+use Rattle.sot_rules.specs.Scopes.{names_in, parts_of, kept_parts, things_of, reading_of}
 use Rattle.sot_rules.specs.Indexes.{declared_parts, form_fields, is_named, sort_in}
-use Rattle.sot_rules.specs.Alike.{ReadsAlike, PartsAlike, AreAlike, parts_found, StandsFor, StandsForThing, listed_thing, form_seen, listed_seen}
+use Rattle.sot_rules.specs.Alike.{ReadsAlike, PartsAlike, AreAlike, parts_found, StandsFor, StandsForThing, form_kept, kept_of_list}
+use Rattle.sot_rules.specs.NameLists.{thing_of_list}
 use Rattle.sot_rules.proofs.Lookups.{part_found, thing_found}
 use Rattle.sot_rules.proofs.NameTables.{map_more}
 
@@ -52,21 +53,21 @@ entry_alike true p q h = h
 entry_alike false p q h = tt
 
 -- one name more, and one thing more
-stands_more : {S : Type 0} (tables : List (List Part)) (xs : List Thing) (x : Thing) (old new : IndexMap (Bor (List ℕ)) Seen S) (key : List ℕ) (s : Seen) → ((n : List ℕ) → found new n ≡ option_or (found old n) (entry key s n)) → key ≡ x.name → PartsAlike (seen_parts tables s) x.parts → StandsFor tables old xs → StandsFor tables new (xs ++ x ∷ [])
+stands_more : {S : Type 0} (tables : List (List Part)) (xs : List Thing) (x : Thing) (old new : IndexMap (Bor (List ℕ)) Kept S) (key : List ℕ) (s : Kept) → ((n : List ℕ) → found new n ≡ option_or (found old n) (entry key s n)) → key ≡ x.name → PartsAlike (kept_parts tables s) x.parts → StandsFor tables old xs → StandsFor tables new (xs ++ x ∷ [])
 stands_more tables xs x old new key s add named alike stands n =
-    let left : option_map (seen_parts tables) (found new n) ≡ option_or (option_map (seen_parts tables) (found old n)) (entry x.name (seen_parts tables s) n) =
-    ap (option_map (seen_parts tables)) (add n)
-    ∙ map_or (seen_parts tables) (found old n) (entry key s n)
-    ∙ ap (option_or (option_map (seen_parts tables) (found old n))) (map_if (seen_parts tables) (bytes_eq n key) s ∙ ap (λ k. entry k (seen_parts tables s) n) named) in
+    let left : option_map (kept_parts tables) (found new n) ≡ option_or (option_map (kept_parts tables) (found old n)) (entry x.name (kept_parts tables s) n) =
+    ap (option_map (kept_parts tables)) (add n)
+    ∙ map_or (kept_parts tables) (found old n) (entry key s n)
+    ∙ ap (option_or (option_map (kept_parts tables) (found old n))) (map_if (kept_parts tables) (bytes_eq n key) s ∙ ap (λ k. entry k (kept_parts tables s) n) named) in
     subst (λ o. AreAlike o (parts_found (xs ++ x ∷ []) n)) (sym left)
-    (subst (λ o. AreAlike (option_or (option_map (seen_parts tables) (found old n)) (entry x.name (seen_parts tables s) n)) o) (sym (parts_push xs x n))
+    (subst (λ o. AreAlike (option_or (option_map (kept_parts tables) (found old n)) (entry x.name (kept_parts tables s) n)) o) (sym (parts_push xs x n))
     (alike_or _ (parts_found xs n) _ (entry x.name x.parts n) (stands n) (entry_alike (bytes_eq n x.name) _ x.parts alike)))
 
-pub stands_same : {S : Type 0} (tables : List (List Part)) (xs ys : List Thing) (m : IndexMap (Bor (List ℕ)) Seen S) → xs ≡ ys → StandsFor tables m xs → StandsFor tables m ys
+pub stands_same : {S : Type 0} (tables : List (List Part)) (xs ys : List Thing) (m : IndexMap (Bor (List ℕ)) Kept S) → xs ≡ ys → StandsFor tables m xs → StandsFor tables m ys
 stands_same tables xs ys m e h = subst (StandsFor tables m) e h
 
 -- a name that adds a thing
-pub stands_added : {S : Type 0} (tables : List (List Part)) (xs : List Thing) (x : Option Thing) (old new : IndexMap (Bor (List ℕ)) Seen S) (key name : List ℕ) (s : Seen) → ((n : List ℕ) → found new n ≡ option_or (found old n) (entry key s n)) → key ≡ name → StandsForThing tables name (Some s) x → StandsFor tables old xs → StandsFor tables new (xs ++ option_to_list x)
+pub stands_added : {S : Type 0} (tables : List (List Part)) (xs : List Thing) (x : Option Thing) (old new : IndexMap (Bor (List ℕ)) Kept S) (key name : List ℕ) (s : Kept) → ((n : List ℕ) → found new n ≡ option_or (found old n) (entry key s n)) → key ≡ name → StandsForThing tables name (Some s) x → StandsFor tables old xs → StandsFor tables new (xs ++ option_to_list x)
 stands_added tables xs None old new key name s add e h stands = absurd h
 stands_added tables xs (Some x) old new key name s add e h stands = stands_more tables xs x old new key s add (e ∙ h.0) h.1 stands
 
@@ -90,7 +91,7 @@ mapped_more : {X Y : Type 0} (f : X → Y) (base : List Y) (xs : List X) (i : �
 mapped_more f base xs i x lt e = append_assoc base (map f (take i xs)) (f x ∷ []) ∙ ap (λ l. base ++ l) (sym (map_more f xs i x lt e))
 
 -- one number or truth value more
-pub alone_more : {S X : Type 0} (f : X → Thing) (xs : List X) (i : ℕ) (x : X) (s : Sort) (key : List ℕ) (start old new : IndexMap (Bor (List ℕ)) Seen S) → i < length xs → x ≡ get_or xs i x → ((tables : List (List Part)) (base : List Thing) → StandsFor tables start base → StandsFor tables old (base ++ map f (take i xs))) → ((n : List ℕ) → found new n ≡ option_or (found old n) (entry key (Alone s) n)) → key ≡ (f x).name → alone s ≡ (f x).parts → (tables : List (List Part)) (base : List Thing) → StandsFor tables start base → StandsFor tables new (base ++ map f (take (i + 1) xs))
+pub alone_more : {S X : Type 0} (f : X → Thing) (xs : List X) (i : ℕ) (x : X) (s : Sort) (key : List ℕ) (start old new : IndexMap (Bor (List ℕ)) Kept S) → i < length xs → x ≡ get_or xs i x → ((tables : List (List Part)) (base : List Thing) → StandsFor tables start base → StandsFor tables old (base ++ map f (take i xs))) → ((n : List ℕ) → found new n ≡ option_or (found old n) (entry key (Alone s) n)) → key ≡ (f x).name → alone s ≡ (f x).parts → (tables : List (List Part)) (base : List Thing) → StandsFor tables start base → StandsFor tables new (base ++ map f (take (i + 1) xs))
 alone_more f xs i x s key start old new lt e inv add named sorted tables base stands =
     stands_same tables _ (base ++ map f (take (i + 1) xs)) new (mapped_more f base xs i x lt e)
     (stands_more tables (base ++ map f (take i xs)) (f x) old new key (Alone s) add named (λ first field. ap (parts_reading first field) sorted) (inv tables base stands))
@@ -117,11 +118,11 @@ parts_at (t ∷ items) (x ∷ ds) zero d n e at =
 parts_at (t ∷ items) (x ∷ ds) (suc k) d n e at = parts_at items ds k d n (cc) at
 
 -- what is kept of a declaration stands for the thing that it adds
-form_alike : (tables : List (List Part)) (k : ℕ) (f : Form) → ((n : List ℕ) → sort_in (get_or tables k []) n ≡ sort_in (form_fields f) n) → PartsAlike (seen_parts tables (form_seen k f)) (form_parts f)
+form_alike : (tables : List (List Part)) (k : ℕ) (f : Form) → ((n : List ℕ) → sort_in (get_or tables k []) n ≡ sort_in (form_fields f) n) → PartsAlike (kept_parts tables (form_kept k f)) (form_parts f)
 form_alike tables k (one s) h first field = refl
 form_alike tables k (fields fs) h first field = several_alike (get_or tables k []) (map field_part fs) h first field
 
-thing_alike : (listed : Listed) (tables : List (List Part)) (k : ℕ) (d : Declaration) → ((n : List ℕ) → sort_in (get_or tables k []) n ≡ sort_in (declared_parts d) n) → StandsForThing tables (declared_name d).name (listed_seen listed k d) (listed_thing listed (Some d))
+thing_alike : (list : NameList) (tables : List (List Part)) (k : ℕ) (d : Declaration) → ((n : List ℕ) → sort_in (get_or tables k []) n ≡ sort_in (declared_parts d) n) → StandsForThing tables (declared_name d).name (kept_of_list list k d) (thing_of_list list (Some d))
 thing_alike Topics tables k (a_topic t) h = (refl, form_alike tables k t.shape h)
 thing_alike Topics tables k (a_plant q) h = tt
 thing_alike Topics tables k (a_node n) h = tt
@@ -145,19 +146,19 @@ found_named name (x ∷ ds) d e = by x d (bytes_eq name (declared_name x).name) 
     by x d false h rest later q = later q
 
 -- a table of names reads like the list that it stands for
-reads_by : (f : Seen → Parts) (first : Ident) (field : Option Ident) (a : Option Seen) (b : Option Thing) → AreAlike (option_map f a) (option_map (λ (x : Thing). x.parts) b) → reading_of f first field a ≡ thing_reading first field b
+reads_by : (f : Kept → Parts) (first : Ident) (field : Option Ident) (a : Option Kept) (b : Option Thing) → AreAlike (option_map f a) (option_map (λ (x : Thing). x.parts) b) → reading_of f first field a ≡ thing_reading first field b
 reads_by f first field None None h = refl
 reads_by f first field None (Some y) h = absurd h
 reads_by f first field (Some x) None h = absurd h
 reads_by f first field (Some x) (Some y) h = h first field
 
-reads_alike : {S T : Type 0} (tables : List (IndexMap (Bor (List ℕ)) Sort S)) (m : IndexMap (Bor (List ℕ)) Seen T) (xs : List Thing) → StandsFor (map parts_of tables) m xs → ReadsAlike (things_of tables m) xs
+reads_alike : {S T : Type 0} (tables : List (IndexMap (Bor (List ℕ)) Sort S)) (m : IndexMap (Bor (List ℕ)) Kept T) (xs : List Thing) → StandsFor (map parts_of tables) m xs → ReadsAlike (things_of tables m) xs
 reads_alike tables m xs h first field =
-    thing_found (seen_parts (map parts_of tables)) first field m.entries
-    ∙ reads_by (seen_parts (map parts_of tables)) first field (found m first.name) (find (λ (x : Thing). bytes_eq first.name x.name) xs) (h first.name)
+    thing_found (kept_parts (map parts_of tables)) first field m.entries
+    ∙ reads_by (kept_parts (map parts_of tables)) first field (found m first.name) (find (λ (x : Thing). bytes_eq first.name x.name) xs) (h first.name)
 
 -- the whole list of a loop
-pub mapped_all : {S X : Type 0} (tables : List (List Part)) (f : X → Thing) (base : List Thing) (xs : List X) (i : ℕ) (m : IndexMap (Bor (List ℕ)) Seen S) → length xs ≤ i → StandsFor tables m (base ++ map f (take i xs)) → StandsFor tables m (base ++ map f xs)
+pub mapped_all : {S X : Type 0} (tables : List (List Part)) (f : X → Thing) (base : List Thing) (xs : List X) (i : ℕ) (m : IndexMap (Bor (List ℕ)) Kept S) → length xs ≤ i → StandsFor tables m (base ++ map f (take i xs)) → StandsFor tables m (base ++ map f xs)
 mapped_all tables f base xs i m le h = stands_same tables _ (base ++ map f xs) m (ap (λ l. base ++ map f l) (take_all i xs le)) h
 
 pub map_twice : {X Y Z : Type 0} (f : Y → Z) (g : X → Y) (xs : List X) → map (λ x. f (g x)) xs ≡ map f (map g xs)
@@ -165,14 +166,14 @@ map_twice f g [] = refl
 map_twice f g (x ∷ xs) = ap (λ l. f (g x) ∷ l) (map_twice f g xs)
 
 -- a name that means the declaration at place k
-pub seen_alike : (listed : Listed) (tables : List (List Part)) (k : ℕ) (name : List ℕ) (d : Declaration) (r : Option Seen) (m : Option Declaration) → m ≡ Some d → name ≡ (declared_name d).name → r ≡ listed_seen listed k d → ((n : List ℕ) → sort_in (get_or tables k []) n ≡ sort_in (declared_parts d) n) → StandsForThing tables name r (listed_thing listed m)
-seen_alike listed tables k name d r m means named kept h =
-    subst (λ z. StandsForThing tables name r (listed_thing listed z)) (sym means)
-    (subst (λ z. StandsForThing tables name z (listed_thing listed (Some d))) (sym kept)
-    (subst (λ z. StandsForThing tables z (listed_seen listed k d) (listed_thing listed (Some d))) (sym named) (thing_alike listed tables k d h)))
+pub kept_alike : (list : NameList) (tables : List (List Part)) (k : ℕ) (name : List ℕ) (d : Declaration) (r : Option Kept) (m : Option Declaration) → m ≡ Some d → name ≡ (declared_name d).name → r ≡ kept_of_list list k d → ((n : List ℕ) → sort_in (get_or tables k []) n ≡ sort_in (declared_parts d) n) → StandsForThing tables name r (thing_of_list list m)
+kept_alike list tables k name d r m means named kept h =
+    subst (λ z. StandsForThing tables name r (thing_of_list list z)) (sym means)
+    (subst (λ z. StandsForThing tables name z (thing_of_list list (Some d))) (sym kept)
+    (subst (λ z. StandsForThing tables z (kept_of_list list k d) (thing_of_list list (Some d))) (sym named) (thing_alike list tables k d h)))
 
-pub stands_none : {S : Type 0} (tables : List (List Part)) (m : IndexMap (Bor (List ℕ)) Seen S) → m.entries ≡ [] → StandsFor tables m []
-stands_none tables m e n = subst (λ es. AreAlike (option_map (seen_parts tables) (lookup (λ (k : Bor (List ℕ)). bytes_eq n k.now) es)) None) (sym e) tt
+pub stands_none : {S : Type 0} (tables : List (List Part)) (m : IndexMap (Bor (List ℕ)) Kept S) → m.entries ≡ [] → StandsFor tables m []
+stands_none tables m e n = subst (λ es. AreAlike (option_map (kept_parts tables) (lookup (λ (k : Bor (List ℕ)). bytes_eq n k.now) es)) None) (sym e) tt
 
 -- the names that the code keeps, with the tables of an index
 pub names_alike : (x : Names) (tables : List (List Part)) (xs : List Thing) → map parts_of x.tables.now ≡ tables → StandsFor tables x.things xs → ReadsAlike (names_in x) xs

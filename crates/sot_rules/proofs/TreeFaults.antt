@@ -5,8 +5,8 @@ use Rattle.sot_text.specs.declared.token.Span.{Span}
 use Rattle.sot_tree.specs.Trees.{Tree, Trees, number, truth, named, binary, rest, negated, denied, called, rescaled, chosen, no_tree, one_more}
 use Rattle.sot_rules.specs.declared.fault.TypeKind.{TypeKind}
 use Rattle.sot_rules.specs.declared.fault.TypeKind.TheVariants.{ScaleDiffers, KindDiffers}
-use Rattle.sot_rules.specs.declared.sort.Sort.{Sort}
-use Rattle.sot_rules.specs.declared.sort.Sort.TheVariants.{Scaled}
+use Rattle.sot_rules.specs.declared.expressions.sort.Sort.{Sort}
+use Rattle.sot_rules.specs.declared.expressions.sort.Sort.TheVariants.{Scaled}
 use Rattle.sot_rules.specs.Sorts.{is_truthful, is_scaled, differ, are_mixed, kinds_misfit, scales_misfit, some_differ, branches_misfit}
 use Rattle.sot_rules.specs.Names.{Thing, Reading, reading, reading_sort}
 use Rattle.sot_rules.specs.TreeSorts.{is_no_scale, is_zero, sort, sorts}

@@ -16,8 +16,8 @@ use Rattle.sot_tree.specs.declared.tree.StateDecl.{StateDecl}
 use Rattle.sot_tree.specs.Trees.{Tree, Trees, named, binary, rest, negated, denied, called, rescaled, chosen, one_more, Statement, Block, assigned, published, branched, repeated, statement, Topic, Plant, Node, Module, Local, Next, Area, Declaration, a_topic, a_plant, a_node, a_module, Program}
 use Rattle.sot_rules.specs.declared.fault.TypeKind.{TypeKind}
 use Rattle.sot_rules.specs.declared.fault.TypeKind.TheVariants.{Unknown, Twice, ScaleDiffers, KindDiffers, RangeEmpty, InitOutside, ReadsAndWrites, TooMany, RangeWide, NoModule, PeriodOutside, NextMissing}
-use Rattle.sot_rules.specs.declared.sort.Sort.{Sort}
-use Rattle.sot_rules.specs.declared.sort.Sort.TheVariants.{Scaled}
+use Rattle.sot_rules.specs.declared.expressions.sort.Sort.{Sort}
+use Rattle.sot_rules.specs.declared.expressions.sort.Sort.TheVariants.{Scaled}
 use Rattle.sot_rules.specs.Sorts.{scale_sort, scalar_sort, const_sort, is_truthful, is_scaled, differ, are_mixed, kinds_misfit, scales_misfit, some_differ, branches_misfit}
 use Rattle.sot_rules.specs.Names.{declared_name, meaning, is_topic, is_plant, is_node, is_environment, is_external, Thing, Scope, node_scope, plant_scope, state_scope, Reading, gives, nothing_at, reading, reading_sort}
 use Rattle.sot_rules.specs.TreeSorts.{has_decimals, is_no_scale, is_zero, sort, sorts}

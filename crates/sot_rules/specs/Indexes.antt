@@ -6,8 +6,8 @@ use denote.Ref.{Bor}
 use Rattle.sot_tree.specs.declared.tree.Ident.{Ident}
 use Rattle.sot_tree.specs.Trees.{Form, one, fields, Declaration, a_topic, a_plant, Program}
 use Rattle.sot_tree.specs.TreeViews.{declaration_view}
-use Rattle.sot_rules.specs.declared.sort.Sort.{Sort}
-use Rattle.sot_rules.specs.declared.index.Index.{Index}
+use Rattle.sot_rules.specs.declared.expressions.sort.Sort.{Sort}
+use Rattle.sot_rules.specs.declared.names.index.Index.{Index}
 use Rattle.sot_rules.specs.Names.{Part, field_part, state_part, declared_name}
 use Rattle.sot_rules.specs.Tests.{is_plant_of}
 use Rattle.sot_rules.specs.NameTables.{found}

@@ -2,8 +2,8 @@
 use Rattle.std.specs.Prelude.{Option}
 use Rattle.sot_tree.specs.declared.tree.Ident.{Ident}
 use Rattle.sot_tree.specs.Trees.{Declaration}
-use Rattle.sot_rules.specs.declared.kind.DeclKind.{DeclKind}
-use Rattle.sot_rules.specs.declared.kind.DeclKind.TheVariants as kinds
+use Rattle.sot_rules.specs.declared.declarations.kind.DeclKind.{DeclKind}
+use Rattle.sot_rules.specs.declared.declarations.kind.DeclKind.TheVariants as kinds
 use Rattle.sot_rules.specs.Tests.{topic_name, plant_name, node_name, module_name}
 
 -- the name of a declaration, where it is of the kind

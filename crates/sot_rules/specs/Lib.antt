@@ -15,6 +15,7 @@ pub mod Examples
 pub mod NameTables
 pub mod Indexes
 pub mod Scopes
+pub mod NameLists
 pub mod Alike
 pub mod SeenNames
 pub mod Meanings

@@ -6,8 +6,8 @@ use Rattle.sot_tree.specs.declared.tree.Ident.{Ident}
 use Rattle.sot_tree.specs.declared.tree.Field.{Field}
 use Rattle.sot_tree.specs.declared.tree.StateDecl.{StateDecl}
 use Rattle.sot_tree.specs.Trees.{Form, one, fields, Topic, Plant, Node, Local, Declaration, a_topic, a_plant, a_node, a_module, Program}
-use Rattle.sot_rules.specs.declared.sort.Sort.{Sort}
-use Rattle.sot_rules.specs.declared.sort.Sort.TheVariants.{Anything}
+use Rattle.sot_rules.specs.declared.expressions.sort.Sort.{Sort}
+use Rattle.sot_rules.specs.declared.expressions.sort.Sort.TheVariants.{Anything}
 use Rattle.sot_rules.specs.Sorts.{scalar_sort, state_sort}
 
 abbrev pub declared_name : Declaration → Ident

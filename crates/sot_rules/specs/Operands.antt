@@ -1,8 +1,8 @@
 -- What is kept of the operands of a call, one after another.
 use Rattle.std.specs.Prelude.{false, ◌||◌, if◌then◌else◌}
-use Rattle.sot_rules.specs.declared.operands.Operands.{Operands}
-use Rattle.sot_rules.specs.declared.sort.Sort.{Sort}
-use Rattle.sot_rules.specs.declared.sort.Sort.TheVariants.{Truthful, Anything}
+use Rattle.sot_rules.specs.declared.expressions.operands.Operands.{Operands}
+use Rattle.sot_rules.specs.declared.expressions.sort.Sort.{Sort}
+use Rattle.sot_rules.specs.declared.expressions.sort.Sort.TheVariants.{Truthful, Anything}
 use Rattle.sot_rules.specs.Sorts.{is_truthful, is_scaled, differ, given}
 
 abbrev pub no_operand : Operands

@@ -1,8 +1,8 @@
 -- A place in a list that is walked without being written out.
 use Rattle.std.specs.Prelude.{◌≡◌, ℕ, ◌+◌, List, Some, length, slice_get}
 use Rattle.sot_text.specs.declared.token.Span.{Span}
-use Rattle.sot_rules.specs.declared.unrolled.Reached.{Reached}
-use Rattle.sot_rules.specs.declared.unrolled.Reached.TheVariants.{At, Left}
+use Rattle.sot_rules.specs.declared.statements.unrolled.Reached.{Reached}
+use Rattle.sot_rules.specs.declared.statements.unrolled.Reached.TheVariants.{At, Left}
 
 -- what stands at the place, or how far the place is past the end of the list
 abbrev pub IsReached : ℕ → List Span → Reached → Type 0

@@ -5,11 +5,11 @@ use Rattle.indexmap.specs.IndexMap.{IndexMap}
 use Rattle.sot_text.specs.declared.token.Span.{Span}
 use Rattle.sot_tree.specs.declared.tree.Ident.{Ident}
 use Rattle.sot_tree.specs.declared.tree.StateDecl.{StateDecl}
-use Rattle.sot_rules.specs.declared.sort.Sort.{Sort}
-use Rattle.sot_rules.specs.declared.scope.Names.{Names}
-use Rattle.sot_rules.specs.declared.scope.Scope.{Scope as CodeScope}
-use Rattle.sot_rules.specs.declared.scope.Seen.{Seen}
-use Rattle.sot_rules.specs.declared.scope.Seen.TheVariants.{Alone, Several}
+use Rattle.sot_rules.specs.declared.expressions.sort.Sort.{Sort}
+use Rattle.sot_rules.specs.declared.names.scope.Names.{Names}
+use Rattle.sot_rules.specs.declared.names.scope.Scope.{Scope as CodeScope}
+use Rattle.sot_rules.specs.declared.names.scope.Kept.{Kept}
+use Rattle.sot_rules.specs.declared.names.scope.Kept.TheVariants.{Alone, Several}
 use Rattle.sot_rules.specs.Sorts.{state_sort}
 use Rattle.sot_rules.specs.Names.{Part, Parts, alone, several, Thing, Scope, Reading, gives, nothing_at, parts_reading}
 
@@ -18,12 +18,12 @@ abbrev pub parts_of : {S : Type 0} → IndexMap (Bor (List ℕ)) Sort S → List
 parts_of m = map (λ e. record { name = e.0.now; sort = e.1 }) m.entries
 
 -- what a name stands for, where its parts are in one of the tables
-abbrev pub seen_parts : List (List Part) → Seen → Parts
-seen_parts tables (Alone s) = alone s
-seen_parts tables (Several k) = several (slice_index_or tables k [])
+abbrev pub kept_parts : List (List Part) → Kept → Parts
+kept_parts tables (Alone s) = alone s
+kept_parts tables (Several k) = several (slice_index_or tables k [])
 
-abbrev pub things_of : {S T : Type 0} → List (IndexMap (Bor (List ℕ)) Sort S) → IndexMap (Bor (List ℕ)) Seen T → List Thing
-things_of tables m = map (λ e. record { name = e.0.now; parts = seen_parts (map parts_of tables) e.1 }) m.entries
+abbrev pub things_of : {S T : Type 0} → List (IndexMap (Bor (List ℕ)) Sort S) → IndexMap (Bor (List ℕ)) Kept T → List Thing
+things_of tables m = map (λ e. record { name = e.0.now; parts = kept_parts (map parts_of tables) e.1 }) m.entries
 
 -- what a look-up answers: a sort, or the place of the fault
 abbrev pub answer : Result Sort Span → Reading

@@ -11,8 +11,8 @@ use Rattle.sot_tree.specs.declared.tree.Const.{Const}
 use Rattle.sot_tree.specs.declared.tree.Const.TheVariants.{Number, Truth}
 use Rattle.sot_tree.specs.declared.tree.StateDecl.{StateDecl}
 use Rattle.sot_tree.specs.Trees.{Form, one, fields, Start, one_value, values, Topic, Plant, Node, Area, Declaration, a_topic, a_plant, a_node, a_module, Program, Statement, Block, assigned, published, branched, repeated, no_statement, statement}
-use Rattle.sot_rules.specs.declared.sort.Sort.{Sort}
-use Rattle.sot_rules.specs.declared.sort.Sort.TheVariants.{Scaled, Anything}
+use Rattle.sot_rules.specs.declared.expressions.sort.Sort.{Sort}
+use Rattle.sot_rules.specs.declared.expressions.sort.Sort.TheVariants.{Scaled, Anything}
 use Rattle.sot_rules.specs.Sorts.{scalar_sort, state_sort}
 use Rattle.sot_rules.specs.Lists.{are_same}
 

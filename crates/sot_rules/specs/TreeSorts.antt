@@ -3,8 +3,8 @@ use Rattle.std.specs.Prelude.{nat_lt, ◌==◌, Bool, not, ◌||◌, List, [], �
 use Rattle.std.specs.List.{list_any}
 use Rattle.sot_tree.specs.declared.tree.Lit.{Lit}
 use Rattle.sot_tree.specs.Trees.{Tree, Trees, number, truth, named, binary, rest, negated, denied, called, rescaled, chosen, no_tree, one_more}
-use Rattle.sot_rules.specs.declared.sort.Sort.{Sort}
-use Rattle.sot_rules.specs.declared.sort.Sort.TheVariants.{Scaled, Truthful}
+use Rattle.sot_rules.specs.declared.expressions.sort.Sort.{Sort}
+use Rattle.sot_rules.specs.declared.expressions.sort.Sort.TheVariants.{Scaled, Truthful}
 use Rattle.sot_rules.specs.Sorts.{is_truthful, is_scaled, differ, kinds_misfit, scales_misfit, operator_sort, unless, given, some_differ, call_sort, branches_misfit}
 use Rattle.sot_rules.specs.Names.{Thing, reading, reading_sort}
 

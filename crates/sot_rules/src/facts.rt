@@ -1,3 +1,4 @@
+//! Worked programs with their first faults, and two that have none.
 ghost use Rattle.sot_rules.specs.Examples.{FirstOfUnknownName, FirstOfSecondName, FirstOfOtherScale, FirstOfOtherKind, FirstOfEmptyRange, FirstOfOutsideStart, FirstOfOwnInput, FirstOfNineFields, FirstOfWideRange, FirstOfLonePlant, FirstOfNoPeriod, FirstOfNoNext, FirstOfSwappedNext, FirstOfTwoAtOne, FirstOfTwoPlaces, FirstOfTwoTruths, FirstOfBareRecord, FirstOfHiddenTopic, FirstOfOwnNameSeen, FirstOfManyStatements, FirstOfLateOffset, FirstOfWideBox, OtherOfTwoAtOne, NoneInTheLine, NoneInTheRest};
 
 /// The first faults of worked programs: each rule once, and the order of two faults.

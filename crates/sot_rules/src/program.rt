@@ -1,3 +1,4 @@
+//! The first fault of a program.
 ghost use Rattle.std.specs.Prelude.{◌≡◌, Some, None, map, flat_map, OnOk, IfOk};
 ghost use Rattle.sot_tree.specs.TreeViews.{declaration_view, program_view};
 ghost use Rattle.sot_rules.specs.declared.fault.TypeFault.{TypeFault};
@@ -5,14 +6,14 @@ ghost use Rattle.sot_rules.specs.First.{IsFirstFault, IsFaultless};
 ghost use Rattle.sot_rules.specs.Faults.{least, declaration_faults, faults};
 ghost use Rattle.sot_rules.specs.Indexes.{program_in, IsIndex};
 
+use crate::declarations::kind::{DeclKind, note_past_kind};
+use crate::declarations::module::note_module;
+use crate::declarations::node::note_node;
+use crate::declarations::plant::note_plant;
+use crate::declarations::topic::note_topic;
 use crate::fault::TypeFault;
-use crate::index::Index;
-use crate::kind::{DeclKind, note_past_kind};
-use crate::list::note_repeats;
-use crate::module::note_module;
-use crate::node::note_node;
-use crate::plant::note_plant;
-use crate::topic::note_topic;
+use crate::names::index::Index;
+use crate::names::repeats::note_repeats;
 use sot_tree::{Decl, Program};
 use std::alloc::{AllocError, Global};
 
@@ -23,7 +24,8 @@ fn note_declaration<'p>(
     first: &mut Option<TypeFault>,
 ) -> Result<(), AllocError>
     requires { IsIndex index.now }
-    ensures { OnOk result (first.new ≡ least first.old (declaration_faults (program_in index.now) (declaration_view d.now))) }
+    ensures { OnOk result (first.new
+        ≡ least first.old (declaration_faults (program_in index.now) (declaration_view d.now))) }
 {
     match d {
         Decl::Topic(t) => note_topic(alloc, t, first),
@@ -43,7 +45,9 @@ fn note_declarations<'p>(
     first: &mut Option<TypeFault>,
 ) -> Result<(), AllocError>
     requires { IsIndex index.now }
-    ensures { OnOk result (first.new ≡ least first.old (flat_map (declaration_faults (program_in index.now)) (map declaration_view decls.now))) }
+    ensures { OnOk result (first.new
+        ≡ least first.old (flat_map (declaration_faults (program_in index.now))
+        (map declaration_view decls.now))) }
 {
     for d in decls {
         note_declaration(alloc, index, d, first)?;
@@ -72,7 +76,8 @@ fn note_program(
 /// memory for tables of the names, and time that grows with the length of the program times the depth of its loops.
 pub fn first_fault(alloc: Global, program: &Program) -> Result<Option<TypeFault>, AllocError>
     ensures faultless { IfOk result (λ f. f ≡ None → IsFaultless (program_view program.now)) }
-    ensures first { IfOk result (λ f. (g : TypeFault) → f ≡ Some g → IsFirstFault (program_view program.now) g) }
+    ensures first { IfOk result
+        (λ f. (g : TypeFault) → f ≡ Some g → IsFirstFault (program_view program.now) g) }
 {
     let index = Index::of(alloc, program)?;
     let mut first = None;

@@ -6,8 +6,8 @@ use Rattle.sot_tree.specs.declared.tree.Decl.{Decl}
 use Rattle.sot_tree.specs.TreeViews.{declaration_view}
 use Rattle.sot_tree.specs.Trees.{Declaration, a_topic, a_plant, a_node, a_module}
 use Rattle.sot_rules.proofs.Loops.{rest_is}
-use Rattle.sot_typing.specs.declared.numbers.Number.{Number}
-use Rattle.sot_typing.specs.declared.numbers.Counts.{Counts}
+use Rattle.sot_typing.specs.declared.names.numbers.Number.{Number}
+use Rattle.sot_typing.specs.declared.names.numbers.Counts.{Counts}
 use Rattle.sot_typing.specs.Resolved.{a_topic_of, scalar_count}
 use Rattle.sot_typing.specs.Numbers.{counted, numbered, numbers_from, FitLimits, HasRoom}
 

@@ -18,7 +18,7 @@ use Rattle.sot_rules.specs.Names.{declared_name}
 use Rattle.sot_rules.specs.Lists.{IsPast, places}
 use Rattle.sot_rules.specs.Tests.{topic_name, plant_name, node_name, module_name, names_of}
 use Rattle.sot_typing.specs.Resolved.{a_topic_of, a_plant_of, a_node_of, a_module_of, topics, plants, nodes, modules, PlantTable, NodeTable}
-use Rattle.sot_typing.proofs.Lists.{of_map, of_append, at_same, of_kept}
+use Rattle.sot_typing.proofs.Lists.{at_mapped, of_append, at_same, of_kept}
 use Rattle.sot_typing.proofs.Once.{not_past}
 use Rattle.sot_typing.proofs.Declared.{once_kept}
 use Rattle.sot_typing.proofs.Meanings.{topic_is, plant_is, node_is, module_is, topic_link, plant_link, node_link, module_link, declared_once}
@@ -106,15 +106,15 @@ both_named p n xs ys x y k name a = by (of_append xs ys k name a)
 module _ {X I : Type 0} (p : Program) (f : IsFaultless p) (pick : Declaration → Option X) (of : X → Ident) (link : (d : Declaration) (x : X) → pick d ≡ Some x → declared_name d ≡ of x) (infos : List I) (shown : I → List ℕ) (from : (k : ℕ) (i : I) → At infos k i → (x : X) × At (filter_map pick p.decls) k x × ((of x).name ≡ shown i)) where
   one_distinct : AreDistinct (map shown infos)
   one_distinct i j name a b =
-      let u = of_map shown infos i name a in
-      let v = of_map shown infos j name b in
+      let u = at_mapped shown infos i name a in
+      let v = at_mapped shown infos j name b in
       let x = from i u.0 u.1 in
       let y = from j v.0 v.1 in
       once_kept pick declared_name of link p.decls (declared_once p f) i j x.0 y.0 x.1 y.1 (x.2 ∙ u.2 ∙ sym v.2 ∙ sym y.2)
 
   one_named : (n : ℕ) → ((d : Declaration) (x : X) → pick d ≡ Some x → rank d ≡ n) → NamedBy p (λ r. r ≡ n) (map shown infos)
   one_named n h k name a =
-      let u = of_map shown infos k name a in
+      let u = at_mapped shown infos k name a in
       let x = from k u.0 u.1 in
       let r = of_kept pick p.decls k x.0 x.1 in
       (r.0, r.1, r.2, ap (λ (i : Ident). i.name) (link r.1 x.0 r.3) ∙ x.2 ∙ u.2, h r.1 x.0 r.3)

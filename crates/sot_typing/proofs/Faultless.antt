@@ -7,14 +7,14 @@ use Rattle.sot_tree.specs.declared.operator.Func.{Func}
 use Rattle.sot_tree.specs.declared.tree.Lit.{Lit}
 use Rattle.sot_tree.specs.Trees.{Tree, Trees, binary, called, rescaled, chosen}
 use Rattle.sot_rules.specs.declared.fault.TypeKind.{TypeKind}
-use Rattle.sot_rules.specs.declared.sort.Sort.{Sort}
-use Rattle.sot_rules.specs.declared.sort.Sort.TheVariants.{Scaled}
+use Rattle.sot_rules.specs.declared.expressions.sort.Sort.{Sort}
+use Rattle.sot_rules.specs.declared.expressions.sort.Sort.TheVariants.{Scaled}
 use Rattle.sot_rules.specs.Sorts.{is_truthful, differ, kinds_misfit, scales_misfit, operator_sort, unless, given, some_differ, call_sort, branches_misfit}
 use Rattle.sot_rules.specs.Names.{Thing}
 use Rattle.sot_rules.specs.TreeSorts.{is_no_scale, sort, sorts}
 use Rattle.sot_rules.specs.Faults.{when, misfits, tree_faults, parts_faults}
-use Rattle.sot_typing.specs.declared.terms.Sorted.{Sorted}
-use Rattle.sot_typing.specs.declared.terms.SortedList.{SortedList}
+use Rattle.sot_typing.specs.declared.code.terms.Sorted.{Sorted}
+use Rattle.sot_typing.specs.declared.code.terms.SortedList.{SortedList}
 use Rattle.sot_typing.specs.Formulas as to
 use Rattle.sot_typing.specs.Formulas.{formula_view}
 use Rattle.sot_typing.specs.Terms.{sort_scale, formula_of, formulas_of}

@@ -17,7 +17,7 @@ use Rattle.sot_rules.specs.declared.fault.TypeKind.{TypeKind}
 use Rattle.sot_rules.specs.declared.fault.TypeKind.TheVariants.{Unknown, KindDiffers, TooMany}
 use Rattle.sot_rules.specs.Fails.{ScalarFails, scalar, many_fields, many_states, seen_unknown, seen_topic, noise_scalar, node_times, local_scalar, ac_unknown, sc_unknown, module_times, plant_unknown, plant_topic, safe, safer, many_topics, many_plants, many_nodes, many_modules}
 use Rattle.sot_rules.specs.First.{IsFaultless}
-use Rattle.sot_tree.specs.Formed.{IsFormed, IsDeclaration, IsForm, IsField, IsState, IsLocal, HasItem}
+use Rattle.sot_tree.specs.Formed.{IsFormed, IsDeclaration, HasItem}
 use Rattle.sot_rules.specs.Faults.{declaration_faults, program_lists, faults}
 use Rattle.sot_rules.specs.Lists.{IsPast, are_same, places}
 use Rattle.sot_rules.specs.Names.{declared_name, meaning, is_topic, is_plant, is_node}
@@ -28,7 +28,7 @@ use Rattle.sot_typing.specs.Resolved.{a_topic_of, a_plant_of, a_node_of, a_modul
 use Rattle.sot_typing.specs.Parts.{StateFits, FieldFits, LocalFits, FormFits, SideFits, AreaFits}
 use Rattle.sot_typing.specs.Numbers.{FitLimits, nothing_counted}
 use Rattle.sot_typing.specs.Fits.{TopicIsOwn, PlantFits, NodeFits, ModuleFits, AllFit}
-use Rattle.sot_typing.proofs.Lists.{lt_at, at_map, at_kept, each_at}
+use Rattle.sot_typing.proofs.Lists.{at_below, at_map, at_kept, each_at}
 use Rattle.sot_typing.proofs.Declared.{of_find}
 use Rattle.sot_typing.proofs.Tests.{no_true, no_false}
 use Rattle.sot_typing.proofs.Meanings.{topic_own, topic_faultless, plant_faultless, node_faultless, module_faultless, a_plant_meant}
@@ -42,7 +42,7 @@ use Rattle.sot_typing.proofs.ModuleFacts.{boxes_are}
 
 -- what holds of each item
 all_has : {A : Type 0} (P : A → Type 0) (xs : List A) → ((x : A) → Has xs x → P x) → All P xs
-all_has P xs h k d lt = (let r = lt_at xs k lt in subst P (sym (get_or_from_slice_get xs k r.0 d r.1)) (h r.0 (k, r.1)))
+all_has P xs h k d lt = (let r = at_below xs k lt in subst P (sym (get_or_from_slice_get xs k r.0 d r.1)) (h r.0 (k, r.1)))
 
 -- no fault is listed of a declaration
 none_of : (p : Program) → IsFaultless p → (d : Declaration) → Has p.decls d → declaration_faults p d ≡ []
@@ -51,12 +51,11 @@ none_of p f d has =
     (each_empty (declaration_faults p) p.decls (nth_empty (program_lists p) 5 (unfold faults in no_faults p f))) has.1
 
 -- topics
-shape_fits : (s : Form) → IsForm s → ((x : Scalar) (at : Span) (k : TypeKind) → Has (form_scalars s) x → ScalarFails true x at k → ⊥) → FormFits s
-shape_fits (one s) formed none = (scalar_is true s (λ at k h. none s at k (0, refl) h)).scale
-shape_fits (fields fs) formed none =
+shape_fits : (s : Form) → ((x : Scalar) (at : Span) (k : TypeKind) → Has (form_scalars s) x → ScalarFails true x at k → ⊥) → FormFits s
+shape_fits (one s) none = (scalar_is true s (λ at k h. none s at k (0, refl) h)).scale
+shape_fits (fields fs) none =
     all_has FieldFits fs
     (λ f h. record {
-      name = (each_at IsField fs h.0 f formed.1 h.1).0;
       scale = (scalar_is true f.scalar (λ at k x. none f.scalar at k (h.0, at_map (λ (f : Field). f.scalar) fs h.0 f h.1) x)).scale;
     })
 
@@ -98,11 +97,9 @@ module _ (p : Program) (formed : IsFormed p) (f : IsFaultless p) where
   topic_fits : (k : ℕ) (t : Topic) → At p.decls k (a_topic t) → TopicIsOwn p t
   topic_fits k t a =
       let j = at_kept a_topic_of p.decls k (a_topic t) t a refl in
-      let form = each_at IsDeclaration p.decls k (a_topic t) formed a in
       record {
         fits = record {
-          name = form.0;
-          shape = shape_fits t.shape form.1 (λ x at kind h s. topic_faultless p f j.0 t j.1 at kind (scalar h s));
+          shape = shape_fits t.shape (λ x at kind h s. topic_faultless p f j.0 t j.1 at kind (scalar h s));
           few = topic_few j.0 t j.1;
           starts = as_many p f j.0 t j.1;
         };
@@ -118,13 +115,10 @@ module _ (p : Program) (formed : IsFormed p) (f : IsFaultless p) where
   plant_fits : (k : ℕ) (q : Plant) → At p.decls k (a_plant q) → PlantFits p q
   plant_fits k q a =
       let j = at_kept a_plant_of p.decls k (a_plant q) q a refl in
-      let form = each_at IsDeclaration p.decls k (a_plant q) formed a in
       let none = plant_faultless p f j.0 q j.1 in
       record {
-        name = form.name;
         states = all_has StateFits q.states
             (λ s h. let r = state_known p q none s h in record {
-              name = (each_at IsState q.states h.0 s form.states h.1).0;
               scale = subst (λ z. sort_scale z ≤ 6) (sym r.1) r.2;
             });
         sees = all_has (λ i. is_plant (meaning p i) ≡ true) q.sees
@@ -133,7 +127,6 @@ module _ (p : Program) (formed : IsFormed p) (f : IsFaultless p) where
             no_false (is_plant (meaning p i)) (λ e. none i.at Unknown (seen_unknown h t e)));
         noise = all_has FieldFits q.noise
             (λ n h. record {
-              name = (each_at IsField q.noise h.0 n form.noise h.1).0;
               scale = (scalar_is true n.scalar (λ at kind x. none at kind (noise_scalar h x))).scale;
             });
         few = plant_small p (no_faults p f) q (none_of p f (a_plant q) (k, a));
@@ -148,12 +141,10 @@ module _ (p : Program) (formed : IsFormed p) (f : IsFaultless p) where
       let none = node_faultless p f j.0 n j.1 in
       let times = times_are n.period n.offset form.period form.offset (λ at kind h. none at kind (node_times h)) in
       record {
-        name = form.name;
         period = times.0;
         offset = omega (arith, times.0, times.1);
         locals = all_has LocalFits n.locals
             (λ l h. record {
-              name = (each_at IsLocal n.locals h.0 l form.locals h.1).0;
               scale = (scalar_is false l.scalar (λ at kind x. none at kind (local_scalar h x))).scale;
             });
         few = node_small p (no_faults p f) n (none_of p f (a_node n) (k, a));
@@ -176,7 +167,6 @@ module _ (p : Program) (formed : IsFormed p) (f : IsFaultless p) where
       let region = boxes_are p q.0 (plant_faultless p f i.0 q.0 i.1) in
       let sorts : side_sorts (meaning p m.plant) ≡ Some (map state_sort q.0.states) = ap side_sorts q.1 in
       record {
-        name = form.name;
         ac = no_false (is_node (meaning p m.ac)) (λ e. none m.ac.at Unknown (ac_unknown e));
         sc = no_false (is_node (meaning p m.sc)) (λ e. none m.sc.at Unknown (sc_unknown e));
         period = times.0;

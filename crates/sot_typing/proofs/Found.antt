@@ -14,11 +14,11 @@ use Rattle.sot_tree.specs.TreeViews.{declaration_view}
 use Rattle.sot_tree.specs.Trees.{Topic, Plant, Node, Module, Declaration, a_topic, a_plant, a_node, a_module, Program}
 use Rattle.sot_lists.proofs.Places.{at_map}
 use Rattle.sot_rules.specs.Names.{meaning}
-use Rattle.sot_rules.specs.declared.index.Index.{Index}
+use Rattle.sot_rules.specs.declared.names.index.Index.{Index}
 use Rattle.sot_rules.specs.Indexes.{is_named, program_in}
 use Rattle.sot_rules.specs.Lists.{are_same}
-use Rattle.sot_typing.specs.declared.numbers.Number.{Number}
-use Rattle.sot_typing.specs.declared.numbers.Counts.{Counts}
+use Rattle.sot_typing.specs.declared.names.numbers.Number.{Number}
+use Rattle.sot_typing.specs.declared.names.numbers.Counts.{Counts}
 use Rattle.sot_typing.specs.Resolved.{a_topic_of, a_plant_of, a_node_of, a_module_of, scalar_count, topic_place, first_scalar}
 use Rattle.sot_typing.specs.Numbers.{counted, numbered, numbers_from, nothing_counted, FitLimits, HasRoom, scalars_in}
 use Rattle.sot_typing.specs.Meant.{AreNumbers, IsMeant, number_meant}

@@ -9,7 +9,7 @@ use Rattle.sot_tree.specs.declared.tree.Decl.TheVariants as decls
 use Rattle.sot_tree.specs.TreeViews.{declaration_view, topic_view}
 use Rattle.sot_tree.specs.Trees.{Program}
 use Rattle.sot_lang.specs.Tables.{Tables}
-use Rattle.sot_rules.specs.declared.index.Index.{Index}
+use Rattle.sot_rules.specs.declared.names.index.Index.{Index}
 use Rattle.sot_rules.specs.Indexes.{program_in}
 use Rattle.sot_typing.specs.Resolved.{a_topic_of, topic_place, topics, plants, nodes, modules, topic_info, topic_scalars, plant_seen, plant_table, node_seen, node_table, module_info, tables_of, AreTables}
 use Rattle.sot_typing.specs.Parts.{scalars_at}

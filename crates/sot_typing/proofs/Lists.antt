@@ -1,20 +1,10 @@
 -- Places in lists that are made of others.
-use Rattle.std.proofs.Common.{◌≡◌, ◌∙◌, ℕ, zero, suc, ◌+◌, ◌<◌, ◌⊎◌, inl, inr, List, [], ◌∷◌, ◌++◌, map, length, zip, filter_map, refl, sym, ap, subst, Option, Some, None, true, false, Bool, ◌||◌, arith}
+use Rattle.std.proofs.Common.{◌≡◌, ◌∙◌, ℕ, zero, suc, ◌+◌, ◌⊎◌, inl, inr, List, [], ◌∷◌, ◌++◌, length, zip, filter_map, refl, sym, ap, subst, Option, Some, None, true, false, Bool, ◌||◌, arith}
 use Rattle.std.specs.List.{list_any, cons_option}
 pub use Rattle.std.proofs.lemmas.Option.{slice_get_within as at_lt}
-pub use Rattle.sot_lists.proofs.Places.{at_map, at_same}
+pub use Rattle.sot_lists.proofs.Places.{at_map, at_same, at_below, at_mapped}
 use Rattle.sot_lists.specs.Places.{At}
 use Rattle.sot_tree.specs.Formed.{Each}
-
-pub lt_at : {A : Type 0} (xs : List A) (k : ℕ) → k < length xs → (x : A) × At xs k x
-lt_at [] k l = absurd (omega arith)
-lt_at (y ∷ ys) zero l = (y, refl)
-lt_at (y ∷ ys) (suc k) l = lt_at ys k (omega arith)
-
-pub of_map : {A B : Type 0} (f : A → B) (xs : List A) (k : ℕ) (y : B) → At (map f xs) k y → (x : A) × At xs k x × (f x ≡ y)
-of_map f [] k y a = cc
-of_map f (x ∷ xs) zero y a = (x, refl, cc)
-of_map f (x ∷ xs) (suc k) y a = of_map f xs k y a
 
 -- of two lists one behind the other
 pub at_left : {A : Type 0} (xs ys : List A) (k : ℕ) (x : A) → At xs k x → At (xs ++ ys) k x

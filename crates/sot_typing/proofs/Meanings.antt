@@ -18,7 +18,7 @@ use Rattle.sot_rules.specs.Names.{declared_name, meaning, is_topic, is_plant, is
 use Rattle.sot_rules.specs.Lists.{are_same}
 use Rattle.sot_rules.specs.Tests.{topic_size, read_size}
 use Rattle.sot_typing.specs.Resolved.{a_topic_of, a_plant_of, a_node_of, a_module_of, topics, plants, nodes, modules, topic_place, plant_place, node_place, scalar_count, first_scalar, counted_from, scalars_meant, slots_meant}
-use Rattle.sot_typing.proofs.Lists.{of_map, each_at, of_kept}
+use Rattle.sot_typing.proofs.Lists.{at_mapped, each_at, of_kept}
 use Rattle.sot_typing.proofs.Joined.{length_counted, of_counted}
 use Rattle.sot_typing.proofs.Once.{AreOnce, once_map, same_name}
 use Rattle.sot_typing.proofs.Declared.{of_find, place_found, own_found, own_place}
@@ -190,8 +190,8 @@ of_scalar_slot p i m k a = by (meaning p i) refl a
   where
     by : (o : Option Declaration) → meaning p i ≡ o → At (slots_in p i o) m (ScalarSlot k) → At (scalars_meant p i) m k
     by None e a = absurd (none-some (ScalarSlot k) a)
-    by (Some (a_topic t)) e a = (let r = of_map (λ k. ScalarSlot k) (scalars_meant p i) m (ScalarSlot k) a in r.1 ∙ ap Some (let q = r.2 in cc))
-    by (Some (a_plant q)) e a = (let r = of_map (λ v. State (plant_place p i) v) (counted_from 0 (length q.states)) m (ScalarSlot k) a in let s = r.2 in cc)
+    by (Some (a_topic t)) e a = (let r = at_mapped (λ k. ScalarSlot k) (scalars_meant p i) m (ScalarSlot k) a in r.1 ∙ ap Some (let q = r.2 in cc))
+    by (Some (a_plant q)) e a = (let r = at_mapped (λ v. State (plant_place p i) v) (counted_from 0 (length q.states)) m (ScalarSlot k) a in let s = r.2 in cc)
     by (Some (a_node n)) e a = absurd (none-some (ScalarSlot k) a)
     by (Some (a_module l)) e a = absurd (none-some (ScalarSlot k) a)
 
@@ -200,9 +200,9 @@ of_state_slot p i m k v a = by (meaning p i) refl a
   where
     by : (o : Option Declaration) → meaning p i ≡ o → At (slots_in p i o) m (State k v) → (q : Plant) × (meaning p i ≡ Some (a_plant q)) × (k ≡ plant_place p i) × (v < length q.states)
     by None e a = absurd (none-some (State k v) a)
-    by (Some (a_topic t)) e a = (let r = of_map (λ k. ScalarSlot k) (scalars_meant p i) m (State k v) a in let s = r.2 in cc)
+    by (Some (a_topic t)) e a = (let r = at_mapped (λ k. ScalarSlot k) (scalars_meant p i) m (State k v) a in let s = r.2 in cc)
     by (Some (a_plant q)) e a =
-        let r = of_map (λ v. State (plant_place p i) v) (counted_from 0 (length q.states)) m (State k v) a in
+        let r = at_mapped (λ v. State (plant_place p i) v) (counted_from 0 (length q.states)) m (State k v) a in
         let s = r.2 in
         let c = of_counted 0 (length q.states) m r.0 r.1 in
         let w : r.0 ≡ v = cc in

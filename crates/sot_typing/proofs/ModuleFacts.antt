@@ -16,7 +16,7 @@ use Rattle.sot_lang.specs.Tables.{Tables}
 use Rattle.sot_tree.specs.Trees.{Plant, Node, Module, Area, Block, Declaration, a_plant, a_node, Program}
 use Rattle.sot_rules.specs.declared.fault.TypeKind.{TypeKind}
 use Rattle.sot_rules.specs.declared.fault.TypeKind.TheVariants.{Unknown, Twice, KindDiffers, TooMany}
-use Rattle.sot_rules.specs.declared.sort.Sort.{Sort}
+use Rattle.sot_rules.specs.declared.expressions.sort.Sort.{Sort}
 use Rattle.sot_rules.specs.First.{IsFaultless}
 use Rattle.sot_tree.specs.Formed.{IsFormed}
 use Rattle.sot_rules.specs.Sorts.{state_sort}
@@ -26,7 +26,7 @@ use Rattle.sot_rules.specs.Fails.{PlantFails, BoundsFail, RegionFails, other_wid
 use Rattle.sot_typing.specs.Formulas.{Deeds, deeds_view}
 use Rattle.sot_typing.specs.Terms.{deeds_of}
 use Rattle.sot_typing.specs.Resolved.{nodes, modules, plant_place, node_place, side_of, state_count, region_of, NodeTable}
-use Rattle.sot_typing.proofs.Lists.{at_lt, lt_at, at_map, of_map, at_same, at_zip}
+use Rattle.sot_typing.proofs.Lists.{at_lt, at_below, at_map, at_mapped, at_same, at_zip}
 use Rattle.sot_typing.proofs.Once.{not_past, name_same}
 use Rattle.sot_typing.proofs.Meanings.{node_at, plant_at, plant_faultless, module_faultless, module_formed, meaning_name, a_node_meant, a_plant_meant}
 use Rattle.sot_typing.proofs.Tests.{no_true, no_false, same_number}
@@ -58,7 +58,7 @@ module _ (p : Program) (q : Plant) (none : (at : Span) (k : TypeKind) → PlantF
   one_side a h e w k b c =
       let l = at_lt a.sides k b c in
       let m = length-map q.states state_sort in
-      let s = lt_at q.states k (omega arith) in
+      let s = at_below q.states k (omega arith) in
       let r = state_known p q none s.0 (k, s.1) in
       let z = at_zip (map state_sort q.states) a.sides k (state_sort s.0) b (at_map state_sort q.states k s.0 s.1) c in
       let y : At (sides_of (Some (map state_sort q.states)) a) k (state_sort s.0, b) = subst (λ (l : List (Sort × Bounds)). At l k (state_sort s.0, b)) (sym (ap (sides_by (map state_sort q.states) a) (ap (λ o. has_other_width o a) (sym is) ∙ w))) z in
@@ -72,7 +72,7 @@ module _ (p : Program) (q : Plant) (none : (at : Span) (k : TypeKind) → PlantF
 
   pub boxes_are : (i : ℕ) (b : List Side) → At (map (λ (a : Area). map side_of a.sides) areas) i b → (length b ≡ length q.states) × AreOrdered b
   boxes_are i b c =
-      let m = of_map (λ (a : Area). map side_of a.sides) areas i b c in
+      let m = at_mapped (λ (a : Area). map side_of a.sides) areas i b c in
       let w = area_width m.0 (i, m.1) in
       let o = ordered_each m.0.sides (one_side m.0 (i, m.1) w.1 w.0) in
       let l : length (map side_of m.0.sides) ≡ length q.states = length-map m.0.sides side_of ∙ sym w.1 ∙ length-map q.states state_sort in

@@ -29,7 +29,7 @@ use Rattle.sot_rules.specs.Fails.{node_times, many_read, written_twice, written_
 use Rattle.sot_typing.specs.Formulas.{deeds_view}
 use Rattle.sot_typing.specs.Terms.{deeds_of}
 use Rattle.sot_typing.specs.Resolved.{topics, topic_place, plant_place, scalar_count, first_scalar, scalars_meant, slots_meant, lowest, greatest, const_number, local_info, NodeTable}
-use Rattle.sot_typing.proofs.Lists.{of_map, at_same, any_at}
+use Rattle.sot_typing.proofs.Lists.{at_mapped, at_same, any_at}
 use Rattle.sot_typing.proofs.Joined.{of_has_joined, length_joined, has_joined}
 use Rattle.sot_typing.proofs.Once.{not_passed, name_same}
 use Rattle.sot_typing.proofs.Meanings.{topic_at, node_faultless, node_formed, of_scalar_slot, of_state_slot, length_slots}
@@ -159,7 +159,7 @@ module _ (p : Program) (t : Tables) (s : AreSeen p t) (f : IsFaultless p) where
   local_is : (k : ℕ) (node : NodeInfo) (a : At t.nodes k node) (i : ℕ) (info : LocalInfo) → At node.locals.items i info → (l : Local) × (local_info l ≡ info) × IsTyping false l.scalar × (lowest l.scalar ≤ℤ const_number l.init) × (const_number l.init ≤ℤ greatest l.scalar)
   local_is k node a i info b =
       let x = of_node p t s k node a in
-      let m = of_map local_info x.0.locals i info (subst (λ (l : List LocalInfo). At l i info) (locals_by k node a) b) in
+      let m = at_mapped local_info x.0.locals i info (subst (λ (l : List LocalInfo). At l i info) (locals_by k node a) b) in
       let r = start_is false m.0.scalar m.0.init (λ at kind h. node_faultless p f k x.0 x.1 at kind (local_scalar (i, m.1) h)) (λ at kind h. node_faultless p f k x.0 x.1 at kind (local_start (i, m.1) h)) in
       (m.0, m.2, scalar_is false m.0.scalar (λ at kind h. node_faultless p f k x.0 x.1 at kind (local_scalar (i, m.1) h)), r.0, r.1)
 

@@ -6,7 +6,7 @@ use Rattle.sot_lists.specs.Places.{At}
 use Rattle.sot_text.specs.declared.token.Span.{Span}
 use Rattle.sot_tree.specs.declared.tree.Ident.{Ident}
 use Rattle.sot_rules.specs.Lists.{are_same, IsRepeated, IsPast, IsPassedBy}
-use Rattle.sot_typing.proofs.Lists.{lt_at, at_map, any_at}
+use Rattle.sot_typing.proofs.Lists.{at_below, at_map, any_at}
 use Rattle.sot_typing.proofs.Joined.{order, sum_next}
 
 pub same_name : (a b : Ident) → are_same a b ≡ true → a.name ≡ b.name
@@ -51,12 +51,12 @@ not_past limit place xs none = by (order limit (length xs))
   where
     by : (limit ≡ length xs) ⊎ ((limit < length xs) ⊎ (length xs < limit)) → length xs ≤ limit
     by (inl e) = omega arith
-    by (inr (inl l)) = (let r = lt_at xs limit l in absurd (none (place r.0) (at_map place xs limit r.0 r.1)))
+    by (inr (inl l)) = (let r = at_below xs limit l in absurd (none (place r.0) (at_map place xs limit r.0 r.1)))
     by (inr (inr l)) = omega arith
 
 below : (size : Ident → ℕ) (limit : ℕ) (names : List Ident) → ((at : Span) → IsPassedBy size limit names at → ⊥) → (k : ℕ) → k ≤ length names → sum_by size (take k names) ≤ limit
 below size limit names none zero l = omega arith
-below size limit names none (suc k) l = by (lt_at names k (omega arith)) (below size limit names none k (omega arith))
+below size limit names none (suc k) l = by (at_below names k (omega arith)) (below size limit names none k (omega arith))
   where
     by : (x : Ident) × At names k x → sum_by size (take k names) ≤ limit → sum_by size (take (suc k) names) ≤ limit
     by x h = at_most (order limit (sum_by size (take k names) + size x.0))

@@ -18,15 +18,15 @@ use Rattle.sot_lang.specs.declared.tables.Slot.TheVariants.{Scalar as ScalarSlot
 use Rattle.sot_lang.specs.OwnerNames.{width_of, seen_width, is_truth_scalar, reads_truth}
 use Rattle.sot_lang.specs.Tables.{Tables}
 use Rattle.sot_tree.specs.Trees.{Form, one, fields, Topic, Plant, Local, Declaration, a_topic, a_plant, a_node, a_module, Program}
-use Rattle.sot_rules.specs.declared.sort.Sort.{Sort}
-use Rattle.sot_rules.specs.declared.sort.Sort.TheVariants.{Scaled}
+use Rattle.sot_rules.specs.declared.expressions.sort.Sort.{Sort}
+use Rattle.sot_rules.specs.declared.expressions.sort.Sort.TheVariants.{Scaled}
 use Rattle.sot_rules.specs.First.{IsFaultless}
 use Rattle.sot_rules.specs.Fails.{scalar}
 use Rattle.sot_rules.specs.Sorts.{scalar_sort, state_sort, is_truthful}
 use Rattle.sot_rules.specs.Names.{Thing, meaning, form_parts, field_part, state_part, topic_thing, plant_thing, local_thing, state_thing, noise_thing, topic_meant, plant_meant, either_meant}
 use Rattle.sot_rules.specs.Tests.{form_scalars}
 use Rattle.sot_typing.specs.Resolved.{topics, topic_place, plant_place, scalar_count, first_scalar, counted_from, scalars_meant, slots_meant, state_info, noise_info, local_info}
-use Rattle.sot_typing.proofs.Lists.{at_map, of_map, of_append, at_same, same_items}
+use Rattle.sot_typing.proofs.Lists.{at_map, at_mapped, of_append, at_same, same_items}
 use Rattle.sot_typing.proofs.Joined.{of_counted, length_counted}
 use Rattle.sot_typing.proofs.Meanings.{topic_at, plant_at, topic_faultless, plant_faultless, scalars_in, scalars_are, slots_in, slots_of_topic, slots_of_plant}
 use Rattle.sot_typing.proofs.Ranges.{IsKnown, scalar_is}
@@ -75,7 +75,7 @@ several_names x sorts truths e h q =
     record { known = λ k z a. h k z (subst (λ (l : List Sort). At l k z) l a); same = q ∙ ap (map is_truthful) (sym l) }
 
 numbers : (states : List StateDecl) → ((s : StateDecl) → Has states s → (n : ℕ) × (state_sort s ≡ Scaled n) × (n ≤ 6)) → (replicate (length states) false ≡ map is_truthful (map state_sort states)) × ((k : ℕ) (s : Sort) → At (map state_sort states) k s → IsKnown s)
-numbers states h = (same states h, λ k s a. known k s (of_map state_sort states k s a))
+numbers states h = (same states h, λ k s a. known k s (at_mapped state_sort states k s a))
   where
     known : (k : ℕ) (s : Sort) → (x : StateDecl) × At states k x × (state_sort x ≡ s) → IsKnown s
     known k s r = (let q = h r.0 (k, r.1) in subst IsKnown (sym q.1 ∙ r.2) q.2)
@@ -148,12 +148,12 @@ module _ (p : Program) (t : Tables) (s : AreSeen p t) (f : IsFaultless p) where
   topic_names : (j : ℕ) (u : Topic) → At (topics p) j u → AreNames (topic_thing u ∷ []) (map (is_truth_scalar t.scalars) (counted_from (first_scalar p j) (scalar_count u)))
   topic_names j u a =
       several_names (topic_thing u) (map scalar_sort (form_scalars u.shape)) (map (is_truth_scalar t.scalars) (counted_from (first_scalar p j) (scalar_count u))) (form_sorts u.shape)
-      (λ k z b. let r = of_map scalar_sort (form_scalars u.shape) k z b in
+      (λ k z b. let r = at_mapped scalar_sort (form_scalars u.shape) k z b in
       let y = scalar_is true r.0 (λ at kind h. topic_faultless p f j u a at kind (scalar (k, r.1) h)) in
       subst IsKnown r.2 y.known)
       (same_items (map (is_truth_scalar t.scalars) (counted_from (first_scalar p j) (scalar_count u))) (map is_truthful (map scalar_sort (form_scalars u.shape)))
       (length-map (counted_from (first_scalar p j) (scalar_count u)) (is_truth_scalar t.scalars) ∙ length_counted (first_scalar p j) (scalar_count u) ∙ sym (length-map (map scalar_sort (form_scalars u.shape)) is_truthful ∙ length-map (form_scalars u.shape) scalar_sort))
-      (λ k b h. let r = of_map (is_truth_scalar t.scalars) (counted_from (first_scalar p j) (scalar_count u)) k b h in
+      (λ k b h. let r = at_mapped (is_truth_scalar t.scalars) (counted_from (first_scalar p j) (scalar_count u)) k b h in
       let c = of_counted (first_scalar p j) (scalar_count u) k r.0 r.1 in
       let y = truth_of j u a k c.0 in
       at_map is_truthful (map scalar_sort (form_scalars u.shape)) k (scalar_sort y.0) (at_map scalar_sort (form_scalars u.shape) k y.0 y.1) ∙ ap Some (sym y.2 ∙ ap (is_truth_scalar t.scalars) (sym c.1) ∙ r.2)))

@@ -4,15 +4,15 @@ use Rattle.std.proofs.lemmas.List.{drop_all}
 use Rattle.sot_tree.specs.declared.tree.Expr.{Expr}
 use Rattle.sot_lang.specs.declared.term.Term.{Term}
 use Rattle.sot_tree.specs.TreeViews.{tree_view, parts_view}
-use Rattle.sot_rules.specs.declared.sort.Sort.{Sort}
-use Rattle.sot_rules.specs.declared.sort.Sort.TheVariants.{Scaled, Truthful, Anything}
+use Rattle.sot_rules.specs.declared.expressions.sort.Sort.{Sort}
+use Rattle.sot_rules.specs.declared.expressions.sort.Sort.TheVariants.{Scaled, Truthful, Anything}
 use Rattle.sot_rules.specs.Sorts.{given, call_sort}
 use Rattle.sot_rules.specs.Names.{Thing}
 use Rattle.sot_rules.specs.TreeSorts.{sort, sorts}
 use Rattle.sot_rules.specs.Faults.{tree_faults, parts_faults}
 use Rattle.sot_rules.proofs.Loops.{rest_is}
-use Rattle.sot_typing.specs.declared.terms.Sorted.{Sorted}
-use Rattle.sot_typing.specs.declared.terms.SortedList.{SortedList}
+use Rattle.sot_typing.specs.declared.code.terms.Sorted.{Sorted}
+use Rattle.sot_typing.specs.declared.code.terms.SortedList.{SortedList}
 use Rattle.sot_typing.specs.Formulas.{one_more}
 use Rattle.sot_typing.specs.Terms.{sort_scale, formula_of, formulas_of}
 use Rattle.sot_typing.specs.Sorted.{IsSorted, AreSorted}

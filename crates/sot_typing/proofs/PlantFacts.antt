@@ -1,5 +1,5 @@
 -- The plants of the tables of a program in which no rule fails, but for their `next` expressions.
-use Rattle.std.proofs.Common.{◌≡◌, ◌∙◌, ℕ, zero, suc, ◌<◌, ◌≤◌, ◌≢◌, ◌⊎◌, inl, inr, List, [], ◌∷◌, map, length, flat_map, nat_abs, refl, sym, ap, subst, Option, Some, None, true, arith}
+use Rattle.std.proofs.Common.{◌≡◌, ◌∙◌, ℕ, ◌<◌, ◌≤◌, ◌≢◌, ◌⊎◌, inl, inr, List, [], ◌∷◌, map, length, flat_map, nat_abs, refl, sym, ap, subst, Option, Some, None, true, arith}
 use Rattle.std.specs.List.{position_or_len}
 use Rattle.std.specs.Str.{bytes_eq}
 use Rattle.std.proofs.lemmas.List.{length-map}
@@ -21,7 +21,7 @@ use Rattle.sot_lang.specs.Tables.{Tables}
 use Rattle.sot_tree.specs.Trees.{Plant, Module, Next, Declaration, a_topic, a_plant, a_node, a_module, Program}
 use Rattle.sot_rules.specs.declared.fault.TypeKind.{TypeKind}
 use Rattle.sot_rules.specs.declared.fault.TypeKind.TheVariants.{Unknown, ScaleDiffers, KindDiffers, TooMany, NoModule, NextMissing}
-use Rattle.sot_rules.specs.declared.sort.Sort.TheVariants.{Scaled}
+use Rattle.sot_rules.specs.declared.expressions.sort.Sort.TheVariants.{Scaled}
 use Rattle.sot_rules.specs.First.{IsFaultless}
 use Rattle.sot_tree.specs.Formed.{IsFormed, HasItem}
 use Rattle.sot_rules.specs.Sorts.{state_sort, written_scale}
@@ -33,7 +33,7 @@ use Rattle.sot_rules.specs.Fails.{PlantFails, no_module, many_states, state_scal
 use Rattle.sot_typing.specs.Formulas.{formula_view}
 use Rattle.sot_typing.specs.Terms.{sort_scale, formula_of}
 use Rattle.sot_typing.specs.Resolved.{plants, a_module_of, plant_place, scalars_meant, state_info, noise_info, plant_table, plant_seen, PlantTable, module_info}
-use Rattle.sot_typing.proofs.Lists.{lt_at, of_map, at_same, any_of, at_kept}
+use Rattle.sot_typing.proofs.Lists.{at_below, at_mapped, at_same, any_of, at_kept}
 use Rattle.sot_typing.proofs.Joined.{order}
 use Rattle.sot_typing.proofs.Once.{not_past, same_name, name_same}
 use Rattle.sot_typing.proofs.Meanings.{plant_at, plant_own, plant_faultless, plant_formed, meaning_name, a_plant_meant}
@@ -67,7 +67,7 @@ next_few p q none = by (order (length q.next) (length q.states))
   where
     past : length q.states < length q.next → ⊥
     past l =
-        let r = lt_at q.next (length q.states) l in
+        let r = at_below q.next (length q.states) l in
         none r.0.name.at NextMissing (next_order (length q.states) r.1 (ap (is_state r.0.name) (slice_get_past q.states (length q.states) (omega arith))))
 
     by : (length q.next ≡ length q.states) ⊎ ((length q.next < length q.states) ⊎ (length q.states < length q.next)) → length q.next ≡ length q.states
@@ -116,7 +116,7 @@ module _ (p : Program) (t : Tables) (s : AreSeen p t) (f : IsFaultless p) where
   seen_by k plant n a h =
       let x = of_plant p t s k plant a in
       let e : plant.sees.items ≡ map (plant_place p) x.0.sees = ap (λ (y : PlantTable). y.sees) x.2 in
-      let m = of_map (plant_place p) x.0.sees h.0 n (subst (λ (l : List ℕ). At l h.0 n) e h.1) in
+      let m = at_mapped (plant_place p) x.0.sees h.0 n (subst (λ (l : List ℕ). At l h.0 n) e h.1) in
       (x.0, m.0, x.1, (h.0, m.1), m.2)
 
   pub sees_are : (k : ℕ) (plant : PlantInfo) (n : ℕ) → At t.plants k plant → Has plant.sees.items n → (other : PlantInfo) × At t.plants n other
@@ -176,7 +176,7 @@ module _ (p : Program) (t : Tables) (s : AreSeen p t) (f : IsFaultless p) where
   pub state_scales : (k : ℕ) (plant : PlantInfo) → At t.plants k plant → (i : ℕ) (info : StateInfo) → At plant.states.items i info → info.scale ≤ 6
   state_scales k plant a i info b =
       let x = of_plant p t s k plant a in
-      let m = of_map state_info x.0.states i info (subst (λ (l : List StateInfo). At l i info) (ap (λ (y : PlantTable). y.states) x.2) b) in
+      let m = at_mapped state_info x.0.states i info (subst (λ (l : List StateInfo). At l i info) (ap (λ (y : PlantTable). y.states) x.2) b) in
       let r = state_known p x.0 (plant_faultless p f k x.0 x.1) m.0 (i, m.1) in
       subst (λ (z : StateInfo). z.scale ≤ 6) m.2 (subst (λ z. sort_scale z ≤ 6) (sym r.1) r.2)
 
@@ -191,7 +191,7 @@ module _ (p : Program) (t : Tables) (s : AreSeen p t) (f : IsFaultless p) where
   pub noise_ranges : (k : ℕ) (plant : PlantInfo) → At t.plants k plant → (i : ℕ) (info : NoiseInfo) → At plant.noise.items i info → (info.scale ≤ 6) × IsNarrow info.lo info.hi
   noise_ranges k plant a i info b =
       let x = of_plant p t s k plant a in
-      let m = of_map noise_info x.0.noise i info (subst (λ (l : List NoiseInfo). At l i info) (ap (λ (y : PlantTable). y.noise) x.2) b) in
+      let m = at_mapped noise_info x.0.noise i info (subst (λ (l : List NoiseInfo). At l i info) (ap (λ (y : PlantTable). y.noise) x.2) b) in
       let y = scalar_is true m.0.scalar (λ at kind h. plant_faultless p f k x.0 x.1 at kind (noise_scalar (i, m.1) h)) in
       subst (λ (z : NoiseInfo). (z.scale ≤ 6) × IsNarrow z.lo z.hi) m.2 (y.scale, y.narrow refl)
 

@@ -13,8 +13,8 @@ use Rattle.sot_tree.specs.declared.tree.Const.TheVariants.{Number, Truth}
 use Rattle.sot_lang.specs.TableRules.{IsNarrow}
 use Rattle.sot_rules.specs.declared.fault.TypeKind.{TypeKind}
 use Rattle.sot_rules.specs.declared.fault.TypeKind.TheVariants.{ScaleDiffers, KindDiffers, RangeEmpty, InitOutside, RangeWide}
-use Rattle.sot_rules.specs.declared.sort.Sort.{Sort}
-use Rattle.sot_rules.specs.declared.sort.Sort.TheVariants.{Scaled, Truthful, Anything}
+use Rattle.sot_rules.specs.declared.expressions.sort.Sort.{Sort}
+use Rattle.sot_rules.specs.declared.expressions.sort.Sort.TheVariants.{Scaled, Truthful, Anything}
 use Rattle.sot_rules.specs.Sorts.{scale_sort, scalar_sort, differ, are_mixed, is_truthful}
 use Rattle.sot_rules.specs.TreeSorts.{is_no_scale}
 use Rattle.sot_rules.specs.Tests.{is_outside, sort_is}

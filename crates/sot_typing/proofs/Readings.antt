@@ -6,11 +6,11 @@ use Rattle.std.proofs.lemmas.List.{length-map, length-append}
 use Rattle.std.proofs.lemmas.List.Folds.{find_at}
 use Rattle.sot_lists.specs.Places.{At}
 use Rattle.sot_tree.specs.declared.tree.Ident.{Ident}
-use Rattle.sot_rules.specs.declared.sort.Sort.{Sort}
+use Rattle.sot_rules.specs.declared.expressions.sort.Sort.{Sort}
 use Rattle.sot_rules.specs.Names.{Part, Parts, alone, several, Thing, gives, part_reading, parts_reading, thing_reading, reading}
 use Rattle.sot_typing.specs.Terms.{Reference, parts_references, references, are_both, is_meant, place_of}
 use Rattle.sot_typing.proofs.Declared.{of_find}
-use Rattle.sot_typing.proofs.Lists.{at_lt, lt_at, at_map, at_left, at_right, of_map}
+use Rattle.sot_typing.proofs.Lists.{at_lt, at_below, at_map, at_left, at_right, at_mapped}
 
 -- the sorts of all that some things are, in order
 abbrev pub parts_sorts : Parts → List Sort
@@ -63,7 +63,7 @@ other_name : (first : Ident) (field : Option Ident) (name : List ℕ) (parts : P
 other_name first field name (alone s) e zero r a = (let q : record { name = name; field = None } ≡ r = cc in ap (is_meant first field) (sym q) ∙ ap (λ b. b && are_both field None) e)
 other_name first field name (alone s) e (suc k) r a = cc
 other_name first field name (several ps) e k r a =
-    let m = of_map (λ (x : Part). record { name = name; field = Some x.name }) ps k r a in
+    let m = at_mapped (λ (x : Part). record { name = name; field = Some x.name }) ps k r a in
     ap (is_meant first field) (sym m.2) ∙ ap (λ b. b && are_both field (Some m.0.name)) e
 
 -- the name of a thing
@@ -84,7 +84,7 @@ in_parts first (Some f) name (several ps) s e r =
     subst (λ n. At (map (λ (x : Part). x.sort) ps) n s) (sym same) (at_map (λ (x : Part). x.sort) ps _ x.0 at ∙ ap Some x.2)
 
 length_at : {A B : Type 0} (xs : List A) (ys : List B) (k : ℕ) (y : B) → length xs ≡ length ys → At ys k y → (x : A) × At xs k x
-length_at xs ys k y e a = (let l = at_lt ys k y a in lt_at xs k (omega arith))
+length_at xs ys k y e a = (let l = at_lt ys k y a in at_below xs k (omega arith))
 
 pub place_is : (things : List Thing) (first : Ident) (field : Option Ident) (s : Sort) → reading things first field ≡ gives s → At (thing_sorts things) (place_of things first field) s
 place_is [] first field s e = cc

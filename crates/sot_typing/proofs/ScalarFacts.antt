@@ -19,7 +19,7 @@ use Rattle.sot_rules.specs.Fails.{field_twice, many_fields, scalar, start}
 use Rattle.sot_rules.specs.Lists.{IsRepeated, IsPast, places}
 use Rattle.sot_rules.specs.Tests.{form_scalars, form_names}
 use Rattle.sot_typing.specs.Resolved.{topics, topic_place, scalar_count, first_scalar, field_names, topic_info}
-use Rattle.sot_typing.proofs.Lists.{at_lt, of_map, at_same}
+use Rattle.sot_typing.proofs.Lists.{at_lt, at_mapped, at_same}
 use Rattle.sot_typing.proofs.Once.{once_map, not_past}
 use Rattle.sot_typing.proofs.Meanings.{topic_own, topic_faultless, topic_formed}
 use Rattle.sot_typing.proofs.Ranges.{IsTyping, scalar_is, start_is, within_each}
@@ -32,13 +32,13 @@ field_once (one s) h zero zero x a b = refl
 field_once (one s) h zero (suc n) x a b = cc
 field_once (one s) h (suc m) n x a b = cc
 field_once (fields fs) h m n x a b =
-    let r = of_map (λ (f : Field). Some f.name.name) fs m x a in
-    let q = of_map (λ (f : Field). Some f.name.name) fs n x b in
+    let r = at_mapped (λ (f : Field). Some f.name.name) fs m x a in
+    let q = at_mapped (λ (f : Field). Some f.name.name) fs n x b in
     once_map (λ (f : Field). f.name) fs h m n r.0 q.0 r.1 q.1 (same_Some r.0.name.name q.0.name.name (r.2 ∙ sym q.2))
 
 plain : (s : Form) (m : ℕ) → At (field_names s) m None → length (form_scalars s) ≡ 1
 plain (one s) m a = refl
-plain (fields fs) m a = (let r = of_map (λ (f : Field). Some f.name.name) fs m None a in absurd (none-some r.0.name.name (sym r.2)))
+plain (fields fs) m a = (let r = at_mapped (λ (f : Field). Some f.name.name) fs m None a in absurd (none-some r.0.name.name (sym r.2)))
 
 some_scalar : (s : Form) → IsForm s → 1 ≤ length (form_scalars s)
 some_scalar (one s) f = omega arith

@@ -7,7 +7,7 @@ use Rattle.std.proofs.lemmas.List.{drop_all, length-map}
 use Rattle.sot_rules.specs.Names.{Part, Parts, alone, several, Thing, part_reading, parts_reading, thing_reading, reading, reading_sort}
 use Rattle.sot_rules.specs.Faults.{reading_faults}
 use Rattle.sot_rules.proofs.Loops.{rest_is}
-use Rattle.sot_typing.specs.declared.things.Thing.{Thing as Kept}
+use Rattle.sot_typing.specs.declared.names.things.Thing.{Thing as Kept}
 use Rattle.sot_typing.specs.Things.{parts_in, thing_in, things_in}
 use Rattle.sot_typing.specs.Terms.{Reference, parts_references, references, are_both, is_meant, place_of}
 

@@ -9,7 +9,7 @@ use Rattle.sot_lang.specs.declared.tables.ModuleInfo.{ModuleInfo}
 use Rattle.sot_lang.specs.Tables.{Tables}
 use Rattle.sot_tree.specs.Trees.{Topic, Plant, Node, Module, Program}
 use Rattle.sot_typing.specs.Resolved.{topics, plants, nodes, modules, topic_info, topic_scalars, plant_table, plant_seen, node_table, node_seen, module_info, tables_of, AreTables}
-use Rattle.sot_typing.proofs.Lists.{at_map, of_map}
+use Rattle.sot_typing.proofs.Lists.{at_map, at_mapped}
 
 -- each list of the tables
 pub record AreSeen (p : Program) (t : Tables) : Type 0 where
@@ -33,7 +33,7 @@ are_seen p t e = record {
 pub of_seen : {A B C : Type 0} (f : A → C) (g : B → C) (xs : List A) (ys : List B) → map f xs ≡ map g ys → (k : ℕ) (x : A) → At xs k x → (y : B) × At ys k y × (f x ≡ g y)
 of_seen {C = C} f g xs ys e k x a =
     let b : At (map g ys) k (f x) = subst (λ (l : List C). At l k (f x)) e (at_map f xs k x a) in
-    let r = of_map g ys k (f x) b in
+    let r = at_mapped g ys k (f x) b in
     (r.0, r.1, sym r.2)
 
 seen_in : {A B C : Type 0} (f : A → C) (g : B → C) (xs : List A) (ys : List B) → map f xs ≡ map g ys → (k : ℕ) (y : B) → At ys k y → (x : A) × At xs k x × (f x ≡ g y)
@@ -44,7 +44,7 @@ seen_length f g xs ys e = sym (length-map xs f) ∙ ap length e ∙ length-map y
 
 module _ (p : Program) (t : Tables) (s : AreSeen p t) where
   pub of_topic : (k : ℕ) (i : TopicInfo) → At t.topics k i → (x : Topic) × At (topics p) k x × (topic_info p x ≡ i)
-  of_topic k i a = of_map (topic_info p) (topics p) k i (subst (λ (l : List TopicInfo). At l k i) s.topics_are a)
+  of_topic k i a = at_mapped (topic_info p) (topics p) k i (subst (λ (l : List TopicInfo). At l k i) s.topics_are a)
 
   pub topic_in : (k : ℕ) (x : Topic) → At (topics p) k x → At t.topics k (topic_info p x)
   topic_in k x a = subst (λ (l : List TopicInfo). At l k (topic_info p x)) (sym s.topics_are) (at_map (topic_info p) (topics p) k x a)
@@ -71,7 +71,7 @@ module _ (p : Program) (t : Tables) (s : AreSeen p t) where
   node_length = seen_length node_seen (node_table p) t.nodes (nodes p) s.nodes_are
 
   pub of_module : (k : ℕ) (i : ModuleInfo) → At t.modules k i → (x : Module) × At (modules p) k x × (module_info p x ≡ i)
-  of_module k i a = of_map (module_info p) (modules p) k i (subst (λ (l : List ModuleInfo). At l k i) s.modules_are a)
+  of_module k i a = at_mapped (module_info p) (modules p) k i (subst (λ (l : List ModuleInfo). At l k i) s.modules_are a)
 
   pub module_in : (k : ℕ) (x : Module) → At (modules p) k x → At t.modules k (module_info p x)
   module_in k x a = subst (λ (l : List ModuleInfo). At l k (module_info p x)) (sym s.modules_are) (at_map (module_info p) (modules p) k x a)

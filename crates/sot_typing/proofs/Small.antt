@@ -18,8 +18,8 @@ use Rattle.sot_tree.specs.declared.tree.Scalar.TheVariants.{Int, Fix, Bool as Bo
 use Rattle.sot_tree.specs.declared.tree.StateDecl.{StateDecl}
 use Rattle.sot_tree.specs.Trees.{Form, one, fields, Topic, Plant, Local, Node, Declaration, a_topic, a_plant, a_node, a_module, Program}
 use Rattle.sot_rules.specs.declared.fault.TypeFault.{TypeFault}
-use Rattle.sot_rules.specs.declared.sort.Sort.{Sort}
-use Rattle.sot_rules.specs.declared.sort.Sort.TheVariants.{Scaled, Anything}
+use Rattle.sot_rules.specs.declared.expressions.sort.Sort.{Sort}
+use Rattle.sot_rules.specs.declared.expressions.sort.Sort.TheVariants.{Scaled, Anything}
 use Rattle.sot_rules.specs.Sorts.{scale_sort, scalar_sort, written_scale, state_sort}
 use Rattle.sot_rules.specs.Names.{declared_name, state_scope, Part, Parts, alone, several, Thing, field_part, state_part, form_parts, topic_thing, plant_thing, local_thing, state_thing, noise_thing, topic_meant, plant_meant, either_meant, meaning, part_reading, parts_reading, thing_reading, reading, reading_sort, node_scope, plant_scope}
 use Rattle.sot_rules.specs.TreeSorts.{is_no_scale}

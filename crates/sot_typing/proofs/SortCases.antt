@@ -4,8 +4,8 @@ use Rattle.std.specs.List.{list_any}
 use Rattle.sot_tree.specs.declared.operator.Op.{Op}
 use Rattle.sot_tree.specs.declared.operator.Op.TheVariants.{Add, Sub, Mul, Div, Less, LessEqual, Greater, GreaterEqual, Equal, NotEqual, And, Or}
 use Rattle.sot_lang.specs.TermRules.{GivesTruth}
-use Rattle.sot_rules.specs.declared.sort.Sort.{Sort}
-use Rattle.sot_rules.specs.declared.sort.Sort.TheVariants.{Scaled, Truthful, Anything}
+use Rattle.sot_rules.specs.declared.expressions.sort.Sort.{Sort}
+use Rattle.sot_rules.specs.declared.expressions.sort.Sort.TheVariants.{Scaled, Truthful, Anything}
 use Rattle.sot_rules.specs.Sorts.{is_truthful, is_scaled, kinds_misfit, scales_misfit, operator_sort, unless, given, call_sort, branches_misfit}
 use Rattle.sot_typing.proofs.Ranges.{IsKnown}
 

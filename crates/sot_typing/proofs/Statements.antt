@@ -5,7 +5,7 @@ use Rattle.sot_tree.specs.declared.tree.Ident.{Ident}
 use Rattle.sot_tree.specs.Trees.{Statement, Block, assigned, published, branched, repeated, no_statement, statement}
 use Rattle.sot_rules.specs.declared.fault.TypeKind.{TypeKind}
 use Rattle.sot_rules.specs.declared.fault.TypeKind.TheVariants.{Unknown, ScaleDiffers, KindDiffers, PeriodOutside}
-use Rattle.sot_rules.specs.declared.sort.Sort.{Sort}
+use Rattle.sot_rules.specs.declared.expressions.sort.Sort.{Sort}
 use Rattle.sot_rules.specs.Sorts.{is_scaled}
 use Rattle.sot_rules.specs.Names.{Thing, Scope, Reading, gives, nothing_at, reading}
 use Rattle.sot_rules.specs.TreeSorts.{has_decimals, sort}

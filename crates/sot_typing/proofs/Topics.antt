@@ -11,7 +11,7 @@ use Rattle.sot_rules.specs.First.{IsFaultless}
 use Rattle.sot_rules.specs.Fails.{other_count}
 use Rattle.sot_rules.specs.Tests.{form_scalars, start_values, start_place, counts_differ, starts}
 use Rattle.sot_typing.specs.Resolved.{topics, topic_place, scalar_count, first_scalar, field_names, scalar_info, topic_scalars}
-use Rattle.sot_typing.proofs.Lists.{at_lt, lt_at, of_map, of_zip, length_zip}
+use Rattle.sot_typing.proofs.Lists.{at_lt, at_below, at_mapped, of_zip, length_zip}
 use Rattle.sot_typing.proofs.Joined.{sum_place, at_joined, of_joined, length_joined}
 use Rattle.sot_typing.proofs.Meanings.{topic_own, topic_faultless}
 use Rattle.sot_typing.proofs.Tests.{no_true, same_number}
@@ -66,7 +66,7 @@ module _ (p : Program) (f : IsFaultless p) where
   pub of_scalar : (k : ℕ) (info : ScalarInfo) → At (flat_map (topic_scalars p) (topics p)) k info → IsScalarAt p k info
   of_scalar k info a =
       let r = of_joined (topic_scalars p) scalar_count (topics p) k info counts a in
-      let m = of_map (scalar_of (topic_place p r.1.name)) (zip (field_names r.1.shape) (starts r.1)) r.2 info r.4 in
+      let m = at_mapped (scalar_of (topic_place p r.1.name)) (zip (field_names r.1.shape) (starts r.1)) r.2 info r.4 in
       let z = of_zip (field_names r.1.shape) (starts r.1) r.2 m.0 m.1 in
       let e = starts_are r.1 (as_many p f r.0 r.1 r.3) in
       let y = of_zip (form_scalars r.1.shape) (start_values r.1.init) r.2 m.0.1 (subst (λ (l : List (Scalar × Const)). At l r.2 m.0.1) e z.1) in
@@ -89,7 +89,7 @@ module _ (p : Program) (f : IsFaultless p) where
   pub scalar_there : (j m : ℕ) (t : Topic) → At (topics p) j t → m < scalar_count t → (info : ScalarInfo) × At (flat_map (topic_scalars p) (topics p)) (first_scalar p j + m) info
   scalar_there j m t a l =
       let c = counts j t a in
-      let x = lt_at (topic_scalars p t) m (omega arith) in
+      let x = at_below (topic_scalars p t) m (omega arith) in
       (x.0, at_joined (topic_scalars p) scalar_count (topics p) j m t x.0 counts a x.1)
 
   pub scalar_total : length (flat_map (topic_scalars p) (topics p)) ≡ sum_by scalar_count (topics p)

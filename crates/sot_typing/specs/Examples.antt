@@ -97,7 +97,7 @@ line_tables = record {
       }
       ∷ [];
   modules =
-      record { name = codes "nav"; ac = 0; sc = 1; period = 4; offset = 0; plant = 0; safe = record { width = 1; boxes = ((record { lo = (negsuc 39); hi = (pos 40) } ∷ []) ∷ []); settled = false }; safer = record { width = 1; boxes = ((record { lo = (negsuc 9); hi = (pos 10) } ∷ []) ∷ []); settled = false } }
+      record { name = codes "nav"; ac = 0; sc = 1; period = 4; offset = 0; plant = 0; safe = record { width = 1; boxes = ((record { lo = (negsuc 39); hi = (pos 40) } ∷ []) ∷ []); settled = true }; safer = record { width = 1; boxes = ((record { lo = (negsuc 9); hi = (pos 10) } ∷ []) ∷ []); settled = true } }
       ∷ [];
 }
 
@@ -225,7 +225,7 @@ many_tables = record {
       }
       ∷ [];
   modules =
-      record { name = codes "a"; ac = 1; sc = 0; period = 8; offset = 3; plant = 0; safe = record { width = 2; boxes = ((record { lo = (pos 0); hi = (pos 10) } ∷ record { lo = (negsuc 2); hi = (pos 4) } ∷ []) ∷ (record { lo = (pos 25); hi = (pos 25) } ∷ record { lo = (pos 0); hi = (pos 0) } ∷ []) ∷ []); settled = false }; safer = record { width = 2; boxes = []; settled = false } }
-      ∷ record { name = codes "b"; ac = 1; sc = 0; period = 4; offset = 0; plant = 1; safe = record { width = 1; boxes = ((record { lo = (pos 0); hi = (pos 9) } ∷ []) ∷ []); settled = false }; safer = record { width = 1; boxes = ((record { lo = (pos 0); hi = (pos 1) } ∷ []) ∷ []); settled = false } }
+      record { name = codes "a"; ac = 1; sc = 0; period = 8; offset = 3; plant = 0; safe = record { width = 2; boxes = ((record { lo = (pos 0); hi = (pos 10) } ∷ record { lo = (negsuc 2); hi = (pos 4) } ∷ []) ∷ (record { lo = (pos 25); hi = (pos 25) } ∷ record { lo = (pos 0); hi = (pos 0) } ∷ []) ∷ []); settled = true }; safer = record { width = 2; boxes = []; settled = true } }
+      ∷ record { name = codes "b"; ac = 1; sc = 0; period = 4; offset = 0; plant = 1; safe = record { width = 1; boxes = ((record { lo = (pos 0); hi = (pos 9) } ∷ []) ∷ []); settled = true }; safer = record { width = 1; boxes = ((record { lo = (pos 0); hi = (pos 1) } ∷ []) ∷ []); settled = true } }
       ∷ [];
 }

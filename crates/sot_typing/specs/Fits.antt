@@ -3,7 +3,6 @@ use Rattle.std.specs.Prelude.{◌≡◌, ℕ, ◌≤◌, ◌<◌, true, [], Some
 use Rattle.std.specs.List.{All}
 use Rattle.sot_lists.specs.Places.{At}
 use Rattle.sot_tree.specs.Trees.{Topic, Plant, Node, Module, Declaration, a_topic, a_plant, a_node, a_module, Program}
-use Rattle.sot_tree.specs.Formed.{IsName}
 use Rattle.sot_rules.specs.Names.{meaning, is_plant, is_node, plant_scope, node_scope}
 use Rattle.sot_rules.specs.Faults.{together, plant_lists, node_lists}
 use Rattle.sot_typing.specs.Resolved.{state_count}
@@ -17,7 +16,6 @@ pub record TopicIsOwn (p : Program) (t : Topic) : Type 0 where
   pub own : meaning p t.name ≡ Some (a_topic t)
 
 pub record PlantFits (p : Program) (q : Plant) : Type 0 where
-  pub name : IsName q.name
   pub states : All StateFits q.states
   pub sees : All (λ i. is_plant (meaning p i) ≡ true) q.sees
   pub noise : All FieldFits q.noise
@@ -25,7 +23,6 @@ pub record PlantFits (p : Program) (q : Plant) : Type 0 where
   pub faultless : together (plant_lists p q) ≡ []
 
 pub record NodeFits (p : Program) (n : Node) : Type 0 where
-  pub name : IsName n.name
   pub period : nat_abs n.period.mantissa ≤ 1000
   pub offset : nat_abs n.offset.mantissa ≤ 1000
   pub locals : All LocalFits n.locals
@@ -33,7 +30,6 @@ pub record NodeFits (p : Program) (n : Node) : Type 0 where
   pub faultless : together (node_lists p n) ≡ []
 
 pub record ModuleFits (p : Program) (m : Module) : Type 0 where
-  pub name : IsName m.name
   pub ac : is_node (meaning p m.ac) ≡ true
   pub sc : is_node (meaning p m.sc) ≡ true
   pub period : nat_abs m.period.mantissa ≤ 1000

@@ -8,9 +8,7 @@ pub mod Examples
 pub mod Things
 pub mod Sorted
 pub mod Bodies
-pub mod MeantThings
 pub mod Parts
 pub mod Numbers
 pub mod Meant
 pub mod Fits
-pub mod Drafted

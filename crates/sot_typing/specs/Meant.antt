@@ -4,11 +4,11 @@ use Rattle.std.specs.List.{position_or_len}
 use Rattle.sot_lists.specs.Places.{At}
 use Rattle.sot_tree.specs.declared.tree.Ident.{Ident}
 use Rattle.sot_tree.specs.Trees.{Plant, Declaration, a_topic, a_plant, a_node, a_module, Program}
-use Rattle.sot_rules.specs.declared.index.Index.{Index}
+use Rattle.sot_rules.specs.declared.names.index.Index.{Index}
 use Rattle.sot_rules.specs.Indexes.{program_in, IsIndex}
 use Rattle.sot_rules.specs.Lists.{are_same}
 use Rattle.sot_rules.specs.Names.{meaning}
-use Rattle.sot_typing.specs.declared.numbers.Number.{Number}
+use Rattle.sot_typing.specs.declared.names.numbers.Number.{Number}
 use Rattle.sot_typing.specs.Resolved.{modules, topic_place, plant_place, node_place, first_scalar}
 use Rattle.sot_typing.specs.Numbers.{FitLimits, nothing_counted, numbers_of, scalars_in}
 

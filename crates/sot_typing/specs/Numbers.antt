@@ -1,8 +1,8 @@
 -- The numbers of declarations among those of their sort, as they are counted.
 use Rattle.std.specs.Prelude.{ℕ, ◌+◌, ◌≤◌, List, [], ◌∷◌, length, filter_map, sum_by}
 use Rattle.sot_tree.specs.Trees.{Declaration, a_topic, a_plant, a_node, a_module}
-use Rattle.sot_typing.specs.declared.numbers.Number.{Number}
-use Rattle.sot_typing.specs.declared.numbers.Counts.{Counts}
+use Rattle.sot_typing.specs.declared.names.numbers.Number.{Number}
+use Rattle.sot_typing.specs.declared.names.numbers.Counts.{Counts}
 use Rattle.sot_typing.specs.Resolved.{a_topic_of, a_plant_of, a_node_of, a_module_of, scalar_count}
 
 abbrev pub nothing_counted : Counts

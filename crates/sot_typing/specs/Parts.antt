@@ -1,5 +1,5 @@
--- What the parts of a declaration are to satisfy so that they have tables: their names are words of the language, and their
--- scales are at most 6. The parts of a program of the grammar without faults do.
+-- What the parts of a declaration are to satisfy so that they have tables: above all, scales are at most 6. The parts of a
+-- program of the grammar without faults do.
 use Rattle.std.specs.Prelude.{◌≡◌, ℕ, ◌≤◌, ◌≤ℤ◌, false, List, [], ◌∷◌, map, zip, length, Some}
 use Rattle.std.specs.List.{All}
 use Rattle.sot_tree.specs.declared.tree.Bounds.{Bounds}
@@ -8,22 +8,18 @@ use Rattle.sot_tree.specs.declared.tree.Field.{Field}
 use Rattle.sot_tree.specs.declared.tree.StateDecl.{StateDecl}
 use Rattle.sot_lang.specs.declared.tables.ScalarInfo.{ScalarInfo}
 use Rattle.sot_tree.specs.Trees.{Form, one, fields, Topic, Local, Area}
-use Rattle.sot_tree.specs.Formed.{IsName}
 use Rattle.sot_rules.specs.Sorts.{state_sort}
 use Rattle.sot_typing.specs.Terms.{sort_scale}
 use Rattle.sot_rules.specs.Tests.{counts_differ, starts}
 use Rattle.sot_typing.specs.Resolved.{scalar_scale, scalar_count, scalar_info, field_names}
 
 pub record StateFits (s : StateDecl) : Type 0 where
-  pub name : IsName s.name
   pub scale : sort_scale (state_sort s) ≤ 6
 
 pub record FieldFits (f : Field) : Type 0 where
-  pub name : IsName f.name
   pub scale : scalar_scale f.scalar ≤ 6
 
 pub record LocalFits (l : Local) : Type 0 where
-  pub name : IsName l.name
   pub scale : scalar_scale l.scalar ≤ 6
 
 abbrev pub FormFits : Form → Type 0
@@ -31,7 +27,6 @@ FormFits (one s) = scalar_scale s ≤ 6
 FormFits (fields fs) = All FieldFits fs
 
 pub record TopicFits (t : Topic) : Type 0 where
-  pub name : IsName t.name
   pub shape : FormFits t.shape
   pub few : scalar_count t ≤ 8
   pub starts : counts_differ t ≡ false

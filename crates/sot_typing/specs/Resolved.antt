@@ -1,5 +1,5 @@
 -- The tables of a program.
-use Rattle.std.specs.Prelude.{◌≡◌, ℕ, zero, suc, Bool, ℤ, pos, List, [], ◌∷◌, map, length, zip, Option, Some, None, option_map, nat_abs, flat_map, filter_map, sum_by, take, false}
+use Rattle.std.specs.Prelude.{◌≡◌, ℕ, zero, suc, Bool, true, ℤ, pos, List, [], ◌∷◌, map, length, zip, Option, Some, None, option_map, nat_abs, flat_map, filter_map, sum_by, take}
 use Rattle.std.specs.List.{position_or_len}
 use Rattle.sot_box.specs.BoxList.{BoxList}
 use Rattle.sot_box.specs.Sides.{Side}
@@ -219,7 +219,7 @@ node_seen i = record {
   body = option_map (λ v. deeds_view v.items) i.body;
 }
 
--- modules, with the boxes of their regions
+-- modules, with the boxes of their regions; each region is settled
 abbrev pub side_of : Bounds → Side
 side_of b = record { lo = b.lo.mantissa; hi = b.hi.mantissa }
 
@@ -227,7 +227,7 @@ abbrev pub state_count : Program → Ident → ℕ
 state_count p i = elim (meaning p i) as (λ x. ℕ) [ Some (a_plant q) ↦ length q.states | _ ↦ 0 ]
 
 abbrev pub region_of : Program → Ident → List Area → BoxList
-region_of p plant areas = record { width = state_count p plant; boxes = map (λ a. map side_of a.sides) areas; settled = false }
+region_of p plant areas = record { width = state_count p plant; boxes = map (λ a. map side_of a.sides) areas; settled = true }
 
 abbrev pub module_info : Program → Module → ModuleInfo
 module_info p m = record {

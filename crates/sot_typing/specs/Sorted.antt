@@ -1,9 +1,9 @@
 -- Expressions with places for names, as the code makes them, each with its sort.
 use Rattle.std.specs.Prelude.{◌≡◌, ◌≤◌, List, [], ◌∷◌}
 use Rattle.sot_lang.specs.declared.term.Term.{Term}
-use Rattle.sot_rules.specs.declared.sort.Sort.{Sort}
-use Rattle.sot_typing.specs.declared.terms.Sorted.{Sorted}
-use Rattle.sot_typing.specs.declared.terms.SortedList.{SortedList}
+use Rattle.sot_rules.specs.declared.expressions.sort.Sort.{Sort}
+use Rattle.sot_typing.specs.declared.code.terms.Sorted.{Sorted}
+use Rattle.sot_typing.specs.declared.code.terms.SortedList.{SortedList}
 use Rattle.sot_typing.specs.Formulas.{Formula, Formulas, no_formula, one_more, formula_view}
 use Rattle.sot_typing.specs.Terms.{sort_scale}
 

@@ -2,9 +2,9 @@
 use Rattle.std.specs.Prelude.{◌≤◌, List, map, length, Option}
 use Rattle.sot_tree.specs.declared.tree.Ident.{Ident}
 use Rattle.sot_rules.specs.Names.{Parts, alone, several, Thing, field_part, state_part, reading, reading_sort}
-use Rattle.sot_typing.specs.declared.things.Parts.{Parts as KeptParts}
-use Rattle.sot_typing.specs.declared.things.Parts.TheVariants.{Alone, Fields, States}
-use Rattle.sot_typing.specs.declared.things.Thing.{Thing as Kept}
+use Rattle.sot_typing.specs.declared.names.things.Parts.{Parts as KeptParts}
+use Rattle.sot_typing.specs.declared.names.things.Parts.TheVariants.{Alone, Fields, States}
+use Rattle.sot_typing.specs.declared.names.things.Thing.{Thing as Kept}
 use Rattle.sot_typing.specs.Terms.{references, sort_scale}
 
 abbrev pub parts_in : KeptParts → Parts

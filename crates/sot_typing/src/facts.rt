@@ -1,3 +1,4 @@
+//! Worked programs with their tables.
 ghost use Rattle.std.specs.Prelude.{◌≡◌};
 ghost use Rattle.sot_typing.specs.Examples.{line, line_tables, many, many_tables};
 ghost use Rattle.sot_typing.specs.Resolved.{tables_of};

@@ -1,3 +1,4 @@
+//! A program's tables, or the first rule of typing that it breaks.
 ghost use Rattle.std.specs.Prelude.{◌≡◌, None, IfOk, IfErr};
 ghost use Rattle.sot_tree.specs.TreeViews.{program_view};
 ghost use Rattle.sot_rules.specs.First.{IsFirstFault, IsFaultless};
@@ -6,11 +7,11 @@ ghost use Rattle.sot_rules.specs.declared.fault.TypeFault.{TypeFault as AFault};
 ghost use Rattle.sot_rules.specs.declared.fault.TypeFail.TheVariants.{Fault};
 ghost use Rattle.sot_typing.specs.Resolved.{AreTables};
 
-use crate::numbers::numbers;
-use crate::tables::all_tables;
+use crate::names::numbers::numbers;
+use crate::tables::lists::all_tables;
 use sot_lang::Typed;
-use sot_tree::Program;
 use sot_rules::{Index, TypeFail, first_fault};
+use sot_tree::Program;
 use std::alloc::{AllocError, Global};
 
 // The tables of a program in which no rule of typing fails.
@@ -21,14 +22,7 @@ fn faultless_tables(alloc: Global, program: &Program) -> Result<Typed, AllocErro
 {
     let index = Index::of(alloc, program)?;
     let numbers = numbers(alloc, &program.decls)?;
-    let drafted = all_tables(alloc, &index, &numbers)?;
-    Ok(Typed {
-        topics: drafted.topics,
-        scalars: drafted.scalars,
-        plants: drafted.plants,
-        nodes: drafted.nodes,
-        modules: drafted.modules,
-    })
+    all_tables(alloc, &index, &numbers)
 }
 
 /// The tables of a program, or the first rule of typing that it breaks, by its place in the text and then by its number.
@@ -37,16 +31,11 @@ pub fn resolve(alloc: Global, program: &Program) -> Result<Typed, TypeFail>
     requires formed { IsFormed (program_view program.now) }
     ensures faultless { IfOk result (λ t. IsFaultless (program_view program.now)) }
     ensures tables { IfOk result (λ t. AreTables (program_view program.now) t) }
-    ensures fault { IfErr result (λ e. (f : AFault) → e ≡ Fault f → IsFirstFault (program_view program.now) f) }
+    ensures fault { IfErr result
+        (λ e. (f : AFault) → e ≡ Fault f → IsFirstFault (program_view program.now) f) }
 {
-    let Ok(first) = first_fault(alloc, program) else {
-        return Err(TypeFail::Memory);
-    };
-    if let Some(fault) = first {
+    if let Some(fault) = first_fault(alloc, program)? {
         return Err(TypeFail::Fault(fault));
     }
-    match faultless_tables(alloc, program) {
-        Ok(tables) => Ok(tables),
-        Err(_) => Err(TypeFail::Memory),
-    }
+    Ok(faultless_tables(alloc, program)?)
 }

@@ -1,3 +1,4 @@
+-- Of `faultless_programs_are_as_stated`: its promises.
 use Rattle.std.proofs.Common.{refl}
 use Rattle.sot_rules.specs.Examples.{the_line, the_rest}
 use Rattle.sot_rules.proofs.FirstFault.{none_is}

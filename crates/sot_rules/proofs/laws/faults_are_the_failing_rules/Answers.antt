@@ -1,3 +1,4 @@
+-- Of `faults_are_the_failing_rules`: its promises.
 use Rattle.sot_rules.proofs.FirstFault.{listed, failing, first_is, none_is}
 use Rattle.sot_rules.proofs.laws.faults_are_the_failing_rules.Goals as goal
 

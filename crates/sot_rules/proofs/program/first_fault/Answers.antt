@@ -1,3 +1,4 @@
+-- Of `first_fault`: its promises.
 use Rattle.std.proofs.Common.{◌∙◌, sym, subst}
 use Rattle.sot_rules.specs.First.{IsFirstFault, IsFaultless}
 use Rattle.sot_rules.specs.Indexes.{program_in}

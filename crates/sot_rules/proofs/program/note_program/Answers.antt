@@ -1,3 +1,4 @@
+-- Of `note_program`: its promises.
 use Rattle.std.proofs.Common.{◌∙◌, [], map, ap}
 use Rattle.std.specs.Prelude.{flat_map}
 use Rattle.sot_tree.specs.TreeViews.{declaration_view}

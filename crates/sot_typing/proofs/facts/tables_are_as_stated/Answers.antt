@@ -1,3 +1,4 @@
+-- Of `tables_are_as_stated`: its promises.
 use Rattle.std.proofs.Common.{refl}
 use Rattle.sot_typing.specs.Resolved.{tables_of}
 use Rattle.sot_typing.proofs.facts.tables_are_as_stated.Goals as goal

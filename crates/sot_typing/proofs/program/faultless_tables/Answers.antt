@@ -1,14 +1,15 @@
-use Rattle.std.proofs.Common.{◌∙◌, ◌≤◌, ℕ, List, length, map, sym, ap, subst}
+-- Of `faultless_tables`: what its calls ask for, and its promises.
+use Rattle.std.proofs.Common.{IfOk, ◌∙◌, ◌≤◌, ℕ, List, length, map, sym, ap, subst}
 use Rattle.sot_lists.specs.Places.{At}
 use Rattle.sot_tree.specs.declared.tree.Decl.{Decl}
+use Rattle.sot_tree.specs.Formed.{IsFormed}
+use Rattle.sot_rules.specs.First.{IsFaultless}
 use Rattle.sot_tree.specs.Trees.{Plant, a_plant, Program}
 use Rattle.sot_tree.specs.TreeViews.{declaration_view, program_view}
 use Rattle.sot_typing.specs.Resolved.{AreTables}
 use Rattle.sot_typing.specs.Numbers.{FitLimits, nothing_counted, numbers_of}
 use Rattle.sot_typing.specs.Fits.{AllFit}
-use Rattle.sot_typing.specs.Drafted.{lists_of}
 use Rattle.sot_typing.proofs.Fitting.{are_few, all_fit, plant_narrow}
-use Rattle.sot_typing.proofs.Meets.{tables_meet}
 use Rattle.sot_typing.proofs.program.faultless_tables.Goals as goal
 
 pub numbers-requires : goal.numbers-requires
@@ -31,7 +32,11 @@ pub all_tables-requires-clause-fits : goal.all_tables-requires-clause-fits
 all_tables-requires-clause-fits c =
     subst AllFit (sym c.in_ok-index.ensures.program) (all_fit (program_view c.args.program.now) c.requires.formed c.requires.faultless)
 
-pub invariant_of-result : goal.invariant_of-result
-invariant_of-result c =
-    tables_meet (program_view c.args.program.now) _ c.requires.formed c.requires.faultless
-    (subst (λ z. AreTables z (lists_of c.in_ok-drafted.drafted)) c.in_ok-index.ensures.program c.in_ok-drafted.ensures)
+pub all_tables-requires-clause-formed : goal.all_tables-requires-clause-formed
+all_tables-requires-clause-formed c = subst IsFormed (sym c.in_ok-index.ensures.program) c.requires.formed
+
+pub all_tables-requires-clause-faultless : goal.all_tables-requires-clause-faultless
+all_tables-requires-clause-faultless c = subst IsFaultless (sym c.in_ok-index.ensures.program) c.requires.faultless
+
+pub returns : goal.returns
+returns c = subst (λ z. IfOk c.all_tables.result (λ t. AreTables z t)) c.in_ok-index.ensures.program c.all_tables.ensures

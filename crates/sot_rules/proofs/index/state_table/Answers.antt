@@ -1,8 +1,0 @@
-use Rattle.sot_rules.specs.Names.{state_part}
-use Rattle.sot_rules.proofs.NameTables.{sorts_more}
-use Rattle.sot_rules.proofs.index.state_table.Goals as goal
-
-pub loop-s-preserved : goal.loop-s-preserved
-loop-s-preserved c =
-    sorts_more state_part c.args.states.now c.loop-s.s-index c.s-item.result c.loop-s.table c.add.new.table _ _
-    c.loop-s-test.true c.s-item.is c.loop-s.invariant c.in_ok-add.ensures c.as_bytes.ensures c.state_sort.ensures

@@ -1,9 +1,0 @@
-use Rattle.std.proofs.Common.{◌≡◌, ℕ, List, map, take}
-use Rattle.sot_rules.specs.Names.{state_part}
-use Rattle.sot_rules.specs.NameTables.{found}
-use Rattle.sot_rules.specs.Indexes.{sort_in}
-use Rattle.sot_rules.proofs.index.state_table.Given as goal
-
--- the table gives what the state variables so far do
-abbrev pub invariant-loop-s : goal.invariant-loop-s
-invariant-loop-s l = (name : List ℕ) → found l.table name ≡ sort_in (map state_part (take l.s-index l.states)) name

@@ -1,9 +1,0 @@
-use Rattle.std.proofs.Common.{◌≡◌, map, drop, fold}
-use Rattle.sot_rules.specs.SeenNames.{seen_names, with_name}
-use Rattle.sot_rules.proofs.list.add_names.Given as goal
-
--- what is added, and then what is left
-abbrev pub invariant-loop-item : goal.invariant-loop-item
-invariant-loop-item g l =
-    fold with_name (seen_names l.set.keys) (map g.T.Named.ident (drop l.item-index l.items))
-    ≡ fold with_name (seen_names l.fn.set.keys) (map g.T.Named.ident l.items)

@@ -1,0 +1,13 @@
+-- Of `has_name`: its promises.
+use Rattle.std.proofs.Common.{◌∙◌, ap}
+use Rattle.std.specs.List.{list_any}
+use Rattle.std.specs.Str.{bytes_eq}
+use Rattle.sot_rules.specs.SeenNames.{seen_names}
+use Rattle.sot_rules.proofs.Repeats.{any_seen}
+use Rattle.sot_rules.proofs.names.repeats.has_name.Goals as goal
+
+pub returns : goal.returns
+returns c =
+    c.contains.ensures
+    ∙ any_seen c.as_bytes.result.now c.args.set.now.keys
+    ∙ ap (λ n. list_any (bytes_eq n) (seen_names c.args.set.now.keys)) c.as_bytes.ensures

@@ -1,6 +1,0 @@
-use Rattle.std.proofs.Common.{◌∙◌}
-use Rattle.sot_rules.proofs.Lookups.{part_found}
-use Rattle.sot_rules.proofs.scope.part_sort.Goals as goal
-
-pub returns : goal.returns
-returns c = c.copied.ensures ∙ c.get.ensures.value ∙ part_found c.args.name.now c.args.table.now.entries

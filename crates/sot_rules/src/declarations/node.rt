@@ -1,0 +1,164 @@
+//! The faults of a node.
+ghost use Rattle.std.specs.Prelude.{◌≡◌, ◌++◌, map, flat_map, OnOk};
+ghost use Rattle.sot_tree.specs.TreeViews.{local_view, node_view};
+ghost use Rattle.sot_tree.specs.Trees.{Node};
+ghost use Rattle.sot_rules.specs.Faults.{least, together, read_faults, write_lists, local_lists, node_lists};
+ghost use Rattle.sot_rules.specs.SeenNames.{HasNames};
+ghost use Rattle.sot_rules.specs.Indexes.{program_in, IsIndex};
+ghost use Rattle.sot_rules.specs.Groups.{reads_faults, writes_faults, locals_faults};
+
+use crate::declarations::limit::{note_passes, note_past};
+use crate::declarations::range::{note_scalar, note_start, note_times};
+use crate::fault::{TypeFault, TypeKind, note};
+use crate::names::index::Index;
+use crate::names::meaning::{is_environment, is_plant, is_topic};
+use crate::names::repeats::{add_names, has_name, names_of, note_repeated_names, note_repeats};
+use crate::statements::body::note_body;
+use indexmap::IndexSet;
+use sot_tree::{Ident, LocalDecl, NodeDecl};
+use std::alloc::{AllocError, Global};
+
+// A name among those that a node reads.
+fn note_read(index: &Index, name: &Ident, first: &mut Option<TypeFault>)
+    requires { IsIndex index.now }
+    ensures { first.new ≡ least first.old (read_faults (program_in index.now) name.now) }
+{
+    let meant = index.meaning(name);
+    let is_none = !is_topic(meant) && !is_plant(meant);
+    note(first, is_none, name.at, TypeKind::Unknown);
+}
+
+fn note_read_names(index: &Index, names: &[Ident], first: &mut Option<TypeFault>)
+    requires { IsIndex index.now }
+    ensures { first.new ≡ least first.old
+        (flat_map (read_faults (program_in index.now)) names.now) }
+{
+    for name in names {
+        note_read(index, name, first);
+    }
+}
+
+// What a node reads.
+#[tactic(auto, using(crate::proofs::Least::least_append))]
+fn note_reads(
+    alloc: Global,
+    index: &Index,
+    names: &[Ident],
+    first: &mut Option<TypeFault>,
+) -> Result<(), AllocError>
+    requires { IsIndex index.now }
+    ensures { OnOk result (first.new
+        ≡ least first.old (reads_faults (program_in index.now) names.now)) }
+{
+    note_read_names(index, names, first);
+    note_repeated_names(alloc, names, first)?;
+    note_passes(index, true, 64, names, first);
+    Ok(())
+}
+
+// A name among those that a node writes, where a set has those that it reads.
+#[tactic(auto, using(crate::proofs::Least::least_append))]
+fn note_write(index: &Index, reads: &IndexSet<&[u8]>, name: &Ident, first: &mut Option<TypeFault>)
+    requires { IsIndex index.now }
+    ensures { (n : Node) → HasNames reads.now.keys n.reads → first.new
+        ≡ least first.old (together (write_lists (program_in index.now) n name.now)) }
+{
+    let meant = index.meaning(name);
+    note(first, !is_topic(meant), name.at, TypeKind::Unknown);
+    note(first, is_environment(meant), name.at, TypeKind::KindDiffers);
+    let is_read = has_name(reads, name);
+    note(
+        first,
+        is_topic(meant) && is_read,
+        name.at,
+        TypeKind::ReadsAndWrites,
+    );
+}
+
+fn note_write_names(
+    index: &Index,
+    reads: &IndexSet<&[u8]>,
+    names: &[Ident],
+    first: &mut Option<TypeFault>,
+)
+    requires { IsIndex index.now }
+    ensures { (n : Node) → HasNames reads.now.keys n.reads → first.new
+        ≡ least first.old (flat_map
+        (λ i. together (write_lists (program_in index.now) n i)) names.now) }
+{
+    for name in names {
+        note_write(index, reads, name, first);
+    }
+}
+
+// What a node writes.
+#[tactic(auto, using(crate::proofs::Least::least_append))]
+fn note_writes(
+    alloc: Global,
+    index: &Index,
+    n: &NodeDecl,
+    first: &mut Option<TypeFault>,
+) -> Result<(), AllocError>
+    requires { IsIndex index.now }
+    ensures { OnOk result (first.new
+        ≡ least first.old (writes_faults (program_in index.now) (node_view n.now))) }
+{
+    let reads = names_of(alloc, &n.reads)?;
+    note_write_names(index, &reads, &n.writes, first);
+    note_repeated_names(alloc, &n.writes, first)?;
+    note_passes(index, false, 8, &n.writes, first);
+    Ok(())
+}
+
+// A local, where a set has the names of the topics and plants that its node uses.
+#[tactic(auto, using(crate::proofs::Least::least_append))]
+fn note_local(used: &IndexSet<&[u8]>, l: &LocalDecl, first: &mut Option<TypeFault>)
+    ensures { (n : Node) → HasNames used.now.keys (n.reads ++ n.writes) → first.new
+        ≡ least first.old (together (local_lists n (local_view l.now))) }
+{
+    note(first, has_name(used, &l.name), l.name.at, TypeKind::Twice);
+    note_scalar(false, l.scalar, first);
+    note_start(l.scalar, l.init, first);
+}
+
+fn note_each_local(used: &IndexSet<&[u8]>, locals: &[LocalDecl], first: &mut Option<TypeFault>)
+    ensures { (n : Node) → HasNames used.now.keys (n.reads ++ n.writes) → first.new
+        ≡ least first.old (flat_map (λ l. together (local_lists n l)) (map local_view locals.now)) }
+{
+    for l in locals {
+        note_local(used, l, first);
+    }
+}
+
+// The locals of a node.
+#[tactic(auto, using(crate::proofs::Least::least_append))]
+fn note_locals(alloc: Global, n: &NodeDecl, first: &mut Option<TypeFault>) -> Result<(), AllocError>
+    ensures { OnOk result (first.new ≡ least first.old (locals_faults (node_view n.now))) }
+{
+    let mut used = names_of(alloc, &n.reads)?;
+    add_names(&mut used, &n.writes)?;
+    note_each_local(&used, &n.locals, first);
+    note_repeats(alloc, &n.locals, first)?;
+    note_past(16, &n.locals, first);
+    Ok(())
+}
+
+/// A node: its period and offset, what it reads and writes, its locals and its body.
+#[tactic(auto, using(crate::proofs::Least::least_append))]
+pub fn note_node<'p>(
+    alloc: Global,
+    index: &Index<'p>,
+    n: &'p NodeDecl,
+    first: &mut Option<TypeFault>,
+) -> Result<(), AllocError>
+    requires { IsIndex index.now }
+    ensures { OnOk result (first.new
+        ≡ least first.old (together (node_lists (program_in index.now) (node_view n.now)))) }
+{
+    note_times(n.period, n.offset, first);
+    note_reads(alloc, index, &n.reads, first)?;
+    note_writes(alloc, index, n, first)?;
+    note_locals(alloc, n, first)?;
+    note_body(alloc, index, n, first)?;
+    Ok(())
+}

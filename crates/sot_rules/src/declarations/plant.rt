@@ -1,0 +1,225 @@
+//! The faults of a plant.
+ghost use Rattle.std.specs.Prelude.{◌≡◌, ◌++◌, flat_map, OnOk};
+ghost use Rattle.sot_tree.specs.Trees.{Plant};
+ghost use Rattle.sot_tree.specs.TreeViews.{plant_view};
+ghost use Rattle.sot_rules.specs.Tests.{state_names};
+ghost use Rattle.sot_rules.specs.Faults.{least, together, scale_faults, input_faults, seen_lists, noise_lists, plant_lists};
+ghost use Rattle.sot_rules.specs.SeenNames.{HasNames};
+ghost use Rattle.sot_rules.specs.Indexes.{program_in, IsIndex};
+ghost use Rattle.sot_rules.specs.Groups.{states_faults, inputs_faults, sees_faults, disturbances_faults};
+
+use crate::declarations::limit::{note_passes, note_past};
+use crate::declarations::next::note_nexts;
+use crate::declarations::range::{note_scalar, scalar_sort};
+use crate::expressions::sort::{is_no_scale, is_truthful};
+use crate::fault::{TypeFault, TypeKind, note};
+use crate::names::index::Index;
+use crate::names::meaning::{is_plant, is_topic};
+use crate::names::repeats::{
+    add_names, are_same, has_name, names_of, note_repeated_names, note_repeats,
+};
+use indexmap::IndexSet;
+use sot_tree::{Field, Ident, Lit, PlantDecl, StateDecl};
+use std::alloc::{AllocError, Global};
+
+fn note_scale(scale: Option<Lit>, first: &mut Option<TypeFault>)
+    ensures { first.new ≡ least first.old (scale_faults scale) }
+{
+    if let Some(d) = scale {
+        note(first, is_no_scale(d), d.at, TypeKind::ScaleDiffers);
+    }
+}
+
+fn note_scales(states: &[StateDecl], first: &mut Option<TypeFault>)
+    ensures { first.new ≡ least first.old (flat_map (λ s. scale_faults s.scale) states.now) }
+{
+    for state in states {
+        note_scale(state.scale, first);
+    }
+}
+
+// The state variables of a plant.
+#[tactic(auto, using(crate::proofs::Least::least_append))]
+fn note_states(
+    alloc: Global,
+    states: &[StateDecl],
+    first: &mut Option<TypeFault>,
+) -> Result<(), AllocError>
+    ensures { OnOk result (first.new ≡ least first.old (states_faults states.now)) }
+{
+    note_repeats(alloc, states, first)?;
+    note_past(4, states, first);
+    note_scales(states, first);
+    Ok(())
+}
+
+// A name among a plant's inputs, where a set has those of its state variables.
+#[tactic(auto, using(crate::proofs::Least::least_append))]
+fn note_input(index: &Index, states: &IndexSet<&[u8]>, name: &Ident, first: &mut Option<TypeFault>)
+    requires { IsIndex index.now }
+    ensures { (q : Plant) → HasNames states.now.keys (state_names q) → first.new
+        ≡ least first.old (input_faults (program_in index.now) q name.now) }
+{
+    let meant = index.meaning(name);
+    note(first, !is_topic(meant), name.at, TypeKind::Unknown);
+    let is_state = has_name(states, name);
+    note(first, is_topic(meant) && is_state, name.at, TypeKind::Twice);
+}
+
+fn note_input_names(
+    index: &Index,
+    states: &IndexSet<&[u8]>,
+    names: &[Ident],
+    first: &mut Option<TypeFault>,
+)
+    requires { IsIndex index.now }
+    ensures { (q : Plant) → HasNames states.now.keys (state_names q) → first.new
+        ≡ least first.old (flat_map (input_faults (program_in index.now) q) names.now) }
+{
+    for name in names {
+        note_input(index, states, name, first);
+    }
+}
+
+// The inputs of a plant.
+fn note_inputs(
+    alloc: Global,
+    index: &Index,
+    q: &PlantDecl,
+    first: &mut Option<TypeFault>,
+) -> Result<(), AllocError>
+    requires { IsIndex index.now }
+    ensures { OnOk result (first.new
+        ≡ least first.old (inputs_faults (program_in index.now) (plant_view q.now))) }
+{
+    let states = names_of(alloc, &q.states)?;
+    note_input_names(index, &states, &q.inputs, first);
+    note_repeated_names(alloc, &q.inputs, first)?;
+    note_passes(index, false, 8, &q.inputs, first);
+    Ok(())
+}
+
+// A name among the plants that a plant sees, where a set has the names of its state variables.
+#[tactic(auto, using(crate::proofs::Least::least_append))]
+fn note_seen(
+    index: &Index,
+    states: &IndexSet<&[u8]>,
+    q: &PlantDecl,
+    name: &Ident,
+    first: &mut Option<TypeFault>,
+)
+    requires indexed { IsIndex index.now }
+    requires states { HasNames states.now.keys (state_names (plant_view q.now)) }
+    ensures { first.new ≡ least first.old
+        (together (seen_lists (program_in index.now) (plant_view q.now) name.now)) }
+{
+    let meant = index.meaning(name);
+    let is_none = !is_topic(meant) && !is_plant(meant);
+    let is_own = are_same(name, &q.name);
+    let is_state = has_name(states, name);
+    note(first, is_none, name.at, TypeKind::Unknown);
+    note(first, is_topic(meant), name.at, TypeKind::KindDiffers);
+    note(
+        first,
+        is_plant(meant) && is_own,
+        name.at,
+        TypeKind::KindDiffers,
+    );
+    note(
+        first,
+        is_plant(meant) && (!is_own && is_state),
+        name.at,
+        TypeKind::Twice,
+    );
+}
+
+fn note_seen_names(
+    index: &Index,
+    states: &IndexSet<&[u8]>,
+    q: &PlantDecl,
+    names: &[Ident],
+    first: &mut Option<TypeFault>,
+)
+    requires indexed { IsIndex index.now }
+    requires states { HasNames states.now.keys (state_names (plant_view q.now)) }
+    ensures { first.new ≡ least first.old
+        (flat_map (λ i. together
+        (seen_lists (program_in index.now) (plant_view q.now) i)) names.now) }
+{
+    for name in names {
+        note_seen(index, states, q, name, first);
+    }
+}
+
+// The plants that a plant sees.
+fn note_sees(
+    alloc: Global,
+    index: &Index,
+    q: &PlantDecl,
+    first: &mut Option<TypeFault>,
+) -> Result<(), AllocError>
+    requires { IsIndex index.now }
+    ensures { OnOk result (first.new
+        ≡ least first.old (sees_faults (program_in index.now) (plant_view q.now))) }
+{
+    let states = names_of(alloc, &q.states)?;
+    note_seen_names(index, &states, q, &q.sees, first);
+    note_repeated_names(alloc, &q.sees, first)?;
+    note_past(16, &q.sees, first);
+    Ok(())
+}
+
+// A disturbance, where a set has the names that its plant uses.
+#[tactic(auto, using(crate::proofs::Least::least_append))]
+fn note_disturbance(used: &IndexSet<&[u8]>, f: &Field, first: &mut Option<TypeFault>)
+    ensures { (q : Plant) → HasNames used.now.keys (state_names q ++ q.inputs ++ q.sees)
+        → first.new ≡ least first.old (together (noise_lists q f.now)) }
+{
+    note(first, has_name(used, &f.name), f.name.at, TypeKind::Twice);
+    let is_truth = is_truthful(scalar_sort(f.scalar));
+    note(first, is_truth, f.name.at, TypeKind::KindDiffers);
+    note_scalar(true, f.scalar, first);
+}
+
+fn note_disturbances(used: &IndexSet<&[u8]>, noise: &[Field], first: &mut Option<TypeFault>)
+    ensures { (q : Plant) → HasNames used.now.keys (state_names q ++ q.inputs ++ q.sees)
+        → first.new ≡ least first.old (flat_map (λ f. together (noise_lists q f)) noise.now) }
+{
+    for f in noise {
+        note_disturbance(used, f, first);
+    }
+}
+
+// The disturbances of a plant.
+fn note_noise(alloc: Global, q: &PlantDecl, first: &mut Option<TypeFault>) -> Result<(), AllocError>
+    ensures { OnOk result (first.new ≡ least first.old (disturbances_faults (plant_view q.now))) }
+{
+    let mut used = names_of(alloc, &q.states)?;
+    add_names(&mut used, &q.inputs)?;
+    add_names(&mut used, &q.sees)?;
+    note_disturbances(&used, &q.noise, first);
+    note_repeats(alloc, &q.noise, first)?;
+    note_past(4, &q.noise, first);
+    Ok(())
+}
+
+/// A plant: its module, its state variables, what it takes in and sees, its disturbances and its `next` clauses.
+pub fn note_plant<'p>(
+    alloc: Global,
+    index: &Index<'p>,
+    q: &'p PlantDecl,
+    first: &mut Option<TypeFault>,
+) -> Result<(), AllocError>
+    requires { IsIndex index.now }
+    ensures { OnOk result (first.new
+        ≡ least first.old (together (plant_lists (program_in index.now) (plant_view q.now)))) }
+{
+    let is_lone = !index.has_module(&q.name);
+    note(first, is_lone, q.name.at, TypeKind::NoModule);
+    note_states(alloc, &q.states, first)?;
+    note_inputs(alloc, index, q, first)?;
+    note_sees(alloc, index, q, first)?;
+    note_noise(alloc, q, first)?;
+    note_nexts(alloc, index, q, first)?;
+    Ok(())
+}

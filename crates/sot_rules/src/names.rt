@@ -1,0 +1,9 @@
+//! Names: what they mean, and which of them an owner may use.
+pub mod gather;
+pub mod index;
+pub mod meaning;
+pub mod named;
+pub mod owner;
+pub mod repeats;
+pub mod scope;
+pub mod table;

@@ -1,0 +1,172 @@
+//! The declarations of a program by their names.
+ghost use Rattle.std.specs.Prelude.{◌≡◌, ◌++◌, ◌∷◌, [], ◌||◌, ◌<◌, ℕ, List, length, is_some, map, position, slice_get, Option, option_map, IfOk, OnOk, IfSome};
+ghost use Rattle.sot_tree.specs.Trees.{Declaration};
+ghost use Rattle.sot_tree.specs.TreeViews.{declaration_view, program_view};
+ghost use Rattle.sot_rules.specs.Names.{declared_name, field_part, meaning, state_part};
+ghost use Rattle.sot_rules.specs.Sorts.{state_sort};
+ghost use Rattle.sot_rules.specs.Tests.{has_module, is_plant_of};
+ghost use Rattle.sot_rules.specs.NameTables.{found};
+ghost use Rattle.sot_rules.specs.Indexes.{program_in, is_named, is_key, declared_parts, sort_in, Indexes, IsIndex};
+
+use crate::declarations::range::scalar_sort;
+use crate::expressions::sort::{Sort, scale_sort};
+use crate::names::scope::PartTable;
+use crate::names::table::add;
+use indexmap::{IndexMap, IndexSet};
+use sot_tree::{Decl, Field, Ident, Program, Shape, StateDecl};
+use std::alloc::{AllocError, Global};
+
+/// The declarations of a program by their names, with the parts of those that have several.
+#[derive(Drop)]
+pub struct Index<'p> {
+    pub decls: &'p [Decl],
+    /// The place of the first declaration of each name.
+    pub places: IndexMap<&'p [u8], usize>,
+    /// The plants that modules name as their own.
+    pub owned: IndexSet<&'p [u8]>,
+    /// For each declaration the fields of its record or its state variables, and an empty table for any other one.
+    pub parts: Vec<PartTable<'p>>,
+}
+
+/// The sort of a state variable.
+pub fn state_sort(s: &StateDecl) -> Sort
+    ensures { result ≡ state_sort s.now }
+{
+    match s.scale {
+        None => Sort::Scaled(0),
+        Some(d) => scale_sort(d),
+    }
+}
+
+/// The name of a declaration.
+pub fn declared_name(d: &Decl) -> &Ident
+    ensures { result.now ≡ declared_name (declaration_view d.now) }
+{
+    match d {
+        Decl::Topic(t) => &t.name,
+        Decl::Plant(q) => &q.name,
+        Decl::Node(n) => &n.name,
+        Decl::Module(m) => &m.name,
+    }
+}
+
+// The fields of a record, by their names.
+fn field_table<'p>(alloc: Global, fields: &'p [Field]) -> Result<PartTable<'p>, AllocError>
+    ensures { IfOk result (λ t. (name : List ℕ) → found t name
+        ≡ sort_in (map field_part fields.now) name) }
+{
+    let mut table = IndexMap::new(alloc);
+    for f in fields {
+        add(&mut table, f.name.name.as_bytes(), scalar_sort(f.scalar))?;
+    }
+    Ok(table)
+}
+
+// The state variables of a plant, by their names.
+fn state_table<'p>(alloc: Global, states: &'p [StateDecl]) -> Result<PartTable<'p>, AllocError>
+    ensures { IfOk result (λ t. (name : List ℕ) → found t name
+        ≡ sort_in (map state_part states.now) name) }
+{
+    let mut table = IndexMap::new(alloc);
+    for s in states {
+        add(&mut table, s.name.name.as_bytes(), state_sort(s))?;
+    }
+    Ok(table)
+}
+
+// The parts of a declaration that has several, by their names.
+fn part_table<'p>(alloc: Global, d: &'p Decl) -> Result<PartTable<'p>, AllocError>
+    ensures { IfOk result (λ t. (name : List ℕ) → found t name
+        ≡ sort_in (declared_parts (declaration_view d.now)) name) }
+{
+    match d {
+        Decl::Topic(t) => match &t.shape {
+            Shape::One(_) => Ok(IndexMap::new(alloc)),
+            Shape::Fields(fields) => field_table(alloc, fields),
+        },
+        Decl::Plant(q) => state_table(alloc, &q.states),
+        _ => Ok(IndexMap::new(alloc)),
+    }
+}
+
+// The plant that a module names as its own.
+fn note_owned<'p>(owned: &mut IndexSet<&'p [u8]>, d: &'p Decl) -> Result<(), AllocError>
+    ensures { OnOk result ((i : Ident) → is_key owned.new.keys i
+        ≡ (is_key owned.old.keys i || is_plant_of i (declaration_view d.now))) }
+{
+    match d {
+        Decl::Module(m) => {
+            let _ = owned.insert_full(m.plant.name.as_bytes())?;
+            Ok(())
+        }
+        _ => Ok(()),
+    }
+}
+
+impl<'p> Index<'p> {
+    /// The index of a program.
+    pub fn of(alloc: Global, program: &'p Program) -> Result<Index<'p>, AllocError>
+        ensures holds { IfOk result (λ x. IsIndex x) }
+        ensures program { IfOk result (λ x. program_in x ≡ program_view program.now) }
+    {
+        let mut index = Index {
+            decls: &program.decls,
+            places: IndexMap::new(alloc),
+            owned: IndexSet::new(alloc),
+            parts: Vec::new(alloc),
+        };
+        for d in &program.decls {
+            index.take_in(alloc, d)?;
+        }
+        Ok(index)
+    }
+
+    // One more declaration in the tables.
+    fn take_in(&mut self, alloc: Global, d: &'p Decl) -> Result<(), AllocError>
+        ensures held { OnOk result
+            ((ds : List Declaration) → Indexes ds self.old
+            → Indexes (ds ++ declaration_view d.now ∷ []) self.new) }
+        ensures decls { self.new.decls.now ≡ self.old.decls.now }
+    {
+        let place = self.parts.as_slice().len();
+        add(&mut self.places, declared_name(d).name.as_bytes(), place)?;
+        note_owned(&mut self.owned, d)?;
+        let table = part_table(alloc, d)?;
+        self.parts.push(table)?;
+        Ok(())
+    }
+
+    /// The place of the first declaration of a name.
+    pub fn place(&self, name: &Ident) -> Option<usize>
+        requires { IsIndex self.now }
+        ensures first { result ≡ position (is_named name.now.name) (program_in self.now).decls }
+        ensures known { is_some result ≡ is_some (meaning (program_in self.now) name.now) }
+        ensures meant { IfSome result
+            (λ k. slice_get (program_in self.now).decls k
+            ≡ meaning (program_in self.now) name.now) }
+        ensures within { IfSome result (λ k. k < length self.now.decls.now) }
+    {
+        self.places.get(name.name.as_bytes()).copied()
+    }
+
+    /// What a name means: its first declaration.
+    pub fn meaning(&self, name: &Ident) -> Option<&'p Decl>
+        requires { IsIndex self.now }
+        ensures { option_map (λ d. declaration_view d.now) result
+            ≡ meaning (program_in self.now) name.now }
+    {
+        let decls: &'p [Decl] = self.decls;
+        match self.place(name) {
+            None => None,
+            Some(k) => Some(&decls[k]),
+        }
+    }
+
+    /// Whether some module names the plant as its own.
+    pub fn has_module(&self, name: &Ident) -> bool
+        requires { IsIndex self.now }
+        ensures { result ≡ has_module (program_in self.now) name.now }
+    {
+        self.owned.contains(name.name.as_bytes())
+    }
+}

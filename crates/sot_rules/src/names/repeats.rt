@@ -1,0 +1,98 @@
+//! Names that stand twice in a list, and sets of names.
+ghost use Rattle.std.specs.Prelude.{◌≡◌, List, ◌++◌, [], map, OnOk, IfOk};
+ghost use Rattle.std.specs.List.{list_any};
+ghost use Rattle.std.specs.Str.{bytes_eq};
+ghost use Rattle.sot_tree.specs.declared.tree.Ident.{Ident};
+ghost use Rattle.sot_rules.specs.declared.fault.TypeKind.TheVariants.{Twice};
+ghost use Rattle.sot_rules.specs.Lists.{are_same};
+ghost use Rattle.sot_rules.specs.Faults.{least, when, repeats};
+ghost use Rattle.sot_rules.specs.SeenNames.{seen_names, with_name, HasNames};
+
+use crate::fault::{TypeFault, TypeKind, note};
+use crate::names::named::Named;
+use indexmap::IndexSet;
+use sot_tree::Ident;
+use std::alloc::{AllocError, Global};
+
+/// One name of a list, where the earlier ones were seen.
+pub fn note_repeat<'p>(
+    seen: &mut IndexSet<&'p [u8]>,
+    name: &'p Ident,
+    first: &mut Option<TypeFault>,
+) -> Result<(), AllocError>
+    ensures noted { OnOk result
+        (first.new ≡ least first.old
+        (when (list_any (bytes_eq name.now.name) (seen_names seen.old.keys)) name.now.at Twice)) }
+    ensures seen { OnOk result
+        (seen_names seen.new.keys ≡ with_name (seen_names seen.old.keys) name.now) }
+{
+    let (_, added) = seen.insert_full(name.name.as_bytes())?;
+    note(first, !added, name.at, TypeKind::Twice);
+    Ok(())
+}
+
+/// The things of a list whose names stand in it before.
+pub fn note_repeats<T: Named>(
+    alloc: Global,
+    items: &[T],
+    first: &mut Option<TypeFault>,
+) -> Result<(), AllocError>
+    ensures { OnOk result (first.new ≡ least first.old (repeats [] (map T.ident items.now))) }
+{
+    let mut seen = IndexSet::new(alloc);
+    for item in items {
+        note_repeat(&mut seen, item.ident(), first)?;
+    }
+    Ok(())
+}
+
+/// The names of a list that stand in it before.
+pub fn note_repeated_names(
+    alloc: Global,
+    names: &[Ident],
+    first: &mut Option<TypeFault>,
+) -> Result<(), AllocError>
+    ensures { OnOk result (first.new ≡ least first.old (repeats [] names.now)) }
+{
+    note_repeats(alloc, names, first)
+}
+
+/// Adds the names of a list to those of a set.
+pub fn add_names<'p, T: Named>(
+    set: &mut IndexSet<&'p [u8]>,
+    items: &'p [T],
+) -> Result<(), AllocError>
+    ensures { OnOk result ((names : List Ident) → HasNames set.old.keys names
+        → HasNames set.new.keys (names ++ map T.ident items.now)) }
+{
+    for item in items {
+        set.insert_full(item.ident().name.as_bytes())?;
+    }
+    Ok(())
+}
+
+/// The names of a list, as a set.
+pub fn names_of<'p, T: Named>(
+    alloc: Global,
+    items: &'p [T],
+) -> Result<IndexSet<&'p [u8]>, AllocError>
+    ensures { IfOk result (λ set. HasNames set.keys (map T.ident items.now)) }
+{
+    let mut set = IndexSet::new(alloc);
+    add_names(&mut set, items)?;
+    Ok(set)
+}
+
+/// Whether a name is in a set.
+pub fn has_name(set: &IndexSet<&[u8]>, name: &Ident) -> bool
+    ensures { result ≡ list_any (bytes_eq name.now.name) (seen_names set.now.keys) }
+{
+    set.contains(name.name.as_bytes())
+}
+
+/// Whether two names are the same word.
+pub fn are_same(a: &Ident, b: &Ident) -> bool
+    ensures { result ≡ are_same a.now b.now }
+{
+    a.name.as_bytes() == b.name.as_bytes()
+}

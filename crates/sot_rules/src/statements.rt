@@ -1,0 +1,4 @@
+//! Statements: their faults, and their count with loops unrolled.
+pub mod body;
+pub mod statement;
+pub mod unrolled;

@@ -1,0 +1,48 @@
+//! The faults of a node's body.
+ghost use Rattle.std.specs.Prelude.{◌≡◌, OnOk};
+ghost use Rattle.sot_tree.specs.TreeViews.{block_view, node_view};
+ghost use Rattle.sot_rules.specs.Names.{node_scope};
+ghost use Rattle.sot_rules.specs.Tests.{block_unrolled};
+ghost use Rattle.sot_rules.specs.Faults.{body_faults, least, past};
+ghost use Rattle.sot_rules.specs.Indexes.{program_in, IsIndex};
+
+use crate::fault::{TypeFault, TypeKind, note};
+use crate::names::index::Index;
+use crate::names::owner::node_scope;
+use crate::statements::statement::block;
+use crate::statements::unrolled::{Reached, reach_block};
+use sot_tree::{NodeDecl, Stmt};
+use std::alloc::{AllocError, Global};
+
+// The first statement past 10,000.
+fn note_many(body: &[Stmt], first: &mut Option<TypeFault>)
+    ensures { first.new ≡ least first.old (past 10000 (block_unrolled (block_view body.now))) }
+{
+    match reach_block(body, 10_000) {
+        Reached::At(at) => note(first, true, at, TypeKind::TooMany),
+        Reached::Left(_) => {}
+    }
+}
+
+/// The statements of a node, and their count with loops unrolled.
+pub fn note_body<'p>(
+    alloc: Global,
+    index: &Index<'p>,
+    n: &'p NodeDecl,
+    first: &mut Option<TypeFault>,
+) -> Result<(), AllocError>
+    requires { IsIndex index.now }
+    ensures { OnOk result (first.new
+        ≡ least first.old (body_faults (node_scope (program_in index.now) (node_view n.now))
+        (node_view n.now).body)) }
+{
+    match &n.body {
+        None => Ok(()),
+        Some(body) => {
+            let scope = node_scope(alloc, index, n)?;
+            block(body, &scope, first);
+            note_many(body, first);
+            Ok(())
+        }
+    }
+}

@@ -1,7 +1,0 @@
-use Rattle.std.proofs.Common.{◌≡◌, map, take}
-use Rattle.sot_tree.specs.TreeViews.{local_view}
-use Rattle.sot_typing.specs.Resolved.{local_info}
-use Rattle.sot_typing.proofs.part.local_infos.Given as goal
-
-abbrev pub invariant-loop-l : goal.invariant-loop-l
-invariant-loop-l l = l.infos.items ≡ map local_info (map local_view (take l.l-index l.locals))

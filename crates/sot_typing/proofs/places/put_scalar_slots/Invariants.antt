@@ -1,9 +1,0 @@
-use Rattle.std.proofs.Common.{◌≡◌, ◌++◌, ◌+◌, ◌-◌, map}
-use Rattle.sot_lang.specs.declared.tables.Slot.TheVariants.{Scalar}
-use Rattle.sot_typing.specs.Resolved.{counted_from}
-use Rattle.sot_typing.proofs.places.put_scalar_slots.Given as goal
-
-abbrev pub invariant-loop-i : goal.invariant-loop-i
-invariant-loop-i l =
-    l.slots.items ++ map (λ k. Scalar k) (counted_from (l.first + l.i) (l.count - l.i))
-    ≡ l.initial.slots.items ++ map (λ k. Scalar k) (counted_from l.first l.count)

@@ -1,6 +1,0 @@
-use Rattle.std.proofs.Common.{◌≡◌, map, take}
-use Rattle.sot_typing.specs.Resolved.{side_of}
-use Rattle.sot_typing.proofs.region.box_of.Given as goal
-
-abbrev pub invariant-loop-b : goal.invariant-loop-b
-invariant-loop-b l = l.intervals.items ≡ map side_of (take l.b-index l.sides)

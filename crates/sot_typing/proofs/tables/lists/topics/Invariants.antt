@@ -1,0 +1,12 @@
+-- The loop of `topics`: what stands, and then the tables of the declarations that are left.
+use Rattle.std.proofs.Common.{◌≡◌, ◌++◌, map, drop}
+use Rattle.std.specs.Prelude.{filter_map}
+use Rattle.sot_tree.specs.TreeViews.{declaration_view}
+use Rattle.sot_rules.specs.Indexes.{program_in}
+use Rattle.sot_typing.specs.Resolved.{a_topic_of, topic_info}
+use Rattle.sot_typing.proofs.tables.lists.topics.Given as goal
+
+abbrev pub invariant-loop-d : goal.invariant-loop-d
+invariant-loop-d l =
+    l.topics.items ++ map (topic_info (program_in l.index)) (filter_map a_topic_of (map declaration_view (drop l.d-index l.index.decls.now)))
+    ≡ map (topic_info (program_in l.index)) (filter_map a_topic_of (map declaration_view l.index.decls.now))

@@ -1,6 +1,0 @@
-use Rattle.std.proofs.Common.{ap, length}
-use Rattle.sot_worked.proofs.Calls.{pos_may_tick}
-use Rattle.sot_worked.proofs.tests.moved.Goals as goal
-
-pub plant_next-requires : goal.plant_next-requires
-plant_next-requires c = pos_may_tick _ c.in_ok-p.p c.at.result _ _ c.in_ok-p.ensures (ap length c.at.ensures)
