@@ -2,6 +2,7 @@ pub mod Slots
 pub mod Within
 pub mod Left
 pub mod Sweeps
+pub mod Indexes
 pub mod Hulls
 pub mod Equals
 pub mod Laws

@@ -7,4 +7,5 @@ pub mod BoxList
 pub mod PointSlots
 pub mod BoxSlots
 pub mod Sweep
+pub mod Index
 pub mod Widened

@@ -74,6 +74,14 @@ impl BoxN {
         slots[i]
     }
 
+    /// The interval of the first axis.
+    pub(crate) fn first(&self) -> Interval
+        ensures { slice_get self.now 0 ≡ Some result }
+    {
+        let slots = &self.sides;
+        slots[0]
+    }
+
     /// Whether the point is in the box.
     pub fn has(&self, p: &Point) -> bool
         requires { length p.now ≡ length self.now }

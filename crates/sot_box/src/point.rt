@@ -59,6 +59,14 @@ impl Point {
         slots[i]
     }
 
+    /// The coordinate on the first axis.
+    pub(crate) fn first(&self) -> i64
+        ensures { slice_get self.now 0 ≡ Some result }
+    {
+        let slots = &self.at;
+        slots[0]
+    }
+
     /// Changes the coordinate on axis `i` to `v`.
     pub(crate) fn set(&mut self, i: usize, v: i64)
         requires { i < length self.old }

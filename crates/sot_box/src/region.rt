@@ -1,12 +1,15 @@
-ghost use Rattle.std.specs.Prelude.{◌≡◌, ℕ, [], ◌∷◌, ◌++◌, ◌<◌, ◌≤◌, length, slice_get, Some, OnOk, OnErr, IfErr, MatchOption, IsTrue, ◌↔◌};
+//! Regions: lists of boxes, and what they cover.
+
+ghost use Rattle.std.specs.Prelude.{◌≡◌, ℕ, [], ◌∷◌, ◌++◌, ◌<◌, ◌≤◌, length, slice_get, Some, false, true, OnOk, OnErr, IfErr, IfSome, MatchOption, IsTrue, ◌↔◌};
 ghost use Rattle.sot_box.specs.Sides.{AreOrdered};
 ghost use Rattle.sot_box.specs.Regions.{IsInRegion, Covers, IsGap, IsHull, IsFirstGap, CoversAll};
 ghost use Rattle.sot_box.specs.Sweep.{HoldsAt};
 
 use crate::box_n::BoxN;
+use crate::index::Index;
 use crate::point::Point;
 use crate::sweep::{advance, narrow};
-use std::alloc::Global;
+use std::alloc::{AllocError, Global};
 use std::marker::Model;
 
 /// Boxes of one width, in order. A point is in the region where it is in some box.
@@ -14,19 +17,24 @@ use std::marker::Model;
 pub struct Region {
     width: usize,
     boxes: Vec<BoxN>,
+    index: Option<Index>,
 }
 
 impl Model for Region {
-    ghost use Rattle.std.specs.Prelude.{◌≡◌, length, false};
+    ghost use Rattle.std.specs.Prelude.{◌≡◌, length, is_some, MatchOption};
     ghost use Rattle.std.specs.List.{All};
     ghost use Rattle.sot_box.specs.Sides.{AreOrdered};
     ghost use Rattle.sot_box.specs.BoxList.{BoxList};
+    ghost use Rattle.sot_box.specs.Index.{IsIndex};
 
     ghost Value = { BoxList };
 
-    ghost view = { λ r. record { width = r.width; boxes = r.boxes.items; settled = false } };
+    ghost view = { λ r. record { width = r.width; boxes = r.boxes.items; settled = is_some r.index } };
 
-    ghost invariant = { λ r. All (λ b. (length b ≡ r.width) × AreOrdered b) r.boxes.items };
+    ghost invariant = { λ r. record {
+      boxes : All (λ b. (length b ≡ r.width) × AreOrdered b) r.boxes.items;
+      index : MatchOption r.index (Unit {0}) (λ x. IsIndex r.boxes.items x.entries.items x.reaches.items);
+    } };
 }
 
 impl Region {
@@ -35,10 +43,12 @@ impl Region {
     pub fn none(alloc: Global, width: usize) -> Region
         ensures width { result.width ≡ width }
         ensures empty { result.boxes ≡ [] }
+        ensures unsettled { result.settled ≡ false }
     {
         Region {
             width,
             boxes: Vec::new(alloc),
+            index: None,
         }
     }
 
@@ -60,10 +70,12 @@ impl Region {
         boxes[i]
     }
 
-    /// Puts a box behind the others. Where there is no memory it hands the box back.
+    /// Puts a box behind the others, and drops the index. Where there is no memory it hands the box
+    /// back.
     pub fn push(&mut self, b: BoxN) -> Result<(), BoxN>
         requires { length b ≡ self.old.width }
         ensures ok { OnOk result (self.new.boxes ≡ self.old.boxes ++ b ∷ []) }
+        ensures unsettled { OnOk result (self.new.settled ≡ false) }
         ensures memory { IfErr result (λ back. back ≡ b) }
         ensures unchanged { OnErr result (self.new ≡ self.old) }
         ensures width { self.new.width ≡ self.old.width }
@@ -71,9 +83,29 @@ impl Region {
         let fits = b.len() == self.width;
         prove!(fits);
         match self.boxes.push(b) {
-            Ok(()) => Ok(()),
+            Ok(()) => {
+                self.index = None;
+                Ok(())
+            }
             Err(failed) => Err(failed.value),
         }
+    }
+
+    /// Builds an index of the boxes, by which points are looked for until a box is pushed. The boxes
+    /// stay as they are, and so does what every other call answers. It takes the time of a sort, and
+    /// memory for two numbers and a place a box. Where there is none, no index is left.
+    pub fn settle(&mut self) -> Result<(), AllocError>
+        ensures ok { OnOk result (self.new.settled ≡ true) }
+        ensures memory { OnErr result (self.new.settled ≡ false) }
+        ensures boxes { self.new.boxes ≡ self.old.boxes }
+        ensures width { self.new.width ≡ self.old.width }
+    {
+        // what an old index takes is free before a new one is built
+        let _ = self.index.take();
+        let alloc = *self.boxes.allocator();
+        let index = Index::of(alloc, &self.boxes)?;
+        self.index = Some(index);
+        Ok(())
     }
 
     /// The place of a box that holds the point, of those from `from` up to `to`: the first one.
@@ -92,9 +124,9 @@ impl Region {
         None
     }
 
-    /// The place of a box that holds the point. It looks from the place `hint` on first: neighbours
-    /// mostly stand near each other.
-    fn holder(&self, hint: usize, p: &Point) -> Option<usize>
+    /// The place of a box that holds the point, by looking at each. It looks from the place `hint` on
+    /// first: neighbours mostly stand near each other.
+    fn plain_holder(&self, hint: usize, p: &Point) -> Option<usize>
         requires { length p.now ≡ self.now.width }
         ensures { MatchOption result
             (¬ IsInRegion self.now.boxes p.now) (λ i. HoldsAt self.now.boxes i p.now) }
@@ -104,6 +136,18 @@ impl Region {
         match self.holder_between(start, all, p) {
             Some(i) => Some(i),
             None => self.holder_between(0, start, p),
+        }
+    }
+
+    /// The place of a box that holds the point: by the index where there is one.
+    fn holder(&self, hint: usize, p: &Point) -> Option<usize>
+        requires { length p.now ≡ self.now.width }
+        ensures { MatchOption result
+            (¬ IsInRegion self.now.boxes p.now) (λ i. HoldsAt self.now.boxes i p.now) }
+    {
+        match &self.index {
+            Some(index) => index.holder(&self.boxes, p),
+            None => self.plain_holder(hint, p),
         }
     }
 
@@ -146,7 +190,8 @@ impl Region {
 
     /// The least box around the region, and `None` where there is no box.
     pub fn hull(&self) -> Option<BoxN>
-        ensures { MatchOption result (self.now.boxes ≡ []) (λ b. IsHull self.now.boxes b) }
+        ensures least { MatchOption result (self.now.boxes ≡ []) (λ b. IsHull self.now.boxes b) }
+        ensures width { IfSome result (λ b. length b ≡ self.now.width) }
     {
         if self.len() == 0 {
             return None;

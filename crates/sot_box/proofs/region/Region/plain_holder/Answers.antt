@@ -4,7 +4,7 @@ use Rattle.sot_box.specs.Sides.{Side}
 use Rattle.sot_box.specs.Regions.{IsInRegion}
 use Rattle.sot_box.specs.Sweep.{HoldsAt}
 use Rattle.sot_box.proofs.Within.{region-place}
-use Rattle.sot_box.proofs.region.Region.holder.Goals as goal
+use Rattle.sot_box.proofs.region.Region.plain_holder.Goals as goal
 
 -- a search of all places in two halves finds the box that holds a point
 both-halves : (boxes : List (List Side)) (p : List ℤ) (start all : ℕ) (o : Option ℕ) → all ≡ length boxes
