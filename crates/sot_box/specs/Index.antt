@@ -2,7 +2,7 @@
 use Rattle.std.specs.Prelude.{◌≡◌, ℕ, ◌+◌, ◌<◌, ◌≤◌, ◌≤ℤ◌, ℤ, List, [], ◌∷◌, length, slice_index_or}
 use Rattle.std.specs.List.Sorted.{IsPermutation}
 use Rattle.sot_box.specs.Sides.{Side}
-use Rattle.sot_box.specs.Lists.{At}
+use Rattle.sot_lists.specs.Places.{At}
 use Rattle.sot_box.specs.Boxes.{lows, highs}
 use Rattle.sot_box.specs.Sweep.{coordinate}
 use Rattle.sot_box.specs.declared.index.Entry.{Entry}

@@ -1,6 +1,6 @@
 ghost use Rattle.std.specs.Prelude.{◌≡◌, ◌<◌, ◌≤◌, length, IfSome, IfOk};
 
-use super::*;
+use sot_box::{BoxN, Interval, Point, Region, uncovered};
 use std::alloc::Global;
 use std::test::Fail;
 

@@ -1,0 +1,4 @@
+//! The tests, by what they test.
+
+mod regions;
+mod settled;
