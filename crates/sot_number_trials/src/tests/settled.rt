@@ -1,9 +1,9 @@
 //! Regions before and after they are settled: the same questions have the same answers, worked by hand.
 
-ghost use Rattle.std.specs.Prelude.{◌≡◌, length, IfOk, IfSome};
+ghost use Rattle.std.specs.Prelude.{◌≡◌, true, length, IfOk, IfSome};
 
 use sot_box::{BoxN, Interval, Point, Region, uncovered};
-use std::alloc::Global;
+use std::alloc::{AllocError, Global};
 use std::process::Abort;
 use std::test::Fail;
 
@@ -42,6 +42,15 @@ fn region_of(alloc: Global, squares: &[Square]) -> Result<Region, Fail>
         let b = box_of(*s).ok_or("a box")?;
         region.push(b)?;
     }
+    Ok(region)
+}
+
+/// The region with an index, and otherwise the same.
+fn settled(region: Region) -> Result<Region, AllocError>
+    ensures { IfOk result (λ r. r ≡ record region { settled = true }) }
+{
+    let mut region = region;
+    region.settle()?;
     Ok(region)
 }
 
@@ -170,8 +179,7 @@ fn boxes_that_begin_at_one_place(rt: HostRuntime) -> Result<(), Fail> {
 
 #[test]
 fn a_box_that_comes_later_is_found(rt: HostRuntime) -> Result<(), Fail> {
-    let mut region = region_of(rt.alloc(), &[spanning((5, 6), (0, 0))])?;
-    region.settle()?;
+    let mut region = settled(region_of(rt.alloc(), &[spanning((5, 6), (0, 0))])?)?;
     let late = box_of(spanning((0, 2), (0, 0))).ok_or("late")?;
     let p = Point::of(&[1, 0]).ok_or("p")?;
     assert!(rt; !region.has(&p));
