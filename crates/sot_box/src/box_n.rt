@@ -1,3 +1,5 @@
+//! Boxes: an interval for each axis.
+
 ghost use Rattle.std.specs.Prelude.{◌≡◌, ◌<◌, ◌≤◌, ◌≤ℤ◌, ◌⊎◌, length, slice_get, slice_set, Some, MatchOption, IsTrue, ◌↔◌};
 ghost use Rattle.sot_box.specs.Sides.{AreOrdered};
 ghost use Rattle.sot_box.specs.Boxes.{IsWithin, lows, highs};

@@ -1,3 +1,5 @@
+//! Intervals of whole numbers.
+
 ghost use Rattle.std.specs.Prelude.{◌≡◌, ◌<ℤ◌, MatchOption};
 
 use std::marker::Model;

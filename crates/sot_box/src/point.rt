@@ -1,3 +1,5 @@
+//! Points: a number for each axis.
+
 ghost use Rattle.std.specs.Prelude.{◌≡◌, ◌<◌, ◌≤◌, ◌⊎◌, length, slice_get, slice_set, Some, replicate, pos, MatchOption};
 
 use std::marker::Model;

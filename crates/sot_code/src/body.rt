@@ -1,3 +1,5 @@
+//! The execution of statements on numbers.
+
 ghost use Rattle.std.specs.Prelude.{◌≡◌, ◌+◌, ◌<◌, length, take, drop};
 ghost use Rattle.sot_lang.specs.Bodies.{within, in_range};
 ghost use Rattle.sot_lang.specs.Ranges.{local_ranges, write_ranges};

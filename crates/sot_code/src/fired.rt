@@ -1,3 +1,5 @@
+//! What a firing leaves.
+
 use crate::locals::Locals;
 use sot_lang::Draft;
 

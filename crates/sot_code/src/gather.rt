@@ -1,3 +1,5 @@
+//! The numbers of an owner's names, gathered in one list.
+
 ghost use Rattle.std.specs.Prelude.{◌≡◌, ◌+◌, ◌≤◌, ◌++◌, length, take};
 
 use crate::locals::Locals;

@@ -20,6 +20,4 @@ pub use locals::Locals;
 pub use node::run_node;
 pub use plant::plant_next;
 pub use seen::Seen;
-
-#[cfg(test)]
-mod tests;
+pub use term::value;

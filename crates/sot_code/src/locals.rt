@@ -1,3 +1,5 @@
+//! The locals of a node, as numbers.
+
 ghost use Rattle.std.specs.Prelude.{◌≡◌, ◌<◌, ◌≤◌, length, slice_get, Some, MatchOption};
 
 use std::marker::Model;

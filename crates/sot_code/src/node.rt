@@ -1,3 +1,5 @@
+//! The execution of a coded node.
+
 ghost use Rattle.std.specs.Prelude.{◌≡◌, ◌+◌, ◌≤◌, length, take, drop};
 ghost use Rattle.sot_lang.specs.Bodies.{execution};
 ghost use Rattle.sot_lang.specs.Ranges.{local_ranges, write_ranges};

@@ -1,3 +1,5 @@
+//! Operators, functions and changes of scale on numbers: computed in 128 bits, and tested to be in 64.
+
 ghost use Rattle.std.specs.Prelude.{◌≡◌, ◌≢◌, ◌≤◌, ◌^◌, pos, ◌≤ℤ◌, ◌+ℤ◌, ◌-ℤ◌, ◌*ℤ◌, neg_ℤ};
 ghost use Rattle.std.specs.Int.{int_min, int_max};
 ghost use Rattle.sot_lang.specs.Values.{word, quotient, floor_div, floor_by, apply, rescaled, truth, is_true};

@@ -1,3 +1,5 @@
+//! A plant's tick on numbers.
+
 ghost use Rattle.std.specs.Prelude.{◌≡◌, ◌≤◌, length};
 ghost use Rattle.sot_lang.specs.Ticks.{values};
 ghost use Rattle.sot_lang.specs.TermPlaces.{HavePlaces};

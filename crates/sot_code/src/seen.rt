@@ -1,3 +1,5 @@
+//! What a node reads, as its caller lends it.
+
 ghost use Rattle.std.specs.Prelude.{◌≡◌, ℕ, ◌<◌, ℤ, List, Some, length, slice_get};
 
 /// The numbers that a node reads, in the order of its read slots.

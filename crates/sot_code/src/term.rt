@@ -1,3 +1,5 @@
+//! The value of an expression on numbers.
+
 ghost use Rattle.std.specs.Prelude.{◌≡◌, length};
 ghost use Rattle.sot_lang.specs.Values.{value_of, then_with, called};
 ghost use Rattle.sot_lang.specs.Ticks.{values};

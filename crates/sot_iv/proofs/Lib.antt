@@ -21,4 +21,6 @@ pub mod Joins
 pub mod Bodies
 pub mod BodyExamples
 pub mod Nodes
-pub mod HullWidth
+pub mod SafeHulls
+pub mod SeenHulls
+pub mod InputTypes

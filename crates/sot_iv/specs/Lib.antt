@@ -5,6 +5,7 @@ pub mod NodeIntervals
 pub mod PlantIntervals
 pub mod PlantTicks
 pub mod NodeFirings
+pub mod SeenHulls
 pub mod TrapFree
 pub mod Soundness
 pub mod Uniqueness

@@ -1,3 +1,5 @@
+//! The execution of statements over intervals, with both branches of what is undecided.
+
 ghost use Rattle.std.specs.Prelude.{◌≡◌, ◌+◌, ◌<◌, ◌≤◌, ◌++◌, length, slice_get, Some};
 ghost use Rattle.sot_lang.specs.Ranges.{local_ranges, write_ranges};
 ghost use Rattle.sot_lang.specs.OwnerNames.{node_truths};

@@ -1,3 +1,5 @@
+//! What a node drafts over intervals.
+
 ghost use Rattle.std.specs.Prelude.{◌≡◌, ◌<◌, ◌≤◌, ◌-◌, ◌++◌, Some, slice_get, length, replicate};
 ghost use Rattle.sot_iv.specs.declared.drafted.Drafted.TheVariants.{Absent};
 

@@ -1,4 +1,5 @@
-// The least intervals of operators, from the ends of their operands' intervals.
+//! The least intervals of operators, from the ends of their operands' intervals.
+
 ghost use Rattle.std.specs.Prelude.{◌≡◌, ◌≢◌, ◌≤◌, ◌≤ℤ◌, pos, IsTrue, ◌*ℤ◌, ◌-ℤ◌, ◌+ℤ◌, neg_ℤ, ◌&&◌, ◌||◌, not, int_lt, int_le};
 ghost use Rattle.std.specs.Int.{int_max};
 ghost use Rattle.sot_lang.specs.Values.{floor_div};

@@ -1,3 +1,5 @@
+//! What intervals are for, as theorems, and worked intervals.
+
 ghost use Rattle.sot_iv.specs.Soundness.{TermsAreSound, BodiesAreSound, PlantsAreSound};
 ghost use Rattle.sot_iv.specs.Uniqueness.{TermsHaveOneInterval, BodiesHaveOneEnd, PlantsHaveOneBox};
 ghost use Rattle.sot_iv.specs.Monotony.{TermsNarrow, BodiesNarrow, PlantsNarrow};

@@ -2,9 +2,9 @@
 #![tactic(auto)]
 
 mod body;
+mod bounds;
 mod drafted;
 mod ends;
-mod hulls;
 mod laws;
 mod may_trap;
 mod node;
@@ -13,8 +13,8 @@ mod plant;
 mod ranges;
 mod term;
 
+pub use bounds::{put_locals, safe_hull, scalar_side, seen_hulls, types_of};
 pub use drafted::{Drafted, IvDraft};
-pub use hulls::safe_hull;
 pub use laws::{
     intervals_are_monotone, intervals_are_unique, intervals_hold_all_points, worked_evaluations,
     worked_intervals,
@@ -24,6 +24,3 @@ pub use node::iv_node;
 pub use plant::iv_plant;
 pub use ranges::Ranges;
 pub use term::iv_term;
-
-#[cfg(test)]
-mod tests;

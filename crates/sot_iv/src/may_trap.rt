@@ -1,3 +1,5 @@
+//! Where an interval evaluation stops.
+
 use sot_lang::TrapKind;
 use sot_text::Span;
 

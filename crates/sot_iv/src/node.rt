@@ -1,3 +1,5 @@
+//! What a coded node drafts over intervals.
+
 ghost use Rattle.std.specs.Prelude.{◌≡◌, length, replicate};
 ghost use Rattle.sot_lang.specs.OwnerNames.{node_truths};
 ghost use Rattle.sot_lang.specs.ActRules.{ActsFit};

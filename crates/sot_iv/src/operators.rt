@@ -1,11 +1,12 @@
-// The least intervals of operators, functions and changes of scale.
+//! The least intervals of operators, functions and changes of scale.
+
 ghost use Rattle.std.specs.Prelude.{◌≡◌, ◌≤◌, ◌≤ℤ◌, pos};
 ghost use Rattle.sot_iv.specs.Ends.{fitted, operated, quotient_or_trap, rest, negation, denied, magnitude, least_side, greatest_side, clamped, rescaled, hull};
 
 use crate::{MayTrap, ends};
 use sot_box::Interval;
-use sot_tree::Op;
 use sot_text::Span;
+use sot_tree::Op;
 
 fn divide(at: Span, a: Interval, b: Interval) -> Result<Interval, MayTrap>
     ensures { result ≡ quotient_or_trap at a b }

@@ -1,14 +1,15 @@
-ghost use Rattle.std.specs.Prelude.{◌≡◌, ℕ, ◌≤◌, ◌≤ℤ◌, ◌+◌, ◌++◌, length, map};
-ghost use Rattle.sot_lists.specs.Places.{At};
-ghost use Rattle.sot_lang.specs.declared.tables.NoiseInfo.{NoiseInfo};
+//! A plant's tick over intervals.
+
+ghost use Rattle.std.specs.Prelude.{◌≡◌, ◌≤◌, length};
 ghost use Rattle.sot_lang.specs.TermPlaces.{HavePlaces};
 ghost use Rattle.sot_iv.specs.Evaluation.{term_intervals};
 ghost use Rattle.sot_iv.specs.PlantTicks.{MayTickBox, IsBoxAfterTick};
 
+use crate::bounds::{put_bounds, put_box};
 use crate::term::interval_of;
 use crate::{MayTrap, Ranges};
 use sot_box::{BoxN, Interval};
-use sot_lang::{NoiseInfo, Term, Typed};
+use sot_lang::{Term, Typed};
 
 // The intervals of one to four expressions, as a box.
 fn box_of(terms: &[Term], names: &[Interval]) -> Result<BoxN, MayTrap>
@@ -25,31 +26,6 @@ fn box_of(terms: &[Term], names: &[Interval]) -> Result<BoxN, MayTrap>
     Ok(BoxN::of(next.as_slice()).unwrap())
 }
 
-// The bounds of disturbances, behind the other names.
-fn put_bounds(noise: &[NoiseInfo], names: &mut Ranges)
-    requires room { length names.old + length noise.now ≤ 80 }
-    requires ordered { (i : ℕ) (d : NoiseInfo) → At noise.now i d → d.lo ≤ℤ d.hi }
-    ensures { names.new ≡ names.old ++ map (λ d. record { lo = d.lo; hi = d.hi }) noise.now }
-{
-    for info in noise {
-        names.push(Interval {
-            lo: info.lo,
-            hi: info.hi,
-        });
-    }
-}
-
-// A box's sides, in order.
-fn names_from(b: &BoxN) -> Ranges
-    ensures { result ≡ b.now }
-{
-    let mut names = Ranges::none();
-    for i in 0..b.len() {
-        names.push(b.side(i));
-    }
-    names
-}
-
 /// The least box of a plant after one tick from a box, or the first operands of which some trap: with commands in `held`, the
 /// states of the plants that it sees, one plant after another, in `seen`, and disturbances anywhere in their bounds. There is an
 /// interval for each state variable, each input and each seen state. Takes no memory.
@@ -64,7 +40,8 @@ pub fn iv_plant(
     ensures { IsBoxAfterTick p.now plant b.now held.now seen.now result }
 {
     let info = &p.plants[plant as usize];
-    let mut names = names_from(b);
+    let mut names = Ranges::none();
+    put_box(b, &mut names);
     names.extend(held);
     names.extend(seen);
     put_bounds(&info.noise, &mut names);

@@ -1,3 +1,5 @@
+//! Intervals in order, one for each name that an owner's expressions can read.
+
 ghost use Rattle.std.specs.Prelude.{◌≡◌, ◌<◌, ◌≤◌, ◌+◌, [], ◌∷◌, ◌++◌, length, MatchOption};
 ghost use Rattle.sot_box.specs.Sides.{AreOrdered};
 

@@ -1,3 +1,5 @@
+//! The least interval of an expression.
+
 ghost use Rattle.std.specs.Prelude.{◌≡◌, ◌+◌, ◌<◌, ◌≤◌, ◌≤ℤ◌, ◌++◌, pos, Ok, length, slice_index_or};
 ghost use Rattle.sot_tree.specs.Functions.{arity};
 ghost use Rattle.sot_lang.specs.TermPlaces.{HasPlaces, HavePlaces};
@@ -9,8 +11,8 @@ ghost use Rattle.sot_iv.specs.Ends.{fitted, rest, negation, denied, rescaled};
 use crate::{MayTrap, Ranges, ends, operators};
 use sot_box::Interval;
 use sot_lang::Term;
-use sot_tree::Func;
 use sot_text::Span;
+use sot_tree::Func;
 
 /// The least interval of an expression over these ranges of its names, operator by operator, or the first operands of which some
 /// trap. Its places are below the count of the ranges, its calls have the parts of their functions, each divisor of a rest is at

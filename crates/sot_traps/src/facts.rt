@@ -1,3 +1,5 @@
+//! What trap-freedom means for executions, as a theorem.
+
 ghost use Rattle.sot_traps.specs.Soundness.{TrapFreeNodesNeverTrap};
 
 /// A trap-free node never traps: its execution succeeds wherever plants are in their safe regions and topics and locals in their

@@ -10,5 +10,5 @@ mod readings;
 mod verdict;
 
 pub use facts::trap_free_nodes_never_trap;
-pub use readings::{put_locals, slot_side};
+pub use readings::slot_side;
 pub use verdict::trap_free;

@@ -1,27 +1,15 @@
-ghost use Rattle.std.specs.Prelude.{◌≡◌, ℕ, ◌+◌, ◌≤◌, ◌<◌, ◌≤ℤ◌, ◌++◌, [], ◌≢◌, length, map};
+//! The intervals of what a node reads.
+
+ghost use Rattle.std.specs.Prelude.{ℕ, ◌≤◌, ◌<◌, [], ◌≢◌, length};
 ghost use Rattle.sot_lists.specs.Places.{At, Has};
 ghost use Rattle.sot_lang.specs.OwnerNames.{width_of};
 ghost use Rattle.sot_lang.specs.SafeRegions.{safe_of};
-ghost use Rattle.sot_lang.specs.Ranges.{range_of};
 ghost use Rattle.sot_lang.specs.declared.tables.Slot.{Slot as Read};
-ghost use Rattle.sot_lang.specs.declared.tables.LocalInfo.{LocalInfo as Local};
 ghost use Rattle.sot_traps.specs.Readings.{IsHullSide, IsReading, AreReadings, CanBeRead};
 
 use sot_box::Interval;
-use sot_iv::{Ranges, safe_hull};
-use sot_lang::{LocalInfo, Slot, Typed};
-
-// The declared range of a scalar.
-fn scalar_side(p: &Typed, scalar: u32) -> Interval
-    requires { scalar < length p.now.scalars }
-    ensures { result ≡ range_of p.now.scalars scalar }
-{
-    let info = &p.scalars[scalar as usize];
-    Interval {
-        lo: info.lo,
-        hi: info.hi,
-    }
-}
+use sot_iv::{Ranges, safe_hull, scalar_side};
+use sot_lang::{Slot, Typed};
 
 // The side of the hull of a plant's safe region on the axis of one state variable.
 fn state_side(p: &Typed, plant: u32, var: u32) -> Interval
@@ -56,18 +44,4 @@ pub(crate) fn readings(p: &Typed, slots: &[Slot]) -> Ranges
         sides.push(side);
     }
     sides
-}
-
-/// The declared ranges of locals, behind the other intervals.
-pub fn put_locals(locals: &[LocalInfo], sides: &mut Ranges)
-    requires room { length sides.old + length locals.now ≤ 80 }
-    requires ordered { (i : ℕ) (l : Local) → At locals.now i l → l.lo ≤ℤ l.hi }
-    ensures { sides.new ≡ sides.old ++ map (λ l. record { lo = l.lo; hi = l.hi }) locals.now }
-{
-    for info in locals {
-        sides.push(Interval {
-            lo: info.lo,
-            hi: info.hi,
-        });
-    }
 }

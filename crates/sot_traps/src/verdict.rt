@@ -1,7 +1,9 @@
+//! Whether a coded node never traps.
+
 ghost use Rattle.sot_traps.specs.Verdict.{IsCodedNode, HaveSafeBoxes, IsTrapVerdict};
 
-use crate::readings::{put_locals, readings};
-use sot_iv::{MayTrap, iv_node};
+use crate::readings::readings;
+use sot_iv::{MayTrap, iv_node, put_locals};
 use sot_lang::Typed;
 
 /// Whether a coded node never traps while topics and locals are in their declared ranges and plants in the hulls of their safe
@@ -14,8 +16,6 @@ pub fn trap_free(p: &Typed, node: u32) -> Result<(), MayTrap>
     let info = &p.nodes[node as usize];
     let mut ranges = readings(p, &info.reads);
     put_locals(&info.locals, &mut ranges);
-    match iv_node(p, node, &ranges) {
-        Ok(_) => Ok(()),
-        Err(trap) => Err(trap),
-    }
+    iv_node(p, node, &ranges)?;
+    Ok(())
 }

@@ -1,3 +1,5 @@
+//! Regions of two boxes against all points of small squares, and ends and widths.
+
 ghost use Rattle.std.specs.Prelude.{◌≡◌, ◌<◌, ◌≤◌, length, IfSome, IfOk};
 
 use sot_box::{BoxN, Interval, Point, Region, uncovered};

@@ -198,36 +198,61 @@ fn a_box_that_comes_later_is_found(rt: HostRuntime) -> Result<(), Fail> {
     )
 }
 
+/// What a region of no box answers, beside one box with this low corner.
+fn ask_empty(
+    rt: &impl Abort,
+    empty: &Region,
+    some: &Region,
+    b: &BoxN,
+    low: Point,
+) -> Result<(), Fail>
+    requires empty { empty.now.width ≡ 2 }
+    requires some { some.now.width ≡ 2 }
+    requires b { length b.now ≡ 2 }
+    requires low { length low ≡ 2 }
+{
+    assert!(rt; !empty.has(&low));
+    assert!(rt; !empty.covers(b));
+    assert_eq!(rt; empty.gap(b), Some(low));
+    assert_eq!(rt; empty.hull(), None);
+    assert_eq!(rt; uncovered(some, empty), Some(low));
+    assert_eq!(rt; uncovered(empty, some), None);
+    Ok(())
+}
+
 #[test]
 fn a_region_of_no_box_is_settled(rt: HostRuntime) -> Result<(), Fail> {
-    let mut region = Region::none(rt.alloc(), 2);
+    let mut empty = Region::none(rt.alloc(), 2);
     let some = region_of(rt.alloc(), &[spanning((3, 4), (-1, 2))])?;
     let b = box_of(spanning((3, 4), (-1, 2))).ok_or("b")?;
     let low = Point::of(&[3, -1]).ok_or("low")?;
-    for settled in [false, true] {
-        if settled {
-            region.settle()?;
-        }
-        assert!(rt; !region.has(&low));
-        assert!(rt; !region.covers(&b));
-        assert_eq!(rt; region.gap(&b), Some(low));
-        assert_eq!(rt; region.hull(), None);
-        assert_eq!(rt; uncovered(&some, &region), Some(low));
-        assert_eq!(rt; uncovered(&region, &some), None);
-    }
+    ask_empty(&rt, &empty, &some, &b, low)?;
+    empty.settle()?;
+    ask_empty(&rt, &empty, &some, &b, low)
+}
+
+/// What of one region the other leaves uncovered, before and after it is settled.
+fn ask_uncovered(
+    rt: &impl Abort,
+    of: &Region,
+    by: &mut Region,
+    want: Option<Point>,
+) -> Result<(), Fail>
+    requires { of.now.width ≡ by.old.width }
+{
+    assert_eq!(rt; uncovered(of, by), want);
+    by.settle()?;
+    assert_eq!(rt; uncovered(of, by), want);
     Ok(())
 }
 
 #[test]
 fn what_a_settled_region_leaves_uncovered(rt: HostRuntime) -> Result<(), Fail> {
-    let mut by = region_of(
-        rt.alloc(),
-        &[
-            spanning((6, 9), (4, 8)),
-            spanning((0, 3), (0, 4)),
-            spanning((3, 7), (2, 6)),
-        ],
-    )?;
+    let stairs = [
+        spanning((6, 9), (4, 8)),
+        spanning((0, 3), (0, 4)),
+        spanning((3, 7), (2, 6)),
+    ];
     let some = region_of(
         rt.alloc(),
         &[
@@ -240,12 +265,8 @@ fn what_a_settled_region_leaves_uncovered(rt: HostRuntime) -> Result<(), Fail> {
         rt.alloc(),
         &[spanning((7, 9), (6, 8)), spanning((3, 6), (4, 4))],
     )?;
-    for settled in [false, true] {
-        if settled {
-            by.settle()?;
-        }
-        assert_eq!(rt; uncovered(&some, &by), Point::of(&[8, 2]));
-        assert_eq!(rt; uncovered(&all, &by), None);
-    }
-    Ok(())
+    let mut by = region_of(rt.alloc(), &stairs)?;
+    ask_uncovered(&rt, &some, &mut by, Point::of(&[8, 2]))?;
+    let mut again = region_of(rt.alloc(), &stairs)?;
+    ask_uncovered(&rt, &all, &mut again, None)
 }

@@ -19,8 +19,8 @@ pub extend-requires-2 : goal.extend-requires-2
 extend-requires-2 c =
     let tables = subst MeetsTableRules c.p.view_is c.p.invariant in
     let s = sizes c.args.p.now c.args.plant c.args.b.now c.args.held.now c.args.seen.now tables c.requires in
-    let e = ap length c.extend.ensures ∙ length-append c.names_from-names.result c.args.held.now in
-    let f = ap length c.names_from-names.ensures in
+    let e = ap length c.extend.ensures ∙ length-append c.put_box.new.sides c.args.held.now in
+    let f = ap length (c.put_box.ensures ∙ ap (λ l. l ++ c.args.b.now) c.none-names.ensures) in
     omega (arith, s.0, s.1, s.2, e, f)
 
 pub put_bounds-requires-clause-room : goal.put_bounds-requires-clause-room
@@ -33,8 +33,8 @@ put_bounds-requires-clause-room c =
     let same = plant_is p c.args.plant c.requires.plant info c.requires.is is in
     let here : At p.plants c.args.plant info = subst (λ x. At p.plants c.args.plant x) same c.requires.is in
     let r = tables.plants c.args.plant info here in
-    let e = ap length c.extend.ensures ∙ length-append c.names_from-names.result c.args.held.now in
-    let f = ap length c.names_from-names.ensures in
+    let e = ap length c.extend.ensures ∙ length-append c.put_box.new.sides c.args.held.now in
+    let f = ap length (c.put_box.ensures ∙ ap (λ l. l ++ c.args.b.now) c.none-names.ensures) in
     let g = ap length c.extend-2.ensures ∙ length-append c.extend.new.self c.args.seen.now in
     let d = ap length c.deref.ensures.value in
     omega (arith, s.0, s.1, s.2, e, f, g, d, r.noise)
@@ -89,7 +89,7 @@ box_of-requires-clause-places c =
     let b = c.args.b.now in
     let names : c.as_slice.result.now ≡ b ++ h ++ v ++ bounds info =
     c.as_slice.ensures.value ∙ c.put_bounds.ensures
-    ∙ ap (λ l. l ++ map (λ (d : NoiseInfo). record { lo = d.lo; hi = d.hi }) c.deref.result.now) (c.extend-2.ensures ∙ ap (λ l. l ++ v) (c.extend.ensures ∙ ap (λ l. l ++ h) c.names_from-names.ensures))
+    ∙ ap (λ l. l ++ map (λ (d : NoiseInfo). record { lo = d.lo; hi = d.hi }) c.deref.result.now) (c.extend-2.ensures ∙ ap (λ l. l ++ v) (c.extend.ensures ∙ ap (λ l. l ++ h) (c.put_box.ensures ∙ ap (λ l. l ++ c.args.b.now) c.none-names.ensures)))
     ∙ ap (λ l. b ++ h ++ v ++ map (λ (d : NoiseInfo). record { lo = d.lo; hi = d.hi }) l) c.deref.ensures.value in
     let places = plant_places p info info.next.items (length (b ++ h ++ v ++ bounds info)) r.next (places_of p c.args.plant b h v info c.requires same) in
     let at_names : HavePlaces (length c.as_slice.result.now) info.next.items = subst (λ l. HavePlaces (length l) info.next.items) (sym names) places in
@@ -109,7 +109,7 @@ returns c plant at =
     let b = c.args.b.now in
     let names : c.as_slice.result.now ≡ b ++ h ++ v ++ bounds info =
     c.as_slice.ensures.value ∙ c.put_bounds.ensures
-    ∙ ap (λ l. l ++ map (λ (d : NoiseInfo). record { lo = d.lo; hi = d.hi }) c.deref.result.now) (c.extend-2.ensures ∙ ap (λ l. l ++ v) (c.extend.ensures ∙ ap (λ l. l ++ h) c.names_from-names.ensures))
+    ∙ ap (λ l. l ++ map (λ (d : NoiseInfo). record { lo = d.lo; hi = d.hi }) c.deref.result.now) (c.extend-2.ensures ∙ ap (λ l. l ++ v) (c.extend.ensures ∙ ap (λ l. l ++ h) (c.put_box.ensures ∙ ap (λ l. l ++ c.args.b.now) c.none-names.ensures)))
     ∙ ap (λ l. b ++ h ++ v ++ map (λ (d : NoiseInfo). record { lo = d.lo; hi = d.hi }) l) c.deref.ensures.value in
     let places = plant_places p info info.next.items (length (b ++ h ++ v ++ bounds info)) r.next (places_of p c.args.plant b h v info c.requires same) in
     let theirs : info ≡ plant = sym (plant_is p c.args.plant plant info at is) in

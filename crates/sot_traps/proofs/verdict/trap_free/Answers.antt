@@ -1,4 +1,5 @@
 use Rattle.std.proofs.Common.{subst}
+use Rattle.std.proofs.lemmas.Result.{err_from_is_err_and}
 use Rattle.sot_traps.specs.Verdict.{IsVerdictOf}
 use Rattle.sot_traps.proofs.NodeReads.{readable, room, ordered, may_evaluate, verdict}
 use Rattle.sot_traps.proofs.Verdicts.{told}
@@ -25,16 +26,18 @@ iv_node-requires c =
     c.deref.result.now c.deref.ensures.value c.readings-ranges.result c.readings-ranges.ensures c.deref-2.result.now c.deref-2.ensures.value
     c.put_locals.new.sides c.put_locals.ensures
 
-pub returns-in-Ok : goal.returns-in-Ok
-returns-in-Ok c node acts at coded =
-    subst (λ q. IsVerdictOf c.args.p.now node acts (told q)) c.in-Ok.is
+pub returns : goal.returns
+returns c node acts at coded =
+    subst (λ q. IsVerdictOf c.args.p.now node acts (told q)) c.in_ok-iv_node.was
     (verdict _ _ c.p.view_is c.p.invariant c.requires.boxes c.args.node c.requires.coded c.index-info.result.now c.index-info.ensures
     c.deref.result.now c.deref.ensures.value c.readings-ranges.result c.readings-ranges.ensures c.deref-2.result.now c.deref-2.ensures.value
     c.put_locals.new.sides c.put_locals.ensures c.iv_node.result c.iv_node.ensures node acts at coded)
 
-pub returns-in-Err : goal.returns-in-Err
-returns-in-Err c node acts at coded =
-    subst (λ q. IsVerdictOf c.args.p.now node acts (told q)) c.in-Err.is
+pub returns-in_err-iv_node : goal.returns-in_err-iv_node
+returns-in_err-iv_node c node acts at coded =
+    let q = err_from_is_err_and c.from_residual.result c.from_residual.ensures.1 in
+    rw (q.1, q.2)
+    (subst (λ q. IsVerdictOf c.args.p.now node acts (told q)) c.in_err-iv_node.was
     (verdict _ _ c.p.view_is c.p.invariant c.requires.boxes c.args.node c.requires.coded c.index-info.result.now c.index-info.ensures
     c.deref.result.now c.deref.ensures.value c.readings-ranges.result c.readings-ranges.ensures c.deref-2.result.now c.deref-2.ensures.value
-    c.put_locals.new.sides c.put_locals.ensures c.iv_node.result c.iv_node.ensures node acts at coded)
+    c.put_locals.new.sides c.put_locals.ensures c.iv_node.result c.iv_node.ensures node acts at coded))

@@ -1,7 +1,0 @@
-use Rattle.std.proofs.Common.{◌≡◌, ◌++◌, take}
-use Rattle.std.specs.Prelude.{map}
-use Rattle.sot_lang.specs.declared.tables.NoiseInfo.{NoiseInfo}
-use Rattle.sot_iv.proofs.plant.put_bounds.Given as goal
-
-abbrev pub invariant-loop-info : goal.invariant-loop-info
-invariant-loop-info l = l.names ≡ l.initial.names ++ map (λ (d : NoiseInfo). record { lo = d.lo; hi = d.hi }) (take l.info-index l.noise)

@@ -1,0 +1,92 @@
+//! The values of expressions at the edges of 64 bits, and the locals of a node.
+
+ghost use Rattle.std.specs.Prelude.{◌≡◌};
+
+use crate::tests::forms::{AT, Form, applied};
+use sot_code::{Locals, value};
+use sot_lang::{Trap, TrapKind};
+use sot_tree::{Func, Op};
+use std::test::Fail;
+
+const LEAST: i64 = -9_223_372_036_854_775_808;
+
+const MOST: i64 = 9_223_372_036_854_775_807;
+
+/// What an operator or a function gives at three numbers, or the kind of its trap.
+type Row = (Form, [i64; 3], Result<i64, TrapKind>);
+
+const ROWS: [Row; 32] = [
+    (Form::Between(Op::Add), [MOST - 1, 1, 0], Ok(MOST)),
+    (Form::Between(Op::Add), [MOST, 1, 0], Err(TrapKind::Wide)),
+    (Form::Between(Op::Sub), [LEAST + 1, 1, 0], Ok(LEAST)),
+    (Form::Between(Op::Sub), [LEAST, 1, 0], Err(TrapKind::Wide)),
+    (
+        Form::Between(Op::Mul),
+        [2_147_483_648, -4_294_967_296, 0],
+        Ok(LEAST),
+    ),
+    (
+        Form::Between(Op::Mul),
+        [4_294_967_296, 2_147_483_648, 0],
+        Err(TrapKind::Wide),
+    ),
+    (Form::Between(Op::Div), [-7, 2, 0], Ok(-4)),
+    (Form::Between(Op::Div), [7, -2, 0], Ok(-4)),
+    (Form::Between(Op::Div), [-7, -2, 0], Ok(3)),
+    (Form::Between(Op::Div), [LEAST, -1, 0], Err(TrapKind::Wide)),
+    (
+        Form::Between(Op::Div),
+        [LEAST, 0, 0],
+        Err(TrapKind::ZeroDivisor),
+    ),
+    (Form::Between(Op::Less), [-1, 0, 0], Ok(1)),
+    (Form::Between(Op::LessEqual), [3, 3, 0], Ok(1)),
+    (Form::Between(Op::Greater), [3, 3, 0], Ok(0)),
+    (Form::Between(Op::GreaterEqual), [3, 3, 0], Ok(1)),
+    (Form::Between(Op::Equal), [3, -3, 0], Ok(0)),
+    (Form::Between(Op::NotEqual), [3, -3, 0], Ok(1)),
+    (Form::Between(Op::And), [1, 0, 0], Ok(0)),
+    (Form::Between(Op::Or), [1, 0, 0], Ok(1)),
+    (Form::Rest(2), [-7, 0, 0], Ok(1)),
+    (Form::Rest(2), [7, 0, 0], Ok(1)),
+    (Form::Rest(5), [LEAST, 0, 0], Ok(2)),
+    (Form::Scale(2, 0), [-1, 0, 0], Ok(-1)),
+    (Form::Scale(2, 0), [199, 0, 0], Ok(1)),
+    (Form::Scale(0, 2), [-1, 0, 0], Ok(-100)),
+    (
+        Form::Scale(0, 6),
+        [9_223_372_036_854, 0, 0],
+        Ok(9_223_372_036_854_000_000),
+    ),
+    (
+        Form::Scale(0, 6),
+        [9_223_372_036_855, 0, 0],
+        Err(TrapKind::Wide),
+    ),
+    (Form::Neg, [LEAST, 0, 0], Err(TrapKind::Wide)),
+    (Form::Call(Func::Abs), [LEAST, 0, 0], Err(TrapKind::Wide)),
+    (Form::Call(Func::Abs), [LEAST + 1, 0, 0], Ok(MOST)),
+    (Form::Call(Func::Clamp), [5, 9, 2], Ok(9)),
+    (Form::Call(Func::Clamp), [-5, 0, 2], Ok(0)),
+];
+
+#[test]
+fn operators_at_their_edges(rt: HostRuntime) -> Result<(), Fail> {
+    for (form, numbers, wanted) in ROWS {
+        let term = applied(rt.alloc(), form)?;
+        let wanted = match wanted {
+            Ok(z) => Ok(z),
+            Err(kind) => Err(Trap { at: AT, kind }),
+        };
+        assert_eq!(rt; value(&term, &numbers), wanted, "{form:?} at {numbers:?}");
+    }
+    Ok(())
+}
+
+#[test]
+fn locals_are_what_they_were_made_of(rt: HostRuntime) -> Result<(), Fail> {
+    let locals = Locals::of(&[4, -5]).ok_or("locals")?;
+    assert_eq!(rt; (locals.len(), locals.at(1)), (2, -5));
+    assert_eq!(rt; Locals::of(&[0; 17]), None);
+    Ok(())
+}

@@ -1,7 +1,0 @@
-use Rattle.std.proofs.Common.{◌≡◌, ◌++◌, take}
-use Rattle.std.specs.Prelude.{map}
-use Rattle.sot_lang.specs.declared.tables.LocalInfo.{LocalInfo}
-use Rattle.sot_traps.proofs.readings.put_locals.Given as goal
-
-abbrev pub invariant-loop-info : goal.invariant-loop-info
-invariant-loop-info l = l.sides ≡ l.initial.sides ++ map (λ (d : LocalInfo). record { lo = d.lo; hi = d.hi }) (take l.info-index l.locals)
