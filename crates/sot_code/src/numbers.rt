@@ -5,9 +5,8 @@ ghost use Rattle.std.specs.Int.{int_min, int_max};
 ghost use Rattle.sot_lang.specs.Values.{word, quotient, floor_div, floor_by, apply, rescaled, truth, is_true};
 
 use sot_lang::{Trap, TrapKind};
-
-use sot_tree::Op;
 use sot_text::Span;
+use sot_tree::Op;
 
 /// The number, if it is in 64 bits.
 pub fn fit(at: Span, wide: i128) -> Result<i64, Trap>

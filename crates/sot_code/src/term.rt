@@ -8,8 +8,8 @@ ghost use Rattle.sot_lang.specs.TermPlaces.{HasPlaces, HavePlaces};
 
 use crate::numbers::{clamped, holds, magnitude, negate, operate, rescale, rest, truth_value};
 use sot_lang::{Term, Trap};
-use sot_tree::Func;
 use sot_text::Span;
+use sot_tree::Func;
 
 /// The value of an expression, where each name has its number in the list. Numbers and names are answered first: a function pays
 /// at its entry for the room that it needs.
