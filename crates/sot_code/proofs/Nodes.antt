@@ -1,6 +1,5 @@
 -- A firing's end, as it is handed out.
-use Rattle.std.proofs.Common.{◌≡◌, ℕ, ◌-◌, ◌≤◌, ℤ, Option, None, List, ◌++◌, Ok, Err, take, drop, length, replicate, get_or, sym, ap, ◌∙◌, arith}
-use Rattle.std.proofs.lemmas.Option.{get_or_from_slice_get, same_Some}
+use Rattle.std.proofs.Common.{◌≡◌, ℕ, ◌-◌, ◌≤◌, ℤ, Option, None, List, ◌++◌, Ok, Err, take, drop, length, replicate, sym, ap, ◌∙◌, arith}
 use Rattle.std.proofs.lemmas.List.{length-map, take-append-drop, take-replicate, drop-replicate, length-take-le}
 use Rattle.sot_lists.specs.Places.{At}
 use Rattle.sot_lang.specs.declared.act.Act.{Act}
@@ -8,7 +7,7 @@ use Rattle.sot_lang.specs.declared.trap.Trap.{Trap}
 use Rattle.sot_lang.specs.declared.tables.NodeInfo.{NodeInfo}
 use Rattle.sot_lang.specs.Tables.{Tables}
 use Rattle.sot_lang.specs.Ranges.{local_ranges, write_ranges, range_of}
-use Rattle.sot_lang.specs.TableRules.{IsCoded, MeetsTableRules}
+use Rattle.sot_lang.specs.TableRules.{MeetsTableRules}
 use Rattle.sot_lang.specs.Bodies as bodies
 use Rattle.std.proofs.Math.Seq.{take-append_seam, drop-append_seam}
 use Rattle.sot_code.specs.Firings.{fired_at, run_of, IsRunnable}

@@ -1,23 +1,15 @@
 -- The values of a list of expressions one after another, and how many names a plant has.
-use Rattle.std.proofs.Common.{◌≡◌, ℕ, zero, suc, ◌+◌, ◌*◌, ◌<◌, ◌≤◌, ℤ, List, [], ◌∷◌, ◌++◌, Ok, Err, take, length, get_or, refl, sym, ap, ap₂, ◌∙◌, subst, arith, length-append}
-use Rattle.std.specs.Prelude.{map, replicate, false}
-use Rattle.std.proofs.lemmas.List.{length-map, length-replicate}
-use Rattle.std.proofs.lemmas.Option.{get_or_from_slice_get}
-use Rattle.sot_lists.specs.Places.{At}
+use Rattle.std.proofs.Common.{◌≡◌, ℕ, zero, suc, ◌+◌, ◌<◌, ◌≤◌, ℤ, List, [], ◌∷◌, ◌++◌, Ok, Err, take, length, get_or, refl, sym, ap, ap₂, ◌∙◌, subst, arith}
 use Rattle.sot_lang.specs.declared.term.Term.{Term}
 use Rattle.sot_lang.specs.declared.trap.Trap.{Trap}
 use Rattle.sot_lang.specs.declared.tables.PlantInfo.{PlantInfo}
-use Rattle.sot_lang.specs.declared.tables.StateInfo.{StateInfo}
-use Rattle.sot_lang.specs.declared.tables.NoiseInfo.{NoiseInfo}
 use Rattle.sot_lang.specs.Tables.{Tables}
-use Rattle.sot_lang.specs.OwnerNames.{width_of, seen_width, plant_truths, is_truth_scalar}
-use Rattle.sot_lang.specs.TermRules.{TermsFit}
+use Rattle.sot_lang.specs.OwnerNames.{seen_width}
 use Rattle.sot_lang.specs.TermPlaces.{HasPlaces, HavePlaces}
 use Rattle.sot_lang.specs.TableRules.{MeetsTableRules}
 use Rattle.sot_lang.specs.Values.{Outcome, value_of, one_more}
 use Rattle.sot_lang.specs.Ticks.{values}
 use Rattle.sot_code.specs.Recorded.{MayTickPlant}
-use Rattle.sot_lang.proofs.Places.{HavePlaces-TermsFit}
 use Rattle.sot_lang.proofs.Owners.{seen_few}
 
 module _ (env : List ℤ) where

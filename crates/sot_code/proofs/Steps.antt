@@ -1,9 +1,9 @@
 -- One more statement, one more turn, and what stops them.
-use Rattle.std.proofs.Common.{◌≡◌, ℕ, zero, suc, ◌+◌, ◌<◌, ℤ, pos, negsuc, Bool, true, false, map, length-append, ap₂, Option, Some, List, [], ◌∷◌, ◌++◌, Result, Ok, Err, take, drop, length, get_or, refl, sym, ap, ◌∙◌, subst, arith, add-one, FitsSigned, of_z, w64}
+use Rattle.std.proofs.Common.{◌≡◌, ℕ, zero, suc, ◌+◌, ◌<◌, ℤ, pos, negsuc, true, false, Option, Some, List, [], ◌∷◌, ◌++◌, Result, Ok, Err, take, drop, length, get_or, refl, sym, ap, ◌∙◌, arith, add-one, FitsSigned, of_z, w64}
 use Rattle.std.specs.Prelude.{slice_set}
 use Rattle.std.specs.Global.{Vec}
 use Rattle.std.proofs.Math.Seq.{take-set-lt}
-use Rattle.std.proofs.lemmas.List.{length-map, take-append-drop, take_more, drop_more, drop-set-add}
+use Rattle.std.proofs.lemmas.List.{take-append-drop, take_more, drop_more, drop-set-add}
 use Rattle.sot_text.specs.declared.token.Span.{Span}
 use Rattle.sot_lang.specs.declared.act.Act.{Act, If}
 use Rattle.sot_lang.specs.declared.term.Term.{Term}
@@ -14,12 +14,6 @@ use Rattle.sot_lang.specs.Ranges.{local_ranges, write_ranges}
 use Rattle.sot_lang.specs.Values.{Outcome, value_of, then_with, is_true}
 use Rattle.sot_lang.specs.Bodies.{Fired, times, in_range}
 use Rattle.sot_lang.proofs.ActRows.{act-If, body-++}
-use Rattle.sot_lang.specs.declared.tables.LocalInfo.{LocalInfo}
-use Rattle.sot_lang.specs.OwnerNames.{node_truths, reads_truth}
-use Rattle.sot_lang.specs.TermRules.{TermFits}
-use Rattle.sot_lang.specs.TermPlaces.{HasPlaces}
-use Rattle.sot_lang.specs.ActRules.{ActFits, ActsFit}
-use Rattle.sot_lang.proofs.Places.{HasPlaces-TermFits}
 use Rattle.sot_code.specs.Firings.{Ends, fired_at, assign_of, publish_of, step_of, run_of}
 
 -- an assignment that is in its range

@@ -23,4 +23,4 @@ pub mod BodyExamples
 pub mod Nodes
 pub mod SafeHulls
 pub mod SeenHulls
-pub mod InputTypes
+pub mod ScalarTypes

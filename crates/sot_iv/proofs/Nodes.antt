@@ -1,12 +1,10 @@
 -- A node's evaluation, as it is handed out.
-use Rattle.std.proofs.Common.{◌≡◌, ℕ, List, [], ◌∷◌, zero, suc, take, drop, get_or, sym, ap, ◌∙◌}
-use Rattle.std.proofs.lemmas.Option.{get_or_from_slice_get, same_Some}
+use Rattle.std.proofs.Common.{ℕ, List, [], ◌∷◌, zero, suc, take, drop}
 use Rattle.sot_box.specs.Sides.{Side, AreOrdered}
 use Rattle.sot_lists.specs.Places.{At}
-use Rattle.sot_lang.specs.declared.act.Act.{Act}
 use Rattle.sot_lang.specs.declared.tables.NodeInfo.{NodeInfo}
 use Rattle.sot_lang.specs.Tables.{Tables}
-use Rattle.sot_lang.specs.TableRules.{IsCoded, MeetsTableRules}
+use Rattle.sot_lang.specs.TableRules.{MeetsTableRules}
 use Rattle.sot_iv.specs.Firings.{IsRunnable}
 
 -- a node of tables that meet their rules can run

@@ -1,21 +1,14 @@
 -- The expressions of a plant one after another, and how many names a plant has.
-use Rattle.std.proofs.Common.{◌≡◌, ℕ, zero, suc, ◌+◌, ◌*◌, ◌<◌, ◌≤◌, List, [], ◌∷◌, ◌++◌, Ok, Err, take, length, get_or, refl, sym, ap, ap₂, ◌∙◌, subst, arith, length-append}
-use Rattle.std.specs.Prelude.{map, replicate, false}
-use Rattle.std.proofs.lemmas.List.{length-map, length-replicate}
-use Rattle.std.proofs.lemmas.Option.{get_or_from_slice_get}
+use Rattle.std.proofs.Common.{◌≡◌, ℕ, zero, suc, ◌+◌, ◌<◌, ◌≤◌, List, [], ◌∷◌, ◌++◌, Ok, Err, take, length, get_or, refl, sym, ap, ap₂, ◌∙◌, arith, length-append}
+use Rattle.std.proofs.lemmas.List.{length-map}
 use Rattle.sot_box.specs.Sides.{Side}
-use Rattle.sot_lists.specs.Places.{At}
 use Rattle.sot_lang.specs.declared.term.Term.{Term}
 use Rattle.sot_lang.specs.declared.tables.PlantInfo.{PlantInfo}
-use Rattle.sot_lang.specs.declared.tables.StateInfo.{StateInfo}
 use Rattle.sot_lang.specs.declared.tables.NoiseInfo.{NoiseInfo}
 use Rattle.sot_lang.specs.Tables.{Tables}
 use Rattle.sot_lang.specs.Ranges.{bounds}
-use Rattle.sot_lang.specs.OwnerNames.{width_of, seen_width, plant_truths, is_truth_scalar}
-use Rattle.sot_lang.specs.TermRules.{TermsFit}
-use Rattle.sot_lang.specs.TermPlaces.{HavePlaces}
+use Rattle.sot_lang.specs.OwnerNames.{seen_width}
 use Rattle.sot_lang.specs.TableRules.{MeetsTableRules}
-use Rattle.sot_lang.proofs.Places.{HavePlaces-TermsFit}
 use Rattle.sot_iv.specs.declared.may_trap.MayTrap.{MayTrap}
 use Rattle.sot_iv.specs.TermIntervals.{OrMayTrap}
 use Rattle.sot_iv.specs.Evaluation.{joined, term_interval, term_intervals}

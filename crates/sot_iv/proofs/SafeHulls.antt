@@ -1,17 +1,13 @@
 -- The safe region of a plant is that of the first module that names it.
-use Rattle.std.proofs.Common.{◌≡◌, ℕ, zero, suc, ◌≤◌, ◌≤ℤ◌, ℤ, inl, Option, Some, None, List, [], ◌∷◌, length, drop, refl, sym, ap, ◌∙◌, subst, eqb, arith}
+use Rattle.std.proofs.Common.{◌≡◌, ℕ, zero, suc, ◌≤◌, Option, Some, None, List, [], ◌∷◌, length, drop, refl, sym, ap, ◌∙◌, subst, eqb, arith}
 use Rattle.std.specs.Prelude.{MatchOption, IfSome}
 use Rattle.std.proofs.lemmas.Bool.{cond-true, cond-false, eq-eqb, ne_eqb}
 use Rattle.sot_lang.specs.declared.tables.ModuleInfo.{ModuleInfo}
 use Rattle.sot_lang.specs.SafeRegions.{safe_of}
-use Rattle.std.proofs.lemmas.Int.{ints}
-use Rattle.std.proofs.lemmas.List.{length-map}
 use Rattle.std.proofs.lemmas.Option.{same_Some, none-some}
-use Rattle.sot_box.specs.Sides.{Side, AreOrdered}
+use Rattle.sot_box.specs.Sides.{Side}
 use Rattle.sot_lists.specs.Places.{At}
-use Rattle.sot_box.specs.Boxes.{IsWithin, lows}
-use Rattle.sot_box.specs.Regions.{IsInRegion, IsHull}
-use Rattle.sot_box.proofs.Ranges.{within_length}
+use Rattle.sot_box.specs.Regions.{IsHull}
 
 -- a hull and its width, of one answer
 pub hull_answer : (bs : List (List Side)) (n : ℕ) (r : Option (List Side)) → MatchOption r (bs ≡ []) (λ h. IsHull bs h) → IfSome r (λ h. length h ≡ n)

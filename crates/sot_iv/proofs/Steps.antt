@@ -1,18 +1,12 @@
 -- One more statement, one more turn, the branches of a condition, and what stops them.
-use Rattle.std.proofs.Common.{◌≡◌, ℕ, zero, suc, ◌+◌, ◌<◌, Bool, true, false, map, length-append, ap₂, List, [], ◌∷◌, ◌++◌, Result, Ok, Err, take, drop, length, get_or, refl, sym, ap, ◌∙◌, subst, arith, add-one}
+use Rattle.std.proofs.Common.{◌≡◌, ℕ, zero, suc, ◌+◌, ◌<◌, true, false, List, [], ◌∷◌, ◌++◌, Result, Ok, Err, take, drop, length, get_or, refl, sym, ap, ◌∙◌, arith, add-one}
 use Rattle.std.specs.Global.{Vec}
-use Rattle.std.proofs.lemmas.List.{length-map, take-append-drop, take_more, drop_more}
+use Rattle.std.proofs.lemmas.List.{take-append-drop, take_more, drop_more}
 use Rattle.sot_box.specs.Sides.{Side}
 use Rattle.sot_lang.specs.declared.act.Act.{Act, If}
 use Rattle.sot_lang.specs.declared.term.Term.{Term}
 use Rattle.sot_lang.specs.declared.tables.NodeInfo.{NodeInfo}
-use Rattle.sot_lang.specs.declared.tables.LocalInfo.{LocalInfo}
 use Rattle.sot_lang.specs.Tables.{Tables}
-use Rattle.sot_lang.specs.OwnerNames.{node_truths, reads_truth}
-use Rattle.sot_lang.specs.TermRules.{TermFits}
-use Rattle.sot_lang.specs.TermPlaces.{HasPlaces}
-use Rattle.sot_lang.specs.ActRules.{ActFits, ActsFit}
-use Rattle.sot_lang.proofs.Places.{HasPlaces-TermFits}
 use Rattle.sot_iv.specs.declared.may_trap.MayTrap.{MayTrap}
 use Rattle.sot_iv.specs.declared.drafted.Drafted.{Drafted}
 use Rattle.sot_iv.specs.TermIntervals.{OrMayTrap}

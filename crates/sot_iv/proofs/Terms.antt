@@ -5,7 +5,7 @@ use Rattle.std.proofs.lemmas.Bool.{cases_Bool, and_parts, and_from}
 use Rattle.std.proofs.lemmas.Int.{ints}
 use Rattle.sot_text.specs.declared.token.Span.{Span}
 use Rattle.sot_box.specs.Sides.{Side, IsIn, AreOrdered}
-use Rattle.sot_box.specs.Boxes.{IsWithin, lows}
+use Rattle.sot_box.specs.Boxes.{lows}
 use Rattle.sot_tree.specs.declared.operator.Op.{Op}
 use Rattle.sot_tree.specs.declared.operator.Op.TheVariants.{Add, Sub, Mul, Div, Less, LessEqual, Greater, GreaterEqual, Equal, NotEqual, And, Or}
 use Rattle.sot_lang.specs.declared.term.Term.{Term, Row_of-Term, end_of-Term, more_of-Term, items-the_row-Term}

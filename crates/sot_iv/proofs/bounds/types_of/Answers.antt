@@ -2,7 +2,7 @@ use Rattle.std.proofs.Common.{rules, [], ◌∷◌, ◌++◌, ap, ◌∙◌, w64
 use Rattle.std.proofs.lemmas.Int.{to_z-of_z}
 use Rattle.std.proofs.lemmas.Option.{slice_get-get_or, slice_get_read}
 use Rattle.sot_lists.specs.Places.{At}
-use Rattle.sot_iv.proofs.InputTypes.{word_side, types_more}
+use Rattle.sot_iv.proofs.ScalarTypes.{word_side, types_more}
 use Rattle.sot_iv.proofs.bounds.types_of.Goals as goal
 
 pub bounds-infos-scalar : goal.bounds-infos-scalar

@@ -2,13 +2,11 @@
 use Rattle.std.proofs.Common.{◌≡◌, ℕ, suc, ◌+◌, ◌<◌, ℤ, List, [], ◌∷◌, ◌++◌, map, take, length, get_or, arith, refl, sym, ap, ◌∙◌, w64, SFits, to_z, of_z}
 use Rattle.std.proofs.lemmas.Int.{to_z-of_z}
 use Rattle.std.proofs.lemmas.List.{map-append}
-use Rattle.std.proofs.lemmas.Option.{get_or_from_slice_get}
 use Rattle.std.proofs.Math.Seq.{take-suc}
-use Rattle.sot_box.specs.Sides.{Side, nought}
+use Rattle.sot_box.specs.Sides.{Side}
 use Rattle.sot_lists.specs.Places.{At}
 use Rattle.sot_lang.specs.declared.tables.ScalarInfo.{ScalarInfo}
 use Rattle.sot_lang.specs.Ranges.{range_of}
-use Rattle.sot_lists.proofs.Places.{at_map}
 use Rattle.sot_lang.proofs.Owners.{range_at}
 
 -- an interval of words is the interval of their numbers
