@@ -12,11 +12,14 @@ use crate::sweep::{advance, narrow};
 use std::alloc::{AllocError, Global};
 use std::marker::Model;
 
-/// Boxes of one width, in order. A point is in the region where it is in some box.
+/// Boxes of one width, in order. A point is in the region where it is in some box. A box that holds a
+/// point is looked for among all boxes, or by the index where [`Region::settle`] has made one; the
+/// answers are the same.
 #[derive(Drop)]
 pub struct Region {
     width: usize,
     boxes: Vec<BoxN>,
+    // of the boxes as they are, where there is one
     index: Option<Index>,
 }
 
@@ -160,7 +163,8 @@ impl Region {
     }
 
     /// The lexicographically least point of the box that is outside the region, and `None` where the
-    /// region covers the box.
+    /// region covers the box. Each step of the sweep looks for one box that holds a point, and skips all
+    /// of the box asked for that this one and those met before hold together.
     pub fn gap(&self, b: &BoxN) -> Option<Point>
         requires { length b.now ≡ self.now.width }
         ensures { MatchOption result
