@@ -6,7 +6,7 @@ use Rattle.std.proofs.lemmas.Float.{T_from_true}
 use Rattle.serde_json.specs.Data.{Data}
 use Rattle.serde_json.specs.Find.{as_number, as_integer}
 use Rattle.sot_cert.specs.declared.fault.JsonKind.TheVariants.{WrongShape, NotWhole, OutsideRange}
-use Rattle.sot_cert.specs.Says.{Says, ◌>>=◌, or, unless}
+use Rattle.sot_cert.specs.Says.{or, unless}
 use Rattle.sot_cert.specs.Json.{whole, is_within}
 use Rattle.sot_cert.proofs.Binds.{bind_ok, unless_ok, ok_same, and_left, and_right}
 

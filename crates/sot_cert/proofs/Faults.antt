@@ -7,7 +7,6 @@ use Rattle.serde_json.specs.Read.{read}
 use Rattle.sot_cert.specs.declared.fault.JsonFail.{JsonFail}
 use Rattle.sot_cert.specs.declared.fault.JsonFail.TheVariants as fails
 use Rattle.sot_cert.specs.declared.fault.JsonKind.TheVariants.{Missing}
-use Rattle.sot_cert.specs.declared.fault.JsonFault.{JsonFault}
 use Rattle.sot_cert.specs.Says.{Says, ◌>>=◌, or, under, part}
 use Rattle.sot_cert.specs.Json.{json_of, optional}
 use Rattle.sot_cert.specs.Answers.{Fails, IsUnder, IsHere}

@@ -1,5 +1,5 @@
 -- A certificate that was read fits the program.
-use Rattle.std.proofs.Common.{◌≡◌, ℕ, zero, suc, ◌+◌, ◌<◌, ◌≤◌, List, [], ◌∷◌, length, Option, Some, None, Ok, Err, Bool, true, false, codes, refl, sym, ap, subst, ◌∙◌, arith}
+use Rattle.std.proofs.Common.{◌≡◌, ℕ, zero, suc, ◌<◌, List, [], ◌∷◌, length, Option, Some, None, Ok, Err, Bool, true, false, codes, sym, ap, subst, ◌∙◌, arith}
 use Rattle.std.specs.Prelude.{nat_lt}
 use Rattle.std.specs.List.{list_all}
 use Rattle.std.proofs.lemmas.Bool.{ltb-true}
@@ -17,7 +17,7 @@ use Rattle.sot_lang.specs.OwnerNames.{width_of}
 use Rattle.sot_lang.specs.TableRules.{MeetsTableRules}
 use Rattle.sot_lang.specs.CertRules.{FitsTables, AreCellsOf}
 use Rattle.sot_cert.specs.declared.fault.JsonKind.TheVariants.{WrongShape, OutsideRange, Missing, Unknown}
-use Rattle.sot_cert.specs.Says.{Says, ◌>>=◌, or, unless, part}
+use Rattle.sot_cert.specs.Says.{Says, or, unless}
 use Rattle.sot_cert.specs.Json.{count, at, some, optional, may, all_among}
 use Rattle.sot_cert.specs.CertFormat.{cells, entry, entries, names, modules, is_below_periods, jitter, jitter_in, has_jitter, keys, cert, Contents, contents}
 use Rattle.sot_cert.proofs.Binds.{bind_ok, part_ok, unless_ok, ok_same, and_left, and_right}
@@ -47,7 +47,7 @@ entry_form width d c h =
     let closed = bind_ok (at (codes "closed") (cells width) ms.0) _ c ms.2 in
     let reach = bind_ok (at (codes "reach") (cells width) ms.0) _ c closed.2 in
     let ok = bind_ok (unless Unknown (all_among ms.0 (codes "closed" ∷ codes "reach" ∷ []))) _ c reach.2 in
-    let e : record { closed = closed.0; reach = reach.0 } ≡ c = ok_same _ _ ok.2 in
+    let e : record { closed = closed.0; reach = reach.0 } ≡ c = ok_same (record { closed = closed.0; reach = reach.0 }) c ok.2 in
     let a = at_ok (codes "closed") (cells width) ms.0 closed.0 closed.1 in
     let b = at_ok (codes "reach") (cells width) ms.0 reach.0 reach.1 in
     subst (IsEntry width) e (record { closed = cells_form width a.0 closed.0 a.1; reach = cells_form width b.0 reach.0 b.1 })
@@ -58,7 +58,7 @@ entries_len plants [] ms os h = let e : [] ≡ os = ok_same [] os h in ap length
 entries_len plants (m ∷ more) ms os h =
     let x = bind_ok (may m.name (entry (width_of plants m.plant)) ms) _ os h in
     let xs = bind_ok (entries plants more ms) _ os x.2 in
-    let e : x.0 ∷ xs.0 ≡ os = ok_same _ _ xs.2 in
+    let e : x.0 ∷ xs.0 ≡ os = ok_same (x.0 ∷ xs.0) os xs.2 in
     rw (← e) (ap suc (entries_len plants more ms xs.0 xs.1))
 
 entries_form : (plants : List PlantInfo) (infos : List ModuleInfo) (ms : Members) (os : List (Option Cells)) → entries plants infos ms ≡ Ok os
@@ -68,14 +68,14 @@ entries_form plants [] ms os h i info c is_info is_c = cc
 entries_form plants (m ∷ more) ms os h zero info c is_info is_c =
     let x = bind_ok (may m.name (entry (width_of plants m.plant)) ms) _ os h in
     let xs = bind_ok (entries plants more ms) _ os x.2 in
-    let e : x.0 ∷ xs.0 ≡ os = ok_same _ _ xs.2 in
+    let e : x.0 ∷ xs.0 ≡ os = ok_same (x.0 ∷ xs.0) os xs.2 in
     let is : x.0 ≡ Some c = same_Some x.0 (Some c) (subst (λ l. At l 0 (Some c)) (sym e) is_c) in
     let f = optional_ok (entry (width_of plants m.plant)) (get_member m.name ms) c (part_ok m.name _ (Some c) (x.1 ∙ ap Ok is)) in
     subst (λ (k : ModuleInfo). IsEntry (width_of plants k.plant) c) (same_Some m info is_info) (entry_form _ f.0 c f.1)
 entries_form plants (m ∷ more) ms os h (suc i) info c is_info is_c =
     let x = bind_ok (may m.name (entry (width_of plants m.plant)) ms) _ os h in
     let xs = bind_ok (entries plants more ms) _ os x.2 in
-    let e : x.0 ∷ xs.0 ≡ os = ok_same _ _ xs.2 in
+    let e : x.0 ∷ xs.0 ≡ os = ok_same (x.0 ∷ xs.0) os xs.2 in
     let at_c : At (x.0 ∷ xs.0) (suc i) (Some c) = subst (λ l. At l (suc i) (Some c)) (sym e) is_c in
     entries_form plants more ms xs.0 xs.1 i info c is_info at_c
 
@@ -111,28 +111,49 @@ jitter_in_below p rules false ms j h =
       infos = λ m a at. let l = rules.typed.module_times m a at in omega (arith, l);
     })
 
-pub cert_fits : (p : Tables) (rules : MeetsTableRules p) (d : Data) (c : Cert) → cert p d ≡ Ok (contents c) → FitsTables p c
-unfolding cert modules
-cert_fits p rules d c h =
-    let ms = bind_ok (or WrongShape (as_object d)) _ (contents c) h in
-    let jittered = bind_ok (at (codes "format") has_jitter ms.0) _ (contents c) ms.2 in
-    let j = bind_ok (jitter_in jittered.0 p ms.0) _ (contents c) jittered.2 in
-    let found = bind_ok (at (codes "modules") (modules p) ms.0) _ (contents c) j.2 in
-    let ok = bind_ok (unless Unknown (all_among ms.0 (keys jittered.0))) _ (contents c) found.2 in
-    let same : record { jitter = j.0; modules = found.0 } ≡ contents c = ok_same _ _ ok.2 in
-    let jitter_is : j.0 ≡ c.jitter = ap (λ (x : Contents). x.jitter) same in
-    let found_is : found.0 ≡ c.modules.items = ap (λ (x : Contents). x.modules) same in
+modules_ok : (p : Tables) (d : Data) (os : List (Option Cells)) → modules p d ≡ Ok os → (ms : Members) × (entries p.plants p.modules ms ≡ Ok os)
+unfolding modules
+modules_ok p d os h =
+    let ms = bind_ok (or WrongShape (as_object d)) _ os h in
+    let list = bind_ok (entries p.plants p.modules ms.0) _ os ms.2 in
+    let ok = bind_ok (unless Unknown (all_among ms.0 (names p.modules))) _ os list.2 in
+    (ms.0, list.1 ∙ ap Ok (ok_same list.0 os ok.2))
+
+-- where the jitter of a certificate and its modules were read
+record IsRead (p : Tables) (k : Contents) : Type 0 where
+  jittered : Bool
+  members : Members
+  value : Data
+  jitter_is : jitter_in jittered p members ≡ Ok k.jitter
+  modules_are : modules p value ≡ Ok k.modules
+
+cert_ok : (p : Tables) (d : Data) (k : Contents) → cert p d ≡ Ok k → IsRead p k
+unfolding cert
+cert_ok p d k h =
+    let ms = bind_ok (or WrongShape (as_object d)) _ k h in
+    let format = bind_ok (at (codes "format") has_jitter ms.0) _ k ms.2 in
+    let j = bind_ok (jitter_in format.0 p ms.0) _ k format.2 in
+    let found = bind_ok (at (codes "modules") (modules p) ms.0) _ k j.2 in
+    let ok = bind_ok (unless Unknown (all_among ms.0 (keys format.0))) _ k found.2 in
+    let e : record { jitter = j.0; modules = found.0 } ≡ k = ok_same (record { jitter = j.0; modules = found.0 }) k ok.2 in
     let m = at_ok (codes "modules") (modules p) ms.0 found.0 found.1 in
-    let os = bind_ok (or WrongShape (as_object m.0)) _ found.0 m.1 in
-    let list = bind_ok (entries p.plants p.modules os.0) _ found.0 os.2 in
-    let done = bind_ok (unless Unknown (all_among os.0 (names p.modules))) _ found.0 list.2 in
-    let list_is : list.0 ≡ c.modules.items = ok_same list.0 found.0 done.2 ∙ found_is in
-    let says : entries p.plants p.modules os.0 ≡ Ok c.modules.items = list.1 ∙ ap Ok list_is in
-    let below = subst (IsBelow p) jitter_is (jitter_in_below p rules jittered.0 ms.0 j.0 j.1) in
     record {
-      entries = entries_len p.plants p.modules os.0 c.modules.items says;
-      closed = λ k info cells is_info is_c. of_plant info.plant cells.closed (entries_form p.plants p.modules os.0 c.modules.items says k info cells is_info is_c).closed;
-      reach = λ k info cells is_info is_c. of_plant info.plant cells.reach (entries_form p.plants p.modules os.0 c.modules.items says k info cells is_info is_c).reach;
+      jittered = format.0;
+      members = ms.0;
+      value = m.0;
+      jitter_is = j.1 ∙ ap (λ (x : Contents). Ok x.jitter) e;
+      modules_are = m.1 ∙ ap (λ (x : Contents). Ok x.modules) e;
+    }
+
+pub cert_fits : (p : Tables) (rules : MeetsTableRules p) (d : Data) (c : Cert) → cert p d ≡ Ok (contents c) → FitsTables p c
+cert_fits p rules d c h =
+    let read = cert_ok p d (contents c) h in
+    let list = modules_ok p read.value c.modules.items read.modules_are in
+    let below = jitter_in_below p rules read.jittered read.members c.jitter read.jitter_is in
+    record {
+      entries = entries_len p.plants p.modules list.0 c.modules.items list.1;
+      closed = λ k info cells is_info is_c. of_plant info.plant cells.closed (entries_form p.plants p.modules list.0 c.modules.items list.1 k info cells is_info is_c).closed;
+      reach = λ k info cells is_info is_c. of_plant info.plant cells.reach (entries_form p.plants p.modules list.0 c.modules.items list.1 k info cells is_info is_c).reach;
       node_jitter = below.nodes;
       module_jitter = below.infos;
     }

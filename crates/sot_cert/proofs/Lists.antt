@@ -1,11 +1,11 @@
 -- Items one after the other, as a loop reads them, and keys among names.
-use Rattle.std.proofs.Common.{◌≡◌, ℕ, zero, suc, ◌+◌, ◌<◌, ◌≤◌, List, [], ◌∷◌, ◌++◌, length, map, drop, get_or, Bool, false, ◌||◌, bytes_eq, Bor, Some, None, Ok, Err, refl, sym, ap, subst, ◌∙◌, decimal, arith}
+use Rattle.std.proofs.Common.{◌≡◌, ℕ, zero, suc, ◌+◌, ◌<◌, ◌≤◌, List, [], ◌∷◌, ◌++◌, length, map, drop, get_or, Bool, false, ◌||◌, bytes_eq, Bor, Some, None, Ok, refl, sym, ap, subst, ◌∙◌, decimal, arith}
 use Rattle.serde_json.specs.Data.{Data, no_items, item}
 use Rattle.serde_json.specs.Events.{items_len}
 use Rattle.serde_json.specs.View.{view, items_view}
 use Rattle.serde_json.specs.declared.value.Value.{Value}
 use Rattle.sot_cert.specs.declared.fault.JsonFail.{JsonFail}
-use Rattle.sot_cert.specs.Says.{Says, ◌>>=◌, part}
+use Rattle.sot_cert.specs.Says.{Says}
 use Rattle.sot_cert.specs.Json.{two, each_after, is_among}
 use Rattle.sot_cert.specs.Answers.{Fails, IsUnder}
 use Rattle.sot_cert.proofs.Faults.{part_fails}

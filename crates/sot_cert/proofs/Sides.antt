@@ -1,6 +1,6 @@
 -- Sides, cells and lists of cells that were read are in form.
-use Rattle.std.proofs.Common.{◌≡◌, ℕ, zero, suc, ◌+◌, ◌≤◌, ◌≤ℤ◌, List, [], ◌∷◌, ◌++◌, length, Option, Some, None, Ok, true, refl, sym, ap, subst, ◌∙◌, length-append, codes, decimal, arith}
-use Rattle.std.specs.Prelude.{int_le, nat_le, ◌==◌, slice_get}
+use Rattle.std.proofs.Common.{◌≡◌, ℕ, zero, suc, ◌+◌, ◌≤◌, ◌≤ℤ◌, List, [], ◌∷◌, ◌++◌, length, Ok, refl, subst, length-append, codes, decimal, arith}
+use Rattle.std.specs.Prelude.{int_le, nat_le, ◌==◌}
 use Rattle.std.proofs.lemmas.Bool.{leb-true, eqb-true}
 use Rattle.std.proofs.lemmas.Option.{same_Some}
 use Rattle.serde_json.specs.Data.{Data, Items, no_items, item}
@@ -10,7 +10,7 @@ use Rattle.sot_lists.specs.Places.{At}
 use Rattle.sot_box.specs.Sides.{Side, AreOrdered}
 use Rattle.sot_box.specs.BoxList.{BoxList}
 use Rattle.sot_cert.specs.declared.fault.JsonKind.TheVariants.{WrongShape, Width, Empty, TooMany}
-use Rattle.sot_cert.specs.Says.{Says, ◌>>=◌, or, unless, part}
+use Rattle.sot_cert.specs.Says.{Says, or, unless, part}
 use Rattle.sot_cert.specs.Json.{each_after, each, two}
 use Rattle.sot_cert.specs.CertFormat.{number, side, cell, cells, region_of, cell_limit}
 use Rattle.sot_cert.proofs.Binds.{bind_ok, part_ok, unless_ok, ok_same}
@@ -41,7 +41,7 @@ side_ordered d x h =
     let lo = bind_ok (part (codes "0") (number ends.0.0)) _ x ends.2 in
     let hi = bind_ok (part (codes "1") (number ends.0.1)) _ x lo.2 in
     let ok = bind_ok (unless Empty (int_le lo.0 hi.0)) _ x hi.2 in
-    let e : record { lo = lo.0; hi = hi.0 } ≡ x = ok_same _ _ ok.2 in
+    let e : record { lo = lo.0; hi = hi.0 } ≡ x = ok_same (record { lo = lo.0; hi = hi.0 }) x ok.2 in
     subst (λ (s : Side). s.lo ≤ℤ s.hi) e (int_le_true lo.0 hi.0 (unless_ok Empty _ _ ok.1))
 
 ordered_push : (done : List Side) (x : Side) → AreOrdered done → x.lo ≤ℤ x.hi → AreOrdered (done ++ x ∷ [])
@@ -81,7 +81,7 @@ cells_form width d r h =
     let boxes = bind_ok (each (cell width) ds.0) _ r ok.2 in
     let n : items_len ds.0 ≤ 4096 = leb-true _ _ (unless_ok TooMany _ _ ok.1) in
     let l : length boxes.0 ≡ length {A = List Side} [] + items_len ds.0 = each_len (cell width) [] ds.0 boxes.0 boxes.1 in
-    let e : region_of width boxes.0 ≡ r = ok_same _ _ boxes.2 in
+    let e : region_of width boxes.0 ≡ r = ok_same (region_of width boxes.0) r boxes.2 in
     let P = λ (b : List Side). (length b ≡ width) × AreOrdered b in
     let form = each_keeps (cell width) (λ (bs : List (List Side)). (i : ℕ) (b : List Side) → At bs i b → P b) (λ done c b all s. form_push P done b all (cell_form width c b s)) [] ds.0 boxes.0 (λ i b at. absurd (none_at i b at)) boxes.1 in
     subst (λ (r : BoxList). AreCells width r) e (record { width_is = refl; few = omega arith; form = form })

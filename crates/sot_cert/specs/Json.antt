@@ -1,5 +1,5 @@
 -- What the formats say of JSON values: numbers, lists, and keys of an object.
-use Rattle.std.specs.Prelude.{unsigned_abs, ℕ, suc, ℤ, pos, List, [], ◌∷◌, ◌++◌, length, decimal, Bool, true, false, ◌&&◌, ◌||◌, int_le, bytes_eq, Option, Some, None, Ok, Err, if◌then◌else◌}
+use Rattle.std.specs.Prelude.{unsigned_abs, ℕ, ℤ, pos, List, [], ◌∷◌, ◌++◌, length, decimal, Bool, true, false, ◌&&◌, ◌||◌, int_le, bytes_eq, Option, Some, None, Ok, Err, if◌then◌else◌}
 use Rattle.std.specs.Str.{is_utf8}
 use Rattle.serde_json.specs.Data.{Data, Items, no_items, item, Members, no_members, member}
 use Rattle.serde_json.specs.Find.{get_member, as_number, as_integer}

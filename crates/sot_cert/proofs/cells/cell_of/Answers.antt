@@ -1,5 +1,4 @@
-use Rattle.std.proofs.Common.{◌≡◌, [], length, ap, ◌∙◌, arith}
-use Rattle.std.specs.Prelude.{◌<◌, ◌⊎◌}
+use Rattle.std.proofs.Common.{[], length, ap, arith}
 use Rattle.serde_json.specs.View.{items_view}
 use Rattle.sot_cert.proofs.Sides.{each_len}
 use Rattle.sot_cert.specs.CertFormat.{side}

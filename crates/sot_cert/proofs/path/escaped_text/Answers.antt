@@ -1,5 +1,4 @@
 use Rattle.std.proofs.Common.{encode_utf8, ap, sym, ◌∙◌, ◌++◌}
-use Rattle.std.specs.Str.{encode_utf8_all}
 use Rattle.std.proofs.lemmas.Iterator.{YieldsList-from_chars}
 use Rattle.std.proofs.lemmas.Iterator.Consumers.{YieldsList-end}
 use Rattle.sot_cert.specs.Pointers.{escaped}

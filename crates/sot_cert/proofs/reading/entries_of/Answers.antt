@@ -1,4 +1,4 @@
-use Rattle.std.proofs.Common.{◌≡◌, ◌≤◌, length, ap, ◌∙◌, arith}
+use Rattle.std.proofs.Common.{◌≡◌, length, ap, ◌∙◌, arith}
 use Rattle.serde_json.specs.View.{members_view}
 use Rattle.sot_lang.specs.Tables.{Tables}
 use Rattle.sot_cert.proofs.Modules.{entries_done}

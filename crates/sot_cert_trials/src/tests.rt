@@ -1,0 +1,112 @@
+//! What texts say as certificates of the worked missions, and their first faults. Expected values are worked out by hand from
+//! the format, and an independent reader agrees with each of them.
+mod bytes;
+mod faults;
+mod limits;
+mod readers;
+
+use sot_box::Region;
+use sot_cert::{CertFail, read_cert};
+use sot_lang::{Cert, Typed};
+use sot_worked::{line, pair};
+use std::alloc::Global;
+use std::test::*;
+
+// The boxes of a region, as `[0..1, 2..3] [4..5, 6..7]`.
+fn region_text(alloc: Global, region: &Region) -> Result<String, Fail> {
+    let mut text = String::new(alloc);
+    if region.len() == 0 {
+        text.push_str("none")?;
+    }
+    for i in 0..region.len() {
+        let b = region.at(i);
+        let before = if i == 0 { "[" } else { " [" };
+        text.push_str(before)?;
+        for k in 0..b.len() {
+            let side = b.side(k);
+            let comma = if k == 0 { "" } else { ", " };
+            let (lo, hi) = (side.lo, side.hi);
+            let one = format!(in alloc; "{comma}{lo}..{hi}")?;
+            text.push_str(one.as_str())?;
+        }
+        text.push_str("]")?;
+    }
+    Ok(text)
+}
+
+// The jitter, and of each module its closed and its reach cells.
+fn cert_text(alloc: Global, cert: &Cert) -> Result<String, Fail> {
+    let jitter = cert.jitter;
+    let mut text = format!(in alloc; "jitter {jitter}")?;
+    for entry in cert.modules.iter() {
+        match entry {
+            None => text.push_str("; -")?,
+            Some(cells) => {
+                let closed = region_text(alloc, &cells.closed)?;
+                let reach = region_text(alloc, &cells.reach)?;
+                let (closed, reach) = (closed.as_str(), reach.as_str());
+                let one = format!(in alloc; "; {closed} / {reach}")?;
+                text.push_str(one.as_str())?;
+            }
+        }
+    }
+    Ok(text)
+}
+
+// What the bytes say, or the path and kind of their first fault. The path of the root is printed as `/`.
+fn said(alloc: Global, p: &Typed, bytes: &[u8]) -> Result<String, Fail> {
+    match read_cert(alloc, p, bytes) {
+        Ok(cert) => cert_text(alloc, &cert),
+        Err(CertFail::Memory) => Ok(String::from_str(alloc, "memory")?),
+        Err(CertFail::Fault(fault)) => {
+            let path = match fault.path.as_str() {
+                "" => "/",
+                path => path,
+            };
+            let kind = fault.kind;
+            Ok(format!(in alloc; "{path} {kind:?}")?)
+        }
+    }
+}
+
+#[test]
+fn certificates_of_the_line(rt: HostRuntime) -> Result<(), Fail> {
+    let alloc = rt.alloc();
+    let p = line(alloc)?;
+    for (text, wanted) in [
+        (r#"{"format":1,"modules":{"nav":{"closed":[[[-40,-11]],[[-10,10]],[[11,40]]],"reach":[[[-10,10]]]}}}"#, "jitter 0; [-40..-11] [-10..10] [11..40] / [-10..10]"),
+        (r#"{"format":2,"jitter":1,"modules":{"nav":{"closed":[[[-40,40]]],"reach":[[[-10,10]]]}}}"#, "jitter 1; [-40..40] / [-10..10]"),
+        (r#" { "modules" : { "nav" : { "reach" : [ ] , "closed" : [ [ [ 0 , 0 ] ] ] } } , "format" : 1 } "#, "jitter 0; [0..0] / none"),
+        (r#"{"format":1,"modules":{}}"#, "jitter 0; -"),
+        (r#"{"format":2,"jitter":0,"modules":{}}"#, "jitter 0; -"),
+        (r#"{"form\u0061t":1,"modules":{"n\u0061v":{"closed":[],"reach":[]}}}"#, "jitter 0; none / none"),
+        (r#"{"format":3,"modules":1,"modules":{},"format":1}"#, "jitter 0; -"),
+        (r#"{"format":1,"modules":{"nav":{"closed":[[[9,9]]],"reach":[],"closed":[[[1,2]]]}}}"#, "jitter 0; [1..2] / none"),
+        (r#"{"format":1,"modules":{"nav":{"closed":[[[-1000000000000,1000000000000]]],"reach":[]}}}"#, "jitter 0; [-1000000000000..1000000000000] / none"),
+    ] {
+        let got = said(alloc, &p, text.as_bytes())?;
+        assert_eq!(rt; got.as_str(), wanted);
+    }
+    Ok(())
+}
+
+#[test]
+fn modules_in_declared_order(rt: HostRuntime) -> Result<(), Fail> {
+    let alloc = rt.alloc();
+    let p = pair(alloc, 42)?;
+    for (text, wanted) in [
+        (r#"{"format":1,"modules":{"fly":{"closed":[[[0,10],[42,1000]]],"reach":[]},"nav":{"closed":[[[-1,1]]],"reach":[[[2,3]]]}}}"#, "jitter 0; [-1..1] / [2..3]; [0..10, 42..1000] / none"),
+        (r#"{"format":1,"modules":{"fly":{"closed":[],"reach":[[[0,10],[42,1000]],[[-3,-2],[5,5]]]}}}"#, "jitter 0; -; none / [0..10, 42..1000] [-3..-2, 5..5]"),
+        (r#"{"format":1,"modules":{"fly":0,"nav":{}}}"#, "/modules/nav/closed Missing"),
+        (r#"{"format":1,"modules":{"fly":{"closed":[[[0,10]]],"reach":[]}}}"#, "/modules/fly/closed/0 Width"),
+        (r#"{"format":1,"modules":{"nav":{"closed":[[[0,1],[0,1]]],"reach":[]}}}"#, "/modules/nav/closed/0 Width"),
+        (r#"{"format":1,"modules":{"fly":{"closed":[[[0,10],[1,0]]],"reach":[]}}}"#, "/modules/fly/closed/0/1 Empty"),
+        (r#"{"format":1,"modules":{"fly":{"closed":[],"reach":[[[0,10],[7,"x"]]]}}}"#, "/modules/fly/reach/0/1/1 WrongShape"),
+        (r#"{"format":2,"jitter":1,"modules":{}}"#, "/jitter OutsideRange"),
+        (r#"{"format":2,"jitter":0,"modules":{}}"#, "jitter 0; -; -"),
+    ] {
+        let got = said(alloc, &p, text.as_bytes())?;
+        assert_eq!(rt; got.as_str(), wanted);
+    }
+    Ok(())
+}
