@@ -1,5 +1,5 @@
 -- The ranges of scalars, locals and disturbances.
-use Rattle.std.specs.Prelude.{ℕ, pos, List, slice_index_or, map}
+use Rattle.std.specs.Prelude.{ℕ, List, slice_index_or, map}
 use Rattle.sot_lang.specs.declared.tables.ScalarInfo.{ScalarInfo}
 use Rattle.sot_lang.specs.declared.tables.PlantInfo.{PlantInfo}
 use Rattle.sot_lang.specs.declared.tables.NodeInfo.{NodeInfo}

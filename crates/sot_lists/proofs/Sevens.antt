@@ -1,7 +1,7 @@
 -- The places of the worked list.
 use Rattle.std.proofs.Common.{ℕ, zero, suc, refl}
 use Rattle.std.proofs.lemmas.Option.{none-some, same_Some}
-use Rattle.sot_lists.specs.Places.{At, Has}
+use Rattle.sot_lists.specs.Places.{At}
 use Rattle.sot_lists.specs.Sevens.{sevens, PlacesOfSevens, MembersOfSevens}
 
 pub places : PlacesOfSevens

@@ -1,5 +1,5 @@
 -- Places of a worked list.
-use Rattle.std.specs.Prelude.{◌≡◌, ℕ, List, [], ◌∷◌}
+use Rattle.std.specs.Prelude.{ℕ, List, [], ◌∷◌}
 use Rattle.sot_lists.specs.Places.{At, Has}
 
 -- 7, 8, 7
