@@ -11,7 +11,7 @@ use Rattle.sot_report.specs.declared.fault.Fault.{Fault}
 use Rattle.sot_report.specs.declared.fault.Fault.TheVariants as faults
 use Rattle.sot_report.specs.declared.fault.LoadFail.{LoadFail}
 use Rattle.sot_report.specs.declared.fault.LoadFail.TheVariants as fails
-use Rattle.sot_report.specs.declared.load.Loaded.{Loaded}
+use Rattle.sot_report.specs.declared.loading.Loaded.{Loaded}
 use Rattle.sot_report.specs.Missions.{SpellsNone, Resolves, SpellsMission}
 
 -- a fault is what P says; want of memory may come at any time

@@ -8,14 +8,14 @@
 mod accepted;
 mod facts;
 mod fault;
-mod fault_text;
-mod load;
+mod fault_lines;
+mod loading;
 mod piece;
-mod refusal_text;
+mod refusal_lines;
 
 pub use accepted::accepted_text;
 pub use facts::texts_are_as_stated;
 pub use fault::{Fault, LoadFail};
-pub use fault_text::fault_text;
-pub use load::{Loaded, load};
-pub use refusal_text::refusal_text;
+pub use fault_lines::fault_text;
+pub use loading::{Loaded, load};
+pub use refusal_lines::refusal_text;
