@@ -81,16 +81,20 @@ fn ask(rt: &impl Abort, region: &Region, worked: &Worked<'_>) -> Result<(), Fail
     Ok(())
 }
 
-/// The same before and after, and once more after it was settled twice.
+/// Asks before and after the region is settled, and once more after it is settled again. Where there is
+/// no memory for an index the answers are the same.
 fn ask_settled(rt: &impl Abort, region: &mut Region, worked: &Worked<'_>) -> Result<(), Fail>
     requires { region.old.width ≡ 2 }
     ensures { region.new.width ≡ 2 }
 {
     ask(rt, region, worked)?;
-    region.settle()?;
+    let first = region.settle();
     ask(rt, region, worked)?;
-    region.settle()?;
-    ask(rt, region, worked)
+    first?;
+    let again = region.settle();
+    ask(rt, region, worked)?;
+    again?;
+    Ok(())
 }
 
 #[test]
