@@ -9,7 +9,7 @@ use sot_box::Region;
 use sot_cert::{CertFail, read_cert};
 use sot_lang::{Cert, Typed};
 use sot_worked::{line, pair};
-use std::alloc::Global;
+use std::alloc::{AllocError, Global};
 use std::test::*;
 
 // The boxes of a region, as `[0..1, 2..3] [4..5, 6..7]`.
@@ -57,7 +57,7 @@ fn cert_text(alloc: Global, cert: &Cert) -> Result<String, Fail> {
 fn said(alloc: Global, p: &Typed, bytes: &[u8]) -> Result<String, Fail> {
     match read_cert(alloc, p, bytes) {
         Ok(cert) => cert_text(alloc, &cert),
-        Err(CertFail::Memory) => Ok(String::from_str(alloc, "memory")?),
+        Err(CertFail::Memory) => Err(Fail::from(AllocError)),
         Err(CertFail::Fault(fault)) => {
             let (path, kind) = (fault.path.as_printed(), fault.kind);
             Ok(format!(in alloc; "{path} {kind:?}")?)
