@@ -1,6 +1,8 @@
+-- lemmas on what JSON values say, for the readers here and of other formats
 pub mod Faults
 pub mod Escapes
 pub mod Lists
+-- lemmas on certificates
 pub mod Modules
 pub mod Binds
 pub mod Bounds

@@ -1,5 +1,5 @@
--- Names as parts of a JSON pointer.
-use Rattle.std.specs.Prelude.{ℕ, List, [], ◌∷◌, ◌==◌, if◌then◌else◌}
+-- Names as parts of a JSON pointer, and how a pointer is printed.
+use Rattle.std.specs.Prelude.{ℕ, List, [], ◌∷◌, codes, ◌==◌, if◌then◌else◌}
 use Rattle.std.specs.List.{flat_map}
 
 -- `~0` for `~`, which is 126, and `~1` for `/`, which is 47
@@ -8,3 +8,8 @@ escape_of b = if b == 126 then 126 ∷ 48 ∷ [] else (if b == 47 then 126 ∷ 4
 
 abbrev pub escaped : List ℕ → List ℕ
 escaped name = flat_map escape_of name
+
+-- the root, which is the empty pointer, is printed as `/`
+abbrev pub printed : List ℕ → List ℕ
+printed [] = codes "/"
+printed (b ∷ bs) = b ∷ bs

@@ -1,11 +1,11 @@
 //! A JSON pointer: where a value stands in a JSON text.
 ghost use Rattle.std.specs.Prelude.{◌≡◌, ℕ, List, [], ◌∷◌, ◌++◌, IfOk, OnOk, encode_utf8, string_bytes};
-ghost use Rattle.sot_cert.specs.Pointers.{escaped};
+ghost use Rattle.sot_cert.specs.Pointers.{escaped, printed};
 
 use std::alloc::{AllocError, Global};
 use std::marker::Model;
 
-/// A JSON pointer. Contracts see its bytes. The root is the empty one; print it as `/`.
+/// A JSON pointer. Contracts see its bytes. The root is the empty one.
 #[derive(Debug, Drop)]
 pub struct Path {
     text: String,
@@ -42,6 +42,14 @@ impl Path {
         ensures { result.now ≡ self.now }
     {
         self.text.as_str()
+    }
+
+    /// The text to be printed: `/` for the root.
+    pub fn as_printed(&self) -> &str
+        ensures { result.now ≡ printed self.now }
+    {
+        let text = self.text.as_str();
+        if text.is_empty() { "/" } else { text }
     }
 }
 

@@ -9,7 +9,7 @@ use sot_box::Region;
 use sot_cert::{CertFail, read_cert};
 use sot_lang::{Cert, Typed};
 use sot_worked::{line, pair};
-use std::alloc::Global;
+use std::alloc::{AllocError, Global};
 use std::test::*;
 
 // The boxes of a region, as `[0..1, 2..3] [4..5, 6..7]`.
@@ -53,17 +53,13 @@ fn cert_text(alloc: Global, cert: &Cert) -> Result<String, Fail> {
     Ok(text)
 }
 
-// What the bytes say, or the path and kind of their first fault. The path of the root is printed as `/`.
+// What the bytes say, or the path and kind of their first fault, as they are printed.
 fn said(alloc: Global, p: &Typed, bytes: &[u8]) -> Result<String, Fail> {
     match read_cert(alloc, p, bytes) {
         Ok(cert) => cert_text(alloc, &cert),
-        Err(CertFail::Memory) => Ok(String::from_str(alloc, "memory")?),
+        Err(CertFail::Memory) => Err(Fail::from(AllocError)),
         Err(CertFail::Fault(fault)) => {
-            let path = match fault.path.as_str() {
-                "" => "/",
-                path => path,
-            };
-            let kind = fault.kind;
+            let (path, kind) = (fault.path.as_printed(), fault.kind);
             Ok(format!(in alloc; "{path} {kind:?}")?)
         }
     }
@@ -74,15 +70,36 @@ fn certificates_of_the_line(rt: HostRuntime) -> Result<(), Fail> {
     let alloc = rt.alloc();
     let p = line(alloc)?;
     for (text, wanted) in [
-        (r#"{"format":1,"modules":{"nav":{"closed":[[[-40,-11]],[[-10,10]],[[11,40]]],"reach":[[[-10,10]]]}}}"#, "jitter 0; [-40..-11] [-10..10] [11..40] / [-10..10]"),
-        (r#"{"format":2,"jitter":1,"modules":{"nav":{"closed":[[[-40,40]]],"reach":[[[-10,10]]]}}}"#, "jitter 1; [-40..40] / [-10..10]"),
-        (r#" { "modules" : { "nav" : { "reach" : [ ] , "closed" : [ [ [ 0 , 0 ] ] ] } } , "format" : 1 } "#, "jitter 0; [0..0] / none"),
+        (
+            r#"{"format":1,"modules":{"nav":{"closed":[[[-40,-11]],[[-10,10]],[[11,40]]],"reach":[[[-10,10]]]}}}"#,
+            "jitter 0; [-40..-11] [-10..10] [11..40] / [-10..10]",
+        ),
+        (
+            r#"{"format":2,"jitter":1,"modules":{"nav":{"closed":[[[-40,40]]],"reach":[[[-10,10]]]}}}"#,
+            "jitter 1; [-40..40] / [-10..10]",
+        ),
+        (
+            r#" { "modules" : { "nav" : { "reach" : [ ] , "closed" : [ [ [ 0 , 0 ] ] ] } } , "format" : 1 } "#,
+            "jitter 0; [0..0] / none",
+        ),
         (r#"{"format":1,"modules":{}}"#, "jitter 0; -"),
         (r#"{"format":2,"jitter":0,"modules":{}}"#, "jitter 0; -"),
-        (r#"{"form\u0061t":1,"modules":{"n\u0061v":{"closed":[],"reach":[]}}}"#, "jitter 0; none / none"),
-        (r#"{"format":3,"modules":1,"modules":{},"format":1}"#, "jitter 0; -"),
-        (r#"{"format":1,"modules":{"nav":{"closed":[[[9,9]]],"reach":[],"closed":[[[1,2]]]}}}"#, "jitter 0; [1..2] / none"),
-        (r#"{"format":1,"modules":{"nav":{"closed":[[[-1000000000000,1000000000000]]],"reach":[]}}}"#, "jitter 0; [-1000000000000..1000000000000] / none"),
+        (
+            r#"{"form\u0061t":1,"modules":{"n\u0061v":{"closed":[],"reach":[]}}}"#,
+            "jitter 0; none / none",
+        ),
+        (
+            r#"{"format":3,"modules":1,"modules":{},"format":1}"#,
+            "jitter 0; -",
+        ),
+        (
+            r#"{"format":1,"modules":{"nav":{"closed":[[[9,9]]],"reach":[],"closed":[[[1,2]]]}}}"#,
+            "jitter 0; [1..2] / none",
+        ),
+        (
+            r#"{"format":1,"modules":{"nav":{"closed":[[[-1000000000000,1000000000000]]],"reach":[]}}}"#,
+            "jitter 0; [-1000000000000..1000000000000] / none",
+        ),
     ] {
         let got = said(alloc, &p, text.as_bytes())?;
         assert_eq!(rt; got.as_str(), wanted);
@@ -95,14 +112,38 @@ fn modules_in_declared_order(rt: HostRuntime) -> Result<(), Fail> {
     let alloc = rt.alloc();
     let p = pair(alloc, 42)?;
     for (text, wanted) in [
-        (r#"{"format":1,"modules":{"fly":{"closed":[[[0,10],[42,1000]]],"reach":[]},"nav":{"closed":[[[-1,1]]],"reach":[[[2,3]]]}}}"#, "jitter 0; [-1..1] / [2..3]; [0..10, 42..1000] / none"),
-        (r#"{"format":1,"modules":{"fly":{"closed":[],"reach":[[[0,10],[42,1000]],[[-3,-2],[5,5]]]}}}"#, "jitter 0; -; none / [0..10, 42..1000] [-3..-2, 5..5]"),
-        (r#"{"format":1,"modules":{"fly":0,"nav":{}}}"#, "/modules/nav/closed Missing"),
-        (r#"{"format":1,"modules":{"fly":{"closed":[[[0,10]]],"reach":[]}}}"#, "/modules/fly/closed/0 Width"),
-        (r#"{"format":1,"modules":{"nav":{"closed":[[[0,1],[0,1]]],"reach":[]}}}"#, "/modules/nav/closed/0 Width"),
-        (r#"{"format":1,"modules":{"fly":{"closed":[[[0,10],[1,0]]],"reach":[]}}}"#, "/modules/fly/closed/0/1 Empty"),
-        (r#"{"format":1,"modules":{"fly":{"closed":[],"reach":[[[0,10],[7,"x"]]]}}}"#, "/modules/fly/reach/0/1/1 WrongShape"),
-        (r#"{"format":2,"jitter":1,"modules":{}}"#, "/jitter OutsideRange"),
+        (
+            r#"{"format":1,"modules":{"fly":{"closed":[[[0,10],[42,1000]]],"reach":[]},"nav":{"closed":[[[-1,1]]],"reach":[[[2,3]]]}}}"#,
+            "jitter 0; [-1..1] / [2..3]; [0..10, 42..1000] / none",
+        ),
+        (
+            r#"{"format":1,"modules":{"fly":{"closed":[],"reach":[[[0,10],[42,1000]],[[-3,-2],[5,5]]]}}}"#,
+            "jitter 0; -; none / [0..10, 42..1000] [-3..-2, 5..5]",
+        ),
+        (
+            r#"{"format":1,"modules":{"fly":0,"nav":{}}}"#,
+            "/modules/nav/closed Missing",
+        ),
+        (
+            r#"{"format":1,"modules":{"fly":{"closed":[[[0,10]]],"reach":[]}}}"#,
+            "/modules/fly/closed/0 Width",
+        ),
+        (
+            r#"{"format":1,"modules":{"nav":{"closed":[[[0,1],[0,1]]],"reach":[]}}}"#,
+            "/modules/nav/closed/0 Width",
+        ),
+        (
+            r#"{"format":1,"modules":{"fly":{"closed":[[[0,10],[1,0]]],"reach":[]}}}"#,
+            "/modules/fly/closed/0/1 Empty",
+        ),
+        (
+            r#"{"format":1,"modules":{"fly":{"closed":[],"reach":[[[0,10],[7,"x"]]]}}}"#,
+            "/modules/fly/reach/0/1/1 WrongShape",
+        ),
+        (
+            r#"{"format":2,"jitter":1,"modules":{}}"#,
+            "/jitter OutsideRange",
+        ),
         (r#"{"format":2,"jitter":0,"modules":{}}"#, "jitter 0; -; -"),
     ] {
         let got = said(alloc, &p, text.as_bytes())?;

@@ -8,7 +8,10 @@ fn first_faults(rt: HostRuntime) -> Result<(), Fail> {
     let alloc = rt.alloc();
     let p = line(alloc)?;
     for (text, wanted) in [
-        (r#"{"format":1,"modules":{},"format":3}"#, "/format OutsideRange"),
+        (
+            r#"{"format":1,"modules":{},"format":3}"#,
+            "/format OutsideRange",
+        ),
         (r#"[]"#, "/ WrongShape"),
         (r#"1"#, "/ WrongShape"),
         (r#"null"#, "/ WrongShape"),
@@ -35,31 +38,67 @@ fn first_faults(rt: HostRuntime) -> Result<(), Fail> {
         (r#"{"format":2,"jitter":null}"#, "/jitter WrongShape"),
         (r#"{"format":2,"jitter":0.5}"#, "/jitter NotWhole"),
         (r#"{"format":2,"jitter":-1}"#, "/jitter OutsideRange"),
-        (r#"{"format":2,"jitter":2,"modules":{}}"#, "/jitter OutsideRange"),
+        (
+            r#"{"format":2,"jitter":2,"modules":{}}"#,
+            "/jitter OutsideRange",
+        ),
         (r#"{"format":2,"jitter":3}"#, "/jitter OutsideRange"),
         (r#"{"format":2,"jitter":4}"#, "/jitter OutsideRange"),
         (r#"{"format":2,"jitter":999}"#, "/jitter OutsideRange"),
         (r#"{"format":2,"jitter":1000}"#, "/jitter OutsideRange"),
         (r#"{"format":2,"jitter":1}"#, "/modules Missing"),
         (r#"{"format":1,"jitter":1,"modules":{}}"#, "/ Unknown"),
-        (r#"{"format":1,"jitter":"x","modules":[]}"#, "/modules WrongShape"),
+        (
+            r#"{"format":1,"jitter":"x","modules":[]}"#,
+            "/modules WrongShape",
+        ),
         (r#"{"format":1}"#, "/modules Missing"),
         (r#"{"format":1,"modules":[]}"#, "/modules WrongShape"),
         (r#"{"format":1,"modules":{"zap":{}}}"#, "/modules Unknown"),
-        (r#"{"format":1,"modules":{"zap":{}},"x":0}"#, "/modules Unknown"),
+        (
+            r#"{"format":1,"modules":{"zap":{}},"x":0}"#,
+            "/modules Unknown",
+        ),
         (r#"{"format":1,"modules":{},"x":0}"#, "/ Unknown"),
         (r#"{"format":1,"modules":{"NAV":0}}"#, "/modules Unknown"),
         (r#"{"format":1,"modules":{"nav ":0}}"#, "/modules Unknown"),
         (r#"{"format":1,"modules":{"a/b~c":0}}"#, "/modules Unknown"),
-        (r#"{"format":1,"modules":{"nav":[]}}"#, "/modules/nav WrongShape"),
-        (r#"{"format":1,"modules":{"nav":null}}"#, "/modules/nav WrongShape"),
-        (r#"{"format":1,"modules":{"a":0,"nav":{}}}"#, "/modules/nav/closed Missing"),
-        (r#"{"format":1,"modules":{"nav":{"reach":0}}}"#, "/modules/nav/closed Missing"),
-        (r#"{"format":1,"modules":{"nav":{"closed":[],"x":0}}}"#, "/modules/nav/reach Missing"),
-        (r#"{"format":1,"modules":{"nav":{"closed":[],"reach":[],"x":0}}}"#, "/modules/nav Unknown"),
-        (r#"{"format":1,"modules":{"nav":{"closed":[],"reach":{}}}}"#, "/modules/nav/reach WrongShape"),
-        (r#"{"format":1,"modules":{"nav":{"closed":[],"reach":[[[1,0]]]}}}"#, "/modules/nav/reach/0/0 Empty"),
-        (r#"{"format":1,"modules":{"nav":{"closed":[],"reach":[[[0,1]],[[0,1]],[0]]}}}"#, "/modules/nav/reach/2/0 WrongShape"),
+        (
+            r#"{"format":1,"modules":{"nav":[]}}"#,
+            "/modules/nav WrongShape",
+        ),
+        (
+            r#"{"format":1,"modules":{"nav":null}}"#,
+            "/modules/nav WrongShape",
+        ),
+        (
+            r#"{"format":1,"modules":{"a":0,"nav":{}}}"#,
+            "/modules/nav/closed Missing",
+        ),
+        (
+            r#"{"format":1,"modules":{"nav":{"reach":0}}}"#,
+            "/modules/nav/closed Missing",
+        ),
+        (
+            r#"{"format":1,"modules":{"nav":{"closed":[],"x":0}}}"#,
+            "/modules/nav/reach Missing",
+        ),
+        (
+            r#"{"format":1,"modules":{"nav":{"closed":[],"reach":[],"x":0}}}"#,
+            "/modules/nav Unknown",
+        ),
+        (
+            r#"{"format":1,"modules":{"nav":{"closed":[],"reach":{}}}}"#,
+            "/modules/nav/reach WrongShape",
+        ),
+        (
+            r#"{"format":1,"modules":{"nav":{"closed":[],"reach":[[[1,0]]]}}}"#,
+            "/modules/nav/reach/0/0 Empty",
+        ),
+        (
+            r#"{"format":1,"modules":{"nav":{"closed":[],"reach":[[[0,1]],[[0,1]],[0]]}}}"#,
+            "/modules/nav/reach/2/0 WrongShape",
+        ),
     ] {
         let got = said(alloc, &p, text.as_bytes())?;
         assert_eq!(rt; got.as_str(), wanted);
@@ -97,7 +136,10 @@ fn faults_of_cells(rt: HostRuntime) -> Result<(), Fail> {
         (r#"[[[18446744073709551616,1]]]"#, "/0/0/0 NotWhole"),
         (r#"[[[18446744073709551615,1]]]"#, "/0/0/0 OutsideRange"),
         (r#"[[[1,0.5]]]"#, "/0/0/1 NotWhole"),
-        (r#"[[[0,1]],[[0,1]],[[0,1]],[[0,1]],[[0,1]],[[0,1]],[[0,1]],[[0,1]],[[0,1]],[[0,1]],[[0,1]],[[0,true]]]"#, "/11/0/1 WrongShape"),
+        (
+            r#"[[[0,1]],[[0,1]],[[0,1]],[[0,1]],[[0,1]],[[0,1]],[[0,1]],[[0,1]],[[0,1]],[[0,1]],[[0,1]],[[0,true]]]"#,
+            "/11/0/1 WrongShape",
+        ),
     ] {
         let front = r#"{"format":1,"modules":{"nav":{"closed":"#;
         let text = format!(in alloc; "{front}{closed},\"reach\":[]}}}}}}")?;

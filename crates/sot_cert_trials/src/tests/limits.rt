@@ -3,12 +3,12 @@ use super::said;
 use sot_cert::{CertFail, JsonKind, read_cert};
 use sot_lang::Typed;
 use sot_worked::line;
-use std::alloc::Global;
+use std::alloc::{AllocError, Global};
 use std::test::*;
 
-// A list of so many cells, the last of them a fault of its own if it is to be.
-fn list_of(alloc: Global, count: usize, last: &str) -> Result<String, Fail> {
-    let cells = "[[-10,10]],".repeat(alloc, count - 1)?;
+// A list of so many cells and then a last item.
+fn list_of(alloc: Global, before: usize, last: &str) -> Result<String, Fail> {
+    let cells = "[[-10,10]],".repeat(alloc, before)?;
     let cells = cells.as_str();
     Ok(format!(in alloc; "[{cells}{last}]")?)
 }
@@ -27,7 +27,7 @@ fn said_of(alloc: Global, p: &Typed, closed: &str, reach: &str) -> Result<String
             }
             Ok(format!(in alloc; "{cells} cells")?)
         }
-        Err(CertFail::Memory) => Ok(String::from_str(alloc, "memory")?),
+        Err(CertFail::Memory) => Err(Fail::from(AllocError)),
         Err(CertFail::Fault(fault)) => {
             let (path, kind) = (fault.path.as_str(), fault.kind);
             Ok(format!(in alloc; "{path} {kind:?}")?)
@@ -39,15 +39,15 @@ fn said_of(alloc: Global, p: &Typed, closed: &str, reach: &str) -> Result<String
 fn cells_up_to_the_limit(rt: HostRuntime) -> Result<(), Fail> {
     let alloc = rt.alloc();
     let p = line(alloc)?;
-    let most = list_of(alloc, 4096, "[[-10,10]]")?;
-    let above = list_of(alloc, 4097, "0")?;
+    let most = list_of(alloc, 4095, "[[-10,10]]")?;
+    let above = list_of(alloc, 4096, "0")?;
     let got = said_of(alloc, &p, most.as_str(), most.as_str())?;
     assert_eq!(rt; got.as_str(), "4096 cells");
     let got = said_of(alloc, &p, above.as_str(), "[]")?;
     assert_eq!(rt; got.as_str(), "/modules/nav/closed TooMany");
     let got = said_of(alloc, &p, "[]", above.as_str())?;
     assert_eq!(rt; got.as_str(), "/modules/nav/reach TooMany");
-    let last = list_of(alloc, 4096, "0")?;
+    let last = list_of(alloc, 4095, "0")?;
     let got = said_of(alloc, &p, last.as_str(), "[]")?;
     assert_eq!(rt; got.as_str(), "/modules/nav/closed/4095 WrongShape");
     Ok(())

@@ -1,10 +1,10 @@
 //! The small readers of JSON values, each once.
 use serde_json::Value;
 use sot_cert::{
-    JsonFail, JsonKind, Path, count_of, fault_at, fault_under, fault_under_index, has_only, member_of, two_of, value_of,
-    whole_of,
+    JsonFail, JsonKind, Path, count_of, fault_at, fault_under, fault_under_index, has_only,
+    member_of, two_of, value_of, whole_of,
 };
-use std::alloc::Global;
+use std::alloc::{AllocError, Global};
 use std::test::*;
 
 fn fail_text(alloc: Global, fail: JsonFail) -> Result<String, Fail> {
@@ -21,6 +21,14 @@ fn number_text(alloc: Global, read: Result<i64, JsonFail>) -> Result<String, Fai
     match read {
         Ok(number) => Ok(format!(in alloc; "{number}")?),
         Err(fail) => fail_text(alloc, fail),
+    }
+}
+
+fn value_from(alloc: Global, text: &str) -> Result<Value, Fail> {
+    match value_of(alloc, text.as_bytes()) {
+        Ok(value) => Ok(value),
+        Err(JsonFail::Memory) => Err(Fail::from(AllocError)),
+        Err(JsonFail::Fault(_)) => Err(Fail::new("no JSON")),
     }
 }
 
@@ -61,9 +69,7 @@ fn numbers_are_whole_and_in_range(rt: HostRuntime) -> Result<(), Fail> {
         ("0.5", " NotWhole", " NotWhole"),
         ("[]", " WrongShape", " WrongShape"),
     ] {
-        let Ok(value) = value_of(alloc, text.as_bytes()) else {
-            continue;
-        };
+        let value = value_from(alloc, text)?;
         let got = number_text(alloc, whole_of(alloc, -3, 5, &value))?;
         assert_eq!(rt; got.as_str(), wanted);
         let count = count_of(alloc, 6, &value).map(|n| n as i64);
@@ -76,23 +82,32 @@ fn numbers_are_whole_and_in_range(rt: HostRuntime) -> Result<(), Fail> {
 #[test]
 fn members_and_keys(rt: HostRuntime) -> Result<(), Fail> {
     let alloc = rt.alloc();
-    let value = Value::from_str(alloc, r#"{"b":[1,2],"a":[1,2,3],"a":[4]}"#)?;
+    let value = value_from(alloc, r#"{"b":[1,2],"a":[1,2,3],"a":[4]}"#)?;
     let Some(object) = value.as_object() else {
-        return Ok(());
+        return Err(Fail::new("no object"));
     };
     assert!(rt; has_only(object, &["a", "b"]));
     assert!(rt; has_only(object, &["x", "b", "a"]));
     assert!(rt; !has_only(object, &["a"]));
     assert!(rt; member_of(object, "c").is_none());
-    let mut pairs = 0;
-    for key in ["a", "b"] {
-        if let Some(list) = member_of(object, key).and_then(|v| v.as_array()) {
-            if let Some((first, _second)) = two_of(list) {
-                assert_eq!(rt; first.as_i64(), Some(1));
-                pairs += 1;
-            }
-        }
-    }
-    assert_eq!(rt; pairs, 1);
+    let Some(a) = member_of(object, "a") else {
+        return Err(Fail::new("no a"));
+    };
+    let Some(last) = a.as_array() else {
+        return Err(Fail::new("no list"));
+    };
+    assert_eq!(rt; last.len(), 1);
+    assert!(rt; two_of(last).is_none());
+    let Some(b) = member_of(object, "b") else {
+        return Err(Fail::new("no b"));
+    };
+    let Some(list) = b.as_array() else {
+        return Err(Fail::new("no list"));
+    };
+    let Some((first, second)) = two_of(list) else {
+        return Err(Fail::new("no pair"));
+    };
+    assert_eq!(rt; first.as_i64(), Some(1));
+    assert_eq!(rt; second.as_i64(), Some(2));
     Ok(())
 }

@@ -1,3 +1,4 @@
+-- What is left to show of `boxes_of`.
 use Rattle.std.proofs.Common.{decimal, subst, arith}
 use Rattle.sot_cert.specs.Answers.{IsUnder}
 use Rattle.sot_cert.specs.CertFormat.{cell}

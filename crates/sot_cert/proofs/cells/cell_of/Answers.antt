@@ -1,3 +1,4 @@
+-- What is left to show of `cell_of`.
 use Rattle.std.proofs.Common.{[], length, ap, arith}
 use Rattle.serde_json.specs.View.{items_view}
 use Rattle.sot_cert.proofs.Sides.{each_len}

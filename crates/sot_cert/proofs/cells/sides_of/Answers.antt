@@ -1,3 +1,4 @@
+-- What is left to show of `sides_of`.
 use Rattle.std.proofs.Common.{◌≡◌, length, decimal, subst, arith, rules}
 use Rattle.sot_cert.specs.Answers.{IsUnder}
 use Rattle.sot_cert.specs.CertFormat.{side}

@@ -1,3 +1,4 @@
+-- What the loop of `sides_of` keeps.
 use Rattle.std.proofs.Common.{◌≡◌, [], drop}
 use Rattle.serde_json.specs.View.{items_view}
 use Rattle.sot_cert.specs.Json.{each_after}

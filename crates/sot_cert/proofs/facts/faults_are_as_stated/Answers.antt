@@ -1,3 +1,4 @@
+-- Worked faults, computed.
 use Rattle.std.proofs.Common.{refl}
 use Rattle.std.specs.Fmt.{digits}
 use Rattle.std.specs.Str.{is_utf8, chars}

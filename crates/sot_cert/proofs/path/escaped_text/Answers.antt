@@ -1,3 +1,4 @@
+-- What is left to show of `escaped_text`.
 use Rattle.std.proofs.Common.{encode_utf8, ap, sym, ◌∙◌, ◌++◌}
 use Rattle.std.proofs.lemmas.Iterator.{YieldsList-from_chars}
 use Rattle.std.proofs.lemmas.Iterator.Consumers.{YieldsList-end}

@@ -1,3 +1,4 @@
+-- What the loop of `escaped_text` keeps.
 use Rattle.std.proofs.Common.{◌≡◌, string_bytes}
 use Rattle.std.specs.Str.{encode_utf8_all}
 use Rattle.sot_cert.specs.Pointers.{escaped}

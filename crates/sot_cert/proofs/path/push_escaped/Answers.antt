@@ -1,3 +1,4 @@
+-- What is left to show of `push_escaped`.
 use Rattle.std.proofs.Common.{◌≢◌, arith, rules}
 use Rattle.sot_cert.proofs.Escapes.{escaped_char}
 use Rattle.sot_cert.proofs.path.push_escaped.Goals as goal

@@ -1,3 +1,4 @@
+-- What is left to show of `cert_in`.
 use Rattle.std.proofs.Common.{rules}
 use Rattle.serde_json.specs.View.{view}
 use Rattle.sot_cert.specs.CertFormat.{cert}

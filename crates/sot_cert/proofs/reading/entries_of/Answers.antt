@@ -1,3 +1,4 @@
+-- What is left to show of `entries_of`.
 use Rattle.std.proofs.Common.{◌≡◌, length, ap, ◌∙◌, arith}
 use Rattle.serde_json.specs.View.{members_view}
 use Rattle.sot_lang.specs.Tables.{Tables}

@@ -1,3 +1,4 @@
+-- What the loop of `entries_of` keeps.
 use Rattle.std.proofs.Common.{◌≡◌, drop}
 use Rattle.serde_json.specs.View.{members_view}
 use Rattle.sot_cert.specs.CertFormat.{entries}

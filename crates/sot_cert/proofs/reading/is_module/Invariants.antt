@@ -1,3 +1,4 @@
+-- What the loop of `is_module` keeps.
 use Rattle.std.proofs.Common.{◌≡◌, drop}
 use Rattle.sot_cert.specs.Json.{is_among}
 use Rattle.sot_cert.specs.CertFormat.{names}

@@ -1,3 +1,4 @@
+-- What the loop of `has_only` keeps.
 use Rattle.std.proofs.Common.{◌≡◌, map}
 use Rattle.serde_json.specs.View.{members_view}
 use Rattle.sot_cert.specs.Json.{all_among}

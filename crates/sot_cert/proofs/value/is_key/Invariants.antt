@@ -1,3 +1,4 @@
+-- What the loop of `is_key` keeps.
 use Rattle.std.proofs.Common.{◌≡◌, map, drop}
 use Rattle.sot_cert.specs.Json.{is_among}
 use Rattle.sot_cert.proofs.value.is_key.Given as goal
