@@ -1,5 +1,5 @@
 -- The running example with one rule of tables broken, one way each.
-use Rattle.std.specs.Prelude.{◌^◌, pos, [], ◌∷◌, false}
+use Rattle.std.specs.Prelude.{false, ◌^◌, pos, [], ◌∷◌}
 use Rattle.std.proofs.Common.{refl}
 use Rattle.std.specs.Global.{Global}
 use Rattle.sot_box.specs.BoxList.{BoxList}

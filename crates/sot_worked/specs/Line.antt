@@ -25,7 +25,7 @@
 --     safe [-40..40];
 --     safer [-10..10];
 --   }
-use Rattle.std.specs.Prelude.{◌≡◌, pos, negsuc, None, List, [], ◌∷◌, false}
+use Rattle.std.specs.Prelude.{false, ◌≡◌, pos, negsuc, None, List, [], ◌∷◌}
 use Rattle.sot_tree.specs.declared.operator.Op.TheVariants.{Add, Sub, Div, Greater, Less}
 use Rattle.sot_lang.specs.declared.term.Term.{Term}
 use Rattle.sot_lang.specs.declared.term.Term.TheVariants.{Number, Place}

@@ -28,7 +28,7 @@
 --     safe [0..0, 0..1000] | [1..1, 3..1000] | .. | [10..10, 30..1000];
 --     safer [0..10, 42..1000];
 --   }
-use Rattle.std.specs.Prelude.{◌≡◌, ℕ, zero, suc, ◌*◌, ℤ, pos, negsuc, None, List, [], ◌∷◌, ◌++◌, false}
+use Rattle.std.specs.Prelude.{false, ◌≡◌, ℕ, zero, suc, ◌*◌, ℤ, pos, negsuc, None, List, [], ◌∷◌, ◌++◌}
 use Rattle.std.specs.Global.{Vec}
 use Rattle.sot_box.specs.Sides.{Side}
 use Rattle.sot_tree.specs.declared.operator.Op.TheVariants.{Add, Sub, Greater}

@@ -1,4 +1,5 @@
-ghost use Rattle.std.specs.Prelude.{◌≡◌, ◌≤ℤ◌, ◌∷◌, [], pos, negsuc, IfOk, false};
+//! The vehicle beside a battery that is drained faster where it is far away.
+ghost use Rattle.std.specs.Prelude.{false, ◌≡◌, ◌≤ℤ◌, ◌∷◌, [], pos, negsuc, IfOk};
 ghost use Rattle.sot_lang.specs.Line.{cmd_name};
 ghost use Rattle.sot_worked.specs.Parts.{one_topic, whole_number};
 ghost use Rattle.sot_worked.specs.Pair.{IsHeight, IsAway, IsToll, IsDrain, IsBattery, IsCell, IsUp, IsDown, IsDescent, IsPair, stairs, fly};
@@ -6,7 +7,10 @@ ghost use Rattle.sot_worked.specs.Pair.{IsHeight, IsAway, IsToll, IsDrain, IsBat
 use crate::parts::{binary, choice, number, span, topic};
 use crate::vehicle::{fast, module, moving_plant, slow};
 use sot_box::{BoxN, Interval, Region};
-use sot_lang::{Act, ModuleInfo, NodeInfo, NoiseInfo, PlantInfo, ScalarInfo, Slot, StateInfo, Term, TopicInfo, Typed};
+use sot_lang::{
+    Act, ModuleInfo, NodeInfo, NoiseInfo, PlantInfo, ScalarInfo, Slot, StateInfo, Term, TopicInfo,
+    Typed,
+};
 use sot_tree::{Func, Name, Op};
 use std::alloc::{AllocError, Global};
 
@@ -19,7 +23,8 @@ fn topics(alloc: Global) -> Result<Vec<TopicInfo>, AllocError>
 }
 
 fn scalars(alloc: Global) -> Result<Vec<ScalarInfo>, AllocError>
-    ensures { IfOk result (λ v. v.items ≡ whole_number 0 (negsuc 1) (pos 2) ∷ whole_number 1 (negsuc 0) (pos 1) ∷ []) }
+    ensures { IfOk result (λ v. v.items
+        ≡ whole_number 0 (negsuc 1) (pos 2) ∷ whole_number 1 (negsuc 0) (pos 1) ∷ []) }
 {
     Ok(vec![in alloc; number(0, -2, 2), number(1, -1, 1)]?)
 }
@@ -84,7 +89,8 @@ fn battery(alloc: Global) -> Result<Term, AllocError>
 }
 
 fn states(alloc: Global) -> Result<Vec<StateInfo>, AllocError>
-    ensures { IfOk result (λ v. v.items ≡ record { name = 104 ∷ []; scale = 0 } ∷ record { name = 98 ∷ []; scale = 0 } ∷ []) }
+    ensures { IfOk result (λ v. v.items
+        ≡ record { name = 104 ∷ []; scale = 0 } ∷ record { name = 98 ∷ []; scale = 0 } ∷ []) }
 {
     let h = StateInfo {
         name: Name::from_bytes(alloc, b"h")?,
@@ -183,9 +189,7 @@ fn safe(alloc: Global) -> Result<Region, AllocError>
             hi: 1000,
         };
         let b = BoxN::of(&[height, battery]).unwrap();
-        if let Err(_) = region.push(b) {
-            return Err(AllocError);
-        }
+        region.push(b).map_err(|_| AllocError)?;
     }
     Ok(region)
 }
@@ -199,10 +203,8 @@ fn safer(alloc: Global, low: i64) -> Result<Region, AllocError>
     let height = Interval { lo: 0, hi: 10 };
     let battery = Interval { lo: low, hi: 1000 };
     let b = BoxN::of(&[height, battery]).unwrap();
-    match region.push(b) {
-        Ok(()) => Ok(region),
-        Err(_) => Err(AllocError),
-    }
+    region.push(b).map_err(|_| AllocError)?;
+    Ok(region)
 }
 
 fn flight(alloc: Global, low: i64) -> Result<ModuleInfo, AllocError>

@@ -1,3 +1,4 @@
+//! A node that divides by what it reads.
 ghost use Rattle.std.specs.Prelude.{◌≡◌, ◌∷◌, [], pos, false, IfOk};
 ghost use Rattle.sot_lang.specs.TermRules.{TermFits};
 ghost use Rattle.sot_worked.specs.Parts.{one_topic, whole_number};
@@ -17,7 +18,8 @@ fn topics(alloc: Global) -> Result<Vec<TopicInfo>, AllocError>
 }
 
 fn scalars(alloc: Global) -> Result<Vec<ScalarInfo>, AllocError>
-    ensures { IfOk result (λ v. v.items ≡ whole_number 0 (pos 0) (pos 5) ∷ whole_number 1 (pos 0) (pos 10) ∷ []) }
+    ensures { IfOk result (λ v. v.items
+        ≡ whole_number 0 (pos 0) (pos 5) ∷ whole_number 1 (pos 0) (pos 10) ∷ []) }
 {
     Ok(vec![in alloc; number(0, 0, 5), number(1, 0, 10)]?)
 }

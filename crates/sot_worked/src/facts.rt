@@ -1,4 +1,5 @@
-ghost use Rattle.std.specs.Prelude.{◌≡◌, pos, [], ◌∷◌, false};
+//! Tables that break a rule, and of two modules the one that counts.
+ghost use Rattle.std.specs.Prelude.{false, ◌≡◌, pos, [], ◌∷◌};
 ghost use Rattle.std.specs.Global.{Global};
 ghost use Rattle.sot_lang.specs.Line.{side};
 ghost use Rattle.sot_lang.specs.SafeRegions.{safe_of};
@@ -19,6 +20,12 @@ pub fn broken_tables_are_refused()
 
 /// Of two modules that name a plant, the first one's safe region is the plant's.
 pub fn the_first_module_counts()
-    ensures { (g : Global) → safe_of (module_with g (record { width = 1; boxes = (side (pos 0) (pos 1) ∷ []) ∷ []; settled = false })
+    ensures { (g : Global) → safe_of
+        (module_with g (record {
+          width = 1;
+          boxes =
+              (side (pos 0) (pos 1) ∷ []) ∷ [];
+          settled = false;
+        })
         ∷ module_with g (record { width = 1; boxes = (side (pos 5) (pos 6) ∷ []) ∷ []; settled = false }) ∷ []) 0 ≡ (side (pos 0) (pos 1) ∷ []) ∷ [] }
 {}

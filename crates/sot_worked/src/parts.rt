@@ -1,12 +1,13 @@
-ghost use Rattle.std.specs.Prelude.{◌≡◌, ◌≤ℤ◌, ◌∷◌, [], IfOk, false};
+//! Parts that the missions share: operators, choices, topics, numbers and regions.
+ghost use Rattle.std.specs.Prelude.{false, ◌≡◌, ◌≤ℤ◌, ◌∷◌, [], IfOk};
 ghost use Rattle.sot_text.specs.declared.token.Kind.TheVariants.{Name as NameKind};
 ghost use Rattle.sot_text.specs.Lexeme.{IsTokenText};
 ghost use Rattle.sot_worked.specs.Parts.{one_topic, whole_number, place, IsBinary, IsChoice};
 
 use sot_box::{BoxN, Interval, Region};
 use sot_lang::{ScalarInfo, Term, TopicInfo};
-use sot_tree::{Name, Op};
 use sot_text::Span;
+use sot_tree::{Name, Op};
 use std::alloc::{AllocError, Global};
 
 // A place in a text.
@@ -88,12 +89,11 @@ pub(crate) fn choice(
 // The region of one interval.
 pub(crate) fn interval(alloc: Global, lo: i64, hi: i64) -> Result<Region, AllocError>
     requires { lo ≤ℤ hi }
-    ensures { IfOk result (λ r. r ≡ record { width = 1; boxes = (record { lo = lo; hi = hi } ∷ []) ∷ []; settled = false }) }
+    ensures { IfOk result (λ r. r
+        ≡ record { width = 1; boxes = (record { lo = lo; hi = hi } ∷ []) ∷ []; settled = false }) }
 {
     let mut region = Region::none(alloc, 1);
     let b = BoxN::of(&[Interval { lo, hi }]).unwrap();
-    match region.push(b) {
-        Ok(()) => Ok(region),
-        Err(_) => Err(AllocError),
-    }
+    region.push(b).map_err(|_| AllocError)?;
+    Ok(region)
 }

@@ -1,3 +1,4 @@
+//! A vehicle on a line, with an advanced and a safe node.
 ghost use Rattle.std.specs.Prelude.{◌≡◌, ◌∷◌, [], pos, negsuc, false, IfOk};
 ghost use Rattle.sot_lang.specs.Line.{cmd_name};
 ghost use Rattle.sot_lang.specs.TermRules.{TermFits};
@@ -5,7 +6,10 @@ ghost use Rattle.sot_worked.specs.Parts.{one_topic, whole_number};
 ghost use Rattle.sot_worked.specs.Line.{IsMove, IsDrift, IsPos, IsReturn, IsCommand, IsFast, IsSlow, IsLine, nav};
 
 use crate::parts::{binary, choice, interval, number, span, topic};
-use sot_lang::{Act, ModuleInfo, NodeInfo, NoiseInfo, PlantInfo, ScalarInfo, Slot, StateInfo, Term, TopicInfo, Typed};
+use sot_lang::{
+    Act, ModuleInfo, NodeInfo, NoiseInfo, PlantInfo, ScalarInfo, Slot, StateInfo, Term, TopicInfo,
+    Typed,
+};
 use sot_tree::{Name, Op};
 use std::alloc::{AllocError, Global};
 
@@ -54,7 +58,8 @@ fn state(alloc: Global) -> Result<StateInfo, AllocError>
 }
 
 fn disturbance(alloc: Global) -> Result<NoiseInfo, AllocError>
-    ensures { IfOk result (λ d. d ≡ record { name = 119 ∷ []; scale = 0; lo = negsuc 0; hi = pos 1 }) }
+    ensures { IfOk result (λ d. d
+        ≡ record { name = 119 ∷ []; scale = 0; lo = negsuc 0; hi = pos 1 }) }
 {
     Ok(NoiseInfo {
         name: Name::from_bytes(alloc, b"w")?,

@@ -1,3 +1,4 @@
+-- Of `away`: its promises.
 use Rattle.std.proofs.Common.{ap}
 use Rattle.sot_tree.specs.declared.operator.Func.TheVariants.{Abs}
 use Rattle.sot_lang.specs.declared.term.Term.{Call}

@@ -1,3 +1,4 @@
+-- Of `battery`: its promises.
 use Rattle.std.proofs.Common.{pos, subst}
 use Rattle.sot_tree.specs.declared.operator.Op.TheVariants.{Greater}
 use Rattle.sot_lang.specs.declared.term.Term.TheVariants.{Number, Place}

@@ -1,3 +1,4 @@
+-- Of `cell`: its promises.
 use Rattle.std.proofs.Common.{◌∙◌, ◌∷◌, [], ap}
 use Rattle.sot_worked.proofs.battery.cell.Goals as goal
 

@@ -1,3 +1,4 @@
+-- Of `down`: its promises.
 use Rattle.std.proofs.Common.{refl}
 use Rattle.sot_worked.proofs.battery.down.Goals as goal
 

@@ -1,3 +1,4 @@
+-- Of `height`: its promises.
 use Rattle.std.proofs.Common.{ap, subst}
 use Rattle.sot_tree.specs.declared.operator.Op.TheVariants.{Add}
 use Rattle.sot_tree.specs.declared.operator.Func.TheVariants.{Clamp}

@@ -1,3 +1,4 @@
+-- Of `pair`: that what it makes obeys the rule of its type, and its promises.
 use Rattle.std.proofs.Common.{◌∷◌, [], ap, ◌∙◌, to_z-of_z}
 use Rattle.sot_worked.specs.Line.{nav}
 use Rattle.sot_worked.specs.Pair.{fly}

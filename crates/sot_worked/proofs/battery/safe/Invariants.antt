@@ -1,4 +1,5 @@
-use Rattle.std.proofs.Common.{◌≡◌}
+-- The loop of `safe`: the boxes of the heights so far, in no index.
+use Rattle.std.proofs.Common.{false, ◌≡◌}
 use Rattle.sot_worked.specs.Pair.{stairs}
 use Rattle.sot_worked.proofs.battery.safe.Given as goal
 
@@ -6,4 +7,5 @@ abbrev pub invariant-loop-h : goal.invariant-loop-h
 invariant-loop-h l = record {
   width : l.region.width ≡ 2;
   boxes : l.region.boxes ≡ stairs l.h;
+  settled : l.region.settled ≡ false;
 }

@@ -1,3 +1,4 @@
+-- Of `at_least_one`: its promises.
 use Rattle.std.proofs.Common.{ap}
 use Rattle.sot_tree.specs.declared.operator.Func.TheVariants.{Max}
 use Rattle.sot_lang.specs.declared.term.Term.{Call}

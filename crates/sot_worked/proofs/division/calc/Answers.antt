@@ -1,3 +1,4 @@
+-- Of `calc`: its promises.
 use Rattle.std.proofs.Common.{refl}
 use Rattle.sot_worked.proofs.division.calc.Goals as goal
 

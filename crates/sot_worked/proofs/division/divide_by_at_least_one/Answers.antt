@@ -1,3 +1,4 @@
+-- Of `divide_by_at_least_one`: what its calls ask for, and its promises.
 use Rattle.std.proofs.Common.{refl, sym, subst}
 use Rattle.sot_worked.specs.Divide.{IsAtLeastOne}
 use Rattle.sot_worked.proofs.DivideRules.{at_least_one_fits, divides_so}

@@ -1,3 +1,4 @@
+-- Of `broken_tables_are_refused`: its promises.
 use Rattle.sot_worked.proofs.BrokenRules.{own_read, name_twice, itself_seen, decimals, values, period, sides, turned}
 use Rattle.sot_worked.proofs.facts.broken_tables_are_refused.Goals as goal
 

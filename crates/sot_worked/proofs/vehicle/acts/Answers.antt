@@ -1,3 +1,4 @@
+-- Of `acts`: its promises.
 use Rattle.std.proofs.Common.{◌∷◌, [], ap, ◌∙◌}
 use Rattle.sot_lang.specs.declared.act.Act.TheVariants.{Publish}
 use Rattle.sot_worked.proofs.vehicle.acts.Goals as goal

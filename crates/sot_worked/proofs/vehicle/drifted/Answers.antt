@@ -1,3 +1,4 @@
+-- Of `drifted`: its promises.
 use Rattle.std.proofs.Common.{pos, subst}
 use Rattle.sot_tree.specs.declared.operator.Op.TheVariants.{Add, Sub, Div}
 use Rattle.sot_lang.specs.declared.term.Term.TheVariants.{Number, Place}

@@ -1,3 +1,4 @@
+-- Of `drifting_line`: what its calls ask for, and its promises.
 use Rattle.std.proofs.Common.{refl, sym, subst}
 use Rattle.sot_worked.specs.Line.{IsDrift}
 use Rattle.sot_worked.proofs.LineRules.{ticks_so}

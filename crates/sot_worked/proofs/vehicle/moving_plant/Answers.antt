@@ -1,3 +1,4 @@
+-- Of `moving_plant`: its promises.
 use Rattle.std.proofs.Common.{sym, subst}
 use Rattle.sot_worked.specs.Line.{IsMove}
 use Rattle.sot_worked.proofs.LineRules.{pos_so}

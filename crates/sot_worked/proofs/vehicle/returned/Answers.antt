@@ -1,3 +1,4 @@
+-- Of `returned`: its promises.
 use Rattle.std.proofs.Common.{pos, negsuc, subst}
 use Rattle.sot_tree.specs.declared.operator.Op.TheVariants.{Greater, Less}
 use Rattle.sot_lang.specs.declared.term.Term.TheVariants.{Number, Place}

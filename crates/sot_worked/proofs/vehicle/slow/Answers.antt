@@ -1,3 +1,4 @@
+-- Of `slow`: its promises.
 use Rattle.std.proofs.Common.{refl}
 use Rattle.sot_worked.proofs.vehicle.slow.Goals as goal
 

@@ -1,3 +1,4 @@
+-- Of `tables`: that what it makes obeys the rule of its type, and its promises.
 use Rattle.std.proofs.Common.{◌≡◌, ◌∷◌, [], ap, ◌∙◌}
 use Rattle.sot_worked.proofs.LineRules.{line_meets_rules}
 use Rattle.sot_worked.proofs.Short.{fits_as}

@@ -1,0 +1,130 @@
+//! The nodes and the plant of worked missions, run and looked at for traps. What they should do was worked out by hand.
+ghost use Rattle.std.specs.Prelude.{◌≡◌, ◌∷◌, []};
+ghost use Rattle.sot_code.specs.Recorded.{MayRun};
+
+use super::worlds::at;
+use sot_box::Point;
+use sot_code::{Locals, Seen, plant_next, run_node};
+use sot_iv::MayTrap;
+use sot_lang::{Trap, TrapKind, Typed};
+use sot_text::Span;
+use sot_traps::trap_free;
+use sot_worked::{divide, divide_by_at_least_one, line};
+use std::alloc::{AllocError, Global};
+use std::test::Fail;
+
+// One number that a node reads.
+#[derive(Clone, Copy)]
+struct One {
+    number: i64,
+}
+
+impl Seen for One {
+    ghost numbers = { λ s. s.number ∷ [] };
+
+    fn read(&self, i: usize) -> i64 {
+        self.number
+    }
+}
+
+type Drafted = Result<Option<i64>, Trap>;
+
+// What a node with no locals drafts first where it reads this number.
+fn drafted(p: &Typed, node: u32, number: i64) -> Drafted
+    requires { MayRun p.now node (number ∷ []) [] }
+{
+    let locals = Locals::of(&[]).unwrap();
+    match run_node(p, node, &One { number }, &locals) {
+        Ok(fired) => Ok(fired.draft.get(0)),
+        Err(trap) => Err(trap),
+    }
+}
+
+// What `calc` drafts where it reads this number.
+fn calc(alloc: Global, n: i64) -> Result<Drafted, AllocError> {
+    let p = divide(alloc)?;
+    Ok(drafted(&p, 0, n))
+}
+
+// What `slow` drafts where the vehicle is here.
+fn slow(alloc: Global, x: i64) -> Result<Drafted, AllocError> {
+    let p = line(alloc)?;
+    Ok(drafted(&p, 1, x))
+}
+
+// Where the vehicle is next.
+fn moved(alloc: Global, x: i64, cmd: i64, w: i64) -> Result<Result<Point, Trap>, AllocError> {
+    let p = line(alloc)?;
+    Ok(plant_next(&p, 0, &at(x), &[cmd], &[], &[w]))
+}
+
+#[test]
+fn nodes_draft_and_trap(rt: HostRuntime) -> Result<(), Fail> {
+    let alloc = rt.alloc();
+    let zero = Trap {
+        at: Span {
+            line: 7,
+            column: 20,
+            from: 128,
+            to: 129,
+        },
+        kind: TrapKind::ZeroDivisor,
+    };
+    for (n, wanted) in [(3, Ok(Some(3))), (0, Err(zero))] {
+        assert_eq!(rt; calc(alloc, n)?, wanted, "calc at {n}");
+    }
+    for (x, wanted) in [(12, -2), (0, 0), (-12, 2)] {
+        assert_eq!(rt; slow(alloc, x)?, Ok(Some(wanted)), "slow at {x}");
+    }
+    Ok(())
+}
+
+// Whether `calc` never traps.
+fn calc_is_free(alloc: Global) -> Result<Result<(), MayTrap>, AllocError> {
+    let p = divide(alloc)?;
+    Ok(trap_free(&p, 0))
+}
+
+// Whether `calc` never traps where it divides by at least 1.
+fn guarded_calc_is_free(alloc: Global) -> Result<Result<(), MayTrap>, AllocError> {
+    let p = divide_by_at_least_one(alloc)?;
+    Ok(trap_free(&p, 0))
+}
+
+// Whether `slow` never traps.
+fn slow_is_free(alloc: Global) -> Result<Result<(), MayTrap>, AllocError> {
+    let p = line(alloc)?;
+    Ok(trap_free(&p, 1))
+}
+
+#[test]
+fn a_division_by_what_may_be_nought_may_trap(rt: HostRuntime) -> Result<(), Fail> {
+    let zero = MayTrap {
+        at: Span {
+            line: 7,
+            column: 20,
+            from: 128,
+            to: 129,
+        },
+        kind: TrapKind::ZeroDivisor,
+        lo: 0,
+        hi: 5,
+    };
+    assert_eq!(rt; calc_is_free(rt.alloc())?, Err(zero));
+    assert_eq!(rt; guarded_calc_is_free(rt.alloc())?, Ok(()));
+    assert_eq!(rt; slow_is_free(rt.alloc())?, Ok(()));
+    Ok(())
+}
+
+#[test]
+fn a_vehicle_moves(rt: HostRuntime) -> Result<(), Fail> {
+    assert_eq!(rt; moved(rt.alloc(), 10, 2, 1)?, Ok(at(13)));
+    Ok(())
+}
+
+#[test]
+fn locals_are_at_most_sixteen(rt: HostRuntime) -> Result<(), Fail> {
+    assert!(rt; Locals::of(&[7; 16]).is_some());
+    assert!(rt; Locals::of(&[7; 17]).is_none());
+    Ok(())
+}
