@@ -1,0 +1,10 @@
+pub mod Seen
+pub mod Certificates
+pub mod Expressions
+pub mod Bodies
+pub mod Plants
+pub mod Nodes
+pub mod Modules
+pub mod Cells
+pub mod Certified
+pub mod Verdicts

@@ -1,0 +1,5 @@
+use Rattle.sot_alike.proofs.Certificates.{certificates_alike}
+use Rattle.sot_alike.proofs.laws.certificates_say_alike.Goals as goal
+
+pub returns : goal.returns
+returns c = certificates_alike

@@ -1,0 +1,5 @@
+use Rattle.sot_alike.proofs.Verdicts.{verdicts_alike}
+use Rattle.sot_alike.proofs.laws.verdicts_are_alike.Goals as goal
+
+pub returns : goal.returns
+returns c = verdicts_alike
