@@ -35,7 +35,10 @@ periods_are (n ∷ nodes) j = ap (λ b. nat_lt j n.period && b) (periods_are nod
 entries_same : (plants others : List PlantInfo) → ((k : ℕ) → width_of plants k ≡ width_of others k) → (infos : List ModuleInfo) (ms : Members) → entries plants infos ms ≡ entries others infos ms
 unfolding entries
 entries_same plants others widths [] ms = refl
-entries_same plants others widths (m ∷ more) ms = λ i. may m.name (entry (widths m.plant i)) ms >>= (λ x. entries_same plants others widths more ms i >>= (λ xs. Ok (x ∷ xs)))
+entries_same plants others widths (m ∷ more) ms = λ i. do
+  x ← may m.name (entry (widths m.plant i)) ms
+  xs ← entries_same plants others widths more ms i
+  Ok (x ∷ xs)
 
 module _ (t u : Tables) (same : tables_seen t ≡ tables_seen u) where
   widths_same : (k : ℕ) → width_of t.plants k ≡ width_of u.plants k
@@ -46,7 +49,11 @@ module _ (t u : Tables) (same : tables_seen t ≡ tables_seen u) where
 
   modules_say : (d : Data) → modules t d ≡ modules u d
   unfolding modules
-  modules_say d = λ i. or WrongShape (as_object d) >>= (λ ms. found_same ms i >>= (λ found. unless Unknown (all_among ms (names (modules_same t u same i))) >>= (λ ok. Ok found)))
+  modules_say d = λ i. do
+    ms ← or WrongShape (as_object d)
+    found ← found_same ms i
+    ok ← unless Unknown (all_among ms (names (modules_same t u same i)))
+    Ok found
 
   below_same : (j : ℕ) → is_below_periods t j ≡ is_below_periods u j
   below_same j =
@@ -57,7 +64,10 @@ module _ (t u : Tables) (same : tables_seen t ≡ tables_seen u) where
 
   jitter_says : (d : Data) → jitter t d ≡ jitter u d
   unfolding jitter
-  jitter_says d = λ i. count 999 d >>= (λ j. unless OutsideRange (below_same j i) >>= (λ ok. Ok j))
+  jitter_says d = λ i. do
+    j ← count 999 d
+    ok ← unless OutsideRange (below_same j i)
+    Ok j
 
   jitter_in_says : (jittered : Bool) (ms : Members) → jitter_in jittered t ms ≡ jitter_in jittered u ms
   unfolding jitter_in
@@ -66,7 +76,13 @@ module _ (t u : Tables) (same : tables_seen t ≡ tables_seen u) where
 
   cert_says : (d : Data) → cert t d ≡ cert u d
   unfolding cert
-  cert_says d = λ i. or WrongShape (as_object d) >>= (λ ms. at (codes "format") has_jitter ms >>= (λ jittered. jitter_in_says jittered ms i >>= (λ j. at (codes "modules") (λ d. modules_say d i) ms >>= (λ found. unless Unknown (all_among ms (keys jittered)) >>= (λ ok. Ok (record { jitter = j; modules = found }))))))
+  cert_says d = λ i. do
+    ms ← or WrongShape (as_object d)
+    jittered ← at (codes "format") has_jitter ms
+    j ← jitter_in_says jittered ms i
+    found ← at (codes "modules") (λ d. modules_say d i) ms
+    ok ← unless Unknown (all_among ms (keys jittered))
+    Ok (record { jitter = j; modules = found })
 
 pub certificates_alike : CertificatesAlike
 certificates_alike t u bytes same = λ i. or NotJson (json_of bytes) >>= (λ d. cert_says t u same d i)

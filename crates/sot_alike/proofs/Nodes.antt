@@ -50,7 +50,7 @@ module _ (t u : Tables) (same : tables_seen t ≡ tables_seen u) (x y : NodeInfo
   pub execution_alike : (us acts : List Act) (boxes : List (List Side)) (o : OrMayTrap Intervals) → deeds_view us ≡ deeds_view acts → IsNodeExecution t x us boxes o ≡ IsNodeExecution u y acts boxes o
   execution_alike us acts boxes o deeds =
       let leaves : IsDeedsExecution (deeds_view us) (local_ranges x) (write_ranges t x) (reading_intervals t x boxes) (local_ranges x) o
-          ≡ IsDeedsExecution (deeds_view acts) (local_ranges y) (write_ranges u y) (reading_intervals u y boxes) (local_ranges y) o =
+      ≡ IsDeedsExecution (deeds_view acts) (local_ranges y) (write_ranges u y) (reading_intervals u y boxes) (local_ranges y) o =
       λ i. IsDeedsExecution (deeds i) (locals_alike i) (writes_alike i) (readings_alike boxes i) (locals_alike i) o
       in
       execution_view us (local_ranges x) (write_ranges t x) (reading_intervals t x boxes) (local_ranges x) o

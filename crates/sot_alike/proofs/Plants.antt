@@ -16,6 +16,10 @@ use Rattle.sot_typing.specs.Resolved.{PlantTable, plant_seen, tables_seen}
 use Rattle.sot_alike.proofs.Expressions.{AreViewIntervals, terms_view}
 use Rattle.sot_alike.proofs.Seen.{scalars_same, modules_same}
 
+-- a fact along an equality of facts
+pub along : {A B : Type 0} → A ≡ B → A → B
+along same fact = subst (λ (F : Type 0). F) same fact
+
 -- two plants that look the same have the same next boxes
 module _ (x y : PlantInfo) (alike : plant_seen x ≡ plant_seen y) where
   next_alike : (box commands seen : List Side) (o : OrMayTrap (List Side)) → IsNextBox x box commands seen o ≡ IsNextBox y box commands seen o
@@ -29,10 +33,6 @@ module _ (x y : PlantInfo) (alike : plant_seen x ≡ plant_seen y) where
   stays_alike commands seen region box zero = refl
   stays_alike commands seen region box (suc k) = λ i.
       Covers region box × ((b : List Side) × next_alike box commands seen (Ok b) i × stays_alike commands seen region b k i)
-
--- a fact along an equality of facts
-pub along : {A B : Type 0} → A ≡ B → A → B
-along same a = subst (λ (F : Type 0). F) same a
 
 module _ (t u : Tables) (same : tables_seen t ≡ tables_seen u) (x y : PlantInfo) (alike : plant_seen x ≡ plant_seen y) where
   pub inputs_alike : input_ranges t x ≡ input_ranges u y

@@ -1,7 +1,7 @@
 -- Tables that look the same mean the same.
 use Rattle.std.specs.Prelude.{◌≡◌, ℕ, List}
 use Rattle.sot_lang.specs.Tables.{Tables}
-use Rattle.sot_lang.specs.TableRules.{MeetsTableRules}
+use Rattle.sot_lang.specs.TableRules.{IsTyped}
 use Rattle.sot_lang.specs.CertRules.{FitsTables}
 use Rattle.sot_lang.specs.declared.cert.Cert.{Cert}
 use Rattle.sot_typing.specs.Resolved.{tables_seen}
@@ -23,6 +23,6 @@ CertifiedAlike =
 -- no program is accepted by one of its tables and refused by another
 abbrev pub VerdictsAlike : Type 0
 VerdictsAlike =
-    (t u : Tables) (c d : Cert) (r : Refusal) → MeetsTableRules t → FitsTables t c → tables_seen t ≡ tables_seen u
+    (t u : Tables) (c d : Cert) (r : Refusal) → IsTyped t → FitsTables t c → tables_seen t ≡ tables_seen u
     → c.jitter ≡ d.jitter → c.modules.items ≡ d.modules.items
     → (verdict t c.jitter c).Passes → (verdict u d.jitter d).Refuses r → ⊥
