@@ -1,5 +1,5 @@
 -- What a node's body leaves does not depend on where its parts lie in memory.
-use Rattle.std.proofs.Common.{◌≡◌, ℕ, List, [], ◌∷◌, ◌++◌, Ok, refl, replicate, length}
+use Rattle.std.proofs.Common.{◌≡◌, List, [], ◌∷◌, ◌++◌, Ok, refl, replicate, length}
 use Rattle.std.specs.Prelude.{slice_set}
 use Rattle.sot_box.specs.Sides.{Side}
 use Rattle.sot_lang.specs.declared.act.Act.{Act, Row_of-Act, end_of-Act, more_of-Act}

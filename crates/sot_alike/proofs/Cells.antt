@@ -1,9 +1,8 @@
 -- The hulls of safe regions, coded nodes without traps, and the cells of modules, where tables look the same.
-use Rattle.std.proofs.Common.{◌≡◌, ℕ, zero, suc, ◌+◌, ◌*◌, List, [], ◌∷◌, map, length, Ok, refl, sym, ap, ◌∙◌, subst}
+use Rattle.std.proofs.Common.{◌≡◌, ℕ, ◌+◌, ◌*◌, List, [], ◌∷◌, map, Ok, ap, ◌∙◌, subst}
 use Rattle.std.specs.Prelude.{if◌then◌else◌, ◌==◌, slice_set, slice_index_or}
 use Rattle.sot_box.specs.Sides.{Side}
 use Rattle.sot_box.specs.Regions.{IsHull}
-use Rattle.sot_lists.specs.Places.{At}
 use Rattle.sot_lang.specs.declared.act.Act.{Act}
 use Rattle.sot_lang.specs.declared.tables.ScalarInfo.{ScalarInfo}
 use Rattle.sot_lang.specs.declared.tables.PlantInfo.{PlantInfo}
@@ -14,12 +13,11 @@ use Rattle.sot_lang.specs.Ranges.{range_of}
 use Rattle.sot_lang.specs.SafeRegions.{safe_of, AllHulls}
 use Rattle.sot_iv.specs.declared.drafted.Drafted.{Drafted}
 use Rattle.sot_iv.specs.BodyIntervals.{Intervals}
-use Rattle.sot_iv.specs.NodeIntervals.{IsNodeIntervals}
 use Rattle.sot_iv.specs.TrapFree.{IsTrapFree}
 use Rattle.sot_tube.specs.Tubes.{TubeInside}
 use Rattle.sot_tube.specs.Certified.{sure_interval, command_interval, command_intervals, DraftsFrom, IsClosedCell, IsReachCell}
 use Rattle.sot_typing.specs.Formulas.{deeds_view}
-use Rattle.sot_typing.specs.Resolved.{PlantTable, NodeTable, plant_seen, node_seen, tables_seen}
+use Rattle.sot_typing.specs.Resolved.{NodeTable, plant_seen, node_seen, tables_seen}
 use Rattle.sot_alike.proofs.Seen.{scalars_same, modules_same, plant_count_same, plant_back}
 use Rattle.sot_alike.proofs.Plants.{along, tube_alike, any_tube_alike}
 use Rattle.sot_alike.proofs.Nodes.{execution_alike}

@@ -1,5 +1,5 @@
 -- A certificate's text says the same of tables that look the same: it is read by modules, by widths of plants and by periods.
-use Rattle.std.proofs.Common.{◌≡◌, ℕ, zero, suc, Bool, true, false, ◌&&◌, List, [], ◌∷◌, map, length, codes, Option, Ok, refl, sym, ap, ◌∙◌, nat_lt}
+use Rattle.std.proofs.Common.{◌≡◌, ℕ, zero, suc, Bool, true, false, ◌&&◌, List, [], ◌∷◌, map, length, codes, Ok, refl, sym, ap, ◌∙◌, nat_lt}
 use Rattle.std.specs.List.{list_all}
 use Rattle.serde_json.specs.Data.{Data, Members}
 use Rattle.serde_json.specs.Find.{as_object}
@@ -11,8 +11,8 @@ use Rattle.sot_lang.specs.OwnerNames.{width_of}
 use Rattle.sot_cert.specs.declared.fault.JsonKind.TheVariants.{NotJson, WrongShape, OutsideRange, Unknown}
 use Rattle.sot_cert.specs.Says.{◌>>=◌, or, unless}
 use Rattle.sot_cert.specs.Json.{json_of, count, at, may, all_among}
-use Rattle.sot_cert.specs.CertFormat.{entry, entries, names, modules, is_below_periods, jitter, has_jitter, jitter_in, keys, cert, cert_of}
-use Rattle.sot_typing.specs.Resolved.{ProgramTables, PlantTable, NodeTable, plant_seen, node_seen, tables_seen}
+use Rattle.sot_cert.specs.CertFormat.{entry, entries, names, modules, is_below_periods, jitter, has_jitter, jitter_in, keys, cert}
+use Rattle.sot_typing.specs.Resolved.{PlantTable, NodeTable, plant_seen, node_seen, tables_seen}
 use Rattle.sot_alike.specs.Laws.{CertificatesAlike}
 use Rattle.sot_alike.proofs.Seen.{modules_same, plants_seen_same, nodes_seen_same}
 

@@ -3,11 +3,8 @@ use Rattle.std.proofs.Common.{◌≡◌, ℕ, ◌<◌, List, Option, Some, sym, 
 use Rattle.sot_lists.specs.Places.{At}
 use Rattle.sot_lang.specs.declared.cert.Cells.{Cells}
 use Rattle.sot_lang.specs.declared.cert.Cert.{Cert}
-use Rattle.sot_lang.specs.declared.tables.NodeInfo.{NodeInfo}
-use Rattle.sot_lang.specs.declared.tables.ModuleInfo.{ModuleInfo}
-use Rattle.sot_lang.specs.Tables.{Tables}
-use Rattle.sot_tube.specs.Certified.{HasCells, IsWellCertified}
-use Rattle.sot_typing.specs.Resolved.{NodeTable, tables_seen}
+use Rattle.sot_tube.specs.Certified.{HasCells}
+use Rattle.sot_typing.specs.Resolved.{NodeTable}
 use Rattle.sot_alike.specs.Laws.{CertifiedAlike}
 use Rattle.sot_alike.proofs.Seen.{module_back, plant_back, node_back}
 use Rattle.sot_alike.proofs.Nodes.{coded_alike}

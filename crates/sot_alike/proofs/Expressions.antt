@@ -1,5 +1,5 @@
 -- The interval of an expression does not depend on where its parts lie in memory.
-use Rattle.std.proofs.Common.{◌≡◌, ℤ, pos, List, [], ◌∷◌, map, Ok, refl, ap, sym, ◌∙◌}
+use Rattle.std.proofs.Common.{◌≡◌, pos, List, [], ◌∷◌, map, Ok, refl}
 use Rattle.std.specs.Prelude.{slice_index_or}
 use Rattle.sot_box.specs.Sides.{Side}
 use Rattle.sot_lang.specs.declared.term.Term.{Term, Row_of-Term, end_of-Term, more_of-Term}

@@ -1,6 +1,6 @@
 -- How modules are put together, and their shape, where tables look the same.
-use Rattle.std.proofs.Common.{◌≡◌, ◌≢◌, ℕ, ◌≤◌, ◌⊎◌, inl, inr, ⊎_elim, List, sym, ap, subst, arith}
-use Rattle.sot_lists.specs.Places.{At, Has}
+use Rattle.std.proofs.Common.{◌≡◌, ℕ, ◌≤◌, inl, inr, ⊎_elim, sym, ap, subst}
+use Rattle.sot_lists.specs.Places.{Has}
 use Rattle.sot_lang.specs.declared.tables.PlantInfo.{PlantInfo}
 use Rattle.sot_lang.specs.declared.tables.NodeInfo.{NodeInfo}
 use Rattle.sot_lang.specs.declared.tables.ModuleInfo.{ModuleInfo}

@@ -1,5 +1,5 @@
 -- The executions of nodes that look the same leave the same.
-use Rattle.std.proofs.Common.{◌≡◌, ℕ, List, map, Option, Some, None, refl, sym, ap, ◌∙◌}
+use Rattle.std.proofs.Common.{◌≡◌, List, map, Option, Some, None, refl, sym, ap, ◌∙◌}
 use Rattle.std.specs.Prelude.{option_map}
 use Rattle.std.proofs.lemmas.Option.{same_Some, none-some}
 use Rattle.sot_box.specs.Sides.{Side}
@@ -15,7 +15,7 @@ use Rattle.sot_lang.specs.TableRules.{IsCoded}
 use Rattle.sot_iv.specs.TermIntervals.{OrMayTrap}
 use Rattle.sot_iv.specs.BodyIntervals.{Intervals}
 use Rattle.sot_iv.specs.NodeIntervals.{interval_at, reading_intervals, IsNodeExecution}
-use Rattle.sot_typing.specs.Formulas.{Deeds, deeds_view}
+use Rattle.sot_typing.specs.Formulas.{deeds_view}
 use Rattle.sot_typing.specs.Resolved.{NodeTable, node_seen, tables_seen}
 use Rattle.sot_alike.proofs.Bodies.{IsDeedsExecution, execution_view}
 use Rattle.sot_alike.proofs.Seen.{scalars_same}

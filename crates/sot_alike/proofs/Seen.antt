@@ -1,6 +1,6 @@
--- What tables that look the same have in common: topics, scalars and modules are equal, and at each place stand a plant and a node
--- that look the same.
-use Rattle.std.proofs.Common.{◌≡◌, ℕ, zero, suc, List, [], ◌∷◌, map, length, refl, sym, ap, ◌∙◌, subst}
+-- What tables that look the same have in common: scalars and modules are equal, and at each place stand a plant and a node that look
+-- the same.
+use Rattle.std.proofs.Common.{◌≡◌, ℕ, suc, List, [], ◌∷◌, map, length, refl, sym, ap, ◌∙◌, subst}
 use Rattle.sot_lists.specs.Places.{At}
 use Rattle.sot_lists.proofs.Places.{at_map, at_mapped}
 use Rattle.sot_lang.specs.declared.tables.ScalarInfo.{ScalarInfo}

@@ -1,5 +1,5 @@
 -- No program is accepted by one of its tables and refused by another.
-use Rattle.std.proofs.Common.{◌≡◌, subst}
+use Rattle.std.proofs.Common.{subst}
 use Rattle.sot_tube.specs.Certified.{IsWellCertified}
 use Rattle.sot_tube.proofs.Acceptance.{certified_passes, passes_certified}
 use Rattle.sot_tube.proofs.VerdictExact.{verdict_exact}
