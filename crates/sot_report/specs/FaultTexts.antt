@@ -16,7 +16,7 @@ use Rattle.sot_cert.specs.declared.fault.JsonKind.{JsonKind}
 use Rattle.sot_cert.specs.declared.fault.JsonKind.TheVariants as kinds
 use Rattle.sot_report.specs.declared.fault.Fault.{Fault}
 use Rattle.sot_report.specs.declared.fault.Fault.TheVariants as faults
-use Rattle.sot_report.specs.Pieces.{line, place_text}
+use Rattle.sot_report.specs.Pieces.{line}
 
 abbrev pub section_word : SectionKind → List ℕ
 section_word sections.Unknown = codes "Unknown"
@@ -25,11 +25,12 @@ section_word sections.Missing = codes "Missing"
 
 -- `fault section line L KIND`; lines count from 1
 abbrev pub section_text : SectionFault → List ℕ
-section_text fault = line (codes "fault section line " ++ decimal fault.line ++ codes " " ++ section_word fault.kind)
+section_text fault = codes "fault section line " ++ (decimal fault.line ++ (codes " " ++ line (section_word fault.kind)))
 
 -- `fault SORT line L column C KIND`; lines and columns count from 1
 abbrev pub placed_text : List ℕ → Span → List ℕ → List ℕ
-placed_text sort at kind = line (codes "fault " ++ sort ++ codes " " ++ place_text at ++ codes " " ++ kind)
+placed_text sort at kind =
+    line (codes "fault " ++ (sort ++ (codes " line " ++ (decimal at.line ++ (codes " column " ++ (decimal at.column ++ (codes " " ++ kind)))))))
 
 abbrev pub syntax_text : Syntax → List ℕ
 syntax_text (Lex (BadByte at)) = placed_text (codes "syntax") at (codes "BadByte")
@@ -80,7 +81,7 @@ path_text (b ∷ bs) = b ∷ bs
 
 -- `fault certificate PATH KIND`
 abbrev pub certificate_text : JsonFault → List ℕ
-certificate_text fault = line (codes "fault certificate " ++ path_text fault.path ++ codes " " ++ json_word fault.kind)
+certificate_text fault = codes "fault certificate " ++ (path_text fault.path ++ (codes " " ++ line (json_word fault.kind)))
 
 abbrev pub fault_text : Fault → List ℕ
 fault_text (faults.Section fault) = section_text fault

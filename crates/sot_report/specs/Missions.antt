@@ -1,5 +1,5 @@
 -- What the bytes of a mission spell: a program with its tables and a certificate, or a first fault.
-use Rattle.std.specs.Prelude.{◌≡◌, ℕ, ¬_, List, Ok, Err}
+use Rattle.std.specs.Prelude.{◌≡◌, ℕ, List, Ok, Err}
 use Rattle.sot_text.specs.declared.mission.Need.TheVariants as needs
 use Rattle.sot_text.specs.Sections.{Parts, split_of}
 use Rattle.sot_tree.specs.Trees.{Program}

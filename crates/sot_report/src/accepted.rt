@@ -37,5 +37,6 @@ pub fn accepted_text(alloc: Global, p: &Typed, cert: &Cert) -> Result<String, Al
     let modules = p.modules.len();
     let nodes = p.nodes.len();
     let cells = cell_count(&cert.modules);
-    format!(in alloc; "accepted\nmodules {modules} nodes {nodes} cells {cells}\n")
+    let text = format!(in alloc; "accepted\nmodules {modules} nodes {nodes} cells {cells}\n")?;
+    Ok(text)
 }

@@ -1,12 +1,11 @@
 //! Worked texts.
 
 ghost use Rattle.std.specs.Global.{Global};
-ghost use Rattle.sot_report.specs.WorkedTexts.{RefusalLines, TwoAxes, CertificateLines, AcceptedLines};
+ghost use Rattle.sot_report.specs.WorkedTexts.{RefusalLines, CertificateLines, CountedCells};
 
-/// Texts of refusals, of faults of a certificate and of an accepted mission, written out by hand.
+/// Texts of refusals and of faults of a certificate, written out by hand, and a count of cells.
 pub fn texts_are_as_stated()
     ensures refusals { (g : Global) → RefusalLines g }
-    ensures axes { (g : Global) → TwoAxes g }
     ensures certificates { CertificateLines }
-    ensures accepted { (g : Global) → AcceptedLines g }
+    ensures counts { (g : Global) → CountedCells g }
 {}

@@ -66,7 +66,8 @@ fn section_text(alloc: Global, fault: SectionFault) -> Result<String, AllocError
 {
     let line = fault.line;
     let kind = section_word(fault.kind);
-    format!(in alloc; "fault section line {line} {kind}\n")
+    let text = format!(in alloc; "fault section line {line} {kind}\n")?;
+    Ok(text)
 }
 
 fn placed_text(alloc: Global, sort: &str, at: Span, kind: &str) -> Result<String, AllocError>
@@ -74,7 +75,8 @@ fn placed_text(alloc: Global, sort: &str, at: Span, kind: &str) -> Result<String
 {
     let line = at.line;
     let column = at.column;
-    format!(in alloc; "fault {sort} line {line} column {column} {kind}\n")
+    let text = format!(in alloc; "fault {sort} line {line} column {column} {kind}\n")?;
+    Ok(text)
 }
 
 fn syntax_text(alloc: Global, fault: Syntax) -> Result<String, AllocError>
@@ -110,7 +112,8 @@ fn certificate_text(alloc: Global, fault: &JsonFault) -> Result<String, AllocErr
 {
     let path = path_text(&fault.path);
     let kind = json_word(fault.kind);
-    format!(in alloc; "fault certificate {path} {kind}\n")
+    let text = format!(in alloc; "fault certificate {path} {kind}\n")?;
+    Ok(text)
 }
 
 /// The line of a fault: `fault`, the part that is at fault, the place there, and the kind.
