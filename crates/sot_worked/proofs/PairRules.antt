@@ -1,5 +1,5 @@
 -- The tables of the vehicle beside a battery meet the rules of tables.
-use Rattle.std.proofs.Common.{◌≡◌, ◌≢◌, ℕ, zero, suc, ◌<◌, ◌≤◌, ◌+◌, ◌*◌, ℤ, true, false, Bool, List, [], ◌∷◌, refl, sym, ap, ◌∙◌, subst, arith, negsuc, ◌≤ℤ◌, length, pos}
+use Rattle.std.proofs.Common.{◌≡◌, ◌≢◌, ℕ, zero, suc, ◌<◌, ◌≤◌, ◌+◌, ◌*◌, ℤ, true, false, List, [], ◌∷◌, refl, sym, ap, ◌∙◌, subst, arith, negsuc, ◌≤ℤ◌, length, pos}
 use Rattle.std.specs.Prelude.{slice_index_or, replicate, map, ◌++◌, ◌==◌, if◌then◌else◌}
 use Rattle.std.proofs.lemmas.Int.{ints}
 use Rattle.std.proofs.lemmas.Option.{same_Some, none-some}
@@ -8,7 +8,6 @@ use Rattle.sot_lists.specs.Places.{At, Has}
 use Rattle.sot_box.specs.Sides.{Side, AreOrdered}
 use Rattle.sot_box.specs.Boxes.{IsWithin}
 use Rattle.sot_lang.specs.declared.act.Act.{Act}
-use Rattle.sot_lang.specs.declared.term.Term.{Term}
 use Rattle.sot_lang.specs.declared.tables.TopicInfo.{TopicInfo}
 use Rattle.sot_lang.specs.declared.tables.ScalarInfo.{ScalarInfo}
 use Rattle.sot_lang.specs.declared.tables.StateInfo.{StateInfo}
@@ -22,15 +21,15 @@ use Rattle.sot_lang.specs.declared.tables.Slot.TheVariants.{Scalar, State}
 use Rattle.sot_lang.specs.Tables.{Tables}
 use Rattle.sot_lang.specs.Ranges.{local_ranges}
 use Rattle.sot_lang.specs.OwnerNames.{width_of, seen_width, is_truth_scalar, node_truths, plant_truths, reads_truth}
-use Rattle.sot_lang.specs.TermRules.{TermFits, TermsFit}
+use Rattle.sot_lang.specs.TermRules.{TermsFit}
 use Rattle.sot_lang.specs.ActRules.{ActsFit}
 use Rattle.sot_lang.specs.TableRules.{IsTyped, IsCoded, IsNarrow, AreDistinct, MeetsTableRules, MeetsScalarRules, MeetsPlantRules, MeetsNodeRules, MeetsModuleRules, IsRegionFor}
 use Rattle.sot_lang.specs.Line.{side, cmd_name, pos_name, fast_name, slow_name, nav_name}
 use Rattle.sot_lists.proofs.ShortLists.{at_more, at_one, at_two}
 use Rattle.sot_lang.proofs.Owners.{one_body}
 use Rattle.sot_worked.specs.Parts.{one_topic, whole_number}
-use Rattle.sot_worked.specs.Line.{IsMove, IsPos, IsFast, IsSlow, IsCommand, nav}
-use Rattle.sot_worked.specs.Pair.{IsCell, IsUp, IsDown, IsDescent, IsPair, fly, stair, stairs, cell_name, up_name, down_name, fly_name}
+use Rattle.sot_worked.specs.Line.{IsCommand, nav}
+use Rattle.sot_worked.specs.Pair.{IsDescent, IsPair, fly, stair, stairs, cell_name, up_name, down_name, fly_name}
 use Rattle.sot_worked.proofs.Short.{only, only_place, nothing}
 use Rattle.sot_worked.proofs.LineTerms.{move_fits, command_fits}
 use Rattle.sot_worked.proofs.PairTerms.{height_fits, battery_fits, descent_fits}
