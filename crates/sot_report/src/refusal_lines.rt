@@ -139,12 +139,7 @@ fn trap_line(
     Ok(text)
 }
 
-fn region_line(
-    alloc: Global,
-    p: &Typed,
-    module: u32,
-    safer: bool,
-) -> Result<Vec<u8>, AllocError>
+fn region_line(alloc: Global, p: &Typed, module: u32, safer: bool) -> Result<Vec<u8>, AllocError>
     ensures { IfOk result (λ text. text.items ≡ refusal_text p.now (refusal_view (Refusal.EmptyRegion «module» safer))) }
 {
     let mut text = Vec::new(alloc);
@@ -272,7 +267,16 @@ pub fn refusal_text(alloc: Global, p: &Typed, refusal: &Refusal) -> Result<Vec<u
             tick,
             area,
             point,
-        } => leaves_line(alloc, p, "6 ClosedLeaves", module, cell, tick, &area, &point),
+        } => leaves_line(
+            alloc,
+            p,
+            "6 ClosedLeaves",
+            module,
+            cell,
+            tick,
+            &area,
+            &point,
+        ),
         Refusal::ReachGap { module, point } => gap_line(alloc, p, "7 ReachGap", module, &point),
         Refusal::ReachLeaves {
             module,

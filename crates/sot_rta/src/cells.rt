@@ -63,7 +63,13 @@ fn reach_refusal(module: u32, cell: u32, leave: Leave) -> Refusal
 }
 
 // The held tube of a cell that the safe region covers.
-fn held_tube(p: &Typed, jitter: u32, module: u32, info: &ModuleInfo, cell: &BoxN) -> Result<(), Leave>
+fn held_tube(
+    p: &Typed,
+    jitter: u32,
+    module: u32,
+    info: &ModuleInfo,
+    cell: &BoxN,
+) -> Result<(), Leave>
     requires jitter { jitter < 1000 }
     requires is { At p.now.modules «module» info.now }
     requires rules { MeetsTableRules p.now }
@@ -111,7 +117,14 @@ fn closed_cell(
     }
 }
 
-fn reach_cell(p: &Typed, jitter: u32, module: u32, info: &ModuleInfo, i: u32, cell: &BoxN) -> Result<(), Refusal>
+fn reach_cell(
+    p: &Typed,
+    jitter: u32,
+    module: u32,
+    info: &ModuleInfo,
+    i: u32,
+    cell: &BoxN,
+) -> Result<(), Refusal>
     requires jitter { jitter < 1000 }
     requires is { At p.now.modules «module» info.now }
     requires rules { MeetsTableRules p.now }
@@ -125,7 +138,13 @@ fn reach_cell(p: &Typed, jitter: u32, module: u32, info: &ModuleInfo, i: u32, ce
     }
 }
 
-fn closed_cells(p: &Typed, jitter: u32, module: u32, info: &ModuleInfo, closed: &Region) -> Result<(), Refusal>
+fn closed_cells(
+    p: &Typed,
+    jitter: u32,
+    module: u32,
+    info: &ModuleInfo,
+    closed: &Region,
+) -> Result<(), Refusal>
     requires jitter { jitter < 1000 }
     requires is { At p.now.modules «module» info.now }
     requires rules { MeetsTableRules p.now }
@@ -142,7 +161,13 @@ fn closed_cells(p: &Typed, jitter: u32, module: u32, info: &ModuleInfo, closed: 
     Ok(())
 }
 
-fn reach_cells(p: &Typed, jitter: u32, module: u32, info: &ModuleInfo, reach: &Region) -> Result<(), Refusal>
+fn reach_cells(
+    p: &Typed,
+    jitter: u32,
+    module: u32,
+    info: &ModuleInfo,
+    reach: &Region,
+) -> Result<(), Refusal>
     requires jitter { jitter < 1000 }
     requires is { At p.now.modules «module» info.now }
     requires rules { MeetsTableRules p.now }
@@ -160,7 +185,13 @@ fn reach_cells(p: &Typed, jitter: u32, module: u32, info: &ModuleInfo, reach: &R
 }
 
 // The cells of a module that was found.
-fn cells_of(p: &Typed, jitter: u32, module: u32, info: &ModuleInfo, cells: &Cells) -> Result<(), Refusal>
+fn cells_of(
+    p: &Typed,
+    jitter: u32,
+    module: u32,
+    info: &ModuleInfo,
+    cells: &Cells,
+) -> Result<(), Refusal>
     requires jitter { jitter < 1000 }
     requires is { At p.now.modules «module» info.now }
     requires rules { MeetsTableRules p.now }
