@@ -7,5 +7,7 @@ pub mod RefusalTexts
 pub mod AcceptedTexts
 -- what the steps of loading promise each other
 pub mod Loads
+-- what the counts of cells rest on
+pub mod Counts
 -- worked texts
 pub mod WorkedTexts

@@ -51,6 +51,10 @@ box_text sides = codes "[" ++ listed side_text sides ++ codes "]"
 abbrev pub place_text : Span → List ℕ
 place_text at = codes "line " ++ decimal at.line ++ codes " column " ++ decimal at.column
 
+-- an interval in brackets: ` [LO..HI]`, with a blank before it
+abbrev pub ends_text : ℤ → ℤ → List ℕ
+ends_text lo hi = codes " [" ++ signed_decimal lo ++ codes ".." ++ signed_decimal hi ++ codes "]"
+
 abbrev pub trap_word : TrapKind → List ℕ
 trap_word ZeroDivisor = codes "ZeroDivisor"
 trap_word Wide = codes "Wide"

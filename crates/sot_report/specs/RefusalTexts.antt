@@ -1,11 +1,11 @@
 -- The line of each refusal: the number and name of the condition that fails, and its evidence.
 use Rattle.std.specs.Prelude.{ℕ, ℤ, Bool, true, false, List, [], ◌∷◌, ◌++◌, codes}
-use Rattle.std.specs.Fmt.{decimal, signed_decimal}
+use Rattle.std.specs.Fmt.{decimal}
 use Rattle.sot_text.specs.declared.token.Span.{Span}
 use Rattle.sot_box.specs.Sides.{Side}
 use Rattle.sot_lang.specs.Tables.{Tables}
 use Rattle.sot_tube.specs.Refusals.{Refusal, Periods, Outputs, EmptyRegion, ClosedGap, ClosedTrap, ClosedLeaves, ReachGap, ReachLeaves, ReachTrap, SharedNode, SharedOutput, SharedPlant, ForeignInput, CodeMayTrap, NoCells}
-use Rattle.sot_report.specs.Pieces.{line, module_name, node_name, topic_name, plant_name, point_text, box_text, place_text, trap_word}
+use Rattle.sot_report.specs.Pieces.{line, module_name, node_name, topic_name, plant_name, point_text, box_text, place_text, ends_text, trap_word}
 
 abbrev pub region_word : Bool → List ℕ
 region_word false = codes "safe"
@@ -38,6 +38,10 @@ trap_line condition t m cell tick at = line (of_module condition t m ++ cell_tex
 abbrev pub shared_line : List ℕ → List ℕ → List ℕ → List ℕ → List ℕ → List ℕ
 shared_line condition thing users a b = line (codes "refused " ++ condition ++ thing ++ users ++ a ++ codes " " ++ b)
 
+-- `refused 14 CodeMayTrap node NAME line L column C`, which goes on
+abbrev pub code_text : Tables → ℕ → Span → List ℕ
+code_text t n at = codes "refused 14 CodeMayTrap node " ++ node_name t n ++ codes " " ++ place_text at
+
 abbrev pub refusal_text : Tables → Refusal → List ℕ
 refusal_text t (Periods m n) = node_line (codes "1 Periods") t m n
 refusal_text t (Outputs m k) = topic_line (codes "2 Outputs") t m k
@@ -53,5 +57,5 @@ refusal_text t (SharedOutput k a b) = shared_line (codes "11 SharedOutput topic 
 refusal_text t (SharedPlant k a b) = shared_line (codes "12 SharedPlant plant ") (plant_name t k) (codes " modules ") (module_name t a) (module_name t b)
 refusal_text t (ForeignInput m k) = topic_line (codes "13 ForeignInput") t m k
 refusal_text t (CodeMayTrap n at kind lo hi) =
-    line (codes "refused 14 CodeMayTrap node " ++ node_name t n ++ codes " " ++ place_text at ++ codes " " ++ trap_word kind ++ codes " [" ++ signed_decimal lo ++ codes ".." ++ signed_decimal hi ++ codes "]")
+    line (code_text t n at ++ codes " " ++ trap_word kind ++ ends_text lo hi)
 refusal_text t (NoCells m) = line (of_module (codes "15 NoCells") t m)

@@ -1,8 +1,9 @@
 //! The lines of an accepted mission.
 
-ghost use Rattle.std.specs.Prelude.{◌≡◌, ◌+◌, ◌<◌, ◌≤◌, ◌*◌, ◌^◌, length, IfOk};
+ghost use Rattle.std.specs.Prelude.{◌≡◌, ◌≤◌, length, IfOk};
 ghost use Rattle.std.specs.String.{string_bytes};
 ghost use Rattle.sot_lang.specs.CertRules.{FitsTables};
+ghost use Rattle.sot_report.specs.Counts.{AreFew};
 ghost use Rattle.sot_report.specs.AcceptedTexts.{entry_count, cell_count, accepted_text};
 
 use sot_lang::{Cells, Cert, Typed};
@@ -10,6 +11,7 @@ use std::alloc::{AllocError, Global};
 
 // The cells of an entry.
 fn entry_count(entry: &Option<Cells>) -> u64
+    requires { entry_count entry.now ≤ 8192 }
     ensures { result ≡ entry_count entry.now }
 {
     match entry {
@@ -20,6 +22,8 @@ fn entry_count(entry: &Option<Cells>) -> u64
 
 // The cells of all entries.
 fn cell_count(entries: &[Option<Cells>]) -> u64
+    requires few { AreFew entries.now }
+    requires entries { length entries.now ≤ 100 }
     ensures { result ≡ cell_count entries.now }
 {
     let mut count = 0;

@@ -2,7 +2,7 @@
 
 ghost use Rattle.std.specs.Prelude.{◌≡◌, ◌++◌, OnOk};
 ghost use Rattle.std.specs.Fmt.{decimal, signed_decimal};
-ghost use Rattle.sot_report.specs.Pieces.{module_name, node_name, topic_name, plant_name, further, listed, side_text, point_text, box_text, place_text, trap_word};
+ghost use Rattle.sot_report.specs.Pieces.{module_name, node_name, topic_name, plant_name, further, listed, side_text, point_text, box_text, place_text, ends_text, trap_word};
 
 use sot_box::{BoxN, Interval, Point};
 use sot_lang::{TrapKind, Typed};
@@ -85,9 +85,10 @@ fn put_side(alloc: Global, text: &mut Vec<u8>, side: Interval) -> Result<(), All
 pub fn put_point(alloc: Global, text: &mut Vec<u8>, point: &Point) -> Result<(), AllocError>
     ensures { OnOk result (text.new.items ≡ text.old.items ++ point_text point.now) }
 {
+    let axes = point.len();
     put(text, "(")?;
     put_number(alloc, text, point.at(0) as i128)?;
-    for i in 1..point.len() {
+    for i in 1..axes {
         put(text, ", ")?;
         put_number(alloc, text, point.at(i) as i128)?;
     }
@@ -98,9 +99,10 @@ pub fn put_point(alloc: Global, text: &mut Vec<u8>, point: &Point) -> Result<(),
 pub fn put_box(alloc: Global, text: &mut Vec<u8>, area: &BoxN) -> Result<(), AllocError>
     ensures { OnOk result (text.new.items ≡ text.old.items ++ box_text area.now) }
 {
+    let axes = area.len();
     put(text, "[")?;
     put_side(alloc, text, area.side(0))?;
-    for i in 1..area.len() {
+    for i in 1..axes {
         put(text, ", ")?;
         put_side(alloc, text, area.side(i))?;
     }
@@ -115,6 +117,17 @@ pub fn put_place(alloc: Global, text: &mut Vec<u8>, at: Span) -> Result<(), Allo
     let column = at.column;
     let piece = format!(in alloc; "line {line} column {column}")?;
     text.extend_from_slice(piece.as_bytes())
+}
+
+/// An interval of any whole numbers in brackets, with a blank before it.
+pub fn put_ends(alloc: Global, text: &mut Vec<u8>, lo: i128, hi: i128) -> Result<(), AllocError>
+    ensures { OnOk result (text.new.items ≡ text.old.items ++ ends_text lo hi) }
+{
+    put(text, " [")?;
+    put_number(alloc, text, lo)?;
+    put(text, "..")?;
+    put_number(alloc, text, hi)?;
+    put(text, "]")
 }
 
 /// The name of a trap.

@@ -2,10 +2,10 @@
 
 ghost use Rattle.std.specs.Prelude.{◌≡◌, ◌++◌, OnOk, IfOk};
 ghost use Rattle.sot_rta.specs.Refused.{refusal_view};
-ghost use Rattle.sot_report.specs.RefusalTexts.{region_word, of_module, cell_text, node_line, topic_line, gap_line, leaves_line, trap_line, refusal_text};
+ghost use Rattle.sot_report.specs.RefusalTexts.{region_word, of_module, cell_text, node_line, topic_line, gap_line, leaves_line, trap_line, code_text, refusal_text};
 
 use crate::piece::{
-    put, put_box, put_count, put_module, put_node, put_number, put_place, put_plant, put_point,
+    put, put_box, put_count, put_ends, put_module, put_node, put_place, put_plant, put_point,
     put_topic, trap_word,
 };
 use sot_box::{BoxN, Point};
@@ -210,6 +210,22 @@ fn shared_plant_line(
     Ok(text)
 }
 
+// The node and the place of code that may trap.
+fn put_code(
+    alloc: Global,
+    text: &mut Vec<u8>,
+    p: &Typed,
+    node: u32,
+    at: Span,
+) -> Result<(), AllocError>
+    ensures { OnOk result (text.new.items ≡ text.old.items ++ code_text p.now node at) }
+{
+    put(text, "refused 14 CodeMayTrap node ")?;
+    put_node(text, p, node)?;
+    put(text, " ")?;
+    put_place(alloc, text, at)
+}
+
 fn code_line(
     alloc: Global,
     p: &Typed,
@@ -222,17 +238,11 @@ fn code_line(
     ensures { IfOk result (λ text. text.items ≡ refusal_text p.now (refusal_view (Refusal.CodeMayTrap node at kind lo hi))) }
 {
     let mut text = Vec::new(alloc);
-    put(&mut text, "refused 14 CodeMayTrap node ")?;
-    put_node(&mut text, p, node)?;
-    put(&mut text, " ")?;
-    put_place(alloc, &mut text, at)?;
+    put_code(alloc, &mut text, p, node, at)?;
     put(&mut text, " ")?;
     put(&mut text, trap_word(kind))?;
-    put(&mut text, " [")?;
-    put_number(alloc, &mut text, lo)?;
-    put(&mut text, "..")?;
-    put_number(alloc, &mut text, hi)?;
-    put(&mut text, "]\n")?;
+    put_ends(alloc, &mut text, lo, hi)?;
+    text.push(b'\n')?;
     Ok(text)
 }
 

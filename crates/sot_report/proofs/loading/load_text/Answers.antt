@@ -1,0 +1,13 @@
+use Rattle.std.proofs.Common.{Err, ap}
+use Rattle.sot_canon.proofs.FormedPrograms.{spelled_formed}
+use Rattle.sot_report.proofs.loading.load_text.Goals as goal
+
+pub load_tree-requires : goal.load_tree-requires
+load_tree-requires c = record { formed = spelled_formed _ _ _ c.in-Ok.ensures.ok }
+
+pub returns-in-Err-Syntax-clause-fault : goal.returns-in-Err-Syntax-clause-fault
+returns-in-Err-Syntax-clause-fault c =
+    let is = ap (λ e. Err e) c.in-Err-Syntax.field-0-is in
+    let none = c.in-Err-Syntax.ensures.syntax c.in-Err-Syntax.fault is in
+    let place = c.in-Err-Syntax.ensures.place c.in-Err-Syntax.fault is in
+    (rw (c.new.ensures.bytes, c.new.ensures.at) at none, rw (c.new.ensures.bytes, c.new.ensures.at) at place)
