@@ -25,7 +25,7 @@ use Rattle.sot_print.specs.Leaves.{numeral, literal_words, ident_words, constant
 use Rattle.sot_print.specs.Spellable as spellable
 use Rattle.sot_canon.specs.Unplaced.{nowhere, unplaced_name, unplaced_literal, unplaced_bounds, unplaced_scalar, unplaced_field, unplaced_const}
 use Rattle.sot_canon.proofs.Takes.{Takes, split, a_keyword, a_sign, a_name, a_number, led, onto}
-use Rattle.sot_canon.proofs.Numbers.{IsNumeral, numeral_read, numeral_token}
+use Rattle.sot_print.proofs.NumeralTexts.{IsNumeral, numeral_read, numeral_token}
 use Rattle.sot_canon.proofs.Kept.{Production, Again, Kept, Keeps, no_level}
 
 -- NAME

@@ -1,7 +1,6 @@
 -- words and tokens
 pub mod Takes
 pub mod Texts
-pub mod Numbers
 -- each production, from leaves to programs
 pub mod Kept
 pub mod Leaves

@@ -4,10 +4,11 @@ use Rattle.std.proofs.lemmas.Bool.{cases_Bool}
 use Rattle.std.proofs.lemmas.Bool.Decides.{nat_tests}
 use Rattle.sot_text.specs.Reading.{Lexeme}
 use Rattle.sot_tree.specs.declared.operator.Func.{Func}
+use Rattle.sot_tree.specs.declared.tree.Lit.{Lit}
 use Rattle.sot_tree.specs.Trees.{number, named, negated}
 use Rattle.sot_expression.specs.Lexemes.{IsSign, IsName, IsNumber, begins, is_sign, is_keyword, is_name, is_number, ident, literal, negative_literal}
 use Rattle.sot_expression.specs.Readers.{Read, ◌>>=◌, stuck, deep, expect, name_at, number_at, negative_at}
-use Rattle.sot_expression.specs.ExpressionReaders.{Part, Reader, leaf, over, within, number_part, truth_part, field_at, named_at, group_at, opened_at, further_at, abs_at, pair_at, clamp_at, rescale_at, held_group, begins_unary, above, minus_at}
+use Rattle.sot_expression.specs.ExpressionReaders.{Part, Reader, leaf, over, within, number_part, truth_part, field_at, named_at, group_at, opened_at, further_at, abs_at, pair_at, limits_at, clamp_at, target_at, rescale_at, held_group, begins_unary, above, minus_at}
 use Rattle.sot_expression.specs.Phrases.{Phrase, a_number, a_truth, a_name, a_field, a_group, an_abs, a_pair, a_clamp, a_rescale, a_minus, a_rest, a_join, a_not, an_if, spelled, tier_of, IsPhrase, is_group, is_numeral, levels_of, part_of}
 use Rattle.sot_expression.proofs.TokenTests.{sign_is, name_is, number_is}
 use Rattle.sot_expression.proofs.Founds.{FitsIn, room_inside}
@@ -113,25 +114,28 @@ pair_read r part reads func w o f c g u ts is low_f low_g fits_f fits_g =
 
 pub clamp_read : (r : ℕ) (part : Reader) → ReadsAll 7 r false part → (w o : Lexeme) (f : Phrase) (c : Lexeme) (g : Phrase) (d : Lexeme) (h : Phrase) (u : Lexeme) (ts : List Lexeme) → IsPhrase (a_clamp w o f c g d h u) → tier_of f ≤ 7 → tier_of g ≤ 7 → tier_of h ≤ 7 → levels_of f ≤ r → levels_of g ≤ r → levels_of h ≤ r
     → clamp_at part (spelled (a_clamp w o f c g d h u) ts) ≡ Ok (part_of (a_clamp w o f c g d h u), ts)
-unfolding clamp_at
+unfolding clamp_at limits_at
 clamp_read r part reads w o f c g d h u ts is low_f low_g low_h fits_f fits_g fits_h =
     let y : Read Part = Ok (part_of (a_clamp w o f c g d h u), ts) in
     let last : List Lexeme = d ∷ spelled h (u ∷ ts) in
     let more : List Lexeme = c ∷ spelled g last in
     step (opened_at part (o ∷ spelled f more)) _ (part_of f, more) y (opened_read r part reads o f more is.1 is.2 low_f fits_f (comma_stops 7 c (spelled g last) is.3))
-    (step (further_at part more) _ (part_of g, last) y (further_read r part reads c g last is.3 is.4 low_g fits_g (comma_stops 7 d (spelled h (u ∷ ts)) is.5))
-    (step (further_at part last) _ (part_of h, u ∷ ts) y (further_read r part reads d h (u ∷ ts) is.5 is.6 low_h fits_h (close_stops 7 u ts is.7))
-    (step (expect (is_sign (codes ")")) (u ∷ ts)) _ (u.at, ts) y (close_read u ts is.7) refl)))
+    (step (limits_at part more) _ ((part_of g, part_of h), ts) y
+    (step (further_at part more) _ (part_of g, last) (Ok ((part_of g, part_of h), ts)) (further_read r part reads c g last is.3 is.4 low_g fits_g (comma_stops 7 d (spelled h (u ∷ ts)) is.5))
+    (step (further_at part last) _ (part_of h, u ∷ ts) (Ok ((part_of g, part_of h), ts)) (further_read r part reads d h (u ∷ ts) is.5 is.6 low_h fits_h (close_stops 7 u ts is.7))
+    (step (expect (is_sign (codes ")")) (u ∷ ts)) _ (u.at, ts) (Ok ((part_of g, part_of h), ts)) (close_read u ts is.7) refl))) refl)
 
 pub rescale_read : (r : ℕ) (part : Reader) → ReadsAll 7 r false part → (w o : Lexeme) (f : Phrase) (c n u : Lexeme) (ts : List Lexeme) → IsPhrase (a_rescale w o f c n u) → tier_of f ≤ 7 → levels_of f ≤ r
     → rescale_at part (spelled (a_rescale w o f c n u) ts) ≡ Ok (part_of (a_rescale w o f c n u), ts)
-unfolding rescale_at
+unfolding rescale_at target_at
 rescale_read r part reads w o f c n u ts is low fits =
     let y : Read Part = Ok (part_of (a_rescale w o f c n u), ts) in
+    let z : Read Lit = Ok (literal n, ts) in
     step (opened_at part (o ∷ spelled f (c ∷ n ∷ u ∷ ts))) _ (part_of f, c ∷ n ∷ u ∷ ts) y (opened_read r part reads o f (c ∷ n ∷ u ∷ ts) is.1 is.2 low fits (comma_stops 7 c (n ∷ u ∷ ts) is.3))
-    (step (expect (is_sign (codes ",")) (c ∷ n ∷ u ∷ ts)) _ (c.at, n ∷ u ∷ ts) y (comma_read c (n ∷ u ∷ ts) is.3)
-    (step (number_at (n ∷ u ∷ ts)) _ (literal n, u ∷ ts) y (number_read n (u ∷ ts) is.4)
-    (step (expect (is_sign (codes ")")) (u ∷ ts)) _ (u.at, ts) y (close_read u ts is.5) refl)))
+    (step (target_at (c ∷ n ∷ u ∷ ts)) _ (literal n, ts) y
+    (step (expect (is_sign (codes ",")) (c ∷ n ∷ u ∷ ts)) _ (c.at, n ∷ u ∷ ts) z (comma_read c (n ∷ u ∷ ts) is.3)
+    (step (number_at (n ∷ u ∷ ts)) _ (literal n, u ∷ ts) z (number_read n (u ∷ ts) is.4)
+    (step (expect (is_sign (codes ")")) (u ∷ ts)) _ (u.at, ts) z (close_read u ts is.5) refl))) refl)
 
 -- a minus
 negative_is_read : (room : ℕ) (operand : Reader) (t n : Lexeme) (ts : List Lexeme) → IsNumber n → minus_at room t operand (n ∷ ts) ≡ Ok (part_of (a_minus t (a_number n)), ts)

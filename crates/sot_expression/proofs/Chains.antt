@@ -9,7 +9,7 @@ use Rattle.sot_expression.specs.declared.operators.Infix.TheVariants.{Joins, Res
 use Rattle.sot_expression.specs.Lexemes.{IsSign, IsNumber, is_number, literal}
 use Rattle.sot_expression.specs.Readers.{Read, ◌>>=◌, stuck, deep, number_at}
 use Rattle.sot_expression.specs.Operators.{tier_of_op, infix_at}
-use Rattle.sot_expression.specs.ExpressionReaders.{Part, Reader, over, joined_at, gone_on, chain_at}
+use Rattle.sot_expression.specs.ExpressionReaders.{Part, Reader, over, operation_at, remainder_at, joined_at, gone_on, chain_at}
 use Rattle.sot_expression.specs.Phrases.{Phrase, a_number, a_truth, a_name, a_field, a_group, an_abs, a_pair, a_clamp, a_rescale, a_minus, a_rest, a_join, a_not, an_if, spelled, tier_of, IsOperator, left_tier, IsPhrase, tree_of, levels_of, part_of}
 use Rattle.sot_expression.proofs.TokenTests.{number_is, join_is, rest_is, infix_is}
 use Rattle.sot_expression.proofs.Founds.{FitsIn}
@@ -42,7 +42,7 @@ unheld room f le = (le, λ held _. absurd cc)
 join_turn : (r m k : ℕ) (right : Reader) → ReadsAll k r false right → (op : Op) (l : Phrase) (t : Lexeme) (g : Phrase) (ts : List Lexeme) → IsOperator op t → tier_of_op op ≡ suc k → IsPhrase g → tier_of g ≤ k
     → levels_of l < suc r → levels_of g ≤ r → StopsAt k ts
     → chain_at (suc m) (suc r) (suc k) right (part_of l) (t ∷ spelled g ts) ≡ chain_at m (suc r) (suc k) right (part_of (a_join op l t g)) ts
-unfolding chain_at joined_at
+unfolding chain_at joined_at operation_at
 join_turn r m k right reads op l t g ts word tier is low less fits stops =
     let found = infix_is (suc k) t (spelled g ts) (Joins op) (join_is op t word) tier in
     let small : nat_lt (levels_of l) (suc r) ≡ true = grind (arith, nat_tests) in
@@ -53,7 +53,7 @@ join_turn r m k right reads op l t g ts word tier is low less fits stops =
 
 rest_turn : (r m k : ℕ) (right : Reader) (l : Phrase) (t n : Lexeme) (ts : List Lexeme) → IsSign (codes "%") t → 1 ≡ suc k → IsNumber n → levels_of l < suc r
     → chain_at (suc m) (suc r) (suc k) right (part_of l) (t ∷ n ∷ ts) ≡ chain_at m (suc r) (suc k) right (part_of (a_rest l t n)) ts
-unfolding chain_at joined_at
+unfolding chain_at joined_at remainder_at
 rest_turn r m k right l t n ts word tier is less =
     let found = infix_is (suc k) t (n ∷ ts) Rests (rest_is t word) tier in
     let small : nat_lt (levels_of l) (suc r) ≡ true = grind (arith, nat_tests) in

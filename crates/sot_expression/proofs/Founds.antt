@@ -11,10 +11,10 @@ use Rattle.sot_tree.specs.declared.tree.Lit.{Lit}
 use Rattle.sot_tree.specs.Trees.{number, truth, named, binary, rest, called, rescaled, chosen, no_tree, one_more}
 use Rattle.sot_expression.specs.declared.operators.Infix.{Infix}
 use Rattle.sot_expression.specs.declared.operators.Infix.TheVariants.{Joins, Rests}
-use Rattle.sot_expression.specs.Lexemes.{IsKeyword, IsSign, IsName, begins, is_sign, is_keyword, ident, literal}
+use Rattle.sot_expression.specs.Lexemes.{IsKeyword, IsSign, IsName, IsNumber, begins, is_sign, is_keyword, ident, literal}
 use Rattle.sot_expression.specs.Readers.{Read, ◌>>=◌, expect, name_at, number_at}
 use Rattle.sot_expression.specs.Operators.{infix_at}
-use Rattle.sot_expression.specs.ExpressionReaders.{Part, Reader, leaf, over, grouped, within, joined_at, gone_on, chain_at, number_part, truth_part, field_at, named_at, group_at, opened_at, further_at, abs_at, pair_at, clamp_at, rescale_at, held_group, chosen_at}
+use Rattle.sot_expression.specs.ExpressionReaders.{Part, Reader, leaf, over, grouped, within, operation_at, remainder_at, joined_at, gone_on, chain_at, number_part, truth_part, field_at, named_at, group_at, opened_at, further_at, abs_at, pair_at, limits_at, clamp_at, target_at, rescale_at, held_group, chosen_at}
 use Rattle.sot_expression.specs.Phrases.{Phrase, a_number, a_truth, a_name, a_field, a_group, an_abs, a_pair, a_clamp, a_rescale, a_rest, a_join, an_if, spelled, tier_of, IsTruth, IsPairWord, left_tier, IsPhrase, tree_of, is_group, levels_of, part_of}
 use Rattle.sot_expression.proofs.TokenTests.{infix_ok, infix_end}
 use Rattle.sot_expression.proofs.ReadSteps.{ok, bind_ok, ok_is, guard_ok, unless_ok, chosen_by, sign_taken, keyword_taken, name_taken, number_taken}
@@ -117,7 +117,7 @@ binary_is op f t r g e = rw e refl
 
 pub joined_ok : (r tier k : ℕ) (held : Bool) (o : Infix) (right : Reader) → Reads k r false right → k < tier → (f : Phrase) → IsPhrase f → tier_of f ≤ left_tier tier → levels_of f < suc r → (ts : List Lexeme) (x : Part × List Lexeme)
     → infix_at tier ts ≡ Some o → joined_at o right (part_of f) ts ≡ Ok x → Grown tier (suc r) held f ts x
-unfolding joined_at
+unfolding joined_at operation_at remainder_at
 joined_ok r tier k held o right reads lt f is low less [] x infix_is e = absurd (infix_end tier o infix_is)
 joined_ok r tier k held (Joins op) right reads lt f is low less (t ∷ ts) x infix_is e =
     let word = infix_ok tier t ts (Joins op) infix_is in
@@ -309,40 +309,68 @@ clamp_is : (w o c d u : Lexeme) (a b l : Part) (f g h : Phrase) → a ≡ part_o
     → over (called Clamp (one_more a.tree (one_more b.tree (one_more l.tree no_tree))) w.at) (max a.levels (max b.levels l.levels)) ≡ part_of (a_clamp w o f c g d h u)
 clamp_is w o c d u a b l f g h p q s = rw (p, q, s) refl
 
+-- the second and the third argument, and the end of the call
+record Limits (r : ℕ) (ts : List Lexeme) (x : (Part × Part) × List Lexeme) : Type 0 where
+  behind_low : List Lexeme
+  behind_high : List Lexeme
+  low : Argument r (codes ",") ts (x.0.0, behind_low)
+  high : Argument r (codes ",") behind_low (x.0.1, behind_high)
+  closing : Lexeme
+  closes : IsSign (codes ")") closing
+  tokens : behind_high ≡ closing ∷ x.1
+
+limits_found : (r : ℕ) (part : Reader) → Reads 7 r false part → (ts : List Lexeme) (x : (Part × Part) × List Lexeme) → limits_at part ts ≡ Ok x → Limits r ts x
+unfolding limits_at
+limits_found r part reads ts x e =
+    let b = bind_ok (further_at part ts) _ x e in
+    let c = bind_ok (further_at part b.0.1) _ x b.2 in
+    let close = bind_ok (expect (is_sign (codes ")")) c.0.1) _ x c.2 in
+    let fb = further_found r part reads ts b.0 b.1 in
+    let fc = further_found r part reads b.0.1 c.0 c.1 in
+    let w = sign_taken (codes ")") c.0.1 close.0 close.1 in
+    subst (Limits r ts) (ok_is ((b.0.0, c.0.0), close.0.1) x close.2) (record { behind_low = b.0.1; behind_high = c.0.1; low = fb; high = fc; closing = w.0; closes = w.2; tokens = w.1 })
+
 pub clamp_found : (r : ℕ) (held : Bool) (part : Reader) → Reads 7 r false part → (t : Lexeme) (ts : List Lexeme) (x : Part × List Lexeme) → IsKeyword (codes "clamp") t → clamp_at part (t ∷ ts) ≡ Ok x → Found 0 (suc r) held (t ∷ ts) x
 unfolding clamp_at
 clamp_found r held part reads t ts x word e =
     let a = bind_ok (opened_at part ts) _ x e in
-    let b = bind_ok (further_at part a.0.1) _ x a.2 in
-    let c = bind_ok (further_at part b.0.1) _ x b.2 in
-    let close = bind_ok (expect (is_sign (codes ")")) c.0.1) _ x c.2 in
+    let m = bind_ok (limits_at part a.0.1) _ x a.2 in
     let fa = opened_found r part reads ts a.0 a.1 in
-    let fb = further_found r part reads a.0.1 b.0 b.1 in
-    let fc = further_found r part reads b.0.1 c.0 c.1 in
-    let w = sign_taken (codes ")") c.0.1 close.0 close.1 in
-    made 0 (suc r) held (t ∷ ts) (a_clamp t fa.before fa.phrase fb.before fb.phrase fc.before fc.phrase w.0)
-    (over (called Clamp (one_more a.0.0.tree (one_more b.0.0.tree (one_more c.0.0.tree no_tree))) t.at) (max a.0.0.levels (max b.0.0.levels c.0.0.levels)), close.0.1) x
-    (word, fa.is_before, fa.is, fb.is_before, fb.is, fc.is_before, fc.is, w.2) (omega arith) refl (omega (arith, fa.levels, fb.levels, fc.levels))
-    (ap (λ (us : List Lexeme). t ∷ us) (fa.tokens ∙ ap (λ (us : List Lexeme). fa.before ∷ spelled fa.phrase us) (fb.tokens ∙ ap (λ (us : List Lexeme). fb.before ∷ spelled fb.phrase us) (fc.tokens ∙ ap (λ (us : List Lexeme). fc.before ∷ spelled fc.phrase us) w.1))))
-    (clamp_is t fa.before fb.before fc.before w.0 a.0.0 b.0.0 c.0.0 fa.phrase fb.phrase fc.phrase fa.part fb.part fc.part)
-    close.2
+    let l = limits_found r part reads a.0.1 m.0 m.1 in
+    let fb = l.low in
+    let fc = l.high in
+    made 0 (suc r) held (t ∷ ts) (a_clamp t fa.before fa.phrase fb.before fb.phrase fc.before fc.phrase l.closing)
+    (over (called Clamp (one_more a.0.0.tree (one_more m.0.0.0.tree (one_more m.0.0.1.tree no_tree))) t.at) (max a.0.0.levels (max m.0.0.0.levels m.0.0.1.levels)), m.0.1) x
+    (word, fa.is_before, fa.is, fb.is_before, fb.is, fc.is_before, fc.is, l.closes) (omega arith) refl (omega (arith, fa.levels, fb.levels, fc.levels))
+    (ap (λ (us : List Lexeme). t ∷ us) (fa.tokens ∙ ap (λ (us : List Lexeme). fa.before ∷ spelled fa.phrase us) (fb.tokens ∙ ap (λ (us : List Lexeme). fb.before ∷ spelled fb.phrase us) (fc.tokens ∙ ap (λ (us : List Lexeme). fc.before ∷ spelled fc.phrase us) l.tokens))))
+    (clamp_is t fa.before fb.before fc.before l.closing a.0.0 m.0.0.0 m.0.0.1 fa.phrase fb.phrase fc.phrase fa.part fb.part fc.part)
+    m.2
 
 rescale_is : (w o c n u : Lexeme) (a : Part) (f : Phrase) (l : Lit) → a ≡ part_of f → l ≡ literal n → over (rescaled a.tree l w.at) a.levels ≡ part_of (a_rescale w o f c n u)
 rescale_is w o c n u a f l p q = rw (p, q) refl
+
+-- a comma, a number and the end of the call
+target_found : (ts : List Lexeme) (x : Lit × List Lexeme) → target_at ts ≡ Ok x → (c : Lexeme) × (n : Lexeme) × (u : Lexeme) × (ts ≡ c ∷ n ∷ u ∷ x.1) × IsSign (codes ",") c × IsNumber n × IsSign (codes ")") u × (x.0 ≡ literal n)
+unfolding target_at
+target_found ts x e =
+    let c = bind_ok (expect (is_sign (codes ",")) ts) _ x e in
+    let n = bind_ok (number_at c.0.1) _ x c.2 in
+    let close = bind_ok (expect (is_sign (codes ")")) n.0.1) _ x n.2 in
+    let wc = sign_taken (codes ",") ts c.0 c.1 in
+    let wn = number_taken c.0.1 n.0 n.1 in
+    let w = sign_taken (codes ")") n.0.1 close.0 close.1 in
+    let same = ok_is (n.0.0, close.0.1) x close.2 in
+    (wc.0, wn.0, w.0, wc.1 ∙ ap (λ (us : List Lexeme). wc.0 ∷ us) (wn.1 ∙ ap (λ (us : List Lexeme). wn.0 ∷ us) (w.1 ∙ ap (λ (z : Lit × List Lexeme). w.0 ∷ z.1) same)), wc.2, wn.2, w.2, sym (ap (λ (z : Lit × List Lexeme). z.0) same) ∙ wn.3)
 
 pub rescale_found : (r : ℕ) (held : Bool) (part : Reader) → Reads 7 r false part → (t : Lexeme) (ts : List Lexeme) (x : Part × List Lexeme) → IsKeyword (codes "rescale") t → rescale_at part (t ∷ ts) ≡ Ok x → Found 0 (suc r) held (t ∷ ts) x
 unfolding rescale_at
 rescale_found r held part reads t ts x word e =
     let a = bind_ok (opened_at part ts) _ x e in
-    let c = bind_ok (expect (is_sign (codes ",")) a.0.1) _ x a.2 in
-    let n = bind_ok (number_at c.0.1) _ x c.2 in
-    let close = bind_ok (expect (is_sign (codes ")")) n.0.1) _ x n.2 in
+    let to = bind_ok (target_at a.0.1) _ x a.2 in
     let fa = opened_found r part reads ts a.0 a.1 in
-    let wc = sign_taken (codes ",") a.0.1 c.0 c.1 in
-    let wn = number_taken c.0.1 n.0 n.1 in
-    let w = sign_taken (codes ")") n.0.1 close.0 close.1 in
-    made 0 (suc r) held (t ∷ ts) (a_rescale t fa.before fa.phrase wc.0 wn.0 w.0) (over (rescaled a.0.0.tree n.0.0 t.at) a.0.0.levels, close.0.1) x
-    (word, fa.is_before, fa.is, wc.2, wn.2, w.2) (omega arith) refl (omega (arith, fa.levels))
-    (ap (λ (us : List Lexeme). t ∷ us) (fa.tokens ∙ ap (λ (us : List Lexeme). fa.before ∷ spelled fa.phrase us) (wc.1 ∙ ap (λ (us : List Lexeme). wc.0 ∷ us) (wn.1 ∙ ap (λ (us : List Lexeme). wn.0 ∷ us) w.1))))
-    (rescale_is t fa.before wc.0 wn.0 w.0 a.0.0 fa.phrase n.0.0 fa.part wn.3)
-    close.2
+    let w = target_found a.0.1 to.0 to.1 in
+    made 0 (suc r) held (t ∷ ts) (a_rescale t fa.before fa.phrase w.0 w.1 w.2) (over (rescaled a.0.0.tree to.0.0 t.at) a.0.0.levels, to.0.1) x
+    (word, fa.is_before, fa.is, w.4, w.5, w.6) (omega arith) refl (omega (arith, fa.levels))
+    (ap (λ (us : List Lexeme). t ∷ us) (fa.tokens ∙ ap (λ (us : List Lexeme). fa.before ∷ spelled fa.phrase us) w.3))
+    (rescale_is t fa.before w.0 w.1 w.2 a.0.0 fa.phrase to.0.0 fa.part w.7)
+    to.2

@@ -1,9 +1,11 @@
 -- What tokens spell as an expression, read from the left: its tree, with how deep it nests, or the first token at fault.
 use Rattle.std.specs.Prelude.{ℕ, zero, suc, ◌+◌, List, [], ◌∷◌, Bool, true, false, ◌==◌, ◌||◌, not, nat_lt, max, codes, Option, None, Some, Ok, Err, if◌then◌else◌}
 use Rattle.sot_text.specs.Reading.{Lexeme}
+use Rattle.sot_tree.specs.declared.operator.Op.{Op}
 use Rattle.sot_tree.specs.declared.operator.Func.{Func}
 use Rattle.sot_tree.specs.declared.operator.Func.TheVariants.{Abs, Clamp}
 use Rattle.sot_tree.specs.declared.tree.Ident.{Ident}
+use Rattle.sot_tree.specs.declared.tree.Lit.{Lit}
 use Rattle.sot_tree.specs.Trees.{Tree, number, truth, named, binary, rest, negated, denied, called, rescaled, chosen, no_tree, one_more}
 use Rattle.sot_expression.specs.declared.operators.Infix.{Infix}
 use Rattle.sot_expression.specs.declared.operators.Infix.TheVariants.{Joins, Rests}
@@ -43,16 +45,22 @@ abbrev pub any_token : List Lexeme → Read Lexeme
 any_token [] = Err (stuck, [])
 any_token (t ∷ ts) = Ok (t, ts)
 
--- an operator and its right part, behind a left part
-unfoldable pub joined_at : Infix → Reader → Part → List Lexeme → Read Part
-joined_at (Joins op) right left ts = do
+-- an operator between two operands, and one with a number, behind a left part
+unfoldable pub operation_at : Op → Reader → Part → List Lexeme → Read Part
+operation_at op right left ts = do
   t ← any_token ts
   r ← right t.1
   Ok (over (binary op left.tree r.0.tree t.0.at) (max left.levels r.0.levels), r.1)
-joined_at Rests right left ts = do
+
+unfoldable pub remainder_at : Part → List Lexeme → Read Part
+remainder_at left ts = do
   t ← any_token ts
   by ← number_at t.1
   Ok (over (rest left.tree by.0 t.0.at) left.levels, by.1)
+
+unfoldable pub joined_at : Infix → Reader → Part → List Lexeme → Read Part
+joined_at (Joins op) right left ts = operation_at op right left ts
+joined_at Rests right left ts = remainder_at left ts
 
 -- an operator goes on with the left part, where it may nest one level deeper
 abbrev pub gone_on : ℕ → (Infix → Read Part) → Option Infix → Part → List Lexeme → Read Part
@@ -112,23 +120,35 @@ pair_at func part ts = do
   close ← expect (is_sign (codes ")")) b.1
   Ok (over (called func (one_more a.0.tree (one_more b.0.tree no_tree)) word.0.at) (max a.0.levels b.0.levels), close.1)
 
+-- the second and the third argument of a call, and its end
+unfoldable pub limits_at : Reader → List Lexeme → Read (Part × Part)
+limits_at part ts = do
+  b ← further_at part ts
+  c ← further_at part b.1
+  close ← expect (is_sign (codes ")")) c.1
+  Ok ((b.0, c.0), close.1)
+
 unfoldable pub clamp_at : Reader → List Lexeme → Read Part
 clamp_at part ts = do
   word ← any_token ts
   a ← opened_at part word.1
-  b ← further_at part a.1
-  c ← further_at part b.1
-  close ← expect (is_sign (codes ")")) c.1
-  Ok (over (called Clamp (one_more a.0.tree (one_more b.0.tree (one_more c.0.tree no_tree))) word.0.at) (max a.0.levels (max b.0.levels c.0.levels)), close.1)
+  more ← limits_at part a.1
+  Ok (over (called Clamp (one_more a.0.tree (one_more more.0.0.tree (one_more more.0.1.tree no_tree))) word.0.at) (max a.0.levels (max more.0.0.levels more.0.1.levels)), more.1)
+
+-- the scale that a call rescales to, and its end
+unfoldable pub target_at : List Lexeme → Read Lit
+target_at ts = do
+  comma ← expect (is_sign (codes ",")) ts
+  to ← number_at comma.1
+  close ← expect (is_sign (codes ")")) to.1
+  Ok (to.0, close.1)
 
 unfoldable pub rescale_at : Reader → List Lexeme → Read Part
 rescale_at part ts = do
   word ← any_token ts
   a ← opened_at part word.1
-  comma ← expect (is_sign (codes ",")) a.1
-  to ← number_at comma.1
-  close ← expect (is_sign (codes ")")) to.1
-  Ok (over (rescaled a.0.tree to.0 word.0.at) a.0.levels, close.1)
+  to ← target_at a.1
+  Ok (over (rescaled a.0.tree to.0 word.0.at) a.0.levels, to.1)
 
 -- What is around a part: `below tier` reads a part of that tier, one level deeper; `inner` reads what stands in parentheses.
 pub record Around : Type 0 where

@@ -1,20 +1,20 @@
 //! The productions of expressions, one function for each.
 ghost use Rattle.std.specs.Prelude.{◌≡◌, ◌<◌, ◌≤◌, ◌-◌, IfOk, true, false};
 ghost use Rattle.sot_text.specs.Reading.{lexeme};
-ghost use Rattle.sot_expression.specs.ExpressionReaders.{any_token, joined_at, chain_at, number_part, truth_part, field_at, named_at, group_at, opened_at, further_at, abs_at, pair_at, clamp_at, rescale_at, atom_at, begins_unary, minus_at, unary_at, denied_at, denial_at, chosen_at, choice_at, turns, part_at, expression_at, tree_at};
+ghost use Rattle.sot_expression.specs.ExpressionReaders.{any_token, operation_at, remainder_at, joined_at, chain_at, number_part, truth_part, field_at, named_at, group_at, opened_at, further_at, abs_at, pair_at, limits_at, clamp_at, target_at, rescale_at, atom_at, begins_unary, minus_at, unary_at, denied_at, denial_at, chosen_at, choice_at, turns, part_at, expression_at, tree_at};
 ghost use Rattle.sot_tree.specs.TreeViews.{tree_view};
 ghost use Rattle.sot_expression.specs.Parts.{part_view, Fits, below, inner, around};
 ghost use Rattle.sot_expression.specs.Returned.{Gives};
 
-use crate::calls::{call_of_one, call_of_three, call_of_two};
+use crate::fail::Fail;
 use crate::leaves::{
     expect_keyword, expect_sign, is_keyword, is_number, is_sign, name, negated_number, number,
 };
+use crate::nodes;
 use crate::operators::{Infix, Opening, infix_at, opening_at};
 use crate::part::Part;
-use crate::fail::Fail;
 use crate::tokens::Tokens;
-use sot_tree::{Expr, Func, Ident};
+use sot_tree::{Expr, Func, Ident, Lit, Op};
 use sot_text::Token;
 use std::alloc::Global;
 
@@ -114,6 +114,37 @@ fn turns(tier: u8, room: u32) -> u32
     if tier == 3 { 1 } else { room }
 }
 
+// `%` and its number, behind a left part.
+#[tactic(auto, unfolding(crate::specs::ExpressionReaders::remainder_at))]
+fn remainder(
+    alloc: Global,
+    tokens: &mut Tokens<'_>,
+    room: u32,
+    left: Part,
+) -> Result<Part, Fail>
+    requires room { room ≤ 64 }
+    requires left { left.levels < room }
+    ensures read { Gives part_view result tokens.old tokens.new (remainder_at (part_view left) tokens.old.tokens) }
+    ensures fits { IfOk result (λ p. Fits room true p) }
+{
+    let at = any_token(tokens)?.at;
+    let by = number(tokens)?;
+    let levels = 1 + left.levels;
+    let tree = nodes::rest(alloc, left.tree, by, at)?;
+    Ok(over(tree, levels))
+}
+
+// The scale that a call rescales to, and its end.
+#[tactic(auto, unfolding(crate::specs::ExpressionReaders::target_at))]
+fn target(tokens: &mut Tokens<'_>) -> Result<Lit, Fail>
+    ensures { Gives (λ lit. lit) result tokens.old tokens.new (target_at tokens.old.tokens) }
+{
+    expect_sign(tokens, b",")?;
+    let to = number(tokens)?;
+    expect_sign(tokens, b")")?;
+    Ok(to)
+}
+
 // A part of a tier, of at most `room` levels; `held` directly behind a parenthesis that groups.
 #[cycle(expression)]
 #[tactic(auto, using(crate::proofs::Tiers::read_unary, crate::proofs::Tiers::read_denial, crate::proofs::Tiers::read_choice, crate::proofs::Tiers::read_chain))]
@@ -169,7 +200,7 @@ fn chain(
     if left.levels >= room {
         return Err(Fail::Deep);
     }
-    let next = joined(alloc, tokens, room, held, tier, operator, left)?;
+    let next = joined(alloc, tokens, room, tier, operator, left)?;
     chain(alloc, tokens, room, held, tier, turns - 1, next)
 }
 
@@ -180,7 +211,6 @@ fn joined(
     alloc: Global,
     tokens: &mut Tokens<'_>,
     room: u32,
-    held: bool,
     tier: u8,
     operator: Infix,
     left: Part,
@@ -189,32 +219,35 @@ fn joined(
     requires tier { (1 ≤ tier) × (tier ≤ 6) }
     requires left { left.levels < room }
     ensures read { Gives part_view result tokens.old tokens.new (joined_at operator (below room (tier - 1)) (part_view left) tokens.old.tokens) }
-    ensures fits { IfOk result (λ p. Fits room held p) }
+    ensures fits { IfOk result (λ p. Fits room true p) }
+{
+    match operator {
+        Infix::Joins(op) => operation(alloc, tokens, room, tier, op, left),
+        Infix::Rests => remainder(alloc, tokens, room, left),
+    }
+}
+
+#[cycle(expression)]
+#[tactic(auto, unfolding(crate::specs::ExpressionReaders::operation_at))]
+fn operation(
+    alloc: Global,
+    tokens: &mut Tokens<'_>,
+    room: u32,
+    tier: u8,
+    op: Op,
+    left: Part,
+) -> Result<Part, Fail>
+    requires room { (2 ≤ room) × (room ≤ 64) }
+    requires tier { (1 ≤ tier) × (tier ≤ 6) }
+    requires left { left.levels < room }
+    ensures read { Gives part_view result tokens.old tokens.new (operation_at op (below room (tier - 1)) (part_view left) tokens.old.tokens) }
+    ensures fits { IfOk result (λ p. Fits room true p) }
 {
     let at = any_token(tokens)?.at;
-    match operator {
-        Infix::Joins(op) => {
-            let right = read(alloc, tokens, room - 1, false, tier - 1)?;
-            let levels = 1 + left.levels.max(right.levels);
-            let left = Box::new(alloc, left.tree)?;
-            let right = Box::new(alloc, right.tree)?;
-            Ok(over(
-                Expr::Binary {
-                    op,
-                    left,
-                    right,
-                    at,
-                },
-                levels,
-            ))
-        }
-        Infix::Rests => {
-            let by = number(tokens)?;
-            let levels = 1 + left.levels;
-            let left = Box::new(alloc, left.tree)?;
-            Ok(over(Expr::Rest { left, by, at }, levels))
-        }
-    }
+    let right = read(alloc, tokens, room - 1, false, tier - 1)?;
+    let levels = 1 + left.levels.max(right.levels);
+    let tree = nodes::binary(alloc, op, left.tree, right.tree, at)?;
+    Ok(over(tree, levels))
 }
 
 #[cycle(expression)]
@@ -258,8 +291,8 @@ fn minus(
     }
     let part = read(alloc, tokens, room - 1, false, 0)?;
     let levels = 1 + part.levels;
-    let part = Box::new(alloc, part.tree)?;
-    Ok(over(Expr::Neg { part, at: token.at }, levels))
+    let tree = nodes::negated(alloc, part.tree, token.at)?;
+    Ok(over(tree, levels))
 }
 
 #[cycle(expression)]
@@ -288,8 +321,8 @@ fn denied(alloc: Global, tokens: &mut Tokens<'_>, room: u32, held: bool) -> Resu
     let at = any_token(tokens)?.at;
     let part = read(alloc, tokens, room - 1, false, 4)?;
     let levels = 1 + part.levels;
-    let part = Box::new(alloc, part.tree)?;
-    Ok(over(Expr::Not { part, at }, levels))
+    let tree = nodes::denied(alloc, part.tree, at)?;
+    Ok(over(tree, levels))
 }
 
 #[cycle(expression)]
@@ -322,10 +355,8 @@ fn chosen(alloc: Global, tokens: &mut Tokens<'_>, room: u32, held: bool) -> Resu
     expect_keyword(tokens, b"else")?;
     let no = read(alloc, tokens, room - 1, false, 7)?;
     let levels = 1 + cond.levels.max(yes.levels.max(no.levels));
-    let cond = Box::new(alloc, cond.tree)?;
-    let yes = Box::new(alloc, yes.tree)?;
-    let no = Box::new(alloc, no.tree)?;
-    Ok(over(Expr::If { cond, yes, no, at }, levels))
+    let tree = nodes::chosen(alloc, cond.tree, yes.tree, no.tree, at)?;
+    Ok(over(tree, levels))
 }
 
 #[cycle(expression)]
@@ -407,7 +438,7 @@ fn absolute(alloc: Global, tokens: &mut Tokens<'_>, room: u32) -> Result<Part, F
     let at = any_token(tokens)?.at;
     let part = opened(alloc, tokens, room)?;
     expect_sign(tokens, b")")?;
-    let call = call_of_one(alloc, Func::Abs, part.tree, at)?;
+    let call = nodes::call_of_one(alloc, Func::Abs, part.tree, at)?;
     Ok(over(call, 1 + part.levels))
 }
 
@@ -424,12 +455,27 @@ fn pair(alloc: Global, tokens: &mut Tokens<'_>, room: u32, func: Func) -> Result
     let second = further(alloc, tokens, room)?;
     expect_sign(tokens, b")")?;
     let levels = 1 + first.levels.max(second.levels);
-    let call = call_of_two(alloc, func, first.tree, second.tree, at)?;
+    let call = nodes::call_of_two(alloc, func, first.tree, second.tree, at)?;
     Ok(over(call, levels))
 }
 
+// The second and the third argument of a call, and its end.
 #[cycle(expression)]
-#[tactic(auto, unfolding(crate::specs::ExpressionReaders::clamp_at, crate::specs::ExpressionReaders::opened_at, crate::specs::ExpressionReaders::further_at))]
+#[tactic(auto, unfolding(crate::specs::ExpressionReaders::limits_at))]
+fn limits(alloc: Global, tokens: &mut Tokens<'_>, room: u32) -> Result<(Part, Part), Fail>
+    requires room { (2 ≤ room) × (room ≤ 64) }
+    ensures read { Gives (λ limits. (part_view limits.0, part_view limits.1)) result tokens.old tokens.new (limits_at (below room 7) tokens.old.tokens) }
+    ensures low { IfOk result (λ limits. limits.0.levels < room) }
+    ensures high { IfOk result (λ limits. limits.1.levels < room) }
+{
+    let low = further(alloc, tokens, room)?;
+    let high = further(alloc, tokens, room)?;
+    expect_sign(tokens, b")")?;
+    Ok((low, high))
+}
+
+#[cycle(expression)]
+#[tactic(auto, unfolding(crate::specs::ExpressionReaders::clamp_at))]
 fn clamp(alloc: Global, tokens: &mut Tokens<'_>, room: u32) -> Result<Part, Fail>
     requires room { (2 ≤ room) × (room ≤ 64) }
     ensures read { Gives part_view result tokens.old tokens.new (clamp_at (below room 7) tokens.old.tokens) }
@@ -437,16 +483,14 @@ fn clamp(alloc: Global, tokens: &mut Tokens<'_>, room: u32) -> Result<Part, Fail
 {
     let at = any_token(tokens)?.at;
     let value = opened(alloc, tokens, room)?;
-    let low = further(alloc, tokens, room)?;
-    let high = further(alloc, tokens, room)?;
-    expect_sign(tokens, b")")?;
+    let (low, high) = limits(alloc, tokens, room)?;
     let levels = 1 + value.levels.max(low.levels.max(high.levels));
-    let call = call_of_three(alloc, Func::Clamp, value.tree, low.tree, high.tree, at)?;
+    let call = nodes::call_of_three(alloc, Func::Clamp, value.tree, low.tree, high.tree, at)?;
     Ok(over(call, levels))
 }
 
 #[cycle(expression)]
-#[tactic(auto, unfolding(crate::specs::ExpressionReaders::rescale_at, crate::specs::ExpressionReaders::opened_at))]
+#[tactic(auto, unfolding(crate::specs::ExpressionReaders::rescale_at))]
 fn rescale(alloc: Global, tokens: &mut Tokens<'_>, room: u32) -> Result<Part, Fail>
     requires room { (2 ≤ room) × (room ≤ 64) }
     ensures read { Gives part_view result tokens.old tokens.new (rescale_at (below room 7) tokens.old.tokens) }
@@ -454,12 +498,10 @@ fn rescale(alloc: Global, tokens: &mut Tokens<'_>, room: u32) -> Result<Part, Fa
 {
     let at = any_token(tokens)?.at;
     let part = opened(alloc, tokens, room)?;
-    expect_sign(tokens, b",")?;
-    let to = number(tokens)?;
-    expect_sign(tokens, b")")?;
+    let to = target(tokens)?;
     let levels = 1 + part.levels;
-    let part = Box::new(alloc, part.tree)?;
-    Ok(over(Expr::Rescale { part, to, at }, levels))
+    let tree = nodes::rescaled(alloc, part.tree, to, at)?;
+    Ok(over(tree, levels))
 }
 
 // The expression at the front of the tokens, with how deep it nests.

@@ -6,11 +6,11 @@
 //! [`Fail`] says why: it may not stand there, it would nest too deep, or there was no memory.
 #![tactic(auto)]
 
-mod calls;
 mod expression;
 mod fail;
 mod laws;
 mod leaves;
+mod nodes;
 mod operators;
 mod part;
 mod tokens;

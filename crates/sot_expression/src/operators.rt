@@ -9,14 +9,14 @@ use sot_tree::{Func, Op};
 use sot_text::{Kind, Token};
 
 /// What joins a left part to what stands behind it: an operator with an operand, or `%` with a number.
-#[derive(Clone, Copy, Debug, PartialEq, Eq)]
+#[derive(Clone, Copy)]
 pub enum Infix {
     Joins(Op),
     Rests,
 }
 
 /// What an atom begins with.
-#[derive(Clone, Copy, Debug, PartialEq, Eq)]
+#[derive(Clone, Copy)]
 pub enum Opening {
     Number,
     Name,

@@ -12,7 +12,7 @@ use Rattle.sot_print.specs.declared.gap.Gap.TheVariants.{Touching, Space}
 use Rattle.sot_print.specs.Words.{Word, keyword, sign}
 use Rattle.sot_print.specs.Leaves.{literal_words}
 use Rattle.sot_print.specs.Expressions.{operator, function_name, is_plain, grouped_words, operand_words, expression_words, parts_from}
-use Rattle.sot_print.specs.Spellable.{IsTree, AreTrees}
+use Rattle.sot_tree.specs.Formed.{IsTree, AreTrees}
 use Rattle.sot_print.proofs.Sits.{IsTok, Sits, SitsAnywhere, Enters, spaced, ended, then_word, joined, choice, sign_token, closes, opens, round_ends, minus_ends}
 use Rattle.sot_print.proofs.LeafSits.{literal_sits, reference_sits, truth_sits}
 
@@ -66,7 +66,7 @@ mutual
   expression_sits (rest left by at) is a gap enters =
       joined (operand_words left gap (expression_words left)) (sign Space (codes "%") ∷ literal_words Space by)
       (operand_sits left gap (expression_words left) (expression_sits left is.0) a enters)
-      (λ v tok. then_word (sign_token (codes "%") refl) tt (literal_sits by (sign Space (codes "%")) Space is.1 (spaced (sign Space (codes "%")))))
+      (λ v tok. then_word (sign_token (codes "%") refl) tt (literal_sits by (sign Space (codes "%")) Space is.1.0 (spaced (sign Space (codes "%")))))
   expression_sits (negated part at) is a gap enters =
       let minus : IsTok (sign gap (codes "-")) = sign_token (codes "-") refl in
       then_word minus (enters (sign gap (codes "-")) minus)
@@ -79,7 +79,7 @@ mutual
       let word : IsTok (keyword gap (function_name func)) = function_word func in
       joined (keyword gap (function_name func) ∷ sign Touching (codes "(") ∷ parts_from true parts) (sign Touching (codes ")") ∷ [])
       (then_word word (enters (keyword gap (function_name func)) word)
-      (closes (codes "(") (parts_from true parts) refl refl (first_sits parts is) (keyword gap (function_name func)) word))
+      (closes (codes "(") (parts_from true parts) refl refl (first_sits parts is.1) (keyword gap (function_name func)) word))
       round_closes
   expression_sits (rescaled part to at) is a gap enters =
       let word : IsTok (keyword gap (codes "rescale")) = refl in
@@ -89,7 +89,7 @@ mutual
       (joined head comma
       (then_word word (enters (keyword gap (codes "rescale")) word)
       (closes (codes "(") (expression_words part Touching) refl refl (expression_sits part is.0 (sign Touching (codes "(")) Touching (opens Touching (codes "(") refl round_ends)) (keyword gap (codes "rescale")) word))
-      (closes (codes ",") (literal_words Space to) refl refl (literal_sits to (sign Touching (codes ",")) Space is.1 (spaced (sign Touching (codes ","))))))
+      (closes (codes ",") (literal_words Space to) refl refl (literal_sits to (sign Touching (codes ",")) Space is.1.0 (spaced (sign Touching (codes ","))))))
       round_closes
   expression_sits (chosen cond_ yes_ no_ at) is a gap enters =
       let word : IsTok (keyword gap (codes "if")) = refl in

@@ -1,5 +1,5 @@
 -- The words of literals, names, lists and types are tokens that may follow one another.
-use Rattle.std.proofs.Common.{◌≡◌, ℕ, ◌^◌, ◌==◌, nat_lt, ◌&&◌, ◌||◌, Bool, true, false, cond, Option, None, Some, List, [], ◌∷◌, ◌++◌, length, codes, pos, int_lt, unsigned_abs, inl, inr, refl, sym, ap, ◌∙◌, subst, arith}
+use Rattle.std.proofs.Common.{◌≡◌, ℕ, ◌≤◌, ◌^◌, ◌==◌, nat_lt, ◌&&◌, ◌||◌, Bool, true, false, cond, Option, None, Some, List, [], ◌∷◌, ◌++◌, length, codes, pos, int_lt, unsigned_abs, inl, inr, refl, sym, ap, ◌∙◌, subst, arith}
 use Rattle.std.specs.Char.{is_ascii_digit}
 use Rattle.std.proofs.lemmas.Bool.{cases_Bool, cond-true, cond-false}
 use Rattle.std.proofs.lemmas.Bool.Decides.{nat_tests}
@@ -22,7 +22,8 @@ use Rattle.sot_print.specs.declared.gap.Gap.{Gap}
 use Rattle.sot_print.specs.declared.gap.Gap.TheVariants.{Touching, Space}
 use Rattle.sot_print.specs.Words.{Word, keyword, sign as a_sign, name, number}
 use Rattle.sot_print.specs.Leaves.{numeral, literal_words, ident_words, reference_words, truth_words, constant_words, items_from, listed, bounds_words, range_words, fixed_words, scalar_words, field_words}
-use Rattle.sot_print.specs.Spellable.{Each, IsName, IsLiteral, IfThere, AreBounds, IsScalar, IsField, IsConst}
+use Rattle.sot_tree.specs.Formed.{Each, IsName, IsLiteral, IfThere, AreBounds, IsScalar, IsField, IsConst}
+use Rattle.sot_print.proofs.NumeralTexts.{numeral_read, numeral_token}
 use Rattle.sot_print.proofs.Ends.{front_goes, word_goes}
 use Rattle.sot_print.proofs.Sits.{IsTok, Sits, SitsAnywhere, Enters, spaced, ended, then_word, joined, choice, sign_token, closes, opens, round_ends, square_ends, minus_ends, dots_ends}
 
@@ -96,15 +97,21 @@ number_dots (a ∷ as_) rest is = front_goes Number (a ∷ as_) (46 ∷ 46 ∷ r
     same [] is = cond-false (is_long_sign a 46) _ _ (second_point (a == 58) (a == 46) (a == 60) (a == 62) (a == 61) (a == 33) (no_point a is))
     same (c ∷ cs) is = refl
 
--- literals
+-- literals: the numeral of one is a number token
+literal_token : (l : Lit) → IsLiteral l → IsTokenText Number (numeral (unsigned_abs l.mantissa) l.scale)
+literal_token l is =
+    let small : unsigned_abs l.mantissa ≤ 10 ^ 12 = is.mantissa in
+    numeral_token (unsigned_abs l.mantissa) l.scale (numeral (unsigned_abs l.mantissa) l.scale) small is.scale (numeral_read (unsigned_abs l.mantissa) l.scale (omega (arith, small)))
+
 minus_sits : (a : Word) (gap : Gap) (text : List ℕ) → Enters a gap → IsTokenText Number text → Sits a (a_sign gap (codes "-") ∷ number Touching text ∷ [])
 minus_sits a gap text enters is =
     let minus : IsTok (a_sign gap (codes "-")) = sign_token (codes "-") refl in
     then_word minus (enters (a_sign gap (codes "-")) minus) (then_word is (opens gap (codes "-") refl minus_ends (number Touching text) is) (ended (number Touching text) is))
 
 pub literal_sits : (l : Lit) (a : Word) (gap : Gap) → IsLiteral l → Enters a gap → Sits a (literal_words gap l)
-literal_sits l a gap is enters =
+literal_sits l a gap formed enters =
     let text : List ℕ = numeral (unsigned_abs l.mantissa) l.scale in
+    let is : IsTokenText Number text = literal_token l formed in
     choice (int_lt l.mantissa (pos 0)) (a_sign gap (codes "-") ∷ number Touching text ∷ []) (number gap text ∷ [])
     (minus_sits a gap text enters is) (then_word is (enters (number gap text) is) (ended (number gap text) is))
 
@@ -132,7 +139,7 @@ pub bounds_sits : (b : Bounds) (a : Word) (gap : Gap) → AreBounds b → Enters
 bounds_sits b a gap is enters =
     let text : List ℕ = numeral (unsigned_abs b.lo.mantissa) b.lo.scale in
     with_sign (int_lt b.lo.mantissa (pos 0)) gap text (a_sign Touching (codes "..") ∷ literal_words Touching b.hi)
-    (minus_bounds a gap text b.hi enters is.0 is.1) (number_sits a gap text b.hi enters is.0 is.1)
+    (minus_bounds a gap text b.hi enters (literal_token b.lo is.0) is.1) (number_sits a gap text b.hi enters (literal_token b.lo is.0) is.1)
 
 -- names
 pub ident_sits : (i : Ident) (a : Word) (gap : Gap) → IsName i → Enters a gap → Sits a (ident_words gap i)
@@ -209,7 +216,7 @@ fixed_sits scale a is =
 
 pub scalar_sits : (s : Scalar) (a : Word) → IsScalar s → Sits a (scalar_words s)
 scalar_sits (Int b) a is = then_word refl tt (range_sits b is (keyword Space (codes "int")) refl)
-scalar_sits (Fix scale b) a is = joined (fixed_words scale) (range_words b) (fixed_sits scale a is.0) (range_sits b is.1)
+scalar_sits (Fix scale b) a is = joined (fixed_words scale) (range_words b) (fixed_sits scale a is.0.0) (range_sits b is.1)
 scalar_sits (Truths at) a is = then_word refl tt (ended (keyword Space (codes "bool")) refl)
 
 pub field_sits : (f : Field) (a : Word) (gap : Gap) → IsField f → Enters a gap → Sits a (field_words gap f)

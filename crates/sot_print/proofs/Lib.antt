@@ -2,6 +2,7 @@ pub mod Laying
 pub mod Lists
 pub mod Blocks
 pub mod Numerals
+pub mod NumeralTexts
 pub mod Declarations
 pub mod Ends
 pub mod ReadBack

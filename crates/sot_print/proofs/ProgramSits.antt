@@ -15,7 +15,7 @@ use Rattle.sot_print.specs.Expressions.{expression_words}
 use Rattle.sot_print.specs.Statements.{semicolon, block_words}
 use Rattle.sot_print.specs.Canonical.{clause, closing, shape_words, start_words, topic_head_words, topic_words, state_type_words, state_words, names_clause, noise_clause, next_clause, each, plant_clauses, plant_words, timing_words, local_name_words, local_clause, node_head_words, node_clauses, do_clause, node_of, area_words, bar, areas_from, region_words, control_clauses, region_clauses, module_words, declaration_words, declarations_from, words, canonical}
 use Rattle.sot_print.specs.Layout.{Reads}
-use Rattle.sot_print.specs.Spellable.{Each, IsName, IsLiteral, IfThere, AreBounds, IsField, IsConst, IsBlock, IsForm, IsStart, IsTopic, IsState, IsNext, IsPlant, IsLocal, IsNode, IsArea, IsModule, IsDeclaration, IsSpellable}
+use Rattle.sot_tree.specs.Formed.{Each, IsName, IsLiteral, IsNumber, IfThere, AreBounds, IsField, IsConst, IsBlock, IsForm, IsStart, IsTopic, IsState, IsNext, IsPlant, IsLocal, IsNode, IsArea, IsModule, IsDeclaration, IsFormed}
 use Rattle.sot_print.proofs.Sits.{IsTok, Follows, Sits, SitsAnywhere, Enters, spaced, lined, ended, then_word, joined, choice, sign_token, closes, opens, round_ends, square_ends, brace_ends, follows_parted}
 use Rattle.sot_print.proofs.LeafSits.{literal_sits, ident_sits, constant_sits, listed_sits, bounds_sits, fixed_sits, scalar_sits, field_sits}
 use Rattle.sot_print.proofs.ExpressionSits.{expression_sits}
@@ -43,11 +43,11 @@ record_sits item P sits xs all = λ v tok.
 
 shape_sits : (s : Form) → IsForm s → SitsAnywhere (shape_words s)
 shape_sits (one s) is = λ v tok. scalar_sits s v is
-shape_sits (fields fs) is = record_sits field_words IsField field_sits fs is
+shape_sits (fields fs) is = record_sits field_words IsField field_sits fs is.1
 
 start_sits : (s : Start) → IsStart s → SitsAnywhere (start_words s)
 start_sits (one_value c) is = λ v tok. constant_sits c v Space is (spaced v)
-start_sits (values cs at) is = record_sits constant_words IsConst constant_sits cs is
+start_sits (values cs at) is = record_sits constant_words IsConst constant_sits cs is.1
 
 topic_head_sits : (gap : Gap) (outside : Bool) (a : Word) → Enters a gap → Sits a (topic_head_words gap outside)
 topic_head_sits gap outside a enters =
@@ -67,9 +67,9 @@ topic_sits t a gap is enters =
     (λ v tok. then_word (sign_token (codes "=") refl) tt (start_sits t.init is.2 (sign Space (codes "=")) (sign_token (codes "=") refl))))
     semicolon_sits
 
-state_type_sits : (scale : Option Lit) (a : Word) → IfThere IsLiteral scale → Sits a (state_type_words scale)
+state_type_sits : (scale : Option Lit) (a : Word) → IfThere IsNumber scale → Sits a (state_type_words scale)
 state_type_sits None a is = then_word refl tt (ended (keyword Space (codes "int")) refl)
-state_type_sits (Some scale) a is = fixed_sits scale a is
+state_type_sits (Some scale) a is = fixed_sits scale a is.0
 
 state_sits : (s : StateDecl) (a : Word) (gap : Gap) → IsState s → Enters a gap → Sits a (state_words gap s)
 state_sits s a gap is enters =
@@ -100,9 +100,9 @@ plant_clauses_sit p is = λ v tok.
     let seen : List Word = names_clause (codes "sees") p.sees in
     joined ((states ++ inputs) ++ seen) (noise_clause p.noise)
     (joined (states ++ inputs) seen
-    (joined states inputs (clause_sits (codes "state") (listed state_words Space p.states) refl (spread state_words IsState state_sits p.states is.1) v tok) (names_sits (codes "input") p.inputs refl is.2))
-    (names_sits (codes "sees") p.sees refl is.3))
-    (noise_sits p.noise is.4)
+    (joined states inputs (clause_sits (codes "state") (listed state_words Space p.states) refl (spread state_words IsState state_sits p.states is.states) v tok) (names_sits (codes "input") p.inputs refl is.inputs))
+    (names_sits (codes "sees") p.sees refl is.sees))
+    (noise_sits p.noise is.noise)
 
 -- the word, the name and the brace that a plant or a module begins with
 head_sits : (word own : List ℕ) (ws : List Word) (a : Word) (gap : Gap) → IsTokenText Keyword word → IsTokenText Name own → SitsAnywhere ws → Enters a gap
@@ -114,7 +114,7 @@ plant_sits : (p : Plant) (a : Word) (gap : Gap) → IsPlant p → Enters a gap �
 plant_sits p a gap is enters =
     let head : List Word = keyword gap (codes "plant") ∷ name Space p.name.name ∷ sign Space (codes "{") ∷ plant_clauses p in
     joined (head ++ each next_clause p.next) closing
-    (joined head (each next_clause p.next) (head_sits (codes "plant") p.name.name (plant_clauses p) a gap refl is.0 (plant_clauses_sit p is) enters) (each_sits next_clause IsNext next_sits p.next is.5))
+    (joined head (each next_clause p.next) (head_sits (codes "plant") p.name.name (plant_clauses p) a gap refl is.name (plant_clauses_sit p is) enters) (each_sits next_clause IsNext next_sits p.next is.next))
     closing_sits
 
 timing_sits : (period offset : Lit) (a : Word) (gap : Gap) → IsLiteral period → IsLiteral offset → Enters a gap → Sits a (timing_words gap period offset)
@@ -135,14 +135,14 @@ local_sits l is =
 node_head_sits : (word : List ℕ) (n : Node) (a : Word) (gap : Gap) → IsTokenText Keyword word → IsNode n → Enters a gap → Sits a (node_head_words gap word n)
 node_head_sits word n a gap key is enters =
     joined (keyword gap word ∷ name Space n.name.name ∷ timing_words Space n.period n.offset) (sign Space (codes "{") ∷ [])
-    (then_word key (enters (keyword gap word) key) (then_word is.0 tt (timing_sits n.period n.offset (name Space n.name.name) Space is.1 is.2 (spaced (name Space n.name.name)))))
+    (then_word key (enters (keyword gap word) key) (then_word is.name tt (timing_sits n.period n.offset (name Space n.name.name) Space is.period.0 is.offset.0 (spaced (name Space n.name.name)))))
     (λ v tok. then_word (sign_token (codes "{") refl) tt (ended (sign Space (codes "{")) (sign_token (codes "{") refl)))
 
 node_clauses_sit : (n : Node) → IsNode n → SitsAnywhere (node_clauses n)
 node_clauses_sit n is = λ v tok.
     joined (names_clause (codes "reads") n.reads ++ names_clause (codes "writes") n.writes) (each local_clause n.locals)
-    (joined (names_clause (codes "reads") n.reads) (names_clause (codes "writes") n.writes) (names_sits (codes "reads") n.reads refl is.3 v tok) (names_sits (codes "writes") n.writes refl is.4))
-    (each_sits local_clause IsLocal local_sits n.locals is.5)
+    (joined (names_clause (codes "reads") n.reads) (names_clause (codes "writes") n.writes) (names_sits (codes "reads") n.reads refl is.reads v tok) (names_sits (codes "writes") n.writes refl is.writes))
+    (each_sits local_clause IsLocal local_sits n.locals is.locals)
 
 do_sits : (b : Block) → IsBlock b → SitsAnywhere (do_clause b)
 do_sits b is = λ v tok. then_word refl tt (braced_sits 2 (block_words b) (block_sits b is) (keyword (Line 2) (codes "do")) refl)
@@ -163,7 +163,7 @@ area_sits : (b : Area) → IsArea b → SitsAnywhere (area_words b)
 area_sits b is = λ v tok.
     let square : IsTok (sign Space (codes "[")) = sign_token (codes "[") refl in
     joined (sign Space (codes "[") ∷ listed bounds_words Touching b.sides) (sign Touching (codes "]") ∷ [])
-    (then_word square tt (listed_sits bounds_words AreBounds bounds_sits b.sides (sign Space (codes "[")) Touching square is (opens Space (codes "[") refl square_ends)))
+    (then_word square tt (listed_sits bounds_words AreBounds bounds_sits b.sides (sign Space (codes "[")) Touching square is.1 (opens Space (codes "[") refl square_ends)))
     (closes (codes "]") [] refl refl (ended (sign Touching (codes "]")) (sign_token (codes "]") refl)))
 
 bar_sits : (first : Bool) → SitsAnywhere (bar first)
@@ -188,8 +188,8 @@ control_sits m is = λ v tok.
     let sc_ : List Word = clause (codes "sc") (ident_words Space m.sc) in
     let times : List Word = timing_words (Line 2) m.period m.offset in
     joined ((ac_ ++ sc_) ++ times) semicolon
-    (joined (ac_ ++ sc_) times (joined ac_ sc_ (name_sits (codes "ac") m.ac refl is.1 v tok) (name_sits (codes "sc") m.sc refl is.2))
-    (λ u is_tok. timing_sits m.period m.offset u (Line 2) is.3 is.4 (lined u 2)))
+    (joined (ac_ ++ sc_) times (joined ac_ sc_ (name_sits (codes "ac") m.ac refl is.ac v tok) (name_sits (codes "sc") m.sc refl is.sc))
+    (λ u is_tok. timing_sits m.period m.offset u (Line 2) is.period.0 is.offset.0 (lined u 2)))
     semicolon_sits
 
 region_clauses_sit : (m : Module) → IsModule m → SitsAnywhere (region_clauses m)
@@ -197,20 +197,20 @@ region_clauses_sit m is = λ v tok.
     let plant_ : List Word = clause (codes "plant") (ident_words Space m.plant) in
     let safe_ : List Word = clause (codes "safe") (region_words m.safe) in
     joined (plant_ ++ safe_) (clause (codes "safer") (region_words m.safer))
-    (joined plant_ safe_ (name_sits (codes "plant") m.plant refl is.5 v tok) (clause_sits (codes "safe") (region_words m.safe) refl (region_sits m.safe is.6)))
-    (clause_sits (codes "safer") (region_words m.safer) refl (region_sits m.safer is.7))
+    (joined plant_ safe_ (name_sits (codes "plant") m.plant refl is.plant v tok) (clause_sits (codes "safe") (region_words m.safe) refl (region_sits m.safe is.safe)))
+    (clause_sits (codes "safer") (region_words m.safer) refl (region_sits m.safer is.safer))
 
 module_sits : (m : Module) (a : Word) (gap : Gap) → IsModule m → Enters a gap → Sits a (module_words gap m)
 module_sits m a gap is enters =
     let head : List Word = keyword gap (codes "module") ∷ name Space m.name.name ∷ sign Space (codes "{") ∷ control_clauses m in
     joined (head ++ region_clauses m) closing
-    (joined head (region_clauses m) (head_sits (codes "module") m.name.name (control_clauses m) a gap refl is.0 (control_sits m is) enters) (region_clauses_sit m is))
+    (joined head (region_clauses m) (head_sits (codes "module") m.name.name (control_clauses m) a gap refl is.name (control_sits m is) enters) (region_clauses_sit m is))
     closing_sits
 
 declaration_sits : (d : Declaration) (a : Word) (gap : Gap) → IsDeclaration d → Enters a gap → Sits a (declaration_words gap d)
 declaration_sits (a_topic t) a gap is enters = topic_sits t a gap is enters
 declaration_sits (a_plant p) a gap is enters = plant_sits p a gap is enters
-declaration_sits (a_node n) a gap is enters = node_of_sits n n.body a gap is is.6 enters
+declaration_sits (a_node n) a gap is enters = node_of_sits n n.body a gap is is.body enters
 declaration_sits (a_module m) a gap is enters = module_sits m a gap is enters
 
 further_declarations : (ds : List Declaration) → Each IsDeclaration ds → SitsAnywhere (declarations_from false ds)
@@ -224,7 +224,7 @@ begins [] all = ended (sign Touching (codes "(")) (sign_token (codes "(") refl)
 begins (d ∷ ds) all =
     joined (declaration_words Touching d) (declarations_from false ds) (declaration_sits d (sign Touching (codes "(")) Touching all.0 (opens Touching (codes "(") refl round_ends)) (further_declarations ds all.1)
 
-pub canonical_read : (p : Program) → IsSpellable p → Reads (canonical p) (words p)
+pub canonical_read : (p : Program) → IsFormed p → Reads (canonical p) (words p)
 canonical_read p is =
     let all : Follows (sign Touching (codes "(")) (words p) = subst (Follows (sign Touching (codes "("))) (append-nil (words p)) ((begins p.decls is).go [] (λ v tok. tt)) in
     let parted = follows_parted (sign Touching (codes "(")) (words p) all in

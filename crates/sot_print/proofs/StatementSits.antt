@@ -6,7 +6,7 @@ use Rattle.sot_print.specs.Words.{Word, keyword, sign, name}
 use Rattle.sot_print.specs.Leaves.{literal_words, reference_words}
 use Rattle.sot_print.specs.Expressions.{expression_words}
 use Rattle.sot_print.specs.Statements.{semicolon, braced_words, otherwise_words, statement_words, block_words}
-use Rattle.sot_print.specs.Spellable.{IsStatement, IsBlock}
+use Rattle.sot_tree.specs.Formed.{IsStatement, IsBlock}
 use Rattle.sot_print.proofs.Sits.{IsTok, SitsAnywhere, spaced, ended, then_word, joined, sign_token, closes}
 use Rattle.sot_print.proofs.LeafSits.{literal_sits, reference_sits}
 use Rattle.sot_print.proofs.ExpressionSits.{expression_sits}
@@ -49,7 +49,7 @@ mutual
       (otherwise_sits no_ indent (block_words no_) (block_sits no_ is.2))
   statement_sits (repeated times body at) is indent = λ v tok.
       joined (keyword (Line indent) (codes "repeat") ∷ literal_words Space times) (braced_words indent (block_words body))
-      (then_word refl tt (literal_sits times (keyword (Line indent) (codes "repeat")) Space is.0 (spaced (keyword (Line indent) (codes "repeat")))))
+      (then_word refl tt (literal_sits times (keyword (Line indent) (codes "repeat")) Space is.0.0 (spaced (keyword (Line indent) (codes "repeat")))))
       (braced_sits indent (block_words body) (block_sits body is.1))
 
   pub block_sits : (b : Block) → IsBlock b → (indent : ℕ) → SitsAnywhere (block_words b indent)

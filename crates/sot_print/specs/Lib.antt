@@ -6,6 +6,5 @@ pub mod Statements
 pub mod Canonical
 -- which words are read back
 pub mod Layout
-pub mod Spellable
 -- worked texts
 pub mod Examples

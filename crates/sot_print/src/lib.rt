@@ -17,5 +17,3 @@ pub use gap::Gap;
 pub use laws::{canonical_words_are_read_back, words_are_read_back};
 pub use program::print;
 
-#[cfg(test)]
-mod tests;

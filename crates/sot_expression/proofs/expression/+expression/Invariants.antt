@@ -17,13 +17,16 @@ abbrev pub decreases-chain : goal.decreases-chain
 decreases-chain l = 256 * (2 * l.room + cond l.held 0 1) + 2 + l.turns
 
 abbrev pub decreases-joined : goal.decreases-joined
-decreases-joined l = 256 * (2 * l.room + cond l.held 0 1) + 1
+decreases-joined l = 512 * l.room + 1
+
+abbrev pub decreases-operation : goal.decreases-operation
+decreases-operation l = 512 * l.room
 
 abbrev pub decreases-minus : goal.decreases-minus
 decreases-minus l = 256 * (2 * l.room + cond l.held 0 1) + 2
 
 abbrev pub decreases-atom : goal.decreases-atom
-decreases-atom l = 256 * (2 * l.room + cond l.held 0 1) + 2
+decreases-atom l = 256 * (2 * l.room + cond l.held 0 1) + 3
 
 abbrev pub decreases-group : goal.decreases-group
 decreases-group l = 512 * l.room + 150
@@ -47,7 +50,10 @@ abbrev pub decreases-pair : goal.decreases-pair
 decreases-pair l = 512 * l.room + 1
 
 abbrev pub decreases-clamp : goal.decreases-clamp
-decreases-clamp l = 512 * l.room + 1
+decreases-clamp l = 512 * l.room + 2
+
+abbrev pub decreases-limits : goal.decreases-limits
+decreases-limits l = 512 * l.room + 1
 
 abbrev pub decreases-rescale : goal.decreases-rescale
 decreases-rescale l = 512 * l.room + 1

@@ -2,7 +2,7 @@ use Rattle.std.proofs.Common.{rules, ◌≡◌, [], ◌∷◌, ap, ◌∙◌}
 use Rattle.sot_tree.specs.Trees.{called}
 use Rattle.sot_tree.specs.TreeViews.{parts_view}
 use Rattle.sot_tree.proofs.CallRows.{call_view}
-use Rattle.sot_expression.proofs.calls.call_of_three.Goals as goal
+use Rattle.sot_expression.proofs.nodes.call_of_three.Goals as goal
 
 pub returns : goal.returns
 returns c =

@@ -1,5 +1,6 @@
-use super::*;
+//! Which program a text spells, and where one that spells none goes wrong.
 use sot_tree::{Decl, Program, Stmt};
+use sot_parser::{ParseFail, Syntax, parse};
 use sot_text::{LexFault, Lexer};
 use std::alloc::Global;
 use std::test::Fail;
