@@ -7,6 +7,7 @@ use Rattle.sot_text.specs.Reading.{Lexeme}
 use Rattle.sot_tree.specs.declared.operator.Func.{Func}
 use Rattle.sot_tree.specs.declared.operator.Func.TheVariants.{Min, Max, Abs, Clamp}
 use Rattle.sot_tree.specs.declared.tree.Lit.{Lit}
+use Rattle.sot_tree.specs.Functions.{arity}
 use Rattle.sot_tree.specs.Trees.{Tree, called, rescaled, no_tree, one_more}
 use Rattle.sot_expression.specs.Lexemes.{IsNumber, literal}
 use Rattle.sot_expression.specs.Phrases.{Phrase, an_abs, a_pair, a_clamp, a_rescale, spelled, IsPairWord, tree_of}
@@ -24,9 +25,22 @@ use Rattle.sot_canon.proofs.Phrases.{Rewritten, KeptPhrase, is_a_keyword, is_a_s
 last_taken : (ws : List Word) (ts us : List Lexeme) → Takes ts (ws ++ []) us → Takes ts ws us
 last_taken ws ts us h = (let P : List Word → Type 0 = λ ys. Takes ts ys us in subst P (append-nil ws) h)
 
+-- each function has as many parts as it takes
+abs_arity : 1 ≡ arity Abs
+abs_arity = refl
+
+clamp_arity : 3 ≡ arity Clamp
+clamp_arity = refl
+
+pair_arity : (func : Func) (w : Lexeme) → IsPairWord func w → 2 ≡ arity func
+pair_arity Min w is = refl
+pair_arity Max w is = refl
+pair_arity Abs w is = absurd is
+pair_arity Clamp w is = absurd is
+
 pub kept_abs : (w open_ : Lexeme) (f : Phrase) (close : Lexeme) → KeptPhrase f → KeptPhrase (an_abs w open_ f close)
 kept_abs w open_ f close kept = record {
-  writable = (kept.writable, tt);
+  holds = (abs_arity, (kept.holds, tt));
   again = λ gap ts us h.
       let opening = h.2 in
       let parts = split (expression_words (tree_of f) Touching ++ []) (sign Touching (codes ")") ∷ []) opening.0 us opening.2 in
@@ -71,7 +85,7 @@ pair_again func w open_ f comma g close word kept more gap ts us h =
 
 pub kept_pair : (func : Func) (w open_ : Lexeme) (f : Phrase) (comma : Lexeme) (g : Phrase) (close : Lexeme) → IsPairWord func w → KeptPhrase f → KeptPhrase g → KeptPhrase (a_pair func w open_ f comma g close)
 kept_pair func w open_ f comma g close word kept more = record {
-  writable = (kept.writable, (more.writable, tt));
+  holds = (pair_arity func w word, (kept.holds, (more.holds, tt)));
   again = pair_again func w open_ f comma g close word kept more;
 }
 
@@ -107,7 +121,7 @@ clamp_again w open_ f comma g comma2 e close kept low high gap ts us h =
 pub kept_clamp : (w open_ : Lexeme) (f : Phrase) (comma : Lexeme) (g : Phrase) (comma2 : Lexeme) (e : Phrase) (close : Lexeme) → KeptPhrase f → KeptPhrase g → KeptPhrase e
     → KeptPhrase (a_clamp w open_ f comma g comma2 e close)
 kept_clamp w open_ f comma g comma2 e close kept low high = record {
-  writable = (kept.writable, (low.writable, (high.writable, tt)));
+  holds = (clamp_arity, (kept.holds, (low.holds, (high.holds, tt))));
   again = clamp_again w open_ f comma g comma2 e close kept low high;
 }
 
@@ -133,6 +147,6 @@ rescale_again w open_ f comma n close is kept count gap ts us h =
 
 pub kept_rescale : (w open_ : Lexeme) (f : Phrase) (comma n close : Lexeme) (is : IsNumber n) → KeptPhrase f → Kept numbers (record { token = n; is = is }) → KeptPhrase (a_rescale w open_ f comma n close)
 kept_rescale w open_ f comma n close is kept count = record {
-  writable = (kept.writable, count.writable);
+  holds = (kept.holds, count.holds);
   again = rescale_again w open_ f comma n close is kept count;
 }

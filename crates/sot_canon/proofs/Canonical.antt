@@ -30,7 +30,7 @@ ahead_of ts end = record { tokens = ts; end = end }
 form_read : (ds : List DeclarationForm) → AreTexts (spelled_program ds) → program_levels ds ≤ 64 → ReadBack (program_of ds)
 form_read ds texts nests =
     let kept : Kept programs ds = (programs_keep ds [] texts).0 in
-    let read : Reads (canonical (program_of ds)) (words (program_of ds)) = canonical_read (program_of ds) kept.writable in
+    let read : Reads (canonical (program_of ds)) (words (program_of ds)) = canonical_read (program_of ds) kept.holds in
     let ahead : Ahead = read.0 in
     let a = kept.again true ahead.tokens [] (all_taken ahead.tokens (words (program_of ds)) read.2) in
     let P : Ahead → Type 0 = λ x. Comes (canonical (program_of ds)) 0 x in

@@ -19,7 +19,7 @@ use Rattle.sot_print.specs.Leaves.{literal_words, ident_words, constant_words, l
 use Rattle.sot_print.specs.Expressions.{expression_words}
 use Rattle.sot_print.specs.Statements.{semicolon}
 use Rattle.sot_print.specs.Canonical.{clause, shape_words, start_words, state_type_words, state_words, next_clause, timing_words, local_clause}
-use Rattle.sot_print.specs.Spellable as spellable
+use Rattle.sot_tree.specs.Formed as formed
 use Rattle.sot_canon.specs.Unplaced.{nowhere, unplaced_name, unplaced_literal, unplaced_shape, unplaced_start, unplaced_state, unplaced_next, unplaced_local}
 use Rattle.sot_canon.proofs.Takes.{Takes, split, a_keyword, a_sign, a_name, led, onto}
 use Rattle.sot_canon.proofs.Kept.{Production, Again, Kept, Keeps, no_level, also}
@@ -29,7 +29,7 @@ use Rattle.sot_canon.proofs.Expressions.{expressions, expressions_keep}
 
 -- type
 abbrev pub shapes : Production (Unit {0}) ShapeForm Form
-shapes = record { spelled = spelled_shape; tree = shape_of; unplaced = unplaced_shape; levels = no_level; IsWritable = spellable.IsForm; words = λ _ s. shape_words s }
+shapes = record { spelled = spelled_shape; tree = shape_of; unplaced = unplaced_shape; levels = no_level; Holds = formed.IsForm; words = λ _ s. shape_words s }
 
 record_again : (opening : Sign (codes "{")) (fs : Separated (codes ",") FieldForm) (closing : Sign (codes "}")) → Kept (lists typed_names) fs
     → (ts us : List Lexeme) → Takes ts (shape_words (shape_of (a_record opening fs closing))) us → Again shapes (a_record opening fs closing) ts us
@@ -48,7 +48,7 @@ pub shapes_keep : Keeps shapes
 shapes_keep (one_scalar s) more texts =
     let kept = scalars_keep s more texts in (
       record {
-        writable = kept.0.writable;
+        holds = kept.0.holds;
         again = λ _ ts us h.
             let a = kept.0.again tt ts us h in
             record { form = one_scalar a.form; tokens = a.tokens; same = ap one a.same; nests = le_refl 0 };
@@ -57,11 +57,11 @@ shapes_keep (one_scalar s) more texts =
     )
 shapes_keep (a_record opening fs closing) more texts =
     let kept = lists_keep typed_names typed_names_keep fs (closing.token ∷ more) texts.1 in
-    (record { writable = kept.0.writable; again = λ _ ts us h. record_again opening fs closing kept.0 ts us h }, kept.1.1)
+    (record { holds = kept.0.holds; again = λ _ ts us h. record_again opening fs closing kept.0 ts us h }, kept.1.1)
 
 -- value
 abbrev pub starts : Production (Unit {0}) InitForm Start
-starts = record { spelled = spelled_init; tree = init_of; unplaced = unplaced_start; levels = no_level; IsWritable = spellable.IsStart; words = λ _ s. start_words s }
+starts = record { spelled = spelled_init; tree = init_of; unplaced = unplaced_start; levels = no_level; Holds = formed.IsStart; words = λ _ s. start_words s }
 
 values_again : (opening : Sign (codes "{")) (cs : Separated (codes ",") ConstForm) (closing : Sign (codes "}")) → Kept (lists constants) cs
     → (ts us : List Lexeme) → Takes ts (start_words (init_of (consts opening cs closing))) us → Again starts (consts opening cs closing) ts us
@@ -80,7 +80,7 @@ pub starts_keep : Keeps starts
 starts_keep (one_const c) more texts =
     let kept = constants_keep c more texts in (
       record {
-        writable = kept.0.writable;
+        holds = kept.0.holds;
         again = λ _ ts us h.
             let a = kept.0.again Space ts us h in
             record { form = one_const a.form; tokens = a.tokens; same = ap one_value a.same; nests = le_refl 0 };
@@ -89,16 +89,16 @@ starts_keep (one_const c) more texts =
     )
 starts_keep (consts opening cs closing) more texts =
     let kept = lists_keep constants constants_keep cs (closing.token ∷ more) texts.1 in
-    (record { writable = kept.0.writable; again = λ _ ts us h. values_again opening cs closing kept.0 ts us h }, kept.1.1)
+    (record { holds = kept.0.holds; again = λ _ ts us h. values_again opening cs closing kept.0 ts us h }, kept.1.1)
 
 -- a state variable
 abbrev pub scales : Production (Unit {0}) ScaleForm (Option Lit)
-scales = record { spelled = spelled_scale; tree = scale_of; unplaced = option_map unplaced_literal; levels = no_level; IsWritable = spellable.IfThere spellable.IsLiteral; words = λ _ s. state_type_words s }
+scales = record { spelled = spelled_scale; tree = scale_of; unplaced = option_map unplaced_literal; levels = no_level; Holds = formed.IfThere formed.IsNumber; words = λ _ s. state_type_words s }
 
 scales_keep : Keeps scales
 scales_keep (whole word) more texts = (
   record {
-    writable = tt;
+    holds = tt;
     again = λ _ ts us h. record { form = whole (a_keyword h.1); tokens = led h.1 h.2; same = refl; nests = le_refl 0 };
   },
   texts.1,
@@ -106,7 +106,7 @@ scales_keep (whole word) more texts = (
 scales_keep (scaled f) more texts =
     let kept = fixes_keep f more texts in (
       record {
-        writable = kept.0.writable;
+        holds = kept.0.holds;
         again = λ _ ts us h.
             let a = kept.0.again tt ts us h in
             record { form = scaled a.form; tokens = a.tokens; same = ap (λ (l : Lit). Some l) a.same; nests = le_refl 0 };
@@ -115,13 +115,13 @@ scales_keep (scaled f) more texts =
     )
 
 abbrev pub states : Production Gap StateForm StateDecl
-states = record { spelled = spelled_state; tree = state_of; unplaced = unplaced_state; levels = no_level; IsWritable = spellable.IsState; words = state_words }
+states = record { spelled = spelled_state; tree = state_of; unplaced = unplaced_state; levels = no_level; Holds = formed.IsState; words = state_words }
 
 pub states_keep : Keeps states
 states_keep s more texts =
     let scale = scales_keep s.scale more texts.1.1 in (
       record {
-        writable = (name_text s.name.token s.name.is texts.0, scale.0.writable);
+        holds = (name_text s.name.token s.name.is texts.0, scale.0.holds);
         again = λ gap ts us h.
             let colon = h.2 in
             let a = scale.0.again tt colon.0 us colon.2 in
@@ -137,7 +137,7 @@ states_keep s more texts =
 
 -- "next" NAME "=" expr ";"
 abbrev pub nexts : Production (Unit {0}) NextForm Next
-nexts = record { spelled = spelled_next; tree = next_of; unplaced = unplaced_next; levels = next_levels; IsWritable = spellable.IsNext; words = λ _ n. next_clause n }
+nexts = record { spelled = spelled_next; tree = next_of; unplaced = unplaced_next; levels = next_levels; Holds = formed.IsNext; words = λ _ n. next_clause n }
 
 abbrev next_with : Ident → Tree → Next
 next_with x y = record { name = x; value = y }
@@ -159,11 +159,11 @@ next_again n value ts us h =
 pub nexts_keep : Keeps nexts
 nexts_keep n more texts =
     let value = expressions_keep n.value (n.semicolon.token ∷ more) texts.1.1.1 in
-    (record { writable = (name_text n.name.token n.name.is texts.1.0, value.0.writable); again = λ _ ts us h. next_again n value.0 ts us h }, value.1.1)
+    (record { holds = (name_text n.name.token n.name.is texts.1.0, value.0.holds); again = λ _ ts us h. next_again n value.0 ts us h }, value.1.1)
 
 -- "local" NAME ":" scalar "=" const ";"
 abbrev pub locals : Production (Unit {0}) LocalForm Local
-locals = record { spelled = spelled_local; tree = local_of; unplaced = unplaced_local; levels = no_level; IsWritable = spellable.IsLocal; words = λ _ l. local_clause l }
+locals = record { spelled = spelled_local; tree = local_of; unplaced = unplaced_local; levels = no_level; Holds = formed.IsLocal; words = λ _ l. local_clause l }
 
 abbrev local_with : Ident → Scalar → Const → Local
 local_with x y z = record { name = x; scalar = y; init = z }
@@ -191,16 +191,16 @@ pub locals_keep : Keeps locals
 locals_keep l more texts =
     let scalar = scalars_keep l.scalar (l.equals.token ∷ spelled_const l.init (l.semicolon.token ∷ more)) texts.1.1.1 in
     let init = constants_keep l.init (l.semicolon.token ∷ more) scalar.1.1 in
-    (record { writable = (name_text l.name.token l.name.is texts.1.0, scalar.0.writable, init.0.writable); again = λ _ ts us h. local_again l scalar.0 init.0 ts us h }, init.1.1)
+    (record { holds = (name_text l.name.token l.name.is texts.1.0, scalar.0.holds, init.0.holds); again = λ _ ts us h. local_again l scalar.0 init.0 ts us h }, init.1.1)
 
 -- a keyword, a name and ";"
 abbrev pub roles : (text : List ℕ) → Production (Unit {0}) (RoleForm text) Ident
-roles text = record { spelled = spelled_role; tree = role_of; unplaced = unplaced_name; levels = no_level; IsWritable = spellable.IsName; words = λ _ i. clause text (ident_words Space i) }
+roles text = record { spelled = spelled_role; tree = role_of; unplaced = unplaced_name; levels = no_level; Holds = formed.IsName; words = λ _ i. clause text (ident_words Space i) }
 
 pub roles_keep : (text : List ℕ) → Keeps (roles text)
 roles_keep text r more texts = (
   record {
-    writable = name_text r.name.token r.name.is texts.1.0;
+    holds = name_text r.name.token r.name.is texts.1.0;
     again = λ _ ts us h.
         let own = h.2 in
         let last = own.2 in
@@ -221,7 +221,7 @@ timings = record {
   tree = timing_of;
   unplaced = λ t. (unplaced_literal t.0, unplaced_literal t.1);
   levels = no_level;
-  IsWritable = λ t. spellable.IsLiteral t.0 × spellable.IsLiteral t.1;
+  Holds = λ t. formed.IsNumber t.0 × formed.IsNumber t.1;
   words = λ gap t. timing_words gap t.0 t.1;
 }
 
@@ -245,4 +245,4 @@ pub timings_keep : Keeps timings
 timings_keep t more texts =
     let period = numbers_keep t.period (t.offset_word.token ∷ t.offset.token ∷ more) texts.1 in
     let offset = numbers_keep t.offset more period.1.1 in
-    (record { writable = (period.0.writable, offset.0.writable); again = timing_again t period.0 offset.0 }, offset.1)
+    (record { holds = (period.0.holds, offset.0.holds); again = timing_again t period.0 offset.0 }, offset.1)

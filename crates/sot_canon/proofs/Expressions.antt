@@ -7,7 +7,7 @@ use Rattle.sot_expression.specs.Phrases.{Phrase, a_number, a_truth, a_name, a_fi
 use Rattle.sot_print.specs.declared.gap.Gap.{Gap}
 use Rattle.sot_print.specs.declared.gap.Gap.TheVariants.{Space}
 use Rattle.sot_print.specs.Expressions.{expression_words}
-use Rattle.sot_print.specs.Spellable.{IsTree}
+use Rattle.sot_tree.specs.Formed.{IsTree}
 use Rattle.sot_canon.specs.Unplaced.{unplaced_tree}
 use Rattle.sot_canon.proofs.Takes.{Takes, split, a_sign, led, onto}
 use Rattle.sot_canon.proofs.Texts.{AreTexts}
@@ -71,7 +71,7 @@ expressions = record {
   tree = expression_of;
   unplaced = unplaced_tree;
   levels = expression_levels;
-  IsWritable = IsTree;
+  Holds = IsTree;
   words = λ gap e. expression_words e gap;
 }
 
@@ -79,7 +79,7 @@ pub expressions_keep : Keeps expressions
 expressions_keep e more texts =
     let kept = phrases_keep e.phrase more e.is texts in (
       record {
-        writable = kept.0.writable;
+        holds = kept.0.holds;
         again = λ gap ts us h.
             let a = kept.0.again gap ts us h in
             record { form = record { phrase = a.form; is = a.is }; tokens = a.tokens; same = a.same; nests = a.nests };

@@ -1,18 +1,18 @@
--- What is shown of each production: its words are again tokens of the production, and mean the same.
+-- What is shown of each production: what it stands for is formed, and its words are again tokens of it that mean the same.
 use Rattle.std.proofs.Common.{◌≡◌, ℕ, ◌≤◌, List, ap₂}
 use Rattle.sot_text.specs.Reading.{Lexeme}
 use Rattle.sot_print.specs.Words.{Word}
 use Rattle.sot_canon.proofs.Takes.{Takes}
 use Rattle.sot_canon.proofs.Texts.{AreTexts}
 
--- A production: its tokens, its tree, the tree without places, its nesting, which trees can be written, and their words by what
+-- A production: its tokens, its tree, the tree without places, its nesting, what holds of its trees, and their words by what
 -- stands before them.
 pub record Production (G F T : Type 0) : Type 1 where
   pub spelled : F → List Lexeme → List Lexeme
   pub tree : F → T
   pub unplaced : T → T
   pub levels : F → ℕ
-  pub IsWritable : T → Type 0
+  pub Holds : T → Type 0
   pub words : G → T → List Word
 
 -- these tokens are a form of the production too, which means the same and nests no deeper
@@ -23,7 +23,7 @@ pub record Again {G F T : Type 0} (p : Production G F T) (f : F) (ts us : List L
   pub nests : p.levels form ≤ p.levels f
 
 pub record Kept {G F T : Type 0} (p : Production G F T) (f : F) : Type 0 where
-  pub writable : p.IsWritable (p.tree f)
+  pub holds : p.Holds (p.tree f)
   pub again : (before : G) (ts us : List Lexeme) → Takes ts (p.words before (p.tree f)) us → Again p f ts us
 
 abbrev pub Keeps : {G F T : Type 0} → Production G F T → Type 0

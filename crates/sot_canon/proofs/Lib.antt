@@ -22,6 +22,4 @@ pub mod Canonical
 pub mod SameWords
 pub mod Apart
 -- what a text spells is formed
-pub mod FormedParts
-pub mod FormedBodies
 pub mod FormedPrograms

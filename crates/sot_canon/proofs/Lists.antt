@@ -12,7 +12,7 @@ use Rattle.sot_print.specs.Leaves.{items_from, listed}
 use Rattle.sot_print.specs.Statements.{semicolon}
 use Rattle.sot_print.specs.Canonical.{clause}
 use Rattle.sot_print.specs.Canonical as canonical
-use Rattle.sot_print.specs.Spellable.{Each}
+use Rattle.sot_tree.specs.Formed.{Each, HasItem}
 use Rattle.sot_canon.proofs.Takes.{Takes, split, a_keyword, a_sign, led, onto}
 use Rattle.sot_canon.proofs.Kept.{Production, Again, Kept, Keeps, no_level}
 
@@ -26,7 +26,7 @@ further_items p = record {
   tree = map (further_of p.tree);
   unplaced = map p.unplaced;
   levels = no_level;
-  IsWritable = Each p.IsWritable;
+  Holds = Each p.Holds;
   words = λ gap xs. items_from p.words gap false xs;
 }
 
@@ -44,20 +44,23 @@ further_again p f fs item others gap ts us h =
     }
 
 further_keep : {F T : Type 0} (p : Production Gap F T) → Keeps p → Keeps (further_items p)
-further_keep p keeps [] more texts = (record { writable = tt; again = λ gap ts us h. record { form = []; tokens = h; same = refl; nests = le_refl 0 } }, texts)
+further_keep p keeps [] more texts = (record { holds = tt; again = λ gap ts us h. record { form = []; tokens = h; same = refl; nests = le_refl 0 } }, texts)
 further_keep p keeps (f ∷ fs) more texts =
     let item = keeps f.item (each (spelled_further p.spelled) fs more) texts.1 in
     let others = further_keep p keeps fs more item.1 in
-    (record { writable = (item.0.writable, others.0.writable); again = further_again p f fs item.0 others.0 }, others.1)
+    (record { holds = (item.0.holds, others.0.holds); again = further_again p f fs item.0 others.0 }, others.1)
 
 -- items with commas between them
+abbrev pub SomeEach : {T : Type 0} → (T → Type 0) → List T → Type 0
+SomeEach P xs = HasItem xs × Each P xs
+
 abbrev pub lists : {F T : Type 0} → Production Gap F T → Production Gap (Separated (codes ",") F) (List T)
 lists p = record {
   spelled = spelled_separated p.spelled;
   tree = separated_of p.tree;
   unplaced = map p.unplaced;
   levels = no_level;
-  IsWritable = Each p.IsWritable;
+  Holds = SomeEach p.Holds;
   words = listed p.words;
 }
 
@@ -78,7 +81,7 @@ pub lists_keep : {F T : Type 0} (p : Production Gap F T) → Keeps p → Keeps (
 lists_keep p keeps s more texts =
     let item = keeps s.first (each (spelled_further p.spelled) s.further more) texts in
     let others = further_keep p keeps s.further more item.1 in
-    (record { writable = (item.0.writable, others.0.writable); again = list_again p s item.0 others.0 }, others.1)
+    (record { holds = (tt, (item.0.holds, others.0.holds)); again = list_again p s item.0 others.0 }, others.1)
 
 -- a keyword, a list and ";"
 abbrev pub clauses : {F T : Type 0} → (text : List ℕ) → Production Gap F T → Production (Unit {0}) (ClauseForm text F) (List T)
@@ -87,7 +90,7 @@ clauses text p = record {
   tree = clause_of p.tree;
   unplaced = map p.unplaced;
   levels = no_level;
-  IsWritable = Each p.IsWritable;
+  Holds = SomeEach p.Holds;
   words = λ _ xs. clause text (listed p.words Space xs);
 }
 
@@ -107,7 +110,7 @@ clause_again text p c items ts us h =
 pub clauses_keep : {F T : Type 0} (text : List ℕ) (p : Production Gap F T) → Keeps p → Keeps (clauses text p)
 clauses_keep text p keeps c more texts =
     let items = lists_keep p keeps c.items (c.semicolon.token ∷ more) texts.1 in
-    (record { writable = items.0.writable; again = λ _ ts us h. clause_again text p c items.0 ts us h }, items.1.1)
+    (record { holds = items.0.holds; again = λ _ ts us h. clause_again text p c items.0 ts us h }, items.1.1)
 
 -- a clause that may be left out, where no item is no clause
 abbrev pub optional : {F T : Type 0} → (text : List ℕ) → Production Gap F T → (List T → List Word) → Production (Unit {0}) (Option (ClauseForm text F)) (List T)
@@ -116,7 +119,7 @@ optional text p words = record {
   tree = clause_or_none p.tree;
   unplaced = map p.unplaced;
   levels = no_level;
-  IsWritable = Each p.IsWritable;
+  Holds = Each p.Holds;
   words = λ _ xs. words xs;
 }
 
@@ -127,7 +130,7 @@ pub record IsOptional {F T : Type 0} (text : List ℕ) (p : Production Gap F T) 
 pub optional_keep : {F T : Type 0} (text : List ℕ) (p : Production Gap F T) (words : List T → List Word) → IsOptional text p words → Keeps p → Keeps (optional text p words)
 optional_keep text p words is keeps None more texts = (
   record {
-    writable = tt;
+    holds = tt;
     again = λ _ ts us h.
         let P : List Word → Type 0 = λ ws. Takes ts ws us in
         record { form = None; tokens = subst P is.none h; same = refl; nests = le_refl 0 };
@@ -137,7 +140,7 @@ optional_keep text p words is keeps None more texts = (
 optional_keep text p words is keeps (Some c) more texts =
     let kept = clauses_keep text p keeps c more texts in (
       record {
-        writable = kept.0.writable;
+        holds = kept.0.holds.1;
         again = λ _ ts us h.
             let P : List Word → Type 0 = λ ws. Takes ts ws us in
             let a = kept.0.again tt ts us (subst P (is.some (p.tree c.items.first) (map (further_of p.tree) c.items.further)) h) in
@@ -153,7 +156,7 @@ rows p = record {
   tree = map p.tree;
   unplaced = map p.unplaced;
   levels = most p.levels;
-  IsWritable = Each p.IsWritable;
+  Holds = Each p.Holds;
   words = λ place xs. canonical.each (p.words place) xs;
 }
 
@@ -174,8 +177,8 @@ row_again p f fs item others place ts us h =
     }
 
 pub rows_keep : {G F T : Type 0} (p : Production G F T) → Keeps p → Keeps (rows p)
-rows_keep p keeps [] more texts = (record { writable = tt; again = λ place ts us h. record { form = []; tokens = h; same = refl; nests = le_refl 0 } }, texts)
+rows_keep p keeps [] more texts = (record { holds = tt; again = λ place ts us h. record { form = []; tokens = h; same = refl; nests = le_refl 0 } }, texts)
 rows_keep p keeps (f ∷ fs) more texts =
     let item = keeps f (each p.spelled fs more) texts in
     let others = rows_keep p keeps fs more item.1 in
-    (record { writable = (item.0.writable, others.0.writable); again = row_again p f fs item.0 others.0 }, others.1)
+    (record { holds = (item.0.holds, others.0.holds); again = row_again p f fs item.0 others.0 }, others.1)

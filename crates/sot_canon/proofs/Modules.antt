@@ -13,7 +13,7 @@ use Rattle.sot_print.specs.Words.{Word}
 use Rattle.sot_print.specs.Leaves.{ident_words}
 use Rattle.sot_print.specs.Statements.{semicolon}
 use Rattle.sot_print.specs.Canonical.{clause, closing, timing_words, region_words, control_clauses, region_clauses, module_words}
-use Rattle.sot_print.specs.Spellable as spellable
+use Rattle.sot_tree.specs.Formed as formed
 use Rattle.sot_canon.specs.Unplaced.{unplaced_module}
 use Rattle.sot_canon.proofs.Takes.{Takes, split, a_keyword, a_sign, a_name, led, onto}
 use Rattle.sot_canon.proofs.Kept.{Production, Again, Kept, Keeps, no_level, also}
@@ -22,7 +22,7 @@ use Rattle.sot_canon.proofs.Clauses.{roles, roles_keep, timings, timings_keep}
 use Rattle.sot_canon.proofs.Regions.{bounds, bounds_keep}
 
 abbrev pub modules : Production Gap ModuleForm Module
-modules = record { spelled = spelled_module; tree = module_of; unplaced = unplaced_module; levels = no_level; IsWritable = spellable.IsModule; words = module_words }
+modules = record { spelled = spelled_module; tree = module_of; unplaced = unplaced_module; levels = no_level; Holds = formed.IsModule; words = module_words }
 
 abbrev module_with : Ident → Ident → Ident → Lit × Lit → Ident → List Area → List Area → Module
 module_with own ac sc timing plant safe safer = record { name = own; ac = ac; sc = sc; period = timing.0; offset = timing.1; plant = plant; safe = safe; safer = safer }
@@ -95,7 +95,7 @@ modules_keep m more texts =
     let e = bounds_keep (codes "safe") m.safe after_safe d.1 in
     let f = bounds_keep (codes "safer") m.safer (m.closing.token ∷ more) e.1 in (
       record {
-        writable = (name_text m.name.token m.name.is texts.1.0, a.0.writable, b.0.writable, c.0.writable.0, c.0.writable.1, d.0.writable, e.0.writable, f.0.writable);
+        holds = record { name = name_text m.name.token m.name.is texts.1.0; ac = a.0.holds; sc = b.0.holds; period = c.0.holds.0; offset = c.0.holds.1; plant = d.0.holds; safe = e.0.holds; safer = f.0.holds };
         again = module_again m (record { ac_kept = a.0; sc_kept = b.0; timing_kept = c.0; plant_kept = d.0; safe_kept = e.0; safer_kept = f.0 });
       },
       f.1.1,

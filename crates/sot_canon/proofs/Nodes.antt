@@ -13,7 +13,7 @@ use Rattle.sot_print.specs.declared.gap.Gap.TheVariants.{Space}
 use Rattle.sot_print.specs.Words.{Word, keyword, sign, name}
 use Rattle.sot_print.specs.Canonical.{clause, closing, shape_words, start_words, topic_head_words, topic_words, state_words, names_clause, noise_clause, next_clause, plant_clauses, plant_words, timing_words, local_clause, node_head_words, node_clauses, do_clause, node_words, region_words, control_clauses, region_clauses, module_words, declaration_words, own_line, declarations_from}
 use Rattle.sot_print.specs.Canonical as canonical
-use Rattle.sot_print.specs.Spellable as spellable
+use Rattle.sot_tree.specs.Formed as formed
 use Rattle.sot_canon.specs.Unplaced.{unplaced_name, unplaced_literal, unplaced_node}
 use Rattle.sot_canon.proofs.Takes.{Takes, split, join, a_keyword, a_sign, a_name, led, onto}
 use Rattle.sot_canon.proofs.Kept.{Production, Again, Kept, Keeps, no_level, also}
@@ -59,7 +59,7 @@ fronts text = record {
   tree = front_tree;
   unplaced = λ t. front_with (unplaced_name t.own) (unplaced_literal t.timing.0, unplaced_literal t.timing.1) (map unplaced_name t.reads) (map unplaced_name t.writes);
   levels = no_level;
-  IsWritable = λ t. spellable.IsName t.own × spellable.IsLiteral t.timing.0 × spellable.IsLiteral t.timing.1 × spellable.Each spellable.IsName t.reads × spellable.Each spellable.IsName t.writes;
+  Holds = λ t. formed.IsName t.own × formed.IsNumber t.timing.0 × formed.IsNumber t.timing.1 × formed.Each formed.IsName t.reads × formed.Each formed.IsName t.writes;
   words = λ gap t. front_words gap text t;
 }
 
@@ -93,7 +93,7 @@ fronts_keep text f more texts =
     let b = names_clauses (codes "reads") f.reads (spelled_names f.writes more) a.1.1 in
     let c = names_clauses (codes "writes") f.writes more b.1 in (
       record {
-        writable = (name_text f.own.token f.own.is texts.1.0, a.0.writable.0, a.0.writable.1, b.0.writable, c.0.writable);
+        holds = (name_text f.own.token f.own.is texts.1.0, a.0.holds.0, a.0.holds.1, b.0.holds, c.0.holds);
         again = front_again text f a.0 b.0 c.0;
       },
       c.1,
@@ -112,7 +112,7 @@ coded_nodes = record {
   tree = coded_of;
   unplaced = unplaced_node;
   levels = λ n. block_levels n.body;
-  IsWritable = spellable.IsNode;
+  Holds = formed.IsNode;
   words = node_words;
 }
 
@@ -157,9 +157,9 @@ coded_keep n more texts =
     let a = fronts_keep (codes "node") (coded_front n) (each spelled_local n.locals after_locals) texts in
     let b = rows_keep locals locals_keep n.locals after_locals a.1 in
     let c = bodies_keep n.body (n.closing.token ∷ more) b.1.1 in
-    let of_front = a.0.writable in (
+    let of_front = a.0.holds in (
       record {
-        writable = (of_front.0, of_front.1, of_front.2, of_front.3, of_front.4, b.0.writable, c.0.writable);
+        holds = record { name = of_front.0; period = of_front.1; offset = of_front.2; reads = of_front.3; writes = of_front.4; locals = b.0.holds; body = c.0.holds; external = λ none. absurd cc };
         again = coded_again n a.0 b.0 c.0;
       },
       c.1.1,
@@ -170,7 +170,7 @@ abbrev external_front : ExternalForm → NodeFront (codes "external")
 external_front n = record { word = n.word; own = n.name; timing = n.timing; opening = n.opening; reads = n.reads; writes = n.writes }
 
 abbrev pub external_nodes : Production Gap ExternalForm Node
-external_nodes = record { spelled = spelled_external; tree = external_of; unplaced = unplaced_node; levels = no_level; IsWritable = spellable.IsNode; words = node_words }
+external_nodes = record { spelled = spelled_external; tree = external_of; unplaced = unplaced_node; levels = no_level; Holds = formed.IsNode; words = node_words }
 
 external_again : (n : ExternalForm) → Kept (fronts (codes "external")) (external_front n)
     → (gap : Gap) (ts us : List Lexeme) → Takes ts (node_words gap (external_of n)) us → Again external_nodes n ts us
@@ -201,9 +201,9 @@ external_again n front gap ts us h =
 pub external_keep : Keeps external_nodes
 external_keep n more texts =
     let a = fronts_keep (codes "external") (external_front n) (n.closing.token ∷ more) texts in
-    let of_front = a.0.writable in (
+    let of_front = a.0.holds in (
       record {
-        writable = (of_front.0, of_front.1, of_front.2, of_front.3, of_front.4, tt, tt);
+        holds = record { name = of_front.0; period = of_front.1; offset = of_front.2; reads = of_front.3; writes = of_front.4; locals = tt; body = tt; external = λ _. refl };
         again = external_again n a.0;
       },
       a.1.1,

@@ -18,7 +18,7 @@ use Rattle.sot_print.specs.declared.gap.Gap.TheVariants.{Touching, Space}
 use Rattle.sot_print.specs.Words.{Word, keyword, sign}
 use Rattle.sot_print.specs.Leaves.{literal_words}
 use Rattle.sot_print.specs.Expressions.{operator, operand_words, expression_words}
-use Rattle.sot_print.specs.Spellable.{IsTree}
+use Rattle.sot_tree.specs.Formed.{IsTree}
 use Rattle.sot_canon.specs.Unplaced.{nowhere, unplaced_literal, unplaced_tree}
 use Rattle.sot_canon.proofs.Takes.{Takes, split, led, onto}
 use Rattle.sot_canon.proofs.Texts.{AreTexts}
@@ -73,7 +73,7 @@ join_again op f t g left right gap ts us h =
     }
 
 pub kept_join : (op : Op) (f : Phrase) (t : Lexeme) (g : Phrase) → KeptPhrase f → KeptPhrase g → KeptPhrase (a_join op f t g)
-kept_join op f t g left right = record { writable = (left.writable, right.writable); again = join_again op f t g left right }
+kept_join op f t g left right = record { holds = (left.holds, right.holds); again = join_again op f t g left right }
 
 rest_again : (f : Phrase) (t n : Lexeme) (is : IsNumber n) → KeptPhrase f → Kept numbers (record { token = n; is = is })
     → (gap : Gap) (ts us : List Lexeme) → Takes ts (expression_words (tree_of (a_rest f t n)) gap) us → Rewritten (a_rest f t n) ts us
@@ -93,7 +93,7 @@ rest_again f t n is left by gap ts us h =
     }
 
 pub kept_rest : (f : Phrase) (t n : Lexeme) (is : IsNumber n) → KeptPhrase f → Kept numbers (record { token = n; is = is }) → KeptPhrase (a_rest f t n)
-kept_rest f t n is left by = record { writable = (left.writable, by.writable); again = rest_again f t n is left by }
+kept_rest f t n is left by = record { holds = (left.holds, by.holds); again = rest_again f t n is left by }
 
 not_again : (t : Lexeme) (f : Phrase) → KeptPhrase f → (gap : Gap) (ts us : List Lexeme) → Takes ts (expression_words (tree_of (a_not t f)) gap) us → Rewritten (a_not t f) ts us
 not_again t f kept gap ts us h =
@@ -109,7 +109,7 @@ not_again t f kept gap ts us h =
     }
 
 pub kept_not : (t : Lexeme) (f : Phrase) → KeptPhrase f → KeptPhrase (a_not t f)
-kept_not t f kept = record { writable = kept.writable; again = not_again t f kept }
+kept_not t f kept = record { holds = kept.holds; again = not_again t f kept }
 
 choice_again : (t : Lexeme) (c : Phrase) (u : Lexeme) (f : Phrase) (v : Lexeme) (g : Phrase) → KeptPhrase c → KeptPhrase f → KeptPhrase g
     → (gap : Gap) (ts us : List Lexeme) → Takes ts (expression_words (tree_of (an_if t c u f v g)) gap) us → Rewritten (an_if t c u f v g) ts us
@@ -136,7 +136,7 @@ choice_again t c u f v g cond_kept yes_kept no_kept gap ts us h =
 
 pub kept_choice : (t : Lexeme) (c : Phrase) (u : Lexeme) (f : Phrase) (v : Lexeme) (g : Phrase) → KeptPhrase c → KeptPhrase f → KeptPhrase g → KeptPhrase (an_if t c u f v g)
 kept_choice t c u f v g cond_kept yes_kept no_kept = record {
-  writable = (cond_kept.writable, yes_kept.writable, no_kept.writable);
+  holds = (cond_kept.holds, yes_kept.holds, no_kept.holds);
   again = choice_again t c u f v g cond_kept yes_kept no_kept;
 }
 
@@ -175,7 +175,7 @@ kept_negated : (t : Lexeme) (f : Phrase) → is_numeral f ≡ false → KeptPhra
 kept_negated t f other kept =
     let P : Tree → Type 0 = IsTree in
     record {
-      writable = subst P (sym (no_numeral t f other)) kept.writable;
+      holds = subst P (sym (no_numeral t f other)) kept.holds;
       again = λ gap ts us h.
           let Q : Tree → Type 0 = λ e. Takes ts (expression_words e gap) us in
           minus_again t f other kept gap ts us (subst Q (no_numeral t f other) h);
@@ -206,7 +206,7 @@ kept_negative : (t n : Lexeme) → IsSign (codes "-") t → IsNumber n → IsTok
 kept_negative t n minus is text =
     let kept = negative_kept (record { token = t; is = minus }) (record { token = n; is = is }) text in
     record {
-      writable = kept.writable;
+      holds = kept.holds;
       again = λ gap ts us h.
           let a = kept.again gap ts us h in
           literal_again t n a.form ts us a.tokens a.same;

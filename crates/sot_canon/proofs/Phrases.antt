@@ -12,7 +12,7 @@ use Rattle.sot_print.specs.declared.gap.Gap.{Gap}
 use Rattle.sot_print.specs.declared.gap.Gap.TheVariants.{Touching}
 use Rattle.sot_print.specs.Words.{Word, keyword, sign}
 use Rattle.sot_print.specs.Expressions.{is_plain, grouped_words, operand_words, expression_words}
-use Rattle.sot_print.specs.Spellable.{IsTree}
+use Rattle.sot_tree.specs.Formed.{IsTree}
 use Rattle.sot_canon.specs.Unplaced.{unplaced_tree}
 use Rattle.sot_canon.proofs.Takes.{First, Takes, split, led, onto}
 use Rattle.sot_canon.proofs.Kept.{Kept}
@@ -29,7 +29,7 @@ pub record Rewritten (f : Phrase) (ts us : List Lexeme) : Type 0 where
   pub first_tier : is_plain (tree_of f) ≡ true → tier_of form ≡ 0
 
 pub record KeptPhrase (f : Phrase) : Type 0 where
-  pub writable : IsTree (tree_of f)
+  pub holds : IsTree (tree_of f)
   pub again : (gap : Gap) (ts us : List Lexeme) → Takes ts (expression_words (tree_of f) gap) us → Rewritten f ts us
 
 -- an operand, in parentheses or not
@@ -89,7 +89,7 @@ pub kept_number : (n : Lexeme) → IsNumber n → IsTokenText n.kind n.text → 
 kept_number n is text =
     let kept : Kept numbers (record { token = n; is = is }) = (numbers_keep (record { token = n; is = is }) [] (text, tt)).0 in
     record {
-      writable = kept.writable;
+      holds = kept.holds.0;
       again = λ gap ts us h.
           let a = kept.again gap ts us h in
           record { form = a_number a.form.token; is = a.form.is; tokens = a.tokens; same = ap number a.same; nests = le_refl 1; ungrouped = refl; first_tier = λ _. refl };
@@ -97,17 +97,17 @@ kept_number n is text =
 
 pub kept_truth : (value : Bool) (t : Lexeme) → KeptPhrase (a_truth value t)
 kept_truth true t = record {
-  writable = tt;
+  holds = tt;
   again = λ gap ts us h. record { form = a_truth true h.1.token; is = is_a_keyword h.1; tokens = led h.1 h.2; same = refl; nests = le_refl 1; ungrouped = refl; first_tier = λ _. refl };
 }
 kept_truth false t = record {
-  writable = tt;
+  holds = tt;
   again = λ gap ts us h. record { form = a_truth false h.1.token; is = is_a_keyword h.1; tokens = led h.1 h.2; same = refl; nests = le_refl 1; ungrouped = refl; first_tier = λ _. refl };
 }
 
 pub kept_name : (n : Lexeme) → IsName n → IsTokenText n.kind n.text → KeptPhrase (a_name n)
 kept_name n is text = record {
-  writable = (name_text n is text, tt);
+  holds = (name_text n is text, tt);
   again = λ gap ts us h.
       record {
         form = a_name h.1.token;
@@ -122,7 +122,7 @@ kept_name n is text = record {
 
 pub kept_field : (n dot f : Lexeme) → IsName n → IsName f → IsTokenText n.kind n.text → IsTokenText f.kind f.text → KeptPhrase (a_field n dot f)
 kept_field n dot f name_is field_is name_texts field_texts = record {
-  writable = (name_text n name_is name_texts, name_text f field_is field_texts);
+  holds = (name_text n name_is name_texts, name_text f field_is field_texts);
   again = λ gap ts us h.
       let point = h.2 in
       let last = point.2 in
@@ -148,7 +148,7 @@ group_levels open_ f close =
 
 pub kept_group : (open_ : Lexeme) (f : Phrase) (close : Lexeme) → KeptPhrase f → KeptPhrase (a_group open_ f close)
 kept_group open_ f close kept = record {
-  writable = kept.writable;
+  holds = kept.holds;
   again = λ gap ts us h.
       let a = kept.again gap ts us h in
       record {

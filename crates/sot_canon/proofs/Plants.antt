@@ -13,7 +13,7 @@ use Rattle.sot_print.specs.Words.{Word}
 use Rattle.sot_print.specs.Leaves.{listed}
 use Rattle.sot_print.specs.Canonical.{clause, closing, shape_words, start_words, topic_head_words, topic_words, state_words, names_clause, noise_clause, next_clause, plant_clauses, plant_words, timing_words, local_clause, node_head_words, node_clauses, do_clause, node_words, region_words, control_clauses, region_clauses, module_words, declaration_words, own_line, declarations_from}
 use Rattle.sot_print.specs.Canonical as canonical
-use Rattle.sot_print.specs.Spellable as spellable
+use Rattle.sot_tree.specs.Formed as formed
 use Rattle.sot_canon.specs.Unplaced.{nowhere, unplaced_plant}
 use Rattle.sot_canon.proofs.Takes.{Takes, split, a_keyword, a_sign, a_name, led, onto}
 use Rattle.sot_canon.proofs.Kept.{Production, Again, Kept, Keeps, also}
@@ -33,7 +33,7 @@ noise_clauses = optional_keep (codes "noise") typed_names noise_clause (record {
 
 -- plant
 abbrev pub plants : Production Gap PlantForm Plant
-plants = record { spelled = spelled_plant; tree = plant_of; unplaced = unplaced_plant; levels = plant_levels; IsWritable = spellable.IsPlant; words = plant_words }
+plants = record { spelled = spelled_plant; tree = plant_of; unplaced = unplaced_plant; levels = plant_levels; Holds = formed.IsPlant; words = plant_words }
 
 abbrev plant_with : Ident → List StateDecl → List Ident → List Ident → List Field → List Next → Plant
 plant_with own states_ inputs sees noise next = record { name = own; states = states_; inputs = inputs; sees = sees; noise = noise; next = next; end = nowhere }
@@ -96,7 +96,7 @@ plants_keep p more texts =
     let d = noise_clauses p.noise after_noise c.1 in
     let e = rows_keep nexts nexts_keep p.next (p.closing.token ∷ more) d.1 in (
       record {
-        writable = (name_text p.name.token p.name.is texts.1.0, a.0.writable, b.0.writable, c.0.writable, d.0.writable, e.0.writable);
+        holds = record { name = name_text p.name.token p.name.is texts.1.0; some = a.0.holds.0; states = a.0.holds.1; inputs = b.0.holds; sees = c.0.holds; noise = d.0.holds; next = e.0.holds };
         again = plant_again p (record { states_kept = a.0; inputs_kept = b.0; sees_kept = c.0; noise_kept = d.0; next_kept = e.0 });
       },
       e.1.1,

@@ -8,7 +8,7 @@ use Rattle.sot_parser.specs.Pieces.{each}
 use Rattle.sot_parser.specs.Declarations.{DeclarationForm, a_topic, a_plant, a_coded, an_external, a_module, spelled_declaration, declaration_of, declaration_levels, most}
 use Rattle.sot_print.specs.declared.gap.Gap.{Gap}
 use Rattle.sot_print.specs.Canonical.{declaration_words, own_line, declarations_from}
-use Rattle.sot_print.specs.Spellable as spellable
+use Rattle.sot_tree.specs.Formed as formed
 use Rattle.sot_canon.specs.Unplaced.{unplaced_declaration}
 use Rattle.sot_canon.proofs.Takes.{Takes, split, onto}
 use Rattle.sot_canon.proofs.Kept.{Production, Again, Kept, Keeps}
@@ -25,7 +25,7 @@ declarations = record {
   tree = declaration_of;
   unplaced = unplaced_declaration;
   levels = declaration_levels;
-  IsWritable = spellable.IsDeclaration;
+  Holds = formed.IsDeclaration;
   words = declaration_words;
 }
 
@@ -33,7 +33,7 @@ pub declarations_keep : Keeps declarations
 declarations_keep (a_topic t) more texts =
     let kept = topics_keep t more texts in (
       record {
-        writable = kept.0.writable;
+        holds = kept.0.holds;
         again = λ gap ts us h.
             let a = kept.0.again gap ts us h in
             record { form = a_topic a.form; tokens = a.tokens; same = ap trees.a_topic a.same; nests = a.nests };
@@ -43,7 +43,7 @@ declarations_keep (a_topic t) more texts =
 declarations_keep (a_plant p) more texts =
     let kept = plants_keep p more texts in (
       record {
-        writable = kept.0.writable;
+        holds = kept.0.holds;
         again = λ gap ts us h.
             let a = kept.0.again gap ts us h in
             record { form = a_plant a.form; tokens = a.tokens; same = ap trees.a_plant a.same; nests = a.nests };
@@ -53,7 +53,7 @@ declarations_keep (a_plant p) more texts =
 declarations_keep (a_coded n) more texts =
     let kept = coded_keep n more texts in (
       record {
-        writable = kept.0.writable;
+        holds = kept.0.holds;
         again = λ gap ts us h.
             let a = kept.0.again gap ts us h in
             record { form = a_coded a.form; tokens = a.tokens; same = ap trees.a_node a.same; nests = a.nests };
@@ -63,7 +63,7 @@ declarations_keep (a_coded n) more texts =
 declarations_keep (an_external n) more texts =
     let kept = external_keep n more texts in (
       record {
-        writable = kept.0.writable;
+        holds = kept.0.holds;
         again = λ gap ts us h.
             let a = kept.0.again gap ts us h in
             record { form = an_external a.form; tokens = a.tokens; same = ap trees.a_node a.same; nests = a.nests };
@@ -73,7 +73,7 @@ declarations_keep (an_external n) more texts =
 declarations_keep (a_module m) more texts =
     let kept = modules_keep m more texts in (
       record {
-        writable = kept.0.writable;
+        holds = kept.0.holds;
         again = λ gap ts us h.
             let a = kept.0.again gap ts us h in
             record { form = a_module a.form; tokens = a.tokens; same = ap trees.a_module a.same; nests = a.nests };
@@ -88,7 +88,7 @@ programs = record {
   tree = map declaration_of;
   unplaced = map unplaced_declaration;
   levels = most declaration_levels;
-  IsWritable = spellable.Each spellable.IsDeclaration;
+  Holds = formed.Each formed.IsDeclaration;
   words = declarations_from;
 }
 
@@ -106,8 +106,8 @@ program_again d ds item others first ts us h =
     }
 
 pub programs_keep : Keeps programs
-programs_keep [] more texts = (record { writable = tt; again = λ first ts us h. record { form = []; tokens = h; same = refl; nests = le_refl 0 } }, texts)
+programs_keep [] more texts = (record { holds = tt; again = λ first ts us h. record { form = []; tokens = h; same = refl; nests = le_refl 0 } }, texts)
 programs_keep (d ∷ ds) more texts =
     let item = declarations_keep d (each spelled_declaration ds more) texts in
     let others = programs_keep ds more item.1 in
-    (record { writable = (item.0.writable, others.0.writable); again = program_again d ds item.0 others.0 }, others.1)
+    (record { holds = (item.0.holds, others.0.holds); again = program_again d ds item.0 others.0 }, others.1)

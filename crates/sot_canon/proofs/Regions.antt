@@ -11,7 +11,7 @@ use Rattle.sot_print.specs.Words.{sign}
 use Rattle.sot_print.specs.Leaves.{listed, bounds_words}
 use Rattle.sot_print.specs.Statements.{semicolon}
 use Rattle.sot_print.specs.Canonical.{clause, area_words, areas_from, region_words}
-use Rattle.sot_print.specs.Spellable as spellable
+use Rattle.sot_tree.specs.Formed as formed
 use Rattle.sot_canon.specs.Unplaced.{nowhere, unplaced_area}
 use Rattle.sot_canon.proofs.Takes.{Takes, split, a_keyword, a_sign, led, onto}
 use Rattle.sot_canon.proofs.Kept.{Production, Again, Kept, Keeps, no_level}
@@ -20,7 +20,7 @@ use Rattle.sot_canon.proofs.Lists.{lists, lists_keep, cons_same}
 
 -- box
 abbrev pub boxes : Production (Unit {0}) BoxForm Area
-boxes = record { spelled = spelled_box; tree = box_of; unplaced = unplaced_area; levels = no_level; IsWritable = spellable.IsArea; words = λ _ a. area_words a }
+boxes = record { spelled = spelled_box; tree = box_of; unplaced = unplaced_area; levels = no_level; Holds = formed.IsArea; words = λ _ a. area_words a }
 
 abbrev area_with : List Bounds → Area
 area_with xs = record { sides = xs; at = nowhere }
@@ -40,7 +40,7 @@ box_again b kept ts us h =
 boxes_keep : Keeps boxes
 boxes_keep b more texts =
     let kept = lists_keep sides sides_keep b.sides (b.closing.token ∷ more) texts.1 in
-    (record { writable = kept.0.writable; again = λ _ ts us h. box_again b kept.0 ts us h }, kept.1.1)
+    (record { holds = kept.0.holds; again = λ _ ts us h. box_again b kept.0 ts us h }, kept.1.1)
 
 -- the boxes behind the first, each with its bar
 abbrev further_boxes : Production (Unit {0}) (List (Further (codes "|") BoxForm)) (List Area)
@@ -49,7 +49,7 @@ further_boxes = record {
   tree = map (further_of box_of);
   unplaced = map unplaced_area;
   levels = no_level;
-  IsWritable = spellable.Each spellable.IsArea;
+  Holds = formed.Each formed.IsArea;
   words = λ _ as_. areas_from false as_;
 }
 
@@ -67,11 +67,11 @@ bar_again f fs item others ts us h =
     }
 
 further_boxes_keep : Keeps further_boxes
-further_boxes_keep [] more texts = (record { writable = tt; again = λ _ ts us h. record { form = []; tokens = h; same = refl; nests = le_refl 0 } }, texts)
+further_boxes_keep [] more texts = (record { holds = tt; again = λ _ ts us h. record { form = []; tokens = h; same = refl; nests = le_refl 0 } }, texts)
 further_boxes_keep (f ∷ fs) more texts =
     let item = boxes_keep f.item (each (spelled_further spelled_box) fs more) texts.1 in
     let others = further_boxes_keep fs more item.1 in
-    (record { writable = (item.0.writable, others.0.writable); again = λ _ ts us h. bar_again f fs item.0 others.0 ts us h }, others.1)
+    (record { holds = (item.0.holds, others.0.holds); again = λ _ ts us h. bar_again f fs item.0 others.0 ts us h }, others.1)
 
 -- region
 abbrev pub regions : Production (Unit {0}) RegionForm (List Area)
@@ -80,7 +80,7 @@ regions = record {
   tree = region_of;
   unplaced = map unplaced_area;
   levels = no_level;
-  IsWritable = spellable.Each spellable.IsArea;
+  Holds = formed.Each formed.IsArea;
   words = λ _ as_. region_words as_;
 }
 
@@ -100,7 +100,7 @@ boxes_again bs first others ts us h =
 regions_keep : Keeps regions
 regions_keep (no_box word) more texts = (
   record {
-    writable = tt;
+    holds = tt;
     again = λ _ ts us h. record { form = no_box (a_keyword h.1); tokens = led h.1 h.2; same = refl; nests = le_refl 0 };
   },
   texts.1,
@@ -108,7 +108,7 @@ regions_keep (no_box word) more texts = (
 regions_keep (some_boxes bs) more texts =
     let first = boxes_keep bs.first (each (spelled_further spelled_box) bs.further more) texts in
     let others = further_boxes_keep bs.further more first.1 in
-    (record { writable = (first.0.writable, others.0.writable); again = λ _ ts us h. boxes_again bs first.0 others.0 ts us h }, others.1)
+    (record { holds = (first.0.holds, others.0.holds); again = λ _ ts us h. boxes_again bs first.0 others.0 ts us h }, others.1)
 
 -- a keyword, a region and ";"
 abbrev pub bounds : (text : List ℕ) → Production (Unit {0}) (BoundForm text) (List Area)
@@ -117,7 +117,7 @@ bounds text = record {
   tree = bound_of;
   unplaced = map unplaced_area;
   levels = no_level;
-  IsWritable = spellable.Each spellable.IsArea;
+  Holds = formed.Each formed.IsArea;
   words = λ _ as_. clause text (region_words as_);
 }
 
@@ -136,4 +136,4 @@ bound_again text b region ts us h =
 pub bounds_keep : (text : List ℕ) → Keeps (bounds text)
 bounds_keep text b more texts =
     let region = regions_keep b.region (b.semicolon.token ∷ more) texts.1 in
-    (record { writable = region.0.writable; again = λ _ ts us h. bound_again text b region.0 ts us h }, region.1.1)
+    (record { holds = region.0.holds; again = λ _ ts us h. bound_again text b region.0 ts us h }, region.1.1)

@@ -15,7 +15,7 @@ use Rattle.sot_print.specs.Words.{Word, sign}
 use Rattle.sot_print.specs.Leaves.{literal_words, reference_words}
 use Rattle.sot_print.specs.Expressions.{expression_words}
 use Rattle.sot_print.specs.Statements.{semicolon, braced_words, otherwise_words, statement_words, block_words}
-use Rattle.sot_print.specs.Spellable.{IsName as IsNameText, IfThere, IsStatement, IsBlock}
+use Rattle.sot_tree.specs.Formed.{IsName as IsNameText, IfThere, IsStatement, IsBlock}
 use Rattle.sot_canon.specs.Unplaced.{nowhere, unplaced_name, unplaced_statement, unplaced_block}
 use Rattle.sot_canon.proofs.Takes.{Takes, split, a_keyword, a_sign, a_name, led, onto}
 use Rattle.sot_canon.proofs.Texts.{AreTexts}
@@ -30,7 +30,7 @@ statements = record {
   tree = statement_of;
   unplaced = unplaced_statement;
   levels = statement_levels;
-  IsWritable = IsStatement;
+  Holds = IsStatement;
   words = λ indent s. statement_words s indent;
 }
 
@@ -48,7 +48,7 @@ assign_again a value indent ts us h =
 assigns_keep : (a : AssignForm) (more : List Lexeme) → AreTexts (spelled_statement (an_assign a) more) → Kept statements (an_assign a) × AreTexts more
 assigns_keep a more texts =
     let value = expressions_keep a.value (a.semicolon.token ∷ more) texts.1.1 in
-    (record { writable = (name_text a.target.token a.target.is texts.0, value.0.writable); again = assign_again a value.0 }, value.1.1)
+    (record { holds = (name_text a.target.token a.target.is texts.0, value.0.holds); again = assign_again a value.0 }, value.1.1)
 
 -- NAME ["." NAME]
 record Reference : Type 0 where
@@ -64,14 +64,14 @@ references = record {
   tree = λ r. (name_of r.first, dot_of r.field);
   unplaced = λ r. (unplaced_name r.0, option_map unplaced_name r.1);
   levels = no_level;
-  IsWritable = λ r. IsNameText r.0 × IfThere IsNameText r.1;
+  Holds = λ r. IsNameText r.0 × IfThere IsNameText r.1;
   words = λ gap r. reference_words gap r.0 r.1;
 }
 
 reference_keeps : (first : Named) (field : Option DotForm) (more : List Lexeme) → AreTexts (first.token ∷ maybe spelled_dot field more) → Kept references (record { first = first; field = field }) × AreTexts more
 reference_keeps first None more texts = (
   record {
-    writable = (name_text first.token first.is texts.0, tt);
+    holds = (name_text first.token first.is texts.0, tt);
     again = λ gap ts us h.
         record {
           form = record { first = a_name h.1; field = None };
@@ -84,7 +84,7 @@ reference_keeps first None more texts = (
 )
 reference_keeps first (Some dot) more texts = (
   record {
-    writable = (name_text first.token first.is texts.0, name_text dot.name.token dot.name.is texts.1.1.0);
+    holds = (name_text first.token first.is texts.0, name_text dot.name.token dot.name.is texts.1.1.0);
     again = λ gap ts us h.
         let point = h.2 in
         let last = point.2 in
@@ -122,7 +122,7 @@ publishes_keep : (p : PublishForm) (more : List Lexeme) → AreTexts (spelled_st
 publishes_keep p more texts =
     let target = reference_keeps p.topic p.field (p.equals.token ∷ spelled_expression p.value (p.semicolon.token ∷ more)) texts.1 in
     let value = expressions_keep p.value (p.semicolon.token ∷ more) target.1.1 in
-    (record { writable = (target.0.writable.0, target.0.writable.1, value.0.writable); again = publish_again p target.0 value.0 }, value.1.1)
+    (record { holds = (target.0.holds.0, target.0.holds.1, value.0.holds); again = publish_again p target.0 value.0 }, value.1.1)
 
 -- blocks
 abbrev pub blocks : Production ℕ StatementsForm Block
@@ -131,7 +131,7 @@ blocks = record {
   tree = statements_of;
   unplaced = unplaced_block;
   levels = statements_levels;
-  IsWritable = IsBlock;
+  Holds = IsBlock;
   words = λ indent b. block_words b indent;
 }
 
@@ -141,7 +141,7 @@ bodies = record {
   tree = block_of;
   unplaced = unplaced_block;
   levels = block_levels;
-  IsWritable = IsBlock;
+  Holds = IsBlock;
   words = λ indent b. braced_words indent (block_words b);
 }
 
@@ -151,7 +151,7 @@ otherwises = record {
   tree = else_of;
   unplaced = unplaced_block;
   levels = else_levels;
-  IsWritable = IsBlock;
+  Holds = IsBlock;
   words = λ indent b. otherwise_words b indent (block_words b);
 }
 
@@ -169,16 +169,16 @@ braced_again opening body closing kept indent ts us h =
     }
 
 kept_body : (opening : Sign (codes "{")) (body : StatementsForm) (closing : Sign (codes "}")) → Kept blocks body → Kept bodies (braces opening body closing)
-kept_body opening body closing kept = record { writable = kept.writable; again = braced_again opening body closing kept }
+kept_body opening body closing kept = record { holds = kept.holds; again = braced_again opening body closing kept }
 
 -- an empty block behind `else` is left out
 kept_else : (word : Keyword (codes "else")) (body : BlockForm) → Kept bodies body → Kept otherwises (with_else word body)
 kept_else word (braces opening no_more closing) kept = record {
-  writable = tt;
+  holds = tt;
   again = λ indent ts us h. record { form = no_else; tokens = h; same = refl; nests = le_refl 0 };
 }
 kept_else word (braces opening (one_more s rest_) closing) kept = record {
-  writable = kept.writable;
+  holds = kept.holds;
   again = λ indent ts us h.
       let a = kept.again indent h.0 us h.2 in
       record { form = with_else (a_keyword h.1) a.form; tokens = led h.1 a.tokens; same = a.same; nests = a.nests };
@@ -204,7 +204,7 @@ branch_again word cond yes_ no_ cond_kept yes_kept no_kept indent ts us h =
 
 kept_branch : (word : Keyword (codes "if")) (cond : ExpressionForm) (yes_ : BlockForm) (no_ : ElseForm) → Kept expressions cond → Kept bodies yes_ → Kept otherwises no_ → Kept statements (an_if word cond yes_ no_)
 kept_branch word cond yes_ no_ cond_kept yes_kept no_kept = record {
-  writable = (cond_kept.writable, yes_kept.writable, no_kept.writable);
+  holds = (cond_kept.holds, yes_kept.holds, no_kept.holds);
   again = branch_again word cond yes_ no_ cond_kept yes_kept no_kept;
 }
 
@@ -222,7 +222,7 @@ repeat_again word times body count kept indent ts us h =
     }
 
 kept_repeat : (word : Keyword (codes "repeat")) (times : Digits) (body : BlockForm) → Kept numbers times → Kept bodies body → Kept statements (a_repeat word times body)
-kept_repeat word times body count kept = record { writable = (count.writable, kept.writable); again = repeat_again word times body count kept }
+kept_repeat word times body count kept = record { holds = (count.holds, kept.holds); again = repeat_again word times body count kept }
 
 row_again : (s : StatementForm) (rest_ : StatementsForm) → Kept statements s → Kept blocks rest_
     → (indent : ℕ) (ts us : List Lexeme) → Takes ts (block_words (statements_of (one_more s rest_)) indent) us → Again blocks (one_more s rest_) ts us
@@ -238,13 +238,13 @@ row_again s rest_ first others indent ts us h =
     }
 
 kept_row : (s : StatementForm) (rest_ : StatementsForm) → Kept statements s → Kept blocks rest_ → Kept blocks (one_more s rest_)
-kept_row s rest_ first others = record { writable = (first.writable, others.writable); again = row_again s rest_ first others }
+kept_row s rest_ first others = record { holds = (first.holds, others.holds); again = row_again s rest_ first others }
 
 kept_none : Kept blocks no_more
-kept_none = record { writable = tt; again = λ indent ts us h. record { form = no_more; tokens = h; same = refl; nests = le_refl 0 } }
+kept_none = record { holds = tt; again = λ indent ts us h. record { form = no_more; tokens = h; same = refl; nests = le_refl 0 } }
 
 kept_no_else : Kept otherwises no_else
-kept_no_else = record { writable = tt; again = λ indent ts us h. record { form = no_else; tokens = h; same = refl; nests = le_refl 0 } }
+kept_no_else = record { holds = tt; again = λ indent ts us h. record { form = no_else; tokens = h; same = refl; nests = le_refl 0 } }
 
 mutual
   pub statements_keep : (s : StatementForm) (more : List Lexeme) → AreTexts (spelled_statement s more) → Kept statements s × AreTexts more

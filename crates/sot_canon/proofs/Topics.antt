@@ -11,7 +11,7 @@ use Rattle.sot_print.specs.declared.gap.Gap.TheVariants.{Touching, Space}
 use Rattle.sot_print.specs.Words.{Word, sign, name}
 use Rattle.sot_print.specs.Statements.{semicolon}
 use Rattle.sot_print.specs.Canonical.{shape_words, start_words, topic_head_words, topic_words}
-use Rattle.sot_print.specs.Spellable as spellable
+use Rattle.sot_tree.specs.Formed as formed
 use Rattle.sot_canon.specs.Unplaced.{unplaced_topic}
 use Rattle.sot_canon.proofs.Takes.{Takes, split, a_keyword, a_sign, a_name, led, onto}
 use Rattle.sot_canon.proofs.Texts.{AreTexts}
@@ -30,7 +30,7 @@ topic_words_ = record {
   tree = λ w. is_given w.environment;
   unplaced = λ b. b;
   levels = no_level;
-  IsWritable = λ b. Unit {0};
+  Holds = λ b. Unit {0};
   words = topic_head_words;
 }
 
@@ -38,14 +38,14 @@ topic_word_keeps : (environment : Option (Keyword (codes "environment"))) (word 
     → Kept topic_words_ (record { environment = environment; word = word }) × AreTexts more
 topic_word_keeps None word more texts = (
   record {
-    writable = tt;
+    holds = tt;
     again = λ gap ts us h. record { form = record { environment = None; word = a_keyword h.1 }; tokens = led h.1 h.2; same = refl; nests = le_refl 0 };
   },
   texts.1,
 )
 topic_word_keeps (Some outside) word more texts = (
   record {
-    writable = tt;
+    holds = tt;
     again = λ gap ts us h.
         let second = h.2 in
         record { form = record { environment = Some (a_keyword h.1); word = a_keyword second.1 }; tokens = led h.1 (led second.1 second.2); same = refl; nests = le_refl 0 };
@@ -54,7 +54,7 @@ topic_word_keeps (Some outside) word more texts = (
 )
 
 abbrev pub topics : Production Gap TopicForm Topic
-topics = record { spelled = spelled_topic; tree = topic_of; unplaced = unplaced_topic; levels = no_level; IsWritable = spellable.IsTopic; words = topic_words }
+topics = record { spelled = spelled_topic; tree = topic_of; unplaced = unplaced_topic; levels = no_level; Holds = formed.IsTopic; words = topic_words }
 
 abbrev topic_with : Bool → Ident → Form → Start → Topic
 topic_with outside own shape init = record { outside = outside; name = own; shape = shape; init = init }
@@ -99,4 +99,4 @@ topics_keep t more texts =
     let head = topic_word_keeps t.environment t.word (t.name.token ∷ t.colon.token ∷ spelled_shape t.shape behind) texts in
     let shape = shapes_keep t.shape behind head.1.1.1 in
     let init = starts_keep t.init (t.semicolon.token ∷ more) shape.1.1 in
-    (record { writable = (name_text t.name.token t.name.is head.1.0, shape.0.writable, init.0.writable); again = topic_again t head.0 shape.0 init.0 }, init.1.1)
+    (record { holds = (name_text t.name.token t.name.is head.1.0, shape.0.holds, init.0.holds); again = topic_again t head.0 shape.0 init.0 }, init.1.1)

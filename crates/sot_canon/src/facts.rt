@@ -1,3 +1,4 @@
+//! Worked programs that are the same, or not.
 ghost use Rattle.sot_canon.specs.Examples.{PlacesDoNotCount, WordsCount, DeclarationsCount, BranchesCount, EmptyElseIsNone};
 
 /// Worked programs: where their parts stand does not count, and all else does.

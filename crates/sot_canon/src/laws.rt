@@ -1,3 +1,4 @@
+//! Theorems on canonical texts and the programs that they spell.
 ghost use Rattle.std.specs.Prelude.{◌≡◌, ℕ, List};
 ghost use Rattle.sot_tree.specs.Trees.{Program};
 ghost use Rattle.sot_parser.specs.Programs.{Spells};

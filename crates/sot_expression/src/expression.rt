@@ -475,7 +475,7 @@ fn limits(alloc: Global, tokens: &mut Tokens<'_>, room: u32) -> Result<(Part, Pa
 }
 
 #[cycle(expression)]
-#[tactic(auto, unfolding(crate::specs::ExpressionReaders::clamp_at))]
+#[tactic(auto, unfolding(crate::specs::ExpressionReaders::clamp_at, crate::specs::ExpressionReaders::opened_at))]
 fn clamp(alloc: Global, tokens: &mut Tokens<'_>, room: u32) -> Result<Part, Fail>
     requires room { (2 ≤ room) × (room ≤ 64) }
     ensures read { Gives part_view result tokens.old tokens.new (clamp_at (below room 7) tokens.old.tokens) }
@@ -490,7 +490,7 @@ fn clamp(alloc: Global, tokens: &mut Tokens<'_>, room: u32) -> Result<Part, Fail
 }
 
 #[cycle(expression)]
-#[tactic(auto, unfolding(crate::specs::ExpressionReaders::rescale_at))]
+#[tactic(auto, unfolding(crate::specs::ExpressionReaders::rescale_at, crate::specs::ExpressionReaders::opened_at))]
 fn rescale(alloc: Global, tokens: &mut Tokens<'_>, room: u32) -> Result<Part, Fail>
     requires room { (2 ≤ room) × (room ≤ 64) }
     ensures read { Gives part_view result tokens.old tokens.new (rescale_at (below room 7) tokens.old.tokens) }

@@ -18,8 +18,8 @@ use Rattle.sot_parser.specs.DeclarationReaders.{declarations_at, program_at}
 use Rattle.sot_parser.specs.ParseAnswers.{IsRead, Answers, is_ended, stuck_syntax, deep_syntax, fault_of, fault_at}
 use Rattle.sot_expression.specs.Readers.{stuck, deep}
 use Rattle.sot_expression.proofs.ReadSteps.{bind_ok, ok_is, give}
-use Rattle.sot_parser.proofs.DeclarationLaws.{declarations_sound, most_fit}
-use Rattle.sot_parser.proofs.DeclarationBacks.{declarations_full}
+use Rattle.sot_parser.proofs.DeclarationsSound.{declarations_sound, most_fit}
+use Rattle.sot_parser.proofs.DeclarationsFull.{declarations_full}
 
 pub text_read : (ts : List Lexeme) (p : Program) → program_at ts ≡ Ok (p, []) → IsProgramText ts p
 unfolding program_at

@@ -16,9 +16,9 @@ use Rattle.sot_parser.specs.ListReaders.{repeated, all_at, further_at, separated
 use Rattle.sot_expression.specs.ExpressionReaders.{expression_at, tree_at}
 use Rattle.sot_parser.specs.StatementReaders.{assign_at, field_at, dot_at, publish_at, plain_at, otherwise_at, else_at, branch_at, loop_at, nested_at, block_at, statement_at, goes_on, begins_nested, begins_statement, statement_with}
 use Rattle.sot_parser.specs.DeclarationReaders.{side_at, range_at, fix_at, int_scalar_at, fix_scalar_at, bool_scalar_at, scalar_at, named_scalar_at, truth_at, number_const_at, const_at, fields_at, one_scalar_at, shape_at, consts_at, one_const_at, init_at, environment_at, outside_at, topic_at, whole_at, scaled_at, scale_at, state_at, next_at, signals_at, plant_at, timing_at, local_at, head_at, code_at, coded_at, external_at, box_at, no_box_at, region_at, bound_at, role_at, pairing_at, bounds_at, module_at, a_topic_at, a_plant_at, a_coded_at, an_external_at, a_module_at, declaration_at}
-use Rattle.sot_parser.proofs.ReadLaws.{Leads, either, token_ok}
+use Rattle.sot_parser.proofs.SoundSteps.{Leads, either, token_ok}
 use Rattle.sot_expression.proofs.ReadSteps.{bind_ok, ok_is}
-use Rattle.sot_parser.proofs.PieceLaws.{literal_sound}
+use Rattle.sot_parser.proofs.PiecesSound.{literal_sound}
 use Rattle.sot_expression.proofs.PhraseLaws.{expression_sound, phrase_longer}
 use Rattle.sot_parser.specs.Pieces.{LiteralForm, plain, negative, spelled_literal}
 

@@ -1,3 +1,4 @@
+//! Declarations, by the word that they begin with.
 ghost use Rattle.std.specs.Prelude.{◌≡◌, ◌≤◌, ◌||◌, map, codes};
 ghost use Rattle.sot_tree.specs.TreeViews.{declaration_view};
 ghost use Rattle.sot_expression.specs.Lexemes.{begins, is_keyword};

@@ -1,3 +1,4 @@
+//! Lists of items, and clauses of them.
 ghost use Rattle.std.specs.Prelude.{◌≡◌, ◌<◌, List, length, IfOk, codes};
 ghost use Rattle.sot_text.specs.Reading.{Lexeme};
 ghost use Rattle.sot_expression.specs.Lexemes.{begins, is_sign, is_keyword};

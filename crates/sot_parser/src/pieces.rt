@@ -1,3 +1,4 @@
+//! The small parts of declarations: ranges, types, constants, periods.
 ghost use Rattle.std.specs.Prelude.{◌≡◌, ◌<◌, length, IfOk, codes};
 ghost use Rattle.sot_expression.specs.Lexemes.{begins, is_sign, is_keyword};
 ghost use Rattle.sot_expression.specs.Readers.{literal_at};

@@ -1,3 +1,4 @@
+//! Statements with none inside.
 ghost use Rattle.std.specs.Prelude.{◌≡◌, ◌≤◌, codes};
 ghost use Rattle.sot_tree.specs.TreeViews.{statement_view};
 ghost use Rattle.sot_expression.specs.Lexemes.{begins, is_sign, is_keyword};

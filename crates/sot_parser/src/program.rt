@@ -1,3 +1,4 @@
+//! A whole program: its tree, or where it goes wrong.
 ghost use Rattle.std.specs.Prelude.{◌≡◌, IfOk, IsErrOf};
 ghost use Rattle.sot_text.specs.Ahead.{ahead_from};
 ghost use Rattle.sot_tree.specs.Trees.{Program as ProgramTree};
@@ -86,8 +87,3 @@ pub fn parse<'a>(alloc: Global, lexer: &mut Lexer<'a>) -> Result<Program, ParseF
 {
     answer(alloc, lexer)
 }
-
-/// A text spells at most one program.
-pub fn programs_are_unique()
-    ensures { (bytes : _) → (at : _) → (first : ProgramTree) → (second : ProgramTree) → Spells bytes at first → Spells bytes at second → first ≡ second }
-{}

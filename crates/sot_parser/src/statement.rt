@@ -1,3 +1,4 @@
+//! Statements and blocks.
 ghost use Rattle.std.specs.Prelude.{◌≡◌, ◌≤◌, map, codes};
 ghost use Rattle.sot_tree.specs.TreeViews.{statement_view, block_view};
 ghost use Rattle.sot_expression.specs.Lexemes.{begins, is_sign, is_keyword};

@@ -1,3 +1,4 @@
+//! Topics.
 ghost use Rattle.std.specs.Prelude.{◌≡◌, codes};
 ghost use Rattle.sot_tree.specs.TreeViews.{shape_view, init_view, topic_view};
 ghost use Rattle.sot_expression.specs.Lexemes.{begins, is_sign, is_keyword};

@@ -1,3 +1,4 @@
+-- lemmas on what is written, and then on reading it back
 pub mod Laying
 pub mod Lists
 pub mod Blocks

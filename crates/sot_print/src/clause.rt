@@ -1,3 +1,4 @@
+//! Clauses of declarations.
 ghost use Rattle.std.specs.Prelude.{◌≡◌, ◌∷◌, ◌++◌, [], codes, OnOk};
 ghost use Rattle.std.specs.String.{string_bytes};
 ghost use Rattle.sot_tree.specs.TreeViews.{tree_view, next_view, local_view, shape_view, init_view};

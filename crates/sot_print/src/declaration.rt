@@ -1,3 +1,4 @@
+//! Declarations.
 ghost use Rattle.std.specs.Prelude.{◌≡◌, ◌∷◌, ◌==◌, ◌++◌, true, map, OnOk};
 ghost use Rattle.std.specs.String.{string_bytes};
 ghost use Rattle.sot_tree.specs.TreeViews.{topic_view, next_view, plant_view, local_view, node_view, area_view, module_view, declaration_view, block_view};

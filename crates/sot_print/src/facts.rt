@@ -1,3 +1,4 @@
+//! Worked texts.
 ghost use Rattle.sot_print.specs.Examples.{Literals, Operands, Negations, CallsAndChoices, Topics, Plants, Nodes, Modules};
 
 /// Worked texts of literals and expressions.

@@ -1,3 +1,4 @@
+//! Theorems on reading words back.
 ghost use Rattle.std.specs.Prelude.{List};
 ghost use Rattle.sot_tree.specs.Trees.{Program};
 ghost use Rattle.sot_print.specs.Words.{Word, text_of};

@@ -1,3 +1,4 @@
+//! Literals, names, lists and types.
 ghost use Rattle.std.specs.Prelude.{◌≡◌, ◌++◌, [], if◌then◌else◌, codes, pos, int_lt, OnOk};
 ghost use Rattle.std.specs.String.{string_bytes};
 ghost use Rattle.sot_print.specs.Words.{blanks, laid};

@@ -1,3 +1,4 @@
+//! Whole programs.
 ghost use Rattle.std.specs.Prelude.{◌≡◌, ◌++◌, ◌==◌, true, map, OnOk, IfOk};
 ghost use Rattle.std.specs.String.{string_bytes};
 ghost use Rattle.sot_tree.specs.TreeViews.{declaration_view, program_view};

@@ -1,3 +1,4 @@
+//! Statements and blocks.
 ghost use Rattle.std.specs.Prelude.{◌≡◌, ◌∷◌, ◌++◌, OnOk};
 ghost use Rattle.sot_print.specs.declared.gap.Gap.TheVariants.{Space};
 ghost use Rattle.std.specs.String.{string_bytes};

@@ -1,3 +1,4 @@
+//! Worked missions and their sections.
 ghost use Rattle.sot_text.specs.SectionExamples.{AllParts, PartsForFlight, PartsForCheck, LinesEndWithCr, TwoCrs, UnknownFarBehind, Repeated, OutOfOrder, Skipped, EmptyText, SectionsAreTheText};
 
 /// Worked missions and their sections, and that the sections of a text put together are the text.

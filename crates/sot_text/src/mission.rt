@@ -1,3 +1,4 @@
+//! The sections of a mission.
 ghost use Rattle.std.specs.Prelude.{◌≡◌, ℕ, ◌+◌, ◌<◌, ◌≤◌, ◌^◌, true, length};
 ghost use Rattle.std.specs.Option.{option_map};
 ghost use Rattle.sot_text.specs.Sections.{without_last, title, place, fault_behind, needed, or_missing, unless, split_of, parts_of, answer_seen};

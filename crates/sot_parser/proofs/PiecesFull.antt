@@ -6,7 +6,7 @@ use Rattle.sot_expression.specs.Readers.{literal_at}
 use Rattle.sot_parser.specs.Pieces.{LiteralForm, plain, negative, spelled_literal, literal_of, SideForm, spelled_side, side_of, RangeForm, spelled_range, range_of, FixForm, spelled_fix, fix_of, ScalarForm, an_int, a_fix, a_bool, spelled_scalar, scalar_of, FieldForm, spelled_field, field_of, ConstForm, a_literal, a_yes, a_no, spelled_const, const_of, RoleForm, spelled_role, role_of, TimingForm, spelled_timing, timing_of}
 use Rattle.sot_parser.specs.DeclarationReaders.{side_at, range_at, fix_at, int_scalar_at, fix_scalar_at, bool_scalar_at, scalar_at, named_scalar_at, truth_at, number_const_at, const_at, timing_at, role_at}
 use Rattle.sot_expression.proofs.ReadSteps.{give}
-use Rattle.sot_parser.proofs.FullLaws.{yes_by, no_by, token_full, keyword_full, sign_full, name_full, number_full, keyword_test, sign_test, keyword_other, keyword_no_sign, sign_no_keyword, number_no_sign, number_no_keyword}
+use Rattle.sot_parser.proofs.FullSteps.{yes_by, no_by, token_full, keyword_full, sign_full, name_full, number_full, keyword_test, sign_test, keyword_other, keyword_no_sign, sign_no_keyword, number_no_sign, number_no_keyword}
 
 pub literal_full : (l : LiteralForm) (us : List Lexeme) → literal_at (spelled_literal l us) ≡ Ok (literal_of l, us)
 literal_full (plain n) us = no_by (number_no_sign (codes "-") n) _ (number_full n us)

@@ -6,11 +6,11 @@ use Rattle.sot_expression.specs.Lexemes.{begins, is_sign, is_keyword}
 use Rattle.sot_expression.specs.Readers.{Read}
 use Rattle.sot_parser.specs.ListReaders.{repeated, all_at, further_at, separated_at, clause_at, optional_at}
 use Rattle.sot_parser.specs.Pieces.{each, maybe, Separated, Further, spelled_further, further_of, spelled_separated, separated_of, ClauseForm, spelled_clause, clause_of, clause_or_none}
-use Rattle.sot_parser.proofs.ReadLaws.{Any}
-use Rattle.sot_parser.proofs.ListLaws.{Each}
+use Rattle.sot_parser.proofs.SoundSteps.{Any}
+use Rattle.sot_parser.proofs.ListsSound.{Each}
 use Rattle.sot_parser.proofs.Shorter.{Short, further_short}
 use Rattle.sot_expression.proofs.ReadSteps.{give}
-use Rattle.sot_parser.proofs.FullLaws.{yes_by, no_by, keyword_full, sign_full, keyword_test, sign_test, sign_other, keyword_other}
+use Rattle.sot_parser.proofs.FullSteps.{yes_by, no_by, keyword_full, sign_full, keyword_test, sign_test, sign_other, keyword_other}
 
 module _ {F A : Type 0} (spelled : F → List Lexeme → List Lexeme) (tree : F → A) (Fits : F → Type 0) (goes_on : List Lexeme → Bool) (item : List Lexeme → Read A) where
   -- an item is read, whatever follows

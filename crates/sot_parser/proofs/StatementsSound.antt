@@ -9,9 +9,9 @@ use Rattle.sot_expression.specs.Phrases as phrases
 use Rattle.sot_expression.specs.ExpressionReaders.{Part, expression_at, tree_at}
 use Rattle.sot_parser.specs.Statements.{ExpressionForm, spelled_expression, expression_of, expression_levels, spelled_dot, dot_of, StatementForm, an_assign, a_publish, an_if, a_repeat, BlockForm, braces, ElseForm, no_else, with_else, StatementsForm, no_more, one_more, spelled_statement, spelled_block, spelled_else, spelled_statements, statement_of, block_of, else_of, statements_of, statement_levels, block_levels, else_levels, statements_levels}
 use Rattle.sot_parser.specs.StatementReaders.{assign_at, field_at, dot_at, publish_at, plain_at, otherwise_at, else_at, branch_at, loop_at, nested_at, begins_nested, begins_statement, block_from, goes_on, block_at, statement_with, statement_at}
-use Rattle.sot_parser.proofs.ReadLaws.{Sound, Any, take, close, either, done, done_within, keyword_sound, sign_sound, name_sound, number_sound}
+use Rattle.sot_parser.proofs.SoundSteps.{Sound, Any, take, close, either, done, done_within, keyword_sound, sign_sound, name_sound, number_sound}
 use Rattle.sot_expression.proofs.ReadSteps.{bind_ok, ok_is}
-use Rattle.sot_parser.proofs.ListLaws.{Each, all_sound}
+use Rattle.sot_parser.proofs.ListsSound.{Each, all_sound}
 use Rattle.sot_expression.proofs.PhraseLaws.{expression_sound}
 
 -- of at most so many levels

@@ -15,7 +15,7 @@ use Rattle.sot_expression.proofs.FirstTokens.{some_levels}
 use Rattle.sot_parser.proofs.Shorter.{statement_short}
 use Rattle.sot_parser.proofs.StatementSteps.{plain_step}
 use Rattle.sot_expression.proofs.ReadSteps.{give}
-use Rattle.sot_parser.proofs.FullLaws.{yes_by, no_by, keyword_full, sign_full, name_full, number_full, keyword_test, sign_test, keyword_other, sign_other, keyword_no_sign, sign_no_keyword, name_no_sign, name_no_keyword, sign_token}
+use Rattle.sot_parser.proofs.FullSteps.{yes_by, no_by, keyword_full, sign_full, name_full, number_full, keyword_test, sign_test, keyword_other, sign_other, keyword_no_sign, sign_no_keyword, name_no_sign, name_no_keyword, sign_token}
 
 -- no expression goes on with a semicolon or a brace
 pub semicolon_stops : (s : Sign (codes ";")) (us : List Lexeme) → phrases.Stops (s.token ∷ us)

@@ -1,5 +1,5 @@
 use Rattle.sot_parser.proofs.ProgramTexts.{spells_unique}
-use Rattle.sot_parser.proofs.program.programs_are_unique.Goals as goal
+use Rattle.sot_parser.proofs.laws.programs_are_unique.Goals as goal
 
 pub returns : goal.returns
 returns c = spells_unique

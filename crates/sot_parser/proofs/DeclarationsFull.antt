@@ -10,15 +10,15 @@ use Rattle.sot_parser.specs.Declarations.{ShapeForm, one_scalar, a_record, spell
 use Rattle.sot_parser.specs.Statements.{block_levels}
 use Rattle.sot_parser.specs.DeclarationReaders.{side_at, named_scalar_at, const_at, fields_at, one_scalar_at, shape_at, consts_at, one_const_at, init_at, environment_at, outside_at, topic_at, whole_at, scaled_at, scale_at, state_at, next_at, signals_at, plant_at, local_at, head_at, code_at, coded_at, external_at, box_at, no_box_at, region_at, bound_at, pairing_at, bounds_at, module_at, a_topic_at, a_plant_at, a_coded_at, an_external_at, a_module_at, declaration_at, declarations_at, is_some}
 use Rattle.sot_parser.proofs.DeclarationParts.{SignalsForm, spelled_signals, signals_of, HeadForm, spelled_head, head_of, CodeForm, spelled_code, code_of, PairingForm, spelled_pairing, pairing_of, BoundsForm, spelled_bounds, bounds_of}
-use Rattle.sot_parser.proofs.ReadLaws.{Any}
-use Rattle.sot_parser.proofs.ListLaws.{Each}
-use Rattle.sot_parser.proofs.DeclarationLaws.{NextFits, DeclarationFits}
+use Rattle.sot_parser.proofs.SoundSteps.{Any}
+use Rattle.sot_parser.proofs.ListsSound.{Each}
+use Rattle.sot_parser.proofs.DeclarationsSound.{NextFits, DeclarationFits}
 use Rattle.sot_parser.proofs.Shorter.{name_short, side_short, named_scalar_short, const_short, state_short, next_short, local_short, box_short, declaration_short}
 use Rattle.sot_expression.proofs.ReadSteps.{give}
-use Rattle.sot_parser.proofs.FullLaws.{yes_by, no_by, keyword_full, sign_full, name_full, keyword_test, sign_test, keyword_other, sign_other, keyword_no_sign, sign_no_keyword, number_no_sign}
-use Rattle.sot_parser.proofs.ListBacks.{all_full, any_each, separated_full, clause_full, optional_full, other_clause}
-use Rattle.sot_parser.proofs.PieceBacks.{side_full, fix_full, scalar_full, field_full, const_full, scalar_no_sign, timing_full, role_full}
-use Rattle.sot_parser.proofs.StatementBacks.{tree_full, block_full, semicolon_stops}
+use Rattle.sot_parser.proofs.FullSteps.{yes_by, no_by, keyword_full, sign_full, name_full, keyword_test, sign_test, keyword_other, sign_other, keyword_no_sign, sign_no_keyword, number_no_sign}
+use Rattle.sot_parser.proofs.ListsFull.{all_full, any_each, separated_full, clause_full, optional_full, other_clause}
+use Rattle.sot_parser.proofs.PiecesFull.{side_full, fix_full, scalar_full, field_full, const_full, scalar_no_sign, timing_full, role_full}
+use Rattle.sot_parser.proofs.StatementsFull.{tree_full, block_full, semicolon_stops}
 
 shape_full : (s : ShapeForm) (us : List Lexeme) → shape_at (spelled_shape s us) ≡ Ok (shape_of s, us)
 unfolding shape_at fields_at one_scalar_at

@@ -4,7 +4,7 @@ use Rattle.sot_expression.specs.Lexemes.{begins, is_keyword, is_sign, is_number,
 use Rattle.sot_expression.specs.Readers.{number_at, negative_at, literal_at}
 use Rattle.sot_parser.specs.Pieces.{plain, negative, spelled_literal, literal_of, spelled_side, side_of, spelled_range, range_of, spelled_fix, fix_of, an_int, a_fix, a_bool, spelled_scalar, scalar_of, spelled_field, field_of, a_literal, a_yes, a_no, spelled_const, const_of, spelled_role, role_of, spelled_timing, timing_of}
 use Rattle.sot_parser.specs.DeclarationReaders.{side_at, range_at, fix_at, int_scalar_at, fix_scalar_at, bool_scalar_at, scalar_at, named_scalar_at, truth_at, number_const_at, const_at, timing_at, role_at}
-use Rattle.sot_parser.proofs.ReadLaws.{Sound, Any, take, done, either, token_ok, number_kind, sign_is, keyword_sound, sign_sound, name_sound, number_sound}
+use Rattle.sot_parser.proofs.SoundSteps.{Sound, Any, take, done, either, token_ok, number_kind, sign_is, keyword_sound, sign_sound, name_sound, number_sound}
 use Rattle.sot_expression.proofs.ReadSteps.{chosen_by}
 
 pub literal_sound : Sound spelled_literal literal_of Any literal_at

@@ -5,7 +5,7 @@ use Rattle.sot_expression.specs.Lexemes.{begins, is_sign, is_keyword}
 use Rattle.sot_expression.specs.Readers.{Read}
 use Rattle.sot_parser.specs.ListReaders.{repeated, all_at, further_at, separated_at, clause_at, optional_at}
 use Rattle.sot_parser.specs.Pieces.{each, maybe, spelled_further, further_of, spelled_separated, separated_of, spelled_clause, clause_of, clause_or_none}
-use Rattle.sot_parser.proofs.ReadLaws.{Sound, Any, take, close, here, either, done, done_within, keyword_sound, sign_sound}
+use Rattle.sot_parser.proofs.SoundSteps.{Sound, Any, take, close, here, either, done, done_within, keyword_sound, sign_sound}
 
 -- each of them fits
 abbrev pub Each : {F : Type 0} → (F → Type 0) → List F → Type 0
