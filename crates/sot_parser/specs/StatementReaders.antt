@@ -7,7 +7,7 @@ use Rattle.sot_tree.specs.Trees as trees
 use Rattle.sot_expression.specs.Lexemes.{begins, is_sign, is_keyword, is_name}
 use Rattle.sot_expression.specs.Readers.{Read, stuck, deep, ◌>>=◌, expect, name_at, number_at}
 use Rattle.sot_parser.specs.ListReaders.{all_at}
-use Rattle.sot_expression.specs.ExpressionReaders.{expression_at}
+use Rattle.sot_expression.specs.ExpressionReaders.{tree_at}
 
 unfoldable pub assign_at : (List Lexeme → Read Tree) → List Lexeme → Read Statement
 assign_at expression ts = do
