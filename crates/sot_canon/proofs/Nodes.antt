@@ -1,5 +1,5 @@
 -- Nodes.
-use Rattle.std.proofs.Common.{ℕ, List, [], ◌∷◌, ◌++◌, map, Option, None, Some, codes, sym, ap, ap₂, subst, ◌∙◌}
+use Rattle.std.proofs.Common.{refl, ℕ, List, [], ◌∷◌, ◌++◌, map, Option, None, Some, codes, sym, ap, ap₂, subst, ◌∙◌}
 use Rattle.std.proofs.Math.Nat.{le_refl}
 use Rattle.sot_text.specs.Reading.{Lexeme}
 use Rattle.sot_tree.specs.declared.tree.Ident.{Ident}
