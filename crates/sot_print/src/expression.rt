@@ -1,4 +1,4 @@
-//! Expressions, with the parentheses that they need.
+//! Expressions, with parentheses round their operands.
 ghost use Rattle.std.specs.Prelude.{◌≡◌, ◌++◌, ◌∷◌, [], not, if◌then◌else◌, codes, OnOk};
 ghost use Rattle.std.specs.String.{string_bytes};
 ghost use Rattle.sot_tree.specs.TreeViews.{tree_view};

@@ -34,8 +34,8 @@ plant car {
   state v: fix(2), x: int;
   input cmd;
   noise w: int[-1..1];
-  next v = v + cmd - (w - 1);
-  next x = -(x * 2) % 3;
+  next v = (v + cmd) - (w - 1);
+  next x = (-(x * 2)) % 3;
 }
 external fast period 4 offset 0 {
   reads car, pair;
@@ -46,7 +46,7 @@ node slow period 2 offset 1 {
   writes cmd;
   local n: bool = false;
   do {
-    if car.v > -0.05 and not n {
+    if (car.v > -0.05) and (not (n)) {
       publish cmd = -2;
     } else {
       repeat 3 {
