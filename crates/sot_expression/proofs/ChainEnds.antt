@@ -1,5 +1,5 @@
 -- Where a chain of operators reads no further, and what a call of three parts reads.
-use Rattle.std.proofs.Common.{◌≡◌, ◌≢◌, ℕ, zero, suc, ◌+◌, ◌≤◌, max, nat_lt, cond, List, Bool, Some, Ok, Err, false, refl, ap, ◌∙◌, arith}
+use Rattle.std.proofs.Common.{◌≡◌, ◌≢◌, ℕ, zero, suc, ◌≤◌, max, nat_lt, cond, List, Bool, Some, Ok, Err, false, refl, ap, ◌∙◌, arith}
 use Rattle.std.proofs.lemmas.Bool.Decides.{nat_tests}
 use Rattle.sot_text.specs.Reading.{Lexeme}
 use Rattle.sot_tree.specs.declared.operator.Func.TheVariants.{Clamp}

@@ -14,8 +14,8 @@ use crate::nodes;
 use crate::operators::{Infix, Opening, infix_at, opening_at};
 use crate::part::Part;
 use crate::tokens::Tokens;
-use sot_tree::{Expr, Func, Ident, Lit, Op};
 use sot_text::Token;
+use sot_tree::{Expr, Func, Ident, Lit, Op};
 use std::alloc::Global;
 
 // The next token, whatever it is.
@@ -116,12 +116,7 @@ fn turns(tier: u8, room: u32) -> u32
 
 // `%` and its number, behind a left part.
 #[tactic(auto, unfolding(crate::specs::ExpressionReaders::remainder_at))]
-fn remainder(
-    alloc: Global,
-    tokens: &mut Tokens<'_>,
-    room: u32,
-    left: Part,
-) -> Result<Part, Fail>
+fn remainder(alloc: Global, tokens: &mut Tokens<'_>, room: u32, left: Part) -> Result<Part, Fail>
     requires room { room ≤ 64 }
     requires left { left.levels < room }
     ensures read { Gives part_view result tokens.old tokens.new (remainder_at (part_view left) tokens.old.tokens) }

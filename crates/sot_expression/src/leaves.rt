@@ -9,10 +9,11 @@ ghost use Rattle.sot_expression.specs.Returned.{Gives};
 
 use crate::fail::Fail;
 use crate::tokens::Tokens;
-use sot_tree::{Ident, Lit, Name};
 use sot_text::{Kind, Span, Token, numeral_of};
+use sot_tree::{Ident, Lit, Name};
 use std::alloc::Global;
 
+/// Whether this keyword comes next.
 pub fn is_keyword(tokens: &Tokens<'_>, text: &[u8]) -> bool
     ensures { result ≡ begins (is_keyword text.now) tokens.now.tokens }
 {
@@ -22,6 +23,7 @@ pub fn is_keyword(tokens: &Tokens<'_>, text: &[u8]) -> bool
     }
 }
 
+/// Whether this sign comes next.
 pub fn is_sign(tokens: &Tokens<'_>, text: &[u8]) -> bool
     ensures { result ≡ begins (is_sign text.now) tokens.now.tokens }
 {
@@ -31,6 +33,7 @@ pub fn is_sign(tokens: &Tokens<'_>, text: &[u8]) -> bool
     }
 }
 
+/// Whether a number comes next.
 pub fn is_number(tokens: &Tokens<'_>) -> bool
     ensures { result ≡ begins is_number tokens.now.tokens }
 {
@@ -40,6 +43,7 @@ pub fn is_number(tokens: &Tokens<'_>) -> bool
     }
 }
 
+/// Whether a name comes next.
 pub fn is_name(tokens: &Tokens<'_>) -> bool
     ensures { result ≡ begins is_name tokens.now.tokens }
 {
@@ -50,6 +54,10 @@ pub fn is_name(tokens: &Tokens<'_>) -> bool
 }
 
 /// Takes this keyword, and gives its place.
+///
+/// # Errors
+///
+/// `Token` where something else comes next, which stays there.
 pub fn expect_keyword(tokens: &mut Tokens<'_>, text: &[u8]) -> Result<Span, Fail>
     ensures { Gives (λ at. at) result tokens.old tokens.new (expect (is_keyword text.now) tokens.old.tokens) }
 {
@@ -64,6 +72,10 @@ pub fn expect_keyword(tokens: &mut Tokens<'_>, text: &[u8]) -> Result<Span, Fail
 }
 
 /// Takes this sign, and gives its place.
+///
+/// # Errors
+///
+/// `Token` where something else comes next, which stays there.
 pub fn expect_sign(tokens: &mut Tokens<'_>, text: &[u8]) -> Result<Span, Fail>
     ensures { Gives (λ at. at) result tokens.old tokens.new (expect (is_sign text.now) tokens.old.tokens) }
 {
@@ -77,6 +89,11 @@ pub fn expect_sign(tokens: &mut Tokens<'_>, text: &[u8]) -> Result<Span, Fail>
     Ok(token.at)
 }
 
+/// Takes a name, and copies it.
+///
+/// # Errors
+///
+/// `Token` where something else comes next, which stays there; `Memory`.
 pub fn name(alloc: Global, tokens: &mut Tokens<'_>) -> Result<Ident, Fail>
     ensures { Gives (λ name. name) result tokens.old tokens.new (name_at tokens.old.tokens) }
 {
@@ -119,6 +136,11 @@ fn negative(minus: Token<'_>, token: Token<'_>) -> Lit
     }
 }
 
+/// Takes a number.
+///
+/// # Errors
+///
+/// `Token` where something else comes next, which stays there.
 pub fn number(tokens: &mut Tokens<'_>) -> Result<Lit, Fail>
     ensures { Gives (λ lit. lit) result tokens.old tokens.new (number_at tokens.old.tokens) }
 {
@@ -152,7 +174,11 @@ pub fn negated_number(tokens: &mut Tokens<'_>, minus: Token<'_>) -> Result<Lit, 
     }
 }
 
-/// A number, or a minus and a number.
+/// Takes a number, or a minus and a number.
+///
+/// # Errors
+///
+/// `Token` where something else comes, in front of the minus or behind it.
 pub fn literal(tokens: &mut Tokens<'_>) -> Result<Lit, Fail>
     ensures { Gives (λ lit. lit) result tokens.old tokens.new (literal_at tokens.old.tokens) }
 {

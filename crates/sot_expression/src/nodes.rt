@@ -5,8 +5,8 @@ ghost use Rattle.sot_tree.specs.TreeViews.{tree_view};
 ghost use Rattle.sot_expression.specs.Returned.{Makes};
 
 use crate::fail::Fail;
-use sot_tree::{Expr, Func, Lit, Op};
 use sot_text::Span;
+use sot_tree::{Expr, Func, Lit, Op};
 use std::alloc::Global;
 
 /// A call with one part.

@@ -5,8 +5,8 @@ ghost use Rattle.sot_text.specs.Reading.{lexeme};
 ghost use Rattle.sot_expression.specs.Operators.{operator_of, tier_of_op, tier_of_infix, infix_at, opening_of, opening_at};
 
 use crate::tokens::Tokens;
-use sot_tree::{Func, Op};
 use sot_text::{Kind, Token};
+use sot_tree::{Func, Op};
 
 /// What joins a left part to what stands behind it: an operator with an operand, or `%` with a number.
 #[derive(Clone, Copy)]

@@ -42,6 +42,7 @@ fn pull<'a>(lexer: &mut Lexer<'a>) -> (Option<Token<'a>>, Option<LexFault>)
 }
 
 impl<'a> Tokens<'a> {
+    /// The tokens from where a lexer stands.
     pub fn new(mut lexer: Lexer<'a>) -> Tokens<'a>
         ensures { result ≡ ahead_from lexer.entry.bytes lexer.entry.at }
     {
@@ -57,6 +58,7 @@ impl<'a> Tokens<'a> {
         self.next
     }
 
+    /// Passes over the next token, if there is one.
     pub fn advance(&mut self)
         ensures { self.new ≡ behind self.old }
     {

@@ -7,7 +7,7 @@ use Rattle.sot_parser.specs.Declarations.{one_scalar, a_record, spelled_shape, s
 use Rattle.sot_parser.specs.Statements.{block_levels}
 use Rattle.sot_parser.specs.ListReaders.{optional_at}
 use Rattle.sot_parser.specs.DeclarationReaders.{side_at, named_scalar_at, const_at, fields_at, one_scalar_at, shape_at, consts_at, one_const_at, init_at, environment_at, outside_at, topic_at, whole_at, scaled_at, scale_at, state_at, next_at, signals_at, plant_at, local_at, head_at, code_at, coded_at, external_at, box_at, no_box_at, region_at, bound_at, pairing_at, bounds_at, module_at, a_topic_at, a_plant_at, a_coded_at, an_external_at, a_module_at, declaration_at, declarations_at, is_some}
-use Rattle.sot_parser.proofs.DeclarationParts.{SignalsForm, spelled_signals, signals_of, HeadForm, spelled_head, head_of, CodeForm, spelled_code, code_of, PairingForm, spelled_pairing, pairing_of, BoundsForm, spelled_bounds, bounds_of}
+use Rattle.sot_parser.proofs.DeclarationParts.{spelled_signals, signals_of, spelled_head, head_of, CodeForm, spelled_code, code_of, spelled_pairing, pairing_of, spelled_bounds, bounds_of}
 use Rattle.sot_parser.proofs.SoundSteps.{Sound, Any, take, close, here, done, done_within, either, keyword_sound, sign_sound, name_sound}
 use Rattle.sot_parser.proofs.ListsSound.{Each, all_sound, all_any_sound, separated_sound, clause_sound, optional_sound}
 use Rattle.sot_parser.proofs.PiecesSound.{side_sound, fix_sound, scalar_sound, field_sound, const_sound, timing_sound, role_sound}

@@ -7,7 +7,7 @@ use Rattle.sot_text.specs.Reading.{Lexeme}
 use Rattle.sot_text.specs.declared.token.Kind.{Kind}
 use Rattle.sot_text.specs.declared.token.Kind.TheVariants as kinds
 use Rattle.sot_expression.specs.Lexemes.{is_keyword_kind, is_sign_kind, is_name_kind, is_number_kind, is_keyword, is_sign, is_name, is_number, ident, literal}
-use Rattle.sot_expression.specs.Readers.{Read, stuck, ◌>>=◌, one_token, expect, name_at, number_at}
+use Rattle.sot_expression.specs.Readers.{Read, stuck, one_token, expect, name_at, number_at}
 use Rattle.sot_parser.specs.Pieces.{Keyword, Sign, Named, Digits, name_of, number_of}
 
 abbrev ok : {A : Type 0} → A × List Lexeme → Read A

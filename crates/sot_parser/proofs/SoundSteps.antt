@@ -1,5 +1,5 @@
 -- What readers promise: what is read is of the grammar, and what is of the grammar is read.
-use Rattle.std.proofs.Common.{◌≡◌, ℕ, cond, List, [], ◌∷◌, Bool, true, false, Ok, Err, refl, sym, ap, subst}
+use Rattle.std.proofs.Common.{◌≡◌, ℕ, cond, List, [], ◌∷◌, Bool, true, false, Ok, refl, sym, ap, subst}
 use Rattle.std.specs.Str.{bytes_eq}
 use Rattle.std.proofs.lemmas.Bool.{and_parts}
 use Rattle.std.proofs.lemmas.Slice.Eq.{bytes_eq-Decides}
@@ -7,7 +7,7 @@ use Rattle.sot_text.specs.Reading.{Lexeme}
 use Rattle.sot_text.specs.declared.token.Kind.{Kind}
 use Rattle.sot_text.specs.declared.token.Kind.TheVariants as kinds
 use Rattle.sot_expression.specs.Lexemes.{IsKeyword, IsSign, is_keyword_kind, is_sign_kind, is_name_kind, is_number_kind, is_keyword, is_sign, is_name, is_number, ident, literal}
-use Rattle.sot_expression.specs.Readers.{Read, Fault, stuck, ◌>>=◌, one_token, expect, name_at, number_at}
+use Rattle.sot_expression.specs.Readers.{Read, stuck, ◌>>=◌, one_token, expect, name_at, number_at}
 use Rattle.sot_expression.proofs.ReadSteps.{bind_ok, ok_is, guard_ok}
 use Rattle.sot_parser.specs.Pieces.{spelled_keyword, spelled_sign, spelled_name, spelled_number, keyword_place, sign_place, name_of, number_of}
 

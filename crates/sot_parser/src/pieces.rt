@@ -6,7 +6,9 @@ ghost use Rattle.sot_parser.specs.DeclarationReaders.{side_at, range_at, fix_at,
 ghost use Rattle.sot_expression.specs.Returned.{Gives};
 
 use crate::items::Item;
-use sot_expression::{Fail, Tokens, expect_keyword, expect_sign, is_keyword, literal, name, number};
+use sot_expression::{
+    Fail, Tokens, expect_keyword, expect_sign, is_keyword, literal, name, number,
+};
 use sot_tree::{Bounds, Const, Field, Ident, Lit, Scalar, StateDecl};
 use std::alloc::Global;
 

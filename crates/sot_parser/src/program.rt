@@ -11,8 +11,8 @@ ghost use Rattle.sot_expression.specs.Returned.{Gives};
 use crate::declaration::declarations;
 use crate::syntax::{ParseFail, Syntax};
 use sot_expression::{Fail, Tokens};
-use sot_tree::Program;
 use sot_text::Lexer;
+use sot_tree::Program;
 use std::alloc::Global;
 
 const ROOM: u32 = 64;

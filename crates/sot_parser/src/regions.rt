@@ -74,10 +74,7 @@ fn bound(alloc: Global, tokens: &mut Tokens<'_>, word: &[u8]) -> Result<Vec<BoxD
 
 // The two nodes of a module, the period and the offset of its decisions, and its plant.
 #[tactic(auto, unfolding(crate::specs::DeclarationReaders::pairing_at))]
-fn pairing(
-    alloc: Global,
-    tokens: &mut Tokens<'_>,
-) -> Result<(Ident, Ident, Lit, Lit, Ident), Fail>
+fn pairing(alloc: Global, tokens: &mut Tokens<'_>) -> Result<(Ident, Ident, Lit, Lit, Ident), Fail>
     ensures { Gives (λ pairing. pairing) result tokens.old tokens.new (pairing_at tokens.old.tokens) }
 {
     let ac = role(alloc, tokens, b"ac")?;
@@ -90,10 +87,7 @@ fn pairing(
 
 // The safe and the safer region.
 #[tactic(auto, unfolding(crate::specs::DeclarationReaders::bounds_at))]
-fn bounds(
-    alloc: Global,
-    tokens: &mut Tokens<'_>,
-) -> Result<(Vec<BoxDecl>, Vec<BoxDecl>), Fail>
+fn bounds(alloc: Global, tokens: &mut Tokens<'_>) -> Result<(Vec<BoxDecl>, Vec<BoxDecl>), Fail>
     ensures { Gives (λ bounds. (map area_view bounds.0.items, map area_view bounds.1.items)) result tokens.old tokens.new (bounds_at tokens.old.tokens) }
 {
     let safe = bound(alloc, tokens, b"safe")?;

@@ -8,7 +8,9 @@ ghost use Rattle.sot_parser.specs.StatementReaders.{otherwise_at, else_at, branc
 ghost use Rattle.sot_expression.specs.Returned.{Gives};
 
 use crate::plain::plain;
-use sot_expression::{Fail, Tokens, expect_keyword, expect_sign, is_keyword, is_name, is_sign, number, tree};
+use sot_expression::{
+    Fail, Tokens, expect_keyword, expect_sign, is_keyword, is_name, is_sign, number, tree,
+};
 use sot_tree::Stmt;
 use std::alloc::Global;
 

@@ -14,7 +14,9 @@ use crate::clause::{
 use crate::gap::{Gap, push_word};
 use crate::leaf::push_ident;
 use crate::statement::{push_block, push_semicolon};
-use sot_tree::{BoxDecl, Decl, Ident, LocalDecl, ModuleDecl, NextDecl, NodeDecl, PlantDecl, Stmt, TopicDecl};
+use sot_tree::{
+    BoxDecl, Decl, Ident, LocalDecl, ModuleDecl, NextDecl, NodeDecl, PlantDecl, Stmt, TopicDecl,
+};
 use std::alloc::AllocError;
 
 // The closing brace of a declaration.

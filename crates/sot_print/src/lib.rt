@@ -16,4 +16,3 @@ pub use facts::{declarations_are_as_stated, expressions_are_as_stated};
 pub use gap::Gap;
 pub use laws::{canonical_words_are_read_back, words_are_read_back};
 pub use program::print;
-

@@ -7,7 +7,7 @@ use Rattle.sot_ports.specs.Whole.{ReadsAll, ReadsCount}
 use Rattle.sot_lang.specs.Tables.{Tables}
 use Rattle.sot_tree.specs.Trees.{Program}
 use Rattle.sot_parser.specs.Programs.{Spells}
-use Rattle.sot_parser.specs.ParseAnswers.{fault_at}
+use Rattle.sot_parser.specs.Answers.{fault_at}
 use Rattle.sot_tube.specs.Refusals.{Refusal}
 use Rattle.soter.specs.Shape.{shape}
 use Rattle.soter.specs.Texts.{shape_text, refusal_text, syntax_text, usage_text, long_text}

@@ -1,7 +1,7 @@
 //! Which tree a text has as an expression, where its parts stand, and how deep it may nest.
 use sot_expression::{Fail, Tokens, tree};
-use sot_tree::{Expr, Ident, Lit};
 use sot_text::Lexer;
+use sot_tree::{Expr, Ident, Lit};
 use std::alloc::{AllocError, Global};
 use std::test::Fail as TestFail;
 
@@ -18,26 +18,14 @@ const READ: [(u32, &str, &str); 77] = [
     (64, "true or false", "Or@5 true@0 false@8 at end"),
     (64, "pos.x", "name@0.4 at end"),
     (64, "pos . x", "name@0.6 at end"),
-    (
-        64,
-        "a + b - c",
-        "Sub@6 Add@2 name@0 name@4 name@8 at end",
-    ),
-    (
-        64,
-        "a - (b - c)",
-        "Sub@2 name@0 Sub@7 name@5 name@9 at end",
-    ),
+    (64, "a + b - c", "Sub@6 Add@2 name@0 name@4 name@8 at end"),
+    (64, "a - (b - c)", "Sub@2 name@0 Sub@7 name@5 name@9 at end"),
     (
         64,
         "a * b / c % 5 * d",
         "Mul@14 Rest@10 Div@6 Mul@2 name@0 name@4 name@8 5e0@12 name@16 at end",
     ),
-    (
-        64,
-        "a % 3 % 4",
-        "Rest@6 Rest@2 name@0 3e0@4 4e0@8 at end",
-    ),
+    (64, "a % 3 % 4", "Rest@6 Rest@2 name@0 3e0@4 4e0@8 at end"),
     (64, "a < b", "Less@2 name@0 name@4 at end"),
     (
         64,
@@ -79,11 +67,7 @@ const READ: [(u32, &str, &str); 77] = [
         "Max@0 name@5 Add@11 name@9 1e0@13 at end",
     ),
     (64, "abs(a - b)", "Abs@0 Sub@6 name@4 name@8 at end"),
-    (
-        64,
-        "clamp(a, 0, 10)",
-        "Clamp@0 name@6 0e0@9 10e0@12 at end",
-    ),
+    (64, "clamp(a, 0, 10)", "Clamp@0 name@6 0e0@9 10e0@12 at end"),
     (
         64,
         "rescale(a * b, 2)",
@@ -132,11 +116,7 @@ const READ: [(u32, &str, &str); 77] = [
     (2, "a + b", "Add@2 name@0 name@4 at end"),
     (2, "a + b - c", "deep"),
     (2, "a + (b - c)", "deep"),
-    (
-        3,
-        "a + (b - c)",
-        "Add@2 name@0 Sub@7 name@5 name@9 at end",
-    ),
+    (3, "a + (b - c)", "Add@2 name@0 Sub@7 name@5 name@9 at end"),
     (1, "not a", "deep"),
     (1, "abs(a)", "deep"),
     (2, "abs((a))", "Abs@0 name@5 at end"),
@@ -240,7 +220,11 @@ fn reads_expressions(rt: HostRuntime) -> Result<(), TestFail> {
     let alloc = rt.alloc();
     for (room, text, want) in READ {
         let read = said(alloc, room, text)?;
-        assert_eq!(rt; read.as_str().trim_start(), want, "at {text} with room for {room}");
+        assert_eq!(rt;
+            read.as_str().trim_start(),
+            want,
+            "at {text} with room for {room}"
+        );
     }
     Ok(())
 }

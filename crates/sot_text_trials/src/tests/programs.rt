@@ -1,7 +1,7 @@
 //! Which program a text spells, and where one that spells none goes wrong.
-use sot_tree::{Decl, Program, Stmt};
 use sot_parser::{ParseFail, Syntax, parse};
 use sot_text::{LexFault, Lexer};
+use sot_tree::{Decl, Program, Stmt};
 use std::alloc::Global;
 use std::test::Fail;
 

@@ -1,10 +1,8 @@
-use Rattle.std.proofs.Common.{◌≡◌, ◌+◌, max, List, Ok, rules, arith, refl, sym, ◌∙◌, ap, subst}
+use Rattle.std.proofs.Common.{◌+◌, max, rules, arith, refl, sym, ◌∙◌, ap, subst}
 use Rattle.std.proofs.lemmas.Int.{clamps}
 use Rattle.std.proofs.lemmas.Result.{err_from_is_err_and}
-use Rattle.sot_text.specs.Reading.{Lexeme}
 use Rattle.sot_tree.specs.TreeViews.{tree_view}
 use Rattle.sot_expression.specs.declared.fail.Fail.{Fail}
-use Rattle.sot_expression.specs.Readers.{Read}
 use Rattle.sot_expression.specs.Returned.{Fails, Tells}
 use Rattle.sot_expression.specs.Parts.{below, part_view}
 use Rattle.sot_expression.specs.ExpressionReaders.{Part, clamp_at}
