@@ -1,5 +1,5 @@
 -- The cells of a certificate are few.
-use Rattle.std.proofs.Common.{◌≡◌, ℕ, suc, ◌+◌, ◌*◌, ◌<◌, ◌≤◌, Option, None, Some, List, [], ◌∷◌, length, take, get_or, refl, sym, ap, ◌∙◌, subst, arith, ⊎_elim}
+use Rattle.std.proofs.Common.{◌≡◌, ℕ, suc, ◌+◌, ◌*◌, ◌<◌, ◌≤◌, Option, None, Some, List, [], ◌∷◌, length, drop, drop-cons, add-one, get_or, refl, sym, ap, ap₂, ◌∙◌, subst, arith, ⊎_elim}
 use Rattle.std.proofs.lemmas.Option.{slice_get_within}
 use Rattle.sot_lists.specs.Places.{At}
 use Rattle.sot_lists.proofs.Places.{at_below}
@@ -26,3 +26,10 @@ few_rest x xs few m y at = few (suc m) y at
 pub few_cells : (xs : List (Option Cells)) → AreFew xs → cell_count xs ≤ 8192 * length xs
 few_cells [] few = omega arith
 few_cells (x ∷ xs) few = (let here = few 0 x refl in let rest = few_cells xs (few_rest x xs few) in omega (arith, here, rest))
+
+-- one more entry does not make too many
+pub few_so_far : (xs : List (Option Cells)) (i count : ℕ) (x : Option Cells) → AreFew xs → length xs ≤ 100 → i < length xs → x ≡ get_or xs i x → count + cell_count (drop i xs) ≡ cell_count xs
+    → count + entry_count x ≤ 819200
+few_so_far xs i count x few short lt is counted =
+    let next : drop i xs ≡ x ∷ drop (i + 1) xs = drop-cons xs i x lt ∙ ap₂ (λ y n. y ∷ drop n xs) (sym is) (sym (add-one i)) in
+    omega (arith, counted, short, few_cells xs few, ap cell_count next)

@@ -1,2 +1,3 @@
-pub mod Parts
+pub mod Commas
 pub mod Counts
+pub mod Parts

@@ -17,7 +17,9 @@ cell_count [] = 0
 cell_count (x ∷ xs) = entry_count x + cell_count xs
 
 -- `accepted`, and a line of counts: `modules M nodes N cells C`
+abbrev pub counts_text : ℕ → ℕ → ℕ → List ℕ
+counts_text modules nodes cells = line (codes "accepted") ++ (codes "modules " ++ (decimal modules ++ (codes " nodes " ++ (decimal nodes ++ (codes " cells " ++ line (decimal cells))))))
+
+-- what is said of a program's tables with a certificate
 abbrev pub accepted_text : Tables → Cert → List ℕ
-accepted_text t cert =
-    line (codes "accepted")
-    ++ line (codes "modules " ++ decimal (length t.modules) ++ codes " nodes " ++ decimal (length t.nodes) ++ codes " cells " ++ decimal (cell_count cert.modules.items))
+accepted_text t cert = counts_text (length t.modules) (length t.nodes) (cell_count cert.modules.items)

@@ -4,7 +4,7 @@ ghost use Rattle.std.specs.Prelude.{◌≡◌, ◌≤◌, length, IfOk};
 ghost use Rattle.std.specs.String.{string_bytes};
 ghost use Rattle.sot_lang.specs.CertRules.{FitsTables};
 ghost use Rattle.sot_report.specs.Counts.{AreFew};
-ghost use Rattle.sot_report.specs.AcceptedTexts.{entry_count, cell_count, accepted_text};
+ghost use Rattle.sot_report.specs.AcceptedTexts.{entry_count, cell_count, counts_text, accepted_text};
 
 use sot_lang::{Cells, Cert, Typed};
 use std::alloc::{AllocError, Global};
@@ -33,6 +33,14 @@ fn cell_count(entries: &[Option<Cells>]) -> u64
     count
 }
 
+// The line of counts, behind `accepted`.
+fn counts_text(alloc: Global, modules: usize, nodes: usize, cells: u64) -> Result<String, AllocError>
+    ensures { IfOk result (λ text. string_bytes text ≡ counts_text modules nodes cells) }
+{
+    let text = format!(in alloc; "accepted\nmodules {modules} nodes {nodes} cells {cells}\n")?;
+    Ok(text)
+}
+
 /// `accepted`, and a line with the counts of modules, of nodes and of all cells of the certificate.
 pub fn accepted_text(alloc: Global, p: &Typed, cert: &Cert) -> Result<String, AllocError>
     requires { FitsTables p.now cert.now }
@@ -41,6 +49,5 @@ pub fn accepted_text(alloc: Global, p: &Typed, cert: &Cert) -> Result<String, Al
     let modules = p.modules.len();
     let nodes = p.nodes.len();
     let cells = cell_count(&cert.modules);
-    let text = format!(in alloc; "accepted\nmodules {modules} nodes {nodes} cells {cells}\n")?;
-    Ok(text)
+    counts_text(alloc, modules, nodes, cells)
 }

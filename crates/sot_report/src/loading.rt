@@ -1,6 +1,6 @@
 //! What bytes spell.
 
-ghost use Rattle.std.specs.Prelude.{◌<◌, ◌+◌, ◌^◌, length, IfOk, IfErr};
+ghost use Rattle.std.specs.Prelude.{◌≡◌, ◌<◌, ◌+◌, ◌^◌, length, IfOk, IfErr};
 ghost use Rattle.sot_tree.specs.TreeViews.{program_view};
 ghost use Rattle.sot_tree.specs.Formed.{IsFormed};
 ghost use Rattle.sot_tree.specs.Trees.{Program as Tree};
@@ -10,8 +10,8 @@ ghost use Rattle.sot_report.specs.Loads.{IfFault, LoadsTree, FailsTree, LoadsTex
 use crate::fault::{Fault, LoadFail};
 use sot_cert::{CertFail, read_cert};
 use sot_lang::{Cert, Typed};
-use sot_parser::{ParseFail, parse};
-use sot_rules::TypeFail;
+use sot_parser::{ParseFail, Syntax, parse};
+use sot_rules::{TypeFail, TypeFault};
 use sot_text::{Lexer, Need, split};
 use sot_tree::Program;
 use sot_typing::resolve;
@@ -22,6 +22,20 @@ use std::alloc::Global;
 pub struct Loaded {
     pub program: Typed,
     pub cert: Cert,
+}
+
+// A fault that the program's names and types have.
+fn mistyped(fault: TypeFault) -> LoadFail
+    ensures { result ≡ LoadFail.Fault (Fault.Typing fault) }
+{
+    LoadFail::Fault(Fault::Typing(fault))
+}
+
+// A fault that the program's text has.
+fn misspelled(fault: Syntax) -> LoadFail
+    ensures { result ≡ LoadFail.Fault (Fault.Syntax fault) }
+{
+    LoadFail::Fault(Fault::Syntax(fault))
 }
 
 // The certificate of these tables.
@@ -44,7 +58,7 @@ fn load_tree(alloc: Global, program: &Program, cert: &[u8]) -> Result<Loaded, Lo
 {
     match resolve(alloc, program) {
         Ok(typed) => load_cert(alloc, typed, cert),
-        Err(TypeFail::Fault(fault)) => Err(LoadFail::Fault(Fault::Typing(fault))),
+        Err(TypeFail::Fault(fault)) => Err(mistyped(fault)),
         Err(TypeFail::Memory) => Err(LoadFail::Memory),
     }
 }
@@ -57,7 +71,7 @@ fn load_text(alloc: Global, source: &[u8], cert: &[u8]) -> Result<Loaded, LoadFa
 {
     match parse(alloc, &mut Lexer::new(source)) {
         Ok(program) => load_tree(alloc, &program, cert),
-        Err(ParseFail::Syntax(fault)) => Err(LoadFail::Fault(Fault::Syntax(fault))),
+        Err(ParseFail::Syntax(fault)) => Err(misspelled(fault)),
         Err(ParseFail::Memory) => Err(LoadFail::Memory),
     }
 }

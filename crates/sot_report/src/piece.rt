@@ -1,6 +1,6 @@
 //! Pieces of texts, each put behind what stands there already.
 
-ghost use Rattle.std.specs.Prelude.{◌≡◌, ◌++◌, OnOk};
+ghost use Rattle.std.specs.Prelude.{◌≡◌, ◌++◌, drop, OnOk};
 ghost use Rattle.std.specs.Fmt.{decimal, signed_decimal};
 ghost use Rattle.sot_report.specs.Pieces.{module_name, node_name, topic_name, plant_name, further, listed, side_text, point_text, box_text, place_text, ends_text, trap_word};
 
@@ -81,31 +81,54 @@ fn put_side(alloc: Global, text: &mut Vec<u8>, side: Interval) -> Result<(), All
     text.extend_from_slice(piece.as_bytes())
 }
 
+fn put_coordinate(alloc: Global, text: &mut Vec<u8>, coordinate: i64) -> Result<(), AllocError>
+    ensures { OnOk result (text.new.items ≡ text.old.items ++ signed_decimal coordinate) }
+{
+    let piece = format!(in alloc; "{coordinate}")?;
+    text.extend_from_slice(piece.as_bytes())
+}
+
+// The coordinates after the first, each behind a comma.
+fn put_further_coordinates(alloc: Global, text: &mut Vec<u8>, point: &Point) -> Result<(), AllocError>
+    ensures { OnOk result (text.new.items ≡ text.old.items ++ further signed_decimal (drop 1 point.now)) }
+{
+    for i in 1..point.len() {
+        put(text, ", ")?;
+        put_coordinate(alloc, text, point.at(i))?;
+    }
+    Ok(())
+}
+
 /// A point: its coordinates in parentheses.
 pub fn put_point(alloc: Global, text: &mut Vec<u8>, point: &Point) -> Result<(), AllocError>
     ensures { OnOk result (text.new.items ≡ text.old.items ++ point_text point.now) }
 {
-    let axes = point.len();
+    let _axes = point.len();
     put(text, "(")?;
-    put_number(alloc, text, point.at(0) as i128)?;
-    for i in 1..axes {
-        put(text, ", ")?;
-        put_number(alloc, text, point.at(i) as i128)?;
-    }
+    put_coordinate(alloc, text, point.at(0))?;
+    put_further_coordinates(alloc, text, point)?;
     put(text, ")")
+}
+
+// The sides after the first, each behind a comma.
+fn put_further_sides(alloc: Global, text: &mut Vec<u8>, area: &BoxN) -> Result<(), AllocError>
+    ensures { OnOk result (text.new.items ≡ text.old.items ++ further side_text (drop 1 area.now)) }
+{
+    for i in 1..area.len() {
+        put(text, ", ")?;
+        put_side(alloc, text, area.side(i))?;
+    }
+    Ok(())
 }
 
 /// A box: its sides in brackets.
 pub fn put_box(alloc: Global, text: &mut Vec<u8>, area: &BoxN) -> Result<(), AllocError>
     ensures { OnOk result (text.new.items ≡ text.old.items ++ box_text area.now) }
 {
-    let axes = area.len();
+    let _axes = area.len();
     put(text, "[")?;
     put_side(alloc, text, area.side(0))?;
-    for i in 1..axes {
-        put(text, ", ")?;
-        put_side(alloc, text, area.side(i))?;
-    }
+    put_further_sides(alloc, text, area)?;
     put(text, "]")
 }
 

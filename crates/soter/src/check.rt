@@ -7,10 +7,9 @@ ghost use Rattle.soter.specs.Steps.{Judges};
 ghost use Rattle.soter.specs.declared.words.Command.TheVariants.{Check as CheckCommand};
 
 use crate::answer::{Answer, accepted, faulty, refused};
-use sot_compose::check_all;
+use sot_compose::{CheckFail, check_all};
 use sot_lang::{Cert, Typed};
 use sot_report::{LoadFail, load};
-use sot_rta::CheckFail;
 use std::alloc::{AllocError, Global};
 
 // Checks a program with its certificate.

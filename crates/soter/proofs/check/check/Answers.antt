@@ -7,3 +7,6 @@ load-requires c = omega (arith, c.requires)
 
 pub returns-in-Ok : goal.returns-in-Ok
 returns-in-Ok c = judged_result c.judge.result c.args.bytes.now _ c.in-Ok.ensures.ok.mission c.judge.ensures
+
+pub returns-in-Err-Fault : goal.returns-in-Err-Fault
+returns-in-Err-Fault c = faulty_result c.faulty.result c.args.bytes.now c.in-Err-Fault.fault (c.in-Err-Fault.ensures.fault c.in-Err-Fault.fault c.in-Err-Fault.field-0-is) c.faulty.ensures.status c.faulty.ensures.text

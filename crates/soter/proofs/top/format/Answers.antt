@@ -12,6 +12,6 @@ returns-in-Err-Syntax c =
     let is = ap (λ e. Err e) c.in-Err-Syntax.field-0-is in
     let none = c.in-Err-Syntax.ensures.syntax c.in-Err-Syntax.fault is in
     let place = c.in-Err-Syntax.ensures.place c.in-Err-Syntax.fault is in
-    misspelled_result c.misspelled.result c.args.bytes.now c.in-Err-Syntax.fault
+    misspelled_result c.faulty.result c.args.bytes.now c.in-Err-Syntax.fault
     (rw (c.new.ensures.bytes, c.new.ensures.at) at none) (rw (c.new.ensures.bytes, c.new.ensures.at) at place)
-    c.misspelled.ensures.status c.misspelled.ensures.text
+    c.faulty.ensures.status c.faulty.ensures.text

@@ -1,0 +1,9 @@
+-- What the loop of `put_further_coordinates` keeps.
+use Rattle.std.proofs.Common.{◌≡◌, ◌++◌, drop}
+use Rattle.std.specs.Fmt.{signed_decimal}
+use Rattle.sot_report.specs.Pieces.{further}
+use Rattle.sot_report.proofs.piece.put_further_coordinates.Given as goal
+
+-- what is written, and then what is left
+abbrev pub invariant-loop-i : goal.invariant-loop-i
+invariant-loop-i l = l.text.items ++ further signed_decimal (drop l.i l.fn.point) ≡ l.initial.text.items ++ further signed_decimal (drop 1 l.fn.point)
