@@ -19,11 +19,11 @@ pub enum Outcome {
 /// Why an event cannot happen now.
 #[derive(Clone, Copy, Debug, PartialEq, Eq)]
 pub enum Why {
-    /// The node or the decision is not due at this time.
+    /// The node or the decision was not due in the last ticks, as many as the jitter and one.
     NotDue,
-    /// It is due and has fired in this instant.
+    /// It has fired already for the tick at which it was due.
     AlreadyFired,
-    /// A tick, while something is left to fire.
+    /// A tick, while a firing or a decision that is left is at its deadline.
     NodesLeft,
     /// A number of an input is outside its scalar's range, or a disturbance is outside its bounds.
     OutsideType,

@@ -79,15 +79,15 @@ spelled_faulty bytes m (faults.Cert f) x (parts, has, (p, t, spells, resolves, f
 
 -- what is accepted is neither refused nor rejected, and what is refused is not rejected
 not_refuted : (c : Command) (bytes text text' : List ℕ) → Accepts c bytes text → Refutes c bytes text' → ⊥
-not_refuted Check bytes text text' (m, spells, certified, safe, says) (n, spells', (r, refuses, says')) = accepted_refused bytes m n r spells spells' certified refuses
+not_refuted Check bytes text text' (m, spells, certified, safe, says) (n, spells', (r, refuses, says')) = accepted_refused bytes m n spells spells' r certified refuses
 not_refuted Format bytes text text' a r = r
 
 not_rejected : (c : Command) (bytes text text' : List ℕ) → Accepts c bytes text → Rejects c bytes text' → ⊥
-not_rejected Check bytes text text' (m, spells, accepted) (f, has, says) = spelled_faulty bytes m f spells has
+not_rejected Check bytes text text' (m, spells, certified, safe, says) (f, has, says') = spelled_faulty bytes m f spells has
 not_rejected Format bytes text text' a r = r.0 a.0 a.1
 
 refuted_not_rejected : (c : Command) (bytes text text' : List ℕ) → Refutes c bytes text → Rejects c bytes text' → ⊥
-refuted_not_rejected Check bytes text text' (m, spells, refused) (f, has, says) = spelled_faulty bytes m f spells has
+refuted_not_rejected Check bytes text text' (m, spells, (r, refuses, says)) (f, has, says') = spelled_faulty bytes m f spells has
 refuted_not_rejected Format bytes text text' a r = a
 
 -- a command answers one status

@@ -1,4 +1,6 @@
-use Rattle.std.proofs.Common.{arith}
+use Rattle.std.proofs.Common.{arith, subst}
+use Rattle.sot_report.specs.Missions.{HasFault}
+use Rattle.sot_report.specs.Loads.{IfFault}
 use Rattle.soter.proofs.Forms.{judged_result, faulty_result}
 use Rattle.soter.proofs.check.check.Goals as goal
 
@@ -9,4 +11,6 @@ pub returns-in-Ok : goal.returns-in-Ok
 returns-in-Ok c = judged_result c.judge.result c.args.bytes.now _ c.in-Ok.ensures.ok.mission c.judge.ensures
 
 pub returns-in-Err-Fault : goal.returns-in-Err-Fault
-returns-in-Err-Fault c = faulty_result c.faulty.result c.args.bytes.now c.in-Err-Fault.fault (c.in-Err-Fault.ensures.fault c.in-Err-Fault.fault c.in-Err-Fault.field-0-is) c.faulty.ensures.status c.faulty.ensures.text
+returns-in-Err-Fault c =
+    let has = subst (λ e. IfFault e (HasFault c.args.bytes.now)) c.in-Err-Fault.field-0-is c.in-Err-Fault.ensures.fault in
+    faulty_result c.faulty.result c.args.bytes.now c.in-Err-Fault.fault has c.faulty.ensures.status c.faulty.ensures.text
