@@ -1,5 +1,5 @@
-//! What texts say as certificates of the worked missions, and their first faults. Expected values are worked out by hand from
-//! the format, and an independent reader agrees with each of them.
+//! What texts say as certificates of the worked missions, and their first faults. Expected answers come from an independent
+//! reader of the format.
 mod bytes;
 mod faults;
 mod limits;

@@ -1,5 +1,5 @@
 -- Items with a comma between two.
-use Rattle.std.proofs.Common.{◌≡◌, ℕ, ◌+◌, List, ◌∷◌, ◌++◌, codes, drop, ap, sym, ◌∙◌, append_assoc}
+use Rattle.std.proofs.Common.{◌≡◌, ℕ, ◌+◌, List, ◌++◌, codes, drop, ap, sym, ◌∙◌, append_assoc}
 use Rattle.sot_lists.specs.Places.{At}
 use Rattle.sot_lists.proofs.Places.{drop_at}
 use Rattle.sot_report.specs.Pieces.{further, listed}

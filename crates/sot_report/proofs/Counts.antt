@@ -1,7 +1,6 @@
 -- The cells of a certificate are few.
-use Rattle.std.proofs.Common.{◌≡◌, ℕ, suc, ◌+◌, ◌*◌, ◌<◌, ◌≤◌, Option, None, Some, List, [], ◌∷◌, length, drop, drop-cons, add-one, get_or, refl, sym, ap, ap₂, ◌∙◌, subst, arith, ⊎_elim}
+use Rattle.std.proofs.Common.{◌≡◌, ℕ, suc, ◌+◌, ◌*◌, ◌<◌, ◌≤◌, Option, None, Some, List, [], ◌∷◌, length, drop, drop-cons, add-one, get_or, refl, sym, ap, ap₂, ◌∙◌, arith}
 use Rattle.std.proofs.lemmas.Option.{slice_get_within}
-use Rattle.sot_lists.specs.Places.{At}
 use Rattle.sot_lists.proofs.Places.{at_below}
 use Rattle.sot_lang.specs.declared.cert.Cells.{Cells}
 use Rattle.sot_lang.specs.declared.cert.Cert.{Cert}

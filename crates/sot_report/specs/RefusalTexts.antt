@@ -1,5 +1,5 @@
 -- The line of each refusal: the number and name of the condition that fails, and its evidence.
-use Rattle.std.specs.Prelude.{ℕ, ℤ, Bool, true, false, List, [], ◌∷◌, ◌++◌, codes}
+use Rattle.std.specs.Prelude.{ℕ, ℤ, Bool, true, false, List, ◌++◌, codes}
 use Rattle.std.specs.Fmt.{decimal}
 use Rattle.sot_text.specs.declared.token.Span.{Span}
 use Rattle.sot_box.specs.Sides.{Side}

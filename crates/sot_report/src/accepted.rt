@@ -34,7 +34,12 @@ fn cell_count(entries: &[Option<Cells>]) -> u64
 }
 
 // The line of counts, behind `accepted`.
-fn counts_text(alloc: Global, modules: usize, nodes: usize, cells: u64) -> Result<String, AllocError>
+fn counts_text(
+    alloc: Global,
+    modules: usize,
+    nodes: usize,
+    cells: u64,
+) -> Result<String, AllocError>
     ensures { IfOk result (λ text. string_bytes text ≡ counts_text modules nodes cells) }
 {
     let text = format!(in alloc; "accepted\nmodules {modules} nodes {nodes} cells {cells}\n")?;

@@ -89,7 +89,11 @@ fn put_coordinate(alloc: Global, text: &mut Vec<u8>, coordinate: i64) -> Result<
 }
 
 // The coordinates after the first, each behind a comma.
-fn put_further_coordinates(alloc: Global, text: &mut Vec<u8>, point: &Point) -> Result<(), AllocError>
+fn put_further_coordinates(
+    alloc: Global,
+    text: &mut Vec<u8>,
+    point: &Point,
+) -> Result<(), AllocError>
     ensures { OnOk result (text.new.items ≡ text.old.items ++ further signed_decimal (drop 1 point.now)) }
 {
     for i in 1..point.len() {

@@ -1,8 +1,8 @@
 -- Due times and deadlines.
-use Rattle.std.proofs.Common.{◌≡◌, ◌≢◌, ℕ, ◌+◌, ◌-◌, ◌<◌, ◌≤◌, ⊎_elim, sym, subst, arith}
+use Rattle.std.proofs.Common.{◌≡◌, ℕ, ◌-◌, ◌<◌, ◌≤◌, ⊎_elim, subst, arith}
 use Rattle.std.proofs.lemmas.Bool.{cases_lt}
 use Rattle.sot_calendar.specs.Due.{IsDue, IsLastDue, IsDeadline}
-use Rattle.sot_calendar.proofs.Clock.{due_gap, last_same}
+use Rattle.sot_calendar.proofs.Clock.{due_gap}
 
 -- a due time that is the jitter ago is the last one, since the jitter is below the period
 pub last_before : (j p o t : ℕ) → j < p → o < p → j ≤ t → IsDue p o (t - j) → IsLastDue p o t (t - j)

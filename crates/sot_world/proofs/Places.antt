@@ -1,15 +1,13 @@
 -- Lists from a place on, and what is said of their elements.
 use Rattle.std.specs.Prelude.{slice_get}
 use Rattle.std.proofs.lemmas.Bool.{cases_lt}
-use Rattle.std.proofs.Common.{⊎_elim, arith, ◌≡◌, ℕ, zero, suc, ◌+◌, ◌<◌, ℤ, Bool, IsTrue, FitsSigned, w64, to_z, of_z, to_z-of_z, ◌↔◌, List, [], ◌∷◌, map, length, drop, sym, ap, ◌∙◌, subst, add-one}
-use Rattle.std.proofs.lemmas.Option.{none-some, same_Some, get_or_from_slice_get}
-use Rattle.sot_box.specs.Sides.{Side, IsIn, nought}
+use Rattle.std.proofs.Common.{⊎_elim, arith, ◌≡◌, ℕ, ◌+◌, ◌<◌, ℤ, Bool, IsTrue, FitsSigned, w64, to_z, of_z, to_z-of_z, ◌↔◌, List, ◌∷◌, length, drop, sym, ap, ◌∙◌, subst}
+use Rattle.std.proofs.lemmas.Option.{same_Some}
+use Rattle.sot_box.specs.Sides.{Side, IsIn}
 use Rattle.sot_lists.specs.Places.{At}
 use Rattle.sot_box.specs.Boxes.{IsWithin}
-use Rattle.sot_lang.specs.declared.tables.ScalarInfo.{ScalarInfo}
 use Rattle.sot_lang.specs.declared.tables.PlantInfo.{PlantInfo}
-use Rattle.sot_lang.specs.Ranges.{range_of}
-use Rattle.sot_lists.proofs.Places.{at_map, drop_at}
+use Rattle.sot_lists.proofs.Places.{drop_at}
 use Rattle.sot_world.specs.Events.{IsInBounds, noise_count}
 
 -- what is within from a place on is what is within there and from the next place on

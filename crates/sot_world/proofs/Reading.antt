@@ -1,14 +1,10 @@
 -- What reads of lists tell.
-use Rattle.std.proofs.Common.{◌≡◌, ℕ, ◌+◌, ◌-◌, ◌<◌, ◌≤◌, Bool, false, List, length, get_or, slice_index_or, refl, sym, subst, arith, ⊎_elim, ◌↔◌}
-use Rattle.std.proofs.lemmas.Option.{slice_get_read, slice_get_within, slice_get_cases, get_or_from_slice_get}
-use Rattle.std.proofs.lemmas.List.{get_or_past}
+use Rattle.std.proofs.Common.{◌≡◌, ℕ, ◌+◌, ◌-◌, ◌≤◌, Bool, false, List, length, get_or, slice_index_or, sym, subst, arith}
+use Rattle.std.proofs.lemmas.Option.{slice_get_within}
 use Rattle.sot_lists.specs.Places.{At}
 use Rattle.sot_lang.specs.declared.tables.TopicInfo.{TopicInfo}
 use Rattle.sot_lang.specs.Tables.{Tables}
 use Rattle.sot_lang.specs.TableRules.{MeetsTableRules}
-use Rattle.sot_world.specs.Configurations.{Configuration}
-use Rattle.sot_world.specs.Calendar.{NothingLeft}
-use Rattle.sot_world.specs.Invariant.{KeepsInvariant}
 
 -- a flag that was read as false
 pub read_false : (xs ys : List Bool) (k : ℕ) (x : Bool) → xs ≡ ys → x ≡ get_or xs k x → x ≡ false → slice_index_or ys k false ≡ false

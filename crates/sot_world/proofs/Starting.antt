@@ -1,17 +1,15 @@
 -- Where modules start.
 use Rattle.std.specs.Prelude.{◌==◌}
-use Rattle.std.proofs.Common.{◌-◌, ◌%◌, ◌↔◌, Bool, true, false, map, ◌≡◌, ℕ, zero, suc, ◌+◌, ◌<◌, ℤ, ⊎_elim, List, [], ◌∷◌, length, get_or, slice_index_or, refl, sym, ap, ◌∙◌, subst, arith}
+use Rattle.std.proofs.Common.{◌-◌, ◌%◌, ◌↔◌, Bool, true, false, map, ◌≡◌, ℕ, ◌+◌, ◌<◌, ℤ, ⊎_elim, List, [], length, get_or, slice_index_or, refl, sym, ap, ◌∙◌, subst, arith}
 use Rattle.std.proofs.lemmas.Bool.{cases_lt, eqb-true, eq-eqb}
 use Rattle.std.proofs.lemmas.List.{length-map}
 use Rattle.std.proofs.Math.Nat.{zero-mod}
 use Rattle.std.proofs.lemmas.Option.{slice_get_within, none-some, same_Some, get_or_from_slice_get}
 use Rattle.sot_lists.specs.Places.{At}
 use Rattle.sot_box.specs.Regions.{IsInRegion}
-use Rattle.sot_lang.specs.declared.tables.PlantInfo.{PlantInfo}
 use Rattle.sot_lang.specs.declared.tables.ModuleInfo.{ModuleInfo}
 use Rattle.sot_lang.specs.Tables.{Tables}
 use Rattle.sot_lang.specs.TableRules.{MeetsTableRules}
-use Rattle.sot_lang.specs.OwnerNames.{width_of}
 use Rattle.sot_lists.proofs.Places.{at_map}
 use Rattle.sot_calendar.specs.Due.{IsDue}
 use Rattle.sot_tube.specs.Admitted.{Admitted}

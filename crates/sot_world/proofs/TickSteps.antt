@@ -1,7 +1,6 @@
 -- A world's tick is a step of the semantics.
-use Rattle.std.proofs.Common.{◌≡◌, ℕ, suc, ◌<◌, ℤ, Bool, true, false, ◌⊎◌, ◌↔◌, inr, ⊎_elim, List, [], length, refl, sym, ◌∙◌, subst, arith}
+use Rattle.std.proofs.Common.{◌≡◌, ℕ, suc, ◌<◌, ℤ, Bool, true, false, ◌⊎◌, ◌↔◌, List, [], length, refl, sym, ◌∙◌, subst, arith}
 use Rattle.std.specs.Prelude.{slice_index_or}
-use Rattle.std.proofs.lemmas.Bool.{false≢true}
 use Rattle.std.proofs.lemmas.List.{length-map}
 use Rattle.std.proofs.lemmas.Option.{slice_get_within}
 use Rattle.sot_box.specs.Sides.{Side}

@@ -54,12 +54,12 @@ fn drifting_tube(alloc: Global, from: Ends, ticks: u32) -> Result<Answer, AllocE
 
 fn line_keeps(alloc: Global, x: i64) -> Result<bool, AllocError> {
     let p = line(alloc)?;
-    Ok(keeps(&p, 0, &at(x)))
+    Ok(keeps(&p, 0, &at(x), 0))
 }
 
 fn drifting_line_keeps(alloc: Global, x: i64) -> Result<bool, AllocError> {
     let p = drifting_line(alloc)?;
-    Ok(keeps(&p, 0, &at(x)))
+    Ok(keeps(&p, 0, &at(x), 0))
 }
 
 // The least place of the box is outside.

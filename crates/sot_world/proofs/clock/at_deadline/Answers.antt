@@ -1,4 +1,3 @@
-use Rattle.std.proofs.Common.{◌≤◌, arith}
 use Rattle.sot_world.proofs.Deadlines.{deadline_is, deadline_was}
 use Rattle.sot_world.proofs.clock.at_deadline.Goals as goal
 
