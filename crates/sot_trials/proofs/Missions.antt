@@ -3,12 +3,13 @@ use Rattle.std.proofs.Common.{◌≡◌, ◌<◌, ℤ, List, [], ◌∷◌, leng
 use Rattle.std.specs.Prelude.{slice_index_or}
 use Rattle.std.proofs.lemmas.Option.{none-some}
 use Rattle.sot_lists.specs.Places.{At}
+use Rattle.sot_lang.specs.declared.tables.NodeInfo.{NodeInfo}
 use Rattle.sot_lang.specs.declared.tables.ModuleInfo.{ModuleInfo}
 use Rattle.sot_lang.specs.declared.tables.PlantInfo.{PlantInfo}
 use Rattle.sot_lang.specs.declared.term.Term.{Term}
 use Rattle.sot_lang.specs.Tables.{Tables}
 use Rattle.sot_lang.specs.OwnerNames.{width_of}
-use Rattle.sot_lists.proofs.ShortLists.{at_one}
+use Rattle.sot_lists.proofs.ShortLists.{at_one, at_two}
 use Rattle.sot_worked.specs.Line.{IsLine, nav}
 use Rattle.sot_worked.specs.Divide.{IsDivide}
 use Rattle.sot_world.specs.Opens.{AreStarts}
@@ -22,6 +23,9 @@ module _ (N : Term → Type 0) (p : Tables) (h : IsLine N p) where
   line_widths = record {
     modules = ap length h.modules;
     plants = λ m info at. at_one (λ m (a : ModuleInfo). width_of p.plants a.plant ≡ slice_index_or (1 ∷ []) m 0) nav line_width m info (subst (λ (l : List ModuleInfo). At l m info) h.modules at);
+    node_periods = λ n node at. at_two (λ n (a : NodeInfo). 0 < a.period) h.nodes.0 h.nodes.1 (omega (arith, h.nodes.2.period)) (omega (arith, h.nodes.3.period)) n node
+        (subst (λ (l : List NodeInfo). At l n node) h.nodes.4 at);
+    module_periods = λ m info at. at_one (λ m (a : ModuleInfo). 0 < a.period) nav (omega arith) m info (subst (λ (l : List ModuleInfo). At l m info) h.modules at);
   }
 
   pub line_starts : (start : List (List ℤ)) (s : List ℤ) → start ≡ s ∷ [] → length s ≡ 1 → AreStarts p start
@@ -47,4 +51,6 @@ pub divide_widths : (D : Term → Type 0) (p : Tables) → IsDivide D p → HasW
 divide_widths D p h = record {
   modules = ap length h.modules;
   plants = λ m info at. absurd (none-some info (subst (λ (l : List ModuleInfo). At l m info) h.modules at));
+  node_periods = λ n node at. at_one (λ n (a : NodeInfo). 0 < a.period) h.nodes.0 (omega (arith, h.nodes.1.period)) n node (subst (λ (l : List NodeInfo). At l n node) h.nodes.2 at);
+  module_periods = λ m info at. absurd (none-some info (subst (λ (l : List ModuleInfo). At l m info) h.modules at));
 }
