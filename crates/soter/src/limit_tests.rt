@@ -3,6 +3,7 @@
 use super::*;
 use crate::check_tests::{MODULE, OWN_MODULE, checked, mission};
 use std::alloc::Global;
+use std::process::Abort;
 use std::test::Fail;
 
 // A limit: in a program of these pieces around it, a piece may stand so many times and not once more.
@@ -35,6 +36,26 @@ fn at(alloc: Global, limit: &Limit, count: u32) -> Result<(u8, Vec<u8>), Fail> {
     pieces.push((count, limit.piece))?;
     pieces.push((1, limit.back))?;
     checked(alloc, &mission(alloc, &pieces)?)
+}
+
+// At this number of pieces this is said, of a fault or of none.
+fn tells(
+    rt: &impl Abort,
+    alloc: Global,
+    limit: &Limit,
+    count: u32,
+    is_fault: bool,
+    said: &str,
+) -> Result<(), Fail> {
+    let name = limit.name;
+    let (status, text) = at(alloc, limit, count)?;
+    assert_eq!(rt; status == 3, is_fault, "of {name}");
+    assert_eq!(rt;
+        text.as_slice(),
+        format!(in alloc; "{said}\n")?.as_bytes(),
+        "of {name}"
+    );
+    Ok(())
 }
 
 #[test]
@@ -182,23 +203,15 @@ fn counts_up_to_its_limits(rt: HostRuntime) -> Result<(), Fail> {
             fault: "fault type line 1 column 8137 TooMany",
         },
     ] {
-        let name = limit.name;
-        let (status, text) = at(alloc, &limit, limit.most)?;
-        let holds = limit.holds;
-        assert!(rt; status < 3, "of {name}");
-        assert_eq!(rt;
-            text.as_slice(),
-            format!(in alloc; "{holds}\n")?.as_bytes(),
-            "of {name}"
-        );
-        let (status, text) = at(alloc, &limit, limit.most.saturating_add(1))?;
-        let fault = limit.fault;
-        assert_eq!(rt; status, 3, "of {name}");
-        assert_eq!(rt;
-            text.as_slice(),
-            format!(in alloc; "{fault}\n")?.as_bytes(),
-            "of {name}"
-        );
+        tells(&rt, alloc, &limit, limit.most, false, limit.holds)?;
+        tells(
+            &rt,
+            alloc,
+            &limit,
+            limit.most.saturating_add(1),
+            true,
+            limit.fault,
+        )?;
     }
     Ok(())
 }
