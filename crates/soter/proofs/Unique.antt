@@ -1,8 +1,7 @@
 -- A text decides one status.
-use Rattle.std.proofs.Common.{◌≡◌, ℕ, List, [], ◌∷◌, Result, Ok, Err, inl, inr, refl, sym, ap, ◌∙◌, subst, arith, codes, Global}
+use Rattle.std.proofs.Common.{◌≡◌, ℕ, List, [], ◌∷◌, Result, Ok, inl, inr, refl, sym, ap, ◌∙◌, subst, arith, codes, Global}
 use Rattle.std.specs.Prelude.{String}
 use Rattle.sot_text.specs.declared.mission.Need.TheVariants as needs
-use Rattle.sot_text.specs.declared.mission.SectionFault.{SectionFault}
 use Rattle.sot_text.specs.Sections.{Parts, split_of}
 use Rattle.sot_tree.specs.Trees.{Program}
 use Rattle.sot_lang.specs.Tables.{Tables}
@@ -11,7 +10,6 @@ use Rattle.sot_parser.proofs.ProgramTexts.{spells_unique}
 use Rattle.sot_rules.specs.First.{IsFaultless}
 use Rattle.sot_typing.specs.Resolved.{tables_seen, tables_of}
 use Rattle.sot_cert.specs.CertFormat.{Contents, contents, cert_of}
-use Rattle.sot_cert.specs.Says.{Says}
 use Rattle.sot_tube.specs.Certified.{IsWellCertified}
 use Rattle.sot_tube.specs.Refusals.{Refusal}
 use Rattle.sot_tube.proofs.Acceptance.{certified_passes}
