@@ -63,7 +63,8 @@ fn code_of(p: &Typed, node: u32, info: &NodeInfo) -> Result<(), Refusal>
     }
 }
 
-fn codes(p: &Typed) -> Result<(), Refusal>
+/// Whether each coded node never traps, whatever it meets; else the first that may. Takes no memory.
+pub fn check_codes(p: &Typed) -> Result<(), Refusal>
     requires rules { MeetsTableRules p.now }
     requires boxes { HaveSafeBoxes p.now }
     ensures { Answers (for_each p.now.nodes (code p.now)) result }
@@ -102,7 +103,7 @@ fn checked(p: &Typed, c: &Cert) -> Result<(), Refusal>
     if let Err(refusal) = shapes(p, c) {
         return Err(refusal);
     }
-    if let Err(refusal) = codes(p) {
+    if let Err(refusal) = check_codes(p) {
         return Err(refusal);
     }
     cells(p, c)

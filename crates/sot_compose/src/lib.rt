@@ -12,5 +12,6 @@ mod fail;
 mod outputs;
 mod parts;
 
-pub use check::check_all;
+pub use check::{check_all, check_codes};
+pub use composition::check_composition;
 pub use fail::CheckFail;

@@ -86,7 +86,9 @@ fn held_tube(
     held_inside(p, module, cell, held.as_slice(), sc.period + jitter)
 }
 
-fn closed_cell(
+/// Whether one closed cell keeps: the safe region covers it, and its held tube stays inside for the safe node's period, longer by
+/// the jitter. `i` is the number that a refusal gives the cell. Takes no memory.
+pub fn check_closed_cell(
     p: &Typed,
     jitter: u32,
     module: u32,
@@ -117,7 +119,9 @@ fn closed_cell(
     }
 }
 
-fn reach_cell(
+/// Whether one reach cell keeps: its tube stays in the safe region for two periods of the module, each longer by the jitter. `i` is
+/// the number that a refusal gives the cell. Takes no memory.
+pub fn check_reach_cell(
     p: &Typed,
     jitter: u32,
     module: u32,
@@ -154,7 +158,7 @@ fn closed_cells(
 {
     for i in 0..closed.len() as u32 {
         let cell = closed.at(i as usize);
-        if let Err(refusal) = closed_cell(p, jitter, module, info, i, &cell) {
+        if let Err(refusal) = check_closed_cell(p, jitter, module, info, i, &cell) {
             return Err(refusal);
         }
     }
@@ -177,7 +181,7 @@ fn reach_cells(
 {
     for i in 0..reach.len() as u32 {
         let cell = reach.at(i as usize);
-        if let Err(refusal) = reach_cell(p, jitter, module, info, i, &cell) {
+        if let Err(refusal) = check_reach_cell(p, jitter, module, info, i, &cell) {
             return Err(refusal);
         }
     }

@@ -59,7 +59,8 @@ fn outputs(p: &Typed, module: u32, info: &ModuleInfo) -> Result<(), Refusal>
     }
 }
 
-fn boxes(module: u32, info: &ModuleInfo) -> Result<(), Refusal>
+/// Whether neither region of a module is empty, the safe one first. Takes no memory.
+pub fn check_regions(module: u32, info: &ModuleInfo) -> Result<(), Refusal>
     ensures { Answers (boxes «module» info.now) result }
 {
     if info.safe.len() == 0 {
@@ -93,7 +94,7 @@ fn shape_of(p: &Typed, module: u32, info: &ModuleInfo, c: &Cert) -> Result<(), R
     if let Err(refusal) = outputs(p, module, info) {
         return Err(refusal);
     }
-    boxes(module, info)
+    check_regions(module, info)
 }
 
 // The periods and the outputs of a module that was found.

@@ -26,7 +26,6 @@ pub mod Starting
 pub mod Unsafe
 pub mod TwinSteps
 pub mod Possible
-pub mod RelayFlight
 pub mod Parts
 pub mod Stepping
 pub mod RoleModes

@@ -1,5 +1,5 @@
 -- Configurations of the running example and of two small programs beside it, for the worked steps.
-use Rattle.std.specs.Prelude.{ℕ, ℤ, pos, negsuc, true, false, Option, Some, None, List, [], ◌∷◌}
+use Rattle.std.specs.Prelude.{ℕ, ℤ, pos, negsuc, true, false, Some, None, List, [], ◌∷◌}
 use Rattle.std.proofs.Common.{refl}
 use Rattle.std.specs.Global.{Global}
 use Rattle.sot_tree.specs.declared.operator.Op.TheVariants.{Add, Div}
@@ -14,8 +14,7 @@ use Rattle.sot_lang.specs.Tables.{Tables}
 use Rattle.sot_lang.specs.Line.{line, fast, slow, nav, pos_plant, side, vec, boxed, somewhere}
 use Rattle.sot_lang.specs.declared.tables.PlantInfo.{PlantInfo}
 use Rattle.sot_box.specs.BoxList.{BoxList}
-use Rattle.sot_world.specs.Steps.{Event, Input, Code, Guest, Decide, Tick}
-use Rattle.sot_world.specs.Flights.{Flight}
+use Rattle.sot_world.specs.Steps.{Event, Code, Guest, Decide, Tick}
 use Rattle.sot_world.specs.Configurations.{Configuration, Mode, Ac, Sc}
 
 -- the opening of the running example at 0
@@ -190,20 +189,3 @@ twins_at t = record { time = t; left = []; left_dm = true ∷ true ∷ []; modes
 -- with no decision left
 abbrev pub twins_idle : ℕ → Configuration
 twins_idle t = record (twins_at t) { left_dm = false ∷ false ∷ [] }
-
--- a flight of the relay: no tick, and one input of 5
-abbrev pub relay_flight : Flight
-relay_flight = record { horizon = 0; start = []; inputs = record { at = 0; topic = 0; value = pos 5 ∷ [] } ∷ [] }
-
--- it states no disturbance and no draft: any would be as stated
-abbrev pub any_sway : ℕ → List (List ℤ) → Type 0
-any_sway time noise = Unit {0}
-
-abbrev pub any_draft : ℕ → ℕ → List (Option ℤ) → Type 0
-any_draft node firing draft = Unit {0}
-
-abbrev pub relay_events : List Event
-relay_events = Input 0 (pos 5 ∷ []) ∷ Code 0 ∷ []
-
-abbrev pub relay_configurations : List Configuration
-relay_configurations = relaying (pos 5) (pos 0) ∷ record (relaying (pos 5) (pos 5)) { left = false ∷ [] } ∷ []

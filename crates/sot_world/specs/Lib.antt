@@ -8,7 +8,6 @@ pub mod Progress
 pub mod Examples
 pub mod Publication
 pub mod Calendar
-pub mod Flights
 pub mod HistoryEntry
 pub mod Histories
 pub mod HistoryRecords

@@ -9,8 +9,7 @@ ghost use Rattle.sot_world.specs.Outcomes.{Records, InputTaken, NodeFired, Modul
 ghost use Rattle.sot_tube.specs.Examples.{line1};
 ghost use Rattle.sot_world.specs.Runs.{Run};
 ghost use Rattle.sot_world.specs.Headline.{IsSafeNow, EveryRunIsSafe};
-ghost use Rattle.sot_world.specs.Flights.{IsFlown};
-ghost use Rattle.sot_world.specs.Examples.{at_opening, decided, refused, drafted, settled, ticked, second, deciding, braking, counting, idle_counter, relay, relaying, line_events, line_configurations, narrow, drifting, dividing, far_relay, twins, twins_at, twins_idle, relay_flight, relay_events, relay_configurations, any_sway, any_draft};
+ghost use Rattle.sot_world.specs.Examples.{at_opening, decided, refused, drafted, settled, ticked, second, deciding, braking, counting, idle_counter, relay, relaying, line_events, line_configurations, narrow, drifting, dividing, far_relay, twins, twins_at, twins_idle};
 
 /// The running example opens at 0, inside its safer region, with all that is due left to fire and one point for its plant.
 pub fn line_opens()
@@ -71,12 +70,6 @@ pub fn relay_takes_inputs()
     ensures no_10 { (g : Global) (D : Configuration) → Step (relay g) 0 (relaying (pos 0) (pos 0)) (Input 0 (pos 10 ∷ [])) D → ⊥ }
     ensures no_more { (g : Global) (D : Configuration) → Step (relay g) 0 (relaying (pos 0) (pos 0)) (Input 0 (pos 5 ∷ pos 5 ∷ [])) D → ⊥ }
     ensures no_fewer { (g : Global) (D : Configuration) → Step (relay g) 0 (relaying (pos 0) (pos 0)) (Input 0 []) D → ⊥ }
-{}
-
-/// A flight of the relay is flown with its input and its firing, and not where the input is left out.
-pub fn relay_is_flown()
-    ensures flown { (g : Global) → IsFlown any_sway any_draft (relay g) 0 relay_flight (relaying (pos 0) (pos 0)) relay_events relay_configurations }
-    ensures input_left_out { (g : Global) → IsFlown any_sway any_draft (relay g) 0 relay_flight (relaying (pos 0) (pos 0)) (Code 0 ∷ []) (record (relaying (pos 0) (pos 0)) { left = false ∷ [] } ∷ []) → ⊥ }
 {}
 
 /// Every run of the running example is safe, and here is one, with its end.

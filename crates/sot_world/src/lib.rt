@@ -25,7 +25,7 @@ mod world;
 pub use event::Event;
 pub use examples::{
     disabled_nodes_publish_nothing, line_decides, line_fires, line_is_safe, line_opens,
-    line_switches, line_ticks, relay_is_flown, relay_takes_inputs, some_are_not_safe, twins_step,
+    line_switches, line_ticks, relay_takes_inputs, some_are_not_safe, twins_step,
 };
 pub use history::{Entry, History};
 pub use mode::Mode;

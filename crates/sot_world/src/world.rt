@@ -7,6 +7,7 @@ ghost use Rattle.sot_world.specs.Configurations.{is_left, is_left_dm, mode_of, n
 ghost use Rattle.sot_world.specs.Opens.{AreStarts, StartInside, IsFirstOutside, IfNotSafer};
 ghost use Rattle.sot_world.specs.Events.{Names, IsPossible, Refuses, RefusesNode, RefusesDecision, RefusesInput, RefusesTick, IsTypedInput, IsInBounds, noise_count};
 ghost use Rattle.sot_world.specs.Steps.{MayTick};
+ghost use Rattle.sot_world.specs.State.{IsKept};
 
 use crate::clock::{due_within, no_decision_at_deadline, no_node_at_deadline};
 use crate::event::Event;
@@ -20,6 +21,7 @@ use crate::starts::{
 };
 use sot_box::Point;
 use sot_code::Locals;
+use sot_lang::Typed;
 use sot_tube::Accepted;
 use std::alloc::{AllocError, Global};
 use std::marker::Model;
@@ -119,6 +121,21 @@ impl<'a> World<'a> {
             points,
             next,
         })
+    }
+
+    /// What the type keeps, as a fact: the tables are in form, the certificate holds, and the configuration satisfies the invariant.
+    pub fn keeps_invariant(&self)
+        ensures { IsKept self.now.accepted self.now.at }
+    {
+        // A look at a field brings what the type keeps.
+        let _time = self.time;
+    }
+
+    /// The program, which lives on where this value does not.
+    pub fn typed(&self) -> &'a Typed
+        ensures { result.now ≡ self.now.accepted.program }
+    {
+        self.accepted.typed()
     }
 
     /// The count of ticks so far, at most 100,000.
@@ -249,7 +266,8 @@ impl<'a> World<'a> {
         }
     }
 
-    fn may_tick(&self) -> bool
+    /// Whether nothing that is left to fire or to decide has its deadline now.
+    pub fn may_tick(&self) -> bool
         ensures { IsTrue result ↔ MayTick self.now.accepted.program self.now.accepted.cert.jitter self.now.at }
     {
         let p = self.accepted.typed();

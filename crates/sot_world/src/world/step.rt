@@ -7,7 +7,8 @@ ghost use Rattle.sot_lang.specs.declared.act.Act.{Act};
 ghost use Rattle.sot_lang.specs.declared.tables.TopicInfo.{TopicInfo};
 ghost use Rattle.sot_lang.specs.declared.tables.NodeInfo.{NodeInfo};
 ghost use Rattle.sot_lang.specs.TableRules.{IsCoded};
-ghost use Rattle.sot_world.specs.Configurations.{is_left, is_left_dm, mode_of};
+ghost use Rattle.sot_world.specs.Configurations.{is_left, is_left_dm, mode_of, locals_of};
+ghost use Rattle.sot_world.specs.Changes.{IsRun};
 ghost use Rattle.sot_world.specs.Steps as steps;
 ghost use Rattle.sot_world.specs.Events.{Names, IsPossible, IsTypedInput, IsInBounds, event_of, noise_count, cut, slot_count, outcome_of};
 ghost use Rattle.sot_world.specs.Outcomes.{Recorded, RecordsCode, NodeFired};
@@ -21,6 +22,7 @@ use crate::input::write;
 use crate::mode::Mode;
 use crate::outcome::Outcome;
 use crate::tick::{leave_decisions, leave_nodes, move_all};
+use sot_code::Fired;
 use sot_lang::Draft;
 use std::mem::swap;
 
@@ -99,6 +101,20 @@ impl<'a> World<'a> {
             &self.points,
             &self.locals[node as usize],
         );
+        self.commit(node, &fired)
+    }
+
+    /// A coded node, which is left, fires with what its body gives on the present numbers and its locals, which the caller has
+    /// computed. The outcome has that draft, and whether the node is enabled.
+    pub fn commit(&mut self, node: u32, fired: &Fired) -> Outcome
+        requires coded { (info : NodeInfo) × (acts : List Act) × At self.old.accepted.program.nodes node info × IsCoded info acts }
+        requires left { is_left self.old.at node ≡ true }
+        requires run { IsRun self.old.accepted.program node self.old.at.scalars self.old.at.points (locals_of self.old.at node) fired.now }
+        ensures step { steps.CodeFires self.old.accepted.program node self.old.at self.new.at }
+        ensures accepted { self.new.accepted ≡ self.old.accepted }
+        ensures outcome { (r : Recorded) × RecordsCode self.old.accepted.program node self.old.at r × (result ≡ outcome_of r) }
+    {
+        let p = self.accepted.typed();
         let enabled = enables(self.roles[node as usize], &self.modes);
         let writes = &p.nodes[node as usize].writes;
         publish_if(enabled, p, writes, &fired.draft, &mut self.scalars);

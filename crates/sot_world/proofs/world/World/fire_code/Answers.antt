@@ -1,24 +1,14 @@
-use Rattle.std.proofs.Common.{◌≡◌, ◌<◌, ◌≤◌, List, [], true, length, refl, sym, ap, ◌∙◌, subst, arith}
-use Rattle.std.specs.Prelude.{slice_set}
-use Rattle.std.specs.Vec.{with_items}
-use Rattle.std.proofs.lemmas.List.{with_items_is}
+use Rattle.std.proofs.Common.{◌<◌, List, [], length, sym, subst, arith}
 use Rattle.std.proofs.lemmas.Option.{slice_get_within}
 use Rattle.sot_lists.specs.Places.{At}
 use Rattle.sot_lang.specs.declared.act.Act.{Act}
 use Rattle.sot_lang.specs.declared.tables.NodeInfo.{NodeInfo}
 use Rattle.sot_lang.specs.TableRules.{IsCoded}
-use Rattle.sot_lists.proofs.Places.{at_same, read_at, read_or}
-use Rattle.sot_world.specs.Configurations.{is_left}
-use Rattle.sot_world.specs.Steps.{Code}
-use Rattle.sot_world.specs.declared.outcome.Outcome.TheVariants as outcome
-use Rattle.sot_world.specs.Outcomes.{Recorded, RecordsCode}
-use Rattle.sot_world.specs.Events.{outcome_of}
-use Rattle.sot_world.specs.Changes.{role_enables, IsOfModule}
+use Rattle.sot_lists.proofs.Places.{read_or}
+use Rattle.sot_world.specs.Configurations.{locals_of}
+use Rattle.sot_world.specs.Changes.{IsRun}
 use Rattle.sot_world.specs.WorldView.{configuration}
-use Rattle.sot_world.proofs.Safety.{code_runs}
-use Rattle.sot_world.proofs.RoleModes.{role_enabled, role_inside}
-use Rattle.sot_world.proofs.FiringSteps.{may_run, code_so, code_recorded, runs_along, run_along, published_along}
-use Rattle.sot_world.proofs.Stepping.{well_formed, step_kept, step_along}
+use Rattle.sot_world.proofs.FiringSteps.{may_run, runs_along, run_along}
 use Rattle.sot_world.proofs.world.World.fire_code.Goals as goal
 
 pub run-fired-requires : goal.run-fired-requires
@@ -32,43 +22,8 @@ run-fired-requires c =
     let locals = read_or C.locals c.args.node _ [] locals_there c.index.ensures in
     runs_along _ _ c.args.node _ _ _ _ _ _ c.typed-p.ensures.program c.deref.ensures.value c.deref-2.ensures.value locals (may_run a C kept c.args.node coded.0 coded.1 coded.2 coded.3)
 
-pub enables-enabled-requires : goal.enables-enabled-requires
-enables-enabled-requires c =
-    let C = configuration c.self.inside in
-    let a = c.self.inside.accepted.now in
-    let kept = c.self.invariant.kept in
-    let coded = subst (λ s. (info : NodeInfo) × (acts : List Act) × At s.accepted.program.nodes c.args.node info × IsCoded info acts) (sym c.self.view_is) c.requires.coded in
-    let there = slice_get_within a.program.nodes c.args.node coded.0 coded.2 in
-    let role_there : c.args.node < length c.self.inside.roles.items = omega (arith, there, c.self.invariant.roles.each) in
-    let role = c.self.invariant.roles.are c.args.node _ (read_at _ _ c.args.node _ refl role_there c.index-2.ensures) in
-    subst (λ l. IsOfModule c.index-2.result.now (length l)) (sym c.deref-3.ensures.value) (role_inside a.program kept.rules.typed (well_formed a C kept) C c.args.node c.index-2.result.now kept.holds.sizes.modes role)
-
-pub publish_if-requires-clause-few : goal.publish_if-requires-clause-few
-publish_if-requires-clause-few c =
-    let C = configuration c.self.inside in
-    let a = c.self.inside.accepted.now in
-    let kept = c.self.invariant.kept in
-    let coded = subst (λ s. (info : NodeInfo) × (acts : List Act) × At s.accepted.program.nodes c.args.node info × IsCoded info acts) (sym c.self.view_is) c.requires.coded in
-    let there = slice_get_within a.program.nodes c.args.node coded.0 coded.2 in
-    let info = read_at _ _ c.args.node _ (ap (λ t. t.nodes) (c.p.view_is ∙ c.typed-p.ensures.program)) there c.index-3.ensures in
-    let same = at_same a.program.nodes c.args.node _ coded.0 info coded.2 in
-    let writes = c.deref-4.ensures.value ∙ ap (λ x. x.writes.items) same in
-    subst (λ l. length l ≤ 8) (sym writes) (kept.rules.nodes c.args.node coded.0 coded.2).writes
-
-pub publish_if-requires-clause-written : goal.publish_if-requires-clause-written
-publish_if-requires-clause-written c = λ i k at_k.
-    let C = configuration c.self.inside in
-    let a = c.self.inside.accepted.now in
-    let kept = c.self.invariant.kept in
-    let coded = subst (λ s. (info : NodeInfo) × (acts : List Act) × At s.accepted.program.nodes c.args.node info × IsCoded info acts) (sym c.self.view_is) c.requires.coded in
-    let there = slice_get_within a.program.nodes c.args.node coded.0 coded.2 in
-    let info = read_at _ _ c.args.node _ (ap (λ t. t.nodes) (c.p.view_is ∙ c.typed-p.ensures.program)) there c.index-3.ensures in
-    let same = at_same a.program.nodes c.args.node _ coded.0 info coded.2 in
-    let writes = c.deref-4.ensures.value ∙ ap (λ x. x.writes.items) same in
-    subst (λ t. k < length t.scalars) (sym c.typed-p.ensures.program) (kept.rules.typed.inside c.args.node coded.0 k coded.2 (i, subst (λ l. At l i k) writes at_k))
-
-pub invariant_of-self : goal.invariant_of-self
-invariant_of-self c =
+pub commit-requires-clause-run : goal.commit-requires-clause-run
+commit-requires-clause-run c =
     let C = configuration c.self.inside in
     let a = c.self.inside.accepted.now in
     let kept = c.self.invariant.kept in
@@ -76,55 +31,5 @@ invariant_of-self c =
     let there = slice_get_within a.program.nodes c.args.node coded.0 coded.2 in
     let locals_there : c.args.node < length C.locals = omega (arith, there, kept.holds.sizes.locals) in
     let locals = read_or C.locals c.args.node _ [] locals_there c.index.ensures in
-    let role_there : c.args.node < length c.self.inside.roles.items = omega (arith, there, c.self.invariant.roles.each) in
-    let role = c.self.invariant.roles.are c.args.node _ (read_at _ _ c.args.node _ refl role_there c.index-2.ensures) in
-    let on = c.enables-enabled.ensures ∙ ap (role_enables c.index-2.result.now) c.deref-3.ensures.value ∙ role_enabled a.program kept.rules.typed (well_formed a C kept) C c.args.node c.index-2.result.now role in
-    let left = subst (λ s. is_left s.at c.args.node ≡ true) (sym c.self.view_is) c.requires.left in
-    let info = read_at _ _ c.args.node _ (ap (λ t. t.nodes) (c.p.view_is ∙ c.typed-p.ensures.program)) there c.index-3.ensures in
-    let same = at_same a.program.nodes c.args.node _ coded.0 info coded.2 in
-    let writes = c.deref-4.ensures.value ∙ ap (λ x. x.writes.items) same in
-    let run = code_runs a.program a.cert.jitter kept.rules.typed (well_formed a C kept) C c.args.node coded.0 coded.1 kept.holds coded.2 coded.3 in
-    let told = run_along _ _ c.args.node _ _ _ _ _ _ c.run-fired.result c.typed-p.ensures.program c.deref.ensures.value c.deref-2.ensures.value locals c.run-fired.ensures coded.0 coded.1 run.0 coded.2 coded.3 run.1 in
-    let put = with_items_is c.self.inside.scalars c.publish_if.new.scalars (omega (arith, c.publish_if.auto.scalars, c.deref_mut.ensures.len)) in
-    let published = put ∙ published_along c.enables-enabled.result _ _ _ _ c.run-fired.result.draft _ _ _ c.typed-p.ensures.program writes c.deref_mut.ensures.value c.publish_if.ensures in
-    let step = code_so a.program C c.args.node coded.0 coded.1 run.0 c.run-fired.result.draft c.enables-enabled.result _ _ (with_items c.self.inside.scalars c.publish_if.new.scalars).items coded.2 coded.3 run.1 told.1 left on refl (ap (slice_set C.locals c.args.node) told.0) published in
-    record { kept = step_kept a C kept _ (Code c.args.node) step kept.time; roles = c.self.invariant.roles; next = c.self.invariant.next }
-
-pub returns-clause-step : goal.returns-clause-step
-returns-clause-step c =
-    let C = configuration c.self.inside in
-    let a = c.self.inside.accepted.now in
-    let kept = c.self.invariant.kept in
-    let coded = subst (λ s. (info : NodeInfo) × (acts : List Act) × At s.accepted.program.nodes c.args.node info × IsCoded info acts) (sym c.self.view_is) c.requires.coded in
-    let there = slice_get_within a.program.nodes c.args.node coded.0 coded.2 in
-    let locals_there : c.args.node < length C.locals = omega (arith, there, kept.holds.sizes.locals) in
-    let locals = read_or C.locals c.args.node _ [] locals_there c.index.ensures in
-    let role_there : c.args.node < length c.self.inside.roles.items = omega (arith, there, c.self.invariant.roles.each) in
-    let role = c.self.invariant.roles.are c.args.node _ (read_at _ _ c.args.node _ refl role_there c.index-2.ensures) in
-    let on = c.enables-enabled.ensures ∙ ap (role_enables c.index-2.result.now) c.deref-3.ensures.value ∙ role_enabled a.program kept.rules.typed (well_formed a C kept) C c.args.node c.index-2.result.now role in
-    let left = subst (λ s. is_left s.at c.args.node ≡ true) (sym c.self.view_is) c.requires.left in
-    let info = read_at _ _ c.args.node _ (ap (λ t. t.nodes) (c.p.view_is ∙ c.typed-p.ensures.program)) there c.index-3.ensures in
-    let same = at_same a.program.nodes c.args.node _ coded.0 info coded.2 in
-    let writes = c.deref-4.ensures.value ∙ ap (λ x. x.writes.items) same in
-    let run = code_runs a.program a.cert.jitter kept.rules.typed (well_formed a C kept) C c.args.node coded.0 coded.1 kept.holds coded.2 coded.3 in
-    let told = run_along _ _ c.args.node _ _ _ _ _ _ c.run-fired.result c.typed-p.ensures.program c.deref.ensures.value c.deref-2.ensures.value locals c.run-fired.ensures coded.0 coded.1 run.0 coded.2 coded.3 run.1 in
-    let put = with_items_is c.self.inside.scalars c.publish_if.new.scalars (omega (arith, c.publish_if.auto.scalars, c.deref_mut.ensures.len)) in
-    let published = put ∙ published_along c.enables-enabled.result _ _ _ _ c.run-fired.result.draft _ _ _ c.typed-p.ensures.program writes c.deref_mut.ensures.value c.publish_if.ensures in
-    step_along _ _ (Code c.args.node) _ c.self.view_is (code_so a.program C c.args.node coded.0 coded.1 run.0 c.run-fired.result.draft c.enables-enabled.result _ _ (with_items c.self.inside.scalars c.publish_if.new.scalars).items coded.2 coded.3 run.1 told.1 left on refl (ap (slice_set C.locals c.args.node) told.0) published)
-
-pub returns-clause-outcome : goal.returns-clause-outcome
-returns-clause-outcome c =
-    let C = configuration c.self.inside in
-    let a = c.self.inside.accepted.now in
-    let kept = c.self.invariant.kept in
-    let coded = subst (λ s. (info : NodeInfo) × (acts : List Act) × At s.accepted.program.nodes c.args.node info × IsCoded info acts) (sym c.self.view_is) c.requires.coded in
-    let there = slice_get_within a.program.nodes c.args.node coded.0 coded.2 in
-    let locals_there : c.args.node < length C.locals = omega (arith, there, kept.holds.sizes.locals) in
-    let locals = read_or C.locals c.args.node _ [] locals_there c.index.ensures in
-    let role_there : c.args.node < length c.self.inside.roles.items = omega (arith, there, c.self.invariant.roles.each) in
-    let role = c.self.invariant.roles.are c.args.node _ (read_at _ _ c.args.node _ refl role_there c.index-2.ensures) in
-    let on = c.enables-enabled.ensures ∙ ap (role_enables c.index-2.result.now) c.deref-3.ensures.value ∙ role_enabled a.program kept.rules.typed (well_formed a C kept) C c.args.node c.index-2.result.now role in
-    let run = code_runs a.program a.cert.jitter kept.rules.typed (well_formed a C kept) C c.args.node coded.0 coded.1 kept.holds coded.2 coded.3 in
-    let told = run_along _ _ c.args.node _ _ _ _ _ _ c.run-fired.result c.typed-p.ensures.program c.deref.ensures.value c.deref-2.ensures.value locals c.run-fired.ensures coded.0 coded.1 run.0 coded.2 coded.3 run.1 in
-    subst (λ s. (r : Recorded) × RecordsCode s.accepted.program c.args.node s.at r × (outcome.Fired c.run-fired.result.draft c.enables-enabled.result ≡ outcome_of r)) c.self.view_is
-    (code_recorded a.program C c.args.node coded.0 coded.1 run.0 c.run-fired.result.draft c.enables-enabled.result coded.2 coded.3 run.1 told.1 on)
+    subst (λ s. IsRun s.accepted.program c.args.node s.at.scalars s.at.points (locals_of s.at c.args.node) c.run-fired.result) c.self.view_is
+    (run_along _ _ c.args.node _ _ _ _ _ _ c.run-fired.result c.typed-p.ensures.program c.deref.ensures.value c.deref-2.ensures.value locals c.run-fired.ensures)

@@ -1,6 +1,6 @@
 use Rattle.std.proofs.Common.{inl, inr, refl}
 use Rattle.sot_tube.specs.declared.leave.Leave.TheVariants.{Out}
-use Rattle.sot_rta.proofs.cells.closed_cell.Goals as goal
+use Rattle.sot_rta.proofs.cells.check_closed_cell.Goals as goal
 
 pub returns-in-Some : goal.returns-in-Some
 returns-in-Some c plant sc acts plant_at sc_at coded = (Out 0 c.args.cell.now c.in-Some.point, inl (c.in-Some.point, c.in-Some.ensures, refl), refl)

@@ -1,6 +1,6 @@
 use Rattle.std.proofs.Common.{◌≡◌, ◌+◌, ◌*◌, arith, subst}
 use Rattle.sot_tube.specs.Leaves.{AnyTubeLeaves}
-use Rattle.sot_rta.proofs.cells.reach_cell.Goals as goal
+use Rattle.sot_rta.proofs.cells.check_reach_cell.Goals as goal
 
 pub returns-in-Err : goal.returns-in-Err
 returns-in-Err c plant plant_at =
