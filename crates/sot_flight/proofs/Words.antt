@@ -1,0 +1,83 @@
+-- The words of a generator, one after another, and the numbers that they stand for.
+use Rattle.std.proofs.Common.{◌≡◌, ℕ, zero, suc, ◌+◌, ◌<◌, ◌%◌, ℤ, pos, ◌+ℤ◌, ◌-ℤ◌, ◌≤ℤ◌, ◌^◌, List, [], ◌∷◌, length, Some, refl, ap, ◌∙◌, arith}
+use Rattle.std.proofs.Common.{FitsSigned, to_z, of_z, w64, negsuc}
+use mir.Val.{hbits}
+use Rattle.std.specs.Prelude.{unsigned_abs}
+use Rattle.std.proofs.lemmas.Int.{to_z-of_z, to_z_pos, ints}
+use Rattle.std.proofs.lemmas.Option.{none-some, same_Some}
+use Rattle.rand_pcg.specs.Lcg.{Lcg, state_after, next_state, next}
+use Rattle.rand_pcg.specs.Pcg.{multiplier_64}
+use Rattle.sot_lists.specs.Places.{At}
+use Rattle.sot_box.specs.Sides.{Side, IsIn}
+use Rattle.sot_box.specs.Boxes.{IsWithin}
+use Rattle.sot_lang.specs.TableRules.{IsNarrow}
+use Rattle.sot_flight.specs.Draws.{words_from, word, drawn, drawn_from}
+
+state_more : (w m increment n state : ℕ) → next_state w m increment (state_after w m increment n state) ≡ state_after w m increment (suc n) state
+unfolding state_after
+state_more w m increment zero state = refl
+state_more w m increment (suc n) state = state_more w m increment n (next_state w m increment state)
+
+-- the generator after one word more
+pub words_more : (seed stream i : ℕ) → next 64 multiplier_64 (words_from seed stream i) ≡ words_from seed stream (suc i)
+unfolding state_after
+words_more seed stream i =
+    let g = words_from seed stream 0 in
+    let e = state_more 64 multiplier_64 g.increment i g.state in
+    let at : ℕ → Lcg = λ s. record { state = s; increment = g.increment } in
+    ap at e
+
+-- the number at a place is drawn from the word of that place
+pub drawn_at : (seed stream first : ℕ) (rs : List Side) (i : ℕ) (r : Side) → At rs i r → At (drawn_from seed stream first rs) i (drawn r (word seed stream (first + i)))
+drawn_at seed stream first [] i r at = absurd (none-some r at)
+drawn_at seed stream first (s ∷ rs) zero r at =
+    let e : first ≡ first + 0 = omega arith in
+    ap Some (ap (λ a. drawn a (word seed stream first)) (same_Some s r at) ∙ ap (λ n. drawn r (word seed stream n)) e)
+drawn_at seed stream first (s ∷ rs) (suc i) r at =
+    let e : suc first + i ≡ first + suc i = omega arith in
+    drawn_at seed stream (suc first) rs i r at ∙ ap (λ n. Some (drawn r (word seed stream n))) e
+
+pub length-drawn_from : (seed stream first : ℕ) (rs : List Side) → length (drawn_from seed stream first rs) ≡ length rs
+length-drawn_from seed stream first [] = refl
+length-drawn_from seed stream first (r ∷ rs) = ap suc (length-drawn_from seed stream (suc first) rs)
+
+-- a word's place in a range is below the width of the range
+place_below : (z : ℤ) (w : ℕ) → pos 1 ≤ℤ z → (pos (w % unsigned_abs z) +ℤ pos 1) ≤ℤ z
+place_below (pos k) w some = (let lt : 0 < k = omega (arith, ints, some) in omega (arith, ints))
+place_below (negsuc k) w some = absurd (omega (arith, ints, some))
+
+-- the number of a range, as it is computed in 64 bits
+pub read_draw : (lo hi : ℤ) (w : ℕ) → FitsSigned w64 lo → FitsSigned w64 hi → IsNarrow lo hi
+    → to_z w64 (of_z w64 (to_z w64 (of_z w64 lo) +ℤ to_z w64 (w % unsigned_abs (to_z w64 (of_z w64 (to_z w64 (of_z w64 (to_z w64 (of_z w64 hi) -ℤ to_z w64 (of_z w64 lo))) +ℤ pos 1)))))) ≡ drawn (record { lo = lo; hi = hi }) w
+read_draw lo hi w low high narrow =
+    let ordered = narrow.0 in
+    let few = narrow.1 in
+    let below = place_below ((hi -ℤ lo) +ℤ pos 1) w (omega (arith, ints)) in
+    let less : FitsSigned w64 (hi -ℤ lo) = omega (arith, ints) in
+    let width_fits : FitsSigned w64 ((hi -ℤ lo) +ℤ pos 1) = omega (arith, ints) in
+    let small : w % unsigned_abs ((hi -ℤ lo) +ℤ pos 1) < 2 ^ hbits w64 = omega (arith, ints) in
+    let fits : FitsSigned w64 (lo +ℤ pos (w % unsigned_abs ((hi -ℤ lo) +ℤ pos 1))) = omega (arith, ints) in
+    rw (to_z-of_z w64 lo low, to_z-of_z w64 hi high, to_z-of_z w64 (hi -ℤ lo) less, to_z-of_z w64 ((hi -ℤ lo) +ℤ pos 1) width_fits, to_z_pos w64 (w % unsigned_abs ((hi -ℤ lo) +ℤ pos 1)) small, to_z-of_z w64 (lo +ℤ pos (w % unsigned_abs ((hi -ℤ lo) +ℤ pos 1))) fits) refl
+
+-- a number that was drawn with ends that were read
+pub drawn_read : (lo hi z : ℤ) (w v : ℕ) → FitsSigned w64 lo → FitsSigned w64 hi → z ≡ drawn (record { lo = to_z w64 (of_z w64 lo); hi = to_z w64 (of_z w64 hi) }) w → w ≡ v → z ≡ drawn (record { lo = lo; hi = hi }) v
+drawn_read lo hi z w v low high is same = (rw (to_z-of_z w64 lo low, to_z-of_z w64 hi high) at is) ∙ ap (drawn (record { lo = lo; hi = hi })) same
+
+-- the words after one more, as a loop counts them
+pub words_on : (seed stream given i : ℕ) (words more : Lcg) → words ≡ words_from seed stream (given + i) → more ≡ next 64 multiplier_64 words → more ≡ words_from seed stream (given + (i + 1))
+words_on seed stream given i words more is step =
+    let e : suc (given + i) ≡ given + (i + 1) = omega arith in
+    step ∙ ap (next 64 multiplier_64) is ∙ words_more seed stream (given + i) ∙ ap (words_from seed stream) e
+
+-- the number that a word stands for is in the range
+pub drawn_in : (r : Side) (w : ℕ) → r.lo ≤ℤ r.hi → IsIn r (drawn r w)
+drawn_in r w ordered =
+    let below = place_below ((r.hi -ℤ r.lo) +ℤ pos 1) w (omega (arith, ints)) in
+    (omega (arith, ints), omega (arith, ints))
+
+-- .. and each number of a list in its range
+pub drawn_within : (seed stream first : ℕ) (rs : List Side) → ((i : ℕ) (r : Side) → At rs i r → r.lo ≤ℤ r.hi) → IsWithin rs (drawn_from seed stream first rs)
+drawn_within seed stream first [] ordered = tt
+drawn_within seed stream first (r ∷ rs) ordered =
+    let here = drawn_in r (word seed stream first) (ordered 0 r refl) in
+    (here.0, here.1, drawn_within seed stream (suc first) rs (λ i s at. ordered (suc i) s at))

@@ -1,0 +1,264 @@
+//! Who drafts for the nodes, from JSON.
+
+ghost use Rattle.std.specs.Prelude.{◌≡◌, ◌<◌, [], length, map, codes};
+ghost use Rattle.std.specs.List.{list_any};
+ghost use Rattle.serde_json.specs.View.{view, members_view};
+ghost use Rattle.sot_cert.specs.Json.{at};
+ghost use Rattle.sot_cert.specs.Answers.{Gives};
+ghost use Rattle.sot_flight.specs.ListForms.{drafts, for_each_after};
+ghost use Rattle.sot_flight.specs.FlightView.{crew_of};
+ghost use Rattle.sot_flight.specs.FlightFormat.{crew_kind, is_guest, guest as guest_says, crew_as, crew as crew_says, crew_at as crew_at_says, crews as crews_say};
+
+use crate::crew::{Crew, CrewKind};
+use crate::keys::{GREATEST, count_at, has_only_external};
+use crate::lists::drafts_of;
+use serde_json::{Map, Value};
+use sot_cert::{JsonFail, JsonKind, count_of, fault_at, fault_under, has_only, member_of};
+use sot_lang::{NodeInfo, Typed};
+use std::alloc::Global;
+
+#[tactic(auto, unfolding(crate::specs::FlightFormat::crew_kind))]
+fn kind_of(alloc: Global, value: &Value) -> Result<CrewKind, JsonFail>
+    ensures { Gives (λ k. k) result (crew_kind (view value.now)) }
+{
+    let Some(text) = value.as_str() else {
+        return Err(fault_at(alloc, JsonKind::WrongShape));
+    };
+    if text == "script" {
+        Ok(CrewKind::Script)
+    } else if text == "wild" {
+        Ok(CrewKind::Wild)
+    } else if text == "guest" {
+        Ok(CrewKind::Guest)
+    } else {
+        Err(fault_at(alloc, JsonKind::WrongShape))
+    }
+}
+
+#[tactic(auto, unfolding(sot_cert::specs::Json::at), using(sot_cert::proofs::Faults::at_fails, sot_cert::proofs::Faults::at_missing))]
+fn kind_at(alloc: Global, object: &Map<String, Value>) -> Result<CrewKind, JsonFail>
+    ensures { Gives (λ k. k) result (at (codes "kind") crew_kind (members_view object.now.entries)) }
+{
+    let Some(value) = member_of(object, "kind") else {
+        return Err(fault_under(alloc, "kind", fault_at(alloc, JsonKind::Missing)));
+    };
+    match kind_of(alloc, value) {
+        Ok(kind) => Ok(kind),
+        Err(fail) => Err(fault_under(alloc, "kind", fail)),
+    }
+}
+
+#[tactic(auto, unfolding(sot_cert::specs::Json::at), using(sot_cert::proofs::Faults::at_fails, sot_cert::proofs::Faults::at_missing))]
+fn drafts_at(
+    alloc: Global,
+    size: usize,
+    object: &Map<String, Value>,
+) -> Result<Vec<Vec<Option<i64>>>, JsonFail>
+    ensures { Gives (λ v. map (λ row. row.items) v.items) result (at (codes "drafts") (drafts size) (members_view object.now.entries)) }
+{
+    let Some(value) = member_of(object, "drafts") else {
+        return Err(fault_under(alloc, "drafts", fault_at(alloc, JsonKind::Missing)));
+    };
+    match drafts_of(alloc, size, value) {
+        Ok(rows) => Ok(rows),
+        Err(fail) => Err(fault_under(alloc, "drafts", fail)),
+    }
+}
+
+fn is_that_guest(crew: &Crew, index: u32) -> bool
+    ensures { result ≡ is_guest index (crew_of crew.now) }
+{
+    match crew {
+        Crew::Guest(other) => *other == index,
+        Crew::Coded | Crew::Script(_) | Crew::Wild { .. } => false,
+    }
+}
+
+fn any_guest(done: &Vec<Crew>, index: u32) -> bool
+    ensures { result ≡ list_any (λ crew. is_guest index (crew_of crew)) done.now.items }
+{
+    done.iter().any(|crew| is_that_guest(crew, index))
+}
+
+#[tactic(auto, using(crate::proofs::NameLists::any_map))]
+fn has_guest(done: &Vec<Crew>, index: u32) -> bool
+    ensures { result ≡ list_any (is_guest index) (map crew_of done.now.items) }
+{
+    any_guest(done, index)
+}
+
+#[tactic(auto, unfolding(crate::specs::FlightFormat::guest))]
+fn guest_of(alloc: Global, guests: u32, done: &Vec<Crew>, value: &Value) -> Result<u32, JsonFail>
+    ensures { Gives (λ x. x) result (guest_says guests (map crew_of done.now.items) (view value.now)) }
+{
+    let index = count_of(alloc, GREATEST, value)?;
+    if index >= u64::from(guests) {
+        return Err(fault_at(alloc, JsonKind::NoGuest));
+    }
+    let index = index as u32;
+    if has_guest(done, index) {
+        return Err(fault_at(alloc, JsonKind::GuestTwice));
+    }
+    Ok(index)
+}
+
+#[tactic(auto, unfolding(sot_cert::specs::Json::at), using(sot_cert::proofs::Faults::at_fails, sot_cert::proofs::Faults::at_missing))]
+fn guest_at(
+    alloc: Global,
+    guests: u32,
+    done: &Vec<Crew>,
+    object: &Map<String, Value>,
+) -> Result<u32, JsonFail>
+    ensures { Gives (λ x. x) result (at (codes "index") (guest_says guests (map crew_of done.now.items)) (members_view object.now.entries)) }
+{
+    let Some(value) = member_of(object, "index") else {
+        return Err(fault_under(alloc, "index", fault_at(alloc, JsonKind::Missing)));
+    };
+    match guest_of(alloc, guests, done, value) {
+        Ok(index) => Ok(index),
+        Err(fail) => Err(fault_under(alloc, "index", fail)),
+    }
+}
+
+#[tactic(auto, unfolding(crate::specs::FlightFormat::crew_as))]
+fn crew_as_kind(
+    alloc: Global,
+    guests: u32,
+    done: &Vec<Crew>,
+    node: &NodeInfo,
+    object: &Map<String, Value>,
+    kind: CrewKind,
+) -> Result<Crew, JsonFail>
+    ensures { Gives crew_of result (crew_as guests (map crew_of done.now.items) node.now (members_view object.now.entries) kind) }
+{
+    match kind {
+        CrewKind::Script => {
+            let rows = drafts_at(alloc, node.writes.len(), object)?;
+            if !has_only(object, &["kind", "drafts"]) {
+                return Err(fault_at(alloc, JsonKind::Unknown));
+            }
+            Ok(Crew::Script(rows))
+        }
+        CrewKind::Wild => {
+            let seed = count_at(alloc, "seed", GREATEST, object)?;
+            let stream = count_at(alloc, "stream", GREATEST, object)?;
+            if !has_only(object, &["kind", "seed", "stream"]) {
+                return Err(fault_at(alloc, JsonKind::Unknown));
+            }
+            Ok(Crew::Wild { seed, stream })
+        }
+        CrewKind::Guest => {
+            let index = guest_at(alloc, guests, done, object)?;
+            if !has_only(object, &["kind", "index"]) {
+                return Err(fault_at(alloc, JsonKind::Unknown));
+            }
+            Ok(Crew::Guest(index))
+        }
+    }
+}
+
+#[tactic(auto, unfolding(crate::specs::FlightFormat::crew))]
+fn one_crew(
+    alloc: Global,
+    guests: u32,
+    done: &Vec<Crew>,
+    node: &NodeInfo,
+    value: &Value,
+) -> Result<Crew, JsonFail>
+    ensures { Gives crew_of result (crew_says guests (map crew_of done.now.items) node.now (view value.now)) }
+{
+    let Some(object) = value.as_object() else {
+        return Err(fault_at(alloc, JsonKind::WrongShape));
+    };
+    let kind = kind_at(alloc, object)?;
+    crew_as_kind(alloc, guests, done, node, object, kind)
+}
+
+#[tactic(auto, unfolding(sot_cert::specs::Json::at), using(sot_cert::proofs::Faults::at_fails, sot_cert::proofs::Faults::at_missing))]
+fn crew_under(
+    alloc: Global,
+    guests: u32,
+    done: &Vec<Crew>,
+    node: &NodeInfo,
+    object: &Map<String, Value>,
+) -> Result<Crew, JsonFail>
+    ensures { Gives crew_of result (at node.now.name (crew_says guests (map crew_of done.now.items) node.now) (members_view object.now.entries)) }
+{
+    let name = node.name.as_str();
+    let Some(value) = member_of(object, name) else {
+        return Err(fault_under(alloc, name, fault_at(alloc, JsonKind::Missing)));
+    };
+    match one_crew(alloc, guests, done, node, value) {
+        Ok(crew) => Ok(crew),
+        Err(fail) => Err(fault_under(alloc, name, fail)),
+    }
+}
+
+// The crew of a node; a coded one drafts by its code.
+fn crew_where(
+    alloc: Global,
+    guests: u32,
+    done: &Vec<Crew>,
+    node: &NodeInfo,
+    object: &Map<String, Value>,
+) -> Result<Crew, JsonFail>
+    ensures { Gives crew_of result (crew_at_says guests (members_view object.now.entries) (map crew_of done.now.items) node.now) }
+{
+    if node.body.is_none() {
+        crew_under(alloc, guests, done, node, object)
+    } else {
+        Ok(Crew::Coded)
+    }
+}
+
+#[tactic(auto, using(crate::proofs::ForEach::kept_on, crate::proofs::ForEach::found_all))]
+fn each_crew(
+    alloc: Global,
+    p: &Typed,
+    guests: u32,
+    object: &Map<String, Value>,
+) -> Result<Vec<Crew>, JsonFail>
+    ensures { Gives (λ v. map crew_of v.items) result (for_each_after (crew_at_says guests (members_view object.now.entries)) [] p.now.nodes) }
+{
+    let mut found = Vec::new(alloc);
+    for node in p.nodes.iter() {
+        match crew_where(alloc, guests, &found, node, object) {
+            Ok(crew) => found.push(crew)?,
+            Err(fail) => return Err(fail),
+        }
+    }
+    Ok(found)
+}
+
+#[tactic(auto, unfolding(crate::specs::FlightFormat::crews))]
+fn crews_of(alloc: Global, p: &Typed, guests: u32, value: &Value) -> Result<Vec<Crew>, JsonFail>
+    ensures { Gives (λ v. map crew_of v.items) result (crews_say p.now guests (view value.now)) }
+{
+    let Some(object) = value.as_object() else {
+        return Err(fault_at(alloc, JsonKind::WrongShape));
+    };
+    let found = each_crew(alloc, p, guests, object)?;
+    if !has_only_external(p, object) {
+        return Err(fault_at(alloc, JsonKind::Unknown));
+    }
+    Ok(found)
+}
+
+/// A crew for each node, in declared order.
+#[tactic(auto, unfolding(sot_cert::specs::Json::at), using(sot_cert::proofs::Faults::at_fails, sot_cert::proofs::Faults::at_missing))]
+pub(crate) fn crews_at(
+    alloc: Global,
+    p: &Typed,
+    guests: u32,
+    object: &Map<String, Value>,
+) -> Result<Vec<Crew>, JsonFail>
+    ensures { Gives (λ v. map crew_of v.items) result (at (codes "crew") (crews_say p.now guests) (members_view object.now.entries)) }
+{
+    let Some(value) = member_of(object, "crew") else {
+        return Err(fault_under(alloc, "crew", fault_at(alloc, JsonKind::Missing)));
+    };
+    match crews_of(alloc, p, guests, value) {
+        Ok(found) => Ok(found),
+        Err(fail) => Err(fault_under(alloc, "crew", fail)),
+    }
+}

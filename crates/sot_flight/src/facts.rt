@@ -1,0 +1,36 @@
+//! Worked words, numbers, rows and flights, as facts that the check computes from the definitions.
+
+ghost use Rattle.std.specs.Global.{Global};
+ghost use Rattle.sot_flight.specs.DrawExamples.{Words, Numbers, OneRow, TwoRows};
+ghost use Rattle.sot_flight.specs.FlightExamples.{OnTheLine, OfEachKind, LastOfRepeated, Keys, Horizons, Starts, InputFaults, SwayFaults, CrewFaults, NumberLimit, EventLimit};
+
+/// The first words of a generator, and the numbers that they stand for.
+pub fn draws_are_as_stated()
+    ensures words { Words }
+    ensures numbers { Numbers }
+{}
+
+/// Rows that are stated one after another, of which the last one stays.
+pub fn rows_are_as_stated()
+    ensures one { OneRow }
+    ensures two { TwoRows }
+{}
+
+/// What texts say as flights.
+pub fn flights_are_as_stated()
+    ensures line { (g : Global) → OnTheLine g }
+    ensures kinds { (g : Global) → OfEachKind g }
+    ensures repeated { (g : Global) → LastOfRepeated g }
+{}
+
+/// The first faults of texts.
+pub fn flight_faults_are_as_stated()
+    ensures keys { (g : Global) → Keys g }
+    ensures horizons { (g : Global) → Horizons g }
+    ensures starts { (g : Global) → Starts g }
+    ensures inputs { (g : Global) → InputFaults g }
+    ensures sways { (g : Global) → SwayFaults g }
+    ensures crews { (g : Global) → CrewFaults g }
+    ensures numbers { (g : Global) → NumberLimit g }
+    ensures events { (g : Global) → EventLimit g }
+{}

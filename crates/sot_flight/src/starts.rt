@@ -1,0 +1,96 @@
+//! Where the plants start.
+
+ghost use Rattle.std.specs.Prelude.{◌≡◌, ◌≤◌, [], length, codes};
+ghost use Rattle.serde_json.specs.View.{view, members_view};
+ghost use Rattle.sot_cert.specs.Json.{at};
+ghost use Rattle.sot_cert.specs.Answers.{Gives};
+ghost use Rattle.sot_flight.specs.ListForms.{numbers, for_each_after};
+ghost use Rattle.sot_flight.specs.FlightFormat.{point_at, start};
+
+use crate::keys::has_only_plants;
+use crate::lists::numbers_of;
+use serde_json::{Map, Value};
+use sot_box::Point;
+use sot_cert::{JsonFail, JsonKind, fault_at, fault_under, member_of};
+use sot_lang::{PlantInfo, Typed};
+use std::alloc::Global;
+
+#[tactic(auto, unfolding(sot_cert::specs::Json::at), using(sot_cert::proofs::Faults::at_fails, sot_cert::proofs::Faults::at_missing))]
+fn numbers_at(
+    alloc: Global,
+    name: &str,
+    width: usize,
+    object: &Map<String, Value>,
+) -> Result<Vec<i64>, JsonFail>
+    ensures { Gives (λ v. v.items) result (at name.now (numbers width) (members_view object.now.entries)) }
+{
+    let Some(value) = member_of(object, name) else {
+        return Err(fault_under(alloc, name, fault_at(alloc, JsonKind::Missing)));
+    };
+    match numbers_of(alloc, width, value) {
+        Ok(numbers) => Ok(numbers),
+        Err(fail) => Err(fault_under(alloc, name, fail)),
+    }
+}
+
+// The point of a plant.
+fn point_of(
+    alloc: Global,
+    plant: &PlantInfo,
+    object: &Map<String, Value>,
+) -> Result<Point, JsonFail>
+    requires { (1 ≤ length plant.now.states.items) × (length plant.now.states.items ≤ 4) }
+    ensures { Gives (λ x. x) result (point_at (members_view object.now.entries) plant.now) }
+{
+    let numbers = numbers_at(alloc, plant.name.as_str(), plant.states.len(), object)?;
+    match Point::of(&numbers) {
+        Some(point) => Ok(point),
+        None => unreachable!(),
+    }
+}
+
+#[tactic(auto, using(crate::proofs::ForEach::found_on, crate::proofs::ForEach::found_end, crate::proofs::ForEach::found_all))]
+fn points_of(alloc: Global, p: &Typed, object: &Map<String, Value>) -> Result<Vec<Point>, JsonFail>
+    ensures { Gives (λ v. v.items) result (for_each_after (λ done. point_at (members_view object.now.entries)) [] p.now.plants) }
+{
+    let mut found = Vec::new(alloc);
+    for plant in p.plants.iter() {
+        match point_of(alloc, plant, object) {
+            Ok(point) => found.push(point)?,
+            Err(fail) => return Err(fail),
+        }
+    }
+    Ok(found)
+}
+
+#[tactic(auto, unfolding(crate::specs::FlightFormat::start))]
+fn start_of(alloc: Global, p: &Typed, value: &Value) -> Result<Vec<Point>, JsonFail>
+    ensures { Gives (λ v. v.items) result (start p.now (view value.now)) }
+{
+    let Some(object) = value.as_object() else {
+        return Err(fault_at(alloc, JsonKind::WrongShape));
+    };
+    let found = points_of(alloc, p, object)?;
+    if !has_only_plants(p, object) {
+        return Err(fault_at(alloc, JsonKind::Unknown));
+    }
+    Ok(found)
+}
+
+/// The point of each plant, in declared order.
+#[tactic(auto, unfolding(sot_cert::specs::Json::at), using(sot_cert::proofs::Faults::at_fails, sot_cert::proofs::Faults::at_missing))]
+pub(crate) fn start_at(
+    alloc: Global,
+    p: &Typed,
+    object: &Map<String, Value>,
+) -> Result<Vec<Point>, JsonFail>
+    ensures { Gives (λ v. v.items) result (at (codes "start") (start p.now) (members_view object.now.entries)) }
+{
+    let Some(value) = member_of(object, "start") else {
+        return Err(fault_under(alloc, "start", fault_at(alloc, JsonKind::Missing)));
+    };
+    match start_of(alloc, p, value) {
+        Ok(found) => Ok(found),
+        Err(fail) => Err(fault_under(alloc, "start", fail)),
+    }
+}

@@ -1,0 +1,206 @@
+//! What drives the disturbances, from JSON.
+
+ghost use Rattle.std.specs.Prelude.{◌≡◌, ◌<◌, [], length, map, codes};
+ghost use Rattle.serde_json.specs.View.{view, members_view};
+ghost use Rattle.sot_lang.specs.Ranges.{bounds};
+ghost use Rattle.sot_cert.specs.Json.{at};
+ghost use Rattle.sot_cert.specs.Answers.{Gives};
+ghost use Rattle.sot_flight.specs.ListForms.{rows_in, for_each_after};
+ghost use Rattle.sot_flight.specs.NoiseRules.{HasNarrowNoise};
+ghost use Rattle.sot_flight.specs.FlightView.{sway_of};
+ghost use Rattle.sot_flight.specs.FlightFormat.{sway_kind, sway_as, sway as sway_says, sway_at as sway_at_says, sways as sways_say};
+
+use crate::keys::{GREATEST, count_at, has_only_disturbed};
+use crate::lists::rows_in_of;
+use crate::ranges::bounds_of;
+use crate::sway::{Sway, SwayKind};
+use serde_json::{Map, Value};
+use sot_cert::{JsonFail, JsonKind, fault_at, fault_under, has_only, member_of};
+use sot_lang::{PlantInfo, Typed};
+use std::alloc::Global;
+
+#[tactic(auto, unfolding(crate::specs::FlightFormat::sway_kind))]
+fn kind_of(alloc: Global, value: &Value) -> Result<SwayKind, JsonFail>
+    ensures { Gives (λ k. k) result (sway_kind (view value.now)) }
+{
+    let Some(text) = value.as_str() else {
+        return Err(fault_at(alloc, JsonKind::WrongShape));
+    };
+    if text == "low" {
+        Ok(SwayKind::Low)
+    } else if text == "high" {
+        Ok(SwayKind::High)
+    } else if text == "list" {
+        Ok(SwayKind::List)
+    } else if text == "seed" {
+        Ok(SwayKind::Seed)
+    } else {
+        Err(fault_at(alloc, JsonKind::WrongShape))
+    }
+}
+
+#[tactic(auto, unfolding(sot_cert::specs::Json::at), using(sot_cert::proofs::Faults::at_fails, sot_cert::proofs::Faults::at_missing))]
+fn kind_at(alloc: Global, object: &Map<String, Value>) -> Result<SwayKind, JsonFail>
+    ensures { Gives (λ k. k) result (at (codes "kind") sway_kind (members_view object.now.entries)) }
+{
+    let Some(value) = member_of(object, "kind") else {
+        return Err(fault_under(alloc, "kind", fault_at(alloc, JsonKind::Missing)));
+    };
+    match kind_of(alloc, value) {
+        Ok(kind) => Ok(kind),
+        Err(fail) => Err(fault_under(alloc, "kind", fail)),
+    }
+}
+
+#[tactic(auto, unfolding(sot_cert::specs::Json::at), using(sot_cert::proofs::Faults::at_fails, sot_cert::proofs::Faults::at_missing))]
+fn rows_at(
+    alloc: Global,
+    plant: &PlantInfo,
+    object: &Map<String, Value>,
+) -> Result<Vec<Vec<i64>>, JsonFail>
+    requires { HasNarrowNoise plant.now }
+    ensures { Gives (λ v. map (λ row. row.items) v.items) result (at (codes "values") (rows_in (bounds plant.now)) (members_view object.now.entries)) }
+{
+    let Some(value) = member_of(object, "values") else {
+        return Err(fault_under(alloc, "values", fault_at(alloc, JsonKind::Missing)));
+    };
+    let ranges = bounds_of(alloc, plant)?;
+    match rows_in_of(alloc, &ranges, value) {
+        Ok(rows) => Ok(rows),
+        Err(fail) => Err(fault_under(alloc, "values", fail)),
+    }
+}
+
+#[tactic(auto, unfolding(crate::specs::FlightFormat::sway_as))]
+fn sway_as_kind(
+    alloc: Global,
+    plant: &PlantInfo,
+    object: &Map<String, Value>,
+    kind: SwayKind,
+) -> Result<Sway, JsonFail>
+    requires { HasNarrowNoise plant.now }
+    ensures { Gives sway_of result (sway_as plant.now (members_view object.now.entries) kind) }
+{
+    match kind {
+        SwayKind::Low => {
+            if !has_only(object, &["kind"]) {
+                return Err(fault_at(alloc, JsonKind::Unknown));
+            }
+            Ok(Sway::Low)
+        }
+        SwayKind::High => {
+            if !has_only(object, &["kind"]) {
+                return Err(fault_at(alloc, JsonKind::Unknown));
+            }
+            Ok(Sway::High)
+        }
+        SwayKind::List => {
+            let rows = rows_at(alloc, plant, object)?;
+            if !has_only(object, &["kind", "values"]) {
+                return Err(fault_at(alloc, JsonKind::Unknown));
+            }
+            Ok(Sway::Listed(rows))
+        }
+        SwayKind::Seed => {
+            let seed = count_at(alloc, "seed", GREATEST, object)?;
+            let stream = count_at(alloc, "stream", GREATEST, object)?;
+            if !has_only(object, &["kind", "seed", "stream"]) {
+                return Err(fault_at(alloc, JsonKind::Unknown));
+            }
+            Ok(Sway::Drawn { seed, stream })
+        }
+    }
+}
+
+#[tactic(auto, unfolding(crate::specs::FlightFormat::sway))]
+fn one_sway(alloc: Global, plant: &PlantInfo, value: &Value) -> Result<Sway, JsonFail>
+    requires { HasNarrowNoise plant.now }
+    ensures { Gives sway_of result (sway_says plant.now (view value.now)) }
+{
+    let Some(object) = value.as_object() else {
+        return Err(fault_at(alloc, JsonKind::WrongShape));
+    };
+    let kind = kind_at(alloc, object)?;
+    sway_as_kind(alloc, plant, object, kind)
+}
+
+#[tactic(auto, unfolding(sot_cert::specs::Json::at), using(sot_cert::proofs::Faults::at_fails, sot_cert::proofs::Faults::at_missing))]
+fn sway_under(
+    alloc: Global,
+    plant: &PlantInfo,
+    object: &Map<String, Value>,
+) -> Result<Sway, JsonFail>
+    requires { HasNarrowNoise plant.now }
+    ensures { Gives sway_of result (at plant.now.name (sway_says plant.now) (members_view object.now.entries)) }
+{
+    let name = plant.name.as_str();
+    let Some(value) = member_of(object, name) else {
+        return Err(fault_under(alloc, name, fault_at(alloc, JsonKind::Missing)));
+    };
+    match one_sway(alloc, plant, value) {
+        Ok(sway) => Ok(sway),
+        Err(fail) => Err(fault_under(alloc, name, fail)),
+    }
+}
+
+// The sway of a plant; without disturbances it is still.
+fn sway_where(
+    alloc: Global,
+    plant: &PlantInfo,
+    object: &Map<String, Value>,
+) -> Result<Sway, JsonFail>
+    requires { HasNarrowNoise plant.now }
+    ensures { Gives sway_of result (sway_at_says (members_view object.now.entries) plant.now) }
+{
+    if plant.noise.len() > 0 {
+        sway_under(alloc, plant, object)
+    } else {
+        Ok(Sway::Still)
+    }
+}
+
+#[tactic(auto, using(crate::proofs::ForEach::kept_on, crate::proofs::ForEach::found_all, crate::proofs::Fitting::narrow_noise))]
+fn each_sway(alloc: Global, p: &Typed, object: &Map<String, Value>) -> Result<Vec<Sway>, JsonFail>
+    ensures { Gives (λ v. map sway_of v.items) result (for_each_after (λ done. sway_at_says (members_view object.now.entries)) [] p.now.plants) }
+{
+    let mut found = Vec::new(alloc);
+    for plant in p.plants.iter() {
+        match sway_where(alloc, plant, object) {
+            Ok(sway) => found.push(sway)?,
+            Err(fail) => return Err(fail),
+        }
+    }
+    Ok(found)
+}
+
+#[tactic(auto, unfolding(crate::specs::FlightFormat::sways))]
+fn sways_of(alloc: Global, p: &Typed, value: &Value) -> Result<Vec<Sway>, JsonFail>
+    ensures { Gives (λ v. map sway_of v.items) result (sways_say p.now (view value.now)) }
+{
+    let Some(object) = value.as_object() else {
+        return Err(fault_at(alloc, JsonKind::WrongShape));
+    };
+    let found = each_sway(alloc, p, object)?;
+    if !has_only_disturbed(p, object) {
+        return Err(fault_at(alloc, JsonKind::Unknown));
+    }
+    Ok(found)
+}
+
+/// A sway for each plant, in declared order.
+#[tactic(auto, unfolding(sot_cert::specs::Json::at), using(sot_cert::proofs::Faults::at_fails, sot_cert::proofs::Faults::at_missing))]
+pub(crate) fn sways_at(
+    alloc: Global,
+    p: &Typed,
+    object: &Map<String, Value>,
+) -> Result<Vec<Sway>, JsonFail>
+    ensures { Gives (λ v. map sway_of v.items) result (at (codes "sway") (sways_say p.now) (members_view object.now.entries)) }
+{
+    let Some(value) = member_of(object, "sway") else {
+        return Err(fault_under(alloc, "sway", fault_at(alloc, JsonKind::Missing)));
+    };
+    match sways_of(alloc, p, value) {
+        Ok(found) => Ok(found),
+        Err(fail) => Err(fault_under(alloc, "sway", fail)),
+    }
+}
