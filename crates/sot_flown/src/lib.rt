@@ -1,0 +1,12 @@
+//! What follows for the histories of flights: each is a run of the program, and of an accepted program's flight from inside the safer
+//! regions each position is safe.
+#![tactic(auto)]
+
+mod facts;
+mod laws;
+
+pub use facts::counts_are_as_stated;
+pub use laws::{
+    beginnings_are_histories, drafts_are_stated, flown_positions_are_safe, histories_are_runs,
+    inputs_are_the_flights, ticks_are_stated, ticks_are_the_time, ticks_tell_states,
+};
