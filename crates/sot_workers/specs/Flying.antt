@@ -1,0 +1,8 @@
+-- Flights that are flown without guests.
+use Rattle.std.specs.Prelude.{ℕ}
+use Rattle.sot_lists.specs.Places.{At}
+use Rattle.sot_flight.specs.Plans.{Plan, Guest}
+
+-- no node of the flight is flown by a guest
+abbrev pub HasNoGuests : Plan → Type 0
+HasNoGuests f = (n i : ℕ) → At f.crews n (Guest i) → ⊥

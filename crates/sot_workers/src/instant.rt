@@ -1,0 +1,89 @@
+//! All that is due in an instant.
+
+ghost use Rattle.std.specs.Prelude.{◌≡◌, ◌<◌, length, true, false, slice_set};
+ghost use Rattle.sot_world.specs.Configurations.{is_left};
+ghost use Rattle.sot_board.specs.Flown.{NoInputDue};
+ghost use Rattle.sot_board.specs.Calls.{IsSettled};
+ghost use Rattle.sot_workers.specs.Flying.{HasNoGuests};
+ghost use Rattle.sot_workers.specs.Instants.{IsSameInstant, NoneLeft, IsCodedNode, IsExternalNode};
+
+use sot_board::Board;
+use sot_lang::Typed;
+
+// The inputs that are due come.
+fn take_inputs(board: &mut Board<'_>)
+    ensures same { IsSameInstant board.old board.new }
+    ensures none { NoInputDue board.new.position }
+{
+    'inputs: while board.due_input() {
+        board.input();
+    }
+    board.is_standing();
+}
+
+// The modules that are left to decide do so, in declared order.
+fn decide_all(board: &mut Board<'_>)
+    ensures same { IsSameInstant board.old board.new }
+    ensures inputs { board.new.position.inputs ≡ board.old.position.inputs }
+    ensures none { NoneLeft board.new.position.at.left_dm (length board.new.accepted.program.modules) }
+{
+    let count = board.typed().modules.len() as u32;
+    for module in 0..count {
+        if board.due_dm(module) {
+            board.decide(module);
+        }
+    }
+}
+
+// Whether a node is coded, and else it is an external one.
+fn is_coded(p: &Typed, node: u32) -> bool
+    requires { node < length p.now.nodes }
+    ensures coded { result ≡ true → IsCodedNode p.now node }
+    ensures external { result ≡ false → IsExternalNode p.now node }
+{
+    p.nodes[node as usize].body.is_some()
+}
+
+// A node fires: a coded one by its code, an external one with its stated draft.
+fn fire(board: &mut Board<'_>, node: u32)
+    requires no_guests { HasNoGuests board.old.plan }
+    requires there { node < length board.old.accepted.program.nodes }
+    requires left { is_left board.old.position.at node ≡ true }
+    ensures same { IsSameInstant board.old board.new }
+    ensures inputs { board.new.position.inputs ≡ board.old.position.inputs }
+    ensures left_dm { board.new.position.at.left_dm ≡ board.old.position.at.left_dm }
+    ensures left { board.new.position.at.left ≡ slice_set board.old.position.at.left node false }
+{
+    if is_coded(board.typed(), node) {
+        board.fire(node);
+    } else {
+        board.commit_stated(node);
+    }
+}
+
+// The nodes that are left to fire do so, in declared order.
+fn fire_all(board: &mut Board<'_>)
+    requires no_guests { HasNoGuests board.old.plan }
+    ensures same { IsSameInstant board.old board.new }
+    ensures inputs { board.new.position.inputs ≡ board.old.position.inputs }
+    ensures left_dm { board.new.position.at.left_dm ≡ board.old.position.at.left_dm }
+    ensures none { NoneLeft board.new.position.at.left (length board.new.accepted.program.nodes) }
+{
+    let count = board.typed().nodes.len() as u32;
+    for node in 0..count {
+        if board.due(node) {
+            fire(board, node);
+        }
+    }
+}
+
+/// All that is due in this instant: the inputs, then the decisions, then the firings. A tick may come after it, and none comes.
+pub fn finish_instant(board: &mut Board<'_>)
+    requires no_guests { HasNoGuests board.old.plan }
+    ensures same { IsSameInstant board.old board.new }
+    ensures settled { IsSettled board.new.accepted.program board.new.position }
+{
+    take_inputs(board);
+    decide_all(board);
+    fire_all(board);
+}
