@@ -1,0 +1,13 @@
+pub mod Laying
+pub mod Drafts
+pub mod Splits
+pub mod NumberTexts
+pub mod NameTexts
+pub mod DraftTexts
+pub mod MoveTexts
+pub mod LineTexts
+pub mod Unbroken
+pub mod TraceTexts
+pub mod Printable
+pub mod Histories
+pub mod Worked

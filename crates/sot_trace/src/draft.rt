@@ -1,0 +1,72 @@
+//! Drafts in the line of a firing.
+
+ghost use Rattle.std.specs.Prelude.{◌≡◌, ℕ, ◌+◌, ◌<◌, ◌≤◌, ◌++◌, length, codes, OnOk, IfOk};
+ghost use Rattle.std.specs.String.{string_bytes};
+ghost use Rattle.sot_lists.specs.Places.{At};
+ghost use Rattle.std.specs.Fmt.{signed_decimal};
+ghost use Rattle.sot_trace.specs.Names.{scalar_name};
+ghost use Rattle.sot_trace.specs.Drafts.{is_in_range, mark, slot_text, draft_text, slot_refused, draft_refused};
+
+use crate::name::put_scalar_name;
+use crate::number::put_number;
+use sot_lang::{Draft, Typed};
+use std::alloc::AllocError;
+
+fn is_in_range(p: &Typed, scalar: usize, number: i64) -> bool
+    requires { scalar < length p.now.scalars }
+    ensures { result ≡ is_in_range p.now scalar number }
+{
+    let info = &p.scalars[scalar];
+    info.lo <= number && number <= info.hi
+}
+
+fn put_drafted(
+    out: &mut String,
+    p: &Typed,
+    scalar: usize,
+    number: i64,
+    in_range: bool,
+) -> Result<(), AllocError>
+    requires { scalar < length p.now.scalars }
+    ensures { OnOk result (string_bytes out.new ≡ string_bytes out.old ++ (codes " " ++ (scalar_name p.now scalar ++ (mark in_range ++ signed_decimal number)))) }
+{
+    out.push_str(" ")?;
+    put_scalar_name(out, p, scalar)?;
+    out.push_str(if in_range { "=" } else { "!" })?;
+    put_number(out, number)
+}
+
+// One slot of a draft, and 1 for a number outside its scalar's range.
+fn put_slot(out: &mut String, p: &Typed, scalar: usize, slot: Option<i64>) -> Result<u8, AllocError>
+    requires { scalar < length p.now.scalars }
+    ensures text { OnOk result (string_bytes out.new ≡ string_bytes out.old ++ slot_text p.now scalar slot) }
+    ensures refused { IfOk result (λ refused. refused ≡ slot_refused p.now scalar slot) }
+    ensures few { IfOk result (λ refused. refused ≤ 1) }
+{
+    let Some(number) = slot else {
+        return Ok(0);
+    };
+    let in_range = is_in_range(p, scalar, number);
+    put_drafted(out, p, scalar, number, in_range)?;
+    Ok(if in_range { 0 } else { 1 })
+}
+
+/// The numbers of a draft, each behind its scalar's name, and how many of them are outside their scalars' ranges.
+pub fn put_draft(
+    out: &mut String,
+    p: &Typed,
+    writes: &[u32],
+    draft: &Draft,
+) -> Result<u8, AllocError>
+    requires few { length writes.now ≤ 8 }
+    requires written { (i k : ℕ) → At writes.now i k → k < length p.now.scalars }
+    ensures text { OnOk result (string_bytes out.new ≡ string_bytes out.old ++ draft_text p.now writes.now draft.now) }
+    ensures refused { IfOk result (λ refused. refused ≡ draft_refused p.now writes.now draft.now) }
+    ensures few { IfOk result (λ refused. refused ≤ 8) }
+{
+    let mut refused = 0;
+    for i in 0..writes.len() {
+        refused += put_slot(out, p, writes[i] as usize, draft.get(i))?;
+    }
+    Ok(refused)
+}

@@ -1,0 +1,15 @@
+//! Worked traces.
+
+ghost use Rattle.std.specs.Global.{Global};
+ghost use Rattle.sot_trace.specs.Examples.{AwayFromNought, TurnedBack, OutsideIsMarked, MarksOfDrafts, DisabledDrafts, RecordsAndInputs, MeetsTheLaw};
+
+/// Traces and lines of the running example and of a wider one, written out by hand.
+pub fn traces_are_as_stated()
+    ensures away { (g : Global) → AwayFromNought g }
+    ensures back { (g : Global) → TurnedBack g }
+    ensures outside { (g : Global) → OutsideIsMarked g }
+    ensures marks { (g : Global) → MarksOfDrafts g }
+    ensures disabled { (g : Global) → DisabledDrafts g }
+    ensures records { (g : Global) → RecordsAndInputs g }
+    ensures law { (g : Global) → MeetsTheLaw g }
+{}

@@ -1,0 +1,152 @@
+//! The line of an entry.
+
+ghost use Rattle.std.specs.Prelude.{◌≡◌, ℕ, ◌<◌, ◌≤◌, ◌++◌, length, OnOk, IfOk};
+ghost use Rattle.std.specs.String.{string_bytes};
+ghost use Rattle.sot_lists.specs.Places.{At};
+ghost use Rattle.sot_world.specs.Histories.{entry_of};
+ghost use Rattle.sot_world.specs.HistoryEntry.{InputAt, FireAt, DecideAt, TickAt};
+ghost use Rattle.sot_trace.specs.Lines.{writes_of, firing_word, mode_word, line_of, refused_in, ticks_in};
+ghost use Rattle.sot_trace.specs.Fitting.{FitsEntry};
+
+use crate::draft::put_draft;
+use crate::moves::put_moves;
+use crate::name::{put_module, put_node, put_topic};
+use crate::number::{put_numbers, put_time};
+use sot_lang::{Draft, Typed};
+use sot_world::{Entry, Mode};
+use std::alloc::AllocError;
+
+fn put_input(
+    out: &mut String,
+    p: &Typed,
+    time: u32,
+    topic: u32,
+    value: &[i64],
+) -> Result<(), AllocError>
+    ensures { OnOk result (string_bytes out.new ≡ string_bytes out.old ++ line_of p.now (InputAt time topic value.now)) }
+{
+    put_time(out, time)?;
+    out.push_str(" input ")?;
+    put_topic(out, p, topic)?;
+    out.push_str("=")?;
+    put_numbers(out, value)
+}
+
+fn firing_word(enabled: bool) -> &'static str
+    ensures { result.now ≡ firing_word enabled }
+{
+    if enabled { " fire " } else { " idle " }
+}
+
+// The scalars that a node writes, in order.
+fn writes_of(p: &Typed, node: u32) -> &[u32]
+    requires { node < length p.now.nodes }
+    ensures value { result.now ≡ writes_of p.now node }
+    ensures few { length result.now ≤ 8 }
+    ensures written { (i k : ℕ) → At result.now i k → k < length p.now.scalars }
+{
+    &p.nodes[node as usize].writes
+}
+
+// The line of a firing, and how many of its numbers are outside their ranges.
+fn put_firing(
+    out: &mut String,
+    p: &Typed,
+    time: u32,
+    node: u32,
+    draft: &Draft,
+    enabled: bool,
+) -> Result<u8, AllocError>
+    requires { node < length p.now.nodes }
+    ensures text { OnOk result (string_bytes out.new ≡ string_bytes out.old ++ line_of p.now (FireAt time node draft.now enabled)) }
+    ensures refused { IfOk result (λ refused. refused ≡ refused_in p.now (FireAt time node draft.now enabled)) }
+    ensures few { IfOk result (λ refused. refused ≤ 8) }
+{
+    put_time(out, time)?;
+    out.push_str(firing_word(enabled))?;
+    put_node(out, p, node)?;
+    put_draft(out, p, writes_of(p, node), draft)
+}
+
+fn mode_word(mode: Mode) -> &'static str
+    ensures { result.now ≡ mode_word mode }
+{
+    match mode {
+        Mode::Ac => " ac",
+        Mode::Sc => " sc",
+    }
+}
+
+fn put_decision(
+    out: &mut String,
+    p: &Typed,
+    time: u32,
+    decider: u32,
+    mode: Mode,
+) -> Result<(), AllocError>
+    ensures { OnOk result (string_bytes out.new ≡ string_bytes out.old ++ line_of p.now (DecideAt time decider mode)) }
+{
+    put_time(out, time)?;
+    out.push_str(" decide ")?;
+    put_module(out, p, decider)?;
+    out.push_str(mode_word(mode))
+}
+
+fn put_tick(
+    out: &mut String,
+    p: &Typed,
+    time: u32,
+    noise: &[i64],
+    states: &[i64],
+) -> Result<(), AllocError>
+    requires { FitsEntry p.now (TickAt time noise.now states.now) }
+    ensures { OnOk result (string_bytes out.new ≡ string_bytes out.old ++ line_of p.now (TickAt time noise.now states.now)) }
+{
+    put_time(out, time)?;
+    out.push_str(" tick")?;
+    put_moves(out, &p.plants, noise, states)
+}
+
+/// The line of an entry without its line end, and how many of its numbers are outside their ranges.
+pub fn put_line(out: &mut String, p: &Typed, entry: &Entry<'_>) -> Result<u8, AllocError>
+    requires { FitsEntry p.now (entry_of entry.now) }
+    ensures text { OnOk result (string_bytes out.new ≡ string_bytes out.old ++ line_of p.now (entry_of entry.now)) }
+    ensures refused { IfOk result (λ refused. refused ≡ refused_in p.now (entry_of entry.now)) }
+    ensures few { IfOk result (λ refused. refused ≤ 8) }
+{
+    match *entry {
+        Entry::Input { time, topic, value } => {
+            put_input(out, p, time, topic, value)?;
+            Ok(0)
+        }
+        Entry::Fire {
+            time,
+            node,
+            draft,
+            enabled,
+        } => put_firing(out, p, time, node, &draft, enabled),
+        Entry::Decide { time, module, mode } => {
+            put_decision(out, p, time, module, mode)?;
+            Ok(0)
+        }
+        Entry::Tick {
+            time,
+            noise,
+            states,
+        } => {
+            put_tick(out, p, time, noise, states)?;
+            Ok(0)
+        }
+    }
+}
+
+/// 1 for a tick, 0 for any other entry.
+pub fn ticks_in(entry: &Entry<'_>) -> u8
+    ensures value { result ≡ ticks_in (entry_of entry.now) }
+    ensures few { result ≤ 1 }
+{
+    match entry {
+        Entry::Tick { .. } => 1,
+        _ => 0,
+    }
+}

@@ -1,0 +1,52 @@
+//! Numbers, each put behind what stands there already.
+
+ghost use Rattle.std.specs.Prelude.{◌≡◌, ◌++◌, OnOk};
+ghost use Rattle.std.specs.String.{string_bytes};
+ghost use Rattle.std.specs.Fmt.{decimal, signed_decimal};
+ghost use Rattle.sot_trace.specs.Numbers.{further, numbers};
+
+use itoa::Buffer;
+use std::alloc::AllocError;
+
+/// A time or a place in decimal.
+pub fn put_time(out: &mut String, time: u32) -> Result<(), AllocError>
+    ensures { OnOk result (string_bytes out.new ≡ string_bytes out.old ++ decimal time) }
+{
+    out.push_str(Buffer::new().format(time))
+}
+
+/// A count in decimal.
+pub fn put_count(out: &mut String, count: u128) -> Result<(), AllocError>
+    ensures { OnOk result (string_bytes out.new ≡ string_bytes out.old ++ decimal count) }
+{
+    out.push_str(Buffer::new().format(count))
+}
+
+/// A number in decimal, behind a `-` where it is below 0.
+pub fn put_number(out: &mut String, number: i64) -> Result<(), AllocError>
+    ensures { OnOk result (string_bytes out.new ≡ string_bytes out.old ++ signed_decimal number) }
+{
+    out.push_str(Buffer::new().format(number))
+}
+
+// A comma before each number.
+fn put_further(out: &mut String, more: &[i64]) -> Result<(), AllocError>
+    ensures { OnOk result (string_bytes out.new ≡ string_bytes out.old ++ further more.now) }
+{
+    for number in more {
+        out.push_str(",")?;
+        put_number(out, *number)?;
+    }
+    Ok(())
+}
+
+/// Numbers with a comma between two.
+pub fn put_numbers(out: &mut String, all: &[i64]) -> Result<(), AllocError>
+    ensures { OnOk result (string_bytes out.new ≡ string_bytes out.old ++ numbers all.now) }
+{
+    if all.is_empty() {
+        return Ok(());
+    }
+    put_number(out, all[0])?;
+    put_further(out, &all[1..])
+}
