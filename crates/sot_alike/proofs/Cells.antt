@@ -29,7 +29,7 @@ command_same t u scalars (w ∷ ws) [] k = ap (λ (infos : List ScalarInfo). ran
 command_same t u scalars (w ∷ ws) (d ∷ ds) k = λ i. if w == k then sure_interval (range_of (scalars i) k) d else command_same t u scalars ws ds k i
 
 module _ (t u : Tables) (same : tables_seen t ≡ tables_seen u) where
-  hulls_alike : (hulls : List (List Side)) → AllHulls t hulls → AllHulls u hulls
+  pub hulls_alike : (hulls : List (List Side)) → AllHulls t hulls → AllHulls u hulls
   hulls_alike hulls all = (
     all.0 ∙ plant_count_same t u same,
     λ k plant at.

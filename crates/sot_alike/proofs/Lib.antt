@@ -2,6 +2,7 @@
 pub mod Seen
 -- certificates' texts
 pub mod Certificates
+pub mod Flights
 -- intervals, by what looks the same
 pub mod Expressions
 pub mod Bodies

@@ -15,17 +15,17 @@ module _ (t u : Tables) (same : tables_seen t ≡ tables_seen u) where
   of_topic_alike : (k n : ℕ) → IsOfTopic t k n → IsOfTopic u k n
   of_topic_alike k n topic = (topic.0, scalar_back u t (sym same) k topic.0 topic.1, topic.2)
 
-  writes_alike : (x y : NodeInfo) (n : ℕ) → node_seen x ≡ node_seen y → WritesTopic t x n → WritesTopic u y n
+  pub writes_alike : (x y : NodeInfo) (n : ℕ) → node_seen x ≡ node_seen y → WritesTopic t x n → WritesTopic u y n
   writes_alike x y n alike writes =
       let items : x.writes.items ≡ y.writes.items = ap (λ (s : NodeTable). s.writes) alike in
       (writes.0, subst (λ l. Has l writes.0) items writes.1, of_topic_alike writes.0 n writes.2)
 
-  input_alike : (x y : PlantInfo) (n : ℕ) → plant_seen x ≡ plant_seen y → IsInputTopic t x n → IsInputTopic u y n
+  pub input_alike : (x y : PlantInfo) (n : ℕ) → plant_seen x ≡ plant_seen y → IsInputTopic t x n → IsInputTopic u y n
   input_alike x y n alike input =
       let items : x.inputs.items ≡ y.inputs.items = ap (λ (s : PlantTable). s.inputs) alike in
       (input.0, subst (λ l. Has l input.0) items input.1, of_topic_alike input.0 n input.2)
 
-  partners_alike : (n n' : ℕ) → ArePartners t n n' → ArePartners u n n'
+  pub partners_alike : (n n' : ℕ) → ArePartners t n n' → ArePartners u n n'
   partners_alike n n' partners = (partners.0, partners.1, module_back u t (sym same) partners.0 partners.1 partners.2, partners.3)
 
 module _ (t u : Tables) (same : tables_seen t ≡ tables_seen u) where

@@ -6,6 +6,7 @@ use Rattle.sot_lang.specs.CertRules.{FitsTables}
 use Rattle.sot_lang.specs.declared.cert.Cert.{Cert}
 use Rattle.sot_typing.specs.Resolved.{tables_seen}
 use Rattle.sot_cert.specs.CertFormat.{cert_of}
+use Rattle.sot_flight.specs.FlightFormat.{flight_of}
 use Rattle.sot_tube.specs.Certified.{IsWellCertified}
 use Rattle.sot_tube.specs.Refusals.{Refusal}
 use Rattle.sot_tube.specs.Verdict.{verdict}
@@ -26,3 +27,7 @@ VerdictsAlike =
     (t u : Tables) (c d : Cert) (r : Refusal) → IsTyped t → FitsTables t c → tables_seen t ≡ tables_seen u
     → c.jitter ≡ d.jitter → c.modules.items ≡ d.modules.items
     → (verdict t c.jitter c).Passes → (verdict u d.jitter d).Refuses r → ⊥
+
+-- a flight's text says the same of tables that look the same
+abbrev pub FlightsAlike : Type 0
+FlightsAlike = (t u : Tables) (guests : ℕ) (bytes : List ℕ) → tables_seen t ≡ tables_seen u → flight_of t guests bytes ≡ flight_of u guests bytes

@@ -1,5 +1,5 @@
 //! Each of these functions does nothing, and its contract is the law.
-ghost use Rattle.sot_alike.specs.Laws.{CertificatesAlike, CertifiedAlike, VerdictsAlike};
+ghost use Rattle.sot_alike.specs.Laws.{CertificatesAlike, CertifiedAlike, VerdictsAlike, FlightsAlike};
 
 /// The bytes of a certificate say the same of all tables that look the same: the same contents, or the same fault.
 pub fn certificates_say_alike()
@@ -14,4 +14,9 @@ pub fn tables_are_certified_alike()
 /// No program is accepted by one of its tables and refused by another, with certificates that say the same.
 pub fn verdicts_are_alike()
     ensures { VerdictsAlike }
+{}
+
+/// The bytes of a flight say the same of all tables that look the same: the same flight, or the same fault.
+pub fn flights_say_alike()
+    ensures { FlightsAlike }
 {}

@@ -79,12 +79,13 @@ abbrev pub path_text : List ℕ → List ℕ
 path_text [] = codes "/"
 path_text (b ∷ bs) = b ∷ bs
 
--- `fault certificate PATH KIND`
-abbrev pub certificate_text : JsonFault → List ℕ
-certificate_text fault = codes "fault certificate " ++ (path_text fault.path ++ (codes " " ++ line (json_word fault.kind)))
+-- `fault SECTION PATH KIND`
+abbrev pub json_text : List ℕ → JsonFault → List ℕ
+json_text section fault = codes "fault " ++ (section ++ (codes " " ++ (path_text fault.path ++ (codes " " ++ line (json_word fault.kind)))))
 
 abbrev pub fault_text : Fault → List ℕ
 fault_text (faults.Section fault) = section_text fault
 fault_text (faults.Syntax fault) = syntax_text fault
 fault_text (faults.Typing fault) = type_text fault
-fault_text (faults.Cert fault) = certificate_text fault
+fault_text (faults.Cert fault) = json_text (codes "certificate") fault
+fault_text (faults.Flight fault) = json_text (codes "flight") fault

@@ -59,3 +59,7 @@ refusal_text t (ForeignInput m k) = topic_line (codes "13 ForeignInput") t m k
 refusal_text t (CodeMayTrap n at kind lo hi) =
     line (code_text t n at ++ codes " " ++ trap_word kind ++ ends_text lo hi)
 refusal_text t (NoCells m) = line (of_module (codes "15 NoCells") t m)
+
+-- a flight is refused, since the plant of this module, the first one, starts at this point outside the module's safer region
+abbrev pub start_text : Tables → ℕ → List ℤ → List ℕ
+start_text t m point = gap_line (codes "start") t m point

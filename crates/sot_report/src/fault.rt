@@ -16,6 +16,8 @@ pub enum Fault {
     Typing(TypeFault),
     /// The certificate's section says no certificate of the program.
     Cert(JsonFault),
+    /// The flight's section says no flight of the program.
+    Flight(JsonFault),
 }
 
 /// Why a mission was not loaded.

@@ -2,7 +2,7 @@
 
 ghost use Rattle.std.specs.Prelude.{◌≡◌, IfOk};
 ghost use Rattle.std.specs.String.{string_bytes};
-ghost use Rattle.sot_report.specs.FaultTexts.{section_word, rule_word, json_word, path_text, placed_text, section_text, syntax_text, type_text, certificate_text, fault_text};
+ghost use Rattle.sot_report.specs.FaultTexts.{section_word, rule_word, json_word, path_text, placed_text, section_text, syntax_text, type_text, json_text, fault_text};
 
 use crate::fault::Fault;
 use sot_cert::{JsonFault, JsonKind, Path};
@@ -107,12 +107,12 @@ fn path_text(path: &Path) -> &str
     if text.is_empty() { "/" } else { text }
 }
 
-fn certificate_text(alloc: Global, fault: &JsonFault) -> Result<String, AllocError>
-    ensures { IfOk result (λ text. string_bytes text ≡ certificate_text fault.now) }
+fn json_text(alloc: Global, section: &str, fault: &JsonFault) -> Result<String, AllocError>
+    ensures { IfOk result (λ text. string_bytes text ≡ json_text section.now fault.now) }
 {
     let path = path_text(&fault.path);
     let kind = json_word(fault.kind);
-    let text = format!(in alloc; "fault certificate {path} {kind}\n")?;
+    let text = format!(in alloc; "fault {section} {path} {kind}\n")?;
     Ok(text)
 }
 
@@ -124,6 +124,7 @@ pub fn fault_text(alloc: Global, fault: &Fault) -> Result<String, AllocError>
         Fault::Section(fault) => section_text(alloc, *fault),
         Fault::Syntax(fault) => syntax_text(alloc, *fault),
         Fault::Typing(fault) => type_text(alloc, *fault),
-        Fault::Cert(fault) => certificate_text(alloc, fault),
+        Fault::Cert(fault) => json_text(alloc, "certificate", fault),
+        Fault::Flight(fault) => json_text(alloc, "flight", fault),
     }
 }

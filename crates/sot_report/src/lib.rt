@@ -1,8 +1,8 @@
 //! What the bytes of a mission spell, and what is said of it.
 //!
-//! [`load`] gives the program's tables and the certificate that the bytes spell, or their first fault: of the sections, else of
-//! syntax, else of typing, else of the certificate. [`fault_text`], [`refusal_text`] and [`accepted_text`] are the texts of all
-//! answers, each a line or two.
+//! [`load`] gives what the bytes spell and a command needs: the program's tables, the certificate, the flight and the bytes of the
+//! trace; or their first fault: of the sections, else of syntax, else of typing, else of the certificate, else of the flight.
+//! [`fault_text`], [`refusal_text`], [`start_text`] and [`accepted_text`] are the texts of answers, each a line or two.
 #![tactic(auto)]
 
 mod accepted;
@@ -18,4 +18,4 @@ pub use facts::texts_are_as_stated;
 pub use fault::{Fault, LoadFail};
 pub use fault_lines::fault_text;
 pub use loading::{Loaded, load};
-pub use refusal_lines::refusal_text;
+pub use refusal_lines::{refusal_text, start_text};

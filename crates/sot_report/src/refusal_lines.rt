@@ -2,7 +2,7 @@
 
 ghost use Rattle.std.specs.Prelude.{◌≡◌, ◌++◌, OnOk, IfOk};
 ghost use Rattle.sot_rta.specs.Refused.{refusal_view};
-ghost use Rattle.sot_report.specs.RefusalTexts.{region_word, of_module, cell_text, node_line, topic_line, gap_line, leaves_line, trap_line, code_text, refusal_text};
+ghost use Rattle.sot_report.specs.RefusalTexts.{region_word, of_module, cell_text, node_line, topic_line, gap_line, leaves_line, trap_line, code_text, refusal_text, start_text};
 
 use crate::piece::{
     put, put_box, put_count, put_ends, put_module, put_node, put_place, put_plant, put_point,
@@ -316,4 +316,11 @@ pub fn refusal_text(alloc: Global, p: &Typed, refusal: &Refusal) -> Result<Vec<u
         } => code_line(alloc, p, node, at, kind, lo, hi),
         Refusal::NoCells { module } => entry_line(alloc, p, module),
     }
+}
+
+/// The line of a flight that is refused, since this module's plant starts at a point outside the module's safer region.
+pub fn start_text(alloc: Global, p: &Typed, module: u32, at: &Point) -> Result<Vec<u8>, AllocError>
+    ensures { IfOk result (λ text. text.items ≡ start_text p.now «module» at.now) }
+{
+    gap_line(alloc, p, "start", module, at)
 }

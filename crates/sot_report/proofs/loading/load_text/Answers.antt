@@ -1,4 +1,5 @@
 use Rattle.std.proofs.Common.{Err, ap, sym, subst, ◌∙◌}
+use Rattle.sot_text.specs.Sections.{parts_of}
 use Rattle.sot_report.specs.declared.fault.Fault.TheVariants as faults
 use Rattle.sot_report.specs.declared.fault.LoadFail.TheVariants as fails
 use Rattle.sot_report.specs.Loads.{IfFault, FailsText}
@@ -13,5 +14,5 @@ returns-in-Err-Syntax-clause-fault c =
     let is = ap (λ e. Err e) c.in-Err-Syntax.field-0-is in
     let none = c.in-Err-Syntax.ensures.syntax c.in-Err-Syntax.fault is in
     let place = c.in-Err-Syntax.ensures.place c.in-Err-Syntax.fault is in
-    subst (λ e. IfFault e (FailsText c.args.source.now c.args.cert.now)) (sym (c.misspelled.ensures ∙ ap (λ f. fails.Fault (faults.Syntax f)) c.in-Err-Syntax.fault-is))
+    subst (λ e. IfFault e (FailsText (parts_of c.args.sections) c.args.guests)) (sym (c.misspelled.ensures ∙ ap (λ f. fails.Fault (faults.Syntax f)) c.in-Err-Syntax.fault-is))
     (rw (c.new.ensures.bytes, c.new.ensures.at) at none, rw (c.new.ensures.bytes, c.new.ensures.at) at place)
