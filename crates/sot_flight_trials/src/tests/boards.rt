@@ -1,0 +1,238 @@
+//! Boards that are stepped event by event.
+ghost use Rattle.std.specs.Prelude.{◌≡◌, ◌<◌, length, true, false};
+ghost use Rattle.sot_world.specs.Configurations.{is_left};
+ghost use Rattle.sot_workers.specs.Flying.{HasNoGuests};
+ghost use Rattle.sot_workers.specs.Instants.{IsCodedNode, IsExternalNode};
+
+use super::*;
+use sot_board::Board;
+use sot_compose::check_all;
+use sot_flight::Flight;
+use sot_lang::Typed;
+use sot_trace::board_text;
+use sot_world::Mode;
+
+const HIGH: &str = "{\"kind\":\"high\"}";
+
+const TWO: &str = "{\"drafts\":[[2]],\"kind\":\"script\"}";
+
+// A module decides, if it is left to. It answers whether it did.
+fn decide(board: &mut Board<'_>, module: u32) -> bool
+    ensures plan { board.new.plan ≡ board.old.plan }
+{
+    if (module as usize) < board.typed().modules.len() && board.due_dm(module) {
+        board.decide(module);
+        true
+    } else {
+        false
+    }
+}
+
+// Whether a node is coded, and else it is an external one.
+pub(super) fn is_coded(p: &Typed, node: u32) -> bool
+    requires { node < length p.now.nodes }
+    ensures coded { result ≡ true → IsCodedNode p.now node }
+    ensures external { result ≡ false → IsExternalNode p.now node }
+{
+    p.nodes[node as usize].body.is_some()
+}
+
+// A node fires: a coded one by its code, an external one with its stated draft.
+fn fire_due(board: &mut Board<'_>, node: u32)
+    requires no_guests { HasNoGuests board.old.plan }
+    requires there { node < length board.old.accepted.program.nodes }
+    requires left { is_left board.old.position.at node ≡ true }
+    ensures plan { board.new.plan ≡ board.old.plan }
+{
+    if is_coded(board.typed(), node) {
+        board.fire(node);
+    } else {
+        board.commit_stated(node);
+    }
+}
+
+// A node fires, if it is left to. It answers whether it did.
+fn fire(board: &mut Board<'_>, node: u32) -> bool
+    requires no_guests { HasNoGuests board.old.plan }
+    ensures plan { board.new.plan ≡ board.old.plan }
+{
+    if (node as usize) < board.typed().nodes.len() && board.due(node) {
+        fire_due(board, node);
+        true
+    } else {
+        false
+    }
+}
+
+// All plants tick, if they may. It answers whether they did.
+fn tick(board: &mut Board<'_>, flight: &Flight) -> bool
+    requires plan { flight.now ≡ board.old.plan }
+    ensures plan { board.new.plan ≡ board.old.plan }
+{
+    if board.may_tick() && board.time() < flight.horizon() {
+        board.tick();
+        true
+    } else {
+        false
+    }
+}
+
+// What is done to a board of the vehicle, whose node 0 is `fast` and node 1 is `slow`.
+#[derive(Clone, Copy)]
+pub(super) enum Deed {
+    Decide,
+    Fast,
+    Slow,
+    Tick,
+}
+
+// Does it, if it may be done.
+fn does(board: &mut Board<'_>, flight: &Flight, deed: Deed) -> bool
+    requires plan { flight.now ≡ board.old.plan }
+    requires no_guests { HasNoGuests flight.now }
+    ensures plan { board.new.plan ≡ board.old.plan }
+{
+    match deed {
+        Deed::Decide => decide(board, 0),
+        Deed::Fast => fire(board, 0),
+        Deed::Slow => fire(board, 1),
+        Deed::Tick => tick(board, flight),
+    }
+}
+
+// Does them in their order, each if it may be done. It answers whether all of them were.
+pub(super) fn does_all(board: &mut Board<'_>, flight: &Flight, deeds: &[Deed]) -> bool
+    requires plan { flight.now ≡ board.old.plan }
+    requires no_guests { HasNoGuests flight.now }
+    ensures plan { board.new.plan ≡ board.old.plan }
+{
+    let mut all = true;
+    for deed in deeds {
+        if !does(board, flight, *deed) {
+            all = false;
+        }
+    }
+    all
+}
+
+// What deeds lead to: whether all of them could be done, whether the flight is at its end, and the text of what happened.
+#[derive(Drop)]
+struct Flown {
+    done: bool,
+    ended: bool,
+    text: String,
+}
+
+fn after(alloc: Global, mission: &str, horizon: u32, deeds: &[Deed]) -> Result<Flown, Fail> {
+    let flight = flight(alloc, 10, horizon, HIGH, TWO)?;
+    let text = with_flight(alloc, mission, flight.as_str())?;
+    let loaded = loaded(alloc, text.as_str(), 0)?;
+    let Some(stated) = &loaded.flight else {
+        return Err(Fail::from(AllocError));
+    };
+    has_no_guests(&loaded.program, stated);
+    let Ok(accepted) = check_all(&loaded.program, &loaded.cert) else {
+        return Err(Fail::from(AllocError));
+    };
+    let Ok(mut board) = Board::open(alloc, &accepted, stated) else {
+        return Err(Fail::from(AllocError));
+    };
+    let done = does_all(&mut board, stated, deeds);
+    Ok(Flown {
+        done,
+        ended: board.finished(),
+        text: board_text(alloc, &board)?,
+    })
+}
+
+// The decision comes before the safe node's firing at 4, which then brakes at once.
+const BRAKED: &str = "soter trace 1
+start pos 10
+0 decide nav ac
+0 fire fast cmd=2
+0 idle slow cmd=0
+0 tick pos(1)=13
+1 tick pos(1)=16
+2 idle slow cmd=-2
+2 tick pos(1)=19
+3 tick pos(1)=22
+4 decide nav sc
+4 fire slow cmd=-2
+4 idle fast cmd=2
+4 tick pos(1)=21
+end 5 events 12 refused 0
+";
+
+// The safe node fires first at 4, so that the command 2 is still held.
+const HELD: &str = "soter trace 1
+start pos 10
+0 decide nav ac
+0 fire fast cmd=2
+0 idle slow cmd=0
+0 tick pos(1)=13
+1 tick pos(1)=16
+2 idle slow cmd=-2
+2 tick pos(1)=19
+3 tick pos(1)=22
+4 idle slow cmd=-2
+4 decide nav sc
+4 idle fast cmd=2
+4 tick pos(1)=25
+end 5 events 12 refused 0
+";
+
+// The decision and the safe node's firing that were due at 0 come one tick late.
+const LATE: &str = "soter trace 1
+start pos 10
+0 idle fast cmd=2
+0 tick pos(1)=11
+1 decide nav sc
+1 fire slow cmd=-2
+end 1 events 4 refused 0
+";
+
+#[test]
+fn the_order_of_an_instant_is_free(rt: HostRuntime) -> Result<(), Fail> {
+    let alloc = rt.alloc();
+    let mission = together(alloc, "\"format\":1")?;
+    for (first, second, said) in [
+        (Deed::Decide, Deed::Slow, BRAKED),
+        (Deed::Slow, Deed::Decide, HELD),
+    ] {
+        let deeds = [
+            Deed::Decide,
+            Deed::Fast,
+            Deed::Slow,
+            Deed::Tick,
+            Deed::Tick,
+            Deed::Slow,
+            Deed::Tick,
+            Deed::Tick,
+            first,
+            second,
+            Deed::Fast,
+            Deed::Tick,
+        ];
+        let flown = after(alloc, mission.as_str(), 5, &deeds)?;
+        assert_eq!(rt; flown.text.as_str(), said);
+        assert!(rt; flown.done && flown.ended);
+    }
+    Ok(())
+}
+
+#[test]
+fn with_jitter_a_tick_may_come_first(rt: HostRuntime) -> Result<(), Fail> {
+    let alloc = rt.alloc();
+    let late = together(alloc, "\"format\":2,\"jitter\":1")?;
+    let deeds = [Deed::Fast, Deed::Tick, Deed::Decide, Deed::Slow];
+    let in_time = after(alloc, late.as_str(), 1, &deeds)?;
+    assert_eq!(rt; in_time.text.as_str(), LATE);
+    assert!(rt; in_time.done && in_time.ended);
+
+    // No firing may be two ticks late, and without jitter none may be late at all.
+    let twice = [Deed::Fast, Deed::Tick, Deed::Tick];
+    assert!(rt; !after(alloc, late.as_str(), 2, &twice)?.done);
+    let on_time = together(alloc, "\"format\":1")?;
+    assert!(rt; !after(alloc, on_time.as_str(), 1, &deeds)?.done);
+    Ok(())
+}

@@ -1,0 +1,214 @@
+//! What flights state. The numbers are those of an independent program.
+ghost use Rattle.std.specs.Prelude.{ℕ, ◌≤◌};
+ghost use Rattle.sot_flight.specs.Fits.{FitsFlight};
+
+use super::*;
+use sot_flight::Flight;
+use sot_lang::{Draft, Typed};
+
+const CALM: &str = "{\"kind\":\"list\",\"values\":[[0]]}";
+
+const TWO: &str = "{\"drafts\":[[2]],\"kind\":\"script\"}";
+
+const SEED: &str = "{\"kind\":\"seed\",\"seed\":42,\"stream\":54}";
+
+// A disturbance of the first plant for a tick.
+fn noise(p: &Typed, flight: &Flight, tick: u32, i: u32) -> Result<i64, Fail>
+    requires fits { (guests : ℕ) × FitsFlight p.now guests flight.now }
+{
+    if p.plants.len() == 0 || i as usize >= p.plants[0].noise.len() {
+        return Err(Fail::from(AllocError));
+    }
+    Ok(flight.noise(p, 0, tick, i))
+}
+
+// The first `width` disturbances of the first plant for the ticks from the first up to the end, tick by tick, each after a space.
+fn noises(
+    alloc: Global,
+    p: &Typed,
+    flight: &Flight,
+    width: u32,
+    first: u32,
+    end: u32,
+) -> Result<String, Fail>
+    requires fits { (guests : ℕ) × FitsFlight p.now guests flight.now }
+{
+    let mut text = String::new(alloc);
+    for tick in first..end {
+        for i in 0..width {
+            let value = noise(p, flight, tick, i)?;
+            let one = format!(in alloc; " {value}")?;
+            text.push_str(one.as_str())?;
+        }
+    }
+    Ok(text)
+}
+
+// The draft of the first node in a firing, if one is stated.
+fn draft(p: &Typed, flight: &Flight, firing: u32) -> Result<Option<Draft>, Fail>
+    requires fits { (guests : ℕ) × FitsFlight p.now guests flight.now }
+{
+    if p.nodes.len() == 0 {
+        return Err(Fail::from(AllocError));
+    }
+    Ok(flight.stated(p, 0, firing))
+}
+
+// Adds to a text what is drafted in the first `width` slots, each after a space.
+fn push_draft(alloc: Global, draft: &Draft, width: usize, text: &mut String) -> Result<(), Fail>
+    requires few { width ≤ 8 }
+{
+    for i in 0..width {
+        match draft.get(i) {
+            Some(value) => {
+                let one = format!(in alloc; " {value}")?;
+                text.push_str(one.as_str())?;
+            }
+            None => text.push_str(" none")?,
+        }
+    }
+    Ok(())
+}
+
+// The drafts of the first node in its first `width` slots in so many firings, firing by firing, each after a space.
+fn drafts(
+    alloc: Global,
+    p: &Typed,
+    flight: &Flight,
+    width: usize,
+    count: u32,
+) -> Result<String, Fail>
+    requires fits { (guests : ℕ) × FitsFlight p.now guests flight.now }
+    requires few { width ≤ 8 }
+{
+    let mut text = String::new(alloc);
+    for firing in 0..count {
+        let Some(draft) = draft(p, flight, firing)? else {
+            return Err(Fail::from(AllocError));
+        };
+        push_draft(alloc, &draft, width, &mut text)?;
+    }
+    Ok(text)
+}
+
+// The guest that drafts for a node.
+fn guest(p: &Typed, flight: &Flight, node: u32) -> Result<Option<u32>, Fail>
+    requires fits { (guests : ℕ) × FitsFlight p.now guests flight.now }
+{
+    if node as usize >= p.nodes.len() {
+        return Err(Fail::from(AllocError));
+    }
+    Ok(flight.guest(node))
+}
+
+#[test]
+fn disturbances_by_tick(rt: HostRuntime) -> Result<(), Fail> {
+    let alloc = rt.alloc();
+    let mission = apart(alloc)?;
+    for (sway, first, end, want) in [
+        (SEED, 0, 12, " -1 -1 1 0 0 0 1 -1 -1 1 -1 0"),
+        (SEED, 99_999, 100_001, " 1 0"),
+        (
+            "{\"kind\":\"list\",\"values\":[[-1],[0],[1]]}",
+            0,
+            6,
+            " -1 0 1 1 1 1",
+        ),
+        ("{\"kind\":\"low\"}", 0, 2, " -1 -1"),
+        ("{\"kind\":\"high\"}", 0, 2, " 1 1"),
+    ] {
+        let flight = flight(alloc, 0, 20, sway, TWO)?;
+        let text = with_flight(alloc, mission.as_str(), flight.as_str())?;
+        let loaded = loaded(alloc, text.as_str(), 0)?;
+        let Some(stated) = &loaded.flight else {
+            return Err(Fail::from(AllocError));
+        };
+        let found = noises(alloc, &loaded.program, stated, 1, first, end)?;
+        assert_eq!(rt; found.as_str(), want);
+    }
+    Ok(())
+}
+
+#[test]
+fn drafts_by_firing(rt: HostRuntime) -> Result<(), Fail> {
+    let alloc = rt.alloc();
+    let mission = apart(alloc)?;
+    for (crew, count, want) in [
+        (
+            "{\"kind\":\"wild\",\"seed\":7,\"stream\":3}",
+            12,
+            " -1 1 0 -2 2 0 -1 -2 0 0 2 -2",
+        ),
+        (
+            "{\"drafts\":[[2],[null],[-99]],\"kind\":\"script\"}",
+            6,
+            " 2 none -99 -99 -99 -99",
+        ),
+    ] {
+        let flight = flight(alloc, 0, 20, CALM, crew)?;
+        let text = with_flight(alloc, mission.as_str(), flight.as_str())?;
+        let loaded = loaded(alloc, text.as_str(), 0)?;
+        let Some(stated) = &loaded.flight else {
+            return Err(Fail::from(AllocError));
+        };
+        let found = drafts(alloc, &loaded.program, stated, 1, count)?;
+        assert_eq!(rt; found.as_str(), want);
+        assert_eq!(rt; guest(&loaded.program, stated, 0)?, None);
+    }
+    Ok(())
+}
+
+#[test]
+fn a_guest_drafts(rt: HostRuntime) -> Result<(), Fail> {
+    let alloc = rt.alloc();
+    let mission = apart(alloc)?;
+    let flight = flight(alloc, 0, 20, CALM, "{\"index\":3,\"kind\":\"guest\"}")?;
+    let text = with_flight(alloc, mission.as_str(), flight.as_str())?;
+    let loaded = loaded(alloc, text.as_str(), 4)?;
+    let Some(stated) = &loaded.flight else {
+        return Err(Fail::from(AllocError));
+    };
+    assert_eq!(rt; guest(&loaded.program, stated, 0)?, Some(3));
+    assert_eq!(rt; guest(&loaded.program, stated, 1)?, None);
+    assert!(rt; draft(&loaded.program, stated, 0)?.is_none());
+    Ok(())
+}
+
+#[test]
+fn each_disturbance_of_a_tick_is_drawn(rt: HostRuntime) -> Result<(), Fail> {
+    let alloc = rt.alloc();
+    let flight = flight(alloc, 0, 5, SEED, TWO)?;
+    let text = with_flight(alloc, GUSTY, flight.as_str())?;
+    let loaded = loaded(alloc, text.as_str(), 0)?;
+    let Some(stated) = &loaded.flight else {
+        return Err(Fail::from(AllocError));
+    };
+    let found = noises(alloc, &loaded.program, stated, 2, 0, 5)?;
+    assert_eq!(rt; found.as_str(), " -1 -1 1 0 0 0 1 -1 -1 1");
+    Ok(())
+}
+
+// A node that writes a number and a truth value, flown by a seed.
+const BOTH: &str = "topic a: int[0..9] = 0;
+topic b: bool = false;
+external both period 1 offset 0 { writes a, b; }
+%certificate
+{\"format\":1,\"modules\":{}}
+";
+
+#[test]
+fn each_scalar_of_a_firing_is_drawn(rt: HostRuntime) -> Result<(), Fail> {
+    let alloc = rt.alloc();
+    let text = with_flight(
+        alloc,
+        BOTH,
+        "{\"crew\":{\"both\":{\"kind\":\"wild\",\"seed\":7,\"stream\":3}},\"format\":1,\"horizon\":3,\"inputs\":[],\"start\":{},\"sway\":{}}",
+    )?;
+    let loaded = loaded(alloc, text.as_str(), 0)?;
+    let Some(stated) = &loaded.flight else {
+        return Err(Fail::from(AllocError));
+    };
+    let found = drafts(alloc, &loaded.program, stated, 2, 4)?;
+    assert_eq!(rt; found.as_str(), " 1 0 2 0 9 1 6 1");
+    Ok(())
+}
