@@ -1,0 +1,5 @@
+-- what the contracts cite
+pub mod CertText
+pub mod ReadBack
+pub mod FailTexts
+pub mod Sections

@@ -1,0 +1,16 @@
+//! Certificates as text.
+//!
+//! [`certificate_line`] writes a certificate without jitter as one line of JSON, which a reader of certificates reads back. [`fail_text`]
+//! says why there is none.
+#![tactic(auto)]
+
+mod fail_line;
+mod laws;
+mod line;
+mod value;
+mod whole;
+
+pub use fail_line::fail_text;
+pub use laws::{certificates_read_back, certificates_stand_behind};
+pub use line::{certificate_json, certificate_line};
+pub use whole::mission_text;

@@ -1,0 +1,33 @@
+//! The whole text of a certified program.
+
+ghost use Rattle.std.specs.Prelude.{◌≡◌, length, IfOk};
+ghost use Rattle.sot_tree.specs.TreeViews.{program_view};
+ghost use Rattle.sot_print.specs.Canonical.{canonical};
+ghost use Rattle.sot_certified_text.specs.CertText.{certificate_line};
+ghost use Rattle.sot_certified_text.specs.Sections.{mission_text};
+
+use crate::line::certificate_line;
+use sot_lang::{Cert, Typed};
+use sot_print::print;
+use sot_tree::Program;
+use std::alloc::{AllocError, Global};
+
+/// The canonical text of a program, the line `%certificate`, and the line of its certificate. The certificate has an entry, or none, for
+/// each module of the program.
+pub fn mission_text(
+    alloc: Global,
+    program: &Program,
+    p: &Typed,
+    cert: &Cert,
+) -> Result<Vec<u8>, AllocError>
+    requires { length cert.now.modules.items ≡ length p.now.modules }
+    ensures { IfOk result (λ text. text.items ≡ mission_text (canonical (program_view program.now)) (certificate_line p.now cert.now)) }
+{
+    let front = print(alloc, program)?;
+    let line = certificate_line(alloc, p, cert)?;
+    let mut text = Vec::new(alloc);
+    text.extend_from_slice(front.as_bytes())?;
+    text.extend_from_slice(b"%certificate\n")?;
+    text.extend_from_slice(&line)?;
+    Ok(text)
+}

@@ -1,0 +1,5 @@
+use Rattle.sot_certify.proofs.Refused.{not_closed}
+use Rattle.sot_certify.proofs.good.is_good_closed.Goals as goal
+
+pub returns-in-Err : goal.returns-in-Err
+returns-in-Err c = not_closed c.args.p.now c.args.«module» c.args.info.now c.args.cell.now _ c.requires.rules c.requires.is c.in-Err.ensures

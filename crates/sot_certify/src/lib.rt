@@ -1,0 +1,17 @@
+//! Certificates made for given regions.
+//!
+//! [`certify`] halves the boxes of each module's regions until each is a cell that keeps, and gives the certificate of these cells, with
+//! firings on time. Where it cannot, it says why: a condition that speaks of no cells, a single point whose own tube leaves, or a list
+//! with more cells than a certificate may have.
+#![tactic(auto)]
+
+mod conditions;
+mod fail;
+mod good;
+mod laws;
+mod listing;
+mod making;
+
+pub use fail::CertifyFail;
+pub use laws::{answers_are_one, failing_points_leave, lists_are_found_once};
+pub use making::certify;

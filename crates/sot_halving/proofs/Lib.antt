@@ -1,0 +1,9 @@
+pub mod Filling
+pub mod Findings
+pub mod Widest
+pub mod Cuts
+pub mod Agreement
+pub mod Covering
+pub mod Stack
+pub mod Effort
+pub mod Worked

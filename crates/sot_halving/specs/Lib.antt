@@ -1,0 +1,8 @@
+-- what contracts cite
+pub mod Cuts
+pub mod Findings
+-- between the crate's own functions
+pub mod Widest
+-- the laws, and a worked box
+pub mod Laws
+pub mod Examples
