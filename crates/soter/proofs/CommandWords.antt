@@ -19,7 +19,7 @@ use Rattle.clap.specs.declared.error.kind.ErrorKind.{ErrorKind}
 use Rattle.clap.specs.declared.error.kind.ErrorKind.TheVariants as kind
 use Rattle.clap.proofs.OnLiterals.{clap_on_literals}
 use Rattle.soter.specs.declared.words.Command.{Command}
-use Rattle.soter.specs.declared.words.Command.TheVariants.{Check, Format}
+use Rattle.soter.specs.declared.words.Command.TheVariants.{Check, Fly, Format}
 use Rattle.soter.specs.declared.words.WordFail.{WordFail}
 use Rattle.soter.specs.declared.words.WordFail.TheVariants.{Form}
 use Rattle.soter.specs.Words.{word_of}
@@ -29,11 +29,13 @@ use Rattle.soter.specs.WordParser.{is_dashed, program}
 pub taken : (c : Command) → fault_of program (word_of c ∷ []) ≡ []
 unfolding clap_on_literals
 taken Check = refl
+taken Fly = refl
 taken Format = refl
 
 pub named : (c : Command) → option_map (λ p. p.0) (subcommand_of program (word_of c ∷ [])) ≡ Some (word_of c)
 unfolding clap_on_literals
 named Check = refl
+named Fly = refl
 named Format = refl
 
 no_words : fault_of program [] ≡ [] → ⊥
@@ -94,6 +96,12 @@ alone Check (r ∷ rest) plain e =
     let inner : entered_fault (built program) (Some (codes "check", r ∷ rest)) ≡ [] =
     subst (λ (p : Option (Text × List Text)). entered_fault (built program) p ≡ []) (stops sub_names nothing_held idle 1 false (codes "check") [] (r ∷ rest)) below in
     absurd (nothing_behind (sub_shape (codes "check")) r rest refl parts.0 inner)
+alone Fly (r ∷ rest) plain e =
+    let parts = or_parts (is_dashed r) (list_any is_dashed rest) plain in
+    let below : entered_fault (built program) (walk [] sub_names nothing_held (codes "fly" ∷ r ∷ rest)).stopped ≡ [] = (neither _ _ (neither _ _ e).1).0 in
+    let inner : entered_fault (built program) (Some (codes "fly", r ∷ rest)) ≡ [] =
+    subst (λ (p : Option (Text × List Text)). entered_fault (built program) p ≡ []) (stops sub_names nothing_held idle 1 false (codes "fly") [] (r ∷ rest)) below in
+    absurd (nothing_behind (sub_shape (codes "fly")) r rest refl parts.0 inner)
 alone Format (r ∷ rest) plain e =
     let parts = or_parts (is_dashed r) (list_any is_dashed rest) plain in
     let below : entered_fault (built program) (walk [] sub_names nothing_held (codes "format" ∷ r ∷ rest)).stopped ≡ [] = (neither _ _ (neither _ _ e).1).0 in
@@ -115,11 +123,15 @@ only (w ∷ rest) plain e =
     elim (cases_Bool (bytes_eq (codes "check") w)) [
       | inl check ↦ (Check, whole Check w rest ((bytes_eq-Decides (codes "check") w).0 check) parts.1 e)
       | inr other ↦
-          elim (cases_Bool (bytes_eq (codes "format") w)) [
-            | inl format ↦ (Format, whole Format w rest ((bytes_eq-Decides (codes "format") w).0 format) parts.1 e)
-            | inr neither_one ↦
-                let none : find (answers_to w) sub_names ≡ None = rw (other, neither_one) refl in
-                absurd (strays (built program).top sub_names w rest refl parts.0 none (neither _ _ e).0)
+          elim (cases_Bool (bytes_eq (codes "fly") w)) [
+            | inl fly ↦ (Fly, whole Fly w rest ((bytes_eq-Decides (codes "fly") w).0 fly) parts.1 e)
+            | inr further ↦
+                elim (cases_Bool (bytes_eq (codes "format") w)) [
+                  | inl format ↦ (Format, whole Format w rest ((bytes_eq-Decides (codes "format") w).0 format) parts.1 e)
+                  | inr last ↦
+                      let none : find (answers_to w) sub_names ≡ None = rw (other, further, last) refl in
+                      absurd (strays (built program).top sub_names w rest refl parts.0 none (neither _ _ e).0)
+                ]
           ]
     ]
 
@@ -129,6 +141,7 @@ dashed_words (w ∷ words) = ap (λ (b : Bool). is_dashed (string_bytes w) || b)
 
 no_dash : (c : Command) → list_any is_dashed (word_of c ∷ []) ≡ false
 no_dash Check = refl
+no_dash Fly = refl
 no_dash Format = refl
 
 -- words with '-' ask for nothing

@@ -1,6 +1,10 @@
 -- A text decides one status.
-use Rattle.std.proofs.Common.{◌≡◌, ℕ, List, [], ◌∷◌, Result, Ok, inl, inr, refl, sym, ap, ◌∙◌, subst, arith, codes, Global}
-use Rattle.std.specs.Prelude.{String}
+use Rattle.std.proofs.Common.{◌≡◌, ℕ, List, [], ◌∷◌, Option, None, Some, length, Result, Ok, inl, inr, refl, sym, ap, ◌∙◌, subst, arith, codes, Global}
+use Rattle.std.specs.Prelude.{String, slice_index_or}
+use Rattle.std.proofs.lemmas.Option.{same_Some, slice_get_within}
+use Rattle.sot_lists.specs.Places.{At}
+use Rattle.sot_box.specs.Regions.{IsInRegion}
+use Rattle.sot_text.specs.declared.mission.Need.{Need}
 use Rattle.sot_text.specs.declared.mission.Need.TheVariants as needs
 use Rattle.sot_text.specs.Sections.{Parts, split_of}
 use Rattle.sot_tree.specs.Trees.{Program}
@@ -10,27 +14,33 @@ use Rattle.sot_parser.proofs.ProgramTexts.{spells_unique}
 use Rattle.sot_rules.specs.First.{IsFaultless}
 use Rattle.sot_typing.specs.Resolved.{tables_seen, tables_of}
 use Rattle.sot_cert.specs.CertFormat.{Contents, contents, cert_of}
+use Rattle.sot_cert.specs.declared.fault.JsonFault.{JsonFault}
+use Rattle.sot_flight.specs.Plans.{Plan}
+use Rattle.sot_flight.specs.FlightFormat.{flight_of}
 use Rattle.sot_tube.specs.Certified.{IsWellCertified}
 use Rattle.sot_tube.specs.Refusals.{Refusal}
 use Rattle.sot_tube.proofs.Acceptance.{certified_passes}
 use Rattle.sot_tube.proofs.VerdictExact.{verdict_exact}
 use Rattle.sot_alike.proofs.Certificates.{certificates_alike}
 use Rattle.sot_alike.proofs.Certified.{certified_alike}
+use Rattle.sot_alike.proofs.Seen.{modules_same}
+use Rattle.sot_alike.proofs.Flights.{flights_alike}
+use Rattle.sot_world.specs.Opens.{StartInside, IsFirstOutside}
 use Rattle.sot_report.specs.declared.fault.Fault.{Fault}
 use Rattle.sot_report.specs.declared.fault.Fault.TheVariants as faults
-use Rattle.sot_report.specs.Missions.{Mission, SpellsMission, Resolves, HasParts, HasFault}
+use Rattle.sot_report.specs.Missions.{Mission, Resolves, HasParts, SaysFlight, FaultsFlight, HasFault}
 use Rattle.soter.specs.declared.words.Command.{Command}
-use Rattle.soter.specs.declared.words.Command.TheVariants.{Check, Format}
+use Rattle.soter.specs.declared.words.Command.TheVariants.{Check, Fly, Format}
 use Rattle.soter.specs.Words.{Asks}
-use Rattle.soter.specs.Answers.{IsRefusedFor, Accepts, Refutes, Rejects, Replies}
+use Rattle.soter.specs.Answers.{IsAccepted, IsRefusedFor, SpellsFor, Accepts, Refutes, Rejects, Replies}
 use Rattle.soter.specs.Ends.{Decides}
 
 -- bytes have one list of sections, and its program's text spells one program
 same_ok : {A E : Type 0} (x : Result A E) (a b : A) → x ≡ Ok a → x ≡ Ok b → a ≡ b
 same_ok x a b e f = (let same = sym e ∙ f in cc)
 
-same_parts : (bytes : List ℕ) (a b : Parts) → HasParts bytes a → HasParts bytes b → a ≡ b
-same_parts bytes a b = same_ok (split_of bytes needs.Check) a b
+same_parts : (need : Need) (bytes : List ℕ) (a b : Parts) → HasParts need bytes a → HasParts need bytes b → a ≡ b
+same_parts need bytes a b = same_ok (split_of bytes need) a b
 
 same_program : (a b : Parts) (p q : Program) → a ≡ b → Spells a.program 0 p → Spells b.program 0 q → p ≡ q
 same_program a b p q same spells spells' = spells_unique a.program 0 p q spells (subst (λ (x : Parts). Spells x.program 0 q) (sym same) spells')
@@ -43,9 +53,26 @@ same_seen p q t u same r s = r.tables ∙ ap tables_of same ∙ sym s.tables
 same_said : (a b : Parts) (t u : Tables) → a ≡ b → tables_seen t ≡ tables_seen u → cert_of t a.cert ≡ cert_of u b.cert
 same_said a b t u same seen = certificates_alike t u a.cert seen ∙ ap (λ (x : Parts). cert_of u x.cert) same
 
-module _ (bytes : List ℕ) (m n : Mission) (x : SpellsMission bytes m) (y : SpellsMission bytes n) where
+-- the flight's text says the same flight of tables that look the same
+same_flown : (t u : Tables) (section : Option (List ℕ)) (f g : Plan) (a b : Option Plan) → tables_seen t ≡ tables_seen u → a ≡ Some f → b ≡ Some g
+    → SaysFlight t 0 section a → SaysFlight u 0 section b → f ≡ g
+same_flown t u None f g None b seen is is' x y = absurd cc
+same_flown t u None f g (Some a) b seen is is' x y = absurd x
+same_flown t u (Some section) f g None b seen is is' x y = absurd x
+same_flown t u (Some section) f g (Some a) None seen is is' x y = absurd y
+same_flown t u (Some section) f g (Some a) (Some b) seen is is' x y =
+    let one : a ≡ b = same_ok (flight_of u 0 section) a b (sym (flights_alike t u 0 section seen) ∙ x.0) y.0 in
+    same_Some f a (sym is) ∙ one ∙ same_Some b g is'
+
+-- and has no fault of one of them where it says a flight of the other
+flown_faulty : (t u : Tables) (section : Option (List ℕ)) (a : Option Plan) (fault : JsonFault) → tables_seen t ≡ tables_seen u → SaysFlight t 0 section a → FaultsFlight u 0 section fault → ⊥
+flown_faulty t u None a fault seen x y = y
+flown_faulty t u (Some section) None fault seen x y = x
+flown_faulty t u (Some section) (Some f) fault seen x y = (let e = sym x.0 ∙ flights_alike t u 0 section seen ∙ y in absurd cc)
+
+module _ (need : Need) (bytes : List ℕ) (m n : Mission) (x : SpellsFor need bytes m) (y : SpellsFor need bytes n) where
   sections : x.parts ≡ y.parts
-  sections = same_parts bytes x.parts y.parts x.divided y.divided
+  sections = same_parts need bytes x.parts y.parts x.divided y.divided
 
   seen : tables_seen m.tables ≡ tables_seen n.tables
   seen = same_seen m.program n.program m.tables n.tables (same_program x.parts y.parts m.program n.program sections x.spelled y.spelled) x.resolved y.resolved
@@ -54,38 +81,55 @@ module _ (bytes : List ℕ) (m n : Mission) (x : SpellsMission bytes m) (y : Spe
   said = same_ok (cert_of n.tables y.parts.cert) (contents m.cert) (contents n.cert) (sym (same_said x.parts y.parts m.tables n.tables sections seen) ∙ x.certified) y.certified
 
   -- a mission that is accepted is not refused
-  accepted_refused : (r : Refusal) → IsWellCertified m.tables m.cert.jitter m.cert → IsRefusedFor n r → ⊥
+  accepted_refused : (r : Refusal) → IsAccepted m → IsRefusedFor n r → ⊥
   accepted_refused r certified refuses =
       let jitter : m.cert.jitter ≡ n.cert.jitter = ap (λ (c : Contents). c.jitter) said in
       let other = certified_alike m.tables n.tables m.cert.jitter m.cert n.cert seen (ap (λ (c : Contents). c.modules) said) certified in
       let here = subst (λ j. IsWellCertified n.tables j n.cert) jitter other in
       (verdict_exact n.tables n.cert.jitter n.cert).exclusive r refuses (certified_passes n.tables n.cert.jitter n.cert here)
 
+  -- where all plants of a flight start inside, none starts outside
+  inside_outside : (f g : Plan) → m.flight ≡ Some f → n.flight ≡ Some g → StartInside m.tables f.start (length m.tables.modules)
+      → (k : ℕ) → IsFirstOutside n.tables g.start k → ⊥
+  inside_outside f g is is' inside k first =
+      let flights : f ≡ g = same_flown m.tables n.tables x.parts.flight f g m.flight n.flight seen is is' x.flown (subst (λ (q : Parts). SaysFlight n.tables 0 q.flight n.flight) (sym sections) y.flown) in
+      let here = subst (λ ms. At ms k first.info) (sym (modules_same m.tables n.tables seen)) first.is in
+      first.outside (subst (λ (h : Plan). IsInRegion first.info.safer.boxes (slice_index_or h.start first.info.plant [])) flights (inside k first.info (slice_get_within m.tables.modules k first.info here) here))
+
 -- bytes that spell a mission have no fault
-spelled_faulty : (bytes : List ℕ) (m : Mission) (f : Fault) → SpellsMission bytes m → HasFault bytes f → ⊥
-spelled_faulty bytes m (faults.Section f) x split = (let e = sym x.divided ∙ split in absurd cc)
-spelled_faulty bytes m (faults.Syntax f) x (parts, has, none, is) =
-    none m.program (subst (λ (q : Parts). Spells q.program 0 m.program) (same_parts bytes x.parts parts x.divided has) x.spelled)
-spelled_faulty bytes m (faults.Typing f) x (parts, has, (p, spells, first)) =
-    let same : m.program ≡ p = same_program x.parts parts m.program p (same_parts bytes x.parts parts x.divided has) x.spelled spells in
+spelled_faulty : (need : Need) (bytes : List ℕ) (m : Mission) (f : Fault) → SpellsFor need bytes m → HasFault need 0 bytes f → ⊥
+spelled_faulty need bytes m (faults.Section f) x split = (let e = sym x.divided ∙ split in absurd cc)
+spelled_faulty need bytes m (faults.Syntax f) x (parts, has, none, is) =
+    none m.program (subst (λ (q : Parts). Spells q.program 0 m.program) (same_parts need bytes x.parts parts x.divided has) x.spelled)
+spelled_faulty need bytes m (faults.Typing f) x (parts, has, (p, spells, first)) =
+    let same : m.program ≡ p = same_program x.parts parts m.program p (same_parts need bytes x.parts parts x.divided has) x.spelled spells in
     subst (λ (q : Program). IsFaultless q) same x.resolved.faultless f.at f.kind first.fails
-spelled_faulty bytes m (faults.Cert f) x (parts, has, (p, t, spells, resolves, fails)) =
-    let here = same_parts bytes x.parts parts x.divided has in
+spelled_faulty need bytes m (faults.Cert f) x (parts, has, (p, t, (spells, resolves), fails)) =
+    let here = same_parts need bytes x.parts parts x.divided has in
     let same : m.program ≡ p = same_program x.parts parts m.program p here x.spelled spells in
     let e = sym x.certified ∙ same_said x.parts parts m.tables t here (same_seen m.program p m.tables t same x.resolved resolves) ∙ fails in
     absurd cc
+spelled_faulty need bytes m (faults.Flight f) x (parts, has, (p, t, (spells, resolves), says, fails)) =
+    let here = same_parts need bytes x.parts parts x.divided has in
+    let same : m.program ≡ p = same_program x.parts parts m.program p here x.spelled spells in
+    flown_faulty m.tables t parts.flight m.flight f (same_seen m.program p m.tables t same x.resolved resolves) (subst (λ (q : Parts). SaysFlight m.tables 0 q.flight m.flight) here x.flown) fails
 
 -- what is accepted is neither refused nor rejected, and what is refused is not rejected
 not_refuted : (c : Command) (bytes text text' : List ℕ) → Accepts c bytes text → Refutes c bytes text' → ⊥
-not_refuted Check bytes text text' (m, spells, certified, safe, says) (n, spells', (r, refuses, says')) = accepted_refused bytes m n spells spells' r certified refuses
+not_refuted Check bytes text text' (m, spells, certified, safe, says) (n, spells', (r, refuses, says')) = accepted_refused needs.Check bytes m n spells spells' r certified refuses
+not_refuted Fly bytes text text' (m, spells, certified, safe, flown) (n, spells', inl (r, refuses, says')) = accepted_refused needs.Fly bytes m n spells spells' r certified refuses
+not_refuted Fly bytes text text' (m, spells, certified, safe, (f, is, (inside, flown))) (n, spells', inr (certified', (g, is', (k, first, says')))) =
+    inside_outside needs.Fly bytes m n spells spells' f g is is' inside k first
 not_refuted Format bytes text text' a r = r
 
 not_rejected : (c : Command) (bytes text text' : List ℕ) → Accepts c bytes text → Rejects c bytes text' → ⊥
-not_rejected Check bytes text text' (m, spells, certified, safe, says) (f, has, says') = spelled_faulty bytes m f spells has
+not_rejected Check bytes text text' (m, spells, certified, safe, says) (f, has, says') = spelled_faulty needs.Check bytes m f spells has
+not_rejected Fly bytes text text' (m, spells, certified, safe, flown) (f, has, says') = spelled_faulty needs.Fly bytes m f spells has
 not_rejected Format bytes text text' a r = r.0 a.0 a.1
 
 refuted_not_rejected : (c : Command) (bytes text text' : List ℕ) → Refutes c bytes text → Rejects c bytes text' → ⊥
-refuted_not_rejected Check bytes text text' (m, spells, (r, refuses, says)) (f, has, says') = spelled_faulty bytes m f spells has
+refuted_not_rejected Check bytes text text' (m, spells, refused) (f, has, says') = spelled_faulty needs.Check bytes m f spells has
+refuted_not_rejected Fly bytes text text' (m, spells, refused) (f, has, says') = spelled_faulty needs.Fly bytes m f spells has
 refuted_not_rejected Format bytes text text' a r = a
 
 -- a command answers one status
@@ -103,9 +147,14 @@ replies_once c bytes text text' s t (inr (inr (is, a))) (inr (inr (is', b))) = i
 -- words ask for one command
 same_command : (words : List (String Global)) (c d : Command) → Asks words c → Asks words d → c ≡ d
 same_command words Check Check a b = refl
+same_command words Fly Fly a b = refl
 same_command words Format Format a b = refl
+same_command words Check Fly a b = (let e : codes "check" ∷ [] ≡ codes "fly" ∷ [] = sym a ∙ b in absurd cc)
 same_command words Check Format a b = (let e : codes "check" ∷ [] ≡ codes "format" ∷ [] = sym a ∙ b in absurd cc)
+same_command words Fly Check a b = (let e : codes "fly" ∷ [] ≡ codes "check" ∷ [] = sym a ∙ b in absurd cc)
+same_command words Fly Format a b = (let e : codes "fly" ∷ [] ≡ codes "format" ∷ [] = sym a ∙ b in absurd cc)
 same_command words Format Check a b = (let e : codes "format" ∷ [] ≡ codes "check" ∷ [] = sym a ∙ b in absurd cc)
+same_command words Format Fly a b = (let e : codes "format" ∷ [] ≡ codes "fly" ∷ [] = sym a ∙ b in absurd cc)
 
 -- words and bytes decide one status
 pub decides_once : (words : List (String Global)) (bytes : List ℕ) (s t : ℕ) → Decides words bytes s → Decides words bytes t → s ≡ t

@@ -10,10 +10,11 @@ use Rattle.sot_tube.specs.Refusals.{Refusal}
 use Rattle.sot_tube.specs.Certified.{IsWellCertified}
 use Rattle.sot_tube.specs.Verdict.{verdict}
 use Rattle.sot_world.specs.Headline.{EveryRunIsSafe}
+use Rattle.sot_flight.specs.Plans.{Plan}
 use Rattle.sot_report.specs.AcceptedTexts.{accepted_text}
 use Rattle.sot_report.specs.RefusalTexts.{refusal_text}
 use Rattle.soter.specs.Texts.{usage_text, long_text}
-use Rattle.soter.specs.Answers.{Replies, input_limit}
+use Rattle.soter.specs.Answers.{IsTraceOf, IsOutsideOf, Replies, input_limit}
 use Rattle.soter.specs.declared.words.Command.{Command}
 use Rattle.soter.specs.Words.{Asks, AsksSome, AsksNone}
 
@@ -21,6 +22,16 @@ use Rattle.soter.specs.Words.{Asks, AsksSome, AsksNone}
 abbrev pub Judges : Tables → Cert → ℕ → List ℕ → Type 0
 Judges t cert status text =
     ((status ≡ 0) × IsWellCertified t cert.jitter cert × EveryRunIsSafe t cert.jitter × (text ≡ accepted_text t cert))
+    ⊎ ((status ≡ 1) × ((r : Refusal) × (verdict t cert.jitter cert).Refuses r × (text ≡ refusal_text t r)))
+
+-- what is said of an accepted program's flight
+abbrev pub JudgesFlight : Tables → ℕ → Plan → ℕ → List ℕ → Type 0
+JudgesFlight t jitter f status text = ((status ≡ 0) × IsTraceOf t jitter f text) ⊎ ((status ≡ 1) × IsOutsideOf t f text)
+
+-- what is said of a program's tables with a certificate and a flight
+abbrev pub JudgesFlown : Tables → Cert → Plan → ℕ → List ℕ → Type 0
+JudgesFlown t cert f status text =
+    (IsWellCertified t cert.jitter cert × EveryRunIsSafe t cert.jitter × JudgesFlight t cert.jitter f status text)
     ⊎ ((status ≡ 1) × ((r : Refusal) × (verdict t cert.jitter cert).Refuses r × (text ≡ refusal_text t r)))
 
 -- what is said of what a source gave: of all that it had left, or of too much

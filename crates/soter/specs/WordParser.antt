@@ -12,4 +12,6 @@ abbrev pub top : Shape
 top = record (new_shape (codes "soter")) { no_binary_name = true; disable_help_flag = true; disable_help_subcommand = true; subcommand_required = true }
 
 abbrev pub program : App
-program = with_subcommand (with_subcommand (record { top = top; subs = [] }) (new_shape (codes "check"))) (new_shape (codes "format"))
+program =
+    with_subcommand (with_subcommand (with_subcommand (record { top = top; subs = [] }) (new_shape (codes "check"))) (new_shape (codes "fly")))
+    (new_shape (codes "format"))

@@ -5,14 +5,21 @@ ghost use Rattle.sot_tree.specs.TreeViews.{program_view};
 ghost use Rattle.sot_lang.specs.CertRules.{FitsTables};
 ghost use Rattle.sot_print.specs.Canonical.{canonical};
 ghost use Rattle.sot_rta.specs.Refused.{refusal_view};
+ghost use Rattle.sot_world.specs.Opens.{IsFirstOutside};
+ghost use Rattle.sot_flight.specs.Fits.{FitsFlight};
+ghost use Rattle.sot_trace.specs.Traces.{trace_text};
+ghost use Rattle.soter.specs.Answers.{IsOutsideOf};
 ghost use Rattle.sot_report.specs.FaultTexts.{fault_text};
 ghost use Rattle.sot_report.specs.RefusalTexts.{refusal_text};
 ghost use Rattle.sot_report.specs.AcceptedTexts.{accepted_text};
 
+use sot_board::Board;
+use sot_flight::Flight;
 use sot_lang::{Cert, Typed};
 use sot_print::print;
-use sot_report::Fault;
+use sot_report::{Fault, start_text};
 use sot_rta::Refusal;
+use sot_trace::board_text;
 use sot_tree::Program;
 use std::alloc::{AllocError, Global};
 
@@ -65,6 +72,35 @@ pub fn refused(alloc: Global, program: &Typed, refusal: &Refusal) -> Result<Answ
     ensures text { IfOk result (λ answer. answer.text.items ≡ refusal_text program.now (refusal_view refusal.now)) }
 {
     let text = sot_report::refusal_text(alloc, program, refusal)?;
+    Ok(Answer { status: 1, text })
+}
+
+/// Status 0: the trace of what was flown.
+pub fn traced(alloc: Global, board: &Board<'_>) -> Result<Answer, AllocError>
+    ensures status { IfOk result (λ answer. answer.status ≡ 0) }
+    ensures text { IfOk result (λ answer. answer.text.items ≡ trace_text board.now.accepted.program board.now.plan.start board.now.entries) }
+{
+    let text = board_text(alloc, board)?;
+    Ok(Answer {
+        status: 0,
+        text: text.into_bytes(),
+    })
+}
+
+/// Status 1: the line of a flight whose start is refused, since the plant of this module starts outside the module's safer region.
+pub fn outside(
+    alloc: Global,
+    program: &Typed,
+    flight: &Flight,
+    module: u32,
+) -> Result<Answer, AllocError>
+    requires fits { FitsFlight program.now 0 flight.now }
+    requires first { IsFirstOutside program.now flight.now.start «module» }
+    ensures status { IfOk result (λ answer. answer.status ≡ 1) }
+    ensures text { IfOk result (λ answer. IsOutsideOf program.now flight.now answer.text.items) }
+{
+    let plant = program.modules[module as usize].plant;
+    let text = start_text(alloc, program, module, &flight.start()[plant as usize])?;
     Ok(Answer { status: 1, text })
 }
 

@@ -10,6 +10,7 @@ use crate::answer::{Answer, accepted, faulty, refused};
 use sot_compose::{CheckFail, check_all};
 use sot_lang::{Cert, Typed};
 use sot_report::{LoadFail, load};
+use sot_text::Need;
 use std::alloc::{AllocError, Global};
 
 // Checks a program with its certificate.
@@ -29,7 +30,7 @@ pub fn check(alloc: Global, bytes: &[u8]) -> Result<Answer, AllocError>
     requires { length bytes.now ≤ input_limit }
     ensures { IfOk result (λ answer. Replies CheckCommand bytes.now answer.status answer.text.items) }
 {
-    match load(alloc, bytes) {
+    match load(alloc, bytes, Need::Check, 0) {
         Ok(loaded) => judge(alloc, &loaded.program, &loaded.cert),
         Err(LoadFail::Fault(fault)) => faulty(alloc, &fault),
         Err(LoadFail::Memory) => Err(AllocError),

@@ -15,6 +15,7 @@ use std::alloc::{AllocError, Global};
 #[derive(Clone, Copy, Debug, PartialEq, Eq)]
 pub enum Command {
     Check,
+    Fly,
     Format,
 }
 
@@ -47,6 +48,7 @@ fn program<'a>(alloc: Global) -> Result<clap::Command<'a>, AllocError>
     ensures { IfOk result (λ command. app_of command ≡ program) }
 {
     let check = clap::Command::new(alloc, "check");
+    let fly = clap::Command::new(alloc, "fly");
     let format = clap::Command::new(alloc, "format");
     clap::Command::new(alloc, "soter")
         .no_binary_name(true)
@@ -54,6 +56,7 @@ fn program<'a>(alloc: Global) -> Result<clap::Command<'a>, AllocError>
         .disable_help_subcommand(true)
         .subcommand_required(true)
         .subcommand(check)?
+        .subcommand(fly)?
         .subcommand(format)
 }
 
@@ -75,6 +78,8 @@ fn found(matches: &ArgMatches<'_>) -> Result<Command, WordFail>
     };
     if name == "check" {
         Ok(Command::Check)
+    } else if name == "fly" {
+        Ok(Command::Fly)
     } else if name == "format" {
         Ok(Command::Format)
     } else {

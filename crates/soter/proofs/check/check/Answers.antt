@@ -1,4 +1,5 @@
 use Rattle.std.proofs.Common.{arith, subst}
+use Rattle.sot_text.specs.declared.mission.Need.TheVariants as needs
 use Rattle.sot_report.specs.Missions.{HasFault}
 use Rattle.sot_report.specs.Loads.{IfFault}
 use Rattle.soter.proofs.Forms.{judged_result, faulty_result}
@@ -12,5 +13,5 @@ returns-in-Ok c = judged_result c.judge.result c.args.bytes.now _ c.in-Ok.ensure
 
 pub returns-in-Err-Fault : goal.returns-in-Err-Fault
 returns-in-Err-Fault c =
-    let has = subst (λ e. IfFault e (HasFault c.args.bytes.now)) c.in-Err-Fault.field-0-is c.in-Err-Fault.ensures.fault in
+    let has = subst (λ e. IfFault e (HasFault needs.Check 0 c.args.bytes.now)) c.in-Err-Fault.field-0-is c.in-Err-Fault.ensures.fault in
     faulty_result c.faulty.result c.args.bytes.now c.in-Err-Fault.fault has c.faulty.ensures.status c.faulty.ensures.text

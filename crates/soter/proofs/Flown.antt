@@ -1,0 +1,60 @@
+-- What is said of a flight that was flown, or whose start is refused.
+use Rattle.std.proofs.Common.{◌≡◌, ◌∙◌, ap, subst, refl, ℕ, suc, List, [], Option, None, Some, length, Result, Ok, Err, inl, inr}
+use Rattle.std.specs.Prelude.{IfOk, slice_index_or}
+use Rattle.std.specs.declared.alloc.AllocError.{AllocError}
+use Rattle.sot_text.specs.declared.mission.Need.TheVariants as needs
+use Rattle.sot_text.specs.declared.mission.SectionFault.{SectionFault}
+use Rattle.sot_text.specs.Sections.{Division, Parts, lines, division, fault_behind, body_of, needed, or_missing, unless}
+use Rattle.sot_box.specs.Regions.{IsInRegion}
+use Rattle.sot_lang.specs.Tables.{Tables}
+use Rattle.sot_tube.specs.Admitted.{Admitted}
+use Rattle.sot_world.specs.Configurations.{IsSafer}
+use Rattle.sot_world.specs.Opens.{StartInside}
+use Rattle.sot_flight.specs.Plans.{Plan}
+use Rattle.sot_board.specs.Flown.{Position, IsStart, FlownBy}
+use Rattle.sot_board.specs.Standing.{Standing}
+use Rattle.sot_trace.specs.Traces.{trace_text}
+use Rattle.sot_report.specs.Missions.{Mission, SaysFlight}
+use Rattle.soter.specs.declared.answer.Answer.{Answer}
+use Rattle.soter.specs.Answers.{IsOutsideOf, SpellsFor}
+use Rattle.soter.specs.Steps.{JudgesFlight}
+
+-- a safer opening at the flight's points
+pub starts_inside : (t : Tables) (f : Plan) (P : Position) → IsStart t f P → IsSafer t P.at → StartInside t f.start (length t.modules)
+starts_inside t f P start safer = λ k a lt at. subst (λ points. IsInRegion a.safer.boxes (slice_index_or points a.plant [])) start.opening.points (safer k a at)
+
+pub traced_result :
+    (r : Result Answer AllocError) (acc : Admitted) (f : Plan) (b : Standing) → b.accepted ≡ acc → b.plan ≡ f → StartInside acc.program f.start (length acc.program.modules)
+    → FlownBy b.accepted.program b.accepted.cert.jitter b.plan b.entries → IfOk r (λ a. a.status ≡ 0) → IfOk r (λ a. a.text.items ≡ trace_text b.accepted.program b.plan.start b.entries)
+    → IfOk r (λ a. JudgesFlight acc.program acc.cert.jitter f a.status a.text.items)
+traced_result (Ok a) acc f b is plan inside flown status text =
+    let of_program = subst (λ (x : Admitted). FlownBy x.program x.cert.jitter b.plan b.entries) is flown in
+    let of_flight = subst (λ (g : Plan). FlownBy acc.program acc.cert.jitter g b.entries) plan of_program in
+    let said = text ∙ ap (λ (x : Admitted). trace_text x.program b.plan.start b.entries) is ∙ ap (λ (g : Plan). trace_text acc.program g.start b.entries) plan in
+    inl (status, (inside, (b.entries, of_flight, said)))
+traced_result (Err e) acc f b is plan inside flown status text = tt
+
+pub outside_result : (r : Result Answer AllocError) (t : Tables) (jitter : ℕ) (f : Plan) → IfOk r (λ a. a.status ≡ 1) → IfOk r (λ a. IsOutsideOf t f a.text.items) → IfOk r (λ a. JudgesFlight t jitter f a.status a.text.items)
+outside_result (Ok a) t jitter f status text = inr (status, text)
+outside_result (Err e) t jitter f status text = tt
+
+-- a mission that is to be flown has a flight
+needed_flight : (front : List ℕ) (c f t : Option (List ℕ)) (parts : Parts) → needed needs.Fly front c f t ≡ Some parts → parts.flight ≡ None → ⊥
+needed_flight front None f t parts e none = absurd cc
+needed_flight front (Some c) None t parts e none = absurd cc
+needed_flight front (Some c) (Some f) t parts e none = (let same : ◌≡◌ {A = Parts} (record { program = front; cert = c; flight = Some f; trace = None }) parts = cc in let is : ◌≡◌ {A = Option (List ℕ)} (Some f) None = ap (λ (p : Parts). p.flight) same ∙ none in absurd cc)
+
+found_of : (fault : Option SectionFault) (n : ℕ) (found : Option Parts) (parts : Parts) → unless fault (or_missing n found) ≡ Ok parts → found ≡ Some parts
+found_of (Some x) n found parts e = absurd cc
+found_of None n None parts e = absurd cc
+found_of None n (Some x) parts e = (let same : x ≡ parts = cc in ap (λ (p : Parts). Some p) same)
+
+says_none : (t : Tables) (section : Option (List ℕ)) → SaysFlight t 0 section None → section ≡ None
+says_none t None s = refl
+says_none t (Some section) s = absurd s
+
+pub flight_there : (bytes : List ℕ) (m : Mission) → SpellsFor needs.Fly bytes m → m.flight ≡ None → ⊥
+flight_there bytes m x none =
+    let d : Division = division 1 (lines bytes) in
+    let found = found_of (fault_behind 0 d.sections) (suc (length (lines bytes))) (needed needs.Fly d.front (body_of 1 d.sections) (body_of 2 d.sections) (body_of 3 d.sections)) x.parts x.divided in
+    needed_flight d.front (body_of 1 d.sections) (body_of 2 d.sections) (body_of 3 d.sections) x.parts found (says_none m.tables x.parts.flight (subst (SaysFlight m.tables 0 x.parts.flight) none x.flown))
