@@ -26,7 +26,7 @@ abbrev pub mode_word : Mode → List ℕ
 mode_word Ac = codes " ac"
 mode_word Sc = codes " sc"
 
--- `T input TOPIC=V1,V2`, `T fire NODE WRITES`, `T idle NODE WRITES`, `T decide MODULE MODE` and `T tick PLANT(W1,W2)=X1,X2`
+-- `T input TOPIC=V,..`, `T fire NODE WRITES`, `T idle NODE WRITES`, `T decide MODULE MODE` and `T tick PLANT(W,..)=X,..`
 abbrev pub line_of : Tables → Logged → List ℕ
 line_of p (InputAt time topic value) = decimal time ++ (codes " input " ++ (topic_name p topic ++ (codes "=" ++ numbers value)))
 line_of p (FireAt time node draft enabled) = decimal time ++ (firing_word enabled ++ (node_name p node ++ draft_text p (writes_of p node) draft))
@@ -37,7 +37,7 @@ line_of p (TickAt time noise states) = decimal time ++ (codes " tick" ++ moves_t
 abbrev pub header : List ℕ
 header = codes "soter trace 1"
 
--- `start PLANT X1,X2`
+-- `start PLANT X,..`
 abbrev pub start_line : PlantInfo → List ℤ → List ℕ
 start_line plant point = codes "start " ++ (plant.name ++ (codes " " ++ numbers point))
 

@@ -3,7 +3,7 @@ use Rattle.std.specs.Prelude.{ℕ, ℤ, List, [], ◌∷◌, ◌++◌, length, t
 use Rattle.sot_lang.specs.declared.tables.PlantInfo.{PlantInfo}
 use Rattle.sot_trace.specs.Numbers.{numbers}
 
--- ` PLANT(W1,W2)=X1,X2`
+-- ` PLANT(W,..)=X,..`
 abbrev pub move_text : PlantInfo → List ℤ → List ℤ → List ℕ
 move_text plant noise states = codes " " ++ (plant.name ++ (codes "(" ++ (numbers noise ++ (codes ")=" ++ numbers states))))
 
