@@ -1,3 +1,5 @@
+//! Tests of due times against plain walks.
+
 ghost use Rattle.std.specs.Prelude.{◌<◌};
 
 use super::*;

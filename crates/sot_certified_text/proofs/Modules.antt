@@ -1,5 +1,5 @@
 -- The modules of a certificate's JSON are those of the certificate.
-use Rattle.std.proofs.Common.{◌≡◌, ℕ, zero, suc, ◌≤◌, ◌&&◌, ◌||◌, Bool, false, true, Option, None, Some, Ok, List, [], ◌∷◌, ◌++◌, length, map, codes, bytes_eq, Ordering, Less, Equal, Greater, nat_cmp, refl, sym, ap, ◌∙◌, subst, arith}
+use Rattle.std.proofs.Common.{◌≡◌, ℕ, zero, suc, ◌&&◌, ◌||◌, Bool, false, true, Option, None, Some, Ok, List, [], ◌∷◌, ◌++◌, length, map, codes, bytes_eq, Ordering, Less, Equal, Greater, nat_cmp, refl, sym, ap, ◌∙◌, subst, arith}
 use Rattle.std.specs.Ordering.{match_ordering}
 use Rattle.std.specs.Cmp.Lexicographic.{slice_cmp}
 use Rattle.std.proofs.lemmas.Option.{none-some, same_Some}
@@ -8,7 +8,7 @@ use Rattle.serde_json.specs.Data.{Data, object, Members, no_members, member, put
 use Rattle.serde_json.specs.Find.{get_member}
 use Rattle.serde_json.proofs.Views.{get_member-put, get_member-put_other}
 use Rattle.sot_box.specs.BoxList.{BoxList}
-use Rattle.sot_box.specs.Sides.{Side, AreOrdered}
+use Rattle.sot_box.specs.Sides.{Side}
 use Rattle.sot_lists.specs.Places.{At}
 use Rattle.sot_lists.proofs.Places.{at_map}
 use Rattle.sot_lang.specs.declared.cert.Cells.{Cells}
@@ -17,13 +17,13 @@ use Rattle.sot_lang.specs.declared.tables.PlantInfo.{PlantInfo}
 use Rattle.sot_lang.specs.declared.tables.ModuleInfo.{ModuleInfo}
 use Rattle.sot_lang.specs.Tables.{Tables}
 use Rattle.sot_lang.specs.OwnerNames.{width_of}
-use Rattle.sot_lang.specs.TableRules.{MeetsTableRules, AreDistinct, declared_names}
+use Rattle.sot_lang.specs.TableRules.{MeetsTableRules, AreDistinct}
 use Rattle.sot_lang.specs.CertRules.{FitsTables, AreCellsOf}
 use Rattle.sot_cert.specs.declared.fault.JsonKind.TheVariants.{NotJson, Unknown}
-use Rattle.sot_cert.specs.Says.{Says, ◌>>=◌, or, unless, part}
-use Rattle.sot_cert.specs.Json.{json_of, whole, at, some, may, optional, is_among, all_among}
-use Rattle.sot_cert.specs.CertFormat.{cells, entry, entries, names, modules, has_jitter, jitter_in, keys, cert, cert_of, contents, region_of}
-use Rattle.sot_certified_text.specs.CertText.{cells_data, entry_data, put_data, entries_data, certificate_data}
+use Rattle.sot_cert.specs.Says.{◌>>=◌, or, unless, part}
+use Rattle.sot_cert.specs.Json.{whole, at, some, may, optional, is_among, all_among}
+use Rattle.sot_cert.specs.CertFormat.{cells, entry, entries, names, modules, has_jitter, jitter_in, cert, contents, region_of}
+use Rattle.sot_certified_text.specs.CertText.{cells_data, entry_data, entries_data, certificate_data}
 use Rattle.sot_certified_text.specs.ReadBack.{AreShort, IsWritable, CertificatesReadBack}
 use Rattle.sot_certified_text.proofs.ReadBack.{cells_read}
 

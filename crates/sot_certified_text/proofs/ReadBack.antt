@@ -1,18 +1,17 @@
 -- A certificate's JSON says that certificate.
-use Rattle.std.proofs.Common.{◌≡◌, ℕ, zero, suc, ◌+◌, ◌<◌, ◌≤◌, ℤ, pos, negsuc, ◌≤ℤ◌, ◌&&◌, ◌||◌, Bool, false, true, Option, None, Some, Ok, List, [], ◌∷◌, ◌++◌, length, map, codes, bytes_eq, refl, sym, ap, ap₂, ◌∙◌, subst, arith, decimal, eq-eqb, inl, inr}
-use Rattle.std.specs.Prelude.{int_le, nat_le, ◌==◌}
+use Rattle.std.proofs.Common.{◌≡◌, ℕ, zero, suc, ◌≤◌, ℤ, pos, negsuc, ◌≤ℤ◌, ◌&&◌, Bool, false, true, Ok, List, [], ◌∷◌, ◌++◌, length, codes, refl, sym, ap, ◌∙◌, subst, arith, decimal, eq-eqb, inl, inr}
+use Rattle.std.specs.Prelude.{int_le}
 use Rattle.std.proofs.lemmas.Int.{ints}
 use Rattle.std.proofs.lemmas.Bool.{cases_Bool, le-leb}
 use Rattle.std.proofs.lemmas.List.{append-nil, append_assoc}
-use Rattle.std.proofs.lemmas.Slice.Eq.{bytes_eq-Decides}
-use Rattle.serde_json.specs.Data.{Data, number, array, object, Items, no_items, item, Members, no_members, member, put}
+use Rattle.serde_json.specs.Data.{Data, number}
 use Rattle.serde_json.specs.Events.{items_len}
 use Rattle.serde_json.specs.Find.{of_integer}
 use Rattle.sot_box.specs.Sides.{Side, AreOrdered}
 use Rattle.sot_box.proofs.Indexes.{le_false}
 use Rattle.sot_lists.specs.Places.{At}
 use Rattle.sot_cert.specs.declared.fault.JsonKind.TheVariants.{OutsideRange, Empty, Width, TooMany}
-use Rattle.sot_cert.specs.Says.{Says, ◌>>=◌, or, unless, part}
+use Rattle.sot_cert.specs.Says.{Says, ◌>>=◌, unless, part}
 use Rattle.sot_cert.specs.Json.{whole, each_after, each}
 use Rattle.sot_cert.specs.CertFormat.{number as number_says, side, cell, cells, region_of}
 use Rattle.sot_certified_text.specs.CertText.{side_data, cell_data, cells_data, items_by}

@@ -1,9 +1,9 @@
 -- The JSON of a certificate has no float, and nests six levels deep at most.
-use Rattle.std.proofs.Common.{◌≡◌, ℕ, zero, suc, ◌≤◌, ◌||◌, ℤ, pos, negsuc, Bool, false, true, Option, None, Some, List, [], ◌∷◌, Ordering, Less, Equal, Greater, nat_cmp, refl, sym, ap, ◌∙◌, subst, arith}
+use Rattle.std.proofs.Common.{◌≡◌, ℕ, suc, ◌≤◌, ◌||◌, ℤ, pos, negsuc, Bool, false, true, Option, None, Some, List, [], ◌∷◌, Ordering, Less, Equal, Greater, nat_cmp, refl, arith}
 use Rattle.std.specs.Prelude.{max}
 use Rattle.std.specs.Ordering.{match_ordering}
 use Rattle.std.specs.Cmp.Lexicographic.{slice_cmp}
-use Rattle.serde_json.specs.Data.{Data, number, array, object, Items, no_items, item, Members, no_members, member, put, depth, items_depth, members_depth}
+use Rattle.serde_json.specs.Data.{Data, number, Members, no_members, member, put, depth, items_depth, members_depth}
 use Rattle.serde_json.specs.Find.{of_integer}
 use Rattle.serde_json.specs.Written.{has_float, items_have_float, members_have_float}
 use Rattle.sot_box.specs.Sides.{Side}
@@ -11,7 +11,7 @@ use Rattle.sot_lang.specs.declared.cert.Cells.{Cells}
 use Rattle.sot_lang.specs.declared.cert.Cert.{Cert}
 use Rattle.sot_lang.specs.declared.tables.ModuleInfo.{ModuleInfo}
 use Rattle.sot_lang.specs.Tables.{Tables}
-use Rattle.sot_certified_text.specs.CertText.{side_data, cell_data, cells_data, entry_data, put_data, entries_data, certificate_data, items_by}
+use Rattle.sot_certified_text.specs.CertText.{side_data, cell_data, cells_data, entry_data, entries_data, certificate_data, items_by}
 
 neither : (a b : Bool) → a ≡ false → b ≡ false → (a || b) ≡ false
 neither false b h k = k

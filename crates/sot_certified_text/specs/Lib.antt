@@ -2,4 +2,5 @@
 pub mod CertText
 pub mod ReadBack
 pub mod FailTexts
-pub mod Sections
+pub mod Lines
+pub mod Made

@@ -1,5 +1,5 @@
 -- What is written is read back.
-use Rattle.std.specs.Prelude.{◌≡◌, ℕ, ℤ, pos, negsuc, ◌≤ℤ◌, true, List, Some, Ok}
+use Rattle.std.specs.Prelude.{◌≡◌, ℕ, pos, negsuc, ◌≤ℤ◌, true, List, Some, Ok}
 use Rattle.sot_box.specs.Sides.{Side}
 use Rattle.sot_lists.specs.Places.{At}
 use Rattle.sot_lang.specs.declared.cert.Cells.{Cells}

@@ -12,9 +12,10 @@ use std::alloc::{AllocError, Global};
 
 /// A certificate as JSON of format 1 with no blank: an object of its format and its modules, each module under its name with its two
 /// lists of cells; the keys of each object are in the order of their bytes. The certificate has an entry, or none, for each module of the
-/// program. What is written reads back as the value that was written.
+/// program, and no jitter, since a jitter is not written. What is written reads back as the value that was written.
 pub fn certificate_json(alloc: Global, p: &Typed, cert: &Cert) -> Result<Vec<u8>, AllocError>
-    requires { length cert.now.modules.items ≡ length p.now.modules }
+    requires entries { length cert.now.modules.items ≡ length p.now.modules }
+    requires no_jitter { cert.now.jitter ≡ 0 }
     ensures text { IfOk result (λ text. text.items ≡ compact_text (certificate_data p.now cert.now)) }
     ensures reads_back { IfOk result (λ text. json_of text.items ≡ Some (certificate_data p.now cert.now)) }
 {
@@ -23,10 +24,13 @@ pub fn certificate_json(alloc: Global, p: &Typed, cert: &Cert) -> Result<Vec<u8>
     Ok(text)
 }
 
-/// The same as a line of its own.
+/// The same as a line of its own, of a certificate without jitter, which reads back as the same value.
+#[tactic(auto, using(crate::proofs::JsonEnds::json_ends))]
 pub fn certificate_line(alloc: Global, p: &Typed, cert: &Cert) -> Result<Vec<u8>, AllocError>
-    requires { length cert.now.modules.items ≡ length p.now.modules }
-    ensures { IfOk result (λ text. text.items ≡ certificate_line p.now cert.now) }
+    requires entries { length cert.now.modules.items ≡ length p.now.modules }
+    requires no_jitter { cert.now.jitter ≡ 0 }
+    ensures text { IfOk result (λ text. text.items ≡ certificate_line p.now cert.now) }
+    ensures reads_back { IfOk result (λ text. json_of text.items ≡ Some (certificate_data p.now cert.now)) }
 {
     let mut text = certificate_json(alloc, p, cert)?;
     text.push(b'\n')?;

@@ -1,10 +1,11 @@
 //! The whole text of a certified program.
 
-ghost use Rattle.std.specs.Prelude.{◌≡◌, length, IfOk};
+ghost use Rattle.std.specs.Prelude.{◌≡◌, length, Some, IfOk};
 ghost use Rattle.sot_tree.specs.TreeViews.{program_view};
 ghost use Rattle.sot_print.specs.Canonical.{canonical};
-ghost use Rattle.sot_certified_text.specs.CertText.{certificate_line};
-ghost use Rattle.sot_certified_text.specs.Sections.{mission_text};
+ghost use Rattle.sot_cert.specs.Json.{json_of};
+ghost use Rattle.sot_lines.specs.Missions.{mission_text};
+ghost use Rattle.sot_certified_text.specs.CertText.{certificate_data, certificate_line};
 
 use crate::line::certificate_line;
 use sot_lang::{Cert, Typed};
@@ -12,16 +13,18 @@ use sot_print::print;
 use sot_tree::Program;
 use std::alloc::{AllocError, Global};
 
-/// The canonical text of a program, the line `%certificate`, and the line of its certificate. The certificate has an entry, or none, for
-/// each module of the program.
+/// The canonical text of a program, the line `%certificate`, and the line of its certificate, which reads back as its value. The
+/// certificate has an entry, or none, for each module of the program, and no jitter, which its line would not say.
 pub fn mission_text(
     alloc: Global,
     program: &Program,
     p: &Typed,
     cert: &Cert,
 ) -> Result<Vec<u8>, AllocError>
-    requires { length cert.now.modules.items ≡ length p.now.modules }
-    ensures { IfOk result (λ text. text.items ≡ mission_text (canonical (program_view program.now)) (certificate_line p.now cert.now)) }
+    requires entries { length cert.now.modules.items ≡ length p.now.modules }
+    requires no_jitter { cert.now.jitter ≡ 0 }
+    ensures text { IfOk result (λ text. text.items ≡ mission_text (canonical (program_view program.now)) (certificate_line p.now cert.now)) }
+    ensures reads_back { IfOk result (λ text. json_of (certificate_line p.now cert.now) ≡ Some (certificate_data p.now cert.now)) }
 {
     let front = print(alloc, program)?;
     let line = certificate_line(alloc, p, cert)?;

@@ -1,6 +1,5 @@
 -- One answer at most is true of a program, besides want of memory.
-use Rattle.std.proofs.Common.{◌≡◌, ℕ, ◌<◌, ◌≤◌, ◌+◌, ⊎_elim, ◌⊎◌, inl, inr, ℤ, Bool, false, true, Ok, Err, Some, List, ◌++◌, length, refl, sym, ap, ◌∙◌, subst, arith}
-use Rattle.std.specs.Prelude.{Result}
+use Rattle.std.proofs.Common.{◌≡◌, ℕ, ◌<◌, ◌≤◌, ⊎_elim, ◌⊎◌, inl, inr, ℤ, Bool, false, true, Ok, Err, Some, List, length, refl, sym, ap, ◌∙◌, subst, arith}
 use Rattle.std.proofs.lemmas.List.{length-append}
 use Rattle.std.proofs.lemmas.Option.{same_Some}
 use Rattle.sot_box.specs.Sides.{Side}
@@ -11,20 +10,19 @@ use Rattle.sot_lang.specs.declared.cert.Cert.{Cert}
 use Rattle.sot_lang.specs.declared.tables.ModuleInfo.{ModuleInfo}
 use Rattle.sot_lang.specs.Tables.{Tables}
 use Rattle.sot_tube.specs.Certified.{HasCells}
-use Rattle.sot_tube.specs.Refusals.{Refusal}
-use Rattle.sot_tube.specs.Checks.{Check, and_then, for_each, IsExact}
+use Rattle.sot_tube.specs.Checks.{and_then, for_each, IsExact}
 use Rattle.sot_tube.specs.Verdict.{IsWrittenByOne, periods, outputs, boxes, composition, code}
 use Rattle.sot_tube.proofs.Exact.{and_then_exact, for_each_exact, least_number_same, by_order}
 use Rattle.sot_tube.proofs.VerdictExact.{composition_exact, code_exact}
 use Rattle.sot_rta.specs.Refused.{refusal_view}
-use Rattle.sot_halving.specs.Findings.{Finding, Whole, Failing, Begun}
+use Rattle.sot_halving.specs.Findings.{Whole, Failing, Begun}
 use Rattle.sot_halving.specs.Laws.{BeginsWith}
 use Rattle.sot_halving.proofs.Agreement.{each_agree}
 use Rattle.sot_certify.specs.declared.fail.CertifyFail.{CertifyFail}
 use Rattle.sot_certify.specs.declared.fail.CertifyFail.TheVariants.{Refused, Point, TooMany, Memory}
 use Rattle.sot_certify.specs.Conditions.{frame, without_cells}
 use Rattle.sot_certify.specs.Made.{IsGood, region_of, IsMade, FailsAt, HasTooMany}
-use Rattle.sot_certify.specs.Certifying.{IsMadeFor, AreMadeBefore, Fails, Certifies}
+use Rattle.sot_certify.specs.Certifying.{IsMadeFor, AreMadeBefore, Fails}
 use Rattle.sot_certify.specs.Laws.{SameFail, SameAnswer, AnswersAreOne}
 
 periods_exact : (p : Tables) (m : ℕ) (a : ModuleInfo) → IsExact (periods p m a)

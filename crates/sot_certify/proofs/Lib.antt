@@ -1,4 +1,6 @@
 pub mod Refused
+pub mod Verdicts
+pub mod FailingTubes
 pub mod Taking
 pub mod Certified
 pub mod Entries

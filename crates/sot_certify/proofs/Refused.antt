@@ -1,5 +1,5 @@
 -- A cell that is refused is not good.
-use Rattle.std.proofs.Common.{◌≡◌, ℕ, ⊎_elim, List, Ok, Err, false, true, sym, ap, ◌∙◌, subst}
+use Rattle.std.proofs.Common.{◌≡◌, ℕ, ⊎_elim, List, Ok, Err, false, true, subst}
 use Rattle.std.specs.Prelude.{◌+◌, ◌*◌, slice_set}
 use Rattle.sot_box.specs.Sides.{Side}
 use Rattle.sot_box.proofs.Laws.{gap_uncovered}
@@ -10,14 +10,14 @@ use Rattle.sot_lang.specs.declared.tables.NodeInfo.{NodeInfo}
 use Rattle.sot_lang.specs.declared.tables.ModuleInfo.{ModuleInfo}
 use Rattle.sot_lang.specs.Tables.{Tables}
 use Rattle.sot_lang.specs.Ranges.{input_ranges, local_ranges, write_ranges}
-use Rattle.sot_lang.specs.TableRules.{MeetsTableRules, IsCoded}
+use Rattle.sot_lang.specs.TableRules.{MeetsTableRules}
 use Rattle.sot_iv.specs.BodyIntervals.{Intervals, IsExecutionIntervals}
 use Rattle.sot_iv.specs.NodeIntervals.{reading_intervals}
 use Rattle.sot_iv.proofs.BodyUnique.{execution_same}
 use Rattle.sot_tube.specs.Refusals.{Refusal}
 use Rattle.sot_tube.specs.Leaves.{TubeLeaves}
 use Rattle.sot_tube.specs.Certified.{DraftsFrom, command_intervals}
-use Rattle.sot_tube.specs.Verdict.{closed_cell, reach_cell}
+use Rattle.sot_tube.specs.Verdict.{closed_cell}
 use Rattle.sot_tube.proofs.Leaving.{all_hulls_same, tube_leaves_not}
 use Rattle.sot_rta.specs.declared.refusal.Refusal.{Refusal as CodeRefusal}
 use Rattle.sot_rta.specs.Refused.{refusal_view}

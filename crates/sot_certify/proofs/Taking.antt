@@ -1,5 +1,5 @@
 -- One list of cells, box after box.
-use Rattle.std.proofs.Common.{◌≡◌, ℕ, zero, suc, ◌<◌, ◌≤◌, ◌+◌, ◌⊎◌, ⊎_elim, ℤ, Bool, false, true, List, [], ◌∷◌, ◌++◌, length, drop, refl, sym, ap, ◌∙◌, subst, arith}
+use Rattle.std.proofs.Common.{◌≡◌, ℕ, zero, suc, ◌<◌, ◌≤◌, ◌+◌, ⊎_elim, Bool, false, true, List, [], ◌∷◌, ◌++◌, length, drop, refl, sym, ap, ◌∙◌, subst, arith}
 use Rattle.std.specs.Prelude.{reverse}
 use Rattle.std.proofs.Math.ListN.{length-set}
 use Rattle.std.proofs.lemmas.List.{reverse-append, reverse-reverse, length-append}
@@ -13,8 +13,8 @@ use Rattle.sot_lang.specs.declared.tables.ModuleInfo.{ModuleInfo}
 use Rattle.sot_lang.specs.Tables.{Tables}
 use Rattle.sot_lang.specs.OwnerNames.{width_of}
 use Rattle.sot_lang.specs.TableRules.{MeetsTableRules}
-use Rattle.sot_halving.specs.Cuts.{IsOnePoint, AreHalves}
-use Rattle.sot_halving.specs.Findings.{Finding, Whole, Failing, Begun, BisectsEach}
+use Rattle.sot_halving.specs.Cuts.{IsOnePoint}
+use Rattle.sot_halving.specs.Findings.{Whole, Failing, Begun, BisectsEach}
 use Rattle.sot_halving.proofs.Stack.{IsUnderWay, starts, more_cells, more_boxes, is_whole, is_failing, is_begun}
 use Rattle.sot_halving.proofs.Effort.{effort, effort_less, effort_falls}
 use Rattle.sot_certify.specs.declared.listing.ListFail.{ListFail}

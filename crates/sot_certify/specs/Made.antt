@@ -1,5 +1,5 @@
 -- The lists of cells that are made for a module, with firings on time.
-use Rattle.std.specs.Prelude.{◌≡◌, ℕ, ◌<◌, ◌≤◌, ℤ, Bool, false, true, List, length}
+use Rattle.std.specs.Prelude.{◌≡◌, ◌<◌, ◌≤◌, ℤ, Bool, false, true, List, length}
 use Rattle.sot_box.specs.Sides.{Side}
 use Rattle.sot_box.specs.BoxList.{BoxList}
 use Rattle.sot_lists.specs.Places.{At}

@@ -1,6 +1,6 @@
 -- Between the crate's own functions: one box at a time, one list at a time, one module at a time.
-use Rattle.std.specs.Prelude.{Option, Some, ◌≡◌, ℕ, ◌<◌, ◌≤◌, ◌⊎◌, Bool, false, true, List, [], ◌∷◌, ◌++◌, Result, Ok, Err, length}
-use Rattle.sot_box.specs.Sides.{Side, AreOrdered}
+use Rattle.std.specs.Prelude.{Option, Some, ◌≡◌, ℕ, ◌<◌, ◌≤◌, ◌⊎◌, Bool, false, true, List, [], ◌∷◌, ◌++◌, length}
+use Rattle.sot_box.specs.Sides.{Side}
 use Rattle.sot_box.specs.BoxList.{BoxList}
 use Rattle.sot_box.specs.Boxes.{lows}
 use Rattle.sot_lists.specs.Places.{At}

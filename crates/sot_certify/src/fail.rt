@@ -12,7 +12,7 @@ use std::alloc::{AllocError, AllocFailed};
 pub enum CertifyFail {
     /// A condition that speaks of no cells fails.
     Refused(Refusal),
-    /// The point's own tube leaves the safe region, or may trap: no cell holds it.
+    /// The box of this point alone is not good: its own tube leaves the safe region, or may trap.
     Point {
         module: u32,
         reach: bool,

@@ -13,5 +13,8 @@ mod listing;
 mod making;
 
 pub use fail::CertifyFail;
-pub use laws::{answers_are_one, failing_points_leave, lists_are_found_once};
+pub use laws::{
+    answers_are_one, failing_points_leave, lists_are_found_once, refusals_are_the_verdicts,
+    tubes_of_failing_points_leave,
+};
 pub use making::certify;

@@ -1,4 +1,5 @@
 //! What is answered for given programs. Expected answers come from tables worked by hand and from an independent program.
+mod orders;
 mod rows;
 mod sizes;
 

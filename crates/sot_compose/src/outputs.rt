@@ -1,6 +1,6 @@
 //! Topics that two nodes write.
 
-ghost use Rattle.std.specs.Prelude.{ℕ, ◌≡◌, ◌<◌, ◌≤◌, length, true, false, IsTrue, ◌↔◌, MatchOption};
+ghost use Rattle.std.specs.Prelude.{ℕ, ◌≡◌, ◌<◌, ◌≤◌, length, true, false, IsTrue, ◌↔◌, MatchOption, IfSome};
 ghost use Rattle.sot_lang.specs.TableRules.{MeetsTableRules};
 ghost use Rattle.sot_tube.specs.Verdict.{ShareOutput};
 ghost use Rattle.sot_compose.specs.Outputs.{ArePair, ArePartnersIn, Writes, AreRelated, AreAllRelated, IsStranger, AreFirstWriters};
@@ -95,9 +95,10 @@ fn first_writers(p: &Typed, topic: u32) -> Option<Clash>
 /// The first topic that two nodes write which are not the two nodes of a module.
 pub fn first_shared_output(p: &Typed) -> Option<Clash>
     requires rules { MeetsTableRules p.now }
-    ensures { MatchOption result
+    ensures first { MatchOption result
         ((t : ℕ) → t < length p.now.topics → AreAllRelated p.now t)
         (λ c. AreFirstWriters p.now c.what c.a c.b × ((t : ℕ) → t < c.what → AreAllRelated p.now t)) }
+    ensures within { IfSome result (λ c. c.what < length p.now.topics) }
 {
     for topic in 0..p.topics.len() as u32 {
         if let Some(clash) = first_writers(p, topic) {

@@ -1,6 +1,6 @@
 //! Nodes and plants that two modules share.
 
-ghost use Rattle.std.specs.Prelude.{ℕ, ◌≡◌, ◌<◌, ◌≤◌, length, ◌^◌, IsTrue, ◌↔◌, MatchOption};
+ghost use Rattle.std.specs.Prelude.{ℕ, ◌≡◌, ◌<◌, ◌≤◌, length, ◌^◌, IsTrue, ◌↔◌, MatchOption, IfSome};
 ghost use Rattle.sot_lists.specs.Places.{At};
 ghost use Rattle.sot_compose.specs.Parts.{Uses, IsUnused, IsFirstUser, IsOfOneModule, AreFirstUsers};
 
@@ -58,9 +58,10 @@ fn first_users(part: Part, modules: &[ModuleInfo], place: u32) -> Option<Clash>
 /// The first part of a sort that two modules use, of so many.
 pub fn first_shared(part: Part, modules: &[ModuleInfo], count: u32) -> Option<Clash>
     requires { length modules.now < 2 ^ 32 }
-    ensures { MatchOption result
+    ensures first { MatchOption result
         ((x : ℕ) → x < count → IsOfOneModule part modules.now x)
         (λ c. AreFirstUsers part modules.now c.what c.a c.b × ((x : ℕ) → x < c.what → IsOfOneModule part modules.now x)) }
+    ensures within { IfSome result (λ c. c.what < count) }
 {
     for place in 0..count {
         if let Some(clash) = first_users(part, modules, place) {

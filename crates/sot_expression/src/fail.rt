@@ -7,7 +7,7 @@ use std::alloc::{AllocError, AllocFailed};
 /// Why reading stops, at the next token of a text.
 #[derive(Clone, Copy, Debug, PartialEq, Eq)]
 pub enum Fail {
-    /// No text of the grammar goes on with it.
+    /// Reading from the front does not go on with it.
     Token,
     /// With it the text nests too deep.
     Deep,

@@ -1,5 +1,6 @@
 //! Each of these functions does nothing, and its contract is the law.
 ghost use Rattle.sot_flown.specs.Laws.{HistoriesAreRuns, BeginningsAreHistories, FlownPositionsAreSafe};
+ghost use Rattle.sot_flown.specs.ToldModes.{DecisionsTellModes, FiringsTellWhetherEnabled};
 ghost use Rattle.sot_flown.specs.Told.{InputsAreTheFlights, TicksAreTheTime, TicksAreStated, TicksTellStates, DraftsAreStated};
 
 /// A history of a flight is a run from the opening at the flight's points, with one event an entry; the entry tells of this event, and
@@ -41,4 +42,14 @@ pub fn ticks_tell_states()
 /// A firing of an external node, whose draft the flight states by the number of the firing, tells this draft.
 pub fn drafts_are_stated()
     ensures { DraftsAreStated }
+{}
+
+/// Each decision tells its time, and the mode that its module comes to.
+pub fn decisions_tell_modes()
+    ensures { DecisionsTellModes }
+{}
+
+/// Each firing tells its time, and whether its node is enabled.
+pub fn firings_tell_whether_enabled()
+    ensures { FiringsTellWhetherEnabled }
 {}

@@ -7,6 +7,7 @@ mod laws;
 
 pub use facts::counts_are_as_stated;
 pub use laws::{
-    beginnings_are_histories, drafts_are_stated, flown_positions_are_safe, histories_are_runs,
+    beginnings_are_histories, decisions_tell_modes, drafts_are_stated,
+    firings_tell_whether_enabled, flown_positions_are_safe, histories_are_runs,
     inputs_are_the_flights, ticks_are_stated, ticks_are_the_time, ticks_tell_states,
 };

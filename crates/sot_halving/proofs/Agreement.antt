@@ -1,12 +1,7 @@
 -- Two findings of the same boxes agree.
-use Rattle.std.proofs.Common.{◌≡◌, ℕ, zero, suc, ◌<◌, ◌⊎◌, inl, inr, ⊎_elim, ℤ, pos, ◌+ℤ◌, ◌≤ℤ◌, List, [], ◌∷◌, ◌++◌, refl, sym, ap, ap₂, ◌∙◌, subst, append_assoc, arith}
-use Rattle.std.specs.Prelude.{slice_set}
-use Rattle.std.proofs.lemmas.Int.{ints}
+use Rattle.std.proofs.Common.{◌≡◌, ℕ, zero, suc, inl, inr, List, [], ◌∷◌, ◌++◌, refl, sym, ap, ◌∙◌, subst, append_assoc}
 use Rattle.sot_box.specs.Sides.{Side}
-use Rattle.sot_lists.specs.Places.{At}
-use Rattle.sot_lists.proofs.Places.{at_same}
-use Rattle.sot_halving.specs.Cuts.{IsOnePoint, IsWidest, IsMiddle, AreHalves, extent}
-use Rattle.sot_halving.specs.Findings.{Finding, Whole, Failing, Begun, behind, followed, BisectsWithin, Bisects, BisectsEach}
+use Rattle.sot_halving.specs.Findings.{Finding, Whole, Failing, Begun, behind, followed, BisectsWithin, BisectsEach}
 use Rattle.sot_halving.specs.Laws.{BeginsWith, Agree}
 use Rattle.sot_halving.proofs.Cuts.{point_uncut, same_low, same_high}
 

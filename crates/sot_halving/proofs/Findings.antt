@@ -1,8 +1,7 @@
 -- Findings that follow each other.
-use Rattle.std.proofs.Common.{◌≡◌, ℕ, zero, suc, ◌⊎◌, inl, inr, ⊎_elim, ℤ, List, [], ◌∷◌, ◌++◌, refl, sym, ap, ◌∙◌, subst, append_assoc}
+use Rattle.std.proofs.Common.{◌≡◌, ℕ, zero, suc, inl, inr, List, ◌++◌, refl, sym, ap, append_assoc}
 use Rattle.sot_box.specs.Sides.{Side}
-use Rattle.sot_halving.specs.Cuts.{IsOnePoint, AreHalves}
-use Rattle.sot_halving.specs.Findings.{Finding, Whole, Failing, Begun, behind, followed, BisectsWithin, Bisects, BisectsEach}
+use Rattle.sot_halving.specs.Findings.{Finding, Whole, Failing, Begun, behind, followed, BisectsWithin}
 
 pub behind_behind : (a b : List (List Side)) (f : Finding) → behind a (behind b f) ≡ behind (a ++ b) f
 behind_behind a b (Whole c) = ap Whole (sym (append_assoc a b c))

@@ -7,3 +7,4 @@ pub mod Covering
 pub mod Stack
 pub mod Effort
 pub mod Worked
+pub mod WorkedFindings

@@ -1,9 +1,9 @@
 -- How boxes that are still open are taken, one after another.
-use Rattle.std.proofs.Common.{◌≡◌, ℕ, zero, suc, ◌+◌, ◌≤◌, ◌⊎◌, inl, inr, ℤ, List, [], ◌∷◌, ◌++◌, refl, sym, ap, ◌∙◌, subst, arith}
+use Rattle.std.proofs.Common.{◌≡◌, ℕ, zero, suc, ◌+◌, ◌≤◌, inl, inr, List, [], ◌∷◌, ◌++◌, refl, sym, ap, ◌∙◌, subst, arith}
 use Rattle.sot_box.specs.Sides.{Side}
 use Rattle.sot_box.specs.Boxes.{lows}
 use Rattle.sot_halving.specs.Cuts.{IsOnePoint, AreHalves}
-use Rattle.sot_halving.specs.Findings.{Finding, Whole, Failing, Begun, behind, followed, BisectsWithin, Bisects, BisectsEach}
+use Rattle.sot_halving.specs.Findings.{Finding, Whole, Failing, Begun, behind, followed, BisectsWithin, BisectsEach}
 use Rattle.sot_halving.proofs.Findings.{followed_assoc, behind_behind}
 
 -- with leave for more cuts the same is found

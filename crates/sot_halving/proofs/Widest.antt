@@ -1,13 +1,12 @@
 -- The widest of the first intervals of a box.
-use Rattle.std.proofs.Common.{◌≡◌, ℕ, zero, suc, ◌+◌, ◌<◌, ◌≤◌, ◌⊎◌, inl, inr, ⊎_elim, ℤ, pos, ◌+ℤ◌, ◌-ℤ◌, ◌≤ℤ◌, ◌<ℤ◌, List, [], ◌∷◌, length, refl, sym, ◌∙◌, subst, arith}
-use Rattle.std.specs.Prelude.{slice_set}
-use Rattle.std.proofs.lemmas.Int.{ints, by_lt_z}
+use Rattle.std.proofs.Common.{◌≡◌, ℕ, zero, suc, ◌+◌, ◌<◌, ⊎_elim, ◌≤ℤ◌, ◌<ℤ◌, List, [], ◌∷◌, length, subst, arith}
+use Rattle.std.proofs.lemmas.Int.{ints}
 use Rattle.std.proofs.lemmas.Bool.{cases_lt}
 use Rattle.std.proofs.lemmas.Option.{slice_get_within, same_Some, none-some}
 use Rattle.sot_box.specs.Sides.{Side, AreOrdered}
 use Rattle.sot_lists.specs.Places.{At}
 use Rattle.sot_lists.proofs.Places.{at_same}
-use Rattle.sot_halving.specs.Cuts.{IsOnePoint, IsWidest, AreHalves, extent}
+use Rattle.sot_halving.specs.Cuts.{IsOnePoint, IsWidest, extent}
 use Rattle.sot_halving.specs.Widest.{IsWidestOf}
 
 -- one more interval

@@ -1,15 +1,15 @@
 -- Worked cuts.
-use Rattle.std.proofs.Common.{◌≡◌, ℕ, zero, suc, ◌<◌, ℤ, pos, negsuc, ◌≤ℤ◌, ◌<ℤ◌, List, [], ◌∷◌, refl, subst, sym, arith}
+use Rattle.std.proofs.Common.{ℕ, zero, suc, ◌<◌, pos, negsuc, ◌≤ℤ◌, ◌<ℤ◌, [], ◌∷◌, refl, subst, arith}
 use Rattle.std.proofs.lemmas.Int.{ints}
-use Rattle.std.proofs.lemmas.Option.{none-some, same_Some}
+use Rattle.std.proofs.lemmas.Option.{same_Some}
 use Rattle.sot_box.specs.Sides.{Side}
 use Rattle.sot_lists.specs.Places.{At}
-use Rattle.sot_lists.proofs.ShortLists.{at_one, at_two, at_none}
-use Rattle.sot_halving.specs.Cuts.{IsWidest, IsMiddle, AreHalves, extent}
+use Rattle.sot_lists.proofs.ShortLists.{at_one, at_two}
+use Rattle.sot_halving.specs.Cuts.{IsWidest, extent}
 use Rattle.sot_halving.specs.Examples.{from_to, CutsAreAsStated}
 
 -- the widest of one interval, and of two
-widest_of_one : (r : Side) → IsWidest (r ∷ []) 0 r
+pub widest_of_one : (r : Side) → IsWidest (r ∷ []) 0 r
 widest_of_one r = record {
   is = refl;
   widest = at_one (λ i s. extent s ≤ℤ extent r) r (omega (arith, ints));

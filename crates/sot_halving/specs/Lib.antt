@@ -3,6 +3,6 @@ pub mod Cuts
 pub mod Findings
 -- between the crate's own functions
 pub mod Widest
--- the laws, and a worked box
+-- the laws, and worked boxes
 pub mod Laws
 pub mod Examples

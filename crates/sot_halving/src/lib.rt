@@ -7,5 +7,5 @@
 mod facts;
 mod halves;
 
-pub use facts::cuts_are_as_stated;
+pub use facts::{cuts_are_as_stated, findings_are_as_stated};
 pub use halves::{Halves, halves_of, low_corner};

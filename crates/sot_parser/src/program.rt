@@ -25,7 +25,7 @@ fn program(alloc: Global, tokens: &mut Tokens<'_>) -> Result<Program, Fail>
     Ok(Program { decls })
 }
 
-// Where no text of the grammar goes on: at the next token, at a piece that is none, or at the end of the text.
+// Where reading stops: at the next token, at a piece that is none, or at the end of the text.
 fn stuck(lexer: &Lexer<'_>, tokens: &Tokens<'_>) -> Syntax
     ensures { result ≡ stuck_syntax lexer.now.bytes tokens.now }
 {

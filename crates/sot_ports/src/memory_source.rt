@@ -1,3 +1,5 @@
+//! Sources from memory.
+
 ghost use Rattle.std.specs.Prelude.{◌≡◌, ℕ, ◌<◌, ◌≤◌, [], ◌+◌, ◌++◌, ◌↔◌, Some, take, drop, length, min, vec_len, is_err, IsTrue, Contains, IfOk, IsOk, MatchResult};
 ghost use Rattle.std.specs.Io.{ReadsAtMost};
 ghost use Rattle.std.specs.Io.KnownBytes.{ReadConsumes};

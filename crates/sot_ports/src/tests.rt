@@ -1,3 +1,5 @@
+//! Tests of sources and sinks.
+
 ghost use Rattle.std.specs.Prelude.{◌≤◌, IfOk};
 
 use super::*;

@@ -85,15 +85,9 @@ fn shape_of(p: &Typed, module: u32, info: &ModuleInfo, c: &Cert) -> Result<(), R
     requires entries { «module» < length c.now.modules.items }
     ensures { Answers (shape p.now c.now «module» info.now) result }
 {
-    if let Err(refusal) = entry(c, module) {
-        return Err(refusal);
-    }
-    if let Err(refusal) = periods(p, module, info) {
-        return Err(refusal);
-    }
-    if let Err(refusal) = outputs(p, module, info) {
-        return Err(refusal);
-    }
+    entry(c, module)?;
+    periods(p, module, info)?;
+    outputs(p, module, info)?;
     check_regions(module, info)
 }
 
@@ -103,9 +97,7 @@ fn nodes_of(p: &Typed, module: u32, info: &ModuleInfo) -> Result<(), Refusal>
     requires rules { MeetsTableRules p.now }
     ensures { Answers (and_then (periods p.now «module» info.now) (outputs p.now «module» info.now)) result }
 {
-    if let Err(refusal) = periods(p, module, info) {
-        return Err(refusal);
-    }
+    periods(p, module, info)?;
     outputs(p, module, info)
 }
 

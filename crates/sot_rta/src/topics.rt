@@ -1,6 +1,6 @@
 //! Which topics some scalars are of.
 
-ghost use Rattle.std.specs.Prelude.{ℕ, ◌<◌, ◌≡◌, length, true, false, IsTrue, ◌↔◌, MatchOption};
+ghost use Rattle.std.specs.Prelude.{ℕ, ◌<◌, ◌≡◌, length, true, false, IsTrue, ◌↔◌, MatchOption, IfSome};
 ghost use Rattle.sot_lists.specs.Places.{Has};
 ghost use Rattle.sot_rta.specs.Topics.{AreSomeOf, IsOfOneAlone, IsMissing, AreAlike, GoesOver};
 
@@ -55,9 +55,10 @@ pub fn first_of_one_alone(
 ) -> Option<u32>
     requires one { (k : ℕ) → Has some.now k → k < length infos.now }
     requires other { (k : ℕ) → Has others.now k → k < length infos.now }
-    ensures { MatchOption result
+    ensures first { MatchOption result
         ((t : ℕ) → t < topics → AreAlike infos.now some.now others.now t)
         (λ t. IsOfOneAlone infos.now some.now others.now t × ((u : ℕ) → u < t → AreAlike infos.now some.now others.now u)) }
+    ensures within { IfSome result (λ t. t < topics) }
 {
     for topic in 0..topics {
         if is_of_one_alone(infos, some, others, topic) {
@@ -71,9 +72,10 @@ pub fn first_of_one_alone(
 pub fn first_missing(infos: &[ScalarInfo], topics: u32, some: &[u32], others: &[u32]) -> Option<u32>
     requires one { (k : ℕ) → Has some.now k → k < length infos.now }
     requires other { (k : ℕ) → Has others.now k → k < length infos.now }
-    ensures { MatchOption result
+    ensures first { MatchOption result
         ((t : ℕ) → t < topics → GoesOver infos.now some.now others.now t)
         (λ t. IsMissing infos.now some.now others.now t × ((u : ℕ) → u < t → GoesOver infos.now some.now others.now u)) }
+    ensures within { IfSome result (λ t. t < topics) }
 {
     for topic in 0..topics {
         if is_missing(infos, some, others, topic) {

@@ -2,6 +2,7 @@ pub mod Laying
 pub mod Drafts
 pub mod Splits
 pub mod NumberTexts
+pub mod Numerals
 pub mod NameTexts
 pub mod DraftTexts
 pub mod MoveTexts
@@ -9,5 +10,7 @@ pub mod LineTexts
 pub mod Unbroken
 pub mod TraceTexts
 pub mod Printable
+pub mod DraftSlots
+pub mod FlownTold
 pub mod Histories
 pub mod Worked

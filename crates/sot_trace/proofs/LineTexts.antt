@@ -1,42 +1,31 @@
 -- A line tells its entry.
-use Rattle.std.proofs.Common.{◌≡◌, ℕ, suc, ℤ, ◌<◌, ◌^◌, Bool, true, false, List, [], ◌∷◌, ◌++◌, Option, Some, None, length, refl, sym, ap, subst, ◌∙◌, arith, drop, codes, FitsSigned}
+use Rattle.std.proofs.Common.{◌≡◌, ℕ, suc, ◌-◌, ℤ, ◌<◌, ◌≤◌, Bool, true, false, List, [], ◌∷◌, ◌++◌, Option, None, length, replicate, refl, sym, ap, subst, ◌∙◌, arith, drop, codes, length-append}
 use Rattle.std.specs.Prelude.{slice_index_or}
 use Rattle.std.specs.Option.{option_map_or}
-use Rattle.std.specs.Fmt.{decimal}
-use Rattle.std.specs.Int.{w64}
-use Rattle.std.proofs.lemmas.Fmt.{decimal_injective}
+use Rattle.std.proofs.Math.Seq.{drop-append_seam}
+use Rattle.sot_text.specs.Lexeme.{is_in_word}
 use Rattle.sot_lang.specs.declared.tables.ScalarInfo.{ScalarInfo}
 use Rattle.sot_lang.specs.declared.tables.NodeInfo.{NodeInfo}
 use Rattle.sot_lang.specs.Tables.{Tables}
 use Rattle.sot_lang.specs.TableRules.{MeetsTableRules}
 use Rattle.sot_lists.specs.Places.{At, Has}
-use Rattle.sot_lists.proofs.Places.{at_below, at_same}
+use Rattle.sot_lists.proofs.Places.{at_below}
+use Rattle.sot_code.specs.Recorded.{in_slots}
 use Rattle.sot_world.specs.declared.mode.Mode.{Mode}
 use Rattle.sot_world.specs.declared.mode.Mode.TheVariants.{Ac, Sc}
 use Rattle.sot_world.specs.HistoryEntry.{Logged, InputAt, FireAt, DecideAt, TickAt}
 use Rattle.sot_trace.specs.Names.{topic_name, node_name, module_name}
-use Rattle.sot_trace.specs.Numbers.{numbers}
+use Rattle.sot_trace.specs.Numbers.{numeral, numbers}
 use Rattle.sot_trace.specs.Drafts.{draft_text}
 use Rattle.sot_trace.specs.Moves.{moves_text}
 use Rattle.sot_trace.specs.Lines.{line_of, writes_of, firing_word, mode_word}
-use Rattle.sot_trace.specs.Fitting.{FitsEntry}
-use Rattle.sot_trace.specs.Words.{AreWords, AreShort}
-use Rattle.sot_trace.specs.Telling.{IsDraftOf, IsRecorded}
-use Rattle.sot_text.specs.Lexeme.{is_in_word}
+use Rattle.sot_trace.specs.Words.{AreWords}
+use Rattle.sot_trace.specs.Telling.{IsDraftOf, IsTold}
 use Rattle.sot_trace.proofs.Splits.{Stops, cut_same}
-use Rattle.sot_trace.proofs.NumberTexts.{in_number, decimal_in, Fit, numbers_same}
+use Rattle.sot_trace.proofs.NumberTexts.{in_number, numeral_in, numeral_same, numbers_same}
 use Rattle.sot_trace.proofs.NameTexts.{topic_named, node_named, module_named, topic_in, node_in, module_in, topic_same, node_same, module_same}
-use Rattle.sot_trace.proofs.DraftTexts.{AreThere, AreApart, SlotsFit, draft_stops, draft_same}
+use Rattle.sot_trace.proofs.DraftTexts.{AreThere, AreApart, draft_stops, draft_same}
 use Rattle.sot_trace.proofs.MoveTexts.{moves_same}
-
-pub fit_from : (xs : List ℤ) → AreShort xs → Fit xs
-fit_from [] short = tt
-fit_from (x ∷ xs) short = ((short 0 x (omega arith)).sfits, fit_from xs (λ k d lt. short (suc k) d (omega arith)))
-
-pub slots_fit : (ds : List (Option ℤ)) → ((k : ℕ) (z : ℤ) → At ds k (Some z) → FitsSigned w64 z) → SlotsFit ds
-slots_fit [] short = tt
-slots_fit (None ∷ ds) short = slots_fit ds (λ k z at. short (suc k) z at)
-slots_fit (Some z ∷ ds) short = ((short 0 z refl).sfits, slots_fit ds (λ k w at. short (suc k) w at))
 
 pub there_from : (p : Tables) (ks : List ℕ) → ((k : ℕ) → Has ks k → (info : ScalarInfo) × At p.scalars k info) → AreThere p ks
 there_from p [] h = tt
@@ -48,6 +37,13 @@ apart_from (k ∷ ks) once = (
   λ has. (let same : 0 ≡ suc has.0 = once 0 (suc has.0) k refl has.1 in omega arith),
   apart_from ks (λ i j n at_i at_j. (let same : suc i ≡ suc j = once (suc i) (suc j) n at_i at_j in omega arith)),
 )
+
+-- the slots of a draft that are printed, and what stands behind them
+room : (draft slots : List (Option ℤ)) (n : ℕ) → length draft ≡ n → slots ≡ in_slots draft → n ≤ length slots
+room draft slots n size is = omega (arith, size, ap length is, length-append draft (replicate (8 - length draft) None))
+
+nothing_behind : (draft slots : List (Option ℤ)) (n : ℕ) → length draft ≡ n → slots ≡ in_slots draft → drop n slots ≡ replicate (8 - n) None
+nothing_behind draft slots n size is = rw (is, ← size) (drop-append_seam draft (replicate (8 - length draft) None))
 
 -- a line without its time
 abbrev pub tail_of : Tables → Logged → List ℕ
@@ -62,7 +58,7 @@ time_of (FireAt time node draft enabled) = time
 time_of (DecideAt time decider mode) = time
 time_of (TickAt time noise states) = time
 
-pub line_parts : (p : Tables) (e : Logged) → line_of p e ≡ decimal (time_of e) ++ tail_of p e
+pub line_parts : (p : Tables) (e : Logged) → line_of p e ≡ numeral (time_of e) ++ tail_of p e
 line_parts p (InputAt time topic value) = refl
 line_parts p (FireAt time node draft enabled) = refl
 line_parts p (DecideAt time decider mode) = refl
@@ -74,12 +70,6 @@ tail_stops p (FireAt time node draft true) = refl
 tail_stops p (FireAt time node draft false) = refl
 tail_stops p (DecideAt time decider mode) = refl
 tail_stops p (TickAt time noise states) = refl
-
-pub time_fits : (p : Tables) (e : Logged) → IsRecorded p e → time_of e < 2 ^ 32
-time_fits p (InputAt time topic value) h = h.0
-time_fits p (FireAt time node draft enabled) h = h.0
-time_fits p (DecideAt time decider mode) h = h
-time_fits p (TickAt time noise states) h = h.0
 
 -- the fourth letter of the word behind the time
 letter : Logged → ℕ
@@ -119,21 +109,19 @@ module _ (p : Tables) (rules : MeetsTableRules p) (words : AreWords p) where
   -- the draft of one firing of a node and that of another
   drafts_same : (n : ℕ) (node : NodeInfo) → At p.nodes n node → (d e : List (Option ℤ)) → IsDraftOf node.writes.items d → IsDraftOf node.writes.items e
       → draft_text p node.writes.items d ≡ draft_text p node.writes.items e → d ≡ e
-  drafts_same n node at d e hd he same =
-      let few = (rules.nodes n node at).writes in
+  drafts_same n node at d e (a, size_a, is_a) (b, size_b, is_b) same =
       draft_same p rules words node.writes.items
       (there_from p node.writes.items (λ k has. at_below p.scalars k (rules.typed.inside n node k at has)))
       (apart_from node.writes.items (λ i j k at_i at_j. rules.typed.once n node i j k at at_i at_j))
-      d e (slots_fit d hd.short) (slots_fit e he.short) (omega (arith, few, hd.slots)) (omega (arith, few, he.slots)) (hd.rest ∙ sym he.rest) same
+      d e (room a d _ size_a is_a) (room b e _ size_b is_b) (nothing_behind a d _ size_a is_a ∙ sym (nothing_behind b e _ size_b is_b)) same
 
-  inputs_same : (s t : ℕ) (v w : List ℤ) → FitsEntry p (InputAt 0 s v) → FitsEntry p (InputAt 0 t w) → AreShort v → AreShort w
-      → topic_name p s ++ (61 ∷ numbers v) ≡ topic_name p t ++ (61 ∷ numbers w) → (s ≡ t) × (v ≡ w)
-  inputs_same s t v w fv fw hv hw e =
-      let named = sym (ap (λ n. n ++ (61 ∷ numbers v)) (topic_named p s fv.0 fv.1)) ∙ e ∙ ap (λ n. n ++ (61 ∷ numbers w)) (topic_named p t fw.0 fw.1) in
-      let parts = cut_same is_in_word fv.0.name fw.0.name (61 ∷ numbers v) (61 ∷ numbers w) (topic_in p rules words s fv.0 fv.1) (topic_in p rules words t fw.0 fw.1) refl refl named in
-      let same : s ≡ t = topic_same p rules words s t fv.0 fw.0 fv.1 fw.1 parts.0 in
-      let info : fv.0 ≡ fw.0 = at_same p.topics t fv.0 fw.0 (subst (λ k. At p.topics k fv.0) same fv.1) fw.1 in
-      (same, numbers_same v w (fv.2 ∙ ap (λ i. i.count) info ∙ sym fw.2) (fit_from v hv) (fit_from w hw) (ap (drop 1) parts.1))
+  inputs_same : (s t : ℕ) (v w : List ℤ) → s < length p.topics → t < length p.topics → topic_name p s ++ (61 ∷ numbers v) ≡ topic_name p t ++ (61 ∷ numbers w) → (s ≡ t) × (v ≡ w)
+  inputs_same s t v w ls lt e =
+      let a = at_below p.topics s ls in
+      let b = at_below p.topics t lt in
+      let named = sym (ap (λ n. n ++ (61 ∷ numbers v)) (topic_named p s a.0 a.1)) ∙ e ∙ ap (λ n. n ++ (61 ∷ numbers w)) (topic_named p t b.0 b.1) in
+      let parts = cut_same is_in_word a.0.name b.0.name (61 ∷ numbers v) (61 ∷ numbers w) (topic_in p rules words s a.0 a.1) (topic_in p rules words t b.0 b.1) refl refl named in
+      (topic_same p rules words s t a.0 b.0 a.1 b.1 parts.0, numbers_same v w (ap (drop 1) parts.1))
 
   firings_same : (m n : ℕ) (d e : List (Option ℤ)) → m < length p.nodes → n < length p.nodes → IsDraftOf (writes_of p m) d → IsDraftOf (writes_of p n) e
       → node_name p m ++ draft_text p (writes_of p m) d ≡ node_name p n ++ draft_text p (writes_of p n) e → (m ≡ n) × (d ≡ e)
@@ -159,24 +147,20 @@ module _ (p : Tables) (rules : MeetsTableRules p) (words : AreWords p) where
       (module_same p rules words m n x.0 y.0 x.1 y.1 parts.0, mode_same a b parts.1)
 
   -- with the same time, what stands behind the time tells the entry
-  tail_same : (e f : Logged) → FitsEntry p e → FitsEntry p f → IsRecorded p e → IsRecorded p f → time_of e ≡ time_of f → letter e ≡ letter f → tail_of p e ≡ tail_of p f → e ≡ f
+  tail_same : (e f : Logged) → IsTold p e → IsTold p f → time_of e ≡ time_of f → letter e ≡ letter f → tail_of p e ≡ tail_of p f → e ≡ f
   unfolding letter
-  tail_same (InputAt t s v) (InputAt u r w) fe ff he hf time kind same = (let parts = inputs_same s r v w fe ff he.1 hf.1 (ap (drop 7) same) in cc)
-  tail_same (FireAt t m d b) (FireAt u n e c) fe ff he hf time kind same =
+  tail_same (InputAt t s v) (InputAt u r w) he hf time kind same = (let parts = inputs_same s r v w he hf (ap (drop 7) same) in cc)
+  tail_same (FireAt t m d b) (FireAt u n e c) he hf time kind same =
       let first = firing_same b c _ _ same in
-      let parts = firings_same m n d e fe ff he.1 hf.1 first.1 in
+      let parts = firings_same m n d e he.0 hf.0 he.1 hf.1 first.1 in
       cc
-  tail_same (DecideAt t m a) (DecideAt u n b) fe ff he hf time kind same = (let parts = decisions_same m n a b fe ff (ap (drop 8) same) in cc)
-  tail_same (TickAt t v s) (TickAt u w r) fe ff he hf time kind same =
-      let parts = moves_same p.plants v w s r fe.0 ff.0 fe.1 ff.1 (fit_from v he.1) (fit_from w hf.1) (fit_from s he.2) (fit_from r hf.2) (ap (drop 5) same) in
-      cc
-  tail_same e f fe ff he hf time kind same = absurd (omega arith)
+  tail_same (DecideAt t m a) (DecideAt u n b) he hf time kind same = (let parts = decisions_same m n a b he hf (ap (drop 8) same) in cc)
+  tail_same (TickAt t v s) (TickAt u w r) he hf time kind same = (let parts = moves_same p.plants v w s r he.0 hf.0 he.1 hf.1 (ap (drop 5) same) in cc)
+  tail_same e f he hf time kind same = absurd (omega arith)
 
   -- a line tells its entry
-  pub line_same : (e f : Logged) → FitsEntry p e → FitsEntry p f → IsRecorded p e → IsRecorded p f → line_of p e ≡ line_of p f → e ≡ f
-  line_same e f fe ff he hf same =
-      let te = time_fits p e he in
-      let tf = time_fits p f hf in
-      let parts = cut_same in_number (decimal (time_of e)) (decimal (time_of f)) (tail_of p e) (tail_of p f) (decimal_in (time_of e) (omega arith)) (decimal_in (time_of f) (omega arith)) (tail_stops p e) (tail_stops p f)
+  pub line_same : (e f : Logged) → IsTold p e → IsTold p f → line_of p e ≡ line_of p f → e ≡ f
+  line_same e f he hf same =
+      let parts = cut_same in_number (numeral (time_of e)) (numeral (time_of f)) (tail_of p e) (tail_of p f) (numeral_in (time_of e)) (numeral_in (time_of f)) (tail_stops p e) (tail_stops p f)
       (sym (line_parts p e) ∙ same ∙ line_parts p f) in
-      tail_same e f fe ff he hf (decimal_injective (time_of e) (time_of f) (omega arith) (omega arith) parts.0) (sym (letter_is p e) ∙ ap (λ l. slice_index_or l 4 0) parts.1 ∙ letter_is p f) parts.1
+      tail_same e f he hf (numeral_same (time_of e) (time_of f) parts.0) (sym (letter_is p e) ∙ ap (λ l. slice_index_or l 4 0) parts.1 ∙ letter_is p f) parts.1

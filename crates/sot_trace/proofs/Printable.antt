@@ -1,24 +1,22 @@
 -- A flown history can be printed.
-use Rattle.std.proofs.Common.{◌≡◌, ℕ, zero, suc, ◌+◌, ℤ, List, [], ◌∷◌, ◌++◌, length, map, Result, Ok, Err, refl, sym, ap, ◌∙◌, subst, arith}
+use Rattle.std.proofs.Common.{◌≡◌, ℕ, zero, suc, ◌+◌, ℤ, List, [], ◌∷◌, ◌++◌, length, Ok, Err, refl, sym, ap, ◌∙◌, subst, arith}
 use Rattle.std.specs.Prelude.{slice_index_or}
 use Rattle.std.proofs.lemmas.List.{length-append, length-map}
 use Rattle.std.proofs.lemmas.Option.{slice_get_within}
 use Rattle.sot_lists.specs.Places.{At}
-use Rattle.sot_lists.proofs.Places.{at_below}
 use Rattle.sot_box.proofs.Ranges.{within_length}
 use Rattle.sot_lang.specs.declared.term.Term.{Term}
 use Rattle.sot_lang.specs.declared.tables.PlantInfo.{PlantInfo}
 use Rattle.sot_lang.specs.Tables.{Tables}
 use Rattle.sot_lang.specs.TableRules.{MeetsTableRules}
-use Rattle.sot_lang.specs.Ranges.{bounds}
 use Rattle.sot_lang.specs.Ticks.{values, next_state, joined}
 use Rattle.sot_lang.specs.Values.{Outcome, one_more, value_of}
 use Rattle.sot_world.specs.Steps.{Event, Input, Code, Guest, Decide, Tick, Step}
 use Rattle.sot_world.specs.Events.{noise_count}
-use Rattle.sot_world.specs.HistoryEntry.{Logged, InputAt, FireAt, DecideAt, TickAt}
+use Rattle.sot_world.specs.HistoryEntry.{Logged}
 use Rattle.sot_world.specs.Outcomes.{Recorded}
 use Rattle.sot_flight.specs.Plans.{Plan}
-use Rattle.sot_board.specs.Flown.{Position, Tells, Flies, Leads, FlownSoFar}
+use Rattle.sot_board.specs.Flown.{Position, Tells, Leads, FlownSoFar}
 use Rattle.sot_board.specs.Counts.{state_count}
 use Rattle.sot_trace.specs.Fitting.{FitsEntry, FitsHistory}
 
@@ -51,7 +49,7 @@ module _ (p : Tables) (rules : MeetsTableRules p) where
   unfolding next_state
   moved_width k plant s c v w next at e = values_length plant.next.items (s ++ c ++ v ++ w) next e ∙ (rules.plants k plant at).one_next
 
-  told_fits : (j : ℕ) (P Q : Position) (e : Event) (r : Recorded) (entry : Logged) → Step p j P.at e Q.at → Tells P.at e r Q.at entry → FitsEntry p entry
+  pub told_fits : (j : ℕ) (P Q : Position) (e : Event) (r : Recorded) (entry : Logged) → Step p j P.at e Q.at → Tells P.at e r Q.at entry → FitsEntry p entry
   told_fits j P Q (Input topic value) r entry step is = subst (FitsEntry p) (sym is) (step.info, step.is, step.size)
   told_fits j P Q (Code n) r entry step (draft, enabled, was, is) = subst (FitsEntry p) (sym is) (slice_get_within p.nodes n step.node step.is)
   told_fits j P Q (Guest n d) r entry step (draft, enabled, was, is) = subst (FitsEntry p) (sym is) (slice_get_within p.nodes n step.node step.is)

@@ -1,6 +1,5 @@
 -- No entry's line has a line end inside.
-use Rattle.std.proofs.Common.{◌≡◌, ℕ, suc, ℤ, ◌<◌, ◌^◌, ◌==◌, Bool, true, false, not, List, [], ◌∷◌, ◌++◌, Option, Some, None, length, refl, sym, subst, arith, take, codes}
-use Rattle.std.specs.Fmt.{decimal, signed_decimal}
+use Rattle.std.proofs.Common.{◌≡◌, ℕ, suc, ℤ, ◌==◌, Bool, true, false, not, List, [], ◌∷◌, ◌++◌, Option, Some, None, length, refl, sym, subst, arith, take, codes}
 use Rattle.std.specs.List.{list_all}
 use Rattle.std.proofs.lemmas.Bool.Decides.{nat_tests}
 use Rattle.sot_text.specs.Lexeme.{is_in_word}
@@ -13,19 +12,17 @@ use Rattle.sot_world.specs.declared.mode.Mode.{Mode}
 use Rattle.sot_world.specs.declared.mode.Mode.TheVariants.{Ac, Sc}
 use Rattle.sot_world.specs.HistoryEntry.{Logged, InputAt, FireAt, DecideAt, TickAt}
 use Rattle.sot_trace.specs.Names.{topic_name, node_name, module_name, scalar_name}
-use Rattle.sot_trace.specs.Numbers.{numbers}
+use Rattle.sot_trace.specs.Numbers.{numeral, signed_numeral, numbers}
 use Rattle.sot_trace.specs.Drafts.{is_in_range, mark, slot_text, draft_text}
 use Rattle.sot_trace.specs.Moves.{move_text, moves_text}
 use Rattle.sot_trace.specs.Lines.{line_of, firing_word, mode_word}
-use Rattle.sot_trace.specs.Fitting.{FitsEntry}
 use Rattle.sot_trace.specs.Words.{AreWords, IsWord}
-use Rattle.sot_trace.specs.Telling.{IsRecorded}
+use Rattle.sot_trace.specs.Telling.{IsTold}
 use Rattle.sot_trace.proofs.Splits.{AllIn, both_in, in_wider, in_from_test}
-use Rattle.sot_trace.proofs.NumberTexts.{in_number, in_numbers, decimal_in, signed_in, Fit, numbers_in}
+use Rattle.sot_trace.proofs.NumberTexts.{in_number, in_numbers, numeral_in, signed_in, numbers_in}
 use Rattle.sot_trace.proofs.NameTexts.{word_in, in_name, topic_named, node_named, module_named, topic_in, node_in, module_in, scalar_in}
-use Rattle.sot_trace.proofs.DraftTexts.{AreThere, SlotsFit}
-use Rattle.sot_trace.proofs.MoveTexts.{fit_take, fit_drop}
-use Rattle.sot_trace.proofs.LineTexts.{fit_from, slots_fit, there_from, writes_are}
+use Rattle.sot_trace.proofs.DraftTexts.{AreThere}
+use Rattle.sot_trace.proofs.LineTexts.{there_from, writes_are}
 
 -- a byte that is no line end
 abbrev pub no_end : ℕ → Bool
@@ -52,11 +49,11 @@ then_text a b h k = both_in no_end a b h k
 fixed : (a : List ℕ) → list_all no_end a ≡ true → Unbroken a
 fixed a h = in_from_test no_end a h
 
-numbers_unbroken : (xs : List ℤ) → Fit xs → Unbroken (numbers xs)
-numbers_unbroken xs fit = in_wider in_numbers no_end numbers_wider (numbers xs) (numbers_in xs fit)
+numbers_unbroken : (xs : List ℤ) → Unbroken (numbers xs)
+numbers_unbroken xs = in_wider in_numbers no_end numbers_wider (numbers xs) (numbers_in xs)
 
-decimal_unbroken : (n : ℕ) → n < 2 ^ 64 → Unbroken (decimal n)
-decimal_unbroken n fits = in_wider in_number no_end number_wider (decimal n) (decimal_in n fits)
+numeral_unbroken : (n : ℕ) → Unbroken (numeral n)
+numeral_unbroken n = in_wider in_number no_end number_wider (numeral n) (numeral_in n)
 
 word_unbroken : (text : List ℕ) → AllIn is_in_word text → Unbroken text
 word_unbroken text h = in_wider is_in_word no_end word_wider text h
@@ -73,54 +70,55 @@ mode_unbroken : (m : Mode) → Unbroken (mode_word m)
 mode_unbroken Ac = fixed (codes " ac") refl
 mode_unbroken Sc = fixed (codes " sc") refl
 
-moves_unbroken : (ks : List PlantInfo) → ((i : ℕ) (k : PlantInfo) → At ks i k → IsWord k.name) → (v s : List ℤ) → Fit v → Fit s → Unbroken (moves_text ks v s)
-moves_unbroken [] words v s fv fs = tt
-moves_unbroken (k ∷ ks) words v s fv fs =
+moves_unbroken : (ks : List PlantInfo) → ((i : ℕ) (k : PlantInfo) → At ks i k → IsWord k.name) → (v s : List ℤ) → Unbroken (moves_text ks v s)
+moves_unbroken [] words v s = tt
+moves_unbroken (k ∷ ks) words v s =
     let a = take (length k.noise.items) v in
     let b = take (length k.states.items) s in
     let move : Unbroken (move_text k a b) = (
       refl,
       then_text k.name (codes "(" ++ (numbers a ++ (codes ")=" ++ numbers b))) (word_unbroken k.name (word_in k.name (words 0 k refl)))
-          (refl, then_text (numbers a) (codes ")=" ++ numbers b) (numbers_unbroken a (fit_take _ v fv)) (refl, (refl, numbers_unbroken b (fit_take _ s fs)))),
+          (refl, then_text (numbers a) (codes ")=" ++ numbers b) (numbers_unbroken a) (refl, (refl, numbers_unbroken b))),
     ) in
-    then_text (move_text k a b) _ move (moves_unbroken ks (λ i j at. words (suc i) j at) _ _ (fit_drop _ v fv) (fit_drop _ s fs))
+    then_text (move_text k a b) _ move (moves_unbroken ks (λ i j at. words (suc i) j at) _ _)
 
 module _ (p : Tables) (rules : MeetsTableRules p) (words : AreWords p) where
-  draft_unbroken : (ks : List ℕ) → AreThere p ks → (d : List (Option ℤ)) → SlotsFit d → Unbroken (draft_text p ks d)
-  draft_unbroken [] there d fit = tt
-  draft_unbroken (k ∷ ks) there [] fit = tt
-  draft_unbroken (k ∷ ks) there (None ∷ d) fit = draft_unbroken ks there.1 d fit
-  draft_unbroken (k ∷ ks) there (Some z ∷ d) fit =
+  draft_unbroken : (ks : List ℕ) → AreThere p ks → (d : List (Option ℤ)) → Unbroken (draft_text p ks d)
+  draft_unbroken [] there d = tt
+  draft_unbroken (k ∷ ks) there [] = tt
+  draft_unbroken (k ∷ ks) there (None ∷ d) = draft_unbroken ks there.1 d
+  draft_unbroken (k ∷ ks) there (Some z ∷ d) =
       let m = mark (is_in_range p k z) in
       let slot : Unbroken (slot_text p k (Some z)) = (
         refl,
-        then_text (scalar_name p k) (m ++ signed_decimal z) (in_wider in_name no_end name_wider (scalar_name p k) (scalar_in p rules words k there.0.0 there.0.1))
-            (then_text m (signed_decimal z) (mark_unbroken (is_in_range p k z)) (in_wider in_number no_end number_wider (signed_decimal z) (signed_in z fit.0))),
+        then_text (scalar_name p k) (m ++ signed_numeral z) (in_wider in_name no_end name_wider (scalar_name p k) (scalar_in p rules words k there.0.0 there.0.1))
+            (then_text m (signed_numeral z) (mark_unbroken (is_in_range p k z)) (in_wider in_number no_end number_wider (signed_numeral z) (signed_in z))),
       ) in
-      then_text (slot_text p k (Some z)) (draft_text p ks d) slot (draft_unbroken ks there.1 d fit.1)
+      then_text (slot_text p k (Some z)) (draft_text p ks d) slot (draft_unbroken ks there.1 d)
 
   -- a line has no line end inside
-  pub line_unbroken : (e : Logged) → FitsEntry p e → IsRecorded p e → Unbroken (line_of p e)
-  line_unbroken (InputAt time topic value) fe he =
-      then_text (decimal time) _ (decimal_unbroken time (omega (arith, he.0)))
+  pub line_unbroken : (e : Logged) → IsTold p e → Unbroken (line_of p e)
+  line_unbroken (InputAt time topic value) told =
+      let a = at_below p.topics topic told in
+      then_text (numeral time) _ (numeral_unbroken time)
       (then_text (codes " input ") _ (fixed (codes " input ") refl)
-      (then_text (topic_name p topic) _ (subst Unbroken (sym (topic_named p topic fe.0 fe.1)) (word_unbroken fe.0.name (topic_in p rules words topic fe.0 fe.1)))
-      (refl, numbers_unbroken value (fit_from value he.1))))
-  line_unbroken (FireAt time node draft enabled) fe he =
-      let a = at_below p.nodes node fe in
+      (then_text (topic_name p topic) _ (subst Unbroken (sym (topic_named p topic a.0 a.1)) (word_unbroken a.0.name (topic_in p rules words topic a.0 a.1)))
+      (refl, numbers_unbroken value)))
+  line_unbroken (FireAt time node draft enabled) told =
+      let a = at_below p.nodes node told.0 in
       let of_a = writes_are p rules words node a.0 a.1 in
-      let drafted : Unbroken (draft_text p a.0.writes.items draft) = draft_unbroken a.0.writes.items (there_from p a.0.writes.items (λ k has. at_below p.scalars k (rules.typed.inside node a.0 k a.1 has))) draft (slots_fit draft he.1.short) in
-      then_text (decimal time) _ (decimal_unbroken time (omega (arith, he.0)))
+      let drafted : Unbroken (draft_text p a.0.writes.items draft) = draft_unbroken a.0.writes.items (there_from p a.0.writes.items (λ k has. at_below p.scalars k (rules.typed.inside node a.0 k a.1 has))) draft in
+      then_text (numeral time) _ (numeral_unbroken time)
       (then_text (firing_word enabled) _ (firing_unbroken enabled)
       (then_text (node_name p node) _ (subst Unbroken (sym (node_named p node a.0 a.1)) (word_unbroken a.0.name (node_in p rules words node a.0 a.1)))
       (subst (λ ks. Unbroken (draft_text p ks draft)) (sym of_a) drafted)))
-  line_unbroken (DecideAt time decider mode) fe he =
-      let a = at_below p.modules decider fe in
-      then_text (decimal time) _ (decimal_unbroken time (omega (arith, he)))
+  line_unbroken (DecideAt time decider mode) told =
+      let a = at_below p.modules decider told in
+      then_text (numeral time) _ (numeral_unbroken time)
       (then_text (codes " decide ") _ (fixed (codes " decide ") refl)
       (then_text (module_name p decider) _ (subst Unbroken (sym (module_named p decider a.0 a.1)) (word_unbroken a.0.name (module_in p rules words decider a.0 a.1)))
       (mode_unbroken mode)))
-  line_unbroken (TickAt time noise states) fe he =
-      then_text (decimal time) _ (decimal_unbroken time (omega (arith, he.0)))
+  line_unbroken (TickAt time noise states) told =
+      then_text (numeral time) _ (numeral_unbroken time)
       (then_text (codes " tick") _ (fixed (codes " tick") refl)
-      (moves_unbroken p.plants words.plants noise states (fit_from noise he.1) (fit_from states he.2)))
+      (moves_unbroken p.plants words.plants noise states))

@@ -1,5 +1,5 @@
 -- Worked traces, written out by hand.
-use Rattle.std.specs.Prelude.{◌≡◌, ℕ, ℤ, pos, negsuc, true, false, Option, Some, None, List, [], ◌∷◌, ◌++◌, replicate, codes}
+use Rattle.std.specs.Prelude.{◌≡◌, ℕ, ℤ, pos, negsuc, true, false, Option, Some, None, List, [], ◌∷◌, ◌++◌, ◌^◌, replicate, codes}
 use Rattle.std.proofs.Common.{refl}
 use Rattle.std.specs.Global.{Global}
 use Rattle.sot_lang.specs.declared.tables.TopicInfo.{TopicInfo}
@@ -10,6 +10,7 @@ use Rattle.sot_lang.specs.Tables.{Tables}
 use Rattle.sot_lang.specs.Line.{line, fast, pos_plant, vec}
 use Rattle.sot_world.specs.declared.mode.Mode.TheVariants.{Ac, Sc}
 use Rattle.sot_world.specs.HistoryEntry.{Logged, InputAt, FireAt, DecideAt, TickAt}
+use Rattle.sot_trace.specs.Numbers.{numeral, signed_numeral}
 use Rattle.sot_trace.specs.Lines.{line_of}
 use Rattle.sot_trace.specs.Traces.{trace_text}
 use Rattle.sot_trace.specs.Words.{AreWords}
@@ -101,6 +102,13 @@ RecordsAndInputs g =
     × (line_of (wide g) (FireAt 3 0 (None ∷ Some (pos 9) ∷ replicate 6 None) false) ≡ codes "3 idle fast goal.x=9")
     × (line_of (wide g) (InputAt 100 1 (pos 5 ∷ negsuc 0 ∷ [])) ≡ codes "100 input e=5,-1")
     × (line_of (wide g) (TickAt 4 (negsuc 0 ∷ []) (pos 3 ∷ pos 5 ∷ [])) ≡ codes "4 tick pos(-1)=3 p()=5")
+
+-- numbers of any size
+abbrev pub NumbersOfAnySize : Type 0
+NumbersOfAnySize =
+    (numeral 0 ≡ codes "0")
+    × (numeral 1070 ≡ codes "1070")
+    × (signed_numeral (negsuc (10 ^ 66)) ≡ codes "-1000000000000000000000000000000000000000000000000000000000000000001")
 
 -- what the law on texts asks for is met
 abbrev pub MeetsTheLaw : Global → Type 0

@@ -1,14 +1,13 @@
 -- The lines of a trace, each without its line end.
 use Rattle.std.specs.Prelude.{ℕ, ℤ, Bool, true, false, List, [], ◌∷◌, ◌++◌, slice_get, codes}
 use Rattle.std.specs.Option.{option_map_or}
-use Rattle.std.specs.Fmt.{decimal}
 use Rattle.sot_lang.specs.declared.tables.PlantInfo.{PlantInfo}
 use Rattle.sot_lang.specs.Tables.{Tables}
 use Rattle.sot_world.specs.declared.mode.Mode.{Mode}
 use Rattle.sot_world.specs.declared.mode.Mode.TheVariants.{Ac, Sc}
 use Rattle.sot_world.specs.HistoryEntry.{Logged, InputAt, FireAt, DecideAt, TickAt}
 use Rattle.sot_trace.specs.Names.{topic_name, node_name, module_name}
-use Rattle.sot_trace.specs.Numbers.{numbers}
+use Rattle.sot_trace.specs.Numbers.{numeral, numbers}
 use Rattle.sot_trace.specs.Drafts.{draft_text, draft_refused}
 use Rattle.sot_trace.specs.Moves.{moves_text}
 
@@ -28,10 +27,10 @@ mode_word Sc = codes " sc"
 
 -- `T input TOPIC=V,..`, `T fire NODE WRITES`, `T idle NODE WRITES`, `T decide MODULE MODE` and `T tick PLANT(W,..)=X,..`
 abbrev pub line_of : Tables → Logged → List ℕ
-line_of p (InputAt time topic value) = decimal time ++ (codes " input " ++ (topic_name p topic ++ (codes "=" ++ numbers value)))
-line_of p (FireAt time node draft enabled) = decimal time ++ (firing_word enabled ++ (node_name p node ++ draft_text p (writes_of p node) draft))
-line_of p (DecideAt time decider mode) = decimal time ++ (codes " decide " ++ (module_name p decider ++ mode_word mode))
-line_of p (TickAt time noise states) = decimal time ++ (codes " tick" ++ moves_text p.plants noise states)
+line_of p (InputAt time topic value) = numeral time ++ (codes " input " ++ (topic_name p topic ++ (codes "=" ++ numbers value)))
+line_of p (FireAt time node draft enabled) = numeral time ++ (firing_word enabled ++ (node_name p node ++ draft_text p (writes_of p node) draft))
+line_of p (DecideAt time decider mode) = numeral time ++ (codes " decide " ++ (module_name p decider ++ mode_word mode))
+line_of p (TickAt time noise states) = numeral time ++ (codes " tick" ++ moves_text p.plants noise states)
 
 -- the first line
 abbrev pub header : List ℕ
@@ -49,7 +48,7 @@ start_lines (k ∷ ks) (x ∷ xs) = start_line k x ∷ start_lines ks xs
 
 -- `end H events E refused R`
 abbrev pub end_line : ℕ → ℕ → ℕ → List ℕ
-end_line ticks events refused = codes "end " ++ (decimal ticks ++ (codes " events " ++ (decimal events ++ (codes " refused " ++ decimal refused))))
+end_line ticks events refused = codes "end " ++ (numeral ticks ++ (codes " events " ++ (numeral events ++ (codes " refused " ++ numeral refused))))
 
 -- 1 for a tick
 abbrev pub ticks_in : Logged → ℕ

@@ -1,7 +1,5 @@
--- Names and numbers of a size that texts can tell: what a value of the code's types always has.
-use Rattle.std.specs.Prelude.{◌≡◌, ℕ, ℤ, List, Some, FitsSigned}
-use Rattle.std.specs.Int.{w64}
-use Rattle.std.specs.List.{All}
+-- Names that texts can tell.
+use Rattle.std.specs.Prelude.{◌≡◌, ℕ, List, Some}
 use Rattle.sot_text.specs.declared.token.Kind.TheVariants.{Name}
 use Rattle.sot_text.specs.Lexeme.{IsTokenText}
 use Rattle.sot_lang.specs.declared.tables.TopicInfo.{TopicInfo}
@@ -23,7 +21,3 @@ pub record AreWords (p : Tables) : Type 0 where
   pub plants : (k : ℕ) (plant : PlantInfo) → At p.plants k plant → IsWord plant.name
   pub nodes : (n : ℕ) (node : NodeInfo) → At p.nodes n node → IsWord node.name
   pub modules : (m : ℕ) (info : ModuleInfo) → At p.modules m info → IsWord info.name
-
--- each number is in 64 bits
-abbrev pub AreShort : List ℤ → Type 0
-AreShort xs = All (λ z. FitsSigned w64 z) xs

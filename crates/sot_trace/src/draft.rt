@@ -3,8 +3,8 @@
 ghost use Rattle.std.specs.Prelude.{◌≡◌, ℕ, ◌+◌, ◌<◌, ◌≤◌, ◌++◌, length, codes, OnOk, IfOk};
 ghost use Rattle.std.specs.String.{string_bytes};
 ghost use Rattle.sot_lists.specs.Places.{At};
-ghost use Rattle.std.specs.Fmt.{signed_decimal};
 ghost use Rattle.sot_trace.specs.Names.{scalar_name};
+ghost use Rattle.sot_trace.specs.Numbers.{signed_numeral};
 ghost use Rattle.sot_trace.specs.Drafts.{is_in_range, mark, slot_text, draft_text, slot_refused, draft_refused};
 
 use crate::name::put_scalar_name;
@@ -28,7 +28,7 @@ fn put_drafted(
     in_range: bool,
 ) -> Result<(), AllocError>
     requires { scalar < length p.now.scalars }
-    ensures { OnOk result (string_bytes out.new ≡ string_bytes out.old ++ (codes " " ++ (scalar_name p.now scalar ++ (mark in_range ++ signed_decimal number)))) }
+    ensures { OnOk result (string_bytes out.new ≡ string_bytes out.old ++ (codes " " ++ (scalar_name p.now scalar ++ (mark in_range ++ signed_numeral number)))) }
 {
     out.push_str(" ")?;
     put_scalar_name(out, p, scalar)?;

@@ -1,9 +1,9 @@
 //! Worked traces.
 
 ghost use Rattle.std.specs.Global.{Global};
-ghost use Rattle.sot_trace.specs.Examples.{AwayFromNought, TurnedBack, OutsideIsMarked, MarksOfDrafts, DisabledDrafts, RecordsAndInputs, MeetsTheLaw};
+ghost use Rattle.sot_trace.specs.Examples.{AwayFromNought, TurnedBack, OutsideIsMarked, MarksOfDrafts, DisabledDrafts, RecordsAndInputs, NumbersOfAnySize, MeetsTheLaw};
 
-/// Traces and lines of the running example and of a wider one, written out by hand.
+/// Traces, lines and numbers, written out by hand: of the running example and of a wider one.
 pub fn traces_are_as_stated()
     ensures away { (g : Global) → AwayFromNought g }
     ensures back { (g : Global) → TurnedBack g }
@@ -11,5 +11,6 @@ pub fn traces_are_as_stated()
     ensures marks { (g : Global) → MarksOfDrafts g }
     ensures disabled { (g : Global) → DisabledDrafts g }
     ensures records { (g : Global) → RecordsAndInputs g }
+    ensures numbers { NumbersOfAnySize }
     ensures law { (g : Global) → MeetsTheLaw g }
 {}

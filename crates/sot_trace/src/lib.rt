@@ -16,5 +16,5 @@ mod text;
 
 pub use facts::traces_are_as_stated;
 pub use flown::board_text;
-pub use laws::text_tells_history;
+pub use laws::{flown_histories_are_told, text_tells_history};
 pub use text::trace_text;

@@ -2,29 +2,28 @@
 
 ghost use Rattle.std.specs.Prelude.{◌≡◌, ◌++◌, OnOk};
 ghost use Rattle.std.specs.String.{string_bytes};
-ghost use Rattle.std.specs.Fmt.{decimal, signed_decimal};
-ghost use Rattle.sot_trace.specs.Numbers.{further, numbers};
+ghost use Rattle.sot_trace.specs.Numbers.{numeral, signed_numeral, further, numbers};
 
 use itoa::Buffer;
 use std::alloc::AllocError;
 
 /// A time or a place in decimal.
 pub fn put_time(out: &mut String, time: u32) -> Result<(), AllocError>
-    ensures { OnOk result (string_bytes out.new ≡ string_bytes out.old ++ decimal time) }
+    ensures { OnOk result (string_bytes out.new ≡ string_bytes out.old ++ numeral time) }
 {
     out.push_str(Buffer::new().format(time))
 }
 
 /// A count in decimal.
 pub fn put_count(out: &mut String, count: u128) -> Result<(), AllocError>
-    ensures { OnOk result (string_bytes out.new ≡ string_bytes out.old ++ decimal count) }
+    ensures { OnOk result (string_bytes out.new ≡ string_bytes out.old ++ numeral count) }
 {
     out.push_str(Buffer::new().format(count))
 }
 
 /// A number in decimal, behind a `-` where it is below 0.
 pub fn put_number(out: &mut String, number: i64) -> Result<(), AllocError>
-    ensures { OnOk result (string_bytes out.new ≡ string_bytes out.old ++ signed_decimal number) }
+    ensures { OnOk result (string_bytes out.new ≡ string_bytes out.old ++ signed_numeral number) }
 {
     out.push_str(Buffer::new().format(number))
 }

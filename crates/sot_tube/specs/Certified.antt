@@ -46,14 +46,14 @@ pub record DraftsFrom (p : Tables) (a : ModuleInfo) (sc : NodeInfo) (acts : List
   pub runs : IsNodeIntervals p sc acts (slice_set hulls a.plant cell) fired
 
 -- a closed cell: the safe region covers it, and what the safe node surely drafts from it keeps the plant
--- inside for the node's period. That the safe node's evaluation meets no trap in the cell is part of this
+-- inside for the node's period and the jitter. That the safe node's evaluation meets no trap in the cell is part of this
 pub record IsClosedCell (p : Tables) (jitter : ℕ) (a : ModuleInfo) (plant : PlantInfo) (sc : NodeInfo) (acts : List Act) (cell : List Side) : Type 0 where
   pub covered : Covers a.safe.boxes cell
   pub fired : Intervals
   pub drafts : DraftsFrom p a sc acts cell fired
   pub stays : TubeInside p plant (command_intervals p plant sc fired.draft) a.safe.boxes cell (sc.period + jitter)
 
--- a reach cell: any commands keep the plant inside for two periods of the module
+-- a reach cell: any commands keep the plant inside for twice the sum of the module's period and the jitter
 abbrev pub IsReachCell : Tables → ℕ → ModuleInfo → PlantInfo → List Side → Type 0
 IsReachCell p jitter a plant cell = AnyTubeInside p plant a.safe.boxes cell (2 * (a.period + jitter))
 

@@ -27,7 +27,7 @@ pub record TubeInside (p : Tables) (plant : PlantInfo) (commands : List Side) (r
 abbrev pub AnyTubeInside : Tables → PlantInfo → List (List Side) → List Side → ℕ → Type 0
 AnyTubeInside p plant region box k = TubeInside p plant (input_ranges p plant) region box k
 
--- from the point s on, the tube of twice the module's period is inside its safe region
+-- from the point s on, the tube of twice the sum of the module's period and the jitter is inside its safe region
 pub record Keeps (p : Tables) (jitter : ℕ) (module_info : ModuleInfo) (s : List ℤ) : Type 0 where
   pub plant : PlantInfo
   pub is : At p.plants module_info.plant plant

@@ -42,7 +42,7 @@ Agrees plant node draft c =
     (i j k : ℕ) (z : ℤ) → At node.writes.items i k → At plant.inputs.items j k → At draft i (Some z) → At c j z
 
 -- from each point s of the safe region, whatever the safe node meets with its plant at s: commands in
--- their types that agree with its draft and are held keep the plant inside for the node's period
+-- their types that agree with its draft and are held keep the plant inside for the node's period and the jitter
 abbrev pub HoldsForAPeriod : Tables → ℕ → ModuleInfo → PlantInfo → NodeInfo → List Act → Type 0
 HoldsForAPeriod p jitter a plant sc acts =
     (s : List ℤ) (scalars : List ℤ) (points : List (List ℤ)) (locals : List ℤ) (fired : Fired) (c : List ℤ)
@@ -51,7 +51,7 @@ HoldsForAPeriod p jitter a plant sc acts =
     → IsWithin (input_ranges p plant) c → Agrees plant sc fired.draft c
     → AllInside (HeldReach p plant s c (sc.period + jitter)) a.safe.boxes
 
--- from each point of the safer region, any commands keep the plant inside for two periods of the module
+-- from each point of the safer region, any commands keep the plant inside for twice the sum of the module's period and the jitter
 abbrev pub HoldsForTwoPeriods : Tables → ℕ → ModuleInfo → PlantInfo → Type 0
 HoldsForTwoPeriods p jitter a plant =
     (s : List ℤ) → IsInRegion a.safer.boxes s

@@ -4,17 +4,17 @@
 mod accepted;
 mod facts;
 mod keep;
+mod laws;
 mod leave;
-mod theorems;
 mod tube;
 mod walk;
 
 pub use accepted::Accepted;
 pub use facts::{line_is_certified, refusals_are_as_stated, tubes_are_as_stated};
 pub use keep::keeps;
-pub use leave::Leave;
-pub use theorems::{
+pub use laws::{
     certified_is_well_formed, composed_by_scalars, covered_cells_never_trap, tubes_hold_the_reach,
     tubes_leave_in_one_way, verdicts_are_exact,
 };
+pub use leave::Leave;
 pub use tube::{any_inside, held_inside};

@@ -1,3 +1,5 @@
+//! Tests of the lock with threads.
+
 ghost use Rattle.std.specs.Prelude.{◌≡◌};
 ghost use Rattle.sot_turn.specs.Passes.{lock_of, pass_lock, pass_ground};
 

@@ -7,10 +7,11 @@
 mod clock;
 mod decide;
 mod event;
-mod examples;
+mod facts;
 mod fire;
 mod history;
 mod input;
+mod laws;
 mod lent;
 mod looks;
 mod mode;
@@ -18,22 +19,21 @@ mod open_fail;
 mod outcome;
 mod role;
 mod starts;
-mod theorems;
 mod tick;
 mod world;
 
 pub use event::Event;
-pub use examples::{
+pub use facts::{
     disabled_nodes_publish_nothing, line_decides, line_fires, line_is_safe, line_opens,
     line_switches, line_ticks, relay_takes_inputs, some_are_not_safe, twins_step,
 };
 pub use history::{Entry, History};
-pub use mode::Mode;
-pub use open_fail::OpenFail;
-pub use outcome::{Outcome, Why};
-pub use theorems::{
+pub use laws::{
     certified_runs_are_safe, firings_publish_what_is_drafted, possible_is_what_has_a_step,
     runs_keep_the_invariant, something_can_happen, steps_are_unique, steps_keep_the_invariant,
     the_invariant_is_safe, without_jitter,
 };
+pub use mode::Mode;
+pub use open_fail::OpenFail;
+pub use outcome::{Outcome, Why};
 pub use world::World;

@@ -1,6 +1,6 @@
 //! A configuration of a run of an accepted program.
 
-ghost use Rattle.std.specs.Prelude.{◌≡◌, ℕ, ◌<◌, ◌≤◌, length, true, MatchResult, IsTrue, ◌↔◌, IfOk, IfErr};
+ghost use Rattle.std.specs.Prelude.{◌≡◌, ℕ, ◌<◌, ◌≤◌, length, true, MatchResult, IsTrue, ◌↔◌, IfOk, IfErr, IsErrOf};
 ghost use Rattle.sot_lists.specs.Places.{At};
 ghost use Rattle.sot_lang.specs.declared.tables.TopicInfo.{TopicInfo};
 ghost use Rattle.sot_world.specs.Configurations.{is_left, is_left_dm, mode_of, number_of, locals_of, point_of, IsOpening, IsSafer};
@@ -67,7 +67,8 @@ impl<'a> World<'a> {
     /// The opening of a program at these points, one for each plant with a coordinate for each of its state variables: time 0,
     /// all that is due left to fire, every module in mode Sc. It takes all memory that the world will ever need.
     ///
-    /// `NotSafer` names the first module whose plant starts outside the module's safer region; `Memory` says that there is none.
+    /// `NotSafer` names the first module whose plant starts outside the module's safer region; `Memory` says that there is none,
+    /// and comes only where every plant starts inside.
     pub fn open(
         alloc: Global,
         acc: &'a Accepted<'a>,
@@ -78,6 +79,7 @@ impl<'a> World<'a> {
         ensures safer { IfOk result (λ w. IsSafer acc.now.program w.at) }
         ensures accepted { IfOk result (λ w. w.accepted ≡ acc.now) }
         ensures not_safer { IfErr result (λ f. IfNotSafer f (λ m. IsFirstOutside acc.now.program start.now m)) }
+        ensures memory { IsErrOf result OpenFail.Memory → StartInside acc.now.program start.now (length acc.now.program.modules) }
     {
         let p = acc.typed();
         if let Some(module) = first_outside(p, start) {

@@ -19,7 +19,7 @@ use Rattle.clap.specs.declared.error.kind.ErrorKind.{ErrorKind}
 use Rattle.clap.specs.declared.error.kind.ErrorKind.TheVariants as kind
 use Rattle.clap.proofs.OnLiterals.{clap_on_literals}
 use Rattle.soter.specs.declared.words.Command.{Command}
-use Rattle.soter.specs.declared.words.Command.TheVariants.{Check, Fly, Format}
+use Rattle.soter.specs.declared.words.Command.TheVariants.{Check, Fly, Format, Certify}
 use Rattle.soter.specs.declared.words.WordFail.{WordFail}
 use Rattle.soter.specs.declared.words.WordFail.TheVariants.{Form}
 use Rattle.soter.specs.Words.{word_of}
@@ -31,12 +31,14 @@ unfolding clap_on_literals
 taken Check = refl
 taken Fly = refl
 taken Format = refl
+taken Certify = refl
 
 pub named : (c : Command) → option_map (λ p. p.0) (subcommand_of program (word_of c ∷ [])) ≡ Some (word_of c)
 unfolding clap_on_literals
 named Check = refl
 named Fly = refl
 named Format = refl
+named Certify = refl
 
 no_words : fault_of program [] ≡ [] → ⊥
 unfolding clap_on_literals
@@ -108,6 +110,12 @@ alone Format (r ∷ rest) plain e =
     let inner : entered_fault (built program) (Some (codes "format", r ∷ rest)) ≡ [] =
     subst (λ (p : Option (Text × List Text)). entered_fault (built program) p ≡ []) (stops sub_names nothing_held idle 1 false (codes "format") [] (r ∷ rest)) below in
     absurd (nothing_behind (sub_shape (codes "format")) r rest refl parts.0 inner)
+alone Certify (r ∷ rest) plain e =
+    let parts = or_parts (is_dashed r) (list_any is_dashed rest) plain in
+    let below : entered_fault (built program) (walk [] sub_names nothing_held (codes "certify" ∷ r ∷ rest)).stopped ≡ [] = (neither _ _ (neither _ _ e).1).0 in
+    let inner : entered_fault (built program) (Some (codes "certify", r ∷ rest)) ≡ [] =
+    subst (λ (p : Option (Text × List Text)). entered_fault (built program) p ≡ []) (stops sub_names nothing_held idle 1 false (codes "certify") [] (r ∷ rest)) below in
+    absurd (nothing_behind (sub_shape (codes "certify")) r rest refl parts.0 inner)
 
 -- a word that stands for a command, with nothing behind it
 whole : (c : Command) (w : Text) (rest : List Text) → word_of c ≡ w → list_any is_dashed rest ≡ false → fault_of program (w ∷ rest) ≡ [] → w ∷ rest ≡ word_of c ∷ []
@@ -128,9 +136,13 @@ only (w ∷ rest) plain e =
             | inr further ↦
                 elim (cases_Bool (bytes_eq (codes "format") w)) [
                   | inl format ↦ (Format, whole Format w rest ((bytes_eq-Decides (codes "format") w).0 format) parts.1 e)
-                  | inr last ↦
-                      let none : find (answers_to w) sub_names ≡ None = rw (other, further, last) refl in
-                      absurd (strays (built program).top sub_names w rest refl parts.0 none (neither _ _ e).0)
+                  | inr beyond ↦
+                      elim (cases_Bool (bytes_eq (codes "certify") w)) [
+                        | inl certify ↦ (Certify, whole Certify w rest ((bytes_eq-Decides (codes "certify") w).0 certify) parts.1 e)
+                        | inr last ↦
+                            let none : find (answers_to w) sub_names ≡ None = rw (other, further, beyond, last) refl in
+                            absurd (strays (built program).top sub_names w rest refl parts.0 none (neither _ _ e).0)
+                      ]
                 ]
           ]
     ]
@@ -143,6 +155,7 @@ no_dash : (c : Command) → list_any is_dashed (word_of c ∷ []) ≡ false
 no_dash Check = refl
 no_dash Fly = refl
 no_dash Format = refl
+no_dash Certify = refl
 
 -- words with '-' ask for nothing
 pub dash_asks : (words : List (String Global)) (c : Command) → list_any (λ w. is_dashed (string_bytes w)) words ≡ true → map string_bytes words ≡ word_of c ∷ [] → ⊥

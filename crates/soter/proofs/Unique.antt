@@ -1,6 +1,7 @@
 -- A text decides one status.
 use Rattle.std.proofs.Common.{◌≡◌, ℕ, List, [], ◌∷◌, Option, None, Some, length, Result, Ok, inl, inr, refl, sym, ap, ◌∙◌, subst, arith, codes, Global}
-use Rattle.std.specs.Prelude.{String, slice_index_or}
+use Rattle.std.specs.Prelude.{if◌then◌else◌, String, slice_index_or}
+use Rattle.std.specs.Str.{bytes_eq}
 use Rattle.std.proofs.lemmas.Option.{same_Some, slice_get_within}
 use Rattle.sot_lists.specs.Places.{At}
 use Rattle.sot_box.specs.Regions.{IsInRegion}
@@ -25,15 +26,19 @@ use Rattle.sot_alike.proofs.Certificates.{certificates_alike}
 use Rattle.sot_alike.proofs.Certified.{certified_alike}
 use Rattle.sot_alike.proofs.Seen.{modules_same}
 use Rattle.sot_alike.proofs.Flights.{flights_alike}
+use Rattle.sot_certify_alike.proofs.Certify.{certify_alike}
 use Rattle.sot_world.specs.Opens.{StartInside, IsFirstOutside}
 use Rattle.sot_report.specs.declared.fault.Fault.{Fault}
 use Rattle.sot_report.specs.declared.fault.Fault.TheVariants as faults
 use Rattle.sot_report.specs.Missions.{Mission, Resolves, HasParts, SaysFlight, FaultsFlight, HasFault}
 use Rattle.soter.specs.declared.words.Command.{Command}
-use Rattle.soter.specs.declared.words.Command.TheVariants.{Check, Fly, Format}
-use Rattle.soter.specs.Words.{Asks}
-use Rattle.soter.specs.Answers.{IsAccepted, IsRefusedFor, SpellsFor, Accepts, Refutes, Rejects, Replies}
+use Rattle.soter.specs.declared.words.Command.TheVariants.{Check, Fly, Format, Certify}
+use Rattle.soter.specs.Words.{word_of, Asks}
+use Rattle.soter.specs.Answers.{IsAccepted, IsRefusedFor, SpellsFor, HasProgramFault, Accepts, Refutes, Rejects, Replies}
 use Rattle.soter.specs.Ends.{Decides}
+
+same_first : (a b : List ℕ) → a ∷ [] ≡ b ∷ [] → a ≡ b
+same_first a b e = cc
 
 -- bytes have one list of sections, and its program's text spells one program
 same_ok : {A E : Type 0} (x : Result A E) (a b : A) → x ≡ Ok a → x ≡ Ok b → a ≡ b
@@ -114,6 +119,15 @@ spelled_faulty need bytes m (faults.Flight f) x (parts, has, (p, t, (spells, res
     let same : m.program ≡ p = same_program x.parts parts m.program p here x.spelled spells in
     flown_faulty m.tables t parts.flight m.flight f (same_seen m.program p m.tables t same x.resolved resolves) (subst (λ (q : Parts). SaysFlight m.tables 0 q.flight m.flight) here x.flown) fails
 
+-- a program's text that breaks no rule of typing has no fault
+program_faulty : (bytes : List ℕ) (p : Program) (t : Tables) (f : Fault) → Spells bytes 0 p → Resolves p t → HasProgramFault bytes f → ⊥
+program_faulty bytes p t (faults.Section f) spells resolves has = has
+program_faulty bytes p t (faults.Syntax f) spells resolves has = has.0 p spells
+program_faulty bytes p t (faults.Typing f) spells resolves (q, spells', first) =
+    subst (λ (x : Program). IsFaultless x) (spells_unique bytes 0 p q spells spells') resolves.faultless f.at f.kind first.fails
+program_faulty bytes p t (faults.Cert f) spells resolves has = has
+program_faulty bytes p t (faults.Flight f) spells resolves has = has
+
 -- what is accepted is neither refused nor rejected, and what is refused is not rejected
 not_refuted : (c : Command) (bytes text text' : List ℕ) → Accepts c bytes text → Refutes c bytes text' → ⊥
 not_refuted Check bytes text text' (m, spells, certified, safe, says) (n, spells', (r, refuses, says')) = accepted_refused needs.Check bytes m n spells spells' r certified refuses
@@ -121,16 +135,20 @@ not_refuted Fly bytes text text' (m, spells, certified, safe, flown) (n, spells'
 not_refuted Fly bytes text text' (m, spells, certified, safe, (f, is, (inside, flown))) (n, spells', inr (certified', (g, is', (k, first, says')))) =
     inside_outside needs.Fly bytes m n spells spells' f g is is' inside k first
 not_refuted Format bytes text text' a r = r
+not_refuted Certify bytes text text' (p, t, spells, resolves, (cert, made, fits, says), accepted) (q, u, spells', resolves', (fail, enough, fails, says')) =
+    certify_alike t u cert fail (same_seen p q t u (spells_unique bytes 0 p q spells spells') resolves resolves') enough made fails
 
 not_rejected : (c : Command) (bytes text text' : List ℕ) → Accepts c bytes text → Rejects c bytes text' → ⊥
 not_rejected Check bytes text text' (m, spells, certified, safe, says) (f, has, says') = spelled_faulty needs.Check bytes m f spells has
 not_rejected Fly bytes text text' (m, spells, certified, safe, flown) (f, has, says') = spelled_faulty needs.Fly bytes m f spells has
 not_rejected Format bytes text text' a r = r.0 a.0 a.1
+not_rejected Certify bytes text text' (p, t, spells, resolves, has, accepted) (f, fault, says) = program_faulty bytes p t f spells resolves fault
 
 refuted_not_rejected : (c : Command) (bytes text text' : List ℕ) → Refutes c bytes text → Rejects c bytes text' → ⊥
 refuted_not_rejected Check bytes text text' (m, spells, refused) (f, has, says') = spelled_faulty needs.Check bytes m f spells has
 refuted_not_rejected Fly bytes text text' (m, spells, refused) (f, has, says') = spelled_faulty needs.Fly bytes m f spells has
 refuted_not_rejected Format bytes text text' a r = a
+refuted_not_rejected Certify bytes text text' (p, t, spells, resolves, has) (f, fault, says) = program_faulty bytes p t f spells resolves fault
 
 -- a command answers one status
 replies_once : (c : Command) (bytes text text' : List ℕ) (s t : ℕ) → Replies c bytes s text → Replies c bytes t text' → s ≡ t
@@ -144,17 +162,24 @@ replies_once c bytes text text' s t (inr (inr (is, a))) (inl (is', b)) = absurd 
 replies_once c bytes text text' s t (inr (inr (is, a))) (inr (inl (is', b))) = absurd (refuted_not_rejected c bytes text' text b a)
 replies_once c bytes text text' s t (inr (inr (is, a))) (inr (inr (is', b))) = is ∙ sym is'
 
+-- a command is told by its word
+told : List ℕ → Command
+told word =
+    if bytes_eq word (codes "check") then Check
+    else if bytes_eq word (codes "fly") then Fly
+    else if bytes_eq word (codes "format") then Format
+    else Certify
+
+told_word : (c : Command) → told (word_of c) ≡ c
+unfolding told
+told_word Check = refl
+told_word Fly = refl
+told_word Format = refl
+told_word Certify = refl
+
 -- words ask for one command
 same_command : (words : List (String Global)) (c d : Command) → Asks words c → Asks words d → c ≡ d
-same_command words Check Check a b = refl
-same_command words Fly Fly a b = refl
-same_command words Format Format a b = refl
-same_command words Check Fly a b = (let e : codes "check" ∷ [] ≡ codes "fly" ∷ [] = sym a ∙ b in absurd cc)
-same_command words Check Format a b = (let e : codes "check" ∷ [] ≡ codes "format" ∷ [] = sym a ∙ b in absurd cc)
-same_command words Fly Check a b = (let e : codes "fly" ∷ [] ≡ codes "check" ∷ [] = sym a ∙ b in absurd cc)
-same_command words Fly Format a b = (let e : codes "fly" ∷ [] ≡ codes "format" ∷ [] = sym a ∙ b in absurd cc)
-same_command words Format Check a b = (let e : codes "format" ∷ [] ≡ codes "check" ∷ [] = sym a ∙ b in absurd cc)
-same_command words Format Fly a b = (let e : codes "format" ∷ [] ≡ codes "fly" ∷ [] = sym a ∙ b in absurd cc)
+same_command words c d a b = sym (told_word c) ∙ ap told (same_first (word_of c) (word_of d) (sym a ∙ b)) ∙ told_word d
 
 -- words and bytes decide one status
 pub decides_once : (words : List (String Global)) (bytes : List ℕ) (s t : ℕ) → Decides words bytes s → Decides words bytes t → s ≡ t

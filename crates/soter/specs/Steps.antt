@@ -13,8 +13,15 @@ use Rattle.sot_world.specs.Headline.{EveryRunIsSafe}
 use Rattle.sot_flight.specs.Plans.{Plan}
 use Rattle.sot_report.specs.AcceptedTexts.{accepted_text}
 use Rattle.sot_report.specs.RefusalTexts.{refusal_text}
+use Rattle.sot_report.specs.FaultTexts.{type_text}
+use Rattle.sot_report.specs.Missions.{Resolves}
+use Rattle.sot_rules.specs.declared.fault.TypeFault.{TypeFault}
+use Rattle.sot_rules.specs.First.{IsFirstFault}
+use Rattle.sot_tree.specs.Trees.{Program}
+use Rattle.sot_parser.specs.Programs.{Spells}
+use Rattle.sot_reread.specs.Laws.{IsCertificateOf, written}
 use Rattle.soter.specs.Texts.{usage_text, long_text}
-use Rattle.soter.specs.Answers.{IsTraceOf, IsOutsideOf, Replies, input_limit}
+use Rattle.soter.specs.Answers.{IsTraceOf, IsOutsideOf, IsCertifiedText, IsNotCertified, SpellsAccepted, Replies, input_limit}
 use Rattle.soter.specs.declared.words.Command.{Command}
 use Rattle.soter.specs.Words.{Asks, AsksSome, AsksNone}
 
@@ -34,6 +41,24 @@ JudgesFlown t cert f status text =
     (IsWellCertified t cert.jitter cert × EveryRunIsSafe t cert.jitter × JudgesFlight t cert.jitter f status text)
     ⊎ ((status ≡ 1) × ((r : Refusal) × (verdict t cert.jitter cert).Refuses r × (text ≡ refusal_text t r)))
 
+-- some text spells a program
+abbrev pub IsSpelled : Program → Type 0
+IsSpelled p = (bytes : List ℕ) × Spells bytes 0 p
+
+-- a text is that of some program with a certificate that is made for it
+abbrev pub IsWritten : List ℕ → Type 0
+IsWritten text = (bytes : List ℕ) × (p : Program) × (t : Tables) × (cert : Cert) × IsCertificateOf bytes p t cert × (text ≡ written p t cert)
+
+-- what is said of a program with its tables: a certificate that is read back, or none and why
+abbrev pub CertifiesTables : Program → Tables → ℕ → List ℕ → Type 0
+CertifiesTables p t status text = ((status ≡ 0) × IsCertifiedText p t text × SpellsAccepted text) ⊎ ((status ≡ 1) × IsNotCertified t text)
+
+-- what is said of a program
+abbrev pub CertifiesTree : Program → ℕ → List ℕ → Type 0
+CertifiesTree p status text =
+    ((t : Tables) × Resolves p t × CertifiesTables p t status text)
+    ⊎ ((status ≡ 3) × ((f : TypeFault) × IsFirstFault p f × (text ≡ type_text f)))
+
 -- what is said of what a source gave: of all that it had left, or of too much
 abbrev pub ReadAnswer : Command → Option (List ℕ) → Option (List ℕ) → ℕ → List ℕ → Type 0
 ReadAnswer command left left_after status text =
@@ -45,13 +70,13 @@ abbrev pub WordAnswer : List (String Global) → Option (List ℕ) → Option (L
 WordAnswer words left left_after status text =
     ((command : Command) × Asks words command × ReadAnswer command left left_after status text) ⊎ (AsksNone words × (status ≡ 2) × (text ≡ usage_text))
 
--- why nothing is said: memory, or a source that failed
+-- why nothing is said: memory, with no fault of the source, or a source that failed
 abbrev pub Silence : List (String Global) → ℕ → ℕ → ℕ → Type 0
 Silence words faults faults_after status =
-    (status ≡ 6) ⊎ ((status ≡ 4) × AsksSome words × Rose faults faults_after)
+    ((status ≡ 6) × (faults_after ≡ faults)) ⊎ ((status ≡ 4) × AsksSome words × Rose faults faults_after)
 
--- a text was written and this is its status, or the sink failed before its end
+-- a text was written without a fault and this is its status, or the sink failed before its end
 abbrev pub Written : Option (List ℕ) → Option (List ℕ) → ℕ → ℕ → ℕ → List ℕ → ℕ → Type 0
 Written held held_after faults faults_after said text status =
-    ((status ≡ said) × Appends held held_after text)
+    ((status ≡ said) × (faults_after ≡ faults) × Appends held held_after text)
     ⊎ ((status ≡ 5) × Rose faults faults_after × ((n : ℕ) × (n < length text) × Appends held held_after (take n text)))

@@ -11,7 +11,10 @@ is_dashed (b ∷ bs) = b == 45
 abbrev pub top : Shape
 top = record (new_shape (codes "soter")) { no_binary_name = true; disable_help_flag = true; disable_help_subcommand = true; subcommand_required = true }
 
+abbrev pub bare : App
+bare = record { top = top; subs = [] }
+
 abbrev pub program : App
 program =
-    with_subcommand (with_subcommand (with_subcommand (record { top = top; subs = [] }) (new_shape (codes "check"))) (new_shape (codes "fly")))
-    (new_shape (codes "format"))
+    with_subcommand (with_subcommand (with_subcommand (with_subcommand bare (new_shape (codes "check"))) (new_shape (codes "fly")))
+    (new_shape (codes "format"))) (new_shape (codes "certify"))

@@ -3,13 +3,14 @@ use Rattle.std.specs.Prelude.{◌≡◌, ℕ, List, [], ◌∷◌, codes, map, S
 use Rattle.std.specs.String.{string_bytes}
 use Rattle.std.proofs.Common.{Global}
 use Rattle.soter.specs.declared.words.Command.{Command}
-use Rattle.soter.specs.declared.words.Command.TheVariants.{Check, Fly, Format}
+use Rattle.soter.specs.declared.words.Command.TheVariants.{Check, Fly, Format, Certify}
 
 -- the word of a command
 abbrev pub word_of : Command → List ℕ
 word_of Check = codes "check"
 word_of Fly = codes "fly"
 word_of Format = codes "format"
+word_of Certify = codes "certify"
 
 -- the words ask for this command: they are its word alone
 abbrev pub Asks : List (String Global) → Command → Type 0

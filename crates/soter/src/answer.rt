@@ -12,8 +12,10 @@ ghost use Rattle.soter.specs.Answers.{IsOutsideOf};
 ghost use Rattle.sot_report.specs.FaultTexts.{fault_text};
 ghost use Rattle.sot_report.specs.RefusalTexts.{refusal_text};
 ghost use Rattle.sot_report.specs.AcceptedTexts.{accepted_text};
+ghost use Rattle.sot_certified_text.specs.FailTexts.{fail_text};
 
 use sot_board::Board;
+use sot_certify::CertifyFail;
 use sot_flight::Flight;
 use sot_lang::{Cert, Typed};
 use sot_print::print;
@@ -101,6 +103,15 @@ pub fn outside(
 {
     let plant = program.modules[module as usize].plant;
     let text = start_text(alloc, program, module, &flight.start()[plant as usize])?;
+    Ok(Answer { status: 1, text })
+}
+
+/// Status 1: the line that says why there is no certificate.
+pub fn uncertified(alloc: Global, tables: &Typed, fail: &CertifyFail) -> Result<Answer, AllocError>
+    ensures status { IfOk result (λ answer. answer.status ≡ 1) }
+    ensures text { IfOk result (λ answer. answer.text.items ≡ fail_text tables.now fail.now) }
+{
+    let text = sot_certified_text::fail_text(alloc, tables, fail)?;
     Ok(Answer { status: 1, text })
 }
 

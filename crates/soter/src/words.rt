@@ -5,7 +5,7 @@ ghost use Rattle.std.specs.List.{list_any};
 ghost use Rattle.std.specs.String.{string_bytes};
 ghost use Rattle.clap.specs.Words.{app_of, kind_of, subcommand_name_of, FailsBy, HasMatchesOf, fault_of};
 ghost use Rattle.soter.specs.Words.{word_of, Asks};
-ghost use Rattle.soter.specs.WordParser.{is_dashed, program};
+ghost use Rattle.soter.specs.WordParser.{is_dashed, bare, program};
 
 use clap::error::ErrorKind;
 use clap::{ArgMatches, Error};
@@ -17,6 +17,7 @@ pub enum Command {
     Check,
     Fly,
     Format,
+    Certify,
 }
 
 /// Why no command is known.
@@ -43,21 +44,30 @@ fn has_dash(words: &[String]) -> bool
     words.iter().any(|word| is_dashed(word.as_bytes()))
 }
 
-// The commands as subcommands, of which one has to be named. They have no help: its words begin with `-`.
+// One of the subcommands has to be named. There is no help: its words begin with `-`.
+fn bare<'a>(alloc: Global) -> clap::Command<'a>
+    ensures { app_of result ≡ bare }
+{
+    clap::Command::new(alloc, "soter")
+        .no_binary_name(true)
+        .disable_help_flag(true)
+        .disable_help_subcommand(true)
+        .subcommand_required(true)
+}
+
+// The commands as subcommands.
 fn program<'a>(alloc: Global) -> Result<clap::Command<'a>, AllocError>
     ensures { IfOk result (λ command. app_of command ≡ program) }
 {
     let check = clap::Command::new(alloc, "check");
     let fly = clap::Command::new(alloc, "fly");
     let format = clap::Command::new(alloc, "format");
-    clap::Command::new(alloc, "soter")
-        .no_binary_name(true)
-        .disable_help_flag(true)
-        .disable_help_subcommand(true)
-        .subcommand_required(true)
+    let certify = clap::Command::new(alloc, "certify");
+    bare(alloc)
         .subcommand(check)?
         .subcommand(fly)?
-        .subcommand(format)
+        .subcommand(format)?
+        .subcommand(certify)
 }
 
 // What `clap` makes of the words.
@@ -82,6 +92,8 @@ fn found(matches: &ArgMatches<'_>) -> Result<Command, WordFail>
         Ok(Command::Fly)
     } else if name == "format" {
         Ok(Command::Format)
+    } else if name == "certify" {
+        Ok(Command::Certify)
     } else {
         Err(WordFail::Form)
     }

@@ -1,4 +1,4 @@
-use Rattle.std.proofs.Common.{◌≡◌, ◌+◌, length, map, take, arith}
+use Rattle.std.proofs.Common.{◌≡◌, length, arith}
 use Rattle.sot_certified_text.specs.CertText.{side_data}
 use Rattle.sot_certified_text.proofs.Items.{one_more, whole}
 use Rattle.sot_certified_text.proofs.value.cell_value.Goals as goal

@@ -1,4 +1,4 @@
-use Rattle.std.proofs.Common.{◌≡◌, ◌<◌, [], ◌∷◌, ◌++◌, ◌-◌, take, ap, sym, ◌∙◌, subst}
+use Rattle.std.proofs.Common.{◌≡◌, ◌<◌, [], ◌++◌, ◌-◌, take, ap, sym, ◌∙◌, subst}
 use Rattle.std.specs.Prelude.{reverse}
 use Rattle.sot_lang.specs.OwnerNames.{width_of}
 use Rattle.sot_halving.proofs.Effort.{effort}

@@ -1,4 +1,4 @@
-use Rattle.std.proofs.Common.{arith, rules, ◌≡◌, ◌-◌, ◌+◌, [], ◌∷◌, ◌++◌, ap, ◌∙◌}
+use Rattle.std.proofs.Common.{arith, rules, ◌≡◌, ◌-◌, [], ◌∷◌, ◌++◌, ap, ◌∙◌}
 use Rattle.sot_certify.proofs.Taking.{turned_more}
 use Rattle.sot_certify.proofs.listing.opened.Goals as goal
 

@@ -13,11 +13,11 @@ first_missing-requires-clause-other c = written_there c.args.p.now c.requires.ru
 pub returns-in-Some : goal.returns-in-Some
 returns-in-Some c = (
   c.in-Some.topic,
-  least_foreign c.args.p.now c.args.info.now c.plant_at.result.now c.node_at.result.now c.plant_at.ensures.is c.node_at.ensures.is _ _ _ (c.deref.ensures.value ∙ ap (λ (t : Tables). t.scalars) c.p.view_is) c.deref-2.ensures.value c.deref-3.ensures.value c.in-Some.topic c.in-Some.ensures.0 c.in-Some.ensures.1,
+  least_foreign c.args.p.now c.args.info.now c.plant_at.result.now c.node_at.result.now c.plant_at.ensures.is c.node_at.ensures.is _ _ _ (c.deref.ensures.value ∙ ap (λ (t : Tables). t.scalars) c.p.view_is) c.deref-2.ensures.value c.deref-3.ensures.value c.in-Some.topic c.in-Some.ensures.first.0 c.in-Some.ensures.first.1,
   refl,
 )
 
 pub returns-in-None : goal.returns-in-None
 returns-in-None c =
     let few : c.len.result ≡ length c.args.p.now.topics = search rules in
-    none_foreign c.args.p.now c.args.info.now c.plant_at.result.now c.node_at.result.now c.plant_at.ensures.is c.node_at.ensures.is c.requires.rules _ _ _ (c.deref.ensures.value ∙ ap (λ (t : Tables). t.scalars) c.p.view_is) c.deref-2.ensures.value c.deref-3.ensures.value (λ t lt. c.in-None.ensures t (omega (arith, few, lt)))
+    none_foreign c.args.p.now c.args.info.now c.plant_at.result.now c.node_at.result.now c.plant_at.ensures.is c.node_at.ensures.is c.requires.rules _ _ _ (c.deref.ensures.value ∙ ap (λ (t : Tables). t.scalars) c.p.view_is) c.deref-2.ensures.value c.deref-3.ensures.value (λ t lt. c.in-None.ensures.first t (omega (arith, few, lt)))

@@ -1,8 +1,7 @@
-use Rattle.std.proofs.Common.{arith, rules, ◌≡◌, ap, sym, ◌∙◌, w64, SFits, to_z, of_z, subst, Some}
+use Rattle.std.proofs.Common.{arith, rules, ◌≡◌, ap, sym, ◌∙◌, w64, SFits, to_z, of_z, Some}
 use Rattle.std.proofs.lemmas.Int.{to_z-of_z}
 use Rattle.std.proofs.Math.ListN.{length-set}
 use Rattle.sot_box.specs.Boxes.{lows}
-use Rattle.sot_lists.specs.Places.{At}
 use Rattle.sot_lists.proofs.Places.{at_map}
 use Rattle.sot_halving.proofs.Filling.{filled}
 use Rattle.sot_halving.proofs.halves.low_corner.Goals as goal

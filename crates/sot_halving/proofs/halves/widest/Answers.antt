@@ -1,4 +1,4 @@
-use Rattle.std.proofs.Common.{arith, rules, ◌+◌, ◌≤ℤ◌, ◌<ℤ◌, subst, sym}
+use Rattle.std.proofs.Common.{arith, ◌+◌, ◌≤ℤ◌, ◌<ℤ◌, subst, sym}
 use Rattle.std.proofs.lemmas.Int.{ints}
 use Rattle.sot_halving.specs.Cuts.{extent}
 use Rattle.sot_halving.specs.Widest.{IsWidestOf}

@@ -1,4 +1,4 @@
-use Rattle.std.proofs.Common.{◌≡◌, List, [], sym, ap, ◌∙◌, subst, ◌<◌, length, slice_index_or}
+use Rattle.std.proofs.Common.{◌≡◌, [], sym, ap, ◌∙◌, subst, ◌<◌, length, slice_index_or}
 use Rattle.std.proofs.lemmas.Option.{same_Some, slice_get_within}
 use Rattle.sot_lists.proofs.Places.{read_at}
 use Rattle.sot_lang.specs.TableRules.{MeetsTableRules}

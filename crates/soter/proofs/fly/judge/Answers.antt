@@ -1,4 +1,4 @@
-use Rattle.std.proofs.Common.{◌∙◌, subst, IfOk}
+use Rattle.std.proofs.Common.{subst, IfOk}
 use Rattle.sot_tube.specs.Admitted.{Admitted}
 use Rattle.sot_rta.specs.Refused.{refusal_view}
 use Rattle.sot_compose.specs.Accepting.{Fails}

@@ -1,0 +1,45 @@
+-- A certificate's line, and the text of a certified program.
+use Rattle.std.specs.Prelude.{◌≡◌, ℕ, List, [], ◌∷◌, ◌++◌, Some, None, Ok}
+use Rattle.serde_json.specs.Data.{Data}
+use Rattle.sot_text.specs.declared.mission.Need.TheVariants.{Check}
+use Rattle.sot_text.specs.declared.token.Kind.TheVariants.{Name}
+use Rattle.sot_text.specs.Lexeme.{IsTokenText}
+use Rattle.sot_text.specs.Sections.{lines, split_of}
+use Rattle.sot_tree.specs.Trees.{Program}
+use Rattle.sot_tree.specs.Formed.{IsFormed}
+use Rattle.sot_print.specs.Canonical.{canonical}
+use Rattle.sot_lines.specs.Plain.{IsPlain}
+use Rattle.sot_lines.specs.Missions.{mission_text}
+use Rattle.sot_lists.specs.Places.{At}
+use Rattle.sot_lang.specs.declared.cert.Cert.{Cert}
+use Rattle.sot_lang.specs.declared.tables.ModuleInfo.{ModuleInfo}
+use Rattle.sot_lang.specs.Tables.{Tables}
+use Rattle.sot_lang.specs.TableRules.{MeetsTableRules}
+use Rattle.sot_lang.specs.CertRules.{FitsTables}
+use Rattle.sot_cert.specs.Json.{json_of}
+use Rattle.sot_cert.specs.CertFormat.{cert_of, contents}
+use Rattle.sot_certified_text.specs.CertText.{certificate_line}
+use Rattle.sot_certified_text.specs.ReadBack.{IsWritable}
+
+-- a certificate's line is one line, and no section line
+abbrev pub CertificateLinesArePlain : Type 0
+CertificateLinesArePlain = (t : Tables) (cert : Cert) → (lines (certificate_line t cert) ≡ certificate_line t cert ∷ []) × IsPlain (certificate_line t cert)
+
+-- the text of a certified program divides into the program's canonical text and the certificate's line
+abbrev pub CertifiedTextsDivide : Type 0
+CertifiedTextsDivide =
+    (p : Program) (t : Tables) (cert : Cert) → IsFormed p
+    → split_of (mission_text (canonical p) (certificate_line t cert)) Check ≡ Ok (record { program = canonical p; cert = certificate_line t cert; flight = None; trace = None })
+
+-- JSON with a line end behind it is the same JSON
+abbrev pub LineEndsChangeNoJson : Type 0
+LineEndsChangeNoJson = (bytes : List ℕ) (d : Data) → json_of bytes ≡ Some d → json_of (bytes ++ 10 ∷ []) ≡ Some d
+
+-- the modules' names are words of the language, as each `Name` is by its type
+abbrev pub AreModulesNamed : Tables → Type 0
+AreModulesNamed t = (m : ℕ) (info : ModuleInfo) → At t.modules m info → IsTokenText Name info.name
+
+-- a certificate that a text can say is what its own line says
+abbrev pub CertificateLinesReadBack : Type 0
+CertificateLinesReadBack =
+    (t : Tables) (cert : Cert) → MeetsTableRules t → AreModulesNamed t → FitsTables t cert → IsWritable cert → cert_of t (certificate_line t cert) ≡ Ok (contents cert)

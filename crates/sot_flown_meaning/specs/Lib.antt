@@ -1,0 +1,4 @@
+-- what the laws say
+pub mod Firings
+-- a worked flight
+pub mod Examples

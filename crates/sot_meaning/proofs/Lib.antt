@@ -1,0 +1,11 @@
+pub mod TubeBoxes
+pub mod FreeNodes
+pub mod Jitter
+pub mod AnyLength
+pub mod EachModule
+pub mod OwnNodes
+pub mod Lists
+pub mod GoingOn
+pub mod Time
+pub mod Openings
+pub mod Firings

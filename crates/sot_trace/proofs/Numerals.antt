@@ -1,0 +1,43 @@
+-- What the code prints of a number is its text.
+use Rattle.std.proofs.Common.{◌≡◌, ℕ, zero, suc, ℤ, pos, negsuc, ◌+◌, ◌/◌, ◌%◌, ◌<◌, ◌≤◌, ◌^◌, List, [], ◌∷◌, ◌++◌, map, Result, Ok, Err, OnOk, refl, sym, ap, ap₂, ◌∙◌, arith}
+use Rattle.std.specs.Bool.{if◌then◌else◌}
+use Rattle.std.specs.Result.{is_ok}
+use Rattle.std.specs.Fmt.{decimal, signed_decimal}
+use Rattle.std.specs.Int.Digits.{digits_of}
+use Rattle.std.specs.Int.Signed.{mag}
+use Rattle.std.proofs.lemmas.Fmt.{decimal_by_steps_wide}
+use Rattle.std.proofs.lemmas.Int.Digits.{digits_of_step}
+use Rattle.std.proofs.lemmas.List.{map_push}
+use Rattle.sot_trace.specs.Numbers.{numeral, signed_numeral}
+use Rattle.sot_trace.proofs.NumberTexts.{digits_are}
+
+some_is : (n : ℕ) → 0 < n → numeral n ≡ map (λ d. 48 + d) (digits_of 10 n)
+some_is zero some = absurd (omega arith)
+some_is (suc n) some = digits_are n
+
+one_digit : (n : ℕ) → n < 10 → (48 + n) ∷ [] ≡ numeral n
+one_digit zero small = refl
+one_digit (suc n) small =
+    let none : suc n / 10 ≡ 0 = omega arith in
+    let last : suc n % 10 ≡ suc n = omega arith in
+    sym (digits_are n ∙ ap (map (λ d. 48 + d)) (digits_of_step 10 (suc n) (omega arith) (omega arith) ∙ ap₂ (λ k d. digits_of 10 k ++ (d ∷ [])) none last))
+
+last_digit : (n : ℕ) (front : List ℕ) → 10 ≤ n → front ≡ numeral (n / 10) → front ++ ((48 + n % 10) ∷ []) ≡ numeral n
+last_digit n front large is =
+    ap (λ x. x ++ ((48 + n % 10) ∷ [])) (is ∙ some_is (n / 10) (omega arith))
+    ∙ sym (map_push (λ d. 48 + d) (digits_of 10 (n / 10)) (n % 10))
+    ∙ ap (map (λ d. 48 + d)) (sym (digits_of_step 10 n (omega arith) (omega arith)))
+    ∙ sym (some_is n (omega arith))
+
+-- what is printed has at most 64 digits
+pub decimal_is : (n : ℕ) → n < 10 ^ 64 → decimal n ≡ numeral n
+decimal_is = decimal_by_steps_wide (λ n text. text ≡ numeral n) one_digit last_digit
+
+pub signed_decimal_is : (z : ℤ) → mag z < 2 ^ 63 → signed_decimal z ≡ signed_numeral z
+signed_decimal_is (pos n) small = decimal_is n (omega arith)
+signed_decimal_is (negsuc n) small = ap (λ x. 45 ∷ x) (decimal_is (suc n) (omega arith))
+
+-- what was put is its text by either word
+pub put_so : {A E : Type 0} (r : Result A E) (new old text other : List ℕ) → new ≡ (if is_ok r then old ++ text else old) → text ≡ other → OnOk r (new ≡ old ++ other)
+put_so (Ok x) new old text other is same = is ∙ ap (λ t. old ++ t) same
+put_so (Err e) new old text other is same = tt

@@ -1,5 +1,0 @@
-use Rattle.sot_tube.proofs.ByScalars.{composed_by_scalars}
-use Rattle.sot_tube.proofs.theorems.composed_by_scalars.Goals as goal
-
-pub returns : goal.returns
-returns c = composed_by_scalars

@@ -1,5 +1,0 @@
-use Rattle.sot_world.proofs.Unique.{steps_are_unique}
-use Rattle.sot_world.proofs.theorems.steps_are_unique.Goals as goal
-
-pub returns : goal.returns
-returns c = steps_are_unique

@@ -1,0 +1,1 @@
+autocmd BufNewFile,BufRead *.mission,*.program setfiletype soter
