@@ -17,7 +17,7 @@ use Rattle.sot_trace.specs.Names.{node_name}
 use Rattle.sot_trace.specs.Drafts.{slot_text, draft_text, slot_refused, draft_refused}
 use Rattle.sot_trace.specs.Moves.{moves_text}
 use Rattle.sot_trace.specs.Lines.{line_of, writes_of, header, firing_word, mode_word, start_lines, end_line, ticks_in, refused_in}
-use Rattle.sot_trace.specs.Traces.{text_of, trace_text}
+use Rattle.sot_trace.specs.Traces.{text_of, trace_lines, trace_text}
 use Rattle.sot_trace.specs.Telling.{IsDraftOf, IsTold, IsTraced}
 
 -- what is read of an entry as it looks
@@ -127,10 +127,13 @@ module _ (t u : Tables) (same : tables_seen t ≡ tables_seen u) where
       ap (λ (modules : List ModuleInfo). numeral time ++ (codes " decide " ++ (option_map_or (λ (x : ModuleInfo). x.name) (slice_get modules m) [] ++ mode_word mode))) modules_same
   lines_same (TickAt time noise states) = ap (λ x. numeral time ++ (codes " tick" ++ x)) (moves_seen t.plants u.plants plants_same noise states)
 
-  pub text_same : (start : List (List ℤ)) (entries : List Logged) → trace_text t start entries ≡ trace_text u start entries
-  text_same start entries =
+  pub trace_lines_same : (start : List (List ℤ)) (entries : List Logged) → trace_lines t start entries ≡ trace_lines u start entries
+  trace_lines_same start entries =
       let starts = starts_seen t.plants u.plants plants_same start in
-      (λ i. text_of (header ∷ (starts i ++ (map (λ e. lines_same e i) entries ++ (end_line (sum_by ticks_in entries) (length entries) (sum_by (λ e. refused_same e i) entries) ∷ [])))))
+      (λ i. header ∷ (starts i ++ (map (λ e. lines_same e i) entries ++ (end_line (sum_by ticks_in entries) (length entries) (sum_by (λ e. refused_same e i) entries) ∷ []))))
+
+  pub text_same : (start : List (List ℤ)) (entries : List Logged) → trace_text t start entries ≡ trace_text u start entries
+  text_same start entries = ap text_of (trace_lines_same start entries)
 
   told_same : (e : Logged) → IsTold u e → IsTold t e
   told_same (InputAt time topic value) told = subst (λ (topics : List TopicInfo). topic < length topics) (sym topics_same) told

@@ -70,3 +70,30 @@ pub fn put_draft(
     }
     Ok(refused)
 }
+
+// 1 for a number outside its scalar's range.
+fn refused_in_slot(p: &Typed, scalar: usize, slot: Option<i64>) -> u8
+    requires { scalar < length p.now.scalars }
+    ensures refused { result ≡ slot_refused p.now scalar slot }
+    ensures few { result ≤ 1 }
+{
+    match slot {
+        None => 0,
+        Some(number) => { if is_in_range(p, scalar, number) { 0 } else { 1 } }
+    }
+}
+
+/// How many numbers of a draft are outside their scalars' ranges.
+pub fn refused_in_draft(p: &Typed, writes: &[u32], draft: &Draft) -> u8
+    requires few { length writes.now ≤ 8 }
+    requires written { (i k : ℕ) → At writes.now i k → k < length p.now.scalars }
+    ensures refused { result ≡ draft_refused p.now writes.now draft.now }
+    ensures few { result ≤ 8 }
+{
+    let mut refused = 0;
+    for i in 0..writes.len() {
+        let scalar = writes[i];
+        refused += refused_in_slot(p, scalar as usize, draft.get(i));
+    }
+    refused
+}

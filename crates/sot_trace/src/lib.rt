@@ -1,6 +1,7 @@
 //! The text of a history.
 //!
 //! [`trace_text`] prints a history line by line, and [`board_text`] that of a board. The text tells the history: no other history of the same program has it.
+//! [`put_start`], [`put_line`] and [`put_last_line`] put single lines.
 #![tactic(auto)]
 
 mod draft;
@@ -17,4 +18,6 @@ mod text;
 pub use facts::traces_are_as_stated;
 pub use flown::board_text;
 pub use laws::{flown_histories_are_told, text_tells_history};
-pub use text::trace_text;
+pub use line::put_line;
+pub use start::put_start;
+pub use text::{put_last_line, trace_text};

@@ -8,7 +8,7 @@ ghost use Rattle.sot_world.specs.HistoryEntry.{InputAt, FireAt, DecideAt, TickAt
 ghost use Rattle.sot_trace.specs.Lines.{writes_of, firing_word, mode_word, line_of, refused_in, ticks_in};
 ghost use Rattle.sot_trace.specs.Fitting.{FitsEntry};
 
-use crate::draft::put_draft;
+use crate::draft::{put_draft, refused_in_draft};
 use crate::moves::put_moves;
 use crate::name::{put_module, put_node, put_topic};
 use crate::number::{put_numbers, put_time};
@@ -147,6 +147,18 @@ pub fn ticks_in(entry: &Entry<'_>) -> u8
 {
     match entry {
         Entry::Tick { .. } => 1,
+        _ => 0,
+    }
+}
+
+/// How many numbers of an entry are outside their scalars' ranges.
+pub fn refused_in(p: &Typed, entry: &Entry<'_>) -> u8
+    requires { FitsEntry p.now (entry_of entry.now) }
+    ensures value { result ≡ refused_in p.now (entry_of entry.now) }
+    ensures few { result ≤ 8 }
+{
+    match *entry {
+        Entry::Fire { node, draft, .. } => refused_in_draft(p, writes_of(p, node), &draft),
         _ => 0,
     }
 }

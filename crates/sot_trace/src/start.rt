@@ -31,7 +31,8 @@ fn put_point(out: &mut String, point: &Point) -> Result<(), AllocError>
     put_further_coordinates(out, point)
 }
 
-fn put_start(out: &mut String, plant: &PlantInfo, point: &Point) -> Result<(), AllocError>
+/// Where a plant starts, without a line end.
+pub fn put_start(out: &mut String, plant: &PlantInfo, point: &Point) -> Result<(), AllocError>
     ensures { OnOk result (string_bytes out.new ≡ string_bytes out.old ++ start_line plant.now point.now) }
 {
     out.push_str("start ")?;

@@ -4,10 +4,10 @@ ghost use Rattle.std.specs.Prelude.{◌≡◌, ◌++◌, codes, map, sum_by, OnO
 ghost use Rattle.std.specs.String.{string_bytes};
 ghost use Rattle.sot_world.specs.Opens.{AreStarts};
 ghost use Rattle.sot_trace.specs.Lines.{line_of, end_line, ticks_in, refused_in};
-ghost use Rattle.sot_trace.specs.Traces.{text_of, trace_text};
+ghost use Rattle.sot_trace.specs.Traces.{text_of, last_line, trace_text};
 ghost use Rattle.sot_trace.specs.Fitting.{FitsHistory};
 
-use crate::line::{put_line, ticks_in};
+use crate::line::{put_line, refused_in, ticks_in};
 use crate::number::put_count;
 use crate::start::put_front;
 use sot_box::Point;
@@ -43,17 +43,56 @@ fn put_entries(out: &mut String, p: &Typed, history: &History) -> Result<Counts,
     Ok(counts)
 }
 
-// The last line, with its line end.
-fn put_end(out: &mut String, ticks: usize, events: usize, refused: u128) -> Result<(), AllocError>
-    ensures { OnOk result (string_bytes out.new ≡ string_bytes out.old ++ (end_line ticks events refused ++ codes "\n")) }
+// The last line, without its line end.
+fn put_counts(
+    out: &mut String,
+    ticks: usize,
+    events: usize,
+    refused: u128,
+) -> Result<(), AllocError>
+    ensures { OnOk result (string_bytes out.new ≡ string_bytes out.old ++ end_line ticks events refused) }
 {
     out.push_str("end ")?;
     put_count(out, ticks as u128)?;
     out.push_str(" events ")?;
     put_count(out, events as u128)?;
     out.push_str(" refused ")?;
-    put_count(out, refused)?;
+    put_count(out, refused)
+}
+
+// The last line, with its line end.
+fn put_end(out: &mut String, ticks: usize, events: usize, refused: u128) -> Result<(), AllocError>
+    ensures { OnOk result (string_bytes out.new ≡ string_bytes out.old ++ (end_line ticks events refused ++ codes "\n")) }
+{
+    put_counts(out, ticks, events, refused)?;
     out.push_str("\n")
+}
+
+// What the last line counts of all entries.
+fn count_entries(p: &Typed, history: &History) -> Counts
+    requires { FitsHistory p.now history.now.entries }
+    ensures ticks { result.ticks ≡ sum_by ticks_in history.now.entries }
+    ensures refused { result.refused ≡ sum_by (refused_in p.now) history.now.entries }
+{
+    let mut counts = Counts {
+        ticks: 0,
+        refused: 0,
+    };
+    for i in 0..history.len() {
+        let entry = history.entry(i);
+        counts.refused += refused_in(p, &entry) as u128;
+        counts.ticks += ticks_in(&entry) as usize;
+    }
+    counts
+}
+
+/// The last line of a history, without its line end.
+pub fn put_last_line(out: &mut String, p: &Typed, history: &History) -> Result<(), AllocError>
+    requires { FitsHistory p.now history.now.entries }
+    ensures { OnOk result (string_bytes out.new ≡ string_bytes out.old ++ last_line p.now history.now.entries) }
+{
+    let counts = count_entries(p, history);
+    put_counts(out, counts.ticks, history.len(), counts.refused)
 }
 
 /// The trace of a history from these points, one for each plant.

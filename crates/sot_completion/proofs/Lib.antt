@@ -1,0 +1,5 @@
+mod Covering
+mod Keeping
+mod GoingOn
+pub mod Completing
+pub mod FromStart

@@ -1,0 +1,2 @@
+-- the worked tables, part by part
+pub mod Worked

@@ -1,0 +1,2 @@
+-- tables of the running example that look the same
+pub mod OneLine

@@ -1,0 +1,9 @@
+use Rattle.std.proofs.Common.{ℕ, ◌<◌}
+use Rattle.sot_lists.specs.Places.{At}
+use Rattle.sot_lang.specs.declared.tables.NoiseInfo.{NoiseInfo}
+use Rattle.sot_spelled.specs.Bits.{Has64Bits}
+use Rattle.sot_replay.proofs.ranges.noise_has_64_bits.Given as goal
+
+-- those so far have
+abbrev pub invariant-loop-info : goal.invariant-loop-info
+invariant-loop-info l = (k : ℕ) (info : NoiseInfo) → k < l.info-index → At l.noise k info → Has64Bits info.lo × Has64Bits info.hi

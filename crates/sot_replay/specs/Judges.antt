@@ -1,0 +1,89 @@
+-- What is judged of a line behind the start lines, where a flight stands.
+use Rattle.std.specs.Prelude.{ℕ, ◌≡◌, ℤ, pos, Bool, List, [], ◌∷◌, ◌++◌, Option, None}
+use Rattle.sot_lists.specs.Places.{At}
+use Rattle.sot_lang.specs.declared.act.Act.{Act}
+use Rattle.sot_lang.specs.declared.tables.NodeInfo.{NodeInfo}
+use Rattle.sot_lang.specs.Tables.{Tables}
+use Rattle.sot_lang.specs.TableRules.{IsCoded}
+use Rattle.sot_world.specs.declared.mode.Mode.{Mode}
+use Rattle.sot_world.specs.declared.outcome.Why.{Why}
+use Rattle.sot_world.specs.declared.outcome.Why.TheVariants as whys
+use Rattle.sot_world.specs.HistoryEntry.{Logged}
+use Rattle.sot_board.specs.Flown.{Flies, IsEnd}
+use Rattle.sot_board.specs.Standing.{Standing}
+use Rattle.sot_trace.specs.Lines.{line_of}
+use Rattle.sot_trace.specs.Traces.{last_line}
+use Rattle.sot_spelled.specs.Spelled.{InputLine, FireLine, DecideLine, TickLine, EndLine, IsSpelled}
+use Rattle.sot_spelled.specs.Shown.{Reads, Holds, ShowsDraft}
+use Rattle.sot_replay.specs.GoesOn.{AreHandedOver}
+use Rattle.sot_replay.specs.Tests.{IsFirstFailing}
+use Rattle.sot_replay.specs.declared.fail.LineKind.{LineKind}
+use Rattle.sot_replay.specs.declared.fail.LineKind.TheVariants.{NotDue, AlreadyFired, NodesLeft, OutsideType, Differs}
+use Rattle.sot_replay.specs.declared.judged.Judged.{Judged}
+use Rattle.sot_replay.specs.declared.judged.Judged.TheVariants.{Goes, Ends, Fails}
+
+-- the flight goes on by an entry whose line this is; the history has that entry more, and program and flight stay
+pub record GoesBy (old new : Standing) (line : List ℕ) : Type 0 where
+  pub entry : Logged
+  pub flies : Flies old.accepted.program old.accepted.cert.jitter old.plan old.position entry new.position
+  pub handed : AreHandedOver old.plan (entry ∷ [])
+  pub is : line ≡ line_of old.accepted.program entry
+  pub entries : new.entries ≡ old.entries ++ entry ∷ []
+  pub accepted : new.accepted ≡ old.accepted
+  pub plan : new.plan ≡ old.plan
+
+-- the flight is at its end, this is the last line, and nothing changes
+pub record EndsBy (old new : Standing) (line : List ℕ) : Type 0 where
+  pub at_end : IsEnd old.accepted.program old.plan old.position
+  pub is : line ≡ last_line old.accepted.program old.entries
+  pub same : new ≡ old
+
+-- what is judged of a line where a flight stands; where it fails, nothing is said of where the flight comes to
+abbrev pub IsJudged : Standing → Standing → List ℕ → Judged → Type 0
+IsJudged old new line Goes = GoesBy old new line
+IsJudged old new line Ends = EndsBy old new line
+IsJudged old new line (Fails kind) = IsFirstFailing old.accepted.program old.accepted.cert.jitter old.plan old.entries old.position line kind
+
+-- a line goes where this holds, and else it differs
+abbrev pub IsCompared : Judged → Type 0 → Type 0
+IsCompared Goes E = E
+IsCompared Ends E = ⊥
+IsCompared (Fails kind) E = (kind ≡ Differs) × (E → ⊥)
+
+-- the test that fails where the world refuses
+abbrev pub kind_of : Why → LineKind
+kind_of whys.NotDue = NotDue
+kind_of whys.AlreadyFired = AlreadyFired
+kind_of whys.NodesLeft = NodesLeft
+kind_of whys.OutsideType = OutsideType
+
+-- the line spells an input, at a time and with a value that are known as far as they have 64 bits
+abbrev pub SpellsInput : Tables → List ℕ → Option ℤ → ℕ → Bool → List ℤ → Type 0
+SpellsInput p line time topic whole list = (t : ℕ) × (value : List ℤ) × IsSpelled p line (InputLine t topic value) × Reads time (pos t) × Holds whole list value
+
+-- .. a firing
+abbrev pub SpellsFiring : Tables → List ℕ → Option ℤ → ℕ → Option (List (Option ℤ)) → Type 0
+SpellsFiring p line time node draft = (t : ℕ) × (enabled : Bool) × (slots : List (Option (Bool × ℤ))) × IsSpelled p line (FireLine t node enabled slots) × Reads time (pos t) × ShowsDraft draft slots
+
+-- .. a decision
+abbrev pub SpellsDecision : Tables → List ℕ → Option ℤ → ℕ → Type 0
+SpellsDecision p line time decider = (t : ℕ) × (mode : Mode) × IsSpelled p line (DecideLine t decider mode) × Reads time (pos t)
+
+-- .. a tick
+abbrev pub SpellsTick : Tables → List ℕ → Option ℤ → Bool → List ℤ → Type 0
+SpellsTick p line time whole list = (t : ℕ) × (noise states : List ℤ) × IsSpelled p line (TickLine t noise states) × Reads time (pos t) × Holds whole list noise
+
+-- .. the end
+abbrev pub SpellsEnd : Tables → List ℕ → Option ℤ → Type 0
+SpellsEnd p line ticks = (h events refused : ℕ) × IsSpelled p line (EndLine h events refused) × Reads ticks (pos h)
+
+-- .. a firing at this time
+abbrev pub SpellsFiringAt : Tables → ℕ → List ℕ → ℕ → Option (List (Option ℤ)) → Type 0
+SpellsFiringAt p time line node draft = (enabled : Bool) × (slots : List (Option (Bool × ℤ))) × IsSpelled p line (FireLine time node enabled slots) × ShowsDraft draft slots
+
+-- a node is there and has a body, or it is there and has none
+abbrev pub IsCodedNode : Tables → ℕ → Type 0
+IsCodedNode p n = (node : NodeInfo) × (acts : List Act) × At p.nodes n node × IsCoded node acts
+
+abbrev pub IsExternalNode : Tables → ℕ → Type 0
+IsExternalNode p n = (node : NodeInfo) × At p.nodes n node × (node.body ≡ None)

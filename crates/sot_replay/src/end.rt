@@ -1,0 +1,44 @@
+//! A line that spells the end.
+
+ghost use Rattle.std.specs.Prelude.{IfOk};
+ghost use Rattle.sot_replay.specs.Judges.{IsJudged, SpellsEnd};
+
+use crate::fail::LineKind;
+use crate::judged::Judged;
+use crate::left::nothing_left;
+use crate::now::is_now;
+use sot_board::Board;
+use sot_trace::put_last_line;
+use std::alloc::AllocError;
+
+/// Judges a line that spells the end: it has to be the last line of the history, where the flight is at its end.
+pub fn judge_end(
+    board: &Board<'_>,
+    line: &[u8],
+    ticks: Option<i64>,
+    scratch: &mut String,
+) -> Result<Judged, AllocError>
+    requires { SpellsEnd board.now.accepted.program line.now ticks }
+    ensures { IfOk result (IsJudged board.now board.now line.now) }
+{
+    board.is_standing();
+    if !is_now(ticks, board.time()) {
+        return Ok(Judged::Fails(LineKind::WrongTime));
+    }
+    if !nothing_left(board) {
+        return Ok(Judged::Fails(LineKind::NodesLeft));
+    }
+    if board.due_input() {
+        return Ok(Judged::Fails(LineKind::InputsLeft));
+    }
+    if board.time() < board.flight().horizon() {
+        return Ok(Judged::Fails(LineKind::TooFar));
+    }
+    scratch.clear();
+    put_last_line(scratch, board.typed(), board.history())?;
+    if scratch.as_bytes() == line {
+        Ok(Judged::Ends)
+    } else {
+        Ok(Judged::Fails(LineKind::Differs))
+    }
+}

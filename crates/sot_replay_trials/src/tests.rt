@@ -1,0 +1,171 @@
+//! Lines that are replayed. Expected answers come from an independent program, or from a person where that is said.
+mod ends;
+mod flights;
+mod guests;
+mod inputs;
+mod numbers;
+mod orders;
+mod refused;
+
+ghost use Rattle.std.specs.Prelude.{IfOk, IfSome};
+ghost use Rattle.sot_lang.specs.CertRules.{FitsTables};
+ghost use Rattle.sot_flight.specs.Fits.{FitsFlight};
+ghost use Rattle.sot_trace.specs.Words.{AreWords};
+
+use sot_compose::check_all;
+use sot_replay::{ReplayFail, replay};
+use sot_report::{Loaded, load};
+use sot_spelled::Lines;
+use sot_text::Need;
+use sot_told::names_are_words;
+use std::alloc::{AllocError, Global};
+use std::test::*;
+
+const LONGEST: usize = 16_777_216;
+
+// A vehicle on a line whose nodes have these timings, with its certificate up to the cells' head.
+pub fn vehicle(alloc: Global, fast: &str, slow: &str, head: &str) -> Result<String, Fail> {
+    let text = format!(in alloc;
+        "topic cmd: int[-2..2] = 0;
+plant pos {{ state x: int; input cmd; noise w: int[-1..1]; next x = (x + cmd) + w; }}
+external fast {fast} {{ reads pos; writes cmd; }}
+node slow {slow} {{
+  reads pos;
+  writes cmd;
+  do {{ publish cmd = if pos.x > 10 then -2 else if pos.x < -10 then 2 else 0; }}
+}}
+module nav {{ ac fast; sc slow; period 4 offset 0; plant pos; safe [-40..40]; safer [-10..10]; }}
+%certificate
+{{{head},\"modules\":{{\"nav\":{{\"closed\":[[[-40,-11]],[[-10,10]],[[11,40]]],\"reach\":[[[-10,10]]]}}}}}}
+"
+    )?;
+    Ok(text)
+}
+
+// The vehicle all of whose offsets are 0.
+pub fn together(alloc: Global, head: &str) -> Result<String, Fail> {
+    vehicle(alloc, "period 4 offset 0", "period 2 offset 0", head)
+}
+
+// The vehicle with offsets, so that at most one node is due in any instant.
+pub fn apart(alloc: Global) -> Result<String, Fail> {
+    vehicle(
+        alloc,
+        "period 4 offset 2",
+        "period 4 offset 1",
+        "\"format\":1",
+    )
+}
+
+// A mission of the vehicle with a flight.
+pub fn flown(
+    alloc: Global,
+    mission: &str,
+    start: i64,
+    horizon: u32,
+    sway: &str,
+    crew: &str,
+) -> Result<String, Fail> {
+    let text = format!(in alloc;
+        "{mission}%flight\n{{\"crew\":{{\"fast\":{crew}}},\"format\":1,\"horizon\":{horizon},\"inputs\":[],\"start\":{{\"pos\":[{start}]}},\"sway\":{{\"pos\":{sway}}}}}\n"
+    )?;
+    Ok(text)
+}
+
+pub const CALM: &str = "{\"kind\":\"list\",\"values\":[[0]]}";
+
+pub const HIGH: &str = "{\"kind\":\"high\"}";
+
+pub const TWO: &str = "{\"drafts\":[[2]],\"kind\":\"script\"}";
+
+// The vehicle at the edge of its safer region, pushed by the wind for five ticks.
+pub fn windy(alloc: Global) -> Result<String, Fail> {
+    let mission = together(alloc, "\"format\":1")?;
+    flown(alloc, mission.as_str(), 10, 5, HIGH, TWO)
+}
+
+// A trace of it: at time 4 the decision comes before the safe node's firing, which then brakes at once.
+pub const BRAKED: [&str; 15] = [
+    "soter trace 1",
+    "start pos 10",
+    "0 decide nav ac",
+    "0 fire fast cmd=2",
+    "0 idle slow cmd=0",
+    "0 tick pos(1)=13",
+    "1 tick pos(1)=16",
+    "2 idle slow cmd=-2",
+    "2 tick pos(1)=19",
+    "3 tick pos(1)=22",
+    "4 decide nav sc",
+    "4 fire slow cmd=-2",
+    "4 idle fast cmd=2",
+    "4 tick pos(1)=21",
+    "end 5 events 12 refused 0",
+];
+
+// Lines as a text, with another one in this place, counted from 1; 0 is the place of none.
+pub fn lines_text(
+    alloc: Global,
+    lines: &[&str],
+    place: usize,
+    other: &str,
+) -> Result<String, Fail> {
+    let mut text = String::new(alloc);
+    for i in 0..lines.len() {
+        let line = if place > 0 && i == place - 1 {
+            other
+        } else {
+            lines[i]
+        };
+        text.push_str(line)?;
+        text.push_str("\n")?;
+    }
+    Ok(text)
+}
+
+// What a mission with a flight says. Its names are words.
+fn loaded<'t>(alloc: Global, text: &'t str, guests: u32) -> Result<Loaded<'t>, Fail>
+    ensures words { IfOk result (λ l. AreWords l.program) }
+    ensures cert { IfOk result (λ l. FitsTables l.program l.cert) }
+    ensures flight { IfOk result (λ l. IfSome l.flight (λ f. FitsFlight l.program guests f)) }
+{
+    names_are_words();
+    if text.len() > LONGEST {
+        return Err(Fail::from(AllocError));
+    }
+    match load(alloc, text.as_bytes(), Need::Fly, guests) {
+        Ok(loaded) => Ok(loaded),
+        Err(_) => Err(Fail::from(AllocError)),
+    }
+}
+
+// What replay answers, as a line.
+fn answer_text(alloc: Global, answer: Result<u32, ReplayFail>) -> Result<String, Fail> {
+    let text = match answer {
+        Ok(events) => format!(in alloc; "legal events {events}")?,
+        Err(ReplayFail::Line { line, kind }) => {
+            format!(in alloc; "refused line {line} {kind:?}")?
+        }
+        Err(ReplayFail::NotSafer { module }) => format!(in alloc; "refused start {module}")?,
+        Err(ReplayFail::Memory) => return Err(Fail::from(AllocError)),
+    };
+    Ok(text)
+}
+
+// What replay answers to the lines of a trace, for a mission with a flight, which is accepted.
+pub fn replayed(alloc: Global, mission: &str, guests: u32, trace: &[u8]) -> Result<String, Fail> {
+    let loaded = loaded(alloc, mission, guests)?;
+    let Some(flight) = &loaded.flight else {
+        return Err(Fail::from(AllocError));
+    };
+    if trace.len() > LONGEST {
+        return Err(Fail::from(AllocError));
+    }
+    match check_all(&loaded.program, &loaded.cert) {
+        Ok(accepted) => {
+            let answer = replay(alloc, &accepted, flight, Lines::new(trace));
+            answer_text(alloc, answer)
+        }
+        Err(_) => Err(Fail::from(AllocError)),
+    }
+}

@@ -1,0 +1,182 @@
+//! Whole flights, whose traces are legal: a switch and a return, a seed, drafts that are refused, also of an idle node, and one of
+//! nothing. What is flown is a trace too.
+ghost use Rattle.sot_flight.specs.Fits.{FitsFlight};
+ghost use Rattle.sot_workers.specs.Flying.{HasNoGuests};
+
+use super::*;
+use sot_board::Board;
+use sot_flight::Flight;
+use sot_lang::Typed;
+use sot_trace::board_text;
+use sot_workers::fly;
+
+const SWITCHED: &str = "soter trace 1
+start pos 0
+0 decide nav ac
+0 tick pos(0)=0
+1 idle slow cmd=0
+1 tick pos(0)=0
+2 fire fast cmd=2
+2 tick pos(0)=2
+3 tick pos(0)=4
+4 decide nav ac
+4 tick pos(0)=6
+5 idle slow cmd=0
+5 tick pos(0)=8
+6 fire fast cmd=2
+6 tick pos(0)=10
+7 tick pos(0)=12
+8 decide nav ac
+8 tick pos(0)=14
+9 idle slow cmd=-2
+9 tick pos(0)=16
+10 fire fast cmd=2
+10 tick pos(0)=18
+11 tick pos(0)=20
+12 decide nav sc
+12 tick pos(0)=22
+13 fire slow cmd=-2
+13 tick pos(0)=20
+14 idle fast cmd=2
+14 tick pos(0)=18
+15 tick pos(0)=16
+16 decide nav sc
+16 tick pos(0)=14
+17 fire slow cmd=-2
+17 tick pos(0)=12
+18 idle fast cmd=2
+18 tick pos(0)=10
+19 tick pos(0)=8
+20 decide nav ac
+end 20 events 36 refused 0
+";
+
+// The node `fast` is idle in its second, third and fourth firings. What it drafts there counts as refused too.
+const IDLE: &str = "soter trace 1
+start pos 10
+0 decide nav ac
+0 fire fast cmd=2
+0 idle slow cmd=0
+0 tick pos(1)=13
+1 tick pos(1)=16
+2 idle slow cmd=-2
+2 tick pos(1)=19
+3 tick pos(1)=22
+4 decide nav sc
+4 idle fast cmd!7
+4 fire slow cmd=-2
+4 tick pos(1)=21
+5 tick pos(1)=20
+6 fire slow cmd=-2
+6 tick pos(1)=19
+7 tick pos(1)=18
+8 decide nav sc
+8 idle fast
+8 fire slow cmd=-2
+8 tick pos(1)=17
+9 tick pos(1)=16
+10 fire slow cmd=-2
+10 tick pos(1)=15
+11 tick pos(1)=14
+12 decide nav sc
+12 idle fast cmd!-9
+12 fire slow cmd=-2
+12 tick pos(1)=13
+13 tick pos(1)=12
+14 fire slow cmd=-2
+14 tick pos(1)=11
+15 tick pos(1)=10
+16 decide nav ac
+16 fire fast cmd=1
+16 idle slow cmd=0
+end 16 events 35 refused 2
+";
+
+#[test]
+fn whole_flights(rt: HostRuntime) -> Result<(), Fail> {
+    let alloc = rt.alloc();
+    let mission = apart(alloc)?;
+    for (horizon, sway, crew, trace, want) in [
+        (20, CALM, TWO, SWITCHED, "legal events 36"),
+        (
+            0,
+            CALM,
+            TWO,
+            "soter trace 1\nstart pos 0\n0 decide nav ac\nend 0 events 1 refused 0\n",
+            "legal events 1",
+        ),
+        (
+            3,
+            "{\"kind\":\"seed\",\"seed\":42,\"stream\":54}",
+            TWO,
+            "soter trace 1\nstart pos 0\n0 decide nav ac\n0 tick pos(-1)=-1\n1 idle slow cmd=0\n1 tick pos(-1)=-2\n2 fire fast cmd=2\n2 tick pos(1)=1\nend 3 events 6 refused 0\n",
+            "legal events 6",
+        ),
+        (
+            3,
+            CALM,
+            "{\"drafts\":[[7]],\"kind\":\"script\"}",
+            "soter trace 1\nstart pos 0\n0 decide nav ac\n0 tick pos(0)=0\n1 idle slow cmd=0\n1 tick pos(0)=0\n2 fire fast cmd!7\n2 tick pos(0)=0\nend 3 events 6 refused 1\n",
+            "legal events 6",
+        ),
+        (
+            3,
+            CALM,
+            "{\"drafts\":[[null]],\"kind\":\"script\"}",
+            "soter trace 1\nstart pos 0\n0 decide nav ac\n0 tick pos(0)=0\n1 idle slow cmd=0\n1 tick pos(0)=0\n2 fire fast\n2 tick pos(0)=0\nend 3 events 6 refused 0\n",
+            "legal events 6",
+        ),
+    ] {
+        let mission = flown(alloc, mission.as_str(), 0, horizon, sway, crew)?;
+        let found = replayed(alloc, mission.as_str(), 0, trace.as_bytes())?;
+        assert_eq!(rt; found.as_str(), want, "at {trace}");
+    }
+    Ok(())
+}
+
+#[test]
+fn idle_nodes_draft_too(rt: HostRuntime) -> Result<(), Fail> {
+    let alloc = rt.alloc();
+    let mission = together(alloc, "\"format\":1")?;
+    let crew = "{\"drafts\":[[2],[7],[null],[-9],[1]],\"kind\":\"script\"}";
+    let mission = flown(alloc, mission.as_str(), 10, 16, HIGH, crew)?;
+    let found = replayed(alloc, mission.as_str(), 0, IDLE.as_bytes())?;
+    assert_eq!(rt; found.as_str(), "legal events 35");
+    Ok(())
+}
+
+// A flight that is handed no guest has none.
+fn has_no_guests(p: &Typed, flight: &Flight)
+    requires { FitsFlight p.now 0 flight.now }
+    ensures { HasNoGuests flight.now }
+{}
+
+// The trace of a mission's flight, as it is flown.
+fn flown_text(alloc: Global, mission: &str) -> Result<String, Fail> {
+    let loaded = loaded(alloc, mission, 0)?;
+    let Some(flight) = &loaded.flight else {
+        return Err(Fail::from(AllocError));
+    };
+    has_no_guests(&loaded.program, flight);
+    let accepted = match check_all(&loaded.program, &loaded.cert) {
+        Ok(accepted) => accepted,
+        Err(_) => return Err(Fail::from(AllocError)),
+    };
+    match Board::open(alloc, &accepted, flight) {
+        Ok(mut board) => {
+            fly(&mut board, flight);
+            Ok(board_text(alloc, &board)?)
+        }
+        Err(_) => Err(Fail::from(AllocError)),
+    }
+}
+
+#[test]
+fn what_is_flown_is_legal(rt: HostRuntime) -> Result<(), Fail> {
+    let alloc = rt.alloc();
+    let mission = windy(alloc)?;
+    let trace = flown_text(alloc, mission.as_str())?;
+    let found = replayed(alloc, mission.as_str(), 0, trace.as_bytes())?;
+    assert_eq!(rt; found.as_str(), "legal events 12");
+    Ok(())
+}

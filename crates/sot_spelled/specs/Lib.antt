@@ -1,0 +1,14 @@
+-- the lines of a text, as they are lent
+pub mod LentLines
+-- numbers of 64 bits
+pub mod Bits
+-- what a line of a trace spells
+pub mod Spelled
+-- what is looked at of a spelled line
+pub mod Shown
+-- what the public laws say
+pub mod Laws
+-- what the crate's own functions promise each other: how lines are read from their front, and what is kept of their numbers
+pub mod Pieces
+pub mod Readers
+pub mod Kept

@@ -1,0 +1,22 @@
+//! The lines of a trace, read.
+//!
+//! [`Lines`] lends the lines of a text, and [`read_line`] reads one line as a line of a trace: what it spells, whether it is true of a
+//! flight or not.
+#![tactic(auto)]
+
+mod laws;
+mod line;
+mod lines;
+mod moves;
+mod name;
+mod piece;
+mod read;
+mod row;
+mod slot;
+mod start;
+
+pub use laws::{entries_are_spelled, lines_spell_once};
+pub use line::Line;
+pub use lines::Lines;
+pub use read::read_line;
+pub use start::is_start_line;

@@ -1,0 +1,139 @@
+//! Pieces of a line, each read from the front of a text.
+
+ghost use Rattle.std.specs.Prelude.{◌≡◌, ℕ, ℤ, pos, ◌+◌, ◌<◌, ◌≤◌, ◌^◌, min, length, Some};
+ghost use Rattle.std.specs.List.{prefix_len};
+ghost use Rattle.std.specs.Char.{is_ascii_digit};
+ghost use Rattle.std.specs.Option.{option_map};
+ghost use Rattle.sot_text.specs.Lexeme.{value, with_digits};
+ghost use Rattle.sot_spelled.specs.Pieces.{behind, is_plain, digits_at, minus, numeral_at, positive_at, negative_at, number_at};
+ghost use Rattle.sot_spelled.specs.Kept.{bounded, kept_numeral, kept_number};
+
+// Digits, and the text behind them.
+#[derive(Clone, Copy)]
+struct Digits<'a> {
+    digits: &'a [u8],
+    rest: &'a [u8],
+}
+
+/// A number, if it has 64 bits, and the text behind it.
+#[derive(Clone, Copy)]
+pub struct Number<'a> {
+    pub value: Option<i64>,
+    pub rest: &'a [u8],
+}
+
+// The number past the greatest that is kept, and one above what digits are counted to.
+const PAST: u128 = 1 << 63;
+
+const ENOUGH: u128 = 1 << 64;
+
+/// The text behind these bytes, if they stand in front.
+#[tactic(auto, using(crate::proofs::Behind::behind_is))]
+pub fn behind<'a>(text: &'a [u8], front: &[u8]) -> Option<&'a [u8]>
+    ensures { option_map (λ rest. rest.now) result ≡ behind front.now text.now }
+{
+    if text.starts_with(front) {
+        Some(&text[front.len()..])
+    } else {
+        None
+    }
+}
+
+fn digits_len(text: &[u8]) -> usize
+    ensures len { result ≡ prefix_len is_ascii_digit text.now }
+    ensures within { result ≤ length text.now }
+{
+    text.iter().take_while(|b| b.is_ascii_digit()).count()
+}
+
+// Some digits, of which the first is no 0 where further ones follow.
+fn is_plain(digits: &[u8]) -> bool
+    ensures { result ≡ is_plain digits.now }
+{
+    match digits {
+        [] => false,
+        [_] => true,
+        [first, ..] => *first != b'0',
+    }
+}
+
+fn digits_at<'a>(text: &'a [u8]) -> Option<Digits<'a>>
+    ensures { option_map (λ d. (d.digits.now, d.rest.now)) result ≡ digits_at text.now }
+{
+    let (digits, rest) = text.split_at(digits_len(text));
+    if is_plain(digits) {
+        Some(Digits { digits, rest })
+    } else {
+        None
+    }
+}
+
+// The number of these digits, counted up to 2^64.
+fn magnitude(digits: &[u8]) -> u128
+    ensures { result ≡ min (value digits.now) (2 ^ 64) }
+{
+    let mut sum = 0;
+    for digit in digits {
+        let next = 10 * sum + u128::from(digit.saturating_sub(b'0'));
+        sum = next.min(ENOUGH);
+    }
+    sum
+}
+
+fn above(magnitude: u128) -> Option<i64>
+    ensures { result ≡ bounded (pos magnitude) }
+{
+    if magnitude < PAST {
+        Some(magnitude as i64)
+    } else {
+        None
+    }
+}
+
+// The number of this magnitude below 0.
+fn below(magnitude: u128) -> Option<i64>
+    requires { 0 < magnitude }
+    ensures { (z : ℤ) → minus magnitude ≡ Some z → result ≡ bounded z }
+{
+    if magnitude <= PAST {
+        Some((-(magnitude as i128)) as i64)
+    } else {
+        None
+    }
+}
+
+/// A number from 0 on.
+pub fn numeral_at<'a>(text: &'a [u8]) -> Option<Number<'a>>
+    ensures { option_map (λ n. (n.value, n.rest.now)) result ≡ kept_numeral (numeral_at text.now) }
+{
+    let read = digits_at(text)?;
+    Some(Number {
+        value: above(magnitude(read.digits)),
+        rest: read.rest,
+    })
+}
+
+// A number below 0, behind its minus.
+fn negative_at<'a>(text: &'a [u8]) -> Option<Number<'a>>
+    ensures { option_map (λ n. (n.value, n.rest.now)) result ≡ kept_number (negative_at text.now) }
+{
+    let read = digits_at(text)?;
+    let magnitude = magnitude(read.digits);
+    if magnitude == 0 {
+        return None;
+    }
+    Some(Number {
+        value: below(magnitude),
+        rest: read.rest,
+    })
+}
+
+/// A number, behind a `-` where it is below 0.
+pub fn number_at<'a>(text: &'a [u8]) -> Option<Number<'a>>
+    ensures { option_map (λ n. (n.value, n.rest.now)) result ≡ kept_number (number_at text.now) }
+{
+    match text {
+        [b'-', rest @ ..] => negative_at(rest),
+        _ => numeral_at(text),
+    }
+}

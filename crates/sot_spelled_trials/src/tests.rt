@@ -1,0 +1,315 @@
+//! What lines spell, and what is no line. The lines are written by hand.
+
+ghost use Rattle.std.specs.Prelude.{IfOk};
+ghost use Rattle.sot_trace.specs.Words.{AreWords};
+
+use sot_lang::{Draft, Typed};
+use sot_report::{Loaded, load};
+use sot_spelled::{Line, Lines, entries_are_spelled, is_start_line, lines_spell_once, read_line};
+use sot_text::Need;
+use sot_told::names_are_words;
+use std::alloc::{AllocError, Global};
+use std::test::*;
+
+const LONGEST: usize = 16_777_216;
+
+// An environment topic and one that nodes write, both records, a topic of one number, a plant of two state variables, and one
+// without disturbances.
+const MISSION: &str = "environment topic wind: {east: int[0..9], north: int[-9..9]} = {0, 0};
+topic cmd: int[-2..2] = 0;
+topic lamp: {level: int[0..9], warn: bool} = {0, false};
+plant pos { state x: int, v: int; input cmd; noise w: int[-1..1]; next x = x + v; next v = (v + cmd) + w; }
+plant still { state y: int; next y = y; }
+external fast period 4 offset 0 { reads pos; writes cmd, lamp; }
+node slow period 2 offset 0 { reads pos; writes cmd; do { publish cmd = 0; } }
+external far period 4 offset 0 { reads still; writes lamp; }
+node near period 2 offset 0 { reads still; writes lamp; do { publish lamp.level = 0; publish lamp.warn = false; } }
+module nav { ac fast; sc slow; period 4 offset 0; plant pos; safe [-40..40, -9..9]; safer [-10..10, -9..9]; }
+module hold { ac far; sc near; period 4 offset 0; plant still; safe [-9..9]; safer [-9..9]; }
+%certificate
+{\"format\":1,\"modules\":{\"hold\":{\"closed\":[[[-9,9]]],\"reach\":[[[-9,9]]]},\"nav\":{\"closed\":[[[-40,40],[-9,9]]],\"reach\":[[[-10,10],[-9,9]]]}}}
+";
+
+// The mission, whose names are words.
+fn loaded<'t>(alloc: Global, text: &'t str) -> Result<Loaded<'t>, Fail>
+    ensures { IfOk result (λ l. AreWords l.program) }
+{
+    names_are_words();
+    if text.len() > LONGEST {
+        return Err(Fail::from(AllocError));
+    }
+    match load(alloc, text.as_bytes(), Need::Check, 0) {
+        Ok(loaded) => Ok(loaded),
+        Err(_) => Err(Fail::from(AllocError)),
+    }
+}
+
+// A number, or `large` where it has more than 64 bits.
+fn number_text(alloc: Global, number: Option<i64>) -> Result<String, Fail> {
+    let text = match number {
+        Some(number) => format!(in alloc; "{number}")?,
+        None => String::from_str(alloc, "large")?,
+    };
+    Ok(text)
+}
+
+// Numbers, each behind a blank.
+fn row_text(alloc: Global, numbers: &[i64]) -> Result<String, Fail> {
+    let mut text = String::new(alloc);
+    for number in numbers {
+        let one = format!(in alloc; " {number}")?;
+        text.push_str(one.as_str())?;
+    }
+    Ok(text)
+}
+
+// The numbers of a draft, each behind its place, or `large` where some number has more than 64 bits.
+fn draft_text(alloc: Global, draft: &Option<Draft>) -> Result<String, Fail> {
+    let Some(draft) = draft else {
+        return Ok(String::from_str(alloc, " large")?);
+    };
+    let mut text = String::new(alloc);
+    for i in 0..8 {
+        if let Some(number) = draft.get(i) {
+            let one = format!(in alloc; " {i}:{number}")?;
+            text.push_str(one.as_str())?;
+        }
+    }
+    Ok(text)
+}
+
+// What a line spells, as it is read, or `nothing`.
+fn said(alloc: Global, p: &Typed, line: &[u8]) -> Result<String, Fail>
+    requires { AreWords p.now }
+{
+    let mut numbers = Vec::new(alloc);
+    let read = read_line(p, line, &mut numbers)?;
+    let list = row_text(alloc, numbers.as_slice())?;
+    let list = list.as_str();
+    let text = match read {
+        None => String::from_str(alloc, "nothing")?,
+        Some(Line::Input { time, topic, whole }) => {
+            let time = number_text(alloc, time)?;
+            let time = time.as_str();
+            let more = if whole { "" } else { " large" };
+            format!(in alloc; "{time} input {topic}{list}{more}")?
+        }
+        Some(Line::Fire { time, node, draft }) => {
+            let time = number_text(alloc, time)?;
+            let time = time.as_str();
+            let draft = draft_text(alloc, &draft)?;
+            let draft = draft.as_str();
+            format!(in alloc; "{time} fire {node}{draft}")?
+        }
+        Some(
+            Line::Decide {
+                time,
+                module: decider,
+            },
+        ) => {
+            let time = number_text(alloc, time)?;
+            let time = time.as_str();
+            format!(in alloc; "{time} decide {decider}")?
+        }
+        Some(Line::Tick { time, whole }) => {
+            let time = number_text(alloc, time)?;
+            let time = time.as_str();
+            let more = if whole { "" } else { " large" };
+            format!(in alloc; "{time} tick{list}{more}")?
+        }
+        Some(Line::End { ticks }) => {
+            let ticks = number_text(alloc, ticks)?;
+            let ticks = ticks.as_str();
+            format!(in alloc; "{ticks} end")?
+        }
+    };
+    Ok(text)
+}
+
+#[test]
+fn lines_spell(rt: HostRuntime) -> Result<(), Fail> {
+    let alloc = rt.alloc();
+    let loaded = loaded(alloc, MISSION)?;
+    for (line, want) in [
+        ("0 decide nav ac", "0 decide 0"),
+        ("12 decide hold sc", "12 decide 1"),
+        ("3 input wind=5,-1", "3 input 0 5 -1"),
+        (
+            "3 input wind=0,9223372036854775807",
+            "3 input 0 0 9223372036854775807",
+        ),
+        ("3 input wind=7,9223372036854775808", "3 input 0 7 large"),
+        ("0 fire fast cmd=2", "0 fire 0 0:2"),
+        ("0 idle fast cmd!-3", "0 fire 0 0:-3"),
+        ("0 fire fast", "0 fire 0"),
+        ("0 fire fast lamp.level=1 lamp.warn!9", "0 fire 0 1:1 2:9"),
+        (
+            "0 fire fast cmd=-9223372036854775808 lamp.warn=1",
+            "0 fire 0 0:-9223372036854775808 2:1",
+        ),
+        ("0 fire fast cmd=-9223372036854775809", "0 fire 0 large"),
+        ("13 fire slow cmd=-2", "13 fire 1 0:-2"),
+        ("5 tick pos(1)=19,-3 still()=0", "5 tick 1"),
+        (
+            "5 tick pos(-99999999999999999999)=0,0 still()=0",
+            "5 tick large",
+        ),
+        ("99999999999999999999 decide nav ac", "large decide 0"),
+        ("end 20 events 36 refused 0", "20 end"),
+        (
+            "end 99999999999999999999 events 0 refused 99999999999999999999",
+            "large end",
+        ),
+    ] {
+        let found = said(alloc, &loaded.program, line.as_bytes())?;
+        assert_eq!(rt; found.as_str(), want, "at {line}");
+    }
+    Ok(())
+}
+
+#[test]
+fn other_lines_spell_nothing(rt: HostRuntime) -> Result<(), Fail> {
+    let alloc = rt.alloc();
+    let loaded = loaded(alloc, MISSION)?;
+    for line in [
+        "",
+        "soter trace 1",
+        "start pos 0,0",
+        " 0 decide nav ac",
+        "00 decide nav ac",
+        "01 decide nav ac",
+        "+1 decide nav ac",
+        "-0 decide nav ac",
+        "-1 decide nav ac",
+        "0  decide nav ac",
+        "0 decide nav ac ",
+        "0 decide nav ac\r",
+        "0 decide nav",
+        "0 decide nav AC",
+        "0 decide nave ac",
+        "0 decide fast ac",
+        "0 decides nav ac",
+        "3 input wind=5",
+        "3 input wind=5,-1,0",
+        "3 input wind=5,-0",
+        "3 input wind=5,+1",
+        "3 input wind=05,1",
+        "3 input wind=5, 1",
+        "3 input wind=",
+        "3 input wind",
+        "3 input cmd=1",
+        "3 input gust=5,-1",
+        "0 fire fast cmd=2 cmd=2",
+        "0 fire fast lamp.level=1 cmd=2",
+        "0 fire fast cmd=2 ",
+        "0 fire fast cmd",
+        "0 fire fast cmd=",
+        "0 fire fast cmd:2",
+        "0 fire fast lamp=1",
+        "0 fire fast wind.east=1",
+        "0 fire slow lamp.level=1",
+        "0 fire nav cmd=1",
+        "0 fires fast cmd=2",
+        "5 tick pos(1)=19,-3",
+        "5 tick still()=0 pos(1)=19,-3",
+        "5 tick pos()=19,-3 still()=0",
+        "5 tick pos(1)=19 still()=0",
+        "5 tick pos(1)=19,-3 still(0)=0",
+        "5 tick pos(1)=19,-3 still()=0 still()=0",
+        "5 tick pos(1)=19,-3  still()=0",
+        "end 20 events 36 refused 0 ",
+        "end 20 events 36 refused",
+        "end 20 events 036 refused 0",
+        "end -1 events 36 refused 0",
+        "end 20 events 36",
+        "0 end 20 events 36 refused 0",
+    ] {
+        let found = said(alloc, &loaded.program, line.as_bytes())?;
+        assert_eq!(rt; found.as_str(), "nothing", "at {line}");
+    }
+    Ok(())
+}
+
+#[test]
+fn a_number_may_have_a_thousand_digits(rt: HostRuntime) -> Result<(), Fail> {
+    let alloc = rt.alloc();
+    let loaded = loaded(alloc, MISSION)?;
+    let mut line = String::from_str(alloc, "0 input wind=0,-")?;
+    for _i in 0..1_000 {
+        line.push_str("7")?;
+    }
+    let found = said(alloc, &loaded.program, line.as_bytes())?;
+    assert_eq!(rt; found.as_str(), "0 input 0 0 large");
+    line.push_str(" ")?;
+    let found = said(alloc, &loaded.program, line.as_bytes())?;
+    assert_eq!(rt; found.as_str(), "nothing");
+    Ok(())
+}
+
+#[test]
+fn start_lines(rt: HostRuntime) -> Result<(), Fail> {
+    let alloc = rt.alloc();
+    let loaded = loaded(alloc, MISSION)?;
+    for (line, want) in [
+        ("start pos 0,-5", true),
+        ("start still 99999999999999999999", true),
+        ("start pos 0", false),
+        ("start pos 0,-5,1", false),
+        ("start pos 0,-5 ", false),
+        ("start pos 0,-0", false),
+        ("start pos", false),
+        ("start posh 0,-5", false),
+        ("start po 0,-5", false),
+        ("start wind 0,0", false),
+        ("Start pos 0,-5", false),
+        ("0 decide nav ac", false),
+    ] {
+        assert_eq!(rt;
+            is_start_line(&loaded.program, line.as_bytes()),
+            want,
+            "at {line}"
+        );
+    }
+    Ok(())
+}
+
+// The lines of a text with their numbers, and the number of the line behind them.
+fn lent(alloc: Global, text: &str) -> Result<String, Fail> {
+    let mut said = String::new(alloc);
+    if text.len() > LONGEST {
+        return Err(Fail::from(AllocError));
+    }
+    let mut lines = Lines::new(text.as_bytes());
+    while let Some((number, line)) = lines.next() {
+        let len = line.len();
+        let one = format!(in alloc; "{number}:{len} ")?;
+        said.push_str(one.as_str())?;
+    }
+    let next = lines.number();
+    let one = format!(in alloc; "{next}")?;
+    said.push_str(one.as_str())?;
+    Ok(said)
+}
+
+#[test]
+fn lines_are_lent(rt: HostRuntime) -> Result<(), Fail> {
+    let alloc = rt.alloc();
+    for (text, want) in [
+        ("", "1"),
+        ("a", "1:1 2"),
+        ("a\n", "1:1 2"),
+        ("\n", "1:0 2"),
+        ("ab\r\nc\n\nd\re\r\r\nf\r", "1:2 2:1 3:0 4:4 5:2 6"),
+        ("\r\n\r", "1:0 2:1 3"),
+    ] {
+        let found = lent(alloc, text)?;
+        assert_eq!(rt; found.as_str(), want, "at {text}");
+    }
+    Ok(())
+}
+
+#[test]
+fn laws_stand() {
+    lines_spell_once();
+    entries_are_spelled();
+}

@@ -1,0 +1,13 @@
+use Rattle.std.proofs.Common.{◌≡◌, ◌+◌, ◌*◌, ◌≤◌, drop}
+use Rattle.std.specs.Prelude.{sum_by}
+use Rattle.sot_trace.specs.Lines.{ticks_in, refused_in}
+use Rattle.sot_trace.proofs.text.count_entries.Given as goal
+
+-- what is counted, and then what is left
+abbrev pub invariant-loop-i : goal.invariant-loop-i
+invariant-loop-i l = record {
+  ticks : l.counts.ticks + sum_by ticks_in (drop l.i l.history.entries) ≡ sum_by ticks_in l.history.entries;
+  refused : l.counts.refused + sum_by (refused_in l.p) (drop l.i l.history.entries) ≡ sum_by (refused_in l.p) l.history.entries;
+  few_ticks : l.counts.ticks ≤ l.i;
+  few_refused : l.counts.refused ≤ 8 * l.i;
+}
