@@ -44,12 +44,12 @@ needed_flight front None f t parts e none = absurd cc
 needed_flight front (Some c) None t parts e none = absurd cc
 needed_flight front (Some c) (Some f) t parts e none = (let same : ◌≡◌ {A = Parts} (record { program = front; cert = c; flight = Some f; trace = None }) parts = cc in let is : ◌≡◌ {A = Option (List ℕ)} (Some f) None = ap (λ (p : Parts). p.flight) same ∙ none in absurd cc)
 
-found_of : (fault : Option SectionFault) (n : ℕ) (found : Option Parts) (parts : Parts) → unless fault (or_missing n found) ≡ Ok parts → found ≡ Some parts
+pub found_of : (fault : Option SectionFault) (n : ℕ) (found : Option Parts) (parts : Parts) → unless fault (or_missing n found) ≡ Ok parts → found ≡ Some parts
 found_of (Some x) n found parts e = absurd cc
 found_of None n None parts e = absurd cc
 found_of None n (Some x) parts e = (let same : x ≡ parts = cc in ap (λ (p : Parts). Some p) same)
 
-says_none : (t : Tables) (section : Option (List ℕ)) → SaysFlight t 0 section None → section ≡ None
+pub says_none : (t : Tables) (section : Option (List ℕ)) → SaysFlight t 0 section None → section ≡ None
 says_none t None s = refl
 says_none t (Some section) s = absurd s
 

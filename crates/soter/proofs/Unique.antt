@@ -1,7 +1,9 @@
 -- A text decides one status.
-use Rattle.std.proofs.Common.{◌≡◌, ℕ, List, [], ◌∷◌, Option, None, Some, length, Result, Ok, inl, inr, refl, sym, ap, ◌∙◌, subst, arith, codes, Global}
+use Rattle.std.proofs.Common.{◌≡◌, ℕ, List, [], ◌∷◌, Option, None, Some, length, Result, Ok, inl, inr, refl, sym, ap, ◌∙◌, subst, arith, codes, Global, ap₂, map, ◌<◌, ◌≤◌, ◌^◌}
 use Rattle.std.specs.Prelude.{if◌then◌else◌, String, slice_index_or}
 use Rattle.std.specs.Str.{bytes_eq}
+use Rattle.std.specs.Fmt.{decimal}
+use Rattle.std.proofs.lemmas.Fmt.{decimal_injective}
 use Rattle.std.proofs.lemmas.Option.{same_Some, slice_get_within}
 use Rattle.sot_lists.specs.Places.{At}
 use Rattle.sot_box.specs.Regions.{IsInRegion}
@@ -17,6 +19,13 @@ use Rattle.sot_typing.specs.Resolved.{tables_seen, tables_of}
 use Rattle.sot_cert.specs.CertFormat.{Contents, contents, cert_of}
 use Rattle.sot_cert.specs.declared.fault.JsonFault.{JsonFault}
 use Rattle.sot_flight.specs.Plans.{Plan}
+use Rattle.sot_world.specs.HistoryEntry.{Logged}
+use Rattle.sot_spelled.specs.LentLines.{lent_lines}
+use Rattle.sot_replay.specs.GoesOn.{IsTraceOf}
+use Rattle.sot_replay.specs.Replays.{IsRefusedAt}
+use Rattle.sot_replay.specs.declared.fail.LineKind.{LineKind}
+use Rattle.sot_replay.proofs.OneAnswer.{traces_are_not_refused}
+use Rattle.soter.proofs.Replayed.{traced_alike}
 use Rattle.sot_flight.specs.FlightFormat.{flight_of}
 use Rattle.sot_tube.specs.Certified.{IsWellCertified}
 use Rattle.sot_tube.specs.Refusals.{Refusal}
@@ -32,13 +41,10 @@ use Rattle.sot_report.specs.declared.fault.Fault.{Fault}
 use Rattle.sot_report.specs.declared.fault.Fault.TheVariants as faults
 use Rattle.sot_report.specs.Missions.{Mission, Resolves, HasParts, SaysFlight, FaultsFlight, HasFault}
 use Rattle.soter.specs.declared.words.Command.{Command}
-use Rattle.soter.specs.declared.words.Command.TheVariants.{Check, Fly, Format, Certify}
-use Rattle.soter.specs.Words.{word_of, Asks}
-use Rattle.soter.specs.Answers.{IsAccepted, IsRefusedFor, SpellsFor, HasProgramFault, Accepts, Refutes, Rejects, Replies}
+use Rattle.soter.specs.declared.words.Command.TheVariants.{Check, Fly, Replay, Format, Certify, Make}
+use Rattle.soter.specs.Words.{word_of, numbers_of, Reads, IsInForm, Asks}
+use Rattle.soter.specs.Answers.{IsAccepted, IsRefusedFor, SpellsFor, HasLines, HasProgramFault, Accepts, Refutes, Rejects, Replies, given_to}
 use Rattle.soter.specs.Ends.{Decides}
-
-same_first : (a b : List ℕ) → a ∷ [] ≡ b ∷ [] → a ≡ b
-same_first a b e = cc
 
 -- bytes have one list of sections, and its program's text spells one program
 same_ok : {A E : Type 0} (x : Result A E) (a b : A) → x ≡ Ok a → x ≡ Ok b → a ≡ b
@@ -101,6 +107,21 @@ module _ (need : Need) (bytes : List ℕ) (m n : Mission) (x : SpellsFor need by
       let here = subst (λ ms. At ms k first.info) (sym (modules_same m.tables n.tables seen)) first.is in
       first.outside (subst (λ (h : Plan). IsInRegion first.info.safer.boxes (slice_index_or h.start first.info.plant [])) flights (inside k first.info (slice_get_within m.tables.modules k first.info here) here))
 
+-- lines that are the trace of a history are not refused
+traced_refused : (bytes : List ℕ) (m n : Mission) → SpellsFor needs.Replay bytes m → SpellsFor needs.Replay bytes n → (f g : Plan) (lines lines' : List (List ℕ)) → HasLines m f lines → HasLines n g lines'
+    → (history : List Logged) → IsTraceOf m.tables m.cert.jitter f lines history → (number : ℕ) (kind : LineKind) → IsRefusedAt n.tables n.cert.jitter g lines' number kind → ⊥
+traced_refused bytes m n x y f g lines lines' (is, (trace, has, are)) (is', (trace', has', are')) history traced number kind refused =
+    let same_seen = seen needs.Replay bytes m n x y in
+    let parts = sections needs.Replay bytes m n x y in
+    let flights : f ≡ g = same_flown m.tables n.tables x.parts.flight f g m.flight n.flight same_seen is is' x.flown (subst (λ (q : Parts). SaysFlight n.tables 0 q.flight n.flight) (sym parts) y.flown) in
+    let jitter : m.cert.jitter ≡ n.cert.jitter = ap (λ (c : Contents). c.jitter) (said needs.Replay bytes m n x y) in
+    let traces : trace ≡ trace' = same_Some trace trace' (sym has ∙ x.traced ∙ ap (λ (q : Parts). q.trace) parts ∙ sym y.traced ∙ has') in
+    let here = are ∙ ap lent_lines traces ∙ sym are' in
+    let other = traced_alike m.tables n.tables m.cert.jitter f lines history same_seen traced in
+    let moved = subst (λ (ls : List (List ℕ)). IsTraceOf n.tables n.cert.jitter g ls history) here
+    (subst (λ (h : Plan). IsTraceOf n.tables n.cert.jitter h lines history) flights (subst (λ j. IsTraceOf n.tables j f lines history) jitter other)) in
+    traces_are_not_refused n.tables n.cert.jitter g lines' history number kind moved refused
+
 -- bytes that spell a mission have no fault
 spelled_faulty : (need : Need) (bytes : List ℕ) (m : Mission) (f : Fault) → SpellsFor need bytes m → HasFault need 0 bytes f → ⊥
 spelled_faulty need bytes m (faults.Section f) x split = (let e = sym x.divided ∙ split in absurd cc)
@@ -134,21 +155,31 @@ not_refuted Check bytes text text' (m, spells, certified, safe, says) (n, spells
 not_refuted Fly bytes text text' (m, spells, certified, safe, flown) (n, spells', inl (r, refuses, says')) = accepted_refused needs.Fly bytes m n spells spells' r certified refuses
 not_refuted Fly bytes text text' (m, spells, certified, safe, (f, is, (inside, flown))) (n, spells', inr (certified', (g, is', (k, first, says')))) =
     inside_outside needs.Fly bytes m n spells spells' f g is is' inside k first
+not_refuted Replay bytes text text' (m, spells, certified, safe, legal) (n, spells', inl (r, refuses, says')) = accepted_refused needs.Replay bytes m n spells spells' r certified refuses
+not_refuted Replay bytes text text' (m, spells, certified, safe, (f, lines, (is, has), (inside, legal))) (n, spells', inr (certified', (g, lines', (is', has'), inl (k, first, says')))) =
+    inside_outside needs.Replay bytes m n spells spells' f g is is' inside k first
+not_refuted Replay bytes text text' (m, spells, certified, safe, (f, lines, has, (inside, (history, traced, says)))) (n, spells', inr (certified', (g, lines', has', inr (inside', (number, kind, refused, says'))))) =
+    traced_refused bytes m n spells spells' f g lines lines' has has' history traced number kind refused
 not_refuted Format bytes text text' a r = r
 not_refuted Certify bytes text text' (p, t, spells, resolves, (cert, made, fits, says), accepted) (q, u, spells', resolves', (fail, enough, fails, says')) =
     certify_alike t u cert fail (same_seen p q t u (spells_unique bytes 0 p q spells spells') resolves resolves') enough made fails
+not_refuted (Make n seed) bytes text text' a r = r
 
 not_rejected : (c : Command) (bytes text text' : List ℕ) → Accepts c bytes text → Rejects c bytes text' → ⊥
 not_rejected Check bytes text text' (m, spells, certified, safe, says) (f, has, says') = spelled_faulty needs.Check bytes m f spells has
 not_rejected Fly bytes text text' (m, spells, certified, safe, flown) (f, has, says') = spelled_faulty needs.Fly bytes m f spells has
+not_rejected Replay bytes text text' (m, spells, certified, safe, legal) (f, has, says') = spelled_faulty needs.Replay bytes m f spells has
 not_rejected Format bytes text text' a r = r.0 a.0 a.1
 not_rejected Certify bytes text text' (p, t, spells, resolves, has, accepted) (f, fault, says) = program_faulty bytes p t f spells resolves fault
+not_rejected (Make n seed) bytes text text' a r = r
 
 refuted_not_rejected : (c : Command) (bytes text text' : List ℕ) → Refutes c bytes text → Rejects c bytes text' → ⊥
 refuted_not_rejected Check bytes text text' (m, spells, refused) (f, has, says') = spelled_faulty needs.Check bytes m f spells has
 refuted_not_rejected Fly bytes text text' (m, spells, refused) (f, has, says') = spelled_faulty needs.Fly bytes m f spells has
+refuted_not_rejected Replay bytes text text' (m, spells, refused) (f, has, says') = spelled_faulty needs.Replay bytes m f spells has
 refuted_not_rejected Format bytes text text' a r = a
 refuted_not_rejected Certify bytes text text' (p, t, spells, resolves, has) (f, fault, says) = program_faulty bytes p t f spells resolves fault
+refuted_not_rejected (Make n seed) bytes text text' a r = r
 
 -- a command answers one status
 replies_once : (c : Command) (bytes text text' : List ℕ) (s t : ℕ) → Replies c bytes s text → Replies c bytes t text' → s ≡ t
@@ -162,34 +193,84 @@ replies_once c bytes text text' s t (inr (inr (is, a))) (inl (is', b)) = absurd 
 replies_once c bytes text text' s t (inr (inr (is, a))) (inr (inl (is', b))) = absurd (refuted_not_rejected c bytes text' text b a)
 replies_once c bytes text text' s t (inr (inr (is, a))) (inr (inr (is', b))) = is ∙ sym is'
 
--- a command is told by its word
-told : List ℕ → Command
-told word =
+-- a command is told by its word and its numbers
+told : List ℕ → List ℕ → Command
+told word [] =
     if bytes_eq word (codes "check") then Check
     else if bytes_eq word (codes "fly") then Fly
+    else if bytes_eq word (codes "replay") then Replay
     else if bytes_eq word (codes "format") then Format
     else Certify
+told word (n ∷ []) = Check
+told word (n ∷ seed ∷ more) = Make n seed
 
-told_word : (c : Command) → told (word_of c) ≡ c
+told_words : (c : Command) → told (word_of c) (numbers_of c) ≡ c
 unfolding told
-told_word Check = refl
-told_word Fly = refl
-told_word Format = refl
-told_word Certify = refl
+told_words Check = refl
+told_words Fly = refl
+told_words Replay = refl
+told_words Format = refl
+told_words Certify = refl
+told_words (Make n seed) = refl
+
+-- the numbers of a command are told by their decimals
+AreShort : List ℕ → Type 0
+AreShort [] = Unit {0}
+AreShort (n ∷ ns) = (n < 2 ^ 64) × AreShort ns
+
+short_numbers : (c : Command) → IsInForm c → AreShort (numbers_of c)
+unfolding AreShort
+short_numbers Check form = tt
+short_numbers Fly form = tt
+short_numbers Replay form = tt
+short_numbers Format form = tt
+short_numbers Certify form = tt
+short_numbers (Make n seed) form = (omega arith, (omega arith, tt))
+
+same_parts_of : (a b : List ℕ) (more rest : List (List ℕ)) → a ∷ more ≡ b ∷ rest → (a ≡ b) × (more ≡ rest)
+same_parts_of a b more rest e = (cc, cc)
+
+same_numbers : (ms ns : List ℕ) → AreShort ms → AreShort ns → map decimal ms ≡ map decimal ns → ms ≡ ns
+unfolding AreShort
+same_numbers [] [] x y e = refl
+same_numbers [] (n ∷ ns) x y e = absurd cc
+same_numbers (m ∷ ms) [] x y e = absurd cc
+same_numbers (m ∷ ms) (n ∷ ns) (x, xs) (y, ys) e =
+    let both = same_parts_of (decimal m) (decimal n) (map decimal ms) (map decimal ns) e in
+    ap₂ (λ (k : ℕ) (ks : List ℕ). k ∷ ks) (decimal_injective m n x y both.0) (same_numbers ms ns xs ys both.1)
 
 -- words ask for one command
 same_command : (words : List (String Global)) (c d : Command) → Asks words c → Asks words d → c ≡ d
-same_command words c d a b = sym (told_word c) ∙ ap told (same_first (word_of c) (word_of d) (sym a ∙ b)) ∙ told_word d
+same_command words c d a b =
+    let both = same_parts_of (word_of c) (word_of d) (map decimal (numbers_of c)) (map decimal (numbers_of d)) (sym a.0 ∙ b.0) in
+    let numbers = same_numbers (numbers_of c) (numbers_of d) (short_numbers c a.1) (short_numbers d b.1) both.1 in
+    sym (told_words c) ∙ ap₂ told both.0 numbers ∙ told_words d
+
+-- a command that reads works on all bytes
+given_reader : (c : Command) (bytes : List ℕ) → Reads c → given_to c bytes ≡ bytes
+given_reader Check bytes reads = refl
+given_reader Fly bytes reads = refl
+given_reader Replay bytes reads = refl
+given_reader Format bytes reads = refl
+given_reader Certify bytes reads = refl
+given_reader (Make n seed) bytes reads = absurd reads
+
+-- so words that ask for one have no short input where the bytes are too many
+never_both : (words : List (String Global)) (bytes : List ℕ) (c d : Command) → Asks words c → Reads d → Asks words d → length (given_to c bytes) ≤ 16777216 → 16777216 < length bytes → ⊥
+never_both words bytes c d asks reads asks' short long =
+    let same : given_to c bytes ≡ bytes = ap (λ (x : Command). given_to x bytes) (same_command words c d asks asks') ∙ given_reader d bytes reads in
+    let size = ap length same in
+    omega (arith, short, long, size)
 
 -- words and bytes decide one status
 pub decides_once : (words : List (String Global)) (bytes : List ℕ) (s t : ℕ) → Decides words bytes s → Decides words bytes t → s ≡ t
 decides_once words bytes s t (inl (is, other)) (inl (is', other')) = is ∙ sym is'
-decides_once words bytes s t (inl (is, other)) (inr (inl (is', asks, long))) = absurd (other asks.0 asks.1)
+decides_once words bytes s t (inl (is, other)) (inr (inl (is', (d, reads, asks), long))) = absurd (other d asks)
 decides_once words bytes s t (inl (is, other)) (inr (inr (c, asks, short, replies))) = absurd (other c asks)
-decides_once words bytes s t (inr (inl (is, asks, long))) (inl (is', other)) = absurd (other asks.0 asks.1)
+decides_once words bytes s t (inr (inl (is, (d, reads, asks), long))) (inl (is', other)) = absurd (other d asks)
 decides_once words bytes s t (inr (inl (is, asks, long))) (inr (inl (is', asks', long'))) = is ∙ sym is'
-decides_once words bytes s t (inr (inl (is, asks, long))) (inr (inr (c, asks', short, replies))) = absurd (omega (arith, long, short))
+decides_once words bytes s t (inr (inl (is, (d, reads, asks), long))) (inr (inr (c, asks', short, replies))) = absurd (never_both words bytes c d asks' reads asks short long)
 decides_once words bytes s t (inr (inr (c, asks, short, replies))) (inl (is', other)) = absurd (other c asks)
-decides_once words bytes s t (inr (inr (c, asks, short, replies))) (inr (inl (is', asks', long))) = absurd (omega (arith, long, short))
+decides_once words bytes s t (inr (inr (c, asks, short, replies))) (inr (inl (is', (d, reads, asks'), long))) = absurd (never_both words bytes c d asks reads asks' short long)
 decides_once words bytes s t (inr (inr (c, asks, short, (text, replies)))) (inr (inr (d, asks', short', (text', replies')))) =
-    replies_once c bytes text text' s t replies (subst (λ (x : Command). Replies x bytes t text') (same_command words d c asks' asks) replies')
+    replies_once c (given_to c bytes) text text' s t replies (subst (λ (x : Command). Replies x (given_to x bytes) t text') (same_command words d c asks' asks) replies')

@@ -21,9 +21,10 @@ use Rattle.sot_tree.specs.Trees.{Program}
 use Rattle.sot_parser.specs.Programs.{Spells}
 use Rattle.sot_reread.specs.Laws.{IsCertificateOf, written}
 use Rattle.soter.specs.Texts.{usage_text, long_text}
-use Rattle.soter.specs.Answers.{IsTraceOf, IsOutsideOf, IsCertifiedText, IsNotCertified, SpellsAccepted, Replies, input_limit}
+use Rattle.soter.specs.Answers.{IsTraceOf, IsOutsideOf, IsLegal, IsIllegal, IsCertifiedText, IsNotCertified, SpellsAccepted, Replies, input_limit}
 use Rattle.soter.specs.declared.words.Command.{Command}
-use Rattle.soter.specs.Words.{Asks, AsksSome, AsksNone}
+use Rattle.soter.specs.Words.{Reads, Asks, AsksReader, AsksNone}
+use Rattle.soter.specs.Ends.{Takes}
 
 -- what is said of a program's tables with a certificate
 abbrev pub Judges : Tables → Cert → ℕ → List ℕ → Type 0
@@ -39,6 +40,16 @@ JudgesFlight t jitter f status text = ((status ≡ 0) × IsTraceOf t jitter f te
 abbrev pub JudgesFlown : Tables → Cert → Plan → ℕ → List ℕ → Type 0
 JudgesFlown t cert f status text =
     (IsWellCertified t cert.jitter cert × EveryRunIsSafe t cert.jitter × JudgesFlight t cert.jitter f status text)
+    ⊎ ((status ≡ 1) × ((r : Refusal) × (verdict t cert.jitter cert).Refuses r × (text ≡ refusal_text t r)))
+
+-- what is said of the lines of a trace of an accepted program's flight
+abbrev pub JudgesLines : Tables → ℕ → Plan → List (List ℕ) → ℕ → List ℕ → Type 0
+JudgesLines t jitter f lines status text = ((status ≡ 0) × IsLegal t jitter f lines text) ⊎ ((status ≡ 1) × (IsOutsideOf t f text ⊎ IsIllegal t jitter f lines text))
+
+-- what is said of a program's tables with a certificate, a flight and the lines of a trace
+abbrev pub JudgesReplayed : Tables → Cert → Plan → List (List ℕ) → ℕ → List ℕ → Type 0
+JudgesReplayed t cert f lines status text =
+    (IsWellCertified t cert.jitter cert × EveryRunIsSafe t cert.jitter × JudgesLines t cert.jitter f lines status text)
     ⊎ ((status ≡ 1) × ((r : Refusal) × (verdict t cert.jitter cert).Refuses r × (text ≡ refusal_text t r)))
 
 -- some text spells a program
@@ -59,21 +70,27 @@ CertifiesTree p status text =
     ((t : Tables) × Resolves p t × CertifiesTables p t status text)
     ⊎ ((status ≡ 3) × ((f : TypeFault) × IsFirstFault p f × (text ≡ type_text f)))
 
--- what is said of what a source gave: of all that it had left, or of too much
+-- what is said by a command that reads, of all that a source had left, or of too much
 abbrev pub ReadAnswer : Command → Option (List ℕ) → Option (List ℕ) → ℕ → List ℕ → Type 0
 ReadAnswer command left left_after status text =
     ((bytes : List ℕ) × ReadsAll left left_after bytes × (length bytes ≤ input_limit) × Replies command bytes status text)
     ⊎ ((status ≡ 7) × ReadsCount left left_after (input_limit + 1) × (text ≡ long_text))
 
+-- what is said by any command: of what it takes, or of too much
+abbrev pub CommandAnswer : Command → Option (List ℕ) → Option (List ℕ) → ℕ → List ℕ → Type 0
+CommandAnswer command left left_after status text =
+    ((bytes : List ℕ) × Takes command left left_after bytes × (length bytes ≤ input_limit) × Replies command bytes status text)
+    ⊎ (Reads command × (status ≡ 7) × ReadsCount left left_after (input_limit + 1) × (text ≡ long_text))
+
 -- what is said at the words
 abbrev pub WordAnswer : List (String Global) → Option (List ℕ) → Option (List ℕ) → ℕ → List ℕ → Type 0
 WordAnswer words left left_after status text =
-    ((command : Command) × Asks words command × ReadAnswer command left left_after status text) ⊎ (AsksNone words × (status ≡ 2) × (text ≡ usage_text))
+    ((command : Command) × Asks words command × CommandAnswer command left left_after status text) ⊎ (AsksNone words × (status ≡ 2) × (text ≡ usage_text))
 
 -- why nothing is said: memory, with no fault of the source, or a source that failed
 abbrev pub Silence : List (String Global) → ℕ → ℕ → ℕ → Type 0
 Silence words faults faults_after status =
-    ((status ≡ 6) × (faults_after ≡ faults)) ⊎ ((status ≡ 4) × AsksSome words × Rose faults faults_after)
+    ((status ≡ 6) × (faults_after ≡ faults)) ⊎ ((status ≡ 4) × AsksReader words × Rose faults faults_after)
 
 -- a text was written without a fault and this is its status, or the sink failed before its end
 abbrev pub Written : Option (List ℕ) → Option (List ℕ) → ℕ → ℕ → ℕ → List ℕ → ℕ → Type 0

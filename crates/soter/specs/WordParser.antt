@@ -1,6 +1,9 @@
 -- The program's commands as `clap` sees them.
 use Rattle.std.specs.Prelude.{ℕ, List, [], ◌∷◌, Bool, true, false, ◌==◌, codes}
-use Rattle.clap.specs.Simple.{App, Shape, new_shape, with_subcommand}
+use Rattle.std.specs.Prelude.{◌++◌, Some}
+use Rattle.clap.specs.declared.builder.action.ArgAction.TheVariants.{Set}
+use Rattle.clap.specs.Walk.{Rule}
+use Rattle.clap.specs.Simple.{App, Shape, new_rule, new_shape, with_subcommand}
 
 -- a word that begins with '-'
 abbrev pub is_dashed : List ℕ → Bool
@@ -14,7 +17,22 @@ top = record (new_shape (codes "soter")) { no_binary_name = true; disable_help_f
 abbrev pub bare : App
 bare = record { top = top; subs = [] }
 
+-- an argument that has to be there, with one value
+abbrev pub one_value : List ℕ → Rule
+one_value id = record (new_rule id) { required = true; action = Some Set }
+
+-- a command with two numbers behind its word
+abbrev pub numbered : List ℕ → Shape
+numbered name = record (new_shape name) { rules = one_value (codes "N") ∷ one_value (codes "SEED") ∷ [] }
+
+-- the commands that read a mission
+abbrev pub missions : App
+missions = with_subcommand (with_subcommand (with_subcommand bare (new_shape (codes "check"))) (new_shape (codes "fly"))) (new_shape (codes "replay"))
+
+-- and those that read a program
+abbrev pub readers : App
+readers = with_subcommand (with_subcommand missions (new_shape (codes "format"))) (new_shape (codes "certify"))
+
+-- and the one that does not
 abbrev pub program : App
-program =
-    with_subcommand (with_subcommand (with_subcommand (with_subcommand bare (new_shape (codes "check"))) (new_shape (codes "fly")))
-    (new_shape (codes "format"))) (new_shape (codes "certify"))
+program = with_subcommand readers (numbered (codes "make"))

@@ -1,6 +1,6 @@
 //! Answers: a status with the text that is written with it.
 
-ghost use Rattle.std.specs.Prelude.{◌≡◌, IfOk};
+ghost use Rattle.std.specs.Prelude.{◌≡◌, [], IfOk};
 ghost use Rattle.sot_tree.specs.TreeViews.{program_view};
 ghost use Rattle.sot_lang.specs.CertRules.{FitsTables};
 ghost use Rattle.sot_print.specs.Canonical.{canonical};
@@ -8,7 +8,10 @@ ghost use Rattle.sot_rta.specs.Refused.{refusal_view};
 ghost use Rattle.sot_world.specs.Opens.{IsFirstOutside};
 ghost use Rattle.sot_flight.specs.Fits.{FitsFlight};
 ghost use Rattle.sot_trace.specs.Traces.{trace_text};
-ghost use Rattle.soter.specs.Answers.{IsOutsideOf};
+ghost use Rattle.soter.specs.ReplayTexts.{legal_text, kind_word, refused_line_text};
+ghost use Rattle.soter.specs.Answers.{IsOutsideOf, Replies};
+ghost use Rattle.soter.specs.Words.{AreAsked};
+ghost use Rattle.soter.specs.declared.words.Command.TheVariants.{Make as MakeCommand};
 ghost use Rattle.sot_report.specs.FaultTexts.{fault_text};
 ghost use Rattle.sot_report.specs.RefusalTexts.{refusal_text};
 ghost use Rattle.sot_report.specs.AcceptedTexts.{accepted_text};
@@ -18,7 +21,9 @@ use sot_board::Board;
 use sot_certify::CertifyFail;
 use sot_flight::Flight;
 use sot_lang::{Cert, Typed};
+use sot_maker::make;
 use sot_print::print;
+use sot_replay::LineKind;
 use sot_report::{Fault, start_text};
 use sot_rta::Refusal;
 use sot_trace::board_text;
@@ -49,6 +54,18 @@ pub fn canonical(alloc: Global, program: &Program) -> Result<Answer, AllocError>
     ensures text { IfOk result (λ answer. answer.text.items ≡ canonical (program_view program.now)) }
 {
     let text = print(alloc, program)?;
+    Ok(Answer {
+        status: 0,
+        text: text.into_bytes(),
+    })
+}
+
+/// Status 0: the mission that is made from two numbers.
+pub fn made(alloc: Global, n: u32, seed: u64) -> Result<Answer, AllocError>
+    requires { AreAsked n seed }
+    ensures { IfOk result (λ answer. Replies (MakeCommand n seed) [] answer.status answer.text.items) }
+{
+    let text = make(alloc, n, seed)?;
     Ok(Answer {
         status: 0,
         text: text.into_bytes(),
@@ -104,6 +121,49 @@ pub fn outside(
     let plant = program.modules[module as usize].plant;
     let text = start_text(alloc, program, module, &flight.start()[plant as usize])?;
     Ok(Answer { status: 1, text })
+}
+
+/// Status 0: `legal events E`.
+pub fn legal(alloc: Global, events: u32) -> Result<Answer, AllocError>
+    ensures status { IfOk result (λ answer. answer.status ≡ 0) }
+    ensures text { IfOk result (λ answer. answer.text.items ≡ legal_text events) }
+{
+    let text = format!(in alloc; "legal events {events}\n")?;
+    Ok(Answer {
+        status: 0,
+        text: text.into_bytes(),
+    })
+}
+
+fn kind_word(kind: LineKind) -> &'static str
+    ensures { result.now ≡ kind_word kind }
+{
+    match kind {
+        LineKind::NotALine => "NotALine",
+        LineKind::WrongTime => "WrongTime",
+        LineKind::NotDue => "NotDue",
+        LineKind::AlreadyFired => "AlreadyFired",
+        LineKind::NodesLeft => "NodesLeft",
+        LineKind::OutsideType => "OutsideType",
+        LineKind::InputsLeft => "InputsLeft",
+        LineKind::TooFar => "TooFar",
+        LineKind::Differs => "Differs",
+        LineKind::Ended => "Ended",
+        LineKind::Missing => "Missing",
+    }
+}
+
+/// Status 1: the line of a trace that is refused at a line.
+pub fn refused_line(alloc: Global, line: u32, kind: LineKind) -> Result<Answer, AllocError>
+    ensures status { IfOk result (λ answer. answer.status ≡ 1) }
+    ensures text { IfOk result (λ answer. answer.text.items ≡ refused_line_text line kind) }
+{
+    let word = kind_word(kind);
+    let text = format!(in alloc; "refused replay line {line} {word}\n")?;
+    Ok(Answer {
+        status: 1,
+        text: text.into_bytes(),
+    })
 }
 
 /// Status 1: the line that says why there is no certificate.

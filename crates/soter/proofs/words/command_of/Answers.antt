@@ -6,7 +6,7 @@ use Rattle.clap.specs.Simple.{subcommand_of}
 use Rattle.clap.specs.declared.parser.matches.ArgMatches.TheViews.{out-ArgMatches}
 use Rattle.soter.specs.declared.words.WordFail.TheVariants.{Form}
 use Rattle.soter.specs.WordParser.{program}
-use Rattle.soter.proofs.CommandWords.{dash_asks, taken_asks, fault_asks, name_found, is_simple_program}
+use Rattle.soter.proofs.CommandWords.{dash_asks, found_asks, lost_asks, fault_asks, name_found, is_simple_program}
 use Rattle.soter.proofs.words.command_of.Goals as goal
 
 pub returns-then-has_dash-clause-form : goal.returns-then-has_dash-clause-form
@@ -17,14 +17,14 @@ returns-in-Ok-clause-ok c =
     let m : HasMatchesOf program (map string_bytes c.args.words.now) c.in-Ok.matches = c.in-Ok.ensures.matches in
     let name : subcommand_name_of c.in-Ok.matches ≡ option_map (λ p. p.0) (subcommand_of program (map string_bytes c.args.words.now)) =
     name_found (out-ArgMatches c.in-Ok.matches).subcommand ∙ ap (option_map (λ p. p.0)) (m is_simple_program).1 in
-    (taken_asks c.args.words.now (subcommand_name_of c.in-Ok.matches) c.found.result (sym c.has_dash.ensures ∙ c.if-has_dash.false) c.in-Ok.ensures.fails name c.found.ensures.ok c.found.ensures.known).0
+    found_asks c.args.words.now (subcommand_name_of c.in-Ok.matches) c.found.result (sym c.has_dash.ensures ∙ c.if-has_dash.false) c.in-Ok.ensures.fails name c.found.ensures.ok
 
 pub returns-in-Ok-clause-form : goal.returns-in-Ok-clause-form
-returns-in-Ok-clause-form c = λ form command asks.
+returns-in-Ok-clause-form c = λ form command.
     let m : HasMatchesOf program (map string_bytes c.args.words.now) c.in-Ok.matches = c.in-Ok.ensures.matches in
     let name : subcommand_name_of c.in-Ok.matches ≡ option_map (λ p. p.0) (subcommand_of program (map string_bytes c.args.words.now)) =
     name_found (out-ArgMatches c.in-Ok.matches).subcommand ∙ ap (option_map (λ p. p.0)) (m is_simple_program).1 in
-    (taken_asks c.args.words.now (subcommand_name_of c.in-Ok.matches) c.found.result (sym c.has_dash.ensures ∙ c.if-has_dash.false) c.in-Ok.ensures.fails name c.found.ensures.ok c.found.ensures.known).1 form
+    lost_asks c.args.words.now (subcommand_name_of c.in-Ok.matches) name (c.found.ensures.form form) command
 
 pub returns-in-Err-clause-form : goal.returns-in-Err-clause-form
 returns-in-Err-clause-form c = λ form command asks.
