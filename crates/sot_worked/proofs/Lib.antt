@@ -5,4 +5,6 @@ mod LineTerms
 pub mod LineRules
 mod PairTerms
 pub mod PairRules
+mod DoubleTerms
+pub mod DoubleRules
 pub mod BrokenRules
