@@ -33,14 +33,14 @@ alone [] (y ∷ ys) w = absurd w
 alone (x ∷ xs) [] w = absurd w
 alone (x ∷ xs) (y ∷ ys) w = ap₂ (λ a b. a ∷ b) (same_number x y w.0 w.1) (alone xs ys w.2)
 
-point_covered : (a : ModuleInfo) (s : List ℤ) → IsInRegion a.safe.boxes s → Covers a.safe.boxes (point_box s)
+pub point_covered : (a : ModuleInfo) (s : List ℤ) → IsInRegion a.safe.boxes s → Covers a.safe.boxes (point_box s)
 point_covered a s i t w = subst (IsInRegion a.safe.boxes) (alone s t w) i
 
 none_more : (n : ℕ) → n + 0 ≡ n
 none_more n = omega arith
 
 -- of closed cells, and of reach cells
-closed : (p : Tables) (a : ModuleInfo) (s : List ℤ) (plant : PlantInfo) (sc : NodeInfo) (acts : List Act) (fired : Intervals)
+pub closed : (p : Tables) (a : ModuleInfo) (s : List ℤ) (plant : PlantInfo) (sc : NodeInfo) (acts : List Act) (fired : Intervals)
     → At p.plants a.plant plant → At p.nodes a.sc sc → IsCoded sc acts → DraftsFrom p a sc acts (point_box s) fired → FailsAt p a false s
     → TubeInside p plant (command_intervals p plant sc fired.draft) a.safe.boxes (point_box s) sc.period → ⊥
 closed p a s plant sc acts fired at at_s coded drafts h inside =
@@ -57,7 +57,7 @@ closed p a s plant sc acts fired at at_s coded drafts h inside =
     (subst (λ (y : NodeInfo). IsClosedCell p 0 a plant y acts' (point_box s)) same
     (subst (λ us. IsClosedCell p 0 a plant sc us (point_box s)) (coded_same sc acts acts' coded (subst (λ (y : NodeInfo). IsCoded y acts') (sym same) coded')) cell)))
 
-reach : (p : Tables) (a : ModuleInfo) (s : List ℤ) (plant : PlantInfo) → At p.plants a.plant plant → FailsAt p a true s
+pub reach : (p : Tables) (a : ModuleInfo) (s : List ℤ) (plant : PlantInfo) → At p.plants a.plant plant → FailsAt p a true s
     → AnyTubeInside p plant a.safe.boxes (point_box s) (2 * a.period) → ⊥
 reach p a s plant at h inside =
     let f = failing_each (IsGood p a true) a.safer.boxes h.cells s h.found in

@@ -1,6 +1,10 @@
 pub mod Refused
 pub mod Verdicts
 pub mod FailingTubes
+pub mod PointDrafts
+pub mod Gaps
+pub mod Ways
+pub mod Points
 pub mod Taking
 pub mod Certified
 pub mod Entries

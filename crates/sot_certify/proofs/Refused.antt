@@ -24,7 +24,8 @@ use Rattle.sot_rta.specs.Refused.{refusal_view}
 use Rattle.sot_rta.specs.Cells.{AnswersClosedCell, AnswersReachCell}
 use Rattle.sot_certify.specs.Made.{IsGood}
 
-drafts_same : (p : Tables) (a : ModuleInfo) (sc : NodeInfo) (us : List Act) (cell : List Side) (f g : Intervals) → DraftsFrom p a sc us cell f → DraftsFrom p a sc us cell g → f ≡ g
+-- what the safe node drafts from a cell is one thing
+pub drafts_same : (p : Tables) (a : ModuleInfo) (sc : NodeInfo) (us : List Act) (cell : List Side) (f g : Intervals) → DraftsFrom p a sc us cell f → DraftsFrom p a sc us cell g → f ≡ g
 drafts_same p a sc us cell f g h h' =
     let e = all_hulls_same p h.hulls h'.hulls h.are h'.are in
     let one = execution_same us (local_ranges sc) (write_ranges p sc) (reading_intervals p sc (slice_set h'.hulls a.plant cell)) (local_ranges sc) (Ok f) (Ok g)

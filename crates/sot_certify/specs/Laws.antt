@@ -10,7 +10,7 @@ use Rattle.sot_lang.specs.declared.tables.PlantInfo.{PlantInfo}
 use Rattle.sot_lang.specs.declared.tables.NodeInfo.{NodeInfo}
 use Rattle.sot_lang.specs.declared.tables.ModuleInfo.{ModuleInfo}
 use Rattle.sot_lang.specs.Tables.{Tables}
-use Rattle.sot_lang.specs.TableRules.{IsCoded}
+use Rattle.sot_lang.specs.TableRules.{MeetsTableRules, IsCoded}
 use Rattle.sot_iv.specs.BodyIntervals.{Intervals}
 use Rattle.sot_halving.specs.Findings.{Finding}
 use Rattle.sot_halving.specs.Laws.{Agree}
@@ -22,7 +22,8 @@ use Rattle.sot_rta.specs.Refused.{refusal_view}
 use Rattle.sot_certify.specs.declared.fail.CertifyFail.{CertifyFail}
 use Rattle.sot_certify.specs.declared.fail.CertifyFail.TheVariants.{Refused, Point, TooMany, Memory}
 use Rattle.sot_certify.specs.Conditions.{without_cells}
-use Rattle.sot_certify.specs.Certifying.{Certifies}
+use Rattle.sot_certify.specs.Certifying.{Fails, Certifies}
+use Rattle.sot_certify.specs.Points.{PointTubeLeaves}
 use Rattle.sot_certify.specs.Made.{IsGood, region_of, FindsCells, FailsAt}
 
 -- a failing point is a point of the region, and the box of that point alone is not good
@@ -41,6 +42,10 @@ TubesOfFailingPointsLeave =
     → TubeInside p plant (command_intervals p plant sc fired.draft) a.safe.boxes (point_box s) sc.period → ⊥)
     × ((p : Tables) (a : ModuleInfo) (s : List ℤ) (plant : PlantInfo) → At p.plants a.plant plant → FailsAt p a true s
     → AnyTubeInside p plant a.safe.boxes (point_box s) (2 * a.period) → ⊥)
+
+-- so of each failing point that may be answered the tube leaves, with no premise but the rules of tables
+abbrev pub PointsLeave : Type 0
+PointsLeave = (p : Tables) (m : ℕ) (reach : Bool) (s : List ℤ) → MeetsTableRules p → Fails p (Point m reach s) → PointTubeLeaves p m reach s
 
 -- what is refused before cells are made is what a checker refuses, at any jitter and with any certificate that has an entry for each module
 abbrev pub RefusalsAreTheVerdicts : Type 0

@@ -1,5 +1,5 @@
 //! Each of these functions does nothing, and its contract is the law.
-ghost use Rattle.sot_certify.specs.Laws.{FailingPointsLeave, TubesOfFailingPointsLeave, RefusalsAreTheVerdicts, ListsAreFoundOnce, AnswersAreOne};
+ghost use Rattle.sot_certify.specs.Laws.{FailingPointsLeave, TubesOfFailingPointsLeave, PointsLeave, RefusalsAreTheVerdicts, ListsAreFoundOnce, AnswersAreOne};
 
 /// A failing point is a point of the region, and the box of that point alone is not good.
 pub fn failing_points_leave()
@@ -10,6 +10,11 @@ pub fn failing_points_leave()
 /// it meets no trap; of reach cells under any commands.
 pub fn tubes_of_failing_points_leave()
     ensures { TubesOfFailingPointsLeave }
+{}
+
+/// The tube of each point that may be answered leaves: of closed cells the safe node meets no trap from it, so no premise is left.
+pub fn points_leave()
+    ensures { PointsLeave }
 {}
 
 /// A checker refuses the same, with any certificate that has an entry for each module.

@@ -14,7 +14,7 @@ mod making;
 
 pub use fail::CertifyFail;
 pub use laws::{
-    answers_are_one, failing_points_leave, lists_are_found_once, refusals_are_the_verdicts,
-    tubes_of_failing_points_leave,
+    answers_are_one, failing_points_leave, lists_are_found_once, points_leave,
+    refusals_are_the_verdicts, tubes_of_failing_points_leave,
 };
 pub use making::certify;

@@ -1,6 +1,6 @@
 //! The lists of all modules, and the certificate.
 
-ghost use Rattle.std.specs.Prelude.{◌≡◌, length, IfOk, MatchResult};
+ghost use Rattle.std.specs.Prelude.{◌≡◌, length, IfOk, IfErr, MatchResult};
 ghost use Rattle.sot_lists.specs.Places.{At};
 ghost use Rattle.sot_lang.specs.TableRules.{MeetsTableRules};
 ghost use Rattle.sot_lang.specs.CertRules.{FitsTables};
@@ -8,6 +8,7 @@ ghost use Rattle.sot_tube.specs.Certified.{IsWellCertified};
 ghost use Rattle.sot_world.specs.Headline.{EveryRunIsSafe};
 ghost use Rattle.sot_rta.specs.Cells.{MayHaveCells};
 ghost use Rattle.sot_certify.specs.Certifying.{Certifies};
+ghost use Rattle.sot_certify.specs.Points.{IfPointLeaves};
 ghost use Rattle.sot_certify.specs.Steps.{AreListsOf, HasNoCells, named, AreEntriesTo, HasNoEntries};
 
 use crate::conditions::check_without_cells;
@@ -72,9 +73,12 @@ fn entries(alloc: Global, p: &Typed) -> Result<Vec<Option<Cells>>, CertifyFail>
 /// plants in their safer regions is safe.
 ///
 /// There is none where a condition that speaks of no cells fails; else where the first list that cannot be made, in the order of the
-/// modules and closed cells before reach cells, meets a single point that is not good, or a 4,097th cell, whichever comes first.
+/// modules and closed cells before reach cells, meets a single point that is not good, or a 4,097th cell, whichever comes first. From that
+/// point the tube leaves the safe region, or a step of it may trap: of closed cells under what the safe node surely drafts there, for its
+/// period; of reach cells under any commands, for two periods of the module.
 pub fn certify(alloc: Global, p: &Typed) -> Result<Cert, CertifyFail>
     ensures answer { Certifies p.now result }
+    ensures point { IfErr result (λ fail. IfPointLeaves p.now fail) }
     ensures fits { IfOk result (λ cert. FitsTables p.now cert) }
     ensures certified { IfOk result (λ cert. IsWellCertified p.now 0 cert) }
     ensures safe { IfOk result (λ _. EveryRunIsSafe p.now 0) }
