@@ -24,3 +24,5 @@ pub mod Answering
 pub mod RelayRules
 pub mod RelayLines
 pub mod RelayRefusals
+pub mod LineHistory
+pub mod LineTests

@@ -5,6 +5,7 @@ pub mod Replays
 -- the laws, and worked lines
 pub mod Laws
 pub mod Examples
+pub mod LineExamples
 -- between the crate's own functions
 pub mod Judges
 pub mod Openings

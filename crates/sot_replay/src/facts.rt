@@ -2,6 +2,7 @@
 
 ghost use Rattle.std.specs.Global.{Global};
 ghost use Rattle.sot_replay.specs.Examples.{TestsInOrder, TwoTraces, OtherFirstLines, OtherLastLines, SpellNothing, RefusedLines, MeetsTheLaws};
+ghost use Rattle.sot_replay.specs.LineExamples.{LineTrace, OtherStartLines, OtherDecisions, OtherDrafts, OtherTicks, OtherLaterLines, LineMeetsTheLaws};
 
 /// The order of the tests; the two traces of a flight of the relay; and lines with the first test that each does not pass.
 pub fn lines_are_as_stated()
@@ -12,4 +13,15 @@ pub fn lines_are_as_stated()
     ensures nothing { (g : Global) → SpellNothing g }
     ensures refused { (g : Global) → RefusedLines g }
     ensures laws { (g : Global) → MeetsTheLaws g }
+{}
+
+/// The trace of a flight with a plant and a module, and lines with the first test that each does not pass.
+pub fn lines_of_the_vehicle_are_as_stated()
+    ensures trace { (g : Global) → LineTrace g }
+    ensures starts { (g : Global) → OtherStartLines g }
+    ensures decisions { (g : Global) → OtherDecisions g }
+    ensures drafts { (g : Global) → OtherDrafts g }
+    ensures ticks { (g : Global) → OtherTicks g }
+    ensures later { (g : Global) → OtherLaterLines g }
+    ensures laws { (g : Global) → LineMeetsTheLaws g }
 {}

@@ -22,7 +22,7 @@ mod ranges;
 mod tick;
 mod whole;
 
-pub use facts::lines_are_as_stated;
+pub use facts::{lines_are_as_stated, lines_of_the_vehicle_are_as_stated};
 pub use fail::{LineKind, ReplayFail};
 pub use laws::{
     failing_lines_stop, first_lines_are_refused, lines_are_refused_once, lines_are_traced_once,
