@@ -3,6 +3,7 @@ pub mod Missions
 pub mod Times
 pub mod Views
 pub mod PairViews
+pub mod DoubleViews
 pub mod WorkedCalls
 pub mod WorkedFollows
 pub mod WorkedVerdicts

@@ -1,6 +1,6 @@
 //! Certificates of worked missions, made from the cells that are handed in.
 
-ghost use Rattle.std.specs.Prelude.{◌≡◌, ◌≤ℤ◌, ◌∷◌, [], pos, IfOk};
+ghost use Rattle.std.specs.Prelude.{◌≡◌, ◌<◌, ◌≤ℤ◌, ◌∷◌, [], pos, length, IfOk};
 ghost use Rattle.sot_trials.specs.Entries.{AreCells, AreCellsBoth, FitsAll};
 
 use sot_box::{BoxN, Interval, Region};
@@ -128,5 +128,88 @@ pub fn pair_cert(alloc: Global, low: i64) -> Result<Cert, AllocError>
     Ok(Cert {
         jitter: 0,
         modules: vec![in alloc; vehicle, battery]?,
+    })
+}
+
+// The least and the greatest place of the safe boxes, for each speed from -14 to 14.
+const LEAST: [i64; 29] = [
+    -195, -209, -222, -234, -245, -255, -264, -272, -279, -285, -290, -294, -297, -299, -300, -300,
+    -300, -300, -300, -300, -300, -300, -300, -300, -300, -300, -300, -300, -300,
+];
+
+const GREATEST: [i64; 29] = [
+    300, 300, 300, 300, 300, 300, 300, 300, 300, 300, 300, 300, 300, 300, 300, 299, 297, 294, 290,
+    285, 279, 272, 264, 255, 245, 234, 222, 209, 195,
+];
+
+// The part of such a box with places of at most 0, and then the part with places of at least 1.
+fn half(i: u32) -> BoxN
+    requires { i < 58 }
+    ensures { length result ≡ 2 }
+{
+    let n = i as usize / 2;
+    let speed = i64::from(i / 2) - 14;
+    let speeds = Interval {
+        lo: speed,
+        hi: speed,
+    };
+    let places = if i % 2 == 0 {
+        Interval {
+            lo: LEAST[n].min(0),
+            hi: 0,
+        }
+    } else {
+        Interval {
+            lo: 1,
+            hi: GREATEST[n].max(1),
+        }
+    };
+    BoxN::of(&[places, speeds]).unwrap()
+}
+
+fn halves(alloc: Global) -> Result<Region, AllocError>
+    ensures { IfOk result (AreCells 2) }
+{
+    let mut region = Region::none(alloc, 2);
+    for i in 0..58u32 {
+        let cell = half(i);
+        // A look at the box brings that its ends are in order.
+        let _sides = cell.len();
+        if let Err(_) = region.push(cell) {
+            return Err(AllocError);
+        }
+    }
+    Ok(region)
+}
+
+// Such places, at a speed of at most 2.
+fn slow_places(alloc: Global, low: i64, high: i64) -> Result<Region, AllocError>
+    requires { low ≤ℤ high }
+    ensures { IfOk result (AreCells 2) }
+{
+    let mut region = Region::none(alloc, 2);
+    let places = Interval { lo: low, hi: high };
+    let speeds = Interval { lo: -2, hi: 2 };
+    let cell = BoxN::of(&[places, speeds]).unwrap();
+    // A look at the box brings that its ends are in order.
+    let _sides = cell.len();
+    match region.push(cell) {
+        Ok(()) => Ok(region),
+        Err(_) => Err(AllocError),
+    }
+}
+
+/// A certificate of the double integrator, which is trusted between these places: 58 closed cells, two for each speed, and one
+/// reach cell.
+pub fn double_cert(alloc: Global, low: i64, high: i64) -> Result<Cert, AllocError>
+    requires { low ≤ℤ high }
+    ensures { IfOk result (FitsAll (2 ∷ [])) }
+{
+    let closed = halves(alloc)?;
+    let reach = slow_places(alloc, low, high)?;
+    let entry = Some(Cells { closed, reach });
+    Ok(Cert {
+        jitter: 0,
+        modules: vec![in alloc; entry]?,
     })
 }

@@ -6,7 +6,7 @@
 
 mod certificates;
 
-pub use certificates::{line_cert, line_without_entry, nothing_to_certify, pair_cert};
+pub use certificates::{double_cert, line_cert, line_without_entry, nothing_to_certify, pair_cert};
 
 #[cfg(test)]
 mod tests;

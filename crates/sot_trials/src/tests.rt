@@ -1,5 +1,6 @@
 //! Tests of the layers together.
 
+mod doubles;
 mod drive;
 mod histories;
 mod pairs;

@@ -54,3 +54,13 @@ fn a_history_hands_out_what_was_pushed(rt: HostRuntime) {
         panic!(rt; "the first entry is an input");
     }
 }
+
+#[test]
+fn a_history_has_room_for_the_longest_flight(rt: HostRuntime) {
+    for (entries, numbers) in [(0, 0), (1, 1), (7, 0), (200000, 1000000)] {
+        match History::none(rt.alloc(), entries, numbers) {
+            Ok(history) => assert_eq!(rt; history.len(), 0, "{entries} entries"),
+            Err(_) => panic!(rt; "room for {entries} entries and {numbers} numbers"),
+        }
+    }
+}
