@@ -70,7 +70,8 @@ command_ordered p (w ∷ ws) (d ∷ ds) (e ∷ es) k o n =
     (command_ordered p ws ds es k o n.1)
 command_ordered p (w ∷ ws) (d ∷ ds) [] k o n = absurd n
 
-module _ (p : Tables) (rules : MeetsTableRules p) (a : ModuleInfo) (plant : PlantInfo) (sc : NodeInfo) (plant_at : At p.plants a.plant plant) (sc_at : At p.nodes a.sc sc) where
+module _ (p : Tables) (rules : MeetsTableRules p) (a : ModuleInfo) (plant : PlantInfo) (sc : NodeInfo)
+    (plant_at : At p.plants a.plant plant) (sc_at : At p.nodes a.sc sc) where
   scalars_ordered : AreOrdered (scalar_ranges p)
   scalars_ordered = within_in_order (scalar_ranges p) (map (λ i. i.init) p.scalars) rules.typed.inits
 
@@ -98,15 +99,18 @@ module _ (p : Tables) (rules : MeetsTableRules p) (a : ModuleInfo) (plant : Plan
       each (State k v) has = ordered_read (slice_index_or (slice_set hulls a.plant cell) k []) v (boxes k v has)
 
   -- its evaluation gives intervals, or a first trap
-  outcome : (acts : List Act) (hulls : List (List Side)) (cell : List Side) → IsCoded sc acts → AllHulls p hulls → AreOrdered cell → (o : OrMayTrap Intervals) × IsNodeExecution p sc acts (slice_set hulls a.plant cell) o
+  outcome : (acts : List Act) (hulls : List (List Side)) (cell : List Side) → IsCoded sc acts → AllHulls p hulls → AreOrdered cell
+      → (o : OrMayTrap Intervals) × IsNodeExecution p sc acts (slice_set hulls a.plant cell) o
   outcome acts hulls cell coded are ordered =
       let seen = reading_intervals p sc (slice_set hulls a.plant cell) in (
         body_intervals seen (local_ranges sc) (write_ranges p sc) acts (record { locals = local_ranges sc; draft = replicate (length (write_ranges p sc)) Absent }),
-        execution_is (node_truths p sc) (length sc.locals.items) (length sc.writes.items) seen (local_ranges sc) (write_ranges p sc) (readings_ordered hulls cell are ordered) acts (local_ranges sc) ((rules.nodes a.sc sc sc_at).body acts coded) locals_ordered,
+        execution_is (node_truths p sc) (length sc.locals.items) (length sc.writes.items) seen (local_ranges sc) (write_ranges p sc) (readings_ordered hulls cell are ordered)
+            acts (local_ranges sc) ((rules.nodes a.sc sc sc_at).body acts coded) locals_ordered,
       )
 
   -- and no trap, since it has none from all of the hull
-  pub drafts_from : (m : ℕ) (acts : List Act) (cell : List Side) → At p.modules m a → NoSharedPlant p → IsCoded sc acts → IsTrapFree p sc acts → AreOrdered cell → Covers a.safe.boxes cell → (fired : Intervals) × DraftsFrom p a sc acts cell fired
+  pub drafts_from : (m : ℕ) (acts : List Act) (cell : List Side) → At p.modules m a → NoSharedPlant p → IsCoded sc acts → IsTrapFree p sc acts → AreOrdered cell
+      → Covers a.safe.boxes cell → (fired : Intervals) × DraftsFrom p a sc acts cell fired
   drafts_from m acts cell at one coded free ordered covers =
       let o = outcome acts free.0 cell coded free.1 ordered in
       let f = cell_never_traps p rules.typed one m a plant sc acts free.0 cell (lows cell) o.0 at plant_at sc_at free free.1 (lows_within cell ordered) covers o.1 in

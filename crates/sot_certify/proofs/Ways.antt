@@ -46,14 +46,17 @@ module _ (plant : PlantInfo) (commands seen : List Side) (region : List (List Si
       ⊎_elim (λ covers. inl covers) (λ gap. inr (Out tick box gap.0, (gap.0, gap.1, refl))) (covers_or_gap region box)
   stays_or_leaves (suc k) tick box ordered =
       ⊎_elim
-      (λ covers. by_tick covers (λ next later. stays_or_leaves k (suc tick) next later) (term_intervals plant.next.items (box ++ commands ++ seen ++ bounds plant)) (terms_are n plant.next.items (box ++ commands ++ seen ++ bounds plant) (names_ordered box ordered) places))
+      (λ covers. by_tick covers (λ next later. stays_or_leaves k (suc tick) next later)
+      (term_intervals plant.next.items (box ++ commands ++ seen ++ bounds plant)) (terms_are n plant.next.items (box ++ commands ++ seen ++ bounds plant) (names_ordered box ordered) places))
       (λ gap. inr (Out tick box gap.0, inl (gap.0, gap.1, refl)))
       (covers_or_gap region box)
     where
       Ends : Type 0
       Ends = StaysInside plant commands seen region box (suc k) ⊎ ((leave : Leave) × Leaves plant commands seen region box tick (suc k) leave)
 
-      by_tick : Covers region box → ((next : List Side) → AreOrdered next → StaysInside plant commands seen region next k ⊎ ((leave : Leave) × Leaves plant commands seen region next (suc tick) k leave)) → (o : OrMayTrap (List Side)) → IsNextBox plant box commands seen o → Ends
+      by_tick : Covers region box
+          → ((next : List Side) → AreOrdered next → StaysInside plant commands seen region next k ⊎ ((leave : Leave) × Leaves plant commands seen region next (suc tick) k leave))
+          → (o : OrMayTrap (List Side)) → IsNextBox plant box commands seen o → Ends
       by_tick covers later (Err t) is = inr (Trap tick t.at, inr (inl (covers, t, is, refl)))
       by_tick covers later (Ok next) is =
           ⊎_elim
@@ -82,8 +85,8 @@ picked_hulls p all are (k ∷ ks) there =
     (are.1 k plant.0 plant.1, picked_hulls p all are ks (λ j has. there j (suc has.0, has.1)))
 
 -- with commands in intervals in order, from a box of sides in order
-pub inside_or_leaves : (p : Tables) (k : ℕ) (plant : PlantInfo) (all : List (List Side)) (commands : List Side) (region : List (List Side)) (box : List Side) (ticks : ℕ) → MeetsTableRules p → At p.plants k plant → AllHulls p all
-    → AreOrdered commands → AreOrdered box → TubeInside p plant commands region box ticks ⊎ ((leave : Leave) × TubeLeaves p plant commands region box ticks leave)
+pub inside_or_leaves : (p : Tables) (k : ℕ) (plant : PlantInfo) (all : List (List Side)) (commands : List Side) (region : List (List Side)) (box : List Side) (ticks : ℕ)
+    → MeetsTableRules p → At p.plants k plant → AllHulls p all → AreOrdered commands → AreOrdered box → TubeInside p plant commands region box ticks ⊎ ((leave : Leave) × TubeLeaves p plant commands region box ticks leave)
 inside_or_leaves p k plant all commands region box ticks rules at are ordered_commands ordered =
     let r = rules.plants k plant at in
     let hulls = map (λ i. slice_index_or all i []) plant.sees.items in
