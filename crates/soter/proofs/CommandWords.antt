@@ -20,7 +20,7 @@ use Rattle.clap.specs.declared.error.kind.ErrorKind.{ErrorKind}
 use Rattle.clap.specs.declared.error.kind.ErrorKind.TheVariants as kind
 use Rattle.clap.proofs.OnLiterals.{clap_on_literals}
 use Rattle.soter.specs.declared.words.Command.{Command}
-use Rattle.soter.specs.declared.words.Command.TheVariants.{Check, Fly, Replay, Format, Certify, Make}
+use Rattle.soter.specs.declared.words.Command.TheVariants.{Check, Fly, Replay, Format, Certify, Make, Soak}
 use Rattle.soter.specs.declared.words.WordFail.{WordFail}
 use Rattle.soter.specs.declared.words.WordFail.TheVariants.{Form}
 use Rattle.soter.specs.Words.{word_of, numbers_of, AreAsked, IsInForm, Asks, HasNumbers, IsNumbered}
@@ -110,6 +110,7 @@ alone Certify (r ∷ rest) none plain e =
     subst (λ (p : Option (Text × List Text)). entered_fault (built program) p ≡ []) (stops sub_names nothing_held idle 1 false (codes "certify") [] (r ∷ rest)) below in
     absurd (nothing_behind (sub_shape (codes "certify")) r rest refl parts.0 inner)
 alone (Make n seed) (r ∷ rest) none plain e = absurd cc
+alone (Soak n seed) (r ∷ rest) none plain e = absurd cc
 
 begins : (c : Command) (w : Text) (rest : List Text) → word_of c ≡ w → list_any is_dashed rest ≡ false → fault_of program (w ∷ rest) ≡ []
     → (rest' : List Text) × (w ∷ rest ≡ word_of c ∷ rest') × (numbers_of c ≡ [] → rest' ≡ [])
@@ -139,8 +140,12 @@ only (w ∷ rest) plain e =
                                   elim (cases_Bool (bytes_eq (codes "make") w)) [
                                     | inl is ↦ (Make 0 0, begins (Make 0 0) w rest ((bytes_eq-Decides (codes "make") w).0 is) parts.1 e)
                                     | inr no_make ↦
-                                        let none : find (answers_to w) sub_names ≡ None = rw (no_check, no_fly, no_replay, no_format, no_certify, no_make) refl in
-                                        absurd (strays (built program).top sub_names w rest refl parts.0 none (neither _ _ e).0)
+                                        elim (cases_Bool (bytes_eq (codes "soak") w)) [
+                                          | inl is ↦ (Soak 0 0, begins (Soak 0 0) w rest ((bytes_eq-Decides (codes "soak") w).0 is) parts.1 e)
+                                          | inr no_soak ↦
+                                              let none : find (answers_to w) sub_names ≡ None = rw (no_check, no_fly, no_replay, no_format, no_certify, no_make, no_soak) refl in
+                                              absurd (strays (built program).top sub_names w rest refl parts.0 none (neither _ _ e).0)
+                                        ]
                                   ]
                             ]
                       ]
@@ -163,11 +168,17 @@ named Certify rest =
     subst (λ (p : Option (Text × List Text)). option_map (λ q. q.0) (entered (built program) p) ≡ Some (codes "certify")) (sym (stops sub_names nothing_held idle 1 false (codes "certify") [] rest)) refl
 named (Make n seed) rest =
     subst (λ (p : Option (Text × List Text)). option_map (λ q. q.0) (entered (built program) p) ≡ Some (codes "make")) (sym (stops sub_names nothing_held idle 1 false (codes "make") [] rest)) refl
+named (Soak n seed) rest =
+    subst (λ (p : Option (Text × List Text)). option_map (λ q. q.0) (entered (built program) p) ≡ Some (codes "soak")) (sym (stops sub_names nothing_held idle 1 false (codes "soak") [] rest)) refl
 
--- two words that do not begin with '-' are taken behind `make`
+-- two words that do not begin with '-' are taken behind `make` and `soak`
 make_taken : (x y : ℕ) (xs ys : List ℕ) → (x == 45) ≡ false → (y == 45) ≡ false → fault_of program (codes "make" ∷ (x ∷ xs) ∷ (y ∷ ys) ∷ []) ≡ []
 unfolding clap_on_literals
 make_taken x y xs ys p q = rw (p, p, q, q) refl
+
+soak_taken : (x y : ℕ) (xs ys : List ℕ) → (x == 45) ≡ false → (y == 45) ≡ false → fault_of program (codes "soak" ∷ (x ∷ xs) ∷ (y ∷ ys) ∷ []) ≡ []
+unfolding clap_on_literals
+soak_taken x y xs ys p q = rw (p, p, q, q) refl
 
 -- the words that ask for a command are taken
 pub taken : (c : Command) → IsInForm c → fault_of program (word_of c ∷ map decimal (numbers_of c)) ≡ []
@@ -183,6 +194,12 @@ taken (Make n seed) form =
     ap (λ (t : Text). fault_of program (codes "make" ∷ t ∷ decimal seed ∷ [])) d.2
     ∙ ap (λ (t : Text). fault_of program (codes "make" ∷ (d.0 ∷ d.1) ∷ t ∷ [])) e.2
     ∙ make_taken d.0 e.0 d.1 e.1 d.3 e.3
+taken (Soak n seed) form =
+    let d = plain_decimal n (omega arith) in
+    let e = plain_decimal seed (omega arith) in
+    ap (λ (t : Text). fault_of program (codes "soak" ∷ t ∷ decimal seed ∷ [])) d.2
+    ∙ ap (λ (t : Text). fault_of program (codes "soak" ∷ (d.0 ∷ d.1) ∷ t ∷ [])) e.2
+    ∙ soak_taken d.0 e.0 d.1 e.1 d.3 e.3
 
 dashed_words : (words : List (String Global)) → list_any (λ w. is_dashed (string_bytes w)) words ≡ list_any is_dashed (map string_bytes words)
 dashed_words [] = refl
@@ -198,6 +215,7 @@ no_dash Replay form = refl
 no_dash Format form = refl
 no_dash Certify form = refl
 no_dash (Make n seed) form = two_dashless (codes "make") n seed refl form
+no_dash (Soak n seed) form = two_dashless (codes "soak") n seed refl form
 
 -- words with '-' ask for nothing
 pub dash_asks : (words : List (String Global)) (c : Command) → list_any (λ w. is_dashed (string_bytes w)) words ≡ true → Asks words c → ⊥
@@ -211,7 +229,7 @@ is_bare [] = true
 is_bare (n ∷ ns) = false
 
 wants_none : Text → Bool
-wants_none word = if bytes_eq word (codes "make") then false else true
+wants_none word = if bytes_eq word (codes "make") then false else if bytes_eq word (codes "soak") then false else true
 
 bare_word : (c : Command) → is_bare (numbers_of c) ≡ wants_none (word_of c)
 unfolding is_bare wants_none
@@ -221,6 +239,7 @@ bare_word Replay = refl
 bare_word Format = refl
 bare_word Certify = refl
 bare_word (Make n seed) = refl
+bare_word (Soak n seed) = refl
 
 bare_none : (ns : List ℕ) → is_bare ns ≡ true → ns ≡ []
 unfolding is_bare
@@ -246,6 +265,9 @@ asked words d rest begins none Certify same numbered = (begins ∙ cc (none (bot
 asked words d rest begins none (Make n seed) same (name, is, form) =
     let first : name ≡ codes "make" = head_same name (word_of d) _ rest (sym is ∙ begins) ∙ sym same in
     (is ∙ ap (λ (t : Text). t ∷ decimal n ∷ decimal seed ∷ []) first, form)
+asked words d rest begins none (Soak n seed) same (name, is, form) =
+    let first : name ≡ codes "soak" = head_same name (word_of d) _ rest (sym is ∙ begins) ∙ sym same in
+    (is ∙ ap (λ (t : Text). t ∷ decimal n ∷ decimal seed ∷ []) first, form)
 
 -- words that ask for a command have its numbers behind the first word
 numbered_asks : (words : List (String Global)) (c : Command) → Asks words c → IsNumbered words c
@@ -255,6 +277,7 @@ numbered_asks words Replay asks = tt
 numbered_asks words Format asks = tt
 numbered_asks words Certify asks = tt
 numbered_asks words (Make n seed) (is, form) = (codes "make", is, form)
+numbered_asks words (Soak n seed) (is, form) = (codes "soak", is, form)
 
 -- words without '-' that `clap` takes ask for what was found
 pub found_asks : (words : List (String Global)) (name : Option Text) (r : Result Command WordFail) → list_any (λ w. is_dashed (string_bytes w)) words ≡ false
@@ -298,6 +321,17 @@ make_wants words Replay e behind = absurd cc
 make_wants words Format e behind = absurd cc
 make_wants words Certify e behind = absurd cc
 make_wants words (Make n seed) e behind = (n, seed, behind)
+make_wants words (Soak n seed) e behind = (let first : 109 ≡ 115 = ap (λ (t : Text). get_or t 0 0) e in absurd (omega (arith, first)))
+
+-- and so does `soak`
+pub soak_wants : (words : List (String Global)) (c : Command) → codes "soak" ≡ word_of c → IsNumbered words c → (n : ℕ) × (seed : ℕ) × HasNumbers words n seed
+soak_wants words Check e behind = absurd cc
+soak_wants words Fly e behind = absurd cc
+soak_wants words Replay e behind = absurd cc
+soak_wants words Format e behind = absurd cc
+soak_wants words Certify e behind = absurd cc
+soak_wants words (Make n seed) e behind = (let first : 115 ≡ 109 = ap (λ (t : Text). get_or t 0 0) e in absurd (omega (arith, first)))
+soak_wants words (Soak n seed) e behind = (n, seed, behind)
 
 -- an error stays one, whatever was wanted
 pub err_again : {T U : Type 0} (f : WordFail) → IsErrOf {T = T} {E = WordFail} (Err f) Form → IsErrOf {T = U} {E = WordFail} (Err f) Form

@@ -9,34 +9,43 @@ use Rattle.sot_box.specs.Regions.{IsInRegion}
 use Rattle.sot_lang.specs.Tables.{Tables}
 use Rattle.sot_tube.specs.Admitted.{Admitted}
 use Rattle.sot_world.specs.Configurations.{IsSafer}
+use Rattle.sot_world.specs.HistoryEntry.{Logged}
 use Rattle.sot_world.specs.Opens.{StartInside}
 use Rattle.sot_flight.specs.Plans.{Plan}
 use Rattle.sot_board.specs.Flown.{Position, IsStart, FlownBy}
 use Rattle.sot_board.specs.Standing.{Standing}
-use Rattle.sot_trace.specs.Traces.{trace_text}
 use Rattle.sot_report.specs.Missions.{Mission, SaysFlight}
 use Rattle.soter.specs.declared.answer.Answer.{Answer}
 use Rattle.soter.specs.Answers.{IsOutsideOf, SpellsFor}
-use Rattle.soter.specs.Steps.{JudgesFlight}
+use Rattle.soter.specs.declared.telling.Telling.{Telling}
+use Rattle.soter.specs.declared.telling.Telling.TheVariants.{Trace, Summed}
+use Rattle.soter.specs.Steps.{told_text, IsToldOf, JudgesFlight}
 
 -- a safer opening at the flight's points
 pub starts_inside : (t : Tables) (f : Plan) (P : Position) → IsStart t f P → IsSafer t P.at → StartInside t f.start (length t.modules)
 starts_inside t f P start safer = λ k a lt at. subst (λ points. IsInRegion a.safer.boxes (slice_index_or points a.plant [])) start.opening.points (safer k a at)
 
-pub traced_result :
-    (r : Result Answer AllocError) (acc : Admitted) (f : Plan) (b : Standing) → b.accepted ≡ acc → b.plan ≡ f → StartInside acc.program f.start (length acc.program.modules)
-    → FlownBy b.accepted.program b.accepted.cert.jitter b.plan b.entries → IfOk r (λ a. a.status ≡ 0) → IfOk r (λ a. a.text.items ≡ trace_text b.accepted.program b.plan.start b.entries)
-    → IfOk r (λ a. JudgesFlight acc.program acc.cert.jitter f a.status a.text.items)
-traced_result (Ok a) acc f b is plan inside flown status text =
+-- what is told of a history of the flight is told of the flight
+told_of : (telling : Telling) (t : Tables) (jitter : ℕ) (f : Plan) (history : List Logged) (text : List ℕ) → StartInside t f.start (length t.modules) → FlownBy t jitter f history
+    → text ≡ told_text telling t f history → IsToldOf telling t jitter f text
+told_of Trace t jitter f history text inside flown said = (inside, (history, flown, said))
+told_of Summed t jitter f history text inside flown said = (inside, (history, flown, said))
+
+pub told_result :
+    (r : Result Answer AllocError) (telling : Telling) (acc : Admitted) (f : Plan) (b : Standing) → b.accepted ≡ acc → b.plan ≡ f → StartInside acc.program f.start (length acc.program.modules)
+    → FlownBy b.accepted.program b.accepted.cert.jitter b.plan b.entries → IfOk r (λ a. a.status ≡ 0) → IfOk r (λ a. a.text.items ≡ told_text telling b.accepted.program b.plan b.entries)
+    → IfOk r (λ a. JudgesFlight telling acc.program acc.cert.jitter f a.status a.text.items)
+told_result (Ok a) telling acc f b is plan inside flown status text =
     let of_program = subst (λ (x : Admitted). FlownBy x.program x.cert.jitter b.plan b.entries) is flown in
     let of_flight = subst (λ (g : Plan). FlownBy acc.program acc.cert.jitter g b.entries) plan of_program in
-    let said = text ∙ ap (λ (x : Admitted). trace_text x.program b.plan.start b.entries) is ∙ ap (λ (g : Plan). trace_text acc.program g.start b.entries) plan in
-    inl (status, (inside, (b.entries, of_flight, said)))
-traced_result (Err e) acc f b is plan inside flown status text = tt
+    let said = text ∙ ap (λ (x : Admitted). told_text telling x.program b.plan b.entries) is ∙ ap (λ (g : Plan). told_text telling acc.program g b.entries) plan in
+    inl (status, told_of telling acc.program acc.cert.jitter f b.entries a.text.items inside of_flight said)
+told_result (Err e) telling acc f b is plan inside flown status text = tt
 
-pub outside_result : (r : Result Answer AllocError) (t : Tables) (jitter : ℕ) (f : Plan) → IfOk r (λ a. a.status ≡ 1) → IfOk r (λ a. IsOutsideOf t f a.text.items) → IfOk r (λ a. JudgesFlight t jitter f a.status a.text.items)
-outside_result (Ok a) t jitter f status text = inr (status, text)
-outside_result (Err e) t jitter f status text = tt
+pub outside_result : (r : Result Answer AllocError) (telling : Telling) (t : Tables) (jitter : ℕ) (f : Plan) → IfOk r (λ a. a.status ≡ 1) → IfOk r (λ a. IsOutsideOf t f a.text.items)
+    → IfOk r (λ a. JudgesFlight telling t jitter f a.status a.text.items)
+outside_result (Ok a) telling t jitter f status text = inr (status, text)
+outside_result (Err e) telling t jitter f status text = tt
 
 -- a mission that is to be flown has a flight
 needed_flight : (front : List ℕ) (c f t : Option (List ℕ)) (parts : Parts) → needed needs.Fly front c f t ≡ Some parts → parts.flight ≡ None → ⊥

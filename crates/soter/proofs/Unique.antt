@@ -21,7 +21,7 @@ use Rattle.sot_cert.specs.declared.fault.JsonFault.{JsonFault}
 use Rattle.sot_flight.specs.Plans.{Plan}
 use Rattle.sot_world.specs.HistoryEntry.{Logged}
 use Rattle.sot_spelled.specs.LentLines.{lent_lines}
-use Rattle.sot_replay.specs.GoesOn.{IsTraceOf}
+use Rattle.sot_replay.specs.GoesOn as goes_on
 use Rattle.sot_replay.specs.Replays.{IsRefusedAt}
 use Rattle.sot_replay.specs.declared.fail.LineKind.{LineKind}
 use Rattle.sot_replay.proofs.OneAnswer.{traces_are_not_refused}
@@ -39,11 +39,12 @@ use Rattle.sot_certify_alike.proofs.Certify.{certify_alike}
 use Rattle.sot_world.specs.Opens.{StartInside, IsFirstOutside}
 use Rattle.sot_report.specs.declared.fault.Fault.{Fault}
 use Rattle.sot_report.specs.declared.fault.Fault.TheVariants as faults
+use Rattle.sot_maker.specs.Missions.{mission_text as made_text}
 use Rattle.sot_report.specs.Missions.{Mission, Resolves, HasParts, SaysFlight, FaultsFlight, HasFault}
 use Rattle.soter.specs.declared.words.Command.{Command}
-use Rattle.soter.specs.declared.words.Command.TheVariants.{Check, Fly, Replay, Format, Certify, Make}
+use Rattle.soter.specs.declared.words.Command.TheVariants.{Check, Fly, Replay, Format, Certify, Make, Soak}
 use Rattle.soter.specs.Words.{word_of, numbers_of, Reads, IsInForm, Asks}
-use Rattle.soter.specs.Answers.{IsAccepted, IsRefusedFor, SpellsFor, HasLines, HasProgramFault, Accepts, Refutes, Rejects, Replies, given_to}
+use Rattle.soter.specs.Answers.{IsAccepted, IsRefusedFor, SpellsFor, IsTraceOf, IsSummaryOf, FliesWith, DoesNotFly, HasLines, HasProgramFault, Accepts, Refutes, Rejects, Replies, given_to}
 use Rattle.soter.specs.Ends.{Decides}
 
 -- bytes have one list of sections, and its program's text spells one program
@@ -109,7 +110,7 @@ module _ (need : Need) (bytes : List ℕ) (m n : Mission) (x : SpellsFor need by
 
 -- lines that are the trace of a history are not refused
 traced_refused : (bytes : List ℕ) (m n : Mission) → SpellsFor needs.Replay bytes m → SpellsFor needs.Replay bytes n → (f g : Plan) (lines lines' : List (List ℕ)) → HasLines m f lines → HasLines n g lines'
-    → (history : List Logged) → IsTraceOf m.tables m.cert.jitter f lines history → (number : ℕ) (kind : LineKind) → IsRefusedAt n.tables n.cert.jitter g lines' number kind → ⊥
+    → (history : List Logged) → goes_on.IsTraceOf m.tables m.cert.jitter f lines history → (number : ℕ) (kind : LineKind) → IsRefusedAt n.tables n.cert.jitter g lines' number kind → ⊥
 traced_refused bytes m n x y f g lines lines' (is, (trace, has, are)) (is', (trace', has', are')) history traced number kind refused =
     let same_seen = seen needs.Replay bytes m n x y in
     let parts = sections needs.Replay bytes m n x y in
@@ -118,8 +119,8 @@ traced_refused bytes m n x y f g lines lines' (is, (trace, has, are)) (is', (tra
     let traces : trace ≡ trace' = same_Some trace trace' (sym has ∙ x.traced ∙ ap (λ (q : Parts). q.trace) parts ∙ sym y.traced ∙ has') in
     let here = are ∙ ap lent_lines traces ∙ sym are' in
     let other = traced_alike m.tables n.tables m.cert.jitter f lines history same_seen traced in
-    let moved = subst (λ (ls : List (List ℕ)). IsTraceOf n.tables n.cert.jitter g ls history) here
-    (subst (λ (h : Plan). IsTraceOf n.tables n.cert.jitter h lines history) flights (subst (λ j. IsTraceOf n.tables j f lines history) jitter other)) in
+    let moved = subst (λ (ls : List (List ℕ)). goes_on.IsTraceOf n.tables n.cert.jitter g ls history) here
+    (subst (λ (h : Plan). goes_on.IsTraceOf n.tables n.cert.jitter h lines history) flights (subst (λ j. goes_on.IsTraceOf n.tables j f lines history) jitter other)) in
     traces_are_not_refused n.tables n.cert.jitter g lines' history number kind moved refused
 
 -- bytes that spell a mission have no fault
@@ -149,12 +150,19 @@ program_faulty bytes p t (faults.Typing f) spells resolves (q, spells', first) =
 program_faulty bytes p t (faults.Cert f) spells resolves has = has
 program_faulty bytes p t (faults.Flight f) spells resolves has = has
 
+-- what flies does not fail to, whatever is told of it
+abbrev StartsInside : (Tables → ℕ → Plan → List ℕ → Type 0) → Type 0
+StartsInside Says = (t : Tables) (jitter : ℕ) (f : Plan) (text : List ℕ) → Says t jitter f text → StartInside t f.start (length t.modules)
+
+flies_once : (Says : Tables → ℕ → Plan → List ℕ → Type 0) → StartsInside Says → (bytes text text' : List ℕ) → FliesWith Says bytes text → DoesNotFly bytes text' → ⊥
+flies_once Says starts bytes text text' (m, spells, certified, safe, flown) (n, spells', inl (r, refuses, says')) = accepted_refused needs.Fly bytes m n spells spells' r certified refuses
+flies_once Says starts bytes text text' (m, spells, certified, safe, (f, is, says)) (n, spells', inr (certified', (g, is', (k, first, says')))) =
+    inside_outside needs.Fly bytes m n spells spells' f g is is' (starts m.tables m.cert.jitter f text says) k first
+
 -- what is accepted is neither refused nor rejected, and what is refused is not rejected
 not_refuted : (c : Command) (bytes text text' : List ℕ) → Accepts c bytes text → Refutes c bytes text' → ⊥
 not_refuted Check bytes text text' (m, spells, certified, safe, says) (n, spells', (r, refuses, says')) = accepted_refused needs.Check bytes m n spells spells' r certified refuses
-not_refuted Fly bytes text text' (m, spells, certified, safe, flown) (n, spells', inl (r, refuses, says')) = accepted_refused needs.Fly bytes m n spells spells' r certified refuses
-not_refuted Fly bytes text text' (m, spells, certified, safe, (f, is, (inside, flown))) (n, spells', inr (certified', (g, is', (k, first, says')))) =
-    inside_outside needs.Fly bytes m n spells spells' f g is is' inside k first
+not_refuted Fly bytes text text' a r = flies_once IsTraceOf (λ t jitter f x says. says.0) bytes text text' a r
 not_refuted Replay bytes text text' (m, spells, certified, safe, legal) (n, spells', inl (r, refuses, says')) = accepted_refused needs.Replay bytes m n spells spells' r certified refuses
 not_refuted Replay bytes text text' (m, spells, certified, safe, (f, lines, (is, has), (inside, legal))) (n, spells', inr (certified', (g, lines', (is', has'), inl (k, first, says')))) =
     inside_outside needs.Replay bytes m n spells spells' f g is is' inside k first
@@ -164,6 +172,7 @@ not_refuted Format bytes text text' a r = r
 not_refuted Certify bytes text text' (p, t, spells, resolves, (cert, made, fits, says), accepted) (q, u, spells', resolves', (fail, enough, fails, says')) =
     certify_alike t u cert fail (same_seen p q t u (spells_unique bytes 0 p q spells spells') resolves resolves') enough made fails
 not_refuted (Make n seed) bytes text text' a r = r
+not_refuted (Soak n seed) bytes text text' a r = flies_once IsSummaryOf (λ t jitter f x says. says.0) (made_text n seed) text text' a r
 
 not_rejected : (c : Command) (bytes text text' : List ℕ) → Accepts c bytes text → Rejects c bytes text' → ⊥
 not_rejected Check bytes text text' (m, spells, certified, safe, says) (f, has, says') = spelled_faulty needs.Check bytes m f spells has
@@ -172,6 +181,7 @@ not_rejected Replay bytes text text' (m, spells, certified, safe, legal) (f, has
 not_rejected Format bytes text text' a r = r.0 a.0 a.1
 not_rejected Certify bytes text text' (p, t, spells, resolves, has, accepted) (f, fault, says) = program_faulty bytes p t f spells resolves fault
 not_rejected (Make n seed) bytes text text' a r = r
+not_rejected (Soak n seed) bytes text text' (m, spells, certified, safe, flown) (f, has, says') = spelled_faulty needs.Fly (made_text n seed) m f spells has
 
 refuted_not_rejected : (c : Command) (bytes text text' : List ℕ) → Refutes c bytes text → Rejects c bytes text' → ⊥
 refuted_not_rejected Check bytes text text' (m, spells, refused) (f, has, says') = spelled_faulty needs.Check bytes m f spells has
@@ -180,6 +190,7 @@ refuted_not_rejected Replay bytes text text' (m, spells, refused) (f, has, says'
 refuted_not_rejected Format bytes text text' a r = a
 refuted_not_rejected Certify bytes text text' (p, t, spells, resolves, has) (f, fault, says) = program_faulty bytes p t f spells resolves fault
 refuted_not_rejected (Make n seed) bytes text text' a r = r
+refuted_not_rejected (Soak n seed) bytes text text' (m, spells, refused) (f, has, says') = spelled_faulty needs.Fly (made_text n seed) m f spells has
 
 -- a command answers one status
 replies_once : (c : Command) (bytes text text' : List ℕ) (s t : ℕ) → Replies c bytes s text → Replies c bytes t text' → s ≡ t
@@ -202,7 +213,7 @@ told word [] =
     else if bytes_eq word (codes "format") then Format
     else Certify
 told word (n ∷ []) = Check
-told word (n ∷ seed ∷ more) = Make n seed
+told word (n ∷ seed ∷ more) = if bytes_eq word (codes "make") then Make n seed else Soak n seed
 
 told_words : (c : Command) → told (word_of c) (numbers_of c) ≡ c
 unfolding told
@@ -212,6 +223,7 @@ told_words Replay = refl
 told_words Format = refl
 told_words Certify = refl
 told_words (Make n seed) = refl
+told_words (Soak n seed) = refl
 
 -- the numbers of a command are told by their decimals
 AreShort : List ℕ → Type 0
@@ -226,6 +238,7 @@ short_numbers Replay form = tt
 short_numbers Format form = tt
 short_numbers Certify form = tt
 short_numbers (Make n seed) form = (omega arith, (omega arith, tt))
+short_numbers (Soak n seed) form = (omega arith, (omega arith, tt))
 
 same_parts_of : (a b : List ℕ) (more rest : List (List ℕ)) → a ∷ more ≡ b ∷ rest → (a ≡ b) × (more ≡ rest)
 same_parts_of a b more rest e = (cc, cc)
@@ -254,6 +267,7 @@ given_reader Replay bytes reads = refl
 given_reader Format bytes reads = refl
 given_reader Certify bytes reads = refl
 given_reader (Make n seed) bytes reads = absurd reads
+given_reader (Soak n seed) bytes reads = absurd reads
 
 -- so words that ask for one have no short input where the bytes are too many
 never_both : (words : List (String Global)) (bytes : List ℕ) (c d : Command) → Asks words c → Reads d → Asks words d → length (given_to c bytes) ≤ 16777216 → 16777216 < length bytes → ⊥

@@ -4,24 +4,32 @@ use Rattle.std.specs.Io.KnownBytes.{Appends}
 use Rattle.std.proofs.Common.{Global}
 use Rattle.sot_ports.specs.Faults.{Rose}
 use Rattle.sot_ports.specs.Whole.{ReadsAll, ReadsCount}
+use Rattle.sot_text.specs.declared.mission.Need.TheVariants as needs
 use Rattle.sot_lang.specs.Tables.{Tables}
 use Rattle.sot_lang.specs.declared.cert.Cert.{Cert}
 use Rattle.sot_tube.specs.Refusals.{Refusal}
 use Rattle.sot_tube.specs.Certified.{IsWellCertified}
 use Rattle.sot_tube.specs.Verdict.{verdict}
 use Rattle.sot_world.specs.Headline.{EveryRunIsSafe}
+use Rattle.sot_world.specs.HistoryEntry.{Logged}
 use Rattle.sot_flight.specs.Plans.{Plan}
+use Rattle.sot_trace.specs.Traces.{trace_text}
+use Rattle.sot_summary.specs.Summaries.{summary_of}
+use Rattle.sot_summary.specs.SummaryText.{summary_text}
 use Rattle.sot_report.specs.AcceptedTexts.{accepted_text}
 use Rattle.sot_report.specs.RefusalTexts.{refusal_text}
-use Rattle.sot_report.specs.FaultTexts.{type_text}
-use Rattle.sot_report.specs.Missions.{Resolves}
+use Rattle.sot_report.specs.FaultTexts.{fault_text, type_text}
+use Rattle.sot_report.specs.declared.fault.Fault.{Fault}
+use Rattle.sot_report.specs.Missions.{Resolves, HasFault}
 use Rattle.sot_rules.specs.declared.fault.TypeFault.{TypeFault}
 use Rattle.sot_rules.specs.First.{IsFirstFault}
 use Rattle.sot_tree.specs.Trees.{Program}
 use Rattle.sot_parser.specs.Programs.{Spells}
 use Rattle.sot_reread.specs.Laws.{IsCertificateOf, written}
 use Rattle.soter.specs.Texts.{usage_text, long_text}
-use Rattle.soter.specs.Answers.{IsTraceOf, IsOutsideOf, IsLegal, IsIllegal, IsCertifiedText, IsNotCertified, SpellsAccepted, Replies, input_limit}
+use Rattle.soter.specs.Answers.{IsTraceOf, IsSummaryOf, IsOutsideOf, IsLegal, IsIllegal, FliesWith, DoesNotFly, IsCertifiedText, IsNotCertified, SpellsAccepted, Replies, input_limit}
+use Rattle.soter.specs.declared.telling.Telling.{Telling}
+use Rattle.soter.specs.declared.telling.Telling.TheVariants.{Trace, Summed}
 use Rattle.soter.specs.declared.words.Command.{Command}
 use Rattle.soter.specs.Words.{Reads, Asks, AsksReader, AsksNone}
 use Rattle.soter.specs.Ends.{Takes}
@@ -32,15 +40,32 @@ Judges t cert status text =
     ((status ≡ 0) × IsWellCertified t cert.jitter cert × EveryRunIsSafe t cert.jitter × (text ≡ accepted_text t cert))
     ⊎ ((status ≡ 1) × ((r : Refusal) × (verdict t cert.jitter cert).Refuses r × (text ≡ refusal_text t r)))
 
+-- what is told of a history
+abbrev pub told_text : Telling → Tables → Plan → List Logged → List ℕ
+told_text Trace t f history = trace_text t f.start history
+told_text Summed t f history = summary_text (summary_of t f history)
+
+-- and so of a flight that was flown
+abbrev pub IsToldOf : Telling → Tables → ℕ → Plan → List ℕ → Type 0
+IsToldOf Trace t jitter f text = IsTraceOf t jitter f text
+IsToldOf Summed t jitter f text = IsSummaryOf t jitter f text
+
 -- what is said of an accepted program's flight
-abbrev pub JudgesFlight : Tables → ℕ → Plan → ℕ → List ℕ → Type 0
-JudgesFlight t jitter f status text = ((status ≡ 0) × IsTraceOf t jitter f text) ⊎ ((status ≡ 1) × IsOutsideOf t f text)
+abbrev pub JudgesFlight : Telling → Tables → ℕ → Plan → ℕ → List ℕ → Type 0
+JudgesFlight telling t jitter f status text = ((status ≡ 0) × IsToldOf telling t jitter f text) ⊎ ((status ≡ 1) × IsOutsideOf t f text)
 
 -- what is said of a program's tables with a certificate and a flight
-abbrev pub JudgesFlown : Tables → Cert → Plan → ℕ → List ℕ → Type 0
-JudgesFlown t cert f status text =
-    (IsWellCertified t cert.jitter cert × EveryRunIsSafe t cert.jitter × JudgesFlight t cert.jitter f status text)
+abbrev pub JudgesFlown : Telling → Tables → Cert → Plan → ℕ → List ℕ → Type 0
+JudgesFlown telling t cert f status text =
+    (IsWellCertified t cert.jitter cert × EveryRunIsSafe t cert.jitter × JudgesFlight telling t cert.jitter f status text)
     ⊎ ((status ≡ 1) × ((r : Refusal) × (verdict t cert.jitter cert).Refuses r × (text ≡ refusal_text t r)))
+
+-- what is said of a mission's bytes with a flight, by `fly` and by `soak`
+abbrev pub FliesBytes : Telling → List ℕ → ℕ → List ℕ → Type 0
+FliesBytes telling bytes status text =
+    ((status ≡ 0) × FliesWith (IsToldOf telling) bytes text)
+    ⊎ ((status ≡ 1) × DoesNotFly bytes text)
+    ⊎ ((status ≡ 3) × ((f : Fault) × HasFault needs.Fly 0 bytes f × (text ≡ fault_text f)))
 
 -- what is said of the lines of a trace of an accepted program's flight
 abbrev pub JudgesLines : Tables → ℕ → Plan → List (List ℕ) → ℕ → List ℕ → Type 0

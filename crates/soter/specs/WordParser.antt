@@ -33,6 +33,6 @@ missions = with_subcommand (with_subcommand (with_subcommand bare (new_shape (co
 abbrev pub readers : App
 readers = with_subcommand (with_subcommand missions (new_shape (codes "format"))) (new_shape (codes "certify"))
 
--- and the one that does not
+-- and those that read nothing
 abbrev pub program : App
-program = with_subcommand readers (numbered (codes "make"))
+program = with_subcommand (with_subcommand readers (numbered (codes "make"))) (numbered (codes "soak"))

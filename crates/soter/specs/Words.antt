@@ -4,7 +4,7 @@ use Rattle.std.specs.Fmt.{decimal}
 use Rattle.std.specs.String.{string_bytes}
 use Rattle.std.proofs.Common.{Global}
 use Rattle.soter.specs.declared.words.Command.{Command}
-use Rattle.soter.specs.declared.words.Command.TheVariants.{Check, Fly, Replay, Format, Certify, Make}
+use Rattle.soter.specs.declared.words.Command.TheVariants.{Check, Fly, Replay, Format, Certify, Make, Soak}
 
 -- the word of a command
 abbrev pub word_of : Command → List ℕ
@@ -14,6 +14,7 @@ word_of Replay = codes "replay"
 word_of Format = codes "format"
 word_of Certify = codes "certify"
 word_of (Make n seed) = codes "make"
+word_of (Soak n seed) = codes "soak"
 
 -- the numbers behind it
 abbrev pub numbers_of : Command → List ℕ
@@ -23,6 +24,7 @@ numbers_of Replay = []
 numbers_of Format = []
 numbers_of Certify = []
 numbers_of (Make n seed) = n ∷ seed ∷ []
+numbers_of (Soak n seed) = n ∷ seed ∷ []
 
 -- 1 to 100 modules, and a seed of at most 10^12
 abbrev pub AreAsked : ℕ → ℕ → Type 0
@@ -35,6 +37,7 @@ IsInForm Replay = Unit {0}
 IsInForm Format = Unit {0}
 IsInForm Certify = Unit {0}
 IsInForm (Make n seed) = AreAsked n seed
+IsInForm (Soak n seed) = AreAsked n seed
 
 -- the words ask for this command: they are its word, and behind it its numbers in decimal, without zeros in front
 abbrev pub Asks : List (String Global) → Command → Type 0
@@ -48,6 +51,7 @@ Reads Replay = Unit {0}
 Reads Format = Unit {0}
 Reads Certify = Unit {0}
 Reads (Make n seed) = ⊥
+Reads (Soak n seed) = ⊥
 
 -- the words ask for a command that reads, or for none that does
 abbrev pub AsksReader : List (String Global) → Type 0
@@ -72,3 +76,4 @@ IsNumbered words Replay = Unit {0}
 IsNumbered words Format = Unit {0}
 IsNumbered words Certify = Unit {0}
 IsNumbered words (Make n seed) = HasNumbers words n seed
+IsNumbered words (Soak n seed) = HasNumbers words n seed

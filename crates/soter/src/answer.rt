@@ -1,15 +1,16 @@
 //! Answers: a status with the text that is written with it.
 
 ghost use Rattle.std.specs.Prelude.{◌≡◌, [], IfOk};
+ghost use Rattle.std.specs.String.{string_bytes};
 ghost use Rattle.sot_tree.specs.TreeViews.{program_view};
 ghost use Rattle.sot_lang.specs.CertRules.{FitsTables};
 ghost use Rattle.sot_print.specs.Canonical.{canonical};
 ghost use Rattle.sot_rta.specs.Refused.{refusal_view};
 ghost use Rattle.sot_world.specs.Opens.{IsFirstOutside};
 ghost use Rattle.sot_flight.specs.Fits.{FitsFlight};
-ghost use Rattle.sot_trace.specs.Traces.{trace_text};
 ghost use Rattle.soter.specs.ReplayTexts.{legal_text, kind_word, refused_line_text};
 ghost use Rattle.soter.specs.Answers.{IsOutsideOf, Replies};
+ghost use Rattle.soter.specs.Steps.{told_text};
 ghost use Rattle.soter.specs.Words.{AreAsked};
 ghost use Rattle.soter.specs.declared.words.Command.TheVariants.{Make as MakeCommand};
 ghost use Rattle.sot_report.specs.FaultTexts.{fault_text};
@@ -17,6 +18,7 @@ ghost use Rattle.sot_report.specs.RefusalTexts.{refusal_text};
 ghost use Rattle.sot_report.specs.AcceptedTexts.{accepted_text};
 ghost use Rattle.sot_certified_text.specs.FailTexts.{fail_text};
 
+use crate::telling::Telling;
 use sot_board::Board;
 use sot_certify::CertifyFail;
 use sot_flight::Flight;
@@ -26,6 +28,7 @@ use sot_print::print;
 use sot_replay::LineKind;
 use sot_report::{Fault, start_text};
 use sot_rta::Refusal;
+use sot_summary::{board_summary, summary_text};
 use sot_trace::board_text;
 use sot_tree::Program;
 use std::alloc::{AllocError, Global};
@@ -94,12 +97,22 @@ pub fn refused(alloc: Global, program: &Typed, refusal: &Refusal) -> Result<Answ
     Ok(Answer { status: 1, text })
 }
 
-/// Status 0: the trace of what was flown.
-pub fn traced(alloc: Global, board: &Board<'_>) -> Result<Answer, AllocError>
-    ensures status { IfOk result (λ answer. answer.status ≡ 0) }
-    ensures text { IfOk result (λ answer. answer.text.items ≡ trace_text board.now.accepted.program board.now.plan.start board.now.entries) }
+// The trace or the summary of what was flown.
+fn told_text(alloc: Global, telling: Telling, board: &Board<'_>) -> Result<String, AllocError>
+    ensures { IfOk result (λ text. string_bytes text ≡ told_text telling board.now.accepted.program board.now.plan board.now.entries) }
 {
-    let text = board_text(alloc, board)?;
+    match telling {
+        Telling::Trace => board_text(alloc, board),
+        Telling::Summed => summary_text(alloc, &board_summary(board)),
+    }
+}
+
+/// Status 0: what is told of what was flown.
+pub fn told(alloc: Global, telling: Telling, board: &Board<'_>) -> Result<Answer, AllocError>
+    ensures status { IfOk result (λ answer. answer.status ≡ 0) }
+    ensures text { IfOk result (λ answer. answer.text.items ≡ told_text telling board.now.accepted.program board.now.plan board.now.entries) }
+{
+    let text = told_text(alloc, telling, board)?;
     Ok(Answer {
         status: 0,
         text: text.into_bytes(),

@@ -1,13 +1,13 @@
-//! `fly`: the trace of a mission's flight.
+//! `fly`: the trace of a mission's flight. `soak` does the same on a text that is made, and tells the flight's summary.
 
 ghost use Rattle.std.specs.Prelude.{◌≤◌, length, IfOk};
 ghost use Rattle.sot_lang.specs.CertRules.{FitsTables};
 ghost use Rattle.sot_flight.specs.Fits.{FitsFlight};
-ghost use Rattle.soter.specs.Answers.{input_limit, Replies};
-ghost use Rattle.soter.specs.Steps.{JudgesFlight, JudgesFlown};
-ghost use Rattle.soter.specs.declared.words.Command.TheVariants.{Fly as FlyCommand};
+ghost use Rattle.soter.specs.Answers.{input_limit};
+ghost use Rattle.soter.specs.Steps.{JudgesFlight, JudgesFlown, FliesBytes};
 
-use crate::answer::{Answer, faulty, outside, refused, traced};
+use crate::answer::{Answer, faulty, outside, refused, told};
+use crate::telling::Telling;
 use sot_board::Board;
 use sot_compose::{CheckFail, check_all};
 use sot_flight::Flight;
@@ -24,14 +24,15 @@ fn fly_accepted(
     alloc: Global,
     accepted: &Accepted<'_>,
     flight: &Flight,
+    telling: Telling,
 ) -> Result<Answer, AllocError>
     requires { FitsFlight accepted.now.program 0 flight.now }
-    ensures { IfOk result (λ answer. JudgesFlight accepted.now.program accepted.now.cert.jitter flight.now answer.status answer.text.items) }
+    ensures { IfOk result (λ answer. JudgesFlight telling accepted.now.program accepted.now.cert.jitter flight.now answer.status answer.text.items) }
 {
     match Board::open(alloc, accepted, flight) {
         Ok(mut board) => {
             fly_to_the_end(&mut board, flight);
-            traced(alloc, &board)
+            told(alloc, telling, &board)
         }
         Err(OpenFail::NotSafer { module }) => outside(alloc, accepted.typed(), flight, module),
         Err(OpenFail::Memory) => Err(AllocError),
@@ -39,26 +40,32 @@ fn fly_accepted(
 }
 
 // Checks a program with its certificate, and flies it where it is accepted.
-fn judge(alloc: Global, program: &Typed, cert: &Cert, flight: &Flight) -> Result<Answer, AllocError>
+fn judge(
+    alloc: Global,
+    program: &Typed,
+    cert: &Cert,
+    flight: &Flight,
+    telling: Telling,
+) -> Result<Answer, AllocError>
     requires cert { FitsTables program.now cert.now }
     requires flight { FitsFlight program.now 0 flight.now }
-    ensures { IfOk result (λ answer. JudgesFlown program.now cert.now flight.now answer.status answer.text.items) }
+    ensures { IfOk result (λ answer. JudgesFlown telling program.now cert.now flight.now answer.status answer.text.items) }
 {
     match check_all(program, cert) {
-        Ok(accepted) => fly_accepted(alloc, &accepted, flight),
+        Ok(accepted) => fly_accepted(alloc, &accepted, flight, telling),
         Err(CheckFail::Refused(refusal)) => refused(alloc, program, &refusal),
         Err(CheckFail::Memory) => Err(AllocError),
     }
 }
 
-/// Flies a mission: reads its sections, its program, its certificate and its flight, checks it, and makes the trace.
-pub fn fly(alloc: Global, bytes: &[u8]) -> Result<Answer, AllocError>
+/// Flies a mission: reads its sections, its program, its certificate and its flight, checks it, flies it, and tells what was flown.
+pub fn fly(alloc: Global, bytes: &[u8], telling: Telling) -> Result<Answer, AllocError>
     requires { length bytes.now ≤ input_limit }
-    ensures { IfOk result (λ answer. Replies FlyCommand bytes.now answer.status answer.text.items) }
+    ensures { IfOk result (λ answer. FliesBytes telling bytes.now answer.status answer.text.items) }
 {
     match load(alloc, bytes, Need::Fly, 0) {
         Ok(loaded) => match &loaded.flight {
-            Some(flight) => judge(alloc, &loaded.program, &loaded.cert, flight),
+            Some(flight) => judge(alloc, &loaded.program, &loaded.cert, flight, telling),
             // A mission that is to be flown has a flight.
             None => unreachable!(),
         },

@@ -24,6 +24,8 @@ pub enum Command {
     Certify,
     /// A mission of so many modules for this seed.
     Make { n: u32, seed: u64 },
+    /// And what is counted of its flight.
+    Soak { n: u32, seed: u64 },
 }
 
 /// Why no command is known.
@@ -95,12 +97,13 @@ fn readers<'a>(alloc: Global) -> Result<clap::Command<'a>, AllocError>
     missions(alloc)?.subcommand(format)?.subcommand(certify)
 }
 
-// And the one that does not.
+// And those that read nothing.
 fn program<'a>(alloc: Global) -> Result<clap::Command<'a>, AllocError>
     ensures { IfOk result (λ command. app_of command ≡ program) }
 {
     let make = numbered(alloc, "make")?;
-    readers(alloc)?.subcommand(make)
+    let soak = numbered(alloc, "soak")?;
+    readers(alloc)?.subcommand(make)?.subcommand(soak)
 }
 
 // What `clap` makes of the words.
@@ -177,6 +180,11 @@ fn found(alloc: Global, matches: &ArgMatches<'_>, words: &[String]) -> Result<Co
     } else if name == "make" {
         match numbers(alloc, words) {
             Ok((n, seed)) => Ok(Command::Make { n, seed }),
+            Err(fail) => Err(fail),
+        }
+    } else if name == "soak" {
+        match numbers(alloc, words) {
+            Ok((n, seed)) => Ok(Command::Soak { n, seed }),
             Err(fail) => Err(fail),
         }
     } else {

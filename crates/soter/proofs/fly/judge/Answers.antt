@@ -9,10 +9,10 @@ use Rattle.soter.proofs.fly.judge.Goals as goal
 pub returns-in-Ok : goal.returns-in-Ok
 returns-in-Ok c =
     let answer = c.in-Ok.ensures.answer in
-    let judges = subst (λ (x : Admitted). IfOk c.fly_accepted.result (λ a. JudgesFlight x.program x.cert.jitter c.args.flight.now a.status a.text.items)) answer.0 c.fly_accepted.ensures in
-    flight_result c.fly_accepted.result c.args.program.now c.args.cert.now c.args.flight.now answer.1 c.in-Ok.ensures.safe judges
+    let judges = subst (λ (x : Admitted). IfOk c.fly_accepted.result (λ a. JudgesFlight c.args.telling x.program x.cert.jitter c.args.flight.now a.status a.text.items)) answer.0 c.fly_accepted.ensures in
+    flight_result c.fly_accepted.result c.args.telling c.args.program.now c.args.cert.now c.args.flight.now answer.1 c.in-Ok.ensures.safe judges
 
 pub returns-in-Err-Refused : goal.returns-in-Err-Refused
 returns-in-Err-Refused c =
     let fails = subst (Fails c.args.program.now c.args.cert.now) c.in-Err-Refused.field-0-is c.in-Err-Refused.ensures.answer in
-    unflown_result c.refused.result c.args.program.now c.args.cert.now c.args.flight.now (refusal_view c.in-Err-Refused.refusal) fails c.refused.ensures.status c.refused.ensures.text
+    unflown_result c.refused.result c.args.telling c.args.program.now c.args.cert.now c.args.flight.now (refusal_view c.in-Err-Refused.refusal) fails c.refused.ensures.status c.refused.ensures.text

@@ -1,0 +1,14 @@
+use Rattle.std.proofs.Common.{ℕ, slice_index_or, arith}
+use Rattle.std.proofs.lemmas.Option.{slice_get-get_or}
+use Rattle.sot_trace.proofs.Drafts.{refused_more}
+use Rattle.sot_summary.proofs.refused.refused_in_draft.Goals as goal
+
+pub loop-i-preserved : goal.loop-i-preserved
+loop-i-preserved c =
+    let k : ℕ = slice_index_or c.args.writes.now c.loop-i.i 0 in
+    let at = slice_get-get_or c.args.writes.now c.loop-i.i 0 c.loop-i-test.true in
+    let refused = refused_more c.args.p.now c.args.writes.now c.args.draft.now c.loop-i.i k c.get.result at c.get.ensures in
+    record {
+      refused = omega (arith, refused, c.refused_in_slot-refused.ensures.refused, c.loop-i.invariant.refused);
+      few = omega (arith, c.refused_in_slot-refused.ensures.few, c.loop-i.invariant.few);
+    }

@@ -1,0 +1,49 @@
+//! Plants outside their safe regions.
+
+ghost use Rattle.std.specs.Prelude.{◌≡◌, ◌<◌, ◌≤◌, [], length, slice_index_or};
+ghost use Rattle.sot_board.specs.Counts.{state_count};
+ghost use Rattle.sot_summary.specs.Outside.{is_in_region, points_in, is_outside};
+
+use sot_box::{Point, Region};
+use sot_lang::{PlantInfo, Typed};
+
+// The states of a plant, of those of all plants, one plant after another.
+fn states_of<'s>(plants: &[PlantInfo], states: &'s [i64], plant: usize) -> &'s [i64]
+    requires there { plant < length plants.now }
+    requires size { length states.now ≡ state_count plants.now }
+    ensures { result.now ≡ slice_index_or (points_in plants.now states.now) plant [] }
+{
+    let mut from = 0;
+    for i in 0..plant {
+        from += plants[i].states.len();
+    }
+    &states[from..from + plants[plant].states.len()]
+}
+
+// Whether a point is in a region.
+fn is_in_region(region: &Region, at: &[i64]) -> bool
+    requires width { length at.now ≡ region.now.width }
+    requires some { 0 < length at.now }
+    requires few { length at.now ≤ 4 }
+    ensures { result ≡ is_in_region region.now.boxes at.now }
+{
+    match Point::of(at) {
+        Some(point) => region.has(&point),
+        None => unreachable!(),
+    }
+}
+
+/// Whether some module's plant is outside the module's safe region.
+pub fn is_outside(p: &Typed, states: &[i64]) -> bool
+    requires { length states.now ≡ state_count p.now.plants }
+    ensures { result ≡ is_outside p.now states.now }
+{
+    for m in 0..p.modules.len() {
+        let info = &p.modules[m];
+        let at = states_of(&p.plants, states, info.plant as usize);
+        if !is_in_region(&info.safe, at) {
+            return true;
+        }
+    }
+    false
+}
