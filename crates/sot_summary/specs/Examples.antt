@@ -32,11 +32,12 @@ line_history =
 
 abbrev pub LineSummary : Global → Type 0
 LineSummary g =
-    summary_of (line g) (flight_of 3) line_history
-    ≡ record { modules = 1; nodes = 2; horizon = 3; firings = 4; ticks = 3; refused = 1; outside = 2; sum = pos 40 }
+    summary_of (line g) (flight_of 5) line_history
+    ≡ record { modules = 1; nodes = 2; horizon = 5; firings = 4; ticks = 3; refused = 1; outside = 2; sum = pos 40 }
 
 module _ (g : Global) where
-  -- the running example with a second plant, of two states, whose module has a safe region of two boxes
+  -- the running example with a second plant, of two states, whose module has a safe region of two boxes; the modules stand in the other order than
+  -- their plants
   abbrev pub arm : PlantInfo
   arm = record (pos_plant g) { name = codes "arm"; states = vec g (record { name = codes "x"; scale = 0 } ∷ record { name = codes "v"; scale = 0 } ∷ []) refl }
 
@@ -48,7 +49,7 @@ module _ (g : Global) where
   }
 
   abbrev pub two_plants : Tables
-  two_plants = record (line g) { plants = pos_plant g ∷ arm ∷ []; modules = nav g ∷ hold ∷ [] }
+  two_plants = record (line g) { plants = pos_plant g ∷ arm ∷ []; modules = hold ∷ nav g ∷ [] }
 
 -- a tick of both plants
 abbrev pub both : ℕ → ℤ → ℤ → ℤ → Logged
@@ -69,5 +70,5 @@ abbrev pub SaidInOneLine : Type 0
 SaidInOneLine =
     (summary_text (record { modules = 2; nodes = 4; horizon = 1000; firings = 2002; ticks = 1000; refused = 0; outside = 0; sum = pos 710 })
     ≡ codes "soak modules 2 nodes 4 horizon 1000 firings 2002 ticks 1000 refused 0 outside 0 sum 710\n")
-    × (summary_text (record { modules = 1; nodes = 2; horizon = 3; firings = 4; ticks = 3; refused = 1; outside = 2; sum = negsuc 2 })
-    ≡ codes "soak modules 1 nodes 2 horizon 3 firings 4 ticks 3 refused 1 outside 2 sum -3\n")
+    × (summary_text (record { modules = 1; nodes = 2; horizon = 5; firings = 4; ticks = 3; refused = 1; outside = 2; sum = negsuc 2 })
+    ≡ codes "soak modules 1 nodes 2 horizon 5 firings 4 ticks 3 refused 1 outside 2 sum -3\n")

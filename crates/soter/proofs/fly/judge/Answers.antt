@@ -1,6 +1,9 @@
+use Rattle.std.specs.Prelude.{◌≡◌}
 use Rattle.std.proofs.Common.{subst, IfOk}
 use Rattle.sot_tube.specs.Admitted.{Admitted}
 use Rattle.sot_rta.specs.Refused.{refusal_view}
+use Rattle.sot_rta.specs.declared.refusal.Refusal.{Refusal}
+use Rattle.sot_report.specs.RefusalTexts.{refusal_text}
 use Rattle.sot_compose.specs.Accepting.{Fails}
 use Rattle.soter.specs.Steps.{JudgesFlight}
 use Rattle.soter.proofs.Forms.{flight_result, unflown_result}
@@ -15,4 +18,5 @@ returns-in-Ok c =
 pub returns-in-Err-Refused : goal.returns-in-Err-Refused
 returns-in-Err-Refused c =
     let fails = subst (Fails c.args.program.now c.args.cert.now) c.in-Err-Refused.field-0-is c.in-Err-Refused.ensures.answer in
-    unflown_result c.refused.result c.args.telling c.args.program.now c.args.cert.now c.args.flight.now (refusal_view c.in-Err-Refused.refusal) fails c.refused.ensures.status c.refused.ensures.text
+    let text = subst (λ (v : Refusal). IfOk c.refused.result (λ a. a.text.items ≡ refusal_text c.args.program.now (refusal_view v))) c.in-Err-Refused.refusal-is c.refused.ensures.text in
+    unflown_result c.refused.result c.args.telling c.args.program.now c.args.cert.now c.args.flight.now (refusal_view c.in-Err-Refused.refusal) fails c.refused.ensures.status text

@@ -1,0 +1,9 @@
+use Rattle.std.proofs.Common.{◌∙◌, subst, IfOk, List, ℕ}
+use Rattle.soter.specs.declared.telling.Telling.TheVariants.{Summed}
+use Rattle.soter.specs.Steps.{FliesBytes}
+use Rattle.soter.proofs.soak.soak.Goals as goal
+
+-- what is said of the text is said of the mission that is made
+pub returns : goal.returns
+returns c =
+    subst (λ (bytes : List ℕ). IfOk c.fly.result (λ a. FliesBytes Summed bytes a.status a.text.items)) (c.as_bytes.ensures.value ∙ c.in_ok-text.ensures) c.fly.ensures
