@@ -18,7 +18,7 @@ use Rattle.sot_expression.proofs.ReadSteps.{bind_ok, unless_ok, chosen_by, negat
 use Rattle.sot_expression.proofs.Founds.{Found, Reads, looser, made, if_ok, chain_ok, numeral_found, truth_found, named_found, within_ok, room_inside, held_found, abs_found, pair_found, clamp_found, rescale_found}
 
 -- an atom, by what it begins with
-atom_ok : (r : ℕ) (held : Bool) (below : ℕ → Reader) (inner : Reader) → ((k : ℕ) → Reads k r false (below k)) → Reads 7 (room_inside r held) true inner → (o : Opening) (t : Lexeme) (ts : List Lexeme) (x : Part × List Lexeme) → IsOpening t o
+pub atom_ok : (r : ℕ) (held : Bool) (below : ℕ → Reader) (inner : Reader) → ((k : ℕ) → Reads k r false (below k)) → Reads 7 (room_inside r held) true inner → (o : Opening) (t : Lexeme) (ts : List Lexeme) (x : Part × List Lexeme) → IsOpening t o
     → atom_from o (record { room = suc r; held = held; below = below; inner = inner }) (t ∷ ts) ≡ Ok x → Found 0 (suc r) held (t ∷ ts) x
 unfolding atom_from
 atom_ok r held below inner low reads openings.Number t ts x word e = numeral_found r held (t ∷ ts) x e
@@ -59,7 +59,7 @@ minus_levels t f r le = elim (cases_Bool (is_numeral f)) [
   | inr no_ ↦ rw no_ (omega (arith, le))
 ]
 
-minus_ok : (r : ℕ) (held : Bool) (operand : Reader) → Reads 0 r false operand → (t : Lexeme) (ts : List Lexeme) (x : Part × List Lexeme) → IsSign (codes "-") t → minus_at (suc r) t operand ts ≡ Ok x → Found 0 (suc r) held (t ∷ ts) x
+pub minus_ok : (r : ℕ) (held : Bool) (operand : Reader) → Reads 0 r false operand → (t : Lexeme) (ts : List Lexeme) (x : Part × List Lexeme) → IsSign (codes "-") t → minus_at (suc r) t operand ts ≡ Ok x → Found 0 (suc r) held (t ∷ ts) x
 unfolding minus_at
 minus_ok r held operand reads t ts x word e =
     chosen_by (begins is_number ts) _ _ x (Found 0 (suc r) held (t ∷ ts) x) e
@@ -75,7 +75,7 @@ minus_ok r held operand reads t ts x word e =
     (ap (λ (q : Part). over (negated q.tree t.at) q.levels) fp.part ∙ negated_is t fp.phrase p.0.1 fp.is no_number)
     p.2)
 
-unary_ok : (r : ℕ) (held : Bool) (below : ℕ → Reader) (inner : Reader) → ((k : ℕ) → Reads k r false (below k)) → Reads 7 (room_inside r held) true inner → Reads 0 (suc r) held (unary_at (record { room = suc r; held = held; below = below; inner = inner }))
+pub unary_ok : (r : ℕ) (held : Bool) (below : ℕ → Reader) (inner : Reader) → ((k : ℕ) → Reads k r false (below k)) → Reads 7 (room_inside r held) true inner → Reads 0 (suc r) held (unary_at (record { room = suc r; held = held; below = below; inner = inner }))
 unfolding unary_at atom_at atom_from
 unary_ok r held below inner low reads [] x e = absurd cc
 unary_ok r held below inner low reads (t ∷ ts) x e =
@@ -110,13 +110,13 @@ choice_ok r held part next reads after (t ∷ ts) x e =
     (λ b e1. if_ok r held part reads t ts x (keyword_ok (codes "if") t b) (within_ok (suc r) (t ∷ ts) (chosen_at part (t ∷ ts)) x e1))
     (λ _ e1. looser 6 7 (suc r) held (t ∷ ts) x (omega arith) (after (t ∷ ts) x e1))
 
-left_least : (k a : ℕ) → a ≤ k → a ≤ left_tier (suc k)
+pub left_least : (k a : ℕ) → a ≤ k → a ≤ left_tier (suc k)
 left_least k a le = elim (cases_Bool (suc k == 3)) [
   | inl three ↦ (let is : suc k ≡ 3 = grind (arith, nat_tests) in rw three (omega arith))
   | inr other ↦ rw other (omega arith)
 ]
 
-once : (tier room : ℕ) → tier ≡ 3 → turns tier room ≤ 1
+pub once : (tier room : ℕ) → tier ≡ 3 → turns tier room ≤ 1
 once tier room e = rw e (omega arith)
 
 chain_tier_ok : (r k : ℕ) (held : Bool) (here right : Reader) → Reads k (suc r) held here → Reads k r false right → Reads (suc k) (suc r) held (λ ts. here ts >>= λ p. chain_at (turns (suc k) (suc r)) (suc r) (suc k) right p.0 p.1)
@@ -128,7 +128,7 @@ chain_tier_ok r k held here right reads low ts x e =
     let last = chain_ok (turns (suc k) (suc r)) r (suc k) k held right low (omega arith) (once (suc k) (suc r)) fp.phrase fp.is (omega (arith, fp.low)) (λ _. low_enough) fp.fits p.0.1 x next in
     record { phrase = last.phrase; is = last.is; low = last.low; tokens = fp.tokens ∙ last.tokens; part = last.part; fits = last.fits }
 
-tier_ok : (k r : ℕ) (held : Bool) (below : ℕ → Reader) (inner : Reader) → ((j : ℕ) → Reads j r false (below j)) → Reads 7 (room_inside r held) true inner → Reads k (suc r) held (tier_at k (record { room = suc r; held = held; below = below; inner = inner }))
+pub tier_ok : (k r : ℕ) (held : Bool) (below : ℕ → Reader) (inner : Reader) → ((j : ℕ) → Reads j r false (below j)) → Reads 7 (room_inside r held) true inner → Reads k (suc r) held (tier_at k (record { room = suc r; held = held; below = below; inner = inner }))
 unfolding tier_at
 tier_ok zero r held below inner low reads ts x e = unary_ok r held below inner low reads ts x e
 tier_ok (suc k) r held below inner low reads ts x e =
@@ -139,7 +139,7 @@ tier_ok (suc k) r held below inner low reads ts x e =
     (λ b e2. let is : k ≡ 6 = grind (arith, nat_tests) in looser 7 (suc k) (suc r) held ts x (omega arith) (choice_ok r held (below 7) (tier_at k a) (low 7) (subst (λ j. Reads j (suc r) held (tier_at k a)) is (tier_ok k r held below inner low reads)) ts x e2))
     (λ _ e2. chain_tier_ok r k held (tier_at k a) (below k) (tier_ok k r held below inner low reads) (low k) ts x e2))
 
-part_ok : (room : ℕ) (held : Bool) (tier : ℕ) → Reads tier room held (part_at room held tier)
+pub part_ok : (room : ℕ) (held : Bool) (tier : ℕ) → Reads tier room held (part_at room held tier)
 unfolding part_at
 part_ok zero held tier ts x e = absurd cc
 part_ok (suc r) true tier ts x e = tier_ok tier r true (part_at r false) (part_at r true 7) (part_ok r false) (part_ok r true 7) ts x e

@@ -13,7 +13,7 @@ use Rattle.sot_parser.proofs.ListsSound.{Each, all_sound, all_any_sound, separat
 use Rattle.sot_parser.proofs.PiecesSound.{side_sound, fix_sound, scalar_sound, field_sound, const_sound, timing_sound, role_sound}
 use Rattle.sot_parser.proofs.StatementsSound.{tree_sound, body_sound}
 
-fields_sound : Sound spelled_shape shape_of Any fields_at
+pub fields_sound : Sound spelled_shape shape_of Any fields_at
 unfolding fields_at
 fields_sound =
     take (sign_sound (codes "{")) _ _ (λ opening _.
@@ -21,15 +21,15 @@ fields_sound =
     take (sign_sound (codes "}")) _ _ (λ closing _.
     done spelled_shape shape_of (a_record opening items closing))))
 
-one_scalar_sound : Sound spelled_shape shape_of Any one_scalar_at
+pub one_scalar_sound : Sound spelled_shape shape_of Any one_scalar_at
 unfolding one_scalar_at
 one_scalar_sound = take scalar_sound _ _ (λ s _. done spelled_shape shape_of (one_scalar s))
 
-shape_sound : Sound spelled_shape shape_of Any shape_at
+pub shape_sound : Sound spelled_shape shape_of Any shape_at
 unfolding shape_at
 shape_sound = either (begins (is_sign (codes "{"))) _ _ _ fields_sound one_scalar_sound
 
-consts_sound : Sound spelled_init init_of Any consts_at
+pub consts_sound : Sound spelled_init init_of Any consts_at
 unfolding consts_at
 consts_sound =
     take (sign_sound (codes "{")) _ _ (λ opening _.
@@ -37,23 +37,23 @@ consts_sound =
     take (sign_sound (codes "}")) _ _ (λ closing _.
     done spelled_init init_of (consts opening items closing))))
 
-one_const_sound : Sound spelled_init init_of Any one_const_at
+pub one_const_sound : Sound spelled_init init_of Any one_const_at
 unfolding one_const_at
 one_const_sound = take const_sound _ _ (λ c _. done spelled_init init_of (one_const c))
 
-init_sound : Sound spelled_init init_of Any init_at
+pub init_sound : Sound spelled_init init_of Any init_at
 unfolding init_at
 init_sound = either (begins (is_sign (codes "{"))) _ _ _ consts_sound one_const_sound
 
-environment_sound : Sound spelled_outside is_given Any environment_at
+pub environment_sound : Sound spelled_outside is_given Any environment_at
 unfolding environment_at
 environment_sound = take (keyword_sound (codes "environment")) _ _ (λ word _. done spelled_outside is_given (Some word))
 
-outside_sound : Sound spelled_outside is_given Any outside_at
+pub outside_sound : Sound spelled_outside is_given Any outside_at
 unfolding outside_at
 outside_sound = either (begins (is_keyword (codes "environment"))) _ _ _ environment_sound (done spelled_outside is_given None)
 
-topic_sound : Sound spelled_topic topic_of Any topic_at
+pub topic_sound : Sound spelled_topic topic_of Any topic_at
 unfolding topic_at
 topic_sound =
     take outside_sound _ _ (λ environment _.
@@ -66,19 +66,19 @@ topic_sound =
     take (sign_sound (codes ";")) _ _ (λ semicolon _.
     done spelled_topic topic_of (record { environment = environment; word = word; name = name; colon = colon; shape = shape; equals = equals; init = init; semicolon = semicolon })))))))))
 
-whole_sound : Sound spelled_scale scale_of Any whole_at
+pub whole_sound : Sound spelled_scale scale_of Any whole_at
 unfolding whole_at
 whole_sound = take (keyword_sound (codes "int")) _ _ (λ word _. done spelled_scale scale_of (whole word))
 
-scaled_sound : Sound spelled_scale scale_of Any scaled_at
+pub scaled_sound : Sound spelled_scale scale_of Any scaled_at
 unfolding scaled_at
 scaled_sound = take fix_sound _ _ (λ f _. done spelled_scale scale_of (scaled f))
 
-scale_sound : Sound spelled_scale scale_of Any scale_at
+pub scale_sound : Sound spelled_scale scale_of Any scale_at
 unfolding scale_at
 scale_sound = either (begins (is_keyword (codes "int"))) _ _ _ whole_sound scaled_sound
 
-state_sound : Sound spelled_state state_of Any state_at
+pub state_sound : Sound spelled_state state_of Any state_at
 unfolding state_at
 state_sound =
     take name_sound _ _ (λ name _.
@@ -89,7 +89,7 @@ state_sound =
 abbrev pub NextFits : ℕ → NextForm → Type 0
 NextFits room n = next_levels n ≤ room
 
-next_sound : (room : ℕ) → Sound spelled_next next_of (NextFits room) (next_at room)
+pub next_sound : (room : ℕ) → Sound spelled_next next_of (NextFits room) (next_at room)
 unfolding next_at
 next_sound room =
     take (keyword_sound (codes "next")) _ _ (λ word _.
@@ -103,10 +103,10 @@ pub most_fit : {F : Type 0} (levels : F → ℕ) (room : ℕ) (fs : List F) → 
 most_fit levels room [] all = omega arith
 most_fit levels room (f ∷ fs) all = omega (arith, all.0, most_fit levels room fs all.1)
 
-names_sound : (text : List ℕ) → Sound (maybe (spelled_clause {text = text} spelled_name)) (clause_or_none name_of) Any (optional_at text name_at)
+pub names_sound : (text : List ℕ) → Sound (maybe (spelled_clause {text = text} spelled_name)) (clause_or_none name_of) Any (optional_at text name_at)
 names_sound text = optional_sound spelled_name name_of text name_at name_sound
 
-signals_sound : Sound spelled_signals signals_of Any signals_at
+pub signals_sound : Sound spelled_signals signals_of Any signals_at
 unfolding signals_at
 signals_sound =
     take (clause_sound spelled_state state_of (codes "state") state_at state_sound) _ _ (λ states _.
@@ -115,10 +115,10 @@ signals_sound =
     take (optional_sound spelled_field field_of (codes "noise") named_scalar_at field_sound) _ _ (λ noise _.
     done spelled_signals signals_of (record { states = states; inputs = inputs; sees = sees; noise = noise })))))
 
-abbrev PlantFits : ℕ → PlantForm → Type 0
+abbrev pub PlantFits : ℕ → PlantForm → Type 0
 PlantFits room p = plant_levels p ≤ room
 
-plant_sound : (room : ℕ) → Sound spelled_plant plant_of (PlantFits room) (plant_at room)
+pub plant_sound : (room : ℕ) → Sound spelled_plant plant_of (PlantFits room) (plant_at room)
 unfolding plant_at
 plant_sound room =
     take (keyword_sound (codes "plant")) _ _ (λ word _.
@@ -130,7 +130,7 @@ plant_sound room =
     done_within spelled_plant plant_of (PlantFits room) (record { word = word; name = name; opening = opening; states = s.states; inputs = s.inputs; sees = s.sees; noise = s.noise; next = next; closing = closing })
     (most_fit next_levels room next all)))))))
 
-local_sound : Sound spelled_local local_of Any local_at
+pub local_sound : Sound spelled_local local_of Any local_at
 unfolding local_at
 local_sound =
     take (keyword_sound (codes "local")) _ _ (λ word _.
@@ -142,7 +142,7 @@ local_sound =
     take (sign_sound (codes ";")) _ _ (λ semicolon _.
     done spelled_local local_of (record { word = word; name = name; colon = colon; scalar = scalar; equals = equals; init = init; semicolon = semicolon }))))))))
 
-head_sound : Sound spelled_head head_of Any head_at
+pub head_sound : Sound spelled_head head_of Any head_at
 unfolding head_at
 head_sound =
     take name_sound _ _ (λ name _.
@@ -152,10 +152,10 @@ head_sound =
     take (names_sound (codes "writes")) _ _ (λ writes _.
     done spelled_head head_of (record { name = name; timing = timing; opening = opening; reads = reads; writes = writes }))))))
 
-abbrev CodeFits : ℕ → CodeForm → Type 0
+abbrev pub CodeFits : ℕ → CodeForm → Type 0
 CodeFits room c = block_levels c.body ≤ room
 
-code_sound : (room : ℕ) → Sound spelled_code code_of (CodeFits room) (code_at room)
+pub code_sound : (room : ℕ) → Sound spelled_code code_of (CodeFits room) (code_at room)
 unfolding code_at
 code_sound room =
     take (all_any_sound spelled_local local_of (begins (is_keyword (codes "local"))) local_at local_sound) _ _ (λ locals _.
@@ -163,10 +163,10 @@ code_sound room =
     take (body_sound room) _ _ (λ body fits.
     done_within spelled_code code_of (CodeFits room) (record { locals = locals; do_word = do_word; body = body }) fits)))
 
-abbrev CodedFits : ℕ → CodedForm → Type 0
+abbrev pub CodedFits : ℕ → CodedForm → Type 0
 CodedFits room n = block_levels n.body ≤ room
 
-coded_sound : (room : ℕ) → Sound spelled_coded coded_of (CodedFits room) (coded_at room)
+pub coded_sound : (room : ℕ) → Sound spelled_coded coded_of (CodedFits room) (coded_at room)
 unfolding coded_at
 coded_sound room =
     take (keyword_sound (codes "node")) _ _ (λ word _.
@@ -176,7 +176,7 @@ coded_sound room =
     done_within spelled_coded coded_of (CodedFits room)
     (record { word = word; name = h.name; timing = h.timing; opening = h.opening; reads = h.reads; writes = h.writes; locals = c.locals; do_word = c.do_word; body = c.body; closing = closing }) fits))))
 
-external_sound : Sound spelled_external external_of Any external_at
+pub external_sound : Sound spelled_external external_of Any external_at
 unfolding external_at
 external_sound =
     take (keyword_sound (codes "external")) _ _ (λ word _.
@@ -184,7 +184,7 @@ external_sound =
     take (sign_sound (codes "}")) _ _ (λ closing _.
     done spelled_external external_of (record { word = word; name = h.name; timing = h.timing; opening = h.opening; reads = h.reads; writes = h.writes; closing = closing }))))
 
-box_sound : Sound spelled_box box_of Any box_at
+pub box_sound : Sound spelled_box box_of Any box_at
 unfolding box_at
 box_sound =
     take (sign_sound (codes "[")) _ _ (λ opening _.
@@ -192,15 +192,15 @@ box_sound =
     take (sign_sound (codes "]")) _ _ (λ closing _.
     done spelled_box box_of (record { opening = opening; sides = sides; closing = closing }))))
 
-no_box_sound : Sound spelled_region region_of Any no_box_at
+pub no_box_sound : Sound spelled_region region_of Any no_box_at
 unfolding no_box_at
 no_box_sound = take (keyword_sound (codes "none")) _ _ (λ word _. done spelled_region region_of (no_box word))
 
-region_sound : Sound spelled_region region_of Any region_at
+pub region_sound : Sound spelled_region region_of Any region_at
 unfolding region_at
 region_sound = either (begins (is_keyword (codes "none"))) _ _ _ no_box_sound (close (separated_sound spelled_box box_of (codes "|") box_at box_sound) _ (λ boxes _ us. here spelled_region region_of (some_boxes boxes) us))
 
-bound_sound : (text : List ℕ) → Sound (spelled_bound {text = text}) bound_of Any (bound_at text)
+pub bound_sound : (text : List ℕ) → Sound (spelled_bound {text = text}) bound_of Any (bound_at text)
 unfolding bound_at
 bound_sound text =
     take (keyword_sound text) _ _ (λ word _.
@@ -208,7 +208,7 @@ bound_sound text =
     take (sign_sound (codes ";")) _ _ (λ semicolon _.
     done spelled_bound bound_of (record { word = word; region = region; semicolon = semicolon }))))
 
-pairing_sound : Sound spelled_pairing pairing_of Any pairing_at
+pub pairing_sound : Sound spelled_pairing pairing_of Any pairing_at
 unfolding pairing_at
 pairing_sound =
     take (role_sound (codes "ac")) _ _ (λ ac _.
@@ -218,14 +218,14 @@ pairing_sound =
     take (role_sound (codes "plant")) _ _ (λ plant _.
     done spelled_pairing pairing_of (record { ac = ac; sc = sc; timing = timing; semicolon = semicolon; plant = plant }))))))
 
-bounds_sound : Sound spelled_bounds bounds_of Any bounds_at
+pub bounds_sound : Sound spelled_bounds bounds_of Any bounds_at
 unfolding bounds_at
 bounds_sound =
     take (bound_sound (codes "safe")) _ _ (λ safe _.
     take (bound_sound (codes "safer")) _ _ (λ safer _.
     done spelled_bounds bounds_of (record { safe = safe; safer = safer })))
 
-module_sound : Sound spelled_module module_of Any module_at
+pub module_sound : Sound spelled_module module_of Any module_at
 unfolding module_at
 module_sound =
     take (keyword_sound (codes "module")) _ _ (λ word _.
@@ -240,27 +240,27 @@ module_sound =
 abbrev pub DeclarationFits : ℕ → DeclarationForm → Type 0
 DeclarationFits room d = declaration_levels d ≤ room
 
-a_topic_sound : (room : ℕ) → Sound spelled_declaration declaration_of (DeclarationFits room) a_topic_at
+pub a_topic_sound : (room : ℕ) → Sound spelled_declaration declaration_of (DeclarationFits room) a_topic_at
 unfolding a_topic_at
 a_topic_sound room = take topic_sound _ _ (λ t _. done_within spelled_declaration declaration_of (DeclarationFits room) (a_topic t) (omega arith))
 
-a_plant_sound : (room : ℕ) → Sound spelled_declaration declaration_of (DeclarationFits room) (a_plant_at room)
+pub a_plant_sound : (room : ℕ) → Sound spelled_declaration declaration_of (DeclarationFits room) (a_plant_at room)
 unfolding a_plant_at
 a_plant_sound room = take (plant_sound room) _ _ (λ p fits. done_within spelled_declaration declaration_of (DeclarationFits room) (a_plant p) fits)
 
-a_coded_sound : (room : ℕ) → Sound spelled_declaration declaration_of (DeclarationFits room) (a_coded_at room)
+pub a_coded_sound : (room : ℕ) → Sound spelled_declaration declaration_of (DeclarationFits room) (a_coded_at room)
 unfolding a_coded_at
 a_coded_sound room = take (coded_sound room) _ _ (λ n fits. done_within spelled_declaration declaration_of (DeclarationFits room) (a_coded n) fits)
 
-an_external_sound : (room : ℕ) → Sound spelled_declaration declaration_of (DeclarationFits room) an_external_at
+pub an_external_sound : (room : ℕ) → Sound spelled_declaration declaration_of (DeclarationFits room) an_external_at
 unfolding an_external_at
 an_external_sound room = take external_sound _ _ (λ n _. done_within spelled_declaration declaration_of (DeclarationFits room) (an_external n) (omega arith))
 
-a_module_sound : (room : ℕ) → Sound spelled_declaration declaration_of (DeclarationFits room) a_module_at
+pub a_module_sound : (room : ℕ) → Sound spelled_declaration declaration_of (DeclarationFits room) a_module_at
 unfolding a_module_at
 a_module_sound room = take module_sound _ _ (λ m _. done_within spelled_declaration declaration_of (DeclarationFits room) (a_module m) (omega arith))
 
-declaration_sound : (room : ℕ) → Sound spelled_declaration declaration_of (DeclarationFits room) (declaration_at room)
+pub declaration_sound : (room : ℕ) → Sound spelled_declaration declaration_of (DeclarationFits room) (declaration_at room)
 unfolding declaration_at
 declaration_sound room =
     either (λ ts. begins (is_keyword (codes "topic")) ts || begins (is_keyword (codes "environment")) ts) _ _ _ (a_topic_sound room)

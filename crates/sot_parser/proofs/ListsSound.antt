@@ -13,7 +13,7 @@ Each Fits [] = Unit {0}
 Each Fits (f ∷ fs) = Fits f × Each Fits fs
 
 module _ {F A : Type 0} (spelled : F → List Lexeme → List Lexeme) (tree : F → A) where
-  repeated_sound : (Fits : F → Type 0) (goes_on : List Lexeme → Bool) (item : List Lexeme → Read A) → Sound spelled tree Fits item → (n : ℕ) → Sound (each spelled) (map tree) (Each Fits) (repeated goes_on item n)
+  pub repeated_sound : (Fits : F → Type 0) (goes_on : List Lexeme → Bool) (item : List Lexeme → Read A) → Sound spelled tree Fits item → (n : ℕ) → Sound (each spelled) (map tree) (Each Fits) (repeated goes_on item n)
   unfolding repeated
   repeated_sound Fits goes_on item sound zero = done_within (each spelled) (map tree) (Each Fits) [] tt
   repeated_sound Fits goes_on item sound (suc n) =
@@ -31,7 +31,7 @@ module _ {F A : Type 0} (spelled : F → List Lexeme → List Lexeme) (tree : F 
   all_any_sound goes_on item sound ts y e = let s = all_sound Any goes_on item sound ts y e in (s.0, tt, s.2, s.3)
 
 module _ {F A : Type 0} (spelled : F → List Lexeme → List Lexeme) (tree : F → A) where
-  further_sound : (text : List ℕ) (item : List Lexeme → Read A) → Sound spelled tree Any item → Sound (spelled_further {text = text} spelled) (further_of tree) Any (further_at text item)
+  pub further_sound : (text : List ℕ) (item : List Lexeme → Read A) → Sound spelled tree Any item → Sound (spelled_further {text = text} spelled) (further_of tree) Any (further_at text item)
   unfolding further_at
   further_sound text item sound =
       take (sign_sound text) _ _ (λ sign _.

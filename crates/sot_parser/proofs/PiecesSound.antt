@@ -41,15 +41,15 @@ fix_sound =
     take (sign_sound (codes ")")) _ _ (λ closing _.
     done spelled_fix fix_of (record { fix = fix; opening = opening; scale = scale; closing = closing })))))
 
-int_scalar_sound : Sound spelled_scalar scalar_of Any int_scalar_at
+pub int_scalar_sound : Sound spelled_scalar scalar_of Any int_scalar_at
 unfolding int_scalar_at
 int_scalar_sound = take (keyword_sound (codes "int")) _ _ (λ word _. take range_sound _ _ (λ range _. done spelled_scalar scalar_of (an_int word range)))
 
-fix_scalar_sound : Sound spelled_scalar scalar_of Any fix_scalar_at
+pub fix_scalar_sound : Sound spelled_scalar scalar_of Any fix_scalar_at
 unfolding fix_scalar_at
 fix_scalar_sound = take fix_sound _ _ (λ scale _. take range_sound _ _ (λ range _. done spelled_scalar scalar_of (a_fix scale range)))
 
-bool_scalar_sound : Sound spelled_scalar scalar_of Any bool_scalar_at
+pub bool_scalar_sound : Sound spelled_scalar scalar_of Any bool_scalar_at
 unfolding bool_scalar_at
 bool_scalar_sound = take (keyword_sound (codes "bool")) _ _ (λ word _. done spelled_scalar scalar_of (a_bool word))
 
@@ -65,15 +65,15 @@ field_sound =
     take scalar_sound _ _ (λ scalar _.
     done spelled_field field_of (record { name = name; colon = colon; scalar = scalar }))))
 
-yes_sound : Sound spelled_const const_of Any (truth_at true (codes "true"))
+pub yes_sound : Sound spelled_const const_of Any (truth_at true (codes "true"))
 unfolding truth_at
 yes_sound = take (keyword_sound (codes "true")) _ _ (λ word _. done spelled_const const_of (a_yes word))
 
-no_sound : Sound spelled_const const_of Any (truth_at false (codes "false"))
+pub no_sound : Sound spelled_const const_of Any (truth_at false (codes "false"))
 unfolding truth_at
 no_sound = take (keyword_sound (codes "false")) _ _ (λ word _. done spelled_const const_of (a_no word))
 
-number_const_sound : Sound spelled_const const_of Any number_const_at
+pub number_const_sound : Sound spelled_const const_of Any number_const_at
 unfolding number_const_at
 number_const_sound = take literal_sound _ _ (λ l _. done spelled_const const_of (a_literal l))
 

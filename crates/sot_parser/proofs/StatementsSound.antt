@@ -32,7 +32,7 @@ tree_sound room ts y e =
     let is = ok_is (p.0.0.tree, p.0.1) y p.2 in
     (record { phrase = f.0; is = f.1 }, f.4, f.2 ∙ ap (λ (z : Tree × List Lexeme). phrases.spelled f.0 z.1) is, sym (ap (λ (z : Tree × List Lexeme). z.0) is) ∙ ap (λ (q : Part). q.tree) f.3)
 
-assign_sound : (room : ℕ) (expression : List Lexeme → Read Tree) → Sound spelled_expression expression_of (TreeFits room) expression → Sound spelled_statement statement_of (StatementFits room) (assign_at expression)
+pub assign_sound : (room : ℕ) (expression : List Lexeme → Read Tree) → Sound spelled_expression expression_of (TreeFits room) expression → Sound spelled_statement statement_of (StatementFits room) (assign_at expression)
 unfolding assign_at
 assign_sound room expression sound =
     take name_sound _ _ (λ target _.
@@ -41,18 +41,18 @@ assign_sound room expression sound =
     take (sign_sound (codes ";")) _ _ (λ semicolon _.
     done_within spelled_statement statement_of (StatementFits room) (an_assign (record { target = target; becomes = becomes; value = value; semicolon = semicolon })) fits))))
 
-field_sound : Sound (maybe spelled_dot) dot_of Any field_at
+pub field_sound : Sound (maybe spelled_dot) dot_of Any field_at
 unfolding field_at
 field_sound =
     take (sign_sound (codes ".")) _ _ (λ dot _.
     take name_sound _ _ (λ name _.
     done (maybe spelled_dot) dot_of (Some (record { dot = dot; name = name }))))
 
-dot_sound : Sound (maybe spelled_dot) dot_of Any dot_at
+pub dot_sound : Sound (maybe spelled_dot) dot_of Any dot_at
 unfolding dot_at
 dot_sound = either (begins (is_sign (codes "."))) _ _ _ field_sound (done (maybe spelled_dot) dot_of None)
 
-publish_sound : (room : ℕ) (expression : List Lexeme → Read Tree) → Sound spelled_expression expression_of (TreeFits room) expression → Sound spelled_statement statement_of (StatementFits room) (publish_at expression)
+pub publish_sound : (room : ℕ) (expression : List Lexeme → Read Tree) → Sound spelled_expression expression_of (TreeFits room) expression → Sound spelled_statement statement_of (StatementFits room) (publish_at expression)
 unfolding publish_at
 publish_sound room expression sound =
     take (keyword_sound (codes "publish")) _ _ (λ word _.
@@ -63,26 +63,26 @@ publish_sound room expression sound =
     take (sign_sound (codes ";")) _ _ (λ semicolon _.
     done_within spelled_statement statement_of (StatementFits room) (a_publish (record { word = word; topic = topic; field = field; equals = equals; value = value; semicolon = semicolon })) fits))))))
 
-plain_sound : (room : ℕ) (expression : List Lexeme → Read Tree) → Sound spelled_expression expression_of (TreeFits room) expression → Sound spelled_statement statement_of (StatementFits room) (plain_at expression)
+pub plain_sound : (room : ℕ) (expression : List Lexeme → Read Tree) → Sound spelled_expression expression_of (TreeFits room) expression → Sound spelled_statement statement_of (StatementFits room) (plain_at expression)
 unfolding plain_at
 plain_sound room expression sound = either (begins (is_keyword (codes "publish"))) _ _ _ (publish_sound room expression sound) (assign_sound room expression sound)
 
 -- an `else`, if any
-abbrev ElseFits : ℕ → ElseForm → Type 0
+abbrev pub ElseFits : ℕ → ElseForm → Type 0
 ElseFits room b = else_levels b ≤ room
 
-otherwise_sound : (room : ℕ) (block : List Lexeme → Read Block) → Sound spelled_block block_of (BlockFits room) block → Sound spelled_else else_of (ElseFits room) (otherwise_at block)
+pub otherwise_sound : (room : ℕ) (block : List Lexeme → Read Block) → Sound spelled_block block_of (BlockFits room) block → Sound spelled_else else_of (ElseFits room) (otherwise_at block)
 unfolding otherwise_at
 otherwise_sound room block sound =
     take (keyword_sound (codes "else")) _ _ (λ word _.
     close sound _ (λ body fits us.
     (with_else word body, fits, refl, refl)))
 
-else_sound : (room : ℕ) (block : List Lexeme → Read Block) → Sound spelled_block block_of (BlockFits room) block → Sound spelled_else else_of (ElseFits room) (else_at block)
+pub else_sound : (room : ℕ) (block : List Lexeme → Read Block) → Sound spelled_block block_of (BlockFits room) block → Sound spelled_else else_of (ElseFits room) (else_at block)
 unfolding else_at
 else_sound room block sound = either (begins (is_keyword (codes "else"))) _ _ _ (otherwise_sound room block sound) (done_within spelled_else else_of (ElseFits room) no_else (omega arith))
 
-branch_sound : (room : ℕ) (expression : List Lexeme → Read Tree) (block : List Lexeme → Read Block) → Sound spelled_expression expression_of (TreeFits room) expression → Sound spelled_block block_of (BlockFits room) block
+pub branch_sound : (room : ℕ) (expression : List Lexeme → Read Tree) (block : List Lexeme → Read Block) → Sound spelled_expression expression_of (TreeFits room) expression → Sound spelled_block block_of (BlockFits room) block
     → Sound spelled_statement statement_of (StatementFits (suc room)) (branch_at expression block)
 unfolding branch_at
 branch_sound room expression block expressions blocks =
@@ -92,7 +92,7 @@ branch_sound room expression block expressions blocks =
     take (else_sound room block blocks) _ _ (λ second c.
     done_within spelled_statement statement_of (StatementFits (suc room)) (an_if word cond_ first second) (omega (arith, a, b, c))))))
 
-loop_sound : (room : ℕ) (block : List Lexeme → Read Block) → Sound spelled_block block_of (BlockFits room) block → Sound spelled_statement statement_of (StatementFits (suc room)) (loop_at block)
+pub loop_sound : (room : ℕ) (block : List Lexeme → Read Block) → Sound spelled_block block_of (BlockFits room) block → Sound spelled_statement statement_of (StatementFits (suc room)) (loop_at block)
 unfolding loop_at
 loop_sound room block blocks =
     take (keyword_sound (codes "repeat")) _ _ (λ word _.
@@ -100,7 +100,7 @@ loop_sound room block blocks =
     take blocks _ _ (λ body a.
     done_within spelled_statement statement_of (StatementFits (suc room)) (a_repeat word times body) (omega (arith, a)))))
 
-nested_sound : (room : ℕ) (expression : List Lexeme → Read Tree) (block : List Lexeme → Read Block) → Sound spelled_expression expression_of (TreeFits room) expression → Sound spelled_block block_of (BlockFits room) block
+pub nested_sound : (room : ℕ) (expression : List Lexeme → Read Tree) (block : List Lexeme → Read Block) → Sound spelled_expression expression_of (TreeFits room) expression → Sound spelled_block block_of (BlockFits room) block
     → Sound spelled_statement statement_of (StatementFits (suc room)) (nested_at room expression block)
 unfolding nested_at
 nested_sound room expression block expressions blocks = either (begins (is_keyword (codes "if"))) _ _ _ (either (λ _. room == 0) _ _ _ (λ ts y e. absurd cc) (branch_sound room expression block expressions blocks)) (loop_sound room block blocks)
@@ -110,7 +110,7 @@ abbrev pub statements_from : List StatementForm → StatementsForm
 statements_from [] = no_more
 statements_from (s ∷ ss) = one_more s (statements_from ss)
 
-statements_spelled : (ss : List StatementForm) (us : List Lexeme) → each spelled_statement ss us ≡ spelled_statements (statements_from ss) us
+pub statements_spelled : (ss : List StatementForm) (us : List Lexeme) → each spelled_statement ss us ≡ spelled_statements (statements_from ss) us
 statements_spelled [] us = refl
 statements_spelled (s ∷ ss) us = ap (spelled_statement s) (statements_spelled ss us)
 
@@ -122,7 +122,7 @@ statements_fit : (room : ℕ) (ss : List StatementForm) → Each (StatementFits 
 statements_fit room [] all = omega arith
 statements_fit room (s ∷ ss) all = omega (arith, all.0, statements_fit room ss all.1)
 
-block_sound : (room : ℕ) (item : List Lexeme → Read Statement) → Sound spelled_statement statement_of (StatementFits room) item → Sound spelled_block block_of (BlockFits room) (block_at item)
+pub block_sound : (room : ℕ) (item : List Lexeme → Read Statement) → Sound spelled_statement statement_of (StatementFits room) item → Sound spelled_block block_of (BlockFits room) (block_at item)
 unfolding block_at
 block_sound room item sound =
     take (sign_sound (codes "{")) _ _ (λ opening _.
@@ -137,7 +137,7 @@ block_sound room item sound =
       sym (ap (λ (z : Block × List Lexeme). z.0) is) ∙ statements_mean body,
     ))))
 
-with_sound : (room : ℕ) (nested : List Lexeme → Read Statement) → Sound spelled_statement statement_of (StatementFits room) nested → Sound spelled_statement statement_of (StatementFits room) (statement_with room nested)
+pub with_sound : (room : ℕ) (nested : List Lexeme → Read Statement) → Sound spelled_statement statement_of (StatementFits room) nested → Sound spelled_statement statement_of (StatementFits room) (statement_with room nested)
 with_sound room nested sound = either begins_nested _ _ _ sound (plain_sound room (tree_at room) (tree_sound room))
 
 pub statement_sound : (room : ℕ) → Sound spelled_statement statement_of (StatementFits room) (statement_at room)

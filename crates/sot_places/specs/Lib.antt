@@ -1,0 +1,3 @@
+-- which places of a fault the grammar allows, and the law
+pub mod Places
+pub mod Laws

@@ -1,0 +1,27 @@
+//! Each of these functions does nothing, and its contract is the law.
+ghost use Rattle.sot_places.specs.Laws.{PlacesAreExact, TextsAreOnlyDeep, ExactPlacesAreOne, DeepComesBefore, ProgramsHaveNoFault};
+
+/// The place of a fault of syntax, and its kind, are those that the grammar gives.
+pub fn places_are_exact()
+    ensures { PlacesAreExact }
+{}
+
+/// A text of the grammar that is no program nests too deep, and that is its fault.
+pub fn texts_are_only_deep()
+    ensures { TextsAreOnlyDeep }
+{}
+
+/// But for nesting, the tokens of a text have one fault at the most.
+pub fn exact_places_are_one()
+    ensures { ExactPlacesAreOne }
+{}
+
+/// A token at which a text nests too deep stands before the first token with which no text goes on.
+pub fn deep_comes_before()
+    ensures { DeepComesBefore }
+{}
+
+/// A text that spells a program has no fault.
+pub fn programs_have_no_fault()
+    ensures { ProgramsHaveNoFault }
+{}
