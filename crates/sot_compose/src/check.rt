@@ -20,6 +20,7 @@ use sot_lang::{Cert, NodeInfo, Typed};
 use sot_rta::{Refusal, check_cells, check_shape, module_at, node_at};
 use sot_traps::trap_free;
 use sot_tube::Accepted;
+use std::thread::Threads;
 
 fn shapes(p: &Typed, c: &Cert) -> Result<(), Refusal>
     requires rules { MeetsTableRules p.now }
@@ -77,7 +78,7 @@ pub fn check_codes(p: &Typed) -> Result<(), Refusal>
     Ok(())
 }
 
-fn cells(p: &Typed, c: &Cert) -> Result<(), Refusal>
+fn cells<R: Threads + Sync>(rt: &R, p: &Typed, c: &Cert) -> Result<(), Refusal>
     requires rules { MeetsTableRules p.now }
     requires fits { FitsTables p.now c.now }
     requires may { MayHaveCells p.now }
@@ -85,14 +86,14 @@ fn cells(p: &Typed, c: &Cert) -> Result<(), Refusal>
 {
     for module in 0..p.modules.len() as u32 {
         let _info = module_at(p, module);
-        if let Err(refusal) = check_cells(p, module, c) {
+        if let Err(refusal) = check_cells(rt, p, module, c) {
             return Err(refusal);
         }
     }
     Ok(())
 }
 
-fn checked(p: &Typed, c: &Cert) -> Result<(), Refusal>
+fn checked<R: Threads + Sync>(rt: &R, p: &Typed, c: &Cert) -> Result<(), Refusal>
     requires rules { MeetsTableRules p.now }
     requires fits { FitsTables p.now c.now }
     ensures { Answers (verdict p.now c.now.jitter c.now) result }
@@ -106,24 +107,29 @@ fn checked(p: &Typed, c: &Cert) -> Result<(), Refusal>
     if let Err(refusal) = check_codes(p) {
         return Err(refusal);
     }
-    cells(p, c)
+    cells(rt, p, c)
 }
 
 /// Accepts a program with its certificate exactly where all fifteen conditions hold; else refuses it for the first one that fails,
 /// with its evidence. The order is: no shared node, no shared output, no shared plant, no foreign input; then per module an entry,
 /// short periods, outputs in common, regions that are not empty; then per coded node no trap; then per module its closed cells
-/// and its reach cells. `c` is a certificate of this program. Takes no memory.
+/// and its reach cells. `c` is a certificate of this program. Long lists of cells are checked by threads of `rt`; which condition is
+/// the first does not depend on them. Takes no memory.
 ///
 /// Of an accepted program every run from plants in their safer regions is safe, with firings up to the certificate's jitter late:
 /// at each tick every module's plant is in the module's safe region, and no coded node traps.
-pub fn check_all<'a>(p: &'a Typed, c: &'a Cert) -> Result<Accepted<'a>, CheckFail>
+pub fn check_all<'a, R: Threads + Sync>(
+    rt: &R,
+    p: &'a Typed,
+    c: &'a Cert,
+) -> Result<Accepted<'a>, CheckFail>
     requires { FitsTables p.now c.now }
     ensures answer { Accepts p.now c.now result }
     ensures safe { IfOk result (λ _. EveryRunIsSafe p.now c.now.jitter) }
 {
     // A look at the tables brings their rules, which their type keeps.
     let _modules = p.modules.len();
-    match checked(p, c) {
+    match checked(rt, p, c) {
         Ok(()) => Ok(Accepted::of(p, c)),
         Err(refusal) => Err(CheckFail::Refused(refusal)),
     }

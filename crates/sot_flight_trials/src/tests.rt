@@ -16,6 +16,7 @@ use sot_report::{LoadFail, Loaded, fault_text, load};
 use sot_text::Need;
 use std::alloc::{AllocError, Global};
 use std::test::*;
+use std::thread::Threads;
 
 const LONGEST: usize = 16_777_216;
 

@@ -20,6 +20,7 @@ use sot_text::Need;
 use sot_told::names_are_words;
 use std::alloc::{AllocError, Global};
 use std::test::*;
+use std::thread::Threads;
 
 const LONGEST: usize = 16_777_216;
 
@@ -153,7 +154,13 @@ fn answer_text(alloc: Global, answer: Result<u32, ReplayFail>) -> Result<String,
 }
 
 // What replay answers to the lines of a trace, for a mission with a flight, which is accepted.
-pub fn replayed(alloc: Global, mission: &str, guests: u32, trace: &[u8]) -> Result<String, Fail> {
+pub fn replayed(
+    rt: &(impl Threads + Sync),
+    alloc: Global,
+    mission: &str,
+    guests: u32,
+    trace: &[u8],
+) -> Result<String, Fail> {
     let loaded = loaded(alloc, mission, guests)?;
     let Some(flight) = &loaded.flight else {
         return Err(Fail::from(AllocError));
@@ -161,7 +168,7 @@ pub fn replayed(alloc: Global, mission: &str, guests: u32, trace: &[u8]) -> Resu
     if trace.len() > LONGEST {
         return Err(Fail::from(AllocError));
     }
-    match check_all(&loaded.program, &loaded.cert) {
+    match check_all(rt, &loaded.program, &loaded.cert) {
         Ok(accepted) => {
             let answer = replay(alloc, &accepted, flight, Lines::new(trace));
             answer_text(alloc, answer)

@@ -8,7 +8,8 @@ use Rattle.sot_lang.specs.Tables.{Tables}
 use Rattle.sot_lang.specs.declared.cert.Cert.{Cert}
 use Rattle.sot_lang.specs.CertRules.{FitsTables}
 use Rattle.sot_parser.specs.Programs.{Spells}
-use Rattle.sot_parser.specs.ParseAnswers.{fault_at}
+use Rattle.sot_text.specs.Ahead.{ahead_from}
+use Rattle.sot_places.specs.Places.{IsFaultOf}
 use Rattle.sot_rules.specs.First.{IsFirstFault}
 use Rattle.sot_cert.specs.CertFormat.{Contents, cert_of, contents}
 use Rattle.sot_report.specs.declared.fault.Fault.{Fault}
@@ -74,7 +75,7 @@ LoadsText parts guests l = (p : Program) × Spells parts.program 0 p × LoadsTre
 
 abbrev pub FailsText : Parts → ℕ → Fault → Type 0
 FailsText parts guests (faults.Section fault) = ⊥
-FailsText parts guests (faults.Syntax fault) = SpellsNone parts.program × (fault ≡ fault_at parts.program 0)
+FailsText parts guests (faults.Syntax fault) = SpellsNone parts.program × IsFaultOf parts.program (ahead_from parts.program 0) fault
 FailsText parts guests (faults.Typing fault) = (p : Program) × Spells parts.program 0 p × IsFirstFault p fault
 FailsText parts guests (faults.Cert fault) = (p : Program) × (t : Tables) × SpellsTables parts p t × FailsTables t parts guests (faults.Cert fault)
 FailsText parts guests (faults.Flight fault) = (p : Program) × (t : Tables) × SpellsTables parts p t × FailsTables t parts guests (faults.Flight fault)

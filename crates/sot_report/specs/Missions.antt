@@ -8,7 +8,8 @@ use Rattle.sot_lang.specs.declared.cert.Cert.{Cert}
 use Rattle.sot_lang.specs.TableRules.{MeetsTableRules}
 use Rattle.sot_lang.specs.CertRules.{FitsTables}
 use Rattle.sot_parser.specs.Programs.{Spells}
-use Rattle.sot_parser.specs.ParseAnswers.{fault_at}
+use Rattle.sot_text.specs.Ahead.{ahead_from}
+use Rattle.sot_places.specs.Places.{IsFaultOf}
 use Rattle.sot_rules.specs.First.{IsFirstFault, IsFaultless}
 use Rattle.sot_typing.specs.Resolved.{AreTables}
 use Rattle.sot_cert.specs.declared.fault.JsonFault.{JsonFault}
@@ -72,7 +73,7 @@ FaultsFlight t guests (Some section) fault = flight_of t guests section ≡ Err 
 -- the first fault of the bytes: of the sections, else of syntax, else of typing, else of the certificate, else of the flight
 abbrev pub HasFault : Need → ℕ → List ℕ → Fault → Type 0
 HasFault need guests bytes (faults.Section fault) = split_of bytes need ≡ Err fault
-HasFault need guests bytes (faults.Syntax fault) = (parts : Parts) × HasParts need bytes parts × SpellsNone parts.program × (fault ≡ fault_at parts.program 0)
+HasFault need guests bytes (faults.Syntax fault) = (parts : Parts) × HasParts need bytes parts × SpellsNone parts.program × IsFaultOf parts.program (ahead_from parts.program 0) fault
 HasFault need guests bytes (faults.Typing fault) = (parts : Parts) × HasParts need bytes parts × ((p : Program) × Spells parts.program 0 p × IsFirstFault p fault)
 HasFault need guests bytes (faults.Cert fault) =
     (parts : Parts) × HasParts need bytes parts × ((p : Program) × (t : Tables) × SpellsTables parts p t × (cert_of t parts.cert ≡ Err fault))

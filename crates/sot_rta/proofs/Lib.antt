@@ -6,3 +6,5 @@ pub mod CommandSides
 pub mod CellReadings
 pub mod HeldTubes
 pub mod CellChecks
+pub mod Chunks
+pub mod EachPlace

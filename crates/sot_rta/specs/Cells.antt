@@ -1,6 +1,7 @@
 -- What has to hold before the cells of modules are checked.
-use Rattle.std.specs.Prelude.{ℕ, ◌+◌, List, Result, MatchResult}
+use Rattle.std.specs.Prelude.{ℕ, ◌+◌, ◌<◌, List, Result, MatchResult}
 use Rattle.sot_box.specs.Sides.{Side}
+use Rattle.sot_box.specs.BoxList.{BoxList}
 use Rattle.sot_lang.specs.declared.tables.PlantInfo.{PlantInfo}
 use Rattle.sot_lang.specs.declared.tables.ModuleInfo.{ModuleInfo}
 use Rattle.sot_iv.specs.BodyIntervals.{Intervals}
@@ -16,7 +17,8 @@ use Rattle.sot_lang.specs.declared.act.Act.{Act}
 use Rattle.sot_lang.specs.declared.tables.NodeInfo.{NodeInfo}
 use Rattle.sot_lang.specs.declared.cert.Cells.{Cells}
 use Rattle.sot_lang.specs.Tables.{Tables}
-use Rattle.sot_lang.specs.TableRules.{IsCoded}
+use Rattle.sot_lang.specs.TableRules.{MeetsTableRules, IsCoded}
+use Rattle.sot_lang.specs.CertRules.{AreCellsOf}
 use Rattle.sot_lists.specs.Places.{At}
 use Rattle.sot_iv.specs.TrapFree.{IsTrapFree}
 use Rattle.sot_tube.specs.Composition.{NoSharedPlant}
@@ -46,6 +48,21 @@ AnswersClosedCell p jitter m a i cell result =
 -- of a reach cell
 abbrev pub AnswersReachCell : Tables → ℕ → ℕ → ModuleInfo → ℕ → List Side → Result (Unit {0}) Refusal → Type 0
 AnswersReachCell p jitter m a i cell result = (plant : PlantInfo) → At p.plants a.plant plant → Answers (reach_cell p jitter m a plant i cell) result
+
+-- the cells of module m may be checked: it is there, its tables meet their rules, and the cells are cells of its plant
+pub record MayCheck (p : Tables) (jitter m : ℕ) (a : ModuleInfo) (cells : BoxList) : Type 0 where
+  pub below : jitter < 1000
+  pub there : At p.modules m a
+  pub rules : MeetsTableRules p
+  pub may : MayHaveCells p
+  pub fit : AreCellsOf p a.plant cells
+
+-- the answer of the closed cell at place i, and of the reach cell there
+abbrev pub AnswersClosedPlace : Tables → ℕ → ℕ → ModuleInfo → List (List Side) → ℕ → Result (Unit {0}) Refusal → Type 0
+AnswersClosedPlace p jitter m a cells i result = (cell : List Side) → At cells i cell → AnswersClosedCell p jitter m a i cell result
+
+abbrev pub AnswersReachPlace : Tables → ℕ → ℕ → ModuleInfo → List (List Side) → ℕ → Result (Unit {0}) Refusal → Type 0
+AnswersReachPlace p jitter m a cells i result = (cell : List Side) → At cells i cell → AnswersReachCell p jitter m a i cell result
 
 -- of all closed cells, and of all reach cells
 abbrev pub AnswersClosedCells : Tables → ℕ → ℕ → ModuleInfo → List (List Side) → Result (Unit {0}) Refusal → Type 0

@@ -9,16 +9,18 @@ ghost use Rattle.sot_lang.specs.OwnerNames.{width_of};
 ghost use Rattle.sot_lang.specs.TableRules.{MeetsTableRules};
 ghost use Rattle.sot_box.specs.Regions.{Covers};
 ghost use Rattle.sot_tube.specs.Verdict.{closed_refusal, reach_refusal, cells_of};
-ghost use Rattle.sot_rta.specs.Cells.{MayHaveCells, AnswersHeldTube, AnswersClosedCell, AnswersReachCell, AnswersClosedCells, AnswersReachCells, AnswersCells};
+ghost use Rattle.sot_rta.specs.Cells.{MayHaveCells, MayCheck, AnswersHeldTube, AnswersClosedCell, AnswersReachCell, AnswersClosedPlace, AnswersReachPlace, AnswersClosedCells, AnswersReachCells, AnswersCells};
 ghost use Rattle.sot_rta.specs.Refused.{Answers, refusal_view};
 
 use crate::commands::commands;
 use crate::draft::cell_draft;
+use crate::many::first_refused;
 use crate::places::{module_at, node_at, plant_at};
 use crate::refusal::Refusal;
 use sot_box::{BoxN, Region, uncovered};
 use sot_lang::{Cells, Cert, ModuleInfo, Typed};
 use sot_tube::{Leave, any_inside, held_inside};
+use std::thread::Threads;
 
 // The refusal of a closed cell whose tube leaves.
 fn closed_refusal(module: u32, cell: u32, leave: Leave) -> Refusal
@@ -142,7 +144,9 @@ pub fn check_reach_cell(
     }
 }
 
-fn closed_cells(
+// All closed cells.
+fn closed_cells<R: Threads + Sync>(
+    rt: &R,
     p: &Typed,
     jitter: u32,
     module: u32,
@@ -156,16 +160,19 @@ fn closed_cells(
     requires cells { AreCellsOf p.now info.now.plant closed.now }
     ensures { AnswersClosedCells p.now jitter «module» info.now closed.now.boxes result }
 {
-    for i in 0..closed.len() as u32 {
-        let cell = closed.at(i as usize);
-        if let Err(refusal) = check_closed_cell(p, jitter, module, info, i, &cell) {
-            return Err(refusal);
-        }
-    }
-    Ok(())
+    first_refused(
+        rt,
+        closed.len() as u32,
+        &|i: u32| -> Result<(), Refusal>
+            requires { MayCheck p.now jitter «module» info.now closed.now × (i < length closed.now.boxes) }
+            ensures { AnswersClosedPlace p.entry.now jitter «module» info.entry.now closed.entry.now.boxes i result }
+        { check_closed_cell(p, jitter, module, info, i, &closed.at(i as usize)) },
+    )
 }
 
-fn reach_cells(
+// All reach cells.
+fn reach_cells<R: Threads + Sync>(
+    rt: &R,
     p: &Typed,
     jitter: u32,
     module: u32,
@@ -179,17 +186,19 @@ fn reach_cells(
     requires cells { AreCellsOf p.now info.now.plant reach.now }
     ensures { AnswersReachCells p.now jitter «module» info.now reach.now.boxes result }
 {
-    for i in 0..reach.len() as u32 {
-        let cell = reach.at(i as usize);
-        if let Err(refusal) = check_reach_cell(p, jitter, module, info, i, &cell) {
-            return Err(refusal);
-        }
-    }
-    Ok(())
+    first_refused(
+        rt,
+        reach.len() as u32,
+        &|i: u32| -> Result<(), Refusal>
+            requires { MayCheck p.now jitter «module» info.now reach.now × (i < length reach.now.boxes) }
+            ensures { AnswersReachPlace p.entry.now jitter «module» info.entry.now reach.entry.now.boxes i result }
+        { check_reach_cell(p, jitter, module, info, i, &reach.at(i as usize)) },
+    )
 }
 
 // The cells of a module that was found.
-fn cells_of(
+fn cells_of<R: Threads + Sync>(
+    rt: &R,
     p: &Typed,
     jitter: u32,
     module: u32,
@@ -207,19 +216,25 @@ fn cells_of(
     if let Some(point) = uncovered(&info.safe, &cells.closed) {
         return Err(Refusal::ClosedGap { module, point });
     }
-    if let Err(refusal) = closed_cells(p, jitter, module, info, &cells.closed) {
+    if let Err(refusal) = closed_cells(rt, p, jitter, module, info, &cells.closed) {
         return Err(refusal);
     }
     if let Some(point) = uncovered(&info.safer, &cells.reach) {
         return Err(Refusal::ReachGap { module, point });
     }
-    reach_cells(p, jitter, module, info, &cells.reach)
+    reach_cells(rt, p, jitter, module, info, &cells.reach)
 }
 
 /// Whether the cells that a certificate gives for a module show what they are to show, in this order: the closed cells cover the
 /// safe region; the held tube of each stays in it; the reach cells cover the safer region; the tube of each stays in the safe
-/// region for two periods. Each period is longer by the certificate's jitter. A module without an entry has no cells to check. Takes no memory.
-pub fn check_cells(p: &Typed, module: u32, c: &Cert) -> Result<(), Refusal>
+/// region for two periods. Each period is longer by the certificate's jitter. A module without an entry has no cells to check.
+/// A long list of cells is checked by several threads; a refusal is that of its first cell that fails all the same. Takes no memory.
+pub fn check_cells<R: Threads + Sync>(
+    rt: &R,
+    p: &Typed,
+    module: u32,
+    c: &Cert,
+) -> Result<(), Refusal>
     requires module_is { «module» < length p.now.modules }
     requires fits { FitsTables p.now c.now }
     requires may { MayHaveCells p.now }
@@ -227,7 +242,7 @@ pub fn check_cells(p: &Typed, module: u32, c: &Cert) -> Result<(), Refusal>
 {
     let info = module_at(p, module);
     match &c.modules[module as usize] {
-        Some(cells) => cells_of(p, c.jitter, module, info, cells),
+        Some(cells) => cells_of(rt, p, c.jitter, module, info, cells),
         None => Ok(()),
     }
 }

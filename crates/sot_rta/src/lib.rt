@@ -4,6 +4,7 @@
 mod cells;
 mod commands;
 mod draft;
+mod many;
 mod places;
 mod refusal;
 mod shape;

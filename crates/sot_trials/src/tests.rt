@@ -3,6 +3,7 @@
 mod doubles;
 mod drive;
 mod histories;
+mod long_lists;
 mod pairs;
 mod verdicts;
 mod worked_nodes;

@@ -10,6 +10,7 @@ use Rattle.sot_lang.specs.declared.cert.Cert.{Cert}
 use Rattle.sot_parser.specs.Programs.{Spells}
 use Rattle.sot_parser.specs.declared.syntax.Syntax.{Syntax}
 use Rattle.sot_parser.specs.ParseAnswers.{fault_at}
+use Rattle.sot_places.proofs.ExactPlaces.{fault_is_placed}
 use Rattle.sot_parser.proofs.ProgramTexts.{spells_unique}
 use Rattle.sot_rules.specs.declared.fault.TypeFault.{TypeFault}
 use Rattle.sot_rules.specs.First.{IsFirstFault}
@@ -67,7 +68,7 @@ certified_result (Err e) bytes p spells said = tt
 
 pub misspelled_result : (r : Result Answer AllocError) (bytes : List ℕ) (fault : Syntax) → SpellsNone bytes → fault ≡ fault_at bytes 0 → IfOk r (λ a. a.status ≡ 3) → IfOk r (λ a. a.text.items ≡ syntax_text fault)
     → IfOk r (λ a. Replies Certify bytes a.status a.text.items)
-misspelled_result (Ok a) bytes fault none place status text = inr (inr (status, (faults.Syntax fault, (none, place), text)))
+misspelled_result (Ok a) bytes fault none place status text = inr (inr (status, (faults.Syntax fault, (none, fault_is_placed bytes 0 fault none place), text)))
 misspelled_result (Err e) bytes fault none place status text = tt
 
 -- what was written has no fault, and no mission that it spells is refused

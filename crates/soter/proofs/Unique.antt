@@ -178,7 +178,7 @@ not_rejected : (c : Command) (bytes text text' : List ℕ) → Accepts c bytes t
 not_rejected Check bytes text text' (m, spells, certified, safe, says) (f, has, says') = spelled_faulty needs.Check bytes m f spells has
 not_rejected Fly bytes text text' (m, spells, certified, safe, flown) (f, has, says') = spelled_faulty needs.Fly bytes m f spells has
 not_rejected Replay bytes text text' (m, spells, certified, safe, legal) (f, has, says') = spelled_faulty needs.Replay bytes m f spells has
-not_rejected Format bytes text text' a r = r.0 a.0 a.1
+not_rejected Format bytes text text' a r = r.1 a.0 a.1
 not_rejected Certify bytes text text' (p, t, spells, resolves, has, accepted) (f, fault, says) = program_faulty bytes p t f spells resolves fault
 not_rejected (Make n seed) bytes text text' a r = r
 not_rejected (Soak n seed) bytes text text' (m, spells, certified, safe, flown) (f, has, says') = spelled_faulty needs.Fly (made_text n seed) m f spells has

@@ -21,15 +21,16 @@ use sot_text::{Lexer, Need};
 use sot_tree::Program;
 use sot_typing::resolve;
 use std::alloc::{AllocError, Global};
+use std::thread::Threads;
 
 // Reads a text again that was written of a certified program: no such text has a fault, and none is refused.
-fn read_back(alloc: Global, text: &[u8]) -> Result<(), AllocError>
+fn read_back<R: Threads + Sync>(rt: &R, alloc: Global, text: &[u8]) -> Result<(), AllocError>
     requires short { length text.now + 1 < 2 ^ 32 }
     requires written { IsWritten text.now }
     ensures { OnOk result (SpellsAccepted text.now) }
 {
     match load(alloc, text, Need::Check, 0) {
-        Ok(loaded) => match check_all(&loaded.program, &loaded.cert) {
+        Ok(loaded) => match check_all(rt, &loaded.program, &loaded.cert) {
             Ok(_accepted) => Ok(()),
             Err(CheckFail::Refused(_)) => unreachable!(),
             Err(CheckFail::Memory) => Err(AllocError),
@@ -40,7 +41,8 @@ fn read_back(alloc: Global, text: &[u8]) -> Result<(), AllocError>
 }
 
 // Status 0: a program with its certificate, as a mission.
-fn certified(
+fn certified<R: Threads + Sync>(
+    rt: &R,
     alloc: Global,
     program: &Program,
     tables: &Typed,
@@ -57,42 +59,51 @@ fn certified(
     if text.len() >= u32::MAX as usize {
         return Err(AllocError);
     }
-    read_back(alloc, &text)?;
+    read_back(rt, alloc, &text)?;
     Ok(Answer { status: 0, text })
 }
 
 // The certificate of a program, or why there is none.
-fn certify_tables(alloc: Global, program: &Program, tables: &Typed) -> Result<Answer, AllocError>
+fn certify_tables<R: Threads + Sync>(
+    rt: &R,
+    alloc: Global,
+    program: &Program,
+    tables: &Typed,
+) -> Result<Answer, AllocError>
     requires spelled { IsSpelled (program_view program.now) }
     requires resolved { Resolves (program_view program.now) tables.now }
     ensures { IfOk result (λ answer. CertifiesTables (program_view program.now) tables.now answer.status answer.text.items) }
 {
     match certificate(alloc, tables) {
-        Ok(cert) => certified(alloc, program, tables, &cert),
+        Ok(cert) => certified(rt, alloc, program, tables, &cert),
         Err(CertifyFail::Memory) => Err(AllocError),
         Err(fail) => uncertified(alloc, tables, &fail),
     }
 }
 
 // The same of a program that may break a rule of typing.
-fn certify_tree(alloc: Global, program: &Program) -> Result<Answer, AllocError>
-    requires { IsSpelled (program_view program.now) }
+fn certify_tree<R: Threads + Sync>(
+    rt: &R,
+    alloc: Global,
+    program: &Program,
+) -> Result<Answer, AllocError>
+    requires spelled { IsSpelled (program_view program.now) }
     ensures { IfOk result (λ answer. CertifiesTree (program_view program.now) answer.status answer.text.items) }
 {
     match resolve(alloc, program) {
-        Ok(tables) => certify_tables(alloc, program, &tables),
+        Ok(tables) => certify_tables(rt, alloc, program, &tables),
         Err(TypeFail::Fault(fault)) => faulty(alloc, &Fault::Typing(fault)),
         Err(TypeFail::Memory) => Err(AllocError),
     }
 }
 
 /// Reads a program, makes its certificate, and says both as a mission.
-pub fn certify(alloc: Global, bytes: &[u8]) -> Result<Answer, AllocError>
+pub fn certify<R: Threads + Sync>(rt: &R, alloc: Global, bytes: &[u8]) -> Result<Answer, AllocError>
     requires { length bytes.now ≤ input_limit }
     ensures { IfOk result (λ answer. Replies CertifyCommand bytes.now answer.status answer.text.items) }
 {
     match parse(alloc, &mut Lexer::new(bytes)) {
-        Ok(program) => certify_tree(alloc, &program),
+        Ok(program) => certify_tree(rt, alloc, &program),
         Err(ParseFail::Syntax(fault)) => faulty(alloc, &Fault::Syntax(fault)),
         Err(ParseFail::Memory) => Err(AllocError),
     }

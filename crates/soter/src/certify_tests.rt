@@ -6,6 +6,7 @@ use crate::top::soter;
 use sot_ports::{MemSink, PureSource};
 use std::alloc::Global;
 use std::test::Fail;
+use std::thread::Threads;
 
 // A vehicle on a line, as nobody would lay it out.
 fn vehicle(alloc: Global, period: u32, safer: &str) -> Result<String, Fail> {
@@ -81,12 +82,16 @@ module n {{ ac b; sc r; period 1 offset 0; plant q; safe [0..9]; safer [3..9]; }
 }
 
 // The status and the text of `certify` on a text.
-fn certified(alloc: Global, text: &[u8]) -> Result<(u8, Vec<u8>), Fail> {
+fn certified(
+    rt: &(impl Threads + Sync),
+    alloc: Global,
+    text: &[u8],
+) -> Result<(u8, Vec<u8>), Fail> {
     let mut words = Vec::new(alloc);
     words.push(String::from_str(alloc, "certify")?)?;
     let mut source = PureSource::new(Vec::from_slice(alloc, text)?);
     let mut sink = MemSink::new(alloc, 100_000, 100_000, Vec::new(alloc))?;
-    let ended = soter(alloc, &words, &mut source, &mut sink);
+    let ended = soter(rt, alloc, &words, &mut source, &mut sink);
     Ok((ended.0, Vec::from_slice(alloc, sink.bytes())?))
 }
 
@@ -136,7 +141,7 @@ fn certifies_a_program_or_tells_why_not(rt: HostRuntime) -> Result<(), Fail> {
             "fault syntax line 6 column 84 Token\n",
         ),
     ] {
-        let (ended, text) = certified(alloc, program.as_bytes())?;
+        let (ended, text) = certified(&rt, alloc, program.as_bytes())?;
         assert_eq!(rt; ended, status);
         assert_eq!(rt; text.as_slice(), said.as_bytes());
     }
@@ -156,9 +161,9 @@ fn what_it_writes_is_accepted(rt: HostRuntime) -> Result<(), Fail> {
             "accepted\nmodules 1 nodes 2 cells 4097\n",
         ),
     ] {
-        let (ended, text) = certified(alloc, program.as_bytes())?;
+        let (ended, text) = certified(&rt, alloc, program.as_bytes())?;
         assert_eq!(rt; ended, 0);
-        let (checks, answer) = checked(alloc, text.as_slice())?;
+        let (checks, answer) = checked(&rt, alloc, text.as_slice())?;
         assert_eq!(rt; checks, 0);
         assert_eq!(rt; answer.as_slice(), said.as_bytes());
     }

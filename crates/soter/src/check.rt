@@ -12,13 +12,19 @@ use sot_lang::{Cert, Typed};
 use sot_report::{LoadFail, load};
 use sot_text::Need;
 use std::alloc::{AllocError, Global};
+use std::thread::Threads;
 
 // Checks a program with its certificate.
-fn judge(alloc: Global, program: &Typed, cert: &Cert) -> Result<Answer, AllocError>
+fn judge<R: Threads + Sync>(
+    rt: &R,
+    alloc: Global,
+    program: &Typed,
+    cert: &Cert,
+) -> Result<Answer, AllocError>
     requires { FitsTables program.now cert.now }
     ensures { IfOk result (λ answer. Judges program.now cert.now answer.status answer.text.items) }
 {
-    match check_all(program, cert) {
+    match check_all(rt, program, cert) {
         Ok(_accepted) => accepted(alloc, program, cert),
         Err(CheckFail::Refused(refusal)) => refused(alloc, program, &refusal),
         Err(CheckFail::Memory) => Err(AllocError),
@@ -26,12 +32,12 @@ fn judge(alloc: Global, program: &Typed, cert: &Cert) -> Result<Answer, AllocErr
 }
 
 /// Checks a mission: its sections, its program, its certificate, and then all conditions.
-pub fn check(alloc: Global, bytes: &[u8]) -> Result<Answer, AllocError>
+pub fn check<R: Threads + Sync>(rt: &R, alloc: Global, bytes: &[u8]) -> Result<Answer, AllocError>
     requires { length bytes.now ≤ input_limit }
     ensures { IfOk result (λ answer. Replies CheckCommand bytes.now answer.status answer.text.items) }
 {
     match load(alloc, bytes, Need::Check, 0) {
-        Ok(loaded) => judge(alloc, &loaded.program, &loaded.cert),
+        Ok(loaded) => judge(rt, alloc, &loaded.program, &loaded.cert),
         Err(LoadFail::Fault(fault)) => faulty(alloc, &fault),
         Err(LoadFail::Memory) => Err(AllocError),
     }

@@ -5,6 +5,7 @@ use crate::top::soter;
 use sot_ports::{MemSink, PureSource};
 use std::alloc::Global;
 use std::test::Fail;
+use std::thread::Threads;
 
 const EMPTY: &str = "%certificate\n{\"format\":1,\"modules\":{}}\n";
 
@@ -22,12 +23,16 @@ module m { ac e; sc s; period 1 offset 0; plant q; safe none; safer none; }
 ";
 
 // The status and the text of `check` on a text.
-pub fn checked(alloc: Global, text: &[u8]) -> Result<(u8, Vec<u8>), Fail> {
+pub fn checked(
+    rt: &(impl Threads + Sync),
+    alloc: Global,
+    text: &[u8],
+) -> Result<(u8, Vec<u8>), Fail> {
     let mut words = Vec::new(alloc);
     words.push(String::from_str(alloc, "check")?)?;
     let mut source = PureSource::new(Vec::from_slice(alloc, text)?);
     let mut sink = MemSink::new(alloc, 100, 100, Vec::new(alloc))?;
-    let ended = soter(alloc, &words, &mut source, &mut sink);
+    let ended = soter(rt, alloc, &words, &mut source, &mut sink);
     Ok((ended.0, Vec::from_slice(alloc, sink.bytes())?))
 }
 
@@ -217,9 +222,64 @@ fn accepts_a_mission_or_tells_the_condition_that_fails(rt: HostRuntime) -> Resul
     ] {
         let cert = certificate(alloc, head, closed, reach)?;
         let text = vehicle(alloc, "", "cmd", period, safer, &cert)?;
-        let (ended, answer) = checked(alloc, text.as_bytes())?;
+        let (ended, answer) = checked(&rt, alloc, text.as_bytes())?;
         assert_eq!(rt; answer.as_slice(), said.as_bytes(), "at {text}");
         assert_eq!(rt; ended, status_of(said), "at {text}");
+    }
+    Ok(())
+}
+
+// The three closed cells in turn until there are so many, and at these places one cell that is all of the region.
+fn cells_in_turn(alloc: Global, count: usize, wide: &[usize]) -> Result<String, Fail> {
+    let mut text = String::new(alloc);
+    for i in 0..count {
+        let cell = if wide.contains(&i) {
+            "[[-40,40]]"
+        } else if i % 3 == 0 {
+            "[[-40,-11]]"
+        } else if i % 3 == 1 {
+            "[[-10,10]]"
+        } else {
+            "[[11,40]]"
+        };
+        if i > 0 {
+            text.push(',')?;
+        }
+        text.push_str(cell)?;
+    }
+    Ok(text)
+}
+
+#[test]
+fn tells_the_first_of_many_cells_that_fails(rt: HostRuntime) -> Result<(), Fail> {
+    let alloc = rt.alloc();
+    for (count, wide, said) in [
+        (
+            4096,
+            [].as_slice(),
+            "accepted\nmodules 1 nodes 2 cells 4097\n",
+        ),
+        (
+            4096,
+            [3000, 4095].as_slice(),
+            "refused 6 ClosedLeaves module nav cell 3000 tick 1 box [-43..43] point (-43)\n",
+        ),
+        (
+            4097,
+            [].as_slice(),
+            "fault certificate /modules/nav/closed TooMany\n",
+        ),
+    ] {
+        let closed = cells_in_turn(alloc, count, wide)?;
+        let cert = certificate(alloc, "\"format\":1", &closed, "[-10,10]")?;
+        let text = vehicle(alloc, "", "cmd", 2, "[-10..10]", &cert)?;
+        let (ended, answer) = checked(&rt, alloc, text.as_bytes())?;
+        assert_eq!(rt;
+            answer.as_slice(),
+            said.as_bytes(),
+            "with {count} cells and {wide:?}"
+        );
+        assert_eq!(rt; ended, status_of(said), "with {count} cells and {wide:?}");
     }
     Ok(())
 }
@@ -296,7 +356,7 @@ fn tells_faults_of_a_certificate_and_of_its_shape(rt: HostRuntime) -> Result<(),
         ),
     ] {
         let text = vehicle(alloc, topics, writes, period, safer, cert)?;
-        let (ended, answer) = checked(alloc, text.as_bytes())?;
+        let (ended, answer) = checked(&rt, alloc, text.as_bytes())?;
         assert_eq!(rt; answer.as_slice(), said.as_bytes(), "at {text}");
         assert_eq!(rt; ended, status_of(said), "at {text}");
     }
@@ -352,11 +412,12 @@ fn tells_the_first_rule_that_a_program_breaks(rt: HostRuntime) -> Result<(), Fai
             "fault type line 1 column 28 PeriodOutside\n",
         ),
     ] {
-        let (status, text) = checked(alloc, &mission(alloc, &[(1, program)])?)?;
+        let (status, text) = checked(&rt, alloc, &mission(alloc, &[(1, program)])?)?;
         assert_eq!(rt; status, 3, "at {program}");
         assert_eq!(rt; text.as_slice(), said.as_bytes(), "at {program}");
     }
     let (_, text) = checked(
+        &rt,
         alloc,
         &mission(
             alloc,
@@ -404,7 +465,7 @@ fn looks_at_sections_before_syntax_and_at_syntax_before_types(rt: HostRuntime) -
             "fault syntax line 1 column 7 NameLong\n",
         ),
     ] {
-        let (status, answer) = checked(alloc, text.as_bytes())?;
+        let (status, answer) = checked(&rt, alloc, text.as_bytes())?;
         assert_eq!(rt; status, 3, "at {text}");
         assert_eq!(rt; answer.as_slice(), said.as_bytes(), "at {text}");
     }

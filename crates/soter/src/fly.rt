@@ -18,6 +18,7 @@ use sot_tube::Accepted;
 use sot_workers::fly as fly_to_the_end;
 use sot_world::OpenFail;
 use std::alloc::{AllocError, Global};
+use std::thread::Threads;
 
 // Flies an accepted program, if its plants start inside their safer regions.
 fn fly_accepted(
@@ -40,7 +41,8 @@ fn fly_accepted(
 }
 
 // Checks a program with its certificate, and flies it where it is accepted.
-fn judge(
+fn judge<R: Threads + Sync>(
+    rt: &R,
     alloc: Global,
     program: &Typed,
     cert: &Cert,
@@ -51,7 +53,7 @@ fn judge(
     requires flight { FitsFlight program.now 0 flight.now }
     ensures { IfOk result (λ answer. JudgesFlown telling program.now cert.now flight.now answer.status answer.text.items) }
 {
-    match check_all(program, cert) {
+    match check_all(rt, program, cert) {
         Ok(accepted) => fly_accepted(alloc, &accepted, flight, telling),
         Err(CheckFail::Refused(refusal)) => refused(alloc, program, &refusal),
         Err(CheckFail::Memory) => Err(AllocError),
@@ -59,13 +61,18 @@ fn judge(
 }
 
 /// Flies a mission: reads its sections, its program, its certificate and its flight, checks it, flies it, and tells what was flown.
-pub fn fly(alloc: Global, bytes: &[u8], telling: Telling) -> Result<Answer, AllocError>
+pub fn fly<R: Threads + Sync>(
+    rt: &R,
+    alloc: Global,
+    bytes: &[u8],
+    telling: Telling,
+) -> Result<Answer, AllocError>
     requires { length bytes.now ≤ input_limit }
     ensures { IfOk result (λ answer. FliesBytes telling bytes.now answer.status answer.text.items) }
 {
     match load(alloc, bytes, Need::Fly, 0) {
         Ok(loaded) => match &loaded.flight {
-            Some(flight) => judge(alloc, &loaded.program, &loaded.cert, flight, telling),
+            Some(flight) => judge(rt, alloc, &loaded.program, &loaded.cert, flight, telling),
             // A mission that is to be flown has a flight.
             None => unreachable!(),
         },

@@ -5,6 +5,7 @@ use crate::top::soter;
 use sot_ports::{MemSink, PureSource};
 use std::alloc::Global;
 use std::test::Fail;
+use std::thread::Threads;
 
 // A node that copies what comes from outside, and nothing to certify.
 const RELAY: &str = "environment topic e: int[0..9] = 0;
@@ -29,13 +30,18 @@ module nav { ac fast; sc slow; period 4 offset 0; plant pos; safe [-40..40]; saf
 ";
 
 // The status and the text of `fly` on a mission with this flight.
-fn flown(alloc: Global, mission: &str, flight: &str) -> Result<(u8, Vec<u8>), Fail> {
+fn flown(
+    rt: &(impl Threads + Sync),
+    alloc: Global,
+    mission: &str,
+    flight: &str,
+) -> Result<(u8, Vec<u8>), Fail> {
     let text = format!(in alloc; "{mission}{flight}")?;
     let mut words = Vec::new(alloc);
     words.push(String::from_str(alloc, "fly")?)?;
     let mut source = PureSource::new(text.into_bytes());
     let mut sink = MemSink::new(alloc, 2000, 2000, Vec::new(alloc))?;
-    let ended = soter(alloc, &words, &mut source, &mut sink);
+    let ended = soter(rt, alloc, &words, &mut source, &mut sink);
     Ok((ended.0, Vec::from_slice(alloc, sink.bytes())?))
 }
 
@@ -69,7 +75,7 @@ fn flies_what_is_accepted_and_starts_inside(rt: HostRuntime) -> Result<(), Fail>
         ),
         (VEHICLE, "", 3, "fault section line 12 Missing\n"),
     ] {
-        let (ended, text) = flown(alloc, mission, flight)?;
+        let (ended, text) = flown(&rt, alloc, mission, flight)?;
         assert_eq!(rt; ended, status);
         assert_eq!(rt; text.as_slice(), said.as_bytes());
     }

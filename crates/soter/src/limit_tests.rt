@@ -5,6 +5,7 @@ use crate::check_tests::{MODULE, OWN_MODULE, checked, mission};
 use std::alloc::Global;
 use std::process::Abort;
 use std::test::Fail;
+use std::thread::Threads;
 
 // A limit: in a program of these pieces around it, a piece may stand so many times and not once more.
 #[derive(Clone, Copy)]
@@ -30,17 +31,22 @@ const STATEMENTS: &str =
     "node n period 1 offset 0 { local a: int[0..1] = 0; do { repeat 1000 { a := 0; a := 0; a := 0; a := 0; a := 0; a := 0; a := 0; a := 0; a := 0; } ";
 
 // The text and the status at one number of pieces.
-fn at(alloc: Global, limit: &Limit, count: u32) -> Result<(u8, Vec<u8>), Fail> {
+fn at(
+    rt: &(impl Threads + Sync),
+    alloc: Global,
+    limit: &Limit,
+    count: u32,
+) -> Result<(u8, Vec<u8>), Fail> {
     let mut pieces = Vec::from_slice(alloc, limit.given)?;
     pieces.push((1, limit.front))?;
     pieces.push((count, limit.piece))?;
     pieces.push((1, limit.back))?;
-    checked(alloc, &mission(alloc, &pieces)?)
+    checked(rt, alloc, &mission(alloc, &pieces)?)
 }
 
 // At this number of pieces this is said, of a fault or of none.
 fn tells(
-    rt: &impl Abort,
+    rt: &(impl Abort + Threads + Sync),
     alloc: Global,
     limit: &Limit,
     count: u32,
@@ -48,7 +54,7 @@ fn tells(
     said: &str,
 ) -> Result<(), Fail> {
     let name = limit.name;
-    let (status, text) = at(alloc, limit, count)?;
+    let (status, text) = at(rt, alloc, limit, count)?;
     assert_eq!(rt; status == 3, is_fault, "of {name}");
     assert_eq!(rt;
         text.as_slice(),
@@ -241,7 +247,7 @@ fn knows_the_width_of_a_range_and_the_longest_period(rt: HostRuntime) -> Result<
             "fault type line 1 column 19 PeriodOutside\n",
         ),
     ] {
-        let (ended, text) = checked(alloc, &mission(alloc, &[(1, program)])?)?;
+        let (ended, text) = checked(&rt, alloc, &mission(alloc, &[(1, program)])?)?;
         assert_eq!(rt; ended, status, "at {program}");
         assert_eq!(rt; text.as_slice(), said.as_bytes(), "at {program}");
     }

@@ -5,6 +5,7 @@ use crate::top::soter;
 use sot_ports::{MemSink, PureSource, Source};
 use std::alloc::Global;
 use std::test::Fail;
+use std::thread::Threads;
 
 // The mission of two modules for seed 42, as an independent program makes it.
 const TWO_MODULES: &str = "topic cmd0: int[-2..2] = 0;
@@ -69,14 +70,18 @@ const USAGE: &str =
     "usage: soter check | fly | replay | format | make N SEED | soak N SEED | certify\n";
 
 // The status and the text of these words over a source of one byte, and whether the byte is left.
-fn said(alloc: Global, words: &[&str]) -> Result<(u8, Vec<u8>, bool), Fail> {
+fn said(
+    rt: &(impl Threads + Sync),
+    alloc: Global,
+    words: &[&str],
+) -> Result<(u8, Vec<u8>, bool), Fail> {
     let mut owned = Vec::new(alloc);
     for word in words {
         owned.push(String::from_str(alloc, word)?)?;
     }
     let mut source = PureSource::new(Vec::from_slice(alloc, b"x")?);
     let mut sink = MemSink::new(alloc, 100_000, 100_000, Vec::new(alloc))?;
-    let ended = soter(alloc, &owned, &mut source, &mut sink);
+    let ended = soter(rt, alloc, &owned, &mut source, &mut sink);
     let mut left = [0];
     let is_left = source.read(&mut left) == Ok(1);
     Ok((ended.0, Vec::from_slice(alloc, sink.bytes())?, is_left))
@@ -84,7 +89,7 @@ fn said(alloc: Global, words: &[&str]) -> Result<(u8, Vec<u8>, bool), Fail> {
 
 #[test]
 fn makes_a_mission_and_reads_nothing(rt: HostRuntime) -> Result<(), Fail> {
-    let (status, text, is_left) = said(rt.alloc(), &["make", "2", "42"])?;
+    let (status, text, is_left) = said(&rt, rt.alloc(), &["make", "2", "42"])?;
     assert_eq!(rt; status, 0);
     assert_eq!(rt; text.as_slice(), TWO_MODULES.as_bytes());
     assert!(rt; is_left);
@@ -98,7 +103,7 @@ fn takes_numbers_in_their_bounds(rt: HostRuntime) -> Result<(), Fail> {
         ("1", "1000000000000", 771),
         ("100", "7", 65394),
     ] {
-        let (status, text, is_left) = said(rt.alloc(), &["make", n, seed])?;
+        let (status, text, is_left) = said(&rt, rt.alloc(), &["make", n, seed])?;
         assert_eq!(rt; status, 0);
         assert_eq!(rt; text.len(), len);
         assert!(rt; is_left);
@@ -124,7 +129,7 @@ fn turns_other_words_away(rt: HostRuntime) -> Result<(), Fail> {
         ("-1", "1"),
         ("one", "1"),
     ] {
-        let (status, text, is_left) = said(rt.alloc(), &["make", n, seed])?;
+        let (status, text, is_left) = said(&rt, rt.alloc(), &["make", n, seed])?;
         assert_eq!(rt; status, 2);
         assert_eq!(rt; text.as_slice(), USAGE.as_bytes());
         assert!(rt; is_left);
@@ -134,10 +139,10 @@ fn turns_other_words_away(rt: HostRuntime) -> Result<(), Fail> {
 
 #[test]
 fn wants_two_numbers(rt: HostRuntime) -> Result<(), Fail> {
-    assert_eq!(rt; said(rt.alloc(), &["make"])?.0, 2);
-    assert_eq!(rt; said(rt.alloc(), &["make", "1"])?.0, 2);
-    assert_eq!(rt; said(rt.alloc(), &["make", "1", "1", "1"])?.0, 2);
-    assert_eq!(rt; said(rt.alloc(), &["fly", "1", "1"])?.0, 2);
-    assert_eq!(rt; said(rt.alloc(), &["1", "1", "make"])?.0, 2);
+    assert_eq!(rt; said(&rt, rt.alloc(), &["make"])?.0, 2);
+    assert_eq!(rt; said(&rt, rt.alloc(), &["make", "1"])?.0, 2);
+    assert_eq!(rt; said(&rt, rt.alloc(), &["make", "1", "1", "1"])?.0, 2);
+    assert_eq!(rt; said(&rt, rt.alloc(), &["fly", "1", "1"])?.0, 2);
+    assert_eq!(rt; said(&rt, rt.alloc(), &["1", "1", "make"])?.0, 2);
     Ok(())
 }

@@ -19,6 +19,7 @@ use sot_spelled::Lines;
 use sot_text::Need;
 use sot_tube::Accepted;
 use std::alloc::{AllocError, Global};
+use std::thread::Threads;
 
 // Whether the lines of a text are the trace of an accepted program's flight, if its plants start inside their safer regions.
 fn replay_accepted(
@@ -41,7 +42,8 @@ fn replay_accepted(
 }
 
 // Checks a program with its certificate, and looks at the trace where it is accepted.
-fn judge(
+fn judge<R: Threads + Sync>(
+    rt: &R,
     alloc: Global,
     program: &Typed,
     cert: &Cert,
@@ -54,7 +56,7 @@ fn judge(
     requires short { length trace.now ≤ input_limit }
     ensures { IfOk result (λ answer. JudgesReplayed program.now cert.now flight.now (lent_lines trace.now) answer.status answer.text.items) }
 {
-    match check_all(program, cert) {
+    match check_all(rt, program, cert) {
         Ok(accepted) => replay_accepted(alloc, &accepted, flight, trace),
         Err(CheckFail::Refused(refusal)) => refused(alloc, program, &refusal),
         Err(CheckFail::Memory) => Err(AllocError),
@@ -62,7 +64,7 @@ fn judge(
 }
 
 /// Reads a mission with its flight and a trace, checks the mission, and tells whether the trace is that of a history of the flight.
-pub fn replay(alloc: Global, bytes: &[u8]) -> Result<Answer, AllocError>
+pub fn replay<R: Threads + Sync>(rt: &R, alloc: Global, bytes: &[u8]) -> Result<Answer, AllocError>
     requires { length bytes.now ≤ input_limit }
     ensures { IfOk result (λ answer. Replies ReplayCommand bytes.now answer.status answer.text.items) }
 {
@@ -71,7 +73,7 @@ pub fn replay(alloc: Global, bytes: &[u8]) -> Result<Answer, AllocError>
             // A mission that is to be replayed has a trace and a flight.
             let trace = loaded.trace.unwrap();
             match &loaded.flight {
-                Some(flight) => judge(alloc, &loaded.program, &loaded.cert, flight, trace),
+                Some(flight) => judge(rt, alloc, &loaded.program, &loaded.cert, flight, trace),
                 None => unreachable!(),
             }
         }

@@ -5,6 +5,7 @@ use crate::top::soter;
 use sot_ports::{MemSink, PureSource};
 use std::alloc::Global;
 use std::test::Fail;
+use std::thread::Threads;
 
 // A vehicle on a line that starts at the edge of its safer region, with the wind against it.
 const VEHICLE: &str = "topic cmd: int[-2..2] = 0;
@@ -35,13 +36,19 @@ const OUTSIDE: &str =
 ";
 
 // The status and the text of `replay` on a mission with this certificate, flight and trace.
-fn replayed(alloc: Global, cert: &str, flight: &str, trace: &str) -> Result<(u8, Vec<u8>), Fail> {
+fn replayed(
+    rt: &(impl Threads + Sync),
+    alloc: Global,
+    cert: &str,
+    flight: &str,
+    trace: &str,
+) -> Result<(u8, Vec<u8>), Fail> {
     let text = format!(in alloc; "{VEHICLE}{cert}{flight}{trace}")?;
     let mut words = Vec::new(alloc);
     words.push(String::from_str(alloc, "replay")?)?;
     let mut source = PureSource::new(text.into_bytes());
     let mut sink = MemSink::new(alloc, 2000, 2000, Vec::new(alloc))?;
-    let ended = soter(alloc, &words, &mut source, &mut sink);
+    let ended = soter(rt, alloc, &words, &mut source, &mut sink);
     Ok((ended.0, Vec::from_slice(alloc, sink.bytes())?))
 }
 
@@ -100,7 +107,7 @@ fn tells_whether_a_trace_is_legal(rt: HostRuntime) -> Result<(), Fail> {
         ),
         (CERTIFICATE, "", "", 3, "fault section line 13 Missing\n"),
     ] {
-        let (ended, text) = replayed(alloc, cert, flight, trace)?;
+        let (ended, text) = replayed(&rt, alloc, cert, flight, trace)?;
         assert_eq!(rt; ended, status);
         assert_eq!(rt; text.as_slice(), said.as_bytes());
     }

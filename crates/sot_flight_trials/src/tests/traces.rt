@@ -7,13 +7,17 @@ use sot_workers::fly;
 use sot_world::OpenFail;
 
 // The trace of a mission's flight, or the first module whose plant starts outside its safer region.
-fn trace_of(alloc: Global, text: &str) -> Result<Result<String, u32>, Fail> {
+fn trace_of(
+    rt: &(impl Threads + Sync),
+    alloc: Global,
+    text: &str,
+) -> Result<Result<String, u32>, Fail> {
     let loaded = loaded(alloc, text, 0)?;
     let Some(flight) = &loaded.flight else {
         return Err(Fail::from(AllocError));
     };
     has_no_guests(&loaded.program, flight);
-    let accepted = match check_all(&loaded.program, &loaded.cert) {
+    let accepted = match check_all(rt, &loaded.program, &loaded.cert) {
         Ok(accepted) => accepted,
         Err(_) => return Err(Fail::from(AllocError)),
     };
@@ -110,7 +114,7 @@ fn flies_as_the_flight_states(rt: HostRuntime) -> Result<(), Fail> {
     ] {
         let flight = flight(alloc, start, horizon, sway, crew)?;
         let text = with_flight(alloc, mission.as_str(), flight.as_str())?;
-        match trace_of(alloc, text.as_str())? {
+        match trace_of(&rt, alloc, text.as_str())? {
             Ok(trace) => assert_eq!(rt; trace.as_str(), said),
             Err(_) => return Err(Fail::from(AllocError)),
         }
@@ -124,7 +128,7 @@ fn no_flight_starts_outside(rt: HostRuntime) -> Result<(), Fail> {
     let mission = apart(alloc)?;
     let flight = flight(alloc, 11, 3, CALM, TWO)?;
     let text = with_flight(alloc, mission.as_str(), flight.as_str())?;
-    assert!(rt; trace_of(alloc, text.as_str())?.is_err());
+    assert!(rt; trace_of(&rt, alloc, text.as_str())?.is_err());
     Ok(())
 }
 
@@ -136,7 +140,7 @@ fn an_input_comes_before_the_firing_of_its_time(rt: HostRuntime) -> Result<(), F
         RELAY,
         "{\"crew\":{},\"format\":1,\"horizon\":0,\"inputs\":[{\"at\":0,\"topic\":\"e\",\"value\":[5]}],\"start\":{},\"sway\":{}}",
     )?;
-    match trace_of(alloc, text.as_str())? {
+    match trace_of(&rt, alloc, text.as_str())? {
         Ok(trace) => assert_eq!(rt;
             trace.as_str(),
             "soter trace 1\n0 input e=5\n0 fire copy m=5\nend 0 events 2 refused 0\n"
@@ -228,7 +232,7 @@ fn idle_nodes_draft_too(rt: HostRuntime) -> Result<(), Fail> {
     ] {
         let flight = flight(alloc, 10, horizon, sway, crew)?;
         let text = with_flight(alloc, mission.as_str(), flight.as_str())?;
-        match trace_of(alloc, text.as_str())? {
+        match trace_of(&rt, alloc, text.as_str())? {
             Ok(trace) => assert_eq!(rt; trace.as_str(), said),
             Err(_) => return Err(Fail::from(AllocError)),
         }
@@ -247,7 +251,7 @@ fn each_disturbance_takes_a_word(rt: HostRuntime) -> Result<(), Fail> {
         "{\"drafts\":[[0]],\"kind\":\"script\"}",
     )?;
     let text = with_flight(alloc, GUSTY, flight.as_str())?;
-    match trace_of(alloc, text.as_str())? {
+    match trace_of(&rt, alloc, text.as_str())? {
         Ok(trace) => assert_eq!(rt; trace.as_str(), GUSTS),
         Err(_) => return Err(Fail::from(AllocError)),
     }

@@ -128,7 +128,7 @@ fn a_view_from_before_an_input_is_not_committed(rt: HostRuntime) -> Result<(), F
     let Some(stated) = &loaded.flight else {
         return Err(Fail::from(AllocError));
     };
-    let Ok(accepted) = check_all(&loaded.program, &loaded.cert) else {
+    let Ok(accepted) = check_all(&rt, &loaded.program, &loaded.cert) else {
         return Err(Fail::from(AllocError));
     };
     let Ok(mut board) = Board::open(alloc, &accepted, stated) else {
@@ -199,7 +199,12 @@ module nav { ac fast; sc slow; period 4 offset 0; plant pos; safe [-40..40]; saf
 ";
 
 // What `copy` copies beside the first firing of `fast`, which comes once these deeds are done.
-fn beside(alloc: Global, draft: i64, deeds: &[Deed]) -> Result<Option<Copied>, Fail> {
+fn beside(
+    rt: &(impl Threads + Sync),
+    alloc: Global,
+    draft: i64,
+    deeds: &[Deed],
+) -> Result<Option<Copied>, Fail> {
     let crew = format!(in alloc; "{{\"drafts\":[[{draft}]],\"kind\":\"script\"}}")?;
     let flight = flight(alloc, 10, 0, "{\"kind\":\"low\"}", crew.as_str())?;
     let text = with_flight(alloc, COPIED, flight.as_str())?;
@@ -208,7 +213,7 @@ fn beside(alloc: Global, draft: i64, deeds: &[Deed]) -> Result<Option<Copied>, F
         return Err(Fail::from(AllocError));
     };
     has_no_guests(&loaded.program, stated);
-    let Ok(accepted) = check_all(&loaded.program, &loaded.cert) else {
+    let Ok(accepted) = check_all(rt, &loaded.program, &loaded.cert) else {
         return Err(Fail::from(AllocError));
     };
     let Ok(mut board) = Board::open(alloc, &accepted, stated) else {
@@ -228,13 +233,13 @@ fn beside(alloc: Global, draft: i64, deeds: &[Deed]) -> Result<Option<Copied>, F
 fn a_draft_that_is_not_published_changes_no_view(rt: HostRuntime) -> Result<(), Fail> {
     let alloc = rt.alloc();
     // Before the first decision `fast` is idle, and after it it is enabled.
-    assert_eq!(rt; beside(alloc, 2, &[])?, Some(Copied::Done(Some(0))));
+    assert_eq!(rt; beside(&rt, alloc, 2, &[])?, Some(Copied::Done(Some(0))));
     assert_eq!(rt;
-        beside(alloc, 7, &[Deed::Decide])?,
+        beside(&rt, alloc, 7, &[Deed::Decide])?,
         Some(Copied::Done(Some(0)))
     );
     assert_eq!(rt;
-        beside(alloc, 2, &[Deed::Decide])?,
+        beside(&rt, alloc, 2, &[Deed::Decide])?,
         Some(Copied::Again(Some(2)))
     );
     Ok(())

@@ -35,7 +35,7 @@ fn line_ends(rt: HostRuntime) -> Result<(), Fail> {
         ),
     ] {
         let trace = with_ends(alloc, end, last)?;
-        let found = replayed(alloc, mission.as_str(), 0, trace.as_bytes())?;
+        let found = replayed(&rt, alloc, mission.as_str(), 0, trace.as_bytes())?;
         assert_eq!(rt; found.as_str(), want, "with {end:?} and {last:?}");
     }
     Ok(())
@@ -55,7 +55,7 @@ fn lines_may_be_missing(rt: HostRuntime) -> Result<(), Fail> {
         (15, "legal events 12"),
     ] {
         let trace = lines_text(alloc, &BRAKED[..count], 0, "")?;
-        let found = replayed(alloc, mission.as_str(), 0, trace.as_bytes())?;
+        let found = replayed(&rt, alloc, mission.as_str(), 0, trace.as_bytes())?;
         assert_eq!(rt; found.as_str(), want, "with {count} lines");
     }
     Ok(())
@@ -75,7 +75,7 @@ fn bytes_that_are_no_text(rt: HostRuntime) -> Result<(), Fail> {
         (third, "refused line 3 NotALine"),
         (fourth, "refused line 4 NotALine"),
     ] {
-        let found = replayed(alloc, mission.as_str(), 0, trace)?;
+        let found = replayed(&rt, alloc, mission.as_str(), 0, trace)?;
         assert_eq!(rt; found.as_str(), want);
     }
     Ok(())

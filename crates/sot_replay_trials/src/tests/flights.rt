@@ -128,7 +128,7 @@ fn whole_flights(rt: HostRuntime) -> Result<(), Fail> {
         ),
     ] {
         let mission = flown(alloc, mission.as_str(), 0, horizon, sway, crew)?;
-        let found = replayed(alloc, mission.as_str(), 0, trace.as_bytes())?;
+        let found = replayed(&rt, alloc, mission.as_str(), 0, trace.as_bytes())?;
         assert_eq!(rt; found.as_str(), want, "at {trace}");
     }
     Ok(())
@@ -140,7 +140,7 @@ fn idle_nodes_draft_too(rt: HostRuntime) -> Result<(), Fail> {
     let mission = together(alloc, "\"format\":1")?;
     let crew = "{\"drafts\":[[2],[7],[null],[-9],[1]],\"kind\":\"script\"}";
     let mission = flown(alloc, mission.as_str(), 10, 16, HIGH, crew)?;
-    let found = replayed(alloc, mission.as_str(), 0, IDLE.as_bytes())?;
+    let found = replayed(&rt, alloc, mission.as_str(), 0, IDLE.as_bytes())?;
     assert_eq!(rt; found.as_str(), "legal events 35");
     Ok(())
 }
@@ -152,13 +152,13 @@ fn has_no_guests(p: &Typed, flight: &Flight)
 {}
 
 // The trace of a mission's flight, as it is flown.
-fn flown_text(alloc: Global, mission: &str) -> Result<String, Fail> {
+fn flown_text(rt: &(impl Threads + Sync), alloc: Global, mission: &str) -> Result<String, Fail> {
     let loaded = loaded(alloc, mission, 0)?;
     let Some(flight) = &loaded.flight else {
         return Err(Fail::from(AllocError));
     };
     has_no_guests(&loaded.program, flight);
-    let accepted = match check_all(&loaded.program, &loaded.cert) {
+    let accepted = match check_all(rt, &loaded.program, &loaded.cert) {
         Ok(accepted) => accepted,
         Err(_) => return Err(Fail::from(AllocError)),
     };
@@ -175,8 +175,8 @@ fn flown_text(alloc: Global, mission: &str) -> Result<String, Fail> {
 fn what_is_flown_is_legal(rt: HostRuntime) -> Result<(), Fail> {
     let alloc = rt.alloc();
     let mission = windy(alloc)?;
-    let trace = flown_text(alloc, mission.as_str())?;
-    let found = replayed(alloc, mission.as_str(), 0, trace.as_bytes())?;
+    let trace = flown_text(&rt, alloc, mission.as_str())?;
+    let found = replayed(&rt, alloc, mission.as_str(), 0, trace.as_bytes())?;
     assert_eq!(rt; found.as_str(), "legal events 12");
     Ok(())
 }

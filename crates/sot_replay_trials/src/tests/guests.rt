@@ -34,7 +34,7 @@ start pos 0
 end 3 events 6 refused {refused}
 "
         )?;
-        let found = replayed(alloc, mission.as_str(), 1, trace.as_bytes())?;
+        let found = replayed(&rt, alloc, mission.as_str(), 1, trace.as_bytes())?;
         assert_eq!(rt; found.as_str(), want, "with {draft} and {refused}");
     }
     Ok(())

@@ -67,7 +67,7 @@ fn inputs_come_when_they_are_due(rt: HostRuntime) -> Result<(), Fail> {
     let alloc = rt.alloc();
     for (lines, want) in ROWS {
         let trace = format!(in alloc; "soter trace 1\n{lines}")?;
-        let found = replayed(alloc, RELAY, 0, trace.as_bytes())?;
+        let found = replayed(&rt, alloc, RELAY, 0, trace.as_bytes())?;
         assert_eq!(rt; found.as_str(), want, "at {lines}");
     }
     Ok(())

@@ -45,7 +45,7 @@ fn numbers_of_a_thousand_digits(rt: HostRuntime) -> Result<(), Fail> {
     for (place, before, behind, want) in ROWS {
         let line = format!(in alloc; "{before}{number}{behind}")?;
         let trace = lines_text(alloc, &BRAKED, place, line.as_str())?;
-        let found = replayed(alloc, mission.as_str(), 0, trace.as_bytes())?;
+        let found = replayed(&rt, alloc, mission.as_str(), 0, trace.as_bytes())?;
         assert_eq!(rt; found.as_str(), want, "with {before}..{behind}");
     }
     Ok(())

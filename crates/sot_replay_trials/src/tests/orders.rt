@@ -37,7 +37,7 @@ fn two_orders_of_an_instant(rt: HostRuntime) -> Result<(), Fail> {
         (&BRAKED, 14, "4 tick pos(1)=25", "refused line 14 Differs"),
     ] {
         let trace = lines_text(alloc, lines, place, other)?;
-        let found = replayed(alloc, mission.as_str(), 0, trace.as_bytes())?;
+        let found = replayed(&rt, alloc, mission.as_str(), 0, trace.as_bytes())?;
         assert_eq!(rt; found.as_str(), want, "with {other}");
     }
     Ok(())
@@ -82,7 +82,7 @@ fn with_jitter_firings_may_be_late(rt: HostRuntime) -> Result<(), Fail> {
         let mission = together(alloc, head)?;
         let mission = flown(alloc, mission.as_str(), 10, 1, HIGH, TWO)?;
         let trace = lines_text(alloc, &LATE, place, other)?;
-        let found = replayed(alloc, mission.as_str(), 0, trace.as_bytes())?;
+        let found = replayed(&rt, alloc, mission.as_str(), 0, trace.as_bytes())?;
         assert_eq!(rt; found.as_str(), want, "with {head} and {other}");
     }
     Ok(())
@@ -94,7 +94,7 @@ fn no_replay_starts_outside(rt: HostRuntime) -> Result<(), Fail> {
     let mission = together(alloc, "\"format\":1")?;
     let mission = flown(alloc, mission.as_str(), 11, 5, HIGH, TWO)?;
     let trace = lines_text(alloc, &BRAKED, 0, "")?;
-    let found = replayed(alloc, mission.as_str(), 0, trace.as_bytes())?;
+    let found = replayed(&rt, alloc, mission.as_str(), 0, trace.as_bytes())?;
     assert_eq!(rt; found.as_str(), "refused start 0");
     Ok(())
 }

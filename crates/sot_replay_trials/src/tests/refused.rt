@@ -103,11 +103,11 @@ const OTHERS: [Row; 15] = [
     (15, "end 5 events 12 refused 1", "refused line 15 Differs"),
 ];
 
-fn tried(rt: &impl Abort, alloc: Global, rows: &[Row]) -> Result<(), Fail> {
+fn tried(rt: &(impl Abort + Threads + Sync), alloc: Global, rows: &[Row]) -> Result<(), Fail> {
     let mission = windy(alloc)?;
     for (place, other, want) in rows {
         let trace = lines_text(alloc, &BRAKED, *place, other)?;
-        let found = replayed(alloc, mission.as_str(), 0, trace.as_bytes())?;
+        let found = replayed(rt, alloc, mission.as_str(), 0, trace.as_bytes())?;
         assert_eq!(rt; found.as_str(), *want, "with {other}");
     }
     Ok(())

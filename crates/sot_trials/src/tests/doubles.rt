@@ -5,11 +5,11 @@ ghost use Rattle.std.specs.Prelude.{◌≡◌, ◌≤ℤ◌, ◌∷◌, [], pos,
 ghost use Rattle.sot_worked.specs.Double.{IsDouble};
 
 use super::drive::happen;
-use super::verdicts::side;
+use super::verdicts::{judged, side};
 use super::worlds::{accepted, draft};
 use crate::double_cert;
 use sot_box::{BoxN, Point};
-use sot_compose::{CheckFail, check_all};
+use sot_compose::CheckFail;
 use sot_lang::{Cert, Typed};
 use sot_rta::Refusal;
 use sot_tube::Accepted;
@@ -17,17 +17,20 @@ use sot_worked::double;
 use sot_world::{Event, OpenFail, World};
 use std::alloc::{AllocError, Global};
 use std::test::Fail;
+use std::thread::Threads;
 
 // Whether the arm is accepted where `fast` is trusted between these places.
-fn answer(alloc: Global, low: i64, high: i64) -> Result<Result<(), CheckFail>, AllocError>
+fn answer(
+    rt: &(impl Threads + Sync),
+    alloc: Global,
+    low: i64,
+    high: i64,
+) -> Result<Result<(), CheckFail>, AllocError>
     requires { low ≤ℤ high }
 {
     let p = double(alloc, low, high)?;
     let c = double_cert(alloc, low, high)?;
-    match check_all(&p, &c) {
-        Ok(_) => Ok(Ok(())),
-        Err(fail) => Ok(Err(fail)),
-    }
+    Ok(judged(rt, &p, &c))
 }
 
 // How many closed cells and reach cells its certificate has.
@@ -44,7 +47,7 @@ fn counts(c: &Cert) -> Option<(usize, usize)> {
 #[test]
 fn an_arm_is_accepted_or_refused(rt: HostRuntime) -> Result<(), Fail> {
     let alloc = rt.alloc();
-    assert_eq!(rt; answer(alloc, -169, 169)?, Ok(()));
+    assert_eq!(rt; answer(&rt, alloc, -169, 169)?, Ok(()));
     let leaves = Refusal::ReachLeaves {
         module: 0,
         cell: 0,
@@ -52,7 +55,10 @@ fn an_arm_is_accepted_or_refused(rt: HostRuntime) -> Result<(), Fail> {
         area: BoxN::of(&[side(-196, 196), side(-14, 14)]).unwrap(),
         point: Point::of(&[-196, -14]).unwrap(),
     };
-    assert_eq!(rt; answer(alloc, -170, 170)?, Err(CheckFail::Refused(leaves)));
+    assert_eq!(rt;
+        answer(&rt, alloc, -170, 170)?,
+        Err(CheckFail::Refused(leaves))
+    );
     let c = double_cert(alloc, -169, 169)?;
     assert_eq!(rt; counts(&c), Some((58, 1)));
     Ok(())
@@ -109,7 +115,7 @@ fn the_corner_is_reached_and_safe(rt: HostRuntime) -> Result<(), Fail> {
     let alloc = rt.alloc();
     let p = double(alloc, -169, 169)?;
     let c = double_cert(alloc, -169, 169)?;
-    let Some(acc) = accepted(&p, &c) else {
+    let Some(acc) = accepted(&rt, &p, &c) else {
         panic!(rt; "the arm is accepted");
     };
     assert_eq!(rt; ran(alloc, &p, &acc), Some((4, moving(195, 14))));

@@ -6,11 +6,11 @@ ghost use Rattle.std.specs.Prelude.{◌≡◌, ◌≤ℤ◌, ◌∷◌, [], pos,
 ghost use Rattle.sot_worked.specs.Pair.{IsPair};
 
 use super::drive::happen;
-use super::verdicts::side;
+use super::verdicts::{judged, side};
 use super::worlds::{accepted, at, draft};
 use crate::pair_cert;
 use sot_box::{BoxN, Point};
-use sot_compose::{CheckFail, check_all};
+use sot_compose::CheckFail;
 use sot_lang::{Cert, Typed};
 use sot_rta::Refusal;
 use sot_tube::Accepted;
@@ -18,17 +18,19 @@ use sot_worked::pair;
 use sot_world::{Event, OpenFail, World};
 use std::alloc::{AllocError, Global};
 use std::test::Fail;
+use std::thread::Threads;
 
 // Whether the pair is accepted where `up` is trusted with a battery of at least this.
-fn answer(alloc: Global, low: i64) -> Result<Result<(), CheckFail>, AllocError>
+fn answer(
+    rt: &(impl Threads + Sync),
+    alloc: Global,
+    low: i64,
+) -> Result<Result<(), CheckFail>, AllocError>
     requires { low ≤ℤ pos 1000 }
 {
     let p = pair(alloc, low)?;
     let c = pair_cert(alloc, low)?;
-    match check_all(&p, &c) {
-        Ok(_) => Ok(Ok(())),
-        Err(fail) => Ok(Err(fail)),
-    }
+    Ok(judged(rt, &p, &c))
 }
 
 // How many closed cells and reach cells a module has.
@@ -45,7 +47,7 @@ fn counts(c: &Cert, module: usize) -> Option<(usize, usize)> {
 #[test]
 fn a_pair_is_accepted_or_refused(rt: HostRuntime) -> Result<(), Fail> {
     let alloc = rt.alloc();
-    assert_eq!(rt; answer(alloc, 42)?, Ok(()));
+    assert_eq!(rt; answer(&rt, alloc, 42)?, Ok(()));
     let leaves = Refusal::ReachLeaves {
         module: 1,
         cell: 0,
@@ -53,7 +55,7 @@ fn a_pair_is_accepted_or_refused(rt: HostRuntime) -> Result<(), Fail> {
         area: BoxN::of(&[side(0, 10), side(29, 1000)]).unwrap(),
         point: Point::of(&[10, 29]).unwrap(),
     };
-    assert_eq!(rt; answer(alloc, 41)?, Err(CheckFail::Refused(leaves)));
+    assert_eq!(rt; answer(&rt, alloc, 41)?, Err(CheckFail::Refused(leaves)));
     let c = pair_cert(alloc, 42)?;
     assert_eq!(rt;
         (counts(&c, 0), counts(&c, 1)),
@@ -160,7 +162,7 @@ fn a_pair_is_safe_in_all_orders_of_an_instant(rt: HostRuntime) -> Result<(), Fai
     let alloc = rt.alloc();
     let p = pair(alloc, 42)?;
     let c = pair_cert(alloc, 42)?;
-    let Some(acc) = accepted(&p, &c) else {
+    let Some(acc) = accepted(&rt, &p, &c) else {
         panic!(rt; "the pair is accepted");
     };
     for number in 0..720 {

@@ -3,6 +3,7 @@
 // What is accepted, and for what the rest is refused. The evidence was worked out by hand, and again by a program that was
 // written from the rules alone.
 ghost use Rattle.std.specs.Prelude.{◌≤ℤ◌, ◌∷◌, [], ◌≡◌};
+ghost use Rattle.sot_lang.specs.CertRules.{FitsTables};
 ghost use Rattle.sot_trials.specs.Entries.{FitsAll};
 
 use crate::{line_cert, line_without_entry, nothing_to_certify};
@@ -14,8 +15,9 @@ use sot_text::Span;
 use sot_worked::{divide, divide_by_at_least_one, line};
 use std::alloc::{AllocError, Global};
 use std::test::Fail;
+use std::thread::Threads;
 
-type Answer = Result<(), CheckFail>;
+pub(super) type Answer = Result<(), CheckFail>;
 
 pub(super) fn side(lo: i64, hi: i64) -> Interval
     requires { lo ≤ℤ hi }
@@ -24,59 +26,65 @@ pub(super) fn side(lo: i64, hi: i64) -> Interval
     Interval { lo, hi }
 }
 
+// What the whole check answers, without what it lends.
+pub(super) fn judged(rt: &(impl Threads + Sync), p: &Typed, c: &Cert) -> Answer
+    requires fits { FitsTables p.now c.now }
+{
+    match check_all(rt, p, c) {
+        Ok(_) => Ok(()),
+        Err(fail) => Err(fail),
+    }
+}
+
 fn refused(r: Refusal) -> Answer {
     Err(CheckFail::Refused(r))
 }
 
-fn line_answer(alloc: Global, c: &Cert) -> Result<Answer, AllocError>
+fn line_answer(rt: &(impl Threads + Sync), alloc: Global, c: &Cert) -> Result<Answer, AllocError>
     requires { FitsAll (1 ∷ []) c.now }
 {
     let p = line(alloc)?;
-    match check_all(&p, c) {
-        Ok(_) => Ok(Ok(())),
-        Err(fail) => Ok(Err(fail)),
-    }
+    Ok(judged(rt, &p, c))
 }
 
 // Whether the vehicle on a line is accepted with these cells.
-fn answer(alloc: Global, closed: &[Interval], reach: &[Interval]) -> Result<Answer, AllocError> {
+pub(super) fn answer(
+    rt: &(impl Threads + Sync),
+    alloc: Global,
+    closed: &[Interval],
+    reach: &[Interval],
+) -> Result<Answer, AllocError> {
     let c = line_cert(alloc, closed, reach)?;
-    line_answer(alloc, &c)
+    line_answer(rt, alloc, &c)
 }
 
-fn answer_without_entry(alloc: Global) -> Result<Answer, AllocError> {
+fn answer_without_entry(rt: &(impl Threads + Sync), alloc: Global) -> Result<Answer, AllocError> {
     let c = line_without_entry(alloc)?;
-    line_answer(alloc, &c)
+    line_answer(rt, alloc, &c)
 }
 
-fn divide_answer(alloc: Global) -> Result<Answer, AllocError> {
+fn divide_answer(rt: &(impl Threads + Sync), alloc: Global) -> Result<Answer, AllocError> {
     let p = divide(alloc)?;
     let c = nothing_to_certify(alloc);
-    match check_all(&p, &c) {
-        Ok(_) => Ok(Ok(())),
-        Err(fail) => Ok(Err(fail)),
-    }
+    Ok(judged(rt, &p, &c))
 }
 
-fn guarded_divide_answer(alloc: Global) -> Result<Answer, AllocError> {
+fn guarded_divide_answer(rt: &(impl Threads + Sync), alloc: Global) -> Result<Answer, AllocError> {
     let p = divide_by_at_least_one(alloc)?;
     let c = nothing_to_certify(alloc);
-    match check_all(&p, &c) {
-        Ok(_) => Ok(Ok(())),
-        Err(fail) => Ok(Err(fail)),
-    }
+    Ok(judged(rt, &p, &c))
 }
 
 fn at(x: i64) -> Point {
     Point::of(&[x]).unwrap()
 }
 
-fn closed_leaves(tick: u32, lo: i64, hi: i64) -> Answer
+pub(super) fn closed_leaves(cell: u32, tick: u32, lo: i64, hi: i64) -> Answer
     requires { lo ≤ℤ hi }
 {
     refused(Refusal::ClosedLeaves {
         module: 0,
-        cell: 0,
+        cell,
         tick,
         area: BoxN::of(&[side(lo, hi)]).unwrap(),
         point: at(lo),
@@ -122,7 +130,7 @@ fn cells_are_accepted_or_refused(rt: HostRuntime) -> Result<(), Fail> {
     for (closed, reach, wanted) in [
         (all.as_slice(), ten.as_slice(), Ok(())),
         (all.as_slice(), sixteen.as_slice(), Ok(())),
-        (one.as_slice(), ten.as_slice(), closed_leaves(1, -43, 43)),
+        (one.as_slice(), ten.as_slice(), closed_leaves(0, 1, -43, 43)),
         (outer.as_slice(), ten.as_slice(), closed_gap(-10)),
         (all.as_slice(), nine.as_slice(), reach_gap(10)),
         (
@@ -132,13 +140,13 @@ fn cells_are_accepted_or_refused(rt: HostRuntime) -> Result<(), Fail> {
         ),
     ] {
         assert_eq!(rt;
-            answer(alloc, closed, reach)?,
+            answer(&rt, alloc, closed, reach)?,
             wanted,
             "{closed:?} and {reach:?}"
         );
     }
     let none = refused(Refusal::NoCells { module: 0 });
-    assert_eq!(rt; answer_without_entry(alloc)?, none);
+    assert_eq!(rt; answer_without_entry(&rt, alloc)?, none);
     Ok(())
 }
 
@@ -156,7 +164,7 @@ fn a_node_that_may_trap_is_refused(rt: HostRuntime) -> Result<(), Fail> {
         lo: 0,
         hi: 5,
     });
-    assert_eq!(rt; divide_answer(rt.alloc())?, trap);
-    assert_eq!(rt; guarded_divide_answer(rt.alloc())?, Ok(()));
+    assert_eq!(rt; divide_answer(&rt, rt.alloc())?, trap);
+    assert_eq!(rt; guarded_divide_answer(&rt, rt.alloc())?, Ok(()));
     Ok(())
 }

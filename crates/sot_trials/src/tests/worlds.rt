@@ -17,6 +17,7 @@ use sot_worked::line;
 use sot_world::{Event, Mode, OpenFail, Outcome, Why, World};
 use std::alloc::{AllocError, Global};
 use std::test::Fail;
+use std::thread::Threads;
 
 pub(super) fn at(x: i64) -> Point
     ensures { result ≡ x ∷ [] }
@@ -34,11 +35,15 @@ fn cert(alloc: Global) -> Result<Cert, AllocError>
 }
 
 // The program, if it is accepted.
-pub(super) fn accepted<'a>(p: &'a Typed, c: &'a Cert) -> Option<Accepted<'a>>
+pub(super) fn accepted<'a>(
+    rt: &(impl Threads + Sync),
+    p: &'a Typed,
+    c: &'a Cert,
+) -> Option<Accepted<'a>>
     requires { FitsTables p.now c.now }
     ensures { IfSome result (λ acc. acc.program ≡ p.now) }
 {
-    match check_all(p, c) {
+    match check_all(rt, p, c) {
         Ok(acc) => Some(acc),
         Err(_) => None,
     }
@@ -116,7 +121,7 @@ fn a_world_opens_in_the_safer_region(rt: HostRuntime) -> Result<(), Fail> {
     let alloc = rt.alloc();
     let p = line(alloc)?;
     let c = cert(alloc)?;
-    let Some(acc) = accepted(&p, &c) else {
+    let Some(acc) = accepted(&rt, &p, &c) else {
         panic!(rt; "the vehicle is accepted");
     };
     for (x, wanted) in [
@@ -212,7 +217,7 @@ fn an_instant_is_stepped_in_order(rt: HostRuntime) -> Result<(), Fail> {
     let alloc = rt.alloc();
     let p = line(alloc)?;
     let c = cert(alloc)?;
-    let Some(acc) = accepted(&p, &c) else {
+    let Some(acc) = accepted(&rt, &p, &c) else {
         panic!(rt; "the vehicle is accepted");
     };
     let Ok(mut w) = opened(alloc, &p, &acc, 0) else {
@@ -231,7 +236,7 @@ fn a_draft_outside_its_range_is_recorded_alone(rt: HostRuntime) -> Result<(), Fa
     let alloc = rt.alloc();
     let p = line(alloc)?;
     let c = cert(alloc)?;
-    let Some(acc) = accepted(&p, &c) else {
+    let Some(acc) = accepted(&rt, &p, &c) else {
         panic!(rt; "the vehicle is accepted");
     };
     let Ok(mut w) = opened(alloc, &p, &acc, 0) else {
@@ -264,7 +269,7 @@ fn a_flight_switches_and_returns(rt: HostRuntime) -> Result<(), Fail> {
     let alloc = rt.alloc();
     let p = line(alloc)?;
     let c = cert(alloc)?;
-    let Some(acc) = accepted(&p, &c) else {
+    let Some(acc) = accepted(&rt, &p, &c) else {
         panic!(rt; "the vehicle is accepted");
     };
     let Ok(mut w) = opened(alloc, &p, &acc, 0) else {

@@ -1,5 +1,6 @@
 use Rattle.std.proofs.Common.{Err, ap, sym, subst, ◌∙◌}
 use Rattle.sot_text.specs.Sections.{parts_of}
+use Rattle.sot_places.proofs.ExactPlaces.{fault_is_placed}
 use Rattle.sot_report.specs.declared.fault.Fault.TheVariants as faults
 use Rattle.sot_report.specs.declared.fault.LoadFail.TheVariants as fails
 use Rattle.sot_report.specs.Loads.{IfFault, FailsText}
@@ -15,4 +16,4 @@ returns-in-Err-Syntax-clause-fault c =
     let none = c.in-Err-Syntax.ensures.syntax c.in-Err-Syntax.fault is in
     let place = c.in-Err-Syntax.ensures.place c.in-Err-Syntax.fault is in
     subst (λ e. IfFault e (FailsText (parts_of c.args.sections) c.args.guests)) (sym (c.misspelled.ensures ∙ ap (λ f. fails.Fault (faults.Syntax f)) c.in-Err-Syntax.fault-is))
-    (rw (c.new.ensures.bytes, c.new.ensures.at) at none, rw (c.new.ensures.bytes, c.new.ensures.at) at place)
+    (let nothing = rw (c.new.ensures.bytes, c.new.ensures.at) at none in (nothing, fault_is_placed c.args.sections.program.now 0 c.in-Err-Syntax.fault nothing (rw (c.new.ensures.bytes, c.new.ensures.at) at place)))

@@ -1,5 +1,3 @@
-use Rattle.std.proofs.Common.{◌≡◌, ◌+◌, ◌*◌, arith, subst}
-use Rattle.sot_tube.specs.Leaves.{AnyTubeLeaves}
 use Rattle.sot_rta.proofs.cells.check_reach_cell.Goals as goal
 
 pub returns-in-Err : goal.returns-in-Err

@@ -1,14 +1,15 @@
-use Rattle.std.proofs.Common.{rules, arith, ◌≡◌, length}
+use Rattle.std.proofs.Common.{arith}
 use Rattle.sot_tube.specs.Verdict.{closed_cell}
-use Rattle.sot_rta.proofs.Loops.{next_passes, all_pass}
+use Rattle.sot_rta.specs.Cells.{AnswersClosedPlace}
+use Rattle.sot_rta.proofs.EachPlace.{each_answers}
 use Rattle.sot_rta.proofs.cells.closed_cells.Goals as goal
 
-pub loop-i-preserved : goal.loop-i-preserved
-loop-i-preserved c plant sc acts plant_at sc_at coded =
-    next_passes c.args.closed.now.boxes (closed_cell c.args.p.now c.args.jitter c.args.«module» c.args.info.now plant sc acts) c.loop-i.i c.at-cell.result c.at-cell.ensures.place (c.in_default.ensures plant sc acts plant_at sc_at coded)
-    (c.loop-i.invariant plant sc acts plant_at sc_at coded)
+pub first_refused-requires-clause-each : goal.first_refused-requires-clause-each
+first_refused-requires-clause-each g c κs within i lt =
+    (record { below = c.requires.jitter; there = c.requires.is; rules = c.requires.rules; may = c.requires.may; fit = c.requires.cells }, omega (arith, c.len.ensures, lt))
 
 pub returns : goal.returns
-returns c plant sc acts plant_at sc_at coded =
-    let few : c.len-i-end.result ≡ length c.args.closed.now.boxes = search rules in
-    all_pass c.args.closed.now.boxes (closed_cell c.args.p.now c.args.jitter c.args.«module» c.args.info.now plant sc acts) c.loop-i.i (omega (arith, few, c.loop-i-test.false)) (c.loop-i.invariant plant sc acts plant_at sc_at coded)
+returns g c plant sc acts plant_at sc_at coded =
+    each_answers c.args.closed.now.boxes (closed_cell c.args.p.now c.args.jitter c.args.«module» c.args.info.now plant sc acts)
+    (AnswersClosedPlace c.args.p.now c.args.jitter c.args.«module» c.args.info.now c.args.closed.now.boxes)
+    (λ i cell at r h. h cell at plant sc acts plant_at sc_at coded) c.len.result c.len.ensures c.first_refused.result c.first_refused.ensures

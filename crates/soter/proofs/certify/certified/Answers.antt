@@ -6,11 +6,11 @@ use Rattle.soter.specs.Steps.{IsWritten}
 use Rattle.soter.proofs.certify.certified.Goals as goal
 
 pub read_back-requires-clause-written : goal.read_back-requires-clause-written
-read_back-requires-clause-written c =
+read_back-requires-clause-written g c κs within =
     let has : IsCertificateOf c.requires.spelled.0 (program_view c.args.program.now) c.args.tables.now c.args.cert.now =
     record { spelled = c.requires.spelled.1; resolved = c.requires.resolved; made = c.requires.made; fits = c.requires.fits } in
     subst IsWritten (sym c.deref.ensures.value)
     (c.requires.spelled.0, program_view c.args.program.now, c.args.tables.now, c.args.cert.now, has, c.in_ok-text.ensures.text)
 
 pub returns : goal.returns
-returns c = inl (refl, (c.args.cert.now, c.requires.made, c.requires.fits, c.in_ok-text.ensures.text), subst SpellsAccepted c.deref.ensures.value c.in_ok-read_back.ensures)
+returns g c = inl (refl, (c.args.cert.now, c.requires.made, c.requires.fits, c.in_ok-text.ensures.text), subst SpellsAccepted c.deref.ensures.value c.in_ok-read_back.ensures)

@@ -2,18 +2,18 @@ use Rattle.std.proofs.Common.{Err, ap}
 use Rattle.soter.proofs.Certified.{certified_result, misspelled_result}
 use Rattle.soter.proofs.certify.certify.Goals as goal
 
-pub certify_tree-requires : goal.certify_tree-requires
-certify_tree-requires c =
+pub certify_tree-requires-clause-spelled : goal.certify_tree-requires-clause-spelled
+certify_tree-requires-clause-spelled g c κs within =
     let found = c.in-Ok.ensures.ok in
     (c.args.bytes.now, rw (c.new.ensures.bytes, c.new.ensures.at) at found)
 
 pub returns-in-Ok : goal.returns-in-Ok
-returns-in-Ok c =
+returns-in-Ok g c =
     let found = c.in-Ok.ensures.ok in
     certified_result c.certify_tree.result c.args.bytes.now _ (rw (c.new.ensures.bytes, c.new.ensures.at) at found) c.certify_tree.ensures
 
 pub returns-in-Err-Syntax : goal.returns-in-Err-Syntax
-returns-in-Err-Syntax c =
+returns-in-Err-Syntax g c =
     let is = ap (λ e. Err e) c.in-Err-Syntax.field-0-is in
     let none = c.in-Err-Syntax.ensures.syntax c.in-Err-Syntax.fault is in
     let place = c.in-Err-Syntax.ensures.place c.in-Err-Syntax.fault is in

@@ -5,5 +5,5 @@ use Rattle.soter.proofs.soak.soak.Goals as goal
 
 -- what is said of the text is said of the mission that is made
 pub returns : goal.returns
-returns c =
+returns g c =
     subst (λ (bytes : List ℕ). IfOk c.fly.result (λ a. FliesBytes Summed bytes a.status a.text.items)) (c.as_bytes.ensures.value ∙ c.in_ok-text.ensures) c.fly.ensures
