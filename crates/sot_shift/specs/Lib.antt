@@ -1,0 +1,10 @@
+-- what a controller tells, and which askings firings answer
+pub mod Askings
+pub mod Answers
+-- what became of a shift
+pub mod Shifts
+-- laws on histories that go on
+pub mod Laws
+-- what the functions inside the crate tell each other
+pub mod Holds
+pub mod Turned

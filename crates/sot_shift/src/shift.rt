@@ -1,0 +1,17 @@
+//! A worker's job.
+
+use crate::controller::Controller;
+use sot_board::Board;
+use sot_lang::Draft;
+use sot_turn::Pass;
+
+/// A worker's job: its node, whether the flight is at its end, the pass by which it takes turns, the drafts of its node's firings so
+/// far, and the guest that flies the node, where one does. The list of drafts has room for all that will come.
+#[derive(Drop)]
+pub struct Shift<'a, C: Controller> {
+    pub node: u32,
+    pub finished: bool,
+    pub pass: Pass<Board<'a>>,
+    pub drafts: Vec<Draft>,
+    pub guest: Option<C>,
+}
