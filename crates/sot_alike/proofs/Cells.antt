@@ -1,5 +1,5 @@
 -- The hulls of safe regions, coded nodes without traps, and the cells of modules, where tables look the same.
-use Rattle.std.proofs.Common.{◌≡◌, ℕ, ◌+◌, ◌*◌, List, [], ◌∷◌, map, Ok, ap, ◌∙◌, subst}
+use Rattle.std.proofs.Common.{◌≡◌, ℕ, ◌+◌, ◌*◌, List, [], ◌∷◌, map, Ok, inl, inr, ⊎_elim, ap, ◌∙◌, subst}
 use Rattle.std.specs.Prelude.{if◌then◌else◌, ◌==◌, slice_set, slice_index_or}
 use Rattle.sot_box.specs.Sides.{Side}
 use Rattle.sot_box.specs.Regions.{IsHull}
@@ -14,12 +14,15 @@ use Rattle.sot_lang.specs.SafeRegions.{safe_of, AllHulls}
 use Rattle.sot_iv.specs.declared.drafted.Drafted.{Drafted}
 use Rattle.sot_iv.specs.BodyIntervals.{Intervals}
 use Rattle.sot_iv.specs.TrapFree.{IsTrapFree}
+use Rattle.sot_tube.specs.declared.leave.Leave.{Leave}
 use Rattle.sot_tube.specs.Tubes.{TubeInside}
+use Rattle.sot_tube.specs.Leaves.{TubeLeaves, AnyTubeLeaves}
+use Rattle.sot_tube.specs.Verdict.{ClosedCellLeaves}
 use Rattle.sot_tube.specs.Certified.{sure_interval, command_interval, command_intervals, DraftsFrom, IsClosedCell, IsReachCell}
 use Rattle.sot_typing.specs.Formulas.{deeds_view}
 use Rattle.sot_typing.specs.Resolved.{NodeTable, plant_seen, node_seen, tables_seen}
 use Rattle.sot_alike.proofs.Seen.{scalars_same, modules_same, plant_count_same, plant_back}
-use Rattle.sot_alike.proofs.Plants.{along, tube_alike, any_tube_alike}
+use Rattle.sot_alike.proofs.Plants.{along, tube_alike, any_tube_alike, tube_leaves_alike, any_tube_leaves_alike}
 use Rattle.sot_alike.proofs.Nodes.{execution_alike}
 
 -- commands are told by scalars
@@ -45,6 +48,9 @@ module _ (t u : Tables) (same : tables_seen t ≡ tables_seen u) where
   module _ (x y : PlantInfo) (alike : plant_seen x ≡ plant_seen y) (a : ModuleInfo) (jitter : ℕ) (cell : List Side) where
     pub reach_cell_alike : IsReachCell t jitter a x cell → IsReachCell u jitter a y cell
     reach_cell_alike reach = any_tube_alike t u same x y alike a.safe.boxes cell (2 * (a.period + jitter)) reach
+
+    pub reach_leaves_alike : (leave : Leave) → AnyTubeLeaves t x a.safe.boxes cell (2 * (a.period + jitter)) leave → AnyTubeLeaves u y a.safe.boxes cell (2 * (a.period + jitter)) leave
+    reach_leaves_alike leave leaves = any_tube_leaves_alike t u same x y alike a.safe.boxes cell (2 * (a.period + jitter)) leave leaves
 
     module _ (v w : NodeInfo) (nodes : node_seen v ≡ node_seen w) (us acts : List Act) (deeds : deeds_view us ≡ deeds_view acts) where
       commands_alike : (draft : List Drafted) → command_intervals t x v draft ≡ command_intervals u y w draft
@@ -73,3 +79,15 @@ module _ (t u : Tables) (same : tables_seen t ≡ tables_seen u) where
         drafts = drafts_alike closed.fired closed.drafts;
         stays = held_alike closed.fired.draft closed.stays;
       }
+
+      held_leaves_alike : (draft : List Drafted) (leave : Leave) → TubeLeaves t x (command_intervals t x v draft) a.safe.boxes cell (v.period + jitter) leave → TubeLeaves u y (command_intervals u y w draft) a.safe.boxes cell (w.period + jitter) leave
+      held_leaves_alike draft leave tube =
+          let there = tube_leaves_alike t u same x y alike (command_intervals t x v draft) a.safe.boxes cell (v.period + jitter) leave tube in
+          along (λ i. TubeLeaves u y (commands_alike draft i) a.safe.boxes cell ((nodes i).period + jitter) leave) there
+
+      pub closed_leaves_alike : (leave : Leave) → ClosedCellLeaves t jitter a x v us cell leave → ClosedCellLeaves u jitter a y w acts cell leave
+      closed_leaves_alike leave leaves =
+          ⊎_elim
+          (λ out. inl out)
+          (λ (covered, fired, drafts, tube). inr (covered, fired, drafts_alike fired drafts, held_leaves_alike fired.draft leave tube))
+          leaves

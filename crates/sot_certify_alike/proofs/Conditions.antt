@@ -88,7 +88,7 @@ module _ (t u : Tables) (same : tables_seen t ≡ tables_seen u) where
     refuses = λ r h. (h.0, least_carried (IsForeignInput t a) (IsForeignInput u a) (foreign_alike t u same a) (foreign_alike u t (sym same) a) h.0 h.1, h.2);
   }
 
-  periods_carried : (m : ℕ) (a : ModuleInfo) → Carried (periods t m a) (periods u m a)
+  pub periods_carried : (m : ℕ) (a : ModuleInfo) → Carried (periods t m a) (periods u m a)
   periods_carried m a = record {
     passes = periods_alike t u same a;
     refuses = λ r h.
@@ -98,13 +98,13 @@ module _ (t u : Tables) (same : tables_seen t ≡ tables_seen u) where
         h;
   }
 
-  outputs_carried : (m : ℕ) (a : ModuleInfo) → Carried (outputs t m a) (outputs u m a)
+  pub outputs_carried : (m : ℕ) (a : ModuleInfo) → Carried (outputs t m a) (outputs u m a)
   outputs_carried m a = record {
     passes = outputs_alike t u same a;
     refuses = λ r h. (h.0, least_carried (IsWrittenByOne t a) (IsWrittenByOne u a) (by_one_alike t u same a) (by_one_alike u t (sym same) a) h.0 h.1, h.2);
   }
 
-  boxes_carried : (m : ℕ) (a : ModuleInfo) → Carried (boxes m a) (boxes m a)
+  pub boxes_carried : (m : ℕ) (a : ModuleInfo) → Carried (boxes m a) (boxes m a)
   boxes_carried m a = record { passes = λ p. p; refuses = λ r h. h }
 
   frame_carried : (m : ℕ) (a : ModuleInfo) → Carried (frame t m a) (frame u m a)
@@ -128,21 +128,21 @@ module _ (t u : Tables) (same : tables_seen t ≡ tables_seen u) where
 
 -- checks of each module, and of each node
 module _ (t u : Tables) (same : tables_seen t ≡ tables_seen u) where
-  modules_carried : (f g : ℕ → ModuleInfo → Check) → ((m : ℕ) (a : ModuleInfo) → Carried (f m a) (g m a)) → Carried (for_each t.modules f) (for_each u.modules g)
+  pub modules_carried : (f g : ℕ → ModuleInfo → Check) → ((m : ℕ) (a : ModuleInfo) → Carried (f m a) (g m a)) → Carried (for_each t.modules f) (for_each u.modules g)
   modules_carried f g each =
       each_carried (λ a b. a ≡ b) t.modules u.modules f g
       (λ m a at. (a, module_back u t (sym same) m a at, refl))
       (λ m a at. (a, module_back t u same m a at, refl))
       (λ m a b one. subst (λ x. Carried (f m a) (g m x)) one (each m a))
 
-  nodes_carried : Carried (for_each t.nodes (code t)) (for_each u.nodes (code u))
+  pub nodes_carried : Carried (for_each t.nodes (code t)) (for_each u.nodes (code u))
   nodes_carried =
       each_carried (λ x y. node_seen x ≡ node_seen y) t.nodes u.nodes (code t) (code u)
       (λ n x at. (let y = node_back u t (sym same) n x at in (y.0, y.1, sym y.2)))
       (λ n y at. node_back t u same n y at)
       (code_carried t u same)
 
-  composition_carried : Carried (composition t) (composition u)
+  pub composition_carried : Carried (composition t) (composition u)
   composition_carried =
       both_carried (shared_node t) (and_then (shared_output t) (and_then (shared_plant t) (for_each t.modules (foreign_input t))))
       (shared_node u) (and_then (shared_output u) (and_then (shared_plant u) (for_each u.modules (foreign_input u))))

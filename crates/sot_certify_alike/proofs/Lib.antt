@@ -7,3 +7,5 @@ pub mod Halving
 pub mod Answers
 pub mod Certify
 pub mod Entries
+-- what the checker refuses
+pub mod Refusals

@@ -7,6 +7,8 @@ use Rattle.sot_lang.specs.declared.tables.ModuleInfo.{ModuleInfo}
 use Rattle.sot_lang.specs.Tables.{Tables}
 use Rattle.sot_lang.specs.CertRules.{FitsTables}
 use Rattle.sot_tube.specs.Certified.{HasCells}
+use Rattle.sot_tube.specs.Refusals.{Refusal}
+use Rattle.sot_tube.specs.Verdict.{verdict}
 use Rattle.sot_typing.specs.Resolved.{tables_seen}
 use Rattle.sot_certify.specs.declared.fail.CertifyFail.{CertifyFail}
 use Rattle.sot_certify.specs.declared.fail.CertifyFail.TheVariants.{Memory}
@@ -40,3 +42,9 @@ abbrev pub EntriesAlike : Type 0
 EntriesAlike =
     (t u : Tables) (c d : Cert) → tables_seen t ≡ tables_seen u → FitsTables t c → FitsTables u d
     → Certifies t (Ok c) → Certifies u (Ok d) → (c.jitter ≡ d.jitter) × (c.modules.items ≡ d.modules.items)
+
+-- what the checker refuses of one of the tables of a program, it refuses of each, with the same evidence, by certificates that say the same
+abbrev pub RefusalsAlike : Type 0
+RefusalsAlike =
+    (t u : Tables) (c d : Cert) (r : Refusal) → tables_seen t ≡ tables_seen u → c.jitter ≡ d.jitter → c.modules.items ≡ d.modules.items
+    → (verdict t c.jitter c).Refuses r → (verdict u d.jitter d).Refuses r

@@ -1,5 +1,5 @@
 //! Each of these functions does nothing, and its contract is the law.
-ghost use Rattle.sot_certify_alike.specs.Laws.{AnswersAlike, CertifyAlike, FailsAlike, CellsAlike, EntriesAlike};
+ghost use Rattle.sot_certify_alike.specs.Laws.{AnswersAlike, CertifyAlike, FailsAlike, CellsAlike, EntriesAlike, RefusalsAlike};
 
 /// What may be answered for a table may be answered for each that looks the same: the same certificate, or the same failure.
 pub fn answers_are_alike()
@@ -24,4 +24,9 @@ pub fn cells_are_made_alike()
 /// The certificates that are made for tables of one program, and fit them, have one jitter and the same entries.
 pub fn entries_are_made_alike()
     ensures { EntriesAlike }
+{}
+
+/// What the checker refuses of one of the tables of a program, it refuses of each, with the same evidence, by certificates that say the same.
+pub fn refusals_are_alike()
+    ensures { RefusalsAlike }
 {}

@@ -6,5 +6,5 @@ mod laws;
 
 pub use laws::{
     answers_are_alike, cells_are_made_alike, entries_are_made_alike, fails_are_alike,
-    tables_certify_alike,
+    refusals_are_alike, tables_certify_alike,
 };

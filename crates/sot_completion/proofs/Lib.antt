@@ -3,3 +3,4 @@ mod Keeping
 mod GoingOn
 pub mod Completing
 pub mod FromStart
+pub mod Possible

@@ -1,2 +1,3 @@
 -- what the public contracts say
 pub mod Completion
+pub mod Possible

@@ -3,4 +3,4 @@
 
 mod laws;
 
-pub use laws::{flights_can_be_completed, histories_can_be_completed};
+pub use laws::{flights_can_be_completed, histories_can_be_completed, possible_has_a_step};

@@ -21,7 +21,7 @@ use Rattle.sot_trace.specs.Traces.{text_of, trace_lines, trace_text}
 use Rattle.sot_trace.specs.Telling.{IsDraftOf, IsTold, IsTraced}
 
 -- what is read of an entry as it looks
-looked : {A B C : Type 0} (seen : A → B) (part : B → C) (d : C) (xs : List A) (n : ℕ) → option_map_or (λ x. part (seen x)) (slice_get xs n) d ≡ option_map_or part (slice_get (map seen xs) n) d
+pub looked : {A B C : Type 0} (seen : A → B) (part : B → C) (d : C) (xs : List A) (n : ℕ) → option_map_or (λ x. part (seen x)) (slice_get xs n) d ≡ option_map_or part (slice_get (map seen xs) n) d
 looked seen part d [] n = refl
 looked seen part d (x ∷ xs) zero = refl
 looked seen part d (x ∷ xs) (suc n) = looked seen part d xs n
