@@ -1,5 +1,6 @@
 //! What a check says of given missions. Expected texts come from an independent program.
 mod cells;
+mod composed;
 mod faults;
 mod shapes;
 mod ticks;
