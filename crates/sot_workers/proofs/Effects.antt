@@ -1,9 +1,8 @@
 -- What the calls of a board change of its position.
-use Rattle.std.proofs.Common.{◌≡◌, ℕ, suc, ℤ, false, Option, List, ◌∷◌, refl, sym, ap, ◌∙◌, subst}
+use Rattle.std.proofs.Common.{◌≡◌, ℕ, suc, ℤ, false, List, ap, ◌∙◌, subst}
 use Rattle.std.specs.Prelude.{slice_set}
-use Rattle.sot_world.specs.Steps.{Event, Input, Code, Guest, Decide, Tick, Step}
+use Rattle.sot_world.specs.Steps.{Event, Input, Decide, Tick, Step}
 use Rattle.sot_world.specs.HistoryEntry.{Logged}
-use Rattle.sot_flight.specs.Plans.{StatedInput}
 use Rattle.sot_board.specs.Standing.{Standing}
 use Rattle.sot_board.specs.Flown.{IsStated, inputs_after}
 use Rattle.sot_board.specs.Calls.{Logs}
@@ -26,35 +25,11 @@ module _ (old new : Standing) (event : Event) (entry : Logged) (l : Logs old new
 pub input_same : (old new : Standing) (topic : ℕ) (value : List ℤ) (entry : Logged) → Logs old new (Input topic value) entry → IsSameInstant old new
 input_same old new topic value entry l = same_instant old new (Input topic value) entry l (ap (λ c. c.time) (stepped old new (Input topic value) entry l).rest)
 
--- and is the first of those to come
-pub input_first : (old new : Standing) (topic : ℕ) (value : List ℤ) (entry : Logged) → Logs old new (Input topic value) entry → (x : StatedInput) × (old.position.inputs ≡ x ∷ new.position.inputs)
-input_first old new topic value entry l =
-    let s = stated old new (Input topic value) entry l in
-    let x : StatedInput = record { at = old.position.at.time; topic = topic; value = value } in
-    (x, s.1 ∙ ap (λ r. x ∷ r) (sym (inputs_are old new (Input topic value) entry l ∙ ap (inputs_after (Input topic value)) s.1)))
-
 -- a decision leaves time and inputs, and its module is no longer left
 pub decide_same : (old new : Standing) (m : ℕ) (entry : Logged) → Logs old new (Decide m) entry → IsSameInstant old new × (new.position.inputs ≡ old.position.inputs) × (new.position.at.left_dm ≡ slice_set old.position.at.left_dm m false)
 decide_same old new m entry l =
     let s = stepped old new (Decide m) entry l in
     (same_instant old new (Decide m) entry l (ap (λ c. c.time) s.rest), inputs_are old new (Decide m) entry l, s.left_dm)
-
--- what a firing changes: its node is no longer left
-pub record IsFired (old new : Standing) (node : ℕ) : Type 0 where
-  pub same : IsSameInstant old new
-  pub inputs : new.position.inputs ≡ old.position.inputs
-  pub left_dm : new.position.at.left_dm ≡ old.position.at.left_dm
-  pub left : new.position.at.left ≡ slice_set old.position.at.left node false
-
-pub code_fired : (old new : Standing) (n : ℕ) (entry : Logged) → Logs old new (Code n) entry → IsFired old new n
-code_fired old new n entry l =
-    let s = stepped old new (Code n) entry l in
-    record { same = same_instant old new (Code n) entry l s.fires.time; inputs = inputs_are old new (Code n) entry l; left_dm = s.fires.left_dm; left = s.fires.left }
-
-pub guest_fired : (old new : Standing) (n : ℕ) (draft : List (Option ℤ)) (entry : Logged) → Logs old new (Guest n draft) entry → IsFired old new n
-guest_fired old new n draft entry l =
-    let s = stepped old new (Guest n draft) entry l in
-    record { same = same_instant old new (Guest n draft) entry l s.fires.time; inputs = inputs_are old new (Guest n draft) entry l; left_dm = s.fires.left_dm; left = s.fires.left }
 
 -- a tick takes the time one further
 pub tick_time : (old new : Standing) (noise : List (List ℤ)) (entry : Logged) → Logs old new (Tick noise) entry → new.position.at.time ≡ suc old.position.at.time
@@ -62,6 +37,3 @@ tick_time old new noise entry l = (stepped old new (Tick noise) entry l).time
 
 pub same_again : (a b c : Standing) → IsSameInstant a b → IsSameInstant b c → IsSameInstant a c
 same_again a b c x y = record { accepted = y.accepted ∙ x.accepted; plan = y.plan ∙ x.plan; time = y.time ∙ x.time }
-
-pub same_here : (a : Standing) → IsSameInstant a a
-same_here a = record { accepted = refl; plan = refl; time = refl }

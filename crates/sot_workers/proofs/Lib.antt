@@ -1,2 +1,12 @@
 pub mod Effects
 pub mod Remaining
+pub mod Histories
+pub mod ListFacts
+pub mod PairFacts
+pub mod Crossing
+pub mod Coming
+pub mod Placing
+pub mod Putting
+pub mod OwnTurns
+pub mod Going
+pub mod Landing

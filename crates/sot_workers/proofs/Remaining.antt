@@ -1,18 +1,13 @@
 -- What is still left in an instant.
-use Rattle.std.proofs.Common.{◌≡◌, ℕ, ◌+◌, ⊎_elim, Bool, false, List, length, sym, ◌∙◌, subst, arith}
+use Rattle.std.proofs.Common.{◌≡◌, ℕ, ◌+◌, ⊎_elim, Bool, false, List, sym, ◌∙◌, subst, arith}
 use Rattle.std.specs.Prelude.{slice_index_or, slice_set}
 use Rattle.std.proofs.lemmas.Bool.{cases_eq}
-use Rattle.std.proofs.lemmas.Option.{slice_get_within}
 use Rattle.sot_world.proofs.Modes.{left_same, left_none}
-use Rattle.sot_world.specs.Calendar.{NothingLeft}
 use Rattle.sot_board.proofs.InputsDue.{no_input_left}
 use Rattle.sot_board.specs.Standing.{Standing, IsStanding}
 use Rattle.sot_board.specs.Flown.{FlownBy}
 use Rattle.sot_board.specs.Calls.{IsSettled}
 use Rattle.sot_workers.specs.Instants.{NoneLeft}
-
-pub none_first : (left : List Bool) → NoneLeft left 0
-none_first left i lt = absurd (omega (arith, lt))
 
 -- one more is no longer left
 pub none_set : (left : List Bool) (k : ℕ) → NoneLeft left k → NoneLeft (slice_set left k false) (k + 1)
@@ -28,13 +23,6 @@ none_more left k none here i lt =
     (λ same. subst (λ n. slice_index_or left n false ≡ false) (sym same) here)
     (λ other. none i (omega (arith, lt, other)))
     (cases_eq i k)
-
--- where neither a node nor a module is left, nothing is
-pub nothing_left : (b : Standing) → NoneLeft b.position.at.left (length b.accepted.program.nodes) → NoneLeft b.position.at.left_dm (length b.accepted.program.modules) → NothingLeft b.accepted.program b.position.at
-nothing_left b nodes modules = record {
-  nodes = λ n node at. nodes n (slice_get_within b.accepted.program.nodes n node at);
-  modules = λ m a at. modules m (slice_get_within b.accepted.program.modules m a at);
-}
 
 -- a settled board at the horizon has flown its flight
 pub flown_whole :

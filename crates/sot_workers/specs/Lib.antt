@@ -1,4 +1,10 @@
 -- what the flying of a flight promises
 pub mod Flying
+pub mod Lists
+pub mod Asked
+pub mod Pairs
+pub mod Sent
+pub mod Back
+pub mod Rooms
 -- what an instant's work promises
 pub mod Instants

@@ -4,15 +4,16 @@ ghost use Rattle.std.specs.Prelude.{◌≡◌, ◌<◌, length, true, false, sli
 ghost use Rattle.sot_world.specs.Configurations.{is_left};
 ghost use Rattle.sot_board.specs.Flown.{NoInputDue};
 ghost use Rattle.sot_board.specs.Calls.{IsSettled};
-ghost use Rattle.sot_workers.specs.Flying.{HasNoGuests};
-ghost use Rattle.sot_workers.specs.Instants.{IsSameInstant, NoneLeft, IsCodedNode, IsExternalNode};
+ghost use Rattle.sot_workers.specs.Flying.{HasNoGuests, IsOwn};
+ghost use Rattle.sot_workers.specs.Instants.{IsSameInstant, AddsNoFiring, AddsFiring, NoneLeft, IsCodedNode, IsExternalNode};
 
-use sot_board::Board;
+use sot_board::{Board, Receipt};
 use sot_lang::Typed;
 
-// The inputs that are due come.
-fn take_inputs(board: &mut Board<'_>)
+/// The inputs that are due come.
+pub(crate) fn take_inputs(board: &mut Board<'_>)
     ensures same { IsSameInstant board.old board.new }
+    ensures entries { AddsNoFiring board.old.entries board.new.entries }
     ensures none { NoInputDue board.new.position }
 {
     'inputs: while board.due_input() {
@@ -21,9 +22,10 @@ fn take_inputs(board: &mut Board<'_>)
     board.is_standing();
 }
 
-// The modules that are left to decide do so, in declared order.
-fn decide_all(board: &mut Board<'_>)
+/// The modules that are left to decide do so, in declared order.
+pub(crate) fn decide_all(board: &mut Board<'_>)
     ensures same { IsSameInstant board.old board.new }
+    ensures entries { AddsNoFiring board.old.entries board.new.entries }
     ensures inputs { board.new.position.inputs ≡ board.old.position.inputs }
     ensures none { NoneLeft board.new.position.at.left_dm (length board.new.accepted.program.modules) }
 {
@@ -44,20 +46,21 @@ fn is_coded(p: &Typed, node: u32) -> bool
     p.nodes[node as usize].body.is_some()
 }
 
-// A node fires: a coded one by its code, an external one with its stated draft.
-fn fire(board: &mut Board<'_>, node: u32)
-    requires no_guests { HasNoGuests board.old.plan }
+/// A node that no guest flies fires: a coded one by its code, an external one with its stated draft.
+pub(crate) fn fire(board: &mut Board<'_>, node: u32) -> Receipt
+    requires own { IsOwn board.old.plan node }
     requires there { node < length board.old.accepted.program.nodes }
     requires left { is_left board.old.position.at node ≡ true }
     ensures same { IsSameInstant board.old board.new }
     ensures inputs { board.new.position.inputs ≡ board.old.position.inputs }
     ensures left_dm { board.new.position.at.left_dm ≡ board.old.position.at.left_dm }
     ensures left { board.new.position.at.left ≡ slice_set board.old.position.at.left node false }
+    ensures entries { AddsFiring board.old.entries node result.draft board.new.entries }
 {
     if is_coded(board.typed(), node) {
-        board.fire(node);
+        board.fire(node)
     } else {
-        board.commit_stated(node);
+        board.commit_stated(node)
     }
 }
 

@@ -1,11 +1,25 @@
 //! The flying of a flight, from the start to its horizon.
 //!
-//! [`fly`] does on the calling thread all that is due in each instant: the inputs, the decisions, and the firings in declared order;
-//! and then the tick. The clauses of the board say that each of these is a step of the semantics, as the flight states it; that all of
-//! them together are a history of the flight is the clause here.
+//! [`fly`] takes turns at a board with the guests of the flight, each of which has a thread of its own where one can be made. In its
+//! turns the caller does all else: the inputs, the decisions, the firings of nodes that no guest flies, and the ticks, wherever one may
+//! come. [`fly_alone`] does the same without guests. The clauses of the board say that each of these is a step of the semantics, as the
+//! flight states it; that all of them together are a history of the flight is the clause here, with what became of the guests.
 #![tactic(auto)]
 
+mod back;
+mod crewed;
 mod instant;
+mod join;
+mod lists;
+mod own;
+mod place;
+mod room;
+mod seat;
+mod start;
+mod stop;
+mod watch;
 mod whole;
 
-pub use whole::fly;
+pub use crewed::{Flown, fly};
+pub use lists::NodeList;
+pub use whole::fly_alone;

@@ -10,7 +10,7 @@ use sot_flight::Flight;
 
 /// Flies a board to the end of its flight: the horizon, with nothing left to fire or to input. No guest flies a node. It takes no
 /// memory.
-pub fn fly(board: &mut Board<'_>, flight: &Flight)
+pub fn fly_alone(board: &mut Board<'_>, flight: &Flight)
     requires flight { flight.now ≡ board.old.plan }
     requires no_guests { HasNoGuests flight.now }
     ensures flown { FlownBy board.new.accepted.program board.new.accepted.cert.jitter board.new.plan board.new.entries }

@@ -3,7 +3,7 @@ use super::*;
 use sot_board::Board;
 use sot_compose::check_all;
 use sot_trace::board_text;
-use sot_workers::fly;
+use sot_workers::fly_alone as fly;
 use sot_world::OpenFail;
 
 // The trace of a mission's flight, or the first module whose plant starts outside its safer region.

@@ -8,7 +8,7 @@ use sot_board::Board;
 use sot_flight::Flight;
 use sot_lang::Typed;
 use sot_trace::board_text;
-use sot_workers::fly;
+use sot_workers::fly_alone as fly;
 
 const SWITCHED: &str = "soter trace 1
 start pos 0

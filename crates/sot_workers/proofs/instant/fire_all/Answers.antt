@@ -1,0 +1,35 @@
+use Rattle.std.proofs.Common.{◌≡◌, ◌+◌, sym, ◌∙◌, subst}
+use Rattle.sot_board.specs.Standing.{Standing}
+use Rattle.sot_workers.specs.Instants.{IsSameInstant, NoneLeft}
+use Rattle.sot_workers.proofs.Effects.{same_again}
+use Rattle.sot_workers.proofs.Remaining.{none_set, none_more}
+use Rattle.sot_workers.proofs.instant.fire_all.Goals.{then-due, else-due}
+use Rattle.sot_workers.proofs.instant.fire_all.Goals as goal
+
+pub loop-node-preserved : goal.loop-node-preserved
+loop-node-preserved c =
+    let start = c.args.board.now in
+    let old = c.loop-node.board in
+    let n = c.loop-node.node in
+    let inv = c.loop-node.invariant in
+    elim c.if-due.branch [
+      | then-due w ↦
+          let did = w.fire.ensures in
+          record {
+            same = subst (λ (b : Standing). IsSameInstant start b) (sym w.board-is) (same_again start old w.fire.new.board inv.same did.same);
+            inputs = subst (λ (b : Standing). b.position.inputs ≡ start.position.inputs) (sym w.board-is) (did.inputs ∙ inv.inputs);
+            left_dm = subst (λ (b : Standing). b.position.at.left_dm ≡ start.position.at.left_dm) (sym w.board-is) (did.left_dm ∙ inv.left_dm);
+            none = subst (λ (b : Standing). NoneLeft b.position.at.left (n + 1)) (sym w.board-is)
+                (subst (λ l. NoneLeft l (n + 1)) (sym did.left) (none_set old.position.at.left n inv.none));
+            count = inv.count;
+          }
+      | else-due w ↦
+          record {
+            same = subst (λ (b : Standing). IsSameInstant start b) (sym w.board-is) inv.same;
+            inputs = subst (λ (b : Standing). b.position.inputs ≡ start.position.inputs) (sym w.board-is) inv.inputs;
+            left_dm = subst (λ (b : Standing). b.position.at.left_dm ≡ start.position.at.left_dm) (sym w.board-is) inv.left_dm;
+            none = subst (λ (b : Standing). NoneLeft b.position.at.left (n + 1)) (sym w.board-is)
+                (none_more old.position.at.left n inv.none (sym c.due.ensures ∙ w.if-due.false));
+            count = inv.count;
+          }
+    ]

@@ -1,0 +1,30 @@
+use Rattle.std.proofs.Common.{arith}
+use Rattle.sot_workers.proofs.Effects.{tick_time}
+use Rattle.sot_workers.proofs.Going.{goes_on_same, goes_on_again, tick_goes_on, tick_keeps}
+use Rattle.sot_workers.proofs.own.work_on.Goals as goal
+
+pub work_instant-requires-in-ticks : goal.work_instant-requires-in-ticks
+work_instant-requires-in-ticks g c = record {
+  lists = tick_keeps c.ticks.board c.tick.new.self _ c.tick.ensures.0 c.ticks.lists.items c.tick.ensures.1 c.ticks.invariant.lists;
+}
+
+pub ticks-init : goal.ticks-init
+ticks-init g c = record {
+  goes_on = goes_on_same c.args.board.now c.work_instant.new.board c.work_instant.ensures.same c.work_instant.ensures.goes_on;
+  lists = c.work_instant.ensures.lists;
+}
+
+pub ticks-preserved : goal.ticks-preserved
+ticks-preserved g c =
+    let start = c.args.board.now in
+    let old = c.ticks.board in
+    let later = c.tick.new.self in
+    let work = c.work_instant-in-ticks in
+    record {
+      goes_on = goes_on_again start old work.new.board c.ticks.invariant.goes_on
+          (goes_on_again old later work.new.board (tick_goes_on old later _ c.tick.ensures.0 c.tick.ensures.1) (goes_on_same later work.new.board work.ensures.same work.ensures.goes_on));
+      lists = work.ensures.lists;
+    }
+
+pub ticks-smaller : goal.ticks-smaller
+ticks-smaller g c = omega (arith, tick_time c.ticks.board c.tick.new.self _ c.tick.ensures.0 c.tick.ensures.1, c.work_instant-in-ticks.ensures.same.time, c.time.ensures, c.ticks-test.true)

@@ -1,0 +1,14 @@
+use Rattle.std.proofs.Common.{◌-◌}
+use Rattle.sot_workers.specs.Instants.{GoesOn}
+use Rattle.sot_workers.specs.Lists.{KeepsLists}
+use Rattle.sot_workers.proofs.own.work_on.Given as goal
+
+abbrev pub invariant-ticks : goal.invariant-ticks
+invariant-ticks g l = record {
+  goes_on : GoesOn l.fn.board l.board;
+  lists : KeepsLists l.board l.lists.items;
+}
+
+-- the ticks that are still to come
+abbrev pub decreases-ticks : goal.decreases-ticks
+decreases-ticks g l = l.horizon - l.board.position.at.time

@@ -1,0 +1,33 @@
+-- Lists of drafts, one a node, beside a history.
+use Rattle.std.specs.Prelude.{ℕ, ◌≡◌, List, [], length}
+use Rattle.sot_lists.specs.Places.{At}
+use Rattle.sot_world.specs.HistoryEntry.{Logged}
+use Rattle.sot_flight.specs.Plans.{Plan}
+use Rattle.sot_board.specs.Versions.{drafts_of}
+use Rattle.sot_board.specs.Standing.{Standing}
+use Rattle.sot_workers.specs.declared.lists.NodeList.{NodeList}
+use Rattle.sot_workers.specs.Flying.{IsOwn}
+
+-- one list a node, in declared order
+pub record HasNodes (count : ℕ) (lists : List NodeList) : Type 0 where
+  pub each : length lists ≡ count
+  pub nodes : (n : ℕ) (list : NodeList) → At lists n list → list.node ≡ n
+
+-- and each is the drafts of its node's firings, in order
+pub record AreLists (count : ℕ) (lists : List NodeList) (entries : List Logged) : Type 0 where
+  pub nodes : HasNodes count lists
+  pub drafts : (n : ℕ) (list : NodeList) → At lists n list → list.drafts.items ≡ drafts_of n entries
+
+-- the same of each node that the caller fires; of the others nothing is said
+pub record AreOwnLists (count : ℕ) (f : Plan) (lists : List NodeList) (entries : List Logged) : Type 0 where
+  pub nodes : HasNodes count lists
+  pub drafts : (n : ℕ) (list : NodeList) → At lists n list → IsOwn f n → list.drafts.items ≡ drafts_of n entries
+
+-- the caller's own lists beside a board
+abbrev pub KeepsLists : Standing → List NodeList → Type 0
+KeepsLists b lists = AreOwnLists (length b.accepted.program.nodes) b.plan lists b.entries
+
+-- one empty list a node
+pub record AreEmpty (count : ℕ) (lists : List NodeList) : Type 0 where
+  pub nodes : HasNodes count lists
+  pub drafts : (n : ℕ) (list : NodeList) → At lists n list → list.drafts.items ≡ []

@@ -1,0 +1,220 @@
+//! A whole flight, with its guests.
+
+ghost use Rattle.std.specs.Prelude.{◌≡◌, ◌<◌, ◌≤◌, ℕ, List, [], length, vec_len, vec_capacity, slice_index_or, IfOk, IfErr, Some};
+ghost use Rattle.sot_lists.specs.Places.{At};
+ghost use Rattle.sot_tube.specs.Admitted.{Admitted};
+ghost use Rattle.sot_world.specs.HistoryEntry.{Logged};
+ghost use Rattle.sot_flight.specs.Plans.{Plan, Guest};
+ghost use Rattle.sot_turn.specs.Prefixes.{IsPrefix};
+ghost use Rattle.sot_turn.specs.Passes.{lock_of, pass_lock, pass_ground, pass_seen};
+ghost use Rattle.sot_board.specs.Flown.{FlownBy};
+ghost use Rattle.sot_shift.specs.Answers.{Answered};
+ghost use Rattle.sot_workers.specs.Flying.{IsUnnamed};
+ghost use Rattle.sot_workers.specs.Lists.{AreLists};
+ghost use Rattle.sot_workers.specs.Pairs.{EachFrom};
+ghost use Rattle.sot_workers.specs.Rooms.{HasRoom};
+ghost use Rattle.sot_workers.specs.Sent.{HasSeenWhole, AreBack};
+ghost use Rattle.sot_workers.specs.Asked.{EachAnswered, EachUnnamedStays};
+ghost use Rattle.sot_workers.specs.Back.{IsGuestBack, AreListsBack};
+
+use crate::back::put_back;
+use crate::join::join_each;
+use crate::lists::NodeList;
+use crate::place::Done;
+use crate::room::{Room, bells_for, room_for};
+use crate::start::{Bell, place_each};
+use crate::watch::watch;
+use sot_board::Board;
+use sot_flight::Flight;
+use sot_shift::{Controller, whole_histories_end};
+use sot_turn::{Pass, Turn};
+use std::alloc::{AllocError, Global};
+use std::mem::swap;
+use std::sync::Wait;
+use std::thread;
+use std::thread::{Parker, Scope, Threads};
+
+/// A board at the end of its flight, and for each node, in declared order, the drafts of its firings.
+#[derive(Drop)]
+pub struct Flown<'a> {
+    pub board: Board<'a>,
+    pub lists: Vec<NodeList>,
+}
+
+/// What is there once the guests are back: the caller's pass, its lists, and the guests with theirs.
+#[derive(Drop)]
+pub(crate) struct Landed<'a, C: Controller> {
+    pub(crate) pass: Pass<Board<'a>>,
+    pub(crate) lists: Vec<NodeList>,
+    pub(crate) dones: Vec<Done<C>>,
+}
+
+/// What leaves with the guests: the caller's pass, and the memory of the flight.
+#[derive(Drop)]
+pub(crate) struct Leaving<'a, C: Controller> {
+    pub(crate) pass: Pass<Board<'a>>,
+    pub(crate) room: Room<'a, C>,
+}
+
+// What is done while threads may run: the guests leave, the flight is flown, and the guests come back.
+fn fly_in<'s, 'a: 's, E, C: Controller + Send + 's, R: Threads + Wait + Sync>(
+    rt: &'s R,
+    alloc: Global,
+    scope: &Scope<'s, E>,
+    turn: &'s Turn<Board<'a>>,
+    caller: &'s Parker,
+    bells: &'s [Bell],
+    flight: &Flight,
+    leaving: Leaving<'a, C>,
+) -> Landed<'a, C>
+    requires lock { pass_lock leaving.pass ≡ lock_of turn.now }
+    requires ground { (a : Admitted) × (pass_ground leaving.pass ≡ Some (a, flight.now)) × (length flight.now.crews ≡ length a.program.nodes) }
+    requires seen { pass_seen leaving.pass ≡ [] }
+    requires room { HasRoom (length flight.now.crews) (vec_len leaving.room.guests) leaving.room }
+    requires bells { vec_len leaving.room.guests ≤ length bells.now }
+    ensures lock { pass_lock result.pass ≡ pass_lock leaving.entry.pass }
+    ensures ground { pass_ground result.pass ≡ pass_ground leaving.entry.pass }
+    ensures back { (a : Admitted) → pass_ground leaving.entry.pass ≡ Some (a, flight.now) → AreBack C.told a flight.now leaving.entry.room.guests.items (pass_seen result.pass) result.lists.items result.dones.items }
+{
+    let Leaving { pass, room } = leaving;
+    let Room {
+        mut lists,
+        mut woken,
+        places,
+        dones,
+        guests,
+    } = room;
+    let (pass, mut places) = place_each(
+        rt, alloc, scope, turn, caller, bells, flight, pass, &mut lists, guests, places,
+    );
+    let pass = watch(
+        rt,
+        turn,
+        caller,
+        bells,
+        woken.as_mut_slice(),
+        pass,
+        &mut lists,
+        &mut places,
+    );
+    let (pass, dones) = join_each(rt, turn, pass, places, dones);
+    Landed { pass, lists, dones }
+}
+
+// The same in a scope of its own, so that all threads have ended.
+fn fly_out<'a, C: Controller + Send, R: Threads + Wait + Sync>(
+    rt: &R,
+    alloc: Global,
+    turn: &Turn<Board<'a>>,
+    caller: &Parker,
+    bells: &[Bell],
+    flight: &Flight,
+    leaving: Leaving<'a, C>,
+) -> Landed<'a, C>
+    requires lock { pass_lock leaving.pass ≡ lock_of turn.now }
+    requires ground { (a : Admitted) × (pass_ground leaving.pass ≡ Some (a, flight.now)) × (length flight.now.crews ≡ length a.program.nodes) }
+    requires seen { pass_seen leaving.pass ≡ [] }
+    requires room { HasRoom (length flight.now.crews) (vec_len leaving.room.guests) leaving.room }
+    requires bells { vec_len leaving.room.guests ≤ length bells.now }
+    ensures lock { pass_lock result.pass ≡ pass_lock leaving.entry.pass }
+    ensures ground { pass_ground result.pass ≡ pass_ground leaving.entry.pass }
+    ensures back { (a : Admitted) → pass_ground leaving.entry.pass ≡ Some (a, flight.now) → AreBack C.told a flight.now leaving.entry.room.guests.items (pass_seen result.pass) result.lists.items result.dones.items }
+{
+    thread::scope(
+        thread::scope_env(),
+        rt,
+        move |scope| -> Landed<'_, C>
+            requires { (pass_lock leaving.pass ≡ lock_of turn.now) × ((a : Admitted) × (pass_ground leaving.pass ≡ Some (a, flight.now)) × (length flight.now.crews ≡ length a.program.nodes)) × (pass_seen leaving.pass ≡ []) × HasRoom (length flight.now.crews) (vec_len leaving.room.guests) leaving.room × (vec_len leaving.room.guests ≤ length bells.now) }
+            ensures { (pass_lock result.pass ≡ pass_lock leaving.entry.pass) × (pass_ground result.pass ≡ pass_ground leaving.entry.pass) × ((a : Admitted) → pass_ground leaving.entry.pass ≡ Some (a, flight.entry.now) → AreBack C.told a flight.entry.now leaving.entry.room.guests.items (pass_seen result.pass) result.lists.items result.dones.items) }
+        { fly_in(rt, alloc, scope, turn, caller, bells, flight, leaving) },
+    )
+}
+
+// The board at the end of its flight, of which a whole history was seen.
+fn close<'a, R: Wait>(rt: &R, turn: Turn<Board<'a>>, pass: Pass<Board<'a>>) -> Board<'a>
+    requires lock { pass_lock pass ≡ lock_of turn }
+    ensures ground { pass_ground pass.entry ≡ Some (result.accepted, result.plan) }
+    ensures whole { (a : Admitted) (f : Plan) (whole : List Logged) → pass_ground pass.entry ≡ Some (a, f) → HasSeenWhole a f whole (pass_seen pass.entry) → result.entries ≡ whole }
+{
+    whole_histories_end();
+    let board = turn.close(rt, pass);
+    board.is_standing();
+    board
+}
+
+// Flies behind the lock, and puts the lists and the guests back.
+fn fly_behind<'a, C: Controller + Send, R: Threads + Wait + Sync>(
+    rt: &R,
+    alloc: Global,
+    turn: Turn<Board<'a>>,
+    bells: &[Bell],
+    flight: &Flight,
+    pass: Pass<Board<'a>>,
+    room: Room<'a, C>,
+    guests: &mut Vec<C>,
+) -> Flown<'a>
+    requires lock { pass_lock pass ≡ lock_of turn }
+    requires ground { (a : Admitted) × (pass_ground pass ≡ Some (a, flight.now)) × (length flight.now.crews ≡ length a.program.nodes) }
+    requires seen { pass_seen pass ≡ [] }
+    requires room { HasRoom (length flight.now.crews) (vec_len room.guests) room }
+    requires bells { vec_len room.guests ≤ length bells.now }
+    requires back { (guests.old.items ≡ []) × (vec_len room.guests ≤ vec_capacity guests.old) }
+    ensures ground { pass_ground pass.entry ≡ Some (result.board.accepted, result.board.plan) }
+    ensures flown { FlownBy result.board.accepted.program result.board.accepted.cert.jitter result.board.plan result.board.entries }
+    ensures guests { EachFrom (IsGuestBack C.told result.board.accepted result.board.plan result.board.entries) 0 room.entry.guests.items guests.new.items }
+    ensures lists { AreListsBack (length result.board.accepted.program.nodes) result.board.plan (length room.entry.guests.items) result.lists.items result.board.entries }
+{
+    let caller = Parker::new();
+    let leaving = Leaving { pass, room };
+    let Landed {
+        pass,
+        mut lists,
+        dones,
+    } = fly_out(rt, alloc, &turn, &caller, bells, flight, leaving);
+    let board = close(rt, turn, pass);
+    board.is_standing();
+    put_back(dones, &mut lists, guests);
+    Flown { board, lists }
+}
+
+/// Flies a newly opened board to the end of its flight. Each guest that the flight names drafts for its node, in a thread of its own
+/// where one can be made; the caller does all else, and never waits for a guest before it has to: time goes on while a guest is
+/// asked, as far as the jitter allows.
+///
+/// All memory is taken before the first event. Where there is none, no guest was asked, and the board is dropped. It waits for the
+/// guests, and nobody promises that it returns.
+pub fn fly<'a, C: Controller + Send, R: Threads + Wait + Sync>(
+    rt: &R,
+    alloc: Global,
+    board: Board<'a>,
+    flight: &'a Flight,
+    guests: &mut Vec<C>,
+) -> Result<Flown<'a>, AllocError>
+    requires flight { flight.now ≡ board.plan }
+    requires opened { board.entries ≡ [] }
+    requires there { (n i : ℕ) → At flight.now.crews n (Guest i) → i < vec_len guests.old }
+    ensures flown { IfOk result (λ r. FlownBy r.board.accepted.program r.board.accepted.cert.jitter r.board.plan r.board.entries) }
+    ensures accepted { IfOk result (λ r. r.board.accepted ≡ board.entry.accepted) }
+    ensures plan { IfOk result (λ r. r.board.plan ≡ board.entry.plan) }
+    ensures lists { IfOk result (λ r. AreLists (length r.board.accepted.program.nodes) r.lists.items r.board.entries) }
+    ensures length { vec_len guests.new ≡ vec_len guests.old }
+    ensures told { IfOk result (λ r. EachAnswered C.told r.board.accepted r.board.plan r.board.entries guests.old.items guests.new.items) }
+    ensures unnamed { IfOk result (λ r. EachUnnamedStays r.board.plan guests.old.items guests.new.items) }
+    ensures memory { IfErr result (λ _. guests.new.items ≡ guests.old.items) }
+{
+    board.is_standing();
+    let mut room = room_for(alloc, board.typed(), flight.horizon(), guests.len())?;
+    let bells = bells_for(alloc, guests.len())?;
+    let (turn, pass) = Turn::new(alloc, board)?;
+    swap(guests, &mut room.guests);
+    Ok(fly_behind(
+        rt,
+        alloc,
+        turn,
+        bells.as_slice(),
+        flight,
+        pass,
+        room,
+        guests,
+    ))
+}
