@@ -56,27 +56,27 @@ of_program bytes p t text spells (cert, made, fits, is) (m, spelled, accepted, s
     let front = first_section p t cert text spelled.parts is spelled.divided bytes spells in
     (m, spelled, same_program bytes p m.program spells (subst (λ (x : List ℕ). Spells x 0 m.program) front spelled.spelled), accepted, safe)
 
-replied : (bytes : List ℕ) (p : Program) (status : ℕ) (text : List ℕ) → Spells bytes 0 p → CertifiesTree p status text → Replies Certify bytes status text
-replied bytes p status text spells (inl (t, resolves, inl (is, has, accepted))) = inl (is, (p, t, spells, resolves, has, of_program bytes p t text spells has accepted))
-replied bytes p status text spells (inl (t, resolves, inr (is, none))) = inr (inl (is, (p, t, spells, resolves, none)))
-replied bytes p status text spells (inr (is, (f, first, says))) = inr (inr (is, (faults.Typing f, (p, spells, first), says)))
+replied : (guests : ℕ) (bytes : List ℕ) (p : Program) (status : ℕ) (text : List ℕ) → Spells bytes 0 p → CertifiesTree p status text → Replies guests Certify bytes status text
+replied guests bytes p status text spells (inl (t, resolves, inl (is, has, accepted))) = inl (is, (p, t, spells, resolves, has, of_program bytes p t text spells has accepted))
+replied guests bytes p status text spells (inl (t, resolves, inr (is, none))) = inr (inl (is, (p, t, spells, resolves, none)))
+replied guests bytes p status text spells (inr (is, (f, first, says))) = inr (inr (is, (faults.Typing f, (p, spells, first), says)))
 
-pub certified_result : (r : Result Answer AllocError) (bytes : List ℕ) (p : Program) → Spells bytes 0 p → IfOk r (λ a. CertifiesTree p a.status a.text.items)
-    → IfOk r (λ a. Replies Certify bytes a.status a.text.items)
-certified_result (Ok a) bytes p spells said = replied bytes p a.status a.text.items spells said
-certified_result (Err e) bytes p spells said = tt
+pub certified_result : (guests : ℕ) (r : Result Answer AllocError) (bytes : List ℕ) (p : Program) → Spells bytes 0 p → IfOk r (λ a. CertifiesTree p a.status a.text.items)
+    → IfOk r (λ a. Replies guests Certify bytes a.status a.text.items)
+certified_result guests (Ok a) bytes p spells said = replied guests bytes p a.status a.text.items spells said
+certified_result guests (Err e) bytes p spells said = tt
 
-pub misspelled_result : (r : Result Answer AllocError) (bytes : List ℕ) (fault : Syntax) → SpellsNone bytes → fault ≡ fault_at bytes 0 → IfOk r (λ a. a.status ≡ 3) → IfOk r (λ a. a.text.items ≡ syntax_text fault)
-    → IfOk r (λ a. Replies Certify bytes a.status a.text.items)
-misspelled_result (Ok a) bytes fault none place status text = inr (inr (status, (faults.Syntax fault, (none, fault_is_placed bytes 0 fault none place), text)))
-misspelled_result (Err e) bytes fault none place status text = tt
+pub misspelled_result : (guests : ℕ) (r : Result Answer AllocError) (bytes : List ℕ) (fault : Syntax) → SpellsNone bytes → fault ≡ fault_at bytes 0 → IfOk r (λ a. a.status ≡ 3) → IfOk r (λ a. a.text.items ≡ syntax_text fault)
+    → IfOk r (λ a. Replies guests Certify bytes a.status a.text.items)
+misspelled_result guests (Ok a) bytes fault none place status text = inr (inr (status, (faults.Syntax fault, (none, fault_is_placed bytes 0 fault none place), text)))
+misspelled_result guests (Err e) bytes fault none place status text = tt
 
 -- what was written has no fault, and no mission that it spells is refused
 pub written_faulty : (text : List ℕ) (f : Fault) → IsWritten text → HasFault needs.Check 0 text f → ⊥
 written_faulty text f (bytes, p, t, cert, has, is) fault = no_fault bytes p t cert 0 f has (subst (λ (x : List ℕ). HasFault needs.Check 0 x f) is fault)
 
-pub written_refused : (text : List ℕ) (m : Mission) (r : Refusal) → IsWritten text → SpellsFor needs.Check text m → IsRefusedFor m r → ⊥
-written_refused text m r (bytes, p, t, cert, has, is) spells refused = missions_passed bytes p t cert 0 m r has (subst (λ (x : List ℕ). SpellsFor needs.Check x m) is spells) refused
+pub written_refused : (text : List ℕ) (m : Mission) (r : Refusal) → IsWritten text → SpellsFor needs.Check 0 text m → IsRefusedFor m r → ⊥
+written_refused text m r (bytes, p, t, cert, has, is) spells refused = missions_passed bytes p t cert 0 m r has (subst (λ (x : List ℕ). SpellsFor needs.Check 0 x m) is spells) refused
 
 -- a program that has no certificate, and one that breaks a rule of typing
 pub uncertified_result : (r : Result Answer AllocError) (p : Program) (t : Tables) (fail : CertifyFail) → fail ≢ Memory → Certifies t (Err fail) → IfOk r (λ a. a.status ≡ 1)

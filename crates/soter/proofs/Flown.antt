@@ -58,12 +58,12 @@ found_of (Some x) n found parts e = absurd cc
 found_of None n None parts e = absurd cc
 found_of None n (Some x) parts e = (let same : x ≡ parts = cc in ap (λ (p : Parts). Some p) same)
 
-pub says_none : (t : Tables) (section : Option (List ℕ)) → SaysFlight t 0 section None → section ≡ None
-says_none t None s = refl
-says_none t (Some section) s = absurd s
+pub says_none : (t : Tables) (guests : ℕ) (section : Option (List ℕ)) → SaysFlight t guests section None → section ≡ None
+says_none t guests None s = refl
+says_none t guests (Some section) s = absurd s
 
-pub flight_there : (bytes : List ℕ) (m : Mission) → SpellsFor needs.Fly bytes m → m.flight ≡ None → ⊥
-flight_there bytes m x none =
+pub flight_there : (guests : ℕ) (bytes : List ℕ) (m : Mission) → SpellsFor needs.Fly guests bytes m → m.flight ≡ None → ⊥
+flight_there guests bytes m x none =
     let d : Division = division 1 (lines bytes) in
     let found = found_of (fault_behind 0 d.sections) (suc (length (lines bytes))) (needed needs.Fly d.front (body_of 1 d.sections) (body_of 2 d.sections) (body_of 3 d.sections)) x.parts x.divided in
-    needed_flight d.front (body_of 1 d.sections) (body_of 2 d.sections) (body_of 3 d.sections) x.parts found (says_none m.tables x.parts.flight (subst (SaysFlight m.tables 0 x.parts.flight) none x.flown))
+    needed_flight d.front (body_of 1 d.sections) (body_of 2 d.sections) (body_of 3 d.sections) x.parts found (says_none m.tables guests x.parts.flight (subst (SaysFlight m.tables guests x.parts.flight) none x.flown))

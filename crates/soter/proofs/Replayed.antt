@@ -70,25 +70,25 @@ unreplayed_result (Ok a) t c f ls v refuses status text = inr (status, (v, refus
 unreplayed_result (Err e) t c f ls v refuses status text = tt
 
 -- and what is said of these is said of the mission
-replayed : (bytes text : List ℕ) (status : ℕ) (m : Mission) (f : Plan) (trace : List ℕ) → SpellsFor needs.Replay bytes m → m.flight ≡ Some f → m.trace ≡ Some trace
-    → JudgesReplayed m.tables m.cert f (lent_lines trace) status text → Replies Replay bytes status text
-replayed bytes text status m f trace spells is has (inl (certified, safe, inl (zero, legal))) = inl (zero, (m, spells, certified, safe, (f, lent_lines trace, (is, (trace, has, refl)), legal)))
-replayed bytes text status m f trace spells is has (inl (certified, safe, inr (one, said))) = inr (inl (one, (m, spells, inr (certified, (f, lent_lines trace, (is, (trace, has, refl)), said)))))
-replayed bytes text status m f trace spells is has (inr (one, refused)) = inr (inl (one, (m, spells, inl refused)))
+replayed : (guests : ℕ) (bytes text : List ℕ) (status : ℕ) (m : Mission) (f : Plan) (trace : List ℕ) → SpellsFor needs.Replay guests bytes m → m.flight ≡ Some f → m.trace ≡ Some trace
+    → JudgesReplayed m.tables m.cert f (lent_lines trace) status text → Replies guests Replay bytes status text
+replayed guests bytes text status m f trace spells is has (inl (certified, safe, inl (zero, legal))) = inl (zero, (m, spells, certified, safe, (f, lent_lines trace, (is, (trace, has, refl)), legal)))
+replayed guests bytes text status m f trace spells is has (inl (certified, safe, inr (one, said))) = inr (inl (one, (m, spells, inr (certified, (f, lent_lines trace, (is, (trace, has, refl)), said)))))
+replayed guests bytes text status m f trace spells is has (inr (one, refused)) = inr (inl (one, (m, spells, inl refused)))
 
-pub replayed_result : (r : Result Answer AllocError) (bytes : List ℕ) (m : Mission) (f : Plan) (trace : List ℕ) → SpellsFor needs.Replay bytes m → m.flight ≡ Some f → m.trace ≡ Some trace
-    → IfOk r (λ a. JudgesReplayed m.tables m.cert f (lent_lines trace) a.status a.text.items) → IfOk r (λ a. Replies Replay bytes a.status a.text.items)
-replayed_result (Ok a) bytes m f trace spells is has judges = replayed bytes a.text.items a.status m f trace spells is has judges
-replayed_result (Err e) bytes m f trace spells is has judges = tt
+pub replayed_result : (guests : ℕ) (r : Result Answer AllocError) (bytes : List ℕ) (m : Mission) (f : Plan) (trace : List ℕ) → SpellsFor needs.Replay guests bytes m → m.flight ≡ Some f → m.trace ≡ Some trace
+    → IfOk r (λ a. JudgesReplayed m.tables m.cert f (lent_lines trace) a.status a.text.items) → IfOk r (λ a. Replies guests Replay bytes a.status a.text.items)
+replayed_result guests (Ok a) bytes m f trace spells is has judges = replayed guests bytes a.text.items a.status m f trace spells is has judges
+replayed_result guests (Err e) bytes m f trace spells is has judges = tt
 
-pub unspelled_result : (r : Result Answer AllocError) (bytes : List ℕ) (fault : Fault) → HasFault needs.Replay 0 bytes fault → IfOk r (λ a. a.status ≡ 3) → IfOk r (λ a. a.text.items ≡ fault_text fault)
-    → IfOk r (λ a. Replies Replay bytes a.status a.text.items)
-unspelled_result (Ok a) bytes fault has status text = inr (inr (status, (fault, has, text)))
-unspelled_result (Err e) bytes fault has status text = tt
+pub unspelled_result : (guests : ℕ) (r : Result Answer AllocError) (bytes : List ℕ) (fault : Fault) → HasFault needs.Replay guests bytes fault → IfOk r (λ a. a.status ≡ 3) → IfOk r (λ a. a.text.items ≡ fault_text fault)
+    → IfOk r (λ a. Replies guests Replay bytes a.status a.text.items)
+unspelled_result guests (Ok a) bytes fault has status text = inr (inr (status, (fault, has, text)))
+unspelled_result guests (Err e) bytes fault has status text = tt
 
 -- the names of a mission's tables are words
-pub mission_words : (need : Need) (bytes : List ℕ) (m : Mission) → SpellsFor need bytes m → AreWords m.tables
-mission_words need bytes m x = names x.parts.program 0 m.program m.tables x.spelled x.resolved
+pub mission_words : (need : Need) (guests : ℕ) (bytes : List ℕ) (m : Mission) → SpellsFor need guests bytes m → AreWords m.tables
+mission_words need guests bytes m x = names x.parts.program 0 m.program m.tables x.spelled x.resolved
 
 -- a section is no longer than all sections
 body_within : (k : ℕ) (ss : List Section) (t : List ℕ) → body_of k ss ≡ Some t → length t ≤ length (flat_map (λ (s : Section). s.mark ++ s.body) ss)
@@ -110,7 +110,7 @@ needed_both front (Some c) (Some f) (Some t) parts e =
     let same : ◌≡◌ {A = Parts} (record { program = front; cert = c; flight = Some f; trace = Some t }) parts = cc in
     ((f, sym (ap (λ (p : Parts). p.flight) same)), (t, sym (ap (λ (p : Parts). p.trace) same), refl))
 
-module _ (bytes : List ℕ) (m : Mission) (x : SpellsFor needs.Replay bytes m) where
+module _ (guests : ℕ) (bytes : List ℕ) (m : Mission) (x : SpellsFor needs.Replay guests bytes m) where
   both : ((f : List ℕ) × (x.parts.flight ≡ Some f)) × ((y : List ℕ) × (x.parts.trace ≡ Some y) × (body_of 3 (division 1 (lines bytes)).sections ≡ Some y))
   both =
       needed_both (division 1 (lines bytes)).front (body_of 1 (division 1 (lines bytes)).sections) (body_of 2 (division 1 (lines bytes)).sections) (body_of 3 (division 1 (lines bytes)).sections) x.parts
@@ -119,7 +119,7 @@ module _ (bytes : List ℕ) (m : Mission) (x : SpellsFor needs.Replay bytes m) w
 
   pub replayed_flight_there : m.flight ≡ None → ⊥
   replayed_flight_there none =
-      let section = says_none m.tables x.parts.flight (subst (SaysFlight m.tables 0 x.parts.flight) none x.flown) in
+      let section = says_none m.tables guests x.parts.flight (subst (SaysFlight m.tables guests x.parts.flight) none x.flown) in
       let e : Some both.0.0 ≡ None = sym both.0.1 ∙ section in
       absurd cc
 

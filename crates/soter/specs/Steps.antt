@@ -61,11 +61,11 @@ JudgesFlown telling t cert f status text =
     ⊎ ((status ≡ 1) × ((r : Refusal) × (verdict t cert.jitter cert).Refuses r × (text ≡ refusal_text t r)))
 
 -- what is said of a mission's bytes with a flight, by `fly` and by `soak`
-abbrev pub FliesBytes : Telling → List ℕ → ℕ → List ℕ → Type 0
-FliesBytes telling bytes status text =
-    ((status ≡ 0) × FliesWith (IsToldOf telling) bytes text)
-    ⊎ ((status ≡ 1) × DoesNotFly bytes text)
-    ⊎ ((status ≡ 3) × ((f : Fault) × HasFault needs.Fly 0 bytes f × (text ≡ fault_text f)))
+abbrev pub FliesBytes : ℕ → Telling → List ℕ → ℕ → List ℕ → Type 0
+FliesBytes guests telling bytes status text =
+    ((status ≡ 0) × FliesWith (IsToldOf telling) guests bytes text)
+    ⊎ ((status ≡ 1) × DoesNotFly guests bytes text)
+    ⊎ ((status ≡ 3) × ((f : Fault) × HasFault needs.Fly guests bytes f × (text ≡ fault_text f)))
 
 -- what is said of the lines of a trace of an accepted program's flight
 abbrev pub JudgesLines : Tables → ℕ → Plan → List (List ℕ) → ℕ → List ℕ → Type 0
@@ -96,21 +96,21 @@ CertifiesTree p status text =
     ⊎ ((status ≡ 3) × ((f : TypeFault) × IsFirstFault p f × (text ≡ type_text f)))
 
 -- what is said by a command that reads, of all that a source had left, or of too much
-abbrev pub ReadAnswer : Command → Option (List ℕ) → Option (List ℕ) → ℕ → List ℕ → Type 0
-ReadAnswer command left left_after status text =
-    ((bytes : List ℕ) × ReadsAll left left_after bytes × (length bytes ≤ input_limit) × Replies command bytes status text)
+abbrev pub ReadAnswer : ℕ → Command → Option (List ℕ) → Option (List ℕ) → ℕ → List ℕ → Type 0
+ReadAnswer guests command left left_after status text =
+    ((bytes : List ℕ) × ReadsAll left left_after bytes × (length bytes ≤ input_limit) × Replies guests command bytes status text)
     ⊎ ((status ≡ 7) × ReadsCount left left_after (input_limit + 1) × (text ≡ long_text))
 
 -- what is said by any command: of what it takes, or of too much
-abbrev pub CommandAnswer : Command → Option (List ℕ) → Option (List ℕ) → ℕ → List ℕ → Type 0
-CommandAnswer command left left_after status text =
-    ((bytes : List ℕ) × Takes command left left_after bytes × (length bytes ≤ input_limit) × Replies command bytes status text)
+abbrev pub CommandAnswer : ℕ → Command → Option (List ℕ) → Option (List ℕ) → ℕ → List ℕ → Type 0
+CommandAnswer guests command left left_after status text =
+    ((bytes : List ℕ) × Takes command left left_after bytes × (length bytes ≤ input_limit) × Replies guests command bytes status text)
     ⊎ (Reads command × (status ≡ 7) × ReadsCount left left_after (input_limit + 1) × (text ≡ long_text))
 
 -- what is said at the words
-abbrev pub WordAnswer : List (String Global) → Option (List ℕ) → Option (List ℕ) → ℕ → List ℕ → Type 0
-WordAnswer words left left_after status text =
-    ((command : Command) × Asks words command × CommandAnswer command left left_after status text) ⊎ (AsksNone words × (status ≡ 2) × (text ≡ usage_text))
+abbrev pub WordAnswer : ℕ → List (String Global) → Option (List ℕ) → Option (List ℕ) → ℕ → List ℕ → Type 0
+WordAnswer guests words left left_after status text =
+    ((command : Command) × Asks words command × CommandAnswer guests command left left_after status text) ⊎ (AsksNone words × (status ≡ 2) × (text ≡ usage_text))
 
 -- why nothing is said: memory, with no fault of the source, or a source that failed
 abbrev pub Silence : List (String Global) → ℕ → ℕ → ℕ → Type 0

@@ -1,6 +1,6 @@
 //! Answers: a status with the text that is written with it.
 
-ghost use Rattle.std.specs.Prelude.{◌≡◌, [], IfOk};
+ghost use Rattle.std.specs.Prelude.{◌≡◌, ℕ, [], IfOk};
 ghost use Rattle.std.specs.String.{string_bytes};
 ghost use Rattle.sot_tree.specs.TreeViews.{program_view};
 ghost use Rattle.sot_lang.specs.CertRules.{FitsTables};
@@ -66,7 +66,7 @@ pub fn canonical(alloc: Global, program: &Program) -> Result<Answer, AllocError>
 /// Status 0: the mission that is made from two numbers.
 pub fn made(alloc: Global, n: u32, seed: u64) -> Result<Answer, AllocError>
     requires { AreAsked n seed }
-    ensures { IfOk result (λ answer. Replies (MakeCommand n seed) [] answer.status answer.text.items) }
+    ensures { (guests : ℕ) → IfOk result (λ answer. Replies guests (MakeCommand n seed) [] answer.status answer.text.items) }
 {
     let text = make(alloc, n, seed)?;
     Ok(Answer {
@@ -126,7 +126,7 @@ pub fn outside(
     flight: &Flight,
     module: u32,
 ) -> Result<Answer, AllocError>
-    requires fits { FitsFlight program.now 0 flight.now }
+    requires fits { (guests : ℕ) × FitsFlight program.now guests flight.now }
     requires first { IsFirstOutside program.now flight.now.start «module» }
     ensures status { IfOk result (λ answer. answer.status ≡ 1) }
     ensures text { IfOk result (λ answer. IsOutsideOf program.now flight.now answer.text.items) }

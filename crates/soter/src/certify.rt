@@ -1,6 +1,6 @@
 //! `certify`: a certificate for a program whose regions are given.
 
-ghost use Rattle.std.specs.Prelude.{◌<◌, ◌≤◌, ◌+◌, ◌^◌, length, Ok, IfOk, OnOk};
+ghost use Rattle.std.specs.Prelude.{ℕ, ◌<◌, ◌≤◌, ◌+◌, ◌^◌, length, Ok, IfOk, OnOk};
 ghost use Rattle.sot_tree.specs.TreeViews.{program_view};
 ghost use Rattle.sot_lang.specs.CertRules.{FitsTables};
 ghost use Rattle.sot_certify.specs.Certifying.{Certifies};
@@ -100,7 +100,7 @@ fn certify_tree<R: Threads + Sync>(
 /// Reads a program, makes its certificate, and says both as a mission.
 pub fn certify<R: Threads + Sync>(rt: &R, alloc: Global, bytes: &[u8]) -> Result<Answer, AllocError>
     requires { length bytes.now ≤ input_limit }
-    ensures { IfOk result (λ answer. Replies CertifyCommand bytes.now answer.status answer.text.items) }
+    ensures { (guests : ℕ) → IfOk result (λ answer. Replies guests CertifyCommand bytes.now answer.status answer.text.items) }
 {
     match parse(alloc, &mut Lexer::new(bytes)) {
         Ok(program) => certify_tree(rt, alloc, &program),

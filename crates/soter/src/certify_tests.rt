@@ -1,10 +1,11 @@
 //! Tests of `certify` on whole programs.
 
 use super::*;
+use crate::alone::soter;
 use crate::check_tests::checked;
-use crate::top::soter;
 use sot_ports::{MemSink, PureSource};
 use std::alloc::Global;
+use std::sync::Wait;
 use std::test::Fail;
 use std::thread::Threads;
 
@@ -83,7 +84,7 @@ module n {{ ac b; sc r; period 1 offset 0; plant q; safe [0..9]; safer [3..9]; }
 
 // The status and the text of `certify` on a text.
 fn certified(
-    rt: &(impl Threads + Sync),
+    rt: &(impl Threads + Wait + Sync),
     alloc: Global,
     text: &[u8],
 ) -> Result<(u8, Vec<u8>), Fail> {

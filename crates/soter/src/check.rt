@@ -1,6 +1,6 @@
 //! `check`: what is said of a mission.
 
-ghost use Rattle.std.specs.Prelude.{◌≤◌, length, IfOk};
+ghost use Rattle.std.specs.Prelude.{◌≤◌, ℕ, length, IfOk};
 ghost use Rattle.sot_lang.specs.CertRules.{FitsTables};
 ghost use Rattle.soter.specs.Answers.{input_limit, Replies};
 ghost use Rattle.soter.specs.Steps.{Judges};
@@ -34,7 +34,7 @@ fn judge<R: Threads + Sync>(
 /// Checks a mission: its sections, its program, its certificate, and then all conditions.
 pub fn check<R: Threads + Sync>(rt: &R, alloc: Global, bytes: &[u8]) -> Result<Answer, AllocError>
     requires { length bytes.now ≤ input_limit }
-    ensures { IfOk result (λ answer. Replies CheckCommand bytes.now answer.status answer.text.items) }
+    ensures { (guests : ℕ) → IfOk result (λ answer. Replies guests CheckCommand bytes.now answer.status answer.text.items) }
 {
     match load(alloc, bytes, Need::Check, 0) {
         Ok(loaded) => judge(rt, alloc, &loaded.program, &loaded.cert),

@@ -1,9 +1,10 @@
 //! Tests of `check` on whole missions.
 
 use super::*;
-use crate::top::soter;
+use crate::alone::soter;
 use sot_ports::{MemSink, PureSource};
 use std::alloc::Global;
+use std::sync::Wait;
 use std::test::Fail;
 use std::thread::Threads;
 
@@ -24,7 +25,7 @@ module m { ac e; sc s; period 1 offset 0; plant q; safe none; safer none; }
 
 // The status and the text of `check` on a text.
 pub fn checked(
-    rt: &(impl Threads + Sync),
+    rt: &(impl Threads + Wait + Sync),
     alloc: Global,
     text: &[u8],
 ) -> Result<(u8, Vec<u8>), Fail> {

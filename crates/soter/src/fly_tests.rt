@@ -1,9 +1,16 @@
 //! Tests of `fly` on whole missions.
 
+ghost use Rattle.std.specs.Prelude.{None};
+
 use super::*;
-use crate::top::soter;
+use crate::alone::soter;
+use crate::top::soter as soter_with;
+use sot_board::View;
+use sot_lang::Draft;
 use sot_ports::{MemSink, PureSource};
+use sot_shift::Controller;
 use std::alloc::Global;
+use std::sync::Wait;
 use std::test::Fail;
 use std::thread::Threads;
 
@@ -29,9 +36,51 @@ module nav { ac fast; sc slow; period 4 offset 0; plant pos; safe [-40..40]; saf
 {\"format\":1,\"modules\":{\"nav\":{\"closed\":[[[-40,-11]],[[-10,10]],[[11,40]]],\"reach\":[[[-10,10]]]}}}
 ";
 
+// A flight of the vehicle in which its decision node switches to the advanced node and back.
+const SWITCHED: &str = "soter trace 1
+start pos 0
+0 decide nav ac
+0 tick pos(0)=0
+1 idle slow cmd=0
+1 tick pos(0)=0
+2 fire fast cmd=2
+2 tick pos(0)=2
+3 tick pos(0)=4
+4 decide nav ac
+4 tick pos(0)=6
+5 idle slow cmd=0
+5 tick pos(0)=8
+6 fire fast cmd=2
+6 tick pos(0)=10
+7 tick pos(0)=12
+8 decide nav ac
+8 tick pos(0)=14
+9 idle slow cmd=-2
+9 tick pos(0)=16
+10 fire fast cmd=2
+10 tick pos(0)=18
+11 tick pos(0)=20
+12 decide nav sc
+12 tick pos(0)=22
+13 fire slow cmd=-2
+13 tick pos(0)=20
+14 idle fast cmd=2
+14 tick pos(0)=18
+15 tick pos(0)=16
+16 decide nav sc
+16 tick pos(0)=14
+17 fire slow cmd=-2
+17 tick pos(0)=12
+18 idle fast cmd=2
+18 tick pos(0)=10
+19 tick pos(0)=8
+20 decide nav ac
+end 20 events 36 refused 0
+";
+
 // The status and the text of `fly` on a mission with this flight.
 fn flown(
-    rt: &(impl Threads + Sync),
+    rt: &(impl Threads + Wait + Sync),
     alloc: Global,
     mission: &str,
     flight: &str,
@@ -63,6 +112,18 @@ fn flies_what_is_accepted_and_starts_inside(rt: HostRuntime) -> Result<(), Fail>
         ),
         (
             VEHICLE,
+            "%flight\n{\"crew\":{\"fast\":{\"drafts\":[[2]],\"kind\":\"script\"}},\"format\":1,\"horizon\":20,\"inputs\":[],\"start\":{\"pos\":[0]},\"sway\":{\"pos\":{\"kind\":\"list\",\"values\":[[0]]}}}\n",
+            0,
+            SWITCHED,
+        ),
+        (
+            VEHICLE,
+            "%flight\n{\"crew\":{\"fast\":{\"drafts\":[[2]],\"kind\":\"script\"}},\"format\":1,\"horizon\":0,\"inputs\":[],\"start\":{\"pos\":[0]},\"sway\":{\"pos\":{\"kind\":\"low\"}}}\n",
+            0,
+            "soter trace 1\nstart pos 0\n0 decide nav ac\nend 0 events 1 refused 0\n",
+        ),
+        (
+            VEHICLE,
             "%flight\n{\"crew\":{\"fast\":{\"drafts\":[[2]],\"kind\":\"script\"}},\"format\":1,\"horizon\":20,\"inputs\":[],\"start\":{\"pos\":[11]},\"sway\":{\"pos\":{\"kind\":\"low\"}}}\n",
             1,
             "refused start module nav point (11)\n",
@@ -79,5 +140,40 @@ fn flies_what_is_accepted_and_starts_inside(rt: HostRuntime) -> Result<(), Fail>
         assert_eq!(rt; ended, status);
         assert_eq!(rt; text.as_slice(), said.as_bytes());
     }
+    Ok(())
+}
+
+// A guest that drafts one number, and tells nothing of its askings.
+#[derive(Drop)]
+struct Stubborn {
+    number: i64,
+}
+
+impl Controller for Stubborn {
+    ghost told = { λ _. None };
+
+    fn decide(&mut self, _view: &View, draft: &mut Draft) {
+        draft.set(0, self.number);
+    }
+}
+
+#[test]
+fn asks_the_guest_that_a_flight_names(rt: HostRuntime) -> Result<(), Fail> {
+    let alloc = rt.alloc();
+    let text = format!(in alloc;
+        "{VEHICLE}%flight\n{{\"crew\":{{\"fast\":{{\"index\":0,\"kind\":\"guest\"}}}},\"format\":1,\"horizon\":3,\"inputs\":[],\"start\":{{\"pos\":[0]}},\"sway\":{{\"pos\":{{\"kind\":\"list\",\"values\":[[0]]}}}}}}\n"
+    )?;
+    let mut words = Vec::new(alloc);
+    words.push(String::from_str(alloc, "fly")?)?;
+    let mut guests = Vec::new(alloc);
+    guests.push(Stubborn { number: 7 })?;
+    let mut source = PureSource::new(text.into_bytes());
+    let mut sink = MemSink::new(alloc, 2000, 2000, Vec::new(alloc))?;
+    let ended = soter_with(&rt, alloc, &words, &mut guests, &mut source, &mut sink);
+    assert_eq!(rt; ended.0, 0);
+    assert_eq!(rt;
+        sink.bytes(),
+        b"soter trace 1\nstart pos 0\n0 decide nav ac\n0 tick pos(0)=0\n1 idle slow cmd=0\n1 tick pos(0)=0\n2 fire fast cmd!7\n2 tick pos(0)=0\nend 3 events 6 refused 1\n"
+    );
     Ok(())
 }

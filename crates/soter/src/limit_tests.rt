@@ -4,6 +4,7 @@ use super::*;
 use crate::check_tests::{MODULE, OWN_MODULE, checked, mission};
 use std::alloc::Global;
 use std::process::Abort;
+use std::sync::Wait;
 use std::test::Fail;
 use std::thread::Threads;
 
@@ -32,7 +33,7 @@ const STATEMENTS: &str =
 
 // The text and the status at one number of pieces.
 fn at(
-    rt: &(impl Threads + Sync),
+    rt: &(impl Threads + Wait + Sync),
     alloc: Global,
     limit: &Limit,
     count: u32,

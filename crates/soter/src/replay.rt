@@ -26,9 +26,10 @@ fn replay_accepted(
     alloc: Global,
     accepted: &Accepted<'_>,
     flight: &Flight,
+    guests: u32,
     trace: &[u8],
 ) -> Result<Answer, AllocError>
-    requires flight { FitsFlight accepted.now.program 0 flight.now }
+    requires flight { FitsFlight accepted.now.program guests flight.now }
     requires words { AreWords accepted.now.program }
     requires short { length trace.now ≤ input_limit }
     ensures { IfOk result (λ answer. JudgesLines accepted.now.program accepted.now.cert.jitter flight.now (lent_lines trace.now) answer.status answer.text.items) }
@@ -48,32 +49,46 @@ fn judge<R: Threads + Sync>(
     program: &Typed,
     cert: &Cert,
     flight: &Flight,
+    guests: u32,
     trace: &[u8],
 ) -> Result<Answer, AllocError>
     requires cert { FitsTables program.now cert.now }
-    requires flight { FitsFlight program.now 0 flight.now }
+    requires flight { FitsFlight program.now guests flight.now }
     requires words { AreWords program.now }
     requires short { length trace.now ≤ input_limit }
     ensures { IfOk result (λ answer. JudgesReplayed program.now cert.now flight.now (lent_lines trace.now) answer.status answer.text.items) }
 {
     match check_all(rt, program, cert) {
-        Ok(accepted) => replay_accepted(alloc, &accepted, flight, trace),
+        Ok(accepted) => replay_accepted(alloc, &accepted, flight, guests, trace),
         Err(CheckFail::Refused(refusal)) => refused(alloc, program, &refusal),
         Err(CheckFail::Memory) => Err(AllocError),
     }
 }
 
-/// Reads a mission with its flight and a trace, checks the mission, and tells whether the trace is that of a history of the flight.
-pub fn replay<R: Threads + Sync>(rt: &R, alloc: Global, bytes: &[u8]) -> Result<Answer, AllocError>
+/// Reads a mission with its flight, for so many guests, and a trace, checks the mission, and tells whether the trace is that of a history of the flight.
+pub fn replay<R: Threads + Sync>(
+    rt: &R,
+    alloc: Global,
+    guests: u32,
+    bytes: &[u8],
+) -> Result<Answer, AllocError>
     requires { length bytes.now ≤ input_limit }
-    ensures { IfOk result (λ answer. Replies ReplayCommand bytes.now answer.status answer.text.items) }
+    ensures { IfOk result (λ answer. Replies guests ReplayCommand bytes.now answer.status answer.text.items) }
 {
-    match load(alloc, bytes, Need::Replay, 0) {
+    match load(alloc, bytes, Need::Replay, guests) {
         Ok(loaded) => {
             // A mission that is to be replayed has a trace and a flight.
             let trace = loaded.trace.unwrap();
             match &loaded.flight {
-                Some(flight) => judge(rt, alloc, &loaded.program, &loaded.cert, flight, trace),
+                Some(flight) => judge(
+                    rt,
+                    alloc,
+                    &loaded.program,
+                    &loaded.cert,
+                    flight,
+                    guests,
+                    trace,
+                ),
                 None => unreachable!(),
             }
         }

@@ -1,9 +1,10 @@
 //! Tests of `replay` on whole missions.
 
 use super::*;
-use crate::top::soter;
+use crate::alone::soter;
 use sot_ports::{MemSink, PureSource};
 use std::alloc::Global;
+use std::sync::Wait;
 use std::test::Fail;
 use std::thread::Threads;
 
@@ -37,7 +38,7 @@ const OUTSIDE: &str =
 
 // The status and the text of `replay` on a mission with this certificate, flight and trace.
 fn replayed(
-    rt: &(impl Threads + Sync),
+    rt: &(impl Threads + Wait + Sync),
     alloc: Global,
     cert: &str,
     flight: &str,

@@ -1,9 +1,10 @@
 //! Tests of `soak`: its words, and the line that it writes.
 
 use super::*;
-use crate::top::soter;
+use crate::alone::soter;
 use sot_ports::{MemSink, PureSource, Source};
 use std::alloc::Global;
+use std::sync::Wait;
 use std::test::Fail;
 use std::thread::Threads;
 
@@ -12,7 +13,7 @@ const USAGE: &str =
 
 // The status and the text of these words over a source of one byte, and whether the byte is left.
 fn said(
-    rt: &(impl Threads + Sync),
+    rt: &(impl Threads + Wait + Sync),
     alloc: Global,
     words: &[&str],
 ) -> Result<(u8, Vec<u8>, bool), Fail> {

@@ -1,0 +1,87 @@
+-- The texts of tables that look the same.
+use Rattle.std.proofs.Common.{◌≡◌, ℕ, ℤ, List, [], ◌∷◌, ◌++◌, Option, length, codes, refl, sym, ap, ap₂, ◌∙◌}
+use Rattle.std.specs.Prelude.{slice_get}
+use Rattle.std.specs.Option.{option_map_or}
+use Rattle.std.proofs.lemmas.List.{length-map}
+use Rattle.serde_json.specs.Data.{unsigned, number, object, no_members, member}
+use Rattle.serde_json.specs.Written.{compact_text}
+use Rattle.sot_lang.specs.declared.cert.Cells.{Cells}
+use Rattle.sot_lang.specs.declared.cert.Cert.{Cert}
+use Rattle.sot_lang.specs.declared.tables.TopicInfo.{TopicInfo}
+use Rattle.sot_lang.specs.declared.tables.ModuleInfo.{ModuleInfo}
+use Rattle.sot_lang.specs.Tables.{Tables}
+use Rattle.sot_typing.specs.Resolved.{ProgramTables, PlantTable, NodeTable, plant_seen, node_seen, tables_seen}
+use Rattle.sot_alike.proofs.Seen.{modules_same, plants_seen_same, nodes_seen_same}
+use Rattle.sot_told.proofs.Looks.{looked}
+use Rattle.sot_tube.specs.Refusals.{Refusal, Periods, Outputs, EmptyRegion, ClosedGap, ClosedTrap, ClosedLeaves, ReachGap, ReachLeaves, ReachTrap, SharedNode, SharedOutput, SharedPlant, ForeignInput, CodeMayTrap, NoCells}
+use Rattle.sot_rta.specs.Refused.{refusal_view}
+use Rattle.sot_certify.specs.declared.fail.CertifyFail.{CertifyFail}
+use Rattle.sot_certify.specs.declared.fail.CertifyFail.TheVariants.{Refused, Point, TooMany, Memory}
+use Rattle.sot_certified_text.specs.CertText.{entries_data, certificate_line}
+use Rattle.sot_certified_text.specs.FailTexts.{list_word, fail_text}
+use Rattle.sot_report.specs.Pieces.{line, module_name, node_name, topic_name, plant_name, point_text, box_text, place_text, ends_text, trap_word}
+use Rattle.sot_report.specs.RefusalTexts.{region_word, of_module, cell_text, refusal_text, start_text}
+use Rattle.sot_report.specs.AcceptedTexts.{cell_count, counts_text, accepted_text}
+
+module _ (t u : Tables) (same : tables_seen t ≡ tables_seen u) where
+  module_same : (m : ℕ) → module_name t m ≡ module_name u m
+  module_same m = ap (λ (ms : List ModuleInfo). option_map_or (λ (x : ModuleInfo). x.name) (slice_get ms m) []) (modules_same t u same)
+
+  topic_same : (k : ℕ) → topic_name t k ≡ topic_name u k
+  topic_same k = ap (λ (s : ProgramTables). option_map_or (λ (x : TopicInfo). x.name) (slice_get s.topics k) []) same
+
+  node_same : (n : ℕ) → node_name t n ≡ node_name u n
+  node_same n =
+      looked node_seen (λ (x : NodeTable). x.name) [] t.nodes n
+      ∙ ap (λ (ns : List NodeTable). option_map_or (λ (x : NodeTable). x.name) (slice_get ns n) []) (nodes_seen_same t u same)
+      ∙ sym (looked node_seen (λ (x : NodeTable). x.name) [] u.nodes n)
+
+  plant_same : (k : ℕ) → plant_name t k ≡ plant_name u k
+  plant_same k =
+      looked plant_seen (λ (x : PlantTable). x.name) [] t.plants k
+      ∙ ap (λ (ks : List PlantTable). option_map_or (λ (x : PlantTable). x.name) (slice_get ks k) []) (plants_seen_same t u same)
+      ∙ sym (looked plant_seen (λ (x : PlantTable). x.name) [] u.plants k)
+
+  of_module_same : (condition : List ℕ) (m : ℕ) → of_module condition t m ≡ of_module condition u m
+  of_module_same condition m = λ i. codes "refused " ++ condition ++ codes " module " ++ module_same m i
+
+  gap_same : (condition : List ℕ) (m : ℕ) (point : List ℤ) → line (of_module condition t m ++ codes " point " ++ point_text point) ≡ line (of_module condition u m ++ codes " point " ++ point_text point)
+  gap_same condition m point = λ i. line (of_module_same condition m i ++ codes " point " ++ point_text point)
+
+  pub refusal_text_same : (r : Refusal) → refusal_text t r ≡ refusal_text u r
+  refusal_text_same (Periods m n) = λ i. line (of_module_same (codes "1 Periods") m i ++ codes " node " ++ node_same n i)
+  refusal_text_same (Outputs m k) = λ i. line (of_module_same (codes "2 Outputs") m i ++ codes " topic " ++ topic_same k i)
+  refusal_text_same (EmptyRegion m safer) = λ i. line (of_module_same (codes "3 EmptyRegion") m i ++ codes " " ++ region_word safer)
+  refusal_text_same (ClosedGap m point) = gap_same (codes "4 ClosedGap") m point
+  refusal_text_same (ClosedTrap m cell tick at) = λ i. line (of_module_same (codes "5 ClosedTrap") m i ++ cell_text cell tick ++ place_text at)
+  refusal_text_same (ClosedLeaves m cell tick area point) = λ i. line (of_module_same (codes "6 ClosedLeaves") m i ++ cell_text cell tick ++ codes "box " ++ box_text area ++ codes " point " ++ point_text point)
+  refusal_text_same (ReachGap m point) = gap_same (codes "7 ReachGap") m point
+  refusal_text_same (ReachLeaves m cell tick area point) = λ i. line (of_module_same (codes "8 ReachLeaves") m i ++ cell_text cell tick ++ codes "box " ++ box_text area ++ codes " point " ++ point_text point)
+  refusal_text_same (ReachTrap m cell tick at) = λ i. line (of_module_same (codes "9 ReachTrap") m i ++ cell_text cell tick ++ place_text at)
+  refusal_text_same (SharedNode n a b) = λ i. line (codes "refused " ++ codes "10 SharedNode node " ++ node_same n i ++ codes " modules " ++ module_same a i ++ codes " " ++ module_same b i)
+  refusal_text_same (SharedOutput k a b) = λ i. line (codes "refused " ++ codes "11 SharedOutput topic " ++ topic_same k i ++ codes " nodes " ++ node_same a i ++ codes " " ++ node_same b i)
+  refusal_text_same (SharedPlant k a b) = λ i. line (codes "refused " ++ codes "12 SharedPlant plant " ++ plant_same k i ++ codes " modules " ++ module_same a i ++ codes " " ++ module_same b i)
+  refusal_text_same (ForeignInput m k) = λ i. line (of_module_same (codes "13 ForeignInput") m i ++ codes " topic " ++ topic_same k i)
+  refusal_text_same (CodeMayTrap n at kind lo hi) = λ i. line ((codes "refused 14 CodeMayTrap node " ++ node_same n i ++ codes " " ++ place_text at) ++ codes " " ++ trap_word kind ++ ends_text lo hi)
+  refusal_text_same (NoCells m) = λ i. line (of_module_same (codes "15 NoCells") m i)
+
+  pub start_text_same : (m : ℕ) (point : List ℤ) → start_text t m point ≡ start_text u m point
+  start_text_same m point = gap_same (codes "start") m point
+
+  pub fail_text_same : (f : CertifyFail) → fail_text t f ≡ fail_text u f
+  fail_text_same (Refused r) = refusal_text_same (refusal_view r)
+  fail_text_same (Point m reach s) = λ i. line ((codes "refused certify module " ++ module_same m i ++ codes " " ++ list_word reach) ++ codes " point " ++ point_text s)
+  fail_text_same (TooMany m reach) = λ i. line ((codes "refused certify module " ++ module_same m i ++ codes " " ++ list_word reach) ++ codes " TooMany")
+  fail_text_same Memory = refl
+
+  pub certificate_line_same : (c d : Cert) → c.modules.items ≡ d.modules.items → certificate_line t c ≡ certificate_line u d
+  certificate_line_same c d entries =
+      ap₂
+      (λ (ms : List ModuleInfo) (es : List (Option Cells)). compact_text (object (member (codes "format") (number (unsigned 1)) (member (codes "modules") (object (entries_data ms es)) no_members))) ++ 10 ∷ [])
+      (modules_same t u same)
+      entries
+
+  pub accepted_text_same : (c d : Cert) → c.modules.items ≡ d.modules.items → accepted_text t c ≡ accepted_text u d
+  accepted_text_same c d entries =
+      let nodes : length t.nodes ≡ length u.nodes = sym (length-map t.nodes node_seen) ∙ ap length (nodes_seen_same t u same) ∙ length-map u.nodes node_seen in
+      λ i. counts_text (length (modules_same t u same i)) (nodes i) (cell_count (entries i))
