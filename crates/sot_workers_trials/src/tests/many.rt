@@ -81,7 +81,7 @@ fn askings_are_those_of_the_firings(rt: HostRuntime) -> Result<(), Fail> {
     assert_eq!(rt; trace.as_str(), SWITCHED);
     assert!(rt; guests.len() == 2 && guests[0].number == 1 && guests[0].kept.len() == 0);
     let kept = guests[1].kept.as_slice();
-    let seen = [0, 8, 18, 20, 10];
+    let seen = [0, 8, 16, 20, 12];
     assert!(rt; guests[1].number == 2 && !guests[1].lost && kept.len() == seen.len());
     assert!(rt; lists.len() == 2 && lists[0].drafts.len() == 5 && lists[1].drafts.len() == 5);
     for i in 0..5 {
