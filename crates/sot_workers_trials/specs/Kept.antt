@@ -2,7 +2,7 @@
 use Rattle.std.specs.Prelude.{Bool, List, map, Option, Some, None, if◌then◌else◌}
 use Rattle.sot_board.specs.Views.{viewed_numbers}
 use Rattle.sot_shift.specs.Askings.{Asking, asking}
-use Rattle.sot_workers_trials.specs.declared.tests.keeper.Kept.{Kept}
+use Rattle.sot_workers_trials.specs.declared.keeper.Kept.{Kept}
 
 abbrev pub asking_of : Kept → Asking
 asking_of kept = asking (viewed_numbers kept.view) kept.draft

@@ -4,5 +4,8 @@
 //! once, and that time goes on while one of them is held.
 #![tactic(auto)]
 
+mod keeper;
 #[cfg(test)]
 mod tests;
+
+pub use keeper::{Keeper, Kept};

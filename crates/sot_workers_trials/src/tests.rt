@@ -6,7 +6,6 @@ ghost use Rattle.sot_flight.specs.Fits.{FitsFlight};
 
 mod held;
 mod holder;
-mod keeper;
 mod many;
 
 use sot_board::Board;

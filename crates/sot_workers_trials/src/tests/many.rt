@@ -1,6 +1,6 @@
 //! Guests that keep their askings, and many guests.
-use super::keeper::Keeper;
 use super::trace_of;
+use crate::keeper::Keeper;
 use std::alloc::Global;
 use std::fmt::Write;
 use std::test::*;
