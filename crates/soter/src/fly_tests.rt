@@ -173,7 +173,7 @@ fn asks_the_guest_that_a_flight_names(rt: HostRuntime) -> Result<(), Fail> {
     assert_eq!(rt; ended.0, 0);
     assert_eq!(rt;
         sink.bytes(),
-        b"soter trace 1\nstart pos 0\n0 decide nav ac\n0 tick pos(0)=0\n1 idle slow cmd=0\n1 tick pos(0)=0\n2 fire fast cmd!7\n2 tick pos(0)=0\nend 3 events 6 refused 1\n"
+        "soter trace 1\nstart pos 0\n0 decide nav ac\n0 tick pos(0)=0\n1 idle slow cmd=0\n1 tick pos(0)=0\n2 fire fast cmd!7\n2 tick pos(0)=0\nend 3 events 6 refused 1\n".as_bytes()
     );
     Ok(())
 }

@@ -47,7 +47,7 @@ fn at(
 
 // At this number of pieces this is said, of a fault or of none.
 fn tells(
-    rt: &(impl Abort + Threads + Sync),
+    rt: &(impl Abort + Threads + Wait + Sync),
     alloc: Global,
     limit: &Limit,
     count: u32,

@@ -50,7 +50,10 @@ fn tells_what_nests_too_deep(rt: HostRuntime) -> Result<(), Fail> {
     assert_eq!(rt; status, 0);
     let (status, text) = formatted(&rt, alloc, &relay(alloc, 64)?)?;
     assert_eq!(rt; status, 3);
-    assert_eq!(rt; text.as_slice(), b"fault syntax line 7 column 269 Deep\n");
+    assert_eq!(rt;
+        text.as_slice(),
+        "fault syntax line 7 column 269 Deep\n".as_bytes()
+    );
     Ok(())
 }
 
@@ -90,11 +93,13 @@ fn tells_the_first_token_that_fits_nowhere(rt: HostRuntime) -> Result<(), Fail> 
 fn rejects_each_beginning_of_a_mission(rt: HostRuntime) -> Result<(), Fail> {
     let alloc = rt.alloc();
     let text = mission_of(alloc, LINE)?;
-    for len in 0..text.len() - 1 {
+    let whole = text.len();
+    assert!(rt; whole > 0);
+    for len in 0..whole - 1 {
         let (status, _) = checked(&rt, alloc, &text[..len])?;
         assert_eq!(rt; status, 3, "the first {len} bytes");
     }
-    let (status, _) = checked(&rt, alloc, &text[..text.len() - 1])?;
+    let (status, _) = checked(&rt, alloc, &text[..whole - 1])?;
     assert_eq!(rt; status, 0);
     Ok(())
 }
