@@ -44,7 +44,7 @@ unfolding declarations_at all_at
 declarations_end room ts y e = repeated_ends (declaration_at room) (declaration_short room) (suc (length ts)) ts y (omega arith) e
 
 -- some text begins so
-pub begins_by : (used : List Lexeme) → Begun (each spelled_declaration) used → Begins used
+begins_by : (used : List Lexeme) → Begun (each spelled_declaration) used → Begins used
 begins_by used b = (b.more ++ [], real_append b.more [] b.real tt, (b.form, sym (b.spells [])))
 
 -- what stands before the same tokens is the same
@@ -59,11 +59,11 @@ same_front (u ∷ us) (v ∷ vs) ws e =
     rw (head, rest) refl
 
 -- a text of the grammar is read, where there is room
-pub text_read : (form : List DeclarationForm) (room : ℕ) → most declaration_levels form ≤ room → (ts : List Lexeme) → ts ≡ spelled_program form → declarations_at room ts ≡ Ok (map declaration_of form, [])
+text_read : (form : List DeclarationForm) (room : ℕ) → most declaration_levels form ≤ room → (ts : List Lexeme) → ts ≡ spelled_program form → declarations_at room ts ≡ Ok (map declaration_of form, [])
 text_read form room fits ts is = ap (declarations_at room) is ∙ declarations_full room form fits
 
 -- where reading sticks, no text goes on
-pub no_text_goes_on : (room : ℕ) (ts used rest us : List Lexeme) → declarations_at room ts ≡ Err (stuck, rest) → ts ≡ used ++ rest → first_of us ≡ first_of rest → IsText (used ++ us) → ⊥
+no_text_goes_on : (room : ℕ) (ts used rest us : List Lexeme) → declarations_at room ts ≡ Err (stuck, rest) → ts ≡ used ++ rest → first_of us ≡ first_of rest → IsText (used ++ us) → ⊥
 no_text_goes_on room ts used rest us e split first (form, is) =
     let wide = room + most declaration_levels form in
     let t : Track ⊥ (declarations_at wide) (err {A = List Declaration} (stuck, rest)) ts = subst (λ m. Track ⊥ (declarations_at wide) m ts) e (declarations_tracks {Same = ⊥} room wide (omega arith) (λ z. absurd z) ts) in
@@ -92,7 +92,7 @@ only_deep_goes_on ts used rest us e split first form is = elim (cases_Bool (nat_
 ]
 
 -- the fault at the end of the tokens
-pub end_fault : (bytes : List ℕ) (ts : List Lexeme) (end : Option LexFault) → Begins ts → (end ≡ None → IsText ts → ⊥) → IsFaultOf bytes (record { tokens = ts; end = end }) (at_end bytes end)
+end_fault : (bytes : List ℕ) (ts : List Lexeme) (end : Option LexFault) → Begins ts → (end ≡ None → IsText ts → ⊥) → IsFaultOf bytes (record { tokens = ts; end = end }) (at_end bytes end)
 end_fault bytes ts None begins no_text = too_short (record { begins = begins; no_text = no_text refl; ended = refl }) refl
 end_fault bytes ts (Some f) begins no_text = no_token f refl begins refl
 
