@@ -15,7 +15,7 @@ use Rattle.sot_shift.specs.Answers.{HasAnswered}
 use Rattle.sot_answered.specs.Laws.{draft_given, FitsGiveDrafts, AskingsGiveDrafts, OneHistoryOneListOfDrafts, ListsAreOfOneHistory, ListsAreTheAskings}
 
 -- behind a list stands what comes after it
-at_seam : {A : Type 0} (xs ys : List A) (y : A) → At (xs ++ y ∷ ys) (length xs) y
+pub at_seam : {A : Type 0} (xs ys : List A) (y : A) → At (xs ++ y ∷ ys) (length xs) y
 at_seam [] ys y = refl
 at_seam (x ∷ xs) ys y = at_seam xs ys y
 

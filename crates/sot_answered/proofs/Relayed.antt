@@ -3,7 +3,7 @@ use Rattle.std.proofs.Common.{◌≡◌, ℕ, zero, suc, ◌+◌, ◌<◌, ◌�
 use Rattle.std.proofs.lemmas.Bool.{false≢true}
 use Rattle.std.proofs.lemmas.Int.{ints}
 use Rattle.std.specs.Prelude.{slice_get}
-use Rattle.std.proofs.lemmas.List.{length-append, append-nil}
+use Rattle.std.proofs.lemmas.List.{length-append, append-nil, append_assoc}
 use Rattle.std.proofs.lemmas.Option.{none-some, same_Some}
 use Rattle.std.proofs.Math.Seq.{take-append_seam, drop-append_seam}
 use Rattle.std.specs.Global.{Global}
@@ -23,13 +23,15 @@ use Rattle.sot_flight.specs.Plans as plan
 use Rattle.sot_board.specs.Flown.{Position, Flies, IsStart, Leads, FlownSoFar, FlownBy}
 use Rattle.sot_board.specs.Versions.{drafts_of}
 use Rattle.sot_board.proofs.Same.{from_front}
-use Rattle.sot_shift.specs.Askings.{Asking}
+use Rattle.sot_shift.specs.Askings.{Asking, asking}
 use Rattle.sot_shift.specs.Answers.{FitsFiring, HasAnswered, Answered}
 use Rattle.sot_workers.specs.declared.lists.NodeList.{NodeList}
 use Rattle.sot_workers.specs.Lists.{AreLists}
-use Rattle.sot_answered.specs.Examples.{asked_copy, asked_relay, asked_flight, asked_history, comes, drafted, SawAndGave, FitsByHand, FitAsStated, AnswersByHand, AnswerAsStated, EachAsStated, UnnamedAsStated, two_nodes, ListsByHand, ListsAsStated}
+use Rattle.sot_answered.specs.Examples.{asked_copy, asked_relay, asked_flight, asked_history, comes, drafted, FitsByHand, FitAsStated, SeenByHand, SeenAsStated, AnswersByHand, AnswerAsStated, EachAsStated, UnnamedAsStated, two_nodes, ListsByHand, ListsAsStated}
 use Rattle.sot_answered.specs.Laws.{draft_given}
-use Rattle.sot_answered.proofs.Drafts.{fits_give_drafts}
+use Rattle.sot_answered.specs.Sights.{WereSeenInTime}
+use Rattle.sot_answered.proofs.Drafts.{at_seam, fits_give_drafts}
+use Rattle.sot_answered.proofs.Sights.{seen_are_recent}
 
 -- the relay at a time, with its node left or not, and its two numbers
 abbrev relay_at : ℕ → Bool → ℤ → ℤ → Configuration
@@ -79,9 +81,9 @@ two_of (x ∷ []) size = absurd (omega (arith, size))
 two_of (x ∷ y ∷ []) size = (x, y, refl)
 two_of (x ∷ y ∷ z ∷ zs) size = absurd (omega (arith, size))
 
--- the flight has one guest, at its one node
-one_guest : (R : ℕ → ℕ → Type 0) → R 0 0 → (n i : ℕ) → At asked_flight.crews n (plan.Guest i) → R n i
-one_guest R holds zero i at = (let e : ◌≡◌ {A = ℕ} 0 i = cc in subst (R 0) e holds)
+-- the flight names one guest, at its one node
+one_guest : (R : ℕ → ℕ → Type 0) → R 0 1 → (n i : ℕ) → At asked_flight.crews n (plan.Guest i) → R n i
+one_guest R holds zero i at = (let e : ◌≡◌ {A = ℕ} 1 i = cc in subst (R 0) e holds)
 one_guest R holds (suc n) i at = absurd (none-some (plan.Guest i) at)
 
 no_time : ◌≡◌ {A = ℕ} 1 0 → ⊥
@@ -268,6 +270,60 @@ module _ (g : Global) where
   pub fit_as_stated : FitAsStated g
   fit_as_stated k one = (fits_only k one, fits_so k one)
 
+  recent : (k : ℕ) (one : Asking) → FitsFiring (asked_relay g) 0 asked_flight 0 asked_history k one → WereSeenInTime (asked_relay g) 0 asked_flight 0 (asked_copy g) asked_history k one.values
+  recent k one fits = seen_are_recent (asked_relay g) 0 asked_flight 0 (asked_copy g) asked_history at_6 k one refl (omega arith) (omega arith) (flown_to 6 (omega arith)) fits
+
+  -- a firing after so many entries, and numbers that were seen after no more of them and no earlier
+  by_sight : (i m : ℕ) → i ≤ m → m ≤ 5 → (time : ℕ) (draft : List (Option ℤ)) (enabled : Bool) → At asked_history m (FireAt time 0 draft enabled) → (k : ℕ) (values : List ℤ)
+      → length (drafts_of 0 (take i asked_history)) ≡ k → length (drafts_of 0 (take m asked_history)) ≡ k → values ≡ reading (asked_copy g) (place i).at.scalars (place i).at.points
+      → (place m).at.time ≤ (place i).at.time → SeenByHand k values
+  by_sight zero zero le few time draft enabled fires k values had still seen recent = subst (λ c. SeenByHand c values) had seen
+  by_sight (suc i) zero le few time draft enabled fires k values had still seen recent = absurd (omega (arith, le))
+  by_sight i (suc zero) le few time draft enabled fires k values had still seen recent = absurd cc
+  by_sight i (suc (suc zero)) le few time draft enabled fires k values had still seen recent = absurd cc
+  by_sight i (suc (suc (suc zero))) le few time draft enabled fires k values had still seen recent = absurd cc
+  by_sight i (suc (suc (suc (suc zero)))) le few time draft enabled fires k values had still seen recent = absurd cc
+  by_sight zero (suc (suc (suc (suc (suc zero))))) le few time draft enabled fires k values had still seen recent = absurd (omega (arith, had, still))
+  by_sight (suc zero) (suc (suc (suc (suc (suc zero))))) le few time draft enabled fires k values had still seen recent = absurd (omega (arith, recent))
+  by_sight (suc (suc zero)) (suc (suc (suc (suc (suc zero))))) le few time draft enabled fires k values had still seen recent = absurd (omega (arith, recent))
+  by_sight (suc (suc (suc zero))) (suc (suc (suc (suc (suc zero))))) le few time draft enabled fires k values had still seen recent = absurd (omega (arith, recent))
+  by_sight (suc (suc (suc (suc zero)))) (suc (suc (suc (suc (suc zero))))) le few time draft enabled fires k values had still seen recent = subst (λ c. SeenByHand c values) had (inl seen)
+  by_sight (suc (suc (suc (suc (suc zero))))) (suc (suc (suc (suc (suc zero))))) le few time draft enabled fires k values had still seen recent = subst (λ c. SeenByHand c values) had (inr seen)
+  by_sight (suc (suc (suc (suc (suc (suc i)))))) (suc (suc (suc (suc (suc zero))))) le few time draft enabled fires k values had still seen recent = absurd (omega (arith, le))
+  by_sight i (suc (suc (suc (suc (suc (suc m)))))) le few time draft enabled fires k values had still seen recent = absurd (omega (arith, few))
+
+  seen_only : (k : ℕ) (values : List ℤ) → WereSeenInTime (asked_relay g) 0 asked_flight 0 (asked_copy g) asked_history k values → SeenByHand k values
+  seen_only k values were =
+      let tail = FireAt were.time 0 were.draft were.enabled ∷ were.rest in
+      let before = were.first ++ were.between in
+      let split : asked_history ≡ before ++ tail = were.history_is ∙ sym (append_assoc were.first were.between tail) in
+      let size : 6 ≡ length before + suc (length were.rest) = ap length split ∙ length-append before tail in
+      let parts = length-append were.first were.between in
+      let few : length before ≤ 5 = omega (arith, size) in
+      let le : length were.first ≤ length before = omega (arith, parts) in
+      let front : take (length before) asked_history ≡ before = ap (take (length before)) split ∙ take-append_seam before tail in
+      let first : take (length were.first) asked_history ≡ were.first = ap (take (length were.first)) were.history_is ∙ take-append_seam were.first (were.between ++ tail) in
+      let seen = one_position (asked_relay g) 0 asked_flight were.first (place (length were.first)) were.seen (subst (λ es. FlownSoFar (asked_relay g) 0 asked_flight es (place (length were.first))) first (flown_to (length were.first) (omega (arith, le, few)))) were.seen_at in
+      let firing = one_position (asked_relay g) 0 asked_flight before (place (length before)) were.firing (subst (λ es. FlownSoFar (asked_relay g) 0 asked_flight es (place (length before))) front (flown_to (length before) (omega (arith, few)))) were.fires_at in
+      let now : (place (length before)).at.time ≡ were.firing.at.time = ap (λ (P : Position). P.at.time) firing in
+      let then : (place (length were.first)).at.time ≡ were.seen.at.time = ap (λ (P : Position). P.at.time) seen in
+      by_sight (length were.first) (length before) le few were.time were.draft were.enabled
+      (ap (λ es. slice_get es (length before)) split ∙ at_seam before were.rest _)
+      k values
+      (ap (λ es. length (drafts_of 0 es)) first ∙ were.had_fired)
+      (ap (λ es. length (drafts_of 0 es)) front ∙ were.still)
+      (were.values_are ∙ ap (λ (P : Position). reading (asked_copy g) P.at.scalars P.at.points) (sym seen))
+      (omega (arith, now, then, were.after_due, were.in_time))
+
+  seen_so : (k : ℕ) (values : List ℤ) → SeenByHand k values → WereSeenInTime (asked_relay g) 0 asked_flight 0 (asked_copy g) asked_history k values
+  seen_so zero values saw = recent 0 (asking values (drafted (pos 1))) (fits_so 0 (asking values (drafted (pos 1))) (saw, refl))
+  seen_so (suc zero) values (inl saw) = recent 1 (asking values (drafted (pos 2))) (fits_so 1 (asking values (drafted (pos 2))) (inl (saw, refl)))
+  seen_so (suc zero) values (inr saw) = recent 1 (asking values (drafted (pos 2))) (fits_so 1 (asking values (drafted (pos 2))) (inr (saw, refl)))
+  seen_so (suc (suc k)) values none = absurd none
+
+  pub seen_as_stated : SeenAsStated g
+  seen_as_stated k values = (seen_only k values, seen_so k values)
+
   answers_only : (before : Option (List Asking)) (after : List Asking) → HasAnswered (asked_relay g) 0 asked_flight 0 asked_history before after → AnswersByHand before after
   answers_only before after answered =
       let two = two_of answered.more answered.count in (
@@ -295,31 +351,31 @@ module _ (g : Global) where
 
   pub each_as_stated : EachAsStated g
   each_as_stated = (
-    (λ was other now after. (
-      (λ each. answers_only was after (each 0 0 was (Some after) refl refl refl)),
+    (λ other was now after. (
+      (λ each. answers_only was after (each 0 1 was (Some after) refl refl refl)),
       (λ answers n i x y crew at_x at_y. one_guest
-          (λ m k. At (was ∷ other ∷ []) k x → At (Some after ∷ now ∷ []) k y → Answered (asked_relay g) 0 asked_flight m asked_history x y)
+          (λ m k. At (other ∷ was ∷ []) k x → At (now ∷ Some after ∷ []) k y → Answered (asked_relay g) 0 asked_flight m asked_history x y)
           (λ x_is y_is. subst (λ z. Answered (asked_relay g) 0 asked_flight 0 asked_history x z) (same_Some (Some after) y y_is)
           (subst (λ z. HasAnswered (asked_relay g) 0 asked_flight 0 asked_history z after) (same_Some was x x_is) (answers_so was after answers)))
           n i crew at_x at_y),
     )),
-    (λ was other now n i x y crew at_x at_y. one_guest
-        (λ m k. At (None ∷ now ∷ []) k y → Answered (asked_relay g) 0 asked_flight m asked_history x y)
+    (λ other was now n i x y crew at_x at_y. one_guest
+        (λ m k. At (now ∷ None ∷ []) k y → Answered (asked_relay g) 0 asked_flight m asked_history x y)
         (λ y_is. subst (λ z. Answered (asked_relay g) 0 asked_flight 0 asked_history x z) (same_Some None y y_is) tt)
         n i crew at_y),
   )
 
-second_unnamed : (n : ℕ) → At asked_flight.crews n (plan.Guest 1) → ⊥
-second_unnamed zero at = (let e : ◌≡◌ {A = ℕ} 0 1 = cc in omega (arith, e))
-second_unnamed (suc n) at = none-some (plan.Guest 1) at
+first_unnamed : (n : ℕ) → At asked_flight.crews n (plan.Guest 0) → ⊥
+first_unnamed zero at = (let e : ◌≡◌ {A = ℕ} 1 0 = cc in omega (arith, e))
+first_unnamed (suc n) at = none-some (plan.Guest 0) at
 
-unnamed_same : (was other now new : ℕ) → new ≡ other → (i x y : ℕ) → ((n : ℕ) → At asked_flight.crews n (plan.Guest i) → ⊥) → At (was ∷ other ∷ []) i x → At (now ∷ new ∷ []) i y → y ≡ x
-unnamed_same was other now new same zero x y unnamed at_x at_y = absurd (unnamed 0 refl)
-unnamed_same was other now new same (suc zero) x y unnamed at_x at_y = sym (same_Some new y at_y) ∙ same ∙ same_Some other x at_x
-unnamed_same was other now new same (suc (suc i)) x y unnamed at_x at_y = absurd (none-some x at_x)
+unnamed_same : (other was new now : ℕ) → new ≡ other → (i x y : ℕ) → ((n : ℕ) → At asked_flight.crews n (plan.Guest i) → ⊥) → At (other ∷ was ∷ []) i x → At (new ∷ now ∷ []) i y → y ≡ x
+unnamed_same other was new now same zero x y unnamed at_x at_y = sym (same_Some new y at_y) ∙ same ∙ same_Some other x at_x
+unnamed_same other was new now same (suc zero) x y unnamed at_x at_y = absurd (unnamed 0 refl)
+unnamed_same other was new now same (suc (suc i)) x y unnamed at_x at_y = absurd (none-some x at_x)
 
 pub unnamed_as_stated : UnnamedAsStated
-unnamed_as_stated was other now new = ((λ stays. stays 1 other new second_unnamed refl refl), unnamed_same was other now new)
+unnamed_as_stated other was new now = ((λ stays. stays 0 other new first_unnamed refl refl), unnamed_same other was new now)
 
 lists_only : (lists : List NodeList) → AreLists 2 lists two_nodes → ListsByHand lists
 lists_only lists are =

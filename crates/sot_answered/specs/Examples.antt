@@ -15,6 +15,7 @@ use Rattle.sot_shift.specs.Answers.{FitsFiring, HasAnswered}
 use Rattle.sot_workers.specs.declared.lists.NodeList.{NodeList}
 use Rattle.sot_workers.specs.Lists.{AreLists}
 use Rattle.sot_workers.specs.Asked.{EachAnswered, EachUnnamedStays}
+use Rattle.sot_answered.specs.Sights.{WereSeenInTime}
 
 module _ (g : Global) where
   -- the relay, which reads the environment's number and writes one of its own, with a node that is external and due at each time
@@ -32,14 +33,14 @@ module _ (g : Global) where
 abbrev pub comes : ℕ → ℤ → StatedInput
 comes time z = record { at = time; topic = 0; value = z ∷ [] }
 
--- one tick; the numbers 5 and 7 come at 0, and 8 at 1; the guest number 0 flies the node
+-- one tick; the numbers 5 and 7 come at 0, and 8 at 1; the guest number 1 flies the node
 abbrev pub asked_flight : Plan
 asked_flight = record {
   horizon = 1;
   start = [];
   inputs = comes 0 (pos 5) ∷ comes 0 (pos 7) ∷ comes 1 (pos 8) ∷ [];
   sways = [];
-  crews = Guest 0 ∷ [];
+  crews = Guest 1 ∷ [];
   events = 6;
   numbers = 3;
 }
@@ -66,6 +67,16 @@ FitsByHand (suc (suc k)) one = ⊥
 abbrev pub FitAsStated : Global → Type 0
 FitAsStated g = (k : ℕ) (one : Asking) → FitsFiring (asked_relay g) 0 asked_flight 0 asked_history k one ↔ FitsByHand k one
 
+-- what was there in time for the first firing, and for the second one
+abbrev pub SeenByHand : ℕ → List ℤ → Type 0
+SeenByHand zero values = values ≡ pos 0 ∷ []
+SeenByHand (suc zero) values = (values ≡ pos 7 ∷ []) ⊎ (values ≡ pos 8 ∷ [])
+SeenByHand (suc (suc k)) values = ⊥
+
+-- these numbers were seen in time, and no others: not 5, which came and went while the node was not left, and not what was there for the firing before
+abbrev pub SeenAsStated : Global → Type 0
+SeenAsStated g = (k : ℕ) (values : List ℤ) → WereSeenInTime (asked_relay g) 0 asked_flight 0 (asked_copy g) asked_history k values ↔ SeenByHand k values
+
 -- a list that was told has grown by two askings, of which the first fits the first firing and the other one the second
 abbrev pub AnswersByHand : Option (List Asking) → List Asking → Type 0
 AnswersByHand before after = (first : List Asking) × (one : Asking) × (other : Asking) × (before ≡ Some first) × (after ≡ first ++ (one ∷ other ∷ [])) × FitsByHand 0 one × FitsByHand 1 other
@@ -74,15 +85,15 @@ AnswersByHand before after = (first : List Asking) × (one : Asking) × (other :
 abbrev pub AnswerAsStated : Global → Type 0
 AnswerAsStated g = (before : Option (List Asking)) (after : List Asking) → HasAnswered (asked_relay g) 0 asked_flight 0 asked_history before after ↔ AnswersByHand before after
 
--- of two guests of which the flight names the first one, it is said of that one alone, and only where it tells its list afterwards; here a guest is what it tells
+-- of two guests of which the flight names the second one, it is said of that one alone, and only where it tells its list afterwards; here a guest is what it tells
 abbrev pub EachAsStated : Global → Type 0
 EachAsStated g =
-    ((was other now : Option (List Asking)) (after : List Asking) → EachAnswered (λ guest. guest) (admitted_relay g) asked_flight asked_history (was ∷ other ∷ []) (Some after ∷ now ∷ []) ↔ AnswersByHand was after)
-    × ((was other now : Option (List Asking)) → EachAnswered (λ guest. guest) (admitted_relay g) asked_flight asked_history (was ∷ other ∷ []) (None ∷ now ∷ []))
+    ((other was now : Option (List Asking)) (after : List Asking) → EachAnswered (λ guest. guest) (admitted_relay g) asked_flight asked_history (other ∷ was ∷ []) (now ∷ Some after ∷ []) ↔ AnswersByHand was after)
+    × ((other was now : Option (List Asking)) → EachAnswered (λ guest. guest) (admitted_relay g) asked_flight asked_history (other ∷ was ∷ []) (now ∷ None ∷ []))
 
 -- and the other one is as it was
 abbrev pub UnnamedAsStated : Type 0
-UnnamedAsStated = (was other now new : ℕ) → EachUnnamedStays asked_flight (was ∷ other ∷ []) (now ∷ new ∷ []) ↔ (new ≡ other)
+UnnamedAsStated = (other was new now : ℕ) → EachUnnamedStays asked_flight (other ∷ was ∷ []) (new ∷ now ∷ []) ↔ (new ≡ other)
 
 -- two nodes fire: 0 with 2 and with 1, and 1, which is disabled, with 0
 abbrev pub two_nodes : List Logged
