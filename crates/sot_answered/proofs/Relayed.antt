@@ -38,35 +38,35 @@ abbrev relay_at : ℕ → Bool → ℤ → ℤ → Configuration
 relay_at time left e m = record (relaying e m) { time = time; left = left ∷ [] }
 
 -- where the flight stands after each entry
-abbrev at_0 : Position
-at_0 = record { at = relay_at 0 true (pos 0) (pos 0); inputs = asked_flight.inputs; fired = 0 ∷ [] }
+abbrev at_start : Position
+at_start = record { at = relay_at 0 true (pos 0) (pos 0); inputs = asked_flight.inputs; fired = 0 ∷ [] }
 
-abbrev at_1 : Position
-at_1 = record { at = relay_at 0 false (pos 0) (pos 1); inputs = asked_flight.inputs; fired = 1 ∷ [] }
+abbrev once_fired : Position
+once_fired = record { at = relay_at 0 false (pos 0) (pos 1); inputs = asked_flight.inputs; fired = 1 ∷ [] }
 
-abbrev at_2 : Position
-at_2 = record { at = relay_at 0 false (pos 5) (pos 1); inputs = comes 0 (pos 7) ∷ comes 1 (pos 8) ∷ []; fired = 1 ∷ [] }
+abbrev with_five : Position
+with_five = record { at = relay_at 0 false (pos 5) (pos 1); inputs = comes 0 (pos 7) ∷ comes 1 (pos 8) ∷ []; fired = 1 ∷ [] }
 
-abbrev at_3 : Position
-at_3 = record { at = relay_at 0 false (pos 7) (pos 1); inputs = comes 1 (pos 8) ∷ []; fired = 1 ∷ [] }
+abbrev with_seven : Position
+with_seven = record { at = relay_at 0 false (pos 7) (pos 1); inputs = comes 1 (pos 8) ∷ []; fired = 1 ∷ [] }
 
-abbrev at_4 : Position
-at_4 = record { at = relay_at 1 true (pos 7) (pos 1); inputs = comes 1 (pos 8) ∷ []; fired = 1 ∷ [] }
+abbrev once_ticked : Position
+once_ticked = record { at = relay_at 1 true (pos 7) (pos 1); inputs = comes 1 (pos 8) ∷ []; fired = 1 ∷ [] }
 
-abbrev at_5 : Position
-at_5 = record { at = relay_at 1 true (pos 8) (pos 1); inputs = []; fired = 1 ∷ [] }
+abbrev with_eight : Position
+with_eight = record { at = relay_at 1 true (pos 8) (pos 1); inputs = []; fired = 1 ∷ [] }
 
-abbrev at_6 : Position
-at_6 = record { at = relay_at 1 false (pos 8) (pos 2); inputs = []; fired = 2 ∷ [] }
+abbrev at_end : Position
+at_end = record { at = relay_at 1 false (pos 8) (pos 2); inputs = []; fired = 2 ∷ [] }
 
 abbrev place : ℕ → Position
-place zero = at_0
-place (suc zero) = at_1
-place (suc (suc zero)) = at_2
-place (suc (suc (suc zero))) = at_3
-place (suc (suc (suc (suc zero)))) = at_4
-place (suc (suc (suc (suc (suc zero))))) = at_5
-place (suc (suc (suc (suc (suc (suc k)))))) = at_6
+place zero = at_start
+place (suc zero) = once_fired
+place (suc (suc zero)) = with_five
+place (suc (suc (suc zero))) = with_seven
+place (suc (suc (suc (suc zero)))) = once_ticked
+place (suc (suc (suc (suc (suc zero))))) = with_eight
+place (suc (suc (suc (suc (suc (suc k)))))) = at_end
 
 -- a history leads to one position
 one_position : (p : Tables) (j : ℕ) (f : plan.Plan) (es : List Logged) (P Q : Position) → FlownSoFar p j f es P → FlownSoFar p j f es Q → P ≡ Q
@@ -103,7 +103,7 @@ module _ (g : Global) where
     widths = λ k plant at. absurd (none-some plant at);
   }
 
-  starts : IsStart (asked_relay g) asked_flight at_0
+  starts : IsStart (asked_relay g) asked_flight at_start
   starts = record { opening = opens; inputs = refl; fired = refl }
 
   -- the guest's node fires, and its number is published
@@ -141,39 +141,39 @@ module _ (g : Global) where
     rest = refl;
   }
 
-  flies_1 : Flies (asked_relay g) 0 asked_flight at_0 (FireAt 0 0 (drafted (pos 1)) true) at_1
-  flies_1 = record { event = Guest 0 (Some (pos 1) ∷ []); stated = (asked_copy g, _, refl, refl, tt); step = fires_1; recorded = NodeFired (Some (pos 1) ∷ []) true; records = refl; tells = (Some (pos 1) ∷ [], true, refl, refl); inputs = refl; fired = refl }
+  flies_first : Flies (asked_relay g) 0 asked_flight at_start (FireAt 0 0 (drafted (pos 1)) true) once_fired
+  flies_first = record { event = Guest 0 (Some (pos 1) ∷ []); stated = (asked_copy g, _, refl, refl, tt); step = fires_1; recorded = NodeFired (Some (pos 1) ∷ []) true; records = refl; tells = (Some (pos 1) ∷ [], true, refl, refl); inputs = refl; fired = refl }
 
-  flies_2 : Flies (asked_relay g) 0 asked_flight at_1 (InputAt 0 0 (pos 5 ∷ [])) at_2
-  flies_2 = record { event = Input 0 (pos 5 ∷ []); stated = (comes 0 (pos 7) ∷ comes 1 (pos 8) ∷ [], refl); step = input 0 false (pos 0) (pos 1) (pos 5) (omega (arith, ints), omega (arith, ints)); recorded = InputTaken; records = refl; tells = refl; inputs = refl; fired = refl }
+  flies_five : Flies (asked_relay g) 0 asked_flight once_fired (InputAt 0 0 (pos 5 ∷ [])) with_five
+  flies_five = record { event = Input 0 (pos 5 ∷ []); stated = (comes 0 (pos 7) ∷ comes 1 (pos 8) ∷ [], refl); step = input 0 false (pos 0) (pos 1) (pos 5) (omega (arith, ints), omega (arith, ints)); recorded = InputTaken; records = refl; tells = refl; inputs = refl; fired = refl }
 
-  flies_3 : Flies (asked_relay g) 0 asked_flight at_2 (InputAt 0 0 (pos 7 ∷ [])) at_3
-  flies_3 = record { event = Input 0 (pos 7 ∷ []); stated = (comes 1 (pos 8) ∷ [], refl); step = input 0 false (pos 5) (pos 1) (pos 7) (omega (arith, ints), omega (arith, ints)); recorded = InputTaken; records = refl; tells = refl; inputs = refl; fired = refl }
+  flies_seven : Flies (asked_relay g) 0 asked_flight with_five (InputAt 0 0 (pos 7 ∷ [])) with_seven
+  flies_seven = record { event = Input 0 (pos 7 ∷ []); stated = (comes 1 (pos 8) ∷ [], refl); step = input 0 false (pos 5) (pos 1) (pos 7) (omega (arith, ints), omega (arith, ints)); recorded = InputTaken; records = refl; tells = refl; inputs = refl; fired = refl }
 
-  flies_4 : Flies (asked_relay g) 0 asked_flight at_3 (TickAt 0 [] []) at_4
-  flies_4 = record { event = Tick []; stated = (omega arith, at_one (λ i x. x.at ≡ 0 → ⊥) (comes 1 (pos 8)) no_time, refl); step = ticks; recorded = PlantsTicked; records = refl; tells = refl; inputs = refl; fired = refl }
+  flies_tick : Flies (asked_relay g) 0 asked_flight with_seven (TickAt 0 [] []) once_ticked
+  flies_tick = record { event = Tick []; stated = (omega arith, at_one (λ i x. x.at ≡ 0 → ⊥) (comes 1 (pos 8)) no_time, refl); step = ticks; recorded = PlantsTicked; records = refl; tells = refl; inputs = refl; fired = refl }
 
-  flies_5 : Flies (asked_relay g) 0 asked_flight at_4 (InputAt 1 0 (pos 8 ∷ [])) at_5
-  flies_5 = record { event = Input 0 (pos 8 ∷ []); stated = ([], refl); step = input 1 true (pos 7) (pos 1) (pos 8) (omega (arith, ints), omega (arith, ints)); recorded = InputTaken; records = refl; tells = refl; inputs = refl; fired = refl }
+  flies_eight : Flies (asked_relay g) 0 asked_flight once_ticked (InputAt 1 0 (pos 8 ∷ [])) with_eight
+  flies_eight = record { event = Input 0 (pos 8 ∷ []); stated = ([], refl); step = input 1 true (pos 7) (pos 1) (pos 8) (omega (arith, ints), omega (arith, ints)); recorded = InputTaken; records = refl; tells = refl; inputs = refl; fired = refl }
 
-  flies_6 : Flies (asked_relay g) 0 asked_flight at_5 (FireAt 1 0 (drafted (pos 2)) true) at_6
-  flies_6 = record { event = Guest 0 (Some (pos 2) ∷ []); stated = (asked_copy g, _, refl, refl, tt); step = fires_2; recorded = NodeFired (Some (pos 2) ∷ []) true; records = refl; tells = (Some (pos 2) ∷ [], true, refl, refl); inputs = refl; fired = refl }
+  flies_last : Flies (asked_relay g) 0 asked_flight with_eight (FireAt 1 0 (drafted (pos 2)) true) at_end
+  flies_last = record { event = Guest 0 (Some (pos 2) ∷ []); stated = (asked_copy g, _, refl, refl, tt); step = fires_2; recorded = NodeFired (Some (pos 2) ∷ []) true; records = refl; tells = (Some (pos 2) ∷ [], true, refl, refl); inputs = refl; fired = refl }
 
   -- the first so many entries, for each count, lead to the place
   flown_to : (i : ℕ) → i ≤ 6 → FlownSoFar (asked_relay g) 0 asked_flight (take i asked_history) (place i)
-  flown_to zero le = (at_0, starts, refl)
-  flown_to (suc zero) le = (at_0, starts, (at_1, flies_1, refl))
-  flown_to (suc (suc zero)) le = (at_0, starts, (at_1, flies_1, (at_2, flies_2, refl)))
-  flown_to (suc (suc (suc zero))) le = (at_0, starts, (at_1, flies_1, (at_2, flies_2, (at_3, flies_3, refl))))
-  flown_to (suc (suc (suc (suc zero)))) le = (at_0, starts, (at_1, flies_1, (at_2, flies_2, (at_3, flies_3, (at_4, flies_4, refl)))))
-  flown_to (suc (suc (suc (suc (suc zero))))) le = (at_0, starts, (at_1, flies_1, (at_2, flies_2, (at_3, flies_3, (at_4, flies_4, (at_5, flies_5, refl))))))
-  flown_to (suc (suc (suc (suc (suc (suc zero)))))) le = (at_0, starts, (at_1, flies_1, (at_2, flies_2, (at_3, flies_3, (at_4, flies_4, (at_5, flies_5, (at_6, flies_6, refl)))))))
+  flown_to zero le = (at_start, starts, refl)
+  flown_to (suc zero) le = (at_start, starts, (once_fired, flies_first, refl))
+  flown_to (suc (suc zero)) le = (at_start, starts, (once_fired, flies_first, (with_five, flies_five, refl)))
+  flown_to (suc (suc (suc zero))) le = (at_start, starts, (once_fired, flies_first, (with_five, flies_five, (with_seven, flies_seven, refl))))
+  flown_to (suc (suc (suc (suc zero)))) le = (at_start, starts, (once_fired, flies_first, (with_five, flies_five, (with_seven, flies_seven, (once_ticked, flies_tick, refl)))))
+  flown_to (suc (suc (suc (suc (suc zero))))) le = (at_start, starts, (once_fired, flies_first, (with_five, flies_five, (with_seven, flies_seven, (once_ticked, flies_tick, (with_eight, flies_eight, refl))))))
+  flown_to (suc (suc (suc (suc (suc (suc zero)))))) le = (at_start, starts, (once_fired, flies_first, (with_five, flies_five, (with_seven, flies_seven, (once_ticked, flies_tick, (with_eight, flies_eight, (at_end, flies_last, refl)))))))
   flown_to (suc (suc (suc (suc (suc (suc (suc k))))))) le = absurd (omega (arith, le))
 
   pub flown : FlownBy (asked_relay g) 0 asked_flight asked_history
   flown = (
-    at_6,
-    (at_0, starts, (at_1, flies_1, (at_2, flies_2, (at_3, flies_3, (at_4, flies_4, (at_5, flies_5, (at_6, flies_6, refl))))))),
+    at_end,
+    (at_start, starts, (once_fired, flies_first, (with_five, flies_five, (with_seven, flies_seven, (once_ticked, flies_tick, (with_eight, flies_eight, (at_end, flies_last, refl))))))),
     record {
       time = refl;
       inputs = refl;
@@ -221,7 +221,7 @@ module _ (g : Global) where
     history_is = refl;
     number = refl;
     no_other = refl;
-    position = at_0;
+    position = at_start;
     flown = flown_to 0 (omega arith);
     left = refl;
     info = asked_copy g;
@@ -239,7 +239,7 @@ module _ (g : Global) where
     history_is = refl;
     number = refl;
     no_other = refl;
-    position = at_4;
+    position = once_ticked;
     flown = flown_to 4 (omega arith);
     left = refl;
     info = asked_copy g;
@@ -257,7 +257,7 @@ module _ (g : Global) where
     history_is = refl;
     number = refl;
     no_other = refl;
-    position = at_5;
+    position = with_eight;
     flown = flown_to 5 (omega arith);
     left = refl;
     info = asked_copy g;
@@ -271,7 +271,7 @@ module _ (g : Global) where
   fit_as_stated k one = (fits_only k one, fits_so k one)
 
   recent : (k : ℕ) (one : Asking) → FitsFiring (asked_relay g) 0 asked_flight 0 asked_history k one → WereSeenInTime (asked_relay g) 0 asked_flight 0 (asked_copy g) asked_history k one.values
-  recent k one fits = seen_are_recent (asked_relay g) 0 asked_flight 0 (asked_copy g) asked_history at_6 k one refl (omega arith) (omega arith) (flown_to 6 (omega arith)) fits
+  recent k one fits = seen_are_recent (asked_relay g) 0 asked_flight 0 (asked_copy g) asked_history at_end k one refl (omega arith) (omega arith) (flown_to 6 (omega arith)) fits
 
   -- a firing after so many entries, and numbers that were seen after no more of them and no earlier
   by_sight : (i m : ℕ) → i ≤ m → m ≤ 5 → (time : ℕ) (draft : List (Option ℤ)) (enabled : Bool) → At asked_history m (FireAt time 0 draft enabled) → (k : ℕ) (values : List ℤ)
