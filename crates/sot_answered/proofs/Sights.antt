@@ -16,7 +16,7 @@ use Rattle.sot_world.specs.Steps.{Event, Input, Code, Guest, Decide, Tick, Step}
 use Rattle.sot_world.specs.Outcomes.{Recorded}
 use Rattle.sot_world.specs.HistoryEntry.{Logged, FireAt}
 use Rattle.sot_flight.specs.Plans.{Plan}
-use Rattle.sot_board.specs.Flown.{Position, Tells, Flies, Leads, IsStart, FlownSoFar, FlownBy}
+use Rattle.sot_board.specs.Flown.{Position, Tells, Leads, IsStart, FlownSoFar}
 use Rattle.sot_board.specs.Versions.{drafts_of}
 use Rattle.sot_board.proofs.Going.{time_goes}
 use Rattle.sot_board.proofs.Same.{from_front}
