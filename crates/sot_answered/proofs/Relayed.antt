@@ -196,18 +196,32 @@ module _ (g : Global) where
   by_place (suc (suc (suc (suc (suc (suc zero)))))) le k one left count values gives = absurd (false≢true left)
   by_place (suc (suc (suc (suc (suc (suc (suc i))))))) le k one left count values gives = absurd (omega (arith, le))
 
+  -- entries at the beginning of the history, and the one position that they lead to
+  front_is : (es tail : List Logged) → asked_history ≡ es ++ tail → take (length es) asked_history ≡ es
+  front_is es tail is = ap (take (length es)) is ∙ take-append_seam es tail
+
+  few_entries : (es tail : List Logged) → asked_history ≡ es ++ tail → length es + length tail ≡ 6
+  few_entries es tail is = sym (length-append es tail) ∙ sym (ap length is)
+
+  stands_at : (es tail : List Logged) (P : Position) → asked_history ≡ es ++ tail → FlownSoFar (asked_relay g) 0 asked_flight es P → place (length es) ≡ P
+  stands_at es tail P is there =
+      let le : length es ≤ 6 = omega (arith, few_entries es tail is) in
+      let placed = subst (λ l. FlownSoFar (asked_relay g) 0 asked_flight l (place (length es))) (front_is es tail is) (flown_to (length es) le) in
+      one_position (asked_relay g) 0 asked_flight es (place (length es)) P placed there
+
+  -- what the node reads where they lead
+  reads_at : (es tail : List Logged) (P : Position) → asked_history ≡ es ++ tail → FlownSoFar (asked_relay g) 0 asked_flight es P
+      → reading (asked_copy g) P.at.scalars P.at.points ≡ reading (asked_copy g) (place (length es)).at.scalars (place (length es)).at.points
+  reads_at es tail P is there = ap (λ (x : Position). reading (asked_copy g) x.at.scalars x.at.points) (sym (stands_at es tail P is there))
+
   fits_only : (k : ℕ) (one : Asking) → FitsFiring (asked_relay g) 0 asked_flight 0 asked_history k one → FitsByHand k one
   fits_only k one fits =
       let tail = fits.between ++ FireAt fits.time 0 fits.draft fits.enabled ∷ fits.rest in
-      let size : 6 ≡ length fits.first + length tail = ap length fits.history_is ∙ length-append fits.first tail in
-      let le : length fits.first ≤ 6 = omega (arith, size) in
-      let front : take (length fits.first) asked_history ≡ fits.first = ap (take (length fits.first)) fits.history_is ∙ take-append_seam fits.first tail in
-      let same = one_position (asked_relay g) 0 asked_flight fits.first (place (length fits.first)) fits.position (subst (λ es. FlownSoFar (asked_relay g) 0 asked_flight es (place (length fits.first))) front (flown_to (length fits.first) le)) fits.flown in
       let info = same_Some (asked_copy g) fits.info fits.is in
-      by_place (length fits.first) le k one
-      (ap (λ (P : Position). is_left P.at 0) same ∙ fits.left)
-      (ap (λ es. length (drafts_of 0 es)) front ∙ fits.number)
-      (fits.values ∙ ap (λ x. reading x fits.position.at.scalars fits.position.at.points) (sym info) ∙ ap (λ (P : Position). reading (asked_copy g) P.at.scalars P.at.points) (sym same))
+      by_place (length fits.first) (omega (arith, few_entries fits.first tail fits.history_is)) k one
+      (ap (λ (P : Position). is_left P.at 0) (stands_at fits.first tail fits.position fits.history_is fits.flown) ∙ fits.left)
+      (ap (λ es. length (drafts_of 0 es)) (front_is fits.first tail fits.history_is) ∙ fits.number)
+      (fits.values ∙ ap (λ x. reading x fits.position.at.scalars fits.position.at.points) (sym info) ∙ reads_at fits.first tail fits.position fits.history_is fits.flown)
       (fits_give_drafts (asked_relay g) 0 asked_flight 0 asked_history k one fits)
 
   fits_so : (k : ℕ) (one : Asking) → FitsByHand k one → FitsFiring (asked_relay g) 0 asked_flight 0 asked_history k one
@@ -297,22 +311,14 @@ module _ (g : Global) where
       let tail = FireAt were.time 0 were.draft were.enabled ∷ were.rest in
       let before = were.first ++ were.between in
       let split : asked_history ≡ before ++ tail = were.history_is ∙ sym (append_assoc were.first were.between tail) in
-      let size : 6 ≡ length before + suc (length were.rest) = ap length split ∙ length-append before tail in
-      let parts = length-append were.first were.between in
-      let few : length before ≤ 5 = omega (arith, size) in
-      let le : length were.first ≤ length before = omega (arith, parts) in
-      let front : take (length before) asked_history ≡ before = ap (take (length before)) split ∙ take-append_seam before tail in
-      let first : take (length were.first) asked_history ≡ were.first = ap (take (length were.first)) were.history_is ∙ take-append_seam were.first (were.between ++ tail) in
-      let seen = one_position (asked_relay g) 0 asked_flight were.first (place (length were.first)) were.seen (subst (λ es. FlownSoFar (asked_relay g) 0 asked_flight es (place (length were.first))) first (flown_to (length were.first) (omega (arith, le, few)))) were.seen_at in
-      let firing = one_position (asked_relay g) 0 asked_flight before (place (length before)) were.firing (subst (λ es. FlownSoFar (asked_relay g) 0 asked_flight es (place (length before))) front (flown_to (length before) (omega (arith, few)))) were.fires_at in
-      let now : (place (length before)).at.time ≡ were.firing.at.time = ap (λ (P : Position). P.at.time) firing in
-      let then : (place (length were.first)).at.time ≡ were.seen.at.time = ap (λ (P : Position). P.at.time) seen in
-      by_sight (length were.first) (length before) le few were.time were.draft were.enabled
+      let now = ap (λ (P : Position). P.at.time) (stands_at before tail were.firing split were.fires_at) in
+      let then = ap (λ (P : Position). P.at.time) (stands_at were.first (were.between ++ tail) were.seen were.history_is were.seen_at) in
+      by_sight (length were.first) (length before) (omega (arith, length-append were.first were.between)) (omega (arith, few_entries before tail split)) were.time were.draft were.enabled
       (ap (λ es. slice_get es (length before)) split ∙ at_seam before were.rest _)
       k values
-      (ap (λ es. length (drafts_of 0 es)) first ∙ were.had_fired)
-      (ap (λ es. length (drafts_of 0 es)) front ∙ were.still)
-      (were.values_are ∙ ap (λ (P : Position). reading (asked_copy g) P.at.scalars P.at.points) (sym seen))
+      (ap (λ es. length (drafts_of 0 es)) (front_is were.first (were.between ++ tail) were.history_is) ∙ were.had_fired)
+      (ap (λ es. length (drafts_of 0 es)) (front_is before tail split) ∙ were.still)
+      (were.values_are ∙ reads_at were.first (were.between ++ tail) were.seen were.history_is were.seen_at)
       (omega (arith, now, then, were.after_due, were.in_time))
 
   seen_so : (k : ℕ) (values : List ℤ) → SeenByHand k values → WereSeenInTime (asked_relay g) 0 asked_flight 0 (asked_copy g) asked_history k values
