@@ -131,14 +131,14 @@ module _ (g : Global) where
   tick_told f P R (Tick noise) r t w s (before, none, stated) is = (let told : w ≡ joined noise = cc in (before, told ∙ ap joined stated))
 
   pub other_disturbance : FlownBy (line g) 0 line_flight (decides ∷ drafts (pos 2) true ∷ steers false ∷ ticks (pos 1) (pos 3) ∷ []) → ⊥
-  other_disturbance (Q, (P, start, (R1, f1, (R2, f2, (R3, f3, (R4, f4, same))))), ended) =
-      let told = tick_told line_flight R3 R4 f4.event f4.recorded 0 (pos 1 ∷ []) (pos 3 ∷ []) f4.stated f4.tells in
+  other_disturbance (Q, (P, start, (after_decision, decision, (after_draft, draft_flown, (after_steering, steering, (after_tick, tick_flown, same))))), ended) =
+      let told = tick_told line_flight after_steering after_tick tick_flown.event tick_flown.recorded 0 (pos 1 ∷ []) (pos 3 ∷ []) tick_flown.stated tick_flown.tells in
       let e : pos 1 ∷ [] ≡ negsuc 0 ∷ [] = told.1 in
       cc
 
   pub tick_after_the_end : FlownBy (line g) 0 instant_flight (decides ∷ drafts (pos 2) true ∷ steers false ∷ ticks (negsuc 0) (pos 1) ∷ []) → ⊥
-  tick_after_the_end (Q, (P, start, (R1, f1, (R2, f2, (R3, f3, (R4, f4, same))))), ended) =
-      let told = tick_told instant_flight R3 R4 f4.event f4.recorded 0 (negsuc 0 ∷ []) (pos 1 ∷ []) f4.stated f4.tells in
+  tick_after_the_end (Q, (P, start, (after_decision, decision, (after_draft, draft_flown, (after_steering, steering, (after_tick, tick_flown, same))))), ended) =
+      let told = tick_told instant_flight after_steering after_tick tick_flown.event tick_flown.recorded 0 (negsuc 0 ∷ []) (pos 1 ∷ []) tick_flown.stated tick_flown.tells in
       omega (arith, told.0)
 
   -- an entry of a firing of `fast` tells the stated draft
@@ -159,8 +159,8 @@ module _ (g : Global) where
   draft_told P R (Tick noise) r slots stated step records is = absurd cc
 
   pub other_draft : FlownBy (line g) 0 line_flight (decides ∷ drafts (pos 1) true ∷ steers false ∷ ticks (negsuc 0) (pos 0) ∷ []) → ⊥
-  other_draft (Q, (P, start, (R1, f1, (R2, f2, rest))), ended) =
-      let told = draft_told R1 R2 f2.event f2.recorded (in_slots (Some (pos 1) ∷ [])) f2.stated f2.step f2.records f2.tells in
+  other_draft (Q, (P, start, (after_decision, decision, (after_draft, draft_flown, rest))), ended) =
+      let told = draft_told after_decision after_draft draft_flown.event draft_flown.recorded (in_slots (Some (pos 1) ∷ [])) draft_flown.stated draft_flown.step draft_flown.records draft_flown.tells in
       let e : pos 1 ≡ pos 2 = one_number (ap (λ xs. slice_index_or xs 0 None) told) in
       cc
     where
@@ -176,10 +176,10 @@ module _ (g : Global) where
   time_stays P R (Tick noise) r x no_tick step is = absurd (no_tick _ _ _ is)
 
   pub no_tick : FlownBy (line g) 0 line_flight (decides ∷ drafts (pos 2) true ∷ steers false ∷ []) → ⊥
-  no_tick (Q, (P, start, (R1, f1, (R2, f2, (R3, f3, same)))), ended) =
-      let first = time_stays P R1 f1.event f1.recorded decides (λ t w s e. cc) f1.step f1.tells in
-      let second = time_stays R1 R2 f2.event f2.recorded (drafts (pos 2) true) (λ t w s e. cc) f2.step f2.tells in
-      let third = time_stays R2 R3 f3.event f3.recorded (steers false) (λ t w s e. cc) f3.step f3.tells in
-      let last : R3.at.time ≡ Q.at.time = ap (λ (x : Position). x.at.time) same in
+  no_tick (Q, (P, start, (after_decision, decision, (after_draft, draft_flown, (after_steering, steering, same)))), ended) =
+      let first = time_stays P after_decision decision.event decision.recorded decides (λ t w s e. cc) decision.step decision.tells in
+      let second = time_stays after_decision after_draft draft_flown.event draft_flown.recorded (drafts (pos 2) true) (λ t w s e. cc) draft_flown.step draft_flown.tells in
+      let third = time_stays after_draft after_steering steering.event steering.recorded (steers false) (λ t w s e. cc) steering.step steering.tells in
+      let last : after_steering.at.time ≡ Q.at.time = ap (λ (x : Position). x.at.time) same in
       let end : ◌≡◌ {A = ℕ} Q.at.time 1 = ended.time in
       omega (arith, first, second, third, last, end, start.opening.time)

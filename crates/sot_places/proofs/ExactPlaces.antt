@@ -63,26 +63,32 @@ text_read : (form : List DeclarationForm) (room : ℕ) → most declaration_leve
 text_read form room fits ts is = ap (declarations_at room) is ∙ declarations_full room form fits
 
 -- where reading sticks, no text goes on
-no_text_goes_on : (ts used rest us : List Lexeme) → declarations_at 64 ts ≡ Err (stuck, rest) → ts ≡ used ++ rest → first_of us ≡ first_of rest → IsText (used ++ us) → ⊥
-no_text_goes_on ts used rest us e split first (form, is) =
-    let room = 64 + most declaration_levels form in
-    let t : Track ⊥ (declarations_at room) (err {A = List Declaration} (stuck, rest)) ts = subst (λ m. Track ⊥ (declarations_at room) m ts) e (declarations_tracks {Same = ⊥} 64 room (omega arith) (λ z. absurd z) ts) in
+no_text_goes_on : (room : ℕ) (ts used rest us : List Lexeme) → declarations_at room ts ≡ Err (stuck, rest) → ts ≡ used ++ rest → first_of us ≡ first_of rest → IsText (used ++ us) → ⊥
+no_text_goes_on room ts used rest us e split first (form, is) =
+    let wide = room + most declaration_levels form in
+    let t : Track ⊥ (declarations_at wide) (err {A = List Declaration} (stuck, rest)) ts = subst (λ m. Track ⊥ (declarations_at wide) m ts) e (declarations_tracks {Same = ⊥} room wide (omega arith) (λ z. absurd z) ts) in
     let same : t.used ≡ used = same_front t.used used rest (sym t.split ∙ split) in
-    let stays : declarations_at room (used ++ us) ≡ Err (stuck, us) = ap (λ ws. declarations_at room (ws ++ us)) (sym same) ∙ t.same us first in
-    let read : declarations_at room (used ++ us) ≡ Ok (map declaration_of form, []) = text_read form room (omega arith) (used ++ us) is in
+    let stays : declarations_at wide (used ++ us) ≡ Err (stuck, us) = ap (λ ws. declarations_at wide (ws ++ us)) (sym same) ∙ t.same us first in
+    let read : declarations_at wide (used ++ us) ≡ Ok (map declaration_of form, []) = text_read form wide (omega arith) (used ++ us) is in
     absurd (cc)
 
--- where it would nest too deep, only what nests too deep goes on
+-- where it would nest too deep, no text goes on that has room
+pub no_text_fits : (room : ℕ) (ts used rest us : List Lexeme) → declarations_at room ts ≡ Err (deep, rest) → ts ≡ used ++ rest → first_of us ≡ first_of rest → (form : List DeclarationForm) → most declaration_levels form ≤ room → spelled_program form ≡ used ++ us → ⊥
+no_text_fits room ts used rest us e split first form fits is =
+    let t : Track (Unit {0}) (declarations_at room) (err {A = List Declaration} (deep, rest)) ts = subst (λ m. Track (Unit {0}) (declarations_at room) m ts) e (declarations_tracks {Same = Unit {0}} room room (omega arith) (λ z. refl) ts) in
+    let same : t.used ≡ used = same_front t.used used rest (sym t.split ∙ split) in
+    let stays : declarations_at room (used ++ us) ≡ Err (deep, us) = ap (λ ws. declarations_at room (ws ++ us)) (sym same) ∙ t.same us first tt in
+    let read : declarations_at room (used ++ us) ≡ Ok (map declaration_of form, []) = text_read form room fits (used ++ us) (sym is) in
+    absurd (cc)
+
+-- so only what nests too deep goes on
 only_deep_goes_on : (ts used rest us : List Lexeme) → declarations_at 64 ts ≡ Err (deep, rest) → ts ≡ used ++ rest → first_of us ≡ first_of rest → (form : List DeclarationForm) → spelled_program form ≡ used ++ us → 64 < program_levels form
 only_deep_goes_on ts used rest us e split first form is = elim (cases_Bool (nat_lt 64 (program_levels form))) [
   | inl more ↦ grind (arith, nat_tests)
   | inr few ↦ (
       let fits : most declaration_levels form ≤ 64 = grind (arith, nat_tests) in
-      let t : Track (Unit {0}) (declarations_at 64) (err {A = List Declaration} (deep, rest)) ts = subst (λ m. Track (Unit {0}) (declarations_at 64) m ts) e (declarations_tracks {Same = Unit {0}} 64 64 (omega arith) (λ z. refl) ts) in
-      let same : t.used ≡ used = same_front t.used used rest (sym t.split ∙ split) in
-      let stays : declarations_at 64 (used ++ us) ≡ Err (deep, us) = ap (λ ws. declarations_at 64 (ws ++ us)) (sym same) ∙ t.same us first tt in
-      let read : declarations_at 64 (used ++ us) ≡ Ok (map declaration_of form, []) = text_read form 64 fits (used ++ us) (sym is) in
-      absurd (cc))
+      absurd (no_text_fits 64 ts used rest us e split first form fits is)
+      )
 ]
 
 -- the fault at the end of the tokens
@@ -94,18 +100,19 @@ used_only : (used ts : List Lexeme) → ts ≡ used ++ [] → ts ≡ used
 used_only used ts e = e ∙ append-nil used
 
 -- each way in which reading stops
-stuck_fault : (bytes : List ℕ) (ts : List Lexeme) (end : Option LexFault) (rest : List Lexeme) → declarations_at 64 ts ≡ Err (stuck, rest) → Stop (each spelled_declaration) (stuck, rest) ts → IsFaultOf bytes (record { tokens = ts; end = end }) (stuck_syntax bytes (record { tokens = rest; end = end }))
-stuck_fault bytes ts end [] e stop =
+pub stuck_fault : (bytes : List ℕ) (room : ℕ) (ts : List Lexeme) (end : Option LexFault) (rest : List Lexeme) → declarations_at room ts ≡ Err (stuck, rest) → Stop (each spelled_declaration) (stuck, rest) ts
+    → IsFaultOf bytes (record { tokens = ts; end = end }) (stuck_syntax bytes (record { tokens = rest; end = end }))
+stuck_fault bytes room ts end [] e stop =
     let same = used_only stop.used ts stop.split in
     let begins : Begins ts = subst Begins (append-nil stop.used ∙ sym same) (begins_by (stop.used ++ []) stop.begun) in
-    end_fault bytes ts end begins (λ _ text. no_text_goes_on ts stop.used [] [] e stop.split refl (subst IsText stop.split text))
-stuck_fault bytes ts end (t ∷ rest) e stop =
+    end_fault bytes ts end begins (λ _ text. no_text_goes_on room ts stop.used [] [] e stop.split refl (subst IsText stop.split text))
+stuck_fault bytes room ts end (t ∷ rest) e stop =
     wrong_token t (record {
       before = stop.used;
       behind = rest;
       tokens = stop.split;
       begins = subst Begins (append-nil stop.used) (begins_by (stop.used ++ []) stop.begun);
-      nothing = λ more text. no_text_goes_on ts stop.used (t ∷ rest) (t ∷ more) e stop.split refl (subst IsText (append_assoc stop.used (t ∷ []) more) text);
+      nothing = λ more text. no_text_goes_on room ts stop.used (t ∷ rest) (t ∷ more) e stop.split refl (subst IsText (append_assoc stop.used (t ∷ []) more) text);
     }) refl
 
 deep_fault : (bytes : List ℕ) (ts : List Lexeme) (end : Option LexFault) (rest : List Lexeme) → declarations_at 64 ts ≡ Err (deep, rest) → Stop (each spelled_declaration) (deep, rest) ts → IsFaultOf bytes (record { tokens = ts; end = end }) (deep_syntax bytes (record { tokens = rest; end = end }))
@@ -119,18 +126,26 @@ deep_fault bytes ts end (t ∷ rest) e stop =
       only_deep = λ form more is. only_deep_goes_on ts stop.used (t ∷ rest) (t ∷ more) e stop.split refl form (is ∙ append_assoc stop.used (t ∷ []) more);
     }) refl
 
--- a whole text: only a token can be missing behind it
-whole_fault : (bytes : List ℕ) (at : ℕ) → ((program : Program) → Spells bytes at program → ⊥) → (y : List Declaration × List Lexeme) → declarations_at 64 (ahead_from bytes at).tokens ≡ Ok y
+-- a whole text is one of the grammar
+pub whole_is_text : (room : ℕ) (ts : List Lexeme) (y : List Declaration × List Lexeme) → declarations_at room ts ≡ Ok y → IsText ts
+whole_is_text room ts y e =
+    let found = declarations_sound room ts y e in
+    (found.0, found.2 ∙ ap (each spelled_declaration found.0) (declarations_end room ts y e))
+
+-- only a token can be missing behind it
+pub whole_fault : (bytes : List ℕ) (ahead : Ahead) → IsText ahead.tokens → (ahead.end ≡ None → ⊥) → IsFaultOf bytes ahead (at_end bytes ahead.end)
+whole_fault bytes ahead text goes_on = end_fault bytes ahead.tokens ahead.end ([], tt, subst IsText (sym (append-nil ahead.tokens)) text) (λ ended _. goes_on ended)
+
+-- where a whole text spells no program
+no_program : (bytes : List ℕ) (at : ℕ) → ((program : Program) → Spells bytes at program → ⊥) → (y : List Declaration × List Lexeme) → declarations_at 64 (ahead_from bytes at).tokens ≡ Ok y
     → IsFaultOf bytes (ahead_from bytes at) (stuck_syntax bytes (record { tokens = y.1; end = (ahead_from bytes at).end }))
 unfolding program_at
-whole_fault bytes at none y e =
+no_program bytes at none y e =
     let ahead : Ahead = ahead_from bytes at in
     let is : y.1 ≡ [] = declarations_end 64 ahead.tokens y e in
-    let found = declarations_sound 64 ahead.tokens y e in
-    let text : IsText ahead.tokens = (found.0, found.2 ∙ ap (each spelled_declaration found.0) is) in
     let read : program_at ahead.tokens ≡ Ok (record { decls = y.0 }, []) = give e _ _ (ap (λ (us : List Lexeme). Ok (record { decls = y.0 }, us)) is) in
     subst (λ us. IsFaultOf bytes ahead (stuck_syntax bytes (record { tokens = us; end = ahead.end }))) (sym is)
-    (end_fault bytes ahead.tokens ahead.end ([], tt, subst IsText (sym (append-nil ahead.tokens)) text) (λ ended _. none (record { decls = y.0 }) (spells_takes bytes at (record { decls = y.0 }) (read, ended))))
+    (whole_fault bytes ahead (whole_is_text 64 ahead.tokens y e) (λ ended. none (record { decls = y.0 }) (spells_takes bytes at (record { decls = y.0 }) (read, ended))))
 
 pub places_are_exact : PlacesAreExact
 unfolding fault_at program_at
@@ -140,8 +155,8 @@ places_are_exact bytes at none = by (declarations_at 64 (ahead_from bytes at).to
     ahead = ahead_from bytes at
 
     by : (m : Read (List Declaration)) → declarations_at 64 (ahead_from bytes at).tokens ≡ m → IsFaultOf bytes (ahead_from bytes at) (fault_of bytes (ahead_from bytes at).end (m >>= λ decls. Ok (record { decls = decls.0 }, decls.1)))
-    by (Ok y) e = whole_fault bytes at none y e
-    by (Err (stuck, rest)) e = stuck_fault bytes (ahead_from bytes at).tokens (ahead_from bytes at).end rest e ((declarations_twin 63).stops (ahead_from bytes at).tokens (stuck, rest) e)
+    by (Ok y) e = no_program bytes at none y e
+    by (Err (stuck, rest)) e = stuck_fault bytes 64 (ahead_from bytes at).tokens (ahead_from bytes at).end rest e ((declarations_twin 63).stops (ahead_from bytes at).tokens (stuck, rest) e)
     by (Err (deep, rest)) e = deep_fault bytes (ahead_from bytes at).tokens (ahead_from bytes at).end rest e ((declarations_twin 63).stops (ahead_from bytes at).tokens (deep, rest) e)
 
 -- the same of a fault that is where reading stops

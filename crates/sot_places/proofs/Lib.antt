@@ -12,4 +12,5 @@ pub mod ExpressionTracks
 pub mod StatementTracks
 pub mod DeclarationTracks
 pub mod ExactPlaces
+pub mod ExactPlacesExist
 pub mod OnePlace

@@ -17,6 +17,10 @@ PlacesAreExact = (bytes : List ℕ) (at : ℕ) → ((program : Program) → Spel
 abbrev pub TextsAreOnlyDeep : Type 0
 TextsAreOnlyDeep = (bytes : List ℕ) (ahead : Ahead) (fault : Syntax) → IsFaultOf bytes ahead fault → IsText ahead.tokens → ahead.end ≡ None → (t : Lexeme) × IsTooDeep ahead t × (fault ≡ Deep t.at)
 
+-- where the tokens are no text of the grammar, or no token comes next, there is a fault that is not one of nesting
+abbrev pub ExactPlacesExist : Type 0
+ExactPlacesExist = (bytes : List ℕ) (ahead : Ahead) → (IsText ahead.tokens → ahead.end ≡ None → ⊥) → (fault : Syntax) × IsFaultOf bytes ahead fault × IsExact fault
+
 -- but for nesting, tokens have one fault at the most
 abbrev pub ExactPlacesAreOne : Type 0
 ExactPlacesAreOne = (bytes : List ℕ) (ahead : Ahead) (fault other : Syntax) → IsFaultOf bytes ahead fault → IsFaultOf bytes ahead other → IsExact fault → IsExact other → fault ≡ other

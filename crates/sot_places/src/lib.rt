@@ -4,6 +4,6 @@
 mod laws;
 
 pub use laws::{
-    deep_comes_before, exact_places_are_one, places_are_exact, programs_have_no_fault,
-    texts_are_only_deep,
+    deep_comes_before, exact_places_are_one, exact_places_exist, places_are_exact,
+    programs_have_no_fault, texts_are_only_deep,
 };

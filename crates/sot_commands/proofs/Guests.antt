@@ -1,0 +1,115 @@
+-- What becomes of guests.
+use Rattle.std.proofs.Common.{◌≡◌, ◌⊎◌, ⊎_elim, ℕ, zero, suc, List, [], ◌∷◌, Option, None, Some, length, Result, Ok, Err, inl, inr, refl, sym, ap, ◌∙◌, subst, append-nil, arith, ◌≤◌}
+use Rattle.std.specs.Prelude.{IfOk, MatchResult}
+use Rattle.std.specs.Io.KnownBytes.{Appends}
+use Rattle.std.specs.declared.alloc.AllocError.{AllocError}
+use Rattle.std.proofs.lemmas.Bool.{cases_eq}
+use Rattle.std.proofs.lemmas.Option.{same_Some}
+use Rattle.sot_lists.specs.Places.{At}
+use Rattle.sot_lists.proofs.Places.{at_same}
+use Rattle.sot_lang.specs.Tables.{Tables}
+use Rattle.sot_tube.specs.Admitted.{Admitted}
+use Rattle.sot_world.specs.HistoryEntry.{Logged}
+use Rattle.sot_flight.specs.Plans.{Plan, Crew, Coded, Script, Wild, Guest}
+use Rattle.sot_board.specs.Flown.{FlownBy}
+use Rattle.sot_board.specs.Standing.{Standing}
+use Rattle.sot_shift.specs.Askings.{Asking}
+use Rattle.sot_shift.specs.Answers.{Answered}
+use Rattle.sot_workers.specs.Asked.{EachAnswered, EachUnnamedStays}
+use Rattle.sot_commands.specs.declared.answer.Answer.{Answer}
+use Rattle.sot_commands.specs.declared.telling.Telling.{Telling}
+use Rattle.sot_commands.specs.declared.telling.Telling.TheVariants.{Trace, Summed}
+use Rattle.sot_commands.specs.Steps.{told_text, FliesBytes, ReadAnswer, CommandAnswer, Written}
+use Rattle.sot_commands.specs.declared.words.Command.{Command}
+use Rattle.sot_commands.specs.declared.words.Command.TheVariants.{Fly, Make, Soak}
+use Rattle.sot_ports.specs.Whole.{ReadsAll}
+use Rattle.sot_commands.specs.Answers.{SpellsFor, Replies, input_limit}
+use Rattle.sot_report.specs.Missions.{Mission}
+use Rattle.sot_text.specs.declared.mission.Need.TheVariants as needs
+use Rattle.sot_commands.specs.Guests.{TellsOn, GuestsGoOn, GuestsFlew, Flew}
+
+-- what is told as before is told on
+tells_same : (o : Option (List Asking)) → TellsOn o o
+tells_same None = tt
+tells_same (Some list) = (list, [], refl, sym (append-nil list))
+
+-- guests that stay as they are go on
+pub stay_told : {C : Type 0} (told : C → Option (List Asking)) (guests : List C) → GuestsGoOn told guests guests
+stay_told told guests i was now at at' = subst (λ x. TellsOn (told was) (told x)) (at_same guests i was now at at') (tells_same (told was))
+
+-- a guest is named by a node, or by none
+named_or_not : (crews : List Crew) (i : ℕ) → ((n : ℕ) × At crews n (Guest i)) ⊎ ((n : ℕ) → At crews n (Guest i) → ⊥)
+named_or_not [] i = inr (λ n at. absurd cc)
+named_or_not (crew ∷ crews) i = behind (here crew) (named_or_not crews i)
+  where
+    here : (c : Crew) → (c ≡ Guest i) ⊎ (c ≡ Guest i → ⊥)
+    here Coded = inr (λ e. absurd cc)
+    here (Script drafts) = inr (λ e. absurd cc)
+    here (Wild seed stream) = inr (λ e. absurd cc)
+    here (Guest j) = ⊎_elim (λ same. inl (ap (λ (k : ℕ). Guest k) same)) (λ differ. inr (λ e. differ (let same : j ≡ i = cc in same))) (cases_eq j i)
+
+    at_none : (crew ≡ Guest i → ⊥) → ((n : ℕ) → At crews n (Guest i) → ⊥) → (n : ℕ) → At (crew ∷ crews) n (Guest i) → ⊥
+    at_none differ none zero at = differ (same_Some crew (Guest i) at)
+    at_none differ none (suc n) at = none n at
+
+    behind : (crew ≡ Guest i) ⊎ (crew ≡ Guest i → ⊥) → ((n : ℕ) × At crews n (Guest i)) ⊎ ((n : ℕ) → At crews n (Guest i) → ⊥) → ((n : ℕ) × At (crew ∷ crews) n (Guest i)) ⊎ ((n : ℕ) → At (crew ∷ crews) n (Guest i) → ⊥)
+    behind (inl is) rest = inl (0, ap (λ (c : Crew). Some c) is)
+    behind (inr differ) (inl (n, at)) = inl (suc n, at)
+    behind (inr differ) (inr none) = inr (at_none differ none)
+
+-- a list that answers firings is told on
+answered_on : (t : Tables) (jitter : ℕ) (f : Plan) (n : ℕ) (history : List Logged) (before after : Option (List Asking)) → Answered t jitter f n history before after → TellsOn before after
+answered_on t jitter f n history before None answered = tt
+answered_on t jitter f n history before (Some after) answered = (answered.first, answered.more, answered.before_is, answered.after_is)
+
+-- guests that flew go on
+pub flew_told : {C : Type 0} (told : C → Option (List Asking)) (a : Admitted) (f : Plan) (history : List Logged) (before after : List C) → EachAnswered told a f history before after → EachUnnamedStays f before after → GuestsGoOn told before after
+flew_told told a f history before after answered unnamed i was now at at' =
+    ⊎_elim
+    (λ (n, named). answered_on a.program a.cert.jitter f n history (told was) (told now) (answered n i was now named at at'))
+    (λ none. subst (λ x. TellsOn (told was) (told x)) (sym (unnamed i was now none at at')) (tells_same (told was)))
+    (named_or_not f.crews i)
+
+-- and flew the flight of their board
+pub flew_result : {C : Type 0} (told : C → Option (List Asking)) (r : Result Answer AllocError) (telling : Telling) (acc : Admitted) (f : Plan) (b : Standing) (before after : List C) → b.accepted ≡ acc → b.plan ≡ f
+    → FlownBy b.accepted.program b.accepted.cert.jitter b.plan b.entries → IfOk r (λ a. a.text.items ≡ told_text telling b.accepted.program b.plan b.entries)
+    → EachAnswered told b.accepted b.plan b.entries before after → EachUnnamedStays b.plan before after
+    → IfOk r (λ a. a.status ≡ 0 → telling ≡ Trace → GuestsFlew told acc.program acc.cert.jitter f a.text.items before after)
+flew_result told (Ok a) Trace acc f b before after is plan flown text answered unnamed = λ zero trace.
+    subst (λ (g : Plan). GuestsFlew told acc.program acc.cert.jitter g a.text.items before after) plan
+    (subst (λ (x : Admitted). GuestsFlew told x.program x.cert.jitter b.plan a.text.items before after) is
+    (record { history = b.entries; flown = flown; text_is = text; answered = answered; unnamed = unnamed }))
+flew_result told (Ok a) Summed acc f b before after is plan flown text answered unnamed = λ zero trace. absurd cc
+flew_result told (Err e) telling acc f b before after is plan flown text answered unnamed = tt
+
+-- and that of the mission that the bytes spell
+pub flew_mission : {C : Type 0} (told : C → Option (List Asking)) (r : Result Answer AllocError) (telling : Telling) (guests : ℕ) (bytes : List ℕ) (m : Mission) (f : Plan) (before after : List C) → SpellsFor needs.Fly guests bytes m → m.flight ≡ Some f
+    → IfOk r (λ a. a.status ≡ 0 → telling ≡ Trace → GuestsFlew told m.tables m.cert.jitter f a.text.items before after)
+    → IfOk r (λ a. a.status ≡ 0 → telling ≡ Trace → Flew told guests bytes a.text.items before after)
+flew_mission told (Ok a) telling guests bytes m f before after spells is flew = λ zero trace. record { mission = m; spelled = spells; plan = f; flight = is; flew = flew zero trace }
+flew_mission told (Err e) telling guests bytes m f before after spells is flew = tt
+
+-- what holds of an answer holds of it where it is kept, and what follows from it
+pub kept_result : {E : Type 0} (P : Answer → Type 0) (Q : E → Type 0) (r : Result Answer E) (a : Result Answer AllocError) → MatchResult r (λ x. a ≡ Ok x) Q → IfOk a P → IfOk r P
+kept_result P Q (Ok x) a is has = subst (λ o. IfOk o P) is has
+kept_result P Q (Err e) a is has = tt
+
+pub so_result : {E : Type 0} (P Q : Answer → Type 0) (r : Result Answer E) → ((a : Answer) → P a → Q a) → IfOk r P → IfOk r Q
+so_result P Q (Ok a) so has = so a has
+so_result P Q (Err e) so has = tt
+
+-- what is said of a flight is the answer to what was read
+pub fly_answer : (guests : ℕ) (left after : Option (List ℕ)) (bytes : List ℕ) → ReadsAll left after bytes → length bytes ≤ input_limit → (a : Answer) → FliesBytes guests Trace bytes a.status a.text.items → ReadAnswer guests Fly left after a.status a.text.items
+fly_answer guests left after bytes reads short a flies = inl (bytes, reads, short, flies)
+
+-- a command that reads nothing answers nothing
+pub made_answer : (guests : ℕ) (command : Command) (n seed : ℕ) (left : Option (List ℕ)) → command ≡ Make n seed → (a : Answer) → Replies guests (Make n seed) [] a.status a.text.items → CommandAnswer guests command left left a.status a.text.items
+made_answer guests command n seed left is a replies = subst (λ (c : Command). CommandAnswer guests c left left a.status a.text.items) (sym is) (inl ([], (refl, refl), omega arith, replies))
+
+pub soaked_answer : (guests : ℕ) (command : Command) (n seed : ℕ) (left : Option (List ℕ)) → command ≡ Soak n seed → (a : Answer) → Replies guests (Soak n seed) [] a.status a.text.items → CommandAnswer guests command left left a.status a.text.items
+soaked_answer guests command n seed left is a replies = subst (λ (c : Command). CommandAnswer guests c left left a.status a.text.items) (sym is) (inl ([], (refl, refl), omega arith, replies))
+
+-- at status 0 all of the text was written, and it is the answer's status
+pub all_written : (held after : Option (List ℕ)) (faults faults_after said : ℕ) (text : List ℕ) (status : ℕ) → Written held after faults faults_after said text status → status ≡ 0 → (said ≡ 0) × Appends held after text
+all_written held after faults faults_after said text status (inl (is, calm, appended)) none = (sym is ∙ none, appended)
+all_written held after faults faults_after said text status (inr (five, rose, part)) none = absurd (omega (arith, five, none))

@@ -1,0 +1,295 @@
+-- A text decides one status.
+use Rattle.std.proofs.Common.{◌≡◌, ℕ, List, [], ◌∷◌, Option, None, Some, length, Result, Ok, inl, inr, refl, sym, ap, ◌∙◌, subst, arith, codes, Global, ap₂, map, ◌<◌, ◌≤◌, ◌^◌}
+use Rattle.std.specs.Prelude.{if◌then◌else◌, String, slice_index_or}
+use Rattle.std.specs.Str.{bytes_eq}
+use Rattle.std.specs.Fmt.{decimal}
+use Rattle.std.proofs.lemmas.Fmt.{decimal_injective}
+use Rattle.std.proofs.lemmas.Option.{same_Some, slice_get_within}
+use Rattle.sot_lists.specs.Places.{At}
+use Rattle.sot_box.specs.Regions.{IsInRegion}
+use Rattle.sot_text.specs.declared.mission.Need.{Need}
+use Rattle.sot_text.specs.declared.mission.Need.TheVariants as needs
+use Rattle.sot_text.specs.Sections.{Parts, split_of}
+use Rattle.sot_tree.specs.Trees.{Program}
+use Rattle.sot_lang.specs.Tables.{Tables}
+use Rattle.sot_parser.specs.Programs.{Spells}
+use Rattle.sot_parser.proofs.ProgramTexts.{spells_unique}
+use Rattle.sot_rules.specs.First.{IsFaultless}
+use Rattle.sot_typing.specs.Resolved.{tables_seen, tables_of}
+use Rattle.sot_cert.specs.CertFormat.{Contents, contents, cert_of}
+use Rattle.sot_cert.specs.declared.fault.JsonFault.{JsonFault}
+use Rattle.sot_flight.specs.Plans.{Plan}
+use Rattle.sot_world.specs.HistoryEntry.{Logged}
+use Rattle.sot_spelled.specs.LentLines.{lent_lines}
+use Rattle.sot_replay.specs.GoesOn as goes_on
+use Rattle.sot_replay.specs.Replays.{IsRefusedAt}
+use Rattle.sot_replay.specs.declared.fail.LineKind.{LineKind}
+use Rattle.sot_replay.proofs.OneAnswer.{traces_are_not_refused}
+use Rattle.sot_commands.proofs.Replayed.{traced_alike}
+use Rattle.sot_flight.specs.FlightFormat.{flight_of}
+use Rattle.sot_tube.specs.Certified.{IsWellCertified}
+use Rattle.sot_tube.specs.Refusals.{Refusal}
+use Rattle.sot_tube.proofs.Acceptance.{certified_passes}
+use Rattle.sot_tube.proofs.VerdictExact.{verdict_exact}
+use Rattle.sot_alike.proofs.Certificates.{certificates_alike}
+use Rattle.sot_alike.proofs.Certified.{certified_alike}
+use Rattle.sot_alike.proofs.Seen.{modules_same}
+use Rattle.sot_alike.proofs.Flights.{flights_alike}
+use Rattle.sot_certify_alike.proofs.Certify.{certify_alike}
+use Rattle.sot_world.specs.Opens.{StartInside, IsFirstOutside}
+use Rattle.sot_report.specs.declared.fault.Fault.{Fault}
+use Rattle.sot_report.specs.declared.fault.Fault.TheVariants as faults
+use Rattle.sot_maker.specs.Missions.{mission_text as made_text}
+use Rattle.sot_report.specs.Missions.{Mission, Resolves, HasParts, SaysFlight, FaultsFlight, HasFault}
+use Rattle.sot_commands.specs.declared.words.Command.{Command}
+use Rattle.sot_commands.specs.declared.words.Command.TheVariants.{Check, Fly, Replay, Format, Certify, Make, Soak}
+use Rattle.sot_commands.specs.Words.{word_of, numbers_of, Reads, IsInForm, Asks}
+use Rattle.sot_commands.specs.Answers.{IsAccepted, IsRefusedFor, SpellsFor, IsTraceOf, IsSummaryOf, FliesWith, DoesNotFly, HasLines, HasProgramFault, Accepts, Refutes, Rejects, Replies, given_to}
+use Rattle.sot_commands.specs.Ends.{Decides}
+
+-- bytes have one list of sections, and its program's text spells one program
+pub same_ok : {A E : Type 0} (x : Result A E) (a b : A) → x ≡ Ok a → x ≡ Ok b → a ≡ b
+same_ok x a b e f = (let same = sym e ∙ f in cc)
+
+pub same_parts : (need : Need) (bytes : List ℕ) (a b : Parts) → HasParts need bytes a → HasParts need bytes b → a ≡ b
+same_parts need bytes a b = same_ok (split_of bytes need) a b
+
+pub same_program : (a b : Parts) (p q : Program) → a ≡ b → Spells a.program 0 p → Spells b.program 0 q → p ≡ q
+same_program a b p q same spells spells' = spells_unique a.program 0 p q spells (subst (λ (x : Parts). Spells x.program 0 q) (sym same) spells')
+
+-- tables of one program look the same
+pub same_seen : (p q : Program) (t u : Tables) → p ≡ q → Resolves p t → Resolves q u → tables_seen t ≡ tables_seen u
+same_seen p q t u same r s = r.tables ∙ ap tables_of same ∙ sym s.tables
+
+-- and the certificate's text says the same of them
+pub same_said : (a b : Parts) (t u : Tables) → a ≡ b → tables_seen t ≡ tables_seen u → cert_of t a.cert ≡ cert_of u b.cert
+same_said a b t u same seen = certificates_alike t u a.cert seen ∙ ap (λ (x : Parts). cert_of u x.cert) same
+
+-- the flight's text says the same flight of tables that look the same
+pub same_flown : (guests : ℕ) (t u : Tables) (section : Option (List ℕ)) (f g : Plan) (a b : Option Plan) → tables_seen t ≡ tables_seen u → a ≡ Some f → b ≡ Some g
+    → SaysFlight t guests section a → SaysFlight u guests section b → f ≡ g
+same_flown guests t u None f g None b seen is is' x y = absurd cc
+same_flown guests t u None f g (Some a) b seen is is' x y = absurd x
+same_flown guests t u (Some section) f g None b seen is is' x y = absurd x
+same_flown guests t u (Some section) f g (Some a) None seen is is' x y = absurd y
+same_flown guests t u (Some section) f g (Some a) (Some b) seen is is' x y =
+    let one : a ≡ b = same_ok (flight_of u guests section) a b (sym (flights_alike t u guests section seen) ∙ x.0) y.0 in
+    same_Some f a (sym is) ∙ one ∙ same_Some b g is'
+
+-- and has no fault of one of them where it says a flight of the other
+flown_faulty : (guests : ℕ) (t u : Tables) (section : Option (List ℕ)) (a : Option Plan) (fault : JsonFault) → tables_seen t ≡ tables_seen u → SaysFlight t guests section a → FaultsFlight u guests section fault → ⊥
+flown_faulty guests t u None a fault seen x y = y
+flown_faulty guests t u (Some section) None fault seen x y = x
+flown_faulty guests t u (Some section) (Some f) fault seen x y = (let e = sym x.0 ∙ flights_alike t u guests section seen ∙ y in absurd cc)
+
+module _ (need : Need) (guests : ℕ) (bytes : List ℕ) (m n : Mission) (x : SpellsFor need guests bytes m) (y : SpellsFor need guests bytes n) where
+  pub sections : x.parts ≡ y.parts
+  sections = same_parts need bytes x.parts y.parts x.divided y.divided
+
+  pub seen : tables_seen m.tables ≡ tables_seen n.tables
+  seen = same_seen m.program n.program m.tables n.tables (same_program x.parts y.parts m.program n.program sections x.spelled y.spelled) x.resolved y.resolved
+
+  pub said : contents m.cert ≡ contents n.cert
+  said = same_ok (cert_of n.tables y.parts.cert) (contents m.cert) (contents n.cert) (sym (same_said x.parts y.parts m.tables n.tables sections seen) ∙ x.certified) y.certified
+
+  -- a mission that is accepted is not refused
+  pub accepted_refused : (r : Refusal) → IsAccepted m → IsRefusedFor n r → ⊥
+  accepted_refused r certified refuses =
+      let jitter : m.cert.jitter ≡ n.cert.jitter = ap (λ (c : Contents). c.jitter) said in
+      let other = certified_alike m.tables n.tables m.cert.jitter m.cert n.cert seen (ap (λ (c : Contents). c.modules) said) certified in
+      let here = subst (λ j. IsWellCertified n.tables j n.cert) jitter other in
+      (verdict_exact n.tables n.cert.jitter n.cert).exclusive r refuses (certified_passes n.tables n.cert.jitter n.cert here)
+
+  -- where all plants of a flight start inside, none starts outside
+  inside_outside : (f g : Plan) → m.flight ≡ Some f → n.flight ≡ Some g → StartInside m.tables f.start (length m.tables.modules)
+      → (k : ℕ) → IsFirstOutside n.tables g.start k → ⊥
+  inside_outside f g is is' inside k first =
+      let flights : f ≡ g = same_flown guests m.tables n.tables x.parts.flight f g m.flight n.flight seen is is' x.flown (subst (λ (q : Parts). SaysFlight n.tables guests q.flight n.flight) (sym sections) y.flown) in
+      let here = subst (λ ms. At ms k first.info) (sym (modules_same m.tables n.tables seen)) first.is in
+      first.outside (subst (λ (h : Plan). IsInRegion first.info.safer.boxes (slice_index_or h.start first.info.plant [])) flights (inside k first.info (slice_get_within m.tables.modules k first.info here) here))
+
+-- the trace of a history, by one of a mission's tables, is that by each
+pub traced_moved : (guests : ℕ) (bytes : List ℕ) (m n : Mission) → SpellsFor needs.Replay guests bytes m → SpellsFor needs.Replay guests bytes n → (f g : Plan) (lines lines' : List (List ℕ)) → HasLines m f lines → HasLines n g lines'
+    → (history : List Logged) → goes_on.IsTraceOf m.tables m.cert.jitter f lines history → goes_on.IsTraceOf n.tables n.cert.jitter g lines' history
+traced_moved guests bytes m n x y f g lines lines' (is, (trace, has, are)) (is', (trace', has', are')) history traced =
+    let same_seen = seen needs.Replay guests bytes m n x y in
+    let parts = sections needs.Replay guests bytes m n x y in
+    let flights : f ≡ g = same_flown guests m.tables n.tables x.parts.flight f g m.flight n.flight same_seen is is' x.flown (subst (λ (q : Parts). SaysFlight n.tables guests q.flight n.flight) (sym parts) y.flown) in
+    let jitter : m.cert.jitter ≡ n.cert.jitter = ap (λ (c : Contents). c.jitter) (said needs.Replay guests bytes m n x y) in
+    let traces : trace ≡ trace' = same_Some trace trace' (sym has ∙ x.traced ∙ ap (λ (q : Parts). q.trace) parts ∙ sym y.traced ∙ has') in
+    let here = are ∙ ap lent_lines traces ∙ sym are' in
+    let other = traced_alike m.tables n.tables m.cert.jitter f lines history same_seen traced in
+    subst (λ (ls : List (List ℕ)). goes_on.IsTraceOf n.tables n.cert.jitter g ls history) here
+    (subst (λ (h : Plan). goes_on.IsTraceOf n.tables n.cert.jitter h lines history) flights (subst (λ j. goes_on.IsTraceOf n.tables j f lines history) jitter other))
+
+-- lines that are the trace of a history are not refused
+traced_refused : (guests : ℕ) (bytes : List ℕ) (m n : Mission) → SpellsFor needs.Replay guests bytes m → SpellsFor needs.Replay guests bytes n → (f g : Plan) (lines lines' : List (List ℕ)) → HasLines m f lines → HasLines n g lines'
+    → (history : List Logged) → goes_on.IsTraceOf m.tables m.cert.jitter f lines history → (number : ℕ) (kind : LineKind) → IsRefusedAt n.tables n.cert.jitter g lines' number kind → ⊥
+traced_refused guests bytes m n x y f g lines lines' has has' history traced number kind refused =
+    traces_are_not_refused n.tables n.cert.jitter g lines' history number kind (traced_moved guests bytes m n x y f g lines lines' has has' history traced) refused
+
+-- bytes that spell a mission have no fault
+spelled_faulty : (need : Need) (guests : ℕ) (bytes : List ℕ) (m : Mission) (f : Fault) → SpellsFor need guests bytes m → HasFault need guests bytes f → ⊥
+spelled_faulty need guests bytes m (faults.Section f) x split = (let e = sym x.divided ∙ split in absurd cc)
+spelled_faulty need guests bytes m (faults.Syntax f) x (parts, has, none, is) =
+    none m.program (subst (λ (q : Parts). Spells q.program 0 m.program) (same_parts need bytes x.parts parts x.divided has) x.spelled)
+spelled_faulty need guests bytes m (faults.Typing f) x (parts, has, (p, spells, first)) =
+    let same : m.program ≡ p = same_program x.parts parts m.program p (same_parts need bytes x.parts parts x.divided has) x.spelled spells in
+    subst (λ (q : Program). IsFaultless q) same x.resolved.faultless f.at f.kind first.fails
+spelled_faulty need guests bytes m (faults.Cert f) x (parts, has, (p, t, (spells, resolves), fails)) =
+    let here = same_parts need bytes x.parts parts x.divided has in
+    let same : m.program ≡ p = same_program x.parts parts m.program p here x.spelled spells in
+    let e = sym x.certified ∙ same_said x.parts parts m.tables t here (same_seen m.program p m.tables t same x.resolved resolves) ∙ fails in
+    absurd cc
+spelled_faulty need guests bytes m (faults.Flight f) x (parts, has, (p, t, (spells, resolves), says, fails)) =
+    let here = same_parts need bytes x.parts parts x.divided has in
+    let same : m.program ≡ p = same_program x.parts parts m.program p here x.spelled spells in
+    flown_faulty guests m.tables t parts.flight m.flight f (same_seen m.program p m.tables t same x.resolved resolves) (subst (λ (q : Parts). SaysFlight m.tables guests q.flight m.flight) here x.flown) fails
+
+-- a program's text that breaks no rule of typing has no fault
+program_faulty : (bytes : List ℕ) (p : Program) (t : Tables) (f : Fault) → Spells bytes 0 p → Resolves p t → HasProgramFault bytes f → ⊥
+program_faulty bytes p t (faults.Section f) spells resolves has = has
+program_faulty bytes p t (faults.Syntax f) spells resolves has = has.0 p spells
+program_faulty bytes p t (faults.Typing f) spells resolves (q, spells', first) =
+    subst (λ (x : Program). IsFaultless x) (spells_unique bytes 0 p q spells spells') resolves.faultless f.at f.kind first.fails
+program_faulty bytes p t (faults.Cert f) spells resolves has = has
+program_faulty bytes p t (faults.Flight f) spells resolves has = has
+
+-- what flies does not fail to, whatever is told of it
+abbrev StartsInside : (Tables → ℕ → Plan → List ℕ → Type 0) → Type 0
+StartsInside Says = (t : Tables) (jitter : ℕ) (f : Plan) (text : List ℕ) → Says t jitter f text → StartInside t f.start (length t.modules)
+
+flies_once : (Says : Tables → ℕ → Plan → List ℕ → Type 0) → StartsInside Says → (guests : ℕ) (bytes text text' : List ℕ) → FliesWith Says guests bytes text → DoesNotFly guests bytes text' → ⊥
+flies_once Says starts guests bytes text text' (m, spells, certified, safe, flown) (n, spells', inl (r, refuses, says')) = accepted_refused needs.Fly guests bytes m n spells spells' r certified refuses
+flies_once Says starts guests bytes text text' (m, spells, certified, safe, (f, is, says)) (n, spells', inr (certified', (g, is', (k, first, says')))) =
+    inside_outside needs.Fly guests bytes m n spells spells' f g is is' (starts m.tables m.cert.jitter f text says) k first
+
+-- what is accepted is neither refused nor rejected, and what is refused is not rejected
+not_refuted : (guests : ℕ) (c : Command) (bytes text text' : List ℕ) → Accepts guests c bytes text → Refutes guests c bytes text' → ⊥
+not_refuted guests Check bytes text text' (m, spells, certified, safe, says) (n, spells', (r, refuses, says')) = accepted_refused needs.Check 0 bytes m n spells spells' r certified refuses
+not_refuted guests Fly bytes text text' a r = flies_once IsTraceOf (λ t jitter f x says. says.0) guests bytes text text' a r
+not_refuted guests Replay bytes text text' (m, spells, certified, safe, legal) (n, spells', inl (r, refuses, says')) = accepted_refused needs.Replay guests bytes m n spells spells' r certified refuses
+not_refuted guests Replay bytes text text' (m, spells, certified, safe, (f, lines, (is, has), (inside, legal))) (n, spells', inr (certified', (g, lines', (is', has'), inl (k, first, says')))) =
+    inside_outside needs.Replay guests bytes m n spells spells' f g is is' inside k first
+not_refuted guests Replay bytes text text' (m, spells, certified, safe, (f, lines, has, (inside, (history, traced, says)))) (n, spells', inr (certified', (g, lines', has', inr (inside', (number, kind, refused, says'))))) =
+    traced_refused guests bytes m n spells spells' f g lines lines' has has' history traced number kind refused
+not_refuted guests Format bytes text text' a r = r
+not_refuted guests Certify bytes text text' (p, t, spells, resolves, (cert, made, fits, says), accepted) (q, u, spells', resolves', (fail, enough, fails, says')) =
+    certify_alike t u cert fail (same_seen p q t u (spells_unique bytes 0 p q spells spells') resolves resolves') enough made fails
+not_refuted guests (Make n seed) bytes text text' a r = r
+not_refuted guests (Soak n seed) bytes text text' a r = flies_once IsSummaryOf (λ t jitter f x says. says.0) 0 (made_text n seed) text text' a r
+
+not_rejected : (guests : ℕ) (c : Command) (bytes text text' : List ℕ) → Accepts guests c bytes text → Rejects guests c bytes text' → ⊥
+not_rejected guests Check bytes text text' (m, spells, certified, safe, says) (f, has, says') = spelled_faulty needs.Check 0 bytes m f spells has
+not_rejected guests Fly bytes text text' (m, spells, certified, safe, flown) (f, has, says') = spelled_faulty needs.Fly guests bytes m f spells has
+not_rejected guests Replay bytes text text' (m, spells, certified, safe, legal) (f, has, says') = spelled_faulty needs.Replay guests bytes m f spells has
+not_rejected guests Format bytes text text' a r = r.1 a.0 a.1
+not_rejected guests Certify bytes text text' (p, t, spells, resolves, has, accepted) (f, fault, says) = program_faulty bytes p t f spells resolves fault
+not_rejected guests (Make n seed) bytes text text' a r = r
+not_rejected guests (Soak n seed) bytes text text' (m, spells, certified, safe, flown) (f, has, says') = spelled_faulty needs.Fly 0 (made_text n seed) m f spells has
+
+refuted_not_rejected : (guests : ℕ) (c : Command) (bytes text text' : List ℕ) → Refutes guests c bytes text → Rejects guests c bytes text' → ⊥
+refuted_not_rejected guests Check bytes text text' (m, spells, refused) (f, has, says') = spelled_faulty needs.Check 0 bytes m f spells has
+refuted_not_rejected guests Fly bytes text text' (m, spells, refused) (f, has, says') = spelled_faulty needs.Fly guests bytes m f spells has
+refuted_not_rejected guests Replay bytes text text' (m, spells, refused) (f, has, says') = spelled_faulty needs.Replay guests bytes m f spells has
+refuted_not_rejected guests Format bytes text text' a r = a
+refuted_not_rejected guests Certify bytes text text' (p, t, spells, resolves, has) (f, fault, says) = program_faulty bytes p t f spells resolves fault
+refuted_not_rejected guests (Make n seed) bytes text text' a r = r
+refuted_not_rejected guests (Soak n seed) bytes text text' (m, spells, refused) (f, has, says') = spelled_faulty needs.Fly 0 (made_text n seed) m f spells has
+
+-- a command answers one status
+replies_once : (guests : ℕ) (c : Command) (bytes text text' : List ℕ) (s t : ℕ) → Replies guests c bytes s text → Replies guests c bytes t text' → s ≡ t
+replies_once guests c bytes text text' s t (inl (is, a)) (inl (is', b)) = is ∙ sym is'
+replies_once guests c bytes text text' s t (inl (is, a)) (inr (inl (is', b))) = absurd (not_refuted guests c bytes text text' a b)
+replies_once guests c bytes text text' s t (inl (is, a)) (inr (inr (is', b))) = absurd (not_rejected guests c bytes text text' a b)
+replies_once guests c bytes text text' s t (inr (inl (is, a))) (inl (is', b)) = absurd (not_refuted guests c bytes text' text b a)
+replies_once guests c bytes text text' s t (inr (inl (is, a))) (inr (inl (is', b))) = is ∙ sym is'
+replies_once guests c bytes text text' s t (inr (inl (is, a))) (inr (inr (is', b))) = absurd (refuted_not_rejected guests c bytes text text' a b)
+replies_once guests c bytes text text' s t (inr (inr (is, a))) (inl (is', b)) = absurd (not_rejected guests c bytes text' text b a)
+replies_once guests c bytes text text' s t (inr (inr (is, a))) (inr (inl (is', b))) = absurd (refuted_not_rejected guests c bytes text' text b a)
+replies_once guests c bytes text text' s t (inr (inr (is, a))) (inr (inr (is', b))) = is ∙ sym is'
+
+-- a command is told by its word and its numbers
+told : List ℕ → List ℕ → Command
+told word [] =
+    if bytes_eq word (codes "check") then Check
+    else if bytes_eq word (codes "fly") then Fly
+    else if bytes_eq word (codes "replay") then Replay
+    else if bytes_eq word (codes "format") then Format
+    else Certify
+told word (n ∷ []) = Check
+told word (n ∷ seed ∷ more) = if bytes_eq word (codes "make") then Make n seed else Soak n seed
+
+told_words : (c : Command) → told (word_of c) (numbers_of c) ≡ c
+unfolding told
+told_words Check = refl
+told_words Fly = refl
+told_words Replay = refl
+told_words Format = refl
+told_words Certify = refl
+told_words (Make n seed) = refl
+told_words (Soak n seed) = refl
+
+-- the numbers of a command are told by their decimals
+AreShort : List ℕ → Type 0
+AreShort [] = Unit {0}
+AreShort (n ∷ ns) = (n < 2 ^ 64) × AreShort ns
+
+short_numbers : (c : Command) → IsInForm c → AreShort (numbers_of c)
+unfolding AreShort
+short_numbers Check form = tt
+short_numbers Fly form = tt
+short_numbers Replay form = tt
+short_numbers Format form = tt
+short_numbers Certify form = tt
+short_numbers (Make n seed) form = (omega arith, (omega arith, tt))
+short_numbers (Soak n seed) form = (omega arith, (omega arith, tt))
+
+same_parts_of : (a b : List ℕ) (more rest : List (List ℕ)) → a ∷ more ≡ b ∷ rest → (a ≡ b) × (more ≡ rest)
+same_parts_of a b more rest e = (cc, cc)
+
+same_numbers : (ms ns : List ℕ) → AreShort ms → AreShort ns → map decimal ms ≡ map decimal ns → ms ≡ ns
+unfolding AreShort
+same_numbers [] [] x y e = refl
+same_numbers [] (n ∷ ns) x y e = absurd cc
+same_numbers (m ∷ ms) [] x y e = absurd cc
+same_numbers (m ∷ ms) (n ∷ ns) (x, xs) (y, ys) e =
+    let both = same_parts_of (decimal m) (decimal n) (map decimal ms) (map decimal ns) e in
+    ap₂ (λ (k : ℕ) (ks : List ℕ). k ∷ ks) (decimal_injective m n x y both.0) (same_numbers ms ns xs ys both.1)
+
+-- words ask for one command
+pub same_command : (words : List (String Global)) (c d : Command) → Asks words c → Asks words d → c ≡ d
+same_command words c d a b =
+    let both = same_parts_of (word_of c) (word_of d) (map decimal (numbers_of c)) (map decimal (numbers_of d)) (sym a.0 ∙ b.0) in
+    let numbers = same_numbers (numbers_of c) (numbers_of d) (short_numbers c a.1) (short_numbers d b.1) both.1 in
+    sym (told_words c) ∙ ap₂ told both.0 numbers ∙ told_words d
+
+-- a command that reads works on all bytes
+given_reader : (c : Command) (bytes : List ℕ) → Reads c → given_to c bytes ≡ bytes
+given_reader Check bytes reads = refl
+given_reader Fly bytes reads = refl
+given_reader Replay bytes reads = refl
+given_reader Format bytes reads = refl
+given_reader Certify bytes reads = refl
+given_reader (Make n seed) bytes reads = absurd reads
+given_reader (Soak n seed) bytes reads = absurd reads
+
+-- so words that ask for one have no short input where the bytes are too many
+never_both : (words : List (String Global)) (bytes : List ℕ) (c d : Command) → Asks words c → Reads d → Asks words d → length (given_to c bytes) ≤ 16777216 → 16777216 < length bytes → ⊥
+never_both words bytes c d asks reads asks' short long =
+    let same : given_to c bytes ≡ bytes = ap (λ (x : Command). given_to x bytes) (same_command words c d asks asks') ∙ given_reader d bytes reads in
+    let size = ap length same in
+    omega (arith, short, long, size)
+
+-- words and bytes decide one status
+pub decides_once : (guests : ℕ) (words : List (String Global)) (bytes : List ℕ) (s t : ℕ) → Decides guests words bytes s → Decides guests words bytes t → s ≡ t
+decides_once guests words bytes s t (inl (is, other)) (inl (is', other')) = is ∙ sym is'
+decides_once guests words bytes s t (inl (is, other)) (inr (inl (is', (d, reads, asks), long))) = absurd (other d asks)
+decides_once guests words bytes s t (inl (is, other)) (inr (inr (c, asks, short, replies))) = absurd (other c asks)
+decides_once guests words bytes s t (inr (inl (is, (d, reads, asks), long))) (inl (is', other)) = absurd (other d asks)
+decides_once guests words bytes s t (inr (inl (is, asks, long))) (inr (inl (is', asks', long'))) = is ∙ sym is'
+decides_once guests words bytes s t (inr (inl (is, (d, reads, asks), long))) (inr (inr (c, asks', short, replies))) = absurd (never_both words bytes c d asks' reads asks short long)
+decides_once guests words bytes s t (inr (inr (c, asks, short, replies))) (inl (is', other)) = absurd (other c asks)
+decides_once guests words bytes s t (inr (inr (c, asks, short, replies))) (inr (inl (is', (d, reads, asks'), long))) = absurd (never_both words bytes c d asks reads asks' short long)
+decides_once guests words bytes s t (inr (inr (c, asks, short, (text, replies)))) (inr (inr (d, asks', short', (text', replies')))) =
+    replies_once guests c (given_to c bytes) text text' s t replies (subst (λ (x : Command). Replies guests x (given_to x bytes) t text') (same_command words d c asks' asks) replies')

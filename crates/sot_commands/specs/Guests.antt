@@ -1,0 +1,51 @@
+-- What becomes of the guests that are handed in.
+use Rattle.std.specs.Prelude.{◌≡◌, ℕ, List, ◌++◌, Option, None, Some}
+use Rattle.std.specs.Io.KnownBytes.{Appends}
+use Rattle.sot_lists.specs.Places.{At}
+use Rattle.sot_ports.specs.Whole.{ReadsAll}
+use Rattle.sot_text.specs.declared.mission.Need.TheVariants as needs
+use Rattle.sot_lang.specs.Tables.{Tables}
+use Rattle.sot_world.specs.HistoryEntry.{Logged}
+use Rattle.sot_flight.specs.Plans.{Plan, Guest}
+use Rattle.sot_board.specs.Flown.{FlownBy}
+use Rattle.sot_shift.specs.Askings.{Asking}
+use Rattle.sot_shift.specs.Answers.{Answered}
+use Rattle.sot_trace.specs.Traces.{trace_text}
+use Rattle.sot_report.specs.Missions.{Mission}
+use Rattle.sot_workers.specs.Asked.{EachUnnamedStays}
+use Rattle.sot_commands.specs.Answers.{SpellsFor}
+
+-- a list of askings that is told afterwards was told before, and has grown at its end
+abbrev pub TellsOn : Option (List Asking) → Option (List Asking) → Type 0
+TellsOn before None = Unit {0}
+TellsOn before (Some after) = (first more : List Asking) × (before ≡ Some first) × (after ≡ first ++ more)
+
+module _ {C : Type 0} (told : C → Option (List Asking)) where
+  -- each guest that tells its list tells it on
+  abbrev pub GuestsGoOn : List C → List C → Type 0
+  GuestsGoOn before after = (i : ℕ) (was now : C) → At before i was → At after i now → TellsOn (told was) (told now)
+
+  -- the guests flew this flight, and this text is the trace of its history: each guest that the flight names, where it still tells its list, was asked once a firing of its node, in the history's order, and each asking fits its firing; the others are as they were
+  pub record GuestsFlew (t : Tables) (jitter : ℕ) (f : Plan) (text : List ℕ) (before after : List C) : Type 0 where
+    pub history : List Logged
+    pub flown : FlownBy t jitter f history
+    pub text_is : text ≡ trace_text t f.start history
+    pub answered : (n i : ℕ) (was now : C) → At f.crews n (Guest i) → At before i was → At after i now → Answered t jitter f n history (told was) (told now)
+    pub unnamed : EachUnnamedStays f before after
+
+  -- the bytes spell a mission with a flight for so many guests, and these flew it
+  pub record Flew (guests : ℕ) (bytes text : List ℕ) (before after : List C) : Type 0 where
+    pub mission : Mission
+    pub spelled : SpellsFor needs.Fly guests bytes mission
+    pub plan : Plan
+    pub flight : mission.flight ≡ Some plan
+    pub flew : GuestsFlew mission.tables mission.cert.jitter plan text before after
+
+  -- the same of all that a source had left
+  abbrev pub FlewAll : ℕ → Option (List ℕ) → Option (List ℕ) → List ℕ → List C → List C → Type 0
+  FlewAll guests left left_after text before after = (bytes : List ℕ) × ReadsAll left left_after bytes × Flew guests bytes text before after
+
+  -- and what was written is the trace
+  abbrev pub FlewAndWrote : ℕ → Option (List ℕ) → Option (List ℕ) → Option (List ℕ) → Option (List ℕ) → List C → List C → Type 0
+  FlewAndWrote guests left left_after held held_after before after =
+      (text : List ℕ) × Appends held held_after text × FlewAll guests left left_after text before after

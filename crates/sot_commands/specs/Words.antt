@@ -1,0 +1,79 @@
+-- Which words ask for which command.
+use Rattle.std.specs.Prelude.{◌≡◌, ℕ, ◌≤◌, List, [], ◌∷◌, codes, map, String}
+use Rattle.std.specs.Fmt.{decimal}
+use Rattle.std.specs.String.{string_bytes}
+use Rattle.std.proofs.Common.{Global}
+use Rattle.sot_commands.specs.declared.words.Command.{Command}
+use Rattle.sot_commands.specs.declared.words.Command.TheVariants.{Check, Fly, Replay, Format, Certify, Make, Soak}
+
+-- the word of a command
+abbrev pub word_of : Command → List ℕ
+word_of Check = codes "check"
+word_of Fly = codes "fly"
+word_of Replay = codes "replay"
+word_of Format = codes "format"
+word_of Certify = codes "certify"
+word_of (Make n seed) = codes "make"
+word_of (Soak n seed) = codes "soak"
+
+-- the numbers behind it
+abbrev pub numbers_of : Command → List ℕ
+numbers_of Check = []
+numbers_of Fly = []
+numbers_of Replay = []
+numbers_of Format = []
+numbers_of Certify = []
+numbers_of (Make n seed) = n ∷ seed ∷ []
+numbers_of (Soak n seed) = n ∷ seed ∷ []
+
+-- 1 to 100 modules, and a seed of at most 10^12
+abbrev pub AreAsked : ℕ → ℕ → Type 0
+AreAsked n seed = (1 ≤ n) × (n ≤ 100) × (seed ≤ 1000000000000)
+
+abbrev pub IsInForm : Command → Type 0
+IsInForm Check = Unit {0}
+IsInForm Fly = Unit {0}
+IsInForm Replay = Unit {0}
+IsInForm Format = Unit {0}
+IsInForm Certify = Unit {0}
+IsInForm (Make n seed) = AreAsked n seed
+IsInForm (Soak n seed) = AreAsked n seed
+
+-- the words ask for this command: they are its word, and behind it its numbers in decimal, without zeros in front
+abbrev pub Asks : List (String Global) → Command → Type 0
+Asks words command = (map string_bytes words ≡ word_of command ∷ map decimal (numbers_of command)) × IsInForm command
+
+-- the commands that read an input
+abbrev pub Reads : Command → Type 0
+Reads Check = Unit {0}
+Reads Fly = Unit {0}
+Reads Replay = Unit {0}
+Reads Format = Unit {0}
+Reads Certify = Unit {0}
+Reads (Make n seed) = ⊥
+Reads (Soak n seed) = ⊥
+
+-- the words ask for a command that reads, or for none that does
+abbrev pub AsksReader : List (String Global) → Type 0
+AsksReader words = (command : Command) × Reads command × Asks words command
+
+abbrev pub AsksNoReader : List (String Global) → Type 0
+AsksNoReader words = (command : Command) → Reads command → ¬ (Asks words command)
+
+-- they ask for no command
+abbrev pub AsksNone : List (String Global) → Type 0
+AsksNone words = (command : Command) → ¬ (Asks words command)
+
+-- behind the first word stand these two numbers, and no more words
+abbrev pub HasNumbers : List (String Global) → ℕ → ℕ → Type 0
+HasNumbers words n seed = (name : List ℕ) × (map string_bytes words ≡ name ∷ decimal n ∷ decimal seed ∷ []) × AreAsked n seed
+
+-- behind the first word stand the numbers of this command, if it has numbers
+abbrev pub IsNumbered : List (String Global) → Command → Type 0
+IsNumbered words Check = Unit {0}
+IsNumbered words Fly = Unit {0}
+IsNumbered words Replay = Unit {0}
+IsNumbered words Format = Unit {0}
+IsNumbered words Certify = Unit {0}
+IsNumbered words (Make n seed) = HasNumbers words n seed
+IsNumbered words (Soak n seed) = HasNumbers words n seed

@@ -1,0 +1,201 @@
+//! Answers: a status with the text that is written with it.
+
+ghost use Rattle.std.specs.Prelude.{◌≡◌, ℕ, [], IfOk};
+ghost use Rattle.std.specs.String.{string_bytes};
+ghost use Rattle.sot_tree.specs.TreeViews.{program_view};
+ghost use Rattle.sot_lang.specs.CertRules.{FitsTables};
+ghost use Rattle.sot_print.specs.Canonical.{canonical};
+ghost use Rattle.sot_rta.specs.Refused.{refusal_view};
+ghost use Rattle.sot_world.specs.Opens.{IsFirstOutside};
+ghost use Rattle.sot_flight.specs.Fits.{FitsFlight};
+ghost use Rattle.sot_commands.specs.ReplayTexts.{legal_text, kind_word, refused_line_text};
+ghost use Rattle.sot_commands.specs.Answers.{IsOutsideOf, Replies};
+ghost use Rattle.sot_commands.specs.Steps.{told_text};
+ghost use Rattle.sot_commands.specs.Words.{AreAsked};
+ghost use Rattle.sot_commands.specs.declared.words.Command.TheVariants.{Make as MakeCommand};
+ghost use Rattle.sot_report.specs.FaultTexts.{fault_text};
+ghost use Rattle.sot_report.specs.RefusalTexts.{refusal_text};
+ghost use Rattle.sot_report.specs.AcceptedTexts.{accepted_text};
+ghost use Rattle.sot_certified_text.specs.FailTexts.{fail_text};
+
+use crate::telling::Telling;
+use sot_board::Board;
+use sot_certify::CertifyFail;
+use sot_flight::Flight;
+use sot_lang::{Cert, Typed};
+use sot_maker::make;
+use sot_print::print;
+use sot_replay::LineKind;
+use sot_report::{Fault, start_text};
+use sot_rta::Refusal;
+use sot_summary::{board_summary, summary_text};
+use sot_trace::board_text;
+use sot_tree::Program;
+use std::alloc::{AllocError, Global};
+
+/// A status, and the text that is written with it.
+#[derive(Drop)]
+pub struct Answer {
+    pub status: u8,
+    pub text: Vec<u8>,
+}
+
+/// A text that is always the same.
+pub fn fixed(alloc: Global, status: u8, text: &str) -> Result<Answer, AllocError>
+    ensures status { IfOk result (λ answer. answer.status ≡ status) }
+    ensures text { IfOk result (λ answer. answer.text.items ≡ text.now) }
+{
+    Ok(Answer {
+        status,
+        text: Vec::from_slice(alloc, text.as_bytes())?,
+    })
+}
+
+/// Status 0: the canonical text of a program.
+pub fn canonical(alloc: Global, program: &Program) -> Result<Answer, AllocError>
+    ensures status { IfOk result (λ answer. answer.status ≡ 0) }
+    ensures text { IfOk result (λ answer. answer.text.items ≡ canonical (program_view program.now)) }
+{
+    let text = print(alloc, program)?;
+    Ok(Answer {
+        status: 0,
+        text: text.into_bytes(),
+    })
+}
+
+/// Status 0: the mission that is made from two numbers.
+pub fn made(alloc: Global, n: u32, seed: u64) -> Result<Answer, AllocError>
+    requires { AreAsked n seed }
+    ensures { (guests : ℕ) → IfOk result (λ answer. Replies guests (MakeCommand n seed) [] answer.status answer.text.items) }
+{
+    let text = make(alloc, n, seed)?;
+    Ok(Answer {
+        status: 0,
+        text: text.into_bytes(),
+    })
+}
+
+/// Status 0: `accepted`, and a line of counts.
+pub fn accepted(alloc: Global, program: &Typed, cert: &Cert) -> Result<Answer, AllocError>
+    requires { FitsTables program.now cert.now }
+    ensures status { IfOk result (λ answer. answer.status ≡ 0) }
+    ensures text { IfOk result (λ answer. answer.text.items ≡ accepted_text program.now cert.now) }
+{
+    let text = sot_report::accepted_text(alloc, program, cert)?;
+    Ok(Answer {
+        status: 0,
+        text: text.into_bytes(),
+    })
+}
+
+/// Status 1: the line of a refusal.
+pub fn refused(alloc: Global, program: &Typed, refusal: &Refusal) -> Result<Answer, AllocError>
+    ensures status { IfOk result (λ answer. answer.status ≡ 1) }
+    ensures text { IfOk result (λ answer. answer.text.items ≡ refusal_text program.now (refusal_view refusal.now)) }
+{
+    let text = sot_report::refusal_text(alloc, program, refusal)?;
+    Ok(Answer { status: 1, text })
+}
+
+// The trace or the summary of what was flown.
+fn told_text(alloc: Global, telling: Telling, board: &Board<'_>) -> Result<String, AllocError>
+    ensures { IfOk result (λ text. string_bytes text ≡ told_text telling board.now.accepted.program board.now.plan board.now.entries) }
+{
+    match telling {
+        Telling::Trace => board_text(alloc, board),
+        Telling::Summed => summary_text(alloc, &board_summary(board)),
+    }
+}
+
+/// Status 0: what is told of what was flown.
+pub fn told(alloc: Global, telling: Telling, board: &Board<'_>) -> Result<Answer, AllocError>
+    ensures status { IfOk result (λ answer. answer.status ≡ 0) }
+    ensures text { IfOk result (λ answer. answer.text.items ≡ told_text telling board.now.accepted.program board.now.plan board.now.entries) }
+{
+    let text = told_text(alloc, telling, board)?;
+    Ok(Answer {
+        status: 0,
+        text: text.into_bytes(),
+    })
+}
+
+/// Status 1: the line of a flight whose start is refused, since the plant of this module starts outside the module's safer region.
+pub fn outside(
+    alloc: Global,
+    program: &Typed,
+    flight: &Flight,
+    module: u32,
+) -> Result<Answer, AllocError>
+    requires fits { (guests : ℕ) × FitsFlight program.now guests flight.now }
+    requires first { IsFirstOutside program.now flight.now.start «module» }
+    ensures status { IfOk result (λ answer. answer.status ≡ 1) }
+    ensures text { IfOk result (λ answer. IsOutsideOf program.now flight.now answer.text.items) }
+{
+    let plant = program.modules[module as usize].plant;
+    let text = start_text(alloc, program, module, &flight.start()[plant as usize])?;
+    Ok(Answer { status: 1, text })
+}
+
+/// Status 0: `legal events E`.
+pub fn legal(alloc: Global, events: u32) -> Result<Answer, AllocError>
+    ensures status { IfOk result (λ answer. answer.status ≡ 0) }
+    ensures text { IfOk result (λ answer. answer.text.items ≡ legal_text events) }
+{
+    let text = format!(in alloc; "legal events {events}\n")?;
+    Ok(Answer {
+        status: 0,
+        text: text.into_bytes(),
+    })
+}
+
+fn kind_word(kind: LineKind) -> &'static str
+    ensures { result.now ≡ kind_word kind }
+{
+    match kind {
+        LineKind::NotALine => "NotALine",
+        LineKind::WrongTime => "WrongTime",
+        LineKind::NotDue => "NotDue",
+        LineKind::AlreadyFired => "AlreadyFired",
+        LineKind::NodesLeft => "NodesLeft",
+        LineKind::OutsideType => "OutsideType",
+        LineKind::InputsLeft => "InputsLeft",
+        LineKind::TooFar => "TooFar",
+        LineKind::Differs => "Differs",
+        LineKind::Ended => "Ended",
+        LineKind::Missing => "Missing",
+    }
+}
+
+/// Status 1: the line of a trace that is refused at a line.
+pub fn refused_line(alloc: Global, line: u32, kind: LineKind) -> Result<Answer, AllocError>
+    ensures status { IfOk result (λ answer. answer.status ≡ 1) }
+    ensures text { IfOk result (λ answer. answer.text.items ≡ refused_line_text line kind) }
+{
+    let word = kind_word(kind);
+    let text = format!(in alloc; "refused replay line {line} {word}\n")?;
+    Ok(Answer {
+        status: 1,
+        text: text.into_bytes(),
+    })
+}
+
+/// Status 1: the line that says why there is no certificate.
+pub fn uncertified(alloc: Global, tables: &Typed, fail: &CertifyFail) -> Result<Answer, AllocError>
+    ensures status { IfOk result (λ answer. answer.status ≡ 1) }
+    ensures text { IfOk result (λ answer. answer.text.items ≡ fail_text tables.now fail.now) }
+{
+    let text = sot_certified_text::fail_text(alloc, tables, fail)?;
+    Ok(Answer { status: 1, text })
+}
+
+/// Status 3: the line of a fault.
+pub fn faulty(alloc: Global, fault: &Fault) -> Result<Answer, AllocError>
+    ensures status { IfOk result (λ answer. answer.status ≡ 3) }
+    ensures text { IfOk result (λ answer. answer.text.items ≡ fault_text fault.now) }
+{
+    let text = sot_report::fault_text(alloc, fault)?;
+    Ok(Answer {
+        status: 3,
+        text: text.into_bytes(),
+    })
+}

@@ -1,0 +1,23 @@
+//! Laws on what is said. Each of these functions does nothing, and its contract is the law.
+
+ghost use Rattle.sot_commands.specs.Laws.{AcceptedOnce, RefusedOnce, LinesRefusedOnce, RejectedOnce};
+
+/// What is accepted is told with one text, but for the commands that fly.
+pub fn accepted_once()
+    ensures { AcceptedOnce }
+{}
+
+/// Bytes are refused with one text: one condition with one evidence, one start, one reason why there is no certificate.
+pub fn refused_once()
+    ensures { RefusedOnce }
+{}
+
+/// The lines of a trace are refused at one line, by one test.
+pub fn lines_refused_once()
+    ensures { LinesRefusedOnce }
+{}
+
+/// The first fault of bytes is told with one text, but for what nests too deep.
+pub fn rejected_once()
+    ensures { RejectedOnce }
+{}

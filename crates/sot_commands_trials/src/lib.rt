@@ -1,0 +1,5 @@
+//! Tests of the commands: what the top call answers, over sources and sinks in memory.
+#![tactic(auto)]
+
+#[cfg(test)]
+mod tests;
