@@ -1,6 +1,9 @@
 //! Laws on what is said. Each of these functions does nothing, and its contract is the law.
 
 ghost use Rattle.sot_commands.specs.Laws.{AcceptedOnce, RefusedOnce, LinesRefusedOnce, RejectedOnce};
+ghost use Rattle.sot_commands.specs.GuestLaws.{FlewOnce, NamedAreAsked, OthersStay};
+
+use sot_shift::Controller;
 
 /// What is accepted is told with one text, but for the commands that fly.
 pub fn accepted_once()
@@ -20,4 +23,19 @@ pub fn lines_refused_once()
 /// The first fault of bytes is told with one text, but for what nests too deep.
 pub fn rejected_once()
     ensures { RejectedOnce }
+{}
+
+/// Whoever tells of the guests of one written trace tells of one history.
+pub fn flew_once<C: Controller>()
+    ensures { FlewOnce C.told }
+{}
+
+/// A guest that flies a node, where it tells its list, was asked as often as the node fired in the history that was written.
+pub fn named_are_asked<C: Controller>()
+    ensures { NamedAreAsked C.told }
+{}
+
+/// In a flight that names no guest each of them stays as it was.
+pub fn others_stay<C: Controller>()
+    ensures { OthersStay C.told }
 {}
