@@ -3,14 +3,14 @@ use super::*;
 
 // The states that a trace has behind its ticks: how many, whether all are from -40 to 40, and their sum.
 #[derive(Debug, Drop, PartialEq, Eq)]
-struct States {
+struct Printed {
     count: u32,
     safe: bool,
     sum: i64,
 }
 
-fn states(trace: &str) -> States {
-    let mut found = States {
+fn states(trace: &str) -> Printed {
+    let mut found = Printed {
         count: 0,
         safe: true,
         sum: 0,
@@ -18,7 +18,7 @@ fn states(trace: &str) -> States {
     for line in trace.lines() {
         if let Some((_, state)) = line.split_once(")=") {
             let state = state.parse::<i64>().unwrap_or(i64::MAX);
-            found = States {
+            found = Printed {
                 count: found.count.wrapping_add(1),
                 safe: found.safe && -40 <= state && state <= 40,
                 sum: found.sum.wrapping_add(state),
@@ -43,7 +43,7 @@ fn a_thousand_ticks_stay_inside(rt: HostRuntime) -> Result<(), Fail> {
         assert!(rt; guests.len() == 1);
         let (status, trace) = answered(&rt, alloc, "fly", mission.as_str(), &mut guests)?;
         assert_eq!(rt; status, 0);
-        let wanted = States {
+        let wanted = Printed {
             count: 1_000,
             safe: true,
             sum,

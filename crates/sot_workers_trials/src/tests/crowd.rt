@@ -16,30 +16,30 @@ const HORIZON: u32 = 2;
 const FLIGHTS: usize = 100;
 
 // Who drafts for a node.
-enum Pilot {
+enum Drafter {
     Guest(u32),
     Code,
     Script,
 }
 
 // Of each fifteen nodes the first has a guest, the next seven their code, and the others a script.
-fn pilot(node: u32) -> Pilot {
+fn drafter_of(node: u32) -> Drafter {
     match node % 15 {
-        0 => Pilot::Guest(node / 15),
-        1..=7 => Pilot::Code,
-        _ => Pilot::Script,
+        0 => Drafter::Guest(node / 15),
+        1..=7 => Drafter::Code,
+        _ => Drafter::Script,
     }
 }
 
 // A node that is due at each time, with the topic that it writes. Its code counts its firings.
 fn declare(text: &mut String, node: u32) -> Result<(), Fail> {
     write!(text, "topic t{node}: int[0..999] = 0;\n")?;
-    match pilot(node) {
-        Pilot::Code => write!(
+    match drafter_of(node) {
+        Drafter::Code => write!(
             text,
             "node n{node} period 1 offset 0 {{ writes t{node}; local n: int[0..999] = 0; do {{ n := min(n + 1, 999); publish t{node} = n; }} }}\n"
         )?,
-        Pilot::Guest(_) | Pilot::Script => write!(
+        Drafter::Guest(_) | Drafter::Script => write!(
             text,
             "external n{node} period 1 offset 0 {{ writes t{node}; }}\n"
         )?,
@@ -50,13 +50,13 @@ fn declare(text: &mut String, node: u32) -> Result<(), Fail> {
 // Who drafts for a node, in a flight. The script of a node has its number, and then 0.
 fn hire(text: &mut String, node: u32) -> Result<(), Fail> {
     let comma = if node == 0 { "" } else { "," };
-    match pilot(node) {
-        Pilot::Code => {}
-        Pilot::Guest(index) => write!(
+    match drafter_of(node) {
+        Drafter::Code => {}
+        Drafter::Guest(index) => write!(
             text,
             "{comma}\"n{node}\":{{\"kind\":\"guest\",\"index\":{index}}}"
         )?,
-        Pilot::Script => write!(
+        Drafter::Script => write!(
             text,
             "{comma}\"n{node}\":{{\"kind\":\"script\",\"drafts\":[[{node}],[0]]}}"
         )?,
@@ -81,20 +81,23 @@ fn crowd(alloc: Global) -> Result<String, Fail> {
 }
 
 // What a node drafts in a firing, from 0 on. Each guest drafts a thousand less its number.
-fn drafted(node: u32, firing: usize) -> i64 {
-    match pilot(node) {
-        Pilot::Guest(index) => 1000 - i64::from(index),
-        Pilot::Code => firing as i64 + 1,
-        Pilot::Script => { if firing == 0 { i64::from(node) } else { 0 } }
+fn drafted(node: u32, firing: u32) -> i64 {
+    match drafter_of(node) {
+        Drafter::Guest(index) => 1000 - i64::from(index),
+        Drafter::Code => i64::from(firing) + 1,
+        Drafter::Script => { if firing == 0 { i64::from(node) } else { 0 } }
     }
 }
 
 // Whether a list has the drafts of all firings of a node.
 fn is_whole(list: &NodeList, node: u32) -> bool {
     let drafts = list.drafts.as_slice();
-    let mut whole = list.node == node && drafts.len() == HORIZON as usize + 1;
-    for firing in 0..drafts.len() {
-        if drafts[firing].get(0) != Some(drafted(node, firing)) {
+    if list.node != node || drafts.len() != HORIZON as usize + 1 {
+        return false;
+    }
+    let mut whole = true;
+    for firing in 0..HORIZON + 1 {
+        if drafts[firing as usize].get(0) != Some(drafted(node, firing)) {
             whole = false;
         }
     }
@@ -105,9 +108,12 @@ fn is_whole(list: &NodeList, node: u32) -> bool {
 fn is_flown(flown: &Flown<'_>) -> bool {
     let lists = flown.lists.as_slice();
     let events = NODES * (HORIZON + 1) + HORIZON;
-    let mut whole = lists.len() == NODES as usize && flown.board.history().len() == events as usize;
-    for node in 0..lists.len() {
-        if !is_whole(&lists[node], node as u32) {
+    if lists.len() != NODES as usize || flown.board.history().len() != events as usize {
+        return false;
+    }
+    let mut whole = true;
+    for node in 0..NODES {
+        if !is_whole(&lists[node as usize], node) {
             whole = false;
         }
     }
