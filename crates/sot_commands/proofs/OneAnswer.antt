@@ -54,7 +54,7 @@ module _ (need : Need) (guests : ℕ) (bytes : List ℕ) (m n : Mission) (x : Sp
       is ∙ refusal_text_same m.tables n.tables looks r ∙ ap (refusal_text n.tables) one ∙ sym is'
 
   -- have one flight
-  flight_same : (f g : Plan) → m.flight ≡ Some f → n.flight ≡ Some g → f ≡ g
+  pub flight_same : (f g : Plan) → m.flight ≡ Some f → n.flight ≡ Some g → f ≡ g
   flight_same f g is is' =
       same_flown guests m.tables n.tables x.parts.flight f g m.flight n.flight looks is is' x.flown (subst (λ (q : Parts). SaysFlight n.tables guests q.flight n.flight) (sym (sections need guests bytes m n x y)) y.flown)
 

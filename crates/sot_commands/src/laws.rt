@@ -1,13 +1,17 @@
 //! Laws on what is said. Each of these functions does nothing, and its contract is the law.
 
 ghost use Rattle.sot_commands.specs.Laws.{AcceptedOnce, RefusedOnce, LinesRefusedOnce, RejectedOnce};
+ghost use Rattle.sot_commands.specs.GuestLaws.{FlewOnce, NamedAreAsked, OthersStay};
+
+use sot_shift::Controller;
 
 /// What is accepted is told with one text, but for the commands that fly.
 pub fn accepted_once()
     ensures { AcceptedOnce }
 {}
 
-/// Bytes are refused with one text: one condition with one evidence, one start, one reason why there is no certificate.
+/// Bytes are refused with one text, but for the lines of a trace: one condition with one evidence, one start, one reason why there is no
+/// certificate.
 pub fn refused_once()
     ensures { RefusedOnce }
 {}
@@ -17,7 +21,22 @@ pub fn lines_refused_once()
     ensures { LinesRefusedOnce }
 {}
 
-/// The first fault of bytes is told with one text, but for what nests too deep.
+/// The first fault of bytes is told with one text, but for what nests too deep, and for the line and column of a fault of typing.
 pub fn rejected_once()
     ensures { RejectedOnce }
+{}
+
+/// Whoever tells of the guests of one written trace tells of one history.
+pub fn flew_once<C: Controller>()
+    ensures { FlewOnce C.told }
+{}
+
+/// A guest that flies a node, where it tells its list, has answered the node's firings in the history that was written.
+pub fn named_are_asked<C: Controller>()
+    ensures { NamedAreAsked C.told }
+{}
+
+/// A guest that no node of the flight names stays as it was.
+pub fn others_stay<C: Controller>()
+    ensures { OthersStay C.told }
 {}

@@ -11,6 +11,7 @@
 mod answer;
 mod certify;
 mod check;
+mod facts;
 mod fly;
 mod laws;
 mod replay;
@@ -19,6 +20,10 @@ mod telling;
 mod top;
 mod words;
 
-pub use laws::{accepted_once, lines_refused_once, refused_once, rejected_once};
+pub use facts::lists_are_told_on_as_stated;
+pub use laws::{
+    accepted_once, flew_once, lines_refused_once, named_are_asked, others_stay, refused_once,
+    rejected_once,
+};
 pub use top::{Status, soter};
 pub use words::{Command, WordFail, command_of};
