@@ -116,7 +116,7 @@ fn what_guests_draft_is_written_and_kept(rt: HostRuntime) -> Result<(), Fail> {
         let (status, text) = answered(&rt, alloc, "fly", mission.as_str(), &mut guests)?;
         assert_eq!(rt; text.as_str(), said);
         assert_eq!(rt; status, 0);
-        assert!(rt; keeps(&guests[0], number, seen), "{said}");
+        assert!(rt; keeps(&guests[0], number, seen));
     }
     Ok(())
 }
