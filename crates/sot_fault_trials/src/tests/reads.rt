@@ -5,11 +5,6 @@ ghost use Rattle.std.specs.Prelude.{◌<◌};
 use super::*;
 use std::process::Abort;
 
-// Of reads with these numbers all up to the 64th are tried, and then every 16th and the last.
-fn is_tried(number: u32, last: u32) -> bool {
-    number <= 64 || number % 16 == 0 || number == last
-}
-
 // Each read fails in turn, that which finds the end as well; and one after it, which never comes.
 fn reads_fail(
     rt: &(impl Abort + Threads + Wait + Sync),
@@ -25,23 +20,16 @@ fn reads_fail(
         last = last.saturating_add(1);
     }
     for number in 1..last.saturating_add(1) {
-        if is_tried(number, last) {
-            let (status, held) = ended(
-                rt,
-                alloc,
-                case,
-                piece,
-                Failing {
-                    read: number,
-                    write: 0,
-                },
-            )?;
-            assert_eq!(rt; status, 4, "{word}, read {number} in pieces of {piece}");
-            assert!(rt;
-                held.is_empty(),
-                "{word}, read {number} in pieces of {piece}"
-            );
-        }
+        let failing = Failing {
+            read: number,
+            write: 0,
+        };
+        let (status, held) = ended(rt, alloc, case, piece, failing)?;
+        assert_eq!(rt; status, 4, "{word}, read {number} in pieces of {piece}");
+        assert!(rt;
+            held.is_empty(),
+            "{word}, read {number} in pieces of {piece}"
+        );
     }
     let past = Failing {
         read: last.saturating_add(1),
