@@ -1,10 +1,10 @@
 -- Laws on what becomes of guests.
-use Rattle.std.specs.Prelude.{◌≡◌, ℕ, List, ◌++◌, length, Option, Some}
+use Rattle.std.specs.Prelude.{◌≡◌, ℕ, List, Option, Some}
 use Rattle.sot_lists.specs.Places.{At}
 use Rattle.sot_flight.specs.Plans.{Guest}
-use Rattle.sot_board.specs.Versions.{drafts_of}
 use Rattle.sot_shift.specs.Askings.{Asking}
-use Rattle.sot_workers.specs.Flying.{HasNoGuests}
+use Rattle.sot_shift.specs.Answers.{HasAnswered}
+use Rattle.sot_workers.specs.Flying.{IsUnnamed}
 use Rattle.sot_commands.specs.Guests.{Flew}
 
 module _ {C : Type 0} (told : C → Option (List Asking)) where
@@ -12,13 +12,13 @@ module _ {C : Type 0} (told : C → Option (List Asking)) where
   abbrev pub FlewOnce : Type 0
   FlewOnce = (guests : ℕ) (bytes text : List ℕ) (before after other_before other_after : List C) (x : Flew told guests bytes text before after) (y : Flew told guests bytes text other_before other_after) → (x.plan ≡ y.plan) × (x.flew.history ≡ y.flew.history)
 
-  -- a guest that flies a node, where it tells its list, was asked as often as the node fired in the history that was written
+  -- a guest that flies a node, where it tells its list, has answered the firings of the node in the history that was written
   abbrev pub NamedAreAsked : Type 0
   NamedAreAsked =
       (guests : ℕ) (bytes text : List ℕ) (before after : List C) (x : Flew told guests bytes text before after) (n i : ℕ) (was now : C) (list : List Asking)
       → At x.plan.crews n (Guest i) → At before i was → At after i now → told now ≡ Some list
-      → (first more : List Asking) × (told was ≡ Some first) × (list ≡ first ++ more) × (length more ≡ length (drafts_of n x.flew.history))
+      → HasAnswered x.mission.tables x.mission.cert.jitter x.plan n x.flew.history (told was) list
 
-  -- in a flight that names no guest each stays as it was
+  -- one that no node of this flight names is as it was
   abbrev pub OthersStay : Type 0
-  OthersStay = (guests : ℕ) (bytes text : List ℕ) (before after : List C) (x : Flew told guests bytes text before after) (i : ℕ) (was now : C) → HasNoGuests x.plan → At before i was → At after i now → now ≡ was
+  OthersStay = (guests : ℕ) (bytes text : List ℕ) (before after : List C) (x : Flew told guests bytes text before after) (i : ℕ) (was now : C) → IsUnnamed x.plan i → At before i was → At after i now → now ≡ was

@@ -1,6 +1,6 @@
 //! `fly`: the trace of a mission's flight. `soak` does the same on a text that is made, and tells the flight's summary.
 
-ghost use Rattle.std.specs.Prelude.{◌≡◌, ◌<◌, ◌≤◌, ◌^◌, length, vec_len, IfOk};
+ghost use Rattle.std.specs.Prelude.{◌≡◌, ◌≢◌, ◌<◌, ◌≤◌, ◌^◌, length, vec_len, IfOk};
 ghost use Rattle.sot_lang.specs.CertRules.{FitsTables};
 ghost use Rattle.sot_flight.specs.Fits.{FitsFlight};
 ghost use Rattle.sot_commands.specs.Answers.{input_limit};
@@ -37,6 +37,7 @@ fn fly_accepted<C: Controller + Send, R: Threads + Wait + Sync>(
     ensures judges { IfOk result (λ answer. JudgesFlight telling accepted.now.program accepted.now.cert.jitter flight.now answer.status answer.text.items) }
     ensures count { vec_len guests.new ≡ vec_len guests.old }
     ensures go_on { GuestsGoOn C.told guests.old.items guests.new.items }
+    ensures unasked { IfOk result (λ answer. answer.status ≢ 0 → guests.new ≡ guests.old) }
     ensures flew { IfOk result (λ answer. answer.status ≡ 0 → telling ≡ Trace → GuestsFlew C.told accepted.now.program accepted.now.cert.jitter flight.now answer.text.items guests.old.items guests.new.items) }
 {
     match Board::open(alloc, accepted, flight) {
@@ -64,6 +65,7 @@ fn judge<C: Controller + Send, R: Threads + Wait + Sync>(
     ensures judges { IfOk result (λ answer. JudgesFlown telling program.now cert.now flight.now answer.status answer.text.items) }
     ensures count { vec_len guests.new ≡ vec_len guests.old }
     ensures go_on { GuestsGoOn C.told guests.old.items guests.new.items }
+    ensures unasked { IfOk result (λ answer. answer.status ≢ 0 → guests.new ≡ guests.old) }
     ensures flew { IfOk result (λ answer. answer.status ≡ 0 → telling ≡ Trace → GuestsFlew C.told program.now cert.now.jitter flight.now answer.text.items guests.old.items guests.new.items) }
 {
     match check_all(rt, program, cert) {
@@ -87,6 +89,7 @@ pub fn fly<C: Controller + Send, R: Threads + Wait + Sync>(
     ensures flies { IfOk result (λ answer. FliesBytes (vec_len guests.old) telling bytes.now answer.status answer.text.items) }
     ensures count { vec_len guests.new ≡ vec_len guests.old }
     ensures go_on { GuestsGoOn C.told guests.old.items guests.new.items }
+    ensures unasked { IfOk result (λ answer. answer.status ≢ 0 → guests.new ≡ guests.old) }
     ensures flew { IfOk result (λ answer. answer.status ≡ 0 → telling ≡ Trace → Flew C.told (vec_len guests.old) bytes.now answer.text.items guests.old.items guests.new.items) }
 {
     match load(alloc, bytes, Need::Fly, guests.len() as u32) {

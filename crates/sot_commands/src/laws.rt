@@ -10,7 +10,8 @@ pub fn accepted_once()
     ensures { AcceptedOnce }
 {}
 
-/// Bytes are refused with one text: one condition with one evidence, one start, one reason why there is no certificate.
+/// Bytes are refused with one text, but for the lines of a trace: one condition with one evidence, one start, one reason why there is no
+/// certificate.
 pub fn refused_once()
     ensures { RefusedOnce }
 {}
@@ -20,7 +21,7 @@ pub fn lines_refused_once()
     ensures { LinesRefusedOnce }
 {}
 
-/// The first fault of bytes is told with one text, but for what nests too deep.
+/// The first fault of bytes is told with one text, but for what nests too deep, and for the line and column of a fault of typing.
 pub fn rejected_once()
     ensures { RejectedOnce }
 {}
@@ -30,12 +31,12 @@ pub fn flew_once<C: Controller>()
     ensures { FlewOnce C.told }
 {}
 
-/// A guest that flies a node, where it tells its list, was asked as often as the node fired in the history that was written.
+/// A guest that flies a node, where it tells its list, has answered the node's firings in the history that was written.
 pub fn named_are_asked<C: Controller>()
     ensures { NamedAreAsked C.told }
 {}
 
-/// In a flight that names no guest each of them stays as it was.
+/// A guest that no node of the flight names stays as it was.
 pub fn others_stay<C: Controller>()
     ensures { OthersStay C.told }
 {}

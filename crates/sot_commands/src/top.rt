@@ -125,6 +125,8 @@ fn read_and_fly<C: Controller + Send, R: Threads + Wait + Sync, S: Source>(
     ensures no_more { ReadsUpTo (S.left source.old) (S.left source.new) (INPUT_LIMIT + 1) }
     ensures count { vec_len guests.new ≡ vec_len guests.old }
     ensures go_on { GuestsGoOn C.told guests.old.items guests.new.items }
+    ensures unasked { IfOk result (λ answer. answer.status ≢ 0 → guests.new ≡ guests.old) }
+    ensures untold { IfErr result (λ status. status.0 ≢ 6 → guests.new ≡ guests.old) }
     ensures flew { IfOk result (λ answer. answer.status ≡ 0 → FlewAll C.told (vec_len guests.old) (S.left source.old) (S.left source.new) answer.text.items guests.old.items guests.new.items) }
 {
     match read_all(alloc, source, INPUT_LIMIT) {
@@ -155,6 +157,8 @@ fn perform<C: Controller + Send, R: Threads + Wait + Sync, S: Source>(
     ensures no_more { ReadsUpTo (S.left source.old) (S.left source.new) (INPUT_LIMIT + 1) }
     ensures count { vec_len guests.new ≡ vec_len guests.old }
     ensures go_on { GuestsGoOn C.told guests.old.items guests.new.items }
+    ensures unasked { IfOk result (λ answer. answer.status ≢ 0 → guests.new ≡ guests.old) }
+    ensures untold { IfErr result (λ status. status.0 ≢ 6 → guests.new ≡ guests.old) }
     ensures stay { command ≢ FlyCommand → guests.new ≡ guests.old }
     ensures flew { IfOk result (λ answer. answer.status ≡ 0 → command ≡ FlyCommand → FlewAll C.told (vec_len guests.old) (S.left source.old) (S.left source.new) answer.text.items guests.old.items guests.new.items) }
 {
@@ -185,6 +189,8 @@ fn answer<C: Controller + Send, R: Threads + Wait + Sync, S: Source>(
     ensures no_more { ReadsUpTo (S.left source.old) (S.left source.new) (INPUT_LIMIT + 1) }
     ensures count { vec_len guests.new ≡ vec_len guests.old }
     ensures go_on { GuestsGoOn C.told guests.old.items guests.new.items }
+    ensures unasked { IfOk result (λ answer. answer.status ≢ 0 → guests.new ≡ guests.old) }
+    ensures untold { IfErr result (λ status. status.0 ≢ 6 → guests.new ≡ guests.old) }
     ensures stay { ¬ (Asks words.now FlyCommand) → guests.new ≡ guests.old }
     ensures flew { IfOk result (λ answer. answer.status ≡ 0 → Asks words.now FlyCommand → FlewAll C.told (vec_len guests.old) (S.left source.old) (S.left source.new) answer.text.items guests.old.items guests.new.items) }
 {
@@ -243,6 +249,8 @@ pub fn soter<C: Controller + Send, R: Threads + Wait + Sync, S: Source, K: Sink>
     // There are as many guests as before, and where one told the list of its askings, the one in its place tells it on.
     ensures count { vec_len guests.new ≡ vec_len guests.old }
     ensures go_on { GuestsGoOn C.told guests.old.items guests.new.items }
+    // Where it ends with another status than 0 of a flight, no guest was asked, unless the trace was flown and not written, or memory ran out.
+    ensures unasked { result.0 ≢ 0 → result.0 ≢ 5 → result.0 ≢ 6 → guests.new ≡ guests.old }
     // Words that do not ask for a flight leave the guests as they were.
     ensures stay { ¬ (Asks words.now FlyCommand) → guests.new ≡ guests.old }
     // What was flown was asked of the guests, and it is the trace of this flight that was written.

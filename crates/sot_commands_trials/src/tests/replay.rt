@@ -98,3 +98,23 @@ fn tells_whether_a_trace_is_legal(rt: HostRuntime) -> Result<(), Fail> {
     }
     Ok(())
 }
+
+const FIVE_TICKS: &str =
+    "{\"crew\":{\"fast\":{\"drafts\":[[2]],\"kind\":\"script\"}},\"format\":1,\"horizon\":5,\"inputs\":[],\"start\":{\"pos\":[10]},\"sway\":{\"pos\":{\"kind\":\"high\"}}}
+";
+
+// In which order the nodes of an instant fire is left to `fly`; whichever it is, the trace is legal.
+#[test]
+fn finds_what_was_flown_legal(rt: HostRuntime) -> Result<(), Fail> {
+    let alloc = rt.alloc();
+    let mission = format!(in alloc; "{VEHICLE}{CELLS}{FIVE_TICKS}")?;
+    let (status, trace, _) = said(&rt, alloc, &["fly"], mission.as_bytes())?;
+    assert_eq!(rt; status, 0);
+    let mut flown = Vec::from_slice(alloc, mission.as_bytes())?;
+    flown.extend_from_slice(b"%trace\n")?;
+    flown.extend_from_slice(&trace)?;
+    let (status, answer, _) = said(&rt, alloc, &["replay"], &flown)?;
+    assert_eq!(rt; answer.as_slice(), b"legal events 12\n".as_slice());
+    assert_eq!(rt; status, 0);
+    Ok(())
+}

@@ -1,6 +1,5 @@
 //! Tests of the limits of programs, one below and one above each.
 
-use super::check::{MODULE, OWN_MODULE, mission};
 use super::*;
 use std::process::Abort;
 

@@ -2,39 +2,6 @@
 
 use super::*;
 
-const EMPTY: &str = "%certificate\n{\"format\":1,\"modules\":{}}\n";
-
-// Modules that share nothing, each with its number.
-pub const MODULE: &str = "plant p# { state x: int; next x = x; }
-external a# period 1 offset 0 { }
-node s# period 1 offset 0 { do { } }
-module m# { ac a#; sc s#; period 1 offset 0; plant p#; safe [0..1]; safer [0..1]; }
-";
-
-// The module of a plant q.
-pub const OWN_MODULE: &str = "external e period 1 offset 0 { }
-node s period 1 offset 0 { do { } }
-module m { ac e; sc s; period 1 offset 0; plant q; safe none; safer none; }
-";
-
-// Each piece so many times, with its number where it has a `#`, and an empty certificate.
-pub fn mission(alloc: Global, pieces: &[(u32, &str)]) -> Result<Vec<u8>, Fail> {
-    let mut text = Vec::new(alloc);
-    for (count, piece) in pieces {
-        for i in 0..*count {
-            for byte in piece.as_bytes() {
-                if *byte == b'#' {
-                    text.extend_from_slice(format!(in alloc; "{i}")?.as_bytes())?;
-                } else {
-                    text.push(*byte)?;
-                }
-            }
-        }
-    }
-    text.extend_from_slice(EMPTY.as_bytes())?;
-    Ok(text)
-}
-
 // A vehicle on a line: its topics, what its advanced node writes, its safe node's period, its safer region, and its certificate.
 fn vehicle(
     alloc: Global,

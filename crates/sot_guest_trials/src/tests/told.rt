@@ -1,0 +1,122 @@
+//! What is written of short flights, and what their guest was asked.
+use super::*;
+use sot_lang::Draft;
+
+// A number that is outside what may be published.
+const FAR: &str = "soter trace 1
+start pos 0
+0 decide nav ac
+0 tick pos(0)=0
+1 idle slow cmd=0
+1 tick pos(0)=0
+2 fire fast cmd!9223372036854775807
+2 tick pos(0)=0
+end 3 events 6 refused 1
+";
+
+// Nothing is drafted.
+const BLANK: &str = "soter trace 1
+start pos 0
+0 decide nav ac
+0 tick pos(0)=0
+1 idle slow cmd=0
+1 tick pos(0)=0
+2 fire fast
+2 tick pos(0)=0
+end 3 events 6 refused 0
+";
+
+// The module switches to the safe node at 22 and back at 6, with wind.
+const WINDY: &str = "soter trace 1
+start pos 10
+0 decide nav ac
+0 tick pos(-1)=9
+1 idle slow cmd=0
+1 tick pos(-1)=8
+2 fire fast cmd=2
+2 tick pos(1)=11
+3 tick pos(0)=13
+4 decide nav ac
+4 tick pos(0)=15
+5 idle slow cmd=-2
+5 tick pos(0)=17
+6 fire fast cmd=2
+6 tick pos(1)=20
+7 tick pos(-1)=21
+8 decide nav sc
+8 tick pos(-1)=22
+9 fire slow cmd=-2
+9 tick pos(1)=21
+10 idle fast cmd=2
+10 tick pos(-1)=18
+11 tick pos(0)=16
+12 decide nav sc
+12 tick pos(0)=14
+13 fire slow cmd=-2
+13 tick pos(0)=12
+14 idle fast cmd=2
+14 tick pos(-1)=9
+15 tick pos(-1)=6
+16 decide nav ac
+16 tick pos(-1)=3
+17 idle slow cmd=0
+17 tick pos(-1)=0
+18 fire fast cmd=2
+18 tick pos(1)=3
+19 tick pos(-1)=4
+20 decide nav ac
+end 20 events 36 refused 0
+";
+
+// The draft that has this number in its first slot.
+fn drafted(number: Option<i64>) -> Draft {
+    let mut draft = Draft::blank();
+    if let Some(number) = number {
+        draft.set(0, number);
+    }
+    draft
+}
+
+// Whether a guest that always drafts one number keeps as many askings as were seen, each at its time, with what was seen and drafted.
+fn keeps(guest: &Keeper, number: Option<i64>, seen: &[i64]) -> bool {
+    let kept = guest.kept.as_slice();
+    let mut same = !guest.lost && kept.len() == seen.len();
+    for i in 0..kept.len().min(seen.len()) {
+        let view = &kept[i].view;
+        let shown = view.node() == 0
+            && view.time() as usize == 4 * i + 2
+            && view.len() == 1
+            && view.value(0) == seen[i];
+        if !shown || kept[i].draft != drafted(number) {
+            same = false;
+        }
+    }
+    same
+}
+
+#[test]
+fn what_guests_draft_is_written_and_kept(rt: HostRuntime) -> Result<(), Fail> {
+    let alloc = rt.alloc();
+    for (number, start, horizon, sway, seen, said) in [
+        (
+            Some(9_223_372_036_854_775_807),
+            0,
+            3,
+            CALM,
+            [0].as_slice(),
+            FAR,
+        ),
+        (None, 0, 3, CALM, &[0], BLANK),
+        (Some(2), 10, 20, SEED, &[8, 17, 21, 12, 0], WINDY),
+    ] {
+        let mission = mission(alloc, start, horizon, sway)?;
+        let mut guests = Vec::new(alloc);
+        guests.push(Keeper::new(alloc, number, number))?;
+        assert!(rt; guests.len() == 1);
+        let (status, text) = answered(&rt, alloc, "fly", mission.as_str(), &mut guests)?;
+        assert_eq!(rt; text.as_str(), said);
+        assert_eq!(rt; status, 0);
+        assert!(rt; keeps(&guests[0], number, seen));
+    }
+    Ok(())
+}
