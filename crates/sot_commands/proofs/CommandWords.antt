@@ -1,6 +1,6 @@
 -- `clap` takes the word of a command: alone, or with two words behind it.
-use Rattle.std.proofs.Common.{◌≡◌, ℕ, List, [], ◌∷◌, ◌++◌, Bool, true, false, ◌||◌, inl, inr, Option, Some, None, refl, sym, ap, ◌∙◌, subst, codes, map, append_assoc, ◌==◌, arith, ◌≤◌, get_or, Global, ◌≢◌, ◌⊎◌, Result, Ok, Err}
-use Rattle.std.specs.Prelude.{option_map, find, fold, if◌then◌else◌, String, IfOk, IsOk, IsErrOf, Box}
+use Rattle.std.proofs.Common.{◌≡◌, ℕ, List, [], ◌∷◌, ◌++◌, Bool, true, false, ◌||◌, inl, inr, Option, Some, None, refl, sym, ap, ◌∙◌, subst, codes, map, append_assoc, ◌==◌, arith, get_or, Global, ◌≢◌, ◌⊎◌, Result, Ok, Err}
+use Rattle.std.specs.Prelude.{option_map, find, fold, if◌then◌else◌, String, IfOk, IsErrOf, Box}
 use Rattle.std.specs.List.{list_any}
 use Rattle.std.specs.Str.{bytes_eq}
 use Rattle.std.specs.String.{string_bytes}

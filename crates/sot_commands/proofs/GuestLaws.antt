@@ -1,5 +1,5 @@
 -- The law that a written trace is of one flight and one history, for whoever tells of its guests.
-use Rattle.std.proofs.Common.{ℕ, List, Option, sym, ◌∙◌}
+use Rattle.std.proofs.Common.{List, Option, sym, ◌∙◌}
 use Rattle.sot_text.specs.declared.mission.Need.TheVariants as needs
 use Rattle.sot_told.proofs.OneHistory.{one_history}
 use Rattle.sot_shift.specs.Askings.{Asking}

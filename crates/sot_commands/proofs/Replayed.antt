@@ -7,7 +7,7 @@ use Rattle.std.proofs.lemmas.Option.{same_Some}
 use Rattle.std.specs.declared.alloc.AllocError.{AllocError}
 use Rattle.sot_text.specs.declared.mission.Need.{Need}
 use Rattle.sot_text.specs.declared.mission.Need.TheVariants as needs
-use Rattle.sot_text.specs.Sections.{Division, Section, Parts, lines, division, fault_behind, body_of, needed, place, title}
+use Rattle.sot_text.specs.Sections.{Section, Parts, lines, division, fault_behind, body_of, needed, place, title}
 use Rattle.sot_text.proofs.SectionLaws.{sections_are_the_text}
 use Rattle.sot_lang.specs.Tables.{Tables}
 use Rattle.sot_lang.specs.declared.cert.Cert.{Cert}

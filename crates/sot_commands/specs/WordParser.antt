@@ -1,6 +1,6 @@
 -- The program's commands as `clap` sees them.
 use Rattle.std.specs.Prelude.{ℕ, List, [], ◌∷◌, Bool, true, false, ◌==◌, codes}
-use Rattle.std.specs.Prelude.{◌++◌, Some}
+use Rattle.std.specs.Prelude.{Some}
 use Rattle.clap.specs.declared.builder.action.ArgAction.TheVariants.{Set}
 use Rattle.clap.specs.Walk.{Rule}
 use Rattle.clap.specs.Simple.{App, Shape, new_rule, new_shape, with_subcommand}
