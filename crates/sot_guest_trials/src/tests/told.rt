@@ -3,6 +3,18 @@ use super::*;
 use sot_lang::Draft;
 
 // A number that is outside what may be published.
+const SEVEN: &str = "soter trace 1
+start pos 0
+0 decide nav ac
+0 tick pos(0)=0
+1 idle slow cmd=0
+1 tick pos(0)=0
+2 fire fast cmd!7
+2 tick pos(0)=0
+end 3 events 6 refused 1
+";
+
+// The greatest number that there is.
 const FAR: &str = "soter trace 1
 start pos 0
 0 decide nav ac
@@ -98,14 +110,8 @@ fn keeps(guest: &Keeper, number: Option<i64>, seen: &[i64]) -> bool {
 fn what_guests_draft_is_written_and_kept(rt: HostRuntime) -> Result<(), Fail> {
     let alloc = rt.alloc();
     for (number, start, horizon, sway, seen, said) in [
-        (
-            Some(9_223_372_036_854_775_807),
-            0,
-            3,
-            CALM,
-            [0].as_slice(),
-            FAR,
-        ),
+        (Some(7), 0, 3, CALM, [0].as_slice(), SEVEN),
+        (Some(9_223_372_036_854_775_807), 0, 3, CALM, &[0], FAR),
         (None, 0, 3, CALM, &[0], BLANK),
         (Some(2), 10, 20, SEED, &[8, 17, 21, 12, 0], WINDY),
     ] {
