@@ -5,18 +5,8 @@ ghost use Rattle.sot_lang.specs.Ticks.{joined};
 ghost use Rattle.sot_world.specs.Changes.{ArePoints};
 ghost use Rattle.sot_board.specs.Counts.{state_count};
 
-use sot_box::Point;
+use sot_code::put_point;
 use sot_world::World;
-
-// A point's coordinates, behind the first `from` numbers.
-fn put_point(point: &Point, from: usize, numbers: &mut [i64])
-    requires room { from + length point.now ≤ length numbers.old }
-    ensures front { take (from + length point.now) numbers.new ≡ take from numbers.old ++ point.now }
-{
-    for i in 0..point.len() {
-        numbers[from + i] = point.at(i);
-    }
-}
 
 /// The states of all plants of a world, one plant after another.
 pub fn put_states(world: &World<'_>, plants: u32, states: &mut [i64])

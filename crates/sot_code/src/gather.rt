@@ -32,14 +32,14 @@ pub fn put_locals(locals: &Locals, from: usize, numbers: &mut [i64])
     }
 }
 
-/// A point's coordinates, at the front.
-pub fn put_point(point: &Point, numbers: &mut [i64])
-    requires room { length point.now ≤ length numbers.old }
-    ensures front { take (length point.now) numbers.new ≡ point.now }
+/// A point's coordinates, behind the first `from` numbers.
+pub fn put_point(point: &Point, from: usize, numbers: &mut [i64])
+    requires room { from + length point.now ≤ length numbers.old }
+    ensures front { take (from + length point.now) numbers.new ≡ take from numbers.old ++ point.now }
     ensures size { length numbers.new ≡ length numbers.old }
 {
     for i in 0..point.len() {
-        numbers[i] = point.at(i);
+        numbers[from + i] = point.at(i);
     }
 }
 

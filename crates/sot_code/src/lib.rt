@@ -16,6 +16,7 @@ mod seen;
 mod term;
 
 pub use fired::Fired;
+pub use gather::put_point;
 pub use locals::Locals;
 pub use node::run_node;
 pub use plant::plant_next;

@@ -4,7 +4,7 @@ ghost use Rattle.std.specs.Prelude.{◌≡◌, ◌≢◌, ◌≤◌, ◌^◌, po
 ghost use Rattle.std.specs.Int.{int_min, int_max};
 ghost use Rattle.sot_lang.specs.Values.{word, quotient, floor_div, floor_by, apply, rescaled, truth, is_true};
 
-use sot_lang::{Trap, TrapKind};
+use sot_lang::{Trap, TrapKind, floor};
 use sot_text::Span;
 use sot_tree::Op;
 
@@ -37,18 +37,6 @@ fn multiply(at: Span, a: i64, b: i64) -> Result<i64, Trap>
     ensures { result ≡ word at (a *ℤ b) }
 {
     fit(at, a as i128 * b as i128)
-}
-
-// The floor of a quotient.
-fn floor(a: i64, b: i64) -> i128
-    requires { b ≢ pos 0 }
-    ensures { result ≡ floor_div a b }
-{
-    if b > 0 {
-        (a as i128).div_euclid(b as i128)
-    } else {
-        (-(a as i128)).div_euclid(-(b as i128))
-    }
 }
 
 fn divide(at: Span, a: i64, b: i64) -> Result<i64, Trap>

@@ -53,7 +53,7 @@ pub fn plant_next(
     let info = &p.plants[plant as usize];
     let mut inline = [0; MOST_NAMES];
     let states = state.len();
-    put_point(state, &mut inline);
+    put_point(state, 0, &mut inline);
     put(held, states, &mut inline);
     put(seen, states + held.len(), &mut inline);
     put(noise, states + held.len() + seen.len(), &mut inline);

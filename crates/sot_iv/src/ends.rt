@@ -7,7 +7,7 @@ ghost use Rattle.sot_iv.specs.Ends.{side, fitted, sum, difference, least_of, gre
 
 use crate::MayTrap;
 use sot_box::Interval;
-use sot_lang::TrapKind;
+use sot_lang::{TrapKind, floor};
 use sot_text::Span;
 
 // The interval from `lo` to `hi`, if both are in 64 bits.
@@ -110,18 +110,6 @@ pub(crate) fn product_of(at: Span, a: i64, b: i64, c: i64, d: i64) -> Result<Int
     let r = times(b, c);
     let s = times(b, d);
     span_of(at, p, q, r, s)
-}
-
-// The floor of a quotient.
-fn floor(a: i64, b: i64) -> i128
-    requires { b ≢ pos 0 }
-    ensures { result ≡ floor_div a b }
-{
-    if b > 0 {
-        (a as i128).div_euclid(b as i128)
-    } else {
-        (-(a as i128)).div_euclid(-(b as i128))
-    }
 }
 
 fn has_zero(a: i64, b: i64) -> bool

@@ -6,6 +6,7 @@ ghost use Rattle.sot_text.specs.Sections.{without_last};
 ghost use Rattle.sot_text.specs.Dividing.{line_len};
 ghost use Rattle.sot_spelled.specs.LentLines.{without_end};
 
+use sot_text::line_len;
 use std::marker::Model;
 
 /// Lends the lines of a text in order, each once, without its line end. That is an LF, together with a CR directly before it; the last
@@ -63,19 +64,6 @@ impl<'t> Lines<'t> {
         self.number += 1;
         Some((number, without_end(line)))
     }
-}
-
-// How many bytes the first line has, with its line end.
-fn line_len(bytes: &[u8]) -> usize
-    ensures len { result ≡ line_len bytes.now }
-    ensures within { result ≤ length bytes.now }
-{
-    for (i, b) in bytes.iter().enumerate() {
-        if *b == b'\n' {
-            return i + 1;
-        }
-    }
-    bytes.len()
 }
 
 fn without_return(text: &[u8]) -> &[u8]

@@ -55,8 +55,8 @@ struct Taken<'a> {
     line: u32,
 }
 
-// How many bytes the first line has, with its line end.
-fn line_len(bytes: &[u8]) -> usize
+/// How many bytes the first line has, with its line end. The last line may have none.
+pub fn line_len(bytes: &[u8]) -> usize
     ensures len { result ≡ line_len bytes.now }
     ensures within { result ≤ length bytes.now }
 {

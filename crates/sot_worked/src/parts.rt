@@ -11,7 +11,7 @@ use sot_tree::{Name, Op};
 use std::alloc::{AllocError, Global};
 
 // A place in a text.
-pub(crate) fn span(line: u32, column: u32, from: usize, to: usize) -> Span
+pub(crate) fn span(line: u32, column: u32, from: u32, to: u32) -> Span
     ensures { result ≡ place line column from to }
 {
     Span {

@@ -12,7 +12,7 @@ ghost use Rattle.sot_world.specs.Changes.{ArePoints, MayMove, IsMoved};
 
 use sot_box::Point;
 use sot_calendar::due;
-use sot_code::plant_next;
+use sot_code::{plant_next, put_point};
 use sot_lang::{ModuleInfo, NodeInfo, Typed};
 
 // The numbers of a plant's inputs, at the front.
@@ -23,16 +23,6 @@ fn put_inputs(inputs: &[u32], scalars: &[i64], held: &mut [i64])
 {
     for i in 0..inputs.len() {
         held[i] = scalars[inputs[i] as usize];
-    }
-}
-
-// A point's coordinates, behind the first `from` numbers.
-fn put_point(point: &Point, from: usize, numbers: &mut [i64])
-    requires room { from + length point.now ≤ length numbers.old }
-    ensures front { take (from + length point.now) numbers.new ≡ take from numbers.old ++ point.now }
-{
-    for i in 0..point.len() {
-        numbers[from + i] = point.at(i);
     }
 }
 

@@ -19,7 +19,7 @@ fn first(text: &str) -> Result<usize, LexFault> {
     }
 }
 
-fn place(line: u32, column: u32, from: usize, to: usize) -> Span {
+fn place(line: u32, column: u32, from: u32, to: u32) -> Span {
     Span {
         line,
         column,

@@ -1,4 +1,4 @@
-use Rattle.std.proofs.Common.{arith, ◌≡◌, ◌++◌, length, get_or, take, pos, ap, sym, ◌∙◌, subst}
+use Rattle.std.proofs.Common.{arith, ◌≡◌, ◌+◌, ◌++◌, length, get_or, take, pos, ap, sym, ◌∙◌, subst}
 use Rattle.std.proofs.lemmas.List.{length-replicate}
 use Rattle.sot_lists.specs.Places.{At}
 use Rattle.sot_lang.specs.Tables.{Tables}
@@ -65,7 +65,8 @@ returns c plant at =
     let h = c.args.held.now in
     let v = c.args.seen.now in
     let w = c.args.noise.now in
-    let front : take c.len-states.result c.put_point.new.numbers ≡ s = ap (λ n. take n c.put_point.new.numbers) c.len-states.ensures.value ∙ c.put_point.ensures.front in
+    let none_before : c.len-states.result ≡ 0 + length s = omega (arith, c.len-states.ensures.value) in
+    let front : take c.len-states.result c.put_point.new.numbers ≡ s = ap (λ n. take n c.put_point.new.numbers) none_before ∙ c.put_point.ensures.front in
     let joined : c.split_at.result.0.now ≡ s ++ h ++ v ++ w =
     c.split_at.ensures.front ∙ c.put-3.ensures.front ∙ ap (λ l. l ++ w) (c.put-2.ensures.front ∙ ap (λ l. l ++ v) (c.put.ensures.front ∙ ap (λ l. l ++ h) front)) in
     c.point_of.ensures ∙ ap (λ l. values c.deref.result.now l) joined ∙ ap (λ ts. values ts (s ++ h ++ v ++ w)) (c.deref.ensures.value ∙ ap (λ x. x.next.items) theirs)

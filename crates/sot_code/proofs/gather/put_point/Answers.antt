@@ -1,6 +1,6 @@
 use Rattle.std.proofs.Common.{rules, arith, ◌<◌, ◌+◌, take, length, FitsSigned, w64}
 use Rattle.sot_code.proofs.Filling.{taken_behind, read_word}
-use Rattle.sot_world.proofs.tick.put_point.Goals as goal
+use Rattle.sot_code.proofs.gather.put_point.Goals as goal
 
 pub loop-i-preserved : goal.loop-i-preserved
 loop-i-preserved c =
