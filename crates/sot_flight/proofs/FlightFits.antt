@@ -2,7 +2,7 @@
 use Rattle.std.proofs.Common.{◌≡◌, ◌≢◌, ℕ, zero, suc, ◌+◌, ◌-◌, ◌≤◌, ◌<◌, ⊎_elim, ℤ, pos, negsuc, ◌≤ℤ◌, Bool, true, false, List, [], ◌∷◌, length, map, take, drop, Option, Some, None, Result, Ok, Err, IfOk, codes, refl, sym, ap, subst, ◌∙◌, arith}
 use Rattle.std.specs.Prelude.{unsigned_abs, slice_index_or, slice_get, nat_le, nat_lt, ◌==◌, not, ◌||◌, bytes_eq, filter, position, is_none}
 use Rattle.std.specs.List.{list_any}
-use Rattle.std.proofs.lemmas.Bool.{eqb-true, eq-eqb, leb-true, ltb-true, cases_lt, lt-ltb}
+use Rattle.std.proofs.lemmas.Bool.{eqb-true, eq-eqb, leb-true, ltb-true, cases_lt, lt-ltb, not-true}
 use Rattle.std.proofs.lemmas.Int.{ints}
 use Rattle.std.proofs.lemmas.Option.{same_Some, none-some, slice_get_within, get_or_from_slice_get}
 use Rattle.std.proofs.lemmas.List.{length-take-le}
@@ -377,10 +377,6 @@ record IsCrewAfter (guests : ℕ) (done : List Crew) (node : NodeInfo) (c : Crew
 guest_same : (i j : ℕ) → Guest i ≡ Guest j → i ≡ j
 guest_same i j e = cc
 
-not_false : (b : Bool) → not b ≡ true → b ≡ false
-not_false true h = cc
-not_false false h = refl
-
 record IsGuestAfter (guests : ℕ) (done : List Crew) (i : ℕ) : Type 0 where
   there : i < guests
   once : list_any (is_guest i) done ≡ false
@@ -391,7 +387,7 @@ guest_form guests done d i h =
     let n = bind_ok (count greatest d) _ i h in
     let low = bind_ok (unless NoGuest (nat_lt n.0 guests)) _ i n.2 in
     let one = bind_ok (unless GuestTwice (not (list_any (is_guest n.0) done))) _ i low.2 in
-    subst (IsGuestAfter guests done) (ok_same n.0 i one.2) (record { there = ltb-true _ _ (unless_ok NoGuest _ _ low.1); once = not_false _ (unless_ok GuestTwice _ _ one.1) })
+    subst (IsGuestAfter guests done) (ok_same n.0 i one.2) (record { there = ltb-true _ _ (unless_ok NoGuest _ _ low.1); once = not-true _ (unless_ok GuestTwice _ _ one.1) })
 
 crew_as_form : (guests : ℕ) (done : List Crew) (node : NodeInfo) (ms : Members) (kind : CrewKind) (c : Crew) → node.body ≡ None → crew_as guests done node ms kind ≡ Ok c → IsCrewAfter guests done node c
 unfolding crew_as
