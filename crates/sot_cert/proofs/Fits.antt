@@ -23,7 +23,7 @@ use Rattle.sot_cert.specs.CertFormat.{cells, entry, entries, names, modules, is_
 use Rattle.sot_cert.proofs.Binds.{bind_ok, part_ok, unless_ok, ok_same, and_left, and_right}
 use Rattle.sot_cert.proofs.Sides.{AreCells, cells_form}
 
-at_ok : {A : Type 0} (key : List ℕ) (f : Data → Says A) (ms : Members) (x : A) → at key f ms ≡ Ok x → (d : Data) × (f d ≡ Ok x)
+pub at_ok : {A : Type 0} (key : List ℕ) (f : Data → Says A) (ms : Members) (x : A) → at key f ms ≡ Ok x → (d : Data) × (f d ≡ Ok x)
 unfolding at
 at_ok key f ms x h = let b = bind_ok (or Missing (get_member key ms)) f x (part_ok key _ x h) in (b.0, b.2)
 

@@ -21,6 +21,7 @@ use Rattle.sot_lang.specs.declared.tables.NodeInfo.{NodeInfo}
 use Rattle.sot_lang.specs.Tables.{Tables}
 use Rattle.sot_lang.specs.TableRules.{MeetsTableRules}
 use Rattle.sot_lang.specs.Ranges.{bounds, range_of, scalar_ranges}
+use Rattle.sot_lang.proofs.Topics.{topic_inside}
 use Rattle.sot_cert.specs.declared.fault.JsonKind.TheVariants.{WrongShape, OutsideRange, Width, Empty, Unknown, Order, NoGuest, GuestTwice, TooManyEvents, TooManyNumbers}
 use Rattle.sot_cert.specs.declared.fault.JsonFail.{JsonFail}
 use Rattle.sot_cert.specs.Answers.{Gives}
@@ -29,6 +30,7 @@ use Rattle.sot_cert.specs.Json.{whole, count, at, is_within, all_among}
 use Rattle.sot_cert.specs.CertFormat.{number}
 use Rattle.sot_cert.proofs.Binds.{bind_ok, unless_ok, ok_same, told, and_left, and_right}
 use Rattle.sot_cert.proofs.Bounds.{int_le_true, whole_within}
+use Rattle.sot_cert.proofs.Fits.{at_ok}
 use Rattle.sot_flight.specs.declared.sway.SwayKind.{SwayKind}
 use Rattle.sot_flight.specs.declared.sway.SwayKind.TheVariants as sway_kinds
 use Rattle.sot_flight.specs.declared.crew.CrewKind.{CrewKind}
@@ -38,7 +40,7 @@ use Rattle.sot_flight.specs.Counts.{events_of, numbers_of}
 use Rattle.sot_flight.specs.Fits.{FitsInput, FitsSway, FitsCrew, FitsFlight}
 use Rattle.sot_flight.specs.ListForms.{number_in, number_at, numbers_in, numbers, rows_in, slot, draft, drafts, for_each_after}
 use Rattle.sot_flight.specs.FlightFormat.{greatest, point_at, plant_names, start, last_time, time, is_outside, topic, ranges_of_topic, topic_ranges, input, inputs, sway_kind, sway_as, sway, has_noise, sway_at, sways, crew_kind, is_guest, guest, crew_as, crew, is_external, crew_at, crews, node_names, flight_keys, counted, flight}
-use Rattle.sot_flight.proofs.ReadForms.{at_ok, numbers_len}
+use Rattle.sot_flight.proofs.ReadForms.{numbers_len}
 use Rattle.sot_flight.proofs.FoundLists.{found_len, found_at, read_len, read_at_place, taken_len}
 
 -- ---- numbers
@@ -221,18 +223,11 @@ ranges_len xs zero count le = length-take-le count xs (omega (arith, le))
 ranges_len [] (suc n) count le = absurd (omega (arith, le))
 ranges_len (x ∷ xs) (suc n) count le = ranges_len xs n count (omega (arith, le))
 
--- a topic's scalars are there
-topic_room : (p : Tables) → MeetsTableRules p → (k : ℕ) (info : TopicInfo) → At p.topics k info → info.first + info.count ≤ length p.scalars
-topic_room p rules k info at =
-    let some = (rules.topics k info at).0 in
-    let last = rules.typed.topic_scalar k (info.first + (info.count - 1)) info at (omega arith) (omega (arith, some)) in
-    omega (arith, some, slice_get_within p.scalars _ last.0 last.1)
-
 value_fits : (p : Tables) → MeetsTableRules p → (k : ℕ) (info : TopicInfo) → At p.topics k info → (zs : List ℤ) → AreInRanges (topic_ranges p k) zs
     → (length zs ≡ info.count) × ((i : ℕ) (z : ℤ) → At zs i z → IsIn (range_of p.scalars (info.first + i)) z)
 value_fits p rules k info at zs inside =
     let ranges : topic_ranges p k ≡ ranges_of_topic p info = get_or_from_slice_get (map (ranges_of_topic p) p.topics) k (ranges_of_topic p info) [] (at_map (ranges_of_topic p) p.topics k info at) in
-    let room : info.first + info.count ≤ length (scalar_ranges p) = omega (arith, topic_room p rules k info at, ranges_count p) in
+    let room : info.first + info.count ≤ length (scalar_ranges p) = omega (arith, topic_inside p rules k info at, ranges_count p) in
     let len = ranges_len (scalar_ranges p) info.first info.count room in
     let size : length zs ≡ info.count = inside.size ∙ ap length ranges ∙ len in (
       size,
