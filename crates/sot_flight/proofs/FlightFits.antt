@@ -2,7 +2,7 @@
 use Rattle.std.proofs.Common.{◌≡◌, ◌≢◌, ℕ, zero, suc, ◌+◌, ◌-◌, ◌≤◌, ◌<◌, ⊎_elim, ℤ, pos, negsuc, ◌≤ℤ◌, Bool, true, false, List, [], ◌∷◌, length, map, take, drop, Option, Some, None, Result, Ok, Err, IfOk, codes, refl, sym, ap, subst, ◌∙◌, arith}
 use Rattle.std.specs.Prelude.{unsigned_abs, slice_index_or, slice_get, nat_le, nat_lt, ◌==◌, not, ◌||◌, bytes_eq, filter, position, is_none}
 use Rattle.std.specs.List.{list_any}
-use Rattle.std.proofs.lemmas.Bool.{eqb-true, eq-eqb, leb-true, ltb-true, cases_lt, lt-ltb, not-true}
+use Rattle.std.proofs.lemmas.Bool.{eqb-true, eq-eqb, leb-true, ltb-true, cases_lt, lt-ltb, not-true, and_parts}
 use Rattle.std.proofs.lemmas.Int.{ints}
 use Rattle.std.proofs.lemmas.Option.{same_Some, none-some, slice_get_within, get_or_from_slice_get}
 use Rattle.std.proofs.lemmas.List.{length-take-le}
@@ -28,7 +28,7 @@ use Rattle.sot_cert.specs.Answers.{Gives}
 use Rattle.sot_cert.specs.Says.{Says, or, unless}
 use Rattle.sot_cert.specs.Json.{whole, count, at, is_within, all_among}
 use Rattle.sot_cert.specs.CertFormat.{number}
-use Rattle.sot_cert.proofs.Binds.{bind_ok, unless_ok, ok_same, told, and_left, and_right}
+use Rattle.sot_cert.proofs.Binds.{bind_ok, unless_ok, ok_same, told}
 use Rattle.sot_cert.proofs.Bounds.{int_le_true, whole_within}
 use Rattle.sot_cert.proofs.Fits.{at_ok}
 use Rattle.sot_flight.specs.declared.sway.SwayKind.{SwayKind}
@@ -63,7 +63,8 @@ number_inside r d z h =
     let n = bind_ok (number d) _ z h in
     let w = bind_ok (unless OutsideRange (is_within r.lo r.hi n.0)) _ z n.2 in
     let b : is_within r.lo r.hi n.0 ≡ true = unless_ok OutsideRange _ _ w.1 in
-    subst (IsIn r) (ok_same n.0 z w.2) (int_le_true r.lo n.0 (and_left _ _ b), int_le_true n.0 r.hi (and_right _ _ b))
+    let ends = and_parts (int_le r.lo n.0) (int_le n.0 r.hi) b in
+    subst (IsIn r) (ok_same n.0 z w.2) (int_le_true r.lo n.0 ends.0, int_le_true n.0 r.hi ends.1)
 
 -- a list of numbers, each in the range of its place
 record AreInRanges (ranges : List Side) (zs : List ℤ) : Type 0 where
@@ -216,7 +217,7 @@ topic_form p d k h =
     go name place t =
         let facts = position-Some (is_outside name) p.topics k t.0 place in
         let test = subst (λ s. is_outside name s ≡ true) (get_or_from_slice_get p.topics k t.0 t.0 t.1) facts.1 in
-        record { info = t.0; is = t.1; outside = and_left t.0.outside (bytes_eq t.0.name name) test }
+        record { info = t.0; is = t.1; outside = (and_parts t.0.outside (bytes_eq t.0.name name) test).0 }
 
 ranges_len : {A : Type 0} (xs : List A) (n count : ℕ) → n + count ≤ length xs → length (take count (drop n xs)) ≡ count
 ranges_len xs zero count le = length-take-le count xs (omega (arith, le))
