@@ -26,7 +26,7 @@ use Rattle.sot_alike.proofs.Plants.{along, tube_alike, any_tube_alike, tube_leav
 use Rattle.sot_alike.proofs.Nodes.{execution_alike}
 
 -- commands are told by scalars
-command_same : (t u : Tables) → t.scalars ≡ u.scalars → (ws : List ℕ) (ds : List Drafted) (k : ℕ) → command_interval t ws ds k ≡ command_interval u ws ds k
+pub command_same : (t u : Tables) → t.scalars ≡ u.scalars → (ws : List ℕ) (ds : List Drafted) (k : ℕ) → command_interval t ws ds k ≡ command_interval u ws ds k
 command_same t u scalars [] ds k = ap (λ (infos : List ScalarInfo). range_of infos k) scalars
 command_same t u scalars (w ∷ ws) [] k = ap (λ (infos : List ScalarInfo). range_of infos k) scalars
 command_same t u scalars (w ∷ ws) (d ∷ ds) k = λ i. if w == k then sure_interval (range_of (scalars i) k) d else command_same t u scalars ws ds k i

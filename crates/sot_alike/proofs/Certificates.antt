@@ -32,7 +32,7 @@ periods_are [] j = refl
 periods_are (n ∷ nodes) j = ap (λ b. nat_lt j n.period && b) (periods_are nodes j)
 
 -- entries are read by the widths of plants
-entries_same : (plants others : List PlantInfo) → ((k : ℕ) → width_of plants k ≡ width_of others k) → (infos : List ModuleInfo) (ms : Members) → entries plants infos ms ≡ entries others infos ms
+pub entries_same : (plants others : List PlantInfo) → ((k : ℕ) → width_of plants k ≡ width_of others k) → (infos : List ModuleInfo) (ms : Members) → entries plants infos ms ≡ entries others infos ms
 unfolding entries
 entries_same plants others widths [] ms = refl
 entries_same plants others widths (m ∷ more) ms = λ i. do

@@ -11,7 +11,7 @@ use Rattle.sot_alike.proofs.Nodes.{coded_alike}
 use Rattle.sot_alike.proofs.Modules.{own_node_alike, own_output_alike, own_plant_alike, own_inputs_alike, periods_alike, outputs_alike}
 use Rattle.sot_alike.proofs.Cells.{trap_free_alike, closed_cell_alike, reach_cell_alike}
 
-cells_back : (c d : Cert) → c.modules.items ≡ d.modules.items → (m : ℕ) (cells : Cells) → HasCells d m cells → HasCells c m cells
+pub cells_back : (c d : Cert) → c.modules.items ≡ d.modules.items → (m : ℕ) (cells : Cells) → HasCells d m cells → HasCells c m cells
 cells_back c d entries m cells has = subst (λ (xs : List (Option Cells)). At xs m (Some cells)) (sym entries) has
 
 pub certified_alike : CertifiedAlike

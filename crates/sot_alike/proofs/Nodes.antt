@@ -21,7 +21,7 @@ use Rattle.sot_alike.proofs.Bodies.{IsDeedsExecution, execution_view}
 use Rattle.sot_alike.proofs.Seen.{scalars_same}
 
 -- what was mapped to a value
-mapped_from : {A B : Type 0} (f : A → B) (o : Option A) (b : B) → option_map f o ≡ Some b → (a : A) × (o ≡ Some a) × (f a ≡ b)
+pub mapped_from : {A B : Type 0} (f : A → B) (o : Option A) (b : B) → option_map f o ≡ Some b → (a : A) × (o ≡ Some a) × (f a ≡ b)
 mapped_from f None b e = absurd (none-some b e)
 mapped_from f (Some a) b e = (a, refl, same_Some (f a) b e)
 

@@ -1,10 +1,10 @@
 -- The drafts that askings give.
-use Rattle.std.proofs.Common.{◌≡◌, ℕ, suc, ℤ, Bool, Option, List, [], ◌∷◌, ◌++◌, length, map, refl, sym, ap, ◌∙◌, subst, arith, eq-eqb}
+use Rattle.std.proofs.Common.{◌≡◌, ℕ, ℤ, Bool, Option, List, [], ◌∷◌, ◌++◌, length, map, refl, sym, ap, ◌∙◌, subst, eq-eqb}
 use Rattle.std.specs.Prelude.{if◌then◌else◌}
 use Rattle.std.proofs.lemmas.List.{length-map, map-append}
 use Rattle.std.proofs.lemmas.Option.{same_Some}
 use Rattle.sot_lists.specs.Places.{At}
-use Rattle.sot_lists.proofs.Places.{at_mapped}
+use Rattle.sot_lists.proofs.Places.{at_mapped, same_items}
 use Rattle.sot_lang.specs.Tables.{Tables}
 use Rattle.sot_world.specs.HistoryEntry.{Logged, FireAt}
 use Rattle.sot_flight.specs.Plans.{Plan}
@@ -32,22 +32,12 @@ fits_give_drafts p j f n history k one fits =
     let there = subst (λ i. At (drafts_of n fits.first ++ fits.draft ∷ drafts_of n fits.rest) i fits.draft) fits.number (at_seam (drafts_of n fits.first) (drafts_of n fits.rest) fits.draft) in
     subst (λ (d : List (Option ℤ)). At (drafts_of n history) k d) fits.draft_is (subst (λ l. At l k fits.draft) (sym all) there)
 
--- lists that are as long as one another are the same where what stands in one stands in the other
-same_by_place : {A : Type 0} (xs ys : List A) → length xs ≡ length ys → ((k : ℕ) (x : A) → At xs k x → At ys k x) → xs ≡ ys
-same_by_place [] [] size each = refl
-same_by_place [] (y ∷ ys) size each = absurd (omega (arith, size))
-same_by_place (x ∷ xs) [] size each = absurd (omega (arith, size))
-same_by_place (x ∷ xs) (y ∷ ys) size each =
-    let first = same_Some y x (each 0 x refl) in
-    let rest = same_by_place xs ys (omega (arith, size)) (λ k. each (suc k)) in
-    cc
-
 -- the askings that were added give the drafts of all firings
 pub all_given :
     (p : Tables) (j : ℕ) (f : Plan) (n : ℕ) (history : List Logged) (before : Option (List Asking)) (after : List Asking) (answered : HasAnswered p j f n history before after)
     → map (draft_given p n) answered.more ≡ drafts_of n history
 all_given p j f n history before after answered =
-    same_by_place (map (draft_given p n) answered.more) (drafts_of n history) (length-map answered.more (draft_given p n) ∙ answered.count) (λ k draft at.
+    same_items (map (draft_given p n) answered.more) (drafts_of n history) (length-map answered.more (draft_given p n) ∙ answered.count) (λ k draft at.
     let asked = at_mapped (draft_given p n) answered.more k draft at in
     subst (λ (d : List (Option ℤ)). At (drafts_of n history) k d) asked.2 (fits_give_drafts p j f n history k asked.0 (answered.fits k asked.0 asked.1)))
 

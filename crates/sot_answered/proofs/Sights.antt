@@ -1,5 +1,5 @@
 -- What is left to fire waits for its deadline, and no longer; so what was seen is recent.
-use Rattle.std.proofs.Common.{◌≡◌, ◌≢◌, ℕ, zero, suc, ◌+◌, ◌<◌, ◌≤◌, ◌⊎◌, ◌↔◌, inl, ⊎_elim, ℤ, Bool, true, false, Option, Some, List, [], ◌∷◌, ◌++◌, length, refl, sym, ap, ◌∙◌, subst, arith, eq-eqb}
+use Rattle.std.proofs.Common.{◌≡◌, ◌≢◌, ℕ, suc, ◌+◌, ◌<◌, ◌≤◌, ◌⊎◌, ◌↔◌, inl, ⊎_elim, ℤ, Bool, true, false, Option, Some, List, [], ◌∷◌, ◌++◌, length, refl, sym, ap, ◌∙◌, subst, arith, eq-eqb}
 use Rattle.std.specs.Prelude.{slice_index_or, slice_set, if◌then◌else◌}
 use Rattle.std.proofs.Math.Seq.{take-append_seam, drop-append_seam}
 use Rattle.std.proofs.lemmas.Bool.{cases_eq, cases_lt, both_ways}
@@ -15,6 +15,7 @@ use Rattle.sot_world.specs.Configurations.{Configuration, is_left}
 use Rattle.sot_world.specs.Steps.{Event, Input, Code, Guest, Decide, Tick, Step}
 use Rattle.sot_world.specs.Outcomes.{Recorded}
 use Rattle.sot_world.specs.HistoryEntry.{Logged, FireAt}
+use Rattle.sot_world.proofs.Modes.{left_none}
 use Rattle.sot_flight.specs.Plans.{Plan}
 use Rattle.sot_board.specs.Flown.{Position, Tells, Leads, IsStart, FlownSoFar}
 use Rattle.sot_board.specs.Versions.{drafts_of}
@@ -26,15 +27,10 @@ use Rattle.sot_shift.proofs.Histories.{same_drafts}
 use Rattle.sot_answered.specs.Sights.{SeenAreRecent, GuestsAreAnswered}
 use Rattle.sot_answered.proofs.Drafts.{all_given}
 
-set_false : (xs : List Bool) (n : ℕ) → slice_index_or (slice_set xs n false) n false ≡ false
-set_false [] n = refl
-set_false (x ∷ xs) zero = refl
-set_false (x ∷ xs) (suc n) = set_false xs n
-
 -- what is left once a node is taken was left before
 left_before : (C D : Configuration) (m n : ℕ) → D.left ≡ slice_set C.left m false → is_left D n ≡ true → is_left C n ≡ true
 left_before C D m n set left = ⊎_elim
-    (λ same. absurd (both_ways (is_left D n) (ap (λ l. slice_index_or l n false) set ∙ ap (λ k. slice_index_or (slice_set C.left k false) n false) (sym same) ∙ set_false C.left n) left))
+    (λ same. absurd (both_ways (is_left D n) (ap (λ l. slice_index_or l n false) set ∙ ap (λ k. slice_index_or (slice_set C.left k false) n false) (sym same) ∙ left_none C.left n) left))
     (λ other. sym (ap (λ l. slice_index_or l n false) set ∙ get_or-set_other C.left m n false false other) ∙ left)
     (cases_eq n m)
 

@@ -13,6 +13,7 @@ use Rattle.sot_box.specs.Sweep.{coordinate}
 use Rattle.sot_box.specs.Widened.{IsWidened}
 use Rattle.sot_box.proofs.Within.{within-width, within-low, within-high, within-from, in-order, lows-at, highs-at, lows-width, highs-width}
 use Rattle.sot_box.proofs.Sweeps.{IsPut, put-set}
+use Rattle.sot_box.proofs.Ranges.{lows_within}
 
 map-set : (f : Side → ℤ) (xs : List Side) (i : ℕ) (r : Side) → map f (set xs i r) ≡ set (map f xs) i (f r)
 map-set f [] i r = refl
@@ -54,9 +55,6 @@ some-side (r ∷ rs) (suc k) lt = some-side rs k (omega arith)
 coordinate-at : (s : List ℤ) (k : ℕ) → k < length s → At s k (coordinate s k)
 coordinate-at s k lt = slice_get-get_or s k (pos 0) lt
 
-low-within : (b : List Side) → AreOrdered b → IsWithin b (lows b)
-low-within b o = within-from b (lows b) (lows-width b) (λ k lt. omega (arith, ints)) (in-order b o)
-
 high-within : (b : List Side) → AreOrdered b → IsWithin b (highs b)
 high-within b o = within-from b (highs b) (highs-width b) (in-order b o) (λ k lt. omega (arith, ints))
 
@@ -89,12 +87,12 @@ at-value s i x y e h = subst (λ (z : ℤ). At s i z) e h
 
 pub hull-one : (b : List Side) → AreOrdered b → IsHull (b ∷ []) b
 hull-one b o = record {
-  has_point = (lows b, inl (low-within b o));
+  has_point = (lows b, inl (lows_within b o));
   holds = λ s h. elim h [
     | inl w ↦ w
     | inr r ↦ absurd r
   ];
-  low = λ i r e. (lows b, inl (low-within b o), at-value (lows b) i _ _ (lows-at b i r e) (coordinate-at (lows b) i (omega (arith, lows-width b, slice_get_within b i r e))));
+  low = λ i r e. (lows b, inl (lows_within b o), at-value (lows b) i _ _ (lows-at b i r e) (coordinate-at (lows b) i (omega (arith, lows-width b, slice_get_within b i r e))));
   high = λ i r e. (highs b, inl (high-within b o), at-value (highs b) i _ _ (highs-at b i r e) (coordinate-at (highs b) i (omega (arith, highs-width b, slice_get_within b i r e))));
 }
 
@@ -140,7 +138,7 @@ hull-step bs h h' b o e u w = record {
         | inl old ↦
             let p = u.low i q.0 q.1 in
             (p.0, in-front bs b p.0 p.1, at-value p.0 i _ _ (sym (lows-at h i q.0 q.1) ∙ sym old ∙ lows-at h' i r at) p.2)
-        | inr new ↦ (lows b, in-last bs b (lows b) (low-within b o), at-value (lows b) i _ _ (sym new ∙ lows-at h' i r at) (coordinate-at (lows b) i (omega (arith, lows-width b))))
+        | inr new ↦ (lows b, in-last bs b (lows b) (lows_within b o), at-value (lows b) i _ _ (sym new ∙ lows-at h' i r at) (coordinate-at (lows b) i (omega (arith, lows-width b))))
       ];
   high = λ i r at.
       let lt : i < length b = omega (arith, w.width, slice_get_within h' i r at) in

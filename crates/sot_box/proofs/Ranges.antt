@@ -64,3 +64,12 @@ within_in_order [] [] w = tt
 within_in_order (r ∷ rs) (z ∷ zs) w = (omega (arith, ints, w.0, w.1), within_in_order rs zs w.2)
 within_in_order [] (z ∷ zs) w = absurd w
 within_in_order (r ∷ rs) [] w = absurd w
+
+-- what holds of each point of a box, axis by axis
+pub all_without_axes : (P : List ℤ → Type 0) → P [] → (s : List ℤ) → IsWithin [] s → P s
+all_without_axes P here [] w = here
+all_without_axes P here (x ∷ xs) w = absurd w
+
+pub all_by_first : (P : List ℤ → Type 0) (r : Side) (rs : List Side) → ((z : ℤ) → IsIn r z → (s : List ℤ) → IsWithin rs s → P (z ∷ s)) → (s : List ℤ) → IsWithin (r ∷ rs) s → P s
+all_by_first P r rs all [] w = absurd w
+all_by_first P r rs all (x ∷ xs) w = all x (w.0, w.1) xs w.2

@@ -1,5 +1,5 @@
 -- What stood before an answer that is no fault.
-use Rattle.std.proofs.Common.{◌≡◌, ℕ, List, ◌&&◌, Bool, true, false, Ok, Err, refl}
+use Rattle.std.proofs.Common.{◌≡◌, ℕ, List, Bool, true, false, Ok, Err, refl}
 use Rattle.sot_cert.specs.declared.fault.JsonKind.{JsonKind}
 use Rattle.sot_cert.specs.Says.{Says, ◌>>=◌, unless, part}
 
@@ -14,14 +14,6 @@ part_ok name (Err e) x h = cc
 pub unless_ok : (k : JsonKind) (b : Bool) (x : Bool) → unless k b ≡ Ok x → b ≡ true
 unless_ok k true x h = refl
 unless_ok k false x h = cc
-
-pub and_left : (a b : Bool) → (a && b) ≡ true → a ≡ true
-and_left true b h = refl
-and_left false b h = h
-
-pub and_right : (a b : Bool) → (a && b) ≡ true → b ≡ true
-and_right true b h = h
-and_right false b h = cc
 
 abbrev pub told : {A : Type 0} → A → Says A
 told x = Ok x

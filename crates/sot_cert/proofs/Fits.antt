@@ -2,7 +2,7 @@
 use Rattle.std.proofs.Common.{◌≡◌, ℕ, zero, suc, ◌<◌, List, [], ◌∷◌, length, Option, Some, None, Ok, Err, Bool, true, false, codes, sym, ap, subst, ◌∙◌, arith}
 use Rattle.std.specs.Prelude.{nat_lt}
 use Rattle.std.specs.List.{list_all}
-use Rattle.std.proofs.lemmas.Bool.{ltb-true}
+use Rattle.std.proofs.lemmas.Bool.{ltb-true, and_parts}
 use Rattle.std.proofs.lemmas.Option.{same_Some}
 use Rattle.serde_json.specs.Data.{Data, Members}
 use Rattle.serde_json.specs.Find.{get_member, as_object}
@@ -20,10 +20,10 @@ use Rattle.sot_cert.specs.declared.fault.JsonKind.TheVariants.{WrongShape, Outsi
 use Rattle.sot_cert.specs.Says.{Says, or, unless}
 use Rattle.sot_cert.specs.Json.{count, at, some, optional, may, all_among}
 use Rattle.sot_cert.specs.CertFormat.{cells, entry, entries, names, modules, is_below_periods, jitter, jitter_in, has_jitter, keys, cert, Contents, contents}
-use Rattle.sot_cert.proofs.Binds.{bind_ok, part_ok, unless_ok, ok_same, and_left, and_right}
+use Rattle.sot_cert.proofs.Binds.{bind_ok, part_ok, unless_ok, ok_same}
 use Rattle.sot_cert.proofs.Sides.{AreCells, cells_form}
 
-at_ok : {A : Type 0} (key : List ℕ) (f : Data → Says A) (ms : Members) (x : A) → at key f ms ≡ Ok x → (d : Data) × (f d ≡ Ok x)
+pub at_ok : {A : Type 0} (key : List ℕ) (f : Data → Says A) (ms : Members) (x : A) → at key f ms ≡ Ok x → (d : Data) × (f d ≡ Ok x)
 unfolding at
 at_ok key f ms x h = let b = bind_ok (or Missing (get_member key ms)) f x (part_ok key _ x h) in (b.0, b.2)
 
@@ -81,8 +81,8 @@ entries_form plants (m ∷ more) ms os h (suc i) info c is_info is_c =
 
 all_at : {A : Type 0} (test : A → Bool) (xs : List A) (i : ℕ) (x : A) → list_all test xs ≡ true → At xs i x → test x ≡ true
 all_at test [] i x h at = cc
-all_at test (y ∷ ys) zero x h at = subst (λ z. test z ≡ true) (same_Some y x at) (and_left _ _ h)
-all_at test (y ∷ ys) (suc i) x h at = all_at test ys i x (and_right (test y) _ h) at
+all_at test (y ∷ ys) zero x h at = subst (λ z. test z ≡ true) (same_Some y x at) (and_parts (test y) _ h).0
+all_at test (y ∷ ys) (suc i) x h at = all_at test ys i x (and_parts (test y) _ h).1 at
 
 -- the jitter is below every period
 record IsBelow (p : Tables) (j : ℕ) : Type 0 where
@@ -97,8 +97,8 @@ jitter_below p d j h =
     let b : is_below_periods p n.0 ≡ true = unless_ok OutsideRange _ _ ok.1 in
     let e : n.0 ≡ j = ok_same n.0 j ok.2 in
     subst (IsBelow p) e (record {
-      nodes = λ k node at. ltb-true _ _ (all_at (λ (x : NodeInfo). nat_lt n.0 x.period) p.nodes k node (and_left _ _ b) at);
-      infos = λ k a at. ltb-true _ _ (all_at (λ (x : ModuleInfo). nat_lt n.0 x.period) p.modules k a (and_right (list_all (λ (x : NodeInfo). nat_lt n.0 x.period) p.nodes) _ b) at);
+      nodes = λ k node at. ltb-true _ _ (all_at (λ (x : NodeInfo). nat_lt n.0 x.period) p.nodes k node (and_parts (list_all (λ (x : NodeInfo). nat_lt n.0 x.period) p.nodes) _ b).0 at);
+      infos = λ k a at. ltb-true _ _ (all_at (λ (x : ModuleInfo). nat_lt n.0 x.period) p.modules k a (and_parts (list_all (λ (x : NodeInfo). nat_lt n.0 x.period) p.nodes) _ b).1 at);
     })
 
 jitter_in_below : (p : Tables) → MeetsTableRules p → (jittered : Bool) (ms : Members) (j : ℕ) → jitter_in jittered p ms ≡ Ok j → IsBelow p j

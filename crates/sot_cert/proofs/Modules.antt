@@ -37,7 +37,7 @@ regroup : {A : Type 0} (front : List A) (x : A) (says : Says (List A)) → with_
 regroup front x (Ok xs) = ap Ok (simp append_assoc)
 regroup front x (Err f) = refl
 
-bind_fails : {A B : Type 0} (r : JsonFail) (says : Says A) (f : A → Says B) → Fails r says → Fails r (says >>= f)
+pub bind_fails : {A B : Type 0} (r : JsonFail) (says : Says A) (f : A → Says B) → Fails r says → Fails r (says >>= f)
 bind_fails fails.Memory says f h = tt
 bind_fails (fails.Fault g) says f h = rw h refl
 

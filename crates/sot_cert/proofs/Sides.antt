@@ -9,6 +9,7 @@ use Rattle.serde_json.specs.Find.{as_array}
 use Rattle.sot_lists.specs.Places.{At}
 use Rattle.sot_box.specs.Sides.{Side, AreOrdered}
 use Rattle.sot_box.specs.BoxList.{BoxList}
+use Rattle.sot_box.proofs.Ordered.{ordered-push}
 use Rattle.sot_cert.specs.declared.fault.JsonKind.TheVariants.{WrongShape, Width, Empty, TooMany}
 use Rattle.sot_cert.specs.Says.{Says, or, unless, part}
 use Rattle.sot_cert.specs.Json.{each_after, each, two}
@@ -44,10 +45,6 @@ side_ordered d x h =
     let e : record { lo = lo.0; hi = hi.0 } ≡ x = ok_same (record { lo = lo.0; hi = hi.0 }) x ok.2 in
     subst (λ (s : Side). s.lo ≤ℤ s.hi) e (int_le_true lo.0 hi.0 (unless_ok Empty _ _ ok.1))
 
-ordered_push : (done : List Side) (x : Side) → AreOrdered done → x.lo ≤ℤ x.hi → AreOrdered (done ++ x ∷ [])
-ordered_push [] x o le = (le, tt)
-ordered_push (r ∷ rs) x o le = (o.0, ordered_push rs x o.1 le)
-
 -- a cell has as many sides as asked, each ordered
 pub cell_form : (width : ℕ) (d : Data) (b : List Side) → cell width d ≡ Ok b → (length b ≡ width) × AreOrdered b
 unfolding cell
@@ -56,7 +53,7 @@ cell_form width d b h =
     let ok = bind_ok (unless Width (items_len ds.0 == width)) _ b ds.2 in
     let n : items_len ds.0 ≡ width = eqb-true _ _ (unless_ok Width _ _ ok.1) in
     let l : length b ≡ length {A = Side} [] + items_len ds.0 = each_len side [] ds.0 b ok.2 in
-    (omega arith, each_keeps side AreOrdered (λ done e x o s. ordered_push done x o (side_ordered e x s)) [] ds.0 b tt ok.2)
+    (omega arith, each_keeps side AreOrdered (λ done e x o s. ordered-push done x o (side_ordered e x s)) [] ds.0 b tt ok.2)
 
 pub cell_len : (width : ℕ) (d : Data) (b : List Side) → cell width d ≡ Ok b → length b ≡ width
 cell_len width d b h = (cell_form width d b h).0

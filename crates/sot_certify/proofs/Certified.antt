@@ -1,6 +1,6 @@
 -- The lists that are made certify the program.
-use Rattle.std.proofs.Common.{◌≡◌, ℕ, ◌<◌, Some, false, true, length, sym, ◌∙◌, subst, arith}
-use Rattle.std.proofs.lemmas.Option.{same_Some, slice_get_within}
+use Rattle.std.proofs.Common.{◌≡◌, ℕ, ◌<◌, false, true, length, subst, arith}
+use Rattle.std.proofs.lemmas.Option.{slice_get_within}
 use Rattle.sot_lists.specs.Places.{At}
 use Rattle.sot_lang.specs.declared.cert.Cells.{Cells}
 use Rattle.sot_lang.specs.declared.cert.Cert.{Cert}
@@ -10,14 +10,12 @@ use Rattle.sot_lang.specs.Tables.{Tables}
 use Rattle.sot_lang.specs.TableRules.{MeetsTableRules}
 use Rattle.sot_lang.specs.CertRules.{FitsTables}
 use Rattle.sot_tube.specs.Certified.{IsWellCertified, HasCells}
+use Rattle.sot_tube.proofs.VerdictExact.{cells_same}
 use Rattle.sot_halving.proofs.Covering.{whole_each}
 use Rattle.sot_certify.specs.Conditions.{without_cells}
 use Rattle.sot_certify.specs.Made.{IsGood, IsMade}
 use Rattle.sot_certify.specs.Certifying.{IsMadeFor}
 use Rattle.sot_certify.specs.Steps.{AreEntriesTo, AreListsOf}
-
-entry_same : (cert : Cert) (m : ℕ) (a b : Cells) → HasCells cert m a → HasCells cert m b → a ≡ b
-entry_same cert m a b h h' = same_Some a b (same_Some (Some a) (Some b) (sym h ∙ h'))
 
 module _ (p : Tables) (cert : Cert) (rules : MeetsTableRules p) where
   late_node : cert.jitter ≡ 0 → (n : ℕ) (node : NodeInfo) → At p.nodes n node → cert.jitter < node.period
@@ -30,7 +28,7 @@ module _ (p : Tables) (cert : Cert) (rules : MeetsTableRules p) where
     lists : (m : ℕ) (a : ModuleInfo) (cells : Cells) → At p.modules m a → HasCells cert m cells → AreListsOf p a cells
     lists m a cells at has =
         let e = entries.each m a (slice_get_within p.modules m a at) at in
-        subst (AreListsOf p a) (entry_same cert m e.0 cells e.1 has) e.2
+        subst (AreListsOf p a) (cells_same cert m e.0 cells e.1 has) e.2
 
     pub fits : FitsTables p cert
     fits = record {
@@ -68,7 +66,7 @@ module _ (p : Tables) (cert : Cert) (rules : MeetsTableRules p) where
   }
     where
       closed : (m : ℕ) (a : ModuleInfo) (cells : Cells) → At p.modules m a → HasCells cert m cells → IsMade p a false cells.closed.boxes
-      closed m a cells at has = (let e = is.cells m a at in subst (λ c. IsMade p a false c.closed.boxes) (entry_same cert m e.0 cells e.1 has) e.2.closed)
+      closed m a cells at has = (let e = is.cells m a at in subst (λ c. IsMade p a false c.closed.boxes) (cells_same cert m e.0 cells e.1 has) e.2.closed)
 
       reach : (m : ℕ) (a : ModuleInfo) (cells : Cells) → At p.modules m a → HasCells cert m cells → IsMade p a true cells.reach.boxes
-      reach m a cells at has = (let e = is.cells m a at in subst (λ c. IsMade p a true c.reach.boxes) (entry_same cert m e.0 cells e.1 has) e.2.reach)
+      reach m a cells at has = (let e = is.cells m a at in subst (λ c. IsMade p a true c.reach.boxes) (cells_same cert m e.0 cells e.1 has) e.2.reach)

@@ -1,19 +1,18 @@
 -- One answer at most is true of a program, besides want of memory.
-use Rattle.std.proofs.Common.{◌≡◌, ℕ, ◌<◌, ◌≤◌, ⊎_elim, ◌⊎◌, inl, inr, ℤ, Bool, false, true, Ok, Err, Some, List, length, refl, sym, ap, ◌∙◌, subst, arith}
+use Rattle.std.proofs.Common.{◌≡◌, ℕ, ◌<◌, ◌≤◌, ⊎_elim, ◌⊎◌, inl, inr, ℤ, Bool, false, true, Ok, Err, List, length, refl, ap, ◌∙◌, subst, arith}
 use Rattle.std.proofs.lemmas.List.{length-append}
-use Rattle.std.proofs.lemmas.Option.{same_Some}
 use Rattle.sot_box.specs.Sides.{Side}
 use Rattle.sot_lists.specs.Places.{At}
 use Rattle.sot_lists.proofs.Places.{at_same}
+use Rattle.sot_lists.proofs.Numbers.{by_order}
 use Rattle.sot_lang.specs.declared.cert.Cells.{Cells}
 use Rattle.sot_lang.specs.declared.cert.Cert.{Cert}
 use Rattle.sot_lang.specs.declared.tables.ModuleInfo.{ModuleInfo}
 use Rattle.sot_lang.specs.Tables.{Tables}
-use Rattle.sot_tube.specs.Certified.{HasCells}
 use Rattle.sot_tube.specs.Checks.{and_then, for_each, IsExact}
-use Rattle.sot_tube.specs.Verdict.{IsWrittenByOne, periods, outputs, boxes, composition, code}
-use Rattle.sot_tube.proofs.Exact.{and_then_exact, for_each_exact, least_number_same, by_order}
-use Rattle.sot_tube.proofs.VerdictExact.{composition_exact, code_exact}
+use Rattle.sot_tube.specs.Verdict.{periods, outputs, boxes, composition, code}
+use Rattle.sot_tube.proofs.Exact.{and_then_exact, for_each_exact}
+use Rattle.sot_tube.proofs.VerdictExact.{composition_exact, code_exact, cells_same, periods_exact, outputs_exact, boxes_exact}
 use Rattle.sot_rta.specs.Refused.{refusal_view}
 use Rattle.sot_halving.specs.Findings.{Whole, Failing, Begun}
 use Rattle.sot_halving.specs.Laws.{BeginsWith}
@@ -24,39 +23,6 @@ use Rattle.sot_certify.specs.Conditions.{frame, without_cells}
 use Rattle.sot_certify.specs.Made.{IsGood, region_of, IsMade, FailsAt, HasTooMany}
 use Rattle.sot_certify.specs.Certifying.{IsMadeFor, AreMadeBefore, Fails}
 use Rattle.sot_certify.specs.Laws.{SameFail, SameAnswer, AnswersAreOne}
-
-periods_exact : (p : Tables) (m : ℕ) (a : ModuleInfo) → IsExact (periods p m a)
-periods_exact p m a = record {
-  exclusive = λ r h passes.
-      ⊎_elim
-      (λ x. let le = passes x.0.0 (inl x.0.1) in absurd (omega (arith, x.0.2, le)))
-      (λ y. let le = passes y.1.0 (inr y.1.1) in absurd (omega (arith, y.1.2, le)))
-      h;
-  unique = λ r r' h h'.
-      ⊎_elim
-      (λ x. ⊎_elim (λ x'. x.1 ∙ sym x'.1) (λ y'. absurd (y'.0 x.0)) h')
-      (λ y. ⊎_elim (λ x'. absurd (y.0 x'.0)) (λ y'. y.2 ∙ sym y'.2) h')
-      h;
-}
-
-outputs_exact : (p : Tables) (m : ℕ) (a : ModuleInfo) → IsExact (outputs p m a)
-outputs_exact p m a = record {
-  exclusive = λ r h passes.
-      let w = h.1.has in
-      let both = passes w.0 w.1 h.0 w.2 w.3 in
-      ⊎_elim (λ x. x.1 (both.0 x.0)) (λ y. y.1 (both.1 y.0)) w.4;
-  unique = λ r r' h h'. let e = least_number_same (IsWrittenByOne p a) h.0 h'.0 h.1 h'.1 in cc;
-}
-
-boxes_exact : (m : ℕ) (a : ModuleInfo) → IsExact (boxes m a)
-boxes_exact m a = record {
-  exclusive = λ r h passes. ⊎_elim (λ x. passes.0 x.0) (λ y. passes.1 y.1) h;
-  unique = λ r r' h h'.
-      ⊎_elim
-      (λ x. ⊎_elim (λ x'. x.1 ∙ sym x'.1) (λ y'. absurd (y'.0 x.0)) h')
-      (λ y. ⊎_elim (λ x'. absurd (y.0 x'.0)) (λ y'. y.2 ∙ sym y'.2) h')
-      h;
-}
 
 frame_exact : (p : Tables) (m : ℕ) (a : ModuleInfo) → IsExact (frame p m a)
 frame_exact p m a =
@@ -160,15 +126,12 @@ fails_made p c (Point m r s) h k = not_made p k.1 r (inl (s, k.3)) (list_of p c 
 fails_made p c (TooMany m r) h k = not_made p k.1 r (inr k.3) (list_of p c k.1 m r h.1 k.2.is)
 fails_made p c Memory h k = tt
 
-entry_same : (cert : Cert) (m : ℕ) (a b : Cells) → HasCells cert m a → HasCells cert m b → a ≡ b
-entry_same cert m a b h h' = same_Some a b (same_Some (Some a) (Some b) (sym h ∙ h'))
-
 pub answers_are_one : AnswersAreOne
 answers_are_one p (Ok c) (Ok d) h k = λ m a x y at has_x has_y.
     let e = h.1.cells m a at in
     let f = k.1.cells m a at in
-    let ex = entry_same c m e.0 x e.1 has_x in
-    let fy = entry_same d m f.0 y f.1 has_y in (
+    let ex = cells_same c m e.0 x e.1 has_x in
+    let fy = cells_same d m f.0 y f.1 has_y in (
       one_list p a false x.closed.boxes y.closed.boxes (subst (λ (z : Cells). IsMade p a false z.closed.boxes) ex e.2.closed) (subst (λ (z : Cells). IsMade p a false z.closed.boxes) fy f.2.closed),
       one_list p a true x.reach.boxes y.reach.boxes (subst (λ (z : Cells). IsMade p a true z.reach.boxes) ex e.2.reach) (subst (λ (z : Cells). IsMade p a true z.reach.boxes) fy f.2.reach),
     )

@@ -1,8 +1,6 @@
 -- The tube of a failing point is not inside the safe region.
-use Rattle.std.proofs.Common.{◌≡◌, ℕ, ◌+◌, ℤ, ◌≤ℤ◌, false, true, List, [], ◌∷◌, refl, sym, ap, ap₂, ◌∙◌, subst, arith}
+use Rattle.std.proofs.Common.{◌≡◌, ℕ, ◌+◌, ℤ, false, true, List, [], ◌∷◌, refl, sym, ap₂, subst, arith}
 use Rattle.std.specs.Prelude.{◌*◌}
-use Rattle.std.proofs.lemmas.Int.{ints}
-use Rattle.std.proofs.lemmas.Option.{same_Some}
 use Rattle.sot_box.specs.Boxes.{IsWithin, point_box}
 use Rattle.sot_box.specs.Regions.{IsInRegion, Covers}
 use Rattle.sot_lists.specs.Places.{At}
@@ -13,18 +11,14 @@ use Rattle.sot_lang.specs.declared.tables.NodeInfo.{NodeInfo}
 use Rattle.sot_lang.specs.declared.tables.ModuleInfo.{ModuleInfo}
 use Rattle.sot_lang.specs.Tables.{Tables}
 use Rattle.sot_lang.specs.TableRules.{IsCoded}
+use Rattle.sot_lang.proofs.Owners.{one_body}
 use Rattle.sot_iv.specs.BodyIntervals.{Intervals}
+use Rattle.sot_iv.proofs.Unique.{same_number}
 use Rattle.sot_tube.specs.Tubes.{TubeInside, AnyTubeInside}
 use Rattle.sot_tube.specs.Certified.{DraftsFrom, command_intervals, IsClosedCell, IsReachCell}
 use Rattle.sot_halving.proofs.Covering.{failing_each}
 use Rattle.sot_certify.specs.Made.{IsGood, FailsAt}
 use Rattle.sot_certify.specs.Laws.{TubesOfFailingPointsLeave}
-
-coded_same : (sc : NodeInfo) (us vs : List Act) → IsCoded sc us → IsCoded sc vs → us ≡ vs
-coded_same sc us vs h k = (let e = same_Some h.0 k.0 (sym h.1 ∙ k.1) in sym h.2 ∙ ap (λ v. v.items) e ∙ k.2)
-
-same_number : (x y : ℤ) → x ≤ℤ y → y ≤ℤ x → x ≡ y
-same_number x y h k = omega (arith, ints, h, k)
 
 -- a point's own box holds that point alone
 alone : (s t : List ℤ) → IsWithin (point_box s) t → s ≡ t
@@ -55,7 +49,7 @@ closed p a s plant sc acts fired at at_s coded drafts h inside =
     let same : sc ≡ sc' = at_same p.nodes a.sc sc sc' at_s at_s' in
     subst (λ (x : PlantInfo). IsClosedCell p 0 a x sc' acts' (point_box s)) (at_same p.plants a.plant plant plant' at at')
     (subst (λ (y : NodeInfo). IsClosedCell p 0 a plant y acts' (point_box s)) same
-    (subst (λ us. IsClosedCell p 0 a plant sc us (point_box s)) (coded_same sc acts acts' coded (subst (λ (y : NodeInfo). IsCoded y acts') (sym same) coded')) cell)))
+    (subst (λ us. IsClosedCell p 0 a plant sc us (point_box s)) (one_body sc acts acts' coded (subst (λ (y : NodeInfo). IsCoded y acts') (sym same) coded')) cell)))
 
 pub reach : (p : Tables) (a : ModuleInfo) (s : List ℤ) (plant : PlantInfo) → At p.plants a.plant plant → FailsAt p a true s
     → AnyTubeInside p plant a.safe.boxes (point_box s) (2 * a.period) → ⊥

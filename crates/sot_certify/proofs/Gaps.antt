@@ -4,25 +4,8 @@ use Rattle.std.proofs.lemmas.Int.{ints, by_lt_z}
 use Rattle.sot_box.specs.Sides.{Side, IsIn}
 use Rattle.sot_box.specs.Boxes.{IsWithin, IsBefore}
 use Rattle.sot_box.specs.Regions.{IsInRegion, Covers, IsGap}
-use Rattle.sot_world.proofs.Publishes.{in_range_cases}
-
-within_or_not : (rs : List Side) (xs : List ℤ) → IsWithin rs xs ⊎ (IsWithin rs xs → ⊥)
-within_or_not [] [] = inl tt
-within_or_not [] (x ∷ xs) = inr (λ w. w)
-within_or_not (r ∷ rs) [] = inr (λ w. w)
-within_or_not (r ∷ rs) (x ∷ xs) =
-    ⊎_elim
-    (λ here. ⊎_elim (λ more. inl (here.0, here.1, more)) (λ none. inr (λ w. none w.2)) (within_or_not rs xs))
-    (λ out. inr (λ w. out (w.0, w.1)))
-    (in_range_cases r x)
-
-in_or_not : (region : List (List Side)) (s : List ℤ) → IsInRegion region s ⊎ (IsInRegion region s → ⊥)
-in_or_not [] s = inr (λ i. i)
-in_or_not (b ∷ bs) s =
-    ⊎_elim
-    (λ here. inl (inl here))
-    (λ out. ⊎_elim (λ more. inl (inr more)) (λ none. inr (λ i. ⊎_elim out none i)) (in_or_not bs s))
-    (within_or_not b s)
+use Rattle.sot_box.proofs.Ranges.{all_without_axes, all_by_first}
+use Rattle.sot_world.proofs.Progress.{within_cases, region_cases}
 
 -- the first number from x on, before a bound, of which B holds: of all before it A does
 record First (A B : ℤ → Type 0) (x bound : ℤ) : Type 0 where
@@ -75,17 +58,9 @@ record IsLeastWithout (P : List ℤ → Type 0) (box : List Side) (s : List ℤ)
   missed : P s → ⊥
   least : (t : List ℤ) → IsWithin box t → IsBefore t s → P t
 
-all_without_axes : (P : List ℤ → Type 0) → P [] → (s : List ℤ) → IsWithin [] s → P s
-all_without_axes P here [] w = here
-all_without_axes P here (x ∷ xs) w = absurd w
-
 none_before : (P : List ℤ → Type 0) (t : List ℤ) → IsBefore t [] → P t
 none_before P [] before = absurd before
 none_before P (x ∷ xs) before = absurd before
-
-all_by_first : (P : List ℤ → Type 0) (r : Side) (rs : List Side) → ((z : ℤ) → IsIn r z → (s : List ℤ) → IsWithin rs s → P (z ∷ s)) → (s : List ℤ) → IsWithin (r ∷ rs) s → P s
-all_by_first P r rs all [] w = absurd w
-all_by_first P r rs all (x ∷ xs) w = all x (w.0, w.1) xs w.2
 
 least_by_first : (P : List ℤ → Type 0) (r : Side) (rs : List Side) (z : ℤ) (s : List ℤ) → ((y : ℤ) → r.lo ≤ℤ y → y <ℤ z → (t : List ℤ) → IsWithin rs t → P (y ∷ t)) → IsLeastWithout (λ t. P (z ∷ t)) rs s
     → (t : List ℤ) → IsWithin (r ∷ rs) t → IsBefore t (z ∷ s) → P t
@@ -115,4 +90,4 @@ all_or_least (r ∷ rs) P each =
 
 pub covers_or_gap : (region : List (List Side)) (box : List Side) → Covers region box ⊎ ((s : List ℤ) × IsGap region box s)
 covers_or_gap region box =
-    ⊎_elim (λ all. inl all) (λ h. inr (h.0, record { inside = h.1.inside; outside = h.1.missed; least = h.1.least })) (all_or_least box (IsInRegion region) (in_or_not region))
+    ⊎_elim (λ all. inl all) (λ h. inr (h.0, record { inside = h.1.inside; outside = h.1.missed; least = h.1.least })) (all_or_least box (IsInRegion region) (region_cases region))

@@ -1,15 +1,15 @@
 -- The tube of each failing point that may be answered leaves.
-use Rattle.std.proofs.Common.{ℕ, ℤ, ◌≤ℤ◌, ◌⊎◌, inl, inr, false, true, List, [], ◌∷◌, arith}
+use Rattle.std.proofs.Common.{ℕ, ℤ, ◌⊎◌, inl, inr, false, true, List}
 use Rattle.std.specs.Prelude.{◌*◌}
-use Rattle.std.proofs.lemmas.Int.{ints}
-use Rattle.sot_box.specs.Sides.{AreOrdered}
 use Rattle.sot_box.specs.Boxes.{point_box}
+use Rattle.sot_box.proofs.Ordered.{point_ordered}
 use Rattle.sot_lists.specs.Places.{At}
 use Rattle.sot_lang.specs.declared.tables.ModuleInfo.{ModuleInfo}
 use Rattle.sot_lang.specs.Tables.{Tables}
 use Rattle.sot_lang.specs.TableRules.{MeetsTableRules}
 use Rattle.sot_lang.specs.Ranges.{input_ranges}
 use Rattle.sot_tube.specs.Certified.{command_intervals}
+use Rattle.sot_tube.proofs.VerdictExact.{drafts_same}
 use Rattle.sot_halving.proofs.Covering.{failing_each}
 use Rattle.sot_certify.specs.declared.fail.CertifyFail.{CertifyFail}
 use Rattle.sot_certify.specs.declared.fail.CertifyFail.TheVariants.{Refused, Point, TooMany, Memory}
@@ -18,14 +18,9 @@ use Rattle.sot_certify.specs.Made.{IsGood, FailsAt}
 use Rattle.sot_certify.specs.Steps.{HasNoEntries}
 use Rattle.sot_certify.specs.Points.{LeavesUnderSafeNode, LeavesUnderAny, IfPointLeaves}
 use Rattle.sot_certify.specs.Laws.{PointsLeave}
-use Rattle.sot_certify.proofs.Refused.{drafts_same}
 use Rattle.sot_certify.proofs.PointDrafts.{drafts_from, commands_ordered, inputs_ordered}
 use Rattle.sot_certify.proofs.Ways.{inside_or_leaves}
 use Rattle.sot_certify.proofs.FailingTubes as tubes
-
-point_ordered : (s : List ℤ) → AreOrdered (point_box s)
-point_ordered [] = tt
-point_ordered (x ∷ xs) = (let same : x ≤ℤ x = omega (arith, ints) in (same, point_ordered xs))
 
 -- what is left of two, where the first is none
 excluded : {A B : Type 0} → A ⊎ B → (A → ⊥) → B

@@ -1,6 +1,6 @@
 -- A cell that is refused is not good.
-use Rattle.std.proofs.Common.{◌≡◌, ℕ, ⊎_elim, List, Ok, Err, false, true, subst}
-use Rattle.std.specs.Prelude.{◌+◌, ◌*◌, slice_set}
+use Rattle.std.proofs.Common.{ℕ, ⊎_elim, List, Err, false, true, subst}
+use Rattle.std.specs.Prelude.{◌+◌, ◌*◌}
 use Rattle.sot_box.specs.Sides.{Side}
 use Rattle.sot_box.proofs.Laws.{gap_uncovered}
 use Rattle.sot_lists.specs.Places.{At}
@@ -9,28 +9,18 @@ use Rattle.sot_lang.specs.declared.tables.PlantInfo.{PlantInfo}
 use Rattle.sot_lang.specs.declared.tables.NodeInfo.{NodeInfo}
 use Rattle.sot_lang.specs.declared.tables.ModuleInfo.{ModuleInfo}
 use Rattle.sot_lang.specs.Tables.{Tables}
-use Rattle.sot_lang.specs.Ranges.{input_ranges, local_ranges, write_ranges}
+use Rattle.sot_lang.specs.Ranges.{input_ranges}
 use Rattle.sot_lang.specs.TableRules.{MeetsTableRules}
-use Rattle.sot_iv.specs.BodyIntervals.{Intervals, IsExecutionIntervals}
-use Rattle.sot_iv.specs.NodeIntervals.{reading_intervals}
-use Rattle.sot_iv.proofs.BodyUnique.{execution_same}
 use Rattle.sot_tube.specs.Refusals.{Refusal}
 use Rattle.sot_tube.specs.Leaves.{TubeLeaves}
-use Rattle.sot_tube.specs.Certified.{DraftsFrom, command_intervals}
+use Rattle.sot_tube.specs.Certified.{command_intervals}
 use Rattle.sot_tube.specs.Verdict.{closed_cell}
-use Rattle.sot_tube.proofs.Leaving.{all_hulls_same, tube_leaves_not}
+use Rattle.sot_tube.proofs.Leaving.{tube_leaves_not}
+use Rattle.sot_tube.proofs.VerdictExact.{drafts_same}
 use Rattle.sot_rta.specs.declared.refusal.Refusal.{Refusal as CodeRefusal}
 use Rattle.sot_rta.specs.Refused.{refusal_view}
 use Rattle.sot_rta.specs.Cells.{AnswersClosedCell, AnswersReachCell}
 use Rattle.sot_certify.specs.Made.{IsGood}
-
--- what the safe node drafts from a cell is one thing
-pub drafts_same : (p : Tables) (a : ModuleInfo) (sc : NodeInfo) (us : List Act) (cell : List Side) (f g : Intervals) → DraftsFrom p a sc us cell f → DraftsFrom p a sc us cell g → f ≡ g
-drafts_same p a sc us cell f g h h' =
-    let e = all_hulls_same p h.hulls h'.hulls h.are h'.are in
-    let one = execution_same us (local_ranges sc) (write_ranges p sc) (reading_intervals p sc (slice_set h'.hulls a.plant cell)) (local_ranges sc) (Ok f) (Ok g)
-    (subst (λ q. IsExecutionIntervals us (local_ranges sc) (write_ranges p sc) (reading_intervals p sc (slice_set q a.plant cell)) (local_ranges sc) (Ok f)) e h.runs) h'.runs in
-    cc
 
 closed_refused : (p : Tables) (m : ℕ) (a : ModuleInfo) (plant : PlantInfo) (sc : NodeInfo) (us : List Act) (i : ℕ) (cell : List Side) (r : Refusal)
     → (closed_cell p 0 m a plant sc us i cell).Refuses r → (closed_cell p 0 m a plant sc us i cell).Passes → ⊥

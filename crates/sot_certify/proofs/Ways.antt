@@ -1,21 +1,22 @@
 -- A tube stays inside a region, or leaves it in some way.
-use Rattle.std.proofs.Common.{ℕ, zero, suc, ◌≤ℤ◌, ◌⊎◌, ⊎_elim, inl, inr, List, [], ◌∷◌, ◌++◌, Ok, Err, map, length, refl}
+use Rattle.std.proofs.Common.{ℕ, zero, suc, ◌⊎◌, ⊎_elim, inl, inr, List, [], ◌∷◌, ◌++◌, Ok, Err, map, length, refl}
 use Rattle.std.specs.Prelude.{slice_index_or}
 use Rattle.sot_box.specs.Sides.{Side, AreOrdered}
 use Rattle.sot_box.specs.Boxes.{lows}
-use Rattle.sot_box.specs.Regions.{Covers, IsHull}
+use Rattle.sot_box.specs.Regions.{Covers}
 use Rattle.sot_box.proofs.Ranges.{lows_within, within_in_order}
+use Rattle.sot_box.proofs.Ordered.{append_ordered}
 use Rattle.sot_lists.specs.Places.{At, Has}
-use Rattle.sot_lang.specs.declared.tables.NoiseInfo.{NoiseInfo}
 use Rattle.sot_lang.specs.declared.tables.PlantInfo.{PlantInfo}
-use Rattle.sot_lang.specs.declared.tables.ModuleInfo.{ModuleInfo}
 use Rattle.sot_lang.specs.Tables.{Tables}
 use Rattle.sot_lang.specs.TableRules.{MeetsTableRules}
 use Rattle.sot_lang.specs.TermPlaces.{HavePlaces}
 use Rattle.sot_lang.specs.OwnerNames.{plant_truths}
 use Rattle.sot_lang.specs.Ranges.{bounds}
-use Rattle.sot_lang.specs.SafeRegions.{safe_of, AllHulls, AreHulls, joined_boxes}
+use Rattle.sot_lang.specs.SafeRegions.{AllHulls, AreHulls, joined_boxes}
 use Rattle.sot_lang.proofs.Places.{HavePlaces-TermsFit}
+use Rattle.sot_lang.proofs.Owners.{noise_ordered}
+use Rattle.sot_lang.proofs.SafeRegions.{hulls_ordered}
 use Rattle.sot_iv.specs.TermIntervals.{OrMayTrap}
 use Rattle.sot_iv.specs.Evaluation.{term_intervals}
 use Rattle.sot_iv.proofs.Terms.{terms_are}
@@ -26,14 +27,10 @@ use Rattle.sot_tube.specs.declared.leave.Leave.{Leave}
 use Rattle.sot_tube.specs.declared.leave.Leave.TheVariants.{Out, Trap}
 use Rattle.sot_certify.proofs.Gaps.{covers_or_gap}
 
-appended : (rs ss : List Side) → AreOrdered rs → AreOrdered ss → AreOrdered (rs ++ ss)
-appended [] ss a b = b
-appended (r ∷ rs) ss a b = (a.0, appended rs ss a.1 b)
-
 module _ (plant : PlantInfo) (commands seen : List Side) (region : List (List Side)) (n : ℕ) (places : HavePlaces n plant.next.items)
     (ordered_commands : AreOrdered commands) (ordered_seen : AreOrdered seen) (ordered_bounds : AreOrdered (bounds plant)) where
   names_ordered : (box : List Side) → AreOrdered box → AreOrdered (box ++ commands ++ seen ++ bounds plant)
-  names_ordered box ordered = appended (box ++ commands ++ seen) (bounds plant) (appended (box ++ commands) seen (appended box commands ordered ordered_commands) ordered_seen) ordered_bounds
+  names_ordered box ordered = append_ordered (box ++ commands ++ seen) (bounds plant) (append_ordered (box ++ commands) seen (append_ordered box commands ordered ordered_commands) ordered_seen) ordered_bounds
 
   next_ordered : (box next : List Side) → AreOrdered box → IsNextBox plant box commands seen (Ok next) → AreOrdered next
   next_ordered box next ordered is =
@@ -63,19 +60,6 @@ module _ (plant : PlantInfo) (commands seen : List Side) (region : List (List Si
           (λ stays. inl (covers, (next, is, stays)))
           (λ way. inr (way.0, inr (inr (covers, next, is, way.1))))
           (later next (next_ordered box next ordered is))
-
-noise_ordered : (ds : List NoiseInfo) → ((i : ℕ) (d : NoiseInfo) → At ds i d → d.lo ≤ℤ d.hi) → AreOrdered (map (λ d. let r : Side = record { lo = d.lo; hi = d.hi } in r) ds)
-noise_ordered [] each = tt
-noise_ordered (d ∷ ds) each = (each 0 d refl, noise_ordered ds (λ i. each (suc i)))
-
-hulls_ordered : (ms : List ModuleInfo) (ks : List ℕ) (hulls : List (List Side)) → AreHulls ms ks hulls → AreOrdered (joined_boxes hulls)
-hulls_ordered ms [] [] are = tt
-hulls_ordered ms (k ∷ ks) (h ∷ hs) are = appended h (joined_boxes hs) (here are.0) (hulls_ordered ms ks hs are.1)
-  where
-    here : IsHull (safe_of ms k) h → AreOrdered h
-    here is = within_in_order h is.has_point.0 (is.holds is.has_point.0 is.has_point.1)
-hulls_ordered ms [] (h ∷ hs) are = absurd are
-hulls_ordered ms (k ∷ ks) [] are = absurd are
 
 -- the hulls of some plants, of the hulls of all
 picked_hulls : (p : Tables) (all : List (List Side)) → AllHulls p all → (ks : List ℕ) → ((k : ℕ) → Has ks k → (plant : PlantInfo) × At p.plants k plant) → AreHulls p.modules ks (map (λ k. slice_index_or all k []) ks)

@@ -1,9 +1,9 @@
 -- The entries of certificates that are made for tables that look the same are the same.
-use Rattle.std.proofs.Common.{◌≡◌, ℕ, zero, suc, ◌<◌, true, Option, Some, Ok, List, [], ◌∷◌, map, length, refl, sym, ap, ap₂, ◌∙◌, subst, arith}
+use Rattle.std.proofs.Common.{◌≡◌, ℕ, zero, suc, ◌<◌, true, Option, Some, Ok, List, [], ◌∷◌, map, length, refl, sym, ap, ◌∙◌, subst}
 use Rattle.std.proofs.lemmas.Option.{slice_get_within}
 use Rattle.sot_box.specs.BoxList.{BoxList}
 use Rattle.sot_lists.specs.Places.{At}
-use Rattle.sot_lists.proofs.Places.{at_same, at_below}
+use Rattle.sot_lists.proofs.Places.{at_same, at_below, same_list}
 use Rattle.sot_lang.specs.declared.cert.Cells.{Cells}
 use Rattle.sot_lang.specs.declared.cert.Cert.{Cert}
 use Rattle.sot_lang.specs.declared.tables.PlantInfo.{PlantInfo}
@@ -27,13 +27,6 @@ width_seen : (xs : List PlantInfo) (k : ℕ) → width_of xs k ≡ states_of (ma
 width_seen [] k = refl
 width_seen (x ∷ xs) zero = refl
 width_seen (x ∷ xs) (suc k) = width_seen xs k
-
--- lists with the same things at each place are one
-same_list : {A : Type 0} (xs ys : List A) → length xs ≡ length ys → ((m : ℕ) (x y : A) → At xs m x → At ys m y → x ≡ y) → xs ≡ ys
-same_list [] [] count each = refl
-same_list [] (y ∷ ys) count each = absurd (omega (arith, count))
-same_list (x ∷ xs) [] count each = absurd (omega (arith, count))
-same_list (x ∷ xs) (y ∷ ys) count each = ap₂ (λ z zs. z ∷ zs) (each 0 x y refl refl) (same_list xs ys (omega (arith, count)) (λ m. each (suc m)))
 
 same_boxes : (x y : BoxList) → x.width ≡ y.width → x.boxes ≡ y.boxes → x.settled ≡ y.settled → x ≡ y
 same_boxes x y width boxes settled = λ i. record { width = width i; boxes = boxes i; settled = settled i }

@@ -1,10 +1,11 @@
 -- Slots that are filled one after another.
-use Rattle.std.proofs.Common.{◌≡◌, ℕ, suc, ◌+◌, ◌-◌, ◌<◌, ℤ, List, [], ◌∷◌, ◌++◌, length, take, drop, replicate, get_or, refl, ap, ap₂, append_assoc, sym, ◌∙◌, arith, FitsSigned, to_z, of_z, w64}
+use Rattle.std.proofs.Common.{◌≡◌, ℕ, suc, ◌+◌, ◌-◌, ◌<◌, ℤ, List, [], ◌∷◌, ◌++◌, length, take, drop, replicate, get_or, refl, ap, ap₂, append_assoc, sym, ◌∙◌, arith, FitsSigned, to_z, of_z, w64, zero, Option, None}
 use Rattle.std.proofs.Math.ListN.{set}
-use Rattle.std.specs.Prelude.{Some, slice_get}
-use Rattle.std.proofs.lemmas.Option.{get_or_from_slice_get}
+use Rattle.std.specs.Prelude.{Some, slice_get, slice_set}
+use Rattle.std.proofs.lemmas.Option.{get_or_from_slice_get, none-some, same_Some}
 use Rattle.std.proofs.lemmas.Int.{to_z-of_z}
 use Rattle.std.proofs.lemmas.List.{take_more, take_more_set, drop_more, drop-set-lt}
+use Rattle.sot_lists.specs.Places.{At}
 
 pub read_word : (z : ℤ) → FitsSigned w64 z → to_z w64 (of_z w64 z) ≡ z
 read_word z f = to_z-of_z w64 z f
@@ -40,3 +41,17 @@ module _ {A : Type 0} where
       ap (λ n. take n (set slots (from + i) x)) e ∙ take_more_set slots (from + i) x lt
       ∙ ap (λ l. l ++ x ∷ []) same ∙ append_assoc before (take i parts) (x ∷ [])
       ∙ ap (λ l. before ++ l) (ap (λ y. take i parts ++ y ∷ []) (sym here) ∙ sym (take_more parts i x below))
+
+put_from : (draft : List (Option ℤ)) (i n : ℕ) (slot : Option ℤ) → At draft i slot → slice_set (take i draft ++ replicate (suc n) None) i slot ≡ take (suc i) draft ++ replicate n None
+put_from [] i n slot at = absurd (none-some slot at)
+put_from (x ∷ xs) zero n slot at = ap (λ y. y ∷ replicate n None) (sym (same_Some x slot at))
+put_from (x ∷ xs) (suc i) n slot at = ap (λ ys. x ∷ ys) (put_from xs i n slot at)
+
+-- one slot more of a draft is put into eight
+pub put_more : (draft : List (Option ℤ)) (i : ℕ) (slot : Option ℤ) → At draft i slot → i < 8 → slice_set (take i draft ++ replicate (8 - i) None) i slot ≡ take (i + 1) draft ++ replicate (8 - (i + 1)) None
+put_more draft i slot at lt =
+    let e : 8 - i ≡ suc (8 - (i + 1)) = omega arith in
+    let s : suc i ≡ i + 1 = omega arith in
+    ap (λ n. slice_set (take i draft ++ replicate n None) i slot) e
+    ∙ put_from draft i (8 - (i + 1)) slot at
+    ∙ ap (λ k. take k draft ++ replicate (8 - (i + 1)) None) s

@@ -1,14 +1,13 @@
 -- Whether a module's tube keeps its plant, settled tick by tick.
-use Rattle.std.proofs.Common.{◌≡◌, ◌≢◌, ℕ, zero, suc, ◌+◌, ◌*◌, ℤ, ◌≤ℤ◌, ◌⊎◌, ⊎_elim, inl, inr, List, [], ◌∷◌, ◌++◌, Ok, Err, length, map, refl, subst, arith}
-use Rattle.std.proofs.lemmas.Int.{ints}
+use Rattle.std.proofs.Common.{◌≡◌, ◌≢◌, ℕ, zero, suc, ◌+◌, ◌*◌, ℤ, ◌⊎◌, ⊎_elim, inl, inr, List, [], ◌∷◌, ◌++◌, Ok, Err, length, map, refl, subst}
 use Rattle.sot_lists.specs.Places.{At}
 use Rattle.sot_lists.proofs.Places.{at_same}
 use Rattle.sot_box.specs.Sides.{Side, AreOrdered}
 use Rattle.sot_box.specs.Boxes.{point_box, lows}
-use Rattle.sot_box.specs.Regions.{IsInRegion, Covers, IsHull}
+use Rattle.sot_box.specs.Regions.{IsInRegion, Covers}
 use Rattle.sot_box.proofs.Ranges.{lows_within, within_in_order, within_picked}
+use Rattle.sot_box.proofs.Ordered.{append_ordered, point_ordered}
 use Rattle.sot_lang.specs.declared.cert.Cert.{Cert}
-use Rattle.sot_lang.specs.declared.tables.NoiseInfo.{NoiseInfo}
 use Rattle.sot_lang.specs.declared.tables.PlantInfo.{PlantInfo}
 use Rattle.sot_lang.specs.declared.tables.ModuleInfo.{ModuleInfo}
 use Rattle.sot_lang.specs.Tables.{Tables}
@@ -16,8 +15,10 @@ use Rattle.sot_lang.specs.TableRules.{MeetsTableRules}
 use Rattle.sot_lang.specs.TermPlaces.{HavePlaces}
 use Rattle.sot_lang.specs.OwnerNames.{plant_truths}
 use Rattle.sot_lang.specs.Ranges.{bounds, input_ranges, scalar_ranges}
-use Rattle.sot_lang.specs.SafeRegions.{safe_of, AreHulls, joined_boxes}
+use Rattle.sot_lang.specs.SafeRegions.{AreHulls, joined_boxes}
 use Rattle.sot_lang.proofs.Places.{HavePlaces-TermsFit}
+use Rattle.sot_lang.proofs.Owners.{noise_ordered}
+use Rattle.sot_lang.proofs.SafeRegions.{hulls_ordered}
 use Rattle.sot_iv.specs.TermIntervals.{OrMayTrap}
 use Rattle.sot_iv.specs.Evaluation.{term_intervals}
 use Rattle.sot_iv.proofs.Terms.{terms_are}
@@ -26,27 +27,6 @@ use Rattle.sot_tube.specs.Tubes.{StaysInside, IsNextBox, AnyTubeInside, Keeps}
 use Rattle.sot_tube.specs.Certified.{IsWellCertified}
 use Rattle.sot_tube.proofs.Leaving.{hulls_same}
 use Rattle.sot_completion.proofs.Covering.{IsSettled, covers_settled}
-
-ordered_append : (rs ss : List Side) → AreOrdered rs → AreOrdered ss → AreOrdered (rs ++ ss)
-ordered_append [] ss a b = b
-ordered_append (r ∷ rs) ss a b = (a.0, ordered_append rs ss a.1 b)
-
-ordered_point : (s : List ℤ) → AreOrdered (point_box s)
-ordered_point [] = tt
-ordered_point (x ∷ xs) = (omega (arith, ints), ordered_point xs)
-
-ordered_noise : (ds : List NoiseInfo) → ((i : ℕ) (d : NoiseInfo) → At ds i d → d.lo ≤ℤ d.hi) → AreOrdered (map (λ d. let r : Side = record { lo = d.lo; hi = d.hi } in r) ds)
-ordered_noise [] each = tt
-ordered_noise (d ∷ ds) each = (each 0 d refl, ordered_noise ds (λ i. each (suc i)))
-
-ordered_hulls : (ms : List ModuleInfo) (ks : List ℕ) (hulls : List (List Side)) → AreHulls ms ks hulls → AreOrdered (joined_boxes hulls)
-ordered_hulls ms [] [] are = tt
-ordered_hulls ms (k ∷ ks) (h ∷ hs) are = ordered_append h (joined_boxes hs) (here are.0) (ordered_hulls ms ks hs are.1)
-  where
-    here : IsHull (safe_of ms k) h → AreOrdered h
-    here is = within_in_order h is.has_point.0 (is.holds is.has_point.0 is.has_point.1)
-ordered_hulls ms [] (h ∷ hs) are = absurd are
-ordered_hulls ms (k ∷ ks) [] are = absurd are
 
 -- a region of some box has a point, and a point of a region is in some box
 some_point : (boxes : List (List Side)) → boxes ≢ [] → ((i : ℕ) (b : List Side) → At boxes i b → AreOrdered b) → (s : List ℤ) × IsInRegion boxes s
@@ -61,7 +41,7 @@ module _ (plant : PlantInfo) (commands seen : List Side) (region : List (List Si
     (ordered_commands : AreOrdered commands) (ordered_seen : AreOrdered seen) (ordered_bounds : AreOrdered (bounds plant)) where
   ordered_names : (box : List Side) → AreOrdered box → AreOrdered (box ++ commands ++ seen ++ bounds plant)
   ordered_names box ordered =
-      ordered_append (box ++ commands ++ seen) (bounds plant) (ordered_append (box ++ commands) seen (ordered_append box commands ordered ordered_commands) ordered_seen) ordered_bounds
+      append_ordered (box ++ commands ++ seen) (bounds plant) (append_ordered (box ++ commands) seen (append_ordered box commands ordered ordered_commands) ordered_seen) ordered_bounds
 
   -- the next box is one of intervals in order
   ordered_next : (box next : List Side) → AreOrdered box → IsNextBox plant box commands seen (Ok next) → AreOrdered next
@@ -113,5 +93,5 @@ module _ (p : Tables) (jitter : ℕ) (cert : Cert) (rules : MeetsTableRules p) (
           let inside = subst (λ x. AnyTubeInside p x a.safe.boxes (point_box s) (2 * (a.period + jitter))) (at_same p.plants a.plant keeps.plant plant keeps.is at_p) keeps.inside in
           not (subst (λ hs. StaysInside plant (input_ranges p plant) (joined_boxes hs) a.safe.boxes (point_box s) (2 * (a.period + jitter))) (hulls_same p.modules plant.sees.items inside.hulls hulls.0 inside.are hulls.1) inside.stays)))
           (stays_settled plant (input_ranges p plant) (joined_boxes hulls.0) a.safe.boxes (length (plant_truths p plant)) (HavePlaces-TermsFit (plant_truths p plant) plant.next.items r.next)
-          inputs (ordered_hulls p.modules plant.sees.items hulls.0 hulls.1) (ordered_noise plant.noise.items (λ i d at_d. (r.noise_ranges i d at_d).1.0))
-          (2 * (a.period + jitter)) (point_box s) (ordered_point s))
+          inputs (hulls_ordered p.modules plant.sees.items hulls.0 hulls.1) (noise_ordered plant.noise.items (λ i d at_d. (r.noise_ranges i d at_d).1.0))
+          (2 * (a.period + jitter)) (point_box s) (point_ordered s))

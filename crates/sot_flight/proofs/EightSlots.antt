@@ -1,24 +1,10 @@
 -- A draft that is put into eight slots, one slot after another.
 use Rattle.std.proofs.Common.{◌≡◌, ℕ, zero, suc, ◌+◌, ◌-◌, ◌<◌, List, [], ◌∷◌, ◌++◌, Option, None, length, take, sym, ap, ◌∙◌, arith}
-use Rattle.std.specs.Prelude.{ℤ, replicate, slice_set}
+use Rattle.std.specs.Prelude.{ℤ, replicate}
 use Rattle.std.proofs.lemmas.List.{take_all}
 use Rattle.std.proofs.lemmas.Option.{none-some, same_Some}
 use Rattle.sot_lists.specs.Places.{At}
 use Rattle.sot_code.specs.Recorded.{in_slots}
-
-put_from : (draft : List (Option ℤ)) (i n : ℕ) (slot : Option ℤ) → At draft i slot → slice_set (take i draft ++ replicate (suc n) None) i slot ≡ take (suc i) draft ++ replicate n None
-put_from [] i n slot at = absurd (none-some slot at)
-put_from (x ∷ xs) zero n slot at = ap (λ y. y ∷ replicate n None) (sym (same_Some x slot at))
-put_from (x ∷ xs) (suc i) n slot at = ap (λ ys. x ∷ ys) (put_from xs i n slot at)
-
--- one slot more is drafted
-pub put_more : (draft : List (Option ℤ)) (i : ℕ) (slot : Option ℤ) → At draft i slot → i < 8 → slice_set (take i draft ++ replicate (8 - i) None) i slot ≡ take (i + 1) draft ++ replicate (8 - (i + 1)) None
-put_more draft i slot at lt =
-    let e : 8 - i ≡ suc (8 - (i + 1)) = omega arith in
-    let s : suc i ≡ i + 1 = omega arith in
-    ap (λ n. slice_set (take i draft ++ replicate n None) i slot) e
-    ∙ put_from draft i (8 - (i + 1)) slot at
-    ∙ ap (λ k. take k draft ++ replicate (8 - (i + 1)) None) s
 
 blank_from : (draft : List (Option ℤ)) (i n : ℕ) → At draft i None → take i draft ++ replicate (suc n) None ≡ take (suc i) draft ++ replicate n None
 blank_from [] i n at = absurd (none-some None at)

@@ -2,7 +2,7 @@
 use Rattle.std.proofs.Common.{◌≡◌, ◌≢◌, ℕ, zero, suc, ◌+◌, ◌-◌, ◌≤◌, ◌<◌, ⊎_elim, ℤ, pos, negsuc, ◌≤ℤ◌, Bool, true, false, List, [], ◌∷◌, length, map, take, drop, Option, Some, None, Result, Ok, Err, IfOk, codes, refl, sym, ap, subst, ◌∙◌, arith}
 use Rattle.std.specs.Prelude.{unsigned_abs, slice_index_or, slice_get, nat_le, nat_lt, ◌==◌, not, ◌||◌, bytes_eq, filter, position, is_none}
 use Rattle.std.specs.List.{list_any}
-use Rattle.std.proofs.lemmas.Bool.{eqb-true, eq-eqb, leb-true, ltb-true, cases_lt, lt-ltb}
+use Rattle.std.proofs.lemmas.Bool.{eqb-true, eq-eqb, leb-true, ltb-true, cases_lt, lt-ltb, not-true, and_parts}
 use Rattle.std.proofs.lemmas.Int.{ints}
 use Rattle.std.proofs.lemmas.Option.{same_Some, none-some, slice_get_within, get_or_from_slice_get}
 use Rattle.std.proofs.lemmas.List.{length-take-le}
@@ -21,14 +21,16 @@ use Rattle.sot_lang.specs.declared.tables.NodeInfo.{NodeInfo}
 use Rattle.sot_lang.specs.Tables.{Tables}
 use Rattle.sot_lang.specs.TableRules.{MeetsTableRules}
 use Rattle.sot_lang.specs.Ranges.{bounds, range_of, scalar_ranges}
+use Rattle.sot_lang.proofs.Topics.{topic_inside}
 use Rattle.sot_cert.specs.declared.fault.JsonKind.TheVariants.{WrongShape, OutsideRange, Width, Empty, Unknown, Order, NoGuest, GuestTwice, TooManyEvents, TooManyNumbers}
 use Rattle.sot_cert.specs.declared.fault.JsonFail.{JsonFail}
 use Rattle.sot_cert.specs.Answers.{Gives}
 use Rattle.sot_cert.specs.Says.{Says, or, unless}
 use Rattle.sot_cert.specs.Json.{whole, count, at, is_within, all_among}
 use Rattle.sot_cert.specs.CertFormat.{number}
-use Rattle.sot_cert.proofs.Binds.{bind_ok, unless_ok, ok_same, told, and_left, and_right}
+use Rattle.sot_cert.proofs.Binds.{bind_ok, unless_ok, ok_same, told}
 use Rattle.sot_cert.proofs.Bounds.{int_le_true, whole_within}
+use Rattle.sot_cert.proofs.Fits.{at_ok}
 use Rattle.sot_flight.specs.declared.sway.SwayKind.{SwayKind}
 use Rattle.sot_flight.specs.declared.sway.SwayKind.TheVariants as sway_kinds
 use Rattle.sot_flight.specs.declared.crew.CrewKind.{CrewKind}
@@ -38,7 +40,7 @@ use Rattle.sot_flight.specs.Counts.{events_of, numbers_of}
 use Rattle.sot_flight.specs.Fits.{FitsInput, FitsSway, FitsCrew, FitsFlight}
 use Rattle.sot_flight.specs.ListForms.{number_in, number_at, numbers_in, numbers, rows_in, slot, draft, drafts, for_each_after}
 use Rattle.sot_flight.specs.FlightFormat.{greatest, point_at, plant_names, start, last_time, time, is_outside, topic, ranges_of_topic, topic_ranges, input, inputs, sway_kind, sway_as, sway, has_noise, sway_at, sways, crew_kind, is_guest, guest, crew_as, crew, is_external, crew_at, crews, node_names, flight_keys, counted, flight}
-use Rattle.sot_flight.proofs.ReadForms.{at_ok, numbers_len}
+use Rattle.sot_flight.proofs.ReadForms.{numbers_len}
 use Rattle.sot_flight.proofs.FoundLists.{found_len, found_at, read_len, read_at_place, taken_len}
 
 -- ---- numbers
@@ -61,7 +63,8 @@ number_inside r d z h =
     let n = bind_ok (number d) _ z h in
     let w = bind_ok (unless OutsideRange (is_within r.lo r.hi n.0)) _ z n.2 in
     let b : is_within r.lo r.hi n.0 ≡ true = unless_ok OutsideRange _ _ w.1 in
-    subst (IsIn r) (ok_same n.0 z w.2) (int_le_true r.lo n.0 (and_left _ _ b), int_le_true n.0 r.hi (and_right _ _ b))
+    let ends = and_parts (int_le r.lo n.0) (int_le n.0 r.hi) b in
+    subst (IsIn r) (ok_same n.0 z w.2) (int_le_true r.lo n.0 ends.0, int_le_true n.0 r.hi ends.1)
 
 -- a list of numbers, each in the range of its place
 record AreInRanges (ranges : List Side) (zs : List ℤ) : Type 0 where
@@ -214,25 +217,18 @@ topic_form p d k h =
     go name place t =
         let facts = position-Some (is_outside name) p.topics k t.0 place in
         let test = subst (λ s. is_outside name s ≡ true) (get_or_from_slice_get p.topics k t.0 t.0 t.1) facts.1 in
-        record { info = t.0; is = t.1; outside = and_left t.0.outside (bytes_eq t.0.name name) test }
+        record { info = t.0; is = t.1; outside = (and_parts t.0.outside (bytes_eq t.0.name name) test).0 }
 
 ranges_len : {A : Type 0} (xs : List A) (n count : ℕ) → n + count ≤ length xs → length (take count (drop n xs)) ≡ count
 ranges_len xs zero count le = length-take-le count xs (omega (arith, le))
 ranges_len [] (suc n) count le = absurd (omega (arith, le))
 ranges_len (x ∷ xs) (suc n) count le = ranges_len xs n count (omega (arith, le))
 
--- a topic's scalars are there
-topic_room : (p : Tables) → MeetsTableRules p → (k : ℕ) (info : TopicInfo) → At p.topics k info → info.first + info.count ≤ length p.scalars
-topic_room p rules k info at =
-    let some = (rules.topics k info at).0 in
-    let last = rules.typed.topic_scalar k (info.first + (info.count - 1)) info at (omega arith) (omega (arith, some)) in
-    omega (arith, some, slice_get_within p.scalars _ last.0 last.1)
-
 value_fits : (p : Tables) → MeetsTableRules p → (k : ℕ) (info : TopicInfo) → At p.topics k info → (zs : List ℤ) → AreInRanges (topic_ranges p k) zs
     → (length zs ≡ info.count) × ((i : ℕ) (z : ℤ) → At zs i z → IsIn (range_of p.scalars (info.first + i)) z)
 value_fits p rules k info at zs inside =
     let ranges : topic_ranges p k ≡ ranges_of_topic p info = get_or_from_slice_get (map (ranges_of_topic p) p.topics) k (ranges_of_topic p info) [] (at_map (ranges_of_topic p) p.topics k info at) in
-    let room : info.first + info.count ≤ length (scalar_ranges p) = omega (arith, topic_room p rules k info at, ranges_count p) in
+    let room : info.first + info.count ≤ length (scalar_ranges p) = omega (arith, topic_inside p rules k info at, ranges_count p) in
     let len = ranges_len (scalar_ranges p) info.first info.count room in
     let size : length zs ≡ info.count = inside.size ∙ ap length ranges ∙ len in (
       size,
@@ -377,10 +373,6 @@ record IsCrewAfter (guests : ℕ) (done : List Crew) (node : NodeInfo) (c : Crew
 guest_same : (i j : ℕ) → Guest i ≡ Guest j → i ≡ j
 guest_same i j e = cc
 
-not_false : (b : Bool) → not b ≡ true → b ≡ false
-not_false true h = cc
-not_false false h = refl
-
 record IsGuestAfter (guests : ℕ) (done : List Crew) (i : ℕ) : Type 0 where
   there : i < guests
   once : list_any (is_guest i) done ≡ false
@@ -391,7 +383,7 @@ guest_form guests done d i h =
     let n = bind_ok (count greatest d) _ i h in
     let low = bind_ok (unless NoGuest (nat_lt n.0 guests)) _ i n.2 in
     let one = bind_ok (unless GuestTwice (not (list_any (is_guest n.0) done))) _ i low.2 in
-    subst (IsGuestAfter guests done) (ok_same n.0 i one.2) (record { there = ltb-true _ _ (unless_ok NoGuest _ _ low.1); once = not_false _ (unless_ok GuestTwice _ _ one.1) })
+    subst (IsGuestAfter guests done) (ok_same n.0 i one.2) (record { there = ltb-true _ _ (unless_ok NoGuest _ _ low.1); once = not-true _ (unless_ok GuestTwice _ _ one.1) })
 
 crew_as_form : (guests : ℕ) (done : List Crew) (node : NodeInfo) (ms : Members) (kind : CrewKind) (c : Crew) → node.body ≡ None → crew_as guests done node ms kind ≡ Ok c → IsCrewAfter guests done node c
 unfolding crew_as

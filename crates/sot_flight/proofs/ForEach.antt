@@ -6,13 +6,10 @@ use Rattle.std.proofs.lemmas.Option.{slice_get_read}
 use Rattle.sot_lists.proofs.Places.{drop_at}
 use Rattle.sot_cert.specs.declared.fault.JsonFail.{JsonFail}
 use Rattle.sot_cert.specs.declared.fault.JsonFail.TheVariants as fails
-use Rattle.sot_cert.specs.Says.{Says, ◌>>=◌}
+use Rattle.sot_cert.specs.Says.{Says}
 use Rattle.sot_cert.specs.Answers.{Fails}
+use Rattle.sot_cert.proofs.Modules.{bind_fails}
 use Rattle.sot_flight.specs.ListForms.{for_each_after}
-
-bind_fails : {A B : Type 0} (r : JsonFail) (says : Says A) (f : A → Says B) → Fails r says → Fails r (says >>= f)
-bind_fails fails.Memory says f h = tt
-bind_fails (fails.Fault g) says f h = rw h refl
 
 drop_past : {X : Type 0} (xs : List X) (i : ℕ) → length xs ≤ i → drop i xs ≡ []
 drop_past xs i le = drop_of_length-le xs le

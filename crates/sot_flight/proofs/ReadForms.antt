@@ -4,19 +4,15 @@ use Rattle.std.specs.Prelude.{◌==◌}
 use Rattle.std.proofs.lemmas.Bool.{eqb-true}
 use Rattle.serde_json.specs.Data.{Data, Members}
 use Rattle.serde_json.specs.Events.{items_len}
-use Rattle.serde_json.specs.Find.{get_member, as_array}
-use Rattle.sot_cert.specs.declared.fault.JsonKind.TheVariants.{WrongShape, Missing, Width}
-use Rattle.sot_cert.specs.Says.{Says, or, unless}
+use Rattle.serde_json.specs.Find.{as_array}
+use Rattle.sot_cert.specs.declared.fault.JsonKind.TheVariants.{WrongShape, Width}
+use Rattle.sot_cert.specs.Says.{or, unless}
 use Rattle.sot_cert.specs.Json.{at}
 use Rattle.sot_cert.specs.CertFormat.{number}
-use Rattle.sot_cert.proofs.Binds.{bind_ok, part_ok, unless_ok}
+use Rattle.sot_cert.proofs.Binds.{bind_ok, unless_ok}
 use Rattle.sot_cert.proofs.Sides.{each_len}
+use Rattle.sot_cert.proofs.Fits.{at_ok}
 use Rattle.sot_flight.specs.ListForms.{numbers}
-
--- what was said at a key was said of a value
-pub at_ok : {A : Type 0} (key : List ℕ) (f : Data → Says A) (ms : Members) (x : A) → at key f ms ≡ Ok x → (d : Data) × (f d ≡ Ok x)
-unfolding at
-at_ok key f ms x h = let b = bind_ok (or Missing (get_member key ms)) f x (part_ok key _ x h) in (b.0, b.2)
 
 pub numbers_len : (width : ℕ) (d : Data) (xs : List ℤ) → numbers width d ≡ Ok xs → length xs ≡ width
 unfolding numbers

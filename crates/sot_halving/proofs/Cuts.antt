@@ -1,19 +1,14 @@
 -- The halves of a box.
-use Rattle.std.proofs.Common.{◌≡◌, ℕ, zero, suc, ◌<◌, ◌⊎◌, inl, inr, ⊎_elim, ℤ, pos, ◌+ℤ◌, ◌≤ℤ◌, List, [], ◌∷◌, refl, sym, ap, ap₂, ◌∙◌, subst, arith}
+use Rattle.std.proofs.Common.{◌≡◌, ℕ, zero, suc, ◌⊎◌, inl, inr, ⊎_elim, ℤ, pos, ◌+ℤ◌, ◌≤ℤ◌, List, [], ◌∷◌, refl, sym, ap, ap₂, ◌∙◌, subst, arith}
 use Rattle.std.specs.Prelude.{slice_set}
 use Rattle.std.proofs.lemmas.Int.{ints, by_lt_z}
-use Rattle.std.proofs.lemmas.Bool.{cases_lt}
 use Rattle.std.proofs.lemmas.Option.{same_Some, none-some}
 use Rattle.sot_box.specs.Sides.{Side}
 use Rattle.sot_box.specs.Boxes.{IsWithin, lows, point_box}
 use Rattle.sot_lists.specs.Places.{At}
 use Rattle.sot_lists.proofs.Places.{at_same}
+use Rattle.sot_lists.proofs.Numbers.{by_order}
 use Rattle.sot_halving.specs.Cuts.{IsOnePoint, IsWidest, IsMiddle, AreHalves}
-
--- of two numbers one is less, or they are one
-by_order : {P : Type 0} (m n : ℕ) → (m < n → P) → (n < m → P) → (m ≡ n → P) → P
-by_order m n less more same =
-    ⊎_elim less (λ le. ⊎_elim more (λ ge. same (omega arith)) (cases_lt n m)) (cases_lt m n)
 
 -- a box of one point has no halves
 pub point_uncut : (box low high : List Side) → IsOnePoint box → AreHalves box low high → ⊥

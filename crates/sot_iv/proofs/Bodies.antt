@@ -5,7 +5,7 @@ use Rattle.std.proofs.Math.ListN.{length-set}
 use Rattle.std.proofs.lemmas.Bool.{cases_Bool}
 use Rattle.sot_text.specs.declared.token.Span.{Span}
 use Rattle.sot_box.specs.Sides.{Side, AreOrdered}
-use Rattle.sot_box.proofs.Ordered.{ordered-set}
+use Rattle.sot_box.proofs.Ordered.{ordered-set, append_ordered}
 use Rattle.sot_lang.specs.declared.act.Act.{Act, Row_of-Act, end_of-Act, more_of-Act}
 use Rattle.sot_lang.specs.declared.act.Act.TheVariants.{Assign, Publish, If', Repeat'}
 use Rattle.sot_lang.specs.declared.term.Term.{Term}
@@ -42,10 +42,6 @@ record Fits (l d : ℕ) (f : Intervals) : Type 0 where
 abbrev EndsFit : ℕ → ℕ → OrMayTrap Intervals → Type 0
 EndsFit l d (Ok f) = Fits l d f
 EndsFit l d (Err t) = Unit {0}
-
-append_ordered : (rs ss : List Side) → AreOrdered rs → AreOrdered ss → AreOrdered (rs ++ ss)
-append_ordered [] ss a b = b
-append_ordered (r ∷ rs) ss a b = (a.0, append_ordered rs ss a.1 b)
 
 hull_ordered : (a b : Side) → IsOrdered a → IsOrdered b → IsOrdered (hull a b)
 hull_ordered a b x y = (let h = hull_is a b x y in (h.holds (hull a b).lo h.low).1)

@@ -2,7 +2,7 @@
 use Rattle.std.proofs.Common.{◌≡◌, ℕ, ℤ, pos, ◌≤ℤ◌, Bool, true, false, ⊎_elim, List, [], ◌∷◌, length, Ok, refl, sym, ap, subst, arith}
 use Rattle.std.specs.Prelude.{int_le, neg_ℤ, not}
 use Rattle.std.specs.Int.{int_max}
-use Rattle.std.proofs.lemmas.Bool.{cases_Bool}
+use Rattle.std.proofs.lemmas.Bool.{cases_Bool, not-true, not-false}
 use Rattle.std.proofs.lemmas.Int.{ints, clamps}
 use Rattle.sot_text.specs.declared.token.Span.{Span}
 use Rattle.sot_box.specs.Sides.{Side, IsIn, AreOrdered}
@@ -16,7 +16,7 @@ use Rattle.sot_iv.specs.Ends.{side, fitted, truths, is_always, is_ever, negation
 use Rattle.sot_iv.specs.Evaluation.{called_side}
 use Rattle.sot_iv.proofs.Least.{IsOrdered, low_in, high_in, fitted_is, max_cases}
 use Rattle.sot_iv.proofs.Floors.{scaled_mono}
-use Rattle.sot_iv.proofs.Truths.{sees, truth_between, not_true, not_false}
+use Rattle.sot_iv.proofs.Truths.{sees, truth_between}
 
 -- the set of results over numbers in these intervals
 abbrev pub ImageOf : (List ℤ → ℤ) → List Side → ℤ → Type 0
@@ -70,7 +70,7 @@ pub denied_least : (x : Side) → IsOrdered x → IsLeast (ImageOf not_result (x
 denied_least x o =
     let s = sees x o in
     one_least not_result x (denied x)
-    (λ a i. truth_between (not (is_ever x)) (not (is_true a)) (not (is_always x)) (λ e. ap not (s.none a i (not_true _ e))) (λ e. ap not (s.all a i (not_false _ e))))
+    (λ a i. truth_between (not (is_ever x)) (not (is_true a)) (not (is_always x)) (λ e. ap not (s.none a i (not-true _ e))) (λ e. ap not (s.all a i (not-false _ e))))
     (s.high.0, s.high.1, ap (λ b. truth (not b)) (sym s.high.2))
     (s.low.0, s.low.1, ap (λ b. truth (not b)) (sym s.low.2))
 

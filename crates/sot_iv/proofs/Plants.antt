@@ -29,18 +29,18 @@ plant_sound plant box commands seen next s c v w is ic iv iw h =
     terms_sound plant.next.items (box ++ commands ++ seen ++ bounds plant) (s ++ c ++ v ++ w) next
     (within_append (box ++ commands ++ seen) (bounds plant) (s ++ c ++ v) w (within_append (box ++ commands) seen (s ++ c) v (within_append box commands s c is ic) iv) iw) h
 
-bounds_narrow : (rs : List Side) (w : List ℤ) → IsWithin rs w → AreNarrower rs rs
-bounds_narrow [] [] w = tt
-bounds_narrow (r ∷ rs) (z ∷ zs) w = ((le_refl_ℤ r.lo, omega (arith, ints, w.0, w.1), le_refl_ℤ r.hi), bounds_narrow rs zs w.2)
-bounds_narrow [] (z ∷ zs) w = absurd w
-bounds_narrow (r ∷ rs) [] w = absurd w
+pub narrow_self : (rs : List Side) (w : List ℤ) → IsWithin rs w → AreNarrower rs rs
+narrow_self [] [] w = tt
+narrow_self (r ∷ rs) (z ∷ zs) w = ((le_refl_ℤ r.lo, omega (arith, ints, w.0, w.1), le_refl_ℤ r.hi), narrow_self rs zs w.2)
+narrow_self [] (z ∷ zs) w = absurd w
+narrow_self (r ∷ rs) [] w = absurd w
 
 pub plant_narrow : (plant : PlantInfo) (box commands seen box_wide commands_wide seen_wide next : List Side) (w : List ℤ) (o : OrMayTrap (List Side)) → AreNarrower box box_wide → AreNarrower commands commands_wide → AreNarrower seen seen_wide → IsWithin (bounds plant) w → IsNextBox plant box_wide commands_wide seen_wide (Ok next) → IsNextBox plant box commands seen o → (b : List Side) × (o ≡ Ok b) × AreNarrower b next
 plant_narrow plant box commands seen box_wide commands_wide seen_wide next w o nb nc ns iw y x =
     terms_narrow plant.next.items (box ++ commands ++ seen ++ bounds plant) (box_wide ++ commands_wide ++ seen_wide ++ bounds plant) next o
     (narrow_append (box ++ commands ++ seen) (bounds plant) (box_wide ++ commands_wide ++ seen_wide) (bounds plant)
     (narrow_append (box ++ commands) seen (box_wide ++ commands_wide) seen_wide (narrow_append box commands box_wide commands_wide nb nc) ns)
-    (bounds_narrow (bounds plant) w iw)) y x
+    (narrow_self (bounds plant) w iw)) y x
 
 pub plant_same : (plant : PlantInfo) (box commands seen : List Side) (o p : OrMayTrap (List Side)) → IsNextBox plant box commands seen o → IsNextBox plant box commands seen p → o ≡ p
 plant_same plant box commands seen o p x y = terms_same plant.next.items (box ++ commands ++ seen ++ bounds plant) o p x y

@@ -1,8 +1,8 @@
 -- The truth values that comparisons and connectives can have.
-use Rattle.std.proofs.Common.{◌≡◌, ℤ, pos, ◌≤ℤ◌, Bool, true, false, ◌⊎◌, inl, inr, ⊎_elim, refl, sym, ap, ap₂, ◌∙◌, subst, arith}
+use Rattle.std.proofs.Common.{◌≡◌, ℤ, pos, ◌≤ℤ◌, Bool, true, false, ◌⊎◌, ⊎_elim, refl, sym, ap, ap₂, ◌∙◌, subst, arith}
 use Rattle.std.specs.Prelude.{int_lt, int_le, ◌&&◌, ◌||◌, not}
 use Rattle.std.specs.Int.{int_max}
-use Rattle.std.proofs.lemmas.Bool.{cases_Bool, and_parts, and_from}
+use Rattle.std.proofs.lemmas.Bool.{cases_Bool, and_parts, and_from, or_from, or_parts, not-true, not-false, and_cases, or_cases, or_right, and_left, and_right, or_left}
 use Rattle.std.proofs.lemmas.Int.{ints, clamps}
 use Rattle.sot_box.specs.Sides.{Side, IsIn}
 use Rattle.sot_tree.specs.declared.operator.Op.{Op}
@@ -35,20 +35,12 @@ decides_least op t x y u w is d = record {
   high = record { a = d.high.0; b = d.high.1; a_in = d.high.2; b_in = d.high.3; is = ap truth (sym d.high.4) ∙ sym (is d.high.0 d.high.1) };
 }
 
-pub not_true : (b : Bool) → not b ≡ true → b ≡ false
-not_true true e = cc
-not_true false e = refl
-
-pub not_false : (b : Bool) → not b ≡ false → b ≡ true
-not_false true e = refl
-not_false false e = cc
-
 decides_not : (t : ℤ → ℤ → Bool) (x y : Side) (u w : Bool) → Decides t x y u w → Decides (λ a b. not (t a b)) x y (not w) (not u)
 decides_not t x y u w d = record {
   low = (d.high.0, d.high.1, d.high.2, d.high.3, ap not d.high.4);
   high = (d.low.0, d.low.1, d.low.2, d.low.3, ap not d.low.4);
-  all = λ a b i j e. ap not (d.none a b i j (not_true w e));
-  none = λ a b i j e. ap not (d.all a b i j (not_false u e));
+  all = λ a b i j e. ap not (d.none a b i j (not-true w e));
+  none = λ a b i j e. ap not (d.all a b i j (not-false u e));
 }
 
 pub less_decides : (x y : Side) → IsOrdered x → IsOrdered y → Decides (λ a b. int_lt a b) x y (int_lt x.hi y.lo) (int_lt x.lo y.hi)
@@ -76,17 +68,6 @@ decides_swap t x y u w d = record {
   none = λ a b i j e. d.none b a j i e;
 }
 
-and_false : (a b : Bool) → (a && b) ≡ false → (a ≡ false) ⊎ (b ≡ false)
-and_false true b e = inr e
-and_false false b e = inl refl
-
-false_first : (a b : Bool) → a ≡ false → (a && b) ≡ false
-false_first a b e = rw e refl
-
-false_second : (a b : Bool) → b ≡ false → (a && b) ≡ false
-false_second true b e = e
-false_second false b e = refl
-
 module _ (x y : Side) (xo : IsOrdered x) (yo : IsOrdered y) where
   all_equal : (a b : ℤ) → IsIn x a → IsIn y b → (int_le x.hi y.lo && int_le y.hi x.lo) ≡ true → (int_le a b && int_le b a) ≡ true
   all_equal a b i j e =
@@ -100,9 +81,9 @@ module _ (x y : Side) (xo : IsOrdered x) (yo : IsOrdered y) where
   none_equal : (a b : ℤ) → IsIn x a → IsIn y b → (int_le x.lo y.hi && int_le y.lo x.hi) ≡ false → (int_le a b && int_le b a) ≡ false
   none_equal a b i j e =
       ⊎_elim
-      (λ f. let u : int_le a b ≡ false = grind (arith, ints, i.0, j.1, f) in false_first (int_le a b) (int_le b a) u)
-      (λ f. let u : int_le b a ≡ false = grind (arith, ints, i.1, j.0, f) in false_second (int_le a b) (int_le b a) u)
-      (and_false (int_le x.lo y.hi) (int_le y.lo x.hi) e)
+      (λ f. let u : int_le a b ≡ false = grind (arith, ints, i.0, j.1, f) in and_left (int_le a b) (int_le b a) u)
+      (λ f. let u : int_le b a ≡ false = grind (arith, ints, i.1, j.0, f) in and_right (int_le a b) (int_le b a) u)
+      (and_cases (int_le x.lo y.hi) (int_le y.lo x.hi) e)
 
   common : ℤ
   common = int_max x.lo y.lo
@@ -112,9 +93,9 @@ module _ (x y : Side) (xo : IsOrdered x) (yo : IsOrdered y) where
     low = ⊎_elim
         (λ t. (x.lo, y.lo, low_in x xo, low_in y yo, all_equal x.lo y.lo (low_in x xo) (low_in y yo) t ∙ sym t))
         (λ f. ⊎_elim
-        (λ g. (x.hi, y.lo, high_in x xo, low_in y yo, false_first (int_le x.hi y.lo) (int_le y.lo x.hi) g ∙ sym f))
-        (λ g. (x.lo, y.hi, low_in x xo, high_in y yo, false_second (int_le x.lo y.hi) (int_le y.hi x.lo) g ∙ sym f))
-        (and_false (int_le x.hi y.lo) (int_le y.hi x.lo) f))
+        (λ g. (x.hi, y.lo, high_in x xo, low_in y yo, and_left (int_le x.hi y.lo) (int_le y.lo x.hi) g ∙ sym f))
+        (λ g. (x.lo, y.hi, low_in x xo, high_in y yo, and_right (int_le x.lo y.hi) (int_le y.hi x.lo) g ∙ sym f))
+        (and_cases (int_le x.hi y.lo) (int_le y.hi x.lo) f))
         (cases_Bool (int_le x.hi y.lo && int_le y.hi x.lo));
     high = ⊎_elim
         (λ t.
@@ -151,7 +132,7 @@ no_zero x a i f e =
     ⊎_elim
     (λ g. let n : int_le x.lo (pos 0) ≡ true = grind (arith, ints, i.0, e) in not_both (sym n ∙ g))
     (λ g. let n : int_le (pos 0) x.hi ≡ true = grind (arith, ints, i.1, e) in not_both (sym n ∙ g))
-    (and_false (int_le x.lo (pos 0)) (int_le (pos 0) x.hi) f)
+    (and_cases (int_le x.lo (pos 0)) (int_le (pos 0) x.hi) f)
 
 only_zero : (x : Side) (a : ℤ) → IsIn x a → (int_le (pos 0) x.lo && int_le x.hi (pos 0)) ≡ true → a ≡ pos 0
 only_zero x a i t =
@@ -175,10 +156,10 @@ sees x o = record {
       (λ f. ⊎_elim
       (λ g. (x.lo, low_in x o, true_of_ne x.lo (λ e. let n : int_le (pos 0) x.lo ≡ true = grind (arith, ints, e) in not_both (sym n ∙ g)) ∙ ap not (sym f)))
       (λ g. (x.hi, high_in x o, true_of_ne x.hi (λ e. let n : int_le x.hi (pos 0) ≡ true = grind (arith, ints, e) in not_both (sym n ∙ g)) ∙ ap not (sym f)))
-      (and_false (int_le (pos 0) x.lo) (int_le x.hi (pos 0)) f))
+      (and_cases (int_le (pos 0) x.lo) (int_le x.hi (pos 0)) f))
       (cases_Bool (int_le (pos 0) x.lo && int_le x.hi (pos 0)));
-  all = λ a i e. true_of_ne a (no_zero x a i (not_true _ e));
-  none = λ a i e. false_of_zero a (only_zero x a i (not_false _ e));
+  all = λ a i e. true_of_ne a (no_zero x a i (not-true _ e));
+  none = λ a i e. false_of_zero a (only_zero x a i (not-false _ e));
 }
 
 pub and_decides : (x y : Side) → Sees x → Sees y → Decides (λ a b. is_true a && is_true b) x y (is_always x && is_always y) (is_ever x && is_ever y)
@@ -186,33 +167,15 @@ and_decides x y s t = record {
   low = (s.low.0, t.low.0, s.low.1, t.low.1, ap₂ (λ a b. a && b) s.low.2 t.low.2);
   high = (s.high.0, t.high.0, s.high.1, t.high.1, ap₂ (λ a b. a && b) s.high.2 t.high.2);
   all = λ a b i j e. let p = and_parts (is_always x) (is_always y) e in and_from _ _ (s.all a i p.0) (t.all b j p.1);
-  none = λ a b i j e. ⊎_elim (λ f. false_first (is_true a) (is_true b) (s.none a i f)) (λ f. false_second (is_true a) (is_true b) (t.none b j f)) (and_false (is_ever x) (is_ever y) e);
+  none = λ a b i j e. ⊎_elim (λ f. and_left (is_true a) (is_true b) (s.none a i f)) (λ f. and_right (is_true a) (is_true b) (t.none b j f)) (and_cases (is_ever x) (is_ever y) e);
 }
-
-or_true : (a b : Bool) → (a || b) ≡ true → (a ≡ true) ⊎ (b ≡ true)
-or_true true b e = inl refl
-or_true false b e = inr e
-
-or_false : (a b : Bool) → (a || b) ≡ false → (a ≡ false) × (b ≡ false)
-or_false true b e = cc
-or_false false b e = (refl, e)
-
-true_first : (a b : Bool) → a ≡ true → (a || b) ≡ true
-true_first a b e = rw e refl
-
-true_second : (a b : Bool) → b ≡ true → (a || b) ≡ true
-true_second true b e = refl
-true_second false b e = e
-
-both_false : (a b : Bool) → a ≡ false → b ≡ false → (a || b) ≡ false
-both_false a b e f = rw (e, f) refl
 
 pub or_decides : (x y : Side) → Sees x → Sees y → Decides (λ a b. is_true a || is_true b) x y (is_always x || is_always y) (is_ever x || is_ever y)
 or_decides x y s t = record {
   low = (s.low.0, t.low.0, s.low.1, t.low.1, ap₂ (λ a b. a || b) s.low.2 t.low.2);
   high = (s.high.0, t.high.0, s.high.1, t.high.1, ap₂ (λ a b. a || b) s.high.2 t.high.2);
-  all = λ a b i j e. ⊎_elim (λ f. true_first (is_true a) (is_true b) (s.all a i f)) (λ f. true_second (is_true a) (is_true b) (t.all b j f)) (or_true (is_always x) (is_always y) e);
-  none = λ a b i j e. let p = or_false (is_ever x) (is_ever y) e in both_false _ _ (s.none a i p.0) (t.none b j p.1);
+  all = λ a b i j e. ⊎_elim (λ f. or_left (is_true a) (is_true b) (s.all a i f)) (λ f. or_right (is_true a) (is_true b) (t.all b j f)) (or_cases (is_always x) (is_always y) e);
+  none = λ a b i j e. let p = or_parts (is_ever x) (is_ever y) e in or_from _ _ (s.none a i p.0) (t.none b j p.1);
 }
 
 -- what a condition can be

@@ -8,8 +8,8 @@ use Rattle.sot_lang.specs.declared.term.Term.{Term, Row_of-Term, end_of-Term, mo
 use Rattle.sot_lang.specs.declared.term.Term.TheVariants.{Number, Place, Binary', Rest', Neg', Not', Call', Rescale', If'}
 use Rattle.sot_iv.specs.TermIntervals.{OrMayTrap, After, Joins, consed, IsLeast, IsFitted, IsLeastResult, IsImage, IsIntervalHull, Chooses, rest_result, neg_result, not_result, rescale_result, called_result, IsTermInterval, ArePartIntervals, AreTermIntervals}
 
-antisym : (a b : ℤ) → a ≤ℤ b → b ≤ℤ a → a ≡ b
-antisym a b p q = omega (arith, ints)
+pub same_number : (a b : ℤ) → a ≤ℤ b → b ≤ℤ a → a ≡ b
+same_number a b p q = omega (arith, ints)
 
 -- a set has one least interval
 pub least_same : (set : ℤ → Type 0) (r s : Side) → IsLeast set r → IsLeast set s → r ≡ s
@@ -18,8 +18,8 @@ least_same set r s a b =
     let y = b.holds r.lo a.low in
     let u = a.holds s.hi b.high in
     let v = b.holds r.hi a.high in
-    let lo : r.lo ≡ s.lo = antisym r.lo s.lo x.0 y.0 in
-    let hi : r.hi ≡ s.hi = antisym r.hi s.hi v.1 u.1 in
+    let lo : r.lo ≡ s.lo = same_number r.lo s.lo x.0 y.0 in
+    let hi : r.hi ≡ s.hi = same_number r.hi s.hi v.1 u.1 in
     λ i. record { lo = lo i; hi = hi i }
 
 fitted_same : (at : Span) (r : Side) (o p : OrMayTrap Side) → IsFitted at r o → IsFitted at r p → o ≡ p

@@ -7,3 +7,4 @@ pub mod LineRules
 pub mod Places
 pub mod SafeRegions
 pub mod Owners
+pub mod Topics

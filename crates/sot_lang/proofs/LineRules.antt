@@ -57,7 +57,7 @@ is_at =
     at_more (λ i x. i ≡ place_of x) cmd_name (pos_name ∷ fast_name ∷ slow_name ∷ nav_name ∷ []) refl (at_more (λ i x. suc i ≡ place_of x) pos_name (fast_name ∷ slow_name ∷ nav_name ∷ []) refl
     (at_more (λ i x. suc (suc i) ≡ place_of x) fast_name (slow_name ∷ nav_name ∷ []) refl (at_two (λ i x. suc (suc (suc i)) ≡ place_of x) slow_name nav_name refl refl)))
 
-names_apart : AreDistinct (cmd_name ∷ pos_name ∷ fast_name ∷ slow_name ∷ nav_name ∷ [])
+pub names_apart : AreDistinct (cmd_name ∷ pos_name ∷ fast_name ∷ slow_name ∷ nav_name ∷ [])
 names_apart i j name a b = is_at i name a ∙ sym (is_at j name b)
 
 module _ (g : Global) where

@@ -1,11 +1,11 @@
 -- What an owner of code, a node or a plant, has by its place in the tables, and how many names it has.
-use Rattle.std.proofs.Common.{◌≡◌, ℕ, zero, suc, ◌+◌, ◌*◌, ◌<◌, ◌≤◌, ℤ, pos, negsuc, Bool, true, false, List, [], ◌∷◌, ◌++◌, map, length, get_or, refl, sym, ap, ap₂, ◌∙◌, subst, arith, length-append}
+use Rattle.std.proofs.Common.{◌≡◌, ℕ, zero, suc, ◌+◌, ◌*◌, ◌<◌, ◌≤◌, ℤ, pos, negsuc, Bool, true, false, List, [], ◌∷◌, ◌++◌, map, length, get_or, refl, sym, ap, ap₂, ◌∙◌, subst, arith, length-append, ◌≤ℤ◌}
 use Rattle.std.specs.Prelude.{replicate}
 use Rattle.std.proofs.lemmas.List.{length-map, length-replicate}
 use Rattle.std.proofs.lemmas.Option.{get_or_from_slice_get, same_Some, none-some}
 use Rattle.sot_lists.specs.Places.{At}
 use Rattle.sot_lists.proofs.Places.{at_map, index_or-map}
-use Rattle.sot_box.specs.Sides.{Side, nought}
+use Rattle.sot_box.specs.Sides.{Side, nought, AreOrdered}
 use Rattle.sot_lang.specs.declared.act.Act.{Act}
 use Rattle.sot_lang.specs.declared.term.Term.{Term}
 use Rattle.sot_lang.specs.declared.tables.ScalarInfo.{ScalarInfo}
@@ -95,3 +95,8 @@ pub true_of_ne : (z : ℤ) → (z ≡ pos 0 → ⊥) → is_true z ≡ true
 true_of_ne (pos zero) ne = absurd (ne refl)
 true_of_ne (pos (suc n)) ne = refl
 true_of_ne (negsuc n) ne = refl
+
+-- the intervals of a plant's noise are in order
+pub noise_ordered : (ds : List NoiseInfo) → ((i : ℕ) (d : NoiseInfo) → At ds i d → d.lo ≤ℤ d.hi) → AreOrdered (map (λ d. let r : Side = record { lo = d.lo; hi = d.hi } in r) ds)
+noise_ordered [] each = tt
+noise_ordered (d ∷ ds) each = (each 0 d refl, noise_ordered ds (λ i. each (suc i)))

@@ -1,14 +1,14 @@
 -- The words of literals, names, lists and types are tidy.
-use Rattle.std.proofs.Common.{◌≡◌, ℕ, zero, suc, ◌+◌, ◌%◌, ◌^◌, ◌/◌, ◌==◌, ◌||◌, nat_lt, Bool, true, false, Option, None, Some, List, [], ◌∷◌, ◌++◌, length, take, codes, pos, int_lt, unsigned_abs, inl, inr, refl, sym, ◌∙◌, arith}
+use Rattle.std.proofs.Common.{◌≡◌, ℕ, zero, suc, ◌+◌, ◌%◌, ◌^◌, ◌/◌, ◌==◌, ◌||◌, Bool, true, false, Option, None, Some, List, [], ◌∷◌, ◌++◌, length, take, codes, pos, int_lt, unsigned_abs, inl, inr, refl, sym, ◌∙◌, arith}
 use Rattle.std.specs.Char.{is_ascii_digit}
 use Rattle.std.specs.Fmt.{decimal}
 use Rattle.std.specs.List.{prefix_len}
 use Rattle.std.proofs.lemmas.Bool.{cases_Bool, cond-true, cond-false}
 use Rattle.std.proofs.lemmas.Bool.Decides.{nat_tests}
 use Rattle.std.proofs.lemmas.List.Folds.{length-prefix_len}
-use Rattle.sot_text.specs.declared.token.Kind.TheVariants.{Name, Number, Sign}
-use Rattle.sot_text.specs.declared.lexeme.Front.TheVariants.{Token, LiteralWide}
-use Rattle.sot_text.specs.Lexeme.{begins_word, is_in_word, word_len, decimals_of, mantissa_of, number_len, sign_len, sized, IsTokenText}
+use Rattle.sot_text.specs.declared.token.Kind.TheVariants.{Name, Sign}
+use Rattle.sot_text.specs.declared.lexeme.Front.TheVariants.{Token}
+use Rattle.sot_text.specs.Lexeme.{begins_word, is_in_word, word_len, decimals_of, mantissa_of, number_len, sign_len, IsTokenText}
 use Rattle.sot_text.proofs.Fronts.{front_word, front_number, front_sign, word_takes, sign_takes}
 use Rattle.sot_tree.specs.declared.tree.Ident.{Ident}
 use Rattle.sot_tree.specs.declared.tree.Lit.{Lit}
@@ -19,6 +19,7 @@ use Rattle.sot_tree.specs.declared.tree.Field.{Field}
 use Rattle.sot_tree.specs.declared.tree.Const.{Const}
 use Rattle.sot_tree.specs.declared.tree.Const.TheVariants.{Number as Numeral, Truth}
 use Rattle.sot_tree.specs.Formed.{Each, IsName, IfThere, IsField}
+use Rattle.sot_tree.proofs.Names.{number_no_name}
 use Rattle.sot_print.specs.declared.gap.Gap.{Gap}
 use Rattle.sot_print.specs.declared.gap.Gap.TheVariants.{Touching, Space}
 use Rattle.sot_print.specs.Words.{Word, keyword, sign, name, number}
@@ -69,13 +70,6 @@ literal_tidy l gap =
 
 -- ---- names
 
-sized_no_name : (d m k n : ℕ) → sized d m k ≡ Token Name n → ⊥
-sized_no_name d m k n e =
-    elim (cases_Bool (nat_lt 6 d || nat_lt (10 ^ 12) m)) [
-      | inl wide ↦ (let never : LiteralWide k ≡ Token Name n = sym (cond-true (nat_lt 6 d || nat_lt (10 ^ 12) m) _ _ wide) ∙ e in cc)
-      | inr fits ↦ (let never : Token Number k ≡ Token Name n = sym (cond-false (nat_lt 6 d || nat_lt (10 ^ 12) m) _ _ fits) ∙ e in cc)
-    ]
-
 -- a name is one word from end to end
 record IsWord (b : ℕ) (bs : List ℕ) : Type 0 where
   first : begins_word b ≡ true
@@ -90,7 +84,7 @@ name_word b bs is =
       }
       | inr no_word ↦
           elim (cases_Bool (is_ascii_digit b)) [
-            | inl digit ↦ absurd (sized_no_name (decimals_of (b ∷ bs)) (mantissa_of (b ∷ bs)) (number_len (b ∷ bs)) _ (sym (front_number b bs no_word digit) ∙ is))
+            | inl digit ↦ absurd (number_no_name (decimals_of (b ∷ bs)) (mantissa_of (b ∷ bs)) (number_len (b ∷ bs)) _ (sym (front_number b bs no_word digit) ∙ is))
             | inr no_digit ↦
                 let takes = sign_takes (sign_len (b ∷ bs)) (length (b ∷ bs)) Name (sym (front_sign b bs no_word no_digit) ∙ is) in
                 let never : Token Name (length (b ∷ bs)) ≡ Token Sign (sign_len (b ∷ bs)) = takes.2 in

@@ -1,5 +1,5 @@
 -- What stands at the places of a list.
-use Rattle.std.proofs.Common.{◌≡◌, ℕ, zero, suc, ◌+◌, ◌<◌, ◌⊎◌, inl, inr, ⊎_elim, List, [], ◌∷◌, Some, subst, map, length, drop, get_or, refl, sym, ap, arith, add-one}
+use Rattle.std.proofs.Common.{◌≡◌, ℕ, zero, suc, ◌+◌, ◌<◌, ◌⊎◌, inl, inr, ⊎_elim, List, [], ◌∷◌, Some, subst, map, length, drop, get_or, refl, sym, ap, arith, add-one, ap₂}
 use Rattle.std.specs.Prelude.{slice_index_or}
 use Rattle.std.proofs.lemmas.Option.{same_Some, none-some, slice_get_read, slice_get_cases, get_or_from_slice_get}
 use Rattle.std.proofs.lemmas.Bool.{cases_eq}
@@ -60,3 +60,14 @@ pub index_or-map : {A B : Type 0} (f : A → B) (xs : List A) (k : ℕ) (d : A) 
 index_or-map f [] k d e lt = absurd (omega arith)
 index_or-map f (x ∷ xs) zero d e lt = refl
 index_or-map f (x ∷ xs) (suc k) d e lt = index_or-map f xs k d e (omega arith)
+
+-- lists of one length with the same at each place are one
+pub same_list : {A : Type 0} (xs ys : List A) → length xs ≡ length ys → ((m : ℕ) (x y : A) → At xs m x → At ys m y → x ≡ y) → xs ≡ ys
+same_list [] [] count each = refl
+same_list [] (y ∷ ys) count each = absurd (omega (arith, count))
+same_list (x ∷ xs) [] count each = absurd (omega (arith, count))
+same_list (x ∷ xs) (y ∷ ys) count each = ap₂ (λ z zs. z ∷ zs) (each 0 x y refl refl) (same_list xs ys (omega (arith, count)) (λ m. each (suc m)))
+
+-- .. and so are lists of one length where what stands in one stands in the other
+pub same_items : {A : Type 0} (xs ys : List A) → length xs ≡ length ys → ((k : ℕ) (x : A) → At xs k x → At ys k x) → xs ≡ ys
+same_items xs ys count each = same_list xs ys count (λ m x y here there. at_same ys m x y (each m x here) there)

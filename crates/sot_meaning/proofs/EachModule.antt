@@ -1,10 +1,8 @@
 -- What is safe where there are two of each thing.
-use Rattle.std.proofs.Common.{◌≡◌, pos, negsuc, ⊎_elim, true, inl, refl, sym, ◌∙◌, Ok, Err, [], ◌∷◌, arith}
-use Rattle.std.specs.Prelude.{Result}
+use Rattle.std.proofs.Common.{◌≡◌, pos, negsuc, ⊎_elim, true, inl, refl, [], ◌∷◌, arith}
 use Rattle.std.proofs.lemmas.Bool.{false≢true}
 use Rattle.std.proofs.lemmas.Int.{ints}
 use Rattle.std.specs.Global.{Global}
-use Rattle.sot_lang.specs.declared.trap.Trap.{Trap}
 use Rattle.sot_lang.specs.Line.{nav}
 use Rattle.sot_lang.specs.Bodies.{execution}
 use Rattle.sot_lang.specs.Ticks.{next_state}
@@ -14,10 +12,8 @@ use Rattle.sot_calendar.proofs.Clock.{last_now}
 use Rattle.sot_world.specs.Configurations.{IsSafer, is_left_dm, point_of}
 use Rattle.sot_world.specs.Headline.{IsSafeNow}
 use Rattle.sot_world.specs.Examples.{twins, far_copy, far_acts, divided_plant}
+use Rattle.sot_world.proofs.Unsafe.{no_value}
 use Rattle.sot_meaning.specs.Examples.{twins_in, twins_rest, second_divides, second_far, two_nodes_at}
-
-no_value : {A : Type 0} (o : Result A Trap) (t : Trap) (x : A) → o ≡ Err t → o ≡ Ok x → ⊥
-no_value o t x a b = (let e : Err t ≡ Ok x = sym a ∙ b in cc)
 
 module _ (g : Global) where
   -- the decisions are left, so no tick may come

@@ -5,6 +5,7 @@ use Rattle.std.proofs.lemmas.List.{length-replicate}
 use Rattle.sot_lists.specs.Places.{At}
 use Rattle.sot_lists.proofs.Places.{at_below}
 use Rattle.sot_box.specs.Boxes.{IsWithin}
+use Rattle.sot_box.proofs.Ranges.{lows_within}
 use Rattle.sot_lang.specs.declared.tables.NodeInfo.{NodeInfo}
 use Rattle.sot_lang.specs.declared.tables.ModuleInfo.{ModuleInfo}
 use Rattle.sot_lang.specs.Tables.{Tables}
@@ -17,9 +18,9 @@ use Rattle.sot_world.specs.Configurations.{Configuration, is_left, is_left_dm}
 use Rattle.sot_world.specs.Steps.{Code, Guest, Decide, Tick, MayTick}
 use Rattle.sot_world.specs.Invariant.{KeepsInvariant}
 use Rattle.sot_world.specs.Progress.{Happens, CanGoOn}
-use Rattle.sot_world.proofs.Progress.{something_can_happen}
+use Rattle.sot_world.proofs.Progress.{something_can_happen, list_of}
 use Rattle.sot_meaning.specs.GoingOn.{AreDisturbances, HoldsNode, HoldsDecision, IsNoDeadEnd, GoesOn, SomethingAlwaysHappens}
-use Rattle.sot_meaning.proofs.Lists.{list_of, some_or_all, set_below, within_lows, ordered_map}
+use Rattle.sot_meaning.proofs.Lists.{some_or_all, set_below, ordered_map}
 
 -- what is left has its deadline now or later
 deadline_or_later : (jitter period offset t : ℕ) → IsStillDue jitter period offset t → IsDeadline jitter period offset t ⊎ ((d : ℕ) → IsLastDue period offset t d → d + jitter ≡ t → ⊥)
@@ -33,7 +34,7 @@ module _ (p : Tables) (j : ℕ) (rules : MeetsTableRules p) (well : IsWellFormed
   -- the low ends of the bounds
   pub lowest : (noise : List (List ℤ)) × AreDisturbances p noise
   lowest =
-      let low = list_of [] p.plants (λ k plant w. IsWithin (bounds plant) w) (λ k plant at. (_, within_lows (bounds plant) (ordered_map _ plant.noise.items (λ i info at_i. ((rules.plants k plant at).noise_ranges i info at_i).1.0)))) in
+      let low = list_of [] p.plants (λ k plant w. IsWithin (bounds plant) w) (λ k plant at. (_, lows_within (bounds plant) (ordered_map _ plant.noise.items (λ i info at_i. ((rules.plants k plant at).noise_ranges i info at_i).1.0)))) in
       (low.0, record { each = low.1; bounded = low.2 })
 
   module _ (C : Configuration) (h : KeepsInvariant p j C) where

@@ -1,5 +1,5 @@
 -- Points in the safer regions, and the opening at them.
-use Rattle.std.proofs.Common.{◌≡◌, ◌↔◌, Bool, true, false, ℕ, ℤ, inl, List, [], ◌∷◌, length, map, refl, sym, ap, ◌∙◌, subst, arith}
+use Rattle.std.proofs.Common.{◌≡◌, Bool, false, ℕ, ℤ, inl, List, [], ◌∷◌, length, map, refl, sym, ap, ◌∙◌, subst, arith}
 use Rattle.std.specs.Prelude.{slice_index_or, ◌≢◌, ◌==◌}
 use Rattle.std.proofs.lemmas.List.{length-map}
 use Rattle.std.proofs.lemmas.List.{ext_get_or}
@@ -8,6 +8,7 @@ use Rattle.sot_lists.proofs.Places.{at_below}
 use Rattle.sot_box.specs.Sides.{Side, AreOrdered}
 use Rattle.sot_box.specs.Boxes.{lows}
 use Rattle.sot_box.specs.Regions.{IsInRegion}
+use Rattle.sot_box.proofs.Ranges.{lows_within}
 use Rattle.sot_lang.specs.declared.cert.Cert.{Cert}
 use Rattle.sot_lang.specs.declared.tables.PlantInfo.{PlantInfo}
 use Rattle.sot_lang.specs.declared.tables.ModuleInfo.{ModuleInfo}
@@ -25,8 +26,9 @@ use Rattle.sot_world.specs.Invariant.{KeepsInvariant}
 use Rattle.sot_world.proofs.Modes.{same_module}
 use Rattle.sot_world.proofs.Starting.{opens_so}
 use Rattle.sot_world.proofs.Main.{openings_keep_invariant, invariant_is_safe}
+use Rattle.sot_world.proofs.Progress.{list_of}
+use Rattle.sot_world.proofs.Unique.{same_flag}
 use Rattle.sot_meaning.specs.Openings.{PointsOpen, OpeningsAreUnique, OpensSafely, CertifiedProgramsOpen}
-use Rattle.sot_meaning.proofs.Lists.{list_of, within_lows}
 use Rattle.sot_meaning.proofs.Time.{time_goes_on}
 
 -- the opening at these points
@@ -48,13 +50,6 @@ opens p start starts = opens_so p start _ _ _ _ _ _ starts refl refl refl refl r
 pub points_open : PointsOpen
 points_open p start starts = (opening_at p start, opens p start starts)
 
--- flags that say the same are the same
-same_flag : (x y : Bool) (P : Type 0) → ((x ≡ true) ↔ P) → ((y ≡ true) ↔ P) → x ≡ y
-same_flag true true P a b = refl
-same_flag false false P a b = refl
-same_flag true false P a b = sym (b.1 (a.0 refl))
-same_flag false true P a b = a.1 (b.0 refl)
-
 -- two lists that agree at each place of a third one of their length are one list
 same_flags : {A : Type 0} (xs : List A) (ys zs : List Bool) → length ys ≡ length xs → length zs ≡ length xs → ((k : ℕ) (x : A) → At xs k x → slice_index_or ys k false ≡ slice_index_or zs k false) → ys ≡ zs
 same_flags xs ys zs a b h = ext_get_or false ys zs (a ∙ sym b) (λ k lt. let here = at_below xs k (omega (arith, lt, a)) in h k here.0 here.1)
@@ -72,7 +67,7 @@ openings_are_unique p start C D c d =
 -- a region with a box has a point as wide as its boxes
 region_point : (region : List (List Side)) (width : ℕ) → region ≢ [] → ((i : ℕ) (b : List Side) → At region i b → (length b ≡ width) × AreOrdered b) → (s : List ℤ) × (length s ≡ width) × IsInRegion region s
 region_point [] width some each = absurd (some refl)
-region_point (b ∷ bs) width some each = (let first = each 0 b refl in (lows b, length-map b (λ r. r.lo) ∙ first.0, inl (within_lows b first.1)))
+region_point (b ∷ bs) width some each = (let first = each 0 b refl in (lows b, length-map b (λ r. r.lo) ∙ first.0, inl (lows_within b first.1)))
 
 module _ (p : Tables) (j : ℕ) (cert : Cert) (rules : MeetsTableRules p) (c : IsWellCertified p j cert) where
   -- a point of plant k: as wide as the plant, and in the safer region of each module that names the plant, of which there is one

@@ -8,8 +8,9 @@ use Rattle.sot_world.specs.Steps.{Event, Code, Guest, Decide, Tick, MayTick, Ste
 use Rattle.sot_world.specs.Invariant.{KeepsInvariant}
 use Rattle.sot_world.specs.Progress.{Happens}
 use Rattle.sot_world.proofs.Main.{steps_keep_invariant}
+use Rattle.sot_world.proofs.Progress.{some_flag}
 use Rattle.sot_meaning.specs.GoingOn.{ComesToTime, TimeGoesOn}
-use Rattle.sot_meaning.proofs.Lists.{set_count, some_set, set_less}
+use Rattle.sot_meaning.proofs.Lists.{set_count, set_less}
 use Rattle.sot_meaning.proofs.GoingOn.{goes_on, ticks, lowest}
 
 -- how much is left to fire and to decide
@@ -69,8 +70,8 @@ module _ (p : Tables) (j : ℕ) (rules : MeetsTableRules p) (well : IsWellFormed
       (λ no_node. ⊎_elim
       (λ (decision : (m : ℕ) × (is_left_dm C m ≡ true)). inl (λ no'. on.decision decision.0 decision.1 (λ happens. no' (settled_decision C decision.0 happens))))
       (λ no_module. inr (record { nodes = λ n node d at is last. absurd (no_node n is); modules = λ m a d at is last. absurd (no_module m is) }))
-      (some_set C.left_dm))
-      (some_set C.left)
+      (some_flag C.left_dm))
+      (some_flag C.left)
 
   -- what is left fires or is decided, one after another, and then a tick comes
   module _ (u : ℕ) (next : (D : Configuration) → KeepsInvariant p j D → (ComesToTime p j D (D.time + u) → ⊥) → ⊥) where

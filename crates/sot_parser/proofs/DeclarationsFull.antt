@@ -1,6 +1,7 @@
 -- Declarations: what is of the grammar is read.
 use Rattle.std.proofs.Common.{◌≡◌, ℕ, ◌≤◌, ◌||◌, codes, map, List, [], ◌∷◌, Bool, true, false, Option, None, Some, Ok, refl, arith}
 use Rattle.std.specs.Str.{bytes_eq}
+use Rattle.std.proofs.lemmas.Bool.{or_from, or_left}
 use Rattle.sot_text.specs.Reading.{Lexeme}
 use Rattle.sot_expression.specs.Lexemes.{begins, is_sign, is_keyword}
 use Rattle.sot_expression.specs.Readers.{name_at}
@@ -172,17 +173,9 @@ module_full m us =
     (give (bounds_full b (m.closing.token ∷ us)) _ _ (give (sign_full m.closing us) _ _ refl)))))
 
 -- the keyword that a declaration begins with
-or_first : (b c : Bool) → b ≡ true → (b || c) ≡ true
-or_first true c e = refl
-or_first false c e = absurd cc
-
 or_second : (b c : Bool) → b ≡ false → c ≡ true → (b || c) ≡ true
 or_second true c e f = refl
 or_second false c e f = f
-
-or_neither : (b c : Bool) → b ≡ false → c ≡ false → (b || c) ≡ false
-or_neither true c e f = absurd cc
-or_neither false c e f = f
 
 is_topic : List Lexeme → Bool
 is_topic ts = begins (is_keyword (codes "topic")) ts || begins (is_keyword (codes "environment")) ts
@@ -192,12 +185,12 @@ unfolding is_topic
 topic_starts t us = by_case t.environment
   where
     by_case : (o : Option (Keyword (codes "environment"))) → is_topic (spelled_outside o (t.word.token ∷ t.name.token ∷ t.colon.token ∷ spelled_shape t.shape (t.equals.token ∷ spelled_init t.init (t.semicolon.token ∷ us)))) ≡ true
-    by_case None = or_first _ _ (keyword_test t.word)
+    by_case None = or_left _ _ (keyword_test t.word)
     by_case (Some word) = or_second _ _ (keyword_other (codes "topic") word refl) (keyword_test word)
 
 no_topic : {text : List ℕ} (word : Keyword text) (us : List Lexeme) → bytes_eq text (codes "topic") ≡ false → bytes_eq text (codes "environment") ≡ false → is_topic (word.token ∷ us) ≡ false
 unfolding is_topic
-no_topic word us differ differ_too = or_neither _ _ (keyword_other (codes "topic") word differ) (keyword_other (codes "environment") word differ_too)
+no_topic word us differ differ_too = or_from _ _ (keyword_other (codes "topic") word differ) (keyword_other (codes "environment") word differ_too)
 
 declaration_full : (room : ℕ) (d : DeclarationForm) → DeclarationFits room d → (us : List Lexeme) → declaration_at room (spelled_declaration d us) ≡ Ok (declaration_of d, us)
 unfolding declaration_at is_topic a_topic_at a_plant_at a_coded_at an_external_at a_module_at

@@ -1,7 +1,7 @@
 -- What is of the grammar is read.
-use Rattle.std.proofs.Common.{◌≡◌, ℕ, cond, ◌&&◌, List, ◌∷◌, Bool, true, false, Ok, Err, refl, ap, ◌∙◌}
+use Rattle.std.proofs.Common.{◌≡◌, ℕ, cond, List, ◌∷◌, Bool, true, false, Ok, Err, ap, ◌∙◌}
 use Rattle.std.specs.Str.{bytes_eq}
-use Rattle.std.proofs.lemmas.Bool.{and_from}
+use Rattle.std.proofs.lemmas.Bool.{and_from, and_left, and_right}
 use Rattle.std.proofs.lemmas.Slice.Eq.{bytes_eq-Decides}
 use Rattle.sot_text.specs.Reading.{Lexeme}
 use Rattle.sot_text.specs.declared.token.Kind.{Kind}
@@ -33,36 +33,29 @@ keyword_test {text} k = and_from (is_keyword_kind k.token.kind) (bytes_eq k.toke
 pub sign_test : {text : List ℕ} (s : Sign text) → is_sign text s.token ≡ true
 sign_test {text} s = and_from (is_sign_kind s.token.kind) (bytes_eq s.token.text text) (ap is_sign_kind s.is.kind) (same_bytes s.token.text text s.is.text_is)
 
-false_both : (b c : Bool) → b ≡ false → (b && c) ≡ false
-false_both b c e = ap (λ x. x && c) e
-
-false_second : (b c : Bool) → c ≡ false → (b && c) ≡ false
-false_second true c e = e
-false_second false c e = refl
-
 pub keyword_other : (other : List ℕ) {text : List ℕ} (k : Keyword text) → bytes_eq text other ≡ false → is_keyword other k.token ≡ false
-keyword_other other k differ = false_second (is_keyword_kind k.token.kind) (bytes_eq k.token.text other) (ap (λ w. bytes_eq w other) k.is.text_is ∙ differ)
+keyword_other other k differ = and_right (is_keyword_kind k.token.kind) (bytes_eq k.token.text other) (ap (λ w. bytes_eq w other) k.is.text_is ∙ differ)
 
 pub sign_other : (other : List ℕ) {text : List ℕ} (s : Sign text) → bytes_eq text other ≡ false → is_sign other s.token ≡ false
-sign_other other s differ = false_second (is_sign_kind s.token.kind) (bytes_eq s.token.text other) (ap (λ w. bytes_eq w other) s.is.text_is ∙ differ)
+sign_other other s differ = and_right (is_sign_kind s.token.kind) (bytes_eq s.token.text other) (ap (λ w. bytes_eq w other) s.is.text_is ∙ differ)
 
 pub keyword_no_sign : (other : List ℕ) {text : List ℕ} (k : Keyword text) → is_sign other k.token ≡ false
-keyword_no_sign other k = false_both (is_sign_kind k.token.kind) (bytes_eq k.token.text other) (ap is_sign_kind k.is.kind)
+keyword_no_sign other k = and_left (is_sign_kind k.token.kind) (bytes_eq k.token.text other) (ap is_sign_kind k.is.kind)
 
 pub sign_no_keyword : (other : List ℕ) {text : List ℕ} (s : Sign text) → is_keyword other s.token ≡ false
-sign_no_keyword other s = false_both (is_keyword_kind s.token.kind) (bytes_eq s.token.text other) (ap is_keyword_kind s.is.kind)
+sign_no_keyword other s = and_left (is_keyword_kind s.token.kind) (bytes_eq s.token.text other) (ap is_keyword_kind s.is.kind)
 
 pub name_no_sign : (other : List ℕ) (n : Named) → is_sign other n.token ≡ false
-name_no_sign other n = false_both (is_sign_kind n.token.kind) (bytes_eq n.token.text other) (ap is_sign_kind n.is)
+name_no_sign other n = and_left (is_sign_kind n.token.kind) (bytes_eq n.token.text other) (ap is_sign_kind n.is)
 
 pub name_no_keyword : (other : List ℕ) (n : Named) → is_keyword other n.token ≡ false
-name_no_keyword other n = false_both (is_keyword_kind n.token.kind) (bytes_eq n.token.text other) (ap is_keyword_kind n.is)
+name_no_keyword other n = and_left (is_keyword_kind n.token.kind) (bytes_eq n.token.text other) (ap is_keyword_kind n.is)
 
 pub number_no_sign : (other : List ℕ) (n : Digits) → is_sign other n.token ≡ false
-number_no_sign other n = false_both (is_sign_kind n.token.kind) (bytes_eq n.token.text other) (ap is_sign_kind n.is)
+number_no_sign other n = and_left (is_sign_kind n.token.kind) (bytes_eq n.token.text other) (ap is_sign_kind n.is)
 
 pub number_no_keyword : (other : List ℕ) (n : Digits) → is_keyword other n.token ≡ false
-number_no_keyword other n = false_both (is_keyword_kind n.token.kind) (bytes_eq n.token.text other) (ap is_keyword_kind n.is)
+number_no_keyword other n = and_left (is_keyword_kind n.token.kind) (bytes_eq n.token.text other) (ap is_keyword_kind n.is)
 
 pub keyword_full : {text : List ℕ} (k : Keyword text) (us : List Lexeme) → expect (is_keyword text) (k.token ∷ us) ≡ Ok (k.token.at, us)
 keyword_full {text} k us = token_full (is_keyword text) (λ t. t.at) k.token us (keyword_test k)

@@ -1,6 +1,7 @@
 -- Statements: what is of the grammar is read.
 use Rattle.std.proofs.Common.{◌≡◌, ℕ, zero, suc, ◌≤◌, ◌<◌, ◌==◌, ◌||◌, not, codes, length, List, [], ◌∷◌, Bool, true, false, Option, None, Some, Ok, refl, sym, ap, subst, ◌∙◌, arith}
 use Rattle.std.proofs.lemmas.Bool.Decides.{nat_tests}
+use Rattle.std.proofs.lemmas.Bool.{or_from}
 use Rattle.sot_text.specs.Reading.{Lexeme}
 use Rattle.sot_tree.specs.Trees.{Statement, Block, statement}
 use Rattle.sot_expression.specs.Lexemes.{begins, is_sign, is_keyword}
@@ -76,10 +77,6 @@ or_second : (b c : Bool) → b ≡ false → c ≡ true → (b || c) ≡ true
 or_second true c e f = refl
 or_second false c e f = f
 
-or_neither : (b c : Bool) → b ≡ false → c ≡ false → (b || c) ≡ false
-or_neither true c e f = absurd cc
-or_neither false c e f = f
-
 plain_all : (room : ℕ) (e : ExpressionForm) (s : Statement) (ts us : List Lexeme) → expression_levels e ≤ room → begins_nested ts ≡ false → plain_at (tree_at room) ts ≡ Ok (s, us) → statement_at room ts ≡ Ok (s, us)
 plain_all room e s ts us fits off read = plain_step room ts (omega (arith, fits, some_levels e.phrase)) off ∙ read
 
@@ -90,8 +87,8 @@ mutual
   unfolding statement_at nested_at branch_at loop_at block_at all_at else_at otherwise_at repeated
 
   pub statement_full : (s : StatementForm) (room : ℕ) (us : List Lexeme) → statement_levels s ≤ room → begins (is_keyword (codes "else")) us ≡ false → statement_at room (spelled_statement s us) ≡ Ok (statement_of s, us)
-  statement_full (an_assign a) room us fits off = plain_all room a.value _ _ us fits (or_neither _ _ (name_no_keyword (codes "if") a.target) (name_no_keyword (codes "repeat") a.target)) (assign_full room a us fits)
-  statement_full (a_publish p) room us fits off = plain_all room p.value _ _ us fits (or_neither _ _ (keyword_other (codes "if") p.word refl) (keyword_other (codes "repeat") p.word refl)) (publish_full room p us fits)
+  statement_full (an_assign a) room us fits off = plain_all room a.value _ _ us fits (or_from _ _ (name_no_keyword (codes "if") a.target) (name_no_keyword (codes "repeat") a.target)) (assign_full room a us fits)
+  statement_full (a_publish p) room us fits off = plain_all room p.value _ _ us fits (or_from _ _ (keyword_other (codes "if") p.word refl) (keyword_other (codes "repeat") p.word refl)) (publish_full room p us fits)
   statement_full (an_if word cond_ first second) zero us fits off = absurd (omega (arith, fits))
   statement_full (an_if word cond_ first second) (suc zero) us fits off = absurd (omega (arith, fits, some_levels cond_.phrase))
   statement_full (an_if word cond_ first second) (suc (suc q)) us fits off =

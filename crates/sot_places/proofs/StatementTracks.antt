@@ -1,6 +1,7 @@
 -- Statements: what is read hangs on the tokens read and on the next one, and more room changes nothing, unless it nests too deep.
 use Rattle.std.proofs.Common.{◌≡◌, ℕ, zero, suc, ◌≤◌, ◌==◌, ◌||◌, not, cond, List, [], ◌∷◌, Bool, true, false, codes, Err, refl, sym, ap, ◌∙◌, arith}
 use Rattle.std.proofs.lemmas.Bool.Decides.{nat_tests}
+use Rattle.std.proofs.lemmas.Bool.{or_parts}
 use Rattle.sot_text.specs.Reading.{Lexeme}
 use Rattle.sot_tree.specs.Trees.{Tree, Statement, Block, no_statement}
 use Rattle.sot_expression.specs.Lexemes.{begins, is_sign, is_keyword, is_name, ident}
@@ -28,10 +29,6 @@ statement_first ts us e =
     let d = begins_first (is_keyword (codes "repeat")) ts us e in
     rw (a, b, c, d) refl
 
-neither : (a b : Bool) → (a || b) ≡ false → (a ≡ false) × (b ≡ false)
-neither false b e = (refl, e)
-neither true b e = absurd cc
-
 no_token : {A : Type 0} (test : Lexeme → Bool) (view : Lexeme → A) (us : List Lexeme) → begins test us ≡ false → one_token test view us ≡ Err (stuck, us)
 no_token test view [] no_ = refl
 no_token test view (u ∷ us) no_ = ap (λ b. cond b (ok (view u, us)) (err (stuck, u ∷ us))) no_
@@ -41,8 +38,8 @@ no_statement_read : (room : ℕ) (us : List Lexeme) → begins_statement us ≡ 
 unfolding statement_at plain_at assign_at
 no_statement_read zero us no_ = ap (λ b. cond b (err {A = Statement} (deep, us)) (err (stuck, us))) no_
 no_statement_read (suc r) us no_ =
-    let parts = neither (begins is_name us || begins (is_keyword (codes "publish")) us) (begins_nested us) no_ in
-    let two = neither (begins is_name us) (begins (is_keyword (codes "publish")) us) parts.0 in
+    let parts = or_parts (begins is_name us || begins (is_keyword (codes "publish")) us) (begins_nested us) no_ in
+    let two = or_parts (begins is_name us) (begins (is_keyword (codes "publish")) us) parts.0 in
     let name : name_at us ≡ Err (stuck, us) = no_token is_name ident us two.0 in
     rw (parts.1, two.1, name) refl
 

@@ -1,5 +1,5 @@
 -- Words are read back from the text that lays them out.
-use Rattle.std.proofs.Common.{◌≡◌, ℕ, zero, suc, ◌+◌, ◌==◌, ◌&&◌, ◌||◌, Bool, true, false, List, [], ◌∷◌, ◌++◌, length, take, drop, map, replicate, None, Some, Ok, refl, sym, ap, ap₂, ◌∙◌, append_assoc, arith}
+use Rattle.std.proofs.Common.{◌≡◌, ℕ, zero, suc, ◌+◌, ◌==◌, ◌&&◌, ◌||◌, Bool, false, List, [], ◌∷◌, ◌++◌, length, take, drop, map, replicate, None, Some, Ok, refl, sym, ap, ap₂, ◌∙◌, append_assoc, arith}
 use Rattle.std.proofs.Math.Seq.{take-append_seam, drop-append_seam}
 use Rattle.std.proofs.lemmas.List.{drop-drop, length-replicate}
 use Rattle.sot_text.specs.declared.token.Kind.{Kind}
@@ -8,15 +8,12 @@ use Rattle.sot_text.specs.Lexeme.{skipped, front, IsTokenText}
 use Rattle.sot_text.specs.Reading.{Lexeme, Lexes, lexed, next_from, next_lexeme, span}
 use Rattle.sot_text.specs.Inside.{is_long_sign}
 use Rattle.sot_text.proofs.Limits.{some_text}
+use Rattle.sot_text.proofs.Signs.{and_false}
 use Rattle.sot_print.specs.declared.gap.Gap.{Gap}
 use Rattle.sot_print.specs.declared.gap.Gap.TheVariants.{Touching, Space, Line}
 use Rattle.sot_print.specs.Words.{Word, blanks, laid, text_of}
 use Rattle.sot_print.specs.Layout.{Spelled, token_spelled, word_spelled, AreTokens, MayFollow, MayGoOn, AreParted, Reads}
 use Rattle.sot_print.proofs.Ends.{front_goes, nothing_skipped, blank_ends}
-
-and_false : (b : Bool) → (b && false) ≡ false
-and_false true = refl
-and_false false = refl
 
 skipped_spaces : (n : ℕ) (xs : List ℕ) → skipped false (replicate n 32 ++ xs) ≡ n + skipped false xs
 skipped_spaces zero xs = omega arith

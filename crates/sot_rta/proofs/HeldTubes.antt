@@ -1,12 +1,12 @@
 -- The held tube of a cell that the safe region covers.
-use Rattle.std.proofs.Common.{◌≡◌, ℕ, ◌+◌, ◌≤ℤ◌, List, [], ◌∷◌, ◌++◌, Ok, length, refl, sym, ap, ap₂, ◌∙◌, subst, arith, replicate}
+use Rattle.std.proofs.Common.{◌≡◌, ℕ, ◌+◌, List, [], ◌∷◌, ◌++◌, Ok, length, refl, sym, ap, ap₂, ◌∙◌, subst, replicate}
 use Rattle.std.specs.Prelude.{map, slice_set, Result, MatchResult, IsOk, ◌-◌}
-use Rattle.std.proofs.lemmas.Int.{ints}
 use Rattle.std.proofs.lemmas.Option.{same_Some}
 use Rattle.sot_box.specs.Sides.{Side, AreOrdered}
 use Rattle.sot_lists.specs.Places.{At}
-use Rattle.sot_box.specs.Boxes.{IsWithin, lows}
+use Rattle.sot_box.specs.Boxes.{lows}
 use Rattle.sot_box.specs.Regions.{Covers}
+use Rattle.sot_box.proofs.Ranges.{lows_within}
 use Rattle.sot_lang.specs.declared.act.Act.{Act}
 use Rattle.sot_lang.specs.declared.tables.PlantInfo.{PlantInfo}
 use Rattle.sot_lang.specs.declared.tables.NodeInfo.{NodeInfo}
@@ -30,11 +30,6 @@ use Rattle.sot_tube.proofs.CellsNarrow.{cell_never_traps}
 use Rattle.sot_rta.specs.Drafts.{IsCellDraft}
 use Rattle.sot_rta.specs.Cells.{MayHaveCells, AnswersHeldTube}
 use Rattle.sot_rta.proofs.CommandSides.{padded}
-
--- a box whose sides are ordered has a point
-lows_in : (b : List Side) → AreOrdered b → IsWithin b (lows b)
-lows_in [] o = tt
-lows_in (r ∷ rs) o = (let z : r.lo ≤ℤ r.lo = omega (arith, ints) in (z, o.0, lows_in rs o.1))
 
 same_Ok : (x y : List Drafted) → (let o : OrMayTrap (List Drafted) = Ok x in o) ≡ Ok y → x ≡ y
 same_Ok x y e = cc
@@ -63,7 +58,7 @@ module _ (p : Tables) (rules : MeetsTableRules p) (may : MayHaveCells p) (m : �
     fires =
         let hs = all_hulls p rules may.boxes in
         let o = drafts is_coded.0 hs.0 is_coded.1 hs.1 in
-        let f = cell_never_traps p rules.typed may.own_plant m a plant sc is_coded.0 hs.0 cell (lows cell) o.0 at plant_at sc_at (may.free a.sc sc is_coded.0 sc_at is_coded.1) hs.1 (lows_in cell ordered) covered o.1 in
+        let f = cell_never_traps p rules.typed may.own_plant m a plant sc is_coded.0 hs.0 cell (lows cell) o.0 at plant_at sc_at (may.free a.sc sc is_coded.0 sc_at is_coded.1) hs.1 (lows_within cell ordered) covered o.1 in
         let runs = subst (λ q. IsNodeExecution p sc is_coded.0 (slice_set hs.0 a.plant cell) q) f.1 o.1 in
         (f.0, record { hulls = hs.0; are = hs.1; runs = runs }, o.2 ∙ ap drafts_of f.1)
 

@@ -12,7 +12,7 @@ longest-append (x ∷ xs) ys bs =
     let here : ℕ = cond (stands_at x bs) (length x) 0 in
     ap (λ n. max here n) more ∙ omega arith
 
-and_false : (b : Bool) → (b && false) ≡ false
+pub and_false : (b : Bool) → (b && false) ≡ false
 and_false true = refl
 and_false false = refl
 

@@ -25,7 +25,7 @@ word_length text n e =
           ]
     ]
 
-number_no_name : (d m k n : ℕ) → sized d m k ≡ Token Name n → ⊥
+pub number_no_name : (d m k n : ℕ) → sized d m k ≡ Token Name n → ⊥
 number_no_name d m k n e =
     elim (cases_Bool (nat_lt 6 d || nat_lt (10 ^ 12) m)) [
       | inl wide ↦ (let never : LiteralWide k ≡ Token Name n = sym (cond-true (nat_lt 6 d || nat_lt (10 ^ 12) m) _ _ wide) ∙ e in cc)

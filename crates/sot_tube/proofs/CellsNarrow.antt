@@ -27,15 +27,9 @@ use Rattle.sot_iv.specs.TrapFree.{IsTrapFree}
 use Rattle.sot_iv.specs.Monotony.{IsNarrower, AreNarrower}
 use Rattle.sot_iv.proofs.Narrow.{le_refl_ℤ, narrow_read}
 use Rattle.sot_iv.proofs.BodyNarrow.{execution_narrow}
+use Rattle.sot_iv.proofs.Plants.{narrow_self}
 use Rattle.sot_tube.specs.Composition.{NoSharedPlant}
 use Rattle.sot_tube.proofs.Leaving.{all_hulls_same}
-
--- a box with a point is inside itself
-narrow_self : (rs : List Side) (w : List ℤ) → IsWithin rs w → AreNarrower rs rs
-narrow_self [] [] w = tt
-narrow_self (r ∷ rs) (z ∷ zs) w = ((le_refl_ℤ r.lo, omega (arith, ints, w.0, w.1), le_refl_ℤ r.hi), narrow_self rs zs w.2)
-narrow_self [] (z ∷ zs) w = absurd w
-narrow_self (r ∷ rs) [] w = absurd w
 
 lows_within : (b : List Side) (s : List ℤ) → IsWithin b s → IsWithin b (lows b)
 lows_within [] [] w = tt

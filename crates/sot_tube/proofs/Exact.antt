@@ -1,8 +1,8 @@
 -- Checks that are put together from exact checks are exact.
 use Rattle.std.proofs.Common.{◌≡◌, ℕ, ◌<◌, ⊎_elim, List, sym, subst, arith}
-use Rattle.std.proofs.lemmas.Bool.{cases_lt}
 use Rattle.sot_lists.specs.Places.{At}
 use Rattle.sot_lists.proofs.Places.{at_same}
+use Rattle.sot_lists.proofs.Numbers.{by_order}
 use Rattle.sot_tube.specs.Checks.{Check, and_then, for_each, of_the, IsLeastNumber, IsLeastClash, IsExact}
 
 pub and_then_exact : (a b : Check) → IsExact a → IsExact b → IsExact (and_then a b)
@@ -14,11 +14,6 @@ and_then_exact a b ea eb = record {
       (λ y. ⊎_elim (λ x'. absurd (ea.exclusive r' x' y.0)) (λ y'. eb.unique r r' y.1 y'.1) h')
       h;
 }
-
--- of two numbers one is less, or they are one
-pub by_order : {P : Type 0} (m n : ℕ) → (m < n → P) → (n < m → P) → (m ≡ n → P) → P
-by_order m n less more same =
-    ⊎_elim less (λ le. ⊎_elim more (λ ge. same (omega arith)) (cases_lt n m)) (cases_lt m n)
 
 pub for_each_exact : {A : Type 0} (xs : List A) (check : ℕ → A → Check) → ((i : ℕ) (x : A) → IsExact (check i x)) → IsExact (for_each xs check)
 for_each_exact {A} xs check each = record {

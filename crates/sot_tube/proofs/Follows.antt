@@ -13,6 +13,7 @@ use Rattle.sot_lang.specs.OwnerNames.{width_of, seen_width}
 use Rattle.sot_lang.specs.Ranges.{range_of, input_ranges}
 use Rattle.sot_lang.specs.SafeRegions.{safe_of}
 use Rattle.sot_lang.specs.TableRules.{MeetsTableRules}
+use Rattle.sot_lang.proofs.Owners.{width_at}
 use Rattle.sot_lists.proofs.Places.{at_same, at_below}
 use Rattle.sot_iv.specs.PlantTicks.{MayTickBox}
 use Rattle.sot_iv.specs.SeenHulls.{AreSeenHulls}
@@ -43,11 +44,6 @@ some_safe (m ∷ ms) k (suc i) a at e h none =
     (λ here. h 0 m refl (sym (cond-true (eqb m.plant k) m.safe.boxes (safe_of ms k) (eq-eqb m.plant k here)) ∙ none))
     (λ ne. some_safe ms k i a at e (λ j b at'. h (suc j) b at') (sym (cond-false (eqb m.plant k) m.safe.boxes (safe_of ms k) (ne_eqb m.plant k ne)) ∙ none))
     (cases_eq m.plant k)
-
-width_is : (ps : List PlantInfo) (k : ℕ) (plant : PlantInfo) → At ps k plant → width_of ps k ≡ length plant.states.items
-width_is [] k plant at = absurd (none-some plant at)
-width_is (x ∷ ps) zero plant at = ap (λ y. length y.states.items) (same_Some x plant at)
-width_is (x ∷ ps) (suc k) plant at = width_is ps k plant at
 
 -- the tube's answer, from that of the walk with the hulls in between
 answer : (p : Tables) (plant : PlantInfo) (commands seen : List Side) (region : List (List Side)) (box : List Side) (k : ℕ) (r : Result (Unit {0}) Leave) → AreSeenHulls p.modules plant.sees.items seen
@@ -90,7 +86,7 @@ module _ (p : Tables) (rules' : MeetsTableRules p) (m : ℕ) (box : List Side) (
     may_tick commands seen are width = record {
       plant = plant;
       is = plant_at plant plant_is;
-      states = may.width info info_at ∙ width_is p.plants info.plant plant (plant_at plant plant_is);
+      states = may.width info info_at ∙ width_at p.plants info.plant plant (plant_at plant plant_is);
       inputs = are info plant info_at (plant_at plant plant_is);
       seen_are = width;
     }

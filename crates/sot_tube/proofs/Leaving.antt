@@ -1,8 +1,7 @@
 -- A tube is inside a region or leaves it, and it leaves it in one way at most.
-use Rattle.std.proofs.Common.{◌≡◌, ℕ, zero, suc, ⊎_elim, ◌⊎◌, List, [], ◌∷◌, Ok, Err, length, refl, sym, ap₂, ◌∙◌, subst, arith}
+use Rattle.std.proofs.Common.{◌≡◌, ℕ, zero, suc, ⊎_elim, ◌⊎◌, List, [], ◌∷◌, Ok, Err, refl, sym, ap₂, ◌∙◌, subst, arith}
 use Rattle.sot_lang.specs.declared.tables.PlantInfo.{PlantInfo}
 use Rattle.sot_box.specs.Sides.{Side}
-use Rattle.sot_lists.specs.Places.{At}
 use Rattle.sot_box.specs.Regions.{IsHull, Covers}
 use Rattle.sot_tube.specs.Tubes.{StaysInside, IsNextBox, TubeInside}
 use Rattle.sot_tube.specs.Leaves.{Leave, GoesOut, Leaves, TubeLeaves}
@@ -12,7 +11,7 @@ use Rattle.sot_lang.specs.declared.tables.ModuleInfo.{ModuleInfo}
 use Rattle.sot_lang.specs.Tables.{Tables}
 use Rattle.sot_lang.specs.SafeRegions.{safe_of, AreHulls, AllHulls, joined_boxes}
 use Rattle.sot_box.proofs.Laws.{gap_unique, gap_uncovered, hull_unique}
-use Rattle.sot_lists.proofs.Places.{at_below}
+use Rattle.sot_lists.proofs.Places.{at_below, same_list}
 use Rattle.std.proofs.lemmas.Option.{slice_get_within, get_or_from_slice_get}
 use Rattle.sot_iv.proofs.Plants.{plant_same}
 
@@ -29,13 +28,6 @@ leaves_not plant cs hs region b n (suc k) leave l s =
     leaves_not plant cs hs region s.1.0 (suc n) k leave (subst (λ q. Leaves plant cs hs region q (suc n) k leave) same later.3) s.1.2)
     more)
     l
-
--- lists of one length that agree at each place
-same_list : {A : Type 0} (xs ys : List A) → length xs ≡ length ys → ((i : ℕ) (x y : A) → At xs i x → At ys i y → x ≡ y) → xs ≡ ys
-same_list [] [] e h = refl
-same_list (x ∷ xs) (y ∷ ys) e h = ap₂ (λ a b. a ∷ b) (h 0 x y refl refl) (same_list xs ys (omega arith) (λ i a b p q. h (suc i) a b p q))
-same_list [] (y ∷ ys) e h = absurd (omega arith)
-same_list (x ∷ xs) [] e h = absurd (omega arith)
 
 pub hulls_same : (ms : List ModuleInfo) (ks : List ℕ) (a b : List (List Side)) → AreHulls ms ks a → AreHulls ms ks b → a ≡ b
 hulls_same ms [] [] [] h h' = refl

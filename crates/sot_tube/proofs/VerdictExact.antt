@@ -1,5 +1,5 @@
 -- Each check of a verdict is exact, and so is the verdict.
-use Rattle.std.proofs.Common.{◌≡◌, ℕ, ⊎_elim, inl, inr, List, Ok, Err, Some, sym, ap, ◌∙◌, subst, arith}
+use Rattle.std.proofs.Common.{◌≡◌, ℕ, ⊎_elim, inl, inr, List, Ok, Err, Some, sym, ◌∙◌, subst, arith}
 use Rattle.std.specs.Prelude.{◌+◌, ◌*◌, slice_set}
 use Rattle.std.proofs.lemmas.Option.{same_Some}
 use Rattle.sot_lang.specs.declared.act.Act.{Act}
@@ -11,6 +11,7 @@ use Rattle.sot_lang.specs.declared.tables.ModuleInfo.{ModuleInfo}
 use Rattle.sot_lang.specs.Tables.{Tables}
 use Rattle.sot_lang.specs.Ranges.{input_ranges, local_ranges, write_ranges}
 use Rattle.sot_lang.specs.TableRules.{IsCoded}
+use Rattle.sot_lang.proofs.Owners.{one_body}
 use Rattle.sot_lists.proofs.Places.{at_same}
 use Rattle.sot_box.specs.Sides.{Side}
 use Rattle.sot_lists.specs.Places.{At}
@@ -71,7 +72,7 @@ entry_exact cert m = record {
   unique = λ r r' h h'. h.1 ∙ sym h'.1;
 }
 
-periods_exact : (p : Tables) (m : ℕ) (a : ModuleInfo) → IsExact (periods p m a)
+pub periods_exact : (p : Tables) (m : ℕ) (a : ModuleInfo) → IsExact (periods p m a)
 periods_exact p m a = record {
   exclusive = λ r h passes.
       ⊎_elim
@@ -85,7 +86,7 @@ periods_exact p m a = record {
       h;
 }
 
-outputs_exact : (p : Tables) (m : ℕ) (a : ModuleInfo) → IsExact (outputs p m a)
+pub outputs_exact : (p : Tables) (m : ℕ) (a : ModuleInfo) → IsExact (outputs p m a)
 outputs_exact p m a = record {
   exclusive = λ r h passes.
       let w = h.1.has in
@@ -94,7 +95,7 @@ outputs_exact p m a = record {
   unique = λ r r' h h'. let e = least_number_same (IsWrittenByOne p a) h.0 h'.0 h.1 h'.1 in cc;
 }
 
-boxes_exact : (m : ℕ) (a : ModuleInfo) → IsExact (boxes m a)
+pub boxes_exact : (m : ℕ) (a : ModuleInfo) → IsExact (boxes m a)
 boxes_exact m a = record {
   exclusive = λ r h passes. ⊎_elim (λ x. passes.0 x.0) (λ y. passes.1 y.1) h;
   unique = λ r r' h h'.
@@ -110,12 +111,7 @@ shape_exact p cert m a =
     (and_then_exact (periods p m a) (and_then (outputs p m a) (boxes m a)) (periods_exact p m a)
     (and_then_exact (outputs p m a) (boxes m a) (outputs_exact p m a) (boxes_exact m a)))
 
-coded_same : (node : NodeInfo) (a b : List Act) → IsCoded node a → IsCoded node b → a ≡ b
-coded_same node a b h h' =
-    let e : h.0 ≡ h'.0 = same_Some h.0 h'.0 (sym h.1 ∙ h'.1) in
-    sym h.2 ∙ ap (λ v. v.items) e ∙ h'.2
-
-cells_same : (cert : Cert) (m : ℕ) (a b : Cells) → HasCells cert m a → HasCells cert m b → a ≡ b
+pub cells_same : (cert : Cert) (m : ℕ) (a b : Cells) → HasCells cert m a → HasCells cert m b → a ≡ b
 cells_same cert m a b h h' = same_Some a b (same_Some (Some a) (Some b) (sym h ∙ h'))
 
 safe_execution_same : (p : Tables) (node : NodeInfo) (us : List Act) (o o' : OrMayTrap Intervals) → IsSafeExecution p node us o → IsSafeExecution p node us o' → o ≡ o'
@@ -124,7 +120,7 @@ safe_execution_same p node us o o' h h' =
     execution_same us (local_ranges node) (write_ranges p node) (reading_intervals p node h'.0) (local_ranges node) o o'
     (subst (λ q. IsExecutionIntervals us (local_ranges node) (write_ranges p node) (reading_intervals p node q) (local_ranges node) o) e h.2) h'.2
 
-drafts_same : (p : Tables) (a : ModuleInfo) (sc : NodeInfo) (us : List Act) (cell : List Side) (f g : Intervals) → DraftsFrom p a sc us cell f → DraftsFrom p a sc us cell g → f ≡ g
+pub drafts_same : (p : Tables) (a : ModuleInfo) (sc : NodeInfo) (us : List Act) (cell : List Side) (f g : Intervals) → DraftsFrom p a sc us cell f → DraftsFrom p a sc us cell g → f ≡ g
 drafts_same p a sc us cell f g h h' =
     let e = all_hulls_same p h.hulls h'.hulls h.are h'.are in
     let one = execution_same us (local_ranges sc) (write_ranges p sc) (reading_intervals p sc (slice_set h'.hulls a.plant cell)) (local_ranges sc) (Ok f) (Ok g)
@@ -138,7 +134,7 @@ trap_free_exact p n node us = record {
 }
 
 pub code_exact : (p : Tables) (n : ℕ) (node : NodeInfo) → IsExact (code p n node)
-code_exact p n node = of_the_exact (IsCoded node) (trap_free p n node) (coded_same node) (trap_free_exact p n node)
+code_exact p n node = of_the_exact (IsCoded node) (trap_free p n node) (one_body node) (trap_free_exact p n node)
 
 closed_cell_exact : (p : Tables) (j m : ℕ) (a : ModuleInfo) (plant : PlantInfo) (sc : NodeInfo) (us : List Act) (i : ℕ) (cell : List Side) → IsExact (closed_cell p j m a plant sc us i cell)
 closed_cell_exact p j m a plant sc us i cell = record {
@@ -201,7 +197,7 @@ pub cells_exact : (p : Tables) (j : ℕ) (cert : Cert) (m : ℕ) (a : ModuleInfo
 cells_exact p j cert m a =
     of_the_exact (At p.plants a.plant) _ (at_same p.plants a.plant) (λ plant.
     of_the_exact (At p.nodes a.sc) _ (at_same p.nodes a.sc) (λ sc.
-    of_the_exact (IsCoded sc) _ (coded_same sc) (λ us.
+    of_the_exact (IsCoded sc) _ (one_body sc) (λ us.
     of_the_exact (HasCells cert m) _ (cells_same cert m) (λ cells. cell_checks_exact p j m a plant sc us cells))))
 
 pub verdict_exact : (p : Tables) (j : ℕ) (cert : Cert) → IsExact (verdict p j cert)

@@ -1,5 +1,6 @@
 -- Looking at the word served keeps the rule.
-use Rattle.std.proofs.Common.{◌≡◌, ℕ, Bool, true, false, List, length, slice_set, All, Option, Some, IsSome, true≢false, sym, refl, ap, ◌∙◌, subst}
+use Rattle.std.proofs.Common.{◌≡◌, ℕ, true, false, List, length, slice_set, All, Option, Some, IsSome, true≢false, sym, refl, ap, ◌∙◌, subst}
+use Rattle.std.proofs.lemmas.Bool.{false_from_ne_true}
 use mathlib.Core.Logic.{dite}
 use mathlib.Core.Option as maybe
 use lib.Seq.{set-get_or}
@@ -14,10 +15,6 @@ use Rattle.sot_turn.proofs.ViewLemmas.{IsAt-same, new_at_place, EachView-set, Ha
 use Rattle.sot_turn.proofs.Homes.{out_is_not_home, IsOut-taken}
 use Rattle.sot_turn.proofs.Parts.{Parts, kept_by_parts}
 use Rattle.sot_turn.proofs.Drawing.{unmoved}
-
-false_unless_true : (b : Bool) → (b ≡ true → ⊥) → b ≡ false
-false_unless_true true never = absurd (never refl)
-false_unless_true false never = refl
 
 module _ {Ground Entry : Type 0} (common : List Entry) (base : Ground) (tickets now : ℕ) where
   -- the view after it was served, where the list at home is the common one
@@ -49,7 +46,7 @@ module _ {Value Ground Entry : Type 0} (ground_of : Value → Ground) (entries_o
   -- nobody has the turn where the seat that is served has not taken it
   nobody_has_turn : old.turn ≡ false → NobodyHasTurn table.views
   nobody_has_turn no_turn i view there =
-      false_unless_true view.turn (λ turn.
+      false_from_ne_true view.turn (λ turn.
       let is : i ≡ place = rule.distinct i place (served table) view old there at ((rule.each_fits i view there).turn_is_served turn) ticket in
       let same = IsAt-same table.views i place old view at there is in
       true≢false (sym turn ∙ (ap (λ (v : View Ground Entry). v.turn) (sym same) ∙ no_turn)))

@@ -2,6 +2,7 @@
 use Rattle.std.proofs.Common.{◌≡◌, ◌∙◌, ℕ, suc, ◌≤◌, ◌^◌, ◌==◌, ℤ, pos, negsuc, ◌≤ℤ◌, nat_abs, List, map, refl, sym, ap, subst, Option, Some, Bool, true, false, arith}
 use Rattle.std.specs.List.{list_any}
 use Rattle.std.proofs.lemmas.Int.{ints}
+use Rattle.std.proofs.lemmas.Bool.{or_from, false_from_ne_true}
 use Rattle.sot_lists.specs.Places.{At}
 use Rattle.sot_text.specs.declared.token.Span.{Span}
 use Rattle.sot_lang.specs.Values.{is_word}
@@ -25,11 +26,10 @@ use Rattle.sot_rules.specs.Fails.{TreeFails, PartsFail, unknown, operands_kind, 
 use Rattle.sot_typing.specs.Formulas.{Formula}
 use Rattle.sot_typing.specs.Terms.{truth_number, sort_scale, place_of, formula_of, formulas_of}
 use Rattle.sot_typing.proofs.Lists.{at_lt, at_map}
-use Rattle.sot_typing.proofs.Tests.{no_true}
 use Rattle.sot_typing.proofs.Ranges.{IsKnown, scale_known}
 use Rattle.sot_typing.proofs.Readings.{thing_sorts, place_is}
 use Rattle.sot_typing.proofs.FormulaRules.{IsTruthFormula, FormulasOperate, formula_count, FormulaFits, FormulasFit}
-use Rattle.sot_typing.proofs.SortCases.{OperandSorts, operation_is, unless_fails, neither, is_number, is_truth_value, given_known, branches_are, AreKnown, call_is}
+use Rattle.sot_typing.proofs.SortCases.{OperandSorts, operation_is, unless_fails, is_number, is_truth_value, given_known, branches_are, AreKnown, call_is}
 
 -- each of the names is a truth value or a number of at most 6 decimals, and these are the truth values among them
 pub record AreNames (names : List Thing) (truths : List Bool) : Type 0 where
@@ -103,10 +103,10 @@ Never names e = (at : Span) (k : TypeKind) → TreeFails names e at k → ⊥
 
 binary_sound : (names : List Thing) (truths : List Bool) (op : Op) (a b : Tree) (at : Span) → Never names (binary op a b at) → IsSound names truths a → IsSound names truths b → IsSound names truths (binary op a b at)
 binary_sound names truths op a b at none x y =
-    let k = no_true (kinds_misfit op (sort names a) (sort names b)) (λ e. none at KindDiffers (operands_kind e)) in
-    let m = no_true (scales_misfit op (sort names a) (sort names b)) (λ e. none at ScaleDiffers (operands_scale e)) in
+    let k = false_from_ne_true (kinds_misfit op (sort names a) (sort names b)) (λ e. none at KindDiffers (operands_kind e)) in
+    let m = false_from_ne_true (scales_misfit op (sort names a) (sort names b)) (λ e. none at ScaleDiffers (operands_scale e)) in
     let r = operation_is op (sort names a) (sort names b) x.known y.known k m in
-    let q : sort names (binary op a b at) ≡ given (sort names a) (given (sort names b) (operator_sort op (sort names a) (sort names b))) = unless_fails _ _ (neither (kinds_misfit op (sort names a) (sort names b)) _ k m) in
+    let q : sort names (binary op a b at) ≡ given (sort names a) (given (sort names b) (operator_sort op (sort names a) (sort names b))) = unless_fails _ _ (or_from (kinds_misfit op (sort names a) (sort names b)) _ k m) in
     record {
       known = subst IsKnown (sym q) r.known;
       truth = λ e. r.truth (sym q ∙ e);
@@ -115,10 +115,10 @@ binary_sound names truths op a b at none x y =
 
 rest_sound : (names : List Thing) (truths : List Bool) (a : Tree) (by : Lit) (at : Span) → pos 0 ≤ℤ by.mantissa → Never names (rest a by at) → IsSound names truths a → IsSound names truths (rest a by at)
 rest_sound names truths a by at above none x =
-    let k = no_true (is_truthful (sort names a)) (λ e. none at KindDiffers (rest_kind e)) in
-    let m = no_true (differ (sort names a) (Scaled by.scale)) (λ e. none at ScaleDiffers (rest_scale e)) in
-    let z = no_true (is_zero by) (λ e. none by.at KindDiffers (rest_zero e)) in
-    let q : sort names (rest a by at) ≡ sort names a = unless_fails _ _ (neither (is_truthful (sort names a)) _ k (neither (differ (sort names a) (Scaled by.scale)) _ m z)) in
+    let k = false_from_ne_true (is_truthful (sort names a)) (λ e. none at KindDiffers (rest_kind e)) in
+    let m = false_from_ne_true (differ (sort names a) (Scaled by.scale)) (λ e. none at ScaleDiffers (rest_scale e)) in
+    let z = false_from_ne_true (is_zero by) (λ e. none by.at KindDiffers (rest_zero e)) in
+    let q : sort names (rest a by at) ≡ sort names a = unless_fails _ _ (or_from (is_truthful (sort names a)) _ k (or_from (differ (sort names a) (Scaled by.scale)) _ m z)) in
     record {
       known = subst IsKnown (sym q) x.known;
       truth = λ e. is_number (sort names a) k (sym q ∙ e);
@@ -127,13 +127,13 @@ rest_sound names truths a by at above none x =
 
 negated_sound : (names : List Thing) (truths : List Bool) (a : Tree) (at : Span) → Never names (negated a at) → IsSound names truths a → IsSound names truths (negated a at)
 negated_sound names truths a at none x =
-    let k = no_true (is_truthful (sort names a)) (λ e. none at KindDiffers (negated_truth e)) in
+    let k = false_from_ne_true (is_truthful (sort names a)) (λ e. none at KindDiffers (negated_truth e)) in
     let q : sort names (negated a at) ≡ sort names a = unless_fails _ _ k in
     record { known = subst IsKnown (sym q) x.known; truth = λ e. is_number (sort names a) k (sym q ∙ e); fits = x.fits }
 
 denied_sound : (names : List Thing) (truths : List Bool) (a : Tree) (at : Span) → Never names (denied a at) → IsSound names truths a → IsSound names truths (denied a at)
 denied_sound names truths a at none x =
-    let k = no_true (is_scaled (sort names a)) (λ e. none at KindDiffers (denied_number e)) in
+    let k = false_from_ne_true (is_scaled (sort names a)) (λ e. none at KindDiffers (denied_number e)) in
     let q : sort names (denied a at) ≡ sort names a = unless_fails _ _ k in
     record { known = subst IsKnown (sym q) x.known; truth = λ e. tt; fits = (x.truth (is_truth_value (sort names a) x.known k), x.fits) }
 
@@ -145,9 +145,9 @@ called_sort names truths parts e more q x k =
 
 called_sound : (names : List Thing) (truths : List Bool) (f : Func) (parts : Trees) (at : Span) → part_count parts ≡ arity f → Never names (called f parts at) → AreSound names truths parts → IsSound names truths (called f parts at)
 called_sound names truths f parts at count none x =
-    let k = no_true (list_any is_truthful (sorts names parts)) (λ e. none at KindDiffers (call_kind e)) in
-    let m = no_true (some_differ (sorts names parts)) (λ e. none at ScaleDiffers (call_scale e)) in
-    let q : sort names (called f parts at) ≡ call_sort (sorts names parts) = unless_fails _ _ (neither (list_any is_truthful (sorts names parts)) _ k m) in
+    let k = false_from_ne_true (list_any is_truthful (sorts names parts)) (λ e. none at KindDiffers (call_kind e)) in
+    let m = false_from_ne_true (some_differ (sorts names parts)) (λ e. none at ScaleDiffers (call_scale e)) in
+    let q : sort names (called f parts at) ≡ call_sort (sorts names parts) = unless_fails _ _ (or_from (list_any is_truthful (sorts names parts)) _ k m) in
     let p = some_part f parts count in
     let r = called_sort names truths parts p.0 p.1 p.2 x.known k in
     record {
@@ -163,10 +163,10 @@ known_scale Anything h = absurd h
 
 rescaled_sound : (names : List Thing) (truths : List Bool) (a : Tree) (d : Lit) (at : Span) → Never names (rescaled a d at) → IsSound names truths a → IsSound names truths (rescaled a d at)
 rescaled_sound names truths a d at none x =
-    let k = no_true (is_truthful (sort names a)) (λ e. none at KindDiffers (rescaled_truth e)) in
-    let m = no_true (is_no_scale d) (λ e. none d.at ScaleDiffers (rescaled_far e)) in
+    let k = false_from_ne_true (is_truthful (sort names a)) (λ e. none at KindDiffers (rescaled_truth e)) in
+    let m = false_from_ne_true (is_no_scale d) (λ e. none d.at ScaleDiffers (rescaled_far e)) in
     let n = scale_known d m in
-    let q : sort names (rescaled a d at) ≡ Scaled (nat_abs d.mantissa) = unless_fails _ _ (neither (is_truthful (sort names a)) _ k m) ∙ given_known (sort names a) _ x.known in
+    let q : sort names (rescaled a d at) ≡ Scaled (nat_abs d.mantissa) = unless_fails _ _ (or_from (is_truthful (sort names a)) _ k m) ∙ given_known (sort names a) _ x.known in
     record {
       known = subst IsKnown (sym q) n.1;
       truth = λ e. (let z : Scaled (nat_abs d.mantissa) ≡ Truthful = sym q ∙ e in cc);
@@ -175,10 +175,10 @@ rescaled_sound names truths a d at none x =
 
 chosen_sound : (names : List Thing) (truths : List Bool) (c a b : Tree) (at : Span) → Never names (chosen c a b at) → IsSound names truths c → IsSound names truths a → IsSound names truths b → IsSound names truths (chosen c a b at)
 chosen_sound names truths c a b at none x y z =
-    let k = no_true (branches_misfit (sort names c) (sort names a) (sort names b)) (λ e. none at KindDiffers (branches_kind e)) in
-    let m = no_true (differ (sort names a) (sort names b)) (λ e. none at ScaleDiffers (branches_scale e)) in
+    let k = false_from_ne_true (branches_misfit (sort names c) (sort names a) (sort names b)) (λ e. none at KindDiffers (branches_kind e)) in
+    let m = false_from_ne_true (differ (sort names a) (sort names b)) (λ e. none at ScaleDiffers (branches_scale e)) in
     let r = branches_are (sort names c) (sort names a) (sort names b) x.known y.known z.known k in
-    let q : sort names (chosen c a b at) ≡ sort names a = unless_fails _ _ (neither (branches_misfit (sort names c) (sort names a) (sort names b)) _ k m) ∙ given_known (sort names c) _ x.known ∙ given_known (sort names b) _ z.known in
+    let q : sort names (chosen c a b at) ≡ sort names a = unless_fails _ _ (or_from (branches_misfit (sort names c) (sort names a) (sort names b)) _ k m) ∙ given_known (sort names c) _ x.known ∙ given_known (sort names b) _ z.known in
     record {
       known = subst IsKnown (sym q) y.known;
       truth = λ e. (let t = sym q ∙ e in (y.truth t, z.truth (r.1 t)));

@@ -5,6 +5,7 @@ use Rattle.std.proofs.lemmas.List.{length-map}
 use Rattle.std.proofs.lemmas.List.Sums.{sum_by-cons}
 use Rattle.std.proofs.lemmas.List.Elements.{All-nil, All-cons}
 use Rattle.std.proofs.lemmas.Option.{get_or_from_slice_get}
+use Rattle.std.proofs.lemmas.Bool.{false_from_ne_true}
 use Rattle.sot_lists.specs.Places.{At, Has}
 use Rattle.sot_box.specs.Sides.{Side, AreOrdered}
 use Rattle.sot_text.specs.declared.token.Span.{Span}
@@ -30,7 +31,7 @@ use Rattle.sot_typing.specs.Numbers.{FitLimits, nothing_counted}
 use Rattle.sot_typing.specs.Fits.{TopicIsOwn, PlantFits, NodeFits, ModuleFits, AllFit}
 use Rattle.sot_typing.proofs.Lists.{at_below, at_map, at_kept, each_at}
 use Rattle.sot_typing.proofs.Declared.{of_find}
-use Rattle.sot_typing.proofs.Tests.{no_true, no_false}
+use Rattle.sot_typing.proofs.Tests.{no_false}
 use Rattle.sot_typing.proofs.Meanings.{topic_own, topic_faultless, plant_faultless, node_faultless, module_faultless, a_plant_meant}
 use Rattle.sot_typing.proofs.DeclaredNames.{within, topic_names, plant_names, node_names, module_names}
 use Rattle.sot_typing.proofs.Small.{no_faults, nth_empty, each_empty, node_small, plant_small}
@@ -123,7 +124,7 @@ module _ (p : Program) (formed : IsFormed p) (f : IsFaultless p) where
             });
         sees = all_has (λ i. is_plant (meaning p i) ≡ true) q.sees
             (λ i h.
-            let t = no_true (is_topic (meaning p i)) (λ e. none i.at KindDiffers (seen_topic h e)) in
+            let t = false_from_ne_true (is_topic (meaning p i)) (λ e. none i.at KindDiffers (seen_topic h e)) in
             no_false (is_plant (meaning p i)) (λ e. none i.at Unknown (seen_unknown h t e)));
         noise = all_has FieldFits q.noise
             (λ n h. record {
@@ -158,7 +159,7 @@ module _ (p : Program) (formed : IsFormed p) (f : IsFaultless p) where
       let form = each_at IsDeclaration p.decls k (a_module m) formed a in
       let none = module_faultless p f j.0 m j.1 in
       let times = times_are m.period m.offset form.period form.offset (λ at kind h. none at kind (module_times h)) in
-      let other = no_true (is_topic (meaning p m.plant)) (λ e. none m.plant.at KindDiffers (plant_topic e)) in
+      let other = false_from_ne_true (is_topic (meaning p m.plant)) (λ e. none m.plant.at KindDiffers (plant_topic e)) in
       let plant = no_false (is_plant (meaning p m.plant)) (λ e. none m.plant.at Unknown (plant_unknown other e)) in
       let q = a_plant_meant (meaning p m.plant) plant in
       let there = of_find (λ d. are_same m.plant (declared_name d)) p.decls (a_plant q.0) q.1 in

@@ -1,5 +1,5 @@
 -- Places in lists that are made of others.
-use Rattle.std.proofs.Common.{◌≡◌, ◌∙◌, ℕ, zero, suc, ◌+◌, ◌⊎◌, inl, inr, List, [], ◌∷◌, ◌++◌, length, zip, filter_map, refl, sym, ap, subst, Option, Some, None, true, false, Bool, ◌||◌, arith}
+use Rattle.std.proofs.Common.{◌≡◌, ◌∙◌, ℕ, zero, suc, ◌+◌, ◌⊎◌, inl, inr, List, [], ◌∷◌, ◌++◌, length, zip, filter_map, refl, ap, subst, Option, Some, None, true, false, Bool, ◌||◌, arith}
 use Rattle.std.specs.List.{list_any, cons_option}
 pub use Rattle.std.proofs.lemmas.Option.{slice_get_within as at_lt}
 pub use Rattle.sot_lists.proofs.Places.{at_map, at_same, at_below, at_mapped}
@@ -48,13 +48,6 @@ any_of {A = A} f (y ∷ ys) h = by (f y) refl h (λ q. any_of f ys q)
     by : (b : Bool) → f y ≡ b → (b || list_any f ys) ≡ true → (list_any f ys ≡ true → (k : ℕ) × (x : A) × At ys k x × (f x ≡ true)) → (k : ℕ) × (x : A) × At (y ∷ ys) k x × (f x ≡ true)
     by true e q more = (0, y, refl, e)
     by false e q more = (let r = more q in (suc r.0, r.1, r.2, r.3))
-
--- two lists with the same items at the same places
-pub same_items : {A : Type 0} (xs ys : List A) → length xs ≡ length ys → ((k : ℕ) (x : A) → At xs k x → At ys k x) → xs ≡ ys
-same_items [] [] e h = refl
-same_items [] (y ∷ ys) e h = absurd (omega arith)
-same_items (x ∷ xs) [] e h = absurd (omega arith)
-same_items (x ∷ xs) (y ∷ ys) e h = (let q : y ≡ x = (let r = h 0 x refl in cc) in ap (λ z. z ∷ xs) (sym q) ∙ ap (λ l. y ∷ l) (same_items xs ys (omega arith) (λ k z a. h (suc k) z a)))
 
 -- pairs of two lists
 pub at_zip : {A B : Type 0} (xs : List A) (ys : List B) (k : ℕ) (x : A) (y : B) → At xs k x → At ys k y → At (zip xs ys) k (x, y)

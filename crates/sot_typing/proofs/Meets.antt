@@ -3,6 +3,7 @@ use Rattle.std.proofs.Common.{◌≡◌, ◌∙◌, ℕ, suc, List, [], ◌∷�
 use Rattle.std.specs.Global.{Vec}
 use Rattle.std.proofs.lemmas.Option.{none-some, same_Some}
 use Rattle.std.proofs.lemmas.List.{length-map}
+use Rattle.std.proofs.lemmas.Bool.{false_from_ne_true}
 use Rattle.sot_lists.specs.Places.{At}
 use Rattle.sot_lang.specs.declared.act.Act.{Act}
 use Rattle.sot_lang.specs.declared.term.Term.{Term}
@@ -27,7 +28,6 @@ use Rattle.sot_typing.specs.Terms.{formula_of, deeds_of}
 use Rattle.sot_typing.specs.Resolved.{AreTables, local_info, PlantTable, NodeTable}
 use Rattle.sot_typing.proofs.Lists.{each_at}
 use Rattle.sot_typing.proofs.Meanings.{plant_faultless, plant_formed, node_faultless, node_formed}
-use Rattle.sot_typing.proofs.Tests.{no_true}
 use Rattle.sot_typing.proofs.Ranges.{scalar_is}
 use Rattle.sot_typing.proofs.Readings.{thing_sorts}
 use Rattle.sot_typing.proofs.FormulaRules.{FormulaFits, DeedsFit, term_fits, acts_fit}
@@ -59,7 +59,7 @@ module _ (p : Program) (t : Tables) (s : AreSeen p t) (f : IsFaultless p) (fo : 
       let one = state_names x.0.states (plant.state_known p x.0 none) in
       let two = input_names p t s f x.0.inputs in
       let three = seen_names p t s f x.0.sees (plant.seen_meant p t s f k x.0 x.1) in
-      let four = noise_names x.0.noise (λ d h. ((scalar_is true d.scalar (λ at kind w. none at kind (noise_scalar h w))).known, no_true _ (λ e. none d.name.at KindDiffers (noise_truth h e)))) in
+      let four = noise_names x.0.noise (λ d h. ((scalar_is true d.scalar (λ at kind w. none at kind (noise_scalar h w))).known, false_from_ne_true _ (λ e. none d.name.at KindDiffers (noise_truth h e)))) in
       let all = both_names _ _ _ _ (both_names _ _ _ _ (both_names _ _ _ _ one two) three) four in
       subst (λ (y : PlantTable). AreNames (plant_scope p x.0) (map (λ (z : StateInfo). false) y.states ++ map (is_truth_scalar t.scalars) y.inputs ++ replicate (seen_width t.plants y.sees) false ++ map (λ (z : NoiseInfo). false) y.noise)) (sym x.2) all
 

@@ -3,6 +3,7 @@ use Rattle.std.proofs.Common.{◌≡◌, ◌∙◌, ℕ, suc, ◌<◌, ◌≤◌
 use Rattle.std.specs.Global.{Vec}
 use Rattle.std.proofs.lemmas.List.{length-map}
 use Rattle.std.proofs.lemmas.Option.{none-some}
+use Rattle.std.proofs.lemmas.Bool.{false_from_ne_true}
 use Rattle.sot_lists.specs.Places.{At, Has}
 use Rattle.sot_box.specs.Sides.{Side, AreOrdered}
 use Rattle.sot_text.specs.declared.token.Span.{Span}
@@ -29,7 +30,7 @@ use Rattle.sot_typing.specs.Resolved.{nodes, modules, plant_place, node_place, s
 use Rattle.sot_typing.proofs.Lists.{at_lt, at_below, at_map, at_mapped, at_same, at_zip}
 use Rattle.sot_typing.proofs.Once.{not_past, name_same}
 use Rattle.sot_typing.proofs.Meanings.{node_at, plant_at, plant_faultless, module_faultless, module_formed, meaning_name, a_node_meant, a_plant_meant}
-use Rattle.sot_typing.proofs.Tests.{no_true, no_false, same_number}
+use Rattle.sot_typing.proofs.Tests.{no_false, same_number}
 use Rattle.sot_typing.proofs.Ranges.{range_is}
 use Rattle.sot_typing.proofs.Times.{times_are}
 use Rattle.sot_typing.proofs.Seen.{AreSeen, of_module, node_in}
@@ -67,7 +68,7 @@ module _ (p : Program) (q : Plant) (none : (at : Span) (k : TypeKind) → PlantF
 
   area_width : (a : Area) → Has areas a → (has_other_width width a ≡ false) × (length (map state_sort q.states) ≡ length a.sides)
   area_width a h =
-      let w = no_true (has_other_width width a) (λ e. never a.at KindDiffers (other_width h e)) in
+      let w = false_from_ne_true (has_other_width width a) (λ e. never a.at KindDiffers (other_width h e)) in
       (w, same_number (length (map state_sort q.states)) (length a.sides) (ap (λ o. has_other_width o a) (sym is) ∙ w))
 
   pub boxes_are : (i : ℕ) (b : List Side) → At (map (λ (a : Area). map side_of a.sides) areas) i b → (length b ≡ length q.states) × AreOrdered b
@@ -89,7 +90,7 @@ module _ (p : Program) (t : Tables) (s : AreSeen p t) (f : IsFaultless p) where
   plant_of : (k : ℕ) (m : Module) → At (modules p) k m → (q : Plant) × (meaning p m.plant ≡ Some (a_plant q))
   plant_of k m a =
       let none = module_faultless p f k m a in
-      let x = no_true (is_topic (meaning p m.plant)) (λ e. none m.plant.at KindDiffers (plant_topic e)) in
+      let x = false_from_ne_true (is_topic (meaning p m.plant)) (λ e. none m.plant.at KindDiffers (plant_topic e)) in
       a_plant_meant (meaning p m.plant) (no_false (is_plant (meaning p m.plant)) (λ e. none m.plant.at Unknown (plant_unknown x e)))
 
   pub plant_is : (k : ℕ) (info : ModuleInfo) → At t.modules k info → (plant : PlantInfo) × At t.plants info.plant plant
@@ -118,7 +119,7 @@ module _ (p : Program) (t : Tables) (s : AreSeen p t) (f : IsFaultless p) where
       let x = of_module p t s k info a in
       let n = sc_of k x.0 x.1 in
       let y = node_in p t s (node_place p x.0.sc) n.0 (node_at p x.0.sc n.0 n.1) in
-      let e = no_true (is_external (meaning p x.0.sc)) (λ e. module_faultless p f k x.0 x.1 x.0.sc.at KindDiffers (sc_external e)) in
+      let e = false_from_ne_true (is_external (meaning p x.0.sc)) (λ e. module_faultless p f k x.0 x.1 x.0.sc.at KindDiffers (sc_external e)) in
       let v = coded y.0.body n.0.body (deeds_of (node_scope p n.0)) (ap (λ (z : NodeTable). z.body) y.2) (ap is_external (sym n.1) ∙ e) in
       (y.0, v.0.items, subst (λ (i : ModuleInfo). At t.nodes i.sc y.0) x.2 y.1, (v.0, v.1, refl {A = List Act}))
 

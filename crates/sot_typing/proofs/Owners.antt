@@ -5,6 +5,7 @@ use Rattle.std.proofs.lemmas.List.{length-map, map-append, replicate-append-repl
 use Rattle.std.proofs.lemmas.Option.{get_or_from_slice_get}
 use Rattle.std.proofs.lemmas.Grind.{flat_map-append}
 use Rattle.sot_lists.specs.Places.{At, Has}
+use Rattle.sot_lists.proofs.Places.{same_items}
 use Rattle.sot_tree.specs.declared.tree.Ident.{Ident}
 use Rattle.sot_tree.specs.declared.tree.Field.{Field}
 use Rattle.sot_tree.specs.declared.tree.Scalar.{Scalar}
@@ -26,7 +27,7 @@ use Rattle.sot_rules.specs.Sorts.{scalar_sort, state_sort, is_truthful}
 use Rattle.sot_rules.specs.Names.{Thing, meaning, form_parts, field_part, state_part, topic_thing, plant_thing, local_thing, state_thing, noise_thing, topic_meant, plant_meant, either_meant}
 use Rattle.sot_rules.specs.Tests.{form_scalars}
 use Rattle.sot_typing.specs.Resolved.{topics, topic_place, plant_place, scalar_count, first_scalar, counted_from, scalars_meant, slots_meant, state_info, noise_info, local_info}
-use Rattle.sot_typing.proofs.Lists.{at_map, at_mapped, of_append, at_same, same_items}
+use Rattle.sot_typing.proofs.Lists.{at_map, at_mapped, of_append, at_same}
 use Rattle.sot_typing.proofs.Joined.{of_counted, length_counted}
 use Rattle.sot_typing.proofs.Meanings.{topic_at, plant_at, topic_faultless, plant_faultless, scalars_in, scalars_are, slots_in, slots_of_topic, slots_of_plant}
 use Rattle.sot_typing.proofs.Ranges.{IsKnown, scalar_is}

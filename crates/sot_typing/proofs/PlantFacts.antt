@@ -4,6 +4,7 @@ use Rattle.std.specs.List.{position_or_len}
 use Rattle.std.specs.Str.{bytes_eq}
 use Rattle.std.proofs.lemmas.List.{length-map}
 use Rattle.std.proofs.lemmas.Option.{slice_get_past}
+use Rattle.std.proofs.lemmas.Bool.{false_from_ne_true}
 use Rattle.sot_lists.specs.Places.{At, Has}
 use Rattle.sot_text.specs.declared.token.Span.{Span}
 use Rattle.sot_tree.specs.declared.tree.Ident.{Ident}
@@ -37,7 +38,7 @@ use Rattle.sot_typing.proofs.Lists.{at_below, at_mapped, at_same, any_of, at_kep
 use Rattle.sot_typing.proofs.Joined.{order}
 use Rattle.sot_typing.proofs.Once.{not_past, same_name, name_same}
 use Rattle.sot_typing.proofs.Meanings.{plant_at, plant_own, plant_faultless, plant_formed, meaning_name, a_plant_meant}
-use Rattle.sot_typing.proofs.Tests.{no_true, no_false}
+use Rattle.sot_typing.proofs.Tests.{no_false}
 use Rattle.sot_typing.proofs.Ranges.{scale_known, scalar_is}
 use Rattle.sot_typing.proofs.Seen.{AreSeen, of_plant, plant_in, module_in}
 use Rattle.sot_typing.proofs.TopicLists.{few_listed, listed_below, listed_whole}
@@ -49,7 +50,7 @@ state_known p q none s h = by s.scale refl
   where
     by : (o : Option Lit) → s.scale ≡ o → (n : ℕ) × (state_sort s ≡ Scaled n) × (n ≤ 6)
     by None e = (0, ap written_scale e, omega arith)
-    by (Some d) e = (let r = scale_known d (no_true (is_no_scale d) (λ w. none d.at ScaleDiffers (state_scale h e w))) in (nat_abs d.mantissa, ap written_scale e ∙ r.0, r.1))
+    by (Some d) e = (let r = scale_known d (false_from_ne_true (is_no_scale d) (λ w. none d.at ScaleDiffers (state_scale h e w))) in (nat_abs d.mantissa, ap written_scale e ∙ r.0, r.1))
 
 some_length : {A : Type 0} (xs : List A) → HasItem xs → 1 ≤ length xs
 some_length [] h = absurd h
@@ -109,7 +110,7 @@ module _ (p : Program) (t : Tables) (s : AreSeen p t) (f : IsFaultless p) where
   pub seen_meant : (k : ℕ) (q : Plant) → At (plants p) k q → (i : Ident) → Has q.sees i → (r : Plant) × (meaning p i ≡ Some (a_plant r))
   seen_meant k q a i h =
       let none = plant_faultless p f k q a in
-      let x = no_true (is_topic (meaning p i)) (λ e. none i.at KindDiffers (seen_topic h e)) in
+      let x = false_from_ne_true (is_topic (meaning p i)) (λ e. none i.at KindDiffers (seen_topic h e)) in
       a_plant_meant (meaning p i) (no_false (is_plant (meaning p i)) (λ e. none i.at Unknown (seen_unknown h x e)))
 
   seen_by : (k : ℕ) (plant : PlantInfo) (n : ℕ) → At t.plants k plant → Has plant.sees.items n → (q : Plant) × (i : Ident) × At (plants p) k q × Has q.sees i × (plant_place p i ≡ n)

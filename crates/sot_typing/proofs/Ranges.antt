@@ -1,6 +1,7 @@
 -- Scalars in which no rule fails: their scales, their ranges and their initial values.
 use Rattle.std.proofs.Common.{List, [], ◌∷◌, map, ◌≡◌, ◌∙◌, ℕ, suc, ◌≤◌, ◌^◌, ◌==◌, nat_lt, ℤ, pos, ◌≤ℤ◌, ◌-ℤ◌, ◌+ℤ◌, nat_abs, int_lt, refl, sym, ap, subst, true, false, Bool, not, ◌&&◌, ◌||◌, if◌then◌else◌, arith}
 use Rattle.std.proofs.lemmas.Int.{ints}
+use Rattle.std.proofs.lemmas.Bool.{false_from_ne_true}
 use Rattle.sot_box.specs.Boxes.{IsWithin}
 use Rattle.sot_lists.specs.Places.{At}
 use Rattle.sot_text.specs.declared.token.Span.{Span}
@@ -19,7 +20,7 @@ use Rattle.sot_rules.specs.Sorts.{scale_sort, scalar_sort, differ, are_mixed, is
 use Rattle.sot_rules.specs.TreeSorts.{is_no_scale}
 use Rattle.sot_rules.specs.Tests.{is_outside, sort_is}
 use Rattle.sot_rules.specs.Fails.{BoundsFail, low_scale, high_scale, empty, wide, ScalarFails, no_scale, int_bounds, fix_bounds, StartFails, start_misfit, start_outside, target_kind, target_scale}
-use Rattle.sot_typing.proofs.Tests.{no_true, and_tail, same_number}
+use Rattle.sot_typing.proofs.Tests.{and_tail, same_number}
 use Rattle.sot_typing.specs.Terms.{sort_scale}
 use Rattle.sot_typing.specs.Resolved.{lowest, greatest, const_number, scalar_scale, is_truth}
 
@@ -51,13 +52,13 @@ not_wide s t w limit e h = not_empty s t w limit e h
 
 pub range_is : (limited : Bool) (scale : ℕ) (b : Bounds) → ((at : Span) (k : TypeKind) → BoundsFail limited (Scaled scale) b at k → ⊥) → IsRange limited scale b
 range_is limited scale b none =
-    let low = same_number scale b.lo.scale (no_true _ (λ e. none b.lo.at ScaleDiffers (low_scale e))) in
-    let high = same_number scale b.hi.scale (no_true _ (λ e. none b.hi.at ScaleDiffers (high_scale e))) in
+    let low = same_number scale b.lo.scale (false_from_ne_true _ (λ e. none b.lo.at ScaleDiffers (low_scale e))) in
+    let high = same_number scale b.hi.scale (false_from_ne_true _ (λ e. none b.hi.at ScaleDiffers (high_scale e))) in
     record {
       low = sym low;
       high = sym high;
-      ordered = not_empty b.lo.scale b.hi.scale b.lo.mantissa b.hi.mantissa (sym low ∙ high) (no_true _ (λ e. none b.lo.at RangeEmpty (empty e)));
-      narrow = λ l. not_wide b.lo.scale b.hi.scale ((b.hi.mantissa -ℤ b.lo.mantissa) +ℤ pos 1) (pos (2 ^ 32)) (sym low ∙ high) (no_true _ (λ e. none b.lo.at RangeWide (wide l e)));
+      ordered = not_empty b.lo.scale b.hi.scale b.lo.mantissa b.hi.mantissa (sym low ∙ high) (false_from_ne_true _ (λ e. none b.lo.at RangeEmpty (empty e)));
+      narrow = λ l. not_wide b.lo.scale b.hi.scale ((b.hi.mantissa -ℤ b.lo.mantissa) +ℤ pos 1) (pos (2 ^ 32)) (sym low ∙ high) (false_from_ne_true _ (λ e. none b.lo.at RangeWide (wide l e)));
     }
 
 -- the type of a scalar
@@ -73,7 +74,7 @@ scalar_is limited (Int b) none =
     let r = range_is limited 0 b (λ at k h. none at k (int_bounds h)) in
     record { scale = omega arith; known = omega arith; ordered = r.ordered; narrow = λ l. (r.ordered, r.narrow l); truth = λ e. cc }
 scalar_is limited (Fix d b) none =
-    let e = scale_known d (no_true _ (λ e. none d.at ScaleDiffers (no_scale e))) in
+    let e = scale_known d (false_from_ne_true _ (λ e. none d.at ScaleDiffers (no_scale e))) in
     let r = range_is limited (nat_abs d.mantissa) b (λ at k h. none at k (fix_bounds (subst (λ s. BoundsFail limited s b at k) (sym e.0) h))) in
     record {
       scale = subst (λ s. sort_scale s ≤ 6) (sym e.0) e.1;
@@ -94,17 +95,17 @@ starts n b l limited r e h = inside b.lo.scale b.hi.scale l.scale b.lo.mantissa 
 pub start_is : (limited : Bool) (s : Scalar) (c : Const) → ((at : Span) (k : TypeKind) → ScalarFails limited s at k → ⊥) → ((at : Span) (k : TypeKind) → StartFails s c at k → ⊥) → (lowest s ≤ℤ const_number c) × (const_number c ≤ℤ greatest s)
 start_is limited (Int b) (Number l) none never =
     starts 0 b l limited (range_is limited 0 b (λ at k h. none at k (int_bounds h)))
-    (same_number 0 l.scale (no_true _ (λ e. never l.at ScaleDiffers (start_misfit (target_scale e)))))
-    (no_true _ (λ e. never l.at InitOutside (start_outside e)))
+    (same_number 0 l.scale (false_from_ne_true _ (λ e. never l.at ScaleDiffers (start_misfit (target_scale e)))))
+    (false_from_ne_true _ (λ e. never l.at InitOutside (start_outside e)))
 start_is limited (Int b) (Truth v at) none never = absurd (never at KindDiffers (start_misfit (target_kind refl)))
 start_is limited (Fix d b) (Number l) none never =
-    let e = scale_known d (no_true _ (λ e. none d.at ScaleDiffers (no_scale e))) in
+    let e = scale_known d (false_from_ne_true _ (λ e. none d.at ScaleDiffers (no_scale e))) in
     starts (nat_abs d.mantissa) b l limited
     (range_is limited (nat_abs d.mantissa) b (λ at k h. none at k (fix_bounds (subst (λ s. BoundsFail limited s b at k) (sym e.0) h))))
-    (same_number (nat_abs d.mantissa) l.scale (ap (λ s. differ s (Scaled l.scale)) (sym e.0) ∙ no_true _ (λ e. never l.at ScaleDiffers (start_misfit (target_scale e)))))
-    (ap (λ s. sort_is s l.scale && is_outside b l) (sym e.0) ∙ no_true _ (λ e. never l.at InitOutside (start_outside e)))
+    (same_number (nat_abs d.mantissa) l.scale (ap (λ s. differ s (Scaled l.scale)) (sym e.0) ∙ false_from_ne_true _ (λ e. never l.at ScaleDiffers (start_misfit (target_scale e)))))
+    (ap (λ s. sort_is s l.scale && is_outside b l) (sym e.0) ∙ false_from_ne_true _ (λ e. never l.at InitOutside (start_outside e)))
 start_is limited (Fix d b) (Truth v at) none never =
-    let e = scale_known d (no_true _ (λ e. none d.at ScaleDiffers (no_scale e))) in
+    let e = scale_known d (false_from_ne_true _ (λ e. none d.at ScaleDiffers (no_scale e))) in
     absurd (never at KindDiffers (start_misfit (target_kind (ap (λ s. are_mixed s Truthful) e.0))))
 start_is limited (BoolScalar w) (Number l) none never = absurd (never l.at KindDiffers (start_misfit (target_kind refl)))
 start_is limited (BoolScalar w) (Truth true at) none never = (omega (arith, ints), omega (arith, ints))

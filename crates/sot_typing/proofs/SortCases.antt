@@ -59,10 +59,6 @@ operation_is Or a b x y k m = both_truthful (λ a b. IsOperation Or a b) (record
 pub unless_fails : (b : Bool) (s : Sort) → b ≡ false → unless b s ≡ s
 unless_fails b s e = ap (λ x. unless x s) e
 
-pub neither : (a b : Bool) → a ≡ false → b ≡ false → (a || b) ≡ false
-neither true b p q = cc
-neither false b p q = q
-
 -- one that is a number, one that is a truth value
 pub is_number : (a : Sort) → is_truthful a ≡ false → a ≡ Truthful → ⊥
 is_number a e q = (let r : is_truthful a ≡ true = ap is_truthful q in cc)

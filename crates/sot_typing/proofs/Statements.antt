@@ -1,5 +1,6 @@
 -- A body in which no rule fails, with places for names, is in form.
 use Rattle.std.proofs.Common.{◌≡◌, ◌<◌, List, length, refl, Option, None, Bool}
+use Rattle.std.proofs.lemmas.Bool.{false_from_ne_true}
 use Rattle.sot_text.specs.declared.token.Span.{Span}
 use Rattle.sot_tree.specs.declared.tree.Ident.{Ident}
 use Rattle.sot_tree.specs.Trees.{Statement, Block, assigned, published, branched, repeated, no_statement, statement}
@@ -14,7 +15,6 @@ use Rattle.sot_tree.specs.Formed.{IsStatement, IsBlock}
 use Rattle.sot_rules.specs.Fails.{StatementFails, BlockFails, TargetFails, no_target, assigned_target, assigned_value, published_target, published_value, condition_kind, times_decimals, times_off, in_test, in_taken, in_other, in_body, in_statement, in_following}
 use Rattle.sot_typing.specs.Terms.{place_of, deed_of, deeds_of}
 use Rattle.sot_typing.proofs.Lists.{at_lt}
-use Rattle.sot_typing.proofs.Tests.{no_true}
 use Rattle.sot_typing.proofs.Readings.{thing_sorts, place_is}
 use Rattle.sot_typing.proofs.FormulaRules.{DeedFits, DeedsFit}
 use Rattle.sot_typing.proofs.SortCases.{is_truth_value}
@@ -36,13 +36,13 @@ module _ (s : Scope) (truths : List Bool) (are : AreNames s.read truths) where
     statement_fits (published topic field e) f none = (target_place s.written topic field (sort s.read e) topic.at (λ w k h. none w k (published_target h)), (tree_sound s.read truths are e f.2 (λ w k h. none w k (published_value h))).fits)
     statement_fits (branched c taken other at) f none =
         let x = tree_sound s.read truths are c f.0 (λ w k h. none w k (in_test h)) in (
-          x.truth (is_truth_value (sort s.read c) x.known (no_true (is_scaled (sort s.read c)) (λ e. none at KindDiffers (condition_kind e)))),
+          x.truth (is_truth_value (sort s.read c) x.known (false_from_ne_true (is_scaled (sort s.read c)) (λ e. none at KindDiffers (condition_kind e)))),
           x.fits,
           block_fits taken f.1 (λ w k h. none w k (in_taken h)),
           block_fits other f.2 (λ w k h. none w k (in_other h)),
         )
     statement_fits (repeated times body at) f none =
-        let n = count_is times f.0.1 (no_true (has_decimals times) (λ e. none times.at ScaleDiffers (times_decimals e))) (no_true (is_off times) (λ e. none times.at PeriodOutside (times_off e))) in
+        let n = count_is times f.0.1 (false_from_ne_true (has_decimals times) (λ e. none times.at ScaleDiffers (times_decimals e))) (false_from_ne_true (is_off times) (λ e. none times.at PeriodOutside (times_off e))) in
         (n.0, n.1, block_fits body f.1 (λ w k h. none w k (in_body h)))
 
     pub block_fits : (body : Block) → IsBlock body → ((at : Span) (k : TypeKind) → BlockFails s body at k → ⊥) → DeedsFit truths (length (thing_sorts s.local)) (length (thing_sorts s.written)) (deeds_of s body)

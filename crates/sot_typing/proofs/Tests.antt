@@ -1,10 +1,6 @@
 -- What is known where a test does not pass.
 use Rattle.std.proofs.Common.{◌≡◌, ℕ, ◌==◌, Bool, true, false, not, ◌&&◌, refl, arith}
 
-pub no_true : (b : Bool) → (b ≡ true → ⊥) → b ≡ false
-no_true true h = absurd (h refl)
-no_true false h = refl
-
 pub no_false : (b : Bool) → (b ≡ false → ⊥) → b ≡ true
 no_false true h = refl
 no_false false h = absurd (h refl)

@@ -1,6 +1,7 @@
 -- The scalars of a program's topics: they lie one topic behind another.
 use Rattle.std.proofs.Common.{◌≡◌, ◌∙◌, ℕ, ◌+◌, ◌<◌, List, [], zip, length, sum_by, flat_map, refl, sym, ap, subst, Option, Some, Bool, true, false, arith}
 use Rattle.std.proofs.lemmas.List.{length-map}
+use Rattle.std.proofs.lemmas.Bool.{false_from_ne_true}
 use Rattle.sot_lists.specs.Places.{At}
 use Rattle.sot_lang.specs.declared.tables.ScalarInfo.{ScalarInfo}
 use Rattle.sot_tree.specs.declared.tree.Scalar.{Scalar}
@@ -14,10 +15,10 @@ use Rattle.sot_typing.specs.Resolved.{topics, topic_place, scalar_count, first_s
 use Rattle.sot_typing.proofs.Lists.{at_lt, at_below, at_mapped, of_zip, length_zip}
 use Rattle.sot_typing.proofs.Joined.{sum_place, at_joined, of_joined, length_joined}
 use Rattle.sot_typing.proofs.Meanings.{topic_own, topic_faultless}
-use Rattle.sot_typing.proofs.Tests.{no_true, same_number}
+use Rattle.sot_typing.proofs.Tests.{same_number}
 
 pub as_many : (p : Program) → IsFaultless p → (j : ℕ) (t : Topic) → At (topics p) j t → counts_differ t ≡ false
-as_many p f j t a = no_true (counts_differ t) (λ e. topic_faultless p f j t a (start_place t.init) KindDiffers (other_count e))
+as_many p f j t a = false_from_ne_true (counts_differ t) (λ e. topic_faultless p f j t a (start_place t.init) KindDiffers (other_count e))
 
 abbrev starts_by : Topic → Bool → List (Scalar × Const)
 starts_by t b = elim b as (λ x. List (Scalar × Const)) [ true ↦ [] | false ↦ zip (form_scalars t.shape) (start_values t.init) ]

@@ -1,32 +1,26 @@
 -- The hulls of safe regions, coded nodes without traps, and the cells of modules, where tables are alike.
-use Rattle.std.proofs.Common.{◌≡◌, ℕ, ◌+◌, ◌*◌, List, [], ◌∷◌, map, ap, ◌∙◌, subst}
-use Rattle.std.specs.Prelude.{if◌then◌else◌, ◌==◌, slice_set, slice_index_or}
+use Rattle.std.proofs.Common.{◌≡◌, ℕ, ◌+◌, ◌*◌, List, [], map, ap, ◌∙◌, subst}
+use Rattle.std.specs.Prelude.{slice_set, slice_index_or}
 use Rattle.sot_box.specs.Sides.{Side}
 use Rattle.sot_box.specs.Regions.{IsHull}
 use Rattle.sot_lang.specs.declared.act.Act.{Act}
-use Rattle.sot_lang.specs.declared.tables.ScalarInfo.{ScalarInfo}
 use Rattle.sot_lang.specs.declared.tables.PlantInfo.{PlantInfo}
 use Rattle.sot_lang.specs.declared.tables.NodeInfo.{NodeInfo}
 use Rattle.sot_lang.specs.declared.tables.ModuleInfo.{ModuleInfo}
 use Rattle.sot_lang.specs.Tables.{Tables}
-use Rattle.sot_lang.specs.Ranges.{range_of}
 use Rattle.sot_lang.specs.SafeRegions.{safe_of, AllHulls}
 use Rattle.sot_iv.specs.declared.drafted.Drafted.{Drafted}
 use Rattle.sot_iv.specs.BodyIntervals.{Intervals}
 use Rattle.sot_iv.specs.TrapFree.{IsTrapFree}
 use Rattle.sot_tube.specs.Tubes.{TubeInside}
-use Rattle.sot_tube.specs.Certified.{sure_interval, command_interval, command_intervals, DraftsFrom, IsClosedCell, IsReachCell}
+use Rattle.sot_tube.specs.Certified.{command_interval, command_intervals, DraftsFrom, IsClosedCell, IsReachCell}
 use Rattle.sot_typing.specs.Resolved.{NodeTable}
+use Rattle.sot_alike.proofs.Cells.{command_same}
+use Rattle.sot_alike.proofs.Plants.{along}
 use Rattle.sot_unplaced.specs.UnplacedTables.{AreAlike}
 use Rattle.sot_unplaced.proofs.Seen.{bare_plant, bare_node, bare_deeds, scalars_same, modules_same, plant_count_same, plant_back}
-use Rattle.sot_unplaced.proofs.Plants.{along, tube_alike, any_tube_alike}
+use Rattle.sot_unplaced.proofs.Plants.{tube_alike, any_tube_alike}
 use Rattle.sot_unplaced.proofs.Nodes.{execution_alike}
-
--- commands are told by scalars
-command_same : (t u : Tables) → t.scalars ≡ u.scalars → (ws : List ℕ) (ds : List Drafted) (k : ℕ) → command_interval t ws ds k ≡ command_interval u ws ds k
-command_same t u scalars [] ds k = ap (λ (infos : List ScalarInfo). range_of infos k) scalars
-command_same t u scalars (w ∷ ws) [] k = ap (λ (infos : List ScalarInfo). range_of infos k) scalars
-command_same t u scalars (w ∷ ws) (d ∷ ds) k = λ i. if w == k then sure_interval (range_of (scalars i) k) d else command_same t u scalars ws ds k i
 
 module _ (t u : Tables) (same : AreAlike t u) where
   pub hulls_alike : (hulls : List (List Side)) → AllHulls t hulls → AllHulls u hulls

@@ -10,9 +10,10 @@ use Rattle.sot_lang.specs.Tables.{Tables}
 use Rattle.sot_lang.specs.OwnerNames.{width_of}
 use Rattle.sot_cert.specs.declared.fault.JsonKind.TheVariants.{NotJson, WrongShape, OutsideRange, Unknown}
 use Rattle.sot_cert.specs.Says.{◌>>=◌, or, unless}
-use Rattle.sot_cert.specs.Json.{json_of, count, at, may, all_among}
-use Rattle.sot_cert.specs.CertFormat.{entry, entries, names, modules, is_below_periods, jitter, has_jitter, jitter_in, keys, cert}
+use Rattle.sot_cert.specs.Json.{json_of, count, at, all_among}
+use Rattle.sot_cert.specs.CertFormat.{entries, names, modules, is_below_periods, jitter, has_jitter, jitter_in, keys, cert}
 use Rattle.sot_typing.specs.Resolved.{PlantTable, NodeTable}
+use Rattle.sot_alike.proofs.Certificates.{entries_same}
 use Rattle.sot_unplaced.specs.Laws.{CertificatesAlikeButForPlaces}
 use Rattle.sot_unplaced.specs.UnplacedTables.{AreAlike}
 use Rattle.sot_unplaced.proofs.Seen.{bare_plant, bare_node, modules_same, plants_same, nodes_same}
@@ -31,15 +32,6 @@ width_is (plant ∷ rest) (suc k) = width_is rest k
 periods_are : (nodes : List NodeInfo) (j : ℕ) → list_all (λ n. nat_lt j n.period) nodes ≡ list_all (λ (n : NodeTable). nat_lt j n.period) (map bare_node nodes)
 periods_are [] j = refl
 periods_are (n ∷ nodes) j = ap (λ b. nat_lt j n.period && b) (periods_are nodes j)
-
--- entries are read by the widths of plants
-entries_same : (plants others : List PlantInfo) → ((k : ℕ) → width_of plants k ≡ width_of others k) → (infos : List ModuleInfo) (ms : Members) → entries plants infos ms ≡ entries others infos ms
-unfolding entries
-entries_same plants others widths [] ms = refl
-entries_same plants others widths (m ∷ more) ms = λ i. do
-  x ← may m.name (entry (widths m.plant i)) ms
-  xs ← entries_same plants others widths more ms i
-  Ok (x ∷ xs)
 
 module _ (t u : Tables) (same : AreAlike t u) where
   widths_same : (k : ℕ) → width_of t.plants k ≡ width_of u.plants k

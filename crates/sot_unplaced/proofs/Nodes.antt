@@ -1,7 +1,6 @@
 -- The executions of nodes that are alike leave the same.
-use Rattle.std.proofs.Common.{◌≡◌, List, map, Option, Some, None, Ok, refl, sym, ap, ◌∙◌}
+use Rattle.std.proofs.Common.{◌≡◌, List, map, Some, Ok, refl, sym, ap, ◌∙◌}
 use Rattle.std.specs.Prelude.{option_map}
-use Rattle.std.proofs.lemmas.Option.{same_Some, none-some}
 use Rattle.sot_box.specs.Sides.{Side}
 use Rattle.sot_lang.specs.declared.act.Act.{Act}
 use Rattle.sot_lang.specs.declared.tables.LocalInfo.{LocalInfo}
@@ -17,15 +16,11 @@ use Rattle.sot_iv.specs.NodeIntervals.{interval_at, reading_intervals, IsNodeExe
 use Rattle.sot_typing.specs.Formulas.{deeds_view}
 use Rattle.sot_typing.specs.Resolved.{NodeTable}
 use Rattle.sot_alike.proofs.Bodies.{IsDeedsExecution, execution_view}
+use Rattle.sot_alike.proofs.Plants.{along}
+use Rattle.sot_alike.proofs.Nodes.{mapped_from}
 use Rattle.sot_unplaced.proofs.Bodies.{execution_same}
-use Rattle.sot_unplaced.proofs.Plants.{along}
 use Rattle.sot_unplaced.specs.UnplacedTables.{unplaced_deeds, AreAlike}
 use Rattle.sot_unplaced.proofs.Seen.{bare_node, bare_deeds, scalars_same}
-
--- what was mapped to a value
-mapped_from : {A B : Type 0} (f : A → B) (o : Option A) (b : B) → option_map f o ≡ Some b → (a : A) × (o ≡ Some a) × (f a ≡ b)
-mapped_from f None b e = absurd (none-some b e)
-mapped_from f (Some a) b e = (a, refl, same_Some (f a) b e)
 
 -- where the one is coded, so is the other, with a body that differs in places alone
 pub coded_alike : (x y : NodeInfo) (acts : List Act) → bare_node x ≡ bare_node y → IsCoded y acts → (us : List Act) × IsCoded x us × (bare_deeds us ≡ bare_deeds acts)

@@ -11,13 +11,10 @@ use Rattle.sot_tube.specs.Tubes.{StaysInside, TubeInside, AnyTubeInside}
 use Rattle.sot_typing.specs.Formulas.{formula_view}
 use Rattle.sot_typing.specs.Resolved.{PlantTable}
 use Rattle.sot_alike.proofs.Expressions.{AreViewIntervals, terms_view}
+use Rattle.sot_alike.proofs.Plants.{along}
 use Rattle.sot_unplaced.proofs.Expressions.{views_same}
 use Rattle.sot_unplaced.specs.UnplacedTables.{AreAlike}
 use Rattle.sot_unplaced.proofs.Seen.{bare_plant, scalars_same, modules_same}
-
--- a fact along an equality of facts
-pub along : {A B : Type 0} → A ≡ B → A → B
-along same fact = subst (λ (F : Type 0). F) same fact
 
 -- two plants that differ in places alone have the same next boxes
 module _ (x y : PlantInfo) (alike : bare_plant x ≡ bare_plant y) where

@@ -1,6 +1,6 @@
 -- The tables of the vehicle on a line meet the rules of tables.
-use Rattle.std.proofs.Common.{◌≡◌, ◌≢◌, ℕ, suc, ◌<◌, ◌≤◌, ◌+◌, true, false, Bool, List, [], ◌∷◌, refl, sym, ap, ◌∙◌, subst, arith, negsuc, ◌≤ℤ◌, length, pos}
-use Rattle.std.specs.Prelude.{slice_index_or, replicate, map, ◌++◌, ◌==◌, if◌then◌else◌}
+use Rattle.std.proofs.Common.{◌≡◌, ◌≢◌, ℕ, ◌<◌, ◌≤◌, ◌+◌, true, false, Bool, List, [], ◌∷◌, refl, sym, ap, ◌∙◌, subst, arith, negsuc, ◌≤ℤ◌, length, pos}
+use Rattle.std.specs.Prelude.{replicate, map, ◌++◌}
 use Rattle.std.proofs.lemmas.Int.{ints}
 use Rattle.std.proofs.lemmas.Option.{same_Some, none-some}
 use Rattle.std.proofs.lemmas.Bool.{false≢true}
@@ -25,8 +25,9 @@ use Rattle.sot_lang.specs.OwnerNames.{width_of, seen_width, is_truth_scalar, nod
 use Rattle.sot_lang.specs.TermRules.{TermFits, TermsFit}
 use Rattle.sot_lang.specs.TableRules.{IsTyped, IsCoded, IsNarrow, AreDistinct, MeetsTableRules, MeetsScalarRules, MeetsPlantRules, MeetsNodeRules, MeetsModuleRules, IsRegionFor}
 use Rattle.sot_lang.specs.Line.{side, cmd_name, pos_name, fast_name, slow_name, nav_name}
-use Rattle.sot_lists.proofs.ShortLists.{at_more, at_one, at_two}
+use Rattle.sot_lists.proofs.ShortLists.{at_one, at_two}
 use Rattle.sot_lang.proofs.Owners.{one_body}
+use Rattle.sot_lang.proofs.LineRules.{names_apart}
 use Rattle.sot_worked.specs.Parts.{one_topic, whole_number}
 use Rattle.sot_worked.specs.Line.{IsPos, IsFast, IsSlow, IsCommand, IsLine, nav}
 use Rattle.sot_worked.proofs.Short.{only, only_place, nothing}
@@ -43,23 +44,6 @@ var_of (State k v) = v
 is_state : Slot → Bool
 is_state (Scalar k) = false
 is_state (State k v) = true
-
--- the names, by their first letters
-place_of : List ℕ → ℕ
-place_of name =
-    let c = slice_index_or name 0 0 in
-    if c == 99 then 0 else (if c == 112 then 1 else (if c == 102 then 2 else (if c == 115 then 3 else 4)))
-
-is_at : (i : ℕ) (name : List ℕ) → At (cmd_name ∷ pos_name ∷ fast_name ∷ slow_name ∷ nav_name ∷ []) i name → i ≡ place_of name
-unfolding place_of
-is_at =
-    at_more (λ i x. i ≡ place_of x) cmd_name (pos_name ∷ fast_name ∷ slow_name ∷ nav_name ∷ []) refl
-    (at_more (λ i x. suc i ≡ place_of x) pos_name (fast_name ∷ slow_name ∷ nav_name ∷ []) refl
-    (at_more (λ i x. suc (suc i) ≡ place_of x) fast_name (slow_name ∷ nav_name ∷ []) refl
-    (at_two (λ i x. suc (suc (suc i)) ≡ place_of x) slow_name nav_name refl refl)))
-
-names_apart : AreDistinct (cmd_name ∷ pos_name ∷ fast_name ∷ slow_name ∷ nav_name ∷ [])
-names_apart i j name a b = is_at i name a ∙ sym (is_at j name b)
 
 abbrev state_x : StateInfo
 state_x = record { name = 120 ∷ []; scale = 0 }

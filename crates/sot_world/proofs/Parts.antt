@@ -57,20 +57,6 @@ pub published_taken : (b : Bool) (p : Tables) (ws : List ℕ) (draft : List (Opt
 published_taken true p ws draft xs = publish_taken p ws draft xs
 published_taken false p ws draft xs = refl
 
-slots_from : (draft : List (Option ℤ)) (i n : ℕ) (slot : Option ℤ) → At draft i slot → slice_set (take i draft ++ replicate (suc n) None) i slot ≡ take (suc i) draft ++ replicate n None
-slots_from [] i n slot at = absurd (none-some slot at)
-slots_from (x ∷ xs) zero n slot at = ap (λ y. y ∷ replicate n None) (sym (same_Some x slot at))
-slots_from (x ∷ xs) (suc i) n slot at = ap (λ ys. x ∷ ys) (slots_from xs i n slot at)
-
--- one more slot is kept
-pub slots_step : (draft : List (Option ℤ)) (i : ℕ) (slot : Option ℤ) → At draft i slot → i < 8 → slice_set (take i draft ++ replicate (8 - i) None) i slot ≡ take (i + 1) draft ++ replicate (8 - (i + 1)) None
-slots_step draft i slot at lt =
-    let e : 8 - i ≡ suc (8 - (i + 1)) = omega arith in
-    let s : suc i ≡ i + 1 = omega arith in
-    ap (λ n. slice_set (take i draft ++ replicate n None) i slot) e
-    ∙ slots_from draft i (8 - (i + 1)) slot at
-    ∙ ap (λ k. take k draft ++ replicate (8 - (i + 1)) None) s
-
 blank_from : (draft : List (Option ℤ)) (i n : ℕ) (slot : Option ℤ) → At draft i slot → At (take i draft ++ replicate (suc n) None) i None
 blank_from [] i n slot at = absurd (none-some slot at)
 blank_from (x ∷ xs) zero n slot at = refl

@@ -30,7 +30,7 @@ use Rattle.sot_world.proofs.Publishes.{in_range_cases}
 use Rattle.sot_world.proofs.Safety.{code_runs, tick_runs}
 
 -- where each element of a list has its part, there is the list of the parts
-list_of : {A B : Type 0} (d : B) (xs : List A) (P : ℕ → A → B → Type 0) → ((k : ℕ) (x : A) → At xs k x → (b : B) × P k x b) → (bs : List B) × (length bs ≡ length xs) × ((k : ℕ) (x : A) → At xs k x → P k x (slice_index_or bs k d))
+pub list_of : {A B : Type 0} (d : B) (xs : List A) (P : ℕ → A → B → Type 0) → ((k : ℕ) (x : A) → At xs k x → (b : B) × P k x b) → (bs : List B) × (length bs ≡ length xs) × ((k : ℕ) (x : A) → At xs k x → P k x (slice_index_or bs k d))
 list_of d [] P h = ([], refl, λ k x at. absurd (none-some x at))
 list_of d (y ∷ ys) P h =
     let first = h 0 y refl in
@@ -42,7 +42,7 @@ list_of d (y ∷ ys) P h =
     each first bs h (suc k) x at = h k x at
 
 -- some flag is set, or none is
-some_flag : (xs : List Bool) → ((n : ℕ) × (slice_index_or xs n false ≡ true)) ⊎ ((n : ℕ) → slice_index_or xs n false ≡ true → ⊥)
+pub some_flag : (xs : List Bool) → ((n : ℕ) × (slice_index_or xs n false ≡ true)) ⊎ ((n : ℕ) → slice_index_or xs n false ≡ true → ⊥)
 some_flag [] = inr (λ n e. false≢true e)
 some_flag (true ∷ xs) = inl (0, refl)
 some_flag (false ∷ xs) = ⊎_elim (λ here. inl (suc here.0, here.1)) (λ none. inr (λ n e. later none n e)) (some_flag xs)
@@ -51,7 +51,7 @@ some_flag (false ∷ xs) = ⊎_elim (λ here. inl (suc here.0, here.1)) (λ none
     later none zero e = false≢true e
     later none (suc n) e = none n e
 
-within_cases : (rs : List Side) (xs : List ℤ) → IsWithin rs xs ⊎ (IsWithin rs xs → ⊥)
+pub within_cases : (rs : List Side) (xs : List ℤ) → IsWithin rs xs ⊎ (IsWithin rs xs → ⊥)
 within_cases [] [] = inl tt
 within_cases [] (x ∷ xs) = inr (λ w. w)
 within_cases (r ∷ rs) [] = inr (λ w. w)
@@ -61,7 +61,7 @@ within_cases (r ∷ rs) (x ∷ xs) =
     (λ out. inr (λ w. out (w.0, w.1)))
     (in_range_cases r x)
 
-region_cases : (region : List (List Side)) (s : List ℤ) → IsInRegion region s ⊎ (IsInRegion region s → ⊥)
+pub region_cases : (region : List (List Side)) (s : List ℤ) → IsInRegion region s ⊎ (IsInRegion region s → ⊥)
 region_cases [] s = inr (λ i. i)
 region_cases (b ∷ bs) s =
     ⊎_elim

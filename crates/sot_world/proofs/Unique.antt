@@ -26,7 +26,7 @@ same_mode Sc Sc P a b = refl
 same_mode Ac Sc P a b = sym (b.1 (a.0 refl))
 same_mode Sc Ac P a b = a.1 (b.0 refl)
 
-same_flag : (x y : Bool) (P : Type 0) → ((x ≡ true) ↔ P) → ((y ≡ true) ↔ P) → x ≡ y
+pub same_flag : (x y : Bool) (P : Type 0) → ((x ≡ true) ↔ P) → ((y ≡ true) ↔ P) → x ≡ y
 same_flag true true P a b = refl
 same_flag false false P a b = refl
 same_flag true false P a b = sym (b.1 (a.0 refl))

@@ -19,7 +19,7 @@ use Rattle.sot_world.specs.Headline.{IsSafeNow, EveryRunIsSafe}
 use Rattle.sot_world.specs.Examples.{ticked, settled, relaying, narrow, drifting, dividing, divided_plant, far_relay, far_copy, far_acts, opening_at, drift_0, drift_1}
 use Rattle.sot_world.proofs.LineSteps.{opens, none_left}
 
-no_value : {A : Type 0} (o : Result A Trap) (t : Trap) (x : A) → o ≡ Err t → o ≡ Ok x → ⊥
+pub no_value : {A : Type 0} (o : Result A Trap) (t : Trap) (x : A) → o ≡ Err t → o ≡ Ok x → ⊥
 no_value o t x a b = (let e : Err t ≡ Ok x = sym a ∙ b in cc)
 
 module _ (g : Global) where

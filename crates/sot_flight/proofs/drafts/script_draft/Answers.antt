@@ -1,8 +1,8 @@
 use Rattle.std.proofs.Common.{◌<◌, Some, None, arith, ap, ◌∙◌, rules, FitsSigned, w64}
 use Rattle.std.specs.Prelude.{slice_set}
 use Rattle.std.proofs.lemmas.Option.{slice_get-get_or}
-use Rattle.sot_code.proofs.Filling.{read_word}
-use Rattle.sot_flight.proofs.EightSlots.{put_more, blank_more}
+use Rattle.sot_code.proofs.Filling.{read_word, put_more}
+use Rattle.sot_flight.proofs.EightSlots.{blank_more}
 use Rattle.sot_flight.proofs.drafts.script_draft.Goals as goal
 use Rattle.sot_flight.proofs.drafts.script_draft.Goals.{in-Some, in_default}
 

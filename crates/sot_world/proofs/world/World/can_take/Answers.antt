@@ -2,10 +2,10 @@ use Rattle.std.proofs.Common.{arith, sym, ap, ◌∙◌, subst, ◌+◌, length}
 use Rattle.std.proofs.lemmas.Bool.{false≢true}
 use Rattle.std.proofs.lemmas.Option.{same_Some, slice_get_within}
 use Rattle.sot_lists.proofs.Places.{read_at}
-use Rattle.sot_world.proofs.Reading.{topic_inside}
 use Rattle.sot_box.specs.Sides.{IsIn}
 use Rattle.sot_lang.specs.Ranges.{range_of}
 use Rattle.sot_lang.specs.TableRules.{MeetsTableRules}
+use Rattle.sot_lang.proofs.Topics.{topic_inside}
 use Rattle.sot_world.proofs.world.World.can_take.Goals as goal
 
 pub is_in_type-requires : goal.is_in_type-requires

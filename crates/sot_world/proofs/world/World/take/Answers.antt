@@ -4,11 +4,11 @@ use Rattle.std.proofs.lemmas.List.{with_items_is}
 use Rattle.std.proofs.lemmas.Option.{slice_get_within}
 use Rattle.sot_lists.specs.Places.{At}
 use Rattle.sot_lang.specs.declared.tables.TopicInfo.{TopicInfo}
+use Rattle.sot_lang.proofs.Topics.{topic_inside}
 use Rattle.sot_lists.proofs.Places.{at_same, read_at}
 use Rattle.sot_world.specs.Steps.{Input, write_at}
 use Rattle.sot_world.specs.Events.{IsTypedInput}
 use Rattle.sot_world.specs.WorldView.{configuration}
-use Rattle.sot_world.proofs.Reading.{topic_inside}
 use Rattle.sot_world.proofs.Stepping.{inputs_so, step_kept, step_along}
 use Rattle.sot_world.proofs.world.World.take.Goals as goal
 
