@@ -6,7 +6,7 @@ use Rattle.sot_text.specs.Reading.{Lexeme}
 use Rattle.sot_tree.specs.Trees.{denied}
 use Rattle.sot_expression.specs.declared.operators.Opening.{Opening}
 use Rattle.sot_expression.specs.declared.operators.Opening.TheVariants as openings
-use Rattle.sot_expression.specs.Lexemes.{IsSign, begins, is_sign, is_keyword}
+use Rattle.sot_expression.specs.Lexemes.{IsSign, is_sign, is_keyword}
 use Rattle.sot_expression.specs.Readers.{Read, ◌>>=◌, expect}
 use Rattle.sot_expression.specs.Operators.{opening_of}
 use Rattle.sot_expression.specs.ExpressionReaders.{Part, Reader, Around, over, within, chain_at, pair_at, abs_at, clamp_at, rescale_at, field_at, atom_from, atom_at, minus_at, unary_at, denied_at, denial_at, chosen_at, choice_at, turns, tier_at, part_at, expression_at}
@@ -14,6 +14,7 @@ use Rattle.sot_expression.specs.Phrases.{Phrase, a_number, a_truth, a_name, a_fi
 use Rattle.sot_expression.specs.Laws.{ReadsEachPhrase, PhrasesAreUnique}
 use Rattle.sot_expression.proofs.TokenTests.{sign_is, keyword_is, number_opens, name_opens, group_opens, truth_opens, pair_opens, abs_opens, clamp_opens, rescale_opens}
 use Rattle.sot_expression.proofs.ReadSteps.{ok_is}
+use Rattle.sot_expression.proofs.Tiers.{denial_passed, choice_passed}
 use Rattle.sot_expression.proofs.Founds.{FitsIn, room_inside}
 use Rattle.sot_expression.proofs.FirstTokens.{StopsAt, stops_at, stops_lower, then_stops, else_stops, tier_most, some_levels, some_tier, op_most, no_four, no_not, no_if, number_no_minus, name_no_minus, group_no_minus, truth_no_minus, pair_no_minus, abs_no_minus, clamp_no_minus, rescale_no_minus}
 use Rattle.sot_expression.proofs.Chains.{step, ReadsAll, unheld, Chain, chain_all, comparisons_all}
@@ -91,10 +92,6 @@ denial_read r part next reads t f ts is fits stops =
     ap (λ b. cond b (within (suc r) (t ∷ spelled f ts) (denied_at part (t ∷ spelled f ts))) (next (t ∷ spelled f ts))) (ap (is_keyword (codes "not")) (keyword_is (codes "not") t is.0))
     ∙ within_read r (t ∷ spelled f ts) (denied_at part (t ∷ spelled f ts)) (Ok (part_of (a_not t f), ts)) (omega (arith, fits, some)) (denied_read r part reads t f ts is.1 is.2 (omega (arith, fits)) stops)
 
-denial_passed : (room : ℕ) (part next : Reader) (ts : List Lexeme) (y : Read Part) → begins (is_keyword (codes "not")) ts ≡ false → next ts ≡ y → denial_at room part next ts ≡ y
-unfolding denial_at
-denial_passed room part next ts y no_ h = ap (λ b. cond b (within room ts (denied_at part ts)) (next ts)) no_ ∙ h
-
 denial_lower : (r : ℕ) (held : Bool) (part next : Reader) → ReadsAll 3 (suc r) held next → (f : Phrase) → IsPhrase f → tier_of f ≤ 3 → FitsIn (suc r) held f → (ts : List Lexeme) → StopsAt 4 ts → denial_at (suc r) part next (spelled f ts) ≡ Ok (part_of f, ts)
 denial_lower r held part next after f is low fits ts stops =
     denial_passed (suc r) part next (spelled f ts) (Ok (part_of f, ts)) (no_not f ts is low) (after f is low fits ts (stops_lower 3 4 ts (omega arith) stops))
@@ -137,10 +134,6 @@ choice_read r part next reads t c u f v g ts is fits stops =
     let some = some_levels c in
     ap (λ b. cond b (within (suc r) us (chosen_at part us)) (next us)) (ap (is_keyword (codes "if")) (keyword_is (codes "if") t is.0))
     ∙ within_read r us (chosen_at part us) (Ok (part_of (an_if t c u f v g), ts)) (omega (arith, fits, some)) (chosen_read r part reads t c u f v g ts is fits stops)
-
-choice_passed : (room : ℕ) (part next : Reader) (ts : List Lexeme) (y : Read Part) → begins (is_keyword (codes "if")) ts ≡ false → next ts ≡ y → choice_at room part next ts ≡ y
-unfolding choice_at
-choice_passed room part next ts y no_ h = ap (λ b. cond b (within room ts (chosen_at part ts)) (next ts)) no_ ∙ h
 
 choice_lower : (r : ℕ) (held : Bool) (part next : Reader) → ReadsAll 6 (suc r) held next → (f : Phrase) → IsPhrase f → tier_of f ≤ 6 → FitsIn (suc r) held f → (ts : List Lexeme) → StopsAt 7 ts → choice_at (suc r) part next (spelled f ts) ≡ Ok (part_of f, ts)
 choice_lower r held part next after f is low fits ts stops =

@@ -57,7 +57,7 @@ no_point NotEqual t h = ap (is_sign (codes ".")) (sign_is (codes "!=") t h)
 no_point And t h = ap (is_sign (codes ".")) (keyword_is (codes "and") t h)
 no_point Or t h = ap (is_sign (codes ".")) (keyword_is (codes "or") t h)
 
-of_tier_other : (j : ℕ) (o : Infix) → (tier_of_infix o ≡ j → ⊥) → of_tier j (Some o) ≡ None
+pub of_tier_other : (j : ℕ) (o : Infix) → (tier_of_infix o ≡ j → ⊥) → of_tier j (Some o) ≡ None
 of_tier_other j o other = let test : (tier_of_infix o == j) ≡ false = grind (arith, nat_tests) in ap (λ b. cond b (Some o) None) test
 
 -- an operator stops what binds tighter

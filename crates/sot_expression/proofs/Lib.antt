@@ -4,10 +4,11 @@ pub mod TokenTests
 pub mod ReadSteps
 pub mod FirstTokens
 pub mod Tiers
+pub mod Climbs
 pub mod Founds
 pub mod Soundness
 pub mod Chains
 pub mod AtomsRead
 pub mod EachRead
 pub mod PhraseLaws
-pub mod ChainEnds
+pub mod Calls

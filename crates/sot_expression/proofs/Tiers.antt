@@ -1,9 +1,9 @@
 -- A part of a tier is read by what is around it.
-use Rattle.std.proofs.Common.{◌≡◌, ℕ, ◌==◌, cond, zero, suc, ◌-◌, ◌≤◌, List, Bool, true, false, refl, sym, subst, arith}
-use Rattle.std.proofs.lemmas.Bool.Decides.{nat_tests}
+use Rattle.std.proofs.Common.{◌≡◌, ℕ, ◌==◌, cond, zero, suc, ◌-◌, ◌≤◌, List, Bool, true, false, codes, refl, sym, ap, subst, ◌∙◌, arith}
 use Rattle.sot_text.specs.Reading.{Lexeme}
+use Rattle.sot_expression.specs.Lexemes.{begins, is_keyword}
 use Rattle.sot_expression.specs.Readers.{Read, ◌>>=◌}
-use Rattle.sot_expression.specs.ExpressionReaders.{Around, Part, part_at, tier_at, unary_at, denial_at, choice_at, chain_at, turns}
+use Rattle.sot_expression.specs.ExpressionReaders.{Around, Part, Reader, within, part_at, tier_at, unary_at, denied_at, denial_at, chosen_at, choice_at, chain_at, turns}
 use Rattle.sot_expression.specs.Parts.{around, below}
 
 -- the same with the room below as a number of its own
@@ -37,7 +37,7 @@ either false false x y z p q = refl
 either true c x y z p q = absurd cc
 either false true x y z p q = absurd cc
 
-step_chain : (room : ℕ) (held : Bool) (k : ℕ) (ts : List Lexeme) → 1 ≤ room → (k == 3) ≡ false → (k == 6) ≡ false
+pub step_chain : (room : ℕ) (held : Bool) (k : ℕ) (ts : List Lexeme) → 1 ≤ room → (k == 3) ≡ false → (k == 6) ≡ false
     → part_at room held (suc k) ts ≡ (part_at room held k ts >>= λ p. chain_at (turns (suc k) room) room (suc k) (below room k) p.0 p.1)
 unfolding part_at tier_at
 step_chain zero held k ts h a b = absurd (omega (arith, h))
@@ -48,11 +48,18 @@ step_chain (suc r) false k ts h a b =
     let e : suc r - 1 ≡ r = omega arith in
     subst (λ m. part_at (suc r) false (suc k) ts ≡ (part_at (suc r) false k ts >>= λ p. chain_at (turns (suc k) (suc r)) (suc r) (suc k) (λ us. part_at m false k us) p.0 p.1)) (sym e) (either (k == 3) (k == 6) _ _ _ a b)
 
-pub read_chain : (room : ℕ) (held : Bool) (tier : ℕ) (ts : List Lexeme) → 1 ≤ room → (tier ≡ 0 → ⊥) → (tier ≡ 4 → ⊥) → (tier ≡ 7 → ⊥)
-    → part_at room held tier ts ≡ (part_at room held (tier - 1) ts >>= λ p. chain_at (turns tier room) room tier (below room (tier - 1)) p.0 p.1)
-read_chain room held zero ts h a b c = absurd (a refl)
-read_chain room held (suc k) ts h a b c =
-    let e : suc k - 1 ≡ k = omega arith in
-    let no_three : (k == 3) ≡ false = grind (arith, nat_tests) in
-    let no_six : (k == 6) ≡ false = grind (arith, nat_tests) in
-    subst (λ j. part_at room held (suc k) ts ≡ (part_at room held j ts >>= λ p. chain_at (turns (suc k) room) room (suc k) (below room j) p.0 p.1)) (sym e) (step_chain room held k ts h no_three no_six)
+pub denial_passed : (room : ℕ) (part next : Reader) (ts : List Lexeme) (y : Read Part) → begins (is_keyword (codes "not")) ts ≡ false → next ts ≡ y → denial_at room part next ts ≡ y
+unfolding denial_at
+denial_passed room part next ts y no_ h = ap (λ b. cond b (within room ts (denied_at part ts)) (next ts)) no_ ∙ h
+
+pub choice_passed : (room : ℕ) (part next : Reader) (ts : List Lexeme) (y : Read Part) → begins (is_keyword (codes "if")) ts ≡ false → next ts ≡ y → choice_at room part next ts ≡ y
+unfolding choice_at
+choice_passed room part next ts y no_ h = ap (λ b. cond b (within room ts (chosen_at part ts)) (next ts)) no_ ∙ h
+
+pub denial_taken : (room : ℕ) (part next : Reader) (ts : List Lexeme) → begins (is_keyword (codes "not")) ts ≡ true → denial_at room part next ts ≡ within room ts (denied_at part ts)
+unfolding denial_at
+denial_taken room part next ts word = ap (λ b. cond b (within room ts (denied_at part ts)) (next ts)) word
+
+pub choice_taken : (room : ℕ) (part next : Reader) (ts : List Lexeme) → begins (is_keyword (codes "if")) ts ≡ true → choice_at room part next ts ≡ within room ts (chosen_at part ts)
+unfolding choice_at
+choice_taken room part next ts word = ap (λ b. cond b (within room ts (chosen_at part ts)) (next ts)) word

@@ -1,9 +1,9 @@
 //! The productions of expressions, one function for each.
 ghost use Rattle.std.specs.Prelude.{◌≡◌, ◌<◌, ◌≤◌, ◌-◌, IfOk, true, false};
 ghost use Rattle.sot_text.specs.Reading.{lexeme};
-ghost use Rattle.sot_expression.specs.ExpressionReaders.{any_token, operation_at, remainder_at, joined_at, chain_at, number_part, truth_part, field_at, named_at, group_at, opened_at, further_at, abs_at, pair_at, limits_at, clamp_at, target_at, rescale_at, atom_at, begins_unary, minus_at, unary_at, denied_at, denial_at, chosen_at, choice_at, turns, part_at, expression_at, tree_at};
+ghost use Rattle.sot_expression.specs.ExpressionReaders.{any_token, operation_at, remainder_at, joined_at, number_part, truth_part, field_at, named_at, group_at, opened_at, further_at, abs_at, pair_at, limits_at, clamp_at, target_at, rescale_at, atom_at, begins_unary, minus_at, unary_at, denied_at, chosen_at, within, part_at, expression_at, tree_at};
 ghost use Rattle.sot_tree.specs.TreeViews.{tree_view};
-ghost use Rattle.sot_expression.specs.Parts.{part_view, Fits, below, inner, around};
+ghost use Rattle.sot_expression.specs.Parts.{part_view, Fits, below, inner, around, climbed, onward, turned, plain_at, not_at};
 ghost use Rattle.sot_expression.specs.Returned.{Gives};
 
 use crate::fail::Fail;
@@ -11,7 +11,7 @@ use crate::leaves::{
     expect_keyword, expect_sign, is_keyword, is_number, is_sign, name, negated_number, number,
 };
 use crate::nodes;
-use crate::operators::{Infix, Opening, infix_at, opening_at};
+use crate::operators::{Infix, Opening, opening_at, operator_at, tier_of};
 use crate::part::Part;
 use crate::tokens::Tokens;
 use sot_text::Token;
@@ -107,11 +107,12 @@ fn begins_unary(tokens: &Tokens<'_>) -> bool
     !matches!(opening_at(tokens), Opening::Other) || is_sign(tokens, b"-")
 }
 
-// How many operators of a tier may stand one after another.
-fn turns(tier: u8, room: u32) -> u32
-    ensures { result ≡ turns tier room }
+// Behind an operator of this tier, reading goes on above the tier that is given: no second comparison follows a first.
+fn onward(tier: u8) -> u8
+    requires { 1 ≤ tier }
+    ensures { result ≡ onward tier }
 {
-    if tier == 3 { 1 } else { room }
+    if tier == 3 { tier } else { tier - 1 }
 }
 
 // `%` and its number, behind a left part.
@@ -121,6 +122,7 @@ fn remainder(alloc: Global, tokens: &mut Tokens<'_>, room: u32, left: Part) -> R
     requires left { left.levels < room }
     ensures read { Gives part_view result tokens.old tokens.new (remainder_at (part_view left) tokens.old.tokens) }
     ensures fits { IfOk result (λ p. Fits room true p) }
+    ensures deeper { IfOk result (λ p. left.levels < p.levels) }
 {
     let at = any_token(tokens)?.at;
     let by = number(tokens)?;
@@ -142,7 +144,6 @@ fn target(tokens: &mut Tokens<'_>) -> Result<Lit, Fail>
 
 // A part of a tier, of at most `room` levels; `held` directly behind a parenthesis that groups.
 #[cycle(expression)]
-#[tactic(auto, using(crate::proofs::Tiers::read_unary, crate::proofs::Tiers::read_denial, crate::proofs::Tiers::read_choice, crate::proofs::Tiers::read_chain))]
 fn read(
     alloc: Global,
     tokens: &mut Tokens<'_>,
@@ -155,48 +156,85 @@ fn read(
     ensures read { Gives part_view result tokens.old tokens.new (part_at room held tier tokens.old.tokens) }
     ensures fits { IfOk result (λ p. Fits room held p) }
 {
-    if tier == 0 {
-        unary(alloc, tokens, room, held)
-    } else if tier == 4 {
-        denial(alloc, tokens, room, held)
-    } else if tier == 7 {
+    if tier == 7 && is_keyword(tokens, b"if") {
         choice(alloc, tokens, room, held)
+    } else if tier >= 4 && is_keyword(tokens, b"not") {
+        denial(alloc, tokens, room, held, tier)
     } else {
-        let left = read(alloc, tokens, room, held, tier - 1)?;
-        chain(alloc, tokens, room, held, tier, turns(tier, room), left)
+        plain(alloc, tokens, room, held, tier)
     }
 }
 
-// Operators of one tier, grouped to the left.
+// A part that begins with an operand.
 #[cycle(expression)]
-#[tactic(auto, unfolding(crate::specs::ExpressionReaders::chain_at))]
-fn chain(
+#[tactic(auto, unfolding(crate::specs::Parts::plain_at))]
+fn plain(
     alloc: Global,
     tokens: &mut Tokens<'_>,
     room: u32,
     held: bool,
     tier: u8,
-    turns: u32,
+) -> Result<Part, Fail>
+    requires room { (1 ≤ room) × (room ≤ 64) }
+    requires tier { tier ≤ 7 }
+    ensures read { Gives part_view result tokens.old tokens.new (plain_at room held tier tokens.old.tokens) }
+    ensures fits { IfOk result (λ p. Fits room held p) }
+{
+    let left = unary(alloc, tokens, room, held)?;
+    climb(alloc, tokens, room, held, 0, tier, left)
+}
+
+// The operators of the tiers above `from` up to `to`, behind a left part. The next token tells which tier is at work.
+#[cycle(expression)]
+fn climb(
+    alloc: Global,
+    tokens: &mut Tokens<'_>,
+    room: u32,
+    held: bool,
+    from: u8,
+    to: u8,
     left: Part,
 ) -> Result<Part, Fail>
     requires room { (1 ≤ room) × (room ≤ 64) }
-    requires tier { (1 ≤ tier) × (tier ≤ 6) }
-    requires turns { turns ≤ 64 }
+    requires tiers { (from ≤ to) × (to ≤ 7) }
     requires fits { Fits room held left }
-    ensures read { Gives part_view result tokens.old tokens.new (chain_at turns room tier (below room (tier - 1)) (part_view left) tokens.old.tokens) }
+    ensures read { Gives part_view result tokens.old tokens.new (climbed (to - from) room from (part_view left) tokens.old.tokens) }
     ensures fits { IfOk result (λ p. Fits room held p) }
 {
-    if turns == 0 {
-        return Ok(left);
-    }
-    let Some(operator) = infix_at(tokens, tier) else {
+    let Some(operator) = operator_at(tokens) else {
         return Ok(left);
     };
+    let tier = tier_of(operator);
+    if tier <= from || tier > to {
+        return Ok(left);
+    }
     if left.levels >= room {
         return Err(Fail::Deep);
     }
+    turn(alloc, tokens, room, held, operator, tier, to, left)
+}
+
+// An operator of a tier, and those behind it.
+#[cycle(expression)]
+#[tactic(auto, unfolding(crate::specs::Parts::turned))]
+fn turn(
+    alloc: Global,
+    tokens: &mut Tokens<'_>,
+    room: u32,
+    held: bool,
+    operator: Infix,
+    tier: u8,
+    to: u8,
+    left: Part,
+) -> Result<Part, Fail>
+    requires room { (2 ≤ room) × (room ≤ 64) }
+    requires tiers { (1 ≤ tier) × (tier ≤ 6) × (tier ≤ to) × (to ≤ 7) }
+    requires left { left.levels < room }
+    ensures read { Gives part_view result tokens.old tokens.new (turned room operator tier to (part_view left) tokens.old.tokens) }
+    ensures fits { IfOk result (λ p. Fits room held p) }
+{
     let next = joined(alloc, tokens, room, tier, operator, left)?;
-    chain(alloc, tokens, room, held, tier, turns - 1, next)
+    climb(alloc, tokens, room, held, onward(tier), to, next)
 }
 
 // An operator, and what stands behind it.
@@ -215,6 +253,7 @@ fn joined(
     requires left { left.levels < room }
     ensures read { Gives part_view result tokens.old tokens.new (joined_at operator (below room (tier - 1)) (part_view left) tokens.old.tokens) }
     ensures fits { IfOk result (λ p. Fits room true p) }
+    ensures deeper { IfOk result (λ p. left.levels < p.levels) }
 {
     match operator {
         Infix::Joins(op) => operation(alloc, tokens, room, tier, op, left),
@@ -237,6 +276,7 @@ fn operation(
     requires left { left.levels < room }
     ensures read { Gives part_view result tokens.old tokens.new (operation_at op (below room (tier - 1)) (part_view left) tokens.old.tokens) }
     ensures fits { IfOk result (λ p. Fits room true p) }
+    ensures deeper { IfOk result (λ p. left.levels < p.levels) }
 {
     let at = any_token(tokens)?.at;
     let right = read(alloc, tokens, room - 1, false, tier - 1)?;
@@ -290,20 +330,26 @@ fn minus(
     Ok(over(tree, levels))
 }
 
+// A part that begins with a `not`.
 #[cycle(expression)]
-#[tactic(auto, unfolding(crate::specs::ExpressionReaders::denial_at))]
-fn denial(alloc: Global, tokens: &mut Tokens<'_>, room: u32, held: bool) -> Result<Part, Fail>
+#[tactic(auto, unfolding(crate::specs::Parts::not_at))]
+fn denial(
+    alloc: Global,
+    tokens: &mut Tokens<'_>,
+    room: u32,
+    held: bool,
+    tier: u8,
+) -> Result<Part, Fail>
     requires room { (1 ≤ room) × (room ≤ 64) }
-    ensures read { Gives part_view result tokens.old tokens.new (denial_at room (below room 4) (part_at room held 3) tokens.old.tokens) }
+    requires tier { (4 ≤ tier) × (tier ≤ 7) }
+    ensures read { Gives part_view result tokens.old tokens.new (within room tokens.old.tokens (not_at room tier tokens.old.tokens)) }
     ensures fits { IfOk result (λ p. Fits room held p) }
 {
-    if !is_keyword(tokens, b"not") {
-        return read(alloc, tokens, room, held, 3);
-    }
     if room < 2 {
         return Err(Fail::Deep);
     }
-    denied(alloc, tokens, room, held)
+    let left = denied(alloc, tokens, room, held)?;
+    climb(alloc, tokens, room, held, 4, tier, left)
 }
 
 #[cycle(expression)]
@@ -320,20 +366,18 @@ fn denied(alloc: Global, tokens: &mut Tokens<'_>, room: u32, held: bool) -> Resu
     Ok(over(tree, levels))
 }
 
+// An expression that begins with an `if`.
 #[cycle(expression)]
-#[tactic(auto, unfolding(crate::specs::ExpressionReaders::choice_at))]
 fn choice(alloc: Global, tokens: &mut Tokens<'_>, room: u32, held: bool) -> Result<Part, Fail>
     requires room { (1 ≤ room) × (room ≤ 64) }
-    ensures read { Gives part_view result tokens.old tokens.new (choice_at room (below room 7) (part_at room held 6) tokens.old.tokens) }
+    ensures read { Gives part_view result tokens.old tokens.new (within room tokens.old.tokens (chosen_at (below room 7) tokens.old.tokens)) }
     ensures fits { IfOk result (λ p. Fits room held p) }
 {
-    if !is_keyword(tokens, b"if") {
-        return read(alloc, tokens, room, held, 6);
-    }
     if room < 2 {
-        return Err(Fail::Deep);
+        Err(Fail::Deep)
+    } else {
+        chosen(alloc, tokens, room, held)
     }
-    chosen(alloc, tokens, room, held)
 }
 
 #[cycle(expression)]

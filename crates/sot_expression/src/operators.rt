@@ -1,8 +1,9 @@
 //! Operators between two operands, and what an operand begins with.
-ghost use Rattle.std.specs.Prelude.{◌≡◌};
+ghost use Rattle.std.specs.Prelude.{◌≡◌, ◌≤◌};
 ghost use Rattle.sot_expression.specs.Lexemes.{is_keyword, is_sign, is_name, is_number};
+ghost use Rattle.sot_expression.specs.Stream.{first_of};
 ghost use Rattle.sot_text.specs.Reading.{lexeme};
-ghost use Rattle.sot_expression.specs.Operators.{operator_of, tier_of_op, tier_of_infix, infix_at, opening_of, opening_at};
+ghost use Rattle.sot_expression.specs.Operators.{operator_of, tier_of_op, tier_of_infix, operator_from, opening_of, opening_at};
 
 use crate::tokens::Tokens;
 use sot_text::{Kind, Token};
@@ -76,7 +77,9 @@ fn operator_of(token: &Token<'_>) -> Option<Infix>
 }
 
 fn tier_of_op(op: Op) -> u8
-    ensures { result ≡ tier_of_op op }
+    ensures tier { result ≡ tier_of_op op }
+    ensures some { 1 ≤ result }
+    ensures most { result ≤ 6 }
 {
     match op {
         Op::Mul | Op::Div => 1,
@@ -87,8 +90,11 @@ fn tier_of_op(op: Op) -> u8
     }
 }
 
-fn tier_of(operator: Infix) -> u8
-    ensures { result ≡ tier_of_infix operator }
+/// The tier of an operator.
+pub fn tier_of(operator: Infix) -> u8
+    ensures tier { result ≡ tier_of_infix operator }
+    ensures some { 1 ≤ result }
+    ensures most { result ≤ 6 }
 {
     match operator {
         Infix::Joins(op) => tier_of_op(op),
@@ -96,17 +102,11 @@ fn tier_of(operator: Infix) -> u8
     }
 }
 
-/// The operator of a tier that comes next.
-pub fn infix_at(tokens: &Tokens<'_>, tier: u8) -> Option<Infix>
-    ensures { result ≡ infix_at tier tokens.now.tokens }
+/// The operator that comes next.
+pub fn operator_at(tokens: &Tokens<'_>) -> Option<Infix>
+    ensures { result ≡ operator_from (first_of tokens.now.tokens) }
 {
-    let token = tokens.peek()?;
-    let operator = operator_of(&token)?;
-    if tier_of(operator) == tier {
-        Some(operator)
-    } else {
-        None
-    }
+    operator_of(&tokens.peek()?)
 }
 
 fn opening_of(token: &Token<'_>) -> Opening

@@ -1,20 +1,8 @@
-use Rattle.std.proofs.Common.{◌+◌, ◌*◌, cond}
+use Rattle.std.proofs.Common.{◌+◌, ◌*◌, ◌-◌, cond}
 use Rattle.sot_expression.proofs.expression.+expression.Given as goal
-
-abbrev pub decreases-read : goal.decreases-read
-decreases-read l = 256 * (2 * l.room + cond l.held 0 1) + 102 + 4 * l.tier
-
-abbrev pub decreases-choice : goal.decreases-choice
-decreases-choice l = 256 * (2 * l.room + cond l.held 0 1) + 128
-
-abbrev pub decreases-denial : goal.decreases-denial
-decreases-denial l = 256 * (2 * l.room + cond l.held 0 1) + 116
 
 abbrev pub decreases-unary : goal.decreases-unary
 decreases-unary l = 256 * (2 * l.room + cond l.held 0 1) + 100
-
-abbrev pub decreases-chain : goal.decreases-chain
-decreases-chain l = 256 * (2 * l.room + cond l.held 0 1) + 2 + l.turns
 
 abbrev pub decreases-joined : goal.decreases-joined
 decreases-joined l = 512 * l.room + 1
@@ -57,3 +45,21 @@ decreases-limits l = 512 * l.room + 1
 
 abbrev pub decreases-rescale : goal.decreases-rescale
 decreases-rescale l = 512 * l.room + 1
+
+abbrev pub decreases-read : goal.decreases-read
+decreases-read l = 256 * (2 * l.room + cond l.held 0 1) + 130
+
+abbrev pub decreases-plain : goal.decreases-plain
+decreases-plain l = 256 * (2 * l.room + cond l.held 0 1) + 129
+
+abbrev pub decreases-choice : goal.decreases-choice
+decreases-choice l = 256 * (2 * l.room + cond l.held 0 1) + 2
+
+abbrev pub decreases-denial : goal.decreases-denial
+decreases-denial l = 256 * (2 * l.room + cond l.held 0 1) + 129
+
+abbrev pub decreases-climb : goal.decreases-climb
+decreases-climb l = 256 * (2 * l.room + cond l.held 0 1) + 2 + 2 * (l.room - l.left.levels)
+
+abbrev pub decreases-turn : goal.decreases-turn
+decreases-turn l = 256 * (2 * l.room + cond l.held 0 1) + 1 + 2 * (l.room - l.left.levels)
