@@ -11,4 +11,4 @@ pub mod Chains
 pub mod AtomsRead
 pub mod EachRead
 pub mod PhraseLaws
-pub mod Calls
+pub mod ChainEnds

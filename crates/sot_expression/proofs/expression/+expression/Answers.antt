@@ -10,7 +10,7 @@ use Rattle.sot_expression.specs.Returned.{Fails, Tells}
 use Rattle.sot_expression.specs.Parts.{below, part_view, turned}
 use Rattle.sot_expression.specs.ExpressionReaders.{Part, clamp_at, part_at}
 use Rattle.sot_expression.proofs.ReadSteps.{ok}
-use Rattle.sot_expression.proofs.Calls.{fails_on, clamp_stops, clamp_made, same_part}
+use Rattle.sot_expression.proofs.ChainEnds.{fails_on, clamp_stops, clamp_made, same_part}
 use Rattle.sot_expression.proofs.Climbs.{no_operator, other_operator, turns_on, turns_too_deep, reads_plain, reads_not, reads_if}
 use Rattle.sot_expression.proofs.expression.+expression.Goals as goal
 use Rattle.sot_expression.proofs.expression.+expression.Goals.{climb-then-tier-from-via-then-tier-from, climb-then-tier-from-via-else-tier-from+then-tier-to, read-else-tier-eq7-via-then-tier-eq7+else-is_keyword, read-else-tier-eq7-via-else-tier-eq7, read-else-tier-ge4-via-then-tier-ge4+else-is_keyword-2, read-else-tier-ge4-via-else-tier-ge4}

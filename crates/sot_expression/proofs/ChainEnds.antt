@@ -1,14 +1,26 @@
--- What a call of three parts reads.
-use Rattle.std.proofs.Common.{◌≡◌, ℕ, max, List, Bool, Ok, Err, refl, ap}
+-- Where a chain of operators reads no further, and what a call of three parts reads.
+use Rattle.std.proofs.Common.{◌≡◌, ◌≢◌, ℕ, zero, suc, ◌≤◌, max, nat_lt, cond, List, Bool, Some, Ok, Err, false, refl, ap, ◌∙◌, arith}
+use Rattle.std.proofs.lemmas.Bool.Decides.{nat_tests}
 use Rattle.sot_text.specs.Reading.{Lexeme}
 use Rattle.sot_tree.specs.declared.operator.Func.TheVariants.{Clamp}
 use Rattle.sot_tree.specs.Trees.{Tree, called, no_tree, one_more}
 use Rattle.sot_expression.specs.declared.fail.Fail.{Fail}
 use Rattle.sot_expression.specs.declared.fail.Fail.TheVariants.{Token, Deep, Memory}
-use Rattle.sot_expression.specs.Readers.{Read, Fault, ◌>>=◌}
+use Rattle.sot_expression.specs.declared.operators.Infix.{Infix}
+use Rattle.sot_expression.specs.Readers.{Read, Fault, ◌>>=◌, deep}
 use Rattle.sot_expression.specs.Returned.{Fails}
-use Rattle.sot_expression.specs.ExpressionReaders.{Reader, Part, over, any_token, opened_at, limits_at, clamp_at}
+use Rattle.sot_expression.specs.Operators.{infix_at}
+use Rattle.sot_expression.specs.ExpressionReaders.{Reader, Part, over, gone_on, joined_at, chain_at, any_token, opened_at, limits_at, clamp_at}
 use Rattle.sot_expression.proofs.ReadSteps.{give}
+
+-- an operator that would nest too deep
+pub too_deep : (n room tier : ℕ) (right : Reader) (left : Part) (ts : List Lexeme) (o : Infix) → n ≢ 0 → infix_at tier ts ≡ Some o → room ≤ left.levels → chain_at n room tier right left ts ≡ Err (deep, ts)
+unfolding chain_at
+too_deep zero room tier right left ts o some at le = absurd (some refl)
+too_deep (suc n) room tier right left ts o some at le =
+    let small : nat_lt left.levels room ≡ false = grind (arith, nat_tests) in
+    ap (λ x. gone_on room (λ o. joined_at o right left ts >>= λ p. chain_at n room tier right p.0 p.1) x left ts) at
+    ∙ ap (λ b. cond b (joined_at o right left ts >>= λ p. chain_at n room tier right p.0 p.1) (Err (deep, ts))) small
 
 -- the same fault, of what stands in front
 pub fails_on : {A B : Type 0} (f : Fail) (after : List Lexeme) (m : Read A) (r : Read B) → ((e : Fault × List Lexeme) → m ≡ Err e → r ≡ Err e) → Fails f after m → Fails f after r
