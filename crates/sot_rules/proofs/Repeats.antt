@@ -40,16 +40,16 @@ step_repeats f xs i x n seen now_seen a b c lt e named inv noted more =
     ∙ ap (λ z. least a (repeats seen (map f z))) (sym (rest_is xs i x lt e))
     ∙ inv
 
--- a name is added, and then what is left
-pub step_names : {X : Type 0} (f : X → Ident) (xs : List X) (i : ℕ) (x : X) (n : Ident) (seen now_seen c : List (List ℕ)) → i < length xs → x ≡ get_or xs i x → n ≡ f x → fold with_name seen (map f (drop i xs)) ≡ c → now_seen ≡ with_name seen n → fold with_name now_seen (map f (drop (i + 1) xs)) ≡ c
-step_names f xs i x n seen now_seen c lt e named inv more =
-    ap (λ z. fold with_name z (map f (drop (i + 1) xs))) (more ∙ ap (with_name seen) named)
-    ∙ ap (λ z. fold with_name seen (map f z)) (sym (rest_is xs i x lt e))
+-- a name is taken in, and then what is left
+pub step_names : {X B : Type 0} (f : X → Ident) (add : B → Ident → B) (xs : List X) (i : ℕ) (x : X) (n : Ident) (old new c : B) → i < length xs → x ≡ get_or xs i x → n ≡ f x → fold add old (map f (drop i xs)) ≡ c → new ≡ add old n → fold add new (map f (drop (i + 1) xs)) ≡ c
+step_names f add xs i x n old new c lt e named inv more =
+    ap (λ z. fold add z (map f (drop (i + 1) xs))) (more ∙ ap (add old) named)
+    ∙ ap (λ z. fold add old (map f z)) (sym (rest_is xs i x lt e))
     ∙ inv
 
 -- no name is left
-pub names_end : {X : Type 0} (f : X → Ident) (xs : List X) (i : ℕ) (seen c : List (List ℕ)) → length xs ≤ i → fold with_name seen (map f (drop i xs)) ≡ c → seen ≡ c
-names_end f xs i seen c le inv = ap (λ z. fold with_name seen (map f z)) (sym (drop_all i xs le)) ∙ inv
+pub names_end : {X B : Type 0} (f : X → Ident) (add : B → Ident → B) (xs : List X) (i : ℕ) (old c : B) → length xs ≤ i → fold add old (map f (drop i xs)) ≡ c → old ≡ c
+names_end f add xs i old c le inv = ap (λ z. fold add old (map f z)) (sym (drop_all i xs le)) ∙ inv
 
 -- a name is new exactly where it was not seen
 pub noted_by : (added found : Bool) (first now : Option TypeFault) (i : Ident) → added ≡ not found → now ≡ least first (when (not added) i.at Twice) → now ≡ least first (when found i.at Twice)

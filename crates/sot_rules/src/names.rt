@@ -1,5 +1,6 @@
 //! Names: what they mean, and which of them an owner may use.
 pub mod gather;
+pub mod hasher;
 pub mod index;
 pub mod meaning;
 pub mod named;

@@ -10,11 +10,11 @@ ghost use Rattle.sot_rules.specs.Groups.{reads_faults, writes_faults, locals_fau
 use crate::declarations::limit::{note_passes, note_past};
 use crate::declarations::range::{note_scalar, note_start, note_times};
 use crate::fault::{TypeFault, TypeKind, note};
+use crate::names::hasher::{NameHasher, NameKey, NameSet};
 use crate::names::index::Index;
 use crate::names::meaning::{is_environment, is_plant, is_topic};
-use crate::names::repeats::{add_names, has_name, names_of, note_repeated_names, note_repeats};
+use crate::names::repeats::{add_names, has_name, names_among, names_of, note_repeated_names, note_repeats};
 use crate::statements::body::note_body;
-use indexmap::IndexSet;
 use sot_tree::{Ident, LocalDecl, NodeDecl};
 use std::alloc::{AllocError, Global};
 
@@ -58,7 +58,7 @@ fn note_reads(
 
 // A name among those that a node writes, where a set has those that it reads.
 #[tactic(auto, using(crate::proofs::Least::least_append))]
-fn note_write(index: &Index, reads: &IndexSet<&[u8]>, name: &Ident, first: &mut Option<TypeFault>)
+fn note_write(index: &Index, reads: &NameSet, name: &Ident, first: &mut Option<TypeFault>)
     requires { IsIndex index.now }
     ensures { (n : Node) → HasNames reads.now.keys n.reads → first.new
         ≡ least first.old (together (write_lists (program_in index.now) n name.now)) }
@@ -77,7 +77,7 @@ fn note_write(index: &Index, reads: &IndexSet<&[u8]>, name: &Ident, first: &mut 
 
 fn note_write_names(
     index: &Index,
-    reads: &IndexSet<&[u8]>,
+    reads: &NameSet,
     names: &[Ident],
     first: &mut Option<TypeFault>,
 )
@@ -112,7 +112,7 @@ fn note_writes(
 
 // A local, where a set has the names of the topics and plants that its node uses.
 #[tactic(auto, using(crate::proofs::Least::least_append))]
-fn note_local(used: &IndexSet<&[u8]>, l: &LocalDecl, first: &mut Option<TypeFault>)
+fn note_local(used: &NameSet, l: &LocalDecl, first: &mut Option<TypeFault>)
     ensures { (n : Node) → HasNames used.now.keys (n.reads ++ n.writes) → first.new
         ≡ least first.old (together (local_lists n (local_view l.now))) }
 {
@@ -121,7 +121,7 @@ fn note_local(used: &IndexSet<&[u8]>, l: &LocalDecl, first: &mut Option<TypeFaul
     note_start(l.scalar, l.init, first);
 }
 
-fn note_each_local(used: &IndexSet<&[u8]>, locals: &[LocalDecl], first: &mut Option<TypeFault>)
+fn note_each_local(used: &NameSet, locals: &[LocalDecl], first: &mut Option<TypeFault>)
     ensures { (n : Node) → HasNames used.now.keys (n.reads ++ n.writes) → first.new
         ≡ least first.old (flat_map (λ l. together (local_lists n l)) (map local_view locals.now)) }
 {
@@ -130,12 +130,20 @@ fn note_each_local(used: &IndexSet<&[u8]>, locals: &[LocalDecl], first: &mut Opt
     }
 }
 
+// The hasher of the topics and plants that a node uses.
+fn used_hasher(n: &NodeDecl) -> NameHasher {
+    let mut key = NameKey::new();
+    key.take_all(&n.reads);
+    key.take_all(&n.writes);
+    key.hasher()
+}
+
 // The locals of a node.
 #[tactic(auto, using(crate::proofs::Least::least_append))]
 fn note_locals(alloc: Global, n: &NodeDecl, first: &mut Option<TypeFault>) -> Result<(), AllocError>
     ensures { OnOk result (first.new ≡ least first.old (locals_faults (node_view n.now))) }
 {
-    let mut used = names_of(alloc, &n.reads)?;
+    let mut used = names_among(alloc, used_hasher(n), &n.reads)?;
     add_names(&mut used, &n.writes)?;
     note_each_local(&used, &n.locals, first);
     note_repeats(alloc, &n.locals, first)?;

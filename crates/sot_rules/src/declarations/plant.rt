@@ -13,12 +13,12 @@ use crate::declarations::next::note_nexts;
 use crate::declarations::range::{note_scalar, scalar_sort};
 use crate::expressions::sort::{is_no_scale, is_truthful};
 use crate::fault::{TypeFault, TypeKind, note};
+use crate::names::hasher::{NameHasher, NameKey, NameSet};
 use crate::names::index::Index;
 use crate::names::meaning::{is_plant, is_topic};
 use crate::names::repeats::{
-    add_names, are_same, has_name, names_of, note_repeated_names, note_repeats,
+    add_names, are_same, has_name, names_among, names_of, note_repeated_names, note_repeats,
 };
-use indexmap::IndexSet;
 use sot_tree::{Field, Ident, Lit, PlantDecl, StateDecl};
 use std::alloc::{AllocError, Global};
 
@@ -55,7 +55,7 @@ fn note_states(
 
 // A name among a plant's inputs, where a set has those of its state variables.
 #[tactic(auto, using(crate::proofs::Least::least_append))]
-fn note_input(index: &Index, states: &IndexSet<&[u8]>, name: &Ident, first: &mut Option<TypeFault>)
+fn note_input(index: &Index, states: &NameSet, name: &Ident, first: &mut Option<TypeFault>)
     requires { IsIndex index.now }
     ensures { (q : Plant) → HasNames states.now.keys (state_names q) → first.new
         ≡ least first.old (input_faults (program_in index.now) q name.now) }
@@ -68,7 +68,7 @@ fn note_input(index: &Index, states: &IndexSet<&[u8]>, name: &Ident, first: &mut
 
 fn note_input_names(
     index: &Index,
-    states: &IndexSet<&[u8]>,
+    states: &NameSet,
     names: &[Ident],
     first: &mut Option<TypeFault>,
 )
@@ -103,7 +103,7 @@ fn note_inputs(
 #[tactic(auto, using(crate::proofs::Least::least_append))]
 fn note_seen(
     index: &Index,
-    states: &IndexSet<&[u8]>,
+    states: &NameSet,
     q: &PlantDecl,
     name: &Ident,
     first: &mut Option<TypeFault>,
@@ -135,7 +135,7 @@ fn note_seen(
 
 fn note_seen_names(
     index: &Index,
-    states: &IndexSet<&[u8]>,
+    states: &NameSet,
     q: &PlantDecl,
     names: &[Ident],
     first: &mut Option<TypeFault>,
@@ -171,7 +171,7 @@ fn note_sees(
 
 // A disturbance, where a set has the names that its plant uses.
 #[tactic(auto, using(crate::proofs::Least::least_append))]
-fn note_disturbance(used: &IndexSet<&[u8]>, f: &Field, first: &mut Option<TypeFault>)
+fn note_disturbance(used: &NameSet, f: &Field, first: &mut Option<TypeFault>)
     ensures { (q : Plant) → HasNames used.now.keys (state_names q ++ q.inputs ++ q.sees)
         → first.new ≡ least first.old (together (noise_lists q f.now)) }
 {
@@ -181,7 +181,7 @@ fn note_disturbance(used: &IndexSet<&[u8]>, f: &Field, first: &mut Option<TypeFa
     note_scalar(true, f.scalar, first);
 }
 
-fn note_disturbances(used: &IndexSet<&[u8]>, noise: &[Field], first: &mut Option<TypeFault>)
+fn note_disturbances(used: &NameSet, noise: &[Field], first: &mut Option<TypeFault>)
     ensures { (q : Plant) → HasNames used.now.keys (state_names q ++ q.inputs ++ q.sees)
         → first.new ≡ least first.old (flat_map (λ f. together (noise_lists q f)) noise.now) }
 {
@@ -190,11 +190,20 @@ fn note_disturbances(used: &IndexSet<&[u8]>, noise: &[Field], first: &mut Option
     }
 }
 
+// The hasher of what a plant uses beside its disturbances.
+fn used_hasher(q: &PlantDecl) -> NameHasher {
+    let mut key = NameKey::new();
+    key.take_all(&q.states);
+    key.take_all(&q.inputs);
+    key.take_all(&q.sees);
+    key.hasher()
+}
+
 // The disturbances of a plant.
 fn note_noise(alloc: Global, q: &PlantDecl, first: &mut Option<TypeFault>) -> Result<(), AllocError>
     ensures { OnOk result (first.new ≡ least first.old (disturbances_faults (plant_view q.now))) }
 {
-    let mut used = names_of(alloc, &q.states)?;
+    let mut used = names_among(alloc, used_hasher(q), &q.states)?;
     add_names(&mut used, &q.inputs)?;
     add_names(&mut used, &q.sees)?;
     note_disturbances(&used, &q.noise, first);

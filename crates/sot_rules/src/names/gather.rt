@@ -8,10 +8,10 @@ ghost use Rattle.sot_rules.specs.Alike.{Adds, StandsForThing, form_kept, kept_of
 ghost use Rattle.sot_rules.specs.NameLists.{thing_of_list, things_of_list};
 
 use crate::declarations::range::scalar_sort;
+use crate::names::hasher::NameMap;
 use crate::names::index::{Index, state_sort};
 use crate::names::scope::Kept;
 use crate::names::table::add;
-use indexmap::IndexMap;
 use sot_tree::{Decl, Field, Ident, LocalDecl, Shape, StateDecl};
 use std::alloc::AllocError;
 
@@ -24,7 +24,7 @@ pub enum NameList {
 }
 
 /// Names with what they stand for.
-pub type Things<'p> = IndexMap<&'p [u8], Kept>;
+pub type Things<'p> = NameMap<'p, Kept>;
 
 fn form_kept(shape: &Shape, k: usize) -> Kept
     ensures { result ≡ form_kept k (shape_view shape.now) }

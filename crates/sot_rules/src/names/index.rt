@@ -10,6 +10,7 @@ ghost use Rattle.sot_rules.specs.Indexes.{program_in, is_named, is_key, declared
 
 use crate::declarations::range::scalar_sort;
 use crate::expressions::sort::{Sort, scale_sort};
+use crate::names::hasher::{NameHasher, NameKey, NameMap, NameSet, hasher_of};
 use crate::names::scope::PartTable;
 use crate::names::table::add;
 use indexmap::{IndexMap, IndexSet};
@@ -21,9 +22,9 @@ use std::alloc::{AllocError, Global};
 pub struct Index<'p> {
     pub decls: &'p [Decl],
     /// The place of the first declaration of each name.
-    pub places: IndexMap<&'p [u8], usize>,
+    pub places: NameMap<'p, usize>,
     /// The plants that modules name as their own.
-    pub owned: IndexSet<&'p [u8]>,
+    pub owned: NameSet<'p>,
     /// For each declaration the fields of its record or its state variables, and an empty table for any other one.
     pub parts: Vec<PartTable<'p>>,
 }
@@ -55,7 +56,7 @@ fn field_table<'p>(alloc: Global, fields: &'p [Field]) -> Result<PartTable<'p>, 
     ensures { IfOk result (λ t. (name : List ℕ) → found t name
         ≡ sort_in (map field_part fields.now) name) }
 {
-    let mut table = IndexMap::new(alloc);
+    let mut table = IndexMap::with_hasher(alloc, hasher_of(fields));
     for f in fields {
         add(&mut table, f.name.name.as_bytes(), scalar_sort(f.scalar))?;
     }
@@ -67,11 +68,18 @@ fn state_table<'p>(alloc: Global, states: &'p [StateDecl]) -> Result<PartTable<'
     ensures { IfOk result (λ t. (name : List ℕ) → found t name
         ≡ sort_in (map state_part states.now) name) }
 {
-    let mut table = IndexMap::new(alloc);
+    let mut table = IndexMap::with_hasher(alloc, hasher_of(states));
     for s in states {
         add(&mut table, s.name.name.as_bytes(), state_sort(s))?;
     }
     Ok(table)
+}
+
+// The table of a declaration that has no parts.
+fn no_parts<'p>(alloc: Global) -> PartTable<'p>
+    ensures { (name : List ℕ) → found result name ≡ None }
+{
+    IndexMap::with_hasher(alloc, NameKey::new().hasher())
 }
 
 // The parts of a declaration that has several, by their names.
@@ -81,16 +89,16 @@ fn part_table<'p>(alloc: Global, d: &'p Decl) -> Result<PartTable<'p>, AllocErro
 {
     match d {
         Decl::Topic(t) => match &t.shape {
-            Shape::One(_) => Ok(IndexMap::new(alloc)),
+            Shape::One(_) => Ok(no_parts(alloc)),
             Shape::Fields(fields) => field_table(alloc, fields),
         },
         Decl::Plant(q) => state_table(alloc, &q.states),
-        _ => Ok(IndexMap::new(alloc)),
+        _ => Ok(no_parts(alloc)),
     }
 }
 
 // The plant that a module names as its own.
-fn note_owned<'p>(owned: &mut IndexSet<&'p [u8]>, d: &'p Decl) -> Result<(), AllocError>
+fn note_owned<'p>(owned: &mut NameSet<'p>, d: &'p Decl) -> Result<(), AllocError>
     ensures { OnOk result ((i : Ident) → is_key owned.new.keys i
         ≡ (is_key owned.old.keys i || is_plant_of i (declaration_view d.now))) }
 {
@@ -103,6 +111,17 @@ fn note_owned<'p>(owned: &mut IndexSet<&'p [u8]>, d: &'p Decl) -> Result<(), All
     }
 }
 
+// The hasher of the plants that modules name as their own.
+fn owned_hasher(decls: &[Decl]) -> NameHasher {
+    let mut key = NameKey::new();
+    for d in decls {
+        if let Decl::Module(m) = d {
+            key.take(&m.plant);
+        }
+    }
+    key.hasher()
+}
+
 impl<'p> Index<'p> {
     /// The index of a program.
     pub fn of(alloc: Global, program: &'p Program) -> Result<Index<'p>, AllocError>
@@ -111,8 +130,8 @@ impl<'p> Index<'p> {
     {
         let mut index = Index {
             decls: &program.decls,
-            places: IndexMap::new(alloc),
-            owned: IndexSet::new(alloc),
+            places: IndexMap::with_hasher(alloc, hasher_of(&program.decls)),
+            owned: IndexSet::with_hasher(alloc, owned_hasher(&program.decls)),
             parts: Vec::new(alloc),
         };
         for d in &program.decls {

@@ -7,11 +7,20 @@ ghost use Rattle.sot_rules.specs.Indexes.{program_in, IsIndex};
 ghost use Rattle.sot_rules.specs.Alike.{ReadsAlike, ScopesAlike};
 
 use crate::names::gather::{NameList, add_locals, add_named, add_noise, add_states};
+use crate::names::hasher::{NameHasher, NameKey, hasher_of};
 use crate::names::index::Index;
 use crate::names::scope::{Names, Scope};
 use indexmap::IndexMap;
 use sot_tree::{NodeDecl, PlantDecl};
 use std::alloc::{AllocError, Global};
+
+// The hasher of what a node's expressions name.
+fn read_hasher(n: &NodeDecl) -> NameHasher {
+    let mut key = NameKey::new();
+    key.take_all(&n.reads);
+    key.take_all(&n.locals);
+    key.hasher()
+}
 
 // What a node's expressions name.
 fn read_names<'t, 'p>(
@@ -23,7 +32,7 @@ fn read_names<'t, 'p>(
     ensures { IfOk result (λ x. ReadsAlike (names_in x)
         (node_scope (program_in index.now) (node_view n.now)).read) }
 {
-    let mut things = IndexMap::new(alloc);
+    let mut things = IndexMap::with_hasher(alloc, read_hasher(n));
     add_named(&mut things, index, NameList::Both, &n.reads)?;
     add_locals(&mut things, &n.locals)?;
     Ok(Names {
@@ -41,7 +50,7 @@ fn local_names<'t, 'p>(
     ensures { IfOk result (λ x. ReadsAlike (names_in x)
         (node_scope (program_in index.now) (node_view n.now)).local) }
 {
-    let mut things = IndexMap::new(alloc);
+    let mut things = IndexMap::with_hasher(alloc, hasher_of(&n.locals));
     add_locals(&mut things, &n.locals)?;
     Ok(Names {
         tables: &index.parts,
@@ -59,7 +68,7 @@ fn written_names<'t, 'p>(
     ensures { IfOk result (λ x. ReadsAlike (names_in x)
         (node_scope (program_in index.now) (node_view n.now)).written) }
 {
-    let mut things = IndexMap::new(alloc);
+    let mut things = IndexMap::with_hasher(alloc, hasher_of(&n.writes));
     add_named(&mut things, index, NameList::Topics, &n.writes)?;
     Ok(Names {
         tables: &index.parts,
@@ -87,6 +96,16 @@ pub fn node_scope<'t, 'p>(
     })
 }
 
+// The hasher of what a plant's expressions name.
+fn plant_hasher(q: &PlantDecl) -> NameHasher {
+    let mut key = NameKey::new();
+    key.take_all(&q.states);
+    key.take_all(&q.inputs);
+    key.take_all(&q.sees);
+    key.take_all(&q.noise);
+    key.hasher()
+}
+
 /// What a plant's expressions name.
 pub fn plant_names<'t, 'p>(
     alloc: Global,
@@ -97,7 +116,7 @@ pub fn plant_names<'t, 'p>(
     ensures { IfOk result (λ x. ReadsAlike (names_in x)
         (plant_scope (program_in index.now) (plant_view q.now))) }
 {
-    let mut things = IndexMap::new(alloc);
+    let mut things = IndexMap::with_hasher(alloc, plant_hasher(q));
     add_states(&mut things, &q.states)?;
     add_named(&mut things, index, NameList::Topics, &q.inputs)?;
     add_named(&mut things, index, NameList::Plants, &q.sees)?;
@@ -116,7 +135,7 @@ pub fn state_names<'t, 'p>(
 ) -> Result<Names<'t, 'p>, AllocError>
     ensures { IfOk result (λ x. ReadsAlike (names_in x) (state_scope (plant_view q.now))) }
 {
-    let mut things = IndexMap::new(alloc);
+    let mut things = IndexMap::with_hasher(alloc, hasher_of(&q.states));
     add_states(&mut things, &q.states)?;
     Ok(Names {
         tables: &index.parts,

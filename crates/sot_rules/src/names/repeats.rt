@@ -9,6 +9,7 @@ ghost use Rattle.sot_rules.specs.Faults.{least, when, repeats};
 ghost use Rattle.sot_rules.specs.SeenNames.{seen_names, with_name, HasNames};
 
 use crate::fault::{TypeFault, TypeKind, note};
+use crate::names::hasher::{NameHasher, NameSet, hasher_of};
 use crate::names::named::Named;
 use indexmap::IndexSet;
 use sot_tree::Ident;
@@ -16,7 +17,7 @@ use std::alloc::{AllocError, Global};
 
 /// One name of a list, where the earlier ones were seen.
 pub fn note_repeat<'p>(
-    seen: &mut IndexSet<&'p [u8]>,
+    seen: &mut NameSet<'p>,
     name: &'p Ident,
     first: &mut Option<TypeFault>,
 ) -> Result<(), AllocError>
@@ -39,7 +40,7 @@ pub fn note_repeats<T: Named>(
 ) -> Result<(), AllocError>
     ensures { OnOk result (first.new ≡ least first.old (repeats [] (map T.ident items.now))) }
 {
-    let mut seen = IndexSet::new(alloc);
+    let mut seen = IndexSet::with_hasher(alloc, hasher_of(items));
     for item in items {
         note_repeat(&mut seen, item.ident(), first)?;
     }
@@ -59,7 +60,7 @@ pub fn note_repeated_names(
 
 /// Adds the names of a list to those of a set.
 pub fn add_names<'p, T: Named>(
-    set: &mut IndexSet<&'p [u8]>,
+    set: &mut NameSet<'p>,
     items: &'p [T],
 ) -> Result<(), AllocError>
     ensures { OnOk result ((names : List Ident) → HasNames set.old.keys names
@@ -71,20 +72,28 @@ pub fn add_names<'p, T: Named>(
     Ok(())
 }
 
-/// The names of a list, as a set.
-pub fn names_of<'p, T: Named>(
+/// The names of a list, as a set to which others are added. Its hasher is of these and of those.
+pub fn names_among<'p, T: Named>(
     alloc: Global,
+    hasher: NameHasher,
     items: &'p [T],
-) -> Result<IndexSet<&'p [u8]>, AllocError>
+) -> Result<NameSet<'p>, AllocError>
     ensures { IfOk result (λ set. HasNames set.keys (map T.ident items.now)) }
 {
-    let mut set = IndexSet::new(alloc);
+    let mut set = IndexSet::with_hasher(alloc, hasher);
     add_names(&mut set, items)?;
     Ok(set)
 }
 
+/// The names of a list, as a set.
+pub fn names_of<'p, T: Named>(alloc: Global, items: &'p [T]) -> Result<NameSet<'p>, AllocError>
+    ensures { IfOk result (λ set. HasNames set.keys (map T.ident items.now)) }
+{
+    names_among(alloc, hasher_of(items), items)
+}
+
 /// Whether a name is in a set.
-pub fn has_name(set: &IndexSet<&[u8]>, name: &Ident) -> bool
+pub fn has_name(set: &NameSet, name: &Ident) -> bool
     ensures { result ≡ list_any (bytes_eq name.now.name) (seen_names set.now.keys) }
 {
     set.contains(name.name.as_bytes())

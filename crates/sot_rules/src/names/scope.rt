@@ -5,7 +5,7 @@ ghost use Rattle.sot_rules.specs.Names.{part_reading, reading};
 ghost use Rattle.sot_rules.specs.Scopes.{parts_of, kept_parts, names_in, answer, reading_of};
 
 use crate::expressions::sort::Sort;
-use indexmap::IndexMap;
+use crate::names::hasher::NameMap;
 use sot_text::Span;
 use sot_tree::Ident;
 
@@ -17,13 +17,13 @@ pub enum Kept {
 }
 
 /// The parts of a record or of a plant, by their names.
-pub type PartTable<'p> = IndexMap<&'p [u8], Sort>;
+pub type PartTable<'p> = NameMap<'p, Sort>;
 
 /// The names that some expressions may use.
 #[derive(Drop)]
 pub struct Names<'t, 'p> {
     pub tables: &'t [PartTable<'p>],
-    pub things: IndexMap<&'p [u8], Kept>,
+    pub things: NameMap<'p, Kept>,
 }
 
 /// The names that a node's statements use: those that its expressions read, its locals, and the topics that it writes.

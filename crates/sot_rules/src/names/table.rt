@@ -3,12 +3,12 @@ ghost use Rattle.std.specs.Prelude.{◌≡◌, ℕ, List, OnOk};
 ghost use Rattle.std.specs.Option.{option_or};
 ghost use Rattle.sot_rules.specs.NameTables.{found, entry};
 
-use indexmap::IndexMap;
+use crate::names::hasher::NameMap;
 use std::alloc::AllocError;
 
 /// Puts a name into a table with its value. A name that is there already keeps the value that it has.
 pub fn add<'p, V: Drop>(
-    table: &mut IndexMap<&'p [u8], V>,
+    table: &mut NameMap<'p, V>,
     name: &'p [u8],
     value: V,
 ) -> Result<(), AllocError>

@@ -10,6 +10,6 @@ use Rattle.sot_rules.proofs.names.owner.local_names.Goals as goal
 pub returns : goal.returns
 returns c =
     let tables = tables_in c.args.index.now in
-    let locals = c.in_ok-add_locals.ensures tables [] (stands_none tables c.new-things.result c.new-things.ensures.empty) in
-    names_alike _ tables _ (ap (map parts_of) c.deref-2.ensures.value)
-    (stands_same tables _ _ c.add_locals.new.things (ap (λ ls. map local_thing (map local_view ls)) c.deref.ensures.value) locals)
+    let locals = c.in_ok-add_locals.ensures tables [] (stands_none tables c.with_hasher-things.result c.with_hasher-things.ensures.empty) in
+    names_alike _ tables _ (ap (map parts_of) c.deref-3.ensures.value)
+    (stands_same tables _ _ c.add_locals.new.things (ap (λ ls. map local_thing (map local_view ls)) c.deref-2.ensures.value) locals)

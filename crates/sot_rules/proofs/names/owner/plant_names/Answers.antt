@@ -12,7 +12,7 @@ pub returns : goal.returns
 returns c =
     let p = program_in c.args.index.now in
     let tables = tables_in c.args.index.now in
-    let states = c.in_ok-add_states.ensures tables [] (stands_none tables c.new-things.result c.new-things.ensures.empty) in
+    let states = c.in_ok-add_states.ensures tables [] (stands_none tables c.with_hasher-things.result c.with_hasher-things.ensures.empty) in
     let inputs = c.in_ok-add_named.ensures _ states in
     let sees = c.in_ok-add_named-2.ensures _ inputs in
     let noise = c.in_ok-add_noise.ensures tables _ sees in

@@ -13,7 +13,7 @@ pub returns : goal.returns
 returns c =
     let p = program_in c.args.index.now in
     let tables = tables_in c.args.index.now in
-    let listed = c.in_ok-add_named.ensures [] (stands_none tables c.new-things.result c.new-things.ensures.empty) in
+    let listed = c.in_ok-add_named.ensures [] (stands_none tables c.with_hasher-things.result c.with_hasher-things.ensures.empty) in
     let locals = c.in_ok-add_locals.ensures tables _ listed in
     names_alike _ tables _ (ap (map parts_of) c.deref-3.ensures.value)
     (stands_same tables _ _ c.add_locals.new.things

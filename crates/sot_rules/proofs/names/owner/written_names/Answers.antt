@@ -12,6 +12,6 @@ pub returns : goal.returns
 returns c =
     let p = program_in c.args.index.now in
     let tables = tables_in c.args.index.now in
-    let topics = c.in_ok-add_named.ensures [] (stands_none tables c.new-things.result c.new-things.ensures.empty) in
-    names_alike _ tables _ (ap (map parts_of) c.deref-2.ensures.value)
-    (stands_same tables _ _ c.add_named.new.things (ap (filter_map (λ i. topic_meant (meaning p i))) c.deref.ensures.value) topics)
+    let topics = c.in_ok-add_named.ensures [] (stands_none tables c.with_hasher-things.result c.with_hasher-things.ensures.empty) in
+    names_alike _ tables _ (ap (map parts_of) c.deref-3.ensures.value)
+    (stands_same tables _ _ c.add_named.new.things (ap (filter_map (λ i. topic_meant (meaning p i))) c.deref-2.ensures.value) topics)
