@@ -13,7 +13,9 @@ use crate::fault::{TypeFault, TypeKind, note};
 use crate::names::hasher::{NameHasher, NameKey, NameSet};
 use crate::names::index::Index;
 use crate::names::meaning::{is_environment, is_plant, is_topic};
-use crate::names::repeats::{add_names, has_name, names_among, names_of, note_repeated_names, note_repeats};
+use crate::names::repeats::{
+    add_names, has_name, names_among, names_of, note_repeated_names, note_repeats,
+};
 use crate::statements::body::note_body;
 use sot_tree::{Ident, LocalDecl, NodeDecl};
 use std::alloc::{AllocError, Global};
@@ -75,12 +77,7 @@ fn note_write(index: &Index, reads: &NameSet, name: &Ident, first: &mut Option<T
     );
 }
 
-fn note_write_names(
-    index: &Index,
-    reads: &NameSet,
-    names: &[Ident],
-    first: &mut Option<TypeFault>,
-)
+fn note_write_names(index: &Index, reads: &NameSet, names: &[Ident], first: &mut Option<TypeFault>)
     requires { IsIndex index.now }
     ensures { (n : Node) → HasNames reads.now.keys n.reads → first.new
         ≡ least first.old (flat_map

@@ -66,12 +66,7 @@ fn note_input(index: &Index, states: &NameSet, name: &Ident, first: &mut Option<
     note(first, is_topic(meant) && is_state, name.at, TypeKind::Twice);
 }
 
-fn note_input_names(
-    index: &Index,
-    states: &NameSet,
-    names: &[Ident],
-    first: &mut Option<TypeFault>,
-)
+fn note_input_names(index: &Index, states: &NameSet, names: &[Ident], first: &mut Option<TypeFault>)
     requires { IsIndex index.now }
     ensures { (q : Plant) → HasNames states.now.keys (state_names q) → first.new
         ≡ least first.old (flat_map (input_faults (program_in index.now) q) names.now) }

@@ -59,10 +59,7 @@ pub fn note_repeated_names(
 }
 
 /// Adds the names of a list to those of a set.
-pub fn add_names<'p, T: Named>(
-    set: &mut NameSet<'p>,
-    items: &'p [T],
-) -> Result<(), AllocError>
+pub fn add_names<'p, T: Named>(set: &mut NameSet<'p>, items: &'p [T]) -> Result<(), AllocError>
     ensures { OnOk result ((names : List Ident) → HasNames set.old.keys names
         → HasNames set.new.keys (names ++ map T.ident items.now)) }
 {
