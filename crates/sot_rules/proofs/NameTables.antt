@@ -1,7 +1,6 @@
 -- A table of names after a name is put into it, and the lists that tables stand for, one item longer.
-use Rattle.std.proofs.Common.{◌≡◌, ◌∙◌, ℕ, zero, suc, ◌+◌, ◌<◌, ◌≤◌, List, [], ◌∷◌, ◌++◌, length, get_or, take, map, find, Option, Some, None, Bool, true, false, is_some, cond, if◌then◌else◌, not, ◌||◌, ◌==◌, option_map, position, refl, sym, ap, arith, nat_lt}
+use Rattle.std.proofs.Common.{◌≡◌, ◌∙◌, ℕ, zero, suc, ◌+◌, ◌<◌, ◌≤◌, List, [], ◌∷◌, ◌++◌, length, get_or, take, map, find, Option, Some, None, Bool, true, false, is_some, cond, if◌then◌else◌, not, ◌||◌, ◌==◌, option_map, position, unwrap_or, refl, sym, ap, arith, nat_lt}
 use Rattle.std.specs.Option.{option_or}
-use Rattle.std.specs.Map.{lookup}
 use Rattle.std.specs.Str.{bytes_eq}
 use Rattle.std.specs.List.{list_any, position_or_len, slice_get}
 use Rattle.sot_tree.specs.declared.tree.Ident.{Ident}
@@ -12,8 +11,7 @@ use Rattle.std.proofs.lemmas.Bool.Decides.{nat_tests}
 use Rattle.std.proofs.lemmas.Cmp.{nat_list_eq_equiv}
 use Rattle.std.proofs.lemmas.Slice.Eq.{bytes_eq-Decides}
 use denote.Ref.{Bor}
-use Rattle.indexmap.specs.IndexMap.{IndexMap, insert_entry}
-use Rattle.indexmap.proofs.CallerLemmas.{insert_entry-new}
+use Rattle.indexmap.specs.IndexMap.{IndexMap}
 use Rattle.sot_rules.specs.declared.expressions.sort.Sort.{Sort}
 use Rattle.sot_rules.specs.Names.{Part}
 use Rattle.sot_rules.specs.NameTables.{found, entry}
@@ -22,32 +20,22 @@ use Rattle.sot_rules.specs.Indexes.{is_key, sort_in}
 pub same_by : {a b : List ℕ} → bytes_eq a b ≡ true → a ≡ b
 same_by {a = a} {b = b} h = (bytes_eq-Decides a b).0 h
 
--- a name that is there already
-kept_by : {V : Type 0} (o : Option V) (b : Bool) (v : V) → (b ≡ true → is_some o ≡ true) → o ≡ option_or o (if b then Some v else None)
-kept_by None true v h = let e = h refl in cc
-kept_by None false v h = refl
-kept_by (Some x) b v h = refl
+bytes_eq_sym : (a b : List ℕ) → bytes_eq a b ≡ bytes_eq b a
+bytes_eq_sym a b = nat_list_eq_equiv.symm a b
 
-pub kept : {V S : Type 0} (m : IndexMap (Bor (List ℕ)) V S) (key : List ℕ) (v : V) → is_some (found m key) ≡ true → (n : List ℕ) → found m n ≡ option_or (found m n) (entry key v n)
-kept m key v h n = kept_by (found m n) (bytes_eq n key) v (λ e. ap (λ k. is_some (found m k)) (same_by e) ∙ h)
+-- a name with the value that it has, or else with a new one
+put_by : {V : Type 0} (old at_key : Option V) (b : Bool) (v : V) → (b ≡ true → at_key ≡ old) → cond b (Some (unwrap_or at_key v)) old ≡ option_or old (if b then Some v else None)
+put_by None at_key true v h = ap (λ o. Some (unwrap_or o v)) (h refl)
+put_by (Some x) at_key true v h = ap (λ o. Some (unwrap_or o v)) (h refl)
+put_by None at_key false v h = refl
+put_by (Some x) at_key false v h = refl
 
--- a new name
-entries_more : {V : Type 0} (es : List (Bor (List ℕ) × V)) (key : Bor (List ℕ)) (v : V) (n : List ℕ) → lookup (λ (k : Bor (List ℕ)). bytes_eq n k.now) (es ++ (key, v) ∷ []) ≡ option_or (lookup (λ (k : Bor (List ℕ)). bytes_eq n k.now) es) (entry key.now v n)
-entries_more [] key v n = refl
-entries_more (e ∷ es) key v n = by (bytes_eq n e.0.now) e.1 _ _ _ (entries_more es key v n)
-  where
-    by : {V : Type 0} (b : Bool) (x : V) (o p q : Option V) → o ≡ option_or p q → cond b (Some x) o ≡ option_or (cond b (Some x) p) q
-    by true x o p q h = refl
-    by false x o p q h = h
-
-pub added : {V S : Type 0} (m new : IndexMap (Bor (List ℕ)) V S) (key : Bor (List ℕ)) (v : V) → found m key.now ≡ None → new.entries ≡ insert_entry (λ a b. bytes_eq a.now b.now) m.entries key v → (n : List ℕ) → found new n ≡ option_or (found m n) (entry key.now v n)
-added m new key v none e n =
-    ap (lookup (λ (k : Bor (List ℕ)). bytes_eq n k.now)) (e ∙ insert_entry-new (λ a b. bytes_eq a.now b.now) m key v none)
-    ∙ entries_more m.entries key v n
-
-pub none_by : {X : Type 0} (o : Option X) → is_some o ≡ false → o ≡ None
-none_by None e = refl
-none_by (Some x) e = cc
+pub put : {V S : Type 0} (m new : IndexMap (Bor (List ℕ)) V S) (key : Bor (List ℕ)) (w v : V) → w ≡ unwrap_or (found m key.now) v → ((q : Bor (List ℕ)) → found new q.now ≡ cond (bytes_eq key.now q.now) (Some w) (found m q.now)) → (n : List ℕ) → found new n ≡ option_or (found m n) (entry key.now v n)
+put m new key w v e h n =
+    h (record key { now = n })
+    ∙ ap (λ x. cond (bytes_eq key.now n) (Some x) (found m n)) e
+    ∙ put_by (found m n) (found m key.now) (bytes_eq key.now n) v (λ s. ap (found m) (same_by s))
+    ∙ ap (λ b. option_or (found m n) (if b then Some v else None)) (bytes_eq_sym key.now n)
 
 -- one part more
 sort_push : (ps : List Part) (p : Part) (name : List ℕ) → sort_in (ps ++ p ∷ []) name ≡ option_or (sort_in ps name) (entry p.name p.sort name)
@@ -123,9 +111,6 @@ known test xs =
     ∙ ap is_some (sym (find_at test xs))
 
 -- a key more in a set
-bytes_eq_sym : (a b : List ℕ) → bytes_eq a b ≡ bytes_eq b a
-bytes_eq_sym a b = nat_list_eq_equiv.symm a b
-
 or_kept : (a b : Bool) → (b ≡ true → a ≡ true) → a ≡ (a || b)
 or_kept true b h = refl
 or_kept false true h = h refl

@@ -1,5 +1,5 @@
 -- The keys of tables of names.
-use Rattle.std.specs.Prelude.{ℕ, List, [], ◌∷◌}
+use Rattle.std.specs.Prelude.{[], ◌∷◌}
 use Rattle.std.specs.Hash.{u64}
 use Rattle.std.specs.List.{fold}
 use Rattle.std.specs.Hash.DefaultHasher as sip

@@ -15,8 +15,7 @@ pub fn add<'p, V: Drop>(
     ensures { OnOk result ((n : List ℕ) → found table.new n
         ≡ option_or (found table.old n) (entry name.now value n)) }
 {
-    if !table.contains_key(name) {
-        table.insert(name, value)?;
-    }
+    let slot = table.entry(name)?;
+    slot.or_insert(value);
     Ok(())
 }

@@ -1,10 +1,12 @@
 -- Of `add`: its promises.
-use Rattle.std.proofs.Common.{◌∙◌, sym}
-use Rattle.sot_rules.proofs.NameTables.{added, none_by}
+use Rattle.std.proofs.Common.{◌∙◌, ap, arith, unwrap_or}
+use Rattle.indexmap.specs.Entry.{map_with_value}
+use Rattle.sot_rules.proofs.NameTables.{put}
 use Rattle.sot_rules.proofs.names.table.add.Goals as goal
 
-pub returns-in_ok-insert : goal.returns-in_ok-insert
-returns-in_ok-insert g c =
-    added c.args.table.now c.insert.new.self c.args.name c.args.value
-    (none_by _ (sym c.contains_key.ensures ∙ c.if-not-contains_key.true))
-    c.in_ok-insert.ensures.entries
+pub returns : goal.returns
+returns g c n =
+    let w = c.or_insert.result.now in
+    let kept = c.or_insert.ensures.value ∙ ap (λ o. unwrap_or o c.args.value) c.in_ok-slot.ensures.value in
+    let given = put c.args.table.now (map_with_value c.in_ok-slot.slot w) c.args.name w c.args.value kept (c.in_ok-slot.ensures.update.0 w).0 n in
+    grind (arith, given)
