@@ -1,5 +1,5 @@
 //! The faults of a node.
-ghost use Rattle.std.specs.Prelude.{◌≡◌, ◌++◌, map, flat_map, OnOk};
+ghost use Rattle.std.specs.Prelude.{◌≡◌, ◌++◌, map, flat_map, IfOk, OnOk};
 ghost use Rattle.sot_tree.specs.TreeViews.{local_view, node_view};
 ghost use Rattle.sot_tree.specs.Trees.{Node};
 ghost use Rattle.sot_rules.specs.Faults.{least, together, read_faults, write_lists, local_lists, node_lists};
@@ -13,9 +13,7 @@ use crate::fault::{TypeFault, TypeKind, note};
 use crate::names::hasher::{NameHasher, NameKey, NameSet};
 use crate::names::index::Index;
 use crate::names::meaning::{is_environment, is_plant, is_topic};
-use crate::names::repeats::{
-    add_names, has_name, names_among, names_of, note_repeated_names, note_repeats,
-};
+use crate::names::repeats::{add_names, has_name, names_among, note_repeated_names, note_repeats};
 use crate::statements::body::note_body;
 use sot_tree::{Ident, LocalDecl, NodeDecl};
 use std::alloc::{AllocError, Global};
@@ -58,6 +56,21 @@ fn note_reads(
     Ok(())
 }
 
+// The hasher of the topics and plants that a node uses.
+fn used_hasher(n: &NodeDecl) -> NameHasher {
+    let mut key = NameKey::new();
+    key.take_all(&n.reads);
+    key.take_all(&n.writes);
+    key.hasher()
+}
+
+// What a node reads, as a set to which what it writes can be added.
+fn read_set<'p>(alloc: Global, n: &'p NodeDecl) -> Result<NameSet<'p>, AllocError>
+    ensures { IfOk result (λ set. HasNames set.keys (node_view n.now).reads) }
+{
+    names_among(alloc, used_hasher(n), &n.reads)
+}
+
 // A name among those that a node writes, where a set has those that it reads.
 #[tactic(auto, using(crate::proofs::Least::least_append))]
 fn note_write(index: &Index, reads: &NameSet, name: &Ident, first: &mut Option<TypeFault>)
@@ -88,20 +101,21 @@ fn note_write_names(index: &Index, reads: &NameSet, names: &[Ident], first: &mut
     }
 }
 
-// What a node writes.
+// What a node writes, where a set has what it reads.
 #[tactic(auto, using(crate::proofs::Least::least_append))]
 fn note_writes(
     alloc: Global,
     index: &Index,
     n: &NodeDecl,
+    reads: &NameSet,
     first: &mut Option<TypeFault>,
 ) -> Result<(), AllocError>
-    requires { IsIndex index.now }
+    requires indexed { IsIndex index.now }
+    requires reads { HasNames reads.now.keys (node_view n.now).reads }
     ensures { OnOk result (first.new
         ≡ least first.old (writes_faults (program_in index.now) (node_view n.now))) }
 {
-    let reads = names_of(alloc, &n.reads)?;
-    note_write_names(index, &reads, &n.writes, first);
+    note_write_names(index, reads, &n.writes, first);
     note_repeated_names(alloc, &n.writes, first)?;
     note_passes(index, false, 8, &n.writes, first);
     Ok(())
@@ -127,22 +141,19 @@ fn note_each_local(used: &NameSet, locals: &[LocalDecl], first: &mut Option<Type
     }
 }
 
-// The hasher of the topics and plants that a node uses.
-fn used_hasher(n: &NodeDecl) -> NameHasher {
-    let mut key = NameKey::new();
-    key.take_all(&n.reads);
-    key.take_all(&n.writes);
-    key.hasher()
-}
-
-// The locals of a node.
+// The locals of a node, where a set has what it reads.
 #[tactic(auto, using(crate::proofs::Least::least_append))]
-fn note_locals(alloc: Global, n: &NodeDecl, first: &mut Option<TypeFault>) -> Result<(), AllocError>
+fn note_locals<'p>(
+    alloc: Global,
+    n: &'p NodeDecl,
+    used: &mut NameSet<'p>,
+    first: &mut Option<TypeFault>,
+) -> Result<(), AllocError>
+    requires { HasNames used.old.keys (node_view n.now).reads }
     ensures { OnOk result (first.new ≡ least first.old (locals_faults (node_view n.now))) }
 {
-    let mut used = names_among(alloc, used_hasher(n), &n.reads)?;
-    add_names(&mut used, &n.writes)?;
-    note_each_local(&used, &n.locals, first);
+    add_names(used, &n.writes)?;
+    note_each_local(used, &n.locals, first);
     note_repeats(alloc, &n.locals, first)?;
     note_past(16, &n.locals, first);
     Ok(())
@@ -162,8 +173,9 @@ pub fn note_node<'p>(
 {
     note_times(n.period, n.offset, first);
     note_reads(alloc, index, &n.reads, first)?;
-    note_writes(alloc, index, n, first)?;
-    note_locals(alloc, n, first)?;
+    let mut used = read_set(alloc, n)?;
+    note_writes(alloc, index, n, &used, first)?;
+    note_locals(alloc, n, &mut used, first)?;
     note_body(alloc, index, n, first)?;
     Ok(())
 }

@@ -6,8 +6,6 @@ use Rattle.sot_rules.specs.Names.{meaning}
 use Rattle.sot_rules.specs.Tests.{topic_size}
 use Rattle.sot_rules.specs.Faults.{least, together, repeats, passes, write_lists}
 use Rattle.sot_rules.specs.Indexes.{program_in}
-use Rattle.sot_rules.specs.SeenNames.{HasNames}
-use Rattle.sot_rules.proofs.NameSets.{one_held}
 use Rattle.sot_rules.proofs.Sequences.{three_noted}
 use Rattle.sot_rules.proofs.declarations.node.note_writes.Goals as goal
 
@@ -15,8 +13,7 @@ pub returns : goal.returns
 returns c =
     let p = program_in c.args.index.now in
     let n = node_view c.args.n.now in
-    let reads : HasNames c.in_ok-reads.reads.keys n.reads = one_held c.in_ok-reads.reads.keys c.deref.result.now n.reads c.in_ok-reads.ensures c.deref.ensures.value in
     three_noted (flat_map (λ i. together (write_lists p n i)) n.writes) (repeats [] n.writes) (passes (λ i. topic_size (meaning p i)) 8 0 n.writes) _ _ _ _
-    (c.note_write_names.ensures n reads ∙ ap (λ is. least c.args.first.now (flat_map (λ i. together (write_lists p n i)) is)) c.deref-2.ensures.value)
-    (c.in_ok-note_repeated_names.ensures ∙ ap (λ is. least c.note_write_names.new.first (repeats [] is)) c.deref-3.ensures.value)
-    (c.note_passes.ensures ∙ ap (λ is. least c.note_repeated_names.new.first (passes (λ i. topic_size (meaning p i)) 8 0 is)) c.deref-4.ensures.value)
+    (c.note_write_names.ensures n c.requires.reads ∙ ap (λ is. least c.args.first.now (flat_map (λ i. together (write_lists p n i)) is)) c.deref.ensures.value)
+    (c.in_ok-note_repeated_names.ensures ∙ ap (λ is. least c.note_write_names.new.first (repeats [] is)) c.deref-2.ensures.value)
+    (c.note_passes.ensures ∙ ap (λ is. least c.note_repeated_names.new.first (passes (λ i. topic_size (meaning p i)) 8 0 is)) c.deref-3.ensures.value)
