@@ -1,5 +1,5 @@
 -- What stays between two moments of one instant.
-use Rattle.std.proofs.Common.{◌≡◌, ◌≢◌, ⊎_elim, ℕ, zero, suc, ◌+◌, ◌≤◌, ℤ, pos, Bool, true, false, List, [], ◌∷◌, ◌++◌, Option, Some, None, map, take, drop, refl, sym, ap, ap₂, ◌∙◌, arith}
+use Rattle.std.proofs.Common.{◌≡◌, ◌≢◌, ⊎_elim, ℕ, suc, ◌+◌, ◌≤◌, ℤ, pos, Bool, true, false, List, [], ◌∷◌, ◌++◌, Option, Some, None, map, take, drop, refl, sym, ap, ap₂, ◌∙◌, arith}
 use Rattle.std.specs.Prelude.{slice_index_or, slice_set, int_le, ◌==◌, ◌&&◌, ◌||◌, not, if◌then◌else◌}
 use Rattle.std.proofs.lemmas.Bool.{cases_eq, eqb-false, both_ways}
 use Rattle.std.proofs.lemmas.List.{get_or-set_other, take-append-drop}
@@ -19,6 +19,7 @@ use Rattle.sot_world.specs.Configurations.{Configuration, is_left, number_of, lo
 use Rattle.sot_world.specs.Steps.{Event, Input, Code, Guest, Decide, Tick, Step, Fires, put, publish, published, is_enabled}
 use Rattle.sot_world.specs.Outcomes.{Recorded, NodeFired, Records}
 use Rattle.sot_world.specs.HistoryEntry.{Logged, FireAt}
+use Rattle.sot_world.proofs.Modes.{left_none}
 use Rattle.sot_world.proofs.Writes.{write_other}
 use Rattle.sot_world.proofs.Parts.{published_padded}
 use Rattle.sot_world.proofs.Unique.{steps_are_unique}
@@ -95,16 +96,11 @@ scalar_stays p j f s P entry Q typed flies not_ = go flies.event flies.step flie
     go (Decide m) step r records told = ap (λ C. number_of C s) step.rest
     go (Tick noise) step r records told = ap (λ C. number_of C s) step.rest
 
-set_false : (xs : List Bool) (n : ℕ) → slice_index_or (slice_set xs n false) n false ≡ false
-set_false [] n = refl
-set_false (x ∷ xs) zero = refl
-set_false (x ∷ xs) (suc n) = set_false xs n
-
 -- a firing keeps the points, and what is left after it was left before, with its locals
 fires_keeps :
     (p : Tables) (m n : ℕ) (node : NodeInfo) (locals : List ℤ) (draft : List (Option ℤ)) (C D : Configuration) → Fires p m node locals draft C D → is_left D n ≡ true → (is_left C n ≡ true) × (locals_of D n ≡ locals_of C n)
 fires_keeps p m n node locals draft C D fires left = ⊎_elim
-    (λ same. absurd (both_ways (is_left D n) (ap (λ l. slice_index_or l n false) fires.left ∙ ap (λ k. slice_index_or (slice_set C.left k false) n false) (sym same) ∙ set_false C.left n) left))
+    (λ same. absurd (both_ways (is_left D n) (ap (λ l. slice_index_or l n false) fires.left ∙ ap (λ k. slice_index_or (slice_set C.left k false) n false) (sym same) ∙ left_none C.left n) left))
     (λ other. (sym (ap (λ l. slice_index_or l n false) fires.left ∙ get_or-set_other C.left m n false false other) ∙ left, ap (λ l. slice_index_or l n []) fires.locals_set ∙ get_or-set_other C.locals m n locals [] other))
     (cases_eq n m)
 

@@ -1,21 +1,10 @@
 -- Lists put one after another.
-use Rattle.std.proofs.Common.{◌≡◌, ℕ, zero, suc, ◌+◌, ◌≤◌, ℤ, List, [], ◌∷◌, ◌++◌, length, take, refl, sym, ap, ◌∙◌, arith, append_assoc, length-append}
+use Rattle.std.proofs.Common.{◌≡◌, ℕ, zero, suc, ◌≤◌, ℤ, List, [], ◌∷◌, length, take, refl, arith, length-append}
 use Rattle.std.specs.Prelude.{slice_index_or}
-use Rattle.std.proofs.lemmas.List.{append-nil}
-use Rattle.std.proofs.lemmas.Option.{none-some, same_Some}
 use Rattle.sot_lists.specs.Places.{At}
 use Rattle.sot_lang.specs.Ticks.{joined}
 use Rattle.sot_lang.specs.declared.tables.PlantInfo.{PlantInfo}
 use Rattle.sot_board.specs.Counts.{state_count}
-
--- the first lists, and one more
-pub joined_more : (xs : List (List ℤ)) (i : ℕ) (x : List ℤ) → At xs i x → joined (take (i + 1) xs) ≡ joined (take i xs) ++ x
-joined_more xs i x at = (let e : i + 1 ≡ suc i = omega arith in ap (λ n. joined (take n xs)) e ∙ from xs i at)
-  where
-    from : (ys : List (List ℤ)) (j : ℕ) → At ys j x → joined (take (suc j) ys) ≡ joined (take j ys) ++ x
-    from [] j at_j = absurd (none-some x at_j)
-    from (y ∷ ys) zero at_j = ap (λ z. z ++ []) (same_Some y x at_j) ∙ append-nil x
-    from (y ∷ ys) (suc j) at_j = ap (λ l. y ++ l) (from ys j at_j) ∙ sym (append_assoc y (joined (take j ys)) x)
 
 -- they are no longer than all
 pub joined_short : (xs : List (List ℤ)) (i : ℕ) → length (joined (take i xs)) ≤ length (joined xs)

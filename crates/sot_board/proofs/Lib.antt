@@ -1,3 +1,4 @@
+pub mod Options
 pub mod RoomLemmas
 pub mod Entries
 pub mod Going

@@ -1,8 +1,9 @@
 //! A board: the world of a flight with its history.
 
-ghost use Rattle.std.specs.Prelude.{◌≡◌, ℕ, ◌<◌, true, [], length, IsTrue, ◌↔◌, IfOk, IfErr};
+ghost use Rattle.std.specs.Prelude.{◌≡◌, ℕ, ◌<◌, true, [], length, IsTrue, ◌↔◌, IfOk, IfErr, IsErrOf};
 ghost use Rattle.sot_world.specs.Configurations.{is_left, is_left_dm, IsOpening, IsSafer};
-ghost use Rattle.sot_world.specs.Opens.{IsFirstOutside, IfNotSafer};
+ghost use Rattle.sot_world.specs.Calendar.{NothingLeft};
+ghost use Rattle.sot_world.specs.Opens.{StartInside, IsFirstOutside, IfNotSafer};
 ghost use Rattle.sot_flight.specs.Fits.{FitsFlight};
 ghost use Rattle.sot_board.specs.Flown.{IsStart, IsEnd, fired_of};
 ghost use Rattle.sot_board.specs.Versions.{drafts_of};
@@ -61,7 +62,8 @@ impl<'a> Board<'a> {
     /// A board at the start of a flight of the program: the opening at the flight's points, and no entry yet. It takes all memory of
     /// the flight.
     ///
-    /// `NotSafer` names the first module whose plant starts outside the module's safer region; `Memory` says that there is none.
+    /// `NotSafer` names the first module whose plant starts outside the module's safer region; `Memory` says that there is none,
+    /// and comes only where every plant starts inside.
     pub fn open(
         alloc: Global,
         acc: &'a Accepted<'a>,
@@ -74,6 +76,7 @@ impl<'a> Board<'a> {
         ensures accepted { IfOk result (λ b. b.accepted ≡ acc.now) }
         ensures plan { IfOk result (λ b. b.plan ≡ flight.now) }
         ensures not_safer { IfErr result (λ f. IfNotSafer f (λ m. IsFirstOutside acc.now.program flight.now.start m)) }
+        ensures memory { IsErrOf result OpenFail.Memory → StartInside acc.now.program flight.now.start (length acc.now.program.modules) }
     {
         let world = World::open(alloc, acc, flight.start())?;
         match Board::of(alloc, world, flight) {
@@ -191,6 +194,13 @@ impl<'a> Board<'a> {
         ensures { IsTrue result ↔ MayTickNow self.now.accepted.program self.now.accepted.cert.jitter self.now.position }
     {
         !self.due_input() && self.world.may_tick()
+    }
+
+    /// Whether nothing is left to fire or to decide now.
+    pub fn nothing_left(&self) -> bool
+        ensures { IsTrue result ↔ NothingLeft self.now.accepted.program self.now.position.at }
+    {
+        nothing_left(&self.world)
     }
 
     /// Whether nothing is left to fire, to decide or to input now.

@@ -3,7 +3,8 @@ use Rattle.std.proofs.lemmas.Option.{slice_get-get_or}
 use Rattle.std.proofs.lemmas.List.{take_all, length-append}
 use Rattle.sot_lists.specs.Places.{At}
 use Rattle.sot_lang.specs.Ticks.{joined}
-use Rattle.sot_board.proofs.Joined.{joined_more, joined_short, joined_size}
+use Rattle.sot_flight.proofs.Fitting.{joined_more}
+use Rattle.sot_board.proofs.Joined.{joined_short, joined_size}
 use Rattle.sot_board.proofs.states.put_states.Goals as goal
 
 pub put_point-requires : goal.put_point-requires
