@@ -23,7 +23,7 @@ abbrev pub AreApart : List ℕ → Type 0
 AreApart [] = Unit {0}
 AreApart (k ∷ ks) = (Has ks k → ⊥) × AreApart ks
 
-mark_stops : (b : Bool) (x : List ℕ) → Stops in_name (mark b ++ x)
+pub mark_stops : (b : Bool) (x : List ℕ) → Stops in_name (mark b ++ x)
 mark_stops true x = refl
 mark_stops false x = refl
 

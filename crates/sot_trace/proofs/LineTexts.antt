@@ -31,7 +31,7 @@ pub there_from : (p : Tables) (ks : List ℕ) → ((k : ℕ) → Has ks k → (i
 there_from p [] h = tt
 there_from p (k ∷ ks) h = (h k (0, refl), there_from p ks (λ j has. h j (suc has.0, has.1)))
 
-apart_from : (ks : List ℕ) → ((i j k : ℕ) → At ks i k → At ks j k → i ≡ j) → AreApart ks
+pub apart_from : (ks : List ℕ) → ((i j k : ℕ) → At ks i k → At ks j k → i ≡ j) → AreApart ks
 apart_from [] once = tt
 apart_from (k ∷ ks) once = (
   λ has. (let same : 0 ≡ suc has.0 = once 0 (suc has.0) k refl has.1 in omega arith),
@@ -98,7 +98,7 @@ mode_same Sc Sc e = refl
 mode_same Ac Sc e = (let never : ◌≡◌ {A = ℕ} 97 115 = ap (λ l. slice_index_or l 1 0) e in absurd (omega arith))
 mode_same Sc Ac e = (let never : ◌≡◌ {A = ℕ} 115 97 = ap (λ l. slice_index_or l 1 0) e in absurd (omega arith))
 
-mode_stops : (a : Mode) → Stops is_in_word (mode_word a)
+pub mode_stops : (a : Mode) → Stops is_in_word (mode_word a)
 mode_stops Ac = refl
 mode_stops Sc = refl
 

@@ -13,7 +13,7 @@ pub moves_stop : (q : ℕ → Bool) → q 32 ≡ false → (ks : List PlantInfo)
 moves_stop q blank [] noise states = tt
 moves_stop q blank (k ∷ ks) noise states = blank
 
-move_opens : (k : PlantInfo) (a b : List ℤ) (x : List ℕ) → move_text k a b ++ x ≡ 32 ∷ (k.name ++ (40 ∷ (numbers a ++ (41 ∷ 61 ∷ (numbers b ++ x)))))
+pub move_opens : (k : PlantInfo) (a b : List ℤ) (x : List ℕ) → move_text k a b ++ x ≡ 32 ∷ (k.name ++ (40 ∷ (numbers a ++ (41 ∷ 61 ∷ (numbers b ++ x)))))
 move_opens k a b x =
     ap (λ y. 32 ∷ y) (append_assoc k.name (codes "(" ++ (numbers a ++ (codes ")=" ++ numbers b))) x
     ∙ ap (λ y. k.name ++ (40 ∷ y)) (append_assoc (numbers a) (codes ")=" ++ numbers b) x))

@@ -44,7 +44,7 @@ digits_in : (ds : List ℕ) → AllBelowBase 10 ds → AllIn is_ascii_digit (map
 digits_in [] h = tt
 digits_in (d ∷ ds) h = (digit_in d h.0, digits_in ds h.1)
 
-numeral_digits : (n : ℕ) → AllIn is_ascii_digit (numeral n)
+pub numeral_digits : (n : ℕ) → AllIn is_ascii_digit (numeral n)
 numeral_digits zero = (refl, tt)
 numeral_digits (suc n) = subst (AllIn is_ascii_digit) (sym (digits_are n)) (digits_in (digits_of 10 (suc n)) (all_below_base_digits_of 10 (suc n) (omega arith)))
 

@@ -11,9 +11,10 @@ use Rattle.std.proofs.lemmas.List.{map_push}
 use Rattle.sot_trace.specs.Numbers.{numeral, signed_numeral}
 use Rattle.sot_trace.proofs.NumberTexts.{digits_are}
 
-some_is : (n : ℕ) → 0 < n → numeral n ≡ map (λ d. 48 + d) (digits_of 10 n)
-some_is zero some = absurd (omega arith)
-some_is (suc n) some = digits_are n
+-- a number above 0 has the digits of its parts
+pub above_none : (n : ℕ) → 0 < n → numeral n ≡ map (λ d. 48 + d) (digits_of 10 n)
+above_none zero some = absurd (omega arith)
+above_none (suc n) some = digits_are n
 
 one_digit : (n : ℕ) → n < 10 → (48 + n) ∷ [] ≡ numeral n
 one_digit zero small = refl
@@ -24,10 +25,10 @@ one_digit (suc n) small =
 
 last_digit : (n : ℕ) (front : List ℕ) → 10 ≤ n → front ≡ numeral (n / 10) → front ++ ((48 + n % 10) ∷ []) ≡ numeral n
 last_digit n front large is =
-    ap (λ x. x ++ ((48 + n % 10) ∷ [])) (is ∙ some_is (n / 10) (omega arith))
+    ap (λ x. x ++ ((48 + n % 10) ∷ [])) (is ∙ above_none (n / 10) (omega arith))
     ∙ sym (map_push (λ d. 48 + d) (digits_of 10 (n / 10)) (n % 10))
     ∙ ap (map (λ d. 48 + d)) (sym (digits_of_step 10 n (omega arith) (omega arith)))
-    ∙ sym (some_is n (omega arith))
+    ∙ sym (above_none n (omega arith))
 
 -- what is printed has at most 64 digits
 pub decimal_is : (n : ℕ) → n < 10 ^ 64 → decimal n ≡ numeral n

@@ -62,7 +62,7 @@ goes_on p (DecideAt time decider mode) x = refl
 goes_on p (TickAt time noise states) x = refl
 
 -- each entry is told
-abbrev AreTold : Tables → List Logged → Type 0
+abbrev pub AreTold : Tables → List Logged → Type 0
 AreTold p es = (i : ℕ) (e : Logged) → At es i e → IsTold p e
 
 module _ (p : Tables) where

@@ -1,7 +1,8 @@
 //! The text of a history.
 //!
 //! [`trace_text`] prints a history line by line, and [`board_text`] that of a board. The text tells the history: no other history of the same program has it.
-//! [`put_start`], [`put_line`] and [`put_last_line`] put single lines.
+//! [`put_start`], [`put_line`] and [`put_last_line`] put single lines, and [`ticks_in`] and [`refused_in`] say what an entry adds to the
+//! last one.
 #![tactic(auto)]
 
 mod draft;
@@ -18,6 +19,6 @@ mod text;
 pub use facts::traces_are_as_stated;
 pub use flown::board_text;
 pub use laws::{flown_histories_are_told, text_tells_history};
-pub use line::put_line;
+pub use line::{put_line, refused_in, ticks_in, writes_of};
 pub use start::put_start;
 pub use text::{put_last_line, trace_text};

@@ -38,8 +38,8 @@ fn firing_word(enabled: bool) -> &'static str
     if enabled { " fire " } else { " idle " }
 }
 
-// The scalars that a node writes, in order.
-fn writes_of(p: &Typed, node: u32) -> &[u32]
+/// The scalars that a node writes, in order.
+pub fn writes_of(p: &Typed, node: u32) -> &[u32]
     requires { node < length p.now.nodes }
     ensures value { result.now ≡ writes_of p.now node }
     ensures few { length result.now ≤ 8 }
