@@ -1,6 +1,5 @@
 -- What each way through a turn makes of a shift.
 use Rattle.std.proofs.Common.{◌≡◌, inl, inr, ℕ, ℤ, true, false, List, [], ◌∷◌, ◌++◌, length, take, Option, None, Some, refl, sym, ap, ◌∙◌, subst, arith}
-use Rattle.std.specs.Prelude.{is_some}
 use Rattle.std.proofs.lemmas.List.{append_assoc, length-append}
 use Rattle.std.proofs.lemmas.Option.{same_Some}
 use Rattle.sot_code.specs.Recorded.{in_slots}
@@ -51,10 +50,6 @@ seen_program ground known n v b p due is same program = (record { board = b; due
 
 pub not_yet : {P : Type 0} → false ≡ true → P
 not_yet both = absurd cc
-
-pub no_guest : {C : Type 0} (guest : Option C) → is_some guest ≡ false → guest ≡ None
-no_guest None none = refl
-no_guest (Some x) none = absurd cc
 
 -- each guest tells what it told
 same_guests : {C : Type 0} (told : C → Option (List Asking)) (p : Tables) (j : ℕ) (f : Plan) (n : ℕ) (old new : List Logged) (guest : Option C) → IsQuiet n old new → EachGuest (AnswersOn p j f n old new) told guest guest

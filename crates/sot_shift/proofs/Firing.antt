@@ -26,7 +26,8 @@ use Rattle.sot_shift.specs.Askings.{asking}
 use Rattle.sot_shift.specs.Answers.{FitsFiring}
 use Rattle.sot_shift.specs.Holds.{HasNode, IsDueView, IsSeen, Appends, HasFired}
 
-nil_of : {A : Type 0} (xs : List A) → length xs ≡ 0 → xs ≡ []
+-- a list without elements
+pub nil_of : {A : Type 0} (xs : List A) → length xs ≡ 0 → xs ≡ []
 nil_of [] e = refl
 nil_of (x ∷ xs) e = absurd (omega arith)
 

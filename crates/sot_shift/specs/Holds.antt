@@ -1,10 +1,6 @@
 -- What the functions of a turn tell each other.
-use Rattle.std.specs.Prelude.{ℕ, ℤ, ◌<◌, ◌≡◌, Bool, true, List, [], ◌∷◌, ◌++◌, Option, None, Some, length}
-use Rattle.sot_lists.specs.Places.{At}
-use Rattle.sot_lang.specs.declared.act.Act.{Act}
-use Rattle.sot_lang.specs.declared.tables.NodeInfo.{NodeInfo}
+use Rattle.std.specs.Prelude.{ℕ, ℤ, ◌<◌, ◌≡◌, Bool, true, List, [], ◌∷◌, ◌++◌, Option, Some, length}
 use Rattle.sot_lang.specs.Tables.{Tables}
-use Rattle.sot_lang.specs.TableRules.{IsCoded}
 use Rattle.sot_tube.specs.Admitted.{Admitted}
 use Rattle.sot_world.specs.Configurations.{is_left}
 use Rattle.sot_world.specs.HistoryEntry.{Logged, FireAt}
@@ -19,13 +15,6 @@ use Rattle.sot_shift.specs.declared.sight.Sight.TheVariants.{Ended, Idle, Stated
 -- the ground is known, and the node is one of its program
 abbrev pub HasNode : Option (Admitted × Plan) → ℕ → Type 0
 HasNode ground n = (a : Admitted) × (f : Plan) × (ground ≡ Some (a, f)) × (n < length a.program.nodes)
-
--- a node is there and has a body, or it is there and has none
-abbrev pub IsCodedNode : Tables → ℕ → Type 0
-IsCodedNode p n = (info : NodeInfo) × (acts : List Act) × At p.nodes n info × IsCoded info acts
-
-abbrev pub IsExternalNode : Tables → ℕ → Type 0
-IsExternalNode p n = (info : NodeInfo) × At p.nodes n info × (info.body ≡ None)
 
 -- a board as it stood when the view was taken, with the node left to fire
 pub record IsDueView (b : Standing) (n : ℕ) (v : View) : Type 0 where

@@ -11,7 +11,8 @@ ghost use Rattle.sot_board.specs.Versions.{drafts_of};
 ghost use Rattle.sot_board.specs.Standing.{Standing};
 ghost use Rattle.sot_board.specs.Views.{viewed_node};
 ghost use Rattle.sot_board.specs.Commits.{IsTakenFrom, IsRunOn};
-ghost use Rattle.sot_shift.specs.Holds.{HasNode, IsCodedNode, IsExternalNode, IsDueView, IsSeen, Appends, HasFired};
+ghost use Rattle.sot_board.specs.NodeSorts.{IsCodedNode, IsExternalNode};
+ghost use Rattle.sot_shift.specs.Holds.{HasNode, IsDueView, IsSeen, Appends, HasFired};
 
 use crate::take::{append, stop, take_in_step};
 use sot_board::{Board, Commit, Receipt, View};

@@ -18,4 +18,5 @@ pub use controller::Controller;
 pub use laws::{answers_stay, fits_stay, whole_histories_end};
 pub use promise::Works;
 pub use shift::Shift;
+pub use take::stop;
 pub use turns::{take_turn, work};

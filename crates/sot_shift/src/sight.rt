@@ -3,9 +3,10 @@
 ghost use Rattle.std.specs.Prelude.{◌≡◌, ◌<◌, true, false, length};
 ghost use Rattle.sot_world.specs.Configurations.{is_left};
 ghost use Rattle.sot_board.specs.Flown.{FlownBy};
-ghost use Rattle.sot_shift.specs.Holds.{IsCodedNode, IsExternalNode, IsDueView, MatchSight};
+ghost use Rattle.sot_board.specs.NodeSorts.{IsCodedNode, IsExternalNode};
+ghost use Rattle.sot_shift.specs.Holds.{IsDueView, MatchSight};
 
-use sot_board::{Board, View};
+use sot_board::{Board, View, is_coded};
 use sot_lang::Typed;
 
 /// The flight is at its end; the node is not due; it is due and its draft is stated; its code is to run on this view; or its guest
@@ -17,15 +18,6 @@ pub enum Sight<'a> {
     Stated,
     Runs(&'a Typed, View),
     Asks(View),
-}
-
-// Whether a node is coded, and else it is an external one.
-fn is_coded(p: &Typed, node: u32) -> bool
-    requires { node < length p.now.nodes }
-    ensures coded { result ≡ true → IsCodedNode p.now node }
-    ensures external { result ≡ false → IsExternalNode p.now node }
-{
-    p.nodes[node as usize].body.is_some()
 }
 
 /// What there is to do for a node, which a guest flies or not.

@@ -13,7 +13,7 @@ use std::sync::Wait;
 use std::thread;
 
 /// Waits without end.
-pub(crate) fn stop<R: Wait>(rt: &R)
+pub fn stop<R: Wait>(rt: &R)
     ensures { ⊥ }
 {
     for _ in rt.forever() {

@@ -1,5 +1,5 @@
 use Rattle.std.proofs.Common.{sym, subst}
-use Rattle.sot_shift.specs.Holds.{IsCodedNode}
+use Rattle.sot_board.specs.NodeSorts.{IsCodedNode}
 use Rattle.sot_shift.proofs.hold.commit_run.Goals as goal
 
 pub fire-requires-clause-coded : goal.fire-requires-clause-coded

@@ -4,7 +4,8 @@ use Rattle.sot_turn.specs.Passes.{pass_ground, pass_seen, held_value}
 use Rattle.sot_board.specs.Versions.{drafts_of}
 use Rattle.sot_board.specs.Views.{viewed_node}
 use Rattle.sot_board.specs.Commits.{IsRunOn}
-use Rattle.sot_shift.specs.Holds.{HasNode, IsCodedNode, HasFired}
+use Rattle.sot_board.specs.NodeSorts.{IsCodedNode}
+use Rattle.sot_shift.specs.Holds.{HasNode, HasFired}
 use Rattle.sot_shift.proofs.Firing.{has_fired, noted, node_there, same_program, taken_from}
 use Rattle.sot_shift.proofs.hold.fire_code.Goals as goal
 

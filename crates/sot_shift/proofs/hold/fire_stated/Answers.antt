@@ -2,7 +2,8 @@ use Rattle.std.proofs.Common.{◌∙◌, ◌∷◌, ◌++◌, [], refl, sym, ap,
 use Rattle.std.proofs.lemmas.List.{append-nil}
 use Rattle.sot_turn.specs.Passes.{pass_seen}
 use Rattle.sot_board.specs.Versions.{drafts_of}
-use Rattle.sot_shift.specs.Holds.{IsExternalNode, HasFired}
+use Rattle.sot_board.specs.NodeSorts.{IsExternalNode}
+use Rattle.sot_shift.specs.Holds.{HasFired}
 use Rattle.sot_shift.proofs.Firing.{has_fired, noted}
 use Rattle.sot_shift.proofs.hold.fire_stated.Goals as goal
 

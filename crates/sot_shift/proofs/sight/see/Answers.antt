@@ -1,5 +1,5 @@
 use Rattle.std.proofs.Common.{◌∙◌, sym, subst}
-use Rattle.sot_shift.specs.Holds.{IsCodedNode, IsExternalNode}
+use Rattle.sot_board.specs.NodeSorts.{IsCodedNode, IsExternalNode}
 use Rattle.sot_shift.proofs.sight.see.Goals as goal
 
 pub returns-then-is_coded : goal.returns-then-is_coded

@@ -9,9 +9,11 @@ use Rattle.sot_turn.specs.Passes.{pass_ground, pass_seen}
 use Rattle.sot_board.specs.Versions.{drafts_of}
 use Rattle.sot_board.specs.Views.{viewed_node}
 use Rattle.sot_shift.specs.Shifts.{HasItsGuest}
-use Rattle.sot_shift.specs.Holds.{HasNode, IsCodedNode, IsDueView}
+use Rattle.sot_board.specs.NodeSorts.{IsCodedNode}
+use Rattle.sot_shift.specs.Holds.{HasNode, IsDueView}
 use Rattle.sot_shift.specs.Turned.{IsQuiet}
-use Rattle.sot_shift.proofs.Arms.{quiet, flown_here, seen_here, seen_program, not_yet, no_guest, quiet_turn, unasked_turn, asked_turn}
+use Rattle.sot_board.proofs.Options.{none_there}
+use Rattle.sot_shift.proofs.Arms.{quiet, flown_here, seen_here, seen_program, not_yet, quiet_turn, unasked_turn, asked_turn}
 use Rattle.sot_shift.proofs.turns.take_turn.Goals as goal
 
 pub give-requires-clause-goes_on : goal.give-requires-clause-goes_on
@@ -91,7 +93,7 @@ returns-in-Stated g c = λ began was.
     let old = c.args.shift in
     let held = c.take_in_step-held.ensures in
     let fired = c.fire_stated-pass.ensures in
-    unasked_turn g.C.Controller.told began old _ was refl (fired.lock ∙ held.lock) (fired.ground ∙ held.ground) fired.drafts (no_guest old.guest (sym c.is_some.ensures ∙ c.in-Stated.ensures.0)) refl refl
+    unasked_turn g.C.Controller.told began old _ was refl (fired.lock ∙ held.lock) (fired.ground ∙ held.ground) fired.drafts (none_there old.guest (sym c.is_some.ensures ∙ c.in-Stated.ensures.0)) refl refl
 
 pub returns-in-Runs : goal.returns-in-Runs
 returns-in-Runs g c = λ began was.
@@ -101,7 +103,7 @@ returns-in-Runs g c = λ began was.
     let gave = c.give-pass.ensures in
     let fired = c.fire_code-pass.ensures in
     let drafts = fired.drafts ∙ ap (λ n. drafts_of n (pass_seen c.fire_code-pass.result)) runs.3.view.node in
-    unasked_turn g.C.Controller.told began old _ was refl (fired.lock ∙ gave.lock ∙ held.lock) (fired.ground ∙ gave.ground ∙ held.ground) drafts (no_guest old.guest (sym c.is_some.ensures ∙ runs.0)) refl refl
+    unasked_turn g.C.Controller.told began old _ was refl (fired.lock ∙ gave.lock ∙ held.lock) (fired.ground ∙ gave.ground ∙ held.ground) drafts (none_there old.guest (sym c.is_some.ensures ∙ runs.0)) refl refl
 
 pub returns-in-Some : goal.returns-in-Some
 returns-in-Some g c = λ began was.
