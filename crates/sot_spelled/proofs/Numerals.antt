@@ -2,8 +2,8 @@
 use Rattle.std.proofs.Common.{◌≡◌, ℕ, zero, suc, ℤ, pos, negsuc, ◌+◌, ◌-◌, ◌*◌, ◌/◌, ◌%◌, ◌<◌, ◌==◌, not, Bool, true, false, List, [], ◌∷◌, ◌++◌, Some, None, cond, length, get_or, take, drop, map, inl, inr, refl, sym, ap, ap₂, subst, ◌∙◌, arith, append_assoc, take-append-drop}
 use Rattle.std.specs.List.{prefix_len}
 use Rattle.std.specs.Char.{is_ascii_digit}
-use Rattle.std.specs.Int.Digits.{digits_of, AllBelowBase}
-use Rattle.std.proofs.lemmas.Int.Digits.{digits_of_step, first_digits_of, all_below_base_digits_of}
+use Rattle.std.specs.Int.Digits.{digits_of}
+use Rattle.std.proofs.lemmas.Int.Digits.{digits_of_step, first_digits_of}
 use Rattle.std.proofs.lemmas.List.{map_push, append-nil}
 use Rattle.std.proofs.Math.Seq.{take-append_seam, drop-append_seam}
 use Rattle.std.proofs.lemmas.Bool.{cases_Bool, cond-true, cond-false}
@@ -12,7 +12,8 @@ use Rattle.std.proofs.lemmas.Bool.Decides.{nat_tests}
 use Rattle.sot_text.specs.Lexeme.{value, with_digits}
 use Rattle.sot_trace.specs.Numbers.{numeral, signed_numeral}
 use Rattle.sot_trace.proofs.Splits.{AllIn, Stops}
-use Rattle.sot_trace.proofs.NumberTexts.{digits_are, numeral_same, numeral_some}
+use Rattle.sot_trace.proofs.NumberTexts.{digits_are, numeral_digits, numeral_same, numeral_some}
+use Rattle.sot_trace.proofs.Numerals.{above_none}
 use Rattle.sot_spelled.specs.Pieces.{◌>>=◌, is_plain, digits_at, numeral_at, minus, positive_at, negative_at, number_at}
 use Rattle.sot_spelled.proofs.Pieces.{both, then_next, parts_same}
 
@@ -30,10 +31,6 @@ pub front_is : (q : ℕ → Bool) (front rest : List ℕ) → AllIn q front → 
 front_is q [] [] all stops = refl
 front_is q [] (b ∷ bs) all stops = cond-false (q b) _ _ stops
 front_is q (b ∷ bs) rest all stops = cond-true (q b) _ _ all.0 ∙ ap (λ n. 1 + n) (front_is q bs rest all.1 stops) ∙ omega arith
-
-above_none : (n : ℕ) → 0 < n → numeral n ≡ map (λ d. 48 + d) (digits_of 10 n)
-above_none zero some = absurd (omega arith)
-above_none (suc n) some = digits_are n
 
 small_digit : (n : ℕ) → n < 10 → numeral n ≡ (48 + n) ∷ []
 small_digit zero low = refl
@@ -110,17 +107,6 @@ digits_plain (d ∷ e ∷ ds) some = above d some
 numeral_plain : (n : ℕ) → is_plain (numeral n) ≡ true
 numeral_plain zero = refl
 numeral_plain (suc n) = ap is_plain (digits_are n) ∙ digits_plain (digits_of 10 (suc n)) (first_digits_of 10 (suc n) (omega arith) (omega arith))
-
-digit_in : (d : ℕ) → d < 10 → is_ascii_digit (48 + d) ≡ true
-digit_in d low = grind (arith, nat_tests)
-
-digits_in : (ds : List ℕ) → AllBelowBase 10 ds → AllIn is_ascii_digit (map (λ d. 48 + d) ds)
-digits_in [] h = tt
-digits_in (d ∷ ds) h = (digit_in d h.0, digits_in ds h.1)
-
-pub numeral_digits : (n : ℕ) → AllIn is_ascii_digit (numeral n)
-numeral_digits zero = (refl, tt)
-numeral_digits (suc n) = subst (AllIn is_ascii_digit) (sym (digits_are n)) (digits_in (digits_of 10 (suc n)) (all_below_base_digits_of 10 (suc n) (omega arith)))
 
 digits_read : (ds rest : List ℕ) → is_plain ds ≡ true → AllIn is_ascii_digit ds → Stops is_ascii_digit rest → digits_at (ds ++ rest) ≡ Some (ds, rest)
 digits_read ds rest plain all stops =

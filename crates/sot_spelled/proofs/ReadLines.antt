@@ -26,28 +26,25 @@ use Rattle.sot_trace.specs.Moves.{moves_text}
 use Rattle.sot_trace.specs.Lines.{writes_of, firing_word, mode_word, line_of}
 use Rattle.sot_trace.specs.Words.{AreWords}
 use Rattle.sot_trace.proofs.Splits.{AllIn, Stops}
-use Rattle.sot_trace.proofs.NumberTexts.{numeral_some}
+use Rattle.sot_trace.proofs.NumberTexts.{numeral_digits, numeral_some}
 use Rattle.sot_trace.proofs.NameTexts.{topic_named, node_named, module_named, topic_in, node_in, module_in, topic_same, node_same, module_same}
+use Rattle.sot_trace.proofs.LineTexts.{there_from, apart_from, mode_stops}
 use Rattle.sot_spelled.specs.Pieces.{◌>>=◌, behind, at_end, numeral_at, row_at}
 use Rattle.sot_spelled.specs.Spelled.{Spelled, InputLine, FireLine, DecideLine, TickLine, EndLine, marks_text, spelled_text, Fits, IsSpelled}
 use Rattle.sot_spelled.specs.Laws.{marks_of, spelled_of, SpelledOnce, EntriesAreSpelled}
 use Rattle.sot_spelled.specs.Readers.{word_at, place_of, value_at, input_at, slots_at, fire_at, mode_of, decide_at, moves_at, tick_at, refused_at, events_at, counts_at, event_at, spelled_at}
 use Rattle.sot_spelled.proofs.Pieces.{then_next}
-use Rattle.sot_spelled.proofs.Numerals.{front_is, read_numeral, numeral_digits}
+use Rattle.sot_spelled.proofs.Numerals.{front_is, read_numeral}
 use Rattle.sot_spelled.proofs.Rows.{read_row}
 use Rattle.sot_spelled.proofs.Places.{found}
 use Rattle.sot_spelled.proofs.ReadMoves.{read_moves}
-use Rattle.sot_spelled.proofs.Slots.{there_from, apart_from, read_slots, marks_stop}
+use Rattle.sot_spelled.proofs.Slots.{read_slots, marks_stop}
 
 -- a name before what is no part of a word
 word_is : (name rest : List ℕ) → AllIn is_in_word name → Stops is_in_word rest → ((word_at (name ++ rest)).0 ≡ name) × ((word_at (name ++ rest)).1 ≡ rest)
 word_is name rest all stops =
     let len = front_is is_in_word name rest all stops in
     (ap (λ k. take k (name ++ rest)) len ∙ take-append_seam name rest, ap (λ k. drop k (name ++ rest)) len ∙ drop-append_seam name rest)
-
-mode_stops : (a : Mode) → Stops is_in_word (mode_word a)
-mode_stops Ac = refl
-mode_stops Sc = refl
 
 mode_read : (a : Mode) → mode_of (mode_word a) ≡ Some a
 mode_read Ac = refl

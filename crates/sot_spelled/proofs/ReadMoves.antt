@@ -10,6 +10,7 @@ use Rattle.sot_board.specs.Counts.{state_count}
 use Rattle.sot_trace.specs.Numbers.{numbers}
 use Rattle.sot_trace.specs.Moves.{move_text, moves_text}
 use Rattle.sot_trace.proofs.Splits.{Stops}
+use Rattle.sot_trace.proofs.MoveTexts.{move_opens}
 use Rattle.sot_spelled.specs.Pieces.{◌>>=◌, behind, row_at}
 use Rattle.sot_spelled.specs.Readers.{states_at, noise_at, move_front, move_at, moves_at}
 use Rattle.sot_spelled.proofs.Pieces.{both, then_next, in_front, behind_them}
@@ -18,11 +19,6 @@ use Rattle.sot_spelled.proofs.Rows.{row_from, read_row}
 -- two answers of three parts that are the same
 triple_same : {A B C : Type 0} (x y : A) (u v : B) (s t : C) → ◌≡◌ {A = Option (A × B × C)} (Some (x, u, s)) (Some (y, v, t)) → (x ≡ y) × (u ≡ v) × (s ≡ t)
 triple_same {A} {B} {C} x y u v s t e = (ap (λ (q : A × B × C). q.0) (same_Some _ _ e), ap (λ (q : A × B × C). q.1) (same_Some _ _ e), ap (λ (q : A × B × C). q.2) (same_Some _ _ e))
-
-move_opens : (k : PlantInfo) (a b : List ℤ) (x : List ℕ) → move_text k a b ++ x ≡ 32 ∷ (k.name ++ (40 ∷ (numbers a ++ (41 ∷ 61 ∷ (numbers b ++ x)))))
-move_opens k a b x =
-    ap (λ y. 32 ∷ y) (append_assoc k.name (codes "(" ++ (numbers a ++ (codes ")=" ++ numbers b))) x
-    ∙ ap (λ y. k.name ++ (40 ∷ y)) (append_assoc (numbers a) (codes ")=" ++ numbers b) x))
 
 move_from : (k : PlantInfo) (text : List ℕ) (a b : List ℤ) (rest : List ℕ) → move_at k text ≡ Some (a, b, rest)
     → (length a ≡ length k.noise.items) × (length b ≡ length k.states.items) × (text ≡ move_text k a b ++ rest)

@@ -14,7 +14,7 @@ use Rattle.sot_trace.specs.Words.{AreWords}
 use Rattle.sot_trace.specs.Drafts.{mark}
 use Rattle.sot_trace.proofs.Splits.{Stops, cut_same}
 use Rattle.sot_trace.proofs.NameTexts.{in_name, scalar_in, scalar_same}
-use Rattle.sot_trace.proofs.DraftTexts.{AreThere, AreApart}
+use Rattle.sot_trace.proofs.DraftTexts.{AreThere, AreApart, mark_stops}
 use Rattle.sot_spelled.specs.Pieces.{◌>>=◌, behind, number_at}
 use Rattle.sot_spelled.specs.Spelled.{marked_text, marks_text}
 use Rattle.sot_spelled.specs.Readers.{mark_at, marked, slot_front, slot_number, slots_at}
@@ -22,17 +22,6 @@ use Rattle.sot_spelled.proofs.Pieces.{both, then_next, parts_same, in_front, beh
 use Rattle.sot_spelled.proofs.Numerals.{number_from, read_number}
 
 -- the scalars that a node writes are there, and no two are one
-pub there_from : (p : Tables) (ks : List ℕ) → ((k : ℕ) → Has ks k → (info : ScalarInfo) × At p.scalars k info) → AreThere p ks
-there_from p [] h = tt
-there_from p (k ∷ ks) h = (h k (0, refl), there_from p ks (λ j has. h j (suc has.0, has.1)))
-
-pub apart_from : (ks : List ℕ) → ((i j k : ℕ) → At ks i k → At ks j k → i ≡ j) → AreApart ks
-apart_from [] once = tt
-apart_from (k ∷ ks) once = (
-  λ has. (let same : 0 ≡ suc has.0 = once 0 (suc has.0) k refl has.1 in omega arith),
-  apart_from ks (λ i j n at_i at_j. (let same : suc i ≡ suc j = once (suc i) (suc j) n at_i at_j in omega (arith, same))),
-)
-
 same_code : (b c : ℕ) → (b == c) ≡ true → b ≡ c
 same_code b c e = grind (arith, nat_tests)
 
@@ -57,10 +46,6 @@ mark_from (b ∷ bs) m rest e =
 mark_read : (m : Bool) (rest : List ℕ) → mark_at (mark m ++ rest) ≡ Some (m, rest)
 mark_read true rest = refl
 mark_read false rest = refl
-
-mark_stops : (b : Bool) (x : List ℕ) → Stops in_name (mark b ++ x)
-mark_stops true x = refl
-mark_stops false x = refl
 
 module _ (p : Tables) where
   front_from : (k : ℕ) (text : List ℕ) (m : Bool) (rest : List ℕ) → slot_front p k text ≡ Some (m, rest) → text ≡ 32 ∷ (scalar_name p k ++ (mark m ++ rest))

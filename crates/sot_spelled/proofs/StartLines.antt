@@ -9,6 +9,7 @@ use Rattle.std.proofs.lemmas.List.{append-nil}
 use Rattle.sot_lang.specs.declared.tables.PlantInfo.{PlantInfo}
 use Rattle.sot_lang.specs.Tables.{Tables}
 use Rattle.sot_lists.specs.Places.{At}
+use Rattle.sot_board.proofs.Options.{some_there}
 use Rattle.sot_trace.specs.Numbers.{numbers}
 use Rattle.sot_spelled.specs.Spelled.{IsStartLine}
 use Rattle.sot_spelled.specs.Pieces.{◌>>=◌, behind, at_end, row_at}
@@ -50,15 +51,11 @@ module _ {A : Type 0} (test : A → Bool) where
         | inr no' ↦ ap (λ b. b || list_any test xs) no' ∙ at_any xs k x at is
       ]
 
-some_is : {A : Type 0} (o : Option A) → is_some o ≡ true → (x : A) × (o ≡ Some x)
-some_is None e = absurd cc
-some_is (Some x) e = (x, refl)
-
 starts_from : (p : Tables) (line : List ℕ) (o : Option (List ℕ)) → behind (codes "start ") line ≡ o → option_map_or (λ text. list_any (λ plant. is_some (start_at plant text)) p.plants) o false ≡ true → IsStartLine p line
 starts_from p line None is e = absurd cc
 starts_from p line (Some text) is e =
     let one = any_at (λ plant. is_some (start_at plant text)) p.plants e in
-    let point = some_is (start_at one.1 text) one.3 in
+    let point = some_there (start_at one.1 text) one.3 in
     let from = start_from one.1 text point.0 point.1 in
     (one.0, one.1, point.0, one.2, from.0, in_front (codes "start ") line text is ∙ ap (λ x. codes "start " ++ x) from.1)
 

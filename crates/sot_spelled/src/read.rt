@@ -1,9 +1,7 @@
 //! A line, read as what it spells.
 
-ghost use Rattle.std.specs.Prelude.{◌≡◌, ℕ, ◌<◌, ◌≤◌, ℤ, pos, [], List, Option, Some, None, if◌then◌else◌, is_some, length, IfOk};
-ghost use Rattle.sot_lang.specs.Tables.{Tables};
+ghost use Rattle.std.specs.Prelude.{◌≡◌, ℕ, ◌<◌, ℤ, pos, [], List, Option, Some, None, if◌then◌else◌, is_some, IfOk};
 ghost use Rattle.sot_lang.specs.TableRules.{MeetsTableRules};
-ghost use Rattle.sot_lists.specs.Places.{At};
 ghost use Rattle.sot_trace.specs.Lines.{writes_of};
 ghost use Rattle.sot_trace.specs.Words.{AreWords};
 ghost use Rattle.sot_spelled.specs.Shown.{AnswersLine};
@@ -17,6 +15,7 @@ use crate::piece::{behind, numeral_at};
 use crate::row::row_at;
 use crate::slot::{Slots, slots_at};
 use sot_lang::{Draft, TopicInfo, Typed};
+use sot_trace::writes_of;
 use std::alloc::AllocError;
 
 // A value for a topic, if it is an environment topic.
@@ -63,16 +62,6 @@ fn read_input(
         return Ok(None);
     };
     read_value(time, topic, &p.topics[topic as usize], word.rest, numbers)
-}
-
-// The scalars that a node writes, in order.
-fn writes_of(p: &Typed, node: u32) -> &[u32]
-    requires { node < length p.now.nodes }
-    ensures value { result.now ≡ writes_of p.now node }
-    ensures few { length result.now ≤ 8 }
-    ensures written { (i k : ℕ) → At result.now i k → k < length p.now.scalars }
-{
-    &p.nodes[node as usize].writes
 }
 
 fn drafted(slots: &Slots<'_>) -> Option<Draft>
