@@ -1,5 +1,5 @@
 -- Histories that go on, and what they tell of the nodes.
-use Rattle.std.proofs.Common.{◌≡◌, ℕ, false, ℤ, Option, List, [], ◌∷◌, ◌++◌, length, refl, sym, ap, ◌∙◌, subst, append_assoc, append-nil, length-append, arith}
+use Rattle.std.proofs.Common.{◌≡◌, ℕ, false, ℤ, Option, List, [], ◌∷◌, ◌++◌, refl, sym, ap, ◌∙◌, subst, append_assoc, append-nil}
 use Rattle.std.specs.Prelude.{◌==◌, if◌then◌else◌}
 use Rattle.std.proofs.lemmas.Bool.{eq-eqb}
 use Rattle.sot_turn.specs.Prefixes.{IsPrefix}
@@ -19,16 +19,6 @@ module _ {A : Type 0} where
 
   pub goes_further : (xs ys zs : List A) → IsPrefix xs ys → IsPrefix ys zs → IsPrefix xs zs
   goes_further xs ys zs p q = (p.0 ++ q.0, q.1 ∙ (ap (λ l. l ++ q.0) p.1 ∙ append_assoc xs p.0 q.0))
-
-  none_left : (xs ys : List A) → length (xs ++ ys) ≡ length xs → xs ++ ys ≡ xs
-  none_left xs [] e = append-nil xs
-  none_left xs (y ∷ ys) e = absurd (omega (arith, length-append xs (y ∷ ys), e))
-
--- a history that goes on with no firing more of a node has the same drafts of it
-pub same_drafts : (n : ℕ) (xs ys : List Logged) → IsPrefix xs ys → length (drafts_of n ys) ≡ length (drafts_of n xs) → drafts_of n ys ≡ drafts_of n xs
-same_drafts n xs ys p e =
-    let cut : drafts_of n ys ≡ drafts_of n xs ++ drafts_of n p.0 = ap (drafts_of n) p.1 ∙ drafts_append n xs p.0 in
-    cut ∙ none_left (drafts_of n xs) (drafts_of n p.0) (ap length (sym cut) ∙ e)
 
 pub none_added_again : (xs ys zs : List Logged) → AddsNoFiring xs ys → AddsNoFiring ys zs → AddsNoFiring xs zs
 none_added_again xs ys zs a b = record { goes_on = goes_further xs ys zs a.goes_on b.goes_on; drafts = λ n. b.drafts n ∙ a.drafts n }

@@ -13,13 +13,9 @@ use Rattle.sot_workers.specs.declared.lists.NodeList.{NodeList}
 use Rattle.sot_workers.specs.Flying.{IsOwn}
 use Rattle.sot_workers.specs.Instants.{IsSameInstant, AddsNoFiring, AddsFiring}
 use Rattle.sot_workers.specs.Lists.{HasNodes, AreOwnLists, AreEmpty, KeepsLists}
-use Rattle.sot_workers.proofs.Histories.{same_drafts, one_more, no_more}
-
-pub at_end_cases : {A : Type 0} (xs : List A) (x : A) (n : ℕ) (y : A) → At (xs ++ x ∷ []) n y → At xs n y ⊎ ((n ≡ length xs) × (y ≡ x))
-at_end_cases [] x zero y a = inr (refl, sym (same_Some x y a))
-at_end_cases [] x (suc n) y a = absurd (none-some y a)
-at_end_cases (z ∷ zs) x zero y a = inl a
-at_end_cases (z ∷ zs) x (suc n) y a = ⊎_elim (λ b. inl b) (λ e. inr (ap suc e.0, e.1)) (at_end_cases zs x n y a)
+use Rattle.sot_shift.proofs.Firing.{in_step}
+use Rattle.sot_shift.proofs.Turning.{last_or_before}
+use Rattle.sot_workers.proofs.Histories.{one_more, no_more}
 
 pub at_set_cases : {A : Type 0} (xs : List A) (k i : ℕ) (v y : A) → At (slice_set xs k v) i y → ((i ≡ k) × (y ≡ v)) ⊎ ((i ≢ k) × At xs i y)
 at_set_cases [] k i v y a = absurd (none-some y a)
@@ -33,7 +29,7 @@ at_set_cases (x ∷ xs) (suc k) (suc i) v y a = ⊎_elim (λ e. inl (ap suc e.0,
 pub nodes_more : (k : ℕ) (lists : List NodeList) (list : NodeList) → HasNodes k lists → list.node ≡ k → HasNodes (k + 1) (lists ++ list ∷ [])
 nodes_more k lists list has is = record {
   each = omega (arith, length-append lists (list ∷ []), has.each);
-  nodes = λ n l at. ⊎_elim (λ b. has.nodes n l b) (λ e. ap (λ x. x.node) e.1 ∙ (is ∙ (sym has.each ∙ sym e.0))) (at_end_cases lists list n l at);
+  nodes = λ n l at. ⊎_elim (λ b. has.nodes n l b) (λ e. ap (λ x. x.node) e.1 ∙ (is ∙ (sym has.each ∙ sym e.0))) (last_or_before lists list n l at);
 }
 
 pub nodes_set : (count : ℕ) (lists : List NodeList) (k : ℕ) (old new : NodeList) → HasNodes count lists → At lists k old → new.node ≡ old.node → HasNodes count (slice_set lists k new)
@@ -47,7 +43,7 @@ nodes_set count lists k old new has there same = record {
 pub empty_more : (k : ℕ) (lists : List NodeList) (list : NodeList) → AreEmpty k lists → list.node ≡ k → list.drafts.items ≡ [] → AreEmpty (k + 1) (lists ++ list ∷ [])
 empty_more k lists list all is none = record {
   nodes = nodes_more k lists list all.nodes is;
-  drafts = λ n l at. ⊎_elim (λ b. all.drafts n l b) (λ e. ap (λ x. x.drafts.items) e.1 ∙ none) (at_end_cases lists list n l at);
+  drafts = λ n l at. ⊎_elim (λ b. all.drafts n l b) (λ e. ap (λ x. x.drafts.items) e.1 ∙ none) (last_or_before lists list n l at);
 }
 
 -- ---- the caller's own lists
@@ -73,7 +69,7 @@ own_compared count f lists seen es own goes same = record {
   nodes = own.nodes;
   drafts = λ n list at mine.
       let was = own.drafts n list at mine in
-      was ∙ sym (same_drafts n seen es goes (same n list at mine ∙ ap length was));
+      was ∙ sym (in_step n seen es goes (same n list at mine ∙ ap length was));
 }
 
 -- ---- beside a board

@@ -1,5 +1,5 @@
 -- Guests that leave with their shifts, and come back.
-use Rattle.std.proofs.Common.{◌≡◌, ℕ, ⊎_elim, true, List, [], ◌∷◌, ◌++◌, length, Option, None, Some, refl, sym, ap, ◌∙◌, subst, append-nil, arith}
+use Rattle.std.proofs.Common.{◌≡◌, ℕ, ⊎_elim, true, List, [], ◌++◌, Option, None, Some, refl, sym, ap, ◌∙◌, subst, append-nil}
 use Rattle.std.specs.Prelude.{slice_set}
 use Rattle.std.proofs.lemmas.Option.{same_Some, none-some}
 use Rattle.atomic_table.specs.Seated.{TableId}
@@ -110,8 +110,3 @@ seen_later a f whole seen later p w = (w.0, goes_further whole seen later w.1 p)
 -- what a ground is
 pub ground_same : (ground : Option (Admitted × Plan)) (a b : Admitted) (f g : Plan) → ground ≡ Some (a, f) → ground ≡ Some (b, g) → (a ≡ b) × (f ≡ g)
 ground_same ground a b f g e h = (let s : ◌≡◌ {A = Admitted × Plan} (a, f) (b, g) = same_Some _ _ (sym e ∙ h) in (ap (λ (x : Admitted × Plan). x.0) s, ap (λ (x : Admitted × Plan). x.1) s))
-
--- a list without elements
-pub none_here : {A : Type 0} (xs : List A) → length xs ≡ 0 → xs ≡ []
-none_here [] e = refl
-none_here (x ∷ xs) e = absurd (omega arith)

@@ -1,10 +1,5 @@
 -- The work of one instant.
-use Rattle.std.specs.Prelude.{ℕ, ℤ, ◌<◌, ◌≡◌, ◌++◌, ◌∷◌, [], false, Option, None, List, Bool, slice_index_or}
-use Rattle.sot_lists.specs.Places.{At}
-use Rattle.sot_lang.specs.declared.act.Act.{Act}
-use Rattle.sot_lang.specs.declared.tables.NodeInfo.{NodeInfo}
-use Rattle.sot_lang.specs.Tables.{Tables}
-use Rattle.sot_lang.specs.TableRules.{IsCoded}
+use Rattle.std.specs.Prelude.{ℕ, ℤ, ◌<◌, ◌≡◌, ◌++◌, ◌∷◌, [], false, Option, List, Bool, slice_index_or}
 use Rattle.sot_turn.specs.Prefixes.{IsPrefix}
 use Rattle.sot_world.specs.HistoryEntry.{Logged, FireAt}
 use Rattle.sot_board.specs.Standing.{Standing}
@@ -34,10 +29,3 @@ AddsFiring old n draft new = (time : ℕ) × (enabled : Bool) × (new ≡ old ++
 -- nothing is left among the first so many
 abbrev pub NoneLeft : List Bool → ℕ → Type 0
 NoneLeft left count = (i : ℕ) → i < count → slice_index_or left i false ≡ false
-
--- a node is there and has a body, or it is there and has none
-abbrev pub IsCodedNode : Tables → ℕ → Type 0
-IsCodedNode p n = (node : NodeInfo) × (acts : List Act) × At p.nodes n node × IsCoded node acts
-
-abbrev pub IsExternalNode : Tables → ℕ → Type 0
-IsExternalNode p n = (node : NodeInfo) × At p.nodes n node × (node.body ≡ None)

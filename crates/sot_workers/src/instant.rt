@@ -5,10 +5,9 @@ ghost use Rattle.sot_world.specs.Configurations.{is_left};
 ghost use Rattle.sot_board.specs.Flown.{NoInputDue};
 ghost use Rattle.sot_board.specs.Calls.{IsSettled};
 ghost use Rattle.sot_workers.specs.Flying.{HasNoGuests, IsOwn};
-ghost use Rattle.sot_workers.specs.Instants.{IsSameInstant, AddsNoFiring, AddsFiring, NoneLeft, IsCodedNode, IsExternalNode};
+ghost use Rattle.sot_workers.specs.Instants.{IsSameInstant, AddsNoFiring, AddsFiring, NoneLeft};
 
-use sot_board::{Board, Receipt};
-use sot_lang::Typed;
+use sot_board::{Board, Receipt, is_coded};
 
 /// The inputs that are due come.
 pub(crate) fn take_inputs(board: &mut Board<'_>)
@@ -35,15 +34,6 @@ pub(crate) fn decide_all(board: &mut Board<'_>)
             board.decide(module);
         }
     }
-}
-
-// Whether a node is coded, and else it is an external one.
-fn is_coded(p: &Typed, node: u32) -> bool
-    requires { node < length p.now.nodes }
-    ensures coded { result ≡ true → IsCodedNode p.now node }
-    ensures external { result ≡ false → IsExternalNode p.now node }
-{
-    p.nodes[node as usize].body.is_some()
 }
 
 /// A node that no guest flies fires: a coded one by its code, an external one with its stated draft.

@@ -16,7 +16,6 @@ mod place;
 mod room;
 mod seat;
 mod start;
-mod stop;
 mod watch;
 mod whole;
 

@@ -5,9 +5,9 @@ ghost use Rattle.sot_lists.specs.Places.{At};
 ghost use Rattle.sot_lang.specs.declared.tables.NodeInfo.{NodeInfo};
 ghost use Rattle.sot_workers.specs.Lists.{AreEmpty};
 
-use crate::stop::stop;
 use sot_calendar::firings;
 use sot_lang::{Draft, NodeInfo, Typed};
+use sot_shift::stop;
 use std::alloc::{AllocError, Global};
 use std::sync::Wait;
 

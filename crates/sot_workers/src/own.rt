@@ -11,9 +11,9 @@ ghost use Rattle.sot_workers.specs.Lists.{AreOwnLists, KeepsLists};
 
 use crate::instant::{decide_all, fire, take_inputs};
 use crate::lists::NodeList;
-use crate::stop::stop;
 use sot_board::Board;
 use sot_flight::Flight;
+use sot_shift::stop;
 use std::sync::Wait;
 
 // Whether no guest flies a node, so that the caller fires it.

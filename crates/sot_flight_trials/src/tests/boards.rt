@@ -2,13 +2,11 @@
 ghost use Rattle.std.specs.Prelude.{◌≡◌, ◌<◌, length, true, false};
 ghost use Rattle.sot_world.specs.Configurations.{is_left};
 ghost use Rattle.sot_workers.specs.Flying.{HasNoGuests};
-ghost use Rattle.sot_workers.specs.Instants.{IsCodedNode, IsExternalNode};
 
 use super::*;
-use sot_board::Board;
+use sot_board::{Board, is_coded};
 use sot_compose::check_all;
 use sot_flight::Flight;
-use sot_lang::Typed;
 use sot_trace::board_text;
 use sot_world::Mode;
 
@@ -26,15 +24,6 @@ fn decide(board: &mut Board<'_>, module: u32) -> bool
     } else {
         false
     }
-}
-
-// Whether a node is coded, and else it is an external one.
-pub(super) fn is_coded(p: &Typed, node: u32) -> bool
-    requires { node < length p.now.nodes }
-    ensures coded { result ≡ true → IsCodedNode p.now node }
-    ensures external { result ≡ false → IsExternalNode p.now node }
-{
-    p.nodes[node as usize].body.is_some()
 }
 
 // A node fires: a coded one by its code, an external one with its stated draft.

@@ -1,13 +1,13 @@
 //! What a node's code gave on a view is committed where the view is current, and on the view of now where it is not.
 ghost use Rattle.std.specs.Prelude.{◌≡◌, ◌<◌, true, length};
-ghost use Rattle.sot_workers.specs.Instants.{IsCodedNode, IsExternalNode};
+ghost use Rattle.sot_board.specs.NodeSorts.{IsCodedNode, IsExternalNode};
 ghost use Rattle.sot_workers.specs.Flying.{HasNoGuests};
 ghost use Rattle.sot_world.specs.Configurations.{is_left};
 ghost use Rattle.sot_board.specs.Calls.{InputDue};
 ghost use Rattle.sot_board.specs.Commits.{IsTakenFrom, IsRunOn};
 ghost use Rattle.sot_board.specs.Views.{IsView};
 
-use super::boards::{Deed, does_all, is_coded};
+use super::boards::{Deed, does_all};
 use super::*;
 use sot_board::{Board, Commit, View, code_runs_on_views, views_stay};
 use sot_code::{Fired, run_node};

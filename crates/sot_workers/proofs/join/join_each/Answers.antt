@@ -5,7 +5,8 @@ use Rattle.sot_workers.specs.Sent.{IsPlaced, IsDone}
 use Rattle.sot_workers.specs.Pairs.{EachFrom}
 use Rattle.sot_workers.proofs.Histories.{goes_here, goes_further}
 use Rattle.sot_workers.proofs.Coming.{AreComing, each_map, coming_begins, coming_next, coming_more, coming_ends}
-use Rattle.sot_workers.proofs.Placing.{IsDoneIn, seen_later, none_here}
+use Rattle.sot_shift.proofs.Firing.{nil_of}
+use Rattle.sot_workers.proofs.Placing.{IsDoneIn, seen_later}
 use Rattle.sot_workers.proofs.join.join_each.Goals as goal
 
 pub loop-place-init : goal.loop-place-init
@@ -56,7 +57,7 @@ returns-clause-done g c = λ a f whole guests seen each.
     let P = IsPlaced g.C.Controller.told (lock_of c.args.turn.now) a f in
     let Q = IsDoneIn g.C.Controller.told a f (pass_seen c.args.pass) in
     let dones = c.loop-place.dones.items in
-    let none : into_iter_items c.loop-place.place-iterator ≡ [] = none_here _ (search rules) in
+    let none : into_iter_items c.loop-place.place-iterator ≡ [] = nil_of _ (search rules) in
     let there = subst (λ l. EachFrom P 0 guests l) (sym c.into_iter-place-iterator.ensures.into_iter_gives.0) each in
     let coming = subst (λ l. AreComing P Q guests dones l) none (c.loop-place.invariant.placed a f guests there) in
     each_map Q (IsDone g.C.Controller.told a f whole) 0 guests dones (λ n guest done in_each. in_each whole seen) (coming_ends P Q guests dones coming)

@@ -4,7 +4,7 @@ use Rattle.sot_turn.specs.Passes.{lock_of}
 use Rattle.sot_workers.specs.Sent.{IsPlaced}
 use Rattle.sot_workers.specs.Pairs.{EachFrom}
 use Rattle.sot_workers.proofs.Coming.{AreComing, Same, each_same, coming_begins, coming_more, coming_ends}
-use Rattle.sot_workers.proofs.Placing.{none_here}
+use Rattle.sot_shift.proofs.Firing.{nil_of}
 use Rattle.sot_workers.proofs.start.place_each.Goals as goal
 
 pub loop-guest-init : goal.loop-guest-init
@@ -60,6 +60,6 @@ returns-clause-placed g c = λ a is.
     let Q = IsPlaced g.C.Controller.told (lock_of c.args.turn.now) a c.args.flight.now in
     let guests = into_iter_items c.into_iter-guest-iterator.result in
     let places = c.loop-guest.places.items in
-    let none : into_iter_items c.loop-guest.guest-iterator ≡ [] = none_here _ (search rules) in
+    let none : into_iter_items c.loop-guest.guest-iterator ≡ [] = nil_of _ (search rules) in
     let coming = subst (λ l. AreComing Same Q guests places l) none (c.loop-guest.invariant.placed a is) in
     subst (λ l. EachFrom Q 0 l places) c.into_iter-guest-iterator.ensures.into_iter_gives.0 (coming_ends Same Q guests places coming)
