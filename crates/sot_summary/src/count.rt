@@ -5,9 +5,10 @@ ghost use Rattle.sot_trace.specs.Lines.{ticks_in, refused_in};
 ghost use Rattle.sot_trace.specs.Fitting.{FitsHistory};
 ghost use Rattle.sot_summary.specs.Counted.{firings_in, outside_in, states_sum};
 
-use crate::entry::{firings_in, outside_in, refused_in, states_in, ticks_in};
+use crate::entry::{firings_in, outside_in, states_in};
 use crate::sum::added;
 use sot_lang::Typed;
+use sot_trace::{refused_in, ticks_in};
 use sot_world::History;
 
 /// The counts of all entries.

@@ -2,12 +2,11 @@
 
 ghost use Rattle.std.specs.Prelude.{◌≡◌, pos, ◌*◌, ◌≤◌, ◌+ℤ◌, ◌≤ℤ◌, ◌^◌};
 ghost use Rattle.sot_world.specs.Histories.{entry_of};
-ghost use Rattle.sot_trace.specs.Lines.{ticks_in, refused_in};
+ghost use Rattle.sot_trace.specs.Lines.{ticks_in};
 ghost use Rattle.sot_trace.specs.Fitting.{FitsEntry};
 ghost use Rattle.sot_summary.specs.Counted.{firings_in, outside_in, states_in};
 
 use crate::outside::is_outside;
-use crate::refused::{refused_in_draft, writes_of};
 use crate::sum::total;
 use sot_lang::Typed;
 use sot_world::Entry;
@@ -20,29 +19,6 @@ pub fn firings_in(entry: &Entry<'_>) -> u8
     match entry {
         Entry::Fire { .. } => 1,
         Entry::Decide { .. } => 1,
-        _ => 0,
-    }
-}
-
-/// 1 for a tick.
-pub fn ticks_in(entry: &Entry<'_>) -> u8
-    ensures value { result ≡ ticks_in (entry_of entry.now) }
-    ensures few { result ≤ 1 }
-{
-    match entry {
-        Entry::Tick { .. } => 1,
-        _ => 0,
-    }
-}
-
-/// How many numbers of a firing are outside their scalars' ranges.
-pub fn refused_in(p: &Typed, entry: &Entry<'_>) -> u8
-    requires { FitsEntry p.now (entry_of entry.now) }
-    ensures value { result ≡ refused_in p.now (entry_of entry.now) }
-    ensures few { result ≤ 8 }
-{
-    match *entry {
-        Entry::Fire { node, draft, .. } => refused_in_draft(p, writes_of(p, node), &draft),
         _ => 0,
     }
 }

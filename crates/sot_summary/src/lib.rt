@@ -9,7 +9,6 @@ mod facts;
 mod flown;
 mod laws;
 mod outside;
-mod refused;
 mod sum;
 mod summary;
 mod text;
