@@ -12,15 +12,11 @@ use Rattle.sot_trace.specs.Numbers.{numeral}
 use Rattle.sot_trace.specs.Lines.{line_of, end_line, ticks_in, refused_in}
 use Rattle.sot_trace.specs.Traces.{last_line, trace_lines}
 use Rattle.sot_trace.specs.Words.{AreWords}
-use Rattle.sot_trace.specs.Telling.{IsTold}
 use Rattle.sot_trace.proofs.Splits.{cut_same}
 use Rattle.sot_trace.proofs.NumberTexts.{in_number, numeral_in, numeral_some}
+use Rattle.sot_trace.proofs.TraceTexts.{AreTold}
 use Rattle.sot_trace.proofs.LineTexts.{tail_of, time_of, line_parts, tail_stops, line_same}
 use Rattle.sot_replay.specs.Replays.{opening_lines}
-
--- each entry is told
-abbrev pub AreTold : Tables → List Logged → Type 0
-AreTold p es = (i : ℕ) (e : Logged) → At es i e → IsTold p e
 
 -- no line of an entry is an end line: it begins with a digit
 pub not_an_end : (p : Tables) (e : Logged) (t n r : ℕ) → line_of p e ≡ end_line t n r → ⊥

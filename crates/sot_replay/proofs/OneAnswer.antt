@@ -26,7 +26,8 @@ use Rattle.sot_replay.specs.Replays.{opening_lines, Tell, RefusesStart, RefusesL
 use Rattle.sot_replay.specs.Laws.{RefusedOnce, TracesAreNotRefused, TracedOnce}
 use Rattle.sot_replay.specs.declared.fail.LineKind.{LineKind}
 use Rattle.sot_replay.specs.declared.fail.LineKind.TheVariants.{NotALine, WrongTime, NotDue, AlreadyFired, NodesLeft, OutsideType, InputsLeft, TooFar, Differs, Ended, Missing}
-use Rattle.sot_replay.proofs.BegunTraces.{AreTold, no_end_there, behind_opening, same_heads}
+use Rattle.sot_trace.proofs.TraceTexts.{AreTold}
+use Rattle.sot_replay.proofs.BegunTraces.{no_end_there, behind_opening, same_heads}
 use Rattle.sot_replay.proofs.LinesGoOn.{fewer_go_on}
 
 -- two fronts of a list, the first no longer than the second

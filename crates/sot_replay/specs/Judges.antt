@@ -1,10 +1,6 @@
 -- What is judged of a line behind the start lines, where a flight stands.
-use Rattle.std.specs.Prelude.{ℕ, ◌≡◌, ℤ, pos, Bool, List, [], ◌∷◌, ◌++◌, Option, None}
-use Rattle.sot_lists.specs.Places.{At}
-use Rattle.sot_lang.specs.declared.act.Act.{Act}
-use Rattle.sot_lang.specs.declared.tables.NodeInfo.{NodeInfo}
+use Rattle.std.specs.Prelude.{ℕ, ◌≡◌, ℤ, pos, Bool, List, [], ◌∷◌, ◌++◌, Option}
 use Rattle.sot_lang.specs.Tables.{Tables}
-use Rattle.sot_lang.specs.TableRules.{IsCoded}
 use Rattle.sot_world.specs.declared.mode.Mode.{Mode}
 use Rattle.sot_world.specs.declared.outcome.Why.{Why}
 use Rattle.sot_world.specs.declared.outcome.Why.TheVariants as whys
@@ -80,10 +76,3 @@ SpellsEnd p line ticks = (h events refused : ℕ) × IsSpelled p line (EndLine h
 -- .. a firing at this time
 abbrev pub SpellsFiringAt : Tables → ℕ → List ℕ → ℕ → Option (List (Option ℤ)) → Type 0
 SpellsFiringAt p time line node draft = (enabled : Bool) × (slots : List (Option (Bool × ℤ))) × IsSpelled p line (FireLine time node enabled slots) × ShowsDraft draft slots
-
--- a node is there and has a body, or it is there and has none
-abbrev pub IsCodedNode : Tables → ℕ → Type 0
-IsCodedNode p n = (node : NodeInfo) × (acts : List Act) × At p.nodes n node × IsCoded node acts
-
-abbrev pub IsExternalNode : Tables → ℕ → Type 0
-IsExternalNode p n = (node : NodeInfo) × At p.nodes n node × (node.body ≡ None)

@@ -5,7 +5,6 @@ ghost use Rattle.sot_replay.specs.Judges.{IsJudged, SpellsEnd};
 
 use crate::fail::LineKind;
 use crate::judged::Judged;
-use crate::left::nothing_left;
 use crate::now::is_now;
 use sot_board::Board;
 use sot_trace::put_last_line;
@@ -25,7 +24,7 @@ pub fn judge_end(
     if !is_now(ticks, board.time()) {
         return Ok(Judged::Fails(LineKind::WrongTime));
     }
-    if !nothing_left(board) {
+    if !board.nothing_left() {
         return Ok(Judged::Fails(LineKind::NodesLeft));
     }
     if board.due_input() {

@@ -1,31 +1,23 @@
 //! A line that spells a firing.
 
-ghost use Rattle.std.specs.Prelude.{◌≡◌, ℕ, ◌<◌, ℤ, List, Option, true, false, None, Some, length, MatchResult, IfOk};
+ghost use Rattle.std.specs.Prelude.{◌≡◌, ℕ, ◌<◌, ℤ, List, Option, true, None, Some, length, MatchResult, IfOk};
 ghost use Rattle.sot_lists.specs.Places.{At};
 ghost use Rattle.sot_world.specs.Configurations.{is_left};
 ghost use Rattle.sot_world.specs.Events.{RefusesNode};
 ghost use Rattle.sot_flight.specs.Plans as plans;
 ghost use Rattle.sot_trace.specs.Words.{AreWords};
-ghost use Rattle.sot_replay.specs.Judges.{IsJudged, SpellsFiring, SpellsFiringAt, IsCodedNode, IsExternalNode};
+ghost use Rattle.sot_board.specs.NodeSorts.{IsCodedNode, IsExternalNode};
+ghost use Rattle.sot_replay.specs.Judges.{IsJudged, SpellsFiring, SpellsFiringAt};
 
 use crate::entry_line::compare;
 use crate::fail::LineKind;
 use crate::judged::{Judged, kind_of};
 use crate::now::is_now;
 use crate::ranges::draft_has_64_bits;
-use sot_board::Board;
-use sot_lang::{Draft, Typed};
+use sot_board::{Board, is_coded};
+use sot_lang::Draft;
 use sot_world::{Event, Why};
 use std::alloc::AllocError;
-
-// Whether a node is coded, and else it is an external one.
-fn is_coded(p: &Typed, node: u32) -> bool
-    requires { node < length p.now.nodes }
-    ensures coded { result ≡ true → IsCodedNode p.now node }
-    ensures external { result ≡ false → IsExternalNode p.now node }
-{
-    p.nodes[node as usize].body.is_some()
-}
 
 // Whether a node can fire.
 fn can_fire(board: &Board<'_>, node: u32) -> Result<(), Why>

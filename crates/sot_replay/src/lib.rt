@@ -14,7 +14,6 @@ mod input;
 mod judge;
 mod judged;
 mod laws;
-mod left;
 mod missing;
 mod now;
 mod opening;

@@ -4,7 +4,7 @@ use Rattle.sot_lang.specs.Tables.{Tables}
 use Rattle.sot_spelled.specs.Spelled.{FireLine}
 use Rattle.sot_replay.specs.declared.fail.LineKind.{LineKind}
 use Rattle.sot_replay.specs.Tests.{IsFirstFailing}
-use Rattle.sot_replay.specs.Judges.{IsCodedNode, IsExternalNode}
+use Rattle.sot_board.specs.NodeSorts.{IsCodedNode, IsExternalNode}
 use Rattle.sot_replay.proofs.FirstFailing.{wrong_time, refused}
 use Rattle.sot_replay.proofs.firing.judge_firing.Goals as goal
 
