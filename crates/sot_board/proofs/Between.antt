@@ -1,7 +1,7 @@
 -- What stays between two moments of one instant.
 use Rattle.std.proofs.Common.{◌≡◌, ◌≢◌, ⊎_elim, ℕ, suc, ◌+◌, ◌≤◌, ℤ, pos, Bool, true, false, List, [], ◌∷◌, ◌++◌, Option, Some, None, map, take, drop, refl, sym, ap, ap₂, ◌∙◌, arith}
-use Rattle.std.specs.Prelude.{slice_index_or, slice_set, int_le, ◌==◌, ◌&&◌, ◌||◌, not, if◌then◌else◌}
-use Rattle.std.proofs.lemmas.Bool.{cases_eq, eqb-false, both_ways}
+use Rattle.std.specs.Prelude.{slice_index_or, slice_set, int_le, ◌==◌, ◌&&◌, not, if◌then◌else◌}
+use Rattle.std.proofs.lemmas.Bool.{cases_eq, eqb-false, both_ways, or_parts}
 use Rattle.std.proofs.lemmas.List.{get_or-set_other, take-append-drop}
 use Rattle.std.proofs.lemmas.Option.{get_or_from_slice_get}
 use Rattle.sot_lists.specs.Places.{At}
@@ -29,10 +29,6 @@ use Rattle.sot_board.specs.Versions.{topic_of, publishes_on, writes_topic, versi
 use Rattle.sot_board.specs.Views.{slot_version}
 use Rattle.sot_board.proofs.Going.{time_goes}
 use Rattle.sot_board.proofs.Same.{from_front}
-
-or_parts : (a b : Bool) → (a || b) ≡ false → (a ≡ false) × (b ≡ false)
-or_parts false b e = (refl, e)
-or_parts true b e = cc
 
 -- what is not published on a scalar's topic leaves the scalar
 put_stays : (r : Side) (k s : ℕ) (z : ℤ) (same : Bool) (xs : List ℤ) → (same && not (not (int_le r.lo z && int_le z r.hi))) ≡ false → (same ≡ false → s ≢ k) → slice_index_or (put r k z xs) s (pos 0) ≡ slice_index_or xs s (pos 0)

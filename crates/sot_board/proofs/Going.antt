@@ -47,7 +47,7 @@ inputs_go p f P (Decide m) s = inl refl
 inputs_go p f P (Tick noise) s = inl refl
 
 -- what is still to come stood there before
-still_at : (p : Tables) (f : Plan) (P : Position) (e : Event) → IsStated p f P e → (i : ℕ) (x : StatedInput) → At (inputs_after e P.inputs) i x → (k : ℕ) × At P.inputs k x
+pub still_at : (p : Tables) (f : Plan) (P : Position) (e : Event) → IsStated p f P e → (i : ℕ) (x : StatedInput) → At (inputs_after e P.inputs) i x → (k : ℕ) × At P.inputs k x
 still_at p f P e s i x at =
     ⊎_elim
     (λ same. (i, subst (λ l. At l i x) same at))

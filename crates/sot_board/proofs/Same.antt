@@ -1,5 +1,5 @@
 -- A history leads to one position.
-use Rattle.std.proofs.Common.{◌≡◌, ◌↔◌, ◌⊎◌, ⊎_elim, inl, inr, ℕ, zero, suc, ℤ, Bool, true, false, List, [], ◌∷◌, Option, length, take, drop, refl, sym, ap, ◌∙◌, subst, arith}
+use Rattle.std.proofs.Common.{◌≡◌, ◌⊎◌, ⊎_elim, inl, inr, ℕ, zero, suc, ℤ, Bool, false, List, [], ◌∷◌, Option, length, take, drop, refl, sym, ap, ◌∙◌, subst, arith}
 use Rattle.std.specs.Prelude.{slice_index_or}
 use Rattle.std.proofs.Math.Seq.{take-append_seam}
 use Rattle.std.proofs.lemmas.List.{ext_get_or}
@@ -12,16 +12,10 @@ use Rattle.sot_world.specs.Configurations.{Configuration, IsOpening, is_left, is
 use Rattle.sot_world.specs.Steps.{Event, Input, Code, Guest, Decide, Tick, Step, CodeFires, GuestFires}
 use Rattle.sot_world.specs.Outcomes.{Recorded, NodeFired, Records}
 use Rattle.sot_world.specs.HistoryEntry.{Logged, InputAt, FireAt, DecideAt, TickAt}
-use Rattle.sot_world.proofs.Unique.{steps_are_unique}
+use Rattle.sot_world.proofs.Unique.{same_flag, steps_are_unique}
 use Rattle.sot_flight.specs.Plans.{Plan}
 use Rattle.sot_flight.specs.Stated.{stated_noise}
 use Rattle.sot_board.specs.Flown.{Position, IsStated, Tells, Flies, Leads, IsStart, FlownSoFar, inputs_after, fired_after}
-
-same_flag : (x y : Bool) (P : Type 0) → ((x ≡ true) ↔ P) → ((y ≡ true) ↔ P) → x ≡ y
-same_flag true true P a b = refl
-same_flag false false P a b = refl
-same_flag true false P a b = sym (b.1 (a.0 refl))
-same_flag false true P a b = a.1 (b.0 refl)
 
 same_lists : {A : Type 0} (xs : List A) (ys zs : List Bool) → length ys ≡ length xs → length zs ≡ length xs → ((k : ℕ) (x : A) → At xs k x → slice_index_or ys k false ≡ slice_index_or zs k false) → ys ≡ zs
 same_lists xs ys zs a b h = ext_get_or false ys zs (a ∙ sym b) (λ i lt. ⊎_elim (λ here. h i here.0 here.2) (λ past. absurd (omega (arith, past.0, a))) (slice_get_cases xs i).1)

@@ -24,6 +24,7 @@ use Rattle.sot_spelled.specs.LentLines.{lent_lines}
 use Rattle.sot_replay.specs.GoesOn as goes_on
 use Rattle.sot_replay.specs.Replays.{IsRefusedAt}
 use Rattle.sot_replay.specs.declared.fail.LineKind.{LineKind}
+use Rattle.sot_replay.proofs.BegunTraces.{same_heads}
 use Rattle.sot_replay.proofs.OneAnswer.{traces_are_not_refused}
 use Rattle.sot_commands.proofs.Replayed.{traced_alike}
 use Rattle.sot_flight.specs.FlightFormat.{flight_of}
@@ -245,22 +246,19 @@ short_numbers Certify form = tt
 short_numbers (Make n seed) form = (omega arith, (omega arith, tt))
 short_numbers (Soak n seed) form = (omega arith, (omega arith, tt))
 
-same_parts_of : (a b : List ℕ) (more rest : List (List ℕ)) → a ∷ more ≡ b ∷ rest → (a ≡ b) × (more ≡ rest)
-same_parts_of a b more rest e = (cc, cc)
-
 same_numbers : (ms ns : List ℕ) → AreShort ms → AreShort ns → map decimal ms ≡ map decimal ns → ms ≡ ns
 unfolding AreShort
 same_numbers [] [] x y e = refl
 same_numbers [] (n ∷ ns) x y e = absurd cc
 same_numbers (m ∷ ms) [] x y e = absurd cc
 same_numbers (m ∷ ms) (n ∷ ns) (x, xs) (y, ys) e =
-    let both = same_parts_of (decimal m) (decimal n) (map decimal ms) (map decimal ns) e in
+    let both = same_heads (decimal m) (decimal n) (map decimal ms) (map decimal ns) e in
     ap₂ (λ (k : ℕ) (ks : List ℕ). k ∷ ks) (decimal_injective m n x y both.0) (same_numbers ms ns xs ys both.1)
 
 -- words ask for one command
 pub same_command : (words : List (String Global)) (c d : Command) → Asks words c → Asks words d → c ≡ d
 same_command words c d a b =
-    let both = same_parts_of (word_of c) (word_of d) (map decimal (numbers_of c)) (map decimal (numbers_of d)) (sym a.0 ∙ b.0) in
+    let both = same_heads (word_of c) (word_of d) (map decimal (numbers_of c)) (map decimal (numbers_of d)) (sym a.0 ∙ b.0) in
     let numbers = same_numbers (numbers_of c) (numbers_of d) (short_numbers c a.1) (short_numbers d b.1) both.1 in
     sym (told_words c) ∙ ap₂ told both.0 numbers ∙ told_words d
 

@@ -5,14 +5,13 @@ use Rattle.sot_lists.specs.Places.{At}
 use Rattle.sot_lang.specs.Tables.{Tables}
 use Rattle.sot_world.specs.HistoryEntry.{Logged}
 use Rattle.sot_world.specs.State.{IsKept}
-use Rattle.sot_world.specs.Steps.{Event, Input, Code, Guest, Decide, Tick}
 use Rattle.sot_world.proofs.Stepping.{step_kept, are_points}
-use Rattle.sot_flight.specs.Plans.{StatedInput, Plan}
-use Rattle.sot_board.specs.Flown.{Position, IsStated, inputs_after, Flies, Leads, IsEnd}
+use Rattle.sot_flight.specs.Plans.{Plan}
+use Rattle.sot_board.specs.Flown.{Position, Flies, Leads, IsEnd}
 use Rattle.sot_board.specs.Room.{events_to_come}
 use Rattle.sot_board.specs.Standing.{Standing, IsStanding}
 use Rattle.sot_board.proofs.Entries.{flown_more}
-use Rattle.sot_board.proofs.Going.{still_ahead, still_in_time, still_ordered, still_counted, still_each, Lessens, lessens}
+use Rattle.sot_board.proofs.Going.{still_at, still_ahead, still_in_time, still_ordered, still_counted, still_each, Lessens, lessens}
 use Rattle.sot_completion.specs.Completion.{GuestsDraftNothing, FlightsCanBeCompleted}
 use Rattle.sot_completion.proofs.GoingOn.{goes_on}
 
@@ -26,14 +25,6 @@ silent_more f entry more here later (suc i) time n guest draft enabled at crew =
 leads_on : (p : Tables) (j : ℕ) (f : Plan) (P : Position) (es more : List Logged) (Q R : Position) → Leads p j f P es Q → Leads p j f Q more R → Leads p j f P (es ++ more) R
 leads_on p j f P [] more Q R led further = subst (λ S. Leads p j f S more R) (sym led) further
 leads_on p j f P (e ∷ es) more Q R led further = (led.0, led.1, leads_on p j f led.0 es more Q R led.2 further)
-
--- an input that is still to come after an event was so before it
-came_from : (p : Tables) (f : Plan) (P : Position) (e : Event) → IsStated p f P e → (i : ℕ) (x : StatedInput) → At (inputs_after e P.inputs) i x → (k : ℕ) × At P.inputs k x
-came_from p f P (Input topic value) (rest, is) i x at = (let here : At rest i x = subst (λ l. At (inputs_after (Input topic value) l) i x) is at in (suc i, subst (λ l. At l (suc i) x) (sym is) here))
-came_from p f P (Code n) stated i x at = (i, at)
-came_from p f P (Guest n draft) stated i x at = (i, at)
-came_from p f P (Decide m) stated i x at = (i, at)
-came_from p f P (Tick noise) stated i x at = (i, at)
 
 -- where a flight stands with an entry more
 abbrev after : Standing → Logged → Position → Standing
@@ -54,7 +45,7 @@ module _ (b : Standing) (is : IsStanding b) (entry : Logged) (Q : Position) (fli
     flown = flown_more b.accepted.program b.accepted.cert.jitter b.plan b.entries b.position entry Q is.flown flies;
     in_time = in_time_after;
     ahead = λ i x at. still_ahead b.accepted.program b.accepted.cert.jitter b.plan b.position flies.event Q.at flies.stated flies.step is.ahead i x (subst (λ l. At l i x) flies.inputs at);
-    inputs = λ i x at. (let k = came_from b.accepted.program b.plan b.position flies.event flies.stated i x (subst (λ l. At l i x) flies.inputs at) in is.inputs k.0 x k.1);
+    inputs = λ i x at. (let k = still_at b.accepted.program b.plan b.position flies.event flies.stated i x (subst (λ l. At l i x) flies.inputs at) in is.inputs k.0 x k.1);
     ordered = λ i x y at_x at_y. still_ordered b.accepted.program b.accepted.cert.jitter b.plan b.position flies.event Q.at flies.stated flies.step is.ordered i x y (subst (λ l. At l i x) flies.inputs at_x) (subst (λ l. At l (suc i) y) flies.inputs at_y);
     fired_each = ap length flies.fired ∙ still_each flies.event b.position.fired ∙ is.fired_each;
     fired = λ i lt. ap (λ l. slice_index_or l i 0) flies.fired ∙ still_counted b.accepted.program b.position flies.event Q.at flies.recorded entry b.entries i flies.tells (omega (arith, lt, is.fired_each)) (is.fired i lt);

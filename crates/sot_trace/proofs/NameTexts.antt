@@ -1,15 +1,15 @@
 -- What the texts of names are made of, and that they tell what they name.
-use Rattle.std.proofs.Common.{◌≡◌, ℕ, zero, suc, ◌+◌, ◌^◌, ◌==◌, Bool, true, ◌||◌, nat_lt, List, [], ◌∷◌, ◌++◌, Option, Some, None, map, length, inl, inr, refl, sym, ap, subst, ◌∙◌, arith, take, drop}
+use Rattle.std.proofs.Common.{◌≡◌, ℕ, zero, suc, ◌+◌, ◌==◌, Bool, true, ◌||◌, List, [], ◌∷◌, ◌++◌, Option, Some, None, map, length, inl, inr, refl, sym, ap, subst, ◌∙◌, arith, take, drop}
 use Rattle.std.specs.List.{prefix_len}
 use Rattle.std.specs.Char.{is_ascii_digit}
 use Rattle.std.specs.Option.{option_map_or}
 use Rattle.std.proofs.lemmas.Bool.{cases_Bool, cond-true, cond-false}
 use Rattle.std.proofs.lemmas.Option.{none-some}
 use Rattle.std.proofs.lemmas.List.Folds.{length-prefix_len}
-use Rattle.sot_text.specs.declared.token.Kind.TheVariants.{Name, Number}
-use Rattle.sot_text.specs.declared.lexeme.Front.TheVariants.{Token, LiteralWide}
-use Rattle.sot_text.specs.Lexeme.{begins_word, is_in_word, word_len, decimals_of, mantissa_of, number_len, sign_len, sized}
+use Rattle.sot_text.specs.declared.token.Kind.TheVariants.{Name}
+use Rattle.sot_text.specs.Lexeme.{begins_word, is_in_word, word_len, decimals_of, mantissa_of, number_len, sign_len}
 use Rattle.sot_text.proofs.Fronts.{front_word, front_number, front_sign, word_takes, sign_takes}
+use Rattle.sot_tree.proofs.Names.{number_no_name}
 use Rattle.sot_lang.specs.declared.tables.TopicInfo.{TopicInfo}
 use Rattle.sot_lang.specs.declared.tables.ScalarInfo.{ScalarInfo}
 use Rattle.sot_lang.specs.declared.tables.NodeInfo.{NodeInfo}
@@ -28,13 +28,6 @@ in_from_len q (x ∷ a) h =
     elim (cases_Bool (q x)) [
       | inl inside ↦ (let more : 1 + prefix_len q a ≡ length (x ∷ a) = sym (cond-true (q x) _ _ inside) ∙ h in (inside, in_from_len q a (omega arith)))
       | inr outside ↦ (let never : 0 ≡ length (x ∷ a) = sym (cond-false (q x) _ _ outside) ∙ h in absurd (omega arith))
-    ]
-
-number_no_name : (d m k n : ℕ) → sized d m k ≡ Token Name n → ⊥
-number_no_name d m k n e =
-    elim (cases_Bool (nat_lt 6 d || nat_lt (10 ^ 12) m)) [
-      | inl wide ↦ (let never : LiteralWide k ≡ Token Name n = sym (cond-true (nat_lt 6 d || nat_lt (10 ^ 12) m) _ _ wide) ∙ e in cc)
-      | inr fits ↦ (let never : Token Number k ≡ Token Name n = sym (cond-false (nat_lt 6 d || nat_lt (10 ^ 12) m) _ _ fits) ∙ e in cc)
     ]
 
 word_len_is : (text : List ℕ) → IsWord text → word_len text ≡ length text
