@@ -1,5 +1,5 @@
 -- The modules of a certificate's JSON are those of the certificate.
-use Rattle.std.proofs.Common.{◌≡◌, ℕ, zero, suc, ◌&&◌, ◌||◌, Bool, false, true, Option, None, Some, Ok, List, [], ◌∷◌, ◌++◌, length, map, codes, bytes_eq, Ordering, Less, Equal, Greater, nat_cmp, refl, sym, ap, ◌∙◌, subst, arith}
+use Rattle.std.proofs.Common.{◌≡◌, ℕ, zero, suc, ◌||◌, Bool, false, true, Option, None, Some, Ok, List, [], ◌∷◌, ◌++◌, length, map, codes, bytes_eq, Ordering, Less, Equal, Greater, nat_cmp, refl, sym, ap, ◌∙◌, subst, arith}
 use Rattle.std.specs.Ordering.{match_ordering}
 use Rattle.std.specs.Cmp.Lexicographic.{slice_cmp}
 use Rattle.std.proofs.lemmas.Option.{none-some, same_Some}
@@ -23,6 +23,7 @@ use Rattle.sot_cert.specs.declared.fault.JsonKind.TheVariants.{NotJson, Unknown}
 use Rattle.sot_cert.specs.Says.{◌>>=◌, or, unless, part}
 use Rattle.sot_cert.specs.Json.{whole, at, some, may, optional, is_among, all_among}
 use Rattle.sot_cert.specs.CertFormat.{cells, entry, entries, names, modules, has_jitter, jitter_in, cert, contents, region_of}
+use Rattle.sot_lines.proofs.PlainTexts.{both, first_of, second_of}
 use Rattle.sot_certified_text.specs.CertText.{cells_data, entry_data, entries_data, certificate_data}
 use Rattle.sot_certified_text.specs.ReadBack.{AreShort, IsWritable, CertificatesReadBack}
 use Rattle.sot_certified_text.proofs.ReadBack.{cells_read}
@@ -99,27 +100,15 @@ among (n ∷ ns) (suc i) m at = later (bytes_eq m.name n.name) (among ns i m at)
     later true h = refl
     later false h = h
 
-conj : (a b : Bool) → a ≡ true → b ≡ true → (a && b) ≡ true
-conj true b h k = k
-conj false b h k = absurd (cc)
-
-left : (a b : Bool) → (a && b) ≡ true → a ≡ true
-left true b h = refl
-left false b h = absurd (cc)
-
-right : (a b : Bool) → (a && b) ≡ true → b ≡ true
-right true b h = h
-right false b h = absurd (cc)
-
 put_at : (o : Ordering) (k l : List ℕ) (d e : Data) (ms rest : Members) (ls : List (List ℕ)) → is_among k ls ≡ true → all_among (member l e ms) ls ≡ true → all_among rest ls ≡ true
     → all_among (match_ordering o (member k d (member l e ms)) (member l d ms) (member l e rest)) ls ≡ true
-put_at Less k l d e ms rest ls h g r = conj (is_among k ls) _ h g
+put_at Less k l d e ms rest ls h g r = both (is_among k ls) _ h g
 put_at Equal k l d e ms rest ls h g r = g
-put_at Greater k l d e ms rest ls h g r = conj (is_among l ls) (all_among rest ls) (left (is_among l ls) (all_among ms ls) g) r
+put_at Greater k l d e ms rest ls h g r = both (is_among l ls) (all_among rest ls) (first_of (is_among l ls) (all_among ms ls) g) r
 
 put_among : (k : List ℕ) (d : Data) (ms : Members) (ls : List (List ℕ)) → is_among k ls ≡ true → all_among ms ls ≡ true → all_among (put k d ms) ls ≡ true
-put_among k d no_members ls h g = conj (is_among k ls) true h refl
-put_among k d (member l e ms) ls h g = put_at (slice_cmp nat_cmp k l) k l d e ms (put k d ms) ls h g (put_among k d ms ls h (right (is_among l ls) (all_among ms ls) g))
+put_among k d no_members ls h g = both (is_among k ls) true h refl
+put_among k d (member l e ms) ls h g = put_at (slice_cmp nat_cmp k l) k l d e ms (put k d ms) ls h g (put_among k d ms ls h (second_of (is_among l ls) (all_among ms ls) g))
 
 entries_among : (infos : List ModuleInfo) (os : List (Option Cells)) (ls : List (List ℕ)) → ((i : ℕ) (m : ModuleInfo) → At infos i m → is_among m.name ls ≡ true) → all_among (entries_data infos os) ls ≡ true
 entries_among [] os ls h = refl

@@ -1,5 +1,5 @@
 -- A certificate's JSON says that certificate.
-use Rattle.std.proofs.Common.{◌≡◌, ℕ, zero, suc, ◌≤◌, ℤ, pos, negsuc, ◌≤ℤ◌, ◌&&◌, Bool, false, true, Ok, List, [], ◌∷◌, ◌++◌, length, codes, refl, sym, ap, ◌∙◌, subst, arith, decimal, eq-eqb, inl, inr}
+use Rattle.std.proofs.Common.{◌≡◌, ℕ, zero, suc, ◌≤◌, ℤ, pos, negsuc, ◌≤ℤ◌, true, Ok, List, [], ◌∷◌, ◌++◌, length, codes, refl, sym, ap, ◌∙◌, subst, arith, decimal, eq-eqb, inl, inr}
 use Rattle.std.specs.Prelude.{int_le}
 use Rattle.std.proofs.lemmas.Int.{ints}
 use Rattle.std.proofs.lemmas.Bool.{cases_Bool, le-leb}
@@ -14,6 +14,7 @@ use Rattle.sot_cert.specs.declared.fault.JsonKind.TheVariants.{OutsideRange, Emp
 use Rattle.sot_cert.specs.Says.{Says, ◌>>=◌, unless, part}
 use Rattle.sot_cert.specs.Json.{whole, each_after, each}
 use Rattle.sot_cert.specs.CertFormat.{number as number_says, side, cell, cells, region_of}
+use Rattle.sot_lines.proofs.PlainTexts.{both}
 use Rattle.sot_certified_text.specs.CertText.{side_data, cell_data, cells_data, items_by}
 use Rattle.sot_certified_text.specs.ReadBack.{IsShort, AreShort}
 
@@ -22,10 +23,6 @@ le_test a b h = elim (cases_Bool (int_le a b)) [
   | inl yes' ↦ yes'
   | inr no' ↦ absurd (let lt = le_false a b no' in omega (arith, ints, h, lt))
 ]
-
-both : (a b : Bool) → a ≡ true → b ≡ true → (a && b) ≡ true
-both true b h k = k
-both false b h k = absurd (cc)
 
 number_read : (z : ℤ) → negsuc 999999999999 ≤ℤ z → z ≤ℤ pos 1000000000000 → number_says (number (of_integer z)) ≡ Ok z
 unfolding number_says whole

@@ -11,11 +11,8 @@ use Rattle.sot_lang.specs.declared.cert.Cells.{Cells}
 use Rattle.sot_lang.specs.declared.cert.Cert.{Cert}
 use Rattle.sot_lang.specs.declared.tables.ModuleInfo.{ModuleInfo}
 use Rattle.sot_lang.specs.Tables.{Tables}
+use Rattle.sot_typing.proofs.SortCases.{neither}
 use Rattle.sot_certified_text.specs.CertText.{side_data, cell_data, cells_data, entry_data, entries_data, certificate_data, items_by}
-
-neither : (a b : Bool) → a ≡ false → b ≡ false → (a || b) ≡ false
-neither false b h k = k
-neither true b h k = absurd (cc)
 
 -- numbers
 

@@ -1,35 +1,19 @@
 //! The line that says why there is no certificate.
 
-ghost use Rattle.std.specs.Prelude.{◌≡◌, ◌++◌, codes, drop, IfOk, OnOk};
-ghost use Rattle.std.specs.Fmt.{signed_decimal};
-ghost use Rattle.sot_report.specs.Pieces.{line, module_name, further, point_text};
+ghost use Rattle.std.specs.Prelude.{◌≡◌, ◌++◌, codes, IfOk};
+ghost use Rattle.sot_report.specs.Pieces.{line, point_text};
 ghost use Rattle.sot_certified_text.specs.FailTexts.{list_word, of_list, fail_text};
 
 use sot_box::Point;
 use sot_certify::CertifyFail;
 use sot_lang::Typed;
-use sot_report::refusal_text;
+use sot_report::{put, put_module, put_point, refusal_text};
 use std::alloc::{AllocError, Global};
-
-fn put(text: &mut Vec<u8>, piece: &str) -> Result<(), AllocError>
-    ensures { OnOk result (text.new.items ≡ text.old.items ++ piece.now) }
-{
-    text.extend_from_slice(piece.as_bytes())
-}
 
 fn list_word(reach: bool) -> &'static str
     ensures { result.now ≡ list_word reach }
 {
     if reach { "reach" } else { "closed" }
-}
-
-fn put_module(text: &mut Vec<u8>, p: &Typed, module: u32) -> Result<(), AllocError>
-    ensures { OnOk result (text.new.items ≡ text.old.items ++ module_name p.now «module») }
-{
-    match p.modules.get(module as usize) {
-        Some(info) => text.extend_from_slice(info.name.as_bytes()),
-        None => Ok(()),
-    }
 }
 
 // The front of a line: the module and the sort of the list.
@@ -42,34 +26,6 @@ fn list_front(alloc: Global, p: &Typed, module: u32, reach: bool) -> Result<Vec<
     put(&mut text, " ")?;
     put(&mut text, list_word(reach))?;
     Ok(text)
-}
-
-fn put_coordinate(alloc: Global, text: &mut Vec<u8>, coordinate: i64) -> Result<(), AllocError>
-    ensures { OnOk result (text.new.items ≡ text.old.items ++ signed_decimal coordinate) }
-{
-    let piece = format!(in alloc; "{coordinate}")?;
-    text.extend_from_slice(piece.as_bytes())
-}
-
-// The coordinates after the first, each behind a comma.
-fn put_more(alloc: Global, text: &mut Vec<u8>, point: &Point) -> Result<(), AllocError>
-    ensures { OnOk result (text.new.items ≡ text.old.items ++ further signed_decimal (drop 1 point.now)) }
-{
-    for i in 1..point.len() {
-        put(text, ", ")?;
-        put_coordinate(alloc, text, point.at(i))?;
-    }
-    Ok(())
-}
-
-fn put_point(alloc: Global, text: &mut Vec<u8>, point: &Point) -> Result<(), AllocError>
-    ensures { OnOk result (text.new.items ≡ text.old.items ++ point_text point.now) }
-{
-    let _axes = point.len();
-    put(text, "(")?;
-    put_coordinate(alloc, text, point.at(0))?;
-    put_more(alloc, text, point)?;
-    put(text, ")")
 }
 
 fn point_line(
