@@ -1,5 +1,6 @@
 -- The JSON of a certificate has no float, and nests six levels deep at most.
-use Rattle.std.proofs.Common.{◌≡◌, ℕ, suc, ◌≤◌, ◌||◌, ℤ, pos, negsuc, Bool, false, true, Option, None, Some, List, [], ◌∷◌, Ordering, Less, Equal, Greater, nat_cmp, refl, arith}
+use Rattle.std.proofs.Common.{◌≡◌, ℕ, suc, ◌≤◌, ℤ, pos, negsuc, false, Option, None, Some, List, [], ◌∷◌, Ordering, Less, Equal, Greater, nat_cmp, refl, arith}
+use Rattle.std.proofs.lemmas.Bool.{or_from, or_parts}
 use Rattle.std.specs.Prelude.{max}
 use Rattle.std.specs.Ordering.{match_ordering}
 use Rattle.std.specs.Cmp.Lexicographic.{slice_cmp}
@@ -11,7 +12,6 @@ use Rattle.sot_lang.specs.declared.cert.Cells.{Cells}
 use Rattle.sot_lang.specs.declared.cert.Cert.{Cert}
 use Rattle.sot_lang.specs.declared.tables.ModuleInfo.{ModuleInfo}
 use Rattle.sot_lang.specs.Tables.{Tables}
-use Rattle.sot_typing.proofs.SortCases.{neither}
 use Rattle.sot_certified_text.specs.CertText.{side_data, cell_data, cells_data, entry_data, entries_data, certificate_data, items_by}
 
 -- numbers
@@ -22,33 +22,29 @@ whole_number (negsuc n) = refl
 
 no_floats : {A : Type 0} (f : A → Data) (xs : List A) → ((x : A) → has_float (f x) ≡ false) → items_have_float (items_by f xs) ≡ false
 no_floats f [] h = refl
-no_floats f (x ∷ xs) h = neither (has_float (f x)) (items_have_float (items_by f xs)) (h x) (no_floats f xs h)
+no_floats f (x ∷ xs) h = or_from (has_float (f x)) (items_have_float (items_by f xs)) (h x) (no_floats f xs h)
 
 side_whole : (r : Side) → has_float (side_data r) ≡ false
-side_whole r = neither (has_float (number (of_integer r.lo))) _ (whole_number r.lo) (neither (has_float (number (of_integer r.hi))) false (whole_number r.hi) refl)
+side_whole r = or_from (has_float (number (of_integer r.lo))) _ (whole_number r.lo) (or_from (has_float (number (of_integer r.hi))) false (whole_number r.hi) refl)
 
 cells_whole : (cells : List (List Side)) → has_float (cells_data cells) ≡ false
 cells_whole cells = no_floats cell_data cells (λ cell. no_floats side_data cell side_whole)
 
 entry_whole : (cells : Cells) → has_float (entry_data cells) ≡ false
-entry_whole cells = neither (has_float (cells_data cells.closed.boxes)) _ (cells_whole cells.closed.boxes) (neither (has_float (cells_data cells.reach.boxes)) false (cells_whole cells.reach.boxes) refl)
+entry_whole cells = or_from (has_float (cells_data cells.closed.boxes)) _ (cells_whole cells.closed.boxes) (or_from (has_float (cells_data cells.reach.boxes)) false (cells_whole cells.reach.boxes) refl)
 
 -- objects
 
-parts : (a b : Bool) → (a || b) ≡ false → (a ≡ false) × (b ≡ false)
-parts false b e = (refl, e)
-parts true b e = absurd (cc)
-
 by_place_whole : (o : Ordering) (k l : List ℕ) (d e : Data) (ms more : Members) → has_float d ≡ false → members_have_float (member l e ms) ≡ false → members_have_float more ≡ false
     → members_have_float (match_ordering o (member k d (member l e ms)) (member l d ms) (member l e more)) ≡ false
-by_place_whole Less k l d e ms more h g r = neither (has_float d) _ h g
-by_place_whole Equal k l d e ms more h g r = neither (has_float d) (members_have_float ms) h (parts (has_float e) (members_have_float ms) g).1
-by_place_whole Greater k l d e ms more h g r = neither (has_float e) (members_have_float more) (parts (has_float e) (members_have_float ms) g).0 r
+by_place_whole Less k l d e ms more h g r = or_from (has_float d) _ h g
+by_place_whole Equal k l d e ms more h g r = or_from (has_float d) (members_have_float ms) h (or_parts (has_float e) (members_have_float ms) g).1
+by_place_whole Greater k l d e ms more h g r = or_from (has_float e) (members_have_float more) (or_parts (has_float e) (members_have_float ms) g).0 r
 
 put_whole : (k : List ℕ) (d : Data) (ms : Members) → has_float d ≡ false → members_have_float ms ≡ false → members_have_float (put k d ms) ≡ false
-put_whole k d no_members h g = neither (has_float d) false h refl
+put_whole k d no_members h g = or_from (has_float d) false h refl
 put_whole k d (member l e ms) h g =
-    by_place_whole (slice_cmp nat_cmp k l) k l d e ms (put k d ms) h g (put_whole k d ms h (parts (has_float e) (members_have_float ms) g).1)
+    by_place_whole (slice_cmp nat_cmp k l) k l d e ms (put k d ms) h g (put_whole k d ms h (or_parts (has_float e) (members_have_float ms) g).1)
 
 entries_whole : (infos : List ModuleInfo) (entries : List (Option Cells)) → members_have_float (entries_data infos entries) ≡ false
 entries_whole [] entries = refl
@@ -57,7 +53,7 @@ entries_whole (m ∷ ms) (None ∷ entries) = entries_whole ms entries
 entries_whole (m ∷ ms) (Some cells ∷ entries) = put_whole m.name (entry_data cells) (entries_data ms entries) (entry_whole cells) (entries_whole ms entries)
 
 pub certificate_whole : (p : Tables) (cert : Cert) → has_float (certificate_data p cert) ≡ false
-certificate_whole p cert = neither (members_have_float (entries_data p.modules cert.modules.items)) false (entries_whole p.modules cert.modules.items) refl
+certificate_whole p cert = or_from (members_have_float (entries_data p.modules cert.modules.items)) false (entries_whole p.modules cert.modules.items) refl
 
 -- depths
 
