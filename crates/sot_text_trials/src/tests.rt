@@ -5,3 +5,14 @@ mod programs;
 mod sections;
 mod theorems;
 mod tokens;
+
+use std::alloc::{AllocError, Global};
+
+// A column of a table, in which `\n`, `\r` and `\t` stand for a line end, a return and a tab.
+fn unescaped(alloc: Global, column: &str) -> Result<String, AllocError> {
+    let mut text = String::from_str(alloc, column)?;
+    for (escape, meant) in [("\\n", "\n"), ("\\r", "\r"), ("\\t", "\t")] {
+        text = text.replace(alloc, escape, meant)?;
+    }
+    Ok(text)
+}

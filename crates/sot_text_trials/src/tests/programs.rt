@@ -1,4 +1,5 @@
 //! Which program a text spells, and where one that spells none goes wrong.
+use super::unescaped;
 use sot_parser::{ParseFail, Syntax, parse};
 use sot_text::{LexFault, Lexer};
 use sot_tree::{Decl, Program, Stmt};
@@ -39,6 +40,21 @@ fn parsed(alloc: Global, text: &str) -> Result<Program, ParseFail> {
     }
     parse(alloc, &mut Lexer::new(text.as_bytes()))
 }
+
+// Texts, with the line, the column and the kind of their fault.
+const FAULTS: &str = r"topic a: int[0..1] = ; => 1:22 Token
+topic a: int[0..1] = 0\n => 2:1 Token
+topic a: int[0..1] = 0; ? => 1:25 BadByte
+topic a: int[0..1] = 1.0000000; => 1:22 LiteralWide
+topic topic: int[0..1] = 0; => 1:7 Token
+topic a: {} = 0; => 1:11 Token
+plant p { input a; } => 1:11 Token
+plant p { state x: int; sees b; input a; } => 1:33 Token
+external e period 1 offset 0 { do { } } => 1:32 Token
+node n period 1 offset 0 { do { if a { } else } } => 1:47 Token
+module m { ac a; sc b; period 1 offset 0; plant p; safe none; safer [0..1] | ; } => 1:78 Token
+node => 1:5 Token
+a => 1:1 Token";
 
 // The line, the column and the kind of a fault.
 fn fault_of(alloc: Global, text: &str) -> Option<(u32, u32, &'static str)> {
@@ -115,45 +131,18 @@ a := 1; publish m.f = a; if a > 0 { } else { repeat 3 { a := a + 1; } } if true 
 #[test]
 fn names_the_place_of_a_fault(rt: HostRuntime) -> Result<(), Fail> {
     let alloc = rt.alloc();
-    for (text, want) in [
-        ("", None),
-        (" # nothing", None),
-        (LINE, None),
-        (
-            "environment topic a: {x: bool, y: fix(2)[0.5..1.5]} = {true, 1};",
-            None,
-        ),
-        ("topic a: int[0..1] = ;", Some((1, 22, "Token"))),
-        ("topic a: int[0..1] = 0\n", Some((2, 1, "Token"))),
-        ("topic a: int[0..1] = 0; ?", Some((1, 25, "BadByte"))),
-        (
-            "topic a: int[0..1] = 1.0000000;",
-            Some((1, 22, "LiteralWide")),
-        ),
-        ("topic topic: int[0..1] = 0;", Some((1, 7, "Token"))),
-        ("topic a: {} = 0;", Some((1, 11, "Token"))),
-        ("plant p { input a; }", Some((1, 11, "Token"))),
-        (
-            "plant p { state x: int; sees b; input a; }",
-            Some((1, 33, "Token")),
-        ),
-        (
-            "external e period 1 offset 0 { do { } }",
-            Some((1, 32, "Token")),
-        ),
-        (
-            "node n period 1 offset 0 { do { if a { } else } }",
-            Some((1, 47, "Token")),
-        ),
-        (
-            "module m { ac a; sc b; period 1 offset 0; plant p; safe none; safer [0..1] | ; }",
-            Some((1, 78, "Token")),
-        ),
-        ("node", Some((1, 5, "Token"))),
-        ("a", Some((1, 1, "Token"))),
-    ] {
-        assert_eq!(rt; fault_of(alloc, text), want, "at {text}");
+    let fields = "environment topic a: {x: bool, y: fix(2)[0.5..1.5]} = {true, 1};";
+    for text in ["", " # nothing", LINE, fields] {
+        assert_eq!(rt; fault_of(alloc, text), None, "at {text}");
     }
+    for row in FAULTS.lines() {
+        let (text, want) = row.split_once(" => ").ok_or("no answer")?;
+        let text = unescaped(alloc, text)?;
+        let (line, column, kind) = fault_of(alloc, &text).ok_or("no fault")?;
+        let found = format!(in alloc; "{line}:{column} {kind}")?;
+        assert_eq!(rt; found.as_str(), want, "at {text}");
+    }
+    assert_eq!(rt; FAULTS.lines().count(), 13);
     Ok(())
 }
 

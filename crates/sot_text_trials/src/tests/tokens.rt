@@ -1,23 +1,60 @@
 //! Tokens, their places, their limits and their faults.
-use sot_text::{Kind, LexFault, Lexer, Span, numeral_of};
+use super::unescaped;
+use sot_text::{LexFault, Lexer, Span, numeral_of};
+use std::alloc::{AllocError, Global};
 use std::test::Fail;
 
-const LONGEST: &str = "aaaaaaaaaaaaaaaaaaaaaaaaaaaaaaaaaaaaaaaaaaaaaaaaaaaaaaaaaaaaaaaa";
+const TEXT: &str = "topic x1: int[-2..\n\t2.5] # c := d\n  :=_9";
 
-const TOO_LONG: &str = "aaaaaaaaaaaaaaaaaaaaaaaaaaaaaaaaaaaaaaaaaaaaaaaaaaaaaaaaaaaaaaaaa";
+// The tokens of that text, by kind, with the line, the column and the bytes where each stands.
+const TOKENS: &str = "Keyword topic 1:1 0..5
+Name x1 1:7 6..8
+Sign : 1:9 8..9
+Keyword int 1:11 10..13
+Sign [ 1:14 13..14
+Sign - 1:15 14..15
+Number 2 1:16 15..16
+Sign .. 1:17 16..18
+Number 2.5 2:2 20..23
+Sign ] 2:5 23..24
+Sign := 3:3 36..38
+Name _9 3:5 38..40";
 
-// The first token's length, or 0 at the end.
-fn first(text: &str) -> Result<usize, LexFault> {
-    if text.len() > 1_000 {
-        return Ok(0);
-    }
-    let mut lexer = Lexer::new(text.as_bytes());
-    match lexer.next() {
-        Ok(Some(token)) => Ok(token.text.len()),
-        Ok(None) => Ok(0),
-        Err(fault) => Err(fault),
-    }
-}
+// Texts, with the length of their first token, or 0 at their end, or their fault and where it stands.
+const FIRST: &str = r#" => 0
+ \t\r\n# to the end of its line => 0
+# "\n!= => 2
+1..5 => 1
+1. => 1
+1.5.2 => 3
+... => 2
+:== => 2
+:; => 1
+<= => 2
+<<= => 1
+>== => 2
+== => 2
+=> => 1
+4offset => 1
+topics => 6
+aaaaaaaaaaaaaaaaaaaaaaaaaaaaaaaaaaaaaaaaaaaaaaaaaaaaaaaaaaaaaaaa => 64
+aaaaaaaaaaaaaaaaaaaaaaaaaaaaaaaaaaaaaaaaaaaaaaaaaaaaaaaaaaaaaaaaa => NameLong 1:1 0..65
+1000000000000 => 13
+1000000000001 => LiteralWide 1:1 0..13
+0000000000000001 => 16
+1.000000 => 8
+ 1.0000000 => LiteralWide 1:2 1..10
+1000000.000000 => 14
+1000000.000001 => LiteralWide 1:1 0..14
+\n " => BadByte 2:2 2..3
+! => BadByte 1:1 0..1"#;
+
+// Numerals, with their number, its decimals and how many bytes are read.
+const NUMERALS: &str = "0 => 0 0 1
+12.50 => 1250 2 5
+007..9 => 7 0 3
+1. => 1 0 1
+9999999999999 => 1000000000001 0 13";
 
 fn place(line: u32, column: u32, from: u32, to: u32) -> Span {
     Span {
@@ -28,34 +65,44 @@ fn place(line: u32, column: u32, from: u32, to: u32) -> Span {
     }
 }
 
+fn place_text(alloc: Global, at: Span) -> Result<String, AllocError> {
+    format!(in alloc; "{}:{} {}..{}", at.line, at.column, at.from, at.to)
+}
+
+// The first token's length, or 0 at the end, or the fault and its place.
+fn first(alloc: Global, text: &str) -> Result<String, AllocError> {
+    if text.len() > 1_000 {
+        return String::from_str(alloc, "long");
+    }
+    let mut lexer = Lexer::new(text.as_bytes());
+    let (fault, at) = match lexer.next() {
+        Ok(Some(token)) => return format!(in alloc; "{}", token.text.len()),
+        Ok(None) => return String::from_str(alloc, "0"),
+        Err(LexFault::BadByte { at }) => ("BadByte", at),
+        Err(LexFault::NameLong { at }) => ("NameLong", at),
+        Err(LexFault::LiteralWide { at }) => ("LiteralWide", at),
+    };
+    let at = place_text(alloc, at)?;
+    format!(in alloc; "{fault} {at}")
+}
+
 #[test]
 fn reads_tokens_with_their_places(rt: HostRuntime) -> Result<(), Fail> {
-    let text = "topic x1: int[-2..\n\t2.5] # c := d\n  :=_9";
-    let mut lexer = Lexer::new(text.as_bytes());
+    let alloc = rt.alloc();
+    let mut lexer = Lexer::new(TEXT.as_bytes());
     assert_eq!(rt; lexer.end(), place(3, 7, 40, 40));
-    for (kind, word, at) in [
-        (Kind::Keyword, "topic", place(1, 1, 0, 5)),
-        (Kind::Name, "x1", place(1, 7, 6, 8)),
-        (Kind::Sign, ":", place(1, 9, 8, 9)),
-        (Kind::Keyword, "int", place(1, 11, 10, 13)),
-        (Kind::Sign, "[", place(1, 14, 13, 14)),
-        (Kind::Sign, "-", place(1, 15, 14, 15)),
-        (Kind::Number, "2", place(1, 16, 15, 16)),
-        (Kind::Sign, "..", place(1, 17, 16, 18)),
-        (Kind::Number, "2.5", place(2, 2, 20, 23)),
-        (Kind::Sign, "]", place(2, 5, 23, 24)),
-        (Kind::Sign, ":=", place(3, 3, 36, 38)),
-        (Kind::Name, "_9", place(3, 5, 38, 40)),
-    ] {
+    for want in TOKENS.lines() {
         match lexer.next() {
             Ok(Some(token)) => {
-                assert_eq!(rt; token.kind, kind, "at {word}");
-                assert_eq!(rt; token.text, word.as_bytes(), "at {word}");
-                assert_eq!(rt; token.at, at, "at {word}");
+                let word = str::from_utf8(token.text)?;
+                let at = place_text(alloc, token.at)?;
+                let found = format!(in alloc; "{:?} {word} {at}", token.kind)?;
+                assert_eq!(rt; found.as_str(), want);
             }
-            _ => assert!(rt; false, "at {word}"),
+            _ => assert!(rt; false, "at {want}"),
         }
     }
+    assert_eq!(rt; TOKENS.lines().count(), 12);
     assert!(rt; matches!(lexer.next(), Ok(None)));
     assert!(rt; matches!(lexer.again().next(), Ok(None)));
     Ok(())
@@ -63,67 +110,14 @@ fn reads_tokens_with_their_places(rt: HostRuntime) -> Result<(), Fail> {
 
 #[test]
 fn takes_the_longest_token_within_its_limits(rt: HostRuntime) -> Result<(), Fail> {
-    for (text, want) in [
-        ("", Ok(0)),
-        (" \t\r\n# to the end of its line", Ok(0)),
-        ("# \"\n!=", Ok(2)),
-        ("1..5", Ok(1)),
-        ("1.", Ok(1)),
-        ("1.5.2", Ok(3)),
-        ("...", Ok(2)),
-        (":==", Ok(2)),
-        (":;", Ok(1)),
-        ("<=", Ok(2)),
-        ("<<=", Ok(1)),
-        (">==", Ok(2)),
-        ("==", Ok(2)),
-        ("=>", Ok(1)),
-        ("4offset", Ok(1)),
-        ("topics", Ok(6)),
-        (LONGEST, Ok(64)),
-        (
-            TOO_LONG,
-            Err(LexFault::NameLong {
-                at: place(1, 1, 0, 65),
-            }),
-        ),
-        ("1000000000000", Ok(13)),
-        (
-            "1000000000001",
-            Err(LexFault::LiteralWide {
-                at: place(1, 1, 0, 13),
-            }),
-        ),
-        ("0000000000000001", Ok(16)),
-        ("1.000000", Ok(8)),
-        (
-            " 1.0000000",
-            Err(LexFault::LiteralWide {
-                at: place(1, 2, 1, 10),
-            }),
-        ),
-        ("1000000.000000", Ok(14)),
-        (
-            "1000000.000001",
-            Err(LexFault::LiteralWide {
-                at: place(1, 1, 0, 14),
-            }),
-        ),
-        (
-            "\n \"",
-            Err(LexFault::BadByte {
-                at: place(2, 2, 2, 3),
-            }),
-        ),
-        (
-            "!",
-            Err(LexFault::BadByte {
-                at: place(1, 1, 0, 1),
-            }),
-        ),
-    ] {
-        assert_eq!(rt; first(text), want, "at {text}");
+    let alloc = rt.alloc();
+    for row in FIRST.lines() {
+        let (text, want) = row.split_once(" => ").ok_or("no answer")?;
+        let text = unescaped(alloc, text)?;
+        let found = first(alloc, &text)?;
+        assert_eq!(rt; found.as_str(), want, "at {text}");
     }
+    assert_eq!(rt; FIRST.lines().count(), 27);
     Ok(())
 }
 
@@ -145,17 +139,13 @@ fn repeats_a_fault(rt: HostRuntime) -> Result<(), Fail> {
 
 #[test]
 fn counts_decimals(rt: HostRuntime) -> Result<(), Fail> {
-    for (text, mantissa, decimals, len) in [
-        ("0", 0, 0, 1),
-        ("12.50", 1250, 2, 5),
-        ("007..9", 7, 0, 3),
-        ("1.", 1, 0, 1),
-        ("9999999999999", 1_000_000_000_001, 0, 13),
-    ] {
+    for row in NUMERALS.lines() {
+        let (text, want) = row.split_once(" => ").ok_or("no answer")?;
         let number = numeral_of(text.as_bytes());
-        assert_eq!(rt; number.mantissa, mantissa, "at {text}");
-        assert_eq!(rt; number.decimals, decimals, "at {text}");
-        assert_eq!(rt; number.len, len, "at {text}");
+        let (mantissa, decimals) = (number.mantissa, number.decimals);
+        let found = format!(in rt.alloc(); "{mantissa} {decimals} {}", number.len)?;
+        assert_eq!(rt; found.as_str(), want, "at {text}");
     }
+    assert_eq!(rt; NUMERALS.lines().count(), 5);
     Ok(())
 }
