@@ -1,6 +1,7 @@
 //! What texts say as flights, and their first faults. The answers are those of an independent reader of the format.
 use super::*;
 use sot_flight::Flight;
+use std::process::Abort;
 
 // A flight by its parts, each under its name.
 type Parts = [(&'static str, &'static str); 6];
@@ -57,408 +58,121 @@ fn counts(alloc: Global, flight: &Flight) -> Result<String, Fail> {
     Ok(format!(in alloc; "horizon {horizon} events {events} numbers {numbers}\n")?)
 }
 
+// Whether a mission's flights are read as a table says, and how many there are. A row has a count of guests, the part that is not the
+// usual one, its value, and what is said.
+fn say(
+    rt: &impl Abort,
+    alloc: Global,
+    mission: &str,
+    usual: &Parts,
+    table: &str,
+) -> Result<usize, Fail> {
+    for row in table.lines() {
+        let (varying, want) = row.split_once(" => ").ok_or("no answer")?;
+        let (guests, varying) = varying.split_once(' ').ok_or("no part")?;
+        let (part, value) = varying.split_once(' ').ok_or("no value")?;
+        let guests = guests.parse().ok().ok_or("no number")?;
+        let flight = varied(alloc, usual, part, value)?;
+        let found = said(alloc, mission, flight.as_str(), guests)?;
+        let want = format!(in alloc; "{want}\n")?;
+        assert_eq!(rt; found.as_str(), want.as_str(), "{row}");
+    }
+    Ok(table.lines().count())
+}
+
+const OF_THE_VEHICLE: &str = r#"0 format 1 => horizon 20 events 36 numbers 50
+0 horizon 0 => horizon 0 events 1 numbers 0
+0 horizon 66666 => horizon 66666 events 116667 numbers 166666
+0 horizon 100000 => horizon 100000 events 175001 numbers 250000
+0 horizon 100001 => fault flight /horizon OutsideRange
+0 horizon 1e2 => fault flight /horizon NotWhole
+0 horizon -0 => fault flight /horizon NotWhole
+0 horizon null => fault flight /horizon WrongShape
+0 format 2 => fault flight /format OutsideRange
+0 format "1" => fault flight /format WrongShape
+0 sway {"pos":{"kind":"list","values":[[0]]}},"x":0 => fault flight / Unknown
+0 sway {"pos":{"kind":"list","values":[[0]]}},"horizon":3 => horizon 3 events 6 numbers 8
+0 sway {"pos":{"kind":"list","values":[[0]]} => fault flight / NotJson
+0 start {} => fault flight /start/pos Missing
+0 start {"pos":[]} => fault flight /start/pos Width
+0 start {"pos":[0,0]} => fault flight /start/pos Width
+0 start {"pos":[1000000000000]} => horizon 20 events 36 numbers 50
+0 start {"pos":[-1000000000001]} => fault flight /start/pos/0 OutsideRange
+0 start {"pos":[0.5]} => fault flight /start/pos/0 NotWhole
+0 start {"pos":0} => fault flight /start/pos WrongShape
+0 start {"pos":[0],"a/b":[]} => fault flight /start Unknown
+0 inputs {} => fault flight /inputs WrongShape
+0 inputs [{"at":0,"topic":"cmd","value":[0]}] => fault flight /inputs/0/topic Unknown
+0 inputs [{}] => fault flight /inputs/0/at Missing
+0 inputs [{"at":21}] => fault flight /inputs/0/at OutsideRange
+0 sway {} => fault flight /sway/pos Missing
+0 sway {"pos":{}} => fault flight /sway/pos/kind Missing
+0 sway {"pos":{"kind":"low"}} => horizon 20 events 36 numbers 50
+0 sway {"pos":{"kind":"high"}} => horizon 20 events 36 numbers 50
+0 sway {"pos":{"kind":"still"}} => fault flight /sway/pos/kind WrongShape
+0 sway {"pos":{"kind":1}} => fault flight /sway/pos/kind WrongShape
+0 sway {"pos":{"kind":"low","values":[]}} => fault flight /sway/pos Unknown
+0 sway {"pos":{"kind":"list"}} => fault flight /sway/pos/values Missing
+0 sway {"pos":{"kind":"list","values":[]}} => fault flight /sway/pos/values Empty
+0 sway {"pos":{"kind":"list","values":[[-1],[1]]}} => horizon 20 events 36 numbers 50
+0 sway {"pos":{"kind":"list","values":[[-1],[2]]}} => fault flight /sway/pos/values/1/0 OutsideRange
+0 sway {"pos":{"kind":"list","values":[[]]}} => fault flight /sway/pos/values/0 Width
+0 sway {"pos":{"kind":"list","values":[0]}} => fault flight /sway/pos/values/0 WrongShape
+0 sway {"pos":{"kind":"seed","seed":42,"stream":54}} => horizon 20 events 36 numbers 50
+0 sway {"pos":{"kind":"seed","seed":1000000000000,"stream":1000000000000}} => horizon 20 events 36 numbers 50
+0 sway {"pos":{"kind":"seed","seed":1000000000001,"stream":0}} => fault flight /sway/pos/seed OutsideRange
+0 sway {"pos":{"kind":"seed","stream":0}} => fault flight /sway/pos/seed Missing
+0 sway {"pos":{"kind":"seed","seed":0}} => fault flight /sway/pos/stream Missing
+0 sway {"pos":{"kind":"seed","seed":0,"stream":-1}} => fault flight /sway/pos/stream OutsideRange
+0 sway {"pos":{"kind":"low"},"nav":{}} => fault flight /sway Unknown
+0 crew {} => fault flight /crew/fast Missing
+0 crew {"fast":{"kind":"none"}} => fault flight /crew/fast/kind WrongShape
+0 crew {"fast":{"kind":"script","drafts":[]}} => fault flight /crew/fast/drafts Empty
+0 crew {"fast":{"kind":"script","drafts":[[99],[null]]}} => horizon 20 events 36 numbers 50
+0 crew {"fast":{"kind":"script","drafts":[[1000000000001]]}} => fault flight /crew/fast/drafts/0/0 OutsideRange
+0 crew {"fast":{"kind":"script","drafts":[[]]}} => fault flight /crew/fast/drafts/0 Width
+0 crew {"fast":{"kind":"script","drafts":[[true]]}} => fault flight /crew/fast/drafts/0/0 WrongShape
+0 crew {"fast":{"kind":"wild","seed":7,"stream":3}} => horizon 20 events 36 numbers 50
+0 crew {"fast":{"kind":"wild","seed":7}} => fault flight /crew/fast/stream Missing
+0 crew {"fast":{"kind":"guest","index":0}} => fault flight /crew/fast/index NoGuest
+1 crew {"fast":{"kind":"guest","index":0}} => horizon 20 events 36 numbers 50
+1 crew {"fast":{"kind":"guest","index":1}} => fault flight /crew/fast/index NoGuest
+1 crew {"fast":{"kind":"guest","index":1000000000001}} => fault flight /crew/fast/index OutsideRange
+1 crew {"fast":{"kind":"guest"}} => fault flight /crew/fast/index Missing
+1 crew {"fast":{"kind":"guest","index":0,"seed":0}} => fault flight /crew/fast Unknown
+1 crew {"fast":{"kind":"guest","index":0},"slow":{}} => fault flight /crew Unknown"#;
+
 #[test]
 fn each_part_of_a_flight_is_read(rt: HostRuntime) -> Result<(), Fail> {
     let alloc = rt.alloc();
     let mission = apart(alloc)?;
-    for (guests, part, value, want) in [
-        (0, "format", "1", "horizon 20 events 36 numbers 50\n"),
-        (0, "horizon", "0", "horizon 0 events 1 numbers 0\n"),
-        (
-            0,
-            "horizon",
-            "66666",
-            "horizon 66666 events 116667 numbers 166666\n",
-        ),
-        (
-            0,
-            "horizon",
-            "100000",
-            "horizon 100000 events 175001 numbers 250000\n",
-        ),
-        (
-            0,
-            "horizon",
-            "100001",
-            "fault flight /horizon OutsideRange\n",
-        ),
-        (0, "horizon", "1e2", "fault flight /horizon NotWhole\n"),
-        (0, "horizon", "-0", "fault flight /horizon NotWhole\n"),
-        (0, "horizon", "null", "fault flight /horizon WrongShape\n"),
-        (0, "format", "2", "fault flight /format OutsideRange\n"),
-        (0, "format", r#""1""#, "fault flight /format WrongShape\n"),
-        (
-            0,
-            "sway",
-            r#"{"pos":{"kind":"list","values":[[0]]}},"x":0"#,
-            "fault flight / Unknown\n",
-        ),
-        (
-            0,
-            "sway",
-            r#"{"pos":{"kind":"list","values":[[0]]}},"horizon":3"#,
-            "horizon 3 events 6 numbers 8\n",
-        ),
-        (
-            0,
-            "sway",
-            r#"{"pos":{"kind":"list","values":[[0]]}"#,
-            "fault flight / NotJson\n",
-        ),
-        (0, "start", "{}", "fault flight /start/pos Missing\n"),
-        (
-            0,
-            "start",
-            r#"{"pos":[]}"#,
-            "fault flight /start/pos Width\n",
-        ),
-        (
-            0,
-            "start",
-            r#"{"pos":[0,0]}"#,
-            "fault flight /start/pos Width\n",
-        ),
-        (
-            0,
-            "start",
-            r#"{"pos":[1000000000000]}"#,
-            "horizon 20 events 36 numbers 50\n",
-        ),
-        (
-            0,
-            "start",
-            r#"{"pos":[-1000000000001]}"#,
-            "fault flight /start/pos/0 OutsideRange\n",
-        ),
-        (
-            0,
-            "start",
-            r#"{"pos":[0.5]}"#,
-            "fault flight /start/pos/0 NotWhole\n",
-        ),
-        (
-            0,
-            "start",
-            r#"{"pos":0}"#,
-            "fault flight /start/pos WrongShape\n",
-        ),
-        (
-            0,
-            "start",
-            r#"{"pos":[0],"a/b":[]}"#,
-            "fault flight /start Unknown\n",
-        ),
-        (0, "inputs", "{}", "fault flight /inputs WrongShape\n"),
-        (
-            0,
-            "inputs",
-            r#"[{"at":0,"topic":"cmd","value":[0]}]"#,
-            "fault flight /inputs/0/topic Unknown\n",
-        ),
-        (0, "inputs", "[{}]", "fault flight /inputs/0/at Missing\n"),
-        (
-            0,
-            "inputs",
-            r#"[{"at":21}]"#,
-            "fault flight /inputs/0/at OutsideRange\n",
-        ),
-        (0, "sway", "{}", "fault flight /sway/pos Missing\n"),
-        (
-            0,
-            "sway",
-            r#"{"pos":{}}"#,
-            "fault flight /sway/pos/kind Missing\n",
-        ),
-        (
-            0,
-            "sway",
-            r#"{"pos":{"kind":"low"}}"#,
-            "horizon 20 events 36 numbers 50\n",
-        ),
-        (
-            0,
-            "sway",
-            r#"{"pos":{"kind":"high"}}"#,
-            "horizon 20 events 36 numbers 50\n",
-        ),
-        (
-            0,
-            "sway",
-            r#"{"pos":{"kind":"still"}}"#,
-            "fault flight /sway/pos/kind WrongShape\n",
-        ),
-        (
-            0,
-            "sway",
-            r#"{"pos":{"kind":1}}"#,
-            "fault flight /sway/pos/kind WrongShape\n",
-        ),
-        (
-            0,
-            "sway",
-            r#"{"pos":{"kind":"low","values":[]}}"#,
-            "fault flight /sway/pos Unknown\n",
-        ),
-        (
-            0,
-            "sway",
-            r#"{"pos":{"kind":"list"}}"#,
-            "fault flight /sway/pos/values Missing\n",
-        ),
-        (
-            0,
-            "sway",
-            r#"{"pos":{"kind":"list","values":[]}}"#,
-            "fault flight /sway/pos/values Empty\n",
-        ),
-        (
-            0,
-            "sway",
-            r#"{"pos":{"kind":"list","values":[[-1],[1]]}}"#,
-            "horizon 20 events 36 numbers 50\n",
-        ),
-        (
-            0,
-            "sway",
-            r#"{"pos":{"kind":"list","values":[[-1],[2]]}}"#,
-            "fault flight /sway/pos/values/1/0 OutsideRange\n",
-        ),
-        (
-            0,
-            "sway",
-            r#"{"pos":{"kind":"list","values":[[]]}}"#,
-            "fault flight /sway/pos/values/0 Width\n",
-        ),
-        (
-            0,
-            "sway",
-            r#"{"pos":{"kind":"list","values":[0]}}"#,
-            "fault flight /sway/pos/values/0 WrongShape\n",
-        ),
-        (
-            0,
-            "sway",
-            r#"{"pos":{"kind":"seed","seed":42,"stream":54}}"#,
-            "horizon 20 events 36 numbers 50\n",
-        ),
-        (
-            0,
-            "sway",
-            r#"{"pos":{"kind":"seed","seed":1000000000000,"stream":1000000000000}}"#,
-            "horizon 20 events 36 numbers 50\n",
-        ),
-        (
-            0,
-            "sway",
-            r#"{"pos":{"kind":"seed","seed":1000000000001,"stream":0}}"#,
-            "fault flight /sway/pos/seed OutsideRange\n",
-        ),
-        (
-            0,
-            "sway",
-            r#"{"pos":{"kind":"seed","stream":0}}"#,
-            "fault flight /sway/pos/seed Missing\n",
-        ),
-        (
-            0,
-            "sway",
-            r#"{"pos":{"kind":"seed","seed":0}}"#,
-            "fault flight /sway/pos/stream Missing\n",
-        ),
-        (
-            0,
-            "sway",
-            r#"{"pos":{"kind":"seed","seed":0,"stream":-1}}"#,
-            "fault flight /sway/pos/stream OutsideRange\n",
-        ),
-        (
-            0,
-            "sway",
-            r#"{"pos":{"kind":"low"},"nav":{}}"#,
-            "fault flight /sway Unknown\n",
-        ),
-        (0, "crew", "{}", "fault flight /crew/fast Missing\n"),
-        (
-            0,
-            "crew",
-            r#"{"fast":{"kind":"none"}}"#,
-            "fault flight /crew/fast/kind WrongShape\n",
-        ),
-        (
-            0,
-            "crew",
-            r#"{"fast":{"kind":"script","drafts":[]}}"#,
-            "fault flight /crew/fast/drafts Empty\n",
-        ),
-        (
-            0,
-            "crew",
-            r#"{"fast":{"kind":"script","drafts":[[99],[null]]}}"#,
-            "horizon 20 events 36 numbers 50\n",
-        ),
-        (
-            0,
-            "crew",
-            r#"{"fast":{"kind":"script","drafts":[[1000000000001]]}}"#,
-            "fault flight /crew/fast/drafts/0/0 OutsideRange\n",
-        ),
-        (
-            0,
-            "crew",
-            r#"{"fast":{"kind":"script","drafts":[[]]}}"#,
-            "fault flight /crew/fast/drafts/0 Width\n",
-        ),
-        (
-            0,
-            "crew",
-            r#"{"fast":{"kind":"script","drafts":[[true]]}}"#,
-            "fault flight /crew/fast/drafts/0/0 WrongShape\n",
-        ),
-        (
-            0,
-            "crew",
-            r#"{"fast":{"kind":"wild","seed":7,"stream":3}}"#,
-            "horizon 20 events 36 numbers 50\n",
-        ),
-        (
-            0,
-            "crew",
-            r#"{"fast":{"kind":"wild","seed":7}}"#,
-            "fault flight /crew/fast/stream Missing\n",
-        ),
-        (
-            0,
-            "crew",
-            r#"{"fast":{"kind":"guest","index":0}}"#,
-            "fault flight /crew/fast/index NoGuest\n",
-        ),
-        (
-            1,
-            "crew",
-            r#"{"fast":{"kind":"guest","index":0}}"#,
-            "horizon 20 events 36 numbers 50\n",
-        ),
-        (
-            1,
-            "crew",
-            r#"{"fast":{"kind":"guest","index":1}}"#,
-            "fault flight /crew/fast/index NoGuest\n",
-        ),
-        (
-            1,
-            "crew",
-            r#"{"fast":{"kind":"guest","index":1000000000001}}"#,
-            "fault flight /crew/fast/index OutsideRange\n",
-        ),
-        (
-            1,
-            "crew",
-            r#"{"fast":{"kind":"guest"}}"#,
-            "fault flight /crew/fast/index Missing\n",
-        ),
-        (
-            1,
-            "crew",
-            r#"{"fast":{"kind":"guest","index":0,"seed":0}}"#,
-            "fault flight /crew/fast Unknown\n",
-        ),
-        (
-            1,
-            "crew",
-            r#"{"fast":{"kind":"guest","index":0},"slow":{}}"#,
-            "fault flight /crew Unknown\n",
-        ),
-    ] {
-        let flight = varied(alloc, &VEHICLE, part, value)?;
-        let found = said(alloc, mission.as_str(), flight.as_str(), guests)?;
-        assert_eq!(rt; found.as_str(), want);
-    }
+    let rows = say(&rt, alloc, mission.as_str(), &VEHICLE, OF_THE_VEHICLE)?;
+    assert_eq!(rt; rows, 61);
     Ok(())
 }
 
+const OF_THE_RELAY: &str = r#"0 format 1 => horizon 0 events 1 numbers 1
+0 inputs [{"at":0,"topic":"e","value":[5]}] => horizon 0 events 2 numbers 2
+0 inputs [{"at":0,"topic":"e","value":[5]},{"at":0,"topic":"e","value":[6]}] => horizon 0 events 3 numbers 3
+0 inputs [{"at":1,"topic":"e","value":[5]}] => fault flight /inputs/0/at OutsideRange
+0 inputs [{"at":0,"topic":"e","value":[10]}] => fault flight /inputs/0/value/0 OutsideRange
+0 inputs [{"at":0,"topic":"e","value":[-1]}] => fault flight /inputs/0/value/0 OutsideRange
+0 inputs [{"at":0,"topic":"e","value":[9]}] => horizon 0 events 2 numbers 2
+0 inputs [{"at":0,"topic":"e","value":[]}] => fault flight /inputs/0/value Width
+0 inputs [{"at":0,"topic":"e","value":5}] => fault flight /inputs/0/value WrongShape
+0 inputs [{"at":0,"topic":"m","value":[5]}] => fault flight /inputs/0/topic Unknown
+0 inputs [{"at":0,"topic":"zap","value":[5]}] => fault flight /inputs/0/topic Unknown
+0 inputs [{"at":0,"topic":1,"value":[5]}] => fault flight /inputs/0/topic WrongShape
+0 inputs [{"at":0,"topic":"e","value":[5],"x":0}] => fault flight /inputs/0 Unknown
+0 inputs [{"at":0,"value":[5]}] => fault flight /inputs/0/topic Missing
+0 horizon 100000 => horizon 100000 events 116667 numbers 16667
+0 crew {"copy":0} => fault flight /crew Unknown
+0 start {"e":0} => fault flight /start Unknown
+0 sway {"e":0} => fault flight /sway Unknown"#;
+
 #[test]
 fn inputs_are_read_in_order(rt: HostRuntime) -> Result<(), Fail> {
-    let alloc = rt.alloc();
-    for (part, value, want) in [
-        ("format", "1", "horizon 0 events 1 numbers 1\n"),
-        (
-            "inputs",
-            r#"[{"at":0,"topic":"e","value":[5]}]"#,
-            "horizon 0 events 2 numbers 2\n",
-        ),
-        (
-            "inputs",
-            r#"[{"at":0,"topic":"e","value":[5]},{"at":0,"topic":"e","value":[6]}]"#,
-            "horizon 0 events 3 numbers 3\n",
-        ),
-        (
-            "inputs",
-            r#"[{"at":1,"topic":"e","value":[5]}]"#,
-            "fault flight /inputs/0/at OutsideRange\n",
-        ),
-        (
-            "inputs",
-            r#"[{"at":0,"topic":"e","value":[10]}]"#,
-            "fault flight /inputs/0/value/0 OutsideRange\n",
-        ),
-        (
-            "inputs",
-            r#"[{"at":0,"topic":"e","value":[-1]}]"#,
-            "fault flight /inputs/0/value/0 OutsideRange\n",
-        ),
-        (
-            "inputs",
-            r#"[{"at":0,"topic":"e","value":[9]}]"#,
-            "horizon 0 events 2 numbers 2\n",
-        ),
-        (
-            "inputs",
-            r#"[{"at":0,"topic":"e","value":[]}]"#,
-            "fault flight /inputs/0/value Width\n",
-        ),
-        (
-            "inputs",
-            r#"[{"at":0,"topic":"e","value":5}]"#,
-            "fault flight /inputs/0/value WrongShape\n",
-        ),
-        (
-            "inputs",
-            r#"[{"at":0,"topic":"m","value":[5]}]"#,
-            "fault flight /inputs/0/topic Unknown\n",
-        ),
-        (
-            "inputs",
-            r#"[{"at":0,"topic":"zap","value":[5]}]"#,
-            "fault flight /inputs/0/topic Unknown\n",
-        ),
-        (
-            "inputs",
-            r#"[{"at":0,"topic":1,"value":[5]}]"#,
-            "fault flight /inputs/0/topic WrongShape\n",
-        ),
-        (
-            "inputs",
-            r#"[{"at":0,"topic":"e","value":[5],"x":0}]"#,
-            "fault flight /inputs/0 Unknown\n",
-        ),
-        (
-            "inputs",
-            r#"[{"at":0,"value":[5]}]"#,
-            "fault flight /inputs/0/topic Missing\n",
-        ),
-        (
-            "horizon",
-            "100000",
-            "horizon 100000 events 116667 numbers 16667\n",
-        ),
-        ("crew", r#"{"copy":0}"#, "fault flight /crew Unknown\n"),
-        ("start", r#"{"e":0}"#, "fault flight /start Unknown\n"),
-        ("sway", r#"{"e":0}"#, "fault flight /sway Unknown\n"),
-    ] {
-        let flight = varied(alloc, &RELAYED, part, value)?;
-        let found = said(alloc, RELAY, flight.as_str(), 0)?;
-        assert_eq!(rt; found.as_str(), want);
-    }
+    assert_eq!(rt; say(&rt, rt.alloc(), RELAY, &RELAYED, OF_THE_RELAY)?, 18);
     Ok(())
 }
 
