@@ -104,6 +104,15 @@ pub const BRAKED: [&str; 15] = [
     "end 5 events 12 refused 0",
 ];
 
+// A column of a table, in which `\n` and `\r` stand for a line end and a return.
+pub fn unescaped(alloc: Global, column: &str) -> Result<String, AllocError> {
+    let mut text = String::from_str(alloc, column)?;
+    for (escape, meant) in [("\\n", "\n"), ("\\r", "\r")] {
+        text = text.replace(alloc, escape, meant)?;
+    }
+    Ok(text)
+}
+
 // Lines as a text, with another one in this place, counted from 1; 0 is the place of none.
 pub fn lines_text(
     alloc: Global,

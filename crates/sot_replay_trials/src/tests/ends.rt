@@ -11,33 +11,34 @@ fn with_ends(alloc: Global, end: &str, last: &str) -> Result<String, Fail> {
     Ok(text)
 }
 
+// What ends each line but the last, what ends the last one, and the answer.
+const ENDS: &str = r"\n | \n => legal events 12
+\r\n | \r\n => legal events 12
+\n |  => legal events 12
+\r\n |  => legal events 12
+\n | \r => refused line 15 NotALine
+\r | \n => refused line 1 NotALine
+\r\r\n | \n => refused line 1 NotALine
+\n\n | \n => refused line 2 NotALine
+\n | \nx\n => refused line 16 Ended
+\n | \n\n => refused line 16 Ended
+\n | \n\r\n => refused line 16 Ended
+\n | \nx\ny\n => refused line 16 Ended
+\n | \nend 5 events 12 refused 0\n => refused line 16 Ended";
+
 #[test]
 fn line_ends(rt: HostRuntime) -> Result<(), Fail> {
     let alloc = rt.alloc();
     let mission = windy(alloc)?;
-    for (end, last, want) in [
-        ("\n", "\n", "legal events 12"),
-        ("\r\n", "\r\n", "legal events 12"),
-        ("\n", "", "legal events 12"),
-        ("\r\n", "", "legal events 12"),
-        ("\n", "\r", "refused line 15 NotALine"),
-        ("\r", "\n", "refused line 1 NotALine"),
-        ("\r\r\n", "\n", "refused line 1 NotALine"),
-        ("\n\n", "\n", "refused line 2 NotALine"),
-        ("\n", "\nx\n", "refused line 16 Ended"),
-        ("\n", "\n\n", "refused line 16 Ended"),
-        ("\n", "\n\r\n", "refused line 16 Ended"),
-        ("\n", "\nx\ny\n", "refused line 16 Ended"),
-        (
-            "\n",
-            "\nend 5 events 12 refused 0\n",
-            "refused line 16 Ended",
-        ),
-    ] {
-        let trace = with_ends(alloc, end, last)?;
+    for row in ENDS.lines() {
+        let (row, want) = row.split_once(" => ").ok_or("no answer")?;
+        let (end, last) = row.split_once(" | ").ok_or("no last end")?;
+        let (end, last) = (unescaped(alloc, end)?, unescaped(alloc, last)?);
+        let trace = with_ends(alloc, &end, &last)?;
         let found = replayed(&rt, alloc, mission.as_str(), 0, trace.as_bytes())?;
-        assert_eq!(rt; found.as_str(), want, "with {end:?} and {last:?}");
+        assert_eq!(rt; found.as_str(), want, "with {row}");
     }
+    assert_eq!(rt; ENDS.lines().count(), 13);
     Ok(())
 }
 

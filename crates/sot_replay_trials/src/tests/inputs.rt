@@ -11,64 +11,41 @@ node copy period 6 offset 0 { reads e; writes m; do { publish m = e; } }
 {\"crew\":{},\"format\":1,\"horizon\":0,\"inputs\":[{\"at\":0,\"topic\":\"e\",\"value\":[5]}],\"start\":{},\"sway\":{}}
 ";
 
-// What stands behind the header, with the answer.
-const ROWS: [(&str, &str); 23] = [
-    (
-        "0 input e=5\n0 fire copy m=5\nend 0 events 2 refused 0\n",
-        "legal events 2",
-    ),
-    (
-        "0 fire copy m=0\n0 input e=5\nend 0 events 2 refused 0\n",
-        "legal events 2",
-    ),
-    (
-        "0 fire copy m=5\n0 input e=5\nend 0 events 2 refused 0\n",
-        "refused line 2 Differs",
-    ),
-    (
-        "0 fire copy m=0\nend 0 events 1 refused 0\n",
-        "refused line 3 InputsLeft",
-    ),
-    ("0 input e=6\n", "refused line 2 Differs"),
-    ("0 input e=10\n", "refused line 2 OutsideType"),
-    ("1 input e=5\n", "refused line 2 WrongTime"),
-    ("1 input e=10\n", "refused line 2 WrongTime"),
-    ("0 input e=05\n", "refused line 2 NotALine"),
-    ("0 input m=5\n", "refused line 2 NotALine"),
-    ("0 input e=5,5\n", "refused line 2 NotALine"),
-    ("0 input e=5\n0 input e=5\n", "refused line 3 Differs"),
-    ("0 input e=5\n0 input e=10\n", "refused line 3 OutsideType"),
-    ("end 0 events 0 refused 0\n", "refused line 2 NodesLeft"),
-    (
-        "0 input e=5\nend 0 events 1 refused 0\n",
-        "refused line 3 NodesLeft",
-    ),
-    ("0 input e=5\n0 fire copy m=0\n", "refused line 3 Differs"),
-    ("0 tick\n", "refused line 2 NodesLeft"),
-    ("0 tick \n", "refused line 2 NotALine"),
-    (
-        "0 input e=5\n0 fire copy m=5\n0 tick\n",
-        "refused line 4 TooFar",
-    ),
-    (
-        "0 input e=5\n0 fire copy m=5\n0 tick \n",
-        "refused line 4 NotALine",
-    ),
-    ("0 input e=5\n0 idle copy m=5\n", "refused line 3 Differs"),
-    ("0 input e=5\n0 fire copy m!5\n", "refused line 3 Differs"),
-    (
-        "0 fire copy m=0\n0 fire copy m=0\n",
-        "refused line 3 AlreadyFired",
-    ),
-];
+// What stands behind the header, where `\n` ends a line, with the answer.
+const ROWS: &str = r"0 input e=5\n0 fire copy m=5\nend 0 events 2 refused 0\n => legal events 2
+0 fire copy m=0\n0 input e=5\nend 0 events 2 refused 0\n => legal events 2
+0 fire copy m=5\n0 input e=5\nend 0 events 2 refused 0\n => refused line 2 Differs
+0 fire copy m=0\nend 0 events 1 refused 0\n => refused line 3 InputsLeft
+0 input e=6\n => refused line 2 Differs
+0 input e=10\n => refused line 2 OutsideType
+1 input e=5\n => refused line 2 WrongTime
+1 input e=10\n => refused line 2 WrongTime
+0 input e=05\n => refused line 2 NotALine
+0 input m=5\n => refused line 2 NotALine
+0 input e=5,5\n => refused line 2 NotALine
+0 input e=5\n0 input e=5\n => refused line 3 Differs
+0 input e=5\n0 input e=10\n => refused line 3 OutsideType
+end 0 events 0 refused 0\n => refused line 2 NodesLeft
+0 input e=5\nend 0 events 1 refused 0\n => refused line 3 NodesLeft
+0 input e=5\n0 fire copy m=0\n => refused line 3 Differs
+0 tick\n => refused line 2 NodesLeft
+0 tick \n => refused line 2 NotALine
+0 input e=5\n0 fire copy m=5\n0 tick\n => refused line 4 TooFar
+0 input e=5\n0 fire copy m=5\n0 tick \n => refused line 4 NotALine
+0 input e=5\n0 idle copy m=5\n => refused line 3 Differs
+0 input e=5\n0 fire copy m!5\n => refused line 3 Differs
+0 fire copy m=0\n0 fire copy m=0\n => refused line 3 AlreadyFired";
 
 #[test]
 fn inputs_come_when_they_are_due(rt: HostRuntime) -> Result<(), Fail> {
     let alloc = rt.alloc();
-    for (lines, want) in ROWS {
+    for row in ROWS.lines() {
+        let (lines, want) = row.split_once(" => ").ok_or("no answer")?;
+        let lines = unescaped(alloc, lines)?;
         let trace = format!(in alloc; "soter trace 1\n{lines}")?;
         let found = replayed(&rt, alloc, RELAY, 0, trace.as_bytes())?;
         assert_eq!(rt; found.as_str(), want, "at {lines}");
     }
+    assert_eq!(rt; ROWS.lines().count(), 23);
     Ok(())
 }
