@@ -85,29 +85,32 @@ fn takes_numbers_in_their_bounds(rt: HostRuntime) -> Result<(), Fail> {
     Ok(())
 }
 
+// Pairs of words that are no count and no seed of a mission.
+const OTHERS: &str = "0,1
+01,1
+101,1
++1,1
+1,1000000000001
+1,18446744073709551617
+1,00
+1,1.0
+1, 1
+1,
+,1
+2,-1
+-1,1
+one,1";
+
 #[test]
 fn turns_other_words_away(rt: HostRuntime) -> Result<(), Fail> {
-    for (n, seed) in [
-        ("0", "1"),
-        ("01", "1"),
-        ("101", "1"),
-        ("+1", "1"),
-        ("1", "1000000000001"),
-        ("1", "18446744073709551617"),
-        ("1", "00"),
-        ("1", "1.0"),
-        ("1", " 1"),
-        ("1", ""),
-        ("", "1"),
-        ("2", "-1"),
-        ("-1", "1"),
-        ("one", "1"),
-    ] {
+    for row in OTHERS.lines() {
+        let (n, seed) = row.split_once(',').ok_or("no second word")?;
         let (status, text, is_left) = said(&rt, rt.alloc(), &["make", n, seed], b"x")?;
         assert_eq!(rt; status, 2);
         assert_eq!(rt; text.as_slice(), USAGE.as_bytes());
         assert!(rt; is_left);
     }
+    assert_eq!(rt; OTHERS.lines().count(), 14);
     Ok(())
 }
 
