@@ -9,7 +9,7 @@ ghost use Rattle.sot_board.specs.Views.{IsView};
 
 use super::boards::{Deed, does_all};
 use super::*;
-use sot_board::{Board, Commit, View, code_runs_on_views, views_stay};
+use sot_board::{Board, Commit, View, code_runs_on_views, is_coded, views_stay};
 use sot_code::{Fired, run_node};
 use sot_compose::check_all;
 
