@@ -47,6 +47,3 @@ pub fn firings(period: u32, offset: u32, horizon: u32) -> u32
         (horizon - offset) / period + 1
     }
 }
-
-#[cfg(test)]
-mod tests;

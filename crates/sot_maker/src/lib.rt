@@ -15,6 +15,3 @@ mod order;
 pub use facts::{mission_is_as_stated, offsets_are_as_stated, orders_are_as_stated};
 pub use laws::{made_texts_are_short, no_two_are_due_together};
 pub use mission::make;
-
-#[cfg(test)]
-mod tests;

@@ -9,8 +9,6 @@
 #![tactic(auto)]
 
 mod journal;
-#[cfg(test)]
-mod tests;
 mod turn;
 
 pub use journal::Journal;

@@ -1,8 +1,7 @@
 //! Tests of the made texts against those of an independent program.
 
-use super::*;
-use std::alloc::Global;
-use std::test::Fail;
+use sot_maker::make;
+use std::test::*;
 
 // The mission of two modules for seed 42.
 const TWO_MODULES: &str = "topic cmd0: int[-2..2] = 0;

@@ -2,8 +2,7 @@
 
 ghost use Rattle.std.specs.Prelude.{◌≤◌, IfOk};
 
-use super::*;
-use crate::standard::{counted_read, counted_write};
+use sot_ports::*;
 use std::io;
 use std::io::{Read, Write};
 use std::test::Fail;

@@ -2,7 +2,7 @@
 ghost use Rattle.std.specs.Prelude.{◌≡◌, ◌++◌, ◌∷◌, [], IfOk};
 ghost use Rattle.sot_turn.specs.Prefixes.{IsPrefix};
 
-use crate::Journal;
+use sot_turn::Journal;
 use std::alloc::{AllocError, Global};
 
 /// Its ground is the number that it was made with, and its entries are the numbers added since.

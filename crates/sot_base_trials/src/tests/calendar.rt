@@ -2,7 +2,8 @@
 
 ghost use Rattle.std.specs.Prelude.{◌<◌};
 
-use super::*;
+use sot_calendar::{due, firings, next_due};
+use std::test::*;
 
 /// Walks from the offset by whole periods until `t` is reached.
 fn plain_next(period: u32, offset: u32, t: u32) -> u32

@@ -3,16 +3,13 @@
 ghost use Rattle.std.specs.Prelude.{◌≡◌};
 ghost use Rattle.sot_turn.specs.Passes.{lock_of, pass_lock, pass_ground};
 
-use crate::{Pass, Turn};
+use super::tally::Tally;
 use crossbeam_queue::ArrayQueue;
+use sot_turn::{Pass, Turn};
 use std::alloc::AllocError;
 use std::sync::Wait;
 use std::test::Fail;
 use std::thread::join;
-
-mod tally;
-
-use tally::Tally;
 
 /// Adds a number in a turn of its own, and says whether there was room.
 fn add<R: Wait>(

@@ -1,0 +1,7 @@
+//! Tests, a file for each crate.
+
+mod calendar;
+mod maker;
+mod ports;
+mod tally;
+mod turn;
