@@ -10,15 +10,15 @@ three_noted x y z a b c d p q r =
     r ∙ ap (λ e. least e z) (q ∙ ap (λ e. least e y) p) ∙ sym (least_append (least a x) y z) ∙ sym (least_append a x (y ++ z))
 
 -- the lists of a node, by what is noted together
-pub node_noted : (t d1 d2 d3 e1 e2 e3 f1 f2 f3 g : List TypeFault) (a b c d e f : Option TypeFault) → b ≡ least a t → c ≡ least b (d1 ++ (d2 ++ d3)) → d ≡ least c (e1 ++ (e2 ++ e3)) → e ≡ least d (f1 ++ (f2 ++ f3)) → f ≡ least e g → f ≡ least a (together (t ∷ d1 ∷ d2 ∷ d3 ∷ e1 ∷ e2 ∷ e3 ∷ f1 ∷ f2 ∷ f3 ∷ g ∷ []))
-node_noted t d1 d2 d3 e1 e2 e3 f1 f2 f3 g a b c d e f p q r s u =
-    u ∙ ap (λ z. least z g) (s ∙ ap (λ z. least z (f1 ++ (f2 ++ f3))) (r ∙ ap (λ z. least z (e1 ++ (e2 ++ e3))) (q ∙ ap (λ z. least z (d1 ++ (d2 ++ d3))) p)))
+pub node_noted : (t d1 d2 d3 e1 e2 e3 f1 f2 f3 g : List TypeFault) (a b c d e : Option TypeFault) → b ≡ least a t → c ≡ least b (d1 ++ (d2 ++ d3)) → d ≡ least c ((e1 ++ (e2 ++ e3)) ++ (f1 ++ (f2 ++ f3))) → e ≡ least d g → e ≡ least a (together (t ∷ d1 ∷ d2 ∷ d3 ∷ e1 ∷ e2 ∷ e3 ∷ f1 ∷ f2 ∷ f3 ∷ g ∷ []))
+node_noted t d1 d2 d3 e1 e2 e3 f1 f2 f3 g a b c d e p q r s =
+    s ∙ ap (λ z. least z g) (r ∙ ap (λ z. least z ((e1 ++ (e2 ++ e3)) ++ (f1 ++ (f2 ++ f3)))) (q ∙ ap (λ z. least z (d1 ++ (d2 ++ d3))) p))
     ∙ simp least_append
 
 -- the lists of a plant, by what is noted together
-pub plant_noted : (t d1 d2 d3 e1 e2 e3 f1 f2 f3 g1 g2 g3 h1 h2 h3 : List TypeFault) (a b c d e f g : Option TypeFault) → b ≡ least a t → c ≡ least b (d1 ++ (d2 ++ d3)) → d ≡ least c (e1 ++ (e2 ++ e3)) → e ≡ least d (f1 ++ (f2 ++ f3)) → f ≡ least e (g1 ++ (g2 ++ g3)) → g ≡ least f (h1 ++ (h2 ++ h3)) → g ≡ least a (together (t ∷ d1 ∷ d2 ∷ d3 ∷ e1 ∷ e2 ∷ e3 ∷ f1 ∷ f2 ∷ f3 ∷ g1 ∷ g2 ∷ g3 ∷ h1 ∷ h2 ∷ h3 ∷ []))
-plant_noted t d1 d2 d3 e1 e2 e3 f1 f2 f3 g1 g2 g3 h1 h2 h3 a b c d e f g p q r s u v =
-    v ∙ ap (λ z. least z (h1 ++ (h2 ++ h3))) (u ∙ ap (λ z. least z (g1 ++ (g2 ++ g3))) (s ∙ ap (λ z. least z (f1 ++ (f2 ++ f3))) (r ∙ ap (λ z. least z (e1 ++ (e2 ++ e3))) (q ∙ ap (λ z. least z (d1 ++ (d2 ++ d3))) p))))
+pub plant_noted : (t d1 d2 d3 e1 e2 e3 f1 f2 f3 g1 g2 g3 h1 h2 h3 : List TypeFault) (a b c d e f : Option TypeFault) → b ≡ least a t → c ≡ least b (d1 ++ (d2 ++ d3)) → d ≡ least c ((e1 ++ (e2 ++ e3)) ++ (f1 ++ (f2 ++ f3))) → e ≡ least d (g1 ++ (g2 ++ g3)) → f ≡ least e (h1 ++ (h2 ++ h3)) → f ≡ least a (together (t ∷ d1 ∷ d2 ∷ d3 ∷ e1 ∷ e2 ∷ e3 ∷ f1 ∷ f2 ∷ f3 ∷ g1 ∷ g2 ∷ g3 ∷ h1 ∷ h2 ∷ h3 ∷ []))
+plant_noted t d1 d2 d3 e1 e2 e3 f1 f2 f3 g1 g2 g3 h1 h2 h3 a b c d e f p q r s u =
+    u ∙ ap (λ z. least z (h1 ++ (h2 ++ h3))) (s ∙ ap (λ z. least z (g1 ++ (g2 ++ g3))) (r ∙ ap (λ z. least z ((e1 ++ (e2 ++ e3)) ++ (f1 ++ (f2 ++ f3)))) (q ∙ ap (λ z. least z (d1 ++ (d2 ++ d3))) p)))
     ∙ simp least_append
 
 -- the lists of a program

@@ -20,7 +20,7 @@ use Rattle.sot_rules.specs.NameTables.{found, entry}
 use Rattle.sot_rules.specs.declared.names.scope.Names.{Names}
 use Rattle.sot_rules.specs.Scopes.{names_in, parts_of, kept_parts, things_of, reading_of}
 use Rattle.sot_rules.specs.Indexes.{declared_parts, form_fields, is_named, sort_in}
-use Rattle.sot_rules.specs.Alike.{ReadsAlike, PartsAlike, AreAlike, parts_found, StandsFor, StandsForThing, form_kept, kept_of_list}
+use Rattle.sot_rules.specs.Alike.{Adds, ReadsAlike, PartsAlike, AreAlike, parts_found, StandsFor, StandsForThing, form_kept, kept_of_list}
 use Rattle.sot_rules.specs.NameLists.{thing_of_list}
 use Rattle.sot_rules.proofs.Lookups.{part_found, thing_found}
 use Rattle.sot_rules.proofs.NameTables.{map_more}
@@ -179,3 +179,10 @@ stands_none tables m e n = subst (λ es. AreAlike (option_map (kept_parts tables
 pub names_alike : (x : Names) (tables : List (List Part)) (xs : List Thing) → map parts_of x.tables.now ≡ tables → StandsFor tables x.things xs → ReadsAlike (names_in x) xs
 unfolding names_in
 names_alike x tables xs e h = reads_alike x.tables.now x.things xs (subst (λ t. StandsFor t x.things xs) (sym e) h)
+
+-- things that are added after others, and lists that are the same
+pub adds_both : {R S T : Type 0} (tables : List (List Part)) (old : IndexMap (Bor (List ℕ)) Kept R) (mid : IndexMap (Bor (List ℕ)) Kept S) (new : IndexMap (Bor (List ℕ)) Kept T) (xs ys : List Thing) → Adds tables old mid xs → Adds tables mid new ys → Adds tables old new (xs ++ ys)
+adds_both tables old mid new xs ys early late base stands = stands_same tables ((base ++ xs) ++ ys) (base ++ (xs ++ ys)) new (append_assoc base xs ys) (late (base ++ xs) (early base stands))
+
+pub adds_same : {S T : Type 0} (tables : List (List Part)) (old : IndexMap (Bor (List ℕ)) Kept S) (new : IndexMap (Bor (List ℕ)) Kept T) (xs ys : List Thing) → xs ≡ ys → Adds tables old new xs → Adds tables old new ys
+adds_same tables old new xs ys e adds base stands = subst (λ zs. StandsFor tables new (base ++ zs)) e (adds base stands)

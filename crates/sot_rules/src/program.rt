@@ -72,6 +72,18 @@ fn note_program(
     Ok(())
 }
 
+// The first fault of the program of an index.
+fn first_in(alloc: Global, index: &Index) -> Result<Option<TypeFault>, AllocError>
+    requires { IsIndex index.now }
+    ensures faultless { IfOk result (λ f. f ≡ None → IsFaultless (program_in index.now)) }
+    ensures first { IfOk result
+        (λ f. (g : TypeFault) → f ≡ Some g → IsFirstFault (program_in index.now) g) }
+{
+    let mut first = None;
+    note_program(alloc, index, &mut first)?;
+    Ok(first)
+}
+
 /// The first rule of typing that a program breaks, by its place and then by its number, or nothing where it breaks none. It takes
 /// memory for tables of the names, and time that grows with the length of the program times the depth of its loops.
 pub fn first_fault(alloc: Global, program: &Program) -> Result<Option<TypeFault>, AllocError>
@@ -80,7 +92,7 @@ pub fn first_fault(alloc: Global, program: &Program) -> Result<Option<TypeFault>
         (λ f. (g : TypeFault) → f ≡ Some g → IsFirstFault (program_view program.now) g) }
 {
     let index = Index::of(alloc, program)?;
-    let mut first = None;
-    note_program(alloc, &index, &mut first)?;
-    Ok(first)
+    let found = first_in(alloc, &index);
+    drop(index);
+    found
 }

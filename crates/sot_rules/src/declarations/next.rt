@@ -1,17 +1,20 @@
 //! The faults of a plant's `next` clauses.
-ghost use Rattle.std.specs.Prelude.{◌≡◌, ◌++◌, length, map, flat_map, nat_lt, not, slice_get, OnOk};
+ghost use Rattle.std.specs.Prelude.{◌≡◌, ◌++◌, [], length, map, flat_map, nat_lt, not, slice_get, OnOk};
 ghost use Rattle.sot_tree.specs.TreeViews.{next_view, plant_view};
 ghost use Rattle.sot_rules.specs.declared.fault.TypeKind.TheVariants.{NextMissing};
 ghost use Rattle.sot_rules.specs.Tests.{is_state};
 ghost use Rattle.sot_rules.specs.Faults.{least, next_faults, order_faults, when};
-ghost use Rattle.sot_rules.specs.Scopes.{names_in};
+ghost use Rattle.sot_rules.specs.Scopes.{names_in, parts_of};
 ghost use Rattle.sot_rules.specs.Indexes.{program_in, IsIndex};
+ghost use Rattle.sot_rules.specs.Alike.{StandsFor, tables_in};
 ghost use Rattle.sot_rules.specs.Nexts.{next_faults_in, nexts_faults};
 
 use crate::expressions::expression::expression;
 use crate::fault::{TypeFault, TypeKind, note};
+use crate::names::gather::add_states;
+use crate::names::hasher::hasher_of;
 use crate::names::index::Index;
-use crate::names::owner::{plant_names, state_names};
+use crate::names::owner::{add_plant, no_names, plant_hasher};
 use crate::names::repeats::are_same;
 use crate::names::scope::Names;
 use crate::statements::statement::{note_target, reading_alone};
@@ -69,6 +72,30 @@ fn note_short(states: &[StateDecl], next: &[NextDecl], end: Span, first: &mut Op
     note(first, next.len() < states.len(), end, TypeKind::NextMissing);
 }
 
+// The `next` clauses of a plant, with names that are to be those that they use and those that they may give.
+fn note_nexts_by<'t, 'p>(
+    used: &mut Names<'t, 'p>,
+    given: &mut Names<'t, 'p>,
+    index: &Index<'p>,
+    q: &'p PlantDecl,
+    first: &mut Option<TypeFault>,
+) -> Result<(), AllocError>
+    requires indexed { IsIndex index.now }
+    requires used_tables { map parts_of used.old.tables.now ≡ tables_in index.now }
+    requires given_tables { map parts_of given.old.tables.now ≡ tables_in index.now }
+    requires none_used { StandsFor (tables_in index.now) used.old.things [] }
+    requires none_given { StandsFor (tables_in index.now) given.old.things [] }
+    ensures { OnOk result (first.new
+        ≡ least first.old (nexts_faults (program_in index.now) (plant_view q.now))) }
+{
+    add_plant(&mut used.things, index, q)?;
+    add_states(&mut given.things, &q.states)?;
+    note_each(&q.next, used, given, first);
+    note_order(&q.states, &q.next, first);
+    note_short(&q.states, &q.next, q.end, first);
+    Ok(())
+}
+
 /// The `next` clauses of a plant: their expressions, and that there is one for each state variable, in order.
 pub fn note_nexts<'p>(
     alloc: Global,
@@ -80,10 +107,10 @@ pub fn note_nexts<'p>(
     ensures { OnOk result (first.new
         ≡ least first.old (nexts_faults (program_in index.now) (plant_view q.now))) }
 {
-    let used = plant_names(alloc, index, q)?;
-    let given = state_names(alloc, index, q)?;
-    note_each(&q.next, &used, &given, first);
-    note_order(&q.states, &q.next, first);
-    note_short(&q.states, &q.next, q.end, first);
-    Ok(())
+    let mut used = no_names(alloc, index, plant_hasher(q));
+    let mut given = no_names(alloc, index, hasher_of(&q.states));
+    let noted = note_nexts_by(&mut used, &mut given, index, q, first);
+    drop(used);
+    drop(given);
+    noted
 }

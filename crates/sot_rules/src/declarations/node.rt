@@ -1,5 +1,5 @@
 //! The faults of a node.
-ghost use Rattle.std.specs.Prelude.{◌≡◌, ◌++◌, map, flat_map, IfOk, OnOk};
+ghost use Rattle.std.specs.Prelude.{◌≡◌, ◌++◌, [], map, flat_map, OnOk};
 ghost use Rattle.sot_tree.specs.TreeViews.{local_view, node_view};
 ghost use Rattle.sot_tree.specs.Trees.{Node};
 ghost use Rattle.sot_rules.specs.Faults.{least, together, read_faults, write_lists, local_lists, node_lists};
@@ -13,8 +13,9 @@ use crate::fault::{TypeFault, TypeKind, note};
 use crate::names::hasher::{NameHasher, NameKey, NameSet};
 use crate::names::index::Index;
 use crate::names::meaning::{is_environment, is_plant, is_topic};
-use crate::names::repeats::{add_names, has_name, names_among, note_repeated_names, note_repeats};
+use crate::names::repeats::{add_names, has_name, note_repeated_names, note_repeats};
 use crate::statements::body::note_body;
+use indexmap::IndexSet;
 use sot_tree::{Ident, LocalDecl, NodeDecl};
 use std::alloc::{AllocError, Global};
 
@@ -62,13 +63,6 @@ fn used_hasher(n: &NodeDecl) -> NameHasher {
     key.take_all(&n.reads);
     key.take_all(&n.writes);
     key.hasher()
-}
-
-// What a node reads, as a set to which what it writes can be added.
-fn read_set<'p>(alloc: Global, n: &'p NodeDecl) -> Result<NameSet<'p>, AllocError>
-    ensures { IfOk result (λ set. HasNames set.keys (node_view n.now).reads) }
-{
-    names_among(alloc, used_hasher(n), &n.reads)
 }
 
 // A name among those that a node writes, where a set has those that it reads.
@@ -159,6 +153,44 @@ fn note_locals<'p>(
     Ok(())
 }
 
+// What a node writes and its locals, with a set that is to have the topics and plants that it uses.
+fn note_uses_beside<'p>(
+    alloc: Global,
+    index: &Index,
+    used: &mut NameSet<'p>,
+    n: &'p NodeDecl,
+    first: &mut Option<TypeFault>,
+) -> Result<(), AllocError>
+    requires indexed { IsIndex index.now }
+    requires empty { HasNames used.old.keys [] }
+    ensures { OnOk result (first.new
+        ≡ least first.old (writes_faults (program_in index.now) (node_view n.now)
+        ++ locals_faults (node_view n.now))) }
+{
+    add_names(used, &n.reads)?;
+    note_writes(alloc, index, n, used, first)?;
+    note_locals(alloc, n, used, first)?;
+    Ok(())
+}
+
+// What a node writes, and its locals.
+fn note_uses(
+    alloc: Global,
+    index: &Index,
+    n: &NodeDecl,
+    first: &mut Option<TypeFault>,
+) -> Result<(), AllocError>
+    requires { IsIndex index.now }
+    ensures { OnOk result (first.new
+        ≡ least first.old (writes_faults (program_in index.now) (node_view n.now)
+        ++ locals_faults (node_view n.now))) }
+{
+    let mut used = IndexSet::with_hasher(alloc, used_hasher(n));
+    let noted = note_uses_beside(alloc, index, &mut used, n, first);
+    drop(used);
+    noted
+}
+
 /// A node: its period and offset, what it reads and writes, its locals and its body.
 #[tactic(auto, using(crate::proofs::Least::least_append))]
 pub fn note_node<'p>(
@@ -173,9 +205,7 @@ pub fn note_node<'p>(
 {
     note_times(n.period, n.offset, first);
     note_reads(alloc, index, &n.reads, first)?;
-    let mut used = read_set(alloc, n)?;
-    note_writes(alloc, index, n, &used, first)?;
-    note_locals(alloc, n, &mut used, first)?;
+    note_uses(alloc, index, n, first)?;
     note_body(alloc, index, n, first)?;
     Ok(())
 }

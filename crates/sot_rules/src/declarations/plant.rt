@@ -1,5 +1,5 @@
 //! The faults of a plant.
-ghost use Rattle.std.specs.Prelude.{◌≡◌, ◌++◌, flat_map, OnOk};
+ghost use Rattle.std.specs.Prelude.{◌≡◌, ◌++◌, [], flat_map, OnOk};
 ghost use Rattle.sot_tree.specs.Trees.{Plant};
 ghost use Rattle.sot_tree.specs.TreeViews.{plant_view};
 ghost use Rattle.sot_rules.specs.Tests.{state_names};
@@ -13,12 +13,11 @@ use crate::declarations::next::note_nexts;
 use crate::declarations::range::{note_scalar, scalar_sort};
 use crate::expressions::sort::{is_no_scale, is_truthful};
 use crate::fault::{TypeFault, TypeKind, note};
-use crate::names::hasher::{NameHasher, NameKey, NameSet};
+use crate::names::hasher::{NameHasher, NameKey, NameSet, hasher_of};
 use crate::names::index::Index;
 use crate::names::meaning::{is_plant, is_topic};
-use crate::names::repeats::{
-    add_names, are_same, has_name, names_among, names_of, note_repeated_names, note_repeats,
-};
+use crate::names::repeats::{add_names, are_same, has_name, note_repeated_names, note_repeats};
+use indexmap::IndexSet;
 use sot_tree::{Field, Ident, Lit, PlantDecl, StateDecl};
 use std::alloc::{AllocError, Global};
 
@@ -76,19 +75,21 @@ fn note_input_names(index: &Index, states: &NameSet, names: &[Ident], first: &mu
     }
 }
 
-// The inputs of a plant.
+// The inputs of a plant, where a set has the names of its state variables.
+#[tactic(auto, using(crate::proofs::Least::least_append))]
 fn note_inputs(
     alloc: Global,
     index: &Index,
+    states: &NameSet,
     q: &PlantDecl,
     first: &mut Option<TypeFault>,
 ) -> Result<(), AllocError>
-    requires { IsIndex index.now }
+    requires indexed { IsIndex index.now }
+    requires states { HasNames states.now.keys (state_names (plant_view q.now)) }
     ensures { OnOk result (first.new
         ≡ least first.old (inputs_faults (program_in index.now) (plant_view q.now))) }
 {
-    let states = names_of(alloc, &q.states)?;
-    note_input_names(index, &states, &q.inputs, first);
+    note_input_names(index, states, &q.inputs, first);
     note_repeated_names(alloc, &q.inputs, first)?;
     note_passes(index, false, 8, &q.inputs, first);
     Ok(())
@@ -146,8 +147,47 @@ fn note_seen_names(
     }
 }
 
-// The plants that a plant sees.
+// The plants that a plant sees, where a set has the names of its state variables.
 fn note_sees(
+    alloc: Global,
+    index: &Index,
+    states: &NameSet,
+    q: &PlantDecl,
+    first: &mut Option<TypeFault>,
+) -> Result<(), AllocError>
+    requires indexed { IsIndex index.now }
+    requires states { HasNames states.now.keys (state_names (plant_view q.now)) }
+    ensures { OnOk result (first.new
+        ≡ least first.old (sees_faults (program_in index.now) (plant_view q.now))) }
+{
+    note_seen_names(index, states, q, &q.sees, first);
+    note_repeated_names(alloc, &q.sees, first)?;
+    note_past(16, &q.sees, first);
+    Ok(())
+}
+
+// What a plant takes in and sees, with a set that is to have the names of its state variables.
+fn note_taken_beside<'p>(
+    alloc: Global,
+    index: &Index,
+    states: &mut NameSet<'p>,
+    q: &'p PlantDecl,
+    first: &mut Option<TypeFault>,
+) -> Result<(), AllocError>
+    requires indexed { IsIndex index.now }
+    requires empty { HasNames states.old.keys [] }
+    ensures { OnOk result (first.new
+        ≡ least first.old (inputs_faults (program_in index.now) (plant_view q.now)
+        ++ sees_faults (program_in index.now) (plant_view q.now))) }
+{
+    add_names(states, &q.states)?;
+    note_inputs(alloc, index, states, q, first)?;
+    note_sees(alloc, index, states, q, first)?;
+    Ok(())
+}
+
+// What a plant takes in and sees.
+fn note_taken(
     alloc: Global,
     index: &Index,
     q: &PlantDecl,
@@ -155,13 +195,13 @@ fn note_sees(
 ) -> Result<(), AllocError>
     requires { IsIndex index.now }
     ensures { OnOk result (first.new
-        ≡ least first.old (sees_faults (program_in index.now) (plant_view q.now))) }
+        ≡ least first.old (inputs_faults (program_in index.now) (plant_view q.now)
+        ++ sees_faults (program_in index.now) (plant_view q.now))) }
 {
-    let states = names_of(alloc, &q.states)?;
-    note_seen_names(index, &states, q, &q.sees, first);
-    note_repeated_names(alloc, &q.sees, first)?;
-    note_past(16, &q.sees, first);
-    Ok(())
+    let mut states = IndexSet::with_hasher(alloc, hasher_of(&q.states));
+    let noted = note_taken_beside(alloc, index, &mut states, q, first);
+    drop(states);
+    noted
 }
 
 // A disturbance, where a set has the names that its plant uses.
@@ -194,17 +234,33 @@ fn used_hasher(q: &PlantDecl) -> NameHasher {
     key.hasher()
 }
 
+// The disturbances of a plant, with a set that is to have what the plant uses beside them.
+fn note_noise_beside<'p>(
+    alloc: Global,
+    used: &mut NameSet<'p>,
+    q: &'p PlantDecl,
+    first: &mut Option<TypeFault>,
+) -> Result<(), AllocError>
+    requires { HasNames used.old.keys [] }
+    ensures { OnOk result (first.new ≡ least first.old (disturbances_faults (plant_view q.now))) }
+{
+    add_names(used, &q.states)?;
+    add_names(used, &q.inputs)?;
+    add_names(used, &q.sees)?;
+    note_disturbances(used, &q.noise, first);
+    note_repeats(alloc, &q.noise, first)?;
+    note_past(4, &q.noise, first);
+    Ok(())
+}
+
 // The disturbances of a plant.
 fn note_noise(alloc: Global, q: &PlantDecl, first: &mut Option<TypeFault>) -> Result<(), AllocError>
     ensures { OnOk result (first.new ≡ least first.old (disturbances_faults (plant_view q.now))) }
 {
-    let mut used = names_among(alloc, used_hasher(q), &q.states)?;
-    add_names(&mut used, &q.inputs)?;
-    add_names(&mut used, &q.sees)?;
-    note_disturbances(&used, &q.noise, first);
-    note_repeats(alloc, &q.noise, first)?;
-    note_past(4, &q.noise, first);
-    Ok(())
+    let mut used = IndexSet::with_hasher(alloc, used_hasher(q));
+    let noted = note_noise_beside(alloc, &mut used, q, first);
+    drop(used);
+    noted
 }
 
 /// A plant: its module, its state variables, what it takes in and sees, its disturbances and its `next` clauses.
@@ -221,8 +277,7 @@ pub fn note_plant<'p>(
     let is_lone = !index.has_module(&q.name);
     note(first, is_lone, q.name.at, TypeKind::NoModule);
     note_states(alloc, &q.states, first)?;
-    note_inputs(alloc, index, q, first)?;
-    note_sees(alloc, index, q, first)?;
+    note_taken(alloc, index, q, first)?;
     note_noise(alloc, q, first)?;
     note_nexts(alloc, index, q, first)?;
     Ok(())

@@ -51,16 +51,43 @@ pub fn declared_name(d: &Decl) -> &Ident
     }
 }
 
+// Adds the fields of a record to an empty table.
+fn add_fields<'p>(table: &mut PartTable<'p>, fields: &'p [Field]) -> Result<(), AllocError>
+    requires { (name : List ℕ) → found table.old name ≡ None }
+    ensures { OnOk result ((name : List ℕ) → found table.new name
+        ≡ sort_in (map field_part fields.now) name) }
+{
+    for f in fields {
+        add(table, f.name.name.as_bytes(), scalar_sort(f.scalar))?;
+    }
+    Ok(())
+}
+
 // The fields of a record, by their names.
 fn field_table<'p>(alloc: Global, fields: &'p [Field]) -> Result<PartTable<'p>, AllocError>
     ensures { IfOk result (λ t. (name : List ℕ) → found t name
         ≡ sort_in (map field_part fields.now) name) }
 {
     let mut table = IndexMap::with_hasher(alloc, hasher_of(fields));
-    for f in fields {
-        add(&mut table, f.name.name.as_bytes(), scalar_sort(f.scalar))?;
+    match add_fields(&mut table, fields) {
+        Ok(()) => Ok(table),
+        Err(e) => {
+            drop(table);
+            Err(e)
+        }
     }
-    Ok(table)
+}
+
+// Adds the state variables of a plant to an empty table.
+fn add_parts<'p>(table: &mut PartTable<'p>, states: &'p [StateDecl]) -> Result<(), AllocError>
+    requires { (name : List ℕ) → found table.old name ≡ None }
+    ensures { OnOk result ((name : List ℕ) → found table.new name
+        ≡ sort_in (map state_part states.now) name) }
+{
+    for s in states {
+        add(table, s.name.name.as_bytes(), state_sort(s))?;
+    }
+    Ok(())
 }
 
 // The state variables of a plant, by their names.
@@ -69,10 +96,13 @@ fn state_table<'p>(alloc: Global, states: &'p [StateDecl]) -> Result<PartTable<'
         ≡ sort_in (map state_part states.now) name) }
 {
     let mut table = IndexMap::with_hasher(alloc, hasher_of(states));
-    for s in states {
-        add(&mut table, s.name.name.as_bytes(), state_sort(s))?;
+    match add_parts(&mut table, states) {
+        Ok(()) => Ok(table),
+        Err(e) => {
+            drop(table);
+            Err(e)
+        }
     }
-    Ok(table)
 }
 
 // The table of a declaration that has no parts.
@@ -128,16 +158,39 @@ impl<'p> Index<'p> {
         ensures holds { IfOk result (λ x. IsIndex x) }
         ensures program { IfOk result (λ x. program_in x ≡ program_view program.now) }
     {
-        let mut index = Index {
-            decls: &program.decls,
-            places: IndexMap::with_hasher(alloc, hasher_of(&program.decls)),
-            owned: IndexSet::with_hasher(alloc, owned_hasher(&program.decls)),
-            parts: Vec::new(alloc),
-        };
-        for d in &program.decls {
-            index.take_in(alloc, d)?;
+        let mut index = Index::none(alloc, &program.decls);
+        match index.take_all(alloc, &program.decls) {
+            Ok(()) => Ok(index),
+            Err(e) => {
+                drop(index);
+                Err(e)
+            }
         }
-        Ok(index)
+    }
+
+    // The index of declarations before any of them is taken in.
+    fn none(alloc: Global, decls: &'p [Decl]) -> Index<'p>
+        ensures held { Indexes [] result }
+        ensures decls { result.decls.now ≡ decls.now }
+    {
+        Index {
+            decls,
+            places: IndexMap::with_hasher(alloc, hasher_of(decls)),
+            owned: IndexSet::with_hasher(alloc, owned_hasher(decls)),
+            parts: Vec::new(alloc),
+        }
+    }
+
+    // All declarations, one after another.
+    fn take_all(&mut self, alloc: Global, decls: &'p [Decl]) -> Result<(), AllocError>
+        requires { Indexes [] self.old }
+        ensures held { OnOk result (Indexes (map declaration_view decls.now) self.new) }
+        ensures decls { self.new.decls.now ≡ self.old.decls.now }
+    {
+        for d in decls {
+            self.take_in(alloc, d)?;
+        }
+        Ok(())
     }
 
     // One more declaration in the tables.

@@ -1,12 +1,12 @@
 //! The names that a node and a plant may use.
-ghost use Rattle.std.specs.Prelude.{◌++◌, IfOk, filter_map, map};
+ghost use Rattle.std.specs.Prelude.{◌≡◌, [], IfOk, OnOk, map};
 ghost use Rattle.sot_tree.specs.TreeViews.{node_view, plant_view};
-ghost use Rattle.sot_rules.specs.Names.{either_meant, meaning, local_thing, node_scope, plant_scope, state_scope, topic_meant};
-ghost use Rattle.sot_rules.specs.Scopes.{names_in, scope_in};
+ghost use Rattle.sot_rules.specs.Names.{node_scope, plant_scope};
+ghost use Rattle.sot_rules.specs.Scopes.{parts_of, scope_in};
 ghost use Rattle.sot_rules.specs.Indexes.{program_in, IsIndex};
-ghost use Rattle.sot_rules.specs.Alike.{ReadsAlike, ScopesAlike};
+ghost use Rattle.sot_rules.specs.Alike.{Adds, ScopesAlike, StandsFor, tables_in};
 
-use crate::names::gather::{NameList, add_locals, add_named, add_noise, add_states};
+use crate::names::gather::{NameList, Things, add_locals, add_named, add_noise, add_states};
 use crate::names::hasher::{NameHasher, NameKey, hasher_of};
 use crate::names::index::Index;
 use crate::names::scope::{Names, Scope};
@@ -22,58 +22,38 @@ fn read_hasher(n: &NodeDecl) -> NameHasher {
     key.hasher()
 }
 
-// What a node's expressions name.
-fn read_names<'t, 'p>(
-    alloc: Global,
-    index: &'t Index<'p>,
+/// No names, with the tables of an index.
+pub fn no_names<'t, 'p>(alloc: Global, index: &'t Index<'p>, hasher: NameHasher) -> Names<'t, 'p>
+    ensures tables { map parts_of result.tables.now ≡ tables_in index.now }
+    ensures none { StandsFor (tables_in index.now) result.things [] }
+{
+    Names {
+        tables: &index.parts,
+        things: IndexMap::with_hasher(alloc, hasher),
+    }
+}
+
+// Adds what a node's expressions, its assignments and its publications name.
+fn add_scope<'p>(
+    read: &mut Things<'p>,
+    local: &mut Things<'p>,
+    written: &mut Things<'p>,
+    index: &Index<'p>,
     n: &'p NodeDecl,
-) -> Result<Names<'t, 'p>, AllocError>
+) -> Result<(), AllocError>
     requires { IsIndex index.now }
-    ensures { IfOk result (λ x. ReadsAlike (names_in x)
+    ensures read { OnOk result (Adds (tables_in index.now) read.old read.new
         (node_scope (program_in index.now) (node_view n.now)).read) }
-{
-    let mut things = IndexMap::with_hasher(alloc, read_hasher(n));
-    add_named(&mut things, index, NameList::Both, &n.reads)?;
-    add_locals(&mut things, &n.locals)?;
-    Ok(Names {
-        tables: &index.parts,
-        things,
-    })
-}
-
-// What a node's assignments name.
-fn local_names<'t, 'p>(
-    alloc: Global,
-    index: &'t Index<'p>,
-    n: &'p NodeDecl,
-) -> Result<Names<'t, 'p>, AllocError>
-    ensures { IfOk result (λ x. ReadsAlike (names_in x)
+    ensures local { OnOk result (Adds (tables_in index.now) local.old local.new
         (node_scope (program_in index.now) (node_view n.now)).local) }
-{
-    let mut things = IndexMap::with_hasher(alloc, hasher_of(&n.locals));
-    add_locals(&mut things, &n.locals)?;
-    Ok(Names {
-        tables: &index.parts,
-        things,
-    })
-}
-
-// What a node's publications name.
-fn written_names<'t, 'p>(
-    alloc: Global,
-    index: &'t Index<'p>,
-    n: &'p NodeDecl,
-) -> Result<Names<'t, 'p>, AllocError>
-    requires { IsIndex index.now }
-    ensures { IfOk result (λ x. ReadsAlike (names_in x)
+    ensures written { OnOk result (Adds (tables_in index.now) written.old written.new
         (node_scope (program_in index.now) (node_view n.now)).written) }
 {
-    let mut things = IndexMap::with_hasher(alloc, hasher_of(&n.writes));
-    add_named(&mut things, index, NameList::Topics, &n.writes)?;
-    Ok(Names {
-        tables: &index.parts,
-        things,
-    })
+    add_named(read, index, NameList::Both, &n.reads)?;
+    add_locals(read, &n.locals)?;
+    add_locals(local, &n.locals)?;
+    add_named(written, index, NameList::Topics, &n.writes)?;
+    Ok(())
 }
 
 /// The names that a node's statements use.
@@ -86,18 +66,32 @@ pub fn node_scope<'t, 'p>(
     ensures { IfOk result (λ s. ScopesAlike (scope_in s)
         (node_scope (program_in index.now) (node_view n.now))) }
 {
-    let read = read_names(alloc, index, n)?;
-    let local = local_names(alloc, index, n)?;
-    let written = written_names(alloc, index, n)?;
-    Ok(Scope {
+    let mut read = no_names(alloc, index, read_hasher(n));
+    let mut local = no_names(alloc, index, hasher_of(&n.locals));
+    let mut written = no_names(alloc, index, hasher_of(&n.writes));
+    let added = add_scope(
+        &mut read.things,
+        &mut local.things,
+        &mut written.things,
+        index,
+        n,
+    );
+    let scope = Scope {
         read,
         local,
         written,
-    })
+    };
+    match added {
+        Ok(()) => Ok(scope),
+        Err(e) => {
+            drop(scope);
+            Err(e)
+        }
+    }
 }
 
-// The hasher of what a plant's expressions name.
-fn plant_hasher(q: &PlantDecl) -> NameHasher {
+/// The hasher of what a plant's expressions name.
+pub fn plant_hasher(q: &PlantDecl) -> NameHasher {
     let mut key = NameKey::new();
     key.take_all(&q.states);
     key.take_all(&q.inputs);
@@ -106,39 +100,19 @@ fn plant_hasher(q: &PlantDecl) -> NameHasher {
     key.hasher()
 }
 
-/// What a plant's expressions name.
-pub fn plant_names<'t, 'p>(
-    alloc: Global,
-    index: &'t Index<'p>,
+/// Adds what a plant's expressions name.
+pub fn add_plant<'p>(
+    things: &mut Things<'p>,
+    index: &Index<'p>,
     q: &'p PlantDecl,
-) -> Result<Names<'t, 'p>, AllocError>
+) -> Result<(), AllocError>
     requires { IsIndex index.now }
-    ensures { IfOk result (λ x. ReadsAlike (names_in x)
+    ensures { OnOk result (Adds (tables_in index.now) things.old things.new
         (plant_scope (program_in index.now) (plant_view q.now))) }
 {
-    let mut things = IndexMap::with_hasher(alloc, plant_hasher(q));
-    add_states(&mut things, &q.states)?;
-    add_named(&mut things, index, NameList::Topics, &q.inputs)?;
-    add_named(&mut things, index, NameList::Plants, &q.sees)?;
-    add_noise(&mut things, &q.noise)?;
-    Ok(Names {
-        tables: &index.parts,
-        things,
-    })
-}
-
-/// What a plant's `next` clauses give.
-pub fn state_names<'t, 'p>(
-    alloc: Global,
-    index: &'t Index<'p>,
-    q: &'p PlantDecl,
-) -> Result<Names<'t, 'p>, AllocError>
-    ensures { IfOk result (λ x. ReadsAlike (names_in x) (state_scope (plant_view q.now))) }
-{
-    let mut things = IndexMap::with_hasher(alloc, hasher_of(&q.states));
-    add_states(&mut things, &q.states)?;
-    Ok(Names {
-        tables: &index.parts,
-        things,
-    })
+    add_states(things, &q.states)?;
+    add_named(things, index, NameList::Topics, &q.inputs)?;
+    add_named(things, index, NameList::Plants, &q.sees)?;
+    add_noise(things, &q.noise)?;
+    Ok(())
 }

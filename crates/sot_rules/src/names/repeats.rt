@@ -1,5 +1,5 @@
 //! Names that stand twice in a list, and sets of names.
-ghost use Rattle.std.specs.Prelude.{◌≡◌, List, ◌++◌, [], map, OnOk, IfOk};
+ghost use Rattle.std.specs.Prelude.{◌≡◌, List, ◌++◌, [], map, OnOk};
 ghost use Rattle.std.specs.List.{list_any};
 ghost use Rattle.std.specs.Str.{bytes_eq};
 ghost use Rattle.sot_tree.specs.declared.tree.Ident.{Ident};
@@ -9,7 +9,7 @@ ghost use Rattle.sot_rules.specs.Faults.{least, when, repeats};
 ghost use Rattle.sot_rules.specs.SeenNames.{seen_names, with_name, HasNames};
 
 use crate::fault::{TypeFault, TypeKind, note};
-use crate::names::hasher::{NameHasher, NameSet, hasher_of};
+use crate::names::hasher::{NameSet, hasher_of};
 use crate::names::named::Named;
 use indexmap::IndexSet;
 use sot_tree::Ident;
@@ -32,6 +32,21 @@ pub fn note_repeat<'p>(
     Ok(())
 }
 
+// The things of a list whose names stand in it before, or were seen.
+fn note_seen<'p, T: Named>(
+    seen: &mut NameSet<'p>,
+    items: &'p [T],
+    first: &mut Option<TypeFault>,
+) -> Result<(), AllocError>
+    ensures { OnOk result (first.new
+        ≡ least first.old (repeats (seen_names seen.old.keys) (map T.ident items.now))) }
+{
+    for item in items {
+        note_repeat(seen, item.ident(), first)?;
+    }
+    Ok(())
+}
+
 /// The things of a list whose names stand in it before.
 pub fn note_repeats<T: Named>(
     alloc: Global,
@@ -41,10 +56,9 @@ pub fn note_repeats<T: Named>(
     ensures { OnOk result (first.new ≡ least first.old (repeats [] (map T.ident items.now))) }
 {
     let mut seen = IndexSet::with_hasher(alloc, hasher_of(items));
-    for item in items {
-        note_repeat(&mut seen, item.ident(), first)?;
-    }
-    Ok(())
+    let noted = note_seen(&mut seen, items, first);
+    drop(seen);
+    noted
 }
 
 /// The names of a list that stand in it before.
@@ -67,26 +81,6 @@ pub fn add_names<'p, T: Named>(set: &mut NameSet<'p>, items: &'p [T]) -> Result<
         set.insert_full(item.ident().name.as_bytes())?;
     }
     Ok(())
-}
-
-/// The names of a list, as a set to which others are added. Its hasher is of these and of those.
-pub fn names_among<'p, T: Named>(
-    alloc: Global,
-    hasher: NameHasher,
-    items: &'p [T],
-) -> Result<NameSet<'p>, AllocError>
-    ensures { IfOk result (λ set. HasNames set.keys (map T.ident items.now)) }
-{
-    let mut set = IndexSet::with_hasher(alloc, hasher);
-    add_names(&mut set, items)?;
-    Ok(set)
-}
-
-/// The names of a list, as a set.
-pub fn names_of<'p, T: Named>(alloc: Global, items: &'p [T]) -> Result<NameSet<'p>, AllocError>
-    ensures { IfOk result (λ set. HasNames set.keys (map T.ident items.now)) }
-{
-    names_among(alloc, hasher_of(items), items)
 }
 
 /// Whether a name is in a set.

@@ -1,14 +1,16 @@
 //! The faults of a node's body.
-ghost use Rattle.std.specs.Prelude.{◌≡◌, OnOk};
+ghost use Rattle.std.specs.Prelude.{◌≡◌, Some, OnOk};
 ghost use Rattle.sot_tree.specs.TreeViews.{block_view, node_view};
 ghost use Rattle.sot_rules.specs.Names.{node_scope};
 ghost use Rattle.sot_rules.specs.Tests.{block_unrolled};
 ghost use Rattle.sot_rules.specs.Faults.{body_faults, least, past};
+ghost use Rattle.sot_rules.specs.Scopes.{scope_in};
 ghost use Rattle.sot_rules.specs.Indexes.{program_in, IsIndex};
 
 use crate::fault::{TypeFault, TypeKind, note};
 use crate::names::index::Index;
 use crate::names::owner::node_scope;
+use crate::names::scope::Scope;
 use crate::statements::statement::block;
 use crate::statements::unrolled::{Reached, reach_block};
 use sot_tree::{NodeDecl, Stmt};
@@ -22,6 +24,16 @@ fn note_many(body: &[Stmt], first: &mut Option<TypeFault>)
         Reached::At(at) => note(first, true, at, TypeKind::TooMany),
         Reached::Left(_) => {}
     }
+}
+
+// The statements of a body, and their count.
+#[tactic(auto, using(crate::proofs::Least::least_append))]
+fn note_block(body: &[Stmt], scope: &Scope, first: &mut Option<TypeFault>)
+    ensures { first.new ≡ least first.old
+        (body_faults (scope_in scope.now) (Some (block_view body.now))) }
+{
+    block(body, scope, first);
+    note_many(body, first);
 }
 
 /// The statements of a node, and their count with loops unrolled.
@@ -40,8 +52,8 @@ pub fn note_body<'p>(
         None => Ok(()),
         Some(body) => {
             let scope = node_scope(alloc, index, n)?;
-            block(body, &scope, first);
-            note_many(body, first);
+            note_block(body, &scope, first);
+            drop(scope);
             Ok(())
         }
     }

@@ -18,9 +18,8 @@ returns c =
     (flat_map (read_faults p) n.reads) (repeats [] n.reads) (passes (λ i. read_size (meaning p i)) 64 0 n.reads)
     (flat_map (λ i. together (write_lists p n i)) n.writes) (repeats [] n.writes) (passes (λ i. topic_size (meaning p i)) 8 0 n.writes)
     (flat_map (λ l. together (local_lists n l)) n.locals) (repeats [] (local_names n)) (past 16 (places (local_names n)))
-    (body_faults (node_scope p n) n.body) _ _ _ _ _ _
+    (body_faults (node_scope p n) n.body) _ _ _ _ _
     c.note_times.ensures
     (c.in_ok-note_reads.ensures ∙ ap (λ is. least c.note_times.new.first (flat_map (read_faults p) is ++ (repeats [] is ++ passes (λ i. read_size (meaning p i)) 64 0 is))) c.deref.ensures.value)
-    c.in_ok-note_writes.ensures
-    c.in_ok-note_locals.ensures
+    c.in_ok-note_uses.ensures
     c.in_ok-note_body.ensures

@@ -14,6 +14,6 @@ returns c =
     let p = program_in c.args.index.now in
     let q = plant_view c.args.q.now in
     three_noted (flat_map (λ i. together (seen_lists p q i)) q.sees) (repeats [] q.sees) (past 16 (places q.sees)) _ _ _ _
-    (c.note_seen_names.ensures ∙ ap (λ is. least c.args.first.now (flat_map (λ i. together (seen_lists p q i)) is)) c.deref-2.ensures.value)
-    (c.in_ok-note_repeated_names.ensures ∙ ap (λ is. least c.note_seen_names.new.first (repeats [] is)) c.deref-3.ensures.value)
-    (c.note_past.ensures ∙ ap (λ is. least c.note_repeated_names.new.first (past 16 (places is))) (map-id c.deref-4.result.now ∙ c.deref-4.ensures.value))
+    (c.note_seen_names.ensures ∙ ap (λ is. least c.args.first.now (flat_map (λ i. together (seen_lists p q i)) is)) c.deref.ensures.value)
+    (c.in_ok-note_repeated_names.ensures ∙ ap (λ is. least c.note_seen_names.new.first (repeats [] is)) c.deref-2.ensures.value)
+    (c.note_past.ensures ∙ ap (λ is. least c.note_repeated_names.new.first (past 16 (places is))) (map-id c.deref-3.result.now ∙ c.deref-3.ensures.value))

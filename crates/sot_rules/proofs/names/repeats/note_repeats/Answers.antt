@@ -1,8 +1,11 @@
--- Of `note_repeats`: that its loop keeps what it says.
-use Rattle.sot_rules.proofs.Repeats.{step_repeats}
+-- Of `note_repeats`: its promises.
+use Rattle.std.proofs.Common.{◌≡◌, map, subst, ap}
+use Rattle.std.specs.Prelude.{OnOk}
+use Rattle.sot_rules.specs.Faults.{least, repeats}
+use Rattle.sot_rules.specs.SeenNames.{seen_names}
 use Rattle.sot_rules.proofs.names.repeats.note_repeats.Goals as goal
 
-pub loop-item-preserved : goal.loop-item-preserved
-loop-item-preserved g c =
-    step_repeats g.T.Named.ident c.args.items.now c.loop-item.item-index c.item-item.result c.ident.result.now _ _ _ _ _
-    c.loop-item-test.true c.item-item.is c.ident.ensures c.loop-item.invariant c.in_ok-note_repeat.ensures.noted c.in_ok-note_repeat.ensures.seen
+pub returns : goal.returns
+returns g c =
+    subst (λ z. OnOk c.note_seen-noted.result (c.note_seen-noted.new.first ≡ least c.args.first.now (repeats z (map g.T.Named.ident c.args.items.now))))
+    (ap seen_names c.with_hasher-seen.ensures.empty) c.note_seen-noted.ensures

@@ -1,7 +1,7 @@
--- Of `field_table`: that its loop keeps what it says.
+-- Of `add_fields`: that its loop keeps what it says.
 use Rattle.sot_rules.specs.Names.{field_part}
 use Rattle.sot_rules.proofs.NameTables.{sorts_more}
-use Rattle.sot_rules.proofs.names.index.field_table.Goals as goal
+use Rattle.sot_rules.proofs.names.index.add_fields.Goals as goal
 
 pub loop-f-preserved : goal.loop-f-preserved
 loop-f-preserved c =

@@ -1,7 +1,7 @@
--- Of `state_table`: that its loop keeps what it says.
+-- Of `add_parts`: that its loop keeps what it says.
 use Rattle.sot_rules.specs.Names.{state_part}
 use Rattle.sot_rules.proofs.NameTables.{sorts_more}
-use Rattle.sot_rules.proofs.names.index.state_table.Goals as goal
+use Rattle.sot_rules.proofs.names.index.add_parts.Goals as goal
 
 pub loop-s-preserved : goal.loop-s-preserved
 loop-s-preserved c =
