@@ -12,3 +12,4 @@ pub mod AtomsRead
 pub mod EachRead
 pub mod PhraseLaws
 pub mod ChainEnds
+pub mod ChoiceSteps

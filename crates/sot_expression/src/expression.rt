@@ -1,6 +1,9 @@
 //! The productions of expressions, one function for each.
 ghost use Rattle.std.specs.Prelude.{◌≡◌, ◌<◌, ◌≤◌, ◌-◌, IfOk, true, false};
+ghost use Rattle.std.specs.Result.{result_flatten, result_map_both};
 ghost use Rattle.sot_text.specs.Reading.{lexeme};
+ghost use Rattle.sot_expression.specs.Lexemes.{is_keyword};
+ghost use Rattle.sot_expression.specs.Readers.{expect};
 ghost use Rattle.sot_expression.specs.ExpressionReaders.{any_token, operation_at, remainder_at, joined_at, number_part, truth_part, field_at, named_at, group_at, opened_at, further_at, abs_at, pair_at, limits_at, clamp_at, target_at, rescale_at, atom_at, begins_unary, minus_at, unary_at, denied_at, chosen_at, within, part_at, expression_at, tree_at};
 ghost use Rattle.sot_tree.specs.TreeViews.{tree_view};
 ghost use Rattle.sot_expression.specs.Parts.{part_view, Fits, below, inner, around, climbed, onward, turned, plain_at, not_at};
@@ -389,13 +392,22 @@ fn chosen(alloc: Global, tokens: &mut Tokens<'_>, room: u32, held: bool) -> Resu
 {
     let at = any_token(tokens)?.at;
     let cond = read(alloc, tokens, room - 1, false, 7)?;
-    expect_keyword(tokens, b"then")?;
-    let yes = read(alloc, tokens, room - 1, false, 7)?;
-    expect_keyword(tokens, b"else")?;
-    let no = read(alloc, tokens, room - 1, false, 7)?;
+    let yes = behind_word(alloc, tokens, room, b"then")?;
+    let no = behind_word(alloc, tokens, room, b"else")?;
     let levels = 1 + cond.levels.max(yes.levels.max(no.levels));
     let tree = nodes::chosen(alloc, cond.tree, yes.tree, no.tree, at)?;
     Ok(over(tree, levels))
+}
+
+// A keyword, and the part behind it.
+#[cycle(expression)]
+fn behind_word(alloc: Global, tokens: &mut Tokens<'_>, room: u32, word: &[u8]) -> Result<Part, Fail>
+    requires room { (2 ≤ room) × (room ≤ 64) }
+    ensures read { Gives part_view result tokens.old tokens.new (result_flatten (result_map_both (λ at. below room 7 at.1) (λ fault. fault) (expect (is_keyword word.now) tokens.old.tokens))) }
+    ensures fits { IfOk result (λ p. (1 ≤ p.levels) × (p.levels < room)) }
+{
+    expect_keyword(tokens, word)?;
+    read(alloc, tokens, room - 1, false, 7)
 }
 
 #[cycle(expression)]

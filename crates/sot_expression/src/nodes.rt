@@ -45,10 +45,10 @@ pub fn call_of_three(
 ) -> Result<Expr, Fail>
     ensures { Makes tree_view result (called func (one_more (tree_view first) (one_more (tree_view second) (one_more (tree_view third) no_tree))) at) }
 {
-    let mut parts = Vec::new(alloc);
-    parts.push(first)?;
-    parts.push(second)?;
-    parts.push(third)?;
+    let mut parts = Vec::with_capacity(alloc, 3)?;
+    parts.push_reserved(first);
+    parts.push_reserved(second);
+    parts.push_reserved(third);
     Ok(Expr::Call { func, parts, at })
 }
 
