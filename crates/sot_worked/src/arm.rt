@@ -1,13 +1,15 @@
 //! A double integrator, whose safe node stops it in time.
 ghost use Rattle.std.specs.Prelude.{false, ◌≡◌, ◌≤◌, ◌<◌, ◌*◌, ◌≤ℤ◌, ◌∷◌, [], pos, negsuc, length, IfOk};
+ghost use Rattle.sot_lang.specs.declared.term.Term.{Term};
+ghost use Rattle.sot_lang.specs.declared.tables.PlantInfo.{PlantInfo};
+ghost use Rattle.sot_lang.specs.declared.tables.NodeInfo.{NodeInfo};
 ghost use Rattle.sot_worked.specs.Parts.{one_topic, whole_number};
 ghost use Rattle.sot_worked.specs.Double.{u_name, IsNextPlace, IsNextSpeed, IsArm, IsPush, IsThrust, IsPilot, IsBrake, IsDouble, run as run_of, falling as falling_box, rising as rising_box, row as row_box, rows, stops};
 
-use crate::parts::{binary, choice, number, span, topic};
+use crate::parts::{binary, choice, node, noise, number, plant, span, topic};
 use sot_box::{BoxN, Interval, Region};
 use sot_lang::{
-    Act, ModuleInfo, NodeInfo, NoiseInfo, PlantInfo, ScalarInfo, Slot, StateInfo, Term, TopicInfo,
-    Typed,
+    Act, ModuleInfo, NodeInfo, PlantInfo, ScalarInfo, Slot, StateInfo, Term, TopicInfo, Typed,
 };
 use sot_tree::{Func, Name, Op};
 use std::alloc::{AllocError, Global};
@@ -57,50 +59,34 @@ fn states(alloc: Global) -> Result<Vec<StateInfo>, AllocError>
     Ok(vec![in alloc; x, v]?)
 }
 
-fn disturbance(alloc: Global) -> Result<NoiseInfo, AllocError>
-    ensures { IfOk result (λ d. d
-        ≡ record { name = 119 ∷ []; scale = 0; lo = negsuc 0; hi = pos 1 }) }
+fn next(alloc: Global) -> Result<Vec<Term>, AllocError>
+    ensures { IfOk result (λ l. (x : Term) × (v : Term) × IsNextPlace x × IsNextSpeed v
+        × (l.items ≡ x ∷ v ∷ [])) }
 {
-    Ok(NoiseInfo {
-        name: Name::from_bytes(alloc, b"w")?,
-        scale: 0,
-        lo: -1,
-        hi: 1,
-    })
+    let place = next_place(alloc)?;
+    let speed = next_speed(alloc)?;
+    Ok(vec![in alloc; place, speed]?)
 }
 
 fn arm(alloc: Global) -> Result<PlantInfo, AllocError>
     ensures { IfOk result IsArm }
 {
     let states = states(alloc)?;
-    let disturbance = disturbance(alloc)?;
-    let place = next_place(alloc)?;
-    let speed = next_speed(alloc)?;
-    Ok(PlantInfo {
-        name: Name::from_bytes(alloc, b"arm")?,
-        states,
-        inputs: vec![in alloc; 0]?,
-        sees: Vec::new(alloc),
-        noise: vec![in alloc; disturbance]?,
-        next: vec![in alloc; place, speed]?,
-    })
+    let noise = noise(alloc, -1, 1)?;
+    let next = next(alloc)?;
+    let arm = plant(alloc, b"arm", states, Vec::new(alloc), noise, next, 0)?;
+    Ok(arm)
 }
 
 fn pilot(alloc: Global) -> Result<NodeInfo, AllocError>
     ensures { IfOk result IsPilot }
 {
-    Ok(NodeInfo {
-        name: Name::from_bytes(alloc, b"fast")?,
-        period: 2,
-        offset: 0,
-        reads: vec![in alloc;
-            Slot::State { plant: 0, var: 0 },
-            Slot::State { plant: 0, var: 1 },
-        ]?,
-        writes: vec![in alloc; 0]?,
-        locals: Vec::new(alloc),
-        body: None,
-    })
+    let reads = vec![in alloc;
+        Slot::State { plant: 0, var: 0 },
+        Slot::State { plant: 0, var: 1 },
+    ]?;
+    let node = node(alloc, b"fast", 2, reads, 0, None)?;
+    Ok(node)
 }
 
 // clamp((if (arm.x > 0) then -2 else 2) - arm.v, -2, 2)
@@ -134,18 +120,13 @@ fn acts(alloc: Global) -> Result<Vec<Act>, AllocError>
 fn brake(alloc: Global) -> Result<NodeInfo, AllocError>
     ensures { IfOk result IsBrake }
 {
-    Ok(NodeInfo {
-        name: Name::from_bytes(alloc, b"slow")?,
-        period: 2,
-        offset: 0,
-        reads: vec![in alloc;
-            Slot::State { plant: 0, var: 0 },
-            Slot::State { plant: 0, var: 1 },
-        ]?,
-        writes: vec![in alloc; 0]?,
-        locals: Vec::new(alloc),
-        body: Some(acts(alloc)?),
-    })
+    let acts = acts(alloc)?;
+    let reads = vec![in alloc;
+        Slot::State { plant: 0, var: 0 },
+        Slot::State { plant: 0, var: 1 },
+    ]?;
+    let node = node(alloc, b"slow", 2, reads, 0, Some(acts))?;
+    Ok(node)
 }
 
 // 1 + 2 + .. + s
@@ -249,6 +230,30 @@ fn module(alloc: Global, low: i64, high: i64) -> Result<ModuleInfo, AllocError>
     })
 }
 
+fn plants(alloc: Global) -> Result<Vec<PlantInfo>, AllocError>
+    ensures { IfOk result (λ v. (arm : PlantInfo) × IsArm arm × (v.items ≡ arm ∷ [])) }
+{
+    let arm = arm(alloc)?;
+    Ok(vec![in alloc; arm]?)
+}
+
+fn nodes(alloc: Global) -> Result<Vec<NodeInfo>, AllocError>
+    ensures { IfOk result (λ v. (fast : NodeInfo) × (slow : NodeInfo) × IsPilot fast × IsBrake slow
+        × (v.items ≡ fast ∷ slow ∷ [])) }
+{
+    let fast = pilot(alloc)?;
+    let slow = brake(alloc)?;
+    Ok(vec![in alloc; fast, slow]?)
+}
+
+fn modules(alloc: Global, low: i64, high: i64) -> Result<Vec<ModuleInfo>, AllocError>
+    requires { low ≤ℤ high }
+    ensures { IfOk result (λ v. v.items ≡ stops low high ∷ []) }
+{
+    let nav = module(alloc, low, high)?;
+    Ok(vec![in alloc; nav]?)
+}
+
 /// The tables of a mission with one plant, an arm with a place and a speed, whose safe region has a box for each of 29 speeds. Node
 /// 0, `fast`, is external, and node 1, `slow`, brings the arm back. Its module trusts `fast` where the arm stands between `low` and
 /// `high` at a speed of at most 2.
@@ -258,15 +263,14 @@ pub fn double(alloc: Global, low: i64, high: i64) -> Result<Typed, AllocError>
 {
     let topics = topics(alloc)?;
     let scalars = scalars(alloc)?;
-    let arm = arm(alloc)?;
-    let fast = pilot(alloc)?;
-    let slow = brake(alloc)?;
-    let nav = module(alloc, low, high)?;
+    let plants = plants(alloc)?;
+    let nodes = nodes(alloc)?;
+    let modules = modules(alloc, low, high)?;
     Ok(Typed {
         topics,
         scalars,
-        plants: vec![in alloc; arm]?,
-        nodes: vec![in alloc; fast, slow]?,
-        modules: vec![in alloc; nav]?,
+        plants,
+        nodes,
+        modules,
     })
 }

@@ -1,15 +1,18 @@
 //! The vehicle beside a battery that is drained faster where it is far away.
 ghost use Rattle.std.specs.Prelude.{false, ◌≡◌, ◌≤ℤ◌, ◌∷◌, [], pos, negsuc, IfOk};
+ghost use Rattle.sot_lang.specs.declared.term.Term.{Term};
+ghost use Rattle.sot_lang.specs.declared.tables.PlantInfo.{PlantInfo};
+ghost use Rattle.sot_lang.specs.declared.tables.NodeInfo.{NodeInfo};
 ghost use Rattle.sot_lang.specs.Line.{cmd_name};
 ghost use Rattle.sot_worked.specs.Parts.{one_topic, whole_number};
+ghost use Rattle.sot_worked.specs.Line.{IsMove, IsPos, IsFast, IsSlow, nav};
 ghost use Rattle.sot_worked.specs.Pair.{IsHeight, IsAway, IsToll, IsDrain, IsBattery, IsCell, IsUp, IsDown, IsDescent, IsPair, stairs, fly};
 
-use crate::parts::{binary, choice, number, span, topic};
+use crate::parts::{binary, choice, node, noise, number, plant, span, topic};
 use crate::vehicle::{fast, module, moving_plant, slow};
 use sot_box::{BoxN, Interval, Region};
 use sot_lang::{
-    Act, ModuleInfo, NodeInfo, NoiseInfo, PlantInfo, ScalarInfo, Slot, StateInfo, Term, TopicInfo,
-    Typed,
+    Act, ModuleInfo, NodeInfo, PlantInfo, ScalarInfo, Slot, StateInfo, Term, TopicInfo, Typed,
 };
 use sot_tree::{Func, Name, Op};
 use std::alloc::{AllocError, Global};
@@ -103,49 +106,35 @@ fn states(alloc: Global) -> Result<Vec<StateInfo>, AllocError>
     Ok(vec![in alloc; h, b]?)
 }
 
-fn disturbance(alloc: Global) -> Result<NoiseInfo, AllocError>
-    ensures { IfOk result (λ d. d ≡ record { name = 119 ∷ []; scale = 0; lo = pos 0; hi = pos 1 }) }
+fn next(alloc: Global) -> Result<Vec<Term>, AllocError>
+    ensures { IfOk result (λ v. (height : Term) × (battery : Term) × IsHeight height × IsBattery battery
+        × (v.items ≡ height ∷ battery ∷ [])) }
 {
-    Ok(NoiseInfo {
-        name: Name::from_bytes(alloc, b"w")?,
-        scale: 0,
-        lo: 0,
-        hi: 1,
-    })
+    let height = height(alloc)?;
+    let battery = battery(alloc)?;
+    Ok(vec![in alloc; height, battery]?)
 }
 
 fn cell(alloc: Global) -> Result<PlantInfo, AllocError>
     ensures { IfOk result IsCell }
 {
     let states = states(alloc)?;
-    let disturbance = disturbance(alloc)?;
-    let height = height(alloc)?;
-    let battery = battery(alloc)?;
-    Ok(PlantInfo {
-        name: Name::from_bytes(alloc, b"cell")?,
-        states,
-        inputs: vec![in alloc; 1]?,
-        sees: vec![in alloc; 0]?,
-        noise: vec![in alloc; disturbance]?,
-        next: vec![in alloc; height, battery]?,
-    })
+    let noise = noise(alloc, 0, 1)?;
+    let next = next(alloc)?;
+    let sees = vec![in alloc; 0]?;
+    let cell = plant(alloc, b"cell", states, sees, noise, next, 1)?;
+    Ok(cell)
 }
 
 fn up(alloc: Global) -> Result<NodeInfo, AllocError>
     ensures { IfOk result IsUp }
 {
-    Ok(NodeInfo {
-        name: Name::from_bytes(alloc, b"up")?,
-        period: 2,
-        offset: 0,
-        reads: vec![in alloc;
-            Slot::State { plant: 1, var: 0 },
-            Slot::State { plant: 1, var: 1 },
-        ]?,
-        writes: vec![in alloc; 1]?,
-        locals: Vec::new(alloc),
-        body: None,
-    })
+    let reads = vec![in alloc;
+        Slot::State { plant: 1, var: 0 },
+        Slot::State { plant: 1, var: 1 },
+    ]?;
+    let node = node(alloc, b"up", 2, reads, 1, None)?;
+    Ok(node)
 }
 
 fn acts(alloc: Global) -> Result<Vec<Act>, AllocError>
@@ -162,18 +151,13 @@ fn acts(alloc: Global) -> Result<Vec<Act>, AllocError>
 fn down(alloc: Global) -> Result<NodeInfo, AllocError>
     ensures { IfOk result IsDown }
 {
-    Ok(NodeInfo {
-        name: Name::from_bytes(alloc, b"down")?,
-        period: 1,
-        offset: 0,
-        reads: vec![in alloc;
-            Slot::State { plant: 1, var: 0 },
-            Slot::State { plant: 1, var: 1 },
-        ]?,
-        writes: vec![in alloc; 1]?,
-        locals: Vec::new(alloc),
-        body: Some(acts(alloc)?),
-    })
+    let acts = acts(alloc)?;
+    let reads = vec![in alloc;
+        Slot::State { plant: 1, var: 0 },
+        Slot::State { plant: 1, var: 1 },
+    ]?;
+    let node = node(alloc, b"down", 1, reads, 1, Some(acts))?;
+    Ok(node)
 }
 
 // At height h a battery of at least 3h.
@@ -223,6 +207,38 @@ fn flight(alloc: Global, low: i64) -> Result<ModuleInfo, AllocError>
     })
 }
 
+// The vehicle and the battery.
+fn plants(alloc: Global) -> Result<Vec<PlantInfo>, AllocError>
+    ensures { IfOk result (λ v. (vehicle : PlantInfo) × (cell : PlantInfo) × IsPos IsMove vehicle × IsCell cell
+        × (v.items ≡ vehicle ∷ cell ∷ [])) }
+{
+    let vehicle = moving_plant(alloc)?;
+    let cell = cell(alloc)?;
+    Ok(vec![in alloc; vehicle, cell]?)
+}
+
+// The nodes of the vehicle, and those of the battery.
+fn nodes(alloc: Global) -> Result<Vec<NodeInfo>, AllocError>
+    ensures { IfOk result (λ v. (fast : NodeInfo) × (slow : NodeInfo) × (up : NodeInfo) × (down : NodeInfo)
+        × IsFast fast × IsSlow slow × IsUp up × IsDown down
+        × (v.items ≡ fast ∷ slow ∷ up ∷ down ∷ [])) }
+{
+    let fast = fast(alloc)?;
+    let slow = slow(alloc)?;
+    let up = up(alloc)?;
+    let down = down(alloc)?;
+    Ok(vec![in alloc; fast, slow, up, down]?)
+}
+
+fn modules(alloc: Global, low: i64) -> Result<Vec<ModuleInfo>, AllocError>
+    requires { low ≤ℤ pos 1000 }
+    ensures { IfOk result (λ v. v.items ≡ nav ∷ fly low ∷ []) }
+{
+    let nav = module(alloc)?;
+    let fly = flight(alloc, low)?;
+    Ok(vec![in alloc; nav, fly]?)
+}
+
 /// The tables of a mission with two plants: the vehicle on a line, and a battery, plant 1, that is drained in the air, and more
 /// where the vehicle, which it sees, is more than 20 away from 0. Node 2, `up`, is external, and node 3, `down`, lets it sink.
 /// Module 1 trusts `up` where the battery is at least at `low`.
@@ -232,19 +248,14 @@ pub fn pair(alloc: Global, low: i64) -> Result<Typed, AllocError>
 {
     let topics = topics(alloc)?;
     let scalars = scalars(alloc)?;
-    let vehicle = moving_plant(alloc)?;
-    let cell = cell(alloc)?;
-    let fast = fast(alloc)?;
-    let slow = slow(alloc)?;
-    let up = up(alloc)?;
-    let down = down(alloc)?;
-    let nav = module(alloc)?;
-    let fly = flight(alloc, low)?;
+    let plants = plants(alloc)?;
+    let nodes = nodes(alloc)?;
+    let modules = modules(alloc, low)?;
     Ok(Typed {
         topics,
         scalars,
-        plants: vec![in alloc; vehicle, cell]?,
-        nodes: vec![in alloc; fast, slow, up, down]?,
-        modules: vec![in alloc; nav, fly]?,
+        plants,
+        nodes,
+        modules,
     })
 }

@@ -4,9 +4,9 @@ ghost use Rattle.sot_lang.specs.TermRules.{TermFits};
 ghost use Rattle.sot_worked.specs.Parts.{one_topic, whole_number};
 ghost use Rattle.sot_worked.specs.Divide.{IsWhatIsRead, IsAtLeastOne, IsDivision, IsCalc, IsDivide};
 
-use crate::parts::{binary, number, span, topic};
+use crate::parts::{binary, node, number, span, topic};
 use sot_lang::{Act, NodeInfo, ScalarInfo, Slot, Term, TopicInfo, Typed};
-use sot_tree::{Func, Name, Op};
+use sot_tree::{Func, Op};
 use std::alloc::{AllocError, Global};
 
 fn topics(alloc: Global) -> Result<Vec<TopicInfo>, AllocError>
@@ -41,25 +41,20 @@ fn acts(alloc: Global, divisor: Term) -> Result<Vec<Act>, AllocError>
 fn calc(alloc: Global, divisor: Term) -> Result<NodeInfo, AllocError>
     ensures { IfOk result (IsCalc (λ d. d ≡ divisor)) }
 {
-    Ok(NodeInfo {
-        name: Name::from_bytes(alloc, b"calc")?,
-        period: 1,
-        offset: 0,
-        reads: vec![in alloc; Slot::Scalar(0)]?,
-        writes: vec![in alloc; 1]?,
-        locals: Vec::new(alloc),
-        body: Some(acts(alloc, divisor)?),
-    })
+    let acts = acts(alloc, divisor)?;
+    let reads = vec![in alloc; Slot::Scalar(0)]?;
+    let node = node(alloc, b"calc", 1, reads, 1, Some(acts))?;
+    Ok(node)
 }
 
 fn tables(alloc: Global, divisor: Term) -> Result<Typed, AllocError>
     requires { TermFits (false ∷ []) divisor }
     ensures { IfOk result (IsDivide (λ d. d ≡ divisor)) }
 {
-    let topics = topics(alloc)?;
-    let scalars = scalars(alloc)?;
     let calc = calc(alloc, divisor)?;
     let nodes = vec![in alloc; calc]?;
+    let topics = topics(alloc)?;
+    let scalars = scalars(alloc)?;
     Ok(Typed {
         topics,
         scalars,

@@ -5,7 +5,7 @@ ghost use Rattle.sot_text.specs.Lexeme.{IsTokenText};
 ghost use Rattle.sot_worked.specs.Parts.{one_topic, whole_number, place, IsBinary, IsChoice};
 
 use sot_box::{BoxN, Interval, Region};
-use sot_lang::{ScalarInfo, Term, TopicInfo};
+use sot_lang::{Act, NodeInfo, NoiseInfo, PlantInfo, ScalarInfo, Slot, StateInfo, Term, TopicInfo};
 use sot_text::Span;
 use sot_tree::{Name, Op};
 use std::alloc::{AllocError, Global};
@@ -48,6 +48,76 @@ pub(crate) fn number(topic: u32, lo: i64, hi: i64) -> ScalarInfo
         hi,
         init: 0,
     }
+}
+
+// The one disturbance of a plant, `w`, a whole number.
+pub(crate) fn noise(alloc: Global, lo: i64, hi: i64) -> Result<Vec<NoiseInfo>, AllocError>
+    ensures { IfOk result (λ v. v.items ≡ record { name = 119 ∷ []; scale = 0; lo = lo; hi = hi } ∷ []) }
+{
+    let w = NoiseInfo {
+        name: Name::from_bytes(alloc, b"w")?,
+        scale: 0,
+        lo,
+        hi,
+    };
+    Ok(vec![in alloc; w]?)
+}
+
+// A plant with one input, which sees these plants.
+pub(crate) fn plant(
+    alloc: Global,
+    name: &[u8],
+    states: Vec<StateInfo>,
+    sees: Vec<u32>,
+    noise: Vec<NoiseInfo>,
+    next: Vec<Term>,
+    input: u32,
+) -> Result<PlantInfo, AllocError>
+    requires { IsTokenText NameKind name.now }
+    ensures name { IfOk result (λ p. p.name ≡ name.now) }
+    ensures states { IfOk result (λ p. p.states ≡ states) }
+    ensures inputs { IfOk result (λ p. p.inputs.items ≡ input ∷ []) }
+    ensures sees { IfOk result (λ p. p.sees ≡ sees) }
+    ensures noise { IfOk result (λ p. p.noise ≡ noise) }
+    ensures next { IfOk result (λ p. p.next ≡ next) }
+{
+    Ok(PlantInfo {
+        name: Name::from_bytes(alloc, name)?,
+        states,
+        inputs: vec![in alloc; input]?,
+        sees,
+        noise,
+        next,
+    })
+}
+
+// A node that starts at 0, writes one scalar and has no locals.
+pub(crate) fn node(
+    alloc: Global,
+    name: &[u8],
+    period: u32,
+    reads: Vec<Slot>,
+    write: u32,
+    body: Option<Vec<Act>>,
+) -> Result<NodeInfo, AllocError>
+    requires { IsTokenText NameKind name.now }
+    ensures name { IfOk result (λ n. n.name ≡ name.now) }
+    ensures period { IfOk result (λ n. n.period ≡ period) }
+    ensures offset { IfOk result (λ n. n.offset ≡ 0) }
+    ensures reads { IfOk result (λ n. n.reads ≡ reads) }
+    ensures writes { IfOk result (λ n. n.writes.items ≡ write ∷ []) }
+    ensures locals { IfOk result (λ n. n.locals.items ≡ []) }
+    ensures body { IfOk result (λ n. n.body ≡ body) }
+{
+    Ok(NodeInfo {
+        name: Name::from_bytes(alloc, name)?,
+        period,
+        offset: 0,
+        reads,
+        writes: vec![in alloc; write]?,
+        locals: Vec::new(alloc),
+        body,
+    })
 }
 
 // An operator between two expressions.

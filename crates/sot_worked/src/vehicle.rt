@@ -1,14 +1,18 @@
 //! A vehicle on a line, with an advanced and a safe node.
 ghost use Rattle.std.specs.Prelude.{◌≡◌, ◌∷◌, [], pos, negsuc, false, IfOk};
+ghost use Rattle.sot_lang.specs.declared.tables.PlantInfo.{PlantInfo};
+ghost use Rattle.sot_lang.specs.declared.tables.NodeInfo.{NodeInfo};
 ghost use Rattle.sot_lang.specs.Line.{cmd_name};
 ghost use Rattle.sot_lang.specs.TermRules.{TermFits};
-ghost use Rattle.sot_worked.specs.Parts.{one_topic, whole_number};
+ghost use Rattle.sot_tree.specs.declared.operator.Op.TheVariants.{Less};
+ghost use Rattle.sot_lang.specs.declared.term.Term.{Term};
+ghost use Rattle.sot_lang.specs.declared.term.Term.TheVariants.{Number, Place};
+ghost use Rattle.sot_worked.specs.Parts.{one_topic, whole_number, place, IsBinary, IsChoice};
 ghost use Rattle.sot_worked.specs.Line.{IsMove, IsDrift, IsPos, IsReturn, IsCommand, IsFast, IsSlow, IsLine, nav};
 
-use crate::parts::{binary, choice, interval, number, span, topic};
+use crate::parts::{binary, choice, interval, node, noise, number, span, topic};
 use sot_lang::{
-    Act, ModuleInfo, NodeInfo, NoiseInfo, PlantInfo, ScalarInfo, Slot, StateInfo, Term, TopicInfo,
-    Typed,
+    Act, ModuleInfo, NodeInfo, PlantInfo, ScalarInfo, Slot, StateInfo, Term, TopicInfo, Typed,
 };
 use sot_tree::{Name, Op};
 use std::alloc::{AllocError, Global};
@@ -48,39 +52,29 @@ fn drifted(alloc: Global) -> Result<Term, AllocError>
     Ok(next)
 }
 
-fn state(alloc: Global) -> Result<StateInfo, AllocError>
-    ensures { IfOk result (λ s. s ≡ record { name = 120 ∷ []; scale = 0 }) }
+fn states(alloc: Global) -> Result<Vec<StateInfo>, AllocError>
+    ensures { IfOk result (λ v. v.items ≡ record { name = 120 ∷ []; scale = 0 } ∷ []) }
 {
-    Ok(StateInfo {
+    let x = StateInfo {
         name: Name::from_bytes(alloc, b"x")?,
         scale: 0,
-    })
-}
-
-fn disturbance(alloc: Global) -> Result<NoiseInfo, AllocError>
-    ensures { IfOk result (λ d. d
-        ≡ record { name = 119 ∷ []; scale = 0; lo = negsuc 0; hi = pos 1 }) }
-{
-    Ok(NoiseInfo {
-        name: Name::from_bytes(alloc, b"w")?,
-        scale: 0,
-        lo: -1,
-        hi: 1,
-    })
+    };
+    Ok(vec![in alloc; x]?)
 }
 
 fn plant(alloc: Global, next: Term) -> Result<PlantInfo, AllocError>
     ensures { IfOk result (IsPos (λ t. t ≡ next)) }
 {
-    let state = state(alloc)?;
-    let disturbance = disturbance(alloc)?;
+    let next = vec![in alloc; next]?;
+    let states = states(alloc)?;
+    let noise = noise(alloc, -1, 1)?;
     Ok(PlantInfo {
         name: Name::from_bytes(alloc, b"pos")?,
-        states: vec![in alloc; state]?,
+        states,
         inputs: vec![in alloc; 0]?,
         sees: Vec::new(alloc),
-        noise: vec![in alloc; disturbance]?,
-        next: vec![in alloc; next]?,
+        noise,
+        next,
     })
 }
 
@@ -96,22 +90,29 @@ pub(crate) fn moving_plant(alloc: Global) -> Result<PlantInfo, AllocError>
 pub(crate) fn fast(alloc: Global) -> Result<NodeInfo, AllocError>
     ensures { IfOk result IsFast }
 {
-    Ok(NodeInfo {
-        name: Name::from_bytes(alloc, b"fast")?,
-        period: 4,
-        offset: 0,
-        reads: vec![in alloc; Slot::State { plant: 0, var: 0 }]?,
-        writes: vec![in alloc; 0]?,
-        locals: Vec::new(alloc),
-        body: None,
-    })
+    let reads = vec![in alloc; Slot::State { plant: 0, var: 0 }]?;
+    let node = node(alloc, b"fast", 4, reads, 0, None)?;
+    Ok(node)
+}
+
+// if (pos.x < -10) then 2 else 0
+fn raised(alloc: Global) -> Result<Term, AllocError>
+    ensures { IfOk result (λ t. (below : Term)
+        × IsBinary Less (Place 0) (Number (negsuc 9)) (place 16 59 304 305) below
+        × IsChoice below (Number (pos 2)) (Number (pos 0)) (place 16 49 294 296) t) }
+{
+    let (less, inner) = (span(16, 59, 304, 305), span(16, 49, 294, 296));
+    let below = binary(alloc, Op::Less, Term::Place(0), Term::Number(-10), less)?;
+    let value = choice(alloc, below, Term::Number(2), Term::Number(0), inner)?;
+    Ok(value)
 }
 
 // if (pos.x > 10) then -2 else (if (pos.x < -10) then 2 else 0)
 fn returned(alloc: Global) -> Result<Term, AllocError>
     ensures { IfOk result IsReturn }
 {
-    let (greater, less) = (span(16, 29, 274, 275), span(16, 59, 304, 305));
+    let (greater, outer) = (span(16, 29, 274, 275), span(16, 19, 264, 266));
+    let rest = raised(alloc)?;
     let above = binary(
         alloc,
         Op::Greater,
@@ -119,9 +120,6 @@ fn returned(alloc: Global) -> Result<Term, AllocError>
         Term::Number(10),
         greater,
     )?;
-    let below = binary(alloc, Op::Less, Term::Place(0), Term::Number(-10), less)?;
-    let (inner, outer) = (span(16, 49, 294, 296), span(16, 19, 264, 266));
-    let rest = choice(alloc, below, Term::Number(2), Term::Number(0), inner)?;
     let value = choice(alloc, above, Term::Number(-2), rest, outer)?;
     Ok(value)
 }
@@ -141,15 +139,10 @@ fn acts(alloc: Global) -> Result<Vec<Act>, AllocError>
 pub(crate) fn slow(alloc: Global) -> Result<NodeInfo, AllocError>
     ensures { IfOk result IsSlow }
 {
-    Ok(NodeInfo {
-        name: Name::from_bytes(alloc, b"slow")?,
-        period: 2,
-        offset: 0,
-        reads: vec![in alloc; Slot::State { plant: 0, var: 0 }]?,
-        writes: vec![in alloc; 0]?,
-        locals: Vec::new(alloc),
-        body: Some(acts(alloc)?),
-    })
+    let acts = acts(alloc)?;
+    let reads = vec![in alloc; Slot::State { plant: 0, var: 0 }]?;
+    let node = node(alloc, b"slow", 2, reads, 0, Some(acts))?;
+    Ok(node)
 }
 
 pub(crate) fn module(alloc: Global) -> Result<ModuleInfo, AllocError>
@@ -167,22 +160,44 @@ pub(crate) fn module(alloc: Global) -> Result<ModuleInfo, AllocError>
     })
 }
 
+fn plants(alloc: Global, next: Term) -> Result<Vec<PlantInfo>, AllocError>
+    ensures { IfOk result (λ v. (plant : PlantInfo) × IsPos (λ t. t ≡ next) plant × (v.items ≡ plant ∷ [])) }
+{
+    let plant = plant(alloc, next)?;
+    Ok(vec![in alloc; plant]?)
+}
+
+fn nodes(alloc: Global) -> Result<Vec<NodeInfo>, AllocError>
+    ensures { IfOk result (λ v. (fast : NodeInfo) × (slow : NodeInfo) × IsFast fast × IsSlow slow
+        × (v.items ≡ fast ∷ slow ∷ [])) }
+{
+    let fast = fast(alloc)?;
+    let slow = slow(alloc)?;
+    Ok(vec![in alloc; fast, slow]?)
+}
+
+fn modules(alloc: Global) -> Result<Vec<ModuleInfo>, AllocError>
+    ensures { IfOk result (λ v. v.items ≡ nav ∷ []) }
+{
+    let module = module(alloc)?;
+    Ok(vec![in alloc; module]?)
+}
+
 fn tables(alloc: Global, next: Term) -> Result<Typed, AllocError>
     requires { TermFits (false ∷ false ∷ false ∷ []) next }
     ensures { IfOk result (IsLine (λ t. t ≡ next)) }
 {
+    let plants = plants(alloc, next)?;
     let topics = topics(alloc)?;
     let scalars = scalars(alloc)?;
-    let plant = plant(alloc, next)?;
-    let fast = fast(alloc)?;
-    let slow = slow(alloc)?;
-    let module = module(alloc)?;
+    let nodes = nodes(alloc)?;
+    let modules = modules(alloc)?;
     Ok(Typed {
         topics,
         scalars,
-        plants: vec![in alloc; plant]?,
-        nodes: vec![in alloc; fast, slow]?,
-        modules: vec![in alloc; module]?,
+        plants,
+        nodes,
+        modules,
     })
 }
 

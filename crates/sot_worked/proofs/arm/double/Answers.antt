@@ -8,28 +8,28 @@ pub invariant_of-result : goal.invariant_of-result
 invariant_of-result c = double_meets_rules c.args.low c.args.high c.requires _ (record {
   topics = c.in_ok-topics.ensures;
   scalars = c.in_ok-scalars.ensures;
-  arm = c.in_ok-arm.arm;
-  is_arm = c.in_ok-arm.ensures;
-  plants = c.in_ok-vec.ensures.items;
-  fast = c.in_ok-fast.fast;
-  slow = c.in_ok-slow.slow;
-  is_fast = c.in_ok-fast.ensures;
-  is_slow = c.in_ok-slow.ensures;
-  nodes = c.in_ok-vec-2.ensures.items;
-  modules = c.in_ok-vec-3.ensures.items ∙ ap (λ m. m ∷ []) (c.in_ok-nav.ensures ∙ ap₂ stops (to_z-of_z c.ranges.low) (to_z-of_z c.ranges.high));
+  arm = c.in_ok-plants.ensures.0;
+  is_arm = c.in_ok-plants.ensures.1;
+  plants = c.in_ok-plants.ensures.2;
+  fast = c.in_ok-nodes.ensures.0;
+  slow = c.in_ok-nodes.ensures.1;
+  is_fast = c.in_ok-nodes.ensures.2;
+  is_slow = c.in_ok-nodes.ensures.3;
+  nodes = c.in_ok-nodes.ensures.4;
+  modules = c.in_ok-modules.ensures ∙ ap (λ m. m ∷ []) (ap₂ stops (to_z-of_z c.ranges.low) (to_z-of_z c.ranges.high));
 })
 
 pub returns : goal.returns
 returns c = record {
   topics = c.in_ok-topics.ensures;
   scalars = c.in_ok-scalars.ensures;
-  arm = c.in_ok-arm.arm;
-  is_arm = c.in_ok-arm.ensures;
-  plants = c.in_ok-vec.ensures.items;
-  fast = c.in_ok-fast.fast;
-  slow = c.in_ok-slow.slow;
-  is_fast = c.in_ok-fast.ensures;
-  is_slow = c.in_ok-slow.ensures;
-  nodes = c.in_ok-vec-2.ensures.items;
-  modules = c.in_ok-vec-3.ensures.items ∙ ap (λ m. m ∷ []) (c.in_ok-nav.ensures ∙ ap₂ stops (to_z-of_z c.ranges.low) (to_z-of_z c.ranges.high));
+  arm = c.in_ok-plants.ensures.0;
+  is_arm = c.in_ok-plants.ensures.1;
+  plants = c.in_ok-plants.ensures.2;
+  fast = c.in_ok-nodes.ensures.0;
+  slow = c.in_ok-nodes.ensures.1;
+  is_fast = c.in_ok-nodes.ensures.2;
+  is_slow = c.in_ok-nodes.ensures.3;
+  nodes = c.in_ok-nodes.ensures.4;
+  modules = c.in_ok-modules.ensures ∙ ap (λ m. m ∷ []) (ap₂ stops (to_z-of_z c.ranges.low) (to_z-of_z c.ranges.high));
 }
