@@ -5,6 +5,7 @@ ghost use Rattle.sot_rules.specs.First.{IsFirstFault, IsFaultless};
 ghost use Rattle.sot_tree.specs.Formed.{IsFormed};
 ghost use Rattle.sot_rules.specs.declared.fault.TypeFault.{TypeFault as AFault};
 ghost use Rattle.sot_rules.specs.declared.fault.TypeFail.TheVariants.{Fault};
+ghost use Rattle.sot_rules.specs.Indexes.{program_in, IsIndex};
 ghost use Rattle.sot_typing.specs.Resolved.{AreTables};
 
 use crate::names::numbers::numbers;
@@ -14,6 +15,17 @@ use sot_rules::{Index, TypeFail, first_fault};
 use sot_tree::Program;
 use std::alloc::{AllocError, Global};
 
+// The tables of the program of an index, in which no rule of typing fails.
+fn indexed_tables(alloc: Global, index: &Index) -> Result<Typed, AllocError>
+    requires indexed { IsIndex index.now }
+    requires formed { IsFormed (program_in index.now) }
+    requires faultless { IsFaultless (program_in index.now) }
+    ensures { IfOk result (λ t. AreTables (program_in index.now) t) }
+{
+    let numbers = numbers(alloc, index.decls)?;
+    all_tables(alloc, index, &numbers)
+}
+
 // The tables of a program in which no rule of typing fails.
 fn faultless_tables(alloc: Global, program: &Program) -> Result<Typed, AllocError>
     requires formed { IsFormed (program_view program.now) }
@@ -21,8 +33,9 @@ fn faultless_tables(alloc: Global, program: &Program) -> Result<Typed, AllocErro
     ensures { IfOk result (λ t. AreTables (program_view program.now) t) }
 {
     let index = Index::of(alloc, program)?;
-    let numbers = numbers(alloc, &program.decls)?;
-    all_tables(alloc, &index, &numbers)
+    let made = indexed_tables(alloc, &index);
+    drop(index);
+    made
 }
 
 /// The tables of a program, or the first rule of typing that it breaks, by its place in the text and then by its number.
