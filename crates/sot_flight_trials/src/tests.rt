@@ -79,14 +79,16 @@ module nav { ac fast; sc slow; period 4 offset 0; plant pos; safe [-200..200]; s
 // A flight of the vehicle.
 pub fn flight(
     alloc: Global,
-    start: i64,
-    horizon: u32,
+    start: &str,
+    horizon: &str,
     sway: &str,
     crew: &str,
 ) -> Result<String, Fail> {
-    let text = format!(in alloc;
-        "{{\"crew\":{{\"fast\":{crew}}},\"format\":1,\"horizon\":{horizon},\"inputs\":[],\"start\":{{\"pos\":[{start}]}},\"sway\":{{\"pos\":{sway}}}}}"
+    let flown = format!(in alloc;
+        "\"crew\":{{\"fast\":{crew}}},\"format\":1,\"horizon\":{horizon},\"inputs\":[]"
     )?;
+    let moved = format!(in alloc; "\"start\":{{\"pos\":[{start}]}},\"sway\":{{\"pos\":{sway}}}")?;
+    let text = format!(in alloc; "{{{flown},{moved}}}")?;
     Ok(text)
 }
 

@@ -116,10 +116,10 @@ fn after(
     rt: &(impl Threads + Sync),
     alloc: Global,
     mission: &str,
-    horizon: u32,
+    horizon: &str,
     deeds: &[Deed],
 ) -> Result<Flown, Fail> {
-    let flight = flight(alloc, 10, horizon, HIGH, TWO)?;
+    let flight = flight(alloc, "10", horizon, HIGH, TWO)?;
     let text = with_flight(alloc, mission, flight.as_str())?;
     let loaded = loaded(alloc, text.as_str(), 0)?;
     let Some(stated) = &loaded.flight else {
@@ -208,7 +208,7 @@ fn the_order_of_an_instant_is_free(rt: HostRuntime) -> Result<(), Fail> {
             Deed::Fast,
             Deed::Tick,
         ];
-        let flown = after(&rt, alloc, mission.as_str(), 5, &deeds)?;
+        let flown = after(&rt, alloc, mission.as_str(), "5", &deeds)?;
         assert_eq!(rt; flown.text.as_str(), said);
         assert!(rt; flown.done && flown.ended);
     }
@@ -220,14 +220,16 @@ fn with_jitter_a_tick_may_come_first(rt: HostRuntime) -> Result<(), Fail> {
     let alloc = rt.alloc();
     let late = together(alloc, "\"format\":2,\"jitter\":1")?;
     let deeds = [Deed::Fast, Deed::Tick, Deed::Decide, Deed::Slow];
-    let in_time = after(&rt, alloc, late.as_str(), 1, &deeds)?;
+    let in_time = after(&rt, alloc, late.as_str(), "1", &deeds)?;
     assert_eq!(rt; in_time.text.as_str(), LATE);
     assert!(rt; in_time.done && in_time.ended);
 
     // No firing may be two ticks late, and without jitter none may be late at all.
     let twice = [Deed::Fast, Deed::Tick, Deed::Tick];
-    assert!(rt; !after(&rt, alloc, late.as_str(), 2, &twice)?.done);
+    let too_late = after(&rt, alloc, late.as_str(), "2", &twice)?;
+    assert!(rt; !too_late.done);
     let on_time = together(alloc, "\"format\":1")?;
-    assert!(rt; !after(&rt, alloc, on_time.as_str(), 1, &deeds)?.done);
+    let at_once = after(&rt, alloc, on_time.as_str(), "1", &deeds)?;
+    assert!(rt; !at_once.done);
     Ok(())
 }

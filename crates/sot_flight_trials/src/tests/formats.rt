@@ -3,37 +3,38 @@ use super::*;
 use sot_flight::Flight;
 use std::process::Abort;
 
-// A flight by its parts, each under its name.
-type Parts = [(&'static str, &'static str); 6];
+// The usual flight of the vehicle, and of the relay: a line for each part, with its name and its value.
+const VEHICLE: &str = r#"crew {"fast":{"drafts":[[2]],"kind":"script"}}
+format 1
+horizon 20
+inputs []
+start {"pos":[0]}
+sway {"pos":{"kind":"list","values":[[0]]}}"#;
 
-// The usual flight of the vehicle, and of the relay.
-const VEHICLE: Parts = [
-    ("crew", r#"{"fast":{"drafts":[[2]],"kind":"script"}}"#),
-    ("format", "1"),
-    ("horizon", "20"),
-    ("inputs", "[]"),
-    ("start", r#"{"pos":[0]}"#),
-    ("sway", r#"{"pos":{"kind":"list","values":[[0]]}}"#),
-];
+const RELAYED: &str = "crew {}
+format 1
+horizon 0
+inputs []
+start {}
+sway {}";
 
-const RELAYED: Parts = [
-    ("crew", "{}"),
-    ("format", "1"),
-    ("horizon", "0"),
-    ("inputs", "[]"),
-    ("start", "{}"),
-    ("sway", "{}"),
-];
+// Adds a part to the text of a flight that has been begun.
+fn push_part(alloc: Global, text: &mut String, name: &str, value: &str) -> Result<(), Fail> {
+    let part = format!(in alloc; "\"{name}\":{value}")?;
+    if text.len() > 1 {
+        text.push_str(",")?;
+    }
+    text.push_str(part.as_str())?;
+    Ok(())
+}
 
 // The text of a flight with another value for one of its parts.
-fn varied(alloc: Global, parts: &Parts, part: &str, value: &str) -> Result<String, Fail> {
+fn varied(alloc: Global, parts: &str, part: &str, value: &str) -> Result<String, Fail> {
     let mut text = String::from_str(alloc, "{")?;
-    for i in 0..parts.len() {
-        let (name, usual) = parts[i];
-        let comma = if i == 0 { "" } else { "," };
+    for line in parts.lines() {
+        let (name, usual) = line.split_once(' ').ok_or("no value")?;
         let here = if name == part { value } else { usual };
-        let one = format!(in alloc; "{comma}\"{name}\":{here}")?;
-        text.push_str(one.as_str())?;
+        push_part(alloc, &mut text, name, here)?;
     }
     text.push_str("}")?;
     Ok(text)
@@ -55,7 +56,8 @@ fn said(alloc: Global, mission: &str, flight: &str, guests: u32) -> Result<Strin
 
 fn counts(alloc: Global, flight: &Flight) -> Result<String, Fail> {
     let (horizon, events, numbers) = (flight.horizon(), flight.events(), flight.numbers());
-    Ok(format!(in alloc; "horizon {horizon} events {events} numbers {numbers}\n")?)
+    let first = format!(in alloc; "horizon {horizon} events {events}")?;
+    Ok(format!(in alloc; "{first} numbers {numbers}\n")?)
 }
 
 // Whether a mission's flights are read as a table says, and how many there are. A row has a count of guests, the part that is not the
@@ -64,7 +66,7 @@ fn say(
     rt: &impl Abort,
     alloc: Global,
     mission: &str,
-    usual: &Parts,
+    usual: &str,
     table: &str,
 ) -> Result<usize, Fail> {
     for row in table.lines() {
@@ -146,7 +148,7 @@ const OF_THE_VEHICLE: &str = r#"0 format 1 => horizon 20 events 36 numbers 50
 fn each_part_of_a_flight_is_read(rt: HostRuntime) -> Result<(), Fail> {
     let alloc = rt.alloc();
     let mission = apart(alloc)?;
-    let rows = say(&rt, alloc, mission.as_str(), &VEHICLE, OF_THE_VEHICLE)?;
+    let rows = say(&rt, alloc, mission.as_str(), VEHICLE, OF_THE_VEHICLE)?;
     assert_eq!(rt; rows, 61);
     Ok(())
 }
@@ -172,7 +174,7 @@ const OF_THE_RELAY: &str = r#"0 format 1 => horizon 0 events 1 numbers 1
 
 #[test]
 fn inputs_are_read_in_order(rt: HostRuntime) -> Result<(), Fail> {
-    assert_eq!(rt; say(&rt, rt.alloc(), RELAY, &RELAYED, OF_THE_RELAY)?, 18);
+    assert_eq!(rt; say(&rt, rt.alloc(), RELAY, RELAYED, OF_THE_RELAY)?, 18);
     Ok(())
 }
 

@@ -117,7 +117,7 @@ fn disturbances_by_tick(rt: HostRuntime) -> Result<(), Fail> {
         ("{\"kind\":\"low\"}", 0, 2, " -1 -1"),
         ("{\"kind\":\"high\"}", 0, 2, " 1 1"),
     ] {
-        let flight = flight(alloc, 0, 20, sway, TWO)?;
+        let flight = flight(alloc, "0", "20", sway, TWO)?;
         let text = with_flight(alloc, mission.as_str(), flight.as_str())?;
         let loaded = loaded(alloc, text.as_str(), 0)?;
         let Some(stated) = &loaded.flight else {
@@ -145,7 +145,7 @@ fn drafts_by_firing(rt: HostRuntime) -> Result<(), Fail> {
             " 2 none -99 -99 -99 -99",
         ),
     ] {
-        let flight = flight(alloc, 0, 20, CALM, crew)?;
+        let flight = flight(alloc, "0", "20", CALM, crew)?;
         let text = with_flight(alloc, mission.as_str(), flight.as_str())?;
         let loaded = loaded(alloc, text.as_str(), 0)?;
         let Some(stated) = &loaded.flight else {
@@ -162,7 +162,7 @@ fn drafts_by_firing(rt: HostRuntime) -> Result<(), Fail> {
 fn a_guest_drafts(rt: HostRuntime) -> Result<(), Fail> {
     let alloc = rt.alloc();
     let mission = apart(alloc)?;
-    let flight = flight(alloc, 0, 20, CALM, "{\"index\":3,\"kind\":\"guest\"}")?;
+    let flight = flight(alloc, "0", "20", CALM, "{\"index\":3,\"kind\":\"guest\"}")?;
     let text = with_flight(alloc, mission.as_str(), flight.as_str())?;
     let loaded = loaded(alloc, text.as_str(), 4)?;
     let Some(stated) = &loaded.flight else {
@@ -177,7 +177,7 @@ fn a_guest_drafts(rt: HostRuntime) -> Result<(), Fail> {
 #[test]
 fn each_disturbance_of_a_tick_is_drawn(rt: HostRuntime) -> Result<(), Fail> {
     let alloc = rt.alloc();
-    let flight = flight(alloc, 0, 5, SEED, TWO)?;
+    let flight = flight(alloc, "0", "5", SEED, TWO)?;
     let text = with_flight(alloc, GUSTY, flight.as_str())?;
     let loaded = loaded(alloc, text.as_str(), 0)?;
     let Some(stated) = &loaded.flight else {

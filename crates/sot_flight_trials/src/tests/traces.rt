@@ -82,31 +82,31 @@ fn flies_as_the_flight_states(rt: HostRuntime) -> Result<(), Fail> {
     let alloc = rt.alloc();
     let mission = apart(alloc)?;
     for (start, horizon, sway, crew, said) in [
-        (0, 20, CALM, TWO, SWITCHED),
+        ("0", "20", CALM, TWO, SWITCHED),
         (
-            0,
-            0,
+            "0",
+            "0",
             CALM,
             TWO,
             "soter trace 1\nstart pos 0\n0 decide nav ac\nend 0 events 1 refused 0\n",
         ),
         (
-            0,
-            3,
+            "0",
+            "3",
             "{\"kind\":\"seed\",\"seed\":42,\"stream\":54}",
             TWO,
             "soter trace 1\nstart pos 0\n0 decide nav ac\n0 tick pos(-1)=-1\n1 idle slow cmd=0\n1 tick pos(-1)=-2\n2 fire fast cmd=2\n2 tick pos(1)=1\nend 3 events 6 refused 0\n",
         ),
         (
-            0,
-            3,
+            "0",
+            "3",
             CALM,
             "{\"drafts\":[[7]],\"kind\":\"script\"}",
             "soter trace 1\nstart pos 0\n0 decide nav ac\n0 tick pos(0)=0\n1 idle slow cmd=0\n1 tick pos(0)=0\n2 fire fast cmd!7\n2 tick pos(0)=0\nend 3 events 6 refused 1\n",
         ),
         (
-            0,
-            3,
+            "0",
+            "3",
             CALM,
             "{\"drafts\":[[null]],\"kind\":\"script\"}",
             "soter trace 1\nstart pos 0\n0 decide nav ac\n0 tick pos(0)=0\n1 idle slow cmd=0\n1 tick pos(0)=0\n2 fire fast\n2 tick pos(0)=0\nend 3 events 6 refused 0\n",
@@ -126,7 +126,7 @@ fn flies_as_the_flight_states(rt: HostRuntime) -> Result<(), Fail> {
 fn no_flight_starts_outside(rt: HostRuntime) -> Result<(), Fail> {
     let alloc = rt.alloc();
     let mission = apart(alloc)?;
-    let flight = flight(alloc, 11, 3, CALM, TWO)?;
+    let flight = flight(alloc, "11", "3", CALM, TWO)?;
     let text = with_flight(alloc, mission.as_str(), flight.as_str())?;
     assert!(rt; trace_of(&rt, alloc, text.as_str())?.is_err());
     Ok(())
@@ -222,15 +222,15 @@ fn idle_nodes_draft_too(rt: HostRuntime) -> Result<(), Fail> {
     let alloc = rt.alloc();
     let mission = together(alloc, "\"format\":1")?;
     for (horizon, sway, crew, said) in [
-        (0, CALM, "{\"drafts\":[[7]],\"kind\":\"script\"}", REFUSED),
+        ("0", CALM, "{\"drafts\":[[7]],\"kind\":\"script\"}", REFUSED),
         (
-            16,
+            "16",
             "{\"kind\":\"high\"}",
             "{\"drafts\":[[2],[7],[null],[-9],[1]],\"kind\":\"script\"}",
             ROWS,
         ),
     ] {
-        let flight = flight(alloc, 10, horizon, sway, crew)?;
+        let flight = flight(alloc, "10", horizon, sway, crew)?;
         let text = with_flight(alloc, mission.as_str(), flight.as_str())?;
         match trace_of(&rt, alloc, text.as_str())? {
             Ok(trace) => assert_eq!(rt; trace.as_str(), said),
@@ -245,8 +245,8 @@ fn each_disturbance_takes_a_word(rt: HostRuntime) -> Result<(), Fail> {
     let alloc = rt.alloc();
     let flight = flight(
         alloc,
-        0,
-        5,
+        "0",
+        "5",
         "{\"kind\":\"seed\",\"seed\":42,\"stream\":54}",
         "{\"drafts\":[[0]],\"kind\":\"script\"}",
     )?;

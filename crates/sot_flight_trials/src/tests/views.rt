@@ -206,7 +206,7 @@ fn beside(
     deeds: &[Deed],
 ) -> Result<Option<Copied>, Fail> {
     let crew = format!(in alloc; "{{\"drafts\":[[{draft}]],\"kind\":\"script\"}}")?;
-    let flight = flight(alloc, 10, 0, "{\"kind\":\"low\"}", crew.as_str())?;
+    let flight = flight(alloc, "10", "0", "{\"kind\":\"low\"}", crew.as_str())?;
     let text = with_flight(alloc, COPIED, flight.as_str())?;
     let loaded = loaded(alloc, text.as_str(), 0)?;
     let Some(stated) = &loaded.flight else {
