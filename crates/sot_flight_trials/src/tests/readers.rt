@@ -22,6 +22,31 @@ fn noise(p: &Typed, flight: &Flight, tick: u32, i: u32) -> Result<i64, Fail>
     Ok(flight.noise(p, 0, tick, i))
 }
 
+// Adds a number to a text, after a space.
+fn push_number(alloc: Global, number: i64, text: &mut String) -> Result<(), Fail> {
+    let one = format!(in alloc; " {number}")?;
+    text.push_str(one.as_str())?;
+    Ok(())
+}
+
+// Adds the first `width` disturbances of the first plant for a tick to a text, each after a space.
+fn push_noises(
+    alloc: Global,
+    p: &Typed,
+    flight: &Flight,
+    width: u32,
+    tick: u32,
+    text: &mut String,
+) -> Result<(), Fail>
+    requires fits { (guests : ℕ) × FitsFlight p.now guests flight.now }
+{
+    for i in 0..width {
+        let value = noise(p, flight, tick, i)?;
+        push_number(alloc, value, text)?;
+    }
+    Ok(())
+}
+
 // The first `width` disturbances of the first plant for the ticks from the first up to the end, tick by tick, each after a space.
 fn noises(
     alloc: Global,
@@ -35,11 +60,7 @@ fn noises(
 {
     let mut text = String::new(alloc);
     for tick in first..end {
-        for i in 0..width {
-            let value = noise(p, flight, tick, i)?;
-            let one = format!(in alloc; " {value}")?;
-            text.push_str(one.as_str())?;
-        }
+        push_noises(alloc, p, flight, width, tick, &mut text)?;
     }
     Ok(text)
 }
@@ -60,10 +81,7 @@ fn push_draft(alloc: Global, draft: &Draft, width: usize, text: &mut String) -> 
 {
     for i in 0..width {
         match draft.get(i) {
-            Some(value) => {
-                let one = format!(in alloc; " {value}")?;
-                text.push_str(one.as_str())?;
-            }
+            Some(value) => push_number(alloc, value, text)?,
             None => text.push_str(" none")?,
         }
     }
@@ -101,6 +119,35 @@ fn guest(p: &Typed, flight: &Flight, node: u32) -> Result<Option<u32>, Fail>
     Ok(flight.guest(node))
 }
 
+// The disturbances that a flight with this sway states, for the ticks from the first up to the end.
+fn swayed(alloc: Global, mission: &str, sway: &str, first: u32, end: u32) -> Result<String, Fail> {
+    let flight = flight(alloc, "0", "20", sway, TWO)?;
+    let text = with_flight(alloc, mission, flight.as_str())?;
+    let loaded = loaded(alloc, text.as_str(), 0)?;
+    let Some(stated) = &loaded.flight else {
+        return Err(Fail::from(AllocError));
+    };
+    noises(alloc, &loaded.program, stated, 1, first, end)
+}
+
+// The drafts that a flight with this crew states for so many firings, and the guest that drafts in their place.
+fn crewed(
+    alloc: Global,
+    mission: &str,
+    crew: &str,
+    count: u32,
+) -> Result<(String, Option<u32>), Fail> {
+    let flight = flight(alloc, "0", "20", CALM, crew)?;
+    let text = with_flight(alloc, mission, flight.as_str())?;
+    let loaded = loaded(alloc, text.as_str(), 0)?;
+    let Some(stated) = &loaded.flight else {
+        return Err(Fail::from(AllocError));
+    };
+    let drafted = drafts(alloc, &loaded.program, stated, 1, count)?;
+    let flown_by = guest(&loaded.program, stated, 0)?;
+    Ok((drafted, flown_by))
+}
+
 #[test]
 fn disturbances_by_tick(rt: HostRuntime) -> Result<(), Fail> {
     let alloc = rt.alloc();
@@ -117,13 +164,7 @@ fn disturbances_by_tick(rt: HostRuntime) -> Result<(), Fail> {
         ("{\"kind\":\"low\"}", 0, 2, " -1 -1"),
         ("{\"kind\":\"high\"}", 0, 2, " 1 1"),
     ] {
-        let flight = flight(alloc, "0", "20", sway, TWO)?;
-        let text = with_flight(alloc, mission.as_str(), flight.as_str())?;
-        let loaded = loaded(alloc, text.as_str(), 0)?;
-        let Some(stated) = &loaded.flight else {
-            return Err(Fail::from(AllocError));
-        };
-        let found = noises(alloc, &loaded.program, stated, 1, first, end)?;
+        let found = swayed(alloc, mission.as_str(), sway, first, end)?;
         assert_eq!(rt; found.as_str(), want);
     }
     Ok(())
@@ -145,15 +186,9 @@ fn drafts_by_firing(rt: HostRuntime) -> Result<(), Fail> {
             " 2 none -99 -99 -99 -99",
         ),
     ] {
-        let flight = flight(alloc, "0", "20", CALM, crew)?;
-        let text = with_flight(alloc, mission.as_str(), flight.as_str())?;
-        let loaded = loaded(alloc, text.as_str(), 0)?;
-        let Some(stated) = &loaded.flight else {
-            return Err(Fail::from(AllocError));
-        };
-        let found = drafts(alloc, &loaded.program, stated, 1, count)?;
+        let (found, flown_by) = crewed(alloc, mission.as_str(), crew, count)?;
         assert_eq!(rt; found.as_str(), want);
-        assert_eq!(rt; guest(&loaded.program, stated, 0)?, None);
+        assert_eq!(rt; flown_by, None);
     }
     Ok(())
 }
