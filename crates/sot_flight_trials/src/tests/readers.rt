@@ -193,19 +193,33 @@ fn drafts_by_firing(rt: HostRuntime) -> Result<(), Fail> {
     Ok(())
 }
 
-#[test]
-fn a_guest_drafts(rt: HostRuntime) -> Result<(), Fail> {
-    let alloc = rt.alloc();
-    let mission = apart(alloc)?;
-    let flight = flight(alloc, "0", "20", CALM, "{\"index\":3,\"kind\":\"guest\"}")?;
-    let text = with_flight(alloc, mission.as_str(), flight.as_str())?;
+// The guests of the first two nodes in a flight with this crew and four guests, and the first draft that is stated for the first node.
+fn guests_of(
+    alloc: Global,
+    mission: &str,
+    crew: &str,
+) -> Result<(Option<u32>, Option<u32>, Option<Draft>), Fail> {
+    let flight = flight(alloc, "0", "20", CALM, crew)?;
+    let text = with_flight(alloc, mission, flight.as_str())?;
     let loaded = loaded(alloc, text.as_str(), 4)?;
     let Some(stated) = &loaded.flight else {
         return Err(Fail::from(AllocError));
     };
-    assert_eq!(rt; guest(&loaded.program, stated, 0)?, Some(3));
-    assert_eq!(rt; guest(&loaded.program, stated, 1)?, None);
-    assert!(rt; draft(&loaded.program, stated, 0)?.is_none());
+    let first = guest(&loaded.program, stated, 0)?;
+    let second = guest(&loaded.program, stated, 1)?;
+    let drafted = draft(&loaded.program, stated, 0)?;
+    Ok((first, second, drafted))
+}
+
+#[test]
+fn a_guest_drafts(rt: HostRuntime) -> Result<(), Fail> {
+    let alloc = rt.alloc();
+    let mission = apart(alloc)?;
+    let crew = "{\"index\":3,\"kind\":\"guest\"}";
+    let (first, second, drafted) = guests_of(alloc, mission.as_str(), crew)?;
+    assert_eq!(rt; first, Some(3));
+    assert_eq!(rt; second, None);
+    assert!(rt; drafted.is_none());
     Ok(())
 }
 
