@@ -19,6 +19,7 @@ syntax match soterNumber  /\<\d\+\%(\.\d\+\)\=/
 syntax match soterLong    /\<[A-Za-z_][A-Za-z0-9_]\{64,}\>/
 syntax match soterSign    /:=\|\.\.\|<=\|>=\|==\|!=\|[-+*\/%<>=|]/
 " a byte that begins no token
+syntax match soterBad     /!=\@!/
 syntax match soterBad     /[^ \t\r#A-Za-z0-9_:.<>=!+\-*\/%;,|()\[\]{}]/
 syntax match soterComment /#.*$/ contains=soterTodo,@Spell
 syntax keyword soterTodo  contained TODO FIXME
