@@ -12,4 +12,3 @@ pub mod AtomsRead
 pub mod EachRead
 pub mod PhraseLaws
 pub mod ChainEnds
-pub mod ChoiceSteps

@@ -1,9 +1,6 @@
 //! The productions of expressions, one function for each.
 ghost use Rattle.std.specs.Prelude.{◌≡◌, ◌<◌, ◌≤◌, ◌-◌, IfOk, true, false};
-ghost use Rattle.std.specs.Result.{result_flatten, result_map_both};
 ghost use Rattle.sot_text.specs.Reading.{lexeme};
-ghost use Rattle.sot_expression.specs.Lexemes.{is_keyword};
-ghost use Rattle.sot_expression.specs.Readers.{expect};
 ghost use Rattle.sot_expression.specs.ExpressionReaders.{any_token, operation_at, remainder_at, joined_at, number_part, truth_part, field_at, named_at, group_at, opened_at, further_at, abs_at, pair_at, limits_at, clamp_at, target_at, rescale_at, atom_at, begins_unary, minus_at, unary_at, denied_at, chosen_at, within, part_at, expression_at, tree_at};
 ghost use Rattle.sot_tree.specs.TreeViews.{tree_view};
 ghost use Rattle.sot_expression.specs.Parts.{part_view, Fits, below, inner, around, climbed, onward, turned, plain_at, not_at};
@@ -130,7 +127,7 @@ fn remainder(alloc: Global, tokens: &mut Tokens<'_>, room: u32, left: Part) -> R
     let at = any_token(tokens)?.at;
     let by = number(tokens)?;
     let levels = 1 + left.levels;
-    let tree = nodes::rest(alloc, left.tree, by, at)?;
+    let tree = nodes::rest(alloc, left, by, at)?;
     Ok(over(tree, levels))
 }
 
@@ -284,7 +281,7 @@ fn operation(
     let at = any_token(tokens)?.at;
     let right = read(alloc, tokens, room - 1, false, tier - 1)?;
     let levels = 1 + left.levels.max(right.levels);
-    let tree = nodes::binary(alloc, op, left.tree, right.tree, at)?;
+    let tree = nodes::binary(alloc, op, left, right, at)?;
     Ok(over(tree, levels))
 }
 
@@ -329,7 +326,7 @@ fn minus(
     }
     let part = read(alloc, tokens, room - 1, false, 0)?;
     let levels = 1 + part.levels;
-    let tree = nodes::negated(alloc, part.tree, token.at)?;
+    let tree = nodes::negated(alloc, part, token.at)?;
     Ok(over(tree, levels))
 }
 
@@ -365,7 +362,7 @@ fn denied(alloc: Global, tokens: &mut Tokens<'_>, room: u32, held: bool) -> Resu
     let at = any_token(tokens)?.at;
     let part = read(alloc, tokens, room - 1, false, 4)?;
     let levels = 1 + part.levels;
-    let tree = nodes::denied(alloc, part.tree, at)?;
+    let tree = nodes::denied(alloc, part, at)?;
     Ok(over(tree, levels))
 }
 
@@ -392,22 +389,13 @@ fn chosen(alloc: Global, tokens: &mut Tokens<'_>, room: u32, held: bool) -> Resu
 {
     let at = any_token(tokens)?.at;
     let cond = read(alloc, tokens, room - 1, false, 7)?;
-    let yes = behind_word(alloc, tokens, room, b"then")?;
-    let no = behind_word(alloc, tokens, room, b"else")?;
+    expect_keyword(tokens, b"then")?;
+    let yes = read(alloc, tokens, room - 1, false, 7)?;
+    expect_keyword(tokens, b"else")?;
+    let no = read(alloc, tokens, room - 1, false, 7)?;
     let levels = 1 + cond.levels.max(yes.levels.max(no.levels));
-    let tree = nodes::chosen(alloc, cond.tree, yes.tree, no.tree, at)?;
+    let tree = nodes::chosen(alloc, cond, yes, no, at)?;
     Ok(over(tree, levels))
-}
-
-// A keyword, and the part behind it.
-#[cycle(expression)]
-fn behind_word(alloc: Global, tokens: &mut Tokens<'_>, room: u32, word: &[u8]) -> Result<Part, Fail>
-    requires room { (2 ≤ room) × (room ≤ 64) }
-    ensures read { Gives part_view result tokens.old tokens.new (result_flatten (result_map_both (λ at. below room 7 at.1) (λ fault. fault) (expect (is_keyword word.now) tokens.old.tokens))) }
-    ensures fits { IfOk result (λ p. (1 ≤ p.levels) × (p.levels < room)) }
-{
-    expect_keyword(tokens, word)?;
-    read(alloc, tokens, room - 1, false, 7)
 }
 
 #[cycle(expression)]
@@ -444,13 +432,14 @@ fn group(alloc: Global, tokens: &mut Tokens<'_>, room: u32) -> Result<Part, Fail
     any_token(tokens)?;
     let part = read(alloc, tokens, room, true, 7)?;
     expect_sign(tokens, b")")?;
+    let levels = if part.bare {
+        1 + part.levels
+    } else {
+        part.levels
+    };
     Ok(Part {
-        tree: part.tree,
-        levels: if part.bare {
-            1 + part.levels
-        } else {
-            part.levels
-        },
+        tree: part.into_tree(),
+        levels,
         bare: true,
     })
 }
@@ -489,8 +478,9 @@ fn absolute(alloc: Global, tokens: &mut Tokens<'_>, room: u32) -> Result<Part, F
     let at = any_token(tokens)?.at;
     let part = opened(alloc, tokens, room)?;
     expect_sign(tokens, b")")?;
-    let call = nodes::call_of_one(alloc, Func::Abs, part.tree, at)?;
-    Ok(over(call, 1 + part.levels))
+    let levels = 1 + part.levels;
+    let call = nodes::call_of_one(alloc, Func::Abs, part, at)?;
+    Ok(over(call, levels))
 }
 
 // `min` or `max`.
@@ -506,7 +496,7 @@ fn pair(alloc: Global, tokens: &mut Tokens<'_>, room: u32, func: Func) -> Result
     let second = further(alloc, tokens, room)?;
     expect_sign(tokens, b")")?;
     let levels = 1 + first.levels.max(second.levels);
-    let call = nodes::call_of_two(alloc, func, first.tree, second.tree, at)?;
+    let call = nodes::call_of_two(alloc, func, first, second, at)?;
     Ok(over(call, levels))
 }
 
@@ -536,7 +526,7 @@ fn clamp(alloc: Global, tokens: &mut Tokens<'_>, room: u32) -> Result<Part, Fail
     let value = opened(alloc, tokens, room)?;
     let (low, high) = limits(alloc, tokens, room)?;
     let levels = 1 + value.levels.max(low.levels.max(high.levels));
-    let call = nodes::call_of_three(alloc, Func::Clamp, value.tree, low.tree, high.tree, at)?;
+    let call = nodes::call_of_three(alloc, Func::Clamp, value, low, high, at)?;
     Ok(over(call, levels))
 }
 
@@ -551,7 +541,7 @@ fn rescale(alloc: Global, tokens: &mut Tokens<'_>, room: u32) -> Result<Part, Fa
     let part = opened(alloc, tokens, room)?;
     let to = target(tokens)?;
     let levels = 1 + part.levels;
-    let tree = nodes::rescaled(alloc, part.tree, to, at)?;
+    let tree = nodes::rescaled(alloc, part, to, at)?;
     Ok(over(tree, levels))
 }
 
@@ -576,5 +566,5 @@ pub fn tree(alloc: Global, tokens: &mut Tokens<'_>, room: u32) -> Result<Expr, F
     ensures { Gives tree_view result tokens.old tokens.new (tree_at room tokens.old.tokens) }
 {
     let part = expression(alloc, tokens, room)?;
-    Ok(part.tree)
+    Ok(part.into_tree())
 }

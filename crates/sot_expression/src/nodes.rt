@@ -5,16 +5,17 @@ ghost use Rattle.sot_tree.specs.TreeViews.{tree_view};
 ghost use Rattle.sot_expression.specs.Returned.{Makes};
 
 use crate::fail::Fail;
+use crate::part::Part;
 use sot_text::Span;
 use sot_tree::{Expr, Func, Lit, Op};
 use std::alloc::Global;
 
 /// A call with one part.
-pub fn call_of_one(alloc: Global, func: Func, first: Expr, at: Span) -> Result<Expr, Fail>
-    ensures { Makes tree_view result (called func (one_more (tree_view first) no_tree) at) }
+pub fn call_of_one(alloc: Global, func: Func, first: Part, at: Span) -> Result<Expr, Fail>
+    ensures { Makes tree_view result (called func (one_more (tree_view first.tree) no_tree) at) }
 {
     let mut parts = Vec::new(alloc);
-    parts.push(first)?;
+    parts.push(first.into_tree())?;
     Ok(Expr::Call { func, parts, at })
 }
 
@@ -22,15 +23,15 @@ pub fn call_of_one(alloc: Global, func: Func, first: Expr, at: Span) -> Result<E
 pub fn call_of_two(
     alloc: Global,
     func: Func,
-    first: Expr,
-    second: Expr,
+    first: Part,
+    second: Part,
     at: Span,
 ) -> Result<Expr, Fail>
-    ensures { Makes tree_view result (called func (one_more (tree_view first) (one_more (tree_view second) no_tree)) at) }
+    ensures { Makes tree_view result (called func (one_more (tree_view first.tree) (one_more (tree_view second.tree) no_tree)) at) }
 {
     let mut parts = Vec::new(alloc);
-    parts.push(first)?;
-    parts.push(second)?;
+    parts.push(first.into_tree())?;
+    parts.push(second.into_tree())?;
     Ok(Expr::Call { func, parts, at })
 }
 
@@ -38,26 +39,26 @@ pub fn call_of_two(
 pub fn call_of_three(
     alloc: Global,
     func: Func,
-    first: Expr,
-    second: Expr,
-    third: Expr,
+    first: Part,
+    second: Part,
+    third: Part,
     at: Span,
 ) -> Result<Expr, Fail>
-    ensures { Makes tree_view result (called func (one_more (tree_view first) (one_more (tree_view second) (one_more (tree_view third) no_tree))) at) }
+    ensures { Makes tree_view result (called func (one_more (tree_view first.tree) (one_more (tree_view second.tree) (one_more (tree_view third.tree) no_tree))) at) }
 {
     let mut parts = Vec::with_capacity(alloc, 3)?;
-    parts.push_reserved(first);
-    parts.push_reserved(second);
-    parts.push_reserved(third);
+    parts.push_reserved(first.into_tree());
+    parts.push_reserved(second.into_tree());
+    parts.push_reserved(third.into_tree());
     Ok(Expr::Call { func, parts, at })
 }
 
 /// An operator with two operands.
-pub fn binary(alloc: Global, op: Op, left: Expr, right: Expr, at: Span) -> Result<Expr, Fail>
-    ensures { Makes tree_view result (binary op (tree_view left) (tree_view right) at) }
+pub fn binary(alloc: Global, op: Op, left: Part, right: Part, at: Span) -> Result<Expr, Fail>
+    ensures { Makes tree_view result (binary op (tree_view left.tree) (tree_view right.tree) at) }
 {
-    let left = Box::new(alloc, left)?;
-    let right = Box::new(alloc, right)?;
+    let left = Box::new(alloc, left.into_tree())?;
+    let right = Box::new(alloc, right.into_tree())?;
     Ok(Expr::Binary {
         op,
         left,
@@ -67,40 +68,40 @@ pub fn binary(alloc: Global, op: Op, left: Expr, right: Expr, at: Span) -> Resul
 }
 
 /// The operator `%`.
-pub fn rest(alloc: Global, left: Expr, by: Lit, at: Span) -> Result<Expr, Fail>
-    ensures { Makes tree_view result (rest (tree_view left) by at) }
+pub fn rest(alloc: Global, left: Part, by: Lit, at: Span) -> Result<Expr, Fail>
+    ensures { Makes tree_view result (rest (tree_view left.tree) by at) }
 {
-    let left = Box::new(alloc, left)?;
+    let left = Box::new(alloc, left.into_tree())?;
     Ok(Expr::Rest { left, by, at })
 }
 
-pub fn negated(alloc: Global, part: Expr, at: Span) -> Result<Expr, Fail>
-    ensures { Makes tree_view result (negated (tree_view part) at) }
+pub fn negated(alloc: Global, part: Part, at: Span) -> Result<Expr, Fail>
+    ensures { Makes tree_view result (negated (tree_view part.tree) at) }
 {
-    let part = Box::new(alloc, part)?;
+    let part = Box::new(alloc, part.into_tree())?;
     Ok(Expr::Neg { part, at })
 }
 
-pub fn denied(alloc: Global, part: Expr, at: Span) -> Result<Expr, Fail>
-    ensures { Makes tree_view result (denied (tree_view part) at) }
+pub fn denied(alloc: Global, part: Part, at: Span) -> Result<Expr, Fail>
+    ensures { Makes tree_view result (denied (tree_view part.tree) at) }
 {
-    let part = Box::new(alloc, part)?;
+    let part = Box::new(alloc, part.into_tree())?;
     Ok(Expr::Not { part, at })
 }
 
-pub fn rescaled(alloc: Global, part: Expr, to: Lit, at: Span) -> Result<Expr, Fail>
-    ensures { Makes tree_view result (rescaled (tree_view part) to at) }
+pub fn rescaled(alloc: Global, part: Part, to: Lit, at: Span) -> Result<Expr, Fail>
+    ensures { Makes tree_view result (rescaled (tree_view part.tree) to at) }
 {
-    let part = Box::new(alloc, part)?;
+    let part = Box::new(alloc, part.into_tree())?;
     Ok(Expr::Rescale { part, to, at })
 }
 
 /// An `if` expression.
-pub fn chosen(alloc: Global, cond: Expr, yes: Expr, no: Expr, at: Span) -> Result<Expr, Fail>
-    ensures { Makes tree_view result (chosen (tree_view cond) (tree_view yes) (tree_view no) at) }
+pub fn chosen(alloc: Global, cond: Part, yes: Part, no: Part, at: Span) -> Result<Expr, Fail>
+    ensures { Makes tree_view result (chosen (tree_view cond.tree) (tree_view yes.tree) (tree_view no.tree) at) }
 {
-    let cond = Box::new(alloc, cond)?;
-    let yes = Box::new(alloc, yes)?;
-    let no = Box::new(alloc, no)?;
+    let cond = Box::new(alloc, cond.into_tree())?;
+    let yes = Box::new(alloc, yes.into_tree())?;
+    let no = Box::new(alloc, no.into_tree())?;
     Ok(Expr::If { cond, yes, no, at })
 }

@@ -8,10 +8,9 @@ use Rattle.sot_expression.specs.Operators.{tier_of_infix}
 use Rattle.sot_expression.specs.Readers.{Read}
 use Rattle.sot_expression.specs.Returned.{Fails, Tells}
 use Rattle.sot_expression.specs.Parts.{below, part_view, turned}
-use Rattle.sot_expression.specs.ExpressionReaders.{Part, clamp_at, chosen_at, part_at}
+use Rattle.sot_expression.specs.ExpressionReaders.{Part, clamp_at, part_at}
 use Rattle.sot_expression.proofs.ReadSteps.{ok}
 use Rattle.sot_expression.proofs.ChainEnds.{fails_on, clamp_stops, clamp_made, same_part}
-use Rattle.sot_expression.proofs.ChoiceSteps.{choice_stops_first, choice_stops_second, choice_made}
 use Rattle.sot_expression.proofs.Climbs.{no_operator, other_operator, turns_on, turns_too_deep, reads_plain, reads_not, reads_if}
 use Rattle.sot_expression.proofs.expression.+expression.Goals as goal
 use Rattle.sot_expression.proofs.expression.+expression.Goals.{climb-then-tier-from-via-then-tier-from, climb-then-tier-from-via-else-tier-from+then-tier-to, read-else-tier-eq7-via-then-tier-eq7+else-is_keyword, read-else-tier-eq7-via-else-tier-eq7, read-else-tier-ge4-via-then-tier-ge4+else-is_keyword-2, read-else-tier-ge4-via-else-tier-ge4}
@@ -99,44 +98,3 @@ clamp-returns-clause-read n c =
     let value = c.in_ok-value.ensures.read in
     let same = same_part (tree_view c.over.result.tree) _ c.over.result.levels (1 + max c.in_ok-value.value.levels (max c.in_ok-low.low.levels c.in_ok-low.high.levels)) c.over.result.bare _ (ap tree_view c.over.ensures.tree ∙ c.in_ok-call.ensures) (omega (arith, clamps)) c.over.ensures.bare in
     (clamp_made part ts _ _ _ word.0 value.0 more.0 ∙ ap (λ (p : Part). ok (p, after)) (sym same), more.1 ∙ value.1 ∙ word.1)
-
-pub chosen-returns-in_err-yes-clause-read : goal.chosen-returns-in_err-yes-clause-read
-chosen-returns-in_err-yes-clause-read n c =
-    let q = err_from_is_err_and c.from_residual-in_err-yes.result c.from_residual-in_err-yes.ensures.1 in
-    let part = below c.args.room 7 in
-    let ts = c.args.tokens.now.tokens in
-    let after = c.behind_word.new.tokens.tokens in
-    let stopped = c.in_err-yes.ensures.read in
-    let word = c.in_ok-at.ensures in
-    let cond = c.in_ok-cond.ensures.read in
-    let fails : Fails c.in_err-yes.field-0.0 after (chosen_at part ts) = fails_on c.in_err-yes.field-0.0 after _ (chosen_at part ts) (choice_stops_first part ts _ _ word.0 cond.0) stopped.0 in (
-      subst (λ r. Tells part_view r after (chosen_at part ts)) (sym q.1) (subst (λ (e : Fail). Fails e after (chosen_at part ts)) (sym q.2) fails),
-      stopped.1 ∙ cond.1 ∙ word.1,
-    )
-
-pub chosen-returns-in_err-no-clause-read : goal.chosen-returns-in_err-no-clause-read
-chosen-returns-in_err-no-clause-read n c =
-    let q = err_from_is_err_and c.from_residual-in_err-no.result c.from_residual-in_err-no.ensures.1 in
-    let part = below c.args.room 7 in
-    let ts = c.args.tokens.now.tokens in
-    let after = c.behind_word-2.new.tokens.tokens in
-    let stopped = c.in_err-no.ensures.read in
-    let word = c.in_ok-at.ensures in
-    let cond = c.in_ok-cond.ensures.read in
-    let first = c.in_ok-yes.ensures.read in
-    let fails : Fails c.in_err-no.field-0.0 after (chosen_at part ts) = fails_on c.in_err-no.field-0.0 after _ (chosen_at part ts) (choice_stops_second part ts _ _ _ word.0 cond.0 first.0) stopped.0 in (
-      subst (λ r. Tells part_view r after (chosen_at part ts)) (sym q.1) (subst (λ (e : Fail). Fails e after (chosen_at part ts)) (sym q.2) fails),
-      stopped.1 ∙ first.1 ∙ cond.1 ∙ word.1,
-    )
-
-pub chosen-returns-clause-read : goal.chosen-returns-clause-read
-chosen-returns-clause-read n c =
-    let part = below c.args.room 7 in
-    let ts = c.args.tokens.now.tokens in
-    let after = c.behind_word-2.new.tokens.tokens in
-    let word = c.in_ok-at.ensures in
-    let cond = c.in_ok-cond.ensures.read in
-    let first = c.in_ok-yes.ensures.read in
-    let second = c.in_ok-no.ensures.read in
-    let same = same_part (tree_view c.over.result.tree) _ c.over.result.levels (1 + max c.in_ok-cond.cond.levels (max c.in_ok-yes.yes.levels c.in_ok-no.no.levels)) c.over.result.bare _ (ap tree_view c.over.ensures.tree ∙ c.in_ok-tree.ensures) (omega (arith, clamps)) c.over.ensures.bare in
-    (choice_made part ts _ _ _ _ word.0 cond.0 first.0 second.0 ∙ ap (λ (p : Part). ok (p, after)) (sym same), second.1 ∙ first.1 ∙ cond.1 ∙ word.1)

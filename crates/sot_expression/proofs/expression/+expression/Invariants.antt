@@ -22,9 +22,6 @@ decreases-group l = 512 * l.room + 150
 abbrev pub decreases-chosen : goal.decreases-chosen
 decreases-chosen l = 256 * (2 * l.room + cond l.held 0 1) + 1
 
-abbrev pub decreases-behind_word : goal.decreases-behind_word
-decreases-behind_word l = 512 * l.room
-
 abbrev pub decreases-denied : goal.decreases-denied
 decreases-denied l = 256 * (2 * l.room + cond l.held 0 1) + 1
 

@@ -6,5 +6,5 @@ use Rattle.sot_expression.proofs.nodes.call_of_one.Goals as goal
 
 pub returns : goal.returns
 returns c =
-    let items : c.push.new.self.items ≡ c.args.first ∷ [] = search rules in
+    let items : c.push.new.self.items ≡ c.args.first.tree ∷ [] = search rules in
     call_view c.args.func c.push.new.self c.args.at ∙ ap (λ es. called c.args.func (parts_view es) c.args.at) items

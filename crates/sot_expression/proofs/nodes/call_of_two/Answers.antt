@@ -6,5 +6,5 @@ use Rattle.sot_expression.proofs.nodes.call_of_two.Goals as goal
 
 pub returns : goal.returns
 returns c =
-    let items : c.push-2.new.self.items ≡ c.args.first ∷ c.args.second ∷ [] = search rules in
+    let items : c.push-2.new.self.items ≡ c.args.first.tree ∷ c.args.second.tree ∷ [] = search rules in
     call_view c.args.func c.push-2.new.self c.args.at ∙ ap (λ es. called c.args.func (parts_view es) c.args.at) items
