@@ -6,6 +6,7 @@ ghost use Rattle.sot_parser.specs.ListReaders.{all_at};
 ghost use Rattle.sot_parser.specs.DeclarationReaders.{local_at, head_at, code_at, coded_at, external_at};
 ghost use Rattle.sot_expression.specs.Returned.{Gives};
 
+use crate::held::Held;
 use crate::items::optional;
 use crate::pieces::{constant, scalar, timing};
 use crate::statement::block;
@@ -18,13 +19,17 @@ fn local(alloc: Global, tokens: &mut Tokens<'_>) -> Result<LocalDecl, Fail>
     ensures { Gives local_view result tokens.old tokens.new (local_at tokens.old.tokens) }
 {
     expect_keyword(tokens, b"local")?;
-    let name = name(alloc, tokens)?;
+    let name = Held(name(alloc, tokens)?);
     expect_sign(tokens, b":")?;
     let scalar = scalar(tokens)?;
     expect_sign(tokens, b"=")?;
     let init = constant(tokens)?;
     expect_sign(tokens, b";")?;
-    Ok(LocalDecl { name, scalar, init })
+    Ok(LocalDecl {
+        name: name.take(),
+        scalar,
+        init,
+    })
 }
 
 fn locals(alloc: Global, tokens: &mut Tokens<'_>) -> Result<Vec<LocalDecl>, Fail>
@@ -43,13 +48,13 @@ fn locals(alloc: Global, tokens: &mut Tokens<'_>) -> Result<Vec<LocalDecl>, Fail
 fn head(alloc: Global, tokens: &mut Tokens<'_>) -> Result<NodeDecl, Fail>
     ensures { Gives node_view result tokens.old tokens.new (head_at tokens.old.tokens) }
 {
-    let name = name(alloc, tokens)?;
+    let name = Held(name(alloc, tokens)?);
     let (period, offset) = timing(tokens)?;
     expect_sign(tokens, b"{")?;
     let reads = optional(alloc, tokens, b"reads")?;
     let writes = optional(alloc, tokens, b"writes")?;
     Ok(NodeDecl {
-        name,
+        name: name.take(),
         period,
         offset,
         reads,
@@ -82,9 +87,10 @@ pub fn coded(alloc: Global, tokens: &mut Tokens<'_>, room: u32) -> Result<NodeDe
     ensures { Gives node_view result tokens.old tokens.new (coded_at room tokens.old.tokens) }
 {
     expect_keyword(tokens, b"node")?;
-    let head = head(alloc, tokens)?;
+    let head = Held(head(alloc, tokens)?);
     let (locals, body) = code(alloc, tokens, room)?;
     expect_sign(tokens, b"}")?;
+    let head = head.take();
     Ok(NodeDecl {
         name: head.name,
         period: head.period,
@@ -102,7 +108,7 @@ pub fn external(alloc: Global, tokens: &mut Tokens<'_>) -> Result<NodeDecl, Fail
     ensures { Gives node_view result tokens.old tokens.new (external_at tokens.old.tokens) }
 {
     expect_keyword(tokens, b"external")?;
-    let node = head(alloc, tokens)?;
+    let node = Held(head(alloc, tokens)?);
     expect_sign(tokens, b"}")?;
-    Ok(node)
+    Ok(node.take())
 }

@@ -5,6 +5,7 @@ ghost use Rattle.sot_expression.specs.Readers.{literal_at};
 ghost use Rattle.sot_parser.specs.DeclarationReaders.{side_at, range_at, fix_at, int_scalar_at, fix_scalar_at, bool_scalar_at, scalar_at, named_scalar_at, truth_at, number_const_at, const_at, whole_at, scaled_at, scale_at, state_at, timing_at, role_at};
 ghost use Rattle.sot_expression.specs.Returned.{Gives};
 
+use crate::held::Held;
 use crate::items::Item;
 use sot_expression::{
     Fail, Tokens, expect_keyword, expect_sign, is_keyword, literal, name, number,
@@ -96,10 +97,13 @@ pub fn scalar(tokens: &mut Tokens<'_>) -> Result<Scalar, Fail>
 fn named_scalar(alloc: Global, tokens: &mut Tokens<'_>) -> Result<Field, Fail>
     ensures { Gives (λ field. field) result tokens.old tokens.new (named_scalar_at tokens.old.tokens) }
 {
-    let name = name(alloc, tokens)?;
+    let name = Held(name(alloc, tokens)?);
     expect_sign(tokens, b":")?;
     let scalar = scalar(tokens)?;
-    Ok(Field { name, scalar })
+    Ok(Field {
+        name: name.take(),
+        scalar,
+    })
 }
 
 impl Item for Field {
@@ -181,10 +185,13 @@ fn scale(tokens: &mut Tokens<'_>) -> Result<Option<Lit>, Fail>
 fn state(alloc: Global, tokens: &mut Tokens<'_>) -> Result<StateDecl, Fail>
     ensures { Gives (λ state. state) result tokens.old tokens.new (state_at tokens.old.tokens) }
 {
-    let name = name(alloc, tokens)?;
+    let name = Held(name(alloc, tokens)?);
     expect_sign(tokens, b":")?;
     let scale = scale(tokens)?;
-    Ok(StateDecl { name, scale })
+    Ok(StateDecl {
+        name: name.take(),
+        scale,
+    })
 }
 
 impl Item for StateDecl {
@@ -214,7 +221,7 @@ pub fn role(alloc: Global, tokens: &mut Tokens<'_>, word: &[u8]) -> Result<Ident
     ensures { Gives (λ name. name) result tokens.old tokens.new (role_at word.now tokens.old.tokens) }
 {
     expect_keyword(tokens, word)?;
-    let name = name(alloc, tokens)?;
+    let name = Held(name(alloc, tokens)?);
     expect_sign(tokens, b";")?;
-    Ok(name)
+    Ok(name.take())
 }

@@ -6,6 +6,7 @@ ghost use Rattle.sot_expression.specs.ExpressionReaders.{tree_at};
 ghost use Rattle.sot_parser.specs.StatementReaders.{assign_at, field_at, dot_at, publish_at, plain_at};
 ghost use Rattle.sot_expression.specs.Returned.{Gives};
 
+use crate::held::Held;
 use sot_expression::{Fail, Tokens, expect_keyword, expect_sign, is_keyword, is_sign, name, tree};
 use sot_tree::{Ident, Stmt};
 use std::alloc::Global;
@@ -15,11 +16,14 @@ fn assign(alloc: Global, tokens: &mut Tokens<'_>, room: u32) -> Result<Stmt, Fai
     requires room { (1 ≤ room) × (room ≤ 64) }
     ensures { Gives statement_view result tokens.old tokens.new (assign_at (tree_at room) tokens.old.tokens) }
 {
-    let target = name(alloc, tokens)?;
+    let target = Held(name(alloc, tokens)?);
     expect_sign(tokens, b":=")?;
-    let value = tree(alloc, tokens, room)?;
+    let value = Held(tree(alloc, tokens, room)?);
     expect_sign(tokens, b";")?;
-    Ok(Stmt::Assign { target, value })
+    Ok(Stmt::Assign {
+        target: target.take(),
+        value: value.take(),
+    })
 }
 
 #[tactic(auto, unfolding(crate::specs::StatementReaders::field_at))]
@@ -48,15 +52,15 @@ fn publish(alloc: Global, tokens: &mut Tokens<'_>, room: u32) -> Result<Stmt, Fa
     ensures { Gives statement_view result tokens.old tokens.new (publish_at (tree_at room) tokens.old.tokens) }
 {
     expect_keyword(tokens, b"publish")?;
-    let topic = name(alloc, tokens)?;
-    let field = optional_field(alloc, tokens)?;
+    let topic = Held(name(alloc, tokens)?);
+    let field = Held(optional_field(alloc, tokens)?);
     expect_sign(tokens, b"=")?;
-    let value = tree(alloc, tokens, room)?;
+    let value = Held(tree(alloc, tokens, room)?);
     expect_sign(tokens, b";")?;
     Ok(Stmt::Publish {
-        topic,
-        field,
-        value,
+        topic: topic.take(),
+        field: field.take(),
+        value: value.take(),
     })
 }
 

@@ -8,6 +8,7 @@ ghost use Rattle.sot_expression.specs.ExpressionReaders.{tree_at};
 ghost use Rattle.sot_parser.specs.DeclarationReaders.{next_at, signals_at, plant_at};
 ghost use Rattle.sot_expression.specs.Returned.{Gives};
 
+use crate::held::Held;
 use crate::items::{clause, optional};
 use sot_expression::{Fail, Tokens, expect_keyword, expect_sign, is_keyword, name, tree};
 use sot_tree::{Field, Ident, NextDecl, PlantDecl, StateDecl};
@@ -19,11 +20,14 @@ fn next(alloc: Global, tokens: &mut Tokens<'_>, room: u32) -> Result<NextDecl, F
     ensures { Gives next_view result tokens.old tokens.new (next_at room tokens.old.tokens) }
 {
     expect_keyword(tokens, b"next")?;
-    let name = name(alloc, tokens)?;
+    let name = Held(name(alloc, tokens)?);
     expect_sign(tokens, b"=")?;
-    let value = tree(alloc, tokens, room)?;
+    let value = Held(tree(alloc, tokens, room)?);
     expect_sign(tokens, b";")?;
-    Ok(NextDecl { name, value })
+    Ok(NextDecl {
+        name: name.take(),
+        value: value.take(),
+    })
 }
 
 fn nexts(alloc: Global, tokens: &mut Tokens<'_>, room: u32) -> Result<Vec<NextDecl>, Fail>
@@ -59,13 +63,13 @@ pub fn plant(alloc: Global, tokens: &mut Tokens<'_>, room: u32) -> Result<PlantD
     ensures { Gives plant_view result tokens.old tokens.new (plant_at room tokens.old.tokens) }
 {
     expect_keyword(tokens, b"plant")?;
-    let name = name(alloc, tokens)?;
+    let name = Held(name(alloc, tokens)?);
     expect_sign(tokens, b"{")?;
     let (states, inputs, sees, noise) = signals(alloc, tokens)?;
     let next = nexts(alloc, tokens, room)?;
     let end = expect_sign(tokens, b"}")?;
     Ok(PlantDecl {
-        name,
+        name: name.take(),
         states,
         inputs,
         sees,

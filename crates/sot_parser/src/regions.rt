@@ -6,6 +6,7 @@ ghost use Rattle.sot_parser.specs.ListReaders.{further_at, separated_at};
 ghost use Rattle.sot_parser.specs.DeclarationReaders.{box_at, no_box_at, region_at, bound_at, pairing_at, bounds_at, module_at};
 ghost use Rattle.sot_expression.specs.Returned.{Gives};
 
+use crate::held::Held;
 use crate::items::separated;
 use crate::pieces::{role, timing};
 use sot_expression::{Fail, Tokens, expect_keyword, expect_sign, is_keyword, is_sign, name};
@@ -77,12 +78,12 @@ fn bound(alloc: Global, tokens: &mut Tokens<'_>, word: &[u8]) -> Result<Vec<BoxD
 fn pairing(alloc: Global, tokens: &mut Tokens<'_>) -> Result<(Ident, Ident, Lit, Lit, Ident), Fail>
     ensures { Gives (λ pairing. pairing) result tokens.old tokens.new (pairing_at tokens.old.tokens) }
 {
-    let ac = role(alloc, tokens, b"ac")?;
-    let sc = role(alloc, tokens, b"sc")?;
+    let ac = Held(role(alloc, tokens, b"ac")?);
+    let sc = Held(role(alloc, tokens, b"sc")?);
     let (period, offset) = timing(tokens)?;
     expect_sign(tokens, b";")?;
     let plant = role(alloc, tokens, b"plant")?;
-    Ok((ac, sc, period, offset, plant))
+    Ok((ac.take(), sc.take(), period, offset, plant))
 }
 
 // The safe and the safer region.
@@ -101,13 +102,14 @@ pub fn mission_module(alloc: Global, tokens: &mut Tokens<'_>) -> Result<ModuleDe
     ensures { Gives module_view result tokens.old tokens.new (module_at tokens.old.tokens) }
 {
     expect_keyword(tokens, b"module")?;
-    let name = name(alloc, tokens)?;
+    let name = Held(name(alloc, tokens)?);
     expect_sign(tokens, b"{")?;
-    let (ac, sc, period, offset, plant) = pairing(alloc, tokens)?;
+    let pairing = Held(pairing(alloc, tokens)?);
     let (safe, safer) = bounds(alloc, tokens)?;
     expect_sign(tokens, b"}")?;
+    let (ac, sc, period, offset, plant) = pairing.take();
     Ok(ModuleDecl {
-        name,
+        name: name.take(),
         ac,
         sc,
         period,

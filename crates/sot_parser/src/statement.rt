@@ -7,6 +7,7 @@ ghost use Rattle.sot_expression.specs.ExpressionReaders.{tree_at};
 ghost use Rattle.sot_parser.specs.StatementReaders.{otherwise_at, else_at, branch_at, loop_at, choice_at, nested_at, begins_nested, begins_statement, goes_on, block_at, statement_at};
 ghost use Rattle.sot_expression.specs.Returned.{Gives};
 
+use crate::held::Held;
 use crate::plain::plain;
 use sot_expression::{
     Fail, Tokens, expect_keyword, expect_sign, is_keyword, is_name, is_sign, number, tree,
@@ -84,9 +85,10 @@ fn branch(alloc: Global, tokens: &mut Tokens<'_>, room: u32) -> Result<Stmt, Fai
     ensures { Gives statement_view result tokens.old tokens.new (branch_at (tree_at room) (block_at (statement_at room)) tokens.old.tokens) }
 {
     let at = expect_keyword(tokens, b"if")?;
-    let cond = tree(alloc, tokens, room)?;
+    let cond = Held(tree(alloc, tokens, room)?);
     let yes = block(alloc, tokens, room)?;
     let no = optional_else(alloc, tokens, room)?;
+    let cond = cond.take();
     Ok(Stmt::If { cond, yes, no, at })
 }
 

@@ -5,6 +5,7 @@ ghost use Rattle.sot_expression.specs.Lexemes.{begins, is_sign, is_keyword};
 ghost use Rattle.sot_parser.specs.DeclarationReaders.{fields_at, one_scalar_at, shape_at, consts_at, one_const_at, init_at, environment_at, outside_at, topic_at};
 ghost use Rattle.sot_expression.specs.Returned.{Gives};
 
+use crate::held::Held;
 use crate::items::separated;
 use crate::pieces::{constant, scalar};
 use sot_expression::{Fail, Tokens, expect_keyword, expect_sign, is_keyword, is_sign, name};
@@ -95,16 +96,16 @@ pub fn topic(alloc: Global, tokens: &mut Tokens<'_>) -> Result<TopicDecl, Fail>
 {
     let outside = outside(tokens)?;
     expect_keyword(tokens, b"topic")?;
-    let name = name(alloc, tokens)?;
+    let name = Held(name(alloc, tokens)?);
     expect_sign(tokens, b":")?;
-    let shape = shape(alloc, tokens)?;
+    let shape = Held(shape(alloc, tokens)?);
     expect_sign(tokens, b"=")?;
-    let init = init(alloc, tokens)?;
+    let init = Held(init(alloc, tokens)?);
     expect_sign(tokens, b";")?;
     Ok(TopicDecl {
         outside,
-        name,
-        shape,
-        init,
+        name: name.take(),
+        shape: shape.take(),
+        init: init.take(),
     })
 }
