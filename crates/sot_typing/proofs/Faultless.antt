@@ -5,11 +5,11 @@ use Rattle.sot_text.specs.declared.token.Span.{Span}
 use Rattle.sot_tree.specs.declared.operator.Op.{Op}
 use Rattle.sot_tree.specs.declared.operator.Func.{Func}
 use Rattle.sot_tree.specs.declared.tree.Lit.{Lit}
-use Rattle.sot_tree.specs.Trees.{Tree, Trees, binary, called, rescaled, chosen}
+use Rattle.sot_tree.specs.Trees.{Tree, Trees, binary, rest, negated, denied, called, rescaled, chosen}
 use Rattle.sot_rules.specs.declared.fault.TypeKind.{TypeKind}
 use Rattle.sot_rules.specs.declared.expressions.sort.Sort.{Sort}
 use Rattle.sot_rules.specs.declared.expressions.sort.Sort.TheVariants.{Scaled}
-use Rattle.sot_rules.specs.Sorts.{is_truthful, differ, kinds_misfit, scales_misfit, operator_sort, unless, given, some_differ, call_sort, branches_misfit}
+use Rattle.sot_rules.specs.Sorts.{is_truthful, is_scaled, differ, kinds_misfit, scales_misfit, operator_sort, unless, given, some_differ, call_sort, branches_misfit}
 use Rattle.sot_rules.specs.Names.{Thing}
 use Rattle.sot_rules.specs.TreeSorts.{is_no_scale, sort, sorts}
 use Rattle.sot_rules.specs.Faults.{when, misfits, tree_faults, parts_faults}
@@ -68,6 +68,44 @@ module _ (names : List Thing) (op : Op) (l r : Tree) (at : Span) (e : Tree) (is 
       sort = d.sort ∙ ap₂ (λ x y. given x (given y (operator_sort op x y))) p.sort q.sort ∙ sym (neither _ _ _ binary_fits.0 binary_fits.1) ∙ sym (ap (sort names) is);
       decimals = d.decimals;
     }
+
+holds : (b : Bool) (s : Sort) → b ≡ false → unless b s ≡ s
+holds b s p = ap (λ x. unless x s) p
+
+module _ (names : List Thing) (part : Tree) (d : Lit) (at : Span) (e : Tree) (is : e ≡ rest part d at) (h : tree_faults names e ≡ []) where
+  rest_faults : tree_faults names (rest part d at) ≡ []
+  rest_faults = sym (ap (tree_faults names) is) ∙ h
+
+  pub rest_part : tree_faults names part ≡ []
+  rest_part = nil_left _ _ rest_faults
+
+module _ (names : List Thing) (part : Tree) (at : Span) (e : Tree) (is : e ≡ negated part at) (h : tree_faults names e ≡ []) where
+  negated_faults : tree_faults names (negated part at) ≡ []
+  negated_faults = sym (ap (tree_faults names) is) ∙ h
+
+  pub negated_part : tree_faults names part ≡ []
+  negated_part = nil_left _ _ negated_faults
+
+  pub negated_is : (a : Sorted) → IsSorted (formula_of names part) (sort names part) a → (m : Sorted) → IsSorted (to.negated (formula_view a.term) at) a.sort m → IsSorted (formula_of names e) (sort names e) m
+  negated_is a p m q = record {
+    form = q.form ∙ ap (λ x. to.negated x at) p.form ∙ sym (ap (formula_of names) is);
+    sort = q.sort ∙ p.sort ∙ sym (holds _ _ (when_not (is_truthful (sort names part)) at _ (nil_right (tree_faults names part) _ negated_faults))) ∙ sym (ap (sort names) is);
+    decimals = q.decimals;
+  }
+
+module _ (names : List Thing) (part : Tree) (at : Span) (e : Tree) (is : e ≡ denied part at) (h : tree_faults names e ≡ []) where
+  denied_faults : tree_faults names (denied part at) ≡ []
+  denied_faults = sym (ap (tree_faults names) is) ∙ h
+
+  pub denied_part : tree_faults names part ≡ []
+  denied_part = nil_left _ _ denied_faults
+
+  pub denied_is : (a : Sorted) → IsSorted (formula_of names part) (sort names part) a → (m : Sorted) → IsSorted (to.denied (formula_view a.term) at) a.sort m → IsSorted (formula_of names e) (sort names e) m
+  denied_is a p m q = record {
+    form = q.form ∙ ap (λ x. to.denied x at) p.form ∙ sym (ap (formula_of names) is);
+    sort = q.sort ∙ p.sort ∙ sym (holds _ _ (when_not (is_scaled (sort names part)) at _ (nil_right (tree_faults names part) _ denied_faults))) ∙ sym (ap (sort names) is);
+    decimals = q.decimals;
+  }
 
 module _ (names : List Thing) (part : Tree) (d : Lit) (at : Span) (e : Tree) (is : e ≡ rescaled part d at) (h : tree_faults names e ≡ []) where
   rescaled_faults : tree_faults names (rescaled part d at) ≡ []

@@ -31,6 +31,7 @@ pub mod Counting
 pub mod Counted
 pub mod Found
 pub mod Gathered
+mod Filled
 pub mod Fitting
 -- expressions and bodies with places for names
 mod Rows

@@ -12,3 +12,4 @@ pub mod Parts
 pub mod Numbers
 pub mod Meant
 pub mod Fits
+pub mod TableLists

@@ -1,5 +1,5 @@
 //! A program's tables, or the first rule of typing that it breaks.
-ghost use Rattle.std.specs.Prelude.{◌≡◌, None, IfOk, IfErr};
+ghost use Rattle.std.specs.Prelude.{◌≡◌, IfOk, IfErr};
 ghost use Rattle.sot_tree.specs.TreeViews.{program_view};
 ghost use Rattle.sot_rules.specs.First.{IsFirstFault, IsFaultless};
 ghost use Rattle.sot_tree.specs.Formed.{IsFormed};

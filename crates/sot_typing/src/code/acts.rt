@@ -7,7 +7,6 @@ ghost use Rattle.sot_rules.specs.Tests.{is_off};
 ghost use Rattle.sot_rules.specs.Faults.{reading_faults, tree_faults, statement_faults, block_faults};
 ghost use Rattle.sot_typing.specs.Formulas.{assigned, published, deed_view, deeds_view};
 ghost use Rattle.sot_typing.specs.Terms.{place_of, formula_of, deed_of, deeds_of};
-ghost use Rattle.sot_typing.specs.Things.{things_in};
 ghost use Rattle.sot_typing.specs.Bodies.{scope_in, IsSmall};
 
 use crate::code::terms::term;

@@ -1,7 +1,7 @@
 //! The bodies of nodes and the `next` clauses of plants, with places for names.
-ghost use Rattle.std.specs.Prelude.{◌≡◌, [], IfOk, All, map, option_map};
+ghost use Rattle.std.specs.Prelude.{◌≡◌, ◌++◌, [], IfOk, OnOk, All, map, option_map};
 ghost use Rattle.sot_tree.specs.TreeViews.{tree_view, block_view, plant_view, node_view};
-ghost use Rattle.sot_rules.specs.Names.{local_thing, node_scope, plant_scope};
+ghost use Rattle.sot_rules.specs.Names.{node_scope, plant_scope};
 ghost use Rattle.sot_rules.specs.Faults.{together, node_lists, plant_lists, tree_faults, block_faults};
 ghost use Rattle.sot_rules.specs.Indexes.{program_in, IsIndex};
 ghost use Rattle.sot_typing.specs.Formulas.{formula_view, deeds_view};
@@ -18,67 +18,56 @@ use sot_rules::{Index, NameList};
 use sot_tree::{NextDecl, NodeDecl, PlantDecl, Stmt};
 use std::alloc::{AllocError, Global};
 
-// What the expressions of a node name: what it reads, and its locals.
-fn read_things<'p>(
-    alloc: Global,
+// Puts what a node's expressions, its assignments and its publications name into empty lists.
+fn add_body_names<'p>(
+    read: &mut Vec<Thing<'p>>,
+    local: &mut Vec<Thing<'p>>,
+    written: &mut Vec<Thing<'p>>,
     index: &Index<'p>,
     n: &'p NodeDecl,
-) -> Result<Vec<Thing<'p>>, AllocError>
-    requires { IsIndex index.now }
-    ensures { IfOk result (λ v. things_in v.items
+) -> Result<(), AllocError>
+    requires indexed { IsIndex index.now }
+    requires none_read { read.old.items ≡ [] }
+    requires none_local { local.old.items ≡ [] }
+    requires none_written { written.old.items ≡ [] }
+    ensures read { OnOk result (things_in read.new.items
         ≡ (node_scope (program_in index.now) (node_view n.now)).read) }
-{
-    let mut things = Vec::new(alloc);
-    add_named(&mut things, index, NameList::Both, &n.reads)?;
-    add_locals(&mut things, &n.locals)?;
-    Ok(things)
-}
-
-fn local_things<'p>(alloc: Global, n: &'p NodeDecl) -> Result<Vec<Thing<'p>>, AllocError>
-    ensures { IfOk result (λ v. things_in v.items ≡ map local_thing (node_view n.now).locals) }
-{
-    let mut things = Vec::new(alloc);
-    add_locals(&mut things, &n.locals)?;
-    Ok(things)
-}
-
-fn written_things<'p>(
-    alloc: Global,
-    index: &Index<'p>,
-    n: &NodeDecl,
-) -> Result<Vec<Thing<'p>>, AllocError>
-    requires { IsIndex index.now }
-    ensures { IfOk result (λ v. things_in v.items
+    ensures local { OnOk result (things_in local.new.items
+        ≡ (node_scope (program_in index.now) (node_view n.now)).local) }
+    ensures written { OnOk result (things_in written.new.items
         ≡ (node_scope (program_in index.now) (node_view n.now)).written) }
 {
-    let mut things = Vec::new(alloc);
-    add_named(&mut things, index, NameList::Topics, &n.writes)?;
-    Ok(things)
+    add_named(read, index, NameList::Both, &n.reads)?;
+    add_locals(read, &n.locals)?;
+    add_locals(local, &n.locals)?;
+    add_named(written, index, NameList::Topics, &n.writes)?;
+    Ok(())
 }
 
-// What the expressions of a plant name: its state variables, its inputs, the plants that it sees, and its disturbances.
-fn plant_things<'p>(
-    alloc: Global,
+// Puts what the expressions of a plant name into an empty list: its state variables, its inputs, the plants that it sees,
+// and its disturbances.
+fn add_plant_names<'p>(
+    things: &mut Vec<Thing<'p>>,
     index: &Index<'p>,
     q: &'p PlantDecl,
-) -> Result<Vec<Thing<'p>>, AllocError>
-    requires { IsIndex index.now }
-    ensures { IfOk result (λ v. things_in v.items
+) -> Result<(), AllocError>
+    requires indexed { IsIndex index.now }
+    requires none { things.old.items ≡ [] }
+    ensures { OnOk result (things_in things.new.items
         ≡ plant_scope (program_in index.now) (plant_view q.now)) }
 {
-    let mut things = Vec::new(alloc);
-    add_states(&mut things, &q.states)?;
-    add_named(&mut things, index, NameList::Topics, &q.inputs)?;
-    add_named(&mut things, index, NameList::Plants, &q.sees)?;
-    add_noise(&mut things, &q.noise)?;
-    Ok(things)
+    add_states(things, &q.states)?;
+    add_named(things, index, NameList::Topics, &q.inputs)?;
+    add_named(things, index, NameList::Plants, &q.sees)?;
+    add_noise(things, &q.noise)?;
+    Ok(())
 }
 
 // The statements of a node.
-fn coded_body(
+fn coded_body<'p>(
     alloc: Global,
-    index: &Index,
-    n: &NodeDecl,
+    index: &Index<'p>,
+    n: &'p NodeDecl,
     stmts: &[Stmt],
 ) -> Result<Vec<Act>, AllocError>
     requires index { IsIndex index.now }
@@ -88,9 +77,10 @@ fn coded_body(
     ensures { IfOk result (λ v. deeds_view v.items
         ≡ deeds_of (node_scope (program_in index.now) (node_view n.now)) (block_view stmts.now)) }
 {
-    let read = read_things(alloc, index, n)?;
-    let local = local_things(alloc, n)?;
-    let written = written_things(alloc, index, n)?;
+    let mut read = Vec::new(alloc);
+    let mut local = Vec::new(alloc);
+    let mut written = Vec::new(alloc);
+    add_body_names(&mut read, &mut local, &mut written, index, n)?;
     let names = BodyNames {
         read: &read,
         local: &local,
@@ -117,34 +107,43 @@ pub fn node_body(alloc: Global, index: &Index, n: &NodeDecl) -> Result<Option<Ve
     }
 }
 
-fn next_terms(
+// Puts the values of clauses behind the others.
+fn put_terms(
     alloc: Global,
     things: &[Thing],
     clauses: &[NextDecl],
-) -> Result<Vec<Term>, AllocError>
+    made: &mut Vec<Term>,
+) -> Result<(), AllocError>
     requires few { AreFew (things_in things.now) }
     requires faultless { All (λ n. tree_faults (things_in things.now) (tree_view n.value)
         ≡ []) clauses.now }
-    ensures { IfOk result (λ v. map formula_view v.items
-        ≡ map (λ n. formula_of (things_in things.now) (tree_view n.value)) clauses.now) }
+    ensures { OnOk result (map formula_view made.new.items
+        ≡ map formula_view made.old.items
+        ++ map (λ n. formula_of (things_in things.now) (tree_view n.value)) clauses.now) }
 {
-    let mut made = Vec::new(alloc);
     for clause in clauses {
         let a = term(alloc, things, &clause.value)?;
         made.push(a.term)?;
     }
-    Ok(made)
+    Ok(())
 }
 
-/// The values that a plant without faults gives its state variables, in the order of its clauses.
-pub fn plant_next(alloc: Global, index: &Index, q: &PlantDecl) -> Result<Vec<Term>, AllocError>
+/// Puts the values that a plant without faults gives its state variables behind the others, in the order of its clauses.
+pub fn put_next<'p>(
+    alloc: Global,
+    index: &Index<'p>,
+    q: &'p PlantDecl,
+    next: &mut Vec<Term>,
+) -> Result<(), AllocError>
     requires index { IsIndex index.now }
     requires few { AreFew (plant_scope (program_in index.now) (plant_view q.now)) }
     requires faultless { together (plant_lists (program_in index.now) (plant_view q.now)) ≡ [] }
-    ensures { IfOk result (λ v. map formula_view v.items
-        ≡ map (λ n. formula_of (plant_scope (program_in index.now) (plant_view q.now)) n.value)
+    ensures { OnOk result (map formula_view next.new.items
+        ≡ map formula_view next.old.items
+        ++ map (λ n. formula_of (plant_scope (program_in index.now) (plant_view q.now)) n.value)
         (plant_view q.now).next) }
 {
-    let things = plant_things(alloc, index, q)?;
-    next_terms(alloc, &things, &q.next)
+    let mut things = Vec::new(alloc);
+    add_plant_names(&mut things, index, q)?;
+    put_terms(alloc, &things, &q.next, next)
 }

@@ -1,7 +1,7 @@
 //! Expressions with places for names.
 ghost use Rattle.std.specs.Prelude.{◌≡◌, ◌≤◌, [], IfOk, false, nat_abs};
 ghost use Rattle.sot_tree.specs.TreeViews.{tree_view, parts_view};
-ghost use Rattle.sot_rules.specs.Sorts.{kinds_misfit, scales_misfit, operator_sort, given, call_sort};
+ghost use Rattle.sot_rules.specs.Sorts.{scales_misfit, operator_sort, given, call_sort};
 ghost use Rattle.sot_rules.specs.Names.{reading, reading_sort};
 ghost use Rattle.sot_rules.specs.TreeSorts.{sort, sorts, is_no_scale};
 ghost use Rattle.sot_rules.specs.Faults.{reading_faults, tree_faults, parts_faults};

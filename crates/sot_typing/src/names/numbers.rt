@@ -1,5 +1,5 @@
 //! The numbers of declarations among those of their kind.
-ghost use Rattle.std.specs.Prelude.{◌≡◌, [], map, IfOk};
+ghost use Rattle.std.specs.Prelude.{◌≡◌, map, IfOk};
 ghost use Rattle.sot_tree.specs.TreeViews.{declaration_view};
 ghost use Rattle.sot_typing.specs.Numbers.{FitLimits, HasRoom, counted, nothing_counted, numbered, numbers_of};
 
@@ -8,14 +8,14 @@ use sot_tree::Decl;
 use std::alloc::{AllocError, Global};
 
 /// The number of a declaration among those of its sort, from 0 on, and of a topic the place of its first scalar.
-#[derive(Clone, Copy, Debug, PartialEq, Eq)]
+#[derive(Clone, Copy)]
 pub struct Number {
     pub place: u32,
     pub first: u32,
 }
 
 /// How many declarations of each sort were met, and how many scalars of topics.
-#[derive(Clone, Copy, Debug, PartialEq, Eq)]
+#[derive(Clone, Copy)]
 pub struct Counts {
     pub topics: u32,
     pub scalars: u32,

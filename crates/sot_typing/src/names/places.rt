@@ -1,5 +1,5 @@
 //! The scalars, state variables and declarations that names stand for, by their places in the tables.
-ghost use Rattle.std.specs.Prelude.{◌≡◌, ◌+◌, ◌≤◌, ◌++◌, map, flat_map, true, OnOk, IfOk};
+ghost use Rattle.std.specs.Prelude.{◌≡◌, ◌+◌, ◌≤◌, ◌++◌, map, flat_map, true, OnOk};
 ghost use Rattle.std.specs.List.{All};
 ghost use Rattle.sot_rules.specs.Indexes.{program_in};
 ghost use Rattle.sot_rules.specs.Names.{meaning, is_topic, is_plant, is_node};
@@ -11,7 +11,7 @@ use crate::names::numbers::Number;
 use sot_lang::Slot;
 use sot_rules::{Index, scalar_count};
 use sot_tree::{Decl, Ident};
-use std::alloc::{AllocError, Global};
+use std::alloc::AllocError;
 
 // So many scalars, from one on.
 fn put_scalars(first: u32, count: usize, scalars: &mut Vec<u32>) -> Result<(), AllocError>
@@ -88,39 +88,38 @@ fn put_slots_meant(
     }
 }
 
-/// The scalars that these names stand for, in order.
-pub fn scalars_meant(
-    alloc: Global,
+/// Puts the scalars that these names stand for behind the others, in order.
+pub fn put_all_scalars(
     index: &Index,
     numbers: &[Number],
     names: &[Ident],
-) -> Result<Vec<u32>, AllocError>
+    scalars: &mut Vec<u32>,
+) -> Result<(), AllocError>
     requires { AreNumbers index.now numbers.now }
-    ensures { IfOk result (λ v. v.items
-        ≡ flat_map (scalars_meant (program_in index.now)) names.now) }
+    ensures { OnOk result (scalars.new.items
+        ≡ scalars.old.items ++ flat_map (scalars_meant (program_in index.now)) names.now) }
 {
-    let mut scalars = Vec::new(alloc);
     for name in names {
-        put_scalars_meant(index, numbers, name, &mut scalars)?;
+        put_scalars_meant(index, numbers, name, scalars)?;
     }
-    Ok(scalars)
+    Ok(())
 }
 
-/// The scalars and state variables that these names stand for, in order.
-pub fn slots_meant(
-    alloc: Global,
+/// Puts the scalars and state variables that these names stand for behind the others, in order.
+pub fn put_all_slots(
     index: &Index,
     numbers: &[Number],
     names: &[Ident],
-) -> Result<Vec<Slot>, AllocError>
+    slots: &mut Vec<Slot>,
+) -> Result<(), AllocError>
     requires { AreNumbers index.now numbers.now }
-    ensures { IfOk result (λ v. v.items ≡ flat_map (slots_meant (program_in index.now)) names.now) }
+    ensures { OnOk result (slots.new.items
+        ≡ slots.old.items ++ flat_map (slots_meant (program_in index.now)) names.now) }
 {
-    let mut slots = Vec::new(alloc);
     for name in names {
-        put_slots_meant(index, numbers, name, &mut slots)?;
+        put_slots_meant(index, numbers, name, slots)?;
     }
-    Ok(slots)
+    Ok(())
 }
 
 /// The number of a topic among the topics, and the place of its first scalar.
@@ -161,20 +160,20 @@ pub fn node_number(index: &Index, numbers: &[Number], name: &Ident) -> u32
     }
 }
 
-/// The numbers of these plants, in order.
-pub fn plant_numbers(
-    alloc: Global,
+/// Puts the numbers of these plants behind the others, in order.
+pub fn put_plant_numbers(
     index: &Index,
     numbers: &[Number],
     names: &[Ident],
-) -> Result<Vec<u32>, AllocError>
+    plants: &mut Vec<u32>,
+) -> Result<(), AllocError>
     requires numbers { AreNumbers index.now numbers.now }
     requires plants { All (λ i. is_plant (meaning (program_in index.now) i) ≡ true) names.now }
-    ensures { IfOk result (λ v. v.items ≡ map (plant_place (program_in index.now)) names.now) }
+    ensures { OnOk result (plants.new.items
+        ≡ plants.old.items ++ map (plant_place (program_in index.now)) names.now) }
 {
-    let mut plants = Vec::new(alloc);
     for name in names {
         plants.push(plant_number(index, numbers, name))?;
     }
-    Ok(plants)
+    Ok(())
 }

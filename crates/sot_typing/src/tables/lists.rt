@@ -4,9 +4,10 @@ ghost use Rattle.sot_tree.specs.TreeViews.{declaration_view};
 ghost use Rattle.sot_tree.specs.Formed.{IsFormed};
 ghost use Rattle.sot_rules.specs.First.{IsFaultless};
 ghost use Rattle.sot_rules.specs.Indexes.{program_in};
-ghost use Rattle.sot_typing.specs.Resolved.{a_topic_of, a_plant_of, a_node_of, a_module_of, topics, plants, nodes, modules, topic_info, topic_scalars, plant_seen, plant_table, node_seen, node_table, module_info, AreTables};
+ghost use Rattle.sot_typing.specs.Resolved.{a_topic_of, a_plant_of, a_node_of, a_module_of, topic_info, topic_scalars, plant_seen, plant_table, node_seen, node_table, module_info, AreTables};
 ghost use Rattle.sot_typing.specs.Meant.{AreNumbers};
 ghost use Rattle.sot_typing.specs.Fits.{DeclarationFits, AllFit};
+ghost use Rattle.sot_typing.specs.TableLists.{AreEmpty, AreLists};
 
 use crate::names::numbers::Number;
 use crate::names::places::topic_number;
@@ -16,6 +17,16 @@ use sot_lang::{ModuleInfo, NodeInfo, PlantInfo, ScalarInfo, TopicInfo, Typed};
 use sot_rules::Index;
 use sot_tree::Decl;
 use std::alloc::{AllocError, Global};
+
+/// The five lists, while the tables of declarations are put into them.
+#[derive(Drop)]
+pub struct Lists {
+    pub topics: Vec<TopicInfo>,
+    pub scalars: Vec<ScalarInfo>,
+    pub plants: Vec<PlantInfo>,
+    pub nodes: Vec<NodeInfo>,
+    pub modules: Vec<ModuleInfo>,
+}
 
 // Each of these puts the tables of one declaration behind the others, and none where it is of another sort.
 
@@ -132,74 +143,59 @@ fn put_module(
     }
 }
 
-fn topics(alloc: Global, index: &Index, numbers: &[Number]) -> Result<Vec<TopicInfo>, AllocError>
+// Puts the tables of one declaration behind those of its sort.
+fn put_declaration(
+    alloc: Global,
+    index: &Index,
+    numbers: &[Number],
+    d: &Decl,
+    lists: &mut Lists,
+) -> Result<(), AllocError>
     requires numbers { AreNumbers index.now numbers.now }
-    requires fits { AllFit (program_in index.now) }
-    ensures { IfOk result (λ v. v.items
-        ≡ map (topic_info (program_in index.now)) (topics (program_in index.now))) }
+    requires fits { DeclarationFits (program_in index.now) (declaration_view d.now) }
+    ensures topics { OnOk result (lists.new.topics.items
+        ≡ lists.old.topics.items ++ map (topic_info (program_in index.now))
+        (filter_map a_topic_of (declaration_view d.now ∷ []))) }
+    ensures scalars { OnOk result (lists.new.scalars.items
+        ≡ lists.old.scalars.items ++ flat_map (topic_scalars (program_in index.now))
+        (filter_map a_topic_of (declaration_view d.now ∷ []))) }
+    ensures plants { OnOk result (map plant_seen lists.new.plants.items
+        ≡ map plant_seen lists.old.plants.items
+        ++ map (plant_table (program_in index.now))
+        (filter_map a_plant_of (declaration_view d.now ∷ []))) }
+    ensures nodes { OnOk result (map node_seen lists.new.nodes.items
+        ≡ map node_seen lists.old.nodes.items
+        ++ map (node_table (program_in index.now))
+        (filter_map a_node_of (declaration_view d.now ∷ []))) }
+    ensures modules { OnOk result (lists.new.modules.items
+        ≡ lists.old.modules.items ++ map (module_info (program_in index.now))
+        (filter_map a_module_of (declaration_view d.now ∷ []))) }
 {
-    let mut topics = Vec::new(alloc);
-    let decls = index.decls;
-    for d in decls {
-        put_topic(alloc, index, numbers, d, &mut topics)?;
-    }
-    Ok(topics)
+    put_topic(alloc, index, numbers, d, &mut lists.topics)?;
+    put_topic_scalars(alloc, index, numbers, d, &mut lists.scalars)?;
+    put_plant(alloc, index, numbers, d, &mut lists.plants)?;
+    put_node(alloc, index, numbers, d, &mut lists.nodes)?;
+    put_module(alloc, index, numbers, d, &mut lists.modules)?;
+    Ok(())
 }
 
-fn scalars(alloc: Global, index: &Index, numbers: &[Number]) -> Result<Vec<ScalarInfo>, AllocError>
+// Puts the tables of all declarations into empty lists.
+fn put_declarations(
+    alloc: Global,
+    index: &Index,
+    numbers: &[Number],
+    lists: &mut Lists,
+) -> Result<(), AllocError>
     requires numbers { AreNumbers index.now numbers.now }
     requires fits { AllFit (program_in index.now) }
-    ensures { IfOk result (λ v. v.items
-        ≡ flat_map (topic_scalars (program_in index.now)) (topics (program_in index.now))) }
+    requires empty { AreEmpty lists.old }
+    ensures { OnOk result (AreLists (program_in index.now) lists.new) }
 {
-    let mut scalars = Vec::new(alloc);
     let decls = index.decls;
     for d in decls {
-        put_topic_scalars(alloc, index, numbers, d, &mut scalars)?;
+        put_declaration(alloc, index, numbers, d, lists)?;
     }
-    Ok(scalars)
-}
-
-fn plants(alloc: Global, index: &Index, numbers: &[Number]) -> Result<Vec<PlantInfo>, AllocError>
-    requires numbers { AreNumbers index.now numbers.now }
-    requires fits { AllFit (program_in index.now) }
-    ensures { IfOk result (λ v. map plant_seen v.items
-        ≡ map (plant_table (program_in index.now)) (plants (program_in index.now))) }
-{
-    let mut plants = Vec::new(alloc);
-    let decls = index.decls;
-    for d in decls {
-        put_plant(alloc, index, numbers, d, &mut plants)?;
-    }
-    Ok(plants)
-}
-
-fn nodes(alloc: Global, index: &Index, numbers: &[Number]) -> Result<Vec<NodeInfo>, AllocError>
-    requires numbers { AreNumbers index.now numbers.now }
-    requires fits { AllFit (program_in index.now) }
-    ensures { IfOk result (λ v. map node_seen v.items
-        ≡ map (node_table (program_in index.now)) (nodes (program_in index.now))) }
-{
-    let mut nodes = Vec::new(alloc);
-    let decls = index.decls;
-    for d in decls {
-        put_node(alloc, index, numbers, d, &mut nodes)?;
-    }
-    Ok(nodes)
-}
-
-fn modules(alloc: Global, index: &Index, numbers: &[Number]) -> Result<Vec<ModuleInfo>, AllocError>
-    requires numbers { AreNumbers index.now numbers.now }
-    requires fits { AllFit (program_in index.now) }
-    ensures { IfOk result (λ v. v.items
-        ≡ map (module_info (program_in index.now)) (modules (program_in index.now))) }
-{
-    let mut modules = Vec::new(alloc);
-    let decls = index.decls;
-    for d in decls {
-        put_module(alloc, index, numbers, d, &mut modules)?;
-    }
-    Ok(modules)
+    Ok(())
 }
 
 /// The tables of a program of the grammar in which no rule of typing fails, in declared order.
@@ -210,16 +206,19 @@ pub fn all_tables(alloc: Global, index: &Index, numbers: &[Number]) -> Result<Ty
     requires faultless { IsFaultless (program_in index.now) }
     ensures { IfOk result (λ t. AreTables (program_in index.now) t) }
 {
-    let topics = topics(alloc, index, numbers)?;
-    let scalars = scalars(alloc, index, numbers)?;
-    let plants = plants(alloc, index, numbers)?;
-    let nodes = nodes(alloc, index, numbers)?;
-    let modules = modules(alloc, index, numbers)?;
+    let mut lists = Lists {
+        topics: Vec::new(alloc),
+        scalars: Vec::new(alloc),
+        plants: Vec::new(alloc),
+        nodes: Vec::new(alloc),
+        modules: Vec::new(alloc),
+    };
+    put_declarations(alloc, index, numbers, &mut lists)?;
     Ok(Typed {
-        topics,
-        scalars,
-        plants,
-        nodes,
-        modules,
+        topics: lists.topics,
+        scalars: lists.scalars,
+        plants: lists.plants,
+        nodes: lists.nodes,
+        modules: lists.modules,
     })
 }

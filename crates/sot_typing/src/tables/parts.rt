@@ -1,5 +1,5 @@
 //! The rows of the parts of plants and nodes: state variables, disturbances and locals.
-ghost use Rattle.std.specs.Prelude.{◌≡◌, map, IfOk};
+ghost use Rattle.std.specs.Prelude.{◌≡◌, ◌++◌, map, IfOk, OnOk};
 ghost use Rattle.std.specs.List.{All};
 ghost use Rattle.sot_tree.specs.TreeViews.{local_view};
 ghost use Rattle.sot_typing.specs.Resolved.{state_info, noise_info, local_info};
@@ -20,16 +20,20 @@ fn state_info(alloc: Global, s: &StateDecl) -> Result<StateInfo, AllocError>
     })
 }
 
-/// The state variables of a plant, in order.
-pub fn state_infos(alloc: Global, states: &[StateDecl]) -> Result<Vec<StateInfo>, AllocError>
+/// Puts the rows of the state variables of a plant behind the others, in order.
+pub fn put_states(
+    alloc: Global,
+    states: &[StateDecl],
+    infos: &mut Vec<StateInfo>,
+) -> Result<(), AllocError>
     requires { All StateFits states.now }
-    ensures { IfOk result (λ v. v.items ≡ map state_info states.now) }
+    ensures { OnOk result (infos.new.items
+        ≡ infos.old.items ++ map state_info states.now) }
 {
-    let mut infos = Vec::new(alloc);
     for s in states {
         infos.push(state_info(alloc, s)?)?;
     }
-    Ok(infos)
+    Ok(())
 }
 
 fn noise_info(alloc: Global, f: &Field) -> Result<NoiseInfo, AllocError>
@@ -44,16 +48,20 @@ fn noise_info(alloc: Global, f: &Field) -> Result<NoiseInfo, AllocError>
     })
 }
 
-/// The disturbances of a plant, in order.
-pub fn noise_infos(alloc: Global, noise: &[Field]) -> Result<Vec<NoiseInfo>, AllocError>
+/// Puts the rows of the disturbances of a plant behind the others, in order.
+pub fn put_noise(
+    alloc: Global,
+    noise: &[Field],
+    infos: &mut Vec<NoiseInfo>,
+) -> Result<(), AllocError>
     requires { All FieldFits noise.now }
-    ensures { IfOk result (λ v. v.items ≡ map noise_info noise.now) }
+    ensures { OnOk result (infos.new.items
+        ≡ infos.old.items ++ map noise_info noise.now) }
 {
-    let mut infos = Vec::new(alloc);
     for f in noise {
         infos.push(noise_info(alloc, f)?)?;
     }
-    Ok(infos)
+    Ok(())
 }
 
 fn local_info(alloc: Global, l: &LocalDecl) -> Result<LocalInfo, AllocError>
@@ -70,14 +78,18 @@ fn local_info(alloc: Global, l: &LocalDecl) -> Result<LocalInfo, AllocError>
     })
 }
 
-/// The locals of a node, in order.
-pub fn local_infos(alloc: Global, locals: &[LocalDecl]) -> Result<Vec<LocalInfo>, AllocError>
+/// Puts the rows of the locals of a node behind the others, in order.
+pub fn put_locals(
+    alloc: Global,
+    locals: &[LocalDecl],
+    infos: &mut Vec<LocalInfo>,
+) -> Result<(), AllocError>
     requires { All (λ l. LocalFits (local_view l)) locals.now }
-    ensures { IfOk result (λ v. v.items ≡ map local_info (map local_view locals.now)) }
+    ensures { OnOk result (infos.new.items
+        ≡ infos.old.items ++ map local_info (map local_view locals.now)) }
 {
-    let mut infos = Vec::new(alloc);
     for l in locals {
         infos.push(local_info(alloc, l)?)?;
     }
-    Ok(infos)
+    Ok(())
 }

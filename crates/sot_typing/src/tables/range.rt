@@ -1,7 +1,7 @@
 //! The scale, the ends and the initial value of a scalar, as numbers.
 ghost use Rattle.std.specs.Prelude.{◌≡◌, ◌≤◌};
-ghost use Rattle.sot_rules.specs.Sorts.{scale_sort, state_sort, scalar_sort};
-ghost use Rattle.sot_typing.specs.Terms.{sort_scale, truth_number};
+ghost use Rattle.sot_rules.specs.Sorts.{scale_sort, state_sort};
+ghost use Rattle.sot_typing.specs.Terms.{sort_scale};
 ghost use Rattle.sot_typing.specs.Resolved.{lowest, greatest, const_number, scalar_scale, is_truth};
 
 use sot_tree::{Const, Lit, Scalar, StateDecl};

@@ -1,5 +1,5 @@
 //! The region of a list of boxes.
-ghost use Rattle.std.specs.Prelude.{◌≡◌, ◌<◌, ◌≤◌, ◌≤ℤ◌, length, map, true, IfOk};
+ghost use Rattle.std.specs.Prelude.{◌≡◌, ◌<◌, ◌≤◌, length, map, true, IfOk};
 ghost use Rattle.std.specs.List.{All};
 ghost use Rattle.sot_tree.specs.TreeViews.{area_view};
 ghost use Rattle.sot_typing.specs.Resolved.{side_of};

@@ -1,8 +1,8 @@
 //! The row of a topic, and the rows of its scalars.
-ghost use Rattle.std.specs.Prelude.{◌≡◌, ◌<◌, ◌≤◌, ◌++◌, length, slice_get, Some, IfOk, OnOk};
+ghost use Rattle.std.specs.Prelude.{◌≡◌, ◌<◌, ◌≤◌, ◌++◌, length, Some, IfOk, OnOk};
 ghost use Rattle.std.specs.List.{All};
-ghost use Rattle.sot_tree.specs.TreeViews.{init_view, shape_view, topic_view};
-ghost use Rattle.sot_rules.specs.Tests.{form_scalars, start_values};
+ghost use Rattle.sot_tree.specs.TreeViews.{init_view, topic_view};
+ghost use Rattle.sot_rules.specs.Tests.{start_values};
 ghost use Rattle.sot_typing.specs.Resolved.{scalar_count, scalar_info, scalar_scale};
 ghost use Rattle.sot_typing.specs.Parts.{FieldFits, TopicFits, field_scalars, scalars_at};
 

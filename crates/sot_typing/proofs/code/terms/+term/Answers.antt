@@ -1,13 +1,13 @@
 -- Of the cycle `term`: what their calls ask for, that the loops keep what they say, and their promises.
 use Rattle.std.proofs.Common.{rules, arith, ◌≤◌, ap, ap₂, sym, subst, ◌∙◌}
 use Rattle.sot_tree.specs.declared.tree.Expr.{the_lemmas}
-use Rattle.sot_tree.specs.Trees.{binary, rescaled, chosen, called}
+use Rattle.sot_tree.specs.Trees.{binary, negated, denied, rescaled, chosen, called}
 use Rattle.sot_tree.specs.TreeViews.{tree_view, parts_view}
 use Rattle.sot_tree.proofs.CallRows.{call_view}
 use Rattle.sot_rules.specs.Faults.{tree_faults}
 use Rattle.sot_typing.specs.Terms.{sort_scale}
 use Rattle.sot_typing.specs.Things.{things_in}
-use Rattle.sot_typing.proofs.Faultless.{binary_left, binary_right, scales_fit, joined_is, rescaled_part, is_scale, rescaled_is, condition, first_branch, second_branch, chosen_is, called_parts, called_is, if_ok}
+use Rattle.sot_typing.proofs.Faultless.{binary_left, binary_right, scales_fit, joined_is, rest_part, negated_part, negated_is, denied_part, denied_is, rescaled_part, is_scale, rescaled_is, condition, first_branch, second_branch, chosen_is, called_parts, called_is, if_ok}
 use Rattle.sot_typing.proofs.PartLoops.{given_decimals, part_faultless, rest_faultless, form_next, sort_next, parts_done}
 use Rattle.sot_typing.proofs.code.terms.+term.Goals as goal
 
@@ -34,6 +34,36 @@ term-returns-in_ok-b-in-Binary t c =
     let names = things_in c.args.things.now in
     let is = ap tree_view c.in-Binary.is ∙ ap₂ (λ x y. binary c.in-Binary.op (tree_view x) (tree_view y) c.in-Binary.at) (sym c.deref.ensures) (sym c.deref-in-Binary.ensures) in
     if_ok c.joined.result (joined_is names c.in-Binary.op _ _ c.in-Binary.at (tree_view c.args.e.now) is c.requires.faultless c.in_ok-a-in-Binary.a c.in_ok-b-in-Binary.b c.in_ok-a-in-Binary.ensures c.in_ok-b-in-Binary.ensures) c.joined.ensures
+
+pub term-term-requires-in-Rest : goal.term-term-requires-in-Rest
+term-term-requires-in-Rest t c =
+    let names = things_in c.args.things.now in
+    let part = ap (λ z. tree_faults names (tree_view z)) c.deref-in-Rest.ensures in
+    (search (rules, the_lemmas, c.in-Rest.is, c.deref-in-Rest.ensures, c.decreases), (c.requires.few, part ∙ rest_part names (tree_view c.in-Rest.left.value) c.in-Rest.by c.in-Rest.at (tree_view c.args.e.now) (ap tree_view c.in-Rest.is) c.requires.faultless))
+
+pub term-term-requires-in-Neg : goal.term-term-requires-in-Neg
+term-term-requires-in-Neg t c =
+    let names = things_in c.args.things.now in
+    let part = ap (λ z. tree_faults names (tree_view z)) c.deref-in-Neg.ensures in
+    (search (rules, the_lemmas, c.in-Neg.is, c.deref-in-Neg.ensures, c.decreases), (c.requires.few, part ∙ negated_part names (tree_view c.in-Neg.part.value) c.in-Neg.at (tree_view c.args.e.now) (ap tree_view c.in-Neg.is) c.requires.faultless))
+
+pub term-returns-in_ok-a-in-Neg : goal.term-returns-in_ok-a-in-Neg
+term-returns-in_ok-a-in-Neg t c =
+    let names = things_in c.args.things.now in
+    let is = ap tree_view c.in-Neg.is ∙ ap (λ x. negated (tree_view x) c.in-Neg.at) (sym c.deref-in-Neg.ensures) in
+    if_ok c.negation.result (negated_is names _ c.in-Neg.at (tree_view c.args.e.now) is c.requires.faultless c.in_ok-a-in-Neg.a c.in_ok-a-in-Neg.ensures) c.negation.ensures
+
+pub term-term-requires-in-Not : goal.term-term-requires-in-Not
+term-term-requires-in-Not t c =
+    let names = things_in c.args.things.now in
+    let part = ap (λ z. tree_faults names (tree_view z)) c.deref-in-Not.ensures in
+    (search (rules, the_lemmas, c.in-Not.is, c.deref-in-Not.ensures, c.decreases), (c.requires.few, part ∙ denied_part names (tree_view c.in-Not.part.value) c.in-Not.at (tree_view c.args.e.now) (ap tree_view c.in-Not.is) c.requires.faultless))
+
+pub term-returns-in_ok-a-in-Not : goal.term-returns-in_ok-a-in-Not
+term-returns-in_ok-a-in-Not t c =
+    let names = things_in c.args.things.now in
+    let is = ap tree_view c.in-Not.is ∙ ap (λ x. denied (tree_view x) c.in-Not.at) (sym c.deref-in-Not.ensures) in
+    if_ok c.denial.result (denied_is names _ c.in-Not.at (tree_view c.args.e.now) is c.requires.faultless c.in_ok-a-in-Not.a c.in_ok-a-in-Not.ensures) c.denial.ensures
 
 pub term-term-requires-in-Rescale : goal.term-term-requires-in-Rescale
 term-term-requires-in-Rescale t c =

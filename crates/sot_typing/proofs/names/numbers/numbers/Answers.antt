@@ -1,7 +1,8 @@
--- Of `numbers`: what its calls ask for, and that its loop keeps what it says.
-use Rattle.std.proofs.Common.{subst, sym, map, drop, ◌+◌}
+-- Of `numbers`: what its calls ask for, that its loop keeps what it says, and its promises.
+use Rattle.std.proofs.Common.{subst, sym, ap, map, drop, ◌∙◌, ◌+◌, ◌++◌}
+use Rattle.std.proofs.lemmas.List.{drop_all, append-nil}
 use Rattle.sot_tree.specs.TreeViews.{declaration_view}
-use Rattle.sot_typing.specs.Numbers.{FitLimits}
+use Rattle.sot_typing.specs.Numbers.{FitLimits, numbers_from}
 use Rattle.sot_typing.proofs.Counting.{room, few_left, left_are, step_numbers}
 use Rattle.sot_typing.proofs.names.numbers.numbers.Goals as goal
 
@@ -19,3 +20,9 @@ loop-d-preserved c =
       numbers = step_numbers c.args.decls.now c.loop-d.d-index c.d-item.result c.loop-d.counts c.count.new.counts c.count.result _ _ _
           c.loop-d-test.true c.d-item.is c.count.ensures.number c.count.ensures.counts c.in_ok-push.ensures.items c.loop-d.invariant.numbers;
     }
+
+pub returns : goal.returns
+returns c =
+    sym (append-nil c.loop-d.numbers.items)
+    ∙ ap (λ z. c.loop-d.numbers.items ++ numbers_from c.loop-d.counts (map declaration_view z)) (sym (drop_all c.loop-d.d-index c.args.decls.now c.loop-d-test.false))
+    ∙ c.loop-d.invariant.numbers
