@@ -1,9 +1,9 @@
 //! The faults of a plant's `next` clauses.
-ghost use Rattle.std.specs.Prelude.{◌≡◌, ◌++◌, [], length, map, flat_map, nat_lt, not, slice_get, OnOk};
+ghost use Rattle.std.specs.Prelude.{◌≡◌, [], length, map, flat_map, nat_lt, slice_get, OnOk};
 ghost use Rattle.sot_tree.specs.TreeViews.{next_view, plant_view};
 ghost use Rattle.sot_rules.specs.declared.fault.TypeKind.TheVariants.{NextMissing};
 ghost use Rattle.sot_rules.specs.Tests.{is_state};
-ghost use Rattle.sot_rules.specs.Faults.{least, next_faults, order_faults, when};
+ghost use Rattle.sot_rules.specs.Faults.{least, order_faults, when};
 ghost use Rattle.sot_rules.specs.Scopes.{names_in, parts_of};
 ghost use Rattle.sot_rules.specs.Indexes.{program_in, IsIndex};
 ghost use Rattle.sot_rules.specs.Alike.{StandsFor, tables_in};

@@ -1,5 +1,5 @@
 //! The faults of ranges, scalars, initial values and times.
-ghost use Rattle.std.specs.Prelude.{◌≡◌};
+ghost use Rattle.std.specs.Prelude.{◌≡◌, ◌-ℤ◌, ◌+ℤ◌, pos};
 ghost use Rattle.sot_rules.specs.Sorts.{scalar_sort, const_sort};
 ghost use Rattle.sot_rules.specs.Tests.{is_empty, is_wide, is_outside, sort_is, starts_outside, const_place, is_late};
 ghost use Rattle.sot_rules.specs.Faults.{least, bounds_faults, scalar_faults, start_faults, times_faults};
@@ -17,12 +17,19 @@ fn is_empty(b: Bounds) -> bool
     b.lo.scale == b.hi.scale && b.hi.mantissa < b.lo.mantissa
 }
 
+// How many numbers there are between two ends, with both of them.
+fn width(b: Bounds) -> i128
+    ensures { result ≡ (b.hi.mantissa -ℤ b.lo.mantissa) +ℤ pos 1 }
+{
+    let between = i128::from(b.hi.mantissa) - i128::from(b.lo.mantissa);
+    between + 1
+}
+
 // Ends of one scale, with more than 2^32 numbers.
 fn is_wide(b: Bounds) -> bool
     ensures { result ≡ is_wide b }
 {
-    let width = i128::from(b.hi.mantissa) - i128::from(b.lo.mantissa) + 1;
-    b.lo.scale == b.hi.scale && width > 4_294_967_296
+    b.lo.scale == b.hi.scale && width(b) > 4_294_967_296
 }
 
 // A number that is not within ends of its scale.

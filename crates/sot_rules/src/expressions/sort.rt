@@ -1,5 +1,5 @@
 //! Sorts: when two of them fit, and what the operators make of them.
-ghost use Rattle.std.specs.Prelude.{◌≡◌, false, nat_abs};
+ghost use Rattle.std.specs.Prelude.{◌≡◌, false};
 ghost use Rattle.sot_rules.specs.Sorts.{scale_sort, is_truthful, is_scaled, differ, are_mixed, kinds_misfit, scales_misfit, operator_sort, unless, given, branches_misfit};
 ghost use Rattle.sot_rules.specs.TreeSorts.{has_decimals, is_no_scale};
 

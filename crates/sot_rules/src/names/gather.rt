@@ -1,5 +1,5 @@
 //! Puts the names of an owner's lists into a table, each with what it stands for.
-ghost use Rattle.std.specs.Prelude.{◌≡◌, ◌++◌, ℕ, List, Option, map, filter_map, OnOk};
+ghost use Rattle.std.specs.Prelude.{◌≡◌, List, Option, map, OnOk};
 ghost use Rattle.std.specs.Option.{option_to_list};
 ghost use Rattle.sot_tree.specs.TreeViews.{declaration_view, local_view, shape_view};
 ghost use Rattle.sot_rules.specs.Names.{Part, Thing, meaning, local_thing, noise_thing, state_thing};
