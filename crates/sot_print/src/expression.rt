@@ -2,14 +2,14 @@
 ghost use Rattle.std.specs.Prelude.{◌≡◌, ◌++◌, ◌∷◌, [], not, if◌then◌else◌, codes, OnOk};
 ghost use Rattle.std.specs.String.{string_bytes};
 ghost use Rattle.sot_tree.specs.TreeViews.{tree_view};
-ghost use Rattle.sot_print.specs.Words.{laid};
+ghost use Rattle.sot_print.specs.Words.{blanks, laid, keyword, sign};
 ghost use Rattle.sot_print.specs.Expressions.{operator, function_name, is_plain, grouped_words, operand_words, expression_words};
-ghost use Rattle.sot_print.specs.Leaves.{listed};
-ghost use Rattle.sot_print.specs.declared.gap.Gap.TheVariants.{Touching};
+ghost use Rattle.sot_print.specs.Leaves.{literal_words, listed};
+ghost use Rattle.sot_print.specs.declared.gap.Gap.TheVariants.{Touching, Space};
 
 use crate::gap::{Gap, push_comma, push_word};
 use crate::leaf::{push_literal, push_reference, push_truth};
-use sot_tree::{Expr, Func, Op};
+use sot_tree::{Expr, Func, Lit, Op};
 use std::alloc::AllocError;
 
 fn operator_text(op: Op) -> &'static str
@@ -100,6 +100,39 @@ fn push_parts(out: &mut String, parts: &[Expr]) -> Result<(), AllocError>
     Ok(())
 }
 
+// A function, and its parts in parentheses.
+#[cycle(expression)]
+fn push_call(out: &mut String, gap: Gap, func: Func, parts: &[Expr]) -> Result<(), AllocError>
+    ensures { OnOk result (string_bytes out.new ≡ string_bytes out.old ++ (blanks gap ++ (function_name func ++ (codes "(" ++ (laid (listed (λ gap e. expression_words (tree_view e) gap) Touching parts.now) ++ codes ")"))))) }
+{
+    push_word(out, gap, function_text(func))?;
+    push_word(out, Gap::Touching, "(")?;
+    push_parts(out, parts)?;
+    push_word(out, Gap::Touching, ")")
+}
+
+// `rescale`, and in parentheses what is rescaled, and to how many decimals.
+#[cycle(expression)]
+fn push_rescaled(out: &mut String, gap: Gap, part: &Expr, to: Lit) -> Result<(), AllocError>
+    ensures { OnOk result (string_bytes out.new ≡ string_bytes out.old ++ laid (keyword gap (codes "rescale") ∷ sign Touching (codes "(") ∷ expression_words (tree_view part.now) Touching ++ sign Touching (codes ",") ∷ literal_words Space to ++ sign Touching (codes ")") ∷ [])) }
+{
+    push_word(out, gap, "rescale")?;
+    push_word(out, Gap::Touching, "(")?;
+    push_expression(out, Gap::Touching, part)?;
+    push_word(out, Gap::Touching, ",")?;
+    push_literal(out, Gap::Space, to)?;
+    push_word(out, Gap::Touching, ")")
+}
+
+// A word, and an operand behind it.
+#[cycle(expression)]
+fn push_led(out: &mut String, gap: Gap, word: &str, expr: &Expr) -> Result<(), AllocError>
+    ensures { OnOk result (string_bytes out.new ≡ string_bytes out.old ++ laid (keyword gap word.now ∷ operand_words (tree_view expr.now) Space (expression_words (tree_view expr.now)))) }
+{
+    push_word(out, gap, word)?;
+    push_operand(out, Gap::Space, expr)
+}
+
 #[cycle(expression)]
 pub fn push_expression(out: &mut String, gap: Gap, expr: &Expr) -> Result<(), AllocError>
     ensures { OnOk result (string_bytes out.new ≡ string_bytes out.old ++ laid (expression_words (tree_view expr.now) gap)) }
@@ -131,27 +164,12 @@ pub fn push_expression(out: &mut String, gap: Gap, expr: &Expr) -> Result<(), Al
             push_word(out, gap, "not")?;
             push_grouped(out, Gap::Space, part)
         }
-        Expr::Call { func, parts, .. } => {
-            push_word(out, gap, function_text(*func))?;
-            push_word(out, Gap::Touching, "(")?;
-            push_parts(out, parts)?;
-            push_word(out, Gap::Touching, ")")
-        }
-        Expr::Rescale { part, to, .. } => {
-            push_word(out, gap, "rescale")?;
-            push_word(out, Gap::Touching, "(")?;
-            push_expression(out, Gap::Touching, part)?;
-            push_word(out, Gap::Touching, ",")?;
-            push_literal(out, Gap::Space, *to)?;
-            push_word(out, Gap::Touching, ")")
-        }
+        Expr::Call { func, parts, .. } => push_call(out, gap, *func, parts),
+        Expr::Rescale { part, to, .. } => push_rescaled(out, gap, part, *to),
         Expr::If { cond, yes, no, .. } => {
-            push_word(out, gap, "if")?;
-            push_operand(out, Gap::Space, cond)?;
-            push_word(out, Gap::Space, "then")?;
-            push_operand(out, Gap::Space, yes)?;
-            push_word(out, Gap::Space, "else")?;
-            push_operand(out, Gap::Space, no)
+            push_led(out, gap, "if", cond)?;
+            push_led(out, Gap::Space, "then", yes)?;
+            push_led(out, Gap::Space, "else", no)
         }
     }
 }
