@@ -3,6 +3,7 @@
 ghost use Rattle.std.specs.Prelude.{◌≡◌};
 ghost use Rattle.sot_lang.specs.TermPlaces.{HasPlaces};
 
+use super::same;
 use crate::tests::forms::{AT, Form, applied};
 use crate::tests::points::{Ends, hull_at_points};
 use sot_box::Interval;
@@ -10,7 +11,6 @@ use sot_iv::{MayTrap, Ranges, iv_term};
 use sot_lang::{Term, TrapKind};
 use sot_tree::{Func, Op};
 use std::alloc::{AllocError, Global};
-use std::test::Fail;
 
 /// The interval over these ranges of the three places.
 fn found(term: &Term, a: Ends, b: Ends, c: Ends) -> Option<Result<Ends, MayTrap>>
@@ -51,10 +51,10 @@ const ROWS: [(Form, Ends, Ends, Result<Ends, (TrapKind, i128, i128)>); 9] = [
 ];
 
 #[test]
-fn operators_give_the_worked_rows(rt: HostRuntime) -> Result<(), Fail> {
+fn operators_give_the_worked_rows(rt: HostRuntime) {
     for (form, a, b, wanted) in ROWS {
-        let term = applied(rt.alloc(), form)?;
-        let answer = found(&term, a, b, (0, 0)).ok_or("ranges")?;
+        let term = applied(rt.alloc(), form).expect(&rt, "memory");
+        let answer = found(&term, a, b, (0, 0));
         let wanted = match wanted {
             Ok(ends) => Ok(ends),
             Err((kind, lo, hi)) => Err(MayTrap {
@@ -64,9 +64,8 @@ fn operators_give_the_worked_rows(rt: HostRuntime) -> Result<(), Fail> {
                 hi,
             }),
         };
-        assert_eq!(rt; answer, wanted, "{form:?} at {a:?} and {b:?}");
+        same(&rt, (form, a, b), answer, Some(wanted));
     }
-    Ok(())
 }
 
 /// What is applied, and the least and the greatest number of its operands.
@@ -152,17 +151,16 @@ fn first_difference(
 }
 
 #[test]
-fn each_operator_gives_the_hull_of_its_results(rt: HostRuntime) -> Result<(), Fail> {
+fn each_operator_gives_the_hull_of_its_results(rt: HostRuntime) {
     let alloc = rt.alloc();
     for (form, low, high) in FORMS {
-        let term = applied(alloc, form)?;
-        let all = intervals(alloc, low, high)?;
-        let alone = intervals(alloc, 0, 0)?;
+        let term = applied(alloc, form).expect(&rt, "memory");
+        let all = intervals(alloc, low, high).expect(&rt, "memory");
+        let alone = intervals(alloc, 0, 0).expect(&rt, "memory");
         let read = count(form);
         let seconds = if read > 1 { &all[..] } else { &alone[..] };
         let thirds = if read > 2 { &all[..] } else { &alone[..] };
         let difference = first_difference(&term, form, &all, seconds, thirds);
-        assert_eq!(rt; difference, None, "{form:?}");
+        same(&rt, form, difference, None);
     }
-    Ok(())
 }

@@ -1,18 +1,12 @@
 //! Regions before and after they are settled: the same questions have the same answers, worked by hand.
 
-ghost use Rattle.std.specs.Prelude.{◌≡◌, true, length, IfOk, IfSome};
+ghost use Rattle.std.specs.Prelude.{◌≡◌, length};
 
-use sot_box::{BoxN, Interval, Point, Region, uncovered};
-use std::alloc::{AllocError, Global};
+use super::same;
+use super::squares::{Square, box_of, covers, gap, has, region_of, spanning};
+use sot_box::{BoxN, Point, Region, uncovered};
+use std::alloc::Global;
 use std::process::Abort;
-use std::test::Fail;
-
-/// A box of two axes, by the ends of its sides.
-#[derive(Clone, Copy, Debug)]
-struct Square {
-    x: (i64, i64),
-    y: (i64, i64),
-}
 
 /// What is asked of a region, and what is answered.
 #[derive(Clone, Copy, Debug)]
@@ -24,85 +18,48 @@ struct Worked<'a> {
     hull: Square,
 }
 
-fn spanning(x: (i64, i64), y: (i64, i64)) -> Square {
-    Square { x, y }
-}
-
-fn box_of(s: Square) -> Option<BoxN>
-    ensures { IfSome result (λ b. length b ≡ 2) }
-{
-    BoxN::of(&[Interval::new(s.x.0, s.x.1)?, Interval::new(s.y.0, s.y.1)?])
-}
-
-fn region_of(alloc: Global, squares: &[Square]) -> Result<Region, Fail>
-    ensures { IfOk result (λ r. r.width ≡ 2) }
-{
-    let mut region = Region::none(alloc, 2);
-    for s in squares {
-        let b = box_of(*s).ok_or("a box")?;
-        region.push(b)?;
-    }
-    Ok(region)
-}
-
-/// The region with an index, and otherwise the same.
-fn settled(region: Region) -> Result<Region, AllocError>
-    ensures { IfOk result (λ r. r ≡ record region { settled = true }) }
-{
-    let mut region = region;
-    region.settle()?;
-    Ok(region)
-}
-
 /// Asks the region all of it, and also whether it covers what it has a gap in.
-fn ask(rt: &impl Abort, region: &Region, worked: &Worked<'_>) -> Result<(), Fail>
+fn ask(rt: &impl Abort, region: &Region, worked: &Worked<'_>)
     requires { region.now.width ≡ 2 }
 {
-    for (x, y) in worked.inside {
-        let p = Point::of(&[*x, *y]).ok_or("a point")?;
-        assert!(rt; region.has(&p), "{x} {y} is inside");
+    for at in worked.inside {
+        same(rt, *at, has(region, *at), Some(true));
     }
-    for (x, y) in worked.outside {
-        let p = Point::of(&[*x, *y]).ok_or("a point")?;
-        assert!(rt; !region.has(&p), "{x} {y} is outside");
+    for at in worked.outside {
+        same(rt, *at, has(region, *at), Some(false));
     }
     for s in worked.covered {
-        let b = box_of(*s).ok_or("a box")?;
-        assert!(rt; region.covers(&b), "{s:?} is covered");
-        assert_eq!(rt; region.gap(&b), None, "{s:?}");
+        same(rt, *s, covers(region, *s), Some(true));
+        same(rt, *s, gap(region, *s), Some(None));
     }
     for (s, at) in worked.gaps {
-        let b = box_of(*s).ok_or("a box")?;
-        let gap = Point::of(&[at.0, at.1]);
-        assert!(rt; !region.covers(&b), "{s:?} is not covered");
-        assert_eq!(rt; region.gap(&b), gap, "{s:?}");
+        same(rt, *s, covers(region, *s), Some(false));
+        same(rt, *s, gap(region, *s), Some(Point::of(&[at.0, at.1])));
     }
-    assert_eq!(rt; region.hull(), box_of(worked.hull));
-    Ok(())
+    same(rt, "hull", region.hull(), box_of(worked.hull));
 }
 
 /// Asks before and after the region is settled, and once more after it is settled again. Where there is
 /// no memory for an index the answers are the same.
-fn ask_settled(rt: &impl Abort, region: &mut Region, worked: &Worked<'_>) -> Result<(), Fail>
+fn ask_settled(rt: &impl Abort, region: &mut Region, worked: &Worked<'_>)
     requires { region.old.width ≡ 2 }
     ensures { region.new.width ≡ 2 }
 {
-    ask(rt, region, worked)?;
+    ask(rt, region, worked);
     let first = region.settle();
-    ask(rt, region, worked)?;
-    first?;
+    ask(rt, region, worked);
+    first.expect(rt, "memory");
     let again = region.settle();
-    ask(rt, region, worked)?;
-    again?;
-    Ok(())
+    ask(rt, region, worked);
+    again.expect(rt, "memory");
 }
 
 #[test]
-fn stairs_out_of_order(rt: HostRuntime) -> Result<(), Fail> {
+fn stairs_out_of_order(rt: HostRuntime) {
     let top = spanning((6, 9), (4, 8));
     let bottom = spanning((0, 3), (0, 4));
     let middle = spanning((3, 7), (2, 6));
-    let mut region = region_of(rt.alloc(), &[top, bottom, middle])?;
+    let mut region = region_of(&rt, rt.alloc(), &[top, bottom, middle]);
     ask_settled(
         &rt,
         &mut region,
@@ -123,15 +80,15 @@ fn stairs_out_of_order(rt: HostRuntime) -> Result<(), Fail> {
             ],
             hull: spanning((0, 9), (0, 8)),
         },
-    )
+    );
 }
 
 #[test]
-fn boxes_that_overlap(rt: HostRuntime) -> Result<(), Fail> {
+fn boxes_that_overlap(rt: HostRuntime) {
     let wide = spanning((0, 9), (0, 1));
     let tall = spanning((2, 3), (0, 9));
     let low = spanning((2, 8), (1, 3));
-    let mut region = region_of(rt.alloc(), &[low, tall, wide])?;
+    let mut region = region_of(&rt, rt.alloc(), &[low, tall, wide]);
     ask_settled(
         &rt,
         &mut region,
@@ -146,11 +103,11 @@ fn boxes_that_overlap(rt: HostRuntime) -> Result<(), Fail> {
             ],
             hull: spanning((0, 9), (0, 9)),
         },
-    )
+    );
 }
 
 #[test]
-fn boxes_that_begin_at_one_place(rt: HostRuntime) -> Result<(), Fail> {
+fn boxes_that_begin_at_one_place(rt: HostRuntime) {
     let boxes = [
         spanning((4, 5), (3, 3)),
         spanning((0, 0), (0, 9)),
@@ -159,7 +116,7 @@ fn boxes_that_begin_at_one_place(rt: HostRuntime) -> Result<(), Fail> {
         spanning((0, 2), (3, 9)),
         spanning((4, 4), (4, 4)),
     ];
-    let mut region = region_of(rt.alloc(), &boxes)?;
+    let mut region = region_of(&rt, rt.alloc(), &boxes);
     ask_settled(
         &rt,
         &mut region,
@@ -178,17 +135,17 @@ fn boxes_that_begin_at_one_place(rt: HostRuntime) -> Result<(), Fail> {
             ],
             hull: spanning((0, 9), (0, 9)),
         },
-    )
+    );
 }
 
 #[test]
-fn a_box_that_comes_later_is_found(rt: HostRuntime) -> Result<(), Fail> {
-    let mut region = settled(region_of(rt.alloc(), &[spanning((5, 6), (0, 0))])?)?;
-    let late = box_of(spanning((0, 2), (0, 0))).ok_or("late")?;
-    let p = Point::of(&[1, 0]).ok_or("p")?;
-    assert!(rt; !region.has(&p));
-    region.push(late)?;
-    assert_eq!(rt; region.len(), 2);
+fn a_box_that_comes_later_is_found(rt: HostRuntime) {
+    let mut region = region_of(&rt, rt.alloc(), &[spanning((5, 6), (0, 0))]);
+    region.settle().expect(&rt, "memory");
+    let late = box_of(spanning((0, 2), (0, 0))).expect(&rt, "late");
+    same(&rt, "before", has(&region, (1, 0)), Some(false));
+    region.push(late).expect(&rt, "memory");
+    same(&rt, "boxes", region.len(), 2);
     ask_settled(
         &rt,
         &mut region,
@@ -199,78 +156,63 @@ fn a_box_that_comes_later_is_found(rt: HostRuntime) -> Result<(), Fail> {
             gaps: &[(spanning((0, 6), (0, 0)), (3, 0))],
             hull: spanning((0, 6), (0, 0)),
         },
-    )
+    );
 }
 
 /// What a region of no box answers, beside one box with this low corner.
-fn ask_empty(
-    rt: &impl Abort,
-    empty: &Region,
-    some: &Region,
-    b: &BoxN,
-    low: Point,
-) -> Result<(), Fail>
+fn ask_empty(rt: &impl Abort, empty: &Region, some: &Region, b: &BoxN, low: Point)
     requires empty { empty.now.width ≡ 2 }
     requires some { some.now.width ≡ 2 }
     requires b { length b.now ≡ 2 }
     requires low { length low ≡ 2 }
 {
-    assert!(rt; !empty.has(&low));
-    assert!(rt; !empty.covers(b));
-    assert_eq!(rt; empty.gap(b), Some(low));
-    assert_eq!(rt; empty.hull(), None);
-    assert_eq!(rt; uncovered(some, empty), Some(low));
-    assert_eq!(rt; uncovered(empty, some), None);
-    Ok(())
+    same(rt, "point", empty.has(&low), false);
+    same(rt, "box", empty.covers(b), false);
+    same(rt, "gap", empty.gap(b), Some(low));
+    same(rt, "hull", empty.hull(), None);
+    same(rt, "left out", uncovered(some, empty), Some(low));
+    same(rt, "nothing to leave out", uncovered(empty, some), None);
 }
 
 #[test]
-fn a_region_of_no_box_is_settled(rt: HostRuntime) -> Result<(), Fail> {
+fn a_region_of_no_box_is_settled(rt: HostRuntime) {
     let mut empty = Region::none(rt.alloc(), 2);
-    let some = region_of(rt.alloc(), &[spanning((3, 4), (-1, 2))])?;
-    let b = box_of(spanning((3, 4), (-1, 2))).ok_or("b")?;
-    let low = Point::of(&[3, -1]).ok_or("low")?;
-    ask_empty(&rt, &empty, &some, &b, low)?;
-    empty.settle()?;
-    ask_empty(&rt, &empty, &some, &b, low)
+    let square = spanning((3, 4), (-1, 2));
+    let some = region_of(&rt, rt.alloc(), &[square]);
+    let b = box_of(square).expect(&rt, "b");
+    let low = Point::of(&[3, -1]).expect(&rt, "low");
+    ask_empty(&rt, &empty, &some, &b, low);
+    empty.settle().expect(&rt, "memory");
+    ask_empty(&rt, &empty, &some, &b, low);
 }
 
-/// What of one region the other leaves uncovered, before and after it is settled.
-fn ask_uncovered(
-    rt: &impl Abort,
-    of: &Region,
-    by: &mut Region,
-    want: Option<Point>,
-) -> Result<(), Fail>
-    requires { of.now.width ≡ by.old.width }
-{
-    assert_eq!(rt; uncovered(of, by), want);
-    by.settle()?;
-    assert_eq!(rt; uncovered(of, by), want);
-    Ok(())
+fn point_of(at: Option<(i64, i64)>) -> Option<Point> {
+    let (x, y) = at?;
+    Point::of(&[x, y])
 }
 
-#[test]
-fn what_a_settled_region_leaves_uncovered(rt: HostRuntime) -> Result<(), Fail> {
+/// What the stairs leave uncovered of some squares, before and after they are settled.
+fn ask_stairs(rt: &impl Abort, alloc: Global, of: &[Square], want: Option<(i64, i64)>) {
     let stairs = [
         spanning((6, 9), (4, 8)),
         spanning((0, 3), (0, 4)),
         spanning((3, 7), (2, 6)),
     ];
-    let some = region_of(
-        rt.alloc(),
-        &[
-            spanning((3, 6), (4, 4)),
-            spanning((3, 9), (2, 4)),
-            spanning((0, 0), (9, 9)),
-        ],
-    )?;
-    let all = region_of(
-        rt.alloc(),
-        &[spanning((7, 9), (6, 8)), spanning((3, 6), (4, 4))],
-    )?;
-    let mut by = region_of(rt.alloc(), &stairs)?;
-    ask_uncovered(&rt, &some, &mut by, Point::of(&[8, 2]))?;
-    let mut again = region_of(rt.alloc(), &stairs)?;
-    ask_uncovered(&rt, &all, &mut again, None)
+    let of = region_of(rt, alloc, of);
+    let mut by = region_of(rt, alloc, &stairs);
+    same(rt, "before", uncovered(&of, &by), point_of(want));
+    by.settle().expect(rt, "memory");
+    same(rt, "after", uncovered(&of, &by), point_of(want));
+}
+
+#[test]
+fn what_a_settled_region_leaves_uncovered(rt: HostRuntime) {
+    let some = [
+        spanning((3, 6), (4, 4)),
+        spanning((3, 9), (2, 4)),
+        spanning((0, 0), (9, 9)),
+    ];
+    ask_stairs(&rt, rt.alloc(), &some, Some((8, 2)));
+    let all = [spanning((7, 9), (6, 8)), spanning((3, 6), (4, 4))];
+    ask_stairs(&rt, rt.alloc(), &all, None);
 }

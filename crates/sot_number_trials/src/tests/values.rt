@@ -2,11 +2,11 @@
 
 ghost use Rattle.sot_lang.specs.TermPlaces.{HasPlaces};
 
+use super::same;
 use crate::tests::forms::{AT, Form, applied};
 use sot_code::{Locals, value};
 use sot_lang::{Term, Trap, TrapKind};
 use sot_tree::{Func, Op};
-use std::test::Fail;
 
 const LEAST: i64 = -9_223_372_036_854_775_808;
 
@@ -79,22 +79,20 @@ fn value_at(term: &Term, numbers: (i64, i64, i64)) -> Result<i64, Trap>
 }
 
 #[test]
-fn operators_at_their_edges(rt: HostRuntime) -> Result<(), Fail> {
+fn operators_at_their_edges(rt: HostRuntime) {
     for (form, numbers, wanted) in ROWS {
-        let term = applied(rt.alloc(), form)?;
+        let term = applied(rt.alloc(), form).expect(&rt, "memory");
         let wanted = match wanted {
             Ok(z) => Ok(z),
             Err(kind) => Err(Trap { at: AT, kind }),
         };
-        assert_eq!(rt; value_at(&term, numbers), wanted, "{form:?} at {numbers:?}");
+        same(&rt, (form, numbers), value_at(&term, numbers), wanted);
     }
-    Ok(())
 }
 
 #[test]
-fn locals_are_what_they_were_made_of(rt: HostRuntime) -> Result<(), Fail> {
-    let locals = Locals::of(&[4, -5]).ok_or("locals")?;
-    assert_eq!(rt; (locals.len(), locals.at(1)), (2, -5));
-    assert_eq!(rt; Locals::of(&[0; 17]), None);
-    Ok(())
+fn locals_are_what_they_were_made_of(rt: HostRuntime) {
+    let locals = Locals::of(&[4, -5]).expect(&rt, "locals");
+    same(&rt, "two", (locals.len(), locals.at(1)), (2, -5));
+    same(&rt, "seventeen", Locals::of(&[0; 17]), None);
 }
