@@ -5,24 +5,35 @@ mod readers;
 mod traces;
 mod views;
 
-ghost use Rattle.std.specs.Prelude.{IfOk, IfSome};
+ghost use Rattle.std.specs.Prelude.{IfSome};
 ghost use Rattle.sot_lang.specs.CertRules.{FitsTables};
 ghost use Rattle.sot_flight.specs.Fits.{FitsFlight};
 ghost use Rattle.sot_workers.specs.Flying.{HasNoGuests};
 
 use sot_flight::Flight;
 use sot_lang::Typed;
-use sot_report::{LoadFail, Loaded, fault_text, load};
+use sot_report::{Loaded, load};
 use sot_text::Need;
-use std::alloc::{AllocError, Global};
-use std::test::*;
+use std::alloc::Global;
+use std::fmt::Debug;
+use std::process::Abort;
 use std::thread::Threads;
 
 const LONGEST: usize = 16_777_216;
 
+// Ends the test, with what was asked, where the answer is not the one that is wanted.
+pub fn same<A: Debug + Drop, T: PartialEq + Debug + Drop>(
+    rt: &impl Abort,
+    asked: A,
+    got: T,
+    wanted: T,
+) {
+    assert_eq!(rt; got, wanted, "{asked:?}");
+}
+
 // A vehicle on a line whose nodes have these timings, with its certificate up to the cells' head.
-pub fn vehicle(alloc: Global, fast: &str, slow: &str, head: &str) -> Result<String, Fail> {
-    let text = format!(in alloc;
+pub fn vehicle(rt: &impl Abort, alloc: Global, fast: &str, slow: &str, head: &str) -> String {
+    format!(in alloc;
         "topic cmd: int[-2..2] = 0;
 plant pos {{ state x: int; input cmd; noise w: int[-1..1]; next x = (x + cmd) + w; }}
 external fast {fast} {{ reads pos; writes cmd; }}
@@ -35,13 +46,14 @@ module nav {{ ac fast; sc slow; period 4 offset 0; plant pos; safe [-40..40]; sa
 %certificate
 {{{head},\"modules\":{{\"nav\":{{\"closed\":[[[-40,-11]],[[-10,10]],[[11,40]]],\"reach\":[[[-10,10]]]}}}}}}
 "
-    )?;
-    Ok(text)
+    )
+    .expect(rt, "memory")
 }
 
 // The vehicle with offsets, so that at most one node is due in any instant.
-pub fn apart(alloc: Global) -> Result<String, Fail> {
+pub fn apart(rt: &impl Abort, alloc: Global) -> String {
     vehicle(
+        rt,
         alloc,
         "period 4 offset 2",
         "period 4 offset 1",
@@ -50,8 +62,8 @@ pub fn apart(alloc: Global) -> Result<String, Fail> {
 }
 
 // The vehicle all of whose offsets are 0.
-pub fn together(alloc: Global, head: &str) -> Result<String, Fail> {
-    vehicle(alloc, "period 4 offset 0", "period 2 offset 0", head)
+pub fn together(rt: &impl Abort, alloc: Global, head: &str) -> String {
+    vehicle(rt, alloc, "period 4 offset 0", "period 2 offset 0", head)
 }
 
 // A node that copies what comes from outside.
@@ -78,37 +90,34 @@ module nav { ac fast; sc slow; period 4 offset 0; plant pos; safe [-200..200]; s
 
 // A flight of the vehicle.
 pub fn flight(
+    rt: &impl Abort,
     alloc: Global,
     start: &str,
     horizon: &str,
     sway: &str,
     crew: &str,
-) -> Result<String, Fail> {
-    let flown = format!(in alloc;
-        "\"crew\":{{\"fast\":{crew}}},\"format\":1,\"horizon\":{horizon},\"inputs\":[]"
-    )?;
-    let moved = format!(in alloc; "\"start\":{{\"pos\":[{start}]}},\"sway\":{{\"pos\":{sway}}}")?;
-    let text = format!(in alloc; "{{{flown},{moved}}}")?;
-    Ok(text)
+) -> String {
+    format!(in alloc;
+        "{{\"crew\":{{\"fast\":{crew}}},\"format\":1,\"horizon\":{horizon},\"inputs\":[],\"start\":{{\"pos\":[{start}]}},\"sway\":{{\"pos\":{sway}}}}}"
+    ).expect(rt, "memory")
 }
 
 // A mission with a flight behind it.
-pub fn with_flight(alloc: Global, mission: &str, flight: &str) -> Result<String, Fail> {
-    let text = format!(in alloc; "{mission}%flight\n{flight}\n")?;
-    Ok(text)
+pub fn with_flight(rt: &impl Abort, alloc: Global, mission: &str, flight: &str) -> String {
+    format!(in alloc; "{mission}%flight\n{flight}\n").expect(rt, "memory")
 }
 
 // What a mission says. It has a flight, which fits, and at most 16 MiB.
-pub fn loaded<'t>(alloc: Global, text: &'t str, guests: u32) -> Result<Loaded<'t>, Fail>
-    ensures cert { IfOk result (λ l. FitsTables l.program l.cert) }
-    ensures flight { IfOk result (λ l. IfSome l.flight (λ f. FitsFlight l.program guests f)) }
+pub fn loaded<'t>(rt: &impl Abort, alloc: Global, text: &'t str, guests: u32) -> Loaded<'t>
+    ensures cert { FitsTables result.program result.cert }
+    ensures flight { IfSome result.flight (λ f. FitsFlight result.program guests f) }
 {
     if text.len() > LONGEST {
-        return Err(Fail::from(AllocError));
+        panic!(rt; "a text that is too long");
     }
     match load(alloc, text.as_bytes(), Need::Fly, guests) {
-        Ok(loaded) => Ok(loaded),
-        Err(_) => Err(Fail::from(AllocError)),
+        Ok(loaded) => loaded,
+        Err(_) => panic!(rt; "no mission: {text}"),
     }
 }
 
@@ -117,15 +126,3 @@ pub fn has_no_guests(p: &Typed, flight: &Flight)
     requires { FitsFlight p.now 0 flight.now }
     ensures { HasNoGuests flight.now }
 {}
-
-// The line of a mission's fault, or nothing where it has none.
-pub fn fault_of(alloc: Global, text: &str, guests: u32) -> Result<String, Fail> {
-    if text.len() > LONGEST {
-        return Err(Fail::from(AllocError));
-    }
-    match load(alloc, text.as_bytes(), Need::Fly, guests) {
-        Ok(_) => Ok(String::new(alloc)),
-        Err(LoadFail::Fault(fault)) => Ok(fault_text(alloc, &fault)?),
-        Err(LoadFail::Memory) => Err(Fail::from(AllocError)),
-    }
-}

@@ -113,31 +113,45 @@ struct Flown {
 }
 
 fn after(
-    rt: &(impl Threads + Sync),
+    rt: &(impl Abort + Threads + Sync),
     alloc: Global,
     mission: &str,
     horizon: &str,
     deeds: &[Deed],
-) -> Result<Flown, Fail> {
-    let flight = flight(alloc, "10", horizon, HIGH, TWO)?;
-    let text = with_flight(alloc, mission, flight.as_str())?;
-    let loaded = loaded(alloc, text.as_str(), 0)?;
+) -> Flown {
+    let flight = flight(rt, alloc, "10", horizon, HIGH, TWO);
+    let text = with_flight(rt, alloc, mission, flight.as_str());
+    let loaded = loaded(rt, alloc, text.as_str(), 0);
     let Some(stated) = &loaded.flight else {
-        return Err(Fail::from(AllocError));
+        panic!(rt; "no flight");
     };
     has_no_guests(&loaded.program, stated);
     let Ok(accepted) = check_all(rt, &loaded.program, &loaded.cert) else {
-        return Err(Fail::from(AllocError));
+        panic!(rt; "the mission is refused");
     };
     let Ok(mut board) = Board::open(alloc, &accepted, stated) else {
-        return Err(Fail::from(AllocError));
+        panic!(rt; "the flight does not start");
     };
     let done = does_all(&mut board, stated, deeds);
-    Ok(Flown {
+    Flown {
         done,
         ended: board.finished(),
-        text: board_text(alloc, &board)?,
-    })
+        text: board_text(alloc, &board).expect(rt, "memory"),
+    }
+}
+
+// Does the deeds, all of which can be done and end the flight. What happens is this.
+fn ends(
+    rt: &(impl Abort + Threads + Sync),
+    alloc: Global,
+    mission: &str,
+    horizon: &str,
+    deeds: &[Deed],
+    said: &str,
+) {
+    let flown = after(rt, alloc, mission, horizon, deeds);
+    same(rt, mission, flown.text.as_str(), said);
+    same(rt, mission, (flown.done, flown.ended), (true, true));
 }
 
 // The decision comes before the safe node's firing at 4, which then brakes at once.
@@ -187,9 +201,9 @@ end 1 events 4 refused 0
 ";
 
 #[test]
-fn the_order_of_an_instant_is_free(rt: HostRuntime) -> Result<(), Fail> {
+fn the_order_of_an_instant_is_free(rt: HostRuntime) {
     let alloc = rt.alloc();
-    let mission = together(alloc, "\"format\":1")?;
+    let mission = together(&rt, alloc, "\"format\":1");
     for (first, second, said) in [
         (Deed::Decide, Deed::Slow, BRAKED),
         (Deed::Slow, Deed::Decide, HELD),
@@ -208,28 +222,22 @@ fn the_order_of_an_instant_is_free(rt: HostRuntime) -> Result<(), Fail> {
             Deed::Fast,
             Deed::Tick,
         ];
-        let flown = after(&rt, alloc, mission.as_str(), "5", &deeds)?;
-        assert_eq!(rt; flown.text.as_str(), said);
-        assert!(rt; flown.done && flown.ended);
+        ends(&rt, alloc, mission.as_str(), "5", &deeds, said);
     }
-    Ok(())
 }
 
 #[test]
-fn with_jitter_a_tick_may_come_first(rt: HostRuntime) -> Result<(), Fail> {
+fn with_jitter_a_tick_may_come_first(rt: HostRuntime) {
     let alloc = rt.alloc();
-    let late = together(alloc, "\"format\":2,\"jitter\":1")?;
+    let late = together(&rt, alloc, "\"format\":2,\"jitter\":1");
     let deeds = [Deed::Fast, Deed::Tick, Deed::Decide, Deed::Slow];
-    let in_time = after(&rt, alloc, late.as_str(), "1", &deeds)?;
-    assert_eq!(rt; in_time.text.as_str(), LATE);
-    assert!(rt; in_time.done && in_time.ended);
+    ends(&rt, alloc, late.as_str(), "1", &deeds, LATE);
 
     // No firing may be two ticks late, and without jitter none may be late at all.
     let twice = [Deed::Fast, Deed::Tick, Deed::Tick];
-    let too_late = after(&rt, alloc, late.as_str(), "2", &twice)?;
-    assert!(rt; !too_late.done);
-    let on_time = together(alloc, "\"format\":1")?;
-    let at_once = after(&rt, alloc, on_time.as_str(), "1", &deeds)?;
-    assert!(rt; !at_once.done);
-    Ok(())
+    let too_late = after(&rt, alloc, late.as_str(), "2", &twice);
+    same(&rt, "two ticks late", too_late.done, false);
+    let on_time = together(&rt, alloc, "\"format\":1");
+    let at_once = after(&rt, alloc, on_time.as_str(), "1", &deeds);
+    same(&rt, "late without jitter", at_once.done, false);
 }

@@ -1,7 +1,6 @@
 //! What texts say as flights, and their first faults. The answers are those of an independent reader of the format.
 use super::*;
-use sot_flight::Flight;
-use std::process::Abort;
+use sot_report::{LoadFail, fault_text};
 
 // The usual flight of the vehicle, and of the relay: a line for each part, with its name and its value.
 const VEHICLE: &str = r#"crew {"fast":{"drafts":[[2]],"kind":"script"}}
@@ -18,68 +17,73 @@ inputs []
 start {}
 sway {}";
 
+// The two parts of a text, before and behind a sign.
+fn cut<'t>(rt: &impl Abort, text: &'t str, sign: &str) -> (&'t str, &'t str) {
+    text.split_once(sign).expect(rt, sign)
+}
+
 // Adds a part to the text of a flight that has been begun.
-fn push_part(alloc: Global, text: &mut String, name: &str, value: &str) -> Result<(), Fail> {
-    let part = format!(in alloc; "\"{name}\":{value}")?;
-    if text.len() > 1 {
-        text.push_str(",")?;
-    }
-    text.push_str(part.as_str())?;
-    Ok(())
+fn push_part(rt: &impl Abort, text: &mut String, name: &str, value: &str) {
+    let comma = if text.len() > 1 { "," } else { "" };
+    write!(text, "{comma}\"{name}\":{value}").expect(rt, "memory");
 }
 
 // The text of a flight with another value for one of its parts.
-fn varied(alloc: Global, parts: &str, part: &str, value: &str) -> Result<String, Fail> {
-    let mut text = String::from_str(alloc, "{")?;
+fn varied(rt: &impl Abort, alloc: Global, parts: &str, part: &str, value: &str) -> String {
+    let mut text = String::from_str(alloc, "{").expect(rt, "memory");
     for line in parts.lines() {
-        let (name, usual) = line.split_once(' ').ok_or("no value")?;
+        let (name, usual) = cut(rt, line, " ");
         let here = if name == part { value } else { usual };
-        push_part(alloc, &mut text, name, here)?;
+        push_part(rt, &mut text, name, here);
     }
-    text.push_str("}")?;
-    Ok(text)
+    text.push_str("}").expect(rt, "memory");
+    text
+}
+
+// The horizon of a mission's flight, its events and its numbers.
+fn counts(rt: &impl Abort, alloc: Global, loaded: &Loaded<'_>) -> String {
+    let Some(flight) = &loaded.flight else {
+        panic!(rt; "no flight");
+    };
+    let (horizon, events, numbers) = (flight.horizon(), flight.events(), flight.numbers());
+    format!(in alloc; "horizon {horizon} events {events} numbers {numbers}\n").expect(rt, "memory")
 }
 
 // What a mission's flight says: its horizon, its events and its numbers; or the line of the mission's fault.
-fn said(alloc: Global, mission: &str, flight: &str, guests: u32) -> Result<String, Fail> {
-    let text = with_flight(alloc, mission, flight)?;
-    let fault = fault_of(alloc, text.as_str(), guests)?;
-    if fault.len() > 0 {
-        return Ok(fault);
+fn said(rt: &impl Abort, alloc: Global, mission: &str, flight: &str, guests: u32) -> String {
+    let text = with_flight(rt, alloc, mission, flight);
+    if text.len() > LONGEST {
+        panic!(rt; "a text that is too long");
     }
-    let loaded = loaded(alloc, text.as_str(), guests)?;
-    match &loaded.flight {
-        Some(flight) => counts(alloc, flight),
-        None => Err(Fail::from(AllocError)),
+    match load(alloc, text.as_bytes(), Need::Fly, guests) {
+        Ok(loaded) => counts(rt, alloc, &loaded),
+        Err(LoadFail::Fault(fault)) => fault_text(alloc, &fault).expect(rt, "memory"),
+        Err(LoadFail::Memory) => panic!(rt; "memory"),
     }
 }
 
-fn counts(alloc: Global, flight: &Flight) -> Result<String, Fail> {
-    let (horizon, events, numbers) = (flight.horizon(), flight.events(), flight.numbers());
-    let first = format!(in alloc; "horizon {horizon} events {events}")?;
-    Ok(format!(in alloc; "{first} numbers {numbers}\n")?)
+// A mission's flight is read as this.
+fn says(rt: &impl Abort, alloc: Global, mission: &str, flight: &str, guests: u32, want: &str) {
+    let found = said(rt, alloc, mission, flight, guests);
+    same(rt, flight, found.as_str().strip_suffix("\n"), Some(want));
 }
 
-// Whether a mission's flights are read as a table says, and how many there are. A row has a count of guests, the part that is not the
-// usual one, its value, and what is said.
-fn say(
-    rt: &impl Abort,
-    alloc: Global,
-    mission: &str,
-    usual: &str,
-    table: &str,
-) -> Result<usize, Fail> {
+// A row of a table has a count of guests, the part that is not the usual one, its value, and what is said.
+fn say_row(rt: &impl Abort, alloc: Global, mission: &str, usual: &str, row: &str) {
+    let (varying, want) = cut(rt, row, " => ");
+    let (guests, varying) = cut(rt, varying, " ");
+    let (part, value) = cut(rt, varying, " ");
+    let guests = guests.parse().ok().expect(rt, "a number");
+    let flight = varied(rt, alloc, usual, part, value);
+    says(rt, alloc, mission, flight.as_str(), guests, want);
+}
+
+// A mission's flights are read as a table of so many rows says.
+fn say(rt: &impl Abort, alloc: Global, mission: &str, usual: &str, table: &str, rows: usize) {
     for row in table.lines() {
-        let (varying, want) = row.split_once(" => ").ok_or("no answer")?;
-        let (guests, varying) = varying.split_once(' ').ok_or("no part")?;
-        let (part, value) = varying.split_once(' ').ok_or("no value")?;
-        let guests = guests.parse().ok().ok_or("no number")?;
-        let flight = varied(alloc, usual, part, value)?;
-        let found = said(alloc, mission, flight.as_str(), guests)?;
-        let want = format!(in alloc; "{want}\n")?;
-        assert_eq!(rt; found.as_str(), want.as_str(), "{row}");
+        say_row(rt, alloc, mission, usual, row);
     }
-    Ok(table.lines().count())
+    same(rt, "rows", table.lines().count(), rows);
 }
 
 const OF_THE_VEHICLE: &str = r#"0 format 1 => horizon 20 events 36 numbers 50
@@ -145,12 +149,10 @@ const OF_THE_VEHICLE: &str = r#"0 format 1 => horizon 20 events 36 numbers 50
 1 crew {"fast":{"kind":"guest","index":0},"slow":{}} => fault flight /crew Unknown"#;
 
 #[test]
-fn each_part_of_a_flight_is_read(rt: HostRuntime) -> Result<(), Fail> {
+fn each_part_of_a_flight_is_read(rt: HostRuntime) {
     let alloc = rt.alloc();
-    let mission = apart(alloc)?;
-    let rows = say(&rt, alloc, mission.as_str(), VEHICLE, OF_THE_VEHICLE)?;
-    assert_eq!(rt; rows, 61);
-    Ok(())
+    let mission = apart(&rt, alloc);
+    say(&rt, alloc, mission.as_str(), VEHICLE, OF_THE_VEHICLE, 61);
 }
 
 const OF_THE_RELAY: &str = r#"0 format 1 => horizon 0 events 1 numbers 1
@@ -173,42 +175,37 @@ const OF_THE_RELAY: &str = r#"0 format 1 => horizon 0 events 1 numbers 1
 0 sway {"e":0} => fault flight /sway Unknown"#;
 
 #[test]
-fn inputs_are_read_in_order(rt: HostRuntime) -> Result<(), Fail> {
-    assert_eq!(rt; say(&rt, rt.alloc(), RELAY, RELAYED, OF_THE_RELAY)?, 18);
-    Ok(())
+fn inputs_are_read_in_order(rt: HostRuntime) {
+    say(&rt, rt.alloc(), RELAY, RELAYED, OF_THE_RELAY, 18);
+}
+
+// Whole texts, and what is said of the vehicle's flight.
+const WHOLE: &str =
+    r#"{"crew":{"fast":{"drafts":[[2]],"kind":"script"}},"format":1,"horizon":20,"inputs":[],"start":{"pos":[0]},"sway":{"pos":{"kind":"list","values":[[0]]}}}x => fault flight / NotJson
+ => fault flight / NotJson
+{} => fault flight /format Missing
+[] => fault flight / WrongShape"#;
+
+// And of the relay's.
+const RELAYED_WHOLE: &str =
+    r#"{"crew":{},"format":1,"horizon":3,"inputs":[{"at":1,"topic":"e","value":[5]},{"at":0,"topic":"e","value":[5]}],"start":{},"sway":{}} => fault flight /inputs/1/at Order
+{"crew":{},"format":1,"horizon":3,"inputs":[{"at":3,"topic":"e","value":[5]},{"at":3,"topic":"e","value":[0]}],"start":{},"sway":{}} => horizon 3 events 6 numbers 3"#;
+
+// A mission's flights are read as a table of so many whole texts says.
+fn say_whole(rt: &impl Abort, alloc: Global, mission: &str, table: &str, rows: usize) {
+    for row in table.lines() {
+        let (flight, want) = cut(rt, row, " => ");
+        says(rt, alloc, mission, flight, 0, want);
+    }
+    same(rt, "rows", table.lines().count(), rows);
 }
 
 #[test]
-fn whole_texts_are_read(rt: HostRuntime) -> Result<(), Fail> {
+fn whole_texts_are_read(rt: HostRuntime) {
     let alloc = rt.alloc();
-    let mission = apart(alloc)?;
-    for (text, want) in [
-        (
-            r#"{"crew":{"fast":{"drafts":[[2]],"kind":"script"}},"format":1,"horizon":20,"inputs":[],"start":{"pos":[0]},"sway":{"pos":{"kind":"list","values":[[0]]}}}x"#,
-            "fault flight / NotJson\n",
-        ),
-        ("", "fault flight / NotJson\n"),
-        ("{}", "fault flight /format Missing\n"),
-        ("[]", "fault flight / WrongShape\n"),
-    ] {
-        let found = said(alloc, mission.as_str(), text, 0)?;
-        assert_eq!(rt; found.as_str(), want);
-    }
-
-    for (text, want) in [
-        (
-            r#"{"crew":{},"format":1,"horizon":3,"inputs":[{"at":1,"topic":"e","value":[5]},{"at":0,"topic":"e","value":[5]}],"start":{},"sway":{}}"#,
-            "fault flight /inputs/1/at Order\n",
-        ),
-        (
-            r#"{"crew":{},"format":1,"horizon":3,"inputs":[{"at":3,"topic":"e","value":[5]},{"at":3,"topic":"e","value":[0]}],"start":{},"sway":{}}"#,
-            "horizon 3 events 6 numbers 3\n",
-        ),
-    ] {
-        let found = said(alloc, RELAY, text, 0)?;
-        assert_eq!(rt; found.as_str(), want);
-    }
-    Ok(())
+    let mission = apart(&rt, alloc);
+    say_whole(&rt, alloc, mission.as_str(), WHOLE, 4);
+    say_whole(&rt, alloc, RELAY, RELAYED_WHOLE, 2);
 }
 
 // A node that fires in each instant.
@@ -219,27 +216,22 @@ node copy period 1 offset 0 { reads e; writes m; do { publish m = e; } }
 {\"format\":1,\"modules\":{}}
 ";
 
+// Inputs at 0, and what is said where a flight of 99,999 ticks has them.
+const MANY: &str = r#" => horizon 99999 events 199999 numbers 100000
+{"at":0,"topic":"e","value":[5]} => horizon 99999 events 200000 numbers 100001
+{"at":0,"topic":"e","value":[5]},{"at":0,"topic":"e","value":[5]} => fault flight / TooManyEvents"#;
+
 #[test]
-fn a_flight_has_at_most_200000_events(rt: HostRuntime) -> Result<(), Fail> {
+fn a_flight_has_at_most_200000_events(rt: HostRuntime) {
     let alloc = rt.alloc();
-    for (inputs, want) in [
-        ("", "horizon 99999 events 199999 numbers 100000\n"),
-        (
-            r#"{"at":0,"topic":"e","value":[5]}"#,
-            "horizon 99999 events 200000 numbers 100001\n",
-        ),
-        (
-            r#"{"at":0,"topic":"e","value":[5]},{"at":0,"topic":"e","value":[5]}"#,
-            "fault flight / TooManyEvents\n",
-        ),
-    ] {
+    for row in MANY.lines() {
+        let (inputs, want) = cut(&rt, row, " => ");
         let flight = format!(in alloc;
             "{{\"crew\":{{}},\"format\":1,\"horizon\":99999,\"inputs\":[{inputs}],\"start\":{{}},\"sway\":{{}}}}"
-        )?;
-        let found = said(alloc, EACH, flight.as_str(), 0)?;
-        assert_eq!(rt; found.as_str(), want);
+        ).expect(&rt, "memory");
+        says(&rt, alloc, EACH, flight.as_str(), 0, want);
     }
-    Ok(())
+    same(&rt, "rows", MANY.lines().count(), 3);
 }
 
 // Two nodes that guests may fly.
@@ -251,25 +243,27 @@ external second period 1 offset 0 { writes b; }
 {\"format\":1,\"modules\":{}}
 ";
 
+// The flight of the two nodes that the guests of these numbers fly.
+fn flown_by(rt: &impl Abort, alloc: Global, first: u32, second: u32) -> String {
+    format!(in alloc;
+        "{{\"crew\":{{\"first\":{{\"index\":{first},\"kind\":\"guest\"}},\"second\":{{\"index\":{second},\"kind\":\"guest\"}}}},\"format\":1,\"horizon\":2,\"inputs\":[],\"start\":{{}},\"sway\":{{}}}}"
+    ).expect(rt, "memory")
+}
+
 #[test]
-fn a_guest_flies_one_node(rt: HostRuntime) -> Result<(), Fail> {
+fn a_guest_flies_one_node(rt: HostRuntime) {
     let alloc = rt.alloc();
-    let one = "fault flight /crew/second/index GuestTwice\n";
-    let two = "horizon 2 events 8 numbers 6\n";
+    let one = "fault flight /crew/second/index GuestTwice";
+    let two = "horizon 2 events 8 numbers 6";
     for (guests, first, second, want) in [
         (2, 0, 1, two),
         (2, 1, 0, two),
         (2, 1, 1, one),
         (1, 0, 0, one),
     ] {
-        let (first, second): (u32, u32) = (first, second);
-        let flight = format!(in alloc;
-            "{{\"crew\":{{\"first\":{{\"index\":{first},\"kind\":\"guest\"}},\"second\":{{\"index\":{second},\"kind\":\"guest\"}}}},\"format\":1,\"horizon\":2,\"inputs\":[],\"start\":{{}},\"sway\":{{}}}}"
-        )?;
-        let found = said(alloc, TWINS, flight.as_str(), guests)?;
-        assert_eq!(rt; found.as_str(), want);
+        let flight = flown_by(&rt, alloc, first, second);
+        says(&rt, alloc, TWINS, flight.as_str(), guests, want);
     }
-    Ok(())
 }
 
 // Two plants of four states and one disturbance, so that each tick has ten numbers, whose nodes write nothing.
@@ -286,25 +280,23 @@ module on_q { ac fast_q; sc slow_q; period 1000 offset 0; plant q; safe [0..0, 0
 {\"format\":1,\"modules\":{\"on_p\":{\"closed\":[[[0,0],[0,0],[0,0],[0,0]]],\"reach\":[[[0,0],[0,0],[0,0],[0,0]]]},\"on_q\":{\"closed\":[[[0,0],[0,0],[0,0],[0,0]]],\"reach\":[[[0,0],[0,0],[0,0],[0,0]]]}}}
 ";
 
+// The flight of the two plants up to this horizon with these inputs.
+fn wide_flight(rt: &impl Abort, alloc: Global, horizon: u32, inputs: &str) -> String {
+    format!(in alloc;
+        "{{\"crew\":{{\"fast_p\":{{\"drafts\":[[]],\"kind\":\"script\"}},\"fast_q\":{{\"drafts\":[[]],\"kind\":\"script\"}}}},\"format\":1,\"horizon\":{horizon},\"inputs\":[{inputs}],\"start\":{{\"p\":[0,0,0,0],\"q\":[0,0,0,0]}},\"sway\":{{\"p\":{{\"kind\":\"low\"}},\"q\":{{\"kind\":\"low\"}}}}}}"
+    ).expect(rt, "memory")
+}
+
 #[test]
-fn a_flight_has_at_most_1000000_numbers(rt: HostRuntime) -> Result<(), Fail> {
+fn a_flight_has_at_most_1000000_numbers(rt: HostRuntime) {
     let alloc = rt.alloc();
     let input = r#"{"at":0,"topic":"e","value":[5]}"#;
     for (horizon, inputs, want) in [
-        (3, input, "horizon 3 events 10 numbers 31\n"),
-        (
-            100_000,
-            "",
-            "horizon 100000 events 100606 numbers 1000000\n",
-        ),
-        (100_000, input, "fault flight / TooManyNumbers\n"),
+        (3, input, "horizon 3 events 10 numbers 31"),
+        (100_000, "", "horizon 100000 events 100606 numbers 1000000"),
+        (100_000, input, "fault flight / TooManyNumbers"),
     ] {
-        let horizon: u32 = horizon;
-        let flight = format!(in alloc;
-            "{{\"crew\":{{\"fast_p\":{{\"drafts\":[[]],\"kind\":\"script\"}},\"fast_q\":{{\"drafts\":[[]],\"kind\":\"script\"}}}},\"format\":1,\"horizon\":{horizon},\"inputs\":[{inputs}],\"start\":{{\"p\":[0,0,0,0],\"q\":[0,0,0,0]}},\"sway\":{{\"p\":{{\"kind\":\"low\"}},\"q\":{{\"kind\":\"low\"}}}}}}"
-        )?;
-        let found = said(alloc, WIDE, flight.as_str(), 0)?;
-        assert_eq!(rt; found.as_str(), want);
+        let flight = wide_flight(&rt, alloc, horizon, inputs);
+        says(&rt, alloc, WIDE, flight.as_str(), 0, want);
     }
-    Ok(())
 }

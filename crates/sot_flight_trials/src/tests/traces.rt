@@ -7,27 +7,37 @@ use sot_workers::fly_alone as fly;
 use sot_world::OpenFail;
 
 // The trace of a mission's flight, or the first module whose plant starts outside its safer region.
-fn trace_of(
-    rt: &(impl Threads + Sync),
-    alloc: Global,
-    text: &str,
-) -> Result<Result<String, u32>, Fail> {
-    let loaded = loaded(alloc, text, 0)?;
+fn trace_of(rt: &(impl Abort + Threads + Sync), alloc: Global, text: &str) -> Result<String, u32> {
+    let loaded = loaded(rt, alloc, text, 0);
     let Some(flight) = &loaded.flight else {
-        return Err(Fail::from(AllocError));
+        panic!(rt; "no flight");
     };
     has_no_guests(&loaded.program, flight);
-    let accepted = match check_all(rt, &loaded.program, &loaded.cert) {
-        Ok(accepted) => accepted,
-        Err(_) => return Err(Fail::from(AllocError)),
+    let Ok(accepted) = check_all(rt, &loaded.program, &loaded.cert) else {
+        panic!(rt; "the mission is refused");
     };
     match Board::open(alloc, &accepted, flight) {
         Ok(mut board) => {
             fly(&mut board, flight);
-            Ok(Ok(board_text(alloc, &board)?))
+            Ok(board_text(alloc, &board).expect(rt, "memory"))
         }
-        Err(OpenFail::NotSafer { module }) => Ok(Err(module)),
-        Err(OpenFail::Memory) => Err(Fail::from(AllocError)),
+        Err(OpenFail::NotSafer { module }) => Err(module),
+        Err(OpenFail::Memory) => panic!(rt; "memory"),
+    }
+}
+
+// Flies a mission's flight, whose trace is this.
+fn flies(
+    rt: &(impl Abort + Threads + Sync),
+    alloc: Global,
+    mission: &str,
+    flight: &str,
+    said: &str,
+) {
+    let text = with_flight(rt, alloc, mission, flight);
+    match trace_of(rt, alloc, text.as_str()) {
+        Ok(trace) => same(rt, flight, trace.as_str(), said),
+        Err(module) => panic!(rt; "module {module} starts outside"),
     }
 }
 
@@ -78,9 +88,9 @@ end 20 events 36 refused 0
 ";
 
 #[test]
-fn flies_as_the_flight_states(rt: HostRuntime) -> Result<(), Fail> {
+fn flies_as_the_flight_states(rt: HostRuntime) {
     let alloc = rt.alloc();
-    let mission = apart(alloc)?;
+    let mission = apart(&rt, alloc);
     for (start, horizon, sway, crew, said) in [
         ("0", "20", CALM, TWO, SWITCHED),
         (
@@ -112,42 +122,31 @@ fn flies_as_the_flight_states(rt: HostRuntime) -> Result<(), Fail> {
             "soter trace 1\nstart pos 0\n0 decide nav ac\n0 tick pos(0)=0\n1 idle slow cmd=0\n1 tick pos(0)=0\n2 fire fast\n2 tick pos(0)=0\nend 3 events 6 refused 0\n",
         ),
     ] {
-        let flight = flight(alloc, start, horizon, sway, crew)?;
-        let text = with_flight(alloc, mission.as_str(), flight.as_str())?;
-        match trace_of(&rt, alloc, text.as_str())? {
-            Ok(trace) => assert_eq!(rt; trace.as_str(), said),
-            Err(_) => return Err(Fail::from(AllocError)),
-        }
+        let flight = flight(&rt, alloc, start, horizon, sway, crew);
+        flies(&rt, alloc, mission.as_str(), flight.as_str(), said);
     }
-    Ok(())
 }
 
 #[test]
-fn no_flight_starts_outside(rt: HostRuntime) -> Result<(), Fail> {
+fn no_flight_starts_outside(rt: HostRuntime) {
     let alloc = rt.alloc();
-    let mission = apart(alloc)?;
-    let flight = flight(alloc, "11", "3", CALM, TWO)?;
-    let text = with_flight(alloc, mission.as_str(), flight.as_str())?;
-    assert!(rt; trace_of(&rt, alloc, text.as_str())?.is_err());
-    Ok(())
+    let mission = apart(&rt, alloc);
+    let flight = flight(&rt, alloc, "11", "3", CALM, TWO);
+    let text = with_flight(&rt, alloc, mission.as_str(), flight.as_str());
+    let trace = trace_of(&rt, alloc, text.as_str());
+    same(&rt, "outside", trace.is_err(), true);
 }
 
 #[test]
-fn an_input_comes_before_the_firing_of_its_time(rt: HostRuntime) -> Result<(), Fail> {
+fn an_input_comes_before_the_firing_of_its_time(rt: HostRuntime) {
     let alloc = rt.alloc();
-    let text = with_flight(
+    flies(
+        &rt,
         alloc,
         RELAY,
         "{\"crew\":{},\"format\":1,\"horizon\":0,\"inputs\":[{\"at\":0,\"topic\":\"e\",\"value\":[5]}],\"start\":{},\"sway\":{}}",
-    )?;
-    match trace_of(&rt, alloc, text.as_str())? {
-        Ok(trace) => assert_eq!(rt;
-            trace.as_str(),
-            "soter trace 1\n0 input e=5\n0 fire copy m=5\nend 0 events 2 refused 0\n"
-        ),
-        Err(_) => return Err(Fail::from(AllocError)),
-    }
-    Ok(())
+        "soter trace 1\n0 input e=5\n0 fire copy m=5\nend 0 events 2 refused 0\n",
+    );
 }
 
 // The first decision enables the node `fast`, whose draft is refused.
@@ -218,9 +217,9 @@ end 5 events 11 refused 0
 ";
 
 #[test]
-fn idle_nodes_draft_too(rt: HostRuntime) -> Result<(), Fail> {
+fn idle_nodes_draft_too(rt: HostRuntime) {
     let alloc = rt.alloc();
-    let mission = together(alloc, "\"format\":1")?;
+    let mission = together(&rt, alloc, "\"format\":1");
     for (horizon, sway, crew, said) in [
         ("0", CALM, "{\"drafts\":[[7]],\"kind\":\"script\"}", REFUSED),
         (
@@ -230,30 +229,21 @@ fn idle_nodes_draft_too(rt: HostRuntime) -> Result<(), Fail> {
             ROWS,
         ),
     ] {
-        let flight = flight(alloc, "10", horizon, sway, crew)?;
-        let text = with_flight(alloc, mission.as_str(), flight.as_str())?;
-        match trace_of(&rt, alloc, text.as_str())? {
-            Ok(trace) => assert_eq!(rt; trace.as_str(), said),
-            Err(_) => return Err(Fail::from(AllocError)),
-        }
+        let flight = flight(&rt, alloc, "10", horizon, sway, crew);
+        flies(&rt, alloc, mission.as_str(), flight.as_str(), said);
     }
-    Ok(())
 }
 
 #[test]
-fn each_disturbance_takes_a_word(rt: HostRuntime) -> Result<(), Fail> {
+fn each_disturbance_takes_a_word(rt: HostRuntime) {
     let alloc = rt.alloc();
     let flight = flight(
+        &rt,
         alloc,
         "0",
         "5",
         "{\"kind\":\"seed\",\"seed\":42,\"stream\":54}",
         "{\"drafts\":[[0]],\"kind\":\"script\"}",
-    )?;
-    let text = with_flight(alloc, GUSTY, flight.as_str())?;
-    match trace_of(&rt, alloc, text.as_str())? {
-        Ok(trace) => assert_eq!(rt; trace.as_str(), GUSTS),
-        Err(_) => return Err(Fail::from(AllocError)),
-    }
-    Ok(())
+    );
+    flies(&rt, alloc, GUSTY, flight.as_str(), GUSTS);
 }

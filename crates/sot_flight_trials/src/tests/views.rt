@@ -117,25 +117,26 @@ fn commit_late(board: &mut Board<'_>, node: u32) -> Option<Late>
 }
 
 #[test]
-fn a_view_from_before_an_input_is_not_committed(rt: HostRuntime) -> Result<(), Fail> {
+fn a_view_from_before_an_input_is_not_committed(rt: HostRuntime) {
     let alloc = rt.alloc();
     let text = with_flight(
+        &rt,
         alloc,
         RELAY,
         "{\"crew\":{},\"format\":1,\"horizon\":0,\"inputs\":[{\"at\":0,\"topic\":\"e\",\"value\":[5]}],\"start\":{},\"sway\":{}}",
-    )?;
-    let loaded = loaded(alloc, text.as_str(), 0)?;
+    );
+    let loaded = loaded(&rt, alloc, text.as_str(), 0);
     let Some(stated) = &loaded.flight else {
-        return Err(Fail::from(AllocError));
+        panic!(rt; "no flight");
     };
     let Ok(accepted) = check_all(&rt, &loaded.program, &loaded.cert) else {
-        return Err(Fail::from(AllocError));
+        panic!(rt; "the mission is refused");
     };
     let Ok(mut board) = Board::open(alloc, &accepted, stated) else {
-        return Err(Fail::from(AllocError));
+        panic!(rt; "the flight does not start");
     };
     if board.typed().nodes.len() == 0 || !is_coded(board.typed(), 0) || !board.due_input() {
-        return Err(Fail::from(AllocError));
+        panic!(rt; "no node with code, or no input");
     }
     let said = Late {
         seen: Some(0),
@@ -146,8 +147,7 @@ fn a_view_from_before_an_input_is_not_committed(rt: HostRuntime) -> Result<(), F
         place: 1,
         recorded: Some(5),
     };
-    assert_eq!(rt; commit_late(&mut board, 0), Some(said));
-    Ok(())
+    same(&rt, "late", commit_late(&mut board, 0), Some(said));
 }
 
 // What `copy` copies, once `fast` has fired beside it.
@@ -198,49 +198,48 @@ module nav { ac fast; sc slow; period 4 offset 0; plant pos; safe [-40..40]; saf
 {\"format\":1,\"modules\":{\"nav\":{\"closed\":[[[-40,-11]],[[-10,10]],[[11,40]]],\"reach\":[[[-10,10]]]}}}
 ";
 
-// What `copy` copies beside the first firing of `fast`, which comes once these deeds are done.
+const TWO: &str = "{\"drafts\":[[2]],\"kind\":\"script\"}";
+
+const SEVEN: &str = "{\"drafts\":[[7]],\"kind\":\"script\"}";
+
+// What `copy` copies beside the first firing of `fast` with this script, which comes once these deeds are done.
 fn beside(
-    rt: &(impl Threads + Sync),
+    rt: &(impl Abort + Threads + Sync),
     alloc: Global,
-    draft: i64,
+    crew: &str,
     deeds: &[Deed],
-) -> Result<Option<Copied>, Fail> {
-    let crew = format!(in alloc; "{{\"drafts\":[[{draft}]],\"kind\":\"script\"}}")?;
-    let flight = flight(alloc, "10", "0", "{\"kind\":\"low\"}", crew.as_str())?;
-    let text = with_flight(alloc, COPIED, flight.as_str())?;
-    let loaded = loaded(alloc, text.as_str(), 0)?;
+) -> Option<Copied> {
+    let flight = flight(rt, alloc, "10", "0", "{\"kind\":\"low\"}", crew);
+    let text = with_flight(rt, alloc, COPIED, flight.as_str());
+    let loaded = loaded(rt, alloc, text.as_str(), 0);
     let Some(stated) = &loaded.flight else {
-        return Err(Fail::from(AllocError));
+        panic!(rt; "no flight");
     };
     has_no_guests(&loaded.program, stated);
     let Ok(accepted) = check_all(rt, &loaded.program, &loaded.cert) else {
-        return Err(Fail::from(AllocError));
+        panic!(rt; "the mission is refused");
     };
     let Ok(mut board) = Board::open(alloc, &accepted, stated) else {
-        return Err(Fail::from(AllocError));
+        panic!(rt; "the flight does not start");
     };
     if !does_all(&mut board, stated, deeds) {
-        return Err(Fail::from(AllocError));
+        panic!(rt; "a deed may not be done");
     }
     let p = board.typed();
     if p.nodes.len() < 3 || is_coded(p, 0) || !is_coded(p, 2) {
-        return Err(Fail::from(AllocError));
+        panic!(rt; "the nodes have other sorts");
     }
-    Ok(commit_beside(&mut board, 0, 2))
+    commit_beside(&mut board, 0, 2)
 }
 
 #[test]
-fn a_draft_that_is_not_published_changes_no_view(rt: HostRuntime) -> Result<(), Fail> {
+fn a_draft_that_is_not_published_changes_no_view(rt: HostRuntime) {
     let alloc = rt.alloc();
     // Before the first decision `fast` is idle, and after it it is enabled.
-    assert_eq!(rt; beside(&rt, alloc, 2, &[])?, Some(Copied::Done(Some(0))));
-    assert_eq!(rt;
-        beside(&rt, alloc, 7, &[Deed::Decide])?,
-        Some(Copied::Done(Some(0)))
-    );
-    assert_eq!(rt;
-        beside(&rt, alloc, 2, &[Deed::Decide])?,
-        Some(Copied::Again(Some(2)))
-    );
-    Ok(())
+    let idle = beside(&rt, alloc, TWO, &[]);
+    same(&rt, "idle", idle, Some(Copied::Done(Some(0))));
+    let refused = beside(&rt, alloc, SEVEN, &[Deed::Decide]);
+    same(&rt, "refused", refused, Some(Copied::Done(Some(0))));
+    let published = beside(&rt, alloc, TWO, &[Deed::Decide]);
+    same(&rt, "published", published, Some(Copied::Again(Some(2))));
 }
