@@ -1,20 +1,27 @@
 //! The canonical text of programs that are written in other ways.
+use super::same;
 use sot_parser::{ParseFail, parse};
 use sot_print::print;
 use sot_text::Lexer;
-use std::alloc::{AllocError, Global};
-use std::test::Fail;
+use std::alloc::Global;
+use std::process::Abort;
 
 // The canonical text of what a text spells, and nothing of one that spells no program.
-fn canonical(alloc: Global, text: &str) -> Result<Option<String>, AllocError> {
+fn canonical(rt: &impl Abort, alloc: Global, text: &str) -> Option<String> {
     if text.len() > 10_000 {
-        return Ok(None);
+        return None;
     }
     match parse(alloc, &mut Lexer::new(text.as_bytes())) {
-        Ok(program) => Ok(Some(print(alloc, &program)?)),
-        Err(ParseFail::Memory) => Err(AllocError),
-        Err(ParseFail::Syntax(_)) => Ok(None),
+        Ok(program) => Some(print(alloc, &program).expect(rt, "memory")),
+        Err(ParseFail::Memory) => panic!(rt; "memory"),
+        Err(ParseFail::Syntax(_)) => None,
     }
+}
+
+// The text is laid out as this.
+fn lays_out(rt: &impl Abort, alloc: Global, text: &str, want: Option<&str>) {
+    let found = canonical(rt, alloc, text);
+    same(rt, text, found.as_deref(), want);
 }
 
 const WRITTEN: &str = "environment topic cmd : int [ -2 .. 2 ]=0; # a command
@@ -69,7 +76,7 @@ module nav {
 ";
 
 #[test]
-fn lays_programs_out(rt: HostRuntime) -> Result<(), Fail> {
+fn lays_programs_out(rt: HostRuntime) {
     for (text, want) in [
         ("", Some("")),
         ("# nothing", Some("")),
@@ -77,8 +84,6 @@ fn lays_programs_out(rt: HostRuntime) -> Result<(), Fail> {
         (CANONICAL, Some(CANONICAL)),
         ("topic a: int[0..1] = ;", None),
     ] {
-        let text = canonical(rt.alloc(), text)?;
-        assert_eq!(rt; text.as_deref(), want);
+        lays_out(&rt, rt.alloc(), text, want);
     }
-    Ok(())
 }

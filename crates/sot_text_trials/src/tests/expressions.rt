@@ -1,9 +1,10 @@
 //! Which tree a text has as an expression, where its parts stand, and how deep it may nest.
+use super::{cut, same};
 use sot_expression::{Fail, Tokens, tree};
 use sot_text::Lexer;
 use sot_tree::{Expr, Ident, Lit};
 use std::alloc::{AllocError, Global};
-use std::test::Fail as TestFail;
+use std::process::Abort;
 
 // How much room there is, a text, and what is read: the tree, or the fault, and the place of the next
 // token. Each word of a tree stands in front of its parts, with the place of its token; a number is its digits and
@@ -147,48 +148,76 @@ fn show(tree: &Expr, out: &mut String) -> Result<(), AllocError> {
     }
 }
 
-fn said(alloc: Global, room: u32, text: &str) -> Result<String, AllocError> {
-    let mut out = String::new(alloc);
-    if text.len() > 10_000 {
-        return Ok(out);
+// The tree of a text with this room, or its fault.
+fn show_tree(
+    alloc: Global,
+    room: u32,
+    tokens: &mut Tokens<'_>,
+    out: &mut String,
+) -> Result<(), AllocError> {
+    match tree(alloc, tokens, room.clamp(1, 64)) {
+        Ok(tree) => show(&tree, out),
+        Err(Fail::Token) => out.push_str("token"),
+        Err(Fail::Deep) => out.push_str("deep"),
+        Err(Fail::Memory) => Err(AllocError),
     }
-    let mut tokens = Tokens::new(Lexer::new(text.as_bytes()));
-    match tree(alloc, &mut tokens, room.clamp(1, 64)) {
-        Ok(tree) => show(&tree, &mut out)?,
-        Err(Fail::Token) => out.push_str("token")?,
-        Err(Fail::Deep) => {
-            out.push_str("deep")?;
-            return Ok(out);
-        }
-        Err(Fail::Memory) => return Err(AllocError),
+}
+
+// The place of the next token, but where the tree is too deep.
+fn show_next(tokens: &Tokens<'_>, out: &mut String) -> Result<(), AllocError> {
+    if out.as_str() == "deep" {
+        return Ok(());
     }
     match tokens.peek() {
-        Some(token) => write!(out, " at {}", token.at.from)?,
-        None => out.push_str(" at end")?,
+        Some(token) => write!(out, " at {}", token.at.from),
+        None => out.push_str(" at end"),
     }
-    Ok(out)
+}
+
+fn said(rt: &impl Abort, alloc: Global, room: u32, text: &str) -> String {
+    let mut out = String::new(alloc);
+    if text.len() > 10_000 {
+        return out;
+    }
+    let mut tokens = Tokens::new(Lexer::new(text.as_bytes()));
+    show_tree(alloc, room, &mut tokens, &mut out).expect(rt, "memory");
+    show_next(&tokens, &mut out).expect(rt, "memory");
+    out
+}
+
+// A row has how much room there is, a text, and what is read.
+fn read_row(rt: &impl Abort, alloc: Global, row: &str) {
+    let (room, row) = cut(rt, row, " | ");
+    let (text, want) = cut(rt, row, " => ");
+    let room = room.parse().ok().expect(rt, "a number");
+    let read = said(rt, alloc, room, text);
+    same(rt, (room, text), read.as_str().trim_start(), want);
 }
 
 #[test]
-fn reads_expressions(rt: HostRuntime) -> Result<(), TestFail> {
-    let alloc = rt.alloc();
+fn reads_expressions(rt: HostRuntime) {
     for row in READ.lines() {
-        let (room, row) = row.split_once(" | ").ok_or("no room")?;
-        let (text, want) = row.split_once(" => ").ok_or("no answer")?;
-        let room = room.parse().ok().ok_or("no number")?;
-        let read = said(alloc, room, text)?;
-        assert_eq!(rt;
-            read.as_str().trim_start(),
-            want,
-            "at {text} with room for {room}"
-        );
+        read_row(&rt, rt.alloc(), row);
     }
-    assert_eq!(rt; READ.lines().count(), 77);
-    Ok(())
+    same(&rt, "rows", READ.lines().count(), 77);
+}
+
+// A name between so many of each.
+fn nested(rt: &impl Abort, alloc: Global, before: &str, behind: &str, count: usize) -> String {
+    let before = before.repeat(alloc, count).expect(rt, "memory");
+    let behind = behind.repeat(alloc, count).expect(rt, "memory");
+    format!(in alloc; "{before}a{behind}").expect(rt, "memory")
+}
+
+// Whether such a text is too deep.
+fn is_deep(rt: &impl Abort, alloc: Global, before: &str, behind: &str, count: usize) -> bool {
+    let text = nested(rt, alloc, before, behind, count);
+    let read = said(rt, alloc, 64, text.as_str());
+    read.starts_with("deep")
 }
 
 #[test]
-fn reads_64_levels_and_no_more(rt: HostRuntime) -> Result<(), TestFail> {
+fn reads_64_levels_and_no_more(rt: HostRuntime) {
     let alloc = rt.alloc();
     for (before, behind, most) in [
         ("(", ")", 64),
@@ -197,18 +226,9 @@ fn reads_64_levels_and_no_more(rt: HostRuntime) -> Result<(), TestFail> {
         ("not ", "", 63),
         ("", " + a", 63),
     ] {
-        for (count, want) in [(most, false), (most + 1, true)] {
-            let mut text = String::new(alloc);
-            for _ in 0..count {
-                text.push_str(before)?;
-            }
-            text.push_str("a")?;
-            for _ in 0..count {
-                text.push_str(behind)?;
-            }
-            let deep = said(alloc, 64, &text)?.starts_with("deep");
-            assert_eq!(rt; deep, want, "{count} times {before}");
-        }
+        let deep = is_deep(&rt, alloc, before, behind, most);
+        same(&rt, before, deep, false);
+        let deep = is_deep(&rt, alloc, before, behind, most + 1);
+        same(&rt, before, deep, true);
     }
-    Ok(())
 }

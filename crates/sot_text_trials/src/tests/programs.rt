@@ -1,10 +1,10 @@
 //! Which program a text spells, and where one that spells none goes wrong.
-use super::unescaped;
+use super::{cut, same, unescaped};
 use sot_parser::{ParseFail, Syntax, parse};
 use sot_text::{LexFault, Lexer};
 use sot_tree::{Decl, Program, Stmt};
 use std::alloc::Global;
-use std::test::Fail;
+use std::process::Abort;
 
 const LINE: &str = "topic cmd: int[-2..2] = 0;
 plant pos {
@@ -71,102 +71,113 @@ fn fault_of(alloc: Global, text: &str) -> Option<(u32, u32, &'static str)> {
     Some((at.line, at.column, kind))
 }
 
-#[test]
-fn reads_a_program(rt: HostRuntime) -> Result<(), Fail> {
-    let Ok(program) = parsed(rt.alloc(), LINE) else {
-        assert!(rt; false);
-        return Ok(());
-    };
-    assert_eq!(rt; program.decls.len(), 5);
-    let Decl::Plant(plant) = &program.decls[1] else {
-        assert!(rt; false);
-        return Ok(());
-    };
-    assert_eq!(rt; plant.name.name.as_bytes(), b"pos".as_slice());
-    assert_eq!(rt;
-        (plant.states.len(), plant.inputs.len(), plant.sees.len()),
-        (1, 1, 0)
-    );
-    assert_eq!(rt;
-        (plant.noise.len(), plant.next.len(), plant.end.line),
-        (1, 1, 7)
-    );
-    let Decl::Module(module) = &program.decls[4] else {
-        assert!(rt; false);
-        return Ok(());
-    };
-    assert_eq!(rt; module.safe.len(), 1);
-    let safe = &module.safe[0];
-    assert_eq!(rt; safe.sides.len(), 1);
-    assert_eq!(rt; safe.sides[0].lo.mantissa, -40);
-    Ok(())
+// The program of a text.
+fn program_of(rt: &impl Abort, alloc: Global, text: &str) -> Program {
+    match parsed(alloc, text) {
+        Ok(program) => program,
+        Err(_) => panic!(rt; "no program: {text}"),
+    }
+}
+
+fn decl_at<'p>(rt: &impl Abort, program: &'p Program, i: usize) -> &'p Decl {
+    program.decls.get(i).expect(rt, "a declaration")
 }
 
 #[test]
-fn reads_statements(rt: HostRuntime) -> Result<(), Fail> {
+fn reads_a_plant(rt: HostRuntime) {
+    let program = program_of(&rt, rt.alloc(), LINE);
+    same(&rt, "declarations", program.decls.len(), 5);
+    let Decl::Plant(plant) = decl_at(&rt, &program, 1) else {
+        panic!(rt; "no plant");
+    };
+    same(&rt, "name", plant.name.name.as_bytes(), b"pos".as_slice());
+    let taken = (plant.states.len(), plant.inputs.len(), plant.sees.len());
+    same(&rt, "states, inputs, sees", taken, (1, 1, 0));
+    let moved = (plant.noise.len(), plant.next.len(), plant.end.line);
+    same(&rt, "noise, next, end", moved, (1, 1, 7));
+}
+
+#[test]
+fn reads_a_module(rt: HostRuntime) {
+    let program = program_of(&rt, rt.alloc(), LINE);
+    let Decl::Module(module) = decl_at(&rt, &program, 4) else {
+        panic!(rt; "no module");
+    };
+    same(&rt, "safe", module.safe.len(), 1);
+    let safe = module.safe.get(0).expect(&rt, "a box");
+    same(&rt, "sides", safe.sides.len(), 1);
+    let side = safe.sides.get(0).expect(&rt, "a side");
+    same(&rt, "low end", side.lo.mantissa, -40);
+}
+
+#[test]
+fn reads_statements(rt: HostRuntime) {
     let text = "node n period 1 offset 0 { do {
 a := 1; publish m.f = a; if a > 0 { } else { repeat 3 { a := a + 1; } } if true { publish m = 2; } } }";
-    let Ok(program) = parsed(rt.alloc(), text) else {
-        assert!(rt; false);
-        return Ok(());
-    };
-    assert_eq!(rt; program.decls.len(), 1);
-    let Decl::Node(node) = &program.decls[0] else {
-        assert!(rt; false);
-        return Ok(());
+    let program = program_of(&rt, rt.alloc(), text);
+    same(&rt, "declarations", program.decls.len(), 1);
+    let Decl::Node(node) = decl_at(&rt, &program, 0) else {
+        panic!(rt; "no node");
     };
     let Some(body) = &node.body else {
-        assert!(rt; false);
-        return Ok(());
+        panic!(rt; "no code");
     };
-    assert_eq!(rt; body.len(), 4);
-    let Stmt::If { yes, no, at, .. } = &body[2] else {
-        assert!(rt; false);
-        return Ok(());
+    same(&rt, "statements", body.len(), 4);
+    let Some(Stmt::If { yes, no, at, .. }) = body.get(2) else {
+        panic!(rt; "no choice");
     };
-    assert_eq!(rt; (yes.len(), no.len(), at.column), (0, 1, 26));
-    Ok(())
+    same(&rt, "if", (yes.len(), no.len(), at.column), (0, 1, 26));
+}
+
+// The fault of a row's text is what stands behind it.
+fn fault_is(rt: &impl Abort, alloc: Global, row: &str) {
+    let (text, want) = cut(rt, row, " => ");
+    let text = unescaped(rt, alloc, text);
+    let (line, column, kind) = fault_of(alloc, text.as_str()).expect(rt, "a fault");
+    let found = format!(in alloc; "{line}:{column} {kind}").expect(rt, "memory");
+    same(rt, row, found.as_str(), want);
 }
 
 #[test]
-fn names_the_place_of_a_fault(rt: HostRuntime) -> Result<(), Fail> {
+fn names_the_place_of_a_fault(rt: HostRuntime) {
     let alloc = rt.alloc();
     let fields = "environment topic a: {x: bool, y: fix(2)[0.5..1.5]} = {true, 1};";
     for text in ["", " # nothing", LINE, fields] {
-        assert_eq!(rt; fault_of(alloc, text), None, "at {text}");
+        same(&rt, text, fault_of(alloc, text), None);
     }
     for row in FAULTS.lines() {
-        let (text, want) = row.split_once(" => ").ok_or("no answer")?;
-        let text = unescaped(alloc, text)?;
-        let (line, column, kind) = fault_of(alloc, &text).ok_or("no fault")?;
-        let found = format!(in alloc; "{line}:{column} {kind}")?;
-        assert_eq!(rt; found.as_str(), want, "at {text}");
+        fault_is(&rt, alloc, row);
     }
-    assert_eq!(rt; FAULTS.lines().count(), 13);
-    Ok(())
+    same(&rt, "rows", FAULTS.lines().count(), 13);
+}
+
+// A node with so many loops, one in the other, round a statement or none.
+fn looped(rt: &impl Abort, alloc: Global, loops: usize, inner: &str) -> String {
+    let open = "repeat 2 { ".repeat(alloc, loops).expect(rt, "memory");
+    let close = "} ".repeat(alloc, loops).expect(rt, "memory");
+    format!(in alloc; "node n period 1 offset 0 {{ do {{ {open}{inner}{close}}} }}").expect(
+        rt, "memory",
+    )
+}
+
+// Whether such a node is read.
+fn fits(rt: &impl Abort, alloc: Global, loops: usize, inner: &str) -> bool {
+    let text = looped(rt, alloc, loops, inner);
+    parsed(alloc, text.as_str()).is_ok()
 }
 
 #[test]
-fn nests_at_most_64_levels(rt: HostRuntime) -> Result<(), Fail> {
+fn nests_at_most_64_levels(rt: HostRuntime) {
     let alloc = rt.alloc();
-    for (loops, tight) in [(63, true), (64, false), (65, false)] {
-        for (inner, extra) in [("a := 1;", 0), ("", 1)] {
-            let mut text = String::from_str(alloc, "node n period 1 offset 0 { do { ")?;
-            for _ in 0..loops {
-                text.push_str("repeat 2 { ")?;
-            }
-            text.push_str(inner)?;
-            for _ in 0..loops {
-                text.push_str("} ")?;
-            }
-            text.push_str("} }")?;
-            let fits = tight || (loops == 64 && extra == 1);
-            assert_eq!(rt;
-                parsed(alloc, &text).is_ok(),
-                fits,
-                "{loops} loops round {inner}"
-            );
-        }
+    for (loops, inner, want) in [
+        (63, "a := 1;", true),
+        (63, "", true),
+        (64, "a := 1;", false),
+        (64, "", true),
+        (65, "a := 1;", false),
+        (65, "", false),
+    ] {
+        let found = fits(&rt, alloc, loops, inner);
+        same(&rt, (loops, inner), found, want);
     }
-    Ok(())
 }

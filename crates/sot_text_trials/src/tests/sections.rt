@@ -1,10 +1,8 @@
 //! The sections of a mission, and the first fault of a text without them.
-use super::unescaped;
+use super::{cut, same, unescaped};
 use sot_text::{Need, split};
 use std::alloc::Global;
 use std::process::Abort;
-use std::str::Utf8Error;
-use std::test::Fail;
 
 // Texts with their parts, or the line and the kind of their fault: where the certificate is needed, the flight too, and the trace too.
 const CHECK: &str = r#" => 1 Missing
@@ -39,45 +37,53 @@ a\n\n%trace\n% => 4 Unknown
 %certificate\n%flight\n%trace => "" "" Some("") Some("")
 %certificate\n%flight\n%trace\n\r\n% => 5 Unknown"#;
 
-fn part(bytes: Option<&[u8]>) -> Result<Option<&str>, Utf8Error> {
+fn text_of<'t>(rt: &impl Abort, bytes: &'t [u8]) -> &'t str {
+    str::from_utf8(bytes).expect(rt, "a text")
+}
+
+fn part<'t>(rt: &impl Abort, bytes: Option<&'t [u8]>) -> Option<&'t str> {
     match bytes {
-        Some(bytes) => Ok(Some(str::from_utf8(bytes)?)),
-        None => Ok(None),
+        Some(bytes) => Some(text_of(rt, bytes)),
+        None => None,
     }
 }
 
 // The parts of a text, or the line and the kind of its fault.
-fn said(alloc: Global, text: &str, need: Need) -> Result<String, Fail> {
+fn said(rt: &impl Abort, alloc: Global, text: &str, need: Need) -> String {
     if text.len() > 1_000 {
-        return Err(Fail::new("a long text"));
+        panic!(rt; "a long text");
     }
-    match split(text.as_bytes(), need) {
+    let said = match split(text.as_bytes(), need) {
         Ok(parts) => {
-            let program = str::from_utf8(parts.program)?;
-            let cert = str::from_utf8(parts.cert)?;
-            let (flight, trace) = (part(parts.flight)?, part(parts.trace)?);
-            Ok(format!(in alloc; "{program:?} {cert:?} {flight:?} {trace:?}")?)
+            let (program, cert) = (text_of(rt, parts.program), text_of(rt, parts.cert));
+            let (flight, trace) = (part(rt, parts.flight), part(rt, parts.trace));
+            format!(in alloc; "{program:?} {cert:?} {flight:?} {trace:?}")
         }
-        Err(fault) => Ok(format!(in alloc; "{} {:?}", fault.line, fault.kind)?),
-    }
+        Err(fault) => format!(in alloc; "{} {:?}", fault.line, fault.kind),
+    };
+    said.expect(rt, "memory")
 }
 
-// Whether each text of a table is said to be what stands behind it, and how many there are.
-fn say(rt: &impl Abort, alloc: Global, need: Need, table: &str) -> Result<usize, Fail> {
+// A row's text is said to be what stands behind it.
+fn say_row(rt: &impl Abort, alloc: Global, need: Need, row: &str) {
+    let (text, want) = cut(rt, row, " => ");
+    let text = unescaped(rt, alloc, text);
+    let found = said(rt, alloc, text.as_str(), need);
+    same(rt, row, found.as_str(), want);
+}
+
+// Each text of a table of so many rows is said to be what stands behind it.
+fn say(rt: &impl Abort, alloc: Global, need: Need, table: &str, rows: usize) {
     for row in table.lines() {
-        let (text, want) = row.split_once(" => ").ok_or("no answer")?;
-        let text = unescaped(alloc, text)?;
-        let found = said(alloc, &text, need)?;
-        assert_eq!(rt; found.as_str(), want, "at {text}");
+        say_row(rt, alloc, need, row);
     }
-    Ok(table.lines().count())
+    same(rt, "rows", table.lines().count(), rows);
 }
 
 #[test]
-fn divides_missions_into_sections(rt: HostRuntime) -> Result<(), Fail> {
+fn divides_missions_into_sections(rt: HostRuntime) {
     let alloc = rt.alloc();
-    assert_eq!(rt; say(&rt, alloc, Need::Check, CHECK)?, 18);
-    assert_eq!(rt; say(&rt, alloc, Need::Fly, FLY)?, 4);
-    assert_eq!(rt; say(&rt, alloc, Need::Replay, REPLAY)?, 6);
-    Ok(())
+    say(&rt, alloc, Need::Check, CHECK, 18);
+    say(&rt, alloc, Need::Fly, FLY, 4);
+    say(&rt, alloc, Need::Replay, REPLAY, 6);
 }

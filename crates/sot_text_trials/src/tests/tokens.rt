@@ -1,8 +1,8 @@
 //! Tokens, their places, their limits and their faults.
-use super::unescaped;
-use sot_text::{LexFault, Lexer, Span, numeral_of};
+use super::{cut, same, unescaped};
+use sot_text::{LexFault, Lexer, Span, Token, numeral_of};
 use std::alloc::{AllocError, Global};
-use std::test::Fail;
+use std::process::Abort;
 
 const TEXT: &str = "topic x1: int[-2..\n\t2.5] # c := d\n  :=_9";
 
@@ -86,66 +86,75 @@ fn first(alloc: Global, text: &str) -> Result<String, AllocError> {
     format!(in alloc; "{fault} {at}")
 }
 
+// A token, by kind, with its place.
+fn token_text(alloc: Global, token: &Token<'_>) -> Result<String, AllocError> {
+    let at = place_text(alloc, token.at)?;
+    let word = str::from_utf8(token.text).unwrap_or("no text");
+    format!(in alloc; "{:?} {word} {at}", token.kind)
+}
+
+// The next token is this one.
+fn next_is(rt: &impl Abort, alloc: Global, lexer: &mut Lexer<'_>, want: &str) {
+    match lexer.next() {
+        Ok(Some(token)) => {
+            let found = token_text(alloc, &token).expect(rt, "memory");
+            same(rt, want, found.as_str(), want);
+        }
+        _ => panic!(rt; "no token {want}"),
+    }
+}
+
 #[test]
-fn reads_tokens_with_their_places(rt: HostRuntime) -> Result<(), Fail> {
-    let alloc = rt.alloc();
+fn reads_tokens_with_their_places(rt: HostRuntime) {
     let mut lexer = Lexer::new(TEXT.as_bytes());
-    assert_eq!(rt; lexer.end(), place(3, 7, 40, 40));
+    same(&rt, "end", lexer.end(), place(3, 7, 40, 40));
     for want in TOKENS.lines() {
-        match lexer.next() {
-            Ok(Some(token)) => {
-                let word = str::from_utf8(token.text)?;
-                let at = place_text(alloc, token.at)?;
-                let found = format!(in alloc; "{:?} {word} {at}", token.kind)?;
-                assert_eq!(rt; found.as_str(), want);
-            }
-            _ => assert!(rt; false, "at {want}"),
-        }
+        next_is(&rt, rt.alloc(), &mut lexer, want);
     }
-    assert_eq!(rt; TOKENS.lines().count(), 12);
-    assert!(rt; matches!(lexer.next(), Ok(None)));
-    assert!(rt; matches!(lexer.again().next(), Ok(None)));
-    Ok(())
+    same(&rt, "tokens", TOKENS.lines().count(), 12);
+    same(&rt, "next", matches!(lexer.next(), Ok(None)), true);
+    same(&rt, "again", matches!(lexer.again().next(), Ok(None)), true);
+}
+
+// The first token of a row's text is as stands behind it.
+fn first_is(rt: &impl Abort, alloc: Global, row: &str) {
+    let (text, want) = cut(rt, row, " => ");
+    let text = unescaped(rt, alloc, text);
+    let found = first(alloc, text.as_str()).expect(rt, "memory");
+    same(rt, row, found.as_str(), want);
 }
 
 #[test]
-fn takes_the_longest_token_within_its_limits(rt: HostRuntime) -> Result<(), Fail> {
-    let alloc = rt.alloc();
+fn takes_the_longest_token_within_its_limits(rt: HostRuntime) {
     for row in FIRST.lines() {
-        let (text, want) = row.split_once(" => ").ok_or("no answer")?;
-        let text = unescaped(alloc, text)?;
-        let found = first(alloc, &text)?;
-        assert_eq!(rt; found.as_str(), want, "at {text}");
+        first_is(&rt, rt.alloc(), row);
     }
-    assert_eq!(rt; FIRST.lines().count(), 27);
-    Ok(())
+    same(&rt, "rows", FIRST.lines().count(), 27);
 }
 
 #[test]
-fn repeats_a_fault(rt: HostRuntime) -> Result<(), Fail> {
+fn repeats_a_fault(rt: HostRuntime) {
     let mut lexer = Lexer::new(b"a $ b");
-    assert!(rt; matches!(lexer.next(), Ok(Some(_))));
-    for _ in 0..3 {
-        match lexer.next() {
-            Err(fault) => {
-                let at = place(1, 3, 2, 3);
-                assert_eq!(rt; fault, LexFault::BadByte { at });
-            }
-            Ok(_) => assert!(rt; false),
-        }
+    same(&rt, "a", matches!(lexer.next(), Ok(Some(_))), true);
+    for i in 0..3 {
+        let at = place(1, 3, 2, 3);
+        same(&rt, i, lexer.next().err(), Some(LexFault::BadByte { at }));
     }
-    Ok(())
+}
+
+// A row's numeral has what stands behind it.
+fn numeral_is(rt: &impl Abort, alloc: Global, row: &str) {
+    let (text, want) = cut(rt, row, " => ");
+    let number = numeral_of(text.as_bytes());
+    let (mantissa, decimals) = (number.mantissa, number.decimals);
+    let found = format!(in alloc; "{mantissa} {decimals} {}", number.len).expect(rt, "memory");
+    same(rt, text, found.as_str(), want);
 }
 
 #[test]
-fn counts_decimals(rt: HostRuntime) -> Result<(), Fail> {
+fn counts_decimals(rt: HostRuntime) {
     for row in NUMERALS.lines() {
-        let (text, want) = row.split_once(" => ").ok_or("no answer")?;
-        let number = numeral_of(text.as_bytes());
-        let (mantissa, decimals) = (number.mantissa, number.decimals);
-        let found = format!(in rt.alloc(); "{mantissa} {decimals} {}", number.len)?;
-        assert_eq!(rt; found.as_str(), want, "at {text}");
+        numeral_is(&rt, rt.alloc(), row);
     }
-    assert_eq!(rt; NUMERALS.lines().count(), 5);
-    Ok(())
+    same(&rt, "rows", NUMERALS.lines().count(), 5);
 }
