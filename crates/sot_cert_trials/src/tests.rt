@@ -5,75 +5,105 @@ mod faults;
 mod limits;
 mod readers;
 
-use sot_box::Region;
+use sot_box::{BoxN, Region};
 use sot_cert::{CertFail, read_cert};
 use sot_lang::{Cert, Typed};
 use sot_worked::{line, pair};
 use std::alloc::{AllocError, Global};
+use std::fmt::Debug;
 use std::process::Abort;
-use std::test::*;
 
-// The boxes of a region, as `[0..1, 2..3] [4..5, 6..7]`.
-fn region_text(alloc: Global, region: &Region) -> Result<String, Fail> {
-    let mut text = String::new(alloc);
+// Ends the test, with what was asked, where the answer is not the one that is wanted.
+fn same<A: Debug + Drop, T: PartialEq + Debug + Drop>(
+    rt: &impl Abort,
+    asked: A,
+    got: T,
+    wanted: T,
+) {
+    assert_eq!(rt; got, wanted, "{asked:?}");
+}
+
+// Adds a box, as `[0..1, 2..3]`.
+fn push_box(b: &BoxN, text: &mut String) -> Result<(), AllocError> {
+    text.push_str("[")?;
+    for k in 0..b.len() {
+        let side = b.side(k);
+        let comma = if k == 0 { "" } else { ", " };
+        let (lo, hi) = (side.lo, side.hi);
+        write!(text, "{comma}{lo}..{hi}")?;
+    }
+    text.push_str("]")
+}
+
+// Adds the boxes of a region, as `[0..1, 2..3] [4..5, 6..7]`.
+fn push_region(region: &Region, text: &mut String) -> Result<(), AllocError> {
     if region.len() == 0 {
         text.push_str("none")?;
     }
     for i in 0..region.len() {
-        let b = region.at(i);
-        let before = if i == 0 { "[" } else { " [" };
-        text.push_str(before)?;
-        for k in 0..b.len() {
-            let side = b.side(k);
-            let comma = if k == 0 { "" } else { ", " };
-            let (lo, hi) = (side.lo, side.hi);
-            let one = format!(in alloc; "{comma}{lo}..{hi}")?;
-            text.push_str(one.as_str())?;
+        if i > 0 {
+            text.push_str(" ")?;
         }
-        text.push_str("]")?;
+        push_box(&region.at(i), text)?;
     }
-    Ok(text)
+    Ok(())
 }
 
-// The jitter, and of each module its closed and its reach cells.
-fn cert_text(alloc: Global, cert: &Cert) -> Result<String, Fail> {
-    let jitter = cert.jitter;
-    let mut text = format!(in alloc; "jitter {jitter}")?;
+// Adds of each module its closed and its reach cells.
+fn push_modules(cert: &Cert, text: &mut String) -> Result<(), AllocError> {
     for entry in cert.modules.iter() {
         match entry {
             None => text.push_str("; -")?,
             Some(cells) => {
-                let closed = region_text(alloc, &cells.closed)?;
-                let reach = region_text(alloc, &cells.reach)?;
-                let (closed, reach) = (closed.as_str(), reach.as_str());
-                let one = format!(in alloc; "; {closed} / {reach}")?;
-                text.push_str(one.as_str())?;
+                text.push_str("; ")?;
+                push_region(&cells.closed, text)?;
+                text.push_str(" / ")?;
+                push_region(&cells.reach, text)?;
             }
         }
     }
+    Ok(())
+}
+
+// The jitter, and of each module its closed and its reach cells.
+fn cert_text(alloc: Global, cert: &Cert) -> Result<String, AllocError> {
+    let jitter = cert.jitter;
+    let mut text = format!(in alloc; "jitter {jitter}")?;
+    push_modules(cert, &mut text)?;
     Ok(text)
 }
 
 // What the bytes say, or the path and kind of their first fault, as they are printed.
-fn said(alloc: Global, p: &Typed, bytes: &[u8]) -> Result<String, Fail> {
+fn said(rt: &impl Abort, alloc: Global, p: &Typed, bytes: &[u8]) -> String {
     match read_cert(alloc, p, bytes) {
-        Ok(cert) => cert_text(alloc, &cert),
-        Err(CertFail::Memory) => Err(Fail::from(AllocError)),
+        Ok(cert) => cert_text(alloc, &cert).expect(rt, "memory"),
+        Err(CertFail::Memory) => panic!(rt; "memory"),
         Err(CertFail::Fault(fault)) => {
             let (path, kind) = (fault.path.as_printed(), fault.kind);
-            Ok(format!(in alloc; "{path} {kind:?}")?)
+            format!(in alloc; "{path} {kind:?}").expect(rt, "memory")
         }
     }
 }
 
-// Whether each text of a table says what stands behind it, and how many there are.
-fn say(rt: &impl Abort, alloc: Global, p: &Typed, table: &str) -> Result<usize, Fail> {
+// The bytes say this.
+fn says(rt: &impl Abort, alloc: Global, p: &Typed, bytes: &[u8], wanted: &str) {
+    let got = said(rt, alloc, p, bytes);
+    same(rt, wanted, got.as_str(), wanted);
+}
+
+// A text and what stands behind it in its row.
+fn answered<'t>(rt: &impl Abort, row: &'t str) -> (&'t str, &'t str) {
+    row.split_once(" => ").expect(rt, "an answer")
+}
+
+// Each text of a table of so many rows says what stands behind it.
+fn say(rt: &impl Abort, alloc: Global, p: &Typed, table: &str, rows: usize) {
     for row in table.lines() {
-        let (text, wanted) = row.split_once(" => ").ok_or("no answer")?;
-        let got = said(alloc, p, text.as_bytes())?;
-        assert_eq!(rt; got.as_str(), wanted, "{text}");
+        let (text, wanted) = answered(rt, row);
+        let got = said(rt, alloc, p, text.as_bytes());
+        same(rt, text, got.as_str(), wanted);
     }
-    Ok(table.lines().count())
+    same(rt, "rows", table.lines().count(), rows);
 }
 
 const OF_THE_LINE: &str =
@@ -88,10 +118,9 @@ const OF_THE_LINE: &str =
 {"format":1,"modules":{"nav":{"closed":[[[-1000000000000,1000000000000]]],"reach":[]}}} => jitter 0; [-1000000000000..1000000000000] / none"#;
 
 #[test]
-fn certificates_of_the_line(rt: HostRuntime) -> Result<(), Fail> {
-    let p = line(rt.alloc())?;
-    assert_eq!(rt; say(&rt, rt.alloc(), &p, OF_THE_LINE)?, 9);
-    Ok(())
+fn certificates_of_the_line(rt: HostRuntime) {
+    let p = line(rt.alloc()).expect(&rt, "memory");
+    say(&rt, rt.alloc(), &p, OF_THE_LINE, 9);
 }
 
 const OF_THE_PAIR: &str =
@@ -106,8 +135,7 @@ const OF_THE_PAIR: &str =
 {"format":2,"jitter":0,"modules":{}} => jitter 0; -; -"#;
 
 #[test]
-fn modules_in_declared_order(rt: HostRuntime) -> Result<(), Fail> {
-    let p = pair(rt.alloc(), 42)?;
-    assert_eq!(rt; say(&rt, rt.alloc(), &p, OF_THE_PAIR)?, 9);
-    Ok(())
+fn modules_in_declared_order(rt: HostRuntime) {
+    let p = pair(rt.alloc(), 42).expect(&rt, "memory");
+    say(&rt, rt.alloc(), &p, OF_THE_PAIR, 9);
 }

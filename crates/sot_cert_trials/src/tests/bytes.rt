@@ -1,98 +1,97 @@
 //! Bytes that are no JSON.
-use super::said;
+use super::{same, says};
 use sot_worked::line;
-use std::test::*;
+use std::alloc::Global;
+use std::process::Abort;
+
+// Texts, a line each.
+const NO_JSON: &str = r#"
+ 
+{"format":1,"modules"
+{"format":1,"modules":{}} x
+{"format":1,"modules":{},}
+{'format':1}
+{"format":01}
+{"format":+1}
+{"format":1e400,"modules":{}}
+{"format":"\ud800"}
+{"format":nul}"#;
 
 #[test]
-fn no_json(rt: HostRuntime) -> Result<(), Fail> {
+fn no_json(rt: HostRuntime) {
     let alloc = rt.alloc();
-    let p = line(alloc)?;
-    for text in [
-        r#""#,
-        r#" "#,
-        r#"{"format":1,"modules"#,
-        r#"{"format":1,"modules":{}} x"#,
-        r#"{"format":1,"modules":{},}"#,
-        r#"{'format':1}"#,
-        r#"{"format":01}"#,
-        r#"{"format":+1}"#,
-        r#"{"format":1e400,"modules":{}}"#,
-        r#"{"format":"\ud800"}"#,
-        r#"{"format":nul}"#,
-    ] {
-        let got = said(alloc, &p, text.as_bytes())?;
-        assert_eq!(rt; got.as_str(), "/ NotJson");
+    let p = line(alloc).expect(&rt, "memory");
+    for text in NO_JSON.lines() {
+        says(&rt, alloc, &p, text.as_bytes(), "/ NotJson");
     }
-    Ok(())
+    same(&rt, "texts", NO_JSON.lines().count(), 11);
 }
 
 #[test]
-fn no_utf8(rt: HostRuntime) -> Result<(), Fail> {
+fn no_utf8(rt: HostRuntime) {
     let alloc = rt.alloc();
-    let p = line(alloc)?;
-    let got = said(alloc, &p, b"{\"format\":\"\xff\"}")?;
-    assert_eq!(rt; got.as_str(), "/ NotJson");
-    let got = said(alloc, &p, b"\xef\xbb\xbf{\"format\":1,\"modules\":{}}")?;
-    assert_eq!(rt; got.as_str(), "/ NotJson");
-    Ok(())
+    let p = line(alloc).expect(&rt, "memory");
+    says(&rt, alloc, &p, b"{\"format\":\"\xff\"}", "/ NotJson");
+    let marked = b"\xef\xbb\xbf{\"format\":1,\"modules\":{}}";
+    says(&rt, alloc, &p, marked, "/ NotJson");
 }
 
-// So many brackets, one in the other.
-fn nested(alloc: std::alloc::Global, depth: usize) -> Result<String, Fail> {
-    let open = "[".repeat(alloc, depth)?;
-    let close = "]".repeat(alloc, depth)?;
-    let (open, close) = (open.as_str(), close.as_str());
-    Ok(format!(in alloc; "{open}{close}")?)
+// The text so many times.
+fn times(rt: &impl Abort, alloc: Global, text: &str, count: usize) -> String {
+    text.repeat(alloc, count).expect(rt, "memory")
+}
+
+// So many brackets, one in the other, as the format.
+fn nested(rt: &impl Abort, alloc: Global, depth: usize) -> String {
+    let open = times(rt, alloc, "[", depth);
+    let close = times(rt, alloc, "]", depth);
+    format!(in alloc; "{{\"format\":{open}{close}}}").expect(rt, "memory")
 }
 
 // 127 arrays and objects may be open at once, the outermost object among them.
 #[test]
-fn nesting(rt: HostRuntime) -> Result<(), Fail> {
+fn nesting(rt: HostRuntime) {
     let alloc = rt.alloc();
-    let p = line(alloc)?;
+    let p = line(alloc).expect(&rt, "memory");
     for (depth, wanted) in [(126, "/format WrongShape"), (127, "/ NotJson")] {
-        let inner = nested(alloc, depth)?;
-        let inner = inner.as_str();
-        let text = format!(in alloc; "{{\"format\":{inner}}}")?;
-        let got = said(alloc, &p, text.as_bytes())?;
-        assert_eq!(rt; got.as_str(), wanted);
+        let text = nested(&rt, alloc, depth);
+        says(&rt, alloc, &p, text.as_bytes(), wanted);
     }
-    Ok(())
 }
 
 #[test]
-fn open_brackets(rt: HostRuntime) -> Result<(), Fail> {
+fn open_brackets(rt: HostRuntime) {
     let alloc = rt.alloc();
-    let p = line(alloc)?;
-    let text = "[".repeat(alloc, 16_777_216)?;
-    let got = said(alloc, &p, text.as_bytes())?;
-    assert_eq!(rt; got.as_str(), "/ NotJson");
-    Ok(())
+    let p = line(alloc).expect(&rt, "memory");
+    let text = times(&rt, alloc, "[", 16_777_216);
+    says(&rt, alloc, &p, text.as_bytes(), "/ NotJson");
 }
 
 #[test]
-fn long_list(rt: HostRuntime) -> Result<(), Fail> {
+fn long_list(rt: HostRuntime) {
     let alloc = rt.alloc();
-    let p = line(alloc)?;
-    let zeros = "0,".repeat(alloc, 1_000_000)?;
-    let zeros = zeros.as_str();
-    let text = format!(in alloc; "[{zeros}0]")?;
-    let got = said(alloc, &p, text.as_bytes())?;
-    assert_eq!(rt; got.as_str(), "/ WrongShape");
-    Ok(())
+    let p = line(alloc).expect(&rt, "memory");
+    let mut text = times(&rt, alloc, "[", 1);
+    let zeros = times(&rt, alloc, "0,", 1_000_000);
+    text.push_str(zeros.as_str()).expect(&rt, "memory");
+    text.push_str("0]").expect(&rt, "memory");
+    says(&rt, alloc, &p, text.as_bytes(), "/ WrongShape");
+}
+
+// Adds a key that is no module.
+fn push_key(rt: &impl Abort, text: &mut String, i: u32) {
+    write!(text, "\"k{i}\":0,").expect(rt, "memory");
 }
 
 #[test]
-fn many_keys(rt: HostRuntime) -> Result<(), Fail> {
+fn many_keys(rt: HostRuntime) {
     let alloc = rt.alloc();
-    let p = line(alloc)?;
-    let mut text = String::from_str(alloc, "{\"format\":1,\"modules\":{")?;
+    let p = line(alloc).expect(&rt, "memory");
+    let mut text = times(&rt, alloc, "{\"format\":1,\"modules\":{", 1);
     for i in 0..100_000 {
-        let one = format!(in alloc; "\"k{i}\":0,")?;
-        text.push_str(one.as_str())?;
+        push_key(&rt, &mut text, i);
     }
-    text.push_str("\"nav\":{\"closed\":[],\"reach\":[]}}}")?;
-    let got = said(alloc, &p, text.as_bytes())?;
-    assert_eq!(rt; got.as_str(), "/modules Unknown");
-    Ok(())
+    let nav = "\"nav\":{\"closed\":[],\"reach\":[]}}}";
+    text.push_str(nav).expect(&rt, "memory");
+    says(&rt, alloc, &p, text.as_bytes(), "/modules Unknown");
 }

@@ -1,7 +1,9 @@
 //! Each kind of fault at its paths.
-use super::{said, say};
+use super::{answered, said, same, say};
+use sot_lang::Typed;
 use sot_worked::line;
-use std::test::*;
+use std::alloc::Global;
+use std::process::Abort;
 
 const FIRST_FAULTS: &str = r#"{"format":1,"modules":{},"format":3} => /format OutsideRange
 [] => / WrongShape
@@ -57,10 +59,9 @@ null => / WrongShape
 {"format":1,"modules":{"nav":{"closed":[],"reach":[[[0,1]],[[0,1]],[0]]}}} => /modules/nav/reach/2/0 WrongShape"#;
 
 #[test]
-fn first_faults(rt: HostRuntime) -> Result<(), Fail> {
-    let p = line(rt.alloc())?;
-    assert_eq!(rt; say(&rt, rt.alloc(), &p, FIRST_FAULTS)?, 52);
-    Ok(())
+fn first_faults(rt: HostRuntime) {
+    let p = line(rt.alloc()).expect(&rt, "memory");
+    say(&rt, rt.alloc(), &p, FIRST_FAULTS, 52);
 }
 
 // The closed cells of `nav`, and their fault.
@@ -90,17 +91,20 @@ null => /modules/nav/closed WrongShape
 [[[1,0.5]]] => /modules/nav/closed/0/0/1 NotWhole
 [[[0,1]],[[0,1]],[[0,1]],[[0,1]],[[0,1]],[[0,1]],[[0,1]],[[0,1]],[[0,1]],[[0,1]],[[0,1]],[[0,true]]] => /modules/nav/closed/11/0/1 WrongShape"#;
 
+// The certificate whose closed cells a row has says what stands behind them.
+fn cells_say(rt: &impl Abort, alloc: Global, p: &Typed, row: &str) {
+    let (closed, wanted) = answered(rt, row);
+    let front = r#"{"format":1,"modules":{"nav":{"closed":"#;
+    let text = format!(in alloc; "{front}{closed},\"reach\":[]}}}}}}").expect(rt, "memory");
+    let got = said(rt, alloc, p, text.as_bytes());
+    same(rt, closed, got.as_str(), wanted);
+}
+
 #[test]
-fn faults_of_cells(rt: HostRuntime) -> Result<(), Fail> {
-    let alloc = rt.alloc();
-    let p = line(alloc)?;
+fn faults_of_cells(rt: HostRuntime) {
+    let p = line(rt.alloc()).expect(&rt, "memory");
     for row in OF_CELLS.lines() {
-        let (closed, wanted) = row.split_once(" => ").ok_or("no answer")?;
-        let front = r#"{"format":1,"modules":{"nav":{"closed":"#;
-        let text = format!(in alloc; "{front}{closed},\"reach\":[]}}}}}}")?;
-        let got = said(alloc, &p, text.as_bytes())?;
-        assert_eq!(rt; got.as_str(), wanted, "{closed}");
+        cells_say(&rt, rt.alloc(), &p, row);
     }
-    assert_eq!(rt; OF_CELLS.lines().count(), 25);
-    Ok(())
+    same(&rt, "rows", OF_CELLS.lines().count(), 25);
 }

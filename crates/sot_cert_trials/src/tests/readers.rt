@@ -1,65 +1,82 @@
 //! The small readers of JSON values, each once.
+use super::same;
 use serde_json::Value;
 use sot_cert::{
     JsonFail, JsonKind, Path, count_of, fault_at, fault_under, fault_under_index, has_only,
     member_of, two_of, value_of, whole_of,
 };
-use std::alloc::{AllocError, Global};
-use std::test::*;
+use std::alloc::Global;
+use std::process::Abort;
 
-fn fail_text(alloc: Global, fail: JsonFail) -> Result<String, Fail> {
+fn fail_text(rt: &impl Abort, alloc: Global, fail: JsonFail) -> String {
     match fail {
-        JsonFail::Memory => Ok(String::from_str(alloc, "memory")?),
+        JsonFail::Memory => String::from_str(alloc, "memory").expect(rt, "memory"),
         JsonFail::Fault(fault) => {
             let (path, kind) = (fault.path.as_str(), fault.kind);
-            Ok(format!(in alloc; "{path} {kind:?}")?)
+            format!(in alloc; "{path} {kind:?}").expect(rt, "memory")
         }
     }
 }
 
-fn number_text(alloc: Global, read: Result<i64, JsonFail>) -> Result<String, Fail> {
-    match read {
-        Ok(number) => Ok(format!(in alloc; "{number}")?),
-        Err(fail) => fail_text(alloc, fail),
+// The fault has this path and kind.
+fn fails(rt: &impl Abort, alloc: Global, fail: JsonFail, wanted: &str) {
+    let got = fail_text(rt, alloc, fail);
+    same(rt, wanted, got.as_str(), wanted);
+}
+
+// The number, or the fault, is this one.
+fn reads(rt: &impl Abort, alloc: Global, read: Result<i64, JsonFail>, wanted: &str) {
+    let got = match read {
+        Ok(number) => format!(in alloc; "{number}").expect(rt, "memory"),
+        Err(fail) => fail_text(rt, alloc, fail),
+    };
+    same(rt, wanted, got.as_str(), wanted);
+}
+
+fn value_from(rt: &impl Abort, alloc: Global, text: &str) -> Value {
+    match value_of(alloc, text.as_bytes()) {
+        Ok(value) => value,
+        Err(_) => panic!(rt; "no JSON: {text}"),
     }
 }
 
-fn value_from(alloc: Global, text: &str) -> Result<Value, Fail> {
-    match value_of(alloc, text.as_bytes()) {
-        Ok(value) => Ok(value),
-        Err(JsonFail::Memory) => Err(Fail::from(AllocError)),
-        Err(JsonFail::Fault(_)) => Err(Fail::new("no JSON")),
-    }
+// One key more, inside.
+fn below(rt: &impl Abort, alloc: Global, path: Path, key: &str) -> Path {
+    path.below(alloc, key).expect(rt, "memory")
 }
 
 #[test]
-fn paths_escape_two_signs(rt: HostRuntime) -> Result<(), Fail> {
+fn paths_escape_two_signs(rt: HostRuntime) {
     let alloc = rt.alloc();
     let path = Path::root(alloc);
-    assert_eq!(rt; path.as_str(), "");
-    let path = path.below(alloc, "0")?;
-    let path = path.below(alloc, "a/b~c\u{e9}")?;
-    let path = path.below(alloc, "")?;
-    assert_eq!(rt; path.as_str(), "//a~1b~0c\u{e9}/0");
-    Ok(())
+    same(&rt, "root", path.as_str(), "");
+    let path = below(&rt, alloc, path, "0");
+    let path = below(&rt, alloc, path, "a/b~c\u{e9}");
+    let path = below(&rt, alloc, path, "");
+    same(&rt, "path", path.as_str(), "//a~1b~0c\u{e9}/0");
 }
 
 #[test]
-fn faults_pass_outwards(rt: HostRuntime) -> Result<(), Fail> {
+fn faults_pass_outwards(rt: HostRuntime) {
     let alloc = rt.alloc();
     let fail = fault_at(alloc, JsonKind::GuestTwice);
     let fail = fault_under_index(alloc, 12, fail);
     let fail = fault_under(alloc, "crew", fail);
-    let text = fail_text(alloc, fail)?;
-    assert_eq!(rt; text.as_str(), "/crew/12 GuestTwice");
-    let text = fail_text(alloc, fault_under(alloc, "crew", JsonFail::Memory))?;
-    assert_eq!(rt; text.as_str(), "memory");
-    Ok(())
+    fails(&rt, alloc, fail, "/crew/12 GuestTwice");
+    let fail = fault_under(alloc, "crew", JsonFail::Memory);
+    fails(&rt, alloc, fail, "memory");
+}
+
+// A text as a number from -3 to 5, and as a count of at most 6.
+fn reads_both(rt: &impl Abort, alloc: Global, text: &str, wanted: &str, counted: &str) {
+    let value = value_from(rt, alloc, text);
+    reads(rt, alloc, whole_of(alloc, -3, 5, &value), wanted);
+    let count = count_of(alloc, 6, &value).map(|n| n as i64);
+    reads(rt, alloc, count, counted);
 }
 
 #[test]
-fn numbers_are_whole_and_in_range(rt: HostRuntime) -> Result<(), Fail> {
-    let alloc = rt.alloc();
+fn numbers_are_whole_and_in_range(rt: HostRuntime) {
     for (text, wanted, counted) in [
         ("-3", "-3", " OutsideRange"),
         ("5", "5", "5"),
@@ -69,45 +86,34 @@ fn numbers_are_whole_and_in_range(rt: HostRuntime) -> Result<(), Fail> {
         ("0.5", " NotWhole", " NotWhole"),
         ("[]", " WrongShape", " WrongShape"),
     ] {
-        let value = value_from(alloc, text)?;
-        let got = number_text(alloc, whole_of(alloc, -3, 5, &value))?;
-        assert_eq!(rt; got.as_str(), wanted);
-        let count = count_of(alloc, 6, &value).map(|n| n as i64);
-        let got = number_text(alloc, count)?;
-        assert_eq!(rt; got.as_str(), counted);
+        reads_both(&rt, rt.alloc(), text, wanted, counted);
     }
-    Ok(())
 }
 
 #[test]
-fn members_and_keys(rt: HostRuntime) -> Result<(), Fail> {
-    let alloc = rt.alloc();
-    let value = value_from(alloc, r#"{"b":[1,2],"a":[1,2,3],"a":[4]}"#)?;
-    let Some(object) = value.as_object() else {
-        return Err(Fail::new("no object"));
-    };
-    assert!(rt; has_only(object, &["a", "b"]));
-    assert!(rt; has_only(object, &["x", "b", "a"]));
-    assert!(rt; !has_only(object, &["a"]));
-    assert!(rt; member_of(object, "c").is_none());
-    let Some(a) = member_of(object, "a") else {
-        return Err(Fail::new("no a"));
-    };
-    let Some(last) = a.as_array() else {
-        return Err(Fail::new("no list"));
-    };
-    assert_eq!(rt; last.len(), 1);
-    assert!(rt; two_of(last).is_none());
-    let Some(b) = member_of(object, "b") else {
-        return Err(Fail::new("no b"));
-    };
-    let Some(list) = b.as_array() else {
-        return Err(Fail::new("no list"));
-    };
-    let Some((first, second)) = two_of(list) else {
-        return Err(Fail::new("no pair"));
-    };
-    assert_eq!(rt; first.as_i64(), Some(1));
-    assert_eq!(rt; second.as_i64(), Some(2));
-    Ok(())
+fn keys_are_known_or_not(rt: HostRuntime) {
+    let value = value_from(&rt, rt.alloc(), r#"{"b":[1,2],"a":[1,2,3],"a":[4]}"#);
+    let object = value.as_object().expect(&rt, "an object");
+    same(&rt, "all", has_only(object, &["a", "b"]), true);
+    same(&rt, "more", has_only(object, &["x", "b", "a"]), true);
+    same(&rt, "less", has_only(object, &["a"]), false);
+    same(&rt, "no c", member_of(object, "c").is_none(), true);
+}
+
+// The list of a member.
+fn list_at<'a>(rt: &impl Abort, value: &'a Value, key: &str) -> &'a Vec<Value> {
+    let object = value.as_object().expect(rt, "an object");
+    let member = member_of(object, key).expect(rt, "a member");
+    member.as_array().expect(rt, "a list")
+}
+
+#[test]
+fn the_last_member_of_a_name_counts(rt: HostRuntime) {
+    let value = value_from(&rt, rt.alloc(), r#"{"b":[1,2],"a":[1,2,3],"a":[4]}"#);
+    let last = list_at(&rt, &value, "a");
+    same(&rt, "one", last.len(), 1);
+    same(&rt, "no pair", two_of(last).is_none(), true);
+    let (first, second) = two_of(list_at(&rt, &value, "b")).expect(&rt, "a pair");
+    same(&rt, "first", first.as_i64(), Some(1));
+    same(&rt, "second", second.as_i64(), Some(2));
 }
