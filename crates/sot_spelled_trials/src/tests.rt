@@ -1,6 +1,5 @@
 //! What lines spell, and what is no line. The lines are written by hand.
 
-ghost use Rattle.std.specs.Prelude.{IfOk};
 ghost use Rattle.sot_trace.specs.Words.{AreWords};
 
 use sot_lang::{Draft, Typed};
@@ -9,7 +8,8 @@ use sot_spelled::{Line, Lines, entries_are_spelled, is_start_line, lines_spell_o
 use sot_text::Need;
 use sot_told::names_are_words;
 use std::alloc::{AllocError, Global};
-use std::test::*;
+use std::fmt::Debug;
+use std::process::Abort;
 
 const LONGEST: usize = 16_777_216;
 
@@ -30,76 +30,73 @@ module hold { ac far; sc near; period 4 offset 0; plant still; safe [-9..9]; saf
 {\"format\":1,\"modules\":{\"hold\":{\"closed\":[[[-9,9]]],\"reach\":[[[-9,9]]]},\"nav\":{\"closed\":[[[-40,40],[-9,9]]],\"reach\":[[[-10,10],[-9,9]]]}}}
 ";
 
+// Ends the test, with what was asked, where the answer is not the one that is wanted.
+fn same<A: Debug + Drop, T: PartialEq + Debug + Drop>(
+    rt: &impl Abort,
+    asked: A,
+    got: T,
+    wanted: T,
+) {
+    assert_eq!(rt; got, wanted, "{asked:?}");
+}
+
 // The mission, whose names are words.
-fn loaded<'t>(alloc: Global, text: &'t str) -> Result<Loaded<'t>, Fail>
-    ensures { IfOk result (λ l. AreWords l.program) }
+fn loaded<'t>(rt: &impl Abort, alloc: Global, text: &'t str) -> Loaded<'t>
+    ensures { AreWords result.program }
 {
     names_are_words();
     if text.len() > LONGEST {
-        return Err(Fail::from(AllocError));
+        panic!(rt; "a text that is too long");
     }
     match load(alloc, text.as_bytes(), Need::Check, 0) {
-        Ok(loaded) => Ok(loaded),
-        Err(_) => Err(Fail::from(AllocError)),
+        Ok(loaded) => loaded,
+        Err(_) => panic!(rt; "no mission: {text}"),
     }
 }
 
-// A number, or `large` where it has more than 64 bits.
-fn number_text(alloc: Global, number: Option<i64>) -> Result<String, Fail> {
-    let text = match number {
-        Some(number) => format!(in alloc; "{number}")?,
-        None => String::from_str(alloc, "large")?,
-    };
-    Ok(text)
+// Adds a number, or `large` where it has more than 64 bits.
+fn push_number(number: Option<i64>, text: &mut String) -> Result<(), AllocError> {
+    match number {
+        Some(number) => write!(text, "{number}"),
+        None => text.push_str("large"),
+    }
 }
 
-// Numbers, each behind a blank.
-fn row_text(alloc: Global, numbers: &[i64]) -> Result<String, Fail> {
-    let mut text = String::new(alloc);
+// Adds numbers, each behind a blank, and `large` behind them where some number is.
+fn push_row(numbers: &[i64], whole: bool, text: &mut String) -> Result<(), AllocError> {
     for number in numbers {
-        let one = format!(in alloc; " {number}")?;
-        text.push_str(one.as_str())?;
+        write!(text, " {number}")?;
     }
-    Ok(text)
+    let more = if whole { "" } else { " large" };
+    text.push_str(more)
 }
 
-// The numbers of a draft, each behind its place, or `large` where some number has more than 64 bits.
-fn draft_text(alloc: Global, draft: &Option<Draft>) -> Result<String, Fail> {
+// Adds the numbers of a draft, each behind its place, or `large` where some number has more than 64 bits.
+fn push_draft(draft: &Option<Draft>, text: &mut String) -> Result<(), AllocError> {
     let Some(draft) = draft else {
-        return Ok(String::from_str(alloc, " large")?);
+        return text.push_str(" large");
     };
-    let mut text = String::new(alloc);
     for i in 0..8 {
         if let Some(number) = draft.get(i) {
-            let one = format!(in alloc; " {i}:{number}")?;
-            text.push_str(one.as_str())?;
+            write!(text, " {i}:{number}")?;
         }
     }
-    Ok(text)
+    Ok(())
 }
 
-// What a line spells, as it is read, or `nothing`.
-fn said(alloc: Global, p: &Typed, line: &[u8]) -> Result<String, Fail>
-    requires { AreWords p.now }
-{
-    let mut numbers = Vec::new(alloc);
-    let read = read_line(p, line, &mut numbers)?;
-    let list = row_text(alloc, numbers.as_slice())?;
-    let list = list.as_str();
-    let text = match read {
-        None => String::from_str(alloc, "nothing")?,
+// Adds what a line spells, with the numbers that are read of it, or `nothing`.
+fn push_read(read: Option<Line>, numbers: &[i64], text: &mut String) -> Result<(), AllocError> {
+    match read {
+        None => text.push_str("nothing"),
         Some(Line::Input { time, topic, whole }) => {
-            let time = number_text(alloc, time)?;
-            let time = time.as_str();
-            let more = if whole { "" } else { " large" };
-            format!(in alloc; "{time} input {topic}{list}{more}")?
+            push_number(time, text)?;
+            write!(text, " input {topic}")?;
+            push_row(numbers, whole, text)
         }
         Some(Line::Fire { time, node, draft }) => {
-            let time = number_text(alloc, time)?;
-            let time = time.as_str();
-            let draft = draft_text(alloc, &draft)?;
-            let draft = draft.as_str();
-            format!(in alloc; "{time} fire {node}{draft}")?
+            push_number(time, text)?;
+            write!(text, " fire {node}")?;
+            push_draft(&draft, text)
         }
         Some(
             Line::Decide {
@@ -107,29 +104,44 @@ fn said(alloc: Global, p: &Typed, line: &[u8]) -> Result<String, Fail>
                 module: decider,
             },
         ) => {
-            let time = number_text(alloc, time)?;
-            let time = time.as_str();
-            format!(in alloc; "{time} decide {decider}")?
+            push_number(time, text)?;
+            write!(text, " decide {decider}")
         }
         Some(Line::Tick { time, whole }) => {
-            let time = number_text(alloc, time)?;
-            let time = time.as_str();
-            let more = if whole { "" } else { " large" };
-            format!(in alloc; "{time} tick{list}{more}")?
+            push_number(time, text)?;
+            text.push_str(" tick")?;
+            push_row(numbers, whole, text)
         }
         Some(Line::End { ticks }) => {
-            let ticks = number_text(alloc, ticks)?;
-            let ticks = ticks.as_str();
-            format!(in alloc; "{ticks} end")?
+            push_number(ticks, text)?;
+            text.push_str(" end")
         }
-    };
-    Ok(text)
+    }
+}
+
+// What a line spells, as it is read, or `nothing`.
+fn said(rt: &impl Abort, alloc: Global, p: &Typed, line: &[u8]) -> String
+    requires { AreWords p.now }
+{
+    let mut numbers = Vec::new(alloc);
+    let mut text = String::new(alloc);
+    let read = read_line(p, line, &mut numbers).expect(rt, "memory");
+    push_read(read, numbers.as_slice(), &mut text).expect(rt, "memory");
+    text
+}
+
+// A line spells this.
+fn says(rt: &impl Abort, alloc: Global, p: &Typed, line: &str, want: &str)
+    requires { AreWords p.now }
+{
+    let found = said(rt, alloc, p, line.as_bytes());
+    same(rt, line, found.as_str(), want);
 }
 
 #[test]
-fn lines_spell(rt: HostRuntime) -> Result<(), Fail> {
+fn lines_spell(rt: HostRuntime) {
     let alloc = rt.alloc();
-    let loaded = loaded(alloc, MISSION)?;
+    let loaded = loaded(&rt, alloc, MISSION);
     for (line, want) in [
         ("0 decide nav ac", "0 decide 0"),
         ("12 decide hold sc", "12 decide 1"),
@@ -161,16 +173,14 @@ fn lines_spell(rt: HostRuntime) -> Result<(), Fail> {
             "large end",
         ),
     ] {
-        let found = said(alloc, &loaded.program, line.as_bytes())?;
-        assert_eq!(rt; found.as_str(), want, "at {line}");
+        says(&rt, alloc, &loaded.program, line, want);
     }
-    Ok(())
 }
 
 #[test]
-fn other_lines_spell_nothing(rt: HostRuntime) -> Result<(), Fail> {
+fn other_lines_spell_nothing(rt: HostRuntime) {
     let alloc = rt.alloc();
-    let loaded = loaded(alloc, MISSION)?;
+    let loaded = loaded(&rt, alloc, MISSION);
     for line in [
         "",
         "soter trace 1",
@@ -224,32 +234,36 @@ fn other_lines_spell_nothing(rt: HostRuntime) -> Result<(), Fail> {
         "end 20 events 36",
         "0 end 20 events 36 refused 0",
     ] {
-        let found = said(alloc, &loaded.program, line.as_bytes())?;
-        assert_eq!(rt; found.as_str(), "nothing", "at {line}");
+        says(&rt, alloc, &loaded.program, line, "nothing");
     }
-    Ok(())
+}
+
+// A line with a number of a thousand digits, and this behind it.
+fn long_line(rt: &impl Abort, alloc: Global, behind: &str) -> String {
+    let digits = "7".repeat(alloc, 1_000).expect(rt, "memory");
+    format!(in alloc; "0 input wind=0,-{digits}{behind}").expect(rt, "memory")
 }
 
 #[test]
-fn a_number_may_have_a_thousand_digits(rt: HostRuntime) -> Result<(), Fail> {
+fn a_number_may_have_a_thousand_digits(rt: HostRuntime) {
     let alloc = rt.alloc();
-    let loaded = loaded(alloc, MISSION)?;
-    let mut line = String::from_str(alloc, "0 input wind=0,-")?;
-    for _i in 0..1_000 {
-        line.push_str("7")?;
-    }
-    let found = said(alloc, &loaded.program, line.as_bytes())?;
-    assert_eq!(rt; found.as_str(), "0 input 0 0 large");
-    line.push_str(" ")?;
-    let found = said(alloc, &loaded.program, line.as_bytes())?;
-    assert_eq!(rt; found.as_str(), "nothing");
-    Ok(())
+    let loaded = loaded(&rt, alloc, MISSION);
+    let line = long_line(&rt, alloc, "");
+    says(
+        &rt,
+        alloc,
+        &loaded.program,
+        line.as_str(),
+        "0 input 0 0 large",
+    );
+    let line = long_line(&rt, alloc, " ");
+    says(&rt, alloc, &loaded.program, line.as_str(), "nothing");
 }
 
 #[test]
-fn start_lines(rt: HostRuntime) -> Result<(), Fail> {
+fn start_lines(rt: HostRuntime) {
     let alloc = rt.alloc();
-    let loaded = loaded(alloc, MISSION)?;
+    let loaded = loaded(&rt, alloc, MISSION);
     for (line, want) in [
         ("start pos 0,-5", true),
         ("start still 99999999999999999999", true),
@@ -264,35 +278,27 @@ fn start_lines(rt: HostRuntime) -> Result<(), Fail> {
         ("Start pos 0,-5", false),
         ("0 decide nav ac", false),
     ] {
-        assert_eq!(rt;
-            is_start_line(&loaded.program, line.as_bytes()),
-            want,
-            "at {line}"
-        );
+        let found = is_start_line(&loaded.program, line.as_bytes());
+        same(&rt, line, found, want);
     }
-    Ok(())
 }
 
-// The lines of a text with their numbers, and the number of the line behind them.
-fn lent(alloc: Global, text: &str) -> Result<String, Fail> {
+// The lines of a text with their numbers and lengths, and the number of the line behind them.
+fn lent(alloc: Global, text: &str) -> Result<String, AllocError> {
     let mut said = String::new(alloc);
     if text.len() > LONGEST {
-        return Err(Fail::from(AllocError));
+        return Ok(said);
     }
     let mut lines = Lines::new(text.as_bytes());
     while let Some((number, line)) = lines.next() {
-        let len = line.len();
-        let one = format!(in alloc; "{number}:{len} ")?;
-        said.push_str(one.as_str())?;
+        write!(said, "{number}:{} ", line.len())?;
     }
-    let next = lines.number();
-    let one = format!(in alloc; "{next}")?;
-    said.push_str(one.as_str())?;
+    write!(said, "{}", lines.number())?;
     Ok(said)
 }
 
 #[test]
-fn lines_are_lent(rt: HostRuntime) -> Result<(), Fail> {
+fn lines_are_lent(rt: HostRuntime) {
     let alloc = rt.alloc();
     for (text, want) in [
         ("", "1"),
@@ -302,10 +308,9 @@ fn lines_are_lent(rt: HostRuntime) -> Result<(), Fail> {
         ("ab\r\nc\n\nd\re\r\r\nf\r", "1:2 2:1 3:0 4:4 5:2 6"),
         ("\r\n\r", "1:0 2:1 3"),
     ] {
-        let found = lent(alloc, text)?;
-        assert_eq!(rt; found.as_str(), want, "at {text}");
+        let found = lent(alloc, text).expect(&rt, "memory");
+        same(&rt, text, found.as_str(), want);
     }
-    Ok(())
 }
 
 #[test]
