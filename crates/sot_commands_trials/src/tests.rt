@@ -3,6 +3,7 @@ mod calls;
 mod certify;
 mod fly;
 mod make;
+mod orders;
 mod places;
 mod replay;
 mod soak;
@@ -10,7 +11,8 @@ mod soak;
 use sot_commands::{Status, soter};
 use sot_ports::{MemSink, PureSource, Sink, Source};
 use sot_shift::Controller;
-use std::alloc::Global;
+use std::alloc::{AllocError, Global};
+use std::process::Abort;
 use std::sync::Wait;
 use std::test::*;
 use std::thread::Threads;
@@ -41,21 +43,27 @@ const CERTIFICATE: &str = "%certificate
 ";
 
 const USAGE: &str =
-    "usage: soter check | fly | replay | format | make N SEED | soak N SEED | certify\n";
+    "usage: soter check | fly | replay | format | make N SEED | soak N SEED | certify~";
 
-fn words_of(alloc: Global, words: &[&str]) -> Result<Vec<String>, Fail> {
-    let mut owned = Vec::new(alloc);
-    for word in words {
-        owned.push(String::from_str(alloc, word)?)?;
-    }
-    Ok(owned)
+// The column of a row with this number, from 0, where signs like these stand between columns; nothing where there is none.
+fn column<'a>(row: &'a str, signs: &str, number: usize) -> &'a str {
+    row.split(signs).nth(number).unwrap_or("")
 }
 
-// A program with its certificate behind it.
-fn mission_of(alloc: Global, program: &str) -> Result<Vec<u8>, Fail> {
-    let mut text = Vec::from_slice(alloc, program.as_bytes())?;
-    text.extend_from_slice(CERTIFICATE.as_bytes())?;
-    Ok(text)
+// A text of a row, in which `~` ends a line.
+fn lines_of(alloc: Global, part: &str) -> Result<String, AllocError> {
+    part.replace(alloc, '~', "\n")
+}
+
+// Words that are divided by commas, the last of which has one behind it where it is empty.
+fn words_of(rt: &impl Abort, alloc: Global, words: &str) -> Vec<String> {
+    let mut owned = Vec::new(alloc);
+    for word in words.split_terminator(',') {
+        owned
+            .push(String::from_str(alloc, word).expect(rt, "memory"))
+            .expect(rt, "memory");
+    }
+    owned
 }
 
 // Does what the words ask, with no guest handed in.
@@ -70,28 +78,40 @@ fn alone<R: Threads + Wait + Sync, S: Source, K: Sink>(
     soter(rt, alloc, words, &mut guests, source, sink)
 }
 
-// The status and the text of these words over a text, and whether some of it is left.
-fn said(
-    rt: &(impl Threads + Wait + Sync),
+// The status and the text of these words over a text, and between them the first bytes of what is left of it.
+fn answer(
+    rt: &(impl Abort + Threads + Wait + Sync),
     alloc: Global,
-    words: &[&str],
-    text: &[u8],
-) -> Result<(u8, Vec<u8>, bool), Fail> {
-    let owned = words_of(alloc, words)?;
-    let mut source = PureSource::new(Vec::from_slice(alloc, text)?);
-    let mut sink = MemSink::new(alloc, 100_000, 100_000, Vec::new(alloc))?;
+    words: &str,
+    text: &str,
+) -> String {
+    let owned = words_of(rt, alloc, words);
+    let mut source = PureSource::new(Vec::from_slice(alloc, text.as_bytes()).expect(rt, "memory"));
+    let mut sink = MemSink::new(alloc, 100_000, 100_000, Vec::new(alloc)).expect(rt, "memory");
     let ended = alone(rt, alloc, &owned, &mut source, &mut sink);
-    let mut left = [0];
-    let is_left = source.read(&mut left) == Ok(1);
-    Ok((ended.0, Vec::from_slice(alloc, sink.bytes())?, is_left))
+    let mut answer = format!(in alloc; "{} ", ended.0).expect(rt, "memory");
+    let mut next = [0; 5];
+    if let Ok(count) = source.read(&mut next)
+        && count > 0
+    {
+        let left = str::from_utf8(&next[..count]).expect(rt, "memory");
+        write!(answer, "before {left}: ").expect(rt, "memory");
+    }
+    answer
+        .push_str(str::from_utf8(sink.bytes()).expect(rt, "memory"))
+        .expect(rt, "memory");
+    answer
 }
 
-// The status and the text of `check` on a text.
-fn checked(
-    rt: &(impl Threads + Wait + Sync),
+// These words over a text have this answer, as `answer` tells it, in which `~` ends a line.
+fn answers(
+    rt: &(impl Abort + Threads + Wait + Sync),
     alloc: Global,
-    text: &[u8],
-) -> Result<(u8, Vec<u8>), Fail> {
-    let (status, answer, _) = said(rt, alloc, &["check"], text)?;
-    Ok((status, answer))
+    words: &str,
+    text: &str,
+    want: &str,
+) {
+    let said = answer(rt, alloc, words, text);
+    let want = lines_of(alloc, want).expect(rt, "memory");
+    assert_eq!(rt; said.as_str(), want.as_str(), "{words} of {text}");
 }

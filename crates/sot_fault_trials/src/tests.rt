@@ -8,7 +8,8 @@ mod writes;
 use sot_commands::soter;
 use sot_ports::{MemSink, MemSource};
 use sot_shift::Controller;
-use std::alloc::Global;
+use std::alloc::{AllocError, Global};
+use std::process::Abort;
 use std::sync::Wait;
 use std::test::*;
 use std::thread::Threads;
@@ -53,31 +54,23 @@ start pos 10
 end 3 events 7 refused 0
 ";
 
-// A command, the parts of the text that it reads, and its answer, with status 0.
-#[derive(Clone, Copy)]
-struct Case {
-    word: &'static str,
-    parts: &'static [&'static str],
-    answer: &'static str,
+// The text that a command reads.
+fn text_of(alloc: Global, word: &str) -> Result<String, AllocError> {
+    match word {
+        "check" => format!(in alloc; "{LINE}{CERTIFICATE}"),
+        "fly" => format!(in alloc; "{LINE}{CERTIFICATE}{FLIGHT}"),
+        _ => format!(in alloc; "{LINE}{CERTIFICATE}{FLIGHT}%trace\n{TRACE}"),
+    }
 }
 
-const CASES: [Case; 3] = [
-    Case {
-        word: "check",
-        parts: &[LINE, CERTIFICATE],
-        answer: "accepted\nmodules 1 nodes 2 cells 4\n",
-    },
-    Case {
-        word: "fly",
-        parts: &[LINE, CERTIFICATE, FLIGHT],
-        answer: TRACE,
-    },
-    Case {
-        word: "replay",
-        parts: &[LINE, CERTIFICATE, FLIGHT, "%trace\n", TRACE],
-        answer: "legal events 7\n",
-    },
-];
+// And its answer, with status 0.
+fn answer_of(word: &str) -> &'static str {
+    match word {
+        "check" => "accepted\nmodules 1 nodes 2 cells 4\n",
+        "fly" => TRACE,
+        _ => "legal events 7\n",
+    }
+}
 
 // The numbers of the read and of the write that fail, from 1; 0 is none.
 #[derive(Clone, Copy)]
@@ -86,29 +79,56 @@ struct Failing {
     write: u32,
 }
 
-fn text_of(alloc: Global, case: &Case) -> Result<Vec<u8>, Fail> {
-    let mut text = Vec::new(alloc);
-    for part in case.parts {
-        text.extend_from_slice(part.as_bytes())?;
-    }
-    Ok(text)
-}
-
-// How a command ends whose reads and writes move so many bytes at the most, and what its sink holds then.
+// The status of a command whose reads and writes move so many bytes at the most, and behind it what its sink holds then.
 fn ended(
-    rt: &(impl Threads + Wait + Sync),
+    rt: &(impl Abort + Threads + Wait + Sync),
     alloc: Global,
-    case: &Case,
+    word: &str,
     piece: usize,
     failing: Failing,
-) -> Result<(u8, Vec<u8>), Fail>
+) -> String
     requires { 0 < piece }
 {
-    let words = vec![in alloc; String::from_str(alloc, case.word)?]?;
-    let fails = vec![in alloc; failing.read]?;
-    let mut source = MemSource::new(text_of(alloc, case)?, piece, fails);
-    let mut sink = MemSink::new(alloc, 1000, piece, vec![in alloc; failing.write]?)?;
+    let words = vec![in alloc; String::from_str(alloc, word).expect(rt, "memory")].expect(
+        rt, "memory",
+    );
+    let text = text_of(alloc, word).expect(rt, "memory").into_bytes();
+    let mut source = MemSource::new(
+        text,
+        piece,
+        vec![in alloc; failing.read].expect(rt, "memory"),
+    );
+    let mut sink = MemSink::new(
+        alloc,
+        1000,
+        piece,
+        vec![in alloc; failing.write].expect(rt, "memory"),
+    )
+    .expect(rt, "memory");
     let mut guests: Vec<Box<dyn Controller + Send>> = Vec::new(alloc);
     let status = soter(rt, alloc, &words, &mut guests, &mut source, &mut sink);
-    Ok((status.0, Vec::from_slice(alloc, sink.bytes())?))
+    let held = str::from_utf8(sink.bytes()).expect(rt, "memory");
+    format!(in alloc; "{} {held}", status.0).expect(rt, "memory")
+}
+
+// With such a failure a command ends so: its status, and what its sink holds.
+fn ends(
+    rt: &(impl Abort + Threads + Wait + Sync),
+    alloc: Global,
+    word: &str,
+    piece: usize,
+    failing: Failing,
+    status: &str,
+    held: &str,
+)
+    requires { 0 < piece }
+{
+    let want = format!(in alloc; "{status} {held}").expect(rt, "memory");
+    let said = ended(rt, alloc, word, piece, failing);
+    let Failing { read, write } = failing;
+    assert_eq!(rt;
+        said.as_str(),
+        want.as_str(),
+        "{word}, read {read} and write {write} in pieces of {piece}"
+    );
 }

@@ -3,66 +3,101 @@
 ghost use Rattle.std.specs.Prelude.{◌≤◌, IfOk};
 
 use sot_ports::*;
+use std::alloc::Global;
 use std::io;
 use std::io::{Read, Write};
-use std::test::Fail;
+use std::process::Abort;
 
-#[test]
-fn reads_to_the_end_or_says_why_not(rt: HostRuntime) -> Result<(), Fail> {
-    let alloc = rt.alloc();
-    for (piece, fail, limit, want, next) in [
-        (2, 0, 5, Ok(5), ""),
-        (9, 0, 6, Ok(5), ""),
-        (9, 0, 4, Err(ReadFail::TooLong), ""),
-        (9, 0, 3, Err(ReadFail::TooLong), "e"),
-        (2, 2, 5, Err(ReadFail::Fault), "cd"),
-        (2, 4, 5, Err(ReadFail::Fault), ""),
-    ] {
-        let bytes = Vec::from_slice(alloc, b"abcde")?;
-        let mut source = MemSource::new(bytes, piece, vec![in alloc; fail]?);
-        let read = read_all(alloc, &mut source, limit);
-        assert_eq!(rt;
-            read.map(|all| all.len()),
-            want,
-            "piece {piece} limit {limit} fail {fail}"
-        );
-        let mut room = [0; 9];
-        assert_eq!(rt;
-            source.read(&mut room),
-            Ok(next.len()),
-            "after limit {limit} fail {fail}"
-        );
-        assert!(rt;
-            room.starts_with(next.as_bytes()),
-            "after limit {limit} fail {fail}"
-        );
+// The number in a column of a row, from 0.
+fn number(row: &str, place: usize) -> u32 {
+    row.split(' ').nth(place).unwrap_or("").parse().unwrap_or(0)
+}
+
+// The room of a piece, the read that fails (0: none) and the limit; then what `read_all` gives of five letters, and what the next read gives.
+const READS: &str = "2 0 5 => abcde, then nothing
+9 0 6 => abcde, then nothing
+9 0 4 => TooLong, then nothing
+9 0 3 => TooLong, then e
+2 2 5 => Fault, then cd
+2 4 5 => Fault, then nothing";
+
+// What a read of a row gives.
+fn put_read(rt: &impl Abort, alloc: Global, row: &str, said: &mut String) {
+    let bytes = Vec::from_slice(alloc, b"abcde").expect(rt, "memory");
+    let fails = vec![in alloc; number(row, 1)].expect(rt, "memory");
+    let mut source = MemSource::new(bytes, number(row, 0).max(1) as usize, fails);
+    match read_all(alloc, &mut source, number(row, 2).min(9) as usize) {
+        Ok(all) => said
+            .push_str(str::from_utf8(&all).expect(rt, "memory"))
+            .expect(rt, "memory"),
+        Err(fail) => write!(said, "{fail:?}").expect(rt, "memory"),
     }
-    let bytes = Vec::from_slice(alloc, b"abcde")?;
-    let all = read_all(alloc, &mut PureSource::new(bytes), 5);
-    assert!(rt; all.is_ok_and(|all| all.as_slice() == b"abcde".as_slice()));
-    Ok(())
+    let mut room = [0; 9];
+    match source.read(&mut room) {
+        Ok(0) => said.push_str(", then nothing").expect(rt, "memory"),
+        Ok(count) => write!(
+            said,
+            ", then {}",
+            str::from_utf8(&room[..count]).expect(rt, "memory")
+        )
+        .expect(rt, "memory"),
+        Err(Failed) => said.push_str(", then a fault").expect(rt, "memory"),
+    }
 }
 
 #[test]
-fn writes_whole_or_says_how_much(rt: HostRuntime) -> Result<(), Fail> {
+fn reads_to_the_end_or_says_why_not(rt: HostRuntime) {
     let alloc = rt.alloc();
-    for (room, piece, fail, want, held) in [
-        (9, 2, 0, Ok(()), "abcde"),
-        (5, 9, 0, Ok(()), "abcde"),
-        (9, 2, 2, Err(WriteFault { sent: 2 }), "ab"),
-        (4, 3, 0, Err(WriteFault { sent: 4 }), "abcd"),
-    ] {
-        let mut sink = MemSink::new(alloc, room, piece, vec![in alloc; fail]?)?;
-        assert_eq!(rt;
-            write_whole(&mut sink, b"abcde"),
-            want,
-            "room {room} piece {piece}"
-        );
-        assert_eq!(rt; sink.bytes(), held.as_bytes(), "room {room} piece {piece}");
+    for row in READS.lines() {
+        let (given, want) = row.split_once(" => ").unwrap_or(("", ""));
+        let mut said = String::new(alloc);
+        put_read(&rt, alloc, given, &mut said);
+        assert_eq!(rt; said.as_str(), want, "at {row}");
     }
+    let bytes = Vec::from_slice(alloc, b"abcde").expect(&rt, "memory");
+    let all = read_all(alloc, &mut PureSource::new(bytes), 5);
+    assert!(rt; all.is_ok_and(|all| all.as_slice() == b"abcde".as_slice()));
+}
+
+// The room of a sink, that of a piece and the write that fails (0: none); then how a write of five letters ends, and what the sink holds.
+const WRITES: &str = "9 2 0 => whole: abcde
+5 9 0 => whole: abcde
+9 2 2 => 2: ab
+4 3 0 => 4: abcd";
+
+// What a write of a row gives.
+fn put_write(rt: &impl Abort, alloc: Global, row: &str, said: &mut String) {
+    let fails = vec![in alloc; number(row, 2)].expect(rt, "memory");
+    let mut sink = MemSink::new(
+        alloc,
+        number(row, 0).min(9) as usize,
+        number(row, 1).max(1) as usize,
+        fails,
+    )
+    .expect(rt, "memory");
+    match write_whole(&mut sink, b"abcde") {
+        Ok(()) => said.push_str("whole: ").expect(rt, "memory"),
+        Err(fault) => write!(said, "{}: ", fault.sent).expect(rt, "memory"),
+    }
+    said.push_str(str::from_utf8(sink.bytes()).expect(rt, "memory"))
+        .expect(rt, "memory");
+}
+
+#[test]
+fn writes_whole_or_says_how_much(rt: HostRuntime) {
+    let alloc = rt.alloc();
+    for row in WRITES.lines() {
+        let (given, want) = row.split_once(" => ").unwrap_or(("", ""));
+        let mut said = String::new(alloc);
+        put_write(&rt, alloc, given, &mut said);
+        assert_eq!(rt; said.as_str(), want, "at {row}");
+    }
+}
+
+#[test]
+fn writes_to_nowhere_and_to_the_standard_output(rt: HostRuntime) {
     assert!(rt; write_whole(&mut NullSink::new(), b"abcde").is_ok());
     assert!(rt; write_whole(&mut StdSink::new(rt.stdout()), b"standard output\n").is_ok());
-    Ok(())
 }
 
 // An outside of which nothing is known: each call answers by the next letter, `e` with an error,
@@ -111,56 +146,45 @@ impl Write for Script<'_> {
     }
 }
 
+// How an outside answers by turns, and what two counted calls of it say and count. A write that took a byte is flushed, and only such a one.
+const COUNTED: &str = "read oo => Ok(1) Ok(1) 0
+read ze => Ok(0) Err(Failed) 1
+read ee => Err(Failed) Err(Failed) 2
+write ozoz => Ok(1) Ok(1) 0
+write oeoz => Err(Failed) Ok(1) 1
+write zoz => Err(Failed) Ok(1) 1
+write eoz => Err(Failed) Ok(1) 1";
+
+// A counted call of a row.
+fn counted(script: &mut Script<'_>, is_read: bool, faults: &mut u64) -> Result<usize, Failed> {
+    if is_read {
+        counted_read(script, &mut [0; 3], faults)
+    } else {
+        counted_write(script, b"abc", faults)
+    }
+}
+
 #[test]
 fn counts_the_faults_of_the_standard_ends(rt: HostRuntime) {
-    for (letters, first, second, count) in [
-        ("oo", Ok(1), Ok(1), 0),
-        ("ze", Ok(0), Err(Failed), 1),
-        ("ee", Err(Failed), Err(Failed), 2),
-    ] {
+    let alloc = rt.alloc();
+    for row in COUNTED.lines() {
+        let (given, want) = row.split_once(" => ").unwrap_or(("", ""));
+        let (call, letters) = given.split_once(' ').unwrap_or(("", ""));
         let mut script = Script {
             letters: letters.as_bytes(),
         };
         let mut faults = 0;
-        assert_eq!(rt;
-            counted_read(&mut script, &mut [0; 3], &mut faults),
-            first,
-            "read {letters}"
-        );
-        assert_eq!(rt;
-            counted_read(&mut script, &mut [0; 3], &mut faults),
-            second,
-            "read {letters}"
-        );
-        assert_eq!(rt; faults, count, "read {letters}");
+        let first = counted(&mut script, call == "read", &mut faults);
+        let second = counted(&mut script, call == "read", &mut faults);
+        let said = format!(in alloc; "{first:?} {second:?} {faults}").expect(&rt, "memory");
+        assert_eq!(rt; said.as_str(), want, "at {row}");
     }
-    // A write that took a byte is flushed, and only such a one.
-    for (letters, first, second, count) in [
-        ("ozoz", Ok(1), Ok(1), 0),
-        ("oeoz", Err(Failed), Ok(1), 1),
-        ("zoz", Err(Failed), Ok(1), 1),
-        ("eoz", Err(Failed), Ok(1), 1),
-    ] {
-        let mut script = Script {
-            letters: letters.as_bytes(),
-        };
-        let mut faults = 0;
-        assert_eq!(rt;
-            counted_write(&mut script, b"abc", &mut faults),
-            first,
-            "write {letters}"
-        );
-        assert_eq!(rt;
-            counted_write(&mut script, b"abc", &mut faults),
-            second,
-            "write {letters}"
-        );
-        assert_eq!(rt; faults, count, "write {letters}");
-    }
+}
+
+#[test]
+fn counts_no_further_than_there_are_numbers(rt: HostRuntime) {
+    let mut script = Script { letters: b"e" };
     let mut last = u64::MAX;
-    assert_eq!(rt;
-        counted_read(&mut Script { letters: b"e" }, &mut [0], &mut last),
-        Err(Failed)
-    );
+    assert!(rt; counted_read(&mut script, &mut [0], &mut last).is_err());
     assert_eq!(rt; last, u64::MAX);
 }

@@ -1,20 +1,24 @@
 //! Tests of the limits of programs, one below and one above each.
 
 use super::*;
-use std::process::Abort;
 
-// A limit: in a program of these pieces around it, a piece may stand so many times and not once more.
-#[derive(Clone, Copy)]
-struct Limit {
-    name: &'static str,
-    given: &'static [(u32, &'static str)],
-    front: &'static str,
-    most: u32,
-    piece: &'static str,
-    back: &'static str,
-    holds: &'static str,
-    fault: &'static str,
-}
+// A limit a line: of what, a program of parts, how often the part at `?` may stand, and what is said then and at once more.
+// Each other part has its count in front; `~` ends a line.
+const LIMITS: &str =
+    "topics => ?*topic t#: int[0..1] = 0;~ => 512 => accepted~modules 0 nodes 0 cells 0~ => fault type line 513 column 7 TooMany~
+nodes => ?*external e# period 1 offset 0 { }~ => 300 => accepted~modules 0 nodes 300 cells 0~ => fault type line 301 column 10 TooMany~
+modules beside a hundred => 100*MODULE + ?*module last { ac a0; sc s0; period 1 offset 0; plant p0; safe [0..1]; safer [0..1]; }~ => 0 => refused 15 NoCells module m0~ => fault type line 401 column 8 TooMany~
+plants beside a hundred => 100*MODULE + ?*plant last { state x: int; next x = x; }~ => 0 => refused 15 NoCells module m0~ => fault type line 401 column 7 TooMany~
+fields beside one => 1*topic r: { + ?*f#: bool,  + 1*g: bool} = {true, true, true, true, true, true, true, true};~ => 7 => accepted~modules 0 nodes 0 cells 0~ => fault type line 1 column 91 TooMany~
+scalars written beside one => 9*topic t#: bool = true;~ + 1*external e period 1 offset 0 { writes  + ?*t#,  + 1*t8; }~ => 7 => accepted~modules 0 nodes 1 cells 0~ => fault type line 10 column 71 TooMany~
+inputs beside one => 9*topic t#: int[0..1] = 0;~ + 1*OWN_MODULE + 1*plant q { state x: int; input  + ?*t#,  + 1*t8; next x = x; }~ => 7 => refused 13 ForeignInput module m topic t0~ => fault type line 13 column 63 TooMany~
+numbers read beside one => 65*topic t#: bool = true;~ + 1*external e period 1 offset 0 { reads  + ?*t#,  + 1*t64; }~ => 63 => accepted~modules 0 nodes 1 cells 0~ => fault type line 66 column 348 TooMany~
+locals => 1*node n period 1 offset 0 {  + ?*local l#: bool = true;  + 1*do { } }~ => 16 => accepted~modules 0 nodes 1 cells 0~ => fault type line 1 column 408 TooMany~
+state variables beside one => 1*OWN_MODULE + 1*plant q { state  + ?*x#: int,  + 1*y: int; next x0 = y; next x1 = y; next x2 = y; next y = y; }~ => 3 => refused 15 NoCells module m~ => fault type line 4 column 53 TooMany~
+disturbances beside one => 1*OWN_MODULE + 1*plant q { state x: int; noise  + ?*w#: int[0..1],  + 1*v: int[0..1]; next x = x; }~ => 3 => refused 15 NoCells module m~ => fault type line 4 column 91 TooMany~
+plants seen beside one => 17*MODULE + 1*OWN_MODULE + 1*plant q { state x: int; sees  + ?*p#,  + 1*p16; next x = x; }~ => 15 => refused 15 NoCells module m0~ => fault type line 72 column 100 TooMany~
+boxes beside one => 1*REGION + ?*[0..1] |  + 1*[0..1]; safer none; }~ => 255 => refused 15 NoCells module m~ => fault type line 4 column 2361 TooMany~
+statements beside 9,001 => 1*STATEMENTS + ?*a := 0;  + 1*} }~ => 999 => accepted~modules 0 nodes 1 cells 0~ => fault type line 1 column 8137 TooMany~";
 
 // A program up to the boxes of a region.
 const REGION: &str = "plant q { state x: int; next x = x; }
@@ -26,226 +30,64 @@ module m { ac e; sc s; period 1 offset 0; plant q; safe ";
 const STATEMENTS: &str =
     "node n period 1 offset 0 { local a: int[0..1] = 0; do { repeat 1000 { a := 0; a := 0; a := 0; a := 0; a := 0; a := 0; a := 0; a := 0; a := 0; } ";
 
-// The text and the status at one number of pieces.
-fn at(
-    rt: &(impl Threads + Wait + Sync),
-    alloc: Global,
-    limit: &Limit,
-    count: u32,
-) -> Result<(u8, Vec<u8>), Fail> {
-    let mut pieces = Vec::from_slice(alloc, limit.given)?;
-    pieces.push((1, limit.front))?;
-    pieces.push((count, limit.piece))?;
-    pieces.push((1, limit.back))?;
-    checked(rt, alloc, &mission(alloc, &pieces)?)
+// What a part of a program says, or stands for.
+fn part_of(part: &str) -> &str {
+    match part {
+        "MODULE" => MODULE,
+        "OWN_MODULE" => OWN_MODULE,
+        "REGION" => REGION,
+        "STATEMENTS" => STATEMENTS,
+        other => other,
+    }
 }
 
-// At this number of pieces this is said, of a fault or of none.
-fn tells(
-    rt: &(impl Abort + Threads + Wait + Sync),
-    alloc: Global,
-    limit: &Limit,
-    count: u32,
-    is_fault: bool,
-    said: &str,
-) -> Result<(), Fail> {
-    let name = limit.name;
-    let (status, text) = at(rt, alloc, limit, count)?;
-    assert_eq!(rt; status == 3, is_fault, "of {name}");
-    assert_eq!(rt;
-        text.as_slice(),
-        format!(in alloc; "{said}\n")?.as_bytes(),
-        "of {name}"
-    );
-    Ok(())
+// Puts a part with this number where it has a `#`.
+fn put_part(rt: &impl Abort, part: &str, number: u32, text: &mut String) {
+    for letter in part.chars() {
+        match letter {
+            '#' => write!(text, "{number}").expect(rt, "memory"),
+            '~' => text.push('\n').expect(rt, "memory"),
+            other => text.push(other).expect(rt, "memory"),
+        }
+    }
+}
+
+// A program of parts, of which one stands so many times.
+fn repeated(rt: &impl Abort, alloc: Global, parts: &str, times: u32) -> String {
+    let mut text = String::new(alloc);
+    for part in parts.split(" + ") {
+        let count = match column(part, "*", 0) {
+            "?" => times,
+            number => number.parse().unwrap_or(0),
+        };
+        for i in 0..count {
+            put_part(rt, part_of(column(part, "*", 1)), i, &mut text);
+        }
+    }
+    text
 }
 
 #[test]
-fn counts_up_to_its_limits(rt: HostRuntime) -> Result<(), Fail> {
+fn counts_up_to_its_limits(rt: HostRuntime) {
     let alloc = rt.alloc();
-    for limit in [
-        Limit {
-            name: "topics",
-            given: &[],
-            front: "",
-            most: 512,
-            piece: "topic t#: int[0..1] = 0;\n",
-            back: "",
-            holds: "accepted\nmodules 0 nodes 0 cells 0",
-            fault: "fault type line 513 column 7 TooMany",
-        },
-        Limit {
-            name: "nodes",
-            given: &[],
-            front: "",
-            most: 300,
-            piece: "external e# period 1 offset 0 { }\n",
-            back: "",
-            holds: "accepted\nmodules 0 nodes 300 cells 0",
-            fault: "fault type line 301 column 10 TooMany",
-        },
-        Limit {
-            name: "modules beside a hundred",
-            given: &[(100, MODULE)],
-            front: "",
-            most: 0,
-            piece: "module last { ac a0; sc s0; period 1 offset 0; plant p0; safe [0..1]; safer [0..1]; }\n",
-            back: "",
-            holds: "refused 15 NoCells module m0",
-            fault: "fault type line 401 column 8 TooMany",
-        },
-        Limit {
-            name: "plants beside a hundred",
-            given: &[(100, MODULE)],
-            front: "",
-            most: 0,
-            piece: "plant last { state x: int; next x = x; }\n",
-            back: "",
-            holds: "refused 15 NoCells module m0",
-            fault: "fault type line 401 column 7 TooMany",
-        },
-        Limit {
-            name: "fields beside one",
-            given: &[],
-            front: "topic r: {",
-            most: 7,
-            piece: "f#: bool, ",
-            back: "g: bool} = {true, true, true, true, true, true, true, true};\n",
-            holds: "accepted\nmodules 0 nodes 0 cells 0",
-            fault: "fault type line 1 column 91 TooMany",
-        },
-        Limit {
-            name: "scalars written beside one",
-            given: &[(9, "topic t#: bool = true;\n")],
-            front: "external e period 1 offset 0 { writes ",
-            most: 7,
-            piece: "t#, ",
-            back: "t8; }\n",
-            holds: "accepted\nmodules 0 nodes 1 cells 0",
-            fault: "fault type line 10 column 71 TooMany",
-        },
-        Limit {
-            name: "inputs beside one",
-            given: &[(9, "topic t#: int[0..1] = 0;\n"), (1, OWN_MODULE)],
-            front: "plant q { state x: int; input ",
-            most: 7,
-            piece: "t#, ",
-            back: "t8; next x = x; }\n",
-            holds: "refused 13 ForeignInput module m topic t0",
-            fault: "fault type line 13 column 63 TooMany",
-        },
-        Limit {
-            name: "numbers read beside one",
-            given: &[(65, "topic t#: bool = true;\n")],
-            front: "external e period 1 offset 0 { reads ",
-            most: 63,
-            piece: "t#, ",
-            back: "t64; }\n",
-            holds: "accepted\nmodules 0 nodes 1 cells 0",
-            fault: "fault type line 66 column 348 TooMany",
-        },
-        Limit {
-            name: "locals",
-            given: &[],
-            front: "node n period 1 offset 0 { ",
-            most: 16,
-            piece: "local l#: bool = true; ",
-            back: "do { } }\n",
-            holds: "accepted\nmodules 0 nodes 1 cells 0",
-            fault: "fault type line 1 column 408 TooMany",
-        },
-        Limit {
-            name: "state variables beside one",
-            given: &[(1, OWN_MODULE)],
-            front: "plant q { state ",
-            most: 3,
-            piece: "x#: int, ",
-            back: "y: int; next x0 = y; next x1 = y; next x2 = y; next y = y; }\n",
-            holds: "refused 15 NoCells module m",
-            fault: "fault type line 4 column 53 TooMany",
-        },
-        Limit {
-            name: "disturbances beside one",
-            given: &[(1, OWN_MODULE)],
-            front: "plant q { state x: int; noise ",
-            most: 3,
-            piece: "w#: int[0..1], ",
-            back: "v: int[0..1]; next x = x; }\n",
-            holds: "refused 15 NoCells module m",
-            fault: "fault type line 4 column 91 TooMany",
-        },
-        Limit {
-            name: "plants seen beside one",
-            given: &[(17, MODULE), (1, OWN_MODULE)],
-            front: "plant q { state x: int; sees ",
-            most: 15,
-            piece: "p#, ",
-            back: "p16; next x = x; }\n",
-            holds: "refused 15 NoCells module m0",
-            fault: "fault type line 72 column 100 TooMany",
-        },
-        Limit {
-            name: "boxes beside one",
-            given: &[],
-            front: REGION,
-            most: 255,
-            piece: "[0..1] | ",
-            back: "[0..1]; safer none; }\n",
-            holds: "refused 15 NoCells module m",
-            fault: "fault type line 4 column 2361 TooMany",
-        },
-        Limit {
-            name: "statements beside 9,001",
-            given: &[],
-            front: STATEMENTS,
-            most: 999,
-            piece: "a := 0; ",
-            back: "} }\n",
-            holds: "accepted\nmodules 0 nodes 1 cells 0",
-            fault: "fault type line 1 column 8137 TooMany",
-        },
-    ] {
-        tells(&rt, alloc, &limit, limit.most, false, limit.holds)?;
-        tells(
-            &rt,
-            alloc,
-            &limit,
-            limit.most.saturating_add(1),
-            true,
-            limit.fault,
-        )?;
+    for row in LIMITS.lines() {
+        let parts = column(row, " => ", 1);
+        let most: u32 = column(row, " => ", 2).parse().unwrap_or(0);
+        let text = repeated(&rt, alloc, parts, most);
+        tells(&rt, alloc, &text, column(row, " => ", 3), row);
+        let more = repeated(&rt, alloc, parts, most.saturating_add(1));
+        tells(&rt, alloc, &more, column(row, " => ", 4), row);
     }
-    Ok(())
+    assert_eq!(rt; LIMITS.lines().count(), 14);
 }
 
+// Programs at the width of a range and at the longest period, and past them.
+const WIDTHS: &str = "topic t: int[-1..4294967294] = 0;~ => accepted~modules 0 nodes 0 cells 0~
+topic t: int[-1..4294967295] = 0;~ => fault type line 1 column 14 RangeWide~
+external e period 1000 offset 999 { }~ => accepted~modules 0 nodes 1 cells 0~
+external e period 1001 offset 999 { }~ => fault type line 1 column 19 PeriodOutside~";
+
 #[test]
-fn knows_the_width_of_a_range_and_the_longest_period(rt: HostRuntime) -> Result<(), Fail> {
-    let alloc = rt.alloc();
-    for (program, status, said) in [
-        (
-            "topic t: int[-1..4294967294] = 0;\n",
-            0,
-            "accepted\nmodules 0 nodes 0 cells 0\n",
-        ),
-        (
-            "topic t: int[-1..4294967295] = 0;\n",
-            3,
-            "fault type line 1 column 14 RangeWide\n",
-        ),
-        (
-            "external e period 1000 offset 999 { }\n",
-            0,
-            "accepted\nmodules 0 nodes 1 cells 0\n",
-        ),
-        (
-            "external e period 1001 offset 999 { }\n",
-            3,
-            "fault type line 1 column 19 PeriodOutside\n",
-        ),
-    ] {
-        let (ended, text) = checked(&rt, alloc, &mission(alloc, &[(1, program)])?)?;
-        assert_eq!(rt; ended, status, "at {program}");
-        assert_eq!(rt; text.as_slice(), said.as_bytes(), "at {program}");
-    }
-    Ok(())
+fn knows_the_width_of_a_range_and_the_longest_period(rt: HostRuntime) {
+    tells_of_programs(&rt, rt.alloc(), WIDTHS, 4)
 }

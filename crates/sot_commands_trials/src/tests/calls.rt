@@ -1,25 +1,23 @@
 //! Tests of the top call over sources and sinks of the tests.
 
 use super::*;
-use sot_commands::{Command, WordFail, command_of};
+use sot_commands::command_of;
 use sot_ports::MemSource;
-
-const QUOTED: &str = "plant pos {} %certificate {\"format\":1}";
 
 const LIMIT: usize = 16_777_216;
 
+// A vehicle with its certificate.
+fn mission(alloc: Global) -> Result<String, AllocError> {
+    format!(in alloc; "{LINE}{CERTIFICATE}")
+}
+
+const ACCEPTED: &str = "0 accepted~modules 1 nodes 2 cells 4~";
+
 #[test]
-fn checks_a_mission(rt: HostRuntime) -> Result<(), Fail> {
+fn checks_a_mission(rt: HostRuntime) {
     let alloc = rt.alloc();
-    let words = words_of(alloc, &["check"])?;
-    let mut source = PureSource::new(mission_of(alloc, LINE)?);
-    let mut sink = MemSink::new(alloc, 100, 100, Vec::new(alloc))?;
-    assert_eq!(rt; alone(&rt, alloc, &words, &mut source, &mut sink).0, 0);
-    assert_eq!(rt;
-        sink.bytes(),
-        b"accepted\nmodules 1 nodes 2 cells 4\n".as_slice()
-    );
-    Ok(())
+    let text = mission(alloc).expect(&rt, "memory");
+    answers(&rt, alloc, "check", &text, ACCEPTED)
 }
 
 // The same mission in its canonical text.
@@ -66,142 +64,156 @@ const TWO_BLOCKS_FORMATTED: &str = "node n period 1 offset 0 {
 }
 ";
 
-#[test]
-fn formats_programs(rt: HostRuntime) -> Result<(), Fail> {
-    let alloc = rt.alloc();
-    let words = words_of(alloc, &["format"])?;
-    for (text, status, said) in [
-        ("topic  a:int[0..1]=0;", 0, "topic a: int[0..1] = 0;\n"),
-        ("topic a: int[1..0] = 0;", 0, "topic a: int[1..0] = 0;\n"),
-        ("", 0, ""),
-        ("# nothing", 0, ""),
-        (
-            "environment topic a:{x:bool,y:fix(2)[0.5..01.50]}={true,1}; # two",
-            0,
-            "environment topic a: {x: bool, y: fix(2)[0.5..1.50]} = {true, 1};\n",
-        ),
-        (TWO_BLOCKS, 0, TWO_BLOCKS_FORMATTED),
-        (TWO_BLOCKS_FORMATTED, 0, TWO_BLOCKS_FORMATTED),
-        (LINE, 0, LINE_FORMATTED),
-        (LINE_FORMATTED, 0, LINE_FORMATTED),
-        (
-            "topic a: int[0..1] = 0\n",
-            3,
-            "fault syntax line 2 column 1 Token\n",
-        ),
-        (
-            "topic a: int[0..1] = 0; ?",
-            3,
-            "fault syntax line 1 column 25 BadByte\n",
-        ),
-        (
-            "topic a: int[0..1] = 1.0000000;",
-            3,
-            "fault syntax line 1 column 22 LiteralWide\n",
-        ),
-        (
-            "topic a1234567b1234567c1234567d1234567e1234567f1234567g1234567h1234567i: bool = true;",
-            3,
-            "fault syntax line 1 column 7 NameLong\n",
-        ),
-        (QUOTED, 3, "fault syntax line 1 column 12 Token\n"),
-    ] {
-        let bytes = Vec::from_slice(alloc, text.as_bytes())?;
-        let mut source = MemSource::new(bytes, 16, Vec::new(alloc));
-        let mut sink = MemSink::new(alloc, 1000, 10, Vec::new(alloc))?;
-        let ended = alone(&rt, alloc, &words, &mut source, &mut sink);
-        assert_eq!(rt; ended.0, status, "at {text}");
-        assert_eq!(rt; sink.bytes(), said.as_bytes(), "at {text}");
-    }
-    Ok(())
+// Short programs, and the answer.
+const SHORT: &str = "topic  a:int[0..1]=0; => 0 topic a: int[0..1] = 0;~
+topic a: int[1..0] = 0; => 0 topic a: int[1..0] = 0;~
+environment topic a:{x:bool,y:fix(2)[0.5..01.50]}={true,1}; # two => 0 environment topic a: {x: bool, y: fix(2)[0.5..1.50]} = {true, 1};~
+topic a: int[0..1] = 0~ => 3 fault syntax line 2 column 1 Token~
+topic a: int[0..1] = 0; ? => 3 fault syntax line 1 column 25 BadByte~
+topic a: int[0..1] = 1.0000000; => 3 fault syntax line 1 column 22 LiteralWide~
+topic a1234567b1234567c1234567d1234567e1234567f1234567g1234567h1234567i: bool = true; => 3 fault syntax line 1 column 7 NameLong~
+plant pos {} %certificate {\"format\":1} => 3 fault syntax line 1 column 12 Token~";
+
+// How `format` ends, and what it writes, where reads move at most 16 bytes and writes 10.
+fn formatted(rt: &(impl Abort + Threads + Wait + Sync), alloc: Global, text: &str) -> String {
+    let words = words_of(rt, alloc, "format");
+    let bytes = Vec::from_slice(alloc, text.as_bytes()).expect(rt, "memory");
+    let mut source = MemSource::new(bytes, 16, Vec::new(alloc));
+    let mut sink = MemSink::new(alloc, 1000, 10, Vec::new(alloc)).expect(rt, "memory");
+    let ended = alone(rt, alloc, &words, &mut source, &mut sink);
+    let said = str::from_utf8(sink.bytes()).expect(rt, "memory");
+    format!(in alloc; "{} {said}", ended.0).expect(rt, "memory")
 }
 
 #[test]
-fn tells_of_a_failed_read_and_a_failed_write(rt: HostRuntime) -> Result<(), Fail> {
+fn formats_programs(rt: HostRuntime) {
     let alloc = rt.alloc();
-    let words = words_of(alloc, &["check"])?;
-    for (read, write, status, said) in [
-        (2, 0, 4, ""),
-        (2, 1, 4, ""),
-        (0, 2, 5, "accepted\nm"),
-        (0, 1, 5, ""),
-    ] {
-        let mut source = MemSource::new(mission_of(alloc, LINE)?, 16, vec![in alloc; read]?);
-        let mut sink = MemSink::new(alloc, 100, 10, vec![in alloc; write]?)?;
-        let ended = alone(&rt, alloc, &words, &mut source, &mut sink);
-        assert_eq!(rt; ended.0, status, "read {read} write {write}");
-        assert_eq!(rt; sink.bytes(), said.as_bytes(), "read {read} write {write}");
+    for row in SHORT.lines() {
+        let text = lines_of(alloc, column(row, " => ", 0)).expect(&rt, "memory");
+        let want = lines_of(alloc, column(row, " => ", 1)).expect(&rt, "memory");
+        let said = formatted(&rt, alloc, &text);
+        assert_eq!(rt; said.as_str(), want.as_str(), "at {row}");
     }
-    Ok(())
+    assert_eq!(rt; SHORT.lines().count(), 8);
+}
+
+// Each of these texts has this canonical one.
+fn has_text(
+    rt: &(impl Abort + Threads + Wait + Sync),
+    alloc: Global,
+    texts: [&str; 2],
+    canonical: &str,
+) {
+    for text in texts {
+        let said = formatted(rt, alloc, text);
+        assert_eq!(rt; said.strip_prefix("0 "), Some(canonical), "at {text}");
+    }
 }
 
 #[test]
-fn reads_sixteen_mebibytes_and_no_more(rt: HostRuntime) -> Result<(), Fail> {
+fn formats_nothing_blocks_and_missions(rt: HostRuntime) {
     let alloc = rt.alloc();
-    let words = words_of(alloc, &["check"])?;
-    for (len, status, said) in [
-        (LIMIT, 3, "fault section line 2 Missing\n"),
-        (LIMIT + 1, 7, "fault input above 16777216 bytes\n"),
-    ] {
-        let mut source = PureSource::new(vec![in alloc; b' '; len]?);
-        let mut sink = MemSink::new(alloc, 100, 100, Vec::new(alloc))?;
-        assert_eq!(rt;
-            alone(&rt, alloc, &words, &mut source, &mut sink).0,
-            status,
-            "of {len}"
-        );
-        assert_eq!(rt; sink.bytes(), said.as_bytes(), "of {len}");
-    }
-    Ok(())
+    has_text(&rt, alloc, ["", "# nothing"], "");
+    has_text(&rt, alloc, [LINE, LINE_FORMATTED], LINE_FORMATTED);
+    let blocks = [TWO_BLOCKS, TWO_BLOCKS_FORMATTED];
+    has_text(&rt, alloc, blocks, TWO_BLOCKS_FORMATTED)
+}
+
+// Of which read and which write of `check` fails (none where it is 0) this is the answer.
+fn answers_failing(
+    rt: &(impl Abort + Threads + Wait + Sync),
+    alloc: Global,
+    read: u32,
+    write: u32,
+    want: &str,
+) {
+    let words = words_of(rt, alloc, "check");
+    let text = mission(alloc).expect(rt, "memory").into_bytes();
+    let mut source = MemSource::new(text, 16, vec![in alloc; read].expect(rt, "memory"));
+    let mut sink = MemSink::new(alloc, 100, 10, vec![in alloc; write].expect(rt, "memory")).expect(
+        rt, "memory",
+    );
+    let ended = alone(rt, alloc, &words, &mut source, &mut sink);
+    let said = str::from_utf8(sink.bytes()).expect(rt, "memory");
+    let answer = format!(in alloc; "{} {said}", ended.0).expect(rt, "memory");
+    assert_eq!(rt; answer.as_str(), want, "read {read} write {write}");
 }
 
 #[test]
-fn reads_nothing_at_other_words(rt: HostRuntime) -> Result<(), Fail> {
+fn tells_of_a_failed_read_and_a_failed_write(rt: HostRuntime) {
     let alloc = rt.alloc();
-    for words in [
-        [].as_slice(),
-        &["fly", "now"],
-        &["check", "check"],
-        &["Check"],
-        &["checks"],
-        &["-h"],
-    ] {
-        let words = words_of(alloc, words)?;
-        let mut source = PureSource::new(Vec::from_slice(alloc, LINE.as_bytes())?);
-        let mut sink = MemSink::new(alloc, 100, 100, Vec::new(alloc))?;
-        assert_eq!(rt; alone(&rt, alloc, &words, &mut source, &mut sink).0, 2);
-        assert_eq!(rt; sink.bytes(), USAGE.as_bytes());
-        let mut first = [0; 5];
-        assert_eq!(rt; source.read(&mut first), Ok(5));
-        assert_eq!(rt; first.as_slice(), b"topic".as_slice());
-    }
-    Ok(())
+    answers_failing(&rt, alloc, 2, 0, "4 ");
+    answers_failing(&rt, alloc, 2, 1, "4 ");
+    answers_failing(&rt, alloc, 0, 2, "5 accepted\nm");
+    answers_failing(&rt, alloc, 0, 1, "5 ")
+}
+
+// The status and the text of `check` on so many blanks.
+fn answer_to_blanks(
+    rt: &(impl Abort + Threads + Wait + Sync),
+    alloc: Global,
+    len: usize,
+) -> String {
+    let words = words_of(rt, alloc, "check");
+    let mut source = PureSource::new(vec![in alloc; b' '; len].expect(rt, "memory"));
+    let mut sink = MemSink::new(alloc, 100, 100, Vec::new(alloc)).expect(rt, "memory");
+    let ended = alone(rt, alloc, &words, &mut source, &mut sink);
+    let said = str::from_utf8(sink.bytes()).expect(rt, "memory");
+    format!(in alloc; "{} {said}", ended.0).expect(rt, "memory")
 }
 
 #[test]
-fn knows_commands_by_their_words(rt: HostRuntime) -> Result<(), Fail> {
+fn reads_sixteen_mebibytes_and_no_more(rt: HostRuntime) {
+    let longest = answer_to_blanks(&rt, rt.alloc(), LIMIT);
+    assert_eq!(rt; longest.as_str(), "3 fault section line 2 Missing\n");
+    let above = answer_to_blanks(&rt, rt.alloc(), LIMIT + 1);
+    assert_eq!(rt; above.as_str(), "7 fault input above 16777216 bytes\n");
+}
+
+// Words that ask for nothing, one list a line.
+const OTHERS: &str = "
+fly,now
+check,check
+Check
+checks
+-h";
+
+#[test]
+fn reads_nothing_at_other_words(rt: HostRuntime) {
     let alloc = rt.alloc();
-    for (words, want) in [
-        ([].as_slice(), Err(WordFail::Form)),
-        (&["check"], Ok(Command::Check)),
-        (&["fly"], Ok(Command::Fly)),
-        (&["format"], Ok(Command::Format)),
-        (&["fly", "now"], Err(WordFail::Form)),
-        (&["make", "0", "1"], Err(WordFail::Form)),
-        (&["make", "01", "1"], Err(WordFail::Form)),
-        (&["soak", "2", "-1"], Err(WordFail::Form)),
-        (&["-h"], Err(WordFail::Form)),
-        (&["--help"], Err(WordFail::Form)),
-        (&["check", "-x"], Err(WordFail::Form)),
-        (&["check", "check"], Err(WordFail::Form)),
-        (&["format", ""], Err(WordFail::Form)),
-        (&[""], Err(WordFail::Form)),
-        (&["Check"], Err(WordFail::Form)),
-        (&["help"], Err(WordFail::Form)),
-        (&["--", "check"], Err(WordFail::Form)),
-    ] {
-        let words = words_of(alloc, words)?;
-        assert_eq!(rt; command_of(alloc, &words), want);
+    let want = format!(in alloc; "2 before topic: {USAGE}").expect(&rt, "memory");
+    for words in OTHERS.lines() {
+        answers(&rt, alloc, words, LINE, &want);
     }
-    Ok(())
+    assert_eq!(rt; OTHERS.lines().count(), 6);
+}
+
+// Words, and the command that they are, where they are one.
+const COMMANDS: &str = " => Err(Form)
+check => Ok(Check)
+fly => Ok(Fly)
+format => Ok(Format)
+fly,now => Err(Form)
+make,0,1 => Err(Form)
+make,01,1 => Err(Form)
+soak,2,-1 => Err(Form)
+-h => Err(Form)
+--help => Err(Form)
+check,-x => Err(Form)
+check,check => Err(Form)
+format,, => Err(Form)
+, => Err(Form)
+Check => Err(Form)
+help => Err(Form)
+--,check => Err(Form)";
+
+#[test]
+fn knows_commands_by_their_words(rt: HostRuntime) {
+    let alloc = rt.alloc();
+    for row in COMMANDS.lines() {
+        let words = words_of(&rt, alloc, column(row, " => ", 0));
+        let found = format!(in alloc; "{:?}", command_of(alloc, &words)).expect(&rt, "memory");
+        assert_eq!(rt; found.as_str(), column(row, " => ", 1), "at {row}");
+    }
+    assert_eq!(rt; COMMANDS.lines().count(), 17);
 }

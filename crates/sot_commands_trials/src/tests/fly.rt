@@ -70,65 +70,58 @@ start pos 0
 end 20 events 36 refused 0
 ";
 
-// The status and the text of `fly` on a mission with this flight.
-fn flown(
-    rt: &(impl Threads + Wait + Sync),
-    alloc: Global,
-    mission: &str,
-    flight: &str,
-) -> Result<(u8, Vec<u8>), Fail> {
-    let text = format!(in alloc; "{mission}{flight}")?;
-    let (status, answer, _) = said(rt, alloc, &["fly"], text.as_bytes())?;
-    Ok((status, answer))
+// The flight of a relay to which one number comes from outside.
+const ONE_INPUT: &str =
+    "%flight\n{\"crew\":{},\"format\":1,\"horizon\":0,\"inputs\":[{\"at\":0,\"topic\":\"e\",\"value\":[5]}],\"start\":{},\"sway\":{}}\n";
+
+// Flights of the vehicle: who flies its advanced node, how long, where it starts and what moves it; and what is said.
+const FLIGHTS: &str =
+    "\"drafts\":[[2]],\"kind\":\"script\" ; 3 ; 0 ; \"kind\":\"seed\",\"seed\":42,\"stream\":54 => 0 soter trace 1~start pos 0~0 decide nav ac~0 tick pos(-1)=-1~1 idle slow cmd=0~1 tick pos(-1)=-2~2 fire fast cmd=2~2 tick pos(1)=1~end 3 events 6 refused 0~
+\"drafts\":[[2]],\"kind\":\"script\" ; 0 ; 0 ; \"kind\":\"low\" => 0 soter trace 1~start pos 0~0 decide nav ac~end 0 events 1 refused 0~
+\"drafts\":[[2]],\"kind\":\"script\" ; 20 ; 11 ; \"kind\":\"low\" => 1 refused start module nav point (11)~
+\"index\":0,\"kind\":\"guest\" ; 3 ; 0 ; \"kind\":\"low\" => 3 fault flight /crew/fast/index NoGuest~";
+
+// A mission of the vehicle with such a flight.
+fn flown(alloc: Global, flight: &str) -> Result<String, AllocError> {
+    let (crew, horizon) = (column(flight, " ; ", 0), column(flight, " ; ", 1));
+    let (start, sway) = (column(flight, " ; ", 2), column(flight, " ; ", 3));
+    format!(in alloc;
+        "{VEHICLE}%flight\n{{\"crew\":{{\"fast\":{{{crew}}}}},\"format\":1,\"horizon\":{horizon},\"inputs\":[],\"start\":{{\"pos\":[{start}]}},\"sway\":{{\"pos\":{{{sway}}}}}}}\n"
+    )
 }
 
 #[test]
-fn flies_what_is_accepted_and_starts_inside(rt: HostRuntime) -> Result<(), Fail> {
+fn flies_what_is_accepted_and_starts_inside(rt: HostRuntime) {
     let alloc = rt.alloc();
-    for (mission, flight, status, said) in [
-        (
-            RELAY,
-            "%flight\n{\"crew\":{},\"format\":1,\"horizon\":0,\"inputs\":[{\"at\":0,\"topic\":\"e\",\"value\":[5]}],\"start\":{},\"sway\":{}}\n",
-            0,
-            "soter trace 1\n0 input e=5\n0 fire copy m=5\nend 0 events 2 refused 0\n",
-        ),
-        (
-            VEHICLE,
-            "%flight\n{\"crew\":{\"fast\":{\"drafts\":[[2]],\"kind\":\"script\"}},\"format\":1,\"horizon\":3,\"inputs\":[],\"start\":{\"pos\":[0]},\"sway\":{\"pos\":{\"kind\":\"seed\",\"seed\":42,\"stream\":54}}}\n",
-            0,
-            "soter trace 1\nstart pos 0\n0 decide nav ac\n0 tick pos(-1)=-1\n1 idle slow cmd=0\n1 tick pos(-1)=-2\n2 fire fast cmd=2\n2 tick pos(1)=1\nend 3 events 6 refused 0\n",
-        ),
-        (
-            VEHICLE,
-            "%flight\n{\"crew\":{\"fast\":{\"drafts\":[[2]],\"kind\":\"script\"}},\"format\":1,\"horizon\":20,\"inputs\":[],\"start\":{\"pos\":[0]},\"sway\":{\"pos\":{\"kind\":\"list\",\"values\":[[0]]}}}\n",
-            0,
-            SWITCHED,
-        ),
-        (
-            VEHICLE,
-            "%flight\n{\"crew\":{\"fast\":{\"drafts\":[[2]],\"kind\":\"script\"}},\"format\":1,\"horizon\":0,\"inputs\":[],\"start\":{\"pos\":[0]},\"sway\":{\"pos\":{\"kind\":\"low\"}}}\n",
-            0,
-            "soter trace 1\nstart pos 0\n0 decide nav ac\nend 0 events 1 refused 0\n",
-        ),
-        (
-            VEHICLE,
-            "%flight\n{\"crew\":{\"fast\":{\"drafts\":[[2]],\"kind\":\"script\"}},\"format\":1,\"horizon\":20,\"inputs\":[],\"start\":{\"pos\":[11]},\"sway\":{\"pos\":{\"kind\":\"low\"}}}\n",
-            1,
-            "refused start module nav point (11)\n",
-        ),
-        (
-            VEHICLE,
-            "%flight\n{\"crew\":{\"fast\":{\"index\":0,\"kind\":\"guest\"}},\"format\":1,\"horizon\":3,\"inputs\":[],\"start\":{\"pos\":[0]},\"sway\":{\"pos\":{\"kind\":\"low\"}}}\n",
-            3,
-            "fault flight /crew/fast/index NoGuest\n",
-        ),
-        (VEHICLE, "", 3, "fault section line 12 Missing\n"),
-    ] {
-        let (ended, text) = flown(&rt, alloc, mission, flight)?;
-        assert_eq!(rt; ended, status);
-        assert_eq!(rt; text.as_slice(), said.as_bytes());
+    for row in FLIGHTS.lines() {
+        let text = flown(alloc, column(row, " => ", 0)).expect(&rt, "memory");
+        answers(&rt, alloc, "fly", &text, column(row, " => ", 1));
     }
-    Ok(())
+    assert_eq!(rt; FLIGHTS.lines().count(), 4);
+    answers(
+        &rt,
+        alloc,
+        "fly",
+        VEHICLE,
+        "3 fault section line 12 Missing~",
+    )
+}
+
+#[test]
+fn flies_inputs_and_switches(rt: HostRuntime) {
+    let alloc = rt.alloc();
+    let text = format!(in alloc; "{RELAY}{ONE_INPUT}").expect(&rt, "memory");
+    let relayed = "0 soter trace 1~0 input e=5~0 fire copy m=5~end 0 events 2 refused 0~";
+    answers(&rt, alloc, "fly", &text, relayed);
+    let calm = "\"drafts\":[[2]],\"kind\":\"script\" ; 20 ; 0 ; \"kind\":\"list\",\"values\":[[0]]";
+    let want = format!(in alloc; "0 {SWITCHED}").expect(&rt, "memory");
+    answers(
+        &rt,
+        alloc,
+        "fly",
+        &flown(alloc, calm).expect(&rt, "memory"),
+        &want,
+    )
 }
 
 // A guest that drafts one number, and tells nothing of its askings.
@@ -146,21 +139,20 @@ impl Controller for Stubborn {
 }
 
 #[test]
-fn asks_the_guest_that_a_flight_names(rt: HostRuntime) -> Result<(), Fail> {
+fn asks_the_guest_that_a_flight_names(rt: HostRuntime) {
     let alloc = rt.alloc();
-    let text = format!(in alloc;
-        "{VEHICLE}%flight\n{{\"crew\":{{\"fast\":{{\"index\":0,\"kind\":\"guest\"}}}},\"format\":1,\"horizon\":3,\"inputs\":[],\"start\":{{\"pos\":[0]}},\"sway\":{{\"pos\":{{\"kind\":\"list\",\"values\":[[0]]}}}}}}\n"
-    )?;
-    let words = words_of(alloc, &["fly"])?;
+    let flight = "\"index\":0,\"kind\":\"guest\" ; 3 ; 0 ; \"kind\":\"list\",\"values\":[[0]]";
+    let text = flown(alloc, flight).expect(&rt, "memory");
+    let words = words_of(&rt, alloc, "fly");
     let mut guests = Vec::new(alloc);
-    guests.push(Stubborn { number: 7 })?;
+    guests.push(Stubborn { number: 7 }).expect(&rt, "memory");
     let mut source = PureSource::new(text.into_bytes());
-    let mut sink = MemSink::new(alloc, 2000, 2000, Vec::new(alloc))?;
+    let mut sink = MemSink::new(alloc, 2000, 2000, Vec::new(alloc)).expect(&rt, "memory");
     let ended = soter(&rt, alloc, &words, &mut guests, &mut source, &mut sink);
-    assert_eq!(rt; ended.0, 0);
+    let said = str::from_utf8(sink.bytes()).expect(&rt, "memory");
+    let answer = format!(in alloc; "{} {said}", ended.0).expect(&rt, "memory");
     assert_eq!(rt;
-        sink.bytes(),
-        "soter trace 1\nstart pos 0\n0 decide nav ac\n0 tick pos(0)=0\n1 idle slow cmd=0\n1 tick pos(0)=0\n2 fire fast cmd!7\n2 tick pos(0)=0\nend 3 events 6 refused 1\n".as_bytes()
+        answer.as_str(),
+        "0 soter trace 1\nstart pos 0\n0 decide nav ac\n0 tick pos(0)=0\n1 idle slow cmd=0\n1 tick pos(0)=0\n2 fire fast cmd!7\n2 tick pos(0)=0\nend 3 events 6 refused 1\n"
     );
-    Ok(())
 }

@@ -62,64 +62,55 @@ module nav1 {
 ";
 
 #[test]
-fn makes_a_mission_and_reads_nothing(rt: HostRuntime) -> Result<(), Fail> {
-    let (status, text, is_left) = said(&rt, rt.alloc(), &["make", "2", "42"], b"x")?;
-    assert_eq!(rt; status, 0);
-    assert_eq!(rt; text.as_slice(), TWO_MODULES.as_bytes());
-    assert!(rt; is_left);
-    Ok(())
+fn makes_a_mission_and_reads_nothing(rt: HostRuntime) {
+    let alloc = rt.alloc();
+    let want = format!(in alloc; "0 before x: {TWO_MODULES}").expect(&rt, "memory");
+    answers(&rt, alloc, "make,2,42", "x", &want)
 }
 
+// Numbers at their bounds, and how long the answer is behind its status and what is left.
+const LENGTHS: &str = "make,1,0 => 747
+make,1,1000000000000 => 771
+make,100,7 => 65394";
+
 #[test]
-fn takes_numbers_in_their_bounds(rt: HostRuntime) -> Result<(), Fail> {
-    for (n, seed, len) in [
-        ("1", "0", 747),
-        ("1", "1000000000000", 771),
-        ("100", "7", 65394),
-    ] {
-        let (status, text, is_left) = said(&rt, rt.alloc(), &["make", n, seed], b"x")?;
-        assert_eq!(rt; status, 0);
-        assert_eq!(rt; text.len(), len);
-        assert!(rt; is_left);
+fn takes_numbers_in_their_bounds(rt: HostRuntime) {
+    let alloc = rt.alloc();
+    for row in LENGTHS.lines() {
+        let said = answer(&rt, alloc, column(row, " => ", 0), "x");
+        let made = said.strip_prefix("0 before x: ").unwrap_or("");
+        let len = format!(in alloc; "{}", made.len()).expect(&rt, "memory");
+        assert_eq!(rt; len.as_str(), column(row, " => ", 1), "at {row}");
     }
-    Ok(())
 }
 
-// Pairs of words that are no count and no seed of a mission.
-const OTHERS: &str = "0,1
-01,1
-101,1
-+1,1
-1,1000000000001
-1,18446744073709551617
-1,00
-1,1.0
-1, 1
-1,
-,1
-2,-1
--1,1
-one,1";
+// Words that are no count and no seed of a mission, and too many or too few words.
+const OTHERS: &str = "make,0,1
+make,01,1
+make,101,1
+make,+1,1
+make,1,1000000000001
+make,1,18446744073709551617
+make,1,00
+make,1,1.0
+make,1, 1
+make,1,,
+make,,1
+make,2,-1
+make,-1,1
+make,one,1
+make
+make,1
+make,1,1,1
+fly,1,1
+1,1,make";
 
 #[test]
-fn turns_other_words_away(rt: HostRuntime) -> Result<(), Fail> {
-    for row in OTHERS.lines() {
-        let (n, seed) = row.split_once(',').ok_or("no second word")?;
-        let (status, text, is_left) = said(&rt, rt.alloc(), &["make", n, seed], b"x")?;
-        assert_eq!(rt; status, 2);
-        assert_eq!(rt; text.as_slice(), USAGE.as_bytes());
-        assert!(rt; is_left);
+fn turns_other_words_away(rt: HostRuntime) {
+    let alloc = rt.alloc();
+    let want = format!(in alloc; "2 before x: {USAGE}").expect(&rt, "memory");
+    for words in OTHERS.lines() {
+        answers(&rt, alloc, words, "x", &want);
     }
-    assert_eq!(rt; OTHERS.lines().count(), 14);
-    Ok(())
-}
-
-#[test]
-fn wants_two_numbers(rt: HostRuntime) -> Result<(), Fail> {
-    assert_eq!(rt; said(&rt, rt.alloc(), &["make"], b"x")?.0, 2);
-    assert_eq!(rt; said(&rt, rt.alloc(), &["make", "1"], b"x")?.0, 2);
-    assert_eq!(rt; said(&rt, rt.alloc(), &["make", "1", "1", "1"], b"x")?.0, 2);
-    assert_eq!(rt; said(&rt, rt.alloc(), &["fly", "1", "1"], b"x")?.0, 2);
-    assert_eq!(rt; said(&rt, rt.alloc(), &["1", "1", "make"], b"x")?.0, 2);
-    Ok(())
+    assert_eq!(rt; OTHERS.lines().count(), 19);
 }

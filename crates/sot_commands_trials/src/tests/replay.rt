@@ -16,105 +16,64 @@ module nav { ac fast; sc slow; period 4 offset 0; plant pos; safe [-40..40]; saf
 ";
 
 const CELLS: &str =
-    "{\"format\":1,\"modules\":{\"nav\":{\"closed\":[[[-40,-11]],[[-10,10]],[[11,40]]],\"reach\":[[[-10,10]]]}}}
-%flight
-";
+    "{\"format\":1,\"modules\":{\"nav\":{\"closed\":[[[-40,-11]],[[-10,10]],[[11,40]]],\"reach\":[[[-10,10]]]}}}";
 
-const FLIGHT: &str =
-    "{\"crew\":{\"fast\":{\"drafts\":[[2]],\"kind\":\"script\"}},\"format\":1,\"horizon\":1,\"inputs\":[],\"start\":{\"pos\":[10]},\"sway\":{\"pos\":{\"kind\":\"high\"}}}
-%trace
-";
+// A flight of the vehicle that starts here and lasts so many ticks.
+fn flight(alloc: Global, start: &str, horizon: &str) -> Result<String, AllocError> {
+    format!(in alloc;
+        "{{\"crew\":{{\"fast\":{{\"drafts\":[[2]],\"kind\":\"script\"}}}},\"format\":1,\"horizon\":{horizon},\"inputs\":[],\"start\":{{\"pos\":[{start}]}},\"sway\":{{\"pos\":{{\"kind\":\"high\"}}}}}}"
+    )
+}
 
-const OUTSIDE: &str =
-    "{\"crew\":{\"fast\":{\"drafts\":[[2]],\"kind\":\"script\"}},\"format\":1,\"horizon\":1,\"inputs\":[],\"start\":{\"pos\":[11]},\"sway\":{\"pos\":{\"kind\":\"high\"}}}
-%trace
-";
+// Where flights of one tick with these cells start, a trace, and what is said of it.
+const TRACES: &str =
+    "10 => soter trace 1~start pos 10~0 decide nav ac~0 fire fast cmd=2~0 idle slow cmd=0~0 tick pos(1)=13~end 1 events 4 refused 0~ => 0 legal events 4~
+10 => soter trace 1~start pos 10~0 idle fast cmd=2~0 idle slow cmd=0~ => 1 refused replay line 4 Differs~
+10 => soter trace 1~start pos 10~0 decide nav ac~0 tick pos(1)=11~ => 1 refused replay line 4 NodesLeft~
+10 =>  => 1 refused replay line 1 Missing~
+11 => soter trace 1~ => 1 refused start module nav point (11)~";
 
-// The status and the text of `replay` on a mission with this certificate, flight and trace.
-fn replayed(
-    rt: &(impl Threads + Wait + Sync),
-    alloc: Global,
-    cert: &str,
-    flight: &str,
-    trace: &str,
-) -> Result<(u8, Vec<u8>), Fail> {
-    let text = format!(in alloc; "{VEHICLE}{cert}{flight}{trace}")?;
-    let (status, answer, _) = said(rt, alloc, &["replay"], text.as_bytes())?;
-    Ok((status, answer))
+#[test]
+fn tells_whether_a_trace_is_legal(rt: HostRuntime) {
+    let alloc = rt.alloc();
+    for row in TRACES.lines() {
+        let flight = flight(alloc, column(row, " => ", 0), "1").expect(&rt, "memory");
+        let trace = lines_of(alloc, column(row, " => ", 1)).expect(&rt, "memory");
+        let text = format!(in alloc; "{VEHICLE}{CELLS}\n%flight\n{flight}\n%trace\n{trace}").expect(
+            &rt, "memory",
+        );
+        answers(&rt, alloc, "replay", &text, column(row, " => ", 2));
+    }
+    assert_eq!(rt; TRACES.lines().count(), 5);
 }
 
 #[test]
-fn tells_whether_a_trace_is_legal(rt: HostRuntime) -> Result<(), Fail> {
+fn tells_what_is_wrong_before_the_trace(rt: HostRuntime) {
     let alloc = rt.alloc();
-    for (cert, flight, trace, status, said) in [
-        (
-            CELLS,
-            FLIGHT,
-            "soter trace 1\nstart pos 10\n0 decide nav ac\n0 fire fast cmd=2\n0 idle slow cmd=0\n0 tick pos(1)=13\nend 1 events 4 refused 0\n",
-            0,
-            "legal events 4\n",
-        ),
-        (
-            CELLS,
-            FLIGHT,
-            "soter trace 1\nstart pos 10\n0 idle fast cmd=2\n0 idle slow cmd=0\n",
-            1,
-            "refused replay line 4 Differs\n",
-        ),
-        (
-            CELLS,
-            FLIGHT,
-            "soter trace 1\nstart pos 10\n0 decide nav ac\n0 tick pos(1)=11\n",
-            1,
-            "refused replay line 4 NodesLeft\n",
-        ),
-        (CELLS, FLIGHT, "", 1, "refused replay line 1 Missing\n"),
-        (
-            CELLS,
-            OUTSIDE,
-            "soter trace 1\n",
-            1,
-            "refused start module nav point (11)\n",
-        ),
-        (
-            "{\"format\":1,\"modules\":{}}\n%flight\n",
-            FLIGHT,
-            "soter trace 1\n",
-            1,
-            "refused 15 NoCells module nav\n",
-        ),
-        (
-            CELLS,
-            "{\"format\":1}\n%trace\n",
-            "",
-            3,
-            "fault flight /horizon Missing\n",
-        ),
-        (CELLS, "", "", 3, "fault section line 13 Missing\n"),
-    ] {
-        let (ended, text) = replayed(&rt, alloc, cert, flight, trace)?;
-        assert_eq!(rt; ended, status);
-        assert_eq!(rt; text.as_slice(), said.as_bytes());
-    }
-    Ok(())
+    let flight = flight(alloc, "10", "1").expect(&rt, "memory");
+    let text = format!(in alloc;
+        "{VEHICLE}{{\"format\":1,\"modules\":{{}}}}\n%flight\n{flight}\n%trace\nsoter trace 1\n"
+    ).expect(&rt, "memory");
+    let no_cells = "1 refused 15 NoCells module nav~";
+    answers(&rt, alloc, "replay", &text, no_cells);
+    let text = format!(in alloc; "{VEHICLE}{CELLS}\n%flight\n{{\"format\":1}}\n%trace\n").expect(
+        &rt, "memory",
+    );
+    let no_horizon = "3 fault flight /horizon Missing~";
+    answers(&rt, alloc, "replay", &text, no_horizon);
+    let text = format!(in alloc; "{VEHICLE}{CELLS}\n%flight\n").expect(&rt, "memory");
+    let no_trace = "3 fault section line 13 Missing~";
+    answers(&rt, alloc, "replay", &text, no_trace)
 }
-
-const FIVE_TICKS: &str =
-    "{\"crew\":{\"fast\":{\"drafts\":[[2]],\"kind\":\"script\"}},\"format\":1,\"horizon\":5,\"inputs\":[],\"start\":{\"pos\":[10]},\"sway\":{\"pos\":{\"kind\":\"high\"}}}
-";
 
 // In which order the nodes of an instant fire is left to `fly`; whichever it is, the trace is legal.
 #[test]
-fn finds_what_was_flown_legal(rt: HostRuntime) -> Result<(), Fail> {
+fn finds_what_was_flown_legal(rt: HostRuntime) {
     let alloc = rt.alloc();
-    let mission = format!(in alloc; "{VEHICLE}{CELLS}{FIVE_TICKS}")?;
-    let (status, trace, _) = said(&rt, alloc, &["fly"], mission.as_bytes())?;
-    assert_eq!(rt; status, 0);
-    let mut flown = Vec::from_slice(alloc, mission.as_bytes())?;
-    flown.extend_from_slice(b"%trace\n")?;
-    flown.extend_from_slice(&trace)?;
-    let (status, answer, _) = said(&rt, alloc, &["replay"], &flown)?;
-    assert_eq!(rt; answer.as_slice(), b"legal events 12\n".as_slice());
-    assert_eq!(rt; status, 0);
-    Ok(())
+    let flight = flight(alloc, "10", "5").expect(&rt, "memory");
+    let mission = format!(in alloc; "{VEHICLE}{CELLS}\n%flight\n{flight}\n").expect(&rt, "memory");
+    let said = answer(&rt, alloc, "fly", &mission);
+    let trace = said.strip_prefix("0 ").unwrap_or("");
+    let flown = format!(in alloc; "{mission}%trace\n{trace}").expect(&rt, "memory");
+    answers(&rt, alloc, "replay", &flown, "0 legal events 12~")
 }

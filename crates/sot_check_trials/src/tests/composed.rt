@@ -2,8 +2,6 @@
 //! What is said of each comes from an independent program.
 use super::*;
 
-const ACCEPTED: &str = "accepted\nmodules 1 nodes 2 cells 4\n";
-
 // The module of the running example.
 const NAV: &str =
     "module nav { ac fast; sc slow; period 4 offset 0; plant pos; safe [-40..40]; safer [-10..10]; }\n";
@@ -12,25 +10,20 @@ const FLIGHT: &str =
     "{\"crew\":{\"fast\":{\"drafts\":[[2]],\"kind\":\"script\"}},\"format\":1,\"horizon\":5,\"inputs\":[],\"start\":{\"pos\":[10]},\"sway\":{\"pos\":{\"kind\":\"high\"}}}";
 
 // The running example with more declarations behind its module, and with this text behind its certificate.
-fn with_more(alloc: Global, more: &str, behind: &str) -> Result<String, Fail> {
-    let program = line(alloc)?;
-    let cells = certificate(alloc, ON_TIME, CLOSED, REACH)?;
-    let text = format!(in alloc; "{program}{NAV}{more}%certificate\n{cells}\n{behind}")?;
-    Ok(text)
+fn with_more(rt: &impl Abort, alloc: Global, more: &str, behind: &str) -> String {
+    let program = program(alloc, &LINE).expect(rt, "memory");
+    let cert = certificate(alloc, "1", CLOSED, REACH).expect(rt, "memory");
+    format!(in alloc; "{program}{NAV}{more}%certificate\n{cert}\n{behind}").expect(rt, "memory")
 }
 
 #[test]
-fn a_flight_behind_the_certificate_is_not_looked_at(rt: HostRuntime) -> Result<(), Fail> {
+fn a_flight_behind_the_certificate_is_not_looked_at(rt: HostRuntime) {
     let alloc = rt.alloc();
     for flight in [FLIGHT, "no flight"] {
-        let behind = format!(in alloc; "%flight\n{flight}\n")?;
-        let text = with_more(alloc, "", behind.as_str())?;
-        assert_eq!(rt;
-            answer(&rt, alloc, text.as_str(), Need::Check)?.as_str(),
-            ACCEPTED
-        );
+        let behind = format!(in alloc; "%flight\n{flight}\n").expect(&rt, "memory");
+        let text = with_more(&rt, alloc, "", &behind);
+        says(&rt, alloc, &text, ACCEPTED, flight);
     }
-    Ok(())
 }
 
 const SPARE: &str = "external spare period 1 offset 0 { writes cmd; }\n";
@@ -45,41 +38,31 @@ module two { ac far; sc near; period 4 offset 0; plant pos; safe [-40..40]; safe
 const AGAIN: &str =
     "module two { ac fast; sc slow; period 4 offset 0; plant pos; safe [-40..40]; safer [-10..10]; }\n";
 
+// What stands behind the running example, and what is said. A shared output comes before a shared plant, and a shared node before both.
+const SHARED: &str = " => accepted~modules 1 nodes 2 cells 4~
+SPARE => refused 11 SharedOutput topic cmd nodes fast spare~
+TWO => refused 12 SharedPlant plant pos modules nav two~
+TWO SPARE => refused 11 SharedOutput topic cmd nodes fast spare~
+AGAIN SPARE => refused 10 SharedNode node fast modules nav two~";
+
 #[test]
-fn what_is_shared_is_told(rt: HostRuntime) -> Result<(), Fail> {
+fn what_is_shared_is_told(rt: HostRuntime) {
     let alloc = rt.alloc();
-    for (first, second, said) in [
-        ("", "", ACCEPTED),
-        (
-            SPARE,
-            "",
-            "refused 11 SharedOutput topic cmd nodes fast spare\n",
-        ),
-        (
-            TWO,
-            "",
-            "refused 12 SharedPlant plant pos modules nav two\n",
-        ),
-        // A shared output comes before a shared plant, and a shared node before both.
-        (
-            TWO,
-            SPARE,
-            "refused 11 SharedOutput topic cmd nodes fast spare\n",
-        ),
-        (
-            AGAIN,
-            SPARE,
-            "refused 10 SharedNode node fast modules nav two\n",
-        ),
-    ] {
-        let more = format!(in alloc; "{first}{second}")?;
-        let text = with_more(alloc, more.as_str(), "")?;
-        assert_eq!(rt;
-            answer(&rt, alloc, text.as_str(), Need::Check)?.as_str(),
-            said
-        );
+    for row in SHARED.lines() {
+        let mut more = String::new(alloc);
+        for name in column(row, " => ", 0).split(' ') {
+            more.push_str(match name {
+                "SPARE" => SPARE,
+                "TWO" => TWO,
+                "AGAIN" => AGAIN,
+                _ => "",
+            })
+            .expect(&rt, "memory");
+        }
+        let text = with_more(&rt, alloc, &more, "");
+        says(&rt, alloc, &text, column(row, " => ", 1), row);
     }
-    Ok(())
+    assert_eq!(rt; SHARED.lines().count(), 5);
 }
 
 // A battery that sees the vehicle: it climbs and sinks, and has to keep enough to come down.
@@ -105,41 +88,34 @@ const LEVEL_CELLS: &str =
 [[6,6],[18,1000]],[[7,7],[21,1000]],[[8,8],[24,1000]],[[9,9],[27,1000]],[[10,10],[30,1000]]";
 
 // The running example beside the battery, which has this advanced node, and is trusted with at least so much.
-fn pair(alloc: Global, advanced: &str, least: u32) -> Result<String, Fail> {
-    let program = line(alloc)?;
-    let text = format!(in alloc;
+fn pair(rt: &impl Abort, alloc: Global, advanced: &str, least: &str) -> String {
+    let program = program(alloc, &LINE).expect(rt, "memory");
+    format!(in alloc;
         "{program}{NAV}{BATTERY}module fly {{ ac {advanced}; sc down; period 2 offset 0; plant cell; safe {LEVELS}; safer [0..10, {least}..1000]; }}
 %certificate
 {{\"format\":1,\"modules\":{{\"nav\":{{\"closed\":[{CLOSED}],\"reach\":[{REACH}]}},
 \"fly\":{{\"closed\":[{LEVEL_CELLS}],\"reach\":[[[0,10],[{least},1000]]]}}}}}}
 "
-    )?;
-    Ok(text)
+    )
+    .expect(rt, "memory")
 }
 
 #[test]
-fn a_plant_that_sees_another_is_checked(rt: HostRuntime) -> Result<(), Fail> {
+fn a_plant_that_sees_another_is_checked(rt: HostRuntime) {
     let alloc = rt.alloc();
-    for (advanced, least, said) in [
-        ("up", 42, "accepted\nmodules 2 nodes 4 cells 16\n"),
-        (
-            "up",
-            41,
-            "refused 8 ReachLeaves module fly cell 0 tick 4 box [0..10, 29..1000] point (10, 29)\n",
-        ),
-        (
-            "fast",
-            42,
-            "refused 10 SharedNode node fast modules nav fly\n",
-        ),
-    ] {
-        let text = pair(alloc, advanced, least)?;
-        assert_eq!(rt;
-            answer(&rt, alloc, text.as_str(), Need::Check)?.as_str(),
-            said
-        );
-    }
-    Ok(())
+    let accepted = "accepted~modules 2 nodes 4 cells 16~";
+    says(&rt, alloc, &pair(&rt, alloc, "up", "42"), accepted, "up 42");
+    let leaves =
+        "refused 8 ReachLeaves module fly cell 0 tick 4 box [0..10, 29..1000] point (10, 29)~";
+    says(&rt, alloc, &pair(&rt, alloc, "up", "41"), leaves, "up 41");
+    let shared = "refused 10 SharedNode node fast modules nav fly~";
+    says(
+        &rt,
+        alloc,
+        &pair(&rt, alloc, "fast", "42"),
+        shared,
+        "fast 42",
+    )
 }
 
 // A place and a speed, up to the module, whose safe region has a box for each speed.
@@ -174,38 +150,40 @@ const SPEED_CELLS: &str =
 [[-300,0],[13,13]],[[1,209],[13,13]],[[-300,0],[14,14]],[[1,195],[14,14]]";
 
 // The mission, trusted up to this place on both sides.
-fn double(alloc: Global, far: u32) -> Result<String, Fail> {
-    let text = format!(in alloc;
+fn double(alloc: Global, far: u32) -> Result<String, AllocError> {
+    format!(in alloc;
         "{ARM}module nav {{ ac fast; sc slow; period 2 offset 0; plant arm; safe {SPEEDS}; safer [-{far}..{far}, -2..2]; }}
 %certificate
 {{\"format\":1,\"modules\":{{\"nav\":{{\"closed\":[{SPEED_CELLS}],\"reach\":[[[-{far},{far}],[-2,2]]]}}}}}}
 "
-    )?;
-    Ok(text)
+    )
 }
 
 #[test]
-fn regions_of_many_boxes_are_checked(rt: HostRuntime) -> Result<(), Fail> {
+fn regions_of_many_boxes_are_checked(rt: HostRuntime) {
     let alloc = rt.alloc();
-    for (far, said) in [
-        (169, "accepted\nmodules 1 nodes 2 cells 59\n"),
-        (
-            170,
-            "refused 8 ReachLeaves module nav cell 0 tick 4 box [-196..196, -14..14] point (-196, -14)\n",
-        ),
-    ] {
-        let text = double(alloc, far)?;
-        assert_eq!(rt;
-            answer(&rt, alloc, text.as_str(), Need::Check)?.as_str(),
-            said
-        );
-    }
-    Ok(())
+    let accepted = "accepted~modules 1 nodes 2 cells 59~";
+    says(
+        &rt,
+        alloc,
+        &double(alloc, 169).expect(&rt, "memory"),
+        accepted,
+        "169",
+    );
+    let leaves =
+        "refused 8 ReachLeaves module nav cell 0 tick 4 box [-196..196, -14..14] point (-196, -14)~";
+    says(
+        &rt,
+        alloc,
+        &double(alloc, 170).expect(&rt, "memory"),
+        leaves,
+        "170",
+    )
 }
 
 // No module, and a node that publishes this.
-fn calc(alloc: Global, value: &str) -> Result<String, Fail> {
-    let text = format!(in alloc;
+fn calc(alloc: Global, value: &str) -> Result<String, AllocError> {
+    format!(in alloc;
         "topic n: int[0..5] = 0;
 topic k: int[0..10] = 0;
 node calc period 1 offset 0 {{
@@ -218,44 +196,25 @@ node calc period 1 offset 0 {{
 %certificate
 {{\"format\":1,\"modules\":{{}}}}
 "
-    )?;
-    Ok(text)
+    )
 }
 
+// What is published, and what is said. A condition beside a division guards nothing.
+const VALUES: &str =
+    "10 / n => refused 14 CodeMayTrap node calc line 7 column 20 ZeroDivisor [0..5]~
+10 / max(n, 1) => accepted~modules 0 nodes 1 cells 0~
+if n > 0 then 10 / n else 0 => refused 14 CodeMayTrap node calc line 7 column 34 ZeroDivisor [0..5]~
+10 / (n - 5) => refused 14 CodeMayTrap node calc line 7 column 20 ZeroDivisor [-5..0]~
+n * 2 => accepted~modules 0 nodes 1 cells 0~
+n * 3 => refused 14 CodeMayTrap node calc line 7 column 13 OutsideRange [0..15]~
+n * 1000000000000 * 1000000000000 => refused 14 CodeMayTrap node calc line 7 column 35 Wide [0..5000000000000000000000000]~";
+
 #[test]
-fn code_that_may_trap_is_told_with_its_place_and_range(rt: HostRuntime) -> Result<(), Fail> {
+fn code_that_may_trap_is_told_with_its_place_and_range(rt: HostRuntime) {
     let alloc = rt.alloc();
-    let accepted = "accepted\nmodules 0 nodes 1 cells 0\n";
-    for (value, said) in [
-        (
-            "10 / n",
-            "refused 14 CodeMayTrap node calc line 7 column 20 ZeroDivisor [0..5]\n",
-        ),
-        ("10 / max(n, 1)", accepted),
-        // A condition beside it guards nothing.
-        (
-            "if n > 0 then 10 / n else 0",
-            "refused 14 CodeMayTrap node calc line 7 column 34 ZeroDivisor [0..5]\n",
-        ),
-        (
-            "10 / (n - 5)",
-            "refused 14 CodeMayTrap node calc line 7 column 20 ZeroDivisor [-5..0]\n",
-        ),
-        ("n * 2", accepted),
-        (
-            "n * 3",
-            "refused 14 CodeMayTrap node calc line 7 column 13 OutsideRange [0..15]\n",
-        ),
-        (
-            "n * 1000000000000 * 1000000000000",
-            "refused 14 CodeMayTrap node calc line 7 column 35 Wide [0..5000000000000000000000000]\n",
-        ),
-    ] {
-        let text = calc(alloc, value)?;
-        assert_eq!(rt;
-            answer(&rt, alloc, text.as_str(), Need::Check)?.as_str(),
-            said
-        );
+    for row in VALUES.lines() {
+        let text = calc(alloc, column(row, " => ", 0)).expect(&rt, "memory");
+        says(&rt, alloc, &text, column(row, " => ", 1), row);
     }
-    Ok(())
+    assert_eq!(rt; VALUES.lines().count(), 7);
 }
