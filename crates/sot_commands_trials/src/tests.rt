@@ -1,6 +1,7 @@
 //! What words ask of texts, through the top call. Expected texts were worked by hand, or come from an independent program.
 mod calls;
 mod certify;
+mod devices;
 mod fly;
 mod make;
 mod orders;

@@ -119,35 +119,6 @@ fn formats_nothing_blocks_and_missions(rt: HostRuntime) {
     has_text(&rt, alloc, blocks, TWO_BLOCKS_FORMATTED)
 }
 
-// Of which read and which write of `check` fails (none where it is 0) this is the answer.
-fn answers_failing(
-    rt: &(impl Abort + Threads + Wait + Sync),
-    alloc: Global,
-    read: u32,
-    write: u32,
-    want: &str,
-) {
-    let words = words_of(rt, alloc, "check");
-    let text = mission(alloc).expect(rt, "memory").into_bytes();
-    let mut source = MemSource::new(text, 16, vec![in alloc; read].expect(rt, "memory"));
-    let mut sink = MemSink::new(alloc, 100, 10, vec![in alloc; write].expect(rt, "memory")).expect(
-        rt, "memory",
-    );
-    let ended = alone(rt, alloc, &words, &mut source, &mut sink);
-    let said = str::from_utf8(sink.bytes()).expect(rt, "memory");
-    let answer = format!(in alloc; "{} {said}", ended.0).expect(rt, "memory");
-    assert_eq!(rt; answer.as_str(), want, "read {read} write {write}");
-}
-
-#[test]
-fn tells_of_a_failed_read_and_a_failed_write(rt: HostRuntime) {
-    let alloc = rt.alloc();
-    answers_failing(&rt, alloc, 2, 0, "4 ");
-    answers_failing(&rt, alloc, 2, 1, "4 ");
-    answers_failing(&rt, alloc, 0, 2, "5 accepted\nm");
-    answers_failing(&rt, alloc, 0, 1, "5 ")
-}
-
 // The status and the text of `check` on so many blanks.
 fn answer_to_blanks(
     rt: &(impl Abort + Threads + Wait + Sync),
