@@ -1,6 +1,6 @@
 //! A vehicle, its flights, and what a board tells of one.
 
-ghost use Rattle.std.specs.Prelude.{IfOk, IfSome};
+ghost use Rattle.std.specs.Prelude.{IfSome};
 ghost use Rattle.sot_lang.specs.CertRules.{FitsTables};
 ghost use Rattle.sot_flight.specs.Fits.{FitsFlight};
 
@@ -11,7 +11,8 @@ mod steps;
 use sot_report::{Loaded, load};
 use sot_text::Need;
 use std::alloc::{AllocError, Global};
-use std::test::*;
+use std::fmt::Debug;
+use std::process::Abort;
 
 const LONGEST: usize = 16_777_216;
 
@@ -36,16 +37,31 @@ const FLIGHT: &str =
     "{\"crew\":{\"fast\":{\"index\":0,\"kind\":\"guest\"}},\"format\":1,\"horizon\":1,\"inputs\":[{\"at\":0,\"topic\":\"e\",\"value\":[5]}],\"start\":{\"pos\":[3]},\"sway\":{\"pos\":{\"kind\":\"seed\",\"seed\":42,\"stream\":54}}}
 ";
 
+// Ends the test, with what was asked, where the answer is not the one that is wanted.
+fn same<A: Debug + Drop, T: PartialEq + Debug + Drop>(
+    rt: &impl Abort,
+    asked: A,
+    got: T,
+    wanted: T,
+) {
+    assert_eq!(rt; got, wanted, "{asked:?}");
+}
+
+// The vehicle with a flight.
+fn with_flight(rt: &impl Abort, alloc: Global, flight: &str) -> String {
+    format!(in alloc; "{VEHICLE}{flight}").expect(rt, "memory")
+}
+
 // What a mission says, with a guest. It has a flight, which fits, and at most 16 MiB.
-fn loaded<'t>(alloc: Global, text: &'t str) -> Result<Loaded<'t>, Fail>
-    ensures cert { IfOk result (λ l. FitsTables l.program l.cert) }
-    ensures flight { IfOk result (λ l. IfSome l.flight (λ f. FitsFlight l.program 1 f)) }
+fn loaded<'t>(rt: &impl Abort, alloc: Global, text: &'t str) -> Loaded<'t>
+    ensures cert { FitsTables result.program result.cert }
+    ensures flight { IfSome result.flight (λ f. FitsFlight result.program 1 f) }
 {
     if text.len() > LONGEST {
-        return Err(Fail::from(AllocError));
+        panic!(rt; "a text that is too long");
     }
     match load(alloc, text.as_bytes(), Need::Fly, 1) {
-        Ok(loaded) => Ok(loaded),
-        Err(_) => Err(Fail::from(AllocError)),
+        Ok(loaded) => loaded,
+        Err(_) => panic!(rt; "no mission: {text}"),
     }
 }

@@ -7,7 +7,7 @@ mod numbers;
 mod orders;
 mod refused;
 
-ghost use Rattle.std.specs.Prelude.{IfOk, IfSome};
+ghost use Rattle.std.specs.Prelude.{IfSome};
 ghost use Rattle.sot_lang.specs.CertRules.{FitsTables};
 ghost use Rattle.sot_flight.specs.Fits.{FitsFlight};
 ghost use Rattle.sot_trace.specs.Words.{AreWords};
@@ -19,14 +19,30 @@ use sot_spelled::Lines;
 use sot_text::Need;
 use sot_told::names_are_words;
 use std::alloc::{AllocError, Global};
-use std::test::*;
+use std::fmt::Debug;
+use std::process::Abort;
 use std::thread::Threads;
 
 const LONGEST: usize = 16_777_216;
 
+// Ends the test, with what was asked, where the answer is not the one that is wanted.
+pub fn same<A: Debug + Drop, T: PartialEq + Debug + Drop>(
+    rt: &impl Abort,
+    asked: A,
+    got: T,
+    wanted: T,
+) {
+    assert_eq!(rt; got, wanted, "{asked:?}");
+}
+
+// The two parts of a row, before and behind a sign.
+pub fn cut<'t>(rt: &impl Abort, row: &'t str, sign: &str) -> (&'t str, &'t str) {
+    row.split_once(sign).expect(rt, sign)
+}
+
 // A vehicle on a line whose nodes have these timings, with its certificate up to the cells' head.
-pub fn vehicle(alloc: Global, fast: &str, slow: &str, head: &str) -> Result<String, Fail> {
-    let text = format!(in alloc;
+pub fn vehicle(rt: &impl Abort, alloc: Global, fast: &str, slow: &str, head: &str) -> String {
+    format!(in alloc;
         "topic cmd: int[-2..2] = 0;
 plant pos {{ state x: int; input cmd; noise w: int[-1..1]; next x = (x + cmd) + w; }}
 external fast {fast} {{ reads pos; writes cmd; }}
@@ -39,18 +55,19 @@ module nav {{ ac fast; sc slow; period 4 offset 0; plant pos; safe [-40..40]; sa
 %certificate
 {{{head},\"modules\":{{\"nav\":{{\"closed\":[[[-40,-11]],[[-10,10]],[[11,40]]],\"reach\":[[[-10,10]]]}}}}}}
 "
-    )?;
-    Ok(text)
+    )
+    .expect(rt, "memory")
 }
 
 // The vehicle all of whose offsets are 0.
-pub fn together(alloc: Global, head: &str) -> Result<String, Fail> {
-    vehicle(alloc, "period 4 offset 0", "period 2 offset 0", head)
+pub fn together(rt: &impl Abort, alloc: Global, head: &str) -> String {
+    vehicle(rt, alloc, "period 4 offset 0", "period 2 offset 0", head)
 }
 
 // The vehicle with offsets, so that at most one node is due in any instant.
-pub fn apart(alloc: Global) -> Result<String, Fail> {
+pub fn apart(rt: &impl Abort, alloc: Global) -> String {
     vehicle(
+        rt,
         alloc,
         "period 4 offset 2",
         "period 4 offset 1",
@@ -60,17 +77,17 @@ pub fn apart(alloc: Global) -> Result<String, Fail> {
 
 // A mission of the vehicle with a flight.
 pub fn flown(
+    rt: &impl Abort,
     alloc: Global,
     mission: &str,
     start: i64,
     horizon: u32,
     sway: &str,
     crew: &str,
-) -> Result<String, Fail> {
-    let text = format!(in alloc;
+) -> String {
+    format!(in alloc;
         "{mission}%flight\n{{\"crew\":{{\"fast\":{crew}}},\"format\":1,\"horizon\":{horizon},\"inputs\":[],\"start\":{{\"pos\":[{start}]}},\"sway\":{{\"pos\":{sway}}}}}\n"
-    )?;
-    Ok(text)
+    ).expect(rt, "memory")
 }
 
 pub const CALM: &str = "{\"kind\":\"list\",\"values\":[[0]]}";
@@ -80,9 +97,9 @@ pub const HIGH: &str = "{\"kind\":\"high\"}";
 pub const TWO: &str = "{\"drafts\":[[2]],\"kind\":\"script\"}";
 
 // The vehicle at the edge of its safer region, pushed by the wind for five ticks.
-pub fn windy(alloc: Global) -> Result<String, Fail> {
-    let mission = together(alloc, "\"format\":1")?;
-    flown(alloc, mission.as_str(), 10, 5, HIGH, TWO)
+pub fn windy(rt: &impl Abort, alloc: Global) -> String {
+    let mission = together(rt, alloc, "\"format\":1");
+    flown(rt, alloc, mission.as_str(), 10, 5, HIGH, TWO)
 }
 
 // A trace of it: at time 4 the decision comes before the safe node's firing, which then brakes at once.
@@ -104,22 +121,29 @@ pub const BRAKED: [&str; 15] = [
     "end 5 events 12 refused 0",
 ];
 
+fn replaced(alloc: Global, column: &str) -> Result<String, AllocError> {
+    let ends = column.replace(alloc, "\\n", "\n")?;
+    ends.replace(alloc, "\\r", "\r")
+}
+
 // A column of a table, in which `\n` and `\r` stand for a line end and a return.
-pub fn unescaped(alloc: Global, column: &str) -> Result<String, AllocError> {
-    let mut text = String::from_str(alloc, column)?;
-    for (escape, meant) in [("\\n", "\n"), ("\\r", "\r")] {
-        text = text.replace(alloc, escape, meant)?;
-    }
-    Ok(text)
+pub fn unescaped(rt: &impl Abort, alloc: Global, column: &str) -> String {
+    replaced(alloc, column).expect(rt, "memory")
+}
+
+fn push_line(line: &str, text: &mut String) -> Result<(), AllocError> {
+    text.push_str(line)?;
+    text.push_str("\n")
 }
 
 // Lines as a text, with another one in this place, counted from 1; 0 is the place of none.
 pub fn lines_text(
+    rt: &impl Abort,
     alloc: Global,
     lines: &[&str],
     place: usize,
     other: &str,
-) -> Result<String, Fail> {
+) -> String {
     let mut text = String::new(alloc);
     for i in 0..lines.len() {
         let line = if place > 0 && i == place - 1 {
@@ -127,61 +151,69 @@ pub fn lines_text(
         } else {
             lines[i]
         };
-        text.push_str(line)?;
-        text.push_str("\n")?;
+        push_line(line, &mut text).expect(rt, "memory");
     }
-    Ok(text)
+    text
 }
 
 // What a mission with a flight says. Its names are words.
-fn loaded<'t>(alloc: Global, text: &'t str, guests: u32) -> Result<Loaded<'t>, Fail>
-    ensures words { IfOk result (λ l. AreWords l.program) }
-    ensures cert { IfOk result (λ l. FitsTables l.program l.cert) }
-    ensures flight { IfOk result (λ l. IfSome l.flight (λ f. FitsFlight l.program guests f)) }
+fn loaded<'t>(rt: &impl Abort, alloc: Global, text: &'t str, guests: u32) -> Loaded<'t>
+    ensures words { AreWords result.program }
+    ensures cert { FitsTables result.program result.cert }
+    ensures flight { IfSome result.flight (λ f. FitsFlight result.program guests f) }
 {
     names_are_words();
     if text.len() > LONGEST {
-        return Err(Fail::from(AllocError));
+        panic!(rt; "a text that is too long");
     }
     match load(alloc, text.as_bytes(), Need::Fly, guests) {
-        Ok(loaded) => Ok(loaded),
-        Err(_) => Err(Fail::from(AllocError)),
+        Ok(loaded) => loaded,
+        Err(_) => panic!(rt; "no mission: {text}"),
     }
 }
 
 // What replay answers, as a line.
-fn answer_text(alloc: Global, answer: Result<u32, ReplayFail>) -> Result<String, Fail> {
+fn answer_text(rt: &impl Abort, alloc: Global, answer: Result<u32, ReplayFail>) -> String {
     let text = match answer {
-        Ok(events) => format!(in alloc; "legal events {events}")?,
-        Err(ReplayFail::Line { line, kind }) => {
-            format!(in alloc; "refused line {line} {kind:?}")?
-        }
-        Err(ReplayFail::NotSafer { module }) => format!(in alloc; "refused start {module}")?,
-        Err(ReplayFail::Memory) => return Err(Fail::from(AllocError)),
+        Ok(events) => format!(in alloc; "legal events {events}"),
+        Err(ReplayFail::Line { line, kind }) => format!(in alloc; "refused line {line} {kind:?}"),
+        Err(ReplayFail::NotSafer { module }) => format!(in alloc; "refused start {module}"),
+        Err(ReplayFail::Memory) => panic!(rt; "memory"),
     };
-    Ok(text)
+    text.expect(rt, "memory")
 }
 
 // What replay answers to the lines of a trace, for a mission with a flight, which is accepted.
-pub fn replayed(
-    rt: &(impl Threads + Sync),
+fn replayed(
+    rt: &(impl Abort + Threads + Sync),
     alloc: Global,
     mission: &str,
     guests: u32,
     trace: &[u8],
-) -> Result<String, Fail> {
-    let loaded = loaded(alloc, mission, guests)?;
+) -> String {
+    let loaded = loaded(rt, alloc, mission, guests);
     let Some(flight) = &loaded.flight else {
-        return Err(Fail::from(AllocError));
+        panic!(rt; "no flight");
     };
     if trace.len() > LONGEST {
-        return Err(Fail::from(AllocError));
+        panic!(rt; "a trace that is too long");
     }
-    match check_all(rt, &loaded.program, &loaded.cert) {
-        Ok(accepted) => {
-            let answer = replay(alloc, &accepted, flight, Lines::new(trace));
-            answer_text(alloc, answer)
-        }
-        Err(_) => Err(Fail::from(AllocError)),
-    }
+    let Ok(accepted) = check_all(rt, &loaded.program, &loaded.cert) else {
+        panic!(rt; "the mission is refused");
+    };
+    let answer = replay(alloc, &accepted, flight, Lines::new(trace));
+    answer_text(rt, alloc, answer)
+}
+
+// Replay answers this to a mission with such a trace, where this is asked.
+pub fn answers<A: Debug + Drop>(
+    rt: &(impl Abort + Threads + Sync),
+    alloc: Global,
+    asked: A,
+    mission: &str,
+    trace: &[u8],
+    want: &str,
+) {
+    let found = replayed(rt, alloc, mission, 0, trace);
+    same(rt, asked, found.as_str(), want);
 }

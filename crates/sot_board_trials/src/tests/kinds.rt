@@ -38,20 +38,23 @@ crew {"fast":{"index":@,"kind":"guest"}} /crew/fast/index WrongShape WrongShape 
 whole @ / WrongShape WrongShape WrongShape WrongShape WrongShape WrongShape /format:Missing
 "#;
 
-// A flight of four ticks, but for a part of another value; the part `whole` stands for all of it.
-fn varied(alloc: Global, part: &str, value: &str) -> Result<String, Fail> {
-    if part == "whole" {
-        return Ok(String::from_str(alloc, value)?);
-    }
+// The usual parts of a flight of four ticks, a line each.
+const USUAL: &str = r#"{"crew": {"fast":{"index":0,"kind":"guest"}}
+,"format": 1
+,"horizon": 4
+,"inputs": []
+,"start": {"pos":[0]}
+,"sway": {"pos":{"kind":"low"}}"#;
+
+// That flight but for a part of another value; the part `whole` stands for all of it.
+fn varied(alloc: Global, part: &str, value: &str) -> Result<String, AllocError> {
     let mut text = String::new(alloc);
-    for (name, usual) in [
-        ("{\"crew\":", "{\"fast\":{\"index\":0,\"kind\":\"guest\"}}"),
-        (",\"format\":", "1"),
-        (",\"horizon\":", "4"),
-        (",\"inputs\":", "[]"),
-        (",\"start\":", "{\"pos\":[0]}"),
-        (",\"sway\":", "{\"pos\":{\"kind\":\"low\"}}"),
-    ] {
+    if part == "whole" {
+        text.push_str(value)?;
+        return Ok(text);
+    }
+    for line in USUAL.lines() {
+        let (name, usual) = line.split_once(' ').unwrap_or((line, ""));
         text.push_str(name)?;
         text.push_str(if name.contains(part) { value } else { usual })?;
     }
@@ -60,50 +63,58 @@ fn varied(alloc: Global, part: &str, value: &str) -> Result<String, Fail> {
 }
 
 // The line of the vehicle's fault with this flight, or nothing where it has none.
-fn fault_of(alloc: Global, flight: &str) -> Result<String, Fail> {
-    let text = format!(in alloc; "{VEHICLE}{flight}\n")?;
+fn fault_of(rt: &impl Abort, alloc: Global, flight: &str) -> String {
+    let text = format!(in alloc; "{VEHICLE}{flight}\n").expect(rt, "memory");
     if text.len() > LONGEST {
-        return Err(Fail::from(AllocError));
+        panic!(rt; "a text that is too long");
     }
     match load(alloc, text.as_bytes(), Need::Fly, 1) {
-        Ok(_) => Ok(String::new(alloc)),
-        Err(LoadFail::Fault(fault)) => Ok(fault_text(alloc, &fault)?),
-        Err(LoadFail::Memory) => Err(Fail::from(AllocError)),
+        Ok(_) => String::new(alloc),
+        Err(LoadFail::Fault(fault)) => fault_text(alloc, &fault).expect(rt, "memory"),
+        Err(LoadFail::Memory) => panic!(rt; "memory"),
     }
 }
 
 // The line of a fault of this kind at a place, or at the path that stands before the kind.
-fn wanted(alloc: Global, path: &str, kind: &str) -> Result<String, Fail> {
+fn wanted(alloc: Global, path: &str, kind: &str) -> Result<String, AllocError> {
     if kind == "ok" {
         return Ok(String::new(alloc));
     }
     let (path, kind) = kind.split_once(':').unwrap_or((path, kind));
-    Ok(format!(in alloc; "fault flight {path} {kind}\n")?)
+    format!(in alloc; "fault flight {path} {kind}\n")
 }
 
-// Whether each kind of value at a place is answered as its row says.
-fn is_answered(alloc: Global, row: &str) -> Result<bool, Fail> {
+// A flight with this value of a part is answered so.
+fn answers(rt: &impl Abort, alloc: Global, part: &str, value: &str, path: &str, kind: &str) {
+    let flight = varied(alloc, part, value).expect(rt, "memory");
+    let wanted = wanted(alloc, path, kind).expect(rt, "memory");
+    let found = fault_of(rt, alloc, flight.as_str());
+    same(rt, value, found.as_str(), wanted.as_str());
+}
+
+// A kind of value at its place.
+fn placed(rt: &impl Abort, alloc: Global, value: &str, kind: &str) -> String {
+    let (front, back) = value.split_once('@').expect(rt, "a place");
+    format!(in alloc; "{front}{kind}{back}").expect(rt, "memory")
+}
+
+// Each kind of value at a place is answered as its row says.
+fn is_answered(rt: &impl Abort, alloc: Global, row: &str) {
     let mut words = row.split_whitespace();
     let (part, value) = (words.next().unwrap_or(""), words.next().unwrap_or(""));
-    let (front, back) = value.split_once('@').unwrap_or(("", ""));
     let path = words.next().unwrap_or("");
-    let mut all = true;
     for kind in KINDS {
-        let value = format!(in alloc; "{front}{kind}{back}")?;
-        let flight = varied(alloc, part, value.as_str())?;
-        let wanted = wanted(alloc, path, words.next().unwrap_or("no answer"))?;
-        if fault_of(alloc, flight.as_str())? != wanted {
-            all = false;
-        }
+        let value = placed(rt, alloc, value, kind);
+        let wanted = words.next().unwrap_or("no answer");
+        answers(rt, alloc, part, value.as_str(), path, wanted);
     }
-    Ok(all && words.next().is_none())
+    same(rt, row, words.next(), None);
 }
 
 #[test]
-fn each_kind_of_value_at_each_place(rt: HostRuntime) -> Result<(), Fail> {
-    let alloc = rt.alloc();
+fn each_kind_of_value_at_each_place(rt: HostRuntime) {
     for row in PLACES.lines() {
-        assert!(rt; is_answered(alloc, row)?, "{row}");
+        is_answered(&rt, rt.alloc(), row);
     }
-    Ok(())
+    same(&rt, "rows", PLACES.lines().count(), 29);
 }

@@ -82,37 +82,41 @@ fn seen(board: &Board<'_>, node: u32, slot: usize) -> Option<(i64, i64)>
     }
 }
 
+// Adds the two numbers of a slot.
+fn push_seen(board: &Board<'_>, slot: usize, text: &mut String) -> Result<(), AllocError>
+    requires { 0 < length board.now.accepted.program.nodes }
+{
+    match seen(board, 0, slot) {
+        Some((kept, now)) => write!(text, " {kept} {now}"),
+        None => text.push_str(" nothing"),
+    }
+}
+
+fn push_if(holds: bool, word: &str, text: &mut String) -> Result<(), AllocError> {
+    text.push_str(if holds { word } else { "" })
+}
+
 // Adds what a board tells: its time, the length of its history, how often its nodes fired, what the first one sees, and what is left.
-fn push_told(board: &Board<'_>, alloc: Global, text: &mut String) -> Result<(), Fail> {
+fn push_told(board: &Board<'_>, text: &mut String) -> Result<(), AllocError> {
     let p = board.typed();
     if p.nodes.len() < 2 || p.modules.len() == 0 {
-        return Err(Fail::from(AllocError));
+        return text.push_str("no nodes");
     }
     let (time, entries, fast, slow) = (board.time(), board.len(), board.fired(0), board.fired(1));
-    let counts = format!(in alloc; "time {time} entries {entries} fired {fast} {slow} sees")?;
-    text.push_str(counts.as_str())?;
-    for slot in 0..2 {
-        let Some((kept, now)) = seen(board, 0, slot) else {
-            return Err(Fail::from(AllocError));
-        };
-        let one = format!(in alloc; " {kept} {now}")?;
-        text.push_str(one.as_str())?;
-    }
-    for (holds, word) in [
-        (board.due_input(), " input"),
-        (board.due_dm(0), " decision"),
-        (board.due(0), " fast"),
-        (board.due(1), " slow"),
-        (board.settled(), " settled"),
-        (board.may_tick(), " may tick"),
-        (board.finished(), " finished"),
-    ] {
-        if holds {
-            text.push_str(word)?;
-        }
-    }
-    text.push_str("\n")?;
-    Ok(())
+    write!(
+        text,
+        "time {time} entries {entries} fired {fast} {slow} sees"
+    )?;
+    push_seen(board, 0, text)?;
+    push_seen(board, 1, text)?;
+    push_if(board.due_input(), " input", text)?;
+    push_if(board.due_dm(0), " decision", text)?;
+    push_if(board.due(0), " fast", text)?;
+    push_if(board.due(1), " slow", text)?;
+    push_if(board.settled(), " settled", text)?;
+    push_if(board.may_tick(), " may tick", text)?;
+    push_if(board.finished(), " finished", text)?;
+    text.push_str("\n")
 }
 
 // The input comes first, then the module switches to the advanced node, whose guest drafts 2; the wind is -1.
@@ -124,25 +128,24 @@ time 1 entries 4 fired 1 0 sees 4 4 5 5 settled may tick finished
 ";
 
 #[test]
-fn a_board_tells_what_is_left(rt: HostRuntime) -> Result<(), Fail> {
+fn a_board_tells_what_is_left(rt: HostRuntime) {
     let alloc = rt.alloc();
-    let text = format!(in alloc; "{VEHICLE}{FLIGHT}")?;
-    let loaded = loaded(alloc, text.as_str())?;
+    let text = with_flight(&rt, alloc, FLIGHT);
+    let loaded = loaded(&rt, alloc, text.as_str());
     let Some(flight) = &loaded.flight else {
-        return Err(Fail::from(AllocError));
+        panic!(rt; "no flight");
     };
     let Ok(accepted) = check_all(&rt, &loaded.program, &loaded.cert) else {
-        return Err(Fail::from(AllocError));
+        panic!(rt; "the mission is refused");
     };
     let Ok(mut board) = Board::open(alloc, &accepted, flight) else {
-        return Err(Fail::from(AllocError));
+        panic!(rt; "the flight does not start");
     };
     let mut told = String::new(alloc);
-    push_told(&board, alloc, &mut told)?;
+    push_told(&board, &mut told).expect(&rt, "memory");
     for deed in [Deed::Input, Deed::Decide, Deed::Draft(2), Deed::Tick] {
-        assert!(rt; does(&mut board, deed));
-        push_told(&board, alloc, &mut told)?;
+        same(&rt, "done", does(&mut board, deed), true);
+        push_told(&board, &mut told).expect(&rt, "memory");
     }
-    assert_eq!(rt; told.as_str(), TOLD);
-    Ok(())
+    same(&rt, "told", told.as_str(), TOLD);
 }

@@ -2,13 +2,23 @@
 use super::*;
 
 // The trace of the windy flight, with this end behind each line but the last, and with the last one's.
-fn with_ends(alloc: Global, end: &str, last: &str) -> Result<String, Fail> {
+fn with_ends(alloc: Global, end: &str, last: &str) -> Result<String, AllocError> {
     let mut text = String::new(alloc);
     for i in 0..BRAKED.len() {
         text.push_str(BRAKED[i])?;
         text.push_str(if i < 14 { end } else { last })?;
     }
     Ok(text)
+}
+
+// The trace with the ends of a row is answered as stands behind them.
+fn ends_are(rt: &(impl Abort + Threads + Sync), alloc: Global, mission: &str, row: &str) {
+    let (ends, want) = cut(rt, row, " => ");
+    let (end, last) = cut(rt, ends, " | ");
+    let end = unescaped(rt, alloc, end);
+    let last = unescaped(rt, alloc, last);
+    let trace = with_ends(alloc, end.as_str(), last.as_str()).expect(rt, "memory");
+    answers(rt, alloc, row, mission, trace.as_bytes(), want);
 }
 
 // What ends each line but the last, what ends the last one, and the answer.
@@ -27,25 +37,19 @@ const ENDS: &str = r"\n | \n => legal events 12
 \n | \nend 5 events 12 refused 0\n => refused line 16 Ended";
 
 #[test]
-fn line_ends(rt: HostRuntime) -> Result<(), Fail> {
+fn line_ends(rt: HostRuntime) {
     let alloc = rt.alloc();
-    let mission = windy(alloc)?;
+    let mission = windy(&rt, alloc);
     for row in ENDS.lines() {
-        let (row, want) = row.split_once(" => ").ok_or("no answer")?;
-        let (end, last) = row.split_once(" | ").ok_or("no last end")?;
-        let (end, last) = (unescaped(alloc, end)?, unescaped(alloc, last)?);
-        let trace = with_ends(alloc, &end, &last)?;
-        let found = replayed(&rt, alloc, mission.as_str(), 0, trace.as_bytes())?;
-        assert_eq!(rt; found.as_str(), want, "with {row}");
+        ends_are(&rt, alloc, mission.as_str(), row);
     }
-    assert_eq!(rt; ENDS.lines().count(), 13);
-    Ok(())
+    same(&rt, "rows", ENDS.lines().count(), 13);
 }
 
 #[test]
-fn lines_may_be_missing(rt: HostRuntime) -> Result<(), Fail> {
+fn lines_may_be_missing(rt: HostRuntime) {
     let alloc = rt.alloc();
-    let mission = windy(alloc)?;
+    let mission = windy(&rt, alloc);
     for (count, want) in [
         (0, "refused line 1 Missing"),
         (1, "refused line 2 Missing"),
@@ -55,17 +59,15 @@ fn lines_may_be_missing(rt: HostRuntime) -> Result<(), Fail> {
         (14, "refused line 15 Missing"),
         (15, "legal events 12"),
     ] {
-        let trace = lines_text(alloc, &BRAKED[..count], 0, "")?;
-        let found = replayed(&rt, alloc, mission.as_str(), 0, trace.as_bytes())?;
-        assert_eq!(rt; found.as_str(), want, "with {count} lines");
+        let trace = lines_text(&rt, alloc, &BRAKED[..count], 0, "");
+        answers(&rt, alloc, count, mission.as_str(), trace.as_bytes(), want);
     }
-    Ok(())
 }
 
 #[test]
-fn bytes_that_are_no_text(rt: HostRuntime) -> Result<(), Fail> {
+fn bytes_that_are_no_text(rt: HostRuntime) {
     let alloc = rt.alloc();
-    let mission = windy(alloc)?;
+    let mission = windy(&rt, alloc);
     let first: &[u8] = b"\xff\xfesoter trace 1\nstart pos 10\n";
     let second: &[u8] = b"soter trace 1\nstart pos 10\x00\n0 decide nav ac\n";
     let third: &[u8] = b"soter trace 1\nstart pos 10\n0 decide \xc3\x28 ac\n0 fire fast cmd=2\n";
@@ -76,8 +78,6 @@ fn bytes_that_are_no_text(rt: HostRuntime) -> Result<(), Fail> {
         (third, "refused line 3 NotALine"),
         (fourth, "refused line 4 NotALine"),
     ] {
-        let found = replayed(&rt, alloc, mission.as_str(), 0, trace)?;
-        assert_eq!(rt; found.as_str(), want);
+        answers(&rt, alloc, want, mission.as_str(), trace, want);
     }
-    Ok(())
 }

@@ -93,9 +93,9 @@ end 16 events 35 refused 2
 ";
 
 #[test]
-fn whole_flights(rt: HostRuntime) -> Result<(), Fail> {
+fn whole_flights(rt: HostRuntime) {
     let alloc = rt.alloc();
-    let mission = apart(alloc)?;
+    let mission = apart(&rt, alloc);
     for (horizon, sway, crew, trace, want) in [
         (20, CALM, TWO, SWITCHED, "legal events 36"),
         (
@@ -127,22 +127,19 @@ fn whole_flights(rt: HostRuntime) -> Result<(), Fail> {
             "legal events 6",
         ),
     ] {
-        let mission = flown(alloc, mission.as_str(), 0, horizon, sway, crew)?;
-        let found = replayed(&rt, alloc, mission.as_str(), 0, trace.as_bytes())?;
-        assert_eq!(rt; found.as_str(), want, "at {trace}");
+        let mission = flown(&rt, alloc, mission.as_str(), 0, horizon, sway, crew);
+        answers(&rt, alloc, trace, mission.as_str(), trace.as_bytes(), want);
     }
-    Ok(())
 }
 
 #[test]
-fn idle_nodes_draft_too(rt: HostRuntime) -> Result<(), Fail> {
+fn idle_nodes_draft_too(rt: HostRuntime) {
     let alloc = rt.alloc();
-    let mission = together(alloc, "\"format\":1")?;
+    let mission = together(&rt, alloc, "\"format\":1");
     let crew = "{\"drafts\":[[2],[7],[null],[-9],[1]],\"kind\":\"script\"}";
-    let mission = flown(alloc, mission.as_str(), 10, 16, HIGH, crew)?;
-    let found = replayed(&rt, alloc, mission.as_str(), 0, IDLE.as_bytes())?;
-    assert_eq!(rt; found.as_str(), "legal events 35");
-    Ok(())
+    let mission = flown(&rt, alloc, mission.as_str(), 10, 16, HIGH, crew);
+    let (mission, trace) = (mission.as_str(), IDLE.as_bytes());
+    answers(&rt, alloc, "idle", mission, trace, "legal events 35");
 }
 
 // A flight that is handed no guest has none.
@@ -152,31 +149,27 @@ fn has_no_guests(p: &Typed, flight: &Flight)
 {}
 
 // The trace of a mission's flight, as it is flown.
-fn flown_text(rt: &(impl Threads + Sync), alloc: Global, mission: &str) -> Result<String, Fail> {
-    let loaded = loaded(alloc, mission, 0)?;
+fn flown_text(rt: &(impl Abort + Threads + Sync), alloc: Global, mission: &str) -> String {
+    let loaded = loaded(rt, alloc, mission, 0);
     let Some(flight) = &loaded.flight else {
-        return Err(Fail::from(AllocError));
+        panic!(rt; "no flight");
     };
     has_no_guests(&loaded.program, flight);
-    let accepted = match check_all(rt, &loaded.program, &loaded.cert) {
-        Ok(accepted) => accepted,
-        Err(_) => return Err(Fail::from(AllocError)),
+    let Ok(accepted) = check_all(rt, &loaded.program, &loaded.cert) else {
+        panic!(rt; "the mission is refused");
     };
-    match Board::open(alloc, &accepted, flight) {
-        Ok(mut board) => {
-            fly(&mut board, flight);
-            Ok(board_text(alloc, &board)?)
-        }
-        Err(_) => Err(Fail::from(AllocError)),
-    }
+    let Ok(mut board) = Board::open(alloc, &accepted, flight) else {
+        panic!(rt; "the flight does not start");
+    };
+    fly(&mut board, flight);
+    board_text(alloc, &board).expect(rt, "memory")
 }
 
 #[test]
-fn what_is_flown_is_legal(rt: HostRuntime) -> Result<(), Fail> {
+fn what_is_flown_is_legal(rt: HostRuntime) {
     let alloc = rt.alloc();
-    let mission = windy(alloc)?;
-    let trace = flown_text(&rt, alloc, mission.as_str())?;
-    let found = replayed(&rt, alloc, mission.as_str(), 0, trace.as_bytes())?;
-    assert_eq!(rt; found.as_str(), "legal events 12");
-    Ok(())
+    let mission = windy(&rt, alloc);
+    let trace = flown_text(&rt, alloc, mission.as_str());
+    let (mission, trace) = (mission.as_str(), trace.as_bytes());
+    answers(&rt, alloc, "flown", mission, trace, "legal events 12");
 }

@@ -15,15 +15,10 @@ const ROWS: [(&str, u32, &str); 9] = [
     (" cmd!9223372036854775808", 1, "refused line 7 Differs"),
 ];
 
-#[test]
-fn guests_hand_over_numbers_of_64_bits(rt: HostRuntime) -> Result<(), Fail> {
-    let alloc = rt.alloc();
-    let mission = apart(alloc)?;
-    let crew = "{\"index\":0,\"kind\":\"guest\"}";
-    let mission = flown(alloc, mission.as_str(), 0, 3, CALM, crew)?;
-    for (draft, refused, want) in ROWS {
-        let trace = format!(in alloc;
-            "soter trace 1
+// The trace with this behind `2 fire fast`, and so many refused drafts.
+fn with_draft(rt: &impl Abort, alloc: Global, draft: &str, refused: u32) -> String {
+    format!(in alloc;
+        "soter trace 1
 start pos 0
 0 decide nav ac
 0 tick pos(0)=0
@@ -33,9 +28,19 @@ start pos 0
 2 tick pos(0)=0
 end 3 events 6 refused {refused}
 "
-        )?;
-        let found = replayed(&rt, alloc, mission.as_str(), 1, trace.as_bytes())?;
-        assert_eq!(rt; found.as_str(), want, "with {draft} and {refused}");
+    )
+    .expect(rt, "memory")
+}
+
+#[test]
+fn guests_hand_over_numbers_of_64_bits(rt: HostRuntime) {
+    let alloc = rt.alloc();
+    let mission = apart(&rt, alloc);
+    let crew = "{\"index\":0,\"kind\":\"guest\"}";
+    let mission = flown(&rt, alloc, mission.as_str(), 0, 3, CALM, crew);
+    for (draft, refused, want) in ROWS {
+        let trace = with_draft(&rt, alloc, draft, refused);
+        let found = replayed(&rt, alloc, mission.as_str(), 1, trace.as_bytes());
+        same(&rt, (draft, refused), found.as_str(), want);
     }
-    Ok(())
 }

@@ -36,16 +36,18 @@ end 0 events 0 refused 0\n => refused line 2 NodesLeft
 0 input e=5\n0 fire copy m!5\n => refused line 3 Differs
 0 fire copy m=0\n0 fire copy m=0\n => refused line 3 AlreadyFired";
 
+// The trace of a row is answered as stands behind it.
+fn row_is(rt: &(impl Abort + Threads + Sync), alloc: Global, row: &str) {
+    let (lines, want) = cut(rt, row, " => ");
+    let lines = unescaped(rt, alloc, lines);
+    let trace = format!(in alloc; "soter trace 1\n{lines}").expect(rt, "memory");
+    answers(rt, alloc, row, RELAY, trace.as_bytes(), want);
+}
+
 #[test]
-fn inputs_come_when_they_are_due(rt: HostRuntime) -> Result<(), Fail> {
-    let alloc = rt.alloc();
+fn inputs_come_when_they_are_due(rt: HostRuntime) {
     for row in ROWS.lines() {
-        let (lines, want) = row.split_once(" => ").ok_or("no answer")?;
-        let lines = unescaped(alloc, lines)?;
-        let trace = format!(in alloc; "soter trace 1\n{lines}")?;
-        let found = replayed(&rt, alloc, RELAY, 0, trace.as_bytes())?;
-        assert_eq!(rt; found.as_str(), want, "at {lines}");
+        row_is(&rt, rt.alloc(), row);
     }
-    assert_eq!(rt; ROWS.lines().count(), 23);
-    Ok(())
+    same(&rt, "rows", ROWS.lines().count(), 23);
 }

@@ -19,22 +19,30 @@ const ROWS: &str = "2 | start pos @ => refused line 2 Differs
 15 | end 5 events 12 refused @ => refused line 15 Differs
 15 | end 5 events 12 refused -@ => refused line 15 NotALine";
 
+// The trace with the line of a row, in which the number stands, is answered as stands behind it.
+fn row_is(
+    rt: &(impl Abort + Threads + Sync),
+    alloc: Global,
+    mission: &str,
+    number: &str,
+    row: &str,
+) {
+    let (placed, want) = cut(rt, row, " => ");
+    let (place, line) = cut(rt, placed, " | ");
+    let place = place.parse().ok().expect(rt, "a number");
+    let (before, behind) = cut(rt, line, "@");
+    let line = format!(in alloc; "{before}{number}{behind}").expect(rt, "memory");
+    let trace = lines_text(rt, alloc, &BRAKED, place, line.as_str());
+    answers(rt, alloc, row, mission, trace.as_bytes(), want);
+}
+
 #[test]
-fn numbers_of_a_thousand_digits(rt: HostRuntime) -> Result<(), Fail> {
+fn numbers_of_a_thousand_digits(rt: HostRuntime) {
     let alloc = rt.alloc();
-    let mission = windy(alloc)?;
-    let number = "7".repeat(alloc, 1_000)?;
-    let number = number.as_str();
+    let mission = windy(&rt, alloc);
+    let number = "7".repeat(alloc, 1_000).expect(&rt, "memory");
     for row in ROWS.lines() {
-        let (row, want) = row.split_once(" => ").ok_or("no answer")?;
-        let (place, line) = row.split_once(" | ").ok_or("no place")?;
-        let place = place.parse().ok().ok_or("no number")?;
-        let (before, behind) = line.split_once('@').ok_or("no number")?;
-        let line = format!(in alloc; "{before}{number}{behind}")?;
-        let trace = lines_text(alloc, &BRAKED, place, line.as_str())?;
-        let found = replayed(&rt, alloc, mission.as_str(), 0, trace.as_bytes())?;
-        assert_eq!(rt; found.as_str(), want, "with {before}..{behind}");
+        row_is(&rt, alloc, mission.as_str(), number.as_str(), row);
     }
-    assert_eq!(rt; ROWS.lines().count(), 16);
-    Ok(())
+    same(&rt, "rows", ROWS.lines().count(), 16);
 }

@@ -21,9 +21,9 @@ const HELD: [&str; 15] = [
 ];
 
 #[test]
-fn two_orders_of_an_instant(rt: HostRuntime) -> Result<(), Fail> {
+fn two_orders_of_an_instant(rt: HostRuntime) {
     let alloc = rt.alloc();
-    let mission = windy(alloc)?;
+    let mission = windy(&rt, alloc);
     for (lines, place, other, want) in [
         (&BRAKED, 0, "", "legal events 12"),
         (&HELD, 0, "", "legal events 12"),
@@ -36,11 +36,10 @@ fn two_orders_of_an_instant(rt: HostRuntime) -> Result<(), Fail> {
         (&HELD, 14, "4 tick pos(1)=21", "refused line 14 Differs"),
         (&BRAKED, 14, "4 tick pos(1)=25", "refused line 14 Differs"),
     ] {
-        let trace = lines_text(alloc, lines, place, other)?;
-        let found = replayed(&rt, alloc, mission.as_str(), 0, trace.as_bytes())?;
-        assert_eq!(rt; found.as_str(), want, "with {other}");
+        let trace = lines_text(&rt, alloc, lines, place, other);
+        let mission = mission.as_str();
+        answers(&rt, alloc, other, mission, trace.as_bytes(), want);
     }
-    Ok(())
 }
 
 // The safe node and the decision come a tick after they are due.
@@ -54,8 +53,24 @@ const LATE: [&str; 7] = [
     "end 1 events 4 refused 0",
 ];
 
+// That trace with another line in this place is answered so, where the certificate has this head.
+fn late_is(
+    rt: &(impl Abort + Threads + Sync),
+    alloc: Global,
+    head: &str,
+    place: usize,
+    other: &str,
+    want: &str,
+) {
+    let mission = together(rt, alloc, head);
+    let mission = flown(rt, alloc, mission.as_str(), 10, 1, HIGH, TWO);
+    let trace = lines_text(rt, alloc, &LATE, place, other);
+    let mission = mission.as_str();
+    answers(rt, alloc, other, mission, trace.as_bytes(), want);
+}
+
 #[test]
-fn with_jitter_firings_may_be_late(rt: HostRuntime) -> Result<(), Fail> {
+fn with_jitter_firings_may_be_late(rt: HostRuntime) {
     let alloc = rt.alloc();
     for (head, place, other, want) in [
         ("\"format\":2,\"jitter\":1", 0, "", "legal events 4"),
@@ -79,22 +94,16 @@ fn with_jitter_firings_may_be_late(rt: HostRuntime) -> Result<(), Fail> {
         ),
         ("\"format\":1", 0, "", "refused line 4 NodesLeft"),
     ] {
-        let mission = together(alloc, head)?;
-        let mission = flown(alloc, mission.as_str(), 10, 1, HIGH, TWO)?;
-        let trace = lines_text(alloc, &LATE, place, other)?;
-        let found = replayed(&rt, alloc, mission.as_str(), 0, trace.as_bytes())?;
-        assert_eq!(rt; found.as_str(), want, "with {head} and {other}");
+        late_is(&rt, alloc, head, place, other, want);
     }
-    Ok(())
 }
 
 #[test]
-fn no_replay_starts_outside(rt: HostRuntime) -> Result<(), Fail> {
+fn no_replay_starts_outside(rt: HostRuntime) {
     let alloc = rt.alloc();
-    let mission = together(alloc, "\"format\":1")?;
-    let mission = flown(alloc, mission.as_str(), 11, 5, HIGH, TWO)?;
-    let trace = lines_text(alloc, &BRAKED, 0, "")?;
-    let found = replayed(&rt, alloc, mission.as_str(), 0, trace.as_bytes())?;
-    assert_eq!(rt; found.as_str(), "refused start 0");
-    Ok(())
+    let mission = together(&rt, alloc, "\"format\":1");
+    let mission = flown(&rt, alloc, mission.as_str(), 11, 5, HIGH, TWO);
+    let trace = lines_text(&rt, alloc, &BRAKED, 0, "");
+    let (mission, trace) = (mission.as_str(), trace.as_bytes());
+    answers(&rt, alloc, "outside", mission, trace, "refused start 0");
 }

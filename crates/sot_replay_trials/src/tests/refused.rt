@@ -1,6 +1,5 @@
 //! Each line of a trace in turn, with another one in its place.
 use super::*;
-use std::process::Abort;
 
 // Each row has the place of the other line, the line, and the answer.
 
@@ -94,40 +93,40 @@ const OTHERS: &str = "3 | 0 decide nav sc => refused line 3 Differs
 15 | end 5 events 13 refused 0 => refused line 15 Differs
 15 | end 5 events 12 refused 1 => refused line 15 Differs";
 
-// Whether each row of a table is answered as it says, and how many there are.
-fn tried(rt: &(impl Abort + Threads + Sync), alloc: Global, table: &str) -> Result<usize, Fail> {
-    let mission = windy(alloc)?;
+// The trace with the line of a row is answered as stands behind it.
+fn row_is(rt: &(impl Abort + Threads + Sync), alloc: Global, mission: &str, row: &str) {
+    let (placed, want) = cut(rt, row, " => ");
+    let (place, other) = cut(rt, placed, " | ");
+    let place = place.parse().ok().expect(rt, "a number");
+    let trace = lines_text(rt, alloc, &BRAKED, place, other);
+    answers(rt, alloc, row, mission, trace.as_bytes(), want);
+}
+
+// Each of so many rows of a table is answered as it says.
+fn tried(rt: &(impl Abort + Threads + Sync), alloc: Global, table: &str, rows: usize) {
+    let mission = windy(rt, alloc);
     for row in table.lines() {
-        let (row, want) = row.split_once(" => ").ok_or("no answer")?;
-        let (place, other) = row.split_once(" | ").ok_or("no place")?;
-        let place = place.parse().ok().ok_or("no number")?;
-        let trace = lines_text(alloc, &BRAKED, place, other)?;
-        let found = replayed(rt, alloc, mission.as_str(), 0, trace.as_bytes())?;
-        assert_eq!(rt; found.as_str(), want, "with {other}");
+        row_is(rt, alloc, mission.as_str(), row);
     }
-    Ok(table.lines().count())
+    same(rt, "rows", table.lines().count(), rows);
 }
 
 #[test]
-fn first_lines(rt: HostRuntime) -> Result<(), Fail> {
-    assert_eq!(rt; tried(&rt, rt.alloc(), OPENING)?, 13);
-    Ok(())
+fn first_lines(rt: HostRuntime) {
+    tried(&rt, rt.alloc(), OPENING, 13);
 }
 
 #[test]
-fn lines_that_spell_nothing(rt: HostRuntime) -> Result<(), Fail> {
-    assert_eq!(rt; tried(&rt, rt.alloc(), NOTHING)?, 30);
-    Ok(())
+fn lines_that_spell_nothing(rt: HostRuntime) {
+    tried(&rt, rt.alloc(), NOTHING, 30);
 }
 
 #[test]
-fn lines_that_come_at_another_time_or_too_early(rt: HostRuntime) -> Result<(), Fail> {
-    assert_eq!(rt; tried(&rt, rt.alloc(), MISPLACED)?, 24);
-    Ok(())
+fn lines_that_come_at_another_time_or_too_early(rt: HostRuntime) {
+    tried(&rt, rt.alloc(), MISPLACED, 24);
 }
 
 #[test]
-fn lines_that_differ(rt: HostRuntime) -> Result<(), Fail> {
-    assert_eq!(rt; tried(&rt, rt.alloc(), OTHERS)?, 15);
-    Ok(())
+fn lines_that_differ(rt: HostRuntime) {
+    tried(&rt, rt.alloc(), OTHERS, 15);
 }
