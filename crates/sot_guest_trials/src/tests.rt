@@ -9,8 +9,9 @@ use sot_commands::soter;
 use sot_ports::{MemSink, PureSource};
 use sot_workers_trials::Keeper;
 use std::alloc::Global;
+use std::fmt::Debug;
+use std::process::Abort;
 use std::sync::Wait;
-use std::test::*;
 use std::thread::Threads;
 
 // At most one node of the vehicle is due in any instant, so that a flight has one trace.
@@ -34,30 +35,71 @@ const HIGH: &str = "{\"kind\":\"high\"}";
 
 const SEED: &str = "{\"kind\":\"seed\",\"seed\":42,\"stream\":54}";
 
-// The vehicle with a flight in which the first guest flies the advanced node.
-fn mission(alloc: Global, start: i64, horizon: u32, sway: &str) -> Result<String, Fail> {
-    let text = format!(in alloc;
-        "{VEHICLE}{{\"crew\":{{\"fast\":{{\"index\":0,\"kind\":\"guest\"}}}},\"format\":1,\"horizon\":{horizon},\"inputs\":[],\"start\":{{\"pos\":[{start}]}},\"sway\":{{\"pos\":{sway}}}}}\n"
-    )?;
-    Ok(text)
+// Ends the test, with what was asked, where the answer is not the one that is wanted.
+fn same<A: Debug + Drop, T: PartialEq + Debug + Drop>(
+    rt: &impl Abort,
+    asked: A,
+    got: T,
+    wanted: T,
+) {
+    assert_eq!(rt; got, wanted, "{asked:?}");
 }
 
-// The status and the text of a command on an input.
-fn answered<R: Threads + Wait + Sync>(
+// The vehicle with a flight in which the first guest flies the advanced node.
+fn mission(rt: &impl Abort, alloc: Global, start: i64, horizon: u32, sway: &str) -> String {
+    format!(in alloc;
+        "{VEHICLE}{{\"crew\":{{\"fast\":{{\"index\":0,\"kind\":\"guest\"}}}},\"format\":1,\"horizon\":{horizon},\"inputs\":[],\"start\":{{\"pos\":[{start}]}},\"sway\":{{\"pos\":{sway}}}}}\n"
+    ).expect(rt, "memory")
+}
+
+// The only guest of a flight, which drafts these two by turns.
+fn keeper(rt: &impl Abort, alloc: Global, number: Option<i64>, other: Option<i64>) -> Vec<Keeper>
+    ensures { vec_len result ≡ 1 }
+{
+    let mut guests = Vec::new(alloc);
+    guests
+        .push(Keeper::new(alloc, number, other))
+        .expect(rt, "memory");
+    guests
+}
+
+// The words that are one word.
+fn words_of(rt: &impl Abort, alloc: Global, word: &str) -> Vec<String> {
+    let mut words = Vec::new(alloc);
+    words
+        .push(String::from_str(alloc, word).expect(rt, "memory"))
+        .expect(rt, "memory");
+    words
+}
+
+fn source_of(rt: &impl Abort, alloc: Global, input: &str) -> PureSource {
+    PureSource::new(Vec::from_slice(alloc, input.as_bytes()).expect(rt, "memory"))
+}
+
+fn sink(rt: &impl Abort, alloc: Global) -> MemSink {
+    MemSink::new(alloc, 50_000, 50_000, Vec::new(alloc)).expect(rt, "memory")
+}
+
+fn written(rt: &impl Abort, alloc: Global, sink: &MemSink) -> String {
+    let text = str::from_utf8(sink.bytes()).expect(rt, "a text");
+    String::from_str(alloc, text).expect(rt, "memory")
+}
+
+// What a command writes on an input, with status 0.
+fn answered<R: Abort + Threads + Wait + Sync>(
     rt: &R,
     alloc: Global,
     word: &str,
     input: &str,
     guests: &mut Vec<Keeper>,
-) -> Result<(u8, String), Fail>
+) -> String
     requires { vec_len guests.old < 2 ^ 32 }
     ensures { vec_len guests.new ≡ vec_len guests.old }
 {
-    let mut words = Vec::new(alloc);
-    words.push(String::from_str(alloc, word)?)?;
-    let mut source = PureSource::new(Vec::from_slice(alloc, input.as_bytes())?);
-    let mut sink = MemSink::new(alloc, 50_000, 50_000, Vec::new(alloc))?;
+    let words = words_of(rt, alloc, word);
+    let mut source = source_of(rt, alloc, input);
+    let mut sink = sink(rt, alloc);
     let ended = soter(rt, alloc, &words, guests, &mut source, &mut sink);
-    let text = str::from_utf8(sink.bytes())?;
-    Ok((ended.0, String::from_str(alloc, text)?))
+    same(rt, word, ended.0, 0);
+    written(rt, alloc, &sink)
 }

@@ -28,35 +28,53 @@ fn states(trace: &str) -> Printed {
     found
 }
 
+// The last line of a trace with so many refused drafts.
+fn end_of(rt: &impl Abort, alloc: Global, refused: u32) -> String {
+    format!(in alloc; "\nend 1000 events 1751 refused {refused}\n").expect(rt, "memory")
+}
+
+fn with_trace(rt: &impl Abort, alloc: Global, mission: &str, trace: &str) -> String {
+    format!(in alloc; "{mission}%trace\n{trace}").expect(rt, "memory")
+}
+
+// A flight of a thousand ticks whose guest drafts these two by turns: so many drafts are refused, the states have this sum, and what
+// is written is legal.
+fn stays_inside<R: Abort + Threads + Wait + Sync>(
+    rt: &R,
+    alloc: Global,
+    numbers: (i64, i64),
+    start: i64,
+    sway: &str,
+    sum: i64,
+    refused: u32,
+) {
+    let mission = mission(rt, alloc, start, 1_000, sway);
+    let mut guests = keeper(rt, alloc, Some(numbers.0), Some(numbers.1));
+    let trace = answered(rt, alloc, "fly", mission.as_str(), &mut guests);
+    let wanted = Printed {
+        count: 1_000,
+        safe: true,
+        sum,
+    };
+    same(rt, numbers, states(trace.as_str()), wanted);
+    let end = end_of(rt, alloc, refused);
+    let ends = trace.as_str().ends_with(end.as_str());
+    same(rt, end.as_str(), ends, true);
+
+    let flown = with_trace(rt, alloc, mission.as_str(), trace.as_str());
+    let text = answered(rt, alloc, "replay", flown.as_str(), &mut guests);
+    same(rt, numbers, text.as_str(), "legal events 1751\n");
+    same(rt, numbers, guests[0].kept.len(), 250);
+}
+
 #[test]
-fn a_thousand_ticks_stay_inside(rt: HostRuntime) -> Result<(), Fail> {
-    let alloc = rt.alloc();
+fn a_thousand_ticks_stay_inside(rt: HostRuntime) {
     for (number, other, start, sway, sum, refused) in [
         (-2, 2, 10, HIGH, 13_974, 0),
         (-2, 2, 0, SEED, -2_453, 0),
         (-3, 3, 0, HIGH, 5_240, 250),
         (-3, 3, 10, SEED, -2_575, 250),
     ] {
-        let mission = mission(alloc, start, 1_000, sway)?;
-        let mut guests = Vec::new(alloc);
-        guests.push(Keeper::new(alloc, Some(number), Some(other)))?;
-        assert!(rt; guests.len() == 1);
-        let (status, trace) = answered(&rt, alloc, "fly", mission.as_str(), &mut guests)?;
-        assert_eq!(rt; status, 0);
-        let wanted = Printed {
-            count: 1_000,
-            safe: true,
-            sum,
-        };
-        assert_eq!(rt; states(trace.as_str()), wanted);
-        let end = format!(in alloc; "\nend 1000 events 1751 refused {refused}\n")?;
-        assert!(rt; trace.as_str().ends_with(end.as_str()));
-
-        let flown = format!(in alloc; "{mission}%trace\n{trace}")?;
-        let (status, text) = answered(&rt, alloc, "replay", flown.as_str(), &mut guests)?;
-        assert_eq!(rt; text.as_str(), "legal events 1751\n");
-        assert_eq!(rt; status, 0);
-        assert!(rt; guests[0].kept.len() == 250);
+        stays_inside(&rt, rt.alloc(), (number, other), start, sway, sum, refused);
     }
-    Ok(())
 }
