@@ -1,11 +1,18 @@
 //! Many nodes, and many flights in a row.
-use super::{flown, loaded};
+ghost use Rattle.std.specs.Prelude.{◌≡◌, vec_len};
+ghost use Rattle.sot_flight.specs.Fits.{FitsFlight};
+
+use super::{flown, loaded, same};
 use crate::keeper::Keeper;
 use sot_compose::check_all;
+use sot_flight::Flight;
+use sot_tube::Accepted;
 use sot_workers::{Flown, NodeList};
 use std::alloc::{AllocError, Global};
 use std::fmt::Write;
-use std::test::*;
+use std::process::Abort;
+use std::sync::Wait;
+use std::thread::Threads;
 
 const NODES: u32 = 300;
 
@@ -31,53 +38,56 @@ fn drafter_of(node: u32) -> Drafter {
     }
 }
 
-// A node that is due at each time, with the topic that it writes. Its code counts its firings.
-fn declare(text: &mut String, node: u32) -> Result<(), Fail> {
-    write!(text, "topic t{node}: int[0..999] = 0;\n")?;
+// A node that is due at each time, and writes its topic. Its code counts its firings.
+fn declare_node(text: &mut String, node: u32) -> Result<(), AllocError> {
     match drafter_of(node) {
         Drafter::Code => write!(
             text,
             "node n{node} period 1 offset 0 {{ writes t{node}; local n: int[0..999] = 0; do {{ n := min(n + 1, 999); publish t{node} = n; }} }}\n"
-        )?,
+        ),
         Drafter::Guest(_) | Drafter::Script => write!(
             text,
             "external n{node} period 1 offset 0 {{ writes t{node}; }}\n"
-        )?,
+        ),
     }
-    Ok(())
+}
+
+// A node, with the topic that it writes.
+fn declare(text: &mut String, node: u32) -> Result<(), AllocError> {
+    write!(text, "topic t{node}: int[0..999] = 0;\n")?;
+    declare_node(text, node)
 }
 
 // Who drafts for a node, in a flight. The script of a node has its number, and then 0.
-fn hire(text: &mut String, node: u32) -> Result<(), Fail> {
+fn hire(text: &mut String, node: u32) -> Result<(), AllocError> {
     let comma = if node == 0 { "" } else { "," };
     match drafter_of(node) {
-        Drafter::Code => {}
+        Drafter::Code => Ok(()),
         Drafter::Guest(index) => write!(
             text,
             "{comma}\"n{node}\":{{\"kind\":\"guest\",\"index\":{index}}}"
-        )?,
+        ),
         Drafter::Script => write!(
             text,
             "{comma}\"n{node}\":{{\"kind\":\"script\",\"drafts\":[[{node}],[0]]}}"
-        )?,
+        ),
     }
-    Ok(())
 }
 
 // A mission of all these nodes, with its flight.
-fn crowd(alloc: Global) -> Result<String, Fail> {
+fn crowd(rt: &impl Abort, alloc: Global) -> String {
     let mut text = String::new(alloc);
     for node in 0..NODES {
-        declare(&mut text, node)?;
+        declare(&mut text, node).expect(rt, "memory");
     }
     text.push_str(
         "%certificate\n{\"format\":1,\"modules\":{}}\n%flight\n{\"format\":1,\"inputs\":[],\"start\":{},\"sway\":{},\"crew\":{",
-    )?;
+    ).expect(rt, "memory");
     for node in 0..NODES {
-        hire(&mut text, node)?;
+        hire(&mut text, node).expect(rt, "memory");
     }
-    write!(text, "}},\"horizon\":{HORIZON}}}\n")?;
-    Ok(text)
+    write!(text, "}},\"horizon\":{HORIZON}}}\n").expect(rt, "memory");
+    text
 }
 
 // What a node drafts in a firing, from 0 on. Each guest drafts a thousand less its number.
@@ -120,29 +130,64 @@ fn is_flown(flown: &Flown<'_>) -> bool {
     whole
 }
 
-#[test]
-fn a_crowd_flies_a_hundred_times(rt: HostRuntime) -> Result<(), Fail> {
-    let alloc = rt.alloc();
-    let text = crowd(alloc)?;
+// The guests, each of which always drafts a thousand less its number.
+fn keepers(rt: &impl Abort, alloc: Global) -> Vec<Keeper> {
     let mut guests = Vec::new(alloc);
     for index in 0..GUESTS {
         let number = Some(1000 - i64::from(index));
-        guests.push(Keeper::new(alloc, number, number))?;
+        guests
+            .push(Keeper::new(alloc, number, number))
+            .expect(rt, "memory");
     }
-    assert!(rt; guests.len() == GUESTS as usize);
-    let loaded = loaded(alloc, text.as_str(), GUESTS)?;
+    guests
+}
+
+// A guest found memory for each asking, and keeps one for each firing of each flight.
+fn keeps_all(rt: &impl Abort, guest: &Keeper) {
+    same(rt, guest.number, guest.lost, false);
+    same(
+        rt,
+        guest.number,
+        guest.kept.len(),
+        FLIGHTS * (HORIZON as usize + 1),
+    );
+}
+
+// Flies a flight, and looks at its history and its lists.
+fn flies<R: Abort + Threads + Wait + Sync>(
+    rt: &R,
+    alloc: Global,
+    accepted: &Accepted<'_>,
+    flight: &Flight,
+    guests: &mut Vec<Keeper>,
+    number: usize,
+)
+    requires { FitsFlight accepted.now.program (vec_len guests.old) flight.now }
+    ensures { vec_len guests.new ≡ vec_len guests.old }
+{
+    let flown = flown(rt, alloc, accepted, flight, guests);
+    same(rt, number, is_flown(&flown), true);
+}
+
+#[test]
+fn a_crowd_flies_a_hundred_times(rt: HostRuntime) {
+    let alloc = rt.alloc();
+    let text = crowd(&rt, alloc);
+    let mut guests = keepers(&rt, alloc);
+    if guests.len() != GUESTS as usize {
+        panic!(rt; "not all guests");
+    }
+    let loaded = loaded(&rt, alloc, text.as_str(), GUESTS);
     let Some(flight) = &loaded.flight else {
-        return Err(Fail::from(AllocError));
+        panic!(rt; "no flight");
     };
     let Ok(accepted) = check_all(&rt, &loaded.program, &loaded.cert) else {
-        return Err(Fail::from(AllocError));
+        panic!(rt; "the mission is refused");
     };
     for number in 0..FLIGHTS {
-        let flown = flown(&rt, alloc, &accepted, flight, &mut guests)?;
-        assert!(rt; is_flown(&flown), "flight {number}");
+        flies(&rt, alloc, &accepted, flight, &mut guests, number);
     }
     for guest in &guests {
-        assert!(rt; !guest.lost && guest.kept.len() == FLIGHTS * (HORIZON as usize + 1));
+        keeps_all(&rt, guest);
     }
-    Ok(())
 }

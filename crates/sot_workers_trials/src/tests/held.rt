@@ -1,10 +1,13 @@
 //! Guests that are held until another one was called.
+ghost use Rattle.std.specs.Prelude.{◌≡◌, vec_len};
+
 use super::holder::{Caller, Holder};
-use super::trace_of;
+use super::{drafts_of, same, trace_of};
 use sot_shift::Controller;
+use std::alloc::Global;
+use std::process::Abort;
 use std::sync::Arc;
 use std::sync::atomic::{AtomicBool, Ordering};
-use std::test::*;
 
 // Two nodes that read and write nothing, the second one due a tick after the first, with a jitter of one; four ticks.
 const APART: &str = "external one period 4 offset 0 { }
@@ -30,49 +33,91 @@ module n { ac two; sc calm; period 4 offset 0; plant q; safe [0..1]; safer [0..1
 {\"crew\":{\"one\":{\"kind\":\"guest\",\"index\":0},\"two\":{\"kind\":\"guest\",\"index\":1}},\"format\":1,\"horizon\":4,\"inputs\":[],\"start\":{\"p\":[0],\"q\":[1]},\"sway\":{}}
 ";
 
-#[test]
-fn guests_are_asked_at_once(rt: HostRuntime) -> Result<(), Fail> {
-    let alloc = rt.alloc();
-    let one = Arc::new(alloc, AtomicBool::new(false))?;
-    let other = Arc::new(alloc, AtomicBool::new(false))?;
-    let first = Arc::new(alloc, AtomicBool::new(false))?;
-    let second = Arc::new(alloc, AtomicBool::new(false))?;
+// A flag that is not up.
+fn flag(rt: &impl Abort, alloc: Global) -> Arc<AtomicBool, Global> {
+    Arc::new(alloc, AtomicBool::new(false)).expect(rt, "memory")
+}
+
+// The same flag, once more.
+fn again(rt: &impl Abort, flag: &Arc<AtomicBool, Global>) -> Arc<AtomicBool, Global> {
+    Arc::try_clone(flag).expect(rt, "memory")
+}
+
+// A guest that puts one flag up, waits for another, and puts a third up once it met that.
+fn holder(
+    rt: &impl Abort,
+    called: &Arc<AtomicBool, Global>,
+    other: &Arc<AtomicBool, Global>,
+    met: &Arc<AtomicBool, Global>,
+) -> Holder {
+    Holder {
+        called: again(rt, called),
+        other: again(rt, other),
+        met: again(rt, met),
+    }
+}
+
+// Two guests, each of which waits until the other was called.
+fn holders(
+    rt: &impl Abort,
+    alloc: Global,
+    first: &Arc<AtomicBool, Global>,
+    second: &Arc<AtomicBool, Global>,
+) -> Vec<Holder>
+    ensures { vec_len result ≡ 2 }
+{
+    let one = flag(rt, alloc);
+    let other = flag(rt, alloc);
     let mut guests = Vec::new(alloc);
-    guests.push(Holder {
-        called: Arc::try_clone(&one)?,
-        other: Arc::try_clone(&other)?,
-        met: Arc::try_clone(&first)?,
-    })?;
-    guests.push(Holder {
-        called: other,
-        other: one,
-        met: Arc::try_clone(&second)?,
-    })?;
-    let (_, lists) = trace_of(&rt, alloc, ADVANCED, &mut guests)?;
-    assert!(rt; first.load(Ordering::SeqCst) && second.load(Ordering::SeqCst));
-    assert!(rt; lists.len() == 4 && lists[0].drafts.len() == 2 && lists[1].drafts.len() == 2);
-    Ok(())
+    guests
+        .push(holder(rt, &one, &other, first))
+        .expect(rt, "memory");
+    guests
+        .push(holder(rt, &other, &one, second))
+        .expect(rt, "memory");
+    guests
 }
 
 #[test]
-fn time_goes_on_while_a_guest_is_held(rt: HostRuntime) -> Result<(), Fail> {
+fn guests_are_asked_at_once(rt: HostRuntime) {
     let alloc = rt.alloc();
-    let called = Arc::new(alloc, AtomicBool::new(false))?;
-    let met = Arc::new(alloc, AtomicBool::new(false))?;
-    let held: Box<dyn Controller + Send> = Box::new(
-        alloc,
-        Holder {
-            called: Arc::new(alloc, AtomicBool::new(false))?,
-            other: Arc::try_clone(&called)?,
-            met: Arc::try_clone(&met)?,
-        },
-    )?;
-    let calls: Box<dyn Controller + Send> = Box::new(alloc, Caller { called })?;
+    let first = flag(&rt, alloc);
+    let second = flag(&rt, alloc);
+    let mut guests = holders(&rt, alloc, &first, &second);
+    let (_, lists) = trace_of(&rt, alloc, ADVANCED, &mut guests);
+    same(&rt, "first", first.load(Ordering::SeqCst), true);
+    same(&rt, "second", second.load(Ordering::SeqCst), true);
+    same(&rt, "lists", lists.len(), 4);
+    same(&rt, "one", drafts_of(&rt, &lists, 0), 2);
+    same(&rt, "two", drafts_of(&rt, &lists, 1), 2);
+}
+
+// A guest that waits until the one behind it was called.
+fn held_and_caller(
+    rt: &impl Abort,
+    alloc: Global,
+    met: &Arc<AtomicBool, Global>,
+) -> Vec<Box<dyn Controller + Send>>
+    ensures { vec_len result ≡ 2 }
+{
+    let called = flag(rt, alloc);
+    let held = holder(rt, &flag(rt, alloc), &called, met);
+    let held: Box<dyn Controller + Send> = Box::new(alloc, held).expect(rt, "memory");
+    let calls: Box<dyn Controller + Send> = Box::new(alloc, Caller { called }).expect(rt, "memory");
     let mut guests = Vec::new(alloc);
-    guests.push(held)?;
-    guests.push(calls)?;
-    let (_, lists) = trace_of(&rt, alloc, APART, &mut guests)?;
-    assert!(rt; met.load(Ordering::SeqCst));
-    assert!(rt; lists.len() == 2 && lists[0].drafts.len() == 2 && lists[1].drafts.len() == 1);
-    Ok(())
+    guests.push(held).expect(rt, "memory");
+    guests.push(calls).expect(rt, "memory");
+    guests
+}
+
+#[test]
+fn time_goes_on_while_a_guest_is_held(rt: HostRuntime) {
+    let alloc = rt.alloc();
+    let met = flag(&rt, alloc);
+    let mut guests = held_and_caller(&rt, alloc, &met);
+    let (_, lists) = trace_of(&rt, alloc, APART, &mut guests);
+    same(&rt, "met", met.load(Ordering::SeqCst), true);
+    same(&rt, "lists", lists.len(), 2);
+    same(&rt, "one", drafts_of(&rt, &lists, 0), 2);
+    same(&rt, "two", drafts_of(&rt, &lists, 1), 1);
 }

@@ -1,9 +1,12 @@
 //! Guests that keep their askings, and many guests.
-use super::trace_of;
-use crate::keeper::Keeper;
-use std::alloc::Global;
+ghost use Rattle.std.specs.Prelude.{◌≡◌, vec_len};
+
+use super::{drafts_of, same, trace_of};
+use crate::keeper::{Keeper, Kept};
+use sot_workers::NodeList;
+use std::alloc::{AllocError, Global};
 use std::fmt::Write;
-use std::test::*;
+use std::process::Abort;
 
 // A vehicle whose first node is flown by the second guest, and no other node by a guest.
 const VEHICLE: &str = "topic cmd: int[-2..2] = 0;
@@ -68,73 +71,117 @@ fn keeper(alloc: Global, number: i64) -> Keeper {
     Keeper::new(alloc, Some(number), Some(number))
 }
 
-#[test]
-fn askings_are_those_of_the_firings(rt: HostRuntime) -> Result<(), Fail> {
-    let alloc = rt.alloc();
-    let mut guests = Vec::new(alloc);
-    guests.push(keeper(alloc, 1))?;
-    guests.push(keeper(alloc, 2))?;
-    let (trace, lists) = trace_of(&rt, alloc, VEHICLE, &mut guests)?;
-    assert_eq!(rt; trace.as_str(), SWITCHED);
-    assert!(rt; guests.len() == 2 && guests[0].number == Some(1) && guests[0].kept.len() == 0);
-    let kept = guests[1].kept.as_slice();
-    let seen = [0, 8, 16, 20, 12];
-    assert!(rt; guests[1].number == Some(2) && !guests[1].lost && kept.len() == seen.len());
-    assert!(rt; lists.len() == 2 && lists[0].drafts.len() == 5 && lists[1].drafts.len() == 5);
-    for i in 0..5 {
-        assert!(rt; kept[i].view.len() == 1 && kept[i].view.value(0) == seen[i]);
-        assert!(rt; kept[i].draft == lists[0].drafts[i]);
-    }
-    Ok(())
+// The asking of a firing has one number, which is the one that was there to see, and the draft of the node's list.
+fn asked_is(rt: &impl Abort, kept: &[Kept], lists: &[NodeList], firing: usize, seen: i64) {
+    let kept = kept.get(firing).expect(rt, "an asking");
+    let list = lists.get(0).expect(rt, "a list");
+    let draft = list.drafts.get(firing).expect(rt, "a draft");
+    let shown = kept.view.len() == 1 && kept.view.value(0) == seen;
+    same(rt, (firing, seen), shown, true);
+    same(rt, firing, kept.draft, *draft);
 }
 
-// So many nodes in a row, each of which is due at each time, and flown by a guest; each but the first reads what the one before it
-// writes.
-fn row(alloc: Global, count: u32, horizon: u32) -> Result<String, Fail> {
-    let mut text = String::new(alloc);
-    for i in 0..count {
-        write!(text, "topic t{i}: int[0..999] = 0;\n")?;
-        if i == 0 {
-            write!(text, "external n{i} period 1 offset 0 {{ writes t{i}; }}\n")?;
-        } else {
-            let before = i - 1;
-            write!(
-                text,
-                "external n{i} period 1 offset 0 {{ reads t{before}; writes t{i}; }}\n"
-            )?;
-        }
+// A guest has its number, found memory for each asking, and keeps so many.
+fn keeps(rt: &impl Abort, guests: &[Keeper], index: usize, number: i64, count: usize) {
+    let guest = guests.get(index).expect(rt, "a guest");
+    same(rt, index, guest.number, Some(number));
+    same(rt, index, guest.lost, false);
+    same(rt, index, guest.kept.len(), count);
+}
+
+// Two guests, which always draft 1 and 2.
+fn two_keepers(rt: &impl Abort, alloc: Global) -> Vec<Keeper>
+    ensures { vec_len result ≡ 2 }
+{
+    let mut guests = Vec::new(alloc);
+    guests.push(keeper(alloc, 1)).expect(rt, "memory");
+    guests.push(keeper(alloc, 2)).expect(rt, "memory");
+    guests
+}
+
+// What is seen at 2, 6, 10, 14 and 18.
+fn askings_are(rt: &impl Abort, guests: &[Keeper], lists: &[NodeList]) {
+    let kept = guests.get(1).expect(rt, "a guest").kept.as_slice();
+    for (firing, seen) in [(0, 0), (1, 8), (2, 16), (3, 20), (4, 12)] {
+        asked_is(rt, kept, lists, firing, seen);
     }
+}
+
+#[test]
+fn askings_are_those_of_the_firings(rt: HostRuntime) {
+    let alloc = rt.alloc();
+    let mut guests = two_keepers(&rt, alloc);
+    let (trace, lists) = trace_of(&rt, alloc, VEHICLE, &mut guests);
+    same(&rt, "trace", trace.as_str(), SWITCHED);
+    same(&rt, "guests", guests.len(), 2);
+    keeps(&rt, &guests, 0, 1, 0);
+    keeps(&rt, &guests, 1, 2, 5);
+    same(&rt, "lists", lists.len(), 2);
+    same(&rt, "fast", drafts_of(&rt, &lists, 0), 5);
+    same(&rt, "slow", drafts_of(&rt, &lists, 1), 5);
+    askings_are(&rt, &guests, &lists);
+}
+
+// A node of a row, with the topic that it writes; each but the first reads what the one before it writes.
+fn declare(text: &mut String, i: u32) -> Result<(), AllocError> {
     write!(
         text,
-        "%certificate\n{{\"format\":1,\"modules\":{{}}}}\n%flight\n{{\"crew\":{{"
+        "topic t{i}: int[0..999] = 0;\nexternal n{i} period 1 offset 0 {{ "
     )?;
+    if i > 0 {
+        let before = i - 1;
+        write!(text, "reads t{before}; ")?;
+    }
+    write!(text, "writes t{i}; }}\n")
+}
+
+// The guest of a node, in a flight.
+fn hire(text: &mut String, i: u32) -> Result<(), AllocError> {
+    let comma = if i == 0 { "" } else { "," };
+    write!(text, "{comma}\"n{i}\":{{\"kind\":\"guest\",\"index\":{i}}}")
+}
+
+// So many nodes in a row, each of which is due at each time, and flown by a guest.
+fn row(rt: &impl Abort, alloc: Global, count: u32, horizon: u32) -> String {
+    let mut text = String::new(alloc);
     for i in 0..count {
-        if i > 0 {
-            write!(text, ",")?;
-        }
-        write!(text, "\"n{i}\":{{\"kind\":\"guest\",\"index\":{i}}}")?;
+        declare(&mut text, i).expect(rt, "memory");
+    }
+    text.push_str("%certificate\n{\"format\":1,\"modules\":{}}\n%flight\n{\"crew\":{")
+        .expect(rt, "memory");
+    for i in 0..count {
+        hire(&mut text, i).expect(rt, "memory");
     }
     write!(
         text,
         "}},\"format\":1,\"horizon\":{horizon},\"inputs\":[],\"start\":{{}},\"sway\":{{}}}}\n"
-    )?;
-    Ok(text)
+    )
+    .expect(rt, "memory");
+    text
+}
+
+// So many guests, each of which always drafts its number.
+fn keepers(rt: &impl Abort, alloc: Global, count: i64) -> Vec<Keeper> {
+    let mut guests = Vec::new(alloc);
+    for number in 0..count {
+        guests.push(keeper(alloc, number)).expect(rt, "memory");
+    }
+    guests
 }
 
 #[test]
-fn a_hundred_guests_fly(rt: HostRuntime) -> Result<(), Fail> {
+fn a_hundred_guests_fly(rt: HostRuntime) {
     let alloc = rt.alloc();
-    let text = row(alloc, 100, 20)?;
-    let mut guests = Vec::new(alloc);
-    for number in 0..100 {
-        guests.push(keeper(alloc, number))?;
+    let text = row(&rt, alloc, 100, 20);
+    let mut guests = keepers(&rt, alloc, 100);
+    if guests.len() != 100 {
+        panic!(rt; "not a hundred guests");
     }
-    assert!(rt; guests.len() == 100);
-    let (_, lists) = trace_of(&rt, alloc, text.as_str(), &mut guests)?;
-    assert!(rt; lists.len() == 100 && guests.len() == 100);
+    let (_, lists) = trace_of(&rt, alloc, text.as_str(), &mut guests);
+    same(&rt, "lists", lists.len(), 100);
+    same(&rt, "guests", guests.len(), 100);
     for i in 0..100 {
-        assert!(rt; lists[i].drafts.len() == 21 && guests[i].kept.len() == 21);
-        assert!(rt; guests[i].number == Some(i as i64));
+        same(&rt, i, drafts_of(&rt, &lists, i), 21);
+        keeps(&rt, &guests, i, i as i64, 21);
     }
-    Ok(())
 }
