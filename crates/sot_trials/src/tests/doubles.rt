@@ -4,7 +4,8 @@
 ghost use Rattle.std.specs.Prelude.{◌≡◌, ◌≤ℤ◌, ◌∷◌, [], pos, negsuc, IfOk};
 ghost use Rattle.sot_worked.specs.Double.{IsDouble};
 
-use super::drive::happen;
+use super::drive::step;
+use super::same;
 use super::verdicts::{judged, side};
 use super::worlds::{accepted, draft};
 use crate::double_cert;
@@ -16,7 +17,7 @@ use sot_tube::Accepted;
 use sot_worked::double;
 use sot_world::{Event, OpenFail, World};
 use std::alloc::{AllocError, Global};
-use std::test::Fail;
+use std::process::Abort;
 use std::thread::Threads;
 
 // Whether the arm is accepted where `fast` is trusted between these places.
@@ -44,24 +45,30 @@ fn counts(c: &Cert) -> Option<(usize, usize)> {
     }
 }
 
-#[test]
-fn an_arm_is_accepted_or_refused(rt: HostRuntime) -> Result<(), Fail> {
-    let alloc = rt.alloc();
-    assert_eq!(rt; answer(&rt, alloc, -169, 169)?, Ok(()));
-    let leaves = Refusal::ReachLeaves {
+// Where an arm that is trusted up to 170 first leaves.
+fn leaves() -> Refusal {
+    Refusal::ReachLeaves {
         module: 0,
         cell: 0,
         tick: 4,
         area: BoxN::of(&[side(-196, 196), side(-14, 14)]).unwrap(),
         point: Point::of(&[-196, -14]).unwrap(),
-    };
-    assert_eq!(rt;
-        answer(&rt, alloc, -170, 170)?,
-        Err(CheckFail::Refused(leaves))
-    );
-    let c = double_cert(alloc, -169, 169)?;
-    assert_eq!(rt; counts(&c), Some((58, 1)));
-    Ok(())
+    }
+}
+
+#[test]
+fn an_arm_is_accepted_or_refused(rt: HostRuntime) {
+    let alloc = rt.alloc();
+    let narrow = answer(&rt, alloc, -169, 169).expect(&rt, "memory");
+    same(&rt, 169, narrow, Ok(()));
+    let wide = answer(&rt, alloc, -170, 170).expect(&rt, "memory");
+    same(&rt, 170, wide, Err(CheckFail::Refused(leaves())));
+}
+
+#[test]
+fn an_arm_has_58_closed_cells(rt: HostRuntime) {
+    let c = double_cert(rt.alloc(), -169, 169).expect(&rt, "memory");
+    same(&rt, "cells", counts(&c), Some((58, 1)));
 }
 
 // A place and a speed.
@@ -94,30 +101,26 @@ fn event(i: usize) -> Event<'static> {
     }
 }
 
-// The time and the arm after these events; `None` where one was refused.
-fn ran(alloc: Global, p: &Typed, acc: &Accepted<'_>) -> Option<(u32, Point)>
+// The time and the arm after these events, none of which is refused.
+fn ran(rt: &impl Abort, alloc: Global, p: &Typed, acc: &Accepted<'_>) -> (u32, Point)
     requires program { acc.now.program ≡ p.now }
     requires arm { IsDouble (negsuc 168) (pos 169) p.now }
 {
     let Ok(mut w) = opened(alloc, p, acc) else {
-        return None;
+        panic!(rt; "the arm opens");
     };
     for i in 0..10 {
-        let Some(Ok(_)) = happen(p, &mut w, &event(i)) else {
-            return None;
-        };
+        step(rt, p, &mut w, &event(i));
     }
-    Some((w.time(), w.state(0)))
+    (w.time(), w.state(0))
 }
 
 #[test]
-fn the_corner_is_reached_and_safe(rt: HostRuntime) -> Result<(), Fail> {
+fn the_corner_is_reached_and_safe(rt: HostRuntime) {
     let alloc = rt.alloc();
-    let p = double(alloc, -169, 169)?;
-    let c = double_cert(alloc, -169, 169)?;
-    let Some(acc) = accepted(&rt, &p, &c) else {
-        panic!(rt; "the arm is accepted");
-    };
-    assert_eq!(rt; ran(alloc, &p, &acc), Some((4, moving(195, 14))));
-    Ok(())
+    let p = double(alloc, -169, 169).expect(&rt, "memory");
+    let c = double_cert(alloc, -169, 169).expect(&rt, "memory");
+    let acc = accepted(&rt, &p, &c);
+    let after = ran(&rt, alloc, &p, &acc);
+    same(&rt, "after", after, (4, moving(195, 14)));
 }

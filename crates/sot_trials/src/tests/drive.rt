@@ -11,6 +11,7 @@ ghost use Rattle.sot_world.specs.Events.{Names, noise_count};
 use sot_lang::{PlantInfo, Typed};
 use sot_rta::node_at;
 use sot_world::{Event, Outcome, Why, World};
+use std::process::Abort;
 
 // Whether there is one disturbance for each of the plants'.
 fn has_noise(plants: &[PlantInfo], noise: &[i64]) -> bool
@@ -81,4 +82,14 @@ pub(super) fn happen(p: &Typed, w: &mut World<'_>, e: &Event<'_>) -> Option<Resu
         Ok(()) => Some(Ok(w.step(e))),
         Err(why) => Some(Err(why)),
     }
+}
+
+// Steps by an event, and ends the test where it cannot happen.
+pub(super) fn step(rt: &impl Abort, p: &Typed, w: &mut World<'_>, e: &Event<'_>)
+    requires { w.old.accepted.program ≡ p.now }
+    ensures { w.new.accepted.program ≡ p.now }
+{
+    let Some(Ok(_)) = happen(p, w, e) else {
+        panic!(rt; "an event is refused");
+    };
 }

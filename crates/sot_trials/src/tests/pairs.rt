@@ -5,7 +5,8 @@
 ghost use Rattle.std.specs.Prelude.{◌≡◌, ◌≤ℤ◌, ◌∷◌, [], pos, IfOk};
 ghost use Rattle.sot_worked.specs.Pair.{IsPair};
 
-use super::drive::happen;
+use super::drive::step;
+use super::same;
 use super::verdicts::{judged, side};
 use super::worlds::{accepted, at, draft};
 use crate::pair_cert;
@@ -17,7 +18,7 @@ use sot_tube::Accepted;
 use sot_worked::pair;
 use sot_world::{Event, OpenFail, World};
 use std::alloc::{AllocError, Global};
-use std::test::Fail;
+use std::process::Abort;
 use std::thread::Threads;
 
 // Whether the pair is accepted where `up` is trusted with a battery of at least this.
@@ -44,24 +45,31 @@ fn counts(c: &Cert, module: usize) -> Option<(usize, usize)> {
     }
 }
 
-#[test]
-fn a_pair_is_accepted_or_refused(rt: HostRuntime) -> Result<(), Fail> {
-    let alloc = rt.alloc();
-    assert_eq!(rt; answer(&rt, alloc, 42)?, Ok(()));
-    let leaves = Refusal::ReachLeaves {
+// Where the pair with that battery first leaves.
+fn leaves() -> Refusal {
+    Refusal::ReachLeaves {
         module: 1,
         cell: 0,
         tick: 4,
         area: BoxN::of(&[side(0, 10), side(29, 1000)]).unwrap(),
         point: Point::of(&[10, 29]).unwrap(),
-    };
-    assert_eq!(rt; answer(&rt, alloc, 41)?, Err(CheckFail::Refused(leaves)));
-    let c = pair_cert(alloc, 42)?;
-    assert_eq!(rt;
-        (counts(&c, 0), counts(&c, 1)),
-        (Some((3, 1)), Some((11, 1)))
-    );
-    Ok(())
+    }
+}
+
+#[test]
+fn a_pair_is_accepted_or_refused(rt: HostRuntime) {
+    let alloc = rt.alloc();
+    let charged = answer(&rt, alloc, 42).expect(&rt, "memory");
+    same(&rt, 42, charged, Ok(()));
+    let low = answer(&rt, alloc, 41).expect(&rt, "memory");
+    same(&rt, 41, low, Err(CheckFail::Refused(leaves())));
+}
+
+#[test]
+fn a_pair_has_sixteen_cells(rt: HostRuntime) {
+    let c = pair_cert(rt.alloc(), 42).expect(&rt, "memory");
+    same(&rt, 0, counts(&c, 0), Some((3, 1)));
+    same(&rt, 1, counts(&c, 1), Some((11, 1)));
 }
 
 // A height and a battery.
@@ -124,28 +132,25 @@ fn is_before(order: &[usize; 6], a: usize, b: usize) -> bool {
     false
 }
 
-// Where the plants are after the first tick, with the greatest disturbances; `None` where an event was refused.
+// Where the plants are after the first tick, with the greatest disturbances. No event is refused.
 fn ticked(
+    rt: &impl Abort,
     alloc: Global,
     p: &Typed,
     acc: &Accepted<'_>,
     order: &[usize; 6],
-) -> Option<(Point, Point)>
+) -> (Point, Point)
     requires program { acc.now.program ≡ p.now }
     requires pair { IsPair (pos 42) p.now }
 {
     let Ok(mut w) = opened(alloc, p, acc) else {
-        return None;
+        panic!(rt; "the pair opens");
     };
     for i in 0..6 {
-        let Some(Ok(_)) = happen(p, &mut w, &event(order[i])) else {
-            return None;
-        };
+        step(rt, p, &mut w, &event(order[i]));
     }
-    let Some(Ok(_)) = happen(p, &mut w, &Event::Tick { noise: &[1, 1] }) else {
-        return None;
-    };
-    Some((w.state(0), w.state(1)))
+    step(rt, p, &mut w, &Event::Tick { noise: &[1, 1] });
+    (w.state(0), w.state(1))
 }
 
 // Where they should be. The command 2 stands where `fast` fires in mode Ac, and the height falls where `down` and `up` both fire
@@ -157,18 +162,23 @@ fn wanted(order: &[usize; 6]) -> (Point, Point) {
     (at(x), charge(h, 40))
 }
 
+// The plants are where they should be after the order of this number.
+fn order_is_safe(rt: &impl Abort, alloc: Global, p: &Typed, acc: &Accepted<'_>, number: usize)
+    requires program { acc.now.program ≡ p.now }
+    requires pair { IsPair (pos 42) p.now }
+{
+    let order = order(number);
+    let after = ticked(rt, alloc, p, acc, &order);
+    same(rt, &order, after, wanted(&order));
+}
+
 #[test]
-fn a_pair_is_safe_in_all_orders_of_an_instant(rt: HostRuntime) -> Result<(), Fail> {
+fn a_pair_is_safe_in_all_orders_of_an_instant(rt: HostRuntime) {
     let alloc = rt.alloc();
-    let p = pair(alloc, 42)?;
-    let c = pair_cert(alloc, 42)?;
-    let Some(acc) = accepted(&rt, &p, &c) else {
-        panic!(rt; "the pair is accepted");
-    };
+    let p = pair(alloc, 42).expect(&rt, "memory");
+    let c = pair_cert(alloc, 42).expect(&rt, "memory");
+    let acc = accepted(&rt, &p, &c);
     for number in 0..720 {
-        let order = order(number);
-        let after = ticked(alloc, &p, &acc, &order);
-        assert_eq!(rt; after, Some(wanted(&order)), "in the order {order:?}");
+        order_is_safe(&rt, alloc, &p, &acc, number);
     }
-    Ok(())
 }

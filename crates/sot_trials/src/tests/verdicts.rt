@@ -6,6 +6,7 @@ ghost use Rattle.std.specs.Prelude.{◌≤ℤ◌, ◌∷◌, [], ◌≡◌};
 ghost use Rattle.sot_lang.specs.CertRules.{FitsTables};
 ghost use Rattle.sot_trials.specs.Entries.{FitsAll};
 
+use super::same;
 use crate::{line_cert, line_without_entry, nothing_to_certify};
 use sot_box::{BoxN, Interval, Point};
 use sot_compose::{CheckFail, check_all};
@@ -14,7 +15,7 @@ use sot_rta::Refusal;
 use sot_text::Span;
 use sot_worked::{divide, divide_by_at_least_one, line};
 use std::alloc::{AllocError, Global};
-use std::test::Fail;
+use std::process::Abort;
 use std::thread::Threads;
 
 pub(super) type Answer = Result<(), CheckFail>;
@@ -117,42 +118,44 @@ fn reach_gap(x: i64) -> Answer {
     })
 }
 
-#[test]
-fn cells_are_accepted_or_refused(rt: HostRuntime) -> Result<(), Fail> {
-    let alloc = rt.alloc();
-    let all = [side(-40, -11), side(-10, 10), side(11, 40)];
-    let one = [side(-40, 40)];
-    let outer = [side(-40, -11), side(11, 40)];
-    let ten = [side(-10, 10)];
-    let nine = [side(-10, 9)];
-    let sixteen = [side(-16, 16)];
-    let seventeen = [side(-17, 17)];
-    for (closed, reach, wanted) in [
-        (all.as_slice(), ten.as_slice(), Ok(())),
-        (all.as_slice(), sixteen.as_slice(), Ok(())),
-        (one.as_slice(), ten.as_slice(), closed_leaves(0, 1, -43, 43)),
-        (outer.as_slice(), ten.as_slice(), closed_gap(-10)),
-        (all.as_slice(), nine.as_slice(), reach_gap(10)),
-        (
-            all.as_slice(),
-            seventeen.as_slice(),
-            reach_leaves(8, -41, 41),
-        ),
-    ] {
-        assert_eq!(rt;
-            answer(&rt, alloc, closed, reach)?,
-            wanted,
-            "{closed:?} and {reach:?}"
-        );
-    }
-    let none = refused(Refusal::NoCells { module: 0 });
-    assert_eq!(rt; answer_without_entry(&rt, alloc)?, none);
-    Ok(())
+// With these cells the check of the vehicle answers this.
+pub(super) fn judges(
+    rt: &(impl Abort + Threads + Sync),
+    alloc: Global,
+    closed: &[Interval],
+    reach: &[Interval],
+    wanted: Answer,
+) {
+    let found = answer(rt, alloc, closed, reach).expect(rt, "memory");
+    same(rt, reach, found, wanted);
 }
 
 #[test]
-fn a_node_that_may_trap_is_refused(rt: HostRuntime) -> Result<(), Fail> {
-    let trap = refused(Refusal::CodeMayTrap {
+fn cells_are_accepted_or_refused(rt: HostRuntime) {
+    let alloc = rt.alloc();
+    let all = [side(-40, -11), side(-10, 10), side(11, 40)];
+    judges(&rt, alloc, &all, &[side(-10, 10)], Ok(()));
+    judges(&rt, alloc, &all, &[side(-16, 16)], Ok(()));
+    judges(&rt, alloc, &all, &[side(-10, 9)], reach_gap(10));
+    let leaves = reach_leaves(8, -41, 41);
+    judges(&rt, alloc, &all, &[side(-17, 17)], leaves);
+}
+
+#[test]
+fn cells_that_leave_or_lack_are_refused(rt: HostRuntime) {
+    let alloc = rt.alloc();
+    let ten = [side(-10, 10)];
+    let leaves = closed_leaves(0, 1, -43, 43);
+    judges(&rt, alloc, &[side(-40, 40)], &ten, leaves);
+    let outer = [side(-40, -11), side(11, 40)];
+    judges(&rt, alloc, &outer, &ten, closed_gap(-10));
+    let none = answer_without_entry(&rt, alloc).expect(&rt, "memory");
+    same(&rt, "none", none, refused(Refusal::NoCells { module: 0 }));
+}
+
+// The node divides by what may be 0.
+fn trap() -> Refusal {
+    Refusal::CodeMayTrap {
         node: 0,
         at: Span {
             line: 7,
@@ -163,8 +166,14 @@ fn a_node_that_may_trap_is_refused(rt: HostRuntime) -> Result<(), Fail> {
         kind: TrapKind::ZeroDivisor,
         lo: 0,
         hi: 5,
-    });
-    assert_eq!(rt; divide_answer(&rt, rt.alloc())?, trap);
-    assert_eq!(rt; guarded_divide_answer(&rt, rt.alloc())?, Ok(()));
-    Ok(())
+    }
+}
+
+#[test]
+fn a_node_that_may_trap_is_refused(rt: HostRuntime) {
+    let alloc = rt.alloc();
+    let answer = divide_answer(&rt, alloc).expect(&rt, "memory");
+    same(&rt, "divide", answer, Err(CheckFail::Refused(trap())));
+    let guarded = guarded_divide_answer(&rt, alloc).expect(&rt, "memory");
+    same(&rt, "guarded", guarded, Ok(()));
 }

@@ -2,6 +2,7 @@
 ghost use Rattle.std.specs.Prelude.{◌≡◌, ◌∷◌, []};
 ghost use Rattle.sot_code.specs.Recorded.{MayRun};
 
+use super::same;
 use super::worlds::at;
 use sot_box::Point;
 use sot_code::{Locals, Seen, plant_next, run_node};
@@ -11,7 +12,7 @@ use sot_text::Span;
 use sot_traps::trap_free;
 use sot_worked::{divide, divide_by_at_least_one, line};
 use std::alloc::{AllocError, Global};
-use std::test::Fail;
+use std::process::Abort;
 
 // One number that a node reads.
 #[derive(Clone, Copy)]
@@ -58,25 +59,34 @@ fn moved(alloc: Global, x: i64, cmd: i64, w: i64) -> Result<Result<Point, Trap>,
     Ok(plant_next(&p, 0, &at(x), &[cmd], &[], &[w]))
 }
 
+// Where `calc` divides.
+const DIVISION: Span = Span {
+    line: 7,
+    column: 20,
+    from: 128,
+    to: 129,
+};
+
+fn calc_drafts(rt: &impl Abort, alloc: Global, n: i64, wanted: Drafted) {
+    same(rt, n, calc(alloc, n).expect(rt, "memory"), wanted);
+}
+
+fn slow_drafts(rt: &impl Abort, alloc: Global, x: i64, wanted: i64) {
+    same(rt, x, slow(alloc, x).expect(rt, "memory"), Ok(Some(wanted)));
+}
+
 #[test]
-fn nodes_draft_and_trap(rt: HostRuntime) -> Result<(), Fail> {
+fn nodes_draft_and_trap(rt: HostRuntime) {
     let alloc = rt.alloc();
     let zero = Trap {
-        at: Span {
-            line: 7,
-            column: 20,
-            from: 128,
-            to: 129,
-        },
+        at: DIVISION,
         kind: TrapKind::ZeroDivisor,
     };
-    for (n, wanted) in [(3, Ok(Some(3))), (0, Err(zero))] {
-        assert_eq!(rt; calc(alloc, n)?, wanted, "calc at {n}");
-    }
-    for (x, wanted) in [(12, -2), (0, 0), (-12, 2)] {
-        assert_eq!(rt; slow(alloc, x)?, Ok(Some(wanted)), "slow at {x}");
-    }
-    Ok(())
+    calc_drafts(&rt, alloc, 3, Ok(Some(3)));
+    calc_drafts(&rt, alloc, 0, Err(zero));
+    slow_drafts(&rt, alloc, 12, -2);
+    slow_drafts(&rt, alloc, 0, 0);
+    slow_drafts(&rt, alloc, -12, 2);
 }
 
 // Whether `calc` never traps.
@@ -97,34 +107,34 @@ fn slow_is_free(alloc: Global) -> Result<Result<(), MayTrap>, AllocError> {
     Ok(trap_free(&p, 1))
 }
 
-#[test]
-fn a_division_by_what_may_be_nought_may_trap(rt: HostRuntime) -> Result<(), Fail> {
-    let zero = MayTrap {
-        at: Span {
-            line: 7,
-            column: 20,
-            from: 128,
-            to: 129,
-        },
+fn may_trap() -> MayTrap {
+    MayTrap {
+        at: DIVISION,
         kind: TrapKind::ZeroDivisor,
         lo: 0,
         hi: 5,
-    };
-    assert_eq!(rt; calc_is_free(rt.alloc())?, Err(zero));
-    assert_eq!(rt; guarded_calc_is_free(rt.alloc())?, Ok(()));
-    assert_eq!(rt; slow_is_free(rt.alloc())?, Ok(()));
-    Ok(())
+    }
 }
 
 #[test]
-fn a_vehicle_moves(rt: HostRuntime) -> Result<(), Fail> {
-    assert_eq!(rt; moved(rt.alloc(), 10, 2, 1)?, Ok(at(13)));
-    Ok(())
+fn a_division_by_what_may_be_nought_may_trap(rt: HostRuntime) {
+    let alloc = rt.alloc();
+    let calc = calc_is_free(alloc).expect(&rt, "memory");
+    same(&rt, "calc", calc, Err(may_trap()));
+    let guarded = guarded_calc_is_free(alloc).expect(&rt, "memory");
+    same(&rt, "guarded calc", guarded, Ok(()));
+    let slow = slow_is_free(alloc).expect(&rt, "memory");
+    same(&rt, "slow", slow, Ok(()));
 }
 
 #[test]
-fn locals_are_at_most_sixteen(rt: HostRuntime) -> Result<(), Fail> {
-    assert!(rt; Locals::of(&[7; 16]).is_some());
-    assert!(rt; Locals::of(&[7; 17]).is_none());
-    Ok(())
+fn a_vehicle_moves(rt: HostRuntime) {
+    let next = moved(rt.alloc(), 10, 2, 1).expect(&rt, "memory");
+    same(&rt, "next", next, Ok(at(13)));
+}
+
+#[test]
+fn locals_are_at_most_sixteen(rt: HostRuntime) {
+    same(&rt, 16, Locals::of(&[7; 16]).is_some(), true);
+    same(&rt, 17, Locals::of(&[7; 17]).is_none(), true);
 }

@@ -3,12 +3,13 @@
 ghost use Rattle.std.specs.Prelude.{◌≡◌, ◌∷◌, [], IfSome, length};
 
 use super::worlds::at;
+use super::{cut, same};
 use sot_box::{BoxN, Interval};
 use sot_text::Span;
 use sot_tube::{Leave, any_inside, held_inside, keeps};
 use sot_worked::{drifting_line, line};
 use std::alloc::{AllocError, Global};
-use std::test::Fail;
+use std::process::Abort;
 
 type Ends = (i64, i64);
 
@@ -80,99 +81,136 @@ fn answer(leave: Option<Leave>) -> Answer {
 
 const INSIDE: Answer = Some(Ok(()));
 
-#[test]
-fn tubes_with_any_command_grow_by_three(rt: HostRuntime) -> Result<(), Fail> {
-    let alloc = rt.alloc();
-    for (from, ticks, wanted) in [
-        ((-10, 10), 8, INSIDE),
-        ((-10, 10), 10, INSIDE),
-        ((-10, 10), 11, answer(out(11, (-43, 43)))),
-        ((-16, 16), 8, INSIDE),
-        ((-16, 16), 9, answer(out(9, (-43, 43)))),
-        ((-17, 17), 7, INSIDE),
-        ((-17, 17), 8, answer(out(8, (-41, 41)))),
-        ((-40, 40), 0, INSIDE),
-        ((-41, 40), 0, answer(out(0, (-41, 40)))),
-    ] {
-        assert_eq!(rt;
-            any_tube(alloc, from, ticks)?,
-            wanted,
-            "{ticks} ticks from {from:?}"
-        );
+// Tubes with any commands: the places, how many ticks, and where the tube leaves.
+const ANY: &str = "-10..10 for 8: inside
+-10..10 for 10: inside
+-10..10 for 11: 11 at -43..43
+-16..16 for 8: inside
+-16..16 for 9: 9 at -43..43
+-17..17 for 7: inside
+-17..17 for 8: 8 at -41..41
+-40..40 for 0: inside
+-41..40 for 0: 0 at -41..40";
+
+// Tubes with held commands: the places with the commands, how many ticks, and where the tube leaves.
+const HELD: &str = "-40..40 by -2..2 for 0: inside
+-40..40 by -2..2 for 2: 1 at -43..43
+-40..-11 by 2..2 for 2: inside
+-39..39 by 0..0 for 1: inside
+-39..39 by 0..0 for 2: 2 at -41..41";
+
+fn number(rt: &impl Abort, text: &str) -> i64 {
+    text.parse().ok().expect(rt, "a number")
+}
+
+fn ticks_of(rt: &impl Abort, text: &str) -> u32 {
+    text.parse().ok().expect(rt, "a count of ticks")
+}
+
+fn ends(rt: &impl Abort, text: &str) -> Ends {
+    let (low, high) = cut(rt, text, "..");
+    (number(rt, low), number(rt, high))
+}
+
+// What a row says that the answer is.
+fn wanted(rt: &impl Abort, text: &str) -> Answer {
+    if text == "inside" {
+        return INSIDE;
     }
-    Ok(())
+    let (tick, area) = cut(rt, text, " at ");
+    answer(out(ticks_of(rt, tick), ends(rt, area)))
+}
+
+fn any_row(rt: &impl Abort, alloc: Global, row: &str) {
+    let (asked, answer) = cut(rt, row, ": ");
+    let (from, ticks) = cut(rt, asked, " for ");
+    let tube = any_tube(alloc, ends(rt, from), ticks_of(rt, ticks)).expect(rt, "memory");
+    same(rt, row, tube, wanted(rt, answer));
+}
+
+fn held_row(rt: &impl Abort, alloc: Global, row: &str) {
+    let (asked, answer) = cut(rt, row, ": ");
+    let (places, ticks) = cut(rt, asked, " for ");
+    let (from, cmd) = cut(rt, places, " by ");
+    let (from, cmd) = (ends(rt, from), ends(rt, cmd));
+    let tube = held_tube(alloc, from, cmd, ticks_of(rt, ticks)).expect(rt, "memory");
+    same(rt, row, tube, wanted(rt, answer));
 }
 
 #[test]
-fn tubes_with_held_commands_leave_or_stay(rt: HostRuntime) -> Result<(), Fail> {
-    let alloc = rt.alloc();
-    for (from, cmd, ticks, wanted) in [
-        ((-40, 40), (-2, 2), 0, INSIDE),
-        ((-40, 40), (-2, 2), 2, answer(out(1, (-43, 43)))),
-        ((-40, -11), (2, 2), 2, INSIDE),
-        ((-39, 39), (0, 0), 1, INSIDE),
-        ((-39, 39), (0, 0), 2, answer(out(2, (-41, 41)))),
-    ] {
-        assert_eq!(rt;
-            held_tube(alloc, from, cmd, ticks)?,
-            wanted,
-            "{ticks} ticks from {from:?}"
-        );
+fn tubes_with_any_command_grow_by_three(rt: HostRuntime) {
+    for row in ANY.lines() {
+        any_row(&rt, rt.alloc(), row);
     }
-    Ok(())
+    same(&rt, "rows", ANY.lines().count(), 9);
 }
 
 #[test]
-fn a_tick_that_may_trap_ends_the_tube(rt: HostRuntime) -> Result<(), Fail> {
-    let alloc = rt.alloc();
-    let trap = |tick| {
-        Some(Err(Leave::Trap {
-            tick,
-            at: Span {
-                line: 6,
-                column: 27,
-                from: 117,
-                to: 118,
-            },
-        }))
+fn tubes_with_held_commands_leave_or_stay(rt: HostRuntime) {
+    for row in HELD.lines() {
+        held_row(&rt, rt.alloc(), row);
+    }
+    same(&rt, "rows", HELD.lines().count(), 5);
+}
+
+// The tick traps where the vehicle is at 5.
+fn trap(tick: u32) -> Answer {
+    let at = Span {
+        line: 6,
+        column: 27,
+        from: 117,
+        to: 118,
     };
-    for (from, ticks, wanted) in [
-        ((0, 0), 3, INSIDE),
-        ((0, 0), 8, trap(3)),
-        ((5, 5), 1, trap(0)),
-        (
-            (5, 41),
-            1,
-            Some(Err(Leave::Out {
-                tick: 0,
-                area: between((5, 41)).ok_or("box")?,
-                point: at(41),
-            })),
-        ),
-    ] {
-        assert_eq!(rt;
-            drifting_tube(alloc, from, ticks)?,
-            wanted,
-            "{ticks} ticks from {from:?}"
-        );
-    }
-    Ok(())
+    answer(Some(Leave::Trap { tick, at }))
+}
+
+// The greatest place is outside from the first.
+fn outside(ends: Ends) -> Option<Leave> {
+    Some(Leave::Out {
+        tick: 0,
+        area: between(ends)?,
+        point: at(ends.1),
+    })
+}
+
+fn drifts(rt: &impl Abort, alloc: Global, from: Ends, ticks: u32, wanted: Answer) {
+    let tube = drifting_tube(alloc, from, ticks).expect(rt, "memory");
+    same(rt, (from, ticks), tube, wanted);
 }
 
 #[test]
-fn a_module_keeps_where_two_periods_stay_inside(rt: HostRuntime) -> Result<(), Fail> {
+fn a_tick_that_may_trap_ends_the_tube(rt: HostRuntime) {
     let alloc = rt.alloc();
-    for (x, wanted) in [
-        (10, true),
-        (16, true),
-        (17, false),
-        (-16, true),
-        (-17, false),
-    ] {
-        assert_eq!(rt; line_keeps(alloc, x)?, wanted, "at {x}");
-    }
-    for (x, wanted) in [(0, false), (-10, true), (-16, true), (-17, false)] {
-        assert_eq!(rt; drifting_line_keeps(alloc, x)?, wanted, "drifting, at {x}");
-    }
-    Ok(())
+    drifts(&rt, alloc, (0, 0), 3, INSIDE);
+    drifts(&rt, alloc, (0, 0), 8, trap(3));
+    drifts(&rt, alloc, (5, 5), 1, trap(0));
+    drifts(&rt, alloc, (5, 41), 1, answer(outside((5, 41))));
+}
+
+fn keeps_at(rt: &impl Abort, alloc: Global, x: i64, wanted: bool) {
+    same(rt, x, line_keeps(alloc, x).expect(rt, "memory"), wanted);
+}
+
+fn drifting_keeps_at(rt: &impl Abort, alloc: Global, x: i64, wanted: bool) {
+    let found = drifting_line_keeps(alloc, x).expect(rt, "memory");
+    same(rt, x, found, wanted);
+}
+
+#[test]
+fn a_module_keeps_where_two_periods_stay_inside(rt: HostRuntime) {
+    let alloc = rt.alloc();
+    keeps_at(&rt, alloc, 10, true);
+    keeps_at(&rt, alloc, 16, true);
+    keeps_at(&rt, alloc, 17, false);
+    keeps_at(&rt, alloc, -16, true);
+    keeps_at(&rt, alloc, -17, false);
+}
+
+#[test]
+fn a_module_that_drifts_keeps_elsewhere(rt: HostRuntime) {
+    let alloc = rt.alloc();
+    drifting_keeps_at(&rt, alloc, 0, false);
+    drifting_keeps_at(&rt, alloc, -10, true);
+    drifting_keeps_at(&rt, alloc, -16, true);
+    drifting_keeps_at(&rt, alloc, -17, false);
 }

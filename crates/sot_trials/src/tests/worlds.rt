@@ -1,12 +1,13 @@
 //! The vehicle on a line, opened and stepped. What comes of each step was worked out by hand, and the flight again by a program
 //! that was written from the rules alone.
 
-ghost use Rattle.std.specs.Prelude.{◌≡◌, ◌∷◌, [], IfOk, IfSome};
+ghost use Rattle.std.specs.Prelude.{◌≡◌, ◌∷◌, [], IfOk};
 ghost use Rattle.sot_lang.specs.CertRules.{FitsTables};
 ghost use Rattle.sot_worked.specs.Line.{IsLine, IsMove};
 ghost use Rattle.sot_trials.specs.Entries.{FitsAll};
 
 use super::drive::happen;
+use super::same;
 use super::verdicts::side;
 use crate::line_cert;
 use sot_box::Point;
@@ -16,7 +17,7 @@ use sot_tube::Accepted;
 use sot_worked::line;
 use sot_world::{Event, Mode, OpenFail, Outcome, Why, World};
 use std::alloc::{AllocError, Global};
-use std::test::Fail;
+use std::process::Abort;
 use std::thread::Threads;
 
 pub(super) fn at(x: i64) -> Point
@@ -34,18 +35,18 @@ fn cert(alloc: Global) -> Result<Cert, AllocError>
     Ok(cert)
 }
 
-// The program, if it is accepted.
+// The program, which is accepted.
 pub(super) fn accepted<'a>(
-    rt: &(impl Threads + Sync),
+    rt: &(impl Abort + Threads + Sync),
     p: &'a Typed,
     c: &'a Cert,
-) -> Option<Accepted<'a>>
+) -> Accepted<'a>
     requires { FitsTables p.now c.now }
-    ensures { IfSome result (λ acc. acc.program ≡ p.now) }
+    ensures { result.program ≡ p.now }
 {
     match check_all(rt, p, c) {
-        Ok(acc) => Some(acc),
-        Err(_) => None,
+        Ok(acc) => acc,
+        Err(_) => panic!(rt; "the mission is refused"),
     }
 }
 
@@ -117,22 +118,19 @@ fn fired(v: i64, enabled: bool) -> Result<Outcome, Why> {
 }
 
 #[test]
-fn a_world_opens_in_the_safer_region(rt: HostRuntime) -> Result<(), Fail> {
+fn a_world_opens_in_the_safer_region(rt: HostRuntime) {
     let alloc = rt.alloc();
-    let p = line(alloc)?;
-    let c = cert(alloc)?;
-    let Some(acc) = accepted(&rt, &p, &c) else {
-        panic!(rt; "the vehicle is accepted");
-    };
+    let p = line(alloc).expect(&rt, "memory");
+    let c = cert(alloc).expect(&rt, "memory");
+    let acc = accepted(&rt, &p, &c);
     for (x, wanted) in [
         (-11, Some(OpenFail::NotSafer { module: 0 })),
         (-10, None),
         (10, None),
         (11, Some(OpenFail::NotSafer { module: 0 })),
     ] {
-        assert_eq!(rt; opened(alloc, &p, &acc, x).err(), wanted, "at {x}");
+        same(&rt, x, opened(alloc, &p, &acc, x).err(), wanted);
     }
-    Ok(())
 }
 
 const BOTH: (bool, bool) = (true, true);
@@ -212,42 +210,39 @@ fn next(cmd: i64, x: i64) -> View {
     seen(1, Mode::Ac, x, cmd, NONE, false)
 }
 
-#[test]
-fn an_instant_is_stepped_in_order(rt: HostRuntime) -> Result<(), Fail> {
-    let alloc = rt.alloc();
-    let p = line(alloc)?;
-    let c = cert(alloc)?;
-    let Some(acc) = accepted(&rt, &p, &c) else {
-        panic!(rt; "the vehicle is accepted");
-    };
+// Asks one thing of a world, where the advanced node drafts `v`.
+fn answers(rt: &impl Abort, p: &Typed, w: &mut World<'_>, v: i64, step: Step)
+    requires program { w.old.accepted.program ≡ p.now }
+    requires line { IsLine IsMove p.now }
+    ensures { w.new.accepted.program ≡ p.now }
+{
+    let (name, wanted, after) = step;
+    same(rt, name, ask(p, w, name, v), Some(wanted));
+    same(rt, name, view_of(p, w), after);
+}
+
+// Asks all of a plan of the vehicle at 0, where the advanced node drafts `v`.
+fn steps(rt: &(impl Abort + Threads + Sync), alloc: Global, v: i64, plan: &[Step]) {
+    let p = line(alloc).expect(rt, "memory");
+    let c = cert(alloc).expect(rt, "memory");
+    let acc = accepted(rt, &p, &c);
     let Ok(mut w) = opened(alloc, &p, &acc, 0) else {
         panic!(rt; "the vehicle opens at 0");
     };
-    assert_eq!(rt; view_of(&p, &w), seen(0, Mode::Sc, 0, 0, BOTH, true));
-    for (e, wanted, after) in plan(2, 2, 3) {
-        assert_eq!(rt; ask(&p, &mut w, e, 2), Some(wanted), "before {after:?}");
-        assert_eq!(rt; view_of(&p, &w), after);
+    same(rt, "opened", view_of(&p, &w), opening());
+    for step in plan {
+        answers(rt, &p, &mut w, v, *step);
     }
-    Ok(())
 }
 
 #[test]
-fn a_draft_outside_its_range_is_recorded_alone(rt: HostRuntime) -> Result<(), Fail> {
-    let alloc = rt.alloc();
-    let p = line(alloc)?;
-    let c = cert(alloc)?;
-    let Some(acc) = accepted(&rt, &p, &c) else {
-        panic!(rt; "the vehicle is accepted");
-    };
-    let Ok(mut w) = opened(alloc, &p, &acc, 0) else {
-        panic!(rt; "the vehicle opens at 0");
-    };
-    assert_eq!(rt; view_of(&p, &w), seen(0, Mode::Sc, 0, 0, BOTH, true));
-    for (e, wanted, after) in plan(7, 0, 1) {
-        assert_eq!(rt; ask(&p, &mut w, e, 7), Some(wanted), "before {after:?}");
-        assert_eq!(rt; view_of(&p, &w), after);
-    }
-    Ok(())
+fn an_instant_is_stepped_in_order(rt: HostRuntime) {
+    steps(&rt, rt.alloc(), 2, &plan(2, 2, 3));
+}
+
+#[test]
+fn a_draft_outside_its_range_is_recorded_alone(rt: HostRuntime) {
+    steps(&rt, rt.alloc(), 7, &plan(7, 0, 1));
 }
 
 // The safe node, then the advanced one with a draft of 2, then a calm tick: each where it can happen.
@@ -264,14 +259,28 @@ fn fly(p: &Typed, w: &mut World<'_>)
     let _tick = happen(p, w, &Event::Tick { noise: &[0] });
 }
 
+// Decides, which chooses this mode where the vehicle is now, and flies up to the next decision.
+fn decide(rt: &impl Abort, p: &Typed, w: &mut World<'_>, time: u32, x: i64, mode: Mode)
+    requires program { w.old.accepted.program ≡ p.now }
+    requires line { IsLine IsMove p.now }
+    ensures { w.new.accepted.program ≡ p.now }
+{
+    let decided = happen(p, w, &Event::Decide { module: 0 });
+    same(rt, time, decided, Some(Ok(Outcome::Decided { mode })));
+    let now = view_of(p, w);
+    same(rt, time, (now.time, now.x), (time, at(x)));
+    fly(p, w);
+    fly(p, w);
+    fly(p, w);
+    fly(p, w);
+}
+
 #[test]
-fn a_flight_switches_and_returns(rt: HostRuntime) -> Result<(), Fail> {
+fn a_flight_switches_and_returns(rt: HostRuntime) {
     let alloc = rt.alloc();
-    let p = line(alloc)?;
-    let c = cert(alloc)?;
-    let Some(acc) = accepted(&rt, &p, &c) else {
-        panic!(rt; "the vehicle is accepted");
-    };
+    let p = line(alloc).expect(&rt, "memory");
+    let c = cert(alloc).expect(&rt, "memory");
+    let acc = accepted(&rt, &p, &c);
     let Ok(mut w) = opened(alloc, &p, &acc, 0) else {
         panic!(rt; "the vehicle opens at 0");
     };
@@ -284,14 +293,6 @@ fn a_flight_switches_and_returns(rt: HostRuntime) -> Result<(), Fail> {
         (20, 8, Mode::Ac),
         (24, 16, Mode::Ac),
     ] {
-        let decided = happen(&p, &mut w, &Event::Decide { module: 0 });
-        assert_eq!(rt; decided, Some(Ok(Outcome::Decided { mode })), "at {time}");
-        let now = view_of(&p, &w);
-        assert_eq!(rt; (now.time, now.x), (time, at(x)));
-        fly(&p, &mut w);
-        fly(&p, &mut w);
-        fly(&p, &mut w);
-        fly(&p, &mut w);
+        decide(&rt, &p, &mut w, time, x, mode);
     }
-    Ok(())
 }
