@@ -92,29 +92,19 @@ fn guests_are_asked_at_once(rt: HostRuntime) {
     same(&rt, "two", drafts_of(&rt, &lists, 1), 2);
 }
 
-// A guest that waits until the one behind it was called.
-fn held_and_caller(
-    rt: &impl Abort,
-    alloc: Global,
-    met: &Arc<AtomicBool, Global>,
-) -> Vec<Box<dyn Controller + Send>>
-    ensures { vec_len result ≡ 2 }
-{
-    let called = flag(rt, alloc);
-    let held = holder(rt, &flag(rt, alloc), &called, met);
-    let held: Box<dyn Controller + Send> = Box::new(alloc, held).expect(rt, "memory");
-    let calls: Box<dyn Controller + Send> = Box::new(alloc, Caller { called }).expect(rt, "memory");
-    let mut guests = Vec::new(alloc);
-    guests.push(held).expect(rt, "memory");
-    guests.push(calls).expect(rt, "memory");
-    guests
-}
-
 #[test]
 fn time_goes_on_while_a_guest_is_held(rt: HostRuntime) {
     let alloc = rt.alloc();
     let met = flag(&rt, alloc);
-    let mut guests = held_and_caller(&rt, alloc, &met);
+    let called = flag(&rt, alloc);
+    let held = holder(&rt, &flag(&rt, alloc), &called, &met);
+    let held: Box<dyn Controller + Send> = Box::new(alloc, held).expect(&rt, "memory");
+    let calls: Box<dyn Controller + Send> = Box::new(alloc, Caller { called }).expect(
+        &rt, "memory",
+    );
+    let mut guests = Vec::new(alloc);
+    guests.push(held).expect(&rt, "memory");
+    guests.push(calls).expect(&rt, "memory");
     let (_, lists) = trace_of(&rt, alloc, APART, &mut guests);
     same(&rt, "met", met.load(Ordering::SeqCst), true);
     same(&rt, "lists", lists.len(), 2);
