@@ -22,11 +22,19 @@ pub(crate) struct Entry {
 }
 
 /// The boxes of a list, in the order of their low ends on the first axis.
-#[derive(Drop)]
 pub(crate) struct Index {
     entries: Vec<Entry>,
     // at each place the greatest high end on the first axis of the boxes that the entries up to there name
     reaches: Vec<i64>,
+}
+
+impl Drop for Index {
+    fn drop(self) {
+        let Index {
+            entries: _,
+            reaches: _,
+        } = self;
+    }
 }
 
 impl Index {

@@ -15,12 +15,21 @@ use std::marker::Model;
 /// Boxes of one width, in order. A point is in the region where it is in some box. A box that holds a
 /// point is looked for among all boxes, or by the index where [`Region::settle`] has made one; the
 /// answers are the same.
-#[derive(Drop)]
 pub struct Region {
     width: usize,
     boxes: Vec<BoxN>,
     // of the boxes as they are, where there is one
     index: Option<Index>,
+}
+
+impl Drop for Region {
+    fn drop(self) {
+        let Region {
+            width: _,
+            boxes: _,
+            index: _,
+        } = self;
+    }
 }
 
 impl Model for Region {

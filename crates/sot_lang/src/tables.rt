@@ -6,7 +6,6 @@ use sot_box::Region;
 use sot_tree::Name;
 
 /// A topic, whose scalars are `first` and the next `count - 1`. `outside` marks an environment topic, which only inputs write.
-#[derive(Drop)]
 pub struct TopicInfo {
     pub name: Name,
     pub outside: bool,
@@ -14,8 +13,18 @@ pub struct TopicInfo {
     pub count: u32,
 }
 
+impl Drop for TopicInfo {
+    fn drop(self) {
+        let TopicInfo {
+            name: _,
+            outside: _,
+            first: _,
+            count: _,
+        } = self;
+    }
+}
+
 /// A scalar of a topic. Numbers are mantissas at its scale, from `lo` to `hi`; a truth value is 0 or 1.
-#[derive(Drop)]
 pub struct ScalarInfo {
     pub topic: u32,
     pub field: Option<Name>,
@@ -26,15 +35,33 @@ pub struct ScalarInfo {
     pub init: i64,
 }
 
+impl Drop for ScalarInfo {
+    fn drop(self) {
+        let ScalarInfo {
+            topic: _,
+            field: _,
+            scale: _,
+            truth: _,
+            lo: _,
+            hi: _,
+            init: _,
+        } = self;
+    }
+}
+
 /// A state variable of a plant.
-#[derive(Drop)]
 pub struct StateInfo {
     pub name: Name,
     pub scale: u8,
 }
 
+impl Drop for StateInfo {
+    fn drop(self) {
+        let StateInfo { name: _, scale: _ } = self;
+    }
+}
+
 /// A disturbance of a plant, anywhere from `lo` to `hi` at each tick.
-#[derive(Drop)]
 pub struct NoiseInfo {
     pub name: Name,
     pub scale: u8,
@@ -42,9 +69,19 @@ pub struct NoiseInfo {
     pub hi: i64,
 }
 
+impl Drop for NoiseInfo {
+    fn drop(self) {
+        let NoiseInfo {
+            name: _,
+            scale: _,
+            lo: _,
+            hi: _,
+        } = self;
+    }
+}
+
 /// A plant: its state variables, the scalars that are its inputs, the plants that it sees, its disturbances, and one
 /// expression a state variable for the state after a tick.
-#[derive(Drop)]
 pub struct PlantInfo {
     pub name: Name,
     pub states: Vec<StateInfo>,
@@ -52,6 +89,19 @@ pub struct PlantInfo {
     pub sees: Vec<u32>,
     pub noise: Vec<NoiseInfo>,
     pub next: Vec<Term>,
+}
+
+impl Drop for PlantInfo {
+    fn drop(self) {
+        let PlantInfo {
+            name: _,
+            states: _,
+            inputs: _,
+            sees: _,
+            noise: _,
+            next: _,
+        } = self;
+    }
 }
 
 /// A number that a node reads: a scalar, or a state variable of a plant.
@@ -62,7 +112,6 @@ pub enum Slot {
 }
 
 /// A local of a node, kept from firing to firing.
-#[derive(Drop)]
 pub struct LocalInfo {
     pub name: Name,
     pub scale: u8,
@@ -72,9 +121,21 @@ pub struct LocalInfo {
     pub init: i64,
 }
 
+impl Drop for LocalInfo {
+    fn drop(self) {
+        let LocalInfo {
+            name: _,
+            scale: _,
+            truth: _,
+            lo: _,
+            hi: _,
+            init: _,
+        } = self;
+    }
+}
+
 /// A node, due at each time `t` from its offset on for which `t - offset` is a multiple of its period, in ticks. A coded node
 /// has a body; an external one has none, and its drafts come from outside.
-#[derive(Drop)]
 pub struct NodeInfo {
     pub name: Name,
     pub period: u32,
@@ -85,9 +146,22 @@ pub struct NodeInfo {
     pub body: Option<Vec<Act>>,
 }
 
+impl Drop for NodeInfo {
+    fn drop(self) {
+        let NodeInfo {
+            name: _,
+            period: _,
+            offset: _,
+            reads: _,
+            writes: _,
+            locals: _,
+            body: _,
+        } = self;
+    }
+}
+
 /// A runtime assurance module: its advanced node, its safe node, the period and offset of its decision node, its plant, the
 /// region to be kept, and the region from which the advanced node may be trusted.
-#[derive(Drop)]
 pub struct ModuleInfo {
     pub name: Name,
     pub ac: u32,
@@ -97,4 +171,19 @@ pub struct ModuleInfo {
     pub plant: u32,
     pub safe: Region,
     pub safer: Region,
+}
+
+impl Drop for ModuleInfo {
+    fn drop(self) {
+        let ModuleInfo {
+            name: _,
+            ac: _,
+            sc: _,
+            period: _,
+            offset: _,
+            plant: _,
+            safe: _,
+            safer: _,
+        } = self;
+    }
 }

@@ -4,13 +4,24 @@ use crate::tables::{ModuleInfo, NodeInfo, PlantInfo, ScalarInfo, TopicInfo};
 use std::marker::Model;
 
 /// A program's tables. Topics, scalars, plants, nodes and modules are named by their places here, in declared order.
-#[derive(Drop)]
 pub struct Typed {
     pub topics: Vec<TopicInfo>,
     pub scalars: Vec<ScalarInfo>,
     pub plants: Vec<PlantInfo>,
     pub nodes: Vec<NodeInfo>,
     pub modules: Vec<ModuleInfo>,
+}
+
+impl Drop for Typed {
+    fn drop(self) {
+        let Typed {
+            topics: _,
+            scalars: _,
+            plants: _,
+            nodes: _,
+            modules: _,
+        } = self;
+    }
 }
 
 impl Model for Typed {

@@ -24,12 +24,22 @@ use std::alloc::Global;
 
 /// A mission: the tables of its program, its certificate, which fits them, and, where the command needs them, its flight and the
 /// bytes of its trace.
-#[derive(Drop)]
 pub struct Loaded<'t> {
     pub program: Typed,
     pub cert: Cert,
     pub flight: Option<Flight>,
     pub trace: Option<&'t [u8]>,
+}
+
+impl<'t> Drop for Loaded<'t> {
+    fn drop(self) {
+        let Loaded {
+            program: _,
+            cert: _,
+            flight: _,
+            trace: _,
+        } = self;
+    }
 }
 
 // A fault that the program's names and types have.

@@ -1,6 +1,5 @@
-use Rattle.std.proofs.Common.{subst}
 use Rattle.sot_tree.specs.TreeViews.{program_view}
-use Rattle.sot_lang.specs.TableRules.{MeetsTableRules}
+use Rattle.sot_typing.proofs.Meets.{tables_meet}
 use Rattle.sot_canon.proofs.FormedPrograms.{spelled_formed}
 use Rattle.sot_commands.proofs.Certified.{tables_result, mistyped_result}
 use Rattle.sot_commands.proofs.certify.certify_tree.Goals as goal
@@ -11,7 +10,7 @@ resolve-requires g c = record { formed = spelled_formed _ _ _ c.requires.spelled
 pub returns-in-Ok : goal.returns-in-Ok
 returns-in-Ok g c =
     tables_result c.certify_tables.result (program_view c.args.program.now) c.in-Ok.tables
-    (record { faultless = c.in-Ok.ensures.faultless; tables = c.in-Ok.ensures.tables; rules = subst MeetsTableRules c.tables.view_is c.tables.invariant }) c.certify_tables.ensures
+    (record { faultless = c.in-Ok.ensures.faultless; tables = c.in-Ok.ensures.tables; rules = tables_meet _ _ (spelled_formed _ _ _ c.requires.spelled.1) c.in-Ok.ensures.faultless c.in-Ok.ensures.tables }) c.certify_tables.ensures
 
 pub returns-in-Err-Fault : goal.returns-in-Err-Fault
 returns-in-Err-Fault g c =
