@@ -1,5 +1,5 @@
 -- The expressions of a plant one after another, and how many names a plant has.
-use Rattle.std.proofs.Common.{◌≡◌, ℕ, zero, suc, ◌+◌, ◌<◌, ◌≤◌, List, [], ◌∷◌, ◌++◌, Ok, Err, take, length, get_or, refl, sym, ap, ap₂, ◌∙◌, arith, length-append}
+use Rattle.std.proofs.Common.{◌≡◌, ℕ, zero, suc, ◌+◌, ◌<◌, ◌≤◌, List, [], ◌∷◌, ◌++◌, Ok, Err, take, length, get_or, refl, sym, ap, ap₂, ◌∙◌, subst, arith, length-append}
 use Rattle.std.proofs.lemmas.List.{length-map}
 use Rattle.sot_box.specs.Sides.{Side}
 use Rattle.sot_lang.specs.declared.term.Term.{Term}
@@ -12,8 +12,10 @@ use Rattle.sot_lang.specs.TableRules.{MeetsTableRules}
 use Rattle.sot_iv.specs.declared.may_trap.MayTrap.{MayTrap}
 use Rattle.sot_iv.specs.TermIntervals.{OrMayTrap}
 use Rattle.sot_iv.specs.Evaluation.{joined, term_interval, term_intervals}
-use Rattle.sot_iv.specs.PlantTicks.{MayTickBox}
-use Rattle.sot_lang.proofs.Owners.{seen_few}
+use Rattle.sot_lang.specs.TermPlaces.{HavePlaces}
+use Rattle.sot_lists.specs.Places.{At}
+use Rattle.sot_iv.specs.PlantTicks.{MayTickBox, MayTickOver}
+use Rattle.sot_lang.proofs.Owners.{plant_places, seen_few}
 
 abbrev put_first : OrMayTrap Side → OrMayTrap (List Side) → OrMayTrap (List Side)
 put_first = joined (λ x xs. Ok (x ∷ xs))
@@ -59,3 +61,11 @@ places_of p k box held seen info m same =
     ap₂ (λ a b. a + b) (ap₂ (λ a b. a + b) m.states m.inputs) m.seen_are ∙ ap (λ (x : PlantInfo). length x.states.items + length x.inputs.items + seen_width p.plants x.sees.items) same in
     length-append (box ++ held ++ seen) (bounds info)
     ∙ ap₂ (λ x y. x + y) (length-append (box ++ held) seen ∙ ap (λ x. x + length seen) (length-append box held) ∙ counts) (length-map info.noise.items (λ (d : NoiseInfo). record { lo = d.lo; hi = d.hi }))
+
+-- the expressions of a plant read what there is of intervals that are those of its names
+pub over_places : (p : Tables) (k : ℕ) (names : List Side) (info : PlantInfo) → MeetsTableRules p → (m : MayTickOver p k names) → m.may.plant ≡ info → HavePlaces (length names) info.next.items
+over_places p k names info rules m same =
+    let here : At p.plants k info = subst (λ x. At p.plants k x) same m.may.is in
+    let all = m.box ++ m.held ++ m.seen ++ bounds info in
+    let places : HavePlaces (length all) info.next.items = plant_places p info info.next.items (length all) (rules.plants k info here).next (places_of p k m.box m.held m.seen info m.may same) in
+    subst (λ l. HavePlaces (length l) info.next.items) (sym (m.are info here)) places

@@ -118,3 +118,8 @@ body_intervals seen locals writes (a ∷ rest) f = and_then (act_intervals seen 
 abbrev pub Leaves : {U : Type 0} → Result U MayTrap → List Side → List Drafted → OrMayTrap Intervals → Type 0
 Leaves (Ok u) locals draft o = o ≡ Ok (record { locals = locals; draft = draft })
 Leaves (Err t) locals draft o = o ≡ Err t
+
+-- an answer that stands in a list is these intervals, or this trap
+abbrev pub GivesSides : {U : Type 0} → Result U MayTrap → List Side → OrMayTrap (List Side) → Type 0
+GivesSides (Ok u) sides o = o ≡ Ok sides
+GivesSides (Err t) sides o = o ≡ Err t

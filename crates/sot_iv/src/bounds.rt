@@ -1,7 +1,7 @@
 //! Where each name may be: scalars in their types, locals and disturbances in their bounds, and the states of seen plants in the
 //! hulls of these plants' safe regions.
 
-ghost use Rattle.std.specs.Prelude.{◌≡◌, ◌≢◌, ℕ, [], ◌+◌, ◌<◌, ◌≤◌, ◌≤ℤ◌, ◌++◌, length, map, MatchOption};
+ghost use Rattle.std.specs.Prelude.{◌≡◌, ◌≢◌, ℕ, [], ◌+◌, ◌<◌, ◌≤◌, ◌≤ℤ◌, ◌++◌, length, drop, map, MatchOption};
 ghost use Rattle.sot_lists.specs.Places.{At, Has};
 ghost use Rattle.sot_box.specs.Regions.{IsHull};
 ghost use Rattle.sot_lang.specs.declared.tables.LocalInfo.{LocalInfo as Local};
@@ -82,6 +82,16 @@ pub(crate) fn put_box(b: &BoxN, sides: &mut Ranges)
 {
     for i in 0..b.len() {
         sides.push(b.side(i));
+    }
+}
+
+/// The sides of a box, in place of the first intervals.
+pub fn put_front(b: &BoxN, sides: &mut Ranges)
+    requires { length b.now ≤ length sides.old }
+    ensures { sides.new ≡ b.now ++ drop (length b.now) sides.old }
+{
+    for i in 0..b.len() {
+        sides.put(i, b.side(i));
     }
 }
 

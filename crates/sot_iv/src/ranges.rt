@@ -1,6 +1,6 @@
 //! Intervals in order, one for each name that an owner's expressions can read.
 
-ghost use Rattle.std.specs.Prelude.{◌≡◌, ◌<◌, ◌≤◌, ◌+◌, [], ◌∷◌, ◌++◌, length, MatchOption};
+ghost use Rattle.std.specs.Prelude.{◌≡◌, ◌<◌, ◌≤◌, ◌≤ℤ◌, ◌+◌, [], ◌∷◌, ◌++◌, length, slice_set, MatchOption};
 ghost use Rattle.sot_box.specs.Sides.{AreOrdered};
 
 use sot_box::Interval;
@@ -69,6 +69,16 @@ impl Ranges {
             hi: side.hi,
         };
         self.count = count + 1;
+    }
+
+    // Another interval in place `i`.
+    pub(crate) fn put(&mut self, i: usize, side: Interval)
+        requires inside { i < length self.old }
+        requires ordered { side.lo ≤ℤ side.hi }
+        ensures { self.new ≡ slice_set self.old i side }
+    {
+        let sides = &mut self.sides;
+        sides[i] = side;
     }
 
     /// More intervals, behind the others.

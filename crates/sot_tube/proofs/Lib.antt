@@ -12,5 +12,6 @@ pub mod LineTubes
 pub mod LineCertified
 pub mod LineRefused
 pub mod Walks
+pub mod WalkRanges
 pub mod Follows
 pub mod Kept

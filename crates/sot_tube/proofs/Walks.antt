@@ -24,7 +24,7 @@ pub record WalkSoFar (p : Tables) (k : ℕ) (region : BoxList) (first held seen 
   pub walked : (info : PlantInfo) → At p.plants k info → IsWalked info held seen region.boxes first ticks area n
 
 -- there is one interval for each expression
-terms_long : (ts : List Term) (rs xs : List Side) → AreTermIntervals ts rs (Ok xs) → length xs ≡ length ts
+pub terms_long : (ts : List Term) (rs xs : List Side) → AreTermIntervals ts rs (Ok xs) → length xs ≡ length ts
 terms_long [] rs xs h = (let e : xs ≡ [] = cc in ap length e)
 terms_long (t ∷ ts) rs xs h =
     let x = joins_ok h.0 xs _ h.2 in

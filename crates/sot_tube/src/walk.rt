@@ -10,7 +10,7 @@ ghost use Rattle.sot_tube.specs.Leaves.{Leaves};
 
 use crate::leave::Leave;
 use sot_box::{BoxN, Interval, Region};
-use sot_iv::iv_plant;
+use sot_iv::{iv_plant_over, plant_ranges, put_front};
 use sot_lang::Typed;
 
 /// Follows the tube of a plant, with commands and the states of seen plants in these intervals.
@@ -31,12 +31,16 @@ pub(crate) fn walk(
         (λ leave. Leaves info held.now seen.now region.now.boxes b.now 0 ticks leave) }
 {
     let mut area = *b;
+    let mut names = plant_ranges(p, plant, b, held, seen);
     for tick in 0..ticks {
         if let Some(point) = region.gap(&area) {
             return Err(Leave::Out { tick, area, point });
         }
-        match iv_plant(p, plant, &area, held, seen) {
-            Ok(next) => area = next,
+        match iv_plant_over(p, plant, &names) {
+            Ok(next) => {
+                put_front(&next, &mut names);
+                area = next;
+            }
             Err(trap) => return Err(Leave::Trap { tick, at: trap.at }),
         }
     }

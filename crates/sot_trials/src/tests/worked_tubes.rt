@@ -5,6 +5,7 @@ ghost use Rattle.std.specs.Prelude.{◌≡◌, ◌∷◌, [], IfSome, length};
 use super::worlds::at;
 use super::{cut, same};
 use sot_box::{BoxN, Interval};
+use sot_iv::iv_plant;
 use sot_text::Span;
 use sot_tube::{Leave, any_inside, held_inside, keeps};
 use sot_worked::{drifting_line, line};
@@ -42,6 +43,18 @@ fn held_tube(alloc: Global, from: Ends, cmd: Ends, ticks: u32) -> Result<Answer,
         return Ok(None);
     };
     Ok(Some(held_inside(&p, 0, &area, &[side], ticks)))
+}
+
+// The vehicle's box after a tick from these places with commands in an interval.
+fn ticked(alloc: Global, from: Ends, cmd: Ends) -> Result<Option<BoxN>, AllocError> {
+    let p = line(alloc)?;
+    let Some(area) = between(from) else {
+        return Ok(None);
+    };
+    let Some(side) = Interval::new(cmd.0, cmd.1) else {
+        return Ok(None);
+    };
+    Ok(iv_plant(&p, 0, &area, &[side], &[]).ok())
 }
 
 // The first of these of the vehicle that drifts.
@@ -99,6 +112,11 @@ const HELD: &str = "-40..40 by -2..2 for 0: inside
 -39..39 by 0..0 for 1: inside
 -39..39 by 0..0 for 2: 2 at -41..41";
 
+// Ticks: the places with the commands, and the places afterwards.
+const TICKS: &str = "-40..40 by -2..2: -43..43
+-39..39 by 0..0: -40..40
+-40..-11 by 2..2: -39..-8";
+
 fn number(rt: &impl Abort, text: &str) -> i64 {
     text.parse().ok().expect(rt, "a number")
 }
@@ -135,6 +153,21 @@ fn held_row(rt: &impl Abort, alloc: Global, row: &str) {
     let (from, cmd) = (ends(rt, from), ends(rt, cmd));
     let tube = held_tube(alloc, from, cmd, ticks_of(rt, ticks)).expect(rt, "memory");
     same(rt, row, tube, wanted(rt, answer));
+}
+
+fn tick_row(rt: &impl Abort, alloc: Global, row: &str) {
+    let (asked, answer) = cut(rt, row, ": ");
+    let (from, cmd) = cut(rt, asked, " by ");
+    let next = ticked(alloc, ends(rt, from), ends(rt, cmd)).expect(rt, "memory");
+    same(rt, row, next, between(ends(rt, answer)));
+}
+
+#[test]
+fn a_tick_widens_by_the_commands_and_the_disturbance(rt: HostRuntime) {
+    for row in TICKS.lines() {
+        tick_row(&rt, rt.alloc(), row);
+    }
+    same(&rt, "rows", TICKS.lines().count(), 3);
 }
 
 #[test]
