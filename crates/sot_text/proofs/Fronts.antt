@@ -1,5 +1,5 @@
 -- A token's text is itself a token, the same one.
-use Rattle.std.proofs.Common.{◌≡◌, ℕ, zero, suc, ◌+◌, ◌-◌, ◌<◌, ◌≤◌, ◌^◌, List, [], ◌∷◌, ◌++◌, Bool, true, false, cond, inl, inr, ◌||◌, ◌==◌, nat_lt, length, take, drop, refl, sym, ap, subst, ◌∙◌, arith}
+use Rattle.std.proofs.Common.{◌≡◌, ℕ, zero, suc, ◌+◌, ◌-◌, ◌<◌, ◌≤◌, ◌^◌, List, [], ◌∷◌, ◌++◌, Bool, true, false, cond, inl, inr, ◌||◌, ◌==◌, nat_lt, length, take, drop, slice_index_or, refl, sym, ap, subst, ◌∙◌, arith}
 use Rattle.std.specs.List.{prefix_len}
 use Rattle.std.specs.Char.{is_ascii_digit}
 use Rattle.std.proofs.lemmas.Bool.{cases_Bool, cond-true, cond-false}
@@ -33,6 +33,22 @@ front_number b bs no_word first = cond-false (begins_word b) _ _ no_word ∙ con
 
 pub front_sign : (b : ℕ) (bs : List ℕ) → begins_word b ≡ false → is_ascii_digit b ≡ false → front (b ∷ bs) ≡ sign (sign_len (b ∷ bs))
 front_sign b bs no_word no_digit = cond-false (begins_word b) _ _ no_word ∙ cond-false (is_ascii_digit b) _ _ no_digit
+
+-- the same, by the first byte of a text that has one
+pub by_word : (bs : List ℕ) → 1 ≤ length bs → begins_word (slice_index_or bs 0 0) ≡ true → front bs ≡ word (take (word_len bs) bs)
+by_word [] some first = absurd (omega (arith, some))
+by_word (b ∷ bs) some first = front_word b bs first
+
+pub by_number : (bs : List ℕ) → 1 ≤ length bs → begins_word (slice_index_or bs 0 0) ≡ false → is_ascii_digit (slice_index_or bs 0 0) ≡ true → front bs ≡ number bs
+by_number [] some no_word first = absurd (omega (arith, some))
+by_number (b ∷ bs) some no_word first = front_number b bs no_word first
+
+pub by_sign : (bs : List ℕ) → 1 ≤ length bs → begins_word (slice_index_or bs 0 0) ≡ false → is_ascii_digit (slice_index_or bs 0 0) ≡ false → front bs ≡ sign (sign_len bs)
+by_sign [] some no_word no_digit = absurd (omega (arith, some))
+by_sign (b ∷ bs) some no_word no_digit = front_sign b bs no_word no_digit
+
+pub some_sign : (len : ℕ) → 0 < len → sign len ≡ Token Sign len
+some_sign len some = cond-false (len == 0) BadByte (Token Sign len) (grind (arith, nat_tests))
 
 -- a token of so many bytes stands at the front, and is the same by itself
 pub record IsWhole (bs : List ℕ) (kind : Kind) (len : ℕ) : Type 0 where

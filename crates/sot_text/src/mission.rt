@@ -170,17 +170,27 @@ fn needed<'a>(
 ) -> Option<Sections<'a>>
     ensures { option_map parts_of result ≡ needed need program.now (option_map (λ b. b.now) cert.entry) (option_map (λ b. b.now) flight.entry) (option_map (λ b. b.now) trace.entry) }
 {
-    let (flight, trace) = match need {
-        Need::Check => (None, None),
-        Need::Fly => (Some(flight?), None),
-        Need::Replay => (Some(flight?), Some(trace?)),
-    };
-    Some(Sections {
-        program,
-        cert: cert?,
-        flight,
-        trace,
-    })
+    match (need, cert, flight, trace) {
+        (Need::Check, Some(cert), _, _) => Some(Sections {
+            program,
+            cert,
+            flight: None,
+            trace: None,
+        }),
+        (Need::Fly, Some(cert), Some(flight), _) => Some(Sections {
+            program,
+            cert,
+            flight: Some(flight),
+            trace: None,
+        }),
+        (Need::Replay, Some(cert), Some(flight), Some(trace)) => Some(Sections {
+            program,
+            cert,
+            flight: Some(flight),
+            trace: Some(trace),
+        }),
+        _ => None,
+    }
 }
 
 // A fault of a section line goes before a part that is missing.

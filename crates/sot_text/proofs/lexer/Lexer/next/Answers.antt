@@ -1,9 +1,63 @@
-use Rattle.std.proofs.Common.{◌+◌, arith, sym}
-use Rattle.std.proofs.lemmas.List.{take_rest}
+use Rattle.std.proofs.Common.{◌+◌, Err, length, sym, ap, ◌∙◌, arith}
+use Rattle.std.proofs.lemmas.List.{take_rest, length-drop}
+use Rattle.sot_text.specs.declared.token.Span.{Span}
+use Rattle.sot_text.specs.declared.token.LexFault.TheVariants as faults
+use Rattle.sot_text.specs.declared.lexeme.Front.TheVariants as fronts
+use Rattle.sot_text.specs.Reading.{Reading}
 use Rattle.sot_text.proofs.Aheads.{token_text}
+use Rattle.sot_text.proofs.Nexts.{next_at, span_is, token_is}
 use Rattle.sot_text.proofs.lexer.Lexer.next.Goals as goal
+
+pub returns-in-End-clause-next : goal.returns-in-End-clause-next
+returns-in-End-clause-next c =
+    next_at c.args.self.now c.self.inside.bytes.now c.self.inside.at c.skipped.result fronts.End (sym c.self.view_is) c.skipped.ensures.len c.in-End.ensures.front
+
+pub returns-in-Token-clause-next : goal.returns-in-Token-clause-next
+returns-in-Token-clause-next c =
+    let bytes = c.self.inside.bytes.now in
+    let from = c.self.inside.at + c.skipped.result in
+    let token = fronts.Token c.in-Token.kind c.in-Token.len in
+    token_is bytes from c.in-Token.len c.in-Token.kind c.span.result (span_is bytes from c.in-Token.len c.place_at-begin.result c.span.result c.place_at-begin.ensures c.span.ensures)
+    ∙ next_at c.args.self.now bytes c.self.inside.at c.skipped.result token (sym c.self.view_is) c.skipped.ensures.len c.in-Token.ensures.front
+
+pub returns-in-Token-clause-bytes : goal.returns-in-Token-clause-bytes
+returns-in-Token-clause-bytes c = ap (λ (r : Reading). r.bytes) c.self.view_is
+
+pub returns-in-Token-clause-at : goal.returns-in-Token-clause-at
+returns-in-Token-clause-at c = sym (ap (λ (s : Span). s.to) c.span.ensures)
 
 pub returns-in-Token-clause-whole : goal.returns-in-Token-clause-whole
 returns-in-Token-clause-whole c =
     let from = c.self.inside.at + c.skipped.result in
     token_text c.self.inside.bytes.now _ c.in-Token.kind c.in-Token.len from _ (sym c.in-Token.ensures.front) (take_rest c.self.inside.bytes.now from) (omega arith)
+
+pub returns-in-Token-clause-forward : goal.returns-in-Token-clause-forward
+returns-in-Token-clause-forward c =
+    omega (arith, ap (λ (r : Reading). r.at) c.self.view_is, c.in-Token.ensures.some)
+
+pub returns-in-Token-clause-within : goal.returns-in-Token-clause-within
+returns-in-Token-clause-within c =
+    let bytes = c.self.inside.bytes.now in
+    let from = c.self.inside.at + c.skipped.result in
+    omega (arith, c.in-Token.ensures.some, c.in-Token.ensures.within, ap length (take_rest bytes from), length-drop from bytes)
+
+pub returns-in-BadByte-clause-next : goal.returns-in-BadByte-clause-next
+returns-in-BadByte-clause-next c =
+    let bytes = c.self.inside.bytes.now in
+    let from = c.self.inside.at + c.skipped.result in
+    ap (λ (at : Span). Err (faults.BadByte at)) (span_is bytes from 1 c.place_at-begin.result c.span-in-BadByte.result c.place_at-begin.ensures c.span-in-BadByte.ensures)
+    ∙ next_at c.args.self.now bytes c.self.inside.at c.skipped.result fronts.BadByte (sym c.self.view_is) c.skipped.ensures.len c.in-BadByte.ensures.front
+
+pub returns-in-NameLong-clause-next : goal.returns-in-NameLong-clause-next
+returns-in-NameLong-clause-next c =
+    let bytes = c.self.inside.bytes.now in
+    let from = c.self.inside.at + c.skipped.result in
+    ap (λ (at : Span). Err (faults.NameLong at)) (span_is bytes from c.in-NameLong.len c.place_at-begin.result c.span-in-NameLong.result c.place_at-begin.ensures c.span-in-NameLong.ensures)
+    ∙ next_at c.args.self.now bytes c.self.inside.at c.skipped.result (fronts.NameLong c.in-NameLong.len) (sym c.self.view_is) c.skipped.ensures.len c.in-NameLong.ensures.front
+
+pub returns-in-LiteralWide-clause-next : goal.returns-in-LiteralWide-clause-next
+returns-in-LiteralWide-clause-next c =
+    let bytes = c.self.inside.bytes.now in
+    let from = c.self.inside.at + c.skipped.result in
+    ap (λ (at : Span). Err (faults.LiteralWide at)) (span_is bytes from c.in-LiteralWide.len c.place_at-begin.result c.span-in-LiteralWide.result c.place_at-begin.ensures c.span-in-LiteralWide.ensures)
+    ∙ next_at c.args.self.now bytes c.self.inside.at c.skipped.result (fronts.LiteralWide c.in-LiteralWide.len) (sym c.self.view_is) c.skipped.ensures.len c.in-LiteralWide.ensures.front
