@@ -1,9 +1,11 @@
 -- What the least of a list is.
-use Rattle.std.proofs.Common.{◌≡◌, ℕ, ◌<◌, ◌≤◌, ◌⊎◌, inl, inr, List, [], ◌∷◌, ◌++◌, Option, Some, refl, sym, ◌∙◌, subst, arith, true, false, Bool, ◌||◌, ◌&&◌, ◌==◌, nat_lt, if◌then◌else◌, fold}
+use Rattle.std.proofs.Common.{◌≡◌, ℕ, ◌<◌, ◌≤◌, ◌⊎◌, inl, inr, List, [], ◌∷◌, ◌++◌, Option, Some, refl, ap, sym, ◌∙◌, subst, arith, true, false, Bool, ◌||◌, ◌&&◌, ◌==◌, nat_lt, if◌then◌else◌, fold}
 use Rattle.std.proofs.lemmas.List.Sums.{fold-append}
+use Rattle.sot_text.specs.declared.token.Span.{Span}
 use Rattle.sot_rules.specs.declared.fault.TypeFault.{TypeFault}
+use Rattle.sot_rules.specs.declared.fault.TypeKind.{TypeKind}
 use Rattle.sot_rules.specs.First.{number_of, IsNotAfter}
-use Rattle.sot_rules.specs.Faults.{is_before, lesser, least}
+use Rattle.sot_rules.specs.Faults.{fault, when, is_before, lesser, least}
 use Rattle.sot_rules.proofs.Members.{In}
 
 -- the least of two lists, one after the other
@@ -89,3 +91,8 @@ least_is f (x ∷ xs) h e = let s = lesser_some f x in least_step f x s.0 h xs (
 pub least_some : (f : TypeFault) (xs : List TypeFault) → (h : TypeFault) × (least (Some f) xs ≡ Some h)
 least_some f [] = (f, refl)
 least_some f (x ∷ xs) = let s = lesser_some f x in let r = least_some s.0 xs in (r.0, subst (λ z. fold lesser z xs ≡ Some r.0) (sym s.1) r.1)
+
+-- the first fault stays where another one is not before it
+pub stays : (f : TypeFault) (at : Span) (k : TypeKind) (fails : Bool) → is_before (fault at k) f ≡ false → least (Some f) (when fails at k) ≡ Some f
+stays f at k false e = refl
+stays f at k true e = ap (λ b. if b then Some (fault at k) else Some f) e

@@ -59,6 +59,9 @@ none_held keys e i = ap (λ z. list_any (bytes_eq i.name) (seen_names z)) e
 abbrev same : List Ident → List Ident
 same names = map (λ i. i) names
 
+pub listed_held : (keys : List (Bor (List ℕ))) (xs ys : List Ident) → HasNames keys xs → xs ≡ ys → HasNames keys ys
+listed_held keys xs ys held e i = held i ∙ ap (is_among i) e
+
 pub one_held : (keys : List (Bor (List ℕ))) (xs ys : List Ident) → HasNames keys (same xs) → xs ≡ ys → HasNames keys ys
 one_held keys xs ys held e i = held i ∙ ap (is_among i) (map-id xs ∙ e)
 

@@ -4,15 +4,25 @@ use Rattle.sot_rules.specs.declared.fault.TypeFault.{TypeFault}
 use Rattle.sot_rules.specs.Faults.{least, together}
 use Rattle.sot_rules.proofs.Least.{least_append}
 
+-- two lists
+pub two_noted : (x y : List TypeFault) (a b c : Option TypeFault) → b ≡ least a x → c ≡ least b y → c ≡ least a (x ++ y)
+two_noted x y a b c p q = q ∙ ap (λ e. least e y) p ∙ sym (least_append a x y)
+
 -- three lists
 pub three_noted : (x y z : List TypeFault) (a b c d : Option TypeFault) → b ≡ least a x → c ≡ least b y → d ≡ least c z → d ≡ least a (x ++ (y ++ z))
 three_noted x y z a b c d p q r =
     r ∙ ap (λ e. least e z) (q ∙ ap (λ e. least e y) p) ∙ sym (least_append (least a x) y z) ∙ sym (least_append a x (y ++ z))
 
 -- the lists of a node, by what is noted together
-pub node_noted : (t d1 d2 d3 e1 e2 e3 f1 f2 f3 g : List TypeFault) (a b c d e : Option TypeFault) → b ≡ least a t → c ≡ least b (d1 ++ (d2 ++ d3)) → d ≡ least c ((e1 ++ (e2 ++ e3)) ++ (f1 ++ (f2 ++ f3))) → e ≡ least d g → e ≡ least a (together (t ∷ d1 ∷ d2 ∷ d3 ∷ e1 ∷ e2 ∷ e3 ∷ f1 ∷ f2 ∷ f3 ∷ g ∷ []))
-node_noted t d1 d2 d3 e1 e2 e3 f1 f2 f3 g a b c d e p q r s =
-    s ∙ ap (λ z. least z g) (r ∙ ap (λ z. least z ((e1 ++ (e2 ++ e3)) ++ (f1 ++ (f2 ++ f3)))) (q ∙ ap (λ z. least z (d1 ++ (d2 ++ d3))) p))
+pub node_noted : (t d1 d2 d3 e1 e2 e3 f1 f2 f3 g : List TypeFault) (a b c d : Option TypeFault) → b ≡ least a t → c ≡ least b ((d1 ++ (d2 ++ d3)) ++ ((e1 ++ (e2 ++ e3)) ++ (f1 ++ (f2 ++ f3)))) → d ≡ least c g → d ≡ least a (together (t ∷ d1 ∷ d2 ∷ d3 ∷ e1 ∷ e2 ∷ e3 ∷ f1 ∷ f2 ∷ f3 ∷ g ∷ []))
+node_noted t d1 d2 d3 e1 e2 e3 f1 f2 f3 g a b c d p q r =
+    r ∙ ap (λ z. least z g) (q ∙ ap (λ z. least z ((d1 ++ (d2 ++ d3)) ++ ((e1 ++ (e2 ++ e3)) ++ (f1 ++ (f2 ++ f3))))) p)
+    ∙ simp least_append
+
+-- the lists of a module, those of its nodes together
+pub module_noted : (x1 x2 x3 x4 t u v y z : List TypeFault) (a b c d e f g : Option TypeFault) → b ≡ least a (together (x1 ∷ x2 ∷ x3 ∷ x4 ∷ [])) → c ≡ least b t → d ≡ least c u → e ≡ least d v → f ≡ least e y → g ≡ least f z → g ≡ least a (together (x1 ∷ x2 ∷ x3 ∷ x4 ∷ t ∷ u ∷ v ∷ y ∷ z ∷ []))
+module_noted x1 x2 x3 x4 t u v y z a b c d e f g p q r s o i =
+    i ∙ ap (λ h. least h z) (o ∙ ap (λ h. least h y) (s ∙ ap (λ h. least h v) (r ∙ ap (λ h. least h u) (q ∙ ap (λ h. least h t) p))))
     ∙ simp least_append
 
 -- the lists of a plant, by what is noted together

@@ -4,6 +4,7 @@ use Rattle.sot_tree.specs.declared.tree.Ident.{Ident}
 use Rattle.sot_rules.specs.declared.fault.TypeFault.{TypeFault}
 use Rattle.sot_rules.specs.declared.fault.TypeKind.TheVariants.{TooMany}
 use Rattle.sot_rules.specs.Faults.{least, when, passes}
+use Rattle.sot_rules.proofs.Least.{least_append}
 use Rattle.sot_rules.proofs.Loops.{rest_is}
 
 -- whether a sum passes the limit now
@@ -27,6 +28,18 @@ module _ (size : Ident → ℕ) (limit : ℕ) where
         ap (passes size limit (limit - room)) (rest_is names k i lt e)
         ∙ ap (λ z. when (now_past limit (limit - room) z) i.at TooMany ++ passes size limit (limit - room + z) (drop (k + 1) names)) (sym sized)
 
+    -- the sum is within the limit with a size that has room
+    pub fits : (a c : Option TypeFault) → n ≤ room → least a (passes size limit (limit - room) (drop k names)) ≡ c → least a (passes size limit (limit - (room - n)) (drop (k + 1) names)) ≡ c
+    fits a c le inv =
+        let sums : limit - (room - n) ≡ limit - room + n = omega arith in
+        let not_past : now_past limit (limit - room) n ≡ false = none_passes limit room n within le in
+        ap (λ s. least a (passes size limit s (drop (k + 1) names))) sums
+        ∙ sym (ap (least a) (left ∙ ap (λ d. when d i.at TooMany ++ passes size limit (limit - room + n) (drop (k + 1) names)) not_past))
+        ∙ inv
+      where
+        none_passes : (limit room n : ℕ) → room ≤ limit → n ≤ room → (nat_le (limit - room) limit && nat_lt limit (limit - room + n)) ≡ false
+        none_passes limit room n within le = let f : nat_lt limit (limit - room + n) ≡ false = grind arith in let t : nat_le (limit - room) limit ≡ true = grind arith in cc
+
     -- the sum passes the limit with a size that has no room
     pub overflows : (a b c : Option TypeFault) → room < n → least a (passes size limit (limit - room) (drop k names)) ≡ c → b ≡ least a (when true i.at TooMany) → b ≡ c
     overflows a b c lt2 inv noted =
@@ -37,3 +50,11 @@ module _ (size : Ident → ℕ) (limit : ℕ) where
       where
         passes_now : (limit room n : ℕ) → room ≤ limit → room < n → (nat_le (limit - room) limit && nat_lt limit (limit - room + n)) ≡ true
         passes_now limit room n within lt = let f : nat_lt limit (limit - room + n) ≡ true = grind arith in let t : nat_le (limit - room) limit ≡ true = grind arith in cc
+
+-- a name that would not have the first fault, before others that would not
+pub past_rest : (names : List Ident) (k : ℕ) (i : Ident) (first : Option TypeFault) → k < length names → i ≡ get_or names k i → ((fails : Bool) → least first (when fails i.at TooMany) ≡ first) → ((size : Ident → ℕ) (limit sum : ℕ) → least first (passes size limit sum (drop (k + 1) names)) ≡ first) → (size : Ident → ℕ) (limit sum : ℕ) → least first (passes size limit sum (drop k names)) ≡ first
+past_rest names k i first lt e here rest size limit sum =
+    ap (λ is. least first (passes size limit sum is)) (rest_is names k i lt e)
+    ∙ least_append first (when (now_past limit sum (size i)) i.at TooMany) (passes size limit (sum + size i) (drop (k + 1) names))
+    ∙ ap (λ z. least z (passes size limit (sum + size i) (drop (k + 1) names))) (here (now_past limit sum (size i)))
+    ∙ rest size limit (sum + size i)

@@ -1,5 +1,5 @@
 //! The rules of typing as kinds of faults, and the first of several faults.
-ghost use Rattle.std.specs.Prelude.{◌≡◌};
+ghost use Rattle.std.specs.Prelude.{◌≡◌, Bool, true};
 ghost use Rattle.sot_rules.specs.First.{number_of};
 ghost use Rattle.sot_rules.specs.Faults.{fault, is_before, least, when};
 
@@ -87,6 +87,16 @@ fn is_earlier(at: Span, kind: TypeKind, first: TypeFault) -> bool
     ensures { result ≡ is_before (fault at kind) first }
 {
     at.from < first.at.from || (at.from == first.at.from && number_of(kind) < number_of(first.kind))
+}
+
+/// Whether a fault of this kind at a place would not be the first one.
+pub fn is_past(first: Option<TypeFault>, at: Span, kind: TypeKind) -> bool
+    ensures { result ≡ true → (fails : Bool) → least first (when fails at kind) ≡ first }
+{
+    match first {
+        None => false,
+        Some(f) => !is_earlier(at, kind, f),
+    }
 }
 
 /// Keeps the first fault, where the test says that this is one.

@@ -1,5 +1,6 @@
 -- Numbers that are put one after another.
-use Rattle.std.proofs.Common.{◌≡◌, ◌∙◌, ℕ, suc, ◌+◌, ◌-◌, ◌<◌, List, [], ◌∷◌, ◌++◌, sym, ap, append_assoc, arith}
+use Rattle.std.proofs.Common.{◌≡◌, ◌∙◌, ℕ, suc, ◌+◌, ◌-◌, ◌<◌, ◌≤◌, List, [], ◌∷◌, ◌++◌, sym, ap, append_assoc, arith}
+use Rattle.std.proofs.lemmas.List.{append-nil}
 use Rattle.sot_typing.specs.Resolved.{counted_from}
 
 -- the first of those that are left
@@ -16,4 +17,13 @@ step_counted all_of one_of shape first n i out more all lt pushed inv =
     ap (λ z. z ++ rest) pushed
     ∙ append_assoc out (one_of (first + i) ∷ []) rest
     ∙ sym (ap (λ z. out ++ all_of z) (counted_next first n i lt) ∙ ap (λ z. out ++ z) (shape (first + i) (counted_from (first + (i + 1)) (n - (i + 1)))))
+    ∙ inv
+
+-- none is left
+pub none_counted : {Y : Type 0} (all_of : List ℕ → List Y) → all_of [] ≡ [] → (first n i : ℕ) (out all : List Y) → n ≤ i → out ++ all_of (counted_from (first + i) (n - i)) ≡ all → out ≡ all
+none_counted all_of none first n i out all le inv =
+    let left : n - i ≡ 0 = omega arith in
+    sym (append-nil out)
+    ∙ ap (λ z. out ++ z) (sym none)
+    ∙ ap (λ k. out ++ all_of (counted_from (first + i) k)) (sym left)
     ∙ inv

@@ -1,13 +1,14 @@
 //! Limits on how many items a list has, and on how much its names stand for.
-ghost use Rattle.std.specs.Prelude.{◌≡◌, map};
+ghost use Rattle.std.specs.Prelude.{◌≡◌, ℕ, map, true};
 ghost use Rattle.sot_tree.specs.TreeViews.{area_view};
+ghost use Rattle.sot_tree.specs.declared.tree.Ident.{Ident};
 ghost use Rattle.sot_rules.specs.Names.{meaning};
 ghost use Rattle.sot_rules.specs.Lists.{places};
 ghost use Rattle.sot_rules.specs.Faults.{least, past, passes};
 ghost use Rattle.sot_rules.specs.Indexes.{program_in, IsIndex};
 ghost use Rattle.sot_rules.specs.Meanings.{size_of};
 
-use crate::fault::{TypeFault, TypeKind, note};
+use crate::fault::{TypeFault, TypeKind, is_past, note};
 use crate::names::index::Index;
 use crate::names::meaning::size_of;
 use crate::names::named::Named;
@@ -31,6 +32,19 @@ pub fn note_past_boxes(boxes: &[BoxDecl], first: &mut Option<TypeFault>)
     }
 }
 
+// Whether no name of a list would have the first fault, if a sum of sizes passed a limit with it.
+fn are_past(names: &[Ident], first: Option<TypeFault>) -> bool
+    ensures { result ≡ true → (size : Ident → ℕ) (limit sum : ℕ)
+        → least first (passes size limit sum names.now) ≡ first }
+{
+    for name in names {
+        if !is_past(first, name.at, TypeKind::TooMany) {
+            return false;
+        }
+    }
+    true
+}
+
 /// The name in a list with which the sizes of what the names mean pass a limit in sum. Plants count where they are to. A sum passes
 /// a limit once, so that nothing is to be noted of the names that follow.
 pub fn note_passes(
@@ -44,6 +58,9 @@ pub fn note_passes(
     ensures { first.new ≡ least first.old
         (passes (λ i. size_of plants (meaning (program_in index.now) i)) limit 0 names.now) }
 {
+    if are_past(names, *first) {
+        return;
+    }
     let mut room = limit;
     for name in names {
         let size = size_of(plants, index.meaning(name));

@@ -9,7 +9,7 @@ use crate::declarations::range::note_times;
 use crate::declarations::region::note_region;
 use crate::fault::{TypeFault, TypeKind, note};
 use crate::names::index::Index;
-use crate::names::meaning::{is_external, is_node, is_plant, is_topic, states_of};
+use crate::names::meaning::{is_external, is_neither, is_node, is_topic, states_of};
 use crate::names::repeats::are_same;
 use sot_tree::ModuleDecl;
 
@@ -29,7 +29,6 @@ fn note_nodes(index: &Index, m: &ModuleDecl, first: &mut Option<TypeFault>)
 }
 
 /// A module: its nodes, its period and offset, its plant and its regions.
-#[tactic(auto, using(crate::proofs::Least::least_append))]
 pub fn note_module(index: &Index, m: &ModuleDecl, first: &mut Option<TypeFault>)
     requires { IsIndex index.now }
     ensures { first.new ≡ least first.old
@@ -38,8 +37,7 @@ pub fn note_module(index: &Index, m: &ModuleDecl, first: &mut Option<TypeFault>)
     note_nodes(index, m, first);
     note_times(m.period, m.offset, first);
     let plant = index.meaning(&m.plant);
-    let is_none = !is_topic(plant) && !is_plant(plant);
-    note(first, is_none, m.plant.at, TypeKind::Unknown);
+    note(first, is_neither(plant), m.plant.at, TypeKind::Unknown);
     note(first, is_topic(plant), m.plant.at, TypeKind::KindDiffers);
     let states = states_of(plant);
     note_region(states, &m.safe, first);

@@ -9,24 +9,26 @@ ghost use Rattle.sot_rules.specs.Groups.{reads_faults, writes_faults, locals_fau
 
 use crate::declarations::limit::{note_passes, note_past};
 use crate::declarations::range::{note_scalar, note_start, note_times};
-use crate::fault::{TypeFault, TypeKind, note};
+use crate::fault::{TypeFault, TypeKind, is_past, note};
 use crate::names::hasher::{NameHasher, NameKey, NameSet};
 use crate::names::index::Index;
-use crate::names::meaning::{is_environment, is_plant, is_topic};
-use crate::names::repeats::{add_names, has_name, note_repeated_names, note_repeats};
+use crate::names::meaning::{is_environment, is_neither, is_topic};
+use crate::names::repeats::{add_names, has_name, note_repeated_names, note_repeats, note_seen};
 use crate::statements::body::note_body;
 use indexmap::IndexSet;
 use sot_tree::{Ident, LocalDecl, NodeDecl};
 use std::alloc::{AllocError, Global};
 
-// A name among those that a node reads.
+// A name among those that a node reads. It is not looked up where its fault would not be the first.
 fn note_read(index: &Index, name: &Ident, first: &mut Option<TypeFault>)
     requires { IsIndex index.now }
     ensures { first.new ≡ least first.old (read_faults (program_in index.now) name.now) }
 {
+    if is_past(*first, name.at, TypeKind::Unknown) {
+        return;
+    }
     let meant = index.meaning(name);
-    let is_none = !is_topic(meant) && !is_plant(meant);
-    note(first, is_none, name.at, TypeKind::Unknown);
+    note(first, is_neither(meant), name.at, TypeKind::Unknown);
 }
 
 fn note_read_names(index: &Index, names: &[Ident], first: &mut Option<TypeFault>)
@@ -39,20 +41,21 @@ fn note_read_names(index: &Index, names: &[Ident], first: &mut Option<TypeFault>
     }
 }
 
-// What a node reads.
-#[tactic(auto, using(crate::proofs::Least::least_append))]
-fn note_reads(
-    alloc: Global,
+// What a node reads, with an empty set that is to have those names.
+fn note_reads<'p>(
     index: &Index,
-    names: &[Ident],
+    used: &mut NameSet<'p>,
+    names: &'p [Ident],
     first: &mut Option<TypeFault>,
 ) -> Result<(), AllocError>
-    requires { IsIndex index.now }
-    ensures { OnOk result (first.new
+    requires indexed { IsIndex index.now }
+    requires empty { used.old.keys ≡ [] }
+    ensures noted { OnOk result (first.new
         ≡ least first.old (reads_faults (program_in index.now) names.now)) }
+    ensures used { OnOk result (HasNames used.new.keys names.now) }
 {
     note_read_names(index, names, first);
-    note_repeated_names(alloc, names, first)?;
+    note_seen(used, names, first)?;
     note_passes(index, true, 64, names, first);
     Ok(())
 }
@@ -153,7 +156,7 @@ fn note_locals<'p>(
     Ok(())
 }
 
-// What a node writes and its locals, with a set that is to have the topics and plants that it uses.
+// What a node reads and writes and its locals, with an empty set that is to have the topics and plants that it uses.
 fn note_uses_beside<'p>(
     alloc: Global,
     index: &Index,
@@ -162,18 +165,19 @@ fn note_uses_beside<'p>(
     first: &mut Option<TypeFault>,
 ) -> Result<(), AllocError>
     requires indexed { IsIndex index.now }
-    requires empty { HasNames used.old.keys [] }
+    requires empty { used.old.keys ≡ [] }
     ensures { OnOk result (first.new
-        ≡ least first.old (writes_faults (program_in index.now) (node_view n.now)
-        ++ locals_faults (node_view n.now))) }
+        ≡ least first.old (reads_faults (program_in index.now) (node_view n.now).reads
+        ++ (writes_faults (program_in index.now) (node_view n.now)
+        ++ locals_faults (node_view n.now)))) }
 {
-    add_names(used, &n.reads)?;
+    note_reads(index, used, &n.reads, first)?;
     note_writes(alloc, index, n, used, first)?;
     note_locals(alloc, n, used, first)?;
     Ok(())
 }
 
-// What a node writes, and its locals.
+// What a node reads and writes, and its locals.
 fn note_uses(
     alloc: Global,
     index: &Index,
@@ -182,8 +186,9 @@ fn note_uses(
 ) -> Result<(), AllocError>
     requires { IsIndex index.now }
     ensures { OnOk result (first.new
-        ≡ least first.old (writes_faults (program_in index.now) (node_view n.now)
-        ++ locals_faults (node_view n.now))) }
+        ≡ least first.old (reads_faults (program_in index.now) (node_view n.now).reads
+        ++ (writes_faults (program_in index.now) (node_view n.now)
+        ++ locals_faults (node_view n.now)))) }
 {
     let mut used = IndexSet::with_hasher(alloc, used_hasher(n));
     let noted = note_uses_beside(alloc, index, &mut used, n, first);
@@ -192,7 +197,6 @@ fn note_uses(
 }
 
 /// A node: its period and offset, what it reads and writes, its locals and its body.
-#[tactic(auto, using(crate::proofs::Least::least_append))]
 pub fn note_node<'p>(
     alloc: Global,
     index: &Index<'p>,
@@ -204,7 +208,6 @@ pub fn note_node<'p>(
         ≡ least first.old (together (node_lists (program_in index.now) (node_view n.now)))) }
 {
     note_times(n.period, n.offset, first);
-    note_reads(alloc, index, &n.reads, first)?;
     note_uses(alloc, index, n, first)?;
     note_body(alloc, index, n, first)?;
     Ok(())

@@ -15,7 +15,7 @@ use crate::expressions::sort::{is_no_scale, is_truthful};
 use crate::fault::{TypeFault, TypeKind, note};
 use crate::names::hasher::{NameHasher, NameKey, NameSet, hasher_of};
 use crate::names::index::Index;
-use crate::names::meaning::{is_plant, is_topic};
+use crate::names::meaning::{is_neither, is_plant, is_topic};
 use crate::names::repeats::{add_names, are_same, has_name, note_repeated_names, note_repeats};
 use indexmap::IndexSet;
 use sot_tree::{Field, Ident, Lit, PlantDecl, StateDecl};
@@ -110,10 +110,9 @@ fn note_seen(
         (together (seen_lists (program_in index.now) (plant_view q.now) name.now)) }
 {
     let meant = index.meaning(name);
-    let is_none = !is_topic(meant) && !is_plant(meant);
     let is_own = are_same(name, &q.name);
     let is_state = has_name(states, name);
-    note(first, is_none, name.at, TypeKind::Unknown);
+    note(first, is_neither(meant), name.at, TypeKind::Unknown);
     note(first, is_topic(meant), name.at, TypeKind::KindDiffers);
     note(
         first,

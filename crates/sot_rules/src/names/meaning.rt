@@ -1,5 +1,5 @@
 //! What kind of declaration a name means, and how much it stands for.
-ghost use Rattle.std.specs.Prelude.{◌≡◌};
+ghost use Rattle.std.specs.Prelude.{◌≡◌, ◌&&◌, not};
 ghost use Rattle.sot_rules.specs.Names.{is_topic, is_plant, is_node, is_environment, is_external};
 ghost use Rattle.sot_rules.specs.Tests.{side_sorts};
 ghost use Rattle.sot_rules.specs.Scopes.{sorts_in};
@@ -23,6 +23,17 @@ pub fn is_plant(d: Option<&Decl>) -> bool
     match d {
         Some(Decl::Plant(_)) => true,
         _ => false,
+    }
+}
+
+/// Neither a topic nor a plant.
+pub fn is_neither(d: Option<&Decl>) -> bool
+    ensures { result ≡ (not (is_topic (meant d.entry)) && not (is_plant (meant d.entry))) }
+{
+    match d {
+        Some(Decl::Topic(_)) => false,
+        Some(Decl::Plant(_)) => false,
+        _ => true,
     }
 }
 

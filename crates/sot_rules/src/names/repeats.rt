@@ -1,6 +1,6 @@
 //! Names that stand twice in a list, and sets of names.
 ghost use Rattle.std.specs.Prelude.{◌≡◌, List, ◌++◌, [], map, OnOk};
-ghost use Rattle.std.specs.List.{list_any};
+ghost use Rattle.std.specs.List.{fold, list_any};
 ghost use Rattle.std.specs.Str.{bytes_eq};
 ghost use Rattle.sot_tree.specs.declared.tree.Ident.{Ident};
 ghost use Rattle.sot_rules.specs.declared.fault.TypeKind.TheVariants.{Twice};
@@ -32,14 +32,16 @@ pub fn note_repeat<'p>(
     Ok(())
 }
 
-// The things of a list whose names stand in it before, or were seen.
-fn note_seen<'p, T: Named>(
+/// The things of a list whose names stand in it before, or were seen. Then all of them were seen.
+pub fn note_seen<'p, T: Named>(
     seen: &mut NameSet<'p>,
     items: &'p [T],
     first: &mut Option<TypeFault>,
 ) -> Result<(), AllocError>
-    ensures { OnOk result (first.new
+    ensures noted { OnOk result (first.new
         ≡ least first.old (repeats (seen_names seen.old.keys) (map T.ident items.now))) }
+    ensures seen { OnOk result (seen_names seen.new.keys
+        ≡ fold with_name (seen_names seen.old.keys) (map T.ident items.now)) }
 {
     for item in items {
         note_repeat(seen, item.ident(), first)?;

@@ -49,7 +49,7 @@ fn assignment(
     let made = term(alloc, names.read, value)?;
     Ok(Act::Assign {
         local: named(names.local, target, &none).place as u32,
-        value: made.term,
+        value: made.into_term(),
         at: target.at,
     })
 }
@@ -72,7 +72,7 @@ fn publication(
     let made = term(alloc, names.read, value)?;
     Ok(Act::Publish {
         slot: named(names.written, topic, field).place as u32,
-        value: made.term,
+        value: made.into_term(),
         at: topic.at,
     })
 }
@@ -96,7 +96,7 @@ fn act(alloc: Global, names: &BodyNames, stmt: &Stmt) -> Result<Act, AllocError>
             let yes = acts(alloc, names, yes)?;
             let no = acts(alloc, names, no)?;
             Ok(Act::If {
-                cond: made.term,
+                cond: made.into_term(),
                 yes,
                 no,
             })

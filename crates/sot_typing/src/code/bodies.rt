@@ -123,7 +123,7 @@ fn put_terms(
 {
     for clause in clauses {
         let a = term(alloc, things, &clause.value)?;
-        made.push(a.term)?;
+        made.push(a.into_term())?;
     }
     Ok(())
 }

@@ -19,10 +19,27 @@ use sot_tree::{Expr, Func, Ident, Lit, Op};
 use std::alloc::{AllocError, Global};
 
 /// An expression with places for names, and its sort.
-#[derive(Drop)]
 pub struct Sorted {
     pub term: Term,
     pub sort: Sort,
+}
+
+// Written by hand, so that letting one go is one call: a function that holds one over a `?` is proved without the
+// variants of its term.
+impl Drop for Sorted {
+    fn drop(self) {
+        let Sorted { term: _, sort: _ } = self;
+    }
+}
+
+impl Sorted {
+    /// The expression alone.
+    pub fn into_term(self) -> Term
+        ensures { result ≡ self.term }
+    {
+        let Sorted { term, sort: _ } = self;
+        term
+    }
 }
 
 /// The parts of a call, and the sort that they give it.
@@ -82,8 +99,8 @@ fn joined(alloc: Global, op: Op, a: Sorted, b: Sorted, at: Span) -> Result<Sorte
         (given a.sort (given b.sort (operator_sort op a.sort b.sort)))) }
 {
     let sort = given(a.sort, given(b.sort, operator_sort(op, a.sort, b.sort)));
-    let left = Box::new(alloc, a.term)?;
-    let right = Box::new(alloc, b.term)?;
+    let left = Box::new(alloc, a.into_term())?;
+    let right = Box::new(alloc, b.into_term())?;
     Ok(Sorted {
         term: Term::Binary {
             op,
@@ -99,10 +116,11 @@ fn remainder(alloc: Global, a: Sorted, by: i64, at: Span) -> Result<Sorted, Allo
     requires { sort_scale a.sort ≤ 255 }
     ensures { IfOk result (IsSorted (rest (formula_view a.term) by at) a.sort) }
 {
-    let left = Box::new(alloc, a.term)?;
+    let sort = a.sort;
+    let left = Box::new(alloc, a.into_term())?;
     Ok(Sorted {
         term: Term::Rest { left, by, at },
-        sort: a.sort,
+        sort,
     })
 }
 
@@ -110,10 +128,11 @@ fn negation(alloc: Global, a: Sorted, at: Span) -> Result<Sorted, AllocError>
     requires { sort_scale a.sort ≤ 255 }
     ensures { IfOk result (IsSorted (negated (formula_view a.term) at) a.sort) }
 {
-    let part = Box::new(alloc, a.term)?;
+    let sort = a.sort;
+    let part = Box::new(alloc, a.into_term())?;
     Ok(Sorted {
         term: Term::Neg { part, at },
-        sort: a.sort,
+        sort,
     })
 }
 
@@ -121,10 +140,11 @@ fn denial(alloc: Global, a: Sorted, at: Span) -> Result<Sorted, AllocError>
     requires { sort_scale a.sort ≤ 255 }
     ensures { IfOk result (IsSorted (denied (formula_view a.term) at) a.sort) }
 {
-    let part = Box::new(alloc, a.term)?;
+    let sort = a.sort;
+    let part = Box::new(alloc, a.into_term())?;
     Ok(Sorted {
         term: Term::Not { part, at },
-        sort: a.sort,
+        sort,
     })
 }
 
@@ -137,7 +157,8 @@ fn change_of_scale(alloc: Global, a: Sorted, to: Lit, at: Span) -> Result<Sorted
 {
     let from = decimals(a.sort);
     let scale = to.mantissa.unsigned_abs();
-    let part = Box::new(alloc, a.term)?;
+    let sort = given(a.sort, Sort::Scaled(scale));
+    let part = Box::new(alloc, a.into_term())?;
     Ok(Sorted {
         term: Term::Rescale {
             part,
@@ -145,7 +166,7 @@ fn change_of_scale(alloc: Global, a: Sorted, to: Lit, at: Span) -> Result<Sorted
             to: scale as u8,
             at,
         },
-        sort: given(a.sort, Sort::Scaled(scale)),
+        sort,
     })
 }
 
@@ -156,9 +177,9 @@ fn choice(alloc: Global, c: Sorted, a: Sorted, b: Sorted, at: Span) -> Result<So
         (given c.sort (given b.sort a.sort))) }
 {
     let sort = given(c.sort, given(b.sort, a.sort));
-    let cond = Box::new(alloc, c.term)?;
-    let yes = Box::new(alloc, a.term)?;
-    let no = Box::new(alloc, b.term)?;
+    let cond = Box::new(alloc, c.into_term())?;
+    let yes = Box::new(alloc, a.into_term())?;
+    let no = Box::new(alloc, b.into_term())?;
     Ok(Sorted {
         term: Term::If { cond, yes, no, at },
         sort,
@@ -193,8 +214,8 @@ fn terms(alloc: Global, things: &[Thing], parts: &[Expr]) -> Result<SortedList, 
     };
     for part in parts {
         let a = term(alloc, things, part)?;
-        made.terms.push(a.term)?;
         made.sort = given(made.sort, a.sort);
+        made.terms.push(a.into_term())?;
     }
     Ok(made)
 }

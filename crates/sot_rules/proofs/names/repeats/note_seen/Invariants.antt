@@ -1,10 +1,11 @@
--- The loop of `note_seen`: what is noted, and then what is left.
-use Rattle.std.proofs.Common.{◌≡◌, map, drop}
+-- The loop of `note_seen`: what is noted and seen, and then what is left.
+use Rattle.std.proofs.Common.{◌≡◌, map, drop, fold}
 use Rattle.sot_rules.specs.Faults.{least, repeats}
-use Rattle.sot_rules.specs.SeenNames.{seen_names}
+use Rattle.sot_rules.specs.SeenNames.{seen_names, with_name}
 use Rattle.sot_rules.proofs.names.repeats.note_seen.Given as goal
 
 abbrev pub invariant-loop-item : goal.invariant-loop-item
-invariant-loop-item g l =
-    least l.first (repeats (seen_names l.seen.keys) (map g.T.Named.ident (drop l.item-index l.items)))
-    ≡ least l.fn.first (repeats (seen_names l.fn.seen.keys) (map g.T.Named.ident l.items))
+invariant-loop-item g l = record {
+  noted : least l.first (repeats (seen_names l.seen.keys) (map g.T.Named.ident (drop l.item-index l.items))) ≡ least l.fn.first (repeats (seen_names l.fn.seen.keys) (map g.T.Named.ident l.items));
+  seen : fold with_name (seen_names l.seen.keys) (map g.T.Named.ident (drop l.item-index l.items)) ≡ fold with_name (seen_names l.fn.seen.keys) (map g.T.Named.ident l.items);
+}

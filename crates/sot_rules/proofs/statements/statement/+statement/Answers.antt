@@ -1,11 +1,14 @@
 -- Of the cycle `statement`: that the loops keep what they say, and their promises.
-use Rattle.std.proofs.Common.{◌∙◌, ap, sym, refl}
-use Rattle.sot_tree.specs.TreeViews.{statement_view, block_view}
+use Rattle.std.proofs.Common.{◌∙◌, None, ap, ap₂, sym, refl}
+use Rattle.sot_tree.specs.TreeViews.{tree_view, statement_view, block_view}
 use Rattle.sot_rules.specs.Sorts.{is_scaled}
-use Rattle.sot_rules.specs.Faults.{least, statement_faults, block_faults}
+use Rattle.sot_rules.specs.Names.{reading}
+use Rattle.sot_rules.specs.TreeSorts.{sort}
+use Rattle.sot_rules.specs.Faults.{least, tree_faults, target_faults, statement_faults, block_faults}
 use Rattle.sot_rules.specs.Scopes.{scope_in}
 use Rattle.sot_rules.proofs.Branches.{branch_noted, repeat_noted}
-use Rattle.sot_rules.proofs.Loops.{step_least}
+use Rattle.sot_rules.proofs.Loops.{step_least, none_left}
+use Rattle.sot_rules.proofs.Sequences.{two_noted}
 use Rattle.sot_rules.proofs.statements.statement.+statement.Goals as goal
 
 pub block-loop-stmt-preserved : goal.block-loop-stmt-preserved
@@ -34,3 +37,28 @@ statement-returns-in-Repeat t c =
     c.note-in-Repeat.ensures c.note-in-Repeat-2.ensures
     (c.block-in-Repeat.ensures ∙ ap (λ ss. least c.note-in-Repeat-2.new.first (block_faults scope (block_view ss))) c.deref-in-Repeat.ensures.value)
     ∙ sym (ap (λ z. least c.args.first.now (statement_faults scope (statement_view z))) c.in-Repeat.is)
+
+pub block-returns : goal.block-returns
+block-returns t c =
+    none_left (λ ss. block_faults (scope_in c.args.scope.now) (block_view ss)) refl c.args.stmts.now c.loop-stmt.stmt-index
+    _ _ c.loop-stmt-test.false c.loop-stmt.invariant
+
+pub statement-returns-in-Assign : goal.statement-returns-in-Assign
+statement-returns-in-Assign t c =
+    let scope = scope_in c.args.scope.now in
+    let value = tree_view c.in-Assign.value in
+    let at = c.in-Assign.target.at in
+    two_noted (tree_faults scope.read value) (target_faults (reading scope.local c.in-Assign.target None) (sort scope.read value) at) _ _ _
+    c.expression-s.ensures.noted
+    (c.note_target.ensures ∙ ap₂ (λ r s. least c.expression-s.new.first (target_faults r s at)) c.reading_alone-wanted.ensures c.expression-s.ensures.sort)
+    ∙ sym (ap (λ z. least c.args.first.now (statement_faults scope (statement_view z))) c.in-Assign.is)
+
+pub statement-returns-in-Publish : goal.statement-returns-in-Publish
+statement-returns-in-Publish t c =
+    let scope = scope_in c.args.scope.now in
+    let value = tree_view c.in-Publish.value in
+    let at = c.in-Publish.topic.at in
+    two_noted (tree_faults scope.read value) (target_faults (reading scope.written c.in-Publish.topic c.in-Publish.field) (sort scope.read value) at) _ _ _
+    c.expression-s-in-Publish.ensures.noted
+    (c.note_target-in-Publish.ensures ∙ ap₂ (λ r s. least c.expression-s-in-Publish.new.first (target_faults r s at)) c.reading-wanted.ensures c.expression-s-in-Publish.ensures.sort)
+    ∙ sym (ap (λ z. least c.args.first.now (statement_faults scope (statement_view z))) c.in-Publish.is)

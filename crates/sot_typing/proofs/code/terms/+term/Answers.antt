@@ -1,5 +1,5 @@
 -- Of the cycle `term`: what their calls ask for, that the loops keep what they say, and their promises.
-use Rattle.std.proofs.Common.{rules, arith, ◌≤◌, ap, ap₂, sym, subst, ◌∙◌}
+use Rattle.std.proofs.Common.{rules, arith, ◌≡◌, ◌≤◌, [], ◌∷◌, ◌++◌, ap, ap₂, sym, subst, ◌∙◌}
 use Rattle.sot_tree.specs.declared.tree.Expr.{the_lemmas}
 use Rattle.sot_tree.specs.Trees.{binary, negated, denied, rescaled, chosen, called}
 use Rattle.sot_tree.specs.TreeViews.{tree_view, parts_view}
@@ -130,7 +130,7 @@ terms-loop-part-preserved t c =
     let i = c.loop-part.invariant in
     record {
       faultless = rest_faultless names c.args.parts.now c.loop-part.part-index c.part-item.result c.loop-part-test.true c.part-item.is i.faultless;
-      form = form_next names c.args.parts.now c.loop-part.part-index c.part-item.result c.loop-part-test.true c.part-item.is c.in_ok-a.a c.in_ok-a.ensures c.loop-part.made.terms.items c.push.new.self.items c.in_ok-push.ensures.items i.form;
+      form = form_next names c.args.parts.now c.loop-part.part-index c.part-item.result c.loop-part-test.true c.part-item.is c.in_ok-a.a c.in_ok-a.ensures c.loop-part.made.terms.items c.push.new.self.items (subst (λ z. c.push.new.self.items ≡ c.loop-part.made.terms.items ++ z ∷ []) c.into_term.ensures c.in_ok-push.ensures.items) i.form;
       sort = sort_next names c.args.parts.now c.loop-part.part-index c.part-item.result c.loop-part-test.true c.part-item.is c.in_ok-a.a c.in_ok-a.ensures c.loop-part.made.sort c.given-made.result c.given-made.ensures i.sort;
       decimals = subst (λ s. sort_scale s ≤ 255) (sym c.given-made.ensures) (given_decimals c.loop-part.made.sort c.in_ok-a.a.sort c.in_ok-a.ensures.decimals);
     }
