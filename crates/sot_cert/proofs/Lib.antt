@@ -2,6 +2,7 @@
 pub mod Faults
 pub mod Escapes
 pub mod Lists
+pub mod Parts
 -- lemmas on certificates
 pub mod Modules
 pub mod Binds

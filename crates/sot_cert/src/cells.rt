@@ -1,12 +1,14 @@
 //! Sides, cells and lists of cells of a certificate.
-ghost use Rattle.std.specs.Prelude.{◌≡◌, ◌≤◌, length, IfOk};
+ghost use Rattle.std.specs.Prelude.{◌≡◌, ◌≤◌, length, IfOk, IfErr};
 ghost use Rattle.serde_json.specs.View.{view, items_view};
+ghost use Rattle.sot_cert.specs.Says.{part};
 ghost use Rattle.sot_cert.specs.Json.{each};
-ghost use Rattle.sot_cert.specs.CertFormat.{number, side, cell, cells};
+ghost use Rattle.sot_cert.specs.CertFormat.{number, side, cell, cells, region_of};
+ghost use Rattle.sot_cert.specs.declared.fault.JsonFail.TheVariants.{Memory};
 ghost use Rattle.sot_cert.specs.Answers.{Gives};
 
 use crate::fault::{JsonFail, JsonKind};
-use crate::value::{fault_at, fault_under, fault_under_index, two_of, whole_of};
+use crate::value::{fault_at, fault_under_index, part_of, two_of, whole_of};
 use serde_json::Value;
 use sot_box::{BoxN, Interval, Region};
 use std::alloc::Global;
@@ -22,7 +24,14 @@ fn number_of(alloc: Global, value: &Value) -> Result<i64, JsonFail>
     whole_of(alloc, -GREATEST, GREATEST, value)
 }
 
-#[tactic(auto, unfolding(crate::specs::CertFormat::side), using(crate::proofs::Faults::part_fails))]
+#[tactic(auto, using(crate::proofs::Parts::part_gives))]
+fn end_of(alloc: Global, place: &str, value: &Value) -> Result<i64, JsonFail>
+    ensures { Gives (λ x. x) result (part place.now (number (view value.now))) }
+{
+    part_of(alloc, place, number_of(alloc, value))
+}
+
+#[tactic(auto, unfolding(crate::specs::CertFormat::side))]
 fn side_of(alloc: Global, value: &Value) -> Result<Interval, JsonFail>
     ensures { Gives (λ x. x) result (side (view value.now)) }
 {
@@ -32,14 +41,8 @@ fn side_of(alloc: Global, value: &Value) -> Result<Interval, JsonFail>
     let Some((lo, hi)) = two_of(list) else {
         return Err(fault_at(alloc, JsonKind::Width));
     };
-    let lo = match number_of(alloc, lo) {
-        Ok(lo) => lo,
-        Err(fail) => return Err(fault_under(alloc, "0", fail)),
-    };
-    let hi = match number_of(alloc, hi) {
-        Ok(hi) => hi,
-        Err(fail) => return Err(fault_under(alloc, "1", fail)),
-    };
+    let lo = end_of(alloc, "0", lo)?;
+    let hi = end_of(alloc, "1", hi)?;
     match Interval::new(lo, hi) {
         Some(side) => Ok(side),
         None => Err(fault_at(alloc, JsonKind::Empty)),
@@ -98,6 +101,15 @@ fn boxes_of(alloc: Global, width: usize, list: &Vec<Value>) -> Result<Region, Js
     Ok(found)
 }
 
+// The region with its index.
+fn settled(mut region: Region) -> Result<Region, JsonFail>
+    ensures memory { IfErr result (λ e. e ≡ Memory) }
+    ensures ok { IfOk result (λ r. r ≡ region_of region.width region.boxes) }
+{
+    region.settle()?;
+    Ok(region)
+}
+
 /// A list of cells, as a region of that width.
 #[tactic(auto, unfolding(crate::specs::CertFormat::cells), using(crate::proofs::Lists::items_len_view))]
 pub(crate) fn cells_of(alloc: Global, width: usize, value: &Value) -> Result<Region, JsonFail>
@@ -110,7 +122,6 @@ pub(crate) fn cells_of(alloc: Global, width: usize, value: &Value) -> Result<Reg
     if list.len() > CELL_LIMIT {
         return Err(fault_at(alloc, JsonKind::TooMany));
     }
-    let mut region = boxes_of(alloc, width, list)?;
-    region.settle()?;
-    Ok(region)
+    let region = boxes_of(alloc, width, list)?;
+    settled(region)
 }

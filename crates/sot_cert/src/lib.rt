@@ -17,6 +17,6 @@ pub use fault::{CertFail, JsonFail, JsonFault, JsonKind};
 pub use path::Path;
 pub use reading::read_cert;
 pub use value::{
-    count_of, fault_at, fault_under, fault_under_index, has_only, member_of, two_of, value_of,
-    whole_of,
+    count_of, fault_at, fault_under, fault_under_index, has_only, member_of, needed, part_of,
+    two_of, value_of, whole_of,
 };

@@ -31,10 +31,8 @@ impl Path {
     pub fn below(&self, alloc: Global, name: &str) -> Result<Path, AllocError>
         ensures { IfOk result (λ p. p ≡ 47 ∷ escaped name.now ++ self.now) }
     {
-        let name = escaped_text(alloc, name)?;
-        let front = name.as_str();
-        let rest = self.text.as_str();
-        let text = format!(in alloc; "/{front}{rest}")?;
+        let mut text = String::new(alloc);
+        push_below(&mut text, name, self.text.as_str())?;
         Ok(Path { text })
     }
 
@@ -53,15 +51,24 @@ impl Path {
     }
 }
 
-/// The name with `~0` for each `~` and `~1` for each `/`.
-fn escaped_text(alloc: Global, name: &str) -> Result<String, AllocError>
-    ensures { IfOk result (λ t. string_bytes t ≡ escaped name.now) }
+// A name, and the path below it.
+fn push_below(text: &mut String, name: &str, rest: &str) -> Result<(), AllocError>
+    requires { string_bytes text.old ≡ [] }
+    ensures { OnOk result (string_bytes text.new ≡ 47 ∷ escaped name.now ++ rest.now) }
 {
-    let mut text = String::new(alloc);
+    text.push_str("/")?;
+    push_name(text, name)?;
+    text.push_str(rest)
+}
+
+// The name with `~0` for each `~` and `~1` for each `/`.
+fn push_name(text: &mut String, name: &str) -> Result<(), AllocError>
+    ensures { OnOk result (string_bytes text.new ≡ string_bytes text.old ++ escaped name.now) }
+{
     for c in name.chars() {
-        push_escaped(&mut text, c)?;
+        push_escaped(text, c)?;
     }
-    Ok(text)
+    Ok(())
 }
 
 fn push_escaped(text: &mut String, c: char) -> Result<(), AllocError>

@@ -12,13 +12,15 @@ ghost use Rattle.sot_cert.specs.Answers.{Gives};
 
 use crate::cells::cells_of;
 use crate::fault::{CertFail, JsonFail, JsonKind};
-use crate::value::{count_of, fault_at, fault_under, has_only, member_of, value_of, whole_of};
+use crate::value::{
+    count_of, fault_at, fault_under, has_only, member_of, needed, part_of, value_of, whole_of,
+};
 use serde_json::{Map, Value};
 use sot_box::Region;
 use sot_lang::{Cells, Cert, PlantInfo, Typed};
 use std::alloc::Global;
 
-#[tactic(auto, unfolding(crate::specs::Json::at), using(crate::proofs::Faults::at_fails, crate::proofs::Faults::at_missing))]
+#[tactic(auto, unfolding(crate::specs::Json::at), using(crate::proofs::Parts::found_there, crate::proofs::Parts::lacking))]
 fn cells_at(
     alloc: Global,
     name: &str,
@@ -28,13 +30,8 @@ fn cells_at(
     requires { (1 ≤ width) × (width ≤ 4) }
     ensures { Gives (λ r. r) result (at name.now (cells width) (members_view object.now.entries)) }
 {
-    let Some(value) = member_of(object, name) else {
-        return Err(fault_under(alloc, name, fault_at(alloc, JsonKind::Missing)));
-    };
-    match cells_of(alloc, width, value) {
-        Ok(region) => Ok(region),
-        Err(fail) => Err(fault_under(alloc, name, fail)),
-    }
+    let value = needed(alloc, object, name)?;
+    part_of(alloc, name, cells_of(alloc, width, value))
 }
 
 #[tactic(auto, unfolding(crate::specs::CertFormat::entry))]
@@ -91,7 +88,6 @@ fn entry_at(
     }
 }
 
-#[tactic(auto, using(crate::proofs::Modules::entries_on, crate::proofs::Modules::entries_end, crate::proofs::Modules::entries_done))]
 fn entries_of(
     alloc: Global,
     p: &Typed,
@@ -149,7 +145,7 @@ fn modules_of(alloc: Global, p: &Typed, value: &Value) -> Result<Vec<Option<Cell
     Ok(found)
 }
 
-#[tactic(auto, unfolding(crate::specs::Json::at), using(crate::proofs::Faults::at_fails, crate::proofs::Faults::at_missing))]
+#[tactic(auto, unfolding(crate::specs::Json::at), using(crate::proofs::Parts::found_there, crate::proofs::Parts::lacking))]
 fn modules_at(
     alloc: Global,
     p: &Typed,
@@ -158,13 +154,8 @@ fn modules_at(
     ensures says { Gives (λ v. v.items) result (at (codes "modules") (modules_say p.now) (members_view object.now.entries)) }
     ensures rules { OnOk result (MeetsTableRules p.now) }
 {
-    let Some(value) = member_of(object, "modules") else {
-        return Err(fault_under(alloc, "modules", fault_at(alloc, JsonKind::Missing)));
-    };
-    match modules_of(alloc, p, value) {
-        Ok(found) => Ok(found),
-        Err(fail) => Err(fault_under(alloc, "modules", fail)),
-    }
+    let value = needed(alloc, object, "modules")?;
+    part_of(alloc, "modules", modules_of(alloc, p, value))
 }
 
 fn is_below_nodes(p: &Typed, jitter: u32) -> bool
@@ -197,17 +188,12 @@ fn jitter_of(alloc: Global, p: &Typed, value: &Value) -> Result<u32, JsonFail>
     Ok(jitter)
 }
 
-#[tactic(auto, unfolding(crate::specs::Json::at), using(crate::proofs::Faults::at_fails, crate::proofs::Faults::at_missing))]
+#[tactic(auto, unfolding(crate::specs::Json::at), using(crate::proofs::Parts::found_there, crate::proofs::Parts::lacking))]
 fn jitter_at(alloc: Global, p: &Typed, object: &Map<String, Value>) -> Result<u32, JsonFail>
     ensures { Gives (λ x. x) result (at (codes "jitter") (jitter p.now) (members_view object.now.entries)) }
 {
-    let Some(value) = member_of(object, "jitter") else {
-        return Err(fault_under(alloc, "jitter", fault_at(alloc, JsonKind::Missing)));
-    };
-    match jitter_of(alloc, p, value) {
-        Ok(jitter) => Ok(jitter),
-        Err(fail) => Err(fault_under(alloc, "jitter", fail)),
-    }
+    let value = needed(alloc, object, "jitter")?;
+    part_of(alloc, "jitter", jitter_of(alloc, p, value))
 }
 
 #[tactic(auto, unfolding(crate::specs::CertFormat::has_jitter))]
@@ -218,17 +204,12 @@ fn format_of(alloc: Global, value: &Value) -> Result<bool, JsonFail>
     Ok(2 <= format)
 }
 
-#[tactic(auto, unfolding(crate::specs::Json::at), using(crate::proofs::Faults::at_fails, crate::proofs::Faults::at_missing))]
+#[tactic(auto, unfolding(crate::specs::Json::at), using(crate::proofs::Parts::found_there, crate::proofs::Parts::lacking))]
 fn format_at(alloc: Global, object: &Map<String, Value>) -> Result<bool, JsonFail>
     ensures { Gives (λ x. x) result (at (codes "format") has_jitter (members_view object.now.entries)) }
 {
-    let Some(value) = member_of(object, "format") else {
-        return Err(fault_under(alloc, "format", fault_at(alloc, JsonKind::Missing)));
-    };
-    match format_of(alloc, value) {
-        Ok(jittered) => Ok(jittered),
-        Err(fail) => Err(fault_under(alloc, "format", fail)),
-    }
+    let value = needed(alloc, object, "format")?;
+    part_of(alloc, "format", format_of(alloc, value))
 }
 
 #[tactic(auto, unfolding(crate::specs::CertFormat::jitter_in))]

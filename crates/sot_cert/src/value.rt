@@ -1,11 +1,12 @@
 //! Small readers of JSON values, each with what the value says by the words of `specs/Json.antt`.
-ghost use Rattle.std.specs.Prelude.{◌≡◌, ◌≤◌, decimal, map, pos, string_bytes, option_map, IfOk};
+ghost use Rattle.std.specs.Prelude.{◌≡◌, ◌≤◌, ◌≤ℤ◌, decimal, map, pos, string_bytes, option_map, IfOk};
 ghost use Rattle.serde_json.specs.View.{view, items_view, members_view};
 ghost use Rattle.serde_json.specs.Find.{get_member};
-ghost use Rattle.sot_cert.specs.declared.fault.JsonKind.TheVariants.{NotJson};
-ghost use Rattle.sot_cert.specs.Says.{or};
+ghost use Rattle.sot_cert.specs.declared.fault.JsonKind.TheVariants.{NotJson, Missing};
+ghost use Rattle.sot_cert.specs.Says.{or, part};
 ghost use Rattle.sot_cert.specs.Json.{json_of, whole, count, two, is_among, all_among};
 ghost use Rattle.sot_cert.specs.Answers.{Gives, IsHere, IsUnder};
+ghost use Rattle.sot_cert.specs.Parts.{IsPart};
 
 use crate::fault::{JsonFail, JsonFault, JsonKind};
 use crate::path::Path;
@@ -70,10 +71,21 @@ fn decimal_of(alloc: Global, i: usize) -> Result<String, AllocError>
     format!(in alloc; "{i}")
 }
 
-/// A whole number from `lo` to `hi`.
+/// What was read of the part of that name, as it stands from the value that holds the part.
+pub fn part_of<T>(alloc: Global, name: &str, read: Result<T, JsonFail>) -> Result<T, JsonFail>
+    ensures { IsPart name.now read result }
+{
+    match read {
+        Ok(part) => Ok(part),
+        Err(fail) => Err(fault_under(alloc, name, fail)),
+    }
+}
+
+// A whole number from `lo` to `hi`, in 128 bits.
 #[tactic(auto, unfolding(crate::specs::Json::whole))]
-pub fn whole_of(alloc: Global, lo: i64, hi: i64, value: &Value) -> Result<i64, JsonFail>
-    ensures { Gives (λ x. x) result (whole lo hi (view value.now)) }
+fn wide_of(alloc: Global, lo: i128, hi: i128, value: &Value) -> Result<i128, JsonFail>
+    ensures says { Gives (λ x. x) result (whole lo hi (view value.now)) }
+    ensures within { IfOk result (λ x. (lo ≤ℤ x) × (x ≤ℤ hi)) }
 {
     let Some(number) = value.as_number() else {
         return Err(fault_at(alloc, JsonKind::WrongShape));
@@ -81,30 +93,29 @@ pub fn whole_of(alloc: Global, lo: i64, hi: i64, value: &Value) -> Result<i64, J
     let Some(whole) = number.as_i128() else {
         return Err(fault_at(alloc, JsonKind::NotWhole));
     };
-    if lo as i128 <= whole && whole <= hi as i128 {
-        Ok(whole as i64)
+    if lo <= whole && whole <= hi {
+        Ok(whole)
     } else {
         Err(fault_at(alloc, JsonKind::OutsideRange))
     }
 }
 
+/// A whole number from `lo` to `hi`.
+pub fn whole_of(alloc: Global, lo: i64, hi: i64, value: &Value) -> Result<i64, JsonFail>
+    ensures { Gives (λ x. x) result (whole lo hi (view value.now)) }
+{
+    let whole = wide_of(alloc, i128::from(lo), i128::from(hi), value)?;
+    Ok(whole as i64)
+}
+
 /// A whole number from 0 to that greatest.
-#[tactic(auto, unfolding(crate::specs::Json::count, crate::specs::Json::whole))]
+#[tactic(auto, unfolding(crate::specs::Json::count))]
 pub fn count_of(alloc: Global, greatest: u64, value: &Value) -> Result<u64, JsonFail>
     ensures says { Gives (λ x. x) result (count greatest (view value.now)) }
     ensures within { IfOk result (λ x. x ≤ greatest) }
 {
-    let Some(number) = value.as_number() else {
-        return Err(fault_at(alloc, JsonKind::WrongShape));
-    };
-    let Some(whole) = number.as_i128() else {
-        return Err(fault_at(alloc, JsonKind::NotWhole));
-    };
-    if 0 <= whole && whole <= greatest as i128 {
-        Ok(whole as u64)
-    } else {
-        Err(fault_at(alloc, JsonKind::OutsideRange))
-    }
+    let whole = wide_of(alloc, 0, i128::from(greatest), value)?;
+    Ok(whole as u64)
 }
 
 /// The two items of a list of two.
@@ -123,6 +134,21 @@ pub fn member_of<'v>(object: &'v Map<String, Value>, name: &str) -> Option<&'v V
     ensures { option_map (λ x. view x.now) result ≡ get_member name.now (members_view object.now.entries) }
 {
     object.get(name)
+}
+
+/// The value at a key of an object that must be there.
+#[tactic(auto, using(crate::proofs::Parts::lacks))]
+pub fn needed<'v>(
+    alloc: Global,
+    object: &'v Map<String, Value>,
+    name: &str,
+) -> Result<&'v Value, JsonFail>
+    ensures { Gives (λ v. view v.now) result (part name.now (or Missing (get_member name.now (members_view object.now.entries)))) }
+{
+    match member_of(object, name) {
+        Some(value) => Ok(value),
+        None => Err(fault_under(alloc, name, fault_at(alloc, JsonKind::Missing))),
+    }
 }
 
 /// Whether each key of the object is one of these.

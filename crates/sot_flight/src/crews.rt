@@ -13,7 +13,7 @@ use crate::crew::{Crew, CrewKind};
 use crate::keys::{GREATEST, count_at, has_only_external};
 use crate::lists::drafts_of;
 use serde_json::{Map, Value};
-use sot_cert::{JsonFail, JsonKind, count_of, fault_at, fault_under, has_only, member_of};
+use sot_cert::{JsonFail, JsonKind, count_of, fault_at, has_only, needed, part_of};
 use sot_lang::{NodeInfo, Typed};
 use std::alloc::Global;
 
@@ -35,20 +35,15 @@ fn kind_of(alloc: Global, value: &Value) -> Result<CrewKind, JsonFail>
     }
 }
 
-#[tactic(auto, unfolding(sot_cert::specs::Json::at), using(sot_cert::proofs::Faults::at_fails, sot_cert::proofs::Faults::at_missing))]
+#[tactic(auto, unfolding(sot_cert::specs::Json::at), using(sot_cert::proofs::Parts::found_there, sot_cert::proofs::Parts::lacking))]
 fn kind_at(alloc: Global, object: &Map<String, Value>) -> Result<CrewKind, JsonFail>
     ensures { Gives (λ k. k) result (at (codes "kind") crew_kind (members_view object.now.entries)) }
 {
-    let Some(value) = member_of(object, "kind") else {
-        return Err(fault_under(alloc, "kind", fault_at(alloc, JsonKind::Missing)));
-    };
-    match kind_of(alloc, value) {
-        Ok(kind) => Ok(kind),
-        Err(fail) => Err(fault_under(alloc, "kind", fail)),
-    }
+    let value = needed(alloc, object, "kind")?;
+    part_of(alloc, "kind", kind_of(alloc, value))
 }
 
-#[tactic(auto, unfolding(sot_cert::specs::Json::at), using(sot_cert::proofs::Faults::at_fails, sot_cert::proofs::Faults::at_missing))]
+#[tactic(auto, unfolding(sot_cert::specs::Json::at), using(sot_cert::proofs::Parts::found_there, sot_cert::proofs::Parts::lacking))]
 fn drafts_at(
     alloc: Global,
     size: usize,
@@ -56,13 +51,8 @@ fn drafts_at(
 ) -> Result<Vec<Vec<Option<i64>>>, JsonFail>
     ensures { Gives (λ v. map (λ row. row.items) v.items) result (at (codes "drafts") (drafts size) (members_view object.now.entries)) }
 {
-    let Some(value) = member_of(object, "drafts") else {
-        return Err(fault_under(alloc, "drafts", fault_at(alloc, JsonKind::Missing)));
-    };
-    match drafts_of(alloc, size, value) {
-        Ok(rows) => Ok(rows),
-        Err(fail) => Err(fault_under(alloc, "drafts", fail)),
-    }
+    let value = needed(alloc, object, "drafts")?;
+    part_of(alloc, "drafts", drafts_of(alloc, size, value))
 }
 
 fn is_that_guest(crew: &Crew, index: u32) -> bool
@@ -102,7 +92,7 @@ fn guest_of(alloc: Global, guests: u32, done: &Vec<Crew>, value: &Value) -> Resu
     Ok(index)
 }
 
-#[tactic(auto, unfolding(sot_cert::specs::Json::at), using(sot_cert::proofs::Faults::at_fails, sot_cert::proofs::Faults::at_missing))]
+#[tactic(auto, unfolding(sot_cert::specs::Json::at), using(sot_cert::proofs::Parts::found_there, sot_cert::proofs::Parts::lacking))]
 fn guest_at(
     alloc: Global,
     guests: u32,
@@ -111,13 +101,8 @@ fn guest_at(
 ) -> Result<u32, JsonFail>
     ensures { Gives (λ x. x) result (at (codes "index") (guest_says guests (map crew_of done.now.items)) (members_view object.now.entries)) }
 {
-    let Some(value) = member_of(object, "index") else {
-        return Err(fault_under(alloc, "index", fault_at(alloc, JsonKind::Missing)));
-    };
-    match guest_of(alloc, guests, done, value) {
-        Ok(index) => Ok(index),
-        Err(fail) => Err(fault_under(alloc, "index", fail)),
-    }
+    let value = needed(alloc, object, "index")?;
+    part_of(alloc, "index", guest_of(alloc, guests, done, value))
 }
 
 #[tactic(auto, unfolding(crate::specs::FlightFormat::crew_as))]
@@ -174,7 +159,7 @@ fn one_crew(
     crew_as_kind(alloc, guests, done, node, object, kind)
 }
 
-#[tactic(auto, unfolding(sot_cert::specs::Json::at), using(sot_cert::proofs::Faults::at_fails, sot_cert::proofs::Faults::at_missing))]
+#[tactic(auto, unfolding(sot_cert::specs::Json::at), using(sot_cert::proofs::Parts::found_there, sot_cert::proofs::Parts::lacking))]
 fn crew_under(
     alloc: Global,
     guests: u32,
@@ -185,13 +170,8 @@ fn crew_under(
     ensures { Gives crew_of result (at node.now.name (crew_says guests (map crew_of done.now.items) node.now) (members_view object.now.entries)) }
 {
     let name = node.name.as_str();
-    let Some(value) = member_of(object, name) else {
-        return Err(fault_under(alloc, name, fault_at(alloc, JsonKind::Missing)));
-    };
-    match one_crew(alloc, guests, done, node, value) {
-        Ok(crew) => Ok(crew),
-        Err(fail) => Err(fault_under(alloc, name, fail)),
-    }
+    let value = needed(alloc, object, name)?;
+    part_of(alloc, name, one_crew(alloc, guests, done, node, value))
 }
 
 // The crew of a node; a coded one drafts by its code.
@@ -211,7 +191,6 @@ fn crew_where(
     }
 }
 
-#[tactic(auto, using(crate::proofs::ForEach::kept_on, crate::proofs::ForEach::found_all))]
 fn each_crew(
     alloc: Global,
     p: &Typed,
@@ -245,7 +224,7 @@ fn crews_of(alloc: Global, p: &Typed, guests: u32, value: &Value) -> Result<Vec<
 }
 
 /// A crew for each node, in declared order.
-#[tactic(auto, unfolding(sot_cert::specs::Json::at), using(sot_cert::proofs::Faults::at_fails, sot_cert::proofs::Faults::at_missing))]
+#[tactic(auto, unfolding(sot_cert::specs::Json::at), using(sot_cert::proofs::Parts::found_there, sot_cert::proofs::Parts::lacking))]
 pub(crate) fn crews_at(
     alloc: Global,
     p: &Typed,
@@ -254,11 +233,6 @@ pub(crate) fn crews_at(
 ) -> Result<Vec<Crew>, JsonFail>
     ensures { Gives (λ v. map crew_of v.items) result (at (codes "crew") (crews_say p.now guests) (members_view object.now.entries)) }
 {
-    let Some(value) = member_of(object, "crew") else {
-        return Err(fault_under(alloc, "crew", fault_at(alloc, JsonKind::Missing)));
-    };
-    match crews_of(alloc, p, guests, value) {
-        Ok(found) => Ok(found),
-        Err(fail) => Err(fault_under(alloc, "crew", fail)),
-    }
+    let value = needed(alloc, object, "crew")?;
+    part_of(alloc, "crew", crews_of(alloc, p, guests, value))
 }

@@ -15,6 +15,7 @@ use crate::ranges::ranges_of_topic;
 use serde_json::{Map, Value};
 use sot_cert::{
     JsonFail, JsonKind, count_of, fault_at, fault_under, fault_under_index, has_only, member_of,
+    needed, part_of,
 };
 use sot_lang::Typed;
 use std::alloc::Global;
@@ -41,7 +42,7 @@ fn time_of(alloc: Global, horizon: u32, done: &Vec<Input>, value: &Value) -> Res
     Ok(time)
 }
 
-#[tactic(auto, unfolding(sot_cert::specs::Json::at), using(sot_cert::proofs::Faults::at_fails, sot_cert::proofs::Faults::at_missing))]
+#[tactic(auto, unfolding(sot_cert::specs::Json::at), using(sot_cert::proofs::Parts::found_there, sot_cert::proofs::Parts::lacking))]
 fn time_at(
     alloc: Global,
     horizon: u32,
@@ -50,13 +51,8 @@ fn time_at(
 ) -> Result<u32, JsonFail>
     ensures { Gives (λ x. x) result (at (codes "at") (time horizon (map input_of done.now.items)) (members_view object.now.entries)) }
 {
-    let Some(value) = member_of(object, "at") else {
-        return Err(fault_under(alloc, "at", fault_at(alloc, JsonKind::Missing)));
-    };
-    match time_of(alloc, horizon, done, value) {
-        Ok(time) => Ok(time),
-        Err(fail) => Err(fault_under(alloc, "at", fail)),
-    }
+    let value = needed(alloc, object, "at")?;
+    part_of(alloc, "at", time_of(alloc, horizon, done, value))
 }
 
 // The place of the environment topic of that name.
@@ -98,7 +94,7 @@ fn topic_at(alloc: Global, p: &Typed, object: &Map<String, Value>) -> Result<u32
     }
 }
 
-#[tactic(auto, unfolding(sot_cert::specs::Json::at), using(sot_cert::proofs::Faults::at_fails, sot_cert::proofs::Faults::at_missing))]
+#[tactic(auto, unfolding(sot_cert::specs::Json::at), using(sot_cert::proofs::Parts::found_there, sot_cert::proofs::Parts::lacking))]
 fn value_at(
     alloc: Global,
     p: &Typed,
@@ -108,14 +104,9 @@ fn value_at(
     requires { topic < length p.now.topics }
     ensures { Gives (λ v. v.items) result (at (codes "value") (numbers_in (topic_ranges p.now topic)) (members_view object.now.entries)) }
 {
-    let Some(value) = member_of(object, "value") else {
-        return Err(fault_under(alloc, "value", fault_at(alloc, JsonKind::Missing)));
-    };
+    let value = needed(alloc, object, "value")?;
     let ranges = ranges_of_topic(alloc, p, topic)?;
-    match numbers_in_of(alloc, &ranges, value) {
-        Ok(numbers) => Ok(numbers),
-        Err(fail) => Err(fault_under(alloc, "value", fail)),
-    }
+    part_of(alloc, "value", numbers_in_of(alloc, &ranges, value))
 }
 
 #[tactic(auto, unfolding(crate::specs::FlightFormat::input))]
@@ -140,7 +131,6 @@ fn one_input(
     Ok(Input { at, topic, value })
 }
 
-#[tactic(auto, using(crate::proofs::RowLists::rows_go_on, crate::proofs::RowLists::rows_end, crate::proofs::RowLists::rows_done))]
 fn each_input(
     alloc: Global,
     p: &Typed,
@@ -170,7 +160,7 @@ fn inputs_of(alloc: Global, p: &Typed, horizon: u32, value: &Value) -> Result<Ve
 }
 
 /// The inputs, in order.
-#[tactic(auto, unfolding(sot_cert::specs::Json::at), using(sot_cert::proofs::Faults::at_fails, sot_cert::proofs::Faults::at_missing))]
+#[tactic(auto, unfolding(sot_cert::specs::Json::at), using(sot_cert::proofs::Parts::found_there, sot_cert::proofs::Parts::lacking))]
 pub(crate) fn inputs_at(
     alloc: Global,
     p: &Typed,
@@ -179,11 +169,6 @@ pub(crate) fn inputs_at(
 ) -> Result<Vec<Input>, JsonFail>
     ensures { Gives (λ v. map input_of v.items) result (at (codes "inputs") (inputs_say p.now horizon) (members_view object.now.entries)) }
 {
-    let Some(value) = member_of(object, "inputs") else {
-        return Err(fault_under(alloc, "inputs", fault_at(alloc, JsonKind::Missing)));
-    };
-    match inputs_of(alloc, p, horizon, value) {
-        Ok(inputs) => Ok(inputs),
-        Err(fail) => Err(fault_under(alloc, "inputs", fail)),
-    }
+    let value = needed(alloc, object, "inputs")?;
+    part_of(alloc, "inputs", inputs_of(alloc, p, horizon, value))
 }

@@ -1,7 +1,6 @@
 //! Keys of a flight's objects.
 
 ghost use Rattle.std.specs.Prelude.{◌≡◌, ◌≤◌, ◌&&◌, IfOk, filter, bytes_eq};
-ghost use Rattle.std.specs.List.{list_any};
 ghost use Rattle.serde_json.specs.View.{members_view};
 ghost use Rattle.sot_cert.specs.Json.{at, count, is_among, all_among};
 ghost use Rattle.sot_cert.specs.Answers.{Gives};
@@ -9,7 +8,7 @@ ghost use Rattle.sot_flight.specs.FlightFormat.{plant_names, node_names, has_noi
 
 use serde_json::{Map, Value};
 use sot_cert::{JsonFail, JsonKind, count_of, fault_at, fault_under, member_of};
-use sot_lang::Typed;
+use sot_lang::{NodeInfo, PlantInfo, Typed};
 use std::alloc::Global;
 
 /// The greatest number of the format.
@@ -35,45 +34,52 @@ pub(crate) fn count_at(
     }
 }
 
-fn any_plant(p: &Typed, key: &str) -> bool
-    ensures { result ≡ list_any (λ plant. bytes_eq key.now plant.name) p.now.plants }
+#[tactic(auto, using(crate::proofs::NameLists::plants_from, crate::proofs::NameLists::plants_past))]
+fn is_plant(plants: &[PlantInfo], key: &str) -> bool
+    ensures { result ≡ is_among key.now (plant_names plants.now) }
 {
-    p.plants.iter().any(|plant| key == plant.name.as_str())
+    for plant in plants {
+        if key == plant.name.as_str() {
+            return true;
+        }
+    }
+    false
 }
 
-#[tactic(auto, using(crate::proofs::NameLists::names_any))]
-fn is_plant(p: &Typed, key: &str) -> bool
-    ensures { result ≡ is_among key.now (plant_names p.now.plants) }
+fn is_disturbed_as(plant: &PlantInfo, key: &str) -> bool
+    ensures { result ≡ has_noise plant.now && bytes_eq key.now plant.now.name }
 {
-    any_plant(p, key)
+    plant.noise.len() > 0 && key == plant.name.as_str()
 }
 
-fn any_disturbed(p: &Typed, key: &str) -> bool
-    ensures { result ≡ list_any (λ plant. has_noise plant && bytes_eq key.now plant.name) p.now.plants }
+#[tactic(auto, using(crate::proofs::NameLists::disturbed_from, crate::proofs::NameLists::disturbed_past))]
+fn is_disturbed(plants: &[PlantInfo], key: &str) -> bool
+    ensures { result ≡ is_among key.now (plant_names (filter has_noise plants.now)) }
 {
-    p.plants.iter().any(|plant| plant.noise.len() > 0 && key == plant.name.as_str())
+    for plant in plants {
+        if is_disturbed_as(plant, key) {
+            return true;
+        }
+    }
+    false
 }
 
-#[tactic(auto, using(crate::proofs::NameLists::some_names_any))]
-fn is_disturbed(p: &Typed, key: &str) -> bool
-    ensures { result ≡ is_among key.now (plant_names (filter has_noise p.now.plants)) }
+fn is_external_as(node: &NodeInfo, key: &str) -> bool
+    ensures { result ≡ is_external node.now && bytes_eq key.now node.now.name }
 {
-    any_disturbed(p, key)
+    node.body.is_none() && key == node.name.as_str()
 }
 
-fn any_external(p: &Typed, key: &str) -> bool
-    ensures { result ≡ list_any (λ node. is_external node && bytes_eq key.now node.name) p.now.nodes }
+#[tactic(auto, using(crate::proofs::NameLists::external_from, crate::proofs::NameLists::external_past))]
+fn is_external_node(nodes: &[NodeInfo], key: &str) -> bool
+    ensures { result ≡ is_among key.now (node_names (filter is_external nodes.now)) }
 {
-    p.nodes
-        .iter()
-        .any(|node| node.body.is_none() && key == node.name.as_str())
-}
-
-#[tactic(auto, using(crate::proofs::NameLists::some_names_any))]
-fn is_external_node(p: &Typed, key: &str) -> bool
-    ensures { result ≡ is_among key.now (node_names (filter is_external p.now.nodes)) }
-{
-    any_external(p, key)
+    for node in nodes {
+        if is_external_as(node, key) {
+            return true;
+        }
+    }
+    false
 }
 
 /// Whether each key is the name of a plant.
@@ -81,7 +87,7 @@ pub(crate) fn has_only_plants(p: &Typed, object: &Map<String, Value>) -> bool
     ensures { result ≡ all_among (members_view object.now.entries) (plant_names p.now.plants) }
 {
     for (key, _value) in object.iter() {
-        if !is_plant(p, key.as_str()) {
+        if !is_plant(&p.plants, key.as_str()) {
             return false;
         }
     }
@@ -93,7 +99,7 @@ pub(crate) fn has_only_disturbed(p: &Typed, object: &Map<String, Value>) -> bool
     ensures { result ≡ all_among (members_view object.now.entries) (plant_names (filter has_noise p.now.plants)) }
 {
     for (key, _value) in object.iter() {
-        if !is_disturbed(p, key.as_str()) {
+        if !is_disturbed(&p.plants, key.as_str()) {
             return false;
         }
     }
@@ -105,7 +111,7 @@ pub(crate) fn has_only_external(p: &Typed, object: &Map<String, Value>) -> bool
     ensures { result ≡ all_among (members_view object.now.entries) (node_names (filter is_external p.now.nodes)) }
 {
     for (key, _value) in object.iter() {
-        if !is_external_node(p, key.as_str()) {
+        if !is_external_node(&p.nodes, key.as_str()) {
             return false;
         }
     }

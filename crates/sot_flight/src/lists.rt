@@ -35,7 +35,6 @@ fn number_in_of(alloc: Global, range: &Interval, value: &Value) -> Result<i64, J
     }
 }
 
-#[tactic(auto, using(sot_cert::proofs::Lists::goes_on, sot_cert::proofs::Lists::ends, sot_cert::proofs::Lists::is_done))]
 fn each_in(alloc: Global, ranges: &[Interval], list: &Vec<Value>) -> Result<Vec<i64>, JsonFail>
     requires { vec_len list.now ≡ length ranges.now }
     ensures { Gives (λ x. x.items) result (each_after (number_at ranges.now) [] (items_view list.now.items)) }
@@ -68,7 +67,6 @@ pub(crate) fn numbers_in_of(
     each_in(alloc, ranges, list)
 }
 
-#[tactic(auto, using(sot_cert::proofs::Lists::goes_on, sot_cert::proofs::Lists::ends, sot_cert::proofs::Lists::is_done))]
 fn each_number(alloc: Global, list: &Vec<Value>) -> Result<Vec<i64>, JsonFail>
     ensures { Gives (λ x. x.items) result (each number (items_view list.now.items)) }
 {
@@ -96,7 +94,6 @@ pub(crate) fn numbers_of(alloc: Global, width: usize, value: &Value) -> Result<V
     each_number(alloc, list)
 }
 
-#[tactic(auto, using(crate::proofs::RowLists::rows_go_on, crate::proofs::RowLists::rows_end, crate::proofs::RowLists::rows_done))]
 fn each_row(
     alloc: Global,
     ranges: &[Interval],
@@ -146,7 +143,6 @@ fn slot_of(alloc: Global, value: &Value) -> Result<Option<i64>, JsonFail>
     }
 }
 
-#[tactic(auto, using(sot_cert::proofs::Lists::goes_on, sot_cert::proofs::Lists::ends, sot_cert::proofs::Lists::is_done))]
 fn each_slot(alloc: Global, list: &Vec<Value>) -> Result<Vec<Option<i64>>, JsonFail>
     ensures { Gives (λ x. x.items) result (each slot (items_view list.now.items)) }
 {
@@ -174,7 +170,6 @@ fn draft_of(alloc: Global, size: usize, value: &Value) -> Result<Vec<Option<i64>
     each_slot(alloc, list)
 }
 
-#[tactic(auto, using(crate::proofs::RowLists::rows_go_on, crate::proofs::RowLists::rows_end, crate::proofs::RowLists::rows_done))]
 fn each_draft(
     alloc: Global,
     size: usize,

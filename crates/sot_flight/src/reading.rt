@@ -21,9 +21,7 @@ use crate::sway::Sway;
 use crate::sways::sways_at;
 use serde_json::{Map, Value};
 use sot_box::Point;
-use sot_cert::{
-    JsonFail, JsonKind, fault_at, fault_under, has_only, member_of, value_of, whole_of,
-};
+use sot_cert::{JsonFail, JsonKind, fault_at, has_only, needed, part_of, value_of, whole_of};
 use sot_lang::Typed;
 use std::alloc::Global;
 
@@ -36,17 +34,12 @@ const EVENT_LIMIT: u128 = 200_000;
 
 const NUMBER_LIMIT: u128 = 1_000_000;
 
-#[tactic(auto, unfolding(sot_cert::specs::Json::at), using(sot_cert::proofs::Faults::at_fails, sot_cert::proofs::Faults::at_missing))]
+#[tactic(auto, unfolding(sot_cert::specs::Json::at), using(sot_cert::proofs::Parts::found_there, sot_cert::proofs::Parts::lacking))]
 fn format_at(alloc: Global, object: &Map<String, Value>) -> Result<i64, JsonFail>
     ensures { Gives (λ x. x) result (at (codes "format") (whole (pos 1) (pos 1)) (members_view object.now.entries)) }
 {
-    let Some(value) = member_of(object, "format") else {
-        return Err(fault_under(alloc, "format", fault_at(alloc, JsonKind::Missing)));
-    };
-    match whole_of(alloc, 1, 1, value) {
-        Ok(format) => Ok(format),
-        Err(fail) => Err(fault_under(alloc, "format", fail)),
-    }
+    let value = needed(alloc, object, "format")?;
+    part_of(alloc, "format", whole_of(alloc, 1, 1, value))
 }
 
 // The flight of these parts, with its counts.

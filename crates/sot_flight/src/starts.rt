@@ -11,11 +11,11 @@ use crate::keys::has_only_plants;
 use crate::lists::numbers_of;
 use serde_json::{Map, Value};
 use sot_box::Point;
-use sot_cert::{JsonFail, JsonKind, fault_at, fault_under, member_of};
+use sot_cert::{JsonFail, JsonKind, fault_at, needed, part_of};
 use sot_lang::{PlantInfo, Typed};
 use std::alloc::Global;
 
-#[tactic(auto, unfolding(sot_cert::specs::Json::at), using(sot_cert::proofs::Faults::at_fails, sot_cert::proofs::Faults::at_missing))]
+#[tactic(auto, unfolding(sot_cert::specs::Json::at), using(sot_cert::proofs::Parts::found_there, sot_cert::proofs::Parts::lacking))]
 fn numbers_at(
     alloc: Global,
     name: &str,
@@ -24,13 +24,8 @@ fn numbers_at(
 ) -> Result<Vec<i64>, JsonFail>
     ensures { Gives (λ v. v.items) result (at name.now (numbers width) (members_view object.now.entries)) }
 {
-    let Some(value) = member_of(object, name) else {
-        return Err(fault_under(alloc, name, fault_at(alloc, JsonKind::Missing)));
-    };
-    match numbers_of(alloc, width, value) {
-        Ok(numbers) => Ok(numbers),
-        Err(fail) => Err(fault_under(alloc, name, fail)),
-    }
+    let value = needed(alloc, object, name)?;
+    part_of(alloc, name, numbers_of(alloc, width, value))
 }
 
 // The point of a plant.
@@ -49,7 +44,6 @@ fn point_of(
     }
 }
 
-#[tactic(auto, using(crate::proofs::ForEach::found_on, crate::proofs::ForEach::found_end, crate::proofs::ForEach::found_all))]
 fn points_of(alloc: Global, p: &Typed, object: &Map<String, Value>) -> Result<Vec<Point>, JsonFail>
     ensures { Gives (λ v. v.items) result (for_each_after (λ done. point_at (members_view object.now.entries)) [] p.now.plants) }
 {
@@ -78,7 +72,7 @@ fn start_of(alloc: Global, p: &Typed, value: &Value) -> Result<Vec<Point>, JsonF
 }
 
 /// The point of each plant, in declared order.
-#[tactic(auto, unfolding(sot_cert::specs::Json::at), using(sot_cert::proofs::Faults::at_fails, sot_cert::proofs::Faults::at_missing))]
+#[tactic(auto, unfolding(sot_cert::specs::Json::at), using(sot_cert::proofs::Parts::found_there, sot_cert::proofs::Parts::lacking))]
 pub(crate) fn start_at(
     alloc: Global,
     p: &Typed,
@@ -86,11 +80,6 @@ pub(crate) fn start_at(
 ) -> Result<Vec<Point>, JsonFail>
     ensures { Gives (λ v. v.items) result (at (codes "start") (start p.now) (members_view object.now.entries)) }
 {
-    let Some(value) = member_of(object, "start") else {
-        return Err(fault_under(alloc, "start", fault_at(alloc, JsonKind::Missing)));
-    };
-    match start_of(alloc, p, value) {
-        Ok(found) => Ok(found),
-        Err(fail) => Err(fault_under(alloc, "start", fail)),
-    }
+    let value = needed(alloc, object, "start")?;
+    part_of(alloc, "start", start_of(alloc, p, value))
 }

@@ -15,7 +15,7 @@ use crate::lists::rows_in_of;
 use crate::ranges::bounds_of;
 use crate::sway::{Sway, SwayKind};
 use serde_json::{Map, Value};
-use sot_cert::{JsonFail, JsonKind, fault_at, fault_under, has_only, member_of};
+use sot_cert::{JsonFail, JsonKind, fault_at, has_only, needed, part_of};
 use sot_lang::{PlantInfo, Typed};
 use std::alloc::Global;
 
@@ -39,20 +39,15 @@ fn kind_of(alloc: Global, value: &Value) -> Result<SwayKind, JsonFail>
     }
 }
 
-#[tactic(auto, unfolding(sot_cert::specs::Json::at), using(sot_cert::proofs::Faults::at_fails, sot_cert::proofs::Faults::at_missing))]
+#[tactic(auto, unfolding(sot_cert::specs::Json::at), using(sot_cert::proofs::Parts::found_there, sot_cert::proofs::Parts::lacking))]
 fn kind_at(alloc: Global, object: &Map<String, Value>) -> Result<SwayKind, JsonFail>
     ensures { Gives (λ k. k) result (at (codes "kind") sway_kind (members_view object.now.entries)) }
 {
-    let Some(value) = member_of(object, "kind") else {
-        return Err(fault_under(alloc, "kind", fault_at(alloc, JsonKind::Missing)));
-    };
-    match kind_of(alloc, value) {
-        Ok(kind) => Ok(kind),
-        Err(fail) => Err(fault_under(alloc, "kind", fail)),
-    }
+    let value = needed(alloc, object, "kind")?;
+    part_of(alloc, "kind", kind_of(alloc, value))
 }
 
-#[tactic(auto, unfolding(sot_cert::specs::Json::at), using(sot_cert::proofs::Faults::at_fails, sot_cert::proofs::Faults::at_missing))]
+#[tactic(auto, unfolding(sot_cert::specs::Json::at), using(sot_cert::proofs::Parts::found_there, sot_cert::proofs::Parts::lacking))]
 fn rows_at(
     alloc: Global,
     plant: &PlantInfo,
@@ -61,14 +56,9 @@ fn rows_at(
     requires { HasNarrowNoise plant.now }
     ensures { Gives (λ v. map (λ row. row.items) v.items) result (at (codes "values") (rows_in (bounds plant.now)) (members_view object.now.entries)) }
 {
-    let Some(value) = member_of(object, "values") else {
-        return Err(fault_under(alloc, "values", fault_at(alloc, JsonKind::Missing)));
-    };
+    let value = needed(alloc, object, "values")?;
     let ranges = bounds_of(alloc, plant)?;
-    match rows_in_of(alloc, &ranges, value) {
-        Ok(rows) => Ok(rows),
-        Err(fail) => Err(fault_under(alloc, "values", fail)),
-    }
+    part_of(alloc, "values", rows_in_of(alloc, &ranges, value))
 }
 
 #[tactic(auto, unfolding(crate::specs::FlightFormat::sway_as))]
@@ -124,7 +114,7 @@ fn one_sway(alloc: Global, plant: &PlantInfo, value: &Value) -> Result<Sway, Jso
     sway_as_kind(alloc, plant, object, kind)
 }
 
-#[tactic(auto, unfolding(sot_cert::specs::Json::at), using(sot_cert::proofs::Faults::at_fails, sot_cert::proofs::Faults::at_missing))]
+#[tactic(auto, unfolding(sot_cert::specs::Json::at), using(sot_cert::proofs::Parts::found_there, sot_cert::proofs::Parts::lacking))]
 fn sway_under(
     alloc: Global,
     plant: &PlantInfo,
@@ -134,13 +124,8 @@ fn sway_under(
     ensures { Gives sway_of result (at plant.now.name (sway_says plant.now) (members_view object.now.entries)) }
 {
     let name = plant.name.as_str();
-    let Some(value) = member_of(object, name) else {
-        return Err(fault_under(alloc, name, fault_at(alloc, JsonKind::Missing)));
-    };
-    match one_sway(alloc, plant, value) {
-        Ok(sway) => Ok(sway),
-        Err(fail) => Err(fault_under(alloc, name, fail)),
-    }
+    let value = needed(alloc, object, name)?;
+    part_of(alloc, name, one_sway(alloc, plant, value))
 }
 
 // The sway of a plant; without disturbances it is still.
@@ -159,7 +144,6 @@ fn sway_where(
     }
 }
 
-#[tactic(auto, using(crate::proofs::ForEach::kept_on, crate::proofs::ForEach::found_all, crate::proofs::Fitting::narrow_noise))]
 fn each_sway(alloc: Global, p: &Typed, object: &Map<String, Value>) -> Result<Vec<Sway>, JsonFail>
     ensures { Gives (λ v. map sway_of v.items) result (for_each_after (λ done. sway_at_says (members_view object.now.entries)) [] p.now.plants) }
 {
@@ -188,7 +172,7 @@ fn sways_of(alloc: Global, p: &Typed, value: &Value) -> Result<Vec<Sway>, JsonFa
 }
 
 /// A sway for each plant, in declared order.
-#[tactic(auto, unfolding(sot_cert::specs::Json::at), using(sot_cert::proofs::Faults::at_fails, sot_cert::proofs::Faults::at_missing))]
+#[tactic(auto, unfolding(sot_cert::specs::Json::at), using(sot_cert::proofs::Parts::found_there, sot_cert::proofs::Parts::lacking))]
 pub(crate) fn sways_at(
     alloc: Global,
     p: &Typed,
@@ -196,11 +180,6 @@ pub(crate) fn sways_at(
 ) -> Result<Vec<Sway>, JsonFail>
     ensures { Gives (λ v. map sway_of v.items) result (at (codes "sway") (sways_say p.now) (members_view object.now.entries)) }
 {
-    let Some(value) = member_of(object, "sway") else {
-        return Err(fault_under(alloc, "sway", fault_at(alloc, JsonKind::Missing)));
-    };
-    match sways_of(alloc, p, value) {
-        Ok(found) => Ok(found),
-        Err(fail) => Err(fault_under(alloc, "sway", fail)),
-    }
+    let value = needed(alloc, object, "sway")?;
+    part_of(alloc, "sway", sways_of(alloc, p, value))
 }

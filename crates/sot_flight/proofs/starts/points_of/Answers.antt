@@ -1,8 +1,10 @@
-use Rattle.std.proofs.Common.{◌≡◌, ◌<◌, get_or, length, ap, ◌∙◌, arith}
+use Rattle.std.proofs.Common.{◌≡◌, ◌<◌, ◌+◌, ℤ, List, [], get_or, length, drop, refl, sym, ap, subst, ◌∙◌, arith}
+use Rattle.std.proofs.lemmas.Option.{slice_get_read}
 use Rattle.serde_json.specs.View.{members_view}
 use Rattle.sot_lang.specs.Tables.{Tables}
+use Rattle.sot_flight.specs.ListForms.{for_each_after}
 use Rattle.sot_flight.specs.FlightFormat.{point_at}
-use Rattle.sot_flight.proofs.ForEach.{found_end}
+use Rattle.sot_flight.proofs.ForEach.{found_on, found_end, found_all}
 use Rattle.sot_flight.proofs.starts.points_of.Goals as goal
 
 pub returns-in-Err : goal.returns-in-Err
@@ -11,3 +13,27 @@ returns-in-Err c =
     let e : c.deref-plant-items.result.now ≡ c.args.p.now.plants = c.deref-plant-items.ensures.value ∙ ap (λ (t : Tables). t.plants) c.p.view_is in
     let lt : c.loop-plant.plant-index < length c.args.p.now.plants = omega (arith, c.loop-plant-test.true, ap length e) in
     found_end (λ done. point_at (members_view c.args.object.now.entries)) l.found.items c.args.p.now.plants l.plant-index c.plant-item.result c.in-Err.fail _ lt (c.plant-item.is ∙ ap (λ xs. get_or xs c.loop-plant.plant-index c.plant-item.result) e) c.in-Err.ensures l.invariant
+
+pub loop-plant-preserved : goal.loop-plant-preserved
+loop-plant-preserved c =
+    let l = c.loop-plant in
+    let f = λ (done : List (List ℤ)). point_at (members_view c.args.object.now.entries) in
+    let plants = c.args.p.now.plants in
+    let e : c.deref-plant-items.result.now ≡ plants = c.deref-plant-items.ensures.value ∙ ap (λ (t : Tables). t.plants) c.p.view_is in
+    let lt : c.loop-plant.plant-index < length plants = omega (arith, c.loop-plant-test.true, ap length e) in
+    let on = found_on f l.found.items plants l.plant-index c.plant-item.result c.in-Ok.point _ lt (c.plant-item.is ∙ ap (λ xs. get_or xs c.loop-plant.plant-index c.plant-item.result) e) c.in-Ok.ensures l.invariant in
+    subst (λ (points : List (List ℤ)). for_each_after f points (drop (c.loop-plant.plant-index + 1) plants) ≡ for_each_after f [] plants) (sym c.in_ok-push-in-Ok.ensures.items) on
+
+pub returns : goal.returns
+returns c =
+    let l = c.loop-plant in
+    let e : c.deref-plant-items.result.now ≡ c.args.p.now.plants = c.deref-plant-items.ensures.value ∙ ap (λ (t : Tables). t.plants) c.p.view_is in
+    found_all (λ done. point_at (members_view c.args.object.now.entries)) l.found.items c.args.p.now.plants l.plant-index _ (omega (arith, c.loop-plant-test.false, ap length e)) l.invariant
+
+pub point_of-requires : goal.point_of-requires
+point_of-requires c =
+    let items = c.deref-plant-items.ensures.value in
+    let lt : c.loop-plant.plant-index < length c.p.inside.plants.items = omega (arith, c.loop-plant-test.true, ap length items) in
+    let at = slice_get_read c.p.inside.plants.items _ c.loop-plant.plant-index _ refl lt (c.plant-item.is ∙ ap (λ xs. get_or xs c.loop-plant.plant-index c.plant-item.result) items) in
+    let rules = c.p.invariant.plants c.loop-plant.plant-index _ at in
+    (rules.some_state, rules.states)
