@@ -44,7 +44,8 @@ pub(crate) fn take_in_step<'t, 'a, R: Wait>(
     let mut held = turn.take(rt, pass);
     let fired = held.lend().fired(node);
     if fired as usize != drafts.len() {
-        turn.give(held);
+        // Kept to the end that never comes: to let a pass go is dear to prove.
+        let _pass = turn.give(held);
         stop(rt);
         unreachable!()
     }

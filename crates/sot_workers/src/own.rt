@@ -38,6 +38,20 @@ fn fire_own<R: Wait>(rt: &R, board: &mut Board<'_>, lists: &mut Vec<NodeList>, n
     lists[node as usize].append(rt, receipt.draft);
 }
 
+// A node that the caller fires does so if it is left.
+fn fire_if_own<R: Wait>(rt: &R, board: &mut Board<'_>, lists: &mut Vec<NodeList>, node: u32)
+    requires lists { KeepsLists board.old lists.old.items }
+    requires there { node < length board.old.accepted.program.nodes }
+    ensures same { IsSameInstant board.old board.new }
+    ensures goes_on { IsPrefix board.old.entries board.new.entries }
+    ensures lists { KeepsLists board.new lists.new.items }
+{
+    board.is_standing();
+    if is_own(board.flight(), node) && board.due(node) {
+        fire_own(rt, board, lists, node);
+    }
+}
+
 // The nodes that the caller fires and that are left do so, in declared order.
 fn fire_all_own<R: Wait>(rt: &R, board: &mut Board<'_>, lists: &mut Vec<NodeList>)
     requires lists { KeepsLists board.old lists.old.items }
@@ -45,13 +59,9 @@ fn fire_all_own<R: Wait>(rt: &R, board: &mut Board<'_>, lists: &mut Vec<NodeList
     ensures goes_on { IsPrefix board.old.entries board.new.entries }
     ensures lists { KeepsLists board.new lists.new.items }
 {
-    let flight = board.flight();
     let count = board.typed().nodes.len() as u32;
-    board.is_standing();
     for node in 0..count {
-        if is_own(flight, node) && board.due(node) {
-            fire_own(rt, board, lists, node);
-        }
+        fire_if_own(rt, board, lists, node);
     }
 }
 

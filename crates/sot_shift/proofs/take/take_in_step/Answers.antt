@@ -7,8 +7,8 @@ use Rattle.sot_board.specs.Versions.{drafts_of}
 use Rattle.sot_shift.proofs.Firing.{in_step}
 use Rattle.sot_shift.proofs.take.take_in_step.Goals as goal
 
-pub give-requires-clause-goes_on : goal.give-requires-clause-goes_on
-give-requires-clause-goes_on g c = ([], ap (λ b. b.entries) c.lend.ensures.value ∙ sym c.take-held.ensures.held_seen ∙ sym (append-nil _))
+pub give-pass-requires-clause-goes_on : goal.give-pass-requires-clause-goes_on
+give-pass-requires-clause-goes_on g c = ([], ap (λ b. b.entries) c.lend.ensures.value ∙ sym c.take-held.ensures.held_seen ∙ sym (append-nil _))
 
 pub returns-clause-in_step : goal.returns-clause-in_step
 returns-clause-in_step g c =

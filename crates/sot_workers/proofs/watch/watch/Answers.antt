@@ -1,4 +1,21 @@
+use Rattle.std.proofs.Common.{◌∙◌, refl, sym, subst}
+use Rattle.std.proofs.lemmas.Option.{same_Some}
+use Rattle.sot_tube.specs.Admitted.{Admitted}
+use Rattle.sot_flight.specs.Plans.{Plan}
+use Rattle.sot_turn.specs.Passes.{pass_ground, pass_seen}
+use Rattle.sot_workers.specs.Sent.{IsCallers}
 use Rattle.sot_workers.proofs.watch.watch.Goals as goal
+
+pub loop-init : goal.loop-init
+loop-init g c = record {
+  lock = refl;
+  ground = refl;
+  callers = λ a f is.
+      let p = c.requires.callers in
+      subst (λ (x : Admitted × Plan). IsCallers x.0 x.1 (pass_ground c.args.pass) (pass_seen c.args.pass) c.args.lists.now.items)
+      (same_Some (p.0, p.1) (a, f) (sym p.2.ground_is ∙ is)) p.2;
+  places = λ a f guests each. each;
+}
 
 pub take_own_turn-back-requires-clause-callers : goal.take_own_turn-back-requires-clause-callers
 take_own_turn-back-requires-clause-callers g c =
@@ -9,3 +26,14 @@ pub turn_each-requires : goal.turn_each-requires
 turn_each-requires g c =
     let p = c.requires.places in
     (p.0, p.1, p.2, c.loop.invariant.places p.0 p.1 p.2 p.3)
+
+pub loop-preserved : goal.loop-preserved
+loop-preserved g c =
+    let inv = c.loop.invariant in
+    let took = c.take_own_turn-back.ensures in
+    record {
+      lock = took.lock ∙ inv.lock;
+      ground = took.ground ∙ inv.ground;
+      callers = λ a f is. took.callers a f (inv.ground ∙ is);
+      places = λ a f guests each. c.turn_each.ensures a f guests (inv.places a f guests each);
+    }

@@ -1,0 +1,23 @@
+use Rattle.std.proofs.Common.{refl}
+use Rattle.sot_workers.proofs.Effects.{same_again}
+use Rattle.sot_workers.proofs.Histories.{goes_here, goes_further}
+use Rattle.sot_workers.proofs.own.fire_all_own.Goals as goal
+
+pub loop-node-init : goal.loop-node-init
+loop-node-init g c = record {
+  same = record { accepted = refl; plan = refl; time = refl };
+  goes_on = goes_here c.args.board.now.entries;
+  lists = c.requires.lists;
+}
+
+pub loop-node-preserved : goal.loop-node-preserved
+loop-node-preserved g c =
+    let start = c.args.board.now in
+    let old = c.loop-node.board in
+    let inv = c.loop-node.invariant in
+    let did = c.fire_if_own.ensures in
+    record {
+      same = same_again start old c.fire_if_own.new.board inv.same did.same;
+      goes_on = goes_further start.entries old.entries c.fire_if_own.new.board.entries inv.goes_on did.goes_on;
+      lists = did.lists;
+    }
