@@ -101,10 +101,10 @@ drop-take_to xs i n le =
     ap (λ k. drop i (take k xs)) sum ∙ drop-take i (n - i) xs
 
 -- how far a number goes behind its whole part
-point_len : ℕ → ℕ
+unfoldable pub point_len : ℕ → ℕ
 point_len d = cond (d == 0) 0 (1 + d)
 
-point_len_some : (e : ℕ) → point_len (suc e) ≡ suc (suc e)
+pub point_len_some : (e : ℕ) → point_len (suc e) ≡ suc (suc e)
 unfolding point_len
 point_len_some e =
     let some : suc e == 0 ≡ false = grind (arith, nat_tests) in
@@ -137,7 +137,7 @@ decimals_within (y ∷ ys) =
           subst (λ (d : ℕ). point_len d ≤ length (y ∷ ys)) (sym is) (omega arith)
     ]
 
-number_len_is : (xs : List ℕ) → number_len xs ≡ digits_len xs + point_len (decimals_of xs)
+pub number_len_is : (xs : List ℕ) → number_len xs ≡ digits_len xs + point_len (decimals_of xs)
 unfolding point_len
 number_len_is xs = grind (arith, nat_tests)
 

@@ -1,5 +1,5 @@
 -- The next token, by what stands at the front behind blanks and comments.
-use Rattle.std.proofs.Common.{◌≡◌, ℕ, ◌+◌, ◌-◌, List, false, length, take, drop, Option, Some, Result, Ok, sym, ap, ◌∙◌, arith}
+use Rattle.std.proofs.Common.{◌≡◌, ℕ, ◌+◌, ◌-◌, List, length, take, drop, Option, Some, Result, Ok, sym, ap, ◌∙◌, arith}
 use Rattle.std.proofs.lemmas.List.{take_rest}
 use Rattle.sot_text.specs.declared.token.Kind.{Kind}
 use Rattle.sot_text.specs.declared.token.LexFault.{LexFault}
@@ -8,15 +8,17 @@ use Rattle.sot_text.specs.declared.place.Place.{Place}
 use Rattle.sot_text.specs.declared.lexeme.Front.{Front}
 use Rattle.sot_text.specs.declared.lexeme.Front.TheVariants as fronts
 use Rattle.sot_text.specs.Place.{after, begin}
-use Rattle.sot_text.specs.Lexeme.{skipped, front}
-use Rattle.sot_text.specs.Reading.{Reading, Lexeme, lexed, next_lexeme, span}
+use Rattle.sot_text.specs.Lexeme.{front}
+use Rattle.sot_text.specs.Inside.{further}
+use Rattle.sot_text.specs.Reading.{Reading, Lexeme, lexed, next_from, next_lexeme, span}
+use Rattle.sot_text.proofs.Starts.{after_on}
+use Rattle.sot_text.proofs.TokenPlaces.{token_on}
 
-pub next_at : (r : Reading) (bytes : List ℕ) (at skip : ℕ) (f : Front) → r ≡ record { bytes = bytes; at = at } → skip ≡ skipped false (take (length bytes - at) (drop at bytes)) → f ≡ front (take (length bytes - (at + skip)) (drop (at + skip) bytes)) → lexed bytes (at + skip) f ≡ next_lexeme r.bytes r.at
-next_at r bytes at skip f seen skip_is front_is =
-    let here : skip ≡ skipped false (drop at bytes) = skip_is ∙ ap (skipped false) (take_rest bytes at) in
-    let there : f ≡ front (drop (at + skip) bytes) = front_is ∙ ap front (take_rest bytes (at + skip)) in
-    ap (lexed bytes (at + skip)) there
-    ∙ ap (λ (k : ℕ). lexed bytes (at + k) (front (drop (at + k) bytes))) here
+pub next_at : (r : Reading) (bytes : List ℕ) (at from : ℕ) (f : Front) → r ≡ record { bytes = bytes; at = at } → from ≡ next_from bytes at → f ≡ front (take (length bytes - from) (drop from bytes)) → lexed bytes from f ≡ next_lexeme r.bytes r.at
+next_at r bytes at from f seen from_is front_is =
+    let there : f ≡ front (drop from bytes) = front_is ∙ ap front (take_rest bytes from) in
+    ap (lexed bytes from) there
+    ∙ ap (λ (k : ℕ). lexed bytes k (front (drop k bytes))) from_is
     ∙ ap (λ (x : Reading). next_lexeme x.bytes x.at) (sym seen)
 
 pub span_is : (bytes : List ℕ) (from len : ℕ) (p : Place) (s : Span) → p ≡ after begin (take from bytes) → s ≡ record { line = p.line; column = p.column; from = from; to = from + len } → s ≡ span bytes from len
@@ -29,3 +31,9 @@ pub token_is : (bytes : List ℕ) (from len : ℕ) (kind : Kind) (s : Span) → 
 token_is bytes from len kind s is =
     let count : from + len - from ≡ len = omega arith in
     ap (λ (n : ℕ). token_of kind (take n (drop from bytes)) s) count ∙ ap (token_of kind (take len (drop from bytes))) is
+
+-- the place behind a token
+pub place_behind : (bytes : List ℕ) (from len : ℕ) (kind : Kind) (p q : Place) → p ≡ after begin (take from bytes) → q ≡ further p len → fronts.Token kind len ≡ front (take (length bytes - from) (drop from bytes)) → q ≡ after begin (take (from + len) bytes)
+place_behind bytes from len kind p q here is token =
+    let there : front (drop from bytes) ≡ fronts.Token kind len = sym (token ∙ ap front (take_rest bytes from)) in
+    after_on bytes from len p q here (token_on p (drop from bytes) kind len there ∙ sym is)

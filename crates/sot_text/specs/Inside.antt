@@ -1,9 +1,10 @@
 -- What the lexer's own functions promise each other.
-use Rattle.std.specs.Prelude.{ℕ, ◌<◌, List, [], ◌∷◌, Bool, ◌==◌, ◌||◌, ◌&&◌, if◌then◌else◌}
+use Rattle.std.specs.Prelude.{ℕ, ◌+◌, ◌<◌, List, [], ◌∷◌, Bool, ◌==◌, ◌||◌, ◌&&◌, if◌then◌else◌}
 use Rattle.std.specs.List.{list_any}
+use Rattle.sot_text.specs.declared.place.Place.{Place}
 use Rattle.sot_text.specs.declared.lexeme.Front.{Front}
 use Rattle.sot_text.specs.declared.lexeme.Front.TheVariants.{End, Token, BadByte, NameLong, LiteralWide}
-use Rattle.sot_text.specs.Lexeme.{sign_characters}
+use Rattle.sot_text.specs.Lexeme.{is_blank, sign_characters}
 
 -- ':=', '..', '<=', '>=', '==' and '!='
 abbrev pub is_long_sign : ℕ → ℕ → Bool
@@ -33,3 +34,15 @@ IsSomeLen (Token kind len) = 0 < len
 IsSomeLen BadByte = Unit {0}
 IsSomeLen (NameLong len) = Unit {0}
 IsSomeLen (LiteralWide len) = Unit {0}
+
+-- the place behind so many bytes that end no line
+abbrev pub further : Place → ℕ → Place
+further p n = record { line = p.line; column = p.column + n }
+
+-- the place behind a line's end
+abbrev pub next_line : Place → Place
+next_line p = record { line = p.line + 1; column = 1 }
+
+-- a blank or a comment begins with this byte
+abbrev pub is_skipped : ℕ → Bool
+is_skipped b = is_blank b || b == 35

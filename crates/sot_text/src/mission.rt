@@ -4,6 +4,8 @@ ghost use Rattle.std.specs.Option.{option_map};
 ghost use Rattle.sot_text.specs.Sections.{without_last, title, place, fault_behind, needed, or_missing, unless, split_of, parts_of, answer_seen};
 ghost use Rattle.sot_text.specs.Dividing.{line_len, divided, begins_section, end_line, first_body, behind_first, IsRest};
 
+use crate::line::line_len;
+
 /// What a command needs of a mission beside its program: to check needs the certificate, to fly the flight too, and to replay
 /// the trace as well.
 #[derive(Clone, Copy, Debug, PartialEq, Eq)]
@@ -53,19 +55,6 @@ struct Taken<'a> {
     body: Option<&'a [u8]>,
     rest: &'a [u8],
     line: u32,
-}
-
-/// How many bytes the first line has, with its line end. The last line may have none.
-pub fn line_len(bytes: &[u8]) -> usize
-    ensures len { result ≡ line_len bytes.now }
-    ensures within { result ≤ length bytes.now }
-{
-    for (i, b) in bytes.iter().enumerate() {
-        if *b == b'\n' {
-            return i + 1;
-        }
-    }
-    bytes.len()
 }
 
 fn without_last<'a>(text: &'a [u8], end: u8) -> &'a [u8]

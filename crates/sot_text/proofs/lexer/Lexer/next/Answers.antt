@@ -1,24 +1,41 @@
-use Rattle.std.proofs.Common.{◌+◌, Err, length, sym, ap, ◌∙◌, arith}
+use Rattle.std.proofs.Common.{◌≤◌, ◌+◌, Err, length, sym, ap, ◌∙◌, arith}
 use Rattle.std.proofs.lemmas.List.{take_rest, length-drop}
 use Rattle.sot_text.specs.declared.token.Span.{Span}
 use Rattle.sot_text.specs.declared.token.LexFault.TheVariants as faults
 use Rattle.sot_text.specs.declared.lexeme.Front.TheVariants as fronts
 use Rattle.sot_text.specs.Reading.{Reading}
 use Rattle.sot_text.proofs.Aheads.{token_text}
-use Rattle.sot_text.proofs.Nexts.{next_at, span_is, token_is}
+use Rattle.sot_text.proofs.Starts.{column_at}
+use Rattle.sot_text.proofs.Nexts.{next_at, span_is, token_is, place_behind}
 use Rattle.sot_text.proofs.lexer.Lexer.next.Goals as goal
+
+pub further-self-inside-requires : goal.further-self-inside-requires
+further-self-inside-requires c =
+    let bytes = c.self.inside.bytes.now in
+    let from = c.next_start-start.result.at in
+    let column = column_at bytes from c.next_start-start.result.place c.next_start-start.ensures.place in
+    omega (arith, column, c.in-Token.ensures.within, ap length (take_rest bytes from), length-drop from bytes)
+
+pub invariant_of-self : goal.invariant_of-self
+invariant_of-self c =
+    let bytes = c.self.inside.bytes.now in
+    let from = c.next_start-start.result.at in
+    let len = c.in-Token.len in
+    let within : from + len ≤ length bytes = omega (arith, c.in-Token.ensures.within, ap length (take_rest bytes from), length-drop from bytes) in
+    let place = place_behind bytes from len c.in-Token.kind c.next_start-start.result.place c.further-self-inside.result c.next_start-start.ensures.place c.further-self-inside.ensures c.in-Token.ensures.front in
+    (within, c.self.invariant.1, place)
 
 pub returns-in-End-clause-next : goal.returns-in-End-clause-next
 returns-in-End-clause-next c =
-    next_at c.args.self.now c.self.inside.bytes.now c.self.inside.at c.skipped.result fronts.End (sym c.self.view_is) c.skipped.ensures.len c.in-End.ensures.front
+    next_at c.args.self.now c.self.inside.bytes.now c.self.inside.at c.next_start-start.result.at fronts.End (sym c.self.view_is) c.next_start-start.ensures.at c.in-End.ensures.front
 
 pub returns-in-Token-clause-next : goal.returns-in-Token-clause-next
 returns-in-Token-clause-next c =
     let bytes = c.self.inside.bytes.now in
-    let from = c.self.inside.at + c.skipped.result in
+    let from = c.next_start-start.result.at in
     let token = fronts.Token c.in-Token.kind c.in-Token.len in
-    token_is bytes from c.in-Token.len c.in-Token.kind c.span.result (span_is bytes from c.in-Token.len c.place_at-begin.result c.span.result c.place_at-begin.ensures c.span.ensures)
-    ∙ next_at c.args.self.now bytes c.self.inside.at c.skipped.result token (sym c.self.view_is) c.skipped.ensures.len c.in-Token.ensures.front
+    token_is bytes from c.in-Token.len c.in-Token.kind c.span.result (span_is bytes from c.in-Token.len c.next_start-start.result.place c.span.result c.next_start-start.ensures.place c.span.ensures)
+    ∙ next_at c.args.self.now bytes c.self.inside.at c.next_start-start.result.at token (sym c.self.view_is) c.next_start-start.ensures.at c.in-Token.ensures.front
 
 pub returns-in-Token-clause-bytes : goal.returns-in-Token-clause-bytes
 returns-in-Token-clause-bytes c = ap (λ (r : Reading). r.bytes) c.self.view_is
@@ -28,7 +45,7 @@ returns-in-Token-clause-at c = sym (ap (λ (s : Span). s.to) c.span.ensures)
 
 pub returns-in-Token-clause-whole : goal.returns-in-Token-clause-whole
 returns-in-Token-clause-whole c =
-    let from = c.self.inside.at + c.skipped.result in
+    let from = c.next_start-start.result.at in
     token_text c.self.inside.bytes.now _ c.in-Token.kind c.in-Token.len from _ (sym c.in-Token.ensures.front) (take_rest c.self.inside.bytes.now from) (omega arith)
 
 pub returns-in-Token-clause-forward : goal.returns-in-Token-clause-forward
@@ -38,26 +55,26 @@ returns-in-Token-clause-forward c =
 pub returns-in-Token-clause-within : goal.returns-in-Token-clause-within
 returns-in-Token-clause-within c =
     let bytes = c.self.inside.bytes.now in
-    let from = c.self.inside.at + c.skipped.result in
+    let from = c.next_start-start.result.at in
     omega (arith, c.in-Token.ensures.some, c.in-Token.ensures.within, ap length (take_rest bytes from), length-drop from bytes)
 
 pub returns-in-BadByte-clause-next : goal.returns-in-BadByte-clause-next
 returns-in-BadByte-clause-next c =
     let bytes = c.self.inside.bytes.now in
-    let from = c.self.inside.at + c.skipped.result in
-    ap (λ (at : Span). Err (faults.BadByte at)) (span_is bytes from 1 c.place_at-begin.result c.span-in-BadByte.result c.place_at-begin.ensures c.span-in-BadByte.ensures)
-    ∙ next_at c.args.self.now bytes c.self.inside.at c.skipped.result fronts.BadByte (sym c.self.view_is) c.skipped.ensures.len c.in-BadByte.ensures.front
+    let from = c.next_start-start.result.at in
+    ap (λ (at : Span). Err (faults.BadByte at)) (span_is bytes from 1 c.next_start-start.result.place c.span-in-BadByte.result c.next_start-start.ensures.place c.span-in-BadByte.ensures)
+    ∙ next_at c.args.self.now bytes c.self.inside.at c.next_start-start.result.at fronts.BadByte (sym c.self.view_is) c.next_start-start.ensures.at c.in-BadByte.ensures.front
 
 pub returns-in-NameLong-clause-next : goal.returns-in-NameLong-clause-next
 returns-in-NameLong-clause-next c =
     let bytes = c.self.inside.bytes.now in
-    let from = c.self.inside.at + c.skipped.result in
-    ap (λ (at : Span). Err (faults.NameLong at)) (span_is bytes from c.in-NameLong.len c.place_at-begin.result c.span-in-NameLong.result c.place_at-begin.ensures c.span-in-NameLong.ensures)
-    ∙ next_at c.args.self.now bytes c.self.inside.at c.skipped.result (fronts.NameLong c.in-NameLong.len) (sym c.self.view_is) c.skipped.ensures.len c.in-NameLong.ensures.front
+    let from = c.next_start-start.result.at in
+    ap (λ (at : Span). Err (faults.NameLong at)) (span_is bytes from c.in-NameLong.len c.next_start-start.result.place c.span-in-NameLong.result c.next_start-start.ensures.place c.span-in-NameLong.ensures)
+    ∙ next_at c.args.self.now bytes c.self.inside.at c.next_start-start.result.at (fronts.NameLong c.in-NameLong.len) (sym c.self.view_is) c.next_start-start.ensures.at c.in-NameLong.ensures.front
 
 pub returns-in-LiteralWide-clause-next : goal.returns-in-LiteralWide-clause-next
 returns-in-LiteralWide-clause-next c =
     let bytes = c.self.inside.bytes.now in
-    let from = c.self.inside.at + c.skipped.result in
-    ap (λ (at : Span). Err (faults.LiteralWide at)) (span_is bytes from c.in-LiteralWide.len c.place_at-begin.result c.span-in-LiteralWide.result c.place_at-begin.ensures c.span-in-LiteralWide.ensures)
-    ∙ next_at c.args.self.now bytes c.self.inside.at c.skipped.result (fronts.LiteralWide c.in-LiteralWide.len) (sym c.self.view_is) c.skipped.ensures.len c.in-LiteralWide.ensures.front
+    let from = c.next_start-start.result.at in
+    ap (λ (at : Span). Err (faults.LiteralWide at)) (span_is bytes from c.in-LiteralWide.len c.next_start-start.result.place c.span-in-LiteralWide.result c.next_start-start.ensures.place c.span-in-LiteralWide.ensures)
+    ∙ next_at c.args.self.now bytes c.self.inside.at c.next_start-start.result.at (fronts.LiteralWide c.in-LiteralWide.len) (sym c.self.view_is) c.next_start-start.ensures.at c.in-LiteralWide.ensures.front

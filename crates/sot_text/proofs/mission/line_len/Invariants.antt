@@ -1,6 +1,0 @@
-use Rattle.std.proofs.Common.{◌≡◌, ◌+◌, drop}
-use Rattle.sot_text.specs.Dividing.{line_len}
-use Rattle.sot_text.proofs.mission.line_len.Given as goal
-
-abbrev pub invariant-loop-i : goal.invariant-loop-i
-invariant-loop-i l = l.i + line_len (drop l.i l.bytes) ≡ line_len l.bytes
