@@ -15,7 +15,7 @@ use crate::operators::{Infix, Opening, opening_at, operator_at, tier_of};
 use crate::part::Part;
 use crate::tokens::Tokens;
 use sot_text::Token;
-use sot_tree::{Expr, Func, Ident, Lit, Op};
+use sot_tree::{Expr, FieldName, Func, Ident, Lit, Op};
 use std::alloc::Global;
 
 // The next token, whatever it is.
@@ -81,6 +81,7 @@ fn field(alloc: Global, tokens: &mut Tokens<'_>, first: Ident) -> Result<Part, F
 {
     expect_sign(tokens, b".")?;
     let field = name(alloc, tokens)?;
+    let field = FieldName::new(alloc, field)?;
     Ok(leaf(Expr::Ref {
         first,
         field: Some(field),

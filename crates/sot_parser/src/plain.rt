@@ -8,7 +8,7 @@ ghost use Rattle.sot_expression.specs.Returned.{Gives};
 
 use crate::held::Held;
 use sot_expression::{Fail, Tokens, expect_keyword, expect_sign, is_keyword, is_sign, name, tree};
-use sot_tree::{Ident, Stmt};
+use sot_tree::{FieldName, Stmt};
 use std::alloc::Global;
 
 #[tactic(auto, unfolding(crate::specs::StatementReaders::assign_at))]
@@ -27,16 +27,16 @@ fn assign(alloc: Global, tokens: &mut Tokens<'_>, room: u32) -> Result<Stmt, Fai
 }
 
 #[tactic(auto, unfolding(crate::specs::StatementReaders::field_at))]
-fn field(alloc: Global, tokens: &mut Tokens<'_>) -> Result<Option<Ident>, Fail>
+fn field(alloc: Global, tokens: &mut Tokens<'_>) -> Result<Option<FieldName>, Fail>
     ensures { Gives (λ field. field) result tokens.old tokens.new (field_at tokens.old.tokens) }
 {
     expect_sign(tokens, b".")?;
     let field = name(alloc, tokens)?;
-    Ok(Some(field))
+    Ok(Some(FieldName::new(alloc, field)?))
 }
 
 #[tactic(auto, unfolding(crate::specs::StatementReaders::dot_at))]
-fn optional_field(alloc: Global, tokens: &mut Tokens<'_>) -> Result<Option<Ident>, Fail>
+fn optional_field(alloc: Global, tokens: &mut Tokens<'_>) -> Result<Option<FieldName>, Fail>
     ensures { Gives (λ field. field) result tokens.old tokens.new (dot_at tokens.old.tokens) }
 {
     if is_sign(tokens, b".") {

@@ -1,5 +1,5 @@
 //! What stands between two words.
-ghost use Rattle.std.specs.Prelude.{◌≡◌, ◌==◌, ◌++◌, [], if◌then◌else◌, codes, OnOk, IfOk, replicate};
+ghost use Rattle.std.specs.Prelude.{◌≡◌, ◌==◌, ◌++◌, [], ◌∷◌, if◌then◌else◌, codes, OnOk, IfOk, replicate};
 ghost use Rattle.std.specs.String.{string_bytes};
 ghost use Rattle.sot_print.specs.Words.{blanks};
 
@@ -29,7 +29,20 @@ pub fn push_gap(out: &mut String, gap: Gap) -> Result<(), AllocError>
     match gap {
         Gap::Touching => Ok(()),
         Gap::Space => out.push_str(" "),
-        Gap::Line { indent } => {
+        Gap::Line { indent } => push_line(out, indent),
+    }
+}
+
+// A line end and so many spaces. Those of most lines are one piece.
+fn push_line(out: &mut String, indent: usize) -> Result<(), AllocError>
+    ensures { OnOk result (string_bytes out.new ≡ string_bytes out.old ++ 10 ∷ replicate indent 32) }
+{
+    match indent {
+        0 => out.push_str("\n"),
+        2 => out.push_str("\n  "),
+        4 => out.push_str("\n    "),
+        6 => out.push_str("\n      "),
+        _ => {
             out.push_str("\n")?;
             push_spaces(out, indent)
         }

@@ -6,7 +6,7 @@ ghost use Rattle.sot_print.specs.Leaves.{literal_words, ident_words, reference_w
 
 use crate::gap::{Gap, push_gap, push_word};
 use crate::numeral::push_numeral;
-use sot_tree::{Bounds, Const, Field, Ident, Lit, Scalar};
+use sot_tree::{Bounds, Const, Field, FieldName, Ident, Lit, Scalar};
 use std::alloc::AllocError;
 
 pub fn push_ident(out: &mut String, gap: Gap, ident: &Ident) -> Result<(), AllocError>
@@ -20,7 +20,7 @@ pub fn push_reference(
     out: &mut String,
     gap: Gap,
     first: &Ident,
-    field: &Option<Ident>,
+    field: &Option<FieldName>,
 ) -> Result<(), AllocError>
     ensures { OnOk result (string_bytes out.new ≡ string_bytes out.old ++ laid (reference_words gap first.now field.now)) }
 {
@@ -29,7 +29,7 @@ pub fn push_reference(
         None => Ok(()),
         Some(name) => {
             push_word(out, Gap::Touching, ".")?;
-            push_ident(out, Gap::Touching, name)
+            push_ident(out, Gap::Touching, name.ident())
         }
     }
 }

@@ -8,6 +8,10 @@ pub mod DeclarationFaults
 -- the least of a list
 pub mod Least
 pub mod FirstFault
+pub mod Behind
+pub mod Fronts
+pub mod BodiesBehind
+pub mod PlantsBehind
 -- how the walk notes it
 pub mod Loops
 pub mod Calls

@@ -1,5 +1,5 @@
 -- Names that were seen, as the keys of a set.
-use Rattle.std.proofs.Common.{◌≡◌, ◌∙◌, ℕ, ◌+◌, ◌<◌, ◌≤◌, List, [], ◌∷◌, ◌++◌, length, get_or, drop, Option, Bool, true, false, not, ◌||◌, if◌then◌else◌, map, fold, refl, sym, ap}
+use Rattle.std.proofs.Common.{◌≡◌, ◌∙◌, ℕ, ◌+◌, ◌<◌, ◌≤◌, List, [], ◌∷◌, ◌++◌, length, get_or, drop, Option, Bool, true, false, not, ◌||◌, if◌then◌else◌, map, fold, refl, sym, ap, arith}
 use Rattle.std.proofs.lemmas.List.{drop_all}
 use Rattle.std.specs.List.{list_any}
 use Rattle.std.specs.Str.{bytes_eq}
@@ -55,3 +55,9 @@ names_end f add xs i old c le inv = ap (λ z. fold add old (map f z)) (sym (drop
 pub noted_by : (added found : Bool) (first now : Option TypeFault) (i : Ident) → added ≡ not found → now ≡ least first (when (not added) i.at Twice) → now ≡ least first (when found i.at Twice)
 noted_by added true first now i e n = n ∙ ap (λ b. least first (when (not b) i.at Twice)) e
 noted_by added false first now i e n = n ∙ ap (λ b. least first (when (not b) i.at Twice)) e
+
+-- of fewer than two names none repeats
+pub few_repeat : {X : Type 0} (f : X → Ident) (xs : List X) → length xs < 2 → repeats [] (map f xs) ≡ []
+few_repeat f [] lt = refl
+few_repeat f (x ∷ []) lt = refl
+few_repeat f (x ∷ y ∷ xs) lt = absurd (omega (arith, lt))

@@ -33,6 +33,12 @@ sees_faults p q =
     flat_map (λ i. together (seen_lists p q i)) q.sees
     ++ (repeats [] q.sees ++ past 16 (places q.sees))
 
+-- of some of the inputs of a plant
+abbrev pub some_inputs_faults : Program → Plant → List Ident → List TypeFault
+some_inputs_faults p q names =
+    flat_map (input_faults p q) names
+    ++ (repeats [] names ++ passes (λ i. topic_size (meaning p i)) 8 0 names)
+
 abbrev pub disturbances_faults : Plant → List TypeFault
 disturbances_faults q =
     flat_map (λ f. together (noise_lists q f)) q.noise
@@ -48,6 +54,12 @@ abbrev pub writes_faults : Program → Node → List TypeFault
 writes_faults p n =
     flat_map (λ i. together (write_lists p n i)) n.writes
     ++ (repeats [] n.writes ++ passes (λ i. topic_size (meaning p i)) 8 0 n.writes)
+
+-- of some of the names that a node writes
+abbrev pub some_writes_faults : Program → Node → List Ident → List TypeFault
+some_writes_faults p n names =
+    flat_map (λ i. together (write_lists p n i)) names
+    ++ (repeats [] names ++ passes (λ i. topic_size (meaning p i)) 8 0 names)
 
 abbrev pub locals_faults : Node → List TypeFault
 locals_faults n =

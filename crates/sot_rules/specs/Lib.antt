@@ -23,5 +23,6 @@ pub mod Meanings
 pub mod Kinds
 pub mod Operands
 pub mod Groups
+pub mod Behind
 pub mod Reached
 pub mod Nexts

@@ -1,4 +1,5 @@
 //! Declarations: the faults of each kind, and of their parts.
+pub mod behind;
 pub mod kind;
 pub mod limit;
 pub mod module;

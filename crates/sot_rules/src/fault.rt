@@ -2,6 +2,7 @@
 ghost use Rattle.std.specs.Prelude.{◌≡◌, Bool, true};
 ghost use Rattle.sot_rules.specs.First.{number_of};
 ghost use Rattle.sot_rules.specs.Faults.{fault, is_before, least, when};
+ghost use Rattle.sot_rules.specs.Behind.{is_behind, StandsBehind};
 
 use sot_text::Span;
 use std::alloc::AllocError;
@@ -96,6 +97,23 @@ pub fn is_past(first: Option<TypeFault>, at: Span, kind: TypeKind) -> bool
     match first {
         None => false,
         Some(f) => !is_earlier(at, kind, f),
+    }
+}
+
+/// Whether a place stands behind another one.
+pub fn is_behind(at: Span, from: u32) -> bool
+    ensures { result ≡ is_behind from at }
+{
+    from < at.from
+}
+
+/// Whether a place stands behind the first fault, where there is one. Then no fault there is the first.
+pub fn stands_behind(first: Option<TypeFault>, at: Span) -> bool
+    ensures { result ≡ true → StandsBehind first at }
+{
+    match first {
+        None => false,
+        Some(f) => is_behind(at, f.at.from),
     }
 }
 

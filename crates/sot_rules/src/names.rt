@@ -1,4 +1,5 @@
 //! Names: what they mean, and which of them an owner may use.
+pub mod behind;
 pub mod gather;
 pub mod hasher;
 pub mod index;

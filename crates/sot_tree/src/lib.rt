@@ -1,10 +1,12 @@
 //! A program as it is written: names, operators, and the trees of declarations, statements and expressions.
 #![tactic(auto)]
 
+mod field_name;
 mod name;
 mod operator;
 mod tree;
 
+pub use field_name::FieldName;
 pub use name::Name;
 pub use operator::{Func, Op};
 pub use tree::{

@@ -1,5 +1,6 @@
 //! The trees of a program as it is written.
 
+use crate::field_name::FieldName;
 use crate::name::Name;
 use crate::operator::{Func, Op};
 use sot_text::Span;
@@ -161,7 +162,7 @@ pub enum Expr {
     /// A name, or a field of a topic or a state variable of a plant.
     Ref {
         first: Ident,
-        field: Option<Ident>,
+        field: Option<FieldName>,
     },
     Binary {
         op: Op,
@@ -210,7 +211,7 @@ pub enum Stmt {
     },
     Publish {
         topic: Ident,
-        field: Option<Ident>,
+        field: Option<FieldName>,
         value: Expr,
     },
     If {

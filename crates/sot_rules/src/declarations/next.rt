@@ -1,5 +1,6 @@
 //! The faults of a plant's `next` clauses.
-ghost use Rattle.std.specs.Prelude.{◌≡◌, [], length, map, flat_map, nat_lt, slice_get, OnOk};
+ghost use Rattle.std.specs.Prelude.{◌≡◌, [], true, length, map, flat_map, nat_lt, slice_get, OnOk};
+ghost use Rattle.sot_tree.specs.Trees.{Program};
 ghost use Rattle.sot_tree.specs.TreeViews.{next_view, plant_view};
 ghost use Rattle.sot_rules.specs.declared.fault.TypeKind.TheVariants.{NextMissing};
 ghost use Rattle.sot_rules.specs.Tests.{is_state};
@@ -9,8 +10,9 @@ ghost use Rattle.sot_rules.specs.Indexes.{program_in, IsIndex};
 ghost use Rattle.sot_rules.specs.Alike.{StandsFor, tables_in};
 ghost use Rattle.sot_rules.specs.Nexts.{next_faults_in, nexts_faults};
 
+use crate::declarations::behind::are_nexts_behind;
 use crate::expressions::expression::expression;
-use crate::fault::{TypeFault, TypeKind, note};
+use crate::fault::{TypeFault, TypeKind, is_behind, note};
 use crate::names::gather::add_states;
 use crate::names::hasher::hasher_of;
 use crate::names::index::Index;
@@ -96,6 +98,17 @@ fn note_nexts_by<'t, 'p>(
     Ok(())
 }
 
+// Whether the `next` clauses of a plant and its end stand behind the first fault. Then no fault of the clauses is the first.
+fn are_nexts_past(q: &PlantDecl, first: Option<TypeFault>) -> bool
+    ensures { result ≡ true → (p : Program)
+        → least first (nexts_faults p (plant_view q.now)) ≡ first }
+{
+    match first {
+        None => false,
+        Some(f) => is_behind(q.end, f.at.from) && are_nexts_behind(&q.next, f.at.from),
+    }
+}
+
 /// The `next` clauses of a plant: their expressions, and that there is one for each state variable, in order.
 pub fn note_nexts<'p>(
     alloc: Global,
@@ -107,6 +120,9 @@ pub fn note_nexts<'p>(
     ensures { OnOk result (first.new
         ≡ least first.old (nexts_faults (program_in index.now) (plant_view q.now))) }
 {
+    if are_nexts_past(q, *first) {
+        return Ok(());
+    }
     let mut used = no_names(alloc, index, plant_hasher(q));
     let mut given = no_names(alloc, index, hasher_of(&q.states));
     let noted = note_nexts_by(&mut used, &mut given, index, q, first);

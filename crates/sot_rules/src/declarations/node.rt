@@ -1,16 +1,19 @@
 //! The faults of a node.
-ghost use Rattle.std.specs.Prelude.{◌≡◌, ◌++◌, [], map, flat_map, OnOk};
+ghost use Rattle.std.specs.Prelude.{◌≡◌, ◌++◌, ◌&&◌, [], map, flat_map, true, false, IfOk, OnOk};
 ghost use Rattle.sot_tree.specs.TreeViews.{local_view, node_view};
 ghost use Rattle.sot_tree.specs.Trees.{Node};
 ghost use Rattle.sot_rules.specs.Faults.{least, together, read_faults, write_lists, local_lists, node_lists};
 ghost use Rattle.sot_rules.specs.SeenNames.{HasNames};
 ghost use Rattle.sot_rules.specs.Indexes.{program_in, IsIndex};
-ghost use Rattle.sot_rules.specs.Groups.{reads_faults, writes_faults, locals_faults};
+ghost use Rattle.sot_rules.specs.Groups.{reads_faults, writes_faults, some_writes_faults, locals_faults};
+ghost use Rattle.sot_rules.specs.Behind.{names_behind, locals_behind};
 
+use crate::declarations::behind::are_locals_behind;
 use crate::declarations::limit::{note_passes, note_past};
 use crate::declarations::range::{note_scalar, note_start, note_times};
-use crate::fault::{TypeFault, TypeKind, is_past, note};
-use crate::names::hasher::{NameHasher, NameKey, NameSet};
+use crate::fault::{TypeFault, TypeKind, is_past, note, stands_behind};
+use crate::names::behind::{FRONT, are_names_behind};
+use crate::names::hasher::{NameHasher, NameKey, NameSet, hasher_of};
 use crate::names::index::Index;
 use crate::names::meaning::{is_environment, is_neither, is_topic};
 use crate::names::repeats::{add_names, has_name, note_repeated_names, note_repeats, note_seen};
@@ -60,21 +63,26 @@ fn note_reads<'p>(
     Ok(())
 }
 
-// The hasher of the topics and plants that a node uses.
+// The hasher of the topics and plants that a node uses. What it writes is put beside them only where it has locals.
 fn used_hasher(n: &NodeDecl) -> NameHasher {
     let mut key = NameKey::new();
     key.take_all(&n.reads);
-    key.take_all(&n.writes);
+    if n.locals.len() > 0 {
+        key.take_all(&n.writes);
+    }
     key.hasher()
 }
 
-// A name among those that a node writes, where a set has those that it reads.
+// A name among those that a node writes, where a set has those that it reads. It is not looked up behind the first fault.
 #[tactic(auto, using(crate::proofs::Least::least_append))]
 fn note_write(index: &Index, reads: &NameSet, name: &Ident, first: &mut Option<TypeFault>)
     requires { IsIndex index.now }
     ensures { (n : Node) → HasNames reads.now.keys n.reads → first.new
         ≡ least first.old (together (write_lists (program_in index.now) n name.now)) }
 {
+    if stands_behind(*first, name.at) {
+        return;
+    }
     let meant = index.meaning(name);
     note(first, !is_topic(meant), name.at, TypeKind::Unknown);
     note(first, is_environment(meant), name.at, TypeKind::KindDiffers);
@@ -98,8 +106,54 @@ fn note_write_names(index: &Index, reads: &NameSet, names: &[Ident], first: &mut
     }
 }
 
+// Some of the names that a node writes, where a set has what it reads.
+fn note_some_writes(
+    alloc: Global,
+    index: &Index,
+    names: &[Ident],
+    reads: &NameSet,
+    first: &mut Option<TypeFault>,
+) -> Result<(), AllocError>
+    requires { IsIndex index.now }
+    ensures { OnOk result ((n : Node) → HasNames reads.now.keys n.reads → first.new
+        ≡ least first.old (some_writes_faults (program_in index.now) n names.now)) }
+{
+    note_write_names(index, reads, names, first);
+    note_repeated_names(alloc, names, first)?;
+    note_passes(index, false, 8, names, first);
+    Ok(())
+}
+
+// Where a node writes many names: what the first of them show, if the others stand behind their first fault.
+fn note_front_writes(
+    alloc: Global,
+    index: &Index,
+    names: &[Ident],
+    reads: &NameSet,
+    first: &mut Option<TypeFault>,
+) -> Result<bool, AllocError>
+    requires { IsIndex index.now }
+    ensures all { IfOk result (λ all. all ≡ true → (n : Node) → HasNames reads.now.keys n.reads
+        → first.new ≡ least first.old (some_writes_faults (program_in index.now) n names.now)) }
+    ensures none { IfOk result (λ all. all ≡ false → first.new ≡ first.old) }
+{
+    if names.len() <= FRONT {
+        return Ok(false);
+    }
+    let (front, rest) = names.split_at(FRONT);
+    let mut found = *first;
+    note_some_writes(alloc, index, front, reads, &mut found)?;
+    let Some(fault) = found else {
+        return Ok(false);
+    };
+    let settled = are_names_behind(rest, fault.at.from);
+    if settled {
+        *first = found;
+    }
+    Ok(settled)
+}
+
 // What a node writes, where a set has what it reads.
-#[tactic(auto, using(crate::proofs::Least::least_append))]
 fn note_writes(
     alloc: Global,
     index: &Index,
@@ -112,10 +166,10 @@ fn note_writes(
     ensures { OnOk result (first.new
         ≡ least first.old (writes_faults (program_in index.now) (node_view n.now))) }
 {
-    note_write_names(index, reads, &n.writes, first);
-    note_repeated_names(alloc, &n.writes, first)?;
-    note_passes(index, false, 8, &n.writes, first);
-    Ok(())
+    if note_front_writes(alloc, index, &n.writes, reads, first)? {
+        return Ok(());
+    }
+    note_some_writes(alloc, index, &n.writes, reads, first)
 }
 
 // A local, where a set has the names of the topics and plants that its node uses.
@@ -149,6 +203,9 @@ fn note_locals<'p>(
     requires { HasNames used.old.keys (node_view n.now).reads }
     ensures { OnOk result (first.new ≡ least first.old (locals_faults (node_view n.now))) }
 {
+    if n.locals.len() == 0 {
+        return Ok(());
+    }
     add_names(used, &n.writes)?;
     note_each_local(used, &n.locals, first);
     note_repeats(alloc, &n.locals, first)?;
@@ -177,6 +234,63 @@ fn note_uses_beside<'p>(
     Ok(())
 }
 
+// Some of the names that a node reads, by themselves.
+fn note_some_reads(
+    alloc: Global,
+    index: &Index,
+    names: &[Ident],
+    first: &mut Option<TypeFault>,
+) -> Result<(), AllocError>
+    requires { IsIndex index.now }
+    ensures { OnOk result (first.new
+        ≡ least first.old (reads_faults (program_in index.now) names.now)) }
+{
+    let mut used = IndexSet::with_hasher(alloc, hasher_of(names));
+    let noted = note_reads(index, &mut used, names, first);
+    drop(used);
+    noted
+}
+
+// Whether some of the names that a node reads, what it writes and its locals stand behind a place.
+fn are_uses_behind(n: &NodeDecl, reads: &[Ident], from: u32) -> bool
+    ensures { result ≡ (names_behind from reads.now && (names_behind from n.now.writes.items
+        && locals_behind from (node_view n.now).locals)) }
+{
+    are_names_behind(reads, from)
+        && (are_names_behind(&n.writes, from) && are_locals_behind(&n.locals, from))
+}
+
+// Where a node reads many names: what the first of them show, if the other things that it uses stand behind their first fault.
+// Then those need not be looked at.
+fn note_front(
+    alloc: Global,
+    index: &Index,
+    n: &NodeDecl,
+    first: &mut Option<TypeFault>,
+) -> Result<bool, AllocError>
+    requires { IsIndex index.now }
+    ensures all { IfOk result (λ all. all ≡ true → first.new
+        ≡ least first.old (reads_faults (program_in index.now) (node_view n.now).reads
+        ++ (writes_faults (program_in index.now) (node_view n.now)
+        ++ locals_faults (node_view n.now)))) }
+    ensures none { IfOk result (λ all. all ≡ false → first.new ≡ first.old) }
+{
+    if n.reads.len() <= FRONT {
+        return Ok(false);
+    }
+    let (front, rest) = n.reads.split_at(FRONT);
+    let mut found = *first;
+    note_some_reads(alloc, index, front, &mut found)?;
+    let Some(fault) = found else {
+        return Ok(false);
+    };
+    let settled = are_uses_behind(n, rest, fault.at.from);
+    if settled {
+        *first = found;
+    }
+    Ok(settled)
+}
+
 // What a node reads and writes, and its locals.
 fn note_uses(
     alloc: Global,
@@ -190,6 +304,9 @@ fn note_uses(
         ++ (writes_faults (program_in index.now) (node_view n.now)
         ++ locals_faults (node_view n.now)))) }
 {
+    if note_front(alloc, index, n, first)? {
+        return Ok(());
+    }
     let mut used = IndexSet::with_hasher(alloc, used_hasher(n));
     let noted = note_uses_beside(alloc, index, &mut used, n, first);
     drop(used);

@@ -1,18 +1,20 @@
 //! The faults of a plant.
-ghost use Rattle.std.specs.Prelude.{◌≡◌, ◌++◌, [], flat_map, OnOk};
+ghost use Rattle.std.specs.Prelude.{◌≡◌, ◌++◌, [], flat_map, true, false, IfOk, OnOk};
 ghost use Rattle.sot_tree.specs.Trees.{Plant};
 ghost use Rattle.sot_tree.specs.TreeViews.{plant_view};
 ghost use Rattle.sot_rules.specs.Tests.{state_names};
 ghost use Rattle.sot_rules.specs.Faults.{least, together, scale_faults, input_faults, seen_lists, noise_lists, plant_lists};
 ghost use Rattle.sot_rules.specs.SeenNames.{HasNames};
 ghost use Rattle.sot_rules.specs.Indexes.{program_in, IsIndex};
-ghost use Rattle.sot_rules.specs.Groups.{states_faults, inputs_faults, sees_faults, disturbances_faults};
+ghost use Rattle.sot_rules.specs.Groups.{states_faults, inputs_faults, some_inputs_faults, sees_faults, disturbances_faults};
 
+use crate::declarations::behind::is_noise_behind;
 use crate::declarations::limit::{note_passes, note_past};
 use crate::declarations::next::note_nexts;
 use crate::declarations::range::{note_scalar, scalar_sort};
 use crate::expressions::sort::{is_no_scale, is_truthful};
-use crate::fault::{TypeFault, TypeKind, note};
+use crate::fault::{TypeFault, TypeKind, note, stands_behind};
+use crate::names::behind::{FRONT, are_names_behind};
 use crate::names::hasher::{NameHasher, NameKey, NameSet, hasher_of};
 use crate::names::index::Index;
 use crate::names::meaning::{is_neither, is_plant, is_topic};
@@ -52,13 +54,16 @@ fn note_states(
     Ok(())
 }
 
-// A name among a plant's inputs, where a set has those of its state variables.
+// A name among a plant's inputs, where a set has those of its state variables. It is not looked up behind the first fault.
 #[tactic(auto, using(crate::proofs::Least::least_append))]
 fn note_input(index: &Index, states: &NameSet, name: &Ident, first: &mut Option<TypeFault>)
     requires { IsIndex index.now }
     ensures { (q : Plant) → HasNames states.now.keys (state_names q) → first.new
         ≡ least first.old (input_faults (program_in index.now) q name.now) }
 {
+    if stands_behind(*first, name.at) {
+        return;
+    }
     let meant = index.meaning(name);
     note(first, !is_topic(meant), name.at, TypeKind::Unknown);
     let is_state = has_name(states, name);
@@ -75,8 +80,55 @@ fn note_input_names(index: &Index, states: &NameSet, names: &[Ident], first: &mu
     }
 }
 
+// Some of the inputs of a plant, where a set has the names of its state variables.
+fn note_some_inputs(
+    alloc: Global,
+    index: &Index,
+    states: &NameSet,
+    names: &[Ident],
+    first: &mut Option<TypeFault>,
+) -> Result<(), AllocError>
+    requires { IsIndex index.now }
+    ensures { OnOk result ((q : Plant) → HasNames states.now.keys (state_names q) → first.new
+        ≡ least first.old (some_inputs_faults (program_in index.now) q names.now)) }
+{
+    note_input_names(index, states, names, first);
+    note_repeated_names(alloc, names, first)?;
+    note_passes(index, false, 8, names, first);
+    Ok(())
+}
+
+// Where a plant has many inputs: what the first of them show, if the others stand behind their first fault.
+fn note_front_inputs(
+    alloc: Global,
+    index: &Index,
+    states: &NameSet,
+    names: &[Ident],
+    first: &mut Option<TypeFault>,
+) -> Result<bool, AllocError>
+    requires { IsIndex index.now }
+    ensures all { IfOk result (λ all. all ≡ true → (q : Plant)
+        → HasNames states.now.keys (state_names q)
+        → first.new ≡ least first.old (some_inputs_faults (program_in index.now) q names.now)) }
+    ensures none { IfOk result (λ all. all ≡ false → first.new ≡ first.old) }
+{
+    if names.len() <= FRONT {
+        return Ok(false);
+    }
+    let (front, rest) = names.split_at(FRONT);
+    let mut found = *first;
+    note_some_inputs(alloc, index, states, front, &mut found)?;
+    let Some(fault) = found else {
+        return Ok(false);
+    };
+    let settled = are_names_behind(rest, fault.at.from);
+    if settled {
+        *first = found;
+    }
+    Ok(settled)
+}
+
 // The inputs of a plant, where a set has the names of its state variables.
-#[tactic(auto, using(crate::proofs::Least::least_append))]
 fn note_inputs(
     alloc: Global,
     index: &Index,
@@ -89,13 +141,14 @@ fn note_inputs(
     ensures { OnOk result (first.new
         ≡ least first.old (inputs_faults (program_in index.now) (plant_view q.now))) }
 {
-    note_input_names(index, states, &q.inputs, first);
-    note_repeated_names(alloc, &q.inputs, first)?;
-    note_passes(index, false, 8, &q.inputs, first);
-    Ok(())
+    if note_front_inputs(alloc, index, states, &q.inputs, first)? {
+        return Ok(());
+    }
+    note_some_inputs(alloc, index, states, &q.inputs, first)
 }
 
-// A name among the plants that a plant sees, where a set has the names of its state variables.
+// A name among the plants that a plant sees, where a set has the names of its state variables. It is not looked up behind the
+// first fault.
 #[tactic(auto, using(crate::proofs::Least::least_append))]
 fn note_seen(
     index: &Index,
@@ -109,6 +162,9 @@ fn note_seen(
     ensures { first.new ≡ least first.old
         (together (seen_lists (program_in index.now) (plant_view q.now) name.now)) }
 {
+    if stands_behind(*first, name.at) {
+        return;
+    }
     let meant = index.meaning(name);
     let is_own = are_same(name, &q.name);
     let is_state = has_name(states, name);
@@ -252,10 +308,26 @@ fn note_noise_beside<'p>(
     Ok(())
 }
 
+// Whether the disturbances of a plant stand behind the first fault. Then no fault of them is the first.
+fn is_noise_past(q: &PlantDecl, first: Option<TypeFault>) -> bool
+    ensures { result ≡ true → least first (disturbances_faults (plant_view q.now)) ≡ first }
+{
+    match first {
+        None => false,
+        Some(f) => is_noise_behind(&q.noise, f.at.from),
+    }
+}
+
 // The disturbances of a plant.
 fn note_noise(alloc: Global, q: &PlantDecl, first: &mut Option<TypeFault>) -> Result<(), AllocError>
     ensures { OnOk result (first.new ≡ least first.old (disturbances_faults (plant_view q.now))) }
 {
+    if q.noise.len() == 0 {
+        return Ok(());
+    }
+    if is_noise_past(q, *first) {
+        return Ok(());
+    }
     let mut used = IndexSet::with_hasher(alloc, used_hasher(q));
     let noted = note_noise_beside(alloc, &mut used, q, first);
     drop(used);

@@ -1,5 +1,5 @@
 //! Names that stand twice in a list, and sets of names.
-ghost use Rattle.std.specs.Prelude.{◌≡◌, List, ◌++◌, [], map, OnOk};
+ghost use Rattle.std.specs.Prelude.{◌≡◌, List, ◌++◌, [], map, true, false, IfOk, OnOk};
 ghost use Rattle.std.specs.List.{fold, list_any};
 ghost use Rattle.std.specs.Str.{bytes_eq};
 ghost use Rattle.sot_tree.specs.declared.tree.Ident.{Ident};
@@ -9,6 +9,7 @@ ghost use Rattle.sot_rules.specs.Faults.{least, when, repeats};
 ghost use Rattle.sot_rules.specs.SeenNames.{seen_names, with_name, HasNames};
 
 use crate::fault::{TypeFault, TypeKind, note};
+use crate::names::behind::{FRONT, are_names_behind};
 use crate::names::hasher::{NameSet, hasher_of};
 use crate::names::named::Named;
 use indexmap::IndexSet;
@@ -49,8 +50,8 @@ pub fn note_seen<'p, T: Named>(
     Ok(())
 }
 
-/// The things of a list whose names stand in it before.
-pub fn note_repeats<T: Named>(
+// The things of a list whose names stand in it before.
+fn note_all_repeats<T: Named>(
     alloc: Global,
     items: &[T],
     first: &mut Option<TypeFault>,
@@ -61,6 +62,49 @@ pub fn note_repeats<T: Named>(
     let noted = note_seen(&mut seen, items, first);
     drop(seen);
     noted
+}
+
+// Of a long list: what its first things show, if the others stand behind their first fault. Then those need not be looked at.
+fn note_front_repeats<T: Named>(
+    alloc: Global,
+    items: &[T],
+    first: &mut Option<TypeFault>,
+) -> Result<bool, AllocError>
+    ensures all { IfOk result (λ all. all ≡ true
+        → first.new ≡ least first.old (repeats [] (map T.ident items.now))) }
+    ensures none { IfOk result (λ all. all ≡ false → first.new ≡ first.old) }
+{
+    if items.len() <= FRONT {
+        return Ok(false);
+    }
+    let (front, rest) = items.split_at(FRONT);
+    let mut found = *first;
+    note_all_repeats(alloc, front, &mut found)?;
+    let Some(fault) = found else {
+        return Ok(false);
+    };
+    let settled = are_names_behind(rest, fault.at.from);
+    if settled {
+        *first = found;
+    }
+    Ok(settled)
+}
+
+/// The things of a list whose names stand in it before.
+pub fn note_repeats<T: Named>(
+    alloc: Global,
+    items: &[T],
+    first: &mut Option<TypeFault>,
+) -> Result<(), AllocError>
+    ensures { OnOk result (first.new ≡ least first.old (repeats [] (map T.ident items.now))) }
+{
+    if items.len() < 2 {
+        return Ok(());
+    }
+    if note_front_repeats(alloc, items, first)? {
+        return Ok(());
+    }
+    note_all_repeats(alloc, items, first)
 }
 
 /// The names of a list that stand in it before.

@@ -7,7 +7,7 @@ ghost use Rattle.sot_rules.specs.Scopes.{parts_of, kept_parts, names_in, answer,
 use crate::expressions::sort::Sort;
 use crate::names::hasher::NameMap;
 use sot_text::Span;
-use sot_tree::Ident;
+use sot_tree::{FieldName, Ident};
 
 /// What a name stands for: one number or truth value, or several, whose names are in one of the tables of parts.
 #[derive(Clone, Copy)]
@@ -52,15 +52,15 @@ fn part(table: &PartTable, field: &Ident) -> Result<Sort, Span>
     }
 }
 
-fn part_of(tables: &[PartTable], k: usize, field: &Ident) -> Result<Sort, Span>
+fn part_of(tables: &[PartTable], k: usize, field: &FieldName) -> Result<Sort, Span>
     ensures { answer result ≡ part_reading field.now
         (find (λ x. bytes_eq field.now.name x.name)
         (slice_index_or (map parts_of tables.now) k [])) }
 {
     if k < tables.len() {
-        part(&tables[k], field)
+        part(&tables[k], field.ident())
     } else {
-        Err(field.at)
+        Err(field.ident().at)
     }
 }
 
@@ -68,7 +68,7 @@ fn reading_of(
     tables: &[PartTable],
     kept: Option<Kept>,
     first: &Ident,
-    field: &Option<Ident>,
+    field: &Option<FieldName>,
 ) -> Result<Sort, Span>
     ensures { answer result ≡ reading_of
         (kept_parts (map parts_of tables.now)) first.now field.now kept }
@@ -77,7 +77,7 @@ fn reading_of(
         None => Err(first.at),
         Some(Kept::Alone(s)) => match field {
             None => Ok(s),
-            Some(f) => Err(f.at),
+            Some(f) => Err(f.ident().at),
         },
         Some(Kept::Several(k)) => match field {
             None => Err(first.at),
@@ -88,7 +88,7 @@ fn reading_of(
 
 /// What a name gives, or the place where it is at fault.
 #[tactic(auto, unfolding(crate::specs::Scopes::names_in))]
-pub fn reading(names: &Names, first: &Ident, field: &Option<Ident>) -> Result<Sort, Span>
+pub fn reading(names: &Names, first: &Ident, field: &Option<FieldName>) -> Result<Sort, Span>
     ensures { answer result ≡ reading (names_in names.now) first.now field.now }
 {
     let kept = names.things.get(first.name.as_bytes()).copied();

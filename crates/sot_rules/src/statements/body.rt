@@ -1,7 +1,7 @@
 //! The faults of a node's body.
-ghost use Rattle.std.specs.Prelude.{◌≡◌, Some, OnOk};
+ghost use Rattle.std.specs.Prelude.{◌≡◌, true, Some, OnOk};
 ghost use Rattle.sot_tree.specs.TreeViews.{block_view, node_view};
-ghost use Rattle.sot_rules.specs.Names.{node_scope};
+ghost use Rattle.sot_rules.specs.Names.{Scope as Known, node_scope};
 ghost use Rattle.sot_rules.specs.Tests.{block_unrolled};
 ghost use Rattle.sot_rules.specs.Faults.{body_faults, least, past};
 ghost use Rattle.sot_rules.specs.Scopes.{scope_in};
@@ -11,6 +11,7 @@ use crate::fault::{TypeFault, TypeKind, note};
 use crate::names::index::Index;
 use crate::names::owner::node_scope;
 use crate::names::scope::Scope;
+use crate::statements::behind::is_block_behind;
 use crate::statements::statement::block;
 use crate::statements::unrolled::{Reached, reach_block};
 use sot_tree::{NodeDecl, Stmt};
@@ -36,6 +37,17 @@ fn note_block(body: &[Stmt], scope: &Scope, first: &mut Option<TypeFault>)
     note_many(body, first);
 }
 
+// Whether all of a body stands behind the first fault. Then no fault of it is the first.
+fn is_body_past(body: &[Stmt], first: Option<TypeFault>) -> bool
+    ensures { result ≡ true → (s : Known) → least first
+        (body_faults s (Some (block_view body.now))) ≡ first }
+{
+    match first {
+        None => false,
+        Some(f) => is_block_behind(body, f.at.from),
+    }
+}
+
 /// The statements of a node, and their count with loops unrolled.
 pub fn note_body<'p>(
     alloc: Global,
@@ -51,6 +63,9 @@ pub fn note_body<'p>(
     match &n.body {
         None => Ok(()),
         Some(body) => {
+            if is_body_past(body, *first) {
+                return Ok(());
+            }
             let scope = node_scope(alloc, index, n)?;
             note_block(body, &scope, first);
             drop(scope);

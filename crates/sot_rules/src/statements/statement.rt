@@ -11,7 +11,7 @@ use crate::expressions::sort::{Sort, are_mixed, differ, has_decimals, is_scaled}
 use crate::fault::{TypeFault, TypeKind, note};
 use crate::names::scope::{Names, Scope, reading};
 use sot_text::Span;
-use sot_tree::{Ident, Lit, Stmt};
+use sot_tree::{FieldName, Ident, Lit, Stmt};
 
 /// A value of a sort, for a target.
 #[tactic(auto, using(crate::proofs::Least::least_append))]
@@ -28,7 +28,7 @@ pub fn note_target(target: Result<Sort, Span>, value: Sort, at: Span, first: &mu
 pub fn reading_alone(names: &Names, first: &Ident) -> Result<Sort, Span>
     ensures { answer result ≡ reading (names_in names.now) first.now None }
 {
-    let none: Option<Ident> = None;
+    let none: Option<FieldName> = None;
     reading(names, first, &none)
 }
 

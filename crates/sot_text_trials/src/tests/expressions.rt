@@ -2,7 +2,7 @@
 use super::{cut, same};
 use sot_expression::{Fail, Tokens, tree};
 use sot_text::Lexer;
-use sot_tree::{Expr, Ident, Lit};
+use sot_tree::{Expr, FieldName, Ident, Lit};
 use std::alloc::{AllocError, Global};
 use std::process::Abort;
 
@@ -91,10 +91,10 @@ fn show_number(lit: &Lit, out: &mut String) -> Result<(), AllocError> {
     write!(out, " {}e{}@{}", lit.mantissa, lit.scale, lit.at.from)
 }
 
-fn show_name(first: &Ident, field: &Option<Ident>, out: &mut String) -> Result<(), AllocError> {
+fn show_name(first: &Ident, field: &Option<FieldName>, out: &mut String) -> Result<(), AllocError> {
     write!(out, " name@{}", first.at.from)?;
     match field {
-        Some(field) => write!(out, ".{}", field.at.from),
+        Some(field) => write!(out, ".{}", field.ident().at.from),
         None => Ok(()),
     }
 }

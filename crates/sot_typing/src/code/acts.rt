@@ -12,7 +12,7 @@ ghost use Rattle.sot_typing.specs.Bodies.{scope_in, IsSmall};
 use crate::code::terms::term;
 use crate::names::things::{Thing, named};
 use sot_lang::Act;
-use sot_tree::{Expr, Ident, Lit, Stmt};
+use sot_tree::{Expr, FieldName, Ident, Lit, Stmt};
 use std::alloc::{AllocError, Global};
 
 /// The names that a node's statements use: those that its expressions read, its locals, and the topics that it writes.
@@ -45,7 +45,7 @@ fn assignment(
         ≡ assigned (place_of (scope_in names.now).local target.now None)
         (formula_of (scope_in names.now).read (tree_view value.now)) target.now.at) }
 {
-    let none: Option<Ident> = None;
+    let none: Option<FieldName> = None;
     let made = term(alloc, names.read, value)?;
     Ok(Act::Assign {
         local: named(names.local, target, &none).place as u32,
@@ -58,7 +58,7 @@ fn publication(
     alloc: Global,
     names: &BodyNames,
     topic: &Ident,
-    field: &Option<Ident>,
+    field: &Option<FieldName>,
     value: &Expr,
 ) -> Result<Act, AllocError>
     requires few { IsSmall (scope_in names.now) }

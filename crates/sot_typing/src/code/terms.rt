@@ -15,7 +15,7 @@ use crate::names::things::{Thing, named};
 use sot_lang::Term;
 use sot_rules::{Sort, given, operator_sort};
 use sot_text::Span;
-use sot_tree::{Expr, Func, Ident, Lit, Op};
+use sot_tree::{Expr, FieldName, Func, Ident, Lit, Op};
 use std::alloc::{AllocError, Global};
 
 /// An expression with places for names, and its sort.
@@ -78,7 +78,7 @@ fn truth(value: bool) -> Sorted
     }
 }
 
-fn placed(things: &[Thing], first: &Ident, field: &Option<Ident>) -> Sorted
+fn placed(things: &[Thing], first: &Ident, field: &Option<FieldName>) -> Sorted
     requires few { AreFew (things_in things.now) }
     requires known { reading_faults (reading (things_in things.now) first.now field.now) ≡ [] }
     ensures { IsSorted (place (place_of (things_in things.now) first.now field.now))

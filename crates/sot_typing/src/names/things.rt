@@ -9,7 +9,7 @@ ghost use Rattle.sot_typing.specs.Terms.{is_meant, parts_references, place_of};
 ghost use Rattle.sot_typing.specs.Things.{parts_in, things_in, AreFew};
 
 use sot_rules::{Sort, scalar_sort, state_sort};
-use sot_tree::{Field, Ident, StateDecl};
+use sot_tree::{Field, FieldName, Ident, StateDecl};
 
 /// What a name stands for: one number or truth value, the fields of a record, or the state variables of a plant.
 #[derive(Clone, Copy)]
@@ -33,8 +33,14 @@ pub struct Found {
     pub sort: Sort,
 }
 
+fn bytes_of(name: &FieldName) -> &[u8]
+    ensures { result.now ≡ name.now.name }
+{
+    name.ident().name.as_bytes()
+}
+
 // The first field of this name.
-fn field_named(fields: &[Field], name: &Ident) -> Found
+fn field_named(fields: &[Field], name: &FieldName) -> Found
     requires { reading_faults
         (part_reading name.now
         (find (λ x. bytes_eq name.now.name x.name) (map field_part fields.now))) ≡ [] }
@@ -45,7 +51,7 @@ fn field_named(fields: &[Field], name: &Ident) -> Found
         (find (λ x. bytes_eq name.now.name x.name) (map field_part fields.now))) }
 {
     for (place, f) in fields.iter().enumerate() {
-        if name.name.as_bytes() == f.name.name.as_bytes() {
+        if bytes_of(name) == f.name.name.as_bytes() {
             return Found {
                 place,
                 sort: scalar_sort(f.scalar),
@@ -56,7 +62,7 @@ fn field_named(fields: &[Field], name: &Ident) -> Found
 }
 
 // The first state variable of this name.
-fn state_named(states: &[StateDecl], name: &Ident) -> Found
+fn state_named(states: &[StateDecl], name: &FieldName) -> Found
     requires { reading_faults
         (part_reading name.now
         (find (λ x. bytes_eq name.now.name x.name) (map state_part states.now))) ≡ [] }
@@ -67,7 +73,7 @@ fn state_named(states: &[StateDecl], name: &Ident) -> Found
         (find (λ x. bytes_eq name.now.name x.name) (map state_part states.now))) }
 {
     for (place, s) in states.iter().enumerate() {
-        if name.name.as_bytes() == s.name.name.as_bytes() {
+        if bytes_of(name) == s.name.name.as_bytes() {
             return Found {
                 place,
                 sort: state_sort(s),
@@ -78,7 +84,7 @@ fn state_named(states: &[StateDecl], name: &Ident) -> Found
 }
 
 // What a field, or no field, names among the parts of one thing.
-fn part_named(parts: Parts<'_>, field: &Option<Ident>) -> Found
+fn part_named(parts: Parts<'_>, field: &Option<FieldName>) -> Found
     requires { (i : AnIdent) × (reading_faults (parts_reading i field.now (parts_in parts)) ≡ []) }
     ensures place { (i : AnIdent) (name : List ℕ) → bytes_eq i.name name ≡ true → result.place
         ≡ position_or_len (is_meant i field.now) (parts_references name (parts_in parts.entry)) }
@@ -110,7 +116,7 @@ fn size(parts: Parts<'_>) -> usize
 }
 
 /// What is named so. An owner has at most 80 numbers where its program has no fault, so the list is searched.
-pub fn named(things: &[Thing], first: &Ident, field: &Option<Ident>) -> Found
+pub fn named(things: &[Thing], first: &Ident, field: &Option<FieldName>) -> Found
     requires few { AreFew (things_in things.now) }
     requires known { reading_faults (reading (things_in things.now) first.now field.now) ≡ [] }
     ensures place { result.place ≡ place_of (things_in things.now) first.now field.now }

@@ -1,11 +1,8 @@
--- Of `note_repeats`: its promises.
-use Rattle.std.proofs.Common.{◌≡◌, map, subst, ap}
-use Rattle.std.specs.Prelude.{OnOk}
-use Rattle.sot_rules.specs.Faults.{least, repeats}
-use Rattle.sot_rules.specs.SeenNames.{seen_names}
+-- Of `note_repeats`: its promise of fewer than two things.
+use Rattle.std.proofs.Common.{sym, ap}
+use Rattle.sot_rules.specs.Faults.{least}
+use Rattle.sot_rules.proofs.Repeats.{few_repeat}
 use Rattle.sot_rules.proofs.names.repeats.note_repeats.Goals as goal
 
-pub returns : goal.returns
-returns g c =
-    subst (λ z. OnOk c.note_seen-noted.result (c.note_seen-noted.new.first ≡ least c.args.first.now (repeats z (map g.T.Named.ident c.args.items.now))))
-    (ap seen_names c.with_hasher-seen.ensures.empty) c.note_seen-noted.ensures.noted
+pub returns-then-items-lt2 : goal.returns-then-items-lt2
+returns-then-items-lt2 g c = sym (ap (least c.args.first.now) (few_repeat g.T.Named.ident c.args.items.now c.if-items-lt2.true))

@@ -14,6 +14,6 @@ returns-in_ok-scope-in-Some c =
     let s = scope_in c.in_ok-scope-in-Some.scope in
     let t = node_scope (program_in c.args.index.now) (node_view c.args.n.now) in
     c.note_block.ensures
-    ∙ ap (λ ss. least c.args.first.now (body_faults s (Some (block_view ss)))) c.deref.ensures.value
+    ∙ ap (λ ss. least c.args.first.now (body_faults s (Some (block_view ss)))) c.deref-in-Some.ensures.value
     ∙ ap (least c.args.first.now) (body_alike s t (block_view c.in-Some.body.items) c.in_ok-scope-in-Some.ensures)
     ∙ ap (λ o. least c.args.first.now (body_faults t (elim o as (λ x. Option Block) [ None ↦ None | Some v ↦ Some (block_view v.items) ]))) (sym c.in-Some.is)
