@@ -8,3 +8,4 @@ pub mod Places
 pub mod SafeRegions
 pub mod Owners
 pub mod Topics
+mod DraftSlots

@@ -16,3 +16,4 @@ pub mod TypedView
 pub mod Line
 pub mod Examples
 pub mod BodyExamples
+pub mod DraftSlots

@@ -1,6 +1,6 @@
 //! Drafts: what a firing writes.
 
-ghost use Rattle.std.specs.Prelude.{◌≡◌, ◌<◌, None, Some, replicate, slice_get, slice_set};
+ghost use Rattle.std.specs.Prelude.{◌≡◌, ◌<◌, None, Some, length, replicate, slice_get, slice_set};
 
 use std::marker::Model;
 
@@ -8,19 +8,24 @@ use std::marker::Model;
 /// slots past its own hold nothing.
 #[derive(Clone, Copy, Debug, PartialEq, Eq)]
 pub struct Draft {
-    slots: [Option<i64>; 8],
+    // Beside each other, they take half the room of eight options.
+    numbers: [i64; 8],
+    there: [bool; 8],
 }
 
 impl Model for Draft {
-    ghost use Rattle.std.specs.Prelude.{◌≡◌, ℤ, List, Option, length};
+    ghost use Rattle.std.specs.Prelude.{ℤ, List, Option};
+    ghost use Rattle.sot_lang.specs.DraftSlots.{slot_list, IsDraft, draft_of, draft_of-slot_list};
 
     ghost Value = { List (Option ℤ) };
 
-    ghost view = { λ d. d.slots };
+    ghost view = { slot_list };
 
-    ghost invariant = { λ d. length d.slots ≡ 8 };
+    ghost invariant = { IsDraft };
 
-    ghost inverse = { λ slots. record { slots = slots } };
+    ghost inverse = { draft_of };
+
+    ghost inverse_ok = { draft_of-slot_list };
 }
 
 impl Draft {
@@ -28,7 +33,10 @@ impl Draft {
     pub fn blank() -> Draft
         ensures { result ≡ replicate 8 None }
     {
-        Draft { slots: [None; 8] }
+        Draft {
+            numbers: [0; 8],
+            there: [false; 8],
+        }
     }
 
     /// Drafts a number in slot `i`, in place of what stood there.
@@ -36,14 +44,23 @@ impl Draft {
         requires { i < 8 }
         ensures { self.new ≡ slice_set self.old i (Some v) }
     {
-        self.slots[i] = Some(v);
+        self.numbers[i] = v;
+        self.there[i] = true;
+    }
+
+    /// What the type keeps, as a fact.
+    pub fn has_eight_slots(&self)
+        ensures { length self.now ≡ 8 }
+    {
+        // A look at a field brings what the type keeps.
+        let _there = &self.there;
     }
 
     pub fn get(&self, i: usize) -> Option<i64>
         requires { i < 8 }
         ensures { slice_get self.now i ≡ Some result }
     {
-        let kept = &self.slots;
-        kept[i]
+        let (numbers, there) = (&self.numbers, &self.there);
+        if there[i] { Some(numbers[i]) } else { None }
     }
 }

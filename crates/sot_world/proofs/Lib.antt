@@ -19,6 +19,7 @@ pub mod Calendar
 pub mod Deadlines
 pub mod LineDecisions
 pub mod Records
+mod KeptDrafts
 pub mod Places
 pub mod Reading
 pub mod LineRun

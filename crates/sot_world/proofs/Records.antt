@@ -1,20 +1,47 @@
 -- The records of a history stay what they are when numbers come behind its list.
-use Rattle.std.proofs.Common.{◌≡◌, ℕ, suc, ◌+◌, ◌≤◌, ℤ, List, [], ◌∷◌, ◌++◌, length, map, take, drop, refl, ap, ap₂, ◌∙◌, arith, length-drop}
+use Rattle.std.proofs.Common.{◌≡◌, ℕ, suc, ◌+◌, ◌≤◌, ℤ, Bool, true, false, Option, None, Some, List, [], ◌∷◌, ◌++◌, length, map, take, drop, refl, ap, ap₂, ◌∙◌, arith, length-drop}
 use Rattle.std.proofs.lemmas.List.{take-append-le, drop-append-le, map-append}
+use Rattle.std.specs.Prelude.{is_some, option_to_list}
 use Rattle.std.specs.List.{All}
 use Rattle.sot_world.specs.declared.history.Record.{Record}
 use Rattle.sot_world.specs.declared.history.Record.TheVariants.{Input, Fire, Decide, Tick}
-use Rattle.sot_world.specs.HistoryEntry.{Logged, InputAt, TickAt}
-use Rattle.sot_world.specs.HistoryRecords.{logged, end_of}
+use Rattle.sot_world.specs.HistoryEntry.{Logged, InputAt, FireAt, TickAt}
+use Rattle.sot_world.specs.HistoryRecords.{slots_filled, count_there, logged, end_of}
 
 part_more : (ns more : List ℤ) (from count : ℕ) → from + count ≤ length ns → take count (drop from (ns ++ more)) ≡ take count (drop from ns)
 part_more ns more from count inside =
     ap (take count) (drop-append-le from ns more (omega (arith, inside)))
     ∙ take-append-le count (drop from ns) more (omega (arith, inside, length-drop from ns))
 
+-- numbers behind those that slots have
+filled_more : (bs : List Bool) (ms more : List ℤ) → count_there bs ≤ length ms → slots_filled bs (ms ++ more) ≡ slots_filled bs ms
+filled_more [] ms more inside = refl
+filled_more (false ∷ bs) ms more inside = ap (λ l. None ∷ l) (filled_more bs ms more inside)
+filled_more (true ∷ bs) [] more inside = absurd (omega (arith, inside))
+filled_more (true ∷ bs) (m ∷ ms) more inside = ap (λ l. Some m ∷ l) (filled_more bs ms more (omega (arith, inside)))
+
+-- one slot more, with its number behind the others
+pub filled_next : (bs : List Bool) (ms : List ℤ) (o : Option ℤ) → count_there bs ≡ length ms → slots_filled (bs ++ is_some o ∷ []) (ms ++ option_to_list o) ≡ slots_filled bs ms ++ o ∷ []
+filled_next [] [] None same = refl
+filled_next [] [] (Some n) same = refl
+filled_next [] (m ∷ ms) o same = absurd (omega (arith, same))
+filled_next (false ∷ bs) ms o same = ap (λ l. None ∷ l) (filled_next bs ms o same)
+filled_next (true ∷ bs) [] o same = absurd (omega (arith, same))
+filled_next (true ∷ bs) (m ∷ ms) o same = ap (λ l. Some m ∷ l) (filled_next bs ms o (omega (arith, same)))
+
+pub count_next : (bs : List Bool) (ms : List ℤ) (o : Option ℤ) → count_there bs ≡ length ms → count_there (bs ++ is_some o ∷ []) ≡ length (ms ++ option_to_list o)
+count_next [] [] None same = refl
+count_next [] [] (Some n) same = refl
+count_next [] (m ∷ ms) o same = absurd (omega (arith, same))
+count_next (false ∷ bs) ms o same = count_next bs ms o same
+count_next (true ∷ bs) [] o same = absurd (omega (arith, same))
+count_next (true ∷ bs) (m ∷ ms) o same = ap suc (count_next bs ms o (omega (arith, same)))
+
 pub logged_more : (ns more : List ℤ) (r : Record) → end_of r ≤ length ns → logged (ns ++ more) r ≡ logged ns r
 logged_more ns more (Input time topic from count) inside = ap (InputAt time topic) (part_more ns more from count inside)
-logged_more ns more (Fire time node draft enabled) inside = refl
+logged_more ns more (Fire time node from there enabled) inside =
+    ap (λ d. FireAt time node d enabled)
+    (ap (slots_filled there) (drop-append-le from ns more (omega (arith, inside))) ∙ filled_more there (drop from ns) more (omega (arith, inside, length-drop from ns)))
 logged_more ns more (Decide time m mode) inside = refl
 logged_more ns more (Tick time from noise states) inside =
     ap₂ (TickAt time) (part_more ns more from noise (omega (arith, inside))) (part_more ns more (from + noise) states inside)

@@ -1,5 +1,5 @@
 -- A history as its entries and the room left.
-use Rattle.std.specs.Prelude.{◌+◌, ◌≤◌, map, length}
+use Rattle.std.specs.Prelude.{◌+◌, ◌*◌, ◌≤◌, map, length}
 use Rattle.std.specs.List.{All}
 use Rattle.sot_world.specs.declared.history.History.TheInside.{Inside}
 use Rattle.sot_world.specs.HistoryEntry.{Story}
@@ -8,8 +8,8 @@ use Rattle.sot_world.specs.HistoryRecords.{logged, end_of}
 abbrev pub story_of : Inside → Story
 story_of h = record { entries = map (logged h.numbers.items) h.records.items; entries_left = h.entries_left; numbers_left = h.numbers_left }
 
--- the numbers of each entry are in the list, and the room left is there
+-- the numbers of each entry are in the list, and the room left is there: each entry that is to come may have eight drafted numbers
 pub record IsStory (h : Inside) : Type 0 where
   pub inside : All (λ r. end_of r ≤ length h.numbers.items) h.records.items
   pub entries : h.records.len + h.entries_left ≤ h.records.cap
-  pub numbers : h.numbers.len + h.numbers_left ≤ h.numbers.cap
+  pub numbers : h.numbers.len + h.numbers_left + 8 * h.entries_left ≤ h.numbers.cap

@@ -1,9 +1,10 @@
 //! The events of a run as they are recorded.
 
-ghost use Rattle.std.specs.Prelude.{◌≡◌, ℕ, ◌+◌, ◌<◌, ◌≤◌, [], ◌∷◌, ◌++◌, ℤ, List, length, slice_get, Some, IfOk, vec_len, vec_capacity};
+ghost use Rattle.std.specs.Prelude.{◌≡◌, ℕ, ◌+◌, ◌^◌, ◌<◌, ◌≤◌, [], ◌∷◌, ◌++◌, ℤ, List, length, slice_get, Some, IfOk, vec_len, vec_capacity};
 ghost use Rattle.sot_world.specs.Histories.{entry_of, numbers_in};
 ghost use Rattle.sot_world.specs.HistoryRecords.{logged, end_of};
 
+use crate::drafted::{append_draft, draft_at};
 use crate::mode::Mode;
 use sot_lang::Draft;
 use std::alloc::{AllocError, Global};
@@ -48,10 +49,12 @@ enum Record {
         from: usize,
         count: usize,
     },
+    // The numbers of a draft, in the slots where one is there: most drafts have one or two.
     Fire {
         time: u32,
         node: u32,
-        draft: Draft,
+        from: usize,
+        there: [bool; 8],
         enabled: bool,
     },
     Decide {
@@ -93,11 +96,14 @@ impl History {
     pub fn none(alloc: Global, entries: u32, numbers: u32) -> Result<History, AllocError>
         ensures { IfOk result (λ h. h ≡ record { entries = []; entries_left = entries; numbers_left = numbers }) }
     {
+        let entries_left = entries as usize;
+        let numbers_left = numbers as usize;
+        // Each entry may be a firing, whose draft has at most eight numbers. Memory that is never written is never taken in.
         Ok(History {
-            records: Vec::with_capacity(alloc, entries as usize)?,
-            numbers: Vec::with_capacity(alloc, numbers as usize)?,
-            entries_left: entries as usize,
-            numbers_left: numbers as usize,
+            records: Vec::with_capacity(alloc, entries_left)?,
+            numbers: Vec::with_capacity(alloc, numbers_left + 8 * entries_left)?,
+            entries_left,
+            numbers_left,
         })
     }
 
@@ -109,9 +115,8 @@ impl History {
         ensures entries_left { self.new.entries_left + 1 ≡ self.old.entries_left }
         ensures numbers_left { self.new.numbers_left + numbers_in (entry_of e.now) ≡ self.old.numbers_left }
     {
-        let before = self.numbers.len();
         let record = kept(&mut self.numbers, e);
-        self.numbers_left -= self.numbers.len() - before;
+        self.numbers_left -= numbers_in(e);
         add(&mut self.records, record);
         self.entries_left -= 1;
     }
@@ -130,6 +135,18 @@ impl History {
     {
         let record = self.records[i];
         lent(&self.numbers, record)
+    }
+}
+
+// How many numbers an entry's slices hold.
+fn numbers_in(e: &Entry<'_>) -> usize
+    requires { numbers_in (entry_of e.now) < 2 ^ 64 }
+    ensures { result ≡ numbers_in (entry_of e.now) }
+{
+    match *e {
+        Entry::Input { value, .. } => value.len(),
+        Entry::Tick { noise, states, .. } => noise.len() + states.len(),
+        _ => 0,
     }
 }
 
@@ -155,11 +172,11 @@ fn append(to: &mut Vec<i64>, more: &[i64])
 
 // The record of an entry, whose numbers go behind the list.
 fn kept(numbers: &mut Vec<i64>, e: &Entry<'_>) -> Record
-    requires { vec_len numbers.old + numbers_in (entry_of e.now) ≤ vec_capacity numbers.old }
+    requires { vec_len numbers.old + numbers_in (entry_of e.now) + 8 ≤ vec_capacity numbers.old }
     ensures same { logged numbers.new.items result ≡ entry_of e.now }
     ensures inside { end_of result ≤ length numbers.new.items }
     ensures behind { (more : List ℤ) × (numbers.new.items ≡ numbers.old.items ++ more) }
-    ensures len { vec_len numbers.new ≡ vec_len numbers.old + numbers_in (entry_of e.now) }
+    ensures len { vec_len numbers.new ≤ vec_len numbers.old + numbers_in (entry_of e.now) + 8 }
     ensures capacity { vec_capacity numbers.old ≤ vec_capacity numbers.new }
 {
     let from = numbers.len();
@@ -178,12 +195,16 @@ fn kept(numbers: &mut Vec<i64>, e: &Entry<'_>) -> Record
             node,
             draft,
             enabled,
-        } => Record::Fire {
-            time,
-            node,
-            draft,
-            enabled,
-        },
+        } => {
+            let there = append_draft(numbers, &draft);
+            Record::Fire {
+                time,
+                node,
+                from,
+                there,
+                enabled,
+            }
+        }
         Entry::Decide { time, module, mode } => Record::Decide { time, module, mode },
         Entry::Tick {
             time,
@@ -221,12 +242,13 @@ fn lent(numbers: &[i64], kept: Record) -> Entry<'_>
         Record::Fire {
             time,
             node,
-            draft,
+            from,
+            there,
             enabled,
         } => Entry::Fire {
             time,
             node,
-            draft,
+            draft: draft_at(numbers, from, &there),
             enabled,
         },
         Record::Decide { time, module, mode } => Entry::Decide { time, module, mode },

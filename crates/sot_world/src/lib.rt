@@ -6,6 +6,7 @@
 
 mod clock;
 mod decide;
+mod drafted;
 mod event;
 mod facts;
 mod fire;

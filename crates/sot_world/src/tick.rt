@@ -19,7 +19,8 @@ use sot_lang::{ModuleInfo, NodeInfo, Typed};
 fn put_inputs(inputs: &[u32], scalars: &[i64], held: &mut [i64])
     requires there { (i k : ℕ) → At inputs.now i k → k < length scalars.now }
     requires room { length inputs.now ≤ length held.old }
-    ensures { take (length inputs.now) held.new ≡ map (λ k. slice_index_or scalars.now k (pos 0)) inputs.now }
+    ensures front { take (length inputs.now) held.new ≡ map (λ k. slice_index_or scalars.now k (pos 0)) inputs.now }
+    ensures size { length held.new ≡ length held.old }
 {
     for i in 0..inputs.len() {
         held[i] = scalars[inputs[i] as usize];
@@ -33,6 +34,7 @@ fn put_seen(sees: &[u32], points: &[Point], seen: &mut [i64]) -> usize
     requires room { length seen.old ≡ 64 }
     ensures few { result ≤ 64 }
     ensures front { take result seen.new ≡ joined (map (λ k. slice_index_or points.now k []) sees.now) }
+    ensures size { length seen.new ≡ 64 }
 {
     let mut count = 0;
     for i in 0..sees.len() {
@@ -44,17 +46,28 @@ fn put_seen(sees: &[u32], points: &[Point], seen: &mut [i64]) -> usize
     count
 }
 
-// A plant's point after a tick, from these scalars and points and with these disturbances.
-fn next_point(p: &Typed, plant: u32, scalars: &[i64], points: &[Point], noise: &[i64]) -> Point
+// A plant's point after a tick, from these scalars and points and with these disturbances. The last two lists are room, which
+// is shared by all plants so that it is cleared once a tick.
+fn next_point(
+    p: &Typed,
+    plant: u32,
+    scalars: &[i64],
+    points: &[Point],
+    noise: &[i64],
+    held: &mut [i64],
+    seen: &mut [i64],
+) -> Point
     requires points { ArePoints p.now points.now }
     requires moves { MayMove p.now plant scalars.now points.now noise.now }
-    ensures { IsMoved p.now plant scalars.now points.now noise.now result }
+    requires held { length held.old ≡ 8 }
+    requires seen { length seen.old ≡ 64 }
+    ensures moved { IsMoved p.now plant scalars.now points.now noise.now result }
+    ensures held { length held.new ≡ 8 }
+    ensures seen { length seen.new ≡ 64 }
 {
     let info = &p.plants[plant as usize];
-    let mut held = [0; 8];
-    put_inputs(&info.inputs, scalars, &mut held);
-    let mut seen = [0; 64];
-    let count = put_seen(&info.sees, points, &mut seen);
+    put_inputs(&info.inputs, scalars, held);
+    let count = put_seen(&info.sees, points, seen);
     let (held, _) = held.split_at(info.inputs.len());
     let (seen, _) = seen.split_at(count);
     match plant_next(p, plant, &points[plant as usize], held, seen, noise) {
@@ -71,10 +84,12 @@ pub fn move_all(p: &Typed, scalars: &[i64], points: &[Point], noise: &[i64], nex
     requires size { length next.old ≡ length p.now.plants }
     ensures { (k : ℕ) → k < length p.now.plants → IsMoved p.now k scalars.now points.now (slice_index_or (cut p.now.plants noise.now) k []) (slice_index_or next.new k []) }
 {
+    let mut held = [0; 8];
+    let mut seen = [0; 64];
     let (_, mut rest) = noise.split_at(0);
     for k in 0..p.plants.len() {
         let (own, more) = rest.split_at(p.plants[k].noise.len());
-        next[k] = next_point(p, k as u32, scalars, points, own);
+        next[k] = next_point(p, k as u32, scalars, points, own, &mut held, &mut seen);
         rest = more;
     }
 }

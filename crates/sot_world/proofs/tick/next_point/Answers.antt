@@ -17,7 +17,7 @@ plant_next-requires c =
     let lt : c.args.plant < length c.args.points.now = omega (arith, below, c.requires.points.each) in
     let point = read_list c.args.points.now c.args.plant _ lt c.index-points-plant.is in
     let count = c.len.ensures ∙ sym c.deref.ensures.len in
-    let held = c.split_at.ensures.front ∙ ap (λ n. take n c.put_inputs.new.held) count ∙ c.put_inputs.ensures
+    let held = c.split_at.ensures.front ∙ ap (λ n. take n c.put_inputs.new.held) count ∙ c.put_inputs.ensures.front
     ∙ ap (λ x. map (λ k. slice_index_or c.args.scalars.now k (pos 0)) x) (c.deref.ensures.value ∙ ap (λ x. x.inputs.items) same) in
     let seen = c.split_at-2.ensures.front ∙ c.put_seen-count.ensures.front
     ∙ ap (λ x. joined (map (λ k. slice_index_or c.args.points.now k []) x)) (c.deref-2.ensures.value ∙ ap (λ x. x.sees.items) same) in
@@ -39,7 +39,7 @@ unreachable-requires c =
     let lt : c.args.plant < length c.args.points.now = omega (arith, below, c.requires.points.each) in
     let point = read_list c.args.points.now c.args.plant _ lt c.index-points-plant.is in
     let count = c.len.ensures ∙ sym c.deref.ensures.len in
-    let held = c.split_at.ensures.front ∙ ap (λ n. take n c.put_inputs.new.held) count ∙ c.put_inputs.ensures
+    let held = c.split_at.ensures.front ∙ ap (λ n. take n c.put_inputs.new.held) count ∙ c.put_inputs.ensures.front
     ∙ ap (λ x. map (λ k. slice_index_or c.args.scalars.now k (pos 0)) x) (c.deref.ensures.value ∙ ap (λ x. x.inputs.items) same) in
     let seen = c.split_at-2.ensures.front ∙ c.put_seen-count.ensures.front
     ∙ ap (λ x. joined (map (λ k. slice_index_or c.args.points.now k []) x)) (c.deref-2.ensures.value ∙ ap (λ x. x.sees.items) same) in
@@ -51,8 +51,8 @@ unreachable-requires c =
     ∙ m.moves in
     cc
 
-pub returns : goal.returns
-returns c = λ plant at_p.
+pub returns-clause-moved : goal.returns-clause-moved
+returns-clause-moved c = λ plant at_p.
     let m = c.requires.moves in
     let below = slice_get_within _ _ _ m.is in
     let at = read_at _ _ c.args.plant _ (ap (λ t. t.plants) c.p.view_is) below c.index-info.ensures in
@@ -60,7 +60,7 @@ returns c = λ plant at_p.
     let lt : c.args.plant < length c.args.points.now = omega (arith, below, c.requires.points.each) in
     let point = read_list c.args.points.now c.args.plant _ lt c.index-points-plant.is in
     let count = c.len.ensures ∙ sym c.deref.ensures.len in
-    let held = c.split_at.ensures.front ∙ ap (λ n. take n c.put_inputs.new.held) count ∙ c.put_inputs.ensures
+    let held = c.split_at.ensures.front ∙ ap (λ n. take n c.put_inputs.new.held) count ∙ c.put_inputs.ensures.front
     ∙ ap (λ x. map (λ k. slice_index_or c.args.scalars.now k (pos 0)) x) (c.deref.ensures.value ∙ ap (λ x. x.inputs.items) same) in
     let seen = c.split_at-2.ensures.front ∙ c.put_seen-count.ensures.front
     ∙ ap (λ x. joined (map (λ k. slice_index_or c.args.points.now k []) x)) (c.deref-2.ensures.value ∙ ap (λ x. x.sees.items) same) in

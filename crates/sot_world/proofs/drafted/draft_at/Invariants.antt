@@ -1,0 +1,5 @@
+use Rattle.sot_world.proofs.KeptDrafts.{ReadSoFar}
+use Rattle.sot_world.proofs.drafted.draft_at.Given as goal
+
+abbrev pub invariant-loop-i : goal.invariant-loop-i
+invariant-loop-i l = ReadSoFar l.there l.numbers l.from l.i l.at l.draft
