@@ -1,8 +1,10 @@
-//! Operators, functions and changes of scale on numbers: computed in 128 bits, and tested to be in 64.
+//! Operators, functions and changes of scale on numbers: what is not sure to be in 64 bits is computed in 128, or tested as it is
+//! computed.
 
 ghost use Rattle.std.specs.Prelude.{◌≡◌, ◌≢◌, ◌≤◌, ◌^◌, pos, ◌≤ℤ◌, ◌+ℤ◌, ◌-ℤ◌, ◌*ℤ◌, neg_ℤ};
 ghost use Rattle.std.specs.Int.{int_min, int_max};
-ghost use Rattle.sot_lang.specs.Values.{word, quotient, floor_div, floor_by, apply, rescaled, truth, is_true};
+ghost use Rattle.sot_lang.specs.declared.trap.TrapKind.TheVariants.{Wide};
+ghost use Rattle.sot_lang.specs.Values.{word, trap, quotient, floor_div, floor_by, apply, rescaled, truth, is_true};
 
 use sot_lang::{Trap, TrapKind, floor};
 use sot_text::Span;
@@ -21,16 +23,34 @@ pub fn fit(at: Span, wide: i128) -> Result<i64, Trap>
     Ok(wide as i64)
 }
 
+// The trap of a result that is not in 64 bits.
+fn wide(at: Span) -> Result<i64, Trap>
+    ensures { result ≡ trap at Wide }
+{
+    Err(Trap {
+        at,
+        kind: TrapKind::Wide,
+    })
+}
+
+#[tactic(auto, using(crate::proofs::Words::word_fits, crate::proofs::Words::word_wide))]
 fn add(at: Span, a: i64, b: i64) -> Result<i64, Trap>
     ensures { result ≡ word at (a +ℤ b) }
 {
-    fit(at, a as i128 + b as i128)
+    match a.checked_add(b) {
+        Some(z) => Ok(z),
+        None => wide(at),
+    }
 }
 
+#[tactic(auto, using(crate::proofs::Words::word_fits, crate::proofs::Words::word_wide))]
 fn subtract(at: Span, a: i64, b: i64) -> Result<i64, Trap>
     ensures { result ≡ word at (a -ℤ b) }
 {
-    fit(at, a as i128 - b as i128)
+    match a.checked_sub(b) {
+        Some(z) => Ok(z),
+        None => wide(at),
+    }
 }
 
 fn multiply(at: Span, a: i64, b: i64) -> Result<i64, Trap>
@@ -48,7 +68,18 @@ fn divide(at: Span, a: i64, b: i64) -> Result<i64, Trap>
             kind: TrapKind::ZeroDivisor,
         });
     }
+    if b > 0 {
+        return Ok(floor_above(a, b));
+    }
     fit(at, floor(a, b))
+}
+
+// The floor of a quotient by a number above 0, which is in 64 bits.
+fn floor_above(a: i64, by: i64) -> i64
+    requires { pos 1 ≤ℤ by }
+    ensures { result ≡ floor_div a by }
+{
+    a.div_euclid(by)
 }
 
 /// What is left of a number after the multiples of another that is at least 1.
@@ -138,6 +169,6 @@ pub fn rescale(at: Span, from: u8, to: u8, a: i64) -> Result<i64, Trap>
     if from <= to {
         multiply(at, a, power_of_ten(to - from))
     } else {
-        fit(at, floor(a, power_of_ten(from - to)))
+        Ok(floor_above(a, power_of_ten(from - to)))
     }
 }

@@ -1,7 +1,7 @@
 //! The value of an expression on numbers.
 
-ghost use Rattle.std.specs.Prelude.{◌≡◌, length};
-ghost use Rattle.sot_lang.specs.Values.{value_of, then_with, called};
+ghost use Rattle.std.specs.Prelude.{◌≡◌, ◌≤◌, ◌≤ℤ◌, ◌-ℤ◌, ◌*ℤ◌, neg_ℤ, pos, not, Ok, length};
+ghost use Rattle.sot_lang.specs.Values.{value_of, then_with, word, truth, is_true, floor_div, rescaled as at_scale, called};
 ghost use Rattle.sot_lang.specs.Ticks.{values};
 ghost use Rattle.sot_tree.specs.Functions.{arity};
 ghost use Rattle.sot_lang.specs.TermPlaces.{HasPlaces, HavePlaces};
@@ -25,7 +25,8 @@ pub fn value(term: &Term, numbers: &[i64]) -> Result<i64, Trap>
     }
 }
 
-// The same, with room for the parts of an expression.
+// The same, where the expression has parts. What has one part has a function of its own, with the room for the part's value.
+// Conditions come here at once, since a condition is hardly ever a number or a name.
 #[cycle(value)]
 fn compound(term: &Term, numbers: &[i64]) -> Result<i64, Trap>
     requires { HasPlaces (length numbers.now) term.now }
@@ -44,19 +45,54 @@ fn compound(term: &Term, numbers: &[i64]) -> Result<i64, Trap>
             let b = value(right, numbers)?;
             operate(*op, *at, a, b)
         }
-        Term::Rest { left, by, .. } => Ok(rest(value(left, numbers)?, *by)),
-        Term::Neg { part, at } => negate(*at, value(part, numbers)?),
-        Term::Not { part, .. } => Ok(truth_value(!holds(value(part, numbers)?))),
+        Term::Rest { left, by, .. } => remainder(left, *by, numbers),
+        Term::Neg { part, at } => negation(part, *at, numbers),
+        Term::Not { part, .. } => denial(part, numbers),
         Term::Call { func, parts, at } => call(*func, parts, *at, numbers),
-        Term::Rescale { part, from, to, at } => rescale(*at, *from, *to, value(part, numbers)?),
+        Term::Rescale { part, from, to, at } => rescaled(part, *from, *to, *at, numbers),
         Term::If { cond, yes, no, .. } => {
-            if holds(value(cond, numbers)?) {
+            if holds(compound(cond, numbers)?) {
                 value(yes, numbers)
             } else {
                 value(no, numbers)
             }
         }
     }
+}
+
+#[cycle(value)]
+fn remainder(left: &Term, by: i64, numbers: &[i64]) -> Result<i64, Trap>
+    requires places { HasPlaces (length numbers.now) left.now }
+    requires divisor { pos 1 ≤ℤ by }
+    ensures { result ≡ then_with (value_of left.now numbers.now) (λ x. Ok (x -ℤ (by *ℤ floor_div x by))) }
+{
+    Ok(rest(value(left, numbers)?, by))
+}
+
+#[cycle(value)]
+fn negation(part: &Term, at: Span, numbers: &[i64]) -> Result<i64, Trap>
+    requires { HasPlaces (length numbers.now) part.now }
+    ensures { result ≡ then_with (value_of part.now numbers.now) (λ x. word at (neg_ℤ x)) }
+{
+    negate(at, value(part, numbers)?)
+}
+
+#[cycle(value)]
+fn denial(part: &Term, numbers: &[i64]) -> Result<i64, Trap>
+    requires { HasPlaces (length numbers.now) part.now }
+    ensures { result ≡ then_with (value_of part.now numbers.now) (λ x. Ok (truth (not (is_true x)))) }
+{
+    Ok(truth_value(!holds(value(part, numbers)?)))
+}
+
+#[cycle(value)]
+fn rescaled(part: &Term, from: u8, to: u8, at: Span, numbers: &[i64]) -> Result<i64, Trap>
+    requires places { HasPlaces (length numbers.now) part.now }
+    requires first { from ≤ 6 }
+    requires second { to ≤ 6 }
+    ensures { result ≡ then_with (value_of part.now numbers.now) (at_scale at from to) }
+{
+    rescale(at, from, to, value(part, numbers)?)
 }
 
 // The result of a function at its parts.

@@ -1,5 +1,5 @@
 -- The interval evaluation as the code does it: expressions and bodies, by the ends.
-use Rattle.std.specs.Prelude.{ℕ, zero, suc, if◌then◌else◌, ◌&&◌, int_le, List, [], ◌∷◌, ◌++◌, Ok, Err, ◌≡◌, Result, slice_index_or, slice_set}
+use Rattle.std.specs.Prelude.{ℕ, zero, suc, if◌then◌else◌, ◌&&◌, int_le, List, [], ◌∷◌, ◌++◌, Ok, Err, ◌≡◌, Result, Option, Some, None, slice_index_or, slice_set}
 use Rattle.sot_text.specs.declared.token.Span.{Span}
 use Rattle.sot_tree.specs.declared.operator.Func.{Func}
 use Rattle.sot_tree.specs.declared.operator.Func.TheVariants.{Min, Max, Abs, Clamp}
@@ -123,3 +123,8 @@ Leaves (Err t) locals draft o = o ≡ Err t
 abbrev pub GivesSides : {U : Type 0} → Result U MayTrap → List Side → OrMayTrap (List Side) → Type 0
 GivesSides (Ok u) sides o = o ≡ Ok sides
 GivesSides (Err t) sides o = o ≡ Err t
+
+-- a value that was found, or none and the trap that stands in its place, is this answer
+abbrev pub Finds : {A : Type 0} → Option A → MayTrap → OrMayTrap A → Type 0
+Finds (Some x) t o = o ≡ Ok x
+Finds None t o = o ≡ Err t

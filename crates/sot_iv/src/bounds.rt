@@ -28,14 +28,13 @@ pub fn scalar_side(p: &Typed, scalar: u32) -> Interval
     }
 }
 
-/// The declared ranges of some scalars, in order.
-pub fn types_of(infos: &[ScalarInfo], scalars: &[u32]) -> Ranges
-    requires few { length scalars.now ≤ 8 }
+/// The declared ranges of some scalars, in order, behind the other intervals.
+pub fn put_types(infos: &[ScalarInfo], scalars: &[u32], sides: &mut Ranges)
+    requires room { length sides.old + length scalars.now ≤ 80 }
     requires inside { (k : ℕ) → Has scalars.now k → k < length infos.now }
     requires ordered { (k : ℕ) (info : Scalar) → At infos.now k info → info.lo ≤ℤ info.hi }
-    ensures { result ≡ map (range_of infos.now) scalars.now }
+    ensures { sides.new ≡ sides.old ++ map (range_of infos.now) scalars.now }
 {
-    let mut sides = Ranges::none();
     for i in 0..scalars.len() {
         let scalar = scalars[i] as usize;
         let info = &infos[scalar];
@@ -44,7 +43,6 @@ pub fn types_of(infos: &[ScalarInfo], scalars: &[u32]) -> Ranges
             hi: info.hi,
         });
     }
-    sides
 }
 
 /// The declared ranges of locals, behind the other intervals.

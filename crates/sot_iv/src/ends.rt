@@ -29,7 +29,7 @@ fn fit(at: Span, lo: i128, hi: i128) -> Result<Interval, MayTrap>
     })
 }
 
-// Sums, differences and negations in 128 bits.
+// Sums, differences, products and negations in 128 bits.
 fn plus(a: i64, b: i64) -> i128
     ensures { result ≡ a +ℤ b }
 {
@@ -48,14 +48,39 @@ fn minus(a: i64) -> i128
     -(a as i128)
 }
 
-// An interval of 64 bits fits.
-pub(crate) fn refit(at: Span, a: Interval) -> Result<Interval, MayTrap>
-    ensures { result ≡ fitted at a }
+// An interval of 64 bits fits, wherever it stands.
+#[tactic(auto, using(crate::proofs::Wide::held_fits))]
+pub(crate) fn refit(_at: Span, a: Interval) -> Result<Interval, MayTrap>
+    ensures { result ≡ fitted _at a }
 {
-    fit(at, a.lo as i128, a.hi as i128)
+    Ok(a)
+}
+
+// Ends in 64 bits are an interval that fits.
+#[tactic(auto, using(crate::proofs::Wide::held_fits))]
+fn held(_at: Span, lo: i64, hi: i64) -> Result<Interval, MayTrap>
+    requires { lo ≤ℤ hi }
+    ensures { result ≡ fitted _at (side lo hi) }
+{
+    Ok(ordered(lo, hi))
 }
 
 pub(crate) fn sum_of(at: Span, a: i64, b: i64, c: i64, d: i64) -> Result<Interval, MayTrap>
+    requires first { a ≤ℤ b }
+    requires second { c ≤ℤ d }
+    ensures { result ≡ fitted at (sum (side a b) (side c d)) }
+{
+    let Some(lo) = a.checked_add(c) else {
+        return wide_sum(at, a, b, c, d);
+    };
+    let Some(hi) = b.checked_add(d) else {
+        return wide_sum(at, a, b, c, d);
+    };
+    held(at, lo, hi)
+}
+
+// The same in 128 bits, as the trap shows it.
+fn wide_sum(at: Span, a: i64, b: i64, c: i64, d: i64) -> Result<Interval, MayTrap>
     requires first { a ≤ℤ b }
     requires second { c ≤ℤ d }
     ensures { result ≡ fitted at (sum (side a b) (side c d)) }
@@ -66,6 +91,20 @@ pub(crate) fn sum_of(at: Span, a: i64, b: i64, c: i64, d: i64) -> Result<Interva
 }
 
 pub(crate) fn difference_of(at: Span, a: i64, b: i64, c: i64, d: i64) -> Result<Interval, MayTrap>
+    requires first { a ≤ℤ b }
+    requires second { c ≤ℤ d }
+    ensures { result ≡ fitted at (difference (side a b) (side c d)) }
+{
+    let Some(lo) = a.checked_sub(d) else {
+        return wide_difference(at, a, b, c, d);
+    };
+    let Some(hi) = b.checked_sub(c) else {
+        return wide_difference(at, a, b, c, d);
+    };
+    held(at, lo, hi)
+}
+
+fn wide_difference(at: Span, a: i64, b: i64, c: i64, d: i64) -> Result<Interval, MayTrap>
     requires first { a ≤ℤ b }
     requires second { c ≤ℤ d }
     ensures { result ≡ fitted at (difference (side a b) (side c d)) }
@@ -105,11 +144,50 @@ fn span_of(at: Span, p: i128, q: i128, r: i128, s: i128) -> Result<Interval, May
 pub(crate) fn product_of(at: Span, a: i64, b: i64, c: i64, d: i64) -> Result<Interval, MayTrap>
     ensures { result ≡ fitted at (product (side a b) (side c d)) }
 {
+    let Some(p) = a.checked_mul(c) else {
+        return wide_product(at, a, b, c, d);
+    };
+    let Some(q) = a.checked_mul(d) else {
+        return wide_product(at, a, b, c, d);
+    };
+    let Some(r) = b.checked_mul(c) else {
+        return wide_product(at, a, b, c, d);
+    };
+    let Some(s) = b.checked_mul(d) else {
+        return wide_product(at, a, b, c, d);
+    };
+    corners(at, p, q, r, s)
+}
+
+fn wide_product(at: Span, a: i64, b: i64, c: i64, d: i64) -> Result<Interval, MayTrap>
+    ensures { result ≡ fitted at (product (side a b) (side c d)) }
+{
     let p = times(a, c);
     let q = times(a, d);
     let r = times(b, c);
     let s = times(b, d);
     span_of(at, p, q, r, s)
+}
+
+fn lowest(p: i64, q: i64, r: i64, s: i64) -> i64
+    ensures { result ≡ least_of p q r s }
+{
+    p.min(q).min(r.min(s))
+}
+
+fn highest(p: i64, q: i64, r: i64, s: i64) -> i64
+    ensures { result ≡ greatest_of p q r s }
+{
+    p.max(q).max(r.max(s))
+}
+
+// From the least to the greatest of four numbers of 64 bits.
+fn corners(at: Span, p: i64, q: i64, r: i64, s: i64) -> Result<Interval, MayTrap>
+    ensures { result ≡ fitted at (side (least_of p q r s) (greatest_of p q r s)) }
+{
+    let lo = lowest(p, q, r, s);
+    let hi = highest(p, q, r, s);
+    held(at, lo, hi)
 }
 
 fn has_zero(a: i64, b: i64) -> bool
@@ -144,7 +222,23 @@ pub(crate) fn quotient_of(at: Span, a: i64, b: i64, c: i64, d: i64) -> Result<In
             hi: d as i128,
         });
     }
+    if 0 < c {
+        return quotient_above(at, a, b, c, d);
+    }
     quotient_at(at, a, b, c, d)
+}
+
+// The quotients where each divisor is above 0: they are in 64 bits.
+fn quotient_above(at: Span, a: i64, b: i64, c: i64, d: i64) -> Result<Interval, MayTrap>
+    requires first { pos 1 ≤ℤ c }
+    requires second { pos 1 ≤ℤ d }
+    ensures { result ≡ fitted at (quotient (side a b) (side c d)) }
+{
+    let p = floor_above(a, c);
+    let q = floor_above(a, d);
+    let r = floor_above(b, c);
+    let s = floor_above(b, d);
+    corners(at, p, q, r, s)
 }
 
 fn and(a: bool, b: bool) -> bool
@@ -296,6 +390,19 @@ pub(crate) fn negation_of(at: Span, a: i64, b: i64) -> Result<Interval, MayTrap>
     requires { a ≤ℤ b }
     ensures { result ≡ fitted at (negation (side a b)) }
 {
+    let Some(lo) = b.checked_neg() else {
+        return wide_negation(at, a, b);
+    };
+    let Some(hi) = a.checked_neg() else {
+        return wide_negation(at, a, b);
+    };
+    held(at, lo, hi)
+}
+
+fn wide_negation(at: Span, a: i64, b: i64) -> Result<Interval, MayTrap>
+    requires { a ≤ℤ b }
+    ensures { result ≡ fitted at (negation (side a b)) }
+{
     let lo = minus(b);
     let hi = minus(a);
     fit(at, lo, hi)
@@ -316,7 +423,7 @@ pub(crate) fn magnitude_of(at: Span, a: i64, b: i64) -> Result<Interval, MayTrap
     ensures { result ≡ fitted at (magnitude (side a b)) }
 {
     if 0 <= a {
-        fit(at, a as i128, b as i128)
+        held(at, a, b)
     } else if b <= 0 {
         negation_of(at, a, b)
     } else {
@@ -386,7 +493,7 @@ fn scaled(a: i64, from: u8, to: u8) -> i128
     if from <= to {
         times(a, power(to - from))
     } else {
-        floor(a, power(from - to))
+        floor_above(a, power(from - to)) as i128
     }
 }
 

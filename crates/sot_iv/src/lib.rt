@@ -13,7 +13,7 @@ mod plant;
 mod ranges;
 mod term;
 
-pub use bounds::{put_front, put_locals, safe_hull, scalar_side, seen_hulls, types_of};
+pub use bounds::{put_front, put_locals, put_types, safe_hull, scalar_side, seen_hulls};
 pub use drafted::{Drafted, IvDraft};
 pub use laws::{
     intervals_are_monotone, intervals_are_unique, intervals_hold_all_points, worked_evaluations,
@@ -21,6 +21,6 @@ pub use laws::{
 };
 pub use may_trap::MayTrap;
 pub use node::iv_node;
-pub use plant::{iv_plant, iv_plant_over, plant_ranges};
+pub use plant::{iv_plant, iv_plant_over, put_plant_ranges};
 pub use ranges::Ranges;
 pub use term::iv_term;

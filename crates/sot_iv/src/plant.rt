@@ -1,6 +1,6 @@
 //! A plant's tick over intervals.
 
-ghost use Rattle.std.specs.Prelude.{◌≡◌, ◌≤◌, length};
+ghost use Rattle.std.specs.Prelude.{◌≡◌, ◌≤◌, [], length};
 ghost use Rattle.sot_lang.specs.TermPlaces.{HavePlaces};
 ghost use Rattle.sot_iv.specs.Evaluation.{term_intervals, GivesSides};
 ghost use Rattle.sot_iv.specs.PlantTicks.{MayTickBox, IsBoxAfterTick, ArePlantRanges, MayTickOver, IsBoxOver};
@@ -39,17 +39,23 @@ fn box_of(terms: &[Term], names: &[Interval]) -> Result<BoxN, MayTrap>
 
 /// Where each name of a plant's expressions may be: its state variables in the box, its inputs in `held`, the states of the plants
 /// that it sees, one plant after another, in `seen`, and its disturbances in their bounds. Takes no memory.
-pub fn plant_ranges(p: &Typed, plant: u32, b: &BoxN, held: &[Interval], seen: &[Interval]) -> Ranges
-    requires { MayTickBox p.now plant b.now held.now seen.now }
-    ensures { ArePlantRanges p.now plant b.now held.now seen.now result }
+pub fn put_plant_ranges(
+    p: &Typed,
+    plant: u32,
+    b: &BoxN,
+    held: &[Interval],
+    seen: &[Interval],
+    names: &mut Ranges,
+)
+    requires may { MayTickBox p.now plant b.now held.now seen.now }
+    requires empty { names.old ≡ [] }
+    ensures { ArePlantRanges p.now plant b.now held.now seen.now names.new }
 {
     let info = &p.plants[plant as usize];
-    let mut names = Ranges::none();
-    put_box(b, &mut names);
+    put_box(b, names);
     names.extend(held);
     names.extend(seen);
-    put_bounds(&info.noise, &mut names);
-    names
+    put_bounds(&info.noise, names);
 }
 
 /// The least box of a plant after one tick, with its names in these ranges, or the first operands of which some trap. Takes no
@@ -75,6 +81,7 @@ pub fn iv_plant(
     requires { MayTickBox p.now plant b.now held.now seen.now }
     ensures { IsBoxAfterTick p.now plant b.now held.now seen.now result }
 {
-    let names = plant_ranges(p, plant, b, held, seen);
+    let mut names = Ranges::none();
+    put_plant_ranges(p, plant, b, held, seen, &mut names);
     iv_plant_over(p, plant, &names)
 }

@@ -5,12 +5,12 @@ ghost use Rattle.sot_tree.specs.Functions.{arity};
 ghost use Rattle.sot_lang.specs.TermPlaces.{HasPlaces, HavePlaces};
 ghost use Rattle.sot_box.specs.Sides.{nought};
 ghost use Rattle.sot_iv.specs.TermIntervals.{IsTermInterval};
-ghost use Rattle.sot_iv.specs.Evaluation.{term_interval, term_intervals, called_side, and_then};
+ghost use Rattle.sot_iv.specs.Evaluation.{term_interval, term_intervals, called_side, and_then, Finds};
 ghost use Rattle.sot_iv.specs.Ends.{fitted, rest, negation, denied, rescaled};
 
 use crate::{MayTrap, Ranges, ends, operators};
 use sot_box::Interval;
-use sot_lang::Term;
+use sot_lang::{Term, TrapKind};
 use sot_text::Span;
 use sot_tree::Func;
 
@@ -36,9 +36,7 @@ fn place(n: usize, seen: &[Interval], locals: &[Interval]) -> Interval
     }
 }
 
-// The least interval of an expression, where each name has its interval in these lists. Numbers and names are answered first: a
-// function pays at its entry for the room that it needs.
-#[cycle(interval)]
+// The least interval of an expression, where each name has its interval in these lists.
 pub(crate) fn interval_of(
     term: &Term,
     seen: &[Interval],
@@ -47,93 +45,153 @@ pub(crate) fn interval_of(
     requires { HasPlaces (length seen.now + length locals.now) term.now }
     ensures { result ≡ term_interval term.now (seen.now ++ locals.now) }
 {
-    match term {
-        Term::Number(z) => Ok(ends::ordered(*z, *z)),
-        Term::Place(n) => Ok(place(*n as usize, seen, locals)),
-        _ => compound(term, seen, locals),
+    let mut trap = no_trap();
+    match evaluate(term, seen, locals, &mut trap) {
+        Some(x) => Ok(x),
+        None => Err(trap),
     }
 }
 
-// The same, with room for the parts of an expression.
-#[cycle(interval)]
-fn compound(term: &Term, seen: &[Interval], locals: &[Interval]) -> Result<Interval, MayTrap>
+// What stands in a trap's place before there is one.
+fn no_trap() -> MayTrap {
+    MayTrap {
+        at: Span {
+            line: 0,
+            column: 0,
+            from: 0,
+            to: 0,
+        },
+        kind: TrapKind::Wide,
+        lo: 0,
+        hi: 0,
+    }
+}
+
+// The interval, or none and the trap in its place.
+fn kept(answer: Result<Interval, MayTrap>, trap: &mut MayTrap) -> Option<Interval>
+    ensures { Finds result trap.new answer }
+{
+    match answer {
+        Ok(x) => Some(x),
+        Err(t) => {
+            *trap = t;
+            None
+        }
+    }
+}
+
+// The same, with the trap in a place of its own: each part's result is written and read again, so it is kept small. Numbers and
+// names are answered first, since a function pays at its entry for the room that it needs.
+#[cycle(evaluate)]
+fn evaluate(
+    term: &Term,
+    seen: &[Interval],
+    locals: &[Interval],
+    trap: &mut MayTrap,
+) -> Option<Interval>
     requires { HasPlaces (length seen.now + length locals.now) term.now }
-    ensures { result ≡ term_interval term.now (seen.now ++ locals.now) }
+    ensures { Finds result trap.new (term_interval term.now (seen.now ++ locals.now)) }
 {
     match term {
-        Term::Number(z) => Ok(ends::ordered(*z, *z)),
-        Term::Place(n) => Ok(place(*n as usize, seen, locals)),
+        Term::Number(z) => Some(ends::ordered(*z, *z)),
+        Term::Place(n) => Some(place(*n as usize, seen, locals)),
+        _ => compound(term, seen, locals, trap),
+    }
+}
+
+// The same, with room for the parts of an expression. Conditions come here at once, since a condition is hardly ever a number or a
+// name.
+#[cycle(evaluate)]
+fn compound(
+    term: &Term,
+    seen: &[Interval],
+    locals: &[Interval],
+    trap: &mut MayTrap,
+) -> Option<Interval>
+    requires { HasPlaces (length seen.now + length locals.now) term.now }
+    ensures { Finds result trap.new (term_interval term.now (seen.now ++ locals.now)) }
+{
+    match term {
+        Term::Number(z) => Some(ends::ordered(*z, *z)),
+        Term::Place(n) => Some(place(*n as usize, seen, locals)),
         Term::Binary {
             op,
             left,
             right,
             at,
         } => {
-            let a = interval_of(left, seen, locals)?;
-            let b = interval_of(right, seen, locals)?;
-            operators::operate(*op, *at, a, b)
+            let a = evaluate(left, seen, locals, trap)?;
+            let b = evaluate(right, seen, locals, trap)?;
+            kept(operators::operate(*op, *at, a, b), trap)
         }
-        Term::Rest { left, by, at } => rest(left, *by, *at, seen, locals),
-        Term::Neg { part, at } => negation(part, *at, seen, locals),
-        Term::Not { part, .. } => denial(part, seen, locals),
-        Term::Call { func, parts, at } => call(*func, parts, *at, seen, locals),
-        Term::Rescale { part, from, to, at } => rescaled(part, *from, *to, *at, seen, locals),
+        Term::Rest { left, by, at } => rest(left, *by, *at, seen, locals, trap),
+        Term::Neg { part, at } => negation(part, *at, seen, locals, trap),
+        Term::Not { part, .. } => denial(part, seen, locals, trap),
+        Term::Call { func, parts, at } => call(*func, parts, *at, seen, locals, trap),
+        Term::Rescale { part, from, to, at } => rescaled(part, *from, *to, *at, seen, locals, trap),
         Term::If { cond, yes, no, .. } => {
-            let c = interval_of(cond, seen, locals)?;
+            let c = compound(cond, seen, locals, trap)?;
             if !ends::is_possible(c) {
-                return interval_of(no, seen, locals);
+                return evaluate(no, seen, locals, trap);
             }
             if ends::is_sure(c) {
-                return interval_of(yes, seen, locals);
+                return evaluate(yes, seen, locals, trap);
             }
-            let a = interval_of(yes, seen, locals)?;
-            let b = interval_of(no, seen, locals)?;
-            Ok(operators::hull_with(a, b))
+            let a = evaluate(yes, seen, locals, trap)?;
+            let b = evaluate(no, seen, locals, trap)?;
+            Some(operators::hull_with(a, b))
         }
     }
 }
 
 // The least intervals of what is made of one expression.
-#[cycle(interval)]
+#[cycle(evaluate)]
 fn rest(
     left: &Term,
     by: i64,
     at: Span,
     seen: &[Interval],
     locals: &[Interval],
-) -> Result<Interval, MayTrap>
+    trap: &mut MayTrap,
+) -> Option<Interval>
     requires places { HasPlaces (length seen.now + length locals.now) left.now }
     requires divisor { pos 1 ≤ℤ by }
-    ensures { result ≡ and_then (term_interval left.now (seen.now ++ locals.now)) (λ x. fitted at (rest by x)) }
+    ensures { Finds result trap.new (and_then (term_interval left.now (seen.now ++ locals.now)) (λ x. fitted at (rest by x))) }
 {
-    let a = interval_of(left, seen, locals)?;
-    operators::divide_rest(at, a, by)
+    let a = evaluate(left, seen, locals, trap)?;
+    kept(operators::divide_rest(at, a, by), trap)
 }
 
-#[cycle(interval)]
+#[cycle(evaluate)]
 fn negation(
     part: &Term,
     at: Span,
     seen: &[Interval],
     locals: &[Interval],
-) -> Result<Interval, MayTrap>
+    trap: &mut MayTrap,
+) -> Option<Interval>
     requires { HasPlaces (length seen.now + length locals.now) part.now }
-    ensures { result ≡ and_then (term_interval part.now (seen.now ++ locals.now)) (λ x. fitted at (negation x)) }
+    ensures { Finds result trap.new (and_then (term_interval part.now (seen.now ++ locals.now)) (λ x. fitted at (negation x))) }
 {
-    let a = interval_of(part, seen, locals)?;
-    operators::negate(at, a)
+    let a = evaluate(part, seen, locals, trap)?;
+    kept(operators::negate(at, a), trap)
 }
 
-#[cycle(interval)]
-fn denial(part: &Term, seen: &[Interval], locals: &[Interval]) -> Result<Interval, MayTrap>
+#[cycle(evaluate)]
+fn denial(
+    part: &Term,
+    seen: &[Interval],
+    locals: &[Interval],
+    trap: &mut MayTrap,
+) -> Option<Interval>
     requires { HasPlaces (length seen.now + length locals.now) part.now }
-    ensures { result ≡ and_then (term_interval part.now (seen.now ++ locals.now)) (λ x. Ok (denied x)) }
+    ensures { Finds result trap.new (and_then (term_interval part.now (seen.now ++ locals.now)) (λ x. Ok (denied x))) }
 {
-    let a = interval_of(part, seen, locals)?;
-    Ok(operators::deny(a))
+    let a = evaluate(part, seen, locals, trap)?;
+    Some(operators::deny(a))
 }
 
-#[cycle(interval)]
+#[cycle(evaluate)]
 fn rescaled(
     part: &Term,
     from: u8,
@@ -141,49 +199,51 @@ fn rescaled(
     at: Span,
     seen: &[Interval],
     locals: &[Interval],
-) -> Result<Interval, MayTrap>
+    trap: &mut MayTrap,
+) -> Option<Interval>
     requires places { HasPlaces (length seen.now + length locals.now) part.now }
     requires first { from ≤ 6 }
     requires second { to ≤ 6 }
-    ensures { result ≡ and_then (term_interval part.now (seen.now ++ locals.now)) (λ x. fitted at (rescaled from to x)) }
+    ensures { Finds result trap.new (and_then (term_interval part.now (seen.now ++ locals.now)) (λ x. fitted at (rescaled from to x))) }
 {
-    let a = interval_of(part, seen, locals)?;
-    operators::rescale(at, a, from, to)
+    let a = evaluate(part, seen, locals, trap)?;
+    kept(operators::rescale(at, a, from, to), trap)
 }
 
 // The least interval of a function at its parts.
-#[cycle(interval)]
+#[cycle(evaluate)]
 fn call(
     func: Func,
     parts: &Vec<Term>,
     at: Span,
     seen: &[Interval],
     locals: &[Interval],
-) -> Result<Interval, MayTrap>
+    trap: &mut MayTrap,
+) -> Option<Interval>
     requires parts { HavePlaces (length seen.now + length locals.now) parts.now.items }
     requires arity { length parts.now.items ≡ arity func }
-    ensures { result ≡ and_then (term_intervals parts.now.items (seen.now ++ locals.now)) (called_side func at) }
+    ensures { Finds result trap.new (and_then (term_intervals parts.now.items (seen.now ++ locals.now)) (called_side func at)) }
 {
     match func {
         Func::Min => {
-            let a = interval_of(&parts[0], seen, locals)?;
-            let b = interval_of(&parts[1], seen, locals)?;
-            operators::minimum(at, a, b)
+            let a = evaluate(&parts[0], seen, locals, trap)?;
+            let b = evaluate(&parts[1], seen, locals, trap)?;
+            kept(operators::minimum(at, a, b), trap)
         }
         Func::Max => {
-            let a = interval_of(&parts[0], seen, locals)?;
-            let b = interval_of(&parts[1], seen, locals)?;
-            operators::maximum(at, a, b)
+            let a = evaluate(&parts[0], seen, locals, trap)?;
+            let b = evaluate(&parts[1], seen, locals, trap)?;
+            kept(operators::maximum(at, a, b), trap)
         }
         Func::Abs => {
-            let a = interval_of(&parts[0], seen, locals)?;
-            operators::absolute(at, a)
+            let a = evaluate(&parts[0], seen, locals, trap)?;
+            kept(operators::absolute(at, a), trap)
         }
         Func::Clamp => {
-            let a = interval_of(&parts[0], seen, locals)?;
-            let l = interval_of(&parts[1], seen, locals)?;
-            let h = interval_of(&parts[2], seen, locals)?;
-            operators::clamp(at, a, l, h)
+            let a = evaluate(&parts[0], seen, locals, trap)?;
+            let l = evaluate(&parts[1], seen, locals, trap)?;
+            let h = evaluate(&parts[2], seen, locals, trap)?;
+            kept(operators::clamp(at, a, l, h), trap)
         }
     }
 }

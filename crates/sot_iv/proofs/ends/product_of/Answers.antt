@@ -1,11 +1,11 @@
 use Rattle.std.proofs.Common.{◌∙◌, ◌*ℤ◌}
-use Rattle.sot_iv.proofs.Wide.{of_two, corners_same}
+use Rattle.sot_iv.proofs.Wide.{of_checked, corners_same}
 use Rattle.sot_iv.proofs.ends.product_of.Goals as goal
 
 pub returns : goal.returns
 returns c =
-    let p = of_two (λ x y. x *ℤ y) c.times-p.result c.args.a c.args.c c.ranges.a c.ranges.c c.times-p.type_inv c.times-p.ensures in
-    let q = of_two (λ x y. x *ℤ y) c.times-q.result c.args.a c.args.d c.ranges.a c.ranges.d c.times-q.type_inv c.times-q.ensures in
-    let r = of_two (λ x y. x *ℤ y) c.times-r.result c.args.b c.args.c c.ranges.b c.ranges.c c.times-r.type_inv c.times-r.ensures in
-    let s = of_two (λ x y. x *ℤ y) c.times-s.result c.args.b c.args.d c.ranges.b c.ranges.d c.times-s.type_inv c.times-s.ensures in
-    c.span_of.ensures ∙ corners_same c.args.at _ _ _ _ _ _ _ _ p q r s
+    let p = of_checked (λ x y. x *ℤ y) c.in-Some.p c.args.a c.args.c c.ranges.a c.ranges.c c.in-Some.ensures in
+    let q = of_checked (λ x y. x *ℤ y) c.in-Some-checked_mul.q c.args.a c.args.d c.ranges.a c.ranges.d c.in-Some-checked_mul.ensures in
+    let r = of_checked (λ x y. x *ℤ y) c.in-Some-checked_mul-2.r c.args.b c.args.c c.ranges.b c.ranges.c c.in-Some-checked_mul-2.ensures in
+    let s = of_checked (λ x y. x *ℤ y) c.in-Some-checked_mul-3.s c.args.b c.args.d c.ranges.b c.ranges.d c.in-Some-checked_mul-3.ensures in
+    c.corners.ensures ∙ corners_same c.args.at _ _ _ _ _ _ _ _ p q r s

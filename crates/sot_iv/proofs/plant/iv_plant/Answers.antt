@@ -8,8 +8,8 @@ iv_plant_over-requires c = record {
   held = c.args.held.now;
   seen = c.args.seen.now;
   may = c.requires;
-  are = c.plant_ranges-names.ensures;
+  are = c.put_plant_ranges.ensures;
 }
 
 pub returns : goal.returns
-returns c plant at = subst (λ l. AreTermIntervals plant.next.items l c.iv_plant_over.result) (c.plant_ranges-names.ensures plant at) (c.iv_plant_over.ensures plant at)
+returns c plant at = subst (λ l. AreTermIntervals plant.next.items l c.iv_plant_over.result) (c.put_plant_ranges.ensures plant at) (c.iv_plant_over.ensures plant at)

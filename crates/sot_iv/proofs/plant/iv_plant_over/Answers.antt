@@ -1,4 +1,4 @@
-use Rattle.std.proofs.Common.{arith, ◌≡◌, ◌++◌, length, get_or, ap, sym, ◌∙◌, subst}
+use Rattle.std.proofs.Common.{arith, ◌≡◌, length, get_or, ap, sym, ◌∙◌, subst}
 use Rattle.sot_box.specs.Sides.{AreOrdered}
 use Rattle.sot_lists.specs.Places.{At}
 use Rattle.sot_lang.specs.Tables.{Tables}

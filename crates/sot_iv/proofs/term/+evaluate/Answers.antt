@@ -1,9 +1,9 @@
-use Rattle.std.proofs.Common.{rules, ap, ◌∙◌, sym, ◌++◌}
+use Rattle.std.proofs.Common.{rules, ap, subst, ◌∙◌, sym, ◌++◌}
 use Rattle.sot_lang.specs.declared.term.Term.{the_lemmas}
 use Rattle.sot_lang.proofs.Places.{HasPlaces-Call}
-use Rattle.sot_iv.specs.Evaluation.{term_interval}
+use Rattle.sot_iv.specs.Evaluation.{term_interval, Finds}
 use Rattle.sot_iv.proofs.Rows.{term_interval-Call}
-use Rattle.sot_iv.proofs.term.+interval.Goals as goal
+use Rattle.sot_iv.proofs.term.+evaluate.Goals as goal
 
 pub compound-call-requires : goal.compound-call-requires
 compound-call-requires t c =
@@ -11,4 +11,7 @@ compound-call-requires t c =
     (search (rules, the_lemmas, c.in-Call.is, c.decreases), p)
 
 pub compound-returns-in-Call : goal.compound-returns-in-Call
-compound-returns-in-Call t c = c.call.ensures ∙ sym (ap (λ e. term_interval e (c.args.seen.now ++ c.args.locals.now)) c.in-Call.is ∙ term_interval-Call _ _ _ _)
+compound-returns-in-Call t c =
+    subst (Finds c.call.result c.call.new.trap)
+    (sym (ap (λ e. term_interval e (c.args.seen.now ++ c.args.locals.now)) c.in-Call.is ∙ term_interval-Call _ _ _ _))
+    c.call.ensures

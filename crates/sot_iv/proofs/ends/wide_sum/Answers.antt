@@ -1,7 +1,7 @@
 use Rattle.std.proofs.Common.{◌∙◌, ◌+ℤ◌, arith}
 use Rattle.std.proofs.lemmas.Int.{ints}
 use Rattle.sot_iv.proofs.Wide.{of_two, fitted_same}
-use Rattle.sot_iv.proofs.ends.sum_of.Goals as goal
+use Rattle.sot_iv.proofs.ends.wide_sum.Goals as goal
 
 pub fit-requires : goal.fit-requires
 fit-requires c =

@@ -2,7 +2,7 @@ use Rattle.std.proofs.Common.{◌∙◌, arith}
 use Rattle.std.specs.Prelude.{neg_ℤ}
 use Rattle.std.proofs.lemmas.Int.{ints}
 use Rattle.sot_iv.proofs.Wide.{of_one, fitted_same}
-use Rattle.sot_iv.proofs.ends.negation_of.Goals as goal
+use Rattle.sot_iv.proofs.ends.wide_negation.Goals as goal
 
 pub fit-requires : goal.fit-requires
 fit-requires c =
