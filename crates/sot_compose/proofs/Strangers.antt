@@ -1,5 +1,5 @@
 -- Nodes that share a topic without being partners.
-use Rattle.std.proofs.Common.{◌≡◌, ℕ, ◌≤◌, Bool, true, false, List, length, refl, sym, ◌∙◌, subst, arith, IsTrue, ◌↔◌, not}
+use Rattle.std.proofs.Common.{◌≡◌, ℕ, ◌+◌, ◌<◌, ◌≤◌, ◌⊎◌, inl, inr, Bool, true, false, List, length, refl, sym, ◌∙◌, subst, arith, IsTrue, ◌↔◌, not}
 use Rattle.std.proofs.lemmas.Bool.{false≢true}
 use Rattle.std.proofs.lemmas.Option.{slice_get_within, same_Some}
 use Rattle.sot_lang.specs.declared.tables.NodeInfo.{NodeInfo}
@@ -8,7 +8,7 @@ use Rattle.sot_lang.specs.Tables.{Tables}
 use Rattle.sot_lists.specs.Places.{At}
 use Rattle.sot_tube.specs.Topics.{WritesTopic}
 use Rattle.sot_tube.specs.Verdict.{ShareOutput}
-use Rattle.sot_compose.specs.Outputs.{ArePartnersIn, Writes, AreRelated}
+use Rattle.sot_compose.specs.Outputs.{ArePartnersIn, Writes, AreRelated, AreAllRelated, IsFirstWriter}
 
 -- two nodes that write a topic, by whether they are partners
 pub shares : (p : Tables) (t n k : ℕ) (a b c : Bool) (ms : List ModuleInfo) → (IsTrue a ↔ Writes p n t) → (IsTrue b ↔ Writes p k t) → (IsTrue c ↔ ArePartnersIn ms n k) → ms ≡ p.modules
@@ -40,3 +40,41 @@ writes_is p n t node b at iff = (
   (λ h. (node, at, iff.0 h)),
   (λ w. iff.1 (subst (λ (x : NodeInfo). WritesTopic p x t) (same_Some w.0 node (sym w.1 ∙ at)) w.2)),
 )
+
+-- a topic that no node writes, one, or two partners
+pub none_write : (p : Tables) (t : ℕ) → ((k : ℕ) → 0 ≤ k → Writes p k t → ⊥) → AreAllRelated p t
+none_write p t none n k lt i j at_i at_j w v = absurd (none n (omega arith) (i, at_i, w))
+
+order : (k a : ℕ) → (k < a) ⊎ ((k ≡ a) ⊎ (a < k))
+order k a = grind arith
+
+pub one_writes : (p : Tables) (t a : ℕ) → IsFirstWriter p t 0 a → ((k : ℕ) → a + 1 ≤ k → Writes p k t → ⊥) → AreAllRelated p t
+one_writes p t a first none n k lt i j at_i at_j w v = elim (order k a) [
+  | inl less ↦ absurd (first.before k (omega arith) less (j, at_j, v))
+  | inr (inl same) ↦ absurd (first.before n (omega arith) (omega (arith, lt, same)) (i, at_i, w))
+  | inr (inr more) ↦ absurd (none k (omega (arith, more)) (j, at_j, v))
+]
+
+module _ (p : Tables) (t a b : ℕ) (first : IsFirstWriter p t 0 a) (second : IsFirstWriter p t (a + 1) b) (none : (k : ℕ) → b + 1 ≤ k → Writes p k t → ⊥) where
+  is_one : (k : ℕ) → Writes p k t → (k ≡ a) ⊎ (k ≡ b)
+  is_one k w = elim (order k a) [
+    | inl less ↦ absurd (first.before k (omega arith) less w)
+    | inr (inl same) ↦ inl same
+    | inr (inr more) ↦ elim (order k b) [
+      | inl less ↦ absurd (second.before k (omega (arith, more)) less w)
+      | inr (inl same) ↦ inr same
+      | inr (inr past) ↦ absurd (none k (omega (arith, past)) w)
+    ]
+  ]
+
+  pub two_write : (c : Bool) (ms : List ModuleInfo) → (IsTrue c ↔ ArePartnersIn ms a b) → ms ≡ p.modules → c ≡ true → AreAllRelated p t
+  two_write c ms iff same yes_ n k lt i j at_i at_j w v = elim (is_one n (i, at_i, w)) [
+    | inl n_a ↦ elim (is_one k (j, at_j, v)) [
+      | inl k_a ↦ absurd (omega (arith, lt, n_a, k_a))
+      | inr k_b ↦ subst (λ x. ArePartnersIn p.modules x k) (sym n_a) (subst (λ x. ArePartnersIn p.modules a x) (sym k_b) (subst (λ l. ArePartnersIn l a b) same (iff.0 (subst IsTrue (sym yes_) refl))))
+    ]
+    | inr n_b ↦ elim (is_one k (j, at_j, v)) [
+      | inl k_a ↦ absurd (omega (arith, lt, n_b, k_a, second.after))
+      | inr k_b ↦ absurd (omega (arith, lt, n_b, k_b))
+    ]
+  ]

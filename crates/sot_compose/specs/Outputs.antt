@@ -1,5 +1,5 @@
 -- Topics that two nodes write.
-use Rattle.std.specs.Prelude.{ℕ, ◌≡◌, ◌<◌, ◌⊎◌, List}
+use Rattle.std.specs.Prelude.{ℕ, ◌≡◌, ◌<◌, ◌≤◌, ◌⊎◌, List}
 use Rattle.sot_lang.specs.declared.tables.NodeInfo.{NodeInfo}
 use Rattle.sot_lang.specs.declared.tables.ModuleInfo.{ModuleInfo}
 use Rattle.sot_lang.specs.Tables.{Tables}
@@ -19,6 +19,12 @@ ArePartnersIn ms n n' = (m : ℕ) × (a : ModuleInfo) × At ms m a × ArePair a 
 -- the node at place n writes topic t
 abbrev pub Writes : Tables → ℕ → ℕ → Type 0
 Writes p n t = (info : NodeInfo) × At p.nodes n info × WritesTopic p info t
+
+-- the first node from a place on that writes topic t
+pub record IsFirstWriter (p : Tables) (t from k : ℕ) : Type 0 where
+  pub after : from ≤ k
+  pub writes : Writes p k t
+  pub before : (i : ℕ) → from ≤ i → i < k → Writes p i t → ⊥
 
 -- if both nodes write topic t, they are the two nodes of a module
 abbrev pub AreRelated : Tables → ℕ → ℕ → ℕ → Type 0

@@ -3,7 +3,7 @@
 ghost use Rattle.std.specs.Prelude.{ℕ, ◌≡◌, ◌<◌, ◌≤◌, length, true, false, IsTrue, ◌↔◌, MatchOption, IfSome};
 ghost use Rattle.sot_lang.specs.TableRules.{MeetsTableRules};
 ghost use Rattle.sot_tube.specs.Verdict.{ShareOutput};
-ghost use Rattle.sot_compose.specs.Outputs.{ArePair, ArePartnersIn, Writes, AreRelated, AreAllRelated, IsStranger, AreFirstWriters};
+ghost use Rattle.sot_compose.specs.Outputs.{ArePair, ArePartnersIn, Writes, AreRelated, AreAllRelated, IsStranger, AreFirstWriters, IsFirstWriter};
 
 use crate::clash::Clash;
 use sot_lang::{ModuleInfo, Typed};
@@ -73,6 +73,39 @@ fn first_stranger(p: &Typed, topic: u32, node: u32) -> Option<u32>
     None
 }
 
+// The first node from a place on that writes a topic.
+fn first_writer(p: &Typed, topic: u32, from: u32) -> Option<u32>
+    requires rules { MeetsTableRules p.now }
+    ensures first { MatchOption result
+        ((k : ℕ) → from ≤ k → Writes p.now k topic → ⊥)
+        (λ k. IsFirstWriter p.now topic from k) }
+    ensures there { IfSome result (λ k. k < length p.now.nodes) }
+{
+    for node in from..p.nodes.len() as u32 {
+        if writes(p, node, topic) {
+            return Some(node);
+        }
+    }
+    None
+}
+
+// Whether a topic has no writers but two partners, or but one. Then none of its writers are to be compared with others.
+fn are_few(p: &Typed, topic: u32) -> bool
+    requires rules { MeetsTableRules p.now }
+    ensures { result ≡ true → AreAllRelated p.now topic }
+{
+    let Some(a) = first_writer(p, topic, 0) else {
+        return true;
+    };
+    let Some(b) = first_writer(p, topic, a + 1) else {
+        return true;
+    };
+    match first_writer(p, topic, b + 1) {
+        Some(_) => false,
+        None => are_partners(&p.modules, a, b),
+    }
+}
+
 // The first two nodes that write a topic and are not partners.
 fn first_writers(p: &Typed, topic: u32) -> Option<Clash>
     requires rules { MeetsTableRules p.now }
@@ -80,6 +113,9 @@ fn first_writers(p: &Typed, topic: u32) -> Option<Clash>
         (AreAllRelated p.now topic)
         (λ c. (c.what ≡ topic) × AreFirstWriters p.now topic c.a c.b) }
 {
+    if are_few(p, topic) {
+        return None;
+    }
     for node in 0..p.nodes.len() as u32 {
         if let Some(other) = first_stranger(p, topic, node) {
             return Some(Clash {

@@ -1,6 +1,6 @@
 //! Nodes and plants that two modules share.
 
-ghost use Rattle.std.specs.Prelude.{ℕ, ◌≡◌, ◌<◌, ◌≤◌, length, ◌^◌, IsTrue, ◌↔◌, MatchOption, IfSome};
+ghost use Rattle.std.specs.Prelude.{ℕ, ◌≡◌, true, ◌<◌, ◌≤◌, length, ◌^◌, IsTrue, ◌↔◌, MatchOption, IfSome};
 ghost use Rattle.sot_lists.specs.Places.{At};
 ghost use Rattle.sot_compose.specs.Parts.{Uses, IsUnused, IsFirstUser, IsOfOneModule, AreFirstUsers};
 
@@ -55,6 +55,38 @@ fn first_users(part: Part, modules: &[ModuleInfo], place: u32) -> Option<Clash>
     Some(Clash { what: place, a, b })
 }
 
+// The least and the greatest place of the parts that a module uses.
+fn ends(part: Part, info: &ModuleInfo) -> (u32, u32)
+    ensures within { (x : ℕ) → Uses part info.now x → (result.0 ≤ x) × (x ≤ result.1) }
+    ensures ordered { result.0 ≤ result.1 }
+{
+    match part {
+        Part::Node => {
+            if info.ac < info.sc {
+                (info.ac, info.sc)
+            } else {
+                (info.sc, info.ac)
+            }
+        }
+        Part::Plant => (info.plant, info.plant),
+    }
+}
+
+// Whether each module uses parts behind those of the modules before it. Then no two share one.
+fn are_in_order(part: Part, modules: &[ModuleInfo]) -> bool
+    ensures { result ≡ true → (x : ℕ) → IsOfOneModule part modules.now x }
+{
+    let mut next: u64 = 0;
+    for info in modules {
+        let (low, high) = ends(part, info);
+        if (low as u64) < next {
+            return false;
+        }
+        next = high as u64 + 1;
+    }
+    true
+}
+
 /// The first part of a sort that two modules use, of so many.
 pub fn first_shared(part: Part, modules: &[ModuleInfo], count: u32) -> Option<Clash>
     requires { length modules.now < 2 ^ 32 }
@@ -63,6 +95,9 @@ pub fn first_shared(part: Part, modules: &[ModuleInfo], count: u32) -> Option<Cl
         (λ c. AreFirstUsers part modules.now c.what c.a c.b × ((x : ℕ) → x < c.what → IsOfOneModule part modules.now x)) }
     ensures within { IfSome result (λ c. c.what < count) }
 {
+    if are_in_order(part, modules) {
+        return None;
+    }
     for place in 0..count {
         if let Some(clash) = first_users(part, modules, place) {
             return Some(clash);

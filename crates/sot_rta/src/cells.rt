@@ -12,12 +12,13 @@ ghost use Rattle.sot_tube.specs.Verdict.{closed_refusal, reach_refusal, cells_of
 ghost use Rattle.sot_rta.specs.Cells.{MayHaveCells, MayCheck, AnswersHeldTube, AnswersClosedCell, AnswersReachCell, AnswersClosedPlace, AnswersReachPlace, AnswersClosedCells, AnswersReachCells, AnswersCells};
 ghost use Rattle.sot_rta.specs.Refused.{Answers, refusal_view};
 
-use crate::commands::commands;
+use crate::commands::put_commands;
 use crate::draft::cell_draft;
 use crate::many::first_refused;
 use crate::places::{module_at, node_at, plant_at};
 use crate::refusal::Refusal;
 use sot_box::{BoxN, Region, uncovered};
+use sot_iv::Ranges;
 use sot_lang::{Cells, Cert, ModuleInfo, Typed};
 use sot_tube::{Leave, any_inside, held_inside};
 use std::thread::Threads;
@@ -84,7 +85,8 @@ fn held_tube(
     let plant = plant_at(p, info.plant);
     let sc = node_at(p, info.sc);
     let draft = cell_draft(p, info, sc, cell).unwrap();
-    let held = commands(p, &plant.inputs, &sc.writes, &draft);
+    let mut held = Ranges::none();
+    put_commands(p, &plant.inputs, &sc.writes, &draft, &mut held);
     held_inside(p, module, cell, held.as_slice(), sc.period + jitter)
 }
 

@@ -1,6 +1,6 @@
 //! The intervals of a plant's commands.
 
-ghost use Rattle.std.specs.Prelude.{ℕ, ◌≡◌, ◌<◌, ◌≤◌, length, map};
+ghost use Rattle.std.specs.Prelude.{ℕ, ◌≡◌, ◌<◌, ◌≤◌, [], length, map};
 ghost use Rattle.sot_lists.specs.Places.{Has};
 ghost use Rattle.sot_tube.specs.Certified.{command_interval};
 
@@ -27,17 +27,16 @@ fn command(p: &Typed, scalar: u32, writes: &[u32], draft: &IvDraft) -> Interval
     whole
 }
 
-/// The intervals of the commands of a plant with these inputs, under a node that writes these scalars and drafts so.
-pub fn commands(p: &Typed, inputs: &[u32], writes: &[u32], draft: &IvDraft) -> Ranges
+/// The intervals of the commands of a plant with these inputs, under a node that writes these scalars and drafts so, in an empty list.
+pub fn put_commands(p: &Typed, inputs: &[u32], writes: &[u32], draft: &IvDraft, sides: &mut Ranges)
     requires there { (k : ℕ) → Has inputs.now k → k < length p.now.scalars }
     requires few_inputs { length inputs.now ≤ 8 }
     requires few { length writes.now ≤ 8 }
-    ensures { result ≡ map (command_interval p.now writes.now draft.now) inputs.now }
+    requires empty { sides.old ≡ [] }
+    ensures { sides.new ≡ map (command_interval p.now writes.now draft.now) inputs.now }
 {
-    let mut sides = Ranges::none();
     for i in 0..inputs.len() {
         let side = command(p, inputs[i], writes, draft);
         sides.push(side);
     }
-    sides
 }

@@ -1,6 +1,6 @@
 //! What a safe node drafts with its plant in a cell.
 
-ghost use Rattle.std.specs.Prelude.{ℕ, ◌≡◌, ◌<◌, ◌≤◌, List, length, map, slice_set};
+ghost use Rattle.std.specs.Prelude.{ℕ, ◌≡◌, ◌<◌, ◌≤◌, List, [], length, map, slice_set};
 ghost use Rattle.sot_box.specs.Sides.{Side};
 ghost use Rattle.sot_lists.specs.Places.{At};
 ghost use Rattle.sot_lang.specs.declared.act.Act.{Act};
@@ -39,21 +39,20 @@ fn cell_side(p: &Typed, slot: Slot, plant: u32, cell: &BoxN) -> Interval
     }
 }
 
-// The intervals of what some slots show, with one plant in a cell.
-fn cell_readings(p: &Typed, slots: &[Slot], plant: u32, cell: &BoxN) -> Ranges
+// The intervals of what some slots show, with one plant in a cell, in an empty list.
+fn put_cell_readings(p: &Typed, slots: &[Slot], plant: u32, cell: &BoxN, sides: &mut Ranges)
     requires few { length slots.now ≤ 64 }
     requires readable { (k : ℕ) (s : Read) → At slots.now k s → CanBeRead p.now s }
     requires rules { MeetsTableRules p.now }
     requires there { plant < length p.now.plants }
     requires width { length cell.now ≡ width_of p.now.plants plant }
-    ensures { AreCellReadings p.now plant cell.now slots.now result }
+    requires empty { sides.old ≡ [] }
+    ensures { AreCellReadings p.now plant cell.now slots.now sides.new }
 {
-    let mut sides = Ranges::none();
     for slot in slots {
         let side = cell_side(p, *slot, plant, cell);
         sides.push(side);
     }
-    sides
 }
 
 /// What the safe node of a module drafts with its plant in a cell, the other plants anywhere in the hulls of their safe regions.
@@ -71,7 +70,8 @@ pub fn cell_draft(
     requires width { length cell.now ≡ width_of p.now.plants info.now.plant }
     ensures { IsCellDraft p.now info.now.plant cell.now sc.now result }
 {
-    let mut ranges = cell_readings(p, &sc.reads, info.plant, cell);
+    let mut ranges = Ranges::none();
+    put_cell_readings(p, &sc.reads, info.plant, cell, &mut ranges);
     put_locals(&sc.locals, &mut ranges);
     iv_node(p, info.sc, &ranges)
 }

@@ -46,6 +46,21 @@ fn is_missing(infos: &[ScalarInfo], some: &[u32], others: &[u32], topic: u32) ->
     one && !other
 }
 
+// Whether each topic of `some` is one of `others`.
+fn go_over(infos: &[ScalarInfo], some: &[u32], others: &[u32]) -> bool
+    requires one { (k : ℕ) → Has some.now k → k < length infos.now }
+    requires other { (k : ℕ) → Has others.now k → k < length infos.now }
+    ensures { result ≡ true → (t : ℕ) → GoesOver infos.now some.now others.now t }
+{
+    for i in 0..some.len() {
+        let scalar = some[i] as usize;
+        if !are_some_of(infos, others, infos[scalar].topic) {
+            return false;
+        }
+    }
+    true
+}
+
 /// The first of so many topics that is a topic of one of the two lists of scalars alone.
 pub fn first_of_one_alone(
     infos: &[ScalarInfo],
@@ -60,6 +75,9 @@ pub fn first_of_one_alone(
         (λ t. IsOfOneAlone infos.now some.now others.now t × ((u : ℕ) → u < t → AreAlike infos.now some.now others.now u)) }
     ensures within { IfSome result (λ t. t < topics) }
 {
+    if go_over(infos, some, others) && go_over(infos, others, some) {
+        return None;
+    }
     for topic in 0..topics {
         if is_of_one_alone(infos, some, others, topic) {
             return Some(topic);
@@ -77,6 +95,9 @@ pub fn first_missing(infos: &[ScalarInfo], topics: u32, some: &[u32], others: &[
         (λ t. IsMissing infos.now some.now others.now t × ((u : ℕ) → u < t → GoesOver infos.now some.now others.now u)) }
     ensures within { IfSome result (λ t. t < topics) }
 {
+    if go_over(infos, some, others) {
+        return None;
+    }
     for topic in 0..topics {
         if is_missing(infos, some, others, topic) {
             return Some(topic);

@@ -1,6 +1,5 @@
 -- Whole topics are written and taken, so what is said of topics holds of scalars.
-use Rattle.std.proofs.Common.{ℕ, ◌<◌, ⊎_elim, List, length, refl, sym, ◌∙◌, arith}
-use Rattle.std.proofs.lemmas.Option.{slice_get_cases}
+use Rattle.std.proofs.Common.{ℕ, refl, sym, ◌∙◌}
 use Rattle.sot_lang.specs.declared.tables.NodeInfo.{NodeInfo}
 use Rattle.sot_lang.specs.Tables.{Tables}
 use Rattle.sot_lists.specs.Places.{At, Has}

@@ -1,8 +1,8 @@
 -- What the calls that follow a module's tube need of the tables, and what they answer.
 use Rattle.std.proofs.Common.{arith, ⊎_elim, ◌≡◌, ◌≢◌, ℕ, zero, suc, ◌*◌, ◌<◌, ◌≤◌, eqb, List, [], ◌∷◌, Ok, Err, get_or, length, refl, sym, ap, ◌∙◌, subst}
-use Rattle.std.specs.Prelude.{Result, MatchResult}
-use Rattle.std.proofs.lemmas.Bool.{cond-true, cond-false, cases_eq, eq-eqb, ne_eqb}
-use Rattle.std.proofs.lemmas.List.{length-map}
+use Rattle.std.specs.Prelude.{Bool, true, Result, MatchResult, vec_len, ◌==◌}
+use Rattle.std.proofs.lemmas.Bool.{cond-true, cond-false, cases_eq, eq-eqb, eqb-true, ne_eqb}
+use Rattle.std.proofs.lemmas.List.{length-map, nil_from_length}
 use Rattle.std.proofs.lemmas.Option.{get_or_from_slice_get, none-some, same_Some, slice_get_within}
 use Rattle.sot_box.specs.Sides.{Side}
 use Rattle.sot_lists.specs.Places.{At, Has}
@@ -44,6 +44,12 @@ some_safe (m ∷ ms) k (suc i) a at e h none =
     (λ here. h 0 m refl (sym (cond-true (eqb m.plant k) m.safe.boxes (safe_of ms k) (eq-eqb m.plant k here)) ∙ none))
     (λ ne. some_safe ms k i a at e (λ j b at'. h (suc j) b at') (sym (cond-false (eqb m.plant k) m.safe.boxes (safe_of ms k) (ne_eqb m.plant k ne)) ∙ none))
     (cases_eq m.plant k)
+
+-- a plant whose list is empty sees no plant
+pub nothing_seen : (plant : PlantInfo) (empty : Bool) → empty ≡ (vec_len plant.sees == 0) → empty ≡ true → plant.sees.items ≡ []
+nothing_seen plant empty is told =
+    let none : vec_len plant.sees ≡ 0 = eqb-true (vec_len plant.sees) 0 (sym is ∙ told) in
+    nil_from_length plant.sees.items (sym plant.sees.ok.0 ∙ none)
 
 -- the tube's answer, from that of the walk with the hulls in between
 answer : (p : Tables) (plant : PlantInfo) (commands seen : List Side) (region : List (List Side)) (box : List Side) (k : ℕ) (r : Result (Unit {0}) Leave) → AreSeenHulls p.modules plant.sees.items seen

@@ -15,3 +15,4 @@ pub mod Walks
 pub mod WalkRanges
 pub mod Follows
 pub mod Kept
+mod Covered

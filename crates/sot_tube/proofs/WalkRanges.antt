@@ -4,9 +4,7 @@ use Rattle.std.specs.Prelude.{drop}
 use Rattle.std.proofs.Math.Seq.{drop-append_seam}
 use Rattle.std.proofs.lemmas.List.{append_assoc}
 use Rattle.sot_box.specs.Sides.{Side}
-use Rattle.sot_lists.specs.Places.{At}
 use Rattle.sot_lang.specs.Tables.{Tables}
-use Rattle.sot_lang.specs.declared.tables.PlantInfo.{PlantInfo}
 use Rattle.sot_lang.specs.Ranges.{bounds}
 use Rattle.sot_lang.specs.TableRules.{MeetsTableRules}
 use Rattle.sot_iv.specs.TermIntervals.{OrMayTrap, AreTermIntervals}
@@ -23,7 +21,7 @@ module _ (p : Tables) (k : ℕ) (area held seen names : List Side) where
   after o are over info at = subst (λ l. AreTermIntervals info.next.items l o) (are info at) (over info at)
 
   module _ (next : List Side) (rules : MeetsTableRules p) (step : MayTickBox p k area held seen) (are : ArePlantRanges p k area held seen names) (told : IsBoxAfterTick p k area held seen (Ok next)) where
-    same : length next ≡ length area
+    pub same : length next ≡ length area
     same = terms_long step.plant.next.items _ next (told step.plant step.is) ∙ (rules.plants k step.plant step.is).one_next ∙ sym step.states
 
     pub front_fits : length next ≤ length names

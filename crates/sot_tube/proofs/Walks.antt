@@ -31,7 +31,7 @@ terms_long (t ∷ ts) rs xs h =
     ap length x.4 ∙ ap suc (terms_long ts rs x.1 x.3)
 
 -- some ticks are left: one, and the rest
-one_left : (P : ℕ → Type 0) (k n : ℕ) → n < k → P (suc (k - suc n)) → P (k - n)
+pub one_left : (P : ℕ → Type 0) (k n : ℕ) → n < k → P (suc (k - suc n)) → P (k - n)
 one_left P k n lt h = let e : suc (k - suc n) ≡ k - n = omega arith in subst P e h
 
 none_left : (P : ℕ → Type 0) (k : ℕ) → P 0 → P (k - k)

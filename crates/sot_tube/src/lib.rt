@@ -2,6 +2,7 @@
 #![tactic(auto)]
 
 mod accepted;
+mod cover;
 mod facts;
 mod keep;
 mod laws;

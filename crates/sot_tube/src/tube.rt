@@ -5,7 +5,7 @@ ghost use Rattle.sot_tube.specs.Calls.{MayFollow, AreCommands, AnswersTube, Answ
 use crate::leave::Leave;
 use crate::walk::walk;
 use sot_box::{BoxN, Interval};
-use sot_iv::{seen_hulls, types_of};
+use sot_iv::{Ranges, put_types, seen_hulls};
 use sot_lang::Typed;
 
 /// Whether the tube of a module's plant from a box, with commands in these intervals, one for each input of the plant, is
@@ -23,6 +23,10 @@ pub fn held_inside(
 {
     let info = &p.modules[module as usize];
     let plant = &p.plants[info.plant as usize];
+    if plant.sees.is_empty() {
+        // No room is cleared for hulls where there are none.
+        return walk(p, info.plant, &info.safe, b, held, &[], ticks);
+    }
     let seen = seen_hulls(p, &plant.sees);
     walk(p, info.plant, &info.safe, b, held, seen.as_slice(), ticks)
 }
@@ -35,6 +39,7 @@ pub fn any_inside(p: &Typed, module: u32, b: &BoxN, ticks: u32) -> Result<(), Le
 {
     let info = &p.modules[module as usize];
     let plant = &p.plants[info.plant as usize];
-    let types = types_of(&p.scalars, &plant.inputs);
+    let mut types = Ranges::none();
+    put_types(&p.scalars, &plant.inputs, &mut types);
     held_inside(p, module, b, types.as_slice(), ticks)
 }

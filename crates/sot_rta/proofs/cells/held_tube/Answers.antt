@@ -16,8 +16,8 @@ cell_draft-requires-clause-there c = plant_there c.args.p.now c.requires.rules c
 pub unwrap-draft-requires : goal.unwrap-draft-requires
 unwrap-draft-requires c = is_ok c.args.p.now c.requires.rules c.requires.may c.args.«module» c.args.info.now c.requires.is c.plant_at-plant.result.now c.plant_at-plant.ensures.is c.node_at-sc.result.now c.node_at-sc.ensures.is c.args.cell.now c.requires.ordered c.requires.covered c.cell_draft.result c.cell_draft.ensures
 
-pub commands-held-requires-clause-there : goal.commands-held-requires-clause-there
-commands-held-requires-clause-there c = inputs_there c.args.p.now c.requires.rules c.args.info.now.plant c.plant_at-plant.result.now c.plant_at-plant.ensures.is c.args.p.now.scalars c.deref.result.now refl c.deref.ensures.value
+pub put_commands-requires-clause-there : goal.put_commands-requires-clause-there
+put_commands-requires-clause-there c = inputs_there c.args.p.now c.requires.rules c.args.info.now.plant c.plant_at-plant.result.now c.plant_at-plant.ensures.is c.args.p.now.scalars c.deref.result.now refl c.deref.ensures.value
 
 pub held_inside-requires-clause-follow : goal.held_inside-requires-clause-follow
 held_inside-requires-clause-follow c = record {
@@ -29,4 +29,4 @@ held_inside-requires-clause-follow c = record {
 pub returns : goal.returns
 returns c =
     answers c.args.p.now c.requires.rules c.requires.may c.args.«module» c.args.info.now c.requires.is c.plant_at-plant.result.now c.plant_at-plant.ensures.is c.node_at-sc.result.now c.node_at-sc.ensures.is c.args.cell.now c.requires.ordered c.requires.covered c.cell_draft.result c.cell_draft.ensures
-    c.args.jitter c.unwrap-draft.result c.unwrap-draft.ensures c.deref.result.now c.deref-2.result.now c.as_slice.result.now c.deref.ensures.value c.deref-2.ensures.value (c.as_slice.ensures.value ∙ c.commands-held.ensures) c.held_inside.result c.held_inside.ensures
+    c.args.jitter c.unwrap-draft.result c.unwrap-draft.ensures c.deref.result.now c.deref-2.result.now c.as_slice.result.now c.deref.ensures.value c.deref-2.ensures.value (c.as_slice.ensures.value ∙ c.put_commands.ensures) c.held_inside.result c.held_inside.ensures

@@ -1,7 +1,7 @@
 use Rattle.std.proofs.Common.{◌≡◌, suc, ◌+◌, subst, arith}
 use Rattle.sot_tube.proofs.Walks.{WalkSoFar, walk_next, walk_out, walk_trap, walk_out_last, walk_stays}
 use Rattle.sot_tube.proofs.WalkRanges.{after, front_fits, ranges_next}
-use Rattle.sot_tube.proofs.walk.walk.Goals as goal
+use Rattle.sot_tube.proofs.walk.test_each.Goals as goal
 
 pub returns-in-Some : goal.returns-in-Some
 returns-in-Some c info at = walk_out c.args.p.now c.args.plant c.args.region.now c.args.b.now c.args.held.now c.args.seen.now c.args.ticks c.loop-tick.area c.loop-tick.tick c.loop-tick.invariant.0 info c.in-Some.point at (omega arith) c.in-Some.ensures

@@ -1,7 +1,7 @@
 use Rattle.std.proofs.Common.{◌≡◌, take}
 use Rattle.std.specs.Prelude.{map}
 use Rattle.sot_tube.specs.Certified.{command_interval}
-use Rattle.sot_rta.proofs.commands.commands.Given as goal
+use Rattle.sot_rta.proofs.commands.put_commands.Given as goal
 
 abbrev pub invariant-loop-i : goal.invariant-loop-i
 invariant-loop-i l = l.sides ≡ map (command_interval l.p l.writes l.draft) (take l.i l.inputs)
