@@ -1,6 +1,5 @@
 //! A line that spells a decision.
 
-ghost use Rattle.std.specs.Prelude.{IfOk};
 ghost use Rattle.sot_trace.specs.Words.{AreWords};
 ghost use Rattle.sot_replay.specs.Judges.{IsJudged, SpellsDecision};
 
@@ -10,27 +9,20 @@ use crate::judged::{Judged, kind_of};
 use crate::now::is_now;
 use sot_board::Board;
 use sot_world::Event;
-use std::alloc::AllocError;
 
 /// Judges a line that spells a decision: the module decides, and the line has to be that of its entry.
-pub fn judge_decision(
-    board: &mut Board<'_>,
-    line: &[u8],
-    time: Option<i64>,
-    module: u32,
-    scratch: &mut String,
-) -> Result<Judged, AllocError>
+pub fn judge_decision(board: &mut Board<'_>, line: &[u8], time: Option<i64>, module: u32) -> Judged
     requires words { AreWords board.old.accepted.program }
     requires spelled { SpellsDecision board.old.accepted.program line.now time «module» }
-    ensures { IfOk result (IsJudged board.old board.new line.now) }
+    ensures { IsJudged board.old board.new line.now result }
 {
     board.is_standing();
     if !is_now(time, board.time()) {
-        return Ok(Judged::Fails(LineKind::WrongTime));
+        return Judged::Fails(LineKind::WrongTime);
     }
     if let Err(why) = board.world().can(&Event::Decide { module }) {
-        return Ok(Judged::Fails(kind_of(why)));
+        return Judged::Fails(kind_of(why));
     }
     board.decide(module);
-    compare(board, line, scratch)
+    compare(board, line)
 }

@@ -1,6 +1,6 @@
 //! Whether a line is that of the last entry.
 
-ghost use Rattle.std.specs.Prelude.{◌≡◌, ◌∷◌, ◌++◌, [], List, IfOk};
+ghost use Rattle.std.specs.Prelude.{◌≡◌, ◌∷◌, ◌++◌, [], List};
 ghost use Rattle.sot_world.specs.HistoryEntry.{Logged};
 ghost use Rattle.sot_trace.specs.Lines.{line_of};
 ghost use Rattle.sot_replay.specs.Judges.{IsCompared};
@@ -8,22 +8,19 @@ ghost use Rattle.sot_replay.specs.Judges.{IsCompared};
 use crate::fail::LineKind;
 use crate::judged::Judged;
 use sot_board::Board;
-use sot_trace::put_line;
-use std::alloc::AllocError;
+use sot_spelled::is_line_of;
 
 /// A line goes where it is that of the last entry of the board's history, and else it differs.
-pub fn compare(board: &Board<'_>, line: &[u8], scratch: &mut String) -> Result<Judged, AllocError>
+pub fn compare(board: &Board<'_>, line: &[u8]) -> Judged
     requires { (front : List Logged) × (entry : Logged) × (board.now.entries ≡ front ++ entry ∷ []) }
-    ensures { IfOk result (λ judged. (front : List Logged) (entry : Logged) → board.now.entries ≡ front ++ entry ∷ [] → IsCompared judged (line.now ≡ line_of board.now.accepted.program entry)) }
+    ensures { (front : List Logged) (entry : Logged) → board.now.entries ≡ front ++ entry ∷ [] → IsCompared result (line.now ≡ line_of board.now.accepted.program entry) }
 {
     board.is_standing();
     let history = board.history();
     let entry = history.entry(history.len() - 1);
-    scratch.clear();
-    put_line(scratch, board.typed(), &entry)?;
-    if scratch.as_bytes() == line {
-        Ok(Judged::Goes)
+    if is_line_of(board.typed(), &entry, line) {
+        Judged::Goes
     } else {
-        Ok(Judged::Fails(LineKind::Differs))
+        Judged::Fails(LineKind::Differs)
     }
 }

@@ -1,6 +1,6 @@
 //! A line that spells a firing.
 
-ghost use Rattle.std.specs.Prelude.{◌≡◌, ℕ, ◌<◌, ℤ, List, Option, true, None, Some, length, MatchResult, IfOk};
+ghost use Rattle.std.specs.Prelude.{◌≡◌, ℕ, ◌<◌, ℤ, List, Option, true, None, Some, length, MatchResult};
 ghost use Rattle.sot_lists.specs.Places.{At};
 ghost use Rattle.sot_world.specs.Configurations.{is_left};
 ghost use Rattle.sot_world.specs.Events.{RefusesNode};
@@ -17,7 +17,6 @@ use crate::ranges::draft_has_64_bits;
 use sot_board::{Board, is_coded};
 use sot_lang::Draft;
 use sot_world::{Event, Why};
-use std::alloc::AllocError;
 
 // Whether a node can fire.
 fn can_fire(board: &Board<'_>, node: u32) -> Result<(), Why>
@@ -34,64 +33,48 @@ fn can_fire(board: &Board<'_>, node: u32) -> Result<(), Why>
 }
 
 // A coded node fires, and the line has to be that of its entry.
-fn judge_coded(
-    board: &mut Board<'_>,
-    line: &[u8],
-    node: u32,
-    scratch: &mut String,
-) -> Result<Judged, AllocError>
+fn judge_coded(board: &mut Board<'_>, line: &[u8], node: u32) -> Judged
     requires words { AreWords board.old.accepted.program }
     requires spelled { (draft : Option (List (Option ℤ))) × SpellsFiringAt board.old.accepted.program board.old.position.at.time line.now node draft }
     requires coded { IsCodedNode board.old.accepted.program node }
     requires left { is_left board.old.position.at node ≡ true }
-    ensures { IfOk result (IsJudged board.old board.new line.now) }
+    ensures { IsJudged board.old board.new line.now result }
 {
     board.is_standing();
     board.fire(node);
-    compare(board, line, scratch)
+    compare(board, line)
 }
 
 // A node fires with the draft that the flight states, and the line has to be that of its entry.
-fn judge_stated(
-    board: &mut Board<'_>,
-    line: &[u8],
-    node: u32,
-    scratch: &mut String,
-) -> Result<Judged, AllocError>
+fn judge_stated(board: &mut Board<'_>, line: &[u8], node: u32) -> Judged
     requires words { AreWords board.old.accepted.program }
     requires spelled { (draft : Option (List (Option ℤ))) × SpellsFiringAt board.old.accepted.program board.old.position.at.time line.now node draft }
     requires external { IsExternalNode board.old.accepted.program node }
     requires no_guest { (i : ℕ) → At board.old.plan.crews node (plans.Guest i) → ⊥ }
     requires left { is_left board.old.position.at node ≡ true }
-    ensures { IfOk result (IsJudged board.old board.new line.now) }
+    ensures { IsJudged board.old board.new line.now result }
 {
     board.is_standing();
     board.commit_stated(node);
-    compare(board, line, scratch)
+    compare(board, line)
 }
 
 // A guest's node fires with the draft of the line, and the line has to be that of its entry. No guest hands over a number of more
 // than 64 bits.
-fn judge_guest(
-    board: &mut Board<'_>,
-    line: &[u8],
-    node: u32,
-    draft: Option<Draft>,
-    scratch: &mut String,
-) -> Result<Judged, AllocError>
+fn judge_guest(board: &mut Board<'_>, line: &[u8], node: u32, draft: Option<Draft>) -> Judged
     requires words { AreWords board.old.accepted.program }
     requires spelled { SpellsFiringAt board.old.accepted.program board.old.position.at.time line.now node draft }
     requires guest { (i : ℕ) × At board.old.plan.crews node (plans.Guest i) }
     requires left { is_left board.old.position.at node ≡ true }
-    ensures { IfOk result (IsJudged board.old board.new line.now) }
+    ensures { IsJudged board.old board.new line.now result }
 {
     board.is_standing();
     match draft {
-        None => Ok(Judged::Fails(LineKind::Differs)),
+        None => Judged::Fails(LineKind::Differs),
         Some(draft) => {
             let receipt = board.commit_guest(node, draft);
             draft_has_64_bits(&receipt.draft);
-            compare(board, line, scratch)
+            compare(board, line)
         }
     }
 }
@@ -104,24 +87,23 @@ pub fn judge_firing(
     time: Option<i64>,
     node: u32,
     draft: Option<Draft>,
-    scratch: &mut String,
-) -> Result<Judged, AllocError>
+) -> Judged
     requires words { AreWords board.old.accepted.program }
     requires spelled { SpellsFiring board.old.accepted.program line.now time node draft }
-    ensures { IfOk result (IsJudged board.old board.new line.now) }
+    ensures { IsJudged board.old board.new line.now result }
 {
     board.is_standing();
     if !is_now(time, board.time()) {
-        return Ok(Judged::Fails(LineKind::WrongTime));
+        return Judged::Fails(LineKind::WrongTime);
     }
     if let Err(why) = can_fire(board, node) {
-        return Ok(Judged::Fails(kind_of(why)));
+        return Judged::Fails(kind_of(why));
     }
     if is_coded(board.typed(), node) {
-        return judge_coded(board, line, node, scratch);
+        return judge_coded(board, line, node);
     }
     match board.flight().guest(node) {
-        Some(_) => judge_guest(board, line, node, draft, scratch),
-        None => judge_stated(board, line, node, scratch),
+        Some(_) => judge_guest(board, line, node, draft),
+        None => judge_stated(board, line, node),
     }
 }

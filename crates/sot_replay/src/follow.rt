@@ -23,9 +23,10 @@ pub fn follow(
     ensures ended { IfOk result (λ _. HasEnded board.old board.new lines.old.to_come lines.old.number lines.new.to_come lines.new.number) }
     ensures refused { IfErr result (λ fail. MatchFail fail (λ _. ⊥) (AreRefused board.old lines.old.to_come lines.old.number)) }
 {
+    let mut from = 0;
     'lines: while let Some((number, line)) = lines.next() {
         board.is_standing();
-        match judge(board, line, scratch, numbers) {
+        match judge(board, line, &mut from, scratch, numbers) {
             Ok(Judged::Goes) => {}
             Ok(Judged::Ends) => return Ok(()),
             Ok(Judged::Fails(kind)) => return Err(ReplayFail::Line { line: number, kind }),

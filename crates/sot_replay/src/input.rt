@@ -1,6 +1,6 @@
 //! A line that spells an input.
 
-ghost use Rattle.std.specs.Prelude.{◌≡◌, ℤ, List, true, length, MatchResult, IfOk};
+ghost use Rattle.std.specs.Prelude.{◌≡◌, ℤ, List, true, length, MatchResult};
 ghost use Rattle.sot_lists.specs.Places.{At};
 ghost use Rattle.sot_lang.specs.declared.tables.TopicInfo.{TopicInfo};
 ghost use Rattle.sot_world.specs.Events.{IsTypedInput, RefusesInput};
@@ -15,7 +15,6 @@ use crate::now::is_now;
 use crate::ranges::ranges_have_64_bits;
 use sot_board::Board;
 use sot_world::{Event, Why};
-use std::alloc::AllocError;
 
 // Whether a value can come on a topic. One with a number of more than 64 bits cannot.
 fn can_come(board: &Board<'_>, topic: u32, whole: bool, value: &[i64]) -> Result<(), Why>
@@ -40,22 +39,21 @@ pub fn judge_input(
     topic: u32,
     whole: bool,
     value: &[i64],
-    scratch: &mut String,
-) -> Result<Judged, AllocError>
+) -> Judged
     requires words { AreWords board.old.accepted.program }
     requires spelled { SpellsInput board.old.accepted.program line.now time topic whole value.now }
-    ensures { IfOk result (IsJudged board.old board.new line.now) }
+    ensures { IsJudged board.old board.new line.now result }
 {
     board.is_standing();
     if !is_now(time, board.time()) {
-        return Ok(Judged::Fails(LineKind::WrongTime));
+        return Judged::Fails(LineKind::WrongTime);
     }
     if let Err(why) = can_come(board, topic, whole, value) {
-        return Ok(Judged::Fails(kind_of(why)));
+        return Judged::Fails(kind_of(why));
     }
     if !board.due_input() {
-        return Ok(Judged::Fails(LineKind::Differs));
+        return Judged::Fails(LineKind::Differs);
     }
     board.input();
-    compare(board, line, scratch)
+    compare(board, line)
 }

@@ -1,6 +1,6 @@
 //! A line that spells a tick.
 
-ghost use Rattle.std.specs.Prelude.{◌≡◌, ℤ, List, length, MatchResult, IfOk};
+ghost use Rattle.std.specs.Prelude.{◌≡◌, ℤ, List, length, MatchResult};
 ghost use Rattle.sot_world.specs.Events.{IsInBounds, RefusesTick, noise_count};
 ghost use Rattle.sot_world.specs.Steps.{MayTick};
 ghost use Rattle.sot_trace.specs.Words.{AreWords};
@@ -14,7 +14,6 @@ use crate::now::is_now;
 use crate::ranges::bounds_have_64_bits;
 use sot_board::Board;
 use sot_world::{Event, Why};
-use std::alloc::AllocError;
 
 // Whether a tick can come with these disturbances. One of more than 64 bits is out of its bounds.
 fn can_tick(board: &Board<'_>, whole: bool, noise: &[i64]) -> Result<(), Why>
@@ -41,25 +40,24 @@ pub fn judge_tick(
     time: Option<i64>,
     whole: bool,
     noise: &[i64],
-    scratch: &mut String,
-) -> Result<Judged, AllocError>
+) -> Judged
     requires words { AreWords board.old.accepted.program }
     requires spelled { SpellsTick board.old.accepted.program line.now time whole noise.now }
-    ensures { IfOk result (IsJudged board.old board.new line.now) }
+    ensures { IsJudged board.old board.new line.now result }
 {
     board.is_standing();
     if !is_now(time, board.time()) {
-        return Ok(Judged::Fails(LineKind::WrongTime));
+        return Judged::Fails(LineKind::WrongTime);
     }
     if let Err(why) = can_tick(board, whole, noise) {
-        return Ok(Judged::Fails(kind_of(why)));
+        return Judged::Fails(kind_of(why));
     }
     if board.due_input() {
-        return Ok(Judged::Fails(LineKind::InputsLeft));
+        return Judged::Fails(LineKind::InputsLeft);
     }
     if board.time() >= board.flight().horizon() {
-        return Ok(Judged::Fails(LineKind::TooFar));
+        return Judged::Fails(LineKind::TooFar);
     }
     board.tick();
-    compare(board, line, scratch)
+    compare(board, line)
 }

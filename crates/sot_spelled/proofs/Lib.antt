@@ -3,11 +3,11 @@ pub mod Pieces
 pub mod Numerals
 pub mod Rows
 pub mod Places
+pub mod Names
 pub mod ReadMoves
 pub mod Slots
 pub mod SoundLines
 pub mod ReadLines
-pub mod Behind
 pub mod LentLines
 pub mod Magnitudes
 pub mod KeptRows
@@ -15,4 +15,5 @@ pub mod KeptMoves
 pub mod KeptSlots
 pub mod KeptNumbers
 pub mod ShownLines
+pub mod Entries
 pub mod StartLines

@@ -22,7 +22,7 @@ pub is_ended : {A : Type 0} (x y : A) (text : List ℕ) → at_end x text ≡ So
 is_ended x y [] e = (refl, cc)
 is_ended x y (b ∷ bs) e = absurd cc
 
-same_code : (b c : ℕ) → (b == c) ≡ true → b ≡ c
+pub same_code : (b c : ℕ) → (b == c) ≡ true → b ≡ c
 same_code b c e = grind (arith, nat_tests)
 
 one_code : (c : ℕ) → (c == c) ≡ true

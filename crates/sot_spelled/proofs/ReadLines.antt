@@ -77,7 +77,7 @@ module _ (p : Tables) (rules : MeetsTableRules p) (words : AreWords p) where
   input_read time k info value at is size =
       let text : List ℕ = info.name ++ (61 ∷ numbers value) in
       let parts = word_is info.name (61 ∷ numbers value) (topic_in p rules words k info at) refl in
-      let place = found (λ (x : TopicInfo). x.name) info.name p.topics k info at refl (λ j y at_y same. topic_same p rules words j k y info at_y at same) in
+      let place = found (λ (x : TopicInfo). x.name) info.name p.topics k info at refl (λ j y at_y same. topic_same p rules j k y info at_y at same) in
       ap (λ name. input_at p time (name ++ (61 ∷ numbers value))) (topic_named p k info at)
       ∙ ap₂ (λ word rest. place_of (λ (x : TopicInfo). x.name) p.topics word >>= λ n. slice_get p.topics n >>= λ y. value_at time n y rest) parts.0 parts.1
       ∙ then_next (place_of (λ (x : TopicInfo). x.name) p.topics info.name) (λ n. slice_get p.topics n >>= λ y. value_at time n y (61 ∷ numbers value)) k place
@@ -92,7 +92,7 @@ module _ (p : Tables) (rules : MeetsTableRules p) (words : AreWords p) where
       let ks : List ℕ = writes_of p n in
       let marks : List ℕ = marks_text p ks slots in
       let parts = word_is node.0.name marks (node_in p rules words n node.0 node.1) (marks_stop p is_in_word refl ks slots) in
-      let place = found (λ (x : NodeInfo). x.name) node.0.name p.nodes n node.0 node.1 refl (λ j y at_y same. node_same p rules words j n y node.0 at_y node.1 same) in
+      let place = found (λ (x : NodeInfo). x.name) node.0.name p.nodes n node.0 node.1 refl (λ j y at_y same. node_same p rules j n y node.0 at_y node.1 same) in
       let are : ks ≡ node.0.writes.items = ap (λ o. option_map_or (λ (x : NodeInfo). x.writes.items) o []) node.1 in
       let there = there_from p ks (λ k has. at_below p.scalars k (rules.typed.inside n node.0 k node.1 (subst (λ l. Has l k) are has))) in
       let apart = apart_from ks (λ i j k at_i at_j. rules.typed.once n node.0 i j k node.1 (subst (λ l. At l i k) are at_i) (subst (λ l. At l j k) are at_j)) in
@@ -105,7 +105,7 @@ module _ (p : Tables) (rules : MeetsTableRules p) (words : AreWords p) where
   decide_read time m mode lt =
       let info = at_below p.modules m lt in
       let parts = word_is info.0.name (mode_word mode) (module_in p rules words m info.0 info.1) (mode_stops mode) in
-      let place = found (λ (x : ModuleInfo). x.name) info.0.name p.modules m info.0 info.1 refl (λ j y at_y same. module_same p rules words j m y info.0 at_y info.1 same) in
+      let place = found (λ (x : ModuleInfo). x.name) info.0.name p.modules m info.0 info.1 refl (λ j y at_y same. module_same p rules j m y info.0 at_y info.1 same) in
       ap (λ name. decide_at p time (name ++ mode_word mode)) (module_named p m info.0 info.1)
       ∙ ap₂ (λ word rest. place_of (λ (x : ModuleInfo). x.name) p.modules word >>= λ n. mode_of rest >>= λ a. Some (DecideLine time n a)) parts.0 parts.1
       ∙ then_next (place_of (λ (x : ModuleInfo). x.name) p.modules info.0.name) (λ n. mode_of (mode_word mode) >>= λ a. Some (DecideLine time n a)) m place

@@ -4,6 +4,7 @@
 //! flight or not.
 #![tactic(auto)]
 
+mod entry;
 mod laws;
 mod line;
 mod lines;
@@ -15,6 +16,7 @@ mod row;
 mod slot;
 mod start;
 
+pub use entry::is_line_of;
 pub use laws::{entries_are_spelled, lines_spell_once};
 pub use line::Line;
 pub use lines::Lines;

@@ -10,8 +10,8 @@ use crate::row::{Row, row_at, skip_row};
 use sot_lang::PlantInfo;
 use std::alloc::AllocError;
 
-// The text behind a blank, the plant's name and `(`.
-fn move_front<'a>(plant: &PlantInfo, text: &'a [u8]) -> Option<&'a [u8]>
+/// The text behind a blank, the plant's name and `(`.
+pub fn move_front<'a>(plant: &PlantInfo, text: &'a [u8]) -> Option<&'a [u8]>
     ensures { option_map (λ rest. rest.now) result ≡ move_front plant.now text.now }
 {
     let text = behind(text, b" ")?;

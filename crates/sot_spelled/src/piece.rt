@@ -1,6 +1,6 @@
 //! Pieces of a line, each read from the front of a text.
 
-ghost use Rattle.std.specs.Prelude.{◌≡◌, ℕ, ℤ, pos, ◌+◌, ◌<◌, ◌≤◌, ◌^◌, min, length, Some};
+ghost use Rattle.std.specs.Prelude.{◌≡◌, ◌∷◌, [], ℕ, ℤ, pos, ◌+◌, ◌<◌, ◌≤◌, ◌^◌, min, length, Some};
 ghost use Rattle.std.specs.List.{prefix_len};
 ghost use Rattle.std.specs.Char.{is_ascii_digit};
 ghost use Rattle.std.specs.Option.{option_map};
@@ -27,16 +27,25 @@ const PAST: u128 = 1 << 63;
 
 const ENOUGH: u128 = 1 << 64;
 
-/// The text behind these bytes, if they stand in front.
-#[tactic(auto, using(crate::proofs::Behind::behind_is))]
+/// The text behind this byte, if it stands in front.
+pub fn behind_byte(text: &[u8], byte: u8) -> Option<&[u8]>
+    ensures { option_map (λ rest. rest.now) result ≡ behind (byte ∷ []) text.now }
+{
+    match text {
+        [first, rest @ ..] if *first == byte => Some(rest),
+        _ => None,
+    }
+}
+
+/// The text behind these bytes, if they stand in front. They are few, so that they are looked at one by one.
 pub fn behind<'a>(text: &'a [u8], front: &[u8]) -> Option<&'a [u8]>
     ensures { option_map (λ rest. rest.now) result ≡ behind front.now text.now }
 {
-    if text.starts_with(front) {
-        Some(&text[front.len()..])
-    } else {
-        None
+    let (_, mut rest) = text.split_at(0);
+    for byte in front {
+        rest = behind_byte(rest, *byte)?;
     }
+    Some(rest)
 }
 
 fn digits_len(text: &[u8]) -> usize

@@ -1,7 +1,6 @@
 //! A line, read as what it spells.
 
 ghost use Rattle.std.specs.Prelude.{◌≡◌, ℕ, ◌<◌, ℤ, pos, [], List, Option, Some, None, if◌then◌else◌, is_some, IfOk};
-ghost use Rattle.sot_lang.specs.TableRules.{MeetsTableRules};
 ghost use Rattle.sot_trace.specs.Lines.{writes_of};
 ghost use Rattle.sot_trace.specs.Words.{AreWords};
 ghost use Rattle.sot_spelled.specs.Shown.{AnswersLine};
@@ -10,7 +9,7 @@ ghost use Rattle.sot_spelled.specs.Kept.{bounded, ShowsRead};
 
 use crate::line::Line;
 use crate::moves::moves_at;
-use crate::name::{module_named, node_named, topic_named, word_at};
+use crate::name::{keeps_rules, module_named, node_named, topic_named, word_at};
 use crate::piece::{behind, numeral_at};
 use crate::row::row_at;
 use crate::slot::{Slots, slots_at};
@@ -52,13 +51,14 @@ fn read_input(
     p: &Typed,
     time: Option<i64>,
     text: &[u8],
+    from: &mut usize,
     numbers: &mut Vec<i64>,
 ) -> Result<Option<Line>, AllocError>
     requires { numbers.old.items ≡ [] }
     ensures { IfOk result (λ l. (t : ℕ) → time ≡ bounded (pos t) → ShowsRead numbers.new.items l (input_at p.now t text.now)) }
 {
     let word = word_at(text);
-    let Some(topic) = topic_named(p, word.name) else {
+    let Some(topic) = topic_named(p, word.name, from) else {
         return Ok(None);
     };
     read_value(time, topic, &p.topics[topic as usize], word.rest, numbers)
@@ -71,11 +71,11 @@ fn drafted(slots: &Slots<'_>) -> Option<Draft>
 }
 
 // A firing, enabled or not.
-fn read_fire(p: &Typed, time: Option<i64>, text: &[u8]) -> Option<Line>
+fn read_fire(p: &Typed, time: Option<i64>, text: &[u8], from: &mut usize) -> Option<Line>
     ensures { (t : ℕ) (enabled : _) (list : List ℤ) → time ≡ bounded (pos t) → ShowsRead list result (fire_at p.now enabled t text.now) }
 {
     let word = word_at(text);
-    let node = node_named(p, word.name)?;
+    let node = node_named(p, word.name, from)?;
     let Some(slots) = slots_at(p, writes_of(p, node), word.rest) else {
         return None;
     };
@@ -95,11 +95,11 @@ fn is_mode(text: &[u8]) -> bool
     text == b" ac".as_slice() || text == b" sc".as_slice()
 }
 
-fn read_decision(p: &Typed, time: Option<i64>, text: &[u8]) -> Option<Line>
+fn read_decision(p: &Typed, time: Option<i64>, text: &[u8], from: &mut usize) -> Option<Line>
     ensures { (t : ℕ) (list : List ℤ) → time ≡ bounded (pos t) → ShowsRead list result (decide_at p.now t text.now) }
 {
     let word = word_at(text);
-    let decider = module_named(p, word.name)?;
+    let decider = module_named(p, word.name, from)?;
     if !is_mode(word.rest) {
         return None;
     }
@@ -148,22 +148,23 @@ fn read_event(
     p: &Typed,
     time: Option<i64>,
     text: &[u8],
+    from: &mut usize,
     numbers: &mut Vec<i64>,
 ) -> Result<Option<Line>, AllocError>
     requires { numbers.old.items ≡ [] }
     ensures { IfOk result (λ l. (t : ℕ) → time ≡ bounded (pos t) → ShowsRead numbers.new.items l (event_at p.now t text.now)) }
 {
     if let Some(rest) = behind(text, b" input ") {
-        return read_input(p, time, rest, numbers);
+        return read_input(p, time, rest, from, numbers);
     }
     if let Some(rest) = behind(text, b" fire ") {
-        return Ok(read_fire(p, time, rest));
+        return Ok(read_fire(p, time, rest, from));
     }
     if let Some(rest) = behind(text, b" idle ") {
-        return Ok(read_fire(p, time, rest));
+        return Ok(read_fire(p, time, rest, from));
     }
     if let Some(rest) = behind(text, b" decide ") {
-        return Ok(read_decision(p, time, rest));
+        return Ok(read_decision(p, time, rest, from));
     }
     if let Some(rest) = behind(text, b" tick") {
         return read_tick(p, time, rest, numbers);
@@ -171,7 +172,12 @@ fn read_event(
     Ok(None)
 }
 
-fn read(p: &Typed, line: &[u8], numbers: &mut Vec<i64>) -> Result<Option<Line>, AllocError>
+fn read(
+    p: &Typed,
+    line: &[u8],
+    from: &mut usize,
+    numbers: &mut Vec<i64>,
+) -> Result<Option<Line>, AllocError>
     requires { numbers.old.items ≡ [] }
     ensures { IfOk result (λ l. ShowsRead numbers.new.items l (spelled_at p.now line.now)) }
 {
@@ -181,24 +187,23 @@ fn read(p: &Typed, line: &[u8], numbers: &mut Vec<i64>) -> Result<Option<Line>, 
     let Some(time) = numeral_at(line) else {
         return Ok(None);
     };
-    read_event(p, time.value, time.rest, numbers)
-}
-
-// The tables of every program keep the rules.
-fn keeps_rules(p: &Typed)
-    ensures { MeetsTableRules p.now }
-{
-    // A look at a field brings what the type keeps.
-    let _modules = &p.modules;
+    read_event(p, time.value, time.rest, from, numbers)
 }
 
 /// What is looked at of a line, none where it is spelled as no line that stands behind the start lines. The list is cleared, and then
-/// holds the value of an input or the disturbances of a tick; only it takes memory, and the error is want of it.
-pub fn read_line(p: &Typed, line: &[u8], numbers: &mut Vec<i64>) -> Result<Option<Line>, AllocError>
+/// holds the value of an input or the disturbances of a tick; only it takes memory, and the error is want of it. What a line names is
+/// looked for from a place on, then among all, and the place is set behind it: lines mostly come in the order of what they name. The
+/// answer is the same from each place.
+pub fn read_line(
+    p: &Typed,
+    line: &[u8],
+    from: &mut usize,
+    numbers: &mut Vec<i64>,
+) -> Result<Option<Line>, AllocError>
     requires words { AreWords p.now }
     ensures { IfOk result (λ l. AnswersLine p.now line.now numbers.new.items l) }
 {
     numbers.clear();
     keeps_rules(p);
-    read(p, line, numbers)
+    read(p, line, from, numbers)
 }

@@ -37,8 +37,9 @@ fn behind_field<'a>(field: &Option<Name>, text: &'a [u8]) -> Option<&'a [u8]>
     }
 }
 
+/// The text behind a scalar's name.
 #[tactic(auto, using(crate::proofs::KeptSlots::behind_both))]
-fn behind_scalar<'a>(p: &Typed, scalar: usize, text: &'a [u8]) -> Option<&'a [u8]>
+pub fn behind_scalar<'a>(p: &Typed, scalar: usize, text: &'a [u8]) -> Option<&'a [u8]>
     requires { scalar < length p.now.scalars }
     ensures { option_map (λ rest. rest.now) result ≡ behind (scalar_name p.now scalar) text.now }
 {

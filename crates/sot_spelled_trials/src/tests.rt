@@ -125,7 +125,7 @@ fn said(rt: &impl Abort, alloc: Global, p: &Typed, line: &[u8]) -> String
 {
     let mut numbers = Vec::new(alloc);
     let mut text = String::new(alloc);
-    let read = read_line(p, line, &mut numbers).expect(rt, "memory");
+    let read = read_line(p, line, &mut 0, &mut numbers).expect(rt, "memory");
     push_read(read, numbers.as_slice(), &mut text).expect(rt, "memory");
     text
 }

@@ -121,7 +121,7 @@ module _ (p : Tables) (rules : MeetsTableRules p) (words : AreWords p) where
       let b = at_below p.topics t lt in
       let named = sym (ap (λ n. n ++ (61 ∷ numbers v)) (topic_named p s a.0 a.1)) ∙ e ∙ ap (λ n. n ++ (61 ∷ numbers w)) (topic_named p t b.0 b.1) in
       let parts = cut_same is_in_word a.0.name b.0.name (61 ∷ numbers v) (61 ∷ numbers w) (topic_in p rules words s a.0 a.1) (topic_in p rules words t b.0 b.1) refl refl named in
-      (topic_same p rules words s t a.0 b.0 a.1 b.1 parts.0, numbers_same v w (ap (drop 1) parts.1))
+      (topic_same p rules s t a.0 b.0 a.1 b.1 parts.0, numbers_same v w (ap (drop 1) parts.1))
 
   firings_same : (m n : ℕ) (d e : List (Option ℤ)) → m < length p.nodes → n < length p.nodes → IsDraftOf (writes_of p m) d → IsDraftOf (writes_of p n) e
       → node_name p m ++ draft_text p (writes_of p m) d ≡ node_name p n ++ draft_text p (writes_of p n) e → (m ≡ n) × (d ≡ e)
@@ -130,7 +130,7 @@ module _ (p : Tables) (rules : MeetsTableRules p) (words : AreWords p) where
       let b = at_below p.nodes n ln in
       let named = sym (ap (λ x. x ++ draft_text p (writes_of p m) d) (node_named p m a.0 a.1)) ∙ same ∙ ap (λ x. x ++ draft_text p (writes_of p n) e) (node_named p n b.0 b.1) in
       let parts = cut_same is_in_word a.0.name b.0.name _ _ (node_in p rules words m a.0 a.1) (node_in p rules words n b.0 b.1) (draft_stops p is_in_word refl (writes_of p m) d) (draft_stops p is_in_word refl (writes_of p n) e) named in
-      let node : m ≡ n = node_same p rules words m n a.0 b.0 a.1 b.1 parts.0 in
+      let node : m ≡ n = node_same p rules m n a.0 b.0 a.1 b.1 parts.0 in
       let of_m = writes_are m a.0 a.1 in
       let of_n = ap (writes_of p) (sym node) ∙ of_m in (
         node,
@@ -144,7 +144,7 @@ module _ (p : Tables) (rules : MeetsTableRules p) (words : AreWords p) where
       let y = at_below p.modules n ln in
       let named = sym (ap (λ z. z ++ mode_word a) (module_named p m x.0 x.1)) ∙ same ∙ ap (λ z. z ++ mode_word b) (module_named p n y.0 y.1) in
       let parts = cut_same is_in_word x.0.name y.0.name _ _ (module_in p rules words m x.0 x.1) (module_in p rules words n y.0 y.1) (mode_stops a) (mode_stops b) named in
-      (module_same p rules words m n x.0 y.0 x.1 y.1 parts.0, mode_same a b parts.1)
+      (module_same p rules m n x.0 y.0 x.1 y.1 parts.0, mode_same a b parts.1)
 
   -- with the same time, what stands behind the time tells the entry
   tail_same : (e f : Logged) → IsTold p e → IsTold p f → time_of e ≡ time_of f → letter e ≡ letter f → tail_of p e ≡ tail_of p f → e ≡ f

@@ -88,16 +88,8 @@ field_same None (Some g) e = absurd cc
 field_same (Some f) None e = absurd cc
 field_same (Some f) (Some g) e = ap Some (ap (drop 1) e)
 
-module _ (p : Tables) (rules : MeetsTableRules p) (words : AreWords p) where
-  pub topic_in : (t : ℕ) (x : TopicInfo) → At p.topics t x → AllIn is_in_word x.name
-  topic_in t x at = word_in x.name (words.topics t x at)
-
-  pub node_in : (n : ℕ) (x : NodeInfo) → At p.nodes n x → AllIn is_in_word x.name
-  node_in n x at = word_in x.name (words.nodes n x at)
-
-  pub module_in : (m : ℕ) (x : ModuleInfo) → At p.modules m x → AllIn is_in_word x.name
-  module_in m x at = word_in x.name (words.modules m x at)
-
+-- things of one sort that have one name are one thing
+module _ (p : Tables) (rules : MeetsTableRules p) where
   pub topic_same : (s t : ℕ) (x y : TopicInfo) → At p.topics s x → At p.topics t y → x.name ≡ y.name → s ≡ t
   topic_same s t x y at_x at_y e =
       let place = λ (k : ℕ) (z : TopicInfo) (at : At p.topics k z).
@@ -123,6 +115,16 @@ module _ (p : Tables) (rules : MeetsTableRules p) (words : AreWords p) where
       let same : length before + s ≡ length before + t = rules.names_once (length before + s) (length before + t) y.name (subst (λ n. At (declared_names p) (length before + s) n) e (place s x at_x)) (place t y at_y) in
       omega (arith, same)
 
+module _ (p : Tables) (rules : MeetsTableRules p) (words : AreWords p) where
+  pub topic_in : (t : ℕ) (x : TopicInfo) → At p.topics t x → AllIn is_in_word x.name
+  topic_in t x at = word_in x.name (words.topics t x at)
+
+  pub node_in : (n : ℕ) (x : NodeInfo) → At p.nodes n x → AllIn is_in_word x.name
+  node_in n x at = word_in x.name (words.nodes n x at)
+
+  pub module_in : (m : ℕ) (x : ModuleInfo) → At p.modules m x → AllIn is_in_word x.name
+  module_in m x at = word_in x.name (words.modules m x at)
+
   field_in : (k : ℕ) (x : ScalarInfo) (f : Option (List ℕ)) → At p.scalars k x → x.field ≡ f → AllIn in_name (field_part f)
   field_in k x None at is = tt
   field_in k x (Some f) at is = (refl, in_wider is_in_word in_name name_wider f (word_in f (words.fields k x f at is)))
@@ -140,4 +142,4 @@ module _ (p : Tables) (rules : MeetsTableRules p) (words : AreWords p) where
       let t = rules.typed.scalar_topic j y at_y in
       let whole = sym (scalar_named p i x s.0 at_x s.1) ∙ e ∙ scalar_named p j y t.0 at_y t.1 in
       let parts = cut_same is_in_word s.0.name t.0.name (field_part x.field) (field_part y.field) (topic_in x.topic s.0 s.1) (topic_in y.topic t.0 t.1) (field_stops x.field) (field_stops y.field) whole in
-      rules.fields_once i j x y at_x at_y (topic_same x.topic y.topic s.0 t.0 s.1 t.1 parts.0) (field_same x.field y.field parts.1)
+      rules.fields_once i j x y at_x at_y (topic_same p rules x.topic y.topic s.0 t.0 s.1 t.1 parts.0) (field_same x.field y.field parts.1)

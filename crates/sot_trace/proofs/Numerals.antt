@@ -1,10 +1,12 @@
 -- What the code prints of a number is its text.
-use Rattle.std.proofs.Common.{◌≡◌, ℕ, zero, suc, ℤ, pos, negsuc, ◌+◌, ◌/◌, ◌%◌, ◌<◌, ◌≤◌, ◌^◌, List, [], ◌∷◌, ◌++◌, map, Result, Ok, Err, OnOk, refl, sym, ap, ap₂, ◌∙◌, arith}
+use Rattle.std.proofs.Common.{◌≡◌, ℕ, zero, suc, ℤ, pos, negsuc, ◌+◌, ◌/◌, ◌%◌, ◌<◌, ◌≤◌, ◌^◌, List, [], ◌∷◌, ◌++◌, true, map, Result, Ok, Err, OnOk, refl, sym, ap, ap₂, ◌∙◌, arith}
+use Rattle.std.specs.Prelude.{int_le, nat_abs}
 use Rattle.std.specs.Bool.{if◌then◌else◌}
 use Rattle.std.specs.Result.{is_ok}
 use Rattle.std.specs.Fmt.{decimal, signed_decimal}
 use Rattle.std.specs.Int.Digits.{digits_of}
 use Rattle.std.specs.Int.Signed.{mag}
+use Rattle.std.proofs.lemmas.Bool.Decides.{nat_tests}
 use Rattle.std.proofs.lemmas.Fmt.{decimal_by_steps_wide}
 use Rattle.std.proofs.lemmas.Int.Digits.{digits_of_step}
 use Rattle.std.proofs.lemmas.List.{map_push}
@@ -22,6 +24,11 @@ one_digit (suc n) small =
     let none : suc n / 10 ≡ 0 = omega arith in
     let last : suc n % 10 ≡ suc n = omega arith in
     sym (digits_are n ∙ ap (map (λ d. 48 + d)) (digits_of_step 10 (suc n) (omega arith) (omega arith) ∙ ap₂ (λ k d. digits_of 10 k ++ (d ∷ [])) none last))
+
+-- a number from 0 to 9 is its digit
+pub digit_is : (z : ℤ) → int_le (pos 0) z ≡ true → int_le z (pos 9) ≡ true → signed_numeral z ≡ (48 + nat_abs z) ∷ []
+digit_is (pos n) some small = (let few : n < 10 = grind (arith, nat_tests) in sym (one_digit n few))
+digit_is (negsuc n) some small = absurd cc
 
 last_digit : (n : ℕ) (front : List ℕ) → 10 ≤ n → front ≡ numeral (n / 10) → front ++ ((48 + n % 10) ∷ []) ≡ numeral n
 last_digit n front large is =

@@ -12,7 +12,8 @@ use crate::number::put_number;
 use sot_lang::{Draft, Typed};
 use std::alloc::AllocError;
 
-fn is_in_range(p: &Typed, scalar: usize, number: i64) -> bool
+/// Whether a number is in the range of a scalar.
+pub fn is_in_range(p: &Typed, scalar: usize, number: i64) -> bool
     requires { scalar < length p.now.scalars }
     ensures { result ≡ is_in_range p.now scalar number }
 {
@@ -30,9 +31,9 @@ fn put_drafted(
     requires { scalar < length p.now.scalars }
     ensures { OnOk result (string_bytes out.new ≡ string_bytes out.old ++ (codes " " ++ (scalar_name p.now scalar ++ (mark in_range ++ signed_numeral number)))) }
 {
-    out.push_str(" ")?;
+    out.push(' ')?;
     put_scalar_name(out, p, scalar)?;
-    out.push_str(if in_range { "=" } else { "!" })?;
+    out.push(if in_range { '=' } else { '!' })?;
     put_number(out, number)
 }
 

@@ -28,7 +28,7 @@ fn put_input(
     put_time(out, time)?;
     out.push_str(" input ")?;
     put_topic(out, p, topic)?;
-    out.push_str("=")?;
+    out.push('=')?;
     put_numbers(out, value)
 }
 

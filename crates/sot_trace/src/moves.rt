@@ -18,9 +18,9 @@ fn put_move(
 ) -> Result<(), AllocError>
     ensures { OnOk result (string_bytes out.new ≡ string_bytes out.old ++ move_text plant.now noise.now states.now) }
 {
-    out.push_str(" ")?;
+    out.push(' ')?;
     out.push_str(plant.name.as_str())?;
-    out.push_str("(")?;
+    out.push('(')?;
     put_numbers(out, noise)?;
     out.push_str(")=")?;
     put_numbers(out, states)

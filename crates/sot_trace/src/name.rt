@@ -44,7 +44,7 @@ fn put_field(out: &mut String, field: &Option<Name>) -> Result<(), AllocError>
     match field {
         None => Ok(()),
         Some(name) => {
-            out.push_str(".")?;
+            out.push('.')?;
             out.push_str(name.as_str())
         }
     }

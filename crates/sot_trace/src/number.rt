@@ -1,6 +1,6 @@
 //! Numbers, each put behind what stands there already.
 
-ghost use Rattle.std.specs.Prelude.{◌≡◌, ◌++◌, OnOk};
+ghost use Rattle.std.specs.Prelude.{◌≡◌, ◌<◌, ◌∷◌, ◌++◌, [], ℕ, pos, OnOk, IfSome, IfNone};
 ghost use Rattle.std.specs.String.{string_bytes};
 ghost use Rattle.sot_trace.specs.Numbers.{numeral, signed_numeral, further, numbers};
 
@@ -21,11 +21,27 @@ pub fn put_count(out: &mut String, count: u128) -> Result<(), AllocError>
     out.push_str(Buffer::new().format(count))
 }
 
+/// The digit of a number from 0 to 9, as most numbers are.
+pub fn digit(number: i64) -> Option<u8>
+    ensures numeral { IfSome result (λ d. signed_numeral number ≡ d ∷ []) }
+    ensures ascii { IfSome result (λ d. d < 128) }
+    ensures others { IfNone result ((n : ℕ) → n < 10 → number ≡ pos n → ⊥) }
+{
+    if 0 <= number && number <= 9 {
+        Some(b'0' + number as u8)
+    } else {
+        None
+    }
+}
+
 /// A number in decimal, behind a `-` where it is below 0.
 pub fn put_number(out: &mut String, number: i64) -> Result<(), AllocError>
     ensures { OnOk result (string_bytes out.new ≡ string_bytes out.old ++ signed_numeral number) }
 {
-    out.push_str(Buffer::new().format(number))
+    match digit(number) {
+        Some(digit) => out.push(char::from(digit)),
+        None => out.push_str(Buffer::new().format(number)),
+    }
 }
 
 // A comma before each number.
@@ -33,7 +49,7 @@ fn put_further(out: &mut String, more: &[i64]) -> Result<(), AllocError>
     ensures { OnOk result (string_bytes out.new ≡ string_bytes out.old ++ further more.now) }
 {
     for number in more {
-        out.push_str(",")?;
+        out.push(',')?;
         put_number(out, *number)?;
     }
     Ok(())

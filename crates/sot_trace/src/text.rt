@@ -36,7 +36,7 @@ fn put_entries(out: &mut String, p: &Typed, history: &History) -> Result<Counts,
     for i in 0..history.len() {
         let entry = history.entry(i);
         let refused = put_line(out, p, &entry)?;
-        out.push_str("\n")?;
+        out.push('\n')?;
         counts.refused += refused as u128;
         counts.ticks += ticks_in(&entry) as usize;
     }

@@ -12,7 +12,7 @@ use Rattle.sot_replay.specs.declared.fail.LineKind.{LineKind}
 use Rattle.sot_replay.specs.Tests.{IsFirstFailing}
 use Rattle.sot_replay.specs.Judges.{IsCompared}
 use Rattle.sot_replay.proofs.FirstFailing.{wrong_time, refused, differs}
-use Rattle.sot_replay.proofs.Judging.{ok_map, judged}
+use Rattle.sot_replay.proofs.Judging.{judged}
 use Rattle.sot_replay.proofs.Taken.{decision_taken}
 use Rattle.sot_replay.proofs.Decisions.{decision_handed, decision_line}
 use Rattle.sot_replay.proofs.decision.judge_decision.Goals as goal
@@ -46,9 +46,7 @@ returns c =
     let a = at_below b.accepted.program.modules m spelled.0 in
     let left : is_left_dm b.position.at m ≡ true = subst (λ (C : Configuration). is_left_dm C m ≡ true) c.world.ensures.at c.in_default.ensures in
     let entry = DecideAt b.position.at.time m c.decide.result in
-    ok_map _ _ c.compare.result
-    (λ j compared. judged b new (Decide m) entry line j logs (decision_handed b.plan b.position.at.time m c.decide.result)
-    (subst (λ (x : Admitted). IsCompared j (line ≡ line_of x.program entry)) logs.accepted (compared b.entries entry logs.entries))
+    judged b new (Decide m) entry line c.compare.result logs (decision_handed b.plan b.position.at.time m c.decide.result)
+    (subst (λ (x : Admitted). IsCompared c.compare.result (line ≡ line_of x.program entry)) logs.accepted (c.compare.ensures b.entries entry logs.entries))
     (λ not. differs b.accepted.program b.accepted.cert.jitter b.plan b.entries b.position line (DecideLine t m mode) spelled time (decision_taken b c.is_standing.ensures m a.0 a.1 left) (λ none. none) (λ none. none)
-    (λ given. not (decision_line b c.is_standing.ensures c.requires.words line t m mode spelled new entry logs given))))
-    c.compare.ensures
+    (λ given. not (decision_line b c.is_standing.ensures c.requires.words line t m mode spelled new entry logs given)))

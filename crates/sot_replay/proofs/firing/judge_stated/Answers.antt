@@ -6,7 +6,7 @@ use Rattle.sot_trace.specs.Lines.{line_of}
 use Rattle.sot_spelled.specs.Spelled.{FireLine}
 use Rattle.sot_replay.specs.Judges.{IsCompared}
 use Rattle.sot_replay.proofs.FirstFailing.{differs}
-use Rattle.sot_replay.proofs.Judging.{ok_map, judged}
+use Rattle.sot_replay.proofs.Judging.{judged}
 use Rattle.sot_replay.proofs.Taken.{node_taken}
 use Rattle.sot_replay.proofs.Firings.{own_handed, stated_line}
 use Rattle.sot_replay.proofs.firing.judge_stated.Goals as goal
@@ -24,9 +24,7 @@ returns c =
     let fires = c.commit_stated.ensures.1 in
     let logs = fires.logs in
     let entry = FireAt b.position.at.time n c.commit_stated.result.draft fires.enabled in
-    ok_map _ _ c.compare.result
-    (λ j compared. judged b new (Guest n draft) entry line j logs (own_handed b.plan b.position.at.time n c.commit_stated.result.draft fires.enabled c.requires.no_guest)
-    (subst (λ (x : Admitted). IsCompared j (line ≡ line_of x.program entry)) logs.accepted (compared b.entries entry logs.entries))
+    judged b new (Guest n draft) entry line c.compare.result logs (own_handed b.plan b.position.at.time n c.commit_stated.result.draft fires.enabled c.requires.no_guest)
+    (subst (λ (x : Admitted). IsCompared c.compare.result (line ≡ line_of x.program entry)) logs.accepted (c.compare.ensures b.entries entry logs.entries))
     (λ not. differs b.accepted.program b.accepted.cert.jitter b.plan b.entries b.position line (FireLine b.position.at.time n on slots) spelled refl (node_taken b s n info at c.requires.left) (λ none. none) (λ none. none)
-    (λ given. not (stated_line b s c.requires.words line b.position.at.time n on slots spelled info at external c.requires.no_guest new draft entry logs given))))
-    c.compare.ensures
+    (λ given. not (stated_line b s c.requires.words line b.position.at.time n on slots spelled info at external c.requires.no_guest new draft entry logs given)))

@@ -8,7 +8,7 @@ use Rattle.sot_replay.specs.declared.fail.LineKind.{LineKind}
 use Rattle.sot_replay.specs.Tests.{IsFirstFailing}
 use Rattle.sot_replay.specs.Judges.{IsCompared}
 use Rattle.sot_replay.proofs.FirstFailing.{wrong_time, refused, differs}
-use Rattle.sot_replay.proofs.Judging.{ok_map, judged}
+use Rattle.sot_replay.proofs.Judging.{judged}
 use Rattle.sot_replay.proofs.Taken.{input_taken}
 use Rattle.sot_replay.proofs.Inputs.{logged_handed, input_due, input_line}
 use Rattle.sot_replay.proofs.input.judge_input.Goals as goal
@@ -49,9 +49,7 @@ returns c =
     let (info, at, outside, size) = spelled.0 in
     let typed = c.in_default.ensures info value at size holds in
     let (k, kept, entry, logs) = c.input.ensures in
-    ok_map _ _ c.compare.result
-    (λ j compared. judged b new (Input k kept) entry line j logs (logged_handed b new k kept entry logs)
-    (subst (λ (x : Admitted). IsCompared j (line ≡ line_of x.program entry)) logs.accepted (compared b.entries entry logs.entries))
+    judged b new (Input k kept) entry line c.compare.result logs (logged_handed b new k kept entry logs)
+    (subst (λ (x : Admitted). IsCompared c.compare.result (line ≡ line_of x.program entry)) logs.accepted (c.compare.ensures b.entries entry logs.entries))
     (λ not. differs b.accepted.program b.accepted.cert.jitter b.plan b.entries b.position line (InputLine t c.args.topic value) spelled time (input_taken b.accepted.program c.args.topic value typed) (λ none. none) (λ none. none)
-    (λ given. not (input_line b c.is_standing.ensures c.requires.words line t c.args.topic value spelled new k kept entry logs given))))
-    c.compare.ensures
+    (λ given. not (input_line b c.is_standing.ensures c.requires.words line t c.args.topic value spelled new k kept entry logs given)))

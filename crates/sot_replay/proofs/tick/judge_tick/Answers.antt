@@ -11,7 +11,7 @@ use Rattle.sot_replay.specs.declared.fail.LineKind.{LineKind}
 use Rattle.sot_replay.specs.Tests.{IsFirstFailing}
 use Rattle.sot_replay.specs.Judges.{IsCompared}
 use Rattle.sot_replay.proofs.FirstFailing.{wrong_time, refused, inputs_left, too_far, differs}
-use Rattle.sot_replay.proofs.Judging.{ok_map, judged}
+use Rattle.sot_replay.proofs.Judging.{judged}
 use Rattle.sot_replay.proofs.Taken.{tick_taken}
 use Rattle.sot_replay.proofs.Ticks.{logged_handed, tick_line}
 use Rattle.sot_replay.proofs.tick.judge_tick.Goals as goal
@@ -67,9 +67,7 @@ returns c =
     let none = no_input_due b c.is_standing.ensures (λ due. both_ways c.due_input.result c.if-due_input.false (c.due_input.ensures.1 due)) in
     let horizon : c.horizon.result ≡ b.plan.horizon = c.horizon.ensures ∙ ap (λ (f : Plan). f.horizon) c.flight.ensures in
     let (entry, logs) = c.tick.ensures in
-    ok_map _ _ c.compare.result
-    (λ j compared. judged b new (Tick (stated_noise b.accepted.program b.plan b.position.at.time)) entry line j logs (logged_handed b new _ entry logs)
-    (subst (λ (a : Admitted). IsCompared j (line ≡ line_of a.program entry)) logs.accepted (compared b.entries entry logs.entries))
+    judged b new (Tick (stated_noise b.accepted.program b.plan b.position.at.time)) entry line c.compare.result logs (logged_handed b new _ entry logs)
+    (subst (λ (a : Admitted). IsCompared c.compare.result (line ≡ line_of a.program entry)) logs.accepted (c.compare.ensures b.entries entry logs.entries))
     (λ not. differs b.accepted.program b.accepted.cert.jitter b.plan b.entries b.position line (TickLine t w x) spelled time (tick_taken b.accepted.program b.accepted.cert.jitter b.position.at w may) (λ left. left none) (λ far. omega (arith, far, c.if-time-horizon.false, horizon, c.time-2.ensures))
-    (λ given. not (tick_line b c.is_standing.ensures c.requires.words line t w x spelled new entry logs given))))
-    c.compare.ensures
+    (λ given. not (tick_line b c.is_standing.ensures c.requires.words line t w x spelled new entry logs given)))
