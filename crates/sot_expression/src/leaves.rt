@@ -9,6 +9,7 @@ ghost use Rattle.sot_expression.specs.Returned.{Gives};
 
 use crate::fail::Fail;
 use crate::tokens::Tokens;
+use crate::word::is_word;
 use sot_text::{Kind, Span, Token, numeral_of};
 use sot_tree::{Ident, Lit, Name};
 use std::alloc::Global;
@@ -18,7 +19,7 @@ pub fn is_keyword(tokens: &Tokens<'_>, text: &[u8]) -> bool
     ensures { result ≡ begins (is_keyword text.now) tokens.now.tokens }
 {
     match tokens.peek() {
-        Some(token) => matches!(token.kind, Kind::Keyword) && token.text == text,
+        Some(token) => matches!(token.kind, Kind::Keyword) && is_word(token.text, text),
         None => false,
     }
 }

@@ -14,6 +14,7 @@ mod nodes;
 mod operators;
 mod part;
 mod tokens;
+mod word;
 
 pub use expression::tree;
 pub use fail::Fail;

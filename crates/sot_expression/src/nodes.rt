@@ -7,7 +7,7 @@ ghost use Rattle.sot_expression.specs.Returned.{Makes};
 use crate::fail::Fail;
 use crate::part::Part;
 use sot_text::Span;
-use sot_tree::{Expr, Func, Lit, Op};
+use sot_tree::{Apart, Expr, Func, Lit, Op};
 use std::alloc::Global;
 
 /// A call with one part.
@@ -72,6 +72,7 @@ pub fn rest(alloc: Global, left: Part, by: Lit, at: Span) -> Result<Expr, Fail>
     ensures { Makes tree_view result (rest (tree_view left.tree) by at) }
 {
     let left = Box::new(alloc, left.into_tree())?;
+    let by = Apart::new(alloc, by)?;
     Ok(Expr::Rest { left, by, at })
 }
 
@@ -93,6 +94,7 @@ pub fn rescaled(alloc: Global, part: Part, to: Lit, at: Span) -> Result<Expr, Fa
     ensures { Makes tree_view result (rescaled (tree_view part.tree) to at) }
 {
     let part = Box::new(alloc, part.into_tree())?;
+    let to = Apart::new(alloc, to)?;
     Ok(Expr::Rescale { part, to, at })
 }
 

@@ -6,6 +6,7 @@ ghost use Rattle.sot_text.specs.Reading.{lexeme};
 ghost use Rattle.sot_expression.specs.Operators.{operator_of, tier_of_op, tier_of_infix, operator_from, opening_of, opening_at};
 
 use crate::tokens::Tokens;
+use crate::word::is_word;
 use sot_text::{Kind, Token};
 use sot_tree::{Func, Op};
 
@@ -39,7 +40,7 @@ fn is_sign(token: &Token<'_>, text: &[u8]) -> bool
 fn is_keyword(token: &Token<'_>, text: &[u8]) -> bool
     ensures { result ≡ is_keyword text.now (lexeme token.now) }
 {
-    matches!(token.kind, Kind::Keyword) && token.text == text
+    matches!(token.kind, Kind::Keyword) && is_word(token.text, text)
 }
 
 fn operator_of(token: &Token<'_>) -> Option<Infix>

@@ -3,10 +3,12 @@ use Rattle.std.specs.Prelude.{◌≡◌, Bool, true, false, ℤ, pos, List, [], 
 use Rattle.std.proofs.Common.{◌∙◌, sym, ap, refl, arith}
 use Rattle.sot_lang.specs.declared.draft.Draft.TheInside as draft
 
+-- the number of a slot, where it is there
 abbrev pub slot : Bool → ℤ → Option ℤ
 slot true z = Some z
 slot false z = None
 
+-- the slots of some numbers, each with whether it is there
 abbrev pub slots_of : List Bool → List ℤ → List (Option ℤ)
 slots_of [] zs = []
 slots_of (b ∷ bs) [] = []
@@ -25,9 +27,11 @@ AreSlots [] zs = Unit {0}
 AreSlots (b ∷ bs) [] = Unit {0}
 AreSlots (b ∷ bs) (z ∷ zs) = IsSlot b z × AreSlots bs zs
 
+-- eight slots
 abbrev pub IsDraft : draft.Inside → Type 0
 IsDraft d = (length d.there ≡ 8) × (length d.numbers ≡ 8) × AreSlots d.there d.numbers
 
+-- what is kept of a draft
 abbrev pub draft_of : List (Option ℤ) → draft.Inside
 draft_of slots = record { numbers = map (λ o. unwrap_or o (pos 0)) slots; there = map is_some slots }
 

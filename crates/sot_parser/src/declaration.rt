@@ -10,7 +10,7 @@ use crate::plant::plant;
 use crate::regions::mission_module;
 use crate::topic::topic;
 use sot_expression::{Fail, Tokens, is_keyword};
-use sot_tree::Decl;
+use sot_tree::{Apart, Decl};
 use std::alloc::Global;
 
 #[tactic(auto, unfolding(crate::specs::DeclarationReaders::a_topic_at))]
@@ -27,7 +27,7 @@ fn a_plant(alloc: Global, tokens: &mut Tokens<'_>, room: u32) -> Result<Decl, Fa
     ensures { Gives declaration_view result tokens.old tokens.new (a_plant_at room tokens.old.tokens) }
 {
     let plant = plant(alloc, tokens, room)?;
-    Ok(Decl::Plant(plant))
+    Ok(Decl::Plant(Apart::new(alloc, plant)?))
 }
 
 #[tactic(auto, unfolding(crate::specs::DeclarationReaders::a_coded_at))]
@@ -36,7 +36,7 @@ fn a_coded_node(alloc: Global, tokens: &mut Tokens<'_>, room: u32) -> Result<Dec
     ensures { Gives declaration_view result tokens.old tokens.new (a_coded_at room tokens.old.tokens) }
 {
     let node = coded(alloc, tokens, room)?;
-    Ok(Decl::Node(node))
+    Ok(Decl::Node(Apart::new(alloc, node)?))
 }
 
 #[tactic(auto, unfolding(crate::specs::DeclarationReaders::an_external_at))]
@@ -44,7 +44,7 @@ fn an_external_node(alloc: Global, tokens: &mut Tokens<'_>) -> Result<Decl, Fail
     ensures { Gives declaration_view result tokens.old tokens.new (an_external_at tokens.old.tokens) }
 {
     let node = external(alloc, tokens)?;
-    Ok(Decl::Node(node))
+    Ok(Decl::Node(Apart::new(alloc, node)?))
 }
 
 #[tactic(auto, unfolding(crate::specs::DeclarationReaders::a_module_at))]
@@ -52,7 +52,7 @@ fn a_module(alloc: Global, tokens: &mut Tokens<'_>) -> Result<Decl, Fail>
     ensures { Gives declaration_view result tokens.old tokens.new (a_module_at tokens.old.tokens) }
 {
     let last = mission_module(alloc, tokens)?;
-    Ok(Decl::Module(last))
+    Ok(Decl::Module(Apart::new(alloc, last)?))
 }
 
 #[tactic(auto, unfolding(crate::specs::DeclarationReaders::declaration_at))]

@@ -12,7 +12,7 @@ use crate::plain::plain;
 use sot_expression::{
     Fail, Tokens, expect_keyword, expect_sign, is_keyword, is_name, is_sign, number, tree,
 };
-use sot_tree::Stmt;
+use sot_tree::{Apart, Stmt};
 use std::alloc::Global;
 
 fn is_nested(tokens: &Tokens<'_>) -> bool
@@ -89,6 +89,7 @@ fn branch(alloc: Global, tokens: &mut Tokens<'_>, room: u32) -> Result<Stmt, Fai
     let yes = block(alloc, tokens, room)?;
     let no = optional_else(alloc, tokens, room)?;
     let cond = cond.take();
+    let cond = Apart::new(alloc, cond)?;
     Ok(Stmt::If { cond, yes, no, at })
 }
 

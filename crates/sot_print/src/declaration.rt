@@ -225,8 +225,8 @@ pub fn push_declaration(out: &mut String, gap: Gap, declaration: &Decl) -> Resul
 {
     match declaration {
         Decl::Topic(topic) => push_topic(out, gap, topic),
-        Decl::Plant(plant) => push_plant(out, gap, plant),
-        Decl::Node(node) => push_node(out, gap, node),
-        Decl::Module(declared) => push_module(out, gap, declared),
+        Decl::Plant(plant) => push_plant(out, gap, plant.content()),
+        Decl::Node(node) => push_node(out, gap, node.content()),
+        Decl::Module(declared) => push_module(out, gap, declared.content()),
     }
 }

@@ -154,7 +154,7 @@ pub fn push_expression(out: &mut String, gap: Gap, expr: &Expr) -> Result<(), Al
         Expr::Rest { left, by, .. } => {
             push_operand(out, gap, left)?;
             push_word(out, Gap::Space, "%")?;
-            push_literal(out, Gap::Space, *by)
+            push_literal(out, Gap::Space, *by.content())
         }
         Expr::Neg { part, .. } => {
             push_word(out, gap, "-")?;
@@ -165,7 +165,7 @@ pub fn push_expression(out: &mut String, gap: Gap, expr: &Expr) -> Result<(), Al
             push_grouped(out, Gap::Space, part)
         }
         Expr::Call { func, parts, .. } => push_call(out, gap, *func, parts),
-        Expr::Rescale { part, to, .. } => push_rescaled(out, gap, part, *to),
+        Expr::Rescale { part, to, .. } => push_rescaled(out, gap, part, *to.content()),
         Expr::If { cond, yes, no, .. } => {
             push_led(out, gap, "if", cond)?;
             push_led(out, Gap::Space, "then", yes)?;

@@ -4,15 +4,28 @@ ghost use Rattle.std.specs.String.{string_bytes};
 ghost use Rattle.sot_print.specs.Words.{blanks, laid};
 ghost use Rattle.sot_print.specs.Leaves.{literal_words, ident_words, reference_words, truth_words, constant_words, bounds_words, range_words, fixed_words, scalar_words, field_words};
 
-use crate::gap::{Gap, push_gap, push_word};
+use crate::gap::{Gap, push_characters, push_gap, push_word};
 use crate::numeral::push_numeral;
-use sot_tree::{Bounds, Const, Field, FieldName, Ident, Lit, Scalar};
+use sot_tree::{Bounds, Const, Field, FieldName, Ident, Lit, Name, Scalar};
 use std::alloc::AllocError;
+
+// A name. Most are short.
+fn push_name(out: &mut String, name: &Name) -> Result<(), AllocError>
+    ensures { OnOk result (string_bytes out.new ≡ string_bytes out.old ++ name.now) }
+{
+    let bytes = name.as_bytes();
+    if bytes.len() <= 8 && bytes.is_ascii() {
+        push_characters(out, bytes)
+    } else {
+        out.push_str(name.as_str())
+    }
+}
 
 pub fn push_ident(out: &mut String, gap: Gap, ident: &Ident) -> Result<(), AllocError>
     ensures { OnOk result (string_bytes out.new ≡ string_bytes out.old ++ laid (ident_words gap ident.now)) }
 {
-    push_word(out, gap, ident.name.as_str())
+    push_gap(out, gap)?;
+    push_name(out, &ident.name)
 }
 
 /// A name, or two with a point between them.
@@ -40,7 +53,7 @@ fn push_minus(out: &mut String, gap: Gap, mantissa: i64) -> Result<(), AllocErro
 {
     push_gap(out, gap)?;
     if mantissa < 0 {
-        out.push_str("-")?;
+        out.push('-')?;
     }
     Ok(())
 }

@@ -4,6 +4,7 @@ ghost use Rattle.std.specs.String.{string_bytes};
 ghost use Rattle.std.specs.Fmt.{decimal};
 ghost use Rattle.sot_print.specs.Leaves.{last_digits, numeral};
 
+use itoa::Buffer;
 use std::alloc::AllocError;
 
 fn push_digit(out: &mut String, digit: u8) -> Result<(), AllocError>
@@ -20,16 +21,15 @@ fn push_last(out: &mut String, number: u64) -> Result<(), AllocError>
     push_digit(out, (number % 10) as u8)
 }
 
-// A whole number.
-#[tactic(auto, using(crate::proofs::Numerals::one_digit, crate::proofs::Numerals::more_digits, crate::proofs::Laying::laying))]
+// A whole number. Most numbers of a program have one digit.
+#[tactic(auto, using(crate::proofs::Numerals::one_digit))]
 fn push_whole(out: &mut String, number: u64) -> Result<(), AllocError>
     ensures { OnOk result (string_bytes out.new ≡ string_bytes out.old ++ decimal number) }
 {
     if number < 10 {
         return push_last(out, number);
     }
-    push_whole(out, number / 10)?;
-    push_last(out, number)
+    out.push_str(Buffer::new().format(number))
 }
 
 // So many last digits of a number, zeros in front too.
@@ -62,6 +62,6 @@ pub fn push_numeral(out: &mut String, digits: u64, scale: u8) -> Result<(), Allo
     if scale == 0 {
         return Ok(());
     }
-    out.push_str(".")?;
+    out.push('.')?;
     push_decimals(out, digits, scale)
 }

@@ -16,7 +16,7 @@ use std::alloc::AllocError;
 pub fn push_semicolon(out: &mut String) -> Result<(), AllocError>
     ensures { OnOk result (string_bytes out.new ≡ string_bytes out.old ++ laid semicolon) }
 {
-    push_word(out, Gap::Touching, ";")
+    out.push(';')
 }
 
 // The sign, the value and the end of a statement.
@@ -84,7 +84,7 @@ fn push_statement(out: &mut String, indent: usize, statement: &Stmt) -> Result<(
         }
         Stmt::If { cond, yes, no, .. } => {
             push_word(out, Gap::Line { indent }, "if")?;
-            push_expression(out, Gap::Space, cond)?;
+            push_expression(out, Gap::Space, cond.content())?;
             push_block(out, indent, yes)?;
             push_otherwise(out, indent, no)
         }

@@ -30,5 +30,6 @@ pub mod Lookups
 pub mod NameSets
 pub mod NameTables
 pub mod Indexes
+pub mod Distinct
 pub mod StandsFor
 pub mod Alike

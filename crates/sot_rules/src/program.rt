@@ -1,9 +1,10 @@
 //! The first fault of a program.
-ghost use Rattle.std.specs.Prelude.{◌≡◌, Some, None, map, flat_map, OnOk, IfOk};
+ghost use Rattle.std.specs.Prelude.{◌≡◌, [], Some, None, map, flat_map, OnOk, IfOk};
 ghost use Rattle.sot_tree.specs.TreeViews.{declaration_view, program_view};
 ghost use Rattle.sot_rules.specs.declared.fault.TypeFault.{TypeFault};
 ghost use Rattle.sot_rules.specs.First.{IsFirstFault, IsFaultless};
-ghost use Rattle.sot_rules.specs.Faults.{least, declaration_faults, faults};
+ghost use Rattle.sot_rules.specs.Faults.{least, declaration_faults, faults, repeats};
+ghost use Rattle.sot_rules.specs.Names.{declared_name};
 ghost use Rattle.sot_rules.specs.Indexes.{program_in, IsIndex};
 
 use crate::declarations::kind::{DeclKind, note_past_kind};
@@ -29,10 +30,10 @@ fn note_declaration<'p>(
 {
     match d {
         Decl::Topic(t) => note_topic(alloc, t, first),
-        Decl::Plant(q) => note_plant(alloc, index, q, first),
-        Decl::Node(n) => note_node(alloc, index, n, first),
+        Decl::Plant(q) => note_plant(alloc, index, q.content(), first),
+        Decl::Node(n) => note_node(alloc, index, n.content(), first),
         Decl::Module(m) => {
-            note_module(index, m, first);
+            note_module(index, m.content(), first);
             Ok(())
         }
     }
@@ -55,6 +56,22 @@ fn note_declarations<'p>(
     Ok(())
 }
 
+// The declarations whose names stand before. The index knows where there are none.
+fn note_repeated_declarations(
+    alloc: Global,
+    index: &Index,
+    first: &mut Option<TypeFault>,
+) -> Result<(), AllocError>
+    requires { IsIndex index.now }
+    ensures { OnOk result (first.new
+        ≡ least first.old (repeats [] (map declared_name (program_in index.now).decls))) }
+{
+    if index.is_distinct() {
+        return Ok(());
+    }
+    note_repeats(alloc, index.decls, first)
+}
+
 fn note_program(
     alloc: Global,
     index: &Index,
@@ -63,7 +80,7 @@ fn note_program(
     requires { IsIndex index.now }
     ensures { OnOk result (first.new ≡ least first.old (faults (program_in index.now))) }
 {
-    note_repeats(alloc, index.decls, first)?;
+    note_repeated_declarations(alloc, index, first)?;
     note_past_kind(DeclKind::Topic, 512, index.decls, first);
     note_past_kind(DeclKind::Node, 300, index.decls, first);
     note_past_kind(DeclKind::Module, 100, index.decls, first);
@@ -72,8 +89,8 @@ fn note_program(
     Ok(())
 }
 
-// The first fault of the program of an index.
-fn first_in(alloc: Global, index: &Index) -> Result<Option<TypeFault>, AllocError>
+/// As `first_fault`, of the program of an index, for callers that go on to look names up in it.
+pub fn first_fault_in(alloc: Global, index: &Index) -> Result<Option<TypeFault>, AllocError>
     requires { IsIndex index.now }
     ensures faultless { IfOk result (λ f. f ≡ None → IsFaultless (program_in index.now)) }
     ensures first { IfOk result
@@ -92,7 +109,7 @@ pub fn first_fault(alloc: Global, program: &Program) -> Result<Option<TypeFault>
         (λ f. (g : TypeFault) → f ≡ Some g → IsFirstFault (program_view program.now) g) }
 {
     let index = Index::of(alloc, program)?;
-    let found = first_in(alloc, &index);
+    let found = first_fault_in(alloc, &index);
     drop(index);
     found
 }

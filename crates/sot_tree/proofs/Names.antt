@@ -1,5 +1,6 @@
 -- The bytes of a name are ASCII.
-use Rattle.std.proofs.Common.{◌≡◌, ℕ, ◌+◌, ◌<◌, ◌==◌, ◌||◌, ◌^◌, true, nat_lt, List, [], ◌∷◌, length, take, inl, inr, refl, sym, ◌∙◌, arith}
+use Rattle.std.proofs.Common.{◌≡◌, ℕ, ◌+◌, ◌<◌, ◌≤◌, ◌==◌, ◌||◌, ◌^◌, true, nat_lt, List, [], ◌∷◌, length, take, inl, inr, refl, sym, subst, ◌∙◌, arith}
+use Rattle.std.proofs.Math.Seq.{take-length}
 use Rattle.std.specs.List.{prefix_len}
 use Rattle.std.specs.Str.{IsAscii, IsUtf8}
 use Rattle.std.specs.Char.{is_ascii_digit}
@@ -65,3 +66,31 @@ words_ascii (b ∷ bs) e =
 
 pub name_utf8 : (text : List ℕ) → IsTokenText Name text → IsUtf8 text
 name_utf8 text is = IsUtf8-from_ascii text (words_ascii text (name_word text is))
+
+-- a name has at most 64 bytes
+word_fits : (text : List ℕ) (n : ℕ) → word text ≡ Token Name n → length text ≤ 64
+word_fits text n e =
+    elim (cases_Bool (is_keyword text)) [
+      | inl key ↦ (let never : Token Keyword (length text) ≡ Token Name n = sym (cond-true (is_keyword text) _ _ key) ∙ e in absurd cc)
+      | inr other ↦
+          let past = sym (cond-false (is_keyword text) _ _ other) in
+          elim (cases_Bool (nat_lt 64 (length text))) [
+            | inl long ↦ (let never : NameLong (length text) ≡ Token Name n = sym (cond-true (nat_lt 64 (length text)) _ _ long) ∙ past ∙ e in absurd cc)
+            | inr fits ↦ grind (arith, nat_tests)
+          ]
+    ]
+
+name_prefix : (text : List ℕ) → IsTokenText Name text → take (prefix_len is_in_word text) text ≡ text
+name_prefix text is = rw (name_word text is) (take-length text)
+
+pub name_fits : (text : List ℕ) → IsTokenText Name text → length text ≤ 64
+name_fits [] is = omega arith
+name_fits (b ∷ bs) is =
+    elim (cases_Bool (begins_word b)) [
+      | inl first ↦ (let whole : take (word_len (b ∷ bs)) (b ∷ bs) ≡ b ∷ bs = name_prefix (b ∷ bs) is in subst (λ t. length t ≤ 64) whole (word_fits (take (word_len (b ∷ bs)) (b ∷ bs)) (length (b ∷ bs)) (sym (front_word b bs first) ∙ is)))
+      | inr no_word ↦
+          elim (cases_Bool (is_ascii_digit b)) [
+            | inl digit ↦ absurd (number_no_name (decimals_of (b ∷ bs)) (mantissa_of (b ∷ bs)) (number_len (b ∷ bs)) _ (sym (front_number b bs no_word digit) ∙ is))
+            | inr no_digit ↦ absurd (sign_no_name (sign_len (b ∷ bs)) _ (sym (front_sign b bs no_word no_digit) ∙ is))
+          ]
+    ]

@@ -4,3 +4,5 @@ pub mod TreeViews
 pub mod Functions
 -- what the grammar makes sure of
 pub mod Formed
+-- what the functions inside the crate promise each other
+pub mod Letters

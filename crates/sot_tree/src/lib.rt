@@ -1,11 +1,15 @@
 //! A program as it is written: names, operators, and the trees of declarations, statements and expressions.
 #![tactic(auto)]
 
+mod apart;
 mod field_name;
+mod letters;
 mod name;
 mod operator;
+mod row;
 mod tree;
 
+pub use apart::Apart;
 pub use field_name::FieldName;
 pub use name::Name;
 pub use operator::{Func, Op};

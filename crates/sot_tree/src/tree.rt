@@ -1,5 +1,6 @@
 //! The trees of a program as it is written.
 
+use crate::apart::Apart;
 use crate::field_name::FieldName;
 use crate::name::Name;
 use crate::operator::{Func, Op};
@@ -29,9 +30,9 @@ pub struct Program {
 #[derive(Drop)]
 pub enum Decl {
     Topic(TopicDecl),
-    Plant(PlantDecl),
-    Node(NodeDecl),
-    Module(ModuleDecl),
+    Plant(Apart<PlantDecl>),
+    Node(Apart<NodeDecl>),
+    Module(Apart<ModuleDecl>),
 }
 
 /// The ends of a range, as in `[-2..2]`.
@@ -173,7 +174,7 @@ pub enum Expr {
     /// The operator `%`, whose right operand is a literal.
     Rest {
         left: Box<Expr>,
-        by: Lit,
+        by: Apart<Lit>,
         at: Span,
     },
     Neg {
@@ -191,7 +192,7 @@ pub enum Expr {
     },
     Rescale {
         part: Box<Expr>,
-        to: Lit,
+        to: Apart<Lit>,
         at: Span,
     },
     If {
@@ -215,7 +216,7 @@ pub enum Stmt {
         value: Expr,
     },
     If {
-        cond: Expr,
+        cond: Apart<Expr>,
         yes: Vec<Stmt>,
         no: Vec<Stmt>,
         at: Span,

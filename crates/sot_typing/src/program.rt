@@ -11,7 +11,7 @@ ghost use Rattle.sot_typing.specs.Resolved.{AreTables};
 use crate::names::numbers::numbers;
 use crate::tables::lists::all_tables;
 use sot_lang::Typed;
-use sot_rules::{Index, TypeFail, first_fault};
+use sot_rules::{Index, TypeFail, first_fault_in};
 use sot_tree::Program;
 use std::alloc::{AllocError, Global};
 
@@ -26,16 +26,19 @@ fn indexed_tables(alloc: Global, index: &Index) -> Result<Typed, AllocError>
     all_tables(alloc, index, &numbers)
 }
 
-// The tables of a program in which no rule of typing fails.
-fn faultless_tables(alloc: Global, program: &Program) -> Result<Typed, AllocError>
-    requires formed { IsFormed (program_view program.now) }
-    requires faultless { IsFaultless (program_view program.now) }
-    ensures { IfOk result (λ t. AreTables (program_view program.now) t) }
+// The tables of the program of an index, or the first rule of typing that it breaks. So the names of a program are put into tables once.
+fn indexed(alloc: Global, index: &Index) -> Result<Typed, TypeFail>
+    requires indexed { IsIndex index.now }
+    requires formed { IsFormed (program_in index.now) }
+    ensures faultless { IfOk result (λ t. IsFaultless (program_in index.now)) }
+    ensures tables { IfOk result (λ t. AreTables (program_in index.now) t) }
+    ensures fault { IfErr result
+        (λ e. (f : AFault) → e ≡ Fault f → IsFirstFault (program_in index.now) f) }
 {
-    let index = Index::of(alloc, program)?;
-    let made = indexed_tables(alloc, &index);
-    drop(index);
-    made
+    if let Some(fault) = first_fault_in(alloc, index)? {
+        return Err(TypeFail::Fault(fault));
+    }
+    Ok(indexed_tables(alloc, index)?)
 }
 
 /// The tables of a program, or the first rule of typing that it breaks, by its place in the text and then by its number.
@@ -47,8 +50,8 @@ pub fn resolve(alloc: Global, program: &Program) -> Result<Typed, TypeFail>
     ensures fault { IfErr result
         (λ e. (f : AFault) → e ≡ Fault f → IsFirstFault (program_view program.now) f) }
 {
-    if let Some(fault) = first_fault(alloc, program)? {
-        return Err(TypeFail::Fault(fault));
-    }
-    Ok(faultless_tables(alloc, program)?)
+    let index = Index::of(alloc, program)?;
+    let made = indexed(alloc, &index);
+    drop(index);
+    made
 }

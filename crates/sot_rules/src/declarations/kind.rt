@@ -27,15 +27,15 @@ fn name_of(kind: DeclKind, d: &Decl) -> Option<&Ident>
             _ => None,
         },
         DeclKind::Plant => match d {
-            Decl::Plant(q) => Some(&q.name),
+            Decl::Plant(q) => Some(&q.content().name),
             _ => None,
         },
         DeclKind::Node => match d {
-            Decl::Node(n) => Some(&n.name),
+            Decl::Node(n) => Some(&n.content().name),
             _ => None,
         },
         DeclKind::Module => match d {
-            Decl::Module(m) => Some(&m.name),
+            Decl::Module(m) => Some(&m.content().name),
             _ => None,
         },
     }

@@ -52,7 +52,7 @@ pub fn is_tree_behind(e: &Expr, from: u32) -> bool
         }
         Expr::Rest { left, by, at } => {
             let a = is_tree_behind(left, from);
-            let number = is_behind(by.at, from);
+            let number = is_behind(by.content().at, from);
             is_behind(*at, from) && (number && a)
         }
         Expr::Neg { part, at } => {
@@ -69,7 +69,7 @@ pub fn is_tree_behind(e: &Expr, from: u32) -> bool
         }
         Expr::Rescale { part, to, at } => {
             let a = is_tree_behind(part, from);
-            let number = is_behind(to.at, from);
+            let number = is_behind(to.content().at, from);
             is_behind(*at, from) && (number && a)
         }
         Expr::If { cond, yes, no, at } => {

@@ -174,7 +174,7 @@ pub fn expression(e: &Expr, names: &Names, first: &mut Option<TypeFault>) -> Sor
         }
         Expr::Rest { left, by, at } => {
             let a = expression(left, names, first);
-            rest(a, *by, *at, first)
+            rest(a, *by.content(), *at, first)
         }
         Expr::Neg { part, at } => {
             let a = expression(part, names, first);
@@ -190,7 +190,7 @@ pub fn expression(e: &Expr, names: &Names, first: &mut Option<TypeFault>) -> Sor
         }
         Expr::Rescale { part, to, at } => {
             let a = expression(part, names, first);
-            rescale(a, *to, *at, first)
+            rescale(a, *to.content(), *at, first)
         }
         Expr::If { cond, yes, no, at } => {
             let c = expression(cond, names, first);

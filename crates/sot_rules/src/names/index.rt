@@ -1,9 +1,10 @@
 //! The declarations of a program by their names.
-ghost use Rattle.std.specs.Prelude.{◌≡◌, ◌++◌, ◌∷◌, [], ◌||◌, ◌<◌, ℕ, List, length, is_some, map, position, slice_get, Option, option_map, IfOk, OnOk, IfSome};
+ghost use Rattle.std.specs.Prelude.{◌≡◌, ◌++◌, ◌∷◌, [], ◌||◌, ◌<◌, true, ℕ, List, length, is_some, map, position, slice_get, Option, option_map, IfOk, OnOk, IfSome};
 ghost use Rattle.sot_tree.specs.Trees.{Declaration};
 ghost use Rattle.sot_tree.specs.TreeViews.{declaration_view, program_view};
 ghost use Rattle.sot_rules.specs.Names.{declared_name, field_part, meaning, state_part};
 ghost use Rattle.sot_rules.specs.Sorts.{state_sort};
+ghost use Rattle.sot_rules.specs.Faults.{repeats};
 ghost use Rattle.sot_rules.specs.Tests.{has_module, is_plant_of};
 ghost use Rattle.sot_rules.specs.NameTables.{found};
 ghost use Rattle.sot_rules.specs.Indexes.{program_in, is_named, is_key, declared_parts, sort_in, Indexes, IsIndex};
@@ -45,9 +46,9 @@ pub fn declared_name(d: &Decl) -> &Ident
 {
     match d {
         Decl::Topic(t) => &t.name,
-        Decl::Plant(q) => &q.name,
-        Decl::Node(n) => &n.name,
-        Decl::Module(m) => &m.name,
+        Decl::Plant(q) => &q.content().name,
+        Decl::Node(n) => &n.content().name,
+        Decl::Module(m) => &m.content().name,
     }
 }
 
@@ -122,7 +123,7 @@ fn part_table<'p>(alloc: Global, d: &'p Decl) -> Result<PartTable<'p>, AllocErro
             Shape::One(_) => Ok(no_parts(alloc)),
             Shape::Fields(fields) => field_table(alloc, fields),
         },
-        Decl::Plant(q) => state_table(alloc, &q.states),
+        Decl::Plant(q) => state_table(alloc, &q.content().states),
         _ => Ok(no_parts(alloc)),
     }
 }
@@ -134,7 +135,7 @@ fn note_owned<'p>(owned: &mut NameSet<'p>, d: &'p Decl) -> Result<(), AllocError
 {
     match d {
         Decl::Module(m) => {
-            let _ = owned.insert_full(m.plant.name.as_bytes())?;
+            let _ = owned.insert_full(m.content().plant.name.as_bytes())?;
             Ok(())
         }
         _ => Ok(()),
@@ -146,7 +147,7 @@ fn owned_hasher(decls: &[Decl]) -> NameHasher {
     let mut key = NameKey::new();
     for d in decls {
         if let Decl::Module(m) = d {
-            key.take(&m.plant);
+            key.take(&m.content().plant);
         }
     }
     key.hasher()
@@ -232,6 +233,14 @@ impl<'p> Index<'p> {
             None => None,
             Some(k) => Some(&decls[k]),
         }
+    }
+
+    /// Whether each declaration has a name of its own: then the table of places has an entry for each of them.
+    pub fn is_distinct(&self) -> bool
+        requires { IsIndex self.now }
+        ensures { result ≡ true → repeats [] (map declared_name (program_in self.now).decls) ≡ [] }
+    {
+        self.places.len() == self.decls.len()
     }
 
     /// Whether some module names the plant as its own.

@@ -61,7 +61,7 @@ pub fn is_external(d: Option<&Decl>) -> bool
     ensures { result ≡ is_external (meant d.entry) }
 {
     match d {
-        Some(Decl::Node(n)) => n.body.is_none(),
+        Some(Decl::Node(n)) => n.content().body.is_none(),
         _ => false,
     }
 }
@@ -72,7 +72,7 @@ pub fn size_of(plants: bool, d: Option<&Decl>) -> usize
 {
     match d {
         Some(Decl::Topic(t)) => scalar_count(&t.shape),
-        Some(Decl::Plant(q)) => { if plants { q.states.len() } else { 0 } }
+        Some(Decl::Plant(q)) => { if plants { q.content().states.len() } else { 0 } }
         _ => 0,
     }
 }
@@ -82,7 +82,7 @@ pub fn states_of<'p>(d: Option<&'p Decl>) -> Option<&'p [StateDecl]>
     ensures { sorts_in result ≡ side_sorts (meant d.entry) }
 {
     match d {
-        Some(Decl::Plant(q)) => Some(&q.states),
+        Some(Decl::Plant(q)) => Some(&q.content().states),
         _ => None,
     }
 }

@@ -39,7 +39,7 @@ fn is_statement_behind(stmt: &Stmt, from: u32) -> bool
             is_behind(topic.at, from) && (is_field && e)
         }
         Stmt::If { cond, yes, no, at } => {
-            let c = is_tree_behind(cond, from);
+            let c = is_tree_behind(cond.content(), from);
             let a = is_block_behind(yes, from);
             let b = is_block_behind(no, from);
             is_behind(*at, from) && (c && (a && b))

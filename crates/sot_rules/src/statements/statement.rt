@@ -72,7 +72,7 @@ fn statement(stmt: &Stmt, scope: &Scope, first: &mut Option<TypeFault>)
             note_target(wanted, s, topic.at, first);
         }
         Stmt::If { cond, yes, no, at } => {
-            let s = expression(cond, &scope.read, first);
+            let s = expression(cond.content(), &scope.read, first);
             note(first, is_scaled(s), *at, TypeKind::KindDiffers);
             block(yes, scope, first);
             block(no, scope, first);

@@ -117,7 +117,7 @@ fn show(tree: &Expr, out: &mut String) -> Result<(), AllocError> {
         Expr::Rest { left, by, at } => {
             write!(out, " Rest@{}", at.from)?;
             show(left, out)?;
-            show_number(by, out)
+            show_number(by.content(), out)
         }
         Expr::Neg { part, at } => {
             write!(out, " Neg@{}", at.from)?;
@@ -137,7 +137,7 @@ fn show(tree: &Expr, out: &mut String) -> Result<(), AllocError> {
         Expr::Rescale { part, to, at } => {
             write!(out, " Rescale@{}", at.from)?;
             show(part, out)?;
-            show_number(to, out)
+            show_number(to.content(), out)
         }
         Expr::If { cond, yes, no, at } => {
             write!(out, " If@{}", at.from)?;

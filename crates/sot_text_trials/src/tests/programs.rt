@@ -90,6 +90,7 @@ fn reads_a_plant(rt: HostRuntime) {
     let Decl::Plant(plant) = decl_at(&rt, &program, 1) else {
         panic!(rt; "no plant");
     };
+    let plant = plant.content();
     same(&rt, "name", plant.name.name.as_bytes(), b"pos".as_slice());
     let taken = (plant.states.len(), plant.inputs.len(), plant.sees.len());
     same(&rt, "states, inputs, sees", taken, (1, 1, 0));
@@ -103,6 +104,7 @@ fn reads_a_module(rt: HostRuntime) {
     let Decl::Module(module) = decl_at(&rt, &program, 4) else {
         panic!(rt; "no module");
     };
+    let module = module.content();
     same(&rt, "safe", module.safe.len(), 1);
     let safe = module.safe.get(0).expect(&rt, "a box");
     same(&rt, "sides", safe.sides.len(), 1);
@@ -119,7 +121,7 @@ a := 1; publish m.f = a; if a > 0 { } else { repeat 3 { a := a + 1; } } if true 
     let Decl::Node(node) = decl_at(&rt, &program, 0) else {
         panic!(rt; "no node");
     };
-    let Some(body) = &node.body else {
+    let Some(body) = &node.content().body else {
         panic!(rt; "no code");
     };
     same(&rt, "statements", body.len(), 4);

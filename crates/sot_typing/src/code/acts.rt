@@ -92,7 +92,7 @@ fn act(alloc: Global, names: &BodyNames, stmt: &Stmt) -> Result<Act, AllocError>
             value,
         } => publication(alloc, names, topic, field, value),
         Stmt::If { cond, yes, no, .. } => {
-            let made = term(alloc, names.read, cond)?;
+            let made = term(alloc, names.read, cond.content())?;
             let yes = acts(alloc, names, yes)?;
             let no = acts(alloc, names, no)?;
             Ok(Act::If {

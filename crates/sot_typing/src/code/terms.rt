@@ -245,7 +245,7 @@ pub fn term(alloc: Global, things: &[Thing], e: &Expr) -> Result<Sorted, AllocEr
         }
         Expr::Rest { left, by, at } => {
             let a = term(alloc, things, left)?;
-            remainder(alloc, a, by.mantissa, *at)
+            remainder(alloc, a, by.content().mantissa, *at)
         }
         Expr::Neg { part, at } => {
             let a = term(alloc, things, part)?;
@@ -261,7 +261,7 @@ pub fn term(alloc: Global, things: &[Thing], e: &Expr) -> Result<Sorted, AllocEr
         }
         Expr::Rescale { part, to, at } => {
             let a = term(alloc, things, part)?;
-            change_of_scale(alloc, a, *to, *at)
+            change_of_scale(alloc, a, *to.content(), *at)
         }
         Expr::If { cond, yes, no, at } => {
             let c = term(alloc, things, cond)?;

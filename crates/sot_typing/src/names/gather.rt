@@ -73,7 +73,7 @@ fn thing_of_list<'p>(list: NameList, d: Option<&'p Decl>) -> Option<Thing<'p>>
         },
         Some(Decl::Plant(q)) => match list {
             NameList::Topics => None,
-            _ => Some(plant_thing(q)),
+            _ => Some(plant_thing(q.content())),
         },
         _ => None,
     }

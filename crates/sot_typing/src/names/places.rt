@@ -83,7 +83,7 @@ fn put_slots_meant(
     };
     match meant.decl {
         Decl::Topic(t) => put_scalar_slots(meant.number.first, scalar_count(&t.shape), slots),
-        Decl::Plant(q) => put_state_slots(meant.number.place, q.states.len(), slots),
+        Decl::Plant(q) => put_state_slots(meant.number.place, q.content().states.len(), slots),
         _ => Ok(()),
     }
 }

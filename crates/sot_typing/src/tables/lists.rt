@@ -91,7 +91,7 @@ fn put_plant(
 {
     match d {
         Decl::Plant(q) => {
-            plants.push(plant_info(alloc, index, numbers, q)?)?;
+            plants.push(plant_info(alloc, index, numbers, q.content())?)?;
             Ok(())
         }
         _ => Ok(()),
@@ -114,7 +114,7 @@ fn put_node(
 {
     match d {
         Decl::Node(n) => {
-            nodes.push(node_info(alloc, index, numbers, n)?)?;
+            nodes.push(node_info(alloc, index, numbers, n.content())?)?;
             Ok(())
         }
         _ => Ok(()),
@@ -136,7 +136,7 @@ fn put_module(
 {
     match d {
         Decl::Module(m) => {
-            modules.push(module_info(alloc, index, numbers, m)?)?;
+            modules.push(module_info(alloc, index, numbers, m.content())?)?;
             Ok(())
         }
         _ => Ok(()),

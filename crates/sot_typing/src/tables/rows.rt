@@ -125,7 +125,7 @@ fn state_count(index: &Index, name: &Ident) -> usize
     ensures { result ≡ state_count (program_in index.now) name.now }
 {
     match index.meaning(name) {
-        Some(Decl::Plant(q)) => q.states.len(),
+        Some(Decl::Plant(q)) => q.content().states.len(),
         _ => 0,
     }
 }

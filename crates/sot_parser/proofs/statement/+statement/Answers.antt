@@ -48,7 +48,7 @@ block-returns t c = (
 
 pub branch-returns : goal.branch-returns
 branch-returns t c =
-    rw c.take-cond.ensures (
+    rw (c.in_ok-cond.ensures, c.take-cond.ensures) (
       branch_read (tree_at c.args.room) (block_at (statement_at c.args.room)) c.args.tokens.now.tokens c.expect_keyword.new.tokens.tokens c.tree.new.tokens.tokens c.block.new.tokens.tokens c.optional_else.new.tokens.tokens c.in_ok-at.at
           c.in_ok-tree.field-0 c.in_ok-yes.yes c.in_ok-no.no c.in_ok-at.ensures.0 c.in_ok-tree.ensures.0 c.in_ok-yes.ensures.0 c.in_ok-no.ensures.0,
       c.in_ok-no.ensures.1 ∙ c.in_ok-yes.ensures.1 ∙ c.in_ok-tree.ensures.1 ∙ c.in_ok-at.ensures.1,

@@ -1,9 +1,10 @@
 use Rattle.std.proofs.Common.{◌∙◌, ◌++◌, ap, sym, refl}
 use Rattle.std.specs.String.{string_bytes}
 use Rattle.std.proofs.lemmas.Result.{IfOk-equal}
-use Rattle.sot_tree.specs.TreeViews.{statement_view, block_view}
+use Rattle.sot_tree.specs.TreeViews.{tree_view, statement_view, block_view}
 use Rattle.sot_print.specs.declared.gap.Gap.TheVariants.{Line, Space}
 use Rattle.sot_print.specs.Words.{blanks, laid}
+use Rattle.sot_print.specs.Expressions.{expression_words}
 use Rattle.sot_print.specs.Statements.{braced_words, otherwise_words, statement_words, block_words}
 use Rattle.sot_print.proofs.Lists.{one_step}
 use Rattle.sot_print.proofs.Blocks.{otherwise_bytes, otherwise_written, branch_bytes, branch_written, repeat_bytes, repeat_written}
@@ -29,10 +30,11 @@ push_statement-returns-in_ok-push_block-in-If t c =
     let start = string_bytes c.args.out.now in
     let indent = c.args.indent in
     let shown = ap (λ s. laid (statement_words (statement_view s) indent)) c.in-If.is ∙ branch_bytes c.in-If.cond c.in-If.yes c.in-If.no c.in-If.at indent in
+    let tested = c.in_ok-push_expression-in-If.ensures ∙ ap (λ e. string_bytes c.push_word-in-If.new.out ++ laid (expression_words (tree_view e) Space)) c.content.ensures in
     let yes_ = c.in_ok-push_block-in-If.ensures ∙ ap (λ ss. string_bytes c.push_expression.new.out ++ laid (braced_words indent (block_words (block_view ss)))) c.deref.ensures.value in
     IfOk-equal c.push_otherwise.result _ _ _ c.push_otherwise.ensures
     (ap (λ ss. string_bytes c.push_block.new.out ++ laid (otherwise_words (block_view ss) indent (block_words (block_view ss)))) c.deref-in-If.ensures.value
-    ∙ branch_written start _ _ _ (blanks (Line indent)) _ _ _ _ c.in_ok-push_word-in-If.ensures c.in_ok-push_expression-in-If.ensures yes_
+    ∙ branch_written start _ _ _ (blanks (Line indent)) _ _ _ _ c.in_ok-push_word-in-If.ensures tested yes_
     ∙ ap (λ bytes. start ++ bytes) (sym shown))
 
 pub push_statement-returns-in_ok-push_literal-in-Repeat : goal.push_statement-returns-in_ok-push_literal-in-Repeat

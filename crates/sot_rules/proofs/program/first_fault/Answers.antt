@@ -7,8 +7,8 @@ use Rattle.sot_rules.proofs.program.first_fault.Goals as goal
 
 pub returns-clause-faultless : goal.returns-clause-faultless
 returns-clause-faultless c =
-    subst (λ p. IfOk c.first_in-found.result (λ f. f ≡ None → IsFaultless p)) c.in_ok-index.ensures.program c.first_in-found.ensures.faultless
+    subst (λ p. IfOk c.first_fault_in-found.result (λ f. f ≡ None → IsFaultless p)) c.in_ok-index.ensures.program c.first_fault_in-found.ensures.faultless
 
 pub returns-clause-first : goal.returns-clause-first
 returns-clause-first c =
-    subst (λ p. IfOk c.first_in-found.result (λ f. (g : TypeFault) → f ≡ Some g → IsFirstFault p g)) c.in_ok-index.ensures.program c.first_in-found.ensures.first
+    subst (λ p. IfOk c.first_fault_in-found.result (λ f. (g : TypeFault) → f ≡ Some g → IsFirstFault p g)) c.in_ok-index.ensures.program c.first_fault_in-found.ensures.first

@@ -1,13 +1,11 @@
 -- Of `note_program`: its promises.
-use Rattle.std.proofs.Common.{◌∙◌, [], map, ap}
+use Rattle.std.proofs.Common.{[], map}
 use Rattle.std.specs.Prelude.{flat_map}
-use Rattle.sot_tree.specs.TreeViews.{declaration_view}
 use Rattle.sot_rules.specs.Lists.{places}
 use Rattle.sot_rules.specs.Names.{declared_name}
 use Rattle.sot_rules.specs.Tests.{topic_name, plant_name, node_name, module_name, names_of}
-use Rattle.sot_rules.specs.Faults.{least, repeats, past, declaration_faults, faults}
+use Rattle.sot_rules.specs.Faults.{repeats, past, declaration_faults, faults}
 use Rattle.sot_rules.specs.Indexes.{program_in}
-use Rattle.sot_rules.proofs.Mapped.{map_twice}
 use Rattle.sot_rules.proofs.Sequences.{program_noted}
 use Rattle.sot_rules.proofs.program.note_program.Goals as goal
 
@@ -19,6 +17,5 @@ returns c =
     (past 512 (places (names_of topic_name p))) (past 300 (places (names_of node_name p)))
     (past 100 (places (names_of module_name p))) (past 100 (places (names_of plant_name p)))
     (flat_map (declaration_faults p) p.decls) _ _ _ _ _ _ _
-    (c.in_ok-note_repeats.ensures ∙ ap (λ is. least c.args.first.now (repeats [] is)) (map_twice declared_name declaration_view c.args.index.now.decls.now))
-    c.note_past_kind.ensures c.note_past_kind-2.ensures c.note_past_kind-3.ensures c.note_past_kind-4.ensures
+    c.in_ok-note_repeated_declarations.ensures c.note_past_kind.ensures c.note_past_kind-2.ensures c.note_past_kind-3.ensures c.note_past_kind-4.ensures
     c.in_ok-note_declarations.ensures

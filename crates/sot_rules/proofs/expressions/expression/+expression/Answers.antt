@@ -117,18 +117,26 @@ expression-returns-in-Binary-clause-noted t c =
 pub expression-returns-in-Rest-clause-sort : goal.expression-returns-in-Rest-clause-sort
 expression-returns-in-Rest-clause-sort t c =
     let names = names_in c.args.names.now in
-    let is = ap tree_view c.in-Rest.is ∙ ap (λ x. rest (tree_view x) c.in-Rest.by c.in-Rest.at) (sym c.deref-in-Rest.ensures) in
-    c.rest.ensures.sort ∙ ap (λ a. unless (is_truthful a || (differ a (Scaled c.in-Rest.by.scale) || is_zero c.in-Rest.by)) a) c.expression-a-in-Rest.ensures.sort
+    let by = c.content.result.now in
+    let is =
+    ap tree_view c.in-Rest.is
+    ∙ ap (λ x. rest (tree_view x) c.in-Rest.by c.in-Rest.at) (sym c.deref-in-Rest.ensures)
+    ∙ ap (λ l. rest (tree_view c.deref-in-Rest.result.now) l c.in-Rest.at) (sym c.content.ensures) in
+    c.rest.ensures.sort ∙ ap (λ a. unless (is_truthful a || (differ a (Scaled by.scale) || is_zero by)) a) c.expression-a-in-Rest.ensures.sort
     ∙ sym (ap (sort names) is)
 
 pub expression-returns-in-Rest-clause-noted : goal.expression-returns-in-Rest-clause-noted
 expression-returns-in-Rest-clause-noted t c =
     let names = names_in c.args.names.now in
     let part = tree_view c.deref-in-Rest.result.now in
-    let is = ap tree_view c.in-Rest.is ∙ ap (λ x. rest (tree_view x) c.in-Rest.by c.in-Rest.at) (sym c.deref-in-Rest.ensures) in
-    two_noted (tree_faults names part) (misfits (is_truthful (sort names part)) (differ (sort names part) (Scaled c.in-Rest.by.scale)) c.in-Rest.at ++ when (is_zero c.in-Rest.by) c.in-Rest.by.at KindDiffers) _ _ _
+    let by = c.content.result.now in
+    let is =
+    ap tree_view c.in-Rest.is
+    ∙ ap (λ x. rest (tree_view x) c.in-Rest.by c.in-Rest.at) (sym c.deref-in-Rest.ensures)
+    ∙ ap (λ l. rest (tree_view c.deref-in-Rest.result.now) l c.in-Rest.at) (sym c.content.ensures) in
+    two_noted (tree_faults names part) (misfits (is_truthful (sort names part)) (differ (sort names part) (Scaled by.scale)) c.in-Rest.at ++ when (is_zero by) by.at KindDiffers) _ _ _
     c.expression-a-in-Rest.ensures.noted
-    (c.rest.ensures.noted ∙ ap (λ a. least c.expression-a-in-Rest.new.first (misfits (is_truthful a) (differ a (Scaled c.in-Rest.by.scale)) c.in-Rest.at ++ when (is_zero c.in-Rest.by) c.in-Rest.by.at KindDiffers)) c.expression-a-in-Rest.ensures.sort)
+    (c.rest.ensures.noted ∙ ap (λ a. least c.expression-a-in-Rest.new.first (misfits (is_truthful a) (differ a (Scaled by.scale)) c.in-Rest.at ++ when (is_zero by) by.at KindDiffers)) c.expression-a-in-Rest.ensures.sort)
     ∙ sym (ap (λ e. least c.args.first.now (tree_faults names e)) is)
 
 pub expression-returns-in-Neg-clause-sort : goal.expression-returns-in-Neg-clause-sort
@@ -168,18 +176,26 @@ expression-returns-in-Not-clause-noted t c =
 pub expression-returns-in-Rescale-clause-sort : goal.expression-returns-in-Rescale-clause-sort
 expression-returns-in-Rescale-clause-sort t c =
     let names = names_in c.args.names.now in
-    let is = ap tree_view c.in-Rescale.is ∙ ap (λ x. rescaled (tree_view x) c.in-Rescale.to c.in-Rescale.at) (sym c.deref-in-Rescale.ensures) in
-    c.rescale.ensures.sort ∙ ap (λ a. unless (is_truthful a || is_no_scale c.in-Rescale.to) (given a (Scaled (nat_abs c.in-Rescale.to.mantissa)))) c.expression-a-in-Rescale.ensures.sort
+    let to = c.content-in-Rescale.result.now in
+    let is =
+    ap tree_view c.in-Rescale.is
+    ∙ ap (λ x. rescaled (tree_view x) c.in-Rescale.to c.in-Rescale.at) (sym c.deref-in-Rescale.ensures)
+    ∙ ap (λ l. rescaled (tree_view c.deref-in-Rescale.result.now) l c.in-Rescale.at) (sym c.content-in-Rescale.ensures) in
+    c.rescale.ensures.sort ∙ ap (λ a. unless (is_truthful a || is_no_scale to) (given a (Scaled (nat_abs to.mantissa)))) c.expression-a-in-Rescale.ensures.sort
     ∙ sym (ap (sort names) is)
 
 pub expression-returns-in-Rescale-clause-noted : goal.expression-returns-in-Rescale-clause-noted
 expression-returns-in-Rescale-clause-noted t c =
     let names = names_in c.args.names.now in
     let part = tree_view c.deref-in-Rescale.result.now in
-    let is = ap tree_view c.in-Rescale.is ∙ ap (λ x. rescaled (tree_view x) c.in-Rescale.to c.in-Rescale.at) (sym c.deref-in-Rescale.ensures) in
-    two_noted (tree_faults names part) (when (is_truthful (sort names part)) c.in-Rescale.at KindDiffers ++ when (is_no_scale c.in-Rescale.to) c.in-Rescale.to.at ScaleDiffers) _ _ _
+    let to = c.content-in-Rescale.result.now in
+    let is =
+    ap tree_view c.in-Rescale.is
+    ∙ ap (λ x. rescaled (tree_view x) c.in-Rescale.to c.in-Rescale.at) (sym c.deref-in-Rescale.ensures)
+    ∙ ap (λ l. rescaled (tree_view c.deref-in-Rescale.result.now) l c.in-Rescale.at) (sym c.content-in-Rescale.ensures) in
+    two_noted (tree_faults names part) (when (is_truthful (sort names part)) c.in-Rescale.at KindDiffers ++ when (is_no_scale to) to.at ScaleDiffers) _ _ _
     c.expression-a-in-Rescale.ensures.noted
-    (c.rescale.ensures.noted ∙ ap (λ a. least c.expression-a-in-Rescale.new.first (when (is_truthful a) c.in-Rescale.at KindDiffers ++ when (is_no_scale c.in-Rescale.to) c.in-Rescale.to.at ScaleDiffers)) c.expression-a-in-Rescale.ensures.sort)
+    (c.rescale.ensures.noted ∙ ap (λ a. least c.expression-a-in-Rescale.new.first (when (is_truthful a) c.in-Rescale.at KindDiffers ++ when (is_no_scale to) to.at ScaleDiffers)) c.expression-a-in-Rescale.ensures.sort)
     ∙ sym (ap (λ e. least c.args.first.now (tree_faults names e)) is)
 
 pub expression-returns-in-If-clause-sort : goal.expression-returns-in-If-clause-sort

@@ -13,4 +13,5 @@ returns-in_ok-insert_full-in-Module c i =
     ap (λ ks. is_key ks i) c.in_ok-insert_full-in-Module.ensures.keys
     ∙ keys_more keys c.as_bytes.result i
     ∙ ap (λ n. is_key keys i || bytes_eq n i.name) c.as_bytes.ensures
+    ∙ ap (λ m. is_key keys i || bytes_eq m.plant.name i.name) c.content.ensures
     ∙ sym (ap (λ d. is_key keys i || is_plant_of i (declaration_view d)) c.in-Module.is)

@@ -14,7 +14,7 @@ is_statement_behind-returns-then-a t c =
     c.is_block_behind-b.ensures
     ∙ ap (λ ss. block_behind from (block_view ss)) c.deref-in-If.ensures.value
     ∙ true_and a b (sym (c.is_block_behind-a.ensures ∙ ap (λ ss. block_behind from (block_view ss)) c.deref.ensures.value) ∙ c.if-a.true)
-    ∙ true_and (tree_behind from (tree_view c.in-If.cond)) (a && b) (sym c.is_tree_behind-c.ensures ∙ c.if-c.true)
+    ∙ true_and (tree_behind from (tree_view c.in-If.cond)) (a && b) (sym (c.is_tree_behind-c.ensures ∙ ap (λ e. tree_behind from (tree_view e)) c.content.ensures) ∙ c.if-c.true)
     ∙ true_and (is_behind from c.in-If.at) (tree_behind from (tree_view c.in-If.cond) && (a && b)) (sym c.is_behind-in-If.ensures ∙ c.if-is_behind-3.true)
     ∙ sym (ap (statement_behind from) (branch_view c.in-If.cond c.in-If.yes c.in-If.no c.in-If.at))
     ∙ sym (ap (λ s. statement_behind from (statement_view s)) c.in-If.is)
@@ -27,7 +27,7 @@ is_statement_behind-returns-else-a t c =
     let is = c.is_block_behind-a.ensures ∙ ap (λ ss. block_behind from (block_view ss)) c.deref.ensures.value in
     is
     ∙ false_and a b (sym is ∙ c.if-a.false)
-    ∙ true_and (tree_behind from (tree_view c.in-If.cond)) (a && b) (sym c.is_tree_behind-c.ensures ∙ c.if-c.true)
+    ∙ true_and (tree_behind from (tree_view c.in-If.cond)) (a && b) (sym (c.is_tree_behind-c.ensures ∙ ap (λ e. tree_behind from (tree_view e)) c.content.ensures) ∙ c.if-c.true)
     ∙ true_and (is_behind from c.in-If.at) (tree_behind from (tree_view c.in-If.cond) && (a && b)) (sym c.is_behind-in-If.ensures ∙ c.if-is_behind-3.true)
     ∙ sym (ap (statement_behind from) (branch_view c.in-If.cond c.in-If.yes c.in-If.no c.in-If.at))
     ∙ sym (ap (λ s. statement_behind from (statement_view s)) c.in-If.is)

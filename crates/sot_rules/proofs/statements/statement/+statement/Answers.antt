@@ -22,8 +22,8 @@ pub statement-returns-in-If : goal.statement-returns-in-If
 statement-returns-in-If t c =
     let scope = scope_in c.args.scope.now in
     branch_noted scope c.in-If.cond c.in-If.yes c.in-If.no c.in-If.at c.is_scaled.result _ _ _ _ _
-    (c.is_scaled.ensures ∙ ap is_scaled c.expression-s-in-If.ensures.sort)
-    c.expression-s-in-If.ensures.noted
+    (c.is_scaled.ensures ∙ ap is_scaled (c.expression-s-in-If.ensures.sort ∙ ap (λ e. sort scope.read (tree_view e)) c.content.ensures))
+    (c.expression-s-in-If.ensures.noted ∙ ap (λ e. least c.args.first.now (tree_faults scope.read (tree_view e))) c.content.ensures)
     c.note.ensures
     (c.block.ensures ∙ ap (λ ss. least c.note.new.first (block_faults scope (block_view ss))) c.deref.ensures.value)
     (c.block-in-If.ensures ∙ ap (λ ss. least c.block.new.first (block_faults scope (block_view ss))) c.deref-in-If.ensures.value)

@@ -1,7 +1,8 @@
 use Rattle.std.proofs.Common.{sym, subst}
 use Rattle.std.specs.Str.{IsUtf8}
+use Rattle.sot_tree.specs.Letters.{letters_of}
 use Rattle.sot_tree.proofs.Names.{name_utf8}
 use Rattle.sot_tree.proofs.name.Name.as_str.Goals as goal
 
 pub unreachable-requires : goal.unreachable-requires
-unreachable-requires c = c.in-Err.ensures.cases.0 (subst IsUtf8 (sym c.as_slice.ensures) (name_utf8 c.self.inside.bytes.items c.self.invariant))
+unreachable-requires c = c.in-Err.ensures.cases.0 (subst IsUtf8 (sym c.as_slice.ensures) (name_utf8 (letters_of c.self.inside.letters) c.self.invariant))

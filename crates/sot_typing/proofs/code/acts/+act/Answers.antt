@@ -1,14 +1,18 @@
 -- Of the cycle `act`: what their calls ask for, that the loops keep what they say, and their promises.
 use Rattle.std.proofs.Common.{rules, arith, ap, ◌∙◌}
 use Rattle.sot_tree.specs.declared.tree.Stmt.{the_lemmas}
+use Rattle.sot_tree.specs.TreeViews.{tree_view}
+use Rattle.sot_rules.specs.Faults.{tree_faults}
 use Rattle.sot_typing.specs.Formulas.{formula_view}
+use Rattle.sot_typing.specs.Terms.{formula_of}
 use Rattle.sot_typing.specs.Bodies.{scope_in}
 use Rattle.sot_typing.proofs.ActLoops.{condition_faultless, taken_faultless, other_faultless, branch_is, body_faultless, repeat_is, statement_faultless, rest_faultless, deeds_next, deeds_done}
 use Rattle.sot_typing.proofs.code.acts.+act.Goals as goal
 
 pub act-term-requires-clause-faultless : goal.act-term-requires-clause-faultless
 act-term-requires-clause-faultless t c =
-    condition_faultless (scope_in c.args.names.now) c.in-If.cond c.in-If.yes c.in-If.no c.in-If.at c.args.stmt.now c.in-If.is c.requires.faultless
+    ap (λ e. tree_faults (scope_in c.args.names.now).read (tree_view e)) c.content.ensures
+    ∙ condition_faultless (scope_in c.args.names.now) c.in-If.cond c.in-If.yes c.in-If.no c.in-If.at c.args.stmt.now c.in-If.is c.requires.faultless
 
 pub act-acts-requires : goal.act-acts-requires
 act-acts-requires t c =
@@ -24,7 +28,7 @@ act-acts-requires-in-Repeat t c =
 
 pub act-returns-in_ok-no-in-If : goal.act-returns-in_ok-no-in-If
 act-returns-in_ok-no-in-If t c =
-    branch_is (scope_in c.args.names.now) c.in-If.cond c.in-If.yes c.in-If.no c.in-If.at c.args.stmt.now c.in-If.is c.into_term.result c.in_ok-yes-in-If.yes c.in_ok-no-in-If.no _ _ c.deref.ensures.value c.deref-in-If.ensures.value (ap formula_view c.into_term.ensures ∙ c.in_ok-made-in-If.ensures.form) c.in_ok-yes-in-If.ensures c.in_ok-no-in-If.ensures
+    branch_is (scope_in c.args.names.now) c.in-If.cond c.in-If.yes c.in-If.no c.in-If.at c.args.stmt.now c.in-If.is c.into_term.result c.in_ok-yes-in-If.yes c.in_ok-no-in-If.no _ _ c.deref.ensures.value c.deref-in-If.ensures.value (ap formula_view c.into_term.ensures ∙ c.in_ok-made-in-If.ensures.form ∙ ap (λ e. formula_of (scope_in c.args.names.now).read (tree_view e)) c.content.ensures) c.in_ok-yes-in-If.ensures c.in_ok-no-in-If.ensures
 
 pub act-returns-in_ok-body-in-Repeat : goal.act-returns-in_ok-body-in-Repeat
 act-returns-in_ok-body-in-Repeat t c =

@@ -4,6 +4,7 @@ use Rattle.sot_tree.specs.declared.tree.Expr.{the_lemmas}
 use Rattle.sot_tree.specs.Trees.{binary, negated, denied, rescaled, chosen, called}
 use Rattle.sot_tree.specs.TreeViews.{tree_view, parts_view}
 use Rattle.sot_tree.proofs.CallRows.{call_view}
+use Rattle.sot_rules.specs.TreeSorts.{is_no_scale}
 use Rattle.sot_rules.specs.Faults.{tree_faults}
 use Rattle.sot_typing.specs.Terms.{sort_scale}
 use Rattle.sot_typing.specs.Things.{things_in}
@@ -73,13 +74,17 @@ term-term-requires-in-Rescale t c =
 
 pub term-change_of_scale-requires-clause-to : goal.term-change_of_scale-requires-clause-to
 term-change_of_scale-requires-clause-to t c =
-    is_scale (things_in c.args.things.now) (tree_view c.in-Rescale.part.value) c.in-Rescale.to c.in-Rescale.at (tree_view c.args.e.now) (ap tree_view c.in-Rescale.is) c.requires.faultless
+    ap is_no_scale c.content-in-Rescale.ensures
+    ∙ is_scale (things_in c.args.things.now) (tree_view c.in-Rescale.part.value) c.in-Rescale.to c.in-Rescale.at (tree_view c.args.e.now) (ap tree_view c.in-Rescale.is) c.requires.faultless
 
 pub term-returns-in_ok-a-in-Rescale : goal.term-returns-in_ok-a-in-Rescale
 term-returns-in_ok-a-in-Rescale t c =
     let names = things_in c.args.things.now in
-    let is = ap tree_view c.in-Rescale.is ∙ ap (λ x. rescaled (tree_view x) c.in-Rescale.to c.in-Rescale.at) (sym c.deref-in-Rescale.ensures) in
-    if_ok c.change_of_scale.result (rescaled_is names _ c.in-Rescale.to c.in-Rescale.at (tree_view c.args.e.now) is c.requires.faultless c.in_ok-a-in-Rescale.a c.in_ok-a-in-Rescale.ensures) c.change_of_scale.ensures
+    let is =
+    ap tree_view c.in-Rescale.is
+    ∙ ap (λ x. rescaled (tree_view x) c.in-Rescale.to c.in-Rescale.at) (sym c.deref-in-Rescale.ensures)
+    ∙ ap (λ l. rescaled (tree_view c.deref-in-Rescale.result.now) l c.in-Rescale.at) (sym c.content-in-Rescale.ensures) in
+    if_ok c.change_of_scale.result (rescaled_is names _ c.content-in-Rescale.result.now c.in-Rescale.at (tree_view c.args.e.now) is c.requires.faultless c.in_ok-a-in-Rescale.a c.in_ok-a-in-Rescale.ensures) c.change_of_scale.ensures
 
 pub term-term-requires-in-If : goal.term-term-requires-in-If
 term-term-requires-in-If t c =

@@ -1,8 +1,8 @@
--- Of `first_in`: its promises.
+-- Of `first_fault_in`: its promises.
 use Rattle.std.proofs.Common.{◌∙◌, sym}
 use Rattle.sot_rules.specs.Indexes.{program_in}
 use Rattle.sot_rules.proofs.FirstFault.{first_is, none_is}
-use Rattle.sot_rules.proofs.program.first_in.Goals as goal
+use Rattle.sot_rules.proofs.program.first_fault_in.Goals as goal
 
 pub returns-clause-faultless : goal.returns-clause-faultless
 returns-clause-faultless c e = none_is (program_in c.args.index.now) (sym c.in_ok-note_program.ensures ∙ e)

@@ -1,4 +1,0 @@
-use Rattle.sot_print.proofs.numeral.+push_whole.Given as goal
-
-abbrev pub decreases-push_whole : goal.decreases-push_whole
-decreases-push_whole l = l.number
