@@ -1,7 +1,7 @@
 //! The lines of a trace, read.
 //!
 //! [`Lines`] lends the lines of a text, and [`read_line`] reads one line as a line of a trace: what it spells, whether it is true of a
-//! flight or not.
+//! flight or not. [`is_line_of`] tells whether a line is that of an entry.
 #![tactic(auto)]
 
 mod entry;

@@ -22,6 +22,7 @@ use Rattle.sot_turn.proofs.turn.Turn.TheSendSync as turn
 use Rattle.sot_lang.specs.contracts.typed.Typed as Typed
 use Rattle.sot_lang.specs.contracts.cert.Cert as Cert
 use Rattle.sot_tube.specs.contracts.accepted.Accepted as Accepted
+use Rattle.sot_world.specs.contracts.answers.Answers as Answers
 use Rattle.sot_world.specs.contracts.world.World as World
 use Rattle.sot_world.specs.contracts.history.History as History
 use Rattle.sot_flight.specs.contracts.flight.Flight as Flight
@@ -47,9 +48,13 @@ cert_sync = search (sendable, crosses) depth 40
 pub accepted_sync : (a : NamedLft) → IsSync (Accepted.the_row a)
 accepted_sync a = search (sendable, crosses, typed_sync, cert_sync) depth 40
 
+-- answers on the points of a program
+pub answers_send : (a : NamedLft) → IsSend (Answers.the_row a)
+answers_send a = search (sendable, crosses, accepted_sync) depth 40
+
 -- the world of a flight
 pub world_send : (a : NamedLft) → IsSend (World.the_row a)
-world_send a = search (sendable, crosses, accepted_sync) depth 40
+world_send a = search (sendable, crosses, accepted_sync, answers_send) depth 40
 
 -- its history
 pub history_send : IsSend History.the_row

@@ -8,6 +8,7 @@ pub mod Firings
 pub mod Decisions
 pub mod Ticking
 pub mod Inputs
+mod GivenAnswers
 pub mod Induction
 pub mod Main
 pub mod Unique
@@ -32,3 +33,4 @@ pub mod Stepping
 pub mod RoleModes
 pub mod FiringSteps
 pub mod TickSteps
+pub mod Schedules

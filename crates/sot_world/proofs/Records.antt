@@ -39,7 +39,7 @@ count_next (true ∷ bs) (m ∷ ms) o same = ap suc (count_next bs ms o (omega (
 
 pub logged_more : (ns more : List ℤ) (r : Record) → end_of r ≤ length ns → logged (ns ++ more) r ≡ logged ns r
 logged_more ns more (Input time topic from count) inside = ap (InputAt time topic) (part_more ns more from count inside)
-logged_more ns more (Fire time node from there enabled) inside =
+logged_more ns more (Fire enabled time node from there) inside =
     ap (λ d. FireAt time node d enabled)
     (ap (slots_filled there) (drop-append-le from ns more (omega (arith, inside))) ∙ filled_more there (drop from ns) more (omega (arith, inside, length-drop from ns)))
 logged_more ns more (Decide time m mode) inside = refl

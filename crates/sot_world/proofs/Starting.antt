@@ -50,7 +50,7 @@ read_list xs k x lt is =
     sym (Rattle.std.proofs.lemmas.Option.get_or_from_slice_get xs k x [] (Rattle.std.proofs.lemmas.Option.slice_get_read xs (length xs) k x refl lt is))
 
 -- what is due at 0 is what has no offset
-due_at_0 : (period offset : ℕ) → ((offset == 0) ≡ true) ↔ IsDue period offset 0
+pub due_at_0 : (period offset : ℕ) → ((offset == 0) ≡ true) ↔ IsDue period offset 0
 due_at_0 period offset = (
   (λ e.
       let none : offset ≡ 0 = eqb-true offset 0 e in

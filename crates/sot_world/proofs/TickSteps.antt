@@ -58,23 +58,6 @@ module _ (a : Admitted) (C : Configuration) (kept : IsKept a C) (noise : List �
     rest = refl;
   }
 
--- the same of equal lists
-pub nodes_due_along :
-    (xs ys : List NodeInfo) (before was flags kept : List Bool) (t : ℕ) → xs ≡ ys → before ≡ was → kept ≡ flags
-    → ((n : ℕ) (node : NodeInfo) → At xs n node → (slice_index_or flags n false ≡ true) ↔ ((slice_index_or before n false ≡ true) ⊎ IsDue node.period node.offset t))
-    → (n : ℕ) (node : NodeInfo) → At ys n node → (slice_index_or kept n false ≡ true) ↔ ((slice_index_or was n false ≡ true) ⊎ IsDue node.period node.offset t)
-nodes_due_along xs ys before was flags kept t a e b due n node at =
-    subst (λ q. (slice_index_or kept n false ≡ true) ↔ ((slice_index_or q n false ≡ true) ⊎ IsDue node.period node.offset t)) e
-    (subst (λ l. (slice_index_or l n false ≡ true) ↔ ((slice_index_or before n false ≡ true) ⊎ IsDue node.period node.offset t)) (sym b) (due n node (subst (λ l. At l n node) (sym a) at)))
-
-pub decisions_due_along :
-    (xs ys : List ModuleInfo) (before was flags kept : List Bool) (t : ℕ) → xs ≡ ys → before ≡ was → kept ≡ flags
-    → ((m : ℕ) (info : ModuleInfo) → At xs m info → (slice_index_or flags m false ≡ true) ↔ ((slice_index_or before m false ≡ true) ⊎ IsDue info.period info.offset t))
-    → (m : ℕ) (info : ModuleInfo) → At ys m info → (slice_index_or kept m false ≡ true) ↔ ((slice_index_or was m false ≡ true) ⊎ IsDue info.period info.offset t)
-decisions_due_along xs ys before was flags kept t a e b due m info at =
-    subst (λ q. (slice_index_or kept m false ≡ true) ↔ ((slice_index_or q m false ≡ true) ⊎ IsDue info.period info.offset t)) e
-    (subst (λ l. (slice_index_or l m false ≡ true) ↔ ((slice_index_or before m false ≡ true) ⊎ IsDue info.period info.offset t)) (sym b) (due m info (subst (λ l. At l m info) (sym a) at)))
-
 -- all plants have moved
 abbrev pub AllMoved : Tables → List ℤ → List (List ℤ) → List ℤ → List (List ℤ) → Type 0
 AllMoved p scalars points noise next = (k : ℕ) → k < length p.plants → IsMoved p k scalars points (slice_index_or (cut p.plants noise) k []) (slice_index_or next k [])

@@ -20,13 +20,13 @@ count_there (true ∷ bs) = suc (count_there bs)
 -- an entry, with its numbers from the list
 abbrev pub logged : List ℤ → Record → Logged
 logged numbers (Input time topic from count) = InputAt time topic (take count (drop from numbers))
-logged numbers (Fire time node from there enabled) = FireAt time node (slots_filled there (drop from numbers)) enabled
+logged numbers (Fire enabled time node from there) = FireAt time node (slots_filled there (drop from numbers)) enabled
 logged numbers (Decide time m mode) = DecideAt time m mode
 logged numbers (Tick time from noise states) = TickAt time (take noise (drop from numbers)) (take states (drop (from + noise) numbers))
 
 -- where an entry's numbers end
 abbrev pub end_of : Record → ℕ
 end_of (Input time topic from count) = from + count
-end_of (Fire time node from there enabled) = from + count_there there
+end_of (Fire enabled time node from there) = from + count_there there
 end_of (Decide time m mode) = 0
 end_of (Tick time from noise states) = from + noise + states

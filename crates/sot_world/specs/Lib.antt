@@ -14,6 +14,8 @@ pub mod HistoryRecords
 pub mod HistoryView
 pub mod State
 pub mod Roles
+pub mod Answers
+pub mod Schedules
 pub mod WorldView
 pub mod Events
 pub mod Bounds

@@ -1,9 +1,10 @@
 -- A world as its accepted program and its configuration.
-use Rattle.std.specs.Prelude.{◌≡◌, length}
+use Rattle.std.specs.Prelude.{◌≡◌, ◌+◌, length}
 use Rattle.sot_world.specs.declared.world.World.TheInside.{Inside}
 use Rattle.sot_world.specs.Configurations.{Configuration}
 use Rattle.sot_world.specs.State.{State, IsKept}
 use Rattle.sot_world.specs.Roles.{AreRoles}
+use Rattle.sot_world.specs.Schedules.{AreScheduled}
 
 abbrev pub configuration : Inside → Configuration
 configuration w = record {
@@ -19,8 +20,12 @@ configuration w = record {
 abbrev pub state : Inside → State
 state w = record { accepted = w.accepted.now; at = configuration w }
 
--- the roles of the nodes are those of the program, and there is room for the points after a tick
+-- the roles of the nodes are those of the program, there is room for the points after a tick, the answers that are kept are of
+-- the same program, and what is due next after now is kept
 pub record IsWorld (w : Inside) : Type 0 where
   pub kept : IsKept w.accepted.now (configuration w)
   pub roles : AreRoles w.accepted.now.program w.roles.items
   pub next : length w.next.items ≡ length w.accepted.now.program.plants
+  pub answers : w.answers ≡ w.accepted.now
+  pub nodes : AreScheduled (λ k. k.period) (λ k. k.offset) w.accepted.now.program.nodes (w.time + 1) w.node_schedules.items
+  pub decisions : AreScheduled (λ k. k.period) (λ k. k.offset) w.accepted.now.program.modules (w.time + 1) w.decision_schedules.items

@@ -49,13 +49,14 @@ enum Record {
         from: usize,
         count: usize,
     },
-    // The numbers of a draft, in the slots where one is there: most drafts have one or two.
+    // The numbers of a draft, in the slots where one is there: most drafts have one or two. Fields lie in memory in this
+    // order behind the tag, and with the flag beside the tag a record takes 32 bytes, where at the end it would make it 40.
     Fire {
+        enabled: bool,
         time: u32,
         node: u32,
         from: usize,
         there: [bool; 8],
-        enabled: bool,
     },
     Decide {
         time: u32,
@@ -98,7 +99,8 @@ impl History {
     {
         let entries_left = entries as usize;
         let numbers_left = numbers as usize;
-        // Each entry may be a firing, whose draft has at most eight numbers. Memory that is never written is never taken in.
+        // Each entry may be a firing, whose draft has at most eight numbers. Where
+        // pages are handed out when they are first touched, what is never written takes up none.
         Ok(History {
             records: Vec::with_capacity(alloc, entries_left)?,
             numbers: Vec::with_capacity(alloc, numbers_left + 8 * entries_left)?,
@@ -198,11 +200,11 @@ fn kept(numbers: &mut Vec<i64>, e: &Entry<'_>) -> Record
         } => {
             let there = append_draft(numbers, &draft);
             Record::Fire {
+                enabled,
                 time,
                 node,
                 from,
                 there,
-                enabled,
             }
         }
         Entry::Decide { time, module, mode } => Record::Decide { time, module, mode },
@@ -240,11 +242,11 @@ fn lent(numbers: &[i64], kept: Record) -> Entry<'_>
             value: &numbers[from..from + count],
         },
         Record::Fire {
+            enabled,
             time,
             node,
             from,
             there,
-            enabled,
         } => Entry::Fire {
             time,
             node,

@@ -4,6 +4,7 @@
 //! regions each configuration satisfies an invariant of all modules together, and what satisfies it is safe.
 #![tactic(auto)]
 
+mod answers;
 mod clock;
 mod decide;
 mod drafted;
@@ -19,6 +20,7 @@ mod mode;
 mod open_fail;
 mod outcome;
 mod role;
+mod schedule;
 mod starts;
 mod tick;
 mod world;

@@ -1,19 +1,15 @@
-//! What a tick moves, and what is due after it.
+//! What a tick moves.
 
-ghost use Rattle.std.specs.Prelude.{◌≡◌, ℕ, ◌+◌, ◌<◌, ◌≤◌, ◌++◌, ◌⊎◌, [], true, false, pos, length, map, take, slice_index_or, ◌↔◌};
+ghost use Rattle.std.specs.Prelude.{◌≡◌, ℕ, ◌<◌, ◌≤◌, [], pos, length, map, take, slice_index_or};
 ghost use Rattle.sot_lists.specs.Places.{At};
-ghost use Rattle.sot_lang.specs.declared.tables.NodeInfo.{NodeInfo};
-ghost use Rattle.sot_lang.specs.declared.tables.ModuleInfo.{ModuleInfo};
 ghost use Rattle.sot_lang.specs.declared.tables.PlantInfo.{PlantInfo};
 ghost use Rattle.sot_lang.specs.Ticks.{joined};
-ghost use Rattle.sot_calendar.specs.Due.{IsDue};
 ghost use Rattle.sot_world.specs.Events.{cut, noise_count};
 ghost use Rattle.sot_world.specs.Changes.{ArePoints, MayMove, IsMoved};
 
 use sot_box::Point;
-use sot_calendar::due;
 use sot_code::{plant_next, put_point};
-use sot_lang::{ModuleInfo, NodeInfo, Typed};
+use sot_lang::Typed;
 
 // The numbers of a plant's inputs, at the front.
 fn put_inputs(inputs: &[u32], scalars: &[i64], held: &mut [i64])
@@ -91,37 +87,5 @@ pub fn move_all(p: &Typed, scalars: &[i64], points: &[Point], noise: &[i64], nex
         let (own, more) = rest.split_at(p.plants[k].noise.len());
         next[k] = next_point(p, k as u32, scalars, points, own, &mut held, &mut seen);
         rest = more;
-    }
-}
-
-/// The nodes that are due at a time are left to fire, beside those that are left already.
-pub fn leave_nodes(nodes: &[NodeInfo], time: u32, left: &mut [bool])
-    requires periods { (n : ℕ) (node : NodeInfo) → At nodes.now n node → (node.offset < node.period) × (node.period ≤ 1000) }
-    requires time { time ≤ 100000 }
-    requires size { length left.old ≡ length nodes.now }
-    ensures { (n : ℕ) (node : NodeInfo) → At nodes.now n node →
-        (slice_index_or left.new n false ≡ true) ↔ ((slice_index_or left.old n false ≡ true) ⊎ IsDue node.period node.offset time) }
-{
-    for n in 0..nodes.len() {
-        let info = &nodes[n];
-        if due(info.period, info.offset, time) {
-            left[n] = true;
-        }
-    }
-}
-
-/// The modules whose decisions are due at a time are left to decide, beside those that are left already.
-pub fn leave_decisions(modules: &[ModuleInfo], time: u32, left: &mut [bool])
-    requires periods { (m : ℕ) (a : ModuleInfo) → At modules.now m a → (a.offset < a.period) × (a.period ≤ 1000) }
-    requires time { time ≤ 100000 }
-    requires size { length left.old ≡ length modules.now }
-    ensures { (m : ℕ) (a : ModuleInfo) → At modules.now m a →
-        (slice_index_or left.new m false ≡ true) ↔ ((slice_index_or left.old m false ≡ true) ⊎ IsDue a.period a.offset time) }
-{
-    for m in 0..modules.len() {
-        let info = &modules[m];
-        if due(info.period, info.offset, time) {
-            left[m] = true;
-        }
     }
 }

@@ -9,6 +9,7 @@ ghost use Rattle.sot_world.specs.Events.{Names, IsPossible, Refuses, RefusesNode
 ghost use Rattle.sot_world.specs.Steps.{MayTick};
 ghost use Rattle.sot_world.specs.State.{IsKept};
 
+use crate::answers::Answers;
 use crate::clock::{due_within, no_decision_at_deadline, no_node_at_deadline};
 use crate::event::Event;
 use crate::looks::{is_in_bounds, is_in_type};
@@ -16,6 +17,7 @@ use crate::mode::Mode;
 use crate::open_fail::OpenFail;
 use crate::outcome::Why;
 use crate::role::Role;
+use crate::schedule::{Schedule, decision_schedules, node_schedules};
 use crate::starts::{
     all_locals, decisions_left, first_outside, initial_scalars, nodes_left, roles, safe_modes,
 };
@@ -44,6 +46,10 @@ pub struct World<'a> {
     points: Vec<Point>,
     // Room for the points after a tick.
     next: Vec<Point>,
+    answers: Answers<'a>,
+    // When each node and each decision is due for the first time after now.
+    node_schedules: Vec<Schedule>,
+    decision_schedules: Vec<Schedule>,
 }
 
 impl<'a> Model for World<'a> {
@@ -111,6 +117,9 @@ impl<'a> World<'a> {
         let locals = all_locals(alloc, &p.nodes)?;
         let points = Vec::from_slice(alloc, start)?;
         let next = Vec::from_slice(alloc, start)?;
+        let answers = Answers::none(alloc, acc)?;
+        let node_schedules = node_schedules(alloc, &p.nodes)?;
+        let decision_schedules = decision_schedules(alloc, &p.modules)?;
         Ok(World {
             accepted: acc,
             roles,
@@ -122,6 +131,9 @@ impl<'a> World<'a> {
             locals,
             points,
             next,
+            answers,
+            node_schedules,
+            decision_schedules,
         })
     }
 

@@ -21,7 +21,8 @@ use crate::fire::{enables, first_slots, publish_if, run};
 use crate::input::write;
 use crate::mode::Mode;
 use crate::outcome::Outcome;
-use crate::tick::{leave_decisions, leave_nodes, move_all};
+use crate::schedule::leave;
+use crate::tick::move_all;
 use sot_code::Fired;
 use sot_lang::Draft;
 use std::mem::swap;
@@ -76,10 +77,10 @@ impl<'a> World<'a> {
         ensures mode { result ≡ mode_of self.new.at «module» }
     {
         let p = self.accepted.typed();
-        let jitter = self.accepted.cert().jitter;
         let plant = p.modules[module as usize].plant;
         let before = self.modes[module as usize];
-        let mode = next_mode(p, jitter, module, before, &self.points[plant as usize]);
+        let point = &self.points[plant as usize];
+        let mode = next_mode(&mut self.answers, module, before, point);
         self.modes[module as usize] = mode;
         self.left_dm[module as usize] = false;
         mode
@@ -159,7 +160,7 @@ impl<'a> World<'a> {
         move_all(p, &self.scalars, &self.points, noise, &mut self.next);
         swap(&mut self.points, &mut self.next);
         self.time += 1;
-        leave_nodes(&p.nodes, self.time, &mut self.left);
-        leave_decisions(&p.modules, self.time, &mut self.left_dm);
+        leave(self.time, &mut self.node_schedules, &mut self.left);
+        leave(self.time, &mut self.decision_schedules, &mut self.left_dm);
     }
 }

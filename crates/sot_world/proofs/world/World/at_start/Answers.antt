@@ -3,7 +3,9 @@ use Rattle.std.specs.Prelude.{◌==◌}
 use Rattle.sot_lang.specs.TableRules.{MeetsTableRules}
 use Rattle.sot_world.specs.Configurations.{Sc}
 use Rattle.sot_world.specs.Roles.{AreRoles}
+use Rattle.sot_world.specs.Schedules.{first}
 use Rattle.sot_world.proofs.Starting.{opens_so, starts_safer, opens_kept}
+use Rattle.sot_world.proofs.Schedules.{all_first}
 use Rattle.sot_world.proofs.world.World.at_start.Goals as goal
 
 pub invariant_of-result : goal.invariant_of-result
@@ -21,6 +23,9 @@ invariant_of-result c =
       kept = opens_kept c.args.acc.now c.args.start.now _ rules c.typed-p.ensures.certified opening safer;
       roles = subst (λ t. AreRoles t c.in_ok-roles.roles.items) c.typed-p.ensures.program c.in_ok-roles.ensures;
       next = ap length c.in_ok-next.ensures.items ∙ c.requires.starts.each;
+      answers = c.in_ok-answers.ensures;
+      nodes = all_first (λ x. x.period) (λ x. x.offset) _ _ (c.in_ok-node_schedules.ensures ∙ ap (map (λ x. first x.period x.offset)) (c.deref-6.ensures.value ∙ ap (λ t. t.nodes) tables)) rules.typed.node_times;
+      decisions = all_first (λ x. x.period) (λ x. x.offset) _ _ (c.in_ok-decision_schedules.ensures ∙ ap (map (λ x. first x.period x.offset)) (c.deref-7.ensures.value ∙ ap (λ t. t.modules) tables)) rules.typed.module_times;
     }
 
 pub returns-clause-opening : goal.returns-clause-opening

@@ -75,7 +75,7 @@ invariant_of-self c =
     let put = with_items_is c.self.inside.scalars c.publish_if.new.scalars (omega (arith, c.publish_if.auto.scalars, c.deref_mut.ensures.len)) in
     let published = put ∙ published_along c.enables-enabled.result _ _ _ _ c.args.fired.now.draft _ _ _ c.typed-p.ensures.program writes c.deref_mut.ensures.value c.publish_if.ensures in
     let step = code_so a.program C c.args.node coded.0 coded.1 run.0 c.args.fired.now.draft c.enables-enabled.result _ _ (with_items c.self.inside.scalars c.publish_if.new.scalars).items coded.2 coded.3 run.1 told.1 left on refl (ap (slice_set C.locals c.args.node) told.0) published in
-    record { kept = step_kept a C kept _ (Code c.args.node) step kept.time; roles = c.self.invariant.roles; next = c.self.invariant.next }
+    record { kept = step_kept a C kept _ (Code c.args.node) step kept.time; roles = c.self.invariant.roles; next = c.self.invariant.next; answers = c.self.invariant.answers; nodes = c.self.invariant.nodes; decisions = c.self.invariant.decisions }
 
 pub returns-clause-step : goal.returns-clause-step
 returns-clause-step c =

@@ -72,7 +72,7 @@ invariant_of-self c =
     let count : c.len.result ≡ length external.0.writes.items = omega (arith, c.len.ensures, ap length writes, c.deref-2.ensures.len) in
     let few : length external.0.writes.items ≤ length c.args.draft.now = omega (arith, count, c.first_slots-own.ensures.there) in
     let step = guest_so a.program C c.args.node external.0 c.args.draft.now c.enables-enabled.result _ (with_items c.self.inside.scalars c.publish_if.new.scalars).items external.1 external.2 few left on refl published in
-    record { kept = step_kept a C kept _ (Guest c.args.node _) step kept.time; roles = c.self.invariant.roles; next = c.self.invariant.next }
+    record { kept = step_kept a C kept _ (Guest c.args.node _) step kept.time; roles = c.self.invariant.roles; next = c.self.invariant.next; answers = c.self.invariant.answers; nodes = c.self.invariant.nodes; decisions = c.self.invariant.decisions }
 
 pub returns-clause-step : goal.returns-clause-step
 returns-clause-step c =

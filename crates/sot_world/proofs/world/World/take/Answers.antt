@@ -35,7 +35,7 @@ invariant_of-self c =
     let put = with_items_is c.self.inside.scalars c.write.new.scalars (omega (arith, c.write.auto.scalars, c.deref_mut.ensures.len)) in
     let written = put ∙ c.write.ensures ∙ ap (write_at c.index.result.now.first c.args.value.now) c.deref_mut.ensures.value ∙ ap (λ x. write_at x.first c.args.value.now C.scalars) same in
     let step = inputs_so p C c.args.topic c.args.value.now topic.0 (with_items c.self.inside.scalars c.write.new.scalars).items topic.1 topic.2 topic.3 typed written in
-    record { kept = step_kept c.self.inside.accepted.now C kept _ (Input c.args.topic c.args.value.now) step kept.time; roles = c.self.invariant.roles; next = c.self.invariant.next }
+    record { kept = step_kept c.self.inside.accepted.now C kept _ (Input c.args.topic c.args.value.now) step kept.time; roles = c.self.invariant.roles; next = c.self.invariant.next; answers = c.self.invariant.answers; nodes = c.self.invariant.nodes; decisions = c.self.invariant.decisions }
 
 pub returns-clause-step : goal.returns-clause-step
 returns-clause-step c =
