@@ -1,9 +1,9 @@
 -- What becomes of guests.
-use Rattle.std.proofs.Common.{◌≡◌, ◌⊎◌, ⊎_elim, ℕ, zero, suc, List, [], ◌∷◌, Option, None, Some, length, Result, Ok, Err, inl, inr, refl, sym, ap, ◌∙◌, subst, append-nil, arith, ◌≤◌}
-use Rattle.std.specs.Prelude.{IfOk, MatchResult}
+use Rattle.std.proofs.Common.{◌≡◌, ◌⊎◌, ⊎_elim, ℕ, zero, suc, List, [], ◌∷◌, Option, None, Some, length, Result, Ok, Err, inl, inr, refl, sym, ap, ◌∙◌, subst, append-nil, arith, ◌≤◌, true}
+use Rattle.std.specs.Prelude.{IfOk, MatchResult, ◌==◌}
 use Rattle.std.specs.Io.KnownBytes.{Appends}
 use Rattle.std.specs.declared.alloc.AllocError.{AllocError}
-use Rattle.std.proofs.lemmas.Bool.{cases_eq}
+use Rattle.std.proofs.lemmas.Bool.{cases_eq, eqb-true}
 use Rattle.std.proofs.lemmas.Option.{same_Some}
 use Rattle.sot_lists.specs.Places.{At}
 use Rattle.sot_lists.proofs.Places.{at_same}
@@ -15,11 +15,13 @@ use Rattle.sot_board.specs.Flown.{FlownBy}
 use Rattle.sot_board.specs.Standing.{Standing}
 use Rattle.sot_shift.specs.Askings.{Asking}
 use Rattle.sot_shift.specs.Answers.{Answered}
+use Rattle.sot_flight.specs.Fits.{FitsFlight}
 use Rattle.sot_workers.specs.Asked.{EachAnswered, EachUnnamedStays}
+use Rattle.sot_workers.specs.Flying.{HasNoGuests}
 use Rattle.sot_commands.specs.declared.answer.Answer.{Answer}
 use Rattle.sot_commands.specs.declared.telling.Telling.{Telling}
 use Rattle.sot_commands.specs.declared.telling.Telling.TheVariants.{Trace, Summed}
-use Rattle.sot_commands.specs.Steps.{told_text, FliesBytes, ReadAnswer, CommandAnswer, Written}
+use Rattle.sot_commands.specs.Steps.{told_text, JudgesFlight, FliesBytes, ReadAnswer, CommandAnswer, Written}
 use Rattle.sot_commands.specs.declared.words.Command.{Command}
 use Rattle.sot_commands.specs.declared.words.Command.TheVariants.{Fly, Make, Soak}
 use Rattle.sot_ports.specs.Whole.{ReadsAll}
@@ -81,6 +83,28 @@ flew_result told (Ok a) Trace acc f b before after is plan flown text answered u
     (record { history = b.entries; flown = flown; text_is = text; answered = answered; unnamed = unnamed }))
 flew_result told (Ok a) Summed acc f b before after is plan flown text answered unnamed = λ zero trace. absurd cc
 flew_result told (Err e) telling acc f b before after is plan flown text answered unnamed = tt
+
+-- a flight that names no guest was flown by none, so all stay as they are
+pub flew_alone : {C : Type 0} (told : C → Option (List Asking)) (r : Result Answer AllocError) (telling : Telling) (t : Tables) (jitter : ℕ) (f : Plan) (guests : List C) → HasNoGuests f
+    → IfOk r (λ a. JudgesFlight telling t jitter f a.status a.text.items)
+    → IfOk r (λ a. a.status ≡ 0 → telling ≡ Trace → GuestsFlew told t jitter f a.text.items guests guests)
+flew_alone told (Ok a) Trace t jitter f guests none (inl (well, (inside, (history, flown, said)))) = λ ended trace. record {
+  history = history;
+  flown = flown;
+  text_is = said;
+  answered = λ n i was now named at at'. absurd (none n i named);
+  unnamed = λ i was now unnamed at at'. at_same guests i now was at' at;
+}
+flew_alone told (Ok a) Trace t jitter f guests none (inr (one, said)) = λ ended trace. absurd (omega (arith, one, ended))
+flew_alone told (Ok a) Summed t jitter f guests none judged = λ ended trace. absurd cc
+flew_alone told (Err e) telling t jitter f guests none judged = tt
+
+-- where there are no guests, a flight that fits names none
+pub names_none : (p : Tables) (count : ℕ) (f : Plan) → FitsFlight p count f → (count == 0) ≡ true → HasNoGuests f
+names_none p count f fits empty n i named =
+    let none : count ≡ 0 = eqb-true count 0 empty in
+    let there = fits.guests_there n i named in
+    absurd (omega (arith, there, none))
 
 -- and that of the mission that the bytes spell
 pub flew_mission : {C : Type 0} (told : C → Option (List Asking)) (r : Result Answer AllocError) (telling : Telling) (guests : ℕ) (bytes : List ℕ) (m : Mission) (f : Plan) (before after : List C) → SpellsFor needs.Fly guests bytes m → m.flight ≡ Some f

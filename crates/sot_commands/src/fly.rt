@@ -1,8 +1,10 @@
 //! `fly`: the trace of a mission's flight. `soak` does the same on a text that is made, and tells the flight's summary.
 
-ghost use Rattle.std.specs.Prelude.{◌≡◌, ◌≢◌, ◌<◌, ◌≤◌, ◌^◌, length, vec_len, IfOk};
+ghost use Rattle.std.specs.Prelude.{◌≡◌, ◌≢◌, ◌<◌, ◌≤◌, ◌^◌, [], length, vec_len, IfOk};
 ghost use Rattle.sot_lang.specs.CertRules.{FitsTables};
+ghost use Rattle.sot_world.specs.Opens.{StartInside};
 ghost use Rattle.sot_flight.specs.Fits.{FitsFlight};
+ghost use Rattle.sot_workers.specs.Flying.{HasNoGuests};
 ghost use Rattle.sot_commands.specs.Answers.{input_limit};
 ghost use Rattle.sot_commands.specs.Steps.{JudgesFlight, JudgesFlown, FliesBytes};
 ghost use Rattle.sot_commands.specs.Guests.{GuestsGoOn, GuestsFlew, Flew};
@@ -18,11 +20,55 @@ use sot_report::{LoadFail, load};
 use sot_shift::Controller;
 use sot_text::Need;
 use sot_tube::Accepted;
-use sot_workers::fly as fly_to_the_end;
+use sot_workers::{fly as fly_to_the_end, fly_alone};
 use sot_world::OpenFail;
 use std::alloc::{AllocError, Global};
 use std::sync::Wait;
 use std::thread::Threads;
+
+// Flies a board without guests, and tells what was flown. Only the text takes memory.
+fn fly_unaided(
+    alloc: Global,
+    board: &mut Board<'_>,
+    flight: &Flight,
+    telling: Telling,
+) -> Result<Answer, AllocError>
+    requires flight { flight.now ≡ board.old.plan }
+    requires inside { StartInside board.old.accepted.program flight.now.start (length board.old.accepted.program.modules) }
+    requires no_guests { HasNoGuests flight.now }
+    ensures { IfOk result (λ answer. JudgesFlight telling board.old.accepted.program board.old.accepted.cert.jitter flight.now answer.status answer.text.items) }
+{
+    fly_alone(board, flight);
+    told(alloc, telling, board)
+}
+
+// Flies a newly opened board with its guests, and tells what was flown. Where there are no guests, it takes no lists of drafts.
+fn fly_opened<'a, C: Controller + Send, R: Threads + Wait + Sync>(
+    rt: &R,
+    alloc: Global,
+    guests: &mut Vec<C>,
+    mut board: Board<'a>,
+    flight: &'a Flight,
+    telling: Telling,
+) -> Result<Answer, AllocError>
+    requires flight { flight.now ≡ board.plan }
+    requires opened { board.entries ≡ [] }
+    requires inside { StartInside board.accepted.program flight.now.start (length board.accepted.program.modules) }
+    requires fits { FitsFlight board.accepted.program (vec_len guests.old) flight.now }
+    ensures judges { IfOk result (λ answer. JudgesFlight telling board.entry.accepted.program board.entry.accepted.cert.jitter flight.now answer.status answer.text.items) }
+    ensures count { vec_len guests.new ≡ vec_len guests.old }
+    ensures go_on { GuestsGoOn C.told guests.old.items guests.new.items }
+    ensures unasked { IfOk result (λ answer. answer.status ≢ 0 → guests.new ≡ guests.old) }
+    ensures flew { IfOk result (λ answer. answer.status ≡ 0 → telling ≡ Trace → GuestsFlew C.told board.entry.accepted.program board.entry.accepted.cert.jitter flight.now answer.text.items guests.old.items guests.new.items) }
+{
+    if guests.is_empty() {
+        return fly_unaided(alloc, &mut board, flight, telling);
+    }
+    match fly_to_the_end(rt, alloc, board, flight, guests) {
+        Ok(flown) => told(alloc, telling, &flown.board),
+        Err(_) => Err(AllocError),
+    }
+}
 
 // Flies an accepted program with its guests, if its plants start inside their safer regions.
 fn fly_accepted<C: Controller + Send, R: Threads + Wait + Sync>(
@@ -41,10 +87,7 @@ fn fly_accepted<C: Controller + Send, R: Threads + Wait + Sync>(
     ensures flew { IfOk result (λ answer. answer.status ≡ 0 → telling ≡ Trace → GuestsFlew C.told accepted.now.program accepted.now.cert.jitter flight.now answer.text.items guests.old.items guests.new.items) }
 {
     match Board::open(alloc, accepted, flight) {
-        Ok(board) => match fly_to_the_end(rt, alloc, board, flight, guests) {
-            Ok(flown) => told(alloc, telling, &flown.board),
-            Err(_) => Err(AllocError),
-        },
+        Ok(board) => fly_opened(rt, alloc, guests, board, flight, telling),
         Err(OpenFail::NotSafer { module }) => outside(alloc, accepted.typed(), flight, module),
         Err(OpenFail::Memory) => Err(AllocError),
     }

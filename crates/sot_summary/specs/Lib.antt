@@ -8,3 +8,5 @@ pub mod SummaryText
 pub mod Laws
 -- worked summaries
 pub mod Examples
+-- what the functions inside the crate promise each other
+pub mod Fronts

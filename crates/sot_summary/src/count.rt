@@ -6,6 +6,7 @@ ghost use Rattle.sot_trace.specs.Fitting.{FitsHistory};
 ghost use Rattle.sot_summary.specs.Counted.{firings_in, outside_in, states_sum};
 
 use crate::entry::{firings_in, outside_in, states_in};
+use crate::fronts::fronts_of;
 use crate::sum::added;
 use sot_lang::Typed;
 use sot_trace::{refused_in, ticks_in};
@@ -38,12 +39,13 @@ pub fn count_entries(p: &Typed, history: &History) -> Counts
         outside: 0,
         sum: 0,
     };
+    let fronts = fronts_of(&p.plants);
     for i in 0..history.len() {
         let entry = history.entry(i);
         counts.firings += firings_in(&entry) as usize;
         counts.ticks += ticks_in(&entry) as usize;
         counts.refused += refused_in(p, &entry) as u128;
-        counts.outside += outside_in(p, &entry) as usize;
+        counts.outside += outside_in(p, &fronts, &entry) as usize;
         counts.sum = added(counts.sum, states_in(p, &entry));
     }
     counts

@@ -5,6 +5,7 @@ ghost use Rattle.sot_world.specs.Histories.{entry_of};
 ghost use Rattle.sot_trace.specs.Lines.{ticks_in};
 ghost use Rattle.sot_trace.specs.Fitting.{FitsEntry};
 ghost use Rattle.sot_summary.specs.Counted.{firings_in, outside_in, states_in};
+ghost use Rattle.sot_summary.specs.Fronts.{AreFronts};
 
 use crate::outside::is_outside;
 use crate::sum::total;
@@ -24,13 +25,14 @@ pub fn firings_in(entry: &Entry<'_>) -> u8
 }
 
 /// 1 for a tick after which some plant is outside its safe region.
-pub fn outside_in(p: &Typed, entry: &Entry<'_>) -> u8
-    requires { FitsEntry p.now (entry_of entry.now) }
+pub fn outside_in(p: &Typed, fronts: &[usize; 100], entry: &Entry<'_>) -> u8
+    requires fronts { AreFronts p.now.plants fronts.now }
+    requires fits { FitsEntry p.now (entry_of entry.now) }
     ensures value { result ≡ outside_in p.now (entry_of entry.now) }
     ensures few { result ≤ 1 }
 {
     match *entry {
-        Entry::Tick { states, .. } => { if is_outside(p, states) { 1 } else { 0 } }
+        Entry::Tick { states, .. } => { if is_outside(p, fronts, states) { 1 } else { 0 } }
         _ => 0,
     }
 }

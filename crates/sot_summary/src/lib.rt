@@ -7,6 +7,7 @@ mod count;
 mod entry;
 mod facts;
 mod flown;
+mod fronts;
 mod laws;
 mod outside;
 mod sum;

@@ -2,21 +2,26 @@
 
 ghost use Rattle.std.specs.Prelude.{◌≡◌, ◌<◌, ◌≤◌, [], length, slice_index_or};
 ghost use Rattle.sot_board.specs.Counts.{state_count};
+ghost use Rattle.sot_summary.specs.Fronts.{AreFronts};
 ghost use Rattle.sot_summary.specs.Outside.{is_in_region, points_in, is_outside};
 
 use sot_box::{Point, Region};
 use sot_lang::{PlantInfo, Typed};
 
 // The states of a plant, of those of all plants, one plant after another.
-fn states_of<'s>(plants: &[PlantInfo], states: &'s [i64], plant: usize) -> &'s [i64]
+fn states_of<'s>(
+    plants: &[PlantInfo],
+    fronts: &[usize; 100],
+    states: &'s [i64],
+    plant: usize,
+) -> &'s [i64]
     requires there { plant < length plants.now }
+    requires few { length plants.now ≤ 100 }
+    requires fronts { AreFronts plants.now fronts.now }
     requires size { length states.now ≡ state_count plants.now }
     ensures { result.now ≡ slice_index_or (points_in plants.now states.now) plant [] }
 {
-    let mut from = 0;
-    for i in 0..plant {
-        from += plants[i].states.len();
-    }
+    let from = fronts[plant];
     &states[from..from + plants[plant].states.len()]
 }
 
@@ -34,13 +39,14 @@ fn is_in_region(region: &Region, at: &[i64]) -> bool
 }
 
 /// Whether some module's plant is outside the module's safe region.
-pub fn is_outside(p: &Typed, states: &[i64]) -> bool
-    requires { length states.now ≡ state_count p.now.plants }
+pub fn is_outside(p: &Typed, fronts: &[usize; 100], states: &[i64]) -> bool
+    requires fronts { AreFronts p.now.plants fronts.now }
+    requires size { length states.now ≡ state_count p.now.plants }
     ensures { result ≡ is_outside p.now states.now }
 {
     for m in 0..p.modules.len() {
         let info = &p.modules[m];
-        let at = states_of(&p.plants, states, info.plant as usize);
+        let at = states_of(&p.plants, fronts, states, info.plant as usize);
         if !is_in_region(&info.safe, at) {
             return true;
         }

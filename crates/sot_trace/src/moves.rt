@@ -1,14 +1,23 @@
 //! The plants in the line of a tick.
 
-ghost use Rattle.std.specs.Prelude.{◌≡◌, ◌++◌, length, OnOk};
+ghost use Rattle.std.specs.Prelude.{◌≡◌, ◌++◌, codes, length, OnOk};
 ghost use Rattle.std.specs.String.{string_bytes};
 ghost use Rattle.sot_world.specs.Events.{noise_count};
 ghost use Rattle.sot_trace.specs.Moves.{move_text, moves_text};
 ghost use Rattle.sot_board.specs.Counts.{state_count};
 
+use crate::name::put_name;
 use crate::number::put_numbers;
 use sot_lang::PlantInfo;
 use std::alloc::AllocError;
+
+// What stands between the disturbances and the states.
+fn put_result_sign(out: &mut String) -> Result<(), AllocError>
+    ensures { OnOk result (string_bytes out.new ≡ string_bytes out.old ++ codes ")=") }
+{
+    out.push(')')?;
+    out.push('=')
+}
 
 fn put_move(
     out: &mut String,
@@ -19,10 +28,10 @@ fn put_move(
     ensures { OnOk result (string_bytes out.new ≡ string_bytes out.old ++ move_text plant.now noise.now states.now) }
 {
     out.push(' ')?;
-    out.push_str(plant.name.as_str())?;
+    put_name(out, &plant.name)?;
     out.push('(')?;
     put_numbers(out, noise)?;
-    out.push_str(")=")?;
+    put_result_sign(out)?;
     put_numbers(out, states)
 }
 

@@ -1,6 +1,7 @@
 //! Names, each put behind what stands there already.
 
 ghost use Rattle.std.specs.Prelude.{◌≡◌, ◌<◌, ◌++◌, length, OnOk};
+ghost use Rattle.std.specs.Str.{IsAscii};
 ghost use Rattle.std.specs.String.{string_bytes};
 ghost use Rattle.sot_trace.specs.Names.{topic_name, node_name, module_name, field_part, scalar_name};
 
@@ -8,12 +9,37 @@ use sot_lang::Typed;
 use sot_tree::Name;
 use std::alloc::AllocError;
 
+// Bytes up to this many are put one by one, which takes less than to copy so few.
+const FEW: usize = 8;
+
+fn put_ascii(out: &mut String, bytes: &[u8]) -> Result<(), AllocError>
+    requires { IsAscii bytes.now }
+    ensures { OnOk result (string_bytes out.new ≡ string_bytes out.old ++ bytes.now) }
+{
+    for byte in bytes {
+        out.push(char::from(*byte))?;
+    }
+    Ok(())
+}
+
+/// A name.
+pub fn put_name(out: &mut String, name: &Name) -> Result<(), AllocError>
+    ensures { OnOk result (string_bytes out.new ≡ string_bytes out.old ++ name.now) }
+{
+    let bytes = name.as_bytes();
+    if bytes.len() <= FEW && bytes.is_ascii() {
+        put_ascii(out, bytes)
+    } else {
+        out.push_str(name.as_str())
+    }
+}
+
 /// The name of a topic, and nothing where there is none.
 pub fn put_topic(out: &mut String, p: &Typed, topic: u32) -> Result<(), AllocError>
     ensures { OnOk result (string_bytes out.new ≡ string_bytes out.old ++ topic_name p.now topic) }
 {
     match p.topics.get(topic as usize) {
-        Some(info) => out.push_str(info.name.as_str()),
+        Some(info) => put_name(out, &info.name),
         None => Ok(()),
     }
 }
@@ -23,7 +49,7 @@ pub fn put_node(out: &mut String, p: &Typed, node: u32) -> Result<(), AllocError
     ensures { OnOk result (string_bytes out.new ≡ string_bytes out.old ++ node_name p.now node) }
 {
     match p.nodes.get(node as usize) {
-        Some(info) => out.push_str(info.name.as_str()),
+        Some(info) => put_name(out, &info.name),
         None => Ok(()),
     }
 }
@@ -33,7 +59,7 @@ pub fn put_module(out: &mut String, p: &Typed, module: u32) -> Result<(), AllocE
     ensures { OnOk result (string_bytes out.new ≡ string_bytes out.old ++ module_name p.now «module») }
 {
     match p.modules.get(module as usize) {
-        Some(info) => out.push_str(info.name.as_str()),
+        Some(info) => put_name(out, &info.name),
         None => Ok(()),
     }
 }
@@ -45,7 +71,7 @@ fn put_field(out: &mut String, field: &Option<Name>) -> Result<(), AllocError>
         None => Ok(()),
         Some(name) => {
             out.push('.')?;
-            out.push_str(name.as_str())
+            put_name(out, name)
         }
     }
 }
@@ -56,6 +82,6 @@ pub fn put_scalar_name(out: &mut String, p: &Typed, scalar: usize) -> Result<(),
     ensures { OnOk result (string_bytes out.new ≡ string_bytes out.old ++ scalar_name p.now scalar) }
 {
     let info = &p.scalars[scalar];
-    out.push_str(p.topics[info.topic as usize].name.as_str())?;
+    put_name(out, &p.topics[info.topic as usize].name)?;
     put_field(out, &info.field)
 }

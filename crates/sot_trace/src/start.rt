@@ -7,6 +7,7 @@ ghost use Rattle.sot_trace.specs.Numbers.{further, numbers};
 ghost use Rattle.sot_trace.specs.Lines.{header, start_line, start_lines};
 ghost use Rattle.sot_trace.specs.Traces.{text_of};
 
+use crate::name::put_name;
 use crate::number::put_number;
 use sot_box::Point;
 use sot_lang::{PlantInfo, Typed};
@@ -36,7 +37,7 @@ pub fn put_start(out: &mut String, plant: &PlantInfo, point: &Point) -> Result<(
     ensures { OnOk result (string_bytes out.new ≡ string_bytes out.old ++ start_line plant.now point.now) }
 {
     out.push_str("start ")?;
-    out.push_str(plant.name.as_str())?;
+    put_name(out, &plant.name)?;
     out.push_str(" ")?;
     put_point(out, point)
 }
