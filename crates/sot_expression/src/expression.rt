@@ -1,4 +1,5 @@
-//! The productions of expressions, one function for each.
+//! The productions of expressions, one function for each. Each call that hands a part on copies it, so what most expressions
+//! pass is inline, and the rarer forms stand apart.
 ghost use Rattle.std.specs.Prelude.{◌≡◌, ◌<◌, ◌≤◌, ◌-◌, IfOk, true, false};
 ghost use Rattle.sot_text.specs.Reading.{lexeme};
 ghost use Rattle.sot_expression.specs.ExpressionReaders.{any_token, operation_at, remainder_at, joined_at, number_part, truth_part, field_at, named_at, group_at, opened_at, further_at, abs_at, pair_at, limits_at, clamp_at, target_at, rescale_at, atom_at, begins_unary, minus_at, unary_at, denied_at, chosen_at, within, part_at, expression_at, tree_at};
@@ -29,6 +30,7 @@ fn any_token<'a>(tokens: &mut Tokens<'a>) -> Result<Token<'a>, Fail>
     Ok(token)
 }
 
+#[inline(always)]
 fn leaf(tree: Expr) -> Part
     ensures tree { result.tree ≡ tree }
     ensures levels { result.levels ≡ 1 }
@@ -41,6 +43,7 @@ fn leaf(tree: Expr) -> Part
     }
 }
 
+#[inline(always)]
 fn over(tree: Expr, levels: u32) -> Part
     ensures tree { result.tree ≡ tree }
     ensures levels { result.levels ≡ levels }
@@ -53,6 +56,7 @@ fn over(tree: Expr, levels: u32) -> Part
     }
 }
 
+#[inline(always)]
 #[tactic(auto, unfolding(crate::specs::ExpressionReaders::number_part))]
 fn number_part(tokens: &mut Tokens<'_>) -> Result<Part, Fail>
     ensures read { Gives part_view result tokens.old tokens.new (number_part tokens.old.tokens) }
@@ -62,6 +66,7 @@ fn number_part(tokens: &mut Tokens<'_>) -> Result<Part, Fail>
     Ok(leaf(Expr::Number(number)))
 }
 
+#[inline(always)]
 #[tactic(auto, unfolding(crate::specs::ExpressionReaders::truth_part))]
 fn truth_part(tokens: &mut Tokens<'_>, value: bool) -> Result<Part, Fail>
     ensures read { Gives part_view result tokens.old tokens.new (truth_part value tokens.old.tokens) }
@@ -74,6 +79,7 @@ fn truth_part(tokens: &mut Tokens<'_>, value: bool) -> Result<Part, Fail>
     }))
 }
 
+#[inline(never)]
 #[tactic(auto, unfolding(crate::specs::ExpressionReaders::field_at))]
 fn field(alloc: Global, tokens: &mut Tokens<'_>, first: Ident) -> Result<Part, Fail>
     ensures read { Gives part_view result tokens.old tokens.new (field_at first tokens.old.tokens) }
@@ -89,6 +95,7 @@ fn field(alloc: Global, tokens: &mut Tokens<'_>, first: Ident) -> Result<Part, F
 }
 
 // A name, or a field of what a name names.
+#[inline(always)]
 #[tactic(auto, unfolding(crate::specs::ExpressionReaders::named_at))]
 fn named(alloc: Global, tokens: &mut Tokens<'_>) -> Result<Part, Fail>
     ensures read { Gives part_view result tokens.old tokens.new (named_at tokens.old.tokens) }
@@ -117,6 +124,7 @@ fn onward(tier: u8) -> u8
 }
 
 // `%` and its number, behind a left part.
+#[inline(never)]
 #[tactic(auto, unfolding(crate::specs::ExpressionReaders::remainder_at))]
 fn remainder(alloc: Global, tokens: &mut Tokens<'_>, room: u32, left: Part) -> Result<Part, Fail>
     requires room { room ≤ 64 }
@@ -167,6 +175,7 @@ fn read(
 }
 
 // A part that begins with an operand.
+#[inline(always)]
 #[cycle(expression)]
 #[tactic(auto, unfolding(crate::specs::Parts::plain_at))]
 fn plain(
@@ -186,6 +195,7 @@ fn plain(
 }
 
 // The operators of the tiers above `from` up to `to`, behind a left part. The next token tells which tier is at work.
+#[inline(always)]
 #[cycle(expression)]
 fn climb(
     alloc: Global,
@@ -216,6 +226,7 @@ fn climb(
 }
 
 // An operator of a tier, and those behind it.
+#[inline(never)]
 #[cycle(expression)]
 #[tactic(auto, unfolding(crate::specs::Parts::turned))]
 fn turn(
@@ -239,6 +250,7 @@ fn turn(
 }
 
 // An operator, and what stands behind it.
+#[inline(always)]
 #[cycle(expression)]
 #[tactic(auto, unfolding(crate::specs::ExpressionReaders::joined_at))]
 fn joined(
@@ -262,6 +274,7 @@ fn joined(
     }
 }
 
+#[inline(always)]
 #[cycle(expression)]
 #[tactic(auto, unfolding(crate::specs::ExpressionReaders::operation_at))]
 fn operation(
@@ -286,6 +299,7 @@ fn operation(
     Ok(over(tree, levels))
 }
 
+#[inline(always)]
 #[cycle(expression)]
 #[tactic(auto, unfolding(crate::specs::ExpressionReaders::unary_at))]
 fn unary(alloc: Global, tokens: &mut Tokens<'_>, room: u32, held: bool) -> Result<Part, Fail>
@@ -302,6 +316,7 @@ fn unary(alloc: Global, tokens: &mut Tokens<'_>, room: u32, held: bool) -> Resul
 }
 
 // Behind a minus.
+#[inline(never)]
 #[cycle(expression)]
 #[tactic(auto, unfolding(crate::specs::ExpressionReaders::minus_at))]
 fn minus(
@@ -332,6 +347,7 @@ fn minus(
 }
 
 // A part that begins with a `not`.
+#[inline(never)]
 #[cycle(expression)]
 #[tactic(auto, unfolding(crate::specs::Parts::not_at))]
 fn denial(
@@ -368,6 +384,7 @@ fn denied(alloc: Global, tokens: &mut Tokens<'_>, room: u32, held: bool) -> Resu
 }
 
 // An expression that begins with an `if`.
+#[inline(never)]
 #[cycle(expression)]
 fn choice(alloc: Global, tokens: &mut Tokens<'_>, room: u32, held: bool) -> Result<Part, Fail>
     requires room { (1 ≤ room) × (room ≤ 64) }
@@ -399,6 +416,7 @@ fn chosen(alloc: Global, tokens: &mut Tokens<'_>, room: u32, held: bool) -> Resu
     Ok(over(tree, levels))
 }
 
+#[inline(always)]
 #[cycle(expression)]
 #[tactic(auto, unfolding(crate::specs::ExpressionReaders::atom_at, crate::specs::ExpressionReaders::atom_from))]
 fn atom(alloc: Global, tokens: &mut Tokens<'_>, room: u32, held: bool) -> Result<Part, Fail>
@@ -423,6 +441,7 @@ fn atom(alloc: Global, tokens: &mut Tokens<'_>, room: u32, held: bool) -> Result
 }
 
 // An expression in parentheses.
+#[inline(never)]
 #[cycle(expression)]
 #[tactic(auto, unfolding(crate::specs::ExpressionReaders::group_at))]
 fn group(alloc: Global, tokens: &mut Tokens<'_>, room: u32) -> Result<Part, Fail>
@@ -469,6 +488,7 @@ fn further(alloc: Global, tokens: &mut Tokens<'_>, room: u32) -> Result<Part, Fa
     read(alloc, tokens, room - 1, false, 7)
 }
 
+#[inline(never)]
 #[cycle(expression)]
 #[tactic(auto, unfolding(crate::specs::ExpressionReaders::abs_at, crate::specs::ExpressionReaders::opened_at))]
 fn absolute(alloc: Global, tokens: &mut Tokens<'_>, room: u32) -> Result<Part, Fail>
@@ -485,6 +505,7 @@ fn absolute(alloc: Global, tokens: &mut Tokens<'_>, room: u32) -> Result<Part, F
 }
 
 // `min` or `max`.
+#[inline(never)]
 #[cycle(expression)]
 #[tactic(auto, unfolding(crate::specs::ExpressionReaders::pair_at, crate::specs::ExpressionReaders::opened_at, crate::specs::ExpressionReaders::further_at))]
 fn pair(alloc: Global, tokens: &mut Tokens<'_>, room: u32, func: Func) -> Result<Part, Fail>
@@ -516,6 +537,7 @@ fn limits(alloc: Global, tokens: &mut Tokens<'_>, room: u32) -> Result<(Part, Pa
     Ok((low, high))
 }
 
+#[inline(never)]
 #[cycle(expression)]
 #[tactic(auto, unfolding(crate::specs::ExpressionReaders::clamp_at, crate::specs::ExpressionReaders::opened_at))]
 fn clamp(alloc: Global, tokens: &mut Tokens<'_>, room: u32) -> Result<Part, Fail>
@@ -531,6 +553,7 @@ fn clamp(alloc: Global, tokens: &mut Tokens<'_>, room: u32) -> Result<Part, Fail
     Ok(over(call, levels))
 }
 
+#[inline(never)]
 #[cycle(expression)]
 #[tactic(auto, unfolding(crate::specs::ExpressionReaders::rescale_at, crate::specs::ExpressionReaders::opened_at))]
 fn rescale(alloc: Global, tokens: &mut Tokens<'_>, room: u32) -> Result<Part, Fail>

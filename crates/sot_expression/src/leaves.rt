@@ -25,6 +25,7 @@ pub fn is_keyword(tokens: &Tokens<'_>, text: &[u8]) -> bool
 }
 
 /// Whether this sign comes next.
+#[inline(always)]
 pub fn is_sign(tokens: &Tokens<'_>, text: &[u8]) -> bool
     ensures { result ≡ begins (is_sign text.now) tokens.now.tokens }
 {

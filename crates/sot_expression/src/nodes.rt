@@ -7,7 +7,7 @@ ghost use Rattle.sot_expression.specs.Returned.{Makes};
 use crate::fail::Fail;
 use crate::part::Part;
 use sot_text::Span;
-use sot_tree::{Apart, Expr, Func, Lit, Op};
+use sot_tree::{Apart, Expr, Func, Lit, Op, Operands};
 use std::alloc::Global;
 
 /// A call with one part.
@@ -57,14 +57,12 @@ pub fn call_of_three(
 pub fn binary(alloc: Global, op: Op, left: Part, right: Part, at: Span) -> Result<Expr, Fail>
     ensures { Makes tree_view result (binary op (tree_view left.tree) (tree_view right.tree) at) }
 {
-    let left = Box::new(alloc, left.into_tree())?;
-    let right = Box::new(alloc, right.into_tree())?;
-    Ok(Expr::Binary {
-        op,
-        left,
-        right,
-        at,
-    })
+    let both = Operands {
+        left: left.into_tree(),
+        right: right.into_tree(),
+    };
+    let operands = Box::new(alloc, both)?;
+    Ok(Expr::Binary { op, operands, at })
 }
 
 /// The operator `%`.

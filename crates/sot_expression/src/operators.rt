@@ -43,6 +43,7 @@ fn is_keyword(token: &Token<'_>, text: &[u8]) -> bool
     matches!(token.kind, Kind::Keyword) && is_word(token.text, text)
 }
 
+#[inline(always)]
 fn operator_of(token: &Token<'_>) -> Option<Infix>
     ensures { result ≡ operator_of (lexeme token.now) }
 {
@@ -104,12 +105,14 @@ pub fn tier_of(operator: Infix) -> u8
 }
 
 /// The operator that comes next.
+#[inline(always)]
 pub fn operator_at(tokens: &Tokens<'_>) -> Option<Infix>
     ensures { result ≡ operator_from (first_of tokens.now.tokens) }
 {
     operator_of(&tokens.peek()?)
 }
 
+#[inline(always)]
 fn opening_of(token: &Token<'_>) -> Opening
     ensures { result ≡ opening_of (lexeme token.now) }
 {
@@ -139,6 +142,7 @@ fn opening_of(token: &Token<'_>) -> Opening
 }
 
 /// What the next token begins.
+#[inline(always)]
 pub fn opening_at(tokens: &Tokens<'_>) -> Opening
     ensures { result ≡ opening_at tokens.now.tokens }
 {

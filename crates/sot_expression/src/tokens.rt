@@ -30,14 +30,22 @@ impl<'a> Model for Tokens<'a> {
     ghost invariant = { λ s. IfSome s.next (λ token. IsTokenText token.kind token.text.now) };
 }
 
+// Each of many callers would hold a copy of what it gives, so it stands apart, and puts that in its place.
+#[inline(never)]
 #[tactic(auto, using(crate::proofs::StreamLaws::pulled, crate::proofs::StreamLaws::faulted))]
-fn pull<'a>(lexer: &mut Lexer<'a>) -> (Option<Token<'a>>, Option<LexFault>)
-    ensures ahead { ahead_of result.0 result.1 lexer.new ≡ ahead_from lexer.old.bytes lexer.old.at }
-    ensures whole { IfSome result.0 (λ token. IsTokenText token.kind token.text.now) }
+fn pull<'a>(lexer: &mut Lexer<'a>, next: &mut Option<Token<'a>>, fault: &mut Option<LexFault>)
+    ensures ahead { ahead_of next.new fault.new lexer.new ≡ ahead_from lexer.old.bytes lexer.old.at }
+    ensures whole { IfSome next.new (λ token. IsTokenText token.kind token.text.now) }
 {
     match lexer.next() {
-        Ok(next) => (next, None),
-        Err(fault) => (None, Some(fault)),
+        Ok(found) => {
+            *next = found;
+            *fault = None;
+        }
+        Err(error) => {
+            *next = None;
+            *fault = Some(error);
+        }
     }
 }
 
@@ -46,7 +54,9 @@ impl<'a> Tokens<'a> {
     pub fn new(mut lexer: Lexer<'a>) -> Tokens<'a>
         ensures { result ≡ ahead_from lexer.entry.bytes lexer.entry.at }
     {
-        let (next, fault) = pull(&mut lexer);
+        let mut next = None;
+        let mut fault = None;
+        pull(&mut lexer, &mut next, &mut fault);
         Tokens { lexer, next, fault }
     }
 
@@ -63,9 +73,7 @@ impl<'a> Tokens<'a> {
         ensures { self.new ≡ behind self.old }
     {
         if self.next.is_some() {
-            let (next, fault) = pull(&mut self.lexer);
-            self.next = next;
-            self.fault = fault;
+            pull(&mut self.lexer, &mut self.next, &mut self.fault);
         }
     }
 

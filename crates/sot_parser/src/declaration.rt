@@ -1,4 +1,4 @@
-//! Declarations, by the word that they begin with.
+//! Declarations, by the word that they begin with. A text may have very many topics, so the others stand apart.
 ghost use Rattle.std.specs.Prelude.{◌≡◌, ◌≤◌, ◌||◌, map, codes};
 ghost use Rattle.sot_tree.specs.TreeViews.{declaration_view};
 ghost use Rattle.sot_expression.specs.Lexemes.{begins, is_keyword};
@@ -13,6 +13,7 @@ use sot_expression::{Fail, Tokens, is_keyword};
 use sot_tree::{Apart, Decl};
 use std::alloc::Global;
 
+#[inline(always)]
 #[tactic(auto, unfolding(crate::specs::DeclarationReaders::a_topic_at))]
 fn a_topic(alloc: Global, tokens: &mut Tokens<'_>) -> Result<Decl, Fail>
     ensures { Gives declaration_view result tokens.old tokens.new (a_topic_at tokens.old.tokens) }
@@ -21,6 +22,7 @@ fn a_topic(alloc: Global, tokens: &mut Tokens<'_>) -> Result<Decl, Fail>
     Ok(Decl::Topic(topic))
 }
 
+#[inline(never)]
 #[tactic(auto, unfolding(crate::specs::DeclarationReaders::a_plant_at))]
 fn a_plant(alloc: Global, tokens: &mut Tokens<'_>, room: u32) -> Result<Decl, Fail>
     requires room { (1 ≤ room) × (room ≤ 64) }
@@ -30,6 +32,7 @@ fn a_plant(alloc: Global, tokens: &mut Tokens<'_>, room: u32) -> Result<Decl, Fa
     Ok(Decl::Plant(Apart::new(alloc, plant)?))
 }
 
+#[inline(never)]
 #[tactic(auto, unfolding(crate::specs::DeclarationReaders::a_coded_at))]
 fn a_coded_node(alloc: Global, tokens: &mut Tokens<'_>, room: u32) -> Result<Decl, Fail>
     requires room { (1 ≤ room) × (room ≤ 64) }
@@ -39,6 +42,7 @@ fn a_coded_node(alloc: Global, tokens: &mut Tokens<'_>, room: u32) -> Result<Dec
     Ok(Decl::Node(Apart::new(alloc, node)?))
 }
 
+#[inline(never)]
 #[tactic(auto, unfolding(crate::specs::DeclarationReaders::an_external_at))]
 fn an_external_node(alloc: Global, tokens: &mut Tokens<'_>) -> Result<Decl, Fail>
     ensures { Gives declaration_view result tokens.old tokens.new (an_external_at tokens.old.tokens) }
@@ -47,6 +51,7 @@ fn an_external_node(alloc: Global, tokens: &mut Tokens<'_>) -> Result<Decl, Fail
     Ok(Decl::Node(Apart::new(alloc, node)?))
 }
 
+#[inline(never)]
 #[tactic(auto, unfolding(crate::specs::DeclarationReaders::a_module_at))]
 fn a_module(alloc: Global, tokens: &mut Tokens<'_>) -> Result<Decl, Fail>
     ensures { Gives declaration_view result tokens.old tokens.new (a_module_at tokens.old.tokens) }

@@ -32,6 +32,7 @@ impl Item for Bounds {
     }
 }
 
+#[inline(always)]
 #[tactic(auto, unfolding(crate::specs::DeclarationReaders::range_at))]
 fn range(tokens: &mut Tokens<'_>) -> Result<Bounds, Fail>
     ensures { Gives (λ range. range) result tokens.old tokens.new (range_at tokens.old.tokens) }
@@ -53,6 +54,7 @@ fn fix(tokens: &mut Tokens<'_>) -> Result<Lit, Fail>
     Ok(scale)
 }
 
+#[inline(always)]
 #[tactic(auto, unfolding(crate::specs::DeclarationReaders::int_scalar_at))]
 fn int_scalar(tokens: &mut Tokens<'_>) -> Result<Scalar, Fail>
     ensures { Gives (λ scalar. scalar) result tokens.old tokens.new (int_scalar_at tokens.old.tokens) }
@@ -62,6 +64,7 @@ fn int_scalar(tokens: &mut Tokens<'_>) -> Result<Scalar, Fail>
     Ok(Scalar::Int(bounds))
 }
 
+#[inline(never)]
 #[tactic(auto, unfolding(crate::specs::DeclarationReaders::fix_scalar_at))]
 fn fix_scalar(tokens: &mut Tokens<'_>) -> Result<Scalar, Fail>
     ensures { Gives (λ scalar. scalar) result tokens.old tokens.new (fix_scalar_at tokens.old.tokens) }
@@ -123,6 +126,7 @@ fn truth(tokens: &mut Tokens<'_>, value: bool, word: &[u8]) -> Result<Const, Fai
     Ok(Const::Truth { value, at })
 }
 
+#[inline(always)]
 #[tactic(auto, unfolding(crate::specs::DeclarationReaders::number_const_at))]
 fn number_const(tokens: &mut Tokens<'_>) -> Result<Const, Fail>
     ensures { Gives (λ number. number) result tokens.old tokens.new (number_const_at tokens.old.tokens) }

@@ -1,4 +1,4 @@
-//! Topics.
+//! Topics. Each call that hands a part on copies it, so what most topics have is read inline.
 ghost use Rattle.std.specs.Prelude.{◌≡◌, codes};
 ghost use Rattle.sot_tree.specs.TreeViews.{shape_view, init_view, topic_view};
 ghost use Rattle.sot_expression.specs.Lexemes.{begins, is_sign, is_keyword};
@@ -12,6 +12,7 @@ use sot_expression::{Fail, Tokens, expect_keyword, expect_sign, is_keyword, is_s
 use sot_tree::{Init, Shape, TopicDecl};
 use std::alloc::Global;
 
+#[inline(never)]
 #[tactic(auto, unfolding(crate::specs::DeclarationReaders::fields_at))]
 fn fields(alloc: Global, tokens: &mut Tokens<'_>) -> Result<Shape, Fail>
     ensures { Gives shape_view result tokens.old tokens.new (fields_at tokens.old.tokens) }
@@ -22,6 +23,7 @@ fn fields(alloc: Global, tokens: &mut Tokens<'_>) -> Result<Shape, Fail>
     Ok(Shape::Fields(fields))
 }
 
+#[inline(always)]
 #[tactic(auto, unfolding(crate::specs::DeclarationReaders::one_scalar_at))]
 fn one_scalar(tokens: &mut Tokens<'_>) -> Result<Shape, Fail>
     ensures { Gives shape_view result tokens.old tokens.new (one_scalar_at tokens.old.tokens) }
@@ -30,6 +32,7 @@ fn one_scalar(tokens: &mut Tokens<'_>) -> Result<Shape, Fail>
     Ok(Shape::One(scalar))
 }
 
+#[inline(always)]
 #[tactic(auto, unfolding(crate::specs::DeclarationReaders::shape_at))]
 fn shape(alloc: Global, tokens: &mut Tokens<'_>) -> Result<Shape, Fail>
     ensures { Gives shape_view result tokens.old tokens.new (shape_at tokens.old.tokens) }
@@ -41,6 +44,7 @@ fn shape(alloc: Global, tokens: &mut Tokens<'_>) -> Result<Shape, Fail>
     }
 }
 
+#[inline(never)]
 #[tactic(auto, unfolding(crate::specs::DeclarationReaders::consts_at))]
 fn constants(alloc: Global, tokens: &mut Tokens<'_>) -> Result<Init, Fail>
     ensures { Gives init_view result tokens.old tokens.new (consts_at tokens.old.tokens) }
@@ -51,6 +55,7 @@ fn constants(alloc: Global, tokens: &mut Tokens<'_>) -> Result<Init, Fail>
     Ok(Init::Fields { items, at })
 }
 
+#[inline(always)]
 #[tactic(auto, unfolding(crate::specs::DeclarationReaders::one_const_at))]
 fn one_constant(tokens: &mut Tokens<'_>) -> Result<Init, Fail>
     ensures { Gives init_view result tokens.old tokens.new (one_const_at tokens.old.tokens) }
@@ -59,6 +64,7 @@ fn one_constant(tokens: &mut Tokens<'_>) -> Result<Init, Fail>
     Ok(Init::One(value))
 }
 
+#[inline(always)]
 #[tactic(auto, unfolding(crate::specs::DeclarationReaders::init_at))]
 fn init(alloc: Global, tokens: &mut Tokens<'_>) -> Result<Init, Fail>
     ensures { Gives init_view result tokens.old tokens.new (init_at tokens.old.tokens) }
@@ -70,6 +76,7 @@ fn init(alloc: Global, tokens: &mut Tokens<'_>) -> Result<Init, Fail>
     }
 }
 
+#[inline(never)]
 #[tactic(auto, unfolding(crate::specs::DeclarationReaders::environment_at))]
 fn environment(tokens: &mut Tokens<'_>) -> Result<bool, Fail>
     ensures { Gives (λ outside. outside) result tokens.old tokens.new (environment_at tokens.old.tokens) }

@@ -78,6 +78,7 @@ fn push_grouped(out: &mut String, gap: Gap, expr: &Expr) -> Result<(), AllocErro
 
 // In parentheses unless it is plain.
 #[cycle(expression)]
+#[inline(always)]
 fn push_operand(out: &mut String, gap: Gap, expr: &Expr) -> Result<(), AllocError>
     ensures { OnOk result (string_bytes out.new ≡ string_bytes out.old ++ laid (operand_words (tree_view expr.now) gap (expression_words (tree_view expr.now)))) }
 {
@@ -141,15 +142,10 @@ pub fn push_expression(out: &mut String, gap: Gap, expr: &Expr) -> Result<(), Al
         Expr::Number(literal) => push_literal(out, gap, *literal),
         Expr::Truth { value, .. } => push_truth(out, gap, *value),
         Expr::Ref { first, field } => push_reference(out, gap, first, field),
-        Expr::Binary {
-            op,
-            left,
-            right,
-            ..
-        } => {
-            push_operand(out, gap, left)?;
+        Expr::Binary { op, operands, .. } => {
+            push_operand(out, gap, &operands.left)?;
             push_operator(out, *op)?;
-            push_operand(out, Gap::Space, right)
+            push_operand(out, Gap::Space, &operands.right)
         }
         Expr::Rest { left, by, .. } => {
             push_operand(out, gap, left)?;

@@ -33,15 +33,26 @@ fn push_spaces(out: &mut String, count: usize) -> Result<(), AllocError>
     Ok(())
 }
 
-// A line end and so many spaces.
+// A line end and so many spaces. Those of most lines are one piece, whose length the compiler knows.
+#[inline(never)]
 fn push_line(out: &mut String, indent: usize) -> Result<(), AllocError>
     ensures { OnOk result (string_bytes out.new ≡ string_bytes out.old ++ 10 ∷ replicate indent 32) }
 {
-    out.push('\n')?;
-    push_spaces(out, indent)
+    match indent {
+        0 => out.push('\n'),
+        2 => out.push_str("\n  "),
+        4 => out.push_str("\n    "),
+        6 => out.push_str("\n      "),
+        8 => out.push_str("\n        "),
+        _ => {
+            out.push('\n')?;
+            push_spaces(out, indent)
+        }
+    }
 }
 
 /// The blanks of a gap.
+#[inline(always)]
 pub fn push_gap(out: &mut String, gap: Gap) -> Result<(), AllocError>
     ensures { OnOk result (string_bytes out.new ≡ string_bytes out.old ++ blanks gap) }
 {

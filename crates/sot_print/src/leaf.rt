@@ -9,15 +9,23 @@ use crate::numeral::push_numeral;
 use sot_tree::{Bounds, Const, Field, FieldName, Ident, Lit, Name, Scalar};
 use std::alloc::AllocError;
 
-// A name. Most are short.
+// A name of more letters, in one piece.
+#[inline(never)]
+fn push_long(out: &mut String, name: &Name) -> Result<(), AllocError>
+    ensures { OnOk result (string_bytes out.new ≡ string_bytes out.old ++ name.now) }
+{
+    out.push_str(name.as_str())
+}
+
+// A name. One or two letters are put one by one, which takes less than to copy so few.
 fn push_name(out: &mut String, name: &Name) -> Result<(), AllocError>
     ensures { OnOk result (string_bytes out.new ≡ string_bytes out.old ++ name.now) }
 {
     let bytes = name.as_bytes();
-    if bytes.len() <= 8 && bytes.is_ascii() {
+    if bytes.len() <= 2 && bytes.is_ascii() {
         push_characters(out, bytes)
     } else {
-        out.push_str(name.as_str())
+        push_long(out, name)
     }
 }
 

@@ -23,7 +23,7 @@ abbrev mutual
   tree_view (Number l) = number l
   tree_view (Truth value at) = truth value at
   tree_view (Ref first field) = named first field
-  tree_view (Binary' op p left q right at) = binary op (tree_view left) (tree_view right) at
+  tree_view (Binary' op p left right at) = binary op (tree_view left) (tree_view right) at
   tree_view (Rest' p left by at) = rest (tree_view left) by at
   tree_view (Neg' p part at) = negated (tree_view part) at
   tree_view (Not' p part at) = denied (tree_view part) at

@@ -15,5 +15,5 @@ pub use name::Name;
 pub use operator::{Func, Op};
 pub use tree::{
     Bounds, BoxDecl, Const, Decl, Expr, Field, Ident, Init, Lit, LocalDecl, ModuleDecl, NextDecl,
-    NodeDecl, PlantDecl, Program, Scalar, Shape, StateDecl, Stmt, TopicDecl,
+    NodeDecl, Operands, PlantDecl, Program, Scalar, Shape, StateDecl, Stmt, TopicDecl,
 };

@@ -152,7 +152,16 @@ pub struct ModuleDecl {
     pub safer: Vec<BoxDecl>,
 }
 
+/// The operands of an operator, which lie in memory together.
+#[cycle(expression)]
+#[derive(Drop)]
+pub struct Operands {
+    pub left: Expr,
+    pub right: Expr,
+}
+
 /// An expression. `at` is the token that names its operator, its function or its `if`.
+#[cycle(expression)]
 #[derive(Drop)]
 pub enum Expr {
     Number(Lit),
@@ -167,8 +176,7 @@ pub enum Expr {
     },
     Binary {
         op: Op,
-        left: Box<Expr>,
-        right: Box<Expr>,
+        operands: Box<Operands>,
         at: Span,
     },
     /// The operator `%`, whose right operand is a literal.

@@ -104,15 +104,10 @@ fn show(tree: &Expr, out: &mut String) -> Result<(), AllocError> {
         Expr::Number(lit) => show_number(lit, out),
         Expr::Truth { value, at } => write!(out, " {value}@{}", at.from),
         Expr::Ref { first, field } => show_name(first, field, out),
-        Expr::Binary {
-            op,
-            left,
-            right,
-            at,
-        } => {
+        Expr::Binary { op, operands, at } => {
             write!(out, " {op:?}@{}", at.from)?;
-            show(left, out)?;
-            show(right, out)
+            show(&operands.left, out)?;
+            show(&operands.right, out)
         }
         Expr::Rest { left, by, at } => {
             write!(out, " Rest@{}", at.from)?;

@@ -4,5 +4,5 @@ use Rattle.sot_tree.specs.Letters.{letters_of}
 use Rattle.sot_tree.proofs.Names.{name_utf8}
 use Rattle.sot_tree.proofs.name.Name.as_str.Goals as goal
 
-pub unreachable-requires : goal.unreachable-requires
-unreachable-requires c = c.in-Err.ensures.cases.0 (subst IsUtf8 (sym c.as_slice.ensures) (name_utf8 (letters_of c.self.inside.letters) c.self.invariant))
+pub from_utf8_unchecked-requires : goal.from_utf8_unchecked-requires
+from_utf8_unchecked-requires c = subst IsUtf8 (sym c.as_slice.ensures) (name_utf8 (letters_of c.self.inside.letters) c.self.invariant)
