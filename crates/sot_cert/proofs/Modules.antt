@@ -1,5 +1,5 @@
 -- The program's modules one after the other, as a loop goes over them.
-use Rattle.std.proofs.Common.{◌≡◌, ℕ, zero, suc, ◌+◌, ◌<◌, ◌≤◌, List, [], ◌∷◌, ◌++◌, length, drop, get_or, Option, Ok, Err, Bool, false, ◌||◌, bytes_eq, refl, sym, ap, subst, ◌∙◌, append_assoc, arith}
+use Rattle.std.proofs.Common.{◌≡◌, ℕ, zero, suc, ◌+◌, ◌<◌, ◌≤◌, List, [], ◌∷◌, ◌++◌, length, drop, get_or, Option, Ok, Err, Bool, true, false, ◌||◌, bytes_eq, refl, sym, ap, subst, ◌∙◌, append_assoc, arith}
 use Rattle.std.proofs.lemmas.List.{append-nil}
 use Rattle.serde_json.specs.Data.{Members}
 use Rattle.sot_lang.specs.declared.tables.PlantInfo.{PlantInfo}
@@ -70,3 +70,13 @@ among_from k ms i m b lt is h = rw (drop_from ms i m lt is, h) refl
 
 pub among_past : (k : List ℕ) (ms : List ModuleInfo) (i : ℕ) → length ms ≤ i → is_among k (names (drop i ms)) ≡ false
 among_past k ms i le = rw (drop_past ms i le) refl
+
+-- The key is the name of the module at place i.
+pub among_at : (k : List ℕ) (ms : List ModuleInfo) (i : ℕ) (m : ModuleInfo) → i < length ms → m ≡ get_or ms i m → bytes_eq k m.name ≡ true → is_among k (names ms) ≡ true
+among_at k [] i m lt is h = absurd (omega (arith, lt))
+among_at k (n ∷ ms) zero m lt is h = ap (λ b. b || is_among k (names ms)) (ap (λ (o : ModuleInfo). bytes_eq k o.name) (sym is) ∙ h)
+among_at k (n ∷ ms) (suc i) m lt is h = ap (λ b. bytes_eq k n.name || b) (among_at k ms i m (omega (arith, lt)) is h) ∙ or_true (bytes_eq k n.name)
+  where
+    or_true : (b : Bool) → (b || true) ≡ true
+    or_true true = refl
+    or_true false = refl

@@ -49,18 +49,19 @@ fn side_of(alloc: Global, value: &Value) -> Result<Interval, JsonFail>
     }
 }
 
-#[tactic(auto, using(crate::proofs::Lists::goes_on, crate::proofs::Lists::ends, crate::proofs::Lists::is_done))]
-fn sides_of(alloc: Global, list: &Vec<Value>) -> Result<Vec<Interval>, JsonFail>
-    ensures { Gives (λ x. x.items) result (each side (items_view list.now.items)) }
+// The sides of a cell, in places for as many.
+fn put_sides(alloc: Global, list: &[Value], sides: &mut [Interval]) -> Result<(), JsonFail>
+    requires { length sides.old ≡ length list.now }
+    ensures says { Gives (λ _. sides.new) result (each side (items_view list.now)) }
+    ensures size { length sides.new ≡ length sides.old }
 {
-    let mut found = Vec::new(alloc);
-    for item in list.iter() {
-        match side_of(alloc, item) {
-            Ok(side) => found.push(side)?,
-            Err(fail) => return Err(fault_under_index(alloc, found.len(), fail)),
+    for i in 0..list.len() {
+        match side_of(alloc, &list[i]) {
+            Ok(side) => sides[i] = side,
+            Err(fail) => return Err(fault_under_index(alloc, i, fail)),
         }
     }
-    Ok(found)
+    Ok(())
 }
 
 #[tactic(auto, unfolding(crate::specs::CertFormat::cell), using(crate::proofs::Lists::items_len_view, crate::proofs::Sides::cell_len))]
@@ -75,8 +76,10 @@ fn cell_of(alloc: Global, width: usize, value: &Value) -> Result<BoxN, JsonFail>
     if list.len() != width {
         return Err(fault_at(alloc, JsonKind::Width));
     }
-    let sides = sides_of(alloc, list)?;
-    match BoxN::of(&sides) {
+    let mut inline = [Interval { lo: 0, hi: 0 }; 4];
+    let (sides, _) = inline.split_at_mut(width);
+    put_sides(alloc, list, sides)?;
+    match BoxN::of(sides) {
         Some(cell) => Ok(cell),
         None => unreachable!(),
     }

@@ -1,5 +1,5 @@
 //! Entries of modules, the jitter, and the whole certificate.
-ghost use Rattle.std.specs.Prelude.{◌≡◌, ◌≤◌, ◌<◌, length, codes, nat_lt, IfOk, OnOk};
+ghost use Rattle.std.specs.Prelude.{◌≡◌, ◌≤◌, ◌<◌, true, length, codes, nat_lt, IfOk, OnOk};
 ghost use Rattle.std.specs.List.{list_all};
 ghost use Rattle.serde_json.specs.View.{view, members_view};
 ghost use Rattle.sot_lists.specs.Places.{At};
@@ -96,7 +96,7 @@ fn entries_of(
     ensures says { Gives (λ v. v.items) result (entries p.now.plants p.now.modules (members_view object.now.entries)) }
     ensures rules { MeetsTableRules p.now }
 {
-    let mut found = Vec::new(alloc);
+    let mut found = Vec::with_capacity(alloc, p.modules.len())?;
     for info in p.modules.iter() {
         let width = width_at(p, info.plant);
         match entry_at(alloc, info.name.as_str(), width, object) {
@@ -119,13 +119,39 @@ fn is_module(p: &Typed, key: &str) -> bool
     false
 }
 
+/// Whether there is a module at a place and it has this name.
+#[tactic(auto, using(crate::proofs::Modules::among_at))]
+fn is_module_at(p: &Typed, k: usize, key: &str) -> bool
+    ensures { result ≡ true → is_among key.now (names p.now.modules) ≡ true }
+{
+    if k < p.modules.len() {
+        let info = &p.modules[k];
+        key == info.name.as_str()
+    } else {
+        false
+    }
+}
+
+/// Whether a key names a module. Most certificates have their entries in the order of the modules, so the one at a place is
+/// looked at first.
+fn is_entry(p: &Typed, k: usize, key: &str) -> bool
+    ensures { result ≡ is_among key.now (names p.now.modules) }
+{
+    if is_module_at(p, k, key) {
+        return true;
+    }
+    is_module(p, key)
+}
+
 fn has_only_modules(p: &Typed, object: &Map<String, Value>) -> bool
     ensures { result ≡ all_among (members_view object.now.entries) (names p.now.modules) }
 {
+    let mut k: usize = 0;
     for (key, _value) in object.iter() {
-        if !is_module(p, key.as_str()) {
+        if !is_entry(p, k, key.as_str()) {
             return false;
         }
+        k = k.wrapping_add(1);
     }
     true
 }

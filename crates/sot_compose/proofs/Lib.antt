@@ -1,3 +1,4 @@
 pub mod Strangers
+pub mod InOrder
 pub mod Composed
 pub mod Certified

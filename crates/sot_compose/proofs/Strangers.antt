@@ -45,7 +45,7 @@ writes_is p n t node b at iff = (
 pub none_write : (p : Tables) (t : ℕ) → ((k : ℕ) → 0 ≤ k → Writes p k t → ⊥) → AreAllRelated p t
 none_write p t none n k lt i j at_i at_j w v = absurd (none n (omega arith) (i, at_i, w))
 
-order : (k a : ℕ) → (k < a) ⊎ ((k ≡ a) ⊎ (a < k))
+pub order : (k a : ℕ) → (k < a) ⊎ ((k ≡ a) ⊎ (a < k))
 order k a = grind arith
 
 pub one_writes : (p : Tables) (t a : ℕ) → IsFirstWriter p t 0 a → ((k : ℕ) → a + 1 ≤ k → Writes p k t → ⊥) → AreAllRelated p t

@@ -9,6 +9,7 @@ mod check;
 mod clash;
 mod composition;
 mod fail;
+mod ordered;
 mod outputs;
 mod parts;
 

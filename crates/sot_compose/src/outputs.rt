@@ -6,6 +6,7 @@ ghost use Rattle.sot_tube.specs.Verdict.{ShareOutput};
 ghost use Rattle.sot_compose.specs.Outputs.{ArePair, ArePartnersIn, Writes, AreRelated, AreAllRelated, IsStranger, AreFirstWriters, IsFirstWriter};
 
 use crate::clash::Clash;
+use crate::ordered::are_in_order;
 use sot_lang::{ModuleInfo, Typed};
 use sot_rta::{are_some_of, node_at};
 
@@ -17,7 +18,7 @@ fn are_pair(info: &ModuleInfo, n: u32, other: u32) -> bool
 }
 
 // Whether two nodes are the two nodes of some module.
-fn are_partners(modules: &[ModuleInfo], n: u32, other: u32) -> bool
+pub fn are_partners(modules: &[ModuleInfo], n: u32, other: u32) -> bool
     ensures { IsTrue result ↔ ArePartnersIn modules.now n other }
 {
     for info in modules {
@@ -136,6 +137,9 @@ pub fn first_shared_output(p: &Typed) -> Option<Clash>
         (λ c. AreFirstWriters p.now c.what c.a c.b × ((t : ℕ) → t < c.what → AreAllRelated p.now t)) }
     ensures within { IfSome result (λ c. c.what < length p.now.topics) }
 {
+    if are_in_order(p) {
+        return None;
+    }
     for topic in 0..p.topics.len() as u32 {
         if let Some(clash) = first_writers(p, topic) {
             return Some(clash);

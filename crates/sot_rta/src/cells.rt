@@ -17,8 +17,7 @@ use crate::draft::cell_draft;
 use crate::many::first_refused;
 use crate::places::{module_at, node_at, plant_at};
 use crate::refusal::Refusal;
-use sot_box::{BoxN, Region, uncovered};
-use sot_iv::Ranges;
+use sot_box::{BoxN, Interval, Region, uncovered};
 use sot_lang::{Cells, Cert, ModuleInfo, Typed};
 use sot_tube::{Leave, any_inside, held_inside};
 use std::thread::Threads;
@@ -85,9 +84,10 @@ fn held_tube(
     let plant = plant_at(p, info.plant);
     let sc = node_at(p, info.sc);
     let draft = cell_draft(p, info, sc, cell).unwrap();
-    let mut held = Ranges::none();
-    put_commands(p, &plant.inputs, &sc.writes, &draft, &mut held);
-    held_inside(p, module, cell, held.as_slice(), sc.period + jitter)
+    let mut inline = [Interval { lo: 0, hi: 0 }; 8];
+    let (held, _) = inline.split_at_mut(plant.inputs.len());
+    put_commands(p, &plant.inputs, &sc.writes, &draft, held);
+    held_inside(p, module, cell, held, sc.period + jitter)
 }
 
 /// Whether one closed cell keeps: the safe region covers it, and its held tube stays inside for the safe node's period, longer by

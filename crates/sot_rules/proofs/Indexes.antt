@@ -8,7 +8,8 @@ use denote.Ref.{Bor}
 use Rattle.indexmap.specs.IndexMap.{IndexMap}
 use Rattle.sot_tree.specs.declared.tree.Ident.{Ident}
 use Rattle.sot_tree.specs.Trees.{Declaration}
-use Rattle.sot_rules.specs.declared.expressions.sort.Sort.{Sort}
+use Rattle.sot_rules.specs.declared.names.scope.PartTable.{PartTable}
+use Rattle.sot_rules.specs.Scopes.{parts_of}
 use Rattle.sot_rules.specs.Names.{declared_name}
 use Rattle.sot_rules.specs.Tests.{is_plant_of}
 use Rattle.sot_rules.specs.NameTables.{found, entry}
@@ -32,11 +33,11 @@ owned_more ds d old new add held i =
 pub counted : {X Y Z : Type 0} (f : X → Z) (g : Y → Z) (xs : List X) (ys : List Y) → map f xs ≡ map g ys → length xs ≡ length ys
 counted f g xs ys e = sym (length-map xs f) ∙ ap length e ∙ length-map ys g
 
-pub parts_more : {S : Type 0} (ds : List Declaration) (d : Declaration) (old new : List (IndexMap (Bor (List ℕ)) Sort S)) (t : IndexMap (Bor (List ℕ)) Sort S) → new ≡ old ++ t ∷ [] → ((n : List ℕ) → found t n ≡ sort_in (declared_parts d) n) → ((n : List ℕ) → map (λ t. found t n) old ≡ map (λ d. sort_in (declared_parts d) n) ds) → (n : List ℕ) → map (λ t. found t n) new ≡ map (λ d. sort_in (declared_parts d) n) (ds ++ d ∷ [])
+pub parts_more : (ds : List Declaration) (d : Declaration) (old new : List PartTable) (t : PartTable) → new ≡ old ++ t ∷ [] → ((n : List ℕ) → sort_in (parts_of t) n ≡ sort_in (declared_parts d) n) → ((n : List ℕ) → map (λ t. sort_in (parts_of t) n) old ≡ map (λ d. sort_in (declared_parts d) n) ds) → (n : List ℕ) → map (λ t. sort_in (parts_of t) n) new ≡ map (λ d. sort_in (declared_parts d) n) (ds ++ d ∷ [])
 parts_more ds d old new t push table held n =
-    ap (map (λ t. found t n)) push
-    ∙ map-append (λ t. found t n) old (t ∷ [])
-    ∙ ap (λ os. os ++ found t n ∷ []) (held n)
+    ap (map (λ t. sort_in (parts_of t) n)) push
+    ∙ map-append (λ t. sort_in (parts_of t) n) old (t ∷ [])
+    ∙ ap (λ os. os ++ sort_in (parts_of t) n ∷ []) (held n)
     ∙ ap (λ o. map (λ d. sort_in (declared_parts d) n) ds ++ o ∷ []) (table n)
     ∙ sym (map-append (λ d. sort_in (declared_parts d) n) ds (d ∷ []))
 

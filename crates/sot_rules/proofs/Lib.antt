@@ -27,6 +27,7 @@ pub mod Bodies
 pub mod Reached
 -- names in tables and sets
 pub mod Lookups
+pub mod FewNames
 pub mod NameSets
 pub mod NameTables
 pub mod Indexes

@@ -7,22 +7,23 @@ use Rattle.std.specs.Map.{lookup}
 use Rattle.std.proofs.lemmas.List.{append_assoc, take_all, take_more}
 use Rattle.std.proofs.lemmas.List.Elements.{filter_map-append}
 use denote.Ref.{Bor}
-use Rattle.indexmap.specs.IndexMap.{IndexMap}
 use Rattle.sot_tree.specs.declared.tree.Ident.{Ident}
 use Rattle.sot_tree.specs.Trees.{Form, one, fields, Declaration, a_topic, a_plant, a_node, a_module}
 use Rattle.sot_rules.specs.declared.expressions.sort.Sort.{Sort}
 use Rattle.sot_rules.specs.declared.names.scope.Kept.{Kept}
+use Rattle.sot_rules.specs.declared.names.scope.Things.{Things}
+use Rattle.sot_rules.specs.declared.names.scope.PartTable.{PartTable}
 use Rattle.sot_rules.specs.declared.names.scope.Kept.TheVariants.{Alone}
 use Rattle.sot_rules.specs.declared.names.gather.NameList.{NameList}
 use Rattle.sot_rules.specs.declared.names.gather.NameList.TheVariants.{Topics, Plants, Both}
 use Rattle.sot_rules.specs.Names.{field_part, form_parts, state_part, Part, Parts, alone, several, Thing, declared_name, part_reading, parts_reading, thing_reading}
-use Rattle.sot_rules.specs.NameTables.{found, entry}
+use Rattle.sot_rules.specs.NameTables.{entry, entries_in, found_in}
 use Rattle.sot_rules.specs.declared.names.scope.Names.{Names}
 use Rattle.sot_rules.specs.Scopes.{names_in, parts_of, kept_parts, things_of, reading_of}
 use Rattle.sot_rules.specs.Indexes.{declared_parts, form_fields, is_named, sort_in}
 use Rattle.sot_rules.specs.Alike.{Adds, ReadsAlike, PartsAlike, AreAlike, parts_found, StandsFor, StandsForThing, form_kept, kept_of_list}
 use Rattle.sot_rules.specs.NameLists.{thing_of_list}
-use Rattle.sot_rules.proofs.Lookups.{part_found, thing_found}
+use Rattle.sot_rules.proofs.Lookups.{thing_found}
 use Rattle.sot_rules.proofs.NameTables.{map_more}
 
 -- what is found first stays
@@ -53,21 +54,21 @@ entry_alike true p q h = h
 entry_alike false p q h = tt
 
 -- one name more, and one thing more
-stands_more : {S : Type 0} (tables : List (List Part)) (xs : List Thing) (x : Thing) (old new : IndexMap (Bor (List ℕ)) Kept S) (key : List ℕ) (s : Kept) → ((n : List ℕ) → found new n ≡ option_or (found old n) (entry key s n)) → key ≡ x.name → PartsAlike (kept_parts tables s) x.parts → StandsFor tables old xs → StandsFor tables new (xs ++ x ∷ [])
+stands_more : (tables : List (List Part)) (xs : List Thing) (x : Thing) (old new : Things) (key : List ℕ) (s : Kept) → ((n : List ℕ) → found_in new n ≡ option_or (found_in old n) (entry key s n)) → key ≡ x.name → PartsAlike (kept_parts tables s) x.parts → StandsFor tables old xs → StandsFor tables new (xs ++ x ∷ [])
 stands_more tables xs x old new key s add named alike stands n =
-    let left : option_map (kept_parts tables) (found new n) ≡ option_or (option_map (kept_parts tables) (found old n)) (entry x.name (kept_parts tables s) n) =
+    let left : option_map (kept_parts tables) (found_in new n) ≡ option_or (option_map (kept_parts tables) (found_in old n)) (entry x.name (kept_parts tables s) n) =
     ap (option_map (kept_parts tables)) (add n)
-    ∙ map_or (kept_parts tables) (found old n) (entry key s n)
-    ∙ ap (option_or (option_map (kept_parts tables) (found old n))) (map_if (kept_parts tables) (bytes_eq n key) s ∙ ap (λ k. entry k (kept_parts tables s) n) named) in
+    ∙ map_or (kept_parts tables) (found_in old n) (entry key s n)
+    ∙ ap (option_or (option_map (kept_parts tables) (found_in old n))) (map_if (kept_parts tables) (bytes_eq n key) s ∙ ap (λ k. entry k (kept_parts tables s) n) named) in
     subst (λ o. AreAlike o (parts_found (xs ++ x ∷ []) n)) (sym left)
-    (subst (λ o. AreAlike (option_or (option_map (kept_parts tables) (found old n)) (entry x.name (kept_parts tables s) n)) o) (sym (parts_push xs x n))
+    (subst (λ o. AreAlike (option_or (option_map (kept_parts tables) (found_in old n)) (entry x.name (kept_parts tables s) n)) o) (sym (parts_push xs x n))
     (alike_or _ (parts_found xs n) _ (entry x.name x.parts n) (stands n) (entry_alike (bytes_eq n x.name) _ x.parts alike)))
 
-pub stands_same : {S : Type 0} (tables : List (List Part)) (xs ys : List Thing) (m : IndexMap (Bor (List ℕ)) Kept S) → xs ≡ ys → StandsFor tables m xs → StandsFor tables m ys
+pub stands_same : (tables : List (List Part)) (xs ys : List Thing) (m : Things) → xs ≡ ys → StandsFor tables m xs → StandsFor tables m ys
 stands_same tables xs ys m e h = subst (StandsFor tables m) e h
 
 -- a name that adds a thing
-pub stands_added : {S : Type 0} (tables : List (List Part)) (xs : List Thing) (x : Option Thing) (old new : IndexMap (Bor (List ℕ)) Kept S) (key name : List ℕ) (s : Kept) → ((n : List ℕ) → found new n ≡ option_or (found old n) (entry key s n)) → key ≡ name → StandsForThing tables name (Some s) x → StandsFor tables old xs → StandsFor tables new (xs ++ option_to_list x)
+pub stands_added : (tables : List (List Part)) (xs : List Thing) (x : Option Thing) (old new : Things) (key name : List ℕ) (s : Kept) → ((n : List ℕ) → found_in new n ≡ option_or (found_in old n) (entry key s n)) → key ≡ name → StandsForThing tables name (Some s) x → StandsFor tables old xs → StandsFor tables new (xs ++ option_to_list x)
 stands_added tables xs None old new key name s add e h stands = absurd h
 stands_added tables xs (Some x) old new key name s add e h stands = stands_more tables xs x old new key s add (e ∙ h.0) h.1 stands
 
@@ -91,7 +92,7 @@ mapped_more : {X Y : Type 0} (f : X → Y) (base : List Y) (xs : List X) (i : �
 mapped_more f base xs i x lt e = append_assoc base (map f (take i xs)) (f x ∷ []) ∙ ap (λ l. base ++ l) (sym (map_more f xs i x lt e))
 
 -- one number or truth value more
-pub alone_more : {S X : Type 0} (f : X → Thing) (xs : List X) (i : ℕ) (x : X) (s : Sort) (key : List ℕ) (start old new : IndexMap (Bor (List ℕ)) Kept S) → i < length xs → x ≡ get_or xs i x → ((tables : List (List Part)) (base : List Thing) → StandsFor tables start base → StandsFor tables old (base ++ map f (take i xs))) → ((n : List ℕ) → found new n ≡ option_or (found old n) (entry key (Alone s) n)) → key ≡ (f x).name → alone s ≡ (f x).parts → (tables : List (List Part)) (base : List Thing) → StandsFor tables start base → StandsFor tables new (base ++ map f (take (i + 1) xs))
+pub alone_more : {X : Type 0} (f : X → Thing) (xs : List X) (i : ℕ) (x : X) (s : Sort) (key : List ℕ) (start old new : Things) → i < length xs → x ≡ get_or xs i x → ((tables : List (List Part)) (base : List Thing) → StandsFor tables start base → StandsFor tables old (base ++ map f (take i xs))) → ((n : List ℕ) → found_in new n ≡ option_or (found_in old n) (entry key (Alone s) n)) → key ≡ (f x).name → alone s ≡ (f x).parts → (tables : List (List Part)) (base : List Thing) → StandsFor tables start base → StandsFor tables new (base ++ map f (take (i + 1) xs))
 alone_more f xs i x s key start old new lt e inv add named sorted tables base stands =
     stands_same tables _ (base ++ map f (take (i + 1) xs)) new (mapped_more f base xs i x lt e)
     (stands_more tables (base ++ map f (take i xs)) (f x) old new key (Alone s) add named (λ first field. ap (parts_reading first field) sorted) (inv tables base stands))
@@ -108,13 +109,13 @@ several_alike ps qs h first None = refl
 several_alike ps qs h first (Some field) = reading_by field (find (λ (x : Part). bytes_eq field.name x.name) ps) (find (λ (x : Part). bytes_eq field.name x.name) qs) (h field.name)
 
 -- the table at a place has the parts of the declaration at that place
-pub parts_at : {S : Type 0} (items : List (IndexMap (Bor (List ℕ)) Sort S)) (ds : List Declaration) (k : ℕ) (d : Declaration) (n : List ℕ) → map (λ t. found t n) items ≡ map (λ d. sort_in (declared_parts d) n) ds → slice_get ds k ≡ Some d → sort_in (get_or (map parts_of items) k []) n ≡ sort_in (declared_parts d) n
+pub parts_at : (items : List PartTable) (ds : List Declaration) (k : ℕ) (d : Declaration) (n : List ℕ) → map (λ t. sort_in (parts_of t) n) items ≡ map (λ d. sort_in (declared_parts d) n) ds → slice_get ds k ≡ Some d → sort_in (get_or (map parts_of items) k []) n ≡ sort_in (declared_parts d) n
 parts_at items [] k d n e at = cc
 parts_at [] (x ∷ ds) k d n e at = cc
 parts_at (t ∷ items) (x ∷ ds) zero d n e at =
     let q : x ≡ d = cc in
-    let p : found t n ≡ sort_in (declared_parts x) n = cc in
-    sym (part_found n t.entries) ∙ p ∙ ap (λ d. sort_in (declared_parts d) n) q
+    let p : sort_in (parts_of t) n ≡ sort_in (declared_parts x) n = cc in
+    p ∙ ap (λ d. sort_in (declared_parts d) n) q
 parts_at (t ∷ items) (x ∷ ds) (suc k) d n e at = parts_at items ds k d n (cc) at
 
 -- what is kept of a declaration stands for the thing that it adds
@@ -152,13 +153,13 @@ reads_by f first field None (Some y) h = absurd h
 reads_by f first field (Some x) None h = absurd h
 reads_by f first field (Some x) (Some y) h = h first field
 
-reads_alike : {S T : Type 0} (tables : List (IndexMap (Bor (List ℕ)) Sort S)) (m : IndexMap (Bor (List ℕ)) Kept T) (xs : List Thing) → StandsFor (map parts_of tables) m xs → ReadsAlike (things_of tables m) xs
+reads_alike : (tables : List PartTable) (m : Things) (xs : List Thing) → StandsFor (map parts_of tables) m xs → ReadsAlike (things_of tables m) xs
 reads_alike tables m xs h first field =
-    thing_found (kept_parts (map parts_of tables)) first field m.entries
-    ∙ reads_by (kept_parts (map parts_of tables)) first field (found m first.name) (find (λ (x : Thing). bytes_eq first.name x.name) xs) (h first.name)
+    thing_found (kept_parts (map parts_of tables)) first field (entries_in m)
+    ∙ reads_by (kept_parts (map parts_of tables)) first field (found_in m first.name) (find (λ (x : Thing). bytes_eq first.name x.name) xs) (h first.name)
 
 -- the whole list of a loop
-pub mapped_all : {S X : Type 0} (tables : List (List Part)) (f : X → Thing) (base : List Thing) (xs : List X) (i : ℕ) (m : IndexMap (Bor (List ℕ)) Kept S) → length xs ≤ i → StandsFor tables m (base ++ map f (take i xs)) → StandsFor tables m (base ++ map f xs)
+pub mapped_all : {X : Type 0} (tables : List (List Part)) (f : X → Thing) (base : List Thing) (xs : List X) (i : ℕ) (m : Things) → length xs ≤ i → StandsFor tables m (base ++ map f (take i xs)) → StandsFor tables m (base ++ map f xs)
 mapped_all tables f base xs i m le h = stands_same tables _ (base ++ map f xs) m (ap (λ l. base ++ map f l) (take_all i xs le)) h
 
 pub map_twice : {X Y Z : Type 0} (f : Y → Z) (g : X → Y) (xs : List X) → map (λ x. f (g x)) xs ≡ map f (map g xs)
@@ -172,7 +173,7 @@ kept_alike list tables k name d r m means named kept h =
     (subst (λ z. StandsForThing tables name z (thing_of_list list (Some d))) (sym kept)
     (subst (λ z. StandsForThing tables z (kept_of_list list k d) (thing_of_list list (Some d))) (sym named) (thing_alike list tables k d h)))
 
-pub stands_none : {S : Type 0} (tables : List (List Part)) (m : IndexMap (Bor (List ℕ)) Kept S) → m.entries ≡ [] → StandsFor tables m []
+pub stands_none : (tables : List (List Part)) (m : Things) → entries_in m ≡ [] → StandsFor tables m []
 stands_none tables m e n = subst (λ es. AreAlike (option_map (kept_parts tables) (lookup (λ (k : Bor (List ℕ)). bytes_eq n k.now) es)) None) (sym e) tt
 
 -- the names that the code keeps, with the tables of an index
@@ -181,8 +182,8 @@ unfolding names_in
 names_alike x tables xs e h = reads_alike x.tables.now x.things xs (subst (λ t. StandsFor t x.things xs) (sym e) h)
 
 -- things that are added after others, and lists that are the same
-pub adds_both : {R S T : Type 0} (tables : List (List Part)) (old : IndexMap (Bor (List ℕ)) Kept R) (mid : IndexMap (Bor (List ℕ)) Kept S) (new : IndexMap (Bor (List ℕ)) Kept T) (xs ys : List Thing) → Adds tables old mid xs → Adds tables mid new ys → Adds tables old new (xs ++ ys)
+pub adds_both : (tables : List (List Part)) (old : Things) (mid : Things) (new : Things) (xs ys : List Thing) → Adds tables old mid xs → Adds tables mid new ys → Adds tables old new (xs ++ ys)
 adds_both tables old mid new xs ys early late base stands = stands_same tables ((base ++ xs) ++ ys) (base ++ (xs ++ ys)) new (append_assoc base xs ys) (late (base ++ xs) (early base stands))
 
-pub adds_same : {S T : Type 0} (tables : List (List Part)) (old : IndexMap (Bor (List ℕ)) Kept S) (new : IndexMap (Bor (List ℕ)) Kept T) (xs ys : List Thing) → xs ≡ ys → Adds tables old new xs → Adds tables old new ys
+pub adds_same : (tables : List (List Part)) (old : Things) (new : Things) (xs ys : List Thing) → xs ≡ ys → Adds tables old new xs → Adds tables old new ys
 adds_same tables old new xs ys e adds base stands = subst (λ zs. StandsFor tables new (base ++ zs)) e (adds base stands)

@@ -1,18 +1,17 @@
 -- Lists of things that read alike, and tables of names that stand for lists of things.
 use Rattle.std.specs.Prelude.{◌++◌, ◌≡◌, ℕ, List, map, find, Option, Some, None, option_map}
 use Rattle.std.specs.Str.{bytes_eq}
-use denote.Ref.{Bor}
-use Rattle.indexmap.specs.IndexMap.{IndexMap}
 use Rattle.sot_tree.specs.declared.tree.Ident.{Ident}
 use Rattle.sot_tree.specs.Trees.{Form, one, fields, Declaration, a_topic, a_plant}
 use Rattle.sot_rules.specs.declared.names.index.Index.{Index}
 use Rattle.sot_rules.specs.declared.names.scope.Kept.{Kept}
+use Rattle.sot_rules.specs.declared.names.scope.Things.{Things}
 use Rattle.sot_rules.specs.declared.names.scope.Kept.TheVariants.{Alone, Several}
 use Rattle.sot_rules.specs.declared.names.gather.NameList.{NameList}
 use Rattle.sot_rules.specs.declared.names.gather.NameList.TheVariants.{Topics, Plants, Both}
 use Rattle.sot_rules.specs.Sorts.{scalar_sort}
 use Rattle.sot_rules.specs.Names.{Part, Parts, Thing, Scope, parts_reading, reading}
-use Rattle.sot_rules.specs.NameTables.{found}
+use Rattle.sot_rules.specs.NameTables.{found_in}
 use Rattle.sot_rules.specs.Scopes.{parts_of, kept_parts}
 
 -- each name gives the same in both lists, or is at fault at the same place
@@ -39,11 +38,11 @@ abbrev pub parts_found : List Thing → List ℕ → Option Parts
 parts_found xs name = option_map (λ x. x.parts) (find (λ x. bytes_eq name x.name) xs)
 
 -- the table stands for the list: each name stands for the same in both
-abbrev pub StandsFor : {S : Type 0} → List (List Part) → IndexMap (Bor (List ℕ)) Kept S → List Thing → Type 0
-StandsFor tables m xs = (name : List ℕ) → AreAlike (option_map (kept_parts tables) (found m name)) (parts_found xs name)
+abbrev pub StandsFor : List (List Part) → Things → List Thing → Type 0
+StandsFor tables m xs = (name : List ℕ) → AreAlike (option_map (kept_parts tables) (found_in m name)) (parts_found xs name)
 
 -- the table takes in these things, after those that it stands for
-abbrev pub Adds : {S T : Type 0} → List (List Part) → IndexMap (Bor (List ℕ)) Kept S → IndexMap (Bor (List ℕ)) Kept T → List Thing → Type 0
+abbrev pub Adds : List (List Part) → Things → Things → List Thing → Type 0
 Adds tables old new ys = (xs : List Thing) → StandsFor tables old xs → StandsFor tables new (xs ++ ys)
 
 -- what is kept of a name stands for the thing that it adds to a list, where it adds one

@@ -11,6 +11,7 @@ use Rattle.sot_rules.specs.declared.names.index.Index.{Index}
 use Rattle.sot_rules.specs.Names.{Part, field_part, state_part, declared_name}
 use Rattle.sot_rules.specs.Tests.{is_plant_of}
 use Rattle.sot_rules.specs.NameTables.{found}
+use Rattle.sot_rules.specs.Scopes.{parts_of}
 
 -- the program that is looked into
 abbrev pub program_in : Index → Program
@@ -44,7 +45,7 @@ pub record Indexes (ds : List Declaration) (x : Index) : Type 0 where
   -- a name is owned where some module names it as its plant
   pub owned : (i : Ident) → is_key x.owned.keys i ≡ list_any (is_plant_of i) ds
   -- the tables of parts stand in the order of the declarations, and give what their parts do
-  pub parts : (name : List ℕ) → map (λ t. found t name) x.parts.items ≡ map (λ d. sort_in (declared_parts d) name) ds
+  pub parts : (name : List ℕ) → map (λ t. sort_in (parts_of t) name) x.parts.items ≡ map (λ d. sort_in (declared_parts d) name) ds
 
 -- the tables hold all declarations of their program
 abbrev pub IsIndex : Index → Type 0

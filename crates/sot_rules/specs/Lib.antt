@@ -13,6 +13,7 @@ pub mod Faults
 pub mod Examples
 -- what the code keeps in tables
 pub mod NameTables
+pub mod NameSets
 pub mod NameHashes
 pub mod Indexes
 pub mod Scopes

@@ -1,9 +1,11 @@
 -- Tables by names, as what they give of each name.
-use Rattle.std.specs.Prelude.{ℕ, List, Option, Some, None, if◌then◌else◌}
+use Rattle.std.specs.Prelude.{ℕ, List, ◌++◌, Option, Some, None, if◌then◌else◌}
 use Rattle.std.specs.Map.{lookup}
 use Rattle.std.specs.Str.{bytes_eq}
 use denote.Ref.{Bor}
 use Rattle.indexmap.specs.IndexMap.{IndexMap}
+use Rattle.sot_rules.specs.declared.names.scope.Kept.{Kept}
+use Rattle.sot_rules.specs.declared.names.scope.Things.{Things}
 
 -- what a table gives of a name
 abbrev pub found : {V S : Type 0} → IndexMap (Bor (List ℕ)) V S → List ℕ → Option V
@@ -12,3 +14,11 @@ found m name = lookup (λ k. bytes_eq name k.now) m.entries
 -- what one entry gives of a name
 abbrev pub entry : {V : Type 0} → List ℕ → V → List ℕ → Option V
 entry key value name = if bytes_eq name key then Some value else None
+
+-- an owner's names with what they stand for: the first few, and then the others
+abbrev pub entries_in : Things → List (Bor (List ℕ) × Kept)
+entries_in t = t.few.items ++ t.many.entries
+
+-- what an owner's name stands for
+abbrev pub found_in : Things → List ℕ → Option Kept
+found_in t name = lookup (λ k. bytes_eq name k.now) (entries_in t)

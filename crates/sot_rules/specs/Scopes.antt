@@ -7,23 +7,34 @@ use Rattle.sot_tree.specs.declared.tree.Ident.{Ident}
 use Rattle.sot_tree.specs.declared.tree.StateDecl.{StateDecl}
 use Rattle.sot_rules.specs.declared.expressions.sort.Sort.{Sort}
 use Rattle.sot_rules.specs.declared.names.scope.Names.{Names}
+use Rattle.sot_rules.specs.declared.names.scope.Things.{Things}
+use Rattle.sot_rules.specs.declared.names.scope.PartTable.{PartTable}
+use Rattle.sot_rules.specs.declared.names.scope.PartTable.TheVariants.{Nothing, Fields, States, Table}
 use Rattle.sot_rules.specs.declared.names.scope.Scope.{Scope as CodeScope}
 use Rattle.sot_rules.specs.declared.names.scope.Kept.{Kept}
 use Rattle.sot_rules.specs.declared.names.scope.Kept.TheVariants.{Alone, Several}
 use Rattle.sot_rules.specs.Sorts.{state_sort}
-use Rattle.sot_rules.specs.Names.{Part, Parts, alone, several, Thing, Scope, Reading, gives, nothing_at, parts_reading}
+use Rattle.sot_rules.specs.NameTables.{entries_in}
+use Rattle.sot_rules.specs.Names.{Part, field_part, state_part, Parts, alone, several, Thing, Scope, Reading, gives, nothing_at, parts_reading}
+
+-- the parts that a table has
+abbrev pub parts_in : {S : Type 0} → IndexMap (Bor (List ℕ)) Sort S → List Part
+parts_in m = map (λ e. record { name = e.0.now; sort = e.1 }) m.entries
 
 -- the parts of one thing, by their names
-abbrev pub parts_of : {S : Type 0} → IndexMap (Bor (List ℕ)) Sort S → List Part
-parts_of m = map (λ e. record { name = e.0.now; sort = e.1 }) m.entries
+abbrev pub parts_of : PartTable → List Part
+parts_of Nothing = []
+parts_of (Fields fs) = map field_part fs.now
+parts_of (States ss) = map state_part ss.now
+parts_of (Table m) = parts_in m.value
 
 -- what a name stands for, where its parts are in one of the tables
 abbrev pub kept_parts : List (List Part) → Kept → Parts
 kept_parts tables (Alone s) = alone s
 kept_parts tables (Several k) = several (slice_index_or tables k [])
 
-abbrev pub things_of : {S T : Type 0} → List (IndexMap (Bor (List ℕ)) Sort S) → IndexMap (Bor (List ℕ)) Kept T → List Thing
-things_of tables m = map (λ e. record { name = e.0.now; parts = kept_parts (map parts_of tables) e.1 }) m.entries
+abbrev pub things_of : List PartTable → Things → List Thing
+things_of tables m = map (λ e. record { name = e.0.now; parts = kept_parts (map parts_of tables) e.1 }) (entries_in m)
 
 -- what a look-up answers: a sort, or the place of the fault
 abbrev pub answer : Result Sort Span → Reading

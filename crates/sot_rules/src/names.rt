@@ -8,4 +8,6 @@ pub mod named;
 pub mod owner;
 pub mod repeats;
 pub mod scope;
+pub mod set;
 pub mod table;
+pub mod things;

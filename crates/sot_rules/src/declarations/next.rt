@@ -14,7 +14,7 @@ use crate::declarations::behind::are_nexts_behind;
 use crate::expressions::expression::expression;
 use crate::fault::{TypeFault, TypeKind, is_behind, note};
 use crate::names::gather::add_states;
-use crate::names::hasher::hasher_of;
+use crate::names::hasher::hasher_beyond_few;
 use crate::names::index::Index;
 use crate::names::owner::{add_plant, no_names, plant_hasher};
 use crate::names::repeats::are_same;
@@ -124,7 +124,7 @@ pub fn note_nexts<'p>(
         return Ok(());
     }
     let mut used = no_names(alloc, index, plant_hasher(q));
-    let mut given = no_names(alloc, index, hasher_of(&q.states));
+    let mut given = no_names(alloc, index, hasher_beyond_few(&q.states));
     let noted = note_nexts_by(&mut used, &mut given, index, q, first);
     drop(used);
     drop(given);

@@ -3,6 +3,7 @@ ghost use Rattle.std.specs.Prelude.{◌≡◌, ◌++◌, ◌&&◌, [], map, flat
 ghost use Rattle.sot_tree.specs.TreeViews.{local_view, node_view};
 ghost use Rattle.sot_tree.specs.Trees.{Node};
 ghost use Rattle.sot_rules.specs.Faults.{least, together, read_faults, write_lists, local_lists, node_lists};
+ghost use Rattle.sot_rules.specs.NameSets.{keys_in};
 ghost use Rattle.sot_rules.specs.SeenNames.{HasNames};
 ghost use Rattle.sot_rules.specs.Indexes.{program_in, IsIndex};
 ghost use Rattle.sot_rules.specs.Groups.{reads_faults, writes_faults, some_writes_faults, locals_faults};
@@ -13,12 +14,13 @@ use crate::declarations::limit::{note_passes, note_past};
 use crate::declarations::range::{note_scalar, note_start, note_times};
 use crate::fault::{TypeFault, TypeKind, is_past, note, stands_behind};
 use crate::names::behind::{FRONT, are_names_behind};
-use crate::names::hasher::{NameHasher, NameKey, NameSet, hasher_of};
+use crate::names::hasher::{NameHasher, NameKey, hasher_beyond_few};
 use crate::names::index::Index;
 use crate::names::meaning::{is_environment, is_neither, is_topic};
 use crate::names::repeats::{add_names, has_name, note_repeated_names, note_repeats, note_seen};
+use crate::names::set::{NameSet, no_name};
+use crate::names::things::FEW;
 use crate::statements::body::note_body;
-use indexmap::IndexSet;
 use sot_tree::{Ident, LocalDecl, NodeDecl};
 use std::alloc::{AllocError, Global};
 
@@ -52,10 +54,10 @@ fn note_reads<'p>(
     first: &mut Option<TypeFault>,
 ) -> Result<(), AllocError>
     requires indexed { IsIndex index.now }
-    requires empty { used.old.keys ≡ [] }
+    requires empty { keys_in used.old ≡ [] }
     ensures noted { OnOk result (first.new
         ≡ least first.old (reads_faults (program_in index.now) names.now)) }
-    ensures used { OnOk result (HasNames used.new.keys names.now) }
+    ensures used { OnOk result (HasNames (keys_in used.new) names.now) }
 {
     note_read_names(index, names, first);
     note_seen(used, names, first)?;
@@ -65,6 +67,9 @@ fn note_reads<'p>(
 
 // The hasher of the topics and plants that a node uses. What it writes is put beside them only where it has locals.
 fn used_hasher(n: &NodeDecl) -> NameHasher {
+    if n.reads.len().saturating_add(n.writes.len()) <= FEW {
+        return NameHasher::of_none();
+    }
     let mut key = NameKey::new();
     key.take_all(&n.reads);
     if n.locals.len() > 0 {
@@ -77,7 +82,7 @@ fn used_hasher(n: &NodeDecl) -> NameHasher {
 #[tactic(auto, using(crate::proofs::Least::least_append))]
 fn note_write(index: &Index, reads: &NameSet, name: &Ident, first: &mut Option<TypeFault>)
     requires { IsIndex index.now }
-    ensures { (n : Node) → HasNames reads.now.keys n.reads → first.new
+    ensures { (n : Node) → HasNames (keys_in reads.now) n.reads → first.new
         ≡ least first.old (together (write_lists (program_in index.now) n name.now)) }
 {
     if stands_behind(*first, name.at) {
@@ -97,7 +102,7 @@ fn note_write(index: &Index, reads: &NameSet, name: &Ident, first: &mut Option<T
 
 fn note_write_names(index: &Index, reads: &NameSet, names: &[Ident], first: &mut Option<TypeFault>)
     requires { IsIndex index.now }
-    ensures { (n : Node) → HasNames reads.now.keys n.reads → first.new
+    ensures { (n : Node) → HasNames (keys_in reads.now) n.reads → first.new
         ≡ least first.old (flat_map
         (λ i. together (write_lists (program_in index.now) n i)) names.now) }
 {
@@ -115,7 +120,7 @@ fn note_some_writes(
     first: &mut Option<TypeFault>,
 ) -> Result<(), AllocError>
     requires { IsIndex index.now }
-    ensures { OnOk result ((n : Node) → HasNames reads.now.keys n.reads → first.new
+    ensures { OnOk result ((n : Node) → HasNames (keys_in reads.now) n.reads → first.new
         ≡ least first.old (some_writes_faults (program_in index.now) n names.now)) }
 {
     note_write_names(index, reads, names, first);
@@ -133,7 +138,7 @@ fn note_front_writes(
     first: &mut Option<TypeFault>,
 ) -> Result<bool, AllocError>
     requires { IsIndex index.now }
-    ensures all { IfOk result (λ all. all ≡ true → (n : Node) → HasNames reads.now.keys n.reads
+    ensures all { IfOk result (λ all. all ≡ true → (n : Node) → HasNames (keys_in reads.now) n.reads
         → first.new ≡ least first.old (some_writes_faults (program_in index.now) n names.now)) }
     ensures none { IfOk result (λ all. all ≡ false → first.new ≡ first.old) }
 {
@@ -162,7 +167,7 @@ fn note_writes(
     first: &mut Option<TypeFault>,
 ) -> Result<(), AllocError>
     requires indexed { IsIndex index.now }
-    requires reads { HasNames reads.now.keys (node_view n.now).reads }
+    requires reads { HasNames (keys_in reads.now) (node_view n.now).reads }
     ensures { OnOk result (first.new
         ≡ least first.old (writes_faults (program_in index.now) (node_view n.now))) }
 {
@@ -175,7 +180,7 @@ fn note_writes(
 // A local, where a set has the names of the topics and plants that its node uses.
 #[tactic(auto, using(crate::proofs::Least::least_append))]
 fn note_local(used: &NameSet, l: &LocalDecl, first: &mut Option<TypeFault>)
-    ensures { (n : Node) → HasNames used.now.keys (n.reads ++ n.writes) → first.new
+    ensures { (n : Node) → HasNames (keys_in used.now) (n.reads ++ n.writes) → first.new
         ≡ least first.old (together (local_lists n (local_view l.now))) }
 {
     note(first, has_name(used, &l.name), l.name.at, TypeKind::Twice);
@@ -184,7 +189,7 @@ fn note_local(used: &NameSet, l: &LocalDecl, first: &mut Option<TypeFault>)
 }
 
 fn note_each_local(used: &NameSet, locals: &[LocalDecl], first: &mut Option<TypeFault>)
-    ensures { (n : Node) → HasNames used.now.keys (n.reads ++ n.writes) → first.new
+    ensures { (n : Node) → HasNames (keys_in used.now) (n.reads ++ n.writes) → first.new
         ≡ least first.old (flat_map (λ l. together (local_lists n l)) (map local_view locals.now)) }
 {
     for l in locals {
@@ -200,7 +205,7 @@ fn note_locals<'p>(
     used: &mut NameSet<'p>,
     first: &mut Option<TypeFault>,
 ) -> Result<(), AllocError>
-    requires { HasNames used.old.keys (node_view n.now).reads }
+    requires { HasNames (keys_in used.old) (node_view n.now).reads }
     ensures { OnOk result (first.new ≡ least first.old (locals_faults (node_view n.now))) }
 {
     if n.locals.len() == 0 {
@@ -222,7 +227,7 @@ fn note_uses_beside<'p>(
     first: &mut Option<TypeFault>,
 ) -> Result<(), AllocError>
     requires indexed { IsIndex index.now }
-    requires empty { used.old.keys ≡ [] }
+    requires empty { keys_in used.old ≡ [] }
     ensures { OnOk result (first.new
         ≡ least first.old (reads_faults (program_in index.now) (node_view n.now).reads
         ++ (writes_faults (program_in index.now) (node_view n.now)
@@ -245,7 +250,7 @@ fn note_some_reads(
     ensures { OnOk result (first.new
         ≡ least first.old (reads_faults (program_in index.now) names.now)) }
 {
-    let mut used = IndexSet::with_hasher(alloc, hasher_of(names));
+    let mut used = no_name(alloc, hasher_beyond_few(names));
     let noted = note_reads(index, &mut used, names, first);
     drop(used);
     noted
@@ -307,7 +312,7 @@ fn note_uses(
     if note_front(alloc, index, n, first)? {
         return Ok(());
     }
-    let mut used = IndexSet::with_hasher(alloc, used_hasher(n));
+    let mut used = no_name(alloc, used_hasher(n));
     let noted = note_uses_beside(alloc, index, &mut used, n, first);
     drop(used);
     noted

@@ -4,6 +4,7 @@ ghost use Rattle.sot_tree.specs.Trees.{Plant};
 ghost use Rattle.sot_tree.specs.TreeViews.{plant_view};
 ghost use Rattle.sot_rules.specs.Tests.{state_names};
 ghost use Rattle.sot_rules.specs.Faults.{least, together, scale_faults, input_faults, seen_lists, noise_lists, plant_lists};
+ghost use Rattle.sot_rules.specs.NameSets.{keys_in};
 ghost use Rattle.sot_rules.specs.SeenNames.{HasNames};
 ghost use Rattle.sot_rules.specs.Indexes.{program_in, IsIndex};
 ghost use Rattle.sot_rules.specs.Groups.{states_faults, inputs_faults, some_inputs_faults, sees_faults, disturbances_faults};
@@ -15,11 +16,12 @@ use crate::declarations::range::{note_scalar, scalar_sort};
 use crate::expressions::sort::{is_no_scale, is_truthful};
 use crate::fault::{TypeFault, TypeKind, note, stands_behind};
 use crate::names::behind::{FRONT, are_names_behind};
-use crate::names::hasher::{NameHasher, NameKey, NameSet, hasher_of};
+use crate::names::hasher::{NameHasher, NameKey, hasher_beyond_few};
 use crate::names::index::Index;
 use crate::names::meaning::{is_neither, is_plant, is_topic};
 use crate::names::repeats::{add_names, are_same, has_name, note_repeated_names, note_repeats};
-use indexmap::IndexSet;
+use crate::names::set::{NameSet, no_name};
+use crate::names::things::FEW;
 use sot_tree::{Field, Ident, Lit, PlantDecl, StateDecl};
 use std::alloc::{AllocError, Global};
 
@@ -58,7 +60,7 @@ fn note_states(
 #[tactic(auto, using(crate::proofs::Least::least_append))]
 fn note_input(index: &Index, states: &NameSet, name: &Ident, first: &mut Option<TypeFault>)
     requires { IsIndex index.now }
-    ensures { (q : Plant) → HasNames states.now.keys (state_names q) → first.new
+    ensures { (q : Plant) → HasNames (keys_in states.now) (state_names q) → first.new
         ≡ least first.old (input_faults (program_in index.now) q name.now) }
 {
     if stands_behind(*first, name.at) {
@@ -72,7 +74,7 @@ fn note_input(index: &Index, states: &NameSet, name: &Ident, first: &mut Option<
 
 fn note_input_names(index: &Index, states: &NameSet, names: &[Ident], first: &mut Option<TypeFault>)
     requires { IsIndex index.now }
-    ensures { (q : Plant) → HasNames states.now.keys (state_names q) → first.new
+    ensures { (q : Plant) → HasNames (keys_in states.now) (state_names q) → first.new
         ≡ least first.old (flat_map (input_faults (program_in index.now) q) names.now) }
 {
     for name in names {
@@ -89,7 +91,7 @@ fn note_some_inputs(
     first: &mut Option<TypeFault>,
 ) -> Result<(), AllocError>
     requires { IsIndex index.now }
-    ensures { OnOk result ((q : Plant) → HasNames states.now.keys (state_names q) → first.new
+    ensures { OnOk result ((q : Plant) → HasNames (keys_in states.now) (state_names q) → first.new
         ≡ least first.old (some_inputs_faults (program_in index.now) q names.now)) }
 {
     note_input_names(index, states, names, first);
@@ -108,7 +110,7 @@ fn note_front_inputs(
 ) -> Result<bool, AllocError>
     requires { IsIndex index.now }
     ensures all { IfOk result (λ all. all ≡ true → (q : Plant)
-        → HasNames states.now.keys (state_names q)
+        → HasNames (keys_in states.now) (state_names q)
         → first.new ≡ least first.old (some_inputs_faults (program_in index.now) q names.now)) }
     ensures none { IfOk result (λ all. all ≡ false → first.new ≡ first.old) }
 {
@@ -137,7 +139,7 @@ fn note_inputs(
     first: &mut Option<TypeFault>,
 ) -> Result<(), AllocError>
     requires indexed { IsIndex index.now }
-    requires states { HasNames states.now.keys (state_names (plant_view q.now)) }
+    requires states { HasNames (keys_in states.now) (state_names (plant_view q.now)) }
     ensures { OnOk result (first.new
         ≡ least first.old (inputs_faults (program_in index.now) (plant_view q.now))) }
 {
@@ -158,7 +160,7 @@ fn note_seen(
     first: &mut Option<TypeFault>,
 )
     requires indexed { IsIndex index.now }
-    requires states { HasNames states.now.keys (state_names (plant_view q.now)) }
+    requires states { HasNames (keys_in states.now) (state_names (plant_view q.now)) }
     ensures { first.new ≡ least first.old
         (together (seen_lists (program_in index.now) (plant_view q.now) name.now)) }
 {
@@ -192,7 +194,7 @@ fn note_seen_names(
     first: &mut Option<TypeFault>,
 )
     requires indexed { IsIndex index.now }
-    requires states { HasNames states.now.keys (state_names (plant_view q.now)) }
+    requires states { HasNames (keys_in states.now) (state_names (plant_view q.now)) }
     ensures { first.new ≡ least first.old
         (flat_map (λ i. together
         (seen_lists (program_in index.now) (plant_view q.now) i)) names.now) }
@@ -211,7 +213,7 @@ fn note_sees(
     first: &mut Option<TypeFault>,
 ) -> Result<(), AllocError>
     requires indexed { IsIndex index.now }
-    requires states { HasNames states.now.keys (state_names (plant_view q.now)) }
+    requires states { HasNames (keys_in states.now) (state_names (plant_view q.now)) }
     ensures { OnOk result (first.new
         ≡ least first.old (sees_faults (program_in index.now) (plant_view q.now))) }
 {
@@ -230,7 +232,7 @@ fn note_taken_beside<'p>(
     first: &mut Option<TypeFault>,
 ) -> Result<(), AllocError>
     requires indexed { IsIndex index.now }
-    requires empty { HasNames states.old.keys [] }
+    requires empty { HasNames (keys_in states.old) [] }
     ensures { OnOk result (first.new
         ≡ least first.old (inputs_faults (program_in index.now) (plant_view q.now)
         ++ sees_faults (program_in index.now) (plant_view q.now))) }
@@ -253,7 +255,7 @@ fn note_taken(
         ≡ least first.old (inputs_faults (program_in index.now) (plant_view q.now)
         ++ sees_faults (program_in index.now) (plant_view q.now))) }
 {
-    let mut states = IndexSet::with_hasher(alloc, hasher_of(&q.states));
+    let mut states = no_name(alloc, hasher_beyond_few(&q.states));
     let noted = note_taken_beside(alloc, index, &mut states, q, first);
     drop(states);
     noted
@@ -262,7 +264,7 @@ fn note_taken(
 // A disturbance, where a set has the names that its plant uses.
 #[tactic(auto, using(crate::proofs::Least::least_append))]
 fn note_disturbance(used: &NameSet, f: &Field, first: &mut Option<TypeFault>)
-    ensures { (q : Plant) → HasNames used.now.keys (state_names q ++ q.inputs ++ q.sees)
+    ensures { (q : Plant) → HasNames (keys_in used.now) (state_names q ++ q.inputs ++ q.sees)
         → first.new ≡ least first.old (together (noise_lists q f.now)) }
 {
     note(first, has_name(used, &f.name), f.name.at, TypeKind::Twice);
@@ -272,7 +274,7 @@ fn note_disturbance(used: &NameSet, f: &Field, first: &mut Option<TypeFault>)
 }
 
 fn note_disturbances(used: &NameSet, noise: &[Field], first: &mut Option<TypeFault>)
-    ensures { (q : Plant) → HasNames used.now.keys (state_names q ++ q.inputs ++ q.sees)
+    ensures { (q : Plant) → HasNames (keys_in used.now) (state_names q ++ q.inputs ++ q.sees)
         → first.new ≡ least first.old (flat_map (λ f. together (noise_lists q f)) noise.now) }
 {
     for f in noise {
@@ -282,6 +284,10 @@ fn note_disturbances(used: &NameSet, noise: &[Field], first: &mut Option<TypeFau
 
 // The hasher of what a plant uses beside its disturbances.
 fn used_hasher(q: &PlantDecl) -> NameHasher {
+    let taken = q.states.len().saturating_add(q.inputs.len());
+    if taken.saturating_add(q.sees.len()) <= FEW {
+        return NameHasher::of_none();
+    }
     let mut key = NameKey::new();
     key.take_all(&q.states);
     key.take_all(&q.inputs);
@@ -296,7 +302,7 @@ fn note_noise_beside<'p>(
     q: &'p PlantDecl,
     first: &mut Option<TypeFault>,
 ) -> Result<(), AllocError>
-    requires { HasNames used.old.keys [] }
+    requires { HasNames (keys_in used.old) [] }
     ensures { OnOk result (first.new ≡ least first.old (disturbances_faults (plant_view q.now))) }
 {
     add_names(used, &q.states)?;
@@ -328,7 +334,7 @@ fn note_noise(alloc: Global, q: &PlantDecl, first: &mut Option<TypeFault>) -> Re
     if is_noise_past(q, *first) {
         return Ok(());
     }
-    let mut used = IndexSet::with_hasher(alloc, used_hasher(q));
+    let mut used = no_name(alloc, used_hasher(q));
     let noted = note_noise_beside(alloc, &mut used, q, first);
     drop(used);
     noted

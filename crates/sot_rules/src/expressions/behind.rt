@@ -40,14 +40,9 @@ pub fn is_tree_behind(e: &Expr, from: u32) -> bool
             let is_field = is_field_behind(field, from);
             is_behind(first.at, from) && is_field
         }
-        Expr::Binary {
-            left,
-            right,
-            at,
-            ..
-        } => {
-            let a = is_tree_behind(left, from);
-            let b = is_tree_behind(right, from);
+        Expr::Binary { operands, at, .. } => {
+            let a = is_tree_behind(&operands.left, from);
+            let b = is_tree_behind(&operands.right, from);
             is_behind(*at, from) && (a && b)
         }
         Expr::Rest { left, by, at } => {

@@ -162,14 +162,9 @@ pub fn expression(e: &Expr, names: &Names, first: &mut Option<TypeFault>) -> Sor
         Expr::Number(l) => Sort::Scaled(l.scale as u64),
         Expr::Truth { .. } => Sort::Truthful,
         Expr::Ref { first: name, field } => note_reading(reading(names, name, field), first),
-        Expr::Binary {
-            op,
-            left,
-            right,
-            at,
-        } => {
-            let a = expression(left, names, first);
-            let b = expression(right, names, first);
+        Expr::Binary { op, operands, at } => {
+            let a = expression(&operands.left, names, first);
+            let b = expression(&operands.right, names, first);
             apply(*op, a, b, *at, first)
         }
         Expr::Rest { left, by, at } => {

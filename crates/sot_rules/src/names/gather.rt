@@ -8,10 +8,9 @@ ghost use Rattle.sot_rules.specs.Alike.{Adds, StandsForThing, form_kept, kept_of
 ghost use Rattle.sot_rules.specs.NameLists.{thing_of_list, things_of_list};
 
 use crate::declarations::range::scalar_sort;
-use crate::names::hasher::NameMap;
 use crate::names::index::{Index, state_sort};
-use crate::names::scope::Kept;
-use crate::names::table::add;
+use crate::names::scope::{Kept, Things};
+use crate::names::things::add;
 use sot_tree::{Decl, Field, Ident, LocalDecl, Shape, StateDecl};
 use std::alloc::AllocError;
 
@@ -22,9 +21,6 @@ pub enum NameList {
     Plants,
     Both,
 }
-
-/// Names with what they stand for.
-pub type Things<'p> = NameMap<'p, Kept>;
 
 fn form_kept(shape: &Shape, k: usize) -> Kept
     ensures { result ≡ form_kept k (shape_view shape.now) }

@@ -7,13 +7,15 @@ ghost use Rattle.sot_rules.specs.Sorts.{state_sort};
 ghost use Rattle.sot_rules.specs.Faults.{repeats};
 ghost use Rattle.sot_rules.specs.Tests.{has_module, is_plant_of};
 ghost use Rattle.sot_rules.specs.NameTables.{found};
+ghost use Rattle.sot_rules.specs.Scopes.{parts_of};
 ghost use Rattle.sot_rules.specs.Indexes.{program_in, is_named, is_key, declared_parts, sort_in, Indexes, IsIndex};
 
 use crate::declarations::range::scalar_sort;
 use crate::expressions::sort::{Sort, scale_sort};
-use crate::names::hasher::{NameHasher, NameKey, NameMap, NameSet, hasher_of};
+use crate::names::hasher::{NameHasher, NameKey, NameKeys, NameMap, hasher_of};
 use crate::names::scope::PartTable;
 use crate::names::table::add;
+use crate::names::things::FEW;
 use indexmap::{IndexMap, IndexSet};
 use sot_tree::{Decl, Field, Ident, Program, Shape, StateDecl};
 use std::alloc::{AllocError, Global};
@@ -25,8 +27,8 @@ pub struct Index<'p> {
     /// The place of the first declaration of each name.
     pub places: NameMap<'p, usize>,
     /// The plants that modules name as their own.
-    pub owned: NameSet<'p>,
-    /// For each declaration the fields of its record or its state variables, and an empty table for any other one.
+    pub owned: NameKeys<'p>,
+    /// For each declaration the fields of its record or its state variables, and nothing for any other one.
     pub parts: Vec<PartTable<'p>>,
 }
 
@@ -53,7 +55,7 @@ pub fn declared_name(d: &Decl) -> &Ident
 }
 
 // Adds the fields of a record to an empty table.
-fn add_fields<'p>(table: &mut PartTable<'p>, fields: &'p [Field]) -> Result<(), AllocError>
+fn add_fields<'p>(table: &mut NameMap<'p, Sort>, fields: &'p [Field]) -> Result<(), AllocError>
     requires { (name : List ℕ) → found table.old name ≡ None }
     ensures { OnOk result ((name : List ℕ) → found table.new name
         ≡ sort_in (map field_part fields.now) name) }
@@ -64,8 +66,8 @@ fn add_fields<'p>(table: &mut PartTable<'p>, fields: &'p [Field]) -> Result<(), 
     Ok(())
 }
 
-// The fields of a record, by their names.
-fn field_table<'p>(alloc: Global, fields: &'p [Field]) -> Result<PartTable<'p>, AllocError>
+// Many fields of a record, by their names.
+fn many_fields<'p>(alloc: Global, fields: &'p [Field]) -> Result<NameMap<'p, Sort>, AllocError>
     ensures { IfOk result (λ t. (name : List ℕ) → found t name
         ≡ sort_in (map field_part fields.now) name) }
 {
@@ -79,8 +81,21 @@ fn field_table<'p>(alloc: Global, fields: &'p [Field]) -> Result<PartTable<'p>, 
     }
 }
 
+// The fields of a record.
+fn field_table<'p>(alloc: Global, fields: &'p [Field]) -> Result<PartTable<'p>, AllocError>
+    ensures { IfOk result (λ t. (name : List ℕ) → sort_in (parts_of t) name
+        ≡ sort_in (map field_part fields.now) name) }
+{
+    if fields.len() <= FEW {
+        return Ok(PartTable::Fields(fields));
+    }
+    let table = many_fields(alloc, fields)?;
+    let kept = Box::new(alloc, table)?;
+    Ok(PartTable::Table(kept))
+}
+
 // Adds the state variables of a plant to an empty table.
-fn add_parts<'p>(table: &mut PartTable<'p>, states: &'p [StateDecl]) -> Result<(), AllocError>
+fn add_parts<'p>(table: &mut NameMap<'p, Sort>, states: &'p [StateDecl]) -> Result<(), AllocError>
     requires { (name : List ℕ) → found table.old name ≡ None }
     ensures { OnOk result ((name : List ℕ) → found table.new name
         ≡ sort_in (map state_part states.now) name) }
@@ -91,8 +106,8 @@ fn add_parts<'p>(table: &mut PartTable<'p>, states: &'p [StateDecl]) -> Result<(
     Ok(())
 }
 
-// The state variables of a plant, by their names.
-fn state_table<'p>(alloc: Global, states: &'p [StateDecl]) -> Result<PartTable<'p>, AllocError>
+// Many state variables of a plant, by their names.
+fn many_states<'p>(alloc: Global, states: &'p [StateDecl]) -> Result<NameMap<'p, Sort>, AllocError>
     ensures { IfOk result (λ t. (name : List ℕ) → found t name
         ≡ sort_in (map state_part states.now) name) }
 {
@@ -106,30 +121,36 @@ fn state_table<'p>(alloc: Global, states: &'p [StateDecl]) -> Result<PartTable<'
     }
 }
 
-// The table of a declaration that has no parts.
-fn no_parts<'p>(alloc: Global) -> PartTable<'p>
-    ensures { (name : List ℕ) → found result name ≡ None }
+// The state variables of a plant.
+fn state_table<'p>(alloc: Global, states: &'p [StateDecl]) -> Result<PartTable<'p>, AllocError>
+    ensures { IfOk result (λ t. (name : List ℕ) → sort_in (parts_of t) name
+        ≡ sort_in (map state_part states.now) name) }
 {
-    IndexMap::with_hasher(alloc, NameKey::new().hasher())
+    if states.len() <= FEW {
+        return Ok(PartTable::States(states));
+    }
+    let table = many_states(alloc, states)?;
+    let kept = Box::new(alloc, table)?;
+    Ok(PartTable::Table(kept))
 }
 
-// The parts of a declaration that has several, by their names.
+// The parts of a declaration that has several.
 fn part_table<'p>(alloc: Global, d: &'p Decl) -> Result<PartTable<'p>, AllocError>
-    ensures { IfOk result (λ t. (name : List ℕ) → found t name
+    ensures { IfOk result (λ t. (name : List ℕ) → sort_in (parts_of t) name
         ≡ sort_in (declared_parts (declaration_view d.now)) name) }
 {
     match d {
         Decl::Topic(t) => match &t.shape {
-            Shape::One(_) => Ok(no_parts(alloc)),
+            Shape::One(_) => Ok(PartTable::Nothing),
             Shape::Fields(fields) => field_table(alloc, fields),
         },
         Decl::Plant(q) => state_table(alloc, &q.content().states),
-        _ => Ok(no_parts(alloc)),
+        _ => Ok(PartTable::Nothing),
     }
 }
 
 // The plant that a module names as its own.
-fn note_owned<'p>(owned: &mut NameSet<'p>, d: &'p Decl) -> Result<(), AllocError>
+fn note_owned<'p>(owned: &mut NameKeys<'p>, d: &'p Decl) -> Result<(), AllocError>
     ensures { OnOk result ((i : Ident) → is_key owned.new.keys i
         ≡ (is_key owned.old.keys i || is_plant_of i (declaration_view d.now))) }
 {

@@ -6,16 +6,19 @@ ghost use Rattle.sot_rules.specs.Scopes.{parts_of, scope_in};
 ghost use Rattle.sot_rules.specs.Indexes.{program_in, IsIndex};
 ghost use Rattle.sot_rules.specs.Alike.{Adds, ScopesAlike, StandsFor, tables_in};
 
-use crate::names::gather::{NameList, Things, add_locals, add_named, add_noise, add_states};
-use crate::names::hasher::{NameHasher, NameKey, hasher_of};
+use crate::names::gather::{NameList, add_locals, add_named, add_noise, add_states};
+use crate::names::hasher::{NameHasher, NameKey, hasher_beyond_few};
 use crate::names::index::Index;
-use crate::names::scope::{Names, Scope};
-use indexmap::IndexMap;
+use crate::names::scope::{Names, Scope, Things};
+use crate::names::things::{FEW, no_things};
 use sot_tree::{NodeDecl, PlantDecl};
 use std::alloc::{AllocError, Global};
 
 // The hasher of what a node's expressions name.
 fn read_hasher(n: &NodeDecl) -> NameHasher {
+    if n.reads.len().saturating_add(n.locals.len()) <= FEW {
+        return NameHasher::of_none();
+    }
     let mut key = NameKey::new();
     key.take_all(&n.reads);
     key.take_all(&n.locals);
@@ -29,7 +32,7 @@ pub fn no_names<'t, 'p>(alloc: Global, index: &'t Index<'p>, hasher: NameHasher)
 {
     Names {
         tables: &index.parts,
-        things: IndexMap::with_hasher(alloc, hasher),
+        things: no_things(alloc, hasher),
     }
 }
 
@@ -67,8 +70,8 @@ pub fn node_scope<'t, 'p>(
         (node_scope (program_in index.now) (node_view n.now))) }
 {
     let mut read = no_names(alloc, index, read_hasher(n));
-    let mut local = no_names(alloc, index, hasher_of(&n.locals));
-    let mut written = no_names(alloc, index, hasher_of(&n.writes));
+    let mut local = no_names(alloc, index, hasher_beyond_few(&n.locals));
+    let mut written = no_names(alloc, index, hasher_beyond_few(&n.writes));
     let added = add_scope(
         &mut read.things,
         &mut local.things,
@@ -92,6 +95,11 @@ pub fn node_scope<'t, 'p>(
 
 /// The hasher of what a plant's expressions name.
 pub fn plant_hasher(q: &PlantDecl) -> NameHasher {
+    let taken = q.states.len().saturating_add(q.inputs.len());
+    let others = q.sees.len().saturating_add(q.noise.len());
+    if taken.saturating_add(others) <= FEW {
+        return NameHasher::of_none();
+    }
     let mut key = NameKey::new();
     key.take_all(&q.states);
     key.take_all(&q.inputs);

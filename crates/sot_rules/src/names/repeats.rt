@@ -6,13 +6,14 @@ ghost use Rattle.sot_tree.specs.declared.tree.Ident.{Ident};
 ghost use Rattle.sot_rules.specs.declared.fault.TypeKind.TheVariants.{Twice};
 ghost use Rattle.sot_rules.specs.Lists.{are_same};
 ghost use Rattle.sot_rules.specs.Faults.{least, when, repeats};
+ghost use Rattle.sot_rules.specs.NameSets.{keys_in};
 ghost use Rattle.sot_rules.specs.SeenNames.{seen_names, with_name, HasNames};
 
 use crate::fault::{TypeFault, TypeKind, note};
 use crate::names::behind::{FRONT, are_names_behind};
-use crate::names::hasher::{NameSet, hasher_of};
+use crate::names::hasher::hasher_beyond_few;
 use crate::names::named::Named;
-use indexmap::IndexSet;
+use crate::names::set::{NameSet, contains, insert, no_name};
 use sot_tree::Ident;
 use std::alloc::{AllocError, Global};
 
@@ -24,11 +25,12 @@ pub fn note_repeat<'p>(
 ) -> Result<(), AllocError>
     ensures noted { OnOk result
         (first.new ≡ least first.old
-        (when (list_any (bytes_eq name.now.name) (seen_names seen.old.keys)) name.now.at Twice)) }
+        (when (list_any (bytes_eq name.now.name) (seen_names (keys_in seen.old)))
+        name.now.at Twice)) }
     ensures seen { OnOk result
-        (seen_names seen.new.keys ≡ with_name (seen_names seen.old.keys) name.now) }
+        (seen_names (keys_in seen.new) ≡ with_name (seen_names (keys_in seen.old)) name.now) }
 {
-    let (_, added) = seen.insert_full(name.name.as_bytes())?;
+    let added = insert(seen, name.name.as_bytes())?;
     note(first, !added, name.at, TypeKind::Twice);
     Ok(())
 }
@@ -40,9 +42,9 @@ pub fn note_seen<'p, T: Named>(
     first: &mut Option<TypeFault>,
 ) -> Result<(), AllocError>
     ensures noted { OnOk result (first.new
-        ≡ least first.old (repeats (seen_names seen.old.keys) (map T.ident items.now))) }
-    ensures seen { OnOk result (seen_names seen.new.keys
-        ≡ fold with_name (seen_names seen.old.keys) (map T.ident items.now)) }
+        ≡ least first.old (repeats (seen_names (keys_in seen.old)) (map T.ident items.now))) }
+    ensures seen { OnOk result (seen_names (keys_in seen.new)
+        ≡ fold with_name (seen_names (keys_in seen.old)) (map T.ident items.now)) }
 {
     for item in items {
         note_repeat(seen, item.ident(), first)?;
@@ -58,7 +60,7 @@ fn note_all_repeats<T: Named>(
 ) -> Result<(), AllocError>
     ensures { OnOk result (first.new ≡ least first.old (repeats [] (map T.ident items.now))) }
 {
-    let mut seen = IndexSet::with_hasher(alloc, hasher_of(items));
+    let mut seen = no_name(alloc, hasher_beyond_few(items));
     let noted = note_seen(&mut seen, items, first);
     drop(seen);
     noted
@@ -120,20 +122,20 @@ pub fn note_repeated_names(
 
 /// Adds the names of a list to those of a set.
 pub fn add_names<'p, T: Named>(set: &mut NameSet<'p>, items: &'p [T]) -> Result<(), AllocError>
-    ensures { OnOk result ((names : List Ident) → HasNames set.old.keys names
-        → HasNames set.new.keys (names ++ map T.ident items.now)) }
+    ensures { OnOk result ((names : List Ident) → HasNames (keys_in set.old) names
+        → HasNames (keys_in set.new) (names ++ map T.ident items.now)) }
 {
     for item in items {
-        set.insert_full(item.ident().name.as_bytes())?;
+        insert(set, item.ident().name.as_bytes())?;
     }
     Ok(())
 }
 
 /// Whether a name is in a set.
 pub fn has_name(set: &NameSet, name: &Ident) -> bool
-    ensures { result ≡ list_any (bytes_eq name.now.name) (seen_names set.now.keys) }
+    ensures { result ≡ list_any (bytes_eq name.now.name) (seen_names (keys_in set.now)) }
 {
-    set.contains(name.name.as_bytes())
+    contains(set, name.name.as_bytes())
 }
 
 /// Whether two names are the same word.

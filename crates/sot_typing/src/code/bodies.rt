@@ -90,7 +90,11 @@ fn coded_body<'p>(
 }
 
 /// The body of a node without faults, where it has one.
-pub fn node_body(alloc: Global, index: &Index, n: &NodeDecl) -> Result<Option<Vec<Act>>, AllocError>
+pub fn node_body<'p>(
+    alloc: Global,
+    index: &Index<'p>,
+    n: &'p NodeDecl,
+) -> Result<Option<Vec<Act>>, AllocError>
     requires index { IsIndex index.now }
     requires few { IsSmall (node_scope (program_in index.now) (node_view n.now)) }
     requires faultless { together (node_lists (program_in index.now) (node_view n.now)) ≡ [] }

@@ -233,14 +233,9 @@ pub fn term(alloc: Global, things: &[Thing], e: &Expr) -> Result<Sorted, AllocEr
         Expr::Number(l) => Ok(literal(*l)),
         Expr::Truth { value, .. } => Ok(truth(*value)),
         Expr::Ref { first, field } => Ok(placed(things, first, field)),
-        Expr::Binary {
-            op,
-            left,
-            right,
-            at,
-        } => {
-            let a = term(alloc, things, left)?;
-            let b = term(alloc, things, right)?;
+        Expr::Binary { op, operands, at } => {
+            let a = term(alloc, things, &operands.left)?;
+            let b = term(alloc, things, &operands.right)?;
             joined(alloc, *op, a, b, *at)
         }
         Expr::Rest { left, by, at } => {

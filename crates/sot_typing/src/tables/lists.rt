@@ -75,11 +75,11 @@ fn put_topic_scalars(
     }
 }
 
-fn put_plant(
+fn put_plant<'p>(
     alloc: Global,
-    index: &Index,
+    index: &Index<'p>,
     numbers: &[Number],
-    d: &Decl,
+    d: &'p Decl,
     plants: &mut Vec<PlantInfo>,
 ) -> Result<(), AllocError>
     requires numbers { AreNumbers index.now numbers.now }
@@ -98,11 +98,11 @@ fn put_plant(
     }
 }
 
-fn put_node(
+fn put_node<'p>(
     alloc: Global,
-    index: &Index,
+    index: &Index<'p>,
     numbers: &[Number],
-    d: &Decl,
+    d: &'p Decl,
     nodes: &mut Vec<NodeInfo>,
 ) -> Result<(), AllocError>
     requires numbers { AreNumbers index.now numbers.now }
@@ -144,11 +144,11 @@ fn put_module(
 }
 
 // Puts the tables of one declaration behind those of its sort.
-fn put_declaration(
+fn put_declaration<'p>(
     alloc: Global,
-    index: &Index,
+    index: &Index<'p>,
     numbers: &[Number],
-    d: &Decl,
+    d: &'p Decl,
     lists: &mut Lists,
 ) -> Result<(), AllocError>
     requires numbers { AreNumbers index.now numbers.now }

@@ -20,11 +20,11 @@ use sot_tree::{Decl, Ident, Lit, ModuleDecl, NodeDecl, PlantDecl};
 use std::alloc::{AllocError, Global};
 
 // Puts the parts of a plant into the empty lists of its table.
-fn put_plant_lists(
+fn put_plant_lists<'p>(
     alloc: Global,
-    index: &Index,
+    index: &Index<'p>,
     numbers: &[Number],
-    q: &PlantDecl,
+    q: &'p PlantDecl,
     info: &mut PlantInfo,
 ) -> Result<(), AllocError>
     requires numbers { AreNumbers index.now numbers.now }
@@ -42,11 +42,11 @@ fn put_plant_lists(
 }
 
 /// The table of a plant.
-pub fn plant_info(
+pub fn plant_info<'p>(
     alloc: Global,
-    index: &Index,
+    index: &Index<'p>,
     numbers: &[Number],
-    q: &PlantDecl,
+    q: &'p PlantDecl,
 ) -> Result<PlantInfo, AllocError>
     requires numbers { AreNumbers index.now numbers.now }
     requires fits { PlantFits (program_in index.now) (plant_view q.now) }
@@ -94,11 +94,11 @@ fn put_node_lists(
 }
 
 /// The table of a node.
-pub fn node_info(
+pub fn node_info<'p>(
     alloc: Global,
-    index: &Index,
+    index: &Index<'p>,
     numbers: &[Number],
-    n: &NodeDecl,
+    n: &'p NodeDecl,
 ) -> Result<NodeInfo, AllocError>
     requires numbers { AreNumbers index.now numbers.now }
     requires fits { NodeFits (program_in index.now) (node_view n.now) }

@@ -29,4 +29,4 @@ held_inside-requires-clause-follow c = record {
 pub returns : goal.returns
 returns c =
     answers c.args.p.now c.requires.rules c.requires.may c.args.«module» c.args.info.now c.requires.is c.plant_at-plant.result.now c.plant_at-plant.ensures.is c.node_at-sc.result.now c.node_at-sc.ensures.is c.args.cell.now c.requires.ordered c.requires.covered c.cell_draft.result c.cell_draft.ensures
-    c.args.jitter c.unwrap-draft.result c.unwrap-draft.ensures c.deref.result.now c.deref-2.result.now c.as_slice.result.now c.deref.ensures.value c.deref-2.ensures.value (c.as_slice.ensures.value ∙ c.put_commands.ensures) c.held_inside.result c.held_inside.ensures
+    c.args.jitter c.unwrap-draft.result c.unwrap-draft.ensures c.deref.result.now c.deref-2.result.now c.put_commands.new.sides c.deref.ensures.value c.deref-2.ensures.value c.put_commands.ensures c.held_inside.result c.held_inside.ensures

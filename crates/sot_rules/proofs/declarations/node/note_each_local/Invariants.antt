@@ -6,9 +6,10 @@ use Rattle.sot_tree.specs.TreeViews.{local_view}
 use Rattle.sot_rules.specs.Faults.{least, together, local_lists}
 use Rattle.sot_rules.specs.SeenNames.{HasNames}
 use Rattle.sot_rules.proofs.declarations.node.note_each_local.Given as goal
+use Rattle.sot_rules.specs.NameSets.{keys_in}
 
 abbrev pub invariant-loop-l : goal.invariant-loop-l
 invariant-loop-l l =
-    (n : Node) → HasNames l.used.keys (n.reads ++ n.writes) →
+    (n : Node) → HasNames (keys_in l.used) (n.reads ++ n.writes) →
     least l.first (flat_map (λ x. together (local_lists n x)) (map local_view (drop l.l-index l.locals)))
     ≡ least l.fn.first (flat_map (λ x. together (local_lists n x)) (map local_view l.locals))

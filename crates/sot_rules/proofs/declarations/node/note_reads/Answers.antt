@@ -8,6 +8,7 @@ use Rattle.sot_rules.specs.Tests.{read_size}
 use Rattle.sot_rules.specs.Faults.{least, repeats, passes, read_faults}
 use Rattle.sot_rules.specs.Indexes.{program_in}
 use Rattle.sot_rules.specs.SeenNames.{seen_names}
+use Rattle.sot_rules.specs.NameSets.{keys_in}
 use Rattle.sot_rules.proofs.NameSets.{none_held, more_held, one_held}
 use Rattle.sot_rules.proofs.Sequences.{three_noted}
 use Rattle.sot_rules.proofs.declarations.node.note_reads.Goals as goal
@@ -26,6 +27,6 @@ returns-clause-noted c =
 pub returns-clause-used : goal.returns-clause-used
 returns-clause-used c =
     let names = c.args.names.now in
-    one_held c.note_seen.new.seen.keys names names
-    (more_held c.args.used.now.keys c.note_seen.new.seen.keys (map (λ i. i) names) c.in_ok-note_seen.ensures.seen [] (none_held c.args.used.now.keys c.requires.empty))
+    one_held (keys_in c.note_seen.new.seen) names names
+    (more_held (keys_in c.args.used.now) (keys_in c.note_seen.new.seen) (map (λ i. i) names) c.in_ok-note_seen.ensures.seen [] (none_held (keys_in c.args.used.now) c.requires.empty))
     refl

@@ -4,17 +4,18 @@ use Rattle.sot_tree.specs.TreeViews.{node_view}
 use Rattle.sot_rules.specs.Faults.{least}
 use Rattle.sot_rules.specs.Groups.{reads_faults, writes_faults, locals_faults}
 use Rattle.sot_rules.specs.Indexes.{program_in}
+use Rattle.sot_rules.specs.NameSets.{keys_in}
 use Rattle.sot_rules.proofs.NameSets.{listed_held}
 use Rattle.sot_rules.proofs.Sequences.{three_noted}
 use Rattle.sot_rules.proofs.declarations.node.note_uses_beside.Goals as goal
 
 pub note_writes-requires-clause-reads : goal.note_writes-requires-clause-reads
 note_writes-requires-clause-reads c =
-    listed_held c.note_reads.new.used.keys c.deref.result.now c.args.n.now.reads.items c.in_ok-note_reads.ensures.used c.deref.ensures.value
+    listed_held (keys_in c.note_reads.new.used) c.deref.result.now c.args.n.now.reads.items c.in_ok-note_reads.ensures.used c.deref.ensures.value
 
 pub note_locals-requires : goal.note_locals-requires
 note_locals-requires c =
-    listed_held c.note_reads.new.used.keys c.deref.result.now c.args.n.now.reads.items c.in_ok-note_reads.ensures.used c.deref.ensures.value
+    listed_held (keys_in c.note_reads.new.used) c.deref.result.now c.args.n.now.reads.items c.in_ok-note_reads.ensures.used c.deref.ensures.value
 
 pub returns : goal.returns
 returns c =

@@ -6,9 +6,10 @@ use Rattle.sot_rules.specs.Faults.{least, together, write_lists}
 use Rattle.sot_rules.specs.Indexes.{program_in}
 use Rattle.sot_rules.specs.SeenNames.{HasNames}
 use Rattle.sot_rules.proofs.declarations.node.note_write_names.Given as goal
+use Rattle.sot_rules.specs.NameSets.{keys_in}
 
 abbrev pub invariant-loop-name : goal.invariant-loop-name
 invariant-loop-name l =
-    (n : Node) → HasNames l.reads.keys n.reads →
+    (n : Node) → HasNames (keys_in l.reads) n.reads →
     least l.first (flat_map (λ i. together (write_lists (program_in l.index) n i)) (drop l.name-index l.names))
     ≡ least l.fn.first (flat_map (λ i. together (write_lists (program_in l.index) n i)) l.names)

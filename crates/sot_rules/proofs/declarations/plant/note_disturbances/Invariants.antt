@@ -6,9 +6,10 @@ use Rattle.sot_rules.specs.Tests.{state_names}
 use Rattle.sot_rules.specs.Faults.{least, together, noise_lists}
 use Rattle.sot_rules.specs.SeenNames.{HasNames}
 use Rattle.sot_rules.proofs.declarations.plant.note_disturbances.Given as goal
+use Rattle.sot_rules.specs.NameSets.{keys_in}
 
 abbrev pub invariant-loop-f : goal.invariant-loop-f
 invariant-loop-f l =
-    (q : Plant) → HasNames l.used.keys (state_names q ++ q.inputs ++ q.sees) →
+    (q : Plant) → HasNames (keys_in l.used) (state_names q ++ q.inputs ++ q.sees) →
     least l.first (flat_map (λ f. together (noise_lists q f)) (drop l.f-index l.noise))
     ≡ least l.fn.first (flat_map (λ f. together (noise_lists q f)) l.noise)

@@ -7,9 +7,10 @@ use Rattle.sot_rules.specs.Faults.{least, input_faults}
 use Rattle.sot_rules.specs.Indexes.{program_in}
 use Rattle.sot_rules.specs.SeenNames.{HasNames}
 use Rattle.sot_rules.proofs.declarations.plant.note_input_names.Given as goal
+use Rattle.sot_rules.specs.NameSets.{keys_in}
 
 abbrev pub invariant-loop-name : goal.invariant-loop-name
 invariant-loop-name l =
-    (q : Plant) → HasNames l.states.keys (state_names q) →
+    (q : Plant) → HasNames (keys_in l.states) (state_names q) →
     least l.first (flat_map (input_faults (program_in l.index) q) (drop l.name-index l.names))
     ≡ least l.fn.first (flat_map (input_faults (program_in l.index) q) l.names)

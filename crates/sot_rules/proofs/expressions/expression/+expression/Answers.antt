@@ -2,6 +2,7 @@
 use Rattle.std.proofs.Common.{◌∙◌, ◌||◌, ◌++◌, nat_abs, ap, ap₂, sym, refl, fold}
 use Rattle.std.proofs.lemmas.List.{drop_all}
 use Rattle.sot_tree.specs.Trees.{binary, rest, negated, denied, rescaled, chosen}
+use Rattle.sot_tree.specs.declared.tree.Operands.{out-Operands}
 use Rattle.sot_tree.specs.TreeViews.{tree_view, parts_view}
 use Rattle.sot_rules.specs.declared.expressions.sort.Sort.{Sort}
 use Rattle.sot_rules.specs.declared.expressions.sort.Sort.TheVariants.{Scaled}
@@ -95,7 +96,7 @@ expression-returns-in-Ref-clause-noted t c =
 pub expression-returns-in-Binary-clause-sort : goal.expression-returns-in-Binary-clause-sort
 expression-returns-in-Binary-clause-sort t c =
     let names = names_in c.args.names.now in
-    let is = ap tree_view c.in-Binary.is ∙ ap₂ (λ x y. binary c.in-Binary.op (tree_view x) (tree_view y) c.in-Binary.at) (sym c.deref.ensures) (sym c.deref-in-Binary.ensures) in
+    let is = ap tree_view c.in-Binary.is ∙ ap₂ (λ x y. binary c.in-Binary.op (tree_view (out-Operands x).left) (tree_view (out-Operands y).right) c.in-Binary.at) (sym c.deref.ensures) (sym c.deref-in-Binary.ensures) in
     c.apply.ensures.sort
     ∙ ap₂ (λ a b. unless (kinds_misfit c.in-Binary.op a b || scales_misfit c.in-Binary.op a b) (given a (given b (operator_sort c.in-Binary.op a b)))) c.expression-a.ensures.sort c.expression-b.ensures.sort
     ∙ sym (ap (sort names) is)
@@ -104,9 +105,9 @@ pub expression-returns-in-Binary-clause-noted : goal.expression-returns-in-Binar
 expression-returns-in-Binary-clause-noted t c =
     let names = names_in c.args.names.now in
     let op = c.in-Binary.op in
-    let left = tree_view c.deref.result.now in
-    let right = tree_view c.deref-in-Binary.result.now in
-    let is = ap tree_view c.in-Binary.is ∙ ap₂ (λ x y. binary c.in-Binary.op (tree_view x) (tree_view y) c.in-Binary.at) (sym c.deref.ensures) (sym c.deref-in-Binary.ensures) in
+    let left = tree_view (out-Operands c.deref.result.now).left in
+    let right = tree_view (out-Operands c.deref-in-Binary.result.now).right in
+    let is = ap tree_view c.in-Binary.is ∙ ap₂ (λ x y. binary c.in-Binary.op (tree_view (out-Operands x).left) (tree_view (out-Operands y).right) c.in-Binary.at) (sym c.deref.ensures) (sym c.deref-in-Binary.ensures) in
     three_noted (tree_faults names left) (tree_faults names right)
     (misfits (kinds_misfit op (sort names left) (sort names right)) (scales_misfit op (sort names left) (sort names right)) c.in-Binary.at) _ _ _ _
     c.expression-a.ensures.noted c.expression-b.ensures.noted

@@ -9,4 +9,4 @@ pub returns-clause-tables : goal.returns-clause-tables
 returns-clause-tables c = ap (map parts_of) c.deref.ensures.value
 
 pub returns-clause-none : goal.returns-clause-none
-returns-clause-none c = stands_none (tables_in c.args.index.now) c.with_hasher.result c.with_hasher.ensures.empty
+returns-clause-none c = stands_none (tables_in c.args.index.now) c.no_things.result c.no_things.ensures

@@ -3,11 +3,12 @@ use Rattle.std.proofs.Common.{◌∙◌, ap}
 use Rattle.std.specs.List.{list_any}
 use Rattle.std.specs.Str.{bytes_eq}
 use Rattle.sot_rules.specs.SeenNames.{seen_names}
+use Rattle.sot_rules.specs.NameSets.{keys_in}
 use Rattle.sot_rules.proofs.Repeats.{any_seen}
 use Rattle.sot_rules.proofs.names.repeats.has_name.Goals as goal
 
 pub returns : goal.returns
 returns c =
     c.contains.ensures
-    ∙ any_seen c.as_bytes.result.now c.args.set.now.keys
-    ∙ ap (λ n. list_any (bytes_eq n) (seen_names c.args.set.now.keys)) c.as_bytes.ensures
+    ∙ any_seen c.as_bytes.result.now (keys_in c.args.set.now)
+    ∙ ap (λ n. list_any (bytes_eq n) (seen_names (keys_in c.args.set.now))) c.as_bytes.ensures

@@ -8,4 +8,4 @@ use Rattle.sot_rules.proofs.names.repeats.note_all_repeats.Goals as goal
 pub returns : goal.returns
 returns g c =
     subst (λ z. OnOk c.note_seen-noted.result (c.note_seen-noted.new.first ≡ least c.args.first.now (repeats z (map g.T.Named.ident c.args.items.now))))
-    (ap seen_names c.with_hasher-seen.ensures.empty) c.note_seen-noted.ensures.noted
+    (ap seen_names c.no_name-seen.ensures.empty) c.note_seen-noted.ensures.noted

@@ -5,12 +5,13 @@ use Rattle.std.specs.Str.{bytes_eq}
 use Rattle.sot_rules.specs.declared.fault.TypeKind.TheVariants.{Twice}
 use Rattle.sot_rules.specs.Faults.{least, when}
 use Rattle.sot_rules.specs.SeenNames.{seen_names}
+use Rattle.sot_rules.specs.NameSets.{keys_in}
 use Rattle.sot_rules.proofs.Repeats.{any_seen, seen_insert, noted_by}
 use Rattle.sot_rules.proofs.names.repeats.note_repeat.Goals as goal
 
 pub returns-clause-noted : goal.returns-clause-noted
 returns-clause-noted c =
-    let keys = c.args.seen.now.keys in
+    let keys = (keys_in c.args.seen.now) in
     let found : Bool = list_any (λ (k : Bor (List ℕ)). bytes_eq c.as_bytes.result.now k.now) keys in
     noted_by _ found c.args.first.now _ c.args.name.now (cc (c.in_ok-added.ensures.added)) c.note.ensures
     ∙ ap (λ b. least c.args.first.now (when b c.args.name.now.at Twice))
@@ -18,4 +19,4 @@ returns-clause-noted c =
 
 pub returns-clause-seen : goal.returns-clause-seen
 returns-clause-seen c =
-    ap seen_names c.in_ok-added.ensures.keys ∙ seen_insert c.args.seen.now.keys c.as_bytes.result c.args.name.now c.as_bytes.ensures
+    ap seen_names c.in_ok-added.ensures.keys ∙ seen_insert (keys_in c.args.seen.now) c.as_bytes.result c.args.name.now c.as_bytes.ensures

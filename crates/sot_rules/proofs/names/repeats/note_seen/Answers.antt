@@ -2,6 +2,7 @@
 use Rattle.std.proofs.Common.{refl, map}
 use Rattle.sot_rules.specs.Faults.{repeats}
 use Rattle.sot_rules.specs.SeenNames.{seen_names, with_name}
+use Rattle.sot_rules.specs.NameSets.{keys_in}
 use Rattle.sot_rules.proofs.Loops.{none_left}
 use Rattle.sot_rules.proofs.Repeats.{step_repeats, step_names, names_end}
 use Rattle.sot_rules.proofs.names.repeats.note_seen.Goals as goal
@@ -18,7 +19,7 @@ loop-item-preserved g c = record {
 
 pub returns-clause-noted : goal.returns-clause-noted
 returns-clause-noted g c =
-    none_left (λ is. repeats (seen_names c.loop-item.seen.keys) (map g.T.Named.ident is)) refl c.args.items.now c.loop-item.item-index
+    none_left (λ is. repeats (seen_names (keys_in c.loop-item.seen)) (map g.T.Named.ident is)) refl c.args.items.now c.loop-item.item-index
     _ _ c.loop-item-test.false c.loop-item.invariant.noted
 
 pub returns-clause-seen : goal.returns-clause-seen

@@ -1,7 +1,6 @@
 -- Of `reading`: its promises.
 use Rattle.std.proofs.Common.{◌∙◌, ap, sym, map}
-use Rattle.std.specs.Map.{lookup}
-use Rattle.std.specs.Str.{bytes_eq}
+use Rattle.sot_rules.specs.NameTables.{entries_in, found_in}
 use Rattle.sot_rules.specs.Scopes.{parts_of, kept_parts, names_in, reading_of}
 use Rattle.sot_rules.proofs.Lookups.{thing_found}
 use Rattle.sot_rules.proofs.names.scope.reading.Goals as goal
@@ -11,7 +10,7 @@ unfolding names_in
 returns c =
     let names = c.args.names.now in
     let view = kept_parts (map parts_of names.tables.now) in
-    let name = ap (λ n. lookup (λ k. bytes_eq n k.now) names.things.entries) c.as_bytes.ensures in
+    let name = ap (found_in names.things) c.as_bytes.ensures in
     c.reading_of.ensures
-    ∙ ap (reading_of view c.args.first.now c.args.field.now) (c.copied-kept.ensures ∙ c.get.ensures.value ∙ name)
-    ∙ sym (thing_found view c.args.first.now c.args.field.now names.things.entries)
+    ∙ ap (reading_of view c.args.first.now c.args.field.now) (c.thing_of-kept.ensures ∙ name)
+    ∙ sym (thing_found view c.args.first.now c.args.field.now (entries_in names.things))

@@ -2,6 +2,7 @@
 use Rattle.std.proofs.Common.{rules, arith, ◌≡◌, ◌≤◌, [], ◌∷◌, ◌++◌, ap, ap₂, sym, subst, ◌∙◌}
 use Rattle.sot_tree.specs.declared.tree.Expr.{the_lemmas}
 use Rattle.sot_tree.specs.Trees.{binary, negated, denied, rescaled, chosen, called}
+use Rattle.sot_tree.specs.declared.tree.Operands.{out-Operands}
 use Rattle.sot_tree.specs.TreeViews.{tree_view, parts_view}
 use Rattle.sot_tree.proofs.CallRows.{call_view}
 use Rattle.sot_rules.specs.TreeSorts.{is_no_scale}
@@ -15,25 +16,27 @@ use Rattle.sot_typing.proofs.code.terms.+term.Goals as goal
 pub term-term-requires : goal.term-term-requires
 term-term-requires t c =
     let names = things_in c.args.things.now in
-    let part = ap (λ z. tree_faults names (tree_view z)) c.deref.ensures in
-    (search (rules, the_lemmas, c.in-Binary.is, c.deref.ensures, c.decreases), (c.requires.few, part ∙ binary_left names c.in-Binary.op (tree_view c.in-Binary.left.value) (tree_view c.in-Binary.right.value) c.in-Binary.at (tree_view c.args.e.now) (ap tree_view c.in-Binary.is) c.requires.faultless))
+    let both = out-Operands c.in-Binary.operands.value in
+    let part = ap (λ z. tree_faults names (tree_view (out-Operands z).left)) c.deref.ensures in
+    (search (rules, the_lemmas, c.in-Binary.is, c.deref.ensures, c.decreases), (c.requires.few, part ∙ binary_left names c.in-Binary.op (tree_view both.left) (tree_view both.right) c.in-Binary.at (tree_view c.args.e.now) (ap tree_view c.in-Binary.is) c.requires.faultless))
 
 pub term-term-requires-in-Binary : goal.term-term-requires-in-Binary
 term-term-requires-in-Binary t c =
     let names = things_in c.args.things.now in
-    let part = ap (λ z. tree_faults names (tree_view z)) c.deref-in-Binary.ensures in
-    (search (rules, the_lemmas, c.in-Binary.is, c.deref-in-Binary.ensures, c.decreases), (c.requires.few, part ∙ binary_right names c.in-Binary.op (tree_view c.in-Binary.left.value) (tree_view c.in-Binary.right.value) c.in-Binary.at (tree_view c.args.e.now) (ap tree_view c.in-Binary.is) c.requires.faultless))
+    let both = out-Operands c.in-Binary.operands.value in
+    let part = ap (λ z. tree_faults names (tree_view (out-Operands z).right)) c.deref-in-Binary.ensures in
+    (search (rules, the_lemmas, c.in-Binary.is, c.deref-in-Binary.ensures, c.decreases), (c.requires.few, part ∙ binary_right names c.in-Binary.op (tree_view both.left) (tree_view both.right) c.in-Binary.at (tree_view c.args.e.now) (ap tree_view c.in-Binary.is) c.requires.faultless))
 
 pub term-joined-requires-clause-fits : goal.term-joined-requires-clause-fits
 term-joined-requires-clause-fits t c =
     let names = things_in c.args.things.now in
-    let is = ap tree_view c.in-Binary.is ∙ ap₂ (λ x y. binary c.in-Binary.op (tree_view x) (tree_view y) c.in-Binary.at) (sym c.deref.ensures) (sym c.deref-in-Binary.ensures) in
+    let is = ap tree_view c.in-Binary.is ∙ ap₂ (λ x y. binary c.in-Binary.op (tree_view (out-Operands x).left) (tree_view (out-Operands y).right) c.in-Binary.at) (sym c.deref.ensures) (sym c.deref-in-Binary.ensures) in
     scales_fit names c.in-Binary.op _ _ c.in-Binary.at (tree_view c.args.e.now) is c.requires.faultless c.in_ok-a-in-Binary.a c.in_ok-b-in-Binary.b c.in_ok-a-in-Binary.ensures c.in_ok-b-in-Binary.ensures
 
 pub term-returns-in_ok-b-in-Binary : goal.term-returns-in_ok-b-in-Binary
 term-returns-in_ok-b-in-Binary t c =
     let names = things_in c.args.things.now in
-    let is = ap tree_view c.in-Binary.is ∙ ap₂ (λ x y. binary c.in-Binary.op (tree_view x) (tree_view y) c.in-Binary.at) (sym c.deref.ensures) (sym c.deref-in-Binary.ensures) in
+    let is = ap tree_view c.in-Binary.is ∙ ap₂ (λ x y. binary c.in-Binary.op (tree_view (out-Operands x).left) (tree_view (out-Operands y).right) c.in-Binary.at) (sym c.deref.ensures) (sym c.deref-in-Binary.ensures) in
     if_ok c.joined.result (joined_is names c.in-Binary.op _ _ c.in-Binary.at (tree_view c.args.e.now) is c.requires.faultless c.in_ok-a-in-Binary.a c.in_ok-b-in-Binary.b c.in_ok-a-in-Binary.ensures c.in_ok-b-in-Binary.ensures) c.joined.ensures
 
 pub term-term-requires-in-Rest : goal.term-term-requires-in-Rest

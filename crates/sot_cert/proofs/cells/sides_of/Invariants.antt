@@ -1,9 +1,0 @@
--- What the loop of `sides_of` keeps.
-use Rattle.std.proofs.Common.{◌≡◌, [], drop}
-use Rattle.serde_json.specs.View.{items_view}
-use Rattle.sot_cert.specs.Json.{each_after}
-use Rattle.sot_cert.specs.CertFormat.{side}
-use Rattle.sot_cert.proofs.cells.sides_of.Given as goal
-
-abbrev pub invariant-loop-item : goal.invariant-loop-item
-invariant-loop-item l = each_after (λ done. side) l.found.items (items_view (drop l.item-index l.item-items)) ≡ each_after (λ done. side) [] (items_view l.list.items)
