@@ -1,6 +1,6 @@
 -- Reads of a list that is kept in slots.
 use Rattle.std.proofs.Math.ListN.{set}
-use Rattle.std.proofs.Common.{zero, suc, [], ◌∷◌, refl, ◌≡◌, ℕ, ◌<◌, ◌≤◌, List, length, take, slice_get, Some, get_or, replicate, arith, ap}
+use Rattle.std.proofs.Common.{zero, suc, [], ◌∷◌, refl, ◌≡◌, ℕ, ◌<◌, ◌≤◌, ℤ, List, length, take, slice_get, Some, get_or, replicate, arith, ap, pos}
 use Rattle.std.proofs.lemmas.List.{get_or-take}
 use Rattle.std.proofs.lemmas.Option.{slice_get-get_or}
 use Rattle.sot_box.specs.PointSlots.{width-taken}
@@ -22,3 +22,9 @@ pub take-zeros : {A : Type 0} (n m : ℕ) (x : A) → n ≤ m → take n (replic
 take-zeros zero m x le = refl
 take-zeros (suc n) zero x le = absurd (omega arith)
 take-zeros (suc n) (suc m) x le = ap (λ zs. x ∷ zs) (take-zeros n m x (omega arith))
+
+-- a list of one number is that number
+pub list_of_one : (xs : List ℤ) → length xs ≡ 1 → get_or xs 0 (pos 0) ∷ [] ≡ xs
+list_of_one [] one = absurd (omega arith)
+list_of_one (y ∷ []) one = refl
+list_of_one (y ∷ z ∷ zs) one = absurd (omega arith)

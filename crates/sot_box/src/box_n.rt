@@ -1,6 +1,6 @@
 //! Boxes: an interval for each axis.
 
-ghost use Rattle.std.specs.Prelude.{◌≡◌, ◌<◌, ◌≤◌, ◌≤ℤ◌, ◌⊎◌, length, slice_get, slice_set, Some, MatchOption, IsTrue, ◌↔◌};
+ghost use Rattle.std.specs.Prelude.{◌≡◌, [], ◌∷◌, ◌<◌, ◌≤◌, ◌≤ℤ◌, ◌⊎◌, length, slice_get, slice_set, Some, MatchOption, IsTrue, ◌↔◌};
 ghost use Rattle.sot_box.specs.Sides.{AreOrdered};
 ghost use Rattle.sot_box.specs.Boxes.{IsWithin, lows, highs};
 ghost use Rattle.sot_box.specs.Widened.{IsWidened};
@@ -43,6 +43,10 @@ impl BoxN {
         if width == 0 || width > 4 {
             return None;
         }
+        if width == 1 {
+            let only = sides[0];
+            return Some(BoxN::on_a_line(only.lo, only.hi));
+        }
         let mut inline = [Interval { lo: 0, hi: 0 }; 4];
         for i in 0..width {
             let side = sides[i];
@@ -55,6 +59,18 @@ impl BoxN {
             width,
             sides: inline,
         })
+    }
+
+    // The box of one axis. It is put together without a loop, since a call to copy one interval costs more than the copy.
+    fn on_a_line(lo: i64, hi: i64) -> BoxN
+        requires { lo ≤ℤ hi }
+        ensures { result ≡ record { lo = lo; hi = hi } ∷ [] }
+    {
+        let none = Interval { lo: 0, hi: 0 };
+        BoxN {
+            width: 1,
+            sides: [Interval { lo, hi }, none, none, none],
+        }
     }
 
     /// The number of axes.

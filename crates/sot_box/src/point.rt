@@ -36,6 +36,13 @@ impl Point {
         if width == 0 || width > 4 {
             return None;
         }
+        if width == 1 {
+            // Most points have one number, for which a copy of many would cost more than it moves.
+            return Some(Point {
+                width: 1,
+                at: [at[0], 0, 0, 0],
+            });
+        }
         let mut inline = [0; 4];
         for i in 0..width {
             inline[i] = at[i];

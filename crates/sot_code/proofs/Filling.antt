@@ -32,6 +32,16 @@ module _ {A : Type 0} where
       drop-set-lt (i + 1) slots i x (omega arith)
       ∙ ap tail (sym (drop_more slots i z below) ∙ rest) ∙ replicate_less n i z lt
 
+  single : (part : List A) (x : A) → length part ≡ 1 → slice_get part 0 ≡ Some x → part ≡ x ∷ []
+  single [] x size at = absurd (none-some x at)
+  single (y ∷ []) x size at = ap (λ z. z ∷ []) (same_Some y x at)
+  single (y ∷ z ∷ zs) x size at = absurd (omega arith)
+
+  -- a list of one is put behind others
+  pub one_behind : (slots before part : List A) (from : ℕ) (x : A) → length part ≡ 1 → slice_get part 0 ≡ Some x → take (from + 1) slots ≡ before ++ x ∷ [] → take (from + length part) slots ≡ before ++ part
+  one_behind slots before part from x size at front =
+      ap (λ n. take (from + n) slots) size ∙ front ∙ ap (λ l. before ++ l) (sym (single part x size at))
+
   -- one more part is copied behind others
   pub taken_behind : (slots parts before : List A) (from i : ℕ) (x : A) → from + i < length slots → i < length parts → take (from + i) slots ≡ before ++ take i parts → slice_get parts i ≡ Some x
       → take (from + (i + 1)) (set slots (from + i) x) ≡ before ++ take (i + 1) parts

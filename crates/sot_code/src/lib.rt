@@ -16,9 +16,9 @@ mod seen;
 mod term;
 
 pub use fired::Fired;
-pub use gather::put_point;
+pub use gather::{put, put_point};
 pub use locals::Locals;
 pub use node::run_node;
-pub use plant::plant_next;
+pub use plant::{plant_next, plant_next_over};
 pub use seen::Seen;
 pub use term::value;

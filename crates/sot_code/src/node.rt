@@ -33,6 +33,57 @@ fn fire(p: &Typed, node: &NodeInfo, acts: &[Act], numbers: &mut [i64]) -> Result
     })
 }
 
+// The execution of a body on the numbers that its node reads and its locals, with room for these.
+fn execute_in<V: Seen>(
+    p: &Typed,
+    node: &NodeInfo,
+    acts: &[Act],
+    seen: &V,
+    locals: &Locals,
+    room: &mut [i64],
+) -> Result<Fired, Trap>
+    requires node { IsRunnable p.now node.now }
+    requires few { length node.now.locals.items ≤ 16 }
+    requires fits { ActsFit (node_truths p.now node.now) (length node.now.locals.items) (length node.now.writes.items) acts.now }
+    requires reads { length (V.numbers seen.now) ≡ length node.now.reads.items }
+    requires locals { length locals.now ≡ length node.now.locals.items }
+    requires room { length node.now.reads.items + length node.now.locals.items ≤ length room.old }
+    ensures { result ≡ recorded (execution acts.now (local_ranges node.now) (write_ranges p.now node.now) (V.numbers seen.now) locals.now) }
+{
+    let reads = node.reads.len();
+    put_seen(seen, reads, room);
+    put_locals(locals, reads, room);
+    let (numbers, _) = room.split_at_mut(reads + locals.len());
+    fire(p, node, acts, numbers)
+}
+
+// Most nodes have few names, and the room for these is cleared at each firing.
+const FEW_NAMES: usize = 16;
+
+// The same, with room for as many numbers as there are.
+fn execute<V: Seen>(
+    p: &Typed,
+    node: &NodeInfo,
+    acts: &[Act],
+    seen: &V,
+    locals: &Locals,
+) -> Result<Fired, Trap>
+    requires node { IsRunnable p.now node.now }
+    requires few { length node.now.locals.items ≤ 16 }
+    requires fits { ActsFit (node_truths p.now node.now) (length node.now.locals.items) (length node.now.writes.items) acts.now }
+    requires reads { length (V.numbers seen.now) ≡ length node.now.reads.items }
+    requires locals { length locals.now ≡ length node.now.locals.items }
+    requires names { length node.now.reads.items + length node.now.locals.items ≤ 80 }
+    ensures { result ≡ recorded (execution acts.now (local_ranges node.now) (write_ranges p.now node.now) (V.numbers seen.now) locals.now) }
+{
+    if node.reads.len() + node.locals.len() <= FEW_NAMES {
+        let mut few = [0; FEW_NAMES];
+        return execute_in(p, node, acts, seen, locals, &mut few);
+    }
+    let mut inline = [0; MOST_NAMES];
+    execute_in(p, node, acts, seen, locals, &mut inline)
+}
+
 /// The execution of a coded node's body on the numbers that it reads and its locals: the new locals and the draft, or the first
 /// trap.
 pub fn run_node<V: Seen>(p: &Typed, node: u32, seen: &V, locals: &Locals) -> Result<Fired, Trap>
@@ -41,10 +92,5 @@ pub fn run_node<V: Seen>(p: &Typed, node: u32, seen: &V, locals: &Locals) -> Res
 {
     let info = &p.nodes[node as usize];
     let acts = info.body.as_ref().unwrap();
-    let mut inline = [0; MOST_NAMES];
-    let reads = info.reads.len();
-    put_seen(seen, reads, &mut inline);
-    put_locals(locals, reads, &mut inline);
-    let (numbers, _) = inline.split_at_mut(reads + locals.len());
-    fire(p, info, acts, numbers)
+    execute(p, info, acts, seen, locals)
 }

@@ -104,6 +104,8 @@ pub fn holds(z: i64) -> bool
     z != 0
 }
 
+/// The result of an operator at two numbers. It is put in where it is called: a call would write and read an outcome.
+#[inline(always)]
 pub fn operate(op: Op, at: Span, a: i64, b: i64) -> Result<i64, Trap>
     ensures { result ≡ apply op at a b }
 {

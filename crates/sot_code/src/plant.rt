@@ -4,7 +4,7 @@ ghost use Rattle.std.specs.Prelude.{◌≡◌, ◌≤◌, length};
 ghost use Rattle.sot_lang.specs.Ticks.{values};
 ghost use Rattle.sot_lang.specs.TermPlaces.{HavePlaces};
 ghost use Rattle.sot_code.specs.Points.{Gives};
-ghost use Rattle.sot_code.specs.Recorded.{MayTickPlant, IsNextPoint};
+ghost use Rattle.sot_code.specs.Recorded.{MayTickPlant, IsNextPoint, MayTickOver, IsPointOver};
 
 use crate::gather::{MOST_NAMES, put, put_point};
 use crate::term::value;
@@ -58,5 +58,15 @@ pub fn plant_next(
     put(seen, states + held.len(), &mut inline);
     put(noise, states + held.len() + seen.len(), &mut inline);
     let (numbers, _) = inline.split_at(states + held.len() + seen.len() + noise.len());
+    point_of(&info.next, numbers)
+}
+
+/// The plant's point after a tick, with the numbers of its names in one list: those of its state variables, of its inputs, of the
+/// states of the plants that it sees, one plant after another, and of its disturbances; or the first trap.
+pub fn plant_next_over(p: &Typed, plant: u32, numbers: &[i64]) -> Result<Point, Trap>
+    requires { MayTickOver p.now plant numbers.now }
+    ensures { IsPointOver p.now plant numbers.now result }
+{
+    let info = &p.plants[plant as usize];
     point_of(&info.next, numbers)
 }

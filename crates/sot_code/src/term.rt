@@ -1,6 +1,6 @@
 //! The value of an expression on numbers.
 
-ghost use Rattle.std.specs.Prelude.{◌≡◌, ◌≤◌, ◌≤ℤ◌, ◌-ℤ◌, ◌*ℤ◌, neg_ℤ, pos, not, Ok, length};
+ghost use Rattle.std.specs.Prelude.{◌≡◌, ◌≤◌, ◌≤ℤ◌, ◌-ℤ◌, ◌*ℤ◌, neg_ℤ, pos, false, not, Ok, length};
 ghost use Rattle.sot_lang.specs.Values.{value_of, then_with, word, truth, is_true, floor_div, rescaled as at_scale, called};
 ghost use Rattle.sot_lang.specs.Ticks.{values};
 ghost use Rattle.sot_tree.specs.Functions.{arity};
@@ -11,10 +11,10 @@ use sot_lang::{Term, Trap};
 use sot_text::Span;
 use sot_tree::Func;
 
-/// The value of an expression, where each name has its number in the list. Numbers and names are answered first: a function pays
-/// at its entry for the room that it needs.
-#[cycle(value)]
-pub fn value(term: &Term, numbers: &[i64]) -> Result<i64, Trap>
+// The value of an expression, or the first trap. Numbers and names are answered first: a function pays at its entry for the room
+// that it needs.
+#[cycle(exact)]
+fn exact(term: &Term, numbers: &[i64]) -> Result<i64, Trap>
     requires { HasPlaces (length numbers.now) term.now }
     ensures { result ≡ value_of term.now numbers.now }
 {
@@ -27,7 +27,7 @@ pub fn value(term: &Term, numbers: &[i64]) -> Result<i64, Trap>
 
 // The same, where the expression has parts. What has one part has a function of its own, with the room for the part's value.
 // Conditions come here at once, since a condition is hardly ever a number or a name.
-#[cycle(value)]
+#[cycle(exact)]
 fn compound(term: &Term, numbers: &[i64]) -> Result<i64, Trap>
     requires { HasPlaces (length numbers.now) term.now }
     ensures { result ≡ value_of term.now numbers.now }
@@ -41,8 +41,8 @@ fn compound(term: &Term, numbers: &[i64]) -> Result<i64, Trap>
             right,
             at,
         } => {
-            let a = value(left, numbers)?;
-            let b = value(right, numbers)?;
+            let a = exact(left, numbers)?;
+            let b = exact(right, numbers)?;
             operate(*op, *at, a, b)
         }
         Term::Rest { left, by, .. } => remainder(left, *by, numbers),
@@ -52,51 +52,51 @@ fn compound(term: &Term, numbers: &[i64]) -> Result<i64, Trap>
         Term::Rescale { part, from, to, at } => rescaled(part, *from, *to, *at, numbers),
         Term::If { cond, yes, no, .. } => {
             if holds(compound(cond, numbers)?) {
-                value(yes, numbers)
+                exact(yes, numbers)
             } else {
-                value(no, numbers)
+                exact(no, numbers)
             }
         }
     }
 }
 
-#[cycle(value)]
+#[cycle(exact)]
 fn remainder(left: &Term, by: i64, numbers: &[i64]) -> Result<i64, Trap>
     requires places { HasPlaces (length numbers.now) left.now }
     requires divisor { pos 1 ≤ℤ by }
     ensures { result ≡ then_with (value_of left.now numbers.now) (λ x. Ok (x -ℤ (by *ℤ floor_div x by))) }
 {
-    Ok(rest(value(left, numbers)?, by))
+    Ok(rest(exact(left, numbers)?, by))
 }
 
-#[cycle(value)]
+#[cycle(exact)]
 fn negation(part: &Term, at: Span, numbers: &[i64]) -> Result<i64, Trap>
     requires { HasPlaces (length numbers.now) part.now }
     ensures { result ≡ then_with (value_of part.now numbers.now) (λ x. word at (neg_ℤ x)) }
 {
-    negate(at, value(part, numbers)?)
+    negate(at, exact(part, numbers)?)
 }
 
-#[cycle(value)]
+#[cycle(exact)]
 fn denial(part: &Term, numbers: &[i64]) -> Result<i64, Trap>
     requires { HasPlaces (length numbers.now) part.now }
     ensures { result ≡ then_with (value_of part.now numbers.now) (λ x. Ok (truth (not (is_true x)))) }
 {
-    Ok(truth_value(!holds(value(part, numbers)?)))
+    Ok(truth_value(!holds(exact(part, numbers)?)))
 }
 
-#[cycle(value)]
+#[cycle(exact)]
 fn rescaled(part: &Term, from: u8, to: u8, at: Span, numbers: &[i64]) -> Result<i64, Trap>
     requires places { HasPlaces (length numbers.now) part.now }
     requires first { from ≤ 6 }
     requires second { to ≤ 6 }
     ensures { result ≡ then_with (value_of part.now numbers.now) (at_scale at from to) }
 {
-    rescale(at, from, to, value(part, numbers)?)
+    rescale(at, from, to, exact(part, numbers)?)
 }
 
 // The result of a function at its parts.
-#[cycle(value)]
+#[cycle(exact)]
 fn call(func: Func, parts: &Vec<Term>, at: Span, numbers: &[i64]) -> Result<i64, Trap>
     requires parts { HavePlaces (length numbers.now) parts.now.items }
     requires arity { length parts.now.items ≡ arity func }
@@ -104,21 +104,105 @@ fn call(func: Func, parts: &Vec<Term>, at: Span, numbers: &[i64]) -> Result<i64,
 {
     match func {
         Func::Min => {
-            let a = value(&parts[0], numbers)?;
-            let b = value(&parts[1], numbers)?;
+            let a = exact(&parts[0], numbers)?;
+            let b = exact(&parts[1], numbers)?;
             Ok(a.min(b))
         }
         Func::Max => {
-            let a = value(&parts[0], numbers)?;
-            let b = value(&parts[1], numbers)?;
+            let a = exact(&parts[0], numbers)?;
+            let b = exact(&parts[1], numbers)?;
             Ok(a.max(b))
         }
-        Func::Abs => magnitude(at, value(&parts[0], numbers)?),
+        Func::Abs => magnitude(at, exact(&parts[0], numbers)?),
         Func::Clamp => {
-            let a = value(&parts[0], numbers)?;
-            let l = value(&parts[1], numbers)?;
-            let h = value(&parts[2], numbers)?;
+            let a = exact(&parts[0], numbers)?;
+            let l = exact(&parts[1], numbers)?;
+            let h = exact(&parts[2], numbers)?;
             Ok(clamped(a, l, h))
         }
+    }
+}
+
+// The value of an outcome. At a trap the flag is set, and the value is any.
+fn kept(outcome: Result<i64, Trap>, trapped: &mut bool) -> i64
+    ensures first { trapped.new ≡ false → trapped.old ≡ false }
+    ensures value { trapped.new ≡ false → outcome ≡ Ok result }
+{
+    match outcome {
+        Ok(z) => z,
+        Err(_) => {
+            *trapped = true;
+            0
+        }
+    }
+}
+
+// The value of an expression, unless it traps: then the flag is set. A number is handed back in a register, where an outcome takes
+// room and a test at each operator.
+#[cycle(quick)]
+fn quick(term: &Term, numbers: &[i64], trapped: &mut bool) -> i64
+    requires { HasPlaces (length numbers.now) term.now }
+    ensures first { trapped.new ≡ false → trapped.old ≡ false }
+    ensures value { trapped.new ≡ false → value_of term.now numbers.now ≡ Ok result }
+{
+    match term {
+        Term::Number(z) => *z,
+        Term::Place(n) => numbers[*n as usize],
+        _ => quick_compound(term, numbers, trapped),
+    }
+}
+
+// The same, where the expression has parts. What is not an operator or a choice is left to the exact way.
+#[cycle(quick)]
+fn quick_compound(term: &Term, numbers: &[i64], trapped: &mut bool) -> i64
+    requires { HasPlaces (length numbers.now) term.now }
+    ensures first { trapped.new ≡ false → trapped.old ≡ false }
+    ensures value { trapped.new ≡ false → value_of term.now numbers.now ≡ Ok result }
+{
+    match term {
+        Term::Binary {
+            op,
+            left,
+            right,
+            at,
+        } => {
+            let a = quick(left, numbers, trapped);
+            let b = quick(right, numbers, trapped);
+            kept(operate(*op, *at, a, b), trapped)
+        }
+        Term::If { cond, yes, no, .. } => {
+            let c = quick(cond, numbers, trapped);
+            if holds(c) {
+                quick(yes, numbers, trapped)
+            } else {
+                quick(no, numbers, trapped)
+            }
+        }
+        _ => kept(compound(term, numbers), trapped),
+    }
+}
+
+// The value of an expression with parts.
+fn with_parts(term: &Term, numbers: &[i64]) -> Result<i64, Trap>
+    requires { HasPlaces (length numbers.now) term.now }
+    ensures { result ≡ value_of term.now numbers.now }
+{
+    let mut trapped = false;
+    let z = quick_compound(term, numbers, &mut trapped);
+    if trapped {
+        return compound(term, numbers);
+    }
+    Ok(z)
+}
+
+/// The value of an expression, where each name has its number in the list.
+pub fn value(term: &Term, numbers: &[i64]) -> Result<i64, Trap>
+    requires { HasPlaces (length numbers.now) term.now }
+    ensures { result ≡ value_of term.now numbers.now }
+{
+    match term {
+        Term::Number(z) => Ok(*z),
+        Term::Place(n) => Ok(numbers[*n as usize]),
+        _ => with_parts(term, numbers),
     }
 }

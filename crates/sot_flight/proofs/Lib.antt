@@ -1,5 +1,6 @@
 -- lemmas on stated values, for what flies a flight too
 pub mod Words
+pub mod Jumps
 pub mod Listed
 pub mod Bounds
 pub mod EightSlots

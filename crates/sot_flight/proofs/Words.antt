@@ -13,7 +13,7 @@ use Rattle.sot_box.specs.Boxes.{IsWithin}
 use Rattle.sot_lang.specs.TableRules.{IsNarrow}
 use Rattle.sot_flight.specs.Draws.{words_from, word, drawn, drawn_from}
 
-state_more : (w m increment n state : ℕ) → next_state w m increment (state_after w m increment n state) ≡ state_after w m increment (suc n) state
+pub state_more : (w m increment n state : ℕ) → next_state w m increment (state_after w m increment n state) ≡ state_after w m increment (suc n) state
 unfolding state_after
 state_more w m increment zero state = refl
 state_more w m increment (suc n) state = state_more w m increment n (next_state w m increment state)

@@ -2,6 +2,7 @@
 pub mod Plans
 -- what it states for a tick and for a firing, by their numbers
 pub mod Draws
+pub mod Jumps
 pub mod Stated
 -- what a flight of a program satisfies
 pub mod Counts

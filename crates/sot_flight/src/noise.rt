@@ -12,7 +12,7 @@ ghost use Rattle.sot_flight.specs.Fits.{FitsSway};
 ghost use Rattle.sot_flight.specs.NoiseRules.{HasNarrowNoise};
 ghost use Rattle.sot_flight.specs.FlightView.{sway_of};
 
-use crate::draws::{draw, words_from};
+use crate::draws::{Jump, draw, words_from};
 use crate::rows::row_of;
 use crate::sway::Sway;
 use sot_lang::{PlantInfo, Typed};
@@ -50,12 +50,14 @@ fn put_highs(plant: &PlantInfo, first: usize, numbers: &mut [i64])
     }
 }
 
-// A number in the bounds of each disturbance, from that word on, behind the first `first` numbers.
+// A number in the bounds of each disturbance, from that word on, behind the first `first` numbers. Plants with as many
+// disturbances share a jump.
 fn put_drawn(
     plant: &PlantInfo,
     seed: u64,
     stream: u64,
     given: u64,
+    jump: &mut Jump,
     first: usize,
     numbers: &mut [i64],
 )
@@ -64,7 +66,8 @@ fn put_drawn(
     ensures size { length numbers.new ≡ length numbers.old }
     ensures front { take (first + length plant.now.noise.items) numbers.new ≡ take first numbers.old ++ drawn_from seed stream given (bounds plant.now) }
 {
-    let mut words = words_from(seed, stream, given);
+    jump.turn_to(given);
+    let mut words = jump.words_from(seed, stream);
     for i in 0..plant.noise.len() {
         let info = &plant.noise[i];
         numbers[first + i] = draw(&mut words, info.lo, info.hi);
@@ -76,6 +79,7 @@ pub(crate) fn put_noise(
     plant: &PlantInfo,
     sway: &Sway,
     tick: u32,
+    jump: &mut Jump,
     first: usize,
     numbers: &mut [i64],
 )
@@ -92,7 +96,7 @@ pub(crate) fn put_noise(
         Sway::Listed(rows) => put_row(row_of(rows, tick), first, numbers),
         Sway::Drawn { seed, stream } => {
             let given = u64::from(tick) * plant.noise.len() as u64;
-            put_drawn(plant, *seed, *stream, given, first, numbers)
+            put_drawn(plant, *seed, *stream, given, jump, first, numbers)
         }
     }
 }
@@ -124,10 +128,11 @@ pub(crate) fn put_all(p: &Typed, sways: &[Sway], tick: u32, numbers: &mut [i64])
     requires size { length numbers.old ≡ length (joined (noises p.now.plants (map sway_of sways.now) tick)) }
     ensures { numbers.new ≡ joined (noises p.now.plants (map sway_of sways.now) tick) }
 {
+    let mut jump = Jump::by(0);
     let mut count = 0;
     for k in 0..p.plants.len() {
         let plant = &p.plants[k];
-        put_noise(plant, &sways[k], tick, count, numbers);
+        put_noise(plant, &sways[k], tick, &mut jump, count, numbers);
         count += plant.noise.len();
     }
 }

@@ -3,7 +3,7 @@ use Rattle.sot_lang.specs.Values.{value_of}
 use Rattle.sot_lang.specs.declared.term.Term.{the_lemmas}
 use Rattle.sot_lang.proofs.Rows.{value_of-Call}
 use Rattle.sot_lang.proofs.Places.{HasPlaces-Call}
-use Rattle.sot_code.proofs.term.+value.Goals as goal
+use Rattle.sot_code.proofs.term.+exact.Goals as goal
 
 pub compound-call-requires : goal.compound-call-requires
 compound-call-requires t c =
