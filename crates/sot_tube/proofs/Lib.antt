@@ -16,3 +16,4 @@ pub mod WalkRanges
 pub mod Follows
 pub mod Kept
 mod Covered
+mod SaferPoints

@@ -6,18 +6,18 @@ use Rattle.sot_lang.specs.declared.tables.PlantInfo.{PlantInfo}
 use Rattle.sot_lang.specs.declared.tables.NodeInfo.{NodeInfo}
 use Rattle.sot_lang.specs.declared.tables.ModuleInfo.{ModuleInfo}
 use Rattle.sot_lang.specs.Tables.{Tables}
-use Rattle.sot_lang.specs.TableRules.{IsTyped}
+use Rattle.sot_lang.specs.TableRules.{IsTyped, MeetsTableRules}
 use Rattle.sot_lang.specs.SafeRegions.{AllHulls}
 use Rattle.sot_lang.specs.Reach.{AnyReach, HeldReach, AllInside}
 use Rattle.sot_box.specs.Sides.{Side}
 use Rattle.sot_lists.specs.Places.{At}
 use Rattle.sot_box.specs.Boxes.{IsWithin}
-use Rattle.sot_box.specs.Regions.{Covers, IsHull}
+use Rattle.sot_box.specs.Regions.{IsInRegion, Covers, IsHull}
 use Rattle.sot_iv.specs.TermIntervals.{OrMayTrap}
 use Rattle.sot_iv.specs.BodyIntervals.{Intervals}
 use Rattle.sot_iv.specs.NodeIntervals.{IsNodeExecution}
 use Rattle.sot_iv.specs.TrapFree.{IsTrapFree}
-use Rattle.sot_tube.specs.Tubes.{TubeInside, AnyTubeInside}
+use Rattle.sot_tube.specs.Tubes.{TubeInside, AnyTubeInside, Keeps}
 use Rattle.sot_tube.specs.Leaves.{TubeLeaves}
 use Rattle.sot_tube.specs.declared.leave.Leave.{Leave}
 use Rattle.sot_tube.specs.Composition.{NoSharedPlant, IsComposed, IsComposedByScalars}
@@ -66,6 +66,12 @@ CoveredCellsNeverTrap =
     → IsTyped p → NoSharedPlant p → At p.modules m a → At p.plants a.plant plant → At p.nodes a.sc sc → IsTrapFree p sc acts
     → AllHulls p hulls → IsWithin cell s → Covers a.safe.boxes cell
     → IsNodeExecution p sc acts (slice_set hulls a.plant cell) o → (fired : Intervals) × (o ≡ Ok fired)
+
+-- a certificate shows that a module keeps its plant safe from each point of its safer region on
+abbrev pub SaferPointsAreKept : Type 0
+SaferPointsAreKept =
+    (p : Tables) (cert : Cert) (m : ℕ) (a : ModuleInfo) (s : List ℤ) → MeetsTableRules p → IsWellCertified p cert.jitter cert
+    → At p.modules m a → IsInRegion a.safer.boxes s → Keeps p cert.jitter a s
 
 -- a verdict is exact: acceptance gives no refusal, and there is one refusal at most; so are its parts, module by module
 abbrev pub VerdictsAreExact : Type 0

@@ -1,6 +1,6 @@
 //! What certificates, tubes and verdicts are good for: each of these functions does nothing, and its contract is the theorem.
 
-ghost use Rattle.sot_tube.specs.Theorems.{CertifiedIsWellFormed, AnyTubeHoldsAnyReach, HeldTubeHoldsHeldReach, SharesNoScalar, TubesLeaveInOneWay, HullsAreUnique, CoveredCellsNeverTrap, VerdictsAreExact, AcceptedIsWellCertified, AcceptedWithoutJitter};
+ghost use Rattle.sot_tube.specs.Theorems.{CertifiedIsWellFormed, AnyTubeHoldsAnyReach, HeldTubeHoldsHeldReach, SharesNoScalar, TubesLeaveInOneWay, HullsAreUnique, CoveredCellsNeverTrap, SaferPointsAreKept, VerdictsAreExact, AcceptedIsWellCertified, AcceptedWithoutJitter};
 
 /// A program that is well certified, by boxes, is well formed, point by point.
 pub fn certified_is_well_formed()
@@ -28,6 +28,12 @@ pub fn composed_by_scalars()
 /// A safe node that is free of traps by the hulls of the safe regions is so from each cell that its safe region covers.
 pub fn covered_cells_never_trap()
     ensures { CoveredCellsNeverTrap }
+{}
+
+/// A point that a module's safer region has lies in a reach cell, whose tube holds that of the point. So who asks whether such a
+/// point is kept need not follow a tube.
+pub fn safer_points_are_kept()
+    ensures { SaferPointsAreKept }
 {}
 
 /// There is one verdict at most, and acceptance is that the program is well certified.

@@ -14,8 +14,8 @@ pub use accepted::Accepted;
 pub use facts::{line_is_certified, refusals_are_as_stated, tubes_are_as_stated};
 pub use keep::keeps;
 pub use laws::{
-    certified_is_well_formed, composed_by_scalars, covered_cells_never_trap, tubes_hold_the_reach,
-    tubes_leave_in_one_way, verdicts_are_exact,
+    certified_is_well_formed, composed_by_scalars, covered_cells_never_trap, safer_points_are_kept,
+    tubes_hold_the_reach, tubes_leave_in_one_way, verdicts_are_exact,
 };
 pub use leave::Leave;
 pub use tube::{any_inside, held_inside};

@@ -1,5 +1,6 @@
 -- The draft of a record, read slot by slot.
-use Rattle.std.proofs.Common.{◌≡◌, ℕ, suc, ◌+◌, ◌-◌, ◌<◌, ◌≤◌, ℤ, pos, Bool, true, false, Option, None, Some, List, [], ◌∷◌, ◌++◌, length, drop, replicate, get_or, refl, sym, ap, ap₂, ◌∙◌, subst, arith}
+use Rattle.std.proofs.Common.{◌≡◌, ℕ, suc, ◌+◌, ◌-◌, ◌<◌, ◌≤◌, ℤ, pos, Bool, true, false, Option, None, Some, List, [], ◌∷◌, ◌++◌, ◌&&◌, ◌||◌, not, length, drop, replicate, get_or, refl, sym, ap, ap₂, ◌∙◌, subst, arith}
+use Rattle.std.specs.Prelude.{slice_index_or}
 use Rattle.std.proofs.Math.ListN.{set}
 use Rattle.std.proofs.Math.Seq.{drop-cons, drop-length, set-append_seam}
 use Rattle.std.proofs.lemmas.List.{append_assoc, length-append}
@@ -69,3 +70,26 @@ pub read_all : (there : List Bool) (numbers : List ℤ) (from at : ℕ) (draft :
 read_all there numbers from at draft eight sofar =
     let none : drop 8 there ≡ [] = ap (λ n. drop n there) (sym eight) ∙ drop-length there in
     sofar.kept ∙ sym (sofar.left ∙ ap (λ bs. sofar.done ++ slots_filled bs (drop at numbers)) none)
+
+-- eight slots of which the first alone has a number
+pub first_there : (bs : List Bool) → length bs ≡ 8
+    → (slice_index_or bs 0 false && not ((((((slice_index_or bs 1 false || slice_index_or bs 2 false) || slice_index_or bs 3 false) || slice_index_or bs 4 false) || slice_index_or bs 5 false) || slice_index_or bs 6 false) || slice_index_or bs 7 false)) ≡ true
+    → bs ≡ true ∷ replicate 7 false
+first_there (true ∷ false ∷ false ∷ false ∷ false ∷ false ∷ false ∷ false ∷ []) eight h = refl
+first_there (true ∷ false ∷ false ∷ false ∷ false ∷ false ∷ false ∷ true ∷ bs) eight h = cc
+first_there (true ∷ false ∷ false ∷ false ∷ false ∷ false ∷ true ∷ bs) eight h = cc
+first_there (true ∷ false ∷ false ∷ false ∷ false ∷ true ∷ bs) eight h = cc
+first_there (true ∷ false ∷ false ∷ false ∷ true ∷ bs) eight h = cc
+first_there (true ∷ false ∷ false ∷ true ∷ bs) eight h = cc
+first_there (true ∷ false ∷ true ∷ bs) eight h = cc
+first_there (true ∷ true ∷ bs) eight h = cc
+first_there (false ∷ bs) eight h = cc
+first_there [] eight h = cc
+first_there (true ∷ []) eight h = absurd (omega (arith, eight))
+first_there (true ∷ false ∷ []) eight h = absurd (omega (arith, eight))
+first_there (true ∷ false ∷ false ∷ []) eight h = absurd (omega (arith, eight))
+first_there (true ∷ false ∷ false ∷ false ∷ []) eight h = absurd (omega (arith, eight))
+first_there (true ∷ false ∷ false ∷ false ∷ false ∷ []) eight h = absurd (omega (arith, eight))
+first_there (true ∷ false ∷ false ∷ false ∷ false ∷ false ∷ []) eight h = absurd (omega (arith, eight))
+first_there (true ∷ false ∷ false ∷ false ∷ false ∷ false ∷ false ∷ []) eight h = absurd (omega (arith, eight))
+first_there (true ∷ false ∷ false ∷ false ∷ false ∷ false ∷ false ∷ false ∷ b ∷ bs) eight h = absurd (omega (arith, eight))

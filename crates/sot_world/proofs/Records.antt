@@ -6,7 +6,7 @@ use Rattle.std.specs.List.{All}
 use Rattle.sot_world.specs.declared.history.Record.{Record}
 use Rattle.sot_world.specs.declared.history.Record.TheVariants.{Input, Fire, Decide, Tick}
 use Rattle.sot_world.specs.HistoryEntry.{Logged, InputAt, FireAt, TickAt}
-use Rattle.sot_world.specs.HistoryRecords.{slots_filled, count_there, logged, end_of}
+use Rattle.sot_world.specs.HistoryRecords.{slots_filled, count_there, place_of, logged, end_of}
 
 part_more : (ns more : List ℤ) (from count : ℕ) → from + count ≤ length ns → take count (drop from (ns ++ more)) ≡ take count (drop from ns)
 part_more ns more from count inside =
@@ -38,13 +38,13 @@ count_next (true ∷ bs) [] o same = absurd (omega (arith, same))
 count_next (true ∷ bs) (m ∷ ms) o same = ap suc (count_next bs ms o (omega (arith, same)))
 
 pub logged_more : (ns more : List ℤ) (r : Record) → end_of r ≤ length ns → logged (ns ++ more) r ≡ logged ns r
-logged_more ns more (Input time topic from count) inside = ap (InputAt time topic) (part_more ns more from count inside)
-logged_more ns more (Fire enabled time node from there) inside =
+logged_more ns more (Input high time topic low count) inside = ap (InputAt time topic) (part_more ns more (place_of high low) count inside)
+logged_more ns more (Fire enabled there high time node low) inside =
     ap (λ d. FireAt time node d enabled)
-    (ap (slots_filled there) (drop-append-le from ns more (omega (arith, inside))) ∙ filled_more there (drop from ns) more (omega (arith, inside, length-drop from ns)))
-logged_more ns more (Decide time m mode) inside = refl
-logged_more ns more (Tick time from noise states) inside =
-    ap₂ (TickAt time) (part_more ns more from noise (omega (arith, inside))) (part_more ns more (from + noise) states inside)
+    (ap (slots_filled there) (drop-append-le (place_of high low) ns more (omega (arith, inside))) ∙ filled_more there (drop (place_of high low) ns) more (omega (arith, inside, length-drop (place_of high low) ns)))
+logged_more ns more (Decide mode time m) inside = refl
+logged_more ns more (Tick high time low noise states) inside =
+    ap₂ (TickAt time) (part_more ns more (place_of high low) noise (omega (arith, inside))) (part_more ns more (place_of high low + noise) states inside)
 
 pub all_logged_more : (ns more : List ℤ) (rs : List Record) → All (λ r. end_of r ≤ length ns) rs → map (logged (ns ++ more)) rs ≡ map (logged ns) rs
 all_logged_more ns more [] inside = refl

@@ -1,5 +1,5 @@
 -- What a step does to the parts of a configuration, part by part.
-use Rattle.std.specs.Prelude.{ℕ, ℤ, pos, Bool, true, false, not, List, [], slice_index_or, ◌≡◌, ◌⊎◌, ◌↔◌, ◌<◌, Ok, Option, Some, None, map, length}
+use Rattle.std.specs.Prelude.{ℕ, ℤ, pos, Bool, true, false, not, List, [], slice_index_or, ◌≡◌, ◌⊎◌, ◌↔◌, ◌<◌, Ok, Result, Option, Some, None, map, length}
 use Rattle.sot_box.specs.Sides.{Side}
 use Rattle.sot_lang.specs.declared.act.Act.{Act}
 use Rattle.sot_lang.specs.declared.tables.NodeInfo.{NodeInfo}
@@ -17,6 +17,7 @@ use Rattle.sot_lists.specs.Places.{At}
 use Rattle.sot_box.specs.Regions.{IsInRegion}
 use Rattle.sot_tube.specs.Tubes.{Keeps}
 use Rattle.sot_code.specs.declared.fired.Fired.{Fired}
+use Rattle.sot_lang.specs.declared.trap.Trap.{Trap}
 use Rattle.sot_code.specs.Recorded.{in_slots}
 use Rattle.sot_world.specs.declared.role.Role.{Role}
 use Rattle.sot_world.specs.declared.role.Role.TheVariants.{Free, Advanced, Safe}
@@ -74,6 +75,10 @@ IsRun p n scalars points locals result =
     (node : NodeInfo) (acts : List Act) (fired : bodies.Fired) → At p.nodes n node → IsCoded node acts
     → bodies.execution acts (local_ranges node) (write_ranges p node) (reading node scalars points) locals ≡ Ok fired
     → (result.locals ≡ fired.locals) × (result.draft ≡ in_slots fired.draft)
+
+-- the body ends with no trap, and gives this
+abbrev pub HasRun : Tables → ℕ → List ℤ → List (List ℤ) → List ℤ → Result Fired Trap → Type 0
+HasRun p n scalars points locals result = (fired : Fired) × (result ≡ Ok fired) × IsRun p n scalars points locals fired
 
 -- the numbers of a plant's inputs, and the points of the plants that it sees
 abbrev pub held_of : PlantInfo → List ℤ → List ℤ

@@ -1,5 +1,5 @@
 -- The records of a history, whose numbers stand in one list.
-use Rattle.std.specs.Prelude.{ℕ, suc, ℤ, ◌+◌, Bool, true, false, Option, None, Some, List, [], ◌∷◌, take, drop}
+use Rattle.std.specs.Prelude.{ℕ, suc, ℤ, ◌+◌, ◌*◌, Bool, true, false, Option, None, Some, List, [], ◌∷◌, take, drop}
 use Rattle.sot_world.specs.declared.history.Record.{Record}
 use Rattle.sot_world.specs.declared.history.Record.TheVariants.{Input, Fire, Decide, Tick}
 use Rattle.sot_world.specs.HistoryEntry.{Logged, InputAt, FireAt, DecideAt, TickAt}
@@ -17,16 +17,21 @@ count_there [] = 0
 count_there (false ∷ bs) = count_there bs
 count_there (true ∷ bs) = suc (count_there bs)
 
+-- the place of two parts, the lower one of 32 bits
+abbrev pub place_of : ℕ → ℕ → ℕ
+place_of high low = high * 4294967296 + low
+
 -- an entry, with its numbers from the list
 abbrev pub logged : List ℤ → Record → Logged
-logged numbers (Input time topic from count) = InputAt time topic (take count (drop from numbers))
-logged numbers (Fire enabled time node from there) = FireAt time node (slots_filled there (drop from numbers)) enabled
-logged numbers (Decide time m mode) = DecideAt time m mode
-logged numbers (Tick time from noise states) = TickAt time (take noise (drop from numbers)) (take states (drop (from + noise) numbers))
+logged numbers (Input high time topic low count) = InputAt time topic (take count (drop (place_of high low) numbers))
+logged numbers (Fire enabled there high time node low) = FireAt time node (slots_filled there (drop (place_of high low) numbers)) enabled
+logged numbers (Decide mode time m) = DecideAt time m mode
+logged numbers (Tick high time low noise states) =
+    TickAt time (take noise (drop (place_of high low) numbers)) (take states (drop (place_of high low + noise) numbers))
 
 -- where an entry's numbers end
 abbrev pub end_of : Record → ℕ
-end_of (Input time topic from count) = from + count
-end_of (Fire enabled time node from there) = from + count_there there
-end_of (Decide time m mode) = 0
-end_of (Tick time from noise states) = from + noise + states
+end_of (Input high time topic low count) = place_of high low + count
+end_of (Fire enabled there high time node low) = place_of high low + count_there there
+end_of (Decide mode time m) = 0
+end_of (Tick high time low noise states) = place_of high low + noise + states

@@ -1,5 +1,5 @@
 -- A history as its entries and the room left.
-use Rattle.std.specs.Prelude.{◌+◌, ◌*◌, ◌≤◌, map, length}
+use Rattle.std.specs.Prelude.{◌+◌, ◌*◌, ◌^◌, ◌<◌, ◌≤◌, map, length}
 use Rattle.std.specs.List.{All}
 use Rattle.sot_world.specs.declared.history.History.TheInside.{Inside}
 use Rattle.sot_world.specs.HistoryEntry.{Story}
@@ -13,3 +13,5 @@ pub record IsStory (h : Inside) : Type 0 where
   pub inside : All (λ r. end_of r ≤ length h.numbers.items) h.records.items
   pub entries : h.records.len + h.entries_left ≤ h.records.cap
   pub numbers : h.numbers.len + h.numbers_left + 8 * h.entries_left ≤ h.numbers.cap
+  pub few : h.numbers_left < 2 ^ 32
+  pub places : h.numbers.len + h.numbers_left + 8 * h.entries_left < 2 ^ 48

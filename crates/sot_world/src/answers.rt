@@ -11,7 +11,7 @@ ghost use Rattle.sot_world.specs.Answers.{IsRight};
 
 use sot_box::Point;
 use sot_lang::Typed;
-use sot_tube::{Accepted, keeps};
+use sot_tube::{Accepted, keeps, safer_points_are_kept};
 use std::alloc::{AllocError, Global};
 use std::marker::Model;
 
@@ -26,8 +26,8 @@ pub enum Answer {
     },
 }
 
-/// Answers that were given of the modules of an accepted program. States come back, and to look for an answer costs a hundredth
-/// of what it costs to follow a tube.
+/// Answers that were given of the modules of an accepted program. States come back, and to look for an answer takes some forty
+/// instructions, where to follow a tube takes thousands.
 #[derive(Drop)]
 pub struct Answers<'a> {
     accepted: &'a Accepted<'a>,
@@ -121,6 +121,16 @@ impl<'a> Answers<'a> {
         self.accepted.typed()
     }
 
+    // Whether the safer region of a module has a point. From such a point on the certificate shows that the module keeps its plant safe.
+    fn is_shown(&self, module: u32, s: &Point) -> bool
+        requires { MayFollow self.now.program «module» (point_box s.now) }
+        ensures { IsTrue result → (a : ModuleInfo) → At self.now.program.modules «module» a → Keeps self.now.program self.now.cert.jitter a s.now }
+    {
+        safer_points_are_kept();
+        let p = self.accepted.typed();
+        p.modules[module as usize].safer.has(s)
+    }
+
     // Follows the tube, and keeps what it answers.
     fn ask(&mut self, place: usize, module: u32, s: &Point) -> bool
         requires follow { MayFollow self.old.program «module» (point_box s.now) }
@@ -155,13 +165,16 @@ impl<'a> Answers<'a> {
     }
 
     /// Whether a module keeps its plant safe from a point on for two of its periods, each longer by the jitter, whatever the
-    /// commands.
+    /// commands. No tube is followed from a point of the safer region, nor from one whose answer is still there.
     pub fn keeps(&mut self, module: u32, s: &Point) -> bool
         requires follow { MayFollow self.old.program «module» (point_box s.now) }
         requires jitter { self.old.cert.jitter < 1000 }
         ensures kept { (a : ModuleInfo) → At self.old.program.modules «module» a → IsTrue result ↔ Keeps self.old.program self.old.cert.jitter a s.now }
         ensures same { self.new ≡ self.old }
     {
+        if self.is_shown(module, s) {
+            return true;
+        }
         let place = place_of(module, s);
         match self.recall(place, module, s) {
             Some(kept) => kept,

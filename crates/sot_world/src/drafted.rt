@@ -1,6 +1,6 @@
 //! Drafts as a history keeps them: their numbers in a list, and which slots these are of.
 
-ghost use Rattle.std.specs.Prelude.{◌≡◌, ◌+◌, ◌≤◌, ◌<◌, ◌++◌, ℤ, List, length, drop, is_some, option_to_list, vec_len, vec_capacity};
+ghost use Rattle.std.specs.Prelude.{◌≡◌, ◌+◌, ◌≤◌, ◌<◌, ◌++◌, ◌∷◌, ℤ, List, Some, None, true, false, length, drop, replicate, is_some, option_to_list, vec_len, vec_capacity};
 ghost use Rattle.sot_world.specs.HistoryRecords.{slots_filled, count_there};
 
 use sot_lang::Draft;
@@ -37,11 +37,31 @@ pub(crate) fn append_draft(numbers: &mut Vec<i64>, draft: &Draft) -> [bool; 8]
     there
 }
 
-/// The draft of these slots, whose numbers stand in a list from a place on.
+// Whether the first slot alone has a number.
+fn is_first_alone(there: &[bool; 8]) -> bool
+    ensures { result ≡ true → there.now ≡ true ∷ replicate 7 false }
+{
+    let others = there[1] | there[2] | there[3] | there[4] | there[5] | there[6] | there[7];
+    there[0] & !others
+}
+
+// The draft of a number in the first slot.
+fn first_alone(number: i64) -> Draft
+    ensures { result ≡ Some number ∷ replicate 7 None }
+{
+    let mut draft = Draft::blank();
+    draft.set(0, number);
+    draft
+}
+
+/// The draft of these slots, whose numbers stand in a list from a place on. Most drafts have one number.
 pub(crate) fn draft_at(numbers: &[i64], from: usize, there: &[bool; 8]) -> Draft
     requires { from + count_there there.now ≤ length numbers.now }
     ensures { result ≡ slots_filled there.now (drop from numbers.now) }
 {
+    if is_first_alone(there) {
+        return first_alone(numbers[from]);
+    }
     let mut draft = Draft::blank();
     let mut at = from;
     for i in 0..8 {

@@ -4,7 +4,7 @@ ghost use Rattle.std.specs.Prelude.{◌≡◌, ℕ, ℤ, Option, ◌-◌, ◌<�
 ghost use Rattle.sot_lists.specs.Places.{At};
 ghost use Rattle.sot_lang.specs.Ranges.{range_of};
 ghost use Rattle.sot_world.specs.Steps as steps;
-ghost use Rattle.sot_world.specs.Changes.{is_ac, role_enables, IsOfModule, put_drafted, Runs, IsRun};
+ghost use Rattle.sot_world.specs.Changes.{is_ac, role_enables, IsOfModule, put_drafted, Runs, HasRun};
 
 use crate::lent::Lent;
 use crate::looks::is_in;
@@ -12,7 +12,7 @@ use crate::mode::Mode;
 use crate::role::Role;
 use sot_box::Point;
 use sot_code::{Fired, Locals, run_node};
-use sot_lang::{Draft, ScalarInfo, Typed};
+use sot_lang::{Draft, ScalarInfo, Trap, Typed};
 
 fn is_ac(mode: Mode) -> bool
     ensures { result ≡ is_ac mode }
@@ -35,17 +35,21 @@ pub fn enables(role: Role, modes: &[Mode]) -> bool
     }
 }
 
-/// What a coded node's body gives on the present numbers.
-pub fn run(p: &Typed, node: u32, scalars: &[i64], points: &[Point], locals: &Locals) -> Fired
+/// What a coded node's body gives on the present numbers. It does not trap; the outcome is handed on as it is, since a copy of what
+/// it holds would cost as much as most bodies.
+pub fn run(
+    p: &Typed,
+    node: u32,
+    scalars: &[i64],
+    points: &[Point],
+    locals: &Locals,
+) -> Result<Fired, Trap>
     requires { Runs p.now node scalars.now points.now locals.now }
-    ensures { IsRun p.now node scalars.now points.now locals.now result }
+    ensures { HasRun p.now node scalars.now points.now locals.now result }
 {
     let info = &p.nodes[node as usize];
     let seen = Lent::of(&info.reads, scalars, points);
-    match run_node(p, node, &seen, locals) {
-        Ok(fired) => fired,
-        Err(_) => unreachable!(),
-    }
+    run_node(p, node, &seen, locals)
 }
 
 // A number in its scalar's range replaces the scalar's, and any other is refused.

@@ -2,7 +2,7 @@
 
 ghost use Rattle.std.specs.Prelude.{◌≡◌, ℕ, ◌+◌, ◌^◌, ◌<◌, ◌≤◌, [], ◌∷◌, ◌++◌, ℤ, List, length, slice_get, Some, IfOk, vec_len, vec_capacity};
 ghost use Rattle.sot_world.specs.Histories.{entry_of, numbers_in};
-ghost use Rattle.sot_world.specs.HistoryRecords.{logged, end_of};
+ghost use Rattle.sot_world.specs.HistoryRecords.{place_of, logged, end_of};
 
 use crate::drafted::{append_draft, draft_at};
 use crate::mode::Mode;
@@ -40,35 +40,55 @@ pub enum Entry<'h> {
     },
 }
 
-// An entry whose numbers stand in the history's list, from a place on.
+// An entry whose numbers stand in the history's list, from a place on, which is kept in two parts. Fields lie in memory in this
+// order behind the tag, so that a record takes 24 bytes.
 #[derive(Clone, Copy)]
 enum Record {
     Input {
+        high: u16,
         time: u32,
         topic: u32,
-        from: usize,
-        count: usize,
+        low: u32,
+        count: u32,
     },
-    // The numbers of a draft, in the slots where one is there: most drafts have one or two. Fields lie in memory in this
-    // order behind the tag, and with the flag beside the tag a record takes 32 bytes, where at the end it would make it 40.
+    // The numbers of a draft, in the slots where one is there: most drafts have one or two.
     Fire {
         enabled: bool,
+        there: [bool; 8],
+        high: u16,
         time: u32,
         node: u32,
-        from: usize,
-        there: [bool; 8],
+        low: u32,
     },
     Decide {
+        mode: Mode,
         time: u32,
         module: u32,
-        mode: Mode,
     },
     Tick {
+        high: u16,
         time: u32,
-        from: usize,
-        noise: usize,
-        states: usize,
+        low: u32,
+        noise: u32,
+        states: u32,
     },
+}
+
+// A place of the list of numbers, which is below 2^48, in two parts.
+fn parts_of(place: usize) -> (u16, u32)
+    requires { place < 2 ^ 48 }
+    ensures { place_of result.0 result.1 ≡ place }
+{
+    let high = place / 4_294_967_296;
+    let low = place % 4_294_967_296;
+    (high as u16, low as u32)
+}
+
+// The place of these two parts.
+fn place_of(high: u16, low: u32) -> usize
+    ensures { result ≡ place_of high low }
+{
+    high as usize * 4_294_967_296 + low as usize
 }
 
 /// The entries of a run, in order, in room that is taken at the start.
@@ -174,22 +194,25 @@ fn append(to: &mut Vec<i64>, more: &[i64])
 
 // The record of an entry, whose numbers go behind the list.
 fn kept(numbers: &mut Vec<i64>, e: &Entry<'_>) -> Record
-    requires { vec_len numbers.old + numbers_in (entry_of e.now) + 8 ≤ vec_capacity numbers.old }
+    requires room { vec_len numbers.old + numbers_in (entry_of e.now) + 8 ≤ vec_capacity numbers.old }
+    requires few { numbers_in (entry_of e.now) < 2 ^ 32 }
+    requires place { vec_len numbers.old < 2 ^ 48 }
     ensures same { logged numbers.new.items result ≡ entry_of e.now }
     ensures inside { end_of result ≤ length numbers.new.items }
     ensures behind { (more : List ℤ) × (numbers.new.items ≡ numbers.old.items ++ more) }
     ensures len { vec_len numbers.new ≤ vec_len numbers.old + numbers_in (entry_of e.now) + 8 }
     ensures capacity { vec_capacity numbers.old ≤ vec_capacity numbers.new }
 {
-    let from = numbers.len();
+    let (high, low) = parts_of(numbers.len());
     match *e {
         Entry::Input { time, topic, value } => {
             append(numbers, value);
             Record::Input {
+                high,
                 time,
                 topic,
-                from,
-                count: value.len(),
+                low,
+                count: value.len() as u32,
             }
         }
         Entry::Fire {
@@ -201,13 +224,14 @@ fn kept(numbers: &mut Vec<i64>, e: &Entry<'_>) -> Record
             let there = append_draft(numbers, &draft);
             Record::Fire {
                 enabled,
+                there,
+                high,
                 time,
                 node,
-                from,
-                there,
+                low,
             }
         }
-        Entry::Decide { time, module, mode } => Record::Decide { time, module, mode },
+        Entry::Decide { time, module, mode } => Record::Decide { mode, time, module },
         Entry::Tick {
             time,
             noise,
@@ -216,10 +240,11 @@ fn kept(numbers: &mut Vec<i64>, e: &Entry<'_>) -> Record
             append(numbers, noise);
             append(numbers, states);
             Record::Tick {
+                high,
                 time,
-                from,
-                noise: noise.len(),
-                states: states.len(),
+                low,
+                noise: noise.len() as u32,
+                states: states.len() as u32,
             }
         }
     }
@@ -232,39 +257,46 @@ fn lent(numbers: &[i64], kept: Record) -> Entry<'_>
 {
     match kept {
         Record::Input {
+            high,
             time,
             topic,
-            from,
+            low,
             count,
-        } => Entry::Input {
-            time,
-            topic,
-            value: &numbers[from..from + count],
-        },
+        } => {
+            let from = place_of(high, low);
+            Entry::Input {
+                time,
+                topic,
+                value: &numbers[from..from + count as usize],
+            }
+        }
         Record::Fire {
             enabled,
+            there,
+            high,
             time,
             node,
-            from,
-            there,
+            low,
         } => Entry::Fire {
             time,
             node,
-            draft: draft_at(numbers, from, &there),
+            draft: draft_at(numbers, place_of(high, low), &there),
             enabled,
         },
-        Record::Decide { time, module, mode } => Entry::Decide { time, module, mode },
+        Record::Decide { mode, time, module } => Entry::Decide { time, module, mode },
         Record::Tick {
+            high,
             time,
-            from,
+            low,
             noise,
             states,
         } => {
-            let middle = from + noise;
+            let from = place_of(high, low);
+            let middle = from + noise as usize;
             Entry::Tick {
                 time,
                 noise: &numbers[from..middle],
-                states: &numbers[middle..middle + states],
+                states: &numbers[middle..middle + states as usize],
             }
         }
     }

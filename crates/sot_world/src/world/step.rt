@@ -95,14 +95,17 @@ impl<'a> World<'a> {
         ensures outcome { (r : Recorded) × RecordsCode self.old.accepted.program node self.old.at r × (result ≡ outcome_of r) }
     {
         let p = self.accepted.typed();
-        let fired = run(
+        let ran = run(
             p,
             node,
             &self.scalars,
             &self.points,
             &self.locals[node as usize],
         );
-        self.commit(node, &fired)
+        match &ran {
+            Ok(fired) => self.commit(node, fired),
+            Err(_) => unreachable!(),
+        }
     }
 
     /// A coded node, which is left, fires with what its body gives on the present numbers and its locals, which the caller has

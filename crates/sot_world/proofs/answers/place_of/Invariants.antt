@@ -1,4 +1,4 @@
-use Rattle.std.proofs.Common.{ℤ, pos, ◌≤ℤ◌, ◌<ℤ◌}
+use Rattle.std.proofs.Common.{pos, ◌≤ℤ◌, ◌<ℤ◌}
 use Rattle.sot_world.proofs.answers.place_of.Given as goal
 
 -- a remainder

@@ -29,8 +29,7 @@ loop-k-preserved c =
     let more = c.split_at-in-loop-k.ensures.back ∙ ap (λ n. drop n c.loop-k.rest.now) count in
     let lt : c.loop-k.k < length c.loop-k.next = omega (arith, below, k.size) in
     record {
-      held = c.next_point.ensures.held;
-      seen = c.next_point.ensures.seen;
+      room = c.next_point.ensures.room;
       size = length-set c.loop-k.next c.loop-k.k c.next_point.result ∙ k.size;
       count = omega (arith, ap length more, length-drop (length c.index.result.now.noise.items) c.loop-k.rest.now, k.count, noise_from c.args.p.now.plants c.loop-k.k _ at);
       parts = parts.1 ∙ ap (cut (drop (c.loop-k.k + 1) c.args.p.now.plants)) (sym more);

@@ -7,8 +7,7 @@ use Rattle.sot_world.proofs.tick.move_all.Given as goal
 abbrev pub invariant-loop-k : goal.invariant-loop-k
 invariant-loop-k l = record {
   size : length l.next ≡ length l.p.plants;
-  held : length l.held ≡ 8;
-  seen : length l.seen ≡ 64;
+  room : length l.numbers ≡ 80;
   count : length l.rest ≡ noise_count (drop l.k l.p.plants);
   parts : drop l.k (cut l.p.plants l.noise) ≡ cut (drop l.k l.p.plants) l.rest;
   moved : (j : ℕ) → j < l.k → IsMoved l.p j l.scalars l.points (slice_index_or (cut l.p.plants l.noise) j []) (slice_index_or l.next j []);

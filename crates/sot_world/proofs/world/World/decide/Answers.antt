@@ -3,7 +3,7 @@ use Rattle.std.proofs.lemmas.Option.{slice_get_within}
 use Rattle.sot_lists.specs.Places.{At}
 use Rattle.sot_box.specs.Boxes.{point_box}
 use Rattle.sot_tube.specs.Calls.{MayFollow}
-use Rattle.sot_world.specs.Configurations.{Sc, is_left_dm, mode_of, point_of}
+use Rattle.sot_world.specs.Configurations.{Sc, is_left_dm, mode_of}
 use Rattle.sot_world.specs.Steps.{Decide}
 use Rattle.sot_world.specs.Changes.{IsNextMode}
 use Rattle.sot_world.specs.WorldView.{configuration}
