@@ -3,7 +3,6 @@ pub mod Pieces
 pub mod Numerals
 pub mod Rows
 pub mod Places
-pub mod Names
 pub mod ReadMoves
 pub mod Slots
 pub mod SoundLines

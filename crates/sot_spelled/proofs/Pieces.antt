@@ -1,7 +1,11 @@
 -- What it means that a reader of pieces answers, and that it finds the bytes that stand in front.
-use Rattle.std.proofs.Common.{◌≡◌, ℕ, ◌==◌, true, List, [], ◌∷◌, ◌++◌, Option, Some, None, inl, inr, refl, sym, ap, ◌∙◌, arith}
+use Rattle.std.proofs.Common.{◌≡◌, ℕ, ◌+◌, ◌==◌, true, false, List, [], ◌∷◌, ◌++◌, Option, Some, None, Bor, length, take, drop, inl, inr, refl, sym, ap, ◌∙◌, arith}
+use Rattle.std.specs.Prelude.{MatchOption, nat_eq}
+use Rattle.std.specs.Option.{option_map}
+use Rattle.std.specs.Cmp.Lexicographic.{pointwise}
 use Rattle.std.proofs.lemmas.Bool.{cases_Bool, cond-true, cond-false}
-use Rattle.std.proofs.lemmas.Bool.Decides.{nat_tests}
+use Rattle.std.proofs.lemmas.Bool.Decides.{nat_tests, Decides-eqb}
+use Rattle.std.proofs.lemmas.Slice.Eq.{strip_prefix_is}
 use Rattle.std.proofs.lemmas.Option.{same_Some}
 use Rattle.sot_spelled.specs.Pieces.{◌>>=◌, behind, at_end}
 
@@ -46,3 +50,14 @@ in_front (c ∷ cs) (b ∷ bs) rest e =
           )
       | inr no' ↦ (let never : None ≡ Some rest = sym (cond-false (b == c) _ _ no') ∙ e in absurd cc)
     ]
+
+-- what `strip_prefix` answers is what stands behind
+pub stripped : (text front : List ℕ) (r : Option (Bor (List ℕ)))
+    → MatchOption r (pointwise nat_eq (take (length front) text) front ≡ false) (λ x. (pointwise nat_eq (take (length front) text) front ≡ true) × (x.now ≡ drop (length front) text) × (length x.now + length front ≡ length text))
+    → option_map (λ rest. rest.now) r ≡ behind front text
+stripped text front (Some x) is = sym (ap (behind front) (strip_prefix_is Decides-eqb text front (Some x) is) ∙ behind_them front x.now)
+stripped text front None is = nothing (behind front text) refl
+  where
+    nothing : (o : Option (List ℕ)) → behind front text ≡ o → None ≡ o
+    nothing None e = refl
+    nothing (Some rest) e = absurd (strip_prefix_is Decides-eqb text front None is rest (in_front front text rest e))

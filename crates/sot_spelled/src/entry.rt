@@ -20,7 +20,7 @@ use crate::piece::{behind, behind_byte};
 use crate::slot::behind_scalar;
 use itoa::Buffer;
 use sot_lang::{Draft, PlantInfo, Typed};
-use sot_trace::{digit, is_in_range, writes_of};
+use sot_trace::{digit, digit_below, is_in_range, writes_of};
 use sot_world::{Entry, Mode};
 
 fn behind_time(time: u32, text: &[u8]) -> Option<&[u8]>
@@ -29,12 +29,22 @@ fn behind_time(time: u32, text: &[u8]) -> Option<&[u8]>
     behind(text, Buffer::new().format(time).as_bytes())
 }
 
+// A number that is not one digit alone.
+fn behind_longer(number: i64, text: &[u8]) -> Option<&[u8]>
+    ensures { option_map (λ rest. rest.now) result ≡ behind (signed_numeral number) text.now }
+{
+    match digit_below(number) {
+        Some(digit) => behind(text, &[b'-', digit]),
+        None => behind(text, Buffer::new().format(number).as_bytes()),
+    }
+}
+
 fn behind_number(number: i64, text: &[u8]) -> Option<&[u8]>
     ensures { option_map (λ rest. rest.now) result ≡ behind (signed_numeral number) text.now }
 {
     match digit(number) {
         Some(digit) => behind_byte(text, digit),
-        None => behind(text, Buffer::new().format(number).as_bytes()),
+        None => behind_longer(number, text),
     }
 }
 

@@ -11,7 +11,6 @@ ghost use Rattle.sot_lang.specs.declared.tables.NodeInfo.{NodeInfo as Node};
 ghost use Rattle.sot_lang.specs.declared.tables.ModuleInfo.{ModuleInfo as Module};
 ghost use Rattle.sot_spelled.specs.Readers.{word_at, place_of, topic_named, node_named, module_named};
 
-use crate::piece::behind;
 use sot_lang::{ModuleInfo, NodeInfo, TopicInfo, Typed};
 
 /// A word, which may be empty, and the text behind it.
@@ -42,11 +41,10 @@ pub fn word_at<'a>(text: &'a [u8]) -> Word<'a>
     Word { name, rest }
 }
 
-// A name is short, so that it is compared byte by byte.
 fn is_named(name: &[u8], word: &[u8]) -> bool
     ensures { result ≡ bytes_eq name.now word.now }
 {
-    name.len() == word.len() && behind(word, name).is_some()
+    name == word
 }
 
 /// The tables of every program keep the rules.

@@ -1,6 +1,6 @@
 //! Pieces of a line, each read from the front of a text.
 
-ghost use Rattle.std.specs.Prelude.{◌≡◌, ◌∷◌, [], ℕ, ℤ, pos, ◌+◌, ◌<◌, ◌≤◌, ◌^◌, min, length, Some};
+ghost use Rattle.std.specs.Prelude.{◌≡◌, ◌∷◌, [], ℕ, ℤ, pos, ◌+◌, ◌-◌, ◌<◌, ◌≤◌, ◌^◌, min, List, length, Some, IsTrue, ◌↔◌, IfSome, IfNone};
 ghost use Rattle.std.specs.List.{prefix_len};
 ghost use Rattle.std.specs.Char.{is_ascii_digit};
 ghost use Rattle.std.specs.Option.{option_map};
@@ -15,6 +15,13 @@ struct Digits<'a> {
     rest: &'a [u8],
 }
 
+// What one digit stands for, and the text behind it.
+#[derive(Clone, Copy)]
+struct OneDigit<'a> {
+    digit: u8,
+    rest: &'a [u8],
+}
+
 /// A number, if it has 64 bits, and the text behind it.
 #[derive(Clone, Copy)]
 pub struct Number<'a> {
@@ -22,10 +29,8 @@ pub struct Number<'a> {
     pub rest: &'a [u8],
 }
 
-// The number past the greatest that is kept, and one above what digits are counted to.
-const PAST: u128 = 1 << 63;
-
-const ENOUGH: u128 = 1 << 64;
+// The number past the greatest that is kept.
+const PAST: u64 = 1 << 63;
 
 /// The text behind this byte, if it stands in front.
 pub fn behind_byte(text: &[u8], byte: u8) -> Option<&[u8]>
@@ -37,15 +42,12 @@ pub fn behind_byte(text: &[u8], byte: u8) -> Option<&[u8]>
     }
 }
 
-/// The text behind these bytes, if they stand in front. They are few, so that they are looked at one by one.
+/// The text behind these bytes, if they stand in front. It is inlined, so that bytes that are known beforehand are compared at once.
+#[inline(always)]
 pub fn behind<'a>(text: &'a [u8], front: &[u8]) -> Option<&'a [u8]>
     ensures { option_map (λ rest. rest.now) result ≡ behind front.now text.now }
 {
-    let (_, mut rest) = text.split_at(0);
-    for byte in front {
-        rest = behind_byte(rest, *byte)?;
-    }
-    Some(rest)
+    text.strip_prefix(front)
 }
 
 fn digits_len(text: &[u8]) -> usize
@@ -77,19 +79,19 @@ fn digits_at<'a>(text: &'a [u8]) -> Option<Digits<'a>>
     }
 }
 
-// The number of these digits, counted up to 2^64.
-fn magnitude(digits: &[u8]) -> u128
-    ensures { result ≡ min (value digits.now) (2 ^ 64) }
+// The number of these digits, counted up to the greatest of 64 bits.
+fn magnitude(digits: &[u8]) -> u64
+    ensures { result ≡ min (value digits.now) (2 ^ 64 - 1) }
 {
-    let mut sum = 0;
+    let mut sum = 0u64;
     for digit in digits {
-        let next = 10 * sum + u128::from(digit.saturating_sub(b'0'));
-        sum = next.min(ENOUGH);
+        let more = u64::from(digit.saturating_sub(b'0'));
+        sum = sum.saturating_mul(10).saturating_add(more);
     }
     sum
 }
 
-fn above(magnitude: u128) -> Option<i64>
+fn above(magnitude: u64) -> Option<i64>
     ensures { result ≡ bounded (pos magnitude) }
 {
     if magnitude < PAST {
@@ -100,7 +102,7 @@ fn above(magnitude: u128) -> Option<i64>
 }
 
 // The number of this magnitude below 0.
-fn below(magnitude: u128) -> Option<i64>
+fn below(magnitude: u64) -> Option<i64>
     requires { 0 < magnitude }
     ensures { (z : ℤ) → minus magnitude ≡ Some z → result ≡ bounded z }
 {
@@ -111,8 +113,46 @@ fn below(magnitude: u128) -> Option<i64>
     }
 }
 
+// Whether a text begins with no digit.
+fn begins_otherwise(text: &[u8]) -> bool
+    ensures { IsTrue result ↔ (prefix_len is_ascii_digit text.now ≡ 0) }
+{
+    match text {
+        [first, ..] => !first.is_ascii_digit(),
+        [] => true,
+    }
+}
+
+// A numeral of one digit, as most are.
+fn one_digit_at<'a>(text: &'a [u8]) -> Option<OneDigit<'a>>
+    ensures read { IfSome result (λ one. numeral_at text.now ≡ Some (one.digit, one.rest.now)) }
+    ensures small { IfSome result (λ one. one.digit < 10) }
+    ensures others { IfNone result (prefix_len is_ascii_digit text.now ≡ 1 → ⊥) }
+{
+    match text {
+        [first, rest @ ..] if first.is_ascii_digit() && begins_otherwise(rest) => Some(OneDigit {
+            digit: first.saturating_sub(b'0'),
+            rest,
+        }),
+        _ => None,
+    }
+}
+
 /// A number from 0 on.
 pub fn numeral_at<'a>(text: &'a [u8]) -> Option<Number<'a>>
+    ensures { option_map (λ n. (n.value, n.rest.now)) result ≡ kept_numeral (numeral_at text.now) }
+{
+    match one_digit_at(text) {
+        Some(one) => Some(Number {
+            value: above(u64::from(one.digit)),
+            rest: one.rest,
+        }),
+        None => longer_numeral_at(text),
+    }
+}
+
+// A number from 0 on, of any digits.
+fn longer_numeral_at<'a>(text: &'a [u8]) -> Option<Number<'a>>
     ensures { option_map (λ n. (n.value, n.rest.now)) result ≡ kept_numeral (numeral_at text.now) }
 {
     let read = digits_at(text)?;
@@ -124,6 +164,29 @@ pub fn numeral_at<'a>(text: &'a [u8]) -> Option<Number<'a>>
 
 // A number below 0, behind its minus.
 fn negative_at<'a>(text: &'a [u8]) -> Option<Number<'a>>
+    ensures { option_map (λ n. (n.value, n.rest.now)) result ≡ kept_number (negative_at text.now) }
+{
+    match one_digit_at(text) {
+        Some(one) => below_one_digit(one.digit, one.rest),
+        None => longer_negative_at(text),
+    }
+}
+
+fn below_one_digit(digit: u8, rest: &[u8]) -> Option<Number<'_>>
+    requires { digit < 10 }
+    ensures { (text : List ℕ) → numeral_at text ≡ Some (digit, rest.now) → option_map (λ n. (n.value, n.rest.now)) result ≡ kept_number (negative_at text) }
+{
+    if digit == 0 {
+        return None;
+    }
+    Some(Number {
+        value: below(u64::from(digit)),
+        rest,
+    })
+}
+
+// A number below 0, of any digits, behind its minus.
+fn longer_negative_at<'a>(text: &'a [u8]) -> Option<Number<'a>>
     ensures { option_map (λ n. (n.value, n.rest.now)) result ≡ kept_number (negative_at text.now) }
 {
     let read = digits_at(text)?;

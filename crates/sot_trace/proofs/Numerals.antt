@@ -30,6 +30,11 @@ pub digit_is : (z : ℤ) → int_le (pos 0) z ≡ true → int_le z (pos 9) ≡ 
 digit_is (pos n) some small = (let few : n < 10 = grind (arith, nat_tests) in sym (one_digit n few))
 digit_is (negsuc n) some small = absurd cc
 
+-- a number from -9 to -1 is its digit behind a minus
+pub digit_below_is : (z : ℤ) → int_le (negsuc 8) z ≡ true → int_le z (negsuc 0) ≡ true → signed_numeral z ≡ 45 ∷ (48 + nat_abs z) ∷ []
+digit_below_is (pos n) some small = absurd cc
+digit_below_is (negsuc n) some small = (let few : suc n < 10 = grind (arith, nat_tests) in ap (λ x. 45 ∷ x) (sym (one_digit (suc n) few)))
+
 last_digit : (n : ℕ) (front : List ℕ) → 10 ≤ n → front ≡ numeral (n / 10) → front ++ ((48 + n % 10) ∷ []) ≡ numeral n
 last_digit n front large is =
     ap (λ x. x ++ ((48 + n % 10) ∷ [])) (is ∙ above_none (n / 10) (omega arith))

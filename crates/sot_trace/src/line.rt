@@ -32,10 +32,15 @@ fn put_input(
     put_numbers(out, value)
 }
 
-fn firing_word(enabled: bool) -> &'static str
-    ensures { result.now ≡ firing_word enabled }
+// Each word is put by itself, so that its length is known where it is put.
+fn put_firing_word(out: &mut String, enabled: bool) -> Result<(), AllocError>
+    ensures { OnOk result (string_bytes out.new ≡ string_bytes out.old ++ firing_word enabled) }
 {
-    if enabled { " fire " } else { " idle " }
+    if enabled {
+        out.push_str(" fire ")
+    } else {
+        out.push_str(" idle ")
+    }
 }
 
 /// The scalars that a node writes, in order.
@@ -63,17 +68,17 @@ fn put_firing(
     ensures few { IfOk result (λ refused. refused ≤ 8) }
 {
     put_time(out, time)?;
-    out.push_str(firing_word(enabled))?;
+    put_firing_word(out, enabled)?;
     put_node(out, p, node)?;
     put_draft(out, p, writes_of(p, node), draft)
 }
 
-fn mode_word(mode: Mode) -> &'static str
-    ensures { result.now ≡ mode_word mode }
+fn put_mode(out: &mut String, mode: Mode) -> Result<(), AllocError>
+    ensures { OnOk result (string_bytes out.new ≡ string_bytes out.old ++ mode_word mode) }
 {
     match mode {
-        Mode::Ac => " ac",
-        Mode::Sc => " sc",
+        Mode::Ac => out.push_str(" ac"),
+        Mode::Sc => out.push_str(" sc"),
     }
 }
 
@@ -89,7 +94,7 @@ fn put_decision(
     put_time(out, time)?;
     out.push_str(" decide ")?;
     put_module(out, p, decider)?;
-    out.push_str(mode_word(mode))
+    put_mode(out, mode)
 }
 
 fn put_tick(

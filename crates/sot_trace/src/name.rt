@@ -1,7 +1,6 @@
 //! Names, each put behind what stands there already.
 
 ghost use Rattle.std.specs.Prelude.{◌≡◌, ◌<◌, ◌++◌, length, OnOk};
-ghost use Rattle.std.specs.Str.{IsAscii};
 ghost use Rattle.std.specs.String.{string_bytes};
 ghost use Rattle.sot_trace.specs.Names.{topic_name, node_name, module_name, field_part, scalar_name};
 
@@ -9,29 +8,11 @@ use sot_lang::Typed;
 use sot_tree::Name;
 use std::alloc::AllocError;
 
-// Bytes up to this many are put one by one, which takes less than to copy so few.
-const FEW: usize = 8;
-
-fn put_ascii(out: &mut String, bytes: &[u8]) -> Result<(), AllocError>
-    requires { IsAscii bytes.now }
-    ensures { OnOk result (string_bytes out.new ≡ string_bytes out.old ++ bytes.now) }
-{
-    for byte in bytes {
-        out.push(char::from(*byte))?;
-    }
-    Ok(())
-}
-
 /// A name.
 pub fn put_name(out: &mut String, name: &Name) -> Result<(), AllocError>
     ensures { OnOk result (string_bytes out.new ≡ string_bytes out.old ++ name.now) }
 {
-    let bytes = name.as_bytes();
-    if bytes.len() <= FEW && bytes.is_ascii() {
-        put_ascii(out, bytes)
-    } else {
-        out.push_str(name.as_str())
-    }
+    out.push_str(name.as_str())
 }
 
 /// The name of a topic, and nothing where there is none.

@@ -1,6 +1,6 @@
 //! Numbers, each put behind what stands there already.
 
-ghost use Rattle.std.specs.Prelude.{◌≡◌, ◌<◌, ◌∷◌, ◌++◌, [], ℕ, pos, OnOk, IfSome, IfNone};
+ghost use Rattle.std.specs.Prelude.{◌≡◌, ◌<◌, ◌∷◌, ◌++◌, [], ℕ, pos, negsuc, OnOk, IfSome, IfNone};
 ghost use Rattle.std.specs.String.{string_bytes};
 ghost use Rattle.sot_trace.specs.Numbers.{numeral, signed_numeral, further, numbers};
 
@@ -34,13 +34,39 @@ pub fn digit(number: i64) -> Option<u8>
     }
 }
 
+/// The digit of a number from -9 to -1, which stands behind a `-`.
+pub fn digit_below(number: i64) -> Option<u8>
+    ensures numeral { IfSome result (λ d. signed_numeral number ≡ 45 ∷ d ∷ []) }
+    ensures ascii { IfSome result (λ d. d < 128) }
+    ensures others { IfNone result ((n : ℕ) → n < 9 → number ≡ negsuc n → ⊥) }
+{
+    if -9 <= number && number <= -1 {
+        Some(b'0' + number.unsigned_abs() as u8)
+    } else {
+        None
+    }
+}
+
+// A number that is not one digit alone.
+fn put_longer(out: &mut String, number: i64) -> Result<(), AllocError>
+    ensures { OnOk result (string_bytes out.new ≡ string_bytes out.old ++ signed_numeral number) }
+{
+    match digit_below(number) {
+        Some(digit) => {
+            out.push('-')?;
+            out.push(char::from(digit))
+        }
+        None => out.push_str(Buffer::new().format(number)),
+    }
+}
+
 /// A number in decimal, behind a `-` where it is below 0.
 pub fn put_number(out: &mut String, number: i64) -> Result<(), AllocError>
     ensures { OnOk result (string_bytes out.new ≡ string_bytes out.old ++ signed_numeral number) }
 {
     match digit(number) {
         Some(digit) => out.push(char::from(digit)),
-        None => out.push_str(Buffer::new().format(number)),
+        None => put_longer(out, number),
     }
 }
 

@@ -1,11 +1,4 @@
-use Rattle.std.proofs.Common.{sym, ap, ◌∙◌}
-use Rattle.sot_text.specs.Lexeme.{value}
-use Rattle.sot_spelled.specs.Kept.{kept_number}
-use Rattle.sot_spelled.proofs.Magnitudes.{negative_of, below_is}
 use Rattle.sot_spelled.proofs.piece.negative_at.Goals as goal
 
-pub returns : goal.returns
-returns c =
-    let read = c.in_ok-read.read in
-    sym (below_is (value read.digits.now) c.magnitude-magnitude.result c.below.result read.rest.now c.magnitude-magnitude.ensures c.if-magnitude-eq0.false c.below.ensures)
-    ∙ ap (λ o. kept_number (negative_of o)) c.in_ok-read.ensures
+pub returns-in-Some : goal.returns-in-Some
+returns-in-Some c = c.below_one_digit.ensures c.args.text.now c.in-Some.ensures.read

@@ -1,6 +1,5 @@
-use Rattle.std.proofs.Common.{ℕ, ◌+◌, drop, slice_index_or, arith}
+use Rattle.std.proofs.Common.{ℕ, slice_index_or, arith}
 use Rattle.std.proofs.lemmas.Option.{slice_get-get_or}
-use Rattle.sot_trace.specs.Drafts.{draft_refused}
 use Rattle.sot_trace.proofs.Drafts.{refused_more}
 use Rattle.sot_trace.proofs.draft.refused_in_draft.Goals as goal
 

@@ -1,4 +1,4 @@
-use Rattle.std.proofs.Common.{◌+◌, drop, arith}
+use Rattle.std.proofs.Common.{arith}
 use Rattle.sot_world.specs.HistoryEntry.{Logged}
 use Rattle.sot_world.specs.Histories.{entry_of}
 use Rattle.sot_trace.specs.Lines.{ticks_in, refused_in}
