@@ -14,7 +14,7 @@ use Rattle.sot_tree.specs.declared.tree.StateDecl.{StateDecl}
 use Rattle.sot_tree.specs.Trees.{Tree, Trees, number, truth, named, binary, rest, negated, denied, called, rescaled, chosen, no_tree, one_more, Statement, Block, assigned, published, branched, repeated, no_statement, statement, Form, one, fields, Start, one_value, values, Topic, Next, Local, Plant, Node, Area, Module, Declaration, a_topic, a_plant, a_node, a_module, Program}
 
 abbrev pub nowhere : Span
-nowhere = record { line = 0; column = 0; from = 0; to = 0 }
+nowhere = record { line = 0; column = 0 }
 
 abbrev pub unplaced_name : Ident → Ident
 unplaced_name i = record { name = i.name; at = nowhere }

@@ -1,6 +1,7 @@
 -- The first fault of bytes is one, but for faults of nesting.
 use Rattle.std.proofs.Common.{◌≡◌, ◌⊎◌, ℕ, ◌<◌, ◌≤◌, List, Option, Some, None, Err, inl, inr, codes, refl, sym, ap, ◌∙◌, subst, arith}
 use Rattle.std.specs.Prelude.{if◌then◌else◌, ◌==◌}
+use Rattle.sot_text.specs.Place.{rank}
 use Rattle.sot_text.specs.declared.mission.Need.{Need}
 use Rattle.sot_text.specs.declared.mission.Need.TheVariants as needs
 use Rattle.sot_text.specs.declared.mission.SectionFault.{SectionFault}
@@ -76,7 +77,7 @@ same_rule k l e = sym (rule_back k) ∙ ap rule_of e ∙ rule_back l
 typing_once : (p : Program) (f g : TypeFault) → IsFirstFault p f → IsFirstFault p g → SayOne (type_text f) (type_text g)
 typing_once p f g a b = by (a.first g b.fails) (b.first f a.fails)
   where
-    by : (f.at.from < g.at.from) ⊎ ((f.at.from ≡ g.at.from) × (number_of f.kind ≤ number_of g.kind)) → (g.at.from < f.at.from) ⊎ ((g.at.from ≡ f.at.from) × (number_of g.kind ≤ number_of f.kind)) → SayOne (type_text f) (type_text g)
+    by : (rank f.at < rank g.at) ⊎ ((rank f.at ≡ rank g.at) × (number_of f.kind ≤ number_of g.kind)) → (rank g.at < rank f.at) ⊎ ((rank g.at ≡ rank f.at) × (number_of g.kind ≤ number_of f.kind)) → SayOne (type_text f) (type_text g)
     by (inl less) (inl more) = absurd (omega (arith, less, more))
     by (inl less) (inr (same, le)) = absurd (omega (arith, less, same))
     by (inr (same, le)) (inl more) = absurd (omega (arith, more, same))

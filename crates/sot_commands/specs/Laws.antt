@@ -1,6 +1,7 @@
 -- The laws of answers: what is said of bytes is said in one way.
 use Rattle.std.specs.Prelude.{◌≡◌, ◌⊎◌, ℕ, List}
 use Rattle.sot_text.specs.declared.token.Span.{Span}
+use Rattle.sot_text.specs.Place.{rank}
 use Rattle.sot_parser.specs.declared.syntax.Syntax.TheVariants.{Deep}
 use Rattle.sot_rules.specs.declared.fault.TypeFault.{TypeFault}
 use Rattle.sot_report.specs.FaultTexts.{syntax_text, type_text}
@@ -48,9 +49,9 @@ LinesRefusedOnce =
 abbrev pub SaysDeep : List ℕ → Type 0
 SaysDeep text = (at : Span) × (text ≡ syntax_text (Deep at))
 
--- two texts tell faults of typing that begin at one byte and break one rule
+-- two texts tell faults of typing that begin at one place and break one rule
 abbrev pub TellOneRule : List ℕ → List ℕ → Type 0
-TellOneRule text other = (f g : TypeFault) × (f.at.from ≡ g.at.from) × (f.kind ≡ g.kind) × (text ≡ type_text f) × (other ≡ type_text g)
+TellOneRule text other = (f g : TypeFault) × (rank f.at ≡ rank g.at) × (f.kind ≡ g.kind) × (text ≡ type_text f) × (other ≡ type_text g)
 
 -- bytes have one first fault; but that something nests too deep may be said of more places than one, and instead of what comes later
 abbrev pub RejectedOnce : Type 0

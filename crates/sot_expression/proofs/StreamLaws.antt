@@ -9,7 +9,7 @@ use Rattle.sot_expression.specs.Stream.{ahead_of}
 
 -- one token more, or the end
 pub pulled : (found : Option Token) (bytes : List ℕ) (at : ℕ) (after : Reading) → outcome (Ok found) ≡ next_lexeme bytes at → after.bytes ≡ bytes
-    → ((t : Token) → found ≡ Some t → after.at ≡ t.at.to) → ahead_of found None after ≡ ahead_from bytes at
+    → ((t : Token) → found ≡ Some t → after.at ≡ t.to) → ahead_of found None after ≡ ahead_from bytes at
 pulled None bytes at after next same on = ap (ahead_with (ahead_from bytes)) next ∙ sym (ahead_step bytes at)
 pulled (Some t) bytes at after next same on =
     let place = on t refl in

@@ -60,17 +60,17 @@ pub number_ok : (t : Lexeme) → is_number t ≡ true → IsNumber t
 number_ok t e = number_kind t.kind e
 
 -- a token as its kind and its text tell it
-pub sign_is : (w : List ℕ) (t : Lexeme) → IsSign w t → t ≡ record { kind = Sign; text = w; at = t.at }
-sign_is w t h = ap (λ (k : Kind). record { kind = k; text = t.text; at = t.at }) h.kind ∙ ap (λ (x : List ℕ). record { kind = Sign; text = x; at = t.at }) h.text_is
+pub sign_is : (w : List ℕ) (t : Lexeme) → IsSign w t → t ≡ record { kind = Sign; text = w; at = t.at; to = t.to }
+sign_is w t h = ap (λ (k : Kind). record { kind = k; text = t.text; at = t.at; to = t.to }) h.kind ∙ ap (λ (x : List ℕ). record { kind = Sign; text = x; at = t.at; to = t.to }) h.text_is
 
-pub keyword_is : (w : List ℕ) (t : Lexeme) → IsKeyword w t → t ≡ record { kind = Keyword; text = w; at = t.at }
-keyword_is w t h = ap (λ (k : Kind). record { kind = k; text = t.text; at = t.at }) h.kind ∙ ap (λ (x : List ℕ). record { kind = Keyword; text = x; at = t.at }) h.text_is
+pub keyword_is : (w : List ℕ) (t : Lexeme) → IsKeyword w t → t ≡ record { kind = Keyword; text = w; at = t.at; to = t.to }
+keyword_is w t h = ap (λ (k : Kind). record { kind = k; text = t.text; at = t.at; to = t.to }) h.kind ∙ ap (λ (x : List ℕ). record { kind = Keyword; text = x; at = t.at; to = t.to }) h.text_is
 
-pub name_is : (t : Lexeme) → IsName t → t ≡ record { kind = Name; text = t.text; at = t.at }
-name_is t h = ap (λ (k : Kind). record { kind = k; text = t.text; at = t.at }) h
+pub name_is : (t : Lexeme) → IsName t → t ≡ record { kind = Name; text = t.text; at = t.at; to = t.to }
+name_is t h = ap (λ (k : Kind). record { kind = k; text = t.text; at = t.at; to = t.to }) h
 
-pub number_is : (t : Lexeme) → IsNumber t → t ≡ record { kind = Number; text = t.text; at = t.at }
-number_is t h = ap (λ (k : Kind). record { kind = k; text = t.text; at = t.at }) h
+pub number_is : (t : Lexeme) → IsNumber t → t ≡ record { kind = Number; text = t.text; at = t.at; to = t.to }
+number_is t h = ap (λ (k : Kind). record { kind = k; text = t.text; at = t.at; to = t.to }) h
 
 -- a choice of a list of cases
 case_by : {A : Type 0} (P : A → Type 0) (b : Bool) (x rest : A) → (b ≡ true → P x) → P rest → P (cond b x rest)

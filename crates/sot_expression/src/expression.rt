@@ -16,7 +16,7 @@ use crate::operators::{Infix, Opening, opening_at, operator_at, tier_of};
 use crate::part::Part;
 use crate::tokens::Tokens;
 use sot_text::Token;
-use sot_tree::{Expr, FieldName, Func, Ident, Lit, Op};
+use sot_tree::{Apart, Expr, Func, Ident, Lit, Member, Op};
 use std::alloc::Global;
 
 // The next token, whatever it is.
@@ -87,11 +87,8 @@ fn field(alloc: Global, tokens: &mut Tokens<'_>, first: Ident) -> Result<Part, F
 {
     expect_sign(tokens, b".")?;
     let field = name(alloc, tokens)?;
-    let field = FieldName::new(alloc, field)?;
-    Ok(leaf(Expr::Ref {
-        first,
-        field: Some(field),
-    }))
+    let member = Apart::new(alloc, Member { first, field })?;
+    Ok(leaf(Expr::Member(member)))
 }
 
 // A name, or a field of what a name names.
@@ -105,7 +102,7 @@ fn named(alloc: Global, tokens: &mut Tokens<'_>) -> Result<Part, Fail>
     if is_sign(tokens, b".") {
         field(alloc, tokens, first)
     } else {
-        Ok(leaf(Expr::Ref { first, field: None }))
+        Ok(leaf(Expr::Name(first)))
     }
 }
 

@@ -1,22 +1,30 @@
 //! The nodes of a tree, above parts that were read.
 ghost use Rattle.std.specs.Prelude.{◌≡◌};
 ghost use Rattle.sot_tree.specs.Trees.{binary, rest, negated, denied, called, one_more, no_tree, rescaled, chosen};
-ghost use Rattle.sot_tree.specs.TreeViews.{tree_view};
+ghost use Rattle.sot_tree.specs.TreeViews.{tree_view, parts_view};
 ghost use Rattle.sot_expression.specs.Returned.{Makes};
 
 use crate::fail::Fail;
 use crate::part::Part;
 use sot_text::Span;
-use sot_tree::{Apart, Expr, Func, Lit, Op, Operands};
+use sot_tree::{Apart, Choice, Expr, Func, Lit, Op, Operands};
 use std::alloc::Global;
+
+// A function with its parts.
+fn called(alloc: Global, func: Func, parts: Vec<Expr>, at: Span) -> Result<Expr, Fail>
+    ensures { Makes tree_view result (called func (parts_view parts.items) at) }
+{
+    let parts = Box::new(alloc, parts)?;
+    Ok(Expr::Call { func, parts, at })
+}
 
 /// A call with one part.
 pub fn call_of_one(alloc: Global, func: Func, first: Part, at: Span) -> Result<Expr, Fail>
     ensures { Makes tree_view result (called func (one_more (tree_view first.tree) no_tree) at) }
 {
-    let mut parts = Vec::new(alloc);
-    parts.push(first.into_tree())?;
-    Ok(Expr::Call { func, parts, at })
+    let mut parts = Vec::with_capacity(alloc, 1)?;
+    parts.push_reserved(first.into_tree());
+    called(alloc, func, parts, at)
 }
 
 /// A call with two parts.
@@ -29,10 +37,10 @@ pub fn call_of_two(
 ) -> Result<Expr, Fail>
     ensures { Makes tree_view result (called func (one_more (tree_view first.tree) (one_more (tree_view second.tree) no_tree)) at) }
 {
-    let mut parts = Vec::new(alloc);
-    parts.push(first.into_tree())?;
-    parts.push(second.into_tree())?;
-    Ok(Expr::Call { func, parts, at })
+    let mut parts = Vec::with_capacity(alloc, 2)?;
+    parts.push_reserved(first.into_tree());
+    parts.push_reserved(second.into_tree());
+    called(alloc, func, parts, at)
 }
 
 /// A call with three parts.
@@ -50,7 +58,7 @@ pub fn call_of_three(
     parts.push_reserved(first.into_tree());
     parts.push_reserved(second.into_tree());
     parts.push_reserved(third.into_tree());
-    Ok(Expr::Call { func, parts, at })
+    called(alloc, func, parts, at)
 }
 
 /// An operator with two operands.
@@ -100,8 +108,11 @@ pub fn rescaled(alloc: Global, part: Part, to: Lit, at: Span) -> Result<Expr, Fa
 pub fn chosen(alloc: Global, cond: Part, yes: Part, no: Part, at: Span) -> Result<Expr, Fail>
     ensures { Makes tree_view result (chosen (tree_view cond.tree) (tree_view yes.tree) (tree_view no.tree) at) }
 {
-    let cond = Box::new(alloc, cond.into_tree())?;
-    let yes = Box::new(alloc, yes.into_tree())?;
-    let no = Box::new(alloc, no.into_tree())?;
-    Ok(Expr::If { cond, yes, no, at })
+    let choice = Choice {
+        cond: cond.into_tree(),
+        yes: yes.into_tree(),
+        no: no.into_tree(),
+    };
+    let choice = Box::new(alloc, choice)?;
+    Ok(Expr::If { choice, at })
 }

@@ -55,12 +55,7 @@ pub(crate) fn interval_of(
 // What stands in a trap's place before there is one.
 fn no_trap() -> MayTrap {
     MayTrap {
-        at: Span {
-            line: 0,
-            column: 0,
-            from: 0,
-            to: 0,
-        },
+        at: Span { line: 0, column: 0 },
         kind: TrapKind::Wide,
         lo: 0,
         hi: 0,

@@ -18,7 +18,7 @@ minus n = neg_ℤ (pos n)
 
 -- another place in the text
 abbrev pub elsewhere : Span
-elsewhere = record { line = 2; column = 3; from = 9; to = 10 }
+elsewhere = record { line = 2; column = 3 }
 
 -- the operator at two numbers
 abbrev pub gives : Op → ℤ → ℤ → ℤ → Type 0

@@ -30,7 +30,7 @@ use Rattle.sot_lang.specs.Tables.{Tables}
 
 -- a place in the text; the examples do not tell places apart
 abbrev pub somewhere : Span
-somewhere = record { line = 1; column = 1; from = 0; to = 1 }
+somewhere = record { line = 1; column = 1 }
 
 -- the interval from lo to hi
 abbrev pub side : ℤ → ℤ → Side

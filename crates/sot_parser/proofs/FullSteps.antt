@@ -70,5 +70,5 @@ pub number_full : (n : Digits) (us : List Lexeme) → number_at (n.token ∷ us)
 number_full n us = token_full is_number literal n.token us (ap is_number_kind n.is)
 
 -- a token of which kind and text are known
-pub sign_token : {text : List ℕ} (s : Sign text) → s.token ≡ record { kind = kinds.Sign; text = text; at = s.token.at }
-sign_token {text} s = ap (λ (k : Kind). record { kind = k; text = s.token.text; at = s.token.at }) s.is.kind ∙ ap (λ (w : List ℕ). record { kind = kinds.Sign; text = w; at = s.token.at }) s.is.text_is
+pub sign_token : {text : List ℕ} (s : Sign text) → s.token ≡ record { kind = kinds.Sign; text = text; at = s.token.at; to = s.token.to }
+sign_token {text} s = ap (λ (k : Kind). record { kind = k; text = s.token.text; at = s.token.at; to = s.token.to }) s.is.kind ∙ ap (λ (w : List ℕ). record { kind = kinds.Sign; text = w; at = s.token.at; to = s.token.to }) s.is.text_is

@@ -1,10 +1,10 @@
 -- A statement by what it begins with.
 use Rattle.std.proofs.Common.{◌≡◌, ℕ, zero, suc, ◌-◌, ◌≤◌, cond, codes, map, List, [], ◌∷◌, true, false, Ok, Err, refl, ap, sym, ◌∙◌, arith}
-use Rattle.std.specs.Global.{Vec}
+use Rattle.std.specs.Global.{Box, Vec}
 use Rattle.sot_text.specs.Reading.{Lexeme}
 use Rattle.sot_text.specs.declared.token.Span.{Span}
 use Rattle.sot_tree.specs.declared.tree.Lit.{Lit}
-use Rattle.sot_tree.specs.declared.tree.Expr.{Expr}
+use Rattle.sot_tree.specs.declared.tree.Branch.{Branch}
 use Rattle.sot_tree.specs.declared.tree.Stmt.{Stmt, If, Repeat}
 use Rattle.sot_tree.specs.Trees.{Tree, Statement, Block, statement}
 use Rattle.sot_tree.specs.TreeViews.{tree_view, statement_view, block_view}
@@ -49,12 +49,12 @@ unfolding block_at
 block_read item ts t1 t2 t3 a b xs opening body closing =
     give opening _ _ (give body _ _ (give closing _ _ (ap (λ (c : Block). Ok (c, t3)) (block_seen xs))))
 
-pub branch_read : (expression : List Lexeme → Read Tree) (block : List Lexeme → Read Block) (ts t1 t2 t3 t4 : List Lexeme) (at : Span) (cond_ : Expr) (u v : Vec Stmt)
-    → expect (is_keyword (codes "if")) ts ≡ Ok (at, t1) → expression t1 ≡ Ok (tree_view cond_, t2) → block t2 ≡ Ok (block_view u.items, t3) → else_at block t3 ≡ Ok (block_view v.items, t4)
-    → branch_at expression block ts ≡ Ok (statement_view (If cond_ u v at), t4)
+pub branch_read : (expression : List Lexeme → Read Tree) (block : List Lexeme → Read Block) (ts t1 t2 t3 t4 : List Lexeme) (at : Span) (b : Box Branch)
+    → expect (is_keyword (codes "if")) ts ≡ Ok (at, t1) → expression t1 ≡ Ok (tree_view b.value.cond, t2) → block t2 ≡ Ok (block_view b.value.yes.items, t3) → else_at block t3 ≡ Ok (block_view b.value.no.items, t4)
+    → branch_at expression block ts ≡ Ok (statement_view (If b at), t4)
 unfolding branch_at
-branch_read expression block ts t1 t2 t3 t4 at cond_ u v word c first second =
-    give word _ _ (give c _ _ (give first _ _ (give second _ _ (ap (λ (s : Statement). Ok (s, t4)) (sym (branch_view cond_ u v at))))))
+branch_read expression block ts t1 t2 t3 t4 at b word c first second =
+    give word _ _ (give c _ _ (give first _ _ (give second _ _ (ap (λ (s : Statement). Ok (s, t4)) (sym (branch_view b at))))))
 
 pub repeat_read : (block : List Lexeme → Read Block) (ts t1 t2 t3 : List Lexeme) (at : Span) (times : Lit) (u : Vec Stmt)
     → expect (is_keyword (codes "repeat")) ts ≡ Ok (at, t1) → number_at t1 ≡ Ok (times, t2) → block t2 ≡ Ok (block_view u.items, t3)

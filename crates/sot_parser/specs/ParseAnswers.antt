@@ -15,7 +15,7 @@ use Rattle.sot_parser.specs.DeclarationReaders.{program_at}
 
 -- the fault where no token is left: that of the lexer, or the end of the text
 abbrev pub at_end : List ℕ → Option LexFault → Syntax
-at_end bytes None = Token (span bytes (length bytes) 0)
+at_end bytes None = Token (span bytes (length bytes))
 at_end bytes (Some fault) = Lex fault
 
 -- the fault where reading is stuck, and where it nests too deep

@@ -12,7 +12,7 @@ use crate::plain::plain;
 use sot_expression::{
     Fail, Tokens, expect_keyword, expect_sign, is_keyword, is_name, is_sign, number, tree,
 };
-use sot_tree::{Apart, Stmt};
+use sot_tree::{Branch, Stmt};
 use std::alloc::Global;
 
 fn is_nested(tokens: &Tokens<'_>) -> bool
@@ -89,8 +89,8 @@ fn branch(alloc: Global, tokens: &mut Tokens<'_>, room: u32) -> Result<Stmt, Fai
     let yes = block(alloc, tokens, room)?;
     let no = optional_else(alloc, tokens, room)?;
     let cond = cond.take();
-    let cond = Apart::new(alloc, cond)?;
-    Ok(Stmt::If { cond, yes, no, at })
+    let branch = Box::new(alloc, Branch { cond, yes, no })?;
+    Ok(Stmt::If { branch, at })
 }
 
 #[cycle(statement)]

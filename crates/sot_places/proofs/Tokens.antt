@@ -14,11 +14,11 @@ use Rattle.sot_places.specs.Places.{IsToken, AreTokens}
 use Rattle.sot_places.proofs.Stops.{err, Spelling, Appends, Begun, Stop, Stops, Twin, stop_inside, stop_in}
 
 abbrev nowhere : Span
-nowhere = record { line = 1; column = 1; from = 0; to = 0 }
+nowhere = record { line = 1; column = 1 }
 
 -- a token to go on with
 abbrev pub token : Kind → List ℕ → Lexeme
-token kind text = record { kind = kind; text = text; at = nowhere }
+token kind text = record { kind = kind; text = text; at = nowhere; to = 0 }
 
 abbrev pub keyword : (text : List ℕ) → Keyword text
 keyword text = record { token = token kinds.Keyword text; is = record { kind = refl; text_is = refl } }

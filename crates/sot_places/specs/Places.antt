@@ -59,7 +59,7 @@ pub record IsTooDeep (ahead : Ahead) (token : Lexeme) : Type 0 where
 pub data IsFaultOf (bytes : List ℕ) (ahead : Ahead) (fault : Syntax) : Type 0 where
   no_token : (f : LexFault) → ahead.end ≡ Some f → Begins ahead.tokens → fault ≡ Lex f → IsFaultOf bytes ahead fault
   wrong_token : (t : Lexeme) → IsFirstWrong ahead t → fault ≡ Token t.at → IsFaultOf bytes ahead fault
-  too_short : IsCutShort ahead → fault ≡ Token (span bytes (length bytes) 0) → IsFaultOf bytes ahead fault
+  too_short : IsCutShort ahead → fault ≡ Token (span bytes (length bytes)) → IsFaultOf bytes ahead fault
   too_deep : (t : Lexeme) → IsTooDeep ahead t → fault ≡ Deep t.at → IsFaultOf bytes ahead fault
 
 -- not a fault of nesting

@@ -1,9 +1,9 @@
 -- The bytes of statements with blocks.
 use Rattle.std.proofs.Common.{◌≡◌, ℕ, ◌==◌, false, List, [], ◌∷◌, ◌++◌, length, codes, refl, ap, ◌∙◌, append_assoc}
-use Rattle.std.specs.Global.{Vec}
+use Rattle.std.specs.Global.{Box, Vec}
 use Rattle.sot_text.specs.declared.token.Span.{Span}
 use Rattle.sot_tree.specs.declared.tree.Lit.{Lit}
-use Rattle.sot_tree.specs.declared.tree.Expr.{Expr}
+use Rattle.sot_tree.specs.declared.tree.Branch.{Branch}
 use Rattle.sot_tree.specs.declared.tree.Stmt.{Stmt, If, Repeat}
 use Rattle.sot_tree.specs.TreeViews.{tree_view, statement_view, block_view}
 use Rattle.sot_tree.proofs.BlockRows.{branch_view, repeat_view}
@@ -26,15 +26,15 @@ otherwise_written start word gap more out e = ap (λ o. o ++ out) e ∙ regroupe
     regrouped = simp append_assoc
 
 -- the block of statements behind `if` and its condition, and those of `else`
-pub branch_bytes : (e : Expr) (u v : Vec Stmt) (at : Span) (indent : ℕ)
-    → laid (statement_words (statement_view (If e u v at)) indent)
-    ≡ ((blanks (Line indent) ++ (codes "if" ++ laid (expression_words (tree_view e) Space))) ++ laid (braced_words indent (block_words (block_view u.items))))
-    ++ laid (otherwise_words (block_view v.items) indent (block_words (block_view v.items)))
-branch_bytes e u v at indent =
-    let head : List Word = keyword (Line indent) (codes "if") ∷ expression_words (tree_view e) Space in
-    let yes_ : List Word = braced_words indent (block_words (block_view u.items)) in
-    let no_ : List Word = otherwise_words (block_view v.items) indent (block_words (block_view v.items)) in
-    ap (λ s. laid (statement_words s indent)) (branch_view e u v at) ∙ laid-append (head ++ yes_) no_ ∙ ap (λ bytes. bytes ++ laid no_) (laid-append head yes_)
+pub branch_bytes : (b : Box Branch) (at : Span) (indent : ℕ)
+    → laid (statement_words (statement_view (If b at)) indent)
+    ≡ ((blanks (Line indent) ++ (codes "if" ++ laid (expression_words (tree_view b.value.cond) Space))) ++ laid (braced_words indent (block_words (block_view b.value.yes.items))))
+    ++ laid (otherwise_words (block_view b.value.no.items) indent (block_words (block_view b.value.no.items)))
+branch_bytes b at indent =
+    let head : List Word = keyword (Line indent) (codes "if") ∷ expression_words (tree_view b.value.cond) Space in
+    let yes_ : List Word = braced_words indent (block_words (block_view b.value.yes.items)) in
+    let no_ : List Word = otherwise_words (block_view b.value.no.items) indent (block_words (block_view b.value.no.items)) in
+    ap (λ s. laid (statement_words s indent)) (branch_view b at) ∙ laid-append (head ++ yes_) no_ ∙ ap (λ bytes. bytes ++ laid no_) (laid-append head yes_)
 
 pub branch_written : (start word cond yes_ gap text expr block other : List ℕ) → word ≡ start ++ (gap ++ text) → cond ≡ word ++ expr → yes_ ≡ cond ++ block
     → yes_ ++ other ≡ start ++ (((gap ++ (text ++ expr)) ++ block) ++ other)

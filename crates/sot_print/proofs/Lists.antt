@@ -4,7 +4,7 @@ use Rattle.std.proofs.lemmas.Bool.Decides.{nat_tests}
 use Rattle.sot_tree.specs.declared.tree.Expr.{Expr, Call}
 use Rattle.sot_text.specs.declared.token.Span.{Span}
 use Rattle.sot_tree.specs.declared.operator.Func.{Func}
-use Rattle.std.specs.Global.{Vec}
+use Rattle.std.specs.Global.{Box, Vec}
 use Rattle.sot_tree.proofs.CallRows.{call_view}
 use Rattle.sot_tree.specs.TreeViews.{tree_view, parts_view}
 use Rattle.sot_print.specs.declared.gap.Gap.{Gap}
@@ -49,12 +49,12 @@ parts_listed first [] = refl
 parts_listed first (e ∷ es) = ap (λ ws. separated first Touching (expression_words (tree_view e)) ++ ws) (parts_listed false es)
 
 -- the words of a call, by the list of its parts
-pub call_bytes : (f : Func) (v : Vec Expr) (at : Span) (gap : Gap)
-    → laid (expression_words (tree_view (Call f v at)) gap) ≡ blanks gap ++ (function_name f ++ (codes "(" ++ (laid (listed (λ g e. expression_words (tree_view e) g) Touching v.items) ++ codes ")")))
+pub call_bytes : (f : Func) (v : Box (Vec Expr)) (at : Span) (gap : Gap)
+    → laid (expression_words (tree_view (Call f v at)) gap) ≡ blanks gap ++ (function_name f ++ (codes "(" ++ (laid (listed (λ g e. expression_words (tree_view e) g) Touching v.value.items) ++ codes ")")))
 call_bytes f v at gap =
     ap (λ t. laid (expression_words t gap)) (call_view f v at)
-    ∙ ap (λ ws. blanks gap ++ (function_name f ++ (codes "(" ++ laid (ws ++ sign Touching (codes ")") ∷ [])))) (parts_listed true v.items)
-    ∙ ap (λ bytes. blanks gap ++ (function_name f ++ (codes "(" ++ bytes))) (laid-append (listed (λ g e. expression_words (tree_view e) g) Touching v.items) (sign Touching (codes ")") ∷ []))
+    ∙ ap (λ ws. blanks gap ++ (function_name f ++ (codes "(" ++ laid (ws ++ sign Touching (codes ")") ∷ [])))) (parts_listed true v.value.items)
+    ∙ ap (λ bytes. blanks gap ++ (function_name f ++ (codes "(" ++ bytes))) (laid-append (listed (λ g e. expression_words (tree_view e) g) Touching v.value.items) (sign Touching (codes ")") ∷ []))
 
 pub call_written : (start named opened filled gap word parts : List ℕ) → named ≡ start ++ (gap ++ word) → opened ≡ named ++ codes "(" → filled ≡ opened ++ parts
     → filled ++ codes ")" ≡ start ++ (gap ++ (word ++ (codes "(" ++ (parts ++ codes ")"))))

@@ -29,7 +29,7 @@ pub record IsRead (bytes : List ℕ) (at : ℕ) (kind : Kind) (text rest : List 
   pub next : next_lexeme bytes at ≡ Ok (Some t)
   pub kind_is : t.kind ≡ kind
   pub text_is : t.text ≡ text
-  pub behind : drop t.at.to bytes ≡ rest
+  pub behind : drop t.to bytes ≡ rest
 
 read_one : (bytes : List ℕ) (at : ℕ) (gap : Gap) (kind : Kind) (text rest : List ℕ) → drop at bytes ≡ blanks gap ++ (text ++ rest) → IsTokenText kind text → front (text ++ rest) ≡ Token kind (length text)
     → (t : Lexeme) × IsRead bytes at kind text rest t
@@ -43,7 +43,7 @@ read_one bytes at gap kind text rest here is goes =
     let found : front (drop from bytes) ≡ Token kind (length text) = ap front there ∙ goes in
     let own : take (length text) (drop from bytes) ≡ text = ap (λ xs. take (length text) xs) there ∙ take-append_seam text rest in
     let past : drop (from + length text) bytes ≡ rest = sym (drop-drop (length text) from bytes) ∙ ap (λ xs. drop (length text) xs) there ∙ drop-append_seam text rest in
-    let t : Lexeme = record { kind = kind; text = take (length text) (drop from bytes); at = span bytes from (length text) } in (
+    let t : Lexeme = record { kind = kind; text = take (length text) (drop from bytes); at = span bytes from; to = from + length text } in (
       t,
       record {
         next = ap (λ n. lexed bytes n (front (drop n bytes))) begins ∙ ap (lexed bytes from) found;
@@ -106,7 +106,7 @@ read_all (w ∷ ws) bytes at here tokens parted =
     here ∙ append_assoc (blanks w.before) (w.text ++ laid ws) (10 ∷ []) ∙ ap (λ bs. blanks w.before ++ bs) (append_assoc w.text (laid ws) (10 ∷ [])) in
     let one = read_one bytes at w.before w.kind w.text rest shown tokens.0 (behind_goes w ws tokens.0 parted.0) in
     let t : Lexeme = one.0 in
-    let more = read_all ws bytes t.at.to one.1.behind tokens.1 parted.1 in
+    let more = read_all ws bytes t.to one.1.behind tokens.1 parted.1 in
     record {
       tokens = t ∷ more.tokens;
       to = more.to;

@@ -17,7 +17,7 @@ use Rattle.sot_print.specs.Canonical.{canonical}
 
 -- a place in a text; canonical texts do not tell places apart
 abbrev pub somewhere : Span
-somewhere = record { line = 1; column = 1; from = 0; to = 1 }
+somewhere = record { line = 1; column = 1 }
 
 abbrev pub ident : List ℕ → Ident
 ident text = record { name = text; at = somewhere }

@@ -8,7 +8,7 @@ ghost use Rattle.sot_print.specs.Leaves.{literal_words, listed};
 ghost use Rattle.sot_print.specs.declared.gap.Gap.TheVariants.{Touching, Space};
 
 use crate::gap::{Gap, push_comma, push_word};
-use crate::leaf::{push_literal, push_reference, push_truth};
+use crate::leaf::{push_ident, push_literal, push_member, push_truth};
 use sot_tree::{Expr, Func, Lit, Op};
 use std::alloc::AllocError;
 
@@ -55,7 +55,8 @@ fn is_plain(expr: &Expr) -> bool
     match expr {
         Expr::Number(_) => true,
         Expr::Truth { .. } => true,
-        Expr::Ref { .. } => true,
+        Expr::Name(_) => true,
+        Expr::Member(_) => true,
         Expr::Call { .. } => true,
         Expr::Rescale { .. } => true,
         Expr::Binary { .. } => false,
@@ -141,7 +142,8 @@ pub fn push_expression(out: &mut String, gap: Gap, expr: &Expr) -> Result<(), Al
     match expr {
         Expr::Number(literal) => push_literal(out, gap, *literal),
         Expr::Truth { value, .. } => push_truth(out, gap, *value),
-        Expr::Ref { first, field } => push_reference(out, gap, first, field),
+        Expr::Name(name) => push_ident(out, gap, name),
+        Expr::Member(member) => push_member(out, gap, member.content()),
         Expr::Binary { op, operands, .. } => {
             push_operand(out, gap, &operands.left)?;
             push_operator(out, *op)?;
@@ -162,10 +164,10 @@ pub fn push_expression(out: &mut String, gap: Gap, expr: &Expr) -> Result<(), Al
         }
         Expr::Call { func, parts, .. } => push_call(out, gap, *func, parts),
         Expr::Rescale { part, to, .. } => push_rescaled(out, gap, part, *to.content()),
-        Expr::If { cond, yes, no, .. } => {
-            push_led(out, gap, "if", cond)?;
-            push_led(out, Gap::Space, "then", yes)?;
-            push_led(out, Gap::Space, "else", no)
+        Expr::If { choice, .. } => {
+            push_led(out, gap, "if", &choice.cond)?;
+            push_led(out, Gap::Space, "then", &choice.yes)?;
+            push_led(out, Gap::Space, "else", &choice.no)
         }
     }
 }

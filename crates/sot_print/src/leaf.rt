@@ -1,12 +1,12 @@
 //! Literals, names, lists and types.
-ghost use Rattle.std.specs.Prelude.{◌≡◌, ◌++◌, [], if◌then◌else◌, codes, pos, int_lt, OnOk};
+ghost use Rattle.std.specs.Prelude.{◌≡◌, ◌++◌, [], if◌then◌else◌, codes, pos, int_lt, Some, OnOk};
 ghost use Rattle.std.specs.String.{string_bytes};
 ghost use Rattle.sot_print.specs.Words.{blanks, laid};
 ghost use Rattle.sot_print.specs.Leaves.{literal_words, ident_words, reference_words, truth_words, constant_words, bounds_words, range_words, fixed_words, scalar_words, field_words};
 
 use crate::gap::{Gap, push_characters, push_gap, push_word};
 use crate::numeral::push_numeral;
-use sot_tree::{Bounds, Const, Field, FieldName, Ident, Lit, Name, Scalar};
+use sot_tree::{Bounds, Const, Field, Ident, Lit, Member, Name, Scalar};
 use std::alloc::AllocError;
 
 // A name of more letters, in one piece.
@@ -36,23 +36,13 @@ pub fn push_ident(out: &mut String, gap: Gap, ident: &Ident) -> Result<(), Alloc
     push_name(out, &ident.name)
 }
 
-/// A name, or two with a point between them.
-pub fn push_reference(
-    out: &mut String,
-    gap: Gap,
-    first: &Ident,
-    field: &Option<FieldName>,
-) -> Result<(), AllocError>
-    ensures { OnOk result (string_bytes out.new ≡ string_bytes out.old ++ laid (reference_words gap first.now field.now)) }
+/// Two names with a point between them.
+pub fn push_member(out: &mut String, gap: Gap, member: &Member) -> Result<(), AllocError>
+    ensures { OnOk result (string_bytes out.new ≡ string_bytes out.old ++ laid (reference_words gap member.now.first (Some member.now.field))) }
 {
-    push_ident(out, gap, first)?;
-    match field {
-        None => Ok(()),
-        Some(name) => {
-            push_word(out, Gap::Touching, ".")?;
-            push_ident(out, Gap::Touching, name.ident())
-        }
-    }
+    push_ident(out, gap, &member.first)?;
+    push_word(out, Gap::Touching, ".")?;
+    push_ident(out, Gap::Touching, &member.field)
 }
 
 // The minus of a number below 0, and the gap of its digits.

@@ -9,7 +9,7 @@ ghost use Rattle.sot_print.specs.Statements.{semicolon, braced_words, otherwise_
 
 use crate::expression::push_expression;
 use crate::gap::{Gap, push_word};
-use crate::leaf::{push_ident, push_literal, push_reference};
+use crate::leaf::{push_ident, push_literal, push_member};
 use sot_tree::{Expr, Stmt};
 use std::alloc::AllocError;
 
@@ -73,20 +73,21 @@ fn push_statement(out: &mut String, indent: usize, statement: &Stmt) -> Result<(
             push_ident(out, Gap::Line { indent }, target)?;
             push_value(out, ":=", value)
         }
-        Stmt::Publish {
-            topic,
-            field,
-            value,
-        } => {
+        Stmt::Publish { topic, value } => {
             push_word(out, Gap::Line { indent }, "publish")?;
-            push_reference(out, Gap::Space, topic, field)?;
+            push_ident(out, Gap::Space, topic)?;
             push_value(out, "=", value)
         }
-        Stmt::If { cond, yes, no, .. } => {
+        Stmt::PublishField { place, value } => {
+            push_word(out, Gap::Line { indent }, "publish")?;
+            push_member(out, Gap::Space, place.content())?;
+            push_value(out, "=", value)
+        }
+        Stmt::If { branch, .. } => {
             push_word(out, Gap::Line { indent }, "if")?;
-            push_expression(out, Gap::Space, cond.content())?;
-            push_block(out, indent, yes)?;
-            push_otherwise(out, indent, no)
+            push_expression(out, Gap::Space, &branch.cond)?;
+            push_block(out, indent, &branch.yes)?;
+            push_otherwise(out, indent, &branch.no)
         }
         Stmt::Repeat { times, body, .. } => {
             push_word(out, Gap::Line { indent }, "repeat")?;

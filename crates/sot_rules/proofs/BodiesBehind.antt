@@ -18,7 +18,7 @@ use Rattle.sot_rules.specs.Faults.{least, when, misfits, reading_faults, tree_fa
 use Rattle.sot_rules.specs.Behind.{AreBehind, is_behind, field_behind, tree_behind, trees_behind, statement_behind, block_behind}
 use Rattle.sot_rules.proofs.Behind.{and_left, and_right, both_behind, when_behind, past_behind, stays_before}
 
-module _ (from : ℕ) where
+module _ (from : Span) where
   misfits_behind : (kind scale : Bool) (at : Span) → is_behind from at ≡ true → AreBehind from (misfits kind scale at)
   misfits_behind kind scale at h = both_behind from (when kind at KindDiffers) (when scale at ScaleDiffers) (when_behind from kind at KindDiffers h) (when_behind from scale at ScaleDiffers h)
 
@@ -147,10 +147,10 @@ module _ (from : ℕ) where
         all_of (unrolled a) (block_unrolled more) (unrolled_behind a (and_left (statement_behind from a) _ h)) (block_unrolled_behind more (and_right (statement_behind from a) _ h))
 
 -- where a body stands behind the first fault, that stays
-pub body_stays : (f : TypeFault) (s : Scope) (b : Block) → block_behind f.at.from b ≡ true → least (Some f) (body_faults s (Some b)) ≡ Some f
+pub body_stays : (f : TypeFault) (s : Scope) (b : Block) → block_behind f.at b ≡ true → least (Some f) (body_faults s (Some b)) ≡ Some f
 body_stays f s b h =
     stays_before f (body_faults s (Some b))
-    (both_behind f.at.from (block_faults s b) _ (block_is_behind f.at.from s b h) (past_behind f.at.from (block_unrolled b) 10000 (block_unrolled_behind f.at.from b h)))
+    (both_behind f.at (block_faults s b) _ (block_is_behind f.at s b h) (past_behind f.at (block_unrolled b) 10000 (block_unrolled_behind f.at b h)))
 
 -- a test that holds decides nothing beside another one
 pub true_and : (a b : Bool) → a ≡ true → b ≡ (a && b)

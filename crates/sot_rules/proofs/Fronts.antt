@@ -1,9 +1,10 @@
 -- What a node uses, where the rest of it stands behind the first fault of the first names that it reads.
-use Rattle.std.proofs.Common.{◌≡◌, ◌∙◌, ℕ, Bool, true, false, ◌&&◌, not, List, [], ◌∷◌, ◌++◌, map, Option, Some, append-nil, refl, sym, ap, ap₂, subst}
+use Rattle.std.proofs.Common.{◌≡◌, ◌∙◌, Bool, true, false, ◌&&◌, not, List, [], ◌∷◌, ◌++◌, map, Option, Some, append-nil, refl, sym, ap, ap₂, subst}
 use Rattle.std.specs.List.{flat_map}
 use Rattle.std.proofs.lemmas.List.{map-append}
 use Rattle.std.proofs.lemmas.List.Elements.{filter-append}
 use Rattle.std.proofs.lemmas.List.Folds.{list_all-map}
+use Rattle.sot_text.specs.declared.token.Span.{Span}
 use Rattle.sot_tree.specs.declared.tree.Ident.{Ident}
 use Rattle.sot_tree.specs.declared.tree.Bounds.{Bounds}
 use Rattle.sot_tree.specs.declared.tree.Scalar.{Scalar}
@@ -24,7 +25,7 @@ use Rattle.sot_rules.specs.Groups.{some_inputs_faults, reads_faults, writes_faul
 use Rattle.sot_rules.specs.Behind.{up_to, AreBehind, is_behind, StandsBehind, names_behind, bounds_behind, scalar_behind, local_behind, locals_behind}
 use Rattle.sot_rules.proofs.Behind.{settled, stays_before, and_left, and_right, both_behind, when_behind, each_behind, repeats_behind, passes_behind, past_behind, each_front, repeats_front, passes_front}
 
-module _ (from : ℕ) where
+module _ (from : Span) where
   same_both : (xs ys us vs : List TypeFault) → up_to from xs ≡ up_to from us → up_to from ys ≡ up_to from vs → up_to from (xs ++ ys) ≡ up_to from (us ++ vs)
   same_both xs ys us vs a b = filter-append _ xs ys ∙ ap₂ (λ x y. x ++ y) a b ∙ sym (filter-append _ us vs)
 
@@ -118,9 +119,9 @@ module _ (from : ℕ) where
       (both_behind from (repeats [] (local_names n)) _ (repeats_behind from [] (local_names n) names)
       (past_behind from (places (local_names n)) 16 (list_all-map (is_behind from) (λ i. i.at) (local_names n) ∙ names)))
 
-pub front_noted : (p : Program) (n : Node) (front rest : List Ident) (o : Option TypeFault) (f : TypeFault) → front ++ rest ≡ n.reads → (names_behind f.at.from rest && (names_behind f.at.from n.writes && locals_behind f.at.from n.locals)) ≡ true → Some f ≡ least o (reads_faults p front) → Some f ≡ least o (reads_faults p n.reads ++ (writes_faults p n ++ locals_faults n))
+pub front_noted : (p : Program) (n : Node) (front rest : List Ident) (o : Option TypeFault) (f : TypeFault) → front ++ rest ≡ n.reads → (names_behind f.at rest && (names_behind f.at n.writes && locals_behind f.at n.locals)) ≡ true → Some f ≡ least o (reads_faults p front) → Some f ≡ least o (reads_faults p n.reads ++ (writes_faults p n ++ locals_faults n))
 front_noted p n front rest o f is e noted =
-    let from = f.at.from in
+    let from = f.at in
     let more = and_right (names_behind from rest) (names_behind from n.writes && locals_behind from n.locals) e in
     let reads : up_to from (reads_faults p n.reads) ≡ up_to from (reads_faults p front) = sym (ap (λ is. up_to from (reads_faults p is)) is) ∙ reads_front from p front rest (and_left (names_behind from rest) _ e) in
     let others : AreBehind from (writes_faults p n ++ locals_faults n) =
@@ -132,37 +133,37 @@ front_noted p n front rest o f is e noted =
     (sym noted))
 
 -- things of a list whose names stand in it before, where the rest of the list stands behind the first of them
-pub front_repeats : {X : Type 0} (f : X → Ident) (items front rest : List X) (o : Option TypeFault) (first : TypeFault) → front ++ rest ≡ items → names_behind first.at.from (map f rest) ≡ true → Some first ≡ least o (repeats [] (map f front)) → Some first ≡ least o (repeats [] (map f items))
+pub front_repeats : {X : Type 0} (f : X → Ident) (items front rest : List X) (o : Option TypeFault) (first : TypeFault) → front ++ rest ≡ items → names_behind first.at (map f rest) ≡ true → Some first ≡ least o (repeats [] (map f front)) → Some first ≡ least o (repeats [] (map f items))
 front_repeats f items front rest o first is e noted =
-    let from = first.at.from in
+    let from = first.at in
     sym (settled o (repeats [] (map f items)) (repeats [] (map f front)) first
     (ap (λ xs. up_to from (repeats [] (map f xs))) (sym is) ∙ ap (λ names. up_to from (repeats [] names)) (map-append f front rest) ∙ repeats_front from (map f rest) e [] (map f front))
     (sym noted))
 
 -- a name behind the first fault, by the list in which it stands
 module _ (p : Program) (i : Ident) (o : Option TypeFault) (behind : StandsBehind o i.at) where
-  stays_by : (fs : List TypeFault) → AreBehind behind.0.at.from fs → o ≡ least o fs
+  stays_by : (fs : List TypeFault) → AreBehind behind.0.at fs → o ≡ least o fs
   stays_by fs h = subst (λ z. z ≡ least z fs) (sym behind.1) (sym (stays_before behind.0 fs h))
 
   pub write_stays : (n : Node) → o ≡ least o (together (write_lists p n i))
-  write_stays n = stays_by _ (write_behind behind.0.at.from p n i behind.2)
+  write_stays n = stays_by _ (write_behind behind.0.at p n i behind.2)
 
   pub input_stays : (q : Plant) → o ≡ least o (input_faults p q i)
-  input_stays q = stays_by _ (input_behind behind.0.at.from p q i behind.2)
+  input_stays q = stays_by _ (input_behind behind.0.at p q i behind.2)
 
   pub sight_stays : (q : Plant) → o ≡ least o (together (seen_lists p q i))
-  sight_stays q = stays_by _ (sight_behind behind.0.at.from p q i behind.2)
+  sight_stays q = stays_by _ (sight_behind behind.0.at p q i behind.2)
 
 -- names that a node writes, where the rest of them stands behind their first fault
-pub front_writes : (p : Program) (n : Node) (names front rest : List Ident) (o : Option TypeFault) (f : TypeFault) → front ++ rest ≡ names → names_behind f.at.from rest ≡ true → Some f ≡ least o (some_writes_faults p n front) → Some f ≡ least o (some_writes_faults p n names)
+pub front_writes : (p : Program) (n : Node) (names front rest : List Ident) (o : Option TypeFault) (f : TypeFault) → front ++ rest ≡ names → names_behind f.at rest ≡ true → Some f ≡ least o (some_writes_faults p n front) → Some f ≡ least o (some_writes_faults p n names)
 front_writes p n names front rest o f is e noted =
     sym (settled o (some_writes_faults p n names) (some_writes_faults p n front) f
-    (ap (λ is. up_to f.at.from (some_writes_faults p n is)) (sym is) ∙ writes_front f.at.from p n front rest e)
+    (ap (λ is. up_to f.at (some_writes_faults p n is)) (sym is) ∙ writes_front f.at p n front rest e)
     (sym noted))
 
 -- inputs of a plant, where the rest of them stands behind their first fault
-pub front_inputs : (p : Program) (q : Plant) (names front rest : List Ident) (o : Option TypeFault) (f : TypeFault) → front ++ rest ≡ names → names_behind f.at.from rest ≡ true → Some f ≡ least o (some_inputs_faults p q front) → Some f ≡ least o (some_inputs_faults p q names)
+pub front_inputs : (p : Program) (q : Plant) (names front rest : List Ident) (o : Option TypeFault) (f : TypeFault) → front ++ rest ≡ names → names_behind f.at rest ≡ true → Some f ≡ least o (some_inputs_faults p q front) → Some f ≡ least o (some_inputs_faults p q names)
 front_inputs p q names front rest o f is e noted =
     sym (settled o (some_inputs_faults p q names) (some_inputs_faults p q front) f
-    (ap (λ is. up_to f.at.from (some_inputs_faults p q is)) (sym is) ∙ inputs_front f.at.from p q front rest e)
+    (ap (λ is. up_to f.at (some_inputs_faults p q is)) (sym is) ∙ inputs_front f.at p q front rest e)
     (sym noted))

@@ -2,6 +2,7 @@
 use Rattle.std.proofs.Common.{◌≡◌, ℕ, ◌<◌, ◌≤◌, ◌⊎◌, inl, inr, List, [], ◌∷◌, ◌++◌, Option, Some, refl, ap, sym, ◌∙◌, subst, arith, true, false, Bool, ◌||◌, ◌&&◌, ◌==◌, nat_lt, if◌then◌else◌, fold}
 use Rattle.std.proofs.lemmas.List.Sums.{fold-append}
 use Rattle.sot_text.specs.declared.token.Span.{Span}
+use Rattle.sot_text.specs.Place.{rank}
 use Rattle.sot_rules.specs.declared.fault.TypeFault.{TypeFault}
 use Rattle.sot_rules.specs.declared.fault.TypeKind.{TypeKind}
 use Rattle.sot_rules.specs.First.{number_of, IsNotAfter}
@@ -49,10 +50,10 @@ not_before_by a b c d p (inl q) = inl (grind arith)
 not_before_by a b c d p (inr q) = elim (le_cases a b (grind arith)) [ inl h ↦ inl h | inr h ↦ inr (h, grind arith) ]
 
 before_is : (f g : TypeFault) → is_before f g ≡ true → IsNotAfter f g
-before_is f g e = before_by f.at.from g.at.from (number_of f.kind) (number_of g.kind) (or_true _ _ _ e)
+before_is f g e = before_by (rank f.at) (rank g.at) (number_of f.kind) (number_of g.kind) (or_true _ _ _ e)
 
 not_before_is : (f g : TypeFault) → is_before f g ≡ false → IsNotAfter g f
-not_before_is f g e = let h = or_false _ _ _ e in not_before_by f.at.from g.at.from (number_of f.kind) (number_of g.kind) h.0 h.1
+not_before_is f g e = let h = or_false _ _ _ e in not_before_by (rank f.at) (rank g.at) (number_of f.kind) (number_of g.kind) h.0 h.1
 
 -- the lesser of two is one of them, and not after either
 abbrev IsLesser : TypeFault → TypeFault → TypeFault → Type 0

@@ -23,7 +23,7 @@ module _ {A B : Type 0} (f : A × B → List TypeFault) (xs : List A) (ys : List
 
 -- what stands past the end of a list of bounds
 abbrev no_number : Lit
-no_number = record { mantissa = pos 0; scale = 0; at = record { line = 0; column = 0; from = 0; to = 0 } }
+no_number = record { mantissa = pos 0; scale = 0; at = record { line = 0; column = 0 } }
 
 abbrev pub no_bounds : Bounds
 no_bounds = record { lo = no_number; hi = no_number }

@@ -1,7 +1,8 @@
 -- Where the `next` clauses or the disturbances of a plant stand behind the first fault, that stays.
-use Rattle.std.proofs.Common.{◌≡◌, ◌∙◌, ℕ, true, ◌&&◌, nat_lt, not, length, List, [], ◌∷◌, ◌++◌, map, Some, None, refl, ap₂}
+use Rattle.std.proofs.Common.{◌≡◌, ◌∙◌, true, ◌&&◌, nat_lt, not, length, List, [], ◌∷◌, ◌++◌, map, Some, None, refl, ap₂}
 use Rattle.std.specs.List.{flat_map}
 use Rattle.std.proofs.lemmas.List.Folds.{list_all-map}
+use Rattle.sot_text.specs.declared.token.Span.{Span}
 use Rattle.sot_tree.specs.declared.tree.Field.{Field}
 use Rattle.sot_tree.specs.declared.tree.StateDecl.{StateDecl}
 use Rattle.sot_tree.specs.Trees.{Next, Plant, Program}
@@ -20,7 +21,7 @@ use Rattle.sot_rules.proofs.Behind.{and_left, and_right, both_behind, when_behin
 use Rattle.sot_rules.proofs.Fronts.{scalar_is_behind}
 use Rattle.sot_rules.proofs.BodiesBehind.{reading_behind, tree_is_behind, target_behind}
 
-module _ (from : ℕ) where
+module _ (from : Span) where
   next_is_behind : (p : Program) (q : Plant) (n : Next) → (is_behind from n.name.at && tree_behind from n.value) ≡ true → AreBehind from (next_faults p q n)
   next_is_behind p q n e =
       let here = and_left (is_behind from n.name.at) _ e in
@@ -66,8 +67,8 @@ module _ (from : ℕ) where
       (both_behind from (repeats [] (noise_names q)) _ (repeats_behind from [] (noise_names q) names)
       (past_behind from (places (noise_names q)) 4 (list_all-map (is_behind from) (λ i. i.at) (noise_names q) ∙ names)))
 
-pub nexts_stay : (f : TypeFault) (p : Program) (q : Plant) → is_behind f.at.from q.end ≡ true → nexts_behind f.at.from q.next ≡ true → least (Some f) (nexts_faults p q) ≡ Some f
-nexts_stay f p q end e = stays_before f (nexts_faults p q) (nexts_are_behind f.at.from p q end e)
+pub nexts_stay : (f : TypeFault) (p : Program) (q : Plant) → is_behind f.at q.end ≡ true → nexts_behind f.at q.next ≡ true → least (Some f) (nexts_faults p q) ≡ Some f
+nexts_stay f p q end e = stays_before f (nexts_faults p q) (nexts_are_behind f.at p q end e)
 
-pub noise_stays : (f : TypeFault) (q : Plant) → noise_behind f.at.from q.noise ≡ true → least (Some f) (disturbances_faults q) ≡ Some f
-noise_stays f q e = stays_before f (disturbances_faults q) (disturbances_are_behind f.at.from q e)
+pub noise_stays : (f : TypeFault) (q : Plant) → noise_behind f.at q.noise ≡ true → least (Some f) (disturbances_faults q) ≡ Some f
+noise_stays f q e = stays_before f (disturbances_faults q) (disturbances_are_behind f.at q e)

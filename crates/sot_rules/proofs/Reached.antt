@@ -2,11 +2,11 @@
 use Rattle.std.proofs.Common.{◌≡◌, ◌≢◌, ◌∙◌, ℕ, zero, suc, ◌+◌, ◌-◌, ◌*◌, ◌/◌, ◌%◌, ◌<◌, ◌≤◌, List, [], ◌∷◌, ◌++◌, length, get_or, drop, Some, refl, sym, ap, subst, arith, add-one, nat_abs, length-append}
 use Rattle.std.specs.List.{slice_get}
 use Rattle.std.proofs.lemmas.List.{drop_all}
-use Rattle.std.specs.Global.{Vec}
+use Rattle.std.specs.Global.{Box, Vec}
 use Rattle.std.proofs.Math.Nat.{suc-mul, div-lt_iff_lt-mul}
 use Rattle.sot_text.specs.declared.token.Span.{Span}
 use Rattle.sot_tree.specs.declared.tree.Lit.{Lit}
-use Rattle.sot_tree.specs.declared.tree.Expr.{Expr}
+use Rattle.sot_tree.specs.declared.tree.Branch.{Branch}
 use Rattle.sot_tree.specs.declared.tree.Stmt.{Stmt, If, Repeat}
 use Rattle.sot_tree.specs.TreeViews.{statement_view, block_view}
 use Rattle.sot_tree.proofs.BlockRows.{branch_view, repeat_view}
@@ -89,17 +89,17 @@ pub block_done : (ss : List Stmt) (i k : ℕ) → length ss ≤ i → IsReached 
 block_done ss i k le = subst (λ xs. IsReached k (block_unrolled (block_view xs)) (Left k)) (sym (drop_all i ss le)) (omega arith)
 
 -- an `if`, past its own place
-module _ (e : Expr) (u v : Vec Stmt) (at : Span) (k : ℕ) where
-  branch_by : (r : Reached) → k ≡ (k - 1) + 1 → IsReached (k - 1) (block_unrolled (block_view u.items) ++ block_unrolled (block_view v.items)) r → IsReached k (unrolled (statement_view (If e u v at))) r
+module _ (b : Box Branch) (at : Span) (k : ℕ) where
+  branch_by : (r : Reached) → k ≡ (k - 1) + 1 → IsReached (k - 1) (block_unrolled (block_view b.value.yes.items) ++ block_unrolled (block_view b.value.no.items)) r → IsReached k (unrolled (statement_view (If b at))) r
   branch_by r some h =
-      subst (λ s. IsReached k (unrolled s) r) (sym (branch_view e u v at))
-      (reached_next k (k - 1) at (block_unrolled (block_view u.items) ++ block_unrolled (block_view v.items)) r some h)
+      subst (λ s. IsReached k (unrolled s) r) (sym (branch_view b at))
+      (reached_next k (k - 1) at (block_unrolled (block_view b.value.yes.items) ++ block_unrolled (block_view b.value.no.items)) r some h)
 
-  pub branch_at : (found : Span) → k ≡ (k - 1) + 1 → slice_get (block_unrolled (block_view u.items)) (k - 1) ≡ Some found → IsReached k (unrolled (statement_view (If e u v at))) (At found)
-  branch_at found some h = branch_by (At found) some (in_first (block_unrolled (block_view u.items)) (block_unrolled (block_view v.items)) (k - 1) found h)
+  pub branch_at : (found : Span) → k ≡ (k - 1) + 1 → slice_get (block_unrolled (block_view b.value.yes.items)) (k - 1) ≡ Some found → IsReached k (unrolled (statement_view (If b at))) (At found)
+  branch_at found some h = branch_by (At found) some (in_first (block_unrolled (block_view b.value.yes.items)) (block_unrolled (block_view b.value.no.items)) (k - 1) found h)
 
-  pub branch_then : (n : ℕ) (r : Reached) → k ≡ (k - 1) + 1 → k - 1 ≡ length (block_unrolled (block_view u.items)) + n → IsReached n (block_unrolled (block_view v.items)) r → IsReached k (unrolled (statement_view (If e u v at))) r
-  branch_then n r some counted h = branch_by r some (reached_then (k - 1) n (block_unrolled (block_view u.items)) (block_unrolled (block_view v.items)) r counted h)
+  pub branch_then : (n : ℕ) (r : Reached) → k ≡ (k - 1) + 1 → k - 1 ≡ length (block_unrolled (block_view b.value.yes.items)) + n → IsReached n (block_unrolled (block_view b.value.no.items)) r → IsReached k (unrolled (statement_view (If b at))) r
+  branch_then n r some counted h = branch_by r some (reached_then (k - 1) n (block_unrolled (block_view b.value.yes.items)) (block_unrolled (block_view b.value.no.items)) r counted h)
 
 -- a loop, past its own place
 pub repeat_by : (l : Lit) (v : Vec Stmt) (at : Span) (k count : ℕ) (r : Reached) → k ≡ (k - 1) + 1 → count ≡ nat_abs l.mantissa → IsReached (k - 1) (copies count (block_unrolled (block_view v.items))) r → IsReached k (unrolled (statement_view (Repeat l v at))) r

@@ -1,5 +1,5 @@
 -- Worked programs with their first faults, and programs without one. Each stands on one line, and each place was read off another program.
-use Rattle.std.specs.Prelude.{ℕ, ◌+◌, ◌-◌, ℤ, pos, negsuc, true, false, List, [], ◌∷◌, length, Some, None, codes}
+use Rattle.std.specs.Prelude.{ℕ, ℤ, pos, negsuc, true, false, List, [], ◌∷◌, Some, None, codes}
 use Rattle.sot_text.specs.declared.token.Span.{Span}
 use Rattle.sot_tree.specs.declared.operator.Op.TheVariants.{Add, Equal, Greater, Less}
 use Rattle.sot_tree.specs.declared.operator.Func.TheVariants.{Min}
@@ -14,18 +14,18 @@ use Rattle.sot_rules.specs.Fails.{Fails}
 use Rattle.sot_rules.specs.First.{IsFirstFault, IsFaultless}
 use Rattle.sot_rules.specs.Faults.{fault}
 
--- so many bytes of the one line, from a column on
-abbrev pub at : ℕ → ℕ → Span
-at column size = record { line = 1; column = column; from = column - 1; to = (column - 1) + size }
+-- a column of the one line
+abbrev pub at : ℕ → Span
+at column = record { line = 1; column = column }
 
 abbrev pub word : ℕ → List ℕ → Ident
-word column name = record { name = name; at = at column (length name) }
+word column name = record { name = name; at = at column }
 
-abbrev pub decimal : ℕ → ℕ → ℤ → ℕ → Lit
-decimal column size mantissa scale = record { mantissa = mantissa; scale = scale; at = at column size }
+abbrev pub decimal : ℕ → ℤ → ℕ → Lit
+decimal column mantissa scale = record { mantissa = mantissa; scale = scale; at = at column }
 
-abbrev pub whole : ℕ → ℕ → ℤ → Lit
-whole column size mantissa = decimal column size mantissa 0
+abbrev pub whole : ℕ → ℤ → Lit
+whole column mantissa = decimal column mantissa 0
 
 abbrev pub range : Lit → Lit → Bounds
 range lo hi = record { lo = lo; hi = hi }
@@ -35,7 +35,7 @@ range lo hi = record { lo = lo; hi = hi }
 abbrev pub unknown_name : Program
 unknown_name = record {
   decls =
-      a_node (record { name = (word 10 (codes "n")); period = (whole 19 1 (pos 1)); offset = (whole 28 1 (pos 0)); reads = ((word 38 (codes "t")) ∷ []); writes = []; locals = []; body = None })
+      a_node (record { name = (word 10 (codes "n")); period = (whole 19 (pos 1)); offset = (whole 28 (pos 0)); reads = ((word 38 (codes "t")) ∷ []); writes = []; locals = []; body = None })
       ∷ [];
 }
 
@@ -44,8 +44,8 @@ unknown_name = record {
 abbrev pub second_name : Program
 second_name = record {
   decls =
-      a_topic (record { outside = false; name = (word 7 (codes "t")); shape = one (BoolScalar (at 10 4)); init = one_value (Truth true (at 17 4)) })
-      ∷ a_plant (record { name = (word 29 (codes "t")); states = (record { name = (word 39 (codes "x")); scale = None } ∷ []); inputs = []; sees = []; noise = []; next = (record { name = (word 52 (codes "x")); value = (named (word 56 (codes "x")) None) } ∷ []); end = (at 59 1) })
+      a_topic (record { outside = false; name = (word 7 (codes "t")); shape = one (BoolScalar (at 10)); init = one_value (Truth true (at 17)) })
+      ∷ a_plant (record { name = (word 29 (codes "t")); states = (record { name = (word 39 (codes "x")); scale = None } ∷ []); inputs = []; sees = []; noise = []; next = (record { name = (word 52 (codes "x")); value = (named (word 56 (codes "x")) None) } ∷ []); end = (at 59) })
       ∷ [];
 }
 
@@ -54,7 +54,7 @@ second_name = record {
 abbrev pub other_scale : Program
 other_scale = record {
   decls =
-      a_topic (record { outside = false; name = (word 7 (codes "t")); shape = one (Int (range (whole 14 1 (pos 0)) (decimal 17 3 (pos 15) 1))); init = one_value (Number (whole 24 1 (pos 0))) })
+      a_topic (record { outside = false; name = (word 7 (codes "t")); shape = one (Int (range (whole 14 (pos 0)) (decimal 17 (pos 15) 1))); init = one_value (Number (whole 24 (pos 0))) })
       ∷ [];
 }
 
@@ -63,7 +63,7 @@ other_scale = record {
 abbrev pub other_kind : Program
 other_kind = record {
   decls =
-      a_topic (record { outside = false; name = (word 7 (codes "t")); shape = one (Int (range (whole 14 1 (pos 0)) (whole 17 1 (pos 1)))); init = one_value (Truth true (at 22 4)) })
+      a_topic (record { outside = false; name = (word 7 (codes "t")); shape = one (Int (range (whole 14 (pos 0)) (whole 17 (pos 1)))); init = one_value (Truth true (at 22)) })
       ∷ [];
 }
 
@@ -72,7 +72,7 @@ other_kind = record {
 abbrev pub empty_range : Program
 empty_range = record {
   decls =
-      a_topic (record { outside = false; name = (word 7 (codes "t")); shape = one (Int (range (whole 14 1 (pos 1)) (whole 17 1 (pos 0)))); init = one_value (Number (whole 22 1 (pos 0))) })
+      a_topic (record { outside = false; name = (word 7 (codes "t")); shape = one (Int (range (whole 14 (pos 1)) (whole 17 (pos 0)))); init = one_value (Number (whole 22 (pos 0))) })
       ∷ [];
 }
 
@@ -81,7 +81,7 @@ empty_range = record {
 abbrev pub outside_start : Program
 outside_start = record {
   decls =
-      a_topic (record { outside = false; name = (word 7 (codes "t")); shape = one (Fix (whole 14 1 (pos 1)) (range (decimal 17 3 (pos 0) 1) (decimal 22 3 (pos 5) 1))); init = one_value (Number (decimal 29 3 (pos 6) 1)) })
+      a_topic (record { outside = false; name = (word 7 (codes "t")); shape = one (Fix (whole 14 (pos 1)) (range (decimal 17 (pos 0) 1) (decimal 22 (pos 5) 1))); init = one_value (Number (decimal 29 (pos 6) 1)) })
       ∷ [];
 }
 
@@ -90,8 +90,8 @@ outside_start = record {
 abbrev pub own_input : Program
 own_input = record {
   decls =
-      a_topic (record { outside = false; name = (word 7 (codes "t")); shape = one (BoolScalar (at 10 4)); init = one_value (Truth true (at 17 4)) })
-      ∷ a_node (record { name = (word 32 (codes "n")); period = (whole 41 1 (pos 1)); offset = (whole 50 1 (pos 0)); reads = ((word 60 (codes "t")) ∷ []); writes = ((word 70 (codes "t")) ∷ []); locals = []; body = None })
+      a_topic (record { outside = false; name = (word 7 (codes "t")); shape = one (BoolScalar (at 10)); init = one_value (Truth true (at 17)) })
+      ∷ a_node (record { name = (word 32 (codes "n")); period = (whole 41 (pos 1)); offset = (whole 50 (pos 0)); reads = ((word 60 (codes "t")) ∷ []); writes = ((word 70 (codes "t")) ∷ []); locals = []; body = None })
       ∷ [];
 }
 
@@ -100,7 +100,7 @@ own_input = record {
 abbrev pub nine_fields : Program
 nine_fields = record {
   decls =
-      a_topic (record { outside = false; name = (word 7 (codes "t")); shape = fields (record { name = (word 11 (codes "a")); scalar = (BoolScalar (at 14 4)) } ∷ record { name = (word 20 (codes "b")); scalar = (BoolScalar (at 23 4)) } ∷ record { name = (word 29 (codes "c")); scalar = (BoolScalar (at 32 4)) } ∷ record { name = (word 38 (codes "d")); scalar = (BoolScalar (at 41 4)) } ∷ record { name = (word 47 (codes "e")); scalar = (BoolScalar (at 50 4)) } ∷ record { name = (word 56 (codes "f")); scalar = (BoolScalar (at 59 4)) } ∷ record { name = (word 65 (codes "g")); scalar = (BoolScalar (at 68 4)) } ∷ record { name = (word 74 (codes "h")); scalar = (BoolScalar (at 77 4)) } ∷ record { name = (word 83 (codes "i")); scalar = (BoolScalar (at 86 4)) } ∷ []); init = values ((Truth true (at 95 4)) ∷ (Truth true (at 101 4)) ∷ (Truth true (at 107 4)) ∷ (Truth true (at 113 4)) ∷ (Truth true (at 119 4)) ∷ (Truth true (at 125 4)) ∷ (Truth true (at 131 4)) ∷ (Truth true (at 137 4)) ∷ (Truth true (at 143 4)) ∷ []) (at 94 1) })
+      a_topic (record { outside = false; name = (word 7 (codes "t")); shape = fields (record { name = (word 11 (codes "a")); scalar = (BoolScalar (at 14)) } ∷ record { name = (word 20 (codes "b")); scalar = (BoolScalar (at 23)) } ∷ record { name = (word 29 (codes "c")); scalar = (BoolScalar (at 32)) } ∷ record { name = (word 38 (codes "d")); scalar = (BoolScalar (at 41)) } ∷ record { name = (word 47 (codes "e")); scalar = (BoolScalar (at 50)) } ∷ record { name = (word 56 (codes "f")); scalar = (BoolScalar (at 59)) } ∷ record { name = (word 65 (codes "g")); scalar = (BoolScalar (at 68)) } ∷ record { name = (word 74 (codes "h")); scalar = (BoolScalar (at 77)) } ∷ record { name = (word 83 (codes "i")); scalar = (BoolScalar (at 86)) } ∷ []); init = values ((Truth true (at 95)) ∷ (Truth true (at 101)) ∷ (Truth true (at 107)) ∷ (Truth true (at 113)) ∷ (Truth true (at 119)) ∷ (Truth true (at 125)) ∷ (Truth true (at 131)) ∷ (Truth true (at 137)) ∷ (Truth true (at 143)) ∷ []) (at 94) })
       ∷ [];
 }
 
@@ -109,7 +109,7 @@ nine_fields = record {
 abbrev pub wide_range : Program
 wide_range = record {
   decls =
-      a_topic (record { outside = false; name = (word 7 (codes "t")); shape = one (Int (range (whole 14 1 (pos 0)) (whole 17 10 (pos 4294967296)))); init = one_value (Number (whole 31 1 (pos 0))) })
+      a_topic (record { outside = false; name = (word 7 (codes "t")); shape = one (Int (range (whole 14 (pos 0)) (whole 17 (pos 4294967296)))); init = one_value (Number (whole 31 (pos 0))) })
       ∷ [];
 }
 
@@ -118,7 +118,7 @@ wide_range = record {
 abbrev pub lone_plant : Program
 lone_plant = record {
   decls =
-      a_plant (record { name = (word 7 (codes "p")); states = (record { name = (word 17 (codes "x")); scale = None } ∷ []); inputs = []; sees = []; noise = []; next = (record { name = (word 30 (codes "x")); value = (named (word 34 (codes "x")) None) } ∷ []); end = (at 37 1) })
+      a_plant (record { name = (word 7 (codes "p")); states = (record { name = (word 17 (codes "x")); scale = None } ∷ []); inputs = []; sees = []; noise = []; next = (record { name = (word 30 (codes "x")); value = (named (word 34 (codes "x")) None) } ∷ []); end = (at 37) })
       ∷ [];
 }
 
@@ -127,7 +127,7 @@ lone_plant = record {
 abbrev pub no_period : Program
 no_period = record {
   decls =
-      a_node (record { name = (word 10 (codes "n")); period = (whole 19 1 (pos 0)); offset = (whole 28 1 (pos 0)); reads = []; writes = []; locals = []; body = None })
+      a_node (record { name = (word 10 (codes "n")); period = (whole 19 (pos 0)); offset = (whole 28 (pos 0)); reads = []; writes = []; locals = []; body = None })
       ∷ [];
 }
 
@@ -136,8 +136,8 @@ no_period = record {
 abbrev pub no_next : Program
 no_next = record {
   decls =
-      a_plant (record { name = (word 7 (codes "p")); states = (record { name = (word 17 (codes "x")); scale = None } ∷ []); inputs = []; sees = []; noise = []; next = []; end = (at 25 1) })
-      ∷ a_module (record { name = (word 34 (codes "m")); ac = (word 41 (codes "a")); sc = (word 47 (codes "b")); period = (whole 57 1 (pos 1)); offset = (whole 66 1 (pos 0)); plant = (word 75 (codes "p")); safe = []; safer = [] })
+      a_plant (record { name = (word 7 (codes "p")); states = (record { name = (word 17 (codes "x")); scale = None } ∷ []); inputs = []; sees = []; noise = []; next = []; end = (at 25) })
+      ∷ a_module (record { name = (word 34 (codes "m")); ac = (word 41 (codes "a")); sc = (word 47 (codes "b")); period = (whole 57 (pos 1)); offset = (whole 66 (pos 0)); plant = (word 75 (codes "p")); safe = []; safer = [] })
       ∷ [];
 }
 
@@ -146,8 +146,8 @@ no_next = record {
 abbrev pub swapped_next : Program
 swapped_next = record {
   decls =
-      a_plant (record { name = (word 7 (codes "p")); states = (record { name = (word 17 (codes "x")); scale = None } ∷ record { name = (word 25 (codes "y")); scale = None } ∷ []); inputs = []; sees = []; noise = []; next = (record { name = (word 38 (codes "y")); value = (named (word 42 (codes "y")) None) } ∷ record { name = (word 50 (codes "x")); value = (named (word 54 (codes "x")) None) } ∷ []); end = (at 57 1) })
-      ∷ a_module (record { name = (word 66 (codes "m")); ac = (word 73 (codes "a")); sc = (word 79 (codes "b")); period = (whole 89 1 (pos 1)); offset = (whole 98 1 (pos 0)); plant = (word 107 (codes "p")); safe = []; safer = [] })
+      a_plant (record { name = (word 7 (codes "p")); states = (record { name = (word 17 (codes "x")); scale = None } ∷ record { name = (word 25 (codes "y")); scale = None } ∷ []); inputs = []; sees = []; noise = []; next = (record { name = (word 38 (codes "y")); value = (named (word 42 (codes "y")) None) } ∷ record { name = (word 50 (codes "x")); value = (named (word 54 (codes "x")) None) } ∷ []); end = (at 57) })
+      ∷ a_module (record { name = (word 66 (codes "m")); ac = (word 73 (codes "a")); sc = (word 79 (codes "b")); period = (whole 89 (pos 1)); offset = (whole 98 (pos 0)); plant = (word 107 (codes "p")); safe = []; safer = [] })
       ∷ [];
 }
 
@@ -156,8 +156,8 @@ swapped_next = record {
 abbrev pub two_at_one : Program
 two_at_one = record {
   decls =
-      a_topic (record { outside = false; name = (word 7 (codes "t")); shape = one (Int (range (whole 14 1 (pos 0)) (whole 17 1 (pos 1)))); init = one_value (Number (whole 22 1 (pos 0))) })
-      ∷ a_node (record { name = (word 30 (codes "n")); period = (whole 39 1 (pos 1)); offset = (whole 48 1 (pos 0)); reads = []; writes = ((word 59 (codes "t")) ∷ []); locals = []; body = (Some (statement (published (word 75 (codes "t")) None (chosen (number (whole 82 1 (pos 1))) (number (whole 89 1 (pos 1))) (number (decimal 96 3 (pos 15) 1)) (at 79 2))) no_statement)) })
+      a_topic (record { outside = false; name = (word 7 (codes "t")); shape = one (Int (range (whole 14 (pos 0)) (whole 17 (pos 1)))); init = one_value (Number (whole 22 (pos 0))) })
+      ∷ a_node (record { name = (word 30 (codes "n")); period = (whole 39 (pos 1)); offset = (whole 48 (pos 0)); reads = []; writes = ((word 59 (codes "t")) ∷ []); locals = []; body = (Some (statement (published (word 75 (codes "t")) None (chosen (number (whole 82 (pos 1))) (number (whole 89 (pos 1))) (number (decimal 96 (pos 15) 1)) (at 79))) no_statement)) })
       ∷ [];
 }
 
@@ -166,7 +166,7 @@ two_at_one = record {
 abbrev pub two_places : Program
 two_places = record {
   decls =
-      a_topic (record { outside = false; name = (word 7 (codes "t")); shape = one (Int (range (whole 14 1 (pos 1)) (whole 17 1 (pos 0)))); init = one_value (Truth true (at 22 4)) })
+      a_topic (record { outside = false; name = (word 7 (codes "t")); shape = one (Int (range (whole 14 (pos 1)) (whole 17 (pos 0)))); init = one_value (Truth true (at 22)) })
       ∷ [];
 }
 
@@ -175,8 +175,8 @@ two_places = record {
 abbrev pub two_truths : Program
 two_truths = record {
   decls =
-      a_topic (record { outside = false; name = (word 7 (codes "t")); shape = one (BoolScalar (at 10 4)); init = one_value (Truth true (at 17 4)) })
-      ∷ a_node (record { name = (word 28 (codes "n")); period = (whole 37 1 (pos 1)); offset = (whole 46 1 (pos 0)); reads = []; writes = ((word 57 (codes "t")) ∷ []); locals = []; body = (Some (statement (published (word 73 (codes "t")) None (binary Equal (truth true (at 77 4)) (truth false (at 85 5)) (at 82 2))) no_statement)) })
+      a_topic (record { outside = false; name = (word 7 (codes "t")); shape = one (BoolScalar (at 10)); init = one_value (Truth true (at 17)) })
+      ∷ a_node (record { name = (word 28 (codes "n")); period = (whole 37 (pos 1)); offset = (whole 46 (pos 0)); reads = []; writes = ((word 57 (codes "t")) ∷ []); locals = []; body = (Some (statement (published (word 73 (codes "t")) None (binary Equal (truth true (at 77)) (truth false (at 85)) (at 82))) no_statement)) })
       ∷ [];
 }
 
@@ -185,8 +185,8 @@ two_truths = record {
 abbrev pub bare_record : Program
 bare_record = record {
   decls =
-      a_topic (record { outside = false; name = (word 7 (codes "r")); shape = fields (record { name = (word 11 (codes "a")); scalar = (BoolScalar (at 14 4)) } ∷ record { name = (word 20 (codes "b")); scalar = (BoolScalar (at 23 4)) } ∷ []); init = values ((Truth true (at 32 4)) ∷ (Truth false (at 38 5)) ∷ []) (at 31 1) })
-      ∷ a_node (record { name = (word 51 (codes "n")); period = (whole 60 1 (pos 1)); offset = (whole 69 1 (pos 0)); reads = []; writes = ((word 80 (codes "r")) ∷ []); locals = []; body = (Some (statement (published (word 96 (codes "r")) None (truth true (at 100 4))) no_statement)) })
+      a_topic (record { outside = false; name = (word 7 (codes "r")); shape = fields (record { name = (word 11 (codes "a")); scalar = (BoolScalar (at 14)) } ∷ record { name = (word 20 (codes "b")); scalar = (BoolScalar (at 23)) } ∷ []); init = values ((Truth true (at 32)) ∷ (Truth false (at 38)) ∷ []) (at 31) })
+      ∷ a_node (record { name = (word 51 (codes "n")); period = (whole 60 (pos 1)); offset = (whole 69 (pos 0)); reads = []; writes = ((word 80 (codes "r")) ∷ []); locals = []; body = (Some (statement (published (word 96 (codes "r")) None (truth true (at 100))) no_statement)) })
       ∷ [];
 }
 
@@ -195,8 +195,8 @@ bare_record = record {
 abbrev pub hidden_topic : Program
 hidden_topic = record {
   decls =
-      a_topic (record { outside = false; name = (word 7 (codes "t")); shape = one (BoolScalar (at 10 4)); init = one_value (Truth true (at 17 4)) })
-      ∷ a_node (record { name = (word 28 (codes "n")); period = (whole 37 1 (pos 1)); offset = (whole 46 1 (pos 0)); reads = ((word 56 (codes "t")) ∷ []); writes = []; locals = (record { name = (word 65 (codes "t")); scalar = (BoolScalar (at 68 4)); init = (Truth true (at 75 4)) } ∷ []); body = (Some no_statement) })
+      a_topic (record { outside = false; name = (word 7 (codes "t")); shape = one (BoolScalar (at 10)); init = one_value (Truth true (at 17)) })
+      ∷ a_node (record { name = (word 28 (codes "n")); period = (whole 37 (pos 1)); offset = (whole 46 (pos 0)); reads = ((word 56 (codes "t")) ∷ []); writes = []; locals = (record { name = (word 65 (codes "t")); scalar = (BoolScalar (at 68)); init = (Truth true (at 75)) } ∷ []); body = (Some no_statement) })
       ∷ [];
 }
 
@@ -205,8 +205,8 @@ hidden_topic = record {
 abbrev pub own_name_seen : Program
 own_name_seen = record {
   decls =
-      a_plant (record { name = (word 7 (codes "p")); states = (record { name = (word 17 (codes "p")); scale = None } ∷ []); inputs = []; sees = ((word 30 (codes "p")) ∷ []); noise = []; next = (record { name = (word 38 (codes "p")); value = (named (word 42 (codes "p")) None) } ∷ []); end = (at 45 1) })
-      ∷ a_module (record { name = (word 54 (codes "m")); ac = (word 61 (codes "a")); sc = (word 67 (codes "b")); period = (whole 77 1 (pos 1)); offset = (whole 86 1 (pos 0)); plant = (word 95 (codes "p")); safe = []; safer = [] })
+      a_plant (record { name = (word 7 (codes "p")); states = (record { name = (word 17 (codes "p")); scale = None } ∷ []); inputs = []; sees = ((word 30 (codes "p")) ∷ []); noise = []; next = (record { name = (word 38 (codes "p")); value = (named (word 42 (codes "p")) None) } ∷ []); end = (at 45) })
+      ∷ a_module (record { name = (word 54 (codes "m")); ac = (word 61 (codes "a")); sc = (word 67 (codes "b")); period = (whole 77 (pos 1)); offset = (whole 86 (pos 0)); plant = (word 95 (codes "p")); safe = []; safer = [] })
       ∷ [];
 }
 
@@ -215,8 +215,8 @@ own_name_seen = record {
 abbrev pub many_statements : Program
 many_statements = record {
   decls =
-      a_topic (record { outside = false; name = (word 7 (codes "t")); shape = one (BoolScalar (at 10 4)); init = one_value (Truth true (at 17 4)) })
-      ∷ a_node (record { name = (word 28 (codes "n")); period = (whole 37 1 (pos 1)); offset = (whole 46 1 (pos 0)); reads = []; writes = ((word 57 (codes "t")) ∷ []); locals = []; body = (Some (statement (repeated (whole 72 3 (pos 100)) (statement (repeated (whole 85 2 (pos 99)) (statement (published (word 98 (codes "t")) None (truth true (at 102 4))) no_statement) (at 78 6)) no_statement) (at 65 6)) no_statement)) })
+      a_topic (record { outside = false; name = (word 7 (codes "t")); shape = one (BoolScalar (at 10)); init = one_value (Truth true (at 17)) })
+      ∷ a_node (record { name = (word 28 (codes "n")); period = (whole 37 (pos 1)); offset = (whole 46 (pos 0)); reads = []; writes = ((word 57 (codes "t")) ∷ []); locals = []; body = (Some (statement (repeated (whole 72 (pos 100)) (statement (repeated (whole 85 (pos 99)) (statement (published (word 98 (codes "t")) None (truth true (at 102))) no_statement) (at 78)) no_statement) (at 65)) no_statement)) })
       ∷ [];
 }
 
@@ -225,7 +225,7 @@ many_statements = record {
 abbrev pub late_offset : Program
 late_offset = record {
   decls =
-      a_node (record { name = (word 10 (codes "n")); period = (whole 19 1 (pos 5)); offset = (whole 28 1 (pos 5)); reads = []; writes = []; locals = []; body = None })
+      a_node (record { name = (word 10 (codes "n")); period = (whole 19 (pos 5)); offset = (whole 28 (pos 5)); reads = []; writes = []; locals = []; body = None })
       ∷ [];
 }
 
@@ -234,10 +234,10 @@ late_offset = record {
 abbrev pub wide_box : Program
 wide_box = record {
   decls =
-      a_plant (record { name = (word 7 (codes "p")); states = (record { name = (word 17 (codes "x")); scale = None } ∷ []); inputs = []; sees = []; noise = []; next = (record { name = (word 30 (codes "x")); value = (named (word 34 (codes "x")) None) } ∷ []); end = (at 37 1) })
-      ∷ a_node (record { name = (word 48 (codes "a")); period = (whole 57 1 (pos 1)); offset = (whole 66 1 (pos 0)); reads = []; writes = []; locals = []; body = None })
-      ∷ a_node (record { name = (word 77 (codes "b")); period = (whole 86 1 (pos 1)); offset = (whole 95 1 (pos 0)); reads = []; writes = []; locals = []; body = (Some no_statement) })
-      ∷ a_module (record { name = (word 115 (codes "m")); ac = (word 122 (codes "a")); sc = (word 128 (codes "b")); period = (whole 138 1 (pos 1)); offset = (whole 147 1 (pos 0)); plant = (word 156 (codes "p")); safe = (record { sides = (range (whole 165 1 (pos 0)) (whole 168 1 (pos 1)) ∷ range (whole 171 1 (pos 0)) (whole 174 1 (pos 1)) ∷ []); at = (at 164 1) } ∷ []); safer = [] })
+      a_plant (record { name = (word 7 (codes "p")); states = (record { name = (word 17 (codes "x")); scale = None } ∷ []); inputs = []; sees = []; noise = []; next = (record { name = (word 30 (codes "x")); value = (named (word 34 (codes "x")) None) } ∷ []); end = (at 37) })
+      ∷ a_node (record { name = (word 48 (codes "a")); period = (whole 57 (pos 1)); offset = (whole 66 (pos 0)); reads = []; writes = []; locals = []; body = None })
+      ∷ a_node (record { name = (word 77 (codes "b")); period = (whole 86 (pos 1)); offset = (whole 95 (pos 0)); reads = []; writes = []; locals = []; body = (Some no_statement) })
+      ∷ a_module (record { name = (word 115 (codes "m")); ac = (word 122 (codes "a")); sc = (word 128 (codes "b")); period = (whole 138 (pos 1)); offset = (whole 147 (pos 0)); plant = (word 156 (codes "p")); safe = (record { sides = (range (whole 165 (pos 0)) (whole 168 (pos 1)) ∷ range (whole 171 (pos 0)) (whole 174 (pos 1)) ∷ []); at = (at 164) } ∷ []); safer = [] })
       ∷ [];
 }
 
@@ -246,11 +246,11 @@ wide_box = record {
 abbrev pub the_line : Program
 the_line = record {
   decls =
-      a_topic (record { outside = false; name = (word 7 (codes "cmd")); shape = one (Int (range (whole 16 1 (negsuc 1)) (whole 20 1 (pos 2)))); init = one_value (Number (whole 25 1 (pos 0))) })
-      ∷ a_plant (record { name = (word 34 (codes "pos")); states = (record { name = (word 46 (codes "x")); scale = None } ∷ []); inputs = ((word 60 (codes "cmd")) ∷ []); sees = []; noise = (record { name = (word 71 (codes "w")); scalar = (Int (range (whole 78 1 (negsuc 0)) (whole 82 1 (pos 1)))) } ∷ []); next = (record { name = (word 91 (codes "x")); value = (binary Add (binary Add (named (word 96 (codes "x")) None) (named (word 100 (codes "cmd")) None) (at 98 1)) (named (word 107 (codes "w")) None) (at 105 1)) } ∷ []); end = (at 110 1) })
-      ∷ a_node (record { name = (word 121 (codes "fast")); period = (whole 133 1 (pos 4)); offset = (whole 142 1 (pos 0)); reads = ((word 152 (codes "pos")) ∷ []); writes = ((word 164 (codes "cmd")) ∷ []); locals = []; body = None })
-      ∷ a_node (record { name = (word 176 (codes "slow")); period = (whole 188 1 (pos 2)); offset = (whole 197 1 (pos 0)); reads = ((word 207 (codes "pos")) ∷ []); writes = ((word 219 (codes "cmd")) ∷ []); locals = []; body = (Some (statement (published (word 237 (codes "cmd")) None (chosen (binary Greater (named (word 247 (codes "pos")) (Some (word 251 (codes "x")))) (number (whole 255 2 (pos 10))) (at 253 1)) (number (whole 264 1 (negsuc 1))) (chosen (binary Less (named (word 277 (codes "pos")) (Some (word 281 (codes "x")))) (number (whole 285 1 (negsuc 9))) (at 283 1)) (number (whole 295 1 (pos 2))) (number (whole 302 1 (pos 0))) (at 273 2)) (at 243 2))) no_statement)) })
-      ∷ a_module (record { name = (word 317 (codes "nav")); ac = (word 326 (codes "fast")); sc = (word 335 (codes "slow")); period = (whole 348 1 (pos 4)); offset = (whole 357 1 (pos 0)); plant = (word 366 (codes "pos")); safe = (record { sides = (range (whole 377 1 (negsuc 39)) (whole 382 2 (pos 40)) ∷ []); at = (at 376 1) } ∷ []); safer = (record { sides = (range (whole 394 1 (negsuc 9)) (whole 399 2 (pos 10)) ∷ []); at = (at 393 1) } ∷ []) })
+      a_topic (record { outside = false; name = (word 7 (codes "cmd")); shape = one (Int (range (whole 16 (negsuc 1)) (whole 20 (pos 2)))); init = one_value (Number (whole 25 (pos 0))) })
+      ∷ a_plant (record { name = (word 34 (codes "pos")); states = (record { name = (word 46 (codes "x")); scale = None } ∷ []); inputs = ((word 60 (codes "cmd")) ∷ []); sees = []; noise = (record { name = (word 71 (codes "w")); scalar = (Int (range (whole 78 (negsuc 0)) (whole 82 (pos 1)))) } ∷ []); next = (record { name = (word 91 (codes "x")); value = (binary Add (binary Add (named (word 96 (codes "x")) None) (named (word 100 (codes "cmd")) None) (at 98)) (named (word 107 (codes "w")) None) (at 105)) } ∷ []); end = (at 110) })
+      ∷ a_node (record { name = (word 121 (codes "fast")); period = (whole 133 (pos 4)); offset = (whole 142 (pos 0)); reads = ((word 152 (codes "pos")) ∷ []); writes = ((word 164 (codes "cmd")) ∷ []); locals = []; body = None })
+      ∷ a_node (record { name = (word 176 (codes "slow")); period = (whole 188 (pos 2)); offset = (whole 197 (pos 0)); reads = ((word 207 (codes "pos")) ∷ []); writes = ((word 219 (codes "cmd")) ∷ []); locals = []; body = (Some (statement (published (word 237 (codes "cmd")) None (chosen (binary Greater (named (word 247 (codes "pos")) (Some (word 251 (codes "x")))) (number (whole 255 (pos 10))) (at 253)) (number (whole 264 (negsuc 1))) (chosen (binary Less (named (word 277 (codes "pos")) (Some (word 281 (codes "x")))) (number (whole 285 (negsuc 9))) (at 283)) (number (whole 295 (pos 2))) (number (whole 302 (pos 0))) (at 273)) (at 243))) no_statement)) })
+      ∷ a_module (record { name = (word 317 (codes "nav")); ac = (word 326 (codes "fast")); sc = (word 335 (codes "slow")); period = (whole 348 (pos 4)); offset = (whole 357 (pos 0)); plant = (word 366 (codes "pos")); safe = (record { sides = (range (whole 377 (negsuc 39)) (whole 382 (pos 40)) ∷ []); at = (at 376) } ∷ []); safer = (record { sides = (range (whole 394 (negsuc 9)) (whole 399 (pos 10)) ∷ []); at = (at 393) } ∷ []) })
       ∷ [];
 }
 
@@ -259,87 +259,87 @@ the_line = record {
 abbrev pub the_rest : Program
 the_rest = record {
   decls =
-      a_topic (record { outside = true; name = (word 19 (codes "wind")); shape = one (Fix (whole 29 1 (pos 1)) (range (decimal 32 1 (negsuc 4) 1) (decimal 38 3 (pos 5) 1))); init = one_value (Number (decimal 45 3 (pos 0) 1)) })
-      ∷ a_topic (record { outside = false; name = (word 56 (codes "r")); shape = fields (record { name = (word 60 (codes "on")); scalar = (BoolScalar (at 64 4)) } ∷ record { name = (word 70 (codes "v")); scalar = (Int (range (whole 77 1 (pos 0)) (whole 80 1 (pos 9)))) } ∷ []); init = values ((Truth false (at 87 5)) ∷ (Number (whole 94 1 (pos 3))) ∷ []) (at 86 1) })
-      ∷ a_plant (record { name = (word 104 (codes "p")); states = (record { name = (word 114 (codes "x")); scale = (Some (whole 121 1 (pos 1))) } ∷ []); inputs = ((word 131 (codes "r")) ∷ []); sees = []; noise = (record { name = (word 140 (codes "w")); scalar = (Fix (whole 147 1 (pos 1)) (range (decimal 150 1 (negsuc 0) 1) (decimal 156 3 (pos 1) 1))) } ∷ []); next = (record { name = (word 167 (codes "x")); value = (binary Add (named (word 171 (codes "x")) None) (named (word 175 (codes "w")) None) (at 173 1)) } ∷ []); end = (at 178 1) })
-      ∷ a_plant (record { name = (word 186 (codes "q")); states = (record { name = (word 196 (codes "y")); scale = None } ∷ []); inputs = []; sees = ((word 209 (codes "p")) ∷ []); noise = []; next = (record { name = (word 217 (codes "y")); value = (chosen (binary Greater (named (word 224 (codes "p")) (Some (word 226 (codes "x")))) (number (decimal 230 3 (pos 5) 1)) (at 228 1)) (called Min (one_more (named (word 243 (codes "y")) None) (one_more (number (whole 246 1 (pos 3))) no_tree)) (at 239 3)) (rest (named (word 254 (codes "y")) None) (whole 258 1 (pos 7)) (at 256 1)) (at 221 2)) } ∷ []); end = (at 261 1) })
-      ∷ a_node (record { name = (word 272 (codes "a")); period = (whole 281 1 (pos 2)); offset = (whole 290 1 (pos 1)); reads = ((word 300 (codes "q")) ∷ (word 303 (codes "p")) ∷ []); writes = ((word 313 (codes "r")) ∷ []); locals = []; body = None })
-      ∷ a_node (record { name = (word 323 (codes "b")); period = (whole 332 1 (pos 1)); offset = (whole 341 1 (pos 0)); reads = ((word 351 (codes "p")) ∷ (word 354 (codes "wind")) ∷ []); writes = ((word 367 (codes "r")) ∷ []); locals = (record { name = (word 376 (codes "n")); scalar = (Int (range (whole 383 1 (pos 0)) (whole 386 1 (pos 9)))); init = (Number (whole 391 1 (pos 1))) } ∷ []); body = (Some (statement (repeated (whole 406 1 (pos 3)) (statement (assigned (word 410 (codes "n")) (named (word 415 (codes "n")) None)) no_statement) (at 399 6)) (statement (branched (binary Greater (named (word 423 (codes "p")) (Some (word 425 (codes "x")))) (named (word 429 (codes "wind")) None) (at 427 1)) (statement (published (word 444 (codes "r")) (Some (word 446 (codes "on"))) (denied (binary Equal (named (word 456 (codes "n")) None) (number (whole 461 1 (pos 1))) (at 458 2)) (at 451 3))) no_statement) (statement (published (word 482 (codes "r")) (Some (word 484 (codes "v"))) (rescaled (named (word 496 (codes "p")) (Some (word 498 (codes "x")))) (whole 501 1 (pos 0)) (at 488 7))) no_statement) (at 420 2)) no_statement))) })
-      ∷ a_module (record { name = (word 518 (codes "m")); ac = (word 525 (codes "a")); sc = (word 531 (codes "b")); period = (whole 541 1 (pos 2)); offset = (whole 550 1 (pos 0)); plant = (word 559 (codes "p")); safe = (record { sides = (range (decimal 568 1 (negsuc 9) 1) (decimal 574 3 (pos 10) 1) ∷ []); at = (at 567 1) } ∷ []); safer = (record { sides = (range (decimal 587 3 (pos 0) 1) (decimal 592 3 (pos 5) 1) ∷ []); at = (at 586 1) } ∷ record { sides = (range (decimal 600 3 (pos 5) 1) (decimal 605 3 (pos 5) 1) ∷ []); at = (at 599 1) } ∷ []) })
-      ∷ a_module (record { name = (word 620 (codes "k")); ac = (word 627 (codes "a")); sc = (word 633 (codes "b")); period = (whole 643 1 (pos 2)); offset = (whole 652 1 (pos 0)); plant = (word 661 (codes "q")); safe = []; safer = [] })
+      a_topic (record { outside = true; name = (word 19 (codes "wind")); shape = one (Fix (whole 29 (pos 1)) (range (decimal 32 (negsuc 4) 1) (decimal 38 (pos 5) 1))); init = one_value (Number (decimal 45 (pos 0) 1)) })
+      ∷ a_topic (record { outside = false; name = (word 56 (codes "r")); shape = fields (record { name = (word 60 (codes "on")); scalar = (BoolScalar (at 64)) } ∷ record { name = (word 70 (codes "v")); scalar = (Int (range (whole 77 (pos 0)) (whole 80 (pos 9)))) } ∷ []); init = values ((Truth false (at 87)) ∷ (Number (whole 94 (pos 3))) ∷ []) (at 86) })
+      ∷ a_plant (record { name = (word 104 (codes "p")); states = (record { name = (word 114 (codes "x")); scale = (Some (whole 121 (pos 1))) } ∷ []); inputs = ((word 131 (codes "r")) ∷ []); sees = []; noise = (record { name = (word 140 (codes "w")); scalar = (Fix (whole 147 (pos 1)) (range (decimal 150 (negsuc 0) 1) (decimal 156 (pos 1) 1))) } ∷ []); next = (record { name = (word 167 (codes "x")); value = (binary Add (named (word 171 (codes "x")) None) (named (word 175 (codes "w")) None) (at 173)) } ∷ []); end = (at 178) })
+      ∷ a_plant (record { name = (word 186 (codes "q")); states = (record { name = (word 196 (codes "y")); scale = None } ∷ []); inputs = []; sees = ((word 209 (codes "p")) ∷ []); noise = []; next = (record { name = (word 217 (codes "y")); value = (chosen (binary Greater (named (word 224 (codes "p")) (Some (word 226 (codes "x")))) (number (decimal 230 (pos 5) 1)) (at 228)) (called Min (one_more (named (word 243 (codes "y")) None) (one_more (number (whole 246 (pos 3))) no_tree)) (at 239)) (rest (named (word 254 (codes "y")) None) (whole 258 (pos 7)) (at 256)) (at 221)) } ∷ []); end = (at 261) })
+      ∷ a_node (record { name = (word 272 (codes "a")); period = (whole 281 (pos 2)); offset = (whole 290 (pos 1)); reads = ((word 300 (codes "q")) ∷ (word 303 (codes "p")) ∷ []); writes = ((word 313 (codes "r")) ∷ []); locals = []; body = None })
+      ∷ a_node (record { name = (word 323 (codes "b")); period = (whole 332 (pos 1)); offset = (whole 341 (pos 0)); reads = ((word 351 (codes "p")) ∷ (word 354 (codes "wind")) ∷ []); writes = ((word 367 (codes "r")) ∷ []); locals = (record { name = (word 376 (codes "n")); scalar = (Int (range (whole 383 (pos 0)) (whole 386 (pos 9)))); init = (Number (whole 391 (pos 1))) } ∷ []); body = (Some (statement (repeated (whole 406 (pos 3)) (statement (assigned (word 410 (codes "n")) (named (word 415 (codes "n")) None)) no_statement) (at 399)) (statement (branched (binary Greater (named (word 423 (codes "p")) (Some (word 425 (codes "x")))) (named (word 429 (codes "wind")) None) (at 427)) (statement (published (word 444 (codes "r")) (Some (word 446 (codes "on"))) (denied (binary Equal (named (word 456 (codes "n")) None) (number (whole 461 (pos 1))) (at 458)) (at 451))) no_statement) (statement (published (word 482 (codes "r")) (Some (word 484 (codes "v"))) (rescaled (named (word 496 (codes "p")) (Some (word 498 (codes "x")))) (whole 501 (pos 0)) (at 488))) no_statement) (at 420)) no_statement))) })
+      ∷ a_module (record { name = (word 518 (codes "m")); ac = (word 525 (codes "a")); sc = (word 531 (codes "b")); period = (whole 541 (pos 2)); offset = (whole 550 (pos 0)); plant = (word 559 (codes "p")); safe = (record { sides = (range (decimal 568 (negsuc 9) 1) (decimal 574 (pos 10) 1) ∷ []); at = (at 567) } ∷ []); safer = (record { sides = (range (decimal 587 (pos 0) 1) (decimal 592 (pos 5) 1) ∷ []); at = (at 586) } ∷ record { sides = (range (decimal 600 (pos 5) 1) (decimal 605 (pos 5) 1) ∷ []); at = (at 599) } ∷ []) })
+      ∷ a_module (record { name = (word 620 (codes "k")); ac = (word 627 (codes "a")); sc = (word 633 (codes "b")); period = (whole 643 (pos 2)); offset = (whole 652 (pos 0)); plant = (word 661 (codes "q")); safe = []; safer = [] })
       ∷ [];
 }
 
 -- the first fault of each
 abbrev pub FirstOfUnknownName : Type 0
-FirstOfUnknownName = IsFirstFault unknown_name (fault (at 38 1) Unknown)
+FirstOfUnknownName = IsFirstFault unknown_name (fault (at 38) Unknown)
 
 abbrev pub FirstOfSecondName : Type 0
-FirstOfSecondName = IsFirstFault second_name (fault (at 29 1) Twice)
+FirstOfSecondName = IsFirstFault second_name (fault (at 29) Twice)
 
 abbrev pub FirstOfOtherScale : Type 0
-FirstOfOtherScale = IsFirstFault other_scale (fault (at 17 3) ScaleDiffers)
+FirstOfOtherScale = IsFirstFault other_scale (fault (at 17) ScaleDiffers)
 
 abbrev pub FirstOfOtherKind : Type 0
-FirstOfOtherKind = IsFirstFault other_kind (fault (at 22 4) KindDiffers)
+FirstOfOtherKind = IsFirstFault other_kind (fault (at 22) KindDiffers)
 
 abbrev pub FirstOfEmptyRange : Type 0
-FirstOfEmptyRange = IsFirstFault empty_range (fault (at 14 1) RangeEmpty)
+FirstOfEmptyRange = IsFirstFault empty_range (fault (at 14) RangeEmpty)
 
 abbrev pub FirstOfOutsideStart : Type 0
-FirstOfOutsideStart = IsFirstFault outside_start (fault (at 29 3) InitOutside)
+FirstOfOutsideStart = IsFirstFault outside_start (fault (at 29) InitOutside)
 
 abbrev pub FirstOfOwnInput : Type 0
-FirstOfOwnInput = IsFirstFault own_input (fault (at 70 1) ReadsAndWrites)
+FirstOfOwnInput = IsFirstFault own_input (fault (at 70) ReadsAndWrites)
 
 abbrev pub FirstOfNineFields : Type 0
-FirstOfNineFields = IsFirstFault nine_fields (fault (at 83 1) TooMany)
+FirstOfNineFields = IsFirstFault nine_fields (fault (at 83) TooMany)
 
 abbrev pub FirstOfWideRange : Type 0
-FirstOfWideRange = IsFirstFault wide_range (fault (at 14 1) RangeWide)
+FirstOfWideRange = IsFirstFault wide_range (fault (at 14) RangeWide)
 
 abbrev pub FirstOfLonePlant : Type 0
-FirstOfLonePlant = IsFirstFault lone_plant (fault (at 7 1) NoModule)
+FirstOfLonePlant = IsFirstFault lone_plant (fault (at 7) NoModule)
 
 abbrev pub FirstOfNoPeriod : Type 0
-FirstOfNoPeriod = IsFirstFault no_period (fault (at 19 1) PeriodOutside)
+FirstOfNoPeriod = IsFirstFault no_period (fault (at 19) PeriodOutside)
 
 abbrev pub FirstOfNoNext : Type 0
-FirstOfNoNext = IsFirstFault no_next (fault (at 25 1) NextMissing)
+FirstOfNoNext = IsFirstFault no_next (fault (at 25) NextMissing)
 
 abbrev pub FirstOfSwappedNext : Type 0
-FirstOfSwappedNext = IsFirstFault swapped_next (fault (at 38 1) NextMissing)
+FirstOfSwappedNext = IsFirstFault swapped_next (fault (at 38) NextMissing)
 
 abbrev pub FirstOfTwoAtOne : Type 0
-FirstOfTwoAtOne = IsFirstFault two_at_one (fault (at 79 2) ScaleDiffers)
+FirstOfTwoAtOne = IsFirstFault two_at_one (fault (at 79) ScaleDiffers)
 
 abbrev pub FirstOfTwoPlaces : Type 0
-FirstOfTwoPlaces = IsFirstFault two_places (fault (at 14 1) RangeEmpty)
+FirstOfTwoPlaces = IsFirstFault two_places (fault (at 14) RangeEmpty)
 
 abbrev pub FirstOfTwoTruths : Type 0
-FirstOfTwoTruths = IsFirstFault two_truths (fault (at 82 2) KindDiffers)
+FirstOfTwoTruths = IsFirstFault two_truths (fault (at 82) KindDiffers)
 
 abbrev pub FirstOfBareRecord : Type 0
-FirstOfBareRecord = IsFirstFault bare_record (fault (at 96 1) Unknown)
+FirstOfBareRecord = IsFirstFault bare_record (fault (at 96) Unknown)
 
 abbrev pub FirstOfHiddenTopic : Type 0
-FirstOfHiddenTopic = IsFirstFault hidden_topic (fault (at 65 1) Twice)
+FirstOfHiddenTopic = IsFirstFault hidden_topic (fault (at 65) Twice)
 
 abbrev pub FirstOfOwnNameSeen : Type 0
-FirstOfOwnNameSeen = IsFirstFault own_name_seen (fault (at 30 1) KindDiffers)
+FirstOfOwnNameSeen = IsFirstFault own_name_seen (fault (at 30) KindDiffers)
 
 abbrev pub FirstOfManyStatements : Type 0
-FirstOfManyStatements = IsFirstFault many_statements (fault (at 98 1) TooMany)
+FirstOfManyStatements = IsFirstFault many_statements (fault (at 98) TooMany)
 
 abbrev pub FirstOfLateOffset : Type 0
-FirstOfLateOffset = IsFirstFault late_offset (fault (at 28 1) PeriodOutside)
+FirstOfLateOffset = IsFirstFault late_offset (fault (at 28) PeriodOutside)
 
 abbrev pub FirstOfWideBox : Type 0
-FirstOfWideBox = IsFirstFault wide_box (fault (at 164 1) KindDiffers)
+FirstOfWideBox = IsFirstFault wide_box (fault (at 164) KindDiffers)
 
 -- the other rule that fails at that token
 abbrev pub OtherOfTwoAtOne : Type 0
-OtherOfTwoAtOne = Fails two_at_one (at 79 2) KindDiffers
+OtherOfTwoAtOne = Fails two_at_one (at 79) KindDiffers
 
 abbrev pub NoneInTheLine : Type 0
 NoneInTheLine = IsFaultless the_line

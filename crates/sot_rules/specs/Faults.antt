@@ -3,6 +3,7 @@ use Rattle.std.specs.Prelude.{ℕ, ◌+◌, nat_lt, nat_le, ◌==◌, Bool, true
 use Rattle.std.specs.List.{list_any}
 use Rattle.std.specs.Str.{bytes_eq}
 use Rattle.sot_text.specs.declared.token.Span.{Span}
+use Rattle.sot_text.specs.Place.{rank}
 use Rattle.sot_tree.specs.declared.tree.Ident.{Ident}
 use Rattle.sot_tree.specs.declared.tree.Lit.{Lit}
 use Rattle.sot_tree.specs.declared.tree.Bounds.{Bounds}
@@ -266,7 +267,7 @@ faults p = together (program_lists p)
 
 -- the first fault so far, and one more
 abbrev pub is_before : TypeFault → TypeFault → Bool
-is_before f g = nat_lt f.at.from g.at.from || ((f.at.from == g.at.from) && nat_lt (number_of f.kind) (number_of g.kind))
+is_before f g = nat_lt (rank f.at) (rank g.at) || ((rank f.at == rank g.at) && nat_lt (number_of f.kind) (number_of g.kind))
 
 abbrev pub lesser : Option TypeFault → TypeFault → Option TypeFault
 lesser None g = Some g

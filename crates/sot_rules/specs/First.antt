@@ -1,6 +1,7 @@
 -- The first fault of a program.
 use Rattle.std.specs.Prelude.{◌≡◌, ℕ, ◌<◌, ◌≤◌, ◌⊎◌}
 use Rattle.sot_text.specs.declared.token.Span.{Span}
+use Rattle.sot_text.specs.Place.{rank}
 use Rattle.sot_tree.specs.Trees.{Program}
 use Rattle.sot_rules.specs.declared.fault.TypeFault.{TypeFault}
 use Rattle.sot_rules.specs.declared.fault.TypeKind.{TypeKind}
@@ -24,7 +25,7 @@ number_of NextMissing = 12
 
 -- f stands before g, or where g stands and with no greater number
 abbrev pub IsNotAfter : TypeFault → TypeFault → Type 0
-IsNotAfter f g = (f.at.from < g.at.from) ⊎ ((f.at.from ≡ g.at.from) × (number_of f.kind ≤ number_of g.kind))
+IsNotAfter f g = (rank f.at < rank g.at) ⊎ ((rank f.at ≡ rank g.at) × (number_of f.kind ≤ number_of g.kind))
 
 -- a rule fails there, and none that fails comes before it
 pub record IsFirstFault (p : Program) (f : TypeFault) : Type 0 where

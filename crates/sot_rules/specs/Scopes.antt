@@ -41,6 +41,10 @@ abbrev pub answer : Result Sort Span → Reading
 answer (Ok s) = gives s
 answer (Err at) = nothing_at at
 
+-- a second name, where there is one
+abbrev pub field_in : Option (Bor Ident) → Option Ident
+field_in field = option_map (λ (f : Bor Ident). f.now) field
+
 -- what a thing's name gives, where it is one
 abbrev pub reading_of : {X : Type 0} → (X → Parts) → Ident → Option Ident → Option X → Reading
 reading_of f first field None = nothing_at first.at

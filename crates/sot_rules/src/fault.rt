@@ -87,7 +87,8 @@ fn number_of(kind: TypeKind) -> u8
 fn is_earlier(at: Span, kind: TypeKind, first: TypeFault) -> bool
     ensures { result ≡ is_before (fault at kind) first }
 {
-    at.from < first.at.from || (at.from == first.at.from && number_of(kind) < number_of(first.kind))
+    let (rank, known) = (at.rank(), first.at.rank());
+    rank < known || (rank == known && number_of(kind) < number_of(first.kind))
 }
 
 /// Whether a fault of this kind at a place would not be the first one.
@@ -101,10 +102,10 @@ pub fn is_past(first: Option<TypeFault>, at: Span, kind: TypeKind) -> bool
 }
 
 /// Whether a place stands behind another one.
-pub fn is_behind(at: Span, from: u32) -> bool
+pub fn is_behind(at: Span, from: Span) -> bool
     ensures { result ≡ is_behind from at }
 {
-    from < at.from
+    from.rank() < at.rank()
 }
 
 /// Whether a place stands behind the first fault, where there is one. Then no fault there is the first.
@@ -113,7 +114,7 @@ pub fn stands_behind(first: Option<TypeFault>, at: Span) -> bool
 {
     match first {
         None => false,
-        Some(f) => is_behind(at, f.at.from),
+        Some(f) => is_behind(at, f.at),
     }
 }
 

@@ -30,8 +30,8 @@ skipped_within false (b ∷ bs) =
 
 -- what is known of the next token
 pub record IsNext (bytes : List ℕ) (at : ℕ) (t : Lexeme) : Type 0 where
-  pub forward : at < t.at.to
-  pub within : t.at.to ≤ length bytes
+  pub forward : at < t.to
+  pub within : t.to ≤ length bytes
   pub whole : IsTokenText t.kind t.text
 
 lexed_next : (bytes : List ℕ) (at from : ℕ) (t : Lexeme) (f : Front) → at ≤ from → front (drop from bytes) ≡ f → lexed bytes from f ≡ Ok (Some t) → IsNext bytes at t
@@ -41,7 +41,7 @@ lexed_next bytes at from t (fronts.NameLong len) le is e = absurd cc
 lexed_next bytes at from t (fronts.LiteralWide len) le is e = absurd cc
 lexed_next bytes at from t (fronts.Token kind len) le is e =
     let whole = token_whole (drop from bytes) kind len is in
-    let made : Lexeme = record { kind = kind; text = take len (drop from bytes); at = span bytes from len } in
+    let made : Lexeme = record { kind = kind; text = take len (drop from bytes); at = span bytes from; to = from + len } in
     let same : made ≡ t = cc in
     let text_len : length (take len (drop from bytes)) ≡ len = length-take-le len (drop from bytes) whole.within in
     subst (IsNext bytes at) same (record {
@@ -62,7 +62,7 @@ token_text bytes rest kind len from n is rest_is len_is =
     let same : take len rest ≡ take n (drop from bytes) = ap (λ m. take m rest) (sym len_is) ∙ ap (take n) rest_is in
     subst (IsTokenText kind) same alone
 
-step_same : (f g : ℕ → Ahead) (r : Result (Option Lexeme) LexFault) → ((t : Lexeme) → r ≡ Ok (Some t) → f t.at.to ≡ g t.at.to) → ahead_with f r ≡ ahead_with g r
+step_same : (f g : ℕ → Ahead) (r : Result (Option Lexeme) LexFault) → ((t : Lexeme) → r ≡ Ok (Some t) → f t.to ≡ g t.to) → ahead_with f r ≡ ahead_with g r
 step_same f g (Ok None) same = refl
 step_same f g (Err e) same = refl
 step_same f g (Ok (Some t)) same = ap (push t) (same t refl)
@@ -73,16 +73,16 @@ within_same zero m bytes at h k = absurd (omega (arith, h))
 within_same (suc n) zero bytes at h k = absurd (omega (arith, k))
 within_same (suc n) (suc m) bytes at h k =
     step_same (ahead_within n bytes) (ahead_within m bytes) (next_lexeme bytes at)
-    (λ t e. let is = next_is bytes at t e in within_same n m bytes t.at.to (omega (arith, h, is.forward, is.within)) (omega (arith, k, is.forward, is.within)))
+    (λ t e. let is = next_is bytes at t e in within_same n m bytes t.to (omega (arith, h, is.forward, is.within)) (omega (arith, k, is.forward, is.within)))
 
 -- one token, and those behind it
 pub ahead_step : (bytes : List ℕ) (at : ℕ) → ahead_from bytes at ≡ ahead_with (ahead_from bytes) (next_lexeme bytes at)
 unfolding ahead_from ahead_within
 ahead_step bytes at =
     step_same (ahead_within (length bytes - at) bytes) (ahead_from bytes) (next_lexeme bytes at)
-    (λ t e. let is = next_is bytes at t e in within_same (length bytes - at) (suc (length bytes - t.at.to)) bytes t.at.to (omega (arith, is.forward, is.within)) (omega arith))
+    (λ t e. let is = next_is bytes at t e in within_same (length bytes - at) (suc (length bytes - t.to)) bytes t.to (omega (arith, is.forward, is.within)) (omega arith))
 
-comes_with : (bytes : List ℕ) (at : ℕ) (more : ℕ → Ahead) (r : Result (Option Lexeme) LexFault) → next_lexeme bytes at ≡ r → ((t : Lexeme) → r ≡ Ok (Some t) → Comes bytes t.at.to (more t.at.to)) → Comes bytes at (ahead_with more r)
+comes_with : (bytes : List ℕ) (at : ℕ) (more : ℕ → Ahead) (r : Result (Option Lexeme) LexFault) → next_lexeme bytes at ≡ r → ((t : Lexeme) → r ≡ Ok (Some t) → Comes bytes t.to (more t.to)) → Comes bytes at (ahead_with more r)
 comes_with bytes at more (Ok None) is rest = (at, refl, is)
 comes_with bytes at more (Err e) is rest = (at, refl, is)
 comes_with bytes at more (Ok (Some t)) is rest = (let behind = rest t refl in (behind.0, (is, behind.1), behind.2))
@@ -92,7 +92,7 @@ unfolding ahead_within
 comes_within zero bytes at h = absurd (omega (arith, h))
 comes_within (suc n) bytes at h =
     comes_with bytes at (ahead_within n bytes) (next_lexeme bytes at) refl
-    (λ t e. let is = next_is bytes at t e in comes_within n bytes t.at.to (omega (arith, h, is.forward, is.within)))
+    (λ t e. let is = next_is bytes at t e in comes_within n bytes t.to (omega (arith, h, is.forward, is.within)))
 
 pub ahead_comes : (bytes : List ℕ) (at : ℕ) → Comes bytes at (ahead_from bytes at)
 unfolding ahead_from
@@ -120,8 +120,8 @@ comes_only bytes at (t ∷ ts) [] e f (to, run, stop) (to', run', stop') =
 comes_only bytes at (t ∷ ts) (u ∷ us) e f (to, run, stop) (to', run', stop') =
     let both : Ok (Some t) ≡ Ok (Some u) = sym run.0 ∙ run'.0 in
     let first : t ≡ u = cc in
-    let there : Lexes bytes t.at.to us to' = subst (λ (x : Lexeme). Lexes bytes x.at.to us to') (sym first) run'.1 in
-    let more = comes_only bytes t.at.to ts us e f (to, run.1, stop) (to', there, stop') in
+    let there : Lexes bytes t.to us to' = subst (λ (x : Lexeme). Lexes bytes x.to us to') (sym first) run'.1 in
+    let more = comes_only bytes t.to ts us e f (to, run.1, stop) (to', there, stop') in
     (cc, more.1)
 
 pub comes_unique : (bytes : List ℕ) (at : ℕ) (a b : Ahead) → Comes bytes at a → Comes bytes at b → a ≡ b

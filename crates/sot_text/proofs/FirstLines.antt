@@ -3,7 +3,7 @@ use Rattle.std.proofs.Common.{◌≡◌, ◌≢◌, ℕ, zero, suc, ◌+◌, ◌
 use Rattle.std.proofs.lemmas.Bool.{cases_Bool, cond-true, cond-false}
 use Rattle.std.proofs.lemmas.Bool.Decides.{nat_tests}
 use Rattle.memchr.specs.Find.{Nowhere, Passes, is_byte}
-use Rattle.sot_text.specs.declared.place.Place.{Place}
+use Rattle.sot_text.specs.declared.token.Span.{Span}
 use Rattle.sot_text.specs.Place.{after, after_byte}
 use Rattle.sot_text.specs.Lexeme.{skipped}
 use Rattle.sot_text.specs.Dividing.{line_len}
@@ -30,17 +30,17 @@ line_whole (b ∷ bs) none =
     ]
 
 -- the place behind one byte
-pub byte_ends : (p : Place) (b : ℕ) → (b == 10) ≡ true → after_byte p b ≡ next_line p
+pub byte_ends : (p : Span) (b : ℕ) → (b == 10) ≡ true → after_byte p b ≡ next_line p
 byte_ends p b end = cond-true (b == 10) _ _ end
 
-pub byte_goes_on : (p : Place) (b : ℕ) → (b == 10) ≡ false → after_byte p b ≡ further p 1
+pub byte_goes_on : (p : Span) (b : ℕ) → (b == 10) ≡ false → after_byte p b ≡ further p 1
 byte_goes_on p b more = cond-false (b == 10) _ _ more
 
-pub further-add : (p : Place) (n m k : ℕ) → n + m ≡ k → further (further p n) m ≡ further p k
-further-add p n m k sum = (let column : p.column + n + m ≡ p.column + k = omega arith in ap (λ (c : ℕ). let q : Place = record { line = p.line; column = c } in q) column)
+pub further-add : (p : Span) (n m k : ℕ) → n + m ≡ k → further (further p n) m ≡ further p k
+further-add p n m k sum = (let column : p.column + n + m ≡ p.column + k = omega arith in ap (λ (c : ℕ). let q : Span = record { line = p.line; column = c } in q) column)
 
-pub further-none : (p : Place) → p ≡ further p 0
-further-none p = (let column : p.column ≡ p.column + 0 = omega arith in ap (λ (c : ℕ). let q : Place = record { line = p.line; column = c } in q) column)
+pub further-none : (p : Span) → p ≡ further p 0
+further-none p = (let column : p.column ≡ p.column + 0 = omega arith in ap (λ (c : ℕ). let q : Span = record { line = p.line; column = c } in q) column)
 
 -- the last byte of the first line, where a byte of it stands before
 last_byte : (b x : ℕ) (bs : List ℕ) → 0 < length bs → (b == 10) ≡ false → get_or (b ∷ bs) (line_len (b ∷ bs) - 1) 0 ≡ x → get_or bs (line_len bs - 1) 0 ≡ x
@@ -52,7 +52,7 @@ last_byte b x bs some more is =
     ap (λ (n : ℕ). get_or (b ∷ bs) n 0) (sym less ∙ sym one) ∙ there
 
 -- behind a line that ends, the next one begins
-pub after_ended : (p : Place) (bs : List ℕ) → 0 < length bs → get_or bs (line_len bs - 1) 0 ≡ 10 → after p (take (line_len bs) bs) ≡ next_line p
+pub after_ended : (p : Span) (bs : List ℕ) → 0 < length bs → get_or bs (line_len bs - 1) 0 ≡ 10 → after p (take (line_len bs) bs) ≡ next_line p
 after_ended p [] some end = absurd (omega arith)
 after_ended p (b ∷ []) some end =
     elim (cases_Bool (b == 10)) [
@@ -64,11 +64,11 @@ after_ended p (b ∷ c ∷ bs) some end =
       | inl here ↦ rw here (byte_ends p b here)
       | inr more ↦
           let rest : List ℕ = c ∷ bs in
-          rw more (ap (λ (q : Place). after q (take (line_len rest) rest)) (byte_goes_on p b more) ∙ after_ended (further p 1) (c ∷ bs) (omega arith) (last_byte b 10 rest (omega arith) more end))
+          rw more (ap (λ (q : Span). after q (take (line_len rest) rest)) (byte_goes_on p b more) ∙ after_ended (further p 1) (c ∷ bs) (omega arith) (last_byte b 10 rest (omega arith) more end))
     ]
 
 -- behind a line that the text ends, only columns were gone over
-pub after_open : (p : Place) (bs : List ℕ) → get_or bs (line_len bs - 1) 0 ≢ 10 → after p (take (line_len bs) bs) ≡ further p (line_len bs)
+pub after_open : (p : Span) (bs : List ℕ) → get_or bs (line_len bs - 1) 0 ≢ 10 → after p (take (line_len bs) bs) ≡ further p (line_len bs)
 after_open p [] end = further-none p
 after_open p (b ∷ []) end =
     elim (cases_Bool (b == 10)) [
@@ -82,7 +82,7 @@ after_open p (b ∷ c ∷ bs) end =
       | inl here ↦ (let is : b ≡ 10 = grind (arith, nat_tests) in absurd (rw here at end is))
       | inr more ↦
           let other : get_or rest (n - 1) 0 ≢ 10 = λ e. end (last_byte_on b 10 rest (omega arith) more e) in
-          rw more (ap (λ (q : Place). after q (take n rest)) (byte_goes_on p b more) ∙ after_open (further p 1) (c ∷ bs) other ∙ further-add p 1 n (suc n) (omega arith))
+          rw more (ap (λ (q : Span). after q (take n rest)) (byte_goes_on p b more) ∙ after_open (further p 1) (c ∷ bs) other ∙ further-add p 1 n (suc n) (omega arith))
     ]
   where
     last_byte_on : (b x : ℕ) (bs : List ℕ) → 0 < length bs → (b == 10) ≡ false → get_or bs (line_len bs - 1) 0 ≡ x → get_or (b ∷ bs) (line_len (b ∷ bs) - 1) 0 ≡ x

@@ -4,7 +4,6 @@ use Rattle.std.proofs.lemmas.List.{take_rest}
 use Rattle.sot_text.specs.declared.token.Kind.{Kind}
 use Rattle.sot_text.specs.declared.token.LexFault.{LexFault}
 use Rattle.sot_text.specs.declared.token.Span.{Span}
-use Rattle.sot_text.specs.declared.place.Place.{Place}
 use Rattle.sot_text.specs.declared.lexeme.Front.{Front}
 use Rattle.sot_text.specs.declared.lexeme.Front.TheVariants as fronts
 use Rattle.sot_text.specs.Place.{after, begin}
@@ -21,19 +20,16 @@ next_at r bytes at from f seen from_is front_is =
     ∙ ap (λ (k : ℕ). lexed bytes k (front (drop k bytes))) from_is
     ∙ ap (λ (x : Reading). next_lexeme x.bytes x.at) (sym seen)
 
-pub span_is : (bytes : List ℕ) (from len : ℕ) (p : Place) (s : Span) → p ≡ after begin (take from bytes) → s ≡ record { line = p.line; column = p.column; from = from; to = from + len } → s ≡ span bytes from len
-span_is bytes from len p s place is = is ∙ ap (λ (q : Place). record { line = q.line; column = q.column; from = from; to = from + len }) place
+abbrev token_of : Kind → List ℕ → ℕ → Span → Result (Option Lexeme) LexFault
+token_of kind text to at = Ok (Some (record { kind = kind; text = text; at = at; to = to }))
 
-abbrev token_of : Kind → List ℕ → Span → Result (Option Lexeme) LexFault
-token_of kind text at = Ok (Some (record { kind = kind; text = text; at = at }))
-
-pub token_is : (bytes : List ℕ) (from len : ℕ) (kind : Kind) (s : Span) → s ≡ span bytes from len → token_of kind (take (from + len - from) (drop from bytes)) s ≡ lexed bytes from (fronts.Token kind len)
+pub token_is : (bytes : List ℕ) (from len : ℕ) (kind : Kind) (s : Span) → s ≡ span bytes from → token_of kind (take (from + len - from) (drop from bytes)) (from + len) s ≡ lexed bytes from (fronts.Token kind len)
 token_is bytes from len kind s is =
     let count : from + len - from ≡ len = omega arith in
-    ap (λ (n : ℕ). token_of kind (take n (drop from bytes)) s) count ∙ ap (token_of kind (take len (drop from bytes))) is
+    ap (λ (n : ℕ). token_of kind (take n (drop from bytes)) (from + len) s) count ∙ ap (token_of kind (take len (drop from bytes)) (from + len)) is
 
 -- the place behind a token
-pub place_behind : (bytes : List ℕ) (from len : ℕ) (kind : Kind) (p q : Place) → p ≡ after begin (take from bytes) → q ≡ further p len → fronts.Token kind len ≡ front (take (length bytes - from) (drop from bytes)) → q ≡ after begin (take (from + len) bytes)
+pub place_behind : (bytes : List ℕ) (from len : ℕ) (kind : Kind) (p q : Span) → p ≡ after begin (take from bytes) → q ≡ further p len → fronts.Token kind len ≡ front (take (length bytes - from) (drop from bytes)) → q ≡ after begin (take (from + len) bytes)
 place_behind bytes from len kind p q here is token =
     let there : front (drop from bytes) ≡ fronts.Token kind len = sym (token ∙ ap front (take_rest bytes from)) in
     after_on bytes from len p q here (token_on p (drop from bytes) kind len there ∙ sym is)

@@ -8,7 +8,7 @@ use Rattle.std.proofs.lemmas.Bool.Decides.{nat_tests}
 use Rattle.std.proofs.lemmas.List.Folds.{length-prefix_len}
 use Rattle.sot_text.specs.declared.token.Kind.{Kind}
 use Rattle.sot_text.specs.declared.lexeme.Front.TheVariants.{Token}
-use Rattle.sot_text.specs.declared.place.Place.{Place}
+use Rattle.sot_text.specs.declared.token.Span.{Span}
 use Rattle.sot_text.specs.Place.{after}
 use Rattle.sot_text.specs.Lexeme.{begins_word, is_in_word, word_len, digits_len, decimals_len, decimals_of, number_len, mantissa_of, word, number, sign, front}
 use Rattle.sot_text.specs.Inside.{is_long_sign, is_short_sign, sign_by_two, further}
@@ -26,10 +26,10 @@ no_end test b fails passes =
     ]
 
 -- one byte, and then bytes that end no line
-first_on : (p : Place) (b n : ℕ) (bs : List ℕ) → (b == 10) ≡ false → after (further p 1) bs ≡ further (further p 1) n → after p (b ∷ bs) ≡ further p (suc n)
-first_on p b n bs other more = ap (λ (q : Place). after q bs) (byte_goes_on p b other) ∙ more ∙ further-add p 1 n (suc n) (omega arith)
+first_on : (p : Span) (b n : ℕ) (bs : List ℕ) → (b == 10) ≡ false → after (further p 1) bs ≡ further (further p 1) n → after p (b ∷ bs) ≡ further p (suc n)
+first_on p b n bs other more = ap (λ (q : Span). after q bs) (byte_goes_on p b other) ∙ more ∙ further-add p 1 n (suc n) (omega arith)
 
-prefix_on : (test : ℕ → Bool) (p : Place) (bs : List ℕ) → test 10 ≡ false → after p (take (prefix_len test bs) bs) ≡ further p (prefix_len test bs)
+prefix_on : (test : ℕ → Bool) (p : Span) (bs : List ℕ) → test 10 ≡ false → after p (take (prefix_len test bs) bs) ≡ further p (prefix_len test bs)
 prefix_on test p [] fails = further-none p
 prefix_on test p (b ∷ bs) fails =
     elim (cases_Bool (test b)) [
@@ -43,7 +43,7 @@ prefix_on test p (b ∷ bs) fails =
       | inr stops ↦ rw stops (further-none p)
     ]
 
-point_on : (p : Place) (ys : List ℕ) (d : ℕ) → decimals_len ys ≡ d → after p (take (point_len d) ys) ≡ further p (point_len d)
+point_on : (p : Span) (ys : List ℕ) (d : ℕ) → decimals_len ys ≡ d → after p (take (point_len d) ys) ≡ further p (point_len d)
 unfolding point_len
 point_on p ys zero is = further-none p
 point_on p [] (suc e) is = absurd (omega (arith, is))
@@ -57,18 +57,18 @@ point_on p (y ∷ ys) (suc e) is =
       | inr other ↦ absurd (omega (arith, sym (cond-false (y == 46) _ _ other) ∙ is))
     ]
 
-number_on : (p : Place) (bs : List ℕ) → after p (take (number_len bs) bs) ≡ further p (number_len bs)
+number_on : (p : Span) (bs : List ℕ) → after p (take (number_len bs) bs) ≡ further p (number_len bs)
 number_on p bs =
     let w : ℕ = digits_len bs in
     let n : ℕ = point_len (decimals_of bs) in
     ap (λ (k : ℕ). after p (take k bs)) (number_len_is bs)
     ∙ ap (after p) (take-add w n bs)
     ∙ sym (after-append p (take w bs) (take n (drop w bs)))
-    ∙ ap (λ (q : Place). after q (take n (drop w bs))) (prefix_on is_ascii_digit p bs refl)
+    ∙ ap (λ (q : Span). after q (take n (drop w bs))) (prefix_on is_ascii_digit p bs refl)
     ∙ point_on (further p w) (drop w bs) (decimals_of bs) refl
     ∙ further-add p w n (number_len bs) (sym (number_len_is bs))
 
-short_on : (p : Place) (a k : ℕ) (bs : List ℕ) → k ≡ cond (is_short_sign a) 1 0 → after p (take k (a ∷ bs)) ≡ further p k
+short_on : (p : Span) (a k : ℕ) (bs : List ℕ) → k ≡ cond (is_short_sign a) 1 0 → after p (take k (a ∷ bs)) ≡ further p k
 short_on p a k bs is =
     elim (cases_Bool (is_short_sign a)) [
       | inl short ↦
@@ -79,7 +79,7 @@ short_on p a k bs is =
           ap (λ (n : ℕ). after p (take n (a ∷ bs))) zero_is ∙ further-none p ∙ ap (further p) (sym zero_is)
     ]
 
-sign_on : (p : Place) (bs : List ℕ) → after p (take (sign_by_two bs) bs) ≡ further p (sign_by_two bs)
+sign_on : (p : Span) (bs : List ℕ) → after p (take (sign_by_two bs) bs) ≡ further p (sign_by_two bs)
 sign_on p [] = further-none p
 sign_on p (a ∷ []) = short_on p a (sign_by_two (a ∷ [])) [] refl
 sign_on p (a ∷ b ∷ bs) =
@@ -97,7 +97,7 @@ sign_on p (a ∷ b ∷ bs) =
     second_none : (a : ℕ) → is_long_sign a 10 ≡ false
     second_none a = (let none : (n : ℕ) → (a == n && false) ≡ false = λ n. and_false (a == n) in simp none refl)
 
-word_on : (p : Place) (b n : ℕ) (bs : List ℕ) (kind : Kind) → begins_word b ≡ true → front (b ∷ bs) ≡ Token kind n → after p (take n (b ∷ bs)) ≡ further p n
+word_on : (p : Span) (b n : ℕ) (bs : List ℕ) (kind : Kind) → begins_word b ≡ true → front (b ∷ bs) ≡ Token kind n → after p (take n (b ∷ bs)) ≡ further p n
 word_on p b n bs kind first e =
     let w : ℕ = word_len (b ∷ bs) in
     let is : word (take w (b ∷ bs)) ≡ Token kind n = sym (front_word b bs first) ∙ e in
@@ -105,7 +105,7 @@ word_on p b n bs kind first e =
     ap (λ (k : ℕ). after p (take k (b ∷ bs))) len ∙ prefix_on is_in_word p (b ∷ bs) refl ∙ ap (further p) (sym len)
 
 -- the place behind a token
-pub token_on : (p : Place) (bs : List ℕ) (kind : Kind) (n : ℕ) → front bs ≡ Token kind n → after p (take n bs) ≡ further p n
+pub token_on : (p : Span) (bs : List ℕ) (kind : Kind) (n : ℕ) → front bs ≡ Token kind n → after p (take n bs) ≡ further p n
 token_on p [] kind n e = absurd cc
 token_on p (b ∷ bs) kind n e =
     let xs : List ℕ = b ∷ bs in

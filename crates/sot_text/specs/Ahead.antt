@@ -22,7 +22,7 @@ push t ahead = record { tokens = t ∷ ahead.tokens; end = ahead.end }
 
 abbrev pub ahead_with : (ℕ → Ahead) → Result (Option Lexeme) LexFault → Ahead
 ahead_with more (Ok None) = record { tokens = []; end = None }
-ahead_with more (Ok (Some t)) = push t (more t.at.to)
+ahead_with more (Ok (Some t)) = push t (more t.to)
 ahead_with more (Err fault) = record { tokens = []; end = Some fault }
 
 -- the same as a function; the number bounds how many tokens are taken

@@ -1,7 +1,7 @@
 -- What the lexer's own functions promise each other.
 use Rattle.std.specs.Prelude.{ℕ, ◌+◌, ◌<◌, List, [], ◌∷◌, Bool, ◌==◌, ◌||◌, ◌&&◌, if◌then◌else◌}
 use Rattle.std.specs.List.{list_any}
-use Rattle.sot_text.specs.declared.place.Place.{Place}
+use Rattle.sot_text.specs.declared.token.Span.{Span}
 use Rattle.sot_text.specs.declared.lexeme.Front.{Front}
 use Rattle.sot_text.specs.declared.lexeme.Front.TheVariants.{End, Token, BadByte, NameLong, LiteralWide}
 use Rattle.sot_text.specs.Lexeme.{is_blank, sign_characters}
@@ -36,11 +36,11 @@ IsSomeLen (NameLong len) = Unit {0}
 IsSomeLen (LiteralWide len) = Unit {0}
 
 -- the place behind so many bytes that end no line
-abbrev pub further : Place → ℕ → Place
+abbrev pub further : Span → ℕ → Span
 further p n = record { line = p.line; column = p.column + n }
 
 -- the place behind a line's end
-abbrev pub next_line : Place → Place
+abbrev pub next_line : Span → Span
 next_line p = record { line = p.line + 1; column = 1 }
 
 -- a blank or a comment begins with this byte

@@ -1,16 +1,49 @@
 //! The first line of a text.
-ghost use Rattle.std.specs.Prelude.{◌≡◌, ◌+◌, ◌≤◌, length};
+ghost use Rattle.std.specs.Prelude.{◌≡◌, ◌+◌, ◌≤◌, IfSome, length};
 ghost use Rattle.sot_text.specs.Dividing.{line_len};
 
 use memchr::memchr;
 
-/// How many bytes the first line has, with its line end. The last line may have none.
-pub fn line_len(bytes: &[u8]) -> usize
+// So many bytes are looked at one by one, which is quicker for the many short lines than to begin a search.
+const NEAR: usize = 16;
+
+// The same, if the first line ends within the first bytes.
+#[inline(always)]
+fn near_line_len(bytes: &[u8]) -> Option<usize>
+    ensures len { IfSome result (λ len. len ≡ line_len bytes.now) }
+    ensures within { IfSome result (λ len. len ≤ length bytes.now) }
+{
+    if bytes.len() < NEAR {
+        return None;
+    }
+    for i in 0..NEAR {
+        if bytes[i] == b'\n' {
+            return Some(i + 1);
+        }
+    }
+    None
+}
+
+// Its callers, which mostly need it not, would hold a copy each.
+#[inline(never)]
+fn far_line_len(bytes: &[u8]) -> usize
     ensures len { result ≡ line_len bytes.now }
     ensures within { result ≤ length bytes.now }
 {
     match memchr(b'\n', bytes) {
         Some(before) => before + 1,
         None => bytes.len(),
+    }
+}
+
+/// How many bytes the first line has, with its line end. The last line may have none.
+#[inline(never)]
+pub fn line_len(bytes: &[u8]) -> usize
+    ensures len { result ≡ line_len bytes.now }
+    ensures within { result ≤ length bytes.now }
+{
+    match near_line_len(bytes) {
+        Some(len) => len,
+        None => far_line_len(bytes),
     }
 }

@@ -1,7 +1,7 @@
 -- The trees that the code holds, as contracts see them.
 use Rattle.std.specs.Prelude.{List, [], ◌∷◌, map, Option, None, Some}
-use Rattle.sot_tree.specs.declared.tree.Expr.{Expr, Number, Truth, Ref, Binary', Rest', Neg', Not', Call', Rescale', If', Row_of-Expr, end_of-Expr, more_of-Expr}
-use Rattle.sot_tree.specs.declared.tree.Stmt.{Stmt, Assign, Publish, If' as IfStmt', Repeat', Row_of-Stmt, end_of-Stmt, more_of-Stmt}
+use Rattle.sot_tree.specs.declared.tree.Expr.{Expr, Number, Truth, Name, Member, Binary', Rest', Neg', Not', Call', Rescale', If', Row_of-Expr, end_of-Expr, more_of-Expr}
+use Rattle.sot_tree.specs.declared.tree.Stmt.{Stmt, Assign, Publish, PublishField, If' as IfStmt', Repeat', Row_of-Stmt, end_of-Stmt, more_of-Stmt}
 use Rattle.sot_tree.specs.declared.tree.Shape.{Shape}
 use Rattle.sot_tree.specs.declared.tree.Shape.TheVariants as shapes
 use Rattle.sot_tree.specs.declared.tree.Init.{Init}
@@ -22,14 +22,15 @@ abbrev mutual
   pub tree_view : Expr → Tree
   tree_view (Number l) = number l
   tree_view (Truth value at) = truth value at
-  tree_view (Ref first field) = named first field
+  tree_view (Name first) = named first None
+  tree_view (Member m) = named m.first (Some m.field)
   tree_view (Binary' op p left right at) = binary op (tree_view left) (tree_view right) at
   tree_view (Rest' p left by at) = rest (tree_view left) by at
   tree_view (Neg' p part at) = negated (tree_view part) at
   tree_view (Not' p part at) = denied (tree_view part) at
-  tree_view (Call' func shape parts at) = called func (trees_view parts) at
+  tree_view (Call' func p shape parts at) = called func (trees_view parts) at
   tree_view (Rescale' p part to at) = rescaled (tree_view part) to at
-  tree_view (If' p cond q yes_ r no_ at) = chosen (tree_view cond) (tree_view yes_) (tree_view no_) at
+  tree_view (If' p cond yes_ no_ at) = chosen (tree_view cond) (tree_view yes_) (tree_view no_) at
 
   pub trees_view : {m : _} → Row_of-Expr m → Trees
   trees_view end_of-Expr = no_tree
@@ -38,8 +39,9 @@ abbrev mutual
 abbrev mutual
   pub statement_view : Stmt → Statement
   statement_view (Assign target value) = assigned target (tree_view value)
-  statement_view (Publish topic field value) = published topic field (tree_view value)
-  statement_view (IfStmt' cond m yes_ n no_ at) = branched (tree_view cond) (row_view yes_) (row_view no_) at
+  statement_view (Publish topic value) = published topic None (tree_view value)
+  statement_view (PublishField place value) = published place.first (Some place.field) (tree_view value)
+  statement_view (IfStmt' p cond m yes_ n no_ at) = branched (tree_view cond) (row_view yes_) (row_view no_) at
   statement_view (Repeat' times m body at) = repeated times (row_view body) at
 
   pub row_view : {m : _} → Row_of-Stmt m → Block

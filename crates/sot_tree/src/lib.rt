@@ -2,7 +2,6 @@
 #![tactic(auto)]
 
 mod apart;
-mod field_name;
 mod letters;
 mod name;
 mod operator;
@@ -10,10 +9,10 @@ mod row;
 mod tree;
 
 pub use apart::Apart;
-pub use field_name::FieldName;
 pub use name::Name;
 pub use operator::{Func, Op};
 pub use tree::{
-    Bounds, BoxDecl, Const, Decl, Expr, Field, Ident, Init, Lit, LocalDecl, ModuleDecl, NextDecl,
-    NodeDecl, Operands, PlantDecl, Program, Scalar, Shape, StateDecl, Stmt, TopicDecl,
+    Bounds, BoxDecl, Branch, Choice, Const, Decl, Expr, Field, Ident, Init, Lit, LocalDecl, Member,
+    ModuleDecl, NextDecl, NodeDecl, Operands, PlantDecl, Program, Scalar, Shape, StateDecl, Stmt,
+    TopicDecl,
 };

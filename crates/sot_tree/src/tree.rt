@@ -1,7 +1,6 @@
 //! The trees of a program as it is written.
 
 use crate::apart::Apart;
-use crate::field_name::FieldName;
 use crate::name::Name;
 use crate::operator::{Func, Op};
 use sot_text::Span;
@@ -11,6 +10,13 @@ use sot_text::Span;
 pub struct Ident {
     pub name: Name,
     pub at: Span,
+}
+
+/// A field of a topic, or a state variable of a plant, as in `limits.high`: two names with a point between them.
+#[derive(Drop)]
+pub struct Member {
+    pub first: Ident,
+    pub field: Ident,
 }
 
 /// A literal: its digits without the point, with its sign, and the count of its decimals. `at` is its first token.
@@ -160,7 +166,17 @@ pub struct Operands {
     pub right: Expr,
 }
 
-/// An expression. `at` is the token that names its operator, its function or its `if`.
+/// The condition and the branches of an `if`, which lie in memory together.
+#[cycle(expression)]
+#[derive(Drop)]
+pub struct Choice {
+    pub cond: Expr,
+    pub yes: Expr,
+    pub no: Expr,
+}
+
+/// An expression. `at` is the token that names its operator, its function or its `if`. Each expression has room for the
+/// largest of its forms, so what takes more than a name lies in memory of its own.
 #[cycle(expression)]
 #[derive(Drop)]
 pub enum Expr {
@@ -169,11 +185,8 @@ pub enum Expr {
         value: bool,
         at: Span,
     },
-    /// A name, or a field of a topic or a state variable of a plant.
-    Ref {
-        first: Ident,
-        field: Option<FieldName>,
-    },
+    Name(Ident),
+    Member(Apart<Member>),
     Binary {
         op: Op,
         operands: Box<Operands>,
@@ -195,7 +208,7 @@ pub enum Expr {
     },
     Call {
         func: Func,
-        parts: Vec<Expr>,
+        parts: Box<Vec<Expr>>,
         at: Span,
     },
     Rescale {
@@ -204,14 +217,22 @@ pub enum Expr {
         at: Span,
     },
     If {
-        cond: Box<Expr>,
-        yes: Box<Expr>,
-        no: Box<Expr>,
+        choice: Box<Choice>,
         at: Span,
     },
 }
 
-/// A statement. `at` is the token `if` or `repeat`. An `else` that is left out is an empty block.
+/// The condition and the blocks of an `if`, which lie in memory together. An `else` that is left out is an empty block.
+#[cycle(statement)]
+#[derive(Drop)]
+pub struct Branch {
+    pub cond: Expr,
+    pub yes: Vec<Stmt>,
+    pub no: Vec<Stmt>,
+}
+
+/// A statement. `at` is the token `if` or `repeat`.
+#[cycle(statement)]
 #[derive(Drop)]
 pub enum Stmt {
     Assign {
@@ -220,13 +241,15 @@ pub enum Stmt {
     },
     Publish {
         topic: Ident,
-        field: Option<FieldName>,
+        value: Expr,
+    },
+    /// A value for one field of a topic.
+    PublishField {
+        place: Apart<Member>,
         value: Expr,
     },
     If {
-        cond: Apart<Expr>,
-        yes: Vec<Stmt>,
-        no: Vec<Stmt>,
+        branch: Box<Branch>,
         at: Span,
     },
     Repeat {

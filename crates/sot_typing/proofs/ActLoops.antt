@@ -1,10 +1,10 @@
 -- Statements without faults, part by part, and the loop over the statements of a block.
 use Rattle.std.proofs.Common.{◌≡◌, ℕ, ◌+◌, ◌<◌, ◌≤◌, List, [], ◌∷◌, ◌++◌, length, get_or, drop, nat_abs, sym, ap, ap₂, ◌∙◌}
 use Rattle.std.proofs.lemmas.List.{drop_all}
-use Rattle.std.specs.Global.{Vec}
+use Rattle.std.specs.Global.{Box, Vec}
 use Rattle.sot_text.specs.declared.token.Span.{Span}
 use Rattle.sot_tree.specs.declared.tree.Lit.{Lit}
-use Rattle.sot_tree.specs.declared.tree.Expr.{Expr}
+use Rattle.sot_tree.specs.declared.tree.Branch.{Branch}
 use Rattle.sot_tree.specs.declared.tree.Stmt.{Stmt, If, Repeat}
 use Rattle.sot_lang.specs.declared.term.Term.{Term}
 use Rattle.sot_lang.specs.declared.act.Act.{Act, If as IfAct, Repeat as RepeatAct}
@@ -23,29 +23,29 @@ use Rattle.sot_typing.proofs.Faultless.{nil_left, nil_right}
 use Rattle.sot_typing.proofs.Prefixes.{deeds_then, deeds_push, deeds_end}
 use Rattle.sot_typing.proofs.Rows as rows
 
-module _ (s : Scope) (c : Expr) (u v : Vec Stmt) (at : Span) (z : Stmt) (is : z ≡ If c u v at) where
+module _ (s : Scope) (c : Box Branch) (at : Span) (z : Stmt) (is : z ≡ If c at) where
   module _ (h : statement_faults s (statement_view z) ≡ []) where
-    branch_faults : tree_faults s.read (tree_view c) ++ (when (is_scaled (sort s.read (tree_view c))) at KindDiffers ++ (block_faults s (block_view u.items) ++ block_faults s (block_view v.items))) ≡ []
-    branch_faults = sym (ap (λ x. statement_faults s (statement_view x)) is ∙ ap (statement_faults s) (branch_view c u v at)) ∙ h
+    branch_faults : tree_faults s.read (tree_view c.value.cond) ++ (when (is_scaled (sort s.read (tree_view c.value.cond))) at KindDiffers ++ (block_faults s (block_view c.value.yes.items) ++ block_faults s (block_view c.value.no.items))) ≡ []
+    branch_faults = sym (ap (λ x. statement_faults s (statement_view x)) is ∙ ap (statement_faults s) (branch_view c at)) ∙ h
 
-    pub condition_faultless : tree_faults s.read (tree_view c) ≡ []
+    pub condition_faultless : tree_faults s.read (tree_view c.value.cond) ≡ []
     condition_faultless = nil_left _ _ branch_faults
 
-    blocks : block_faults s (block_view u.items) ++ block_faults s (block_view v.items) ≡ []
-    blocks = nil_right (when (is_scaled (sort s.read (tree_view c))) at KindDiffers) _ (nil_right (tree_faults s.read (tree_view c)) _ branch_faults)
+    blocks : block_faults s (block_view c.value.yes.items) ++ block_faults s (block_view c.value.no.items) ≡ []
+    blocks = nil_right (when (is_scaled (sort s.read (tree_view c.value.cond))) at KindDiffers) _ (nil_right (tree_faults s.read (tree_view c.value.cond)) _ branch_faults)
 
-    pub taken_faultless : (xs : List Stmt) → xs ≡ u.items → block_faults s (block_view xs) ≡ []
+    pub taken_faultless : (xs : List Stmt) → xs ≡ c.value.yes.items → block_faults s (block_view xs) ≡ []
     taken_faultless xs e = ap (λ x. block_faults s (block_view x)) e ∙ nil_left _ _ blocks
 
-    pub other_faultless : (xs : List Stmt) → xs ≡ v.items → block_faults s (block_view xs) ≡ []
-    other_faultless xs e = ap (λ x. block_faults s (block_view x)) e ∙ nil_right (block_faults s (block_view u.items)) _ blocks
+    pub other_faultless : (xs : List Stmt) → xs ≡ c.value.no.items → block_faults s (block_view xs) ≡ []
+    other_faultless xs e = ap (λ x. block_faults s (block_view x)) e ∙ nil_right (block_faults s (block_view c.value.yes.items)) _ blocks
 
-  pub branch_is : (t : Term) (a b : Vec Act) (xs ys : List Stmt) → xs ≡ u.items → ys ≡ v.items → formula_view t ≡ formula_of s.read (tree_view c) → deeds_view a.items ≡ deeds_of s (block_view xs) → deeds_view b.items ≡ deeds_of s (block_view ys) → deed_view (IfAct t a b) ≡ deed_of s (statement_view z)
+  pub branch_is : (t : Term) (a b : Vec Act) (xs ys : List Stmt) → xs ≡ c.value.yes.items → ys ≡ c.value.no.items → formula_view t ≡ formula_of s.read (tree_view c.value.cond) → deeds_view a.items ≡ deeds_of s (block_view xs) → deeds_view b.items ≡ deeds_of s (block_view ys) → deed_view (IfAct t a b) ≡ deed_of s (statement_view z)
   branch_is t a b xs ys e f p q r =
       rows.branch_view t a b
       ∙ ap (λ x. branched x (deeds_view a.items) (deeds_view b.items)) p
-      ∙ ap₂ (branched (formula_of s.read (tree_view c))) (q ∙ ap (λ x. deeds_of s (block_view x)) e) (r ∙ ap (λ x. deeds_of s (block_view x)) f)
-      ∙ sym (ap (λ x. deed_of s (statement_view x)) is ∙ ap (deed_of s) (branch_view c u v at))
+      ∙ ap₂ (branched (formula_of s.read (tree_view c.value.cond))) (q ∙ ap (λ x. deeds_of s (block_view x)) e) (r ∙ ap (λ x. deeds_of s (block_view x)) f)
+      ∙ sym (ap (λ x. deed_of s (statement_view x)) is ∙ ap (deed_of s) (branch_view c at))
 
 module _ (s : Scope) (times : Lit) (v : Vec Stmt) (at : Span) (z : Stmt) (is : z ≡ Repeat times v at) where
   module _ (h : statement_faults s (statement_view z) ≡ []) where

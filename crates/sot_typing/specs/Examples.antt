@@ -17,20 +17,20 @@ use Rattle.sot_typing.specs.Resolved.{ProgramTables}
 abbrev pub line : Program
 line = record {
   decls =
-      a_topic (record { outside = false; name = (word 7 (codes "cmd")); shape = one (Int (range (whole 16 1 (negsuc 1)) (whole 20 1 (pos 2)))); init = one_value (Number (whole 25 1 (pos 0))) })
+      a_topic (record { outside = false; name = (word 7 (codes "cmd")); shape = one (Int (range (whole 16 (negsuc 1)) (whole 20 (pos 2)))); init = one_value (Number (whole 25 (pos 0))) })
       ∷ a_plant (record {
         name = (word 34 (codes "pos"));
         states = (record { name = (word 46 (codes "x")); scale = None } ∷ []);
         inputs = ((word 60 (codes "cmd")) ∷ []);
         sees = [];
-        noise = (record { name = (word 71 (codes "w")); scalar = (Int (range (whole 78 1 (negsuc 0)) (whole 82 1 (pos 1)))) } ∷ []);
-        next = (record { name = (word 91 (codes "x")); value = (binary Add (binary Add (named (word 96 (codes "x")) None) (named (word 100 (codes "cmd")) None) (at 98 1)) (named (word 107 (codes "w")) None) (at 105 1)) } ∷ []);
-        end = (at 110 1);
+        noise = (record { name = (word 71 (codes "w")); scalar = (Int (range (whole 78 (negsuc 0)) (whole 82 (pos 1)))) } ∷ []);
+        next = (record { name = (word 91 (codes "x")); value = (binary Add (binary Add (named (word 96 (codes "x")) None) (named (word 100 (codes "cmd")) None) (at 98)) (named (word 107 (codes "w")) None) (at 105)) } ∷ []);
+        end = (at 110);
       })
       ∷ a_node (record {
         name = (word 121 (codes "fast"));
-        period = (whole 133 1 (pos 4));
-        offset = (whole 142 1 (pos 0));
+        period = (whole 133 (pos 4));
+        offset = (whole 142 (pos 0));
         reads = ((word 152 (codes "pos")) ∷ []);
         writes = ((word 164 (codes "cmd")) ∷ []);
         locals = [];
@@ -38,22 +38,22 @@ line = record {
       })
       ∷ a_node (record {
         name = (word 176 (codes "slow"));
-        period = (whole 188 1 (pos 2));
-        offset = (whole 197 1 (pos 0));
+        period = (whole 188 (pos 2));
+        offset = (whole 197 (pos 0));
         reads = ((word 207 (codes "pos")) ∷ []);
         writes = ((word 219 (codes "cmd")) ∷ []);
         locals = [];
-        body = Some (statement (published (word 237 (codes "cmd")) None (chosen (binary Greater (named (word 247 (codes "pos")) (Some (word 251 (codes "x")))) (number (whole 255 2 (pos 10))) (at 253 1)) (number (whole 264 1 (negsuc 1))) (chosen (binary Less (named (word 277 (codes "pos")) (Some (word 281 (codes "x")))) (number (whole 285 1 (negsuc 9))) (at 283 1)) (number (whole 295 1 (pos 2))) (number (whole 302 1 (pos 0))) (at 273 2)) (at 243 2))) no_statement);
+        body = Some (statement (published (word 237 (codes "cmd")) None (chosen (binary Greater (named (word 247 (codes "pos")) (Some (word 251 (codes "x")))) (number (whole 255 (pos 10))) (at 253)) (number (whole 264 (negsuc 1))) (chosen (binary Less (named (word 277 (codes "pos")) (Some (word 281 (codes "x")))) (number (whole 285 (negsuc 9))) (at 283)) (number (whole 295 (pos 2))) (number (whole 302 (pos 0))) (at 273)) (at 243))) no_statement);
       })
       ∷ a_module (record {
         name = (word 317 (codes "nav"));
         ac = (word 326 (codes "fast"));
         sc = (word 335 (codes "slow"));
-        period = (whole 348 1 (pos 4));
-        offset = (whole 357 1 (pos 0));
+        period = (whole 348 (pos 4));
+        offset = (whole 357 (pos 0));
         plant = (word 366 (codes "pos"));
-        safe = (record { sides = ((range (whole 377 1 (negsuc 39)) (whole 382 2 (pos 40))) ∷ []); at = (at 376 1) } ∷ []);
-        safer = (record { sides = ((range (whole 394 1 (negsuc 9)) (whole 399 2 (pos 10))) ∷ []); at = (at 393 1) } ∷ []);
+        safe = (record { sides = ((range (whole 377 (negsuc 39)) (whole 382 (pos 40))) ∷ []); at = (at 376) } ∷ []);
+        safer = (record { sides = ((range (whole 394 (negsuc 9)) (whole 399 (pos 10))) ∷ []); at = (at 393) } ∷ []);
       })
       ∷ [];
 }
@@ -73,7 +73,7 @@ line_tables = record {
         inputs = (0 ∷ []);
         sees = [];
         noise = (record { name = codes "w"; scale = 0; lo = (negsuc 0); hi = (pos 1) } ∷ []);
-        next = ((to.binary Add (to.binary Add (to.place 0) (to.place 1) (at 98 1)) (to.place 2) (at 105 1)) ∷ []);
+        next = ((to.binary Add (to.binary Add (to.place 0) (to.place 1) (at 98)) (to.place 2) (at 105)) ∷ []);
       }
       ∷ [];
   nodes =
@@ -93,7 +93,7 @@ line_tables = record {
         reads = (State 0 0 ∷ []);
         writes = (0 ∷ []);
         locals = [];
-        body = Some (to.deed (to.published 0 (to.chosen (to.binary Greater (to.place 0) (to.number (pos 10)) (at 253 1)) (to.number (negsuc 1)) (to.chosen (to.binary Less (to.place 0) (to.number (negsuc 9)) (at 283 1)) (to.number (pos 2)) (to.number (pos 0)) (at 273 2)) (at 243 2)) (at 237 3)) to.no_deed);
+        body = Some (to.deed (to.published 0 (to.chosen (to.binary Greater (to.place 0) (to.number (pos 10)) (at 253)) (to.number (negsuc 1)) (to.chosen (to.binary Less (to.place 0) (to.number (negsuc 9)) (at 283)) (to.number (pos 2)) (to.number (pos 0)) (at 273)) (at 243)) (at 237)) to.no_deed);
       }
       ∷ [];
   modules =
@@ -115,32 +115,32 @@ many = record {
         name = (word 8 (codes "a"));
         ac = (word 15 (codes "f"));
         sc = (word 21 (codes "s"));
-        period = (whole 31 1 (pos 8));
-        offset = (whole 40 1 (pos 3));
+        period = (whole 31 (pos 8));
+        offset = (whole 40 (pos 3));
         plant = (word 49 (codes "p"));
-        safe = (record { sides = ((range (decimal 58 3 (pos 0) 1) (decimal 63 3 (pos 10) 1)) ∷ (range (whole 68 1 (negsuc 2)) (whole 72 1 (pos 4))) ∷ []); at = (at 57 1) } ∷ record { sides = ((range (decimal 78 3 (pos 25) 1) (decimal 83 3 (pos 25) 1)) ∷ (range (whole 88 1 (pos 0)) (whole 91 1 (pos 0))) ∷ []); at = (at 77 1) } ∷ []);
+        safe = (record { sides = ((range (decimal 58 (pos 0) 1) (decimal 63 (pos 10) 1)) ∷ (range (whole 68 (negsuc 2)) (whole 72 (pos 4))) ∷ []); at = (at 57) } ∷ record { sides = ((range (decimal 78 (pos 25) 1) (decimal 83 (pos 25) 1)) ∷ (range (whole 88 (pos 0)) (whole 91 (pos 0))) ∷ []); at = (at 77) } ∷ []);
         safer = [];
       })
-      ∷ a_topic (record { outside = true; name = (word 127 (codes "e")); shape = one (BoolScalar (at 130 4)); init = one_value (Truth true (at 137 4)) })
-      ∷ a_topic (record { outside = false; name = (word 149 (codes "r")); shape = fields (record { name = (word 153 (codes "a")); scalar = (Fix (whole 160 1 (pos 1)) (range (decimal 163 3 (pos 0) 1) (decimal 168 3 (pos 10) 1))) } ∷ record { name = (word 174 (codes "b")); scalar = (BoolScalar (at 177 4)) } ∷ []); init = values ((Number (decimal 186 3 (pos 5) 1)) ∷ (Truth true (at 191 4)) ∷ []) (at 185 1) })
+      ∷ a_topic (record { outside = true; name = (word 127 (codes "e")); shape = one (BoolScalar (at 130)); init = one_value (Truth true (at 137)) })
+      ∷ a_topic (record { outside = false; name = (word 149 (codes "r")); shape = fields (record { name = (word 153 (codes "a")); scalar = (Fix (whole 160 (pos 1)) (range (decimal 163 (pos 0) 1) (decimal 168 (pos 10) 1))) } ∷ record { name = (word 174 (codes "b")); scalar = (BoolScalar (at 177)) } ∷ []); init = values ((Number (decimal 186 (pos 5) 1)) ∷ (Truth true (at 191)) ∷ []) (at 185) })
       ∷ a_plant (record {
         name = (word 204 (codes "p"));
-        states = (record { name = (word 214 (codes "x")); scale = (Some (whole 221 1 (pos 1))) } ∷ record { name = (word 225 (codes "y")); scale = None } ∷ []);
+        states = (record { name = (word 214 (codes "x")); scale = (Some (whole 221 (pos 1))) } ∷ record { name = (word 225 (codes "y")); scale = None } ∷ []);
         inputs = ((word 239 (codes "r")) ∷ (word 242 (codes "t")) ∷ []);
         sees = ((word 250 (codes "q")) ∷ []);
-        noise = (record { name = (word 259 (codes "w")); scalar = (Int (range (whole 266 1 (pos 0)) (whole 269 1 (pos 1)))) } ∷ []);
-        next = (record { name = (word 278 (codes "x")); value = (chosen (named (word 285 (codes "r")) (Some (word 287 (codes "b")))) (binary Add (named (word 294 (codes "x")) None) (named (word 298 (codes "r")) (Some (word 300 (codes "a")))) (at 296 1)) (named (word 307 (codes "x")) None) (at 282 2)) } ∷ record { name = (word 315 (codes "y")); value = (binary Sub (called Min (one_more (binary Add (named (word 323 (codes "y")) None) (named (word 327 (codes "t")) None) (at 325 1)) (one_more (named (word 330 (codes "q")) (Some (word 332 (codes "z")))) no_tree)) (at 319 3)) (named (word 337 (codes "w")) None) (at 335 1)) } ∷ []);
-        end = (at 340 1);
+        noise = (record { name = (word 259 (codes "w")); scalar = (Int (range (whole 266 (pos 0)) (whole 269 (pos 1)))) } ∷ []);
+        next = (record { name = (word 278 (codes "x")); value = (chosen (named (word 285 (codes "r")) (Some (word 287 (codes "b")))) (binary Add (named (word 294 (codes "x")) None) (named (word 298 (codes "r")) (Some (word 300 (codes "a")))) (at 296)) (named (word 307 (codes "x")) None) (at 282)) } ∷ record { name = (word 315 (codes "y")); value = (binary Sub (called Min (one_more (binary Add (named (word 323 (codes "y")) None) (named (word 327 (codes "t")) None) (at 325)) (one_more (named (word 330 (codes "q")) (Some (word 332 (codes "z")))) no_tree)) (at 319)) (named (word 337 (codes "w")) None) (at 335)) } ∷ []);
+        end = (at 340);
       })
-      ∷ a_topic (record { outside = false; name = (word 348 (codes "t")); shape = one (Int (range (whole 355 1 (pos 0)) (whole 358 1 (pos 9)))); init = one_value (Number (whole 363 1 (pos 3))) })
+      ∷ a_topic (record { outside = false; name = (word 348 (codes "t")); shape = one (Int (range (whole 355 (pos 0)) (whole 358 (pos 9)))); init = one_value (Number (whole 363 (pos 3))) })
       ∷ a_node (record {
         name = (word 371 (codes "s"));
-        period = (whole 380 1 (pos 2));
-        offset = (whole 389 1 (pos 1));
+        period = (whole 380 (pos 2));
+        offset = (whole 389 (pos 1));
         reads = ((word 399 (codes "p")) ∷ (word 402 (codes "e")) ∷ (word 405 (codes "q")) ∷ []);
         writes = ((word 415 (codes "r")) ∷ (word 418 (codes "t")) ∷ []);
-        locals = (record { name = (word 427 (codes "n")); scalar = (Int (range (whole 434 1 (pos 0)) (whole 437 1 (pos 9)))); init = (Number (whole 442 1 (pos 1))) } ∷ record { name = (word 451 (codes "m")); scalar = (Fix (whole 458 1 (pos 2)) (range (decimal 461 1 (negsuc 49) 2) (decimal 468 4 (pos 50) 2))); init = (Number (decimal 476 1 (negsuc 24) 2)) } ∷ []);
-        body = Some (statement (branched (binary And (denied (named (word 495 (codes "e")) None) (at 491 3)) (binary Greater (named (word 502 (codes "p")) (Some (word 504 (codes "y")))) (named (word 508 (codes "n")) None) (at 506 1)) (at 497 3)) (statement (assigned (word 513 (codes "n")) (rest (binary Add (named (word 519 (codes "n")) None) (number (whole 523 1 (pos 1))) (at 521 1)) (whole 528 2 (pos 10)) (at 526 1))) no_statement) (statement (assigned (word 541 (codes "m")) (rescaled (negated (named (word 555 (codes "p")) (Some (word 557 (codes "x")))) (at 554 1)) (whole 560 1 (pos 2)) (at 546 7))) no_statement) (at 488 2)) (statement (published (word 574 (codes "r")) (Some (word 576 (codes "b"))) (named (word 580 (codes "e")) None)) (statement (published (word 591 (codes "r")) (Some (word 593 (codes "a"))) (rescaled (named (word 605 (codes "m")) None) (whole 608 1 (pos 1)) (at 597 7))) (statement (repeated (whole 619 1 (pos 2)) (statement (published (word 631 (codes "t")) None (binary Mul (named (word 635 (codes "q")) (Some (word 637 (codes "z")))) (named (word 641 (codes "n")) None) (at 639 1))) no_statement) (at 612 6)) no_statement))));
+        locals = (record { name = (word 427 (codes "n")); scalar = (Int (range (whole 434 (pos 0)) (whole 437 (pos 9)))); init = (Number (whole 442 (pos 1))) } ∷ record { name = (word 451 (codes "m")); scalar = (Fix (whole 458 (pos 2)) (range (decimal 461 (negsuc 49) 2) (decimal 468 (pos 50) 2))); init = (Number (decimal 476 (negsuc 24) 2)) } ∷ []);
+        body = Some (statement (branched (binary And (denied (named (word 495 (codes "e")) None) (at 491)) (binary Greater (named (word 502 (codes "p")) (Some (word 504 (codes "y")))) (named (word 508 (codes "n")) None) (at 506)) (at 497)) (statement (assigned (word 513 (codes "n")) (rest (binary Add (named (word 519 (codes "n")) None) (number (whole 523 (pos 1))) (at 521)) (whole 528 (pos 10)) (at 526))) no_statement) (statement (assigned (word 541 (codes "m")) (rescaled (negated (named (word 555 (codes "p")) (Some (word 557 (codes "x")))) (at 554)) (whole 560 (pos 2)) (at 546))) no_statement) (at 488)) (statement (published (word 574 (codes "r")) (Some (word 576 (codes "b"))) (named (word 580 (codes "e")) None)) (statement (published (word 591 (codes "r")) (Some (word 593 (codes "a"))) (rescaled (named (word 605 (codes "m")) None) (whole 608 (pos 1)) (at 597))) (statement (repeated (whole 619 (pos 2)) (statement (published (word 631 (codes "t")) None (binary Mul (named (word 635 (codes "q")) (Some (word 637 (codes "z")))) (named (word 641 (codes "n")) None) (at 639))) no_statement) (at 612)) no_statement))));
       })
       ∷ a_plant (record {
         name = (word 656 (codes "q"));
@@ -149,12 +149,12 @@ many = record {
         sees = [];
         noise = [];
         next = (record { name = (word 679 (codes "z")); value = (named (word 683 (codes "z")) None) } ∷ []);
-        end = (at 686 1);
+        end = (at 686);
       })
       ∷ a_node (record {
         name = (word 697 (codes "f"));
-        period = (whole 706 1 (pos 4));
-        offset = (whole 715 1 (pos 0));
+        period = (whole 706 (pos 4));
+        offset = (whole 715 (pos 0));
         reads = ((word 725 (codes "q")) ∷ (word 728 (codes "p")) ∷ []);
         writes = ((word 738 (codes "r")) ∷ (word 741 (codes "t")) ∷ []);
         locals = [];
@@ -164,11 +164,11 @@ many = record {
         name = (word 753 (codes "b"));
         ac = (word 760 (codes "f"));
         sc = (word 766 (codes "s"));
-        period = (whole 776 1 (pos 4));
-        offset = (whole 785 1 (pos 0));
+        period = (whole 776 (pos 4));
+        offset = (whole 785 (pos 0));
         plant = (word 794 (codes "q"));
-        safe = (record { sides = ((range (whole 803 1 (pos 0)) (whole 806 1 (pos 9))) ∷ []); at = (at 802 1) } ∷ []);
-        safer = (record { sides = ((range (whole 817 1 (pos 0)) (whole 820 1 (pos 1))) ∷ []); at = (at 816 1) } ∷ []);
+        safe = (record { sides = ((range (whole 803 (pos 0)) (whole 806 (pos 9))) ∷ []); at = (at 802) } ∷ []);
+        safer = (record { sides = ((range (whole 817 (pos 0)) (whole 820 (pos 1))) ∷ []); at = (at 816) } ∷ []);
       })
       ∷ [];
 }
@@ -193,7 +193,7 @@ many_tables = record {
         inputs = (1 ∷ 2 ∷ 3 ∷ []);
         sees = (1 ∷ []);
         noise = (record { name = codes "w"; scale = 0; lo = (pos 0); hi = (pos 1) } ∷ []);
-        next = ((to.chosen (to.place 3) (to.binary Add (to.place 0) (to.place 2) (at 296 1)) (to.place 0) (at 282 2)) ∷ (to.binary Sub (to.called Min (to.one_more (to.binary Add (to.place 1) (to.place 4) (at 325 1)) (to.one_more (to.place 5) to.no_formula)) (at 319 3)) (to.place 6) (at 335 1)) ∷ []);
+        next = ((to.chosen (to.place 3) (to.binary Add (to.place 0) (to.place 2) (at 296)) (to.place 0) (at 282)) ∷ (to.binary Sub (to.called Min (to.one_more (to.binary Add (to.place 1) (to.place 4) (at 325)) (to.one_more (to.place 5) to.no_formula)) (at 319)) (to.place 6) (at 335)) ∷ []);
       }
       ∷ record {
         name = codes "q";
@@ -212,7 +212,7 @@ many_tables = record {
         reads = (State 0 0 ∷ State 0 1 ∷ ScalarSlot 0 ∷ State 1 0 ∷ []);
         writes = (1 ∷ 2 ∷ 3 ∷ []);
         locals = (record { name = codes "n"; scale = 0; truth = false; lo = (pos 0); hi = (pos 9); init = (pos 1) } ∷ record { name = codes "m"; scale = 2; truth = false; lo = (negsuc 49); hi = (pos 50); init = (negsuc 24) } ∷ []);
-        body = Some (to.deed (to.branched (to.binary And (to.denied (to.place 2) (at 491 3)) (to.binary Greater (to.place 1) (to.place 4) (at 506 1)) (at 497 3)) (to.deed (to.assigned 0 (to.rest (to.binary Add (to.place 4) (to.number (pos 1)) (at 521 1)) (pos 10) (at 526 1)) (at 513 1)) to.no_deed) (to.deed (to.assigned 1 (to.rescaled (to.negated (to.place 0) (at 554 1)) 1 2 (at 546 7)) (at 541 1)) to.no_deed)) (to.deed (to.published 1 (to.place 2) (at 574 1)) (to.deed (to.published 0 (to.rescaled (to.place 5) 2 1 (at 597 7)) (at 591 1)) (to.deed (to.repeated 2 (to.deed (to.published 2 (to.binary Mul (to.place 3) (to.place 4) (at 639 1)) (at 631 1)) to.no_deed)) to.no_deed))));
+        body = Some (to.deed (to.branched (to.binary And (to.denied (to.place 2) (at 491)) (to.binary Greater (to.place 1) (to.place 4) (at 506)) (at 497)) (to.deed (to.assigned 0 (to.rest (to.binary Add (to.place 4) (to.number (pos 1)) (at 521)) (pos 10) (at 526)) (at 513)) to.no_deed) (to.deed (to.assigned 1 (to.rescaled (to.negated (to.place 0) (at 554)) 1 2 (at 546)) (at 541)) to.no_deed)) (to.deed (to.published 1 (to.place 2) (at 574)) (to.deed (to.published 0 (to.rescaled (to.place 5) 2 1 (at 597)) (at 591)) (to.deed (to.repeated 2 (to.deed (to.published 2 (to.binary Mul (to.place 3) (to.place 4) (at 639)) (at 631)) to.no_deed)) to.no_deed))));
       }
       ∷ record {
         name = codes "f";

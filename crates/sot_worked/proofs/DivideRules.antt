@@ -54,7 +54,7 @@ names_apart i j name a b = is_at i name a ∙ sym (is_at j name b)
 pub at_least_one_fits : (truths : List Bool) (t : Term) → truths ≡ false ∷ [] → IsAtLeastOne t → TermFits truths t
 at_least_one_fits truths t one h =
     let parts : TermsFit truths h.0.items = subst (TermsFit truths) (sym h.1) (omega (arith, ap length one), (refl, tt)) in
-    subst (TermFits truths) (sym h.2) (Call-TermFits Max h.0 (place 7 22 130 133) truths parts (ap length h.1))
+    subst (TermFits truths) (sym h.2) (Call-TermFits Max h.0 (place 7 22) truths parts (ap length h.1))
 
 -- the division is in form where its divisor is, one number is read and one scalar written
 division_fits : (D : Term → Type 0) → ((truths : List Bool) (t : Term) → truths ≡ false ∷ [] → D t → TermFits truths t)

@@ -27,7 +27,7 @@ push_fits truths t two h =
     let aim : TermFits truths h.aim = subst (TermFits truths) (sym h.aims.3) (is_above, above, refl, refl) in
     let gap : TermFits truths h.gap = subst (TermFits truths) (sym h.gaps.2) (tt, aim, omega (arith, count)) in
     let parts : TermsFit truths h.parts.items = subst (TermsFit truths) (sym h.items) (gap, (refl, (refl, tt))) in
-    subst (TermFits truths) (sym h.is) (Call-TermFits Clamp h.parts (place 17 17 278 283) truths parts (ap length h.items))
+    subst (TermFits truths) (sym h.is) (Call-TermFits Clamp h.parts (place 17 17) truths parts (ap length h.items))
 
 pub thrust_fits : (truths : List Bool) (locals writes : ℕ) (acts : List Act) → truths ≡ false ∷ false ∷ [] → writes ≡ 1 → IsThrust acts → ActsFit truths locals writes acts
 thrust_fits truths locals writes acts two some h =

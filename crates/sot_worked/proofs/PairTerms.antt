@@ -15,12 +15,12 @@ module _ (truths : List Bool) (five : truths ≡ false ∷ false ∷ false ∷ f
       let count = ap length five in
       let sum : TermFits truths h.sum = subst (TermFits truths) (sym h.adds.2) (tt, omega (arith, count), omega (arith, count)) in
       let parts : TermsFit truths h.parts.items = subst (TermsFit truths) (sym h.items) (sum, (refl, (refl, tt))) in
-      subst (TermFits truths) (sym h.is) (Call-TermFits Clamp h.parts (place 33 12 559 564) truths parts (ap length h.items))
+      subst (TermFits truths) (sym h.is) (Call-TermFits Clamp h.parts (place 33 12) truths parts (ap length h.items))
 
   away_fits : (t : Term) → IsAway t → TermFits truths t
   away_fits t h =
       let parts : TermsFit truths h.0.items = subst (TermsFit truths) (sym h.1) (omega (arith, ap length five), tt) in
-      subst (TermFits truths) (sym h.2) (Call-TermFits Abs h.0 (place 34 45 624 627) truths parts (ap length h.1))
+      subst (TermFits truths) (sym h.2) (Call-TermFits Abs h.0 (place 34 45) truths parts (ap length h.1))
 
   toll_fits : (t : Term) → IsToll t → TermFits truths t
   toll_fits t h =

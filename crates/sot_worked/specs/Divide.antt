@@ -29,15 +29,15 @@ IsWhatIsRead t = t ≡ Place 0
 
 -- max(n, 1), wherever its parts stand in memory
 abbrev pub IsAtLeastOne : Term → Type 0
-IsAtLeastOne t = (parts : Vec Term) × (parts.items ≡ Place 0 ∷ Number (pos 1) ∷ []) × (t ≡ Call Max parts (place 7 22 130 133))
+IsAtLeastOne t = (parts : Vec Term) × (parts.items ≡ Place 0 ∷ Number (pos 1) ∷ []) × (t ≡ Call Max parts (place 7 22))
 
 -- 10 divided by such an expression: the division stands at line 7, column 20
 abbrev pub IsQuotient : (Term → Type 0) → Term → Type 0
-IsQuotient IsDivisor t = (d : Term) × IsDivisor d × IsBinary Div (Number (pos 10)) d (place 7 20 128 129) t
+IsQuotient IsDivisor t = (d : Term) × IsDivisor d × IsBinary Div (Number (pos 10)) d (place 7 20) t
 
 -- the quotient is published as k
 abbrev pub IsDivision : (Term → Type 0) → List Act → Type 0
-IsDivision IsDivisor acts = (t : Term) × IsQuotient IsDivisor t × (acts ≡ Publish 0 t (place 7 13 121 122) ∷ [])
+IsDivision IsDivisor acts = (t : Term) × IsQuotient IsDivisor t × (acts ≡ Publish 0 t (place 7 13) ∷ [])
 
 pub record IsCalc (IsDivisor : Term → Type 0) (node : NodeInfo) : Type 0 where
   pub name : node.name ≡ 99 ∷ 97 ∷ 108 ∷ 99 ∷ []

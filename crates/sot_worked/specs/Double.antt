@@ -53,11 +53,11 @@ arm_name = 97 ∷ 114 ∷ 109 ∷ []
 
 -- where the arm is next: x + v
 abbrev pub IsNextPlace : Term → Type 0
-IsNextPlace t = IsBinary Add (Place 0) (Place 1) (place 6 14 108 109) t
+IsNextPlace t = IsBinary Add (Place 0) (Place 1) (place 6 14) t
 
 -- how fast it is next: (v + u) + w
 abbrev pub IsNextSpeed : Term → Type 0
-IsNextSpeed t = (sum : Term) × IsBinary Add (Place 1) (Place 2) (place 7 15 127 128) sum × IsBinary Add sum (Place 3) (place 7 20 132 133) t
+IsNextSpeed t = (sum : Term) × IsBinary Add (Place 1) (Place 2) (place 7 15) sum × IsBinary Add sum (Place 3) (place 7 20) t
 
 -- the plant
 pub record IsArm (plant : PlantInfo) : Type 0 where
@@ -78,15 +78,15 @@ pub record IsPush (t : Term) : Type 0 where
   pub aim : Term
   pub gap : Term
   pub parts : Vec Term
-  pub tests : IsBinary Greater (Place 0) (Number (pos 0)) (place 17 34 295 296) above
-  pub aims : IsChoice above (Number (negsuc 1)) (Number (pos 2)) (place 17 24 285 287) aim
-  pub gaps : IsBinary Sub aim (Place 1) (place 17 55 316 317) gap
+  pub tests : IsBinary Greater (Place 0) (Number (pos 0)) (place 17 34) above
+  pub aims : IsChoice above (Number (negsuc 1)) (Number (pos 2)) (place 17 24) aim
+  pub gaps : IsBinary Sub aim (Place 1) (place 17 55) gap
   pub items : parts.items ≡ gap ∷ Number (negsuc 1) ∷ Number (pos 2) ∷ []
-  pub is : t ≡ Call Clamp parts (place 17 17 278 283)
+  pub is : t ≡ Call Clamp parts (place 17 17)
 
 -- publish u = such a number
 abbrev pub IsThrust : List Act → Type 0
-IsThrust acts = (t : Term) × IsPush t × (acts ≡ Publish 0 t (place 17 13 274 275) ∷ [])
+IsThrust acts = (t : Term) × IsPush t × (acts ≡ Publish 0 t (place 17 13) ∷ [])
 
 -- the advanced node, whose drafts come from outside
 pub record IsPilot (node : NodeInfo) : Type 0 where

@@ -42,15 +42,15 @@ use Rattle.sot_worked.specs.Parts.{place, one_topic, whole_number, IsBinary, IsC
 
 -- where the vehicle is next: (x + cmd) + w
 abbrev pub IsMove : Term → Type 0
-IsMove t = (sum : Term) × IsBinary Add (Place 0) (Place 1) (place 6 15 105 106) sum × IsBinary Add sum (Place 2) (place 6 22 112 113) t
+IsMove t = (sum : Term) × IsBinary Add (Place 0) (Place 1) (place 6 15) sum × IsBinary Add sum (Place 2) (place 6 22) t
 
 -- with another tick in that line: (x + cmd) + (w / (x - 5))
 abbrev pub IsDrift : Term → Type 0
 IsDrift t =
-    (sum : Term) × (gap : Term) × (share : Term) × IsBinary Add (Place 0) (Place 1) (place 6 15 105 106) sum
-    × IsBinary Sub (Place 0) (Number (pos 5)) (place 6 32 122 123) gap
-    × IsBinary Div (Place 2) gap (place 6 27 117 118) share
-    × IsBinary Add sum share (place 6 22 112 113) t
+    (sum : Term) × (gap : Term) × (share : Term) × IsBinary Add (Place 0) (Place 1) (place 6 15) sum
+    × IsBinary Sub (Place 0) (Number (pos 5)) (place 6 32) gap
+    × IsBinary Div (Place 2) gap (place 6 27) share
+    × IsBinary Add sum share (place 6 22) t
 
 -- the vehicle, with such a tick
 pub record IsPos (IsNext : Term → Type 0) (plant : PlantInfo) : Type 0 where
@@ -64,14 +64,14 @@ pub record IsPos (IsNext : Term → Type 0) (plant : PlantInfo) : Type 0 where
 -- if (pos.x > 10) then -2 else (if (pos.x < -10) then 2 else 0)
 abbrev pub IsReturn : Term → Type 0
 IsReturn t =
-    (above : Term) × (below : Term) × (rest : Term) × IsBinary Greater (Place 0) (Number (pos 10)) (place 16 29 274 275) above
-    × IsBinary Less (Place 0) (Number (negsuc 9)) (place 16 59 304 305) below
-    × IsChoice below (Number (pos 2)) (Number (pos 0)) (place 16 49 294 296) rest
-    × IsChoice above (Number (negsuc 1)) rest (place 16 19 264 266) t
+    (above : Term) × (below : Term) × (rest : Term) × IsBinary Greater (Place 0) (Number (pos 10)) (place 16 29) above
+    × IsBinary Less (Place 0) (Number (negsuc 9)) (place 16 59) below
+    × IsChoice below (Number (pos 2)) (Number (pos 0)) (place 16 49) rest
+    × IsChoice above (Number (negsuc 1)) rest (place 16 19) t
 
 -- publish cmd = if (pos.x > 10) then -2 else (if (pos.x < -10) then 2 else 0)
 abbrev pub IsCommand : List Act → Type 0
-IsCommand acts = (t : Term) × IsReturn t × (acts ≡ Publish 0 t (place 16 13 258 261) ∷ [])
+IsCommand acts = (t : Term) × IsReturn t × (acts ≡ Publish 0 t (place 16 13) ∷ [])
 
 -- the advanced node, whose drafts come from outside
 pub record IsFast (node : NodeInfo) : Type 0 where

@@ -64,21 +64,21 @@ fly_name = 102 ∷ 108 ∷ 121 ∷ []
 pub record IsHeight (t : Term) : Type 0 where
   pub sum : Term
   pub parts : Vec Term
-  pub adds : IsBinary Add (Place 0) (Place 2) (place 33 20 567 568) sum
+  pub adds : IsBinary Add (Place 0) (Place 2) (place 33 20) sum
   pub items : parts.items ≡ sum ∷ Number (pos 0) ∷ Number (pos 10) ∷ []
-  pub is : t ≡ Call Clamp parts (place 33 12 559 564)
+  pub is : t ≡ Call Clamp parts (place 33 12)
 
 -- abs(pos.x)
 abbrev pub IsAway : Term → Type 0
-IsAway t = (parts : Vec Term) × (parts.items ≡ Place 3 ∷ []) × (t ≡ Call Abs parts (place 34 45 624 627))
+IsAway t = (parts : Vec Term) × (parts.items ≡ Place 3 ∷ []) × (t ≡ Call Abs parts (place 34 45))
 
 -- if (abs(pos.x) > 20) then 1 else 0
 pub record IsToll (t : Term) : Type 0 where
   pub away : Term
   pub far : Term
   pub abs : IsAway away
-  pub tests : IsBinary Greater away (Number (pos 20)) (place 34 56 635 636) far
-  pub is : IsChoice far (Number (pos 1)) (Number (pos 0)) (place 34 41 620 622) t
+  pub tests : IsBinary Greater away (Number (pos 20)) (place 34 56) far
+  pub is : IsChoice far (Number (pos 1)) (Number (pos 0)) (place 34 41) t
 
 -- ((b - 1) - such a number) - w
 pub record IsDrain (t : Term) : Type 0 where
@@ -86,17 +86,17 @@ pub record IsDrain (t : Term) : Type 0 where
   pub first : Term
   pub second : Term
   pub is_toll : IsToll toll
-  pub one : IsBinary Sub (Place 1) (Number (pos 1)) (place 34 33 612 613) first
-  pub two : IsBinary Sub first toll (place 34 38 617 618) second
-  pub is : IsBinary Sub second (Place 4) (place 34 78 657 658) t
+  pub one : IsBinary Sub (Place 1) (Number (pos 1)) (place 34 33) first
+  pub two : IsBinary Sub first toll (place 34 38) second
+  pub is : IsBinary Sub second (Place 4) (place 34 78) t
 
 -- if (h > 0) then such a number else b
 pub record IsBattery (t : Term) : Type 0 where
   pub flies : Term
   pub drained : Term
-  pub tests : IsBinary Greater (Place 0) (Number (pos 0)) (place 34 18 597 598) flies
+  pub tests : IsBinary Greater (Place 0) (Number (pos 0)) (place 34 18) flies
   pub drains : IsDrain drained
-  pub is : IsChoice flies drained (Place 1) (place 34 12 591 593) t
+  pub is : IsChoice flies drained (Place 1) (place 34 12) t
 
 -- the plant
 pub record IsCell (plant : PlantInfo) : Type 0 where
@@ -123,7 +123,7 @@ pub record IsUp (node : NodeInfo) : Type 0 where
 
 -- publish d = -1
 abbrev pub IsDescent : List Act → Type 0
-IsDescent acts = acts ≡ Publish 0 (Number (negsuc 0)) (place 44 13 807 808) ∷ []
+IsDescent acts = acts ≡ Publish 0 (Number (negsuc 0)) (place 44 13) ∷ []
 
 -- the safe node
 pub record IsDown (node : NodeInfo) : Type 0 where

@@ -9,8 +9,8 @@ use Rattle.sot_lang.specs.declared.tables.TopicInfo.{TopicInfo}
 use Rattle.sot_lang.specs.declared.tables.ScalarInfo.{ScalarInfo}
 
 -- a place in a text
-abbrev pub place : ℕ → ℕ → ℕ → ℕ → Span
-place line column from to = record { line = line; column = column; from = from; to = to }
+abbrev pub place : ℕ → ℕ → Span
+place line column = record { line = line; column = column }
 
 -- a topic that nodes write, with one scalar
 abbrev pub one_topic : List ℕ → ℕ → TopicInfo

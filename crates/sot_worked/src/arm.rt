@@ -31,7 +31,7 @@ fn scalars(alloc: Global) -> Result<Vec<ScalarInfo>, AllocError>
 fn next_place(alloc: Global) -> Result<Term, AllocError>
     ensures { IfOk result IsNextPlace }
 {
-    let plus = span(6, 14, 108, 109);
+    let plus = span(6, 14);
     binary(alloc, Op::Add, Term::Place(0), Term::Place(1), plus)
 }
 
@@ -39,7 +39,7 @@ fn next_place(alloc: Global) -> Result<Term, AllocError>
 fn next_speed(alloc: Global) -> Result<Term, AllocError>
     ensures { IfOk result IsNextSpeed }
 {
-    let (inner, outer) = (span(7, 15, 127, 128), span(7, 20, 132, 133));
+    let (inner, outer) = (span(7, 15), span(7, 20));
     let sum = binary(alloc, Op::Add, Term::Place(1), Term::Place(2), inner)?;
     binary(alloc, Op::Add, sum, Term::Place(3), outer)
 }
@@ -93,8 +93,8 @@ fn pilot(alloc: Global) -> Result<NodeInfo, AllocError>
 fn push(alloc: Global) -> Result<Term, AllocError>
     ensures { IfOk result IsPush }
 {
-    let (greater, if_word) = (span(17, 34, 295, 296), span(17, 24, 285, 287));
-    let (minus, clamp) = (span(17, 55, 316, 317), span(17, 17, 278, 283));
+    let (greater, if_word) = (span(17, 34), span(17, 24));
+    let (minus, clamp) = (span(17, 55), span(17, 17));
     let above = binary(alloc, Op::Greater, Term::Place(0), Term::Number(0), greater)?;
     let aim = choice(alloc, above, Term::Number(-2), Term::Number(2), if_word)?;
     let gap = binary(alloc, Op::Sub, aim, Term::Place(1), minus)?;
@@ -112,7 +112,7 @@ fn acts(alloc: Global) -> Result<Vec<Act>, AllocError>
     let publish = Act::Publish {
         slot: 0,
         value,
-        at: span(17, 13, 274, 275),
+        at: span(17, 13),
     };
     Ok(vec![in alloc; publish]?)
 }

@@ -36,7 +36,7 @@ fn scalars(alloc: Global) -> Result<Vec<ScalarInfo>, AllocError>
 fn height(alloc: Global) -> Result<Term, AllocError>
     ensures { IfOk result IsHeight }
 {
-    let (plus, clamp) = (span(33, 20, 567, 568), span(33, 12, 559, 564));
+    let (plus, clamp) = (span(33, 20), span(33, 12));
     let sum = binary(alloc, Op::Add, Term::Place(0), Term::Place(2), plus)?;
     Ok(Term::Call {
         func: Func::Clamp,
@@ -52,7 +52,7 @@ fn away(alloc: Global) -> Result<Term, AllocError>
     Ok(Term::Call {
         func: Func::Abs,
         parts: vec![in alloc; Term::Place(3)]?,
-        at: span(34, 45, 624, 627),
+        at: span(34, 45),
     })
 }
 
@@ -60,7 +60,7 @@ fn away(alloc: Global) -> Result<Term, AllocError>
 fn toll(alloc: Global) -> Result<Term, AllocError>
     ensures { IfOk result IsToll }
 {
-    let (greater, outer) = (span(34, 56, 635, 636), span(34, 41, 620, 622));
+    let (greater, outer) = (span(34, 56), span(34, 41));
     let away = away(alloc)?;
     let far = binary(alloc, Op::Greater, away, Term::Number(20), greater)?;
     let value = choice(alloc, far, Term::Number(1), Term::Number(0), outer)?;
@@ -71,8 +71,8 @@ fn toll(alloc: Global) -> Result<Term, AllocError>
 fn drain(alloc: Global) -> Result<Term, AllocError>
     ensures { IfOk result IsDrain }
 {
-    let (inner, middle) = (span(34, 33, 612, 613), span(34, 38, 617, 618));
-    let outer = span(34, 78, 657, 658);
+    let (inner, middle) = (span(34, 33), span(34, 38));
+    let outer = span(34, 78);
     let toll = toll(alloc)?;
     let first = binary(alloc, Op::Sub, Term::Place(1), Term::Number(1), inner)?;
     let second = binary(alloc, Op::Sub, first, toll, middle)?;
@@ -84,7 +84,7 @@ fn drain(alloc: Global) -> Result<Term, AllocError>
 fn battery(alloc: Global) -> Result<Term, AllocError>
     ensures { IfOk result IsBattery }
 {
-    let (greater, outer) = (span(34, 18, 597, 598), span(34, 12, 591, 593));
+    let (greater, outer) = (span(34, 18), span(34, 12));
     let flies = binary(alloc, Op::Greater, Term::Place(0), Term::Number(0), greater)?;
     let drained = drain(alloc)?;
     let value = choice(alloc, flies, drained, Term::Place(1), outer)?;
@@ -143,7 +143,7 @@ fn acts(alloc: Global) -> Result<Vec<Act>, AllocError>
     let publish = Act::Publish {
         slot: 0,
         value: Term::Number(-1),
-        at: span(44, 13, 807, 808),
+        at: span(44, 13),
     };
     Ok(vec![in alloc; publish]?)
 }

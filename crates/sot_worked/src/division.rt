@@ -29,11 +29,11 @@ fn acts(alloc: Global, divisor: Term) -> Result<Vec<Act>, AllocError>
     ensures { IfOk result (λ v. IsDivision (λ d. d ≡ divisor) v.items) }
 {
     let ten = Term::Number(10);
-    let value = binary(alloc, Op::Div, ten, divisor, span(7, 20, 128, 129))?;
+    let value = binary(alloc, Op::Div, ten, divisor, span(7, 20))?;
     let publish = Act::Publish {
         slot: 0,
         value,
-        at: span(7, 13, 121, 122),
+        at: span(7, 13),
     };
     Ok(vec![in alloc; publish]?)
 }
@@ -78,7 +78,7 @@ fn at_least_one(alloc: Global) -> Result<Term, AllocError>
     Ok(Term::Call {
         func: Func::Max,
         parts: vec![in alloc; Term::Place(0), Term::Number(1)]?,
-        at: span(7, 22, 130, 133),
+        at: span(7, 22),
     })
 }
 

@@ -11,15 +11,10 @@ use sot_tree::{Name, Op};
 use std::alloc::{AllocError, Global};
 
 // A place in a text.
-pub(crate) fn span(line: u32, column: u32, from: u32, to: u32) -> Span
-    ensures { result ≡ place line column from to }
+pub(crate) fn span(line: u32, column: u32) -> Span
+    ensures { result ≡ place line column }
 {
-    Span {
-        line,
-        column,
-        from,
-        to,
-    }
+    Span { line, column }
 }
 
 // A topic that nodes write, with one scalar.

@@ -34,7 +34,7 @@ fn scalars(alloc: Global) -> Result<Vec<ScalarInfo>, AllocError>
 fn moved(alloc: Global) -> Result<Term, AllocError>
     ensures { IfOk result IsMove }
 {
-    let (inner, outer) = (span(6, 15, 105, 106), span(6, 22, 112, 113));
+    let (inner, outer) = (span(6, 15), span(6, 22));
     let sum = binary(alloc, Op::Add, Term::Place(0), Term::Place(1), inner)?;
     binary(alloc, Op::Add, sum, Term::Place(2), outer)
 }
@@ -43,8 +43,8 @@ fn moved(alloc: Global) -> Result<Term, AllocError>
 fn drifted(alloc: Global) -> Result<Term, AllocError>
     ensures { IfOk result IsDrift }
 {
-    let (inner, outer) = (span(6, 15, 105, 106), span(6, 22, 112, 113));
-    let (minus, by) = (span(6, 32, 122, 123), span(6, 27, 117, 118));
+    let (inner, outer) = (span(6, 15), span(6, 22));
+    let (minus, by) = (span(6, 32), span(6, 27));
     let sum = binary(alloc, Op::Add, Term::Place(0), Term::Place(1), inner)?;
     let gap = binary(alloc, Op::Sub, Term::Place(0), Term::Number(5), minus)?;
     let share = binary(alloc, Op::Div, Term::Place(2), gap, by)?;
@@ -98,10 +98,10 @@ pub(crate) fn fast(alloc: Global) -> Result<NodeInfo, AllocError>
 // if (pos.x < -10) then 2 else 0
 fn raised(alloc: Global) -> Result<Term, AllocError>
     ensures { IfOk result (λ t. (below : Term)
-        × IsBinary Less (Place 0) (Number (negsuc 9)) (place 16 59 304 305) below
-        × IsChoice below (Number (pos 2)) (Number (pos 0)) (place 16 49 294 296) t) }
+        × IsBinary Less (Place 0) (Number (negsuc 9)) (place 16 59) below
+        × IsChoice below (Number (pos 2)) (Number (pos 0)) (place 16 49) t) }
 {
-    let (less, inner) = (span(16, 59, 304, 305), span(16, 49, 294, 296));
+    let (less, inner) = (span(16, 59), span(16, 49));
     let below = binary(alloc, Op::Less, Term::Place(0), Term::Number(-10), less)?;
     let value = choice(alloc, below, Term::Number(2), Term::Number(0), inner)?;
     Ok(value)
@@ -111,7 +111,7 @@ fn raised(alloc: Global) -> Result<Term, AllocError>
 fn returned(alloc: Global) -> Result<Term, AllocError>
     ensures { IfOk result IsReturn }
 {
-    let (greater, outer) = (span(16, 29, 274, 275), span(16, 19, 264, 266));
+    let (greater, outer) = (span(16, 29), span(16, 19));
     let rest = raised(alloc)?;
     let above = binary(
         alloc,
@@ -131,7 +131,7 @@ fn acts(alloc: Global) -> Result<Vec<Act>, AllocError>
     let publish = Act::Publish {
         slot: 0,
         value,
-        at: span(16, 13, 258, 261),
+        at: span(16, 13),
     };
     Ok(vec![in alloc; publish]?)
 }

@@ -26,8 +26,6 @@ pub enum Form {
 pub const AT: Span = Span {
     line: 7,
     column: 20,
-    from: 0,
-    to: 1,
 };
 
 /// As many of the three places as the function takes.

@@ -6,15 +6,16 @@ ghost use Rattle.sot_rules.specs.Behind.{bounds_behind, scalar_behind, local_beh
 use crate::declarations::range::const_place;
 use crate::expressions::behind::is_tree_behind;
 use crate::fault::is_behind;
+use sot_text::Span;
 use sot_tree::{Bounds, Field, LocalDecl, NextDecl, Scalar};
 
-fn are_bounds_behind(b: Bounds, from: u32) -> bool
+fn are_bounds_behind(b: Bounds, from: Span) -> bool
     ensures { result ≡ bounds_behind from b }
 {
     is_behind(b.lo.at, from) && is_behind(b.hi.at, from)
 }
 
-fn is_scalar_behind(s: Scalar, from: u32) -> bool
+fn is_scalar_behind(s: Scalar, from: Span) -> bool
     ensures { result ≡ scalar_behind from s }
 {
     match s {
@@ -26,7 +27,7 @@ fn is_scalar_behind(s: Scalar, from: u32) -> bool
     }
 }
 
-fn is_local_behind(l: &LocalDecl, from: u32) -> bool
+fn is_local_behind(l: &LocalDecl, from: Span) -> bool
     ensures { result ≡ local_behind from (local_view l.now) }
 {
     is_behind(l.name.at, from)
@@ -34,7 +35,7 @@ fn is_local_behind(l: &LocalDecl, from: u32) -> bool
 }
 
 /// Whether all locals of a list stand behind a place, with their types and initial values.
-pub fn are_locals_behind(locals: &[LocalDecl], from: u32) -> bool
+pub fn are_locals_behind(locals: &[LocalDecl], from: Span) -> bool
     ensures { result ≡ locals_behind from (map local_view locals.now) }
 {
     for l in locals {
@@ -46,7 +47,7 @@ pub fn are_locals_behind(locals: &[LocalDecl], from: u32) -> bool
 }
 
 /// Whether all `next` clauses of a list stand behind a place.
-pub fn are_nexts_behind(next: &[NextDecl], from: u32) -> bool
+pub fn are_nexts_behind(next: &[NextDecl], from: Span) -> bool
     ensures { result ≡ nexts_behind from (map next_view next.now) }
 {
     for n in next {
@@ -61,7 +62,7 @@ pub fn are_nexts_behind(next: &[NextDecl], from: u32) -> bool
 }
 
 /// Whether all disturbances of a list stand behind a place.
-pub fn is_noise_behind(noise: &[Field], from: u32) -> bool
+pub fn is_noise_behind(noise: &[Field], from: Span) -> bool
     ensures { result ≡ noise_behind from noise.now }
 {
     for f in noise {

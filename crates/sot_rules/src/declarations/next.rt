@@ -105,7 +105,7 @@ fn are_nexts_past(q: &PlantDecl, first: Option<TypeFault>) -> bool
 {
     match first {
         None => false,
-        Some(f) => is_behind(q.end, f.at.from) && are_nexts_behind(&q.next, f.at.from),
+        Some(f) => is_behind(q.end, f.at) && are_nexts_behind(&q.next, f.at),
     }
 }
 

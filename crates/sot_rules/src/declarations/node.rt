@@ -21,6 +21,7 @@ use crate::names::repeats::{add_names, has_name, note_repeated_names, note_repea
 use crate::names::set::{NameSet, no_name};
 use crate::names::things::FEW;
 use crate::statements::body::note_body;
+use sot_text::Span;
 use sot_tree::{Ident, LocalDecl, NodeDecl};
 use std::alloc::{AllocError, Global};
 
@@ -151,7 +152,7 @@ fn note_front_writes(
     let Some(fault) = found else {
         return Ok(false);
     };
-    let settled = are_names_behind(rest, fault.at.from);
+    let settled = are_names_behind(rest, fault.at);
     if settled {
         *first = found;
     }
@@ -257,7 +258,7 @@ fn note_some_reads(
 }
 
 // Whether some of the names that a node reads, what it writes and its locals stand behind a place.
-fn are_uses_behind(n: &NodeDecl, reads: &[Ident], from: u32) -> bool
+fn are_uses_behind(n: &NodeDecl, reads: &[Ident], from: Span) -> bool
     ensures { result ≡ (names_behind from reads.now && (names_behind from n.now.writes.items
         && locals_behind from (node_view n.now).locals)) }
 {
@@ -289,7 +290,7 @@ fn note_front(
     let Some(fault) = found else {
         return Ok(false);
     };
-    let settled = are_uses_behind(n, rest, fault.at.from);
+    let settled = are_uses_behind(n, rest, fault.at);
     if settled {
         *first = found;
     }

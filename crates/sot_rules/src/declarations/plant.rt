@@ -123,7 +123,7 @@ fn note_front_inputs(
     let Some(fault) = found else {
         return Ok(false);
     };
-    let settled = are_names_behind(rest, fault.at.from);
+    let settled = are_names_behind(rest, fault.at);
     if settled {
         *first = found;
     }
@@ -320,7 +320,7 @@ fn is_noise_past(q: &PlantDecl, first: Option<TypeFault>) -> bool
 {
     match first {
         None => false,
-        Some(f) => is_noise_behind(&q.noise, f.at.from),
+        Some(f) => is_noise_behind(&q.noise, f.at),
     }
 }
 

@@ -1,23 +1,23 @@
 //! Whether an expression stands behind a place of the text.
-ghost use Rattle.std.specs.Prelude.{◌≡◌};
+ghost use Rattle.std.specs.Prelude.{◌≡◌, ◌&&◌, Some};
 ghost use Rattle.sot_tree.specs.TreeViews.{tree_view, parts_view};
-ghost use Rattle.sot_rules.specs.Behind.{field_behind, tree_behind, trees_behind};
+ghost use Rattle.sot_rules.specs.Behind.{is_behind, field_behind, tree_behind, trees_behind};
 
 use crate::fault::is_behind;
-use sot_tree::{Expr, FieldName};
+use sot_text::Span;
+use sot_tree::{Expr, Member};
 
-/// Whether a second name stands behind a place, where there is one.
-pub fn is_field_behind(field: &Option<FieldName>, from: u32) -> bool
-    ensures { result ≡ field_behind from field.now }
+/// Whether both names stand behind a place.
+pub fn is_member_behind(member: &Member, from: Span) -> bool
+    ensures { result ≡ (is_behind from member.now.first.at
+        && field_behind from (Some member.now.field)) }
 {
-    match field {
-        None => true,
-        Some(f) => is_behind(f.ident().at, from),
-    }
+    let field = is_behind(member.field.at, from);
+    is_behind(member.first.at, from) && field
 }
 
 #[cycle(tree_behind)]
-fn are_parts_behind(parts: &[Expr], from: u32) -> bool
+fn are_parts_behind(parts: &[Expr], from: Span) -> bool
     ensures { result ≡ trees_behind from (parts_view parts.now) }
 {
     for part in parts {
@@ -30,16 +30,14 @@ fn are_parts_behind(parts: &[Expr], from: u32) -> bool
 
 /// Whether each part of an expression stands behind a place.
 #[cycle(tree_behind)]
-pub fn is_tree_behind(e: &Expr, from: u32) -> bool
+pub fn is_tree_behind(e: &Expr, from: Span) -> bool
     ensures { result ≡ tree_behind from (tree_view e.now) }
 {
     match e {
         Expr::Number(_) => true,
         Expr::Truth { .. } => true,
-        Expr::Ref { first, field } => {
-            let is_field = is_field_behind(field, from);
-            is_behind(first.at, from) && is_field
-        }
+        Expr::Name(name) => is_behind(name.at, from),
+        Expr::Member(member) => is_member_behind(member.content(), from),
         Expr::Binary { operands, at, .. } => {
             let a = is_tree_behind(&operands.left, from);
             let b = is_tree_behind(&operands.right, from);
@@ -67,10 +65,10 @@ pub fn is_tree_behind(e: &Expr, from: u32) -> bool
             let number = is_behind(to.content().at, from);
             is_behind(*at, from) && (number && a)
         }
-        Expr::If { cond, yes, no, at } => {
-            let c = is_tree_behind(cond, from);
-            let a = is_tree_behind(yes, from);
-            let b = is_tree_behind(no, from);
+        Expr::If { choice, at } => {
+            let c = is_tree_behind(&choice.cond, from);
+            let a = is_tree_behind(&choice.yes, from);
+            let b = is_tree_behind(&choice.no, from);
             is_behind(*at, from) && (c && (a && b))
         }
     }

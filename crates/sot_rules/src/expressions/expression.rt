@@ -161,7 +161,11 @@ pub fn expression(e: &Expr, names: &Names, first: &mut Option<TypeFault>) -> Sor
     match e {
         Expr::Number(l) => Sort::Scaled(l.scale as u64),
         Expr::Truth { .. } => Sort::Truthful,
-        Expr::Ref { first: name, field } => note_reading(reading(names, name, field), first),
+        Expr::Name(name) => note_reading(reading(names, name, None), first),
+        Expr::Member(member) => {
+            let member = member.content();
+            note_reading(reading(names, &member.first, Some(&member.field)), first)
+        }
         Expr::Binary { op, operands, at } => {
             let a = expression(&operands.left, names, first);
             let b = expression(&operands.right, names, first);
@@ -187,10 +191,10 @@ pub fn expression(e: &Expr, names: &Names, first: &mut Option<TypeFault>) -> Sor
             let a = expression(part, names, first);
             rescale(a, *to.content(), *at, first)
         }
-        Expr::If { cond, yes, no, at } => {
-            let c = expression(cond, names, first);
-            let a = expression(yes, names, first);
-            let b = expression(no, names, first);
+        Expr::If { choice, at } => {
+            let c = expression(&choice.cond, names, first);
+            let a = expression(&choice.yes, names, first);
+            let b = expression(&choice.no, names, first);
             choose(c, a, b, *at, first)
         }
     }

@@ -4,12 +4,13 @@ ghost use Rattle.sot_rules.specs.Behind.{names_behind};
 
 use crate::fault::is_behind;
 use crate::names::named::Named;
+use sot_text::Span;
 
 /// How many items of a list are looked at by themselves at first. Hardly any list without a fault has more.
 pub const FRONT: usize = 128;
 
 /// Whether the names of all things of a list stand behind a place.
-pub fn are_names_behind<T: Named>(items: &[T], from: u32) -> bool
+pub fn are_names_behind<T: Named>(items: &[T], from: Span) -> bool
     ensures { result ≡ names_behind from (map T.ident items.now) }
 {
     for item in items {

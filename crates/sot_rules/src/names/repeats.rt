@@ -85,7 +85,7 @@ fn note_front_repeats<T: Named>(
     let Some(fault) = found else {
         return Ok(false);
     };
-    let settled = are_names_behind(rest, fault.at.from);
+    let settled = are_names_behind(rest, fault.at);
     if settled {
         *first = found;
     }

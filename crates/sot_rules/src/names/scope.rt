@@ -3,7 +3,7 @@ ghost use Rattle.std.specs.Prelude.{◌≡◌, [], find, map, slice_index_or};
 ghost use Rattle.std.specs.Str.{bytes_eq};
 ghost use Rattle.sot_rules.specs.Names.{field_part, part_reading, reading, state_part};
 ghost use Rattle.sot_rules.specs.Indexes.{sort_in};
-ghost use Rattle.sot_rules.specs.Scopes.{parts_of, kept_parts, names_in, answer, reading_of};
+ghost use Rattle.sot_rules.specs.Scopes.{parts_of, kept_parts, names_in, answer, field_in, reading_of};
 
 use crate::declarations::range::scalar_sort;
 use crate::expressions::sort::Sort;
@@ -11,7 +11,7 @@ use crate::names::hasher::NameMap;
 use crate::names::index::state_sort;
 use crate::names::things::thing_of;
 use sot_text::Span;
-use sot_tree::{Field, FieldName, Ident, StateDecl};
+use sot_tree::{Field, Ident, StateDecl};
 
 /// What a name stands for: one number or truth value, or several, whose names are in one of the tables of parts.
 #[derive(Clone, Copy)]
@@ -97,15 +97,15 @@ fn part(table: &PartTable, field: &Ident) -> Result<Sort, Span>
     }
 }
 
-fn part_of(tables: &[PartTable], k: usize, field: &FieldName) -> Result<Sort, Span>
+fn part_of(tables: &[PartTable], k: usize, field: &Ident) -> Result<Sort, Span>
     ensures { answer result ≡ part_reading field.now
         (find (λ x. bytes_eq field.now.name x.name)
         (slice_index_or (map parts_of tables.now) k [])) }
 {
     if k < tables.len() {
-        part(&tables[k], field.ident())
+        part(&tables[k], field)
     } else {
-        Err(field.ident().at)
+        Err(field.at)
     }
 }
 
@@ -113,16 +113,16 @@ fn reading_of(
     tables: &[PartTable],
     kept: Option<Kept>,
     first: &Ident,
-    field: &Option<FieldName>,
+    field: Option<&Ident>,
 ) -> Result<Sort, Span>
     ensures { answer result ≡ reading_of
-        (kept_parts (map parts_of tables.now)) first.now field.now kept }
+        (kept_parts (map parts_of tables.now)) first.now (field_in field.entry) kept }
 {
     match kept {
         None => Err(first.at),
         Some(Kept::Alone(s)) => match field {
             None => Ok(s),
-            Some(f) => Err(f.ident().at),
+            Some(f) => Err(f.at),
         },
         Some(Kept::Several(k)) => match field {
             None => Err(first.at),
@@ -133,8 +133,8 @@ fn reading_of(
 
 /// What a name gives, or the place where it is at fault.
 #[tactic(auto, unfolding(crate::specs::Scopes::names_in))]
-pub fn reading(names: &Names, first: &Ident, field: &Option<FieldName>) -> Result<Sort, Span>
-    ensures { answer result ≡ reading (names_in names.now) first.now field.now }
+pub fn reading(names: &Names, first: &Ident, field: Option<&Ident>) -> Result<Sort, Span>
+    ensures { answer result ≡ reading (names_in names.now) first.now (field_in field.entry) }
 {
     let kept = thing_of(&names.things, first.name.as_bytes());
     reading_of(names.tables, kept, first, field)

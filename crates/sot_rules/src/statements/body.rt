@@ -44,7 +44,7 @@ fn is_body_past(body: &[Stmt], first: Option<TypeFault>) -> bool
 {
     match first {
         None => false,
-        Some(f) => is_block_behind(body, f.at.from),
+        Some(f) => is_block_behind(body, f.at),
     }
 }
 

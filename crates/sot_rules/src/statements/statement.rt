@@ -11,7 +11,7 @@ use crate::expressions::sort::{Sort, are_mixed, differ, has_decimals, is_scaled}
 use crate::fault::{TypeFault, TypeKind, note};
 use crate::names::scope::{Names, Scope, reading};
 use sot_text::Span;
-use sot_tree::{FieldName, Ident, Lit, Stmt};
+use sot_tree::{Ident, Lit, Stmt};
 
 /// A value of a sort, for a target.
 #[tactic(auto, using(crate::proofs::Least::least_append))]
@@ -28,8 +28,7 @@ pub fn note_target(target: Result<Sort, Span>, value: Sort, at: Span, first: &mu
 pub fn reading_alone(names: &Names, first: &Ident) -> Result<Sort, Span>
     ensures { answer result ≡ reading (names_in names.now) first.now None }
 {
-    let none: Option<FieldName> = None;
-    reading(names, first, &none)
+    reading(names, first, None)
 }
 
 /// A whole number that is not 1 to 1,000.
@@ -62,20 +61,22 @@ fn statement(stmt: &Stmt, scope: &Scope, first: &mut Option<TypeFault>)
             let wanted = reading_alone(&scope.local, target);
             note_target(wanted, s, target.at, first);
         }
-        Stmt::Publish {
-            topic,
-            field,
-            value,
-        } => {
+        Stmt::Publish { topic, value } => {
             let s = expression(value, &scope.read, first);
-            let wanted = reading(&scope.written, topic, field);
+            let wanted = reading_alone(&scope.written, topic);
             note_target(wanted, s, topic.at, first);
         }
-        Stmt::If { cond, yes, no, at } => {
-            let s = expression(cond.content(), &scope.read, first);
+        Stmt::PublishField { place, value } => {
+            let s = expression(value, &scope.read, first);
+            let member = place.content();
+            let wanted = reading(&scope.written, &member.first, Some(&member.field));
+            note_target(wanted, s, member.first.at, first);
+        }
+        Stmt::If { branch, at } => {
+            let s = expression(&branch.cond, &scope.read, first);
             note(first, is_scaled(s), *at, TypeKind::KindDiffers);
-            block(yes, scope, first);
-            block(no, scope, first);
+            block(&branch.yes, scope, first);
+            block(&branch.no, scope, first);
         }
         Stmt::Repeat { times, body, .. } => {
             note(

@@ -72,13 +72,14 @@ fn reach(stmt: &Stmt, k: u64) -> Reached
     match stmt {
         Stmt::Assign { target, .. } => one(target.at, k),
         Stmt::Publish { topic, .. } => one(topic.at, k),
-        Stmt::If { yes, no, at, .. } => {
+        Stmt::PublishField { place, .. } => one(place.content().first.at, k),
+        Stmt::If { branch, at } => {
             if k == 0 {
                 return Reached::At(*at);
             }
-            match reach_block(yes, k - 1) {
+            match reach_block(&branch.yes, k - 1) {
                 Reached::At(found) => Reached::At(found),
-                Reached::Left(n) => reach_block(no, n),
+                Reached::Left(n) => reach_block(&branch.no, n),
             }
         }
         Stmt::Repeat { times, body, at } => {

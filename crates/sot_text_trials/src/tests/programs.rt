@@ -125,10 +125,11 @@ a := 1; publish m.f = a; if a > 0 { } else { repeat 3 { a := a + 1; } } if true 
         panic!(rt; "no code");
     };
     same(&rt, "statements", body.len(), 4);
-    let Some(Stmt::If { yes, no, at, .. }) = body.get(2) else {
+    let Some(Stmt::If { branch, at }) = body.get(2) else {
         panic!(rt; "no choice");
     };
-    same(&rt, "if", (yes.len(), no.len(), at.column), (0, 1, 26));
+    let counts = (branch.yes.len(), branch.no.len(), at.column);
+    same(&rt, "if", counts, (0, 1, 26));
 }
 
 // The fault of a row's text is what stands behind it.

@@ -6,19 +6,19 @@ use std::process::Abort;
 
 const TEXT: &str = "topic x1: int[-2..\n\t2.5] # c := d\n  :=_9";
 
-// The tokens of that text, by kind, with the line, the column and the bytes where each stands.
-const TOKENS: &str = "Keyword topic 1:1 0..5
-Name x1 1:7 6..8
-Sign : 1:9 8..9
-Keyword int 1:11 10..13
-Sign [ 1:14 13..14
-Sign - 1:15 14..15
-Number 2 1:16 15..16
-Sign .. 1:17 16..18
-Number 2.5 2:2 20..23
-Sign ] 2:5 23..24
-Sign := 3:3 36..38
-Name _9 3:5 38..40";
+// The tokens of that text, by kind, with the line and the column where each stands, and how many bytes there are up to its end.
+const TOKENS: &str = "Keyword topic 1:1 5
+Name x1 1:7 8
+Sign : 1:9 9
+Keyword int 1:11 13
+Sign [ 1:14 14
+Sign - 1:15 15
+Number 2 1:16 16
+Sign .. 1:17 18
+Number 2.5 2:2 23
+Sign ] 2:5 24
+Sign := 3:3 38
+Name _9 3:5 40";
 
 // Texts, with the length of their first token, or 0 at their end, or their fault and where it stands.
 const FIRST: &str = r#" => 0
@@ -38,16 +38,16 @@ const FIRST: &str = r#" => 0
 4offset => 1
 topics => 6
 aaaaaaaaaaaaaaaaaaaaaaaaaaaaaaaaaaaaaaaaaaaaaaaaaaaaaaaaaaaaaaaa => 64
-aaaaaaaaaaaaaaaaaaaaaaaaaaaaaaaaaaaaaaaaaaaaaaaaaaaaaaaaaaaaaaaaa => NameLong 1:1 0..65
+aaaaaaaaaaaaaaaaaaaaaaaaaaaaaaaaaaaaaaaaaaaaaaaaaaaaaaaaaaaaaaaaa => NameLong 1:1
 1000000000000 => 13
-1000000000001 => LiteralWide 1:1 0..13
+1000000000001 => LiteralWide 1:1
 0000000000000001 => 16
 1.000000 => 8
- 1.0000000 => LiteralWide 1:2 1..10
+ 1.0000000 => LiteralWide 1:2
 1000000.000000 => 14
-1000000.000001 => LiteralWide 1:1 0..14
-\n " => BadByte 2:2 2..3
-! => BadByte 1:1 0..1"#;
+1000000.000001 => LiteralWide 1:1
+\n " => BadByte 2:2
+! => BadByte 1:1"#;
 
 // Numerals, with their number, its decimals and how many bytes are read.
 const NUMERALS: &str = "0 => 0 0 1
@@ -56,17 +56,8 @@ const NUMERALS: &str = "0 => 0 0 1
 1. => 1 0 1
 9999999999999 => 1000000000001 0 13";
 
-fn place(line: u32, column: u32, from: u32, to: u32) -> Span {
-    Span {
-        line,
-        column,
-        from,
-        to,
-    }
-}
-
 fn place_text(alloc: Global, at: Span) -> Result<String, AllocError> {
-    format!(in alloc; "{}:{} {}..{}", at.line, at.column, at.from, at.to)
+    format!(in alloc; "{}:{}", at.line, at.column)
 }
 
 // The first token's length, or 0 at the end, or the fault and its place.
@@ -86,11 +77,11 @@ fn first(alloc: Global, text: &str) -> Result<String, AllocError> {
     format!(in alloc; "{fault} {at}")
 }
 
-// A token, by kind, with its place.
+// A token, by kind, with its place and its end.
 fn token_text(alloc: Global, token: &Token<'_>) -> Result<String, AllocError> {
     let at = place_text(alloc, token.at)?;
     let word = str::from_utf8(token.text).unwrap_or("no text");
-    format!(in alloc; "{:?} {word} {at}", token.kind)
+    format!(in alloc; "{:?} {word} {at} {}", token.kind, token.to)
 }
 
 // The next token is this one.
@@ -107,7 +98,8 @@ fn next_is(rt: &impl Abort, alloc: Global, lexer: &mut Lexer<'_>, want: &str) {
 #[test]
 fn reads_tokens_with_their_places(rt: HostRuntime) {
     let mut lexer = Lexer::new(TEXT.as_bytes());
-    same(&rt, "end", lexer.end(), place(3, 7, 40, 40));
+    let end = Span { line: 3, column: 7 };
+    same(&rt, "end", lexer.end(), end);
     for want in TOKENS.lines() {
         next_is(&rt, rt.alloc(), &mut lexer, want);
     }
@@ -137,7 +129,7 @@ fn repeats_a_fault(rt: HostRuntime) {
     let mut lexer = Lexer::new(b"a $ b");
     same(&rt, "a", matches!(lexer.next(), Ok(Some(_))), true);
     for i in 0..3 {
-        let at = place(1, 3, 2, 3);
+        let at = Span { line: 1, column: 3 };
         same(&rt, i, lexer.next().err(), Some(LexFault::BadByte { at }));
     }
 }

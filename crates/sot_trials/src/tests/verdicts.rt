@@ -160,8 +160,6 @@ fn trap() -> Refusal {
         at: Span {
             line: 7,
             column: 20,
-            from: 128,
-            to: 129,
         },
         kind: TrapKind::ZeroDivisor,
         lo: 0,

@@ -63,8 +63,6 @@ fn moved(alloc: Global, x: i64, cmd: i64, w: i64) -> Result<Result<Point, Trap>,
 const DIVISION: Span = Span {
     line: 7,
     column: 20,
-    from: 128,
-    to: 129,
 };
 
 fn calc_drafts(rt: &impl Abort, alloc: Global, n: i64, wanted: Drafted) {

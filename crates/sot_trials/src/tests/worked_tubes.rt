@@ -191,8 +191,6 @@ fn trap(tick: u32) -> Answer {
     let at = Span {
         line: 6,
         column: 27,
-        from: 117,
-        to: 118,
     };
     answer(Some(Leave::Trap { tick, at }))
 }

@@ -3,6 +3,7 @@ ghost use Rattle.std.specs.Prelude.{◌≡◌, [], IfOk, None, false, nat_abs};
 ghost use Rattle.sot_tree.specs.TreeViews.{tree_view, statement_view, block_view};
 ghost use Rattle.sot_rules.specs.Names.{reading};
 ghost use Rattle.sot_rules.specs.TreeSorts.{has_decimals};
+ghost use Rattle.sot_rules.specs.Scopes.{field_in};
 ghost use Rattle.sot_rules.specs.Tests.{is_off};
 ghost use Rattle.sot_rules.specs.Faults.{reading_faults, tree_faults, statement_faults, block_faults};
 ghost use Rattle.sot_typing.specs.Formulas.{assigned, published, deed_view, deeds_view};
@@ -12,7 +13,7 @@ ghost use Rattle.sot_typing.specs.Bodies.{scope_in, IsSmall};
 use crate::code::terms::term;
 use crate::names::things::{Thing, named};
 use sot_lang::Act;
-use sot_tree::{Expr, FieldName, Ident, Lit, Stmt};
+use sot_tree::{Expr, Ident, Lit, Stmt};
 use std::alloc::{AllocError, Global};
 
 /// The names that a node's statements use: those that its expressions read, its locals, and the topics that it writes.
@@ -45,10 +46,9 @@ fn assignment(
         ≡ assigned (place_of (scope_in names.now).local target.now None)
         (formula_of (scope_in names.now).read (tree_view value.now)) target.now.at) }
 {
-    let none: Option<FieldName> = None;
     let made = term(alloc, names.read, value)?;
     Ok(Act::Assign {
-        local: named(names.local, target, &none).place as u32,
+        local: named(names.local, target, None).place as u32,
         value: made.into_term(),
         at: target.at,
     })
@@ -58,15 +58,15 @@ fn publication(
     alloc: Global,
     names: &BodyNames,
     topic: &Ident,
-    field: &Option<FieldName>,
+    field: Option<&Ident>,
     value: &Expr,
 ) -> Result<Act, AllocError>
     requires few { IsSmall (scope_in names.now) }
     requires value { tree_faults (scope_in names.now).read (tree_view value.now) ≡ [] }
-    requires target { reading_faults (reading (scope_in names.now).written topic.now field.now)
-        ≡ [] }
+    requires target { reading_faults
+        (reading (scope_in names.now).written topic.now (field_in field)) ≡ [] }
     ensures { IfOk result (λ a. deed_view a
-        ≡ published (place_of (scope_in names.now).written topic.now field.now)
+        ≡ published (place_of (scope_in names.now).written topic.now (field_in field.entry))
         (formula_of (scope_in names.now).read (tree_view value.now)) topic.now.at) }
 {
     let made = term(alloc, names.read, value)?;
@@ -86,15 +86,15 @@ fn act(alloc: Global, names: &BodyNames, stmt: &Stmt) -> Result<Act, AllocError>
 {
     match stmt {
         Stmt::Assign { target, value } => assignment(alloc, names, target, value),
-        Stmt::Publish {
-            topic,
-            field,
-            value,
-        } => publication(alloc, names, topic, field, value),
-        Stmt::If { cond, yes, no, .. } => {
-            let made = term(alloc, names.read, cond.content())?;
-            let yes = acts(alloc, names, yes)?;
-            let no = acts(alloc, names, no)?;
+        Stmt::Publish { topic, value } => publication(alloc, names, topic, None, value),
+        Stmt::PublishField { place, value } => {
+            let member = place.content();
+            publication(alloc, names, &member.first, Some(&member.field), value)
+        }
+        Stmt::If { branch, .. } => {
+            let made = term(alloc, names.read, &branch.cond)?;
+            let yes = acts(alloc, names, &branch.yes)?;
+            let no = acts(alloc, names, &branch.no)?;
             Ok(Act::If {
                 cond: made.into_term(),
                 yes,

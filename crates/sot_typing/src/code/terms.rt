@@ -3,6 +3,7 @@ ghost use Rattle.std.specs.Prelude.{◌≡◌, ◌≤◌, [], IfOk, false, nat_a
 ghost use Rattle.sot_tree.specs.TreeViews.{tree_view, parts_view};
 ghost use Rattle.sot_rules.specs.Sorts.{scales_misfit, operator_sort, given, call_sort};
 ghost use Rattle.sot_rules.specs.Names.{reading, reading_sort};
+ghost use Rattle.sot_rules.specs.Scopes.{field_in};
 ghost use Rattle.sot_rules.specs.TreeSorts.{sort, sorts, is_no_scale};
 ghost use Rattle.sot_rules.specs.Faults.{reading_faults, tree_faults, parts_faults};
 ghost use Rattle.sot_rules.specs.declared.expressions.sort.Sort.TheVariants.{Scaled, Truthful};
@@ -15,7 +16,7 @@ use crate::names::things::{Thing, named};
 use sot_lang::Term;
 use sot_rules::{Sort, given, operator_sort};
 use sot_text::Span;
-use sot_tree::{Expr, FieldName, Func, Ident, Lit, Op};
+use sot_tree::{Expr, Func, Ident, Lit, Op};
 use std::alloc::{AllocError, Global};
 
 /// An expression with places for names, and its sort.
@@ -78,11 +79,12 @@ fn truth(value: bool) -> Sorted
     }
 }
 
-fn placed(things: &[Thing], first: &Ident, field: &Option<FieldName>) -> Sorted
+fn placed(things: &[Thing], first: &Ident, field: Option<&Ident>) -> Sorted
     requires few { AreFew (things_in things.now) }
-    requires known { reading_faults (reading (things_in things.now) first.now field.now) ≡ [] }
-    ensures { IsSorted (place (place_of (things_in things.now) first.now field.now))
-        (reading_sort (reading (things_in things.now) first.now field.now)) result }
+    requires known { reading_faults (reading (things_in things.now) first.now (field_in field))
+        ≡ [] }
+    ensures { IsSorted (place (place_of (things_in things.now) first.now (field_in field.entry)))
+        (reading_sort (reading (things_in things.now) first.now (field_in field.entry))) result }
 {
     let found = named(things, first, field);
     Sorted {
@@ -170,7 +172,7 @@ fn change_of_scale(alloc: Global, a: Sorted, to: Lit, at: Span) -> Result<Sorted
     })
 }
 
-fn choice(alloc: Global, c: Sorted, a: Sorted, b: Sorted, at: Span) -> Result<Sorted, AllocError>
+fn chosen(alloc: Global, c: Sorted, a: Sorted, b: Sorted, at: Span) -> Result<Sorted, AllocError>
     requires { sort_scale a.sort ≤ 255 }
     ensures { IfOk result (IsSorted
         (chosen (formula_view c.term) (formula_view a.term) (formula_view b.term) at)
@@ -232,7 +234,11 @@ pub fn term(alloc: Global, things: &[Thing], e: &Expr) -> Result<Sorted, AllocEr
     match e {
         Expr::Number(l) => Ok(literal(*l)),
         Expr::Truth { value, .. } => Ok(truth(*value)),
-        Expr::Ref { first, field } => Ok(placed(things, first, field)),
+        Expr::Name(name) => Ok(placed(things, name, None)),
+        Expr::Member(member) => {
+            let member = member.content();
+            Ok(placed(things, &member.first, Some(&member.field)))
+        }
         Expr::Binary { op, operands, at } => {
             let a = term(alloc, things, &operands.left)?;
             let b = term(alloc, things, &operands.right)?;
@@ -258,11 +264,11 @@ pub fn term(alloc: Global, things: &[Thing], e: &Expr) -> Result<Sorted, AllocEr
             let a = term(alloc, things, part)?;
             change_of_scale(alloc, a, *to.content(), *at)
         }
-        Expr::If { cond, yes, no, at } => {
-            let c = term(alloc, things, cond)?;
-            let a = term(alloc, things, yes)?;
-            let b = term(alloc, things, no)?;
-            choice(alloc, c, a, b, *at)
+        Expr::If { choice, at } => {
+            let c = term(alloc, things, &choice.cond)?;
+            let a = term(alloc, things, &choice.yes)?;
+            let b = term(alloc, things, &choice.no)?;
+            chosen(alloc, c, a, b, *at)
         }
     }
 }

@@ -4,12 +4,13 @@ ghost use Rattle.std.specs.List.{position_or_len};
 ghost use Rattle.std.specs.Str.{bytes_eq};
 ghost use Rattle.sot_tree.specs.declared.tree.Ident.{Ident as AnIdent};
 ghost use Rattle.sot_rules.specs.Names.{field_part, state_part, part_reading, parts_reading, reading, reading_sort};
+ghost use Rattle.sot_rules.specs.Scopes.{field_in};
 ghost use Rattle.sot_rules.specs.Faults.{reading_faults};
 ghost use Rattle.sot_typing.specs.Terms.{is_meant, parts_references, place_of};
 ghost use Rattle.sot_typing.specs.Things.{parts_in, things_in, AreFew};
 
 use sot_rules::{Sort, scalar_sort, state_sort};
-use sot_tree::{Field, FieldName, Ident, StateDecl};
+use sot_tree::{Field, Ident, StateDecl};
 
 /// What a name stands for: one number or truth value, the fields of a record, or the state variables of a plant.
 #[derive(Clone, Copy)]
@@ -33,14 +34,14 @@ pub struct Found {
     pub sort: Sort,
 }
 
-fn bytes_of(name: &FieldName) -> &[u8]
+fn bytes_of(name: &Ident) -> &[u8]
     ensures { result.now ≡ name.now.name }
 {
-    name.ident().name.as_bytes()
+    name.name.as_bytes()
 }
 
 // The first field of this name.
-fn field_named(fields: &[Field], name: &FieldName) -> Found
+fn field_named(fields: &[Field], name: &Ident) -> Found
     requires { reading_faults
         (part_reading name.now
         (find (λ x. bytes_eq name.now.name x.name) (map field_part fields.now))) ≡ [] }
@@ -62,7 +63,7 @@ fn field_named(fields: &[Field], name: &FieldName) -> Found
 }
 
 // The first state variable of this name.
-fn state_named(states: &[StateDecl], name: &FieldName) -> Found
+fn state_named(states: &[StateDecl], name: &Ident) -> Found
     requires { reading_faults
         (part_reading name.now
         (find (λ x. bytes_eq name.now.name x.name) (map state_part states.now))) ≡ [] }
@@ -84,12 +85,14 @@ fn state_named(states: &[StateDecl], name: &FieldName) -> Found
 }
 
 // What a field, or no field, names among the parts of one thing.
-fn part_named(parts: Parts<'_>, field: &Option<FieldName>) -> Found
-    requires { (i : AnIdent) × (reading_faults (parts_reading i field.now (parts_in parts)) ≡ []) }
+fn part_named(parts: Parts<'_>, field: Option<&Ident>) -> Found
+    requires { (i : AnIdent)
+        × (reading_faults (parts_reading i (field_in field) (parts_in parts)) ≡ []) }
     ensures place { (i : AnIdent) (name : List ℕ) → bytes_eq i.name name ≡ true → result.place
-        ≡ position_or_len (is_meant i field.now) (parts_references name (parts_in parts.entry)) }
+        ≡ position_or_len (is_meant i (field_in field.entry))
+        (parts_references name (parts_in parts.entry)) }
     ensures sort { (i : AnIdent) → result.sort
-        ≡ reading_sort (parts_reading i field.now (parts_in parts.entry)) }
+        ≡ reading_sort (parts_reading i (field_in field.entry) (parts_in parts.entry)) }
 {
     match field {
         None => match parts {
@@ -116,11 +119,14 @@ fn size(parts: Parts<'_>) -> usize
 }
 
 /// What is named so. An owner has at most 80 numbers where its program has no fault, so the list is searched.
-pub fn named(things: &[Thing], first: &Ident, field: &Option<FieldName>) -> Found
+pub fn named(things: &[Thing], first: &Ident, field: Option<&Ident>) -> Found
     requires few { AreFew (things_in things.now) }
-    requires known { reading_faults (reading (things_in things.now) first.now field.now) ≡ [] }
-    ensures place { result.place ≡ place_of (things_in things.now) first.now field.now }
-    ensures sort { result.sort ≡ reading_sort (reading (things_in things.now) first.now field.now) }
+    requires known { reading_faults (reading (things_in things.now) first.now (field_in field))
+        ≡ [] }
+    ensures place { result.place
+        ≡ place_of (things_in things.now) first.now (field_in field.entry) }
+    ensures sort { result.sort
+        ≡ reading_sort (reading (things_in things.now) first.now (field_in field.entry)) }
     ensures within { result.place ≤ 80 }
 {
     let mut before: usize = 0;

@@ -1,7 +1,11 @@
-use Rattle.std.proofs.Common.{sym, ◌∙◌, refl, map}
+use Rattle.std.proofs.Common.{Ok, ap, sym, ◌∙◌, refl, map}
+use Rattle.std.specs.Global.{Vec}
 use Rattle.std.proofs.lemmas.Result.{err_from_is_err_and}
 use Rattle.sot_parser.proofs.Loops.{begun, stops, breaks_so, again_seen}
-use Rattle.sot_tree.specs.TreeViews.{statement_view}
+use Rattle.sot_tree.specs.declared.tree.Expr.{Expr}
+use Rattle.sot_tree.specs.declared.tree.Branch.{Branch}
+use Rattle.sot_tree.specs.declared.tree.Stmt.{Stmt}
+use Rattle.sot_tree.specs.TreeViews.{tree_view, statement_view, block_view}
 use Rattle.sot_parser.specs.ListReaders.{all_at}
 use Rattle.sot_expression.specs.ExpressionReaders.{tree_at}
 use Rattle.sot_parser.specs.StatementReaders.{block_at, goes_on, statement_at}
@@ -48,9 +52,12 @@ block-returns t c = (
 
 pub branch-returns : goal.branch-returns
 branch-returns t c =
-    rw (c.in_ok-cond.ensures, c.take-cond.ensures) (
+    let made = c.in_ok-branch.ensures.ok in
+    let cond = c.in_ok-tree.ensures.0 ∙ ap (λ (e : Expr). Ok (tree_view e, c.tree.new.tokens.tokens)) (sym (ap (λ (b : Branch). b.cond) made ∙ c.take-cond.ensures)) in
+    let yes_ = c.in_ok-yes.ensures.0 ∙ ap (λ (ss : Vec Stmt). Ok (block_view ss.items, c.block.new.tokens.tokens)) (sym (ap (λ (b : Branch). b.yes) made)) in
+    let no_ = c.in_ok-no.ensures.0 ∙ ap (λ (ss : Vec Stmt). Ok (block_view ss.items, c.optional_else.new.tokens.tokens)) (sym (ap (λ (b : Branch). b.no) made)) in (
       branch_read (tree_at c.args.room) (block_at (statement_at c.args.room)) c.args.tokens.now.tokens c.expect_keyword.new.tokens.tokens c.tree.new.tokens.tokens c.block.new.tokens.tokens c.optional_else.new.tokens.tokens c.in_ok-at.at
-          c.in_ok-tree.field-0 c.in_ok-yes.yes c.in_ok-no.no c.in_ok-at.ensures.0 c.in_ok-tree.ensures.0 c.in_ok-yes.ensures.0 c.in_ok-no.ensures.0,
+          c.in_ok-branch.branch c.in_ok-at.ensures.0 cond yes_ no_,
       c.in_ok-no.ensures.1 ∙ c.in_ok-yes.ensures.1 ∙ c.in_ok-tree.ensures.1 ∙ c.in_ok-at.ensures.1,
     )
 

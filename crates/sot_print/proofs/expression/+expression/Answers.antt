@@ -1,6 +1,8 @@
 use Rattle.std.proofs.Common.{◌∙◌, ◌++◌, codes, ap, sym}
+use Rattle.std.specs.Global.{Vec}
 use Rattle.std.specs.String.{string_bytes}
 use Rattle.std.proofs.lemmas.Result.{IfOk-equal}
+use Rattle.sot_tree.specs.declared.tree.Expr.{Expr}
 use Rattle.sot_tree.specs.TreeViews.{tree_view}
 use Rattle.sot_print.specs.declared.gap.Gap.TheVariants.{Touching}
 use Rattle.sot_print.specs.Words.{blanks, laid}
@@ -26,6 +28,7 @@ pub push_expression-returns-in-Call : goal.push_expression-returns-in-Call
 push_expression-returns-in-Call t c =
     let start = string_bytes c.args.out.now in
     let shown = ap (λ e. laid (expression_words (tree_view e) c.args.gap)) c.in-Call.is ∙ call_bytes c.in-Call.func c.in-Call.parts c.in-Call.at c.args.gap in
+    let parts = c.deref-in-Call-2.ensures.value ∙ ap (λ (v : Vec Expr). v.items) c.deref-in-Call.ensures in
     IfOk-equal c.push_call.result _ _ _ c.push_call.ensures
-    (ap (λ es. start ++ (blanks c.args.gap ++ (function_name c.in-Call.func ++ (codes "(" ++ (laid (listed (λ gap e. expression_words (tree_view e) gap) Touching es) ++ codes ")"))))) c.deref-in-Call.ensures.value
+    (ap (λ es. start ++ (blanks c.args.gap ++ (function_name c.in-Call.func ++ (codes "(" ++ (laid (listed (λ gap e. expression_words (tree_view e) gap) Touching es) ++ codes ")"))))) parts
     ∙ ap (λ bytes. start ++ bytes) (sym shown))

@@ -1,6 +1,7 @@
 use Rattle.std.proofs.Common.{◌∙◌, ◌++◌, ap, sym, refl}
 use Rattle.std.specs.String.{string_bytes}
 use Rattle.std.proofs.lemmas.Result.{IfOk-equal}
+use Rattle.sot_tree.specs.declared.tree.Branch.{Branch}
 use Rattle.sot_tree.specs.TreeViews.{tree_view, statement_view, block_view}
 use Rattle.sot_print.specs.declared.gap.Gap.TheVariants.{Line, Space}
 use Rattle.sot_print.specs.Words.{blanks, laid}
@@ -29,11 +30,13 @@ pub push_statement-returns-in_ok-push_block-in-If : goal.push_statement-returns-
 push_statement-returns-in_ok-push_block-in-If t c =
     let start = string_bytes c.args.out.now in
     let indent = c.args.indent in
-    let shown = ap (λ s. laid (statement_words (statement_view s) indent)) c.in-If.is ∙ branch_bytes c.in-If.cond c.in-If.yes c.in-If.no c.in-If.at indent in
-    let tested = c.in_ok-push_expression-in-If.ensures ∙ ap (λ e. string_bytes c.push_word-in-If.new.out ++ laid (expression_words (tree_view e) Space)) c.content.ensures in
-    let yes_ = c.in_ok-push_block-in-If.ensures ∙ ap (λ ss. string_bytes c.push_expression.new.out ++ laid (braced_words indent (block_words (block_view ss)))) c.deref.ensures.value in
+    let shown = ap (λ s. laid (statement_words (statement_view s) indent)) c.in-If.is ∙ branch_bytes c.in-If.branch c.in-If.at indent in
+    let tested = c.in_ok-push_expression-in-If.ensures ∙ ap (λ (b : Branch). string_bytes c.push_word-in-If.new.out ++ laid (expression_words (tree_view b.cond) Space)) c.deref.ensures in
+    let taken = c.deref-in-If-2.ensures.value ∙ ap (λ (b : Branch). b.yes.items) c.deref-in-If.ensures in
+    let other = c.deref-in-If-4.ensures.value ∙ ap (λ (b : Branch). b.no.items) c.deref-in-If-3.ensures in
+    let yes_ = c.in_ok-push_block-in-If.ensures ∙ ap (λ ss. string_bytes c.push_expression.new.out ++ laid (braced_words indent (block_words (block_view ss)))) taken in
     IfOk-equal c.push_otherwise.result _ _ _ c.push_otherwise.ensures
-    (ap (λ ss. string_bytes c.push_block.new.out ++ laid (otherwise_words (block_view ss) indent (block_words (block_view ss)))) c.deref-in-If.ensures.value
+    (ap (λ ss. string_bytes c.push_block.new.out ++ laid (otherwise_words (block_view ss) indent (block_words (block_view ss)))) other
     ∙ branch_written start _ _ _ (blanks (Line indent)) _ _ _ _ c.in_ok-push_word-in-If.ensures tested yes_
     ∙ ap (λ bytes. start ++ bytes) (sym shown))
 

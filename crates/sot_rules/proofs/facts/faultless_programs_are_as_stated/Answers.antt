@@ -5,9 +5,9 @@ use Rattle.sot_rules.proofs.FirstFault.{none_is}
 use Rattle.sot_rules.proofs.facts.faultless_programs_are_as_stated.Goals as goal
 
 pub returns-clause-the_line : goal.returns-clause-the_line
-unfolding Rattle.sot_rules.specs.Faults.faults
+unfolding Rattle.sot_rules.specs.Faults.faults Rattle.sot_text.specs.Place.rank
 returns-clause-the_line c = none_is the_line refl
 
 pub returns-clause-the_rest : goal.returns-clause-the_rest
-unfolding Rattle.sot_rules.specs.Faults.faults
+unfolding Rattle.sot_rules.specs.Faults.faults Rattle.sot_text.specs.Place.rank
 returns-clause-the_rest c = none_is the_rest refl

@@ -8,6 +8,6 @@ use Rattle.sot_number_trials.proofs.tests.forms.call.Goals as goal
 pub returns : goal.returns
 returns c =
     let three = false ∷ false ∷ false ∷ [] in
-    let at : Span = record { line = 7; column = 20; from = 0; to = 1 } in
+    let at : Span = record { line = 7; column = 20 } in
     let fits = Call-TermFits c.args.func c.in_ok-parts.parts at three c.in_ok-parts.ensures.fit c.in_ok-parts.ensures.count in
     HasPlaces-TermFits three (Call c.args.func c.in_ok-parts.parts at) fits

@@ -12,4 +12,4 @@ returns-then-is_behind c e p =
     let q = plant_view c.args.q.now in
     subst (λ z. least z (nexts_faults p q) ≡ z) (sym c.in-Some.is)
     (nexts_stay c.in-Some.f p q (sym c.is_behind.ensures ∙ c.if-is_behind.true)
-    (sym (ap (λ ns. nexts_behind c.in-Some.f.at.from (map next_view ns)) c.deref.ensures.value) ∙ sym c.are_nexts_behind.ensures ∙ e))
+    (sym (ap (λ ns. nexts_behind c.in-Some.f.at (map next_view ns)) c.deref.ensures.value) ∙ sym c.are_nexts_behind.ensures ∙ e))

@@ -11,4 +11,4 @@ pub returns-in-Some : goal.returns-in-Some
 returns-in-Some c e =
     let q = plant_view c.args.q.now in
     subst (λ z. least z (disturbances_faults q) ≡ z) (sym c.in-Some.is)
-    (noise_stays c.in-Some.f q (sym (ap (noise_behind c.in-Some.f.at.from) c.deref.ensures.value) ∙ sym c.is_noise_behind.ensures ∙ e))
+    (noise_stays c.in-Some.f q (sym (ap (noise_behind c.in-Some.f.at) c.deref.ensures.value) ∙ sym c.is_noise_behind.ensures ∙ e))

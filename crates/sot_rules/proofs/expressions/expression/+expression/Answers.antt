@@ -1,14 +1,18 @@
 -- Of the cycle `expression`: that the loops keep what they say, and their promises.
-use Rattle.std.proofs.Common.{◌∙◌, ◌||◌, ◌++◌, nat_abs, ap, ap₂, sym, refl, fold}
+use Rattle.std.proofs.Common.{◌∙◌, ◌||◌, ◌++◌, Some, nat_abs, ap, ap₂, sym, refl, fold}
+use Rattle.std.specs.Global.{Vec}
 use Rattle.std.proofs.lemmas.List.{drop_all}
 use Rattle.sot_tree.specs.Trees.{binary, rest, negated, denied, rescaled, chosen}
+use Rattle.sot_tree.specs.declared.tree.Expr.{Expr}
+use Rattle.sot_tree.specs.declared.tree.Member.{Member}
+use Rattle.sot_tree.specs.declared.tree.Choice.{Choice}
 use Rattle.sot_tree.specs.declared.tree.Operands.{out-Operands}
 use Rattle.sot_tree.specs.TreeViews.{tree_view, parts_view}
 use Rattle.sot_rules.specs.declared.expressions.sort.Sort.{Sort}
 use Rattle.sot_rules.specs.declared.expressions.sort.Sort.TheVariants.{Scaled}
 use Rattle.sot_rules.specs.declared.fault.TypeKind.TheVariants.{KindDiffers, ScaleDiffers}
 use Rattle.sot_rules.specs.Sorts.{unless, given, kinds_misfit, scales_misfit, operator_sort, differ, branches_misfit, is_truthful, is_scaled}
-use Rattle.sot_rules.specs.Names.{reading_sort}
+use Rattle.sot_rules.specs.Names.{reading, reading_sort}
 use Rattle.sot_rules.specs.TreeSorts.{sort, sorts, is_zero, is_no_scale}
 use Rattle.sot_rules.specs.Faults.{least, when, misfits, reading_faults, tree_faults, parts_faults}
 use Rattle.sot_rules.specs.Scopes.{names_in}
@@ -36,7 +40,8 @@ operands-loop-part-preserved t c =
 pub expression-returns-in-Call-clause-sort : goal.expression-returns-in-Call-clause-sort
 expression-returns-in-Call-clause-sort t c =
     let names = names_in c.args.names.now in
-    let kept = c.operands-o.ensures.sorts ∙ ap (λ es. fold with_operand no_operand (sorts names (parts_view es))) c.deref-in-Call.ensures.value in
+    let parts = c.deref-in-Call-2.ensures.value ∙ ap (λ (v : Vec Expr). v.items) c.deref-in-Call.ensures in
+    let kept = c.operands-o.ensures.sorts ∙ ap (λ es. fold with_operand no_operand (sorts names (parts_view es))) parts in
     c.call.ensures.sort
     ∙ call_is names c.in-Call.func c.in-Call.parts c.in-Call.at c.operands-o.result kept
     ∙ sym (ap (λ e. sort names (tree_view e)) c.in-Call.is)
@@ -44,8 +49,9 @@ expression-returns-in-Call-clause-sort t c =
 pub expression-returns-in-Call-clause-noted : goal.expression-returns-in-Call-clause-noted
 expression-returns-in-Call-clause-noted t c =
     let names = names_in c.args.names.now in
-    let kept = c.operands-o.ensures.sorts ∙ ap (λ es. fold with_operand no_operand (sorts names (parts_view es))) c.deref-in-Call.ensures.value in
-    let noted = c.operands-o.ensures.noted ∙ ap (λ es. least c.args.first.now (parts_faults names (parts_view es))) c.deref-in-Call.ensures.value in
+    let parts = c.deref-in-Call-2.ensures.value ∙ ap (λ (v : Vec Expr). v.items) c.deref-in-Call.ensures in
+    let kept = c.operands-o.ensures.sorts ∙ ap (λ es. fold with_operand no_operand (sorts names (parts_view es))) parts in
+    let noted = c.operands-o.ensures.noted ∙ ap (λ es. least c.args.first.now (parts_faults names (parts_view es))) parts in
     call_noted names c.in-Call.func c.in-Call.parts c.in-Call.at c.operands-o.result kept
     _ _ _ noted c.call.ensures.noted
     ∙ sym (ap (λ e. least c.args.first.now (tree_faults names (tree_view e))) c.in-Call.is)
@@ -81,17 +87,31 @@ expression-returns-in-Truth-clause-noted t c =
     let names = names_in c.args.names.now in
     sym (ap (λ e. least c.args.first.now (tree_faults names (tree_view e))) c.in-Truth.is)
 
-pub expression-returns-in-Ref-clause-sort : goal.expression-returns-in-Ref-clause-sort
-expression-returns-in-Ref-clause-sort t c =
+pub expression-returns-in-Name-clause-sort : goal.expression-returns-in-Name-clause-sort
+expression-returns-in-Name-clause-sort t c =
     let names = names_in c.args.names.now in
     c.note_reading.ensures.sort ∙ ap reading_sort c.reading.ensures
-    ∙ sym (ap (λ e. sort names (tree_view e)) c.in-Ref.is)
+    ∙ sym (ap (λ e. sort names (tree_view e)) c.in-Name.is)
 
-pub expression-returns-in-Ref-clause-noted : goal.expression-returns-in-Ref-clause-noted
-expression-returns-in-Ref-clause-noted t c =
+pub expression-returns-in-Name-clause-noted : goal.expression-returns-in-Name-clause-noted
+expression-returns-in-Name-clause-noted t c =
     let names = names_in c.args.names.now in
     c.note_reading.ensures.noted ∙ ap (λ r. least c.args.first.now (reading_faults r)) c.reading.ensures
-    ∙ sym (ap (λ e. least c.args.first.now (tree_faults names (tree_view e))) c.in-Ref.is)
+    ∙ sym (ap (λ e. least c.args.first.now (tree_faults names (tree_view e))) c.in-Name.is)
+
+pub expression-returns-in-Member-clause-sort : goal.expression-returns-in-Member-clause-sort
+expression-returns-in-Member-clause-sort t c =
+    let names = names_in c.args.names.now in
+    c.note_reading-in-Member.ensures.sort ∙ ap reading_sort c.reading-in-Member.ensures
+    ∙ ap (λ (m : Member). reading_sort (reading names m.first (Some m.field))) c.content-member.ensures
+    ∙ sym (ap (λ e. sort names (tree_view e)) c.in-Member.is)
+
+pub expression-returns-in-Member-clause-noted : goal.expression-returns-in-Member-clause-noted
+expression-returns-in-Member-clause-noted t c =
+    let names = names_in c.args.names.now in
+    c.note_reading-in-Member.ensures.noted ∙ ap (λ r. least c.args.first.now (reading_faults r)) c.reading-in-Member.ensures
+    ∙ ap (λ (m : Member). least c.args.first.now (reading_faults (reading names m.first (Some m.field)))) c.content-member.ensures
+    ∙ sym (ap (λ e. least c.args.first.now (tree_faults names (tree_view e))) c.in-Member.is)
 
 pub expression-returns-in-Binary-clause-sort : goal.expression-returns-in-Binary-clause-sort
 expression-returns-in-Binary-clause-sort t c =
@@ -204,26 +224,26 @@ expression-returns-in-If-clause-sort t c =
     let names = names_in c.args.names.now in
     let is =
     ap tree_view c.in-If.is
-    ∙ ap (λ x. chosen (tree_view x) (tree_view c.in-If.yes.value) (tree_view c.in-If.no.value) c.in-If.at) (sym c.deref-in-If.ensures)
-    ∙ ap₂ (λ x y. chosen (tree_view c.deref-in-If.result.now) (tree_view x) (tree_view y) c.in-If.at) (sym c.deref-in-If-2.ensures) (sym c.deref-in-If-3.ensures) in
+    ∙ ap (λ (x : Choice). chosen (tree_view x.cond) (tree_view c.in-If.choice.value.yes) (tree_view c.in-If.choice.value.no) c.in-If.at) (sym c.deref-in-If.ensures)
+    ∙ ap₂ (λ (x y : Choice). chosen (tree_view c.deref-in-If.result.now.cond) (tree_view x.yes) (tree_view y.no) c.in-If.at) (sym c.deref-in-If-2.ensures) (sym c.deref-in-If-3.ensures) in
     let made = λ (x a b : Sort). unless (branches_misfit x a b || differ a b) (given x (given b a)) in
     c.choose.ensures.sort
     ∙ ap (λ x. made x c.expression-a-in-If.result c.expression-b-in-If.result) c.expression-c.ensures.sort
-    ∙ ap₂ (λ a b. made (sort names (tree_view c.deref-in-If.result.now)) a b) c.expression-a-in-If.ensures.sort c.expression-b-in-If.ensures.sort
+    ∙ ap₂ (λ a b. made (sort names (tree_view c.deref-in-If.result.now.cond)) a b) c.expression-a-in-If.ensures.sort c.expression-b-in-If.ensures.sort
     ∙ sym (ap (sort names) is)
 
 pub expression-returns-in-If-clause-noted : goal.expression-returns-in-If-clause-noted
 expression-returns-in-If-clause-noted t c =
     let names = names_in c.args.names.now in
-    let cond = tree_view c.deref-in-If.result.now in
-    let yes = tree_view c.deref-in-If-2.result.now in
-    let no = tree_view c.deref-in-If-3.result.now in
+    let cond = tree_view c.deref-in-If.result.now.cond in
+    let yes = tree_view c.deref-in-If-2.result.now.yes in
+    let no = tree_view c.deref-in-If-3.result.now.no in
     let faults = λ (x a b : Sort). misfits (branches_misfit x a b) (differ a b) c.in-If.at in
     let done = c.expression-b-in-If.new.first in
     let is =
     ap tree_view c.in-If.is
-    ∙ ap (λ x. chosen (tree_view x) (tree_view c.in-If.yes.value) (tree_view c.in-If.no.value) c.in-If.at) (sym c.deref-in-If.ensures)
-    ∙ ap₂ (λ x y. chosen (tree_view c.deref-in-If.result.now) (tree_view x) (tree_view y) c.in-If.at) (sym c.deref-in-If-2.ensures) (sym c.deref-in-If-3.ensures) in
+    ∙ ap (λ (x : Choice). chosen (tree_view x.cond) (tree_view c.in-If.choice.value.yes) (tree_view c.in-If.choice.value.no) c.in-If.at) (sym c.deref-in-If.ensures)
+    ∙ ap₂ (λ (x y : Choice). chosen (tree_view c.deref-in-If.result.now.cond) (tree_view x.yes) (tree_view y.no) c.in-If.at) (sym c.deref-in-If-2.ensures) (sym c.deref-in-If-3.ensures) in
     two_noted (tree_faults names cond) (tree_faults names yes ++ (tree_faults names no ++ faults (sort names cond) (sort names yes) (sort names no))) _ _ _
     c.expression-c.ensures.noted
     (three_noted (tree_faults names yes) (tree_faults names no) (faults (sort names cond) (sort names yes) (sort names no)) _ _ _ _

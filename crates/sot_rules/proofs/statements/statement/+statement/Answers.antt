@@ -1,5 +1,7 @@
 -- Of the cycle `statement`: that the loops keep what they say, and their promises.
-use Rattle.std.proofs.Common.{◌∙◌, None, ap, ap₂, sym, refl}
+use Rattle.std.proofs.Common.{◌∙◌, None, Some, ap, ap₂, sym, refl}
+use Rattle.sot_tree.specs.declared.tree.Member.{Member}
+use Rattle.sot_tree.specs.declared.tree.Branch.{Branch}
 use Rattle.sot_tree.specs.TreeViews.{tree_view, statement_view, block_view}
 use Rattle.sot_rules.specs.Sorts.{is_scaled}
 use Rattle.sot_rules.specs.Names.{reading}
@@ -21,12 +23,14 @@ block-loop-stmt-preserved t c =
 pub statement-returns-in-If : goal.statement-returns-in-If
 statement-returns-in-If t c =
     let scope = scope_in c.args.scope.now in
-    branch_noted scope c.in-If.cond c.in-If.yes c.in-If.no c.in-If.at c.is_scaled.result _ _ _ _ _
-    (c.is_scaled.ensures ∙ ap is_scaled (c.expression-s-in-If.ensures.sort ∙ ap (λ e. sort scope.read (tree_view e)) c.content.ensures))
-    (c.expression-s-in-If.ensures.noted ∙ ap (λ e. least c.args.first.now (tree_faults scope.read (tree_view e))) c.content.ensures)
+    let taken = c.deref-in-If-2.ensures.value ∙ ap (λ (x : Branch). x.yes.items) c.deref-in-If.ensures in
+    let other = c.deref-in-If-4.ensures.value ∙ ap (λ (x : Branch). x.no.items) c.deref-in-If-3.ensures in
+    branch_noted scope c.in-If.branch c.in-If.at c.is_scaled.result _ _ _ _ _
+    (c.is_scaled.ensures ∙ ap is_scaled (c.expression-s-in-If.ensures.sort ∙ ap (λ (x : Branch). sort scope.read (tree_view x.cond)) c.deref.ensures))
+    (c.expression-s-in-If.ensures.noted ∙ ap (λ (x : Branch). least c.args.first.now (tree_faults scope.read (tree_view x.cond))) c.deref.ensures)
     c.note.ensures
-    (c.block.ensures ∙ ap (λ ss. least c.note.new.first (block_faults scope (block_view ss))) c.deref.ensures.value)
-    (c.block-in-If.ensures ∙ ap (λ ss. least c.block.new.first (block_faults scope (block_view ss))) c.deref-in-If.ensures.value)
+    (c.block.ensures ∙ ap (λ ss. least c.note.new.first (block_faults scope (block_view ss))) taken)
+    (c.block-in-If.ensures ∙ ap (λ ss. least c.block.new.first (block_faults scope (block_view ss))) other)
     ∙ sym (ap (λ z. least c.args.first.now (statement_faults scope (statement_view z))) c.in-If.is)
 
 pub statement-returns-in-Repeat : goal.statement-returns-in-Repeat
@@ -58,7 +62,20 @@ statement-returns-in-Publish t c =
     let scope = scope_in c.args.scope.now in
     let value = tree_view c.in-Publish.value in
     let at = c.in-Publish.topic.at in
-    two_noted (tree_faults scope.read value) (target_faults (reading scope.written c.in-Publish.topic c.in-Publish.field) (sort scope.read value) at) _ _ _
+    two_noted (tree_faults scope.read value) (target_faults (reading scope.written c.in-Publish.topic None) (sort scope.read value) at) _ _ _
     c.expression-s-in-Publish.ensures.noted
-    (c.note_target-in-Publish.ensures ∙ ap₂ (λ r s. least c.expression-s-in-Publish.new.first (target_faults r s at)) c.reading-wanted.ensures c.expression-s-in-Publish.ensures.sort)
+    (c.note_target-in-Publish.ensures ∙ ap₂ (λ r s. least c.expression-s-in-Publish.new.first (target_faults r s at)) c.reading_alone-wanted-in-Publish.ensures c.expression-s-in-Publish.ensures.sort)
     ∙ sym (ap (λ z. least c.args.first.now (statement_faults scope (statement_view z))) c.in-Publish.is)
+
+pub statement-returns-in-PublishField : goal.statement-returns-in-PublishField
+statement-returns-in-PublishField t c =
+    let scope = scope_in c.args.scope.now in
+    let value = tree_view c.in-PublishField.value in
+    let m = c.content-member.result.now in
+    let known = λ (m : Member). target_faults (reading scope.written m.first (Some m.field)) (sort scope.read value) m.first.at in
+    two_noted (tree_faults scope.read value) (known c.in-PublishField.place) _ _ _
+    c.expression-s-in-PublishField.ensures.noted
+    (c.note_target-in-PublishField.ensures
+    ∙ ap₂ (λ r s. least c.expression-s-in-PublishField.new.first (target_faults r s m.first.at)) c.reading-wanted.ensures c.expression-s-in-PublishField.ensures.sort
+    ∙ ap (λ m. least c.expression-s-in-PublishField.new.first (known m)) c.content-member.ensures)
+    ∙ sym (ap (λ z. least c.args.first.now (statement_faults scope (statement_view z))) c.in-PublishField.is)

@@ -1,5 +1,6 @@
 -- Of the cycle `unrolled`: that the loops keep what they say, and their promises.
-use Rattle.std.proofs.Common.{◌≡◌, ◌+◌, ◌-◌, ◌%◌, arith, subst, sym}
+use Rattle.std.proofs.Common.{◌≡◌, ◌+◌, ◌-◌, ◌%◌, arith, subst, sym, ap, ◌∙◌}
+use Rattle.sot_tree.specs.declared.tree.Branch.{Branch}
 use Rattle.sot_tree.specs.TreeViews.{statement_view, block_view}
 use Rattle.sot_rules.specs.declared.statements.unrolled.Reached.TheVariants.{At, Left}
 use Rattle.sot_rules.specs.Tests.{unrolled, block_unrolled}
@@ -11,19 +12,22 @@ pub reach-returns-in-At : goal.reach-returns-in-At
 reach-returns-in-At t c =
     let k = c.args.k in
     let some : k ≡ (k - 1) + 1 = omega arith in
+    let taken = c.deref-in-If.ensures.value ∙ ap (λ (x : Branch). x.yes.items) c.deref.ensures in
     subst (λ s. IsReached k (unrolled (statement_view s)) (At c.in-At.found)) (sym c.in-If.is)
-    (branch_at c.in-If.cond c.in-If.yes c.in-If.no c.in-If.at k c.in-At.found some
-    (subst (λ ss. IsReached (k - 1) (block_unrolled (block_view ss)) (At c.in-At.found)) c.deref.ensures.value c.in-At.ensures))
+    (branch_at c.in-If.branch c.in-If.at k c.in-At.found some
+    (subst (λ ss. IsReached (k - 1) (block_unrolled (block_view ss)) (At c.in-At.found)) taken c.in-At.ensures))
 
 pub reach-returns-in-Left : goal.reach-returns-in-Left
 reach-returns-in-Left t c =
     let k = c.args.k in
     let r = c.reach_block-in-Left.result in
     let some : k ≡ (k - 1) + 1 = omega arith in
+    let taken = c.deref-in-If.ensures.value ∙ ap (λ (x : Branch). x.yes.items) c.deref.ensures in
+    let other = c.deref-in-Left-2.ensures.value ∙ ap (λ (x : Branch). x.no.items) c.deref-in-Left.ensures in
     subst (λ s. IsReached k (unrolled (statement_view s)) r) (sym c.in-If.is)
-    (branch_then c.in-If.cond c.in-If.yes c.in-If.no c.in-If.at k c.in-Left.n r some
-    (subst (λ ss. IsReached (k - 1) (block_unrolled (block_view ss)) (Left c.in-Left.n)) c.deref.ensures.value c.in-Left.ensures)
-    (subst (λ ss. IsReached c.in-Left.n (block_unrolled (block_view ss)) r) c.deref-in-Left.ensures.value c.reach_block-in-Left.ensures))
+    (branch_then c.in-If.branch c.in-If.at k c.in-Left.n r some
+    (subst (λ ss. IsReached (k - 1) (block_unrolled (block_view ss)) (Left c.in-Left.n)) taken c.in-Left.ensures)
+    (subst (λ ss. IsReached c.in-Left.n (block_unrolled (block_view ss)) r) other c.reach_block-in-Left.ensures))
 
 pub reach-returns-in-At-reach_block : goal.reach-returns-in-At-reach_block
 reach-returns-in-At-reach_block t c =

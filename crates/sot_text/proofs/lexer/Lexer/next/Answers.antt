@@ -6,7 +6,7 @@ use Rattle.sot_text.specs.declared.lexeme.Front.TheVariants as fronts
 use Rattle.sot_text.specs.Reading.{Reading}
 use Rattle.sot_text.proofs.Aheads.{token_text}
 use Rattle.sot_text.proofs.Starts.{column_at}
-use Rattle.sot_text.proofs.Nexts.{next_at, span_is, token_is, place_behind}
+use Rattle.sot_text.proofs.Nexts.{next_at, token_is, place_behind}
 use Rattle.sot_text.proofs.lexer.Lexer.next.Goals as goal
 
 pub further-self-inside-requires : goal.further-self-inside-requires
@@ -34,14 +34,11 @@ returns-in-Token-clause-next c =
     let bytes = c.self.inside.bytes.now in
     let from = c.next_start-start.result.at in
     let token = fronts.Token c.in-Token.kind c.in-Token.len in
-    token_is bytes from c.in-Token.len c.in-Token.kind c.span.result (span_is bytes from c.in-Token.len c.next_start-start.result.place c.span.result c.next_start-start.ensures.place c.span.ensures)
+    token_is bytes from c.in-Token.len c.in-Token.kind c.next_start-start.result.place c.next_start-start.ensures.place
     ∙ next_at c.args.self.now bytes c.self.inside.at c.next_start-start.result.at token (sym c.self.view_is) c.next_start-start.ensures.at c.in-Token.ensures.front
 
 pub returns-in-Token-clause-bytes : goal.returns-in-Token-clause-bytes
 returns-in-Token-clause-bytes c = ap (λ (r : Reading). r.bytes) c.self.view_is
-
-pub returns-in-Token-clause-at : goal.returns-in-Token-clause-at
-returns-in-Token-clause-at c = sym (ap (λ (s : Span). s.to) c.span.ensures)
 
 pub returns-in-Token-clause-whole : goal.returns-in-Token-clause-whole
 returns-in-Token-clause-whole c =
@@ -62,19 +59,19 @@ pub returns-in-BadByte-clause-next : goal.returns-in-BadByte-clause-next
 returns-in-BadByte-clause-next c =
     let bytes = c.self.inside.bytes.now in
     let from = c.next_start-start.result.at in
-    ap (λ (at : Span). Err (faults.BadByte at)) (span_is bytes from 1 c.next_start-start.result.place c.span-in-BadByte.result c.next_start-start.ensures.place c.span-in-BadByte.ensures)
+    ap (λ (at : Span). Err (faults.BadByte at)) c.next_start-start.ensures.place
     ∙ next_at c.args.self.now bytes c.self.inside.at c.next_start-start.result.at fronts.BadByte (sym c.self.view_is) c.next_start-start.ensures.at c.in-BadByte.ensures.front
 
 pub returns-in-NameLong-clause-next : goal.returns-in-NameLong-clause-next
 returns-in-NameLong-clause-next c =
     let bytes = c.self.inside.bytes.now in
     let from = c.next_start-start.result.at in
-    ap (λ (at : Span). Err (faults.NameLong at)) (span_is bytes from c.in-NameLong.len c.next_start-start.result.place c.span-in-NameLong.result c.next_start-start.ensures.place c.span-in-NameLong.ensures)
+    ap (λ (at : Span). Err (faults.NameLong at)) c.next_start-start.ensures.place
     ∙ next_at c.args.self.now bytes c.self.inside.at c.next_start-start.result.at (fronts.NameLong c.in-NameLong.len) (sym c.self.view_is) c.next_start-start.ensures.at c.in-NameLong.ensures.front
 
 pub returns-in-LiteralWide-clause-next : goal.returns-in-LiteralWide-clause-next
 returns-in-LiteralWide-clause-next c =
     let bytes = c.self.inside.bytes.now in
     let from = c.next_start-start.result.at in
-    ap (λ (at : Span). Err (faults.LiteralWide at)) (span_is bytes from c.in-LiteralWide.len c.next_start-start.result.place c.span-in-LiteralWide.result c.next_start-start.ensures.place c.span-in-LiteralWide.ensures)
+    ap (λ (at : Span). Err (faults.LiteralWide at)) c.next_start-start.ensures.place
     ∙ next_at c.args.self.now bytes c.self.inside.at c.next_start-start.result.at (fronts.LiteralWide c.in-LiteralWide.len) (sym c.self.view_is) c.next_start-start.ensures.at c.in-LiteralWide.ensures.front

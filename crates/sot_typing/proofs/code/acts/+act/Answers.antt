@@ -1,6 +1,7 @@
 -- Of the cycle `act`: what their calls ask for, that the loops keep what they say, and their promises.
 use Rattle.std.proofs.Common.{rules, arith, ap, ◌∙◌}
 use Rattle.sot_tree.specs.declared.tree.Stmt.{the_lemmas}
+use Rattle.sot_tree.specs.declared.tree.Branch.{Branch}
 use Rattle.sot_tree.specs.TreeViews.{tree_view}
 use Rattle.sot_rules.specs.Faults.{tree_faults}
 use Rattle.sot_typing.specs.Formulas.{formula_view}
@@ -11,16 +12,18 @@ use Rattle.sot_typing.proofs.code.acts.+act.Goals as goal
 
 pub act-term-requires-clause-faultless : goal.act-term-requires-clause-faultless
 act-term-requires-clause-faultless t c =
-    ap (λ e. tree_faults (scope_in c.args.names.now).read (tree_view e)) c.content.ensures
-    ∙ condition_faultless (scope_in c.args.names.now) c.in-If.cond c.in-If.yes c.in-If.no c.in-If.at c.args.stmt.now c.in-If.is c.requires.faultless
+    ap (λ (b : Branch). tree_faults (scope_in c.args.names.now).read (tree_view b.cond)) c.deref.ensures
+    ∙ condition_faultless (scope_in c.args.names.now) c.in-If.branch c.in-If.at c.args.stmt.now c.in-If.is c.requires.faultless
 
 pub act-acts-requires : goal.act-acts-requires
 act-acts-requires t c =
-    (search (rules, the_lemmas, c.in-If.is, c.deref.ensures.value, c.decreases), (c.requires.few, taken_faultless (scope_in c.args.names.now) c.in-If.cond c.in-If.yes c.in-If.no c.in-If.at c.args.stmt.now c.in-If.is c.requires.faultless _ c.deref.ensures.value))
+    let taken = c.deref-in-If-2.ensures.value ∙ ap (λ (b : Branch). b.yes.items) c.deref-in-If.ensures in
+    (search (rules, the_lemmas, c.in-If.is, c.deref-in-If.ensures, c.deref-in-If-2.ensures.value, c.decreases), (c.requires.few, taken_faultless (scope_in c.args.names.now) c.in-If.branch c.in-If.at c.args.stmt.now c.in-If.is c.requires.faultless _ taken))
 
 pub act-acts-requires-in-If : goal.act-acts-requires-in-If
 act-acts-requires-in-If t c =
-    (search (rules, the_lemmas, c.in-If.is, c.deref-in-If.ensures.value, c.decreases), (c.requires.few, other_faultless (scope_in c.args.names.now) c.in-If.cond c.in-If.yes c.in-If.no c.in-If.at c.args.stmt.now c.in-If.is c.requires.faultless _ c.deref-in-If.ensures.value))
+    let other = c.deref-in-If-4.ensures.value ∙ ap (λ (b : Branch). b.no.items) c.deref-in-If-3.ensures in
+    (search (rules, the_lemmas, c.in-If.is, c.deref-in-If-3.ensures, c.deref-in-If-4.ensures.value, c.decreases), (c.requires.few, other_faultless (scope_in c.args.names.now) c.in-If.branch c.in-If.at c.args.stmt.now c.in-If.is c.requires.faultless _ other))
 
 pub act-acts-requires-in-Repeat : goal.act-acts-requires-in-Repeat
 act-acts-requires-in-Repeat t c =
@@ -28,7 +31,9 @@ act-acts-requires-in-Repeat t c =
 
 pub act-returns-in_ok-no-in-If : goal.act-returns-in_ok-no-in-If
 act-returns-in_ok-no-in-If t c =
-    branch_is (scope_in c.args.names.now) c.in-If.cond c.in-If.yes c.in-If.no c.in-If.at c.args.stmt.now c.in-If.is c.into_term.result c.in_ok-yes-in-If.yes c.in_ok-no-in-If.no _ _ c.deref.ensures.value c.deref-in-If.ensures.value (ap formula_view c.into_term.ensures ∙ c.in_ok-made-in-If.ensures.form ∙ ap (λ e. formula_of (scope_in c.args.names.now).read (tree_view e)) c.content.ensures) c.in_ok-yes-in-If.ensures c.in_ok-no-in-If.ensures
+    let taken = c.deref-in-If-2.ensures.value ∙ ap (λ (b : Branch). b.yes.items) c.deref-in-If.ensures in
+    let other = c.deref-in-If-4.ensures.value ∙ ap (λ (b : Branch). b.no.items) c.deref-in-If-3.ensures in
+    branch_is (scope_in c.args.names.now) c.in-If.branch c.in-If.at c.args.stmt.now c.in-If.is c.into_term.result c.in_ok-yes-in-If.yes c.in_ok-no-in-If.no _ _ taken other (ap formula_view c.into_term.ensures ∙ c.in_ok-made-in-If.ensures.form ∙ ap (λ (b : Branch). formula_of (scope_in c.args.names.now).read (tree_view b.cond)) c.deref.ensures) c.in_ok-yes-in-If.ensures c.in_ok-no-in-If.ensures
 
 pub act-returns-in_ok-body-in-Repeat : goal.act-returns-in_ok-body-in-Repeat
 act-returns-in_ok-body-in-Repeat t c =

@@ -1,6 +1,8 @@
 -- Of the cycle `term`: what their calls ask for, that the loops keep what they say, and their promises.
 use Rattle.std.proofs.Common.{rules, arith, ◌≡◌, ◌≤◌, [], ◌∷◌, ◌++◌, ap, ap₂, sym, subst, ◌∙◌}
-use Rattle.sot_tree.specs.declared.tree.Expr.{the_lemmas}
+use Rattle.std.specs.Global.{Vec}
+use Rattle.sot_tree.specs.declared.tree.Expr.{Expr, the_lemmas}
+use Rattle.sot_tree.specs.declared.tree.Choice.{Choice}
 use Rattle.sot_tree.specs.Trees.{binary, negated, denied, rescaled, chosen, called}
 use Rattle.sot_tree.specs.declared.tree.Operands.{out-Operands}
 use Rattle.sot_tree.specs.TreeViews.{tree_view, parts_view}
@@ -92,40 +94,45 @@ term-returns-in_ok-a-in-Rescale t c =
 pub term-term-requires-in-If : goal.term-term-requires-in-If
 term-term-requires-in-If t c =
     let names = things_in c.args.things.now in
-    let part = ap (λ z. tree_faults names (tree_view z)) c.deref-in-If.ensures in
-    (search (rules, the_lemmas, c.in-If.is, c.deref-in-If.ensures, c.decreases), (c.requires.few, part ∙ condition names (tree_view c.in-If.cond.value) (tree_view c.in-If.yes.value) (tree_view c.in-If.no.value) c.in-If.at (tree_view c.args.e.now) (ap tree_view c.in-If.is) c.requires.faultless))
+    let x = c.in-If.choice.value in
+    let part = ap (λ (z : Choice). tree_faults names (tree_view z.cond)) c.deref-in-If.ensures in
+    (search (rules, the_lemmas, c.in-If.is, c.deref-in-If.ensures, c.decreases), (c.requires.few, part ∙ condition names (tree_view x.cond) (tree_view x.yes) (tree_view x.no) c.in-If.at (tree_view c.args.e.now) (ap tree_view c.in-If.is) c.requires.faultless))
 
 pub term-term-requires-in-If-2 : goal.term-term-requires-in-If-2
 term-term-requires-in-If-2 t c =
     let names = things_in c.args.things.now in
-    let part = ap (λ z. tree_faults names (tree_view z)) c.deref-in-If-2.ensures in
-    (search (rules, the_lemmas, c.in-If.is, c.deref-in-If-2.ensures, c.decreases), (c.requires.few, part ∙ first_branch names (tree_view c.in-If.cond.value) (tree_view c.in-If.yes.value) (tree_view c.in-If.no.value) c.in-If.at (tree_view c.args.e.now) (ap tree_view c.in-If.is) c.requires.faultless))
+    let x = c.in-If.choice.value in
+    let part = ap (λ (z : Choice). tree_faults names (tree_view z.yes)) c.deref-in-If-2.ensures in
+    (search (rules, the_lemmas, c.in-If.is, c.deref-in-If-2.ensures, c.decreases), (c.requires.few, part ∙ first_branch names (tree_view x.cond) (tree_view x.yes) (tree_view x.no) c.in-If.at (tree_view c.args.e.now) (ap tree_view c.in-If.is) c.requires.faultless))
 
 pub term-term-requires-in-If-3 : goal.term-term-requires-in-If-3
 term-term-requires-in-If-3 t c =
     let names = things_in c.args.things.now in
-    let part = ap (λ z. tree_faults names (tree_view z)) c.deref-in-If-3.ensures in
-    (search (rules, the_lemmas, c.in-If.is, c.deref-in-If-3.ensures, c.decreases), (c.requires.few, part ∙ second_branch names (tree_view c.in-If.cond.value) (tree_view c.in-If.yes.value) (tree_view c.in-If.no.value) c.in-If.at (tree_view c.args.e.now) (ap tree_view c.in-If.is) c.requires.faultless))
+    let x = c.in-If.choice.value in
+    let part = ap (λ (z : Choice). tree_faults names (tree_view z.no)) c.deref-in-If-3.ensures in
+    (search (rules, the_lemmas, c.in-If.is, c.deref-in-If-3.ensures, c.decreases), (c.requires.few, part ∙ second_branch names (tree_view x.cond) (tree_view x.yes) (tree_view x.no) c.in-If.at (tree_view c.args.e.now) (ap tree_view c.in-If.is) c.requires.faultless))
 
 pub term-returns-in_ok-b-in-If : goal.term-returns-in_ok-b-in-If
 term-returns-in_ok-b-in-If t c =
     let names = things_in c.args.things.now in
     let is =
     ap tree_view c.in-If.is
-    ∙ ap (λ x. chosen (tree_view x) (tree_view c.in-If.yes.value) (tree_view c.in-If.no.value) c.in-If.at) (sym c.deref-in-If.ensures)
-    ∙ ap₂ (λ x y. chosen (tree_view c.deref-in-If.result.now) (tree_view x) (tree_view y) c.in-If.at) (sym c.deref-in-If-2.ensures) (sym c.deref-in-If-3.ensures) in
-    if_ok c.choice.result (chosen_is names _ _ _ c.in-If.at (tree_view c.args.e.now) is c.requires.faultless c.in_ok-c-in-If.c c.in_ok-a-in-If.a c.in_ok-b-in-If.b c.in_ok-c-in-If.ensures c.in_ok-a-in-If.ensures c.in_ok-b-in-If.ensures) c.choice.ensures
+    ∙ ap (λ (x : Choice). chosen (tree_view x.cond) (tree_view c.in-If.choice.value.yes) (tree_view c.in-If.choice.value.no) c.in-If.at) (sym c.deref-in-If.ensures)
+    ∙ ap₂ (λ (x y : Choice). chosen (tree_view c.deref-in-If.result.now.cond) (tree_view x.yes) (tree_view y.no) c.in-If.at) (sym c.deref-in-If-2.ensures) (sym c.deref-in-If-3.ensures) in
+    if_ok c.chosen.result (chosen_is names _ _ _ c.in-If.at (tree_view c.args.e.now) is c.requires.faultless c.in_ok-c-in-If.c c.in_ok-a-in-If.a c.in_ok-b-in-If.b c.in_ok-c-in-If.ensures c.in_ok-a-in-If.ensures c.in_ok-b-in-If.ensures) c.chosen.ensures
 
 pub term-terms-requires : goal.term-terms-requires
 term-terms-requires t c =
     let names = things_in c.args.things.now in
-    let is = ap tree_view c.in-Call.is ∙ call_view c.in-Call.func c.in-Call.parts c.in-Call.at ∙ ap (λ es. called c.in-Call.func (parts_view es) c.in-Call.at) (sym c.deref-in-Call.ensures.value) in
-    (search (rules, the_lemmas, c.in-Call.is, c.deref-in-Call.ensures.value, c.decreases), (c.requires.few, called_parts names c.in-Call.func _ c.in-Call.at (tree_view c.args.e.now) is c.requires.faultless))
+    let parts = c.deref-in-Call-2.ensures.value ∙ ap (λ (v : Vec Expr). v.items) c.deref-in-Call.ensures in
+    let is = ap tree_view c.in-Call.is ∙ call_view c.in-Call.func c.in-Call.parts c.in-Call.at ∙ ap (λ es. called c.in-Call.func (parts_view es) c.in-Call.at) (sym parts) in
+    (search (rules, the_lemmas, c.in-Call.is, c.deref-in-Call.ensures, c.deref-in-Call-2.ensures.value, c.decreases), (c.requires.few, called_parts names c.in-Call.func _ c.in-Call.at (tree_view c.args.e.now) is c.requires.faultless))
 
 pub term-returns-in_ok-made-in-Call : goal.term-returns-in_ok-made-in-Call
 term-returns-in_ok-made-in-Call t c =
     let names = things_in c.args.things.now in
-    let is = ap tree_view c.in-Call.is ∙ call_view c.in-Call.func c.in-Call.parts c.in-Call.at ∙ ap (λ es. called c.in-Call.func (parts_view es) c.in-Call.at) (sym c.deref-in-Call.ensures.value) in
+    let parts = c.deref-in-Call-2.ensures.value ∙ ap (λ (v : Vec Expr). v.items) c.deref-in-Call.ensures in
+    let is = ap tree_view c.in-Call.is ∙ call_view c.in-Call.func c.in-Call.parts c.in-Call.at ∙ ap (λ es. called c.in-Call.func (parts_view es) c.in-Call.at) (sym parts) in
     called_is names c.in-Call.func _ c.in-Call.at (tree_view c.args.e.now) is c.requires.faultless c.in_ok-made-in-Call.made c.in_ok-made-in-Call.ensures c.call.result c.call.ensures
 
 pub terms-term-requires : goal.terms-term-requires
