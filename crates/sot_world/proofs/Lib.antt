@@ -32,5 +32,6 @@ pub mod Parts
 pub mod Stepping
 pub mod RoleModes
 pub mod FiringSteps
+mod Running
 pub mod TickSteps
 pub mod Schedules

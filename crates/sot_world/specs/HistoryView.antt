@@ -8,10 +8,10 @@ use Rattle.sot_world.specs.HistoryRecords.{logged, end_of}
 abbrev pub story_of : Inside → Story
 story_of h = record { entries = map (logged h.numbers.items) h.records.items; entries_left = h.entries_left; numbers_left = h.numbers_left }
 
--- the numbers of each entry are in the list, and the room left is there: each entry that is to come may have eight drafted numbers
+-- the numbers of each entry are in the list, and the room left is there: each entry that is to come may have eight drafted numbers, or two counts
 pub record IsStory (h : Inside) : Type 0 where
-  pub inside : All (λ r. end_of r ≤ length h.numbers.items) h.records.items
+  pub inside : All (λ r. end_of h.numbers.items r ≤ length h.numbers.items) h.records.items
   pub entries : h.records.len + h.entries_left ≤ h.records.cap
   pub numbers : h.numbers.len + h.numbers_left + 8 * h.entries_left ≤ h.numbers.cap
   pub few : h.numbers_left < 2 ^ 32
-  pub places : h.numbers.len + h.numbers_left + 8 * h.entries_left < 2 ^ 48
+  pub places : h.numbers.len + h.numbers_left + 8 * h.entries_left < 2 ^ 40

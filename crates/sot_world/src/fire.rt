@@ -2,17 +2,18 @@
 
 ghost use Rattle.std.specs.Prelude.{◌≡◌, ℕ, ℤ, Option, ◌-◌, ◌<◌, ◌≤◌, ◌++◌, None, length, take, replicate, slice_set};
 ghost use Rattle.sot_lists.specs.Places.{At};
+ghost use Rattle.sot_lang.specs.declared.tables.NodeInfo.{NodeInfo};
 ghost use Rattle.sot_lang.specs.Ranges.{range_of};
+ghost use Rattle.sot_lang.specs.Readings.{reading};
 ghost use Rattle.sot_world.specs.Steps as steps;
-ghost use Rattle.sot_world.specs.Changes.{is_ac, role_enables, IsOfModule, put_drafted, Runs, HasRun};
+ghost use Rattle.sot_world.specs.Changes.{is_ac, role_enables, IsOfModule, put_drafted, AreThere};
 
 use crate::lent::Lent;
 use crate::looks::is_in;
 use crate::mode::Mode;
 use crate::role::Role;
 use sot_box::Point;
-use sot_code::{Fired, Locals, run_node};
-use sot_lang::{Draft, ScalarInfo, Trap, Typed};
+use sot_lang::{Draft, ScalarInfo, Typed};
 
 fn is_ac(mode: Mode) -> bool
     ensures { result ≡ is_ac mode }
@@ -35,21 +36,17 @@ pub fn enables(role: Role, modes: &[Mode]) -> bool
     }
 }
 
-/// What a coded node's body gives on the present numbers. It does not trap; the outcome is handed on as it is, since a copy of what
-/// it holds would cost as much as most bodies.
-pub fn run(
-    p: &Typed,
+/// The numbers that a node reads now, read where they stand.
+pub(crate) fn seen_by<'w>(
+    p: &'w Typed,
     node: u32,
-    scalars: &[i64],
-    points: &[Point],
-    locals: &Locals,
-) -> Result<Fired, Trap>
-    requires { Runs p.now node scalars.now points.now locals.now }
-    ensures { HasRun p.now node scalars.now points.now locals.now result }
+    scalars: &'w [i64],
+    points: &'w [Point],
+) -> Lent<'w>
+    requires { (info : NodeInfo) × At p.now.nodes node info × AreThere scalars.now points.now info.reads.items }
+    ensures { (info : NodeInfo) → At p.now.nodes node info → result ≡ reading info scalars.now points.now }
 {
-    let info = &p.nodes[node as usize];
-    let seen = Lent::of(&info.reads, scalars, points);
-    run_node(p, node, &seen, locals)
+    Lent::of(&p.nodes[node as usize].reads, scalars, points)
 }
 
 // A number in its scalar's range replaces the scalar's, and any other is refused.

@@ -1,11 +1,10 @@
 //! The events of a run as they are recorded.
 
-ghost use Rattle.std.specs.Prelude.{◌≡◌, ℕ, ◌+◌, ◌^◌, ◌<◌, ◌≤◌, [], ◌∷◌, ◌++◌, ℤ, List, length, slice_get, Some, IfOk, vec_len, vec_capacity};
+ghost use Rattle.std.specs.Prelude.{◌≡◌, ◌+◌, ◌^◌, ◌<◌, ◌≤◌, [], ◌∷◌, ◌++◌, length, slice_get, Some, IfOk, vec_len, vec_capacity};
 ghost use Rattle.sot_world.specs.Histories.{entry_of, numbers_in};
-ghost use Rattle.sot_world.specs.HistoryRecords.{place_of, logged, end_of};
 
-use crate::drafted::{append_draft, draft_at};
 use crate::mode::Mode;
+use crate::recorded::{Record, kept, lent_draft, lent_input, lent_one, lent_tick, place_of};
 use sot_lang::Draft;
 use std::alloc::{AllocError, Global};
 use std::marker::Model;
@@ -40,57 +39,6 @@ pub enum Entry<'h> {
     },
 }
 
-// An entry whose numbers stand in the history's list, from a place on, which is kept in two parts. Fields lie in memory in this
-// order behind the tag, so that a record takes 24 bytes.
-#[derive(Clone, Copy)]
-enum Record {
-    Input {
-        high: u16,
-        time: u32,
-        topic: u32,
-        low: u32,
-        count: u32,
-    },
-    // The numbers of a draft, in the slots where one is there: most drafts have one or two.
-    Fire {
-        enabled: bool,
-        there: [bool; 8],
-        high: u16,
-        time: u32,
-        node: u32,
-        low: u32,
-    },
-    Decide {
-        mode: Mode,
-        time: u32,
-        module: u32,
-    },
-    Tick {
-        high: u16,
-        time: u32,
-        low: u32,
-        noise: u32,
-        states: u32,
-    },
-}
-
-// A place of the list of numbers, which is below 2^48, in two parts.
-fn parts_of(place: usize) -> (u16, u32)
-    requires { place < 2 ^ 48 }
-    ensures { place_of result.0 result.1 ≡ place }
-{
-    let high = place / 4_294_967_296;
-    let low = place % 4_294_967_296;
-    (high as u16, low as u32)
-}
-
-// The place of these two parts.
-fn place_of(high: u16, low: u32) -> usize
-    ensures { result ≡ place_of high low }
-{
-    high as usize * 4_294_967_296 + low as usize
-}
-
 /// The entries of a run, in order, in room that is taken at the start.
 #[derive(Drop)]
 pub struct History {
@@ -119,7 +67,7 @@ impl History {
     {
         let entries_left = entries as usize;
         let numbers_left = numbers as usize;
-        // Each entry may be a firing, whose draft has at most eight numbers. Where
+        // Each entry may be a firing, whose draft has at most eight numbers; of another entry at most two counts are kept. Where
         // pages are handed out when they are first touched, what is never written takes up none.
         Ok(History {
             records: Vec::with_capacity(alloc, entries_left)?,
@@ -151,12 +99,45 @@ impl History {
     }
 
     /// The entry at place `i`, in the order in which they were pushed.
+    // An entry is large: where it is handed out by more than one call it is copied as often, also if the calls are inlined.
+    #[inline(never)]
     pub fn entry(&self, i: usize) -> Entry<'_>
         requires { i < length self.now.entries }
         ensures { slice_get self.now.entries i ≡ Some (entry_of result) }
     {
-        let record = self.records[i];
-        lent(&self.numbers, record)
+        match self.records[i] {
+            Record::One {
+                enabled,
+                time,
+                node,
+                number,
+            } => lent_one(number as i64, time, node, enabled),
+            Record::Fire {
+                enabled,
+                there,
+                high,
+                time,
+                node,
+                low,
+            } => lent_draft(
+                &self.numbers,
+                place_of(high, low),
+                there,
+                time,
+                node,
+                enabled,
+            ),
+            Record::Decide { mode, time, module } => Entry::Decide { time, module, mode },
+            Record::Input {
+                high,
+                time,
+                topic,
+                low,
+            } => lent_input(&self.numbers, place_of(high, low), time, topic),
+            Record::Tick { high, time, low } => {
+                lent_tick(&self.numbers, place_of(high, low), time)
+            }
+        }
     }
 }
 
@@ -180,124 +161,4 @@ fn add(to: &mut Vec<Record>, more: Record)
     ensures capacity { vec_capacity to.old ≤ vec_capacity to.new }
 {
     let _ = to.push(more);
-}
-
-// Appends numbers for which there is room.
-fn append(to: &mut Vec<i64>, more: &[i64])
-    requires { vec_len to.old + length more.now ≤ vec_capacity to.old }
-    ensures items { to.new.items ≡ to.old.items ++ more.now }
-    ensures len { vec_len to.new ≡ vec_len to.old + length more.now }
-    ensures capacity { vec_capacity to.old ≤ vec_capacity to.new }
-{
-    let _ = to.extend_from_slice(more);
-}
-
-// The record of an entry, whose numbers go behind the list.
-fn kept(numbers: &mut Vec<i64>, e: &Entry<'_>) -> Record
-    requires room { vec_len numbers.old + numbers_in (entry_of e.now) + 8 ≤ vec_capacity numbers.old }
-    requires few { numbers_in (entry_of e.now) < 2 ^ 32 }
-    requires place { vec_len numbers.old < 2 ^ 48 }
-    ensures same { logged numbers.new.items result ≡ entry_of e.now }
-    ensures inside { end_of result ≤ length numbers.new.items }
-    ensures behind { (more : List ℤ) × (numbers.new.items ≡ numbers.old.items ++ more) }
-    ensures len { vec_len numbers.new ≤ vec_len numbers.old + numbers_in (entry_of e.now) + 8 }
-    ensures capacity { vec_capacity numbers.old ≤ vec_capacity numbers.new }
-{
-    let (high, low) = parts_of(numbers.len());
-    match *e {
-        Entry::Input { time, topic, value } => {
-            append(numbers, value);
-            Record::Input {
-                high,
-                time,
-                topic,
-                low,
-                count: value.len() as u32,
-            }
-        }
-        Entry::Fire {
-            time,
-            node,
-            draft,
-            enabled,
-        } => {
-            let there = append_draft(numbers, &draft);
-            Record::Fire {
-                enabled,
-                there,
-                high,
-                time,
-                node,
-                low,
-            }
-        }
-        Entry::Decide { time, module, mode } => Record::Decide { mode, time, module },
-        Entry::Tick {
-            time,
-            noise,
-            states,
-        } => {
-            append(numbers, noise);
-            append(numbers, states);
-            Record::Tick {
-                high,
-                time,
-                low,
-                noise: noise.len() as u32,
-                states: states.len() as u32,
-            }
-        }
-    }
-}
-
-// The entry of a record, with its numbers from the list.
-fn lent(numbers: &[i64], kept: Record) -> Entry<'_>
-    requires { end_of kept ≤ length numbers.now }
-    ensures { entry_of result ≡ logged numbers.now kept }
-{
-    match kept {
-        Record::Input {
-            high,
-            time,
-            topic,
-            low,
-            count,
-        } => {
-            let from = place_of(high, low);
-            Entry::Input {
-                time,
-                topic,
-                value: &numbers[from..from + count as usize],
-            }
-        }
-        Record::Fire {
-            enabled,
-            there,
-            high,
-            time,
-            node,
-            low,
-        } => Entry::Fire {
-            time,
-            node,
-            draft: draft_at(numbers, place_of(high, low), &there),
-            enabled,
-        },
-        Record::Decide { mode, time, module } => Entry::Decide { time, module, mode },
-        Record::Tick {
-            high,
-            time,
-            low,
-            noise,
-            states,
-        } => {
-            let from = place_of(high, low);
-            let middle = from + noise as usize;
-            Entry::Tick {
-                time,
-                noise: &numbers[from..middle],
-                states: &numbers[middle..middle + states as usize],
-            }
-        }
-    }
 }

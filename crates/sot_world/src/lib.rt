@@ -19,6 +19,7 @@ mod looks;
 mod mode;
 mod open_fail;
 mod outcome;
+mod recorded;
 mod role;
 mod schedule;
 mod starts;

@@ -5,6 +5,7 @@ ghost use Rattle.std.specs.Prelude.{◌<◌, length};
 use super::same;
 use sot_lang::Draft;
 use sot_world::{Entry, History, Mode};
+use std::alloc::Global;
 use std::process::Abort;
 
 fn ends_with_a_tick(rt: &impl Abort, history: &History)
@@ -69,6 +70,92 @@ fn a_history_hands_out_what_was_pushed(rt: HostRuntime) {
     same(&rt, "entries", history.len(), 4);
     ends_with_a_tick(&rt, &history);
     begins_with_an_input(&rt, &history);
+}
+
+// A firing with this draft is read back as it was pushed.
+fn keeps(rt: &impl Abort, alloc: Global, draft: Draft, enabled: bool) {
+    let mut history = History::none(alloc, 1, 0).expect(rt, "room for an entry");
+    history.push(&Entry::Fire {
+        time: 7,
+        node: 3,
+        draft,
+        enabled,
+    });
+    match history.entry(0) {
+        Entry::Fire {
+            time,
+            node,
+            draft: read,
+            enabled: was_enabled,
+        } => {
+            same(rt, "time", time, 7);
+            same(rt, "node", node, 3);
+            same(rt, "draft", read, draft);
+            same(rt, "enabled", was_enabled, enabled);
+        }
+        _ => panic!(rt; "a firing is none"),
+    }
+}
+
+fn drafted(slots: &[Option<i64>; 8]) -> Draft {
+    let mut draft = Draft::blank();
+    for i in 0..8 {
+        if let Some(number) = slots[i] {
+            draft.set(i, number);
+        }
+    }
+    draft
+}
+
+// Numbers on both sides of 32 bits, alone in the first slot or in another one.
+#[test]
+fn a_history_keeps_drafts_of_one_number(rt: HostRuntime) {
+    for number in [
+        0,
+        -1,
+        2_147_483_647,
+        2_147_483_648,
+        -2_147_483_648,
+        -2_147_483_649,
+        i64::MAX,
+        i64::MIN,
+    ] {
+        let mut first = Draft::blank();
+        first.set(0, number);
+        keeps(&rt, rt.alloc(), first, true);
+        let mut third = Draft::blank();
+        third.set(2, number);
+        keeps(&rt, rt.alloc(), third, false);
+    }
+}
+
+#[test]
+fn a_history_keeps_drafts_of_several_numbers(rt: HostRuntime) {
+    let all = [
+        Some(1),
+        Some(-2),
+        Some(3),
+        Some(-4),
+        Some(5),
+        Some(-6),
+        Some(7),
+        Some(-8),
+    ];
+    let few = [
+        None,
+        Some(9),
+        None,
+        None,
+        Some(i64::MIN),
+        None,
+        None,
+        Some(0),
+    ];
+    let ends = [Some(0), None, None, None, None, None, None, Some(1)];
+    for slots in [[None; 8], all, few, ends] {
+        keeps(&rt, rt.alloc(), drafted(&slots), true);
+        keeps(&rt, rt.alloc(), drafted(&slots), false);
+    }
 }
 
 #[test]

@@ -17,13 +17,13 @@ ghost use Rattle.sot_world.specs.StepOutcomes.{IsInTime, IsOutcome};
 use super::World;
 use crate::decide::next_mode;
 use crate::event::Event;
-use crate::fire::{enables, first_slots, publish_if, run};
+use crate::fire::{enables, first_slots, publish_if, seen_by};
 use crate::input::write;
 use crate::mode::Mode;
 use crate::outcome::Outcome;
 use crate::schedule::leave;
 use crate::tick::move_all;
-use sot_code::Fired;
+use sot_code::{Fired, run_node};
 use sot_lang::Draft;
 use std::mem::swap;
 
@@ -39,15 +39,15 @@ impl<'a> World<'a> {
         ensures accepted { self.new.accepted ≡ self.old.accepted }
         ensures outcome { IsOutcome self.old.accepted.program self.old.at e.now self.new.at result }
     {
-        match *e {
+        match e {
             Event::Input { topic, value } => {
-                self.take(topic, value);
+                self.take(*topic, value);
                 Outcome::Input
             }
-            Event::Code { node } => self.fire_code(node),
-            Event::Guest { node, draft } => self.fire_guest(node, &draft),
+            Event::Code { node } => self.fire_code(*node),
+            Event::Guest { node, draft } => self.fire_guest(*node, draft),
             Event::Decide { module } => Outcome::Decided {
-                mode: self.decide(module),
+                mode: self.decide(*module),
             },
             Event::Tick { noise } => {
                 self.tick(noise);
@@ -95,13 +95,10 @@ impl<'a> World<'a> {
         ensures outcome { (r : Recorded) × RecordsCode self.old.accepted.program node self.old.at r × (result ≡ outcome_of r) }
     {
         let p = self.accepted.typed();
-        let ran = run(
-            p,
-            node,
-            &self.scalars,
-            &self.points,
-            &self.locals[node as usize],
-        );
+        let locals = &self.locals[node as usize];
+        let seen = seen_by(p, node, &self.scalars, &self.points);
+        // Not in a call of its own, since what a body gives is large and would be copied once more.
+        let ran = run_node(p, node, &seen, locals);
         match &ran {
             Ok(fired) => self.commit(node, fired),
             Err(_) => unreachable!(),

@@ -1,7 +1,7 @@
 use Rattle.std.proofs.Common.{◌≡◌, ◌+◌, ◌≤◌, ◌++◌, ℤ, List, length, take}
 use Rattle.std.specs.Prelude.{vec_len, vec_capacity}
 use Rattle.sot_world.specs.HistoryRecords.{slots_filled, count_there}
-use Rattle.sot_world.proofs.drafted.append_draft.Given as goal
+use Rattle.sot_world.proofs.drafted.append_slots.Given as goal
 
 abbrev pub invariant-loop-i : goal.invariant-loop-i
 invariant-loop-i l = record {

@@ -4,7 +4,7 @@ use Rattle.std.proofs.lemmas.List.{append_assoc, length-set, take_more, take_mor
 use Rattle.std.proofs.lemmas.Option.{get_or_from_slice_get, slice_get_within}
 use Rattle.sot_world.specs.HistoryRecords.{slots_filled, count_there}
 use Rattle.sot_world.proofs.Records.{filled_next, count_next}
-use Rattle.sot_world.proofs.drafted.append_draft.Goals as goal
+use Rattle.sot_world.proofs.drafted.append_slots.Goals as goal
 
 pub loop-i-preserved : goal.loop-i-preserved
 loop-i-preserved c =
