@@ -1,9 +1,12 @@
 -- Lines that are followed, one after another.
-use Rattle.std.proofs.Common.{◌≡◌, ◌∙◌, ℕ, suc, List, [], ◌∷◌, ◌++◌, length, refl, sym, ap, subst, arith, append_assoc, append-nil}
+use Rattle.std.proofs.Common.{◌≡◌, ◌∙◌, ℕ, suc, ◌+◌, List, [], ◌∷◌, ◌++◌, length, refl, sym, ap, subst, arith, append_assoc, append-nil}
+use Rattle.std.specs.Prelude.{sum_by}
 use Rattle.std.proofs.lemmas.List.{length-append}
+use Rattle.std.proofs.lemmas.List.Sums.{sum_by_push}
 use Rattle.sot_tube.specs.Admitted.{Admitted}
 use Rattle.sot_flight.specs.Plans.{Plan}
 use Rattle.sot_board.specs.Standing.{Standing, IsStanding}
+use Rattle.sot_trace.specs.Lines.{ticks_in, refused_in}
 use Rattle.sot_trace.specs.Words.{AreWords}
 use Rattle.sot_replay.specs.GoesOn.{IsTraceOf}
 use Rattle.sot_replay.specs.Tests.{IsFirstFailing}
@@ -11,6 +14,7 @@ use Rattle.sot_replay.specs.Replays.{Tell, IsRefusedAt}
 use Rattle.sot_replay.specs.Judges.{GoesBy, EndsBy}
 use Rattle.sot_replay.specs.Follows.{AreFollowed, HasFollowed, HasEnded, AreRefused}
 use Rattle.sot_replay.specs.declared.fail.LineKind.{LineKind}
+use Rattle.sot_replay.specs.declared.judged.Added.{Added}
 use Rattle.sot_replay.specs.declared.fail.LineKind.TheVariants.{Missing}
 use Rattle.sot_replay.proofs.Refusals.{refused_by_test, refused_as_short}
 use Rattle.sot_replay.proofs.LinesGoOn.{end_is_trace, told_more}
@@ -22,6 +26,18 @@ carried F a b f g same_a same_f x = subst (λ c. F c f) same_a (subst (λ h. F b
 -- one line more
 one_more : (told left more : List (List ℕ)) (line : List ℕ) → left ≡ line ∷ more → told ++ left ≡ (told ++ line ∷ []) ++ more
 one_more told left more line is = ap (λ l. told ++ l) is ∙ sym (append_assoc told (line ∷ []) more)
+
+-- the counts with what an entry adds are those of the history with the entry
+pub counts_more :
+    (old new : Standing) (line : List ℕ) (added : Added) → GoesBy old new line added → (ticks refused : ℕ) → ticks ≡ sum_by ticks_in old.entries → refused ≡ sum_by (refused_in old.accepted.program) old.entries
+    → (ticks + added.ticks ≡ sum_by ticks_in new.entries) × (refused + added.refused ≡ sum_by (refused_in new.accepted.program) new.entries)
+counts_more old new line added goes ticks refused ticks_is refused_is =
+    let p = old.accepted.program in
+    let t = sum_by_push ticks_in old.entries goes.entry in
+    let r = sum_by_push (refused_in p) old.entries goes.entry in (
+      omega (arith, ticks_is, goes.adds.0, t) ∙ sym (ap (sum_by ticks_in) goes.entries),
+      omega (arith, refused_is, goes.adds.1, r) ∙ sym (ap (sum_by (refused_in p)) goes.entries) ∙ sym (ap (λ (a : Admitted). sum_by (refused_in a.program) new.entries) goes.accepted),
+    )
 
 module _ (old : Standing) (lines : List (List ℕ)) (number : ℕ) where
   -- no line is followed at first
@@ -48,8 +64,8 @@ module _ (old : Standing) (lines : List (List ℕ)) (number : ℕ) where
     followed_more line more after is step = record { is = by.followed.is ∙ one_more by.told left more line is; next_is = omega (arith, step, by.followed.next_is, length-append by.told (line ∷ [])) }
 
     -- the flight goes on by the next line
-    pub followed_goes : (line : List ℕ) (more : List (List ℕ)) (after : ℕ) (new : Standing) → left ≡ line ∷ more → after ≡ suc next → GoesBy b new line → HasFollowed old new lines number more after
-    followed_goes line more after new is step goes = record {
+    pub followed_goes : (line : List ℕ) (more : List (List ℕ)) (after : ℕ) (new : Standing) (added : Added) → left ≡ line ∷ more → after ≡ suc next → GoesBy b new line added → HasFollowed old new lines number more after
+    followed_goes line more after new added is step goes = record {
       accepted = goes.accepted ∙ by.accepted;
       plan = goes.plan ∙ by.plan;
       told = by.told ++ line ∷ [];

@@ -9,6 +9,7 @@ pub mod FirstFailing
 pub mod SameEntry
 pub mod SpelledEntries
 pub mod Judging
+pub mod ReadOn
 pub mod Narrow
 pub mod Taken
 pub mod Decisions

@@ -1,23 +1,28 @@
 //! A line that spells the end.
 
-ghost use Rattle.std.specs.Prelude.{IfOk};
+ghost use Rattle.std.specs.Prelude.{◌≡◌, sum_by, IfOk};
+ghost use Rattle.sot_trace.specs.Lines.{ticks_in, refused_in};
 ghost use Rattle.sot_replay.specs.Judges.{IsJudged, SpellsEnd};
 
+use crate::counts::Counts;
 use crate::fail::LineKind;
 use crate::judged::Judged;
 use crate::now::is_now;
 use sot_board::Board;
-use sot_trace::put_last_line;
+use sot_trace::put_end_line;
 use std::alloc::AllocError;
 
-/// Judges a line that spells the end: it has to be the last line of the history, where the flight is at its end.
+/// Judges a line that spells the end: it has to be the last line of the history, of which these are the counts, where the flight is at its end.
 pub fn judge_end(
     board: &Board<'_>,
     line: &[u8],
     ticks: Option<i64>,
+    counts: Counts,
     scratch: &mut String,
 ) -> Result<Judged, AllocError>
-    requires { SpellsEnd board.now.accepted.program line.now ticks }
+    requires spelled { SpellsEnd board.now.accepted.program line.now ticks }
+    requires ticks { counts.ticks ≡ sum_by ticks_in board.now.entries }
+    requires refused { counts.refused ≡ sum_by (refused_in board.now.accepted.program) board.now.entries }
     ensures { IfOk result (IsJudged board.now board.now line.now) }
 {
     board.is_standing();
@@ -34,7 +39,8 @@ pub fn judge_end(
         return Ok(Judged::Fails(LineKind::TooFar));
     }
     scratch.clear();
-    put_last_line(scratch, board.typed(), board.history())?;
+    let events = board.history().len();
+    put_end_line(scratch, counts.ticks, events, counts.refused)?;
     if scratch.as_bytes() == line {
         Ok(Judged::Ends)
     } else {

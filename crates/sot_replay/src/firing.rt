@@ -1,22 +1,26 @@
 //! A line that spells a firing.
 
-ghost use Rattle.std.specs.Prelude.{◌≡◌, ℕ, ◌<◌, ℤ, List, Option, true, None, Some, length, MatchResult};
+ghost use Rattle.std.specs.Prelude.{◌≡◌, ℕ, ◌<◌, ℤ, List, Option, true, None, Some, length, MatchResult, IfOk};
 ghost use Rattle.sot_lists.specs.Places.{At};
 ghost use Rattle.sot_world.specs.Configurations.{is_left};
 ghost use Rattle.sot_world.specs.Events.{RefusesNode};
 ghost use Rattle.sot_flight.specs.Plans as plans;
 ghost use Rattle.sot_trace.specs.Words.{AreWords};
 ghost use Rattle.sot_board.specs.NodeSorts.{IsCodedNode, IsExternalNode};
-ghost use Rattle.sot_replay.specs.Judges.{IsJudged, SpellsFiring, SpellsFiringAt};
+ghost use Rattle.sot_spelled.specs.declared.line.Line.TheVariants.{Fire as IsFire};
+ghost use Rattle.sot_replay.specs.Judges.{IsJudged, BeginsAsFiring, FiresAt, SpellsFiringAt};
 
 use crate::entry_line::compare;
 use crate::fail::LineKind;
 use crate::judged::{Judged, kind_of};
 use crate::now::is_now;
 use crate::ranges::draft_has_64_bits;
+use crate::read_on::read_on;
 use sot_board::{Board, is_coded};
 use sot_lang::Draft;
+use sot_spelled::{Line, read_line};
 use sot_world::{Event, Why};
+use std::alloc::AllocError;
 
 // Whether a node can fire.
 fn can_fire(board: &Board<'_>, node: u32) -> Result<(), Why>
@@ -33,35 +37,51 @@ fn can_fire(board: &Board<'_>, node: u32) -> Result<(), Why>
 }
 
 // A coded node fires, and the line has to be that of its entry.
-fn judge_coded(board: &mut Board<'_>, line: &[u8], node: u32) -> Judged
+fn judge_coded(
+    board: &mut Board<'_>,
+    line: &[u8],
+    node: u32,
+    from: &mut usize,
+    numbers: &mut Vec<i64>,
+) -> Result<Judged, AllocError>
     requires words { AreWords board.old.accepted.program }
-    requires spelled { (draft : Option (List (Option ℤ))) × SpellsFiringAt board.old.accepted.program board.old.position.at.time line.now node draft }
+    requires fires { FiresAt board.old.accepted.program board.old.position.at.time line.now node }
     requires coded { IsCodedNode board.old.accepted.program node }
     requires left { is_left board.old.position.at node ≡ true }
-    ensures { IsJudged board.old board.new line.now result }
+    ensures { IfOk result (IsJudged board.old board.new line.now) }
 {
     board.is_standing();
+    let p = board.typed();
     board.fire(node);
-    compare(board, line)
+    let judged = compare(board, line);
+    read_on(p, line, judged, from, numbers)
 }
 
 // A node fires with the draft that the flight states, and the line has to be that of its entry.
-fn judge_stated(board: &mut Board<'_>, line: &[u8], node: u32) -> Judged
+fn judge_stated(
+    board: &mut Board<'_>,
+    line: &[u8],
+    node: u32,
+    from: &mut usize,
+    numbers: &mut Vec<i64>,
+) -> Result<Judged, AllocError>
     requires words { AreWords board.old.accepted.program }
-    requires spelled { (draft : Option (List (Option ℤ))) × SpellsFiringAt board.old.accepted.program board.old.position.at.time line.now node draft }
+    requires fires { FiresAt board.old.accepted.program board.old.position.at.time line.now node }
     requires external { IsExternalNode board.old.accepted.program node }
     requires no_guest { (i : ℕ) → At board.old.plan.crews node (plans.Guest i) → ⊥ }
     requires left { is_left board.old.position.at node ≡ true }
-    ensures { IsJudged board.old board.new line.now result }
+    ensures { IfOk result (IsJudged board.old board.new line.now) }
 {
     board.is_standing();
+    let p = board.typed();
     board.commit_stated(node);
-    compare(board, line)
+    let judged = compare(board, line);
+    read_on(p, line, judged, from, numbers)
 }
 
 // A guest's node fires with the draft of the line, and the line has to be that of its entry. No guest hands over a number of more
 // than 64 bits.
-fn judge_guest(board: &mut Board<'_>, line: &[u8], node: u32, draft: Option<Draft>) -> Judged
+fn judge_draft(board: &mut Board<'_>, line: &[u8], node: u32, draft: Option<Draft>) -> Judged
     requires words { AreWords board.old.accepted.program }
     requires spelled { SpellsFiringAt board.old.accepted.program board.old.position.at.time line.now node draft }
     requires guest { (i : ℕ) × At board.old.plan.crews node (plans.Guest i) }
@@ -79,31 +99,65 @@ fn judge_guest(board: &mut Board<'_>, line: &[u8], node: u32, draft: Option<Draf
     }
 }
 
-/// Judges a line that spells a firing: the node fires, by its code, with the draft that the flight states, or with a guest's draft as
-/// the line has it, and the line has to be that of its entry.
+// The draft of a line that was read as a firing's.
+fn draft_of(read: Line) -> Option<Draft>
+    requires { (time : Option ℤ) × (node : ℕ) × (draft : Option (List (Option ℤ))) × (read ≡ IsFire time node draft) }
+    ensures { (time : Option ℤ) (node : ℕ) (draft : Option (List (Option ℤ))) → read ≡ IsFire time node draft → result ≡ draft }
+{
+    match read {
+        Line::Fire { draft, .. } => draft,
+        _ => unreachable!(),
+    }
+}
+
+// The line is read to its end for its draft.
+fn judge_guest(
+    board: &mut Board<'_>,
+    line: &[u8],
+    node: u32,
+    from: &mut usize,
+    numbers: &mut Vec<i64>,
+) -> Result<Judged, AllocError>
+    requires words { AreWords board.old.accepted.program }
+    requires fires { FiresAt board.old.accepted.program board.old.position.at.time line.now node }
+    requires guest { (i : ℕ) × At board.old.plan.crews node (plans.Guest i) }
+    requires left { is_left board.old.position.at node ≡ true }
+    ensures { IfOk result (IsJudged board.old board.new line.now) }
+{
+    let Some(read) = read_line(board.typed(), line, from, numbers)? else {
+        return Ok(Judged::Fails(LineKind::NotALine));
+    };
+    Ok(judge_draft(board, line, node, draft_of(read)))
+}
+
+/// Judges a line that begins as a firing does: the node fires, by its code, with the draft that the flight states, or with a guest's
+/// draft as the line has it, and the line has to be that of its entry. It is read to its end only for a guest's draft, and where a test
+/// fails.
 pub fn judge_firing(
     board: &mut Board<'_>,
     line: &[u8],
     time: Option<i64>,
     node: u32,
-    draft: Option<Draft>,
-) -> Judged
+    from: &mut usize,
+    numbers: &mut Vec<i64>,
+) -> Result<Judged, AllocError>
     requires words { AreWords board.old.accepted.program }
-    requires spelled { SpellsFiring board.old.accepted.program line.now time node draft }
-    ensures { IsJudged board.old board.new line.now result }
+    requires begins { BeginsAsFiring board.old.accepted.program line.now time node }
+    ensures { IfOk result (IsJudged board.old board.new line.now) }
 {
     board.is_standing();
+    let p = board.typed();
     if !is_now(time, board.time()) {
-        return Judged::Fails(LineKind::WrongTime);
+        return read_on(p, line, Judged::Fails(LineKind::WrongTime), from, numbers);
     }
     if let Err(why) = can_fire(board, node) {
-        return Judged::Fails(kind_of(why));
+        return read_on(p, line, Judged::Fails(kind_of(why)), from, numbers);
     }
-    if is_coded(board.typed(), node) {
-        return judge_coded(board, line, node);
+    if is_coded(p, node) {
+        return judge_coded(board, line, node, from, numbers);
     }
     match board.flight().guest(node) {
-        Some(_) => judge_guest(board, line, node, draft),
-        None => judge_stated(board, line, node),
+        Some(_) => judge_guest(board, line, node, from, numbers),
+        None => judge_stated(board, line, node, from, numbers),
     }
 }

@@ -1,9 +1,12 @@
 //! A line behind the start lines.
 
-ghost use Rattle.std.specs.Prelude.{IfOk};
+ghost use Rattle.std.specs.Prelude.{◌≡◌, sum_by, Some, IfOk};
+ghost use Rattle.sot_trace.specs.Lines.{ticks_in, refused_in};
 ghost use Rattle.sot_trace.specs.Words.{AreWords};
+ghost use Rattle.sot_spelled.specs.Shown.{AnswersLine};
 ghost use Rattle.sot_replay.specs.Judges.{IsJudged};
 
+use crate::counts::Counts;
 use crate::decision::judge_decision;
 use crate::end::judge_end;
 use crate::fail::LineKind;
@@ -12,31 +15,61 @@ use crate::input::judge_input;
 use crate::judged::Judged;
 use crate::tick::judge_tick;
 use sot_board::Board;
-use sot_spelled::{Line, read_line};
+use sot_spelled::{Front, Line, read_front};
 use std::alloc::AllocError;
 
-/// Judges a line where a flight stands: the first test that it does not pass, or the flight goes on by it, or it is the last one at
-/// the flight's end. What it names is looked for from a place on first.
-pub fn judge(
+// Judges a line that was read to its end.
+fn judge_whole(
     board: &mut Board<'_>,
     line: &[u8],
+    read: Line,
     from: &mut usize,
+    counts: Counts,
     scratch: &mut String,
     numbers: &mut Vec<i64>,
 ) -> Result<Judged, AllocError>
-    requires { AreWords board.old.accepted.program }
+    requires words { AreWords board.old.accepted.program }
+    requires read { AnswersLine board.old.accepted.program line.now numbers.old.items (Some read) }
+    requires ticks { counts.ticks ≡ sum_by ticks_in board.old.entries }
+    requires refused { counts.refused ≡ sum_by (refused_in board.old.accepted.program) board.old.entries }
     ensures { IfOk result (IsJudged board.old board.new line.now) }
 {
-    let Some(read) = read_line(board.typed(), line, from, numbers)? else {
-        return Ok(Judged::Fails(LineKind::NotALine));
-    };
+    board.is_standing();
     match read {
         Line::Input { time, topic, whole } => {
             Ok(judge_input(board, line, time, topic, whole, numbers))
         }
-        Line::Fire { time, node, draft } => Ok(judge_firing(board, line, time, node, draft)),
+        Line::Fire { time, node, .. } => judge_firing(board, line, time, node, from, numbers),
         Line::Decide { time, module } => Ok(judge_decision(board, line, time, module)),
         Line::Tick { time, whole } => Ok(judge_tick(board, line, time, whole, numbers)),
-        Line::End { ticks } => judge_end(board, line, ticks, scratch),
+        Line::End { ticks } => judge_end(board, line, ticks, counts, scratch),
+    }
+}
+
+/// Judges a line where a flight stands: the first test that it does not pass, or the flight goes on by it, or it is the last one at
+/// the flight's end. What it names is looked for from a place on first. The counts are those of the
+/// history so far.
+pub fn judge(
+    board: &mut Board<'_>,
+    line: &[u8],
+    from: &mut usize,
+    counts: Counts,
+    scratch: &mut String,
+    numbers: &mut Vec<i64>,
+) -> Result<Judged, AllocError>
+    requires words { AreWords board.old.accepted.program }
+    requires ticks { counts.ticks ≡ sum_by ticks_in board.old.entries }
+    requires refused { counts.refused ≡ sum_by (refused_in board.old.accepted.program) board.old.entries }
+    ensures { IfOk result (IsJudged board.old board.new line.now) }
+{
+    match read_front(board.typed(), line, from, numbers) {
+        Ok(Some(Front::Firing { time, node })) => {
+            judge_firing(board, line, time, node, from, numbers)
+        }
+        Ok(Some(Front::Whole(read))) => {
+            judge_whole(board, line, read, from, counts, scratch, numbers)
+        }
+        Ok(None) => Ok(Judged::Fails(LineKind::NotALine)),
+        Err(error) => Err(error),
     }
 }

@@ -3,6 +3,7 @@
 //! [`replay`] flies a board along the lines: each is read, tested, and compared with the line of the entry that the board then has.
 #![tactic(auto)]
 
+mod counts;
 mod decision;
 mod end;
 mod entry_line;
@@ -18,6 +19,7 @@ mod missing;
 mod now;
 mod opening;
 mod ranges;
+mod read_on;
 mod tick;
 mod whole;
 

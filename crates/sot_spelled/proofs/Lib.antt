@@ -14,5 +14,6 @@ pub mod KeptMoves
 pub mod KeptSlots
 pub mod KeptNumbers
 pub mod ShownLines
+pub mod Fronts
 pub mod Entries
 pub mod StartLines

@@ -139,7 +139,7 @@ value_is t k info text rest outside is = cond-true info.outside (behind (codes "
 abbrev pub fire_of : Tables → Bool → ℕ → List ℕ × List ℕ → Option Spelled
 fire_of p enabled t w = node_named p w.0 >>= λ n. slots_at p (writes_of p n) w.1 >>= λ d. at_end (FireLine t n enabled d.0) d.1
 
-fire_is : (p : Tables) (enabled : Bool) (t n : ℕ) (name rest : List ℕ) (w : List ℕ × List ℕ) → w ≡ (name, rest) → node_named p name ≡ Some n
+pub fire_is : (p : Tables) (enabled : Bool) (t n : ℕ) (name rest : List ℕ) (w : List ℕ × List ℕ) → w ≡ (name, rest) → node_named p name ≡ Some n
     → fire_of p enabled t w ≡ (slots_at p (writes_of p n) rest >>= λ d. at_end (FireLine t n enabled d.0) d.1)
 fire_is p enabled t n name rest w word named =
     ap (fire_of p enabled t) word

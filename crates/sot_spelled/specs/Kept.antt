@@ -1,8 +1,11 @@
 -- What is kept of numbers that are read: those of 64 bits, and whether all of them are.
-use Rattle.std.specs.Prelude.{ℕ, suc, ◌^◌, ℤ, pos, negsuc, List, [], ◌∷◌, ◌++◌, Bool, false, nat_lt, if◌then◌else◌, Option, Some, None, slice_set}
+use Rattle.std.specs.Prelude.{ℕ, suc, ◌<◌, ◌≡◌, length, ◌^◌, ℤ, pos, negsuc, List, [], ◌∷◌, ◌++◌, Bool, false, nat_lt, if◌then◌else◌, Option, Some, None, slice_set}
+use Rattle.sot_lang.specs.Tables.{Tables}
 use Rattle.sot_spelled.specs.declared.line.Line.{Line}
+use Rattle.sot_spelled.specs.declared.line.Front.{Front}
+use Rattle.sot_spelled.specs.declared.line.Front.TheVariants.{Firing, Whole}
 use Rattle.sot_spelled.specs.Spelled.{Spelled}
-use Rattle.sot_spelled.specs.Shown.{Shows}
+use Rattle.sot_spelled.specs.Shown.{Shows, BeginsFiring}
 
 -- the number, if it has 64 bits
 abbrev pub bounded : ℤ → Option ℤ
@@ -80,3 +83,9 @@ ShowsRead list (Some l) (Some s) = Shows l list s
 ShowsRead list None None = Unit {0}
 ShowsRead list (Some l) None = ⊥
 ShowsRead list None (Some s) = ⊥
+
+-- what is looked at of the front of a line, of what was read of the line, if anything was
+abbrev pub ShowsFront : Tables → List ℤ → Option Front → Option Spelled → Type 0
+ShowsFront p list None o = ShowsRead list None o
+ShowsFront p list (Some (Firing time node)) o = (node < length p.nodes) × ((s : Spelled) → o ≡ Some s → BeginsFiring time node s)
+ShowsFront p list (Some (Whole l)) o = ShowsRead list (Some l) o

@@ -1,5 +1,5 @@
 -- What is looked at of a line of a trace: numbers of at most 64 bits, and of larger ones that they are larger.
-use Rattle.std.specs.Prelude.{ℕ, ◌≡◌, ℤ, pos, Bool, true, false, List, map, Option, Some, None}
+use Rattle.std.specs.Prelude.{ℕ, ◌<◌, ◌≡◌, ℤ, pos, Bool, true, false, List, map, length, Option, Some, None}
 use Rattle.std.specs.Option.{option_map}
 use Rattle.sot_lists.specs.Places.{Has}
 use Rattle.sot_code.specs.Recorded.{in_slots}
@@ -8,6 +8,8 @@ use Rattle.sot_lang.specs.Tables.{Tables}
 use Rattle.sot_spelled.specs.Spelled.{Spelled, IsSpelled, InputLine, FireLine, DecideLine, TickLine, EndLine}
 use Rattle.sot_spelled.specs.declared.line.Line.{Line}
 use Rattle.sot_spelled.specs.declared.line.Line.TheVariants.{Input, Fire, Decide, Tick, End}
+use Rattle.sot_spelled.specs.declared.line.Front.{Front}
+use Rattle.sot_spelled.specs.declared.line.Front.TheVariants.{Firing, Whole}
 
 -- the number, or nothing where it has more than 64 bits
 abbrev pub Reads : Option ℤ → ℤ → Type 0
@@ -36,3 +38,13 @@ Shows (End ticks) list s = (h : ℕ) × (events : ℕ) × (refused : ℕ) × (s 
 abbrev pub AnswersLine : Tables → List ℕ → List ℤ → Option Line → Type 0
 AnswersLine p line list (Some l) = (s : Spelled) × IsSpelled p line s × Shows l list s
 AnswersLine p line list None = (s : Spelled) → IsSpelled p line s → ⊥
+
+-- a firing of this node at this time
+abbrev pub BeginsFiring : Option ℤ → ℕ → Spelled → Type 0
+BeginsFiring time node s = (t : ℕ) × (enabled : Bool) × (slots : List (Option (Bool × ℤ))) × (s ≡ FireLine t node enabled slots) × Reads time (pos t)
+
+-- the answer for the front of a line: what it spells can only be such a firing; or what is looked at of the whole line
+abbrev pub AnswersFront : Tables → List ℕ → List ℤ → Option Front → Type 0
+AnswersFront p line list None = AnswersLine p line list None
+AnswersFront p line list (Some (Firing time node)) = (node < length p.nodes) × ((s : Spelled) → IsSpelled p line s → BeginsFiring time node s)
+AnswersFront p line list (Some (Whole l)) = AnswersLine p line list (Some l)

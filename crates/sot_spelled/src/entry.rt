@@ -39,6 +39,7 @@ fn behind_longer(number: i64, text: &[u8]) -> Option<&[u8]>
     }
 }
 
+#[inline(always)]
 fn behind_number(number: i64, text: &[u8]) -> Option<&[u8]>
     ensures { option_map (λ rest. rest.now) result ≡ behind (signed_numeral number) text.now }
 {
@@ -58,6 +59,7 @@ fn behind_further<'a>(more: &[i64], text: &'a [u8]) -> Option<&'a [u8]>
     Some(rest)
 }
 
+#[inline(always)]
 fn behind_numbers<'a>(all: &[i64], text: &'a [u8]) -> Option<&'a [u8]>
     ensures { option_map (λ rest. rest.now) result ≡ behind_numbers all.now text.now }
 {

@@ -31,3 +31,13 @@ pub enum Line {
         ticks: Option<i64>,
     },
 }
+
+/// What is looked at first of a line behind the start lines.
+#[derive(Clone, Copy)]
+pub enum Front {
+    /// It can be spelled only as a firing of this node at this time, enabled or not. What stands behind the node's name has not been
+    /// looked at.
+    Firing { time: Option<i64>, node: u32 },
+    /// Any other line, to its end.
+    Whole(Line),
+}

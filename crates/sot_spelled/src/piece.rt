@@ -124,6 +124,7 @@ fn begins_otherwise(text: &[u8]) -> bool
 }
 
 // A numeral of one digit, as most are.
+#[inline(always)]
 fn one_digit_at<'a>(text: &'a [u8]) -> Option<OneDigit<'a>>
     ensures read { IfSome result (λ one. numeral_at text.now ≡ Some (one.digit, one.rest.now)) }
     ensures small { IfSome result (λ one. one.digit < 10) }
@@ -138,7 +139,8 @@ fn one_digit_at<'a>(text: &'a [u8]) -> Option<OneDigit<'a>>
     }
 }
 
-/// A number from 0 on.
+/// A number from 0 on. It is inlined, with those that call it, since most numbers have one digit.
+#[inline(always)]
 pub fn numeral_at<'a>(text: &'a [u8]) -> Option<Number<'a>>
     ensures { option_map (λ n. (n.value, n.rest.now)) result ≡ kept_numeral (numeral_at text.now) }
 {
@@ -201,6 +203,7 @@ fn longer_negative_at<'a>(text: &'a [u8]) -> Option<Number<'a>>
 }
 
 /// A number, behind a `-` where it is below 0.
+#[inline(always)]
 pub fn number_at<'a>(text: &'a [u8]) -> Option<Number<'a>>
     ensures { option_map (λ n. (n.value, n.rest.now)) result ≡ kept_number (number_at text.now) }
 {

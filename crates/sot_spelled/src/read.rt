@@ -130,8 +130,8 @@ fn read_tick(
     }))
 }
 
-// The counts of the last line.
-fn read_counts(text: &[u8]) -> Option<Line>
+/// The counts of the last line.
+pub(crate) fn read_counts(text: &[u8]) -> Option<Line>
     ensures { (list : List ℤ) → ShowsRead list result (counts_at text.now) }
 {
     let ticks = numeral_at(text)?;
@@ -143,8 +143,8 @@ fn read_counts(text: &[u8]) -> Option<Line>
     Some(Line::End { ticks: ticks.value })
 }
 
-// What stands behind the time.
-fn read_event(
+/// What stands behind the time.
+pub(crate) fn read_event(
     p: &Typed,
     time: Option<i64>,
     text: &[u8],

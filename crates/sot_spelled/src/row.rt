@@ -53,6 +53,7 @@ fn further_at<'a>(
 }
 
 /// So many numbers with a comma between two, put behind those of the list as far as they have 64 bits.
+#[inline(always)]
 pub fn row_at<'a>(
     count: usize,
     text: &'a [u8],
@@ -83,6 +84,7 @@ fn skip_further<'a>(count: usize, text: &'a [u8]) -> Option<&'a [u8]>
 }
 
 /// The text behind so many numbers with a comma between two.
+#[inline(always)]
 pub fn skip_row<'a>(count: usize, text: &'a [u8]) -> Option<&'a [u8]>
     ensures { option_map (λ rest. rest.now) result ≡ rest_of (row_at count text.now) }
 {

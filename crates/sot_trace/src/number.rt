@@ -60,7 +60,8 @@ fn put_longer(out: &mut String, number: i64) -> Result<(), AllocError>
     }
 }
 
-/// A number in decimal, behind a `-` where it is below 0.
+/// A number in decimal, behind a `-` where it is below 0. It is inlined, since most numbers have one digit.
+#[inline(always)]
 pub fn put_number(out: &mut String, number: i64) -> Result<(), AllocError>
     ensures { OnOk result (string_bytes out.new ≡ string_bytes out.old ++ signed_numeral number) }
 {

@@ -43,8 +43,9 @@ fn put_entries(out: &mut String, p: &Typed, history: &History) -> Result<Counts,
     Ok(counts)
 }
 
-// The last line, without its line end.
-fn put_counts(
+/// The last line of a history with these counts, without its line end: of ticks, of entries, and of numbers outside their
+/// scalars' ranges.
+pub fn put_end_line(
     out: &mut String,
     ticks: usize,
     events: usize,
@@ -64,7 +65,7 @@ fn put_counts(
 fn put_end(out: &mut String, ticks: usize, events: usize, refused: u128) -> Result<(), AllocError>
     ensures { OnOk result (string_bytes out.new ≡ string_bytes out.old ++ (end_line ticks events refused ++ codes "\n")) }
 {
-    put_counts(out, ticks, events, refused)?;
+    put_end_line(out, ticks, events, refused)?;
     out.push_str("\n")
 }
 
@@ -92,7 +93,7 @@ pub fn put_last_line(out: &mut String, p: &Typed, history: &History) -> Result<(
     ensures { OnOk result (string_bytes out.new ≡ string_bytes out.old ++ last_line p.now history.now.entries) }
 {
     let counts = count_entries(p, history);
-    put_counts(out, counts.ticks, history.len(), counts.refused)
+    put_end_line(out, counts.ticks, history.len(), counts.refused)
 }
 
 /// The trace of a history from these points, one for each plant.
@@ -116,5 +117,6 @@ pub fn trace_text(
     Ok(out)
 }
 
-// About how long a line is. The text grows past it where lines are longer.
-const LINE: usize = 24;
+// Room for a line, more than most need, so that the text is seldom moved. Where pages are handed out when they are first
+// touched, what is never written takes up none.
+const LINE: usize = 48;

@@ -6,7 +6,6 @@ use Rattle.sot_world.specs.Configurations.{Configuration, is_left_dm}
 use Rattle.sot_world.specs.Events.{RefusesDecision}
 use Rattle.sot_world.specs.HistoryEntry.{DecideAt}
 use Rattle.sot_world.specs.Steps.{Decide}
-use Rattle.sot_trace.specs.Lines.{line_of}
 use Rattle.sot_spelled.specs.Spelled.{DecideLine}
 use Rattle.sot_replay.specs.declared.fail.LineKind.{LineKind}
 use Rattle.sot_replay.specs.Tests.{IsFirstFailing}
@@ -47,6 +46,6 @@ returns c =
     let left : is_left_dm b.position.at m ≡ true = subst (λ (C : Configuration). is_left_dm C m ≡ true) c.world.ensures.at c.in_default.ensures in
     let entry = DecideAt b.position.at.time m c.decide.result in
     judged b new (Decide m) entry line c.compare.result logs (decision_handed b.plan b.position.at.time m c.decide.result)
-    (subst (λ (x : Admitted). IsCompared c.compare.result (line ≡ line_of x.program entry)) logs.accepted (c.compare.ensures b.entries entry logs.entries))
+    (subst (λ (x : Admitted). IsCompared x.program entry line c.compare.result) logs.accepted (c.compare.ensures b.entries entry logs.entries))
     (λ not. differs b.accepted.program b.accepted.cert.jitter b.plan b.entries b.position line (DecideLine t m mode) spelled time (decision_taken b c.is_standing.ensures m a.0 a.1 left) (λ none. none) (λ none. none)
     (λ given. not (decision_line b c.is_standing.ensures c.requires.words line t m mode spelled new entry logs given)))

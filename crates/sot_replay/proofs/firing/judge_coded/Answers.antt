@@ -1,12 +1,13 @@
-use Rattle.std.proofs.Common.{◌≡◌, refl, subst}
+use Rattle.std.proofs.Common.{refl, subst}
+use Rattle.std.specs.Prelude.{IfOk}
+use Rattle.sot_lang.specs.Tables.{Tables}
 use Rattle.sot_tube.specs.Admitted.{Admitted}
 use Rattle.sot_world.specs.HistoryEntry.{FireAt}
 use Rattle.sot_world.specs.Steps.{Code}
-use Rattle.sot_trace.specs.Lines.{line_of}
-use Rattle.sot_spelled.specs.Spelled.{FireLine}
-use Rattle.sot_replay.specs.Judges.{IsCompared}
+use Rattle.sot_spelled.specs.Spelled.{FireLine, IsSpelled}
+use Rattle.sot_replay.specs.Judges.{IsCompared, IsReadOn}
 use Rattle.sot_replay.proofs.FirstFailing.{differs}
-use Rattle.sot_replay.proofs.Judging.{judged}
+use Rattle.sot_replay.proofs.ReadOn.{read_judged}
 use Rattle.sot_replay.proofs.Taken.{node_taken}
 use Rattle.sot_replay.proofs.Firings.{own_handed, coded_no_guest, code_line}
 use Rattle.sot_replay.proofs.firing.judge_coded.Goals as goal
@@ -18,11 +19,14 @@ returns c =
     let new = c.fire.new.self in
     let n = c.args.node in
     let line = c.args.line.now in
-    let (on, slots, spelled, shows) = c.requires.spelled.1 in
     let (info, acts, at, coded) = c.requires.coded in
     let logs = c.fire.ensures.logs in
     let entry = FireAt b.position.at.time n c.fire.result.draft c.fire.ensures.enabled in
-    judged b new (Code n) entry line c.compare.result logs (own_handed b.plan b.position.at.time n c.fire.result.draft c.fire.ensures.enabled (coded_no_guest b s n info acts at coded))
-    (subst (λ (x : Admitted). IsCompared c.compare.result (line ≡ line_of x.program entry)) logs.accepted (c.compare.ensures b.entries entry logs.entries))
-    (λ not. differs b.accepted.program b.accepted.cert.jitter b.plan b.entries b.position line (FireLine b.position.at.time n on slots) spelled refl (node_taken b s n info at c.requires.left) (λ none. none) (λ none. none)
+    read_judged b new line c.read_on.result (Code n) entry c.compare-judged.result logs (own_handed b.plan b.position.at.time n c.fire.result.draft c.fire.ensures.enabled (coded_no_guest b s n info acts at coded))
+    (subst (λ (x : Admitted). IsCompared x.program entry line c.compare-judged.result) logs.accepted (c.compare-judged.ensures b.entries entry logs.entries))
+    (subst (λ (p : Tables). IfOk c.read_on.result (λ k. IsReadOn p line c.compare-judged.result k)) c.typed-p.ensures c.read_on.ensures)
+    (λ not x spells.
+    let (on, slots, is) = c.requires.fires x spells in
+    let spelled = subst (IsSpelled b.accepted.program line) is spells in
+    differs b.accepted.program b.accepted.cert.jitter b.plan b.entries b.position line (FireLine b.position.at.time n on slots) spelled refl (node_taken b s n info at c.requires.left) (λ none. none) (λ none. none)
     (λ given. not (code_line b s c.requires.words line b.position.at.time n on slots spelled info acts at coded new entry logs given)))

@@ -2,7 +2,6 @@ use Rattle.std.proofs.Common.{◌≡◌, ◌∙◌, sym, subst}
 use Rattle.std.proofs.lemmas.Bool.{both_ways}
 use Rattle.sot_tube.specs.Admitted.{Admitted}
 use Rattle.sot_world.specs.Steps.{Input}
-use Rattle.sot_trace.specs.Lines.{line_of}
 use Rattle.sot_spelled.specs.Spelled.{InputLine}
 use Rattle.sot_replay.specs.declared.fail.LineKind.{LineKind}
 use Rattle.sot_replay.specs.Tests.{IsFirstFailing}
@@ -50,6 +49,6 @@ returns c =
     let typed = c.in_default.ensures info value at size holds in
     let (k, kept, entry, logs) = c.input.ensures in
     judged b new (Input k kept) entry line c.compare.result logs (logged_handed b new k kept entry logs)
-    (subst (λ (x : Admitted). IsCompared c.compare.result (line ≡ line_of x.program entry)) logs.accepted (c.compare.ensures b.entries entry logs.entries))
+    (subst (λ (x : Admitted). IsCompared x.program entry line c.compare.result) logs.accepted (c.compare.ensures b.entries entry logs.entries))
     (λ not. differs b.accepted.program b.accepted.cert.jitter b.plan b.entries b.position line (InputLine t c.args.topic value) spelled time (input_taken b.accepted.program c.args.topic value typed) (λ none. none) (λ none. none)
     (λ given. not (input_line b c.is_standing.ensures c.requires.words line t c.args.topic value spelled new k kept entry logs given)))

@@ -5,7 +5,6 @@ use Rattle.sot_world.specs.Steps.{Tick}
 use Rattle.sot_flight.specs.Plans.{Plan}
 use Rattle.sot_flight.specs.Stated.{stated_noise}
 use Rattle.sot_board.proofs.InputsDue.{no_input_due, input_not_due}
-use Rattle.sot_trace.specs.Lines.{line_of}
 use Rattle.sot_spelled.specs.Spelled.{TickLine}
 use Rattle.sot_replay.specs.declared.fail.LineKind.{LineKind}
 use Rattle.sot_replay.specs.Tests.{IsFirstFailing}
@@ -68,6 +67,6 @@ returns c =
     let horizon : c.horizon.result ≡ b.plan.horizon = c.horizon.ensures ∙ ap (λ (f : Plan). f.horizon) c.flight.ensures in
     let (entry, logs) = c.tick.ensures in
     judged b new (Tick (stated_noise b.accepted.program b.plan b.position.at.time)) entry line c.compare.result logs (logged_handed b new _ entry logs)
-    (subst (λ (a : Admitted). IsCompared c.compare.result (line ≡ line_of a.program entry)) logs.accepted (c.compare.ensures b.entries entry logs.entries))
+    (subst (λ (a : Admitted). IsCompared a.program entry line c.compare.result) logs.accepted (c.compare.ensures b.entries entry logs.entries))
     (λ not. differs b.accepted.program b.accepted.cert.jitter b.plan b.entries b.position line (TickLine t w x) spelled time (tick_taken b.accepted.program b.accepted.cert.jitter b.position.at w may) (λ left. left none) (λ far. omega (arith, far, c.if-time-horizon.false, horizon, c.time-2.ensures))
     (λ given. not (tick_line b c.is_standing.ensures c.requires.words line t w x spelled new entry logs given)))

@@ -1,10 +1,9 @@
-use Rattle.std.proofs.Common.{◌≡◌, ℤ, List, Option, refl, take, subst}
+use Rattle.std.proofs.Common.{ℤ, List, Option, refl, take, subst}
 use Rattle.sot_tube.specs.Admitted.{Admitted}
 use Rattle.sot_world.specs.Events.{slot_count}
 use Rattle.sot_world.specs.HistoryEntry.{FireAt}
 use Rattle.sot_world.specs.Steps.{Guest}
 use Rattle.sot_board.proofs.Crews.{guest_external}
-use Rattle.sot_trace.specs.Lines.{line_of}
 use Rattle.sot_spelled.specs.Spelled.{FireLine}
 use Rattle.sot_spelled.specs.Shown.{ShowsDraft}
 use Rattle.sot_replay.specs.Judges.{IsCompared}
@@ -12,7 +11,7 @@ use Rattle.sot_replay.proofs.FirstFailing.{differs}
 use Rattle.sot_replay.proofs.Judging.{judged}
 use Rattle.sot_replay.proofs.Taken.{node_taken}
 use Rattle.sot_replay.proofs.Firings.{guest_handed, guest_line, no_wide_draft}
-use Rattle.sot_replay.proofs.firing.judge_guest.Goals as goal
+use Rattle.sot_replay.proofs.firing.judge_draft.Goals as goal
 
 pub returns-in-None : goal.returns-in-None
 returns-in-None c =
@@ -41,6 +40,6 @@ returns-in-Some c =
     let fires = c.commit_guest-receipt.ensures in
     let entry = FireAt b.position.at.time n c.commit_guest-receipt.result.draft fires.enabled in
     judged b new event entry line c.compare.result fires.logs (guest_handed b s new n (take (slot_count b.accepted.program n) draft) c.commit_guest-receipt.result.draft fires.enabled fires.logs c.draft_has_64_bits.ensures)
-    (subst (λ (x : Admitted). IsCompared c.compare.result (line ≡ line_of x.program entry)) fires.logs.accepted (c.compare.ensures b.entries entry fires.logs.entries))
+    (subst (λ (x : Admitted). IsCompared x.program entry line c.compare.result) fires.logs.accepted (c.compare.ensures b.entries entry fires.logs.entries))
     (λ not. differs b.accepted.program b.accepted.cert.jitter b.plan b.entries b.position line (FireLine b.position.at.time n on slots) spelled refl (node_taken b s n info at c.requires.left) (λ none. none) (λ none. none)
     (λ given. not (guest_line b s c.requires.words line b.position.at.time n on slots spelled info at external draft shown new entry fires.logs given)))
