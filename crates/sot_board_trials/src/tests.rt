@@ -8,6 +8,7 @@ mod kinds;
 mod parts;
 mod steps;
 
+use sot_ports::Process;
 use sot_report::{Loaded, load};
 use sot_text::Need;
 use std::alloc::{AllocError, Global};
@@ -60,7 +61,7 @@ fn loaded<'t>(rt: &impl Abort, alloc: Global, text: &'t str) -> Loaded<'t>
     if text.len() > LONGEST {
         panic!(rt; "a text that is too long");
     }
-    match load(alloc, text.as_bytes(), Need::Fly, 1) {
+    match load(alloc, text.as_bytes(), Need::Fly, 1, Process::GoesOn) {
         Ok(loaded) => loaded,
         Err(_) => panic!(rt; "no mission: {text}"),
     }

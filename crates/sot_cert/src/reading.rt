@@ -18,6 +18,7 @@ use crate::value::{
 use serde_json::{Map, Value};
 use sot_box::Region;
 use sot_lang::{Cells, Cert, PlantInfo, Typed};
+use sot_ports::{Process, let_go};
 use std::alloc::Global;
 
 #[tactic(auto, unfolding(crate::specs::Json::at), using(crate::proofs::Parts::found_there, crate::proofs::Parts::lacking))]
@@ -282,11 +283,14 @@ fn cert_in(alloc: Global, p: &Typed, value: &Value) -> Result<Cert, JsonFail>
 }
 
 /// The certificate that the bytes say, with an entry or none for each module of the program in declared order, or their
-/// first fault in the order of the format. A module without an entry is no fault.
-pub fn read_cert(alloc: Global, p: &Typed, bytes: &[u8]) -> Result<Cert, CertFail>
+/// first fault in the order of the format. A module without an entry is no fault. What was read of the format is let go, unless the
+/// process ends.
+pub fn read_cert(alloc: Global, p: &Typed, bytes: &[u8], process: Process) -> Result<Cert, CertFail>
     ensures says { Gives contents result (cert_of p.now bytes.now) }
     ensures fits { IfOk result (λ c. FitsTables p.now c) }
 {
     let value = value_of(alloc, bytes)?;
-    cert_in(alloc, p, &value)
+    let cert = cert_in(alloc, p, &value);
+    let_go(value, process);
+    cert
 }

@@ -8,6 +8,7 @@ mod readers;
 use sot_box::{BoxN, Region};
 use sot_cert::{CertFail, read_cert};
 use sot_lang::{Cert, Typed};
+use sot_ports::Process;
 use sot_worked::{line, pair};
 use std::alloc::{AllocError, Global};
 use std::fmt::Debug;
@@ -75,7 +76,7 @@ fn cert_text(alloc: Global, cert: &Cert) -> Result<String, AllocError> {
 
 // What the bytes say, or the path and kind of their first fault, as they are printed.
 fn said(rt: &impl Abort, alloc: Global, p: &Typed, bytes: &[u8]) -> String {
-    match read_cert(alloc, p, bytes) {
+    match read_cert(alloc, p, bytes, Process::GoesOn) {
         Ok(cert) => cert_text(alloc, &cert).expect(rt, "memory"),
         Err(CertFail::Memory) => panic!(rt; "memory"),
         Err(CertFail::Fault(fault)) => {

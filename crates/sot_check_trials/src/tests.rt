@@ -9,7 +9,7 @@ mod ticks;
 mod traps;
 
 use sot_commands::soter;
-use sot_ports::{MemSink, PureSource};
+use sot_ports::{MemSink, Process, PureSource};
 use sot_shift::Controller;
 use std::alloc::{AllocError, Global};
 use std::process::Abort;
@@ -136,7 +136,15 @@ fn answer(
     let mut source = PureSource::new(Vec::from_slice(alloc, text.as_bytes()).expect(rt, "memory"));
     let mut sink = MemSink::new(alloc, 100, 100, Vec::new(alloc)).expect(rt, "memory");
     let mut guests: Vec<Box<dyn Controller + Send>> = Vec::new(alloc);
-    let ended = soter(rt, alloc, &words, &mut guests, &mut source, &mut sink);
+    let ended = soter(
+        rt,
+        alloc,
+        &words,
+        &mut guests,
+        &mut source,
+        &mut sink,
+        Process::Ends,
+    );
     let said = str::from_utf8(sink.bytes()).expect(rt, "memory");
     format!(in alloc; "{} {said}", ended.0).expect(rt, "memory")
 }

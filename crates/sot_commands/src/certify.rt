@@ -15,6 +15,7 @@ use sot_certify::{CertifyFail, certify as certificate};
 use sot_compose::{CheckFail, check_all};
 use sot_lang::{Cert, Typed};
 use sot_parser::{ParseFail, parse};
+use sot_ports::{Process, let_go};
 use sot_report::{Fault, LoadFail, load};
 use sot_rules::TypeFail;
 use sot_text::{Lexer, Need};
@@ -29,7 +30,7 @@ fn read_back<R: Threads + Sync>(rt: &R, alloc: Global, text: &[u8]) -> Result<()
     requires written { IsWritten text.now }
     ensures { OnOk result (SpellsAccepted text.now) }
 {
-    match load(alloc, text, Need::Check, 0) {
+    match load(alloc, text, Need::Check, 0, Process::GoesOn) {
         Ok(loaded) => match check_all(rt, &loaded.program, &loaded.cert) {
             Ok(_accepted) => Ok(()),
             Err(CheckFail::Refused(_)) => unreachable!(),
@@ -98,12 +99,21 @@ fn certify_tree<R: Threads + Sync>(
 }
 
 /// Reads a program, makes its certificate, and says both as a mission.
-pub fn certify<R: Threads + Sync>(rt: &R, alloc: Global, bytes: &[u8]) -> Result<Answer, AllocError>
+pub fn certify<R: Threads + Sync>(
+    rt: &R,
+    alloc: Global,
+    bytes: &[u8],
+    process: Process,
+) -> Result<Answer, AllocError>
     requires { length bytes.now ≤ input_limit }
     ensures { (guests : ℕ) → IfOk result (λ answer. Replies guests CertifyCommand bytes.now answer.status answer.text.items) }
 {
     match parse(alloc, &mut Lexer::new(bytes)) {
-        Ok(program) => certify_tree(rt, alloc, &program),
+        Ok(program) => {
+            let answer = certify_tree(rt, alloc, &program);
+            let_go(program, process);
+            answer
+        }
         Err(ParseFail::Syntax(fault)) => faulty(alloc, &Fault::Syntax(fault)),
         Err(ParseFail::Memory) => Err(AllocError),
     }

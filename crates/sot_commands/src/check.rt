@@ -9,6 +9,7 @@ ghost use Rattle.sot_commands.specs.declared.words.Command.TheVariants.{Check as
 use crate::answer::{Answer, accepted, faulty, refused};
 use sot_compose::{CheckFail, check_all};
 use sot_lang::{Cert, Typed};
+use sot_ports::{Process, let_go};
 use sot_report::{LoadFail, load};
 use sot_text::Need;
 use std::alloc::{AllocError, Global};
@@ -32,12 +33,21 @@ fn judge<R: Threads + Sync>(
 }
 
 /// Checks a mission: its sections, its program, its certificate, and then all conditions.
-pub fn check<R: Threads + Sync>(rt: &R, alloc: Global, bytes: &[u8]) -> Result<Answer, AllocError>
+pub fn check<R: Threads + Sync>(
+    rt: &R,
+    alloc: Global,
+    bytes: &[u8],
+    process: Process,
+) -> Result<Answer, AllocError>
     requires { length bytes.now ≤ input_limit }
     ensures { (guests : ℕ) → IfOk result (λ answer. Replies guests CheckCommand bytes.now answer.status answer.text.items) }
 {
-    match load(alloc, bytes, Need::Check, 0) {
-        Ok(loaded) => judge(rt, alloc, &loaded.program, &loaded.cert),
+    match load(alloc, bytes, Need::Check, 0, process) {
+        Ok(loaded) => {
+            let answer = judge(rt, alloc, &loaded.program, &loaded.cert);
+            let_go(loaded, process);
+            answer
+        }
         Err(LoadFail::Fault(fault)) => faulty(alloc, &fault),
         Err(LoadFail::Memory) => Err(AllocError),
     }

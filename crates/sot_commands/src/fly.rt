@@ -16,6 +16,7 @@ use sot_board::Board;
 use sot_compose::{CheckFail, check_all};
 use sot_flight::Flight;
 use sot_lang::{Cert, Typed};
+use sot_ports::{Process, let_go};
 use sot_report::{LoadFail, load};
 use sot_shift::Controller;
 use sot_text::Need;
@@ -126,6 +127,7 @@ pub fn fly<C: Controller + Send, R: Threads + Wait + Sync>(
     guests: &mut Vec<C>,
     bytes: &[u8],
     telling: Telling,
+    process: Process,
 ) -> Result<Answer, AllocError>
     requires short { length bytes.now ≤ input_limit }
     requires few { vec_len guests.old < 2 ^ 32 }
@@ -135,17 +137,21 @@ pub fn fly<C: Controller + Send, R: Threads + Wait + Sync>(
     ensures unasked { IfOk result (λ answer. answer.status ≢ 0 → guests.new ≡ guests.old) }
     ensures flew { IfOk result (λ answer. answer.status ≡ 0 → telling ≡ Trace → Flew C.told (vec_len guests.old) bytes.now answer.text.items guests.old.items guests.new.items) }
 {
-    match load(alloc, bytes, Need::Fly, guests.len() as u32) {
+    match load(alloc, bytes, Need::Fly, guests.len() as u32, process) {
         Ok(loaded) => match &loaded.flight {
-            Some(flight) => judge(
-                rt,
-                alloc,
-                guests,
-                &loaded.program,
-                &loaded.cert,
-                flight,
-                telling,
-            ),
+            Some(flight) => {
+                let answer = judge(
+                    rt,
+                    alloc,
+                    guests,
+                    &loaded.program,
+                    &loaded.cert,
+                    flight,
+                    telling,
+                );
+                let_go(loaded, process);
+                answer
+            }
             // A mission that is to be flown has a flight.
             None => unreachable!(),
         },

@@ -13,6 +13,7 @@ use crate::answer::{Answer, faulty, legal, outside, refused, refused_line};
 use sot_compose::{CheckFail, check_all};
 use sot_flight::Flight;
 use sot_lang::{Cert, Typed};
+use sot_ports::{Process, let_go};
 use sot_replay::{ReplayFail, replay as replay_lines};
 use sot_report::{LoadFail, load};
 use sot_spelled::Lines;
@@ -71,24 +72,29 @@ pub fn replay<R: Threads + Sync>(
     alloc: Global,
     guests: u32,
     bytes: &[u8],
+    process: Process,
 ) -> Result<Answer, AllocError>
     requires { length bytes.now ≤ input_limit }
     ensures { IfOk result (λ answer. Replies guests ReplayCommand bytes.now answer.status answer.text.items) }
 {
-    match load(alloc, bytes, Need::Replay, guests) {
+    match load(alloc, bytes, Need::Replay, guests, process) {
         Ok(loaded) => {
             // A mission that is to be replayed has a trace and a flight.
             let trace = loaded.trace.unwrap();
             match &loaded.flight {
-                Some(flight) => judge(
-                    rt,
-                    alloc,
-                    &loaded.program,
-                    &loaded.cert,
-                    flight,
-                    guests,
-                    trace,
-                ),
+                Some(flight) => {
+                    let answer = judge(
+                        rt,
+                        alloc,
+                        &loaded.program,
+                        &loaded.cert,
+                        flight,
+                        guests,
+                        trace,
+                    );
+                    let_go(loaded, process);
+                    answer
+                }
                 None => unreachable!(),
             }
         }

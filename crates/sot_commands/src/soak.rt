@@ -9,6 +9,7 @@ use crate::answer::Answer;
 use crate::fly::fly;
 use crate::telling::Telling;
 use sot_maker::{made_texts_are_short, make};
+use sot_ports::Process;
 use sot_shift::Controller;
 use std::alloc::{AllocError, Global};
 use std::sync::Wait;
@@ -20,6 +21,7 @@ pub fn soak<C: Controller + Send, R: Threads + Wait + Sync>(
     alloc: Global,
     n: u32,
     seed: u64,
+    process: Process,
 ) -> Result<Answer, AllocError>
     requires { AreAsked n seed }
     ensures { (guests : ℕ) → IfOk result (λ answer. Replies guests (SoakCommand n seed) [] answer.status answer.text.items) }
@@ -27,5 +29,12 @@ pub fn soak<C: Controller + Send, R: Threads + Wait + Sync>(
     let text = make(alloc, n, seed)?;
     made_texts_are_short();
     let mut nobody: Vec<C> = Vec::new(alloc);
-    fly(rt, alloc, &mut nobody, text.as_bytes(), Telling::Summed)
+    fly(
+        rt,
+        alloc,
+        &mut nobody,
+        text.as_bytes(),
+        Telling::Summed,
+        process,
+    )
 }

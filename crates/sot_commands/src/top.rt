@@ -19,7 +19,7 @@ use crate::soak::soak;
 use crate::telling::Telling;
 use crate::words::{Command, WordFail, command_of};
 use sot_parser::{ParseFail, parse};
-use sot_ports::{ReadFail, Sink, Source, read_all, write_whole};
+use sot_ports::{Process, ReadFail, Sink, Source, let_go, read_all, write_whole};
 use sot_report::Fault;
 use sot_shift::Controller;
 use sot_text::Lexer;
@@ -42,12 +42,16 @@ const USAGE: &str =
 const TOO_LONG: &str = "fault input above 16777216 bytes\n";
 
 // The canonical text of what a text spells.
-fn format(alloc: Global, bytes: &[u8]) -> Result<Answer, AllocError>
+fn format(alloc: Global, bytes: &[u8], process: Process) -> Result<Answer, AllocError>
     requires { length bytes.now ≤ INPUT_LIMIT }
     ensures { (guests : ℕ) → IfOk result (λ answer. Replies guests FormatCommand bytes.now answer.status answer.text.items) }
 {
     match parse(alloc, &mut Lexer::new(bytes)) {
-        Ok(program) => canonical(alloc, &program),
+        Ok(program) => {
+            let answer = canonical(alloc, &program);
+            let_go(program, process);
+            answer
+        }
         Err(ParseFail::Syntax(fault)) => faulty(alloc, &Fault::Syntax(fault)),
         Err(ParseFail::Memory) => Err(AllocError),
     }
@@ -60,6 +64,7 @@ fn reply<R: Threads + Sync>(
     command: Command,
     guests: u32,
     bytes: &[u8],
+    process: Process,
 ) -> Result<Answer, AllocError>
     requires reads { Reads command }
     requires stays { command ≢ FlyCommand }
@@ -67,10 +72,10 @@ fn reply<R: Threads + Sync>(
     ensures { IfOk result (λ answer. Replies guests command bytes.now answer.status answer.text.items) }
 {
     match command {
-        Command::Check => check(rt, alloc, bytes),
-        Command::Replay => replay(rt, alloc, guests, bytes),
-        Command::Format => format(alloc, bytes),
-        Command::Certify => certify(rt, alloc, bytes),
+        Command::Check => check(rt, alloc, bytes, process),
+        Command::Replay => replay(rt, alloc, guests, bytes, process),
+        Command::Format => format(alloc, bytes, process),
+        Command::Certify => certify(rt, alloc, bytes, process),
         Command::Fly | Command::Make { .. } | Command::Soak { .. } => unreachable!(),
     }
 }
@@ -91,6 +96,7 @@ fn read_and_reply<R: Threads + Sync, S: Source>(
     command: Command,
     guests: u32,
     source: &mut S,
+    process: Process,
 ) -> Result<Answer, Status>
     requires reads { Reads command }
     requires stays { command ≢ FlyCommand }
@@ -102,7 +108,7 @@ fn read_and_reply<R: Threads + Sync, S: Source>(
     ensures no_more { ReadsUpTo (S.left source.old) (S.left source.new) (INPUT_LIMIT + 1) }
 {
     match read_all(alloc, source, INPUT_LIMIT) {
-        Ok(bytes) => or_memory(reply(rt, alloc, command, guests, &bytes)),
+        Ok(bytes) => or_memory(reply(rt, alloc, command, guests, &bytes, process)),
         Err(ReadFail::Fault) => Err(Status(4)),
         Err(ReadFail::TooLong) => or_memory(fixed(alloc, 7, TOO_LONG)),
         Err(ReadFail::Memory) => Err(Status(6)),
@@ -115,6 +121,7 @@ fn read_and_fly<C: Controller + Send, R: Threads + Wait + Sync, S: Source>(
     alloc: Global,
     guests: &mut Vec<C>,
     source: &mut S,
+    process: Process,
 ) -> Result<Answer, Status>
     requires few { vec_len guests.old < 2 ^ 32 }
     ensures ok { IfOk result (λ answer.
@@ -130,7 +137,7 @@ fn read_and_fly<C: Controller + Send, R: Threads + Wait + Sync, S: Source>(
     ensures flew { IfOk result (λ answer. answer.status ≡ 0 → FlewAll C.told (vec_len guests.old) (S.left source.old) (S.left source.new) answer.text.items guests.old.items guests.new.items) }
 {
     match read_all(alloc, source, INPUT_LIMIT) {
-        Ok(bytes) => or_memory(fly(rt, alloc, guests, &bytes, Telling::Trace)),
+        Ok(bytes) => or_memory(fly(rt, alloc, guests, &bytes, Telling::Trace, process)),
         Err(ReadFail::Fault) => Err(Status(4)),
         Err(ReadFail::TooLong) => or_memory(fixed(alloc, 7, TOO_LONG)),
         Err(ReadFail::Memory) => Err(Status(6)),
@@ -145,6 +152,7 @@ fn perform<C: Controller + Send, R: Threads + Wait + Sync, S: Source>(
     command: Command,
     guests: &mut Vec<C>,
     source: &mut S,
+    process: Process,
 ) -> Result<Answer, Status>
     requires form { IsInForm command }
     requires few { vec_len guests.old < 2 ^ 32 }
@@ -164,9 +172,9 @@ fn perform<C: Controller + Send, R: Threads + Wait + Sync, S: Source>(
 {
     match command {
         Command::Make { n, seed } => or_memory(made(alloc, n, seed)),
-        Command::Soak { n, seed } => or_memory(soak::<C, R>(rt, alloc, n, seed)),
-        Command::Fly => read_and_fly(rt, alloc, guests, source),
-        _ => read_and_reply(rt, alloc, command, guests.len() as u32, source),
+        Command::Soak { n, seed } => or_memory(soak::<C, R>(rt, alloc, n, seed, process)),
+        Command::Fly => read_and_fly(rt, alloc, guests, source, process),
+        _ => read_and_reply(rt, alloc, command, guests.len() as u32, source, process),
     }
 }
 
@@ -178,6 +186,7 @@ fn answer<C: Controller + Send, R: Threads + Wait + Sync, S: Source>(
     words: &[String],
     guests: &mut Vec<C>,
     source: &mut S,
+    process: Process,
 ) -> Result<Answer, Status>
     requires few { vec_len guests.old < 2 ^ 32 }
     ensures ok { IfOk result (λ answer. WordAnswer (vec_len guests.old) words.now
@@ -195,7 +204,7 @@ fn answer<C: Controller + Send, R: Threads + Wait + Sync, S: Source>(
     ensures flew { IfOk result (λ answer. answer.status ≡ 0 → Asks words.now FlyCommand → FlewAll C.told (vec_len guests.old) (S.left source.old) (S.left source.new) answer.text.items guests.old.items guests.new.items) }
 {
     match command_of(alloc, words) {
-        Ok(command) => perform(rt, alloc, command, guests, source),
+        Ok(command) => perform(rt, alloc, command, guests, source, process),
         Err(WordFail::Form) => or_memory(fixed(alloc, 2, USAGE)),
         Err(WordFail::Memory) => Err(Status(6)),
     }
@@ -215,7 +224,7 @@ fn say<K: Sink>(answer: &Answer, sink: &mut K) -> Status
 /// Does what the words ask, reads at most the input's limit and one byte more, and writes one text.
 /// The words are those after the program's name. The guests, fewer than 2^32, fly the nodes that a flight names them for; there are as
 /// many of them afterwards. Threads of `rt` ask them and check long lists of cells; what is answered does not depend on them, but for
-/// what guests draft.
+/// what guests draft. Where the process ends with this call, what was read is not given back to memory.
 pub fn soter<C: Controller + Send, R: Threads + Wait + Sync, S: Source, K: Sink>(
     rt: &R,
     alloc: Global,
@@ -223,6 +232,7 @@ pub fn soter<C: Controller + Send, R: Threads + Wait + Sync, S: Source, K: Sink>
     guests: &mut Vec<C>,
     source: &mut S,
     sink: &mut K,
+    process: Process,
 ) -> Status
     requires { vec_len guests.old < 2 ^ 32 }
     ensures ends { Ends (vec_len guests.old) words.now
@@ -256,7 +266,7 @@ pub fn soter<C: Controller + Send, R: Threads + Wait + Sync, S: Source, K: Sink>
     // What was flown was asked of the guests, and it is the trace of this flight that was written.
     ensures flew { result.0 ≡ 0 → Asks words.now FlyCommand → FlewAndWrote C.told (vec_len guests.old) (S.left source.old) (S.left source.new) (K.held sink.old) (K.held sink.new) guests.old.items guests.new.items }
 {
-    match answer(rt, alloc, words, guests, source) {
+    match answer(rt, alloc, words, guests, source, process) {
         Ok(answer) => say(&answer, sink),
         Err(status) => status,
     }

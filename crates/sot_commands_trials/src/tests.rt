@@ -10,7 +10,7 @@ mod replay;
 mod soak;
 
 use sot_commands::{Status, soter};
-use sot_ports::{MemSink, PureSource, Sink, Source};
+use sot_ports::{MemSink, Process, PureSource, Sink, Source};
 use sot_shift::Controller;
 use std::alloc::{AllocError, Global};
 use std::process::Abort;
@@ -76,7 +76,7 @@ fn alone<R: Threads + Wait + Sync, S: Source, K: Sink>(
     sink: &mut K,
 ) -> Status {
     let mut guests: Vec<Box<dyn Controller + Send>> = Vec::new(alloc);
-    soter(rt, alloc, words, &mut guests, source, sink)
+    soter(rt, alloc, words, &mut guests, source, sink, Process::GoesOn)
 }
 
 // The status and the text of these words over a text, and between them the first bytes of what is left of it.

@@ -12,6 +12,7 @@ ghost use Rattle.sot_workers.specs.Flying.{HasNoGuests};
 
 use sot_flight::Flight;
 use sot_lang::Typed;
+use sot_ports::Process;
 use sot_report::{Loaded, load};
 use sot_text::Need;
 use std::alloc::Global;
@@ -115,7 +116,7 @@ pub fn loaded<'t>(rt: &impl Abort, alloc: Global, text: &'t str, guests: u32) ->
     if text.len() > LONGEST {
         panic!(rt; "a text that is too long");
     }
-    match load(alloc, text.as_bytes(), Need::Fly, guests) {
+    match load(alloc, text.as_bytes(), Need::Fly, guests, Process::GoesOn) {
         Ok(loaded) => loaded,
         Err(_) => panic!(rt; "no mission: {text}"),
     }

@@ -6,7 +6,7 @@ mod long;
 mod told;
 
 use sot_commands::soter;
-use sot_ports::{MemSink, PureSource};
+use sot_ports::{MemSink, Process, PureSource};
 use sot_workers_trials::Keeper;
 use std::alloc::Global;
 use std::fmt::Debug;
@@ -99,7 +99,15 @@ fn answered<R: Abort + Threads + Wait + Sync>(
     let words = words_of(rt, alloc, word);
     let mut source = source_of(rt, alloc, input);
     let mut sink = sink(rt, alloc);
-    let ended = soter(rt, alloc, &words, guests, &mut source, &mut sink);
+    let ended = soter(
+        rt,
+        alloc,
+        &words,
+        guests,
+        &mut source,
+        &mut sink,
+        Process::GoesOn,
+    );
     same(rt, word, ended.0, 0);
     written(rt, alloc, &sink)
 }

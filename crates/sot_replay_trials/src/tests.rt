@@ -13,6 +13,7 @@ ghost use Rattle.sot_flight.specs.Fits.{FitsFlight};
 ghost use Rattle.sot_trace.specs.Words.{AreWords};
 
 use sot_compose::check_all;
+use sot_ports::Process;
 use sot_replay::{ReplayFail, replay};
 use sot_report::{Loaded, load};
 use sot_spelled::Lines;
@@ -166,7 +167,7 @@ fn loaded<'t>(rt: &impl Abort, alloc: Global, text: &'t str, guests: u32) -> Loa
     if text.len() > LONGEST {
         panic!(rt; "a text that is too long");
     }
-    match load(alloc, text.as_bytes(), Need::Fly, guests) {
+    match load(alloc, text.as_bytes(), Need::Fly, guests, Process::GoesOn) {
         Ok(loaded) => loaded,
         Err(_) => panic!(rt; "no mission: {text}"),
     }

@@ -16,6 +16,7 @@ use sot_cert::{CertFail, read_cert};
 use sot_flight::{Flight, FlightFail, read_flight};
 use sot_lang::{Cert, Typed};
 use sot_parser::{ParseFail, Syntax, parse};
+use sot_ports::{Process, let_go};
 use sot_rules::{TypeFail, TypeFault};
 use sot_text::{Lexer, Need, Sections, split};
 use sot_tree::Program;
@@ -78,11 +79,11 @@ fn load_flight(
 }
 
 // The certificate that a section says.
-fn load_cert(alloc: Global, p: &Typed, section: &[u8]) -> Result<Cert, LoadFail>
+fn load_cert(alloc: Global, p: &Typed, section: &[u8], process: Process) -> Result<Cert, LoadFail>
     ensures ok { IfOk result (λ c. SaysCert p.now section.now c) }
     ensures fault { IfErr result (λ e. IfFault e (FailsCert p.now section.now)) }
 {
-    match read_cert(alloc, p, section) {
+    match read_cert(alloc, p, section, process) {
         Ok(cert) => Ok(cert),
         Err(CertFail::Fault(fault)) => Err(LoadFail::Fault(Fault::Cert(fault))),
         Err(CertFail::Memory) => Err(LoadFail::Memory),
@@ -95,12 +96,13 @@ fn load_tables<'t>(
     program: Typed,
     sections: Sections<'t>,
     guests: u32,
+    process: Process,
 ) -> Result<Loaded<'t>, LoadFail>
     ensures ok { IfOk result (λ l. (p : Tree) → Resolves p program → LoadsTree p (parts_of sections.entry) guests l) }
     ensures flight_fits { IfOk result (λ l. IfSome l.flight (λ f. FitsFlight l.program guests f)) }
     ensures fault { IfErr result (λ e. IfFault e (FailsTables program (parts_of sections.entry) guests)) }
 {
-    let cert = load_cert(alloc, &program, sections.cert)?;
+    let cert = load_cert(alloc, &program, sections.cert, process)?;
     let flight = load_flight(alloc, &program, guests, sections.flight)?;
     Ok(Loaded {
         program,
@@ -116,6 +118,7 @@ fn load_tree<'t>(
     program: &Program,
     sections: Sections<'t>,
     guests: u32,
+    process: Process,
 ) -> Result<Loaded<'t>, LoadFail>
     requires formed { IsFormed (program_view program.now) }
     ensures ok { IfOk result (λ l. LoadsTree (program_view program.now) (parts_of sections.entry) guests l) }
@@ -123,34 +126,45 @@ fn load_tree<'t>(
     ensures fault { IfErr result (λ e. IfFault e (FailsTree (program_view program.now) (parts_of sections.entry) guests)) }
 {
     match resolve(alloc, program) {
-        Ok(typed) => load_tables(alloc, typed, sections, guests),
+        Ok(typed) => load_tables(alloc, typed, sections, guests, process),
         Err(TypeFail::Fault(fault)) => Err(mistyped(fault)),
         Err(TypeFail::Memory) => Err(LoadFail::Memory),
     }
 }
 
 // The program that the first section spells, and what the others say.
-fn load_text<'t>(alloc: Global, sections: Sections<'t>, guests: u32) -> Result<Loaded<'t>, LoadFail>
+fn load_text<'t>(
+    alloc: Global,
+    sections: Sections<'t>,
+    guests: u32,
+    process: Process,
+) -> Result<Loaded<'t>, LoadFail>
     requires { length sections.program.now + 1 < 2 ^ 32 }
     ensures ok { IfOk result (λ l. LoadsText (parts_of sections.entry) guests l) }
     ensures flight_fits { IfOk result (λ l. IfSome l.flight (λ f. FitsFlight l.program guests f)) }
     ensures fault { IfErr result (λ e. IfFault e (FailsText (parts_of sections.entry) guests)) }
 {
     match parse(alloc, &mut Lexer::new(sections.program)) {
-        Ok(program) => load_tree(alloc, &program, sections, guests),
+        Ok(program) => {
+            let loaded = load_tree(alloc, &program, sections, guests, process);
+            let_go(program, process);
+            loaded
+        }
         Err(ParseFail::Syntax(fault)) => Err(misspelled(fault)),
         Err(ParseFail::Memory) => Err(LoadFail::Memory),
     }
 }
 
 /// The mission that the bytes spell, with all that a command needs: its program and its certificate, to fly its flight too, and to
-/// replay the bytes of its trace as well. `guests` is how many controllers were handed in. Else the first fault: of the sections,
+/// replay the bytes of its trace as well. `guests` is how many controllers were handed in. What was read on the way is let go,
+/// unless the process ends. Else the first fault: of the sections,
 /// else of syntax, else of typing, else of the certificate, else of the flight. The bytes are fewer than 2^32 - 1.
 pub fn load<'t>(
     alloc: Global,
     bytes: &'t [u8],
     need: Need,
     guests: u32,
+    process: Process,
 ) -> Result<Loaded<'t>, LoadFail>
     requires { length bytes.now + 1 < 2 ^ 32 }
     ensures ok { IfOk result (λ l. LoadsMission need guests bytes.now l) }
@@ -159,7 +173,7 @@ pub fn load<'t>(
     ensures fault { IfErr result (λ e. IfFault e (HasFault need guests bytes.now)) }
 {
     match split(bytes, need) {
-        Ok(sections) => load_text(alloc, sections, guests),
+        Ok(sections) => load_text(alloc, sections, guests, process),
         Err(fault) => Err(LoadFail::Fault(Fault::Section(fault))),
     }
 }

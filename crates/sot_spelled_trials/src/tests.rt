@@ -3,6 +3,7 @@
 ghost use Rattle.sot_trace.specs.Words.{AreWords};
 
 use sot_lang::{Draft, Typed};
+use sot_ports::Process;
 use sot_report::{Loaded, load};
 use sot_spelled::{Line, Lines, entries_are_spelled, is_start_line, lines_spell_once, read_line};
 use sot_text::Need;
@@ -48,7 +49,7 @@ fn loaded<'t>(rt: &impl Abort, alloc: Global, text: &'t str) -> Loaded<'t>
     if text.len() > LONGEST {
         panic!(rt; "a text that is too long");
     }
-    match load(alloc, text.as_bytes(), Need::Check, 0) {
+    match load(alloc, text.as_bytes(), Need::Check, 0, Process::GoesOn) {
         Ok(loaded) => loaded,
         Err(_) => panic!(rt; "no mission: {text}"),
     }

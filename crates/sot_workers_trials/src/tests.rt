@@ -12,6 +12,7 @@ mod many;
 use sot_board::Board;
 use sot_compose::check_all;
 use sot_flight::Flight;
+use sot_ports::Process;
 use sot_report::{Loaded, load};
 use sot_shift::Controller;
 use sot_text::Need;
@@ -44,7 +45,7 @@ fn loaded<'t>(rt: &impl Abort, alloc: Global, text: &'t str, guests: u32) -> Loa
     if text.len() > LONGEST {
         panic!(rt; "a text that is too long");
     }
-    match load(alloc, text.as_bytes(), Need::Fly, guests) {
+    match load(alloc, text.as_bytes(), Need::Fly, guests, Process::GoesOn) {
         Ok(loaded) => loaded,
         Err(_) => panic!(rt; "no mission: {text}"),
     }

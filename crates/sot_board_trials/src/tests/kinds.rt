@@ -1,5 +1,6 @@
 //! Each kind of value at each place of a flight. The answers are those of an independent reader of the format.
 use super::*;
+use sot_ports::Process;
 use sot_report::{LoadFail, fault_text};
 
 const KINDS: [&str; 7] = ["null", "true", "1", "1.5", "\"x\"", "[]", "{}"];
@@ -68,7 +69,7 @@ fn fault_of(rt: &impl Abort, alloc: Global, flight: &str) -> String {
     if text.len() > LONGEST {
         panic!(rt; "a text that is too long");
     }
-    match load(alloc, text.as_bytes(), Need::Fly, 1) {
+    match load(alloc, text.as_bytes(), Need::Fly, 1, Process::GoesOn) {
         Ok(_) => String::new(alloc),
         Err(LoadFail::Fault(fault)) => fault_text(alloc, &fault).expect(rt, "memory"),
         Err(LoadFail::Memory) => panic!(rt; "memory"),

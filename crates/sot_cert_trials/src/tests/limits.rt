@@ -2,6 +2,7 @@
 use super::{same, says};
 use sot_cert::{CertFail, JsonKind, read_cert};
 use sot_lang::{Cert, Typed};
+use sot_ports::Process;
 use sot_worked::line;
 use std::alloc::Global;
 use std::process::Abort;
@@ -25,7 +26,7 @@ fn most_cells(cert: &Cert) -> usize {
 
 // What is said of a text is the path and kind of its fault, or the count of its cells.
 fn counts(rt: &impl Abort, alloc: Global, p: &Typed, text: &str, wanted: &str) {
-    let got = match read_cert(alloc, p, text.as_bytes()) {
+    let got = match read_cert(alloc, p, text.as_bytes(), Process::GoesOn) {
         Ok(cert) => format!(in alloc; "{} cells", most_cells(&cert)),
         Err(CertFail::Memory) => panic!(rt; "memory"),
         Err(CertFail::Fault(fault)) => {
@@ -87,7 +88,7 @@ fn jitters_below_each_period(rt: HostRuntime) {
 #[test]
 fn kinds_are_compared(rt: HostRuntime) {
     let p = line(rt.alloc()).expect(&rt, "memory");
-    match read_cert(rt.alloc(), &p, b"[") {
+    match read_cert(rt.alloc(), &p, b"[", Process::GoesOn) {
         Err(CertFail::Fault(fault)) => {
             let kind = fault.kind;
             same(&rt, "equal", kind == JsonKind::NotJson, true);

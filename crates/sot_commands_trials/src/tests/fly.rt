@@ -148,7 +148,15 @@ fn asks_the_guest_that_a_flight_names(rt: HostRuntime) {
     guests.push(Stubborn { number: 7 }).expect(&rt, "memory");
     let mut source = PureSource::new(text.into_bytes());
     let mut sink = MemSink::new(alloc, 2000, 2000, Vec::new(alloc)).expect(&rt, "memory");
-    let ended = soter(&rt, alloc, &words, &mut guests, &mut source, &mut sink);
+    let ended = soter(
+        &rt,
+        alloc,
+        &words,
+        &mut guests,
+        &mut source,
+        &mut sink,
+        Process::GoesOn,
+    );
     let said = str::from_utf8(sink.bytes()).expect(&rt, "memory");
     let answer = format!(in alloc; "{} {said}", ended.0).expect(&rt, "memory");
     assert_eq!(rt;

@@ -1,5 +1,6 @@
 //! What texts say as flights, and their first faults. The answers are those of an independent reader of the format.
 use super::*;
+use sot_ports::Process;
 use sot_report::{LoadFail, fault_text};
 
 // The usual flight of the vehicle, and of the relay: a line for each part, with its name and its value.
@@ -55,7 +56,7 @@ fn said(rt: &impl Abort, alloc: Global, mission: &str, flight: &str, guests: u32
     if text.len() > LONGEST {
         panic!(rt; "a text that is too long");
     }
-    match load(alloc, text.as_bytes(), Need::Fly, guests) {
+    match load(alloc, text.as_bytes(), Need::Fly, guests, Process::GoesOn) {
         Ok(loaded) => counts(rt, alloc, &loaded),
         Err(LoadFail::Fault(fault)) => fault_text(alloc, &fault).expect(rt, "memory"),
         Err(LoadFail::Memory) => panic!(rt; "memory"),

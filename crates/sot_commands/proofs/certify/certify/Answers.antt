@@ -1,22 +1,24 @@
-use Rattle.std.proofs.Common.{Err, ap}
+use Rattle.std.proofs.Common.{◌≡◌, Err, ap, subst, IfOk}
+use Rattle.sot_report.specs.FaultTexts.{syntax_text}
 use Rattle.sot_commands.proofs.Certified.{certified_result, misspelled_result}
 use Rattle.sot_commands.proofs.certify.certify.Goals as goal
 
-pub certify_tree-requires-clause-spelled : goal.certify_tree-requires-clause-spelled
-certify_tree-requires-clause-spelled g c κs within =
+pub certify_tree-answer-requires-clause-spelled : goal.certify_tree-answer-requires-clause-spelled
+certify_tree-answer-requires-clause-spelled g c κs within =
     let found = c.in-Ok.ensures.ok in
     (c.args.bytes.now, rw (c.new.ensures.bytes, c.new.ensures.at) at found)
 
 pub returns-in-Ok : goal.returns-in-Ok
 returns-in-Ok g c =
     let found = c.in-Ok.ensures.ok in
-    λ guests. certified_result guests c.certify_tree.result c.args.bytes.now _ (rw (c.new.ensures.bytes, c.new.ensures.at) at found) c.certify_tree.ensures
+    λ guests. certified_result guests c.certify_tree-answer.result c.args.bytes.now _ (rw (c.new.ensures.bytes, c.new.ensures.at) at found) c.certify_tree-answer.ensures
 
 pub returns-in-Err-Syntax : goal.returns-in-Err-Syntax
 returns-in-Err-Syntax g c =
     let is = ap (λ e. Err e) c.in-Err-Syntax.field-0-is in
     let none = c.in-Err-Syntax.ensures.syntax c.in-Err-Syntax.fault is in
     let place = c.in-Err-Syntax.ensures.place c.in-Err-Syntax.fault is in
+    let text = subst (λ f. IfOk c.faulty.result (λ a. a.text.items ≡ syntax_text f)) c.in-Err-Syntax.fault-is c.faulty.ensures.text in
     λ guests. misspelled_result guests c.faulty.result c.args.bytes.now c.in-Err-Syntax.fault
     (rw (c.new.ensures.bytes, c.new.ensures.at) at none) (rw (c.new.ensures.bytes, c.new.ensures.at) at place)
-    c.faulty.ensures.status c.faulty.ensures.text
+    c.faulty.ensures.status text

@@ -1,7 +1,8 @@
-use Rattle.std.proofs.Common.{arith, subst}
+use Rattle.std.proofs.Common.{◌≡◌, arith, subst, IfOk}
 use Rattle.sot_text.specs.declared.mission.Need.TheVariants as needs
 use Rattle.sot_report.specs.Missions.{HasFault}
 use Rattle.sot_report.specs.Loads.{IfFault}
+use Rattle.sot_report.specs.FaultTexts.{fault_text}
 use Rattle.sot_commands.proofs.Forms.{judged_result, faulty_result}
 use Rattle.sot_commands.proofs.check.check.Goals as goal
 
@@ -9,9 +10,10 @@ pub load-requires : goal.load-requires
 load-requires g c = omega (arith, c.requires)
 
 pub returns-in-Ok : goal.returns-in-Ok
-returns-in-Ok g c = λ guests. judged_result guests c.judge.result c.args.bytes.now _ c.in-Ok.ensures.ok.mission c.judge.ensures
+returns-in-Ok g c = λ guests. judged_result guests c.judge-answer.result c.args.bytes.now _ c.in-Ok.ensures.ok.mission c.judge-answer.ensures
 
 pub returns-in-Err-Fault : goal.returns-in-Err-Fault
 returns-in-Err-Fault g c =
     let has = subst (λ e. IfFault e (HasFault needs.Check 0 c.args.bytes.now)) c.in-Err-Fault.field-0-is c.in-Err-Fault.ensures.fault in
-    λ guests. faulty_result guests c.faulty.result c.args.bytes.now c.in-Err-Fault.fault has c.faulty.ensures.status c.faulty.ensures.text
+    let text = subst (λ f. IfOk c.faulty.result (λ a. a.text.items ≡ fault_text f)) c.in-Err-Fault.fault-is c.faulty.ensures.text in
+    λ guests. faulty_result guests c.faulty.result c.args.bytes.now c.in-Err-Fault.fault has c.faulty.ensures.status text

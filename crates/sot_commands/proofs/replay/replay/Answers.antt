@@ -4,15 +4,15 @@ use Rattle.sot_text.specs.declared.mission.Need.TheVariants as needs
 use Rattle.sot_commands.proofs.Replayed.{replayed_result, mission_words, trace_within}
 use Rattle.sot_commands.proofs.replay.replay.Goals as goal
 
-pub judge-requires-clause-words : goal.judge-requires-clause-words
-judge-requires-clause-words g c κs within = mission_words needs.Replay c.args.guests c.args.bytes.now _ c.in-Ok.ensures.ok.mission
+pub judge-answer-requires-clause-words : goal.judge-answer-requires-clause-words
+judge-answer-requires-clause-words g c κs within = mission_words needs.Replay c.args.guests c.args.bytes.now _ c.in-Ok.ensures.ok.mission
 
-pub judge-requires-clause-short : goal.judge-requires-clause-short
-judge-requires-clause-short g c κs within =
+pub judge-answer-requires-clause-short : goal.judge-answer-requires-clause-short
+judge-answer-requires-clause-short g c κs within =
     let inside = trace_within c.args.guests c.args.bytes.now _ c.in-Ok.ensures.ok.mission c.unwrap-trace.result.now (ap (option_map (λ b. b.now)) c.unwrap-trace.ensures) in
     omega (arith, inside, c.requires)
 
 pub returns-in-Some : goal.returns-in-Some
 returns-in-Some g c =
-    replayed_result c.args.guests c.judge.result c.args.bytes.now _ c.in-Some.flight c.unwrap-trace.result.now c.in-Ok.ensures.ok.mission c.in-Some.is
-    (ap (option_map (λ b. b.now)) c.unwrap-trace.ensures) c.judge.ensures
+    replayed_result c.args.guests c.judge-answer.result c.args.bytes.now _ c.in-Some.flight c.unwrap-trace.result.now c.in-Ok.ensures.ok.mission c.in-Some.is
+    (ap (option_map (λ b. b.now)) c.unwrap-trace.ensures) c.judge-answer.ensures

@@ -1,17 +1,19 @@
-use Rattle.std.proofs.Common.{Err, ap}
+use Rattle.std.proofs.Common.{◌≡◌, Err, ap, subst, IfOk}
+use Rattle.sot_report.specs.FaultTexts.{syntax_text}
 use Rattle.sot_commands.proofs.Forms.{formatted_result, misspelled_result}
 use Rattle.sot_commands.proofs.top.format.Goals as goal
 
 pub returns-in-Ok : goal.returns-in-Ok
 returns-in-Ok c =
     let found = c.in-Ok.ensures.ok in
-    λ guests. formatted_result guests c.canonical.result c.args.bytes.now _ (rw (c.new.ensures.bytes, c.new.ensures.at) at found) c.canonical.ensures.status c.canonical.ensures.text
+    λ guests. formatted_result guests c.canonical-answer.result c.args.bytes.now _ (rw (c.new.ensures.bytes, c.new.ensures.at) at found) c.canonical-answer.ensures.status c.canonical-answer.ensures.text
 
 pub returns-in-Err-Syntax : goal.returns-in-Err-Syntax
 returns-in-Err-Syntax c =
     let is = ap (λ e. Err e) c.in-Err-Syntax.field-0-is in
     let none = c.in-Err-Syntax.ensures.syntax c.in-Err-Syntax.fault is in
     let place = c.in-Err-Syntax.ensures.place c.in-Err-Syntax.fault is in
+    let text = subst (λ f. IfOk c.faulty.result (λ a. a.text.items ≡ syntax_text f)) c.in-Err-Syntax.fault-is c.faulty.ensures.text in
     λ guests. misspelled_result guests c.faulty.result c.args.bytes.now c.in-Err-Syntax.fault
     (rw (c.new.ensures.bytes, c.new.ensures.at) at none) (rw (c.new.ensures.bytes, c.new.ensures.at) at place)
-    c.faulty.ensures.status c.faulty.ensures.text
+    c.faulty.ensures.status text

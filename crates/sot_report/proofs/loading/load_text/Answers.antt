@@ -7,8 +7,8 @@ use Rattle.sot_report.specs.Loads.{IfFault, FailsText}
 use Rattle.sot_canon.proofs.FormedPrograms.{spelled_formed}
 use Rattle.sot_report.proofs.loading.load_text.Goals as goal
 
-pub load_tree-requires : goal.load_tree-requires
-load_tree-requires c = record { formed = spelled_formed _ _ _ c.in-Ok.ensures.ok }
+pub load_tree-loaded-requires : goal.load_tree-loaded-requires
+load_tree-loaded-requires c = record { formed = spelled_formed _ _ _ c.in-Ok.ensures.ok }
 
 pub returns-in-Err-Syntax-clause-fault : goal.returns-in-Err-Syntax-clause-fault
 returns-in-Err-Syntax-clause-fault c =
