@@ -1,6 +1,6 @@
 -- How sections are taken one by one, in their order.
 use Rattle.std.proofs.Common.{◌≡◌, ◌≢◌, ℕ, suc, ◌+◌, ◌<◌, ◌≤◌, List, [], ◌∷◌, true, false, ◌==◌, nat_le, inl, inr, length, take, drop, Option, None, Some, refl, sym, ap, ◌∙◌, subst, arith, add-one, ◌-◌, length-drop}
-use Rattle.std.specs.Prelude.{if◌then◌else◌, Bool, codes, Result}
+use Rattle.std.specs.Prelude.{if◌then◌else◌, Bool, codes, Result, Ok}
 use Rattle.std.specs.Str.{bytes_eq}
 use Rattle.std.proofs.lemmas.Bool.{cases_Bool, cases_eq}
 use Rattle.std.proofs.lemmas.Bool.Decides.{nat_tests}
@@ -199,3 +199,8 @@ collected bytes n₁ n₂ n₃ n₄ m₁ m₂ m₃ m₄ t₁ t₂ t₃ t₄ p c 
     (bodies.0 ∙ sym (is_c ∙ ap (first_body 1) r₁.same))
     (bodies.1 ∙ sym (is_f ∙ ap (first_body 2) s₂))
     (bodies.2 ∙ sym (is_t ∙ ap (first_body 3) s₃)))
+
+-- where nothing is left and no part is missing, the parts are the answer
+pub collected_ok : (n : ℕ) (rest p : List ℕ) (c f t : Option (List ℕ)) (need : Need) (parts : Parts) → rest ≡ [] → needed need p c f t ≡ Some parts
+    → unless (fault_behind 3 (divided n rest).sections) (or_missing n (needed need p c f t)) ≡ Ok parts
+collected_ok n rest p c f t need parts none are = rw (none, are) refl

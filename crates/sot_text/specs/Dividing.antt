@@ -1,5 +1,5 @@
 -- What the functions behind `split` promise each other.
-use Rattle.std.specs.Prelude.{◌≡◌, ℕ, suc, ◌+◌, ◌≤◌, List, [], ◌∷◌, Bool, true, ◌==◌, if◌then◌else◌, length, Option, None, Some}
+use Rattle.std.specs.Prelude.{◌≡◌, ◌≢◌, ◌⊎◌, ℕ, suc, ◌+◌, ◌-◌, ◌<◌, ◌≤◌, List, [], ◌∷◌, Bool, true, ◌==◌, if◌then◌else◌, length, slice_index, Option, None, Some}
 use Rattle.sot_text.specs.Sections.{Section, Division, lines, division, place, title}
 
 -- how many bytes the first line has, with its line end
@@ -26,6 +26,19 @@ pub record IsRest (left : List Section) (stop limit : ℕ) (number : ℕ) (bytes
   pub same : (divided number bytes).sections ≡ left
   pub end : end_line number bytes ≡ stop
   pub room : number + length bytes ≤ limit
+
+-- no section line begins before this place: each `%` there stands behind another byte of its line
+abbrev pub NoneBegins : List ℕ → ℕ → Type 0
+NoneBegins bytes at = (j : ℕ) → j < at → slice_index bytes j ≡ 37 → (j ≢ 0) × (slice_index bytes (j - 1) ≢ 10)
+
+-- a section line begins in this place, or the text ends
+abbrev pub IsCut : List ℕ → ℕ → Type 0
+IsCut bytes at = (at ≡ length bytes) ⊎ ((slice_index bytes at ≡ 37) × ((at ≡ 0) ⊎ (slice_index bytes (at - 1) ≡ 10)))
+
+-- how many lines a section takes with its section line, if it came
+abbrev pub section_lines : Option (List ℕ) → ℕ
+section_lines None = 0
+section_lines (Some body) = suc (length (lines body))
 
 -- the body of the first section, if it has this place
 abbrev pub first_body : ℕ → List Section → Option (List ℕ)

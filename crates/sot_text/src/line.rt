@@ -4,7 +4,19 @@ ghost use Rattle.sot_text.specs.Dividing.{line_len};
 
 use memchr::memchr;
 
-// So many bytes are looked at one by one, which is quicker for the many short lines than to begin a search.
+/// How many bytes the first line has, with its line end. The last line may have none.
+#[inline(never)]
+pub fn line_len(bytes: &[u8]) -> usize
+    ensures len { result ≡ line_len bytes.now }
+    ensures within { result ≤ length bytes.now }
+{
+    match memchr(b'\n', bytes) {
+        Some(before) => before + 1,
+        None => bytes.len(),
+    }
+}
+
+// So many bytes are looked at one by one, which is quicker for the many short comments than to begin a search.
 const NEAR: usize = 16;
 
 // The same, if the first line ends within the first bytes.
@@ -24,26 +36,14 @@ fn near_line_len(bytes: &[u8]) -> Option<usize>
     None
 }
 
-// Its callers, which mostly need it not, would hold a copy each.
+/// The same for a line that is likely to be short, as that of a comment.
 #[inline(never)]
-fn far_line_len(bytes: &[u8]) -> usize
-    ensures len { result ≡ line_len bytes.now }
-    ensures within { result ≤ length bytes.now }
-{
-    match memchr(b'\n', bytes) {
-        Some(before) => before + 1,
-        None => bytes.len(),
-    }
-}
-
-/// How many bytes the first line has, with its line end. The last line may have none.
-#[inline(never)]
-pub fn line_len(bytes: &[u8]) -> usize
+pub(crate) fn short_line_len(bytes: &[u8]) -> usize
     ensures len { result ≡ line_len bytes.now }
     ensures within { result ≤ length bytes.now }
 {
     match near_line_len(bytes) {
         Some(len) => len,
-        None => far_line_len(bytes),
+        None => line_len(bytes),
     }
 }

@@ -1,10 +1,11 @@
 //! The sections of a mission.
 ghost use Rattle.std.specs.Prelude.{◌≡◌, ℕ, ◌+◌, ◌<◌, ◌≤◌, ◌^◌, true, length};
 ghost use Rattle.std.specs.Option.{option_map};
-ghost use Rattle.sot_text.specs.Sections.{without_last, title, place, fault_behind, needed, or_missing, unless, split_of, parts_of, answer_seen};
-ghost use Rattle.sot_text.specs.Dividing.{line_len, divided, begins_section, end_line, first_body, behind_first, IsRest};
+ghost use Rattle.sot_text.specs.Sections.{lines, without_last, title, place, fault_behind, needed, or_missing, unless, split_of, parts_of, answer_seen};
+ghost use Rattle.sot_text.specs.Dividing.{line_len, divided, begins_section, end_line, NoneBegins, IsCut, section_lines, first_body, behind_first, IsRest};
 
 use crate::line::line_len;
+use memchr::memchr;
 
 /// What a command needs of a mission beside its program: to check needs the certificate, to fly the flight too, and to replay
 /// the trace as well.
@@ -41,12 +42,11 @@ pub enum SectionKind {
     Missing,
 }
 
-// Some lines of a text, and what stands behind them, with the number of its first line.
+// Some lines of a text, and what stands behind them.
 #[derive(Clone, Copy)]
 struct Cut<'a> {
     body: &'a [u8],
     rest: &'a [u8],
-    line: u32,
 }
 
 // A section's bytes, if it came, and what stands behind it.
@@ -54,7 +54,6 @@ struct Cut<'a> {
 struct Taken<'a> {
     body: Option<&'a [u8]>,
     rest: &'a [u8],
-    line: u32,
 }
 
 fn without_last<'a>(text: &'a [u8], end: u8) -> &'a [u8]
@@ -89,46 +88,53 @@ fn place(title: &[u8]) -> u8
     }
 }
 
-// The bytes before the next section line.
-fn front<'a>(bytes: &'a [u8], line: u32) -> Cut<'a>
-    requires { line + length bytes.now < 2 ^ 32 }
-    ensures body { result.body.now ≡ (divided line bytes.now).front }
-    ensures rest { IsRest (divided line bytes.now).sections (end_line line bytes.now) (line + length bytes.now) result.line result.rest.now }
+// Where the next section line begins, or the end. The lines on the way are not gone over one by one, since few of them have a `%`.
+fn section_start(bytes: &[u8]) -> usize
+    ensures within { result ≤ length bytes.now }
+    ensures none { NoneBegins bytes.now result }
+    ensures cut { IsCut bytes.now result }
 {
     let mut at = 0;
-    let mut number = line;
-    while at < bytes.len() && bytes[at] != b'%' {
-        at += line_len(&bytes[at..]);
-        number += 1;
+    'marks: while let Some(before) = memchr(b'%', &bytes[at..]) {
+        let mark = at + before;
+        if mark == 0 || bytes[mark - 1] == b'\n' {
+            return mark;
+        }
+        at = mark + line_len(&bytes[mark..]);
     }
+    bytes.len()
+}
+
+// The bytes before the next section line.
+fn front<'a>(bytes: &'a [u8]) -> Cut<'a>
+    ensures body { (line : ℕ) → result.body.now ≡ (divided line bytes.now).front }
+    ensures rest { (line : ℕ) → IsRest (divided line bytes.now).sections (end_line line bytes.now) (line + length bytes.now) (end_line line result.body.now) result.rest.now }
+{
+    let at = section_start(bytes);
     Cut {
         body: &bytes[..at],
         rest: &bytes[at..],
-        line: number,
     }
 }
 
 // The first section's bytes, if it has this place.
-fn take_section<'a>(bytes: &'a [u8], line: u32, wanted: u8) -> Taken<'a>
-    requires room { line + length bytes.now < 2 ^ 32 }
+fn take_section<'a>(bytes: &'a [u8], wanted: u8) -> Taken<'a>
     requires begins { begins_section bytes.now ≡ true }
     requires wanted { 0 < wanted }
-    ensures body { option_map (λ b. b.now) result.body ≡ first_body wanted (divided line bytes.now).sections }
-    ensures rest { IsRest (behind_first wanted (divided line bytes.now).sections) (end_line line bytes.now) (line + length bytes.now) result.line result.rest.now }
+    ensures body { (line : ℕ) → option_map (λ b. b.now) result.body ≡ first_body wanted (divided line bytes.now).sections }
+    ensures rest { (line : ℕ) → IsRest (behind_first wanted (divided line bytes.now).sections) (end_line line bytes.now) (line + length bytes.now) (line + section_lines (option_map (λ b. b.now) result.body)) result.rest.now }
 {
     let len = line_len(bytes);
     if place(title(&bytes[..len])) == wanted {
-        let cut = front(&bytes[len..], line + 1);
+        let cut = front(&bytes[len..]);
         Taken {
             body: Some(cut.body),
             rest: cut.rest,
-            line: cut.line,
         }
     } else {
         Taken {
             body: None,
             rest: bytes,
-            line,
         }
     }
 }
@@ -199,6 +205,46 @@ fn answer<'a>(
     })
 }
 
+fn count_lines(bytes: &[u8]) -> usize
+    ensures lines { result ≡ length (lines bytes.now) }
+    ensures few { result ≤ length bytes.now }
+{
+    let (_, mut rest) = bytes.split_at(0);
+    let mut count = 0;
+    while !rest.is_empty() {
+        let (_, more) = rest.split_at(line_len(rest));
+        rest = more;
+        count += 1;
+    }
+    count
+}
+
+// How many lines a section takes with its section line, if it came.
+fn count_section(body: Option<&[u8]>) -> usize
+    requires { section_lines (option_map (λ b. b.now) body) < 2 ^ 32 }
+    ensures { result ≡ section_lines (option_map (λ b. b.now) body.entry) }
+{
+    match body {
+        Some(body) => count_lines(body) + 1,
+        None => 0,
+    }
+}
+
+// The number of the line behind the program and these sections. It is counted only where it is told.
+fn line_behind(
+    program: &[u8],
+    cert: Option<&[u8]>,
+    flight: Option<&[u8]>,
+    trace: Option<&[u8]>,
+) -> u32
+    requires { end_line 1 program.now + section_lines (option_map (λ b. b.now) cert) + section_lines (option_map (λ b. b.now) flight) + section_lines (option_map (λ b. b.now) trace) < 2 ^ 32 }
+    ensures { result ≡ end_line 1 program.now + section_lines (option_map (λ b. b.now) cert.entry) + section_lines (option_map (λ b. b.now) flight.entry) + section_lines (option_map (λ b. b.now) trace.entry) }
+{
+    let front = 1 + count_lines(program);
+    let sections = count_section(cert) + count_section(flight) + count_section(trace);
+    (front + sections) as u32
+}
+
 /// The sections of a mission, as far as they are needed. A line that begins with `%` is a section line; the program stands before
 /// the first, and each section from behind its line to the next. The whole text is looked through for a section line with a
 /// fault, also behind what is needed, and the first such line is told. Only where there is none can a section be missing.
@@ -206,11 +252,16 @@ pub fn split<'a>(bytes: &'a [u8], need: Need) -> Result<Sections<'a>, SectionFau
     requires { length bytes.now + 1 < 2 ^ 32 }
     ensures { answer_seen result ≡ split_of bytes.now need }
 {
-    let program = front(bytes, 1);
-    let cert = take_section(program.rest, program.line, 1);
-    let flight = take_section(cert.rest, cert.line, 2);
-    let trace = take_section(flight.rest, flight.line, 3);
-    let fault = fault_behind(trace.rest, trace.line);
+    let program = front(bytes);
+    let cert = take_section(program.rest, 1);
+    let flight = take_section(cert.rest, 2);
+    let trace = take_section(flight.rest, 3);
     let parts = needed(need, program.body, cert.body, flight.body, trace.body);
-    answer(fault, trace.line, parts)
+    if trace.rest.is_empty() {
+        if let Some(sections) = parts {
+            return Ok(sections);
+        }
+    }
+    let line = line_behind(program.body, cert.body, flight.body, trace.body);
+    answer(fault_behind(trace.rest, line), line, parts)
 }

@@ -13,20 +13,20 @@ pub further-place-requires : goal.further-place-requires
 further-place-requires c =
     let bytes = c.args.bytes.now in
     let column = column_at bytes c.args.start.at c.args.start.place c.requires.place in
-    omega (arith, column, c.line_len-len.ensures.within, ap length (take_rest bytes c.args.start.at), length-drop c.args.start.at bytes)
+    omega (arith, column, c.short_line_len-len.ensures.within, ap length (take_rest bytes c.args.start.at), length-drop c.args.start.at bytes)
 
 pub returns-then-bytes-at-eq10-clause-place : goal.returns-then-bytes-at-eq10-clause-place
 returns-then-bytes-at-eq10-clause-place c =
     let bytes = c.args.bytes.now in
     let at = c.args.start.at in
-    let k = c.line_len-len.result in
-    let len : k ≡ line_len (drop at bytes) = c.line_len-len.ensures.len ∙ ap line_len (take_rest bytes at) in
+    let k = c.short_line_len-len.result in
+    let len : k ≡ line_len (drop at bytes) = c.short_line_len-len.ensures.len ∙ ap line_len (take_rest bytes at) in
     c.next_line-place.ensures ∙ line_ended bytes at k c.args.start.place c.requires.place c.requires.within len c.if-bytes-at-eq10.true
 
 pub returns-else-bytes-at-eq10-clause-place : goal.returns-else-bytes-at-eq10-clause-place
 returns-else-bytes-at-eq10-clause-place c =
     let bytes = c.args.bytes.now in
     let at = c.args.start.at in
-    let k = c.line_len-len.result in
-    let len : k ≡ line_len (drop at bytes) = c.line_len-len.ensures.len ∙ ap line_len (take_rest bytes at) in
+    let k = c.short_line_len-len.result in
+    let len : k ≡ line_len (drop at bytes) = c.short_line_len-len.ensures.len ∙ ap line_len (take_rest bytes at) in
     c.further-place.ensures ∙ line_open bytes at k c.args.start.place c.requires.place c.requires.within len c.if-bytes-at-eq10.false

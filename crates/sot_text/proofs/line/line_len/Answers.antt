@@ -1,6 +1,6 @@
 use Rattle.std.proofs.Common.{sym}
 use Rattle.sot_text.proofs.FirstLines.{line_found, line_whole}
-use Rattle.sot_text.proofs.line.far_line_len.Goals as goal
+use Rattle.sot_text.proofs.line.line_len.Goals as goal
 
 pub returns-in-Some-clause-len : goal.returns-in-Some-clause-len
 returns-in-Some-clause-len c =
