@@ -104,8 +104,9 @@ pub fn name(alloc: Global, tokens: &mut Tokens<'_>) -> Result<Ident, Fail>
     };
     match token.kind {
         Kind::Name => {
-            let name = Name::from_bytes(alloc, token.text)?;
+            // The name is made last, so that it is not held, and copied, over another call.
             tokens.advance();
+            let name = Name::from_bytes(alloc, token.text)?;
             Ok(Ident { name, at: token.at })
         }
         _ => Err(Fail::Token),

@@ -12,13 +12,29 @@ pub(crate) enum Letters {
     Many(Box<Row<64>>),
 }
 
+// Most names are short. What a copy puts into memory byte by byte must all be there before it is read again in one piece, so
+// few bytes are put together without one.
+#[inline(always)]
+fn few(bytes: &[u8]) -> Row<14>
+    requires { length bytes.now ≤ 14 }
+    ensures { result ≡ bytes.now }
+{
+    match bytes {
+        [a] => Row::of([*a, 0, 0, 0, 0, 0, 0, 0, 0, 0, 0, 0, 0, 0], 1),
+        [a, b] => Row::of([*a, *b, 0, 0, 0, 0, 0, 0, 0, 0, 0, 0, 0, 0], 2),
+        [a, b, c] => Row::of([*a, *b, *c, 0, 0, 0, 0, 0, 0, 0, 0, 0, 0, 0], 3),
+        [a, b, c, d] => Row::of([*a, *b, *c, *d, 0, 0, 0, 0, 0, 0, 0, 0, 0, 0], 4),
+        _ => Row::from_slice(bytes),
+    }
+}
+
 impl Letters {
     pub(crate) fn from_slice(alloc: Global, bytes: &[u8]) -> Result<Letters, AllocError>
         requires { length bytes.now ≤ 64 }
         ensures { IfOk result (λ l. letters_of l ≡ bytes.now) }
     {
         if bytes.len() <= 14 {
-            Ok(Letters::Few(Row::from_slice(bytes)))
+            Ok(Letters::Few(few(bytes)))
         } else {
             Ok(Letters::Many(Box::new(alloc, Row::from_slice(bytes))?))
         }

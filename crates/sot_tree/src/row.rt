@@ -19,6 +19,15 @@ impl<const N: usize> Model for Row<N> {
 }
 
 impl<const N: usize> Row<N> {
+    /// The first so many of these bytes.
+    #[inline(always)]
+    pub(crate) fn of(bytes: [u8; N], len: u8) -> Row<N>
+        requires { len ≤ N }
+        ensures { result ≡ take len bytes.entry }
+    {
+        Row { bytes, len }
+    }
+
     pub(crate) fn from_slice(bytes: &[u8]) -> Row<N>
         requires fits { length bytes.now ≤ N }
         requires counted { length bytes.now ≤ 255 }
