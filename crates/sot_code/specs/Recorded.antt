@@ -23,6 +23,11 @@ abbrev pub recorded : Outcome bodies.Fired → Result Fired Trap
 recorded (Ok f) = Ok (record { locals = f.locals; draft = in_slots f.draft })
 recorded (Err t) = Err t
 
+-- what is left where there was no trap
+abbrev pub left_by : {U : Type 0} → Result U Trap → List ℤ → List (Option ℤ) → Result Fired Trap
+left_by (Ok u) locals draft = Ok (record { locals = locals; draft = draft })
+left_by (Err t) locals draft = Err t
+
 -- the node is coded, and there is a number for each of its read slots and for each of its locals
 pub record MayRun (p : Tables) (n : ℕ) (seen locals : List ℤ) : Type 0 where
   pub node : NodeInfo

@@ -18,7 +18,7 @@ mod term;
 pub use fired::Fired;
 pub use gather::{put, put_point};
 pub use locals::Locals;
-pub use node::run_node;
+pub use node::{run_node, run_node_over};
 pub use plant::{plant_next, plant_next_over};
 pub use seen::Seen;
 pub use term::value;

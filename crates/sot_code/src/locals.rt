@@ -52,6 +52,17 @@ impl Locals {
         Locals { count, at: inline }
     }
 
+    /// Changes the numbers to these, of which there are as many.
+    pub(crate) fn put(&mut self, at: &[i64])
+        requires { length at.now ≡ length self.old }
+        ensures { self.new ≡ at.now }
+    {
+        let slots = &mut self.at;
+        for i in 0..at.len() {
+            slots[i] = at[i];
+        }
+    }
+
     pub fn len(&self) -> usize
         ensures count { result ≡ length self.now }
         ensures few { length self.now ≤ 16 }

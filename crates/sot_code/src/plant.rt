@@ -1,8 +1,8 @@
 //! A plant's tick on numbers.
 
-ghost use Rattle.std.specs.Prelude.{◌≡◌, ◌≤◌, length};
+ghost use Rattle.std.specs.Prelude.{◌≡◌, ◌≤◌, ◌∷◌, [], length};
 ghost use Rattle.sot_lang.specs.Ticks.{values};
-ghost use Rattle.sot_lang.specs.TermPlaces.{HavePlaces};
+ghost use Rattle.sot_lang.specs.TermPlaces.{HasPlaces, HavePlaces};
 ghost use Rattle.sot_code.specs.Points.{Gives};
 ghost use Rattle.sot_code.specs.Recorded.{MayTickPlant, IsNextPoint, MayTickOver, IsPointOver};
 
@@ -24,6 +24,15 @@ fn put_values(terms: &[Term], numbers: &[i64], point: &mut [i64]) -> Result<(), 
     Ok(())
 }
 
+// The point whose one coordinate is the value of an expression.
+fn single(term: &Term, numbers: &[i64]) -> Result<Point, Trap>
+    requires places { HasPlaces (length numbers.now) term.now }
+    ensures { result ≡ values (term.now ∷ []) numbers.now }
+{
+    let z = value(term, numbers)?;
+    Ok(Point::of(&[z]).unwrap())
+}
+
 // The point whose coordinates are the values of one to four expressions.
 fn point_of(terms: &[Term], numbers: &[i64]) -> Result<Point, Trap>
     requires places { HavePlaces (length numbers.now) terms.now }
@@ -31,6 +40,10 @@ fn point_of(terms: &[Term], numbers: &[i64]) -> Result<Point, Trap>
     requires few { length terms.now ≤ 4 }
     ensures { result ≡ values terms.now numbers.now }
 {
+    if terms.len() == 1 {
+        // Most plants have one state variable, whose value needs no list.
+        return single(&terms[0], numbers);
+    }
     let mut inline = [0; 4];
     let (point, _) = inline.split_at_mut(terms.len());
     put_values(terms, numbers, point)?;
