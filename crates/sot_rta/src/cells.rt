@@ -146,6 +146,14 @@ pub fn check_reach_cell(
     }
 }
 
+// What it costs to follow a tube of a plant for so many ticks: a step of each state variable a tick.
+fn tube_cost(p: &Typed, plant: u32, ticks: u32) -> u64
+    requires { plant < length p.now.plants }
+{
+    let states = plant_at(p, plant).states.len() as u64;
+    states.saturating_mul(u64::from(ticks))
+}
+
 // All closed cells.
 fn closed_cells<R: Threads + Sync>(
     rt: &R,
@@ -165,6 +173,7 @@ fn closed_cells<R: Threads + Sync>(
     first_refused(
         rt,
         closed.len() as u32,
+        tube_cost(p, info.plant, node_at(p, info.sc).period),
         &|i: u32| -> Result<(), Refusal>
             requires { MayCheck p.now jitter «module» info.now closed.now × (i < length closed.now.boxes) }
             ensures { AnswersClosedPlace p.entry.now jitter «module» info.entry.now closed.entry.now.boxes i result }
@@ -191,6 +200,7 @@ fn reach_cells<R: Threads + Sync>(
     first_refused(
         rt,
         reach.len() as u32,
+        tube_cost(p, info.plant, info.period.saturating_mul(2)),
         &|i: u32| -> Result<(), Refusal>
             requires { MayCheck p.now jitter «module» info.now reach.now × (i < length reach.now.boxes) }
             ensures { AnswersReachPlace p.entry.now jitter «module» info.entry.now reach.entry.now.boxes i result }

@@ -8,8 +8,8 @@ use crate::refusal::Refusal;
 use rayon::prelude::*;
 use std::thread::Threads;
 
-// Fewer numbers than this are gone through in the calling thread: to start threads costs more than their answers.
-const FEW: u32 = 1024;
+// Where all calls together cost less than this, the calling thread makes them: threads would take processor time to start.
+const LITTLE: u64 = 16384;
 
 // Many numbers are gone through in so many chunks: each thread beyond these costs more than it brings.
 const CHUNKS: u32 = 4;
@@ -72,17 +72,19 @@ fn in_chunks<R: Threads + Sync, F: Fn(u32) -> Result<(), Refusal> + Sync>(
         .unwrap_or(Ok(()))
 }
 
-/// Calls `check` for the numbers below `count`, and answers the refusal of the first number that has one. A few calls are made one
-/// after another, and many of them in chunks, side by side, in threads of `rt`. Takes no memory.
+/// Calls `check` for the numbers below `count`, and answers the refusal of the first number that has one. `cost` says what a call
+/// costs, in steps of one state variable of a tube. Calls that cost little together are made one after another, and others in
+/// chunks, side by side, in threads of `rt`. Takes no memory.
 pub fn first_refused<R: Threads + Sync, F: Fn(u32) -> Result<(), Refusal> + Sync>(
     rt: &R,
     count: u32,
+    cost: u64,
     check: &F,
 ) -> Result<(), Refusal>
     requires each { (i : ℕ) → i < count → F.pre check.now i }
     ensures { AnswersAll (F.post check.now) 0 count result }
 {
-    if count < FEW {
+    if u64::from(count).saturating_mul(cost) < LITTLE {
         in_order(0, count, check)
     } else {
         in_chunks(rt, count.div_ceil(CHUNKS), count, check)

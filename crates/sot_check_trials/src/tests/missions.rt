@@ -24,18 +24,24 @@ fn accepts_a_mission_or_tells_the_condition_that_fails(rt: HostRuntime) {
     tells_of_cells(&rt, rt.alloc(), &LINE, CERTIFIED, 14)
 }
 
-// The three closed cells in turn until there are so many, but at two places one cell that is all of the region.
-fn cells_in_turn(rt: &impl Abort, alloc: Global, count: usize, wide: (usize, usize)) -> String {
+// Three cells in turn until there are so many, but at two places one cell that is all of the region.
+fn cells_in_turn(
+    rt: &impl Abort,
+    alloc: Global,
+    cells: [&str; 3],
+    count: usize,
+    wide: (usize, usize),
+) -> String {
     let mut text = String::new(alloc);
     for i in 0..count {
         if i > 0 {
             text.push(',').expect(rt, "memory");
         }
-        let cell = match i % 3 {
-            _ if i == wide.0 || i == wide.1 => "[[-40,40]]",
-            0 => "[[-40,-11]]",
-            1 => "[[-10,10]]",
-            _ => "[[11,40]]",
+        let wide_here = i == wide.0 || i == wide.1;
+        let cell = if wide_here {
+            "[[-40,40]]"
+        } else {
+            cells[i % 3]
         };
         text.push_str(cell).expect(rt, "memory");
     }
@@ -50,7 +56,8 @@ fn says_of_cells(
     wide: (usize, usize),
     said: &str,
 ) {
-    let closed = cells_in_turn(rt, alloc, count, wide);
+    let three = ["[[-40,-11]]", "[[-10,10]]", "[[11,40]]"];
+    let closed = cells_in_turn(rt, alloc, three, count, wide);
     let cert = certificate(alloc, "1", &closed, REACH).expect(rt, "memory");
     says(rt, alloc, &mission(rt, alloc, &LINE, &cert), said, said)
 }
@@ -74,6 +81,17 @@ fn tells_the_first_of_many_cells_that_fails(rt: HostRuntime) {
         none,
         "fault certificate /modules/nav/closed TooMany~",
     )
+}
+
+// The tubes of so many reach cells take as many steps as threads are started for.
+#[test]
+fn tells_the_first_of_many_reach_cells_that_fails(rt: HostRuntime) {
+    let alloc = rt.alloc();
+    let reach = cells_in_turn(&rt, alloc, ["[[-10,10]]"; 3], 2100, (1500, 2099));
+    let cert = certificate(alloc, "1", CLOSED, &reach).expect(&rt, "memory");
+    let text = mission(&rt, alloc, &LINE, &cert);
+    let said = "refused 8 ReachLeaves module nav cell 1500 tick 1 box [-43..43] point (-43)~";
+    says(&rt, alloc, &text, said, said)
 }
 
 // Programs, and the first rule that each breaks; the last one is that of a plant without a next state.
