@@ -1,11 +1,13 @@
 //! Numbers drawn from the words of a generator.
 
-ghost use Rattle.std.specs.Prelude.{◌≡◌};
+ghost use Rattle.std.specs.Prelude.{◌≡◌, ◌+◌, ◌<◌};
 ghost use Rattle.rand_pcg.specs.Lcg.{next, state_after};
 ghost use Rattle.rand_pcg.specs.Pcg.{multiplier_64, output_xsh_rr};
 ghost use Rattle.sot_lang.specs.TableRules.{IsNarrow};
 ghost use Rattle.sot_flight.specs.Draws.{words_from as words_from_word, drawn};
+ghost use Rattle.sot_flight.specs.Jumps.{IsListed};
 
+use crate::few_words::JUMPS;
 use rand_core::utils::NextWord;
 use rand_pcg::Pcg32;
 use std::marker::Model;
@@ -47,6 +49,44 @@ impl Jump {
         }
     }
 
+    // The jump that stands at a place of the table.
+    fn listed(place: usize, given: u64) -> Jump
+        requires place { place < 48 }
+        requires stands { IsListed place given }
+        ensures { result ≡ given }
+    {
+        Jump {
+            given,
+            power: JUMPS[2 * place],
+            sum: JUMPS[2 * place + 1],
+        }
+    }
+
+    // This jump, and then another.
+    fn then(&self, more: &Jump) -> Jump
+        requires { self.now + more.now < 4096 }
+        ensures { result ≡ self.now + more.now }
+    {
+        Jump {
+            given: self.given + more.given,
+            power: self.power.wrapping_mul(more.power),
+            sum: self.sum.wrapping_mul(more.power).wrapping_add(more.sum),
+        }
+    }
+
+    // The jump by few words, of three that the table has.
+    fn short(given: u64) -> Jump
+        requires { given < 4096 }
+        ensures { result ≡ given }
+    {
+        let ones = given % 16;
+        let more = given / 16 % 16;
+        let most = given / 256;
+        Jump::listed(ones as usize, ones)
+            .then(&Jump::listed(16 + more as usize, more * 16))
+            .then(&Jump::listed(32 + most as usize, most * 256))
+    }
+
     /// Becomes the jump by so many words, if it is not that already.
     pub(crate) fn turn_to(&mut self, given: u64)
         ensures { self.new ≡ given }
@@ -79,6 +119,9 @@ impl Jump {
 pub(crate) fn words_from(seed: u64, stream: u64, given: u64) -> Pcg32
     ensures { result ≡ words_from_word seed stream given }
 {
+    if given < 4096 {
+        return Jump::short(given).words_from(seed, stream);
+    }
     let mut words = Pcg32::new(seed, stream);
     words.advance(given);
     words

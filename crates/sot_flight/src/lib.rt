@@ -11,6 +11,7 @@ mod crews;
 mod drafts;
 mod draws;
 mod facts;
+mod few_words;
 mod flight;
 mod input;
 mod inputs;
