@@ -9,7 +9,7 @@ ghost use Rattle.sot_board.specs.Standing.{Counted};
 
 use crate::versions::count_firing;
 use sot_lang::{Draft, Typed};
-use sot_world::{Entry, History, Mode, Outcome};
+use sot_world::{History, Mode, Outcome};
 
 /// What is recorded of a firing.
 #[derive(Clone, Copy)]
@@ -59,10 +59,5 @@ pub fn push_firing(time: u32, node: u32, firing: &Firing, history: &mut History)
     ensures entries_left { history.new.entries_left + 1 ≡ history.old.entries_left }
     ensures numbers_left { history.new.numbers_left ≡ history.old.numbers_left }
 {
-    history.push(&Entry::Fire {
-        time,
-        node,
-        draft: firing.draft,
-        enabled: firing.enabled,
-    });
+    history.push_firing(time, node, &firing.draft, firing.enabled);
 }

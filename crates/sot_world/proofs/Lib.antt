@@ -20,6 +20,7 @@ pub mod Calendar
 pub mod Deadlines
 pub mod LineDecisions
 pub mod Records
+pub mod Words
 mod KeptDrafts
 pub mod Places
 pub mod Reading

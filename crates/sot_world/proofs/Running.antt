@@ -1,6 +1,7 @@
 -- What a coded node's body gives on the numbers that the node reads.
-use Rattle.std.proofs.Common.{◌≡◌, ◌<◌, ℕ, ℤ, List, [], Result, length, sym, ap, subst, ◌∙◌, arith}
+use Rattle.std.proofs.Common.{◌≡◌, ◌<◌, ℕ, ℤ, List, [], Option, Bool, false, Result, Ok, Err, refl, length, sym, ap, subst, ◌∙◌, arith}
 use Rattle.std.specs.Prelude.{slice_index_or}
+use Rattle.std.specs.Result.{is_err}
 use Rattle.std.proofs.lemmas.List.{length-map}
 use Rattle.std.proofs.lemmas.Option.{slice_get_within}
 use Rattle.sot_lists.specs.Places.{At}
@@ -14,7 +15,7 @@ use Rattle.sot_lang.specs.Bodies as bodies
 use Rattle.sot_lang.specs.Readings.{number_at, reading}
 use Rattle.sot_lists.proofs.Places.{at_same, read_or}
 use Rattle.sot_code.specs.declared.fired.Fired.{Fired}
-use Rattle.sot_code.specs.Recorded.{recorded, in_slots, MayRun, IsExecution}
+use Rattle.sot_code.specs.Recorded.{recorded, left_by, in_slots, MayRun, IsExecution}
 use Rattle.sot_world.specs.declared.world.World.TheInside.{Inside}
 use Rattle.sot_world.specs.State.{State}
 use Rattle.sot_world.specs.WorldView.{state, configuration, IsWorld}
@@ -51,6 +52,15 @@ module _ (p : Tables) (n : ℕ) (scalars : List ℤ) (points : List (List ℤ)) 
             let both : f ≡ g = cc in
             (ap (λ x. x.locals) both, ap (λ x. x.draft) both),
       )
+
+-- a body that gives something has not trapped, and what it left is that
+pub left_ok : {U : Type 0} (result : Result U Trap) (locals : List ℤ) (draft : List (Option ℤ)) (f : Fired) → left_by result locals draft ≡ Ok f → f ≡ record { locals = locals; draft = draft }
+left_ok (Ok u) locals draft f is = cc
+left_ok (Err t) locals draft f is = absurd cc
+
+pub left_none : {U : Type 0} (result : Result U Trap) (locals : List ℤ) (draft : List (Option ℤ)) (f : Fired) → left_by result locals draft ≡ Ok f → is_err result ≡ false
+left_none (Ok u) locals draft f is = refl
+left_none (Err t) locals draft f is = absurd cc
 
 -- .. of the node's locals and of the numbers that a world keeps
 pub world_runs : (w : Inside) (s : State) (n : ℕ) (p : Tables) (scalars : List ℤ) (points : List (List ℤ)) (locals : List ℤ) → IsWorld w → state w ≡ s

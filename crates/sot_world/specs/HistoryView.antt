@@ -3,15 +3,15 @@ use Rattle.std.specs.Prelude.{◌+◌, ◌*◌, ◌^◌, ◌<◌, ◌≤◌, map
 use Rattle.std.specs.List.{All}
 use Rattle.sot_world.specs.declared.history.History.TheInside.{Inside}
 use Rattle.sot_world.specs.HistoryEntry.{Story}
-use Rattle.sot_world.specs.HistoryRecords.{logged, end_of}
+use Rattle.sot_world.specs.HistoryRecords.{told, told_to}
 
 abbrev pub story_of : Inside → Story
-story_of h = record { entries = map (logged h.numbers.items) h.records.items; entries_left = h.entries_left; numbers_left = h.numbers_left }
+story_of h = record { entries = map (told h.numbers.items) h.words.items; entries_left = h.entries_left; numbers_left = h.numbers_left }
 
--- the numbers of each entry are in the list, and the room left is there: each entry that is to come may have eight drafted numbers, or two counts
+-- the numbers of each entry are in the list, and the room left is there: each entry that is to come may have a time, a node and eight drafted numbers
 pub record IsStory (h : Inside) : Type 0 where
-  pub inside : All (λ r. end_of h.numbers.items r ≤ length h.numbers.items) h.records.items
-  pub entries : h.records.len + h.entries_left ≤ h.records.cap
-  pub numbers : h.numbers.len + h.numbers_left + 8 * h.entries_left ≤ h.numbers.cap
+  pub inside : All (λ w. told_to h.numbers.items w ≤ length h.numbers.items) h.words.items
+  pub entries : h.words.len + h.entries_left ≤ h.words.cap
+  pub numbers : h.numbers.len + h.numbers_left + 10 * h.entries_left ≤ h.numbers.cap
   pub few : h.numbers_left < 2 ^ 32
-  pub places : h.numbers.len + h.numbers_left + 8 * h.entries_left < 2 ^ 40
+  pub places : h.numbers.len + h.numbers_left + 10 * h.entries_left < 2 ^ 40

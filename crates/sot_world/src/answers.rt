@@ -86,14 +86,14 @@ fn is_same(a: &Point, b: &Point) -> bool
 fn told(answer: &Answer, module: u32, s: &Point) -> Option<bool>
     ensures { IfSome result (λ kept. answer.now ≡ Given kept «module» s.now) }
 {
-    match *answer {
+    match answer {
         Answer::Given {
             kept,
             module: asked,
             point,
         } => {
-            if asked == module && is_same(&point, s) {
-                Some(kept)
+            if *asked == module && is_same(point, s) {
+                Some(*kept)
             } else {
                 None
             }

@@ -1,10 +1,11 @@
 //! The events of a run as they are recorded.
 
 ghost use Rattle.std.specs.Prelude.{◌≡◌, ◌+◌, ◌^◌, ◌<◌, ◌≤◌, [], ◌∷◌, ◌++◌, length, slice_get, Some, IfOk, vec_len, vec_capacity};
+ghost use Rattle.sot_world.specs.HistoryEntry.{FireAt};
 ghost use Rattle.sot_world.specs.Histories.{entry_of, numbers_in};
 
 use crate::mode::Mode;
-use crate::recorded::{Record, kept, lent_draft, lent_input, lent_one, lent_tick, place_of};
+use crate::recorded::{kept, kept_firing, lent};
 use sot_lang::Draft;
 use std::alloc::{AllocError, Global};
 use std::marker::Model;
@@ -42,7 +43,7 @@ pub enum Entry<'h> {
 /// The entries of a run, in order, in room that is taken at the start.
 #[derive(Drop)]
 pub struct History {
-    records: Vec<Record>,
+    words: Vec<u64>,
     numbers: Vec<i64>,
     entries_left: usize,
     numbers_left: usize,
@@ -67,11 +68,11 @@ impl History {
     {
         let entries_left = entries as usize;
         let numbers_left = numbers as usize;
-        // Each entry may be a firing, whose draft has at most eight numbers; of another entry at most two counts are kept. Where
-        // pages are handed out when they are first touched, what is never written takes up none.
+        // Each entry may be a firing, of which a time, a node and at most eight numbers are kept; of another entry at most a time and
+        // two counts are. Where pages are handed out when they are first touched, what is never written takes up none.
         Ok(History {
-            records: Vec::with_capacity(alloc, entries_left)?,
-            numbers: Vec::with_capacity(alloc, numbers_left + 8 * entries_left)?,
+            words: Vec::with_capacity(alloc, entries_left)?,
+            numbers: Vec::with_capacity(alloc, numbers_left + 10 * entries_left)?,
             entries_left,
             numbers_left,
         })
@@ -85,9 +86,21 @@ impl History {
         ensures entries_left { self.new.entries_left + 1 ≡ self.old.entries_left }
         ensures numbers_left { self.new.numbers_left + numbers_in (entry_of e.now) ≡ self.old.numbers_left }
     {
-        let record = kept(&mut self.numbers, e);
+        let word = kept(&mut self.numbers, e);
         self.numbers_left -= numbers_in(e);
-        add(&mut self.records, record);
+        add(&mut self.words, word);
+        self.entries_left -= 1;
+    }
+
+    /// Puts a firing behind the other entries, as [`History::push`] does. Its draft is looked at where it lies.
+    pub fn push_firing(&mut self, time: u32, node: u32, draft: &Draft, enabled: bool)
+        requires { 0 < self.old.entries_left }
+        ensures appended { self.new.entries ≡ self.old.entries ++ FireAt time node draft.now enabled ∷ [] }
+        ensures entries_left { self.new.entries_left + 1 ≡ self.old.entries_left }
+        ensures numbers_left { self.new.numbers_left ≡ self.old.numbers_left }
+    {
+        let word = kept_firing(&mut self.numbers, time, node, draft, enabled);
+        add(&mut self.words, word);
         self.entries_left -= 1;
     }
 
@@ -95,7 +108,7 @@ impl History {
     pub fn len(&self) -> usize
         ensures { result ≡ length self.now.entries }
     {
-        self.records.len()
+        self.words.len()
     }
 
     /// The entry at place `i`, in the order in which they were pushed.
@@ -105,39 +118,7 @@ impl History {
         requires { i < length self.now.entries }
         ensures { slice_get self.now.entries i ≡ Some (entry_of result) }
     {
-        match self.records[i] {
-            Record::One {
-                enabled,
-                time,
-                node,
-                number,
-            } => lent_one(number as i64, time, node, enabled),
-            Record::Fire {
-                enabled,
-                there,
-                high,
-                time,
-                node,
-                low,
-            } => lent_draft(
-                &self.numbers,
-                place_of(high, low),
-                there,
-                time,
-                node,
-                enabled,
-            ),
-            Record::Decide { mode, time, module } => Entry::Decide { time, module, mode },
-            Record::Input {
-                high,
-                time,
-                topic,
-                low,
-            } => lent_input(&self.numbers, place_of(high, low), time, topic),
-            Record::Tick { high, time, low } => {
-                lent_tick(&self.numbers, place_of(high, low), time)
-            }
-        }
+        lent(&self.numbers, self.words[i])
     }
 }
 
@@ -153,8 +134,8 @@ fn numbers_in(e: &Entry<'_>) -> usize
     }
 }
 
-// Appends a record for which there is room.
-fn add(to: &mut Vec<Record>, more: Record)
+// Appends a word for which there is room.
+fn add(to: &mut Vec<u64>, more: u64)
     requires { vec_len to.old < vec_capacity to.old }
     ensures items { to.new.items ≡ to.old.items ++ more ∷ [] }
     ensures len { vec_len to.new ≡ vec_len to.old + 1 }

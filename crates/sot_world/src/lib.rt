@@ -24,6 +24,7 @@ mod role;
 mod schedule;
 mod starts;
 mod tick;
+mod word;
 mod world;
 
 pub use event::Event;

@@ -72,28 +72,107 @@ fn a_history_hands_out_what_was_pushed(rt: HostRuntime) {
     begins_with_an_input(&rt, &history);
 }
 
-// A firing with this draft is read back as it was pushed.
-fn keeps(rt: &impl Abort, alloc: Global, draft: Draft, enabled: bool) {
-    let mut history = History::none(alloc, 1, 0).expect(rt, "room for an entry");
-    history.push(&Entry::Fire {
-        time: 7,
-        node: 3,
-        draft,
-        enabled,
-    });
+#[derive(Clone, Copy)]
+struct Firing {
+    time: u32,
+    node: u32,
+    draft: Draft,
+    enabled: bool,
+}
+
+// The first entry is this firing.
+fn begins_with_a_firing(rt: &impl Abort, history: &History, firing: Firing)
+    requires { 0 < length history.now.entries }
+{
     match history.entry(0) {
         Entry::Fire {
             time,
             node,
-            draft: read,
-            enabled: was_enabled,
+            draft,
+            enabled,
         } => {
-            same(rt, "time", time, 7);
-            same(rt, "node", node, 3);
-            same(rt, "draft", read, draft);
-            same(rt, "enabled", was_enabled, enabled);
+            same(rt, "time", time, firing.time);
+            same(rt, "node", node, firing.node);
+            same(rt, "draft", draft, firing.draft);
+            same(rt, "enabled", enabled, firing.enabled);
         }
         _ => panic!(rt; "a firing is none"),
+    }
+}
+
+// A firing is read back as it was pushed, by both calls that push one.
+fn keeps(rt: &impl Abort, alloc: Global, firing: Firing) {
+    let mut history = History::none(alloc, 1, 0).expect(rt, "room for an entry");
+    history.push(&Entry::Fire {
+        time: firing.time,
+        node: firing.node,
+        draft: firing.draft,
+        enabled: firing.enabled,
+    });
+    begins_with_a_firing(rt, &history, firing);
+    let mut other = History::none(alloc, 1, 0).expect(rt, "room for an entry");
+    other.push_firing(firing.time, firing.node, &firing.draft, firing.enabled);
+    begins_with_a_firing(rt, &other, firing);
+}
+
+fn keeps_draft(rt: &impl Abort, alloc: Global, draft: Draft, enabled: bool) {
+    keeps(
+        rt,
+        alloc,
+        Firing {
+            time: 7,
+            node: 3,
+            draft,
+            enabled,
+        },
+    );
+}
+
+// A decision is read back as it was pushed.
+fn keeps_decision(rt: &impl Abort, alloc: Global, time: u32, module: u32, mode: Mode) {
+    let mut history = History::none(alloc, 1, 0).expect(rt, "room for an entry");
+    history.push(&Entry::Decide { time, module, mode });
+    match history.entry(0) {
+        Entry::Decide {
+            time: at,
+            module: of,
+            mode: read,
+        } => {
+            same(rt, "time", at, time);
+            same(rt, "module", of, module);
+            same(rt, "mode", read, mode);
+        }
+        _ => panic!(rt; "a decision is none"),
+    }
+}
+
+// Times and places on both sides of what fits beside a number.
+#[test]
+fn a_history_keeps_any_time_and_place(rt: HostRuntime) {
+    let mut one = Draft::blank();
+    one.set(0, -5);
+    let mut two = Draft::blank();
+    two.set(0, -5);
+    two.set(1, 6);
+    for time in [0, 1, 262_143, 262_144, u32::MAX] {
+        for place in [0, 1, 1023, 1024, u32::MAX] {
+            for draft in [one, two] {
+                for enabled in [true, false] {
+                    keeps(
+                        &rt,
+                        rt.alloc(),
+                        Firing {
+                            time,
+                            node: place,
+                            draft,
+                            enabled,
+                        },
+                    );
+                }
+            }
+            keeps_decision(&rt, rt.alloc(), time, place, Mode::Ac);
+            keeps_decision(&rt, rt.alloc(), time, place, Mode::Sc);
+        }
     }
 }
 
@@ -122,10 +201,10 @@ fn a_history_keeps_drafts_of_one_number(rt: HostRuntime) {
     ] {
         let mut first = Draft::blank();
         first.set(0, number);
-        keeps(&rt, rt.alloc(), first, true);
+        keeps_draft(&rt, rt.alloc(), first, true);
         let mut third = Draft::blank();
         third.set(2, number);
-        keeps(&rt, rt.alloc(), third, false);
+        keeps_draft(&rt, rt.alloc(), third, false);
     }
 }
 
@@ -153,8 +232,8 @@ fn a_history_keeps_drafts_of_several_numbers(rt: HostRuntime) {
     ];
     let ends = [Some(0), None, None, None, None, None, None, Some(1)];
     for slots in [[None; 8], all, few, ends] {
-        keeps(&rt, rt.alloc(), drafted(&slots), true);
-        keeps(&rt, rt.alloc(), drafted(&slots), false);
+        keeps_draft(&rt, rt.alloc(), drafted(&slots), true);
+        keeps_draft(&rt, rt.alloc(), drafted(&slots), false);
     }
 }
 

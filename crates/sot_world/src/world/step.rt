@@ -23,7 +23,7 @@ use crate::mode::Mode;
 use crate::outcome::Outcome;
 use crate::schedule::leave;
 use crate::tick::move_all;
-use sot_code::{Fired, run_node};
+use sot_code::{Fired, run_node_over};
 use sot_lang::Draft;
 use std::mem::swap;
 
@@ -95,14 +95,18 @@ impl<'a> World<'a> {
         ensures outcome { (r : Recorded) × RecordsCode self.old.accepted.program node self.old.at r × (result ≡ outcome_of r) }
     {
         let p = self.accepted.typed();
-        let locals = &self.locals[node as usize];
+        // The locals are changed where they stand, since what a body gives is large and would be copied.
+        let locals = &mut self.locals[node as usize];
         let seen = seen_by(p, node, &self.scalars, &self.points);
-        // Not in a call of its own, since what a body gives is large and would be copied once more.
-        let ran = run_node(p, node, &seen, locals);
-        match &ran {
-            Ok(fired) => self.commit(node, fired),
-            Err(_) => unreachable!(),
+        let mut draft = Draft::blank();
+        if run_node_over(p, node, &seen, locals, &mut draft).is_err() {
+            unreachable!();
         }
+        let enabled = enables(self.roles[node as usize], &self.modes);
+        let writes = &p.nodes[node as usize].writes;
+        publish_if(enabled, p, writes, &draft, &mut self.scalars);
+        self.left[node as usize] = false;
+        Outcome::Fired { draft, enabled }
     }
 
     /// A coded node, which is left, fires with what its body gives on the present numbers and its locals, which the caller has

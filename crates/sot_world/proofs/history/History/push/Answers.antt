@@ -1,26 +1,26 @@
 use Rattle.std.proofs.Common.{rules, ◌∙◌, ◌≤◌, ap, sym, subst, ◌∷◌, [], ◌++◌, length}
 use Rattle.std.specs.Prelude.{map}
 use Rattle.std.specs.List.{All}
-use Rattle.sot_world.specs.HistoryRecords.{logged, end_of}
+use Rattle.sot_world.specs.HistoryRecords.{told, told_to}
 use Rattle.sot_world.specs.Histories.{entry_of}
-use Rattle.sot_world.proofs.Records.{logged_push, inside_push}
+use Rattle.sot_world.proofs.Records.{told_push, inside_push}
 use Rattle.sot_world.proofs.history.History.push.Goals as goal
 
 pub returns-clause-appended : goal.returns-clause-appended
 returns-clause-appended c =
-    let behind = c.kept-record.ensures.behind in
-    ap (map (logged c.kept-record.new.numbers.items)) c.add.ensures.items
-    ∙ logged_push c.self.inside.numbers.items behind.0 c.kept-record.new.numbers.items c.self.inside.records.items c.kept-record.result (entry_of c.args.e.now) behind.1 c.self.invariant.inside c.kept-record.ensures.same
+    let behind = c.kept-word.ensures.behind in
+    ap (map (told c.kept-word.new.numbers.items)) c.add.ensures.items
+    ∙ told_push c.self.inside.numbers.items behind.0 c.kept-word.new.numbers.items c.self.inside.words.items c.kept-word.result (entry_of c.args.e.now) behind.1 c.self.invariant.inside c.kept-word.ensures.same
     ∙ ap (λ s. s.entries ++ entry_of c.args.e.now ∷ []) c.self.view_is
 
 pub invariant_of-self : goal.invariant_of-self
 invariant_of-self c =
-    let behind = c.kept-record.ensures.behind in
-    let ns = c.kept-record.new.numbers.items in
+    let behind = c.kept-word.ensures.behind in
+    let ns = c.kept-word.new.numbers.items in
     record {
       inside =
-          subst (All (λ r. end_of ns r ≤ length ns)) (sym c.add.ensures.items)
-          (inside_push c.self.inside.numbers.items behind.0 ns c.self.inside.records.items c.kept-record.result behind.1 c.self.invariant.inside c.kept-record.ensures.inside);
+          subst (All (λ w. told_to ns w ≤ length ns)) (sym c.add.ensures.items)
+          (inside_push c.self.inside.numbers.items behind.0 ns c.self.inside.words.items c.kept-word.result behind.1 c.self.invariant.inside c.kept-word.ensures.inside);
       entries = search rules;
       numbers = search rules;
       few = search rules;
