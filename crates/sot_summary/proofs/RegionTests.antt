@@ -1,6 +1,7 @@
 -- The tests of boxes and of regions say what is in them.
-use Rattle.std.proofs.Common.{◌≡◌, ◌∙◌, ℤ, ◌≤ℤ◌, List, [], ◌∷◌, Bool, true, inl, inr, refl, sym, arith}
-use Rattle.std.specs.Prelude.{int_le, ◌&&◌, ◌↔◌, IsTrue}
+use Rattle.std.proofs.Common.{◌≡◌, ◌∙◌, ℤ, ◌≤ℤ◌, List, [], ◌∷◌, Bool, true, false, Some, length, inl, inr, refl, sym, ap, arith}
+use Rattle.std.specs.Prelude.{int_le, ◌&&◌, ◌||◌, ◌↔◌, IsTrue, slice_get}
+use Rattle.std.proofs.lemmas.Option.{same_Some}
 use Rattle.std.proofs.lemmas.Int.{ints}
 use Rattle.std.proofs.lemmas.Bool.{false≢true, and_parts, and_from, or_cases, or_left, or_right, cases_Bool, false_from_ne_true}
 use Rattle.sot_box.specs.Sides.{Side, IsIn}
@@ -53,3 +54,42 @@ same_test b bs s exact = elim (cases_Bool b) [
   | inl yes' ↦ yes' ∙ sym (region_only bs s (exact.0 yes'))
   | inr no' ↦ no' ∙ sym (false_from_ne_true (is_in_region bs s) (λ inside. false≢true (sym no' ∙ exact.1 (region_so bs s inside))))
 ]
+
+none_behind : (b : Bool) → (b || false) ≡ b
+none_behind b = elim (cases_Bool b) [
+  | inl yes' ↦ rw yes' refl
+  | inr no' ↦ rw no' refl
+]
+
+all_behind : (b : Bool) → (b && true) ≡ b
+all_behind b = elim (cases_Bool b) [
+  | inl yes' ↦ rw yes' refl
+  | inr no' ↦ rw no' refl
+]
+
+-- in a region of one box is what is in the box
+one_box : (bs : List (List Side)) (b : List Side) (s : List ℤ) → length bs ≡ 1 → slice_get bs 0 ≡ Some b → is_within b s ≡ is_in_region bs s
+one_box [] b s one at = absurd (omega (arith, one))
+one_box (c ∷ []) b s one at = ap (λ x. is_within x s) (sym (same_Some c b at)) ∙ sym (none_behind (is_within c s))
+one_box (c ∷ d ∷ bs) b s one at = absurd (omega (arith, one))
+
+-- in a box of one axis is what is between its ends
+one_axis : (b : List Side) (r : Side) (x : ℤ) → length b ≡ 1 → slice_get b 0 ≡ Some r → (int_le r.lo x && int_le x r.hi) ≡ is_within b (x ∷ [])
+one_axis [] r x one at = absurd (omega (arith, one))
+one_axis (c ∷ []) r x one at = ap (λ (y : Side). int_le y.lo x && int_le x y.hi) (sym (same_Some c r at)) ∙ sym (all_behind (int_le c.lo x && int_le x c.hi))
+one_axis (c ∷ d ∷ b) r x one at = absurd (omega (arith, one))
+
+-- a point of one number
+one_number : (s : List ℤ) (x : ℤ) → length s ≡ 1 → slice_get s 0 ≡ Some x → x ∷ [] ≡ s
+one_number [] x one at = absurd (omega (arith, one))
+one_number (y ∷ []) x one at = ap (λ (z : ℤ). z ∷ []) (sym (same_Some y x at))
+one_number (y ∷ z ∷ s) x one at = absurd (omega (arith, one))
+
+-- a number is in a region of one box of one axis exactly where it is between the box's ends
+pub on_line : (bs : List (List Side)) (b : List Side) (r : Side) (s : List ℤ) (x : ℤ) → length bs ≡ 1 → slice_get bs 0 ≡ Some b → length b ≡ 1 → slice_get b 0 ≡ Some r → length s ≡ 1 → slice_get s 0 ≡ Some x
+    → (int_le r.lo x && int_le x r.hi) ≡ is_in_region bs s
+on_line bs b r s x one_in_bs at_bs one_in_b at_b one_in_s at_s =
+    one_axis b r x one_in_b at_b ∙ ap (is_within b) (one_number s x one_in_s at_s) ∙ one_box bs b s one_in_bs at_bs
+
+pub same_between : (l l' h h' x x' : ℤ) → l ≡ l' → h ≡ h' → x ≡ x' → (int_le l x && int_le x h) ≡ (int_le l' x' && int_le x' h')
+same_between l l' h h' x x' low high number = rw (low, high, number) refl

@@ -1,6 +1,6 @@
 //! Plants outside their safe regions.
 
-ghost use Rattle.std.specs.Prelude.{◌≡◌, ◌<◌, ◌≤◌, [], length, slice_index_or};
+ghost use Rattle.std.specs.Prelude.{◌≡◌, ◌<◌, ◌≤◌, ◌&&◌, int_le, [], length, slice_index_or};
 ghost use Rattle.sot_board.specs.Counts.{state_count};
 ghost use Rattle.sot_summary.specs.Fronts.{AreFronts};
 ghost use Rattle.sot_summary.specs.Outside.{is_in_region, points_in, is_outside};
@@ -25,6 +25,13 @@ fn states_of<'s>(
     &states[from..from + plants[plant].states.len()]
 }
 
+// Whether a number is between two ends.
+fn is_between(lo: i64, hi: i64, x: i64) -> bool
+    ensures { result ≡ (int_le lo x && int_le x hi) }
+{
+    lo <= x && x <= hi
+}
+
 // Whether a point is in a region.
 fn is_in_region(region: &Region, at: &[i64]) -> bool
     requires width { length at.now ≡ region.now.width }
@@ -32,6 +39,11 @@ fn is_in_region(region: &Region, at: &[i64]) -> bool
     requires few { length at.now ≤ 4 }
     ensures { result ≡ is_in_region region.now.boxes at.now }
 {
+    if region.len() == 1 && at.len() == 1 {
+        // Most regions are one box of one axis, for which no point is made.
+        let side = region.at(0).side(0);
+        return is_between(side.lo, side.hi, at[0]);
+    }
     match Point::of(at) {
         Some(point) => region.has(&point),
         None => unreachable!(),

@@ -1,5 +1,5 @@
 -- What the code prints of a number is its text.
-use Rattle.std.proofs.Common.{◌≡◌, ℕ, zero, suc, ℤ, pos, negsuc, ◌+◌, ◌/◌, ◌%◌, ◌<◌, ◌≤◌, ◌^◌, List, [], ◌∷◌, ◌++◌, true, map, Result, Ok, Err, OnOk, refl, sym, ap, ap₂, ◌∙◌, arith}
+use Rattle.std.proofs.Common.{◌≡◌, ℕ, zero, suc, ℤ, pos, negsuc, ◌+◌, ◌/◌, ◌%◌, ◌<◌, ◌≤◌, ◌^◌, List, [], ◌∷◌, ◌++◌, true, map, Result, Ok, Err, OnOk, refl, sym, ap, ap₂, ◌∙◌, arith, append_assoc}
 use Rattle.std.specs.Prelude.{int_le, nat_abs}
 use Rattle.std.specs.Bool.{if◌then◌else◌}
 use Rattle.std.specs.Result.{is_ok}
@@ -18,7 +18,8 @@ pub above_none : (n : ℕ) → 0 < n → numeral n ≡ map (λ d. 48 + d) (digit
 above_none zero some = absurd (omega arith)
 above_none (suc n) some = digits_are n
 
-one_digit : (n : ℕ) → n < 10 → (48 + n) ∷ [] ≡ numeral n
+-- a number below 10 is its digit
+pub one_digit : (n : ℕ) → n < 10 → (48 + n) ∷ [] ≡ numeral n
 one_digit zero small = refl
 one_digit (suc n) small =
     let none : suc n / 10 ≡ 0 = omega arith in
@@ -35,7 +36,8 @@ pub digit_below_is : (z : ℤ) → int_le (negsuc 8) z ≡ true → int_le z (ne
 digit_below_is (pos n) some small = absurd cc
 digit_below_is (negsuc n) some small = (let few : suc n < 10 = grind (arith, nat_tests) in ap (λ x. 45 ∷ x) (sym (one_digit (suc n) few)))
 
-last_digit : (n : ℕ) (front : List ℕ) → 10 ≤ n → front ≡ numeral (n / 10) → front ++ ((48 + n % 10) ∷ []) ≡ numeral n
+-- a number above 9 is the number of its front, and its last digit
+pub last_digit : (n : ℕ) (front : List ℕ) → 10 ≤ n → front ≡ numeral (n / 10) → front ++ ((48 + n % 10) ∷ []) ≡ numeral n
 last_digit n front large is =
     ap (λ x. x ++ ((48 + n % 10) ∷ [])) (is ∙ above_none (n / 10) (omega arith))
     ∙ sym (map_push (λ d. 48 + d) (digits_of 10 (n / 10)) (n % 10))
@@ -54,3 +56,15 @@ signed_decimal_is (negsuc n) small = ap (λ x. 45 ∷ x) (decimal_is (suc n) (om
 pub put_so : {A E : Type 0} (r : Result A E) (new old text other : List ℕ) → new ≡ (if is_ok r then old ++ text else old) → text ≡ other → OnOk r (new ≡ old ++ other)
 put_so (Ok x) new old text other is same = is ∙ ap (λ t. old ++ t) same
 put_so (Err e) new old text other is same = tt
+
+-- what is put behind what was put
+pub put_same : {A E : Type 0} (r : Result A E) (new old text other : List ℕ) → OnOk r (new ≡ old ++ text) → text ≡ other → OnOk r (new ≡ old ++ other)
+put_same (Ok x) new old text other is same = is ∙ ap (λ t. old ++ t) same
+put_same (Err e) new old text other is same = tt
+
+-- the front of a number was put, and its last digit behind it
+pub put_last : {A E : Type 0} (r : Result A E) (new mid old front : List ℕ) (n : ℕ) → 10 ≤ n → OnOk r (new ≡ mid ++ ((48 + n % 10) ∷ [])) → mid ≡ old ++ front → front ≡ numeral (n / 10)
+    → OnOk r (new ≡ old ++ numeral n)
+put_last (Ok x) new mid old front n large is was front_is =
+    is ∙ ap (λ t. t ++ ((48 + n % 10) ∷ [])) was ∙ append_assoc old front ((48 + n % 10) ∷ []) ∙ ap (λ t. old ++ t) (last_digit n front large front_is)
+put_last (Err e) new mid old front n large is was front_is = tt

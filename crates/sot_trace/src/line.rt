@@ -119,9 +119,10 @@ pub fn put_line(out: &mut String, p: &Typed, entry: &Entry<'_>) -> Result<u8, Al
     ensures refused { IfOk result (λ refused. refused ≡ refused_in p.now (entry_of entry.now)) }
     ensures few { IfOk result (λ refused. refused ≤ 8) }
 {
-    match *entry {
+    // By reference: a draft is large, and mostly fresh.
+    match entry {
         Entry::Input { time, topic, value } => {
-            put_input(out, p, time, topic, value)?;
+            put_input(out, p, *time, *topic, value)?;
             Ok(0)
         }
         Entry::Fire {
@@ -129,9 +130,9 @@ pub fn put_line(out: &mut String, p: &Typed, entry: &Entry<'_>) -> Result<u8, Al
             node,
             draft,
             enabled,
-        } => put_firing(out, p, time, node, &draft, enabled),
+        } => put_firing(out, p, *time, *node, draft, *enabled),
         Entry::Decide { time, module, mode } => {
-            put_decision(out, p, time, module, mode)?;
+            put_decision(out, p, *time, *module, *mode)?;
             Ok(0)
         }
         Entry::Tick {
@@ -139,7 +140,7 @@ pub fn put_line(out: &mut String, p: &Typed, entry: &Entry<'_>) -> Result<u8, Al
             noise,
             states,
         } => {
-            put_tick(out, p, time, noise, states)?;
+            put_tick(out, p, *time, noise, states)?;
             Ok(0)
         }
     }
@@ -162,8 +163,8 @@ pub fn refused_in(p: &Typed, entry: &Entry<'_>) -> u8
     ensures value { result ≡ refused_in p.now (entry_of entry.now) }
     ensures few { result ≤ 8 }
 {
-    match *entry {
-        Entry::Fire { node, draft, .. } => refused_in_draft(p, writes_of(p, node), &draft),
+    match entry {
+        Entry::Fire { node, draft, .. } => refused_in_draft(p, writes_of(p, *node), draft),
         _ => 0,
     }
 }

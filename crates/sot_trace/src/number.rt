@@ -1,16 +1,63 @@
 //! Numbers, each put behind what stands there already.
 
-ghost use Rattle.std.specs.Prelude.{◌≡◌, ◌<◌, ◌∷◌, ◌++◌, [], ℕ, pos, negsuc, OnOk, IfSome, IfNone};
+ghost use Rattle.std.specs.Prelude.{◌≡◌, ◌+◌, ◌<◌, ◌≤◌, ◌∷◌, ◌++◌, [], ℕ, pos, negsuc, OnOk, IfSome, IfNone};
 ghost use Rattle.std.specs.String.{string_bytes};
 ghost use Rattle.sot_trace.specs.Numbers.{numeral, signed_numeral, further, numbers};
 
 use itoa::Buffer;
 use std::alloc::AllocError;
 
+// A digit, by its value.
+#[inline(always)]
+fn put_digit(out: &mut String, value: u32) -> Result<(), AllocError>
+    requires { value < 10 }
+    ensures { OnOk result (string_bytes out.new ≡ string_bytes out.old ++ (48 + value) ∷ []) }
+{
+    out.push(char::from(b'0' + value as u8))
+}
+
+#[inline(always)]
+fn put_two(out: &mut String, number: u32) -> Result<(), AllocError>
+    requires low { 10 ≤ number }
+    requires high { number < 100 }
+    ensures { OnOk result (string_bytes out.new ≡ string_bytes out.old ++ numeral number) }
+{
+    put_digit(out, number / 10)?;
+    put_digit(out, number % 10)
+}
+
+#[inline(always)]
+fn put_three(out: &mut String, number: u32) -> Result<(), AllocError>
+    requires low { 100 ≤ number }
+    requires high { number < 1000 }
+    ensures { OnOk result (string_bytes out.new ≡ string_bytes out.old ++ numeral number) }
+{
+    put_two(out, number / 10)?;
+    put_digit(out, number % 10)
+}
+
+// A number of up to three digits, digit by digit: what is written digit by digit and then copied at once is waited for.
+#[inline(always)]
+fn put_short(out: &mut String, number: u32) -> Result<(), AllocError>
+    requires { number < 1000 }
+    ensures { OnOk result (string_bytes out.new ≡ string_bytes out.old ++ numeral number) }
+{
+    if number < 10 {
+        put_digit(out, number)
+    } else if number < 100 {
+        put_two(out, number)
+    } else {
+        put_three(out, number)
+    }
+}
+
 /// A time or a place in decimal.
 pub fn put_time(out: &mut String, time: u32) -> Result<(), AllocError>
     ensures { OnOk result (string_bytes out.new ≡ string_bytes out.old ++ numeral time) }
 {
+    if time < 1000 {
+        return put_short(out, time);
+    }
     out.push_str(Buffer::new().format(time))
 }
 
@@ -47,6 +94,16 @@ pub fn digit_below(number: i64) -> Option<u8>
     }
 }
 
+// A number that is neither a digit nor one behind a `-`.
+fn put_much(out: &mut String, number: i64) -> Result<(), AllocError>
+    ensures { OnOk result (string_bytes out.new ≡ string_bytes out.old ++ signed_numeral number) }
+{
+    if 0 <= number && number < 1000 {
+        return put_short(out, number as u32);
+    }
+    out.push_str(Buffer::new().format(number))
+}
+
 // A number that is not one digit alone.
 fn put_longer(out: &mut String, number: i64) -> Result<(), AllocError>
     ensures { OnOk result (string_bytes out.new ≡ string_bytes out.old ++ signed_numeral number) }
@@ -56,7 +113,7 @@ fn put_longer(out: &mut String, number: i64) -> Result<(), AllocError>
             out.push('-')?;
             out.push(char::from(digit))
         }
-        None => out.push_str(Buffer::new().format(number)),
+        None => put_much(out, number),
     }
 }
 

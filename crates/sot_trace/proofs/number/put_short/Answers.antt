@@ -1,0 +1,6 @@
+use Rattle.std.proofs.Common.{arith}
+use Rattle.sot_trace.proofs.Numerals.{one_digit, put_same}
+use Rattle.sot_trace.proofs.number.put_short.Goals as goal
+
+pub returns-then-number-lt10 : goal.returns-then-number-lt10
+returns-then-number-lt10 c = put_same c.put_digit.result _ _ _ _ c.put_digit.ensures (one_digit c.args.number (omega (arith, c.if-number-lt10.true)))
