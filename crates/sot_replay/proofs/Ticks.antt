@@ -1,19 +1,23 @@
 -- Lines that spell ticks.
-use Rattle.std.proofs.Common.{◌≡◌, ◌∙◌, ℕ, ℤ, List, [], ◌∷◌, ap, sym, subst}
+use Rattle.std.proofs.Common.{◌≡◌, ◌∙◌, ◌<◌, ◌≤◌, ℕ, ℤ, List, [], ◌∷◌, ap, sym, subst, arith}
 use Rattle.sot_lang.specs.Ticks.{joined}
-use Rattle.sot_world.specs.Steps.{Tick}
+use Rattle.sot_world.specs.Steps.{Tick, MayTick}
+use Rattle.sot_world.specs.Events.{IsInBounds}
 use Rattle.sot_world.specs.HistoryEntry.{Logged, FireAt, TickAt}
 use Rattle.sot_flight.specs.Plans.{Plan}
 use Rattle.sot_flight.specs.Stated.{stated_noise}
 use Rattle.sot_board.specs.Standing.{Standing, IsStanding}
-use Rattle.sot_board.specs.Flown.{IsStated, Tells}
+use Rattle.sot_board.specs.Flown.{IsStated, Tells, NoInputDue}
 use Rattle.sot_board.specs.Calls.{Logs}
 use Rattle.sot_trace.specs.Lines.{line_of}
 use Rattle.sot_trace.specs.Words.{AreWords}
 use Rattle.sot_spelled.specs.Spelled.{TickLine, IsSpelled}
 use Rattle.sot_replay.specs.GoesOn.{AreHandedOver}
-use Rattle.sot_replay.specs.Tests.{IsNextLine}
+use Rattle.sot_replay.specs.declared.fail.LineKind.TheVariants.{Differs}
+use Rattle.sot_replay.specs.Tests.{IsNextLine, IsFirstFailing}
 use Rattle.sot_replay.proofs.SpelledEntries.{spells_entry, tick_of, moves}
+use Rattle.sot_replay.proofs.FirstFailing.{differs}
+use Rattle.sot_replay.proofs.Taken.{tick_taken}
 use Rattle.sot_replay.proofs.Judging.{same_one, one_line}
 
 tick_handed : (f : Plan) (t : ℕ) (noise states : List ℤ) → AreHandedOver f (TickAt t noise states ∷ [])
@@ -34,3 +38,12 @@ module _ (b : Standing) (stands : IsStanding b) (words : AreWords b.accepted.pro
       let event = moves b.position.at Q.at flies.recorded flies.event e t w x (tick_of p e t w x spells) flies.tells in
       let stated = subst (IsStated p b.plan b.position) event.1 flies.stated in
       same ∙ one_line b new (Tick (stated_noise p b.plan b.position.at.time)) entry e Q logs flies (event.1 ∙ ap Tick stated.2)
+
+  -- no test before the comparison fails of a line of a tick that is possible, and the line is not that of the tick's entry
+  pub tick_differs :
+      (time : t ≡ b.position.at.time) → MayTick b.accepted.program b.accepted.cert.jitter b.position.at → IsInBounds b.accepted.program.plants w → NoInputDue b.position → b.position.at.time < b.plan.horizon
+      → (new : Standing) (entry : Logged) → Logs b new (Tick (stated_noise b.accepted.program b.plan b.position.at.time)) entry → (line ≡ line_of b.accepted.program entry → ⊥)
+      → IsFirstFailing b.accepted.program b.accepted.cert.jitter b.plan b.entries b.position line Differs
+  tick_differs time may inside none near new entry logs not =
+      differs b.accepted.program b.accepted.cert.jitter b.plan b.entries b.position line (TickLine t w x) spelled time (tick_taken b.accepted.program b.accepted.cert.jitter b.position.at w (may, inside)) (λ left. left none) (λ far. omega (arith, far, near))
+      (λ given. not (tick_line new entry logs given))

@@ -1,16 +1,17 @@
 -- What is judged of a line behind the start lines, where a flight stands.
-use Rattle.std.specs.Prelude.{ℕ, ◌≡◌, ◌<◌, ◌⊎◌, ℤ, pos, Bool, List, [], ◌∷◌, ◌++◌, length, Option}
+use Rattle.std.specs.Prelude.{ℕ, ◌≡◌, ◌<◌, ◌⊎◌, ℤ, pos, Bool, List, [], ◌∷◌, ◌++◌, length, Option, None, Some}
 use Rattle.sot_lang.specs.Tables.{Tables}
 use Rattle.sot_world.specs.declared.mode.Mode.{Mode}
 use Rattle.sot_world.specs.declared.outcome.Why.{Why}
 use Rattle.sot_world.specs.declared.outcome.Why.TheVariants as whys
+use Rattle.sot_world.specs.Events.{IsInBounds}
 use Rattle.sot_world.specs.HistoryEntry.{Logged}
 use Rattle.sot_board.specs.Flown.{Flies, IsEnd}
 use Rattle.sot_board.specs.Standing.{Standing}
 use Rattle.sot_trace.specs.Lines.{line_of, ticks_in, refused_in}
 use Rattle.sot_trace.specs.Traces.{last_line}
 use Rattle.sot_spelled.specs.Spelled.{Spelled, InputLine, FireLine, DecideLine, TickLine, EndLine, IsSpelled}
-use Rattle.sot_spelled.specs.Shown.{Reads, Holds, ShowsDraft, BeginsFiring}
+use Rattle.sot_spelled.specs.Shown.{Reads, Holds, ShowsDraft, BeginsFiring, BeginsTick}
 use Rattle.sot_replay.specs.GoesOn.{AreHandedOver}
 use Rattle.sot_replay.specs.Tests.{IsFirstFailing}
 use Rattle.sot_replay.specs.declared.fail.LineKind.{LineKind}
@@ -67,10 +68,6 @@ SpellsInput p line time topic whole list = (t : ℕ) × (value : List ℤ) × Is
 abbrev pub SpellsDecision : Tables → List ℕ → Option ℤ → ℕ → Type 0
 SpellsDecision p line time decider = (t : ℕ) × (mode : Mode) × IsSpelled p line (DecideLine t decider mode) × Reads time (pos t)
 
--- .. a tick
-abbrev pub SpellsTick : Tables → List ℕ → Option ℤ → Bool → List ℤ → Type 0
-SpellsTick p line time whole list = (t : ℕ) × (noise states : List ℤ) × IsSpelled p line (TickLine t noise states) × Reads time (pos t) × Holds whole list noise
-
 -- .. the end
 abbrev pub SpellsEnd : Tables → List ℕ → Option ℤ → Type 0
 SpellsEnd p line ticks = (h events refused : ℕ) × IsSpelled p line (EndLine h events refused) × Reads ticks (pos h)
@@ -86,6 +83,26 @@ FiresAt p time line node = (s : Spelled) → IsSpelled p line s → (enabled : B
 -- .. at a time that is known as far as it has 64 bits
 abbrev pub BeginsAsFiring : Tables → List ℕ → Option ℤ → ℕ → Type 0
 BeginsAsFiring p line time node = (node < length p.nodes) × ((s : Spelled) → IsSpelled p line s → BeginsFiring time node s)
+
+-- what the line spells, if it spells anything, is a tick at a time that is known so
+abbrev pub BeginsAsTick : Tables → List ℕ → Option ℤ → Type 0
+BeginsAsTick p line time = (s : Spelled) → IsSpelled p line s → BeginsTick time s
+
+-- .. at any time
+abbrev pub SpellsTicks : Tables → List ℕ → Type 0
+SpellsTicks p line = (s : Spelled) → IsSpelled p line s → (t : ℕ) × (noise : List ℤ) × (states : List ℤ) × (s ≡ TickLine t noise states)
+
+-- what is read of such a line: nothing where it spells nothing, or whether the list holds its disturbances
+abbrev pub ReadsTick : Tables → List ℕ → List ℤ → Option Bool → Type 0
+ReadsTick p line list None = (s : Spelled) → IsSpelled p line s → ⊥
+ReadsTick p line list (Some whole) = (t : ℕ) × (noise : List ℤ) × (states : List ℤ) × IsSpelled p line (TickLine t noise states) × Holds whole list noise
+
+-- the test that fails of a line that spells nothing but ticks: it spells nothing, or its disturbances are out of their bounds, or they are not, and it is this one
+abbrev pub FailsTick : Tables → List ℕ → LineKind → LineKind → Type 0
+FailsTick p line kind whole =
+    ((whole ≡ NotALine) × ((s : Spelled) → IsSpelled p line s → ⊥))
+    ⊎ (((whole ≡ OutsideType) × (t : ℕ) × (noise : List ℤ) × (states : List ℤ) × IsSpelled p line (TickLine t noise states) × (IsInBounds p.plants noise → ⊥))
+    ⊎ ((whole ≡ kind) × (t : ℕ) × (noise : List ℤ) × (states : List ℤ) × IsSpelled p line (TickLine t noise states) × IsInBounds p.plants noise))
 
 -- the test that fails where only the front of the line was read before: the line spells nothing, or it spells something and it is this one
 abbrev pub FailsBy : Tables → List ℕ → LineKind → LineKind → Type 0

@@ -41,7 +41,7 @@ fn judge_whole(
         }
         Line::Fire { time, node, .. } => judge_firing(board, line, time, node, from, numbers),
         Line::Decide { time, module } => Ok(judge_decision(board, line, time, module)),
-        Line::Tick { time, whole } => Ok(judge_tick(board, line, time, whole, numbers)),
+        Line::Tick { time, .. } => judge_tick(board, line, time, from, numbers),
         Line::End { ticks } => judge_end(board, line, ticks, counts, scratch),
     }
 }
@@ -66,6 +66,7 @@ pub fn judge(
         Ok(Some(Front::Firing { time, node })) => {
             judge_firing(board, line, time, node, from, numbers)
         }
+        Ok(Some(Front::Tick { time })) => judge_tick(board, line, time, from, numbers),
         Ok(Some(Front::Whole(read))) => {
             judge_whole(board, line, read, from, counts, scratch, numbers)
         }

@@ -3,6 +3,7 @@
 //! [`replay`] flies a board along the lines: each is read, tested, and compared with the line of the entry that the board then has.
 #![tactic(auto)]
 
+mod bounds;
 mod counts;
 mod decision;
 mod end;

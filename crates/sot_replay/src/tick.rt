@@ -1,63 +1,108 @@
 //! A line that spells a tick.
 
-ghost use Rattle.std.specs.Prelude.{◌≡◌, ℤ, List, length, MatchResult};
-ghost use Rattle.sot_world.specs.Events.{IsInBounds, RefusesTick, noise_count};
-ghost use Rattle.sot_world.specs.Steps.{MayTick};
+ghost use Rattle.std.specs.Prelude.{◌≡◌, ℤ, Bool, Option, IfOk};
 ghost use Rattle.sot_trace.specs.Words.{AreWords};
-ghost use Rattle.sot_spelled.specs.Shown.{Holds};
-ghost use Rattle.sot_replay.specs.Judges.{IsJudged, SpellsTick};
+ghost use Rattle.sot_spelled.specs.declared.line.Line.TheVariants.{Tick as IsTick};
+ghost use Rattle.sot_replay.specs.Judges.{IsJudged, BeginsAsTick, SpellsTicks, ReadsTick, FailsTick};
 
+use crate::bounds::are_possible;
 use crate::entry_line::compare;
 use crate::fail::LineKind;
-use crate::judged::{Judged, kind_of};
+use crate::judged::Judged;
 use crate::now::is_now;
-use crate::ranges::bounds_have_64_bits;
+use crate::read_on::read_on;
 use sot_board::Board;
-use sot_world::{Event, Why};
+use sot_lang::Typed;
+use sot_spelled::{Line, read_line};
+use std::alloc::AllocError;
 
-// Whether a tick can come with these disturbances. One of more than 64 bits is out of its bounds.
-fn can_tick(board: &Board<'_>, whole: bool, noise: &[i64]) -> Result<(), Why>
-    requires { (all : List ℤ) × (length all ≡ noise_count board.now.accepted.program.plants) × Holds whole noise.now all }
-    ensures { (all : List ℤ) → length all ≡ noise_count board.now.accepted.program.plants → Holds whole noise.now all → MatchResult result
-        (λ _. MayTick board.now.accepted.program board.now.accepted.cert.jitter board.now.position.at × IsInBounds board.now.accepted.program.plants all)
-        (λ why. RefusesTick board.now.accepted.program board.now.accepted.cert.jitter board.now.position.at all why) }
+// Whether the list holds all disturbances of a line that was read as a tick's.
+fn is_whole(read: Line) -> bool
+    requires { (time : Option ℤ) × (whole : Bool) × (read ≡ IsTick time whole) }
+    ensures { (time : Option ℤ) (whole : Bool) → read ≡ IsTick time whole → result ≡ whole }
 {
-    if whole {
-        return board.world().can(&Event::Tick { noise });
+    match read {
+        Line::Tick { whole, .. } => whole,
+        _ => unreachable!(),
     }
-    if !board.world().may_tick() {
-        return Err(Why::NodesLeft);
-    }
-    bounds_have_64_bits(&board.typed().plants);
-    Err(Why::OutsideType)
 }
 
-/// Judges a line that spells a tick, with disturbances in the list where each of them has 64 bits: a tick comes with those that the
-/// flight states, and the line has to be that of its entry.
+// Whether the list holds all disturbances of a line of a tick, once it is read; none where it is spelled as no line.
+fn read_whole(
+    p: &Typed,
+    line: &[u8],
+    from: &mut usize,
+    numbers: &mut Vec<i64>,
+) -> Result<Option<bool>, AllocError>
+    requires words { AreWords p.now }
+    requires ticks { SpellsTicks p.now line.now }
+    ensures { IfOk result (λ whole. ReadsTick p.now line.now numbers.new.items whole) }
+{
+    match read_line(p, line, from, numbers) {
+        Ok(Some(read)) => Ok(Some(is_whole(read))),
+        Ok(None) => Ok(None),
+        Err(error) => Err(error),
+    }
+}
+
+// The test that fails of a line of a tick, where this one does if the line is spelled so and its disturbances are in their bounds.
+fn tick_kind(
+    p: &Typed,
+    line: &[u8],
+    kind: LineKind,
+    from: &mut usize,
+    numbers: &mut Vec<i64>,
+) -> Result<LineKind, AllocError>
+    requires words { AreWords p.now }
+    requires ticks { SpellsTicks p.now line.now }
+    ensures { IfOk result (λ whole. FailsTick p.now line.now kind whole) }
+{
+    let Some(whole) = read_whole(p, line, from, numbers)? else {
+        return Ok(LineKind::NotALine);
+    };
+    if are_possible(&p.plants, whole, numbers) {
+        Ok(kind)
+    } else {
+        Ok(LineKind::OutsideType)
+    }
+}
+
+/// Judges a line that begins as a tick does: a tick comes with the disturbances that the flight states, and the line has to be that of
+/// its entry. It is read to its end only where a test fails.
 pub fn judge_tick(
     board: &mut Board<'_>,
     line: &[u8],
     time: Option<i64>,
-    whole: bool,
-    noise: &[i64],
-) -> Judged
+    from: &mut usize,
+    numbers: &mut Vec<i64>,
+) -> Result<Judged, AllocError>
     requires words { AreWords board.old.accepted.program }
-    requires spelled { SpellsTick board.old.accepted.program line.now time whole noise.now }
-    ensures { IsJudged board.old board.new line.now result }
+    requires begins { BeginsAsTick board.old.accepted.program line.now time }
+    ensures { IfOk result (IsJudged board.old board.new line.now) }
 {
     board.is_standing();
+    let p = board.typed();
     if !is_now(time, board.time()) {
-        return Judged::Fails(LineKind::WrongTime);
+        return read_on(p, line, Judged::Fails(LineKind::WrongTime), from, numbers);
     }
-    if let Err(why) = can_tick(board, whole, noise) {
-        return Judged::Fails(kind_of(why));
+    if !board.world().may_tick() {
+        return read_on(p, line, Judged::Fails(LineKind::NodesLeft), from, numbers);
     }
     if board.due_input() {
-        return Judged::Fails(LineKind::InputsLeft);
+        let kind = tick_kind(p, line, LineKind::InputsLeft, from, numbers)?;
+        return Ok(Judged::Fails(kind));
     }
     if board.time() >= board.flight().horizon() {
-        return Judged::Fails(LineKind::TooFar);
+        let kind = tick_kind(p, line, LineKind::TooFar, from, numbers)?;
+        return Ok(Judged::Fails(kind));
     }
     board.tick();
-    compare(board, line)
+    match compare(board, line) {
+        Judged::Goes(added) => Ok(Judged::Goes(added)),
+        Judged::Ends => Ok(Judged::Ends),
+        Judged::Fails(differs) => {
+            let kind = tick_kind(p, line, differs, from, numbers)?;
+            Ok(Judged::Fails(kind))
+        }
+    }
 }

@@ -3,9 +3,9 @@ use Rattle.std.specs.Prelude.{ℕ, suc, ◌<◌, ◌≡◌, length, ◌^◌, ℤ
 use Rattle.sot_lang.specs.Tables.{Tables}
 use Rattle.sot_spelled.specs.declared.line.Line.{Line}
 use Rattle.sot_spelled.specs.declared.line.Front.{Front}
-use Rattle.sot_spelled.specs.declared.line.Front.TheVariants.{Firing, Whole}
+use Rattle.sot_spelled.specs.declared.line.Front.TheVariants.{Firing, Tick, Whole}
 use Rattle.sot_spelled.specs.Spelled.{Spelled}
-use Rattle.sot_spelled.specs.Shown.{Shows, BeginsFiring}
+use Rattle.sot_spelled.specs.Shown.{Shows, BeginsFiring, BeginsTick}
 
 -- the number, if it has 64 bits
 abbrev pub bounded : ℤ → Option ℤ
@@ -88,4 +88,5 @@ ShowsRead list None (Some s) = ⊥
 abbrev pub ShowsFront : Tables → List ℤ → Option Front → Option Spelled → Type 0
 ShowsFront p list None o = ShowsRead list None o
 ShowsFront p list (Some (Firing time node)) o = (node < length p.nodes) × ((s : Spelled) → o ≡ Some s → BeginsFiring time node s)
+ShowsFront p list (Some (Tick time)) o = (s : Spelled) → o ≡ Some s → BeginsTick time s
 ShowsFront p list (Some (Whole l)) o = ShowsRead list (Some l) o

@@ -9,7 +9,7 @@ use Rattle.sot_spelled.specs.Spelled.{Spelled, IsSpelled, InputLine, FireLine, D
 use Rattle.sot_spelled.specs.declared.line.Line.{Line}
 use Rattle.sot_spelled.specs.declared.line.Line.TheVariants.{Input, Fire, Decide, Tick, End}
 use Rattle.sot_spelled.specs.declared.line.Front.{Front}
-use Rattle.sot_spelled.specs.declared.line.Front.TheVariants.{Firing, Whole}
+use Rattle.sot_spelled.specs.declared.line.Front.TheVariants as fronts
 
 -- the number, or nothing where it has more than 64 bits
 abbrev pub Reads : Option ℤ → ℤ → Type 0
@@ -43,8 +43,13 @@ AnswersLine p line list None = (s : Spelled) → IsSpelled p line s → ⊥
 abbrev pub BeginsFiring : Option ℤ → ℕ → Spelled → Type 0
 BeginsFiring time node s = (t : ℕ) × (enabled : Bool) × (slots : List (Option (Bool × ℤ))) × (s ≡ FireLine t node enabled slots) × Reads time (pos t)
 
--- the answer for the front of a line: what it spells can only be such a firing; or what is looked at of the whole line
+-- a tick at this time
+abbrev pub BeginsTick : Option ℤ → Spelled → Type 0
+BeginsTick time s = (t : ℕ) × (noise : List ℤ) × (states : List ℤ) × (s ≡ TickLine t noise states) × Reads time (pos t)
+
+-- the answer for the front of a line: what it spells can only be such a firing or such a tick; or what is looked at of the whole line
 abbrev pub AnswersFront : Tables → List ℕ → List ℤ → Option Front → Type 0
 AnswersFront p line list None = AnswersLine p line list None
-AnswersFront p line list (Some (Firing time node)) = (node < length p.nodes) × ((s : Spelled) → IsSpelled p line s → BeginsFiring time node s)
-AnswersFront p line list (Some (Whole l)) = AnswersLine p line list (Some l)
+AnswersFront p line list (Some (fronts.Firing time node)) = (node < length p.nodes) × ((s : Spelled) → IsSpelled p line s → BeginsFiring time node s)
+AnswersFront p line list (Some (fronts.Tick time)) = (s : Spelled) → IsSpelled p line s → BeginsTick time s
+AnswersFront p line list (Some (fronts.Whole l)) = AnswersLine p line list (Some l)

@@ -256,20 +256,20 @@ fn behind_entry<'a>(p: &Typed, entry: &Entry<'_>, line: &'a [u8]) -> Option<&'a 
     requires { FitsEntry p.now (entry_of entry.now) }
     ensures { option_map (λ rest. rest.now) result ≡ behind_entry p.now (entry_of entry.now) line.now }
 {
-    match *entry {
-        Entry::Input { time, topic, value } => behind_input(p, time, topic, value, line),
+    match entry {
+        Entry::Input { time, topic, value } => behind_input(p, *time, *topic, value, line),
         Entry::Fire {
             time,
             node,
             draft,
             enabled,
-        } => behind_firing(p, time, node, &draft, enabled, line),
-        Entry::Decide { time, module, mode } => behind_decision(p, time, module, mode, line),
+        } => behind_firing(p, *time, *node, draft, *enabled, line),
+        Entry::Decide { time, module, mode } => behind_decision(p, *time, *module, *mode, line),
         Entry::Tick {
             time,
             noise,
             states,
-        } => behind_tick(p, time, noise, states, line),
+        } => behind_tick(p, *time, noise, states, line),
     }
 }
 

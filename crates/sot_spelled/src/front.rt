@@ -58,6 +58,9 @@ fn event_front(
     if let Some(rest) = behind_firing(text) {
         return Ok(firing_front(p, time, rest, from));
     }
+    if let Some(_moves) = behind(text, b" tick") {
+        return Ok(Some(Front::Tick { time }));
+    }
     Ok(whole(read_event(p, time, text, from, numbers)?))
 }
 
@@ -80,8 +83,8 @@ fn front(
 }
 
 /// What is looked at first of a line, none where it is spelled as no line that stands behind the start lines. Of a line that begins as
-/// a firing does, this is its time and its node, whether it is spelled so to its end or not, and of any other line what [`read_line`]
-/// tells of it, with the same place and list, and the same error.
+/// a firing or a tick does, this is its time, and a firing's node, whether it is spelled so to its end or not, and of any other line what
+/// [`read_line`] tells of it, with the same place and list, and the same error.
 ///
 /// [`read_line`]: crate::read_line
 pub fn read_front(

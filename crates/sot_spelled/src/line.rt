@@ -38,6 +38,8 @@ pub enum Front {
     /// It can be spelled only as a firing of this node at this time, enabled or not. What stands behind the node's name has not been
     /// looked at.
     Firing { time: Option<i64>, node: u32 },
+    /// It can be spelled only as a tick at this time. What stands behind the word has not been looked at.
+    Tick { time: Option<i64> },
     /// Any other line, to its end.
     Whole(Line),
 }
