@@ -17,7 +17,7 @@ use Rattle.json.specs.Lex.{Lexeme, token, Class, quote, backslash, operator, spa
 use Rattle.serde_json.specs.Data.{Data}
 use Rattle.serde_json.specs.Read.{read}
 use Rattle.sot_cert.specs.Json.{json_of}
-use Rattle.sot_lines.proofs.PlainTexts.{is_one_line, first_of, second_of, not_true}
+use Rattle.sot_certified_text.proofs.PlainTexts.{is_one_line, first_of, second_of, not_true}
 
 -- a text and a line end
 abbrev ended : List ℕ → List ℕ

@@ -6,8 +6,8 @@ use Rattle.std.proofs.lemmas.Bool.Decides.{nat_tests}
 use Rattle.json.specs.Print.{escape_letter, escape_byte, escape, quoted}
 use Rattle.serde_json.specs.Data.{Num, unsigned, negative, float, Data, null, boolean, number, string, array, object, Items, no_items, item, Members, no_members, member}
 use Rattle.serde_json.specs.Written.{number_text, comma_if, compact_text, items_text, members_text}
-use Rattle.sot_lines.proofs.PlainTexts.{is_one_line, both, one_line_on}
-use Rattle.sot_lines.proofs.Digits.{decimal_one_line, signed_one_line}
+use Rattle.sot_certified_text.proofs.PlainTexts.{is_one_line, both, one_line_on}
+use Rattle.sot_certified_text.proofs.Digits.{decimal_one_line, signed_one_line}
 
 digit_no_end : (d : ℕ) → not (digit_char d == 10) ≡ true
 digit_no_end d =

@@ -2,9 +2,9 @@
 use Rattle.std.proofs.Common.{refl}
 use Rattle.serde_json.specs.Written.{compact_text}
 use Rattle.sot_print.specs.Canonical.{canonical}
-use Rattle.sot_lines.proofs.PlainTexts.{line_alone, line_plain}
-use Rattle.sot_lines.proofs.Missions.{stand_behind}
-use Rattle.sot_lines.proofs.TidyPrograms.{canonical_plain}
+use Rattle.sot_certified_text.proofs.PlainTexts.{line_alone, line_plain}
+use Rattle.sot_certified_text.proofs.Missions.{stand_behind}
+use Rattle.sot_certified_text.proofs.TidyPrograms.{canonical_plain}
 use Rattle.sot_certified_text.specs.CertText.{certificate_data, certificate_line}
 use Rattle.sot_certified_text.specs.Lines.{CertificateLinesArePlain, CertifiedTextsDivide}
 use Rattle.sot_certified_text.proofs.JsonLines.{data_one_line}

@@ -14,7 +14,7 @@ use Rattle.sot_cert.specs.declared.fault.JsonKind.TheVariants.{OutsideRange, Emp
 use Rattle.sot_cert.specs.Says.{Says, ◌>>=◌, unless, part}
 use Rattle.sot_cert.specs.Json.{whole, each_after, each}
 use Rattle.sot_cert.specs.CertFormat.{number as number_says, side, cell, cells, region_of}
-use Rattle.sot_lines.proofs.PlainTexts.{both}
+use Rattle.sot_certified_text.proofs.PlainTexts.{both}
 use Rattle.sot_certified_text.specs.CertText.{side_data, cell_data, cells_data, items_by}
 use Rattle.sot_certified_text.specs.ReadBack.{IsShort, AreShort}
 

@@ -8,8 +8,8 @@ use Rattle.sot_text.specs.Sections.{lines, split_of}
 use Rattle.sot_tree.specs.Trees.{Program}
 use Rattle.sot_tree.specs.Formed.{IsFormed}
 use Rattle.sot_print.specs.Canonical.{canonical}
-use Rattle.sot_lines.specs.Plain.{IsPlain}
-use Rattle.sot_lines.specs.Missions.{mission_text}
+use Rattle.sot_certified_text.specs.Plain.{IsPlain}
+use Rattle.sot_certified_text.specs.Missions.{mission_text}
 use Rattle.sot_lists.specs.Places.{At}
 use Rattle.sot_lang.specs.declared.cert.Cert.{Cert}
 use Rattle.sot_lang.specs.declared.tables.ModuleInfo.{ModuleInfo}

@@ -6,7 +6,7 @@ use Rattle.sot_tree.specs.Trees.{Program}
 use Rattle.sot_tree.specs.Formed.{IsFormed}
 use Rattle.sot_typing.specs.Resolved.{AreTables}
 use Rattle.sot_print.specs.Canonical.{canonical}
-use Rattle.sot_lines.specs.Missions.{mission_text}
+use Rattle.sot_certified_text.specs.Missions.{mission_text}
 use Rattle.sot_box.specs.Sides.{Side}
 use Rattle.sot_box.specs.BoxList.{BoxList}
 use Rattle.sot_lists.specs.Places.{At}

@@ -1,15 +1,20 @@
-//! Certificates as text.
+//! The text of a certified program, and what follows when it is read again.
 //!
-//! [`certificate_line`] writes a certificate without jitter as one line of JSON, which a reader of certificates reads back. [`fail_text`]
-//! says why there is none.
+//! [`certificate_line`] writes a certificate without jitter as one line of JSON, which a reader of certificates reads back;
+//! [`mission_text`] writes the whole mission. [`fail_text`] says why there is none. The laws say that no line of a program's canonical
+//! text is a section line, that the whole divides into its sections, and that it is accepted when it is read again.
 #![tactic(auto)]
 
+mod facts;
 mod fail_line;
 mod laws;
 mod line;
+mod plain;
+mod read_again;
 mod value;
 mod whole;
 
+pub use facts::lines_are_as_stated;
 pub use fail_line::fail_text;
 pub use laws::{
     certificate_lines_are_plain, certificate_lines_read_back, certificates_read_back,
@@ -17,4 +22,8 @@ pub use laws::{
     made_certificates_are_writable, tables_have_short_regions,
 };
 pub use line::{certificate_json, certificate_line};
+pub use plain::{canonical_texts_are_plain, certificates_stand_behind};
+pub use read_again::{
+    written_missions_are_certified, written_missions_are_not_refused, written_texts_have_no_fault,
+};
 pub use whole::mission_text;

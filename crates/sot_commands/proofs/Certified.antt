@@ -10,19 +10,19 @@ use Rattle.sot_lang.specs.declared.cert.Cert.{Cert}
 use Rattle.sot_parser.specs.Programs.{Spells}
 use Rattle.sot_parser.specs.declared.syntax.Syntax.{Syntax}
 use Rattle.sot_parser.specs.ParseAnswers.{fault_at}
-use Rattle.sot_places.proofs.ExactPlaces.{fault_is_placed}
+use Rattle.sot_law_fault_place.proofs.ExactPlaces.{fault_is_placed}
 use Rattle.sot_parser.proofs.ProgramTexts.{spells_unique}
 use Rattle.sot_rules.specs.declared.fault.TypeFault.{TypeFault}
 use Rattle.sot_rules.specs.First.{IsFirstFault}
 use Rattle.sot_print.specs.Canonical.{canonical}
-use Rattle.sot_canon.specs.Unplaced.{AreSame}
-use Rattle.sot_canon.proofs.Canonical.{canonical_text}
-use Rattle.sot_canon.proofs.FormedPrograms.{spelled_formed}
+use Rattle.sot_law_format.specs.Unplaced.{AreSame}
+use Rattle.sot_law_format.proofs.Canonical.{canonical_text}
+use Rattle.sot_law_format.proofs.FormedPrograms.{spelled_formed}
 use Rattle.sot_certify.specs.declared.fail.CertifyFail.{CertifyFail}
 use Rattle.sot_certify.specs.declared.fail.CertifyFail.TheVariants.{Memory}
 use Rattle.sot_certify.specs.Certifying.{Certifies}
 use Rattle.sot_certified_text.specs.CertText.{certificate_line}
-use Rattle.sot_lines.specs.Missions.{mission_text}
+use Rattle.sot_certified_text.specs.Missions.{mission_text}
 use Rattle.sot_certified_text.specs.FailTexts.{fail_text}
 use Rattle.sot_certified_text.proofs.Lines.{texts_divide}
 use Rattle.sot_report.specs.declared.fault.Fault.TheVariants as faults
@@ -34,7 +34,7 @@ use Rattle.sot_commands.specs.Answers.{SpellsFor, IsCertifiedText, IsRefusedFor,
 use Rattle.sot_commands.specs.Steps.{IsWritten, CertifiesTables, CertifiesTree}
 use Rattle.sot_tube.specs.Refusals.{Refusal}
 use Rattle.sot_report.specs.declared.fault.Fault.{Fault}
-use Rattle.sot_reread.proofs.Written.{no_fault, missions_passed}
+use Rattle.sot_certified_text.proofs.Written.{no_fault, missions_passed}
 
 -- the first section of what was written is the canonical text, so the mission's program is the one that was read
 same_ok : {A E : Type 0} (x : Result A E) (a b : A) → x ≡ Ok a → x ≡ Ok b → a ≡ b

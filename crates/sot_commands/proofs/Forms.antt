@@ -9,7 +9,7 @@ use Rattle.sot_lang.specs.declared.cert.Cert.{Cert}
 use Rattle.sot_parser.specs.Programs.{Spells}
 use Rattle.sot_parser.specs.declared.syntax.Syntax.{Syntax}
 use Rattle.sot_parser.specs.ParseAnswers.{fault_at}
-use Rattle.sot_places.proofs.ExactPlaces.{fault_is_placed}
+use Rattle.sot_law_fault_place.proofs.ExactPlaces.{fault_is_placed}
 use Rattle.sot_print.specs.Canonical.{canonical}
 use Rattle.sot_tube.specs.Refusals.{Refusal}
 use Rattle.sot_tube.specs.Certified.{IsWellCertified}

@@ -13,8 +13,8 @@ use Rattle.sot_world.specs.HistoryEntry.{Logged}
 use Rattle.sot_flight.specs.Plans.{Plan, Crew, Coded, Script, Wild, Guest}
 use Rattle.sot_board.specs.Flown.{FlownBy}
 use Rattle.sot_board.specs.Standing.{Standing}
-use Rattle.sot_shift.specs.Askings.{Asking}
-use Rattle.sot_shift.specs.Answers.{Answered}
+use Rattle.sot_node_worker.specs.Askings.{Asking}
+use Rattle.sot_node_worker.specs.Answers.{Answered}
 use Rattle.sot_flight.specs.Fits.{FitsFlight}
 use Rattle.sot_workers.specs.Asked.{EachAnswered, EachUnnamedStays}
 use Rattle.sot_workers.specs.Flying.{HasNoGuests}

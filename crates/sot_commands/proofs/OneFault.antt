@@ -12,15 +12,15 @@ use Rattle.sot_parser.specs.Programs.{Spells}
 use Rattle.sot_parser.specs.declared.syntax.Syntax.{Syntax}
 use Rattle.sot_parser.specs.declared.syntax.Syntax.TheVariants.{Lex, Token, Deep}
 use Rattle.sot_parser.proofs.ProgramTexts.{spells_unique}
-use Rattle.sot_places.specs.Places.{IsFaultOf}
-use Rattle.sot_places.proofs.OnePlace.{exact_places_are_one}
+use Rattle.sot_law_fault_place.specs.Places.{IsFaultOf}
+use Rattle.sot_law_fault_place.proofs.OnePlace.{exact_places_are_one}
 use Rattle.sot_rules.specs.declared.fault.TypeFault.{TypeFault}
 use Rattle.sot_rules.specs.declared.fault.TypeKind.{TypeKind}
 use Rattle.sot_rules.specs.declared.fault.TypeKind.TheVariants.{Unknown, Twice, ScaleDiffers, KindDiffers, RangeEmpty, InitOutside, ReadsAndWrites, TooMany, RangeWide, NoModule, PeriodOutside, NextMissing}
 use Rattle.sot_rules.specs.First.{number_of, IsFirstFault, IsFaultless}
 use Rattle.sot_lang.specs.Tables.{Tables}
 use Rattle.sot_typing.specs.Resolved.{tables_seen}
-use Rattle.sot_alike.proofs.Flights.{flights_alike}
+use Rattle.sot_law_same_tables.proofs.Flights.{flights_alike}
 use Rattle.sot_cert.specs.declared.fault.JsonFault.{JsonFault}
 use Rattle.sot_cert.specs.CertFormat.{cert_of}
 use Rattle.sot_maker.specs.Missions.{mission_text as made_text}

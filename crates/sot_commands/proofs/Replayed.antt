@@ -20,13 +20,13 @@ use Rattle.sot_world.specs.HistoryEntry.{Logged}
 use Rattle.sot_world.specs.Opens.{StartInside}
 use Rattle.sot_flight.specs.Plans.{Plan}
 use Rattle.sot_trace.specs.Words.{AreWords}
-use Rattle.sot_spelled.specs.LentLines.{lent_lines}
+use Rattle.sot_trace_lines.specs.LentLines.{lent_lines}
 use Rattle.sot_replay.specs.GoesOn.{IsTraceOf}
 use Rattle.sot_replay.specs.Replays.{IsRefusedAt}
 use Rattle.sot_replay.specs.declared.fail.LineKind.{LineKind}
-use Rattle.sot_told.proofs.Named.{names}
-use Rattle.sot_told.proofs.Looks.{trace_lines_same}
-use Rattle.sot_flown_alike.proofs.Histories.{whole}
+use Rattle.sot_law_one_trace.proofs.Named.{names}
+use Rattle.sot_law_one_trace.proofs.Looks.{trace_lines_same}
+use Rattle.sot_law_same_flights.proofs.Histories.{whole}
 use Rattle.sot_report.specs.declared.fault.Fault.{Fault}
 use Rattle.sot_report.specs.Missions.{Mission, SaysFlight, HasFault}
 use Rattle.sot_report.specs.FaultTexts.{fault_text}

@@ -20,7 +20,7 @@ use Rattle.sot_cert.specs.CertFormat.{Contents, contents, cert_of}
 use Rattle.sot_cert.specs.declared.fault.JsonFault.{JsonFault}
 use Rattle.sot_flight.specs.Plans.{Plan}
 use Rattle.sot_world.specs.HistoryEntry.{Logged}
-use Rattle.sot_spelled.specs.LentLines.{lent_lines}
+use Rattle.sot_trace_lines.specs.LentLines.{lent_lines}
 use Rattle.sot_replay.specs.GoesOn as goes_on
 use Rattle.sot_replay.specs.Replays.{IsRefusedAt}
 use Rattle.sot_replay.specs.declared.fail.LineKind.{LineKind}
@@ -32,11 +32,11 @@ use Rattle.sot_tube.specs.Certified.{IsWellCertified}
 use Rattle.sot_tube.specs.Refusals.{Refusal}
 use Rattle.sot_tube.proofs.Acceptance.{certified_passes}
 use Rattle.sot_tube.proofs.VerdictExact.{verdict_exact}
-use Rattle.sot_alike.proofs.Certificates.{certificates_alike}
-use Rattle.sot_alike.proofs.Certified.{certified_alike}
-use Rattle.sot_alike.proofs.Seen.{modules_same}
-use Rattle.sot_alike.proofs.Flights.{flights_alike}
-use Rattle.sot_certify_alike.proofs.Certify.{certify_alike}
+use Rattle.sot_law_same_tables.proofs.Certificates.{certificates_alike}
+use Rattle.sot_law_same_tables.proofs.Certified.{certified_alike}
+use Rattle.sot_law_same_tables.proofs.Seen.{modules_same}
+use Rattle.sot_law_same_tables.proofs.Flights.{flights_alike}
+use Rattle.sot_law_same_certificate.proofs.Certify.{certify_alike}
 use Rattle.sot_world.specs.Opens.{StartInside, IsFirstOutside}
 use Rattle.sot_report.specs.declared.fault.Fault.{Fault}
 use Rattle.sot_report.specs.declared.fault.Fault.TheVariants as faults

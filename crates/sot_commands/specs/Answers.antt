@@ -6,7 +6,7 @@ use Rattle.sot_tree.specs.Trees.{Program}
 use Rattle.sot_parser.specs.Programs.{Spells}
 use Rattle.sot_text.specs.Ahead.{ahead_from}
 use Rattle.sot_parser.specs.declared.syntax.Syntax.{Syntax}
-use Rattle.sot_places.specs.Places.{IsFaultOf}
+use Rattle.sot_law_fault_place.specs.Places.{IsFaultOf}
 use Rattle.sot_print.specs.Canonical.{canonical}
 use Rattle.sot_tube.specs.Certified.{IsWellCertified}
 use Rattle.sot_tube.specs.Verdict.{verdict}
@@ -19,7 +19,7 @@ use Rattle.sot_board.specs.Flown.{FlownBy}
 use Rattle.sot_trace.specs.Traces.{trace_text}
 use Rattle.sot_summary.specs.Summaries.{summary_of}
 use Rattle.sot_summary.specs.SummaryText.{summary_text}
-use Rattle.sot_spelled.specs.LentLines.{lent_lines}
+use Rattle.sot_trace_lines.specs.LentLines.{lent_lines}
 use Rattle.sot_replay.specs.GoesOn as goes_on
 use Rattle.sot_replay.specs.Replays.{IsRefusedAt}
 use Rattle.sot_replay.specs.declared.fail.LineKind.{LineKind}
@@ -28,12 +28,12 @@ use Rattle.sot_lang.specs.Tables.{Tables}
 use Rattle.sot_lang.specs.declared.cert.Cert.{Cert}
 use Rattle.sot_lang.specs.CertRules.{FitsTables}
 use Rattle.sot_rules.specs.First.{IsFirstFault}
-use Rattle.sot_canon.specs.Unplaced.{AreSame}
+use Rattle.sot_law_format.specs.Unplaced.{AreSame}
 use Rattle.sot_certify.specs.declared.fail.CertifyFail.{CertifyFail}
 use Rattle.sot_certify.specs.declared.fail.CertifyFail.TheVariants.{Memory}
 use Rattle.sot_certify.specs.Certifying.{Certifies}
 use Rattle.sot_certified_text.specs.CertText.{certificate_line}
-use Rattle.sot_lines.specs.Missions.{mission_text}
+use Rattle.sot_certified_text.specs.Missions.{mission_text}
 use Rattle.sot_certified_text.specs.FailTexts.{fail_text}
 use Rattle.sot_maker.specs.Missions.{mission_text as made_text}
 use Rattle.sot_report.specs.declared.fault.Fault.{Fault}

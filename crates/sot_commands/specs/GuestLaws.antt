@@ -2,8 +2,8 @@
 use Rattle.std.specs.Prelude.{◌≡◌, ℕ, List, Option, Some}
 use Rattle.sot_lists.specs.Places.{At}
 use Rattle.sot_flight.specs.Plans.{Guest}
-use Rattle.sot_shift.specs.Askings.{Asking}
-use Rattle.sot_shift.specs.Answers.{HasAnswered}
+use Rattle.sot_node_worker.specs.Askings.{Asking}
+use Rattle.sot_node_worker.specs.Answers.{HasAnswered}
 use Rattle.sot_workers.specs.Flying.{IsUnnamed}
 use Rattle.sot_commands.specs.Guests.{Flew}
 

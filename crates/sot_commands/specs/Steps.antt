@@ -25,7 +25,7 @@ use Rattle.sot_rules.specs.declared.fault.TypeFault.{TypeFault}
 use Rattle.sot_rules.specs.First.{IsFirstFault}
 use Rattle.sot_tree.specs.Trees.{Program}
 use Rattle.sot_parser.specs.Programs.{Spells}
-use Rattle.sot_reread.specs.Laws.{IsCertificateOf, written}
+use Rattle.sot_certified_text.specs.ReadAgain.{IsCertificateOf, written}
 use Rattle.sot_commands.specs.Texts.{usage_text, long_text}
 use Rattle.sot_commands.specs.Answers.{IsTraceOf, IsSummaryOf, IsOutsideOf, IsLegal, IsIllegal, FliesWith, DoesNotFly, IsCertifiedText, IsNotCertified, SpellsAccepted, Replies, input_limit}
 use Rattle.sot_commands.specs.declared.telling.Telling.{Telling}

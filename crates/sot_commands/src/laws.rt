@@ -3,7 +3,7 @@
 ghost use Rattle.sot_commands.specs.Laws.{AcceptedOnce, RefusedOnce, LinesRefusedOnce, RejectedOnce};
 ghost use Rattle.sot_commands.specs.GuestLaws.{FlewOnce, NamedAreAsked, OthersStay};
 
-use sot_shift::Controller;
+use sot_node_worker::Controller;
 
 /// What is accepted is told with one text, but for the commands that fly.
 pub fn accepted_once()

@@ -8,11 +8,11 @@ use Rattle.sot_lang.specs.declared.term.Term.{Term}
 use Rattle.sot_lang.specs.declared.tables.PlantInfo.{PlantInfo}
 use Rattle.sot_lang.specs.declared.tables.NodeInfo.{NodeInfo}
 use Rattle.sot_lang.specs.Line.{next_x, slow_term, slow_acts, pos_plant, fast, slow}
-use Rattle.sot_canon.specs.Unplaced.{nowhere}
+use Rattle.sot_law_format.specs.Unplaced.{nowhere}
 use Rattle.sot_typing.specs.Formulas.{Formula, number, place, binary, chosen, published, no_deed, deed, formula_view, deeds_view}
 use Rattle.sot_typing.specs.Resolved.{plant_seen, node_seen}
-use Rattle.sot_unplaced.specs.UnplacedTables.{unplaced_formula, unplaced_deeds, unplaced_plant_table, unplaced_node_table}
-use Rattle.sot_worked.specs.Line.{IsMove, IsReturn, IsCommand, IsPos, IsFast, IsSlow}
+use Rattle.sot_law_same_tables.specs.UnplacedTables.{unplaced_formula, unplaced_deeds, unplaced_plant_table, unplaced_node_table}
+use Rattle.sot_test_missions.specs.Line.{IsMove, IsReturn, IsCommand, IsPos, IsFast, IsSlow}
 use Rattle.sot_one_line.specs.OneLine.{plain_module, WorkedTablesAreTheLine}
 
 -- how an expression looks without places

@@ -7,8 +7,8 @@ use Rattle.sot_lang.specs.Tables.{Tables}
 use Rattle.sot_lang.specs.Line.{line}
 use Rattle.sot_typing.specs.Resolved.{ProgramTables, tables_seen, tables_of}
 use Rattle.sot_typing.specs.Examples as examples
-use Rattle.sot_unplaced.specs.UnplacedTables.{unplaced_tables}
-use Rattle.sot_worked.specs.Line.{IsMove, IsLine}
+use Rattle.sot_law_same_tables.specs.UnplacedTables.{unplaced_tables}
+use Rattle.sot_test_missions.specs.Line.{IsMove, IsLine}
 
 -- a region whose index is forgotten
 abbrev pub plain_region : BoxList → BoxList

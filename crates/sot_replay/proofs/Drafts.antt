@@ -6,7 +6,7 @@ use Rattle.sot_lists.specs.Places.{At, Has}
 use Rattle.sot_lang.specs.Tables.{Tables}
 use Rattle.sot_code.specs.Recorded.{in_slots}
 use Rattle.sot_trace.specs.Drafts.{is_in_range}
-use Rattle.sot_spelled.specs.Laws.{marks_of}
+use Rattle.sot_trace_lines.specs.Laws.{marks_of}
 
 -- the draft without the marks
 unmarked_front : (p : Tables) (ks : List ℕ) (draft rest : List (Option ℤ)) → length draft ≡ length ks → map (option_map (λ (slot : Bool × ℤ). slot.1)) (marks_of p ks (draft ++ rest)) ≡ draft

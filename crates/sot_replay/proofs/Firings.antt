@@ -25,10 +25,10 @@ use Rattle.sot_board.specs.Calls.{Logs}
 use Rattle.sot_board.proofs.Crews.{crew_drafts}
 use Rattle.sot_trace.specs.Lines.{line_of, writes_of}
 use Rattle.sot_trace.specs.Words.{AreWords}
-use Rattle.sot_spelled.specs.Bits.{Has64Bits}
-use Rattle.sot_spelled.specs.Spelled.{FireLine, IsSpelled}
-use Rattle.sot_spelled.specs.Shown.{ShowsDraft}
-use Rattle.sot_spelled.specs.Laws.{marks_of}
+use Rattle.sot_trace_lines.specs.Bits.{Has64Bits}
+use Rattle.sot_trace_lines.specs.Spelled.{FireLine, IsSpelled}
+use Rattle.sot_trace_lines.specs.Shown.{ShowsDraft}
+use Rattle.sot_trace_lines.specs.Laws.{marks_of}
 use Rattle.sot_replay.specs.GoesOn.{AreHandedOver}
 use Rattle.sot_replay.specs.Tests.{IsNextLine}
 use Rattle.sot_replay.proofs.SpelledEntries.{spells_entry, firing_of, fires}

@@ -6,7 +6,7 @@ use Rattle.sot_world.specs.declared.outcome.Why.TheVariants as whys
 use Rattle.sot_world.specs.HistoryEntry.{Logged}
 use Rattle.sot_flight.specs.Plans.{Plan}
 use Rattle.sot_board.specs.Flown.{Position}
-use Rattle.sot_spelled.specs.Spelled.{Spelled, spelled_time, IsSpelled}
+use Rattle.sot_trace_lines.specs.Spelled.{Spelled, spelled_time, IsSpelled}
 use Rattle.sot_replay.specs.declared.fail.LineKind.{LineKind}
 use Rattle.sot_replay.specs.declared.fail.LineKind.TheVariants.{NotALine, WrongTime, NotDue, AlreadyFired, NodesLeft, OutsideType, InputsLeft, TooFar, Differs, Ended, Missing}
 use Rattle.sot_replay.specs.Tests.{order_of, WorldRefuses, LeavesInputs, IsTooFar, IsGiven, Fails, IsFirstFailing}

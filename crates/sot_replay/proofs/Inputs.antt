@@ -8,7 +8,7 @@ use Rattle.sot_board.specs.Flown.{IsStated, Tells}
 use Rattle.sot_board.specs.Calls.{InputDue, Logs}
 use Rattle.sot_trace.specs.Lines.{line_of}
 use Rattle.sot_trace.specs.Words.{AreWords}
-use Rattle.sot_spelled.specs.Spelled.{InputLine, IsSpelled}
+use Rattle.sot_trace_lines.specs.Spelled.{InputLine, IsSpelled}
 use Rattle.sot_replay.specs.GoesOn.{AreHandedOver}
 use Rattle.sot_replay.specs.Tests.{IsNextLine}
 use Rattle.sot_replay.proofs.SpelledEntries.{spells_entry, input_of, takes}

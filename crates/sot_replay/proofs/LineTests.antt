@@ -23,10 +23,10 @@ use Rattle.sot_world.proofs.LineSteps as line_step
 use Rattle.sot_board.specs.Flown.{Position, IsStated, Tells, Flies}
 use Rattle.sot_trace.specs.Lines.{header, line_of}
 use Rattle.sot_trace.proofs.Worked.{words}
-use Rattle.sot_spelled.specs.Readers.{spelled_at, starts_some}
-use Rattle.sot_spelled.specs.Spelled.{FireLine, DecideLine, TickLine, EndLine, IsStartLine}
-use Rattle.sot_spelled.proofs.ReadLines.{read_spelled}
-use Rattle.sot_spelled.proofs.StartLines.{starts_is}
+use Rattle.sot_trace_lines.specs.Readers.{spelled_at, starts_some}
+use Rattle.sot_trace_lines.specs.Spelled.{FireLine, DecideLine, TickLine, EndLine, IsStartLine}
+use Rattle.sot_trace_lines.proofs.ReadLines.{read_spelled}
+use Rattle.sot_trace_lines.proofs.StartLines.{starts_is}
 use Rattle.sot_replay.specs.GoesOn.{GoesOn}
 use Rattle.sot_replay.specs.Tests.{WorldRefuses, IsNextLine}
 use Rattle.sot_replay.specs.Replays.{IsRefusedAt}

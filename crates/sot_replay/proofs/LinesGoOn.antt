@@ -16,11 +16,11 @@ use Rattle.sot_trace.specs.Lines.{line_of}
 use Rattle.sot_trace.specs.Traces.{last_line, trace_lines}
 use Rattle.sot_trace.specs.Words.{AreWords}
 use Rattle.sot_trace.proofs.FlownTold.{flown_told}
-use Rattle.sot_spelled.specs.Spelled.{Spelled, IsSpelled}
-use Rattle.sot_spelled.specs.Laws.{spelled_of}
-use Rattle.sot_spelled.proofs.ReadLines.{spelled_once, entries_spelled}
-use Rattle.sot_completion.specs.Completion.{GuestsDraftNothing}
-use Rattle.sot_completion.proofs.Completing.{stands_after, flights_can_be_completed}
+use Rattle.sot_trace_lines.specs.Spelled.{Spelled, IsSpelled}
+use Rattle.sot_trace_lines.specs.Laws.{spelled_of}
+use Rattle.sot_trace_lines.proofs.ReadLines.{spelled_once, entries_spelled}
+use Rattle.sot_law_flights.specs.Completion.{GuestsDraftNothing}
+use Rattle.sot_law_flights.proofs.Completing.{stands_after, flights_can_be_completed}
 use Rattle.sot_replay.specs.GoesOn.{AreHandedOver, IsTraceOf, GoesOn}
 use Rattle.sot_replay.specs.Tests.{IsNextLine, Fails, IsFirstFailing}
 use Rattle.sot_replay.specs.Replays.{opening_lines, Tell}

@@ -12,7 +12,7 @@ use Rattle.sot_lang.specs.declared.tables.NoiseInfo.{NoiseInfo}
 use Rattle.sot_lang.specs.declared.tables.PlantInfo.{PlantInfo}
 use Rattle.sot_lang.specs.Ranges.{range_of}
 use Rattle.sot_world.specs.Events.{noise_count, IsInBounds}
-use Rattle.sot_spelled.specs.Bits.{Has64Bits}
+use Rattle.sot_trace_lines.specs.Bits.{Has64Bits}
 
 between : (lo hi z : ℤ) → Has64Bits lo → Has64Bits hi → lo ≤ℤ z → z ≤ℤ hi → Has64Bits z
 between lo (pos h) (pos n) low high from to = omega (arith, ints)

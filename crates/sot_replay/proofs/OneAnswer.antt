@@ -18,8 +18,8 @@ use Rattle.sot_trace.specs.Words.{AreWords}
 use Rattle.sot_trace.proofs.LineTexts.{line_same}
 use Rattle.sot_trace.proofs.FlownTold.{flown_told}
 use Rattle.sot_trace.proofs.TraceTexts.{text_tells}
-use Rattle.sot_spelled.specs.Spelled.{Spelled, InputLine, FireLine, DecideLine, TickLine, EndLine}
-use Rattle.sot_spelled.proofs.ReadLines.{spelled_once}
+use Rattle.sot_trace_lines.specs.Spelled.{Spelled, InputLine, FireLine, DecideLine, TickLine, EndLine}
+use Rattle.sot_trace_lines.proofs.ReadLines.{spelled_once}
 use Rattle.sot_replay.specs.GoesOn.{IsTraceOf, GoesOn}
 use Rattle.sot_replay.specs.Tests.{order_of, WorldRefuses, Fails, FailsFirst, IsFirstFailing}
 use Rattle.sot_replay.specs.Replays.{opening_lines, Tell, RefusesStart, RefusesLine, StopsShort, StopsAt, IsRefusedAt}

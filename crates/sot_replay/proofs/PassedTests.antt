@@ -29,8 +29,8 @@ use Rattle.sot_board.proofs.Ticks.{joined_within}
 use Rattle.sot_trace.specs.Lines.{writes_of, ticks_in, refused_in}
 use Rattle.sot_trace.specs.Traces.{last_line}
 use Rattle.sot_trace.proofs.Printable.{told_fits}
-use Rattle.sot_spelled.specs.Spelled.{Spelled, InputLine, DecideLine, TickLine, EndLine, spelled_time, Fits}
-use Rattle.sot_spelled.specs.Laws.{marks_of, spelled_of}
+use Rattle.sot_trace_lines.specs.Spelled.{Spelled, InputLine, DecideLine, TickLine, EndLine, spelled_time, Fits}
+use Rattle.sot_trace_lines.specs.Laws.{marks_of, spelled_of}
 use Rattle.sot_replay.specs.Tests.{WorldRefuses, LeavesInputs, IsTooFar, IsNextLine, IsGiven, Fails}
 use Rattle.sot_replay.specs.declared.fail.LineKind.{LineKind}
 use Rattle.sot_replay.specs.declared.fail.LineKind.TheVariants.{NotALine, WrongTime, NotDue, AlreadyFired, NodesLeft, OutsideType, InputsLeft, TooFar, Differs, Ended, Missing}

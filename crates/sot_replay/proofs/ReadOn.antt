@@ -10,11 +10,11 @@ use Rattle.sot_board.specs.Standing.{Standing}
 use Rattle.sot_board.specs.Calls.{Logs}
 use Rattle.sot_trace.specs.Lines.{line_of}
 use Rattle.sot_trace.specs.Words.{AreWords}
-use Rattle.sot_spelled.specs.Spelled.{Spelled, TickLine, IsSpelled}
-use Rattle.sot_spelled.specs.Shown.{Shows, Reads, Holds, ShowsDraft, BeginsFiring, BeginsTick}
-use Rattle.sot_spelled.specs.declared.line.Line.{Line}
-use Rattle.sot_spelled.specs.declared.line.Line.TheVariants.{Input, Fire, Decide, Tick, End}
-use Rattle.sot_spelled.proofs.ReadLines.{spelled_once}
+use Rattle.sot_trace_lines.specs.Spelled.{Spelled, TickLine, IsSpelled}
+use Rattle.sot_trace_lines.specs.Shown.{Shows, Reads, Holds, ShowsDraft, BeginsFiring, BeginsTick}
+use Rattle.sot_trace_lines.specs.declared.line.Line.{Line}
+use Rattle.sot_trace_lines.specs.declared.line.Line.TheVariants.{Input, Fire, Decide, Tick, End}
+use Rattle.sot_trace_lines.proofs.ReadLines.{spelled_once}
 use Rattle.sot_replay.specs.declared.fail.LineKind.{LineKind}
 use Rattle.sot_replay.specs.declared.fail.LineKind.TheVariants.{Differs, OutsideType}
 use Rattle.sot_replay.specs.declared.judged.Judged.{Judged}

@@ -31,9 +31,9 @@ use Rattle.sot_board.specs.Flown.{NoInputDue, IsStated, Tells, FlownBy}
 use Rattle.sot_board.specs.Examples.{relay_flight, relay_history, copies}
 use Rattle.sot_board.proofs.RelayFlight.{flown}
 use Rattle.sot_trace.specs.Lines.{line_of}
-use Rattle.sot_spelled.specs.Readers.{spelled_at}
-use Rattle.sot_spelled.proofs.ReadLines.{read_spelled}
-use Rattle.sot_spelled.specs.Spelled.{InputLine, FireLine, TickLine, EndLine, IsSpelled}
+use Rattle.sot_trace_lines.specs.Readers.{spelled_at}
+use Rattle.sot_trace_lines.proofs.ReadLines.{read_spelled}
+use Rattle.sot_trace_lines.specs.Spelled.{InputLine, FireLine, TickLine, EndLine, IsSpelled}
 use Rattle.sot_replay.specs.GoesOn.{AreHandedOver}
 use Rattle.sot_replay.specs.Tests.{WorldRefuses, IsNextLine}
 use Rattle.sot_replay.specs.Examples.{starting, heard, unheard, copied, other_history, TwoTraces, FailsAt, OtherFirstLines, OtherLastLines, SpellNothing}

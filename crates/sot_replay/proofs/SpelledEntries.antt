@@ -10,9 +10,9 @@ use Rattle.sot_board.specs.Standing.{Standing, IsStanding}
 use Rattle.sot_board.specs.Flown.{Position, Tells, Flies}
 use Rattle.sot_trace.specs.Lines.{line_of, writes_of}
 use Rattle.sot_trace.specs.Words.{AreWords}
-use Rattle.sot_spelled.specs.Spelled.{Spelled, InputLine, FireLine, DecideLine, TickLine, IsSpelled}
-use Rattle.sot_spelled.specs.Laws.{marks_of, spelled_of}
-use Rattle.sot_spelled.proofs.ReadLines.{spelled_once, entries_spelled}
+use Rattle.sot_trace_lines.specs.Spelled.{Spelled, InputLine, FireLine, DecideLine, TickLine, IsSpelled}
+use Rattle.sot_trace_lines.specs.Laws.{marks_of, spelled_of}
+use Rattle.sot_trace_lines.proofs.ReadLines.{spelled_once, entries_spelled}
 use Rattle.sot_replay.proofs.PassedTests.{entry_fits}
 
 -- what a line spells that is the line of an entry with which the flight goes on

@@ -11,7 +11,7 @@ use Rattle.sot_board.specs.Flown.{IsStated, Tells, NoInputDue}
 use Rattle.sot_board.specs.Calls.{Logs}
 use Rattle.sot_trace.specs.Lines.{line_of}
 use Rattle.sot_trace.specs.Words.{AreWords}
-use Rattle.sot_spelled.specs.Spelled.{TickLine, IsSpelled}
+use Rattle.sot_trace_lines.specs.Spelled.{TickLine, IsSpelled}
 use Rattle.sot_replay.specs.GoesOn.{AreHandedOver}
 use Rattle.sot_replay.specs.declared.fail.LineKind.TheVariants.{Differs}
 use Rattle.sot_replay.specs.Tests.{IsNextLine, IsFirstFailing}

@@ -6,7 +6,7 @@ use Rattle.sot_world.specs.HistoryEntry.{Logged, FireAt}
 use Rattle.sot_flight.specs.Plans.{Plan, Guest}
 use Rattle.sot_board.specs.Flown.{FlownBy}
 use Rattle.sot_trace.specs.Traces.{trace_lines}
-use Rattle.sot_spelled.specs.Bits.{Has64Bits}
+use Rattle.sot_trace_lines.specs.Bits.{Has64Bits}
 
 -- a guest hands over a draft of numbers of 64 bits; what others draft is stated, or is what their code gives
 abbrev pub AreHandedOver : Plan → List Logged → Type 0

@@ -10,8 +10,8 @@ use Rattle.sot_board.specs.Flown.{Flies, IsEnd}
 use Rattle.sot_board.specs.Standing.{Standing}
 use Rattle.sot_trace.specs.Lines.{line_of, ticks_in, refused_in}
 use Rattle.sot_trace.specs.Traces.{last_line}
-use Rattle.sot_spelled.specs.Spelled.{Spelled, InputLine, FireLine, DecideLine, TickLine, EndLine, IsSpelled}
-use Rattle.sot_spelled.specs.Shown.{Reads, Holds, ShowsDraft, BeginsFiring, BeginsTick}
+use Rattle.sot_trace_lines.specs.Spelled.{Spelled, InputLine, FireLine, DecideLine, TickLine, EndLine, IsSpelled}
+use Rattle.sot_trace_lines.specs.Shown.{Reads, Holds, ShowsDraft, BeginsFiring, BeginsTick}
 use Rattle.sot_replay.specs.GoesOn.{AreHandedOver}
 use Rattle.sot_replay.specs.Tests.{IsFirstFailing}
 use Rattle.sot_replay.specs.declared.fail.LineKind.{LineKind}

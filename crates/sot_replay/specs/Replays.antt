@@ -5,7 +5,7 @@ use Rattle.sot_world.specs.HistoryEntry.{Logged}
 use Rattle.sot_flight.specs.Plans.{Plan}
 use Rattle.sot_board.specs.Flown.{Position, FlownSoFar}
 use Rattle.sot_trace.specs.Lines.{line_of, header, start_lines}
-use Rattle.sot_spelled.specs.Spelled.{IsStartLine}
+use Rattle.sot_trace_lines.specs.Spelled.{IsStartLine}
 use Rattle.sot_replay.specs.GoesOn.{AreHandedOver, IsTraceOf, GoesOn}
 use Rattle.sot_replay.specs.Tests.{IsFirstFailing}
 use Rattle.sot_replay.specs.declared.fail.LineKind.{LineKind}

@@ -11,7 +11,7 @@ use Rattle.sot_flight.specs.Plans.{Plan}
 use Rattle.sot_board.specs.Flown.{Position, NoInputDue, Flies}
 use Rattle.sot_trace.specs.Lines.{line_of}
 use Rattle.sot_trace.specs.Traces.{last_line}
-use Rattle.sot_spelled.specs.Spelled.{Spelled, InputLine, FireLine, DecideLine, TickLine, EndLine, spelled_time, IsSpelled}
+use Rattle.sot_trace_lines.specs.Spelled.{Spelled, InputLine, FireLine, DecideLine, TickLine, EndLine, spelled_time, IsSpelled}
 use Rattle.sot_replay.specs.GoesOn.{AreHandedOver}
 use Rattle.sot_replay.specs.declared.fail.LineKind.{LineKind}
 use Rattle.sot_replay.specs.declared.fail.LineKind.TheVariants.{NotALine, WrongTime, NotDue, AlreadyFired, NodesLeft, OutsideType, InputsLeft, TooFar, Differs, Ended, Missing}

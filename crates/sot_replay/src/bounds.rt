@@ -5,7 +5,7 @@ ghost use Rattle.sot_box.specs.Sides.{IsIn};
 ghost use Rattle.sot_box.specs.Boxes.{IsWithin};
 ghost use Rattle.sot_world.specs.Events.{IsInBounds, noise_count};
 ghost use Rattle.sot_world.specs.Bounds.{noise_ranges};
-ghost use Rattle.sot_spelled.specs.Shown.{Holds};
+ghost use Rattle.sot_trace_lines.specs.Shown.{Holds};
 
 use crate::ranges::bounds_have_64_bits;
 use sot_lang::{NoiseInfo, PlantInfo};

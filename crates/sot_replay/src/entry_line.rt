@@ -10,8 +10,8 @@ use crate::fail::LineKind;
 use crate::judged::{Added, Judged};
 use sot_board::Board;
 use sot_lang::Typed;
-use sot_spelled::is_line_of;
 use sot_trace::{refused_in, ticks_in};
+use sot_trace_lines::is_line_of;
 use sot_world::Entry;
 
 // What an entry adds to the counts of the last line.

@@ -7,7 +7,7 @@ ghost use Rattle.sot_world.specs.Events.{RefusesNode};
 ghost use Rattle.sot_flight.specs.Plans as plans;
 ghost use Rattle.sot_trace.specs.Words.{AreWords};
 ghost use Rattle.sot_board.specs.NodeSorts.{IsCodedNode, IsExternalNode};
-ghost use Rattle.sot_spelled.specs.declared.line.Line.TheVariants.{Fire as IsFire};
+ghost use Rattle.sot_trace_lines.specs.declared.line.Line.TheVariants.{Fire as IsFire};
 ghost use Rattle.sot_replay.specs.Judges.{IsJudged, BeginsAsFiring, FiresAt, SpellsFiringAt};
 
 use crate::entry_line::compare;
@@ -18,7 +18,7 @@ use crate::ranges::draft_has_64_bits;
 use crate::read_on::read_on;
 use sot_board::{Board, is_coded};
 use sot_lang::Draft;
-use sot_spelled::{Line, read_line};
+use sot_trace_lines::{Line, read_line};
 use sot_world::{Event, Why};
 use std::alloc::AllocError;
 

@@ -11,7 +11,7 @@ use crate::judge::judge;
 use crate::judged::Judged;
 use crate::missing::missing;
 use sot_board::Board;
-use sot_spelled::Lines;
+use sot_trace_lines::Lines;
 
 /// The flight goes on by line after line, to its end. Nothing has happened yet.
 pub fn follow(

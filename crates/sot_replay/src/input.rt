@@ -5,7 +5,7 @@ ghost use Rattle.sot_lists.specs.Places.{At};
 ghost use Rattle.sot_lang.specs.declared.tables.TopicInfo.{TopicInfo};
 ghost use Rattle.sot_world.specs.Events.{IsTypedInput, RefusesInput};
 ghost use Rattle.sot_trace.specs.Words.{AreWords};
-ghost use Rattle.sot_spelled.specs.Shown.{Holds};
+ghost use Rattle.sot_trace_lines.specs.Shown.{Holds};
 ghost use Rattle.sot_replay.specs.Judges.{IsJudged, SpellsInput};
 
 use crate::entry_line::compare;

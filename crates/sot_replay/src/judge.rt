@@ -3,7 +3,7 @@
 ghost use Rattle.std.specs.Prelude.{◌≡◌, sum_by, Some, IfOk};
 ghost use Rattle.sot_trace.specs.Lines.{ticks_in, refused_in};
 ghost use Rattle.sot_trace.specs.Words.{AreWords};
-ghost use Rattle.sot_spelled.specs.Shown.{AnswersLine};
+ghost use Rattle.sot_trace_lines.specs.Shown.{AnswersLine};
 ghost use Rattle.sot_replay.specs.Judges.{IsJudged};
 
 use crate::counts::Counts;
@@ -15,7 +15,7 @@ use crate::input::judge_input;
 use crate::judged::Judged;
 use crate::tick::judge_tick;
 use sot_board::Board;
-use sot_spelled::{Front, Line, read_front};
+use sot_trace_lines::{Front, Line, read_front};
 use std::alloc::AllocError;
 
 // Judges a line that was read to its end.

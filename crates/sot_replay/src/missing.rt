@@ -5,7 +5,7 @@ ghost use Rattle.sot_replay.specs.declared.fail.LineKind.TheVariants.{Missing as
 ghost use Rattle.sot_replay.specs.declared.fail.ReplayFail.TheVariants.{Line as At};
 
 use crate::fail::{LineKind, ReplayFail};
-use sot_spelled::Lines;
+use sot_trace_lines::Lines;
 
 /// The next line is missing.
 pub fn missing(lines: &Lines<'_>) -> ReplayFail

@@ -1,7 +1,7 @@
 //! Whether a line names the present time.
 
 ghost use Rattle.std.specs.Prelude.{◌≡◌, ℕ, pos, IsTrue, ◌↔◌};
-ghost use Rattle.sot_spelled.specs.Shown.{Reads};
+ghost use Rattle.sot_trace_lines.specs.Shown.{Reads};
 
 /// Whether a time that was read, and is none where it has more than 64 bits, is this one.
 pub fn is_now(time: Option<i64>, now: u32) -> bool

@@ -11,8 +11,8 @@ use crate::fail::{LineKind, ReplayFail};
 use crate::missing::missing;
 use sot_flight::Flight;
 use sot_lang::Typed;
-use sot_spelled::{Lines, is_start_line};
 use sot_trace::put_start;
+use sot_trace_lines::{Lines, is_start_line};
 use std::alloc::AllocError;
 
 // The header, or behind it the start line of a plant.

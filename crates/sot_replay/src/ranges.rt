@@ -5,7 +5,7 @@ ghost use Rattle.sot_lists.specs.Places.{At};
 ghost use Rattle.sot_lang.specs.declared.tables.ScalarInfo.{ScalarInfo as Scalar};
 ghost use Rattle.sot_lang.specs.declared.tables.NoiseInfo.{NoiseInfo as Noise};
 ghost use Rattle.sot_lang.specs.declared.tables.PlantInfo.{PlantInfo as Plant};
-ghost use Rattle.sot_spelled.specs.Bits.{Has64Bits};
+ghost use Rattle.sot_trace_lines.specs.Bits.{Has64Bits};
 
 use sot_lang::{Draft, NoiseInfo, PlantInfo, ScalarInfo};
 

@@ -7,7 +7,7 @@ ghost use Rattle.sot_replay.specs.Judges.{IsReadOn};
 use crate::fail::LineKind;
 use crate::judged::Judged;
 use sot_lang::Typed;
-use sot_spelled::read_line;
+use sot_trace_lines::read_line;
 use std::alloc::AllocError;
 
 /// What is judged of a line, where this was judged of it by its front: what fails may be spelled as no line at all.

@@ -2,7 +2,7 @@
 
 ghost use Rattle.std.specs.Prelude.{◌≡◌, ℤ, Bool, Option, IfOk};
 ghost use Rattle.sot_trace.specs.Words.{AreWords};
-ghost use Rattle.sot_spelled.specs.declared.line.Line.TheVariants.{Tick as IsTick};
+ghost use Rattle.sot_trace_lines.specs.declared.line.Line.TheVariants.{Tick as IsTick};
 ghost use Rattle.sot_replay.specs.Judges.{IsJudged, BeginsAsTick, SpellsTicks, ReadsTick, FailsTick};
 
 use crate::bounds::are_possible;
@@ -13,7 +13,7 @@ use crate::now::is_now;
 use crate::read_on::read_on;
 use sot_board::Board;
 use sot_lang::Typed;
-use sot_spelled::{Line, read_line};
+use sot_trace_lines::{Line, read_line};
 use std::alloc::AllocError;
 
 // Whether the list holds all disturbances of a line that was read as a tick's.

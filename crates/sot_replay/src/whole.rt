@@ -13,7 +13,7 @@ use crate::follow::follow;
 use crate::opening::read_opening;
 use sot_board::Board;
 use sot_flight::Flight;
-use sot_spelled::Lines;
+use sot_trace_lines::Lines;
 use sot_tube::Accepted;
 use sot_world::OpenFail;
 use std::alloc::Global;

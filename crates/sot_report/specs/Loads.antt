@@ -9,7 +9,7 @@ use Rattle.sot_lang.specs.declared.cert.Cert.{Cert}
 use Rattle.sot_lang.specs.CertRules.{FitsTables}
 use Rattle.sot_parser.specs.Programs.{Spells}
 use Rattle.sot_text.specs.Ahead.{ahead_from}
-use Rattle.sot_places.specs.Places.{IsFaultOf}
+use Rattle.sot_law_fault_place.specs.Places.{IsFaultOf}
 use Rattle.sot_rules.specs.First.{IsFirstFault}
 use Rattle.sot_cert.specs.CertFormat.{Contents, cert_of, contents}
 use Rattle.sot_report.specs.declared.fault.Fault.{Fault}

@@ -9,7 +9,7 @@ use Rattle.sot_lang.specs.TableRules.{MeetsTableRules}
 use Rattle.sot_lang.specs.CertRules.{FitsTables}
 use Rattle.sot_parser.specs.Programs.{Spells}
 use Rattle.sot_text.specs.Ahead.{ahead_from}
-use Rattle.sot_places.specs.Places.{IsFaultOf}
+use Rattle.sot_law_fault_place.specs.Places.{IsFaultOf}
 use Rattle.sot_rules.specs.First.{IsFirstFault, IsFaultless}
 use Rattle.sot_typing.specs.Resolved.{AreTables}
 use Rattle.sot_cert.specs.declared.fault.JsonFault.{JsonFault}

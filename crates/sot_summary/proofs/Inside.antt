@@ -23,8 +23,8 @@ use Rattle.sot_world.specs.Headline.{EveryRunIsSafe, IsSafeNow}
 use Rattle.sot_world.specs.Opens.{StartInside}
 use Rattle.sot_flight.specs.Plans.{Plan}
 use Rattle.sot_board.specs.Flown.{Position, Tells, FlownSoFar, FlownBy}
-use Rattle.sot_flown.proofs.Told.{led_last, flown_states}
-use Rattle.sot_flown.proofs.Runs.{flown_beginning, flown_safe}
+use Rattle.sot_law_flights.proofs.Told.{led_last, flown_states}
+use Rattle.sot_law_flights.proofs.Runs.{flown_beginning, flown_safe}
 use Rattle.sot_summary.specs.Outside.{is_in_region, points_in, is_outside}
 use Rattle.sot_summary.specs.Counted.{outside_in}
 use Rattle.sot_summary.proofs.RegionTests.{region_test}

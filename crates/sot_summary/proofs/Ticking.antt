@@ -7,8 +7,8 @@ use Rattle.sot_world.specs.HistoryEntry.{Logged, InputAt, FireAt, DecideAt, Tick
 use Rattle.sot_flight.specs.Plans.{Plan}
 use Rattle.sot_board.specs.Flown.{FlownBy}
 use Rattle.sot_board.specs.Standing.{Standing, IsStanding}
-use Rattle.sot_flown.specs.Told.{ticks_told}
-use Rattle.sot_flown.proofs.Told.{flown_ticks, whole_ticks}
+use Rattle.sot_law_flights.specs.Told.{ticks_told}
+use Rattle.sot_law_flights.proofs.Told.{flown_ticks, whole_ticks}
 use Rattle.sot_trace.specs.Lines.{ticks_in}
 
 ticks_same : (es : List Logged) → sum_by ticks_in es ≡ ticks_told es

@@ -31,7 +31,7 @@ use Rattle.sot_board.specs.contracts.journal.HistoryEntry as Entry
 use Rattle.sot_board.specs.contracts.journal.BoardJournal.TheImpl.{ghosts}
 use Rattle.sot_turn.specs.contracts.turn.Pass as Pass
 use Rattle.sot_turn.specs.contracts.turn.Turn as Turn
-use Rattle.sot_shift.specs.contracts.shift.Shift as Shift
+use Rattle.sot_node_worker.specs.contracts.shift.Shift as Shift
 
 -- the rows of the tables
 ruleset rows = (local.the_sync, module_info.the_sync, noise.the_sync, scalar.the_sync, slot.the_sync, state.the_sync, topic.the_sync, name.the_sync)

@@ -13,8 +13,8 @@ use Rattle.sot_workers.specs.declared.lists.NodeList.{NodeList}
 use Rattle.sot_workers.specs.Flying.{IsOwn}
 use Rattle.sot_workers.specs.Instants.{IsSameInstant, AddsNoFiring, AddsFiring}
 use Rattle.sot_workers.specs.Lists.{HasNodes, AreOwnLists, AreEmpty, KeepsLists}
-use Rattle.sot_shift.proofs.Firing.{in_step}
-use Rattle.sot_shift.proofs.Turning.{last_or_before}
+use Rattle.sot_node_worker.proofs.Firing.{in_step}
+use Rattle.sot_node_worker.proofs.Turning.{last_or_before}
 use Rattle.sot_workers.proofs.Histories.{one_more, no_more}
 
 pub at_set_cases : {A : Type 0} (xs : List A) (k i : ℕ) (v y : A) → At (slice_set xs k v) i y → ((i ≡ k) × (y ≡ v)) ⊎ ((i ≢ k) × At xs i y)

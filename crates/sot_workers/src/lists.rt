@@ -7,7 +7,7 @@ ghost use Rattle.sot_workers.specs.Lists.{AreEmpty};
 
 use sot_calendar::firings;
 use sot_lang::{Draft, NodeInfo, Typed};
-use sot_shift::stop;
+use sot_node_worker::stop;
 use std::alloc::{AllocError, Global};
 use std::sync::Wait;
 

@@ -13,7 +13,7 @@ use crate::instant::{decide_all, fire, take_inputs};
 use crate::lists::NodeList;
 use sot_board::Board;
 use sot_flight::Flight;
-use sot_shift::stop;
+use sot_node_worker::stop;
 use std::sync::Wait;
 
 // Whether no guest flies a node, so that the caller fires it.

@@ -1,7 +1,7 @@
 //! Where a guest is while a flight is flown.
 
 use crate::lists::NodeList;
-use sot_shift::{Controller, Shift, Works};
+use sot_node_worker::{Controller, Shift, Works};
 use std::thread::PromisedHandle;
 
 /// A guest that no node names, or the shift with which it is to leave.

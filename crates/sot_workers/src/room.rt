@@ -8,7 +8,7 @@ use crate::lists::{NodeList, no_lists};
 use crate::place::{Done, Place};
 use crate::start::Bell;
 use sot_lang::Typed;
-use sot_shift::Controller;
+use sot_node_worker::Controller;
 use std::alloc::{AllocError, Global};
 use std::sync::atomic::AtomicBool;
 use std::thread::Parker;

@@ -14,7 +14,7 @@ use crate::place::Job;
 use sot_board::Board;
 use sot_flight::Flight;
 use sot_lang::Draft;
-use sot_shift::{Controller, Shift};
+use sot_node_worker::{Controller, Shift};
 use sot_turn::{Pass, Turn};
 use std::alloc::Global;
 use std::mem::replace;

@@ -17,7 +17,7 @@ use crate::own::{compare, work_on};
 use crate::place::Place;
 use crate::start::Bell;
 use sot_board::Board;
-use sot_shift::{Controller, take_turn};
+use sot_node_worker::{Controller, take_turn};
 use sot_turn::{Pass, Turn};
 use std::sync::Wait;
 use std::thread::Parker;

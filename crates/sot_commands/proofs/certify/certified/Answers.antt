@@ -1,6 +1,6 @@
 use Rattle.std.proofs.Common.{inl, refl, sym, subst}
 use Rattle.sot_tree.specs.TreeViews.{program_view}
-use Rattle.sot_reread.specs.Laws.{IsCertificateOf}
+use Rattle.sot_certified_text.specs.ReadAgain.{IsCertificateOf}
 use Rattle.sot_commands.specs.Answers.{SpellsAccepted}
 use Rattle.sot_commands.specs.Steps.{IsWritten}
 use Rattle.sot_commands.proofs.certify.certified.Goals as goal

@@ -2,7 +2,7 @@ use Rattle.std.proofs.Common.{subst, IfOk}
 use Rattle.sot_tube.specs.Admitted.{Admitted}
 use Rattle.sot_rta.specs.Refused.{refusal_view}
 use Rattle.sot_compose.specs.Accepting.{Fails}
-use Rattle.sot_spelled.specs.LentLines.{lent_lines}
+use Rattle.sot_trace_lines.specs.LentLines.{lent_lines}
 use Rattle.sot_commands.specs.Steps.{JudgesLines}
 use Rattle.sot_commands.proofs.Replayed.{lines_result, unreplayed_result}
 use Rattle.sot_commands.proofs.replay.judge.Goals as goal

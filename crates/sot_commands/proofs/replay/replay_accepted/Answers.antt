@@ -1,7 +1,7 @@
 use Rattle.std.proofs.Common.{subst, IfOk, length}
 use Rattle.sot_lang.specs.Tables.{Tables}
 use Rattle.sot_world.specs.Opens.{StartInside, IsFirstOutside}
-use Rattle.sot_spelled.specs.LentLines.{Lending, lent_lines}
+use Rattle.sot_trace_lines.specs.LentLines.{Lending, lent_lines}
 use Rattle.sot_replay.specs.Replays.{IsRefusedAt, MatchFail}
 use Rattle.sot_commands.specs.Answers.{IsOutsideOf}
 use Rattle.sot_commands.proofs.Replayed.{illegal_result, unstarted_result}

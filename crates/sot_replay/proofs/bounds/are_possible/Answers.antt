@@ -1,6 +1,6 @@
 use Rattle.std.proofs.Common.{Bool, subst}
 use Rattle.std.proofs.lemmas.Bool.{false≢true}
-use Rattle.sot_spelled.specs.Shown.{Holds}
+use Rattle.sot_trace_lines.specs.Shown.{Holds}
 use Rattle.sot_replay.proofs.Narrow.{in_bounds}
 use Rattle.sot_replay.proofs.bounds.are_possible.Goals as goal
 

@@ -6,7 +6,7 @@ use Rattle.sot_world.specs.Configurations.{Configuration, is_left_dm}
 use Rattle.sot_world.specs.Events.{RefusesDecision}
 use Rattle.sot_world.specs.HistoryEntry.{DecideAt}
 use Rattle.sot_world.specs.Steps.{Decide}
-use Rattle.sot_spelled.specs.Spelled.{DecideLine}
+use Rattle.sot_trace_lines.specs.Spelled.{DecideLine}
 use Rattle.sot_replay.specs.declared.fail.LineKind.{LineKind}
 use Rattle.sot_replay.specs.Tests.{IsFirstFailing}
 use Rattle.sot_replay.specs.Judges.{IsCompared}

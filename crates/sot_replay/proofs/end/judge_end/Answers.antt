@@ -6,7 +6,7 @@ use Rattle.sot_flight.specs.Plans.{Plan}
 use Rattle.sot_board.proofs.InputsDue.{no_input_due, input_not_due, no_input_left}
 use Rattle.sot_trace.specs.Lines.{end_line}
 use Rattle.sot_trace.specs.Traces.{last_line}
-use Rattle.sot_spelled.specs.Spelled.{EndLine}
+use Rattle.sot_trace_lines.specs.Spelled.{EndLine}
 use Rattle.sot_replay.proofs.FirstFailing.{wrong_time, refused, inputs_left, too_far, differs}
 use Rattle.sot_replay.proofs.Judging.{same_text, other_text, end_counted}
 use Rattle.sot_replay.proofs.Taken.{end_taken}

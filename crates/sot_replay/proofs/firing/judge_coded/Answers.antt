@@ -4,7 +4,7 @@ use Rattle.sot_lang.specs.Tables.{Tables}
 use Rattle.sot_tube.specs.Admitted.{Admitted}
 use Rattle.sot_world.specs.HistoryEntry.{FireAt}
 use Rattle.sot_world.specs.Steps.{Code}
-use Rattle.sot_spelled.specs.Spelled.{FireLine, IsSpelled}
+use Rattle.sot_trace_lines.specs.Spelled.{FireLine, IsSpelled}
 use Rattle.sot_replay.specs.Judges.{IsCompared, IsReadOn}
 use Rattle.sot_replay.proofs.FirstFailing.{differs}
 use Rattle.sot_replay.proofs.ReadOn.{read_judged}

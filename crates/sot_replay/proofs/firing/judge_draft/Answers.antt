@@ -4,8 +4,8 @@ use Rattle.sot_world.specs.Events.{slot_count}
 use Rattle.sot_world.specs.HistoryEntry.{FireAt}
 use Rattle.sot_world.specs.Steps.{Guest}
 use Rattle.sot_board.proofs.Crews.{guest_external}
-use Rattle.sot_spelled.specs.Spelled.{FireLine}
-use Rattle.sot_spelled.specs.Shown.{ShowsDraft}
+use Rattle.sot_trace_lines.specs.Spelled.{FireLine}
+use Rattle.sot_trace_lines.specs.Shown.{ShowsDraft}
 use Rattle.sot_replay.specs.Judges.{IsCompared}
 use Rattle.sot_replay.proofs.FirstFailing.{differs}
 use Rattle.sot_replay.proofs.Judging.{judged}

@@ -2,7 +2,7 @@ use Rattle.std.proofs.Common.{◌≡◌, ◌∙◌, sym, subst}
 use Rattle.std.specs.Prelude.{IfOk}
 use Rattle.std.proofs.lemmas.Bool.{both_ways}
 use Rattle.sot_lang.specs.Tables.{Tables}
-use Rattle.sot_spelled.specs.Spelled.{FireLine, IsSpelled}
+use Rattle.sot_trace_lines.specs.Spelled.{FireLine, IsSpelled}
 use Rattle.sot_replay.specs.declared.fail.LineKind.{LineKind}
 use Rattle.sot_replay.specs.declared.fail.LineKind.TheVariants.{WrongTime}
 use Rattle.sot_replay.specs.declared.judged.Judged.TheVariants.{Fails}

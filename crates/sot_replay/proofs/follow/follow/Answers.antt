@@ -1,6 +1,6 @@
 use Rattle.std.proofs.Common.{ℕ, ap, sym, subst, ◌∙◌, arith}
 use Rattle.sot_tube.specs.Admitted.{Admitted}
-use Rattle.sot_spelled.specs.LentLines.{Lending}
+use Rattle.sot_trace_lines.specs.LentLines.{Lending}
 use Rattle.sot_trace.specs.Words.{AreWords}
 use Rattle.sot_replay.specs.declared.fail.LineKind.TheVariants.{Missing}
 use Rattle.sot_replay.specs.declared.fail.ReplayFail.{ReplayFail}

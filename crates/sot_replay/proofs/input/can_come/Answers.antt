@@ -1,8 +1,8 @@
 use Rattle.std.proofs.Common.{ℕ, ◌+◌, Bool, List, ap, ◌∙◌, subst}
 use Rattle.sot_lists.specs.Places.{At}
 use Rattle.sot_lang.specs.declared.tables.ScalarInfo.{ScalarInfo}
-use Rattle.sot_spelled.specs.Bits.{Has64Bits}
-use Rattle.sot_spelled.specs.Shown.{Holds}
+use Rattle.sot_trace_lines.specs.Bits.{Has64Bits}
+use Rattle.sot_trace_lines.specs.Shown.{Holds}
 use Rattle.sot_replay.proofs.Narrow.{in_range}
 use Rattle.sot_replay.proofs.input.can_come.Goals as goal
 

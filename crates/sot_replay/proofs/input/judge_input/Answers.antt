@@ -2,7 +2,7 @@ use Rattle.std.proofs.Common.{◌≡◌, ◌∙◌, sym, subst}
 use Rattle.std.proofs.lemmas.Bool.{both_ways}
 use Rattle.sot_tube.specs.Admitted.{Admitted}
 use Rattle.sot_world.specs.Steps.{Input}
-use Rattle.sot_spelled.specs.Spelled.{InputLine}
+use Rattle.sot_trace_lines.specs.Spelled.{InputLine}
 use Rattle.sot_replay.specs.declared.fail.LineKind.{LineKind}
 use Rattle.sot_replay.specs.Tests.{IsFirstFailing}
 use Rattle.sot_replay.specs.Judges.{IsCompared}

@@ -1,7 +1,7 @@
 use Rattle.std.proofs.Common.{subst, Some}
-use Rattle.sot_spelled.specs.declared.line.Line.{Line}
-use Rattle.sot_spelled.specs.Spelled.{Fits}
-use Rattle.sot_spelled.specs.Shown.{AnswersLine}
+use Rattle.sot_trace_lines.specs.declared.line.Line.{Line}
+use Rattle.sot_trace_lines.specs.Spelled.{Fits}
+use Rattle.sot_trace_lines.specs.Shown.{AnswersLine}
 use Rattle.sot_replay.proofs.ReadOn.{spelled_begins, spelled_ticks}
 use Rattle.sot_replay.proofs.judge.judge_whole.Goals as goal
 

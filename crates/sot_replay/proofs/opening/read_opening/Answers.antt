@@ -3,7 +3,7 @@ use Rattle.std.specs.Prelude.{MatchOption, Option}
 use Rattle.sot_lists.specs.Places.{At}
 use Rattle.sot_lists.proofs.Places.{at_below, at_same}
 use Rattle.sot_lang.specs.Tables.{Tables}
-use Rattle.sot_spelled.specs.LentLines.{Lending}
+use Rattle.sot_trace_lines.specs.LentLines.{Lending}
 use Rattle.sot_replay.specs.declared.fail.LineKind.{LineKind}
 use Rattle.sot_replay.specs.declared.fail.ReplayFail.{ReplayFail}
 use Rattle.sot_replay.specs.Replays.{opening_lines, MatchFail}

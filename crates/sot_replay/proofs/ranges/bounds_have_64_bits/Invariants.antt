@@ -2,7 +2,7 @@ use Rattle.std.proofs.Common.{ℕ, ◌<◌}
 use Rattle.sot_lists.specs.Places.{At}
 use Rattle.sot_lang.specs.declared.tables.NoiseInfo.{NoiseInfo}
 use Rattle.sot_lang.specs.declared.tables.PlantInfo.{PlantInfo}
-use Rattle.sot_spelled.specs.Bits.{Has64Bits}
+use Rattle.sot_trace_lines.specs.Bits.{Has64Bits}
 use Rattle.sot_replay.proofs.ranges.bounds_have_64_bits.Given as goal
 
 -- those of the plants so far have

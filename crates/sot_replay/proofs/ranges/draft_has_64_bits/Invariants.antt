@@ -1,6 +1,6 @@
 use Rattle.std.proofs.Common.{ℕ, ℤ, ◌<◌, Some}
 use Rattle.sot_lists.specs.Places.{At}
-use Rattle.sot_spelled.specs.Bits.{Has64Bits}
+use Rattle.sot_trace_lines.specs.Bits.{Has64Bits}
 use Rattle.sot_replay.proofs.ranges.draft_has_64_bits.Given as goal
 
 -- those so far have

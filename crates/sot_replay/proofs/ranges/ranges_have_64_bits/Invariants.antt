@@ -1,7 +1,7 @@
 use Rattle.std.proofs.Common.{ℕ, ◌<◌}
 use Rattle.sot_lists.specs.Places.{At}
 use Rattle.sot_lang.specs.declared.tables.ScalarInfo.{ScalarInfo}
-use Rattle.sot_spelled.specs.Bits.{Has64Bits}
+use Rattle.sot_trace_lines.specs.Bits.{Has64Bits}
 use Rattle.sot_replay.proofs.ranges.ranges_have_64_bits.Given as goal
 
 -- those so far have

@@ -8,7 +8,7 @@ use Rattle.sot_world.specs.Configurations.{Configuration}
 use Rattle.sot_world.specs.Steps.{MayTick}
 use Rattle.sot_flight.specs.Plans.{Plan}
 use Rattle.sot_board.proofs.InputsDue.{no_input_due, input_not_due}
-use Rattle.sot_spelled.specs.Spelled.{TickLine, IsSpelled}
+use Rattle.sot_trace_lines.specs.Spelled.{TickLine, IsSpelled}
 use Rattle.sot_replay.specs.declared.fail.LineKind.{LineKind}
 use Rattle.sot_replay.specs.declared.fail.LineKind.TheVariants.{WrongTime, NodesLeft, InputsLeft, TooFar}
 use Rattle.sot_replay.specs.declared.judged.Judged.TheVariants.{Fails}

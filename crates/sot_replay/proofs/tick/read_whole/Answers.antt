@@ -1,6 +1,6 @@
 use Rattle.std.proofs.Common.{Bool, Option, Some, subst, sym}
-use Rattle.sot_spelled.specs.declared.line.Line.{Line}
-use Rattle.sot_spelled.specs.Shown.{Holds, AnswersLine}
+use Rattle.sot_trace_lines.specs.declared.line.Line.{Line}
+use Rattle.sot_trace_lines.specs.Shown.{Holds, AnswersLine}
 use Rattle.sot_replay.proofs.ReadOn.{tick_read}
 use Rattle.sot_replay.proofs.tick.read_whole.Goals as goal
 

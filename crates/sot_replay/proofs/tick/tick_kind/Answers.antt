@@ -3,7 +3,7 @@ use Rattle.std.proofs.lemmas.Bool.{both_ways}
 use Rattle.sot_lang.specs.declared.tables.PlantInfo.{PlantInfo}
 use Rattle.sot_lang.specs.Tables.{Tables}
 use Rattle.sot_world.specs.Events.{noise_count, IsInBounds}
-use Rattle.sot_spelled.specs.Shown.{Holds}
+use Rattle.sot_trace_lines.specs.Shown.{Holds}
 use Rattle.sot_replay.specs.Judges.{ReadsTick}
 use Rattle.sot_replay.proofs.tick.tick_kind.Goals as goal
 

@@ -1,5 +1,0 @@
-use Rattle.sot_answered.proofs.Drafts as drafts
-use Rattle.sot_answered.proofs.laws.askings_give_drafts.Goals as goal
-
-pub returns : goal.returns
-returns c = record { one = drafts.fits_give_drafts; all = drafts.askings_give_drafts; same = drafts.one_list_of_drafts }

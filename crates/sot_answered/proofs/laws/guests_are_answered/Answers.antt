@@ -1,5 +1,0 @@
-use Rattle.sot_answered.proofs.Sights.{guests_answered}
-use Rattle.sot_answered.proofs.laws.guests_are_answered.Goals as goal
-
-pub returns : goal.returns
-returns c = guests_answered

@@ -1,6 +1,0 @@
-mod Covering
-mod Keeping
-mod GoingOn
-pub mod Completing
-pub mod FromStart
-pub mod Possible

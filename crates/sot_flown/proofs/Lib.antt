@@ -1,4 +1,0 @@
-pub mod Runs
-pub mod Told
-pub mod Drafts
-pub mod Modes

@@ -1,5 +1,0 @@
-use Rattle.sot_flown.proofs.Runs.{flown_beginning}
-use Rattle.sot_flown.proofs.laws.beginnings_are_histories.Goals as goal
-
-pub returns : goal.returns
-returns c = flown_beginning

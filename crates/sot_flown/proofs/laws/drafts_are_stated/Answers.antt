@@ -1,5 +1,0 @@
-use Rattle.sot_flown.proofs.Drafts.{flown_drafts}
-use Rattle.sot_flown.proofs.laws.drafts_are_stated.Goals as goal
-
-pub returns : goal.returns
-returns c = flown_drafts

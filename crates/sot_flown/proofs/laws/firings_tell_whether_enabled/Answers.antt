@@ -1,5 +1,0 @@
-use Rattle.sot_flown.proofs.Modes.{enabled_told}
-use Rattle.sot_flown.proofs.laws.firings_tell_whether_enabled.Goals as goal
-
-pub returns : goal.returns
-returns c = enabled_told

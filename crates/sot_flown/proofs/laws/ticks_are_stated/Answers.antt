@@ -1,5 +1,0 @@
-use Rattle.sot_flown.proofs.Told.{flown_stated}
-use Rattle.sot_flown.proofs.laws.ticks_are_stated.Goals as goal
-
-pub returns : goal.returns
-returns c = flown_stated

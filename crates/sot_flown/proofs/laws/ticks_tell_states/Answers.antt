@@ -1,5 +1,0 @@
-use Rattle.sot_flown.proofs.Told.{flown_states}
-use Rattle.sot_flown.proofs.laws.ticks_tell_states.Goals as goal
-
-pub returns : goal.returns
-returns c = flown_states

@@ -1,2 +1,0 @@
-pub mod Firings
-pub mod LineFlight

@@ -1,4 +1,0 @@
--- what the laws say
-pub mod Firings
--- a worked flight
-pub mod Examples

@@ -1,0 +1,4 @@
+pub mod Firings
+pub mod LineFlight
+pub mod Views
+pub mod Fits

@@ -1,0 +1,6 @@
+-- what the public contracts say
+pub mod Laws
+pub mod UnplacedTables
+pub mod Places
+-- worked expressions and statements
+pub mod Examples

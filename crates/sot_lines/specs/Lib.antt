@@ -1,5 +1,0 @@
--- what the public contracts say
-pub mod Plain
-pub mod Missions
--- worked texts
-pub mod Examples

@@ -1,5 +1,0 @@
-use Rattle.sot_meaning.proofs.Firings.{firings_are_due_times}
-use Rattle.sot_meaning.proofs.laws.firings_are_due_times.Goals as goal
-
-pub returns : goal.returns
-returns c = firings_are_due_times

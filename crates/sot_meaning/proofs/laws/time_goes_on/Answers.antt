@@ -1,5 +1,0 @@
-use Rattle.sot_meaning.proofs.Time.{time_goes_on}
-use Rattle.sot_meaning.proofs.laws.time_goes_on.Goals as goal
-
-pub returns : goal.returns
-returns c = time_goes_on

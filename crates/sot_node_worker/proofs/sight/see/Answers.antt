@@ -1,0 +1,22 @@
+use Rattle.std.proofs.Common.{◌∙◌, sym, subst}
+use Rattle.sot_board.specs.NodeSorts.{IsCodedNode, IsExternalNode}
+use Rattle.sot_node_worker.proofs.sight.see.Goals as goal
+
+pub returns-then-is_coded : goal.returns-then-is_coded
+returns-then-is_coded c = (
+  c.if-guest.false,
+  c.typed-p.ensures,
+  subst (λ t. IsCodedNode t c.args.node) c.typed-p.ensures (c.is_coded.ensures.coded c.if-is_coded.true),
+  record {
+    standing = c.is_standing.ensures;
+    left = sym c.due.ensures ∙ c.if-not-due.false;
+    view = c.view-then-is_coded.ensures;
+  },
+)
+
+pub returns-else-is_coded : goal.returns-else-is_coded
+returns-else-is_coded c = (
+  c.if-guest.false,
+  sym c.due.ensures ∙ c.if-not-due.false,
+  subst (λ t. IsExternalNode t c.args.node) c.typed-p.ensures (c.is_coded.ensures.external c.if-is_coded.false),
+)

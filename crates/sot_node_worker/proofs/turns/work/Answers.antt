@@ -1,0 +1,9 @@
+use Rattle.sot_turn.specs.Passes.{lock_of}
+use Rattle.sot_node_worker.proofs.Turning.{ready_on_shift}
+use Rattle.sot_node_worker.proofs.turns.work.Goals as goal
+
+pub loop-init : goal.loop-init
+loop-init g c = ready_on_shift g.C.Controller.told (lock_of c.args.turn.now) c.args.shift c.requires
+
+pub loop-preserved : goal.loop-preserved
+loop-preserved g c = c.take_turn-shift.ensures c.args.shift c.loop.invariant

@@ -1,5 +1,0 @@
-use Rattle.sot_places.proofs.laws.exact_places_exist.Goals as goal
-use Rattle.sot_places.proofs.ExactPlacesExist.{exact_places_exist}
-
-pub returns : goal.returns
-returns c = exact_places_exist

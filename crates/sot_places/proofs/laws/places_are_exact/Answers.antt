@@ -1,6 +1,0 @@
-use Rattle.sot_places.proofs.laws.places_are_exact.Goals as goal
-use Rattle.sot_places.proofs.ExactPlaces.{places_are_exact}
-
--- src/laws.rt:5:1
-pub returns : goal.returns
-returns c = places_are_exact

@@ -1,8 +1,0 @@
-//! Tests of replay: missions with lines that are traces of their flights, and with lines that are not.
-//!
-//! The proofs of the crates below say what replay answers. Here stand lines with what a person, or a program of somebody else, says
-//! of them.
-#![tactic(auto)]
-
-#[cfg(test)]
-mod tests;

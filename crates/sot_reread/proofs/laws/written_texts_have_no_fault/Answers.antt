@@ -1,6 +1,0 @@
--- Each reader meets what was written.
-use Rattle.sot_reread.proofs.Written.{no_fault}
-use Rattle.sot_reread.proofs.laws.written_texts_have_no_fault.Goals as goal
-
-pub returns : goal.returns
-returns c = no_fault

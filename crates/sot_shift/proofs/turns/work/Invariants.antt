@@ -1,5 +1,0 @@
-use Rattle.sot_shift.specs.Shifts.{IsOnShift}
-use Rattle.sot_shift.proofs.turns.work.Given as goal
-
-abbrev pub invariant-loop : goal.invariant-loop
-invariant-loop g l = IsOnShift g.C.Controller.told l.initial.shift l.shift

@@ -1,5 +1,0 @@
-use Rattle.sot_spelled.proofs.ReadLines.{entries_spelled}
-use Rattle.sot_spelled.proofs.laws.entries_are_spelled.Goals as goal
-
-pub returns : goal.returns
-returns c = entries_spelled

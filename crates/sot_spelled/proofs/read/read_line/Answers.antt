@@ -1,5 +1,0 @@
-use Rattle.sot_spelled.proofs.ShownLines.{answered}
-use Rattle.sot_spelled.proofs.read.read_line.Goals as goal
-
-pub returns : goal.returns
-returns c = answered c.args.p.now c.args.line.now c.read.new.numbers.items c.read.result c.keeps_rules.ensures c.requires.words c.read.ensures

@@ -1,5 +1,0 @@
-use Rattle.sot_told.proofs.Named.{names}
-use Rattle.sot_told.proofs.laws.names_are_words.Goals as goal
-
-pub returns : goal.returns
-returns c = names

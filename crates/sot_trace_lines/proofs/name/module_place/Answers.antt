@@ -1,0 +1,17 @@
+use Rattle.std.proofs.Common.{drop, sym, ap, ◌∙◌}
+use Rattle.std.proofs.lemmas.List.{take_rest}
+use Rattle.sot_lang.specs.declared.tables.ModuleInfo.{ModuleInfo}
+use Rattle.sot_lang.specs.Tables.{Tables}
+use Rattle.sot_trace.proofs.NameTexts.{module_same}
+use Rattle.sot_trace_lines.specs.Readers.{place_of}
+use Rattle.sot_trace_lines.proofs.Places.{found_from}
+use Rattle.sot_trace_lines.proofs.name.module_place.Goals as goal
+
+pub returns-in-Some : goal.returns-in-Some
+returns-in-Some c =
+    let p = c.args.p.now in
+    let word = c.args.name.now in
+    let all = ap (λ (q : Tables). q.modules) (sym c.p.view_is) ∙ sym c.deref.ensures.value in
+    let rest = ap (drop c.args.from) all ∙ sym (take_rest c.deref.result.now c.args.from) in
+    let here = ap (λ xs. place_of (λ (x : ModuleInfo). x.name) xs word) rest ∙ sym c.in-Some.ensures in
+    sym (found_from (λ (x : ModuleInfo). x.name) word p.modules c.args.from c.in-Some.further (module_same p c.keeps_rules.ensures) here)

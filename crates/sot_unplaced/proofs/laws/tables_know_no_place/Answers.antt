@@ -1,6 +1,0 @@
--- The tables of a program without places are its tables without places.
-use Rattle.sot_unplaced.proofs.Tables.{tables_alike}
-use Rattle.sot_unplaced.proofs.laws.tables_know_no_place.Goals as goal
-
-pub returns : goal.returns
-returns c = tables_alike
