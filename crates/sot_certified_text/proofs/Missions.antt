@@ -2,8 +2,9 @@
 use Rattle.std.proofs.Common.{◌≡◌, ℕ, suc, List, [], ◌∷◌, ◌++◌, ◌==◌, if◌then◌else◌, length, false, None, Ok, codes, inl, inr, refl, sym, ap, ◌∙◌, subst, append_assoc}
 use Rattle.std.proofs.lemmas.Bool.{cases_Bool}
 use Rattle.std.proofs.lemmas.List.{append-nil}
-use Rattle.sot_text.specs.declared.mission.Need.TheVariants.{Check}
-use Rattle.sot_text.specs.Sections.{Division, Section, onto_first, lines, is_section_line, place, continued, opened, division, answer_of, split_of}
+use Rattle.sot_sections.specs.declared.mission.Need.TheVariants.{Check}
+use Rattle.sot_sections.specs.Sections.{Division, Section, is_section_line, place, continued, opened, division, answer_of, split_of}
+use Rattle.sot_text.specs.LineEnds.{onto_first, lines}
 use Rattle.sot_certified_text.specs.Plain.{EndsLine, IsPlain}
 use Rattle.sot_certified_text.specs.Missions.{CertificatesStandBehind}
 

@@ -1,7 +1,8 @@
 -- A text is plain where no line of it begins with '%', and it is known byte by byte.
 use Rattle.std.proofs.Common.{◌≡◌, ℕ, suc, List, [], ◌∷◌, ◌++◌, ◌==◌, ◌&&◌, not, Bool, true, false, drop, inl, inr, refl, ap, ◌∙◌, subst}
 use Rattle.std.proofs.lemmas.Bool.{cases_Bool}
-use Rattle.sot_text.specs.Sections.{onto_first, lines, division}
+use Rattle.sot_text.specs.LineEnds.{onto_first, lines}
+use Rattle.sot_sections.specs.Sections.{division}
 use Rattle.sot_certified_text.specs.Plain.{IsPlain}
 
 -- no '%' stands at the beginning of a line; the text begins a line or goes on with one

@@ -1,8 +1,8 @@
 -- The text divides as it was put together; its program is the same, so it breaks no rule either; and its tables are alike, so its
 -- certificate says the same of them and certifies them too.
 use Rattle.std.proofs.Common.{◌≡◌, ℕ, List, None, Ok, Err, sym, ap, ◌∙◌, subst}
-use Rattle.sot_text.specs.declared.mission.Need.TheVariants.{Check}
-use Rattle.sot_text.specs.Sections.{Parts, split_of}
+use Rattle.sot_sections.specs.declared.mission.Need.TheVariants.{Check}
+use Rattle.sot_sections.specs.Sections.{Parts, split_of}
 use Rattle.sot_tree.specs.Trees.{Program}
 use Rattle.sot_parser.specs.Programs.{Spells}
 use Rattle.sot_print.specs.Canonical.{canonical}

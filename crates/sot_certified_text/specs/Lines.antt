@@ -1,10 +1,11 @@
 -- A certificate's line, and the text of a certified program.
 use Rattle.std.specs.Prelude.{◌≡◌, ℕ, List, [], ◌∷◌, ◌++◌, Some, None, Ok}
 use Rattle.serde_json.specs.Data.{Data}
-use Rattle.sot_text.specs.declared.mission.Need.TheVariants.{Check}
+use Rattle.sot_sections.specs.declared.mission.Need.TheVariants.{Check}
 use Rattle.sot_text.specs.declared.token.Kind.TheVariants.{Name}
 use Rattle.sot_text.specs.Lexeme.{IsTokenText}
-use Rattle.sot_text.specs.Sections.{lines, split_of}
+use Rattle.sot_text.specs.LineEnds.{lines}
+use Rattle.sot_sections.specs.Sections.{split_of}
 use Rattle.sot_tree.specs.Trees.{Program}
 use Rattle.sot_tree.specs.Formed.{IsFormed}
 use Rattle.sot_print.specs.Canonical.{canonical}

@@ -1,7 +1,7 @@
 -- Certificates that are made for given regions, and their programs' text.
 use Rattle.std.specs.Prelude.{◌≡◌, ℕ, List, Ok, None}
-use Rattle.sot_text.specs.declared.mission.Need.TheVariants.{Check}
-use Rattle.sot_text.specs.Sections.{split_of}
+use Rattle.sot_sections.specs.declared.mission.Need.TheVariants.{Check}
+use Rattle.sot_sections.specs.Sections.{split_of}
 use Rattle.sot_tree.specs.Trees.{Program}
 use Rattle.sot_tree.specs.Formed.{IsFormed}
 use Rattle.sot_typing.specs.Resolved.{AreTables}

@@ -1,7 +1,7 @@
 -- A certificate behind a program.
 use Rattle.std.specs.Prelude.{◌≡◌, ℕ, List, [], ◌∷◌, ◌++◌, None, Ok, codes}
-use Rattle.sot_text.specs.declared.mission.Need.TheVariants.{Check}
-use Rattle.sot_text.specs.Sections.{split_of}
+use Rattle.sot_sections.specs.declared.mission.Need.TheVariants.{Check}
+use Rattle.sot_sections.specs.Sections.{split_of}
 use Rattle.sot_certified_text.specs.Plain.{EndsLine, IsPlain}
 
 -- a program's text, the line `%certificate`, and the text of a certificate

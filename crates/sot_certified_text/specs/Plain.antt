@@ -1,6 +1,7 @@
 -- Texts of whole lines, of which none is a section line.
 use Rattle.std.specs.Prelude.{◌≡◌, ℕ, ◌⊎◌, List, [], ◌∷◌, ◌++◌}
-use Rattle.sot_text.specs.Sections.{lines, division}
+use Rattle.sot_text.specs.LineEnds.{lines}
+use Rattle.sot_sections.specs.Sections.{division}
 use Rattle.sot_tree.specs.Trees.{Program}
 use Rattle.sot_tree.specs.Formed.{IsFormed}
 use Rattle.sot_print.specs.Canonical.{canonical}

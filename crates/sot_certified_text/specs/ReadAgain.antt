@@ -1,6 +1,6 @@
 -- The text of a program with a certificate that is made for its tables, when it is read as a mission.
 use Rattle.std.specs.Prelude.{ℕ, List, Ok}
-use Rattle.sot_text.specs.declared.mission.Need.TheVariants.{Check}
+use Rattle.sot_sections.specs.declared.mission.Need.TheVariants.{Check}
 use Rattle.sot_tree.specs.Trees.{Program}
 use Rattle.sot_parser.specs.Programs.{Spells}
 use Rattle.sot_print.specs.Canonical.{canonical}

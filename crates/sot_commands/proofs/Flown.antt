@@ -2,9 +2,10 @@
 use Rattle.std.proofs.Common.{◌≡◌, ◌∙◌, ap, subst, refl, ℕ, suc, List, [], Option, None, Some, length, Result, Ok, Err, inl, inr}
 use Rattle.std.specs.Prelude.{IfOk, slice_index_or}
 use Rattle.std.specs.declared.alloc.AllocError.{AllocError}
-use Rattle.sot_text.specs.declared.mission.Need.TheVariants as needs
-use Rattle.sot_text.specs.declared.mission.SectionFault.{SectionFault}
-use Rattle.sot_text.specs.Sections.{Division, Parts, lines, division, fault_behind, body_of, needed, or_missing, unless}
+use Rattle.sot_sections.specs.declared.mission.Need.TheVariants as needs
+use Rattle.sot_sections.specs.declared.mission.SectionFault.{SectionFault}
+use Rattle.sot_sections.specs.Sections.{Division, Parts, division, fault_behind, body_of, needed, or_missing, unless}
+use Rattle.sot_text.specs.LineEnds.{lines}
 use Rattle.sot_box.specs.Regions.{IsInRegion}
 use Rattle.sot_lang.specs.Tables.{Tables}
 use Rattle.sot_tube.specs.Admitted.{Admitted}

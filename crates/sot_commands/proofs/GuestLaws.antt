@@ -1,6 +1,6 @@
 -- The law that a written trace is of one flight and one history, for whoever tells of its guests.
 use Rattle.std.proofs.Common.{List, Option, sym, ◌∙◌}
-use Rattle.sot_text.specs.declared.mission.Need.TheVariants as needs
+use Rattle.sot_sections.specs.declared.mission.Need.TheVariants as needs
 use Rattle.sot_law_one_trace.proofs.OneHistory.{one_history}
 use Rattle.sot_node_worker.specs.Askings.{Asking}
 use Rattle.sot_commands.specs.GuestLaws.{FlewOnce}

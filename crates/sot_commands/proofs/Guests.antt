@@ -27,7 +27,7 @@ use Rattle.sot_commands.specs.declared.words.Command.TheVariants.{Fly, Make, Soa
 use Rattle.sot_ports.specs.Whole.{ReadsAll}
 use Rattle.sot_commands.specs.Answers.{SpellsFor, Replies, input_limit}
 use Rattle.sot_report.specs.Missions.{Mission}
-use Rattle.sot_text.specs.declared.mission.Need.TheVariants as needs
+use Rattle.sot_sections.specs.declared.mission.Need.TheVariants as needs
 use Rattle.sot_commands.specs.Guests.{TellsOn, GuestsGoOn, GuestsFlew, Flew}
 
 -- what is told as before is told on

@@ -4,9 +4,9 @@ use Rattle.std.specs.Prelude.{slice_index_or}
 use Rattle.std.proofs.lemmas.Bool.{cases_lt}
 use Rattle.sot_lists.specs.Places.{At}
 use Rattle.sot_lists.proofs.Places.{at_same}
-use Rattle.sot_text.specs.declared.mission.Need.{Need}
-use Rattle.sot_text.specs.declared.mission.Need.TheVariants as needs
-use Rattle.sot_text.specs.Sections.{Parts}
+use Rattle.sot_sections.specs.declared.mission.Need.{Need}
+use Rattle.sot_sections.specs.declared.mission.Need.TheVariants as needs
+use Rattle.sot_sections.specs.Sections.{Parts}
 use Rattle.sot_parser.proofs.ProgramTexts.{spells_unique}
 use Rattle.sot_print.specs.Canonical.{canonical}
 use Rattle.sot_lang.specs.Tables.{Tables}

@@ -5,10 +5,11 @@ use Rattle.std.specs.List.{flat_map}
 use Rattle.std.proofs.lemmas.List.{length-append}
 use Rattle.std.proofs.lemmas.Option.{same_Some}
 use Rattle.std.specs.declared.alloc.AllocError.{AllocError}
-use Rattle.sot_text.specs.declared.mission.Need.{Need}
-use Rattle.sot_text.specs.declared.mission.Need.TheVariants as needs
-use Rattle.sot_text.specs.Sections.{Section, Parts, lines, division, fault_behind, body_of, needed, place, title}
-use Rattle.sot_text.proofs.SectionLaws.{sections_are_the_text}
+use Rattle.sot_sections.specs.declared.mission.Need.{Need}
+use Rattle.sot_sections.specs.declared.mission.Need.TheVariants as needs
+use Rattle.sot_sections.specs.Sections.{Section, Parts, division, fault_behind, body_of, needed, place, title}
+use Rattle.sot_text.specs.LineEnds.{lines}
+use Rattle.sot_sections.proofs.SectionLaws.{sections_are_the_text}
 use Rattle.sot_lang.specs.Tables.{Tables}
 use Rattle.sot_lang.specs.declared.cert.Cert.{Cert}
 use Rattle.sot_typing.specs.Resolved.{tables_seen}

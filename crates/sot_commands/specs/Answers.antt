@@ -1,7 +1,7 @@
 -- What is said of a text, by the command that is asked.
 use Rattle.std.specs.Prelude.{◌≡◌, ◌≢◌, ℕ, ◌⊎◌, List, [], Some, Ok, Err, length, slice_index_or}
-use Rattle.sot_text.specs.declared.mission.Need.{Need}
-use Rattle.sot_text.specs.declared.mission.Need.TheVariants as needs
+use Rattle.sot_sections.specs.declared.mission.Need.{Need}
+use Rattle.sot_sections.specs.declared.mission.Need.TheVariants as needs
 use Rattle.sot_tree.specs.Trees.{Program}
 use Rattle.sot_parser.specs.Programs.{Spells}
 use Rattle.sot_text.specs.Ahead.{ahead_from}

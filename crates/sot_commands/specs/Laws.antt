@@ -6,7 +6,7 @@ use Rattle.sot_parser.specs.declared.syntax.Syntax.TheVariants.{Deep}
 use Rattle.sot_rules.specs.declared.fault.TypeFault.{TypeFault}
 use Rattle.sot_report.specs.FaultTexts.{syntax_text, type_text}
 use Rattle.sot_report.specs.Missions.{Mission}
-use Rattle.sot_text.specs.declared.mission.Need.TheVariants as needs
+use Rattle.sot_sections.specs.declared.mission.Need.TheVariants as needs
 use Rattle.sot_flight.specs.Plans.{Plan}
 use Rattle.sot_commands.specs.declared.words.Command.{Command}
 use Rattle.sot_commands.specs.declared.words.Command.TheVariants.{Check, Fly, Replay, Format, Certify, Make, Soak}

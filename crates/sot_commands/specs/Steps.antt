@@ -4,7 +4,7 @@ use Rattle.std.specs.Io.KnownBytes.{Appends}
 use Rattle.std.proofs.Common.{Global}
 use Rattle.sot_ports.specs.Faults.{Rose}
 use Rattle.sot_ports.specs.Whole.{ReadsAll, ReadsCount}
-use Rattle.sot_text.specs.declared.mission.Need.TheVariants as needs
+use Rattle.sot_sections.specs.declared.mission.Need.TheVariants as needs
 use Rattle.sot_lang.specs.Tables.{Tables}
 use Rattle.sot_lang.specs.declared.cert.Cert.{Cert}
 use Rattle.sot_tube.specs.Refusals.{Refusal}

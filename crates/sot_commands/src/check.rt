@@ -11,7 +11,7 @@ use sot_compose::{CheckFail, check_all};
 use sot_lang::{Cert, Typed};
 use sot_ports::{Process, let_go};
 use sot_report::{LoadFail, load};
-use sot_text::Need;
+use sot_sections::Need;
 use std::alloc::{AllocError, Global};
 use std::thread::Threads;
 

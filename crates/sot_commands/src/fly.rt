@@ -19,7 +19,7 @@ use sot_lang::{Cert, Typed};
 use sot_node_worker::Controller;
 use sot_ports::{Process, let_go};
 use sot_report::{LoadFail, load};
-use sot_text::Need;
+use sot_sections::Need;
 use sot_tube::Accepted;
 use sot_workers::{fly as fly_to_the_end, fly_alone};
 use sot_world::OpenFail;

@@ -16,7 +16,7 @@ use sot_lang::{Cert, Typed};
 use sot_ports::{Process, let_go};
 use sot_replay::{ReplayFail, replay as replay_lines};
 use sot_report::{LoadFail, load};
-use sot_text::Need;
+use sot_sections::Need;
 use sot_trace_lines::Lines;
 use sot_tube::Accepted;
 use std::alloc::{AllocError, Global};

@@ -1,6 +1,6 @@
 -- Two histories with one trace.
 use Rattle.std.proofs.Common.{◌≡◌, ◌∙◌, sym, ap, subst}
-use Rattle.sot_text.specs.Sections.{Parts}
+use Rattle.sot_sections.specs.Sections.{Parts}
 use Rattle.sot_parser.specs.Programs.{Spells}
 use Rattle.sot_parser.proofs.ProgramTexts.{spells_unique}
 use Rattle.sot_typing.specs.Resolved.{tables_of, tables_seen}

@@ -1,6 +1,6 @@
 -- A printed trace is the trace of one history.
 use Rattle.std.specs.Prelude.{◌≡◌, ℕ, List}
-use Rattle.sot_text.specs.declared.mission.Need.{Need}
+use Rattle.sot_sections.specs.declared.mission.Need.{Need}
 use Rattle.sot_tree.specs.Trees.{Program}
 use Rattle.sot_lang.specs.Tables.{Tables}
 use Rattle.sot_parser.specs.Programs.{Spells}

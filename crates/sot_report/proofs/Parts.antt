@@ -2,11 +2,12 @@
 use Rattle.std.proofs.Common.{◌≡◌, ℕ, suc, ◌≤◌, List, ◌++◌, Option, None, Some, Ok, length, ap, arith}
 use Rattle.std.specs.List.{flat_map}
 use Rattle.std.proofs.lemmas.List.{length-append}
-use Rattle.sot_text.specs.declared.mission.Need.{Need}
-use Rattle.sot_text.specs.declared.mission.Need.TheVariants as needs
-use Rattle.sot_text.specs.declared.mission.SectionFault.{SectionFault}
-use Rattle.sot_text.specs.Sections.{Division, Section, Parts, lines, division, fault_behind, body_of, needed, or_missing, unless, split_of}
-use Rattle.sot_text.proofs.SectionLaws.{sections_are_the_text}
+use Rattle.sot_sections.specs.declared.mission.Need.{Need}
+use Rattle.sot_sections.specs.declared.mission.Need.TheVariants as needs
+use Rattle.sot_sections.specs.declared.mission.SectionFault.{SectionFault}
+use Rattle.sot_sections.specs.Sections.{Division, Section, Parts, division, fault_behind, body_of, needed, or_missing, unless, split_of}
+use Rattle.sot_text.specs.LineEnds.{lines}
+use Rattle.sot_sections.proofs.SectionLaws.{sections_are_the_text}
 
 -- parts that are those of a text have its program
 program_of : (front c : List ℕ) (f t : Option (List ℕ)) (parts : Parts) → ◌≡◌ {A = Option Parts} (Some (record { program = front; cert = c; flight = f; trace = t })) (Some parts) → front ≡ parts.program

@@ -3,9 +3,9 @@ use Rattle.std.specs.Prelude.{ℕ, List, [], ◌∷◌, ◌++◌, codes}
 use Rattle.std.specs.Fmt.{decimal}
 use Rattle.sot_text.specs.declared.token.Span.{Span}
 use Rattle.sot_text.specs.declared.token.LexFault.TheVariants.{BadByte, NameLong, LiteralWide}
-use Rattle.sot_text.specs.declared.mission.SectionFault.{SectionFault}
-use Rattle.sot_text.specs.declared.mission.SectionKind.{SectionKind}
-use Rattle.sot_text.specs.declared.mission.SectionKind.TheVariants as sections
+use Rattle.sot_sections.specs.declared.mission.SectionFault.{SectionFault}
+use Rattle.sot_sections.specs.declared.mission.SectionKind.{SectionKind}
+use Rattle.sot_sections.specs.declared.mission.SectionKind.TheVariants as sections
 use Rattle.sot_parser.specs.declared.syntax.Syntax.{Syntax}
 use Rattle.sot_parser.specs.declared.syntax.Syntax.TheVariants.{Lex, Token, Deep}
 use Rattle.sot_rules.specs.declared.fault.TypeFault.{TypeFault}

@@ -1,8 +1,8 @@
 -- What the steps of loading promise each other.
 use Rattle.std.specs.Prelude.{◌≡◌, ℕ, List, Option, Ok, Err}
 use Rattle.std.specs.Option.{option_map}
-use Rattle.sot_text.specs.declared.mission.Need.{Need}
-use Rattle.sot_text.specs.Sections.{Parts}
+use Rattle.sot_sections.specs.declared.mission.Need.{Need}
+use Rattle.sot_sections.specs.Sections.{Parts}
 use Rattle.sot_tree.specs.Trees.{Program}
 use Rattle.sot_lang.specs.Tables.{Tables}
 use Rattle.sot_lang.specs.declared.cert.Cert.{Cert}

@@ -1,7 +1,7 @@
 -- What the bytes of a mission spell: a program with its tables, a certificate, and what else a command needs, or a first fault.
 use Rattle.std.specs.Prelude.{◌≡◌, ℕ, List, Option, Some, None, Ok, Err}
-use Rattle.sot_text.specs.declared.mission.Need.{Need}
-use Rattle.sot_text.specs.Sections.{Parts, split_of}
+use Rattle.sot_sections.specs.declared.mission.Need.{Need}
+use Rattle.sot_sections.specs.Sections.{Parts, split_of}
 use Rattle.sot_tree.specs.Trees.{Program}
 use Rattle.sot_lang.specs.Tables.{Tables}
 use Rattle.sot_lang.specs.declared.cert.Cert.{Cert}

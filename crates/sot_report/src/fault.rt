@@ -3,7 +3,7 @@
 use sot_cert::JsonFault;
 use sot_parser::Syntax;
 use sot_rules::TypeFault;
-use sot_text::SectionFault;
+use sot_sections::SectionFault;
 
 /// The first fault of the bytes of a mission, in the order of these kinds.
 #[derive(Drop)]

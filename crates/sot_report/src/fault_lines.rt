@@ -8,7 +8,8 @@ use crate::fault::Fault;
 use sot_cert::{JsonFault, JsonKind, Path};
 use sot_parser::Syntax;
 use sot_rules::{TypeFault, TypeKind};
-use sot_text::{LexFault, SectionFault, SectionKind, Span};
+use sot_sections::{SectionFault, SectionKind};
+use sot_text::{LexFault, Span};
 use std::alloc::{AllocError, Global};
 
 fn section_word(kind: SectionKind) -> &'static str

@@ -10,7 +10,7 @@ mod steps;
 
 use sot_ports::Process;
 use sot_report::{Loaded, load};
-use sot_text::Need;
+use sot_sections::Need;
 use std::alloc::{AllocError, Global};
 use std::fmt::Debug;
 use std::process::Abort;

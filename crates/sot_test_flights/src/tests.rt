@@ -14,7 +14,7 @@ use sot_flight::Flight;
 use sot_lang::Typed;
 use sot_ports::Process;
 use sot_report::{Loaded, load};
-use sot_text::Need;
+use sot_sections::Need;
 use std::alloc::Global;
 use std::fmt::Debug;
 use std::process::Abort;

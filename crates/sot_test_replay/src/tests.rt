@@ -18,7 +18,7 @@ use sot_law_one_trace::names_are_words;
 use sot_ports::Process;
 use sot_replay::{ReplayFail, replay};
 use sot_report::{Loaded, load};
-use sot_text::Need;
+use sot_sections::Need;
 use sot_trace_lines::Lines;
 use std::alloc::{AllocError, Global};
 use std::fmt::Debug;

@@ -15,7 +15,7 @@ use sot_flight::Flight;
 use sot_node_worker::Controller;
 use sot_ports::Process;
 use sot_report::{Loaded, load};
-use sot_text::Need;
+use sot_sections::Need;
 use sot_trace::board_text;
 use sot_tube::Accepted;
 use sot_workers::{Flown, NodeList, fly};

@@ -6,7 +6,7 @@ use Rattle.memchr.specs.Find.{Nowhere, Passes, is_byte}
 use Rattle.sot_text.specs.declared.token.Span.{Span}
 use Rattle.sot_text.specs.Place.{after, after_byte}
 use Rattle.sot_text.specs.Lexeme.{skipped}
-use Rattle.sot_text.specs.Dividing.{line_len}
+use Rattle.sot_text.specs.LineEnds.{line_len}
 use Rattle.sot_text.specs.Inside.{further, next_line}
 use Rattle.sot_text.proofs.Lines.{line_len-pos}
 

@@ -6,7 +6,7 @@ use Rattle.std.proofs.lemmas.List.{length-take, drop-drop, drop_more, get_or-dro
 use Rattle.sot_text.specs.declared.token.Span.{Span}
 use Rattle.sot_text.specs.Place.{after, begin}
 use Rattle.sot_text.specs.Lexeme.{skipped}
-use Rattle.sot_text.specs.Dividing.{line_len}
+use Rattle.sot_text.specs.LineEnds.{line_len}
 use Rattle.sot_text.specs.Inside.{further, next_line}
 use Rattle.sot_text.specs.Reading.{next_from}
 use Rattle.sot_text.proofs.Lines.{line_len-pos}

@@ -1,6 +1,6 @@
 //! The first line of a text.
 ghost use Rattle.std.specs.Prelude.{◌≡◌, ◌+◌, ◌≤◌, IfSome, length};
-ghost use Rattle.sot_text.specs.Dividing.{line_len};
+ghost use Rattle.sot_text.specs.LineEnds.{line_len};
 
 use memchr::memchr;
 

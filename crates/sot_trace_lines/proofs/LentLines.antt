@@ -2,8 +2,8 @@
 use Rattle.std.proofs.Common.{◌≡◌, ℕ, ◌-◌, ◌<◌, ◌==◌, true, List, ◌∷◌, length, get_or, take, drop, map, sym, ap, ◌∙◌, arith}
 use Rattle.std.proofs.lemmas.Bool.{cond-true}
 use Rattle.std.proofs.lemmas.Bool.Decides.{nat_tests}
-use Rattle.sot_text.specs.Sections.{without_last}
-use Rattle.sot_text.specs.Dividing.{line_len}
+use Rattle.sot_text.specs.LineEnds.{without_last}
+use Rattle.sot_text.specs.LineEnds.{line_len}
 use Rattle.sot_text.proofs.Lines.{without_taken, first_line}
 use Rattle.sot_trace_lines.specs.LentLines.{last_of, without_end, lent_lines}
 

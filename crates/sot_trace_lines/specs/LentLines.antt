@@ -1,6 +1,6 @@
 -- The lines of a text without their line ends.
 use Rattle.std.specs.Prelude.{◌≡◌, ℕ, suc, List, [], ◌∷◌, ◌==◌, if◌then◌else◌, map, slice_index_or, length, ◌-◌, Option, Some, None}
-use Rattle.sot_text.specs.Sections.{lines, without_last}
+use Rattle.sot_text.specs.LineEnds.{lines, without_last}
 
 -- whether a line ends with an LF: the last line of a text may have none
 abbrev pub last_of : List ℕ → ℕ

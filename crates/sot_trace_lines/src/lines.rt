@@ -2,8 +2,8 @@
 
 ghost use Rattle.std.specs.Prelude.{◌≡◌, ◌+◌, ◌<◌, ◌≤◌, ◌^◌, length};
 ghost use Rattle.std.specs.Option.{option_map};
-ghost use Rattle.sot_text.specs.Sections.{without_last};
-ghost use Rattle.sot_text.specs.Dividing.{line_len};
+ghost use Rattle.sot_text.specs.LineEnds.{without_last};
+ghost use Rattle.sot_text.specs.LineEnds.{line_len};
 ghost use Rattle.sot_trace_lines.specs.LentLines.{without_end};
 
 use sot_text::line_len;

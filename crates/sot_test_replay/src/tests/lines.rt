@@ -7,7 +7,7 @@ use sot_lang::{Draft, Typed};
 use sot_law_one_trace::names_are_words;
 use sot_ports::Process;
 use sot_report::{Loaded, load};
-use sot_text::Need;
+use sot_sections::Need;
 use sot_trace_lines::{
     Line, Lines, entries_are_spelled, is_start_line, lines_spell_once, read_line,
 };

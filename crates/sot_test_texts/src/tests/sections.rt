@@ -1,6 +1,6 @@
 //! The sections of a mission, and the first fault of a text without them.
 use super::{cut, same, unescaped};
-use sot_text::{Need, split};
+use sot_sections::{Need, split};
 use std::alloc::Global;
 use std::process::Abort;
 

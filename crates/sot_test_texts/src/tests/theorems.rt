@@ -5,7 +5,7 @@ use sot_print::{
     canonical_words_are_read_back, declarations_are_as_stated, expressions_are_as_stated,
     words_are_read_back,
 };
-use sot_text::sections_are_as_stated;
+use sot_sections::sections_are_as_stated;
 
 #[test]
 fn theorems_may_be_called(_rt: HostRuntime) {

@@ -1,5 +1,5 @@
 use Rattle.std.proofs.Common.{◌≡◌, ℕ, List, [], ◌∷◌, ◌++◌, codes, inl, inr, refl}
-use Rattle.sot_text.specs.SectionExamples.{line}
+use Rattle.sot_sections.specs.SectionExamples.{line}
 use Rattle.sot_certified_text.specs.Plain.{EndsLine, IsPlain}
 use Rattle.sot_certified_text.proofs.facts.lines_are_as_stated.Goals as goal
 

@@ -1,5 +1,5 @@
 use Rattle.std.proofs.Common.{subst}
-use Rattle.sot_text.specs.declared.mission.Need.TheVariants as needs
+use Rattle.sot_sections.specs.declared.mission.Need.TheVariants as needs
 use Rattle.sot_rta.specs.Refused.{refusal_view}
 use Rattle.sot_compose.specs.Accepting.{Fails}
 use Rattle.sot_report.specs.Missions.{HasFault}

@@ -1,6 +1,6 @@
 use Rattle.std.proofs.Common.{ap, arith}
 use Rattle.std.specs.Prelude.{option_map}
-use Rattle.sot_text.specs.declared.mission.Need.TheVariants as needs
+use Rattle.sot_sections.specs.declared.mission.Need.TheVariants as needs
 use Rattle.sot_commands.proofs.Replayed.{replayed_result, mission_words, trace_within}
 use Rattle.sot_commands.proofs.replay.replay.Goals as goal
 

@@ -1,5 +1,5 @@
 use Rattle.std.proofs.Common.{Err, ap, sym, subst, ◌∙◌}
-use Rattle.sot_text.specs.Sections.{parts_of}
+use Rattle.sot_sections.specs.Sections.{parts_of}
 use Rattle.sot_law_fault_place.proofs.ExactPlaces.{fault_is_placed}
 use Rattle.sot_report.specs.declared.fault.Fault.TheVariants as faults
 use Rattle.sot_report.specs.declared.fault.LoadFail.TheVariants as fails

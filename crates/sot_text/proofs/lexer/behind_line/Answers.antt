@@ -1,6 +1,6 @@
 use Rattle.std.proofs.Common.{◌≡◌, length, drop, ap, ◌∙◌, arith, length-drop}
 use Rattle.std.proofs.lemmas.List.{take_rest}
-use Rattle.sot_text.specs.Dividing.{line_len}
+use Rattle.sot_text.specs.LineEnds.{line_len}
 use Rattle.sot_text.proofs.Starts.{line_at, column_at, line_ended, line_open}
 use Rattle.sot_text.proofs.lexer.behind_line.Goals as goal
 

@@ -1,5 +1,5 @@
 use Rattle.std.proofs.Common.{◌≡◌, ◌+◌, drop}
-use Rattle.sot_text.specs.Dividing.{line_len}
+use Rattle.sot_text.specs.LineEnds.{line_len}
 use Rattle.sot_text.proofs.line.near_line_len.Given as goal
 
 abbrev pub invariant-loop-i : goal.invariant-loop-i
