@@ -16,11 +16,11 @@ use Rattle.sot_lang.specs.Tables.{Tables}
 use Rattle.sot_lang.specs.OwnerNames.{width_of}
 use Rattle.sot_lang.specs.TableRules.{MeetsTableRules}
 use Rattle.sot_lang.specs.CertRules.{FitsTables, AreCellsOf}
-use Rattle.sot_cert.specs.declared.fault.JsonKind.TheVariants.{WrongShape, OutsideRange, Missing, Unknown}
-use Rattle.sot_cert.specs.Says.{Says, or, unless}
-use Rattle.sot_cert.specs.Json.{count, at, some, optional, may, all_among}
+use Rattle.sot_json.specs.declared.fault.JsonKind.TheVariants.{WrongShape, OutsideRange, Missing, Unknown}
+use Rattle.sot_json.specs.Says.{Says, or, unless}
+use Rattle.sot_json.specs.Json.{count, at, some, optional, may, all_among}
 use Rattle.sot_cert.specs.CertFormat.{cells, entry, entries, names, modules, is_below_periods, jitter, jitter_in, has_jitter, keys, cert, Contents, contents}
-use Rattle.sot_cert.proofs.Binds.{bind_ok, part_ok, unless_ok, ok_same}
+use Rattle.sot_json.proofs.Binds.{bind_ok, part_ok, unless_ok, ok_same}
 use Rattle.sot_cert.proofs.Sides.{AreCells, cells_form}
 
 pub at_ok : {A : Type 0} (key : List ℕ) (f : Data → Says A) (ms : Members) (x : A) → at key f ms ≡ Ok x → (d : Data) × (f d ≡ Ok x)

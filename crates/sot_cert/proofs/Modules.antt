@@ -6,12 +6,12 @@ use Rattle.sot_lang.specs.declared.tables.PlantInfo.{PlantInfo}
 use Rattle.sot_lang.specs.declared.tables.ModuleInfo.{ModuleInfo}
 use Rattle.sot_lang.specs.declared.cert.Cells.{Cells}
 use Rattle.sot_lang.specs.OwnerNames.{width_of}
-use Rattle.sot_cert.specs.declared.fault.JsonFail.{JsonFail}
-use Rattle.sot_cert.specs.declared.fault.JsonFail.TheVariants as fails
-use Rattle.sot_cert.specs.Says.{Says, ◌>>=◌}
-use Rattle.sot_cert.specs.Json.{may, is_among}
+use Rattle.sot_json.specs.declared.fault.JsonFail.{JsonFail}
+use Rattle.sot_json.specs.declared.fault.JsonFail.TheVariants as fails
+use Rattle.sot_json.specs.Says.{Says, ◌>>=◌}
+use Rattle.sot_json.specs.Json.{may, is_among}
 use Rattle.sot_cert.specs.CertFormat.{entry, entries, names}
-use Rattle.sot_cert.specs.Answers.{Fails}
+use Rattle.sot_json.specs.Answers.{Fails}
 
 drop_at : (ms : List ModuleInfo) (i : ℕ) (m : ModuleInfo) → i < length ms → m ≡ get_or ms i m → drop i ms ≡ m ∷ drop (suc i) ms
 drop_at [] i m lt is = absurd (omega arith)

@@ -10,12 +10,12 @@ use Rattle.sot_lists.specs.Places.{At}
 use Rattle.sot_box.specs.Sides.{Side, AreOrdered}
 use Rattle.sot_box.specs.BoxList.{BoxList}
 use Rattle.sot_box.proofs.Ordered.{ordered-push}
-use Rattle.sot_cert.specs.declared.fault.JsonKind.TheVariants.{WrongShape, Width, Empty, TooMany}
-use Rattle.sot_cert.specs.Says.{Says, or, unless, part}
-use Rattle.sot_cert.specs.Json.{each_after, each, two}
+use Rattle.sot_json.specs.declared.fault.JsonKind.TheVariants.{WrongShape, Width, Empty, TooMany}
+use Rattle.sot_json.specs.Says.{Says, or, unless, part}
+use Rattle.sot_json.specs.Json.{each_after, each, two}
 use Rattle.sot_cert.specs.CertFormat.{number, side, cell, cells, region_of, cell_limit}
-use Rattle.sot_cert.proofs.Binds.{bind_ok, part_ok, unless_ok, ok_same}
-use Rattle.sot_cert.proofs.Bounds.{int_le_true}
+use Rattle.sot_json.proofs.Binds.{bind_ok, part_ok, unless_ok, ok_same}
+use Rattle.sot_json.proofs.Bounds.{int_le_true}
 
 -- what each item keeps holds of all of them
 pub each_keeps : {A : Type 0} (f : Data → Says A) (Q : List A → Type 0) → ((done : List A) (d : Data) (x : A) → Q done → f d ≡ Ok x → Q (done ++ x ∷ [])) → (done : List A) (ds : Items) (xs : List A) → Q done → each_after (λ (_ : List A). f) done ds ≡ Ok xs → Q xs

@@ -4,8 +4,8 @@ use Rattle.std.specs.Global.{Global}
 use Rattle.serde_json.specs.Data.{null, array, Items, no_items, item}
 use Rattle.sot_lang.specs.declared.cert.Cells.{Cells}
 use Rattle.sot_lang.specs.Line.{side, line}
-use Rattle.sot_cert.specs.declared.fault.JsonKind.{JsonKind}
-use Rattle.sot_cert.specs.declared.fault.JsonKind.TheVariants.{NotJson, WrongShape, NotWhole, OutsideRange, Missing, Unknown, Width, Empty, TooMany}
+use Rattle.sot_json.specs.declared.fault.JsonKind.{JsonKind}
+use Rattle.sot_json.specs.declared.fault.JsonKind.TheVariants.{NotJson, WrongShape, NotWhole, OutsideRange, Missing, Unknown, Width, Empty, TooMany}
 use Rattle.sot_cert.specs.CertFormat.{cert_of, region_of, cells}
 
 module _ (g : Global) where

@@ -12,9 +12,9 @@ use Rattle.sot_lang.specs.declared.cert.Cells.{Cells}
 use Rattle.sot_lang.specs.declared.cert.Cert.{Cert}
 use Rattle.sot_lang.specs.Tables.{Tables}
 use Rattle.sot_lang.specs.OwnerNames.{width_of}
-use Rattle.sot_cert.specs.declared.fault.JsonKind.TheVariants.{NotJson, WrongShape, OutsideRange, Unknown, Width, Empty, TooMany}
-use Rattle.sot_cert.specs.Says.{Says, ◌>>=◌, or, unless, part}
-use Rattle.sot_cert.specs.Json.{json_of, whole, count, each, two, at, may, all_among}
+use Rattle.sot_json.specs.declared.fault.JsonKind.TheVariants.{NotJson, WrongShape, OutsideRange, Unknown, Width, Empty, TooMany}
+use Rattle.sot_json.specs.Says.{Says, ◌>>=◌, or, unless, part}
+use Rattle.sot_json.specs.Json.{json_of, whole, count, each, two, at, may, all_among}
 
 -- a number, from -10^12 to 10^12
 unfoldable pub number : Data → Says ℤ

@@ -1,16 +1,15 @@
 //! Sides, cells and lists of cells of a certificate.
 ghost use Rattle.std.specs.Prelude.{◌≡◌, ◌≤◌, length, IfOk, IfErr};
 ghost use Rattle.serde_json.specs.View.{view, items_view};
-ghost use Rattle.sot_cert.specs.Says.{part};
-ghost use Rattle.sot_cert.specs.Json.{each};
+ghost use Rattle.sot_json.specs.Says.{part};
+ghost use Rattle.sot_json.specs.Json.{each};
 ghost use Rattle.sot_cert.specs.CertFormat.{number, side, cell, cells, region_of};
-ghost use Rattle.sot_cert.specs.declared.fault.JsonFail.TheVariants.{Memory};
-ghost use Rattle.sot_cert.specs.Answers.{Gives};
+ghost use Rattle.sot_json.specs.declared.fault.JsonFail.TheVariants.{Memory};
+ghost use Rattle.sot_json.specs.Answers.{Gives};
 
-use crate::fault::{JsonFail, JsonKind};
-use crate::value::{fault_at, fault_under_index, part_of, two_of, whole_of};
 use serde_json::Value;
 use sot_box::{BoxN, Interval, Region};
+use sot_json::{JsonFail, JsonKind, fault_at, fault_under_index, part_of, two_of, whole_of};
 use std::alloc::Global;
 
 const GREATEST: i64 = 1_000_000_000_000;
@@ -24,7 +23,7 @@ fn number_of(alloc: Global, value: &Value) -> Result<i64, JsonFail>
     whole_of(alloc, -GREATEST, GREATEST, value)
 }
 
-#[tactic(auto, using(crate::proofs::Parts::part_gives))]
+#[tactic(auto, using(sot_json::proofs::Parts::part_gives))]
 fn end_of(alloc: Global, place: &str, value: &Value) -> Result<i64, JsonFail>
     ensures { Gives (λ x. x) result (part place.now (number (view value.now))) }
 {
@@ -64,7 +63,7 @@ fn put_sides(alloc: Global, list: &[Value], sides: &mut [Interval]) -> Result<()
     Ok(())
 }
 
-#[tactic(auto, unfolding(crate::specs::CertFormat::cell), using(crate::proofs::Lists::items_len_view, crate::proofs::Sides::cell_len))]
+#[tactic(auto, unfolding(crate::specs::CertFormat::cell), using(sot_json::proofs::Lists::items_len_view, crate::proofs::Sides::cell_len))]
 fn cell_of(alloc: Global, width: usize, value: &Value) -> Result<BoxN, JsonFail>
     requires { (1 ≤ width) × (width ≤ 4) }
     ensures says { Gives (λ x. x) result (cell width (view value.now)) }
@@ -85,7 +84,7 @@ fn cell_of(alloc: Global, width: usize, value: &Value) -> Result<BoxN, JsonFail>
     }
 }
 
-#[tactic(auto, using(crate::proofs::Lists::goes_on, crate::proofs::Lists::ends, crate::proofs::Lists::is_done))]
+#[tactic(auto, using(sot_json::proofs::Lists::goes_on, sot_json::proofs::Lists::ends, sot_json::proofs::Lists::is_done))]
 fn boxes_of(alloc: Global, width: usize, list: &Vec<Value>) -> Result<Region, JsonFail>
     requires { (1 ≤ width) × (width ≤ 4) }
     ensures says { Gives (λ r. r.boxes) result (each (cell width) (items_view list.now.items)) }
@@ -114,7 +113,7 @@ fn settled(mut region: Region) -> Result<Region, JsonFail>
 }
 
 /// A list of cells, as a region of that width.
-#[tactic(auto, unfolding(crate::specs::CertFormat::cells), using(crate::proofs::Lists::items_len_view))]
+#[tactic(auto, unfolding(crate::specs::CertFormat::cells), using(sot_json::proofs::Lists::items_len_view))]
 pub(crate) fn cells_of(alloc: Global, width: usize, value: &Value) -> Result<Region, JsonFail>
     requires { (1 ≤ width) × (width ≤ 4) }
     ensures { Gives (λ r. r) result (cells width (view value.now)) }

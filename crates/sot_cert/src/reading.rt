@@ -6,22 +6,25 @@ ghost use Rattle.sot_lists.specs.Places.{At};
 ghost use Rattle.sot_lang.specs.OwnerNames.{width_of};
 ghost use Rattle.sot_lang.specs.TableRules.{MeetsTableRules};
 ghost use Rattle.sot_lang.specs.CertRules.{FitsTables};
-ghost use Rattle.sot_cert.specs.Json.{at, may, is_among, all_among};
+ghost use Rattle.sot_json.specs.Json.{at, may, is_among, all_among};
 ghost use Rattle.sot_cert.specs.CertFormat.{cells, entry, entries, names, modules as modules_say, is_below_periods, jitter, jitter_in, has_jitter, keys, cert, cert_of, contents};
-ghost use Rattle.sot_cert.specs.Answers.{Gives};
+ghost use Rattle.sot_json.specs.Answers.{Gives};
 
 use crate::cells::cells_of;
-use crate::fault::{CertFail, JsonFail, JsonKind};
-use crate::value::{
-    count_of, fault_at, fault_under, has_only, member_of, needed, part_of, value_of, whole_of,
-};
 use serde_json::{Map, Value};
 use sot_box::Region;
+use sot_json::{
+    JsonFail, JsonKind, count_of, fault_at, fault_under, has_only, member_of, needed, part_of,
+    value_of, whole_of,
+};
 use sot_lang::{Cells, Cert, PlantInfo, Typed};
 use sot_ports::{Process, let_go};
 use std::alloc::Global;
 
-#[tactic(auto, unfolding(crate::specs::Json::at), using(crate::proofs::Parts::found_there, crate::proofs::Parts::lacking))]
+/// Why a certificate was not read.
+pub type CertFail = JsonFail;
+
+#[tactic(auto, unfolding(sot_json::specs::Json::at), using(sot_json::proofs::Parts::found_there, sot_json::proofs::Parts::lacking))]
 fn cells_at(
     alloc: Global,
     name: &str,
@@ -70,7 +73,7 @@ fn width_at(p: &Typed, plant: u32) -> usize
     plant_at(p, plant).states.len()
 }
 
-#[tactic(auto, using(crate::proofs::Faults::may_fails))]
+#[tactic(auto, using(sot_json::proofs::Faults::may_fails))]
 fn entry_at(
     alloc: Global,
     name: &str,
@@ -172,7 +175,7 @@ fn modules_of(alloc: Global, p: &Typed, value: &Value) -> Result<Vec<Option<Cell
     Ok(found)
 }
 
-#[tactic(auto, unfolding(crate::specs::Json::at), using(crate::proofs::Parts::found_there, crate::proofs::Parts::lacking))]
+#[tactic(auto, unfolding(sot_json::specs::Json::at), using(sot_json::proofs::Parts::found_there, sot_json::proofs::Parts::lacking))]
 fn modules_at(
     alloc: Global,
     p: &Typed,
@@ -215,7 +218,7 @@ fn jitter_of(alloc: Global, p: &Typed, value: &Value) -> Result<u32, JsonFail>
     Ok(jitter)
 }
 
-#[tactic(auto, unfolding(crate::specs::Json::at), using(crate::proofs::Parts::found_there, crate::proofs::Parts::lacking))]
+#[tactic(auto, unfolding(sot_json::specs::Json::at), using(sot_json::proofs::Parts::found_there, sot_json::proofs::Parts::lacking))]
 fn jitter_at(alloc: Global, p: &Typed, object: &Map<String, Value>) -> Result<u32, JsonFail>
     ensures { Gives (λ x. x) result (at (codes "jitter") (jitter p.now) (members_view object.now.entries)) }
 {
@@ -231,7 +234,7 @@ fn format_of(alloc: Global, value: &Value) -> Result<bool, JsonFail>
     Ok(2 <= format)
 }
 
-#[tactic(auto, unfolding(crate::specs::Json::at), using(crate::proofs::Parts::found_there, crate::proofs::Parts::lacking))]
+#[tactic(auto, unfolding(sot_json::specs::Json::at), using(sot_json::proofs::Parts::found_there, sot_json::proofs::Parts::lacking))]
 fn format_at(alloc: Global, object: &Map<String, Value>) -> Result<bool, JsonFail>
     ensures { Gives (λ x. x) result (at (codes "format") has_jitter (members_view object.now.entries)) }
 {

@@ -20,8 +20,8 @@ use Rattle.serde_json.specs.Read.{number_of, of_json, of_items, of_members, max_
 use Rattle.serde_json.specs.Written.{number_text, outline, items_outline, members_outline, comma_if, compact_text, items_text, members_text}
 use Rattle.serde_json.proofs.Numbers.{number_of-decimal, number_of-negative}
 use Rattle.serde_json.proofs.Texts.{print-outline}
-use Rattle.sot_cert.specs.Json.{json_of}
-use Rattle.sot_cert.proofs.Faults.{is_json}
+use Rattle.sot_json.specs.Json.{json_of}
+use Rattle.sot_json.proofs.Faults.{is_json}
 
 -- ---- what is read back
 

@@ -16,7 +16,7 @@ use Rattle.json.specs.Word.{head, ends_word, after_digits, after_minus, after_si
 use Rattle.json.specs.Lex.{Lexeme, token, Class, quote, backslash, operator, space, other, class, operator_lexeme, string_token, Mode, between, in_word, in_string, in_escape, lex_byte, lex, punctuate, fresh, tokens}
 use Rattle.serde_json.specs.Data.{Data}
 use Rattle.serde_json.specs.Read.{read}
-use Rattle.sot_cert.specs.Json.{json_of}
+use Rattle.sot_json.specs.Json.{json_of}
 use Rattle.sot_certified_text.proofs.PlainTexts.{is_one_line, first_of, second_of, not_true}
 
 -- a text and a line end

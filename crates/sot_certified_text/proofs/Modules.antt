@@ -19,9 +19,9 @@ use Rattle.sot_lang.specs.Tables.{Tables}
 use Rattle.sot_lang.specs.OwnerNames.{width_of}
 use Rattle.sot_lang.specs.TableRules.{MeetsTableRules, AreDistinct}
 use Rattle.sot_lang.specs.CertRules.{FitsTables, AreCellsOf}
-use Rattle.sot_cert.specs.declared.fault.JsonKind.TheVariants.{NotJson, Unknown}
-use Rattle.sot_cert.specs.Says.{◌>>=◌, or, unless, part}
-use Rattle.sot_cert.specs.Json.{whole, at, some, may, optional, is_among, all_among}
+use Rattle.sot_json.specs.declared.fault.JsonKind.TheVariants.{NotJson, Unknown}
+use Rattle.sot_json.specs.Says.{◌>>=◌, or, unless, part}
+use Rattle.sot_json.specs.Json.{whole, at, some, may, optional, is_among, all_among}
 use Rattle.sot_cert.specs.CertFormat.{cells, entry, entries, names, modules, has_jitter, jitter_in, cert, contents, region_of}
 use Rattle.sot_certified_text.proofs.PlainTexts.{both, first_of, second_of}
 use Rattle.sot_certified_text.specs.CertText.{cells_data, entry_data, entries_data, certificate_data}

@@ -10,9 +10,9 @@ use Rattle.serde_json.specs.Find.{of_integer}
 use Rattle.sot_box.specs.Sides.{Side, AreOrdered}
 use Rattle.sot_box.proofs.Indexes.{le_false}
 use Rattle.sot_lists.specs.Places.{At}
-use Rattle.sot_cert.specs.declared.fault.JsonKind.TheVariants.{OutsideRange, Empty, Width, TooMany}
-use Rattle.sot_cert.specs.Says.{Says, ◌>>=◌, unless, part}
-use Rattle.sot_cert.specs.Json.{whole, each_after, each}
+use Rattle.sot_json.specs.declared.fault.JsonKind.TheVariants.{OutsideRange, Empty, Width, TooMany}
+use Rattle.sot_json.specs.Says.{Says, ◌>>=◌, unless, part}
+use Rattle.sot_json.specs.Json.{whole, each_after, each}
 use Rattle.sot_cert.specs.CertFormat.{number as number_says, side, cell, cells, region_of}
 use Rattle.sot_certified_text.proofs.PlainTexts.{both}
 use Rattle.sot_certified_text.specs.CertText.{side_data, cell_data, cells_data, items_by}

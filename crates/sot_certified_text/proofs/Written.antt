@@ -15,8 +15,8 @@ use Rattle.sot_lang.specs.declared.cert.Cert.{Cert}
 use Rattle.sot_tube.specs.Certified.{IsWellCertified}
 use Rattle.sot_tube.proofs.Acceptance.{certified_passes}
 use Rattle.sot_tube.proofs.VerdictExact.{verdict_exact}
-use Rattle.sot_cert.specs.declared.fault.JsonFault.{JsonFault}
-use Rattle.sot_cert.specs.Says.{Says}
+use Rattle.sot_json.specs.declared.fault.JsonFault.{JsonFault}
+use Rattle.sot_json.specs.Says.{Says}
 use Rattle.sot_cert.specs.CertFormat.{Contents, cert_of, contents}
 use Rattle.sot_report.specs.declared.fault.Fault.TheVariants as faults
 use Rattle.sot_report.specs.Missions.{Resolves, HasParts, FaultsFlight}

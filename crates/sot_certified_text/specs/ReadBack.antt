@@ -7,7 +7,7 @@ use Rattle.sot_lang.specs.declared.cert.Cert.{Cert}
 use Rattle.sot_lang.specs.Tables.{Tables}
 use Rattle.sot_lang.specs.TableRules.{MeetsTableRules}
 use Rattle.sot_lang.specs.CertRules.{FitsTables}
-use Rattle.sot_cert.specs.Json.{json_of}
+use Rattle.sot_json.specs.Json.{json_of}
 use Rattle.sot_cert.specs.CertFormat.{cert_of, contents}
 use Rattle.sot_certified_text.specs.CertText.{certificate_data}
 

@@ -3,7 +3,7 @@
 ghost use Rattle.std.specs.Prelude.{◌≡◌, ◌++◌, [], ◌∷◌, length, Some, true, IfOk};
 ghost use Rattle.std.specs.Str.{is_utf8};
 ghost use Rattle.serde_json.specs.Written.{compact_text};
-ghost use Rattle.sot_cert.specs.Json.{json_of};
+ghost use Rattle.sot_json.specs.Json.{json_of};
 ghost use Rattle.sot_certified_text.specs.CertText.{certificate_data, certificate_line};
 
 use crate::value::certificate_value;

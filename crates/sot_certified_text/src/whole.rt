@@ -3,7 +3,7 @@
 ghost use Rattle.std.specs.Prelude.{◌≡◌, length, Some, IfOk};
 ghost use Rattle.sot_tree.specs.TreeViews.{program_view};
 ghost use Rattle.sot_print.specs.Canonical.{canonical};
-ghost use Rattle.sot_cert.specs.Json.{json_of};
+ghost use Rattle.sot_json.specs.Json.{json_of};
 ghost use Rattle.sot_certified_text.specs.Missions.{mission_text};
 ghost use Rattle.sot_certified_text.specs.CertText.{certificate_data, certificate_line};
 

@@ -21,7 +21,7 @@ use Rattle.sot_rules.specs.First.{number_of, IsFirstFault, IsFaultless}
 use Rattle.sot_lang.specs.Tables.{Tables}
 use Rattle.sot_typing.specs.Resolved.{tables_seen}
 use Rattle.sot_law_same_tables.proofs.Flights.{flights_alike}
-use Rattle.sot_cert.specs.declared.fault.JsonFault.{JsonFault}
+use Rattle.sot_json.specs.declared.fault.JsonFault.{JsonFault}
 use Rattle.sot_cert.specs.CertFormat.{cert_of}
 use Rattle.sot_maker.specs.Missions.{mission_text as made_text}
 use Rattle.sot_report.specs.declared.fault.Fault.{Fault}

@@ -17,7 +17,7 @@ use Rattle.sot_parser.proofs.ProgramTexts.{spells_unique}
 use Rattle.sot_rules.specs.First.{IsFaultless}
 use Rattle.sot_typing.specs.Resolved.{tables_seen, tables_of}
 use Rattle.sot_cert.specs.CertFormat.{Contents, contents, cert_of}
-use Rattle.sot_cert.specs.declared.fault.JsonFault.{JsonFault}
+use Rattle.sot_json.specs.declared.fault.JsonFault.{JsonFault}
 use Rattle.sot_flight.specs.Plans.{Plan}
 use Rattle.sot_world.specs.HistoryEntry.{Logged}
 use Rattle.sot_trace_lines.specs.LentLines.{lent_lines}

@@ -22,14 +22,14 @@ use Rattle.sot_lang.specs.Tables.{Tables}
 use Rattle.sot_lang.specs.TableRules.{MeetsTableRules}
 use Rattle.sot_lang.specs.Ranges.{bounds, range_of, scalar_ranges}
 use Rattle.sot_lang.proofs.Topics.{topic_inside}
-use Rattle.sot_cert.specs.declared.fault.JsonKind.TheVariants.{WrongShape, OutsideRange, Width, Empty, Unknown, Order, NoGuest, GuestTwice, TooManyEvents, TooManyNumbers}
-use Rattle.sot_cert.specs.declared.fault.JsonFail.{JsonFail}
-use Rattle.sot_cert.specs.Answers.{Gives}
-use Rattle.sot_cert.specs.Says.{Says, or, unless}
-use Rattle.sot_cert.specs.Json.{whole, count, at, is_within, all_among}
+use Rattle.sot_json.specs.declared.fault.JsonKind.TheVariants.{WrongShape, OutsideRange, Width, Empty, Unknown, Order, NoGuest, GuestTwice, TooManyEvents, TooManyNumbers}
+use Rattle.sot_json.specs.declared.fault.JsonFail.{JsonFail}
+use Rattle.sot_json.specs.Answers.{Gives}
+use Rattle.sot_json.specs.Says.{Says, or, unless}
+use Rattle.sot_json.specs.Json.{whole, count, at, is_within, all_among}
 use Rattle.sot_cert.specs.CertFormat.{number}
-use Rattle.sot_cert.proofs.Binds.{bind_ok, unless_ok, ok_same, told}
-use Rattle.sot_cert.proofs.Bounds.{int_le_true, whole_within}
+use Rattle.sot_json.proofs.Binds.{bind_ok, unless_ok, ok_same, told}
+use Rattle.sot_json.proofs.Bounds.{int_le_true, whole_within}
 use Rattle.sot_cert.proofs.Fits.{at_ok}
 use Rattle.sot_flight.specs.declared.sway.SwayKind.{SwayKind}
 use Rattle.sot_flight.specs.declared.sway.SwayKind.TheVariants as sway_kinds

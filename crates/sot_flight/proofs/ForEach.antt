@@ -4,9 +4,9 @@ use Rattle.std.proofs.lemmas.List.{map-append}
 use Rattle.std.proofs.Math.ListN.{drop_of_length-le}
 use Rattle.std.proofs.lemmas.Option.{slice_get_read}
 use Rattle.sot_lists.proofs.Places.{drop_at}
-use Rattle.sot_cert.specs.declared.fault.JsonFail.{JsonFail}
-use Rattle.sot_cert.specs.Says.{Says}
-use Rattle.sot_cert.specs.Answers.{Fails}
+use Rattle.sot_json.specs.declared.fault.JsonFail.{JsonFail}
+use Rattle.sot_json.specs.Says.{Says}
+use Rattle.sot_json.specs.Answers.{Fails}
 use Rattle.sot_cert.proofs.Modules.{bind_fails}
 use Rattle.sot_flight.specs.ListForms.{for_each_after}
 

@@ -7,9 +7,9 @@ use Rattle.serde_json.specs.Data.{Data, Items, no_items, item}
 use Rattle.serde_json.specs.Events.{items_len}
 use Rattle.sot_lists.specs.Places.{At}
 use Rattle.sot_lists.proofs.Places.{at_below, at_same}
-use Rattle.sot_cert.specs.Says.{Says, ◌>>=◌, part}
-use Rattle.sot_cert.specs.Json.{each_after, at}
-use Rattle.sot_cert.proofs.Binds.{bind_ok, part_ok, ok_same}
+use Rattle.sot_json.specs.Says.{Says, ◌>>=◌, part}
+use Rattle.sot_json.specs.Json.{each_after, at}
+use Rattle.sot_json.proofs.Binds.{bind_ok, part_ok, ok_same}
 use Rattle.sot_flight.specs.ListForms.{for_each_after}
 
 -- ---- what was found for each of a list

@@ -7,7 +7,7 @@ use Rattle.std.proofs.lemmas.Option.{slice_get_read}
 use Rattle.sot_lists.proofs.Places.{drop_at}
 use Rattle.sot_lang.specs.declared.tables.PlantInfo.{PlantInfo}
 use Rattle.sot_lang.specs.declared.tables.NodeInfo.{NodeInfo}
-use Rattle.sot_cert.specs.Json.{is_among}
+use Rattle.sot_json.specs.Json.{is_among}
 use Rattle.sot_flight.specs.FlightFormat.{plant_names, has_noise, is_external, node_names}
 
 module _ {X : Type 0} (name : X → List ℕ) (key : List ℕ) where

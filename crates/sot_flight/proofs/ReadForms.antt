@@ -5,11 +5,11 @@ use Rattle.std.proofs.lemmas.Bool.{eqb-true}
 use Rattle.serde_json.specs.Data.{Data, Members}
 use Rattle.serde_json.specs.Events.{items_len}
 use Rattle.serde_json.specs.Find.{as_array}
-use Rattle.sot_cert.specs.declared.fault.JsonKind.TheVariants.{WrongShape, Width}
-use Rattle.sot_cert.specs.Says.{or, unless}
-use Rattle.sot_cert.specs.Json.{at}
+use Rattle.sot_json.specs.declared.fault.JsonKind.TheVariants.{WrongShape, Width}
+use Rattle.sot_json.specs.Says.{or, unless}
+use Rattle.sot_json.specs.Json.{at}
 use Rattle.sot_cert.specs.CertFormat.{number}
-use Rattle.sot_cert.proofs.Binds.{bind_ok, unless_ok}
+use Rattle.sot_json.proofs.Binds.{bind_ok, unless_ok}
 use Rattle.sot_cert.proofs.Sides.{each_len}
 use Rattle.sot_cert.proofs.Fits.{at_ok}
 use Rattle.sot_flight.specs.ListForms.{numbers}

@@ -4,11 +4,11 @@ use Rattle.std.proofs.lemmas.List.{length-map, map-append}
 use Rattle.serde_json.specs.Data.{Data}
 use Rattle.serde_json.specs.View.{view, items_view}
 use Rattle.serde_json.specs.declared.value.Value.{Value}
-use Rattle.sot_cert.specs.declared.fault.JsonFail.{JsonFail}
-use Rattle.sot_cert.specs.Says.{Says}
-use Rattle.sot_cert.specs.Json.{each_after}
-use Rattle.sot_cert.specs.Answers.{Fails, IsUnder}
-use Rattle.sot_cert.proofs.Lists.{goes_on, ends, is_done}
+use Rattle.sot_json.specs.declared.fault.JsonFail.{JsonFail}
+use Rattle.sot_json.specs.Says.{Says}
+use Rattle.sot_json.specs.Json.{each_after}
+use Rattle.sot_json.specs.Answers.{Fails, IsUnder}
+use Rattle.sot_json.proofs.Lists.{goes_on, ends, is_done}
 
 module _ {A B : Type 0} (of : B → A) where
   -- the item v at place i was read as x, which the loop keeps as y

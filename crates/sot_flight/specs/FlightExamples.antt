@@ -8,8 +8,8 @@ use Rattle.sot_lang.specs.declared.tables.NodeInfo.{NodeInfo}
 use Rattle.sot_lang.specs.declared.tables.PlantInfo.{PlantInfo}
 use Rattle.sot_lang.specs.Tables.{Tables}
 use Rattle.sot_lang.specs.Line.{vec, line, cmd, cmd_number, pos_plant, fast, slow, nav}
-use Rattle.sot_cert.specs.declared.fault.JsonKind.{JsonKind}
-use Rattle.sot_cert.specs.declared.fault.JsonKind.TheVariants.{NotJson, WrongShape, NotWhole, OutsideRange, Missing, Unknown, Width, Empty, Order, NoGuest, GuestTwice, TooManyEvents, TooManyNumbers}
+use Rattle.sot_json.specs.declared.fault.JsonKind.{JsonKind}
+use Rattle.sot_json.specs.declared.fault.JsonKind.TheVariants.{NotJson, WrongShape, NotWhole, OutsideRange, Missing, Unknown, Width, Empty, Order, NoGuest, GuestTwice, TooManyEvents, TooManyNumbers}
 use Rattle.sot_flight.specs.Plans.{StatedInput, Still, High, Listed, Drawn, Coded, Script, Wild, Guest}
 use Rattle.sot_flight.specs.Counts.{events_of}
 use Rattle.sot_flight.specs.FlightFormat.{flight_of, counted}

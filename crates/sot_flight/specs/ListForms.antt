@@ -4,9 +4,9 @@ use Rattle.serde_json.specs.Data.{Data}
 use Rattle.serde_json.specs.Events.{items_len}
 use Rattle.serde_json.specs.Find.{as_null, as_array}
 use Rattle.sot_box.specs.Sides.{Side, nought}
-use Rattle.sot_cert.specs.declared.fault.JsonKind.TheVariants.{WrongShape, OutsideRange, Width, Empty}
-use Rattle.sot_cert.specs.Says.{Says, ◌>>=◌, or, unless}
-use Rattle.sot_cert.specs.Json.{is_within, each_after, each, some}
+use Rattle.sot_json.specs.declared.fault.JsonKind.TheVariants.{WrongShape, OutsideRange, Width, Empty}
+use Rattle.sot_json.specs.Says.{Says, ◌>>=◌, or, unless}
+use Rattle.sot_json.specs.Json.{is_within, each_after, each, some}
 use Rattle.sot_cert.specs.CertFormat.{number}
 
 -- a number from -10^12 to 10^12, in this range

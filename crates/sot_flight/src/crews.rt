@@ -3,8 +3,8 @@
 ghost use Rattle.std.specs.Prelude.{◌≡◌, ◌<◌, [], length, map, codes};
 ghost use Rattle.std.specs.List.{list_any};
 ghost use Rattle.serde_json.specs.View.{view, members_view};
-ghost use Rattle.sot_cert.specs.Json.{at};
-ghost use Rattle.sot_cert.specs.Answers.{Gives};
+ghost use Rattle.sot_json.specs.Json.{at};
+ghost use Rattle.sot_json.specs.Answers.{Gives};
 ghost use Rattle.sot_flight.specs.ListForms.{drafts, for_each_after};
 ghost use Rattle.sot_flight.specs.FlightView.{crew_of};
 ghost use Rattle.sot_flight.specs.FlightFormat.{crew_kind, is_guest, guest as guest_says, crew_as, crew as crew_says, crew_at as crew_at_says, crews as crews_say};
@@ -13,7 +13,7 @@ use crate::crew::{Crew, CrewKind};
 use crate::keys::{GREATEST, count_at, has_only_external};
 use crate::lists::drafts_of;
 use serde_json::{Map, Value};
-use sot_cert::{JsonFail, JsonKind, count_of, fault_at, has_only, needed, part_of};
+use sot_json::{JsonFail, JsonKind, count_of, fault_at, has_only, needed, part_of};
 use sot_lang::{NodeInfo, Typed};
 use std::alloc::Global;
 
@@ -35,7 +35,7 @@ fn kind_of(alloc: Global, value: &Value) -> Result<CrewKind, JsonFail>
     }
 }
 
-#[tactic(auto, unfolding(sot_cert::specs::Json::at), using(sot_cert::proofs::Parts::found_there, sot_cert::proofs::Parts::lacking))]
+#[tactic(auto, unfolding(sot_json::specs::Json::at), using(sot_json::proofs::Parts::found_there, sot_json::proofs::Parts::lacking))]
 fn kind_at(alloc: Global, object: &Map<String, Value>) -> Result<CrewKind, JsonFail>
     ensures { Gives (λ k. k) result (at (codes "kind") crew_kind (members_view object.now.entries)) }
 {
@@ -43,7 +43,7 @@ fn kind_at(alloc: Global, object: &Map<String, Value>) -> Result<CrewKind, JsonF
     part_of(alloc, "kind", kind_of(alloc, value))
 }
 
-#[tactic(auto, unfolding(sot_cert::specs::Json::at), using(sot_cert::proofs::Parts::found_there, sot_cert::proofs::Parts::lacking))]
+#[tactic(auto, unfolding(sot_json::specs::Json::at), using(sot_json::proofs::Parts::found_there, sot_json::proofs::Parts::lacking))]
 fn drafts_at(
     alloc: Global,
     size: usize,
@@ -92,7 +92,7 @@ fn guest_of(alloc: Global, guests: u32, done: &Vec<Crew>, value: &Value) -> Resu
     Ok(index)
 }
 
-#[tactic(auto, unfolding(sot_cert::specs::Json::at), using(sot_cert::proofs::Parts::found_there, sot_cert::proofs::Parts::lacking))]
+#[tactic(auto, unfolding(sot_json::specs::Json::at), using(sot_json::proofs::Parts::found_there, sot_json::proofs::Parts::lacking))]
 fn guest_at(
     alloc: Global,
     guests: u32,
@@ -159,7 +159,7 @@ fn one_crew(
     crew_as_kind(alloc, guests, done, node, object, kind)
 }
 
-#[tactic(auto, unfolding(sot_cert::specs::Json::at), using(sot_cert::proofs::Parts::found_there, sot_cert::proofs::Parts::lacking))]
+#[tactic(auto, unfolding(sot_json::specs::Json::at), using(sot_json::proofs::Parts::found_there, sot_json::proofs::Parts::lacking))]
 fn crew_under(
     alloc: Global,
     guests: u32,
@@ -224,7 +224,7 @@ fn crews_of(alloc: Global, p: &Typed, guests: u32, value: &Value) -> Result<Vec<
 }
 
 /// A crew for each node, in declared order.
-#[tactic(auto, unfolding(sot_cert::specs::Json::at), using(sot_cert::proofs::Parts::found_there, sot_cert::proofs::Parts::lacking))]
+#[tactic(auto, unfolding(sot_json::specs::Json::at), using(sot_json::proofs::Parts::found_there, sot_json::proofs::Parts::lacking))]
 pub(crate) fn crews_at(
     alloc: Global,
     p: &Typed,

@@ -3,8 +3,8 @@
 ghost use Rattle.std.specs.Prelude.{◌≡◌, ◌≤◌, ◌<◌, ◌&&◌, [], length, map, codes, position, bytes_eq, IfOk, slice_get, Some};
 ghost use Rattle.serde_json.specs.View.{view, items_view, members_view};
 ghost use Rattle.sot_lang.specs.TableRules.{MeetsTableRules};
-ghost use Rattle.sot_cert.specs.Json.{at, each_after};
-ghost use Rattle.sot_cert.specs.Answers.{Gives};
+ghost use Rattle.sot_json.specs.Json.{at, each_after};
+ghost use Rattle.sot_json.specs.Answers.{Gives};
 ghost use Rattle.sot_flight.specs.ListForms.{numbers_in};
 ghost use Rattle.sot_flight.specs.FlightView.{input_of};
 ghost use Rattle.sot_flight.specs.FlightFormat.{last_time, time, is_outside, topic as topic_says, topic_ranges, input as input_says, inputs as inputs_say};
@@ -13,10 +13,7 @@ use crate::input::Input;
 use crate::lists::numbers_in_of;
 use crate::ranges::ranges_of_topic;
 use serde_json::{Map, Value};
-use sot_cert::{
-    JsonFail, JsonKind, count_of, fault_at, fault_under, fault_under_index, has_only, member_of,
-    needed, part_of,
-};
+use sot_json::{JsonFail, JsonKind, count_of, fault_at, fault_under, fault_under_index, has_only, member_of, needed, part_of};
 use sot_lang::Typed;
 use std::alloc::Global;
 
@@ -42,7 +39,7 @@ fn time_of(alloc: Global, horizon: u32, done: &Vec<Input>, value: &Value) -> Res
     Ok(time)
 }
 
-#[tactic(auto, unfolding(sot_cert::specs::Json::at), using(sot_cert::proofs::Parts::found_there, sot_cert::proofs::Parts::lacking))]
+#[tactic(auto, unfolding(sot_json::specs::Json::at), using(sot_json::proofs::Parts::found_there, sot_json::proofs::Parts::lacking))]
 fn time_at(
     alloc: Global,
     horizon: u32,
@@ -80,7 +77,7 @@ fn topic_of(alloc: Global, p: &Typed, value: &Value) -> Result<u32, JsonFail>
     }
 }
 
-#[tactic(auto, unfolding(sot_cert::specs::Json::at), using(sot_cert::proofs::Faults::at_fails, sot_cert::proofs::Faults::at_missing))]
+#[tactic(auto, unfolding(sot_json::specs::Json::at), using(sot_json::proofs::Faults::at_fails, sot_json::proofs::Faults::at_missing))]
 fn topic_at(alloc: Global, p: &Typed, object: &Map<String, Value>) -> Result<u32, JsonFail>
     ensures says { Gives (λ x. x) result (at (codes "topic") (topic_says p.now) (members_view object.now.entries)) }
     ensures there { IfOk result (λ k. k < length p.now.topics) }
@@ -94,7 +91,7 @@ fn topic_at(alloc: Global, p: &Typed, object: &Map<String, Value>) -> Result<u32
     }
 }
 
-#[tactic(auto, unfolding(sot_cert::specs::Json::at), using(sot_cert::proofs::Parts::found_there, sot_cert::proofs::Parts::lacking))]
+#[tactic(auto, unfolding(sot_json::specs::Json::at), using(sot_json::proofs::Parts::found_there, sot_json::proofs::Parts::lacking))]
 fn value_at(
     alloc: Global,
     p: &Typed,
@@ -160,7 +157,7 @@ fn inputs_of(alloc: Global, p: &Typed, horizon: u32, value: &Value) -> Result<Ve
 }
 
 /// The inputs, in order.
-#[tactic(auto, unfolding(sot_cert::specs::Json::at), using(sot_cert::proofs::Parts::found_there, sot_cert::proofs::Parts::lacking))]
+#[tactic(auto, unfolding(sot_json::specs::Json::at), using(sot_json::proofs::Parts::found_there, sot_json::proofs::Parts::lacking))]
 pub(crate) fn inputs_at(
     alloc: Global,
     p: &Typed,

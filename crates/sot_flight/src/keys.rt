@@ -2,12 +2,12 @@
 
 ghost use Rattle.std.specs.Prelude.{◌≡◌, ◌≤◌, ◌&&◌, IfOk, filter, bytes_eq};
 ghost use Rattle.serde_json.specs.View.{members_view};
-ghost use Rattle.sot_cert.specs.Json.{at, count, is_among, all_among};
-ghost use Rattle.sot_cert.specs.Answers.{Gives};
+ghost use Rattle.sot_json.specs.Json.{at, count, is_among, all_among};
+ghost use Rattle.sot_json.specs.Answers.{Gives};
 ghost use Rattle.sot_flight.specs.FlightFormat.{plant_names, node_names, has_noise, is_external};
 
 use serde_json::{Map, Value};
-use sot_cert::{JsonFail, JsonKind, count_of, fault_at, fault_under, member_of};
+use sot_json::{JsonFail, JsonKind, count_of, fault_at, fault_under, member_of};
 use sot_lang::{NodeInfo, PlantInfo, Typed};
 use std::alloc::Global;
 
@@ -15,7 +15,7 @@ use std::alloc::Global;
 pub(crate) const GREATEST: u64 = 1_000_000_000_000;
 
 /// A whole number from 0 to that greatest, at a key that must be there.
-#[tactic(auto, unfolding(sot_cert::specs::Json::at), using(sot_cert::proofs::Faults::at_fails, sot_cert::proofs::Faults::at_missing))]
+#[tactic(auto, unfolding(sot_json::specs::Json::at), using(sot_json::proofs::Faults::at_fails, sot_json::proofs::Faults::at_missing))]
 pub(crate) fn count_at(
     alloc: Global,
     name: &str,

@@ -2,14 +2,14 @@
 
 ghost use Rattle.std.specs.Prelude.{◌≡◌, [], length, map, vec_len};
 ghost use Rattle.serde_json.specs.View.{view, items_view};
-ghost use Rattle.sot_cert.specs.Json.{each, each_after};
+ghost use Rattle.sot_json.specs.Json.{each, each_after};
 ghost use Rattle.sot_cert.specs.CertFormat.{number};
-ghost use Rattle.sot_cert.specs.Answers.{Gives};
+ghost use Rattle.sot_json.specs.Answers.{Gives};
 ghost use Rattle.sot_flight.specs.ListForms.{number_in, numbers_in, numbers, rows_in, slot, draft, drafts, number_at};
 
 use serde_json::Value;
 use sot_box::Interval;
-use sot_cert::{JsonFail, JsonKind, fault_at, fault_under_index, whole_of};
+use sot_json::{JsonFail, JsonKind, fault_at, fault_under_index, whole_of};
 use std::alloc::Global;
 
 const GREATEST: i64 = 1_000_000_000_000;
@@ -50,7 +50,7 @@ fn each_in(alloc: Global, ranges: &[Interval], list: &Vec<Value>) -> Result<Vec<
 }
 
 /// A list of numbers, one in each of these ranges.
-#[tactic(auto, unfolding(crate::specs::ListForms::numbers_in), using(sot_cert::proofs::Lists::items_len_view))]
+#[tactic(auto, unfolding(crate::specs::ListForms::numbers_in), using(sot_json::proofs::Lists::items_len_view))]
 pub(crate) fn numbers_in_of(
     alloc: Global,
     ranges: &[Interval],
@@ -81,7 +81,7 @@ fn each_number(alloc: Global, list: &Vec<Value>) -> Result<Vec<i64>, JsonFail>
 }
 
 /// A list of so many numbers.
-#[tactic(auto, unfolding(crate::specs::ListForms::numbers), using(sot_cert::proofs::Lists::items_len_view))]
+#[tactic(auto, unfolding(crate::specs::ListForms::numbers), using(sot_json::proofs::Lists::items_len_view))]
 pub(crate) fn numbers_of(alloc: Global, width: usize, value: &Value) -> Result<Vec<i64>, JsonFail>
     ensures { Gives (λ x. x.items) result (numbers width (view value.now)) }
 {
@@ -112,7 +112,7 @@ fn each_row(
 }
 
 /// At least one list of numbers in these ranges.
-#[tactic(auto, unfolding(crate::specs::ListForms::rows_in), using(sot_cert::proofs::Lists::items_len_view))]
+#[tactic(auto, unfolding(crate::specs::ListForms::rows_in), using(sot_json::proofs::Lists::items_len_view))]
 pub(crate) fn rows_in_of(
     alloc: Global,
     ranges: &[Interval],
@@ -157,7 +157,7 @@ fn each_slot(alloc: Global, list: &Vec<Value>) -> Result<Vec<Option<i64>>, JsonF
 }
 
 // A list of so many slots.
-#[tactic(auto, unfolding(crate::specs::ListForms::draft), using(sot_cert::proofs::Lists::items_len_view))]
+#[tactic(auto, unfolding(crate::specs::ListForms::draft), using(sot_json::proofs::Lists::items_len_view))]
 fn draft_of(alloc: Global, size: usize, value: &Value) -> Result<Vec<Option<i64>>, JsonFail>
     ensures { Gives (λ x. x.items) result (draft size (view value.now)) }
 {
@@ -188,7 +188,7 @@ fn each_draft(
 }
 
 /// At least one list of so many slots.
-#[tactic(auto, unfolding(crate::specs::ListForms::drafts), using(sot_cert::proofs::Lists::items_len_view))]
+#[tactic(auto, unfolding(crate::specs::ListForms::drafts), using(sot_json::proofs::Lists::items_len_view))]
 pub(crate) fn drafts_of(
     alloc: Global,
     size: usize,

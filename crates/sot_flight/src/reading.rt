@@ -3,8 +3,8 @@
 ghost use Rattle.std.specs.Prelude.{◌≡◌, ◌≤◌, pos, map, codes, IfOk};
 ghost use Rattle.serde_json.specs.View.{view, members_view};
 ghost use Rattle.sot_lang.specs.TableRules.{MeetsTableRules};
-ghost use Rattle.sot_cert.specs.Json.{at, whole};
-ghost use Rattle.sot_cert.specs.Answers.{Gives};
+ghost use Rattle.sot_json.specs.Json.{at, whole};
+ghost use Rattle.sot_json.specs.Answers.{Gives};
 ghost use Rattle.sot_flight.specs.Fits.{FitsFlight};
 ghost use Rattle.sot_flight.specs.FlightView.{input_of, sway_of, crew_of};
 ghost use Rattle.sot_flight.specs.FlightFormat.{counted, flight, flight_of};
@@ -21,7 +21,7 @@ use crate::sway::Sway;
 use crate::sways::sways_at;
 use serde_json::{Map, Value};
 use sot_box::Point;
-use sot_cert::{JsonFail, JsonKind, fault_at, has_only, needed, part_of, value_of, whole_of};
+use sot_json::{JsonFail, JsonKind, fault_at, has_only, needed, part_of, value_of, whole_of};
 use sot_lang::Typed;
 use std::alloc::Global;
 
@@ -34,7 +34,7 @@ const EVENT_LIMIT: u128 = 200_000;
 
 const NUMBER_LIMIT: u128 = 1_000_000;
 
-#[tactic(auto, unfolding(sot_cert::specs::Json::at), using(sot_cert::proofs::Parts::found_there, sot_cert::proofs::Parts::lacking))]
+#[tactic(auto, unfolding(sot_json::specs::Json::at), using(sot_json::proofs::Parts::found_there, sot_json::proofs::Parts::lacking))]
 fn format_at(alloc: Global, object: &Map<String, Value>) -> Result<i64, JsonFail>
     ensures { Gives (λ x. x) result (at (codes "format") (whole (pos 1) (pos 1)) (members_view object.now.entries)) }
 {

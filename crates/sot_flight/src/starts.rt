@@ -2,8 +2,8 @@
 
 ghost use Rattle.std.specs.Prelude.{◌≡◌, ◌≤◌, [], length, codes};
 ghost use Rattle.serde_json.specs.View.{view, members_view};
-ghost use Rattle.sot_cert.specs.Json.{at};
-ghost use Rattle.sot_cert.specs.Answers.{Gives};
+ghost use Rattle.sot_json.specs.Json.{at};
+ghost use Rattle.sot_json.specs.Answers.{Gives};
 ghost use Rattle.sot_flight.specs.ListForms.{numbers, for_each_after};
 ghost use Rattle.sot_flight.specs.FlightFormat.{point_at, start};
 
@@ -11,11 +11,11 @@ use crate::keys::has_only_plants;
 use crate::lists::numbers_of;
 use serde_json::{Map, Value};
 use sot_box::Point;
-use sot_cert::{JsonFail, JsonKind, fault_at, needed, part_of};
+use sot_json::{JsonFail, JsonKind, fault_at, needed, part_of};
 use sot_lang::{PlantInfo, Typed};
 use std::alloc::Global;
 
-#[tactic(auto, unfolding(sot_cert::specs::Json::at), using(sot_cert::proofs::Parts::found_there, sot_cert::proofs::Parts::lacking))]
+#[tactic(auto, unfolding(sot_json::specs::Json::at), using(sot_json::proofs::Parts::found_there, sot_json::proofs::Parts::lacking))]
 fn numbers_at(
     alloc: Global,
     name: &str,
@@ -72,7 +72,7 @@ fn start_of(alloc: Global, p: &Typed, value: &Value) -> Result<Vec<Point>, JsonF
 }
 
 /// The point of each plant, in declared order.
-#[tactic(auto, unfolding(sot_cert::specs::Json::at), using(sot_cert::proofs::Parts::found_there, sot_cert::proofs::Parts::lacking))]
+#[tactic(auto, unfolding(sot_json::specs::Json::at), using(sot_json::proofs::Parts::found_there, sot_json::proofs::Parts::lacking))]
 pub(crate) fn start_at(
     alloc: Global,
     p: &Typed,

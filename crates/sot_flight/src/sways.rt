@@ -3,8 +3,8 @@
 ghost use Rattle.std.specs.Prelude.{◌≡◌, ◌<◌, [], length, map, codes};
 ghost use Rattle.serde_json.specs.View.{view, members_view};
 ghost use Rattle.sot_lang.specs.Ranges.{bounds};
-ghost use Rattle.sot_cert.specs.Json.{at};
-ghost use Rattle.sot_cert.specs.Answers.{Gives};
+ghost use Rattle.sot_json.specs.Json.{at};
+ghost use Rattle.sot_json.specs.Answers.{Gives};
 ghost use Rattle.sot_flight.specs.ListForms.{rows_in, for_each_after};
 ghost use Rattle.sot_flight.specs.NoiseRules.{HasNarrowNoise};
 ghost use Rattle.sot_flight.specs.FlightView.{sway_of};
@@ -15,7 +15,7 @@ use crate::lists::rows_in_of;
 use crate::ranges::bounds_of;
 use crate::sway::{Sway, SwayKind};
 use serde_json::{Map, Value};
-use sot_cert::{JsonFail, JsonKind, fault_at, has_only, needed, part_of};
+use sot_json::{JsonFail, JsonKind, fault_at, has_only, needed, part_of};
 use sot_lang::{PlantInfo, Typed};
 use std::alloc::Global;
 
@@ -39,7 +39,7 @@ fn kind_of(alloc: Global, value: &Value) -> Result<SwayKind, JsonFail>
     }
 }
 
-#[tactic(auto, unfolding(sot_cert::specs::Json::at), using(sot_cert::proofs::Parts::found_there, sot_cert::proofs::Parts::lacking))]
+#[tactic(auto, unfolding(sot_json::specs::Json::at), using(sot_json::proofs::Parts::found_there, sot_json::proofs::Parts::lacking))]
 fn kind_at(alloc: Global, object: &Map<String, Value>) -> Result<SwayKind, JsonFail>
     ensures { Gives (λ k. k) result (at (codes "kind") sway_kind (members_view object.now.entries)) }
 {
@@ -47,7 +47,7 @@ fn kind_at(alloc: Global, object: &Map<String, Value>) -> Result<SwayKind, JsonF
     part_of(alloc, "kind", kind_of(alloc, value))
 }
 
-#[tactic(auto, unfolding(sot_cert::specs::Json::at), using(sot_cert::proofs::Parts::found_there, sot_cert::proofs::Parts::lacking))]
+#[tactic(auto, unfolding(sot_json::specs::Json::at), using(sot_json::proofs::Parts::found_there, sot_json::proofs::Parts::lacking))]
 fn rows_at(
     alloc: Global,
     plant: &PlantInfo,
@@ -114,7 +114,7 @@ fn one_sway(alloc: Global, plant: &PlantInfo, value: &Value) -> Result<Sway, Jso
     sway_as_kind(alloc, plant, object, kind)
 }
 
-#[tactic(auto, unfolding(sot_cert::specs::Json::at), using(sot_cert::proofs::Parts::found_there, sot_cert::proofs::Parts::lacking))]
+#[tactic(auto, unfolding(sot_json::specs::Json::at), using(sot_json::proofs::Parts::found_there, sot_json::proofs::Parts::lacking))]
 fn sway_under(
     alloc: Global,
     plant: &PlantInfo,
@@ -172,7 +172,7 @@ fn sways_of(alloc: Global, p: &Typed, value: &Value) -> Result<Vec<Sway>, JsonFa
 }
 
 /// A sway for each plant, in declared order.
-#[tactic(auto, unfolding(sot_cert::specs::Json::at), using(sot_cert::proofs::Parts::found_there, sot_cert::proofs::Parts::lacking))]
+#[tactic(auto, unfolding(sot_json::specs::Json::at), using(sot_json::proofs::Parts::found_there, sot_json::proofs::Parts::lacking))]
 pub(crate) fn sways_at(
     alloc: Global,
     p: &Typed,

@@ -8,9 +8,9 @@ use Rattle.sot_lang.specs.declared.tables.NodeInfo.{NodeInfo}
 use Rattle.sot_lang.specs.declared.tables.ModuleInfo.{ModuleInfo}
 use Rattle.sot_lang.specs.Tables.{Tables}
 use Rattle.sot_lang.specs.OwnerNames.{width_of}
-use Rattle.sot_cert.specs.declared.fault.JsonKind.TheVariants.{NotJson, WrongShape, OutsideRange, Unknown}
-use Rattle.sot_cert.specs.Says.{◌>>=◌, or, unless}
-use Rattle.sot_cert.specs.Json.{json_of, count, at, may, all_among}
+use Rattle.sot_json.specs.declared.fault.JsonKind.TheVariants.{NotJson, WrongShape, OutsideRange, Unknown}
+use Rattle.sot_json.specs.Says.{◌>>=◌, or, unless}
+use Rattle.sot_json.specs.Json.{json_of, count, at, may, all_among}
 use Rattle.sot_cert.specs.CertFormat.{entry, entries, names, modules, is_below_periods, jitter, has_jitter, jitter_in, keys, cert}
 use Rattle.sot_typing.specs.Resolved.{PlantTable, NodeTable, plant_seen, node_seen, tables_seen}
 use Rattle.sot_law_same_tables.specs.Laws.{CertificatesAlike}

@@ -10,9 +10,9 @@ use Rattle.sot_lang.specs.declared.tables.PlantInfo.{PlantInfo}
 use Rattle.sot_lang.specs.declared.tables.NodeInfo.{NodeInfo}
 use Rattle.sot_lang.specs.Tables.{Tables}
 use Rattle.sot_lang.specs.Ranges.{bounds}
-use Rattle.sot_cert.specs.declared.fault.JsonKind.TheVariants.{NotJson, WrongShape, Unknown, TooManyEvents, TooManyNumbers}
-use Rattle.sot_cert.specs.Says.{Says, ◌>>=◌, or, unless}
-use Rattle.sot_cert.specs.Json.{json_of, whole, count, each_after, at, all_among}
+use Rattle.sot_json.specs.declared.fault.JsonKind.TheVariants.{NotJson, WrongShape, Unknown, TooManyEvents, TooManyNumbers}
+use Rattle.sot_json.specs.Says.{Says, ◌>>=◌, or, unless}
+use Rattle.sot_json.specs.Json.{json_of, whole, count, each_after, at, all_among}
 use Rattle.sot_flight.specs.declared.sway.SwayKind.{SwayKind}
 use Rattle.sot_flight.specs.declared.sway.SwayKind.TheVariants as sway_kinds
 use Rattle.sot_flight.specs.declared.crew.CrewKind.{CrewKind}

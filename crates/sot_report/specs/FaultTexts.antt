@@ -11,9 +11,9 @@ use Rattle.sot_parser.specs.declared.syntax.Syntax.TheVariants.{Lex, Token, Deep
 use Rattle.sot_rules.specs.declared.fault.TypeFault.{TypeFault}
 use Rattle.sot_rules.specs.declared.fault.TypeKind.{TypeKind}
 use Rattle.sot_rules.specs.declared.fault.TypeKind.TheVariants as rules
-use Rattle.sot_cert.specs.declared.fault.JsonFault.{JsonFault}
-use Rattle.sot_cert.specs.declared.fault.JsonKind.{JsonKind}
-use Rattle.sot_cert.specs.declared.fault.JsonKind.TheVariants as kinds
+use Rattle.sot_json.specs.declared.fault.JsonFault.{JsonFault}
+use Rattle.sot_json.specs.declared.fault.JsonKind.{JsonKind}
+use Rattle.sot_json.specs.declared.fault.JsonKind.TheVariants as kinds
 use Rattle.sot_report.specs.declared.fault.Fault.{Fault}
 use Rattle.sot_report.specs.declared.fault.Fault.TheVariants as faults
 use Rattle.sot_report.specs.Pieces.{line}

@@ -12,7 +12,7 @@ use Rattle.sot_text.specs.Ahead.{ahead_from}
 use Rattle.sot_law_fault_place.specs.Places.{IsFaultOf}
 use Rattle.sot_rules.specs.First.{IsFirstFault, IsFaultless}
 use Rattle.sot_typing.specs.Resolved.{AreTables}
-use Rattle.sot_cert.specs.declared.fault.JsonFault.{JsonFault}
+use Rattle.sot_json.specs.declared.fault.JsonFault.{JsonFault}
 use Rattle.sot_cert.specs.CertFormat.{Contents, cert_of, contents}
 use Rattle.sot_flight.specs.Plans.{Plan}
 use Rattle.sot_flight.specs.Fits.{FitsFlight}

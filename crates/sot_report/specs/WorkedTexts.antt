@@ -2,7 +2,7 @@
 use Rattle.std.specs.Prelude.{◌≡◌, true, false, pos, [], ◌∷◌, codes}
 use Rattle.std.specs.Global.{Global}
 use Rattle.sot_lang.specs.Line.{line as line_tables, line_cert}
-use Rattle.sot_cert.specs.declared.fault.JsonKind.TheVariants as kinds
+use Rattle.sot_json.specs.declared.fault.JsonKind.TheVariants as kinds
 use Rattle.sot_tube.specs.Refusals.{Periods, Outputs, EmptyRegion, SharedNode, SharedOutput, SharedPlant, ForeignInput, NoCells}
 use Rattle.sot_report.specs.FaultTexts.{json_text}
 use Rattle.sot_report.specs.RefusalTexts.{refusal_text, start_text}

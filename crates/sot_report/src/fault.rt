@@ -1,6 +1,6 @@
 //! The faults of a mission.
 
-use sot_cert::JsonFault;
+use sot_json::JsonFault;
 use sot_parser::Syntax;
 use sot_rules::TypeFault;
 use sot_sections::SectionFault;

@@ -5,7 +5,7 @@ ghost use Rattle.std.specs.String.{string_bytes};
 ghost use Rattle.sot_report.specs.FaultTexts.{section_word, rule_word, json_word, path_text, placed_text, section_text, syntax_text, type_text, json_text, fault_text};
 
 use crate::fault::Fault;
-use sot_cert::{JsonFault, JsonKind, Path};
+use sot_json::{JsonFault, JsonKind, Path};
 use sot_parser::Syntax;
 use sot_rules::{TypeFault, TypeKind};
 use sot_sections::{SectionFault, SectionKind};

@@ -1,8 +1,8 @@
 -- What is left to show of `boxes_of`.
 use Rattle.std.proofs.Common.{decimal, subst, arith}
-use Rattle.sot_cert.specs.Answers.{IsUnder}
+use Rattle.sot_json.specs.Answers.{IsUnder}
 use Rattle.sot_cert.specs.CertFormat.{cell}
-use Rattle.sot_cert.proofs.Lists.{ends}
+use Rattle.sot_json.proofs.Lists.{ends}
 use Rattle.sot_cert.proofs.cells.boxes_of.Goals as goal
 
 pub returns-in-Err-clause-says : goal.returns-in-Err-clause-says

@@ -1,7 +1,7 @@
 -- What the loop of `boxes_of` keeps.
 use Rattle.std.proofs.Common.{◌≡◌, [], drop}
 use Rattle.serde_json.specs.View.{items_view}
-use Rattle.sot_cert.specs.Json.{each_after}
+use Rattle.sot_json.specs.Json.{each_after}
 use Rattle.sot_cert.specs.CertFormat.{cell}
 use Rattle.sot_cert.proofs.cells.boxes_of.Given as goal
 

@@ -2,10 +2,10 @@
 use Rattle.std.proofs.Common.{rules, arith, ◌≡◌, ◌+◌, ◌<◌, ◌≤◌, ◌∙◌, [], length, drop, take, decimal, ap, sym, subst, Ok}
 use Rattle.std.proofs.lemmas.List.{length-take-le, take_all, take_more_set}
 use Rattle.serde_json.specs.View.{items_view}
-use Rattle.sot_cert.specs.Answers.{IsUnder}
-use Rattle.sot_cert.specs.Json.{each_after}
+use Rattle.sot_json.specs.Answers.{IsUnder}
+use Rattle.sot_json.specs.Json.{each_after}
 use Rattle.sot_cert.specs.CertFormat.{side}
-use Rattle.sot_cert.proofs.Lists.{goes_on, ends, is_done}
+use Rattle.sot_json.proofs.Lists.{goes_on, ends, is_done}
 use Rattle.sot_cert.proofs.cells.put_sides.Goals as goal
 
 pub loop-i-preserved : goal.loop-i-preserved

@@ -1,7 +1,7 @@
 -- What the loop of `put_sides` keeps.
 use Rattle.std.proofs.Common.{◌≡◌, [], take, drop, length}
 use Rattle.serde_json.specs.View.{items_view}
-use Rattle.sot_cert.specs.Json.{each_after}
+use Rattle.sot_json.specs.Json.{each_after}
 use Rattle.sot_cert.specs.CertFormat.{side}
 use Rattle.sot_cert.proofs.cells.put_sides.Given as goal
 

@@ -3,7 +3,7 @@ use Rattle.std.proofs.Common.{refl}
 use Rattle.std.specs.Fmt.{digits}
 use Rattle.std.specs.Str.{is_utf8, chars}
 use Rattle.serde_json.proofs.OnLiterals.{serde_json_on_literals}
-use Rattle.sot_cert.specs.Json.{whole, count, each_after, at}
+use Rattle.sot_json.specs.Json.{whole, count, each_after, at}
 use Rattle.sot_cert.specs.CertFormat.{number, side, cell, cells, entry, entries, modules, jitter, jitter_in, has_jitter, cert}
 use Rattle.sot_cert.proofs.facts.certificates_are_as_stated.Goals as goal
 

@@ -1,7 +1,7 @@
 -- What the loop of `has_only_modules` keeps.
 use Rattle.std.proofs.Common.{◌≡◌}
 use Rattle.serde_json.specs.View.{members_view}
-use Rattle.sot_cert.specs.Json.{all_among}
+use Rattle.sot_json.specs.Json.{all_among}
 use Rattle.sot_cert.specs.CertFormat.{names}
 use Rattle.sot_cert.proofs.reading.has_only_modules.Given as goal
 

@@ -1,6 +1,6 @@
 -- What the loop of `is_module` keeps.
 use Rattle.std.proofs.Common.{◌≡◌, drop}
-use Rattle.sot_cert.specs.Json.{is_among}
+use Rattle.sot_json.specs.Json.{is_among}
 use Rattle.sot_cert.specs.CertFormat.{names}
 use Rattle.sot_cert.proofs.reading.is_module.Given as goal
 

@@ -1,6 +1,6 @@
 use Rattle.std.proofs.Common.{◌≤◌, Some, ap, sym, ◌∙◌, subst}
 use Rattle.serde_json.specs.Data.{depth}
-use Rattle.sot_cert.proofs.Faults.{is_json}
+use Rattle.sot_json.proofs.Faults.{is_json}
 use Rattle.serde_json.specs.Written.{has_float, compact_text}
 use Rattle.sot_certified_text.specs.CertText.{certificate_data}
 use Rattle.sot_certified_text.proofs.Shapes.{certificate_whole, certificate_flat}

@@ -3,7 +3,7 @@ use Rattle.std.proofs.Common.{refl}
 use Rattle.std.specs.Fmt.{digits}
 use Rattle.std.specs.Str.{is_utf8, chars}
 use Rattle.serde_json.proofs.OnLiterals.{serde_json_on_literals}
-use Rattle.sot_cert.specs.Json.{whole, count, each_after, at}
+use Rattle.sot_json.specs.Json.{whole, count, each_after, at}
 use Rattle.sot_cert.specs.CertFormat.{number}
 use Rattle.sot_flight.specs.ListForms.{number_in, numbers_in, numbers, rows_in, slot, draft, drafts, for_each_after}
 use Rattle.sot_flight.specs.FlightFormat.{start, time, topic, input, inputs, sway_kind, sway_as, sway, sways, crew_kind, guest, crew_as, crew, crews, counted, flight}

@@ -1,7 +1,7 @@
 use Rattle.std.proofs.Common.{◌≡◌, ◌+◌, List, [], length, map, drop, decimal, sym, subst, arith, rules}
 use Rattle.serde_json.specs.View.{items_view}
-use Rattle.sot_cert.specs.Answers.{IsUnder}
-use Rattle.sot_cert.specs.Json.{each_after}
+use Rattle.sot_json.specs.Answers.{IsUnder}
+use Rattle.sot_json.specs.Json.{each_after}
 use Rattle.sot_flight.specs.declared.input.Input.{Input}
 use Rattle.sot_flight.specs.FlightView.{input_of}
 use Rattle.sot_flight.specs.FlightFormat.{input}

@@ -1,6 +1,6 @@
 use Rattle.std.proofs.Common.{◌≡◌, [], map, drop}
 use Rattle.serde_json.specs.View.{items_view}
-use Rattle.sot_cert.specs.Json.{each_after}
+use Rattle.sot_json.specs.Json.{each_after}
 use Rattle.sot_flight.specs.FlightView.{input_of}
 use Rattle.sot_flight.specs.FlightFormat.{input}
 use Rattle.sot_flight.proofs.inputs.each_input.Given as goal

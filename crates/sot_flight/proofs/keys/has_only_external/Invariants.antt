@@ -1,7 +1,7 @@
 use Rattle.std.proofs.Common.{◌≡◌}
 use Rattle.std.specs.Prelude.{filter}
 use Rattle.serde_json.specs.View.{members_view}
-use Rattle.sot_cert.specs.Json.{all_among}
+use Rattle.sot_json.specs.Json.{all_among}
 use Rattle.sot_flight.specs.FlightFormat.{node_names, is_external}
 use Rattle.sot_flight.proofs.keys.has_only_external.Given as goal
 

@@ -1,6 +1,6 @@
 use Rattle.std.proofs.Common.{◌≡◌}
 use Rattle.serde_json.specs.View.{members_view}
-use Rattle.sot_cert.specs.Json.{all_among}
+use Rattle.sot_json.specs.Json.{all_among}
 use Rattle.sot_flight.specs.FlightFormat.{plant_names}
 use Rattle.sot_flight.proofs.keys.has_only_plants.Given as goal
 

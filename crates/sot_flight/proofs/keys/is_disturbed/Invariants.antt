@@ -1,6 +1,6 @@
 use Rattle.std.proofs.Common.{◌≡◌, drop}
 use Rattle.std.specs.Prelude.{filter}
-use Rattle.sot_cert.specs.Json.{is_among}
+use Rattle.sot_json.specs.Json.{is_among}
 use Rattle.sot_flight.specs.FlightFormat.{plant_names, has_noise}
 use Rattle.sot_flight.proofs.keys.is_disturbed.Given as goal
 

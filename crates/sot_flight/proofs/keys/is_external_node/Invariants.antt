@@ -1,6 +1,6 @@
 use Rattle.std.proofs.Common.{◌≡◌, drop}
 use Rattle.std.specs.Prelude.{filter}
-use Rattle.sot_cert.specs.Json.{is_among}
+use Rattle.sot_json.specs.Json.{is_among}
 use Rattle.sot_flight.specs.FlightFormat.{node_names, is_external}
 use Rattle.sot_flight.proofs.keys.is_external_node.Given as goal
 

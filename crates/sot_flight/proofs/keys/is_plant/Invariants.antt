@@ -1,5 +1,5 @@
 use Rattle.std.proofs.Common.{◌≡◌, drop}
-use Rattle.sot_cert.specs.Json.{is_among}
+use Rattle.sot_json.specs.Json.{is_among}
 use Rattle.sot_flight.specs.FlightFormat.{plant_names}
 use Rattle.sot_flight.proofs.keys.is_plant.Given as goal
 

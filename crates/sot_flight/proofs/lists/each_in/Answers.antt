@@ -3,10 +3,10 @@ use Rattle.std.specs.Prelude.{slice_index_or}
 use Rattle.serde_json.specs.View.{view, items_view}
 use Rattle.sot_lists.proofs.Places.{read_or}
 use Rattle.sot_box.specs.Sides.{nought}
-use Rattle.sot_cert.specs.Answers.{IsUnder, Fails}
-use Rattle.sot_cert.specs.Json.{each_after}
-use Rattle.sot_cert.specs.Says.{Says}
-use Rattle.sot_cert.proofs.Lists.{goes_on, ends, is_done}
+use Rattle.sot_json.specs.Answers.{IsUnder, Fails}
+use Rattle.sot_json.specs.Json.{each_after}
+use Rattle.sot_json.specs.Says.{Says}
+use Rattle.sot_json.proofs.Lists.{goes_on, ends, is_done}
 use Rattle.sot_flight.specs.ListForms.{number_in, number_at}
 use Rattle.sot_code.proofs.Filling.{read_word}
 use Rattle.sot_flight.proofs.lists.each_in.Goals as goal

@@ -1,6 +1,6 @@
 use Rattle.std.proofs.Common.{◌≡◌, [], length, drop}
 use Rattle.serde_json.specs.View.{items_view}
-use Rattle.sot_cert.specs.Json.{each_after}
+use Rattle.sot_json.specs.Json.{each_after}
 use Rattle.sot_flight.specs.ListForms.{number_at}
 use Rattle.sot_flight.proofs.lists.each_in.Given as goal
 

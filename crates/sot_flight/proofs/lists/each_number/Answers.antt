@@ -1,9 +1,9 @@
 use Rattle.std.proofs.Common.{◌≡◌, ◌+◌, ℤ, List, [], ◌∷◌, ◌++◌, length, drop, decimal, ap, ◌∙◌, subst, arith, rules, FitsSigned, w64}
 use Rattle.serde_json.specs.View.{items_view}
-use Rattle.sot_cert.specs.Json.{each_after}
-use Rattle.sot_cert.specs.Answers.{IsUnder}
+use Rattle.sot_json.specs.Json.{each_after}
+use Rattle.sot_json.specs.Answers.{IsUnder}
 use Rattle.sot_cert.specs.CertFormat.{number}
-use Rattle.sot_cert.proofs.Lists.{goes_on, ends, is_done}
+use Rattle.sot_json.proofs.Lists.{goes_on, ends, is_done}
 use Rattle.sot_code.proofs.Filling.{read_word}
 use Rattle.sot_flight.proofs.lists.each_number.Goals as goal
 

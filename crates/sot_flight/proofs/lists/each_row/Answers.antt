@@ -1,7 +1,7 @@
 use Rattle.std.proofs.Common.{◌≡◌, ◌+◌, ℤ, List, length, map, drop, decimal, ap, ◌∙◌, subst, arith, rules}
 use Rattle.serde_json.specs.View.{items_view}
-use Rattle.sot_cert.specs.Json.{each_after}
-use Rattle.sot_cert.specs.Answers.{IsUnder}
+use Rattle.sot_json.specs.Json.{each_after}
+use Rattle.sot_json.specs.Answers.{IsUnder}
 use Rattle.sot_flight.specs.ListForms.{numbers_in}
 use Rattle.sot_flight.proofs.RowLists.{rows_go_on, rows_end, rows_done}
 use Rattle.sot_flight.proofs.lists.each_row.Goals as goal

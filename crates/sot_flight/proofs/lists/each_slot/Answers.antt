@@ -1,9 +1,9 @@
 use Rattle.std.proofs.Common.{◌≡◌, ◌+◌, ℤ, List, [], length, drop, Option, decimal, sym, subst, arith, rules}
 use Rattle.serde_json.specs.View.{items_view}
-use Rattle.sot_cert.specs.Json.{each_after}
-use Rattle.sot_cert.specs.Answers.{IsUnder}
+use Rattle.sot_json.specs.Json.{each_after}
+use Rattle.sot_json.specs.Answers.{IsUnder}
 use Rattle.sot_flight.specs.ListForms.{slot}
-use Rattle.sot_cert.proofs.Lists.{goes_on, ends, is_done}
+use Rattle.sot_json.proofs.Lists.{goes_on, ends, is_done}
 use Rattle.sot_flight.proofs.lists.each_slot.Goals as goal
 
 pub returns-in-Err : goal.returns-in-Err

@@ -1,6 +1,7 @@
 //! Limits of lists and of numbers, on both sides.
 use super::{same, says};
-use sot_cert::{CertFail, JsonKind, read_cert};
+use sot_cert::{CertFail, read_cert};
+use sot_json::JsonKind;
 use sot_lang::{Cert, Typed};
 use sot_ports::Process;
 use sot_test_missions::line;

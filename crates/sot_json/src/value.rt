@@ -2,11 +2,11 @@
 ghost use Rattle.std.specs.Prelude.{◌≡◌, ◌≤◌, ◌≤ℤ◌, decimal, map, pos, string_bytes, option_map, IfOk};
 ghost use Rattle.serde_json.specs.View.{view, items_view, members_view};
 ghost use Rattle.serde_json.specs.Find.{get_member};
-ghost use Rattle.sot_cert.specs.declared.fault.JsonKind.TheVariants.{NotJson, Missing};
-ghost use Rattle.sot_cert.specs.Says.{or, part};
-ghost use Rattle.sot_cert.specs.Json.{json_of, whole, count, two, is_among, all_among};
-ghost use Rattle.sot_cert.specs.Answers.{Gives, IsHere, IsUnder};
-ghost use Rattle.sot_cert.specs.Parts.{IsPart};
+ghost use Rattle.sot_json.specs.declared.fault.JsonKind.TheVariants.{NotJson, Missing};
+ghost use Rattle.sot_json.specs.Says.{or, part};
+ghost use Rattle.sot_json.specs.Json.{json_of, whole, count, two, is_among, all_among};
+ghost use Rattle.sot_json.specs.Answers.{Gives, IsHere, IsUnder};
+ghost use Rattle.sot_json.specs.Parts.{IsPart};
 
 use crate::fault::{JsonFail, JsonFault, JsonKind};
 use crate::path::Path;

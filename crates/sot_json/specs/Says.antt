@@ -1,8 +1,8 @@
 -- What a JSON value says, or its first fault.
 use Rattle.std.specs.Prelude.{ℕ, List, [], ◌∷◌, ◌++◌, Bool, true, false, Option, Some, None, Result, Ok, Err}
-use Rattle.sot_cert.specs.Pointers.{escaped}
-use Rattle.sot_cert.specs.declared.fault.JsonKind.{JsonKind}
-use Rattle.sot_cert.specs.declared.fault.JsonFault.{JsonFault}
+use Rattle.sot_json.specs.Pointers.{escaped}
+use Rattle.sot_json.specs.declared.fault.JsonKind.{JsonKind}
+use Rattle.sot_json.specs.declared.fault.JsonFault.{JsonFault}
 
 abbrev pub Says : Type 0 → Type 0
 Says A = Result A JsonFault

@@ -1,7 +1,7 @@
 -- What the crate's own functions promise each other of a part: a value in an object or a list, under its name.
 use Rattle.std.specs.Prelude.{◌≡◌, ℕ, List, Result, Ok, Err}
-use Rattle.sot_cert.specs.declared.fault.JsonFail.{JsonFail}
-use Rattle.sot_cert.specs.Answers.{IsUnder}
+use Rattle.sot_json.specs.declared.fault.JsonFail.{JsonFail}
+use Rattle.sot_json.specs.Answers.{IsUnder}
 
 -- s is what was read of the part of that name, as it stands from the value that holds the part
 abbrev pub IsPart : {X : Type 0} → List ℕ → Result X JsonFail → Result X JsonFail → Type 0

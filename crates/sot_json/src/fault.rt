@@ -1,6 +1,6 @@
 //! What is wrong with a JSON text that breaks a format: where, and how.
 ghost use Rattle.std.specs.Prelude.{◌≡◌};
-ghost use Rattle.sot_cert.specs.declared.fault.JsonFail.TheVariants.{Memory};
+ghost use Rattle.sot_json.specs.declared.fault.JsonFail.TheVariants.{Memory};
 
 use crate::path::Path;
 use std::alloc::{AllocError, AllocFailed};
@@ -52,9 +52,6 @@ pub enum JsonFail {
     /// There was no memory for the reading. It says nothing of the text.
     Memory,
 }
-
-/// Why a certificate was not read.
-pub type CertFail = JsonFail;
 
 impl From<AllocError> for JsonFail {
     ghost from_gives = { λ _ e. e ≡ Memory };

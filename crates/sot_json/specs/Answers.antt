@@ -1,9 +1,9 @@
 -- How a reader answers: with what the JSON says, or with want of memory.
 use Rattle.std.specs.Prelude.{◌≡◌, ℕ, List, [], Result, Ok, Err}
-use Rattle.sot_cert.specs.declared.fault.JsonKind.{JsonKind}
-use Rattle.sot_cert.specs.declared.fault.JsonFail.{JsonFail}
-use Rattle.sot_cert.specs.declared.fault.JsonFail.TheVariants as fails
-use Rattle.sot_cert.specs.Says.{Says, under}
+use Rattle.sot_json.specs.declared.fault.JsonKind.{JsonKind}
+use Rattle.sot_json.specs.declared.fault.JsonFail.{JsonFail}
+use Rattle.sot_json.specs.declared.fault.JsonFail.TheVariants as fails
+use Rattle.sot_json.specs.Says.{Says, under}
 
 -- the fault is what is said; want of memory may come at any time
 abbrev pub Fails : {Y : Type 0} → JsonFail → Says Y → Type 0

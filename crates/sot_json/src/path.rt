@@ -1,6 +1,6 @@
 //! A JSON pointer: where a value stands in a JSON text.
 ghost use Rattle.std.specs.Prelude.{◌≡◌, ℕ, List, [], ◌∷◌, ◌++◌, IfOk, OnOk, encode_utf8, string_bytes};
-ghost use Rattle.sot_cert.specs.Pointers.{escaped, printed};
+ghost use Rattle.sot_json.specs.Pointers.{escaped, printed};
 
 use std::alloc::{AllocError, Global};
 use std::marker::Model;

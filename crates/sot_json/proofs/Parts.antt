@@ -1,12 +1,12 @@
 -- What was read of a part, and what the value that holds it says.
 use Rattle.std.proofs.Common.{◌≡◌, ℕ, List, Result, Ok, Err, Option, Some, None, refl, sym, ap, ◌∙◌}
 use Rattle.serde_json.specs.Data.{Data}
-use Rattle.sot_cert.specs.declared.fault.JsonFail.{JsonFail}
-use Rattle.sot_cert.specs.declared.fault.JsonFail.TheVariants as fails
-use Rattle.sot_cert.specs.declared.fault.JsonKind.TheVariants.{Missing}
-use Rattle.sot_cert.specs.Says.{Says, ◌>>=◌, or, under, part}
-use Rattle.sot_cert.specs.Answers.{Fails, Gives, IsUnder, IsHere}
-use Rattle.sot_cert.specs.Parts.{IsPart}
+use Rattle.sot_json.specs.declared.fault.JsonFail.{JsonFail}
+use Rattle.sot_json.specs.declared.fault.JsonFail.TheVariants as fails
+use Rattle.sot_json.specs.declared.fault.JsonKind.TheVariants.{Missing}
+use Rattle.sot_json.specs.Says.{Says, ◌>>=◌, or, under, part}
+use Rattle.sot_json.specs.Answers.{Fails, Gives, IsUnder, IsHere}
+use Rattle.sot_json.specs.Parts.{IsPart}
 
 pub under_fails : {A : Type 0} (e r : JsonFail) (name : List ℕ) (says : Says A) → IsUnder name e r → Fails e says → Fails r (part name says)
 under_fails e fails.Memory name says below h = tt

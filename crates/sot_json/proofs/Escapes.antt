@@ -8,7 +8,7 @@ use Rattle.std.proofs.lemmas.Str.{encode_ascii, encodes-append, chars-encodes}
 use Rattle.std.proofs.lemmas.Grind.{flat_map-append}
 use Rattle.std.proofs.lemmas.List.{append-nil}
 use Rattle.std.specs.Str.{chars, IsUtf8, encode_utf8_all}
-use Rattle.sot_cert.specs.Pointers.{escape_of, escaped}
+use Rattle.sot_json.specs.Pointers.{escape_of, escaped}
 
 plain : (b : ℕ) → b ≢ 126 → b ≢ 47 → escape_of b ≡ b ∷ []
 plain b h k = grind (arith, nat_tests)

@@ -1,7 +1,7 @@
 -- What is left to show of `push_escaped`.
 use Rattle.std.proofs.Common.{◌≢◌, arith, rules}
-use Rattle.sot_cert.proofs.Escapes.{escaped_char}
-use Rattle.sot_cert.proofs.path.push_escaped.Goals as goal
+use Rattle.sot_json.proofs.Escapes.{escaped_char}
+use Rattle.sot_json.proofs.path.push_escaped.Goals as goal
 
 pub returns-in_default : goal.returns-in_default
 returns-in_default c =

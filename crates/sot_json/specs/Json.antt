@@ -4,8 +4,8 @@ use Rattle.std.specs.Str.{is_utf8}
 use Rattle.serde_json.specs.Data.{Data, Items, no_items, item, Members, no_members, member}
 use Rattle.serde_json.specs.Find.{get_member, as_number, as_integer}
 use Rattle.serde_json.specs.Read.{read}
-use Rattle.sot_cert.specs.declared.fault.JsonKind.TheVariants.{WrongShape, NotWhole, OutsideRange, Missing}
-use Rattle.sot_cert.specs.Says.{Says, ◌>>=◌, or, unless, part}
+use Rattle.sot_json.specs.declared.fault.JsonKind.TheVariants.{WrongShape, NotWhole, OutsideRange, Missing}
+use Rattle.sot_json.specs.Says.{Says, ◌>>=◌, or, unless, part}
 
 -- the value that bytes are, if they are JSON; of a repeated key the last value stays
 abbrev pub json_of : List ℕ → Option Data

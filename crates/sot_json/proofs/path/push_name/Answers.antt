@@ -3,9 +3,9 @@ use Rattle.std.proofs.Common.{encode_utf8, ap, sym, ◌∙◌, ◌++◌, string_
 use Rattle.std.proofs.lemmas.Iterator.{YieldsList-from_chars}
 use Rattle.std.proofs.lemmas.Iterator.Consumers.{YieldsList-end}
 use Rattle.std.specs.Str.{encode_utf8_all}
-use Rattle.sot_cert.specs.Pointers.{escaped}
-use Rattle.sot_cert.proofs.Escapes.{escaped_push, all_spelled}
-use Rattle.sot_cert.proofs.path.push_name.Goals as goal
+use Rattle.sot_json.specs.Pointers.{escaped}
+use Rattle.sot_json.proofs.Escapes.{escaped_push, all_spelled}
+use Rattle.sot_json.proofs.path.push_name.Goals as goal
 
 pub loop-c-preserved : goal.loop-c-preserved
 loop-c-preserved c =

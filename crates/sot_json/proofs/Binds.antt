@@ -1,7 +1,7 @@
 -- What stood before an answer that is no fault.
 use Rattle.std.proofs.Common.{◌≡◌, ℕ, List, Bool, true, false, Ok, Err, refl}
-use Rattle.sot_cert.specs.declared.fault.JsonKind.{JsonKind}
-use Rattle.sot_cert.specs.Says.{Says, ◌>>=◌, unless, part}
+use Rattle.sot_json.specs.declared.fault.JsonKind.{JsonKind}
+use Rattle.sot_json.specs.Says.{Says, ◌>>=◌, unless, part}
 
 pub bind_ok : {A B : Type 0} (says : Says A) (f : A → Says B) (y : B) → says >>= f ≡ Ok y → (x : A) × (says ≡ Ok x) × (f x ≡ Ok y)
 bind_ok (Ok x) f y h = (x, refl, h)

@@ -4,11 +4,11 @@ use Rattle.serde_json.specs.Data.{Data, no_items, item}
 use Rattle.serde_json.specs.Events.{items_len}
 use Rattle.serde_json.specs.View.{view, items_view}
 use Rattle.serde_json.specs.declared.value.Value.{Value}
-use Rattle.sot_cert.specs.declared.fault.JsonFail.{JsonFail}
-use Rattle.sot_cert.specs.Says.{Says}
-use Rattle.sot_cert.specs.Json.{two, each_after, is_among}
-use Rattle.sot_cert.specs.Answers.{Fails, IsUnder}
-use Rattle.sot_cert.proofs.Faults.{part_fails}
+use Rattle.sot_json.specs.declared.fault.JsonFail.{JsonFail}
+use Rattle.sot_json.specs.Says.{Says}
+use Rattle.sot_json.specs.Json.{two, each_after, is_among}
+use Rattle.sot_json.specs.Answers.{Fails, IsUnder}
+use Rattle.sot_json.proofs.Faults.{part_fails}
 
 pub two_none : (vs : List Value) → (length vs ≡ 2 → ⊥) → two (items_view vs) ≡ None
 two_none [] h = refl

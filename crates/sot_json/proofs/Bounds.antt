@@ -6,10 +6,10 @@ use Rattle.std.proofs.lemmas.Float.{T_from_true}
 use Rattle.std.proofs.lemmas.Bool.{and_parts}
 use Rattle.serde_json.specs.Data.{Data}
 use Rattle.serde_json.specs.Find.{as_number, as_integer}
-use Rattle.sot_cert.specs.declared.fault.JsonKind.TheVariants.{WrongShape, NotWhole, OutsideRange}
-use Rattle.sot_cert.specs.Says.{or, unless}
-use Rattle.sot_cert.specs.Json.{whole, is_within}
-use Rattle.sot_cert.proofs.Binds.{bind_ok, unless_ok, ok_same}
+use Rattle.sot_json.specs.declared.fault.JsonKind.TheVariants.{WrongShape, NotWhole, OutsideRange}
+use Rattle.sot_json.specs.Says.{or, unless}
+use Rattle.sot_json.specs.Json.{whole, is_within}
+use Rattle.sot_json.proofs.Binds.{bind_ok, unless_ok, ok_same}
 
 pub int_le_true : (a b : ℤ) → int_le a b ≡ true → a ≤ℤ b
 int_le_true a b h = le_z_yes (T_from_true _ h)

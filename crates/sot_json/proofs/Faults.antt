@@ -4,12 +4,12 @@ use Rattle.std.specs.Str.{is_utf8}
 use Rattle.std.proofs.lemmas.Str.{IsUtf8-from_is_utf8, is_utf8-from_IsUtf8}
 use Rattle.serde_json.specs.Data.{Data}
 use Rattle.serde_json.specs.Read.{read}
-use Rattle.sot_cert.specs.declared.fault.JsonFail.{JsonFail}
-use Rattle.sot_cert.specs.declared.fault.JsonFail.TheVariants as fails
-use Rattle.sot_cert.specs.declared.fault.JsonKind.TheVariants.{Missing}
-use Rattle.sot_cert.specs.Says.{Says, ◌>>=◌, or, under, part}
-use Rattle.sot_cert.specs.Json.{json_of, optional}
-use Rattle.sot_cert.specs.Answers.{Fails, IsUnder, IsHere}
+use Rattle.sot_json.specs.declared.fault.JsonFail.{JsonFail}
+use Rattle.sot_json.specs.declared.fault.JsonFail.TheVariants as fails
+use Rattle.sot_json.specs.declared.fault.JsonKind.TheVariants.{Missing}
+use Rattle.sot_json.specs.Says.{Says, ◌>>=◌, or, under, part}
+use Rattle.sot_json.specs.Json.{json_of, optional}
+use Rattle.sot_json.specs.Answers.{Fails, IsUnder, IsHere}
 
 pub part_fails : {A B : Type 0} (e r : JsonFail) (name : List ℕ) (says : Says A) (f : A → Says B) → IsUnder name e r → Fails e says → Fails r (part name says >>= f)
 part_fails e fails.Memory name says f below at = tt
