@@ -132,7 +132,9 @@ second_hole h = elim h [
 ]
 
 least_of_two_holes : IsGap holes (upto 4 ∷ upto 4 ∷ []) (pos 4 ∷ pos 1 ∷ []) → ⊥
-least_of_two_holes g = first_hole (g.least (pos 1 ∷ pos 4 ∷ []) (omega (arith, ints), omega (arith, ints), (omega (arith, ints), omega (arith, ints), tt)) (inl (omega (arith, ints))))
+least_of_two_holes g =
+    first_hole (g.least (pos 1 ∷ pos 4 ∷ []) (omega (arith, ints), omega (arith, ints), (omega (arith, ints), omega (arith, ints), tt))
+    (inl (omega (arith, ints))))
   where
     first_hole : IsInRegion holes (pos 1 ∷ pos 4 ∷ []) → ⊥
     first_hole h = elim h [

@@ -1,5 +1,6 @@
 -- The least box round boxes.
-use Rattle.std.proofs.Common.{◌≡◌, ℕ, zero, suc, ◌+◌, ◌<◌, ◌≤◌, ℤ, pos, ◌≤ℤ◌, ◌⊎◌, inl, inr, List, [], ◌∷◌, ◌++◌, length, take, map, arith, refl, sym, ap, ◌∙◌, subst, below_more}
+use Rattle.std.proofs.Common.{◌≡◌, ℕ, zero, suc, ◌+◌, ◌<◌, ◌≤◌, ℤ, pos, ◌≤ℤ◌, ◌⊎◌, inl, inr, List, [], ◌∷◌, ◌++◌, length, take, map, arith, refl, sym, ap, ◌∙◌}
+use Rattle.std.proofs.Common.{subst, below_more}
 use Rattle.std.specs.Int.{int_min, int_max}
 use Rattle.std.proofs.lemmas.Int.{ints, clamps, by_lt_z}
 use Rattle.std.proofs.Math.ListN.{set}
@@ -92,8 +93,20 @@ hull-one b o = record {
     | inl w ↦ w
     | inr r ↦ absurd r
   ];
-  low = λ i r e. (lows b, inl (lows_within b o), at-value (lows b) i _ _ (lows-at b i r e) (coordinate-at (lows b) i (omega (arith, lows-width b, slice_get_within b i r e))));
-  high = λ i r e. (highs b, inl (high-within b o), at-value (highs b) i _ _ (highs-at b i r e) (coordinate-at (highs b) i (omega (arith, highs-width b, slice_get_within b i r e))));
+  low =
+      λ i r e. (
+        lows b,
+        inl (lows_within b o),
+        at-value (lows b) i _ _ (lows-at b i r e)
+            (coordinate-at (lows b) i (omega (arith, lows-width b, slice_get_within b i r e))),
+      );
+  high =
+      λ i r e. (
+        highs b,
+        inl (high-within b o),
+        at-value (highs b) i _ _ (highs-at b i r e)
+            (coordinate-at (highs b) i (omega (arith, highs-width b, slice_get_within b i r e))),
+      );
 }
 
 wider : (h h' b : List Side) (s : List ℤ) → length b ≡ length h → IsWidened b h h' → IsWithin h s → IsWithin h' s
@@ -138,7 +151,11 @@ hull-step bs h h' b o e u w = record {
         | inl old ↦
             let p = u.low i q.0 q.1 in
             (p.0, in-front bs b p.0 p.1, at-value p.0 i _ _ (sym (lows-at h i q.0 q.1) ∙ sym old ∙ lows-at h' i r at) p.2)
-        | inr new ↦ (lows b, in-last bs b (lows b) (lows_within b o), at-value (lows b) i _ _ (sym new ∙ lows-at h' i r at) (coordinate-at (lows b) i (omega (arith, lows-width b))))
+        | inr new ↦ (
+          lows b,
+          in-last bs b (lows b) (lows_within b o),
+          at-value (lows b) i _ _ (sym new ∙ lows-at h' i r at) (coordinate-at (lows b) i (omega (arith, lows-width b))),
+        )
       ];
   high = λ i r at.
       let lt : i < length b = omega (arith, w.width, slice_get_within h' i r at) in
@@ -147,7 +164,11 @@ hull-step bs h h' b o e u w = record {
         | inl old ↦
             let p = u.high i q.0 q.1 in
             (p.0, in-front bs b p.0 p.1, at-value p.0 i _ _ (sym (highs-at h i q.0 q.1) ∙ sym old ∙ highs-at h' i r at) p.2)
-        | inr new ↦ (highs b, in-last bs b (highs b) (high-within b o), at-value (highs b) i _ _ (sym new ∙ highs-at h' i r at) (coordinate-at (highs b) i (omega (arith, highs-width b))))
+        | inr new ↦ (
+          highs b,
+          in-last bs b (highs b) (high-within b o),
+          at-value (highs b) i _ _ (sym new ∙ highs-at h' i r at) (coordinate-at (highs b) i (omega (arith, highs-width b))),
+        )
       ];
 }
 

@@ -1,5 +1,6 @@
 -- The entries of an index, and the boxes that they name.
-use Rattle.std.proofs.Common.{◌≡◌, ℕ, zero, suc, ◌+◌, ◌-◌, ◌<◌, ◌≤◌, ℤ, pos, ◌≤ℤ◌, ◌<ℤ◌, inl, inr, List, [], ◌∷◌, length, slice_get, Option, Some, get_or, take, ◌++◌, add-one, false, true, arith, refl, sym, ap, ◌∙◌, subst}
+use Rattle.std.proofs.Common.{◌≡◌, ℕ, zero, suc, ◌+◌, ◌-◌, ◌<◌, ◌≤◌, ℤ, pos, ◌≤ℤ◌, ◌<ℤ◌, inl, inr, List, [], ◌∷◌, length, slice_get, Option, Some, get_or, take}
+use Rattle.std.proofs.Common.{◌++◌, add-one, false, true, arith, refl, sym, ap, ◌∙◌, subst}
 use Rattle.std.specs.List.{All, Contains}
 use Rattle.std.specs.Ordering.{is_lt, int_cmp}
 use Rattle.std.specs.Prelude.{int_le}
@@ -88,7 +89,8 @@ lows_of_boxes boxes entries names =
     entry_low boxes 0 k d b (subst (λ (i : ℕ). At boxes i b) place at))
 
 -- each box has an entry
-entry_of_box : (boxes : List (List Side)) (n i : ℕ) (b : List Side) → At boxes i b → Contains (entries_from n boxes) (record { low = coordinate (lows b) 0; place = n + i })
+entry_of_box : (boxes : List (List Side)) (n i : ℕ) (b : List Side) → At boxes i b
+    → Contains (entries_from n boxes) (record { low = coordinate (lows b) 0; place = n + i })
 entry_of_box [] n i b e = absurd (no_box i b e)
 entry_of_box (x ∷ xs) n zero b e =
     let s : x ≡ b = first_box x b xs e in
@@ -208,7 +210,8 @@ reached_start boxes entries g = record {
   above = λ k j e b le lt. absurd (omega arith);
 }
 
-pub reached_more : (boxes : List (List Side)) (entries : List Entry) (i : ℕ) (g g' : ℤ) (rs rs' : List ℤ) (d : Entry) (b : List Side) → IsReachedTo boxes entries i g rs
+pub reached_more : (boxes : List (List Side)) (entries : List Entry) (i : ℕ) (g g' : ℤ) (rs rs' : List ℤ) (d : Entry) (b : List Side)
+    → IsReachedTo boxes entries i g rs
     → At boxes (get_or entries i d).place b → g' ≡ int_max g (coordinate (highs b) 0) → rs' ≡ rs ++ g' ∷ [] → IsReachedTo boxes entries (i + 1) g' rs'
 reached_more boxes entries i g g' rs rs' d b r place max more = record {
   width = width;

@@ -15,7 +15,8 @@ ordered-push [] r o h = (h, tt)
 ordered-push (x ∷ rs) r o h = (o.0, ordered-push rs r o.1 h)
 
 -- the first parts, with one more
-pub ordered-more : (rs : List Side) (i : ℕ) (r : Side) → i < length rs → take (i + 1) rs ≡ take i rs ++ r ∷ [] → AreOrdered (take i rs) → r.lo ≤ℤ r.hi → AreOrdered (take (i + 1) rs)
+pub ordered-more : (rs : List Side) (i : ℕ) (r : Side) → i < length rs → take (i + 1) rs ≡ take i rs ++ r ∷ [] → AreOrdered (take i rs) → r.lo ≤ℤ r.hi
+    → AreOrdered (take (i + 1) rs)
 ordered-more rs i r lt e o h = subst AreOrdered (sym e) (ordered-push (take i rs) r o h)
 
 pub append_ordered : (rs ss : List Side) → AreOrdered rs → AreOrdered ss → AreOrdered (rs ++ ss)

@@ -33,7 +33,8 @@ within_length [] (x ∷ xs) w = absurd w
 within_length (r ∷ rs) [] w = absurd w
 
 -- numbers that are picked are in the ranges that are picked
-pub within_picked : (rs : List Side) (xs : List ℤ) (ks : List ℕ) → IsWithin rs xs → IsWithin (map (λ k. slice_index_or rs k nought) ks) (map (λ k. slice_index_or xs k (pos 0)) ks)
+pub within_picked : (rs : List Side) (xs : List ℤ) (ks : List ℕ) → IsWithin rs xs
+    → IsWithin (map (λ k. slice_index_or rs k nought) ks) (map (λ k. slice_index_or xs k (pos 0)) ks)
 within_picked rs xs [] w = tt
 within_picked rs xs (k ∷ ks) w = (let i = within_read rs xs k w in (i.0, i.1, within_picked rs xs ks w))
 
@@ -70,6 +71,7 @@ pub all_without_axes : (P : List ℤ → Type 0) → P [] → (s : List ℤ) →
 all_without_axes P here [] w = here
 all_without_axes P here (x ∷ xs) w = absurd w
 
-pub all_by_first : (P : List ℤ → Type 0) (r : Side) (rs : List Side) → ((z : ℤ) → IsIn r z → (s : List ℤ) → IsWithin rs s → P (z ∷ s)) → (s : List ℤ) → IsWithin (r ∷ rs) s → P s
+pub all_by_first : (P : List ℤ → Type 0) (r : Side) (rs : List Side) → ((z : ℤ) → IsIn r z → (s : List ℤ) → IsWithin rs s → P (z ∷ s)) → (s : List ℤ)
+    → IsWithin (r ∷ rs) s → P s
 all_by_first P r rs all [] w = absurd w
 all_by_first P r rs all (x ∷ xs) w = all x (w.0, w.1) xs w.2

@@ -1,5 +1,6 @@
 -- What each step of a sweep keeps.
-use Rattle.std.proofs.Common.{get_or-set_other, get_or-set_same, ◌≡◌, ℕ, suc, ◌+◌, ◌<◌, ◌≤◌, ℤ, pos, ◌+ℤ◌, ◌≤ℤ◌, ◌<ℤ◌, inl, inr, List, length, Some, arith, refl, sym, below_more, ◌∙◌, subst}
+use Rattle.std.proofs.Common.{get_or-set_other, get_or-set_same, ◌≡◌, ℕ, suc, ◌+◌, ◌<◌, ◌≤◌, ℤ, pos, ◌+ℤ◌, ◌≤ℤ◌, ◌<ℤ◌, inl, inr, List, length, Some, arith}
+use Rattle.std.proofs.Common.{refl, sym, below_more, ◌∙◌, subst}
 use Rattle.std.specs.Int.{int_min}
 use Rattle.std.proofs.lemmas.Int.{ints, clamps, by_lt_z}
 use Rattle.std.proofs.lemmas.Bool.{cases_lt, cases_eq, cases_order}
@@ -29,7 +30,8 @@ swept-start region box ordered low_width high_width = record {
 }
 
 -- a shorter reach leaves what was passed
-pub narrow-along : (k : ℕ) (box : List Side) (at old new t : List ℤ) → k ≤ length old → length box ≡ length old → IsNarrowed box old new → IsAlong k at new t → IsAlong k at old t
+pub narrow-along : (k : ℕ) (box : List Side) (at old new t : List ℤ) → k ≤ length old → length box ≡ length old → IsNarrowed box old new → IsAlong k at new t
+    → IsAlong k at old t
 narrow-along k box at old new t le e n along j lt =
     let h = along j lt in
     let b : coordinate new j ≤ℤ coordinate old j = n.below j (omega arith) in
@@ -52,7 +54,9 @@ narrowed region box c at old new e s w n inside = (
           let h : coordinate old k ≤ℤ coordinate (highs box) k = s.corners.high k lt in
           omega (arith, ints);
     };
-    passed = λ k lt t v along less. s.passed k lt t v (narrow-along k c at old new t (omega (arith, s.corners.reach_width)) (omega (arith, s.corners.reach_width)) n along) less;
+    passed =
+        λ k lt t v along less. s.passed k lt t v (narrow-along k c at old new t (omega (arith, s.corners.reach_width)) (omega (arith, s.corners.reach_width)) n
+        along) less;
   },
   λ t v along. inside t (within-from c t (omega (arith, within-width box t v))
       (λ k lt.
@@ -118,7 +122,8 @@ carry-start region box at reach s slab = record {
 }
 
 -- what is along the new corners below a is along the old ones
-along-put : (a : ℕ) (at at' reach reach' t : List ℤ) (x y : ℤ) (k : ℕ) → k ≤ a → IsPut at a x at' → IsPut reach a y reach' → IsAlong k at' reach' t → IsAlong k at reach t
+along-put : (a : ℕ) (at at' reach reach' t : List ℤ) (x y : ℤ) (k : ℕ) → k ≤ a → IsPut at a x at' → IsPut reach a y reach' → IsAlong k at' reach' t
+    → IsAlong k at reach t
 along-put a at at' reach reach' t x y k le p q along j lt =
     let h = along j lt in
     let ne : j ≡ a → ⊥ = λ e. absurd (omega arith) in
@@ -135,7 +140,8 @@ passed-on region box old at reach a lt c t w along h =
     (λ less. c.passed a (omega arith) t w along less)
     (λ more. c.slab t w (along_more a at reach t along more h))
   where
-    along_more : (a : ℕ) (at reach t : List ℤ) → IsAlong a at reach t → coordinate at a ≤ℤ coordinate t a → coordinate t a ≤ℤ coordinate reach a → IsAlong (suc a) at reach t
+    along_more : (a : ℕ) (at reach t : List ℤ) → IsAlong a at reach t → coordinate at a ≤ℤ coordinate t a → coordinate t a ≤ℤ coordinate reach a
+        → IsAlong (suc a) at reach t
     along_more a at reach t along low high j below = elim (cases_lt j a) [
       | inl less ↦ along j less
       | inr more ↦ let e : j ≡ a = omega arith in rw e (low, high)

@@ -1,5 +1,6 @@
 -- Boxes and points by their coordinates.
-use Rattle.std.proofs.Common.{◌≡◌, ℕ, zero, suc, ◌<◌, ◌≤◌, ℤ, pos, ◌≤ℤ◌, ◌<ℤ◌, inl, inr, List, [], ◌∷◌, length, slice_get, Some, get_or, ◌+◌, ◌++◌, ◌∙◌, take, arith, refl, sym, ap, subst, Option, None, Bool, MatchOption, is_some, IsTrue, add-one}
+use Rattle.std.proofs.Common.{◌≡◌, ℕ, zero, suc, ◌<◌, ◌≤◌, ℤ, pos, ◌≤ℤ◌, ◌<ℤ◌, inl, inr, List, [], ◌∷◌, length, slice_get, Some, get_or, ◌+◌, ◌++◌, ◌∙◌, take}
+use Rattle.std.proofs.Common.{arith, refl, sym, ap, subst, Option, None, Bool, MatchOption, is_some, IsTrue, add-one}
 use Rattle.std.proofs.lemmas.List.{take_more_set, take_more, length-map}
 use Rattle.std.proofs.Math.ListN.{set}
 use Rattle.std.proofs.lemmas.Option.{slice_get_read}

@@ -12,7 +12,9 @@ side_list b = take b.width b.sides
 
 -- the slots behind the width hold the interval of 0 alone
 abbrev pub IsBox : box.Inside → Type 0
-IsBox b = (0 < b.width) × (b.width ≤ 4) × (length b.sides ≡ 4) × (drop b.width b.sides ≡ replicate (4 - b.width) zero_side) × AreOrdered (side_list b)
+IsBox b =
+    (0 < b.width) × (b.width ≤ 4) × (length b.sides ≡ 4)
+    × (drop b.width b.sides ≡ replicate (4 - b.width) zero_side) × AreOrdered (side_list b)
 
 abbrev pub box_of : List Side → box.Inside
 box_of xs = record { width = length xs; sides = xs ++ replicate (4 - length xs) zero_side }

@@ -9,7 +9,8 @@ IsWithin (r ∷ rs) (x ∷ xs) = (r.lo ≤ℤ x) × (x ≤ℤ r.hi) × IsWithin 
 IsWithin [] (x ∷ xs) = ⊥
 IsWithin (r ∷ rs) [] = ⊥
 
--- s comes before t in lexicographical order: it is less in the first coordinate in which they differ
+-- s comes before t in lexicographical order: it is less in the first coordinate in which they
+-- differ
 abbrev pub IsBefore : List ℤ → List ℤ → Type 0
 IsBefore (x ∷ xs) (y ∷ ys) = (x <ℤ y) ⊎ ((x ≡ y) × IsBefore xs ys)
 IsBefore [] ys = ⊥

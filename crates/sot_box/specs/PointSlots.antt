@@ -1,5 +1,6 @@
 -- Lists of one to four parts, kept in four slots.
-use Rattle.std.specs.Prelude.{◌≡◌, ℕ, ◌-◌, ◌<◌, ◌≤◌, ℤ, pos, List, ◌++◌, length, take, drop, replicate}
+use Rattle.std.specs.Prelude.{◌≡◌, ℕ, ◌-◌, ◌<◌, ◌≤◌, ℤ, pos, List, ◌++◌, length, take, drop}
+use Rattle.std.specs.Prelude.{replicate}
 use Rattle.std.proofs.Common.{arith, take-append-drop, length-take-le}
 use Rattle.sot_box.specs.declared.point.Point.TheInside as point
 
@@ -8,15 +9,19 @@ coordinates p = take p.width p.at
 
 -- the slots behind the width hold 0
 abbrev pub IsPoint : point.Inside → Type 0
-IsPoint p = (0 < p.width) × (p.width ≤ 4) × (length p.at ≡ 4) × (drop p.width p.at ≡ replicate (4 - p.width) (pos 0))
+IsPoint p =
+    (0 < p.width) × (p.width ≤ 4) × (length p.at ≡ 4)
+    × (drop p.width p.at ≡ replicate (4 - p.width) (pos 0))
 
 abbrev pub point_of : List ℤ → point.Inside
 point_of xs = record { width = length xs; at = xs ++ replicate (4 - length xs) (pos 0) }
 
-pub width-taken : {A : Type 0} (n : ℕ) (xs : List A) → length xs ≡ 4 → n ≤ 4 → length (take n xs) ≡ n
+pub width-taken : {A : Type 0} (n : ℕ) (xs : List A) → length xs ≡ 4 → n ≤ 4
+    → length (take n xs) ≡ n
 width-taken n xs four below = length-take-le n xs (omega arith)
 
-pub slots-back : {A : Type 0} (n : ℕ) (xs : List A) (x : A) → length xs ≡ 4 → n ≤ 4 → drop n xs ≡ replicate (4 - n) x
+pub slots-back : {A : Type 0} (n : ℕ) (xs : List A) (x : A) → length xs ≡ 4 → n ≤ 4
+    → drop n xs ≡ replicate (4 - n) x
     → take n xs ++ replicate (4 - length (take n xs)) x ≡ xs
 slots-back n xs x four below rest = rw (width-taken n xs four below, ← rest) (take-append-drop n xs)
 

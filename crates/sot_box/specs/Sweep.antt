@@ -15,7 +15,8 @@ coordinate xs k = slice_index_or xs k (pos 0)
 
 -- the first k coordinates of t lie from those of `at` to those of `reach`
 abbrev pub IsAlong : ℕ → List ℤ → List ℤ → List ℤ → Type 0
-IsAlong k at reach t = (j : ℕ) → j < k → (coordinate at j ≤ℤ coordinate t j) × (coordinate t j ≤ℤ coordinate reach j)
+IsAlong k at reach t =
+    (j : ℕ) → j < k → (coordinate at j ≤ℤ coordinate t j) × (coordinate t j ≤ℤ coordinate reach j)
 
 -- `at` and `reach` are the low and the high corner of a box inside this one
 pub record AreCorners (box : List Side) (at reach : List ℤ) : Type 0 where
@@ -27,12 +28,14 @@ pub record AreCorners (box : List Side) (at reach : List ℤ) : Type 0 where
 
 -- what lies along the two corners in the first k coordinates is in the region
 abbrev pub IsSlab : List (List Side) → List Side → ℕ → List ℤ → List ℤ → Type 0
-IsSlab region box k at reach = (t : List ℤ) → IsWithin box t → IsAlong k at reach t → IsInRegion region t
+IsSlab region box k at reach =
+    (t : List ℤ) → IsWithin box t → IsAlong k at reach t → IsInRegion region t
 
 -- what lies along them in the first k coordinates, and before `at` in the next, is in the region
 abbrev pub IsPassed : List (List Side) → List Side → ℕ → List ℤ → List ℤ → Type 0
 IsPassed region box k at reach =
-    (t : List ℤ) → IsWithin box t → IsAlong k at reach t → coordinate t k <ℤ coordinate at k → IsInRegion region t
+    (t : List ℤ) → IsWithin box t → IsAlong k at reach t → coordinate t k <ℤ coordinate at k
+    → IsInRegion region t
 
 -- the sweep has come to `at`: what it has passed on each axis is in the region
 pub record IsSwept (region : List (List Side)) (box : List Side) (at reach : List ℤ) : Type 0 where

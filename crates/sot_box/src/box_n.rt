@@ -1,6 +1,7 @@
 //! Boxes: an interval for each axis.
 
-ghost use Rattle.std.specs.Prelude.{◌≡◌, [], ◌∷◌, ◌<◌, ◌≤◌, ◌≤ℤ◌, ◌⊎◌, length, slice_get, slice_set, Some, MatchOption, IsTrue, ◌↔◌};
+ghost use Rattle.std.specs.Prelude.{◌≡◌, [], ◌∷◌, ◌<◌, ◌≤◌, ◌≤ℤ◌, ◌⊎◌, length, slice_get};
+ghost use Rattle.std.specs.Prelude.{slice_set, Some, MatchOption, IsTrue, ◌↔◌};
 ghost use Rattle.sot_box.specs.Sides.{AreOrdered};
 ghost use Rattle.sot_box.specs.Boxes.{IsWithin, lows, highs};
 ghost use Rattle.sot_box.specs.Widened.{IsWidened};
@@ -61,7 +62,8 @@ impl BoxN {
         })
     }
 
-    // The box of one axis. It is put together without a loop, since a call to copy one interval costs more than the copy.
+    // The box of one axis. It is put together without a loop, since a call to copy one interval
+    // costs more than the copy.
     fn on_a_line(lo: i64, hi: i64) -> BoxN
         requires { lo ≤ℤ hi }
         ensures { result ≡ record { lo = lo; hi = hi } ∷ [] }

@@ -1,10 +1,11 @@
 //! An index of boxes, sorted on their low ends on the first axis.
 //!
-//! A box that holds a point begins at or before it on the first axis, and does not end before it. So
-//! the search starts at the last box that begins at or before the point, goes backwards, and ends where
-//! no box that is left reaches the point.
+//! A box that holds a point begins at or before it on the first axis, and does not end before it.
+//! So the search starts at the last box that begins at or before the point, goes backwards, and
+//! ends where no box that is left reaches the point.
 
-ghost use Rattle.std.specs.Prelude.{◌≡◌, ℕ, ◌<◌, ◌≤◌, ◌<ℤ◌, ◌≤ℤ◌, int_le, length, slice_get, slice_index_or, Some, IfOk, MatchOption};
+ghost use Rattle.std.specs.Prelude.{◌≡◌, ℕ, ◌<◌, ◌≤◌, ◌<ℤ◌, ◌≤ℤ◌, int_le, length, slice_get};
+ghost use Rattle.std.specs.Prelude.{slice_index_or, Some, IfOk, MatchOption};
 ghost use Rattle.std.specs.List.{All};
 ghost use Rattle.sot_box.specs.Regions.{IsInRegion};
 ghost use Rattle.sot_box.specs.Sweep.{HoldsAt};
@@ -24,7 +25,8 @@ pub(crate) struct Entry {
 /// The boxes of a list, in the order of their low ends on the first axis.
 pub(crate) struct Index {
     entries: Vec<Entry>,
-    // at each place the greatest high end on the first axis of the boxes that the entries up to there name
+    // at each place the greatest high end on the first axis of the boxes that the entries up to
+    // there name
     reaches: Vec<i64>,
 }
 
@@ -38,8 +40,8 @@ impl Drop for Index {
 }
 
 impl Index {
-    /// The index of these boxes. It takes the time of a sort, and memory for two numbers and a place a
-    /// box.
+    /// The index of these boxes. It takes the time of a sort, and memory for two numbers and a
+    /// place a box.
     pub(crate) fn of(alloc: Global, boxes: &[BoxN]) -> Result<Index, AllocError>
         ensures { IfOk result (λ x. IsIndex boxes.now x.entries.items x.reaches.items) }
     {
@@ -94,7 +96,8 @@ fn reaches_of(alloc: Global, boxes: &[BoxN], entries: &[Entry]) -> Result<Vec<i6
 fn begun_by(entries: &[Entry], x: i64) -> usize
     requires { AreInOrder entries.now }
     ensures bound { result ≤ length entries.now }
-    ensures later { (k : ℕ) (d : Entry) → result ≤ k → k < length entries.now → x <ℤ (slice_index_or entries.now k d).low }
+    ensures later { (k : ℕ) (d : Entry) → result ≤ k → k < length entries.now
+        → x <ℤ (slice_index_or entries.now k d).low }
 {
     entries.partition_point(
         |e: &Entry| -> bool
@@ -103,8 +106,9 @@ fn begun_by(entries: &[Entry], x: i64) -> usize
     )
 }
 
-/// The place of a box that holds the point, by the index of the boxes. It looks at boxes that begin at or
-/// before the point on the first axis, and at none before one up to which no box reaches the point.
+/// The place of a box that holds the point, by the index of the boxes. It looks at boxes that begin
+/// at or before the point on the first axis, and at none before one up to which no box reaches the
+/// point.
 fn indexed_holder(boxes: &[BoxN], entries: &[Entry], reaches: &[i64], p: &Point) -> Option<usize>
     requires widths { All (λ b. length b ≡ length p.now) boxes.now }
     requires index { IsIndex boxes.now entries.now reaches.now }

@@ -1,6 +1,7 @@
 //! Points: a number for each axis.
 
-ghost use Rattle.std.specs.Prelude.{◌≡◌, ◌<◌, ◌≤◌, ◌⊎◌, length, slice_get, slice_set, Some, replicate, pos, MatchOption};
+ghost use Rattle.std.specs.Prelude.{◌≡◌, ◌<◌, ◌≤◌, ◌⊎◌, length, slice_get, slice_set, Some};
+ghost use Rattle.std.specs.Prelude.{replicate, pos, MatchOption};
 
 use std::marker::Model;
 
@@ -16,7 +17,8 @@ impl Model for Point {
 
     ghost Value = { List ℤ };
 
-    ghost use Rattle.sot_box.specs.PointSlots.{coordinates, point_of, IsPoint, point_of-coordinates};
+    ghost use Rattle.sot_box.specs.PointSlots.{coordinates, point_of, IsPoint};
+    ghost use Rattle.sot_box.specs.PointSlots.{point_of-coordinates};
 
     ghost view = { coordinates };
 

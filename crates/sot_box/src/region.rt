@@ -1,6 +1,8 @@
 //! Regions: lists of boxes, and what they cover.
 
-ghost use Rattle.std.specs.Prelude.{◌≡◌, ℕ, [], ◌∷◌, ◌++◌, ◌<◌, ◌≤◌, length, slice_get, Some, false, true, OnOk, OnErr, IfErr, IfSome, MatchOption, IsTrue, ◌↔◌};
+ghost use Rattle.std.specs.Prelude.{◌≡◌, ℕ, [], ◌∷◌, ◌++◌, ◌<◌, ◌≤◌, length, slice_get, Some};
+ghost use Rattle.std.specs.Prelude.{false, true, OnOk, OnErr, IfErr, IfSome, MatchOption, IsTrue};
+ghost use Rattle.std.specs.Prelude.{◌↔◌};
 ghost use Rattle.sot_box.specs.Sides.{AreOrdered};
 ghost use Rattle.sot_box.specs.Regions.{IsInRegion, Covers, IsGap, IsHull, IsFirstGap, CoversAll};
 ghost use Rattle.sot_box.specs.Sweep.{HoldsAt};
@@ -12,9 +14,9 @@ use crate::sweep::{advance, narrow};
 use std::alloc::{AllocError, Global};
 use std::marker::Model;
 
-/// Boxes of one width, in order. A point is in the region where it is in some box. A box that holds a
-/// point is looked for among all boxes, or by the index where [`Region::settle`] has made one; the
-/// answers are the same.
+/// Boxes of one width, in order. A point is in the region where it is in some box. A box that holds
+/// a point is looked for among all boxes, or by the index where [`Region::settle`] has made one;
+/// the answers are the same.
 pub struct Region {
     width: usize,
     boxes: Vec<BoxN>,
@@ -103,9 +105,9 @@ impl Region {
         }
     }
 
-    /// Builds an index of the boxes, by which points are looked for until a box is pushed. The boxes
-    /// stay as they are, and so does what every other call answers. It takes the time of a sort, and
-    /// memory for two numbers and a place a box. Where there is none, no index is left.
+    /// Builds an index of the boxes, by which points are looked for until a box is pushed. The
+    /// boxes stay as they are, and so does what every other call answers. It takes the time of a
+    /// sort, and memory for two numbers and a place a box. Where there is none, no index is left.
     pub fn settle(&mut self) -> Result<(), AllocError>
         ensures ok { OnOk result (self.new.settled ≡ true) }
         ensures memory { OnErr result (self.new.settled ≡ false) }
@@ -136,8 +138,8 @@ impl Region {
         None
     }
 
-    /// The place of a box that holds the point, by looking at each. It looks from the place `hint` on
-    /// first: neighbours mostly stand near each other.
+    /// The place of a box that holds the point, by looking at each. It looks from the place `hint`
+    /// on first: neighbours mostly stand near each other.
     fn plain_holder(&self, hint: usize, p: &Point) -> Option<usize>
         requires { length p.now ≡ self.now.width }
         ensures { MatchOption result
@@ -171,9 +173,9 @@ impl Region {
         self.holder(0, p).is_some()
     }
 
-    /// The lexicographically least point of the box that is outside the region, and `None` where the
-    /// region covers the box. Each step of the sweep looks for one box that holds a point, and skips all
-    /// of the box asked for that this one and those met before hold together.
+    /// The lexicographically least point of the box that is outside the region, and `None` where
+    /// the region covers the box. Each step of the sweep looks for one box that holds a point, and
+    /// skips all of the box asked for that this one and those met before hold together.
     pub fn gap(&self, b: &BoxN) -> Option<Point>
         requires { length b.now ≡ self.now.width }
         ensures { MatchOption result
@@ -218,7 +220,8 @@ impl Region {
     }
 }
 
-/// The gap of the first box of `of` that `by` does not cover, and `None` where it covers each of them.
+/// The gap of the first box of `of` that `by` does not cover, and `None` where it covers each of
+/// them.
 pub fn uncovered(of: &Region, by: &Region) -> Option<Point>
     requires { of.now.width ≡ by.now.width }
     ensures { MatchOption result

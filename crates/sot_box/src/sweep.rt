@@ -1,7 +1,7 @@
 //! One step of a sweep through a box, from its low corner to its high corner.
 //!
-//! The sweep stands at a point, and the corner `reach` says how far the boxes that were met so far go.
-//! Whatever box holds the point may be taken, so a better search for one changes nothing here.
+//! The sweep stands at a point, and the corner `reach` says how far the boxes that were met so far
+//! go. Whatever box holds the point may be taken, so a better search for one changes nothing here.
 
 ghost use Rattle.std.specs.Prelude.{◌≡◌, List, length, MatchBool};
 ghost use Rattle.sot_box.specs.Sides.{Side};
@@ -24,8 +24,8 @@ pub(crate) fn narrow(reach: &mut Point, by: &BoxN)
     }
 }
 
-/// Goes on to the next point of the box that lies behind all that the corners span, on the last axis
-/// that has one. False says that nothing is left of the box.
+/// Goes on to the next point of the box that lies behind all that the corners span, on the last
+/// axis that has one. False says that nothing is left of the box.
 pub(crate) fn advance(b: &BoxN, at: &mut Point, reach: &mut Point) -> bool
     requires { AreCorners b.now at.old reach.old }
     ensures { (region : List (List Side)) → IsSwept region b.now at.old reach.old

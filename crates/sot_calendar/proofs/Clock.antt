@@ -138,7 +138,9 @@ until_bound j false p o t r lt u =
     omega (arith, d.2, u.2)
 
 -- a tick takes one from it
-pub until_tick : (j : ℕ) (left left' : Bool) (p o t r : ℕ) → o < p → j < p → (left ≡ true → IsStillDue j p o t) → ((d : ℕ) → left ≡ true → IsLastDue p o t d → d + j ≢ t) → ((left' ≡ true) ↔ ((left ≡ true) ⊎ IsDue p o (suc t))) → IsUntil j left' p o (suc t) r → IsUntil j left p o t (suc r)
+pub until_tick : (j : ℕ) (left left' : Bool) (p o t r : ℕ) → o < p → j < p → (left ≡ true → IsStillDue j p o t)
+    → ((d : ℕ) → left ≡ true → IsLastDue p o t d → d + j ≢ t) → ((left' ≡ true) ↔ ((left ≡ true) ⊎ IsDue p o (suc t))) → IsUntil j left' p o (suc t) r
+    → IsUntil j left p o t (suc r)
 until_tick j true false p o t r lt jp due may sets u = absurd (false≢true (sets.1 (inl refl)))
 until_tick j true true p o t r lt jp due may sets u =
     let d = due refl in
@@ -176,7 +178,8 @@ until_tick j false false p o t r lt jp due may sets u = (
 )
 
 -- what is left after a tick is due, and not yet late
-pub still_due_tick : (j : ℕ) (left left' : Bool) (p o t : ℕ) → (left ≡ true → IsStillDue j p o t) → ((d : ℕ) → left ≡ true → IsLastDue p o t d → d + j ≢ t) → ((left' ≡ true) ↔ ((left ≡ true) ⊎ IsDue p o (suc t))) → left' ≡ true → IsStillDue j p o (suc t)
+pub still_due_tick : (j : ℕ) (left left' : Bool) (p o t : ℕ) → (left ≡ true → IsStillDue j p o t) → ((d : ℕ) → left ≡ true → IsLastDue p o t d → d + j ≢ t)
+    → ((left' ≡ true) ↔ ((left ≡ true) ⊎ IsDue p o (suc t))) → left' ≡ true → IsStillDue j p o (suc t)
 still_due_tick j left left' p o t due may sets is =
     ⊎_elim
     (λ now. (suc t, last_now p o (suc t) now, omega arith))
@@ -200,7 +203,8 @@ still_due_tick j left left' p o t due may sets is =
     (cases_due p o (suc t))
 
 -- before a tick it is at least 1
-pub until_later : (j : ℕ) (left : Bool) (p o t r : ℕ) → (left ≡ true → IsStillDue j p o t) → ((d : ℕ) → left ≡ true → IsLastDue p o t d → d + j ≢ t) → IsUntil j left p o t r → 1 ≤ r
+pub until_later : (j : ℕ) (left : Bool) (p o t r : ℕ) → (left ≡ true → IsStillDue j p o t) → ((d : ℕ) → left ≡ true → IsLastDue p o t d → d + j ≢ t)
+    → IsUntil j left p o t r → 1 ≤ r
 until_later j true p o t r due may u =
     let d = due refl in
     let ne = may u.0 refl u.1 in

@@ -38,8 +38,8 @@ IsDueCount period offset (suc h) n =
 abbrev pub IsStillDue : ℕ → ℕ → ℕ → ℕ → Type 0
 IsStillDue jitter period offset t = (d : ℕ) × IsLastDue period offset t d × (t ≤ d + jitter)
 
--- at most r ticks until it fires: up to its deadline where it is left to fire (true), and else up to
--- the deadline of its next due time; a deadline is a due time and the jitter
+-- at most r ticks until it fires: up to its deadline where it is left to fire (true), and else up
+-- to the deadline of its next due time; a deadline is a due time and the jitter
 abbrev pub IsUntil : ℕ → Bool → ℕ → ℕ → ℕ → ℕ → Type 0
 IsUntil jitter true period offset t r =
     (d : ℕ) × IsLastDue period offset t d × (t + r ≡ d + jitter)

@@ -1,8 +1,8 @@
 //! When nodes and decisions are due.
 //!
-//! Time is a count of ticks from 0. What has a period and an offset is due at the offset, and then once
-//! in each period: [`due`] tells whether it is at a time, [`next_due`] when it is next, and [`firings`]
-//! how often up to a horizon. These are closed formulas, and none takes memory.
+//! Time is a count of ticks from 0. What has a period and an offset is due at the offset, and then
+//! once in each period: [`due`] tells whether it is at a time, [`next_due`] when it is next, and
+//! [`firings`] how often up to a horizon. These are closed formulas, and none takes memory.
 //!
 //! Nothing here knows nodes, modules or jitter. `docs/SEMANTICS.md` states the calendar in words.
 #![tactic(auto)]

@@ -33,15 +33,19 @@ slots_are n draft few size rest =
     ∙ take-append-drop n draft
 
 module _ (p : Tables) (node : NodeInfo) (acts : List Act) (numbers : List ℤ) (few : length node.writes.items ≤ 8) where
-  pub fires : (new : List ℤ) (draft : List (Option ℤ)) (locals : List ℤ) → length draft ≡ 8 → drop (length node.writes.items) draft ≡ drop (length node.writes.items) (replicate 8 None)
+  pub fires : (new : List ℤ) (draft : List (Option ℤ)) (locals : List ℤ) → length draft ≡ 8
+      → drop (length node.writes.items) draft ≡ drop (length node.writes.items) (replicate 8 None)
       → locals ≡ drop (length node.reads.items) new → run_of p node numbers acts (fired_at node numbers (replicate 8 None)) ≡ Ok (fired_at node new draft)
-      → Ok (record { locals = locals; draft = draft }) ≡ recorded (bodies.execution acts (local_ranges node) (write_ranges p node) (take (length node.reads.items) numbers) (drop (length node.reads.items) numbers))
+      → Ok (record { locals = locals; draft = draft }) ≡ recorded
+      (bodies.execution acts (local_ranges node) (write_ranges p node) (take (length node.reads.items) numbers) (drop (length node.reads.items) numbers))
   fires new draft locals size rest is ends =
       let slots = slots_are (length node.writes.items) draft few size rest in
-      sym (ap recorded (starts p node acts numbers few ∙ ends) ∙ ap (λ d. Ok (record { locals = drop (length node.reads.items) new; draft = d })) slots ∙ ap (λ l. Ok (record { locals = l; draft = draft })) (sym is))
+      sym (ap recorded (starts p node acts numbers few ∙ ends) ∙ ap (λ d. Ok (record { locals = drop (length node.reads.items) new; draft = d })) slots
+      ∙ ap (λ l. Ok (record { locals = l; draft = draft })) (sym is))
 
   pub traps : (t : Trap) → run_of p node numbers acts (fired_at node numbers (replicate 8 None)) ≡ Err t
-      → Err t ≡ recorded (bodies.execution acts (local_ranges node) (write_ranges p node) (take (length node.reads.items) numbers) (drop (length node.reads.items) numbers))
+      → Err t ≡ recorded (bodies.execution acts (local_ranges node) (write_ranges p node) (take (length node.reads.items) numbers)
+      (drop (length node.reads.items) numbers))
   traps t ends = sym (ap recorded (starts p node acts numbers few ∙ ends))
 
 -- a node of tables that meet their rules can run

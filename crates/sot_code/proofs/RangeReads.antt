@@ -13,13 +13,15 @@ use Rattle.sot_lang.specs.Bodies.{within, in_range}
 use Rattle.sot_lang.proofs.Owners.{range_of-get}
 
 module _ {A : Type 0} (f : A → Side) where
-  pub in_range-map : (infos : List A) (k : ℕ) (d : A) (at : Span) (z : ℤ) → k < length infos → in_range (map f infos) k at z ≡ within (f (get_or infos k d)) at z
+  pub in_range-map : (infos : List A) (k : ℕ) (d : A) (at : Span) (z : ℤ) → k < length infos
+      → in_range (map f infos) k at z ≡ within (f (get_or infos k d)) at z
   in_range-map [] k d at z lt = absurd (omega arith)
   in_range-map (x ∷ infos) zero d at z lt = refl
   in_range-map (x ∷ infos) (suc k) d at z lt = in_range-map infos k d at z (omega arith)
 
 -- the value of a local's next assignment, and of a scalar's next draft
-pub local_value : (node : NodeInfo) (k : ℕ) (info : LocalInfo) (at : Span) (o : Outcome ℤ) (z : ℤ) → k < length node.locals.items → info ≡ get_or node.locals.items k info → o ≡ Ok z
+pub local_value : (node : NodeInfo) (k : ℕ) (info : LocalInfo) (at : Span) (o : Outcome ℤ) (z : ℤ) → k < length node.locals.items
+    → info ≡ get_or node.locals.items k info → o ≡ Ok z
     → then_with o (in_range (local_ranges node) k at) ≡ within (record { lo = info.lo; hi = info.hi }) at z
 local_value node k info at o z lt is e =
     ap (λ o. then_with o (in_range (local_ranges node) k at)) e

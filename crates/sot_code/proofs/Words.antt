@@ -18,7 +18,8 @@ product_fits a b fa fb = fits_signed_mul w128 a b (2 ^ 63) (2 ^ 63) (abs_of_word
 pub widens : (a : ℤ) → FitsSigned w64 a → to_z w128 (of_z w128 (to_z w64 (of_z w64 a))) ≡ a
 widens a f = omega (arith, ints)
 
-pub product_is : (a b : ℤ) → FitsSigned w64 a → FitsSigned w64 b → to_z w128 (of_z w128 (to_z w128 (of_z w128 (to_z w64 (of_z w64 a))) *ℤ to_z w128 (of_z w128 (to_z w64 (of_z w64 b))))) ≡ a *ℤ b
+pub product_is : (a b : ℤ) → FitsSigned w64 a → FitsSigned w64 b
+    → to_z w128 (of_z w128 (to_z w128 (of_z w128 (to_z w64 (of_z w64 a))) *ℤ to_z w128 (of_z w128 (to_z w64 (of_z w64 b))))) ≡ a *ℤ b
 product_is a b fa fb = rw (widens a fa, widens b fb) (to_z-of_z w128 (a *ℤ b) (product_fits a b fa fb))
 
 -- a number is in 64 bits exactly where it fits the type of 64 bits

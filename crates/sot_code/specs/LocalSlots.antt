@@ -8,7 +8,8 @@ local_list l = take l.count l.at
 
 -- the slots behind the count hold 0
 abbrev pub IsLocals : locals.Inside → Type 0
-IsLocals l = (l.count ≤ 16) × (length l.at ≡ 16) × (drop l.count l.at ≡ replicate (16 - l.count) (pos 0))
+IsLocals l =
+    (l.count ≤ 16) × (length l.at ≡ 16) × (drop l.count l.at ≡ replicate (16 - l.count) (pos 0))
 
 abbrev pub locals_of : List ℤ → locals.Inside
 locals_of xs = record { count = length xs; at = xs ++ replicate (16 - length xs) (pos 0) }
@@ -17,7 +18,8 @@ locals_of xs = record { count = length xs; at = xs ++ replicate (16 - length xs)
 taken-length : {A : Type 0} (n : ℕ) (xs : List A) → length xs ≡ 16 → n ≤ 16 → length (take n xs) ≡ n
 taken-length n xs size within = length-take-le n xs (subst (λ m. n ≤ m) (sym size) within)
 
-taken-padded : {A : Type 0} (n : ℕ) (xs : List A) (x : A) → length xs ≡ 16 → n ≤ 16 → drop n xs ≡ replicate (16 - n) x
+taken-padded : {A : Type 0} (n : ℕ) (xs : List A) (x : A) → length xs ≡ 16 → n ≤ 16
+    → drop n xs ≡ replicate (16 - n) x
     → take n xs ++ replicate (16 - length (take n xs)) x ≡ xs
 taken-padded n xs x size within rest =
     ap (λ m. take n xs ++ replicate (16 - m) x) (taken-length n xs size within)

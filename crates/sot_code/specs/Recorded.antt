@@ -1,5 +1,6 @@
 -- What a firing hands out, and what may be fired and ticked.
-use Rattle.std.specs.Prelude.{◌≡◌, ℕ, ◌+◌, ◌-◌, ℤ, List, ◌++◌, Option, None, Result, Ok, Err, length, replicate}
+use Rattle.std.specs.Prelude.{◌≡◌, ℕ, ◌+◌, ◌-◌, ℤ, List, ◌++◌, Option, None, Result, Ok, Err}
+use Rattle.std.specs.Prelude.{length, replicate}
 use Rattle.sot_lists.specs.Places.{At}
 use Rattle.sot_lang.specs.declared.act.Act.{Act}
 use Rattle.sot_lang.specs.declared.trap.Trap.{Trap}
@@ -43,7 +44,8 @@ IsExecution p n seen locals result =
     (node : NodeInfo) (acts : List Act) → At p.nodes n node → IsCoded node acts →
     result ≡ recorded (bodies.execution acts (local_ranges node) (write_ranges p node) seen locals)
 
--- the plant exists, and there is a number for each of its state variables, inputs, seen states and disturbances
+-- the plant exists, and there is a number for each of its state variables, inputs, seen states and
+-- disturbances
 pub record MayTickPlant (p : Tables) (k : ℕ) (state held seen noise : List ℤ) : Type 0 where
   pub plant : PlantInfo
   pub is : At p.plants k plant
@@ -54,14 +56,17 @@ pub record MayTickPlant (p : Tables) (k : ℕ) (state held seen noise : List ℤ
 
 -- the outcome is the plant's next point
 abbrev pub IsNextPoint : Tables → ℕ → List ℤ → List ℤ → List ℤ → List ℤ → Outcome (List ℤ) → Type 0
-IsNextPoint p k state held seen noise result = (plant : PlantInfo) → At p.plants k plant → result ≡ next_state plant state held seen noise
+IsNextPoint p k state held seen noise result =
+    (plant : PlantInfo) → At p.plants k plant → result ≡ next_state plant state held seen noise
 
 -- the plant exists, and there is a number for each of its names
 pub record MayTickOver (p : Tables) (k : ℕ) (numbers : List ℤ) : Type 0 where
   pub plant : PlantInfo
   pub is : At p.plants k plant
-  pub names : length numbers ≡ length plant.states.items + length plant.inputs.items + seen_width p.plants plant.sees.items + length plant.noise.items
+  pub names : length numbers ≡ length plant.states.items + length plant.inputs.items
+      + seen_width p.plants plant.sees.items + length plant.noise.items
 
 -- the outcome is the values of the plant's expressions on these numbers
 abbrev pub IsPointOver : Tables → ℕ → List ℤ → Outcome (List ℤ) → Type 0
-IsPointOver p k numbers result = (plant : PlantInfo) → At p.plants k plant → result ≡ values plant.next.items numbers
+IsPointOver p k numbers result =
+    (plant : PlantInfo) → At p.plants k plant → result ≡ values plant.next.items numbers

@@ -7,7 +7,8 @@ ghost use Rattle.sot_lang.specs.Values.{value_of, then_with};
 ghost use Rattle.sot_lang.specs.OwnerNames.{node_truths};
 ghost use Rattle.sot_lang.specs.TermPlaces.{HasPlaces};
 ghost use Rattle.sot_lang.specs.ActRules.{ActFits, ActsFit};
-ghost use Rattle.sot_code.specs.Firings.{fired_at, Ends, assign_of, publish_of, step_of, run_of, turns_of, IsRunnable};
+ghost use Rattle.sot_code.specs.Firings.{fired_at, Ends, assign_of, publish_of, step_of, run_of};
+ghost use Rattle.sot_code.specs.Firings.{turns_of, IsRunnable};
 
 use crate::term;
 use sot_lang::{Act, Draft, NodeInfo, Term, Trap, TrapKind, Typed};
@@ -37,7 +38,8 @@ fn assigned(
 ) -> Result<i64, Trap>
     requires places { HasPlaces (length numbers.now) term.now }
     requires local { local < length node.now.locals.items }
-    ensures { result ≡ then_with (value_of term.now numbers.now) (in_range (local_ranges node.now) local at) }
+    ensures { result ≡ then_with (value_of term.now numbers.now)
+        (in_range (local_ranges node.now) local at) }
 {
     let z = term::value(term, numbers)?;
     let info = &node.locals[local];
@@ -56,7 +58,8 @@ fn published(
     requires node { IsRunnable p.now node.now }
     requires places { HasPlaces (length numbers.now) term.now }
     requires slot { slot < length node.now.writes.items }
-    ensures { result ≡ then_with (value_of term.now numbers.now) (in_range (write_ranges p.now node.now) slot at) }
+    ensures { result ≡ then_with (value_of term.now numbers.now)
+        (in_range (write_ranges p.now node.now) slot at) }
 {
     let z = term::value(term, numbers)?;
     let info = &p.scalars[node.writes[slot] as usize];
@@ -73,10 +76,13 @@ fn assign(
 ) -> Result<(), Trap>
     requires places { HasPlaces (length numbers.old) term.now }
     requires local { local < length node.now.locals.items }
-    requires size { length node.now.reads.items + length node.now.locals.items ≡ length numbers.old }
+    requires size { length node.now.reads.items + length node.now.locals.items
+        ≡ length numbers.old }
     ensures ends { (draft : _) → Ends node.now result numbers.new draft
-        (assign_of node.now local at (value_of term.now numbers.old) (fired_at node.now numbers.old draft)) }
-    ensures read { take (length node.now.reads.items) numbers.new ≡ take (length node.now.reads.items) numbers.old }
+        (assign_of node.now local at (value_of term.now numbers.old)
+        (fired_at node.now numbers.old draft)) }
+    ensures read { take (length node.now.reads.items) numbers.new
+        ≡ take (length node.now.reads.items) numbers.old }
 {
     let z = assigned(node, term, local, at, numbers)?;
     numbers[node.reads.len() + local] = z;
@@ -97,8 +103,10 @@ fn publish(
     requires places { HasPlaces (length numbers.now) term.now }
     requires slot { slot < length node.now.writes.items }
     ensures ends { Ends node.now result numbers.now draft.new
-        (publish_of p.now node.now slot at (value_of term.now numbers.now) (fired_at node.now numbers.now draft.old)) }
-    ensures unused { drop (length node.now.writes.items) draft.new ≡ drop (length node.now.writes.items) draft.old }
+        (publish_of p.now node.now slot at (value_of term.now numbers.now)
+        (fired_at node.now numbers.now draft.old)) }
+    ensures unused { drop (length node.now.writes.items) draft.new
+        ≡ drop (length node.now.writes.items) draft.old }
     ensures slots { length draft.new ≡ length draft.old }
 {
     let z = published(p, node, term, slot, at, numbers)?;
@@ -106,7 +114,8 @@ fn publish(
     Ok(())
 }
 
-/// The statements, one after another. The numbers are those that the node reads, and then its locals.
+/// The statements, one after another. The numbers are those that the node reads, and then its
+/// locals.
 #[cycle(run)]
 pub fn run(
     p: &Typed,
@@ -116,13 +125,17 @@ pub fn run(
     draft: &mut Draft,
 ) -> Result<(), Trap>
     requires node { IsRunnable p.now node.now }
-    requires fits { ActsFit (node_truths p.now node.now) (length node.now.locals.items) (length node.now.writes.items) acts.now }
-    requires size { length node.now.reads.items + length node.now.locals.items ≡ length numbers.old }
+    requires fits { ActsFit (node_truths p.now node.now) (length node.now.locals.items)
+        (length node.now.writes.items) acts.now }
+    requires size { length node.now.reads.items + length node.now.locals.items
+        ≡ length numbers.old }
     ensures ends { Ends node.now result numbers.new draft.new
         (run_of p.now node.now numbers.old acts.now (fired_at node.now numbers.old draft.old)) }
-    ensures read { take (length node.now.reads.items) numbers.new ≡ take (length node.now.reads.items) numbers.old }
+    ensures read { take (length node.now.reads.items) numbers.new
+        ≡ take (length node.now.reads.items) numbers.old }
     ensures size { length numbers.new ≡ length numbers.old }
-    ensures unused { drop (length node.now.writes.items) draft.new ≡ drop (length node.now.writes.items) draft.old }
+    ensures unused { drop (length node.now.writes.items) draft.new
+        ≡ drop (length node.now.writes.items) draft.old }
     ensures slots { length draft.new ≡ length draft.old }
 {
     for one in acts {
@@ -142,13 +155,18 @@ fn turns(
     draft: &mut Draft,
 ) -> Result<(), Trap>
     requires node { IsRunnable p.now node.now }
-    requires fits { ActsFit (node_truths p.now node.now) (length node.now.locals.items) (length node.now.writes.items) acts.now }
-    requires size { length node.now.reads.items + length node.now.locals.items ≡ length numbers.old }
+    requires fits { ActsFit (node_truths p.now node.now) (length node.now.locals.items)
+        (length node.now.writes.items) acts.now }
+    requires size { length node.now.reads.items + length node.now.locals.items
+        ≡ length numbers.old }
     ensures ends { Ends node.now result numbers.new draft.new
-        (turns_of p.now node.now numbers.old count acts.now (fired_at node.now numbers.old draft.old)) }
-    ensures read { take (length node.now.reads.items) numbers.new ≡ take (length node.now.reads.items) numbers.old }
+        (turns_of p.now node.now numbers.old count acts.now
+        (fired_at node.now numbers.old draft.old)) }
+    ensures read { take (length node.now.reads.items) numbers.new
+        ≡ take (length node.now.reads.items) numbers.old }
     ensures size { length numbers.new ≡ length numbers.old }
-    ensures unused { drop (length node.now.writes.items) draft.new ≡ drop (length node.now.writes.items) draft.old }
+    ensures unused { drop (length node.now.writes.items) draft.new
+        ≡ drop (length node.now.writes.items) draft.old }
     ensures slots { length draft.new ≡ length draft.old }
 {
     for _turn in 0..count {
@@ -167,13 +185,17 @@ fn step(
     draft: &mut Draft,
 ) -> Result<(), Trap>
     requires node { IsRunnable p.now node.now }
-    requires fits { ActFits (node_truths p.now node.now) (length node.now.locals.items) (length node.now.writes.items) one.now }
-    requires size { length node.now.reads.items + length node.now.locals.items ≡ length numbers.old }
+    requires fits { ActFits (node_truths p.now node.now) (length node.now.locals.items)
+        (length node.now.writes.items) one.now }
+    requires size { length node.now.reads.items + length node.now.locals.items
+        ≡ length numbers.old }
     ensures ends { Ends node.now result numbers.new draft.new
         (step_of p.now node.now numbers.old one.now (fired_at node.now numbers.old draft.old)) }
-    ensures read { take (length node.now.reads.items) numbers.new ≡ take (length node.now.reads.items) numbers.old }
+    ensures read { take (length node.now.reads.items) numbers.new
+        ≡ take (length node.now.reads.items) numbers.old }
     ensures size { length numbers.new ≡ length numbers.old }
-    ensures unused { drop (length node.now.writes.items) draft.new ≡ drop (length node.now.writes.items) draft.old }
+    ensures unused { drop (length node.now.writes.items) draft.new
+        ≡ drop (length node.now.writes.items) draft.old }
     ensures slots { length draft.new ≡ length draft.old }
 {
     match one {

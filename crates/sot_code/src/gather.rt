@@ -24,7 +24,8 @@ pub fn put_seen<V: Seen>(seen: &V, count: usize, numbers: &mut [i64])
 /// The locals, behind the first `from` numbers.
 pub fn put_locals(locals: &Locals, from: usize, numbers: &mut [i64])
     requires room { from + length locals.now ≤ length numbers.old }
-    ensures front { take (from + length locals.now) numbers.new ≡ take from numbers.old ++ locals.now }
+    ensures front { take (from + length locals.now) numbers.new
+        ≡ take from numbers.old ++ locals.now }
     ensures size { length numbers.new ≡ length numbers.old }
 {
     for i in 0..locals.len() {
@@ -44,7 +45,8 @@ fn put_number(number: i64, from: usize, numbers: &mut [i64])
 /// A point's coordinates, behind the first `from` numbers.
 pub fn put_point(point: &Point, from: usize, numbers: &mut [i64])
     requires room { from + length point.now ≤ length numbers.old }
-    ensures front { take (from + length point.now) numbers.new ≡ take from numbers.old ++ point.now }
+    ensures front { take (from + length point.now) numbers.new
+        ≡ take from numbers.old ++ point.now }
     ensures size { length numbers.new ≡ length numbers.old }
 {
     if point.len() == 1 {

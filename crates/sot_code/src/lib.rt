@@ -1,8 +1,9 @@
 //! What a node's code and a plant's tick give, on numbers.
 //!
-//! `run_node` is the execution of a body and `plant_next` one tick, exactly as `sot_lang` defines them: the first trap with its
-//! place and kind, or the new numbers. Numbers are 64-bit words, and a result that is none is a trap.
-//! Nothing here takes memory. What a node reads is asked of a `Seen`, so that a caller can lend its own numbers.
+//! `run_node` is the execution of a body and `plant_next` one tick, exactly as `sot_lang` defines
+//! them: the first trap with its place and kind, or the new numbers. Numbers are 64-bit words, and
+//! a result that is none is a trap. Nothing here takes memory. What a node reads is asked of a
+//! `Seen`, so that a caller can lend its own numbers.
 #![tactic(auto)]
 
 mod body;

@@ -18,7 +18,8 @@ impl Model for Locals {
 
     ghost Value = { List ℤ };
 
-    ghost use Rattle.sot_code.specs.LocalSlots.{local_list, locals_of, IsLocals, locals_of-local_list};
+    ghost use Rattle.sot_code.specs.LocalSlots.{local_list, locals_of, IsLocals};
+    ghost use Rattle.sot_code.specs.LocalSlots.{locals_of-local_list};
 
     ghost view = { local_list };
 

@@ -26,12 +26,15 @@ fn fire(
 ) -> Result<(), Trap>
     requires node { IsRunnable p.now node.now }
     requires few { length node.now.locals.items ≤ 16 }
-    requires fits { ActsFit (node_truths p.now node.now) (length node.now.locals.items) (length node.now.writes.items) acts.now }
-    requires size { length node.now.reads.items + length node.now.locals.items ≡ length numbers.old }
+    requires fits { ActsFit (node_truths p.now node.now) (length node.now.locals.items)
+        (length node.now.writes.items) acts.now }
+    requires size { length node.now.reads.items + length node.now.locals.items
+        ≡ length numbers.old }
     requires locals { length locals.old ≡ length node.now.locals.items }
     requires blank { draft.old ≡ replicate 8 None }
     ensures { left_by result locals.new draft.new ≡ recorded (execution acts.now (local_ranges node.now) (write_ranges p.now node.now)
-        (take (length node.now.reads.items) numbers.old) (drop (length node.now.reads.items) numbers.old)) }
+        (take (length node.now.reads.items) numbers.old)
+        (drop (length node.now.reads.items) numbers.old)) }
 {
     run(p, node, acts, numbers, draft)?;
     let (_, kept) = numbers.split_at(node.reads.len());
@@ -51,12 +54,15 @@ fn execute_in<V: Seen>(
 ) -> Result<(), Trap>
     requires node { IsRunnable p.now node.now }
     requires few { length node.now.locals.items ≤ 16 }
-    requires fits { ActsFit (node_truths p.now node.now) (length node.now.locals.items) (length node.now.writes.items) acts.now }
+    requires fits { ActsFit (node_truths p.now node.now) (length node.now.locals.items)
+        (length node.now.writes.items) acts.now }
     requires reads { length (V.numbers seen.now) ≡ length node.now.reads.items }
     requires locals { length locals.old ≡ length node.now.locals.items }
     requires blank { draft.old ≡ replicate 8 None }
     requires room { length node.now.reads.items + length node.now.locals.items ≤ length room.old }
-    ensures { left_by result locals.new draft.new ≡ recorded (execution acts.now (local_ranges node.now) (write_ranges p.now node.now) (V.numbers seen.now) locals.old) }
+    ensures { left_by result locals.new draft.new
+        ≡ recorded (execution acts.now (local_ranges node.now) (write_ranges p.now node.now)
+        (V.numbers seen.now) locals.old) }
 {
     let reads = node.reads.len();
     put_seen(seen, reads, room);
@@ -79,12 +85,15 @@ fn execute<V: Seen>(
 ) -> Result<(), Trap>
     requires node { IsRunnable p.now node.now }
     requires few { length node.now.locals.items ≤ 16 }
-    requires fits { ActsFit (node_truths p.now node.now) (length node.now.locals.items) (length node.now.writes.items) acts.now }
+    requires fits { ActsFit (node_truths p.now node.now) (length node.now.locals.items)
+        (length node.now.writes.items) acts.now }
     requires reads { length (V.numbers seen.now) ≡ length node.now.reads.items }
     requires locals { length locals.old ≡ length node.now.locals.items }
     requires blank { draft.old ≡ replicate 8 None }
     requires names { length node.now.reads.items + length node.now.locals.items ≤ 80 }
-    ensures { left_by result locals.new draft.new ≡ recorded (execution acts.now (local_ranges node.now) (write_ranges p.now node.now) (V.numbers seen.now) locals.old) }
+    ensures { left_by result locals.new draft.new
+        ≡ recorded (execution acts.now (local_ranges node.now) (write_ranges p.now node.now)
+        (V.numbers seen.now) locals.old) }
 {
     if node.reads.len() + node.locals.len() <= FEW_NAMES {
         let mut few = [0; FEW_NAMES];
@@ -94,8 +103,9 @@ fn execute<V: Seen>(
     execute_in(p, node, acts, seen, locals, draft, &mut inline)
 }
 
-/// The execution of a coded node's body on the numbers that it reads and its locals: these are changed to the new ones, and the
-/// draft, in which nothing is drafted, to what it drafts; or the first trap, whose locals and draft mean nothing.
+/// The execution of a coded node's body on the numbers that it reads and its locals: these are
+/// changed to the new ones, and the draft, in which nothing is drafted, to what it drafts; or the
+/// first trap, whose locals and draft mean nothing.
 // What a firing leaves takes 208 bytes, and would be copied at each return.
 pub fn run_node_over<V: Seen>(
     p: &Typed,
@@ -106,15 +116,16 @@ pub fn run_node_over<V: Seen>(
 ) -> Result<(), Trap>
     requires run { MayRun p.now node (V.numbers seen.now) locals.old }
     requires blank { draft.old ≡ replicate 8 None }
-    ensures { IsExecution p.now node (V.numbers seen.now) locals.old (left_by result locals.new draft.new) }
+    ensures { IsExecution p.now node (V.numbers seen.now) locals.old
+        (left_by result locals.new draft.new) }
 {
     let info = &p.nodes[node as usize];
     let acts = info.body.as_ref().unwrap();
     execute(p, info, acts, seen, locals, draft)
 }
 
-/// The execution of a coded node's body on the numbers that it reads and its locals: the new locals and the draft, or the first
-/// trap.
+/// The execution of a coded node's body on the numbers that it reads and its locals: the new locals
+/// and the draft, or the first trap.
 pub fn run_node<V: Seen>(p: &Typed, node: u32, seen: &V, locals: &Locals) -> Result<Fired, Trap>
     requires { MayRun p.now node (V.numbers seen.now) locals.now }
     ensures { IsExecution p.now node (V.numbers seen.now) locals.now result }

@@ -1,10 +1,11 @@
-//! Operators, functions and changes of scale on numbers: what is not sure to be in 64 bits is computed in 128, or tested as it is
-//! computed.
+//! Operators, functions and changes of scale on numbers: what is not sure to be in 64 bits is
+//! computed in 128, or tested as it is computed.
 
 ghost use Rattle.std.specs.Prelude.{◌≡◌, ◌≢◌, ◌≤◌, ◌^◌, pos, ◌≤ℤ◌, ◌+ℤ◌, ◌-ℤ◌, ◌*ℤ◌, neg_ℤ};
 ghost use Rattle.std.specs.Int.{int_min, int_max};
 ghost use Rattle.sot_lang.specs.declared.trap.TrapKind.TheVariants.{Wide};
-ghost use Rattle.sot_lang.specs.Values.{word, trap, quotient, floor_div, floor_by, apply, rescaled, truth, is_true};
+ghost use Rattle.sot_lang.specs.Values.{word, trap, quotient, floor_div, floor_by, apply, rescaled};
+ghost use Rattle.sot_lang.specs.Values.{truth, is_true};
 
 use sot_lang::{Trap, TrapKind, floor};
 use sot_text::Span;
@@ -104,7 +105,8 @@ pub fn holds(z: i64) -> bool
     z != 0
 }
 
-/// The result of an operator at two numbers. It is put in where it is called: a call would write and read an outcome.
+/// The result of an operator at two numbers. It is put in where it is called: a call would write
+/// and read an outcome.
 #[inline(always)]
 pub fn operate(op: Op, at: Span, a: i64, b: i64) -> Result<i64, Trap>
     ensures { result ≡ apply op at a b }
@@ -137,7 +139,8 @@ pub fn magnitude(at: Span, a: i64) -> Result<i64, Trap>
     fit(at, (a as i128).abs())
 }
 
-/// The number nearest to the first one between the other two, and the low end where it is above the high end.
+/// The number nearest to the first one between the other two, and the low end where it is above the
+/// high end.
 pub fn clamped(a: i64, l: i64, h: i64) -> i64
     ensures { result ≡ int_max l (int_min a h) }
 {

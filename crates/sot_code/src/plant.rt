@@ -50,8 +50,8 @@ fn point_of(terms: &[Term], numbers: &[i64]) -> Result<Point, Trap>
     Ok(Point::of(point).unwrap())
 }
 
-/// The plant's point after a tick from `state`, with the numbers of its inputs, of the states of the plants that it sees, one
-/// plant after another, and of its disturbances; or the first trap.
+/// The plant's point after a tick from `state`, with the numbers of its inputs, of the states of
+/// the plants that it sees, one plant after another, and of its disturbances; or the first trap.
 pub fn plant_next(
     p: &Typed,
     plant: u32,
@@ -74,8 +74,9 @@ pub fn plant_next(
     point_of(&info.next, numbers)
 }
 
-/// The plant's point after a tick, with the numbers of its names in one list: those of its state variables, of its inputs, of the
-/// states of the plants that it sees, one plant after another, and of its disturbances; or the first trap.
+/// The plant's point after a tick, with the numbers of its names in one list: those of its state
+/// variables, of its inputs, of the states of the plants that it sees, one plant after another, and
+/// of its disturbances; or the first trap.
 pub fn plant_next_over(p: &Typed, plant: u32, numbers: &[i64]) -> Result<Point, Trap>
     requires { MayTickOver p.now plant numbers.now }
     ensures { IsPointOver p.now plant numbers.now result }

@@ -1,7 +1,8 @@
 //! The value of an expression on numbers.
 
 ghost use Rattle.std.specs.Prelude.{◌≡◌, ◌≤◌, ◌≤ℤ◌, ◌-ℤ◌, ◌*ℤ◌, neg_ℤ, pos, false, not, Ok, length};
-ghost use Rattle.sot_lang.specs.Values.{value_of, then_with, word, truth, is_true, floor_div, rescaled as at_scale, called};
+ghost use Rattle.sot_lang.specs.Values.{value_of, then_with, word, truth, is_true, floor_div};
+ghost use Rattle.sot_lang.specs.Values.{rescaled as at_scale, called};
 ghost use Rattle.sot_lang.specs.Ticks.{values};
 ghost use Rattle.sot_tree.specs.Functions.{arity};
 ghost use Rattle.sot_lang.specs.TermPlaces.{HasPlaces, HavePlaces};
@@ -11,8 +12,8 @@ use sot_lang::{Term, Trap};
 use sot_text::Span;
 use sot_tree::Func;
 
-// The value of an expression, or the first trap. Numbers and names are answered first: a function pays at its entry for the room
-// that it needs.
+// The value of an expression, or the first trap. Numbers and names are answered first: a function
+// pays at its entry for the room that it needs.
 #[cycle(exact)]
 fn exact(term: &Term, numbers: &[i64]) -> Result<i64, Trap>
     requires { HasPlaces (length numbers.now) term.now }
@@ -25,8 +26,9 @@ fn exact(term: &Term, numbers: &[i64]) -> Result<i64, Trap>
     }
 }
 
-// The same, where the expression has parts. What has one part has a function of its own, with the room for the part's value.
-// Conditions come here at once, since a condition is hardly ever a number or a name.
+// The same, where the expression has parts. What has one part has a function of its own, with the
+// room for the part's value. Conditions come here at once, since a condition is hardly ever a
+// number or a name.
 #[cycle(exact)]
 fn compound(term: &Term, numbers: &[i64]) -> Result<i64, Trap>
     requires { HasPlaces (length numbers.now) term.now }
@@ -64,7 +66,8 @@ fn compound(term: &Term, numbers: &[i64]) -> Result<i64, Trap>
 fn remainder(left: &Term, by: i64, numbers: &[i64]) -> Result<i64, Trap>
     requires places { HasPlaces (length numbers.now) left.now }
     requires divisor { pos 1 ≤ℤ by }
-    ensures { result ≡ then_with (value_of left.now numbers.now) (λ x. Ok (x -ℤ (by *ℤ floor_div x by))) }
+    ensures { result ≡ then_with (value_of left.now numbers.now)
+        (λ x. Ok (x -ℤ (by *ℤ floor_div x by))) }
 {
     Ok(rest(exact(left, numbers)?, by))
 }
@@ -137,8 +140,8 @@ fn kept(outcome: Result<i64, Trap>, trapped: &mut bool) -> i64
     }
 }
 
-// The value of an expression, unless it traps: then the flag is set. A number is handed back in a register, where an outcome takes
-// room and a test at each operator.
+// The value of an expression, unless it traps: then the flag is set. A number is handed back in a
+// register, where an outcome takes room and a test at each operator.
 #[cycle(quick)]
 fn quick(term: &Term, numbers: &[i64], trapped: &mut bool) -> i64
     requires { HasPlaces (length numbers.now) term.now }
@@ -152,7 +155,8 @@ fn quick(term: &Term, numbers: &[i64], trapped: &mut bool) -> i64
     }
 }
 
-// The same, where the expression has parts. What is not an operator or a choice is left to the exact way.
+// The same, where the expression has parts. What is not an operator or a choice is left to the
+// exact way.
 #[cycle(quick)]
 fn quick_compound(term: &Term, numbers: &[i64], trapped: &mut bool) -> i64
     requires { HasPlaces (length numbers.now) term.now }

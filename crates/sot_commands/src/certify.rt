@@ -109,7 +109,7 @@ pub fn certify<R: Threads + Sync>(
     requires { length bytes.now ≤ input_limit }
     ensures { (guests : ℕ) → IfOk result (λ answer. Replies guests CertifyCommand bytes.now answer.status answer.text.items) }
 {
-    match parse(alloc, &mut Lexer::new(bytes)) {
+    match parse(alloc, &Lexer::new(bytes)) {
         Ok(program) => {
             let answer = certify_tree(rt, alloc, &program);
             let_go(program, process);

@@ -46,7 +46,7 @@ fn format(alloc: Global, bytes: &[u8], process: Process) -> Result<Answer, Alloc
     requires { length bytes.now ≤ INPUT_LIMIT }
     ensures { (guests : ℕ) → IfOk result (λ answer. Replies guests FormatCommand bytes.now answer.status answer.text.items) }
 {
-    match parse(alloc, &mut Lexer::new(bytes)) {
+    match parse(alloc, &Lexer::new(bytes)) {
         Ok(program) => {
             let answer = canonical(alloc, &program);
             let_go(program, process);

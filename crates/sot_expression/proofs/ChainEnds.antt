@@ -14,7 +14,8 @@ use Rattle.sot_expression.specs.ExpressionReaders.{Reader, Part, over, gone_on, 
 use Rattle.sot_expression.proofs.ReadSteps.{give}
 
 -- an operator that would nest too deep
-pub too_deep : (n room tier : ℕ) (right : Reader) (left : Part) (ts : List Lexeme) (o : Infix) → n ≢ 0 → infix_at tier ts ≡ Some o → room ≤ left.levels → chain_at n room tier right left ts ≡ Err (deep, ts)
+pub too_deep : (n room tier : ℕ) (right : Reader) (left : Part) (ts : List Lexeme) (o : Infix) → n ≢ 0 → infix_at tier ts ≡ Some o → room ≤ left.levels
+    → chain_at n room tier right left ts ≡ Err (deep, ts)
 unfolding chain_at
 too_deep zero room tier right left ts o some at le = absurd (some refl)
 too_deep (suc n) room tier right left ts o some at le =
@@ -23,20 +24,24 @@ too_deep (suc n) room tier right left ts o some at le =
     ∙ ap (λ b. cond b (joined_at o right left ts >>= λ p. chain_at n room tier right p.0 p.1) (Err (deep, ts))) small
 
 -- the same fault, of what stands in front
-pub fails_on : {A B : Type 0} (f : Fail) (after : List Lexeme) (m : Read A) (r : Read B) → ((e : Fault × List Lexeme) → m ≡ Err e → r ≡ Err e) → Fails f after m → Fails f after r
+pub fails_on : {A B : Type 0} (f : Fail) (after : List Lexeme) (m : Read A) (r : Read B) → ((e : Fault × List Lexeme) → m ≡ Err e → r ≡ Err e) → Fails f after m
+    → Fails f after r
 fails_on Token after m r on is = on _ is
 fails_on Deep after m r on is = on _ is
 fails_on Memory after m r on is = tt
 
 -- what is read of a call of three parts
 abbrev clamp_of : Lexeme → Part → Part × Part → Part
-clamp_of word a more = over (called Clamp (one_more a.tree (one_more more.0.tree (one_more more.1.tree no_tree))) word.at) (max a.levels (max more.0.levels more.1.levels))
+clamp_of word a more =
+    over (called Clamp (one_more a.tree (one_more more.0.tree (one_more more.1.tree no_tree))) word.at) (max a.levels (max more.0.levels more.1.levels))
 
-pub clamp_stops : (part : Reader) (ts : List Lexeme) (word : Lexeme × List Lexeme) (a : Part × List Lexeme) → any_token ts ≡ Ok word → opened_at part word.1 ≡ Ok a → (e : Fault × List Lexeme) → limits_at part a.1 ≡ Err e → clamp_at part ts ≡ Err e
+pub clamp_stops : (part : Reader) (ts : List Lexeme) (word : Lexeme × List Lexeme) (a : Part × List Lexeme) → any_token ts ≡ Ok word
+    → opened_at part word.1 ≡ Ok a → (e : Fault × List Lexeme) → limits_at part a.1 ≡ Err e → clamp_at part ts ≡ Err e
 unfolding clamp_at
 clamp_stops part ts word a w x e stopped = give w _ _ (give x _ _ (ap (λ m. m >>= λ more. Ok (clamp_of word.0 a.0 more.0, more.1)) stopped))
 
-pub clamp_made : (part : Reader) (ts : List Lexeme) (word : Lexeme × List Lexeme) (a : Part × List Lexeme) (more : (Part × Part) × List Lexeme) → any_token ts ≡ Ok word → opened_at part word.1 ≡ Ok a → limits_at part a.1 ≡ Ok more
+pub clamp_made : (part : Reader) (ts : List Lexeme) (word : Lexeme × List Lexeme) (a : Part × List Lexeme) (more : (Part × Part) × List Lexeme)
+    → any_token ts ≡ Ok word → opened_at part word.1 ≡ Ok a → limits_at part a.1 ≡ Ok more
     → clamp_at part ts ≡ Ok (clamp_of word.0 a.0 more.0, more.1)
 unfolding clamp_at
 clamp_made part ts word a more w x y = give w _ _ (give x _ _ (give y _ _ refl))

@@ -1,5 +1,6 @@
 -- Operators of one tier are read, one after another.
-use Rattle.std.proofs.Common.{◌≡◌, ℕ, ◌⊎◌, cond, zero, suc, ◌+◌, ◌<◌, ◌≤◌, max, nat_lt, nat_le, List, ◌∷◌, Bool, true, false, inl, inr, codes, None, Ok, Err, refl, sym, ap, subst, ◌∙◌, arith}
+use Rattle.std.proofs.Common.{◌≡◌, ℕ, ◌⊎◌, cond, zero, suc, ◌+◌, ◌<◌, ◌≤◌, max, nat_lt, nat_le, List, ◌∷◌, Bool, true, false, inl, inr, codes, None, Ok, Err}
+use Rattle.std.proofs.Common.{refl, sym, ap, subst, ◌∙◌, arith}
 use Rattle.std.proofs.lemmas.Bool.{cases_Bool}
 use Rattle.std.proofs.lemmas.Bool.Decides.{nat_tests}
 use Rattle.sot_text.specs.Reading.{Lexeme}
@@ -10,7 +11,8 @@ use Rattle.sot_expression.specs.Lexemes.{IsSign, IsNumber, is_number, literal}
 use Rattle.sot_expression.specs.Readers.{Read, ◌>>=◌, stuck, deep, number_at}
 use Rattle.sot_expression.specs.Operators.{tier_of_op, infix_at}
 use Rattle.sot_expression.specs.ExpressionReaders.{Part, Reader, over, operation_at, remainder_at, joined_at, gone_on, chain_at}
-use Rattle.sot_expression.specs.Phrases.{Phrase, a_number, a_truth, a_name, a_field, a_group, an_abs, a_pair, a_clamp, a_rescale, a_minus, a_rest, a_join, a_not, an_if, spelled, tier_of, IsOperator, left_tier, IsPhrase, tree_of, levels_of, part_of}
+use Rattle.sot_expression.specs.Phrases.{Phrase, a_number, a_truth, a_name, a_field, a_group, an_abs, a_pair, a_clamp, a_rescale, a_minus, a_rest, a_join}
+use Rattle.sot_expression.specs.Phrases.{a_not, an_if, spelled, tier_of, IsOperator, left_tier, IsPhrase, tree_of, levels_of, part_of}
 use Rattle.sot_expression.proofs.TokenTests.{number_is, join_is, rest_is, infix_is}
 use Rattle.sot_expression.proofs.Founds.{FitsIn}
 use Rattle.sot_expression.proofs.FirstTokens.{StopsAt, stops_lower, join_stops, rest_stops, some_levels, left_below}
@@ -20,7 +22,8 @@ step m f x y e h = ap (λ n. n >>= f) e ∙ h
 
 -- every phrase of this tier is read, where no operator goes on with it
 abbrev pub ReadsAll : ℕ → ℕ → Bool → Reader → Type 0
-ReadsAll k room held g = (f : Phrase) → IsPhrase f → tier_of f ≤ k → FitsIn room held f → (ts : List Lexeme) → StopsAt k ts → g (spelled f ts) ≡ Ok (part_of f, ts)
+ReadsAll k room held g =
+    (f : Phrase) → IsPhrase f → tier_of f ≤ k → FitsIn room held f → (ts : List Lexeme) → StopsAt k ts → g (spelled f ts) ≡ Ok (part_of f, ts)
 
 pub number_read : (n : Lexeme) (ts : List Lexeme) → IsNumber n → number_at (n ∷ ts) ≡ Ok (literal n, ts)
 number_read n ts h = ap (λ b. cond b (Ok (literal n, ts)) (Err (stuck, n ∷ ts))) (ap is_number (number_is n h))
@@ -39,7 +42,8 @@ pub unheld : (room : ℕ) (f : Phrase) → levels_of f ≤ room → FitsIn room 
 unheld room f le = (le, λ held _. absurd cc)
 
 -- one operator and its right part
-join_turn : (r m k : ℕ) (right : Reader) → ReadsAll k r false right → (op : Op) (l : Phrase) (t : Lexeme) (g : Phrase) (ts : List Lexeme) → IsOperator op t → tier_of_op op ≡ suc k → IsPhrase g → tier_of g ≤ k
+join_turn : (r m k : ℕ) (right : Reader) → ReadsAll k r false right → (op : Op) (l : Phrase) (t : Lexeme) (g : Phrase) (ts : List Lexeme) → IsOperator op t
+    → tier_of_op op ≡ suc k → IsPhrase g → tier_of g ≤ k
     → levels_of l < suc r → levels_of g ≤ r → StopsAt k ts
     → chain_at (suc m) (suc r) (suc k) right (part_of l) (t ∷ spelled g ts) ≡ chain_at m (suc r) (suc k) right (part_of (a_join op l t g)) ts
 unfolding chain_at joined_at operation_at
@@ -47,9 +51,11 @@ join_turn r m k right reads op l t g ts word tier is low less fits stops =
     let found = infix_is (suc k) t (spelled g ts) (Joins op) (join_is op t word) tier in
     let small : nat_lt (levels_of l) (suc r) ≡ true = grind (arith, nat_tests) in
     let turns : Read Part = joined_at (Joins op) right (part_of l) (t ∷ spelled g ts) >>= λ p. chain_at m (suc r) (suc k) right p.0 p.1 in
-    ap (λ o. gone_on (suc r) (λ o. joined_at o right (part_of l) (t ∷ spelled g ts) >>= λ p. chain_at m (suc r) (suc k) right p.0 p.1) o (part_of l) (t ∷ spelled g ts)) found
+    ap (λ o. gone_on (suc r) (λ o. joined_at o right (part_of l) (t ∷ spelled g ts) >>= λ p. chain_at m (suc r) (suc k) right p.0 p.1) o (part_of l)
+    (t ∷ spelled g ts)) found
     ∙ ap (λ b. cond b turns (Err (deep, t ∷ spelled g ts))) small
-    ∙ ap (λ q. (q >>= λ p. Ok (over (binary op (tree_of l) p.0.tree t.at) (max (levels_of l) p.0.levels), p.1)) >>= λ p. chain_at m (suc r) (suc k) right p.0 p.1) (reads g is low (unheld r g fits) ts stops)
+    ∙ ap (λ q. (q >>= λ p. Ok (over (binary op (tree_of l) p.0.tree t.at) (max (levels_of l) p.0.levels), p.1)) >>= λ p.
+    chain_at m (suc r) (suc k) right p.0 p.1) (reads g is low (unheld r g fits) ts stops)
 
 rest_turn : (r m k : ℕ) (right : Reader) (l : Phrase) (t n : Lexeme) (ts : List Lexeme) → IsSign (codes "%") t → 1 ≡ suc k → IsNumber n → levels_of l < suc r
     → chain_at (suc m) (suc r) (suc k) right (part_of l) (t ∷ n ∷ ts) ≡ chain_at m (suc r) (suc k) right (part_of (a_rest l t n)) ts
@@ -58,7 +64,8 @@ rest_turn r m k right l t n ts word tier is less =
     let found = infix_is (suc k) t (n ∷ ts) Rests (rest_is t word) tier in
     let small : nat_lt (levels_of l) (suc r) ≡ true = grind (arith, nat_tests) in
     let turns : Read Part = joined_at Rests right (part_of l) (t ∷ n ∷ ts) >>= λ p. chain_at m (suc r) (suc k) right p.0 p.1 in
-    ap (λ o. gone_on (suc r) (λ o. joined_at o right (part_of l) (t ∷ n ∷ ts) >>= λ p. chain_at m (suc r) (suc k) right p.0 p.1) o (part_of l) (t ∷ n ∷ ts)) found
+    ap (λ o. gone_on (suc r) (λ o. joined_at o right (part_of l) (t ∷ n ∷ ts) >>= λ p. chain_at m (suc r) (suc k) right p.0 p.1) o (part_of l) (t ∷ n ∷ ts))
+    found
     ∙ ap (λ b. cond b turns (Err (deep, t ∷ n ∷ ts))) small
     ∙ ap (λ q. (q >>= λ by. Ok (over (rest (tree_of l) by.0 t.at) (levels_of l), by.1)) >>= λ p. chain_at m (suc r) (suc k) right p.0 p.1) (number_read n ts is)
 
@@ -80,7 +87,8 @@ pub record Leads (k r : ℕ) (here right : Reader) (f : Phrase) (ts : List Lexem
   pub enough : suc r + 1 ≤ left + levels_of f
   pub same : (here (spelled f ts) >>= λ p. chain_at (suc r) (suc r) (suc k) right p.0 p.1) ≡ chain_at left (suc r) (suc k) right (part_of f) ts
 
-lower : (k r : ℕ) (held : Bool) (here right : Reader) → Chain k r held here right → (f : Phrase) → IsPhrase f → tier_of f ≤ k → FitsIn (suc r) held f → (ts : List Lexeme) → StopsAt k ts → Leads k r here right f ts
+lower : (k r : ℕ) (held : Bool) (here right : Reader) → Chain k r held here right → (f : Phrase) → IsPhrase f → tier_of f ≤ k → FitsIn (suc r) held f
+    → (ts : List Lexeme) → StopsAt k ts → Leads k r here right f ts
 lower k r held here right c f is low fits ts stops = record {
   left = suc r;
   enough = omega (arith, some_levels f);
@@ -91,17 +99,21 @@ some_turn : (n r a : ℕ) → suc r + 1 ≤ n + a → a < suc r → (m : ℕ) ×
 some_turn zero r a h less = absurd (omega (arith, h, less))
 some_turn (suc m) r a h less = (m, refl)
 
-lead_join : (k r : ℕ) (held : Bool) (here right : Reader) → Chain k r held here right → (op : Op) (l : Phrase) (t : Lexeme) (g : Phrase) (ts : List Lexeme) → IsOperator op t → tier_of_op op ≡ suc k → IsPhrase g → tier_of g ≤ k
+lead_join : (k r : ℕ) (held : Bool) (here right : Reader) → Chain k r held here right → (op : Op) (l : Phrase) (t : Lexeme) (g : Phrase) (ts : List Lexeme)
+    → IsOperator op t → tier_of_op op ≡ suc k → IsPhrase g → tier_of g ≤ k
     → levels_of (a_join op l t g) ≤ suc r → StopsAt k ts → Leads k r here right l (t ∷ spelled g ts) → Leads k r here right (a_join op l t g) ts
 lead_join k r held here right c op l t g ts word tier is low fits stops before =
     let less : levels_of l < suc r = omega (arith, fits) in
     let m = some_turn before.left r (levels_of l) before.enough less in record {
       left = m.0;
       enough = omega (arith, before.enough, m.1);
-      same = before.same ∙ ap (λ n. chain_at n (suc r) (suc k) right (part_of l) (t ∷ spelled g ts)) m.1 ∙ join_turn r m.0 k right c.all_right op l t g ts word tier is low less (omega (arith, fits)) stops;
+      same =
+          before.same ∙ ap (λ n. chain_at n (suc r) (suc k) right (part_of l) (t ∷ spelled g ts)) m.1
+          ∙ join_turn r m.0 k right c.all_right op l t g ts word tier is low less (omega (arith, fits)) stops;
     }
 
-lead_rest : (k r : ℕ) (here right : Reader) (l : Phrase) (t n : Lexeme) (ts : List Lexeme) → IsSign (codes "%") t → 1 ≡ suc k → IsNumber n → levels_of (a_rest l t n) ≤ suc r → Leads k r here right l (t ∷ n ∷ ts) → Leads k r here right (a_rest l t n) ts
+lead_rest : (k r : ℕ) (here right : Reader) (l : Phrase) (t n : Lexeme) (ts : List Lexeme) → IsSign (codes "%") t → 1 ≡ suc k → IsNumber n
+    → levels_of (a_rest l t n) ≤ suc r → Leads k r here right l (t ∷ n ∷ ts) → Leads k r here right (a_rest l t n) ts
 lead_rest k r here right l t n ts word tier is fits before =
     let less : levels_of l < suc r = omega (arith, fits) in
     let m = some_turn before.left r (levels_of l) before.enough less in record {
@@ -110,7 +122,8 @@ lead_rest k r here right l t n ts word tier is fits before =
       same = before.same ∙ ap (λ a. chain_at a (suc r) (suc k) right (part_of l) (t ∷ n ∷ ts)) m.1 ∙ rest_turn r m.0 k right l t n ts word tier is less;
     }
 
-lead : (k r : ℕ) (held : Bool) (here right : Reader) → Chain k r held here right → (f : Phrase) → IsPhrase f → tier_of f ≤ suc k → FitsIn (suc r) held f → (ts : List Lexeme) → StopsAt k ts → Leads k r here right f ts
+lead : (k r : ℕ) (held : Bool) (here right : Reader) → Chain k r held here right → (f : Phrase) → IsPhrase f → tier_of f ≤ suc k → FitsIn (suc r) held f
+    → (ts : List Lexeme) → StopsAt k ts → Leads k r here right f ts
 lead k r held here right c (a_number n) is le fits ts stops = lower k r held here right c (a_number n) is (omega arith) fits ts stops
 lead k r held here right c (a_truth value t) is le fits ts stops = lower k r held here right c (a_truth value t) is (omega arith) fits ts stops
 lead k r held here right c (a_name n) is le fits ts stops = lower k r held here right c (a_name n) is (omega arith) fits ts stops
@@ -136,7 +149,8 @@ lead k r held here right c (a_rest f t n) is le fits ts stops =
       | inl low ↦ lower k r held here right c (a_rest f t n) is low fits ts stops
       | inr top ↦
           lead_rest k r here right f t n ts is.2 top is.3 fits.0
-          (lead k r held here right c f is.0 (omega (arith, is.1, top)) (left_fits (suc r) held f (omega (arith, fits.0))) (t ∷ n ∷ ts) (rest_stops k t (n ∷ ts) is.2 top))
+          (lead k r held here right c f is.0 (omega (arith, is.1, top)) (left_fits (suc r) held f (omega (arith, fits.0))) (t ∷ n ∷ ts)
+          (rest_stops k t (n ∷ ts) is.2 top))
     ]
 lead k r held here right c (a_join op f t g) is le fits ts stops =
     elim (at_most_or (tier_of_op op) k le) [
@@ -144,17 +158,21 @@ lead k r held here right c (a_join op f t g) is le fits ts stops =
       | inr top ↦
           let left_low = subst (λ j. tier_of f ≤ left_tier j) top is.1 in
           lead_join k r held here right c op f t g ts is.2 top is.3 (omega (arith, is.4, top)) fits.0 stops
-          (lead k r held here right c f is.0 (left_below k (tier_of f) left_low) (left_fits (suc r) held f (omega (arith, fits.0))) (t ∷ spelled g ts) (join_stops k op t (spelled g ts) is.2 top))
+          (lead k r held here right c f is.0 (left_below k (tier_of f) left_low) (left_fits (suc r) held f (omega (arith, fits.0))) (t ∷ spelled g ts)
+          (join_stops k op t (spelled g ts) is.2 top))
     ]
 
 -- a tier of operators reads every phrase of it
-pub chain_all : (k r : ℕ) (held : Bool) (here right : Reader) → Chain k r held here right → ReadsAll (suc k) (suc r) held (λ ts. here ts >>= λ p. chain_at (suc r) (suc r) (suc k) right p.0 p.1)
+pub chain_all : (k r : ℕ) (held : Bool) (here right : Reader) → Chain k r held here right
+    → ReadsAll (suc k) (suc r) held (λ ts. here ts >>= λ p. chain_at (suc r) (suc r) (suc k) right p.0 p.1)
 chain_all k r held here right c f is le fits ts stops =
     let l = lead k r held here right c f is le fits ts (stops_lower k (suc k) ts (omega arith) stops) in
     l.same ∙ chain_stops l.left (suc r) (suc k) right (part_of f) ts (stops.0 (suc k) (omega arith))
 
 -- a comparison, which does not go on
-comparison : (r : ℕ) (held : Bool) (here right : Reader) → ReadsAll 2 (suc r) held here → ReadsAll 2 r false right → (op : Op) (l : Phrase) (t : Lexeme) (g : Phrase) (ts : List Lexeme) → IsPhrase (a_join op l t g) → tier_of_op op ≡ 3 → levels_of (a_join op l t g) ≤ suc r → StopsAt 2 ts
+comparison : (r : ℕ) (held : Bool) (here right : Reader) → ReadsAll 2 (suc r) held here → ReadsAll 2 r false right
+    → (op : Op) (l : Phrase) (t : Lexeme) (g : Phrase) (ts : List Lexeme) → IsPhrase (a_join op l t g) → tier_of_op op ≡ 3 → levels_of (a_join op l t g) ≤ suc r
+    → StopsAt 2 ts
     → (here (spelled (a_join op l t g) ts) >>= λ p. chain_at 1 (suc r) 3 right p.0 p.1) ≡ Ok (part_of (a_join op l t g), ts)
 unfolding chain_at
 comparison r held here right all_here all_right op l t g ts is tier fits stops =
@@ -164,23 +182,28 @@ comparison r held here right all_here all_right op l t g ts is tier fits stops =
     (all_here l is.0 left_low (left_fits (suc r) held l less) (t ∷ spelled g ts) (join_stops 2 op t (spelled g ts) is.2 tier))
     (join_turn r 0 2 right all_right op l t g ts is.2 tier is.3 (omega (arith, is.4, tier)) less (omega (arith, fits)) stops)
 
-alone : (r : ℕ) (held : Bool) (here right : Reader) → ReadsAll 2 (suc r) held here → (f : Phrase) → IsPhrase f → tier_of f ≤ 2 → FitsIn (suc r) held f → (ts : List Lexeme) → StopsAt 3 ts
+alone : (r : ℕ) (held : Bool) (here right : Reader) → ReadsAll 2 (suc r) held here → (f : Phrase) → IsPhrase f → tier_of f ≤ 2 → FitsIn (suc r) held f
+    → (ts : List Lexeme) → StopsAt 3 ts
     → (here (spelled f ts) >>= λ p. chain_at 1 (suc r) 3 right p.0 p.1) ≡ Ok (part_of f, ts)
 alone r held here right all_here f is low fits ts stops =
     step (here (spelled f ts)) (λ p. chain_at 1 (suc r) 3 right p.0 p.1) (part_of f, ts) (Ok (part_of f, ts))
     (all_here f is low fits ts (stops_lower 2 3 ts (omega arith) stops))
     (chain_stops 1 (suc r) 3 right (part_of f) ts (stops.0 3 (omega arith)))
 
-pub comparisons_all : (r : ℕ) (held : Bool) (here right : Reader) → ReadsAll 2 (suc r) held here → ReadsAll 2 r false right → ReadsAll 3 (suc r) held (λ ts. here ts >>= λ p. chain_at 1 (suc r) 3 right p.0 p.1)
+pub comparisons_all : (r : ℕ) (held : Bool) (here right : Reader) → ReadsAll 2 (suc r) held here → ReadsAll 2 r false right
+    → ReadsAll 3 (suc r) held (λ ts. here ts >>= λ p. chain_at 1 (suc r) 3 right p.0 p.1)
 comparisons_all r held here right a b (a_number n) is le fits ts stops = alone r held here right a (a_number n) is (omega arith) fits ts stops
 comparisons_all r held here right a b (a_truth value t) is le fits ts stops = alone r held here right a (a_truth value t) is (omega arith) fits ts stops
 comparisons_all r held here right a b (a_name n) is le fits ts stops = alone r held here right a (a_name n) is (omega arith) fits ts stops
 comparisons_all r held here right a b (a_field n dot f) is le fits ts stops = alone r held here right a (a_field n dot f) is (omega arith) fits ts stops
 comparisons_all r held here right a b (a_group o f u) is le fits ts stops = alone r held here right a (a_group o f u) is (omega arith) fits ts stops
 comparisons_all r held here right a b (an_abs w o f u) is le fits ts stops = alone r held here right a (an_abs w o f u) is (omega arith) fits ts stops
-comparisons_all r held here right a b (a_pair func w o f d g u) is le fits ts stops = alone r held here right a (a_pair func w o f d g u) is (omega arith) fits ts stops
-comparisons_all r held here right a b (a_clamp w o f d g e h u) is le fits ts stops = alone r held here right a (a_clamp w o f d g e h u) is (omega arith) fits ts stops
-comparisons_all r held here right a b (a_rescale w o f d n u) is le fits ts stops = alone r held here right a (a_rescale w o f d n u) is (omega arith) fits ts stops
+comparisons_all r held here right a b (a_pair func w o f d g u) is le fits ts stops =
+    alone r held here right a (a_pair func w o f d g u) is (omega arith) fits ts stops
+comparisons_all r held here right a b (a_clamp w o f d g e h u) is le fits ts stops =
+    alone r held here right a (a_clamp w o f d g e h u) is (omega arith) fits ts stops
+comparisons_all r held here right a b (a_rescale w o f d n u) is le fits ts stops =
+    alone r held here right a (a_rescale w o f d n u) is (omega arith) fits ts stops
 comparisons_all r held here right a b (a_minus t f) is le fits ts stops = alone r held here right a (a_minus t f) is (omega arith) fits ts stops
 comparisons_all r held here right a b (a_rest f t n) is le fits ts stops = alone r held here right a (a_rest f t n) is (omega arith) fits ts stops
 comparisons_all r held here right a b (a_not t f) is le fits ts stops = absurd (omega (arith, le))

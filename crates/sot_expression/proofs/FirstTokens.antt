@@ -11,7 +11,8 @@ use Rattle.sot_expression.specs.declared.operators.Infix.{Infix}
 use Rattle.sot_expression.specs.declared.operators.Infix.TheVariants.{Joins, Rests}
 use Rattle.sot_expression.specs.Lexemes.{IsKeyword, IsSign, IsName, IsNumber, begins, is_sign, is_keyword, is_number}
 use Rattle.sot_expression.specs.Operators.{operator_of, tier_of_op, tier_of_infix, of_tier, infix_at}
-use Rattle.sot_expression.specs.Phrases.{Phrase, a_number, a_truth, a_name, a_field, a_group, an_abs, a_pair, a_clamp, a_rescale, a_minus, a_rest, a_join, a_not, an_if, spelled, tier_of, IsTruth, IsPairWord, IsOperator, left_tier, IsPhrase, is_numeral, levels_of, Stops}
+use Rattle.sot_expression.specs.Phrases.{Phrase, a_number, a_truth, a_name, a_field, a_group, an_abs, a_pair, a_clamp, a_rescale, a_minus, a_rest, a_join}
+use Rattle.sot_expression.specs.Phrases.{a_not, an_if, spelled, tier_of, IsTruth, IsPairWord, IsOperator, left_tier, IsPhrase, is_numeral, levels_of, Stops}
 use Rattle.sot_expression.proofs.TokenTests.{sign_is, keyword_is, name_is, number_is, join_is, rest_is}
 
 -- no operator of these tiers comes, and no point
@@ -61,7 +62,8 @@ pub of_tier_other : (j : ℕ) (o : Infix) → (tier_of_infix o ≡ j → ⊥) �
 of_tier_other j o other = let test : (tier_of_infix o == j) ≡ false = grind (arith, nat_tests) in ap (λ b. cond b (Some o) None) test
 
 -- an operator stops what binds tighter
-operator_stops : (k : ℕ) (o : Infix) (t : Lexeme) (ts : List Lexeme) → operator_of t ≡ Some o → tier_of_infix o ≡ suc k → is_sign (codes ".") t ≡ false → StopsAt k (t ∷ ts)
+operator_stops : (k : ℕ) (o : Infix) (t : Lexeme) (ts : List Lexeme) → operator_of t ≡ Some o → tier_of_infix o ≡ suc k → is_sign (codes ".") t ≡ false
+    → StopsAt k (t ∷ ts)
 operator_stops k o t ts is tier point = (λ j le. ap (of_tier j) is ∙ of_tier_other j o (λ same. omega (arith, same, tier, le)), point)
 
 pub join_stops : (k : ℕ) (op : Op) (t : Lexeme) (ts : List Lexeme) → IsOperator op t → tier_of_op op ≡ suc k → StopsAt k (t ∷ ts)
@@ -157,26 +159,31 @@ left_most zero a le = le
 left_most (suc k) a le = left_below k a le
 
 -- the word of a call is no other word
-pair_word : (func : Func) (w : Lexeme) (test : Lexeme → Bool) (b : Bool) → IsPairWord func w → (IsKeyword (codes "min") w → test w ≡ b) → (IsKeyword (codes "max") w → test w ≡ b) → test w ≡ b
+pair_word : (func : Func) (w : Lexeme) (test : Lexeme → Bool) (b : Bool) → IsPairWord func w → (IsKeyword (codes "min") w → test w ≡ b)
+    → (IsKeyword (codes "max") w → test w ≡ b) → test w ≡ b
 pair_word Min w test b h f g = f h
 pair_word Max w test b h f g = g h
 pair_word Abs w test b h f g = absurd h
 pair_word Clamp w test b h f g = absurd h
 
-truth_word : (value : Bool) (t : Lexeme) (test : Lexeme → Bool) (b : Bool) → IsTruth value t → (IsKeyword (codes "true") t → test t ≡ b) → (IsKeyword (codes "false") t → test t ≡ b) → test t ≡ b
+truth_word : (value : Bool) (t : Lexeme) (test : Lexeme → Bool) (b : Bool) → IsTruth value t → (IsKeyword (codes "true") t → test t ≡ b)
+    → (IsKeyword (codes "false") t → test t ≡ b) → test t ≡ b
 truth_word true t test b h f g = f h
 truth_word false t test b h f g = g h
 
 -- a comparison and what binds tighter does not begin with `not`
 pub no_not : (f : Phrase) (us : List Lexeme) → IsPhrase f → tier_of f ≤ 3 → begins (is_keyword (codes "not")) (spelled f us) ≡ false
 no_not (a_number n) us is le = ap (is_keyword (codes "not")) (number_is n is)
-no_not (a_truth value t) us is le = truth_word value t (is_keyword (codes "not")) false is (λ h. ap (is_keyword (codes "not")) (keyword_is (codes "true") t h)) (λ h. ap (is_keyword (codes "not")) (keyword_is (codes "false") t h))
+no_not (a_truth value t) us is le =
+    truth_word value t (is_keyword (codes "not")) false is (λ h. ap (is_keyword (codes "not")) (keyword_is (codes "true") t h))
+    (λ h. ap (is_keyword (codes "not")) (keyword_is (codes "false") t h))
 no_not (a_name n) us is le = ap (is_keyword (codes "not")) (name_is n is)
 no_not (a_field n dot f) us is le = ap (is_keyword (codes "not")) (name_is n is.0)
 no_not (a_group open_ f close) us is le = ap (is_keyword (codes "not")) (sign_is (codes "(") open_ is.0)
 no_not (an_abs w open_ f close) us is le = ap (is_keyword (codes "not")) (keyword_is (codes "abs") w is.0)
 no_not (a_pair func w open_ f comma g close) us is le =
-    pair_word func w (is_keyword (codes "not")) false is.0 (λ h. ap (is_keyword (codes "not")) (keyword_is (codes "min") w h)) (λ h. ap (is_keyword (codes "not")) (keyword_is (codes "max") w h))
+    pair_word func w (is_keyword (codes "not")) false is.0 (λ h. ap (is_keyword (codes "not")) (keyword_is (codes "min") w h))
+    (λ h. ap (is_keyword (codes "not")) (keyword_is (codes "max") w h))
 no_not (a_clamp w open_ f comma g comma2 h close) us is le = ap (is_keyword (codes "not")) (keyword_is (codes "clamp") w is.0)
 no_not (a_rescale w open_ f comma n close) us is le = ap (is_keyword (codes "not")) (keyword_is (codes "rescale") w is.0)
 no_not (a_minus t f) us is le = ap (is_keyword (codes "not")) (sign_is (codes "-") t is.0)
@@ -188,13 +195,16 @@ no_not (an_if t c u f v g) us is le = absurd (omega (arith, le))
 -- only a whole expression begins with `if`
 pub no_if : (f : Phrase) (us : List Lexeme) → IsPhrase f → tier_of f ≤ 6 → begins (is_keyword (codes "if")) (spelled f us) ≡ false
 no_if (a_number n) us is le = ap (is_keyword (codes "if")) (number_is n is)
-no_if (a_truth value t) us is le = truth_word value t (is_keyword (codes "if")) false is (λ h. ap (is_keyword (codes "if")) (keyword_is (codes "true") t h)) (λ h. ap (is_keyword (codes "if")) (keyword_is (codes "false") t h))
+no_if (a_truth value t) us is le =
+    truth_word value t (is_keyword (codes "if")) false is (λ h. ap (is_keyword (codes "if")) (keyword_is (codes "true") t h))
+    (λ h. ap (is_keyword (codes "if")) (keyword_is (codes "false") t h))
 no_if (a_name n) us is le = ap (is_keyword (codes "if")) (name_is n is)
 no_if (a_field n dot f) us is le = ap (is_keyword (codes "if")) (name_is n is.0)
 no_if (a_group open_ f close) us is le = ap (is_keyword (codes "if")) (sign_is (codes "(") open_ is.0)
 no_if (an_abs w open_ f close) us is le = ap (is_keyword (codes "if")) (keyword_is (codes "abs") w is.0)
 no_if (a_pair func w open_ f comma g close) us is le =
-    pair_word func w (is_keyword (codes "if")) false is.0 (λ h. ap (is_keyword (codes "if")) (keyword_is (codes "min") w h)) (λ h. ap (is_keyword (codes "if")) (keyword_is (codes "max") w h))
+    pair_word func w (is_keyword (codes "if")) false is.0 (λ h. ap (is_keyword (codes "if")) (keyword_is (codes "min") w h))
+    (λ h. ap (is_keyword (codes "if")) (keyword_is (codes "max") w h))
 no_if (a_clamp w open_ f comma g comma2 h close) us is le = ap (is_keyword (codes "if")) (keyword_is (codes "clamp") w is.0)
 no_if (a_rescale w open_ f comma n close) us is le = ap (is_keyword (codes "if")) (keyword_is (codes "rescale") w is.0)
 no_if (a_minus t f) us is le = ap (is_keyword (codes "if")) (sign_is (codes "-") t is.0)
@@ -206,12 +216,14 @@ no_if (an_if t c u f v g) us is le = absurd (omega (arith, le))
 -- an operand that is no number does not begin with one
 pub no_number : (f : Phrase) (us : List Lexeme) → IsPhrase f → tier_of f ≡ 0 → is_numeral f ≡ false → begins is_number (spelled f us) ≡ false
 no_number (a_number n) us is low no_ = absurd cc
-no_number (a_truth value t) us is low no_ = truth_word value t is_number false is (λ h. ap is_number (keyword_is (codes "true") t h)) (λ h. ap is_number (keyword_is (codes "false") t h))
+no_number (a_truth value t) us is low no_ =
+    truth_word value t is_number false is (λ h. ap is_number (keyword_is (codes "true") t h)) (λ h. ap is_number (keyword_is (codes "false") t h))
 no_number (a_name n) us is low no_ = ap is_number (name_is n is)
 no_number (a_field n dot f) us is low no_ = ap is_number (name_is n is.0)
 no_number (a_group open_ f close) us is low no_ = ap is_number (sign_is (codes "(") open_ is.0)
 no_number (an_abs w open_ f close) us is low no_ = ap is_number (keyword_is (codes "abs") w is.0)
-no_number (a_pair func w open_ f comma g close) us is low no_ = pair_word func w is_number false is.0 (λ h. ap is_number (keyword_is (codes "min") w h)) (λ h. ap is_number (keyword_is (codes "max") w h))
+no_number (a_pair func w open_ f comma g close) us is low no_ =
+    pair_word func w is_number false is.0 (λ h. ap is_number (keyword_is (codes "min") w h)) (λ h. ap is_number (keyword_is (codes "max") w h))
 no_number (a_clamp w open_ f comma g comma2 h close) us is low no_ = ap is_number (keyword_is (codes "clamp") w is.0)
 no_number (a_rescale w open_ f comma n close) us is low no_ = ap is_number (keyword_is (codes "rescale") w is.0)
 no_number (a_minus t f) us is low no_ = ap is_number (sign_is (codes "-") t is.0)
@@ -231,10 +243,14 @@ pub group_no_minus : (t : Lexeme) → IsSign (codes "(") t → is_sign (codes "-
 group_no_minus t h = ap (is_sign (codes "-")) (sign_is (codes "(") t h)
 
 pub truth_no_minus : (value : Bool) (t : Lexeme) → IsTruth value t → is_sign (codes "-") t ≡ false
-truth_no_minus value t is = truth_word value t (is_sign (codes "-")) false is (λ h. ap (is_sign (codes "-")) (keyword_is (codes "true") t h)) (λ h. ap (is_sign (codes "-")) (keyword_is (codes "false") t h))
+truth_no_minus value t is =
+    truth_word value t (is_sign (codes "-")) false is (λ h. ap (is_sign (codes "-")) (keyword_is (codes "true") t h))
+    (λ h. ap (is_sign (codes "-")) (keyword_is (codes "false") t h))
 
 pub pair_no_minus : (func : Func) (w : Lexeme) → IsPairWord func w → is_sign (codes "-") w ≡ false
-pair_no_minus func w is = pair_word func w (is_sign (codes "-")) false is (λ h. ap (is_sign (codes "-")) (keyword_is (codes "min") w h)) (λ h. ap (is_sign (codes "-")) (keyword_is (codes "max") w h))
+pair_no_minus func w is =
+    pair_word func w (is_sign (codes "-")) false is (λ h. ap (is_sign (codes "-")) (keyword_is (codes "min") w h))
+    (λ h. ap (is_sign (codes "-")) (keyword_is (codes "max") w h))
 
 pub abs_no_minus : (t : Lexeme) → IsKeyword (codes "abs") t → is_sign (codes "-") t ≡ false
 abs_no_minus t h = ap (is_sign (codes "-")) (keyword_is (codes "abs") t h)

@@ -12,7 +12,8 @@ use Rattle.sot_expression.proofs.TokenTests.{sign_ok, keyword_ok, name_ok, numbe
 abbrev pub ok : {A : Type 0} → A × List Lexeme → Read A
 ok x = Ok x
 
-pub bind_ok : {A B : Type 0} (m : Read A) (f : A × List Lexeme → Read B) (y : B × List Lexeme) → (m >>= f) ≡ Ok y → (x : A × List Lexeme) × (m ≡ Ok x) × (f x ≡ Ok y)
+pub bind_ok : {A B : Type 0} (m : Read A) (f : A × List Lexeme → Read B) (y : B × List Lexeme) → (m >>= f) ≡ Ok y
+    → (x : A × List Lexeme) × (m ≡ Ok x) × (f x ≡ Ok y)
 bind_ok (Ok x) f y e = (x, refl, e)
 bind_ok (Err g) f y e = absurd cc
 
@@ -28,7 +29,8 @@ unless_ok true m g y e = absurd cc
 unless_ok false m g y e = (refl, e)
 
 -- a choice by a test
-pub chosen_by : {A : Type 0} (b : Bool) (m n : Read A) (x : A × List Lexeme) (P : Type 0) → cond b m n ≡ Ok x → (b ≡ true → m ≡ Ok x → P) → (b ≡ false → n ≡ Ok x → P) → P
+pub chosen_by : {A : Type 0} (b : Bool) (m n : Read A) (x : A × List Lexeme) (P : Type 0) → cond b m n ≡ Ok x → (b ≡ true → m ≡ Ok x → P)
+    → (b ≡ false → n ≡ Ok x → P) → P
 chosen_by true m n x P e f g = f refl e
 chosen_by false m n x P e f g = g refl e
 
@@ -39,7 +41,8 @@ pub record Took {A : Type 0} (test : Lexeme → Bool) (view : Lexeme → A) (ts 
   pub passes : test token ≡ true
   pub view_is : x.0 ≡ view token
 
-pub one_token_ok : {A : Type 0} (test : Lexeme → Bool) (view : Lexeme → A) (ts : List Lexeme) (x : A × List Lexeme) → one_token test view ts ≡ Ok x → Took test view ts x
+pub one_token_ok : {A : Type 0} (test : Lexeme → Bool) (view : Lexeme → A) (ts : List Lexeme) (x : A × List Lexeme) → one_token test view ts ≡ Ok x
+    → Took test view ts x
 one_token_ok test view [] x e = absurd cc
 one_token_ok test view (t ∷ ts) x e =
     let g = guard_ok (test t) (Ok (view t, ts)) _ x e in
@@ -58,7 +61,8 @@ name_taken ts x e = let h = one_token_ok is_name ident ts x e in (h.token, h.tok
 pub number_taken : (ts : List Lexeme) (x : Lit × List Lexeme) → number_at ts ≡ Ok x → (t : Lexeme) × (ts ≡ t ∷ x.1) × IsNumber t × (x.0 ≡ literal t)
 number_taken ts x e = let h = one_token_ok is_number literal ts x e in (h.token, h.tokens, number_ok h.token h.passes, h.view_is)
 
-pub negative_taken : (minus : Lexeme) (ts : List Lexeme) (x : Lit × List Lexeme) → negative_at minus ts ≡ Ok x → (t : Lexeme) × (ts ≡ t ∷ x.1) × IsNumber t × (x.0 ≡ negative_literal minus t)
+pub negative_taken : (minus : Lexeme) (ts : List Lexeme) (x : Lit × List Lexeme) → negative_at minus ts ≡ Ok x
+    → (t : Lexeme) × (ts ≡ t ∷ x.1) × IsNumber t × (x.0 ≡ negative_literal minus t)
 negative_taken minus ts x e = let h = one_token_ok is_number (negative_literal minus) ts x e in (h.token, h.tokens, number_ok h.token h.passes, h.view_is)
 
 pub any_taken : (ts : List Lexeme) (x : Lexeme × List Lexeme) → any_token ts ≡ Ok x → ts ≡ x.0 ∷ x.1

@@ -16,5 +16,6 @@ pulled (Some t) bytes at after next same on =
     rw (same, place) (ap (ahead_with (ahead_from bytes)) next ∙ sym (ahead_step bytes at))
 
 -- nothing more at a fault
-pub faulted : (e : LexFault) (bytes : List ℕ) (at : ℕ) (after : Reading) → outcome (Err e) ≡ next_lexeme bytes at → ahead_of None (Some e) after ≡ ahead_from bytes at
+pub faulted : (e : LexFault) (bytes : List ℕ) (at : ℕ) (after : Reading) → outcome (Err e) ≡ next_lexeme bytes at
+    → ahead_of None (Some e) after ≡ ahead_from bytes at
 faulted e bytes at after next = ap (ahead_with (ahead_from bytes)) next ∙ sym (ahead_step bytes at)

@@ -14,7 +14,8 @@ use Rattle.sot_expression.specs.declared.operators.Infix.{Infix}
 use Rattle.sot_expression.specs.declared.operators.Infix.TheVariants.{Joins, Rests}
 use Rattle.sot_expression.specs.declared.operators.Opening.{Opening}
 use Rattle.sot_expression.specs.declared.operators.Opening.TheVariants as openings
-use Rattle.sot_expression.specs.Lexemes.{IsKeyword, IsSign, IsName, IsNumber, is_keyword_kind, is_sign_kind, is_name_kind, is_number_kind, is_keyword, is_sign, is_name, is_number}
+use Rattle.sot_expression.specs.Lexemes.{IsKeyword, IsSign, IsName, IsNumber, is_keyword_kind, is_sign_kind, is_name_kind, is_number_kind, is_keyword, is_sign}
+use Rattle.sot_expression.specs.Lexemes.{is_name, is_number}
 use Rattle.sot_expression.specs.Operators.{operator_of, tier_of_infix, of_tier, infix_at, opening_of}
 use Rattle.sot_expression.specs.Phrases.{IsTruth, IsPairWord, IsOperator}
 
@@ -48,10 +49,12 @@ both_true true b e = (refl, e)
 both_true false b e = absurd cc
 
 pub sign_ok : (w : List ℕ) (t : Lexeme) → is_sign w t ≡ true → IsSign w t
-sign_ok w t e = let h = both_true (is_sign_kind t.kind) (bytes_eq t.text w) e in record { kind = sign_kind t.kind h.0; text_is = (bytes_eq-Decides t.text w).0 h.1 }
+sign_ok w t e =
+    let h = both_true (is_sign_kind t.kind) (bytes_eq t.text w) e in record { kind = sign_kind t.kind h.0; text_is = (bytes_eq-Decides t.text w).0 h.1 }
 
 pub keyword_ok : (w : List ℕ) (t : Lexeme) → is_keyword w t ≡ true → IsKeyword w t
-keyword_ok w t e = let h = both_true (is_keyword_kind t.kind) (bytes_eq t.text w) e in record { kind = keyword_kind t.kind h.0; text_is = (bytes_eq-Decides t.text w).0 h.1 }
+keyword_ok w t e =
+    let h = both_true (is_keyword_kind t.kind) (bytes_eq t.text w) e in record { kind = keyword_kind t.kind h.0; text_is = (bytes_eq-Decides t.text w).0 h.1 }
 
 pub name_ok : (t : Lexeme) → is_name t ≡ true → IsName t
 name_ok t e = name_kind t.kind e
@@ -61,10 +64,14 @@ number_ok t e = number_kind t.kind e
 
 -- a token as its kind and its text tell it
 pub sign_is : (w : List ℕ) (t : Lexeme) → IsSign w t → t ≡ record { kind = Sign; text = w; at = t.at; to = t.to }
-sign_is w t h = ap (λ (k : Kind). record { kind = k; text = t.text; at = t.at; to = t.to }) h.kind ∙ ap (λ (x : List ℕ). record { kind = Sign; text = x; at = t.at; to = t.to }) h.text_is
+sign_is w t h =
+    ap (λ (k : Kind). record { kind = k; text = t.text; at = t.at; to = t.to }) h.kind
+    ∙ ap (λ (x : List ℕ). record { kind = Sign; text = x; at = t.at; to = t.to }) h.text_is
 
 pub keyword_is : (w : List ℕ) (t : Lexeme) → IsKeyword w t → t ≡ record { kind = Keyword; text = w; at = t.at; to = t.to }
-keyword_is w t h = ap (λ (k : Kind). record { kind = k; text = t.text; at = t.at; to = t.to }) h.kind ∙ ap (λ (x : List ℕ). record { kind = Keyword; text = x; at = t.at; to = t.to }) h.text_is
+keyword_is w t h =
+    ap (λ (k : Kind). record { kind = k; text = t.text; at = t.at; to = t.to }) h.kind
+    ∙ ap (λ (x : List ℕ). record { kind = Keyword; text = x; at = t.at; to = t.to }) h.text_is
 
 pub name_is : (t : Lexeme) → IsName t → t ≡ record { kind = Name; text = t.text; at = t.at; to = t.to }
 name_is t h = ap (λ (k : Kind). record { kind = k; text = t.text; at = t.at; to = t.to }) h
@@ -123,7 +130,8 @@ join_is Or t h = ap operator_of (keyword_is (codes "or") t h)
 pub rest_is : (t : Lexeme) → IsSign (codes "%") t → operator_of t ≡ Some Rests
 rest_is t h = ap operator_of (sign_is (codes "%") t h)
 
-of_tier_some : (tier : ℕ) (b : Bool) (o p : Infix) → (tier_of_infix o == tier) ≡ b → cond b (Some o) None ≡ Some p → (Some o ≡ Some p) × (tier_of_infix o ≡ tier)
+of_tier_some : (tier : ℕ) (b : Bool) (o p : Infix) → (tier_of_infix o == tier) ≡ b → cond b (Some o) None ≡ Some p
+    → (Some o ≡ Some p) × (tier_of_infix o ≡ tier)
 of_tier_some tier true o p test e = (e, grind (arith, nat_tests))
 of_tier_some tier false o p test e = absurd cc
 

@@ -1,18 +1,22 @@
--- What tokens spell as an expression, read from the left: its tree, with how deep it nests, or the first token at fault.
-use Rattle.std.specs.Prelude.{ℕ, zero, suc, ◌+◌, List, [], ◌∷◌, Bool, true, false, ◌==◌, ◌||◌, not, nat_lt, max, codes, Option, None, Some, Ok, Err, if◌then◌else◌}
+-- What tokens spell as an expression, read from the left: its tree, with how deep it nests, or the
+-- first token at fault.
+use Rattle.std.specs.Prelude.{ℕ, zero, suc, ◌+◌, List, [], ◌∷◌, Bool, true, false, ◌==◌, ◌||◌, not}
+use Rattle.std.specs.Prelude.{nat_lt, max, codes, Option, None, Some, Ok, Err, if◌then◌else◌}
 use Rattle.sot_text.specs.Reading.{Lexeme}
 use Rattle.sot_tree.specs.declared.operator.Op.{Op}
 use Rattle.sot_tree.specs.declared.operator.Func.{Func}
 use Rattle.sot_tree.specs.declared.operator.Func.TheVariants.{Abs, Clamp}
 use Rattle.sot_tree.specs.declared.tree.Ident.{Ident}
 use Rattle.sot_tree.specs.declared.tree.Lit.{Lit}
-use Rattle.sot_tree.specs.Trees.{Tree, number, truth, named, binary, rest, negated, denied, called, rescaled, chosen, no_tree, one_more}
+use Rattle.sot_tree.specs.Trees.{Tree, number, truth, named, binary, rest, negated, denied, called}
+use Rattle.sot_tree.specs.Trees.{rescaled, chosen, no_tree, one_more}
 use Rattle.sot_expression.specs.declared.operators.Infix.{Infix}
 use Rattle.sot_expression.specs.declared.operators.Infix.TheVariants.{Joins, Rests}
 use Rattle.sot_expression.specs.declared.operators.Opening.{Opening}
 use Rattle.sot_expression.specs.declared.operators.Opening.TheVariants as openings
 use Rattle.sot_expression.specs.Lexemes.{begins, is_sign, is_keyword, is_number}
-use Rattle.sot_expression.specs.Readers.{stuck, deep, Read, ◌>>=◌, expect, name_at, number_at, negative_at}
+use Rattle.sot_expression.specs.Readers.{stuck, deep, Read, ◌>>=◌, expect, name_at, number_at}
+use Rattle.sot_expression.specs.Readers.{negative_at}
 use Rattle.sot_expression.specs.Operators.{infix_at, opening_at}
 
 -- an expression, or a part of one; `bare` where it is a pair of parentheses
@@ -30,7 +34,8 @@ over tree levels = record { tree = tree; levels = 1 + levels; bare = false }
 
 -- parentheses directly in parentheses are a level
 abbrev pub grouped : Part → Part
-grouped p = record { tree = p.tree; levels = if p.bare then 1 + p.levels else p.levels; bare = true }
+grouped p =
+    record { tree = p.tree; levels = if p.bare then 1 + p.levels else p.levels; bare = true }
 
 -- what reads a part
 abbrev pub Reader : Type 0
@@ -70,7 +75,9 @@ gone_on room turn (Some o) left ts = if nat_lt left.levels room then turn o else
 -- at most n operators of one tier, grouped to the left
 unfoldable pub chain_at : ℕ → ℕ → ℕ → Reader → Part → List Lexeme → Read Part
 chain_at zero room tier right left ts = Ok (left, ts)
-chain_at (suc n) room tier right left ts = gone_on room (λ o. joined_at o right left ts >>= λ p. chain_at n room tier right p.0 p.1) (infix_at tier ts) left ts
+chain_at (suc n) room tier right left ts =
+    gone_on room (λ o. joined_at o right left ts >>= λ p. chain_at n room tier right p.0 p.1)
+    (infix_at tier ts) left ts
 
 unfoldable pub number_part : List Lexeme → Read Part
 number_part ts = number_at ts >>= λ n. Ok (leaf (number n.0), n.1)
@@ -87,7 +94,8 @@ field_at first ts = do
 unfoldable pub named_at : List Lexeme → Read Part
 named_at ts = do
   name ← name_at ts
-  if begins (is_sign (codes ".")) name.1 then field_at name.0 name.1 else Ok (leaf (named name.0 None), name.1)
+  if begins (is_sign (codes ".")) name.1 then field_at name.0 name.1 else Ok
+      (leaf (named name.0 None), name.1)
 
 -- an expression in parentheses
 unfoldable pub group_at : Reader → List Lexeme → Read Part
@@ -118,7 +126,11 @@ pair_at func part ts = do
   a ← opened_at part word.1
   b ← further_at part a.1
   close ← expect (is_sign (codes ")")) b.1
-  Ok (over (called func (one_more a.0.tree (one_more b.0.tree no_tree)) word.0.at) (max a.0.levels b.0.levels), close.1)
+  Ok (
+    over (called func (one_more a.0.tree (one_more b.0.tree no_tree)) word.0.at)
+        (max a.0.levels b.0.levels),
+    close.1,
+  )
 
 -- the second and the third argument of a call, and its end
 unfoldable pub limits_at : Reader → List Lexeme → Read (Part × Part)
@@ -133,7 +145,12 @@ clamp_at part ts = do
   word ← any_token ts
   a ← opened_at part word.1
   more ← limits_at part a.1
-  Ok (over (called Clamp (one_more a.0.tree (one_more more.0.0.tree (one_more more.0.1.tree no_tree))) word.0.at) (max a.0.levels (max more.0.0.levels more.0.1.levels)), more.1)
+  Ok (
+    over (called Clamp (one_more a.0.tree
+        (one_more more.0.0.tree (one_more more.0.1.tree no_tree))) word.0.at)
+        (max a.0.levels (max more.0.0.levels more.0.1.levels)),
+    more.1,
+  )
 
 -- the scale that a call rescales to, and its end
 unfoldable pub target_at : List Lexeme → Read Lit
@@ -150,7 +167,8 @@ rescale_at part ts = do
   to ← target_at a.1
   Ok (over (rescaled a.0.tree to.0 word.0.at) a.0.levels, to.1)
 
--- What is around a part: `below tier` reads a part of that tier, one level deeper; `inner` reads what stands in parentheses.
+-- What is around a part: `below tier` reads a part of that tier, one level deeper; `inner` reads
+-- what stands in parentheses.
 pub record Around : Type 0 where
   pub room : ℕ
   pub held : Bool
@@ -159,7 +177,8 @@ pub record Around : Type 0 where
 
 -- parentheses, which take a level where others hold them directly
 abbrev pub held_group : ℕ → Bool → Reader → List Lexeme → Read Part
-held_group room held inner ts = if held then within room ts (group_at inner ts) else group_at inner ts
+held_group room held inner ts =
+    if held then within room ts (group_at inner ts) else group_at inner ts
 
 unfoldable pub atom_from : Opening → Around → List Lexeme → Read Part
 atom_from openings.Number a ts = number_part ts
@@ -201,14 +220,18 @@ minus_at room minus operand ts =
     else above (λ p. over (negated p.tree minus.at) p.levels) (operand ts)
 
 unfoldable pub unary_at : Around → List Lexeme → Read Part
-unary_at a ts = if begins (is_sign (codes "-")) ts then (any_token ts >>= λ t. minus_at a.room t.0 (a.below 0) t.1) else atom_at a ts
+unary_at a ts =
+    if begins (is_sign (codes "-")) ts then
+    (any_token ts >>= λ t. minus_at a.room t.0 (a.below 0) t.1) else atom_at a ts
 
 -- behind a `not`
 unfoldable pub denied_at : Reader → List Lexeme → Read Part
-denied_at part ts = any_token ts >>= λ t. above (λ p. over (denied p.tree t.0.at) p.levels) (part t.1)
+denied_at part ts =
+    any_token ts >>= λ t. above (λ p. over (denied p.tree t.0.at) p.levels) (part t.1)
 
 unfoldable pub denial_at : ℕ → Reader → Reader → List Lexeme → Read Part
-denial_at room part next ts = if begins (is_keyword (codes "not")) ts then within room ts (denied_at part ts) else next ts
+denial_at room part next ts =
+    if begins (is_keyword (codes "not")) ts then within room ts (denied_at part ts) else next ts
 
 unfoldable pub chosen_at : Reader → List Lexeme → Read Part
 chosen_at part ts = do
@@ -218,10 +241,14 @@ chosen_at part ts = do
   y ← part then_.1
   else_ ← expect (is_keyword (codes "else")) y.1
   n ← part else_.1
-  Ok (over (chosen c.0.tree y.0.tree n.0.tree t.0.at) (max c.0.levels (max y.0.levels n.0.levels)), n.1)
+  Ok (
+    over (chosen c.0.tree y.0.tree n.0.tree t.0.at) (max c.0.levels (max y.0.levels n.0.levels)),
+    n.1,
+  )
 
 unfoldable pub choice_at : ℕ → Reader → Reader → List Lexeme → Read Part
-choice_at room part next ts = if begins (is_keyword (codes "if")) ts then within room ts (chosen_at part ts) else next ts
+choice_at room part next ts =
+    if begins (is_keyword (codes "if")) ts then within room ts (chosen_at part ts) else next ts
 
 -- how many operators of a tier may stand one after another
 abbrev pub turns : ℕ → ℕ → ℕ
@@ -238,9 +265,26 @@ tier_at (suc k) a ts =
 -- A part of a tier, of at most so many levels; `held` directly behind a parenthesis that groups.
 unfoldable pub part_at : ℕ → Bool → ℕ → List Lexeme → Read Part
 part_at zero held tier ts = Err (deep, ts)
-part_at (suc r) true tier ts = tier_at tier (record { room = suc r; held = true; below = part_at r false; inner = part_at r true 7 }) ts
+part_at (suc r) true tier ts =
+    tier_at tier (record {
+      room = suc r;
+      held = true;
+      below = part_at r false;
+      inner = part_at r true 7;
+    }) ts
 part_at (suc r) false tier ts =
-    tier_at tier (record { room = suc r; held = false; below = part_at r false; inner = λ us. tier_at 7 (record { room = suc r; held = true; below = part_at r false; inner = part_at r true 7 }) us }) ts
+    tier_at tier (record {
+      room = suc r;
+      held = false;
+      below = part_at r false;
+      inner =
+          λ us. tier_at 7 (record {
+            room = suc r;
+            held = true;
+            below = part_at r false;
+            inner = part_at r true 7;
+          }) us;
+    }) ts
 
 -- an expression of at most so many levels
 unfoldable pub expression_at : ℕ → List Lexeme → Read Part

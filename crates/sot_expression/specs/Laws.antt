@@ -13,10 +13,16 @@ pub record IsReadAs (room : ℕ) (ts : List Lexeme) (part : Part) (us : List Lex
   pub levels : levels_of phrase ≤ room
 
 abbrev pub ReadsOnlyPhrases : Type 0
-ReadsOnlyPhrases = (room : ℕ) (ts : List Lexeme) (part : Part) (us : List Lexeme) → expression_at room ts ≡ Ok (part, us) → IsReadAs room ts part us
+ReadsOnlyPhrases =
+    (room : ℕ) (ts : List Lexeme) (part : Part) (us : List Lexeme)
+    → expression_at room ts ≡ Ok (part, us) → IsReadAs room ts part us
 
 abbrev pub ReadsEachPhrase : Type 0
-ReadsEachPhrase = (room : ℕ) (f : Phrase) (us : List Lexeme) → IsPhrase f → levels_of f ≤ room → Stops us → expression_at room (spelled f us) ≡ Ok (part_of f, us)
+ReadsEachPhrase =
+    (room : ℕ) (f : Phrase) (us : List Lexeme) → IsPhrase f → levels_of f ≤ room → Stops us
+    → expression_at room (spelled f us) ≡ Ok (part_of f, us)
 
 abbrev pub PhrasesAreUnique : Type 0
-PhrasesAreUnique = (f g : Phrase) (us : List Lexeme) → IsPhrase f → IsPhrase g → Stops us → spelled f us ≡ spelled g us → part_of f ≡ part_of g
+PhrasesAreUnique =
+    (f g : Phrase) (us : List Lexeme) → IsPhrase f → IsPhrase g → Stops us
+    → spelled f us ≡ spelled g us → part_of f ≡ part_of g

@@ -74,4 +74,9 @@ abbrev pub literal : Lexeme → Lit
 literal n = record { mantissa = pos (mantissa_of n.text); scale = decimals_of n.text; at = n.at }
 
 abbrev pub negative_literal : Lexeme → Lexeme → Lit
-negative_literal minus n = record { mantissa = neg_ℤ (pos (mantissa_of n.text)); scale = decimals_of n.text; at = minus.at }
+negative_literal minus n =
+    record {
+      mantissa = neg_ℤ (pos (mantissa_of n.text));
+      scale = decimals_of n.text;
+      at = minus.at;
+    }

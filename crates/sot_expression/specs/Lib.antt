@@ -1,4 +1,5 @@
--- what contracts rest on: the grammar, what is read of tokens from the left, and what a function returned of it
+-- what contracts rest on: the grammar, what is read of tokens from the left, and what a function
+-- returned of it
 pub mod Lexemes
 pub mod Phrases
 pub mod Laws

@@ -1,8 +1,11 @@
 -- Operators between two operands, and what an operand begins with.
-use Rattle.std.specs.Prelude.{ℕ, List, [], ◌∷◌, Bool, true, false, ◌==◌, codes, Option, None, Some, if◌then◌else◌}
+use Rattle.std.specs.Prelude.{ℕ, List, [], ◌∷◌, Bool, true, false, ◌==◌, codes, Option, None, Some}
+use Rattle.std.specs.Prelude.{if◌then◌else◌}
 use Rattle.sot_text.specs.Reading.{Lexeme}
 use Rattle.sot_tree.specs.declared.operator.Op.{Op}
-use Rattle.sot_tree.specs.declared.operator.Op.TheVariants.{Add, Sub, Mul, Div, Less, LessEqual, Greater, GreaterEqual, Equal, NotEqual, And, Or}
+use Rattle.sot_tree.specs.declared.operator.Op.TheVariants.{Add, Sub, Mul, Div, Less, LessEqual}
+use Rattle.sot_tree.specs.declared.operator.Op.TheVariants.{Greater, GreaterEqual, Equal, NotEqual}
+use Rattle.sot_tree.specs.declared.operator.Op.TheVariants.{And, Or}
 use Rattle.sot_tree.specs.declared.operator.Func.TheVariants.{Min, Max}
 use Rattle.sot_expression.specs.declared.operators.Infix.{Infix}
 use Rattle.sot_expression.specs.declared.operators.Infix.TheVariants.{Joins, Rests}
@@ -34,7 +37,8 @@ operator_of t = first_case None (
     ∷ (is_keyword (codes "or") t, Some (Joins Or))
     ∷ [])
 
--- The production that an operator stands in: `product` 1, `sum` 2, `cmp` 3, `and` 5, `or` 6. Of the others `unary` is 0, `not`
+-- The production that an operator stands in: `product` 1, `sum` 2, `cmp` 3, `and` 5, `or` 6. Of the
+-- others `unary` is 0, `not`
 -- 4 and `expr` 7.
 abbrev pub tier_of_op : Op → ℕ
 tier_of_op Add = 2

@@ -1,11 +1,14 @@
--- The expressions that functions return, and what the functions of one expression promise each other.
-use Rattle.std.specs.Prelude.{ℕ, zero, suc, ◌+◌, ◌-◌, ◌≤◌, ◌==◌, Bool, true, false, ◌&&◌, if◌then◌else◌, List, Ok}
+-- The expressions that functions return, and what the functions of one expression promise each
+-- other.
+use Rattle.std.specs.Prelude.{ℕ, zero, suc, ◌+◌, ◌-◌, ◌≤◌, ◌==◌, Bool, true, false, ◌&&◌}
+use Rattle.std.specs.Prelude.{if◌then◌else◌, List, Ok}
 use Rattle.sot_text.specs.Reading.{Lexeme}
 use Rattle.sot_tree.specs.TreeViews.{tree_view}
 use Rattle.sot_expression.specs.declared.part.Part.{Part as CodePart}
 use Rattle.sot_expression.specs.declared.operators.Infix.{Infix}
 use Rattle.sot_expression.specs.Readers.{Read, ◌>>=◌}
-use Rattle.sot_expression.specs.ExpressionReaders.{Part, Around, joined_at, chain_at, unary_at, denied_at, turns, part_at}
+use Rattle.sot_expression.specs.ExpressionReaders.{Part, Around, joined_at, chain_at, unary_at}
+use Rattle.sot_expression.specs.ExpressionReaders.{denied_at, turns, part_at}
 
 abbrev pub part_view : CodePart → Part
 part_view p = record { tree = tree_view p.tree; levels = p.levels; bare = p.bare }
@@ -27,19 +30,25 @@ around room held = record { room = room; held = held; below = below room; inner 
 -- the operators of n tiers above one, the tightest first, behind a left part
 unfoldable pub climbed : ℕ → ℕ → ℕ → Part → List Lexeme → Read Part
 climbed zero room tier left ts = Ok (left, ts)
-climbed (suc n) room tier left ts = chain_at (turns (suc tier) room) room (suc tier) (below room tier) left ts >>= λ p. climbed n room (suc tier) p.0 p.1
+climbed (suc n) room tier left ts =
+    chain_at (turns (suc tier) room) room (suc tier) (below room tier) left ts >>= λ p.
+    climbed n room (suc tier) p.0 p.1
 
--- the tier above which reading goes on behind an operator: another of its tier may follow, but no second comparison
+-- the tier above which reading goes on behind an operator: another of its tier may follow, but no
+-- second comparison
 abbrev pub onward : ℕ → ℕ
 onward tier = if tier == 3 then tier else tier - 1
 
 -- an operator of a tier, and those behind it up to the tier `to`
 unfoldable pub turned : ℕ → Infix → ℕ → ℕ → Part → List Lexeme → Read Part
-turned room o tier to left ts = joined_at o (below room (tier - 1)) left ts >>= λ p. climbed (to - onward tier) room (onward tier) p.0 p.1
+turned room o tier to left ts =
+    joined_at o (below room (tier - 1)) left ts >>= λ p.
+    climbed (to - onward tier) room (onward tier) p.0 p.1
 
 -- a part that begins with an operand, and one that begins with a `not`
 unfoldable pub plain_at : ℕ → Bool → ℕ → List Lexeme → Read Part
-plain_at room held tier ts = unary_at (around room held) ts >>= λ p. climbed (tier - 0) room 0 p.0 p.1
+plain_at room held tier ts =
+    unary_at (around room held) ts >>= λ p. climbed (tier - 0) room 0 p.0 p.1
 
 unfoldable pub not_at : ℕ → ℕ → List Lexeme → Read Part
 not_at room tier ts = denied_at (below room 4) ts >>= λ p. climbed (tier - 4) room 4 p.0 p.1

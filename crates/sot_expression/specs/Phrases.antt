@@ -1,12 +1,17 @@
 -- The grammar of expressions: what the tokens of an expression are, one case for each production.
-use Rattle.std.specs.Prelude.{◌≡◌, ℕ, ◌+◌, ◌<◌, ◌≤◌, max, ◌==◌, List, ◌∷◌, Bool, true, false, codes, None, Some, if◌then◌else◌}
+use Rattle.std.specs.Prelude.{◌≡◌, ℕ, ◌+◌, ◌<◌, ◌≤◌, max, ◌==◌, List, ◌∷◌, Bool, true, false, codes}
+use Rattle.std.specs.Prelude.{None, Some, if◌then◌else◌}
 use Rattle.sot_text.specs.Reading.{Lexeme}
 use Rattle.sot_tree.specs.declared.operator.Op.{Op}
-use Rattle.sot_tree.specs.declared.operator.Op.TheVariants.{Add, Sub, Mul, Div, Less, LessEqual, Greater, GreaterEqual, Equal, NotEqual, And, Or}
+use Rattle.sot_tree.specs.declared.operator.Op.TheVariants.{Add, Sub, Mul, Div, Less, LessEqual}
+use Rattle.sot_tree.specs.declared.operator.Op.TheVariants.{Greater, GreaterEqual, Equal, NotEqual}
+use Rattle.sot_tree.specs.declared.operator.Op.TheVariants.{And, Or}
 use Rattle.sot_tree.specs.declared.operator.Func.{Func}
 use Rattle.sot_tree.specs.declared.operator.Func.TheVariants.{Min, Max, Abs, Clamp}
-use Rattle.sot_tree.specs.Trees.{Tree, number, truth, named, binary, rest, negated, denied, called, rescaled, chosen, no_tree, one_more}
-use Rattle.sot_expression.specs.Lexemes.{IsKeyword, IsSign, IsName, IsNumber, begins, is_sign, ident, literal, negative_literal}
+use Rattle.sot_tree.specs.Trees.{Tree, number, truth, named, binary, rest, negated, denied, called}
+use Rattle.sot_tree.specs.Trees.{rescaled, chosen, no_tree, one_more}
+use Rattle.sot_expression.specs.Lexemes.{IsKeyword, IsSign, IsName, IsNumber, begins, is_sign}
+use Rattle.sot_expression.specs.Lexemes.{ident, literal, negative_literal}
 use Rattle.sot_expression.specs.Stream.{first_of}
 use Rattle.sot_expression.specs.Operators.{operator_from, tier_of_op}
 use Rattle.sot_expression.specs.ExpressionReaders.{Part}
@@ -34,7 +39,8 @@ pub data Phrase : Type 0 where
   a_minus : Lexeme → Phrase → Phrase
   -- product "%" NUMBER
   a_rest : Phrase → Lexeme → Lexeme → Phrase
-  -- product ("*" | "/") unary, sum ("+" | "-") product, sum ("<" | ..) sum, and "and" not, or "or" and
+  -- product ("*" | "/") unary, sum ("+" | "-") product, sum ("<" | ..) sum, and "and" not, or "or"
+  -- and
   a_join : Op → Phrase → Lexeme → Phrase → Phrase
   -- "not" not
   a_not : Lexeme → Phrase → Phrase
@@ -49,8 +55,10 @@ spelled (a_name n) ts = n ∷ ts
 spelled (a_field n dot f) ts = n ∷ dot ∷ f ∷ ts
 spelled (a_group open_ f close) ts = open_ ∷ spelled f (close ∷ ts)
 spelled (an_abs w open_ f close) ts = w ∷ open_ ∷ spelled f (close ∷ ts)
-spelled (a_pair func w open_ f comma g close) ts = w ∷ open_ ∷ spelled f (comma ∷ spelled g (close ∷ ts))
-spelled (a_clamp w open_ f comma g comma2 h close) ts = w ∷ open_ ∷ spelled f (comma ∷ spelled g (comma2 ∷ spelled h (close ∷ ts)))
+spelled (a_pair func w open_ f comma g close) ts =
+    w ∷ open_ ∷ spelled f (comma ∷ spelled g (close ∷ ts))
+spelled (a_clamp w open_ f comma g comma2 h close) ts =
+    w ∷ open_ ∷ spelled f (comma ∷ spelled g (comma2 ∷ spelled h (close ∷ ts)))
 spelled (a_rescale w open_ f comma n close) ts = w ∷ open_ ∷ spelled f (comma ∷ n ∷ close ∷ ts)
 spelled (a_minus t f) ts = t ∷ spelled f ts
 spelled (a_rest f t n) ts = spelled f (t ∷ n ∷ ts)
@@ -58,7 +66,8 @@ spelled (a_join op f t g) ts = spelled f (t ∷ spelled g ts)
 spelled (a_not t f) ts = t ∷ spelled f ts
 spelled (an_if t c u f v g) ts = t ∷ spelled c (u ∷ spelled f (v ∷ spelled g ts))
 
--- the production: `unary` and `atom` 0, `product` 1, `sum` 2, `cmp` 3, `not` 4, `and` 5, `or` 6, `expr` 7
+-- the production: `unary` and `atom` 0, `product` 1, `sum` 2, `cmp` 3, `not` 4, `and` 5, `or` 6,
+-- `expr` 7
 abbrev pub tier_of : Phrase → ℕ
 tier_of (a_number n) = 0
 tier_of (a_truth value t) = 0
@@ -111,16 +120,26 @@ IsPhrase (a_truth value t) = IsTruth value t
 IsPhrase (a_name n) = IsName n
 IsPhrase (a_field n dot f) = IsName n × IsSign (codes ".") dot × IsName f
 IsPhrase (a_group open_ f close) = IsSign (codes "(") open_ × IsPhrase f × IsSign (codes ")") close
-IsPhrase (an_abs w open_ f close) = IsKeyword (codes "abs") w × IsSign (codes "(") open_ × IsPhrase f × IsSign (codes ")") close
-IsPhrase (a_pair func w open_ f comma g close) = IsPairWord func w × IsSign (codes "(") open_ × IsPhrase f × IsSign (codes ",") comma × IsPhrase g × IsSign (codes ")") close
+IsPhrase (an_abs w open_ f close) =
+    IsKeyword (codes "abs") w × IsSign (codes "(") open_ × IsPhrase f × IsSign (codes ")") close
+IsPhrase (a_pair func w open_ f comma g close) =
+    IsPairWord func w × IsSign (codes "(") open_ × IsPhrase f × IsSign (codes ",") comma
+    × IsPhrase g × IsSign (codes ")") close
 IsPhrase (a_clamp w open_ f comma g comma2 h close) =
-    IsKeyword (codes "clamp") w × IsSign (codes "(") open_ × IsPhrase f × IsSign (codes ",") comma × IsPhrase g × IsSign (codes ",") comma2 × IsPhrase h × IsSign (codes ")") close
-IsPhrase (a_rescale w open_ f comma n close) = IsKeyword (codes "rescale") w × IsSign (codes "(") open_ × IsPhrase f × IsSign (codes ",") comma × IsNumber n × IsSign (codes ")") close
+    IsKeyword (codes "clamp") w × IsSign (codes "(") open_ × IsPhrase f × IsSign (codes ",") comma
+    × IsPhrase g × IsSign (codes ",") comma2 × IsPhrase h × IsSign (codes ")") close
+IsPhrase (a_rescale w open_ f comma n close) =
+    IsKeyword (codes "rescale") w × IsSign (codes "(") open_ × IsPhrase f × IsSign (codes ",") comma
+    × IsNumber n × IsSign (codes ")") close
 IsPhrase (a_minus t f) = IsSign (codes "-") t × IsPhrase f × (tier_of f ≡ 0)
 IsPhrase (a_rest f t n) = IsPhrase f × (tier_of f ≤ 1) × IsSign (codes "%") t × IsNumber n
-IsPhrase (a_join op f t g) = IsPhrase f × (tier_of f ≤ left_tier (tier_of_op op)) × IsOperator op t × IsPhrase g × (tier_of g < tier_of_op op)
+IsPhrase (a_join op f t g) =
+    IsPhrase f × (tier_of f ≤ left_tier (tier_of_op op)) × IsOperator op t × IsPhrase g
+    × (tier_of g < tier_of_op op)
 IsPhrase (a_not t f) = IsKeyword (codes "not") t × IsPhrase f × (tier_of f ≤ 4)
-IsPhrase (an_if t c u f v g) = IsKeyword (codes "if") t × IsPhrase c × IsKeyword (codes "then") u × IsPhrase f × IsKeyword (codes "else") v × IsPhrase g
+IsPhrase (an_if t c u f v g) =
+    IsKeyword (codes "if") t × IsPhrase c × IsKeyword (codes "then") u × IsPhrase f
+    × IsKeyword (codes "else") v × IsPhrase g
 
 -- a minus directly before a number makes a negative literal
 abbrev pub with_minus : Lexeme → Phrase → Tree → Tree
@@ -134,8 +153,10 @@ tree_of (a_name n) = named (ident n) None
 tree_of (a_field n dot f) = named (ident n) (Some (ident f))
 tree_of (a_group open_ f close) = tree_of f
 tree_of (an_abs w open_ f close) = called Abs (one_more (tree_of f) no_tree) w.at
-tree_of (a_pair func w open_ f comma g close) = called func (one_more (tree_of f) (one_more (tree_of g) no_tree)) w.at
-tree_of (a_clamp w open_ f comma g comma2 h close) = called Clamp (one_more (tree_of f) (one_more (tree_of g) (one_more (tree_of h) no_tree))) w.at
+tree_of (a_pair func w open_ f comma g close) =
+    called func (one_more (tree_of f) (one_more (tree_of g) no_tree)) w.at
+tree_of (a_clamp w open_ f comma g comma2 h close) =
+    called Clamp (one_more (tree_of f) (one_more (tree_of g) (one_more (tree_of h) no_tree))) w.at
 tree_of (a_rescale w open_ f comma n close) = rescaled (tree_of f) (literal n) w.at
 tree_of (a_minus t f) = with_minus t f (tree_of f)
 tree_of (a_rest f t n) = rest (tree_of f) (literal n) t.at
@@ -160,7 +181,8 @@ levels_of (a_field n dot f) = 1
 levels_of (a_group open_ f close) = if is_group f then 1 + levels_of f else levels_of f
 levels_of (an_abs w open_ f close) = 1 + levels_of f
 levels_of (a_pair func w open_ f comma g close) = 1 + max (levels_of f) (levels_of g)
-levels_of (a_clamp w open_ f comma g comma2 h close) = 1 + max (levels_of f) (max (levels_of g) (levels_of h))
+levels_of (a_clamp w open_ f comma g comma2 h close) =
+    1 + max (levels_of f) (max (levels_of g) (levels_of h))
 levels_of (a_rescale w open_ f comma n close) = 1 + levels_of f
 levels_of (a_minus t f) = if is_numeral f then 1 else 1 + levels_of f
 levels_of (a_rest f t n) = 1 + levels_of f

@@ -1,10 +1,12 @@
--- Reading from the left: what was read and the tokens behind it, or the fault and the tokens from it on.
+-- Reading from the left: what was read and the tokens behind it, or the fault and the tokens from
+-- it on.
 use Rattle.std.specs.Prelude.{List, [], ◌∷◌, Bool, codes, Result, Ok, Err, if◌then◌else◌}
 use Rattle.sot_text.specs.declared.token.Span.{Span}
 use Rattle.sot_text.specs.Reading.{Lexeme}
 use Rattle.sot_tree.specs.declared.tree.Ident.{Ident}
 use Rattle.sot_tree.specs.declared.tree.Lit.{Lit}
-use Rattle.sot_expression.specs.Lexemes.{is_sign, is_name, is_number, ident, literal, negative_literal}
+use Rattle.sot_expression.specs.Lexemes.{is_sign, is_name, is_number, ident, literal}
+use Rattle.sot_expression.specs.Lexemes.{negative_literal}
 
 -- no text goes on with this token; or it would nest too deep
 pub data Fault : Type 0 where

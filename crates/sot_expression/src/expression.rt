@@ -1,10 +1,18 @@
-//! The productions of expressions, one function for each. Each call that hands a part on copies it, so what most expressions
-//! pass is inline, and the rarer forms stand apart.
+//! The productions of expressions, one function for each. Each call that hands a part on copies it,
+//! so what most expressions pass is inline, and the rarer forms stand apart.
 ghost use Rattle.std.specs.Prelude.{◌≡◌, ◌<◌, ◌≤◌, ◌-◌, IfOk, true, false};
 ghost use Rattle.sot_text.specs.Reading.{lexeme};
-ghost use Rattle.sot_expression.specs.ExpressionReaders.{any_token, operation_at, remainder_at, joined_at, number_part, truth_part, field_at, named_at, group_at, opened_at, further_at, abs_at, pair_at, limits_at, clamp_at, target_at, rescale_at, atom_at, begins_unary, minus_at, unary_at, denied_at, chosen_at, within, part_at, expression_at, tree_at};
+ghost use Rattle.sot_expression.specs.ExpressionReaders.{any_token, operation_at, remainder_at};
+ghost use Rattle.sot_expression.specs.ExpressionReaders.{joined_at, number_part, truth_part};
+ghost use Rattle.sot_expression.specs.ExpressionReaders.{field_at, named_at, group_at, opened_at};
+ghost use Rattle.sot_expression.specs.ExpressionReaders.{further_at, abs_at, pair_at, limits_at};
+ghost use Rattle.sot_expression.specs.ExpressionReaders.{clamp_at, target_at, rescale_at, atom_at};
+ghost use Rattle.sot_expression.specs.ExpressionReaders.{begins_unary, minus_at, unary_at};
+ghost use Rattle.sot_expression.specs.ExpressionReaders.{denied_at, chosen_at, within, part_at};
+ghost use Rattle.sot_expression.specs.ExpressionReaders.{expression_at, tree_at};
 ghost use Rattle.sot_tree.specs.TreeViews.{tree_view};
-ghost use Rattle.sot_expression.specs.Parts.{part_view, Fits, below, inner, around, climbed, onward, turned, plain_at, not_at};
+ghost use Rattle.sot_expression.specs.Parts.{part_view, Fits, below, inner, around, climbed};
+ghost use Rattle.sot_expression.specs.Parts.{onward, turned, plain_at, not_at};
 ghost use Rattle.sot_expression.specs.Returned.{Gives};
 
 use crate::fail::Fail;
@@ -112,7 +120,8 @@ fn begins_unary(tokens: &Tokens<'_>) -> bool
     !matches!(opening_at(tokens), Opening::Other) || is_sign(tokens, b"-")
 }
 
-// Behind an operator of this tier, reading goes on above the tier that is given: no second comparison follows a first.
+// Behind an operator of this tier, reading goes on above the tier that is given: no second
+// comparison follows a first.
 fn onward(tier: u8) -> u8
     requires { 1 ≤ tier }
     ensures { result ≡ onward tier }
@@ -126,7 +135,8 @@ fn onward(tier: u8) -> u8
 fn remainder(alloc: Global, tokens: &mut Tokens<'_>, room: u32, left: Part) -> Result<Part, Fail>
     requires room { room ≤ 64 }
     requires left { left.levels < room }
-    ensures read { Gives part_view result tokens.old tokens.new (remainder_at (part_view left) tokens.old.tokens) }
+    ensures read { Gives part_view result tokens.old tokens.new
+        (remainder_at (part_view left) tokens.old.tokens) }
     ensures fits { IfOk result (λ p. Fits room true p) }
     ensures deeper { IfOk result (λ p. left.levels < p.levels) }
 {
@@ -159,7 +169,8 @@ fn read(
 ) -> Result<Part, Fail>
     requires room { (1 ≤ room) × (room ≤ 64) }
     requires tier { tier ≤ 7 }
-    ensures read { Gives part_view result tokens.old tokens.new (part_at room held tier tokens.old.tokens) }
+    ensures read { Gives part_view result tokens.old tokens.new
+        (part_at room held tier tokens.old.tokens) }
     ensures fits { IfOk result (λ p. Fits room held p) }
 {
     if tier == 7 && is_keyword(tokens, b"if") {
@@ -184,14 +195,16 @@ fn plain(
 ) -> Result<Part, Fail>
     requires room { (1 ≤ room) × (room ≤ 64) }
     requires tier { tier ≤ 7 }
-    ensures read { Gives part_view result tokens.old tokens.new (plain_at room held tier tokens.old.tokens) }
+    ensures read { Gives part_view result tokens.old tokens.new
+        (plain_at room held tier tokens.old.tokens) }
     ensures fits { IfOk result (λ p. Fits room held p) }
 {
     let left = unary(alloc, tokens, room, held)?;
     climb(alloc, tokens, room, held, 0, tier, left)
 }
 
-// The operators of the tiers above `from` up to `to`, behind a left part. The next token tells which tier is at work.
+// The operators of the tiers above `from` up to `to`, behind a left part. The next token tells
+// which tier is at work.
 #[inline(always)]
 #[cycle(expression)]
 fn climb(
@@ -206,7 +219,8 @@ fn climb(
     requires room { (1 ≤ room) × (room ≤ 64) }
     requires tiers { (from ≤ to) × (to ≤ 7) }
     requires fits { Fits room held left }
-    ensures read { Gives part_view result tokens.old tokens.new (climbed (to - from) room from (part_view left) tokens.old.tokens) }
+    ensures read { Gives part_view result tokens.old tokens.new
+        (climbed (to - from) room from (part_view left) tokens.old.tokens) }
     ensures fits { IfOk result (λ p. Fits room held p) }
 {
     let Some(operator) = operator_at(tokens) else {
@@ -239,7 +253,8 @@ fn turn(
     requires room { (2 ≤ room) × (room ≤ 64) }
     requires tiers { (1 ≤ tier) × (tier ≤ 6) × (tier ≤ to) × (to ≤ 7) }
     requires left { left.levels < room }
-    ensures read { Gives part_view result tokens.old tokens.new (turned room operator tier to (part_view left) tokens.old.tokens) }
+    ensures read { Gives part_view result tokens.old tokens.new
+        (turned room operator tier to (part_view left) tokens.old.tokens) }
     ensures fits { IfOk result (λ p. Fits room held p) }
 {
     let next = joined(alloc, tokens, room, tier, operator, left)?;
@@ -261,7 +276,8 @@ fn joined(
     requires room { (2 ≤ room) × (room ≤ 64) }
     requires tier { (1 ≤ tier) × (tier ≤ 6) }
     requires left { left.levels < room }
-    ensures read { Gives part_view result tokens.old tokens.new (joined_at operator (below room (tier - 1)) (part_view left) tokens.old.tokens) }
+    ensures read { Gives part_view result tokens.old tokens.new
+        (joined_at operator (below room (tier - 1)) (part_view left) tokens.old.tokens) }
     ensures fits { IfOk result (λ p. Fits room true p) }
     ensures deeper { IfOk result (λ p. left.levels < p.levels) }
 {
@@ -285,7 +301,8 @@ fn operation(
     requires room { (2 ≤ room) × (room ≤ 64) }
     requires tier { (1 ≤ tier) × (tier ≤ 6) }
     requires left { left.levels < room }
-    ensures read { Gives part_view result tokens.old tokens.new (operation_at op (below room (tier - 1)) (part_view left) tokens.old.tokens) }
+    ensures read { Gives part_view result tokens.old tokens.new
+        (operation_at op (below room (tier - 1)) (part_view left) tokens.old.tokens) }
     ensures fits { IfOk result (λ p. Fits room true p) }
     ensures deeper { IfOk result (λ p. left.levels < p.levels) }
 {
@@ -301,7 +318,8 @@ fn operation(
 #[tactic(auto, unfolding(crate::specs::ExpressionReaders::unary_at))]
 fn unary(alloc: Global, tokens: &mut Tokens<'_>, room: u32, held: bool) -> Result<Part, Fail>
     requires room { (1 ≤ room) × (room ≤ 64) }
-    ensures read { Gives part_view result tokens.old tokens.new (unary_at (around room held) tokens.old.tokens) }
+    ensures read { Gives part_view result tokens.old tokens.new
+        (unary_at (around room held) tokens.old.tokens) }
     ensures fits { IfOk result (λ p. Fits room held p) }
 {
     if is_sign(tokens, b"-") {
@@ -324,7 +342,8 @@ fn minus(
     token: Token<'_>,
 ) -> Result<Part, Fail>
     requires room { (1 ≤ room) × (room ≤ 64) }
-    ensures read { Gives part_view result tokens.old tokens.new (minus_at room (lexeme token.entry) (below room 0) tokens.old.tokens) }
+    ensures read { Gives part_view result tokens.old tokens.new
+        (minus_at room (lexeme token.entry) (below room 0) tokens.old.tokens) }
     ensures fits { IfOk result (λ p. Fits room held p) }
 {
     if is_number(tokens) {
@@ -356,7 +375,8 @@ fn denial(
 ) -> Result<Part, Fail>
     requires room { (1 ≤ room) × (room ≤ 64) }
     requires tier { (4 ≤ tier) × (tier ≤ 7) }
-    ensures read { Gives part_view result tokens.old tokens.new (within room tokens.old.tokens (not_at room tier tokens.old.tokens)) }
+    ensures read { Gives part_view result tokens.old tokens.new
+        (within room tokens.old.tokens (not_at room tier tokens.old.tokens)) }
     ensures fits { IfOk result (λ p. Fits room held p) }
 {
     if room < 2 {
@@ -370,7 +390,8 @@ fn denial(
 #[tactic(auto, unfolding(crate::specs::ExpressionReaders::denied_at))]
 fn denied(alloc: Global, tokens: &mut Tokens<'_>, room: u32, held: bool) -> Result<Part, Fail>
     requires room { (2 ≤ room) × (room ≤ 64) }
-    ensures read { Gives part_view result tokens.old tokens.new (denied_at (below room 4) tokens.old.tokens) }
+    ensures read { Gives part_view result tokens.old tokens.new
+        (denied_at (below room 4) tokens.old.tokens) }
     ensures fits { IfOk result (λ p. Fits room held p) }
 {
     let at = any_token(tokens)?.at;
@@ -385,7 +406,8 @@ fn denied(alloc: Global, tokens: &mut Tokens<'_>, room: u32, held: bool) -> Resu
 #[cycle(expression)]
 fn choice(alloc: Global, tokens: &mut Tokens<'_>, room: u32, held: bool) -> Result<Part, Fail>
     requires room { (1 ≤ room) × (room ≤ 64) }
-    ensures read { Gives part_view result tokens.old tokens.new (within room tokens.old.tokens (chosen_at (below room 7) tokens.old.tokens)) }
+    ensures read { Gives part_view result tokens.old tokens.new
+        (within room tokens.old.tokens (chosen_at (below room 7) tokens.old.tokens)) }
     ensures fits { IfOk result (λ p. Fits room held p) }
 {
     if room < 2 {
@@ -399,7 +421,8 @@ fn choice(alloc: Global, tokens: &mut Tokens<'_>, room: u32, held: bool) -> Resu
 #[tactic(auto, unfolding(crate::specs::ExpressionReaders::chosen_at))]
 fn chosen(alloc: Global, tokens: &mut Tokens<'_>, room: u32, held: bool) -> Result<Part, Fail>
     requires room { (2 ≤ room) × (room ≤ 64) }
-    ensures read { Gives part_view result tokens.old tokens.new (chosen_at (below room 7) tokens.old.tokens) }
+    ensures read { Gives part_view result tokens.old tokens.new
+        (chosen_at (below room 7) tokens.old.tokens) }
     ensures fits { IfOk result (λ p. Fits room held p) }
 {
     let at = any_token(tokens)?.at;
@@ -418,7 +441,8 @@ fn chosen(alloc: Global, tokens: &mut Tokens<'_>, room: u32, held: bool) -> Resu
 #[tactic(auto, unfolding(crate::specs::ExpressionReaders::atom_at, crate::specs::ExpressionReaders::atom_from))]
 fn atom(alloc: Global, tokens: &mut Tokens<'_>, room: u32, held: bool) -> Result<Part, Fail>
     requires room { (1 ≤ room) × (room ≤ 64) }
-    ensures read { Gives part_view result tokens.old tokens.new (atom_at (around room held) tokens.old.tokens) }
+    ensures read { Gives part_view result tokens.old tokens.new
+        (atom_at (around room held) tokens.old.tokens) }
     ensures fits { IfOk result (λ p. Fits room held p) }
 {
     let opening = opening_at(tokens);
@@ -443,7 +467,8 @@ fn atom(alloc: Global, tokens: &mut Tokens<'_>, room: u32, held: bool) -> Result
 #[tactic(auto, unfolding(crate::specs::ExpressionReaders::group_at))]
 fn group(alloc: Global, tokens: &mut Tokens<'_>, room: u32) -> Result<Part, Fail>
     requires room { (1 ≤ room) × (room ≤ 64) }
-    ensures read { Gives part_view result tokens.old tokens.new (group_at (part_at room true 7) tokens.old.tokens) }
+    ensures read { Gives part_view result tokens.old tokens.new
+        (group_at (part_at room true 7) tokens.old.tokens) }
     ensures fits { IfOk result (λ p. (1 ≤ p.levels) × (p.levels ≤ room)) }
 {
     any_token(tokens)?;
@@ -466,7 +491,8 @@ fn group(alloc: Global, tokens: &mut Tokens<'_>, room: u32) -> Result<Part, Fail
 #[tactic(auto, unfolding(crate::specs::ExpressionReaders::opened_at))]
 fn opened(alloc: Global, tokens: &mut Tokens<'_>, room: u32) -> Result<Part, Fail>
     requires room { (2 ≤ room) × (room ≤ 64) }
-    ensures read { Gives part_view result tokens.old tokens.new (opened_at (below room 7) tokens.old.tokens) }
+    ensures read { Gives part_view result tokens.old tokens.new
+        (opened_at (below room 7) tokens.old.tokens) }
     ensures fits { IfOk result (λ p. (1 ≤ p.levels) × (p.levels < room)) }
 {
     expect_sign(tokens, b"(")?;
@@ -478,7 +504,8 @@ fn opened(alloc: Global, tokens: &mut Tokens<'_>, room: u32) -> Result<Part, Fai
 #[tactic(auto, unfolding(crate::specs::ExpressionReaders::further_at))]
 fn further(alloc: Global, tokens: &mut Tokens<'_>, room: u32) -> Result<Part, Fail>
     requires room { (2 ≤ room) × (room ≤ 64) }
-    ensures read { Gives part_view result tokens.old tokens.new (further_at (below room 7) tokens.old.tokens) }
+    ensures read { Gives part_view result tokens.old tokens.new
+        (further_at (below room 7) tokens.old.tokens) }
     ensures fits { IfOk result (λ p. (1 ≤ p.levels) × (p.levels < room)) }
 {
     expect_sign(tokens, b",")?;
@@ -490,7 +517,8 @@ fn further(alloc: Global, tokens: &mut Tokens<'_>, room: u32) -> Result<Part, Fa
 #[tactic(auto, unfolding(crate::specs::ExpressionReaders::abs_at, crate::specs::ExpressionReaders::opened_at))]
 fn absolute(alloc: Global, tokens: &mut Tokens<'_>, room: u32) -> Result<Part, Fail>
     requires room { (2 ≤ room) × (room ≤ 64) }
-    ensures read { Gives part_view result tokens.old tokens.new (abs_at (below room 7) tokens.old.tokens) }
+    ensures read { Gives part_view result tokens.old tokens.new
+        (abs_at (below room 7) tokens.old.tokens) }
     ensures fits { IfOk result (λ p. Fits room true p) }
 {
     let at = any_token(tokens)?.at;
@@ -507,7 +535,8 @@ fn absolute(alloc: Global, tokens: &mut Tokens<'_>, room: u32) -> Result<Part, F
 #[tactic(auto, unfolding(crate::specs::ExpressionReaders::pair_at, crate::specs::ExpressionReaders::opened_at, crate::specs::ExpressionReaders::further_at))]
 fn pair(alloc: Global, tokens: &mut Tokens<'_>, room: u32, func: Func) -> Result<Part, Fail>
     requires room { (2 ≤ room) × (room ≤ 64) }
-    ensures read { Gives part_view result tokens.old tokens.new (pair_at func (below room 7) tokens.old.tokens) }
+    ensures read { Gives part_view result tokens.old tokens.new
+        (pair_at func (below room 7) tokens.old.tokens) }
     ensures fits { IfOk result (λ p. Fits room true p) }
 {
     let at = any_token(tokens)?.at;
@@ -524,7 +553,8 @@ fn pair(alloc: Global, tokens: &mut Tokens<'_>, room: u32, func: Func) -> Result
 #[tactic(auto, unfolding(crate::specs::ExpressionReaders::limits_at))]
 fn limits(alloc: Global, tokens: &mut Tokens<'_>, room: u32) -> Result<(Part, Part), Fail>
     requires room { (2 ≤ room) × (room ≤ 64) }
-    ensures read { Gives (λ limits. (part_view limits.0, part_view limits.1)) result tokens.old tokens.new (limits_at (below room 7) tokens.old.tokens) }
+    ensures read { Gives (λ limits. (part_view limits.0, part_view limits.1)) result tokens.old
+        tokens.new (limits_at (below room 7) tokens.old.tokens) }
     ensures low { IfOk result (λ limits. limits.0.levels < room) }
     ensures high { IfOk result (λ limits. limits.1.levels < room) }
 {
@@ -539,7 +569,8 @@ fn limits(alloc: Global, tokens: &mut Tokens<'_>, room: u32) -> Result<(Part, Pa
 #[tactic(auto, unfolding(crate::specs::ExpressionReaders::clamp_at, crate::specs::ExpressionReaders::opened_at))]
 fn clamp(alloc: Global, tokens: &mut Tokens<'_>, room: u32) -> Result<Part, Fail>
     requires room { (2 ≤ room) × (room ≤ 64) }
-    ensures read { Gives part_view result tokens.old tokens.new (clamp_at (below room 7) tokens.old.tokens) }
+    ensures read { Gives part_view result tokens.old tokens.new
+        (clamp_at (below room 7) tokens.old.tokens) }
     ensures fits { IfOk result (λ p. Fits room true p) }
 {
     let at = any_token(tokens)?.at;
@@ -555,7 +586,8 @@ fn clamp(alloc: Global, tokens: &mut Tokens<'_>, room: u32) -> Result<Part, Fail
 #[tactic(auto, unfolding(crate::specs::ExpressionReaders::rescale_at, crate::specs::ExpressionReaders::opened_at))]
 fn rescale(alloc: Global, tokens: &mut Tokens<'_>, room: u32) -> Result<Part, Fail>
     requires room { (2 ≤ room) × (room ≤ 64) }
-    ensures read { Gives part_view result tokens.old tokens.new (rescale_at (below room 7) tokens.old.tokens) }
+    ensures read { Gives part_view result tokens.old tokens.new
+        (rescale_at (below room 7) tokens.old.tokens) }
     ensures fits { IfOk result (λ p. Fits room true p) }
 {
     let at = any_token(tokens)?.at;
@@ -570,7 +602,8 @@ fn rescale(alloc: Global, tokens: &mut Tokens<'_>, room: u32) -> Result<Part, Fa
 #[tactic(auto, unfolding(crate::specs::ExpressionReaders::expression_at))]
 fn expression(alloc: Global, tokens: &mut Tokens<'_>, room: u32) -> Result<Part, Fail>
     requires room { (1 ≤ room) × (room ≤ 64) }
-    ensures read { Gives part_view result tokens.old tokens.new (expression_at room tokens.old.tokens) }
+    ensures read { Gives part_view result tokens.old tokens.new
+        (expression_at room tokens.old.tokens) }
     ensures fits { IfOk result (λ part. (1 ≤ part.levels) × (part.levels ≤ room)) }
 {
     read(alloc, tokens, room, false, 7)
@@ -580,7 +613,8 @@ fn expression(alloc: Global, tokens: &mut Tokens<'_>, room: u32) -> Result<Part,
 ///
 /// # Errors
 ///
-/// `Token` where no expression goes on with the next token, `Deep` where it would nest deeper, `Memory` where there is none.
+/// `Token` where no expression goes on with the next token, `Deep` where it would nest deeper,
+/// `Memory` where there is none.
 #[tactic(auto, unfolding(crate::specs::ExpressionReaders::tree_at))]
 pub fn tree(alloc: Global, tokens: &mut Tokens<'_>, room: u32) -> Result<Expr, Fail>
     requires room { (1 ≤ room) × (room ≤ 64) }

@@ -1,7 +1,8 @@
 //! Theorems on what is read as an expression.
 ghost use Rattle.sot_expression.specs.Laws.{ReadsOnlyPhrases, ReadsEachPhrase, PhrasesAreUnique};
 
-/// What is read as an expression is one of the grammar, nests as deep as is said, and has that tree.
+/// What is read as an expression is one of the grammar, nests as deep as is said, and has that
+/// tree.
 #[tactic(auto, using(crate::proofs::Soundness::reads_only_phrases))]
 pub fn reads_only_expressions()
     ensures { ReadsOnlyPhrases }

@@ -3,7 +3,8 @@ ghost use Rattle.std.specs.Prelude.{◌≡◌, ◌≤◌, ◌^◌, codes};
 ghost use Rattle.sot_text.specs.declared.token.Kind.TheVariants.{Number as NumberKind};
 ghost use Rattle.sot_text.specs.Lexeme.{IsTokenText, mantissa_of};
 ghost use Rattle.sot_text.specs.Reading.{lexeme};
-ghost use Rattle.sot_expression.specs.Lexemes.{begins, is_keyword, is_sign, is_name, is_number, literal, negative_literal};
+ghost use Rattle.sot_expression.specs.Lexemes.{begins, is_keyword, is_sign, is_name, is_number};
+ghost use Rattle.sot_expression.specs.Lexemes.{literal, negative_literal};
 ghost use Rattle.sot_expression.specs.Readers.{expect, name_at, number_at, negative_at, literal_at};
 ghost use Rattle.sot_expression.specs.Returned.{Gives};
 
@@ -61,7 +62,8 @@ pub fn is_name(tokens: &Tokens<'_>) -> bool
 ///
 /// `Token` where something else comes next, which stays there.
 pub fn expect_keyword(tokens: &mut Tokens<'_>, text: &[u8]) -> Result<Span, Fail>
-    ensures { Gives (λ at. at) result tokens.old tokens.new (expect (is_keyword text.now) tokens.old.tokens) }
+    ensures { Gives (λ at. at) result tokens.old tokens.new
+        (expect (is_keyword text.now) tokens.old.tokens) }
 {
     let Some(token) = tokens.peek() else {
         return Err(Fail::Token);
@@ -79,7 +81,8 @@ pub fn expect_keyword(tokens: &mut Tokens<'_>, text: &[u8]) -> Result<Span, Fail
 ///
 /// `Token` where something else comes next, which stays there.
 pub fn expect_sign(tokens: &mut Tokens<'_>, text: &[u8]) -> Result<Span, Fail>
-    ensures { Gives (λ at. at) result tokens.old tokens.new (expect (is_sign text.now) tokens.old.tokens) }
+    ensures { Gives (λ at. at) result tokens.old tokens.new
+        (expect (is_sign text.now) tokens.old.tokens) }
 {
     let Some(token) = tokens.peek() else {
         return Err(Fail::Token);
@@ -162,7 +165,8 @@ pub fn number(tokens: &mut Tokens<'_>) -> Result<Lit, Fail>
 
 /// The literal behind a minus.
 pub fn negated_number(tokens: &mut Tokens<'_>, minus: Token<'_>) -> Result<Lit, Fail>
-    ensures { Gives (λ lit. lit) result tokens.old tokens.new (negative_at (lexeme minus.entry) tokens.old.tokens) }
+    ensures { Gives (λ lit. lit) result tokens.old tokens.new
+        (negative_at (lexeme minus.entry) tokens.old.tokens) }
 {
     let Some(token) = tokens.peek() else {
         return Err(Fail::Token);

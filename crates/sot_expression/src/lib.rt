@@ -1,9 +1,10 @@
 //! The expressions that a text spells.
 //!
-//! [`Tokens`] is a text as a stream, one token ahead of its lexer. [`tree`] reads the expression at its front, with one
-//! function for each production, and stops at the first token that no expression goes on with. What stands in every grammar
-//! of the language is here too: a keyword, a sign, a name, a number. A call that fails has moved to the token at fault, and
-//! [`Fail`] says why: it may not stand there, it would nest too deep, or there was no memory.
+//! [`Tokens`] is a text as a stream, one token ahead of its lexer. [`tree`] reads the expression at
+//! its front, with one function for each production, and stops at the first token that no
+//! expression goes on with. What stands in every grammar of the language is here too: a keyword, a
+//! sign, a name, a number. A call that fails has moved to the token at fault, and [`Fail`] says
+//! why: it may not stand there, it would nest too deep, or there was no memory.
 #![tactic(auto)]
 
 mod expression;

@@ -1,6 +1,7 @@
 //! The nodes of a tree, above parts that were read.
 ghost use Rattle.std.specs.Prelude.{◌≡◌};
-ghost use Rattle.sot_tree.specs.Trees.{binary, rest, negated, denied, called, one_more, no_tree, rescaled, chosen};
+ghost use Rattle.sot_tree.specs.Trees.{binary, rest, negated, denied, called, one_more, no_tree};
+ghost use Rattle.sot_tree.specs.Trees.{rescaled, chosen};
 ghost use Rattle.sot_tree.specs.TreeViews.{tree_view, parts_view};
 ghost use Rattle.sot_expression.specs.Returned.{Makes};
 
@@ -35,7 +36,8 @@ pub fn call_of_two(
     second: Part,
     at: Span,
 ) -> Result<Expr, Fail>
-    ensures { Makes tree_view result (called func (one_more (tree_view first.tree) (one_more (tree_view second.tree) no_tree)) at) }
+    ensures { Makes tree_view result (called func
+        (one_more (tree_view first.tree) (one_more (tree_view second.tree) no_tree)) at) }
 {
     let mut parts = Vec::with_capacity(alloc, 2)?;
     parts.push_reserved(first.into_tree());
@@ -52,7 +54,9 @@ pub fn call_of_three(
     third: Part,
     at: Span,
 ) -> Result<Expr, Fail>
-    ensures { Makes tree_view result (called func (one_more (tree_view first.tree) (one_more (tree_view second.tree) (one_more (tree_view third.tree) no_tree))) at) }
+    ensures { Makes tree_view result (called func
+        (one_more (tree_view first.tree) (one_more (tree_view second.tree)
+        (one_more (tree_view third.tree) no_tree))) at) }
 {
     let mut parts = Vec::with_capacity(alloc, 3)?;
     parts.push_reserved(first.into_tree());
@@ -106,7 +110,8 @@ pub fn rescaled(alloc: Global, part: Part, to: Lit, at: Span) -> Result<Expr, Fa
 
 /// An `if` expression.
 pub fn chosen(alloc: Global, cond: Part, yes: Part, no: Part, at: Span) -> Result<Expr, Fail>
-    ensures { Makes tree_view result (chosen (tree_view cond.tree) (tree_view yes.tree) (tree_view no.tree) at) }
+    ensures { Makes tree_view result (chosen (tree_view cond.tree) (tree_view yes.tree)
+        (tree_view no.tree) at) }
 {
     let choice = Choice {
         cond: cond.into_tree(),

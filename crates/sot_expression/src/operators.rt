@@ -3,14 +3,16 @@ ghost use Rattle.std.specs.Prelude.{◌≡◌, ◌≤◌};
 ghost use Rattle.sot_expression.specs.Lexemes.{is_keyword, is_sign, is_name, is_number};
 ghost use Rattle.sot_expression.specs.Stream.{first_of};
 ghost use Rattle.sot_text.specs.Reading.{lexeme};
-ghost use Rattle.sot_expression.specs.Operators.{operator_of, tier_of_op, tier_of_infix, operator_from, opening_of, opening_at};
+ghost use Rattle.sot_expression.specs.Operators.{operator_of, tier_of_op, tier_of_infix};
+ghost use Rattle.sot_expression.specs.Operators.{operator_from, opening_of, opening_at};
 
 use crate::tokens::Tokens;
 use crate::word::is_word;
 use sot_text::{Kind, Token};
 use sot_tree::{Func, Op};
 
-/// What joins a left part to what stands behind it: an operator with an operand, or `%` with a number.
+/// What joins a left part to what stands behind it: an operator with an operand, or `%` with a
+/// number.
 #[derive(Clone, Copy)]
 pub enum Infix {
     Joins(Op),

@@ -10,8 +10,8 @@ pub struct Part {
     pub bare: bool,
 }
 
-// Written by hand, so that letting a part go is one call: a function that holds one over a `?` is proved without the
-// variants of its tree.
+// Written by hand, so that letting a part go is one call: a function that holds one over a `?` is
+// proved without the variants of its tree.
 impl Drop for Part {
     fn drop(self) {
         let Part {

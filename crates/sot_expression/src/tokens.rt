@@ -30,11 +30,13 @@ impl<'a> Model for Tokens<'a> {
     ghost invariant = { λ s. IfSome s.next (λ token. IsTokenText token.kind token.text.now) };
 }
 
-// Each of many callers would hold a copy of what it gives, so it stands apart, and puts that in its place.
+// Each of many callers would hold a copy of what it gives, so it stands apart, and puts that in its
+// place.
 #[inline(never)]
 #[tactic(auto, using(crate::proofs::StreamLaws::pulled, crate::proofs::StreamLaws::faulted))]
 fn pull<'a>(lexer: &mut Lexer<'a>, next: &mut Option<Token<'a>>, fault: &mut Option<LexFault>)
-    ensures ahead { ahead_of next.new fault.new lexer.new ≡ ahead_from lexer.old.bytes lexer.old.at }
+    ensures ahead { ahead_of next.new fault.new lexer.new
+        ≡ ahead_from lexer.old.bytes lexer.old.at }
     ensures whole { IfSome next.new (λ token. IsTokenText token.kind token.text.now) }
 {
     match lexer.next() {

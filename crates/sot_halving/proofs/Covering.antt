@@ -69,7 +69,8 @@ one_box Good box good = record {
     alone zero cell at = subst Good (same_Some box cell at) good
     alone (suc i) cell at = absurd (none-some cell at)
 
-whole_box : (Good : List Side → Type 0) (n : ℕ) (box : List Side) (cells : List (List Side)) → BisectsWithin Good n box (Whole cells) → IsCover Good (box ∷ []) cells
+whole_box : (Good : List Side → Type 0) (n : ℕ) (box : List Side) (cells : List (List Side)) → BisectsWithin Good n box (Whole cells)
+    → IsCover Good (box ∷ []) cells
 whole_box Good zero box cells h = absurd (cc)
 whole_box Good (suc n) box cells (inl h) = absurd (cc)
 whole_box Good (suc n) box cells (inr (inl h)) = subst (IsCover Good (box ∷ [])) (sym (same h.1)) (one_box Good box h.0)
@@ -84,11 +85,14 @@ whole_box Good (suc n) box cells (inr (inr (inr h))) =
     subst (IsCover Good (box ∷ [])) (sym p.is)
     (joined Good (h.1 ∷ []) (h.2 ∷ []) (box ∷ []) p.first p.second low high
     (λ s i. ⊎_elim (λ w. ⊎_elim (λ l. inl (inl l)) (λ r. inr (inl r)) (in_halves box h.1 h.2 h.3 s w)) (λ no'. absurd no') i)
-    (λ s i. ⊎_elim (λ l. ⊎_elim (λ w. inl (low_inside box h.1 h.2 h.3 s w)) (λ no'. absurd no') l) (λ r. ⊎_elim (λ w. inl (high_inside box h.1 h.2 h.3 s w)) (λ no'. absurd no') r) i))
+    (λ s i. ⊎_elim (λ l. ⊎_elim (λ w. inl (low_inside box h.1 h.2 h.3 s w)) (λ no'. absurd no') l)
+    (λ r. ⊎_elim (λ w. inl (high_inside box h.1 h.2 h.3 s w)) (λ no'. absurd no') r) i))
 
 pub whole_each : (Good : List Side → Type 0) (boxes cells : List (List Side)) → BisectsEach Good boxes (Whole cells) → IsCover Good boxes cells
 whole_each Good [] cells (inl h) = absurd (cc)
-whole_each Good [] cells (inr h) = (let same : cells ≡ [] = cc in subst (IsCover Good []) (sym same) (record { holds = λ s i. i; inside = λ s i. i; good = λ i cell at. absurd (none-some cell at) }))
+whole_each Good [] cells (inr h) =
+    (let same : cells ≡ [] = cc in subst (IsCover Good []) (sym same)
+    (record { holds = λ s i. i; inside = λ s i. i; good = λ i cell at. absurd (none-some cell at) }))
 whole_each Good (b ∷ bs) cells h =
     let p = parts h.0 h.1 cells h.4 in
     let one = whole_box Good h.2.0 b p.first (subst (BisectsWithin Good h.2.0 b) p.f_is h.2.1) in
@@ -103,7 +107,8 @@ record FailsIn (P Q : List (List Side) → Type 0) : Type 0 where
   cells : List (List Side)
   which : P cells ⊎ Q cells
 
-behind_failing : (cs : List (List Side)) (g : Finding) (cells : List (List Side)) (s : List ℤ) → Failing cells s ≡ behind cs g → FailsIn (λ ds. Whole cs ≡ Failing ds s) (λ ds. g ≡ Failing ds s)
+behind_failing : (cs : List (List Side)) (g : Finding) (cells : List (List Side)) (s : List ℤ) → Failing cells s ≡ behind cs g
+    → FailsIn (λ ds. Whole cs ≡ Failing ds s) (λ ds. g ≡ Failing ds s)
 behind_failing cs (Whole ds) cells s e = absurd (cc)
 behind_failing cs (Failing ds t) cells s e = record { cells = ds; which = inr (let same : t ≡ s = cc in ap (λ x. Failing ds x) same) }
 behind_failing cs (Begun ds) cells s e = absurd (cc)

@@ -35,10 +35,16 @@ module _ (box low high low' high' : List Side) (h : AreHalves box low high) (g :
   middles = same_middle g.side h.middle g.middle (subst (λ (r : Side). IsMiddle r h.middle) sides h.half) g.half
 
   pub same_low : low ≡ low'
-  same_low = h.low_is ∙ ap (λ k. slice_set box k (record { lo = h.side.lo; hi = h.middle })) axes ∙ ap (λ (r : Side). slice_set box g.axis (record { lo = r.lo; hi = h.middle })) sides ∙ ap (λ m. slice_set box g.axis (record { lo = g.side.lo; hi = m })) middles ∙ sym g.low_is
+  same_low =
+      h.low_is ∙ ap (λ k. slice_set box k (record { lo = h.side.lo; hi = h.middle })) axes
+      ∙ ap (λ (r : Side). slice_set box g.axis (record { lo = r.lo; hi = h.middle })) sides
+      ∙ ap (λ m. slice_set box g.axis (record { lo = g.side.lo; hi = m })) middles ∙ sym g.low_is
 
   pub same_high : high ≡ high'
-  same_high = h.high_is ∙ ap (λ k. slice_set box k (record { lo = h.middle +ℤ pos 1; hi = h.side.hi })) axes ∙ ap (λ (r : Side). slice_set box g.axis (record { lo = h.middle +ℤ pos 1; hi = r.hi })) sides ∙ ap (λ m. slice_set box g.axis (record { lo = m +ℤ pos 1; hi = g.side.hi })) middles ∙ sym g.high_is
+  same_high =
+      h.high_is ∙ ap (λ k. slice_set box k (record { lo = h.middle +ℤ pos 1; hi = h.side.hi })) axes
+      ∙ ap (λ (r : Side). slice_set box g.axis (record { lo = h.middle +ℤ pos 1; hi = r.hi })) sides
+      ∙ ap (λ m. slice_set box g.axis (record { lo = m +ℤ pos 1; hi = g.side.hi })) middles ∙ sym g.high_is
 
 -- a point of the box is in one of two parts
 pub split : (box : List Side) (k : ℕ) (r : Side) (m : ℤ) (s : List ℤ) → At box k r → IsWithin box s
@@ -75,13 +81,15 @@ module _ (box low high : List Side) (h : AreHalves box low high) where
   low_inside s w =
       let a = h.half.at_most in
       let lt = h.apart in
-      part box h.axis h.side (record { lo = h.side.lo; hi = h.middle }) s h.widest.is (omega (arith, ints)) (omega (arith, ints)) (subst (λ b. IsWithin b s) h.low_is w)
+      part box h.axis h.side (record { lo = h.side.lo; hi = h.middle }) s h.widest.is (omega (arith, ints)) (omega (arith, ints))
+      (subst (λ b. IsWithin b s) h.low_is w)
 
   pub high_inside : (s : List ℤ) → IsWithin high s → IsWithin box s
   high_inside s w =
       let a = h.half.at_least in
       let lt = h.apart in
-      part box h.axis h.side (record { lo = h.middle +ℤ pos 1; hi = h.side.hi }) s h.widest.is (omega (arith, ints)) (omega (arith, ints)) (subst (λ b. IsWithin b s) h.high_is w)
+      part box h.axis h.side (record { lo = h.middle +ℤ pos 1; hi = h.side.hi }) s h.widest.is (omega (arith, ints)) (omega (arith, ints))
+      (subst (λ b. IsWithin b s) h.high_is w)
 
 -- the box of one point is the box of its corner
 tail : (r : Side) (rs : List Side) → IsOnePoint (r ∷ rs) → IsOnePoint rs

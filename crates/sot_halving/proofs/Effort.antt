@@ -66,7 +66,8 @@ module _ (box low high : List Side) (h : AreHalves box low high) where
       let b = h.half.at_least in
       let lt = h.apart in
       subst (λ l. spread l < spread box) (sym h.low_is)
-      (spread_set box h.axis h.side (record { lo = h.side.lo; hi = h.middle }) h.widest.is (falls (h.middle -ℤ h.side.lo) (extent h.side) (omega (arith, ints, a, b, lt)) (omega (arith, ints, a, b, lt))))
+      (spread_set box h.axis h.side (record { lo = h.side.lo; hi = h.middle }) h.widest.is
+      (falls (h.middle -ℤ h.side.lo) (extent h.side) (omega (arith, ints, a, b, lt)) (omega (arith, ints, a, b, lt))))
 
   high_falls : spread high < spread box
   high_falls =
@@ -74,7 +75,8 @@ module _ (box low high : List Side) (h : AreHalves box low high) where
       let b = h.half.at_least in
       let lt = h.apart in
       subst (λ l. spread l < spread box) (sym h.high_is)
-      (spread_set box h.axis h.side (record { lo = h.middle +ℤ pos 1; hi = h.side.hi }) h.widest.is (falls (h.side.hi -ℤ (h.middle +ℤ pos 1)) (extent h.side) (omega (arith, ints, a, b, lt)) (omega (arith, ints, a, b, lt))))
+      (spread_set box h.axis h.side (record { lo = h.middle +ℤ pos 1; hi = h.side.hi }) h.widest.is
+      (falls (h.side.hi -ℤ (h.middle +ℤ pos 1)) (extent h.side) (omega (arith, ints, a, b, lt)) (omega (arith, ints, a, b, lt))))
 
   pub effort_falls : (open' : List (List Side)) → effort (low ∷ high ∷ open') < effort (box ∷ open')
   unfolding effort

@@ -7,4 +7,5 @@ use Rattle.sot_lists.specs.Places.{At}
 
 pub filled : {A : Type 0} (xs ys : List A) (i : ℕ) (x : A) → i < length xs → At ys i x → take i xs ≡ take i ys → take (i + 1) (set xs i x) ≡ take (i + 1) ys
 filled xs ys i x lt at done =
-    take_more_set xs i x lt ∙ ap (λ l. l ++ x ∷ []) done ∙ sym (take_more ys i x (slice_get_within ys i x at) ∙ ap (λ y. take i ys ++ y ∷ []) (get_or_from_slice_get ys i x x at))
+    take_more_set xs i x lt ∙ ap (λ l. l ++ x ∷ []) done ∙ sym
+    (take_more ys i x (slice_get_within ys i x at) ∙ ap (λ y. take i ys ++ y ∷ []) (get_or_from_slice_get ys i x x at))

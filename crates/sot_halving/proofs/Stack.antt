@@ -23,7 +23,8 @@ module _ (Good : List Side → Type 0) where
   nothing [] = inl refl
   nothing (b ∷ bs) = (Begun [], Begun [], (0, refl), nothing bs, refl)
 
-  pub takes_good : (box : List Side) (boxes : List (List Side)) (f : Finding) → Good box → BisectsEach Good boxes f → BisectsEach Good (box ∷ boxes) (behind (box ∷ []) f)
+  pub takes_good : (box : List Side) (boxes : List (List Side)) (f : Finding) → Good box → BisectsEach Good boxes f
+      → BisectsEach Good (box ∷ boxes) (behind (box ∷ []) f)
   takes_good box boxes f good h = (Whole (box ∷ []), f, (1, inr (inl (good, refl))), h, refl)
 
   pub takes_point : (box : List Side) (boxes : List (List Side)) → (Good box → ⊥) → IsOnePoint box → BisectsEach Good (box ∷ boxes) (Failing [] (lows box))
@@ -41,7 +42,17 @@ module _ (Good : List Side → Type 0) where
         rest.1,
         (
           suc (n + m),
-          inr (inr (inr (bad, low, high, halves, a, b, deepened Good n (n + m) (omega arith) low a h.2.1, deepened Good m (n + m) (omega arith) high b rest.2.1, refl))),
+          inr (inr (inr (
+            bad,
+            low,
+            high,
+            halves,
+            a,
+            b,
+            deepened Good n (n + m) (omega arith) low a h.2.1,
+            deepened Good m (n + m) (omega arith) high b rest.2.1,
+            refl,
+          ))),
         ),
         rest.3,
         h.4 ∙ ap (followed a) rest.4 ∙ followed_assoc a b rest.1,
@@ -60,17 +71,22 @@ module _ (Good : List Side → Type 0) (all : List (List Side)) where
   pub starts : IsUnderWay Good all [] all
   starts f h = subst (BisectsEach Good all) (sym (behind_none f)) h
 
-  pub more_cells : (cells open' : List (List Side)) (box : List Side) → Good box → IsUnderWay Good all cells (box ∷ open') → IsUnderWay Good all (cells ++ box ∷ []) open'
-  more_cells cells open' box good h f k = subst (BisectsEach Good all) (behind_behind cells (box ∷ []) f) (h (behind (box ∷ []) f) (takes_good Good box open' f good k))
+  pub more_cells : (cells open' : List (List Side)) (box : List Side) → Good box → IsUnderWay Good all cells (box ∷ open')
+      → IsUnderWay Good all (cells ++ box ∷ []) open'
+  more_cells cells open' box good h f k =
+      subst (BisectsEach Good all) (behind_behind cells (box ∷ []) f) (h (behind (box ∷ []) f) (takes_good Good box open' f good k))
 
-  pub more_boxes : (cells open' : List (List Side)) (box low high : List Side) → (Good box → ⊥) → AreHalves box low high → IsUnderWay Good all cells (box ∷ open') → IsUnderWay Good all cells (low ∷ high ∷ open')
+  pub more_boxes : (cells open' : List (List Side)) (box low high : List Side) → (Good box → ⊥) → AreHalves box low high
+      → IsUnderWay Good all cells (box ∷ open') → IsUnderWay Good all cells (low ∷ high ∷ open')
   more_boxes cells open' box low high bad halves h f k = h f (takes_halves Good box low high open' f bad halves k)
 
   pub is_whole : (cells : List (List Side)) → IsUnderWay Good all cells [] → (r : List (List Side)) → r ≡ cells ++ [] → BisectsEach Good all (Whole r)
   is_whole cells h r e = subst (λ c. BisectsEach Good all (Whole c)) (sym e) (h (Whole []) (inr refl))
 
-  pub is_failing : (cells open' : List (List Side)) (box : List Side) → (Good box → ⊥) → IsOnePoint box → IsUnderWay Good all cells (box ∷ open') → (r : List (List Side)) → r ≡ cells ++ [] → BisectsEach Good all (Failing r (lows box))
-  is_failing cells open' box bad one h r e = subst (λ c. BisectsEach Good all (Failing c (lows box))) (sym e) (h (Failing [] (lows box)) (takes_point Good box open' bad one))
+  pub is_failing : (cells open' : List (List Side)) (box : List Side) → (Good box → ⊥) → IsOnePoint box → IsUnderWay Good all cells (box ∷ open')
+      → (r : List (List Side)) → r ≡ cells ++ [] → BisectsEach Good all (Failing r (lows box))
+  is_failing cells open' box bad one h r e =
+      subst (λ c. BisectsEach Good all (Failing c (lows box))) (sym e) (h (Failing [] (lows box)) (takes_point Good box open' bad one))
 
   pub is_begun : (cells open' : List (List Side)) → IsUnderWay Good all cells open' → (r : List (List Side)) → r ≡ cells ++ [] → BisectsEach Good all (Begun r)
   is_begun cells open' h r e = subst (λ c. BisectsEach Good all (Begun c)) (sym e) (h (Begun []) (nothing Good open'))

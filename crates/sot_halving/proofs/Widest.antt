@@ -30,7 +30,8 @@ module _ (box : List Side) where
   pub stays : (n k : ℕ) (a b : Side) → At box k a → At box n b → extent b ≤ℤ extent a → IsWidestOf box n k → IsWidestOf box (n + 1) k
   stays n k a b at_a at_b le w = record {
     inside = (let u = w.inside in omega arith);
-    widest = λ i r s lt at_r at_s. by_more (λ j. At box j s → extent s ≤ℤ extent r) n i lt (λ less at. w.widest i r s less at_r at) (λ at. last r s at_r at) at_s;
+    widest =
+        λ i r s lt at_r at_s. by_more (λ j. At box j s → extent s ≤ℤ extent r) n i lt (λ less at. w.widest i r s less at_r at) (λ at. last r s at_r at) at_s;
     first = w.first;
   }
     where
@@ -41,7 +42,10 @@ module _ (box : List Side) where
   pub moves : (n k : ℕ) (a b : Side) → At box k a → At box n b → extent a <ℤ extent b → IsWidestOf box n k → IsWidestOf box (n + 1) n
   moves n k a b at_a at_b lt w = record {
     inside = omega arith;
-    widest = λ i r s less at_r at_s. by_more (λ j. At box j s → extent s ≤ℤ extent r) n i less (λ before at. (let u = below i r s before at_r at in omega (arith, ints))) (λ at. subst (λ (q : Side). extent s ≤ℤ extent q) (at_same box n s r at at_r) (omega (arith, ints))) at_s;
+    widest =
+        λ i r s less at_r at_s. by_more (λ j. At box j s → extent s ≤ℤ extent r) n i less
+        (λ before at. (let u = below i r s before at_r at in omega (arith, ints)))
+        (λ at. subst (λ (q : Side). extent s ≤ℤ extent q) (at_same box n s r at at_r) (omega (arith, ints))) at_s;
     first = λ i r s less at_r at_s. below i r s less at_r at_s;
   }
     where

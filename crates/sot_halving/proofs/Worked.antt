@@ -36,7 +36,38 @@ second_of_two q r lt = record {
 
 pub cuts : CutsAreAsStated
 cuts = (
-  record { axis = 0; side = from_to (negsuc 2) (pos 2); middle = negsuc 0; widest = widest_of_one (from_to (negsuc 2) (pos 2)); apart = omega (arith, ints); half = record { at_most = omega (arith, ints); at_least = omega (arith, ints) }; low_is = refl; high_is = refl },
-  record { axis = 0; side = from_to (pos 0) (pos 3); middle = pos 1; widest = first_of_two (from_to (pos 0) (pos 3)) (from_to (pos 5) (pos 8)) (omega (arith, ints)); apart = omega (arith, ints); half = record { at_most = omega (arith, ints); at_least = omega (arith, ints) }; low_is = refl; high_is = refl },
-  record { axis = 1; side = from_to (pos 5) (pos 8); middle = pos 6; widest = second_of_two (from_to (pos 0) (pos 1)) (from_to (pos 5) (pos 8)) (omega (arith, ints)); apart = omega (arith, ints); half = record { at_most = omega (arith, ints); at_least = omega (arith, ints) }; low_is = refl; high_is = refl },
+  record {
+    axis = 0;
+    side = from_to (negsuc 2) (pos 2);
+    middle = negsuc 0;
+    widest = widest_of_one (from_to (negsuc 2) (pos 2));
+    apart = omega (arith, ints);
+    half = record { at_most = omega (arith, ints); at_least = omega (arith, ints) };
+    low_is = refl;
+    high_is = refl;
+  },
+  record {
+    axis = 0;
+    side = from_to (pos 0) (pos 3);
+    middle = pos 1;
+    widest =
+        first_of_two (from_to (pos 0) (pos 3)) (from_to (pos 5) (pos 8)) (omega (arith, ints));
+    apart =
+        omega (arith, ints);
+    half = record { at_most = omega (arith, ints); at_least = omega (arith, ints) };
+    low_is = refl;
+    high_is = refl;
+  },
+  record {
+    axis = 1;
+    side = from_to (pos 5) (pos 8);
+    middle = pos 6;
+    widest =
+        second_of_two (from_to (pos 0) (pos 1)) (from_to (pos 5) (pos 8)) (omega (arith, ints));
+    apart =
+        omega (arith, ints);
+    half = record { at_most = omega (arith, ints); at_least = omega (arith, ints) };
+    low_is = refl;
+    high_is = refl;
+  },
 )

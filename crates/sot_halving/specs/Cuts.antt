@@ -22,8 +22,8 @@ pub record IsMiddle (r : Side) (m : ℤ) : Type 0 where
   pub at_most : (m +ℤ m) ≤ℤ (r.lo +ℤ r.hi)
   pub at_least : (r.lo +ℤ r.hi) ≤ℤ ((m +ℤ m) +ℤ pos 1)
 
--- the low and the high half of a box of more than one point: its widest interval, of equal ones the first, ends at its middle, and
--- begins behind it
+-- the low and the high half of a box of more than one point: its widest interval, of equal ones the
+-- first, ends at its middle, and begins behind it
 pub record AreHalves (box low high : List Side) : Type 0 where
   pub axis : ℕ
   pub side : Side

@@ -9,7 +9,8 @@ use Rattle.sot_halving.specs.Findings.{Finding, Whole, Failing, Begun}
 abbrev pub BeginsWith : List (List Side) → List (List Side) → Type 0
 BeginsWith cells first = (rest : List (List Side)) × (cells ≡ first ++ rest)
 
--- two findings that can be true of the same boxes: they are one, but for what one of them leaves open
+-- two findings that can be true of the same boxes: they are one, but for what one of them leaves
+-- open
 abbrev pub Agree : Finding → Finding → Type 0
 Agree (Whole a) (Whole b) = a ≡ b
 Agree (Whole a) (Failing b t) = ⊥

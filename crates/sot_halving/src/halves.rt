@@ -1,6 +1,7 @@
 //! The two halves of a box.
 
-ghost use Rattle.std.specs.Prelude.{◌≡◌, ◌<◌, pos, ◌+ℤ◌, ◌-ℤ◌, ◌≤ℤ◌, ◌<ℤ◌, length, slice_set, MatchBool, MatchOption};
+ghost use Rattle.std.specs.Prelude.{◌≡◌, ◌<◌, pos, ◌+ℤ◌, ◌-ℤ◌, ◌≤ℤ◌, ◌<ℤ◌, length, slice_set};
+ghost use Rattle.std.specs.Prelude.{MatchBool, MatchOption};
 ghost use Rattle.sot_lists.specs.Places.{At};
 ghost use Rattle.sot_box.specs.Sides.{AreOrdered};
 ghost use Rattle.sot_box.specs.Boxes.{lows};
@@ -138,8 +139,8 @@ fn cut(cell: &BoxN, axis: usize, side: Interval) -> Halves
     }
 }
 
-/// The halves of a box: its widest side, of equal ones the first, is cut behind half of the sum of its ends, rounded down. `None`
-/// exactly where the box is one point.
+/// The halves of a box: its widest side, of equal ones the first, is cut behind half of the sum of
+/// its ends, rounded down. `None` exactly where the box is one point.
 pub fn halves_of(cell: &BoxN) -> Option<Halves>
     ensures { MatchOption result (IsOnePoint cell.now) (λ h. AreHalves cell.now h.low h.high) }
 {

@@ -1,7 +1,8 @@
 //! Boxes that are cut in two, again and again.
 //!
-//! [`halves_of`] cuts a box of more than one point behind the middle of its widest side. What is found where boxes are halved until
-//! each is good is said in specs/, with its laws; the loop that does it stands in `sot_certify`.
+//! [`halves_of`] cuts a box of more than one point behind the middle of its widest side. What is
+//! found where boxes are halved until each is good is said in specs/, with its laws; the loop that
+//! does it stands in `sot_certify`.
 #![tactic(auto)]
 
 mod facts;

@@ -10,7 +10,8 @@ use Rattle.sot_lang.specs.declared.act.Act.TheVariants.{Assign, Publish, If', Re
 use Rattle.sot_iv.specs.TermIntervals.{OrMayTrap, IsTermInterval}
 use Rattle.sot_iv.specs.declared.drafted.Drafted.{Drafted}
 use Rattle.sot_iv.specs.declared.drafted.Drafted.TheVariants.{Absent, Maybe, Sure}
-use Rattle.sot_iv.specs.BodyIntervals.{Intervals, IsPut, AreIntervalHulls, IsDraftJoin, AreDraftJoins, IsJoin, IsTimes, IsActIntervals, AreActIntervals, IsBodyIntervals, IsExecutionIntervals}
+use Rattle.sot_iv.specs.BodyIntervals.{Intervals, IsPut, AreIntervalHulls, IsDraftJoin, AreDraftJoins, IsJoin, IsTimes, IsActIntervals, AreActIntervals}
+use Rattle.sot_iv.specs.BodyIntervals.{IsBodyIntervals, IsExecutionIntervals}
 use Rattle.sot_iv.specs.Monotony.{IsNarrower, AreNarrower, IsNarrowerDraft, AreNarrowerDrafts, IsNarrowerEnd}
 use Rattle.sot_iv.proofs.Sound.{after_ok}
 use Rattle.sot_iv.proofs.Narrow.{term_narrow, goes_on, chooses_narrow, hull_left, hull_right, hull_least, narrow_append}
@@ -24,7 +25,8 @@ inside_target r x y n e =
     let b : int_le x.hi r.hi ≡ true = grind (arith, ints, n.2) in
     and_from _ _ a b
 
-put_narrow : (rs : List Side) (k : ℕ) (at : Span) (x y s : Side) (o : OrMayTrap Side) → IsNarrower x y → IsPut rs k at y (Ok s) → IsPut rs k at x o → (r : Side) × (o ≡ Ok r) × IsNarrower r s
+put_narrow : (rs : List Side) (k : ℕ) (at : Span) (x y s : Side) (o : OrMayTrap Side) → IsNarrower x y → IsPut rs k at y (Ok s) → IsPut rs k at x o
+    → (r : Side) × (o ≡ Ok r) × IsNarrower r s
 put_narrow [] k at x y s o n hy hx = cc
 put_narrow (r ∷ rs) zero at x y s o n hy hx =
     ⊎_elim
@@ -43,7 +45,8 @@ locals_set (r ∷ rs) (s ∷ ss) (suc k) x y n m = (n.0, locals_set rs ss k x y 
 locals_set [] (s ∷ ss) k x y n m = absurd n
 locals_set (r ∷ rs) [] k x y n m = absurd n
 
-drafts_set : (ds es : List Drafted) (k : ℕ) (x y : Side) → AreNarrowerDrafts ds es → IsNarrower x y → AreNarrowerDrafts (slice_set ds k (Sure x)) (slice_set es k (Sure y))
+drafts_set : (ds es : List Drafted) (k : ℕ) (x y : Side) → AreNarrowerDrafts ds es → IsNarrower x y
+    → AreNarrowerDrafts (slice_set ds k (Sure x)) (slice_set es k (Sure y))
 drafts_set [] [] k x y n m = tt
 drafts_set (d ∷ ds) (e ∷ es) zero x y n m = (m, n.1)
 drafts_set (d ∷ ds) (e ∷ es) (suc k) x y n m = (n.0, drafts_set ds es k x y n.1 m)
@@ -173,12 +176,18 @@ drafts_least (a ∷ as') (b ∷ bs) [] (e ∷ es) m n h = absurd h
 join_left : (q f g h : Intervals) → IsNarrowerEnd q f → IsJoin f g (Ok h) → IsNarrowerEnd q h
 join_left q f g h n j =
     let e : j.0 ≡ h = (let is = j.3 in cc) in
-    subst (IsNarrowerEnd q) e (record { locals = hulls_left q.locals f.locals g.locals j.0.locals n.locals j.1; draft = drafts_left q.draft f.draft g.draft j.0.draft n.draft j.2 })
+    subst (IsNarrowerEnd q) e (record {
+      locals = hulls_left q.locals f.locals g.locals j.0.locals n.locals j.1;
+      draft = drafts_left q.draft f.draft g.draft j.0.draft n.draft j.2;
+    })
 
 join_right : (q f g h : Intervals) → IsNarrowerEnd q g → IsJoin f g (Ok h) → IsNarrowerEnd q h
 join_right q f g h n j =
     let e : j.0 ≡ h = (let is = j.3 in cc) in
-    subst (IsNarrowerEnd q) e (record { locals = hulls_right q.locals f.locals g.locals j.0.locals n.locals j.1; draft = drafts_right q.draft f.draft g.draft j.0.draft n.draft j.2 })
+    subst (IsNarrowerEnd q) e (record {
+      locals = hulls_right q.locals f.locals g.locals j.0.locals n.locals j.1;
+      draft = drafts_right q.draft f.draft g.draft j.0.draft n.draft j.2;
+    })
 
 -- what each evaluation leaves
 abbrev Narrows : Intervals → OrMayTrap Intervals → Type 0
@@ -206,10 +215,12 @@ times_narrow (suc n) small large step f g h o m y x =
     times_narrow n small large step b.0 yb.0 h o b.2 yb.2 (goes_on x.0 b.0 o _ b.1 x.2)
 
 mutual
-  act_narrow : (seen wide locals writes : List Side) (a : Act) (f g h : Intervals) (o : OrMayTrap Intervals) → AreNarrower seen wide → IsNarrowerEnd f g → IsActIntervals wide locals writes a g (Ok h) → IsActIntervals seen locals writes a f o → Narrows h o
+  act_narrow : (seen wide locals writes : List Side) (a : Act) (f g h : Intervals) (o : OrMayTrap Intervals) → AreNarrower seen wide → IsNarrowerEnd f g
+      → IsActIntervals wide locals writes a g (Ok h) → IsActIntervals seen locals writes a f o → Narrows h o
   act_narrow seen wide locals writes (Assign k t at) f g h o n m y x =
       let yt = after_ok y.0 h _ y.2 in
-      let t' = term_narrow t (seen ++ f.locals) (wide ++ g.locals) yt.0 x.0 (narrow_append seen f.locals wide g.locals n m.locals) (subst (IsTermInterval t (wide ++ g.locals)) yt.1 y.1) x.1 in
+      let t' = term_narrow t (seen ++ f.locals) (wide ++ g.locals) yt.0 x.0 (narrow_append seen f.locals wide g.locals n m.locals)
+      (subst (IsTermInterval t (wide ++ g.locals)) yt.1 y.1) x.1 in
       let xt = goes_on x.0 t'.0 o _ t'.1 x.2 in
       let yp = after_ok yt.2.0 h _ yt.2.2 in
       let p' = put_narrow locals k at t'.0 yt.0 yp.0 xt.0 t'.2 (subst (IsPut locals k at yt.0) yp.1 yt.2.1) xt.1 in
@@ -217,11 +228,13 @@ mutual
       let e : h ≡ record { locals = slice_set g.locals k yp.0; draft = g.draft } = (let h' = yp.2 in cc) in (
         record { locals = slice_set f.locals k p'.0; draft = f.draft },
         xp,
-        subst (IsNarrowerEnd (record { locals = slice_set f.locals k p'.0; draft = f.draft })) (sym e) (record { locals = locals_set f.locals g.locals k p'.0 yp.0 m.locals p'.2; draft = m.draft }),
+        subst (IsNarrowerEnd (record { locals = slice_set f.locals k p'.0; draft = f.draft })) (sym e)
+            (record { locals = locals_set f.locals g.locals k p'.0 yp.0 m.locals p'.2; draft = m.draft }),
       )
   act_narrow seen wide locals writes (Publish k t at) f g h o n m y x =
       let yt = after_ok y.0 h _ y.2 in
-      let t' = term_narrow t (seen ++ f.locals) (wide ++ g.locals) yt.0 x.0 (narrow_append seen f.locals wide g.locals n m.locals) (subst (IsTermInterval t (wide ++ g.locals)) yt.1 y.1) x.1 in
+      let t' = term_narrow t (seen ++ f.locals) (wide ++ g.locals) yt.0 x.0 (narrow_append seen f.locals wide g.locals n m.locals)
+      (subst (IsTermInterval t (wide ++ g.locals)) yt.1 y.1) x.1 in
       let xt = goes_on x.0 t'.0 o _ t'.1 x.2 in
       let yp = after_ok yt.2.0 h _ yt.2.2 in
       let p' = put_narrow writes k at t'.0 yt.0 yp.0 xt.0 t'.2 (subst (IsPut writes k at yt.0) yp.1 yt.2.1) xt.1 in
@@ -229,11 +242,13 @@ mutual
       let e : h ≡ record { locals = g.locals; draft = slice_set g.draft k (Sure yp.0) } = (let h' = yp.2 in cc) in (
         record { locals = f.locals; draft = slice_set f.draft k (Sure p'.0) },
         xp,
-        subst (IsNarrowerEnd (record { locals = f.locals; draft = slice_set f.draft k (Sure p'.0) })) (sym e) (record { locals = m.locals; draft = drafts_set f.draft g.draft k p'.0 yp.0 m.draft p'.2 }),
+        subst (IsNarrowerEnd (record { locals = f.locals; draft = slice_set f.draft k (Sure p'.0) })) (sym e)
+            (record { locals = m.locals; draft = drafts_set f.draft g.draft k p'.0 yp.0 m.draft p'.2 }),
       )
   act_narrow seen wide locals writes (If' t s1 us s2 vs) f g h o n m y x =
       let yt = after_ok y.0 h _ y.2 in
-      let t' = term_narrow t (seen ++ f.locals) (wide ++ g.locals) yt.0 x.0 (narrow_append seen f.locals wide g.locals n m.locals) (subst (IsTermInterval t (wide ++ g.locals)) yt.1 y.1) x.1 in
+      let t' = term_narrow t (seen ++ f.locals) (wide ++ g.locals) yt.0 x.0 (narrow_append seen f.locals wide g.locals n m.locals)
+      (subst (IsTermInterval t (wide ++ g.locals)) yt.1 y.1) x.1 in
       chooses_narrow t'.0 yt.0 (Narrows h o) _ _ _ _ _ _ t'.2
       (λ l r. acts_narrow seen wide locals writes us f g h o n m r l)
       (λ l r. acts_narrow seen wide locals writes vs f g h o n m r l)
@@ -260,14 +275,16 @@ mutual
       times_narrow k (λ u z. AreActIntervals seen locals writes us u z) (λ u z. AreActIntervals wide locals writes us u z)
       (λ u v w z i a b. acts_narrow seen wide locals writes us u v w z n i a b) f g h o m y x
 
-  acts_narrow : {m : _} (seen wide locals writes : List Side) (us : Row_of-Act m) (f g h : Intervals) (o : OrMayTrap Intervals) → AreNarrower seen wide → IsNarrowerEnd f g → AreActIntervals wide locals writes us g (Ok h) → AreActIntervals seen locals writes us f o → Narrows h o
+  acts_narrow : {m : _} (seen wide locals writes : List Side) (us : Row_of-Act m) (f g h : Intervals) (o : OrMayTrap Intervals) → AreNarrower seen wide
+      → IsNarrowerEnd f g → AreActIntervals wide locals writes us g (Ok h) → AreActIntervals seen locals writes us f o → Narrows h o
   acts_narrow seen wide locals writes end_of-Act f g h o n m y x = (let e : h ≡ g = cc in (f, x, subst (IsNarrowerEnd f) (sym e) m))
   acts_narrow seen wide locals writes (more_of-Act a rest) f g h o n m y x =
       let ya = after_ok y.0 h _ y.2 in
       let a' = act_narrow seen wide locals writes a f g ya.0 x.0 n m (subst (IsActIntervals wide locals writes a g) ya.1 y.1) x.1 in
       acts_narrow seen wide locals writes rest a'.0 ya.0 h o n a'.2 ya.2 (goes_on x.0 a'.0 o _ a'.1 x.2)
 
-body_narrow : (seen wide locals writes : List Side) (us : List Act) (f g h : Intervals) (o : OrMayTrap Intervals) → AreNarrower seen wide → IsNarrowerEnd f g → IsBodyIntervals wide locals writes us g (Ok h) → IsBodyIntervals seen locals writes us f o → Narrows h o
+body_narrow : (seen wide locals writes : List Side) (us : List Act) (f g h : Intervals) (o : OrMayTrap Intervals) → AreNarrower seen wide → IsNarrowerEnd f g
+    → IsBodyIntervals wide locals writes us g (Ok h) → IsBodyIntervals seen locals writes us f o → Narrows h o
 body_narrow seen wide locals writes [] f g h o n m y x = (let e : h ≡ g = cc in (f, x, subst (IsNarrowerEnd f) (sym e) m))
 body_narrow seen wide locals writes (a ∷ rest) f g h o n m y x =
     let ya = after_ok y.0 h _ y.2 in
@@ -278,6 +295,8 @@ no_drafts : (n : ℕ) → AreNarrowerDrafts (replicate n Absent) (replicate n Ab
 no_drafts zero = tt
 no_drafts (suc n) = (tt, no_drafts n)
 
-pub execution_narrow : (us : List Act) (locals writes seen at_start seen_wide start_wide : List Side) (g : Intervals) (o : OrMayTrap Intervals) → AreNarrower seen seen_wide → AreNarrower at_start start_wide → IsExecutionIntervals us locals writes seen_wide start_wide (Ok g) → IsExecutionIntervals us locals writes seen at_start o → Narrows g o
+pub execution_narrow : (us : List Act) (locals writes seen at_start seen_wide start_wide : List Side) (g : Intervals) (o : OrMayTrap Intervals)
+    → AreNarrower seen seen_wide → AreNarrower at_start start_wide → IsExecutionIntervals us locals writes seen_wide start_wide (Ok g)
+    → IsExecutionIntervals us locals writes seen at_start o → Narrows g o
 execution_narrow us locals writes seen at_start seen_wide start_wide g o n m y x =
     body_narrow seen seen_wide locals writes us _ _ g o n (record { locals = m; draft = no_drafts (length writes) }) y x

@@ -1,5 +1,6 @@
 -- Where the interval evaluation of a body succeeds, the body does not trap, and what it leaves lies in the intervals.
-use Rattle.std.proofs.Common.{◌≡◌, ℕ, zero, suc, ℤ, true, false, inl, inr, ⊎_elim, List, [], ◌∷◌, ◌++◌, Option, Some, None, Ok, length, replicate, refl, sym, subst, arith}
+use Rattle.std.proofs.Common.{◌≡◌, ℕ, zero, suc, ℤ, true, false, inl, inr, ⊎_elim, List, [], ◌∷◌, ◌++◌, Option, Some, None, Ok, length, replicate, refl, sym}
+use Rattle.std.proofs.Common.{subst, arith}
 use Rattle.std.specs.Prelude.{slice_set, int_le, ◌&&◌, if◌then◌else◌}
 use Rattle.std.proofs.lemmas.Bool.{cases_Bool, and_parts, and_from}
 use Rattle.std.proofs.lemmas.Int.{ints}
@@ -13,7 +14,8 @@ use Rattle.sot_lang.specs.Bodies.{Fired, in_range, times, act, acts, body, execu
 use Rattle.sot_iv.specs.TermIntervals.{OrMayTrap, IsTermInterval, CanBe}
 use Rattle.sot_iv.specs.declared.drafted.Drafted.{Drafted}
 use Rattle.sot_iv.specs.declared.drafted.Drafted.TheVariants.{Absent, Maybe, Sure}
-use Rattle.sot_iv.specs.BodyIntervals.{Intervals, IsPut, AreIntervalHulls, IsDraftJoin, AreDraftJoins, IsTimes, IsActIntervals, AreActIntervals, IsBodyIntervals, IsExecutionIntervals}
+use Rattle.sot_iv.specs.BodyIntervals.{Intervals, IsPut, AreIntervalHulls, IsDraftJoin, AreDraftJoins, IsTimes, IsActIntervals, AreActIntervals}
+use Rattle.sot_iv.specs.BodyIntervals.{IsBodyIntervals, IsExecutionIntervals}
 pub use Rattle.sot_iv.specs.Soundness.{IsDrafted, AreDrafted, Lies}
 use Rattle.sot_iv.proofs.Sound.{sound, after_ok}
 use Rattle.sot_box.proofs.Ranges.{within_append}
@@ -46,7 +48,8 @@ put_ok (r ∷ rs) zero at x y z h i =
     (cases_Bool (int_le r.lo x.lo && int_le x.hi r.hi))
 put_ok (r ∷ rs) (suc k) at x y z h i = put_ok rs k at x y z h i
 
-drafted_set : (ds : List Drafted) (os : List (Option ℤ)) (k : ℕ) (y : Side) (z : ℤ) → AreDrafted ds os → IsIn y z → AreDrafted (slice_set ds k (Sure y)) (slice_set os k (Some z))
+drafted_set : (ds : List Drafted) (os : List (Option ℤ)) (k : ℕ) (y : Side) (z : ℤ) → AreDrafted ds os → IsIn y z
+    → AreDrafted (slice_set ds k (Sure y)) (slice_set os k (Some z))
 drafted_set [] [] k y z a i = tt
 drafted_set (d ∷ ds) (o ∷ os) zero y z a i = (i, a.1)
 drafted_set (d ∷ ds) (o ∷ os) (suc k) y z a i = (a.0, drafted_set ds os k y z a.1 i)
@@ -129,44 +132,52 @@ eithers_right (a ∷ as') (b ∷ bs) [] (o ∷ os) e w = absurd e
 eithers_right [] (b ∷ bs) ds (o ∷ os) e w = absurd e
 eithers_right (a ∷ as') [] ds [] e w = absurd e
 
-branch_ends : (c : Outcome ℤ) (a b : Outcome Fired) (x : Side) (f : Intervals) → (z : ℤ) × (c ≡ Ok z) × IsIn x z → (CanBe true x → Ends f a) → (CanBe false x → Ends f b) → Ends f (then_with c (λ z. if is_true z then a else b))
+branch_ends : (c : Outcome ℤ) (a b : Outcome Fired) (x : Side) (f : Intervals) → (z : ℤ) × (c ≡ Ok z) × IsIn x z → (CanBe true x → Ends f a)
+    → (CanBe false x → Ends f b) → Ends f (then_with c (λ z. if is_true z then a else b))
 branch_ends c a b x f l ha hb =
     ⊎_elim
     (λ t. let h = ha (l.0, l.2, t) in (h.0, rw (l.1, t) h.1, h.2))
     (λ f'. let h = hb (l.0, l.2, f') in (h.0, rw (l.1, f') h.1, h.2))
     (cases_Bool (is_true l.0))
 
-times_end : (n : ℕ) (block : Intervals → OrMayTrap Intervals → Type 0) (run : Fired → Outcome Fired) (f r : Intervals) (g : Fired) → ((f r : Intervals) (g : Fired) → Lies f g → block f (Ok r) → Ends r (run g)) → Lies f g → IsTimes n block f (Ok r) → Ends r (times n run g)
+times_end : (n : ℕ) (block : Intervals → OrMayTrap Intervals → Type 0) (run : Fired → Outcome Fired) (f r : Intervals) (g : Fired)
+    → ((f r : Intervals) (g : Fired) → Lies f g → block f (Ok r) → Ends r (run g)) → Lies f g → IsTimes n block f (Ok r) → Ends r (times n run g)
 times_end zero block run f r g step l h = (let e : r ≡ f = cc in (g, refl, subst (λ q. Lies q g) (sym e) l))
 times_end (suc n) block run f r g step l h =
     let x = after_ok h.0 r _ h.2 in
     ends_then x.0 r (run g) (times n run) (step f x.0 g l (subst (block f) x.1 h.1)) (λ g' l'. times_end n block run x.0 r g' step l' x.2)
 
 mutual
-  act_ends : (seen : List Side) (env : List ℤ) (locals writes : List Side) (a : Act) (f r : Intervals) (g : Fired) → IsWithin seen env → Lies f g → IsActIntervals seen locals writes a f (Ok r) → Ends r (act env locals writes a g)
+  act_ends : (seen : List Side) (env : List ℤ) (locals writes : List Side) (a : Act) (f r : Intervals) (g : Fired) → IsWithin seen env → Lies f g
+      → IsActIntervals seen locals writes a f (Ok r) → Ends r (act env locals writes a g)
   act_ends seen env locals writes (Assign k t at) f r g w l h =
       let x = after_ok h.0 r _ h.2 in
-      let z = sound t (seen ++ f.locals) (env ++ g.locals) x.0 (within_append seen f.locals env g.locals w l.locals) (subst (IsTermInterval t (seen ++ f.locals)) x.1 h.1) in
+      let z = sound t (seen ++ f.locals) (env ++ g.locals) x.0 (within_append seen f.locals env g.locals w l.locals)
+      (subst (IsTermInterval t (seen ++ f.locals)) x.1 h.1) in
       let y = after_ok x.2.0 r _ x.2.2 in
       let q = put_ok locals k at x.0 y.0 z.0 (subst (IsPut locals k at x.0) y.1 x.2.1) z.2 in
       let e : r ≡ record { locals = slice_set f.locals k y.0; draft = f.draft } = (let h' = y.2 in cc) in (
         record { locals = slice_set g.locals k z.0; draft = g.draft },
         rw (z.1, q.0) refl,
-        subst (λ s. Lies s (record { locals = slice_set g.locals k z.0; draft = g.draft })) (sym e) (record { locals = locals_set f.locals g.locals k y.0 z.0 l.locals q.1; draft = l.draft }),
+        subst (λ s. Lies s (record { locals = slice_set g.locals k z.0; draft = g.draft })) (sym e)
+            (record { locals = locals_set f.locals g.locals k y.0 z.0 l.locals q.1; draft = l.draft }),
       )
   act_ends seen env locals writes (Publish k t at) f r g w l h =
       let x = after_ok h.0 r _ h.2 in
-      let z = sound t (seen ++ f.locals) (env ++ g.locals) x.0 (within_append seen f.locals env g.locals w l.locals) (subst (IsTermInterval t (seen ++ f.locals)) x.1 h.1) in
+      let z = sound t (seen ++ f.locals) (env ++ g.locals) x.0 (within_append seen f.locals env g.locals w l.locals)
+      (subst (IsTermInterval t (seen ++ f.locals)) x.1 h.1) in
       let y = after_ok x.2.0 r _ x.2.2 in
       let q = put_ok writes k at x.0 y.0 z.0 (subst (IsPut writes k at x.0) y.1 x.2.1) z.2 in
       let e : r ≡ record { locals = f.locals; draft = slice_set f.draft k (Sure y.0) } = (let h' = y.2 in cc) in (
         record { locals = g.locals; draft = slice_set g.draft k (Some z.0) },
         rw (z.1, q.0) refl,
-        subst (λ s. Lies s (record { locals = g.locals; draft = slice_set g.draft k (Some z.0) })) (sym e) (record { locals = l.locals; draft = drafted_set f.draft g.draft k y.0 z.0 l.draft q.1 }),
+        subst (λ s. Lies s (record { locals = g.locals; draft = slice_set g.draft k (Some z.0) })) (sym e)
+            (record { locals = l.locals; draft = drafted_set f.draft g.draft k y.0 z.0 l.draft q.1 }),
       )
   act_ends seen env locals writes (If' t s1 us s2 vs) f r g w l h =
       let x = after_ok h.0 r _ h.2 in
-      let z = sound t (seen ++ f.locals) (env ++ g.locals) x.0 (within_append seen f.locals env g.locals w l.locals) (subst (IsTermInterval t (seen ++ f.locals)) x.1 h.1) in
+      let z = sound t (seen ++ f.locals) (env ++ g.locals) x.0 (within_append seen f.locals env g.locals w l.locals)
+      (subst (IsTermInterval t (seen ++ f.locals)) x.1 h.1) in
       let c = value_of t (env ++ g.locals) in
       let a = acts env locals writes us g in
       let b = acts env locals writes vs g in
@@ -179,32 +190,52 @@ mutual
       let v = after_ok y.2.0 r _ y.2.2 in
       let e : r ≡ v.2.0 = (let h' = v.2.3 in cc) in
       branch_ends c a b x.0 r z
-      (λ t'. let n = acts_end seen env locals writes us f y.0 g w l (subst (λ q. AreActIntervals seen locals writes us f q) y.1 two.2.1) in
-      (n.0, n.1, subst (λ q. Lies q n.0) (sym e) (record { locals = union_left y.0.locals v.0.locals v.2.0.locals n.0.locals v.2.1 n.2.locals; draft = eithers_left y.0.draft v.0.draft v.2.0.draft n.0.draft v.2.2 n.2.draft })))
-      (λ f'. let n = acts_end seen env locals writes vs f v.0 g w l (subst (λ q. AreActIntervals seen locals writes vs f q) v.1 y.2.1) in
-      (n.0, n.1, subst (λ q. Lies q n.0) (sym e) (record { locals = union_right y.0.locals v.0.locals v.2.0.locals n.0.locals v.2.1 n.2.locals; draft = eithers_right y.0.draft v.0.draft v.2.0.draft n.0.draft v.2.2 n.2.draft }))))
+      (λ t'. let n = acts_end seen env locals writes us f y.0 g w l (subst (λ q. AreActIntervals seen locals writes us f q) y.1 two.2.1) in (
+        n.0,
+        n.1,
+        subst (λ q. Lies q n.0) (sym e) (record {
+          locals = union_left y.0.locals v.0.locals v.2.0.locals n.0.locals v.2.1 n.2.locals;
+          draft = eithers_left y.0.draft v.0.draft v.2.0.draft n.0.draft v.2.2 n.2.draft;
+        }),
+      ))
+      (λ f'. let n = acts_end seen env locals writes vs f v.0 g w l (subst (λ q. AreActIntervals seen locals writes vs f q) v.1 y.2.1) in (
+        n.0,
+        n.1,
+        subst (λ q. Lies q n.0) (sym e) (record {
+          locals = union_right y.0.locals v.0.locals v.2.0.locals n.0.locals v.2.1 n.2.locals;
+          draft = eithers_right y.0.draft v.0.draft v.2.0.draft n.0.draft v.2.2 n.2.draft;
+        }),
+      )))
       more)
       x.2
   act_ends seen env locals writes (Repeat' n s us) f r g w l h =
-      times_end n (λ g x. AreActIntervals seen locals writes us g x) (acts env locals writes us) f r g (λ f' r' g' l' h'. acts_end seen env locals writes us f' r' g' w l' h') l h
+      times_end n (λ g x. AreActIntervals seen locals writes us g x) (acts env locals writes us) f r g
+      (λ f' r' g' l' h'. acts_end seen env locals writes us f' r' g' w l' h') l h
 
-  acts_end : {m : _} (seen : List Side) (env : List ℤ) (locals writes : List Side) (us : Row_of-Act m) (f r : Intervals) (g : Fired) → IsWithin seen env → Lies f g → AreActIntervals seen locals writes us f (Ok r) → Ends r (acts env locals writes us g)
+  acts_end : {m : _} (seen : List Side) (env : List ℤ) (locals writes : List Side) (us : Row_of-Act m) (f r : Intervals) (g : Fired) → IsWithin seen env
+      → Lies f g → AreActIntervals seen locals writes us f (Ok r) → Ends r (acts env locals writes us g)
   acts_end seen env locals writes end_of-Act f r g w l h = (let e : r ≡ f = cc in (g, refl, subst (λ q. Lies q g) (sym e) l))
   acts_end seen env locals writes (more_of-Act a rest) f r g w l h =
       let x = after_ok h.0 r _ h.2 in
-      ends_then x.0 r (act env locals writes a g) (acts env locals writes rest) (act_ends seen env locals writes a f x.0 g w l (subst (IsActIntervals seen locals writes a f) x.1 h.1)) (λ g' l'. acts_end seen env locals writes rest x.0 r g' w l' x.2)
+      ends_then x.0 r (act env locals writes a g) (acts env locals writes rest)
+      (act_ends seen env locals writes a f x.0 g w l (subst (IsActIntervals seen locals writes a f) x.1 h.1))
+      (λ g' l'. acts_end seen env locals writes rest x.0 r g' w l' x.2)
 
-body_ends : (seen : List Side) (env : List ℤ) (locals writes : List Side) (us : List Act) (f r : Intervals) (g : Fired) → IsWithin seen env → Lies f g → IsBodyIntervals seen locals writes us f (Ok r) → Ends r (body env locals writes us g)
+body_ends : (seen : List Side) (env : List ℤ) (locals writes : List Side) (us : List Act) (f r : Intervals) (g : Fired) → IsWithin seen env → Lies f g
+    → IsBodyIntervals seen locals writes us f (Ok r) → Ends r (body env locals writes us g)
 body_ends seen env locals writes [] f r g w l h = (let e : r ≡ f = cc in (g, refl, subst (λ q. Lies q g) (sym e) l))
 body_ends seen env locals writes (a ∷ rest) f r g w l h =
     let x = after_ok h.0 r _ h.2 in
-    ends_then x.0 r (act env locals writes a g) (body env locals writes rest) (act_ends seen env locals writes a f x.0 g w l (subst (IsActIntervals seen locals writes a f) x.1 h.1)) (λ g' l'. body_ends seen env locals writes rest x.0 r g' w l' x.2)
+    ends_then x.0 r (act env locals writes a g) (body env locals writes rest)
+    (act_ends seen env locals writes a f x.0 g w l (subst (IsActIntervals seen locals writes a f) x.1 h.1))
+    (λ g' l'. body_ends seen env locals writes rest x.0 r g' w l' x.2)
 
 no_drafts : (n : ℕ) → AreDrafted (replicate n Absent) (replicate n None)
 no_drafts zero = tt
 no_drafts (suc n) = (tt, no_drafts n)
 
-pub exec_sound : (us : List Act) (locals writes seen at_start : List Side) (env start : List ℤ) (r : Intervals) → IsWithin seen env → IsWithin at_start start → IsExecutionIntervals us locals writes seen at_start (Ok r) → (g : Fired) × (execution us locals writes env start ≡ Ok g) × Lies r g
+pub exec_sound : (us : List Act) (locals writes seen at_start : List Side) (env start : List ℤ) (r : Intervals) → IsWithin seen env → IsWithin at_start start
+    → IsExecutionIntervals us locals writes seen at_start (Ok r) → (g : Fired) × (execution us locals writes env start ≡ Ok g) × Lies r g
 unfolding execution
 exec_sound us locals writes seen at_start env start r w ws h =
     body_ends seen env locals writes us _ r _ w (record { locals = ws; draft = no_drafts (length writes) }) h

@@ -27,8 +27,10 @@ wide_row at = operated_is Add at (from_to (pos 0) (pos 9223372036854775807)) (fr
 
 pub rest_rows : RestRows
 rest_rows = (
-  λ at. image_of (rest_result (pos 5)) at (from_to (pos 8) (pos 11) ∷ []) (from_to (pos 0) (pos 4)) (rest_least (pos 5) (from_to (pos 8) (pos 11)) (omega (arith, ints)) (omega (arith, ints))),
-  λ at. image_of (rest_result (pos 5)) at (from_to (pos 6) (pos 9) ∷ []) (from_to (pos 1) (pos 4)) (rest_least (pos 5) (from_to (pos 6) (pos 9)) (omega (arith, ints)) (omega (arith, ints))),
+  λ at. image_of (rest_result (pos 5)) at (from_to (pos 8) (pos 11) ∷ []) (from_to (pos 0) (pos 4))
+      (rest_least (pos 5) (from_to (pos 8) (pos 11)) (omega (arith, ints)) (omega (arith, ints))),
+  λ at. image_of (rest_result (pos 5)) at (from_to (pos 6) (pos 9) ∷ []) (from_to (pos 1) (pos 4))
+      (rest_least (pos 5) (from_to (pos 6) (pos 9)) (omega (arith, ints)) (omega (arith, ints))),
 )
 
 pub magnitude_row : MagnitudeRow

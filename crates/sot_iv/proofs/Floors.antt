@@ -34,19 +34,24 @@ neg_mono a b h = omega (arith, ints, h)
 pub among_dividends : (lo hi a k : ℤ) → (k ≡ pos 0 → ⊥) → lo ≤ℤ a → a ≤ℤ hi → Among (floor_div lo k) (floor_div hi k) (floor_div a k)
 among_dividends lo hi a (pos zero) ne l h = absurd (ne refl)
 among_dividends lo hi a (pos (suc n)) ne l h = inl (floor_mono lo a (suc n) (omega arith) l, floor_mono a hi (suc n) (omega arith) h)
-among_dividends lo hi a (negsuc n) ne l h = inr (floor_mono (neg_ℤ hi) (neg_ℤ a) (suc n) (omega arith) (neg_mono a hi h), floor_mono (neg_ℤ a) (neg_ℤ lo) (suc n) (omega arith) (neg_mono lo a l))
+among_dividends lo hi a (negsuc n) ne l h =
+    inr (floor_mono (neg_ℤ hi) (neg_ℤ a) (suc n) (omega arith) (neg_mono a hi h), floor_mono (neg_ℤ a) (neg_ℤ lo) (suc n) (omega arith) (neg_mono lo a l))
 
 among_above : (a : ℤ) (k m l : ℕ) → 0 < k → k ≤ m → m ≤ l → Among (floor_by a k) (floor_by a l) (floor_by a m)
-among_above (pos a) k m l p h i = (let x = div_anti a k m p h in let y = div_anti a m l (omega (arith, p, h)) i in inr (omega (arith, ints, y), omega (arith, ints, x)))
-among_above (negsuc a) k m l p h i = (let x = div_anti a k m p h in let y = div_anti a m l (omega (arith, p, h)) i in inl (omega (arith, ints, x), omega (arith, ints, y)))
+among_above (pos a) k m l p h i =
+    (let x = div_anti a k m p h in let y = div_anti a m l (omega (arith, p, h)) i in inr (omega (arith, ints, y), omega (arith, ints, x)))
+among_above (negsuc a) k m l p h i =
+    (let x = div_anti a k m p h in let y = div_anti a m l (omega (arith, p, h)) i in inl (omega (arith, ints, x), omega (arith, ints, y)))
 
 among_swap : (u v z : ℤ) → Among u v z → Among v u z
 among_swap u v z h = ⊎_elim (λ x. inr x) (λ x. inl x) h
 
 -- with one dividend, and divisors of one sign
 pub among_divisors : (a lo hi k : ℤ) → (pos 1 ≤ℤ lo) ⊎ (hi ≤ℤ negsuc 0) → lo ≤ℤ k → k ≤ℤ hi → Among (floor_div a lo) (floor_div a hi) (floor_div a k)
-among_divisors a (pos l) (pos h) (pos n) s p q = ⊎_elim (λ t. among_above a l n h (omega (arith, ints, t)) (omega (arith, ints, p)) (omega (arith, ints, q))) (λ f. absurd (omega (arith, ints, f))) s
-among_divisors a (negsuc l) (negsuc h) (negsuc n) s p q = among_swap _ _ _ (among_above (neg_ℤ a) (suc h) (suc n) (suc l) (omega arith) (omega (arith, ints, q)) (omega (arith, ints, p)))
+among_divisors a (pos l) (pos h) (pos n) s p q =
+    ⊎_elim (λ t. among_above a l n h (omega (arith, ints, t)) (omega (arith, ints, p)) (omega (arith, ints, q))) (λ f. absurd (omega (arith, ints, f))) s
+among_divisors a (negsuc l) (negsuc h) (negsuc n) s p q =
+    among_swap _ _ _ (among_above (neg_ℤ a) (suc h) (suc n) (suc l) (omega arith) (omega (arith, ints, q)) (omega (arith, ints, p)))
 among_divisors a (pos l) (negsuc h) k s p q = absurd (omega (arith, ints, p, q))
 among_divisors a (negsuc l) (pos h) k s p q = ⊎_elim (λ t. absurd (omega (arith, ints, t))) (λ f. absurd (omega (arith, ints, f))) s
 among_divisors a (pos l) (pos h) (negsuc n) s p q = absurd (omega (arith, ints, p))

@@ -34,26 +34,30 @@ two_numbers : (x y : Side) (P : List ℤ → Type 0) → ((a b : ℤ) → IsIn x
 two_numbers x y P h [] w = absurd w
 two_numbers x y P h (a ∷ as') w = one_number y (λ bs. P (a ∷ bs)) (λ b j. h a b (w.0, w.1) j) as' w.2
 
-three_numbers : (x y u : Side) (P : List ℤ → Type 0) → ((a b c : ℤ) → IsIn x a → IsIn y b → IsIn u c → P (a ∷ b ∷ c ∷ [])) → (as' : List ℤ) → IsWithin (x ∷ y ∷ u ∷ []) as' → P as'
+three_numbers : (x y u : Side) (P : List ℤ → Type 0) → ((a b c : ℤ) → IsIn x a → IsIn y b → IsIn u c → P (a ∷ b ∷ c ∷ [])) → (as' : List ℤ)
+    → IsWithin (x ∷ y ∷ u ∷ []) as' → P as'
 three_numbers x y u P h [] w = absurd w
 three_numbers x y u P h (a ∷ as') w = two_numbers y u (λ bs. P (a ∷ bs)) (λ b c j k. h a b c (w.0, w.1) j k) as' w.2
 
 -- of one number
-pub one_least : (f : List ℤ → ℤ) (x r : Side) → ((a : ℤ) → IsIn x a → IsIn r (f (a ∷ []))) → (a : ℤ) × IsIn x a × (r.lo ≡ f (a ∷ [])) → (a : ℤ) × IsIn x a × (r.hi ≡ f (a ∷ [])) → IsLeast (ImageOf f (x ∷ [])) r
+pub one_least : (f : List ℤ → ℤ) (x r : Side) → ((a : ℤ) → IsIn x a → IsIn r (f (a ∷ []))) → (a : ℤ) × IsIn x a × (r.lo ≡ f (a ∷ []))
+    → (a : ℤ) × IsIn x a × (r.hi ≡ f (a ∷ [])) → IsLeast (ImageOf f (x ∷ [])) r
 one_least f x r h l g = record {
   holds = λ z i. subst (IsIn r) (sym i.2) (one_number x (λ as'. IsIn r (f as')) h i.0 i.1);
   low = (l.0 ∷ [], (l.1.0, l.1.1, tt), l.2);
   high = (g.0 ∷ [], (g.1.0, g.1.1, tt), g.2);
 }
 
-two_least : (f : List ℤ → ℤ) (x y r : Side) → ((a b : ℤ) → IsIn x a → IsIn y b → IsIn r (f (a ∷ b ∷ []))) → IsOrdered x → IsOrdered y → r.lo ≡ f (x.lo ∷ y.lo ∷ []) → r.hi ≡ f (x.hi ∷ y.hi ∷ []) → IsLeast (ImageOf f (x ∷ y ∷ [])) r
+two_least : (f : List ℤ → ℤ) (x y r : Side) → ((a b : ℤ) → IsIn x a → IsIn y b → IsIn r (f (a ∷ b ∷ []))) → IsOrdered x → IsOrdered y
+    → r.lo ≡ f (x.lo ∷ y.lo ∷ []) → r.hi ≡ f (x.hi ∷ y.hi ∷ []) → IsLeast (ImageOf f (x ∷ y ∷ [])) r
 two_least f x y r h xo yo l g = record {
   holds = λ z i. subst (IsIn r) (sym i.2) (two_numbers x y (λ as'. IsIn r (f as')) h i.0 i.1);
   low = (x.lo ∷ y.lo ∷ [], ((low_in x xo).0, xo, ((low_in y yo).0, yo, tt)), l);
   high = (x.hi ∷ y.hi ∷ [], (xo, (high_in x xo).1, (yo, (high_in y yo).1, tt)), g);
 }
 
-three_least : (f : List ℤ → ℤ) (x y u r : Side) → ((a b c : ℤ) → IsIn x a → IsIn y b → IsIn u c → IsIn r (f (a ∷ b ∷ c ∷ []))) → IsOrdered x → IsOrdered y → IsOrdered u → r.lo ≡ f (x.lo ∷ y.lo ∷ u.lo ∷ []) → r.hi ≡ f (x.hi ∷ y.hi ∷ u.hi ∷ []) → IsLeast (ImageOf f (x ∷ y ∷ u ∷ [])) r
+three_least : (f : List ℤ → ℤ) (x y u r : Side) → ((a b c : ℤ) → IsIn x a → IsIn y b → IsIn u c → IsIn r (f (a ∷ b ∷ c ∷ []))) → IsOrdered x → IsOrdered y
+    → IsOrdered u → r.lo ≡ f (x.lo ∷ y.lo ∷ u.lo ∷ []) → r.hi ≡ f (x.hi ∷ y.hi ∷ u.hi ∷ []) → IsLeast (ImageOf f (x ∷ y ∷ u ∷ [])) r
 three_least f x y u r h xo yo uo l g = record {
   holds = λ z i. subst (IsIn r) (sym i.2) (three_numbers x y u (λ as'. IsIn r (f as')) h i.0 i.1);
   low = (x.lo ∷ y.lo ∷ u.lo ∷ [], ((low_in x xo).0, xo, ((low_in y yo).0, yo, ((low_in u uo).0, uo, tt))), l);
@@ -61,16 +65,20 @@ three_least f x y u r h xo yo uo l g = record {
 }
 
 pub negation_least : (x : Side) → IsOrdered x → IsLeast (ImageOf neg_result (x ∷ [])) (negation x)
-negation_least x o = one_least neg_result x (negation x) (λ a i. (omega (arith, ints, i.1), omega (arith, ints, i.0))) (x.hi, high_in x o, refl) (x.lo, low_in x o, refl)
+negation_least x o =
+    one_least neg_result x (negation x) (λ a i. (omega (arith, ints, i.1), omega (arith, ints, i.0))) (x.hi, high_in x o, refl) (x.lo, low_in x o, refl)
 
 pub rescaled_least : (from to : ℕ) (x : Side) → IsOrdered x → IsLeast (ImageOf (rescale_result from to) (x ∷ [])) (rescaled from to x)
-rescaled_least from to x o = one_least (rescale_result from to) x (rescaled from to x) (λ a i. (scaled_mono from to x.lo a i.0, scaled_mono from to a x.hi i.1)) (x.lo, low_in x o, refl) (x.hi, high_in x o, refl)
+rescaled_least from to x o =
+    one_least (rescale_result from to) x (rescaled from to x) (λ a i. (scaled_mono from to x.lo a i.0, scaled_mono from to a x.hi i.1)) (x.lo, low_in x o, refl)
+    (x.hi, high_in x o, refl)
 
 pub denied_least : (x : Side) → IsOrdered x → IsLeast (ImageOf not_result (x ∷ [])) (denied x)
 denied_least x o =
     let s = sees x o in
     one_least not_result x (denied x)
-    (λ a i. truth_between (not (is_ever x)) (not (is_true a)) (not (is_always x)) (λ e. ap not (s.none a i (not-true _ e))) (λ e. ap not (s.all a i (not-false _ e))))
+    (λ a i. truth_between (not (is_ever x)) (not (is_true a)) (not (is_always x)) (λ e. ap not (s.none a i (not-true _ e)))
+    (λ e. ap not (s.all a i (not-false _ e))))
     (s.high.0, s.high.1, ap (λ b. truth (not b)) (sym s.high.2))
     (s.low.0, s.low.1, ap (λ b. truth (not b)) (sym s.low.2))
 
@@ -82,13 +90,19 @@ truths_fit at false true = (refl, (refl, refl))
 truths_fit at false false = (refl, (refl, refl))
 
 min_least : (x y : Side) → IsOrdered x → IsOrdered y → IsLeast (ImageOf (called_result Min) (x ∷ y ∷ [])) (least_side x y)
-min_least x y xo yo = two_least (called_result Min) x y (least_side x y) (λ a b i j. (omega (arith, ints, clamps, i.0, j.0), omega (arith, ints, clamps, i.1, j.1))) xo yo refl refl
+min_least x y xo yo =
+    two_least (called_result Min) x y (least_side x y) (λ a b i j. (omega (arith, ints, clamps, i.0, j.0), omega (arith, ints, clamps, i.1, j.1))) xo yo refl
+    refl
 
 max_least : (x y : Side) → IsOrdered x → IsOrdered y → IsLeast (ImageOf (called_result Max) (x ∷ y ∷ [])) (greatest_side x y)
-max_least x y xo yo = two_least (called_result Max) x y (greatest_side x y) (λ a b i j. (omega (arith, ints, clamps, i.0, j.0), omega (arith, ints, clamps, i.1, j.1))) xo yo refl refl
+max_least x y xo yo =
+    two_least (called_result Max) x y (greatest_side x y) (λ a b i j. (omega (arith, ints, clamps, i.0, j.0), omega (arith, ints, clamps, i.1, j.1))) xo yo refl
+    refl
 
 clamp_least : (x y u : Side) → IsOrdered x → IsOrdered y → IsOrdered u → IsLeast (ImageOf (called_result Clamp) (x ∷ y ∷ u ∷ [])) (clamped x y u)
-clamp_least x y u xo yo uo = three_least (called_result Clamp) x y u (clamped x y u) (λ a b c i j k. (omega (arith, ints, clamps, i.0, j.0, k.0), omega (arith, ints, clamps, i.1, j.1, k.1))) xo yo uo refl refl
+clamp_least x y u xo yo uo =
+    three_least (called_result Clamp) x y u (clamped x y u)
+    (λ a b c i j k. (omega (arith, ints, clamps, i.0, j.0, k.0), omega (arith, ints, clamps, i.1, j.1, k.1))) xo yo uo refl refl
 
 magnitude_least : (x : Side) → IsOrdered x → IsLeast (ImageOf (called_result Abs) (x ∷ [])) (magnitude x)
 magnitude_least x o =

@@ -48,7 +48,8 @@ difference_least x y xo yo = record {
   high = record { a = x.hi; b = y.lo; a_in = high_in x xo; b_in = low_in y yo; is = refl };
 }
 
-four : (p q r s : ℤ) → (least_of p q r s ≤ℤ p) × (least_of p q r s ≤ℤ q) × (least_of p q r s ≤ℤ r) × (least_of p q r s ≤ℤ s) × (p ≤ℤ greatest_of p q r s) × (q ≤ℤ greatest_of p q r s) × (r ≤ℤ greatest_of p q r s) × (s ≤ℤ greatest_of p q r s)
+four : (p q r s : ℤ) → (least_of p q r s ≤ℤ p) × (least_of p q r s ≤ℤ q) × (least_of p q r s ≤ℤ r) × (least_of p q r s ≤ℤ s) × (p ≤ℤ greatest_of p q r s)
+    × (q ≤ℤ greatest_of p q r s) × (r ≤ℤ greatest_of p q r s) × (s ≤ℤ greatest_of p q r s)
 four p q r s = omega (arith, ints, clamps)
 
 min_cases : (p q : ℤ) → (int_min p q ≡ p) ⊎ (int_min p q ≡ q)
@@ -69,7 +70,8 @@ greatest_among P p q r s hp hq hr hs =
     let b : P (int_max r s) = ⊎_elim (λ e. subst P (sym e) hr) (λ e. subst P (sym e) hs) (max_cases r s) in
     ⊎_elim (λ e. subst P (sym e) a) (λ e. subst P (sym e) b) (max_cases (int_max p q) (int_max r s))
 
-chain : (l h z u v p q r s : ℤ) → Among u v z → Among p q u → Among r s v → l ≤ℤ p → l ≤ℤ q → l ≤ℤ r → l ≤ℤ s → p ≤ℤ h → q ≤ℤ h → r ≤ℤ h → s ≤ℤ h → (l ≤ℤ z) × (z ≤ℤ h)
+chain : (l h z u v p q r s : ℤ) → Among u v z → Among p q u → Among r s v → l ≤ℤ p → l ≤ℤ q → l ≤ℤ r → l ≤ℤ s → p ≤ℤ h → q ≤ℤ h → r ≤ℤ h → s ≤ℤ h
+    → (l ≤ℤ z) × (z ≤ℤ h)
 chain l h z u v p q r s a b c lp lq lr ls ph qh rh sh = omega (arith, ints)
 
 -- where an operator's result is always between those at the ends of either operand, the results at the corners are enough
@@ -82,11 +84,16 @@ corners_least op x y xo yo first second =
     let f = four (result op x.lo y.lo) (result op x.lo y.hi) (result op x.hi y.lo) (result op x.hi y.hi) in
     record {
       holds = λ z r. subst (IsIn (by_corners (result op) x y)) (sym r.is)
-          (chain _ _ (result op r.a r.b) (result op x.lo r.b) (result op x.hi r.b) (result op x.lo y.lo) (result op x.lo y.hi) (result op x.hi y.lo) (result op x.hi y.hi)
+          (chain _ _ (result op r.a r.b) (result op x.lo r.b) (result op x.hi r.b) (result op x.lo y.lo) (result op x.lo y.hi) (result op x.hi y.lo)
+          (result op x.hi y.hi)
           (first r.a r.b r.a_in r.b_in) (second x.lo r.b (low_in x xo) r.b_in) (second x.hi r.b (high_in x xo) r.b_in)
           f.0 f.1 f.2 f.3 f.4 f.5 f.6 f.7);
-      low = least_among (IsResult op x y) _ _ _ _ (at x.lo y.lo (low_in x xo) (low_in y yo)) (at x.lo y.hi (low_in x xo) (high_in y yo)) (at x.hi y.lo (high_in x xo) (low_in y yo)) (at x.hi y.hi (high_in x xo) (high_in y yo));
-      high = greatest_among (IsResult op x y) _ _ _ _ (at x.lo y.lo (low_in x xo) (low_in y yo)) (at x.lo y.hi (low_in x xo) (high_in y yo)) (at x.hi y.lo (high_in x xo) (low_in y yo)) (at x.hi y.hi (high_in x xo) (high_in y yo));
+      low =
+          least_among (IsResult op x y) _ _ _ _ (at x.lo y.lo (low_in x xo) (low_in y yo)) (at x.lo y.hi (low_in x xo) (high_in y yo))
+          (at x.hi y.lo (high_in x xo) (low_in y yo)) (at x.hi y.hi (high_in x xo) (high_in y yo));
+      high =
+          greatest_among (IsResult op x y) _ _ _ _ (at x.lo y.lo (low_in x xo) (low_in y yo)) (at x.lo y.hi (low_in x xo) (high_in y yo))
+          (at x.hi y.lo (high_in x xo) (low_in y yo)) (at x.hi y.hi (high_in x xo) (high_in y yo));
     }
 
 pub product_least : (x y : Side) → IsOrdered x → IsOrdered y → IsLeast (IsResult Mul x y) (product x y)
@@ -118,7 +125,9 @@ quotient_least x y xo yo e =
 
 pub hull_is : (a b : Side) → IsOrdered a → IsOrdered b → IsIntervalHull a b (hull a b)
 hull_is a b x y = record {
-  holds = λ z i. ⊎_elim (λ p. (omega (arith, ints, clamps, p.0), omega (arith, ints, clamps, p.1))) (λ p. (omega (arith, ints, clamps, p.0), omega (arith, ints, clamps, p.1))) i;
+  holds =
+      λ z i. ⊎_elim (λ p. (omega (arith, ints, clamps, p.0), omega (arith, ints, clamps, p.1)))
+      (λ p. (omega (arith, ints, clamps, p.0), omega (arith, ints, clamps, p.1))) i;
   low = ⊎_elim (λ e. inl (subst (IsIn a) (sym e) (low_in a x))) (λ e. inr (subst (IsIn b) (sym e) (low_in b y))) (min_cases a.lo b.lo);
   high = ⊎_elim (λ e. inl (subst (IsIn a) (sym e) (high_in a x))) (λ e. inr (subst (IsIn b) (sym e) (high_in b y))) (max_cases a.hi b.hi);
 }

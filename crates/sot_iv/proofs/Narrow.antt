@@ -1,5 +1,6 @@
 -- Narrower ranges give narrower intervals, and no new trap.
-use Rattle.std.proofs.Common.{◌≡◌, ℕ, zero, suc, ℤ, pos, ◌≤ℤ◌, true, false, ◌⊎◌, inl, inr, ⊎_elim, List, [], ◌∷◌, ◌++◌, Ok, Err, refl, sym, subst, ap, ◌∙◌, arith}
+use Rattle.std.proofs.Common.{◌≡◌, ℕ, zero, suc, ℤ, pos, ◌≤ℤ◌, true, false, ◌⊎◌, inl, inr, ⊎_elim, List, [], ◌∷◌, ◌++◌, Ok, Err, refl, sym, subst, ap, ◌∙◌}
+use Rattle.std.proofs.Common.{arith}
 use Rattle.std.specs.Prelude.{slice_index_or}
 use Rattle.std.proofs.lemmas.Int.{ints}
 use Rattle.sot_text.specs.declared.token.Span.{Span}
@@ -9,7 +10,9 @@ use Rattle.sot_tree.specs.declared.operator.Op.{Op}
 use Rattle.sot_tree.specs.declared.operator.Op.TheVariants.{Add, Sub, Mul, Div, Less, LessEqual, Greater, GreaterEqual, Equal, NotEqual, And, Or}
 use Rattle.sot_lang.specs.declared.term.Term.{Term, Row_of-Term, end_of-Term, more_of-Term}
 use Rattle.sot_lang.specs.declared.term.Term.TheVariants.{Number, Place, Binary', Rest', Neg', Not', Call', Rescale', If'}
-use Rattle.sot_iv.specs.TermIntervals.{OrMayTrap, After, Joins, consed, IsLeast, IsFitted, IsLeastResult, IsImage, IsIntervalHull, MayDivideByZero, IsWordRange, CanBe, Chooses, rest_result, neg_result, not_result, rescale_result, called_result, IsTermInterval, ArePartIntervals, AreTermIntervals}
+use Rattle.sot_iv.specs.TermIntervals.{OrMayTrap, After, Joins, consed, IsLeast, IsFitted, IsLeastResult, IsImage, IsIntervalHull, MayDivideByZero, IsWordRange}
+use Rattle.sot_iv.specs.TermIntervals.{CanBe, Chooses, rest_result, neg_result, not_result, rescale_result, called_result, IsTermInterval, ArePartIntervals}
+use Rattle.sot_iv.specs.TermIntervals.{AreTermIntervals}
 use Rattle.sot_iv.specs.Monotony.{IsNarrower, AreNarrower}
 use Rattle.sot_iv.proofs.Sound.{between, after_ok, joins_ok}
 
@@ -42,7 +45,8 @@ least_narrow few many r s sub x y = ((y.holds r.lo (sub r.lo x.low)).0, (x.holds
 -- and in 64 bits where that of more numbers is
 fitted_narrow : (at : Span) (r s : Side) (o : OrMayTrap Side) → IsNarrower r s → IsWordRange s → IsFitted at r o → (q : Side) × (o ≡ Ok q) × IsNarrower q s
 fitted_narrow at r s (Ok q) n w f = (q, refl, subst (λ x. IsNarrower x s) (sym f.0) n)
-fitted_narrow at r s (Err t) n w f = absurd (f.0 (between s r.lo w (narrow_in r s r.lo n (le_refl_ℤ r.lo, n.1)), between s r.hi w (narrow_in r s r.hi n (n.1, le_refl_ℤ r.hi))))
+fitted_narrow at r s (Err t) n w f =
+    absurd (f.0 (between s r.lo w (narrow_in r s r.lo n (le_refl_ℤ r.lo, n.1)), between s r.hi w (narrow_in r s r.hi n (n.1, le_refl_ℤ r.hi))))
 
 zero_narrow : (op : Op) (x y : Side) → IsNarrower x y → MayDivideByZero op x → MayDivideByZero op y
 zero_narrow Add x y n m = absurd m
@@ -66,20 +70,23 @@ within_narrow (r ∷ rs) [] zs n w = absurd n
 within_narrow [] [] (z ∷ zs) n w = absurd w
 within_narrow (r ∷ rs) (s ∷ ss) [] n w = absurd w
 
-image_narrow : (f : List ℤ → ℤ) (at : Span) (xs ys : List Side) (s : Side) (o : OrMayTrap Side) → AreNarrower xs ys → IsImage f at ys (Ok s) → IsImage f at xs o → (r : Side) × (o ≡ Ok r) × IsNarrower r s
+image_narrow : (f : List ℤ → ℤ) (at : Span) (xs ys : List Side) (s : Side) (o : OrMayTrap Side) → AreNarrower xs ys → IsImage f at ys (Ok s) → IsImage f at xs o
+    → (r : Side) × (o ≡ Ok r) × IsNarrower r s
 image_narrow f at xs ys s o n y x =
     let i = least_narrow _ _ x.0 y.0 (λ z h. (h.0, within_narrow xs ys h.0 n h.1, h.2)) x.1 y.1 in
     let e = fitted_narrow at x.0 y.0 o i y.2.1 x.2 in
     (e.0, e.1, subst (λ q. IsNarrower e.0 q) (sym y.2.0) e.2)
 
-result_narrow : (op : Op) (at : Span) (a b c d s : Side) (o : OrMayTrap Side) → IsNarrower a c → IsNarrower b d → IsLeastResult op at c d (Ok s) → IsLeastResult op at a b o → (r : Side) × (o ≡ Ok r) × IsNarrower r s
+result_narrow : (op : Op) (at : Span) (a b c d s : Side) (o : OrMayTrap Side) → IsNarrower a c → IsNarrower b d → IsLeastResult op at c d (Ok s)
+    → IsLeastResult op at a b o → (r : Side) × (o ≡ Ok r) × IsNarrower r s
 result_narrow op at a b c d s o m n y x =
     ⊎_elim
     (λ yz. absurd (let e = yz.1 in cc))
     (λ y'. ⊎_elim
     (λ xz. absurd (y'.0 (zero_narrow op b d n xz.0)))
     (λ x'.
-    let i = least_narrow _ _ x'.1.0 y'.1.0 (λ z h. record { a = h.a; b = h.b; a_in = narrow_in a c h.a m h.a_in; b_in = narrow_in b d h.b n h.b_in; is = h.is }) x'.1.1 y'.1.1 in
+    let i = least_narrow _ _ x'.1.0 y'.1.0 (λ z h. record { a = h.a; b = h.b; a_in = narrow_in a c h.a m h.a_in; b_in = narrow_in b d h.b n h.b_in; is = h.is })
+    x'.1.1 y'.1.1 in
     let e = fitted_narrow at x'.1.0 y'.1.0 o i y'.1.2.1 x'.1.2 in
     (e.0, e.1, subst (λ q. IsNarrower e.0 q) (sym y'.1.2.0) e.2))
     x)
@@ -87,10 +94,12 @@ result_narrow op at a b c d s o m n y x =
 
 -- a narrower interval is inside the hull, and the hull of two that are inside is inside
 pub hull_left : (q a b r : Side) → IsNarrower q a → IsIntervalHull a b r → IsNarrower q r
-hull_left q a b r n h = ((h.holds q.lo (inl (narrow_in q a q.lo n (le_refl_ℤ q.lo, n.1)))).0, n.1, (h.holds q.hi (inl (narrow_in q a q.hi n (n.1, le_refl_ℤ q.hi)))).1)
+hull_left q a b r n h =
+    ((h.holds q.lo (inl (narrow_in q a q.lo n (le_refl_ℤ q.lo, n.1)))).0, n.1, (h.holds q.hi (inl (narrow_in q a q.hi n (n.1, le_refl_ℤ q.hi)))).1)
 
 pub hull_right : (q a b r : Side) → IsNarrower q b → IsIntervalHull a b r → IsNarrower q r
-hull_right q a b r n h = ((h.holds q.lo (inr (narrow_in q b q.lo n (le_refl_ℤ q.lo, n.1)))).0, n.1, (h.holds q.hi (inr (narrow_in q b q.hi n (n.1, le_refl_ℤ q.hi)))).1)
+hull_right q a b r n h =
+    ((h.holds q.lo (inr (narrow_in q b q.lo n (le_refl_ℤ q.lo, n.1)))).0, n.1, (h.holds q.hi (inr (narrow_in q b q.hi n (n.1, le_refl_ℤ q.hi)))).1)
 
 pub hull_least : (a b r s : Side) → IsNarrower a s → IsNarrower b s → IsIntervalHull a b r → IsNarrower r s
 hull_least a b r s m n h =
@@ -102,7 +111,8 @@ pub goes_on : {A B : Type 0} (x : OrMayTrap A) (a : A) (o : OrMayTrap B) (go : A
 goes_on (Ok b) a o go e h = (let same : b ≡ a = cc in subst go same h)
 goes_on (Err t) a o go e h = cc
 
-pub joins_on : (x : OrMayTrap Side) (a : Side) (o : OrMayTrap (List Side)) (rest : OrMayTrap (List Side) → Type 0) → x ≡ Ok a → Joins x rest o → (os : OrMayTrap (List Side)) × rest os × (o ≡ consed a os)
+pub joins_on : (x : OrMayTrap Side) (a : Side) (o : OrMayTrap (List Side)) (rest : OrMayTrap (List Side) → Type 0) → x ≡ Ok a → Joins x rest o
+    → (os : OrMayTrap (List Side)) × rest os × (o ≡ consed a os)
 joins_on (Ok b) a o rest e h = (let same : b ≡ a = cc in (h.0, h.1, h.2 ∙ ap (λ z. consed z h.0) same))
 joins_on (Err t) a o rest e h = cc
 
@@ -145,9 +155,16 @@ both_narrow : (p q a b s : Side) (o : OrMayTrap Side) → IsNarrower p a → IsN
 both_narrow p q a b s o m n y x = (x.0, x.2, hull_least p q x.0 s (first_narrow p a b s m y) (second_narrow q a b s n y) x.1)
 
 mutual
-  pub term_narrow : (t : Term) (rs ss : List Side) (s : Side) (o : OrMayTrap Side) → AreNarrower rs ss → IsTermInterval t ss (Ok s) → IsTermInterval t rs o → Narrows s o
-  term_narrow (Number z) rs ss s o n y x = (let e : s ≡ record { lo = z; hi = z } = cc in (s, x ∙ ap Ok (sym e), subst (λ q. IsNarrower q q) (sym e) (le_refl_ℤ z, le_refl_ℤ z, le_refl_ℤ z)))
-  term_narrow (Place k) rs ss s o n y x = (let e : s ≡ slice_index_or ss k nought = cc in (slice_index_or rs k nought, x, subst (λ q. IsNarrower (slice_index_or rs k nought) q) (sym e) (narrow_read rs ss k n)))
+  pub term_narrow : (t : Term) (rs ss : List Side) (s : Side) (o : OrMayTrap Side) → AreNarrower rs ss → IsTermInterval t ss (Ok s) → IsTermInterval t rs o
+      → Narrows s o
+  term_narrow (Number z) rs ss s o n y x =
+      (let e : s ≡ record { lo = z; hi = z } = cc in (s, x ∙ ap Ok (sym e), subst (λ q. IsNarrower q q) (sym e) (le_refl_ℤ z, le_refl_ℤ z, le_refl_ℤ z)))
+  term_narrow (Place k) rs ss s o n y x =
+      (let e : s ≡ slice_index_or ss k nought = cc in (
+        slice_index_or rs k nought,
+        x,
+        subst (λ q. IsNarrower (slice_index_or rs k nought) q) (sym e) (narrow_read rs ss k n),
+      ))
   term_narrow (Binary' op p a q b at) rs ss s o n y x =
       let ya = after_ok y.0 s _ y.2 in
       let a' = term_narrow a rs ss ya.0 x.0 n (subst (IsTermInterval a ss) ya.1 y.1) x.1 in
@@ -202,7 +219,8 @@ mutual
       (goes_on x.0 c'.0 o _ c'.1 x.2)
       yc.2
 
-  pub row_narrow : {m : _} (ts : Row_of-Term m) (rs ss ys : List Side) (o : OrMayTrap (List Side)) → AreNarrower rs ss → ArePartIntervals ts ss (Ok ys) → ArePartIntervals ts rs o → (xs : List Side) × (o ≡ Ok xs) × AreNarrower xs ys
+  pub row_narrow : {m : _} (ts : Row_of-Term m) (rs ss ys : List Side) (o : OrMayTrap (List Side)) → AreNarrower rs ss → ArePartIntervals ts ss (Ok ys)
+      → ArePartIntervals ts rs o → (xs : List Side) × (o ≡ Ok xs) × AreNarrower xs ys
   row_narrow end_of-Term rs ss ys o n y x = (let e : ys ≡ [] = cc in ([], x, subst (AreNarrower []) (sym e) tt))
   row_narrow (more_of-Term t rest) rs ss ys o n y x =
       let yt = joins_ok y.0 ys _ y.2 in
@@ -211,7 +229,8 @@ mutual
       let r' = row_narrow rest rs ss yt.1 xr.0 n yt.3 xr.1 in
       (t'.0 ∷ r'.0, xr.2 ∙ ap (consed t'.0) r'.1, subst (AreNarrower (t'.0 ∷ r'.0)) (sym yt.4) (t'.2, r'.2))
 
-pub terms_narrow : (ts : List Term) (rs ss ys : List Side) (o : OrMayTrap (List Side)) → AreNarrower rs ss → AreTermIntervals ts ss (Ok ys) → AreTermIntervals ts rs o → (xs : List Side) × (o ≡ Ok xs) × AreNarrower xs ys
+pub terms_narrow : (ts : List Term) (rs ss ys : List Side) (o : OrMayTrap (List Side)) → AreNarrower rs ss → AreTermIntervals ts ss (Ok ys)
+    → AreTermIntervals ts rs o → (xs : List Side) × (o ≡ Ok xs) × AreNarrower xs ys
 terms_narrow [] rs ss ys o n y x = (let e : ys ≡ [] = cc in ([], x, subst (AreNarrower []) (sym e) tt))
 terms_narrow (t ∷ rest) rs ss ys o n y x =
     let yt = joins_ok y.0 ys _ y.2 in

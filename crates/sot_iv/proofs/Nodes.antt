@@ -9,7 +9,8 @@ use Rattle.sot_iv.specs.Firings.{IsRunnable}
 
 -- a node of tables that meet their rules can run
 pub runnable : (p : Tables) (n : ℕ) (node : NodeInfo) → MeetsTableRules p → At p.nodes n node → IsRunnable p node
-runnable p n node rules at = record { few_locals = (rules.nodes n node at).locals; few = (rules.nodes n node at).writes; written = λ i k h. rules.typed.inside n node k at (i, h) }
+runnable p n node rules at =
+    record { few_locals = (rules.nodes n node at).locals; few = (rules.nodes n node at).writes; written = λ i k h. rules.typed.inside n node k at (i, h) }
 
 -- the first and the last of some intervals in order
 pub front_ordered : (rs : List Side) (n : ℕ) → AreOrdered rs → AreOrdered (take n rs)

@@ -19,7 +19,8 @@ module _ {A : Type 0} (f : A → Side) where
   put_at-map (y ∷ infos) (suc k) d at x lt = put_at-map infos k d at x (omega arith)
 
 -- the interval of a local's next assignment, and of a scalar's next draft
-pub local_value : (node : NodeInfo) (k : ℕ) (info : LocalInfo) (at : Span) (o : OrMayTrap Side) (x : Side) → k < length node.locals.items → info ≡ get_or node.locals.items k info → o ≡ Ok x
+pub local_value : (node : NodeInfo) (k : ℕ) (info : LocalInfo) (at : Span) (o : OrMayTrap Side) (x : Side) → k < length node.locals.items
+    → info ≡ get_or node.locals.items k info → o ≡ Ok x
     → and_then o (put_at (local_ranges node) k at) ≡ put (record { lo = info.lo; hi = info.hi }) at x
 local_value node k info at o x lt is e =
     ap (λ o. and_then o (put_at (local_ranges node) k at)) e

@@ -1,5 +1,6 @@
 -- The rests of an interval's numbers.
-use Rattle.std.proofs.Common.{◌≡◌, ℕ, zero, suc, ◌+◌, ◌*◌, ◌%◌, ◌<◌, ℤ, pos, negsuc, ◌+ℤ◌, ◌-ℤ◌, ◌*ℤ◌, ◌≤ℤ◌, true, false, ⊎_elim, [], ◌∷◌, refl, sym, ap, subst, arith}
+use Rattle.std.proofs.Common.{◌≡◌, ℕ, zero, suc, ◌+◌, ◌*◌, ◌%◌, ◌<◌, ℤ, pos, negsuc, ◌+ℤ◌, ◌-ℤ◌, ◌*ℤ◌, ◌≤ℤ◌, true, false, ⊎_elim, [], ◌∷◌, refl, sym, ap, subst}
+use Rattle.std.proofs.Common.{arith}
 use Rattle.std.specs.Prelude.{int_le}
 use Rattle.std.proofs.lemmas.Bool.{cases_Bool}
 use Rattle.std.proofs.lemmas.Int.{ints}
@@ -67,14 +68,17 @@ module _ (n : ℕ) (x : Side) (o : IsOrdered x) where
 
   -- within the divisor's bounds
   rest_in : (a : ℤ) → IsIn (side (pos 0) (pos (suc n) -ℤ pos 1)) (rest_result (pos (suc n)) (a ∷ []))
-  rest_in a = (let b = floor_bounds a (suc n) (omega arith) in let e = swap (pos (suc n)) (floor_by a (suc n)) in rw e (omega (arith, ints, b.0), omega (arith, ints, b.1)))
+  rest_in a =
+      (let b = floor_bounds a (suc n) (omega arith) in let e = swap (pos (suc n)) (floor_by a (suc n)) in
+      rw e (omega (arith, ints, b.0), omega (arith, ints, b.1)))
 
   rest_at : (a q r : ℤ) → a ≡ ((q *ℤ pos (suc n)) +ℤ r) → pos 0 ≤ℤ r → r ≤ℤ (pos (suc n) -ℤ pos 1) → r ≡ rest_result (pos (suc n)) (a ∷ [])
   rest_at a q r is l h =
       let f : floor_by a (suc n) ≡ q = floor_unique a (suc n) q (omega arith) (omega (arith, ints, is, l)) (omega (arith, ints, is, h)) in
       rw (f, swap (pos (suc n)) q, is) (omega (arith, ints))
 
-  same_floor : (a : ℤ) → IsIn x a → floor_by x.hi (suc n) ≤ℤ floor_by x.lo (suc n) → (floor_by x.lo (suc n) ≡ floor_by a (suc n)) × (floor_by a (suc n) ≡ floor_by x.hi (suc n))
+  same_floor : (a : ℤ) → IsIn x a → floor_by x.hi (suc n) ≤ℤ floor_by x.lo (suc n)
+      → (floor_by x.lo (suc n) ≡ floor_by a (suc n)) × (floor_by a (suc n) ≡ floor_by x.hi (suc n))
   same_floor a i le =
       let u = floor_mono x.lo a (suc n) (omega arith) i.0 in
       let v = floor_mono a x.hi (suc n) (omega arith) i.1 in
@@ -106,8 +110,11 @@ module _ (n : ℕ) (x : Side) (o : IsOrdered x) where
       let h = wide_high q refl in
       rw f (one_least (rest_result (pos (suc n))) x (side (pos 0) (pos (suc n) -ℤ pos 1))
       (λ a i. rest_in a)
-      (q *ℤ pos (suc n), (omega (arith, ints, m), h), rest_at (q *ℤ pos (suc n)) q (pos 0) (omega (arith, ints)) (omega (arith, ints)) (omega (arith, ints)))
-      ((q *ℤ pos (suc n)) -ℤ pos 1, (omega (arith, ints, m), omega (arith, ints, h)), rest_at ((q *ℤ pos (suc n)) -ℤ pos 1) (q -ℤ pos 1) (pos (suc n) -ℤ pos 1) (last q (suc n)) (omega (arith, ints)) (omega (arith, ints)))))
+      (q *ℤ pos (suc n), (omega (arith, ints, m), h), rest_at (q *ℤ pos (suc n)) q (pos 0) (omega (arith, ints)) (omega (arith, ints)) (omega (arith, ints))) (
+        (q *ℤ pos (suc n)) -ℤ pos 1,
+        (omega (arith, ints, m), omega (arith, ints, h)),
+        rest_at ((q *ℤ pos (suc n)) -ℤ pos 1) (q -ℤ pos 1) (pos (suc n) -ℤ pos 1) (last q (suc n)) (omega (arith, ints)) (omega (arith, ints)),
+      )))
       (cases_Bool (int_le (floor_div x.hi (pos (suc n))) (floor_div x.lo (pos (suc n)))))
 
 pub rest_least : (k : ℤ) (x : Side) → pos 1 ≤ℤ k → IsOrdered x → IsLeast (ImageOf (rest_result k) (x ∷ [])) (rest k x)

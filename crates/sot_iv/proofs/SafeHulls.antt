@@ -36,8 +36,10 @@ safe_none [] k (suc i) le = refl
 safe_none (m ∷ ms) k zero le = absurd (omega arith)
 safe_none (m ∷ ms) k (suc i) le = safe_none ms k i (omega arith)
 
-pub safe_answer : (ms : List ModuleInfo) (k i n : ℕ) (a : ModuleInfo) (r : Option (List Side)) → At ms i a → a.plant ≡ k → safe_of (drop i ms) k ≡ safe_of ms k → a.safe.width ≡ n
-    → MatchOption r (a.safe.boxes ≡ []) (λ b. IsHull a.safe.boxes b × (length b ≡ a.safe.width)) → MatchOption r (safe_of ms k ≡ []) (λ b. IsHull (safe_of ms k) b × (length b ≡ n))
+pub safe_answer : (ms : List ModuleInfo) (k i n : ℕ) (a : ModuleInfo) (r : Option (List Side)) → At ms i a → a.plant ≡ k → safe_of (drop i ms) k ≡ safe_of ms k
+    → a.safe.width ≡ n
+    → MatchOption r (a.safe.boxes ≡ []) (λ b. IsHull a.safe.boxes b × (length b ≡ a.safe.width))
+    → MatchOption r (safe_of ms k ≡ []) (λ b. IsHull (safe_of ms k) b × (length b ≡ n))
 safe_answer ms k i n a r at e rest width h =
     let same : a.safe.boxes ≡ safe_of ms k = sym (safe_here ms k i a at e) ∙ rest in
     subst (λ q. MatchOption r (q ≡ []) (λ b. IsHull q b × (length b ≡ n))) same

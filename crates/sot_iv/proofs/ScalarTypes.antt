@@ -10,12 +10,15 @@ use Rattle.sot_lang.specs.Ranges.{range_of}
 use Rattle.sot_lang.proofs.Owners.{range_at}
 
 -- an interval of words is the interval of their numbers
-pub word_side : (lo hi : ℤ) → SFits w64 lo → SFits w64 hi → (let s : Side = record { lo = to_z w64 (of_z w64 lo); hi = to_z w64 (of_z w64 hi) } in s) ≡ record { lo = lo; hi = hi }
+pub word_side : (lo hi : ℤ) → SFits w64 lo → SFits w64 hi
+    → (let s : Side = record { lo = to_z w64 (of_z w64 lo); hi = to_z w64 (of_z w64 hi) } in s) ≡ record { lo = lo; hi = hi }
 word_side lo hi a b = rw (to_z-of_z w64 lo a, to_z-of_z w64 hi b) refl
 
 -- one scalar further
-pub types_more : (infos : List ScalarInfo) (scalars : List ℕ) (i : ℕ) (info : ScalarInfo) (front sides new : List Side) → i < length scalars → At infos (get_or scalars i 0) info
-    → sides ≡ front ++ map (range_of infos) (take i scalars) → new ≡ sides ++ record { lo = info.lo; hi = info.hi } ∷ [] → new ≡ front ++ map (range_of infos) (take (i + 1) scalars)
+pub types_more : (infos : List ScalarInfo) (scalars : List ℕ) (i : ℕ) (info : ScalarInfo) (front sides new : List Side) → i < length scalars
+    → At infos (get_or scalars i 0) info
+    → sides ≡ front ++ map (range_of infos) (take i scalars) → new ≡ sides ++ record { lo = info.lo; hi = info.hi } ∷ []
+    → new ≡ front ++ map (range_of infos) (take (i + 1) scalars)
 types_more infos scalars i info front sides new lt at before is =
     let up : suc i ≡ i + 1 = omega arith in
     is

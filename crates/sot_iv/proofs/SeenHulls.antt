@@ -10,7 +10,8 @@ use Rattle.sot_lang.specs.OwnerNames.{width_of, seen_width}
 use Rattle.sot_lang.specs.SafeRegions.{safe_of, AreHulls, joined_boxes}
 use Rattle.sot_iv.specs.SeenHulls.{AreSeenHulls}
 
-hulls_more : (ms : List ModuleInfo) (ks : List ℕ) (hs : List (List Side)) (k : ℕ) (h : List Side) → AreHulls ms ks hs → IsHull (safe_of ms k) h → AreHulls ms (ks ++ k ∷ []) (hs ++ h ∷ [])
+hulls_more : (ms : List ModuleInfo) (ks : List ℕ) (hs : List (List Side)) (k : ℕ) (h : List Side) → AreHulls ms ks hs → IsHull (safe_of ms k) h
+    → AreHulls ms (ks ++ k ∷ []) (hs ++ h ∷ [])
 hulls_more ms [] [] k h are is = (is, tt)
 hulls_more ms (j ∷ ks) (g ∷ hs) k h are is = (are.0, hulls_more ms ks hs k h are.1 is)
 hulls_more ms [] (g ∷ hs) k h are is = absurd are
@@ -35,10 +36,12 @@ width_fits ps [] i k at = absurd (none-some k at)
 width_fits ps (j ∷ ks) zero k at = let e : width_of ps j ≡ width_of ps k = ap (width_of ps) (same_Some j k at) in omega arith
 width_fits ps (j ∷ ks) (suc i) k at = let e = width_fits ps ks i k at in omega arith
 
-pub seen_more : (ms : List ModuleInfo) (ks : List ℕ) (i k : ℕ) (sides h : List Side) → At ks i k → AreSeenHulls ms (take i ks) sides → IsHull (safe_of ms k) h → AreSeenHulls ms (take (suc i) ks) (sides ++ h)
+pub seen_more : (ms : List ModuleInfo) (ks : List ℕ) (i k : ℕ) (sides h : List Side) → At ks i k → AreSeenHulls ms (take i ks) sides → IsHull (safe_of ms k) h
+    → AreSeenHulls ms (take (suc i) ks) (sides ++ h)
 seen_more ms ks i k sides h at seen is =
     let hs = seen.0 in
-    let more : AreSeenHulls ms (take i ks ++ k ∷ []) (sides ++ h) = (hs ++ h ∷ [], hulls_more ms (take i ks) hs k h seen.1 is, ap (λ q. q ++ h) seen.2 ∙ sym (joined_more hs h)) in
+    let more : AreSeenHulls ms (take i ks ++ k ∷ []) (sides ++ h) =
+    (hs ++ h ∷ [], hulls_more ms (take i ks) hs k h seen.1 is, ap (λ q. q ++ h) seen.2 ∙ sym (joined_more hs h)) in
     subst (λ q. AreSeenHulls ms q (sides ++ h)) (sym (take_more ks i k at)) more
 
 pub width_next : (ps : List PlantInfo) (ks : List ℕ) (i k : ℕ) → At ks i k → seen_width ps (take (suc i) ks) ≡ seen_width ps (take i ks) + width_of ps k

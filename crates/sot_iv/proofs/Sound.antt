@@ -1,5 +1,6 @@
 -- Where the interval evaluation succeeds, each value is there and lies in the interval.
-use Rattle.std.proofs.Common.{◌≡◌, zero, suc, ◌-◌, ◌^◌, ℤ, pos, negsuc, ◌≤ℤ◌, ◌*ℤ◌, ◌-ℤ◌, neg_ℤ, true, false, inl, inr, ⊎_elim, List, [], ◌∷◌, Ok, Err, refl, sym, subst, arith}
+use Rattle.std.proofs.Common.{◌≡◌, zero, suc, ◌-◌, ◌^◌, ℤ, pos, negsuc, ◌≤ℤ◌, ◌*ℤ◌, ◌-ℤ◌, neg_ℤ, true, false, inl, inr, ⊎_elim, List, [], ◌∷◌, Ok, Err, refl}
+use Rattle.std.proofs.Common.{sym, subst, arith}
 use Rattle.std.specs.Prelude.{slice_index_or, int_le, int_lt, not}
 use Rattle.std.proofs.lemmas.Bool.{cases_Bool, and_parts, and_from}
 use Rattle.std.proofs.lemmas.Int.{ints}
@@ -13,7 +14,9 @@ use Rattle.sot_lang.specs.declared.term.Term.{Term, Row_of-Term, end_of-Term, mo
 use Rattle.sot_lang.specs.declared.term.Term.TheVariants.{Number, Place, Binary', Rest', Neg', Not', Call', Rescale', If'}
 use Rattle.sot_lang.specs.Values.{Outcome, value_of, values_of_parts, branch, word, is_word, truth, is_true, floor_div, floor_by, apply, called}
 use Rattle.sot_box.specs.Boxes.{IsWithin}
-use Rattle.sot_iv.specs.TermIntervals.{OrMayTrap, After, Joins, consed, IsLeast, IsResult, IsFitted, IsLeastResult, IsImage, IsIntervalHull, MayDivideByZero, IsWordRange, CanBe, result, rest_result, neg_result, not_result, rescale_result, called_result, IsTermInterval, ArePartIntervals}
+use Rattle.sot_iv.specs.TermIntervals.{OrMayTrap, After, Joins, consed, IsLeast, IsResult, IsFitted, IsLeastResult, IsImage, IsIntervalHull, MayDivideByZero}
+use Rattle.sot_iv.specs.TermIntervals.{IsWordRange, CanBe, result, rest_result, neg_result, not_result, rescale_result, called_result, IsTermInterval}
+use Rattle.sot_iv.specs.TermIntervals.{ArePartIntervals}
 use Rattle.sot_box.proofs.Ranges.{within_read}
 
 -- a number between two of 64 bits is of 64 bits
@@ -29,7 +32,8 @@ word_is : (at : Span) (z : ℤ) → is_word z ≡ true → word at z ≡ Ok z
 word_is at z e = rw e refl
 
 -- an operator gives its result, where that is in 64 bits and no divisor is 0
-apply_is : (op : Op) (at : Span) (a b : ℤ) (y : Side) → IsIn y b → (MayDivideByZero op y → ⊥) → is_word (result op a b) ≡ true → apply op at a b ≡ Ok (result op a b)
+apply_is : (op : Op) (at : Span) (a b : ℤ) (y : Side) → IsIn y b → (MayDivideByZero op y → ⊥) → is_word (result op a b) ≡ true
+    → apply op at a b ≡ Ok (result op a b)
 apply_is Add at a b y i ne w = word_is at (result Add a b) w
 apply_is Sub at a b y i ne w = word_is at (result Sub a b) w
 apply_is Mul at a b y i ne w = word_is at (result Mul a b) w
@@ -49,10 +53,13 @@ pub after_ok : {A B : Type 0} (x : OrMayTrap A) (r : B) (go : A → Type 0) → 
 after_ok (Ok y) r go h = (y, refl, h)
 after_ok (Err t) r go h = cc
 
-applied_ok : (op : Op) (at : Span) (x y r : Side) (a b : ℤ) → IsLeastResult op at x y (Ok r) → IsIn x a → IsIn y b → (z : ℤ) × (apply op at a b ≡ Ok z) × IsIn r z
+applied_ok : (op : Op) (at : Span) (x y r : Side) (a b : ℤ) → IsLeastResult op at x y (Ok r) → IsIn x a → IsIn y b
+    → (z : ℤ) × (apply op at a b ≡ Ok z) × IsIn r z
 applied_ok op at x y r a b h ia ib =
     ⊎_elim
-    (λ (zero' : MayDivideByZero op y × (◌≡◌ {A = OrMayTrap Side} (Ok r) (Err (record { at = at; kind = Rattle.sot_lang.specs.declared.trap.TrapKind.TheVariants.ZeroDivisor; lo = y.lo; hi = y.hi })))). absurd (let e = zero'.1 in cc))
+    (λ (zero' : MayDivideByZero op y × (◌≡◌ {A = OrMayTrap Side} (Ok r)
+    (Err (record { at = at; kind = Rattle.sot_lang.specs.declared.trap.TrapKind.TheVariants.ZeroDivisor; lo = y.lo; hi = y.hi })))).
+    absurd (let e = zero'.1 in cc))
     (λ (rest : (MayDivideByZero op y → ⊥) × ((s : Side) × IsLeast (IsResult op x y) s × IsFitted at s (Ok r))).
     let s = rest.1.0 in
     let least = rest.1.1 in
@@ -62,7 +69,8 @@ applied_ok op at x y r a b h ia ib =
     (result op a b, apply_is op at a b y ib rest.0 w, subst (λ q. IsIn q (result op a b)) (sym fit.0) i))
     h
 
-image_ok : (f : List ℤ → ℤ) (at : Span) (xs : List Side) (r : Side) (zs : List ℤ) → IsImage f at xs (Ok r) → IsWithin xs zs → (is_word (f zs) ≡ true) × IsIn r (f zs)
+image_ok : (f : List ℤ → ℤ) (at : Span) (xs : List Side) (r : Side) (zs : List ℤ) → IsImage f at xs (Ok r) → IsWithin xs zs
+    → (is_word (f zs) ≡ true) × IsIn r (f zs)
 image_ok f at xs r zs h w =
     let i : IsIn h.0 (f zs) = h.1.holds (f zs) (zs, w, refl) in
     (between h.0 (f zs) h.2.1 i, subst (λ q. IsIn q (f zs)) (sym h.2.0) i)
@@ -106,18 +114,25 @@ branch_lies c a b x r l ha hb =
     (λ f. let h = hb (l.0, l.2, f) in (h.0, rw (l.1, f) h.1, h.2))
     (cases_Bool (is_true l.0))
 
-pub joins_ok : (x : OrMayTrap Side) (xs : List Side) (go : OrMayTrap (List Side) → Type 0) → Joins x go (Ok xs) → (y : Side) × (ys : List Side) × (x ≡ Ok y) × go (Ok ys) × (xs ≡ y ∷ ys)
+pub joins_ok : (x : OrMayTrap Side) (xs : List Side) (go : OrMayTrap (List Side) → Type 0) → Joins x go (Ok xs)
+    → (y : Side) × (ys : List Side) × (x ≡ Ok y) × go (Ok ys) × (xs ≡ y ∷ ys)
 joins_ok (Err t) xs go h = cc
 joins_ok (Ok y) xs go h = joined_ok y xs go h.0 h.1 h.2
   where
-    joined_ok : (y : Side) (xs : List Side) (go : OrMayTrap (List Side) → Type 0) (os : OrMayTrap (List Side)) → go os → Ok xs ≡ consed y os → (z : Side) × (ys : List Side) × (◌≡◌ {A = OrMayTrap Side} (Ok y) (Ok z)) × go (Ok ys) × (xs ≡ z ∷ ys)
+    joined_ok : (y : Side) (xs : List Side) (go : OrMayTrap (List Side) → Type 0) (os : OrMayTrap (List Side)) → go os → Ok xs ≡ consed y os
+        → (z : Side) × (ys : List Side) × (◌≡◌ {A = OrMayTrap Side} (Ok y) (Ok z)) × go (Ok ys) × (xs ≡ z ∷ ys)
     joined_ok y xs go (Err t) g e = cc
     joined_ok y xs go (Ok ys) g e = (y, ys, refl, g, cc)
 
 mutual
   pub sound : (t : Term) (rs : List Side) (env : List ℤ) (r : Side) → IsWithin rs env → IsTermInterval t rs (Ok r) → Lies (value_of t env) r
   sound (Number z) rs env r w h = (let e : r ≡ record { lo = z; hi = z } = cc in (z, refl, subst (λ q. IsIn q z) (sym e) (le_refl_ℤ z, le_refl_ℤ z)))
-  sound (Place n) rs env r w h = (let e : r ≡ slice_index_or rs n nought = cc in (slice_index_or env n (pos 0), refl, subst (λ q. IsIn q (slice_index_or env n (pos 0))) (sym e) (within_read rs env n w)))
+  sound (Place n) rs env r w h =
+      (let e : r ≡ slice_index_or rs n nought = cc in (
+        slice_index_or env n (pos 0),
+        refl,
+        subst (λ q. IsIn q (slice_index_or env n (pos 0))) (sym e) (within_read rs env n w),
+      ))
   sound (Binary' op p a q b at) rs env r w h =
       let x = after_ok h.0 r _ h.2 in
       let a' = sound a rs env x.0 w (subst (IsTermInterval a rs) x.1 h.1) in
@@ -167,7 +182,8 @@ mutual
       more)
       x.2
 
-  pub sound_row : {m : _} (ts : Row_of-Term m) (rs : List Side) (env : List ℤ) (xs : List Side) → IsWithin rs env → ArePartIntervals ts rs (Ok xs) → (zs : List ℤ) × (values_of_parts ts env ≡ Ok zs) × IsWithin xs zs
+  pub sound_row : {m : _} (ts : Row_of-Term m) (rs : List Side) (env : List ℤ) (xs : List Side) → IsWithin rs env → ArePartIntervals ts rs (Ok xs)
+      → (zs : List ℤ) × (values_of_parts ts env ≡ Ok zs) × IsWithin xs zs
   sound_row end_of-Term rs env xs w h = (let e : xs ≡ [] = cc in ([], refl, subst (λ q. IsWithin q []) (sym e) tt))
   sound_row (more_of-Term t rest) rs env xs w h =
       let x = joins_ok h.0 xs _ h.2 in

@@ -2,7 +2,8 @@
 use Rattle.std.proofs.Common.{◌≡◌, ℤ, pos, ◌≤ℤ◌, Bool, true, false, ⊎_elim, refl, sym, ap, ap₂, ◌∙◌, subst, arith}
 use Rattle.std.specs.Prelude.{int_lt, int_le, ◌&&◌, ◌||◌, not}
 use Rattle.std.specs.Int.{int_max}
-use Rattle.std.proofs.lemmas.Bool.{cases_Bool, and_parts, and_from, or_from, or_parts, not-true, not-false, and_cases, or_cases, or_right, and_left, and_right, or_left}
+use Rattle.std.proofs.lemmas.Bool.{cases_Bool, and_parts, and_from, or_from, or_parts, not-true, not-false, and_cases, or_cases, or_right, and_left, and_right}
+use Rattle.std.proofs.lemmas.Bool.{or_left}
 use Rattle.std.proofs.lemmas.Int.{ints, clamps}
 use Rattle.sot_box.specs.Sides.{Side, IsIn}
 use Rattle.sot_tree.specs.declared.operator.Op.{Op}
@@ -28,9 +29,11 @@ pub record Decides (t : ℤ → ℤ → Bool) (x y : Side) (always ever : Bool) 
   pub all : (a b : ℤ) → IsIn x a → IsIn y b → always ≡ true → t a b ≡ true
   pub none : (a b : ℤ) → IsIn x a → IsIn y b → ever ≡ false → t a b ≡ false
 
-pub decides_least : (op : Op) (t : ℤ → ℤ → Bool) (x y : Side) (u w : Bool) → ((a b : ℤ) → result op a b ≡ truth (t a b)) → Decides t x y u w → IsLeast (IsResult op x y) (truths u w)
+pub decides_least : (op : Op) (t : ℤ → ℤ → Bool) (x y : Side) (u w : Bool) → ((a b : ℤ) → result op a b ≡ truth (t a b)) → Decides t x y u w
+    → IsLeast (IsResult op x y) (truths u w)
 decides_least op t x y u w is d = record {
-  holds = λ z r. subst (IsIn (truths u w)) (sym (r.is ∙ is r.a r.b)) (truth_between u (t r.a r.b) w (d.all r.a r.b r.a_in r.b_in) (d.none r.a r.b r.a_in r.b_in));
+  holds =
+      λ z r. subst (IsIn (truths u w)) (sym (r.is ∙ is r.a r.b)) (truth_between u (t r.a r.b) w (d.all r.a r.b r.a_in r.b_in) (d.none r.a r.b r.a_in r.b_in));
   low = record { a = d.low.0; b = d.low.1; a_in = d.low.2; b_in = d.low.3; is = ap truth (sym d.low.4) ∙ sym (is d.low.0 d.low.1) };
   high = record { a = d.high.0; b = d.high.1; a_in = d.high.2; b_in = d.high.3; is = ap truth (sym d.high.4) ∙ sym (is d.high.0 d.high.1) };
 }
@@ -103,15 +106,21 @@ module _ (x y : Side) (xo : IsOrdered x) (yo : IsOrdered y) where
         let p0 : x.lo ≤ℤ y.hi = (let h = p.0 in grind (arith, ints, h)) in
         let p1 : y.lo ≤ℤ x.hi = (let h = p.1 in grind (arith, ints, h)) in
         let m : ℤ = int_max x.lo y.lo in
-        let same : int_le m m ≡ true = grind (arith, ints) in
-        (m, m, (omega (arith, ints, clamps), omega (arith, ints, clamps, xo, p1)), (omega (arith, ints, clamps), omega (arith, ints, clamps, yo, p0)), and_from _ _ same same ∙ sym t))
+        let same : int_le m m ≡ true = grind (arith, ints) in (
+          m,
+          m,
+          (omega (arith, ints, clamps), omega (arith, ints, clamps, xo, p1)),
+          (omega (arith, ints, clamps), omega (arith, ints, clamps, yo, p0)),
+          and_from _ _ same same ∙ sym t,
+        ))
         (λ f. (x.lo, y.lo, low_in x xo, low_in y yo, none_equal x.lo y.lo (low_in x xo) (low_in y yo) f ∙ sym f))
         (cases_Bool (int_le x.lo y.hi && int_le y.lo x.hi));
     all = all_equal;
     none = none_equal;
   }
 
-  pub unequal_decides : Decides (λ a b. not (int_le a b && int_le b a)) x y (not (int_le x.lo y.hi && int_le y.lo x.hi)) (not (int_le x.hi y.lo && int_le y.hi x.lo))
+  pub unequal_decides : Decides (λ a b. not (int_le a b && int_le b a)) x y (not (int_le x.lo y.hi && int_le y.lo x.hi))
+      (not (int_le x.hi y.lo && int_le y.hi x.lo))
   unequal_decides = decides_not _ x y _ _ equal_decides
 
 false_of_zero : (z : ℤ) → z ≡ pos 0 → is_true z ≡ false
@@ -167,14 +176,18 @@ and_decides x y s t = record {
   low = (s.low.0, t.low.0, s.low.1, t.low.1, ap₂ (λ a b. a && b) s.low.2 t.low.2);
   high = (s.high.0, t.high.0, s.high.1, t.high.1, ap₂ (λ a b. a && b) s.high.2 t.high.2);
   all = λ a b i j e. let p = and_parts (is_always x) (is_always y) e in and_from _ _ (s.all a i p.0) (t.all b j p.1);
-  none = λ a b i j e. ⊎_elim (λ f. and_left (is_true a) (is_true b) (s.none a i f)) (λ f. and_right (is_true a) (is_true b) (t.none b j f)) (and_cases (is_ever x) (is_ever y) e);
+  none =
+      λ a b i j e. ⊎_elim (λ f. and_left (is_true a) (is_true b) (s.none a i f)) (λ f. and_right (is_true a) (is_true b) (t.none b j f))
+      (and_cases (is_ever x) (is_ever y) e);
 }
 
 pub or_decides : (x y : Side) → Sees x → Sees y → Decides (λ a b. is_true a || is_true b) x y (is_always x || is_always y) (is_ever x || is_ever y)
 or_decides x y s t = record {
   low = (s.low.0, t.low.0, s.low.1, t.low.1, ap₂ (λ a b. a || b) s.low.2 t.low.2);
   high = (s.high.0, t.high.0, s.high.1, t.high.1, ap₂ (λ a b. a || b) s.high.2 t.high.2);
-  all = λ a b i j e. ⊎_elim (λ f. or_left (is_true a) (is_true b) (s.all a i f)) (λ f. or_right (is_true a) (is_true b) (t.all b j f)) (or_cases (is_always x) (is_always y) e);
+  all =
+      λ a b i j e. ⊎_elim (λ f. or_left (is_true a) (is_true b) (s.all a i f)) (λ f. or_right (is_true a) (is_true b) (t.all b j f))
+      (or_cases (is_always x) (is_always y) e);
   none = λ a b i j e. let p = or_parts (is_ever x) (is_ever y) e in or_from _ _ (s.none a i p.0) (t.none b j p.1);
 }
 

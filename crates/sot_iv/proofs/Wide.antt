@@ -16,20 +16,25 @@ pub word : (z : ℤ) → FitsSigned w64 z → to_z w64 (of_z w64 z) ≡ z
 word z f = to_z-of_z w64 z f
 
 -- a result in 128 bits of two numbers in 64
-pub of_two : (f : ℤ → ℤ → ℤ) (p a c : ℤ) → FitsSigned w64 a → FitsSigned w64 c → mag p < 170141183460469231731687303715884105728 → p ≡ f (to_z w64 (of_z w64 a)) (to_z w64 (of_z w64 c)) → to_z w128 (of_z w128 p) ≡ f a c
+pub of_two : (f : ℤ → ℤ → ℤ) (p a c : ℤ) → FitsSigned w64 a → FitsSigned w64 c → mag p < 170141183460469231731687303715884105728
+    → p ≡ f (to_z w64 (of_z w64 a)) (to_z w64 (of_z w64 c)) → to_z w128 (of_z w128 p) ≡ f a c
 of_two f p a c fa fc h e = wide p h ∙ e ∙ ap₂ f (word a fa) (word c fc)
 
 -- a result in 64 bits of two numbers in 64, where the test found that it fits
-pub of_checked : (f : ℤ → ℤ → ℤ) (p a c : ℤ) → FitsSigned w64 a → FitsSigned w64 c → FitsSigned w64 (f (to_z w64 (of_z w64 a)) (to_z w64 (of_z w64 c))) × (p ≡ f (to_z w64 (of_z w64 a)) (to_z w64 (of_z w64 c))) → to_z w64 (of_z w64 p) ≡ f a c
+pub of_checked : (f : ℤ → ℤ → ℤ) (p a c : ℤ) → FitsSigned w64 a → FitsSigned w64 c
+    → FitsSigned w64 (f (to_z w64 (of_z w64 a)) (to_z w64 (of_z w64 c))) × (p ≡ f (to_z w64 (of_z w64 a)) (to_z w64 (of_z w64 c)))
+    → to_z w64 (of_z w64 p) ≡ f a c
 of_checked f p a c fa fc e = word p (subst (FitsSigned w64) (sym e.1) e.0) ∙ e.1 ∙ ap₂ f (word a fa) (word c fc)
 
-pub of_one : (f : ℤ → ℤ) (p a : ℤ) → FitsSigned w64 a → mag p < 170141183460469231731687303715884105728 → p ≡ f (to_z w64 (of_z w64 a)) → to_z w128 (of_z w128 p) ≡ f a
+pub of_one : (f : ℤ → ℤ) (p a : ℤ) → FitsSigned w64 a → mag p < 170141183460469231731687303715884105728 → p ≡ f (to_z w64 (of_z w64 a))
+    → to_z w128 (of_z w128 p) ≡ f a
 of_one f p a fa h e = wide p h ∙ e ∙ ap f (word a fa)
 
 pub fitted_same : (at : Span) (l m h k : ℤ) → l ≡ m → h ≡ k → fitted at (side l h) ≡ fitted at (side m k)
 fitted_same at l m h k e f = ap₂ (λ x y. fitted at (side x y)) e f
 
-pub corners_same : (at : Span) (p q r s p' q' r' s' : ℤ) → p ≡ p' → q ≡ q' → r ≡ r' → s ≡ s' → fitted at (side (least_of p q r s) (greatest_of p q r s)) ≡ fitted at (side (least_of p' q' r' s') (greatest_of p' q' r' s'))
+pub corners_same : (at : Span) (p q r s p' q' r' s' : ℤ) → p ≡ p' → q ≡ q' → r ≡ r' → s ≡ s'
+    → fitted at (side (least_of p q r s) (greatest_of p q r s)) ≡ fitted at (side (least_of p' q' r' s') (greatest_of p' q' r' s'))
 corners_same at p q r s p' q' r' s' a b c d = rw (a, b, c, d) refl
 
 pub in_order : (p q r s : ℤ) → least_of p q r s ≤ℤ greatest_of p q r s

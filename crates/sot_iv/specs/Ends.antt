@@ -1,9 +1,12 @@
 -- The least intervals of operators by the ends of their operands' intervals: how the code works.
-use Rattle.std.specs.Prelude.{ℕ, ◌-◌, ◌^◌, ℤ, pos, ◌+ℤ◌, ◌-ℤ◌, ◌*ℤ◌, neg_ℤ, Bool, if◌then◌else◌, ◌&&◌, ◌||◌, not, int_lt, int_le, Ok, Err}
+use Rattle.std.specs.Prelude.{ℕ, ◌-◌, ◌^◌, ℤ, pos, ◌+ℤ◌, ◌-ℤ◌, ◌*ℤ◌, neg_ℤ, Bool, if◌then◌else◌}
+use Rattle.std.specs.Prelude.{◌&&◌, ◌||◌, not, int_lt, int_le, Ok, Err}
 use Rattle.std.specs.Int.{int_min, int_max}
 use Rattle.sot_text.specs.declared.token.Span.{Span}
 use Rattle.sot_tree.specs.declared.operator.Op.{Op}
-use Rattle.sot_tree.specs.declared.operator.Op.TheVariants.{Add, Sub, Mul, Div, Less, LessEqual, Greater, GreaterEqual, Equal, NotEqual, And, Or}
+use Rattle.sot_tree.specs.declared.operator.Op.TheVariants.{Add, Sub, Mul, Div, Less, LessEqual}
+use Rattle.sot_tree.specs.declared.operator.Op.TheVariants.{Greater, GreaterEqual, Equal, NotEqual}
+use Rattle.sot_tree.specs.declared.operator.Op.TheVariants.{And, Or}
 use Rattle.sot_lang.specs.declared.trap.TrapKind.TheVariants.{ZeroDivisor, Wide}
 use Rattle.sot_box.specs.Sides.{Side}
 use Rattle.sot_lang.specs.Values.{is_word, truth, floor_by, floor_div}
@@ -14,7 +17,9 @@ side lo hi = record { lo = lo; hi = hi }
 
 -- the interval where it is in 64 bits, else the trap
 abbrev pub fitted : Span → Side → OrMayTrap Side
-fitted at r = if is_word r.lo && is_word r.hi then Ok r else Err (record { at = at; kind = Wide; lo = r.lo; hi = r.hi })
+fitted at r =
+    if is_word r.lo && is_word r.hi then Ok r else Err
+    (record { at = at; kind = Wide; lo = r.lo; hi = r.hi })
 
 abbrev pub sum : Side → Side → Side
 sum a b = side (a.lo +ℤ b.lo) (a.hi +ℤ b.hi)
@@ -31,7 +36,9 @@ greatest_of p q r s = int_max (int_max p q) (int_max r s)
 
 -- the least and the greatest of the results at the four pairs of ends
 abbrev pub by_corners : (ℤ → ℤ → ℤ) → Side → Side → Side
-by_corners f a b = side (least_of (f a.lo b.lo) (f a.lo b.hi) (f a.hi b.lo) (f a.hi b.hi)) (greatest_of (f a.lo b.lo) (f a.lo b.hi) (f a.hi b.lo) (f a.hi b.hi))
+by_corners f a b =
+    side (least_of (f a.lo b.lo) (f a.lo b.hi) (f a.hi b.lo) (f a.hi b.hi))
+    (greatest_of (f a.lo b.lo) (f a.lo b.hi) (f a.hi b.lo) (f a.hi b.hi))
 
 abbrev pub product : Side → Side → Side
 product a b = by_corners (λ x y. x *ℤ y) a b
@@ -44,7 +51,9 @@ holds_zero r = int_le r.lo (pos 0) && int_le (pos 0) r.hi
 
 -- the quotients, where no divisor is 0
 unfoldable pub quotient_or_trap : Span → Side → Side → OrMayTrap Side
-quotient_or_trap at a b = if holds_zero b then Err (record { at = at; kind = ZeroDivisor; lo = b.lo; hi = b.hi }) else fitted at (quotient a b)
+quotient_or_trap at a b =
+    if holds_zero b then Err (record { at = at; kind = ZeroDivisor; lo = b.lo; hi = b.hi }) else
+    fitted at (quotient a b)
 
 -- every number of the interval is true; some number is
 abbrev pub is_always : Side → Bool
@@ -107,8 +116,11 @@ operated Less at a b = Ok (truths (int_lt a.hi b.lo) (int_lt a.lo b.hi))
 operated LessEqual at a b = Ok (truths (int_le a.hi b.lo) (int_le a.lo b.hi))
 operated Greater at a b = Ok (truths (int_lt b.hi a.lo) (int_lt b.lo a.hi))
 operated GreaterEqual at a b = Ok (truths (int_le b.hi a.lo) (int_le b.lo a.hi))
-operated Equal at a b = Ok (truths (int_le a.hi b.lo && int_le b.hi a.lo) (int_le a.lo b.hi && int_le b.lo a.hi))
-operated NotEqual at a b = Ok (truths (not (int_le a.lo b.hi && int_le b.lo a.hi)) (not (int_le a.hi b.lo && int_le b.hi a.lo)))
+operated Equal at a b =
+    Ok (truths (int_le a.hi b.lo && int_le b.hi a.lo) (int_le a.lo b.hi && int_le b.lo a.hi))
+operated NotEqual at a b =
+    Ok (truths (not (int_le a.lo b.hi && int_le b.lo a.hi))
+    (not (int_le a.hi b.lo && int_le b.hi a.lo)))
 operated And at a b = Ok (truths (is_always a && is_always b) (is_ever a && is_ever b))
 operated Or at a b = Ok (truths (is_always a || is_always b) (is_ever a || is_ever b))
 

@@ -28,10 +28,15 @@ turns_of p node seen count acts f = repeated count (run_of p node seen acts) f
 
 -- an interval is assigned, or drafted
 abbrev pub assign_of : NodeInfo → ℕ → Span → OrMayTrap Side → Intervals → OrMayTrap Intervals
-assign_of node k at value f = and_then (and_then value (put_at (local_ranges node) k at)) (λ x. Ok (record { locals = slice_set f.locals k x; draft = f.draft }))
+assign_of node k at value f =
+    and_then (and_then value (put_at (local_ranges node) k at))
+    (λ x. Ok (record { locals = slice_set f.locals k x; draft = f.draft }))
 
-abbrev pub publish_of : Tables → NodeInfo → ℕ → Span → OrMayTrap Side → Intervals → OrMayTrap Intervals
-publish_of p node k at value f = and_then (and_then value (put_at (write_ranges p node) k at)) (λ x. Ok (record { locals = f.locals; draft = slice_set f.draft k (Sure x) }))
+abbrev pub publish_of : Tables → NodeInfo → ℕ → Span → OrMayTrap Side → Intervals
+    → OrMayTrap Intervals
+publish_of p node k at value f =
+    and_then (and_then value (put_at (write_ranges p node) k at))
+    (λ x. Ok (record { locals = f.locals; draft = slice_set f.draft k (Sure x) }))
 
 -- a node has at most 16 locals, and writes at most 8 scalars, which exist
 pub record IsRunnable (p : Tables) (node : NodeInfo) : Type 0 where

@@ -25,7 +25,11 @@ abbrev pub drafts_of : OrMayTrap Intervals → OrMayTrap (List Drafted)
 drafts_of (Ok f) = Ok (f.draft ++ replicate (8 - length f.draft) Absent)
 drafts_of (Err t) = Err t
 
--- the answer is what the node's body drafts, what it reads and its locals in these intervals, or its first trap
+-- the answer is what the node's body drafts, what it reads and its locals in these intervals, or
+-- its first trap
 abbrev pub IsNodeDraft : Tables → ℕ → List Side → OrMayTrap (List Drafted) → Type 0
-IsNodeDraft p n ranges result = (node : NodeInfo) (acts : List Act) → At p.nodes n node → IsCoded node acts →
-    (o : OrMayTrap Intervals) × IsExecutionIntervals acts (local_ranges node) (write_ranges p node) (take (length node.reads.items) ranges) (drop (length node.reads.items) ranges) o × (result ≡ drafts_of o)
+IsNodeDraft p n ranges result =
+    (node : NodeInfo) (acts : List Act) → At p.nodes n node → IsCoded node acts →
+    (o : OrMayTrap Intervals) × IsExecutionIntervals acts (local_ranges node) (write_ranges p node)
+    (take (length node.reads.items) ranges) (drop (length node.reads.items) ranges) o
+    × (result ≡ drafts_of o)

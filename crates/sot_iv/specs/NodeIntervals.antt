@@ -13,16 +13,20 @@ use Rattle.sot_iv.specs.BodyIntervals.{Intervals, IsExecutionIntervals}
 -- the range of what a node reads, with plants in these boxes
 abbrev pub interval_at : Tables → List (List Side) → Slot → Side
 interval_at p boxes (Scalar k) = range_of p.scalars k
-interval_at p boxes (State k v) = slice_index_or (slice_index_or boxes k []) v (record { lo = pos 0; hi = pos 0 })
+interval_at p boxes (State k v) =
+    slice_index_or (slice_index_or boxes k []) v (record { lo = pos 0; hi = pos 0 })
 
 -- the intervals of all that a node reads, with plants in these boxes
 abbrev pub reading_intervals : Tables → NodeInfo → List (List Side) → List Side
 reading_intervals p node boxes = map (interval_at p boxes) node.reads.items
 
--- what the body of a node leaves, or the first trap: topics and locals anywhere in their ranges, plants in these boxes
-abbrev pub IsNodeExecution : Tables → NodeInfo → List Act → List (List Side) → OrMayTrap Intervals → Type 0
+-- what the body of a node leaves, or the first trap: topics and locals anywhere in their ranges,
+-- plants in these boxes
+abbrev pub IsNodeExecution : Tables → NodeInfo → List Act → List (List Side) → OrMayTrap Intervals
+    → Type 0
 IsNodeExecution p node acts boxes o =
-    IsExecutionIntervals acts (local_ranges node) (write_ranges p node) (reading_intervals p node boxes) (local_ranges node) o
+    IsExecutionIntervals acts (local_ranges node) (write_ranges p node)
+    (reading_intervals p node boxes) (local_ranges node) o
 
 -- the body of a node leaves these intervals, and has no trapping operand
 abbrev pub IsNodeIntervals : Tables → NodeInfo → List Act → List (List Side) → Intervals → Type 0

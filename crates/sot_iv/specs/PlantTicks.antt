@@ -9,7 +9,8 @@ use Rattle.sot_lang.specs.Ranges.{bounds}
 use Rattle.sot_iv.specs.TermIntervals.{OrMayTrap, AreTermIntervals}
 use Rattle.sot_iv.specs.PlantIntervals.{IsNextBox}
 
--- the plant exists, and there is an interval for each of its state variables, inputs and seen states
+-- the plant exists, and there is an interval for each of its state variables, inputs and seen
+-- states
 pub record MayTickBox (p : Tables) (k : ℕ) (box held seen : List Side) : Type 0 where
   pub plant : PlantInfo
   pub is : At p.plants k plant
@@ -18,14 +19,19 @@ pub record MayTickBox (p : Tables) (k : ℕ) (box held seen : List Side) : Type 
   pub seen_are : length seen ≡ seen_width p.plants plant.sees.items
 
 -- the answer is the plant's next box, or its first trap
-abbrev pub IsBoxAfterTick : Tables → ℕ → List Side → List Side → List Side → OrMayTrap (List Side) → Type 0
-IsBoxAfterTick p k box held seen result = (plant : PlantInfo) → At p.plants k plant → IsNextBox plant box held seen result
+abbrev pub IsBoxAfterTick : Tables → ℕ → List Side → List Side → List Side → OrMayTrap (List Side)
+    → Type 0
+IsBoxAfterTick p k box held seen result =
+    (plant : PlantInfo) → At p.plants k plant → IsNextBox plant box held seen result
 
--- where each name of a plant's expressions may be, from a box, with commands and the states of seen plants in these intervals
+-- where each name of a plant's expressions may be, from a box, with commands and the states of seen
+-- plants in these intervals
 abbrev pub ArePlantRanges : Tables → ℕ → List Side → List Side → List Side → List Side → Type 0
-ArePlantRanges p k box held seen names = (plant : PlantInfo) → At p.plants k plant → names ≡ box ++ held ++ seen ++ bounds plant
+ArePlantRanges p k box held seen names =
+    (plant : PlantInfo) → At p.plants k plant → names ≡ box ++ held ++ seen ++ bounds plant
 
--- the intervals are those of the plant's names from some box, with some commands and states of seen plants
+-- the intervals are those of the plant's names from some box, with some commands and states of seen
+-- plants
 pub record MayTickOver (p : Tables) (k : ℕ) (names : List Side) : Type 0 where
   pub box : List Side
   pub held : List Side
@@ -35,4 +41,5 @@ pub record MayTickOver (p : Tables) (k : ℕ) (names : List Side) : Type 0 where
 
 -- the answer is the plant's next box with its names in these intervals, or its first trap
 abbrev pub IsBoxOver : Tables → ℕ → List Side → OrMayTrap (List Side) → Type 0
-IsBoxOver p k names result = (plant : PlantInfo) → At p.plants k plant → AreTermIntervals plant.next.items names result
+IsBoxOver p k names result =
+    (plant : PlantInfo) → At p.plants k plant → AreTermIntervals plant.next.items names result

@@ -6,4 +6,5 @@ use Rattle.sot_lang.specs.SafeRegions.{AreHulls, joined_boxes}
 
 -- these sides are those of the hulls of the safe regions of these plants
 abbrev pub AreSeenHulls : List ModuleInfo → List ℕ → List Side → Type 0
-AreSeenHulls modules sees sides = (hulls : List (List Side)) × AreHulls modules sees hulls × (sides ≡ joined_boxes hulls)
+AreSeenHulls modules sees sides =
+    (hulls : List (List Side)) × AreHulls modules sees hulls × (sides ≡ joined_boxes hulls)

@@ -15,7 +15,8 @@ use Rattle.sot_iv.specs.declared.drafted.Drafted.TheVariants.{Absent, Maybe, Sur
 use Rattle.sot_iv.specs.BodyIntervals.{Intervals, IsExecutionIntervals}
 use Rattle.sot_iv.specs.PlantIntervals.{IsNextBox}
 
--- a drafted number lies in its interval; it is there where it is sure, and not there where it is absent
+-- a drafted number lies in its interval; it is there where it is sure, and not there where it is
+-- absent
 abbrev pub IsDrafted : Drafted → Option ℤ → Type 0
 IsDrafted Absent None = Unit {0}
 IsDrafted Absent (Some z) = ⊥
@@ -36,21 +37,25 @@ pub record Lies (f : Intervals) (g : Fired) : Type 0 where
   pub locals : IsWithin f.locals g.locals
   pub draft : AreDrafted f.draft g.draft
 
--- where an expression has an interval over some ranges, at each point in them it has a value, which lies in the interval
+-- where an expression has an interval over some ranges, at each point in them it has a value, which
+-- lies in the interval
 abbrev pub TermsAreSound : Type 0
 TermsAreSound = (t : Term) (ranges : List Side) (point : List ℤ) (r : Side)
     → IsWithin ranges point → IsTermInterval t ranges (Ok r)
     → (z : ℤ) × (value_of t point ≡ Ok z) × IsIn r z
 
--- where the interval evaluation of a body succeeds, no execution from numbers in the intervals traps, and what it leaves lies in
--- what the evaluation leaves
+-- where the interval evaluation of a body succeeds, no execution from numbers in the intervals
+-- traps, and what it leaves lies in what the evaluation leaves
 abbrev pub BodiesAreSound : Type 0
-BodiesAreSound = (acts : List Act) (locals writes seen at_start : List Side) (numbers start : List ℤ) (f : Intervals)
-    → IsWithin seen numbers → IsWithin at_start start → IsExecutionIntervals acts locals writes seen at_start (Ok f)
+BodiesAreSound =
+    (acts : List Act) (locals writes seen at_start : List Side) (numbers start : List ℤ)
+    (f : Intervals)
+    → IsWithin seen numbers → IsWithin at_start start
+    → IsExecutionIntervals acts locals writes seen at_start (Ok f)
     → (g : Fired) × (execution acts locals writes numbers start ≡ Ok g) × Lies f g
 
--- where a plant has a next box, no tick from a point of the box, with commands, seen states and disturbances in their intervals,
--- traps, and the next point is in the next box
+-- where a plant has a next box, no tick from a point of the box, with commands, seen states and
+-- disturbances in their intervals, traps, and the next point is in the next box
 abbrev pub PlantsAreSound : Type 0
 PlantsAreSound = (plant : PlantInfo) (box commands seen next : List Side) (s c v w : List ℤ)
     → IsWithin box s → IsWithin commands c → IsWithin seen v → IsWithin (bounds plant) w

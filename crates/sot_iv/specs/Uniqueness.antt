@@ -15,10 +15,13 @@ TermsHaveOneInterval = (t : Term) (ranges : List Side) (one other : OrMayTrap Si
 
 -- a body leaves one thing, or has one first trap
 abbrev pub BodiesHaveOneEnd : Type 0
-BodiesHaveOneEnd = (acts : List Act) (locals writes seen at_start : List Side) (one other : OrMayTrap Intervals)
-    → IsExecutionIntervals acts locals writes seen at_start one → IsExecutionIntervals acts locals writes seen at_start other → one ≡ other
+BodiesHaveOneEnd =
+    (acts : List Act) (locals writes seen at_start : List Side) (one other : OrMayTrap Intervals)
+    → IsExecutionIntervals acts locals writes seen at_start one
+    → IsExecutionIntervals acts locals writes seen at_start other → one ≡ other
 
 -- a plant has one next box, or one first trap
 abbrev pub PlantsHaveOneBox : Type 0
-PlantsHaveOneBox = (plant : PlantInfo) (box commands seen : List Side) (one other : OrMayTrap (List Side))
+PlantsHaveOneBox =
+    (plant : PlantInfo) (box commands seen : List Side) (one other : OrMayTrap (List Side))
     → IsNextBox plant box commands seen one → IsNextBox plant box commands seen other → one ≡ other

@@ -7,8 +7,11 @@ ghost use Rattle.sot_lang.specs.TermPlaces.{HasPlaces};
 ghost use Rattle.sot_lang.specs.ActRules.{ActFits, ActsFit};
 ghost use Rattle.sot_iv.specs.Ends.{side};
 ghost use Rattle.sot_iv.specs.declared.drafted.Drafted.TheVariants.{Absent, Maybe, Sure};
-ghost use Rattle.sot_iv.specs.Evaluation.{term_interval, and_then, put, put_at, act_intervals, body_intervals, repeated, hulls, joined_draft, joined_drafts, join_of, joined, Leaves};
-ghost use Rattle.sot_iv.specs.Firings.{state, step_of, run_of, turns_of, assign_of, publish_of, IsRunnable};
+ghost use Rattle.sot_iv.specs.Evaluation.{term_interval, and_then, put, put_at, act_intervals};
+ghost use Rattle.sot_iv.specs.Evaluation.{body_intervals, repeated, hulls, joined_draft};
+ghost use Rattle.sot_iv.specs.Evaluation.{joined_drafts, join_of, joined, Leaves};
+ghost use Rattle.sot_iv.specs.Firings.{state, step_of, run_of, turns_of, assign_of, publish_of};
+ghost use Rattle.sot_iv.specs.Firings.{IsRunnable};
 
 use crate::{Drafted, MayTrap, ends, operators, term};
 use sot_box::Interval;
@@ -42,7 +45,8 @@ fn assigned(
 ) -> Result<Interval, MayTrap>
     requires places { HasPlaces (length seen.now + length locals.now) value.now }
     requires local { local < length node.now.locals.items }
-    ensures { result ≡ and_then (term_interval value.now (seen.now ++ locals.now)) (put_at (local_ranges node.now) local at) }
+    ensures { result ≡ and_then (term_interval value.now (seen.now ++ locals.now))
+        (put_at (local_ranges node.now) local at) }
 {
     let x = term::interval_of(value, seen, locals)?;
     let info = &node.locals[local];
@@ -62,7 +66,8 @@ fn published(
     requires node { IsRunnable p.now node.now }
     requires places { HasPlaces (length seen.now + length locals.now) value.now }
     requires slot { slot < length node.now.writes.items }
-    ensures { result ≡ and_then (term_interval value.now (seen.now ++ locals.now)) (put_at (write_ranges p.now node.now) slot at) }
+    ensures { result ≡ and_then (term_interval value.now (seen.now ++ locals.now))
+        (put_at (write_ranges p.now node.now) slot at) }
 {
     let x = term::interval_of(value, seen, locals)?;
     let info = &p.scalars[node.writes[slot] as usize];
@@ -82,7 +87,8 @@ fn assign(
     requires local { local < length node.now.locals.items }
     requires size { length locals.old ≡ length node.now.locals.items }
     ensures { (draft : _) → Leaves result locals.new draft
-        (assign_of node.now local at (term_interval value.now (seen.now ++ locals.old)) (state locals.old draft)) }
+        (assign_of node.now local at (term_interval value.now (seen.now ++ locals.old))
+        (state locals.old draft)) }
 {
     let x = assigned(node, value, local, at, seen, locals)?;
     locals[local] = Interval { lo: x.lo, hi: x.hi };
@@ -105,7 +111,8 @@ fn publish(
     requires slot { slot < length node.now.writes.items }
     requires size { length draft.old ≡ length node.now.writes.items }
     ensures { Leaves result locals.now draft.new
-        (publish_of p.now node.now slot at (term_interval value.now (seen.now ++ locals.now)) (state locals.now draft.old)) }
+        (publish_of p.now node.now slot at (term_interval value.now (seen.now ++ locals.now))
+        (state locals.now draft.old)) }
 {
     let x = published(p, node, value, slot, at, seen, locals)?;
     draft[slot] = Drafted::Sure(Interval { lo: x.lo, hi: x.hi });
@@ -196,11 +203,13 @@ pub(crate) fn run(
     draft: &mut [Drafted],
 ) -> Result<(), MayTrap>
     requires node { IsRunnable p.now node.now }
-    requires fits { ActsFit (node_truths p.now node.now) (length node.now.locals.items) (length node.now.writes.items) acts.now }
+    requires fits { ActsFit (node_truths p.now node.now) (length node.now.locals.items)
+        (length node.now.writes.items) acts.now }
     requires reads { length seen.now ≡ length node.now.reads.items }
     requires size { length locals.old ≡ length node.now.locals.items }
     requires slots { length draft.old ≡ length node.now.writes.items }
-    ensures { Leaves result locals.new draft.new (run_of p.now node.now seen.now acts.now (state locals.old draft.old)) }
+    ensures { Leaves result locals.new draft.new
+        (run_of p.now node.now seen.now acts.now (state locals.old draft.old)) }
 {
     for one in acts {
         step(p, node, one, seen, locals, draft)?;
@@ -220,11 +229,13 @@ fn turns(
     draft: &mut [Drafted],
 ) -> Result<(), MayTrap>
     requires node { IsRunnable p.now node.now }
-    requires fits { ActsFit (node_truths p.now node.now) (length node.now.locals.items) (length node.now.writes.items) acts.now }
+    requires fits { ActsFit (node_truths p.now node.now) (length node.now.locals.items)
+        (length node.now.writes.items) acts.now }
     requires reads { length seen.now ≡ length node.now.reads.items }
     requires size { length locals.old ≡ length node.now.locals.items }
     requires slots { length draft.old ≡ length node.now.writes.items }
-    ensures { Leaves result locals.new draft.new (turns_of p.now node.now seen.now count acts.now (state locals.old draft.old)) }
+    ensures { Leaves result locals.new draft.new
+        (turns_of p.now node.now seen.now count acts.now (state locals.old draft.old)) }
 {
     for _turn in 0..count {
         run(p, node, acts, seen, locals, draft)?;
@@ -243,11 +254,13 @@ fn step(
     draft: &mut [Drafted],
 ) -> Result<(), MayTrap>
     requires node { IsRunnable p.now node.now }
-    requires fits { ActFits (node_truths p.now node.now) (length node.now.locals.items) (length node.now.writes.items) one.now }
+    requires fits { ActFits (node_truths p.now node.now) (length node.now.locals.items)
+        (length node.now.writes.items) one.now }
     requires reads { length seen.now ≡ length node.now.reads.items }
     requires size { length locals.old ≡ length node.now.locals.items }
     requires slots { length draft.old ≡ length node.now.writes.items }
-    ensures { Leaves result locals.new draft.new (step_of p.now node.now seen.now one.now (state locals.old draft.old)) }
+    ensures { Leaves result locals.new draft.new
+        (step_of p.now node.now seen.now one.now (state locals.old draft.old)) }
 {
     match one {
         Act::Assign { local, value, at } => assign(node, value, *local as usize, *at, seen, locals),

@@ -1,7 +1,8 @@
-//! Where each name may be: scalars in their types, locals and disturbances in their bounds, and the states of seen plants in the
-//! hulls of these plants' safe regions.
+//! Where each name may be: scalars in their types, locals and disturbances in their bounds, and the
+//! states of seen plants in the hulls of these plants' safe regions.
 
-ghost use Rattle.std.specs.Prelude.{◌≡◌, ◌≢◌, ℕ, [], ◌+◌, ◌<◌, ◌≤◌, ◌≤ℤ◌, ◌++◌, length, drop, map, MatchOption};
+ghost use Rattle.std.specs.Prelude.{◌≡◌, ◌≢◌, ℕ, [], ◌+◌, ◌<◌, ◌≤◌, ◌≤ℤ◌, ◌++◌, length, drop, map};
+ghost use Rattle.std.specs.Prelude.{MatchOption};
 ghost use Rattle.sot_lists.specs.Places.{At, Has};
 ghost use Rattle.sot_box.specs.Regions.{IsHull};
 ghost use Rattle.sot_lang.specs.declared.tables.LocalInfo.{LocalInfo as Local};
@@ -93,8 +94,8 @@ pub fn put_front(b: &BoxN, sides: &mut Ranges)
     }
 }
 
-/// The least box around the safe region of a plant, which is that of the first module that names the plant; `None` where that
-/// region has no box, and there alone. Takes no memory.
+/// The least box around the safe region of a plant, which is that of the first module that names
+/// the plant; `None` where that region has no box, and there alone. Takes no memory.
 pub fn safe_hull(p: &Typed, plant: u32) -> Option<BoxN>
     ensures { MatchOption result (safe_of p.now.modules plant ≡ [])
         (λ b. IsHull (safe_of p.now.modules plant) b × (length b ≡ width_of p.now.plants plant)) }

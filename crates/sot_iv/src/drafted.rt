@@ -17,7 +17,8 @@ pub enum Drafted {
     Sure(Interval),
 }
 
-/// What a node drafts over intervals, in eight slots. Those past the scalars that it writes are absent.
+/// What a node drafts over intervals, in eight slots. Those past the scalars that it writes are
+/// absent.
 #[derive(Drop)]
 pub struct IvDraft {
     slots: [Drafted; 8],

@@ -1,9 +1,13 @@
 //! The least intervals of operators, from the ends of their operands' intervals.
 
-ghost use Rattle.std.specs.Prelude.{◌≡◌, ◌≢◌, ◌≤◌, ◌≤ℤ◌, pos, IsTrue, ◌*ℤ◌, ◌-ℤ◌, ◌+ℤ◌, neg_ℤ, ◌&&◌, ◌||◌, not, int_lt, int_le};
+ghost use Rattle.std.specs.Prelude.{◌≡◌, ◌≢◌, ◌≤◌, ◌≤ℤ◌, pos, IsTrue, ◌*ℤ◌, ◌-ℤ◌, ◌+ℤ◌, neg_ℤ};
+ghost use Rattle.std.specs.Prelude.{◌&&◌, ◌||◌, not, int_lt, int_le};
 ghost use Rattle.std.specs.Int.{int_max};
 ghost use Rattle.sot_lang.specs.Values.{floor_div};
-ghost use Rattle.sot_iv.specs.Ends.{side, fitted, sum, difference, least_of, greatest_of, product, quotient, quotient_or_trap, holds_zero, is_always, is_ever, truths, rest, negation, magnitude, least_side, greatest_side, hull, times_ten, scaled_to, rescaled};
+ghost use Rattle.sot_iv.specs.Ends.{side, fitted, sum, difference, least_of, greatest_of, product};
+ghost use Rattle.sot_iv.specs.Ends.{quotient, quotient_or_trap, holds_zero, is_always, is_ever};
+ghost use Rattle.sot_iv.specs.Ends.{truths, rest, negation, magnitude, least_side, greatest_side};
+ghost use Rattle.sot_iv.specs.Ends.{hull, times_ten, scaled_to, rescaled};
 
 use crate::MayTrap;
 use sot_box::Interval;
@@ -325,7 +329,8 @@ pub(crate) fn is_possible(c: Interval) -> bool
 pub(crate) fn both_of(a: i64, b: i64, c: i64, d: i64) -> Interval
     requires first { a ≤ℤ b }
     requires second { c ≤ℤ d }
-    ensures { result ≡ truths (is_always (side a b) && is_always (side c d)) (is_ever (side a b) && is_ever (side c d)) }
+    ensures { result ≡ truths (is_always (side a b) && is_always (side c d))
+        (is_ever (side a b) && is_ever (side c d)) }
 {
     let always = and(always_true(a, b), always_true(c, d));
     let ever = and(ever_true(a, b), ever_true(c, d));
@@ -335,7 +340,8 @@ pub(crate) fn both_of(a: i64, b: i64, c: i64, d: i64) -> Interval
 pub(crate) fn either_of(a: i64, b: i64, c: i64, d: i64) -> Interval
     requires first { a ≤ℤ b }
     requires second { c ≤ℤ d }
-    ensures { result ≡ truths (is_always (side a b) || is_always (side c d)) (is_ever (side a b) || is_ever (side c d)) }
+    ensures { result ≡ truths (is_always (side a b) || is_always (side c d))
+        (is_ever (side a b) || is_ever (side c d)) }
 {
     let always = or(always_true(a, b), always_true(c, d));
     let ever = or(ever_true(a, b), ever_true(c, d));

@@ -3,10 +3,13 @@
 ghost use Rattle.sot_iv.specs.Soundness.{TermsAreSound, BodiesAreSound, PlantsAreSound};
 ghost use Rattle.sot_iv.specs.Uniqueness.{TermsHaveOneInterval, BodiesHaveOneEnd, PlantsHaveOneBox};
 ghost use Rattle.sot_iv.specs.Monotony.{TermsNarrow, BodiesNarrow, PlantsNarrow};
-ghost use Rattle.sot_iv.specs.Examples.{ProductRow, QuotientRow, ZeroRow, WideRow, RestRows, MagnitudeRow, ComparisonRows, DraftRows};
-ghost use Rattle.sot_iv.specs.BodyExamples.{ForEach, Conditions, FirstTraps, Branches, OutsideTarget, SlowOverItsRanges};
+ghost use Rattle.sot_iv.specs.Examples.{ProductRow, QuotientRow, ZeroRow, WideRow, RestRows};
+ghost use Rattle.sot_iv.specs.Examples.{MagnitudeRow, ComparisonRows, DraftRows};
+ghost use Rattle.sot_iv.specs.BodyExamples.{ForEach, Conditions, FirstTraps, Branches};
+ghost use Rattle.sot_iv.specs.BodyExamples.{OutsideTarget, SlowOverItsRanges};
 
-/// Where an interval evaluation succeeds, no evaluation at a point of the ranges traps, and what it gives lies in the intervals.
+/// Where an interval evaluation succeeds, no evaluation at a point of the ranges traps, and what it
+/// gives lies in the intervals.
 pub fn intervals_hold_all_points()
     ensures terms { TermsAreSound }
     ensures bodies { BodiesAreSound }
@@ -39,7 +42,8 @@ pub fn worked_intervals()
     ensures drafts { DraftRows }
 {}
 
-/// Worked evaluations: conditions, the order of traps, statements, and a node over its declared ranges.
+/// Worked evaluations: conditions, the order of traps, statements, and a node over its declared
+/// ranges.
 pub fn worked_evaluations()
     ensures conditions { ForEach Conditions }
     ensures traps { ForEach FirstTraps }

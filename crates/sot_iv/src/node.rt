@@ -21,10 +21,12 @@ fn fire(
     start: &[Interval],
 ) -> Result<IvDraft, MayTrap>
     requires node { IsRunnable p.now node.now }
-    requires fits { ActsFit (node_truths p.now node.now) (length node.now.locals.items) (length node.now.writes.items) acts.now }
+    requires fits { ActsFit (node_truths p.now node.now) (length node.now.locals.items)
+        (length node.now.writes.items) acts.now }
     requires reads { length seen.now ≡ length node.now.reads.items }
     requires size { length start.now ≡ length node.now.locals.items }
-    ensures { result ≡ drafts_of (run_of p.now node.now seen.now acts.now (state start.now (replicate (length node.now.writes.items) Absent))) }
+    ensures { result ≡ drafts_of (run_of p.now node.now seen.now acts.now
+        (state start.now (replicate (length node.now.writes.items) Absent))) }
 {
     let mut inline = [Interval { lo: 0, hi: 0 }; 16];
     let (locals, _) = inline.split_at_mut(start.len());
@@ -35,8 +37,9 @@ fn fire(
     Ok(IvDraft::from_slice(draft))
 }
 
-/// What a coded node drafts over intervals, one for each of its read slots and then one for each of its locals: of each written
-/// scalar whether it is drafted and its interval; or the first operands or target of which some trap. Takes no memory.
+/// What a coded node drafts over intervals, one for each of its read slots and then one for each of
+/// its locals: of each written scalar whether it is drafted and its interval; or the first operands
+/// or target of which some trap. Takes no memory.
 pub fn iv_node(p: &Typed, node: u32, ranges: &Ranges) -> Result<IvDraft, MayTrap>
     requires { MayEvaluate p.now node ranges.now }
     ensures { IsNodeDraft p.now node ranges.now result }

@@ -1,7 +1,8 @@
 //! The least intervals of operators, functions and changes of scale.
 
 ghost use Rattle.std.specs.Prelude.{◌≡◌, ◌≤◌, ◌≤ℤ◌, pos};
-ghost use Rattle.sot_iv.specs.Ends.{fitted, operated, quotient_or_trap, rest, negation, denied, magnitude, least_side, greatest_side, clamped, rescaled, hull};
+ghost use Rattle.sot_iv.specs.Ends.{fitted, operated, quotient_or_trap, rest, negation, denied};
+ghost use Rattle.sot_iv.specs.Ends.{magnitude, least_side, greatest_side, clamped, rescaled, hull};
 
 use crate::{MayTrap, ends};
 use sot_box::Interval;

@@ -3,7 +3,8 @@
 ghost use Rattle.std.specs.Prelude.{◌≡◌, ◌≤◌, [], length};
 ghost use Rattle.sot_lang.specs.TermPlaces.{HavePlaces};
 ghost use Rattle.sot_iv.specs.Evaluation.{term_intervals, GivesSides};
-ghost use Rattle.sot_iv.specs.PlantTicks.{MayTickBox, IsBoxAfterTick, ArePlantRanges, MayTickOver, IsBoxOver};
+ghost use Rattle.sot_iv.specs.PlantTicks.{MayTickBox, IsBoxAfterTick, ArePlantRanges, MayTickOver};
+ghost use Rattle.sot_iv.specs.PlantTicks.{IsBoxOver};
 
 use crate::bounds::{put_bounds, put_box};
 use crate::term::interval_of;
@@ -37,8 +38,9 @@ fn box_of(terms: &[Term], names: &[Interval]) -> Result<BoxN, MayTrap>
     Ok(BoxN::of(sides).unwrap())
 }
 
-/// Where each name of a plant's expressions may be: its state variables in the box, its inputs in `held`, the states of the plants
-/// that it sees, one plant after another, in `seen`, and its disturbances in their bounds. Takes no memory.
+/// Where each name of a plant's expressions may be: its state variables in the box, its inputs in
+/// `held`, the states of the plants that it sees, one plant after another, in `seen`, and its
+/// disturbances in their bounds. Takes no memory.
 pub fn put_plant_ranges(
     p: &Typed,
     plant: u32,
@@ -58,8 +60,8 @@ pub fn put_plant_ranges(
     put_bounds(&info.noise, names);
 }
 
-/// The least box of a plant after one tick, with its names in these ranges, or the first operands of which some trap. Takes no
-/// memory.
+/// The least box of a plant after one tick, with its names in these ranges, or the first operands
+/// of which some trap. Takes no memory.
 pub fn iv_plant_over(p: &Typed, plant: u32, names: &Ranges) -> Result<BoxN, MayTrap>
     requires { MayTickOver p.now plant names.now }
     ensures { IsBoxOver p.now plant names.now result }
@@ -68,9 +70,10 @@ pub fn iv_plant_over(p: &Typed, plant: u32, names: &Ranges) -> Result<BoxN, MayT
     box_of(&info.next, names.as_slice())
 }
 
-/// The least box of a plant after one tick from a box, or the first operands of which some trap: with commands in `held`, the
-/// states of the plants that it sees, one plant after another, in `seen`, and disturbances anywhere in their bounds. There is an
-/// interval for each state variable, each input and each seen state. Takes no memory.
+/// The least box of a plant after one tick from a box, or the first operands of which some trap:
+/// with commands in `held`, the states of the plants that it sees, one plant after another, in
+/// `seen`, and disturbances anywhere in their bounds. There is an interval for each state variable,
+/// each input and each seen state. Takes no memory.
 pub fn iv_plant(
     p: &Typed,
     plant: u32,

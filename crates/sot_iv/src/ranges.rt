@@ -1,13 +1,15 @@
 //! Intervals in order, one for each name that an owner's expressions can read.
 
-ghost use Rattle.std.specs.Prelude.{◌≡◌, ◌<◌, ◌≤◌, ◌≤ℤ◌, ◌+◌, [], ◌∷◌, ◌++◌, length, slice_set, MatchOption};
+ghost use Rattle.std.specs.Prelude.{◌≡◌, ◌<◌, ◌≤◌, ◌≤ℤ◌, ◌+◌, [], ◌∷◌, ◌++◌, length, slice_set};
+ghost use Rattle.std.specs.Prelude.{MatchOption};
 ghost use Rattle.sot_box.specs.Sides.{AreOrdered};
 
 use sot_box::Interval;
 use std::marker::Model;
 
-/// Up to 80 intervals in order, one for each name that the expressions of an owner can read: of a node what it reads and then its
-/// locals; of a plant its state variables, its inputs, the states of the plants that it sees and its disturbances.
+/// Up to 80 intervals in order, one for each name that the expressions of an owner can read: of a
+/// node what it reads and then its locals; of a plant its state variables, its inputs, the states
+/// of the plants that it sees and its disturbances.
 #[derive(Drop)]
 pub struct Ranges {
     count: usize,

@@ -1,11 +1,13 @@
 //! The least interval of an expression.
 
-ghost use Rattle.std.specs.Prelude.{◌≡◌, ◌+◌, ◌<◌, ◌≤◌, ◌≤ℤ◌, ◌++◌, pos, Ok, length, slice_index_or};
+ghost use Rattle.std.specs.Prelude.{◌≡◌, ◌+◌, ◌<◌, ◌≤◌, ◌≤ℤ◌, ◌++◌, pos, Ok, length};
+ghost use Rattle.std.specs.Prelude.{slice_index_or};
 ghost use Rattle.sot_tree.specs.Functions.{arity};
 ghost use Rattle.sot_lang.specs.TermPlaces.{HasPlaces, HavePlaces};
 ghost use Rattle.sot_box.specs.Sides.{nought};
 ghost use Rattle.sot_iv.specs.TermIntervals.{IsTermInterval};
-ghost use Rattle.sot_iv.specs.Evaluation.{term_interval, term_intervals, called_side, and_then, Finds};
+ghost use Rattle.sot_iv.specs.Evaluation.{term_interval, term_intervals, called_side, and_then};
+ghost use Rattle.sot_iv.specs.Evaluation.{Finds};
 ghost use Rattle.sot_iv.specs.Ends.{fitted, rest, negation, denied, rescaled};
 
 use crate::{MayTrap, Ranges, ends, operators};
@@ -14,9 +16,10 @@ use sot_lang::{Term, TrapKind};
 use sot_text::Span;
 use sot_tree::Func;
 
-/// The least interval of an expression over these ranges of its names, operator by operator, or the first operands of which some
-/// trap. Its places are below the count of the ranges, its calls have the parts of their functions, each divisor of a rest is at
-/// least 1, and scales are at most 6. Takes no memory.
+/// The least interval of an expression over these ranges of its names, operator by operator, or the
+/// first operands of which some trap. Its places are below the count of the ranges, its calls have
+/// the parts of their functions, each divisor of a rest is at least 1, and scales are at most 6.
+/// Takes no memory.
 pub fn iv_term(t: &Term, ranges: &Ranges) -> Result<Interval, MayTrap>
     requires { HasPlaces (length ranges.now) t.now }
     ensures { IsTermInterval t.now ranges.now result }
@@ -75,8 +78,9 @@ fn kept(answer: Result<Interval, MayTrap>, trap: &mut MayTrap) -> Option<Interva
     }
 }
 
-// The same, with the trap in a place of its own: each part's result is written and read again, so it is kept small. Numbers and
-// names are answered first, since a function pays at its entry for the room that it needs.
+// The same, with the trap in a place of its own: each part's result is written and read again, so
+// it is kept small. Numbers and names are answered first, since a function pays at its entry for
+// the room that it needs.
 #[cycle(evaluate)]
 fn evaluate(
     term: &Term,
@@ -94,8 +98,8 @@ fn evaluate(
     }
 }
 
-// The same, with room for the parts of an expression. Conditions come here at once, since a condition is hardly ever a number or a
-// name.
+// The same, with room for the parts of an expression. Conditions come here at once, since a
+// condition is hardly ever a number or a name.
 #[cycle(evaluate)]
 fn compound(
     term: &Term,
@@ -151,7 +155,8 @@ fn rest(
 ) -> Option<Interval>
     requires places { HasPlaces (length seen.now + length locals.now) left.now }
     requires divisor { pos 1 ≤ℤ by }
-    ensures { Finds result trap.new (and_then (term_interval left.now (seen.now ++ locals.now)) (λ x. fitted at (rest by x))) }
+    ensures { Finds result trap.new (and_then (term_interval left.now (seen.now ++ locals.now))
+        (λ x. fitted at (rest by x))) }
 {
     let a = evaluate(left, seen, locals, trap)?;
     kept(operators::divide_rest(at, a, by), trap)
@@ -166,7 +171,8 @@ fn negation(
     trap: &mut MayTrap,
 ) -> Option<Interval>
     requires { HasPlaces (length seen.now + length locals.now) part.now }
-    ensures { Finds result trap.new (and_then (term_interval part.now (seen.now ++ locals.now)) (λ x. fitted at (negation x))) }
+    ensures { Finds result trap.new (and_then (term_interval part.now (seen.now ++ locals.now))
+        (λ x. fitted at (negation x))) }
 {
     let a = evaluate(part, seen, locals, trap)?;
     kept(operators::negate(at, a), trap)
@@ -180,7 +186,8 @@ fn denial(
     trap: &mut MayTrap,
 ) -> Option<Interval>
     requires { HasPlaces (length seen.now + length locals.now) part.now }
-    ensures { Finds result trap.new (and_then (term_interval part.now (seen.now ++ locals.now)) (λ x. Ok (denied x))) }
+    ensures { Finds result trap.new (and_then (term_interval part.now (seen.now ++ locals.now))
+        (λ x. Ok (denied x))) }
 {
     let a = evaluate(part, seen, locals, trap)?;
     Some(operators::deny(a))
@@ -199,7 +206,8 @@ fn rescaled(
     requires places { HasPlaces (length seen.now + length locals.now) part.now }
     requires first { from ≤ 6 }
     requires second { to ≤ 6 }
-    ensures { Finds result trap.new (and_then (term_interval part.now (seen.now ++ locals.now)) (λ x. fitted at (rescaled from to x))) }
+    ensures { Finds result trap.new (and_then (term_interval part.now (seen.now ++ locals.now))
+        (λ x. fitted at (rescaled from to x))) }
 {
     let a = evaluate(part, seen, locals, trap)?;
     kept(operators::rescale(at, a, from, to), trap)
@@ -217,7 +225,8 @@ fn call(
 ) -> Option<Interval>
     requires parts { HavePlaces (length seen.now + length locals.now) parts.now.items }
     requires arity { length parts.now.items ≡ arity func }
-    ensures { Finds result trap.new (and_then (term_intervals parts.now.items (seen.now ++ locals.now)) (called_side func at)) }
+    ensures { Finds result trap.new (and_then
+        (term_intervals parts.now.items (seen.now ++ locals.now)) (called_side func at)) }
 {
     match func {
         Func::Min => {

@@ -1,6 +1,7 @@
 -- Slots of drafts, set and read.
 use Rattle.std.proofs.Math.ListN.{set}
-use Rattle.std.proofs.Common.{◌≡◌, ◌<◌, ℕ, zero, suc, Bool, true, false, ℤ, pos, List, [], ◌∷◌, refl, sym, ap, ◌∙◌, Some, length, map, slice_get, get_or, arith, Option}
+use Rattle.std.proofs.Common.{◌≡◌, ◌<◌, ℕ, zero, suc, Bool, true, false, ℤ, pos, List, [], ◌∷◌, refl, sym, ap, ◌∙◌, Some, length, map, slice_get, get_or, arith}
+use Rattle.std.proofs.Common.{Option}
 use Rattle.std.specs.Prelude.{◌&&◌, is_some, unwrap_or}
 use Rattle.std.specs.Ordering.{int_eq}
 use lib.Pointwise.{pointwise}
@@ -21,7 +22,8 @@ set_are_slots (suc i) v (b ∷ bs) [] are = are
 set_are_slots zero v (b ∷ bs) (z ∷ zs) are = (tt, are.1)
 set_are_slots (suc i) v (b ∷ bs) (z ∷ zs) are = (are.0, set_are_slots i v bs zs are.1)
 
-pub slot-read : (i : ℕ) (bs : List Bool) (zs : List ℤ) → length bs ≡ length zs → i < length bs → slice_get (slots_of bs zs) i ≡ Some (slot (get_or bs i false) (get_or zs i (pos 0)))
+pub slot-read : (i : ℕ) (bs : List Bool) (zs : List ℤ) → length bs ≡ length zs → i < length bs
+    → slice_get (slots_of bs zs) i ≡ Some (slot (get_or bs i false) (get_or zs i (pos 0)))
 slot-read i [] zs same below = absurd (omega (arith, below))
 slot-read i (b ∷ bs) [] same below = absurd (omega (arith, same))
 slot-read zero (b ∷ bs) (z ∷ zs) same below = refl
@@ -36,8 +38,10 @@ same_slots d e s t is_equal numbers_equal ds et hd he numbers there =
     let e_back = draft_of-slot_list e he in
     there ∙ ap (λ b. b && pointwise beq d.there e.there) numbers
     ∙ ap (λ (x : draft.Inside). pointwise int_eq x.numbers e.numbers && pointwise beq x.there e.there) (sym d_back)
-    ∙ ap (λ (x : draft.Inside). pointwise int_eq (map (λ o. unwrap_or o (pos 0)) (slot_list d)) x.numbers && pointwise beq (map is_some (slot_list d)) x.there) (sym e_back)
-    ∙ ap (λ l. pointwise int_eq (map (λ o. unwrap_or o (pos 0)) l) (map (λ o. unwrap_or o (pos 0)) (slot_list e)) && pointwise beq (map is_some l) (map is_some (slot_list e))) ds
+    ∙ ap (λ (x : draft.Inside). pointwise int_eq (map (λ o. unwrap_or o (pos 0)) (slot_list d)) x.numbers && pointwise beq (map is_some (slot_list d)) x.there)
+    (sym e_back)
+    ∙ ap (λ l. pointwise int_eq (map (λ o. unwrap_or o (pos 0)) l) (map (λ o. unwrap_or o (pos 0)) (slot_list e)) && pointwise beq (map is_some l)
+    (map is_some (slot_list e))) ds
     ∙ ap (λ l. pointwise int_eq (map (λ o. unwrap_or o (pos 0)) s) (map (λ o. unwrap_or o (pos 0)) l) && pointwise beq (map is_some s) (map is_some l)) et
 
 pub slots-length : (bs : List Bool) (zs : List ℤ) → length bs ≡ length zs → length (slots_of bs zs) ≡ length bs

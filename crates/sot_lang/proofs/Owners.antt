@@ -1,5 +1,6 @@
 -- What an owner of code, a node or a plant, has by its place in the tables, and how many names it has.
-use Rattle.std.proofs.Common.{◌≡◌, ℕ, zero, suc, ◌+◌, ◌*◌, ◌<◌, ◌≤◌, ℤ, pos, negsuc, Bool, true, false, List, [], ◌∷◌, ◌++◌, map, length, get_or, refl, sym, ap, ap₂, ◌∙◌, subst, arith, length-append, ◌≤ℤ◌}
+use Rattle.std.proofs.Common.{◌≡◌, ℕ, zero, suc, ◌+◌, ◌*◌, ◌<◌, ◌≤◌, ℤ, pos, negsuc, Bool, true, false, List, [], ◌∷◌, ◌++◌, map, length, get_or, refl, sym, ap}
+use Rattle.std.proofs.Common.{ap₂, ◌∙◌, subst, arith, length-append, ◌≤ℤ◌}
 use Rattle.std.specs.Prelude.{replicate}
 use Rattle.std.proofs.lemmas.List.{length-map, length-replicate}
 use Rattle.std.proofs.lemmas.Option.{get_or_from_slice_get, same_Some, none-some}
@@ -26,9 +27,12 @@ use Rattle.sot_lang.proofs.Places.{HasPlaces-TermFits, HavePlaces-TermsFit}
 
 -- the range of a scalar, by what stands or was read at its place
 pub range_at : (infos : List ScalarInfo) (k : ℕ) (info : ScalarInfo) → At infos k info → range_of infos k ≡ record { lo = info.lo; hi = info.hi }
-range_at infos k info at = get_or_from_slice_get (map (λ i. record { lo = i.lo; hi = i.hi }) infos) k (record { lo = info.lo; hi = info.hi }) nought (at_map (λ i. let s : Side = record { lo = i.lo; hi = i.hi } in s) infos k info at)
+range_at infos k info at =
+    get_or_from_slice_get (map (λ i. record { lo = i.lo; hi = i.hi }) infos) k (record { lo = info.lo; hi = info.hi }) nought
+    (at_map (λ i. let s : Side = record { lo = i.lo; hi = i.hi } in s) infos k info at)
 
-pub range_of-get : (infos : List ScalarInfo) (k : ℕ) (d : ScalarInfo) → k < length infos → range_of infos k ≡ record { lo = (get_or infos k d).lo; hi = (get_or infos k d).hi }
+pub range_of-get : (infos : List ScalarInfo) (k : ℕ) (d : ScalarInfo) → k < length infos
+    → range_of infos k ≡ record { lo = (get_or infos k d).lo; hi = (get_or infos k d).hi }
 range_of-get infos k d lt = index_or-map (λ i. let s : Side = record { lo = i.lo; hi = i.hi } in s) infos k d nought lt
 
 -- how many state variables a plant has, by its place
@@ -59,13 +63,18 @@ plant_places p plant ts n h size =
     let b = map (is_truth_scalar p.scalars) plant.inputs.items in
     let c = replicate (seen_width p.plants plant.sees.items) false in
     let d = map (λ (s : NoiseInfo). false) plant.noise.items in
-    let names : length (plant_truths p plant) ≡ length plant.states.items + length plant.inputs.items + seen_width p.plants plant.sees.items + length plant.noise.items =
+    let names : length (plant_truths p plant) ≡ length plant.states.items + length plant.inputs.items + seen_width p.plants plant.sees.items
+    + length plant.noise.items =
     length-append (a ++ b ++ c) d
-    ∙ ap₂ (λ x y. x + y) (length-append (a ++ b) c ∙ ap₂ (λ x y. x + y) (length-append a b ∙ ap₂ (λ x y. x + y) (length-map plant.states.items (λ (s : StateInfo). false)) (length-map plant.inputs.items (is_truth_scalar p.scalars))) (length-replicate (seen_width p.plants plant.sees.items) false)) (length-map plant.noise.items (λ (s : NoiseInfo). false)) in
+    ∙ ap₂ (λ x y. x + y) (length-append (a ++ b) c ∙ ap₂ (λ x y. x + y)
+    (length-append a b ∙ ap₂ (λ x y. x + y) (length-map plant.states.items (λ (s : StateInfo). false))
+    (length-map plant.inputs.items (is_truth_scalar p.scalars))) (length-replicate (seen_width p.plants plant.sees.items) false))
+    (length-map plant.noise.items (λ (s : NoiseInfo). false)) in
     subst (λ k. HavePlaces k ts) (names ∙ sym size) (HavePlaces-TermsFit (plant_truths p plant) ts h)
 
 -- the places of a node's expressions are below the count of its names
-pub node_places : (p : Tables) (node : NodeInfo) (t : Term) (n : ℕ) → TermFits (node_truths p node) t → length node.reads.items + length node.locals.items ≡ n → HasPlaces n t
+pub node_places : (p : Tables) (node : NodeInfo) (t : Term) (n : ℕ) → TermFits (node_truths p node) t → length node.reads.items + length node.locals.items ≡ n
+    → HasPlaces n t
 node_places p node t n h size =
     let names : length (node_truths p node) ≡ n =
     length-append (map (reads_truth p.scalars) node.reads.items) (map (λ l. l.truth) node.locals.items)
@@ -85,7 +94,8 @@ pub one_body : (node : NodeInfo) (us vs : List Act) → IsCoded node us → IsCo
 one_body node us vs a b = sym a.2 ∙ ap (λ v. v.items) (same_Some a.0 b.0 (sym a.1 ∙ b.1)) ∙ b.2
 
 -- what stands at a place of a body that fits
-pub fits_at : (truths : List Bool) (n m : ℕ) (us : List Act) (i : ℕ) (one : Act) → ActsFit truths n m us → i < length us → one ≡ get_or us i one → ActFits truths n m one
+pub fits_at : (truths : List Bool) (n m : ℕ) (us : List Act) (i : ℕ) (one : Act) → ActsFit truths n m us → i < length us → one ≡ get_or us i one
+    → ActFits truths n m one
 fits_at truths n m [] i one h lt is = absurd (omega arith)
 fits_at truths n m (a ∷ us) zero one h lt is = subst (ActFits truths n m) (sym is) h.0
 fits_at truths n m (a ∷ us) (suc i) one h lt is = fits_at truths n m us i one h.1 (omega arith) is
@@ -97,6 +107,7 @@ true_of_ne (pos (suc n)) ne = refl
 true_of_ne (negsuc n) ne = refl
 
 -- the intervals of a plant's noise are in order
-pub noise_ordered : (ds : List NoiseInfo) → ((i : ℕ) (d : NoiseInfo) → At ds i d → d.lo ≤ℤ d.hi) → AreOrdered (map (λ d. let r : Side = record { lo = d.lo; hi = d.hi } in r) ds)
+pub noise_ordered : (ds : List NoiseInfo) → ((i : ℕ) (d : NoiseInfo) → At ds i d → d.lo ≤ℤ d.hi)
+    → AreOrdered (map (λ d. let r : Side = record { lo = d.lo; hi = d.hi } in r) ds)
 noise_ordered [] each = tt
 noise_ordered (d ∷ ds) each = (each 0 d refl, noise_ordered ds (λ i. each (suc i)))

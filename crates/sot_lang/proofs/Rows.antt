@@ -25,7 +25,8 @@ fit_items end_of-Term truths h = tt
 fit_items (more_of-Term t rest) truths h = (h.0, fit_items rest truths h.1)
 
 -- a call that fits has the parts of its function, and each part fits
-pub TermFits-Call : (f : Func) (v : Vec Term) (at : Span) (truths : List Bool) → TermFits truths (Call f v at) → TermsFit truths v.items × (length v.items ≡ arity f)
+pub TermFits-Call : (f : Func) (v : Vec Term) (at : Span) (truths : List Bool) → TermFits truths (Call f v at)
+    → TermsFit truths v.items × (length v.items ≡ arity f)
 TermFits-Call f v at truths h =
     let e = items_hidden-the_row-Term-0 v in
     (subst (TermsFit truths) e (fit_items (hidden-the_row-Term-0 v) truths h.1), sym (ap length e) ∙ h.0)
@@ -35,7 +36,8 @@ items_fit end_of-Term truths h = tt
 items_fit (more_of-Term t rest) truths h = (h.0, items_fit rest truths h.1)
 
 -- and the other way round
-pub Call-TermFits : (f : Func) (v : Vec Term) (at : Span) (truths : List Bool) → TermsFit truths v.items → length v.items ≡ arity f → TermFits truths (Call f v at)
+pub Call-TermFits : (f : Func) (v : Vec Term) (at : Span) (truths : List Bool) → TermsFit truths v.items → length v.items ≡ arity f
+    → TermFits truths (Call f v at)
 Call-TermFits f v at truths h size =
     let e = items_hidden-the_row-Term-0 v in
     (ap length e ∙ size, items_fit (hidden-the_row-Term-0 v) truths (subst (TermsFit truths) (sym e) h))

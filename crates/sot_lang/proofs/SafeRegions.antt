@@ -9,7 +9,8 @@ use Rattle.sot_box.proofs.Ordered.{append_ordered}
 use Rattle.sot_lang.specs.declared.tables.ModuleInfo.{ModuleInfo}
 use Rattle.sot_lang.specs.SafeRegions.{safe_of, AreSafe, AreHulls, joined_boxes}
 
-pub safe_of_is : (ms : List ModuleInfo) (m : ℕ) (a : ModuleInfo) → At ms m a → ((i : ℕ) (b : ModuleInfo) → At ms i b → b.plant ≡ a.plant → i ≡ m) → safe_of ms a.plant ≡ a.safe.boxes
+pub safe_of_is : (ms : List ModuleInfo) (m : ℕ) (a : ModuleInfo) → At ms m a → ((i : ℕ) (b : ModuleInfo) → At ms i b → b.plant ≡ a.plant → i ≡ m)
+    → safe_of ms a.plant ≡ a.safe.boxes
 safe_of_is [] m a at one = cc
 safe_of_is (b ∷ ms) zero a at one =
     let e : b ≡ a = cc in
@@ -21,7 +22,8 @@ safe_of_is (b ∷ ms) (suc m) a at one =
     ∙ safe_of_is ms m a at (λ i c at' e. let z = one (suc i) c at' e in omega arith))
     (cases_eq b.plant a.plant)
 
-pub are_safe : (ms : List ModuleInfo) (points : ℕ → List ℤ) (ks : List ℕ) → ((k : ℕ) → Has ks k → IsInRegion (safe_of ms k) (points k)) → AreSafe ms ks (map points ks)
+pub are_safe : (ms : List ModuleInfo) (points : ℕ → List ℤ) (ks : List ℕ) → ((k : ℕ) → Has ks k → IsInRegion (safe_of ms k) (points k))
+    → AreSafe ms ks (map points ks)
 are_safe ms points [] h = tt
 are_safe ms points (k ∷ ks) h = (h k (0, refl), are_safe ms points ks (λ n has. h n (suc has.0, has.1)))
 

@@ -1,5 +1,6 @@
 -- What the execution of a node's body gives.
-use Rattle.std.specs.Prelude.{ℕ, zero, suc, ℤ, if◌then◌else◌, ◌&&◌, int_le, List, [], ◌∷◌, Ok, Some, ◌++◌, Option, None, slice_set, replicate, length}
+use Rattle.std.specs.Prelude.{ℕ, zero, suc, ℤ, if◌then◌else◌, ◌&&◌, int_le, List, [], ◌∷◌, Ok, Some}
+use Rattle.std.specs.Prelude.{◌++◌, Option, None, slice_set, replicate, length}
 use Rattle.sot_text.specs.declared.token.Span.{Span}
 use Rattle.sot_lang.specs.declared.act.Act.{Act, Row_of-Act, end_of-Act, more_of-Act}
 use Rattle.sot_lang.specs.declared.act.Act.TheVariants.{Assign, Publish, Repeat', If'}
@@ -27,7 +28,8 @@ abbrev pub times : ℕ → (Fired → Outcome Fired) → Fired → Outcome Fired
 times zero block f = Ok f
 times (suc n) block f = then_with (block f) (times n block)
 
--- what the statements leave, given the numbers read, the ranges of the locals and those of the written scalars
+-- what the statements leave, given the numbers read, the ranges of the locals and those of the
+-- written scalars
 abbrev mutual
   pub act : List ℤ → List Side → List Side → Act → Fired → Outcome Fired
   act seen locals writes (Assign k t at) f =
@@ -53,9 +55,11 @@ abbrev mutual
 -- a body, from the numbers read, the ranges of the locals and those of the written scalars
 abbrev pub body : List ℤ → List Side → List Side → List Act → Fired → Outcome Fired
 body seen locals writes [] f = Ok f
-body seen locals writes (a ∷ rest) f = then_with (act seen locals writes a f) (body seen locals writes rest)
+body seen locals writes (a ∷ rest) f =
+    then_with (act seen locals writes a f) (body seen locals writes rest)
 
 -- the execution of a body: the new locals and the draft, or the first trap
 unfoldable pub execution : List Act → List Side → List Side → List ℤ → List ℤ → Outcome Fired
 execution acts locals writes seen at_start =
-    body seen locals writes acts (record { locals = at_start; draft = replicate (length writes) None })
+    body seen locals writes acts (record
+    { locals = at_start; draft = replicate (length writes) None })

@@ -1,5 +1,6 @@
 -- Drafts of eight slots: for each a number, and whether it is there.
-use Rattle.std.specs.Prelude.{◌≡◌, Bool, true, false, ℤ, pos, List, [], ◌∷◌, Option, None, Some, length, map, is_some, unwrap_or}
+use Rattle.std.specs.Prelude.{◌≡◌, Bool, true, false, ℤ, pos, List, [], ◌∷◌, Option, None, Some}
+use Rattle.std.specs.Prelude.{length, map, is_some, unwrap_or}
 use Rattle.std.proofs.Common.{◌∙◌, sym, ap, refl, arith}
 use Rattle.sot_lang.specs.declared.draft.Draft.TheInside as draft
 
@@ -33,21 +34,26 @@ IsDraft d = (length d.there ≡ 8) × (length d.numbers ≡ 8) × AreSlots d.the
 
 -- what is kept of a draft
 abbrev pub draft_of : List (Option ℤ) → draft.Inside
-draft_of slots = record { numbers = map (λ o. unwrap_or o (pos 0)) slots; there = map is_some slots }
+draft_of slots =
+    record { numbers = map (λ o. unwrap_or o (pos 0)) slots; there = map is_some slots }
 
-kept_there : (bs : List Bool) (zs : List ℤ) → length bs ≡ length zs → map is_some (slots_of bs zs) ≡ bs
+kept_there : (bs : List Bool) (zs : List ℤ) → length bs ≡ length zs
+    → map is_some (slots_of bs zs) ≡ bs
 kept_there [] zs same = refl
 kept_there (b ∷ bs) [] same = absurd (omega (arith, same))
 kept_there (true ∷ bs) (z ∷ zs) same = ap (λ l. true ∷ l) (kept_there bs zs (omega (arith, same)))
 kept_there (false ∷ bs) (z ∷ zs) same = ap (λ l. false ∷ l) (kept_there bs zs (omega (arith, same)))
 
-kept_numbers : (bs : List Bool) (zs : List ℤ) → length bs ≡ length zs → AreSlots bs zs → map (λ o. unwrap_or o (pos 0)) (slots_of bs zs) ≡ zs
+kept_numbers : (bs : List Bool) (zs : List ℤ) → length bs ≡ length zs → AreSlots bs zs
+    → map (λ o. unwrap_or o (pos 0)) (slots_of bs zs) ≡ zs
 kept_numbers [] [] same are = refl
 kept_numbers [] (z ∷ zs) same are = absurd (omega (arith, same))
 kept_numbers (b ∷ bs) [] same are = absurd (omega (arith, same))
-kept_numbers (true ∷ bs) (z ∷ zs) same are = ap (λ l. z ∷ l) (kept_numbers bs zs (omega (arith, same)) are.1)
+kept_numbers (true ∷ bs) (z ∷ zs) same are =
+    ap (λ l. z ∷ l) (kept_numbers bs zs (omega (arith, same)) are.1)
 kept_numbers (false ∷ bs) (z ∷ zs) same are =
-    ap (λ x. x ∷ map (λ o. unwrap_or o (pos 0)) (slots_of bs zs)) (sym are.0) ∙ ap (λ l. z ∷ l) (kept_numbers bs zs (omega (arith, same)) are.1)
+    ap (λ x. x ∷ map (λ o. unwrap_or o (pos 0)) (slots_of bs zs)) (sym are.0)
+    ∙ ap (λ l. z ∷ l) (kept_numbers bs zs (omega (arith, same)) are.1)
 
 pub draft_of-slot_list : (d : draft.Inside) → IsDraft d → draft_of (slot_list d) ≡ d
 draft_of-slot_list d h i = record {

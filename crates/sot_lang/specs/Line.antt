@@ -1,11 +1,13 @@
--- The running example: a plant on a line, an advanced node `fast` that nobody trusts, and a safe node `slow`.
+-- The running example: a plant on a line, an advanced node `fast` that nobody trusts, and a safe
+-- node `slow`.
 --   topic cmd: int[-2..2] = 0;
 --   plant pos { state x: int; input cmd; noise w: int[-1..1]; next x = (x + cmd) + w; }
 --   external fast period 4 offset 0 { reads pos; writes cmd; }
 --   node slow period 2 offset 0 { reads pos; writes cmd;
 --     do { publish cmd = if (pos.x > 10) then -2 else (if (pos.x < -10) then 2 else 0); } }
 --   module nav { ac fast; sc slow; period 4 offset 0; plant pos; safe [-40..40]; safer [-10..10]; }
-use Rattle.std.specs.Prelude.{◌≡◌, ℕ, ℤ, pos, negsuc, true, false, ltb, Some, None, List, [], ◌∷◌, length, ◌^◌}
+use Rattle.std.specs.Prelude.{◌≡◌, ℕ, ℤ, pos, negsuc, true, false, ltb, Some, None, List, [], ◌∷◌}
+use Rattle.std.specs.Prelude.{length, ◌^◌}
 use Rattle.std.proofs.Common.{refl}
 use Rattle.std.proofs.lemmas.Bool.{ltb-true}
 use Rattle.std.proofs.Math.Nat.{le_refl}
@@ -55,7 +57,16 @@ nav_name = 110 ∷ 97 ∷ 118 ∷ []
 module _ (g : Global) where
   -- the vector of these items, and a box
   abbrev pub vec : {X : Type 0} (xs : List X) → ltb (length xs) (2 ^ 63) ≡ true → Vec X
-  vec xs short = record { ptr = null_ptr; len = length xs; cap = length xs; alloc = g; items = xs; ok = (refl, le_refl (length xs)); small = ltb-true (length xs) (2 ^ 63) short }
+  vec xs short =
+      record {
+        ptr = null_ptr;
+        len = length xs;
+        cap = length xs;
+        alloc = g;
+        items = xs;
+        ok = (refl, le_refl (length xs));
+        small = ltb-true (length xs) (2 ^ 63) short;
+      }
 
   abbrev pub boxed : Box (Unit {0})
   boxed = record { ptr = null_ptr; alloc = g; value = tt }
@@ -64,11 +75,22 @@ module _ (g : Global) where
   cmd = record { name = cmd_name; outside = false; first = 0; count = 1 }
 
   abbrev pub cmd_number : ScalarInfo
-  cmd_number = record { topic = 0; field = None; scale = 0; truth = false; lo = negsuc 1; hi = pos 2; init = pos 0 }
+  cmd_number =
+      record {
+        topic = 0;
+        field = None;
+        scale = 0;
+        truth = false;
+        lo = negsuc 1;
+        hi = pos 2;
+        init = pos 0;
+      }
 
   -- (x + cmd) + w
   abbrev pub next_x : Term
-  next_x = Binary' Add boxed (Binary' Add boxed (Place 0) boxed (Place 1) somewhere) boxed (Place 2) somewhere
+  next_x =
+      Binary' Add boxed (Binary' Add boxed (Place 0) boxed (Place 1) somewhere) boxed (Place 2)
+      somewhere
 
   abbrev pub pos_plant : PlantInfo
   pos_plant = record {
@@ -93,8 +115,11 @@ module _ (g : Global) where
 
   -- if x > 10 then -2 else (if x < -10 then 2 else 0)
   abbrev pub slow_term : Term
-  slow_term = If' boxed (Binary' Greater boxed (Place 0) boxed (Number (pos 10)) somewhere) boxed (Number (negsuc 1)) boxed
-      (If' boxed (Binary' Less boxed (Place 0) boxed (Number (negsuc 9)) somewhere) boxed (Number (pos 2)) boxed (Number (pos 0)) somewhere) somewhere
+  slow_term =
+      If' boxed (Binary' Greater boxed (Place 0) boxed (Number (pos 10)) somewhere) boxed
+      (Number (negsuc 1)) boxed
+      (If' boxed (Binary' Less boxed (Place 0) boxed (Number (negsuc 9)) somewhere) boxed
+      (Number (pos 2)) boxed (Number (pos 0)) somewhere) somewhere
 
   abbrev pub slow_acts : List Act
   slow_acts = Publish 0 slow_term somewhere ∷ []
@@ -135,7 +160,13 @@ module _ (g : Global) where
   -- its certificate: closed cells [-40..-11], [-10..10], [11..40], and one reach cell [-10..10]
   abbrev pub line_cells : Cells
   line_cells = record {
-    closed = record { width = 1; boxes = (side (negsuc 39) (negsuc 10) ∷ []) ∷ (side (negsuc 9) (pos 10) ∷ []) ∷ (side (pos 11) (pos 40) ∷ []) ∷ []; settled = false };
+    closed =
+        record {
+          width = 1;
+          boxes = (side (negsuc 39) (negsuc 10) ∷ []) ∷
+              (side (negsuc 9) (pos 10) ∷ []) ∷ (side (pos 11) (pos 40) ∷ []) ∷ [];
+          settled = false;
+        };
     reach = record { width = 1; boxes = (side (negsuc 9) (pos 10) ∷ []) ∷ []; settled = false };
   }
 

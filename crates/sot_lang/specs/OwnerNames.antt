@@ -1,6 +1,8 @@
--- The names that the expressions of an owner may read, in order: of a node what it reads and then its locals; of a plant its
--- state variables, its inputs, the states of the plants that it sees, and its disturbances.
-use Rattle.std.specs.Prelude.{ℕ, zero, suc, ◌+◌, Bool, false, List, [], ◌∷◌, ◌++◌, slice_index_or, map, length, replicate}
+-- The names that the expressions of an owner may read, in order: of a node what it reads and then
+-- its locals; of a plant its state variables, its inputs, the states of the plants that it sees,
+-- and its disturbances.
+use Rattle.std.specs.Prelude.{ℕ, zero, suc, ◌+◌, Bool, false, List, [], ◌∷◌, ◌++◌, slice_index_or}
+use Rattle.std.specs.Prelude.{map, length, replicate}
 use Rattle.sot_lang.specs.declared.tables.ScalarInfo.{ScalarInfo}
 use Rattle.sot_lang.specs.declared.tables.PlantInfo.{PlantInfo}
 use Rattle.sot_lang.specs.declared.tables.NodeInfo.{NodeInfo}
@@ -30,7 +32,8 @@ reads_truth infos (State k v) = false
 
 -- which of a node's names are truth values
 abbrev pub node_truths : Tables → NodeInfo → List Bool
-node_truths p node = map (reads_truth p.scalars) node.reads.items ++ map (λ l. l.truth) node.locals.items
+node_truths p node =
+    map (reads_truth p.scalars) node.reads.items ++ map (λ l. l.truth) node.locals.items
 
 -- which of a plant's names are truth values: of its inputs some, of the others none
 abbrev pub plant_truths : Tables → PlantInfo → List Bool

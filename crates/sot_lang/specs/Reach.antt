@@ -10,8 +10,10 @@ use Rattle.sot_lang.specs.Values.{Outcome}
 use Rattle.sot_lang.specs.Ticks.{next_state, joined}
 use Rattle.sot_lang.specs.SafeRegions.{AreSafe}
 
--- one tick from the point s: some commands that are allowed, seen plants anywhere in their safe regions, disturbances anywhere in their bounds
-pub record TicksTo (p : Tables) (plant : PlantInfo) (Allowed : List ℤ → Type 0) (s : List ℤ) (o : Outcome (List ℤ)) : Type 0 where
+-- one tick from the point s: some commands that are allowed, seen plants anywhere in their safe
+-- regions, disturbances anywhere in their bounds
+pub record TicksTo (p : Tables) (plant : PlantInfo) (Allowed : List ℤ → Type 0) (s : List ℤ)
+    (o : Outcome (List ℤ)) : Type 0 where
   pub c : List ℤ
   pub seen : List (List ℤ)
   pub w : List ℤ
@@ -21,12 +23,15 @@ pub record TicksTo (p : Tables) (plant : PlantInfo) (Allowed : List ℤ → Type
   pub is : o ≡ next_state plant s c (joined seen) w
 
 -- o is an outcome after exactly j ticks from s
-abbrev pub ComesTo : (p : Tables) (plant : PlantInfo) (Allowed : List ℤ → Type 0) → List ℤ → ℕ → Outcome (List ℤ) → Type 0
+abbrev pub ComesTo : (p : Tables) (plant : PlantInfo) (Allowed : List ℤ → Type 0) → List ℤ → ℕ
+    → Outcome (List ℤ) → Type 0
 ComesTo p plant Allowed s zero o = o ≡ Ok s
-ComesTo p plant Allowed s (suc j) o = (s1 : List ℤ) × ComesTo p plant Allowed s j (Ok s1) × TicksTo p plant Allowed s1 o
+ComesTo p plant Allowed s (suc j) o =
+    (s1 : List ℤ) × ComesTo p plant Allowed s j (Ok s1) × TicksTo p plant Allowed s1 o
 
 -- o is an outcome after at most k ticks from s
-abbrev pub Reach : (p : Tables) (plant : PlantInfo) (Allowed : List ℤ → Type 0) → List ℤ → ℕ → Outcome (List ℤ) → Type 0
+abbrev pub Reach : (p : Tables) (plant : PlantInfo) (Allowed : List ℤ → Type 0) → List ℤ → ℕ
+    → Outcome (List ℤ) → Type 0
 Reach p plant Allowed s k o = (j : ℕ) × (j ≤ k) × ComesTo p plant Allowed s j o
 
 -- with any commands in their types

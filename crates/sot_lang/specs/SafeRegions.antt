@@ -1,5 +1,6 @@
 -- The safe regions of the plants, and their hulls.
-use Rattle.std.specs.Prelude.{ℕ, ℤ, if◌then◌else◌, List, [], ◌∷◌, slice_index_or, ◌≡◌, ◌==◌, ◌++◌, length}
+use Rattle.std.specs.Prelude.{ℕ, ℤ, if◌then◌else◌, List, [], ◌∷◌, slice_index_or, ◌≡◌, ◌==◌, ◌++◌}
+use Rattle.std.specs.Prelude.{length}
 use Rattle.sot_lang.specs.declared.tables.PlantInfo.{PlantInfo}
 use Rattle.sot_lang.specs.declared.tables.ModuleInfo.{ModuleInfo}
 use Rattle.sot_lang.specs.Tables.{Tables}
@@ -33,8 +34,13 @@ joined_boxes (b ∷ bs) = b ++ joined_boxes bs
 
 -- each plant is in its safe region
 abbrev pub AllSafe : Tables → List (List ℤ) → Type 0
-AllSafe p points = (k : ℕ) (plant : PlantInfo) → At p.plants k plant → IsInRegion (safe_of p.modules k) (slice_index_or points k [])
+AllSafe p points =
+    (k : ℕ) (plant : PlantInfo) → At p.plants k plant
+    → IsInRegion (safe_of p.modules k) (slice_index_or points k [])
 
 -- per plant, the hull of its safe region
 abbrev pub AllHulls : Tables → List (List Side) → Type 0
-AllHulls p hulls = (length hulls ≡ length p.plants) × ((k : ℕ) (plant : PlantInfo) → At p.plants k plant → IsHull (safe_of p.modules k) (slice_index_or hulls k []))
+AllHulls p hulls =
+    (length hulls ≡ length p.plants) ×
+    ((k : ℕ) (plant : PlantInfo) → At p.plants k plant
+    → IsHull (safe_of p.modules k) (slice_index_or hulls k []))

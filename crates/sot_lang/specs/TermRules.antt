@@ -1,11 +1,15 @@
--- What the expressions of a table satisfy, given which of the names that they may read are truth values.
-use Rattle.std.specs.Prelude.{◌≡◌, ◌<◌, ◌≤◌, pos, ◌≤ℤ◌, int_le, ◌&&◌, Bool, true, List, [], ◌∷◌, length, map}
+-- What the expressions of a table satisfy, given which of the names that they may read are truth
+-- values.
+use Rattle.std.specs.Prelude.{◌≡◌, ◌<◌, ◌≤◌, pos, ◌≤ℤ◌, int_le, ◌&&◌, Bool, true, List, [], ◌∷◌}
+use Rattle.std.specs.Prelude.{length, map}
 use Rattle.sot_box.specs.Sides.{Side}
 use Rattle.sot_lists.specs.Places.{At}
 use Rattle.sot_tree.specs.declared.operator.Op.{Op}
 use Rattle.sot_tree.specs.declared.operator.Op.TheVariants.{Add, Sub, Mul, Div, And, Or}
-use Rattle.sot_lang.specs.declared.term.Term.{Term, Row_of-Term, end_of-Term, more_of-Term, items-the_row-Term}
-use Rattle.sot_lang.specs.declared.term.Term.TheVariants.{Number, Place, Binary', Rest', Neg', Not', Call', Rescale', If'}
+use Rattle.sot_lang.specs.declared.term.Term.{Term, Row_of-Term, end_of-Term, more_of-Term}
+use Rattle.sot_lang.specs.declared.term.Term.{items-the_row-Term}
+use Rattle.sot_lang.specs.declared.term.Term.TheVariants.{Number, Place, Binary', Rest', Neg', Not'}
+use Rattle.sot_lang.specs.declared.term.Term.TheVariants.{Call', Rescale', If'}
 use Rattle.sot_lang.specs.Values.{is_word}
 use Rattle.sot_tree.specs.Functions.{arity}
 
@@ -17,7 +21,8 @@ GivesTruth Mul = ⊥
 GivesTruth Div = ⊥
 GivesTruth _ = Unit {0}
 
--- a truth value: 0 or 1, a name that is one, a comparison, `and`, `or` or `not`, or an `if` whose branches are such
+-- a truth value: 0 or 1, a name that is one, a comparison, `and`, `or` or `not`, or an `if` whose
+-- branches are such
 abbrev pub IsTruth : List Bool → Term → Type 0
 IsTruth truths (Number z) = (pos 0 ≤ℤ z) × (z ≤ℤ pos 1)
 IsTruth truths (Place k) = At truths k true
@@ -32,19 +37,23 @@ OperandsFit truths And a b = IsTruth truths a × IsTruth truths b
 OperandsFit truths Or a b = IsTruth truths a × IsTruth truths b
 OperandsFit truths _ a b = Unit {0}
 
--- literals are in 64 bits, each place names something, each call has the parts that its function takes, the divisor of a rest
--- is at least 1, scales are at most 6, and conditions and the operands of `and`, `or` and `not` are truth values
+-- literals are in 64 bits, each place names something, each call has the parts that its function
+-- takes, the divisor of a rest is at least 1, scales are at most 6, and conditions and the operands
+-- of `and`, `or` and `not` are truth values
 abbrev mutual
   pub TermFits : List Bool → Term → Type 0
   TermFits truths (Number z) = is_word z ≡ true
   TermFits truths (Place k) = k < length truths
-  TermFits truths (Binary' op p a q b at) = OperandsFit truths op a b × TermFits truths a × TermFits truths b
+  TermFits truths (Binary' op p a q b at) =
+      OperandsFit truths op a b × TermFits truths a × TermFits truths b
   TermFits truths (Rest' p a by at) = (pos 1 ≤ℤ by) × TermFits truths a
   TermFits truths (Neg' p a at) = TermFits truths a
   TermFits truths (Not' p a at) = IsTruth truths a × TermFits truths a
-  TermFits truths (Call' f shape parts at) = (length (items-the_row-Term _ parts) ≡ arity f) × PartsFit truths parts
+  TermFits truths (Call' f shape parts at) =
+      (length (items-the_row-Term _ parts) ≡ arity f) × PartsFit truths parts
   TermFits truths (Rescale' p a from to at) = (from ≤ 6) × (to ≤ 6) × TermFits truths a
-  TermFits truths (If' p c q a r b at) = IsTruth truths c × TermFits truths c × TermFits truths a × TermFits truths b
+  TermFits truths (If' p c q a r b at) =
+      IsTruth truths c × TermFits truths c × TermFits truths a × TermFits truths b
 
   -- so does each part of a call
   pub PartsFit : {m : _} → List Bool → Row_of-Term m → Type 0

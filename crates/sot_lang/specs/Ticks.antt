@@ -9,7 +9,8 @@ abbrev pub values : List Term → List ℤ → Outcome (List ℤ)
 values [] env = Ok []
 values (t ∷ ts) env = one_more (value_of t env) (values ts env)
 
--- the next point of a plant at s, with the numbers of its inputs, of the plants that it sees, and of its disturbances
+-- the next point of a plant at s, with the numbers of its inputs, of the plants that it sees, and
+-- of its disturbances
 unfoldable pub next_state : PlantInfo → List ℤ → List ℤ → List ℤ → List ℤ → Outcome (List ℤ)
 next_state plant s c v w = values plant.next.items (s ++ c ++ v ++ w)
 

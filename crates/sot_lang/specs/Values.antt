@@ -1,13 +1,18 @@
 -- What an expression means, over unbounded whole numbers.
-use Rattle.std.specs.Prelude.{ℕ, zero, suc, ◌-◌, ◌/◌, ◌^◌, ℤ, pos, negsuc, ◌+ℤ◌, ◌-ℤ◌, ◌*ℤ◌, neg_ℤ, Bool, true, false, if◌then◌else◌, ◌&&◌, ◌||◌, not, int_lt, int_le, List, [], ◌∷◌, Result, Ok, Err, slice_index_or}
+use Rattle.std.specs.Prelude.{ℕ, zero, suc, ◌-◌, ◌/◌, ◌^◌, ℤ, pos, negsuc, ◌+ℤ◌, ◌-ℤ◌, ◌*ℤ◌, neg_ℤ}
+use Rattle.std.specs.Prelude.{Bool, true, false, if◌then◌else◌, ◌&&◌, ◌||◌, not, int_lt, int_le}
+use Rattle.std.specs.Prelude.{List, [], ◌∷◌, Result, Ok, Err, slice_index_or}
 use Rattle.std.specs.Int.{int_min, int_max}
 use Rattle.sot_text.specs.declared.token.Span.{Span}
 use Rattle.sot_tree.specs.declared.operator.Op.{Op}
-use Rattle.sot_tree.specs.declared.operator.Op.TheVariants.{Add, Sub, Mul, Div, Less, LessEqual, Greater, GreaterEqual, Equal, NotEqual, And, Or}
+use Rattle.sot_tree.specs.declared.operator.Op.TheVariants.{Add, Sub, Mul, Div, Less, LessEqual}
+use Rattle.sot_tree.specs.declared.operator.Op.TheVariants.{Greater, GreaterEqual, Equal, NotEqual}
+use Rattle.sot_tree.specs.declared.operator.Op.TheVariants.{And, Or}
 use Rattle.sot_tree.specs.declared.operator.Func.{Func}
 use Rattle.sot_tree.specs.declared.operator.Func.TheVariants.{Min, Max, Abs, Clamp}
 use Rattle.sot_lang.specs.declared.term.Term.{Term, Row_of-Term, end_of-Term, more_of-Term}
-use Rattle.sot_lang.specs.declared.term.Term.TheVariants.{Number, Place, Binary', Rest', Neg', Not', Call', Rescale', If'}
+use Rattle.sot_lang.specs.declared.term.Term.TheVariants.{Number, Place, Binary', Rest', Neg', Not'}
+use Rattle.sot_lang.specs.declared.term.Term.TheVariants.{Call', Rescale', If'}
 use Rattle.sot_lang.specs.declared.trap.Trap.{Trap}
 use Rattle.sot_lang.specs.declared.trap.TrapKind.{TrapKind}
 use Rattle.sot_lang.specs.declared.trap.TrapKind.TheVariants.{ZeroDivisor, Wide}
@@ -91,11 +96,13 @@ one_more (Err t) rest = Err t
 one_more (Ok x) (Err t) = Err t
 one_more (Ok x) (Ok xs) = Ok (x ∷ xs)
 
--- a number with `from` decimals as one with `to`: multiplied by a power of ten, or divided and rounded down; one of the two powers is 1
+-- a number with `from` decimals as one with `to`: multiplied by a power of ten, or divided and
+-- rounded down; one of the two powers is 1
 abbrev pub rescaled : Span → ℕ → ℕ → ℤ → Outcome ℤ
 rescaled at from to a = word at (floor_by (a *ℤ pos (10 ^ (to - from))) (10 ^ (from - to)))
 
--- the result of a function at its parts. Tables hold no call with another count of parts, so the last line is never met
+-- the result of a function at its parts. Tables hold no call with another count of parts, so the
+-- last line is never met
 abbrev pub called : Func → Span → List ℤ → Outcome ℤ
 called Min at (a ∷ b ∷ []) = Ok (int_min a b)
 called Max at (a ∷ b ∷ []) = Ok (int_max a b)
@@ -109,7 +116,8 @@ abbrev mutual
   value_of (Number z) env = Ok z
   value_of (Place n) env = Ok (slice_index_or env n (pos 0))
   value_of (Binary' op p a q b at) env = both (apply op at) (value_of a env) (value_of b env)
-  value_of (Rest' p a by at) env = then_with (value_of a env) (λ x. Ok (x -ℤ (by *ℤ floor_div x by)))
+  value_of (Rest' p a by at) env =
+      then_with (value_of a env) (λ x. Ok (x -ℤ (by *ℤ floor_div x by)))
   value_of (Neg' p a at) env = then_with (value_of a env) (λ x. word at (neg_ℤ x))
   value_of (Not' p a at) env = then_with (value_of a env) (λ x. Ok (truth (not (is_true x))))
   value_of (Call' f shape parts at) env = then_with (values_of_parts parts env) (called f at)

@@ -12,7 +12,8 @@ pub enum Act {
         value: Term,
         at: Span,
     },
-    /// A scalar, by its place among those that the node writes, is drafted. `at` is the target's name.
+    /// A scalar, by its place among those that the node writes, is drafted. `at` is the target's
+    /// name.
     Publish {
         slot: u32,
         value: Term,

@@ -2,7 +2,8 @@
 
 use sot_box::Region;
 
-/// What a certificate gives for a module: cells that cover its safe region, and cells that cover its safer region.
+/// What a certificate gives for a module: cells that cover its safe region, and cells that cover
+/// its safer region.
 pub struct Cells {
     pub closed: Region,
     pub reach: Region,
@@ -17,7 +18,8 @@ impl Drop for Cells {
     }
 }
 
-/// A certificate: by how many ticks a firing may be late, and an entry for each module of a program.
+/// A certificate: by how many ticks a firing may be late, and an entry for each module of a
+/// program.
 pub struct Cert {
     pub jitter: u32,
     pub modules: Vec<Option<Cells>>,

@@ -4,8 +4,8 @@ ghost use Rattle.std.specs.Prelude.{◌≡◌, ◌<◌, None, Some, length, repl
 
 use std::marker::Model;
 
-/// What a firing writes: for each scalar of its node, in order, a number or nothing. A node writes at most eight scalars;
-/// slots past its own hold nothing.
+/// What a firing writes: for each scalar of its node, in order, a number or nothing. A node writes
+/// at most eight scalars; slots past its own hold nothing.
 #[derive(Clone, Copy, Debug, PartialEq, Eq)]
 pub struct Draft {
     // Beside each other, they take half the room of eight options.

@@ -1,8 +1,13 @@
 //! Worked values, firings and ticks, and the running example.
 
 ghost use Rattle.std.specs.Global.{Global};
-ghost use Rattle.sot_lang.specs.Examples.{QuotientsAreFloors, ZeroDivides, WideResultsTrap, Comparisons, TruthTables, Functions, Rescales, OperandsFromTheLeft, OneBranch, Calls, OtherExpressions};
-ghost use Rattle.sot_lang.specs.BodyExamples.{LaterDrafts, AssignmentsAreRead, OutsideIsATrap, FirstTrap, Blocks, SlowTurnsBack, ReadingsInOrder, TickOfTheLine, PlantNamesInOrder, OldStateIsRead, ReachOfTheLine};
+ghost use Rattle.sot_lang.specs.Examples.{QuotientsAreFloors, ZeroDivides, WideResultsTrap};
+ghost use Rattle.sot_lang.specs.Examples.{Comparisons, TruthTables, Functions, Rescales};
+ghost use Rattle.sot_lang.specs.Examples.{OperandsFromTheLeft, OneBranch, Calls, OtherExpressions};
+ghost use Rattle.sot_lang.specs.BodyExamples.{LaterDrafts, AssignmentsAreRead, OutsideIsATrap};
+ghost use Rattle.sot_lang.specs.BodyExamples.{FirstTrap, Blocks, SlowTurnsBack, ReadingsInOrder};
+ghost use Rattle.sot_lang.specs.BodyExamples.{TickOfTheLine, PlantNamesInOrder, OldStateIsRead};
+ghost use Rattle.sot_lang.specs.BodyExamples.{ReachOfTheLine};
 ghost use Rattle.sot_lang.specs.TableRules.{MeetsTableRules};
 ghost use Rattle.sot_lang.specs.CertRules.{FitsTables};
 ghost use Rattle.sot_lang.specs.Line.{line, line_cert};

@@ -5,7 +5,8 @@ use crate::term::Term;
 use sot_box::Region;
 use sot_tree::Name;
 
-/// A topic, whose scalars are `first` and the next `count - 1`. `outside` marks an environment topic, which only inputs write.
+/// A topic, whose scalars are `first` and the next `count - 1`. `outside` marks an environment
+/// topic, which only inputs write.
 pub struct TopicInfo {
     pub name: Name,
     pub outside: bool,
@@ -24,7 +25,8 @@ impl Drop for TopicInfo {
     }
 }
 
-/// A scalar of a topic. Numbers are mantissas at its scale, from `lo` to `hi`; a truth value is 0 or 1.
+/// A scalar of a topic. Numbers are mantissas at its scale, from `lo` to `hi`; a truth value is 0
+/// or 1.
 pub struct ScalarInfo {
     pub topic: u32,
     pub field: Option<Name>,
@@ -80,8 +82,8 @@ impl Drop for NoiseInfo {
     }
 }
 
-/// A plant: its state variables, the scalars that are its inputs, the plants that it sees, its disturbances, and one
-/// expression a state variable for the state after a tick.
+/// A plant: its state variables, the scalars that are its inputs, the plants that it sees, its
+/// disturbances, and one expression a state variable for the state after a tick.
 pub struct PlantInfo {
     pub name: Name,
     pub states: Vec<StateInfo>,
@@ -134,8 +136,9 @@ impl Drop for LocalInfo {
     }
 }
 
-/// A node, due at each time `t` from its offset on for which `t - offset` is a multiple of its period, in ticks. A coded node
-/// has a body; an external one has none, and its drafts come from outside.
+/// A node, due at each time `t` from its offset on for which `t - offset` is a multiple of its
+/// period, in ticks. A coded node has a body; an external one has none, and its drafts come from
+/// outside.
 pub struct NodeInfo {
     pub name: Name,
     pub period: u32,
@@ -160,8 +163,9 @@ impl Drop for NodeInfo {
     }
 }
 
-/// A runtime assurance module: its advanced node, its safe node, the period and offset of its decision node, its plant, the
-/// region to be kept, and the region from which the advanced node may be trusted.
+/// A runtime assurance module: its advanced node, its safe node, the period and offset of its
+/// decision node, its plant, the region to be kept, and the region from which the advanced node may
+/// be trusted.
 pub struct ModuleInfo {
     pub name: Name,
     pub ac: u32,

@@ -3,8 +3,9 @@
 use sot_text::Span;
 use sot_tree::{Func, Op};
 
-/// An expression whose names are places: of a node its read slots and then its locals; of a plant its state variables, its
-/// inputs, the states of the plants that it sees, and its disturbances, in this order.
+/// An expression whose names are places: of a node its read slots and then its locals; of a plant
+/// its state variables, its inputs, the states of the plants that it sees, and its disturbances, in
+/// this order.
 #[derive(Drop)]
 pub enum Term {
     /// A literal's mantissa, or 0 or 1 for a truth value.

@@ -13,7 +13,8 @@ pub enum TrapKind {
     OutsideRange,
 }
 
-/// A trap, at the operator's or call's token, or at the name of the target of an assignment or publication.
+/// A trap, at the operator's or call's token, or at the name of the target of an assignment or
+/// publication.
 #[derive(Clone, Copy, Debug, PartialEq, Eq)]
 pub struct Trap {
     pub at: Span,

@@ -3,7 +3,8 @@
 use crate::tables::{ModuleInfo, NodeInfo, PlantInfo, ScalarInfo, TopicInfo};
 use std::marker::Model;
 
-/// A program's tables. Topics, scalars, plants, nodes and modules are named by their places here, in declared order.
+/// A program's tables. Topics, scalars, plants, nodes and modules are named by their places here,
+/// in declared order.
 pub struct Typed {
     pub topics: Vec<TopicInfo>,
     pub scalars: Vec<ScalarInfo>,

@@ -3,10 +3,16 @@ use Rattle.std.proofs.Common.{◌≡◌, ℕ, ◌≤◌, ◌||◌, List, [], ◌
 use Rattle.sot_expression.specs.Lexemes.{begins, is_sign, is_keyword}
 use Rattle.sot_expression.specs.Readers.{name_at}
 use Rattle.sot_parser.specs.ListReaders.{optional_at}
-use Rattle.sot_parser.specs.DeclarationReaders.{side_at, named_scalar_at, const_at, fields_at, one_scalar_at, shape_at, consts_at, one_const_at, init_at, environment_at, outside_at, topic_at, whole_at, scaled_at, scale_at, state_at, next_at, signals_at, plant_at, local_at, head_at, code_at, coded_at, external_at, box_at, no_box_at, region_at, bound_at, pairing_at, bounds_at, module_at, a_topic_at, a_plant_at, a_coded_at, an_external_at, a_module_at, declaration_at, declarations_at, is_some}
-use Rattle.sot_parser.proofs.Shorter.{name_short, side_short, named_scalar_short, const_short, state_short, next_short, local_short, box_short, declaration_short}
+use Rattle.sot_parser.specs.DeclarationReaders.{side_at, named_scalar_at, const_at, fields_at, one_scalar_at, shape_at, consts_at, one_const_at, init_at}
+use Rattle.sot_parser.specs.DeclarationReaders.{environment_at, outside_at, topic_at, whole_at, scaled_at, scale_at, state_at, next_at, signals_at, plant_at}
+use Rattle.sot_parser.specs.DeclarationReaders.{local_at, head_at, code_at, coded_at, external_at, box_at, no_box_at, region_at, bound_at, pairing_at}
+use Rattle.sot_parser.specs.DeclarationReaders.{bounds_at, module_at, a_topic_at, a_plant_at, a_coded_at, an_external_at, a_module_at, declaration_at}
+use Rattle.sot_parser.specs.DeclarationReaders.{declarations_at, is_some}
+use Rattle.sot_parser.proofs.Shorter.{name_short, side_short, named_scalar_short, const_short, state_short, next_short, local_short, box_short}
+use Rattle.sot_parser.proofs.Shorter.{declaration_short}
 use Rattle.sot_law_fault_place.proofs.Tracks.{Tracks, IsFirst, begins_first, bind_tracks, ok_tracks, cond_tracks}
-use Rattle.sot_law_fault_place.proofs.ListTracks.{sign_tracks, keyword_tracks, name_tracks, all_tracks, separated_tracks, clause_tracks, optional_tracks, side_tracks, fix_tracks, scalar_tracks, field_tracks, const_tracks, timing_tracks, role_tracks}
+use Rattle.sot_law_fault_place.proofs.ListTracks.{sign_tracks, keyword_tracks, name_tracks, all_tracks, separated_tracks, clause_tracks, optional_tracks}
+use Rattle.sot_law_fault_place.proofs.ListTracks.{side_tracks, fix_tracks, scalar_tracks, field_tracks, const_tracks, timing_tracks, role_tracks}
 use Rattle.sot_law_fault_place.proofs.ExpressionTracks.{tree_tracks}
 use Rattle.sot_law_fault_place.proofs.StatementTracks.{body_tracks}
 
@@ -17,12 +23,15 @@ some_first (t ∷ ts) [] e = absurd cc
 some_first (t ∷ ts) (u ∷ us) e = refl
 
 topic_first : IsFirst (λ ts. begins (is_keyword (codes "topic")) ts || begins (is_keyword (codes "environment")) ts)
-topic_first ts us e = let a = begins_first (is_keyword (codes "topic")) ts us e in let b = begins_first (is_keyword (codes "environment")) ts us e in rw (a, b) refl
+topic_first ts us e =
+    let a = begins_first (is_keyword (codes "topic")) ts us e in let b = begins_first (is_keyword (codes "environment")) ts us e in rw (a, b) refl
 
 module _ {Same : Type 0} where
   fields_tracks : Tracks Same fields_at fields_at
   unfolding fields_at
-  fields_tracks = bind_tracks _ _ (sign_tracks (codes "{")) (λ _. bind_tracks _ _ (separated_tracks (codes ",") named_scalar_at field_tracks named_scalar_short) (λ _. bind_tracks _ _ (sign_tracks (codes "}")) (λ _. ok_tracks _)))
+  fields_tracks =
+      bind_tracks _ _ (sign_tracks (codes "{")) (λ _. bind_tracks _ _ (separated_tracks (codes ",") named_scalar_at field_tracks named_scalar_short)
+      (λ _. bind_tracks _ _ (sign_tracks (codes "}")) (λ _. ok_tracks _)))
 
   one_scalar_tracks : Tracks Same one_scalar_at one_scalar_at
   unfolding one_scalar_at
@@ -34,7 +43,9 @@ module _ {Same : Type 0} where
 
   consts_tracks : Tracks Same consts_at consts_at
   unfolding consts_at
-  consts_tracks = bind_tracks _ _ (sign_tracks (codes "{")) (λ _. bind_tracks _ _ (separated_tracks (codes ",") const_at const_tracks const_short) (λ _. bind_tracks _ _ (sign_tracks (codes "}")) (λ _. ok_tracks _)))
+  consts_tracks =
+      bind_tracks _ _ (sign_tracks (codes "{")) (λ _. bind_tracks _ _ (separated_tracks (codes ",") const_at const_tracks const_short)
+      (λ _. bind_tracks _ _ (sign_tracks (codes "}")) (λ _. ok_tracks _)))
 
   one_const_tracks : Tracks Same one_const_at one_const_at
   unfolding one_const_at
@@ -55,7 +66,8 @@ module _ {Same : Type 0} where
   topic_tracks : Tracks Same topic_at topic_at
   unfolding topic_at
   topic_tracks =
-      bind_tracks _ _ outside_tracks (λ _. bind_tracks _ _ (keyword_tracks (codes "topic")) (λ _. bind_tracks _ _ name_tracks (λ _. bind_tracks _ _ (sign_tracks (codes ":")) (λ _. bind_tracks _ _ shape_tracks (λ _.
+      bind_tracks _ _ outside_tracks (λ _. bind_tracks _ _ (keyword_tracks (codes "topic"))
+      (λ _. bind_tracks _ _ name_tracks (λ _. bind_tracks _ _ (sign_tracks (codes ":")) (λ _. bind_tracks _ _ shape_tracks (λ _.
       bind_tracks _ _ (sign_tracks (codes "=")) (λ _. bind_tracks _ _ init_tracks (λ _. bind_tracks _ _ (sign_tracks (codes ";")) (λ _. ok_tracks _))))))))
 
   whole_tracks : Tracks Same whole_at whole_at
@@ -80,27 +92,35 @@ module _ {Same : Type 0} where
   signals_tracks : Tracks Same signals_at signals_at
   unfolding signals_at
   signals_tracks =
-      bind_tracks _ _ (clause_tracks (codes "state") state_at state_tracks state_short) (λ _. bind_tracks _ _ (names_tracks (codes "input")) (λ _. bind_tracks _ _ (names_tracks (codes "sees")) (λ _.
+      bind_tracks _ _ (clause_tracks (codes "state") state_at state_tracks state_short)
+      (λ _. bind_tracks _ _ (names_tracks (codes "input")) (λ _. bind_tracks _ _ (names_tracks (codes "sees")) (λ _.
       bind_tracks _ _ (optional_tracks (codes "noise") named_scalar_at field_tracks named_scalar_short) (λ _. ok_tracks _))))
 
   local_tracks : Tracks Same local_at local_at
   unfolding local_at
   local_tracks =
-      bind_tracks _ _ (keyword_tracks (codes "local")) (λ _. bind_tracks _ _ name_tracks (λ _. bind_tracks _ _ (sign_tracks (codes ":")) (λ _. bind_tracks _ _ scalar_tracks (λ _. bind_tracks _ _ (sign_tracks (codes "=")) (λ _.
+      bind_tracks _ _ (keyword_tracks (codes "local")) (λ _.
+      bind_tracks _ _ name_tracks (λ _. bind_tracks _ _ (sign_tracks (codes ":"))
+      (λ _. bind_tracks _ _ scalar_tracks (λ _. bind_tracks _ _ (sign_tracks (codes "=")) (λ _.
       bind_tracks _ _ const_tracks (λ _. bind_tracks _ _ (sign_tracks (codes ";")) (λ _. ok_tracks _)))))))
 
   head_tracks : Tracks Same head_at head_at
   unfolding head_at
   head_tracks =
-      bind_tracks _ _ name_tracks (λ _. bind_tracks _ _ timing_tracks (λ _. bind_tracks _ _ (sign_tracks (codes "{")) (λ _. bind_tracks _ _ (names_tracks (codes "reads")) (λ _. bind_tracks _ _ (names_tracks (codes "writes")) (λ _. ok_tracks _)))))
+      bind_tracks _ _ name_tracks (λ _. bind_tracks _ _ timing_tracks
+      (λ _. bind_tracks _ _ (sign_tracks (codes "{")) (λ _. bind_tracks _ _ (names_tracks (codes "reads"))
+      (λ _. bind_tracks _ _ (names_tracks (codes "writes")) (λ _. ok_tracks _)))))
 
   external_tracks : Tracks Same external_at external_at
   unfolding external_at
-  external_tracks = bind_tracks _ _ (keyword_tracks (codes "external")) (λ _. bind_tracks _ _ head_tracks (λ _. bind_tracks _ _ (sign_tracks (codes "}")) (λ _. ok_tracks _)))
+  external_tracks =
+      bind_tracks _ _ (keyword_tracks (codes "external")) (λ _. bind_tracks _ _ head_tracks (λ _. bind_tracks _ _ (sign_tracks (codes "}")) (λ _. ok_tracks _)))
 
   box_tracks : Tracks Same box_at box_at
   unfolding box_at
-  box_tracks = bind_tracks _ _ (sign_tracks (codes "[")) (λ _. bind_tracks _ _ (separated_tracks (codes ",") side_at side_tracks side_short) (λ _. bind_tracks _ _ (sign_tracks (codes "]")) (λ _. ok_tracks _)))
+  box_tracks =
+      bind_tracks _ _ (sign_tracks (codes "[")) (λ _. bind_tracks _ _ (separated_tracks (codes ",") side_at side_tracks side_short)
+      (λ _. bind_tracks _ _ (sign_tracks (codes "]")) (λ _. ok_tracks _)))
 
   no_box_tracks : Tracks Same no_box_at no_box_at
   unfolding no_box_at
@@ -108,16 +128,21 @@ module _ {Same : Type 0} where
 
   region_tracks : Tracks Same region_at region_at
   unfolding region_at
-  region_tracks = cond_tracks (begins (is_keyword (codes "none"))) (begins_first (is_keyword (codes "none"))) no_box_tracks (separated_tracks (codes "|") box_at box_tracks box_short)
+  region_tracks =
+      cond_tracks (begins (is_keyword (codes "none"))) (begins_first (is_keyword (codes "none"))) no_box_tracks
+      (separated_tracks (codes "|") box_at box_tracks box_short)
 
   bound_tracks : (text : List ℕ) → Tracks Same (bound_at text) (bound_at text)
   unfolding bound_at
-  bound_tracks text = bind_tracks _ _ (keyword_tracks text) (λ _. bind_tracks _ _ region_tracks (λ _. bind_tracks _ _ (sign_tracks (codes ";")) (λ _. ok_tracks _)))
+  bound_tracks text =
+      bind_tracks _ _ (keyword_tracks text) (λ _. bind_tracks _ _ region_tracks (λ _. bind_tracks _ _ (sign_tracks (codes ";")) (λ _. ok_tracks _)))
 
   pairing_tracks : Tracks Same pairing_at pairing_at
   unfolding pairing_at
   pairing_tracks =
-      bind_tracks _ _ (role_tracks (codes "ac")) (λ _. bind_tracks _ _ (role_tracks (codes "sc")) (λ _. bind_tracks _ _ timing_tracks (λ _. bind_tracks _ _ (sign_tracks (codes ";")) (λ _. bind_tracks _ _ (role_tracks (codes "plant")) (λ _. ok_tracks _)))))
+      bind_tracks _ _ (role_tracks (codes "ac")) (λ _. bind_tracks _ _ (role_tracks (codes "sc"))
+      (λ _. bind_tracks _ _ timing_tracks (λ _. bind_tracks _ _ (sign_tracks (codes ";"))
+      (λ _. bind_tracks _ _ (role_tracks (codes "plant")) (λ _. ok_tracks _)))))
 
   bounds_tracks : Tracks Same bounds_at bounds_at
   unfolding bounds_at
@@ -126,7 +151,8 @@ module _ {Same : Type 0} where
   module_tracks : Tracks Same module_at module_at
   unfolding module_at
   module_tracks =
-      bind_tracks _ _ (keyword_tracks (codes "module")) (λ _. bind_tracks _ _ name_tracks (λ _. bind_tracks _ _ (sign_tracks (codes "{")) (λ _. bind_tracks _ _ pairing_tracks (λ _. bind_tracks _ _ bounds_tracks (λ _.
+      bind_tracks _ _ (keyword_tracks (codes "module")) (λ _.
+      bind_tracks _ _ name_tracks (λ _. bind_tracks _ _ (sign_tracks (codes "{")) (λ _. bind_tracks _ _ pairing_tracks (λ _. bind_tracks _ _ bounds_tracks (λ _.
       bind_tracks _ _ (sign_tracks (codes "}")) (λ _. ok_tracks _))))))
 
   a_topic_tracks : Tracks Same a_topic_at a_topic_at
@@ -146,23 +172,30 @@ module _ {Same : Type 0} where
     next_tracks : Tracks Same (next_at room) (next_at more)
     unfolding next_at
     next_tracks =
-        bind_tracks _ _ (keyword_tracks (codes "next")) (λ _. bind_tracks _ _ name_tracks (λ _. bind_tracks _ _ (sign_tracks (codes "=")) (λ _. bind_tracks _ _ (tree_tracks room more le equal) (λ _. bind_tracks _ _ (sign_tracks (codes ";")) (λ _. ok_tracks _)))))
+        bind_tracks _ _ (keyword_tracks (codes "next")) (λ _. bind_tracks _ _ name_tracks
+        (λ _. bind_tracks _ _ (sign_tracks (codes "=")) (λ _. bind_tracks _ _ (tree_tracks room more le equal)
+        (λ _. bind_tracks _ _ (sign_tracks (codes ";")) (λ _. ok_tracks _)))))
 
     plant_tracks : Tracks Same (plant_at room) (plant_at more)
     unfolding plant_at
     plant_tracks =
-        bind_tracks _ _ (keyword_tracks (codes "plant")) (λ _. bind_tracks _ _ name_tracks (λ _. bind_tracks _ _ (sign_tracks (codes "{")) (λ _. bind_tracks _ _ signals_tracks (λ _.
-        bind_tracks _ _ (all_tracks (begins (is_keyword (codes "next"))) (begins_first (is_keyword (codes "next"))) (next_at room) (next_at more) next_tracks (next_short room)) (λ _. bind_tracks _ _ (sign_tracks (codes "}")) (λ _. ok_tracks _))))))
+        bind_tracks _ _ (keyword_tracks (codes "plant")) (λ _.
+        bind_tracks _ _ name_tracks (λ _. bind_tracks _ _ (sign_tracks (codes "{")) (λ _. bind_tracks _ _ signals_tracks (λ _.
+        bind_tracks _ _ (all_tracks (begins (is_keyword (codes "next"))) (begins_first (is_keyword (codes "next"))) (next_at room) (next_at more) next_tracks
+        (next_short room)) (λ _. bind_tracks _ _ (sign_tracks (codes "}")) (λ _. ok_tracks _))))))
 
     code_tracks : Tracks Same (code_at room) (code_at more)
     unfolding code_at
     code_tracks =
-        bind_tracks _ _ (all_tracks (begins (is_keyword (codes "local"))) (begins_first (is_keyword (codes "local"))) local_at local_at local_tracks local_short) (λ _. bind_tracks _ _ (keyword_tracks (codes "do")) (λ _.
+        bind_tracks _ _ (all_tracks (begins (is_keyword (codes "local"))) (begins_first (is_keyword (codes "local"))) local_at local_at local_tracks
+        local_short) (λ _. bind_tracks _ _ (keyword_tracks (codes "do")) (λ _.
         bind_tracks _ _ (body_tracks room more le equal) (λ _. ok_tracks _)))
 
     coded_tracks : Tracks Same (coded_at room) (coded_at more)
     unfolding coded_at
-    coded_tracks = bind_tracks _ _ (keyword_tracks (codes "node")) (λ _. bind_tracks _ _ head_tracks (λ _. bind_tracks _ _ code_tracks (λ _. bind_tracks _ _ (sign_tracks (codes "}")) (λ _. ok_tracks _))))
+    coded_tracks =
+        bind_tracks _ _ (keyword_tracks (codes "node")) (λ _. bind_tracks _ _ head_tracks
+        (λ _. bind_tracks _ _ code_tracks (λ _. bind_tracks _ _ (sign_tracks (codes "}")) (λ _. ok_tracks _))))
 
     a_plant_tracks : Tracks Same (a_plant_at room) (a_plant_at more)
     unfolding a_plant_at

@@ -1,5 +1,6 @@
 -- What is no text of the grammar has a fault that is not one of nesting.
-use Rattle.std.proofs.Common.{◌≡◌, ℕ, suc, zero, ◌<◌, ◌≤◌, ◌+◌, length, length-append, List, [], ◌∷◌, ◌++◌, Option, None, Some, Ok, Err, refl, sym, ap, subst, ◌∙◌, append_assoc, arith}
+use Rattle.std.proofs.Common.{◌≡◌, ℕ, suc, zero, ◌<◌, ◌≤◌, ◌+◌, length, length-append, List, [], ◌∷◌, ◌++◌, Option, None, Some, Ok, Err, refl, sym, ap, subst}
+use Rattle.std.proofs.Common.{◌∙◌, append_assoc, arith}
 use Rattle.sot_text.specs.declared.token.LexFault.{LexFault}
 use Rattle.sot_text.specs.Reading.{Lexeme}
 use Rattle.sot_text.specs.Ahead.{Ahead}
@@ -64,7 +65,8 @@ module _ (bytes : List ℕ) (ahead : Ahead) (no_text : IsText ahead.tokens → a
   Stopped e = Stop (each spelled_declaration) e ahead.tokens
 
   -- with the room of a text that goes on from where reading nested too deep, it stops further behind
-  further : (n room : ℕ) (t : Lexeme) (rest : List Lexeme) (stop : Stopped (deep, t ∷ rest)) → length (t ∷ rest) < suc n → most declaration_levels stop.begun.form ≤ room → (m : Read (List Declaration)) → declarations_at (suc room) ahead.tokens ≡ m → IsDeepBefore n m
+  further : (n room : ℕ) (t : Lexeme) (rest : List Lexeme) (stop : Stopped (deep, t ∷ rest)) → length (t ∷ rest) < suc n
+      → most declaration_levels stop.begun.form ≤ room → (m : Read (List Declaration)) → declarations_at (suc room) ahead.tokens ≡ m → IsDeepBefore n m
   further n room t rest stop few fits (Ok y) e = tt
   further n room t rest stop few fits (Err (stuck, ts)) e = tt
   further n room t rest stop few fits (Err (deep, ts)) e = by (ends stop.used next.used t rest ts (sym stop.split ∙ next.split))
@@ -79,7 +81,8 @@ module _ (bytes : List ℕ) (ahead : Ahead) (no_text : IsText ahead.tokens → a
           let behind_it = between ++ t ∷ (begun.more ++ []) in
           let front : stop.used ++ t ∷ [] ≡ next.used ++ (between ++ t ∷ []) = ap (λ us. us ++ t ∷ []) used_is ∙ append_assoc next.used between (t ∷ []) in
           let spelled : spelled_program begun.form ≡ next.used ++ behind_it =
-          begun.spells [] ∙ (ap (λ us. us ++ (begun.more ++ [])) front ∙ (append_assoc next.used (between ++ t ∷ []) (begun.more ++ []) ∙ ap (λ us. next.used ++ us) (append_assoc between (t ∷ []) (begun.more ++ [])))) in
+          begun.spells [] ∙ (ap (λ us. us ++ (begun.more ++ [])) front
+          ∙ (append_assoc next.used (between ++ t ∷ []) (begun.more ++ []) ∙ ap (λ us. next.used ++ us) (append_assoc between (t ∷ []) (begun.more ++ [])))) in
           let first : first_of behind_it ≡ first_of ts = first_behind between t (begun.more ++ []) rest ∙ ap first_of (sym left_is) in
           absurd (no_text_fits (suc room) ahead.tokens next.used ts behind_it e next.split first begun.form (omega (arith, fits)) spelled)
 
@@ -88,8 +91,11 @@ module _ (bytes : List ℕ) (ahead : Ahead) (no_text : IsText ahead.tokens → a
       let text = whole_is_text (suc room) ahead.tokens y e in
       (at_end bytes ahead.end, whole_fault bytes ahead text (no_text text), end_exact bytes ahead.end)
   settle n room (Err (stuck, ts)) e few =
-      let stop = (declarations_twin room).stops ahead.tokens (stuck, ts) e in
-      (stuck_syntax bytes (record { tokens = ts; end = ahead.end }), stuck_fault bytes (suc room) ahead.tokens ahead.end ts e stop, stuck_exact bytes ts ahead.end)
+      let stop = (declarations_twin room).stops ahead.tokens (stuck, ts) e in (
+        stuck_syntax bytes (record { tokens = ts; end = ahead.end }),
+        stuck_fault bytes (suc room) ahead.tokens ahead.end ts e stop,
+        stuck_exact bytes ts ahead.end,
+      )
   settle n room (Err (deep, [])) e few = absurd ((declarations_twin room).stops ahead.tokens (deep, []) e).token
   settle zero room (Err (deep, t ∷ rest)) e few = absurd (omega (arith, few))
   settle (suc n) room (Err (deep, t ∷ rest)) e few =

@@ -13,7 +13,8 @@ use Rattle.sot_law_fault_place.specs.Laws.{TextsAreOnlyDeep, ExactPlacesAreOne, 
 -- a text that goes on with a token with which none does
 never : (before behind : List Lexeme) (t : Lexeme) → BeginsNone (before ++ t ∷ []) → Begins (before ++ t ∷ behind) → ⊥
 never before behind t none (more, real, text) =
-    let whole : (before ++ t ∷ behind) ++ more ≡ (before ++ t ∷ []) ++ (behind ++ more) = append_assoc before (t ∷ behind) more ∙ sym (append_assoc before (t ∷ []) (behind ++ more)) in
+    let whole : (before ++ t ∷ behind) ++ more ≡ (before ++ t ∷ []) ++ (behind ++ more) = append_assoc before (t ∷ behind) more
+    ∙ sym (append_assoc before (t ∷ []) (behind ++ more)) in
     none (behind ++ more) (subst IsText whole text)
 
 wrong_never : (ahead : Ahead) (t : Lexeme) → IsFirstWrong ahead t → Begins ahead.tokens → ⊥
@@ -54,21 +55,25 @@ deep_comes_before ahead wrong token w d = by (parted d.before w.before d.behind 
     by (together e f) = absurd (never w.before [] wrong w.nothing (subst Begins (ap (λ us. us ++ token ∷ []) e ∙ ap (λ t. w.before ++ t ∷ []) f) d.begins))
     by (earlier m e) = omega (arith, ap length e, length-append d.before (token ∷ m))
     by (later m e) =
-        let whole : d.before ++ token ∷ [] ≡ w.before ++ wrong ∷ (m ++ token ∷ []) = ap (λ us. us ++ token ∷ []) e ∙ append_assoc w.before (wrong ∷ m) (token ∷ []) in
+        let whole : d.before ++ token ∷ [] ≡ w.before ++ wrong ∷ (m ++ token ∷ []) = ap (λ us. us ++ token ∷ []) e
+        ∙ append_assoc w.before (wrong ∷ m) (token ∷ []) in
         absurd (never w.before (m ++ token ∷ []) wrong w.nothing (subst Begins whole d.begins))
 
 pub texts_are_only_deep : TextsAreOnlyDeep
 texts_are_only_deep bytes ahead fault (no_token f some begins is) text ended = absurd cc
-texts_are_only_deep bytes ahead fault (wrong_token t w is) text ended = absurd (w.nothing w.behind (subst IsText (w.tokens ∙ sym (append_assoc w.before (t ∷ []) w.behind)) text))
+texts_are_only_deep bytes ahead fault (wrong_token t w is) text ended =
+    absurd (w.nothing w.behind (subst IsText (w.tokens ∙ sym (append_assoc w.before (t ∷ []) w.behind)) text))
 texts_are_only_deep bytes ahead fault (too_short c is) text ended = absurd (c.no_text text)
 texts_are_only_deep bytes ahead fault (too_deep t d is) text ended = (t, d, is)
 
 pub exact_places_are_one : ExactPlacesAreOne
-exact_places_are_one bytes ahead fault other (no_token f some begins is) (no_token g more starts same) exact also = let one : f ≡ g = cc in is ∙ (ap (λ l. Lex l) one ∙ sym same)
+exact_places_are_one bytes ahead fault other (no_token f some begins is) (no_token g more starts same) exact also =
+    let one : f ≡ g = cc in is ∙ (ap (λ l. Lex l) one ∙ sym same)
 exact_places_are_one bytes ahead fault other (no_token f some begins is) (wrong_token t w same) exact also = absurd (wrong_never ahead t w begins)
 exact_places_are_one bytes ahead fault other (no_token f some begins is) (too_short c same) exact also = let ended = c.ended in absurd cc
 exact_places_are_one bytes ahead fault other (wrong_token t w is) (no_token g more starts same) exact also = absurd (wrong_never ahead t w starts)
-exact_places_are_one bytes ahead fault other (wrong_token s v is) (wrong_token t w same) exact also = is ∙ (ap (λ (l : Lexeme). Token l.at) (same_wrong ahead s t v w) ∙ sym same)
+exact_places_are_one bytes ahead fault other (wrong_token s v is) (wrong_token t w same) exact also =
+    is ∙ (ap (λ (l : Lexeme). Token l.at) (same_wrong ahead s t v w) ∙ sym same)
 exact_places_are_one bytes ahead fault other (wrong_token s v is) (too_short c same) exact also = absurd (wrong_never ahead s v c.begins)
 exact_places_are_one bytes ahead fault other (too_short c is) (no_token g more starts same) exact also = let ended = c.ended in absurd cc
 exact_places_are_one bytes ahead fault other (too_short c is) (wrong_token t w same) exact also = absurd (wrong_never ahead t w c.begins)
@@ -77,7 +82,8 @@ exact_places_are_one bytes ahead fault other (too_deep t d is) y exact also = ab
 exact_places_are_one bytes ahead fault other x (too_deep t d same) exact also = absurd (subst IsExact same also)
 
 -- the tokens of a program are a text within 64 levels, with nothing behind
-no_fault : (bytes : List ℕ) (ahead : Ahead) (fault : Syntax) → IsFaultOf bytes ahead fault → (tokens : List Lexeme) → ahead ≡ record { tokens = tokens; end = None } → (form : List DeclarationForm) → tokens ≡ spelled_program form → program_levels form ≤ 64 → ⊥
+no_fault : (bytes : List ℕ) (ahead : Ahead) (fault : Syntax) → IsFaultOf bytes ahead fault → (tokens : List Lexeme)
+    → ahead ≡ record { tokens = tokens; end = None } → (form : List DeclarationForm) → tokens ≡ spelled_program form → program_levels form ≤ 64 → ⊥
 no_fault bytes ahead fault (no_token f some begins is) tokens same form spelled fits = let none : ahead.end ≡ None = ap (λ (a : Ahead). a.end) same in absurd cc
 no_fault bytes ahead fault (wrong_token t w is) tokens same form spelled fits =
     let text : ahead.tokens ≡ spelled_program form = ap (λ (a : Ahead). a.tokens) same ∙ spelled in

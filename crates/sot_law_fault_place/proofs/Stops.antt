@@ -66,14 +66,17 @@ both_begun {t = t} used b d = record {
   form = (b.form, d.form);
   more = b.more ++ d.more;
   real = real_append b.more d.more b.real d.real;
-  spells = λ behind. b.spells (t d.form behind) ∙ (ap (λ us. used ++ (b.more ++ us)) (d.spells behind) ∙ ap (λ us. used ++ us) (sym (append_assoc b.more d.more behind)));
+  spells =
+      λ behind. b.spells (t d.form behind) ∙ (ap (λ us. used ++ (b.more ++ us)) (d.spells behind)
+      ∙ ap (λ us. used ++ us) (sym (append_assoc b.more d.more behind)));
 }
 
 first_stops : {F G : Type 0} {s : Spelling F} {t : Spelling G} (e : Fault × List Lexeme) (ts : List Lexeme) → Begun t [] → Stop s e ts → Stop (both s t) e ts
 first_stops e ts d stop = record { used = stop.used; split = stop.split; begun = both_begun (stop.used ++ seen_of e.0 e.1) stop.begun d; token = stop.token }
 
 -- behind tokens that were read before, and inside a form that begins with them
-pub stop_in : {F G : Type 0} {s : Spelling F} {t : Spelling G} (tokens : List Lexeme → List Lexeme) → Appends tokens → (whole : F → G) → ((f : F) (behind : List Lexeme) → t (whole f) behind ≡ tokens (s f behind))
+pub stop_in : {F G : Type 0} {s : Spelling F} {t : Spelling G} (tokens : List Lexeme → List Lexeme) → Appends tokens → (whole : F → G)
+    → ((f : F) (behind : List Lexeme) → t (whole f) behind ≡ tokens (s f behind))
     → (e : Fault × List Lexeme) (us : List Lexeme) → Stop s e us → Stop t e (tokens us)
 stop_in {s = s} {t = t} tokens a whole same e us stop =
     let seen = seen_of e.0 e.1 in
@@ -86,16 +89,19 @@ stop_in {s = s} {t = t} tokens a whole same e us stop =
         real = stop.begun.real;
         spells = λ behind.
             let rest = stop.begun.more ++ behind in
-            same stop.begun.form behind ∙ (ap tokens (stop.begun.spells behind ∙ append_assoc stop.used seen rest) ∙ (a stop.used (seen ++ rest) ∙ sym (append_assoc (tokens stop.used) seen rest)));
+            same stop.begun.form behind ∙ (ap tokens (stop.begun.spells behind ∙ append_assoc stop.used seen rest)
+            ∙ (a stop.used (seen ++ rest) ∙ sym (append_assoc (tokens stop.used) seen rest)));
       };
       token = stop.token;
     }
 
-second_stops : {F G : Type 0} (s : Spelling F) (t : Spelling G) (f : F) → Appends (s f) → (e : Fault × List Lexeme) (us : List Lexeme) → Stop t e us → Stop (both s t) e (s f us)
+second_stops : {F G : Type 0} (s : Spelling F) (t : Spelling G) (f : F) → Appends (s f) → (e : Fault × List Lexeme) (us : List Lexeme) → Stop t e us
+    → Stop (both s t) e (s f us)
 second_stops s t f a e us stop = stop_in (s f) a (λ g. (f, g)) (λ g behind. refl) e us stop
 
 -- one step of a chain
-pub then_stops : {F G A B : Type 0} {s : Spelling F} {t : Spelling G} {tree : F → A} {Fits : F → Type 0} {g : List Lexeme → Read A} → Sound s tree Fits g → Twin s g → Begun t [] → (k : A × List Lexeme → Read B)
+pub then_stops : {F G A B : Type 0} {s : Spelling F} {t : Spelling G} {tree : F → A} {Fits : F → Type 0} {g : List Lexeme → Read A} → Sound s tree Fits g
+    → Twin s g → Begun t [] → (k : A × List Lexeme → Read B)
     → ((f : F) → Fits f → Stops t (λ us. k (tree f, us))) → Stops (both s t) (λ ts. g ts >>= k)
 then_stops {s = s} {t = t} {tree = tree} {g = g} sound a d k next ts e eq = by (g ts) refl eq
   where
@@ -107,7 +113,8 @@ then_stops {s = s} {t = t} {tree = tree} {g = g} sound a d k next ts e eq = by (
         subst (λ us. Stop (both s t) e us) (sym found.2) (second_stops s t found.0 (a.appends found.0) e x.1 (next found.0 found.1 x.1 e e2))
 
 -- the last step of a chain, which only answers
-pub last_stops : {F A B : Type 0} {s : Spelling F} {g : List Lexeme → Read A} {k : A × List Lexeme → Read B} → Stops s g → ((x : A × List Lexeme) → (y : B × List Lexeme) × (k x ≡ Ok y)) → Stops s (λ ts. g ts >>= k)
+pub last_stops : {F A B : Type 0} {s : Spelling F} {g : List Lexeme → Read A} {k : A × List Lexeme → Read B} → Stops s g
+    → ((x : A × List Lexeme) → (y : B × List Lexeme) × (k x ≡ Ok y)) → Stops s (λ ts. g ts >>= k)
 last_stops {s = s} {g = g} {k = k} stops answers ts e eq = by (g ts) refl eq
   where
     by : (r : Read _) → g ts ≡ r → (r >>= k) ≡ Err e → Stop s e ts
@@ -115,17 +122,21 @@ last_stops {s = s} {g = g} {k = k} stops answers ts e eq = by (g ts) refl eq
     by (Ok x) is e1 = let y = answers x in absurd cc
 
 -- forms of one kind inside those of another
-pub inside : {F G : Type 0} {s : Spelling F} {t : Spelling G} {used : List Lexeme} (whole : F → G) → ((f : F) (behind : List Lexeme) → t (whole f) behind ≡ s f behind) → Begun s used → Begun t used
+pub inside : {F G : Type 0} {s : Spelling F} {t : Spelling G} {used : List Lexeme} (whole : F → G)
+    → ((f : F) (behind : List Lexeme) → t (whole f) behind ≡ s f behind) → Begun s used → Begun t used
 inside whole same b = record { form = whole b.form; more = b.more; real = b.real; spells = λ behind. same b.form behind ∙ b.spells behind }
 
-pub stop_inside : {F G : Type 0} {s : Spelling F} {t : Spelling G} (whole : F → G) → ((f : F) (behind : List Lexeme) → t (whole f) behind ≡ s f behind) → (e : Fault × List Lexeme) (ts : List Lexeme) → Stop s e ts → Stop t e ts
+pub stop_inside : {F G : Type 0} {s : Spelling F} {t : Spelling G} (whole : F → G) → ((f : F) (behind : List Lexeme) → t (whole f) behind ≡ s f behind)
+    → (e : Fault × List Lexeme) (ts : List Lexeme) → Stop s e ts → Stop t e ts
 stop_inside whole same e ts stop = record { used = stop.used; split = stop.split; begun = inside whole same stop.begun; token = stop.token }
 
-pub stops_inside : {F G A : Type 0} {s : Spelling F} {t : Spelling G} {g : List Lexeme → Read A} (whole : F → G) → ((f : F) (behind : List Lexeme) → t (whole f) behind ≡ s f behind) → Stops s g → Stops t g
+pub stops_inside : {F G A : Type 0} {s : Spelling F} {t : Spelling G} {g : List Lexeme → Read A} (whole : F → G)
+    → ((f : F) (behind : List Lexeme) → t (whole f) behind ≡ s f behind) → Stops s g → Stops t g
 stops_inside whole same stops ts e eq = stop_inside whole same e ts (stops ts e eq)
 
 -- one of two, by the next token
-pub either_stops : {F A : Type 0} {s : Spelling F} (test : List Lexeme → Bool) (m n : List Lexeme → Read A) → Stops s m → Stops s n → Stops s (λ ts. cond (test ts) (m ts) (n ts))
+pub either_stops : {F A : Type 0} {s : Spelling F} (test : List Lexeme → Bool) (m n : List Lexeme → Read A) → Stops s m → Stops s n
+    → Stops s (λ ts. cond (test ts) (m ts) (n ts))
 either_stops {s = s} test m n a b ts e eq = by (test ts) eq
   where
     by : (c : Bool) → cond c (m ts) (n ts) ≡ Err e → Stop s e ts
@@ -137,7 +148,8 @@ pub never_stops : {F A : Type 0} {s : Spelling F} (g : List Lexeme → Read A) �
 never_stops g answers ts e eq = let y = answers ts in absurd cc
 
 -- a record, by the chain of its parts
-pub twin_of : {F G A : Type 0} {s : Spelling F} {t : Spelling G} {g : List Lexeme → Read A} (whole : F → G) (parts : G → F) → ((f : F) (behind : List Lexeme) → t (whole f) behind ≡ s f behind)
+pub twin_of : {F G A : Type 0} {s : Spelling F} {t : Spelling G} {g : List Lexeme → Read A} (whole : F → G) (parts : G → F)
+    → ((f : F) (behind : List Lexeme) → t (whole f) behind ≡ s f behind)
     → ((w : G) (behind : List Lexeme) → t w behind ≡ s (parts w) behind) → Twin s g → Twin t g
 twin_of {s = s} {t = t} whole parts same back twin = record {
   appends = λ w us vs. back w (us ++ vs) ∙ (twin.appends (parts w) us vs ∙ ap (λ x. x ++ vs) (sym (back w us)));
@@ -146,7 +158,8 @@ twin_of {s = s} {t = t} whole parts same back twin = record {
 }
 
 -- a chain of two, and of more by its second part
-pub then_twin : {F G A B : Type 0} {s : Spelling F} {t : Spelling G} {tree : F → A} {Fits : F → Type 0} {g : List Lexeme → Read A} → Sound s tree Fits g → Twin s g → (k : A × List Lexeme → Read B) → ((a : A) → Twin t (λ us. k (a, us))) → Twin (both s t) (λ ts. g ts >>= k)
+pub then_twin : {F G A B : Type 0} {s : Spelling F} {t : Spelling G} {tree : F → A} {Fits : F → Type 0} {g : List Lexeme → Read A} → Sound s tree Fits g
+    → Twin s g → (k : A × List Lexeme → Read B) → ((a : A) → Twin t (λ us. k (a, us))) → Twin (both s t) (λ ts. g ts >>= k)
 then_twin {s = s} {t = t} {tree = tree} sound a k b =
     let d = b (tree a.some.form) in
     record {
@@ -155,11 +168,13 @@ then_twin {s = s} {t = t} {tree = tree} sound a k b =
       stops = then_stops sound a d.some k (λ f _. (b (tree f)).stops);
     }
 
-pub last_twin : {F A B : Type 0} {s : Spelling F} {g : List Lexeme → Read A} {k : A × List Lexeme → Read B} → Twin s g → ((x : A × List Lexeme) → (y : B × List Lexeme) × (k x ≡ Ok y)) → Twin s (λ ts. g ts >>= k)
+pub last_twin : {F A B : Type 0} {s : Spelling F} {g : List Lexeme → Read A} {k : A × List Lexeme → Read B} → Twin s g
+    → ((x : A × List Lexeme) → (y : B × List Lexeme) × (k x ≡ Ok y)) → Twin s (λ ts. g ts >>= k)
 last_twin twin answers = record { appends = twin.appends; some = twin.some; stops = last_stops twin.stops answers }
 
 -- with what is known of the next token
-pub cases_stops : {F A : Type 0} {s : Spelling F} (test : List Lexeme → Bool) (m n : List Lexeme → Read A) → ((ts : List Lexeme) (e : Fault × List Lexeme) → test ts ≡ true → m ts ≡ Err e → Stop s e ts) → Stops s n → Stops s (λ ts. cond (test ts) (m ts) (n ts))
+pub cases_stops : {F A : Type 0} {s : Spelling F} (test : List Lexeme → Bool) (m n : List Lexeme → Read A)
+    → ((ts : List Lexeme) (e : Fault × List Lexeme) → test ts ≡ true → m ts ≡ Err e → Stop s e ts) → Stops s n → Stops s (λ ts. cond (test ts) (m ts) (n ts))
 cases_stops {s = s} test m n a b ts e eq = by (test ts) refl eq
   where
     by : (c : Bool) → test ts ≡ c → cond c (m ts) (n ts) ≡ Err e → Stop s e ts
@@ -167,7 +182,8 @@ cases_stops {s = s} test m n a b ts e eq = by (test ts) refl eq
     by false is e1 = b ts e e1
 
 -- it would nest too deep at a token that some form begins with
-pub too_deep : {F : Type 0} {s : Spelling F} (t : Lexeme) → Begun s (t ∷ []) → (ts : List Lexeme) (e : Fault × List Lexeme) → (deep, t ∷ ts) ≡ e → Stop s e (t ∷ ts)
+pub too_deep : {F : Type 0} {s : Spelling F} (t : Lexeme) → Begun s (t ∷ []) → (ts : List Lexeme) (e : Fault × List Lexeme) → (deep, t ∷ ts) ≡ e
+    → Stop s e (t ∷ ts)
 too_deep {s = s} t begun ts e is = subst (λ z. Stop s z (t ∷ ts)) is (record { used = []; split = refl; begun = begun; token = tt })
 
 pub begun_behind : {F : Type 0} {s : Spelling F} {used : List Lexeme} (t : Lexeme) → Begun s used → Begun (λ f behind. t ∷ s f behind) (t ∷ used)

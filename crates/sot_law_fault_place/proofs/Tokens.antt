@@ -7,7 +7,8 @@ use Rattle.sot_text.specs.Lexeme.{sign_len}
 use Rattle.sot_text.specs.Reading.{Lexeme}
 use Rattle.sot_expression.specs.Lexemes.{is_keyword, is_sign, is_name, is_number, ident, literal, negative_literal}
 use Rattle.sot_expression.specs.Readers.{Fault, stuck, one_token, expect, name_at, number_at, negative_at, literal_at}
-use Rattle.sot_parser.specs.Pieces.{Keyword, Sign, Named, Digits, spelled_keyword, spelled_sign, spelled_name, spelled_number, LiteralForm, plain, negative, spelled_literal}
+use Rattle.sot_parser.specs.Pieces.{Keyword, Sign, Named, Digits, spelled_keyword, spelled_sign, spelled_name, spelled_number, LiteralForm, plain, negative}
+use Rattle.sot_parser.specs.Pieces.{spelled_literal}
 use Rattle.sot_parser.proofs.SoundSteps.{sign_is}
 use Rattle.sot_expression.proofs.ReadSteps.{ok}
 use Rattle.sot_law_fault_place.specs.Places.{IsToken, AreTokens}
@@ -109,7 +110,8 @@ token_stops {s = s} test view some (t ∷ ts) e eq = by (test t) eq
     by false e1 = stays_at some (t ∷ ts) e cc
 
 -- behind one token that was read
-pub stop_behind : {F G : Type 0} {s : Spelling F} {r : Spelling G} (t : Lexeme) (whole : F → G) → ((f : F) (behind : List Lexeme) → r (whole f) behind ≡ t ∷ s f behind) → (e : Fault × List Lexeme) (ts : List Lexeme) → Stop s e ts → Stop r e (t ∷ ts)
+pub stop_behind : {F G : Type 0} {s : Spelling F} {r : Spelling G} (t : Lexeme) (whole : F → G)
+    → ((f : F) (behind : List Lexeme) → r (whole f) behind ≡ t ∷ s f behind) → (e : Fault × List Lexeme) (ts : List Lexeme) → Stop s e ts → Stop r e (t ∷ ts)
 stop_behind t whole same e ts stop = stop_in (λ us. t ∷ us) (λ us vs. refl) whole same e ts stop
 
 pub keyword_twin : (text : List ℕ) → IsToken (keyword text).token → Twin (spelled_keyword {text = text}) (expect (is_keyword text))
@@ -140,7 +142,8 @@ some_literal : Begun spelled_literal []
 some_literal = begun_by (plain digits) (digits.token ∷ []) (refl, tt) (λ behind. refl)
 
 -- behind a minus
-negative_stops : (minus : Sign (codes "-")) (ts : List Lexeme) (e : Fault × List Lexeme) → negative_at minus.token ts ≡ Err e → Stop spelled_literal e (minus.token ∷ ts)
+negative_stops : (minus : Sign (codes "-")) (ts : List Lexeme) (e : Fault × List Lexeme) → negative_at minus.token ts ≡ Err e
+    → Stop spelled_literal e (minus.token ∷ ts)
 negative_stops minus ts e eq =
     stop_behind minus.token (λ n. negative minus n) (λ n behind. refl) e ts
     (token_stops {s = spelled_number} is_number (negative_literal minus.token) (begun_by digits (digits.token ∷ []) (refl, tt) (λ behind. refl)) ts e eq)

@@ -41,14 +41,18 @@ same_head t [] e = absurd cc
 same_head t (u ∷ us) e = let is : u ≡ t = cc in (us, ap (λ v. v ∷ us) is)
 
 -- a fault stays one behind a further step
-carried : {A B : Type 0} (Same : Type 0) (e : Fault × List Lexeme) (us : List Lexeme) (r : Read A) (k : A × List Lexeme → Read B) → Matches Same (err {A = A} e) us r → Matches Same (err {A = B} e) us (r >>= k)
+carried : {A B : Type 0} (Same : Type 0) (e : Fault × List Lexeme) (us : List Lexeme) (r : Read A) (k : A × List Lexeme → Read B)
+    → Matches Same (err {A = A} e) us r → Matches Same (err {A = B} e) us (r >>= k)
 carried Same (stuck, ts) us r k is = ap (λ m. m >>= k) is
 carried Same (deep, ts) us r k is = λ same. ap (λ m. m >>= k) (is same)
 
-bind_err : {A B : Type 0} {Same : Type 0} {other : List Lexeme → Read A} (later : A × List Lexeme → Read B) (e : Fault × List Lexeme) (ts : List Lexeme) → Track Same other (err {A = A} e) ts → Track Same (λ us. other us >>= later) (err {A = B} e) ts
-bind_err {Same = Same} {other = other} later e ts t = record { used = t.used; split = t.split; same = λ us first. carried Same e us (other (t.used ++ us)) later (t.same us first) }
+bind_err : {A B : Type 0} {Same : Type 0} {other : List Lexeme → Read A} (later : A × List Lexeme → Read B) (e : Fault × List Lexeme) (ts : List Lexeme)
+    → Track Same other (err {A = A} e) ts → Track Same (λ us. other us >>= later) (err {A = B} e) ts
+bind_err {Same = Same} {other = other} later e ts t =
+    record { used = t.used; split = t.split; same = λ us first. carried Same e us (other (t.used ++ us)) later (t.same us first) }
 
-bind_goes : {A B : Type 0} {Same : Type 0} {other : List Lexeme → Read A} (k later : A × List Lexeme → Read B) (x : A × List Lexeme) (ts : List Lexeme) → Track Same other (ok x) ts → Track Same (λ us. later (x.0, us)) (k x) x.1 → Track Same (λ us. other us >>= later) (k x) ts
+bind_goes : {A B : Type 0} {Same : Type 0} {other : List Lexeme → Read A} (k later : A × List Lexeme → Read B) (x : A × List Lexeme) (ts : List Lexeme)
+    → Track Same other (ok x) ts → Track Same (λ us. later (x.0, us)) (k x) x.1 → Track Same (λ us. other us >>= later) (k x) ts
 bind_goes {Same = Same} {other = other} k later x ts t s =
     let out = left_of (k x) in
     record {
@@ -57,12 +61,14 @@ bind_goes {Same = Same} {other = other} k later x ts t s =
       same = λ us first.
           let begins_so : first_of (s.used ++ us) ≡ first_of x.1 = same_first s.used us out first ∙ ap first_of (sym s.split) in
           let one : other (t.used ++ (s.used ++ us)) ≡ Ok (x.0, s.used ++ us) = t.same (s.used ++ us) begins_so in
-          let all : (other ((t.used ++ s.used) ++ us) >>= later) ≡ later (x.0, s.used ++ us) = ap (λ ws. other ws >>= later) (append_assoc t.used s.used us) ∙ ap (λ m. m >>= later) one in
+          let all : (other ((t.used ++ s.used) ++ us) >>= later) ≡ later (x.0, s.used ++ us) = ap (λ ws. other ws >>= later) (append_assoc t.used s.used us)
+          ∙ ap (λ m. m >>= later) one in
           subst (Matches Same (k x) us) (sym all) (s.same us first);
     }
 
 -- one step of a chain, with what is known of what was read
-pub bind_track : {A B : Type 0} {Same : Type 0} {other : List Lexeme → Read A} (g : List Lexeme → Read A) (k later : A × List Lexeme → Read B) (ts : List Lexeme) → Track Same other (g ts) ts
+pub bind_track : {A B : Type 0} {Same : Type 0} {other : List Lexeme → Read A} (g : List Lexeme → Read A) (k later : A × List Lexeme → Read B)
+    (ts : List Lexeme) → Track Same other (g ts) ts
     → ((x : A × List Lexeme) → g ts ≡ Ok x → Track Same (λ us. later (x.0, us)) (k x) x.1) → Track Same (λ us. other us >>= later) (g ts >>= k) ts
 bind_track {Same = Same} {other = other} g k later ts t next = by (g ts) refl t
   where
@@ -70,17 +76,20 @@ bind_track {Same = Same} {other = other} g k later ts t next = by (g ts) refl t
     by (Err e) is t1 = bind_err later e ts t1
     by (Ok x) is t1 = bind_goes k later x ts t1 (next x is)
 
-pub bind_tracks : {A B : Type 0} {Same : Type 0} {g other : List Lexeme → Read A} (k later : A × List Lexeme → Read B) → Tracks Same g other → ((a : A) → Tracks Same (λ us. k (a, us)) (λ us. later (a, us))) → Tracks Same (λ ts. g ts >>= k) (λ ts. other ts >>= later)
+pub bind_tracks : {A B : Type 0} {Same : Type 0} {g other : List Lexeme → Read A} (k later : A × List Lexeme → Read B) → Tracks Same g other
+    → ((a : A) → Tracks Same (λ us. k (a, us)) (λ us. later (a, us))) → Tracks Same (λ ts. g ts >>= k) (λ ts. other ts >>= later)
 bind_tracks {g = g} k later tracks next ts = bind_track g k later ts (tracks ts) (λ x _. next x.0 x.1)
 
 module _ {Same : Type 0} where
   pub ok_tracks : {A : Type 0} (a : A) → Tracks Same (λ us. Ok (a, us)) (λ us. Ok (a, us))
   ok_tracks a ts = record { used = []; split = refl; same = λ us first. refl }
 
-  pub stuck_tracks : {A : Type 0} (other : List Lexeme → Read A) (ts : List Lexeme) → ((us : List Lexeme) → first_of us ≡ first_of ts → other us ≡ Err (stuck, us)) → Track Same other (Err (stuck, ts)) ts
+  pub stuck_tracks : {A : Type 0} (other : List Lexeme → Read A) (ts : List Lexeme)
+      → ((us : List Lexeme) → first_of us ≡ first_of ts → other us ≡ Err (stuck, us)) → Track Same other (Err (stuck, ts)) ts
   stuck_tracks other ts is = record { used = []; split = refl; same = is }
 
-  pub deep_tracks : {A : Type 0} (other : List Lexeme → Read A) (ts : List Lexeme) → (Same → (us : List Lexeme) → first_of us ≡ first_of ts → other us ≡ Err (deep, us)) → Track Same other (Err (deep, ts)) ts
+  pub deep_tracks : {A : Type 0} (other : List Lexeme → Read A) (ts : List Lexeme)
+      → (Same → (us : List Lexeme) → first_of us ≡ first_of ts → other us ≡ Err (deep, us)) → Track Same other (Err (deep, ts)) ts
   deep_tracks other ts is = record { used = []; split = refl; same = λ us first same. is same us first }
 
   -- one token
@@ -106,7 +115,8 @@ begins_first test (t ∷ ts) (u ∷ us) e = let is : t ≡ u = cc in ap test is
 
 module _ {Same : Type 0} {A : Type 0} where
   -- one of two, by the next token
-  pub cond_track : (test : List Lexeme → Bool) → IsFirst test → (m n other_m other_n : List Lexeme → Read A) (ts : List Lexeme) → (test ts ≡ true → Track Same other_m (m ts) ts) → (test ts ≡ false → Track Same other_n (n ts) ts)
+  pub cond_track : (test : List Lexeme → Bool) → IsFirst test → (m n other_m other_n : List Lexeme → Read A) (ts : List Lexeme)
+      → (test ts ≡ true → Track Same other_m (m ts) ts) → (test ts ≡ false → Track Same other_n (n ts) ts)
       → Track Same (λ us. cond (test us) (other_m us) (other_n us)) (cond (test ts) (m ts) (n ts)) ts
   cond_track test first m n other_m other_n ts yes_ no_ = by (test ts) refl
     where
@@ -119,21 +129,27 @@ module _ {Same : Type 0} {A : Type 0} where
           record {
             used = t.used;
             split = t.split;
-            same = λ us e. subst (Matches Same (m ts) us) (ap (λ b. cond b (other_m (t.used ++ us)) (other_n (t.used ++ us))) (sym (tests t.used (left_of (m ts)) us t.split e ∙ is))) (t.same us e);
+            same =
+                λ us e. subst (Matches Same (m ts) us) (ap (λ b. cond b (other_m (t.used ++ us)) (other_n (t.used ++ us)))
+                (sym (tests t.used (left_of (m ts)) us t.split e ∙ is))) (t.same us e);
           }
       by false is =
           let t = no_ is in
           record {
             used = t.used;
             split = t.split;
-            same = λ us e. subst (Matches Same (n ts) us) (ap (λ b. cond b (other_m (t.used ++ us)) (other_n (t.used ++ us))) (sym (tests t.used (left_of (n ts)) us t.split e ∙ is))) (t.same us e);
+            same =
+                λ us e. subst (Matches Same (n ts) us) (ap (λ b. cond b (other_m (t.used ++ us)) (other_n (t.used ++ us)))
+                (sym (tests t.used (left_of (n ts)) us t.split e ∙ is))) (t.same us e);
           }
 
-  pub cond_tracks : (test : List Lexeme → Bool) → IsFirst test → {m n other_m other_n : List Lexeme → Read A} → Tracks Same m other_m → Tracks Same n other_n → Tracks Same (λ ts. cond (test ts) (m ts) (n ts)) (λ ts. cond (test ts) (other_m ts) (other_n ts))
+  pub cond_tracks : (test : List Lexeme → Bool) → IsFirst test → {m n other_m other_n : List Lexeme → Read A} → Tracks Same m other_m → Tracks Same n other_n
+      → Tracks Same (λ ts. cond (test ts) (m ts) (n ts)) (λ ts. cond (test ts) (other_m ts) (other_n ts))
   cond_tracks test first {m} {n} {other_m} {other_n} yes_ no_ ts = cond_track test first m n other_m other_n ts (λ _. yes_ ts) (λ _. no_ ts)
 
 -- the same of a reader that answers so wherever the next token is this one
-pub retrack : {Same : Type 0} {A : Type 0} {m : Read A} {ts : List Lexeme} (g other : List Lexeme → Read A) → Track Same g m ts → ((us : List Lexeme) → first_of us ≡ first_of ts → other us ≡ g us) → Track Same other m ts
+pub retrack : {Same : Type 0} {A : Type 0} {m : Read A} {ts : List Lexeme} (g other : List Lexeme → Read A) → Track Same g m ts
+    → ((us : List Lexeme) → first_of us ≡ first_of ts → other us ≡ g us) → Track Same other m ts
 retrack {Same = Same} {m = m} g other t is = record {
   used = t.used;
   split = t.split;

@@ -31,7 +31,9 @@ BeginsNone ts = (more : List Lexeme) → IsText (ts ++ more) → ⊥
 
 -- each text of the grammar that begins with these tokens nests more than 64 levels
 abbrev pub BeginsOnlyDeep : List Lexeme → Type 0
-BeginsOnlyDeep ts = (form : List DeclarationForm) (more : List Lexeme) → spelled_program form ≡ ts ++ more → 64 < program_levels form
+BeginsOnlyDeep ts =
+    (form : List DeclarationForm) (more : List Lexeme) → spelled_program form ≡ ts ++ more
+    → 64 < program_levels form
 
 -- the first token with which no text of the grammar goes on
 pub record IsFirstWrong (ahead : Ahead) (wrong : Lexeme) : Type 0 where
@@ -55,11 +57,16 @@ pub record IsTooDeep (ahead : Ahead) (token : Lexeme) : Type 0 where
   pub begins : Begins (before ++ token ∷ [])
   pub only_deep : BeginsOnlyDeep (before ++ token ∷ [])
 
--- the fault of a text of these tokens: `Lex` where all tokens begin a text of the grammar and no token comes next; `Token` at the first token with which no text of the grammar goes on, or at the end of the text; and `Deep` at a token at which each text that goes on nests too deep
+-- the fault of a text of these tokens: `Lex` where all tokens begin a text of the grammar and no
+-- token comes next; `Token` at the first token with which no text of the grammar goes on, or at the
+-- end of the text; and `Deep` at a token at which each text that goes on nests too deep
 pub data IsFaultOf (bytes : List ℕ) (ahead : Ahead) (fault : Syntax) : Type 0 where
-  no_token : (f : LexFault) → ahead.end ≡ Some f → Begins ahead.tokens → fault ≡ Lex f → IsFaultOf bytes ahead fault
-  wrong_token : (t : Lexeme) → IsFirstWrong ahead t → fault ≡ Token t.at → IsFaultOf bytes ahead fault
-  too_short : IsCutShort ahead → fault ≡ Token (span bytes (length bytes)) → IsFaultOf bytes ahead fault
+  no_token : (f : LexFault) → ahead.end ≡ Some f → Begins ahead.tokens → fault ≡ Lex f
+      → IsFaultOf bytes ahead fault
+  wrong_token : (t : Lexeme) → IsFirstWrong ahead t → fault ≡ Token t.at
+      → IsFaultOf bytes ahead fault
+  too_short : IsCutShort ahead → fault ≡ Token (span bytes (length bytes))
+      → IsFaultOf bytes ahead fault
   too_deep : (t : Lexeme) → IsTooDeep ahead t → fault ≡ Deep t.at → IsFaultOf bytes ahead fault
 
 -- not a fault of nesting

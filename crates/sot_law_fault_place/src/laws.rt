@@ -1,5 +1,7 @@
 //! Each of these functions does nothing, and its contract is the law.
-ghost use Rattle.sot_law_fault_place.specs.Laws.{PlacesAreExact, ExactPlacesExist, TextsAreOnlyDeep, ExactPlacesAreOne, DeepComesBefore, ProgramsHaveNoFault};
+ghost use Rattle.sot_law_fault_place.specs.Laws.{PlacesAreExact, ExactPlacesExist};
+ghost use Rattle.sot_law_fault_place.specs.Laws.{TextsAreOnlyDeep, ExactPlacesAreOne};
+ghost use Rattle.sot_law_fault_place.specs.Laws.{DeepComesBefore, ProgramsHaveNoFault};
 
 /// The place of a fault of syntax, and its kind, are those that the grammar gives.
 pub fn places_are_exact()
@@ -11,8 +13,8 @@ pub fn texts_are_only_deep()
     ensures { TextsAreOnlyDeep }
 {}
 
-/// What is no text of the grammar has a fault that is not one of nesting, also where reading stops before it, at a token at which it
-/// nests too deep.
+/// What is no text of the grammar has a fault that is not one of nesting, also where reading stops
+/// before it, at a token at which it nests too deep.
 pub fn exact_places_exist()
     ensures { ExactPlacesExist }
 {}

@@ -1,4 +1,5 @@
-//! Where the text of a program is at fault: the place at which reading stops is the one that the grammar alone gives.
+//! Where the text of a program is at fault: the place at which reading stops is the one that the
+//! grammar alone gives.
 #![tactic(auto)]
 
 mod laws;

@@ -64,10 +64,12 @@ pair_word Abs w t is kind text = absurd is
 pair_word Clamp w t is kind text = absurd is
 
 pair_again : (func : Func) (w open_ : Lexeme) (f : Phrase) (comma : Lexeme) (g : Phrase) (close : Lexeme) → IsPairWord func w → KeptPhrase f → KeptPhrase g
-    → (gap : Gap) (ts us : List Lexeme) → Takes ts (expression_words (tree_of (a_pair func w open_ f comma g close)) gap) us → Rewritten (a_pair func w open_ f comma g close) ts us
+    → (gap : Gap) (ts us : List Lexeme) → Takes ts (expression_words (tree_of (a_pair func w open_ f comma g close)) gap) us
+    → Rewritten (a_pair func w open_ f comma g close) ts us
 pair_again func w open_ f comma g close word kept more gap ts us h =
     let opening = h.2 in
-    let inside = split (expression_words (tree_of f) Touching ++ parts_from false (one_more (tree_of g) no_tree)) (sign Touching (codes ")") ∷ []) opening.0 us opening.2 in
+    let inside = split (expression_words (tree_of f) Touching ++ parts_from false (one_more (tree_of g) no_tree)) (sign Touching (codes ")") ∷ []) opening.0 us
+    opening.2 in
     let parts = split (expression_words (tree_of f) Touching) (parts_from false (one_more (tree_of g) no_tree)) opening.0 inside.0 inside.1 in
     let a = kept.again Touching opening.0 parts.0 parts.1 in
     let between = parts.2 in
@@ -83,14 +85,17 @@ pair_again func w open_ f comma g close word kept more gap ts us h =
       first_tier = λ _. refl;
     }
 
-pub kept_pair : (func : Func) (w open_ : Lexeme) (f : Phrase) (comma : Lexeme) (g : Phrase) (close : Lexeme) → IsPairWord func w → KeptPhrase f → KeptPhrase g → KeptPhrase (a_pair func w open_ f comma g close)
+pub kept_pair : (func : Func) (w open_ : Lexeme) (f : Phrase) (comma : Lexeme) (g : Phrase) (close : Lexeme) → IsPairWord func w → KeptPhrase f → KeptPhrase g
+    → KeptPhrase (a_pair func w open_ f comma g close)
 kept_pair func w open_ f comma g close word kept more = record {
   holds = (pair_arity func w word, (kept.holds, (more.holds, tt)));
   again = pair_again func w open_ f comma g close word kept more;
 }
 
-clamp_again : (w open_ : Lexeme) (f : Phrase) (comma : Lexeme) (g : Phrase) (comma2 : Lexeme) (e : Phrase) (close : Lexeme) → KeptPhrase f → KeptPhrase g → KeptPhrase e
-    → (gap : Gap) (ts us : List Lexeme) → Takes ts (expression_words (tree_of (a_clamp w open_ f comma g comma2 e close)) gap) us → Rewritten (a_clamp w open_ f comma g comma2 e close) ts us
+clamp_again : (w open_ : Lexeme) (f : Phrase) (comma : Lexeme) (g : Phrase) (comma2 : Lexeme) (e : Phrase) (close : Lexeme) → KeptPhrase f → KeptPhrase g
+    → KeptPhrase e
+    → (gap : Gap) (ts us : List Lexeme) → Takes ts (expression_words (tree_of (a_clamp w open_ f comma g comma2 e close)) gap) us
+    → Rewritten (a_clamp w open_ f comma g comma2 e close) ts us
 clamp_again w open_ f comma g comma2 e close kept low high gap ts us h =
     let opening = h.2 in
     let third : List Word = parts_from false (one_more (tree_of e) no_tree) in
@@ -104,7 +109,8 @@ clamp_again w open_ f comma g comma2 e close kept low high gap ts us h =
     let behind = others.2 in
     let c = high.again Space behind.0 inside.0 (last_taken (expression_words (tree_of e) Space) behind.0 inside.0 behind.2) in
     let closing = inside.2 in
-    let same_ends : one_more (unplaced_tree (tree_of b.form)) (one_more (unplaced_tree (tree_of c.form)) no_tree) ≡ one_more (unplaced_tree (tree_of g)) (one_more (unplaced_tree (tree_of e)) no_tree) =
+    let same_ends : one_more (unplaced_tree (tree_of b.form)) (one_more (unplaced_tree (tree_of c.form)) no_tree)
+    ≡ one_more (unplaced_tree (tree_of g)) (one_more (unplaced_tree (tree_of e)) no_tree) =
     ap₂ (λ x y. one_more x (one_more y no_tree)) b.same c.same in
     record {
       form = a_clamp h.1.token opening.1.token a.form between.1.token b.form behind.1.token c.form closing.1.token;
@@ -118,7 +124,8 @@ clamp_again w open_ f comma g comma2 e close kept low high gap ts us h =
       first_tier = λ _. refl;
     }
 
-pub kept_clamp : (w open_ : Lexeme) (f : Phrase) (comma : Lexeme) (g : Phrase) (comma2 : Lexeme) (e : Phrase) (close : Lexeme) → KeptPhrase f → KeptPhrase g → KeptPhrase e
+pub kept_clamp : (w open_ : Lexeme) (f : Phrase) (comma : Lexeme) (g : Phrase) (comma2 : Lexeme) (e : Phrase) (close : Lexeme) → KeptPhrase f → KeptPhrase g
+    → KeptPhrase e
     → KeptPhrase (a_clamp w open_ f comma g comma2 e close)
 kept_clamp w open_ f comma g comma2 e close kept low high = record {
   holds = (clamp_arity, (kept.holds, (low.holds, (high.holds, tt))));
@@ -126,10 +133,12 @@ kept_clamp w open_ f comma g comma2 e close kept low high = record {
 }
 
 rescale_again : (w open_ : Lexeme) (f : Phrase) (comma n close : Lexeme) (is : IsNumber n) → KeptPhrase f → Kept numbers (record { token = n; is = is })
-    → (gap : Gap) (ts us : List Lexeme) → Takes ts (expression_words (tree_of (a_rescale w open_ f comma n close)) gap) us → Rewritten (a_rescale w open_ f comma n close) ts us
+    → (gap : Gap) (ts us : List Lexeme) → Takes ts (expression_words (tree_of (a_rescale w open_ f comma n close)) gap) us
+    → Rewritten (a_rescale w open_ f comma n close) ts us
 rescale_again w open_ f comma n close is kept count gap ts us h =
     let opening = h.2 in
-    let inside = split (expression_words (tree_of f) Touching ++ sign Touching (codes ",") ∷ literal_words Space (literal n)) (sign Touching (codes ")") ∷ []) opening.0 us opening.2 in
+    let inside = split (expression_words (tree_of f) Touching ++ sign Touching (codes ",") ∷ literal_words Space (literal n)) (sign Touching (codes ")") ∷ [])
+    opening.0 us opening.2 in
     let parts = split (expression_words (tree_of f) Touching) (sign Touching (codes ",") ∷ literal_words Space (literal n)) opening.0 inside.0 inside.1 in
     let a = kept.again Touching opening.0 parts.0 parts.1 in
     let between = parts.2 in
@@ -145,7 +154,8 @@ rescale_again w open_ f comma n close is kept count gap ts us h =
       first_tier = λ _. refl;
     }
 
-pub kept_rescale : (w open_ : Lexeme) (f : Phrase) (comma n close : Lexeme) (is : IsNumber n) → KeptPhrase f → Kept numbers (record { token = n; is = is }) → KeptPhrase (a_rescale w open_ f comma n close)
+pub kept_rescale : (w open_ : Lexeme) (f : Phrase) (comma n close : Lexeme) (is : IsNumber n) → KeptPhrase f → Kept numbers (record { token = n; is = is })
+    → KeptPhrase (a_rescale w open_ f comma n close)
 kept_rescale w open_ f comma n close is kept count = record {
   holds = (kept.holds, count.holds);
   again = rescale_again w open_ f comma n close is kept count;

@@ -9,9 +9,13 @@ use Rattle.sot_tree.specs.declared.tree.Scalar.{Scalar}
 use Rattle.sot_tree.specs.declared.tree.Const.{Const}
 use Rattle.sot_tree.specs.declared.tree.StateDecl.{StateDecl}
 use Rattle.sot_tree.specs.Trees.{Tree, Form, one, fields, Start, one_value, values, Next, Local}
-use Rattle.sot_parser.specs.Pieces.{Sign, number_of, spelled_number, Separated, spelled_separated, separated_of, spelled_scalar, scalar_of, FieldForm, spelled_field, field_of, ConstForm, spelled_const, const_of, RoleForm, spelled_role, role_of, TimingForm, spelled_timing, timing_of}
+use Rattle.sot_parser.specs.Pieces.{Sign, number_of, spelled_number, Separated, spelled_separated, separated_of, spelled_scalar, scalar_of, FieldForm}
+use Rattle.sot_parser.specs.Pieces.{spelled_field, field_of, ConstForm, spelled_const, const_of, RoleForm, spelled_role, role_of, TimingForm, spelled_timing}
+use Rattle.sot_parser.specs.Pieces.{timing_of}
 use Rattle.sot_parser.specs.Statements.{spelled_expression, expression_of}
-use Rattle.sot_parser.specs.Declarations.{ShapeForm, one_scalar, a_record, spelled_shape, shape_of, InitForm, one_const, consts, spelled_init, init_of, ScaleForm, whole, scaled, spelled_scale, scale_of, StateForm, spelled_state, state_of, NextForm, spelled_next, next_of, next_levels, LocalForm, spelled_local, local_of}
+use Rattle.sot_parser.specs.Declarations.{ShapeForm, one_scalar, a_record, spelled_shape, shape_of, InitForm, one_const, consts, spelled_init, init_of}
+use Rattle.sot_parser.specs.Declarations.{ScaleForm, whole, scaled, spelled_scale, scale_of, StateForm, spelled_state, state_of, NextForm, spelled_next}
+use Rattle.sot_parser.specs.Declarations.{next_of, next_levels, LocalForm, spelled_local, local_of}
 use Rattle.sot_print.specs.declared.gap.Gap.{Gap}
 use Rattle.sot_print.specs.declared.gap.Gap.TheVariants.{Touching, Space}
 use Rattle.sot_print.specs.Words.{Word, keyword, sign}
@@ -20,10 +24,12 @@ use Rattle.sot_print.specs.Expressions.{expression_words}
 use Rattle.sot_print.specs.Statements.{semicolon}
 use Rattle.sot_print.specs.Canonical.{clause, shape_words, start_words, state_type_words, state_words, next_clause, timing_words, local_clause}
 use Rattle.sot_tree.specs.Formed as formed
-use Rattle.sot_law_format.specs.Unplaced.{nowhere, unplaced_name, unplaced_literal, unplaced_shape, unplaced_start, unplaced_state, unplaced_next, unplaced_local}
+use Rattle.sot_law_format.specs.Unplaced.{nowhere, unplaced_name, unplaced_literal, unplaced_shape, unplaced_start, unplaced_state, unplaced_next}
+use Rattle.sot_law_format.specs.Unplaced.{unplaced_local}
 use Rattle.sot_law_format.proofs.Takes.{Takes, split, a_keyword, a_sign, a_name, led, onto}
 use Rattle.sot_law_format.proofs.Kept.{Production, Again, Kept, Keeps, no_level, also}
-use Rattle.sot_law_format.proofs.Leaves.{same_name, name_text, numbers, numbers_keep, fixes_keep, scalars, scalars_keep, typed_names, typed_names_keep, constants, constants_keep}
+use Rattle.sot_law_format.proofs.Leaves.{same_name, name_text, numbers, numbers_keep, fixes_keep, scalars, scalars_keep, typed_names, typed_names_keep}
+use Rattle.sot_law_format.proofs.Leaves.{constants, constants_keep}
 use Rattle.sot_law_format.proofs.Lists.{lists, lists_keep}
 use Rattle.sot_law_format.proofs.Expressions.{expressions, expressions_keep}
 
@@ -93,7 +99,15 @@ starts_keep (consts opening cs closing) more texts =
 
 -- a state variable
 abbrev pub scales : Production (Unit {0}) ScaleForm (Option Lit)
-scales = record { spelled = spelled_scale; tree = scale_of; unplaced = option_map unplaced_literal; levels = no_level; Holds = formed.IfThere formed.IsNumber; words = λ _ s. state_type_words s }
+scales =
+    record {
+      spelled = spelled_scale;
+      tree = scale_of;
+      unplaced = option_map unplaced_literal;
+      levels = no_level;
+      Holds = formed.IfThere formed.IsNumber;
+      words = λ _ s. state_type_words s;
+    }
 
 scales_keep : Keeps scales
 scales_keep (whole word) more texts = (
@@ -163,12 +177,14 @@ nexts_keep n more texts =
 
 -- "local" NAME ":" scalar "=" const ";"
 abbrev pub locals : Production (Unit {0}) LocalForm Local
-locals = record { spelled = spelled_local; tree = local_of; unplaced = unplaced_local; levels = no_level; Holds = formed.IsLocal; words = λ _ l. local_clause l }
+locals =
+    record { spelled = spelled_local; tree = local_of; unplaced = unplaced_local; levels = no_level; Holds = formed.IsLocal; words = λ _ l. local_clause l }
 
 abbrev local_with : Ident → Scalar → Const → Local
 local_with x y z = record { name = x; scalar = y; init = z }
 
-local_again : (l : LocalForm) → Kept scalars l.scalar → Kept constants l.init → (ts us : List Lexeme) → Takes ts (local_clause (local_of l)) us → Again locals l ts us
+local_again : (l : LocalForm) → Kept scalars l.scalar → Kept constants l.init → (ts us : List Lexeme) → Takes ts (local_clause (local_of l)) us
+    → Again locals l ts us
 local_again l scalar init ts us h =
     let type_words : List Word = scalar_words (scalar_of l.scalar) in
     let value_words : List Word = constant_words Space (const_of l.init) in
@@ -181,8 +197,18 @@ local_again l scalar init ts us h =
     let b = init.again Space equals.0 outer.0 equals.2 in
     let last = outer.2 in
     record {
-      form = record { word = a_keyword h.1; name = a_name own.1; colon = a_sign colon.1; scalar = a.form; equals = a_sign equals.1; init = b.form; semicolon = a_sign last.1 };
-      tokens = led h.1 (led own.1 (led colon.1 (onto (spelled_scalar a.form) a.tokens (led equals.1 (onto (spelled_const b.form) b.tokens (led last.1 last.2))))));
+      form =
+          record {
+            word = a_keyword h.1;
+            name = a_name own.1;
+            colon = a_sign colon.1;
+            scalar = a.form;
+            equals = a_sign equals.1;
+            init = b.form;
+            semicolon = a_sign last.1;
+          };
+      tokens =
+          led h.1 (led own.1 (led colon.1 (onto (spelled_scalar a.form) a.tokens (led equals.1 (onto (spelled_const b.form) b.tokens (led last.1 last.2))))));
       same = also (ap₂ local_with (same_name own.1.text) a.same) b.same;
       nests = le_refl 0;
     }
@@ -190,12 +216,22 @@ local_again l scalar init ts us h =
 pub locals_keep : Keeps locals
 locals_keep l more texts =
     let scalar = scalars_keep l.scalar (l.equals.token ∷ spelled_const l.init (l.semicolon.token ∷ more)) texts.1.1.1 in
-    let init = constants_keep l.init (l.semicolon.token ∷ more) scalar.1.1 in
-    (record { holds = (name_text l.name.token l.name.is texts.1.0, scalar.0.holds, init.0.holds); again = λ _ ts us h. local_again l scalar.0 init.0 ts us h }, init.1.1)
+    let init = constants_keep l.init (l.semicolon.token ∷ more) scalar.1.1 in (
+      record { holds = (name_text l.name.token l.name.is texts.1.0, scalar.0.holds, init.0.holds); again = λ _ ts us h. local_again l scalar.0 init.0 ts us h },
+      init.1.1,
+    )
 
 -- a keyword, a name and ";"
 abbrev pub roles : (text : List ℕ) → Production (Unit {0}) (RoleForm text) Ident
-roles text = record { spelled = spelled_role; tree = role_of; unplaced = unplaced_name; levels = no_level; Holds = formed.IsName; words = λ _ i. clause text (ident_words Space i) }
+roles text =
+    record {
+      spelled = spelled_role;
+      tree = role_of;
+      unplaced = unplaced_name;
+      levels = no_level;
+      Holds = formed.IsName;
+      words = λ _ i. clause text (ident_words Space i);
+    }
 
 pub roles_keep : (text : List ℕ) → Keeps (roles text)
 roles_keep text r more texts = (
@@ -228,7 +264,8 @@ timings = record {
 abbrev two : Lit → Lit → Lit × Lit
 two x y = (x, y)
 
-timing_again : (t : TimingForm) → Kept numbers t.period → Kept numbers t.offset → (gap : Gap) (ts us : List Lexeme) → Takes ts (timing_words gap (number_of t.period) (number_of t.offset)) us → Again timings t ts us
+timing_again : (t : TimingForm) → Kept numbers t.period → Kept numbers t.offset → (gap : Gap) (ts us : List Lexeme)
+    → Takes ts (timing_words gap (number_of t.period) (number_of t.offset)) us → Again timings t ts us
 timing_again t period offset gap ts us h =
     let parts = split (literal_words Space (number_of t.period)) (keyword Space (codes "offset") ∷ literal_words Space (number_of t.offset)) h.0 us h.2 in
     let a = period.again Space h.0 parts.0 parts.1 in

@@ -3,7 +3,8 @@ use Rattle.std.proofs.Common.{◌≡◌, ◌≤◌, List, ◌∷◌, ◌++◌, c
 use Rattle.sot_text.specs.Reading.{Lexeme}
 use Rattle.sot_tree.specs.Trees.{Tree}
 use Rattle.sot_parser.specs.Pieces.{Sign}
-use Rattle.sot_expression.specs.Phrases.{Phrase, a_number, a_truth, a_name, a_field, a_group, an_abs, a_pair, a_clamp, a_rescale, a_minus, a_rest, a_join, a_not, an_if, spelled, IsPhrase}
+use Rattle.sot_expression.specs.Phrases.{Phrase, a_number, a_truth, a_name, a_field, a_group, an_abs, a_pair, a_clamp, a_rescale, a_minus, a_rest, a_join}
+use Rattle.sot_expression.specs.Phrases.{a_not, an_if, spelled, IsPhrase}
 use Rattle.sot_print.specs.declared.gap.Gap.{Gap}
 use Rattle.sot_print.specs.declared.gap.Gap.TheVariants.{Space}
 use Rattle.sot_print.specs.Expressions.{expression_words}
@@ -95,7 +96,8 @@ pub record Ended (e : ExpressionForm) (ts us : List Lexeme) : Type 0 where
   pub same : unplaced_tree (expression_of form) ≡ unplaced_tree (expression_of e)
   pub nests : expression_levels form ≤ expression_levels e
 
-pub ended_again : (e : ExpressionForm) → Kept expressions e → (ts us : List Lexeme) → Takes ts (expression_words (expression_of e) Space ++ semicolon) us → Ended e ts us
+pub ended_again : (e : ExpressionForm) → Kept expressions e → (ts us : List Lexeme) → Takes ts (expression_words (expression_of e) Space ++ semicolon) us
+    → Ended e ts us
 ended_again e kept ts us h =
     let parts = split (expression_words (expression_of e) Space) semicolon ts us h in
     let a = kept.again Space ts parts.0 parts.1 in

@@ -18,7 +18,10 @@ use Rattle.sot_tree.specs.declared.tree.Field.{Field}
 use Rattle.sot_tree.specs.declared.tree.Const.{Const}
 use Rattle.sot_tree.specs.declared.tree.Const.TheVariants.{Number as Numeral}
 use Rattle.sot_expression.specs.Lexemes.{IsNumber, IsName, literal, negative_literal}
-use Rattle.sot_parser.specs.Pieces.{Sign, Named, Digits, spelled_name, spelled_number, name_of, number_of, LiteralForm, plain, negative, spelled_literal, literal_of, SideForm, spelled_side, side_of, RangeForm, spelled_range, range_of, FixForm, spelled_fix, fix_of, ScalarForm, an_int, a_fix, a_bool, spelled_scalar, scalar_of, FieldForm, spelled_field, field_of, ConstForm, a_literal, a_yes, a_no, spelled_const, const_of}
+use Rattle.sot_parser.specs.Pieces.{Sign, Named, Digits, spelled_name, spelled_number, name_of, number_of, LiteralForm, plain, negative, spelled_literal}
+use Rattle.sot_parser.specs.Pieces.{literal_of, SideForm, spelled_side, side_of, RangeForm, spelled_range, range_of, FixForm, spelled_fix, fix_of, ScalarForm}
+use Rattle.sot_parser.specs.Pieces.{an_int, a_fix, a_bool, spelled_scalar, scalar_of, FieldForm, spelled_field, field_of, ConstForm, a_literal, a_yes, a_no}
+use Rattle.sot_parser.specs.Pieces.{spelled_const, const_of}
 use Rattle.sot_print.specs.declared.gap.Gap.{Gap}
 use Rattle.sot_print.specs.declared.gap.Gap.TheVariants.{Touching}
 use Rattle.sot_print.specs.Words.{Word, sign, number}
@@ -83,9 +86,11 @@ negative_formed minus n is text =
 
 -- the numeral of a number token is a number token of the same number
 pub same_literal : (sign : ℕ → ℤ) (t n : Lexeme) → IsRead n → t.text ≡ numeral (mantissa_of n.text) (decimals_of n.text)
-    → unplaced_literal (record { mantissa = sign (mantissa_of t.text); scale = decimals_of t.text; at = nowhere }) ≡ unplaced_literal (record { mantissa = sign (mantissa_of n.text); scale = decimals_of n.text; at = nowhere })
+    → unplaced_literal (record { mantissa = sign (mantissa_of t.text); scale = decimals_of t.text; at = nowhere })
+    ≡ unplaced_literal (record { mantissa = sign (mantissa_of n.text); scale = decimals_of n.text; at = nowhere })
 same_literal sign t n read e =
-    ap₂ (λ m s. unplaced_literal (record { mantissa = sign m; scale = s; at = nowhere })) (ap mantissa_of e ∙ read.mantissa_is) (ap decimals_of e ∙ read.decimals_are)
+    ap₂ (λ m s. unplaced_literal (record { mantissa = sign m; scale = s; at = nowhere })) (ap mantissa_of e ∙ read.mantissa_is)
+    (ap decimals_of e ∙ read.decimals_are)
 
 not_below_zero : (m : ℕ) → int_lt (pos m) (pos 0) ≡ false
 not_below_zero zero = refl
@@ -115,7 +120,8 @@ numbers_keep n more texts =
 
 -- lit
 abbrev pub literals : Production Gap LiteralForm Lit
-literals = record { spelled = spelled_literal; tree = literal_of; unplaced = unplaced_literal; levels = no_level; Holds = formed.IsLiteral; words = literal_words }
+literals =
+    record { spelled = spelled_literal; tree = literal_of; unplaced = unplaced_literal; levels = no_level; Holds = formed.IsLiteral; words = literal_words }
 
 -- the negative literal of a number; that of 0 is written without a sign
 record NegativeAgain (n : Lexeme) (ts us : List Lexeme) : Type 0 where
@@ -132,7 +138,8 @@ negative_again zero n gap ts us read m_is h =
       form = plain (a_number h.1);
       tokens = led h.1 h.2;
       same =
-          ap₂ (λ z s. unplaced_literal (record { mantissa = z; scale = s; at = nowhere })) (ap pos flat ∙ sym (ap (λ k. neg_ℤ (pos k)) m_is)) (ap decimals_of text_is ∙ read.decimals_are);
+          ap₂ (λ z s. unplaced_literal (record { mantissa = z; scale = s; at = nowhere })) (ap pos flat ∙ sym (ap (λ k. neg_ℤ (pos k)) m_is))
+          (ap decimals_of text_is ∙ read.decimals_are);
     }
 negative_again (suc m) n gap ts us read m_is h =
     let text_is : h.2.1.token.text ≡ numeral (mantissa_of n.text) (decimals_of n.text) = h.2.1.text ∙ ap (λ k. numeral k (decimals_of n.text)) (sym m_is) in
@@ -169,7 +176,8 @@ literals_keep (negative minus n) more texts = (negative_kept minus n texts.1.0, 
 abbrev pub sides : Production Gap SideForm Bounds
 sides = record { spelled = spelled_side; tree = side_of; unplaced = unplaced_bounds; levels = no_level; Holds = formed.AreBounds; words = bounds_words }
 
-side_again : (s : SideForm) → Kept literals s.lo → Kept literals s.hi → (gap : Gap) (ts us : List Lexeme) → Takes ts (bounds_words gap (side_of s)) us → Again sides s ts us
+side_again : (s : SideForm) → Kept literals s.lo → Kept literals s.hi → (gap : Gap) (ts us : List Lexeme) → Takes ts (bounds_words gap (side_of s)) us
+    → Again sides s ts us
 side_again s lo hi gap ts us h =
     let parts = split (literal_words gap (literal_of s.lo)) (sign Touching (codes "..") ∷ literal_words Touching (literal_of s.hi)) ts us h in
     let a = lo.again gap ts parts.0 parts.1 in
@@ -190,7 +198,8 @@ sides_keep s more texts =
 
 -- range
 abbrev pub ranges : Production (Unit {0}) RangeForm Bounds
-ranges = record { spelled = spelled_range; tree = range_of; unplaced = unplaced_bounds; levels = no_level; Holds = formed.AreBounds; words = λ _ b. range_words b }
+ranges =
+    record { spelled = spelled_range; tree = range_of; unplaced = unplaced_bounds; levels = no_level; Holds = formed.AreBounds; words = λ _ b. range_words b }
 
 range_again : (r : RangeForm) → Kept sides r.side → (ts us : List Lexeme) → Takes ts (range_words (range_of r)) us → Again ranges r ts us
 range_again r side ts us h =
@@ -233,9 +242,11 @@ fixes_keep f more texts =
 
 -- scalar
 abbrev pub scalars : Production (Unit {0}) ScalarForm Scalar
-scalars = record { spelled = spelled_scalar; tree = scalar_of; unplaced = unplaced_scalar; levels = no_level; Holds = formed.IsScalar; words = λ _ s. scalar_words s }
+scalars =
+    record { spelled = spelled_scalar; tree = scalar_of; unplaced = unplaced_scalar; levels = no_level; Holds = formed.IsScalar; words = λ _ s. scalar_words s }
 
-fixed_again : (f : FixForm) (r : RangeForm) → Kept fixes f → Kept ranges r → (ts us : List Lexeme) → Takes ts (scalar_words (Fix (fix_of f) (range_of r))) us → Again scalars (a_fix f r) ts us
+fixed_again : (f : FixForm) (r : RangeForm) → Kept fixes f → Kept ranges r → (ts us : List Lexeme) → Takes ts (scalar_words (Fix (fix_of f) (range_of r))) us
+    → Again scalars (a_fix f r) ts us
 fixed_again f r scale range ts us h =
     let parts = split (fixed_words (fix_of f)) (range_words (range_of r)) ts us h in
     let a = scale.again tt ts parts.0 parts.1 in

@@ -3,7 +3,8 @@ use Rattle.std.proofs.Common.{◌≡◌, ℕ, ◌≤◌, max, List, [], ◌∷�
 use Rattle.std.proofs.lemmas.Int.{clamps}
 use Rattle.std.proofs.Math.Nat.{le_refl}
 use Rattle.sot_text.specs.Reading.{Lexeme}
-use Rattle.sot_parser.specs.Pieces.{each, maybe, Further, Separated, spelled_further, spelled_separated, further_of, separated_of, ClauseForm, spelled_clause, clause_of, clause_or_none}
+use Rattle.sot_parser.specs.Pieces.{each, maybe, Further, Separated, spelled_further, spelled_separated, further_of, separated_of, ClauseForm, spelled_clause}
+use Rattle.sot_parser.specs.Pieces.{clause_of, clause_or_none}
 use Rattle.sot_parser.specs.Declarations.{most}
 use Rattle.sot_print.specs.declared.gap.Gap.{Gap}
 use Rattle.sot_print.specs.declared.gap.Gap.TheVariants.{Space}
@@ -30,8 +31,10 @@ further_items p = record {
   words = λ gap xs. items_from p.words gap false xs;
 }
 
-further_again : {F T : Type 0} (p : Production Gap F T) (f : Further (codes ",") F) (fs : List (Further (codes ",") F)) → Kept p f.item → Kept (further_items p) fs
-    → (gap : Gap) (ts us : List Lexeme) → Takes ts (items_from p.words gap false (p.tree f.item ∷ map (further_of p.tree) fs)) us → Again (further_items p) (f ∷ fs) ts us
+further_again : {F T : Type 0} (p : Production Gap F T) (f : Further (codes ",") F) (fs : List (Further (codes ",") F)) → Kept p f.item
+    → Kept (further_items p) fs
+    → (gap : Gap) (ts us : List Lexeme) → Takes ts (items_from p.words gap false (p.tree f.item ∷ map (further_of p.tree) fs)) us
+    → Again (further_items p) (f ∷ fs) ts us
 further_again p f fs item others gap ts us h =
     let parts = split (p.words Space (p.tree f.item)) (items_from p.words gap false (map (further_of p.tree) fs)) h.0 us h.2 in
     let a = item.again Space h.0 parts.0 parts.1 in
@@ -127,7 +130,8 @@ pub record IsOptional {F T : Type 0} (text : List ℕ) (p : Production Gap F T) 
   pub none : words [] ≡ []
   pub some : (x : T) (xs : List T) → words (x ∷ xs) ≡ clause text (listed p.words Space (x ∷ xs))
 
-pub optional_keep : {F T : Type 0} (text : List ℕ) (p : Production Gap F T) (words : List T → List Word) → IsOptional text p words → Keeps p → Keeps (optional text p words)
+pub optional_keep : {F T : Type 0} (text : List ℕ) (p : Production Gap F T) (words : List T → List Word) → IsOptional text p words → Keeps p
+    → Keeps (optional text p words)
 optional_keep text p words is keeps None more texts = (
   record {
     holds = tt;

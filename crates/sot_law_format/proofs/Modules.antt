@@ -25,7 +25,8 @@ abbrev pub modules : Production Gap ModuleForm Module
 modules = record { spelled = spelled_module; tree = module_of; unplaced = unplaced_module; levels = no_level; Holds = formed.IsModule; words = module_words }
 
 abbrev module_with : Ident → Ident → Ident → Lit × Lit → Ident → List Area → List Area → Module
-module_with own ac sc timing plant safe safer = record { name = own; ac = ac; sc = sc; period = timing.0; offset = timing.1; plant = plant; safe = safe; safer = safer }
+module_with own ac sc timing plant safe safer =
+    record { name = own; ac = ac; sc = sc; period = timing.0; offset = timing.1; plant = plant; safe = safe; safer = safer }
 
 record KeptModule (m : ModuleForm) : Type 0 where
   ac_kept : Kept (roles (codes "ac")) m.ac
@@ -95,7 +96,17 @@ modules_keep m more texts =
     let e = bounds_keep (codes "safe") m.safe after_safe d.1 in
     let f = bounds_keep (codes "safer") m.safer (m.closing.token ∷ more) e.1 in (
       record {
-        holds = record { name = name_text m.name.token m.name.is texts.1.0; ac = a.0.holds; sc = b.0.holds; period = c.0.holds.0; offset = c.0.holds.1; plant = d.0.holds; safe = e.0.holds; safer = f.0.holds };
+        holds =
+            record {
+              name = name_text m.name.token m.name.is texts.1.0;
+              ac = a.0.holds;
+              sc = b.0.holds;
+              period = c.0.holds.0;
+              offset = c.0.holds.1;
+              plant = d.0.holds;
+              safe = e.0.holds;
+              safer = f.0.holds;
+            };
         again = module_again m (record { ac_kept = a.0; sc_kept = b.0; timing_kept = c.0; plant_kept = d.0; safe_kept = e.0; safer_kept = f.0 });
       },
       f.1.1,

@@ -7,11 +7,14 @@ use Rattle.sot_tree.specs.declared.tree.Lit.{Lit}
 use Rattle.sot_tree.specs.Trees.{Block, Local, Node}
 use Rattle.sot_parser.specs.Pieces.{Keyword, Sign, Named, name_of, each, ClauseForm, clause_or_none, TimingForm, spelled_timing, timing_of}
 use Rattle.sot_parser.specs.Statements.{spelled_block, block_of, block_levels}
-use Rattle.sot_parser.specs.Declarations.{spelled_names, spelled_local, local_of, CodedForm, spelled_coded, coded_of, ExternalForm, spelled_external, external_of}
+use Rattle.sot_parser.specs.Declarations.{spelled_names, spelled_local, local_of, CodedForm, spelled_coded, coded_of, ExternalForm, spelled_external}
+use Rattle.sot_parser.specs.Declarations.{external_of}
 use Rattle.sot_print.specs.declared.gap.Gap.{Gap}
 use Rattle.sot_print.specs.declared.gap.Gap.TheVariants.{Space}
 use Rattle.sot_print.specs.Words.{Word, keyword, sign, name}
-use Rattle.sot_print.specs.Canonical.{clause, closing, shape_words, start_words, topic_head_words, topic_words, state_words, names_clause, noise_clause, next_clause, plant_clauses, plant_words, timing_words, local_clause, node_head_words, node_clauses, do_clause, node_words, region_words, control_clauses, region_clauses, module_words, declaration_words, own_line, declarations_from}
+use Rattle.sot_print.specs.Canonical.{clause, closing, shape_words, start_words, topic_head_words, topic_words, state_words, names_clause, noise_clause}
+use Rattle.sot_print.specs.Canonical.{next_clause, plant_clauses, plant_words, timing_words, local_clause, node_head_words, node_clauses, do_clause, node_words}
+use Rattle.sot_print.specs.Canonical.{region_words, control_clauses, region_clauses, module_words, declaration_words, own_line, declarations_from}
 use Rattle.sot_print.specs.Canonical as canonical
 use Rattle.sot_tree.specs.Formed as formed
 use Rattle.sot_law_format.specs.Unplaced.{unplaced_name, unplaced_literal, unplaced_node}
@@ -57,9 +60,12 @@ abbrev fronts : (text : List ℕ) → Production Gap (NodeFront text) FrontTree
 fronts text = record {
   spelled = spelled_front;
   tree = front_tree;
-  unplaced = λ t. front_with (unplaced_name t.own) (unplaced_literal t.timing.0, unplaced_literal t.timing.1) (map unplaced_name t.reads) (map unplaced_name t.writes);
+  unplaced =
+      λ t. front_with (unplaced_name t.own) (unplaced_literal t.timing.0, unplaced_literal t.timing.1) (map unplaced_name t.reads) (map unplaced_name t.writes);
   levels = no_level;
-  Holds = λ t. formed.IsName t.own × formed.IsNumber t.timing.0 × formed.IsNumber t.timing.1 × formed.Each formed.IsName t.reads × formed.Each formed.IsName t.writes;
+  Holds =
+      λ t. formed.IsName t.own × formed.IsNumber t.timing.0 × formed.IsNumber t.timing.1 × formed.Each formed.IsName t.reads
+      × formed.Each formed.IsName t.writes;
   words = λ gap t. front_words gap text t;
 }
 
@@ -146,7 +152,9 @@ coded_again n front local_rows body gap ts us h =
         body = c.form;
         closing = a_sign last.1;
       };
-      tokens = onto (spelled_front a.form) a.tokens (onto (each spelled_local b.form) b.tokens (led do_.1 (onto (spelled_block c.form) c.tokens (led last.1 last.2))));
+      tokens =
+          onto (spelled_front a.form) a.tokens (onto (each spelled_local b.form) b.tokens
+          (led do_.1 (onto (spelled_block c.form) c.tokens (led last.1 last.2))));
       same = also (ap₂ node_with a.same b.same) (ap (λ (x : Block). Some x) c.same);
       nests = c.nests;
     }
@@ -159,7 +167,17 @@ coded_keep n more texts =
     let c = bodies_keep n.body (n.closing.token ∷ more) b.1.1 in
     let of_front = a.0.holds in (
       record {
-        holds = record { name = of_front.0; period = of_front.1; offset = of_front.2; reads = of_front.3; writes = of_front.4; locals = b.0.holds; body = c.0.holds; external = λ none. absurd cc };
+        holds =
+            record {
+              name = of_front.0;
+              period = of_front.1;
+              offset = of_front.2;
+              reads = of_front.3;
+              writes = of_front.4;
+              locals = b.0.holds;
+              body = c.0.holds;
+              external = λ none. absurd cc;
+            };
         again = coded_again n a.0 b.0 c.0;
       },
       c.1.1,
@@ -170,7 +188,8 @@ abbrev external_front : ExternalForm → NodeFront (codes "external")
 external_front n = record { word = n.word; own = n.name; timing = n.timing; opening = n.opening; reads = n.reads; writes = n.writes }
 
 abbrev pub external_nodes : Production Gap ExternalForm Node
-external_nodes = record { spelled = spelled_external; tree = external_of; unplaced = unplaced_node; levels = no_level; Holds = formed.IsNode; words = node_words }
+external_nodes =
+    record { spelled = spelled_external; tree = external_of; unplaced = unplaced_node; levels = no_level; Holds = formed.IsNode; words = node_words }
 
 external_again : (n : ExternalForm) → Kept (fronts (codes "external")) (external_front n)
     → (gap : Gap) (ts us : List Lexeme) → Takes ts (node_words gap (external_of n)) us → Again external_nodes n ts us
@@ -203,7 +222,17 @@ external_keep n more texts =
     let a = fronts_keep (codes "external") (external_front n) (n.closing.token ∷ more) texts in
     let of_front = a.0.holds in (
       record {
-        holds = record { name = of_front.0; period = of_front.1; offset = of_front.2; reads = of_front.3; writes = of_front.4; locals = tt; body = tt; external = λ _. refl };
+        holds =
+            record {
+              name = of_front.0;
+              period = of_front.1;
+              offset = of_front.2;
+              reads = of_front.3;
+              writes = of_front.4;
+              locals = tt;
+              body = tt;
+              external = λ _. refl;
+            };
         again = external_again n a.0;
       },
       a.1.1,

@@ -12,7 +12,8 @@ use Rattle.sot_tree.specs.Trees.{Tree, number, binary, rest, negated, denied, ch
 use Rattle.sot_expression.specs.Lexemes.{IsSign, IsNumber, literal, negative_literal}
 use Rattle.sot_parser.specs.Pieces.{LiteralForm, plain, negative, spelled_literal, literal_of}
 use Rattle.sot_expression.specs.Operators.{tier_of_op}
-use Rattle.sot_expression.specs.Phrases.{Phrase, a_number, a_truth, a_name, a_field, a_group, an_abs, a_pair, a_clamp, a_rescale, a_minus, a_rest, a_join, a_not, an_if, spelled, IsOperator, IsPhrase, with_minus, tree_of, is_numeral, levels_of}
+use Rattle.sot_expression.specs.Phrases.{Phrase, a_number, a_truth, a_name, a_field, a_group, an_abs, a_pair, a_clamp, a_rescale, a_minus, a_rest, a_join}
+use Rattle.sot_expression.specs.Phrases.{a_not, an_if, spelled, IsOperator, IsPhrase, with_minus, tree_of, is_numeral, levels_of}
 use Rattle.sot_print.specs.declared.gap.Gap.{Gap}
 use Rattle.sot_print.specs.declared.gap.Gap.TheVariants.{Touching, Space}
 use Rattle.sot_print.specs.Words.{Word, keyword, sign}
@@ -58,7 +59,8 @@ some_tier Or = omega arith
 join_again : (op : Op) (f : Phrase) (t : Lexeme) (g : Phrase) → KeptPhrase f → KeptPhrase g
     → (gap : Gap) (ts us : List Lexeme) → Takes ts (expression_words (tree_of (a_join op f t g)) gap) us → Rewritten (a_join op f t g) ts us
 join_again op f t g left right gap ts us h =
-    let parts = split (operand_words (tree_of f) gap (expression_words (tree_of f))) (operator op ∷ operand_words (tree_of g) Space (expression_words (tree_of g))) ts us h in
+    let parts = split (operand_words (tree_of f) gap (expression_words (tree_of f)))
+    (operator op ∷ operand_words (tree_of g) Space (expression_words (tree_of g))) ts us h in
     let a = operand_again f left gap ts parts.0 parts.1 in
     let word = parts.2 in
     let b = operand_again g right Space word.0 us word.2 in
@@ -95,7 +97,8 @@ rest_again f t n is left by gap ts us h =
 pub kept_rest : (f : Phrase) (t n : Lexeme) (is : IsNumber n) → KeptPhrase f → Kept numbers (record { token = n; is = is }) → KeptPhrase (a_rest f t n)
 kept_rest f t n is left by = record { holds = (left.holds, by.holds); again = rest_again f t n is left by }
 
-not_again : (t : Lexeme) (f : Phrase) → KeptPhrase f → (gap : Gap) (ts us : List Lexeme) → Takes ts (expression_words (tree_of (a_not t f)) gap) us → Rewritten (a_not t f) ts us
+not_again : (t : Lexeme) (f : Phrase) → KeptPhrase f → (gap : Gap) (ts us : List Lexeme) → Takes ts (expression_words (tree_of (a_not t f)) gap) us
+    → Rewritten (a_not t f) ts us
 not_again t f kept gap ts us h =
     let a = grouped_again f kept Space h.0 us h.2 in
     record {
@@ -134,7 +137,8 @@ choice_again t c u f v g cond_kept yes_kept no_kept gap ts us h =
       first_tier = λ e. absurd cc;
     }
 
-pub kept_choice : (t : Lexeme) (c : Phrase) (u : Lexeme) (f : Phrase) (v : Lexeme) (g : Phrase) → KeptPhrase c → KeptPhrase f → KeptPhrase g → KeptPhrase (an_if t c u f v g)
+pub kept_choice : (t : Lexeme) (c : Phrase) (u : Lexeme) (f : Phrase) (v : Lexeme) (g : Phrase) → KeptPhrase c → KeptPhrase f → KeptPhrase g
+    → KeptPhrase (an_if t c u f v g)
 kept_choice t c u f v g cond_kept yes_kept no_kept = record {
   holds = (cond_kept.holds, yes_kept.holds, no_kept.holds);
   again = choice_again t c u f v g cond_kept yes_kept no_kept;
@@ -181,7 +185,8 @@ kept_negated t f other kept =
           minus_again t f other kept gap ts us (subst Q (no_numeral t f other) h);
     }
 
-literal_again : (t n : Lexeme) (form : LiteralForm) (ts us : List Lexeme) → ts ≡ spelled_literal form us → unplaced_literal (literal_of form) ≡ unplaced_literal (negative_literal t n)
+literal_again : (t n : Lexeme) (form : LiteralForm) (ts us : List Lexeme) → ts ≡ spelled_literal form us
+    → unplaced_literal (literal_of form) ≡ unplaced_literal (negative_literal t n)
     → Rewritten (a_minus t (a_number n)) ts us
 literal_again t n (plain d) ts us tokens same = record {
   form = a_number d.token;
@@ -212,6 +217,7 @@ kept_negative t n minus is text =
           literal_again t n a.form ts us a.tokens a.same;
     }
 
-pub kept_minus : (t : Lexeme) (f : Phrase) (more : List Lexeme) → IsSign (codes "-") t → IsPhrase f → AreTexts (spelled f more) → KeptPhrase f → KeptPhrase (a_minus t f)
+pub kept_minus : (t : Lexeme) (f : Phrase) (more : List Lexeme) → IsSign (codes "-") t → IsPhrase f → AreTexts (spelled f more) → KeptPhrase f
+    → KeptPhrase (a_minus t f)
 kept_minus t (a_number n) more minus is texts kept = kept_negative t n minus is texts.0
 kept_minus t f more minus is texts kept = kept_negated t f refl kept

@@ -56,7 +56,8 @@ pub record Grouped (f : Phrase) (ts us : List Lexeme) : Type 0 where
   pub same : unplaced_tree (tree_of inner) ≡ unplaced_tree (tree_of f)
   pub nests : levels_of (a_group opening inner closing) ≤ levels_of f
 
-pub grouped_again : (f : Phrase) → KeptPhrase f → (gap : Gap) (ts us : List Lexeme) → Takes ts (grouped_words gap (expression_words (tree_of f))) us → Grouped f ts us
+pub grouped_again : (f : Phrase) → KeptPhrase f → (gap : Gap) (ts us : List Lexeme) → Takes ts (grouped_words gap (expression_words (tree_of f))) us
+    → Grouped f ts us
 grouped_again f kept gap ts us h =
     let parts = split (expression_words (tree_of f) Touching) (sign Touching (codes ")") ∷ []) h.0 us h.2 in
     let a = kept.again Touching h.0 parts.0 parts.1 in
@@ -72,7 +73,8 @@ grouped_again f kept gap ts us h =
       nests = subst P (sym (cond-false (is_group a.form) (1 + levels_of a.form) (levels_of a.form) a.ungrouped)) a.nests;
     }
 
-pub operand_again : (f : Phrase) → KeptPhrase f → (gap : Gap) (ts us : List Lexeme) → Takes ts (operand_words (tree_of f) gap (expression_words (tree_of f))) us → Operand f ts us
+pub operand_again : (f : Phrase) → KeptPhrase f → (gap : Gap) (ts us : List Lexeme) → Takes ts (operand_words (tree_of f) gap (expression_words (tree_of f))) us
+    → Operand f ts us
 operand_again f kept gap ts us h =
     let P : List Word → Type 0 = λ ws. Takes ts ws us in
     elim (cases_Bool (is_plain (tree_of f))) [
@@ -92,17 +94,43 @@ kept_number n is text =
       holds = kept.holds.0;
       again = λ gap ts us h.
           let a = kept.again gap ts us h in
-          record { form = a_number a.form.token; is = a.form.is; tokens = a.tokens; same = ap number a.same; nests = le_refl 1; ungrouped = refl; first_tier = λ _. refl };
+          record {
+            form = a_number a.form.token;
+            is = a.form.is;
+            tokens = a.tokens;
+            same = ap number a.same;
+            nests = le_refl 1;
+            ungrouped = refl;
+            first_tier = λ _. refl;
+          };
     }
 
 pub kept_truth : (value : Bool) (t : Lexeme) → KeptPhrase (a_truth value t)
 kept_truth true t = record {
   holds = tt;
-  again = λ gap ts us h. record { form = a_truth true h.1.token; is = is_a_keyword h.1; tokens = led h.1 h.2; same = refl; nests = le_refl 1; ungrouped = refl; first_tier = λ _. refl };
+  again =
+      λ gap ts us h. record {
+        form = a_truth true h.1.token;
+        is = is_a_keyword h.1;
+        tokens = led h.1 h.2;
+        same = refl;
+        nests = le_refl 1;
+        ungrouped = refl;
+        first_tier = λ _. refl;
+      };
 }
 kept_truth false t = record {
   holds = tt;
-  again = λ gap ts us h. record { form = a_truth false h.1.token; is = is_a_keyword h.1; tokens = led h.1 h.2; same = refl; nests = le_refl 1; ungrouped = refl; first_tier = λ _. refl };
+  again =
+      λ gap ts us h. record {
+        form = a_truth false h.1.token;
+        is = is_a_keyword h.1;
+        tokens = led h.1 h.2;
+        same = refl;
+        nests = le_refl 1;
+        ungrouped = refl;
+        first_tier = λ _. refl;
+      };
 }
 
 pub kept_name : (n : Lexeme) → IsName n → IsTokenText n.kind n.text → KeptPhrase (a_name n)

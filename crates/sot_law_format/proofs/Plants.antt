@@ -11,7 +11,9 @@ use Rattle.sot_print.specs.declared.gap.Gap.{Gap}
 use Rattle.sot_print.specs.declared.gap.Gap.TheVariants.{Space}
 use Rattle.sot_print.specs.Words.{Word}
 use Rattle.sot_print.specs.Leaves.{listed}
-use Rattle.sot_print.specs.Canonical.{clause, closing, shape_words, start_words, topic_head_words, topic_words, state_words, names_clause, noise_clause, next_clause, plant_clauses, plant_words, timing_words, local_clause, node_head_words, node_clauses, do_clause, node_words, region_words, control_clauses, region_clauses, module_words, declaration_words, own_line, declarations_from}
+use Rattle.sot_print.specs.Canonical.{clause, closing, shape_words, start_words, topic_head_words, topic_words, state_words, names_clause, noise_clause}
+use Rattle.sot_print.specs.Canonical.{next_clause, plant_clauses, plant_words, timing_words, local_clause, node_head_words, node_clauses, do_clause, node_words}
+use Rattle.sot_print.specs.Canonical.{region_words, control_clauses, region_clauses, module_words, declaration_words, own_line, declarations_from}
 use Rattle.sot_print.specs.Canonical as canonical
 use Rattle.sot_tree.specs.Formed as formed
 use Rattle.sot_law_format.specs.Unplaced.{nowhere, unplaced_plant}
@@ -96,7 +98,16 @@ plants_keep p more texts =
     let d = noise_clauses p.noise after_noise c.1 in
     let e = rows_keep nexts nexts_keep p.next (p.closing.token ∷ more) d.1 in (
       record {
-        holds = record { name = name_text p.name.token p.name.is texts.1.0; some = a.0.holds.0; states = a.0.holds.1; inputs = b.0.holds; sees = c.0.holds; noise = d.0.holds; next = e.0.holds };
+        holds =
+            record {
+              name = name_text p.name.token p.name.is texts.1.0;
+              some = a.0.holds.0;
+              states = a.0.holds.1;
+              inputs = b.0.holds;
+              sees = c.0.holds;
+              noise = d.0.holds;
+              next = e.0.holds;
+            };
         again = plant_again p (record { states_kept = a.0; inputs_kept = b.0; sees_kept = c.0; noise_kept = d.0; next_kept = e.0 });
       },
       e.1.1,

@@ -5,7 +5,8 @@ use Rattle.sot_text.specs.Reading.{Lexeme}
 use Rattle.sot_tree.specs.Trees.{Block, Form, Start, Topic, Next, Local, Plant, Node, Area, Module, Declaration}
 use Rattle.sot_tree.specs.Trees as trees
 use Rattle.sot_parser.specs.Pieces.{each}
-use Rattle.sot_parser.specs.Declarations.{DeclarationForm, a_topic, a_plant, a_coded, an_external, a_module, spelled_declaration, declaration_of, declaration_levels, most}
+use Rattle.sot_parser.specs.Declarations.{DeclarationForm, a_topic, a_plant, a_coded, an_external, a_module, spelled_declaration, declaration_of}
+use Rattle.sot_parser.specs.Declarations.{declaration_levels, most}
 use Rattle.sot_print.specs.declared.gap.Gap.{Gap}
 use Rattle.sot_print.specs.Canonical.{declaration_words, own_line, declarations_from}
 use Rattle.sot_tree.specs.Formed as formed

@@ -5,7 +5,8 @@ use Rattle.sot_text.specs.Reading.{Lexeme}
 use Rattle.sot_tree.specs.declared.tree.Bounds.{Bounds}
 use Rattle.sot_tree.specs.Trees.{Area}
 use Rattle.sot_parser.specs.Pieces.{each, Further, Separated, spelled_further, spelled_separated, further_of, separated_of, spelled_side, side_of}
-use Rattle.sot_parser.specs.Declarations.{BoxForm, spelled_box, box_of, RegionForm, no_box, some_boxes, spelled_region, region_of, BoundForm, spelled_bound, bound_of}
+use Rattle.sot_parser.specs.Declarations.{BoxForm, spelled_box, box_of, RegionForm, no_box, some_boxes, spelled_region, region_of, BoundForm, spelled_bound}
+use Rattle.sot_parser.specs.Declarations.{bound_of}
 use Rattle.sot_print.specs.declared.gap.Gap.TheVariants.{Touching}
 use Rattle.sot_print.specs.Words.{sign}
 use Rattle.sot_print.specs.Leaves.{listed, bounds_words}
@@ -121,7 +122,8 @@ bounds text = record {
   words = λ _ as_. clause text (region_words as_);
 }
 
-bound_again : (text : List ℕ) (b : BoundForm text) → Kept regions b.region → (ts us : List Lexeme) → Takes ts (clause text (region_words (bound_of b))) us → Again (bounds text) b ts us
+bound_again : (text : List ℕ) (b : BoundForm text) → Kept regions b.region → (ts us : List Lexeme) → Takes ts (clause text (region_words (bound_of b))) us
+    → Again (bounds text) b ts us
 bound_again text b region ts us h =
     let parts = split (region_words (bound_of b)) semicolon h.0 us h.2 in
     let a = region.again tt h.0 parts.0 parts.1 in

@@ -8,7 +8,10 @@ use Rattle.sot_tree.specs.declared.tree.Ident.{Ident}
 use Rattle.sot_tree.specs.declared.tree.Lit.{Lit}
 use Rattle.sot_tree.specs.Trees.{Tree, Statement, Block, assigned, published, branched, repeated, statement}
 use Rattle.sot_parser.specs.Pieces.{Keyword, Sign, Named, Digits, spelled_number, name_of, number_of, maybe}
-use Rattle.sot_parser.specs.Statements.{ExpressionForm, spelled_expression, expression_of, AssignForm, DotForm, spelled_dot, dot_of, PublishForm, StatementForm, BlockForm, ElseForm, StatementsForm, an_assign, a_publish, an_if, a_repeat, braces, no_else, with_else, no_more, one_more, spelled_statement, spelled_block, spelled_else, spelled_statements, statement_of, block_of, else_of, statements_of, statement_levels, block_levels, else_levels, statements_levels}
+use Rattle.sot_parser.specs.Statements.{ExpressionForm, spelled_expression, expression_of, AssignForm, DotForm, spelled_dot, dot_of, PublishForm, StatementForm}
+use Rattle.sot_parser.specs.Statements.{BlockForm, ElseForm, StatementsForm, an_assign, a_publish, an_if, a_repeat, braces, no_else, with_else, no_more}
+use Rattle.sot_parser.specs.Statements.{one_more, spelled_statement, spelled_block, spelled_else, spelled_statements, statement_of, block_of, else_of}
+use Rattle.sot_parser.specs.Statements.{statements_of, statement_levels, block_levels, else_levels, statements_levels}
 use Rattle.sot_print.specs.declared.gap.Gap.{Gap}
 use Rattle.sot_print.specs.declared.gap.Gap.TheVariants.{Space, Line}
 use Rattle.sot_print.specs.Words.{Word, sign}
@@ -34,7 +37,8 @@ statements = record {
   words = λ indent s. statement_words s indent;
 }
 
-assign_again : (a : AssignForm) → Kept expressions a.value → (indent : ℕ) (ts us : List Lexeme) → Takes ts (statement_words (statement_of (an_assign a)) indent) us → Again statements (an_assign a) ts us
+assign_again : (a : AssignForm) → Kept expressions a.value → (indent : ℕ) (ts us : List Lexeme)
+    → Takes ts (statement_words (statement_of (an_assign a)) indent) us → Again statements (an_assign a) ts us
 assign_again a value indent ts us h =
     let becomes = h.2 in
     let e = ended_again a.value value becomes.0 us becomes.2 in
@@ -68,7 +72,8 @@ references = record {
   words = λ gap r. reference_words gap r.0 r.1;
 }
 
-reference_keeps : (first : Named) (field : Option DotForm) (more : List Lexeme) → AreTexts (first.token ∷ maybe spelled_dot field more) → Kept references (record { first = first; field = field }) × AreTexts more
+reference_keeps : (first : Named) (field : Option DotForm) (more : List Lexeme) → AreTexts (first.token ∷ maybe spelled_dot field more)
+    → Kept references (record { first = first; field = field }) × AreTexts more
 reference_keeps first None more texts = (
   record {
     holds = (name_text first.token first.is texts.0, tt);
@@ -110,7 +115,15 @@ publish_again p target value indent ts us h =
     let e = value.again Space equals.0 outer.0 equals.2 in
     let last = outer.2 in
     record {
-      form = a_publish (record { word = a_keyword h.1; topic = a.form.first; field = a.form.field; equals = a_sign equals.1; value = e.form; semicolon = a_sign last.1 });
+      form =
+          a_publish (record {
+            word = a_keyword h.1;
+            topic = a.form.first;
+            field = a.form.field;
+            equals = a_sign equals.1;
+            value = e.form;
+            semicolon = a_sign last.1;
+          });
       tokens =
           led h.1 (onto (λ vs. a.form.first.token ∷ maybe spelled_dot a.form.field vs) a.tokens (
           led equals.1 (onto (spelled_expression e.form) e.tokens (led last.1 last.2))));
@@ -156,7 +169,8 @@ otherwises = record {
 }
 
 braced_again : (opening : Sign (codes "{")) (body : StatementsForm) (closing : Sign (codes "}")) → Kept blocks body
-    → (indent : ℕ) (ts us : List Lexeme) → Takes ts (braced_words indent (block_words (statements_of body))) us → Again bodies (braces opening body closing) ts us
+    → (indent : ℕ) (ts us : List Lexeme) → Takes ts (braced_words indent (block_words (statements_of body))) us
+    → Again bodies (braces opening body closing) ts us
 braced_again opening body closing kept indent ts us h =
     let parts = split (block_words (statements_of body) (indent + 2)) (sign (Line indent) (codes "}") ∷ []) h.0 us h.2 in
     let a = kept.again (indent + 2) h.0 parts.0 parts.1 in
@@ -184,8 +198,10 @@ kept_else word (braces opening (one_more s rest_) closing) kept = record {
       record { form = with_else (a_keyword h.1) a.form; tokens = led h.1 a.tokens; same = a.same; nests = a.nests };
 }
 
-branch_again : (word : Keyword (codes "if")) (cond : ExpressionForm) (yes_ : BlockForm) (no_ : ElseForm) → Kept expressions cond → Kept bodies yes_ → Kept otherwises no_
-    → (indent : ℕ) (ts us : List Lexeme) → Takes ts (statement_words (statement_of (an_if word cond yes_ no_)) indent) us → Again statements (an_if word cond yes_ no_) ts us
+branch_again : (word : Keyword (codes "if")) (cond : ExpressionForm) (yes_ : BlockForm) (no_ : ElseForm) → Kept expressions cond → Kept bodies yes_
+    → Kept otherwises no_
+    → (indent : ℕ) (ts us : List Lexeme) → Takes ts (statement_words (statement_of (an_if word cond yes_ no_)) indent) us
+    → Again statements (an_if word cond yes_ no_) ts us
 branch_again word cond yes_ no_ cond_kept yes_kept no_kept indent ts us h =
     let of_cond : List Word = expression_words (expression_of cond) Space in
     let of_yes : List Word = braced_words indent (block_words (block_of yes_)) in
@@ -202,14 +218,16 @@ branch_again word cond yes_ no_ cond_kept yes_kept no_kept indent ts us h =
       nests = omega (arith, clamps, a.nests, b.nests, c.nests);
     }
 
-kept_branch : (word : Keyword (codes "if")) (cond : ExpressionForm) (yes_ : BlockForm) (no_ : ElseForm) → Kept expressions cond → Kept bodies yes_ → Kept otherwises no_ → Kept statements (an_if word cond yes_ no_)
+kept_branch : (word : Keyword (codes "if")) (cond : ExpressionForm) (yes_ : BlockForm) (no_ : ElseForm) → Kept expressions cond → Kept bodies yes_
+    → Kept otherwises no_ → Kept statements (an_if word cond yes_ no_)
 kept_branch word cond yes_ no_ cond_kept yes_kept no_kept = record {
   holds = (cond_kept.holds, yes_kept.holds, no_kept.holds);
   again = branch_again word cond yes_ no_ cond_kept yes_kept no_kept;
 }
 
 repeat_again : (word : Keyword (codes "repeat")) (times : Digits) (body : BlockForm) → Kept numbers times → Kept bodies body
-    → (indent : ℕ) (ts us : List Lexeme) → Takes ts (statement_words (statement_of (a_repeat word times body)) indent) us → Again statements (a_repeat word times body) ts us
+    → (indent : ℕ) (ts us : List Lexeme) → Takes ts (statement_words (statement_of (a_repeat word times body)) indent) us
+    → Again statements (a_repeat word times body) ts us
 repeat_again word times body count kept indent ts us h =
     let parts = split (literal_words Space (number_of times)) (braced_words indent (block_words (block_of body))) h.0 us h.2 in
     let a = count.again Space h.0 parts.0 parts.1 in
@@ -221,7 +239,8 @@ repeat_again word times body count kept indent ts us h =
       nests = omega (arith, b.nests);
     }
 
-kept_repeat : (word : Keyword (codes "repeat")) (times : Digits) (body : BlockForm) → Kept numbers times → Kept bodies body → Kept statements (a_repeat word times body)
+kept_repeat : (word : Keyword (codes "repeat")) (times : Digits) (body : BlockForm) → Kept numbers times → Kept bodies body
+    → Kept statements (a_repeat word times body)
 kept_repeat word times body count kept = record { holds = (count.holds, kept.holds); again = repeat_again word times body count kept }
 
 row_again : (s : StatementForm) (rest_ : StatementsForm) → Kept statements s → Kept blocks rest_

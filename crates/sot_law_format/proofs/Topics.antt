@@ -34,7 +34,8 @@ topic_words_ = record {
   words = topic_head_words;
 }
 
-topic_word_keeps : (environment : Option (Keyword (codes "environment"))) (word : Keyword (codes "topic")) (more : List Lexeme) → AreTexts (spelled_outside environment (word.token ∷ more))
+topic_word_keeps : (environment : Option (Keyword (codes "environment"))) (word : Keyword (codes "topic")) (more : List Lexeme)
+    → AreTexts (spelled_outside environment (word.token ∷ more))
     → Kept topic_words_ (record { environment = environment; word = word }) × AreTexts more
 topic_word_keeps None word more texts = (
   record {
@@ -48,7 +49,12 @@ topic_word_keeps (Some outside) word more texts = (
     holds = tt;
     again = λ gap ts us h.
         let second = h.2 in
-        record { form = record { environment = Some (a_keyword h.1); word = a_keyword second.1 }; tokens = led h.1 (led second.1 second.2); same = refl; nests = le_refl 0 };
+        record {
+          form = record { environment = Some (a_keyword h.1); word = a_keyword second.1 };
+          tokens = led h.1 (led second.1 second.2);
+          same = refl;
+          nests = le_refl 0;
+        };
   },
   texts.1.1,
 )

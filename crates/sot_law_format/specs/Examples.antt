@@ -1,5 +1,7 @@
--- Worked programs that are the same, and others that are not, as statements that functions of this crate prove.
-use Rattle.std.specs.Prelude.{◌≡◌, ℕ, pos, neg_ℤ, ℤ, Bool, true, false, List, [], ◌∷◌, Option, None, Some, codes}
+-- Worked programs that are the same, and others that are not, as statements that functions of this
+-- crate prove.
+use Rattle.std.specs.Prelude.{◌≡◌, ℕ, pos, neg_ℤ, ℤ, Bool, true, false, List, [], ◌∷◌, Option, None}
+use Rattle.std.specs.Prelude.{Some, codes}
 use Rattle.sot_text.specs.declared.token.Span.{Span}
 use Rattle.sot_tree.specs.declared.operator.Op.TheVariants.{Add, Less}
 use Rattle.sot_tree.specs.declared.operator.Func.TheVariants.{Abs}
@@ -8,7 +10,11 @@ use Rattle.sot_tree.specs.declared.tree.Lit.{Lit}
 use Rattle.sot_tree.specs.declared.tree.Bounds.{Bounds}
 use Rattle.sot_tree.specs.declared.tree.Scalar.TheVariants.{Int, Fix, Bool as Truths}
 use Rattle.sot_tree.specs.declared.tree.Const.TheVariants.{Number, Truth}
-use Rattle.sot_tree.specs.Trees.{Tree, number, truth, named, binary, rest, negated, denied, called, rescaled, chosen, no_tree, one_more, Statement, Block, assigned, published, branched, repeated, no_statement, statement, one, fields, one_value, values, Topic, Plant, Node, Module, Declaration, a_topic, a_plant, a_node, a_module, Program}
+use Rattle.sot_tree.specs.Trees.{Tree, number, truth, named, binary, rest, negated, denied, called}
+use Rattle.sot_tree.specs.Trees.{rescaled, chosen, no_tree, one_more, Statement, Block, assigned}
+use Rattle.sot_tree.specs.Trees.{published, branched, repeated, no_statement, statement, one}
+use Rattle.sot_tree.specs.Trees.{fields, one_value, values, Topic, Plant, Node, Module, Declaration}
+use Rattle.sot_tree.specs.Trees.{a_topic, a_plant, a_node, a_module, Program}
 use Rattle.sot_parser.specs.Pieces.{Keyword, Sign}
 use Rattle.sot_parser.specs.Statements.{braces, no_else, with_else, no_more, else_of}
 use Rattle.sot_law_format.specs.Unplaced.{nowhere, AreSame}
@@ -29,23 +35,34 @@ x at = named (ident at (codes "x")) None
 abbrev pub expression : Span → Tree
 expression at =
     chosen (denied (truth true at) at) (negated (rest (x at) (whole at 2) at) at)
-    (called Abs (one_more (binary Add (rescaled (number (whole at 5)) (whole at 1) at) (named (ident at (codes "p")) (Some (ident at (codes "y")))) at) no_tree) at) at
+    (called Abs (one_more (binary Add (rescaled (number (whole at 5)) (whole at 1) at)
+    (named (ident at (codes "p")) (Some (ident at (codes "y")))) at) no_tree) at) at
 
 -- every kind of statement
 abbrev pub body : Span → Block
 body at =
     statement (assigned (ident at (codes "x")) (expression at)) (
-    statement (branched (truth true at) (statement (published (ident at (codes "p")) (Some (ident at (codes "y"))) (x at)) no_statement) no_statement at) (
+    statement (branched (truth true at)
+    (statement (published (ident at (codes "p")) (Some (ident at (codes "y"))) (x at))
+    no_statement) no_statement at) (
     statement (repeated (whole at 3) no_statement at) no_statement))
 
 abbrev pub topic : Span → Bool → List ℕ → Topic
-topic at outside name = record { outside = outside; name = ident at name; shape = one (Int (bounds at)); init = one_value (Number (whole at 0)) }
+topic at outside name =
+    record {
+      outside = outside;
+      name = ident at name;
+      shape = one (Int (bounds at));
+      init = one_value (Number (whole at 0));
+    }
 
 abbrev pub record_topic : Span → Topic
 record_topic at = record {
   outside = true;
   name = ident at (codes "p");
-  shape = fields (record { name = ident at (codes "y"); scalar = Fix (whole at 2) (bounds at) } ∷ record { name = ident at (codes "on"); scalar = Truths at } ∷ []);
+  shape =
+      fields (record { name = ident at (codes "y"); scalar = Fix (whole at 2) (bounds at) } ∷ record
+      { name = ident at (codes "on"); scalar = Truths at } ∷ []);
   init = values (Number (whole at 0) ∷ Truth false at ∷ []) at;
 }
 
@@ -67,7 +84,9 @@ node at code = record {
   offset = whole at 0;
   reads = ident at (codes "p") ∷ [];
   writes = ident at (codes "x") ∷ [];
-  locals = record { name = ident at (codes "x"); scalar = Int (bounds at); init = Number (whole at 0) } ∷ [];
+  locals =
+      record { name = ident at (codes "x"); scalar = Int (bounds at); init = Number (whole at 0) } ∷
+      [];
   body = code;
 }
 
@@ -86,7 +105,9 @@ module_ at = record {
 -- every kind of declaration
 abbrev pub program : Span → Program
 program at = record {
-  decls = a_topic (topic at false (codes "x")) ∷ a_topic (record_topic at) ∷ a_plant (plant at) ∷ a_node (node at (Some (body at))) ∷ a_node (node at None) ∷ a_module (module_ at) ∷ [];
+  decls =
+      a_topic (topic at false (codes "x")) ∷ a_topic (record_topic at) ∷ a_plant (plant at) ∷ a_node
+      (node at (Some (body at))) ∷ a_node (node at None) ∷ a_module (module_ at) ∷ [];
 }
 
 -- a program is the same wherever its parts stand
@@ -112,28 +133,45 @@ AreOther p q = AreSame p q → ⊥
 -- names, numbers with their signs and decimals, and operators count
 abbrev pub WordsCount : Type 0
 WordsCount =
-    AreOther (alone (a_topic (topic nowhere false (codes "x")))) (alone (a_topic (topic nowhere false (codes "y"))))
-    × AreOther (literal (pos 5) 0) (literal (pos 6) 0) × AreOther (literal (pos 5) 0) (literal (neg_ℤ (pos 5)) 0) × AreOther (literal (pos 5) 0) (literal (pos 50) 1)
+    AreOther (alone (a_topic (topic nowhere false (codes "x"))))
+    (alone (a_topic (topic nowhere false (codes "y"))))
+    × AreOther (literal (pos 5) 0) (literal (pos 6) 0)
+    × AreOther (literal (pos 5) 0) (literal (neg_ℤ (pos 5)) 0)
+    × AreOther (literal (pos 5) 0) (literal (pos 50) 1)
     × AreOther (literal (pos 5) 0) (literal (pos 5) 1)
-    × AreOther (sets (binary Add (x nowhere) (x nowhere) nowhere)) (sets (binary Less (x nowhere) (x nowhere) nowhere))
+    × AreOther (sets (binary Add (x nowhere) (x nowhere) nowhere))
+    (sets (binary Less (x nowhere) (x nowhere) nowhere))
 
--- so do the order of declarations, whether a topic is the environment's, and whether a node has a body
+-- so do the order of declarations, whether a topic is the environment's, and whether a node has a
+-- body
 abbrev pub DeclarationsCount : Type 0
 DeclarationsCount =
-    AreOther (record { decls = a_topic (topic nowhere false (codes "x")) ∷ a_topic (topic nowhere false (codes "y")) ∷ [] })
-    (record { decls = a_topic (topic nowhere false (codes "y")) ∷ a_topic (topic nowhere false (codes "x")) ∷ [] })
-    × AreOther (alone (a_topic (topic nowhere false (codes "x")))) (alone (a_topic (topic nowhere true (codes "x"))))
-    × AreOther (alone (a_node (node nowhere None))) (alone (a_node (node nowhere (Some no_statement))))
+    AreOther (record {
+      decls = a_topic (topic nowhere false (codes "x")) ∷ a_topic
+          (topic nowhere false (codes "y")) ∷ [];
+    })
+    (record {
+      decls = a_topic (topic nowhere false (codes "y")) ∷ a_topic
+          (topic nowhere false (codes "x")) ∷ [];
+    })
+    × AreOther (alone (a_topic (topic nowhere false (codes "x"))))
+    (alone (a_topic (topic nowhere true (codes "x"))))
+    × AreOther (alone (a_node (node nowhere None)))
+    (alone (a_node (node nowhere (Some no_statement))))
     × AreOther (record { decls = [] }) (alone (a_topic (topic nowhere false (codes "x"))))
 
 -- and what stands behind `else`, and a negation of a number is not the negative number
 abbrev pub BranchesCount : Type 0
 BranchesCount =
     AreOther (does (branched (truth true nowhere) no_statement no_statement nowhere))
-    (does (branched (truth true nowhere) no_statement (statement (assigned (ident nowhere (codes "x")) (x nowhere)) no_statement) nowhere))
+    (does (branched (truth true nowhere) no_statement
+    (statement (assigned (ident nowhere (codes "x")) (x nowhere)) no_statement) nowhere))
     × AreOther (sets (negated (number (whole nowhere 5)) nowhere)) (literal (neg_ℤ (pos 5)) 0)
-    × AreOther (sets (x nowhere)) (sets (named (ident nowhere (codes "x")) (Some (ident nowhere (codes "x")))))
+    × AreOther (sets (x nowhere)) (sets
+    (named (ident nowhere (codes "x")) (Some (ident nowhere (codes "x")))))
 
 -- but an empty block behind `else` is the same as no `else`
 abbrev pub EmptyElseIsNone : Type 0
-EmptyElseIsNone = (word : Keyword (codes "else")) (opening : Sign (codes "{")) (closing : Sign (codes "}")) → else_of (with_else word (braces opening no_more closing)) ≡ else_of no_else
+EmptyElseIsNone =
+    (word : Keyword (codes "else")) (opening : Sign (codes "{")) (closing : Sign (codes "}"))
+    → else_of (with_else word (braces opening no_more closing)) ≡ else_of no_else

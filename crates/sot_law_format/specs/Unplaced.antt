@@ -11,7 +11,12 @@ use Rattle.sot_tree.specs.declared.tree.Field.{Field}
 use Rattle.sot_tree.specs.declared.tree.Const.{Const}
 use Rattle.sot_tree.specs.declared.tree.Const.TheVariants.{Number, Truth}
 use Rattle.sot_tree.specs.declared.tree.StateDecl.{StateDecl}
-use Rattle.sot_tree.specs.Trees.{Tree, Trees, number, truth, named, binary, rest, negated, denied, called, rescaled, chosen, no_tree, one_more, Statement, Block, assigned, published, branched, repeated, no_statement, statement, Form, one, fields, Start, one_value, values, Topic, Next, Local, Plant, Node, Area, Module, Declaration, a_topic, a_plant, a_node, a_module, Program}
+use Rattle.sot_tree.specs.Trees.{Tree, Trees, number, truth, named, binary, rest, negated, denied}
+use Rattle.sot_tree.specs.Trees.{called, rescaled, chosen, no_tree, one_more, Statement, Block}
+use Rattle.sot_tree.specs.Trees.{assigned, published, branched, repeated, no_statement, statement}
+use Rattle.sot_tree.specs.Trees.{Form, one, fields, Start, one_value, values, Topic, Next, Local}
+use Rattle.sot_tree.specs.Trees.{Plant, Node, Area, Module, Declaration, a_topic, a_plant, a_node}
+use Rattle.sot_tree.specs.Trees.{a_module, Program}
 
 abbrev pub nowhere : Span
 nowhere = record { line = 0; column = 0 }
@@ -42,13 +47,15 @@ abbrev mutual
   unplaced_tree (number l) = number (unplaced_literal l)
   unplaced_tree (truth value at) = truth value nowhere
   unplaced_tree (named first field) = named (unplaced_name first) (option_map unplaced_name field)
-  unplaced_tree (binary op left right at) = binary op (unplaced_tree left) (unplaced_tree right) nowhere
+  unplaced_tree (binary op left right at) =
+      binary op (unplaced_tree left) (unplaced_tree right) nowhere
   unplaced_tree (rest left by at) = rest (unplaced_tree left) (unplaced_literal by) nowhere
   unplaced_tree (negated part at) = negated (unplaced_tree part) nowhere
   unplaced_tree (denied part at) = denied (unplaced_tree part) nowhere
   unplaced_tree (called func parts at) = called func (unplaced_trees parts) nowhere
   unplaced_tree (rescaled part to at) = rescaled (unplaced_tree part) (unplaced_literal to) nowhere
-  unplaced_tree (chosen cond yes_ no_ at) = chosen (unplaced_tree cond) (unplaced_tree yes_) (unplaced_tree no_) nowhere
+  unplaced_tree (chosen cond yes_ no_ at) =
+      chosen (unplaced_tree cond) (unplaced_tree yes_) (unplaced_tree no_) nowhere
 
   pub unplaced_trees : Trees → Trees
   unplaced_trees no_tree = no_tree
@@ -57,9 +64,12 @@ abbrev mutual
 abbrev mutual
   pub unplaced_statement : Statement → Statement
   unplaced_statement (assigned target value) = assigned (unplaced_name target) (unplaced_tree value)
-  unplaced_statement (published topic field value) = published (unplaced_name topic) (option_map unplaced_name field) (unplaced_tree value)
-  unplaced_statement (branched cond yes_ no_ at) = branched (unplaced_tree cond) (unplaced_block yes_) (unplaced_block no_) nowhere
-  unplaced_statement (repeated times body at) = repeated (unplaced_literal times) (unplaced_block body) nowhere
+  unplaced_statement (published topic field value) =
+      published (unplaced_name topic) (option_map unplaced_name field) (unplaced_tree value)
+  unplaced_statement (branched cond yes_ no_ at) =
+      branched (unplaced_tree cond) (unplaced_block yes_) (unplaced_block no_) nowhere
+  unplaced_statement (repeated times body at) =
+      repeated (unplaced_literal times) (unplaced_block body) nowhere
 
   pub unplaced_block : Block → Block
   unplaced_block no_statement = no_statement
@@ -74,16 +84,28 @@ unplaced_start (one_value c) = one_value (unplaced_const c)
 unplaced_start (values cs at) = values (map unplaced_const cs) nowhere
 
 abbrev pub unplaced_topic : Topic → Topic
-unplaced_topic t = record { outside = t.outside; name = unplaced_name t.name; shape = unplaced_shape t.shape; init = unplaced_start t.init }
+unplaced_topic t =
+    record {
+      outside = t.outside;
+      name = unplaced_name t.name;
+      shape = unplaced_shape t.shape;
+      init = unplaced_start t.init;
+    }
 
 abbrev pub unplaced_state : StateDecl → StateDecl
-unplaced_state s = record { name = unplaced_name s.name; scale = option_map unplaced_literal s.scale }
+unplaced_state s =
+    record { name = unplaced_name s.name; scale = option_map unplaced_literal s.scale }
 
 abbrev pub unplaced_next : Next → Next
 unplaced_next n = record { name = unplaced_name n.name; value = unplaced_tree n.value }
 
 abbrev pub unplaced_local : Local → Local
-unplaced_local l = record { name = unplaced_name l.name; scalar = unplaced_scalar l.scalar; init = unplaced_const l.init }
+unplaced_local l =
+    record {
+      name = unplaced_name l.name;
+      scalar = unplaced_scalar l.scalar;
+      init = unplaced_const l.init;
+    }
 
 abbrev pub unplaced_plant : Plant → Plant
 unplaced_plant p = record {

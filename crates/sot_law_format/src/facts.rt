@@ -1,5 +1,6 @@
 //! Worked programs that are the same, or not.
-ghost use Rattle.sot_law_format.specs.Examples.{PlacesDoNotCount, WordsCount, DeclarationsCount, BranchesCount, EmptyElseIsNone};
+ghost use Rattle.sot_law_format.specs.Examples.{PlacesDoNotCount, WordsCount, DeclarationsCount};
+ghost use Rattle.sot_law_format.specs.Examples.{BranchesCount, EmptyElseIsNone};
 
 /// Worked programs: where their parts stand does not count, and all else does.
 pub fn sameness_is_as_stated()

@@ -1,4 +1,5 @@
-//! The canonical text of a program is a text of the language, and spells that program; and what a text spells is formed.
+//! The canonical text of a program is a text of the language, and spells that program; and what a
+//! text spells is formed.
 #![tactic(auto)]
 
 mod facts;

@@ -1,5 +1,6 @@
 -- The faults of declarations do not depend on places.
-use Rattle.std.proofs.Common.{◌≡◌, nat_lt, Bool, true, false, not, ◌&&◌, List, [], ◌∷◌, ◌++◌, map, length, Option, Some, None, option_map, zip, refl, sym, ap, ap₂, ◌∙◌, subst}
+use Rattle.std.proofs.Common.{◌≡◌, nat_lt, Bool, true, false, not, ◌&&◌, List, [], ◌∷◌, ◌++◌, map, length, Option, Some, None, option_map, zip, refl, sym, ap}
+use Rattle.std.proofs.Common.{ap₂, ◌∙◌, subst}
 use Rattle.std.specs.Prelude.{◌==◌}
 use Rattle.sot_text.specs.declared.token.Span.{Span}
 use Rattle.sot_tree.specs.declared.tree.Ident.{Ident}
@@ -11,27 +12,38 @@ use Rattle.sot_tree.specs.declared.tree.Const.{Const}
 use Rattle.sot_tree.specs.declared.tree.Const.TheVariants.{Number, Truth}
 use Rattle.sot_tree.specs.declared.tree.Field.{Field}
 use Rattle.sot_tree.specs.declared.tree.StateDecl.{StateDecl}
-use Rattle.sot_tree.specs.Trees.{Block, Start, one_value, values, Topic, Plant, Node, Module, Local, Next, Area, Declaration, a_topic, a_plant, a_node, a_module, Program}
-use Rattle.sot_rules.specs.declared.fault.TypeKind.TheVariants.{Unknown, Twice, ScaleDiffers, KindDiffers, RangeEmpty, InitOutside, ReadsAndWrites, RangeWide, NoModule, PeriodOutside, NextMissing}
+use Rattle.sot_tree.specs.Trees.{Block, Start, one_value, values, Topic, Plant, Node, Module, Local, Next, Area, Declaration, a_topic, a_plant, a_node}
+use Rattle.sot_tree.specs.Trees.{a_module, Program}
+use Rattle.sot_rules.specs.declared.fault.TypeKind.TheVariants.{Unknown, Twice, ScaleDiffers, KindDiffers, RangeEmpty, InitOutside, ReadsAndWrites, RangeWide}
+use Rattle.sot_rules.specs.declared.fault.TypeKind.TheVariants.{NoModule, PeriodOutside, NextMissing}
 use Rattle.sot_rules.specs.declared.expressions.sort.Sort.{Sort}
 use Rattle.sot_rules.specs.declared.expressions.sort.Sort.TheVariants.{Scaled, Anything}
 use Rattle.sot_rules.specs.Sorts.{scale_sort, scalar_sort, state_sort, const_sort, is_truthful}
 use Rattle.sot_rules.specs.Names.{meaning, is_topic, is_plant, Scope, node_scope, plant_scope, state_scope, gives, reading}
 use Rattle.sot_rules.specs.TreeSorts.{sort}
 use Rattle.sot_rules.specs.Lists.{are_same, is_among}
-use Rattle.sot_rules.specs.Tests.{starts_outside, const_place, form_scalars, form_names, start_place, starts, is_plant_of, has_module, topic_size, read_size, state_names, noise_names, local_names, side_sorts, has_other_width, free_sides, sides_of, block_unrolled}
-use Rattle.sot_rules.specs.Faults.{together, bounds_faults, scalar_faults, start_faults, times_faults, topic_lists, scale_faults, input_faults, seen_lists, noise_lists, next_faults, order_faults, plant_lists, read_faults, write_lists, local_lists, body_faults, node_lists, area_faults, region_faults, module_lists, declaration_faults, tree_faults}
-use Rattle.sot_law_format.specs.Unplaced.{nowhere, unplaced_name, unplaced_literal, unplaced_bounds, unplaced_scalar, unplaced_field, unplaced_const, unplaced_tree, unplaced_block, unplaced_start, unplaced_topic, unplaced_state, unplaced_next, unplaced_local, unplaced_plant, unplaced_node, unplaced_area, unplaced_module, unplaced_declaration, without_places}
+use Rattle.sot_rules.specs.Tests.{starts_outside, const_place, form_scalars, form_names, start_place, starts, is_plant_of, has_module, topic_size, read_size}
+use Rattle.sot_rules.specs.Tests.{state_names, noise_names, local_names, side_sorts, has_other_width, free_sides, sides_of, block_unrolled}
+use Rattle.sot_rules.specs.Faults.{together, bounds_faults, scalar_faults, start_faults, times_faults, topic_lists, scale_faults, input_faults, seen_lists}
+use Rattle.sot_rules.specs.Faults.{noise_lists, next_faults, order_faults, plant_lists, read_faults, write_lists, local_lists, body_faults, node_lists}
+use Rattle.sot_rules.specs.Faults.{area_faults, region_faults, module_lists, declaration_faults, tree_faults}
+use Rattle.sot_law_format.specs.Unplaced.{nowhere, unplaced_name, unplaced_literal, unplaced_bounds, unplaced_scalar, unplaced_field, unplaced_const}
+use Rattle.sot_law_format.specs.Unplaced.{unplaced_tree, unplaced_block, unplaced_start, unplaced_topic, unplaced_state, unplaced_next, unplaced_local}
+use Rattle.sot_law_format.specs.Unplaced.{unplaced_plant, unplaced_node, unplaced_area, unplaced_module, unplaced_declaration, without_places}
 use Rattle.sot_law_same_tables.proofs.Lists.{length_same, map_same, map_swap, any_same, zip_second}
-use Rattle.sot_law_same_tables.proofs.Names.{scalar_sort_same, const_sort_same, state_sort_same, meant_same, is_topic_same, is_plant_same, is_node_same, is_environment_same, is_external_same, node_scope_same, state_scope_same, plant_scope_same, reading_same, sort_same}
+use Rattle.sot_law_same_tables.proofs.Names.{scalar_sort_same, const_sort_same, state_sort_same, meant_same, is_topic_same, is_plant_same, is_node_same}
+use Rattle.sot_law_same_tables.proofs.Names.{is_environment_same, is_external_same, node_scope_same, state_scope_same, plant_scope_same, reading_same}
+use Rattle.sot_law_same_tables.proofs.Names.{sort_same}
 use Rattle.sot_law_same_tables.proofs.Declared.{form_scalars_same, form_names_same, scalar_count_same, counts_differ_same, unplaced_pair, starts_same}
-use Rattle.sot_law_same_tables.proofs.FaultLists.{AreBare, none, also, one, when_at, if_same, each, each_of, repeats_same, past_same, past_names, passes_same, target_bare}
+use Rattle.sot_law_same_tables.proofs.FaultLists.{AreBare, none, also, one, when_at, if_same, each, each_of, repeats_same, past_same, past_names, passes_same}
+use Rattle.sot_law_same_tables.proofs.FaultLists.{target_bare}
 use Rattle.sot_law_same_tables.proofs.ExpressionFaults.{tree_bare, block_bare, block_unrolled_same}
 
 -- ranges, initial values and periods
 bounds_bare : (limited : Bool) (s : Sort) (b : Bounds) → AreBare (bounds_faults limited s (unplaced_bounds b)) (bounds_faults limited s b)
 bounds_bare limited s b =
-    also (if_same b.lo.at ScaleDiffers refl) (also (if_same b.hi.at ScaleDiffers refl) (also (if_same b.lo.at RangeEmpty refl) (also (if_same b.lo.at RangeWide refl) none)))
+    also (if_same b.lo.at ScaleDiffers refl) (also (if_same b.hi.at ScaleDiffers refl)
+    (also (if_same b.lo.at RangeEmpty refl) (also (if_same b.lo.at RangeWide refl) none)))
 
 scalar_bare : (limited : Bool) (s : Scalar) → AreBare (scalar_faults limited (unplaced_scalar s)) (scalar_faults limited s)
 scalar_bare limited (Int b) = bounds_bare limited (Scaled 0) b
@@ -61,7 +73,8 @@ start_bare s c =
 
 times_bare : (period offset : Lit) → AreBare (times_faults (unplaced_literal period) (unplaced_literal offset)) (times_faults period offset)
 times_bare period offset =
-    also (if_same period.at ScaleDiffers refl) (also (if_same offset.at ScaleDiffers refl) (also (if_same period.at PeriodOutside refl) (also (if_same offset.at PeriodOutside refl) none)))
+    also (if_same period.at ScaleDiffers refl) (also (if_same offset.at ScaleDiffers refl)
+    (also (if_same period.at PeriodOutside refl) (also (if_same offset.at PeriodOutside refl) none)))
 
 topic_bare : (t : Topic) → AreBare (together (topic_lists (unplaced_topic t))) (together (topic_lists t))
 topic_bare t =
@@ -89,7 +102,8 @@ noise_names_same q = map_swap unplaced_field (λ (f : Field). f.name) unplaced_n
 local_names_same : (n : Node) → local_names (unplaced_node n) ≡ map unplaced_name (local_names n)
 local_names_same n = map_swap unplaced_local (λ (l : Local). l.name) unplaced_name (λ (l : Local). l.name) (λ l. refl) n.locals
 
-plant_names_same : (q : Plant) → state_names (unplaced_plant q) ++ map unplaced_name q.inputs ++ map unplaced_name q.sees ≡ map unplaced_name (state_names q ++ q.inputs ++ q.sees)
+plant_names_same : (q : Plant) → state_names (unplaced_plant q) ++ map unplaced_name q.inputs ++ map unplaced_name q.sees
+    ≡ map unplaced_name (state_names q ++ q.inputs ++ q.sees)
 plant_names_same q =
     ap (λ xs. xs ++ map unplaced_name q.inputs ++ map unplaced_name q.sees) (state_names_same q)
     ∙ ap (λ xs. xs ++ map unplaced_name q.sees) (both_names (state_names q) q.inputs)
@@ -172,7 +186,8 @@ sides_same (Some sorts) a =
 area_bare : (width : Option (List Sort)) (a : Area) → AreBare (area_faults width (unplaced_area a)) (area_faults width a)
 area_bare width a =
     also (if_same a.at KindDiffers (width_same width a))
-    (each_of unplaced_side (λ x. bounds_faults false x.0 x.1) (λ x. bounds_faults false x.0 x.1) (λ x. bounds_bare false x.0 x.1) _ (sides_of width a) (sides_same width a))
+    (each_of unplaced_side (λ x. bounds_faults false x.0 x.1) (λ x. bounds_faults false x.0 x.1) (λ x. bounds_bare false x.0 x.1) _ (sides_of width a)
+    (sides_same width a))
 
 region_is : (width : Option (List Sort)) (boxes : List Area) → AreBare (region_faults width (map unplaced_area boxes)) (region_faults width boxes)
 region_is width boxes =
@@ -193,7 +208,8 @@ module _ (p : Program) where
   module_same i = any_same unplaced_declaration (is_plant_of (unplaced_name i)) (is_plant_of i) (plant_of_is i) p.decls
 
   -- neither a topic nor a plant
-  neither_same : (i : Ident) → (not (is_topic (meaning (without_places p) i)) && not (is_plant (meaning (without_places p) i))) ≡ (not (is_topic (meaning p i)) && not (is_plant (meaning p i)))
+  neither_same : (i : Ident) → (not (is_topic (meaning (without_places p) i)) && not (is_plant (meaning (without_places p) i)))
+      ≡ (not (is_topic (meaning p i)) && not (is_plant (meaning p i)))
   neither_same i = λ j. not (is_topic_same p i j) && not (is_plant_same p i j)
 
   -- plants
@@ -212,7 +228,8 @@ module _ (p : Program) where
 
   next_bare : (q : Plant) (n : Next) → AreBare (next_faults (without_places p) (unplaced_plant q) (unplaced_next n)) (next_faults p q n)
   next_bare q n =
-      also (subst (λ names. AreBare (tree_faults names (unplaced_tree n.value)) (tree_faults (plant_scope p q) n.value)) (sym (plant_scope_same p q)) (tree_bare (plant_scope p q) n.value))
+      also (subst (λ names. AreBare (tree_faults names (unplaced_tree n.value)) (tree_faults (plant_scope p q) n.value)) (sym (plant_scope_same p q))
+      (tree_bare (plant_scope p q) n.value))
       (target_bare _ (reading (state_scope q) n.name None) _ (sort (plant_scope p q) n.value) nowhere n.name.at
       (ap (λ names. reading names (unplaced_name n.name) None) (state_scope_same p q) ∙ reading_same (state_scope q) n.name None)
       (ap (λ names. sort names (unplaced_tree n.value)) (plant_scope_same p q) ∙ sort_same (plant_scope p q) n.value)
@@ -249,9 +266,11 @@ module _ (p : Program) where
       (also (if_same i.at ReadsAndWrites (λ j. is_topic_same p i j && among_same i _ n.reads refl j))
       none))
 
-  body_bare : (n : Node) → AreBare (body_faults (node_scope (without_places p) (unplaced_node n)) (option_map unplaced_block n.body)) (body_faults (node_scope p n) n.body)
+  body_bare : (n : Node) → AreBare (body_faults (node_scope (without_places p) (unplaced_node n)) (option_map unplaced_block n.body))
+      (body_faults (node_scope p n) n.body)
   body_bare n =
-      subst (λ s. AreBare (body_faults s (option_map unplaced_block n.body)) (body_faults (node_scope p n) n.body)) (sym (node_scope_same p n)) (body_is (node_scope p n) n.body)
+      subst (λ s. AreBare (body_faults s (option_map unplaced_block n.body)) (body_faults (node_scope p n) n.body)) (sym (node_scope_same p n))
+      (body_is (node_scope p n) n.body)
 
   node_bare : (n : Node) → AreBare (together (node_lists (without_places p) (unplaced_node n))) (together (node_lists p n))
   node_bare n =
@@ -259,7 +278,8 @@ module _ (p : Program) where
       (also (each unplaced_name (read_faults (without_places p)) (read_faults p) read_bare n.reads)
       (also (repeats_same _ n.reads refl)
       (also (passes_same (λ i. read_size (meaning (without_places p) i)) (λ i. read_size (meaning p i)) read_size_same 64 n.reads)
-      (also (each unplaced_name (λ i. together (write_lists (without_places p) (unplaced_node n) i)) (λ i. together (write_lists p n i)) (write_bare n) n.writes)
+      (also (each unplaced_name (λ i. together (write_lists (without_places p) (unplaced_node n) i)) (λ i. together (write_lists p n i)) (write_bare n)
+      n.writes)
       (also (repeats_same _ n.writes refl)
       (also (passes_same (λ i. topic_size (meaning (without_places p) i)) (λ i. topic_size (meaning p i)) topic_size_same 8 n.writes)
       (also (each unplaced_local (λ l. together (local_lists (unplaced_node n) l)) (λ l. together (local_lists n l)) (local_bare n) n.locals)

@@ -3,7 +3,8 @@ use Rattle.std.proofs.Common.{◌≡◌, ℕ, zero, suc, List, [], ◌∷◌, �
 use Rattle.std.specs.Prelude.{nat_abs}
 use Rattle.std.specs.List.{list_any}
 use Rattle.sot_text.specs.declared.token.Span.{Span}
-use Rattle.sot_tree.specs.Trees.{Tree, Trees, number, truth, named, binary, rest, negated, denied, called, rescaled, chosen, no_tree, one_more, Statement, Block, assigned, published, branched, repeated, no_statement, statement}
+use Rattle.sot_tree.specs.Trees.{Tree, Trees, number, truth, named, binary, rest, negated, denied, called, rescaled, chosen, no_tree, one_more, Statement}
+use Rattle.sot_tree.specs.Trees.{Block, assigned, published, branched, repeated, no_statement, statement}
 use Rattle.sot_rules.specs.declared.fault.TypeKind.TheVariants.{ScaleDiffers, KindDiffers, PeriodOutside}
 use Rattle.sot_rules.specs.declared.expressions.sort.Sort.TheVariants.{Scaled}
 use Rattle.sot_rules.specs.Sorts.{is_truthful, is_scaled, differ, kinds_misfit, scales_misfit, some_differ, branches_misfit}
@@ -34,7 +35,8 @@ mutual
       also (tree_bare names a) (also (if_same at KindDiffers (ap is_truthful (sort_same names a))) (if_same to.at ScaleDiffers refl))
   tree_bare names (chosen c a b at) =
       also (tree_bare names c) (also (tree_bare names a) (also (tree_bare names b)
-      (misfits_same at (λ j. branches_misfit (sort_same names c j) (sort_same names a j) (sort_same names b j)) (ap₂ differ (sort_same names a) (sort_same names b)))))
+      (misfits_same at (λ j. branches_misfit (sort_same names c j) (sort_same names a j) (sort_same names b j))
+      (ap₂ differ (sort_same names a) (sort_same names b)))))
 
   parts_bare : (names : List Thing) (es : Trees) → AreBare (parts_faults names (unplaced_trees es)) (parts_faults names es)
   parts_bare names no_tree = none
@@ -43,9 +45,11 @@ mutual
 mutual
   statement_bare : (s : Scope) (a : Statement) → AreBare (statement_faults s (unplaced_statement a)) (statement_faults s a)
   statement_bare s (assigned target e) =
-      also (tree_bare s.read e) (target_bare _ (reading s.local target None) _ (sort s.read e) nowhere target.at (reading_same s.local target None) (sort_same s.read e) refl)
+      also (tree_bare s.read e) (target_bare _ (reading s.local target None) _ (sort s.read e) nowhere target.at (reading_same s.local target None)
+      (sort_same s.read e) refl)
   statement_bare s (published topic field e) =
-      also (tree_bare s.read e) (target_bare _ (reading s.written topic field) _ (sort s.read e) nowhere topic.at (reading_same s.written topic field) (sort_same s.read e) refl)
+      also (tree_bare s.read e) (target_bare _ (reading s.written topic field) _ (sort s.read e) nowhere topic.at (reading_same s.written topic field)
+      (sort_same s.read e) refl)
   statement_bare s (branched c taken other at) =
       also (tree_bare s.read c) (also (if_same at KindDiffers (ap is_scaled (sort_same s.read c))) (also (block_bare s taken) (block_bare s other)))
   statement_bare s (repeated times body at) =
@@ -72,7 +76,8 @@ mutual
   unrolled_same (assigned target e) = refl
   unrolled_same (published topic field e) = refl
   unrolled_same (branched c taken other at) =
-      ap (λ ys. nowhere ∷ ys) (ap₂ (λ xs ys. xs ++ ys) (block_unrolled_same taken) (block_unrolled_same other) ∙ both_same (block_unrolled taken) (block_unrolled other))
+      ap (λ ys. nowhere ∷ ys) (ap₂ (λ xs ys. xs ++ ys) (block_unrolled_same taken) (block_unrolled_same other)
+      ∙ both_same (block_unrolled taken) (block_unrolled other))
   unrolled_same (repeated times body at) =
       ap (λ ys. nowhere ∷ ys) (ap (copies (nat_abs times.mantissa)) (block_unrolled_same body) ∙ copies_same (nat_abs times.mantissa) (block_unrolled body))
 

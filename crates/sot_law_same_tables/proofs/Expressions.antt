@@ -4,8 +4,10 @@ use Rattle.std.specs.Prelude.{slice_index_or}
 use Rattle.sot_box.specs.Sides.{Side}
 use Rattle.sot_lang.specs.declared.term.Term.{Term, Row_of-Term, end_of-Term, more_of-Term}
 use Rattle.sot_lang.specs.declared.term.Term.TheVariants.{Number, Place, Binary', Rest', Neg', Not', Call', Rescale', If'}
-use Rattle.sot_iv.specs.TermIntervals.{OrMayTrap, After, Chooses, Joins, IsIntervalHull, IsLeastResult, IsImage, rest_result, neg_result, not_result, rescale_result, called_result, IsTermInterval, ArePartIntervals, AreTermIntervals}
-use Rattle.sot_typing.specs.Formulas.{Formula, number, place, binary, rest, negated, denied, called, rescaled, chosen, Formulas, no_formula, one_more, formula_view, parts_view}
+use Rattle.sot_iv.specs.TermIntervals.{OrMayTrap, After, Chooses, Joins, IsIntervalHull, IsLeastResult, IsImage, rest_result, neg_result, not_result}
+use Rattle.sot_iv.specs.TermIntervals.{rescale_result, called_result, IsTermInterval, ArePartIntervals, AreTermIntervals}
+use Rattle.sot_typing.specs.Formulas.{Formula, number, place, binary, rest, negated, denied, called, rescaled, chosen, Formulas, no_formula, one_more}
+use Rattle.sot_typing.specs.Formulas.{formula_view, parts_view}
 
 -- the interval of an expression without memory
 abbrev mutual
@@ -13,7 +15,8 @@ abbrev mutual
   IsFormulaInterval (number z) rs o = o ≡ Ok (record { lo = z; hi = z })
   IsFormulaInterval (place n) rs o = o ≡ Ok (slice_index_or rs n (record { lo = pos 0; hi = pos 0 }))
   IsFormulaInterval (binary op a b at) rs o =
-      (x : OrMayTrap Side) × IsFormulaInterval a rs x × After x o (λ x. (y : OrMayTrap Side) × IsFormulaInterval b rs y × After y o (λ y. IsLeastResult op at x y o))
+      (x : OrMayTrap Side) × IsFormulaInterval a rs x × After x o
+      (λ x. (y : OrMayTrap Side) × IsFormulaInterval b rs y × After y o (λ y. IsLeastResult op at x y o))
   IsFormulaInterval (rest a by at) rs o =
       (x : OrMayTrap Side) × IsFormulaInterval a rs x × After x o (λ x. IsImage (rest_result by) at (x ∷ []) o)
   IsFormulaInterval (negated a at) rs o =
@@ -28,7 +31,8 @@ abbrev mutual
       (x : OrMayTrap Side) × IsFormulaInterval c rs x × After x o (λ x. Chooses x
       (IsFormulaInterval a rs o)
       (IsFormulaInterval b rs o)
-      ((y : OrMayTrap Side) × IsFormulaInterval a rs y × After y o (λ y. (z : OrMayTrap Side) × IsFormulaInterval b rs z × After z o (λ z. (r : Side) × IsIntervalHull y z r × (o ≡ Ok r)))))
+      ((y : OrMayTrap Side) × IsFormulaInterval a rs y × After y o
+      (λ y. (z : OrMayTrap Side) × IsFormulaInterval b rs z × After z o (λ z. (r : Side) × IsIntervalHull y z r × (o ≡ Ok r)))))
 
   pub AreFormulasIntervals : Formulas → List Side → OrMayTrap (List Side) → Type 0
   AreFormulasIntervals no_formula rs o = o ≡ Ok []
@@ -60,7 +64,8 @@ mutual
       (x : OrMayTrap Side) × term_view c rs x i × After x o (λ x. Chooses x
       (term_view a rs o i)
       (term_view b rs o i)
-      ((y : OrMayTrap Side) × term_view a rs y i × After y o (λ y. (z : OrMayTrap Side) × term_view b rs z i × After z o (λ z. (r : Side) × IsIntervalHull y z r × (o ≡ Ok r)))))
+      ((y : OrMayTrap Side) × term_view a rs y i × After y o
+      (λ y. (z : OrMayTrap Side) × term_view b rs z i × After z o (λ z. (r : Side) × IsIntervalHull y z r × (o ≡ Ok r)))))
 
   row_view : {m : _} (ts : Row_of-Term m) (rs : List Side) (o : OrMayTrap (List Side)) → ArePartIntervals ts rs o ≡ AreFormulasIntervals (parts_view ts) rs o
   row_view end_of-Term rs o = refl

@@ -1,5 +1,6 @@
 -- Lists of faults that are the same but for places: how they are put together.
-use Rattle.std.proofs.Common.{◌≡◌, ℕ, ◌+◌, nat_lt, nat_le, Bool, true, false, ◌&&◌, List, [], ◌∷◌, ◌++◌, map, Option, Some, None, option_map, slice_get, zero, suc, flat_map, refl, sym, ap, ap₂, ◌∙◌, subst}
+use Rattle.std.proofs.Common.{◌≡◌, ℕ, ◌+◌, nat_lt, nat_le, Bool, true, false, ◌&&◌, List, [], ◌∷◌, ◌++◌, map, Option, Some, None, option_map, slice_get, zero}
+use Rattle.std.proofs.Common.{suc, flat_map, refl, sym, ap, ap₂, ◌∙◌, subst}
 use Rattle.std.specs.Prelude.{if◌then◌else◌}
 use Rattle.std.specs.List.{list_any}
 use Rattle.std.specs.Str.{bytes_eq}
@@ -42,7 +43,8 @@ when_is true at k = record { same = refl }
 when_is false at k = record { same = refl }
 
 pub when_at : {b c : Bool} {w : Span} (at : Span) (k : TypeKind) → w ≡ nowhere → b ≡ c → AreBare (when b w k) (when c at k)
-when_at {c = c} {w = w} at k here same = subst (λ x. AreBare (when x w k) (when c at k)) (sym same) (subst (λ x. AreBare (when c x k) (when c at k)) (sym here) (when_is c at k))
+when_at {c = c} {w = w} at k here same =
+    subst (λ x. AreBare (when x w k) (when c at k)) (sym same) (subst (λ x. AreBare (when c x k) (when c at k)) (sym here) (when_is c at k))
 
 pub if_same : {b c : Bool} (at : Span) (k : TypeKind) → b ≡ c → AreBare (when b nowhere k) (when c at k)
 if_same at k same = when_at at k refl same
@@ -54,11 +56,13 @@ pub misfits_same : {a b c d : Bool} (at : Span) → a ≡ b → c ≡ d → AreB
 misfits_same at kind scale = misfits_at at refl kind scale
 
 -- of each element of a list
-pub each : {A B : Type 0} (bare : A → B) (f : B → List TypeFault) (g : A → List TypeFault) → ((x : A) → AreBare (f (bare x)) (g x)) → (xs : List A) → AreBare (flat_map f (map bare xs)) (flat_map g xs)
+pub each : {A B : Type 0} (bare : A → B) (f : B → List TypeFault) (g : A → List TypeFault) → ((x : A) → AreBare (f (bare x)) (g x)) → (xs : List A)
+    → AreBare (flat_map f (map bare xs)) (flat_map g xs)
 each bare f g same [] = none
 each bare f g same (x ∷ xs) = also (same x) (each bare f g same xs)
 
-pub each_of : {A B : Type 0} (bare : A → B) (f : B → List TypeFault) (g : A → List TypeFault) → ((x : A) → AreBare (f (bare x)) (g x)) → (ys : List B) (xs : List A) → ys ≡ map bare xs → AreBare (flat_map f ys) (flat_map g xs)
+pub each_of : {A B : Type 0} (bare : A → B) (f : B → List TypeFault) (g : A → List TypeFault) → ((x : A) → AreBare (f (bare x)) (g x))
+    → (ys : List B) (xs : List A) → ys ≡ map bare xs → AreBare (flat_map f ys) (flat_map g xs)
 each_of bare f g same ys xs e = subst (λ zs. AreBare (flat_map f zs) (flat_map g xs)) (sym e) (each bare f g same xs)
 
 -- names that stand twice
@@ -86,16 +90,20 @@ past_same limit ys xs e =
 
 pub past_names : (limit : ℕ) (ys xs : List Ident) → ys ≡ map unplaced_name xs → AreBare (past limit (places ys)) (past limit (places xs))
 past_names limit ys xs e =
-    past_same limit (places ys) (places xs) (ap places e ∙ map_swap unplaced_name (λ (i : Ident). i.at) (λ (x : Span). nowhere) (λ (i : Ident). i.at) (λ i. refl) xs)
+    past_same limit (places ys) (places xs) (ap places e ∙ map_swap unplaced_name (λ (i : Ident). i.at) (λ (x : Span). nowhere) (λ (i : Ident). i.at)
+    (λ i. refl) xs)
 
 -- the name with which a sum of sizes passes a limit
-passes_from : (f g : Ident → ℕ) → ((i : Ident) → f (unplaced_name i) ≡ g i) → (limit sum : ℕ) (names : List Ident) → AreBare (passes f limit sum (map unplaced_name names)) (passes g limit sum names)
+passes_from : (f g : Ident → ℕ) → ((i : Ident) → f (unplaced_name i) ≡ g i) → (limit sum : ℕ) (names : List Ident)
+    → AreBare (passes f limit sum (map unplaced_name names)) (passes g limit sum names)
 passes_from f g same limit sum [] = none
 passes_from f g same limit sum (i ∷ more) =
     also (if_same i.at TooMany (ap (λ n. nat_le sum limit && nat_lt limit (sum + n)) (same i)))
-    (subst (λ n. AreBare (passes f limit (sum + n) (map unplaced_name more)) (passes g limit (sum + g i) more)) (sym (same i)) (passes_from f g same limit (sum + g i) more))
+    (subst (λ n. AreBare (passes f limit (sum + n) (map unplaced_name more)) (passes g limit (sum + g i) more)) (sym (same i))
+    (passes_from f g same limit (sum + g i) more))
 
-pub passes_same : (f g : Ident → ℕ) → ((i : Ident) → f (unplaced_name i) ≡ g i) → (limit : ℕ) (names : List Ident) → AreBare (passes f limit 0 (map unplaced_name names)) (passes g limit 0 names)
+pub passes_same : (f g : Ident → ℕ) → ((i : Ident) → f (unplaced_name i) ≡ g i) → (limit : ℕ) (names : List Ident)
+    → AreBare (passes f limit 0 (map unplaced_name names)) (passes g limit 0 names)
 passes_same f g same limit names = passes_from f g same limit 0 names
 
 -- a name that is looked up, and a value for it
@@ -106,7 +114,8 @@ reading_is (nothing_at at) = one at Unknown none
 pub reading_bare : (q r : Reading) → q ≡ unplaced_reading r → AreBare (reading_faults q) (reading_faults r)
 reading_bare q r e = subst (λ x. AreBare (reading_faults x) (reading_faults r)) (sym e) (reading_is r)
 
-pub target_bare : (q r : Reading) (v u : Sort) (w at : Span) → q ≡ unplaced_reading r → v ≡ u → w ≡ nowhere → AreBare (target_faults q v w) (target_faults r u at)
+pub target_bare : (q r : Reading) (v u : Sort) (w at : Span) → q ≡ unplaced_reading r → v ≡ u → w ≡ nowhere
+    → AreBare (target_faults q v w) (target_faults r u at)
 target_bare q r v u w at e same here =
     let sorts : reading_sort q ≡ reading_sort r = ap reading_sort e ∙ reading_sort_same r in
     also (reading_bare q r e) (misfits_at at here (ap₂ are_mixed sorts same) (ap₂ differ sorts same))

@@ -39,7 +39,8 @@ module_name_is (a_plant q) = refl
 module_name_is (a_node n) = refl
 module_name_is (a_module m) = refl
 
-names_same : (name : Declaration → Option Ident) → ((d : Declaration) → name (unplaced_declaration d) ≡ option_map unplaced_name (name d)) → (p : Program) → names_of name (without_places p) ≡ map unplaced_name (names_of name p)
+names_same : (name : Declaration → Option Ident) → ((d : Declaration) → name (unplaced_declaration d) ≡ option_map unplaced_name (name d)) → (p : Program)
+    → names_of name (without_places p) ≡ map unplaced_name (names_of name p)
 names_same name same p = filter_swap unplaced_declaration name unplaced_name name same p.decls
 
 -- a program without places has the faults of the program, nowhere

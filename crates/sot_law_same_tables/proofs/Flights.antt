@@ -1,6 +1,7 @@
 -- A flight's text says the same of tables that look the same: it is read by topics and scalars, by names, widths and bounds of plants, and
 -- by names, times and outputs of nodes.
-use Rattle.std.proofs.Common.{◌≡◌, ℕ, ◌+◌, ◌*◌, Bool, true, false, List, [], ◌∷◌, ◌++◌, map, length, codes, Option, None, Some, Ok, refl, sym, ap, ◌∙◌, nat_lt, nat_le, pos}
+use Rattle.std.proofs.Common.{◌≡◌, ℕ, ◌+◌, ◌*◌, Bool, true, false, List, [], ◌∷◌, ◌++◌, map, length, codes, Option, None, Some, Ok, refl, sym, ap, ◌∙◌, nat_lt}
+use Rattle.std.proofs.Common.{nat_le, pos}
 use Rattle.std.specs.Prelude.{filter, is_none, position, slice_index_or, if◌then◌else◌, option_map}
 use Rattle.serde_json.specs.Data.{Data, Members}
 use Rattle.serde_json.specs.Find.{as_object, as_array, as_str}
@@ -20,7 +21,9 @@ use Rattle.sot_flight.specs.declared.crew.CrewKind.TheVariants as crew_kinds
 use Rattle.sot_flight.specs.Plans.{StatedInput, Plan, Sway, Still, Listed, Crew, Coded, Script}
 use Rattle.sot_flight.specs.Counts.{due_count, firing_count, decision_count, events_of, tick_numbers, draft_numbers, input_numbers, numbers_of}
 use Rattle.sot_flight.specs.ListForms.{numbers, numbers_in, rows_in, drafts, for_each_after}
-use Rattle.sot_flight.specs.FlightFormat.{point_at, plant_names, start, time, is_outside, topic, ranges_of_topic, topic_ranges, input, inputs, sway_kind, sway_as, sway, has_noise, sway_at, sways, crew_kind, crew_as, crew, is_external, crew_at, node_names, crews, flight_keys, counted, flight, flight_of}
+use Rattle.sot_flight.specs.FlightFormat.{point_at, plant_names, start, time, is_outside, topic, ranges_of_topic, topic_ranges, input, inputs, sway_kind}
+use Rattle.sot_flight.specs.FlightFormat.{sway_as, sway, has_noise, sway_at, sways, crew_kind, crew_as, crew, is_external, crew_at, node_names, crews}
+use Rattle.sot_flight.specs.FlightFormat.{flight_keys, counted, flight, flight_of}
 use Rattle.sot_typing.specs.Resolved.{PlantTable, NodeTable, ProgramTables, plant_seen, node_seen, tables_seen}
 use Rattle.sot_law_same_tables.specs.Laws.{FlightsAlike}
 use Rattle.sot_law_same_tables.proofs.Seen.{scalars_same, modules_same, plants_seen_same, nodes_seen_same}
@@ -42,12 +45,15 @@ each_alike view f g same (x ∷ xs) (y ∷ ys) e done =
 
 -- names of those that pass a test
 picked_alike :
-    {X S : Type 0} (view : X → S) (test : X → Bool) (seen : S → Bool) (name : X → List ℕ) (called : S → List ℕ) → ((x : X) → test x ≡ seen (view x)) → ((x : X) → name x ≡ called (view x))
+    {X S : Type 0} (view : X → S) (test : X → Bool) (seen : S → Bool) (name : X → List ℕ) (called : S → List ℕ) → ((x : X) → test x ≡ seen (view x))
+    → ((x : X) → name x ≡ called (view x))
     → (xs : List X) → map name (filter test xs) ≡ map called (filter seen (map view xs))
 picked_alike view test seen name called tests names [] = refl
-picked_alike view test seen name called tests names (x ∷ xs) = one (picked_alike view test seen name called tests names xs) (test x) (seen (view x)) refl refl (tests x)
+picked_alike view test seen name called tests names (x ∷ xs) =
+    one (picked_alike view test seen name called tests names xs) (test x) (seen (view x)) refl refl (tests x)
   where
-    one : map name (filter test xs) ≡ map called (filter seen (map view xs)) → (a b : Bool) → test x ≡ a → seen (view x) ≡ b → test x ≡ seen (view x) → map name (filter test (x ∷ xs)) ≡ map called (filter seen (view x ∷ map view xs))
+    one : map name (filter test xs) ≡ map called (filter seen (map view xs)) → (a b : Bool) → test x ≡ a → seen (view x) ≡ b → test x ≡ seen (view x)
+        → map name (filter test (x ∷ xs)) ≡ map called (filter seen (view x ∷ map view xs))
     one rest true true is is' e = rw (is, is') (λ i. names x i ∷ rest i)
     one rest false false is is' e = rw (is, is') rest
     one rest true false is is' e = absurd (let f : true ≡ false = sym is ∙ e ∙ is' in cc)
@@ -166,7 +172,8 @@ module _ (t u : Tables) (same : tables_seen t ≡ tables_seen u) where
   unfolding start
   start_same d = λ i. do
     ms ← or WrongShape (as_object d)
-    points ← each_alike plant_seen (λ done. point_at ms) (λ done. point_at ms) (λ x y e done. point_same x y e ms) t.plants u.plants (plants_seen_same t u same) [] i
+    points ← each_alike plant_seen (λ done. point_at ms) (λ done. point_at ms) (λ x y e done. point_same x y e ms) t.plants u.plants (plants_seen_same t u same)
+        [] i
     ok ← unless Unknown (all_among ms (plant_names_same i))
     Ok points
 
@@ -196,50 +203,71 @@ module _ (t u : Tables) (same : tables_seen t ≡ tables_seen u) where
     each_after (λ done e. input_same h done e i) [] ds
 
   noisy_same : plant_names (filter has_noise t.plants) ≡ plant_names (filter has_noise u.plants)
-  noisy_same = seen t.plants ∙ ap (λ ss. map (λ (s : PlantTable). s.name) (filter (λ (s : PlantTable). nat_lt 0 (length s.noise)) ss)) (plants_seen_same t u same) ∙ sym (seen u.plants)
+  noisy_same =
+      seen t.plants ∙ ap (λ ss. map (λ (s : PlantTable). s.name) (filter (λ (s : PlantTable). nat_lt 0 (length s.noise)) ss)) (plants_seen_same t u same)
+      ∙ sym (seen u.plants)
     where
-      seen : (ks : List PlantInfo) → plant_names (filter has_noise ks) ≡ map (λ (s : PlantTable). s.name) (filter (λ (s : PlantTable). nat_lt 0 (length s.noise)) (map plant_seen ks))
-      seen = picked_alike plant_seen has_noise (λ (s : PlantTable). nat_lt 0 (length s.noise)) (λ k. k.name) (λ (s : PlantTable). s.name) (λ x. refl) (λ x. refl)
+      seen : (ks : List PlantInfo) → plant_names (filter has_noise ks)
+          ≡ map (λ (s : PlantTable). s.name) (filter (λ (s : PlantTable). nat_lt 0 (length s.noise)) (map plant_seen ks))
+      seen =
+          picked_alike plant_seen has_noise (λ (s : PlantTable). nat_lt 0 (length s.noise)) (λ k. k.name) (λ (s : PlantTable). s.name) (λ x. refl) (λ x. refl)
 
   sways_same : (d : Data) → sways t d ≡ sways u d
   unfolding sways
   sways_same d = λ i. do
     ms ← or WrongShape (as_object d)
-    found ← each_alike plant_seen (λ done. sway_at ms) (λ done. sway_at ms) (λ x y e done. sway_at_same x y e ms) t.plants u.plants (plants_seen_same t u same) [] i
+    found ← each_alike plant_seen (λ done. sway_at ms) (λ done. sway_at ms) (λ x y e done. sway_at_same x y e ms) t.plants u.plants (plants_seen_same t u same)
+        [] i
     ok ← unless Unknown (all_among ms (noisy_same i))
     Ok found
 
   flown_same : node_names (filter is_external t.nodes) ≡ node_names (filter is_external u.nodes)
-  flown_same = seen t.nodes ∙ ap (λ ss. map (λ (s : NodeTable). s.name) (filter (λ (s : NodeTable). is_none s.body) ss)) (nodes_seen_same t u same) ∙ sym (seen u.nodes)
+  flown_same =
+      seen t.nodes ∙ ap (λ ss. map (λ (s : NodeTable). s.name) (filter (λ (s : NodeTable). is_none s.body) ss)) (nodes_seen_same t u same) ∙ sym (seen u.nodes)
     where
-      seen : (ns : List NodeInfo) → node_names (filter is_external ns) ≡ map (λ (s : NodeTable). s.name) (filter (λ (s : NodeTable). is_none s.body) (map node_seen ns))
-      seen = picked_alike node_seen is_external (λ (s : NodeTable). is_none s.body) (λ n. n.name) (λ (s : NodeTable). s.name) (λ x. none_mapped _ x.body) (λ x. refl)
+      seen : (ns : List NodeInfo) → node_names (filter is_external ns)
+          ≡ map (λ (s : NodeTable). s.name) (filter (λ (s : NodeTable). is_none s.body) (map node_seen ns))
+      seen =
+          picked_alike node_seen is_external (λ (s : NodeTable). is_none s.body) (λ n. n.name) (λ (s : NodeTable). s.name) (λ x. none_mapped _ x.body)
+          (λ x. refl)
 
   crews_same : (guests : ℕ) (d : Data) → crews t guests d ≡ crews u guests d
   unfolding crews
   crews_same guests d = λ i. do
     ms ← or WrongShape (as_object d)
-    found ← each_alike node_seen (crew_at guests ms) (crew_at guests ms) (λ x y e done. crew_at_same x y e guests ms done) t.nodes u.nodes (nodes_seen_same t u same) [] i
+    found ← each_alike node_seen (crew_at guests ms) (crew_at guests ms) (λ x y e done. crew_at_same x y e guests ms done) t.nodes u.nodes
+        (nodes_seen_same t u same) [] i
     ok ← unless Unknown (all_among ms (flown_same i))
     Ok found
 
   events_same : (h : ℕ) (given : List StatedInput) → events_of t h given ≡ events_of u h given
   events_same h given =
-      let nodes : firing_count h t.nodes ≡ firing_count h u.nodes = firing_is h t.nodes ∙ ap (firing_seen h) (nodes_seen_same t u same) ∙ sym (firing_is h u.nodes) in
+      let nodes : firing_count h t.nodes ≡ firing_count h u.nodes = firing_is h t.nodes ∙ ap (firing_seen h) (nodes_seen_same t u same)
+      ∙ sym (firing_is h u.nodes) in
       λ i. nodes i + decision_count h (modules_same t u same i) + length given + h
 
   numbers_same : (h : ℕ) (given : List StatedInput) → numbers_of t h given ≡ numbers_of u h given
   numbers_same h given =
       let ticks : tick_numbers t.plants ≡ tick_numbers u.plants = tick_is t.plants ∙ ap tick_seen (plants_seen_same t u same) ∙ sym (tick_is u.plants) in
-      let drafted : draft_numbers h t.nodes ≡ draft_numbers h u.nodes = draft_is h t.nodes ∙ ap (draft_seen h) (nodes_seen_same t u same) ∙ sym (draft_is h u.nodes) in
+      let drafted : draft_numbers h t.nodes ≡ draft_numbers h u.nodes = draft_is h t.nodes ∙ ap (draft_seen h) (nodes_seen_same t u same)
+      ∙ sym (draft_is h u.nodes) in
       λ i. h * ticks i + drafted i + input_numbers given
 
-  counted_same : (h : ℕ) (points : List (List _)) (given : List StatedInput) (swayed : List Sway) (crewed : List Crew) → counted t h points given swayed crewed ≡ counted u h points given swayed crewed
+  counted_same : (h : ℕ) (points : List (List _)) (given : List StatedInput) (swayed : List Sway) (crewed : List Crew)
+      → counted t h points given swayed crewed ≡ counted u h points given swayed crewed
   unfolding counted
   counted_same h points given swayed crewed = λ i. do
     few_events ← unless TooManyEvents (nat_le (events_same h given i) 200000)
     few_numbers ← unless TooManyNumbers (nat_le (numbers_same h given i) 1000000)
-    Ok (record { horizon = h; start = points; inputs = given; sways = swayed; crews = crewed; events = events_same h given i; numbers = numbers_same h given i })
+    Ok (record {
+      horizon = h;
+      start = points;
+      inputs = given;
+      sways = swayed;
+      crews = crewed;
+      events = events_same h given i;
+      numbers = numbers_same h given i;
+    })
 
   flight_same : (guests : ℕ) (d : Data) → flight t guests d ≡ flight u guests d
   unfolding flight

@@ -39,3 +39,5 @@ pub mod PlacelessCells
 pub mod PlacelessCertified
 -- programs of canonical texts
 pub mod Formatted
+-- the worked tables of the running example, part by part
+pub mod Worked

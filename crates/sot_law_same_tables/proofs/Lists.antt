@@ -1,5 +1,6 @@
 -- Lists whose elements lost something that what is asked of them does not see.
-use Rattle.std.proofs.Common.{◌≡◌, ℕ, zero, suc, ◌+◌, Bool, true, false, cond, not, ◌||◌, List, [], ◌∷◌, ◌++◌, map, length, take, Option, Some, None, option_map, find, filter_map, flat_map, fold, sum_by, zip, refl, ap, ap₂, ◌∙◌}
+use Rattle.std.proofs.Common.{◌≡◌, ℕ, zero, suc, ◌+◌, Bool, true, false, cond, not, ◌||◌, List, [], ◌∷◌, ◌++◌, map, length, take, Option, Some, None}
+use Rattle.std.proofs.Common.{option_map, find, filter_map, flat_map, fold, sum_by, zip, refl, ap, ap₂, ◌∙◌}
 use Rattle.std.specs.List.{cons_option, list_any, prefix_len, position_or_len}
 
 module _ {A B : Type 0} (bare : A → B) where
@@ -11,11 +12,13 @@ module _ {A B : Type 0} (bare : A → B) where
   map_same f g same [] = refl
   map_same f g same (x ∷ xs) = ap₂ (λ a b. a ∷ b) (same x) (map_same f g same xs)
 
-  pub map_swap : {C D : Type 0} (f : B → D) (other : C → D) (g : A → C) → ((x : A) → f (bare x) ≡ other (g x)) → (xs : List A) → map f (map bare xs) ≡ map other (map g xs)
+  pub map_swap : {C D : Type 0} (f : B → D) (other : C → D) (g : A → C) → ((x : A) → f (bare x) ≡ other (g x)) → (xs : List A)
+      → map f (map bare xs) ≡ map other (map g xs)
   map_swap f other g same [] = refl
   map_swap f other g same (x ∷ xs) = ap₂ (λ a b. a ∷ b) (same x) (map_swap f other g same xs)
 
-  pub filter_same : {C : Type 0} (f : B → Option C) (g : A → Option C) → ((x : A) → f (bare x) ≡ g x) → (xs : List A) → filter_map f (map bare xs) ≡ filter_map g xs
+  pub filter_same : {C : Type 0} (f : B → Option C) (g : A → Option C) → ((x : A) → f (bare x) ≡ g x) → (xs : List A)
+      → filter_map f (map bare xs) ≡ filter_map g xs
   filter_same f g same [] = refl
   filter_same f g same (x ∷ xs) = ap₂ (λ a b. cons_option a b) (same x) (filter_same f g same xs)
 
@@ -23,7 +26,8 @@ module _ {A B : Type 0} (bare : A → B) where
   cons_swap other None xs = refl
   cons_swap other (Some x) xs = refl
 
-  pub filter_swap : {C D : Type 0} (f : B → Option D) (other : C → D) (g : A → Option C) → ((x : A) → f (bare x) ≡ option_map other (g x)) → (xs : List A) → filter_map f (map bare xs) ≡ map other (filter_map g xs)
+  pub filter_swap : {C D : Type 0} (f : B → Option D) (other : C → D) (g : A → Option C) → ((x : A) → f (bare x) ≡ option_map other (g x)) → (xs : List A)
+      → filter_map f (map bare xs) ≡ map other (filter_map g xs)
   filter_swap f other g same [] = refl
   filter_swap f other g same (x ∷ xs) = ap₂ (λ a b. cons_option a b) (same x) (filter_swap f other g same xs) ∙ cons_swap other (g x) (filter_map g xs)
 

@@ -11,12 +11,19 @@ use Rattle.sot_tree.specs.declared.tree.Field.{Field}
 use Rattle.sot_tree.specs.declared.tree.Const.{Const}
 use Rattle.sot_tree.specs.declared.tree.Const.TheVariants.{Number, Truth}
 use Rattle.sot_tree.specs.declared.tree.StateDecl.{StateDecl}
-use Rattle.sot_tree.specs.Trees.{Tree, Trees, number, truth, named, binary, rest, negated, denied, called, rescaled, chosen, no_tree, one_more, Block, Form, one, fields, Topic, Plant, Node, Local, Declaration, a_topic, a_plant, a_node, a_module, Program}
+use Rattle.sot_tree.specs.Trees.{Tree, Trees, number, truth, named, binary, rest, negated, denied, called, rescaled, chosen, no_tree, one_more, Block, Form}
+use Rattle.sot_tree.specs.Trees.{one, fields, Topic, Plant, Node, Local, Declaration, a_topic, a_plant, a_node, a_module, Program}
 use Rattle.sot_rules.specs.declared.expressions.sort.Sort.TheVariants.{Scaled}
-use Rattle.sot_rules.specs.Sorts.{scalar_sort, written_scale, state_sort, const_sort, is_truthful, is_scaled, differ, kinds_misfit, scales_misfit, operator_sort, unless, given, some_differ, call_sort, branches_misfit}
-use Rattle.sot_rules.specs.Names.{declared_name, meaning, is_topic, is_plant, is_node, is_environment, is_external, Part, Parts, alone, several, Thing, field_part, state_part, form_parts, topic_thing, plant_thing, local_thing, state_thing, noise_thing, topic_meant, plant_meant, either_meant, node_scope, state_scope, plant_scope, Reading, gives, nothing_at, part_reading, parts_reading, thing_reading, reading, reading_sort}
+use Rattle.sot_rules.specs.Sorts.{scalar_sort, written_scale, state_sort, const_sort, is_truthful, is_scaled, differ, kinds_misfit, scales_misfit}
+use Rattle.sot_rules.specs.Sorts.{operator_sort, unless, given, some_differ, call_sort, branches_misfit}
+use Rattle.sot_rules.specs.Names.{declared_name, meaning, is_topic, is_plant, is_node, is_environment, is_external, Part, Parts, alone, several, Thing}
+use Rattle.sot_rules.specs.Names.{field_part, state_part, form_parts, topic_thing, plant_thing, local_thing, state_thing, noise_thing, topic_meant, plant_meant}
+use Rattle.sot_rules.specs.Names.{either_meant, node_scope, state_scope, plant_scope, Reading, gives, nothing_at, part_reading, parts_reading, thing_reading}
+use Rattle.sot_rules.specs.Names.{reading, reading_sort}
 use Rattle.sot_rules.specs.TreeSorts.{is_no_scale, is_zero, sort, sorts}
-use Rattle.sot_law_format.specs.Unplaced.{nowhere, unplaced_name, unplaced_literal, unplaced_scalar, unplaced_field, unplaced_const, unplaced_tree, unplaced_trees, unplaced_block, unplaced_shape, unplaced_topic, unplaced_state, unplaced_local, unplaced_plant, unplaced_node, unplaced_declaration, without_places}
+use Rattle.sot_law_format.specs.Unplaced.{nowhere, unplaced_name, unplaced_literal, unplaced_scalar, unplaced_field, unplaced_const, unplaced_tree}
+use Rattle.sot_law_format.specs.Unplaced.{unplaced_trees, unplaced_block, unplaced_shape, unplaced_topic, unplaced_state, unplaced_local, unplaced_plant}
+use Rattle.sot_law_format.specs.Unplaced.{unplaced_node, unplaced_declaration, without_places}
 use Rattle.sot_law_same_tables.proofs.Lists.{map_same, filter_same, find_same}
 
 -- sorts
@@ -74,12 +81,14 @@ meaning_same p i =
     find_same unplaced_declaration (λ d. bytes_eq i.name (declared_name d).name) (λ d. bytes_eq i.name (declared_name d).name)
     (λ d. ap (λ (n : Ident). bytes_eq i.name n.name) (declared_same d)) p.decls
 
-found_same : {A : Type 0} (f : Option Declaration → A) → ((d : Declaration) → f (Some (unplaced_declaration d)) ≡ f (Some d)) → (m : Option Declaration) → f (option_map unplaced_declaration m) ≡ f m
+found_same : {A : Type 0} (f : Option Declaration → A) → ((d : Declaration) → f (Some (unplaced_declaration d)) ≡ f (Some d)) → (m : Option Declaration)
+    → f (option_map unplaced_declaration m) ≡ f m
 found_same f same None = refl
 found_same f same (Some d) = same d
 
 -- what is told by what a name means
-pub meant_same : {A : Type 0} (f : Option Declaration → A) → ((d : Declaration) → f (Some (unplaced_declaration d)) ≡ f (Some d)) → (p : Program) (i : Ident) → f (meaning (without_places p) i) ≡ f (meaning p i)
+pub meant_same : {A : Type 0} (f : Option Declaration → A) → ((d : Declaration) → f (Some (unplaced_declaration d)) ≡ f (Some d)) → (p : Program) (i : Ident)
+    → f (meaning (without_places p) i) ≡ f (meaning p i)
 meant_same f same p i = ap f (meaning_same p i) ∙ found_same f same (meaning p i)
 
 topic_is : (d : Declaration) → is_topic (Some (unplaced_declaration d)) ≡ is_topic (Some d)
@@ -152,14 +161,21 @@ module _ (p : Program) (i : Ident) where
 
 -- the names that may be used
 module _ (p : Program) where
-  topics_meant : (is : List Ident) → filter_map (λ i. topic_meant (meaning (without_places p) i)) (map unplaced_name is) ≡ filter_map (λ i. topic_meant (meaning p i)) is
-  topics_meant is = filter_same unplaced_name (λ i. topic_meant (meaning (without_places p) i)) (λ i. topic_meant (meaning p i)) (meant_same topic_meant topic_meant_is p) is
+  topics_meant : (is : List Ident) → filter_map (λ i. topic_meant (meaning (without_places p) i)) (map unplaced_name is)
+      ≡ filter_map (λ i. topic_meant (meaning p i)) is
+  topics_meant is =
+      filter_same unplaced_name (λ i. topic_meant (meaning (without_places p) i)) (λ i. topic_meant (meaning p i)) (meant_same topic_meant topic_meant_is p) is
 
-  plants_meant : (is : List Ident) → filter_map (λ i. plant_meant (meaning (without_places p) i)) (map unplaced_name is) ≡ filter_map (λ i. plant_meant (meaning p i)) is
-  plants_meant is = filter_same unplaced_name (λ i. plant_meant (meaning (without_places p) i)) (λ i. plant_meant (meaning p i)) (meant_same plant_meant plant_meant_is p) is
+  plants_meant : (is : List Ident) → filter_map (λ i. plant_meant (meaning (without_places p) i)) (map unplaced_name is)
+      ≡ filter_map (λ i. plant_meant (meaning p i)) is
+  plants_meant is =
+      filter_same unplaced_name (λ i. plant_meant (meaning (without_places p) i)) (λ i. plant_meant (meaning p i)) (meant_same plant_meant plant_meant_is p) is
 
-  either_of : (is : List Ident) → filter_map (λ i. either_meant (meaning (without_places p) i)) (map unplaced_name is) ≡ filter_map (λ i. either_meant (meaning p i)) is
-  either_of is = filter_same unplaced_name (λ i. either_meant (meaning (without_places p) i)) (λ i. either_meant (meaning p i)) (meant_same either_meant either_meant_is p) is
+  either_of : (is : List Ident) → filter_map (λ i. either_meant (meaning (without_places p) i)) (map unplaced_name is)
+      ≡ filter_map (λ i. either_meant (meaning p i)) is
+  either_of is =
+      filter_same unplaced_name (λ i. either_meant (meaning (without_places p) i)) (λ i. either_meant (meaning p i)) (meant_same either_meant either_meant_is p)
+      is
 
   pub node_scope_same : (n : Node) → node_scope (without_places p) (unplaced_node n) ≡ node_scope p n
   node_scope_same n = λ j. record {
@@ -184,17 +200,20 @@ part_same : (field : Ident) (o : Option Part) → part_reading (unplaced_name fi
 part_same field None = refl
 part_same field (Some x) = refl
 
-parts_same : (first : Ident) (field : Option Ident) (parts : Parts) → parts_reading (unplaced_name first) (option_map unplaced_name field) parts ≡ unplaced_reading (parts_reading first field parts)
+parts_same : (first : Ident) (field : Option Ident) (parts : Parts)
+    → parts_reading (unplaced_name first) (option_map unplaced_name field) parts ≡ unplaced_reading (parts_reading first field parts)
 parts_same first None (alone s) = refl
 parts_same first (Some field) (alone s) = refl
 parts_same first None (several parts) = refl
 parts_same first (Some field) (several parts) = part_same field (find (λ x. bytes_eq field.name x.name) parts)
 
-thing_same : (first : Ident) (field : Option Ident) (o : Option Thing) → thing_reading (unplaced_name first) (option_map unplaced_name field) o ≡ unplaced_reading (thing_reading first field o)
+thing_same : (first : Ident) (field : Option Ident) (o : Option Thing)
+    → thing_reading (unplaced_name first) (option_map unplaced_name field) o ≡ unplaced_reading (thing_reading first field o)
 thing_same first field None = refl
 thing_same first field (Some x) = parts_same first field x.parts
 
-pub reading_same : (things : List Thing) (first : Ident) (field : Option Ident) → reading things (unplaced_name first) (option_map unplaced_name field) ≡ unplaced_reading (reading things first field)
+pub reading_same : (things : List Thing) (first : Ident) (field : Option Ident)
+    → reading things (unplaced_name first) (option_map unplaced_name field) ≡ unplaced_reading (reading things first field)
 reading_same things first field = thing_same first field (find (λ x. bytes_eq first.name x.name) things)
 
 pub reading_sort_same : (r : Reading) → reading_sort (unplaced_reading r) ≡ reading_sort r

@@ -26,7 +26,8 @@ mapped_from f None b e = absurd (none-some b e)
 mapped_from f (Some a) b e = (a, refl, same_Some (f a) b e)
 
 -- where the one is coded, so is the other, with a body that looks the same
-pub coded_alike : (x y : NodeInfo) (acts : List Act) → node_seen x ≡ node_seen y → IsCoded y acts → (us : List Act) × IsCoded x us × (deeds_view us ≡ deeds_view acts)
+pub coded_alike : (x y : NodeInfo) (acts : List Act) → node_seen x ≡ node_seen y → IsCoded y acts
+    → (us : List Act) × IsCoded x us × (deeds_view us ≡ deeds_view acts)
 coded_alike x y acts alike coded =
     let bodies : option_map (λ v. deeds_view v.items) x.body ≡ option_map (λ v. deeds_view v.items) y.body = ap (λ (n : NodeTable). n.body) alike in
     let here = mapped_from (λ v. deeds_view v.items) x.body (deeds_view coded.0.items) (bodies ∙ ap (option_map (λ v. deeds_view v.items)) coded.1) in
@@ -47,7 +48,8 @@ module _ (t u : Tables) (same : tables_seen t ≡ tables_seen u) (x y : NodeInfo
   readings_alike boxes = λ i. map (λ s. interval_alike boxes s i) (alike i).reads
 
   -- bodies that look the same leave the same
-  pub execution_alike : (us acts : List Act) (boxes : List (List Side)) (o : OrMayTrap Intervals) → deeds_view us ≡ deeds_view acts → IsNodeExecution t x us boxes o ≡ IsNodeExecution u y acts boxes o
+  pub execution_alike : (us acts : List Act) (boxes : List (List Side)) (o : OrMayTrap Intervals) → deeds_view us ≡ deeds_view acts
+      → IsNodeExecution t x us boxes o ≡ IsNodeExecution u y acts boxes o
   execution_alike us acts boxes o deeds =
       let leaves : IsDeedsExecution (deeds_view us) (local_ranges x) (write_ranges t x) (reading_intervals t x boxes) (local_ranges x) o
       ≡ IsDeedsExecution (deeds_view acts) (local_ranges y) (write_ranges u y) (reading_intervals u y boxes) (local_ranges y) o =

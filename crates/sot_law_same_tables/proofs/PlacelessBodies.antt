@@ -29,7 +29,8 @@ put_same : (ranges : List Side) (k : ℕ) (at w : Span) (x v : Side) → IsPut r
 put_same ranges k at w x v = (put_there ranges k at w x v, put_there ranges k w at x v)
 
 -- a block n times
-times_same : (n : ℕ) (block other : Intervals → OrMayTrap Intervals → Type 0) → ((f g : Intervals) → block f (Ok g) ↔ other f (Ok g)) → (f g : Intervals) → IsTimes n block f (Ok g) ↔ IsTimes n other f (Ok g)
+times_same : (n : ℕ) (block other : Intervals → OrMayTrap Intervals → Type 0) → ((f g : Intervals) → block f (Ok g) ↔ other f (Ok g)) → (f g : Intervals)
+    → IsTimes n block f (Ok g) ↔ IsTimes n other f (Ok g)
 times_same zero block other same f g = same_fact
 times_same (suc n) block other same f g =
     step (block f) (other f) (λ h. IsTimes n block h (Ok g)) (λ h. IsTimes n other h (Ok g)) g (same f) (λ h. times_same n block other same h g)
@@ -37,7 +38,8 @@ times_same (suc n) block other same f g =
 -- a value that is put somewhere, and what comes of it
 put_step : (a : Formula) (rs ranges : List Side) (k : ℕ) (at : Span) (went : Side → Type 0) (v : Intervals)
     → ((x : OrMayTrap Side) × IsFormulaInterval a rs x × After x (Ok v) (λ x. (y : OrMayTrap Side) × IsPut ranges k at x y × After y (Ok v) went))
-    ↔ ((x : OrMayTrap Side) × IsFormulaInterval (unplaced_formula a) rs x × After x (Ok v) (λ x. (y : OrMayTrap Side) × IsPut ranges k nowhere x y × After y (Ok v) went))
+    ↔ ((x : OrMayTrap Side) × IsFormulaInterval (unplaced_formula a) rs x
+    × After x (Ok v) (λ x. (y : OrMayTrap Side) × IsPut ranges k nowhere x y × After y (Ok v) went))
 put_step a rs ranges k at went v =
     step (IsFormulaInterval a rs) (IsFormulaInterval (unplaced_formula a) rs)
     (λ x. (y : OrMayTrap Side) × IsPut ranges k at x y × After y (Ok v) went)
@@ -57,9 +59,11 @@ module _ (seen locals writes : List Side) where
         let leaves : Deeds → OrMayTrap Intervals → Type 0 = λ ds. AreDeedsIntervals seen locals writes ds f in
         step (IsFormulaInterval c (seen ++ f.locals)) (IsFormulaInterval (unplaced_formula c) (seen ++ f.locals))
         (λ x. Chooses x (leaves taken (Ok v)) (leaves other (Ok v))
-        ((y : OrMayTrap Intervals) × leaves taken y × After y (Ok v) (λ y. (z : OrMayTrap Intervals) × leaves other z × After z (Ok v) (λ z. IsJoin y z (Ok v)))))
+        ((y : OrMayTrap Intervals) × leaves taken y × After y (Ok v)
+        (λ y. (z : OrMayTrap Intervals) × leaves other z × After z (Ok v) (λ z. IsJoin y z (Ok v)))))
         (λ x. Chooses x (leaves (unplaced_deeds taken) (Ok v)) (leaves (unplaced_deeds other) (Ok v))
-        ((y : OrMayTrap Intervals) × leaves (unplaced_deeds taken) y × After y (Ok v) (λ y. (z : OrMayTrap Intervals) × leaves (unplaced_deeds other) z × After z (Ok v) (λ z. IsJoin y z (Ok v)))))
+        ((y : OrMayTrap Intervals) × leaves (unplaced_deeds taken) y
+        × After y (Ok v) (λ y. (z : OrMayTrap Intervals) × leaves (unplaced_deeds other) z × After z (Ok v) (λ z. IsJoin y z (Ok v)))))
         v
         (formula_same c (seen ++ f.locals))
         (λ x. choose x _ _ _ _ _ _ (deeds_same taken f v) (deeds_same other f v)
@@ -72,12 +76,15 @@ module _ (seen locals writes : List Side) where
     deed_same (repeated n body) f v =
         times_same n (AreDeedsIntervals seen locals writes body) (AreDeedsIntervals seen locals writes (unplaced_deeds body)) (deeds_same body) f v
 
-    pub deeds_same : (ds : Deeds) (f v : Intervals) → AreDeedsIntervals seen locals writes ds f (Ok v) ↔ AreDeedsIntervals seen locals writes (unplaced_deeds ds) f (Ok v)
+    pub deeds_same : (ds : Deeds) (f v : Intervals) → AreDeedsIntervals seen locals writes ds f (Ok v)
+        ↔ AreDeedsIntervals seen locals writes (unplaced_deeds ds) f (Ok v)
     deeds_same no_deed f v = same_fact
     deeds_same (deed d more) f v =
         step (IsDeedIntervals seen locals writes d f) (IsDeedIntervals seen locals writes (unplaced_deed d) f)
         (λ g. AreDeedsIntervals seen locals writes more g (Ok v)) (λ g. AreDeedsIntervals seen locals writes (unplaced_deeds more) g (Ok v))
         v (deed_same d f) (λ g. deeds_same more g v)
 
-pub execution_same : (deeds : Deeds) (locals writes seen at_start : List Side) (v : Intervals) → IsDeedsExecution deeds locals writes seen at_start (Ok v) ↔ IsDeedsExecution (unplaced_deeds deeds) locals writes seen at_start (Ok v)
-execution_same deeds locals writes seen at_start v = deeds_same seen locals writes deeds (record { locals = at_start; draft = replicate (length writes) Absent }) v
+pub execution_same : (deeds : Deeds) (locals writes seen at_start : List Side) (v : Intervals)
+    → IsDeedsExecution deeds locals writes seen at_start (Ok v) ↔ IsDeedsExecution (unplaced_deeds deeds) locals writes seen at_start (Ok v)
+execution_same deeds locals writes seen at_start v =
+    deeds_same seen locals writes deeds (record { locals = at_start; draft = replicate (length writes) Absent }) v

@@ -10,10 +10,9 @@ use Rattle.sot_lang.specs.Tables.{Tables}
 use Rattle.sot_lang.specs.OwnerNames.{width_of}
 use Rattle.sot_json.specs.declared.fault.JsonKind.TheVariants.{NotJson, WrongShape, OutsideRange, Unknown}
 use Rattle.sot_json.specs.Says.{◌>>=◌, or, unless}
-use Rattle.sot_json.specs.Json.{json_of, count, at, all_among}
-use Rattle.sot_cert.specs.CertFormat.{entries, names, modules, is_below_periods, jitter, has_jitter, jitter_in, keys, cert}
+use Rattle.sot_json.specs.Json.{json_of, count, at, may, all_among}
+use Rattle.sot_cert.specs.CertFormat.{entry, entries, names, modules, is_below_periods, jitter, has_jitter, jitter_in, keys, cert}
 use Rattle.sot_typing.specs.Resolved.{PlantTable, NodeTable}
-use Rattle.sot_law_same_tables.proofs.Certificates.{entries_same}
 use Rattle.sot_law_same_tables.specs.Places.{CertificatesAlikeButForPlaces}
 use Rattle.sot_law_same_tables.specs.UnplacedTables.{AreAlike}
 use Rattle.sot_law_same_tables.proofs.PlacelessSeen.{bare_plant, bare_node, modules_same, plants_same, nodes_same}
@@ -33,6 +32,16 @@ periods_are : (nodes : List NodeInfo) (j : ℕ) → list_all (λ n. nat_lt j n.p
 periods_are [] j = refl
 periods_are (n ∷ nodes) j = ap (λ b. nat_lt j n.period && b) (periods_are nodes j)
 
+-- entries are read by the widths of plants
+entries_same : (plants others : List PlantInfo) → ((k : ℕ) → width_of plants k ≡ width_of others k) → (infos : List ModuleInfo) (ms : Members)
+    → entries plants infos ms ≡ entries others infos ms
+unfolding entries
+entries_same plants others widths [] ms = refl
+entries_same plants others widths (m ∷ more) ms = λ i. do
+  x ← may m.name (entry (widths m.plant i)) ms
+  xs ← entries_same plants others widths more ms i
+  Ok (x ∷ xs)
+
 module _ (t u : Tables) (same : AreAlike t u) where
   widths_same : (k : ℕ) → width_of t.plants k ≡ width_of u.plants k
   widths_same k = width_is t.plants k ∙ ap (λ (ps : List PlantTable). width_seen ps k) (plants_same t u same) ∙ sym (width_is u.plants k)
@@ -51,7 +60,8 @@ module _ (t u : Tables) (same : AreAlike t u) where
   below_same : (j : ℕ) → is_below_periods t j ≡ is_below_periods u j
   below_same j =
       let nodes : list_all (λ (n : NodeInfo). nat_lt j n.period) t.nodes ≡ list_all (λ (n : NodeInfo). nat_lt j n.period) u.nodes =
-      periods_are t.nodes j ∙ ap (λ (ns : List NodeTable). list_all (λ (n : NodeTable). nat_lt j n.period) ns) (nodes_same t u same) ∙ sym (periods_are u.nodes j)
+      periods_are t.nodes j ∙ ap (λ (ns : List NodeTable). list_all (λ (n : NodeTable). nat_lt j n.period) ns) (nodes_same t u same)
+      ∙ sym (periods_are u.nodes j)
       in
       λ i. nodes i && list_all (λ (m : ModuleInfo). nat_lt j m.period) (modules_same t u same i)
 

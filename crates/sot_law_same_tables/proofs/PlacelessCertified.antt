@@ -1,12 +1,18 @@
 -- Tables that are alike are well certified alike.
-use Rattle.std.proofs.Common.{◌<◌, sym, ap, subst}
+use Rattle.std.proofs.Common.{◌≡◌, ℕ, ◌<◌, List, Option, Some, sym, ap, subst}
+use Rattle.sot_lists.specs.Places.{At}
+use Rattle.sot_lang.specs.declared.cert.Cells.{Cells}
+use Rattle.sot_lang.specs.declared.cert.Cert.{Cert}
+use Rattle.sot_tube.specs.Certified.{HasCells}
 use Rattle.sot_typing.specs.Resolved.{NodeTable}
-use Rattle.sot_law_same_tables.proofs.Certified.{cells_back}
 use Rattle.sot_law_same_tables.specs.Places.{CertifiedAlikeButForPlaces}
 use Rattle.sot_law_same_tables.proofs.PlacelessSeen.{module_back, plant_back, node_back}
 use Rattle.sot_law_same_tables.proofs.PlacelessNodes.{coded_alike}
 use Rattle.sot_law_same_tables.proofs.PlacelessModules.{own_node_alike, own_output_alike, own_plant_alike, own_inputs_alike, periods_alike, outputs_alike}
 use Rattle.sot_law_same_tables.proofs.PlacelessCells.{trap_free_alike, closed_cell_alike, reach_cell_alike}
+
+cells_back : (c d : Cert) → c.modules.items ≡ d.modules.items → (m : ℕ) (cells : Cells) → HasCells d m cells → HasCells c m cells
+cells_back c d entries m cells has = subst (λ (xs : List (Option Cells)). At xs m (Some cells)) (sym entries) has
 
 pub certified_alike : CertifiedAlikeButForPlaces
 certified_alike t u jitter c d same cells_same well = record {

@@ -23,9 +23,11 @@ use Rattle.sot_law_same_tables.specs.UnplacedTables.{unplaced_deeds, AreAlike}
 use Rattle.sot_law_same_tables.proofs.PlacelessSeen.{bare_node, bare_deeds, scalars_same}
 
 -- where the one is coded, so is the other, with a body that differs in places alone
-pub coded_alike : (x y : NodeInfo) (acts : List Act) → bare_node x ≡ bare_node y → IsCoded y acts → (us : List Act) × IsCoded x us × (bare_deeds us ≡ bare_deeds acts)
+pub coded_alike : (x y : NodeInfo) (acts : List Act) → bare_node x ≡ bare_node y → IsCoded y acts
+    → (us : List Act) × IsCoded x us × (bare_deeds us ≡ bare_deeds acts)
 coded_alike x y acts alike coded =
-    let bodies : option_map unplaced_deeds (option_map (λ v. deeds_view v.items) x.body) ≡ option_map unplaced_deeds (option_map (λ v. deeds_view v.items) y.body) =
+    let bodies : option_map unplaced_deeds (option_map (λ v. deeds_view v.items) x.body)
+    ≡ option_map unplaced_deeds (option_map (λ v. deeds_view v.items) y.body) =
     ap (λ (n : NodeTable). n.body) alike
     in
     let there : option_map unplaced_deeds (option_map (λ v. deeds_view v.items) y.body) ≡ Some (bare_deeds coded.0.items) =
@@ -50,7 +52,8 @@ module _ (t u : Tables) (same : AreAlike t u) (x y : NodeInfo) (alike : bare_nod
   readings_alike boxes = λ i. map (λ s. interval_alike boxes s i) (alike i).reads
 
   -- bodies that differ in places alone leave the same
-  pub execution_alike : (us acts : List Act) (boxes : List (List Side)) (f : Intervals) → bare_deeds us ≡ bare_deeds acts → IsNodeExecution t x us boxes (Ok f) → IsNodeExecution u y acts boxes (Ok f)
+  pub execution_alike : (us acts : List Act) (boxes : List (List Side)) (f : Intervals) → bare_deeds us ≡ bare_deeds acts → IsNodeExecution t x us boxes (Ok f)
+      → IsNodeExecution u y acts boxes (Ok f)
   execution_alike us acts boxes f deeds runs =
       let here = (execution_same (deeds_view us) (local_ranges x) (write_ranges t x) (reading_intervals t x boxes) (local_ranges x) f).0
       (along (execution_view us (local_ranges x) (write_ranges t x) (reading_intervals t x boxes) (local_ranges x) (Ok f)) runs)

@@ -27,7 +27,8 @@ module _ (x y : PlantInfo) (alike : bare_plant x ≡ bare_plant y) where
       let there = along (ap (λ (p : PlantTable). AreViewIntervals p.next (box ++ commands ++ seen ++ sides p.noise) (Ok after)) alike) here in
       along (sym (terms_view y.next.items ss (Ok after))) ((views_same (map formula_view y.next.items) ss after).1 there)
 
-  pub stays_alike : (commands seen : List Side) (region : List (List Side)) (box : List Side) (k : ℕ) → StaysInside x commands seen region box k → StaysInside y commands seen region box k
+  pub stays_alike : (commands seen : List Side) (region : List (List Side)) (box : List Side) (k : ℕ) → StaysInside x commands seen region box k
+      → StaysInside y commands seen region box k
   stays_alike commands seen region box zero stays = stays
   stays_alike commands seen region box (suc k) stays =
       (stays.0, (stays.1.0, next_alike box commands seen stays.1.0 stays.1.1, stays_alike commands seen region stays.1.0 k stays.1.2))
@@ -37,7 +38,8 @@ module _ (t u : Tables) (same : AreAlike t u) (x y : PlantInfo) (alike : bare_pl
   inputs_alike = λ i. map (range_of (scalars_same t u same i)) (alike i).inputs
 
   -- so a tube of the one is inside a region where that of the other is
-  pub tube_alike : (commands : List Side) (region : List (List Side)) (box : List Side) (k : ℕ) → TubeInside t x commands region box k → TubeInside u y commands region box k
+  pub tube_alike : (commands : List Side) (region : List (List Side)) (box : List Side) (k : ℕ) → TubeInside t x commands region box k
+      → TubeInside u y commands region box k
   tube_alike commands region box k tube = record {
     hulls = tube.hulls;
     are = along (λ i. AreHulls (modules_same t u same i) (alike i).sees tube.hulls) tube.are;

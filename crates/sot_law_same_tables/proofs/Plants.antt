@@ -31,13 +31,15 @@ module _ (x y : PlantInfo) (alike : plant_seen x ≡ plant_seen y) where
       ∙ ap (λ (p : PlantTable). AreViewIntervals p.next (box ++ commands ++ seen ++ sides p.noise) o) alike
       ∙ sym (terms_view y.next.items (box ++ commands ++ seen ++ bounds y) o)
 
-  pub stays_alike : (commands seen : List Side) (region : List (List Side)) (box : List Side) (k : ℕ) → StaysInside x commands seen region box k ≡ StaysInside y commands seen region box k
+  pub stays_alike : (commands seen : List Side) (region : List (List Side)) (box : List Side) (k : ℕ)
+      → StaysInside x commands seen region box k ≡ StaysInside y commands seen region box k
   stays_alike commands seen region box zero = refl
   stays_alike commands seen region box (suc k) = λ i.
       Covers region box × ((b : List Side) × next_alike box commands seen (Ok b) i × stays_alike commands seen region b k i)
 
   -- and their tubes leave a region alike
-  pub leaves_alike : (commands seen : List Side) (region : List (List Side)) (box : List Side) (n k : ℕ) (leave : Leave) → Leaves x commands seen region box n k leave ≡ Leaves y commands seen region box n k leave
+  pub leaves_alike : (commands seen : List Side) (region : List (List Side)) (box : List Side) (n k : ℕ) (leave : Leave)
+      → Leaves x commands seen region box n k leave ≡ Leaves y commands seen region box n k leave
   leaves_alike commands seen region box n zero leave = refl
   leaves_alike commands seen region box n (suc k) leave = λ i.
       GoesOut region box n leave
@@ -49,7 +51,8 @@ module _ (t u : Tables) (same : tables_seen t ≡ tables_seen u) (x y : PlantInf
   inputs_alike = λ i. map (range_of (scalars_same t u same i)) (alike i).inputs
 
   -- so a tube of the one is inside a region where that of the other is
-  pub tube_alike : (commands : List Side) (region : List (List Side)) (box : List Side) (k : ℕ) → TubeInside t x commands region box k → TubeInside u y commands region box k
+  pub tube_alike : (commands : List Side) (region : List (List Side)) (box : List Side) (k : ℕ) → TubeInside t x commands region box k
+      → TubeInside u y commands region box k
   tube_alike commands region box k tube = record {
     hulls = tube.hulls;
     are = along (λ i. AreHulls (modules_same t u same i) (alike i).sees tube.hulls) tube.are;
@@ -60,12 +63,15 @@ module _ (t u : Tables) (same : tables_seen t ≡ tables_seen u) (x y : PlantInf
   any_tube_alike region box k tube = subst (λ commands. TubeInside u y commands region box k) inputs_alike (tube_alike (input_ranges t x) region box k tube)
 
   -- and leaves it where that of the other does, in the same way
-  pub tube_leaves_alike : (commands : List Side) (region : List (List Side)) (box : List Side) (k : ℕ) (leave : Leave) → TubeLeaves t x commands region box k leave → TubeLeaves u y commands region box k leave
+  pub tube_leaves_alike : (commands : List Side) (region : List (List Side)) (box : List Side) (k : ℕ) (leave : Leave)
+      → TubeLeaves t x commands region box k leave → TubeLeaves u y commands region box k leave
   tube_leaves_alike commands region box k leave tube = record {
     hulls = tube.hulls;
     are = along (λ i. AreHulls (modules_same t u same i) (alike i).sees tube.hulls) tube.are;
     leaves = along (leaves_alike x y alike commands (joined_boxes tube.hulls) region box 0 k leave) tube.leaves;
   }
 
-  pub any_tube_leaves_alike : (region : List (List Side)) (box : List Side) (k : ℕ) (leave : Leave) → AnyTubeLeaves t x region box k leave → AnyTubeLeaves u y region box k leave
-  any_tube_leaves_alike region box k leave tube = subst (λ commands. TubeLeaves u y commands region box k leave) inputs_alike (tube_leaves_alike (input_ranges t x) region box k leave tube)
+  pub any_tube_leaves_alike : (region : List (List Side)) (box : List Side) (k : ℕ) (leave : Leave) → AnyTubeLeaves t x region box k leave
+      → AnyTubeLeaves u y region box k leave
+  any_tube_leaves_alike region box k leave tube =
+      subst (λ commands. TubeLeaves u y commands region box k leave) inputs_alike (tube_leaves_alike (input_ranges t x) region box k leave tube)

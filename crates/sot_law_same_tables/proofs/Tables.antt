@@ -9,7 +9,8 @@ use Rattle.sot_tree.specs.declared.tree.Const.{Const}
 use Rattle.sot_tree.specs.declared.tree.Const.TheVariants.{Number, Truth}
 use Rattle.sot_tree.specs.declared.tree.Field.{Field}
 use Rattle.sot_tree.specs.declared.tree.StateDecl.{StateDecl}
-use Rattle.sot_tree.specs.Trees.{Form, one, fields, Topic, Plant, Node, Module, Local, Next, Area, Block, Declaration, a_topic, a_plant, a_node, a_module, Program}
+use Rattle.sot_tree.specs.Trees.{Form, one, fields, Topic, Plant, Node, Module, Local, Next, Area, Block, Declaration, a_topic, a_plant, a_node, a_module}
+use Rattle.sot_tree.specs.Trees.{Program}
 use Rattle.sot_lang.specs.declared.tables.ScalarInfo.{ScalarInfo}
 use Rattle.sot_lang.specs.declared.tables.Slot.{Slot}
 use Rattle.sot_lang.specs.declared.tables.Slot.TheVariants.{Scalar as ScalarSlot, State}
@@ -18,8 +19,13 @@ use Rattle.sot_rules.specs.Names.{meaning, Scope, node_scope, plant_scope}
 use Rattle.sot_rules.specs.Lists.{are_same}
 use Rattle.sot_rules.specs.Tests.{starts}
 use Rattle.sot_typing.specs.Terms.{sort_scale, formula_of, deeds_of}
-use Rattle.sot_typing.specs.Resolved.{a_topic_of, a_plant_of, a_node_of, a_module_of, topics, plants, nodes, modules, topic_place, plant_place, node_place, scalar_count, first_scalar, counted_from, scalars_meant, slots_meant, lowest, greatest, const_number, topic_info, field_names, scalar_info, topic_scalars, state_info, noise_info, plant_table, local_info, node_table, side_of, state_count, region_of, module_info, tables_of}
-use Rattle.sot_law_format.specs.Unplaced.{unplaced_name, unplaced_bounds, unplaced_scalar, unplaced_field, unplaced_const, unplaced_tree, unplaced_block, unplaced_shape, unplaced_topic, unplaced_state, unplaced_next, unplaced_local, unplaced_plant, unplaced_node, unplaced_area, unplaced_module, unplaced_declaration, without_places}
+use Rattle.sot_typing.specs.Resolved.{a_topic_of, a_plant_of, a_node_of, a_module_of, topics, plants, nodes, modules, topic_place, plant_place, node_place}
+use Rattle.sot_typing.specs.Resolved.{scalar_count, first_scalar, counted_from, scalars_meant, slots_meant, lowest, greatest, const_number, topic_info}
+use Rattle.sot_typing.specs.Resolved.{field_names, scalar_info, topic_scalars, state_info, noise_info, plant_table, local_info, node_table, side_of}
+use Rattle.sot_typing.specs.Resolved.{state_count, region_of, module_info, tables_of}
+use Rattle.sot_law_format.specs.Unplaced.{unplaced_name, unplaced_bounds, unplaced_scalar, unplaced_field, unplaced_const, unplaced_tree, unplaced_block}
+use Rattle.sot_law_format.specs.Unplaced.{unplaced_shape, unplaced_topic, unplaced_state, unplaced_next, unplaced_local, unplaced_plant, unplaced_node}
+use Rattle.sot_law_format.specs.Unplaced.{unplaced_area, unplaced_module, unplaced_declaration, without_places}
 use Rattle.sot_law_same_tables.specs.UnplacedTables.{unplaced_formula, unplaced_deeds, unplaced_plant_table, unplaced_node_table, unplaced_tables}
 use Rattle.sot_law_same_tables.specs.Places.{TablesKnowNoPlace}
 use Rattle.sot_law_same_tables.proofs.Lists.{length_same, map_same, map_swap, filter_swap, flat_same, position_same, take_swap, sum_same, zip_second}
@@ -172,7 +178,8 @@ module _ (p : Program) where
 
   scalars_same : (i : Ident) → scalars_meant (without_places p) (unplaced_name i) ≡ scalars_meant p i
   scalars_same i =
-      ap (λ k. counted k (meaning (without_places p) i)) (first_same i) ∙ meant_same (counted (first_scalar p (topic_place p i))) (counted_is (first_scalar p (topic_place p i))) p i
+      ap (λ k. counted k (meaning (without_places p) i)) (first_same i)
+      ∙ meant_same (counted (first_scalar p (topic_place p i))) (counted_is (first_scalar p (topic_place p i))) p i
 
   slots_same : (i : Ident) → slots_meant (without_places p) (unplaced_name i) ≡ slots_meant p i
   slots_same i =
@@ -195,7 +202,8 @@ module _ (p : Program) where
       (λ x. scalar_same (topic_place p t.name) x.0 x.1.0 x.1.1) (zip (field_names t.shape) (starts t))
 
   -- plants
-  next_same : (q : Plant) (n : Next) → formula_of (plant_scope (without_places p) (unplaced_plant q)) (unplaced_tree n.value) ≡ unplaced_formula (formula_of (plant_scope p q) n.value)
+  next_same : (q : Plant) (n : Next) → formula_of (plant_scope (without_places p) (unplaced_plant q)) (unplaced_tree n.value)
+      ≡ unplaced_formula (formula_of (plant_scope p q) n.value)
   next_same q n = ap (λ names. formula_of names (unplaced_tree n.value)) (plant_scope_same p q) ∙ formula_same (plant_scope p q) n.value
 
   plant_same : (q : Plant) → plant_table (without_places p) (unplaced_plant q) ≡ unplaced_plant_table (plant_table p q)
@@ -205,11 +213,14 @@ module _ (p : Program) where
     inputs = flat_same unplaced_name (scalars_meant (without_places p)) (scalars_meant p) scalars_same q.inputs j;
     sees = map_same unplaced_name (plant_place (without_places p)) (plant_place p) plant_place_same q.sees j;
     noise = map_same unplaced_field noise_info noise_info noise_same q.noise j;
-    next = map_swap unplaced_next (λ (n : Next). formula_of (plant_scope (without_places p) (unplaced_plant q)) n.value) unplaced_formula (λ (n : Next). formula_of (plant_scope p q) n.value) (next_same q) q.next j;
+    next =
+        map_swap unplaced_next (λ (n : Next). formula_of (plant_scope (without_places p) (unplaced_plant q)) n.value) unplaced_formula
+        (λ (n : Next). formula_of (plant_scope p q) n.value) (next_same q) q.next j;
   }
 
   -- nodes
-  body_same : (n : Node) (b : Option Block) → option_map (deeds_of (node_scope (without_places p) (unplaced_node n))) (option_map unplaced_block b) ≡ option_map unplaced_deeds (option_map (deeds_of (node_scope p n)) b)
+  body_same : (n : Node) (b : Option Block) → option_map (deeds_of (node_scope (without_places p) (unplaced_node n))) (option_map unplaced_block b)
+      ≡ option_map unplaced_deeds (option_map (deeds_of (node_scope p n)) b)
   body_same n None = refl
   body_same n (Some b) = ap Some (ap (λ (s : Scope). deeds_of s (unplaced_block b)) (node_scope_same p n) ∙ deeds_same (node_scope p n) b)
 
@@ -251,11 +262,21 @@ module _ (p : Program) where
   tables_same : tables_of (without_places p) ≡ unplaced_tables (tables_of p)
   unfolding tables_of
   tables_same = λ j. record {
-    topics = (ap (map (topic_info (without_places p))) topics_same ∙ map_same unplaced_topic (topic_info (without_places p)) (topic_info p) topic_info_same (topics p)) j;
-    scalars = (ap (flat_map (topic_scalars (without_places p))) topics_same ∙ flat_same unplaced_topic (topic_scalars (without_places p)) (topic_scalars p) topic_scalars_same (topics p)) j;
-    plants = (ap (map (plant_table (without_places p))) plants_same ∙ map_swap unplaced_plant (plant_table (without_places p)) unplaced_plant_table (plant_table p) plant_same (plants p)) j;
-    nodes = (ap (map (node_table (without_places p))) nodes_same ∙ map_swap unplaced_node (node_table (without_places p)) unplaced_node_table (node_table p) node_same (nodes p)) j;
-    modules = (ap (map (module_info (without_places p))) modules_same ∙ map_same unplaced_module (module_info (without_places p)) (module_info p) module_same (modules p)) j;
+    topics =
+        (ap (map (topic_info (without_places p))) topics_same ∙ map_same unplaced_topic (topic_info (without_places p)) (topic_info p) topic_info_same
+        (topics p)) j;
+    scalars =
+        (ap (flat_map (topic_scalars (without_places p))) topics_same
+        ∙ flat_same unplaced_topic (topic_scalars (without_places p)) (topic_scalars p) topic_scalars_same (topics p)) j;
+    plants =
+        (ap (map (plant_table (without_places p))) plants_same
+        ∙ map_swap unplaced_plant (plant_table (without_places p)) unplaced_plant_table (plant_table p) plant_same (plants p)) j;
+    nodes =
+        (ap (map (node_table (without_places p))) nodes_same ∙ map_swap unplaced_node (node_table (without_places p)) unplaced_node_table (node_table p)
+        node_same (nodes p)) j;
+    modules =
+        (ap (map (module_info (without_places p))) modules_same
+        ∙ map_same unplaced_module (module_info (without_places p)) (module_info p) module_same (modules p)) j;
   }
 
 pub tables_alike : TablesKnowNoPlace

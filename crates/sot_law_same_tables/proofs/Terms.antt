@@ -3,7 +3,8 @@ use Rattle.std.proofs.Common.{◌≡◌, ℕ, List, Option, Some, None, option_m
 use Rattle.std.specs.List.{position_or_len}
 use Rattle.std.specs.Str.{bytes_eq}
 use Rattle.sot_tree.specs.declared.tree.Ident.{Ident}
-use Rattle.sot_tree.specs.Trees.{Tree, Trees, number, truth, named, binary, rest, negated, denied, called, rescaled, chosen, no_tree, one_more, Statement, Block, assigned, published, branched, repeated, no_statement, statement}
+use Rattle.sot_tree.specs.Trees.{Tree, Trees, number, truth, named, binary, rest, negated, denied, called, rescaled, chosen, no_tree, one_more, Statement}
+use Rattle.sot_tree.specs.Trees.{Block, assigned, published, branched, repeated, no_statement, statement}
 use Rattle.sot_rules.specs.Names.{Thing, Scope}
 use Rattle.sot_typing.specs.Formulas as to
 use Rattle.sot_typing.specs.Formulas.{deed}
@@ -18,7 +19,8 @@ both_same None (Some f) = refl
 both_same (Some i) None = refl
 both_same (Some i) (Some f) = refl
 
-pub place_of_same : (things : List Thing) (first : Ident) (field : Option Ident) → place_of things (unplaced_name first) (option_map unplaced_name field) ≡ place_of things first field
+pub place_of_same : (things : List Thing) (first : Ident) (field : Option Ident)
+    → place_of things (unplaced_name first) (option_map unplaced_name field) ≡ place_of things first field
 place_of_same things first field = λ j. position_or_len (λ (r : Reference). bytes_eq first.name r.name && both_same field r.field j) (references things)
 
 mutual

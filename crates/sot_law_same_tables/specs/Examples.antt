@@ -1,8 +1,10 @@
--- Worked expressions and statements that are the same without places, or not, as statements that a function of this crate proves.
+-- Worked expressions and statements that are the same without places, or not, as statements that a
+-- function of this crate proves.
 use Rattle.std.specs.Prelude.{◌≡◌, pos}
 use Rattle.sot_text.specs.declared.token.Span.{Span}
 use Rattle.sot_tree.specs.declared.operator.Op.TheVariants.{Add, Sub}
-use Rattle.sot_typing.specs.Formulas.{Formula, number, place, binary, rescaled, Deed, assigned, published}
+use Rattle.sot_typing.specs.Formulas.{Formula, number, place, binary, rescaled, Deed, assigned}
+use Rattle.sot_typing.specs.Formulas.{published}
 use Rattle.sot_law_same_tables.specs.UnplacedTables.{unplaced_formula, unplaced_deed}
 
 abbrev pub sum : Span → Formula
@@ -31,4 +33,5 @@ OperandsCount =
 -- so do the target of a statement, and whether it is a local or a topic
 abbrev pub TargetsCount : Type 0
 TargetsCount =
-    (at : Span) → AreOtherDeeds (assigned 2 (sum at) at) (assigned 3 (sum at) at) × AreOtherDeeds (assigned 2 (sum at) at) (published 2 (sum at) at)
+    (at : Span) → AreOtherDeeds (assigned 2 (sum at) at) (assigned 3 (sum at) at)
+    × AreOtherDeeds (assigned 2 (sum at) at) (published 2 (sum at) at)

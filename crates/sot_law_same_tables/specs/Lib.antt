@@ -4,3 +4,5 @@ pub mod UnplacedTables
 pub mod Places
 -- worked expressions and statements
 pub mod Examples
+-- tables of the running example that look the same
+pub mod OneLine

@@ -18,7 +18,8 @@ TypingKnowsNoPlace = (p q : Program) → AreSame p q → IsFaultless p → IsFau
 
 -- programs that are the same have tables that are alike
 abbrev pub TablesKnowNoPlace : Type 0
-TablesKnowNoPlace = (p q : Program) (t u : Tables) → AreSame p q → AreTables p t → AreTables q u → AreAlike t u
+TablesKnowNoPlace =
+    (p q : Program) (t u : Tables) → AreSame p q → AreTables p t → AreTables q u → AreAlike t u
 
 -- tables that are alike are well certified alike, by certificates with the same cells
 abbrev pub CertifiedAlikeButForPlaces : Type 0
@@ -28,11 +29,13 @@ CertifiedAlikeButForPlaces =
 
 -- a certificate's text says the same of tables that are alike
 abbrev pub CertificatesAlikeButForPlaces : Type 0
-CertificatesAlikeButForPlaces = (t u : Tables) (bytes : List ℕ) → AreAlike t u → cert_of t bytes ≡ cert_of u bytes
+CertificatesAlikeButForPlaces =
+    (t u : Tables) (bytes : List ℕ) → AreAlike t u → cert_of t bytes ≡ cert_of u bytes
 
--- the program that a text spells, and the one that its canonical text spells: the one breaks no rule of typing where the other breaks
--- none, and their tables are alike
+-- the program that a text spells, and the one that its canonical text spells: the one breaks no
+-- rule of typing where the other breaks none, and their tables are alike
 abbrev pub FormattedProgramsAreAlike : Type 0
 FormattedProgramsAreAlike =
     (bytes : List ℕ) (at : ℕ) (p q : Program) → Spells bytes at p → Spells (canonical p) 0 q
-    → (IsFaultless p ↔ IsFaultless q) × ((t u : Tables) → AreTables p t → AreTables q u → AreAlike t u)
+    → (IsFaultless p ↔ IsFaultless q) ×
+    ((t u : Tables) → AreTables p t → AreTables q u → AreAlike t u)

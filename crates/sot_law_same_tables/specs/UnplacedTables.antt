@@ -1,8 +1,11 @@
--- Tables without where their expressions and statements stand in a text: every place is the same one.
+-- Tables without where their expressions and statements stand in a text: every place is the same
+-- one.
 use Rattle.std.specs.Prelude.{◌≡◌, map}
 use Rattle.std.specs.Option.{option_map}
 use Rattle.sot_lang.specs.Tables.{Tables}
-use Rattle.sot_typing.specs.Formulas.{Formula, Formulas, number, place, binary, rest, negated, denied, called, rescaled, chosen, no_formula, one_more, Deed, Deeds, assigned, published, branched, repeated, no_deed, deed}
+use Rattle.sot_typing.specs.Formulas.{Formula, Formulas, number, place, binary, rest, negated}
+use Rattle.sot_typing.specs.Formulas.{denied, called, rescaled, chosen, no_formula, one_more, Deed}
+use Rattle.sot_typing.specs.Formulas.{Deeds, assigned, published, branched, repeated, no_deed, deed}
 use Rattle.sot_typing.specs.Resolved.{PlantTable, NodeTable, ProgramTables, tables_seen}
 use Rattle.sot_law_format.specs.Unplaced.{nowhere}
 
@@ -16,7 +19,8 @@ abbrev mutual
   unplaced_formula (denied a at) = denied (unplaced_formula a) nowhere
   unplaced_formula (called f parts at) = called f (unplaced_formulas parts) nowhere
   unplaced_formula (rescaled a from to at) = rescaled (unplaced_formula a) from to nowhere
-  unplaced_formula (chosen c a b at) = chosen (unplaced_formula c) (unplaced_formula a) (unplaced_formula b) nowhere
+  unplaced_formula (chosen c a b at) =
+      chosen (unplaced_formula c) (unplaced_formula a) (unplaced_formula b) nowhere
 
   pub unplaced_formulas : Formulas → Formulas
   unplaced_formulas no_formula = no_formula
@@ -26,7 +30,8 @@ abbrev mutual
   pub unplaced_deed : Deed → Deed
   unplaced_deed (assigned k a at) = assigned k (unplaced_formula a) nowhere
   unplaced_deed (published k a at) = published k (unplaced_formula a) nowhere
-  unplaced_deed (branched c taken other) = branched (unplaced_formula c) (unplaced_deeds taken) (unplaced_deeds other)
+  unplaced_deed (branched c taken other) =
+      branched (unplaced_formula c) (unplaced_deeds taken) (unplaced_deeds other)
   unplaced_deed (repeated n body) = repeated n (unplaced_deeds body)
 
   pub unplaced_deeds : Deeds → Deeds

@@ -1,14 +1,15 @@
 //! Tables that look the same mean the same.
 //!
-//! What certificates and flights say of a program, whether it is well certified and whether it breaks a rule of typing depends neither
-//! on where the parts of its tables lie in memory nor on where its parts stand in a text.
+//! What certificates and flights say of a program, whether it is well certified and whether it
+//! breaks a rule of typing depends neither on where the parts of its tables lie in memory nor on
+//! where its parts stand in a text.
 #![tactic(auto)]
 
 mod facts;
 mod laws;
 mod places;
 
-pub use facts::forgetting_is_as_stated;
+pub use facts::{forgetting_is_as_stated, the_line_is_one};
 pub use laws::{
     certificates_say_alike, flights_say_alike, tables_are_certified_alike, verdicts_are_alike,
 };

@@ -1,4 +1,5 @@
-//! Lists and their places: what stands at a place, what is in a list, and the lemmas on both that every crate needs.
+//! Lists and their places: what stands at a place, what is in a list, and the lemmas on both that
+//! every crate needs.
 #![tactic(auto)]
 
 mod facts;

@@ -6,9 +6,11 @@ use Rattle.sot_tree.specs.declared.tree.Lit.{Lit}
 use Rattle.sot_tree.specs.declared.tree.Field.{Field}
 use Rattle.sot_tree.specs.declared.tree.StateDecl.{StateDecl}
 use Rattle.sot_tree.specs.Trees.{Block, Local, Node, Area}
-use Rattle.sot_parser.specs.Pieces.{Keyword, Sign, Named, name_of, number_of, each, maybe, FieldForm, spelled_field, field_of, ClauseForm, spelled_clause, clause_of, clause_or_none, RoleForm, spelled_role, role_of, TimingForm, spelled_timing}
+use Rattle.sot_parser.specs.Pieces.{Keyword, Sign, Named, name_of, number_of, each, maybe, FieldForm, spelled_field, field_of, ClauseForm, spelled_clause}
+use Rattle.sot_parser.specs.Pieces.{clause_of, clause_or_none, RoleForm, spelled_role, role_of, TimingForm, spelled_timing}
 use Rattle.sot_parser.specs.Statements.{BlockForm, spelled_block, block_of}
-use Rattle.sot_parser.specs.Declarations.{StateForm, spelled_state, state_of, spelled_names, LocalForm, spelled_local, local_of, BoundForm, spelled_bound, bound_of}
+use Rattle.sot_parser.specs.Declarations.{StateForm, spelled_state, state_of, spelled_names, LocalForm, spelled_local, local_of, BoundForm, spelled_bound}
+use Rattle.sot_parser.specs.Declarations.{bound_of}
 
 -- what a plant holds and sees
 pub record SignalsForm : Type 0 where
@@ -18,7 +20,8 @@ pub record SignalsForm : Type 0 where
   pub noise : Option (ClauseForm (codes "noise") FieldForm)
 
 abbrev pub spelled_signals : SignalsForm → List Lexeme → List Lexeme
-spelled_signals s more = spelled_clause spelled_state s.states (spelled_names s.inputs (spelled_names s.sees (maybe (spelled_clause spelled_field) s.noise more)))
+spelled_signals s more =
+    spelled_clause spelled_state s.states (spelled_names s.inputs (spelled_names s.sees (maybe (spelled_clause spelled_field) s.noise more)))
 
 abbrev pub signals_of : SignalsForm → List StateDecl × List Ident × List Ident × List Field
 signals_of s = (clause_of state_of s.states, clause_or_none name_of s.inputs, clause_or_none name_of s.sees, clause_or_none field_of s.noise)
@@ -35,7 +38,16 @@ abbrev pub spelled_head : HeadForm → List Lexeme → List Lexeme
 spelled_head h more = h.name.token ∷ spelled_timing h.timing (h.opening.token ∷ spelled_names h.reads (spelled_names h.writes more))
 
 abbrev pub head_of : HeadForm → Node
-head_of h = record { name = name_of h.name; period = number_of h.timing.period; offset = number_of h.timing.offset; reads = clause_or_none name_of h.reads; writes = clause_or_none name_of h.writes; locals = []; body = None }
+head_of h =
+    record {
+      name = name_of h.name;
+      period = number_of h.timing.period;
+      offset = number_of h.timing.offset;
+      reads = clause_or_none name_of h.reads;
+      writes = clause_or_none name_of h.writes;
+      locals = [];
+      body = None;
+    }
 
 -- the locals and the body of a node
 pub record CodeForm : Type 0 where

@@ -2,12 +2,23 @@
 use Rattle.std.proofs.Common.{ℕ, ◌≤◌, ◌||◌, List, [], ◌∷◌, codes, map, Some, None, arith}
 use Rattle.sot_expression.specs.Lexemes.{begins, is_sign, is_keyword}
 use Rattle.sot_expression.specs.Readers.{name_at}
-use Rattle.sot_parser.specs.Pieces.{spelled_name, name_of, spelled_field, field_of, spelled_const, const_of, spelled_side, side_of, each, maybe, spelled_clause, clause_or_none}
-use Rattle.sot_parser.specs.Declarations.{one_scalar, a_record, spelled_shape, shape_of, one_const, consts, spelled_init, init_of, spelled_outside, spelled_topic, topic_of, is_given, whole, scaled, spelled_scale, scale_of, spelled_state, state_of, NextForm, spelled_next, next_of, PlantForm, spelled_plant, plant_of, most, next_levels, plant_levels, spelled_local, local_of, CodedForm, spelled_coded, coded_of, spelled_external, external_of, spelled_box, box_of, no_box, some_boxes, spelled_region, region_of, spelled_bound, bound_of, spelled_module, module_of, DeclarationForm, a_topic, a_plant, a_coded, an_external, a_module, spelled_declaration, declaration_of, declaration_levels}
+use Rattle.sot_parser.specs.Pieces.{spelled_name, name_of, spelled_field, field_of, spelled_const, const_of, spelled_side, side_of, each, maybe, spelled_clause}
+use Rattle.sot_parser.specs.Pieces.{clause_or_none}
+use Rattle.sot_parser.specs.Declarations.{one_scalar, a_record, spelled_shape, shape_of, one_const, consts, spelled_init, init_of, spelled_outside}
+use Rattle.sot_parser.specs.Declarations.{spelled_topic, topic_of, is_given, whole, scaled, spelled_scale, scale_of, spelled_state, state_of, NextForm}
+use Rattle.sot_parser.specs.Declarations.{spelled_next, next_of, PlantForm, spelled_plant, plant_of, most, next_levels, plant_levels, spelled_local, local_of}
+use Rattle.sot_parser.specs.Declarations.{CodedForm, spelled_coded, coded_of, spelled_external, external_of, spelled_box, box_of, no_box, some_boxes}
+use Rattle.sot_parser.specs.Declarations.{spelled_region, region_of, spelled_bound, bound_of, spelled_module, module_of, DeclarationForm, a_topic, a_plant}
+use Rattle.sot_parser.specs.Declarations.{a_coded, an_external, a_module, spelled_declaration, declaration_of, declaration_levels}
 use Rattle.sot_parser.specs.Statements.{block_levels}
 use Rattle.sot_parser.specs.ListReaders.{optional_at}
-use Rattle.sot_parser.specs.DeclarationReaders.{side_at, named_scalar_at, const_at, fields_at, one_scalar_at, shape_at, consts_at, one_const_at, init_at, environment_at, outside_at, topic_at, whole_at, scaled_at, scale_at, state_at, next_at, signals_at, plant_at, local_at, head_at, code_at, coded_at, external_at, box_at, no_box_at, region_at, bound_at, pairing_at, bounds_at, module_at, a_topic_at, a_plant_at, a_coded_at, an_external_at, a_module_at, declaration_at, declarations_at, is_some}
-use Rattle.sot_parser.proofs.DeclarationParts.{spelled_signals, signals_of, spelled_head, head_of, CodeForm, spelled_code, code_of, spelled_pairing, pairing_of, spelled_bounds, bounds_of}
+use Rattle.sot_parser.specs.DeclarationReaders.{side_at, named_scalar_at, const_at, fields_at, one_scalar_at, shape_at, consts_at, one_const_at, init_at}
+use Rattle.sot_parser.specs.DeclarationReaders.{environment_at, outside_at, topic_at, whole_at, scaled_at, scale_at, state_at, next_at, signals_at, plant_at}
+use Rattle.sot_parser.specs.DeclarationReaders.{local_at, head_at, code_at, coded_at, external_at, box_at, no_box_at, region_at, bound_at, pairing_at}
+use Rattle.sot_parser.specs.DeclarationReaders.{bounds_at, module_at, a_topic_at, a_plant_at, a_coded_at, an_external_at, a_module_at, declaration_at}
+use Rattle.sot_parser.specs.DeclarationReaders.{declarations_at, is_some}
+use Rattle.sot_parser.proofs.DeclarationParts.{spelled_signals, signals_of, spelled_head, head_of, CodeForm, spelled_code, code_of, spelled_pairing, pairing_of}
+use Rattle.sot_parser.proofs.DeclarationParts.{spelled_bounds, bounds_of}
 use Rattle.sot_parser.proofs.SoundSteps.{Sound, Any, take, close, here, done, done_within, either, keyword_sound, sign_sound, name_sound}
 use Rattle.sot_parser.proofs.ListsSound.{Each, all_sound, all_any_sound, separated_sound, clause_sound, optional_sound}
 use Rattle.sot_parser.proofs.PiecesSound.{side_sound, fix_sound, scalar_sound, field_sound, const_sound, timing_sound, role_sound}
@@ -64,7 +75,16 @@ topic_sound =
     take (sign_sound (codes "=")) _ _ (λ equals _.
     take init_sound _ _ (λ init _.
     take (sign_sound (codes ";")) _ _ (λ semicolon _.
-    done spelled_topic topic_of (record { environment = environment; word = word; name = name; colon = colon; shape = shape; equals = equals; init = init; semicolon = semicolon })))))))))
+    done spelled_topic topic_of (record {
+      environment = environment;
+      word = word;
+      name = name;
+      colon = colon;
+      shape = shape;
+      equals = equals;
+      init = init;
+      semicolon = semicolon;
+    })))))))))
 
 pub whole_sound : Sound spelled_scale scale_of Any whole_at
 unfolding whole_at
@@ -127,7 +147,8 @@ plant_sound room =
     take signals_sound _ _ (λ s _.
     take (all_sound spelled_next next_of (NextFits room) (begins (is_keyword (codes "next"))) (next_at room) (next_sound room)) _ _ (λ next all.
     take (sign_sound (codes "}")) _ _ (λ closing _.
-    done_within spelled_plant plant_of (PlantFits room) (record { word = word; name = name; opening = opening; states = s.states; inputs = s.inputs; sees = s.sees; noise = s.noise; next = next; closing = closing })
+    done_within spelled_plant plant_of (PlantFits room) (record
+    { word = word; name = name; opening = opening; states = s.states; inputs = s.inputs; sees = s.sees; noise = s.noise; next = next; closing = closing })
     (most_fit next_levels room next all)))))))
 
 pub local_sound : Sound spelled_local local_of Any local_at
@@ -140,7 +161,15 @@ local_sound =
     take (sign_sound (codes "=")) _ _ (λ equals _.
     take const_sound _ _ (λ init _.
     take (sign_sound (codes ";")) _ _ (λ semicolon _.
-    done spelled_local local_of (record { word = word; name = name; colon = colon; scalar = scalar; equals = equals; init = init; semicolon = semicolon }))))))))
+    done spelled_local local_of (record {
+      word = word;
+      name = name;
+      colon = colon;
+      scalar = scalar;
+      equals = equals;
+      init = init;
+      semicolon = semicolon;
+    }))))))))
 
 pub head_sound : Sound spelled_head head_of Any head_at
 unfolding head_at
@@ -174,7 +203,18 @@ coded_sound room =
     take (code_sound room) _ _ (λ c fits.
     take (sign_sound (codes "}")) _ _ (λ closing _.
     done_within spelled_coded coded_of (CodedFits room)
-    (record { word = word; name = h.name; timing = h.timing; opening = h.opening; reads = h.reads; writes = h.writes; locals = c.locals; do_word = c.do_word; body = c.body; closing = closing }) fits))))
+    (record {
+      word = word;
+      name = h.name;
+      timing = h.timing;
+      opening = h.opening;
+      reads = h.reads;
+      writes = h.writes;
+      locals = c.locals;
+      do_word = c.do_word;
+      body = c.body;
+      closing = closing;
+    }) fits))))
 
 pub external_sound : Sound spelled_external external_of Any external_at
 unfolding external_at
@@ -182,7 +222,15 @@ external_sound =
     take (keyword_sound (codes "external")) _ _ (λ word _.
     take head_sound _ _ (λ h _.
     take (sign_sound (codes "}")) _ _ (λ closing _.
-    done spelled_external external_of (record { word = word; name = h.name; timing = h.timing; opening = h.opening; reads = h.reads; writes = h.writes; closing = closing }))))
+    done spelled_external external_of (record {
+      word = word;
+      name = h.name;
+      timing = h.timing;
+      opening = h.opening;
+      reads = h.reads;
+      writes = h.writes;
+      closing = closing;
+    }))))
 
 pub box_sound : Sound spelled_box box_of Any box_at
 unfolding box_at
@@ -198,7 +246,9 @@ no_box_sound = take (keyword_sound (codes "none")) _ _ (λ word _. done spelled_
 
 pub region_sound : Sound spelled_region region_of Any region_at
 unfolding region_at
-region_sound = either (begins (is_keyword (codes "none"))) _ _ _ no_box_sound (close (separated_sound spelled_box box_of (codes "|") box_at box_sound) _ (λ boxes _ us. here spelled_region region_of (some_boxes boxes) us))
+region_sound =
+    either (begins (is_keyword (codes "none"))) _ _ _ no_box_sound
+    (close (separated_sound spelled_box box_of (codes "|") box_at box_sound) _ (λ boxes _ us. here spelled_region region_of (some_boxes boxes) us))
 
 pub bound_sound : (text : List ℕ) → Sound (spelled_bound {text = text}) bound_of Any (bound_at text)
 unfolding bound_at
@@ -235,7 +285,19 @@ module_sound =
     take bounds_sound _ _ (λ b _.
     take (sign_sound (codes "}")) _ _ (λ closing _.
     done spelled_module module_of
-    (record { word = word; name = name; opening = opening; ac = p.ac; sc = p.sc; timing = p.timing; semicolon = p.semicolon; plant = p.plant; safe = b.safe; safer = b.safer; closing = closing })))))))
+    (record {
+      word = word;
+      name = name;
+      opening = opening;
+      ac = p.ac;
+      sc = p.sc;
+      timing = p.timing;
+      semicolon = p.semicolon;
+      plant = p.plant;
+      safe = b.safe;
+      safer = b.safer;
+      closing = closing;
+    })))))))
 
 abbrev pub DeclarationFits : ℕ → DeclarationForm → Type 0
 DeclarationFits room d = declaration_levels d ≤ room

@@ -20,7 +20,8 @@ yes_by {m = m} e n h = ap (λ c. cond c m n) e ∙ h
 pub no_by : {A : Type 0} {b : Bool} {n r : Read A} → b ≡ false → (m : Read A) → n ≡ r → cond b m n ≡ r
 no_by {n = n} e m h = ap (λ c. cond c m n) e ∙ h
 
-pub token_full : {A : Type 0} (test : Lexeme → Bool) (view : Lexeme → A) (t : Lexeme) (us : List Lexeme) → test t ≡ true → one_token test view (t ∷ us) ≡ Ok (view t, us)
+pub token_full : {A : Type 0} (test : Lexeme → Bool) (view : Lexeme → A) (t : Lexeme) (us : List Lexeme) → test t ≡ true
+    → one_token test view (t ∷ us) ≡ Ok (view t, us)
 token_full test view t us e = ap (λ b. cond b (ok (view t, us)) (Err (stuck, t ∷ us))) e
 
 same_bytes : (w text : List ℕ) → w ≡ text → bytes_eq w text ≡ true
@@ -28,7 +29,8 @@ same_bytes w text e = (bytes_eq-Decides w text).1 e
 
 -- a keyword, a sign, a name and a number pass their own tests, and no others
 pub keyword_test : {text : List ℕ} (k : Keyword text) → is_keyword text k.token ≡ true
-keyword_test {text} k = and_from (is_keyword_kind k.token.kind) (bytes_eq k.token.text text) (ap is_keyword_kind k.is.kind) (same_bytes k.token.text text k.is.text_is)
+keyword_test {text} k =
+    and_from (is_keyword_kind k.token.kind) (bytes_eq k.token.text text) (ap is_keyword_kind k.is.kind) (same_bytes k.token.text text k.is.text_is)
 
 pub sign_test : {text : List ℕ} (s : Sign text) → is_sign text s.token ≡ true
 sign_test {text} s = and_from (is_sign_kind s.token.kind) (bytes_eq s.token.text text) (ap is_sign_kind s.is.kind) (same_bytes s.token.text text s.is.text_is)
@@ -71,4 +73,6 @@ number_full n us = token_full is_number literal n.token us (ap is_number_kind n.
 
 -- a token of which kind and text are known
 pub sign_token : {text : List ℕ} (s : Sign text) → s.token ≡ record { kind = kinds.Sign; text = text; at = s.token.at; to = s.token.to }
-sign_token {text} s = ap (λ (k : Kind). record { kind = k; text = s.token.text; at = s.token.at; to = s.token.to }) s.is.kind ∙ ap (λ (w : List ℕ). record { kind = kinds.Sign; text = w; at = s.token.at; to = s.token.to }) s.is.text_is
+sign_token {text} s =
+    ap (λ (k : Kind). record { kind = k; text = s.token.text; at = s.token.at; to = s.token.to }) s.is.kind
+    ∙ ap (λ (w : List ℕ). record { kind = kinds.Sign; text = w; at = s.token.at; to = s.token.to }) s.is.text_is

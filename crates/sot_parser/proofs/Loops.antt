@@ -1,5 +1,6 @@
 -- Items that a loop reads one after another.
-use Rattle.std.proofs.Common.{◌≡◌, ℕ, zero, suc, ◌-◌, ◌<◌, Bool, true, false, List, [], ◌∷◌, ◌++◌, Ok, Err, refl, sym, ap, ◌∙◌, append_assoc, length, map, subst, arith}
+use Rattle.std.proofs.Common.{◌≡◌, ℕ, zero, suc, ◌-◌, ◌<◌, Bool, true, false, List, [], ◌∷◌, ◌++◌, Ok, Err, refl, sym, ap, ◌∙◌, append_assoc, length, map}
+use Rattle.std.proofs.Common.{subst, arith}
 use Rattle.std.proofs.lemmas.List.{append-nil, map_push}
 use Rattle.sot_text.specs.Reading.{Lexeme}
 use Rattle.sot_expression.specs.declared.fail.Fail.{Fail}
@@ -14,7 +15,8 @@ use Rattle.sot_parser.specs.ListReaders.{repeated, all_at, further_at, separated
 abbrev pub with_front : {A : Type 0} → List A → Read (List A) → Read (List A)
 with_front front read = read >>= λ x. Ok (front ++ x.0, x.1)
 
-regroup : {A : Type 0} (front : List A) (x : A) (read : Read (List A)) → with_front front (read >>= λ more. Ok (x ∷ more.0, more.1)) ≡ with_front (front ++ x ∷ []) read
+regroup : {A : Type 0} (front : List A) (x : A) (read : Read (List A))
+    → with_front front (read >>= λ more. Ok (x ∷ more.0, more.1)) ≡ with_front (front ++ x ∷ []) read
 regroup {A} front x (Ok more) = ap (λ (xs : List A). Ok (xs, more.1)) (simp append_assoc)
 regroup front x (Err e) = refl
 
@@ -26,7 +28,8 @@ module _ {A : Type 0} (goes_on : List Lexeme → Bool) (item : List Lexeme → R
     pub so_far : with_front front (repeated goes_on item fuel ts) ≡ total
 
   -- one more item
-  pub again : (front : List A) (ts after : List Lexeme) (x : A) → goes_on ts ≡ true → item ts ≡ Ok (x, after) → length after < length ts → Loop front ts → Loop (front ++ x ∷ []) after
+  pub again : (front : List A) (ts after : List Lexeme) (x : A) → goes_on ts ≡ true → item ts ≡ Ok (x, after) → length after < length ts → Loop front ts
+      → Loop (front ++ x ∷ []) after
   unfolding repeated
   again front ts after x more one shrinks l =
       let less : l.fuel ≡ suc (l.fuel - 1) = omega (arith, l.enough) in
@@ -42,14 +45,16 @@ module _ {A : Type 0} (goes_on : List Lexeme → Bool) (item : List Lexeme → R
   -- another token follows
   pub stops : (front : List A) (ts : List Lexeme) → goes_on ts ≡ false → Loop front ts → total ≡ Ok (front, ts)
   stops front ts other l =
-      let end : with_front front (repeated goes_on item l.fuel ts) ≡ Ok (front, ts) = rw (ends l.fuel ts other) (ap (λ (xs : List A). Ok (xs, ts)) (append-nil front)) in
+      let end : with_front front (repeated goes_on item l.fuel ts) ≡ Ok (front, ts) =
+      rw (ends l.fuel ts other) (ap (λ (xs : List A). Ok (xs, ts)) (append-nil front)) in
       sym l.so_far ∙ end
 
   breaks : (front : List A) (ts : List Lexeme) (e : Fault × List Lexeme) → goes_on ts ≡ true → item ts ≡ Err e → Loop front ts → total ≡ Err e
   unfolding repeated
   breaks front ts e more none l =
       let less : l.fuel ≡ suc (l.fuel - 1) = omega (arith, l.enough) in
-      let end : with_front front (repeated goes_on item l.fuel ts) ≡ Err e = ap (λ n. with_front front (repeated goes_on item n ts)) less ∙ rw (more, none) refl in
+      let end : with_front front (repeated goes_on item l.fuel ts) ≡ Err e = ap (λ n. with_front front (repeated goes_on item n ts)) less
+      ∙ rw (more, none) refl in
       sym l.so_far ∙ end
 
   -- an item is at fault
@@ -74,18 +79,26 @@ unfolding separated_at all_at
 begun_separated text item ts after x one = record {
   fuel = suc (length after);
   enough = omega arith;
-  so_far = sym (ap (λ m. m >>= λ first. repeated (begins (is_sign text)) (further_at text item) (suc (length first.1)) first.1 >>= λ more. Ok (first.0 ∷ more.0, more.1)) one);
+  so_far =
+      sym (ap (λ m. m >>= λ first. repeated (begins (is_sign text)) (further_at text item) (suc (length first.1)) first.1 >>= λ more.
+      Ok (first.0 ∷ more.0, more.1)) one);
 }
 
 -- the first item is at fault
-pub separated_fails : {A : Type 0} (text : List ℕ) (item : List Lexeme → Read A) (ts after : List Lexeme) (e : Fail) → Fails e after (item ts) → Fails e after (separated_at text item ts)
+pub separated_fails : {A : Type 0} (text : List ℕ) (item : List Lexeme → Read A) (ts after : List Lexeme) (e : Fail) → Fails e after (item ts)
+    → Fails e after (separated_at text item ts)
 unfolding separated_at
-separated_fails text item ts after Token fails = ap (λ m. m >>= λ first. all_at (begins (is_sign text)) (further_at text item) first.1 >>= λ more. Ok (first.0 ∷ more.0, more.1)) fails
-separated_fails text item ts after Deep fails = ap (λ m. m >>= λ first. all_at (begins (is_sign text)) (further_at text item) first.1 >>= λ more. Ok (first.0 ∷ more.0, more.1)) fails
+separated_fails text item ts after Token fails =
+    ap (λ m. m >>= λ first. all_at (begins (is_sign text)) (further_at text item) first.1 >>= λ more. Ok (first.0 ∷ more.0, more.1)) fails
+separated_fails text item ts after Deep fails =
+    ap (λ m. m >>= λ first. all_at (begins (is_sign text)) (further_at text item) first.1 >>= λ more. Ok (first.0 ∷ more.0, more.1)) fails
 separated_fails text item ts after Memory fails = tt
 
 -- one more item, seen by what it stands for
-pub again_seen : {X A : Type 0} (view : X → A) (goes_on : List Lexeme → Bool) (item : List Lexeme → Read A) → Short item → (total : Read (List A)) (front : List X) (x : X) (ts after : List Lexeme)
-    → goes_on ts ≡ true → item ts ≡ Ok (view x, after) → Loop goes_on item total (map view front) ts → Loop goes_on item total (map view (front ++ x ∷ [])) after
+pub again_seen : {X A : Type 0} (view : X → A) (goes_on : List Lexeme → Bool) (item : List Lexeme → Read A) → Short item
+    → (total : Read (List A)) (front : List X) (x : X) (ts after : List Lexeme)
+    → goes_on ts ≡ true → item ts ≡ Ok (view x, after) → Loop goes_on item total (map view front) ts
+    → Loop goes_on item total (map view (front ++ x ∷ [])) after
 again_seen view goes_on item short_item total front x ts after more one l =
-    subst (λ ys. Loop goes_on item total ys after) (sym (map_push view front x)) (again goes_on item total (map view front) ts after (view x) more one (short_item ts (view x, after) one) l)
+    subst (λ ys. Loop goes_on item total ys after) (sym (map_push view front x))
+    (again goes_on item total (map view front) ts after (view x) more one (short_item ts (view x, after) one) l)

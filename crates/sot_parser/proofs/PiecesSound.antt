@@ -2,8 +2,11 @@
 use Rattle.std.proofs.Common.{ℕ, List, [], ◌∷◌, true, false, codes, ap}
 use Rattle.sot_expression.specs.Lexemes.{begins, is_keyword, is_sign, is_number, negative_literal}
 use Rattle.sot_expression.specs.Readers.{number_at, negative_at, literal_at}
-use Rattle.sot_parser.specs.Pieces.{plain, negative, spelled_literal, literal_of, spelled_side, side_of, spelled_range, range_of, spelled_fix, fix_of, an_int, a_fix, a_bool, spelled_scalar, scalar_of, spelled_field, field_of, a_literal, a_yes, a_no, spelled_const, const_of, spelled_role, role_of, spelled_timing, timing_of}
-use Rattle.sot_parser.specs.DeclarationReaders.{side_at, range_at, fix_at, int_scalar_at, fix_scalar_at, bool_scalar_at, scalar_at, named_scalar_at, truth_at, number_const_at, const_at, timing_at, role_at}
+use Rattle.sot_parser.specs.Pieces.{plain, negative, spelled_literal, literal_of, spelled_side, side_of, spelled_range, range_of, spelled_fix, fix_of, an_int}
+use Rattle.sot_parser.specs.Pieces.{a_fix, a_bool, spelled_scalar, scalar_of, spelled_field, field_of, a_literal, a_yes, a_no, spelled_const, const_of}
+use Rattle.sot_parser.specs.Pieces.{spelled_role, role_of, spelled_timing, timing_of}
+use Rattle.sot_parser.specs.DeclarationReaders.{side_at, range_at, fix_at, int_scalar_at, fix_scalar_at, bool_scalar_at, scalar_at, named_scalar_at, truth_at}
+use Rattle.sot_parser.specs.DeclarationReaders.{number_const_at, const_at, timing_at, role_at}
 use Rattle.sot_parser.proofs.SoundSteps.{Sound, Any, take, done, either, token_ok, number_kind, sign_is, keyword_sound, sign_sound, name_sound, number_sound}
 use Rattle.sot_expression.proofs.ReadSteps.{chosen_by}
 
@@ -55,7 +58,8 @@ bool_scalar_sound = take (keyword_sound (codes "bool")) _ _ (λ word _. done spe
 
 pub scalar_sound : Sound spelled_scalar scalar_of Any scalar_at
 unfolding scalar_at
-scalar_sound = either (begins (is_keyword (codes "int"))) _ _ _ int_scalar_sound (either (begins (is_keyword (codes "fix"))) _ _ _ fix_scalar_sound bool_scalar_sound)
+scalar_sound =
+    either (begins (is_keyword (codes "int"))) _ _ _ int_scalar_sound (either (begins (is_keyword (codes "fix"))) _ _ _ fix_scalar_sound bool_scalar_sound)
 
 pub field_sound : Sound spelled_field field_of Any named_scalar_at
 unfolding named_scalar_at

@@ -59,20 +59,25 @@ spells_unique bytes at p q a b =
     ap (λ (z : Program × List Lexeme). z.0) (ok_is (p, []) (q, []) (sym one.0 ∙ two.0))
 
 -- what the answers of `parse` mean
-pub answers_ok : (r : Result CodeProgram ParseFail) (bytes : List ℕ) (at : ℕ) → Answers r bytes (ahead_from bytes at) → IfOk r (λ program. Spells bytes at (program_view program))
+pub answers_ok : (r : Result CodeProgram ParseFail) (bytes : List ℕ) (at : ℕ) → Answers r bytes (ahead_from bytes at)
+    → IfOk r (λ program. Spells bytes at (program_view program))
 answers_ok (Ok program) bytes at e = spells_takes bytes at (program_view program) e
 answers_ok (Err f) bytes at e = tt
 
-pub answers_only : (r : Result CodeProgram ParseFail) (bytes : List ℕ) (at : ℕ) → Answers r bytes (ahead_from bytes at) → IfOk r (λ program. (other : Program) → Spells bytes at other → other ≡ program_view program)
-answers_only (Ok program) bytes at e = λ other spells. spells_unique bytes at other (program_view program) spells (spells_takes bytes at (program_view program) e)
+pub answers_only : (r : Result CodeProgram ParseFail) (bytes : List ℕ) (at : ℕ) → Answers r bytes (ahead_from bytes at)
+    → IfOk r (λ program. (other : Program) → Spells bytes at other → other ≡ program_view program)
+answers_only (Ok program) bytes at e =
+    λ other spells. spells_unique bytes at other (program_view program) spells (spells_takes bytes at (program_view program) e)
 answers_only (Err f) bytes at e = tt
 
-pub answers_syntax : (r : Result CodeProgram ParseFail) (bytes : List ℕ) (at : ℕ) → Answers r bytes (ahead_from bytes at) → (s : Syntax) → IsErrOf r (fails.Syntax s) → (program : Program) → ¬ (Spells bytes at program)
+pub answers_syntax : (r : Result CodeProgram ParseFail) (bytes : List ℕ) (at : ℕ) → Answers r bytes (ahead_from bytes at) → (s : Syntax)
+    → IsErrOf r (fails.Syntax s) → (program : Program) → ¬ (Spells bytes at program)
 answers_syntax (Ok program) bytes at e s is = absurd cc
 answers_syntax (Err (fails.Syntax t)) bytes at e s is = λ program spells. e.1 program (spells_back bytes at program spells)
 answers_syntax (Err fails.Memory) bytes at e s is = absurd cc
 
-pub answers_place : (r : Result CodeProgram ParseFail) (bytes : List ℕ) (at : ℕ) → Answers r bytes (ahead_from bytes at) → (s : Syntax) → IsErrOf r (fails.Syntax s) → s ≡ fault_at bytes at
+pub answers_place : (r : Result CodeProgram ParseFail) (bytes : List ℕ) (at : ℕ) → Answers r bytes (ahead_from bytes at) → (s : Syntax)
+    → IsErrOf r (fails.Syntax s) → s ≡ fault_at bytes at
 unfolding fault_at
 answers_place (Ok program) bytes at e s is = absurd cc
 answers_place (Err (fails.Syntax t)) bytes at e s is = (let same : s ≡ t = cc in same ∙ e.0)
@@ -82,13 +87,16 @@ answers_place (Err fails.Memory) bytes at e s is = absurd cc
 same_end : (before after : Ahead) → after.end ≡ before.end → after ≡ record { tokens = after.tokens; end = before.end }
 same_end before after stays = ap (λ (o : Option LexFault). record { tokens = after.tokens; end = o }) stays
 
-pub stuck_place : (bytes : List ℕ) (before after : Ahead) → program_at before.tokens ≡ Err (stuck, after.tokens) → after.end ≡ before.end → stuck_syntax bytes after ≡ fault_of bytes before.end (program_at before.tokens)
+pub stuck_place : (bytes : List ℕ) (before after : Ahead) → program_at before.tokens ≡ Err (stuck, after.tokens) → after.end ≡ before.end
+    → stuck_syntax bytes after ≡ fault_of bytes before.end (program_at before.tokens)
 stuck_place bytes before after read stays = ap (stuck_syntax bytes) (same_end before after stays) ∙ sym (ap (fault_of bytes before.end) read)
 
-pub deep_place : (bytes : List ℕ) (before after : Ahead) → program_at before.tokens ≡ Err (deep, after.tokens) → after.end ≡ before.end → deep_syntax bytes after ≡ fault_of bytes before.end (program_at before.tokens)
+pub deep_place : (bytes : List ℕ) (before after : Ahead) → program_at before.tokens ≡ Err (deep, after.tokens) → after.end ≡ before.end
+    → deep_syntax bytes after ≡ fault_of bytes before.end (program_at before.tokens)
 deep_place bytes before after read stays = ap (deep_syntax bytes) (same_end before after stays) ∙ sym (ap (fault_of bytes before.end) read)
 
-pub more_place : (bytes : List ℕ) (before after : Ahead) (p : Program) → program_at before.tokens ≡ Ok (p, after.tokens) → after.end ≡ before.end → stuck_syntax bytes after ≡ fault_of bytes before.end (program_at before.tokens)
+pub more_place : (bytes : List ℕ) (before after : Ahead) (p : Program) → program_at before.tokens ≡ Ok (p, after.tokens) → after.end ≡ before.end
+    → stuck_syntax bytes after ≡ fault_of bytes before.end (program_at before.tokens)
 more_place bytes before after p read stays = ap (stuck_syntax bytes) (same_end before after stays) ∙ sym (ap (fault_of bytes before.end) read)
 
 -- a program was read, and the text ends; or something stands behind it
@@ -102,12 +110,14 @@ not_ended_is [] None e none over = absurd cc
 not_ended_is [] (Some f) e none over = absurd cc
 not_ended_is (t ∷ ts) end e none over = absurd cc
 
-pub read_all : (before after : Ahead) (p : Program) → program_at before.tokens ≡ Ok (p, after.tokens) → after.end ≡ before.end → is_ended after ≡ true → IsRead before p
+pub read_all : (before after : Ahead) (p : Program) → program_at before.tokens ≡ Ok (p, after.tokens) → after.end ≡ before.end → is_ended after ≡ true
+    → IsRead before p
 read_all before after p read stays over =
     let e = ended_is after.tokens after.end over in
     (read ∙ ap (λ (ts : List Lexeme). Ok (p, ts)) e.0, sym stays ∙ e.1)
 
-pub not_all : (before after : Ahead) (p : Program) → program_at before.tokens ≡ Ok (p, after.tokens) → after.end ≡ before.end → is_ended after ≡ false → (program : Program) → ¬ (IsRead before program)
+pub not_all : (before after : Ahead) (p : Program) → program_at before.tokens ≡ Ok (p, after.tokens) → after.end ≡ before.end → is_ended after ≡ false
+    → (program : Program) → ¬ (IsRead before program)
 not_all before after p read stays more program all =
     let is = ok_is (p, after.tokens) (program, []) (sym read ∙ all.0) in
     not_ended_is after.tokens after.end more (ap (λ (z : Program × List Lexeme). z.1) is) (stays ∙ all.1)

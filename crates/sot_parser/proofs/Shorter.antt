@@ -14,8 +14,13 @@ use Rattle.sot_expression.specs.Lexemes.{begins, is_sign, is_keyword, is_name, i
 use Rattle.sot_expression.specs.Readers.{Read, ◌>>=◌, one_token, expect, name_at, number_at, literal_at}
 use Rattle.sot_parser.specs.ListReaders.{repeated, all_at, further_at, separated_at, clause_at, optional_at}
 use Rattle.sot_expression.specs.ExpressionReaders.{expression_at, tree_at}
-use Rattle.sot_parser.specs.StatementReaders.{assign_at, field_at, dot_at, publish_at, plain_at, otherwise_at, else_at, branch_at, loop_at, nested_at, block_at, statement_at, goes_on, begins_nested, begins_statement, statement_with}
-use Rattle.sot_parser.specs.DeclarationReaders.{side_at, range_at, fix_at, int_scalar_at, fix_scalar_at, bool_scalar_at, scalar_at, named_scalar_at, truth_at, number_const_at, const_at, fields_at, one_scalar_at, shape_at, consts_at, one_const_at, init_at, environment_at, outside_at, topic_at, whole_at, scaled_at, scale_at, state_at, next_at, signals_at, plant_at, timing_at, local_at, head_at, code_at, coded_at, external_at, box_at, no_box_at, region_at, bound_at, role_at, pairing_at, bounds_at, module_at, a_topic_at, a_plant_at, a_coded_at, an_external_at, a_module_at, declaration_at}
+use Rattle.sot_parser.specs.StatementReaders.{assign_at, field_at, dot_at, publish_at, plain_at, otherwise_at, else_at, branch_at, loop_at, nested_at, block_at}
+use Rattle.sot_parser.specs.StatementReaders.{statement_at, goes_on, begins_nested, begins_statement, statement_with}
+use Rattle.sot_parser.specs.DeclarationReaders.{side_at, range_at, fix_at, int_scalar_at, fix_scalar_at, bool_scalar_at, scalar_at, named_scalar_at, truth_at}
+use Rattle.sot_parser.specs.DeclarationReaders.{number_const_at, const_at, fields_at, one_scalar_at, shape_at, consts_at, one_const_at, init_at, environment_at}
+use Rattle.sot_parser.specs.DeclarationReaders.{outside_at, topic_at, whole_at, scaled_at, scale_at, state_at, next_at, signals_at, plant_at, timing_at}
+use Rattle.sot_parser.specs.DeclarationReaders.{local_at, head_at, code_at, coded_at, external_at, box_at, no_box_at, region_at, bound_at, role_at, pairing_at}
+use Rattle.sot_parser.specs.DeclarationReaders.{bounds_at, module_at, a_topic_at, a_plant_at, a_coded_at, an_external_at, a_module_at, declaration_at}
 use Rattle.sot_parser.proofs.SoundSteps.{Leads, either, token_ok}
 use Rattle.sot_expression.proofs.ReadSteps.{bind_ok, ok_is}
 use Rattle.sot_parser.proofs.PiecesSound.{literal_sound}
@@ -84,7 +89,8 @@ module _ {A : Type 0} where
   repeated_slim : (goes_on : List Lexeme → Bool) (item : List Lexeme → Read A) → Short item → (n : ℕ) → Slim (repeated goes_on item n)
   unfolding repeated
   repeated_slim goes_on item short_item zero = over []
-  repeated_slim goes_on item short_item (suc n) = either goes_on _ _ _ (next short_item _ (λ _. slim (repeated_slim goes_on item short_item n) _ (λ _. over _))) (over [])
+  repeated_slim goes_on item short_item (suc n) =
+      either goes_on _ _ _ (next short_item _ (λ _. slim (repeated_slim goes_on item short_item n) _ (λ _. over _))) (over [])
 
   pub all_slim : (goes_on : List Lexeme → Bool) (item : List Lexeme → Read A) → Short item → Slim (all_at goes_on item)
   unfolding all_at
@@ -96,11 +102,13 @@ module _ {A : Type 0} where
 
   pub separated_short : (text : List ℕ) (item : List Lexeme → Read A) → Short item → Short (separated_at text item)
   unfolding separated_at
-  separated_short text item short_item = short short_item _ (λ _. slim (all_slim (begins (is_sign text)) (further_at text item) (further_short text item short_item)) _ (λ _. over _))
+  separated_short text item short_item =
+      short short_item _ (λ _. slim (all_slim (begins (is_sign text)) (further_at text item) (further_short text item short_item)) _ (λ _. over _))
 
   clause_short : (text : List ℕ) (item : List Lexeme → Read A) → Short item → Short (clause_at text item)
   unfolding clause_at
-  clause_short text item short_item = short (keyword_short text) _ (λ _. next (separated_short (codes ",") item short_item) _ (λ _. next (sign_short (codes ";")) _ (λ _. over _)))
+  clause_short text item short_item =
+      short (keyword_short text) _ (λ _. next (separated_short (codes ",") item short_item) _ (λ _. next (sign_short (codes ";")) _ (λ _. over _)))
 
   optional_slim : (text : List ℕ) (item : List Lexeme → Read A) → Short item → Slim (optional_at text item)
   unfolding optional_at
@@ -143,7 +151,8 @@ publish_short expression slim_expression =
 
 plain_short : (expression : List Lexeme → Read Tree) → Slim expression → Short (plain_at expression)
 unfolding plain_at
-plain_short expression slim_expression = either (begins (is_keyword (codes "publish"))) _ _ _ (publish_short expression slim_expression) (assign_short expression slim_expression)
+plain_short expression slim_expression =
+    either (begins (is_keyword (codes "publish"))) _ _ _ (publish_short expression slim_expression) (assign_short expression slim_expression)
 
 otherwise_short : (block : List Lexeme → Read Block) → Short block → Short (otherwise_at block)
 unfolding otherwise_at
@@ -166,9 +175,12 @@ loop_short : (block : List Lexeme → Read Block) → Short block → Short (loo
 unfolding loop_at
 loop_short block short_block = short (keyword_short (codes "repeat")) _ (λ _. next number_short _ (λ _. next short_block _ (λ _. over _)))
 
-nested_short : (room : ℕ) (expression : List Lexeme → Read Tree) (block : List Lexeme → Read Block) → Slim expression → Short block → Short (nested_at room expression block)
+nested_short : (room : ℕ) (expression : List Lexeme → Read Tree) (block : List Lexeme → Read Block) → Slim expression → Short block
+    → Short (nested_at room expression block)
 unfolding nested_at
-nested_short room expression block slim_expression short_block = either (begins (is_keyword (codes "if"))) _ _ _ (either (λ _. room == 0) _ _ _ (λ ts y e. absurd cc) (branch_short expression block slim_expression short_block)) (loop_short block short_block)
+nested_short room expression block slim_expression short_block =
+    either (begins (is_keyword (codes "if"))) _ _ _ (either (λ _. room == 0) _ _ _ (λ ts y e. absurd cc)
+    (branch_short expression block slim_expression short_block)) (loop_short block short_block)
 
 block_short : (item : List Lexeme → Read Statement) → Short item → Short (block_at item)
 unfolding block_at
@@ -184,7 +196,9 @@ with_short room nested short_nested = either begins_nested _ _ _ short_nested (p
 pub statement_short : (room : ℕ) → Short (statement_at room)
 unfolding statement_at
 statement_short zero = either begins_statement _ _ _ (λ ts y e. absurd cc) (λ ts y e. absurd cc)
-statement_short (suc r) = with_short (suc r) (nested_at r (tree_at r) (block_at (statement_at r))) (nested_short r (tree_at r) (block_at (statement_at r)) (tree_slim r) (block_short (statement_at r) (statement_short r)))
+statement_short (suc r) =
+    with_short (suc r) (nested_at r (tree_at r) (block_at (statement_at r)))
+    (nested_short r (tree_at r) (block_at (statement_at r)) (tree_slim r) (block_short (statement_at r) (statement_short r)))
 
 pub body_short : (room : ℕ) → Short (block_at (statement_at room))
 body_short room = block_short (statement_at room) (statement_short room)
@@ -220,7 +234,8 @@ bool_scalar_short = short (keyword_short (codes "bool")) _ (λ _. over _)
 
 scalar_short : Short scalar_at
 unfolding scalar_at
-scalar_short = either (begins (is_keyword (codes "int"))) _ _ _ int_scalar_short (either (begins (is_keyword (codes "fix"))) _ _ _ fix_scalar_short bool_scalar_short)
+scalar_short =
+    either (begins (is_keyword (codes "int"))) _ _ _ int_scalar_short (either (begins (is_keyword (codes "fix"))) _ _ _ fix_scalar_short bool_scalar_short)
 
 pub named_scalar_short : Short named_scalar_at
 unfolding named_scalar_at
@@ -236,7 +251,9 @@ number_const_short = short literal_short _ (λ _. over _)
 
 pub const_short : Short const_at
 unfolding const_at
-const_short = either (begins (is_keyword (codes "true"))) _ _ _ (truth_short true (codes "true")) (either (begins (is_keyword (codes "false"))) _ _ _ (truth_short false (codes "false")) number_const_short)
+const_short =
+    either (begins (is_keyword (codes "true"))) _ _ _ (truth_short true (codes "true"))
+    (either (begins (is_keyword (codes "false"))) _ _ _ (truth_short false (codes "false")) number_const_short)
 
 fields_short : Short fields_at
 unfolding fields_at
@@ -378,7 +395,8 @@ code_slim room =
 
 coded_short : (room : ℕ) → Short (coded_at room)
 unfolding coded_at
-coded_short room = short (keyword_short (codes "node")) _ (λ _. next head_short _ (λ _. slim (code_slim room) _ (λ _. next (sign_short (codes "}")) _ (λ _. over _))))
+coded_short room =
+    short (keyword_short (codes "node")) _ (λ _. next head_short _ (λ _. slim (code_slim room) _ (λ _. next (sign_short (codes "}")) _ (λ _. over _))))
 
 external_short : Short external_at
 unfolding external_at
@@ -465,14 +483,16 @@ declaration_short room =
 abbrev IsShorter : {X : Type 0} → Result X Fail → Ahead → Ahead → Type 0
 IsShorter r before after = IfOk r (λ _. length after.tokens < length before.tokens)
 
-short_result : {X : Type 0} (g : List Lexeme → Read X) → Short g → (r : Result X Fail) (before after : Ahead) → Gives (λ x. x) r before after (g before.tokens) → IsShorter r before after
+short_result : {X : Type 0} (g : List Lexeme → Read X) → Short g → (r : Result X Fail) (before after : Ahead) → Gives (λ x. x) r before after (g before.tokens)
+    → IsShorter r before after
 short_result g short_g (Ok x) before after gives = short_g before.tokens (x, after.tokens) gives.0
 short_result g short_g (Err e) before after gives = tt
 
 pub side_result : (r : Result Bounds Fail) (before after : Ahead) → Gives (λ x. x) r before after (side_at before.tokens) → IsShorter r before after
 side_result = short_result side_at side_short
 
-pub named_scalar_result : (r : Result Field Fail) (before after : Ahead) → Gives (λ x. x) r before after (named_scalar_at before.tokens) → IsShorter r before after
+pub named_scalar_result : (r : Result Field Fail) (before after : Ahead) → Gives (λ x. x) r before after (named_scalar_at before.tokens)
+    → IsShorter r before after
 named_scalar_result = short_result named_scalar_at named_scalar_short
 
 pub const_result : (r : Result Const Fail) (before after : Ahead) → Gives (λ x. x) r before after (const_at before.tokens) → IsShorter r before after

@@ -6,7 +6,8 @@ use Rattle.std.proofs.lemmas.Slice.Eq.{bytes_eq-Decides}
 use Rattle.sot_text.specs.Reading.{Lexeme}
 use Rattle.sot_text.specs.declared.token.Kind.{Kind}
 use Rattle.sot_text.specs.declared.token.Kind.TheVariants as kinds
-use Rattle.sot_expression.specs.Lexemes.{IsKeyword, IsSign, is_keyword_kind, is_sign_kind, is_name_kind, is_number_kind, is_keyword, is_sign, is_name, is_number, ident, literal}
+use Rattle.sot_expression.specs.Lexemes.{IsKeyword, IsSign, is_keyword_kind, is_sign_kind, is_name_kind, is_number_kind, is_keyword, is_sign, is_name}
+use Rattle.sot_expression.specs.Lexemes.{is_number, ident, literal}
 use Rattle.sot_expression.specs.Readers.{Read, stuck, ◌>>=◌, one_token, expect, name_at, number_at}
 use Rattle.sot_expression.proofs.ReadSteps.{bind_ok, ok_is, guard_ok}
 use Rattle.sot_parser.specs.Pieces.{spelled_keyword, spelled_sign, spelled_name, spelled_number, keyword_place, sign_place, name_of, number_of}
@@ -31,7 +32,8 @@ abbrev pub Leads : {A : Type 0} → (List Lexeme → Read A) → (A × List Lexe
 Leads {A} g P = (ts : List Lexeme) (y : A × List Lexeme) → g ts ≡ Ok y → P y ts
 
 -- one step of a chain
-pub take : {F A B : Type 0} {spelled : F → List Lexeme → List Lexeme} {tree : F → A} {Fits : F → Type 0} {g : List Lexeme → Read A} (sound : Sound spelled tree Fits g)
+pub take : {F A B : Type 0} {spelled : F → List Lexeme → List Lexeme} {tree : F → A} {Fits : F → Type 0} {g : List Lexeme → Read A}
+    (sound : Sound spelled tree Fits g)
     (k : A × List Lexeme → Read B) (P : B × List Lexeme → List Lexeme → Type 0)
     → ((f : F) → Fits f → Leads (λ us. k (tree f, us)) (λ y us. P y (spelled f us))) → Leads (λ ts. g ts >>= k) P
 take {g = g} sound k P next ts y e =
@@ -40,18 +42,21 @@ take {g = g} sound k P next ts y e =
     subst (P y) (sym s.2) (next s.0 s.1 b.0.1 y (subst (λ a. k (a, b.0.1) ≡ Ok y) s.3 b.2))
 
 -- the last step of a chain, which answers what it reads
-pub close : {F A : Type 0} {spelled : F → List Lexeme → List Lexeme} {tree : F → A} {Fits : F → Type 0} {g : List Lexeme → Read A} (sound : Sound spelled tree Fits g) (P : A × List Lexeme → List Lexeme → Type 0)
+pub close : {F A : Type 0} {spelled : F → List Lexeme → List Lexeme} {tree : F → A} {Fits : F → Type 0} {g : List Lexeme → Read A}
+    (sound : Sound spelled tree Fits g) (P : A × List Lexeme → List Lexeme → Type 0)
     → ((f : F) → Fits f → (us : List Lexeme) → P (tree f, us) (spelled f us)) → Leads g P
 close {spelled = spelled} sound P next ts y e =
     let s = sound ts y e in
     subst (P y) (sym s.2) (subst (λ a. P (a, y.1) (spelled s.0 y.1)) (sym s.3) (next s.0 s.1 y.1))
 
 -- the end of such a chain
-pub here : {F A : Type 0} (spelled : F → List Lexeme → List Lexeme) (tree : F → A) (f : F) (us : List Lexeme) → Found spelled tree Any (spelled f us) (tree f, us)
+pub here : {F A : Type 0} (spelled : F → List Lexeme → List Lexeme) (tree : F → A) (f : F) (us : List Lexeme)
+    → Found spelled tree Any (spelled f us) (tree f, us)
 here spelled tree f us = (f, tt, refl, refl)
 
 -- one of two, by the next token
-pub either : {A : Type 0} (test : List Lexeme → Bool) (m n : List Lexeme → Read A) (P : A × List Lexeme → List Lexeme → Type 0) → Leads m P → Leads n P → Leads (λ ts. cond (test ts) (m ts) (n ts)) P
+pub either : {A : Type 0} (test : List Lexeme → Bool) (m n : List Lexeme → Read A) (P : A × List Lexeme → List Lexeme → Type 0) → Leads m P → Leads n P
+    → Leads (λ ts. cond (test ts) (m ts) (n ts)) P
 either test m n P lm ln ts y e = by_case (test ts) e
   where
     by_case : (b : Bool) → cond b (m ts) (n ts) ≡ Ok y → P y ts
@@ -59,10 +64,12 @@ either test m n P lm ln ts y e = by_case (test ts) e
     by_case false e = ln ts y e
 
 -- the end of a chain
-pub done_within : {F A : Type 0} (spelled : F → List Lexeme → List Lexeme) (tree : F → A) (Fits : F → Type 0) (f : F) → Fits f → Leads (λ us. ok (tree f, us)) (λ y us. Found spelled tree Fits (spelled f us) y)
+pub done_within : {F A : Type 0} (spelled : F → List Lexeme → List Lexeme) (tree : F → A) (Fits : F → Type 0) (f : F) → Fits f
+    → Leads (λ us. ok (tree f, us)) (λ y us. Found spelled tree Fits (spelled f us) y)
 done_within spelled tree Fits f fits us y e = subst (λ z. Found spelled tree Fits (spelled f us) z) (ok_is (tree f, us) y e) (f, fits, refl, refl)
 
-pub done : {F A : Type 0} (spelled : F → List Lexeme → List Lexeme) (tree : F → A) (f : F) → Leads (λ us. ok (tree f, us)) (λ y us. Found spelled tree Any (spelled f us) y)
+pub done : {F A : Type 0} (spelled : F → List Lexeme → List Lexeme) (tree : F → A) (f : F)
+    → Leads (λ us. ok (tree f, us)) (λ y us. Found spelled tree Any (spelled f us) y)
 done spelled tree f = done_within spelled tree Any f tt
 
 keyword_kind : (k : Kind) → is_keyword_kind k ≡ true → k ≡ kinds.Keyword
@@ -89,7 +96,8 @@ number_kind kinds.Sign e = absurd cc
 number_kind kinds.Name e = absurd cc
 number_kind kinds.Keyword e = absurd cc
 
-pub token_ok : {A : Type 0} (test : Lexeme → Bool) (view : Lexeme → A) (ts : List Lexeme) (y : A × List Lexeme) → one_token test view ts ≡ Ok y → (t : Lexeme) × (test t ≡ true) × (ts ≡ t ∷ y.1) × (y.0 ≡ view t)
+pub token_ok : {A : Type 0} (test : Lexeme → Bool) (view : Lexeme → A) (ts : List Lexeme) (y : A × List Lexeme) → one_token test view ts ≡ Ok y
+    → (t : Lexeme) × (test t ≡ true) × (ts ≡ t ∷ y.1) × (y.0 ≡ view t)
 token_ok test view [] y e = absurd cc
 token_ok test view (t ∷ ts) y e =
     let g = guard_ok (test t) (ok (view t, ts)) (stuck, t ∷ ts) y e in

@@ -1,5 +1,6 @@
 -- What tokens spell of a declaration, read from the left.
-use Rattle.std.specs.Prelude.{ℕ, List, [], ◌∷◌, Bool, true, false, ◌||◌, codes, Option, None, Some, Ok, if◌then◌else◌}
+use Rattle.std.specs.Prelude.{ℕ, List, [], ◌∷◌, Bool, true, false, ◌||◌, codes, Option, None, Some}
+use Rattle.std.specs.Prelude.{Ok, if◌then◌else◌}
 use Rattle.sot_text.specs.Reading.{Lexeme}
 use Rattle.sot_tree.specs.declared.tree.Ident.{Ident}
 use Rattle.sot_tree.specs.declared.tree.Lit.{Lit}
@@ -10,7 +11,9 @@ use Rattle.sot_tree.specs.declared.tree.Field.{Field}
 use Rattle.sot_tree.specs.declared.tree.Const.{Const}
 use Rattle.sot_tree.specs.declared.tree.Const.TheVariants as consts
 use Rattle.sot_tree.specs.declared.tree.StateDecl.{StateDecl}
-use Rattle.sot_tree.specs.Trees.{Block, Form, one, fields, Start, one_value, values, Topic, Next, Local, Plant, Node, Area, Module, Declaration, a_topic, a_plant, a_node, a_module, Program}
+use Rattle.sot_tree.specs.Trees.{Block, Form, one, fields, Start, one_value, values, Topic, Next}
+use Rattle.sot_tree.specs.Trees.{Local, Plant, Node, Area, Module, Declaration, a_topic, a_plant}
+use Rattle.sot_tree.specs.Trees.{a_node, a_module, Program}
 use Rattle.sot_expression.specs.Lexemes.{begins, is_sign, is_keyword}
 use Rattle.sot_expression.specs.Readers.{Read, ◌>>=◌, expect, name_at, number_at, literal_at}
 use Rattle.sot_parser.specs.ListReaders.{all_at, separated_at, clause_at, optional_at}
@@ -121,7 +124,8 @@ environment_at ts = do
   Ok (true, word.1)
 
 unfoldable pub outside_at : List Lexeme → Read Bool
-outside_at ts = if begins (is_keyword (codes "environment")) ts then environment_at ts else Ok (false, ts)
+outside_at ts =
+    if begins (is_keyword (codes "environment")) ts then environment_at ts else Ok (false, ts)
 
 unfoldable pub topic_at : List Lexeme → Read Topic
 topic_at ts = do
@@ -165,7 +169,8 @@ next_at room ts = do
   Ok (record { name = name.0; value = value.0 }, semicolon.1)
 
 -- what a plant holds and sees: the states, the inputs, the other plants and the noise
-unfoldable pub signals_at : List Lexeme → Read (List StateDecl × List Ident × List Ident × List Field)
+unfoldable pub signals_at : List Lexeme
+    → Read (List StateDecl × List Ident × List Ident × List Field)
 signals_at ts = do
   states ← clause_at (codes "state") state_at ts
   inputs ← optional_at (codes "input") name_at states.1
@@ -181,7 +186,18 @@ plant_at room ts = do
   signals ← signals_at opening.1
   next ← all_at (begins (is_keyword (codes "next"))) (next_at room) signals.1
   closing ← expect (is_sign (codes "}")) next.1
-  Ok (record { name = name.0; states = signals.0.0; inputs = signals.0.1; sees = signals.0.2; noise = signals.0.3; next = next.0; end = closing.0 }, closing.1)
+  Ok (
+    record {
+      name = name.0;
+      states = signals.0.0;
+      inputs = signals.0.1;
+      sees = signals.0.2;
+      noise = signals.0.3;
+      next = next.0;
+      end = closing.0;
+    },
+    closing.1,
+  )
 
 -- the period and the offset
 unfoldable pub timing_at : List Lexeme → Read (Lit × Lit)
@@ -211,7 +227,18 @@ head_at ts = do
   opening ← expect (is_sign (codes "{")) timing.1
   reads ← optional_at (codes "reads") name_at opening.1
   writes ← optional_at (codes "writes") name_at reads.1
-  Ok (record { name = name.0; period = timing.0.0; offset = timing.0.1; reads = reads.0; writes = writes.0; locals = []; body = None }, writes.1)
+  Ok (
+    record {
+      name = name.0;
+      period = timing.0.0;
+      offset = timing.0.1;
+      reads = reads.0;
+      writes = writes.0;
+      locals = [];
+      body = None;
+    },
+    writes.1,
+  )
 
 -- the locals and the body
 unfoldable pub code_at : ℕ → List Lexeme → Read (List Local × Block)
@@ -222,7 +249,16 @@ code_at room ts = do
   Ok ((locals.0, body.0), body.1)
 
 abbrev pub with_code : Node → List Local × Block → Node
-with_code head code = record { name = head.name; period = head.period; offset = head.offset; reads = head.reads; writes = head.writes; locals = code.0; body = Some code.1 }
+with_code head code =
+    record {
+      name = head.name;
+      period = head.period;
+      offset = head.offset;
+      reads = head.reads;
+      writes = head.writes;
+      locals = code.0;
+      body = Some code.1;
+    }
 
 unfoldable pub coded_at : ℕ → List Lexeme → Read Node
 coded_at room ts = do
@@ -252,7 +288,9 @@ no_box_at ts = do
   Ok ([], word.1)
 
 unfoldable pub region_at : List Lexeme → Read (List Area)
-region_at ts = if begins (is_keyword (codes "none")) ts then no_box_at ts else separated_at (codes "|") box_at ts
+region_at ts =
+    if begins (is_keyword (codes "none")) ts then no_box_at ts else separated_at (codes "|") box_at
+    ts
 
 unfoldable pub bound_at : List ℕ → List Lexeme → Read (List Area)
 bound_at text ts = do
@@ -293,7 +331,19 @@ module_at ts = do
   pair ← pairing_at opening.1
   bounds ← bounds_at pair.1
   closing ← expect (is_sign (codes "}")) bounds.1
-  Ok (record { name = name.0; ac = pair.0.0; sc = pair.0.1; period = pair.0.2; offset = pair.0.3; plant = pair.0.4; safe = bounds.0.0; safer = bounds.0.1 }, closing.1)
+  Ok (
+    record {
+      name = name.0;
+      ac = pair.0.0;
+      sc = pair.0.1;
+      period = pair.0.2;
+      offset = pair.0.3;
+      plant = pair.0.4;
+      safe = bounds.0.0;
+      safer = bounds.0.1;
+    },
+    closing.1,
+  )
 
 unfoldable pub a_topic_at : List Lexeme → Read Declaration
 a_topic_at ts = do
@@ -322,7 +372,8 @@ a_module_at ts = do
 
 unfoldable pub declaration_at : ℕ → List Lexeme → Read Declaration
 declaration_at room ts =
-    if begins (is_keyword (codes "topic")) ts || begins (is_keyword (codes "environment")) ts then a_topic_at ts
+    if begins (is_keyword (codes "topic")) ts || begins (is_keyword (codes "environment")) ts then
+    a_topic_at ts
     else if begins (is_keyword (codes "plant")) ts then a_plant_at room ts
     else if begins (is_keyword (codes "node")) ts then a_coded_at room ts
     else if begins (is_keyword (codes "external")) ts then an_external_at ts

@@ -1,12 +1,22 @@
 -- The grammar of declarations.
-use Rattle.std.specs.Prelude.{ℕ, max, List, [], ◌∷◌, Bool, true, false, codes, map, Option, None, Some}
+use Rattle.std.specs.Prelude.{ℕ, max, List, [], ◌∷◌, Bool, true, false, codes, map, Option, None}
+use Rattle.std.specs.Prelude.{Some}
 use Rattle.sot_text.specs.Reading.{Lexeme}
 use Rattle.sot_tree.specs.declared.tree.Lit.{Lit}
 use Rattle.sot_tree.specs.declared.tree.StateDecl.{StateDecl}
-use Rattle.sot_tree.specs.Trees.{Form, one, fields, Start, one_value, values, Topic, Next, Local, Plant, Node, Area, Module, Declaration}
+use Rattle.sot_tree.specs.Trees.{Form, one, fields, Start, one_value, values, Topic, Next, Local}
+use Rattle.sot_tree.specs.Trees.{Plant, Node, Area, Module, Declaration}
 use Rattle.sot_tree.specs.Trees as trees
-use Rattle.sot_parser.specs.Pieces.{Keyword, Sign, Named, name_of, number_of, spelled_keyword, each, maybe, Separated, spelled_name, spelled_separated, separated_of, SideForm, spelled_side, side_of, ScalarForm, spelled_scalar, scalar_of, FixForm, spelled_fix, fix_of, FieldForm, spelled_field, field_of, ConstForm, spelled_const, const_of, ClauseForm, spelled_clause, clause_of, clause_or_none, RoleForm, spelled_role, role_of, TimingForm, spelled_timing}
-use Rattle.sot_parser.specs.Statements.{ExpressionForm, spelled_expression, expression_of, expression_levels, BlockForm, spelled_block, block_of, block_levels}
+use Rattle.sot_parser.specs.Pieces.{Keyword, Sign, Named, name_of, number_of, spelled_keyword, each}
+use Rattle.sot_parser.specs.Pieces.{maybe, Separated, spelled_name, spelled_separated, separated_of}
+use Rattle.sot_parser.specs.Pieces.{SideForm, spelled_side, side_of, ScalarForm, spelled_scalar}
+use Rattle.sot_parser.specs.Pieces.{scalar_of, FixForm, spelled_fix, fix_of, FieldForm}
+use Rattle.sot_parser.specs.Pieces.{spelled_field, field_of, ConstForm, spelled_const, const_of}
+use Rattle.sot_parser.specs.Pieces.{ClauseForm, spelled_clause, clause_of, clause_or_none, RoleForm}
+use Rattle.sot_parser.specs.Pieces.{spelled_role, role_of, TimingForm, spelled_timing}
+use Rattle.sot_parser.specs.Statements.{ExpressionForm, spelled_expression, expression_of}
+use Rattle.sot_parser.specs.Statements.{expression_levels, BlockForm, spelled_block, block_of}
+use Rattle.sot_parser.specs.Statements.{block_levels}
 
 -- type = scalar | "{" NAME ":" scalar {"," NAME ":" scalar} "}"
 pub data ShapeForm : Type 0 where
@@ -15,7 +25,8 @@ pub data ShapeForm : Type 0 where
 
 abbrev pub spelled_shape : ShapeForm → List Lexeme → List Lexeme
 spelled_shape (one_scalar s) more = spelled_scalar s more
-spelled_shape (a_record opening fs closing) more = opening.token ∷ spelled_separated spelled_field fs (closing.token ∷ more)
+spelled_shape (a_record opening fs closing) more =
+    opening.token ∷ spelled_separated spelled_field fs (closing.token ∷ more)
 
 abbrev pub shape_of : ShapeForm → Form
 shape_of (one_scalar s) = one (scalar_of s)
@@ -28,7 +39,8 @@ pub data InitForm : Type 0 where
 
 abbrev pub spelled_init : InitForm → List Lexeme → List Lexeme
 spelled_init (one_const c) more = spelled_const c more
-spelled_init (consts opening cs closing) more = opening.token ∷ spelled_separated spelled_const cs (closing.token ∷ more)
+spelled_init (consts opening cs closing) more =
+    opening.token ∷ spelled_separated spelled_const cs (closing.token ∷ more)
 
 abbrev pub init_of : InitForm → Start
 init_of (one_const c) = one_value (const_of c)
@@ -50,14 +62,21 @@ spelled_outside word more = maybe spelled_keyword word more
 
 abbrev pub spelled_topic : TopicForm → List Lexeme → List Lexeme
 spelled_topic t more =
-    spelled_outside t.environment (t.word.token ∷ t.name.token ∷ t.colon.token ∷ spelled_shape t.shape (t.equals.token ∷ spelled_init t.init (t.semicolon.token ∷ more)))
+    spelled_outside t.environment (t.word.token ∷ t.name.token ∷ t.colon.token ∷ spelled_shape
+    t.shape (t.equals.token ∷ spelled_init t.init (t.semicolon.token ∷ more)))
 
 abbrev pub is_given : {A : Type 0} → Option A → Bool
 is_given None = false
 is_given (Some x) = true
 
 abbrev pub topic_of : TopicForm → Topic
-topic_of t = record { outside = is_given t.environment; name = name_of t.name; shape = shape_of t.shape; init = init_of t.init }
+topic_of t =
+    record {
+      outside = is_given t.environment;
+      name = name_of t.name;
+      shape = shape_of t.shape;
+      init = init_of t.init;
+    }
 
 -- var = NAME ":" ("int" | "fix" "(" NUMBER ")")
 pub data ScaleForm : Type 0 where
@@ -92,7 +111,9 @@ pub record NextForm : Type 0 where
   pub semicolon : Sign (codes ";")
 
 abbrev pub spelled_next : NextForm → List Lexeme → List Lexeme
-spelled_next n more = n.word.token ∷ n.name.token ∷ n.equals.token ∷ spelled_expression n.value (n.semicolon.token ∷ more)
+spelled_next n more =
+    n.word.token ∷ n.name.token ∷ n.equals.token ∷ spelled_expression n.value
+    (n.semicolon.token ∷ more)
 
 abbrev pub next_of : NextForm → Next
 next_of n = record { name = name_of n.name; value = expression_of n.value }
@@ -110,13 +131,16 @@ pub record PlantForm : Type 0 where
   pub next : List NextForm
   pub closing : Sign (codes "}")
 
-abbrev pub spelled_names : {text : List ℕ} → Option (ClauseForm text Named) → List Lexeme → List Lexeme
+abbrev pub spelled_names : {text : List ℕ} → Option (ClauseForm text Named) → List Lexeme
+    → List Lexeme
 spelled_names c more = maybe (spelled_clause spelled_name) c more
 
 abbrev pub spelled_plant : PlantForm → List Lexeme → List Lexeme
 spelled_plant p more =
     p.word.token ∷ p.name.token ∷ p.opening.token ∷ spelled_clause spelled_state p.states (
-    spelled_names p.inputs (spelled_names p.sees (maybe (spelled_clause spelled_field) p.noise (each spelled_next p.next (p.closing.token ∷ more)))))
+    spelled_names p.inputs (spelled_names p.sees
+    (maybe (spelled_clause spelled_field) p.noise
+    (each spelled_next p.next (p.closing.token ∷ more)))))
 
 abbrev pub plant_of : PlantForm → Plant
 plant_of p = record {
@@ -151,12 +175,15 @@ pub record LocalForm : Type 0 where
   pub semicolon : Sign (codes ";")
 
 abbrev pub spelled_local : LocalForm → List Lexeme → List Lexeme
-spelled_local l more = l.word.token ∷ l.name.token ∷ l.colon.token ∷ spelled_scalar l.scalar (l.equals.token ∷ spelled_const l.init (l.semicolon.token ∷ more))
+spelled_local l more =
+    l.word.token ∷ l.name.token ∷ l.colon.token ∷ spelled_scalar l.scalar
+    (l.equals.token ∷ spelled_const l.init (l.semicolon.token ∷ more))
 
 abbrev pub local_of : LocalForm → Local
 local_of l = record { name = name_of l.name; scalar = scalar_of l.scalar; init = const_of l.init }
 
--- coded = "node" NAME timing "{" ["reads" names ";"] ["writes" names ";"] {"local" NAME ":" scalar "=" const ";"} "do" block "}"
+-- coded = "node" NAME timing "{" ["reads" names ";"] ["writes" names ";"] {"local" NAME ":" scalar
+-- "=" const ";"} "do" block "}"
 pub record CodedForm : Type 0 where
   pub word : Keyword (codes "node")
   pub name : Named
@@ -171,7 +198,8 @@ pub record CodedForm : Type 0 where
 
 abbrev pub spelled_coded : CodedForm → List Lexeme → List Lexeme
 spelled_coded n more =
-    n.word.token ∷ n.name.token ∷ spelled_timing n.timing (n.opening.token ∷ spelled_names n.reads (spelled_names n.writes (
+    n.word.token ∷ n.name.token ∷ spelled_timing n.timing
+    (n.opening.token ∷ spelled_names n.reads (spelled_names n.writes (
     each spelled_local n.locals (n.do_word.token ∷ spelled_block n.body (n.closing.token ∷ more)))))
 
 abbrev pub coded_of : CodedForm → Node
@@ -197,7 +225,8 @@ pub record ExternalForm : Type 0 where
 
 abbrev pub spelled_external : ExternalForm → List Lexeme → List Lexeme
 spelled_external n more =
-    n.word.token ∷ n.name.token ∷ spelled_timing n.timing (n.opening.token ∷ spelled_names n.reads (spelled_names n.writes (n.closing.token ∷ more)))
+    n.word.token ∷ n.name.token ∷ spelled_timing n.timing
+    (n.opening.token ∷ spelled_names n.reads (spelled_names n.writes (n.closing.token ∷ more)))
 
 abbrev pub external_of : ExternalForm → Node
 external_of n = record {
@@ -217,7 +246,8 @@ pub record BoxForm : Type 0 where
   pub closing : Sign (codes "]")
 
 abbrev pub spelled_box : BoxForm → List Lexeme → List Lexeme
-spelled_box b more = b.opening.token ∷ spelled_separated spelled_side b.sides (b.closing.token ∷ more)
+spelled_box b more =
+    b.opening.token ∷ spelled_separated spelled_side b.sides (b.closing.token ∷ more)
 
 abbrev pub box_of : BoxForm → Area
 box_of b = record { sides = separated_of side_of b.sides; at = b.opening.token.at }
@@ -247,7 +277,8 @@ spelled_bound b more = b.word.token ∷ spelled_region b.region (b.semicolon.tok
 abbrev pub bound_of : {text : List ℕ} → BoundForm text → List Area
 bound_of b = region_of b.region
 
--- module = "module" NAME "{" "ac" NAME ";" "sc" NAME ";" timing ";" "plant" NAME ";" "safe" region ";" "safer" region ";" "}"
+-- module = "module" NAME "{" "ac" NAME ";" "sc" NAME ";" timing ";" "plant" NAME ";" "safe" region
+-- ";" "safer" region ";" "}"
 pub record ModuleForm : Type 0 where
   pub word : Keyword (codes "module")
   pub name : Named
@@ -263,7 +294,8 @@ pub record ModuleForm : Type 0 where
 
 abbrev pub spelled_module : ModuleForm → List Lexeme → List Lexeme
 spelled_module m more =
-    m.word.token ∷ m.name.token ∷ m.opening.token ∷ spelled_role m.ac (spelled_role m.sc (spelled_timing m.timing (m.semicolon.token ∷
+    m.word.token ∷ m.name.token ∷ m.opening.token ∷ spelled_role m.ac
+    (spelled_role m.sc (spelled_timing m.timing (m.semicolon.token ∷
     spelled_role m.plant (spelled_bound m.safe (spelled_bound m.safer (m.closing.token ∷ more))))))
 
 abbrev pub module_of : ModuleForm → Module

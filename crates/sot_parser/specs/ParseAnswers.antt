@@ -1,5 +1,6 @@
 -- What `parse` answers.
-use Rattle.std.specs.Prelude.{◌≡◌, ℕ, Bool, true, false, List, [], ◌∷◌, length, Option, None, Some, Result, Ok, Err}
+use Rattle.std.specs.Prelude.{◌≡◌, ℕ, Bool, true, false, List, [], ◌∷◌, length, Option, None, Some}
+use Rattle.std.specs.Prelude.{Result, Ok, Err}
 use Rattle.sot_text.specs.declared.token.LexFault.{LexFault}
 use Rattle.sot_text.specs.Reading.{span}
 use Rattle.sot_text.specs.Ahead.{Ahead, ahead_from}
@@ -20,10 +21,12 @@ at_end bytes (Some fault) = Lex fault
 
 -- the fault where reading is stuck, and where it nests too deep
 abbrev pub stuck_syntax : List ℕ → Ahead → Syntax
-stuck_syntax bytes ahead = elim ahead.tokens as (λ x. Syntax) [ [] ↦ at_end bytes ahead.end | ◌∷◌ t ts ↦ Token t.at ]
+stuck_syntax bytes ahead =
+    elim ahead.tokens as (λ x. Syntax) [ [] ↦ at_end bytes ahead.end | ◌∷◌ t ts ↦ Token t.at ]
 
 abbrev pub deep_syntax : List ℕ → Ahead → Syntax
-deep_syntax bytes ahead = elim ahead.tokens as (λ x. Syntax) [ [] ↦ at_end bytes ahead.end | ◌∷◌ t ts ↦ Deep t.at ]
+deep_syntax bytes ahead =
+    elim ahead.tokens as (λ x. Syntax) [ [] ↦ at_end bytes ahead.end | ◌∷◌ t ts ↦ Deep t.at ]
 
 -- all tokens spell this program, and the text ends behind them
 abbrev pub IsRead : Ahead → Program → Type 0
@@ -32,7 +35,11 @@ IsRead ahead program = (program_at ahead.tokens ≡ Ok (program, [])) × (ahead.
 -- the fault of what was read, at the tokens that are left
 abbrev pub fault_of : List ℕ → Option LexFault → Read Program → Syntax
 fault_of bytes end (Ok x) = stuck_syntax bytes (record { tokens = x.1; end = end })
-fault_of bytes end (Err e) = elim e.0 as (λ x. Syntax) [ stuck ↦ stuck_syntax bytes (record { tokens = e.1; end = end }) | deep ↦ deep_syntax bytes (record { tokens = e.1; end = end }) ]
+fault_of bytes end (Err e) =
+    elim e.0 as (λ x. Syntax) [
+      | stuck ↦ stuck_syntax bytes (record { tokens = e.1; end = end })
+      | deep ↦ deep_syntax bytes (record { tokens = e.1; end = end })
+    ]
 
 -- where reading from a place on stops, and why
 unfoldable pub fault_at : List ℕ → ℕ → Syntax
@@ -41,7 +48,9 @@ fault_at bytes at =
     fault_of bytes ahead.end (program_at ahead.tokens)
 
 abbrev pub Refuses : ParseFail → List ℕ → Ahead → Type 0
-Refuses (fails.Syntax s) bytes ahead = (s ≡ fault_of bytes ahead.end (program_at ahead.tokens)) × ((program : Program) → ¬ (IsRead ahead program))
+Refuses (fails.Syntax s) bytes ahead =
+    (s ≡ fault_of bytes ahead.end (program_at ahead.tokens))
+    × ((program : Program) → ¬ (IsRead ahead program))
 Refuses fails.Memory bytes ahead = Unit {0}
 
 abbrev pub Answers : Result CodeProgram ParseFail → List ℕ → Ahead → Type 0

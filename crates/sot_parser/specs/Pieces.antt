@@ -1,5 +1,6 @@
--- The small productions of the grammar. A form holds the tokens that a production is made of, each with what makes it one of that
--- production. Beside each form stand the tokens that it spells, with more behind, and the part of a tree that it stands for.
+-- The small productions of the grammar. A form holds the tokens that a production is made of, each
+-- with what makes it one of that production. Beside each form stand the tokens that it spells, with
+-- more behind, and the part of a tree that it stands for.
 use Rattle.std.specs.Prelude.{ℕ, List, [], ◌∷◌, true, false, codes, map, Option, None, Some}
 use Rattle.sot_text.specs.declared.token.Span.{Span}
 use Rattle.sot_text.specs.Reading.{Lexeme}
@@ -11,7 +12,8 @@ use Rattle.sot_tree.specs.declared.tree.Scalar.TheVariants.{Int, Fix, Bool as Tr
 use Rattle.sot_tree.specs.declared.tree.Field.{Field}
 use Rattle.sot_tree.specs.declared.tree.Const.{Const}
 use Rattle.sot_tree.specs.declared.tree.Const.TheVariants as consts
-use Rattle.sot_expression.specs.Lexemes.{IsKeyword, IsSign, IsName, IsNumber, ident, literal, negative_literal}
+use Rattle.sot_expression.specs.Lexemes.{IsKeyword, IsSign, IsName, IsNumber, ident, literal}
+use Rattle.sot_expression.specs.Lexemes.{negative_literal}
 
 -- this keyword
 pub record Keyword (text : List ℕ) : Type 0 where
@@ -58,12 +60,14 @@ abbrev pub number_of : Digits → Lit
 number_of n = literal n.token
 
 -- one after another
-abbrev pub each : {F : Type 0} → (F → List Lexeme → List Lexeme) → List F → List Lexeme → List Lexeme
+abbrev pub each : {F : Type 0} → (F → List Lexeme → List Lexeme) → List F → List Lexeme
+    → List Lexeme
 each spelled [] more = more
 each spelled (f ∷ fs) more = spelled f (each spelled fs more)
 
 -- a part that may be left out
-abbrev pub maybe : {F : Type 0} → (F → List Lexeme → List Lexeme) → Option F → List Lexeme → List Lexeme
+abbrev pub maybe : {F : Type 0} → (F → List Lexeme → List Lexeme) → Option F → List Lexeme
+    → List Lexeme
 maybe spelled None more = more
 maybe spelled (Some f) more = spelled f more
 
@@ -76,10 +80,12 @@ pub record Separated (text : List ℕ) (F : Type 0) : Type 0 where
   pub first : F
   pub further : List (Further text F)
 
-abbrev pub spelled_further : {text : List ℕ} {F : Type 0} → (F → List Lexeme → List Lexeme) → Further text F → List Lexeme → List Lexeme
+abbrev pub spelled_further : {text : List ℕ} {F : Type 0} → (F → List Lexeme → List Lexeme)
+    → Further text F → List Lexeme → List Lexeme
 spelled_further spelled f more = f.sign.token ∷ spelled f.item more
 
-abbrev pub spelled_separated : {text : List ℕ} {F : Type 0} → (F → List Lexeme → List Lexeme) → Separated text F → List Lexeme → List Lexeme
+abbrev pub spelled_separated : {text : List ℕ} {F : Type 0} → (F → List Lexeme → List Lexeme)
+    → Separated text F → List Lexeme → List Lexeme
 spelled_separated spelled s more = spelled s.first (each (spelled_further spelled) s.further more)
 
 abbrev pub further_of : {text : List ℕ} {F A : Type 0} → (F → A) → Further text F → A
@@ -188,14 +194,17 @@ pub record ClauseForm (text : List ℕ) (F : Type 0) : Type 0 where
   pub items : Separated (codes ",") F
   pub semicolon : Sign (codes ";")
 
-abbrev pub spelled_clause : {text : List ℕ} {F : Type 0} → (F → List Lexeme → List Lexeme) → ClauseForm text F → List Lexeme → List Lexeme
-spelled_clause spelled c more = c.word.token ∷ spelled_separated spelled c.items (c.semicolon.token ∷ more)
+abbrev pub spelled_clause : {text : List ℕ} {F : Type 0} → (F → List Lexeme → List Lexeme)
+    → ClauseForm text F → List Lexeme → List Lexeme
+spelled_clause spelled c more =
+    c.word.token ∷ spelled_separated spelled c.items (c.semicolon.token ∷ more)
 
 abbrev pub clause_of : {text : List ℕ} {F A : Type 0} → (F → A) → ClauseForm text F → List A
 clause_of tree c = separated_of tree c.items
 
 -- a clause that is left out is an empty list
-abbrev pub clause_or_none : {text : List ℕ} {F A : Type 0} → (F → A) → Option (ClauseForm text F) → List A
+abbrev pub clause_or_none : {text : List ℕ} {F A : Type 0} → (F → A) → Option (ClauseForm text F)
+    → List A
 clause_or_none tree None = []
 clause_or_none tree (Some c) = clause_of tree c
 
@@ -219,7 +228,8 @@ pub record TimingForm : Type 0 where
   pub offset : Digits
 
 abbrev pub spelled_timing : TimingForm → List Lexeme → List Lexeme
-spelled_timing t more = t.period_word.token ∷ t.period.token ∷ t.offset_word.token ∷ t.offset.token ∷ more
+spelled_timing t more =
+    t.period_word.token ∷ t.period.token ∷ t.offset_word.token ∷ t.offset.token ∷ more
 
 abbrev pub timing_of : TimingForm → Lit × Lit
 timing_of t = (number_of t.period, number_of t.offset)

@@ -4,7 +4,8 @@ use Rattle.sot_text.specs.Reading.{Lexeme}
 use Rattle.sot_text.specs.Ahead.{Comes}
 use Rattle.sot_tree.specs.Trees.{Program}
 use Rattle.sot_parser.specs.Pieces.{each}
-use Rattle.sot_parser.specs.Declarations.{DeclarationForm, spelled_declaration, declaration_of, declaration_levels, most}
+use Rattle.sot_parser.specs.Declarations.{DeclarationForm, spelled_declaration, declaration_of}
+use Rattle.sot_parser.specs.Declarations.{declaration_levels, most}
 
 -- program = {decl}
 abbrev pub spelled_program : List DeclarationForm → List Lexeme

@@ -1,8 +1,10 @@
 -- What tokens spell of a statement, read from the left.
-use Rattle.std.specs.Prelude.{ℕ, zero, suc, List, [], ◌∷◌, Bool, not, ◌||◌, ◌==◌, codes, Option, None, Some, Ok, Err, if◌then◌else◌}
+use Rattle.std.specs.Prelude.{ℕ, zero, suc, List, [], ◌∷◌, Bool, not, ◌||◌, ◌==◌, codes, Option}
+use Rattle.std.specs.Prelude.{None, Some, Ok, Err, if◌then◌else◌}
 use Rattle.sot_text.specs.Reading.{Lexeme}
 use Rattle.sot_tree.specs.declared.tree.Ident.{Ident}
-use Rattle.sot_tree.specs.Trees.{Tree, Statement, Block, assigned, published, branched, no_statement, statement}
+use Rattle.sot_tree.specs.Trees.{Tree, Statement, Block, assigned, published, branched}
+use Rattle.sot_tree.specs.Trees.{no_statement, statement}
 use Rattle.sot_tree.specs.Trees as trees
 use Rattle.sot_expression.specs.Lexemes.{begins, is_sign, is_keyword, is_name}
 use Rattle.sot_expression.specs.Readers.{Read, stuck, deep, ◌>>=◌, expect, name_at, number_at}
@@ -38,7 +40,9 @@ publish_at expression ts = do
 
 -- a statement with none inside
 unfoldable pub plain_at : (List Lexeme → Read Tree) → List Lexeme → Read Statement
-plain_at expression ts = if begins (is_keyword (codes "publish")) ts then publish_at expression ts else assign_at expression ts
+plain_at expression ts =
+    if begins (is_keyword (codes "publish")) ts then publish_at expression ts else assign_at
+    expression ts
 
 unfoldable pub otherwise_at : (List Lexeme → Read Block) → List Lexeme → Read Block
 otherwise_at block ts = do
@@ -46,9 +50,11 @@ otherwise_at block ts = do
   block word.1
 
 unfoldable pub else_at : (List Lexeme → Read Block) → List Lexeme → Read Block
-else_at block ts = if begins (is_keyword (codes "else")) ts then otherwise_at block ts else Ok (no_statement, ts)
+else_at block ts =
+    if begins (is_keyword (codes "else")) ts then otherwise_at block ts else Ok (no_statement, ts)
 
-unfoldable pub branch_at : (List Lexeme → Read Tree) → (List Lexeme → Read Block) → List Lexeme → Read Statement
+unfoldable pub branch_at : (List Lexeme → Read Tree) → (List Lexeme → Read Block) → List Lexeme
+    → Read Statement
 branch_at expression block ts = do
   word ← expect (is_keyword (codes "if")) ts
   cond ← expression word.1
@@ -64,12 +70,17 @@ loop_at block ts = do
   Ok (trees.repeated times.0 body.0 word.0, body.1)
 
 -- a condition has some level
-abbrev pub choice_at : ℕ → (List Lexeme → Read Tree) → (List Lexeme → Read Block) → List Lexeme → Read Statement
-choice_at room expression block ts = if room == 0 then Err (deep, ts) else branch_at expression block ts
+abbrev pub choice_at : ℕ → (List Lexeme → Read Tree) → (List Lexeme → Read Block) → List Lexeme
+    → Read Statement
+choice_at room expression block ts =
+    if room == 0 then Err (deep, ts) else branch_at expression block ts
 
 -- a statement with others inside, whose parts have at most so many levels
-unfoldable pub nested_at : ℕ → (List Lexeme → Read Tree) → (List Lexeme → Read Block) → List Lexeme → Read Statement
-nested_at room expression block ts = if begins (is_keyword (codes "if")) ts then choice_at room expression block ts else loop_at block ts
+unfoldable pub nested_at : ℕ → (List Lexeme → Read Tree) → (List Lexeme → Read Block) → List Lexeme
+    → Read Statement
+nested_at room expression block ts =
+    if begins (is_keyword (codes "if")) ts then choice_at room expression block ts else loop_at
+    block ts
 
 -- a statement with statements inside
 abbrev pub begins_nested : List Lexeme → Bool
@@ -93,9 +104,11 @@ abbrev pub statement_with : ℕ → (List Lexeme → Read Statement) → List Le
 statement_with room nested ts = if begins_nested ts then nested ts else plain_at (tree_at room) ts
 
 abbrev pub begins_statement : List Lexeme → Bool
-begins_statement ts = begins is_name ts || begins (is_keyword (codes "publish")) ts || begins_nested ts
+begins_statement ts =
+    begins is_name ts || begins (is_keyword (codes "publish")) ts || begins_nested ts
 
 -- a statement of at most so many levels; each has some
 unfoldable pub statement_at : ℕ → List Lexeme → Read Statement
 statement_at zero ts = if begins_statement ts then Err (deep, ts) else Err (stuck, ts)
-statement_at (suc r) ts = statement_with (suc r) (nested_at r (tree_at r) (block_at (statement_at r))) ts
+statement_at (suc r) ts =
+    statement_with (suc r) (nested_at r (tree_at r) (block_at (statement_at r))) ts

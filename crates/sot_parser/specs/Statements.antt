@@ -2,7 +2,8 @@
 use Rattle.std.specs.Prelude.{ℕ, ◌+◌, max, List, ◌∷◌, codes, Option, None, Some}
 use Rattle.sot_text.specs.Reading.{Lexeme}
 use Rattle.sot_tree.specs.declared.tree.Ident.{Ident}
-use Rattle.sot_tree.specs.Trees.{Tree, Statement, Block, assigned, published, branched, repeated, no_statement, statement}
+use Rattle.sot_tree.specs.Trees.{Tree, Statement, Block, assigned, published, branched, repeated}
+use Rattle.sot_tree.specs.Trees.{no_statement, statement}
 use Rattle.sot_parser.specs.Pieces.{Keyword, Sign, Named, Digits, name_of, number_of, maybe}
 use Rattle.sot_expression.specs.Phrases.{Phrase, IsPhrase}
 use Rattle.sot_expression.specs.Phrases as phrases
@@ -29,7 +30,8 @@ pub record AssignForm : Type 0 where
   pub semicolon : Sign (codes ";")
 
 abbrev pub spelled_assign : AssignForm → List Lexeme → List Lexeme
-spelled_assign a more = a.target.token ∷ a.becomes.token ∷ spelled_expression a.value (a.semicolon.token ∷ more)
+spelled_assign a more =
+    a.target.token ∷ a.becomes.token ∷ spelled_expression a.value (a.semicolon.token ∷ more)
 
 -- "." NAME
 pub record DotForm : Type 0 where
@@ -53,10 +55,12 @@ pub record PublishForm : Type 0 where
   pub semicolon : Sign (codes ";")
 
 abbrev pub spelled_publish : PublishForm → List Lexeme → List Lexeme
-spelled_publish p more = p.word.token ∷ p.topic.token ∷ maybe spelled_dot p.field (p.equals.token ∷ spelled_expression p.value (p.semicolon.token ∷ more))
+spelled_publish p more =
+    p.word.token ∷ p.topic.token ∷ maybe spelled_dot p.field
+    (p.equals.token ∷ spelled_expression p.value (p.semicolon.token ∷ more))
 
--- stmt = NAME ":=" expr ";" | "publish" NAME ["." NAME] "=" expr ";" | "if" expr block ["else" block] | "repeat" NUMBER block
--- block = "{" {stmt} "}"
+-- stmt = NAME ":=" expr ";" | "publish" NAME ["." NAME] "=" expr ";" | "if" expr block ["else"
+-- block] | "repeat" NUMBER block block = "{" {stmt} "}"
 mutual
   pub data StatementForm : Type 0 where
     an_assign : AssignForm → StatementForm
@@ -79,11 +83,14 @@ abbrev mutual
   pub spelled_statement : StatementForm → List Lexeme → List Lexeme
   spelled_statement (an_assign a) more = spelled_assign a more
   spelled_statement (a_publish p) more = spelled_publish p more
-  spelled_statement (an_if word cond yes_ no_) more = word.token ∷ spelled_expression cond (spelled_block yes_ (spelled_else no_ more))
-  spelled_statement (a_repeat word times body) more = word.token ∷ times.token ∷ spelled_block body more
+  spelled_statement (an_if word cond yes_ no_) more =
+      word.token ∷ spelled_expression cond (spelled_block yes_ (spelled_else no_ more))
+  spelled_statement (a_repeat word times body) more =
+      word.token ∷ times.token ∷ spelled_block body more
 
   pub spelled_block : BlockForm → List Lexeme → List Lexeme
-  spelled_block (braces opening body closing) more = opening.token ∷ spelled_statements body (closing.token ∷ more)
+  spelled_block (braces opening body closing) more =
+      opening.token ∷ spelled_statements body (closing.token ∷ more)
 
   pub spelled_else : ElseForm → List Lexeme → List Lexeme
   spelled_else no_else more = more
@@ -98,7 +105,8 @@ abbrev mutual
   pub statement_of : StatementForm → Statement
   statement_of (an_assign a) = assigned (name_of a.target) (expression_of a.value)
   statement_of (a_publish p) = published (name_of p.topic) (dot_of p.field) (expression_of p.value)
-  statement_of (an_if word cond yes_ no_) = branched (expression_of cond) (block_of yes_) (else_of no_) word.token.at
+  statement_of (an_if word cond yes_ no_) =
+      branched (expression_of cond) (block_of yes_) (else_of no_) word.token.at
   statement_of (a_repeat word times body) = repeated (number_of times) (block_of body) word.token.at
 
   pub block_of : BlockForm → Block
@@ -117,7 +125,8 @@ abbrev mutual
   pub statement_levels : StatementForm → ℕ
   statement_levels (an_assign a) = expression_levels a.value
   statement_levels (a_publish p) = expression_levels p.value
-  statement_levels (an_if word cond yes_ no_) = 1 + max (expression_levels cond) (max (block_levels yes_) (else_levels no_))
+  statement_levels (an_if word cond yes_ no_) =
+      1 + max (expression_levels cond) (max (block_levels yes_) (else_levels no_))
   statement_levels (a_repeat word times body) = 1 + block_levels body
 
   pub block_levels : BlockForm → ℕ

@@ -1,8 +1,11 @@
-//! Declarations, by the word that they begin with. A text may have very many topics, so the others stand apart.
+//! Declarations, by the word that they begin with. A text may have very many topics, so the others
+//! stand apart.
 ghost use Rattle.std.specs.Prelude.{◌≡◌, ◌≤◌, ◌||◌, map, codes};
 ghost use Rattle.sot_tree.specs.TreeViews.{declaration_view};
 ghost use Rattle.sot_expression.specs.Lexemes.{begins, is_keyword};
-ghost use Rattle.sot_parser.specs.DeclarationReaders.{a_topic_at, a_plant_at, a_coded_at, an_external_at, a_module_at, declaration_at, declarations_at, is_some};
+ghost use Rattle.sot_parser.specs.DeclarationReaders.{a_topic_at, a_plant_at, a_coded_at};
+ghost use Rattle.sot_parser.specs.DeclarationReaders.{an_external_at, a_module_at, declaration_at};
+ghost use Rattle.sot_parser.specs.DeclarationReaders.{declarations_at, is_some};
 ghost use Rattle.sot_expression.specs.Returned.{Gives};
 
 use crate::node::{coded, external};
@@ -26,7 +29,8 @@ fn a_topic(alloc: Global, tokens: &mut Tokens<'_>) -> Result<Decl, Fail>
 #[tactic(auto, unfolding(crate::specs::DeclarationReaders::a_plant_at))]
 fn a_plant(alloc: Global, tokens: &mut Tokens<'_>, room: u32) -> Result<Decl, Fail>
     requires room { (1 ≤ room) × (room ≤ 64) }
-    ensures { Gives declaration_view result tokens.old tokens.new (a_plant_at room tokens.old.tokens) }
+    ensures { Gives declaration_view result tokens.old tokens.new
+        (a_plant_at room tokens.old.tokens) }
 {
     let plant = plant(alloc, tokens, room)?;
     Ok(Decl::Plant(Apart::new(alloc, plant)?))
@@ -36,7 +40,8 @@ fn a_plant(alloc: Global, tokens: &mut Tokens<'_>, room: u32) -> Result<Decl, Fa
 #[tactic(auto, unfolding(crate::specs::DeclarationReaders::a_coded_at))]
 fn a_coded_node(alloc: Global, tokens: &mut Tokens<'_>, room: u32) -> Result<Decl, Fail>
     requires room { (1 ≤ room) × (room ≤ 64) }
-    ensures { Gives declaration_view result tokens.old tokens.new (a_coded_at room tokens.old.tokens) }
+    ensures { Gives declaration_view result tokens.old tokens.new
+        (a_coded_at room tokens.old.tokens) }
 {
     let node = coded(alloc, tokens, room)?;
     Ok(Decl::Node(Apart::new(alloc, node)?))
@@ -63,7 +68,8 @@ fn a_module(alloc: Global, tokens: &mut Tokens<'_>) -> Result<Decl, Fail>
 #[tactic(auto, unfolding(crate::specs::DeclarationReaders::declaration_at))]
 fn declaration(alloc: Global, tokens: &mut Tokens<'_>, room: u32) -> Result<Decl, Fail>
     requires room { (1 ≤ room) × (room ≤ 64) }
-    ensures { Gives declaration_view result tokens.old tokens.new (declaration_at room tokens.old.tokens) }
+    ensures { Gives declaration_view result tokens.old tokens.new
+        (declaration_at room tokens.old.tokens) }
 {
     if is_keyword(tokens, b"topic") || is_keyword(tokens, b"environment") {
         a_topic(alloc, tokens)
@@ -88,7 +94,8 @@ fn is_some(tokens: &Tokens<'_>) -> bool
 #[tactic(auto, unfolding(crate::specs::DeclarationReaders::declarations_at))]
 pub fn declarations(alloc: Global, tokens: &mut Tokens<'_>, room: u32) -> Result<Vec<Decl>, Fail>
     requires room { (1 ≤ room) × (room ≤ 64) }
-    ensures { Gives (λ decls. map declaration_view decls.items) result tokens.old tokens.new (declarations_at room tokens.old.tokens) }
+    ensures { Gives (λ decls. map declaration_view decls.items) result tokens.old tokens.new
+        (declarations_at room tokens.old.tokens) }
 {
     let mut decls = Vec::new(alloc);
     while is_some(tokens) {

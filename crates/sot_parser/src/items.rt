@@ -31,7 +31,8 @@ impl Item for Ident {
 
 #[tactic(auto, unfolding(crate::specs::ListReaders::further_at))]
 fn further<T: Item>(alloc: Global, tokens: &mut Tokens<'_>, sign: &[u8]) -> Result<T, Fail>
-    ensures read { Gives (λ item. item) result tokens.old tokens.new (further_at sign.now T.reads tokens.old.tokens) }
+    ensures read { Gives (λ item. item) result tokens.old tokens.new
+        (further_at sign.now T.reads tokens.old.tokens) }
     ensures shorter { IfOk result (λ _. length tokens.new.tokens < length tokens.old.tokens) }
 {
     expect_sign(tokens, sign)?;
@@ -45,7 +46,8 @@ pub fn separated<T: Item>(
     tokens: &mut Tokens<'_>,
     sign: &[u8],
 ) -> Result<Vec<T>, Fail>
-    ensures { Gives (λ items. items.items) result tokens.old tokens.new (separated_at sign.now T.reads tokens.old.tokens) }
+    ensures { Gives (λ items. items.items) result tokens.old tokens.new
+        (separated_at sign.now T.reads tokens.old.tokens) }
 {
     let first = T::read(alloc, tokens)?;
     let mut items = Vec::new(alloc);
@@ -60,7 +62,8 @@ pub fn separated<T: Item>(
 /// A clause of items behind a keyword.
 #[tactic(auto, unfolding(crate::specs::ListReaders::clause_at))]
 pub fn clause<T: Item>(alloc: Global, tokens: &mut Tokens<'_>, word: &[u8]) -> Result<Vec<T>, Fail>
-    ensures { Gives (λ items. items.items) result tokens.old tokens.new (clause_at word.now T.reads tokens.old.tokens) }
+    ensures { Gives (λ items. items.items) result tokens.old tokens.new
+        (clause_at word.now T.reads tokens.old.tokens) }
 {
     expect_keyword(tokens, word)?;
     let items = separated(alloc, tokens, b",")?;
@@ -75,7 +78,8 @@ pub fn optional<T: Item>(
     tokens: &mut Tokens<'_>,
     word: &[u8],
 ) -> Result<Vec<T>, Fail>
-    ensures { Gives (λ items. items.items) result tokens.old tokens.new (optional_at word.now T.reads tokens.old.tokens) }
+    ensures { Gives (λ items. items.items) result tokens.old tokens.new
+        (optional_at word.now T.reads tokens.old.tokens) }
 {
     if is_keyword(tokens, word) {
         clause(alloc, tokens, word)

@@ -5,5 +5,6 @@ ghost use Rattle.sot_parser.specs.Programs.{Spells};
 
 /// A text spells at most one program.
 pub fn programs_are_unique()
-    ensures { (bytes : _) → (at : _) → (first : Program) → (second : Program) → Spells bytes at first → Spells bytes at second → first ≡ second }
+    ensures { (bytes : _) → (at : _) → (first : Program) → (second : Program)
+        → Spells bytes at first → Spells bytes at second → first ≡ second }
 {}

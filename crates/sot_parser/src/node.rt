@@ -3,7 +3,8 @@ ghost use Rattle.std.specs.Prelude.{◌≡◌, ◌≤◌, map, codes};
 ghost use Rattle.sot_tree.specs.TreeViews.{local_view, block_view, node_view};
 ghost use Rattle.sot_expression.specs.Lexemes.{begins, is_keyword};
 ghost use Rattle.sot_parser.specs.ListReaders.{all_at};
-ghost use Rattle.sot_parser.specs.DeclarationReaders.{local_at, head_at, code_at, coded_at, external_at};
+ghost use Rattle.sot_parser.specs.DeclarationReaders.{local_at, head_at, code_at, coded_at};
+ghost use Rattle.sot_parser.specs.DeclarationReaders.{external_at};
 ghost use Rattle.sot_expression.specs.Returned.{Gives};
 
 use crate::held::Held;
@@ -33,7 +34,8 @@ fn local(alloc: Global, tokens: &mut Tokens<'_>) -> Result<LocalDecl, Fail>
 }
 
 fn locals(alloc: Global, tokens: &mut Tokens<'_>) -> Result<Vec<LocalDecl>, Fail>
-    ensures { Gives (λ locals. map local_view locals.items) result tokens.old tokens.new (all_at (begins (is_keyword (codes "local"))) local_at tokens.old.tokens) }
+    ensures { Gives (λ locals. map local_view locals.items) result tokens.old tokens.new
+        (all_at (begins (is_keyword (codes "local"))) local_at tokens.old.tokens) }
 {
     let mut locals = Vec::new(alloc);
     while is_keyword(tokens, b"local") {
@@ -72,7 +74,8 @@ fn code(
     room: u32,
 ) -> Result<(Vec<LocalDecl>, Vec<Stmt>), Fail>
     requires room { room ≤ 64 }
-    ensures { Gives (λ code. (map local_view code.0.items, block_view code.1.items)) result tokens.old tokens.new (code_at room tokens.old.tokens) }
+    ensures { Gives (λ code. (map local_view code.0.items, block_view code.1.items)) result
+        tokens.old tokens.new (code_at room tokens.old.tokens) }
 {
     let locals = locals(alloc, tokens)?;
     expect_keyword(tokens, b"do")?;

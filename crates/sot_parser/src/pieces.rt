@@ -2,7 +2,11 @@
 ghost use Rattle.std.specs.Prelude.{◌≡◌, ◌<◌, length, IfOk, codes};
 ghost use Rattle.sot_expression.specs.Lexemes.{begins, is_sign, is_keyword};
 ghost use Rattle.sot_expression.specs.Readers.{literal_at};
-ghost use Rattle.sot_parser.specs.DeclarationReaders.{side_at, range_at, fix_at, int_scalar_at, fix_scalar_at, bool_scalar_at, scalar_at, named_scalar_at, truth_at, number_const_at, const_at, whole_at, scaled_at, scale_at, state_at, timing_at, role_at};
+ghost use Rattle.sot_parser.specs.DeclarationReaders.{side_at, range_at, fix_at, int_scalar_at};
+ghost use Rattle.sot_parser.specs.DeclarationReaders.{fix_scalar_at, bool_scalar_at, scalar_at};
+ghost use Rattle.sot_parser.specs.DeclarationReaders.{named_scalar_at, truth_at, number_const_at};
+ghost use Rattle.sot_parser.specs.DeclarationReaders.{const_at, whole_at, scaled_at, scale_at};
+ghost use Rattle.sot_parser.specs.DeclarationReaders.{state_at, timing_at, role_at};
 ghost use Rattle.sot_expression.specs.Returned.{Gives};
 
 use crate::held::Held;
@@ -57,7 +61,8 @@ fn fix(tokens: &mut Tokens<'_>) -> Result<Lit, Fail>
 #[inline(always)]
 #[tactic(auto, unfolding(crate::specs::DeclarationReaders::int_scalar_at))]
 fn int_scalar(tokens: &mut Tokens<'_>) -> Result<Scalar, Fail>
-    ensures { Gives (λ scalar. scalar) result tokens.old tokens.new (int_scalar_at tokens.old.tokens) }
+    ensures { Gives (λ scalar. scalar) result tokens.old tokens.new
+        (int_scalar_at tokens.old.tokens) }
 {
     expect_keyword(tokens, b"int")?;
     let bounds = range(tokens)?;
@@ -67,7 +72,8 @@ fn int_scalar(tokens: &mut Tokens<'_>) -> Result<Scalar, Fail>
 #[inline(never)]
 #[tactic(auto, unfolding(crate::specs::DeclarationReaders::fix_scalar_at))]
 fn fix_scalar(tokens: &mut Tokens<'_>) -> Result<Scalar, Fail>
-    ensures { Gives (λ scalar. scalar) result tokens.old tokens.new (fix_scalar_at tokens.old.tokens) }
+    ensures { Gives (λ scalar. scalar) result tokens.old tokens.new
+        (fix_scalar_at tokens.old.tokens) }
 {
     let scale = fix(tokens)?;
     let bounds = range(tokens)?;
@@ -76,7 +82,8 @@ fn fix_scalar(tokens: &mut Tokens<'_>) -> Result<Scalar, Fail>
 
 #[tactic(auto, unfolding(crate::specs::DeclarationReaders::bool_scalar_at))]
 fn bool_scalar(tokens: &mut Tokens<'_>) -> Result<Scalar, Fail>
-    ensures { Gives (λ scalar. scalar) result tokens.old tokens.new (bool_scalar_at tokens.old.tokens) }
+    ensures { Gives (λ scalar. scalar) result tokens.old tokens.new
+        (bool_scalar_at tokens.old.tokens) }
 {
     let at = expect_keyword(tokens, b"bool")?;
     Ok(Scalar::Bool { at })
@@ -98,7 +105,8 @@ pub fn scalar(tokens: &mut Tokens<'_>) -> Result<Scalar, Fail>
 
 #[tactic(auto, unfolding(crate::specs::DeclarationReaders::named_scalar_at))]
 fn named_scalar(alloc: Global, tokens: &mut Tokens<'_>) -> Result<Field, Fail>
-    ensures { Gives (λ field. field) result tokens.old tokens.new (named_scalar_at tokens.old.tokens) }
+    ensures { Gives (λ field. field) result tokens.old tokens.new
+        (named_scalar_at tokens.old.tokens) }
 {
     let name = Held(name(alloc, tokens)?);
     expect_sign(tokens, b":")?;
@@ -120,7 +128,8 @@ impl Item for Field {
 
 #[tactic(auto, unfolding(crate::specs::DeclarationReaders::truth_at))]
 fn truth(tokens: &mut Tokens<'_>, value: bool, word: &[u8]) -> Result<Const, Fail>
-    ensures { Gives (λ truth. truth) result tokens.old tokens.new (truth_at value word.now tokens.old.tokens) }
+    ensures { Gives (λ truth. truth) result tokens.old tokens.new
+        (truth_at value word.now tokens.old.tokens) }
 {
     let at = expect_keyword(tokens, word)?;
     Ok(Const::Truth { value, at })
@@ -129,7 +138,8 @@ fn truth(tokens: &mut Tokens<'_>, value: bool, word: &[u8]) -> Result<Const, Fai
 #[inline(always)]
 #[tactic(auto, unfolding(crate::specs::DeclarationReaders::number_const_at))]
 fn number_const(tokens: &mut Tokens<'_>) -> Result<Const, Fail>
-    ensures { Gives (λ number. number) result tokens.old tokens.new (number_const_at tokens.old.tokens) }
+    ensures { Gives (λ number. number) result tokens.old tokens.new
+        (number_const_at tokens.old.tokens) }
 {
     let number = literal(tokens)?;
     Ok(Const::Number(number))

@@ -4,7 +4,8 @@ ghost use Rattle.sot_tree.specs.Trees.{published};
 ghost use Rattle.sot_tree.specs.TreeViews.{tree_view, statement_view};
 ghost use Rattle.sot_expression.specs.Lexemes.{begins, is_sign, is_keyword};
 ghost use Rattle.sot_expression.specs.ExpressionReaders.{tree_at};
-ghost use Rattle.sot_parser.specs.StatementReaders.{assign_at, field_at, dot_at, publish_at, plain_at};
+ghost use Rattle.sot_parser.specs.StatementReaders.{assign_at, field_at, dot_at, publish_at};
+ghost use Rattle.sot_parser.specs.StatementReaders.{plain_at};
 ghost use Rattle.sot_expression.specs.Returned.{Gives, Makes};
 
 use crate::held::Held;
@@ -15,7 +16,8 @@ use std::alloc::Global;
 #[tactic(auto, unfolding(crate::specs::StatementReaders::assign_at))]
 fn assign(alloc: Global, tokens: &mut Tokens<'_>, room: u32) -> Result<Stmt, Fail>
     requires room { (1 ≤ room) × (room ≤ 64) }
-    ensures { Gives statement_view result tokens.old tokens.new (assign_at (tree_at room) tokens.old.tokens) }
+    ensures { Gives statement_view result tokens.old tokens.new
+        (assign_at (tree_at room) tokens.old.tokens) }
 {
     let target = Held(name(alloc, tokens)?);
     expect_sign(tokens, b":=")?;
@@ -64,7 +66,8 @@ fn published(alloc: Global, topic: Ident, field: Option<Ident>, value: Expr) -> 
 #[tactic(auto, unfolding(crate::specs::StatementReaders::publish_at))]
 fn publish(alloc: Global, tokens: &mut Tokens<'_>, room: u32) -> Result<Stmt, Fail>
     requires room { (1 ≤ room) × (room ≤ 64) }
-    ensures { Gives statement_view result tokens.old tokens.new (publish_at (tree_at room) tokens.old.tokens) }
+    ensures { Gives statement_view result tokens.old tokens.new
+        (publish_at (tree_at room) tokens.old.tokens) }
 {
     expect_keyword(tokens, b"publish")?;
     let topic = Held(name(alloc, tokens)?);
@@ -80,7 +83,8 @@ fn publish(alloc: Global, tokens: &mut Tokens<'_>, room: u32) -> Result<Stmt, Fa
 #[tactic(auto, unfolding(crate::specs::StatementReaders::plain_at))]
 pub fn plain(alloc: Global, tokens: &mut Tokens<'_>, room: u32) -> Result<Stmt, Fail>
     requires room { (1 ≤ room) × (room ≤ 64) }
-    ensures { Gives statement_view result tokens.old tokens.new (plain_at (tree_at room) tokens.old.tokens) }
+    ensures { Gives statement_view result tokens.old tokens.new
+        (plain_at (tree_at room) tokens.old.tokens) }
 {
     if is_keyword(tokens, b"publish") {
         publish(alloc, tokens, room)

@@ -32,7 +32,8 @@ fn next(alloc: Global, tokens: &mut Tokens<'_>, room: u32) -> Result<NextDecl, F
 
 fn nexts(alloc: Global, tokens: &mut Tokens<'_>, room: u32) -> Result<Vec<NextDecl>, Fail>
     requires room { (1 ≤ room) × (room ≤ 64) }
-    ensures { Gives (λ nexts. map next_view nexts.items) result tokens.old tokens.new (all_at (begins (is_keyword (codes "next"))) (next_at room) tokens.old.tokens) }
+    ensures { Gives (λ nexts. map next_view nexts.items) result tokens.old tokens.new
+        (all_at (begins (is_keyword (codes "next"))) (next_at room) tokens.old.tokens) }
 {
     let mut nexts = Vec::new(alloc);
     while is_keyword(tokens, b"next") {
@@ -47,7 +48,12 @@ type Signals = (Vec<StateDecl>, Vec<Ident>, Vec<Ident>, Vec<Field>);
 // What a plant holds and sees: the states, the inputs, the other plants and the noise.
 #[tactic(auto, unfolding(crate::specs::DeclarationReaders::signals_at))]
 fn signals(alloc: Global, tokens: &mut Tokens<'_>) -> Result<Signals, Fail>
-    ensures { Gives (λ signals. (signals.0.items, signals.1.items, signals.2.items, signals.3.items)) result tokens.old tokens.new (signals_at tokens.old.tokens) }
+    ensures { Gives (λ signals. (
+      signals.0.items,
+      signals.1.items,
+      signals.2.items,
+      signals.3.items,
+    )) result tokens.old tokens.new (signals_at tokens.old.tokens) }
 {
     let states = clause(alloc, tokens, b"state")?;
     let inputs = optional(alloc, tokens, b"input")?;

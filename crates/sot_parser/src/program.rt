@@ -5,7 +5,8 @@ ghost use Rattle.sot_tree.specs.Trees.{Program as ProgramTree};
 ghost use Rattle.sot_tree.specs.TreeViews.{program_view};
 ghost use Rattle.sot_parser.specs.Programs.{Spells};
 ghost use Rattle.sot_parser.specs.DeclarationReaders.{program_at};
-ghost use Rattle.sot_parser.specs.ParseAnswers.{stuck_syntax, deep_syntax, is_ended, fault_at, Answers};
+ghost use Rattle.sot_parser.specs.ParseAnswers.{stuck_syntax, deep_syntax, is_ended, fault_at};
+ghost use Rattle.sot_parser.specs.ParseAnswers.{Answers};
 ghost use Rattle.sot_expression.specs.Returned.{Gives};
 
 use crate::declaration::declarations;
@@ -76,14 +77,16 @@ fn answer(alloc: Global, lexer: &Lexer<'_>) -> Result<Program, ParseFail>
     }
 }
 
-/// Reads a program, from where the lexer stands to the end of its text. The lexer stays there.
+/// Reads a program, from where the lexer stands to the end of its text.
 #[tactic(auto, using(crate::proofs::ProgramTexts::answers_ok, crate::proofs::ProgramTexts::answers_only))]
-pub fn parse<'a>(alloc: Global, lexer: &mut Lexer<'a>) -> Result<Program, ParseFail>
-    ensures ok { IfOk result (λ program. Spells lexer.old.bytes lexer.old.at (program_view program)) }
-    ensures only { IfOk result (λ program. (other : ProgramTree) → Spells lexer.old.bytes lexer.old.at other → other ≡ program_view program) }
-    ensures syntax { (fault : _) → IsErrOf result (ParseFail.Syntax fault) → (program : ProgramTree) → ¬ (Spells lexer.old.bytes lexer.old.at program) }
-    ensures place { (fault : _) → IsErrOf result (ParseFail.Syntax fault) → fault ≡ fault_at lexer.old.bytes lexer.old.at }
-    ensures stays { lexer.new ≡ lexer.old }
+pub fn parse(alloc: Global, lexer: &Lexer<'_>) -> Result<Program, ParseFail>
+    ensures ok { IfOk result (λ program. Spells lexer.now.bytes lexer.now.at (program_view program)) }
+    ensures only { IfOk result (λ program. (other : ProgramTree)
+        → Spells lexer.now.bytes lexer.now.at other → other ≡ program_view program) }
+    ensures syntax { (fault : _) → IsErrOf result (ParseFail.Syntax fault) → (program : ProgramTree)
+        → ¬ (Spells lexer.now.bytes lexer.now.at program) }
+    ensures place { (fault : _) → IsErrOf result (ParseFail.Syntax fault)
+        → fault ≡ fault_at lexer.now.bytes lexer.now.at }
 {
     answer(alloc, lexer)
 }

@@ -3,7 +3,8 @@ ghost use Rattle.std.specs.Prelude.{◌≡◌, map, codes};
 ghost use Rattle.sot_tree.specs.TreeViews.{area_view, module_view};
 ghost use Rattle.sot_expression.specs.Lexemes.{begins, is_sign, is_keyword};
 ghost use Rattle.sot_parser.specs.ListReaders.{further_at, separated_at};
-ghost use Rattle.sot_parser.specs.DeclarationReaders.{box_at, no_box_at, region_at, bound_at, pairing_at, bounds_at, module_at};
+ghost use Rattle.sot_parser.specs.DeclarationReaders.{box_at, no_box_at, region_at, bound_at};
+ghost use Rattle.sot_parser.specs.DeclarationReaders.{pairing_at, bounds_at, module_at};
 ghost use Rattle.sot_expression.specs.Returned.{Gives};
 
 use crate::held::Held;
@@ -25,14 +26,16 @@ fn one_box(alloc: Global, tokens: &mut Tokens<'_>) -> Result<BoxDecl, Fail>
 
 #[tactic(auto, unfolding(crate::specs::ListReaders::further_at))]
 fn further_box(alloc: Global, tokens: &mut Tokens<'_>) -> Result<BoxDecl, Fail>
-    ensures { Gives area_view result tokens.old tokens.new (further_at (codes "|") box_at tokens.old.tokens) }
+    ensures { Gives area_view result tokens.old tokens.new
+        (further_at (codes "|") box_at tokens.old.tokens) }
 {
     expect_sign(tokens, b"|")?;
     one_box(alloc, tokens)
 }
 
 fn boxes(alloc: Global, tokens: &mut Tokens<'_>) -> Result<Vec<BoxDecl>, Fail>
-    ensures { Gives (λ boxes. map area_view boxes.items) result tokens.old tokens.new (separated_at (codes "|") box_at tokens.old.tokens) }
+    ensures { Gives (λ boxes. map area_view boxes.items) result tokens.old tokens.new
+        (separated_at (codes "|") box_at tokens.old.tokens) }
 {
     let first = one_box(alloc, tokens)?;
     let mut boxes = Vec::new(alloc);
@@ -46,7 +49,8 @@ fn boxes(alloc: Global, tokens: &mut Tokens<'_>) -> Result<Vec<BoxDecl>, Fail>
 
 #[tactic(auto, unfolding(crate::specs::DeclarationReaders::no_box_at))]
 fn no_box(alloc: Global, tokens: &mut Tokens<'_>) -> Result<Vec<BoxDecl>, Fail>
-    ensures { Gives (λ boxes. map area_view boxes.items) result tokens.old tokens.new (no_box_at tokens.old.tokens) }
+    ensures { Gives (λ boxes. map area_view boxes.items) result tokens.old tokens.new
+        (no_box_at tokens.old.tokens) }
 {
     expect_keyword(tokens, b"none")?;
     Ok(Vec::new(alloc))
@@ -54,7 +58,8 @@ fn no_box(alloc: Global, tokens: &mut Tokens<'_>) -> Result<Vec<BoxDecl>, Fail>
 
 #[tactic(auto, unfolding(crate::specs::DeclarationReaders::region_at))]
 fn region(alloc: Global, tokens: &mut Tokens<'_>) -> Result<Vec<BoxDecl>, Fail>
-    ensures { Gives (λ boxes. map area_view boxes.items) result tokens.old tokens.new (region_at tokens.old.tokens) }
+    ensures { Gives (λ boxes. map area_view boxes.items) result tokens.old tokens.new
+        (region_at tokens.old.tokens) }
 {
     if is_keyword(tokens, b"none") {
         no_box(alloc, tokens)
@@ -65,7 +70,8 @@ fn region(alloc: Global, tokens: &mut Tokens<'_>) -> Result<Vec<BoxDecl>, Fail>
 
 #[tactic(auto, unfolding(crate::specs::DeclarationReaders::bound_at))]
 fn bound(alloc: Global, tokens: &mut Tokens<'_>, word: &[u8]) -> Result<Vec<BoxDecl>, Fail>
-    ensures { Gives (λ boxes. map area_view boxes.items) result tokens.old tokens.new (bound_at word.now tokens.old.tokens) }
+    ensures { Gives (λ boxes. map area_view boxes.items) result tokens.old tokens.new
+        (bound_at word.now tokens.old.tokens) }
 {
     expect_keyword(tokens, word)?;
     let region = region(alloc, tokens)?;
@@ -89,7 +95,8 @@ fn pairing(alloc: Global, tokens: &mut Tokens<'_>) -> Result<(Ident, Ident, Lit,
 // The safe and the safer region.
 #[tactic(auto, unfolding(crate::specs::DeclarationReaders::bounds_at))]
 fn bounds(alloc: Global, tokens: &mut Tokens<'_>) -> Result<(Vec<BoxDecl>, Vec<BoxDecl>), Fail>
-    ensures { Gives (λ bounds. (map area_view bounds.0.items, map area_view bounds.1.items)) result tokens.old tokens.new (bounds_at tokens.old.tokens) }
+    ensures { Gives (λ bounds. (map area_view bounds.0.items, map area_view bounds.1.items)) result
+        tokens.old tokens.new (bounds_at tokens.old.tokens) }
 {
     let safe = bound(alloc, tokens, b"safe")?;
     let safer = bound(alloc, tokens, b"safer")?;

@@ -4,7 +4,10 @@ ghost use Rattle.sot_tree.specs.TreeViews.{statement_view, block_view};
 ghost use Rattle.sot_expression.specs.Lexemes.{begins, is_sign, is_keyword};
 ghost use Rattle.sot_parser.specs.ListReaders.{all_at};
 ghost use Rattle.sot_expression.specs.ExpressionReaders.{tree_at};
-ghost use Rattle.sot_parser.specs.StatementReaders.{otherwise_at, else_at, branch_at, loop_at, choice_at, nested_at, begins_nested, begins_statement, goes_on, block_at, statement_at};
+ghost use Rattle.sot_parser.specs.StatementReaders.{otherwise_at, else_at, branch_at, loop_at};
+ghost use Rattle.sot_parser.specs.StatementReaders.{choice_at, nested_at, begins_nested};
+ghost use Rattle.sot_parser.specs.StatementReaders.{begins_statement, goes_on, block_at};
+ghost use Rattle.sot_parser.specs.StatementReaders.{statement_at};
 ghost use Rattle.sot_expression.specs.Returned.{Gives};
 
 use crate::held::Held;
@@ -38,7 +41,8 @@ fn goes_on(tokens: &Tokens<'_>) -> bool
 #[tactic(auto, using(crate::proofs::StatementSteps::plain_step, crate::proofs::StatementSteps::deep_step, crate::proofs::StatementSteps::stuck_step, crate::proofs::StatementSteps::nested_step))]
 fn statement(alloc: Global, tokens: &mut Tokens<'_>, room: u32) -> Result<Stmt, Fail>
     requires room { room ≤ 64 }
-    ensures { Gives statement_view result tokens.old tokens.new (statement_at room tokens.old.tokens) }
+    ensures { Gives statement_view result tokens.old tokens.new
+        (statement_at room tokens.old.tokens) }
 {
     if room == 0 {
         if begins_statement(tokens) {
@@ -58,7 +62,8 @@ fn statement(alloc: Global, tokens: &mut Tokens<'_>, room: u32) -> Result<Stmt, 
 #[tactic(auto, unfolding(crate::specs::StatementReaders::nested_at))]
 fn nested(alloc: Global, tokens: &mut Tokens<'_>, room: u32) -> Result<Stmt, Fail>
     requires room { room ≤ 63 }
-    ensures { Gives statement_view result tokens.old tokens.new (nested_at room (tree_at room) (block_at (statement_at room)) tokens.old.tokens) }
+    ensures { Gives statement_view result tokens.old tokens.new
+        (nested_at room (tree_at room) (block_at (statement_at room)) tokens.old.tokens) }
 {
     if is_keyword(tokens, b"if") {
         choice(alloc, tokens, room)
@@ -70,7 +75,8 @@ fn nested(alloc: Global, tokens: &mut Tokens<'_>, room: u32) -> Result<Stmt, Fai
 #[cycle(statement)]
 fn choice(alloc: Global, tokens: &mut Tokens<'_>, room: u32) -> Result<Stmt, Fail>
     requires room { room ≤ 63 }
-    ensures { Gives statement_view result tokens.old tokens.new (choice_at room (tree_at room) (block_at (statement_at room)) tokens.old.tokens) }
+    ensures { Gives statement_view result tokens.old tokens.new
+        (choice_at room (tree_at room) (block_at (statement_at room)) tokens.old.tokens) }
 {
     if room == 0 {
         return Err(Fail::Deep);
@@ -82,7 +88,8 @@ fn choice(alloc: Global, tokens: &mut Tokens<'_>, room: u32) -> Result<Stmt, Fai
 #[tactic(auto, unfolding(crate::specs::StatementReaders::branch_at))]
 fn branch(alloc: Global, tokens: &mut Tokens<'_>, room: u32) -> Result<Stmt, Fail>
     requires room { (1 ≤ room) × (room ≤ 63) }
-    ensures { Gives statement_view result tokens.old tokens.new (branch_at (tree_at room) (block_at (statement_at room)) tokens.old.tokens) }
+    ensures { Gives statement_view result tokens.old tokens.new
+        (branch_at (tree_at room) (block_at (statement_at room)) tokens.old.tokens) }
 {
     let at = expect_keyword(tokens, b"if")?;
     let cond = Held(tree(alloc, tokens, room)?);
@@ -97,7 +104,8 @@ fn branch(alloc: Global, tokens: &mut Tokens<'_>, room: u32) -> Result<Stmt, Fai
 #[tactic(auto, unfolding(crate::specs::StatementReaders::else_at))]
 fn optional_else(alloc: Global, tokens: &mut Tokens<'_>, room: u32) -> Result<Vec<Stmt>, Fail>
     requires room { room ≤ 63 }
-    ensures { Gives (λ block. block_view block.items) result tokens.old tokens.new (else_at (block_at (statement_at room)) tokens.old.tokens) }
+    ensures { Gives (λ block. block_view block.items) result tokens.old tokens.new
+        (else_at (block_at (statement_at room)) tokens.old.tokens) }
 {
     if is_keyword(tokens, b"else") {
         otherwise(alloc, tokens, room)
@@ -110,7 +118,8 @@ fn optional_else(alloc: Global, tokens: &mut Tokens<'_>, room: u32) -> Result<Ve
 #[tactic(auto, unfolding(crate::specs::StatementReaders::otherwise_at))]
 fn otherwise(alloc: Global, tokens: &mut Tokens<'_>, room: u32) -> Result<Vec<Stmt>, Fail>
     requires room { room ≤ 63 }
-    ensures { Gives (λ block. block_view block.items) result tokens.old tokens.new (otherwise_at (block_at (statement_at room)) tokens.old.tokens) }
+    ensures { Gives (λ block. block_view block.items) result tokens.old tokens.new
+        (otherwise_at (block_at (statement_at room)) tokens.old.tokens) }
 {
     expect_keyword(tokens, b"else")?;
     block(alloc, tokens, room)
@@ -120,7 +129,8 @@ fn otherwise(alloc: Global, tokens: &mut Tokens<'_>, room: u32) -> Result<Vec<St
 #[tactic(auto, unfolding(crate::specs::StatementReaders::loop_at))]
 fn repeat(alloc: Global, tokens: &mut Tokens<'_>, room: u32) -> Result<Stmt, Fail>
     requires room { room ≤ 63 }
-    ensures { Gives statement_view result tokens.old tokens.new (loop_at (block_at (statement_at room)) tokens.old.tokens) }
+    ensures { Gives statement_view result tokens.old tokens.new
+        (loop_at (block_at (statement_at room)) tokens.old.tokens) }
 {
     let at = expect_keyword(tokens, b"repeat")?;
     let times = number(tokens)?;
@@ -133,7 +143,8 @@ fn repeat(alloc: Global, tokens: &mut Tokens<'_>, room: u32) -> Result<Stmt, Fai
 #[tactic(auto, unfolding(crate::specs::StatementReaders::block_at))]
 pub fn block(alloc: Global, tokens: &mut Tokens<'_>, room: u32) -> Result<Vec<Stmt>, Fail>
     requires room { room ≤ 64 }
-    ensures { Gives (λ block. block_view block.items) result tokens.old tokens.new (block_at (statement_at room) tokens.old.tokens) }
+    ensures { Gives (λ block. block_view block.items) result tokens.old tokens.new
+        (block_at (statement_at room) tokens.old.tokens) }
 {
     expect_sign(tokens, b"{")?;
     let body = statements(alloc, tokens, room)?;
@@ -145,7 +156,8 @@ pub fn block(alloc: Global, tokens: &mut Tokens<'_>, room: u32) -> Result<Vec<St
 #[cycle(statement)]
 fn statements(alloc: Global, tokens: &mut Tokens<'_>, room: u32) -> Result<Vec<Stmt>, Fail>
     requires room { room ≤ 64 }
-    ensures { Gives (λ body. map statement_view body.items) result tokens.old tokens.new (all_at goes_on (statement_at room) tokens.old.tokens) }
+    ensures { Gives (λ body. map statement_view body.items) result tokens.old tokens.new
+        (all_at goes_on (statement_at room) tokens.old.tokens) }
 {
     let mut body = Vec::new(alloc);
     while goes_on(tokens) {

@@ -2,7 +2,9 @@
 ghost use Rattle.std.specs.Prelude.{◌≡◌, codes};
 ghost use Rattle.sot_tree.specs.TreeViews.{shape_view, init_view, topic_view};
 ghost use Rattle.sot_expression.specs.Lexemes.{begins, is_sign, is_keyword};
-ghost use Rattle.sot_parser.specs.DeclarationReaders.{fields_at, one_scalar_at, shape_at, consts_at, one_const_at, init_at, environment_at, outside_at, topic_at};
+ghost use Rattle.sot_parser.specs.DeclarationReaders.{fields_at, one_scalar_at, shape_at};
+ghost use Rattle.sot_parser.specs.DeclarationReaders.{consts_at, one_const_at, init_at};
+ghost use Rattle.sot_parser.specs.DeclarationReaders.{environment_at, outside_at, topic_at};
 ghost use Rattle.sot_expression.specs.Returned.{Gives};
 
 use crate::held::Held;
@@ -79,7 +81,8 @@ fn init(alloc: Global, tokens: &mut Tokens<'_>) -> Result<Init, Fail>
 #[inline(never)]
 #[tactic(auto, unfolding(crate::specs::DeclarationReaders::environment_at))]
 fn environment(tokens: &mut Tokens<'_>) -> Result<bool, Fail>
-    ensures { Gives (λ outside. outside) result tokens.old tokens.new (environment_at tokens.old.tokens) }
+    ensures { Gives (λ outside. outside) result tokens.old tokens.new
+        (environment_at tokens.old.tokens) }
 {
     expect_keyword(tokens, b"environment")?;
     Ok(true)

@@ -28,7 +28,8 @@ otherwise_written start word gap more out e = ap (λ o. o ++ out) e ∙ regroupe
 -- the block of statements behind `if` and its condition, and those of `else`
 pub branch_bytes : (b : Box Branch) (at : Span) (indent : ℕ)
     → laid (statement_words (statement_view (If b at)) indent)
-    ≡ ((blanks (Line indent) ++ (codes "if" ++ laid (expression_words (tree_view b.value.cond) Space))) ++ laid (braced_words indent (block_words (block_view b.value.yes.items))))
+    ≡ ((blanks (Line indent) ++ (codes "if" ++ laid (expression_words (tree_view b.value.cond) Space)))
+    ++ laid (braced_words indent (block_words (block_view b.value.yes.items))))
     ++ laid (otherwise_words (block_view b.value.no.items) indent (block_words (block_view b.value.no.items)))
 branch_bytes b at indent =
     let head : List Word = keyword (Line indent) (codes "if") ∷ expression_words (tree_view b.value.cond) Space in

@@ -1,16 +1,19 @@
 -- The bytes of a plant, and of a text that has some declaration.
-use Rattle.std.proofs.Common.{◌≡◌, ℕ, ◌<◌, ◌==◌, Bool, true, false, Option, None, Some, List, [], ◌∷◌, ◌++◌, length, map, length-append, refl, ap, ◌∙◌, append_assoc, codes, arith}
+use Rattle.std.proofs.Common.{◌≡◌, ℕ, ◌<◌, ◌==◌, Bool, true, false, Option, None, Some, List, [], ◌∷◌, ◌++◌, length, map, length-append, refl, ap, ◌∙◌}
+use Rattle.std.proofs.Common.{append_assoc, codes, arith}
 use Rattle.sot_tree.specs.Trees.{Plant, Node, Block, Declaration, a_topic, a_plant, a_node, a_module}
 use Rattle.sot_print.specs.declared.gap.Gap.{Gap}
 use Rattle.sot_print.specs.declared.gap.Gap.TheVariants.{Space}
 use Rattle.sot_print.specs.Words.{Word, keyword, sign, laid, text_of}
 use Rattle.sot_print.specs.Leaves.{ident_words}
-use Rattle.sot_print.specs.Canonical.{each, next_clause, plant_clauses, closing, plant_words, topic_head_words, node_of, declaration_words, own_line, declarations_from}
+use Rattle.sot_print.specs.Canonical.{each, next_clause, plant_clauses, closing, plant_words, topic_head_words, node_of, declaration_words, own_line}
+use Rattle.sot_print.specs.Canonical.{declarations_from}
 use Rattle.sot_print.proofs.Laying.{laid-append}
 
 pub plant_bytes : (gap : Gap) (p : Plant)
     → laid (plant_words gap p)
-    ≡ ((laid (keyword gap (codes "plant") ∷ ident_words Space p.name) ++ (laid (sign Space (codes "{") ∷ []) ++ laid (plant_clauses p))) ++ laid (each next_clause p.next)) ++ laid closing
+    ≡ ((laid (keyword gap (codes "plant") ∷ ident_words Space p.name) ++ (laid (sign Space (codes "{") ∷ []) ++ laid (plant_clauses p)))
+    ++ laid (each next_clause p.next)) ++ laid closing
 plant_bytes gap p =
     let head : List Word = keyword gap (codes "plant") ∷ ident_words Space p.name in
     let brace : List Word = sign Space (codes "{") ∷ [] in
@@ -21,7 +24,8 @@ plant_bytes gap p =
     (laid-append (head ++ (brace ++ clauses)) nexts
     ∙ ap (λ bytes. bytes ++ laid nexts) (laid-append head (brace ++ clauses) ∙ ap (λ bytes. laid head ++ bytes) (laid-append brace clauses)))
 
-pub plant_written : (start named opened filled more head brace clauses nexts end : List ℕ) → named ≡ start ++ head → opened ≡ named ++ brace → filled ≡ opened ++ clauses → more ≡ filled ++ nexts
+pub plant_written : (start named opened filled more head brace clauses nexts end : List ℕ) → named ≡ start ++ head → opened ≡ named ++ brace
+    → filled ≡ opened ++ clauses → more ≡ filled ++ nexts
     → more ++ end ≡ start ++ (((head ++ (brace ++ clauses)) ++ nexts) ++ end)
 plant_written start named opened filled more head brace clauses nexts end a b c d =
     ap (λ o. o ++ end) (d ∙ ap (λ o. o ++ nexts) (c ∙ ap (λ o. o ++ clauses) (b ∙ ap (λ o. o ++ brace) a))) ∙ regrouped

@@ -1,5 +1,6 @@
 -- A token with something behind it is the same token, unless that goes on with it.
-use Rattle.std.proofs.Common.{◌≡◌, ℕ, ◌+◌, ◌<◌, ◌==◌, Bool, true, false, cond, List, [], ◌∷◌, ◌++◌, length, take, drop, inl, inr, refl, sym, ap, ap₂, subst, ◌∙◌, arith}
+use Rattle.std.proofs.Common.{◌≡◌, ℕ, ◌+◌, ◌<◌, ◌==◌, Bool, true, false, cond, List, [], ◌∷◌, ◌++◌, length, take, drop, inl, inr, refl, sym, ap, ap₂, subst}
+use Rattle.std.proofs.Common.{◌∙◌, arith}
 use Rattle.std.specs.List.{prefix_len}
 use Rattle.std.specs.Char.{is_ascii_digit}
 use Rattle.std.proofs.lemmas.Bool.{cases_Bool, cond-true, cond-false}
@@ -10,7 +11,8 @@ use Rattle.std.proofs.lemmas.List.Sums.{prefix_len-le-length}
 use Rattle.std.proofs.Math.Seq.{take-append_seam, take-length}
 use Rattle.sot_text.specs.declared.token.Kind.{Kind}
 use Rattle.sot_text.specs.declared.lexeme.Front.TheVariants.{Token, BadByte}
-use Rattle.sot_text.specs.Lexeme.{begins_word, is_in_word, is_blank, word_len, digits_len, decimals_len, decimals_of, mantissa_of, number_len, word, number, sign, front, skipped, IsTokenText}
+use Rattle.sot_text.specs.Lexeme.{begins_word, is_in_word, is_blank, word_len, digits_len, decimals_len, decimals_of, mantissa_of, number_len, word, number}
+use Rattle.sot_text.specs.Lexeme.{sign, front, skipped, IsTokenText}
 use Rattle.sot_text.specs.Inside.{is_long_sign, is_short_sign, sign_by_two}
 use Rattle.sot_text.proofs.Signs.{by_two}
 use Rattle.sot_text.proofs.Fronts.{front_word, front_number, front_sign, word_takes, sized_takes, number-take}
@@ -55,7 +57,8 @@ number_len_stops text rest none flat =
     ∙ decimals_stop (drop (digits_len text) text) rest none flat in
     ap₂ (λ d w. cond (d == 0) w (w + 1 + d)) behind whole
 
-number_goes : (a : ℕ) (as_ rest : List ℕ) (kind : Kind) → begins_word a ≡ false → is_ascii_digit a ≡ true → IsTokenText kind (a ∷ as_) → digits_len rest ≡ 0 → decimals_len rest ≡ 0
+number_goes : (a : ℕ) (as_ rest : List ℕ) (kind : Kind) → begins_word a ≡ false → is_ascii_digit a ≡ true → IsTokenText kind (a ∷ as_) → digits_len rest ≡ 0
+    → decimals_len rest ≡ 0
     → front ((a ∷ as_) ++ rest) ≡ Token kind (length (a ∷ as_))
 number_goes a as_ rest kind no_word first is none flat =
     let text : List ℕ = a ∷ as_ in
@@ -67,7 +70,8 @@ number_goes a as_ rest kind no_word first is none flat =
     ∙ ap number (ap (λ n. take n (text ++ rest)) more ∙ take-append_seam text rest)
     ∙ alone
 
-sign_goes : (a : ℕ) (as_ rest : List ℕ) (kind : Kind) → begins_word a ≡ false → is_ascii_digit a ≡ false → IsTokenText kind (a ∷ as_) → sign_by_two ((a ∷ as_) ++ rest) ≡ sign_by_two (a ∷ as_)
+sign_goes : (a : ℕ) (as_ rest : List ℕ) (kind : Kind) → begins_word a ≡ false → is_ascii_digit a ≡ false → IsTokenText kind (a ∷ as_)
+    → sign_by_two ((a ∷ as_) ++ rest) ≡ sign_by_two (a ∷ as_)
     → front ((a ∷ as_) ++ rest) ≡ Token kind (length (a ∷ as_))
 sign_goes a as_ rest kind no_word no_digit is same =
     let text : List ℕ = a ∷ as_ in
@@ -96,7 +100,8 @@ no_sign : (a : ℕ) (as_ : List ℕ) → is_short_sign a ≡ false → ((b : ℕ
 no_sign a [] short long = cond-false (is_short_sign a) _ _ short
 no_sign a (b ∷ bs) short long = blank_signs a b bs short (long b)
 
-no_token : (a : ℕ) (as_ : List ℕ) (kind : Kind) (n : ℕ) → begins_word a ≡ false → is_ascii_digit a ≡ false → sign_by_two (a ∷ as_) ≡ 0 → front (a ∷ as_) ≡ Token kind n → ⊥
+no_token : (a : ℕ) (as_ : List ℕ) (kind : Kind) (n : ℕ) → begins_word a ≡ false → is_ascii_digit a ≡ false → sign_by_two (a ∷ as_) ≡ 0
+    → front (a ∷ as_) ≡ Token kind n → ⊥
 no_token a as_ kind n no_word no_digit none is =
     let bad : BadByte ≡ Token kind n = sym (ap sign (sym (by_two (a ∷ as_)) ∙ none)) ∙ sym (front_sign a as_ no_word no_digit) ∙ is in
     cc
@@ -106,7 +111,8 @@ pub record IsInk (a : ℕ) : Type 0 where
   pub no_comment : (a == 35) ≡ false
   pub no_blank : is_blank a ≡ false
 
-not_this : (c a : ℕ) (as_ : List ℕ) (kind : Kind) → begins_word c ≡ false → is_ascii_digit c ≡ false → ((bs : List ℕ) → sign_by_two (c ∷ bs) ≡ 0) → IsTokenText kind (a ∷ as_) → (a == c) ≡ false
+not_this : (c a : ℕ) (as_ : List ℕ) (kind : Kind) → begins_word c ≡ false → is_ascii_digit c ≡ false → ((bs : List ℕ) → sign_by_two (c ∷ bs) ≡ 0)
+    → IsTokenText kind (a ∷ as_) → (a == c) ≡ false
 not_this c a as_ kind no_word no_digit none is =
     elim (cases_Bool (a == c)) [
       | inl same ↦
@@ -131,7 +137,8 @@ nothing_skipped kind (a ∷ as_) rest is =
     cond-false (a == 35) _ _ ink.no_comment ∙ cond-false (is_blank a) _ _ ink.no_blank
 
 -- a byte that is no part of a token ends it
-pub blank_ends : (text : List ℕ) (b : ℕ) (bs : List ℕ) → is_in_word b ≡ false → is_ascii_digit b ≡ false → (b == 46) ≡ false → ((a : ℕ) → is_long_sign a b ≡ false) → 0 < length text → IsEnd text (b ∷ bs)
+pub blank_ends : (text : List ℕ) (b : ℕ) (bs : List ℕ) → is_in_word b ≡ false → is_ascii_digit b ≡ false → (b == 46) ≡ false
+    → ((a : ℕ) → is_long_sign a b ≡ false) → 0 < length text → IsEnd text (b ∷ bs)
 blank_ends [] b bs no_word no_digit no_point no_long some = absurd (omega (arith, some))
 blank_ends (a ∷ as_) b bs no_word no_digit no_point no_long some = record {
   word = cond-false (is_in_word b) _ _ no_word;

@@ -13,7 +13,8 @@ use Rattle.sot_print.specs.Words.{Word, keyword, sign}
 use Rattle.sot_print.specs.Leaves.{literal_words}
 use Rattle.sot_print.specs.Expressions.{operator, function_name, is_plain, grouped_words, operand_words, expression_words, parts_from}
 use Rattle.sot_tree.specs.Formed.{IsTree, AreTrees}
-use Rattle.sot_print.proofs.Sits.{IsTok, Sits, SitsAnywhere, Enters, spaced, ended, then_word, joined, choice, sign_token, closes, opens, round_ends, minus_ends}
+use Rattle.sot_print.proofs.Sits.{IsTok, Sits, SitsAnywhere, Enters, spaced, ended, then_word, joined, choice, sign_token, closes, opens, round_ends}
+use Rattle.sot_print.proofs.Sits.{minus_ends}
 use Rattle.sot_print.proofs.LeafSits.{literal_sits, reference_sits, truth_sits}
 
 operator_sits : (op : Op) (a : Word) (ws : List Word) → Sits (operator op) ws → Sits a (operator op ∷ ws)
@@ -88,7 +89,8 @@ mutual
       joined (head ++ comma) (sign Touching (codes ")") ∷ [])
       (joined head comma
       (then_word word (enters (keyword gap (codes "rescale")) word)
-      (closes (codes "(") (expression_words part Touching) refl refl (expression_sits part is.0 (sign Touching (codes "(")) Touching (opens Touching (codes "(") refl round_ends)) (keyword gap (codes "rescale")) word))
+      (closes (codes "(") (expression_words part Touching) refl refl
+      (expression_sits part is.0 (sign Touching (codes "(")) Touching (opens Touching (codes "(") refl round_ends)) (keyword gap (codes "rescale")) word))
       (closes (codes ",") (literal_words Space to) refl refl (literal_sits to (sign Touching (codes ",")) Space is.1.0 (spaced (sign Touching (codes ","))))))
       round_closes
   expression_sits (chosen cond_ yes_ no_ at) is a gap enters =
@@ -100,8 +102,10 @@ mutual
       (joined one two
       (then_word word (enters (keyword gap (codes "if")) word)
       (operand_sits cond_ Space (expression_words cond_) (expression_sits cond_ is.0) (keyword gap (codes "if")) (spaced (keyword gap (codes "if")))))
-      (λ v tok. then_word refl tt (operand_sits yes_ Space (expression_words yes_) (expression_sits yes_ is.1) (keyword Space (codes "then")) (spaced (keyword Space (codes "then"))))))
-      (λ v tok. then_word refl tt (operand_sits no_ Space (expression_words no_) (expression_sits no_ is.2) (keyword Space (codes "else")) (spaced (keyword Space (codes "else")))))
+      (λ v tok. then_word refl tt (operand_sits yes_ Space (expression_words yes_) (expression_sits yes_ is.1) (keyword Space (codes "then"))
+      (spaced (keyword Space (codes "then"))))))
+      (λ v tok. then_word refl tt (operand_sits no_ Space (expression_words no_) (expression_sits no_ is.2) (keyword Space (codes "else"))
+      (spaced (keyword Space (codes "else")))))
 
   first_sits : (parts : Trees) → AreTrees parts → Sits (sign Touching (codes "(")) (parts_from true parts)
   first_sits no_tree is = ended (sign Touching (codes "(")) (sign_token (codes "(") refl)
@@ -113,5 +117,6 @@ mutual
   more_sits no_tree is = ended
   more_sits (one_more e rest_) is =
       λ v tok. joined (sign Touching (codes ",") ∷ expression_words e Space) (parts_from false rest_)
-      (closes (codes ",") (expression_words e Space) refl refl (expression_sits e is.0 (sign Touching (codes ",")) Space (spaced (sign Touching (codes ",")))) v tok)
+      (closes (codes ",") (expression_words e Space) refl refl (expression_sits e is.0 (sign Touching (codes ",")) Space (spaced (sign Touching (codes ",")))) v
+      tok)
       (more_sits rest_ is.1)

@@ -1,5 +1,6 @@
 -- The words of literals, names, lists and types are tokens that may follow one another.
-use Rattle.std.proofs.Common.{◌≡◌, ℕ, ◌≤◌, ◌^◌, ◌==◌, nat_lt, ◌&&◌, ◌||◌, Bool, true, false, cond, Option, None, Some, List, [], ◌∷◌, ◌++◌, length, codes, pos, int_lt, unsigned_abs, inl, inr, refl, sym, ap, ◌∙◌, subst, arith}
+use Rattle.std.proofs.Common.{◌≡◌, ℕ, ◌≤◌, ◌^◌, ◌==◌, nat_lt, ◌&&◌, ◌||◌, Bool, true, false, cond, Option, None, Some, List, [], ◌∷◌, ◌++◌, length, codes, pos}
+use Rattle.std.proofs.Common.{int_lt, unsigned_abs, inl, inr, refl, sym, ap, ◌∙◌, subst, arith}
 use Rattle.std.specs.Char.{is_ascii_digit}
 use Rattle.std.proofs.lemmas.Bool.{cases_Bool, cond-true, cond-false}
 use Rattle.std.proofs.lemmas.Bool.Decides.{nat_tests}
@@ -21,11 +22,13 @@ use Rattle.sot_tree.specs.declared.tree.Const.TheVariants.{Number as Numeral, Tr
 use Rattle.sot_print.specs.declared.gap.Gap.{Gap}
 use Rattle.sot_print.specs.declared.gap.Gap.TheVariants.{Touching, Space}
 use Rattle.sot_print.specs.Words.{Word, keyword, sign as a_sign, name, number}
-use Rattle.sot_print.specs.Leaves.{numeral, literal_words, ident_words, reference_words, truth_words, constant_words, items_from, listed, bounds_words, range_words, fixed_words, scalar_words, field_words}
+use Rattle.sot_print.specs.Leaves.{numeral, literal_words, ident_words, reference_words, truth_words, constant_words, items_from, listed, bounds_words}
+use Rattle.sot_print.specs.Leaves.{range_words, fixed_words, scalar_words, field_words}
 use Rattle.sot_tree.specs.Formed.{Each, IsName, IsLiteral, IfThere, AreBounds, IsScalar, IsField, IsConst}
 use Rattle.sot_print.proofs.NumeralTexts.{numeral_read, numeral_token}
 use Rattle.sot_print.proofs.Ends.{front_goes, word_goes}
-use Rattle.sot_print.proofs.Sits.{IsTok, Sits, SitsAnywhere, Enters, spaced, ended, then_word, joined, choice, sign_token, closes, opens, round_ends, square_ends, minus_ends, dots_ends}
+use Rattle.sot_print.proofs.Sits.{IsTok, Sits, SitsAnywhere, Enters, spaced, ended, then_word, joined, choice, sign_token, closes, opens, round_ends}
+use Rattle.sot_print.proofs.Sits.{square_ends, minus_ends, dots_ends}
 
 -- numbers and signs are no names, and signs are no numbers
 sized_kind : (kind : Kind) (d m k n : ℕ) → sized d m k ≡ Token kind n → Number ≡ kind
@@ -58,7 +61,8 @@ name_begins a as_ is =
       | inl first ↦ first
       | inr no_word ↦
           elim (cases_Bool (is_ascii_digit a)) [
-            | inl digit ↦ absurd (number_not_name (sized_kind Name (decimals_of (a ∷ as_)) (mantissa_of (a ∷ as_)) (number_len (a ∷ as_)) _ (sym (front_number a as_ no_word digit) ∙ is)))
+            | inl digit ↦ absurd (number_not_name (sized_kind Name (decimals_of (a ∷ as_)) (mantissa_of (a ∷ as_)) (number_len (a ∷ as_)) _
+                (sym (front_number a as_ no_word digit) ∙ is)))
             | inr no_digit ↦ absurd (sign_not_name (sign_kind Name (sign_len (a ∷ as_)) _ (sym (front_sign a as_ no_word no_digit) ∙ is)))
           ]
     ]
@@ -101,12 +105,14 @@ number_dots (a ∷ as_) rest is = front_goes Number (a ∷ as_) (46 ∷ 46 ∷ r
 literal_token : (l : Lit) → IsLiteral l → IsTokenText Number (numeral (unsigned_abs l.mantissa) l.scale)
 literal_token l is =
     let small : unsigned_abs l.mantissa ≤ 10 ^ 12 = is.mantissa in
-    numeral_token (unsigned_abs l.mantissa) l.scale (numeral (unsigned_abs l.mantissa) l.scale) small is.scale (numeral_read (unsigned_abs l.mantissa) l.scale (omega (arith, small)))
+    numeral_token (unsigned_abs l.mantissa) l.scale (numeral (unsigned_abs l.mantissa) l.scale) small is.scale
+    (numeral_read (unsigned_abs l.mantissa) l.scale (omega (arith, small)))
 
 minus_sits : (a : Word) (gap : Gap) (text : List ℕ) → Enters a gap → IsTokenText Number text → Sits a (a_sign gap (codes "-") ∷ number Touching text ∷ [])
 minus_sits a gap text enters is =
     let minus : IsTok (a_sign gap (codes "-")) = sign_token (codes "-") refl in
-    then_word minus (enters (a_sign gap (codes "-")) minus) (then_word is (opens gap (codes "-") refl minus_ends (number Touching text) is) (ended (number Touching text) is))
+    then_word minus (enters (a_sign gap (codes "-")) minus)
+    (then_word is (opens gap (codes "-") refl minus_ends (number Touching text) is) (ended (number Touching text) is))
 
 pub literal_sits : (l : Lit) (a : Word) (gap : Gap) → IsLiteral l → Enters a gap → Sits a (literal_words gap l)
 literal_sits l a gap formed enters =
@@ -116,7 +122,8 @@ literal_sits l a gap formed enters =
     (minus_sits a gap text enters is) (then_word is (enters (number gap text) is) (ended (number gap text) is))
 
 -- the ends of a range
-number_sits : (a : Word) (gap : Gap) (text : List ℕ) (hi : Lit) → Enters a gap → IsTokenText Number text → IsLiteral hi → Sits a (number gap text ∷ a_sign Touching (codes "..") ∷ literal_words Touching hi)
+number_sits : (a : Word) (gap : Gap) (text : List ℕ) (hi : Lit) → Enters a gap → IsTokenText Number text → IsLiteral hi
+    → Sits a (number gap text ∷ a_sign Touching (codes "..") ∷ literal_words Touching hi)
 number_sits a gap text hi enters is hi_is =
     then_word is (enters (number gap text) is)
     (then_word (sign_token (codes "..") refl) (λ rest. number_dots text rest is)
@@ -130,7 +137,8 @@ minus_bounds a gap text hi enters is hi_is =
     (number_sits (a_sign gap (codes "-")) Touching text hi (opens gap (codes "-") refl minus_ends) is hi_is)
 
 -- the low end is one word or two
-with_sign : {a : Word} (b : Bool) (gap : Gap) (text : List ℕ) (more : List Word) → Sits a (a_sign gap (codes "-") ∷ number Touching text ∷ more) → Sits a (number gap text ∷ more)
+with_sign : {a : Word} (b : Bool) (gap : Gap) (text : List ℕ) (more : List Word) → Sits a (a_sign gap (codes "-") ∷ number Touching text ∷ more)
+    → Sits a (number gap text ∷ more)
     → Sits a (cond b (a_sign gap (codes "-") ∷ number Touching text ∷ []) (number gap text ∷ []) ++ more)
 with_sign true gap text more yes_ no_ = yes_
 with_sign false gap text more yes_ no_ = no_
@@ -164,7 +172,8 @@ point_enters (b ∷ bs) rest is =
           | inr other ↦ other
         ]
 
-pub reference_sits : (first : Ident) (field : Option Ident) (a : Word) (gap : Gap) → IsName first → IfThere IsName field → Enters a gap → Sits a (reference_words gap first field)
+pub reference_sits : (first : Ident) (field : Option Ident) (a : Word) (gap : Gap) → IsName first → IfThere IsName field → Enters a gap
+    → Sits a (reference_words gap first field)
 reference_sits first None a gap is there enters = ident_sits first a gap is enters
 reference_sits first (Some field) a gap is there enters =
     then_word is (enters (name gap first.name) is)
@@ -185,7 +194,8 @@ constant_sits (Numeral l) a gap is enters = literal_sits l a gap is enters
 constant_sits (Truth value at) a gap is enters = truth_sits value a gap enters
 
 -- lists
-further_sits : {A : Type 0} (item : Gap → A → List Word) (P : A → Type 0) → ((x : A) (a : Word) (gap : Gap) → P x → Enters a gap → Sits a (item gap x)) → (gap : Gap) (xs : List A) → Each P xs
+further_sits : {A : Type 0} (item : Gap → A → List Word) (P : A → Type 0) → ((x : A) (a : Word) (gap : Gap) → P x → Enters a gap → Sits a (item gap x))
+    → (gap : Gap) (xs : List A) → Each P xs
     → SitsAnywhere (items_from item gap false xs)
 further_sits item P sits gap [] all = ended
 further_sits item P sits gap (x ∷ xs) all =
@@ -193,10 +203,12 @@ further_sits item P sits gap (x ∷ xs) all =
     (closes (codes ",") (item Space x) refl refl (sits x (a_sign Touching (codes ",")) Space all.0 (spaced (a_sign Touching (codes ",")))) v tok)
     (further_sits item P sits gap xs all.1)
 
-pub listed_sits : {A : Type 0} (item : Gap → A → List Word) (P : A → Type 0) → ((x : A) (a : Word) (gap : Gap) → P x → Enters a gap → Sits a (item gap x)) → (xs : List A) (a : Word) (gap : Gap) → IsTok a → Each P xs → Enters a gap
+pub listed_sits : {A : Type 0} (item : Gap → A → List Word) (P : A → Type 0) → ((x : A) (a : Word) (gap : Gap) → P x → Enters a gap → Sits a (item gap x))
+    → (xs : List A) (a : Word) (gap : Gap) → IsTok a → Each P xs → Enters a gap
     → Sits a (listed item gap xs)
 listed_sits item P sits [] a gap tok all enters = ended a tok
-listed_sits item P sits (x ∷ xs) a gap tok all enters = joined (item gap x) (items_from item gap false xs) (sits x a gap all.0 enters) (further_sits item P sits gap xs all.1)
+listed_sits item P sits (x ∷ xs) a gap tok all enters =
+    joined (item gap x) (items_from item gap false xs) (sits x a gap all.0 enters) (further_sits item P sits gap xs all.1)
 
 -- types
 close : (text : List ℕ) → IsTokenText Sign text → Sits (a_sign Touching text) []
@@ -205,13 +217,15 @@ close text is = ended (a_sign Touching text) is
 pub range_sits : (b : Bounds) → AreBounds b → SitsAnywhere (range_words b)
 range_sits b is =
     λ v tok. joined (a_sign Touching (codes "[") ∷ bounds_words Touching b) (a_sign Touching (codes "]") ∷ [])
-    (closes (codes "[") (bounds_words Touching b) refl refl (bounds_sits b (a_sign Touching (codes "[")) Touching is (opens Touching (codes "[") refl square_ends)) v tok)
+    (closes (codes "[") (bounds_words Touching b) refl refl
+    (bounds_sits b (a_sign Touching (codes "[")) Touching is (opens Touching (codes "[") refl square_ends)) v tok)
     (closes (codes "]") [] refl refl (close (codes "]") (sign_token (codes "]") refl)))
 
 pub fixed_sits : (scale : Lit) (a : Word) → IsLiteral scale → Sits a (fixed_words scale)
 fixed_sits scale a is =
     joined (keyword Space (codes "fix") ∷ a_sign Touching (codes "(") ∷ literal_words Touching scale) (a_sign Touching (codes ")") ∷ [])
-    (then_word refl tt (closes (codes "(") (literal_words Touching scale) refl refl (literal_sits scale (a_sign Touching (codes "(")) Touching is (opens Touching (codes "(") refl round_ends)) (keyword Space (codes "fix")) refl))
+    (then_word refl tt (closes (codes "(") (literal_words Touching scale) refl refl
+    (literal_sits scale (a_sign Touching (codes "(")) Touching is (opens Touching (codes "(") refl round_ends)) (keyword Space (codes "fix")) refl))
     (closes (codes ")") [] refl refl (close (codes ")") (sign_token (codes ")") refl)))
 
 pub scalar_sits : (s : Scalar) (a : Word) → IsScalar s → Sits a (scalar_words s)

@@ -1,5 +1,6 @@
 -- The numeral of a number is a number token, and reading it gives the number and its decimals back.
-use Rattle.std.proofs.Common.{◌≡◌, ℕ, zero, suc, ◌+◌, ◌-◌, ◌*◌, ◌/◌, ◌%◌, ◌^◌, ◌<◌, ◌≤◌, ◌==◌, ◌||◌, nat_lt, List, [], ◌∷◌, ◌++◌, true, false, cond, inl, inr, length, take, drop, refl, sym, ap, ap₂, ◌∙◌, subst, arith}
+use Rattle.std.proofs.Common.{◌≡◌, ℕ, zero, suc, ◌+◌, ◌-◌, ◌*◌, ◌/◌, ◌%◌, ◌^◌, ◌<◌, ◌≤◌, ◌==◌, ◌||◌, nat_lt, List, [], ◌∷◌, ◌++◌, true, false, cond, inl, inr}
+use Rattle.std.proofs.Common.{length, take, drop, refl, sym, ap, ap₂, ◌∙◌, subst, arith}
 use Rattle.std.specs.Char.{is_ascii_digit}
 use Rattle.std.specs.Fmt.{decimal}
 use Rattle.std.specs.List.{prefix_len}
@@ -101,11 +102,13 @@ whole_read m ds is =
     }
 
 -- digits, a point and decimals
-pointed_read : (m k : ℕ) (ds es : List ℕ) → IsDecimal m ds → digits_len es ≡ length es → length es ≡ suc k → IsNumeral (with_digits m es) (suc k) (ds ++ (46 ∷ es))
+pointed_read : (m k : ℕ) (ds es : List ℕ) → IsDecimal m ds → digits_len es ≡ length es → length es ≡ suc k
+    → IsNumeral (with_digits m es) (suc k) (ds ++ (46 ∷ es))
 pointed_read m k ds es is all len =
     let text : List ℕ = ds ++ (46 ∷ es) in
     let same : prefix_len is_ascii_digit ds == length ds ≡ true = grind (arith, nat_tests, is.digits) in
-    let whole : digits_len text ≡ length ds = prefix_len-append is_ascii_digit ds (46 ∷ es) ∙ cond-true (prefix_len is_ascii_digit ds == length ds) _ _ same ∙ omega arith in
+    let whole : digits_len text ≡ length ds = prefix_len-append is_ascii_digit ds (46 ∷ es) ∙ cond-true (prefix_len is_ascii_digit ds == length ds) _ _ same
+    ∙ omega arith in
     let behind : decimals_of text ≡ suc k = ap (λ n. decimals_len (drop n text)) whole ∙ ap decimals_len (drop-append_seam ds (46 ∷ es)) ∙ all ∙ len in
     let back : drop (length ds + 1) text ≡ es = sym (drop-drop 1 (length ds) text) ∙ ap (λ xs. drop 1 xs) (drop-append_seam ds (46 ∷ es)) in
     let some : suc k == 0 ≡ false = grind (arith, nat_tests) in
@@ -132,7 +135,8 @@ numeral_read m (suc k) fits =
     let Q : ℕ → Type 0 = λ n. IsNumeral n (suc k) (decimal (m / 10 ^ suc k) ++ (46 ∷ last_digits (suc k) m)) in
     let small : m / 10 ^ suc k < 2 ^ 64 = omega (arith, fits, div-le_self m (10 ^ suc k)) in
     let read : IsNumeral (with_digits (m / 10 ^ suc k) (last_digits (suc k) m)) (suc k) (decimal (m / 10 ^ suc k) ++ (46 ∷ last_digits (suc k) m)) =
-    pointed_read (m / 10 ^ suc k) k (decimal (m / 10 ^ suc k)) (last_digits (suc k) m) (decimal_is (m / 10 ^ suc k) small) (last_are_digits (suc k) m) (last_len (suc k) m) in
+    pointed_read (m / 10 ^ suc k) k (decimal (m / 10 ^ suc k)) (last_digits (suc k) m) (decimal_is (m / 10 ^ suc k) small) (last_are_digits (suc k) m)
+    (last_len (suc k) m) in
     subst P (sym (cond-false (suc k == 0) _ _ some)) (subst Q (last_value (suc k) m) read)
 
 -- a numeral within the limits is a token
@@ -151,7 +155,8 @@ numeral_token m s (b ∷ bs) small few is =
     elim (cases_Bool (is_ascii_digit b)) [
       | inl digit ↦
           front_number b bs (digit_no_word b digit) digit
-          ∙ sized_fits (decimals_of (b ∷ bs)) (mantissa_of (b ∷ bs)) (number_len (b ∷ bs)) (omega (arith, is.decimals_are, few)) (omega (arith, is.mantissa_is, small))
+          ∙ sized_fits (decimals_of (b ∷ bs)) (mantissa_of (b ∷ bs)) (number_len (b ∷ bs)) (omega (arith, is.decimals_are, few))
+          (omega (arith, is.mantissa_is, small))
           ∙ ap (λ n. Token Number n) is.length_is
       | inr other ↦ absurd (omega (arith, is.some, cond-false (is_ascii_digit b) (1 + digits_len bs) 0 other))
     ]

@@ -1,5 +1,6 @@
 -- Words are read back from the text that lays them out.
-use Rattle.std.proofs.Common.{◌≡◌, ℕ, zero, suc, ◌+◌, ◌==◌, ◌&&◌, ◌||◌, Bool, false, List, [], ◌∷◌, ◌++◌, length, take, drop, map, replicate, None, Some, Ok, refl, sym, ap, ap₂, ◌∙◌, append_assoc, arith}
+use Rattle.std.proofs.Common.{◌≡◌, ℕ, zero, suc, ◌+◌, ◌==◌, ◌&&◌, ◌||◌, Bool, false, List, [], ◌∷◌, ◌++◌, length, take, drop, map, replicate, None, Some, Ok}
+use Rattle.std.proofs.Common.{refl, sym, ap, ap₂, ◌∙◌, append_assoc, arith}
 use Rattle.std.proofs.Math.Seq.{take-append_seam, drop-append_seam}
 use Rattle.std.proofs.lemmas.List.{drop-drop, length-replicate}
 use Rattle.sot_text.specs.declared.token.Kind.{Kind}
@@ -31,7 +32,8 @@ pub record IsRead (bytes : List ℕ) (at : ℕ) (kind : Kind) (text rest : List 
   pub text_is : t.text ≡ text
   pub behind : drop t.to bytes ≡ rest
 
-read_one : (bytes : List ℕ) (at : ℕ) (gap : Gap) (kind : Kind) (text rest : List ℕ) → drop at bytes ≡ blanks gap ++ (text ++ rest) → IsTokenText kind text → front (text ++ rest) ≡ Token kind (length text)
+read_one : (bytes : List ℕ) (at : ℕ) (gap : Gap) (kind : Kind) (text rest : List ℕ) → drop at bytes ≡ blanks gap ++ (text ++ rest) → IsTokenText kind text
+    → front (text ++ rest) ≡ Token kind (length text)
     → (t : Lexeme) × IsRead bytes at kind text rest t
 read_one bytes at gap kind text rest here is goes =
     let from : ℕ = at + length (blanks gap) in
@@ -39,10 +41,12 @@ read_one bytes at gap kind text rest here is goes =
     ap (λ xs. at + skipped false xs) here
     ∙ ap (λ n. at + n) (skipped_gap gap (text ++ rest) ∙ ap (λ n. length (blanks gap) + n) (nothing_skipped kind text rest is))
     ∙ omega arith in
-    let there : drop from bytes ≡ text ++ rest = sym (drop-drop (length (blanks gap)) at bytes) ∙ ap (λ xs. drop (length (blanks gap)) xs) here ∙ drop-append_seam (blanks gap) (text ++ rest) in
+    let there : drop from bytes ≡ text ++ rest = sym (drop-drop (length (blanks gap)) at bytes) ∙ ap (λ xs. drop (length (blanks gap)) xs) here
+    ∙ drop-append_seam (blanks gap) (text ++ rest) in
     let found : front (drop from bytes) ≡ Token kind (length text) = ap front there ∙ goes in
     let own : take (length text) (drop from bytes) ≡ text = ap (λ xs. take (length text) xs) there ∙ take-append_seam text rest in
-    let past : drop (from + length text) bytes ≡ rest = sym (drop-drop (length text) from bytes) ∙ ap (λ xs. drop (length text) xs) there ∙ drop-append_seam text rest in
+    let past : drop (from + length text) bytes ≡ rest = sym (drop-drop (length text) from bytes) ∙ ap (λ xs. drop (length text) xs) there
+    ∙ drop-append_seam text rest in
     let t : Lexeme = record { kind = kind; text = take (length text) (drop from bytes); at = span bytes from; to = from + length text } in (
       t,
       record {
@@ -77,16 +81,20 @@ no_long_space a = none_of_six (a == 58) (a == 46) (a == 60) (a == 62) (a == 61) 
 line_ends : (kind : Kind) (text : List ℕ) → IsTokenText kind text → front (text ++ 10 ∷ []) ≡ Token kind (length text)
 line_ends kind text is = front_goes kind text (10 ∷ []) is (blank_ends text 10 [] refl refl refl no_long (some_text kind text is))
 
-parted_goes : (w : Word) (gap : Gap) (v : Word) (more : List ℕ) → IsTokenText w.kind w.text → MayFollow w gap v → front (w.text ++ (blanks gap ++ (v.text ++ more))) ≡ Token w.kind (length w.text)
+parted_goes : (w : Word) (gap : Gap) (v : Word) (more : List ℕ) → IsTokenText w.kind w.text → MayFollow w gap v
+    → front (w.text ++ (blanks gap ++ (v.text ++ more))) ≡ Token w.kind (length w.text)
 parted_goes w Touching v more is follows = follows more
-parted_goes w Space v more is follows = front_goes w.kind w.text (32 ∷ (v.text ++ more)) is (blank_ends w.text 32 (v.text ++ more) refl refl refl no_long_space (some_text w.kind w.text is))
+parted_goes w Space v more is follows =
+    front_goes w.kind w.text (32 ∷ (v.text ++ more)) is (blank_ends w.text 32 (v.text ++ more) refl refl refl no_long_space (some_text w.kind w.text is))
 parted_goes w (Line indent) v more is follows =
-    front_goes w.kind w.text (10 ∷ (replicate indent 32 ++ (v.text ++ more))) is (blank_ends w.text 10 (replicate indent 32 ++ (v.text ++ more)) refl refl refl no_long (some_text w.kind w.text is))
+    front_goes w.kind w.text (10 ∷ (replicate indent 32 ++ (v.text ++ more))) is
+    (blank_ends w.text 10 (replicate indent 32 ++ (v.text ++ more)) refl refl refl no_long (some_text w.kind w.text is))
 
 behind_goes : (w : Word) (ws : List Word) → IsTokenText w.kind w.text → MayGoOn w ws → front (w.text ++ (laid ws ++ 10 ∷ [])) ≡ Token w.kind (length w.text)
 behind_goes w [] is follows = line_ends w.kind w.text is
 behind_goes w (v ∷ ws) is follows =
-    ap (λ bs. front (w.text ++ bs)) (append_assoc (blanks v.before) (v.text ++ laid ws) (10 ∷ []) ∙ ap (λ bs. blanks v.before ++ bs) (append_assoc v.text (laid ws) (10 ∷ [])))
+    ap (λ bs. front (w.text ++ bs)) (append_assoc (blanks v.before) (v.text ++ laid ws) (10 ∷ [])
+    ∙ ap (λ bs. blanks v.before ++ bs) (append_assoc v.text (laid ws) (10 ∷ [])))
     ∙ parted_goes w v.before v (laid ws ++ 10 ∷ []) is follows
 
 read_all : (ws : List Word) (bytes : List ℕ) (at : ℕ) → drop at bytes ≡ laid ws ++ 10 ∷ [] → AreTokens ws → AreParted ws → AllRead bytes at ws

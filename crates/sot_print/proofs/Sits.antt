@@ -1,5 +1,6 @@
 -- Words one after another, each of which may follow the one before.
-use Rattle.std.proofs.Common.{◌≡◌, ℕ, ◌<◌, ◌==◌, ◌&&◌, ◌||◌, not, Bool, true, false, cond, List, [], ◌∷◌, ◌++◌, length, codes, refl, sym, ap, subst, ◌∙◌, append_assoc, arith}
+use Rattle.std.proofs.Common.{◌≡◌, ℕ, ◌<◌, ◌==◌, ◌&&◌, ◌||◌, not, Bool, true, false, cond, List, [], ◌∷◌, ◌++◌, length, codes, refl, sym, ap, subst, ◌∙◌}
+use Rattle.std.proofs.Common.{append_assoc, arith}
 use Rattle.std.specs.Char.{is_ascii_digit}
 use Rattle.std.proofs.lemmas.Bool.{cond-false}
 use Rattle.std.proofs.lemmas.Bool.Decides.{nat_tests}
@@ -111,7 +112,8 @@ closing_goes v (c ∷ cs) rest is e =
     (λ a. none_long (a == 58) (a == 46) (a == 60) (a == 62) (a == 61) (a == 33) (c == 46) (c == 61) parts.2 parts.3) (some_text v.kind v.text is))
 
 -- it stands directly behind any token
-pub closes : (text : List ℕ) (ws : List Word) → is_sign_text text ≡ true → is_closing text ≡ true → Sits (a_sign Touching text) ws → SitsAnywhere (a_sign Touching text ∷ ws)
+pub closes : (text : List ℕ) (ws : List Word) → is_sign_text text ≡ true → is_closing text ≡ true → Sits (a_sign Touching text) ws
+    → SitsAnywhere (a_sign Touching text ∷ ws)
 closes text ws is closing sits = λ v tok. then_word (sign_token text is) (λ rest. closing_goes v text rest tok closing) sits
 
 -- a sign behind which any token may stand directly

@@ -22,7 +22,8 @@ braced_sits indent inner sits = λ v tok.
     (then_word brace tt (sits (indent + 2) (sign Space (codes "{")) brace))
     (λ u is. then_word end tt (ended (sign (Line indent) (codes "}")) end))
 
-otherwise_sits : (block : Block) (indent : ℕ) (inner : ℕ → List Word) → ((deeper : ℕ) → SitsAnywhere (inner deeper)) → SitsAnywhere (otherwise_words block indent inner)
+otherwise_sits : (block : Block) (indent : ℕ) (inner : ℕ → List Word) → ((deeper : ℕ) → SitsAnywhere (inner deeper))
+    → SitsAnywhere (otherwise_words block indent inner)
 otherwise_sits no_statement indent inner sits = ended
 otherwise_sits (statement s rest_) indent inner sits = λ v tok. then_word refl tt (braced_sits indent inner sits (keyword Space (codes "else")) refl)
 
@@ -30,14 +31,16 @@ mutual
   pub statement_sits : (s : Statement) → IsStatement s → (indent : ℕ) → SitsAnywhere (statement_words s indent)
   statement_sits (assigned target value) is indent = λ v tok.
       joined (name (Line indent) target.name ∷ sign Space (codes ":=") ∷ expression_words value Space) semicolon
-      (then_word is.0 tt (then_word (sign_token (codes ":=") refl) tt (expression_sits value is.1 (sign Space (codes ":=")) Space (spaced (sign Space (codes ":="))))))
+      (then_word is.0 tt (then_word (sign_token (codes ":=") refl) tt
+      (expression_sits value is.1 (sign Space (codes ":=")) Space (spaced (sign Space (codes ":="))))))
       semicolon_sits
   statement_sits (published topic field value) is indent = λ v tok.
       let head : List Word = keyword (Line indent) (codes "publish") ∷ reference_words Space topic field in
       let set : List Word = sign Space (codes "=") ∷ expression_words value Space in
       joined (head ++ set) semicolon
       (joined head set
-      (then_word refl tt (reference_sits topic field (keyword (Line indent) (codes "publish")) Space is.0 is.1 (spaced (keyword (Line indent) (codes "publish")))))
+      (then_word refl tt (reference_sits topic field (keyword (Line indent) (codes "publish")) Space is.0 is.1
+      (spaced (keyword (Line indent) (codes "publish")))))
       (λ u tok. then_word (sign_token (codes "=") refl) tt (expression_sits value is.2 (sign Space (codes "=")) Space (spaced (sign Space (codes "="))))))
       semicolon_sits
   statement_sits (branched cond_ yes_ no_ at) is indent = λ v tok.

@@ -1,10 +1,13 @@
 -- The words of expressions. The gap is what stands before the first word.
 use Rattle.std.specs.Prelude.{ℕ, Bool, true, false, if◌then◌else◌, List, [], ◌∷◌, ◌++◌, codes}
 use Rattle.sot_tree.specs.declared.operator.Op.{Op}
-use Rattle.sot_tree.specs.declared.operator.Op.TheVariants.{Add, Sub, Mul, Div, Less, LessEqual, Greater, GreaterEqual, Equal, NotEqual, And, Or}
+use Rattle.sot_tree.specs.declared.operator.Op.TheVariants.{Add, Sub, Mul, Div, Less, LessEqual}
+use Rattle.sot_tree.specs.declared.operator.Op.TheVariants.{Greater, GreaterEqual, Equal, NotEqual}
+use Rattle.sot_tree.specs.declared.operator.Op.TheVariants.{And, Or}
 use Rattle.sot_tree.specs.declared.operator.Func.{Func}
 use Rattle.sot_tree.specs.declared.operator.Func.TheVariants.{Min, Max, Abs, Clamp}
-use Rattle.sot_tree.specs.Trees.{Tree, Trees, number, truth as truth_value, named, binary, rest, negated, denied, called, rescaled, chosen, no_tree, one_more}
+use Rattle.sot_tree.specs.Trees.{Tree, Trees, number, truth as truth_value, named, binary, rest}
+use Rattle.sot_tree.specs.Trees.{negated, denied, called, rescaled, chosen, no_tree, one_more}
 use Rattle.sot_print.specs.declared.gap.Gap.{Gap}
 use Rattle.sot_print.specs.declared.gap.Gap.TheVariants.{Touching, Space}
 use Rattle.sot_print.specs.Words.{Word, keyword, sign}
@@ -56,12 +59,19 @@ abbrev mutual
   expression_words (number l) gap = literal_words gap l
   expression_words (truth_value value at) gap = truth_words gap value
   expression_words (named first field) gap = reference_words gap first field
-  expression_words (binary op left right at) gap = operand_words left gap (expression_words left) ++ operator op ∷ operand_words right Space (expression_words right)
-  expression_words (rest left by at) gap = operand_words left gap (expression_words left) ++ sign Space (codes "%") ∷ literal_words Space by
-  expression_words (negated part at) gap = sign gap (codes "-") ∷ grouped_words Touching (expression_words part)
-  expression_words (denied part at) gap = keyword gap (codes "not") ∷ grouped_words Space (expression_words part)
+  expression_words (binary op left right at) gap =
+      operand_words left gap (expression_words left)
+      ++ operator op ∷ operand_words right Space (expression_words right)
+  expression_words (rest left by at) gap =
+      operand_words left gap (expression_words left)
+      ++ sign Space (codes "%") ∷ literal_words Space by
+  expression_words (negated part at) gap =
+      sign gap (codes "-") ∷ grouped_words Touching (expression_words part)
+  expression_words (denied part at) gap =
+      keyword gap (codes "not") ∷ grouped_words Space (expression_words part)
   expression_words (called func parts at) gap =
-      keyword gap (function_name func) ∷ sign Touching (codes "(") ∷ parts_from true parts ++ sign Touching (codes ")") ∷ []
+      keyword gap (function_name func) ∷ sign Touching (codes "(") ∷ parts_from true parts
+      ++ sign Touching (codes ")") ∷ []
   expression_words (rescaled part to at) gap =
       keyword gap (codes "rescale") ∷ sign Touching (codes "(") ∷ expression_words part Touching
       ++ sign Touching (codes ",") ∷ literal_words Space to ++ sign Touching (codes ")") ∷ []
@@ -73,4 +83,5 @@ abbrev mutual
   -- the parts of a call, with a comma before each but the first
   pub parts_from : Bool → Trees → List Word
   parts_from first no_tree = []
-  parts_from first (one_more e rest_) = separated first Touching (expression_words e) ++ parts_from false rest_
+  parts_from first (one_more e rest_) =
+      separated first Touching (expression_words e) ++ parts_from false rest_

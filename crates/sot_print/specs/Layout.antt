@@ -13,7 +13,8 @@ abbrev pub AreTokens : List Word → Type 0
 AreTokens [] = Unit {0}
 AreTokens (w ∷ ws) = IsTokenText w.kind w.text × AreTokens ws
 
--- where the second stands directly behind the first, the text still begins with the first, whatever follows
+-- where the second stands directly behind the first, the text still begins with the first, whatever
+-- follows
 abbrev pub MayTouch : Word → Word → Type 0
 MayTouch a b = (rest : List ℕ) → front (a.text ++ (b.text ++ rest)) ≡ Token a.kind (length a.text)
 
@@ -45,4 +46,5 @@ word_spelled w = record { kind = w.kind; text = w.text }
 -- the tokens of a text are these words in order, and then it ends
 abbrev pub Reads : List ℕ → List Word → Type 0
 Reads bytes ws =
-    (ahead : Ahead) × Comes bytes 0 ahead × (map token_spelled ahead.tokens ≡ map word_spelled ws) × (ahead.end ≡ None)
+    (ahead : Ahead) × Comes bytes 0 ahead × (map token_spelled ahead.tokens ≡ map word_spelled ws)
+    × (ahead.end ≡ None)

@@ -3,7 +3,8 @@ ghost use Rattle.std.specs.Prelude.{◌≡◌, ◌++◌, ◌∷◌, [], not, if�
 ghost use Rattle.std.specs.String.{string_bytes};
 ghost use Rattle.sot_tree.specs.TreeViews.{tree_view};
 ghost use Rattle.sot_print.specs.Words.{blanks, laid, keyword, sign};
-ghost use Rattle.sot_print.specs.Expressions.{operator, function_name, is_plain, grouped_words, operand_words, expression_words};
+ghost use Rattle.sot_print.specs.Expressions.{operator, function_name, is_plain, grouped_words};
+ghost use Rattle.sot_print.specs.Expressions.{operand_words, expression_words};
 ghost use Rattle.sot_print.specs.Leaves.{literal_words, listed};
 ghost use Rattle.sot_print.specs.declared.gap.Gap.TheVariants.{Touching, Space};
 
@@ -70,7 +71,8 @@ fn is_plain(expr: &Expr) -> bool
 // In parentheses.
 #[cycle(expression)]
 fn push_grouped(out: &mut String, gap: Gap, expr: &Expr) -> Result<(), AllocError>
-    ensures { OnOk result (string_bytes out.new ≡ string_bytes out.old ++ laid (grouped_words gap (expression_words (tree_view expr.now)))) }
+    ensures { OnOk result (string_bytes out.new
+        ≡ string_bytes out.old ++ laid (grouped_words gap (expression_words (tree_view expr.now)))) }
 {
     push_word(out, gap, "(")?;
     push_expression(out, Gap::Touching, expr)?;
@@ -81,7 +83,9 @@ fn push_grouped(out: &mut String, gap: Gap, expr: &Expr) -> Result<(), AllocErro
 #[cycle(expression)]
 #[inline(always)]
 fn push_operand(out: &mut String, gap: Gap, expr: &Expr) -> Result<(), AllocError>
-    ensures { OnOk result (string_bytes out.new ≡ string_bytes out.old ++ laid (operand_words (tree_view expr.now) gap (expression_words (tree_view expr.now)))) }
+    ensures { OnOk result (string_bytes out.new
+        ≡ string_bytes out.old ++ laid (operand_words (tree_view expr.now) gap
+        (expression_words (tree_view expr.now)))) }
 {
     if is_plain(expr) {
         push_expression(out, gap, expr)
@@ -93,7 +97,9 @@ fn push_operand(out: &mut String, gap: Gap, expr: &Expr) -> Result<(), AllocErro
 // The parts of a call, with a comma before each but the first.
 #[cycle(expression)]
 fn push_parts(out: &mut String, parts: &[Expr]) -> Result<(), AllocError>
-    ensures { OnOk result (string_bytes out.new ≡ string_bytes out.old ++ laid (listed (λ gap e. expression_words (tree_view e) gap) Touching parts.now)) }
+    ensures { OnOk result (string_bytes out.new
+        ≡ string_bytes out.old ++ laid (listed (λ gap e. expression_words (tree_view e) gap)
+        Touching parts.now)) }
 {
     for (place, part) in parts.iter().enumerate() {
         let gap = push_comma(out, place, Gap::Touching)?;
@@ -105,7 +111,11 @@ fn push_parts(out: &mut String, parts: &[Expr]) -> Result<(), AllocError>
 // A function, and its parts in parentheses.
 #[cycle(expression)]
 fn push_call(out: &mut String, gap: Gap, func: Func, parts: &[Expr]) -> Result<(), AllocError>
-    ensures { OnOk result (string_bytes out.new ≡ string_bytes out.old ++ (blanks gap ++ (function_name func ++ (codes "(" ++ (laid (listed (λ gap e. expression_words (tree_view e) gap) Touching parts.now) ++ codes ")"))))) }
+    ensures { OnOk result (string_bytes out.new
+        ≡ string_bytes out.old ++ (blanks gap
+        ++ (function_name func ++ (codes "("
+        ++ (laid (listed (λ gap e. expression_words (tree_view e) gap) Touching parts.now)
+        ++ codes ")"))))) }
 {
     push_word(out, gap, function_text(func))?;
     push_word(out, Gap::Touching, "(")?;
@@ -116,7 +126,10 @@ fn push_call(out: &mut String, gap: Gap, func: Func, parts: &[Expr]) -> Result<(
 // `rescale`, and in parentheses what is rescaled, and to how many decimals.
 #[cycle(expression)]
 fn push_rescaled(out: &mut String, gap: Gap, part: &Expr, to: Lit) -> Result<(), AllocError>
-    ensures { OnOk result (string_bytes out.new ≡ string_bytes out.old ++ laid (keyword gap (codes "rescale") ∷ sign Touching (codes "(") ∷ expression_words (tree_view part.now) Touching ++ sign Touching (codes ",") ∷ literal_words Space to ++ sign Touching (codes ")") ∷ [])) }
+    ensures { OnOk result (string_bytes out.new
+        ≡ string_bytes out.old ++ laid (keyword gap (codes "rescale") ∷ sign Touching (codes "(") ∷
+        expression_words (tree_view part.now) Touching
+        ++ sign Touching (codes ",") ∷ literal_words Space to ++ sign Touching (codes ")") ∷ [])) }
 {
     push_word(out, gap, "rescale")?;
     push_word(out, Gap::Touching, "(")?;
@@ -129,7 +142,9 @@ fn push_rescaled(out: &mut String, gap: Gap, part: &Expr, to: Lit) -> Result<(),
 // A word, and an operand behind it.
 #[cycle(expression)]
 fn push_led(out: &mut String, gap: Gap, word: &str, expr: &Expr) -> Result<(), AllocError>
-    ensures { OnOk result (string_bytes out.new ≡ string_bytes out.old ++ laid (keyword gap word.now ∷ operand_words (tree_view expr.now) Space (expression_words (tree_view expr.now)))) }
+    ensures { OnOk result (string_bytes out.new
+        ≡ string_bytes out.old ++ laid (keyword gap word.now ∷ operand_words (tree_view expr.now)
+        Space (expression_words (tree_view expr.now)))) }
 {
     push_word(out, gap, word)?;
     push_operand(out, Gap::Space, expr)
@@ -137,7 +152,8 @@ fn push_led(out: &mut String, gap: Gap, word: &str, expr: &Expr) -> Result<(), A
 
 #[cycle(expression)]
 pub fn push_expression(out: &mut String, gap: Gap, expr: &Expr) -> Result<(), AllocError>
-    ensures { OnOk result (string_bytes out.new ≡ string_bytes out.old ++ laid (expression_words (tree_view expr.now) gap)) }
+    ensures { OnOk result (string_bytes out.new
+        ≡ string_bytes out.old ++ laid (expression_words (tree_view expr.now) gap)) }
 {
     match expr {
         Expr::Number(literal) => push_literal(out, gap, *literal),

@@ -1,5 +1,6 @@
 //! Worked texts.
-ghost use Rattle.sot_print.specs.Examples.{Literals, Operands, Negations, CallsAndChoices, Topics, Plants, Nodes, Modules};
+ghost use Rattle.sot_print.specs.Examples.{Literals, Operands, Negations, CallsAndChoices, Topics};
+ghost use Rattle.sot_print.specs.Examples.{Plants, Nodes, Modules};
 
 /// Worked texts of literals and expressions.
 pub fn expressions_are_as_stated()

@@ -1,5 +1,6 @@
 //! What stands between two words.
-ghost use Rattle.std.specs.Prelude.{◌≡◌, ◌==◌, ◌++◌, [], ◌∷◌, if◌then◌else◌, codes, OnOk, IfOk, IsAscii, replicate};
+ghost use Rattle.std.specs.Prelude.{◌≡◌, ◌==◌, ◌++◌, [], ◌∷◌, if◌then◌else◌, codes, OnOk, IfOk};
+ghost use Rattle.std.specs.Prelude.{IsAscii, replicate};
 ghost use Rattle.std.specs.String.{string_bytes};
 ghost use Rattle.sot_print.specs.Words.{blanks};
 
@@ -33,7 +34,8 @@ fn push_spaces(out: &mut String, count: usize) -> Result<(), AllocError>
     Ok(())
 }
 
-// A line end and so many spaces. Those of most lines are one piece, whose length the compiler knows.
+// A line end and so many spaces. Those of most lines are one piece, whose length the compiler
+// knows.
 #[inline(never)]
 fn push_line(out: &mut String, indent: usize) -> Result<(), AllocError>
     ensures { OnOk result (string_bytes out.new ≡ string_bytes out.old ++ 10 ∷ replicate indent 32) }
@@ -87,7 +89,8 @@ pub fn push_word(out: &mut String, gap: Gap, text: &str) -> Result<(), AllocErro
 
 /// A comma, unless the item is the first of its list. Its own gap follows from that.
 pub fn push_comma(out: &mut String, place: usize, gap: Gap) -> Result<Gap, AllocError>
-    ensures comma { OnOk result (string_bytes out.new ≡ string_bytes out.old ++ (if place == 0 then [] else codes ",")) }
+    ensures comma { OnOk result (string_bytes out.new
+        ≡ string_bytes out.old ++ (if place == 0 then [] else codes ",")) }
     ensures gap { IfOk result (λ after. after ≡ (if place == 0 then gap else Gap.Space)) }
 {
     if place == 0 {

@@ -2,7 +2,9 @@
 ghost use Rattle.std.specs.Prelude.{◌≡◌, ◌++◌, [], if◌then◌else◌, codes, pos, int_lt, Some, OnOk};
 ghost use Rattle.std.specs.String.{string_bytes};
 ghost use Rattle.sot_print.specs.Words.{blanks, laid};
-ghost use Rattle.sot_print.specs.Leaves.{literal_words, ident_words, reference_words, truth_words, constant_words, bounds_words, range_words, fixed_words, scalar_words, field_words};
+ghost use Rattle.sot_print.specs.Leaves.{literal_words, ident_words, reference_words, truth_words};
+ghost use Rattle.sot_print.specs.Leaves.{constant_words, bounds_words, range_words, fixed_words};
+ghost use Rattle.sot_print.specs.Leaves.{scalar_words, field_words};
 
 use crate::gap::{Gap, push_characters, push_gap, push_word};
 use crate::numeral::push_numeral;
@@ -30,7 +32,8 @@ fn push_name(out: &mut String, name: &Name) -> Result<(), AllocError>
 }
 
 pub fn push_ident(out: &mut String, gap: Gap, ident: &Ident) -> Result<(), AllocError>
-    ensures { OnOk result (string_bytes out.new ≡ string_bytes out.old ++ laid (ident_words gap ident.now)) }
+    ensures { OnOk result (string_bytes out.new
+        ≡ string_bytes out.old ++ laid (ident_words gap ident.now)) }
 {
     push_gap(out, gap)?;
     push_name(out, &ident.name)
@@ -38,7 +41,9 @@ pub fn push_ident(out: &mut String, gap: Gap, ident: &Ident) -> Result<(), Alloc
 
 /// Two names with a point between them.
 pub fn push_member(out: &mut String, gap: Gap, member: &Member) -> Result<(), AllocError>
-    ensures { OnOk result (string_bytes out.new ≡ string_bytes out.old ++ laid (reference_words gap member.now.first (Some member.now.field))) }
+    ensures { OnOk result (string_bytes out.new
+        ≡ string_bytes out.old ++ laid (reference_words gap member.now.first
+        (Some member.now.field))) }
 {
     push_ident(out, gap, &member.first)?;
     push_word(out, Gap::Touching, ".")?;
@@ -47,7 +52,9 @@ pub fn push_member(out: &mut String, gap: Gap, member: &Member) -> Result<(), Al
 
 // The minus of a number below 0, and the gap of its digits.
 fn push_minus(out: &mut String, gap: Gap, mantissa: i64) -> Result<(), AllocError>
-    ensures { OnOk result (string_bytes out.new ≡ string_bytes out.old ++ (blanks gap ++ (if int_lt mantissa (pos 0) then codes "-" else []))) }
+    ensures { OnOk result (string_bytes out.new
+        ≡ string_bytes out.old ++ (blanks gap
+        ++ (if int_lt mantissa (pos 0) then codes "-" else []))) }
 {
     push_gap(out, gap)?;
     if mantissa < 0 {
@@ -57,20 +64,23 @@ fn push_minus(out: &mut String, gap: Gap, mantissa: i64) -> Result<(), AllocErro
 }
 
 pub fn push_literal(out: &mut String, gap: Gap, literal: Lit) -> Result<(), AllocError>
-    ensures { OnOk result (string_bytes out.new ≡ string_bytes out.old ++ laid (literal_words gap literal)) }
+    ensures { OnOk result (string_bytes out.new
+        ≡ string_bytes out.old ++ laid (literal_words gap literal)) }
 {
     push_minus(out, gap, literal.mantissa)?;
     push_numeral(out, literal.mantissa.unsigned_abs(), literal.scale)
 }
 
 pub fn push_truth(out: &mut String, gap: Gap, value: bool) -> Result<(), AllocError>
-    ensures { OnOk result (string_bytes out.new ≡ string_bytes out.old ++ laid (truth_words gap value)) }
+    ensures { OnOk result (string_bytes out.new
+        ≡ string_bytes out.old ++ laid (truth_words gap value)) }
 {
     push_word(out, gap, if value { "true" } else { "false" })
 }
 
 pub fn push_constant(out: &mut String, gap: Gap, constant: &Const) -> Result<(), AllocError>
-    ensures { OnOk result (string_bytes out.new ≡ string_bytes out.old ++ laid (constant_words gap constant.now)) }
+    ensures { OnOk result (string_bytes out.new
+        ≡ string_bytes out.old ++ laid (constant_words gap constant.now)) }
 {
     match constant {
         Const::Number(literal) => push_literal(out, gap, *literal),
@@ -79,7 +89,8 @@ pub fn push_constant(out: &mut String, gap: Gap, constant: &Const) -> Result<(),
 }
 
 pub fn push_bounds(out: &mut String, gap: Gap, bounds: &Bounds) -> Result<(), AllocError>
-    ensures { OnOk result (string_bytes out.new ≡ string_bytes out.old ++ laid (bounds_words gap bounds.now)) }
+    ensures { OnOk result (string_bytes out.new
+        ≡ string_bytes out.old ++ laid (bounds_words gap bounds.now)) }
 {
     push_literal(out, gap, bounds.lo)?;
     push_word(out, Gap::Touching, "..")?;
@@ -87,7 +98,8 @@ pub fn push_bounds(out: &mut String, gap: Gap, bounds: &Bounds) -> Result<(), Al
 }
 
 pub fn push_range(out: &mut String, bounds: &Bounds) -> Result<(), AllocError>
-    ensures { OnOk result (string_bytes out.new ≡ string_bytes out.old ++ laid (range_words bounds.now)) }
+    ensures { OnOk result (string_bytes out.new
+        ≡ string_bytes out.old ++ laid (range_words bounds.now)) }
 {
     push_word(out, Gap::Touching, "[")?;
     push_bounds(out, Gap::Touching, bounds)?;
@@ -105,7 +117,8 @@ pub fn push_fixed(out: &mut String, scale: Lit) -> Result<(), AllocError>
 }
 
 pub fn push_scalar(out: &mut String, scalar: &Scalar) -> Result<(), AllocError>
-    ensures { OnOk result (string_bytes out.new ≡ string_bytes out.old ++ laid (scalar_words scalar.now)) }
+    ensures { OnOk result (string_bytes out.new
+        ≡ string_bytes out.old ++ laid (scalar_words scalar.now)) }
 {
     match scalar {
         Scalar::Int(bounds) => {
@@ -121,7 +134,8 @@ pub fn push_scalar(out: &mut String, scalar: &Scalar) -> Result<(), AllocError>
 }
 
 pub fn push_field(out: &mut String, gap: Gap, field: &Field) -> Result<(), AllocError>
-    ensures { OnOk result (string_bytes out.new ≡ string_bytes out.old ++ laid (field_words gap field.now)) }
+    ensures { OnOk result (string_bytes out.new
+        ≡ string_bytes out.old ++ laid (field_words gap field.now)) }
 {
     push_ident(out, gap, &field.name)?;
     push_word(out, Gap::Touching, ":")?;

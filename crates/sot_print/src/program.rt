@@ -22,7 +22,9 @@ fn own_line(place: usize) -> Gap
 }
 
 fn push_declarations(out: &mut String, declarations: &[Decl]) -> Result<(), AllocError>
-    ensures { OnOk result (string_bytes out.new ≡ string_bytes out.old ++ laid (declarations_from true (map declaration_view declarations.now))) }
+    ensures { OnOk result (string_bytes out.new
+        ≡ string_bytes out.old ++ laid (declarations_from true
+        (map declaration_view declarations.now))) }
 {
     for (place, declaration) in declarations.iter().enumerate() {
         push_declaration(out, own_line(place), declaration)?;

@@ -5,7 +5,8 @@ ghost use Rattle.std.specs.String.{string_bytes};
 ghost use Rattle.sot_tree.specs.TreeViews.{tree_view, statement_view, block_view};
 ghost use Rattle.sot_print.specs.Words.{laid};
 ghost use Rattle.sot_print.specs.Expressions.{expression_words};
-ghost use Rattle.sot_print.specs.Statements.{semicolon, braced_words, otherwise_words, statement_words, block_words};
+ghost use Rattle.sot_print.specs.Statements.{semicolon, braced_words, otherwise_words};
+ghost use Rattle.sot_print.specs.Statements.{statement_words, block_words};
 
 use crate::expression::push_expression;
 use crate::gap::{Gap, push_word};
@@ -21,7 +22,9 @@ pub fn push_semicolon(out: &mut String) -> Result<(), AllocError>
 
 // The sign, the value and the end of a statement.
 fn push_value(out: &mut String, sign: &str, value: &Expr) -> Result<(), AllocError>
-    ensures { OnOk result (string_bytes out.new ≡ string_bytes out.old ++ (32 ∷ sign.now ++ (laid (expression_words (tree_view value.now) Space) ++ laid semicolon))) }
+    ensures { OnOk result (string_bytes out.new
+        ≡ string_bytes out.old ++ (32 ∷ sign.now
+        ++ (laid (expression_words (tree_view value.now) Space) ++ laid semicolon))) }
 {
     push_word(out, Gap::Space, sign)?;
     push_expression(out, Gap::Space, value)?;
@@ -31,7 +34,8 @@ fn push_value(out: &mut String, sign: &str, value: &Expr) -> Result<(), AllocErr
 /// The statements of a block, from this column on.
 #[cycle(statement)]
 fn push_statements(out: &mut String, indent: usize, block: &[Stmt]) -> Result<(), AllocError>
-    ensures { OnOk result (string_bytes out.new ≡ string_bytes out.old ++ laid (block_words (block_view block.now) indent)) }
+    ensures { OnOk result (string_bytes out.new
+        ≡ string_bytes out.old ++ laid (block_words (block_view block.now) indent)) }
 {
     for statement in block {
         push_statement(out, indent, statement)?;
@@ -42,7 +46,8 @@ fn push_statements(out: &mut String, indent: usize, block: &[Stmt]) -> Result<()
 /// A block in braces, two spaces deeper. An indentation past all numbers has no room in memory.
 #[cycle(statement)]
 pub fn push_block(out: &mut String, indent: usize, block: &[Stmt]) -> Result<(), AllocError>
-    ensures { OnOk result (string_bytes out.new ≡ string_bytes out.old ++ laid (braced_words indent (block_words (block_view block.now)))) }
+    ensures { OnOk result (string_bytes out.new
+        ≡ string_bytes out.old ++ laid (braced_words indent (block_words (block_view block.now)))) }
 {
     let Some(deeper) = indent.checked_add(2) else {
         return Err(AllocError);
@@ -55,7 +60,9 @@ pub fn push_block(out: &mut String, indent: usize, block: &[Stmt]) -> Result<(),
 // `else` and its block, unless that is empty.
 #[cycle(statement)]
 fn push_otherwise(out: &mut String, indent: usize, block: &[Stmt]) -> Result<(), AllocError>
-    ensures { OnOk result (string_bytes out.new ≡ string_bytes out.old ++ laid (otherwise_words (block_view block.now) indent (block_words (block_view block.now)))) }
+    ensures { OnOk result (string_bytes out.new
+        ≡ string_bytes out.old ++ laid (otherwise_words (block_view block.now) indent
+        (block_words (block_view block.now)))) }
 {
     if block.is_empty() {
         return Ok(());
@@ -66,7 +73,8 @@ fn push_otherwise(out: &mut String, indent: usize, block: &[Stmt]) -> Result<(),
 
 #[cycle(statement)]
 fn push_statement(out: &mut String, indent: usize, statement: &Stmt) -> Result<(), AllocError>
-    ensures { OnOk result (string_bytes out.new ≡ string_bytes out.old ++ laid (statement_words (statement_view statement.now) indent)) }
+    ensures { OnOk result (string_bytes out.new
+        ≡ string_bytes out.old ++ laid (statement_words (statement_view statement.now) indent)) }
 {
     match statement {
         Stmt::Assign { target, value } => {

@@ -145,7 +145,7 @@ fn load_text<'t>(
     ensures flight_fits { IfOk result (λ l. IfSome l.flight (λ f. FitsFlight l.program guests f)) }
     ensures fault { IfErr result (λ e. IfFault e (FailsText (parts_of sections.entry) guests)) }
 {
-    match parse(alloc, &mut Lexer::new(sections.program)) {
+    match parse(alloc, &Lexer::new(sections.program)) {
         Ok(program) => {
             let loaded = load_tree(alloc, &program, sections, guests, process);
             let_go(program, process);

@@ -1,5 +1,6 @@
 -- Faults behind a place where a fault is known: they change nothing.
-use Rattle.std.proofs.Common.{◌≡◌, ◌∙◌, ℕ, zero, suc, ◌+◌, ◌<◌, ◌≤◌, ◌⊎◌, inl, inr, nat_lt, nat_le, Bool, true, false, ◌&&◌, if◌then◌else◌, List, [], ◌∷◌, ◌++◌, Option, Some, None, refl, sym, ap, ap₂, subst, arith}
+use Rattle.std.proofs.Common.{◌≡◌, ◌∙◌, ℕ, zero, suc, ◌+◌, ◌<◌, ◌≤◌, ◌⊎◌, inl, inr, nat_lt, nat_le, Bool, true, false, ◌&&◌, if◌then◌else◌, List, [], ◌∷◌, ◌++◌}
+use Rattle.std.proofs.Common.{Option, Some, None, refl, sym, ap, ap₂, subst, arith}
 use Rattle.std.specs.List.{flat_map, list_any, list_all, slice_get}
 use Rattle.std.specs.Str.{bytes_eq}
 use Rattle.std.proofs.lemmas.List.Elements.{filter-append}
@@ -71,8 +72,10 @@ keep_related from a b g le (inr h) = inl (lesser_low from a g h.0 le ∙ sym (le
 related : (from : Span) (a b : Option TypeFault) (xs : List TypeFault) → AreRelated from a b → AreRelated from (least a xs) (least b (up_to from xs))
 related from a b [] r = r
 related from a b (x ∷ xs) r = elim (le_or_gt (rank x.at) (rank from)) [
-  | inl le ↦ subst (λ z. AreRelated from (least (lesser a x) xs) (least b (if z then x ∷ up_to from xs else up_to from xs))) (yes (rank x.at) le) (related from (lesser a x) (lesser b x) xs (keep_related from a b x le r))
-  | inr gt ↦ subst (λ z. AreRelated from (least (lesser a x) xs) (least b (if z then x ∷ up_to from xs else up_to from xs))) (no (rank x.at) gt) (related from (lesser a x) b xs (skip_related from a b x gt r))
+  | inl le ↦ subst (λ z. AreRelated from (least (lesser a x) xs) (least b (if z then x ∷ up_to from xs else up_to from xs))) (yes (rank x.at) le)
+      (related from (lesser a x) (lesser b x) xs (keep_related from a b x le r))
+  | inr gt ↦ subst (λ z. AreRelated from (least (lesser a x) xs) (least b (if z then x ∷ up_to from xs else up_to from xs))) (no (rank x.at) gt)
+      (related from (lesser a x) b xs (skip_related from a b x gt r))
 ]
   where
     yes : (k : ℕ) → k ≤ rank from → true ≡ nat_le k (rank from)
@@ -116,7 +119,8 @@ when_behind from true at k h = ap (λ b. if b then fault at k ∷ [] else []) (n
 module _ {X : Type 0} (from : Span) (test : X → Bool) (one : X → List TypeFault) (h : (x : X) → test x ≡ true → AreBehind from (one x)) where
   pub each_behind : (xs : List X) → list_all test xs ≡ true → AreBehind from (flat_map one xs)
   each_behind [] e = refl
-  each_behind (x ∷ xs) e = both_behind from (one x) (flat_map one xs) (h x (and_left (test x) (list_all test xs) e)) (each_behind xs (and_right (test x) (list_all test xs) e))
+  each_behind (x ∷ xs) e =
+      both_behind from (one x) (flat_map one xs) (h x (and_left (test x) (list_all test xs) e)) (each_behind xs (and_right (test x) (list_all test xs) e))
 
 pub repeats_behind : (from : Span) (seen : List (List ℕ)) (is : List Ident) → names_behind from is ≡ true → AreBehind from (repeats seen is)
 repeats_behind from seen [] e = refl
@@ -140,9 +144,12 @@ past_behind from (at ∷ ats) (suc k) e = past_behind from ats k (and_right (is_
 -- a list that goes on behind the place
 module _ (from : Span) (rest : List Ident) (e : names_behind from rest ≡ true) where
   same_start : (xs ys zs : List TypeFault) → up_to from ys ≡ up_to from zs → up_to from (xs ++ ys) ≡ up_to from (xs ++ zs)
-  same_start xs ys zs q = filter-append (λ f. nat_le (rank f.at) (rank from)) xs ys ∙ ap (λ z. up_to from xs ++ z) q ∙ sym (filter-append (λ f. nat_le (rank f.at) (rank from)) xs zs)
+  same_start xs ys zs q =
+      filter-append (λ f. nat_le (rank f.at) (rank from)) xs ys ∙ ap (λ z. up_to from xs ++ z) q
+      ∙ sym (filter-append (λ f. nat_le (rank f.at) (rank from)) xs zs)
 
-  pub each_front : (one : Ident → List TypeFault) → ((i : Ident) → is_behind from i.at ≡ true → AreBehind from (one i)) → (front : List Ident) → up_to from (flat_map one (front ++ rest)) ≡ up_to from (flat_map one front)
+  pub each_front : (one : Ident → List TypeFault) → ((i : Ident) → is_behind from i.at ≡ true → AreBehind from (one i)) → (front : List Ident)
+      → up_to from (flat_map one (front ++ rest)) ≡ up_to from (flat_map one front)
   each_front one h [] = each_behind from (λ i. is_behind from i.at) one h rest e
   each_front one h (i ∷ front) = same_start (one i) (flat_map one (front ++ rest)) (flat_map one front) (each_front one h front)
 
@@ -152,7 +159,8 @@ module _ (from : Span) (rest : List Ident) (e : names_behind from rest ≡ true)
       same_start (when (list_any (bytes_eq i.name) seen) i.at Twice) _ _
       (repeats_front (if list_any (bytes_eq i.name) seen then seen else seen ++ i.name ∷ []) front)
 
-  pub passes_front : (size : Ident → ℕ) (limit sum : ℕ) (front : List Ident) → up_to from (passes size limit sum (front ++ rest)) ≡ up_to from (passes size limit sum front)
+  pub passes_front : (size : Ident → ℕ) (limit sum : ℕ) (front : List Ident)
+      → up_to from (passes size limit sum (front ++ rest)) ≡ up_to from (passes size limit sum front)
   passes_front size limit sum [] = passes_behind from size limit sum rest e
   passes_front size limit sum (i ∷ front) =
       same_start (when (nat_le sum limit && nat_lt limit (sum + size i)) i.at TooMany) _ _

@@ -5,7 +5,8 @@ use Rattle.std.specs.Str.{bytes_eq}
 use Rattle.std.proofs.lemmas.List.Folds.{list_all-append}
 use Rattle.sot_text.specs.declared.token.Span.{Span}
 use Rattle.sot_tree.specs.declared.tree.Ident.{Ident}
-use Rattle.sot_tree.specs.Trees.{Tree, Trees, number, truth, named, binary, rest, negated, denied, called, rescaled, chosen, no_tree, one_more, Statement, Block, assigned, published, branched, repeated, no_statement, statement}
+use Rattle.sot_tree.specs.Trees.{Tree, Trees, number, truth, named, binary, rest, negated, denied, called, rescaled, chosen, no_tree, one_more, Statement}
+use Rattle.sot_tree.specs.Trees.{Block, assigned, published, branched, repeated, no_statement, statement}
 use Rattle.sot_rules.specs.declared.fault.TypeFault.{TypeFault}
 use Rattle.sot_rules.specs.declared.fault.TypeKind.TheVariants.{Unknown, ScaleDiffers, KindDiffers, PeriodOutside}
 use Rattle.sot_rules.specs.declared.expressions.sort.Sort.{Sort}
@@ -20,7 +21,9 @@ use Rattle.sot_rules.proofs.Behind.{and_left, and_right, both_behind, when_behin
 
 module _ (from : Span) where
   misfits_behind : (kind scale : Bool) (at : Span) → is_behind from at ≡ true → AreBehind from (misfits kind scale at)
-  misfits_behind kind scale at h = both_behind from (when kind at KindDiffers) (when scale at ScaleDiffers) (when_behind from kind at KindDiffers h) (when_behind from scale at ScaleDiffers h)
+  misfits_behind kind scale at h =
+      both_behind from (when kind at KindDiffers) (when scale at ScaleDiffers) (when_behind from kind at KindDiffers h)
+      (when_behind from scale at ScaleDiffers h)
 
   -- a name that is looked up
   module _ (first : Ident) (h : is_behind from first.at ≡ true) where
@@ -38,7 +41,8 @@ module _ (from : Span) where
     thing_behind field None g = when_behind from true first.at Unknown h
     thing_behind field (Some x) g = parts_are_behind field x.parts g
 
-    pub reading_behind : (names : List Thing) (field : Option Ident) → field_behind from field ≡ true → AreBehind from (reading_faults (reading names first field))
+    pub reading_behind : (names : List Thing) (field : Option Ident) → field_behind from field ≡ true
+        → AreBehind from (reading_faults (reading names first field))
     reading_behind names field g = thing_behind field (find (λ x. bytes_eq first.name x.name) names) g
 
   module _ (names : List Thing) where
@@ -51,11 +55,13 @@ module _ (from : Span) where
           let parts = and_right (is_behind from at) (tree_behind from a && tree_behind from b) e in
           both_behind from (tree_faults names a) _ (tree_is_behind a (and_left (tree_behind from a) _ parts))
           (both_behind from (tree_faults names b) _ (tree_is_behind b (and_right (tree_behind from a) _ parts))
-          (misfits_behind (kinds_misfit op (sort names a) (sort names b)) (scales_misfit op (sort names a) (sort names b)) at (and_left (is_behind from at) _ e)))
+          (misfits_behind (kinds_misfit op (sort names a) (sort names b)) (scales_misfit op (sort names a) (sort names b)) at
+          (and_left (is_behind from at) _ e)))
       tree_is_behind (rest a by at) e =
           let parts = and_right (is_behind from at) (is_behind from by.at && tree_behind from a) e in
           both_behind from (tree_faults names a) _ (tree_is_behind a (and_right (is_behind from by.at) _ parts))
-          (both_behind from (misfits (is_truthful (sort names a)) (differ (sort names a) (Scaled by.scale)) at) _ (misfits_behind _ _ at (and_left (is_behind from at) _ e))
+          (both_behind from (misfits (is_truthful (sort names a)) (differ (sort names a) (Scaled by.scale)) at) _
+          (misfits_behind _ _ at (and_left (is_behind from at) _ e))
           (when_behind from (is_zero by) by.at KindDiffers (and_left (is_behind from by.at) _ parts)))
       tree_is_behind (negated a at) e =
           both_behind from (tree_faults names a) _ (tree_is_behind a (and_right (is_behind from at) _ e))
@@ -77,7 +83,8 @@ module _ (from : Span) where
           both_behind from (tree_faults names c) _ (tree_is_behind c (and_left (tree_behind from c) _ parts))
           (both_behind from (tree_faults names a) _ (tree_is_behind a (and_left (tree_behind from a) _ branches))
           (both_behind from (tree_faults names b) _ (tree_is_behind b (and_right (tree_behind from a) _ branches))
-          (misfits_behind (branches_misfit (sort names c) (sort names a) (sort names b)) (differ (sort names a) (sort names b)) at (and_left (is_behind from at) _ e))))
+          (misfits_behind (branches_misfit (sort names c) (sort names a) (sort names b)) (differ (sort names a) (sort names b)) at
+          (and_left (is_behind from at) _ e))))
 
       parts_behind : (es : Trees) → trees_behind from es ≡ true → AreBehind from (parts_faults names es)
       parts_behind no_tree e = refl
@@ -85,8 +92,10 @@ module _ (from : Span) where
           both_behind from (tree_faults names a) _ (tree_is_behind a (and_left (tree_behind from a) _ e))
           (parts_behind more (and_right (tree_behind from a) _ e))
 
-  pub target_behind : (target : Reading) (value : Sort) (at : Span) → AreBehind from (reading_faults target) → is_behind from at ≡ true → AreBehind from (target_faults target value at)
-  target_behind target value at r h = both_behind from (reading_faults target) _ r (misfits_behind (are_mixed (reading_sort target) value) (differ (reading_sort target) value) at h)
+  pub target_behind : (target : Reading) (value : Sort) (at : Span) → AreBehind from (reading_faults target) → is_behind from at ≡ true
+      → AreBehind from (target_faults target value at)
+  target_behind target value at r h =
+      both_behind from (reading_faults target) _ r (misfits_behind (are_mixed (reading_sort target) value) (differ (reading_sort target) value) at h)
 
   module _ (s : Scope) where
     mutual
@@ -99,13 +108,15 @@ module _ (from : Span) where
           let here = and_left (is_behind from topic.at) _ h in
           let parts = and_right (is_behind from topic.at) (field_behind from field && tree_behind from e) h in
           both_behind from (tree_faults s.read e) _ (tree_is_behind s.read e (and_right (field_behind from field) _ parts))
-          (target_behind (reading s.written topic field) (sort s.read e) topic.at (reading_behind topic here s.written field (and_left (field_behind from field) _ parts)) here)
+          (target_behind (reading s.written topic field) (sort s.read e) topic.at
+          (reading_behind topic here s.written field (and_left (field_behind from field) _ parts)) here)
       statement_is_behind (branched c taken other at) h =
           let parts = and_right (is_behind from at) (tree_behind from c && (block_behind from taken && block_behind from other)) h in
           let blocks = and_right (tree_behind from c) (block_behind from taken && block_behind from other) parts in
           both_behind from (tree_faults s.read c) _ (tree_is_behind s.read c (and_left (tree_behind from c) _ parts))
           (both_behind from (when (is_scaled (sort s.read c)) at KindDiffers) _ (when_behind from _ at KindDiffers (and_left (is_behind from at) _ h))
-          (both_behind from (block_faults s taken) _ (block_is_behind taken (and_left (block_behind from taken) _ blocks)) (block_is_behind other (and_right (block_behind from taken) _ blocks))))
+          (both_behind from (block_faults s taken) _ (block_is_behind taken (and_left (block_behind from taken) _ blocks))
+          (block_is_behind other (and_right (block_behind from taken) _ blocks))))
       statement_is_behind (repeated times body at) h =
           let parts = and_right (is_behind from at) (is_behind from times.at && block_behind from body) h in
           let count = and_left (is_behind from times.at) _ parts in
@@ -135,7 +146,8 @@ module _ (from : Span) where
         let parts = and_right (is_behind from at) (tree_behind from c && (block_behind from taken && block_behind from other)) h in
         let blocks = and_right (tree_behind from c) (block_behind from taken && block_behind from other) parts in
         ap₂ (λ x y. x && y) (and_left (is_behind from at) _ h)
-        (all_of (block_unrolled taken) (block_unrolled other) (block_unrolled_behind taken (and_left (block_behind from taken) _ blocks)) (block_unrolled_behind other (and_right (block_behind from taken) _ blocks)))
+        (all_of (block_unrolled taken) (block_unrolled other) (block_unrolled_behind taken (and_left (block_behind from taken) _ blocks))
+        (block_unrolled_behind other (and_right (block_behind from taken) _ blocks)))
     unrolled_behind (repeated times body at) h =
         let parts = and_right (is_behind from at) (is_behind from times.at && block_behind from body) h in
         ap₂ (λ x y. x && y) (and_left (is_behind from at) _ h)
@@ -144,7 +156,8 @@ module _ (from : Span) where
     block_unrolled_behind : (b : Block) → block_behind from b ≡ true → list_all (is_behind from) (block_unrolled b) ≡ true
     block_unrolled_behind no_statement h = refl
     block_unrolled_behind (statement a more) h =
-        all_of (unrolled a) (block_unrolled more) (unrolled_behind a (and_left (statement_behind from a) _ h)) (block_unrolled_behind more (and_right (statement_behind from a) _ h))
+        all_of (unrolled a) (block_unrolled more) (unrolled_behind a (and_left (statement_behind from a) _ h))
+        (block_unrolled_behind more (and_right (statement_behind from a) _ h))
 
 -- where a body stands behind the first fault, that stays
 pub body_stays : (f : TypeFault) (s : Scope) (b : Block) → block_behind f.at b ≡ true → least (Some f) (body_faults s (Some b)) ≡ Some f

@@ -22,16 +22,26 @@ three a x y z = sym (least_append (least a x) y z) ∙ sym (least_append a x (y 
 four : (a : Option TypeFault) (w x y z : List TypeFault) → least (least (least (least a w) x) y) z ≡ least a (w ++ (x ++ (y ++ z)))
 four a w x y z = three (least a w) x y z ∙ sym (least_append a w (x ++ (y ++ z)))
 
-pub branch_noted : (s : Scope) (i : Box Branch) (at : Span) (k : Bool) (a b c d f : Option TypeFault) → k ≡ is_scaled (sort s.read (tree_view i.value.cond)) → b ≡ least a (tree_faults s.read (tree_view i.value.cond)) → c ≡ least b (when k at KindDiffers) → d ≡ least c (block_faults s (block_view i.value.yes.items)) → f ≡ least d (block_faults s (block_view i.value.no.items)) → f ≡ least a (statement_faults s (statement_view (If i at)))
+pub branch_noted : (s : Scope) (i : Box Branch) (at : Span) (k : Bool) (a b c d f : Option TypeFault) → k ≡ is_scaled (sort s.read (tree_view i.value.cond))
+    → b ≡ least a (tree_faults s.read (tree_view i.value.cond)) → c ≡ least b (when k at KindDiffers)
+    → d ≡ least c (block_faults s (block_view i.value.yes.items)) → f ≡ least d (block_faults s (block_view i.value.no.items))
+    → f ≡ least a (statement_faults s (statement_view (If i at)))
 branch_noted s i at k a b c d f test p q r t =
     t
-    ∙ ap (λ z. least z (block_faults s (block_view i.value.no.items))) (r ∙ ap (λ z. least z (block_faults s (block_view i.value.yes.items))) (q ∙ ap (λ z. least z (when k at KindDiffers)) p ∙ ap (λ z. least (least a (tree_faults s.read (tree_view i.value.cond))) (when z at KindDiffers)) test))
-    ∙ four a (tree_faults s.read (tree_view i.value.cond)) (when (is_scaled (sort s.read (tree_view i.value.cond))) at KindDiffers) (block_faults s (block_view i.value.yes.items)) (block_faults s (block_view i.value.no.items))
+    ∙ ap (λ z. least z (block_faults s (block_view i.value.no.items)))
+    (r ∙ ap (λ z. least z (block_faults s (block_view i.value.yes.items)))
+    (q ∙ ap (λ z. least z (when k at KindDiffers)) p ∙ ap (λ z. least (least a (tree_faults s.read (tree_view i.value.cond))) (when z at KindDiffers)) test))
+    ∙ four a (tree_faults s.read (tree_view i.value.cond)) (when (is_scaled (sort s.read (tree_view i.value.cond))) at KindDiffers)
+    (block_faults s (block_view i.value.yes.items)) (block_faults s (block_view i.value.no.items))
     ∙ sym (ap (λ z. least a (statement_faults s z)) (branch_view i at))
 
-pub repeat_noted : (s : Scope) (l : Lit) (v : Vec Stmt) (at : Span) (k m : Bool) (a b c d : Option TypeFault) → k ≡ has_decimals l → m ≡ is_off l → b ≡ least a (when k l.at ScaleDiffers) → c ≡ least b (when m l.at PeriodOutside) → d ≡ least c (block_faults s (block_view v.items)) → d ≡ least a (statement_faults s (statement_view (Repeat l v at)))
+pub repeat_noted : (s : Scope) (l : Lit) (v : Vec Stmt) (at : Span) (k m : Bool) (a b c d : Option TypeFault) → k ≡ has_decimals l → m ≡ is_off l
+    → b ≡ least a (when k l.at ScaleDiffers) → c ≡ least b (when m l.at PeriodOutside) → d ≡ least c (block_faults s (block_view v.items))
+    → d ≡ least a (statement_faults s (statement_view (Repeat l v at)))
 repeat_noted s l v at k m a b c d one two p q r =
     r
-    ∙ ap (λ z. least z (block_faults s (block_view v.items))) (q ∙ ap (λ z. least z (when m l.at PeriodOutside)) (p ∙ ap (λ z. least a (when z l.at ScaleDiffers)) one) ∙ ap (λ z. least (least a (when (has_decimals l) l.at ScaleDiffers)) (when z l.at PeriodOutside)) two)
+    ∙ ap (λ z. least z (block_faults s (block_view v.items)))
+    (q ∙ ap (λ z. least z (when m l.at PeriodOutside)) (p ∙ ap (λ z. least a (when z l.at ScaleDiffers)) one)
+    ∙ ap (λ z. least (least a (when (has_decimals l) l.at ScaleDiffers)) (when z l.at PeriodOutside)) two)
     ∙ three a (when (has_decimals l) l.at ScaleDiffers) (when (is_off l) l.at PeriodOutside) (block_faults s (block_view v.items))
     ∙ sym (ap (λ z. least a (statement_faults s z)) (repeat_view l v at))

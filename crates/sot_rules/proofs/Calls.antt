@@ -17,7 +17,8 @@ use Rattle.sot_rules.specs.Operands.{no_operand, with_operand}
 use Rattle.sot_rules.proofs.Least.{least_append}
 use Rattle.sot_rules.proofs.Loops.{truth_of, differ_of, sort_of}
 
-module _ (names : List Thing) (f : Func) (v : Box (Vec Expr)) (at : Span) (o : Operands) (e : o ≡ fold with_operand no_operand (sorts names (parts_view v.value.items))) where
+module _ (names : List Thing) (f : Func) (v : Box (Vec Expr)) (at : Span) (o : Operands)
+    (e : o ≡ fold with_operand no_operand (sorts names (parts_view v.value.items))) where
   truth_is : o.truth ≡ list_any is_truthful (sorts names (parts_view v.value.items))
   truth_is = ap (λ (z : Operands). z.truth) e ∙ truth_of no_operand (sorts names (parts_view v.value.items))
 
@@ -34,11 +35,14 @@ module _ (names : List Thing) (f : Func) (v : Box (Vec Expr)) (at : Span) (o : O
       ∙ ap (λ z. unless (list_any is_truthful (sorts names (parts_view v.value.items)) || some_differ (sorts names (parts_view v.value.items))) z) sort_is
       ∙ sym (ap (sort names) (call_view f v at))
 
-  pub call_noted : (a b c : Option TypeFault) → b ≡ least a (parts_faults names (parts_view v.value.items)) → c ≡ least b (misfits o.truth o.differ at) → c ≡ least a (tree_faults names (tree_view (Call f v at)))
+  pub call_noted : (a b c : Option TypeFault) → b ≡ least a (parts_faults names (parts_view v.value.items)) → c ≡ least b (misfits o.truth o.differ at)
+      → c ≡ least a (tree_faults names (tree_view (Call f v at)))
   call_noted a b c p q =
       q
       ∙ ap (λ z. least z (misfits o.truth o.differ at)) p
       ∙ ap (λ z. least (least a (parts_faults names (parts_view v.value.items))) (misfits z o.differ at)) truth_is
-      ∙ ap (λ z. least (least a (parts_faults names (parts_view v.value.items))) (misfits (list_any is_truthful (sorts names (parts_view v.value.items))) z at)) differ_is
-      ∙ sym (least_append a (parts_faults names (parts_view v.value.items)) (misfits (list_any is_truthful (sorts names (parts_view v.value.items))) (some_differ (sorts names (parts_view v.value.items))) at))
+      ∙ ap (λ z. least (least a (parts_faults names (parts_view v.value.items))) (misfits (list_any is_truthful (sorts names (parts_view v.value.items))) z at))
+      differ_is
+      ∙ sym (least_append a (parts_faults names (parts_view v.value.items))
+      (misfits (list_any is_truthful (sorts names (parts_view v.value.items))) (some_differ (sorts names (parts_view v.value.items))) at))
       ∙ sym (ap (λ z. least a (tree_faults names z)) (call_view f v at))

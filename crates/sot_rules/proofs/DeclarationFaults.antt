@@ -14,9 +14,18 @@ use Rattle.sot_rules.specs.Sorts.{scalar_sort, is_truthful}
 use Rattle.sot_rules.specs.Names.{meaning, is_topic, is_plant, is_node, is_environment, is_external, Scope, node_scope, plant_scope, state_scope, reading}
 use Rattle.sot_rules.specs.TreeSorts.{is_no_scale, sort}
 use Rattle.sot_rules.specs.Lists.{are_same, is_among, places}
-use Rattle.sot_rules.specs.Tests.{form_scalars, form_names, start_place, counts_differ, starts, has_module, topic_size, read_size, state_names, noise_names, local_names, side_sorts, block_unrolled}
-use Rattle.sot_rules.specs.Fails.{TopicFails, field_twice, many_fields, scalar, other_count, start, PlantFails, no_module, state_twice, many_states, state_scale, input_unknown, input_twice, input_hides, many_inputs, seen_unknown, seen_topic, sees_itself, seen_twice, seen_hides, many_seen, noise_twice, noise_hides, noise_truth, noise_scalar, many_noise, next_target, next_value, next_order, next_short, NodeFails, node_times, read_unknown, read_twice, many_read, written_unknown, written_twice, written_outside, written_read, many_written, local_twice, local_hides, local_scalar, local_start, many_locals, statements, many_statements, ModuleFails, ac_unknown, sc_unknown, sc_external, same_node, module_times, plant_unknown, plant_topic, safe, safer, DeclarationFails, in_topic, in_plant, in_node, in_module}
-use Rattle.sot_rules.specs.Faults.{fault, when, together, tree_faults, block_faults, past, topic_lists, scalar_faults, start_faults, scale_faults, input_faults, seen_lists, noise_lists, next_faults, plant_lists, read_faults, write_lists, local_lists, body_faults, node_lists, module_lists, declaration_faults}
+use Rattle.sot_rules.specs.Tests.{form_scalars, form_names, start_place, counts_differ, starts, has_module, topic_size, read_size, state_names, noise_names}
+use Rattle.sot_rules.specs.Tests.{local_names, side_sorts, block_unrolled}
+use Rattle.sot_rules.specs.Fails.{TopicFails, field_twice, many_fields, scalar, other_count, start, PlantFails, no_module, state_twice, many_states}
+use Rattle.sot_rules.specs.Fails.{state_scale, input_unknown, input_twice, input_hides, many_inputs, seen_unknown, seen_topic, sees_itself, seen_twice}
+use Rattle.sot_rules.specs.Fails.{seen_hides, many_seen, noise_twice, noise_hides, noise_truth, noise_scalar, many_noise, next_target, next_value, next_order}
+use Rattle.sot_rules.specs.Fails.{next_short, NodeFails, node_times, read_unknown, read_twice, many_read, written_unknown, written_twice, written_outside}
+use Rattle.sot_rules.specs.Fails.{written_read, many_written, local_twice, local_hides, local_scalar, local_start, many_locals, statements, many_statements}
+use Rattle.sot_rules.specs.Fails.{ModuleFails, ac_unknown, sc_unknown, sc_external, same_node, module_times, plant_unknown, plant_topic, safe, safer}
+use Rattle.sot_rules.specs.Fails.{DeclarationFails, in_topic, in_plant, in_node, in_module}
+use Rattle.sot_rules.specs.Faults.{fault, when, together, tree_faults, block_faults, past, topic_lists, scalar_faults, start_faults, scale_faults, input_faults}
+use Rattle.sot_rules.specs.Faults.{seen_lists, noise_lists, next_faults, plant_lists, read_faults, write_lists, local_lists, body_faults, node_lists}
+use Rattle.sot_rules.specs.Faults.{module_lists, declaration_faults}
 use Rattle.sot_rules.proofs.Members.{In, before, after, split, in_when, of_when, in_together, of_together, in_each, of_each}
 use Rattle.sot_rules.proofs.ListFaults.{repeats_in, of_repeats, past_in, of_past, passes_in, of_passes, order_in, of_order}
 use Rattle.sot_rules.proofs.TreeFaults.{tree_in, of_tree, target_in, of_target}
@@ -64,7 +73,8 @@ of_topic t at k h =
 scale_in : (o : Option Lit) (d : Lit) → o ≡ Some d → is_no_scale d ≡ true → In (fault d.at ScaleDiffers) (scale_faults o)
 scale_in o d e h = subst (λ z. In (fault d.at ScaleDiffers) (scale_faults z)) (sym e) (in_when (is_no_scale d) d.at ScaleDiffers h)
 
-of_scale : (P : Span → TypeKind → Type 0) (o : Option Lit) → ((d : Lit) → o ≡ Some d → is_no_scale d ≡ true → P d.at ScaleDiffers) → (at : Span) (k : TypeKind) → In (fault at k) (scale_faults o) → P at k
+of_scale : (P : Span → TypeKind → Type 0) (o : Option Lit) → ((d : Lit) → o ≡ Some d → is_no_scale d ≡ true → P d.at ScaleDiffers) → (at : Span) (k : TypeKind)
+    → In (fault at k) (scale_faults o) → P at k
 of_scale P None make at k h = absurd h
 of_scale P (Some d) make at k h = of_when P (is_no_scale d) d.at ScaleDiffers (make d refl) at k h
 
@@ -80,23 +90,41 @@ module _ (p : Program) (q : Plant) where
   plant_in (state_twice {at = at} r) = in_together _ (plant_lists p q) 1 (repeats_in (state_names q) at r)
   plant_in (many_states {at = at} r) = in_together _ (plant_lists p q) 2 (past_in 4 (places (state_names q)) at r)
   plant_in (state_scale {s = s} {d = d} m e h) = in_together _ (plant_lists p q) 3 (in_each _ (λ s. scale_faults s.scale) q.states s m (scale_in s.scale d e h))
-  plant_in (input_unknown {i = i} m h) = in_together _ (plant_lists p q) 4 (in_each _ (input_faults p q) q.inputs i m (before _ (when (not (is_topic (meaning p i))) i.at Unknown) _ (in_when (not (is_topic (meaning p i))) i.at Unknown (not_from_false (is_topic (meaning p i)) h))))
-  plant_in (input_hides {i = i} m g h) = in_together _ (plant_lists p q) 4 (in_each _ (input_faults p q) q.inputs i m (after _ (when (not (is_topic (meaning p i))) i.at Unknown) _ (in_when (is_topic (meaning p i) && is_among i (state_names q)) i.at Twice (both_hold (is_topic (meaning p i)) (is_among i (state_names q)) g h))))
+  plant_in (input_unknown {i = i} m h) =
+      in_together _ (plant_lists p q) 4 (in_each _ (input_faults p q) q.inputs i m
+      (before _ (when (not (is_topic (meaning p i))) i.at Unknown) _
+      (in_when (not (is_topic (meaning p i))) i.at Unknown (not_from_false (is_topic (meaning p i)) h))))
+  plant_in (input_hides {i = i} m g h) =
+      in_together _ (plant_lists p q) 4 (in_each _ (input_faults p q) q.inputs i m
+      (after _ (when (not (is_topic (meaning p i))) i.at Unknown) _
+      (in_when (is_topic (meaning p i) && is_among i (state_names q)) i.at Twice (both_hold (is_topic (meaning p i)) (is_among i (state_names q)) g h))))
   plant_in (input_twice {at = at} r) = in_together _ (plant_lists p q) 5 (repeats_in q.inputs at r)
   plant_in (many_inputs {at = at} r) = in_together _ (plant_lists p q) 6 (passes_in (λ i. topic_size (meaning p i)) 8 q.inputs at r)
-  plant_in (seen_unknown {i = i} m g h) = seen_at _ i m (in_together _ (seen_lists p q i) 0 (in_when (not (is_topic (meaning p i)) && not (is_plant (meaning p i))) i.at Unknown (neither (is_topic (meaning p i)) (is_plant (meaning p i)) g h)))
+  plant_in (seen_unknown {i = i} m g h) =
+      seen_at _ i m (in_together _ (seen_lists p q i) 0 (in_when (not (is_topic (meaning p i)) && not (is_plant (meaning p i))) i.at Unknown
+      (neither (is_topic (meaning p i)) (is_plant (meaning p i)) g h)))
   plant_in (seen_topic {i = i} m h) = seen_at _ i m (in_together _ (seen_lists p q i) 1 (in_when (is_topic (meaning p i)) i.at KindDiffers h))
-  plant_in (sees_itself {i = i} m g h) = seen_at _ i m (in_together _ (seen_lists p q i) 2 (in_when (is_plant (meaning p i) && are_same i q.name) i.at KindDiffers (both_hold (is_plant (meaning p i)) (are_same i q.name) g h)))
-  plant_in (seen_hides {i = i} m g e h) = seen_at _ i m (in_together _ (seen_lists p q i) 3 (in_when (is_plant (meaning p i) && (not (are_same i q.name) && is_among i (state_names q))) i.at Twice (both_hold (is_plant (meaning p i)) (not (are_same i q.name) && is_among i (state_names q)) g (both_hold (not (are_same i q.name)) (is_among i (state_names q)) (not_from_false (are_same i q.name) e) h))))
+  plant_in (sees_itself {i = i} m g h) =
+      seen_at _ i m (in_together _ (seen_lists p q i) 2 (in_when (is_plant (meaning p i) && are_same i q.name) i.at KindDiffers
+      (both_hold (is_plant (meaning p i)) (are_same i q.name) g h)))
+  plant_in (seen_hides {i = i} m g e h) =
+      seen_at _ i m (in_together _ (seen_lists p q i) 3 (in_when (is_plant (meaning p i) && (not (are_same i q.name) && is_among i (state_names q))) i.at Twice
+      (both_hold (is_plant (meaning p i)) (not (are_same i q.name) && is_among i (state_names q)) g
+      (both_hold (not (are_same i q.name)) (is_among i (state_names q)) (not_from_false (are_same i q.name) e) h))))
   plant_in (seen_twice {at = at} r) = in_together _ (plant_lists p q) 8 (repeats_in q.sees at r)
   plant_in (many_seen {at = at} r) = in_together _ (plant_lists p q) 9 (past_in 16 (places q.sees) at r)
-  plant_in (noise_hides {f = f} m h) = noise_at _ f m (in_together _ (noise_lists q f) 0 (in_when (is_among f.name (state_names q ++ q.inputs ++ q.sees)) f.name.at Twice h))
+  plant_in (noise_hides {f = f} m h) =
+      noise_at _ f m (in_together _ (noise_lists q f) 0 (in_when (is_among f.name (state_names q ++ q.inputs ++ q.sees)) f.name.at Twice h))
   plant_in (noise_truth {f = f} m h) = noise_at _ f m (in_together _ (noise_lists q f) 1 (in_when (is_truthful (scalar_sort f.scalar)) f.name.at KindDiffers h))
   plant_in (noise_scalar {f = f} m h) = noise_at _ f m (in_together _ (noise_lists q f) 2 (scalar_in true h))
   plant_in (noise_twice {at = at} r) = in_together _ (plant_lists p q) 11 (repeats_in (noise_names q) at r)
   plant_in (many_noise {at = at} r) = in_together _ (plant_lists p q) 12 (past_in 4 (places (noise_names q)) at r)
-  plant_in (next_value {n = n} m h) = in_together _ (plant_lists p q) 13 (in_each _ (next_faults p q) q.next n m (before _ (tree_faults (plant_scope p q) n.value) _ (tree_in (plant_scope p q) h)))
-  plant_in (next_target {n = n} m h) = in_together _ (plant_lists p q) 13 (in_each _ (next_faults p q) q.next n m (after _ (tree_faults (plant_scope p q) n.value) _ (target_in (reading (state_scope q) n.name None) (sort (plant_scope p q) n.value) n.name.at h)))
+  plant_in (next_value {n = n} m h) =
+      in_together _ (plant_lists p q) 13 (in_each _ (next_faults p q) q.next n m
+      (before _ (tree_faults (plant_scope p q) n.value) _ (tree_in (plant_scope p q) h)))
+  plant_in (next_target {n = n} m h) =
+      in_together _ (plant_lists p q) 13 (in_each _ (next_faults p q) q.next n m
+      (after _ (tree_faults (plant_scope p q) n.value) _ (target_in (reading (state_scope q) n.name None) (sort (plant_scope p q) n.value) n.name.at h)))
   plant_in (next_order place {n = n} s h) = in_together _ (plant_lists p q) 14 (order_in q.states q.next place n s h)
   plant_in (next_short h) = in_together _ (plant_lists p q) 15 (in_when (nat_lt (length q.next) (length q.states)) q.end NextMissing (grind arith))
 
@@ -104,16 +132,22 @@ module _ (p : Program) (q : Plant) where
   of_input i m at k h =
       split (fault at k) (when (not (is_topic (meaning p i))) i.at Unknown) _ h
       (of_when (PlantFails p q) (not (is_topic (meaning p i))) i.at Unknown (λ e. input_unknown m (not-true (is_topic (meaning p i)) e)) at k)
-      (of_when (PlantFails p q) (is_topic (meaning p i) && is_among i (state_names q)) i.at Twice (λ e. input_hides m (one_holds (is_topic (meaning p i)) (is_among i (state_names q)) e) (other_holds (is_topic (meaning p i)) (is_among i (state_names q)) e)) at k)
+      (of_when (PlantFails p q) (is_topic (meaning p i) && is_among i (state_names q)) i.at Twice
+      (λ e. input_hides m (one_holds (is_topic (meaning p i)) (is_among i (state_names q)) e)
+      (other_holds (is_topic (meaning p i)) (is_among i (state_names q)) e)) at k)
 
   of_seen : (i : Ident) → Has q.sees i → (at : Span) (k : TypeKind) → In (fault at k) (together (seen_lists p q i)) → PlantFails p q at k
   of_seen i m at k h =
       of_together (PlantFails p q at k) (fault at k) (seen_lists p q i) (
-        of_when (PlantFails p q) (not (is_topic (meaning p i)) && not (is_plant (meaning p i))) i.at Unknown (λ e. seen_unknown m (not_one (is_topic (meaning p i)) (is_plant (meaning p i)) e) (not_other (is_topic (meaning p i)) (is_plant (meaning p i)) e)) at k,
+        of_when (PlantFails p q) (not (is_topic (meaning p i)) && not (is_plant (meaning p i))) i.at Unknown
+            (λ e. seen_unknown m (not_one (is_topic (meaning p i)) (is_plant (meaning p i)) e) (not_other (is_topic (meaning p i)) (is_plant (meaning p i)) e))
+            at k,
         (
           of_when (PlantFails p q) (is_topic (meaning p i)) i.at KindDiffers (λ e. seen_topic m e) at k,
           (
-            of_when (PlantFails p q) (is_plant (meaning p i) && are_same i q.name) i.at KindDiffers (λ e. sees_itself m (one_holds (is_plant (meaning p i)) (are_same i q.name) e) (other_holds (is_plant (meaning p i)) (are_same i q.name) e)) at k,
+            of_when (PlantFails p q) (is_plant (meaning p i) && are_same i q.name) i.at KindDiffers
+                (λ e. sees_itself m (one_holds (is_plant (meaning p i)) (are_same i q.name) e) (other_holds (is_plant (meaning p i)) (are_same i q.name) e)) at
+                k,
             (
               of_when (PlantFails p q) (is_plant (meaning p i) && (not (are_same i q.name) && is_among i (state_names q))) i.at Twice
                   (λ e. let r = other_holds (is_plant (meaning p i)) (not (are_same i q.name) && is_among i (state_names q)) e in
@@ -159,7 +193,8 @@ module _ (p : Program) (q : Plant) where
           (
             of_past (PlantFails p q) 4 (places (state_names q)) (λ w r. many_states r) at k,
             (
-              (λ x. of_each (fault at k) (λ s. scale_faults s.scale) q.states x (λ s m y. of_scale (PlantFails p q) s.scale (λ d e g. state_scale m e g) at k y)),
+              (λ x. of_each (fault at k) (λ s. scale_faults s.scale) q.states x
+                  (λ s m y. of_scale (PlantFails p q) s.scale (λ d e g. state_scale m e g) at k y)),
               (
                 (λ x. of_each (fault at k) (input_faults p q) q.inputs x (λ i m y. of_input i m at k y)),
                 (
@@ -183,7 +218,8 @@ module _ (p : Program) (q : Plant) where
                                   (
                                     of_order (PlantFails p q) q.states q.next (λ place n s b. next_order place s b) at k,
                                     (
-                                      of_when (PlantFails p q) (nat_lt (length q.next) (length q.states)) q.end NextMissing (λ e. next_short (short (length q.next) (length q.states) e)) at k,
+                                      of_when (PlantFails p q) (nat_lt (length q.next) (length q.states)) q.end NextMissing
+                                          (λ e. next_short (short (length q.next) (length q.states) e)) at k,
                                       tt,
                                     ),
                                   ),
@@ -211,17 +247,23 @@ module _ (p : Program) (n : Node) where
   local_at : (f : TypeFault) (l : Local) → Has n.locals l → In f (together (local_lists n l)) → In f (together (node_lists p n))
   local_at f l m h = in_together f (node_lists p n) 7 (in_each f (λ l. together (local_lists n l)) n.locals l m h)
 
-  body_at : (f : TypeFault) (o : Option Block) (body : Block) (s : Scope) → o ≡ Some body → In f (block_faults s body ++ past 10000 (block_unrolled body)) → In f (body_faults s o)
+  body_at : (f : TypeFault) (o : Option Block) (body : Block) (s : Scope) → o ≡ Some body → In f (block_faults s body ++ past 10000 (block_unrolled body))
+      → In f (body_faults s o)
   body_at f o body s e h = subst (λ z. In f (body_faults s z)) (sym e) h
 
   pub node_in : {at : Span} {k : TypeKind} → NodeFails p n at k → In (fault at k) (together (node_lists p n))
   node_in (node_times h) = in_together _ (node_lists p n) 0 (times_in n.period n.offset h)
-  node_in (read_unknown {i = i} m g h) = in_together _ (node_lists p n) 1 (in_each _ (read_faults p) n.reads i m (in_when (not (is_topic (meaning p i)) && not (is_plant (meaning p i))) i.at Unknown (neither (is_topic (meaning p i)) (is_plant (meaning p i)) g h)))
+  node_in (read_unknown {i = i} m g h) =
+      in_together _ (node_lists p n) 1 (in_each _ (read_faults p) n.reads i m
+      (in_when (not (is_topic (meaning p i)) && not (is_plant (meaning p i))) i.at Unknown (neither (is_topic (meaning p i)) (is_plant (meaning p i)) g h)))
   node_in (read_twice {at = at} r) = in_together _ (node_lists p n) 2 (repeats_in n.reads at r)
   node_in (many_read {at = at} r) = in_together _ (node_lists p n) 3 (passes_in (λ i. read_size (meaning p i)) 64 n.reads at r)
-  node_in (written_unknown {i = i} m h) = write_at _ i m (in_together _ (write_lists p n i) 0 (in_when (not (is_topic (meaning p i))) i.at Unknown (not_from_false (is_topic (meaning p i)) h)))
+  node_in (written_unknown {i = i} m h) =
+      write_at _ i m (in_together _ (write_lists p n i) 0 (in_when (not (is_topic (meaning p i))) i.at Unknown (not_from_false (is_topic (meaning p i)) h)))
   node_in (written_outside {i = i} m h) = write_at _ i m (in_together _ (write_lists p n i) 1 (in_when (is_environment (meaning p i)) i.at KindDiffers h))
-  node_in (written_read {i = i} m g h) = write_at _ i m (in_together _ (write_lists p n i) 2 (in_when (is_topic (meaning p i) && is_among i n.reads) i.at ReadsAndWrites (both_hold (is_topic (meaning p i)) (is_among i n.reads) g h)))
+  node_in (written_read {i = i} m g h) =
+      write_at _ i m (in_together _ (write_lists p n i) 2 (in_when (is_topic (meaning p i) && is_among i n.reads) i.at ReadsAndWrites
+      (both_hold (is_topic (meaning p i)) (is_among i n.reads) g h)))
   node_in (written_twice {at = at} r) = in_together _ (node_lists p n) 5 (repeats_in n.writes at r)
   node_in (many_written {at = at} r) = in_together _ (node_lists p n) 6 (passes_in (λ i. topic_size (meaning p i)) 8 n.writes at r)
   node_in (local_hides {l = l} m h) = local_at _ l m (in_together _ (local_lists n l) 0 (in_when (is_among l.name (n.reads ++ n.writes)) l.name.at Twice h))
@@ -229,8 +271,12 @@ module _ (p : Program) (n : Node) where
   node_in (local_start {l = l} m h) = local_at _ l m (in_together _ (local_lists n l) 2 (start_in l.scalar l.init h))
   node_in (local_twice {at = at} r) = in_together _ (node_lists p n) 8 (repeats_in (local_names n) at r)
   node_in (many_locals {at = at} r) = in_together _ (node_lists p n) 9 (past_in 16 (places (local_names n)) at r)
-  node_in (statements {body = body} e h) = in_together _ (node_lists p n) 10 (body_at _ n.body body (node_scope p n) e (before _ (block_faults (node_scope p n) body) _ (block_in (node_scope p n) h)))
-  node_in (many_statements {body = body} {at = at} e r) = in_together _ (node_lists p n) 10 (body_at _ n.body body (node_scope p n) e (after _ (block_faults (node_scope p n) body) _ (past_in 10000 (block_unrolled body) at r)))
+  node_in (statements {body = body} e h) =
+      in_together _ (node_lists p n) 10 (body_at _ n.body body (node_scope p n) e
+      (before _ (block_faults (node_scope p n) body) _ (block_in (node_scope p n) h)))
+  node_in (many_statements {body = body} {at = at} e r) =
+      in_together _ (node_lists p n) 10 (body_at _ n.body body (node_scope p n) e
+      (after _ (block_faults (node_scope p n) body) _ (past_in 10000 (block_unrolled body) at r)))
 
   of_write : (i : Ident) → Has n.writes i → (at : Span) (k : TypeKind) → In (fault at k) (together (write_lists p n i)) → NodeFails p n at k
   of_write i m at k h =
@@ -239,7 +285,9 @@ module _ (p : Program) (n : Node) where
         (
           of_when (NodeFails p n) (is_environment (meaning p i)) i.at KindDiffers (λ e. written_outside m e) at k,
           (
-            of_when (NodeFails p n) (is_topic (meaning p i) && is_among i n.reads) i.at ReadsAndWrites (λ e. written_read m (one_holds (is_topic (meaning p i)) (is_among i n.reads) e) (other_holds (is_topic (meaning p i)) (is_among i n.reads) e)) at k,
+            of_when (NodeFails p n) (is_topic (meaning p i) && is_among i n.reads) i.at ReadsAndWrites
+                (λ e. written_read m (one_holds (is_topic (meaning p i)) (is_among i n.reads) e) (other_holds (is_topic (meaning p i)) (is_among i n.reads) e))
+                at k,
             tt,
           ),
         ),
@@ -272,7 +320,10 @@ module _ (p : Program) (n : Node) where
       of_together (NodeFails p n at k) (fault at k) (node_lists p n) (
         (λ x. node_times (of_times n.period n.offset at k x)),
         (
-          (λ x. of_each (fault at k) (read_faults p) n.reads x (λ i m y. of_when (NodeFails p n) (not (is_topic (meaning p i)) && not (is_plant (meaning p i))) i.at Unknown (λ e. read_unknown m (not_one (is_topic (meaning p i)) (is_plant (meaning p i)) e) (not_other (is_topic (meaning p i)) (is_plant (meaning p i)) e)) at k y)),
+          (λ x. of_each (fault at k) (read_faults p) n.reads x (λ i m y.
+              of_when (NodeFails p n) (not (is_topic (meaning p i)) && not (is_plant (meaning p i))) i.at Unknown
+              (λ e. read_unknown m (not_one (is_topic (meaning p i)) (is_plant (meaning p i)) e)
+              (not_other (is_topic (meaning p i)) (is_plant (meaning p i)) e)) at k y)),
           (
             of_repeats (NodeFails p n) n.reads (λ w r. read_twice r) at k,
             (
@@ -307,12 +358,16 @@ module _ (p : Program) (n : Node) where
 
 -- modules
 pub module_in : (p : Program) (m : Module) {at : Span} {k : TypeKind} → ModuleFails p m at k → In (fault at k) (together (module_lists p m))
-module_in p m (ac_unknown h) = in_together _ (module_lists p m) 0 (in_when (not (is_node (meaning p m.ac))) m.ac.at Unknown (not_from_false (is_node (meaning p m.ac)) h))
-module_in p m (sc_unknown h) = in_together _ (module_lists p m) 1 (in_when (not (is_node (meaning p m.sc))) m.sc.at Unknown (not_from_false (is_node (meaning p m.sc)) h))
+module_in p m (ac_unknown h) =
+    in_together _ (module_lists p m) 0 (in_when (not (is_node (meaning p m.ac))) m.ac.at Unknown (not_from_false (is_node (meaning p m.ac)) h))
+module_in p m (sc_unknown h) =
+    in_together _ (module_lists p m) 1 (in_when (not (is_node (meaning p m.sc))) m.sc.at Unknown (not_from_false (is_node (meaning p m.sc)) h))
 module_in p m (sc_external h) = in_together _ (module_lists p m) 2 (in_when (is_external (meaning p m.sc)) m.sc.at KindDiffers h)
 module_in p m (same_node h) = in_together _ (module_lists p m) 3 (in_when (are_same m.ac m.sc) m.sc.at Twice h)
 module_in p m (module_times h) = in_together _ (module_lists p m) 4 (times_in m.period m.offset h)
-module_in p m (plant_unknown g h) = in_together _ (module_lists p m) 5 (in_when (not (is_topic (meaning p m.plant)) && not (is_plant (meaning p m.plant))) m.plant.at Unknown (neither (is_topic (meaning p m.plant)) (is_plant (meaning p m.plant)) g h))
+module_in p m (plant_unknown g h) =
+    in_together _ (module_lists p m) 5 (in_when (not (is_topic (meaning p m.plant)) && not (is_plant (meaning p m.plant))) m.plant.at Unknown
+    (neither (is_topic (meaning p m.plant)) (is_plant (meaning p m.plant)) g h))
 module_in p m (plant_topic h) = in_together _ (module_lists p m) 6 (in_when (is_topic (meaning p m.plant)) m.plant.at KindDiffers h)
 module_in p m (safe h) = in_together _ (module_lists p m) 7 (region_in (side_sorts (meaning p m.plant)) m.safe h)
 module_in p m (safer h) = in_together _ (module_lists p m) 8 (region_in (side_sorts (meaning p m.plant)) m.safer h)
@@ -330,7 +385,9 @@ of_module p m at k h =
             (
               (λ x. module_times (of_times m.period m.offset at k x)),
               (
-                of_when (ModuleFails p m) (not (is_topic (meaning p m.plant)) && not (is_plant (meaning p m.plant))) m.plant.at Unknown (λ e. plant_unknown (not_one (is_topic (meaning p m.plant)) (is_plant (meaning p m.plant)) e) (not_other (is_topic (meaning p m.plant)) (is_plant (meaning p m.plant)) e)) at k,
+                of_when (ModuleFails p m) (not (is_topic (meaning p m.plant)) && not (is_plant (meaning p m.plant))) m.plant.at Unknown
+                    (λ e. plant_unknown (not_one (is_topic (meaning p m.plant)) (is_plant (meaning p m.plant)) e)
+                    (not_other (is_topic (meaning p m.plant)) (is_plant (meaning p m.plant)) e)) at k,
                 (
                   of_when (ModuleFails p m) (is_topic (meaning p m.plant)) m.plant.at KindDiffers (λ e. plant_topic e) at k,
                   (

@@ -1,5 +1,6 @@
 -- Names of which no two are the same: as many keys as names, and none that repeats.
-use Rattle.std.proofs.Common.{◌≡◌, ◌∙◌, ℕ, List, [], ◌∷◌, ◌++◌, length, map, find, Some, Bool, true, false, is_some, cond, if◌then◌else◌, ◌||◌, position, refl, sym, ap, subst}
+use Rattle.std.proofs.Common.{◌≡◌, ◌∙◌, ℕ, List, [], ◌∷◌, ◌++◌, length, map, find, Some, Bool, true, false, is_some, cond, if◌then◌else◌, ◌||◌, position, refl}
+use Rattle.std.proofs.Common.{sym, ap, subst}
 use Rattle.std.specs.List.{list_any, IsDistinct, AllByRecursion}
 use Rattle.std.specs.Set.{distinct_count}
 use Rattle.std.specs.Str.{bytes_eq}
@@ -23,7 +24,8 @@ use Rattle.sot_rules.proofs.NameTables.{known, or_false}
 use Rattle.sot_rules.proofs.Repeats.{any_seen}
 
 -- keys of which no two are equal have names of which no two are
-apart_names : (k : Bor (List ℕ)) (ks : List (Bor (List ℕ))) → AllByRecursion (λ (y : Bor (List ℕ)). bytes_eq k.now y.now ≡ false) ks → AllByRecursion (λ n. bytes_eq k.now n ≡ false) (seen_names ks)
+apart_names : (k : Bor (List ℕ)) (ks : List (Bor (List ℕ))) → AllByRecursion (λ (y : Bor (List ℕ)). bytes_eq k.now y.now ≡ false) ks
+    → AllByRecursion (λ n. bytes_eq k.now n ≡ false) (seen_names ks)
 apart_names k [] a = tt
 apart_names k (x ∷ ks) a = (a.0, apart_names k ks a.1)
 
@@ -37,12 +39,15 @@ any_found : (q : List ℕ) (ds : List Declaration) → is_some (find (is_named q
 any_found q [] = refl
 any_found q (d ∷ ds) = by (bytes_eq q (declared_name d).name) (any_found q ds)
   where
-    by : (b : Bool) → is_some (find (is_named q) ds) ≡ list_any (bytes_eq q) (map (λ (d : Declaration). (declared_name d).name) ds) → is_some (cond b (Some d) (find (is_named q) ds)) ≡ (b || list_any (bytes_eq q) (map (λ (d : Declaration). (declared_name d).name) ds))
+    by : (b : Bool) → is_some (find (is_named q) ds) ≡ list_any (bytes_eq q) (map (λ (d : Declaration). (declared_name d).name) ds)
+        → is_some (cond b (Some d) (find (is_named q) ds)) ≡ (b || list_any (bytes_eq q) (map (λ (d : Declaration). (declared_name d).name) ds))
     by true h = refl
     by false h = h
 
 -- a table with as many entries as there are declarations has a name for each of them
-pub names_distinct : {S : Type 0} (m : IndexMap (Bor (List ℕ)) ℕ S) (ds : List Declaration) → IsDistinct (λ (a b : Bor (List ℕ)). bytes_eq a.now b.now) (keys_of m.entries) → ((n : List ℕ) → found m n ≡ position (is_named n) ds) → length m.entries ≡ length ds → IsDistinct bytes_eq (map (λ (d : Declaration). (declared_name d).name) ds)
+pub names_distinct : {S : Type 0} (m : IndexMap (Bor (List ℕ)) ℕ S) (ds : List Declaration)
+    → IsDistinct (λ (a b : Bor (List ℕ)). bytes_eq a.now b.now) (keys_of m.entries) → ((n : List ℕ) → found m n ≡ position (is_named n) ds)
+    → length m.entries ≡ length ds → IsDistinct bytes_eq (map (λ (d : Declaration). (declared_name d).name) ds)
 names_distinct m ds unique held counted =
     let names = map (λ (d : Declaration). (declared_name d).name) ds in
     let keys = keys_of m.entries in
@@ -52,7 +57,8 @@ names_distinct m ds unique held counted =
     ∙ ap is_some (held q)
     ∙ known (is_named q) ds
     ∙ any_found q ds in
-    let count : length (seen_names keys) ≡ distinct_count bytes_eq names = length-from_keys nat_list_eq_equiv (seen_names keys) names (distinct_names keys unique) alike in
+    let count : length (seen_names keys) ≡ distinct_count bytes_eq names =
+    length-from_keys nat_list_eq_equiv (seen_names keys) names (distinct_names keys unique) alike in
     let long : length (seen_names keys) ≡ length names =
     length-map keys (λ (k : Bor (List ℕ)). k.now)
     ∙ length-map m.entries (λ (e : Bor (List ℕ) × ℕ). e.0)
@@ -66,7 +72,8 @@ not_among false false x y = refl
 not_among true b x y = x
 not_among false true x y = y
 
-still_new : (name : List ℕ) (seen ns : List (List ℕ)) → AllByRecursion (λ n. bytes_eq name n ≡ false) ns → AllByRecursion (λ n. list_any (bytes_eq n) seen ≡ false) ns → AllByRecursion (λ n. list_any (bytes_eq n) (seen ++ name ∷ []) ≡ false) ns
+still_new : (name : List ℕ) (seen ns : List (List ℕ)) → AllByRecursion (λ n. bytes_eq name n ≡ false) ns
+    → AllByRecursion (λ n. list_any (bytes_eq n) seen ≡ false) ns → AllByRecursion (λ n. list_any (bytes_eq n) (seen ++ name ∷ []) ≡ false) ns
 still_new name seen [] apart new = tt
 still_new name seen (n ∷ ns) apart new = (
   list_any-append (bytes_eq n) seen (name ∷ [])
@@ -75,7 +82,8 @@ still_new name seen (n ∷ ns) apart new = (
   still_new name seen ns apart.1 new.1,
 )
 
-none_repeat_after : (seen : List (List ℕ)) (is : List Ident) → IsDistinct bytes_eq (map (λ (i : Ident). i.name) is) → AllByRecursion (λ n. list_any (bytes_eq n) seen ≡ false) (map (λ (i : Ident). i.name) is) → repeats seen is ≡ []
+none_repeat_after : (seen : List (List ℕ)) (is : List Ident) → IsDistinct bytes_eq (map (λ (i : Ident). i.name) is)
+    → AllByRecursion (λ n. list_any (bytes_eq n) seen ≡ false) (map (λ (i : Ident). i.name) is) → repeats seen is ≡ []
 unfolding IsDistinct
 none_repeat_after seen [] distinct new = refl
 none_repeat_after seen (i ∷ is) distinct new =
@@ -88,4 +96,6 @@ all_new (n ∷ ns) = (refl, all_new ns)
 
 -- declarations of which no two have the same name repeat none
 pub none_repeat : (ds : List Declaration) → IsDistinct bytes_eq (map (λ (d : Declaration). (declared_name d).name) ds) → repeats [] (map declared_name ds) ≡ []
-none_repeat ds distinct = none_repeat_after [] (map declared_name ds) (subst (IsDistinct bytes_eq) (map_twice (λ (i : Ident). i.name) declared_name ds) distinct) (all_new (map (λ (i : Ident). i.name) (map declared_name ds)))
+none_repeat ds distinct =
+    none_repeat_after [] (map declared_name ds) (subst (IsDistinct bytes_eq) (map_twice (λ (i : Ident). i.name) declared_name ds) distinct)
+    (all_new (map (λ (i : Ident). i.name) (map declared_name ds)))

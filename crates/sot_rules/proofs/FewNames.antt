@@ -1,5 +1,6 @@
 -- Names that are looked at one by one, and those of a table behind them.
-use Rattle.std.proofs.Common.{◌≡◌, ◌∙◌, ℕ, ◌+◌, ◌<◌, ◌≤◌, List, [], ◌∷◌, ◌++◌, length, get_or, drop, map, find, cond, Option, Some, None, option_map, Bool, true, false, ◌||◌, if◌then◌else◌, refl, sym, ap, arith, append-nil, append_assoc}
+use Rattle.std.proofs.Common.{◌≡◌, ◌∙◌, ℕ, ◌+◌, ◌<◌, ◌≤◌, List, [], ◌∷◌, ◌++◌, length, get_or, drop, map, find, cond, Option, Some, None, option_map, Bool}
+use Rattle.std.proofs.Common.{true, false, ◌||◌, if◌then◌else◌, refl, sym, ap, arith, append-nil, append_assoc}
 use Rattle.std.specs.Option.{option_or}
 use Rattle.std.specs.List.{list_any}
 use Rattle.std.specs.Map.{lookup}
@@ -23,7 +24,8 @@ pub tested : (a b x y : List ℕ) (r v : Bool) → r ≡ bytes_eq a b → a ≡ 
 tested a b x y r v e p q h = sym (ap (λ z. bytes_eq z y) p) ∙ sym (ap (bytes_eq a) q) ∙ sym e ∙ h
 
 -- entries and keys, one after another as a loop reads them
-pub entry_from : (name : List ℕ) (es : List (Bor (List ℕ) × Kept)) (i : ℕ) (e : Bor (List ℕ) × Kept) (b : Bool) → i < length es → e ≡ get_or es i e → bytes_eq name e.0.now ≡ b → lookup (λ k. bytes_eq name k.now) (drop i es) ≡ cond b (Some e.1) (lookup (λ k. bytes_eq name k.now) (drop (i + 1) es))
+pub entry_from : (name : List ℕ) (es : List (Bor (List ℕ) × Kept)) (i : ℕ) (e : Bor (List ℕ) × Kept) (b : Bool) → i < length es → e ≡ get_or es i e
+    → bytes_eq name e.0.now ≡ b → lookup (λ k. bytes_eq name k.now) (drop i es) ≡ cond b (Some e.1) (lookup (λ k. bytes_eq name k.now) (drop (i + 1) es))
 entry_from name es i e b lt is h =
     ap (lookup (λ k. bytes_eq name k.now)) (rest_is es i e lt is)
     ∙ ap (λ b. cond b (Some e.1) (lookup (λ k. bytes_eq name k.now) (drop (i + 1) es))) h
@@ -31,7 +33,8 @@ entry_from name es i e b lt is h =
 pub entry_past : (name : List ℕ) (es : List (Bor (List ℕ) × Kept)) (i : ℕ) → length es ≤ i → lookup (λ k. bytes_eq name k.now) (drop i es) ≡ None
 entry_past name es i le = ap (lookup (λ k. bytes_eq name k.now)) (drop_all i es le)
 
-pub key_from : (name : List ℕ) (ks : List (Bor (List ℕ))) (i : ℕ) (k : Bor (List ℕ)) (b : Bool) → i < length ks → k ≡ get_or ks i k → bytes_eq name k.now ≡ b → list_any (λ (k : Bor (List ℕ)). bytes_eq name k.now) (drop i ks) ≡ (b || list_any (λ (k : Bor (List ℕ)). bytes_eq name k.now) (drop (i + 1) ks))
+pub key_from : (name : List ℕ) (ks : List (Bor (List ℕ))) (i : ℕ) (k : Bor (List ℕ)) (b : Bool) → i < length ks → k ≡ get_or ks i k → bytes_eq name k.now ≡ b
+    → list_any (λ (k : Bor (List ℕ)). bytes_eq name k.now) (drop i ks) ≡ (b || list_any (λ (k : Bor (List ℕ)). bytes_eq name k.now) (drop (i + 1) ks))
 key_from name ks i k b lt is h =
     ap (list_any (λ (k : Bor (List ℕ)). bytes_eq name k.now)) (rest_is ks i k lt is)
     ∙ ap (λ b. b || list_any (λ (k : Bor (List ℕ)). bytes_eq name k.now) (drop (i + 1) ks)) h
@@ -41,7 +44,8 @@ key_past name ks i le = ap (list_any (λ (k : Bor (List ℕ)). bytes_eq name k.n
 
 -- parts
 module _ {X : Type 0} (g : X → Part) (name : List ℕ) (xs : List X) (i : ℕ) where
-  pub part_next : (x : X) → i < length xs → x ≡ get_or xs i x → bytes_eq name (g x).name ≡ false → sort_in (map g (drop (i + 1) xs)) name ≡ sort_in (map g (drop i xs)) name
+  pub part_next : (x : X) → i < length xs → x ≡ get_or xs i x → bytes_eq name (g x).name ≡ false
+      → sort_in (map g (drop (i + 1) xs)) name ≡ sort_in (map g (drop i xs)) name
   part_next x lt is h =
       sym (ap (λ z. sort_in (map g z) name) (rest_is xs i x lt is)
       ∙ ap (λ b. option_map (λ (p : Part). p.sort) (cond b (Some (g x)) (find (λ (p : Part). bytes_eq name p.name) (map g (drop (i + 1) xs))))) h)
@@ -55,11 +59,13 @@ module _ {X : Type 0} (g : X → Part) (name : List ℕ) (xs : List X) (i : ℕ)
   no_part le = sym (ap (λ z. sort_in (map g z) name) (drop_all i xs le))
 
 -- what a name stands for in two lists, one behind the other
-pub lookup_both : {V : Type 0} (name : List ℕ) (xs ys : List (Bor (List ℕ) × V)) → lookup (λ k. bytes_eq name k.now) (xs ++ ys) ≡ option_or (lookup (λ k. bytes_eq name k.now) xs) (lookup (λ k. bytes_eq name k.now) ys)
+pub lookup_both : {V : Type 0} (name : List ℕ) (xs ys : List (Bor (List ℕ) × V))
+    → lookup (λ k. bytes_eq name k.now) (xs ++ ys) ≡ option_or (lookup (λ k. bytes_eq name k.now) xs) (lookup (λ k. bytes_eq name k.now) ys)
 lookup_both name [] ys = refl
 lookup_both {V} name (x ∷ xs) ys = by (bytes_eq name x.0.now) _ _ (lookup_both name xs ys)
   where
-    by : (b : Bool) (o p : Option V) → o ≡ option_or p (lookup (λ k. bytes_eq name k.now) ys) → cond b (Some x.1) o ≡ option_or (cond b (Some x.1) p) (lookup (λ k. bytes_eq name k.now) ys)
+    by : (b : Bool) (o p : Option V) → o ≡ option_or p (lookup (λ k. bytes_eq name k.now) ys)
+        → cond b (Some x.1) o ≡ option_or (cond b (Some x.1) p) (lookup (λ k. bytes_eq name k.now) ys)
     by true o p h = refl
     by false o p h = h
 
@@ -72,17 +78,21 @@ or_or None b c = refl
 or_or (Some x) b c = refl
 
 -- found among the first few, or not
-pub few_found : (t : Things) (name : List ℕ) (r : Option Kept) (x : Kept) → r ≡ lookup (λ k. bytes_eq name k.now) t.few.items → r ≡ Some x → Some x ≡ found_in t name
+pub few_found : (t : Things) (name : List ℕ) (r : Option Kept) (x : Kept) → r ≡ lookup (λ k. bytes_eq name k.now) t.few.items → r ≡ Some x
+    → Some x ≡ found_in t name
 few_found t name r x e is = sym (lookup_both name t.few.items t.many.entries ∙ ap (λ o. option_or o (found t.many name)) (sym e ∙ is))
 
-pub many_found : (t : Things) (name : List ℕ) (r o : Option Kept) → r ≡ lookup (λ k. bytes_eq name k.now) t.few.items → r ≡ None → o ≡ found t.many name → o ≡ found_in t name
+pub many_found : (t : Things) (name : List ℕ) (r o : Option Kept) → r ≡ lookup (λ k. bytes_eq name k.now) t.few.items → r ≡ None → o ≡ found t.many name
+    → o ≡ found_in t name
 many_found t name r o e is h = h ∙ sym (lookup_both name t.few.items t.many.entries ∙ ap (λ o. option_or o (found t.many name)) (sym e ∙ is))
 
-pub none_found : (t : Things) (name : List ℕ) (r : Option Kept) → r ≡ lookup (λ k. bytes_eq name k.now) t.few.items → r ≡ None → length t.many.entries ≡ 0 → None ≡ found_in t name
+pub none_found : (t : Things) (name : List ℕ) (r : Option Kept) → r ≡ lookup (λ k. bytes_eq name k.now) t.few.items → r ≡ None → length t.many.entries ≡ 0
+    → None ≡ found_in t name
 none_found t name r e is none = many_found t name r None e is (sym (ap (lookup (λ k. bytes_eq name k.now)) (none_of t.many.entries none)))
 
 -- one of the first few more
-pub few_more : (old new : Things) (key : Bor (List ℕ)) (kept : Kept) → length old.many.entries ≡ 0 → new.many.entries ≡ old.many.entries → new.few.items ≡ old.few.items ++ (key, kept) ∷ [] → (n : List ℕ) → found_in new n ≡ option_or (found_in old n) (entry key.now kept n)
+pub few_more : (old new : Things) (key : Bor (List ℕ)) (kept : Kept) → length old.many.entries ≡ 0 → new.many.entries ≡ old.many.entries
+    → new.few.items ≡ old.few.items ++ (key, kept) ∷ [] → (n : List ℕ) → found_in new n ≡ option_or (found_in old n) (entry key.now kept n)
 few_more old new key kept none same push n =
     let all : (t : Things) → t.many.entries ≡ [] → found_in t n ≡ lookup (λ k. bytes_eq n k.now) t.few.items = λ t e.
     ap (λ es. lookup (λ k. bytes_eq n k.now) (t.few.items ++ es)) e ∙ ap (lookup (λ k. bytes_eq n k.now)) (append-nil t.few.items) in
@@ -93,7 +103,9 @@ few_more old new key kept none same push n =
     ∙ ap (λ o. option_or o (entry key.now kept n)) (sym (all old empty))
 
 -- one of the others more
-pub many_more : (old new : Things) (key : List ℕ) (kept : Kept) → new.few.items ≡ old.few.items → ((n : List ℕ) → found new.many n ≡ option_or (found old.many n) (entry key kept n)) → (n : List ℕ) → found_in new n ≡ option_or (found_in old n) (entry key kept n)
+pub many_more : (old new : Things) (key : List ℕ) (kept : Kept) → new.few.items ≡ old.few.items
+    → ((n : List ℕ) → found new.many n ≡ option_or (found old.many n) (entry key kept n)) → (n : List ℕ)
+    → found_in new n ≡ option_or (found_in old n) (entry key kept n)
 many_more old new key kept same add n =
     lookup_both n new.few.items new.many.entries
     ∙ ap (λ es. option_or (lookup (λ k. bytes_eq n k.now) es) (found new.many n)) same
@@ -120,17 +132,21 @@ module _ (name : List ℕ) (few many : List (Bor (List ℕ))) where
 
 -- a key that is there already, one of the first few more, and one of the others more
 module _ (key : Bor (List ℕ)) (few many : List (Bor (List ℕ))) where
-  pub kept_as_is : (r : Bool) → r ≡ here key.now few many few → r ≡ true → few ++ many ≡ (if here key.now few many (few ++ many) then few ++ many else (few ++ many) ++ key ∷ [])
+  pub kept_as_is : (r : Bool) → r ≡ here key.now few many few → r ≡ true
+      → few ++ many ≡ (if here key.now few many (few ++ many) then few ++ many else (few ++ many) ++ key ∷ [])
   kept_as_is r e is = ap (λ b. if b then few ++ many else (few ++ many) ++ key ∷ []) (any_few key.now few many r e is)
 
-  pub few_longer : (new : List (Bor (List ℕ))) (r : Bool) → r ≡ here key.now few many few → r ≡ false → length many ≡ 0 → new ≡ few ++ key ∷ [] → new ++ many ≡ (if here key.now few many (few ++ many) then few ++ many else (few ++ many) ++ key ∷ [])
+  pub few_longer : (new : List (Bor (List ℕ))) (r : Bool) → r ≡ here key.now few many few → r ≡ false → length many ≡ 0 → new ≡ few ++ key ∷ []
+      → new ++ many ≡ (if here key.now few many (few ++ many) then few ++ many else (few ++ many) ++ key ∷ [])
   few_longer new r e is none push =
       let empty : many ≡ [] = none_of many none in
       ap (λ ks. new ++ ks) empty ∙ append-nil new ∙ push
       ∙ ap (λ ks. ks ++ key ∷ []) (sym (ap (λ ks. few ++ ks) empty ∙ append-nil few))
       ∙ ap (λ b. if b then few ++ many else (few ++ many) ++ key ∷ []) (any_none key.now few many r e is none)
 
-  pub many_longer : (new : List (Bor (List ℕ))) (r : Bool) → r ≡ here key.now few many few → r ≡ false → new ≡ (if here key.now few many many then many else many ++ key ∷ []) → few ++ new ≡ (if here key.now few many (few ++ many) then few ++ many else (few ++ many) ++ key ∷ [])
+  pub many_longer : (new : List (Bor (List ℕ))) (r : Bool) → r ≡ here key.now few many few → r ≡ false
+      → new ≡ (if here key.now few many many then many else many ++ key ∷ [])
+      → few ++ new ≡ (if here key.now few many (few ++ many) then few ++ many else (few ++ many) ++ key ∷ [])
   many_longer new r e is insert =
       ap (λ ks. few ++ ks) insert
       ∙ by (here key.now few many many)

@@ -20,10 +20,12 @@ use Rattle.sot_rules.specs.Names.{meaning, is_topic, is_plant, is_environment}
 use Rattle.sot_rules.specs.TreeSorts.{is_no_scale}
 use Rattle.sot_rules.specs.Lists.{are_same, is_among, places}
 use Rattle.sot_rules.specs.Tests.{is_empty, is_wide, starts_outside, const_place, topic_size, read_size, state_names, local_names}
-use Rattle.sot_rules.specs.Faults.{least, when, together, repeats, bounds_faults, scalar_faults, start_faults, input_faults, seen_lists, read_faults, write_lists, local_lists}
+use Rattle.sot_rules.specs.Faults.{least, when, together, repeats, bounds_faults, scalar_faults, start_faults, input_faults, seen_lists, read_faults}
+use Rattle.sot_rules.specs.Faults.{write_lists, local_lists}
 use Rattle.sot_rules.specs.Groups.{some_inputs_faults, reads_faults, writes_faults, some_writes_faults, locals_faults}
 use Rattle.sot_rules.specs.Behind.{up_to, AreBehind, is_behind, StandsBehind, names_behind, bounds_behind, scalar_behind, local_behind, locals_behind}
-use Rattle.sot_rules.proofs.Behind.{settled, stays_before, and_left, and_right, both_behind, when_behind, each_behind, repeats_behind, passes_behind, past_behind, each_front, repeats_front, passes_front}
+use Rattle.sot_rules.proofs.Behind.{settled, stays_before, and_left, and_right, both_behind, when_behind, each_behind, repeats_behind, passes_behind}
+use Rattle.sot_rules.proofs.Behind.{past_behind, each_front, repeats_front, passes_front}
 
 module _ (from : Span) where
   same_both : (xs ys us vs : List TypeFault) → up_to from xs ≡ up_to from us → up_to from ys ≡ up_to from vs → up_to from (xs ++ ys) ≡ up_to from (us ++ vs)
@@ -48,14 +50,17 @@ module _ (from : Span) where
 
     -- a name that a plant takes in, and one that it sees
     input_behind : (q : Plant) (i : Ident) → is_behind from i.at ≡ true → AreBehind from (input_faults p q i)
-    input_behind q i h = both_behind from (when (not (is_topic (meaning p i))) i.at Unknown) _ (when_behind from _ i.at Unknown h) (when_behind from (is_topic (meaning p i) && is_among i (state_names q)) i.at Twice h)
+    input_behind q i h =
+        both_behind from (when (not (is_topic (meaning p i))) i.at Unknown) _ (when_behind from _ i.at Unknown h)
+        (when_behind from (is_topic (meaning p i) && is_among i (state_names q)) i.at Twice h)
 
     sight_behind : (q : Plant) (i : Ident) → is_behind from i.at ≡ true → AreBehind from (together (seen_lists p q i))
     sight_behind q i h =
         both_behind from (when (not (is_topic (meaning p i)) && not (is_plant (meaning p i))) i.at Unknown) _ (when_behind from _ i.at Unknown h)
         (both_behind from (when (is_topic (meaning p i)) i.at KindDiffers) _ (when_behind from _ i.at KindDiffers h)
         (both_behind from (when (is_plant (meaning p i) && are_same i q.name) i.at KindDiffers) _ (when_behind from _ i.at KindDiffers h)
-        (both_behind from (when (is_plant (meaning p i) && (not (are_same i q.name) && is_among i (state_names q))) i.at Twice) [] (when_behind from _ i.at Twice h) refl)))
+        (both_behind from (when (is_plant (meaning p i) && (not (are_same i q.name) && is_among i (state_names q))) i.at Twice) []
+        (when_behind from _ i.at Twice h) refl)))
 
     writes_behind : (n : Node) → names_behind from n.writes ≡ true → AreBehind from (writes_faults p n)
     writes_behind n e =
@@ -63,12 +68,14 @@ module _ (from : Span) where
         (each_behind from (λ i. is_behind from i.at) (λ i. together (write_lists p n i)) (write_behind n) n.writes e)
         (both_behind from (repeats [] n.writes) _ (repeats_behind from [] n.writes e) (passes_behind from (λ i. topic_size (meaning p i)) 8 0 n.writes e))
 
-    writes_front : (n : Node) (front rest : List Ident) → names_behind from rest ≡ true → up_to from (some_writes_faults p n (front ++ rest)) ≡ up_to from (some_writes_faults p n front)
+    writes_front : (n : Node) (front rest : List Ident) → names_behind from rest ≡ true
+        → up_to from (some_writes_faults p n (front ++ rest)) ≡ up_to from (some_writes_faults p n front)
     writes_front n front rest e =
         same_both _ _ (flat_map (λ i. together (write_lists p n i)) front) _ (each_front from rest e (λ i. together (write_lists p n i)) (write_behind n) front)
         (same_both _ _ (repeats [] front) _ (repeats_front from rest e [] front) (passes_front from rest e (λ i. topic_size (meaning p i)) 8 0 front))
 
-    inputs_front : (q : Plant) (front rest : List Ident) → names_behind from rest ≡ true → up_to from (some_inputs_faults p q (front ++ rest)) ≡ up_to from (some_inputs_faults p q front)
+    inputs_front : (q : Plant) (front rest : List Ident) → names_behind from rest ≡ true
+        → up_to from (some_inputs_faults p q (front ++ rest)) ≡ up_to from (some_inputs_faults p q front)
     inputs_front q front rest e =
         same_both _ _ (flat_map (input_faults p q) front) _ (each_front from rest e (input_faults p q) (input_behind q) front)
         (same_both _ _ (repeats [] front) _ (repeats_front from rest e [] front) (passes_front from rest e (λ i. topic_size (meaning p i)) 8 0 front))
@@ -81,29 +88,35 @@ module _ (from : Span) where
     bounds_are_behind : AreBehind from (bounds_faults limited s b)
     bounds_are_behind =
         both_behind from (when (differ s (Scaled b.lo.scale)) b.lo.at ScaleDiffers) _ (when_behind from _ b.lo.at ScaleDiffers lo_behind)
-        (both_behind from (when (differ s (Scaled b.hi.scale)) b.hi.at ScaleDiffers) _ (when_behind from _ b.hi.at ScaleDiffers (and_right (is_behind from b.lo.at) (is_behind from b.hi.at) e))
+        (both_behind from (when (differ s (Scaled b.hi.scale)) b.hi.at ScaleDiffers) _
+        (when_behind from _ b.hi.at ScaleDiffers (and_right (is_behind from b.lo.at) (is_behind from b.hi.at) e))
         (both_behind from (when (is_empty b) b.lo.at RangeEmpty) _ (when_behind from _ b.lo.at RangeEmpty lo_behind)
         (both_behind from (when (limited && is_wide b) b.lo.at RangeWide) [] (when_behind from _ b.lo.at RangeWide lo_behind) refl)))
 
   pub scalar_is_behind : (limited : Bool) (s : Scalar) → scalar_behind from s ≡ true → AreBehind from (scalar_faults limited s)
   scalar_is_behind limited (Int b) e = bounds_are_behind limited (Scaled 0) b e
   scalar_is_behind limited (Fix d b) e =
-      both_behind from (when (is_no_scale d) d.at ScaleDiffers) _ (when_behind from (is_no_scale d) d.at ScaleDiffers (and_left (is_behind from d.at) (bounds_behind from b) e))
+      both_behind from (when (is_no_scale d) d.at ScaleDiffers) _
+      (when_behind from (is_no_scale d) d.at ScaleDiffers (and_left (is_behind from d.at) (bounds_behind from b) e))
       (bounds_are_behind limited (scale_sort d) b (and_right (is_behind from d.at) (bounds_behind from b) e))
   scalar_is_behind limited (BoolScalar at) e = refl
 
   start_is_behind : (s : Scalar) (c : Const) → is_behind from (const_place c) ≡ true → AreBehind from (start_faults s c)
   start_is_behind s c h =
-      both_behind from (when (are_mixed (scalar_sort s) (const_sort c)) (const_place c) KindDiffers ++ when (differ (scalar_sort s) (const_sort c)) (const_place c) ScaleDiffers) _
-      (both_behind from (when (are_mixed (scalar_sort s) (const_sort c)) (const_place c) KindDiffers) _ (when_behind from _ (const_place c) KindDiffers h) (when_behind from _ (const_place c) ScaleDiffers h))
+      both_behind from (when (are_mixed (scalar_sort s) (const_sort c)) (const_place c) KindDiffers
+      ++ when (differ (scalar_sort s) (const_sort c)) (const_place c) ScaleDiffers) _
+      (both_behind from (when (are_mixed (scalar_sort s) (const_sort c)) (const_place c) KindDiffers) _ (when_behind from _ (const_place c) KindDiffers h)
+      (when_behind from _ (const_place c) ScaleDiffers h))
       (when_behind from (starts_outside s c) (const_place c) InitOutside h)
 
   local_is_behind : (n : Node) (l : Local) → local_behind from l ≡ true → AreBehind from (together (local_lists n l))
   local_is_behind n l e =
       let rest = and_right (is_behind from l.name.at) (scalar_behind from l.scalar && is_behind from (const_place l.init)) e in
-      both_behind from (when (is_among l.name (n.reads ++ n.writes)) l.name.at Twice) _ (when_behind from _ l.name.at Twice (and_left (is_behind from l.name.at) _ e))
+      both_behind from (when (is_among l.name (n.reads ++ n.writes)) l.name.at Twice) _
+      (when_behind from _ l.name.at Twice (and_left (is_behind from l.name.at) _ e))
       (both_behind from (scalar_faults false l.scalar) _ (scalar_is_behind false l.scalar (and_left (scalar_behind from l.scalar) _ rest))
-      (both_behind from (start_faults l.scalar l.init) [] (start_is_behind l.scalar l.init (and_right (scalar_behind from l.scalar) (is_behind from (const_place l.init)) rest)) refl))
+      (both_behind from (start_faults l.scalar l.init) [] (start_is_behind l.scalar l.init
+      (and_right (scalar_behind from l.scalar) (is_behind from (const_place l.init)) rest)) refl))
 
   local_names_behind : (ls : List Local) → locals_behind from ls ≡ true → names_behind from (map (λ l. l.name) ls) ≡ true
   local_names_behind [] e = refl
@@ -119,25 +132,31 @@ module _ (from : Span) where
       (both_behind from (repeats [] (local_names n)) _ (repeats_behind from [] (local_names n) names)
       (past_behind from (places (local_names n)) 16 (list_all-map (is_behind from) (λ i. i.at) (local_names n) ∙ names)))
 
-pub front_noted : (p : Program) (n : Node) (front rest : List Ident) (o : Option TypeFault) (f : TypeFault) → front ++ rest ≡ n.reads → (names_behind f.at rest && (names_behind f.at n.writes && locals_behind f.at n.locals)) ≡ true → Some f ≡ least o (reads_faults p front) → Some f ≡ least o (reads_faults p n.reads ++ (writes_faults p n ++ locals_faults n))
+pub front_noted : (p : Program) (n : Node) (front rest : List Ident) (o : Option TypeFault) (f : TypeFault) → front ++ rest ≡ n.reads
+    → (names_behind f.at rest && (names_behind f.at n.writes && locals_behind f.at n.locals)) ≡ true → Some f ≡ least o (reads_faults p front)
+    → Some f ≡ least o (reads_faults p n.reads ++ (writes_faults p n ++ locals_faults n))
 front_noted p n front rest o f is e noted =
     let from = f.at in
     let more = and_right (names_behind from rest) (names_behind from n.writes && locals_behind from n.locals) e in
-    let reads : up_to from (reads_faults p n.reads) ≡ up_to from (reads_faults p front) = sym (ap (λ is. up_to from (reads_faults p is)) is) ∙ reads_front from p front rest (and_left (names_behind from rest) _ e) in
+    let reads : up_to from (reads_faults p n.reads) ≡ up_to from (reads_faults p front) = sym (ap (λ is. up_to from (reads_faults p is)) is)
+    ∙ reads_front from p front rest (and_left (names_behind from rest) _ e) in
     let others : AreBehind from (writes_faults p n ++ locals_faults n) =
     both_behind from (writes_faults p n) (locals_faults n)
     (writes_behind from p n (and_left (names_behind from n.writes) _ more))
     (locals_are_behind from n (and_right (names_behind from n.writes) (locals_behind from n.locals) more)) in
     sym (settled o (reads_faults p n.reads ++ (writes_faults p n ++ locals_faults n)) (reads_faults p front) f
-    (filter-append _ (reads_faults p n.reads) (writes_faults p n ++ locals_faults n) ∙ ap₂ (λ x y. x ++ y) reads others ∙ append-nil (up_to from (reads_faults p front)))
+    (filter-append _ (reads_faults p n.reads) (writes_faults p n ++ locals_faults n) ∙ ap₂ (λ x y. x ++ y) reads others
+    ∙ append-nil (up_to from (reads_faults p front)))
     (sym noted))
 
 -- things of a list whose names stand in it before, where the rest of the list stands behind the first of them
-pub front_repeats : {X : Type 0} (f : X → Ident) (items front rest : List X) (o : Option TypeFault) (first : TypeFault) → front ++ rest ≡ items → names_behind first.at (map f rest) ≡ true → Some first ≡ least o (repeats [] (map f front)) → Some first ≡ least o (repeats [] (map f items))
+pub front_repeats : {X : Type 0} (f : X → Ident) (items front rest : List X) (o : Option TypeFault) (first : TypeFault) → front ++ rest ≡ items
+    → names_behind first.at (map f rest) ≡ true → Some first ≡ least o (repeats [] (map f front)) → Some first ≡ least o (repeats [] (map f items))
 front_repeats f items front rest o first is e noted =
     let from = first.at in
     sym (settled o (repeats [] (map f items)) (repeats [] (map f front)) first
-    (ap (λ xs. up_to from (repeats [] (map f xs))) (sym is) ∙ ap (λ names. up_to from (repeats [] names)) (map-append f front rest) ∙ repeats_front from (map f rest) e [] (map f front))
+    (ap (λ xs. up_to from (repeats [] (map f xs))) (sym is) ∙ ap (λ names. up_to from (repeats [] names)) (map-append f front rest)
+    ∙ repeats_front from (map f rest) e [] (map f front))
     (sym noted))
 
 -- a name behind the first fault, by the list in which it stands
@@ -155,14 +174,16 @@ module _ (p : Program) (i : Ident) (o : Option TypeFault) (behind : StandsBehind
   sight_stays q = stays_by _ (sight_behind behind.0.at p q i behind.2)
 
 -- names that a node writes, where the rest of them stands behind their first fault
-pub front_writes : (p : Program) (n : Node) (names front rest : List Ident) (o : Option TypeFault) (f : TypeFault) → front ++ rest ≡ names → names_behind f.at rest ≡ true → Some f ≡ least o (some_writes_faults p n front) → Some f ≡ least o (some_writes_faults p n names)
+pub front_writes : (p : Program) (n : Node) (names front rest : List Ident) (o : Option TypeFault) (f : TypeFault) → front ++ rest ≡ names
+    → names_behind f.at rest ≡ true → Some f ≡ least o (some_writes_faults p n front) → Some f ≡ least o (some_writes_faults p n names)
 front_writes p n names front rest o f is e noted =
     sym (settled o (some_writes_faults p n names) (some_writes_faults p n front) f
     (ap (λ is. up_to f.at (some_writes_faults p n is)) (sym is) ∙ writes_front f.at p n front rest e)
     (sym noted))
 
 -- inputs of a plant, where the rest of them stands behind their first fault
-pub front_inputs : (p : Program) (q : Plant) (names front rest : List Ident) (o : Option TypeFault) (f : TypeFault) → front ++ rest ≡ names → names_behind f.at rest ≡ true → Some f ≡ least o (some_inputs_faults p q front) → Some f ≡ least o (some_inputs_faults p q names)
+pub front_inputs : (p : Program) (q : Plant) (names front rest : List Ident) (o : Option TypeFault) (f : TypeFault) → front ++ rest ≡ names
+    → names_behind f.at rest ≡ true → Some f ≡ least o (some_inputs_faults p q front) → Some f ≡ least o (some_inputs_faults p q names)
 front_inputs p q names front rest o f is e noted =
     sym (settled o (some_inputs_faults p q names) (some_inputs_faults p q front) f
     (ap (λ is. up_to f.at (some_inputs_faults p q is)) (sym is) ∙ inputs_front f.at p q front rest e)

@@ -16,7 +16,9 @@ use Rattle.sot_rules.specs.NameTables.{found, entry}
 use Rattle.sot_rules.specs.Indexes.{is_named, is_key, declared_parts, sort_in}
 use Rattle.sot_rules.proofs.NameTables.{or_false, placed, position_push}
 
-pub places_more : {S : Type 0} (ds : List Declaration) (d : Declaration) (old new : IndexMap (Bor (List ℕ)) ℕ S) (key : List ℕ) (place : ℕ) → ((n : List ℕ) → found new n ≡ option_or (found old n) (entry key place n)) → ((n : List ℕ) → found old n ≡ position (is_named n) ds) → key ≡ (declared_name d).name → place ≡ length ds → (n : List ℕ) → found new n ≡ position (is_named n) (ds ++ d ∷ [])
+pub places_more : {S : Type 0} (ds : List Declaration) (d : Declaration) (old new : IndexMap (Bor (List ℕ)) ℕ S) (key : List ℕ) (place : ℕ)
+    → ((n : List ℕ) → found new n ≡ option_or (found old n) (entry key place n)) → ((n : List ℕ) → found old n ≡ position (is_named n) ds)
+    → key ≡ (declared_name d).name → place ≡ length ds → (n : List ℕ) → found new n ≡ position (is_named n) (ds ++ d ∷ [])
 places_more ds d old new key place add held named counted n =
     add n
     ∙ ap (λ o. option_or o (entry key place n)) (held n)
@@ -24,7 +26,8 @@ places_more ds d old new key place add held named counted n =
     ∙ ap (λ k. option_or (position (is_named n) ds) (entry (declared_name d).name k n)) counted
     ∙ sym (position_push (is_named n) ds d)
 
-pub owned_more : (ds : List Declaration) (d : Declaration) (old new : List (Bor (List ℕ))) → ((i : Ident) → is_key new i ≡ (is_key old i || is_plant_of i d)) → ((i : Ident) → is_key old i ≡ list_any (is_plant_of i) ds) → (i : Ident) → is_key new i ≡ list_any (is_plant_of i) (ds ++ d ∷ [])
+pub owned_more : (ds : List Declaration) (d : Declaration) (old new : List (Bor (List ℕ))) → ((i : Ident) → is_key new i ≡ (is_key old i || is_plant_of i d))
+    → ((i : Ident) → is_key old i ≡ list_any (is_plant_of i) ds) → (i : Ident) → is_key new i ≡ list_any (is_plant_of i) (ds ++ d ∷ [])
 owned_more ds d old new add held i =
     add i
     ∙ ap (λ b. b || is_plant_of i d) (held i)
@@ -33,7 +36,10 @@ owned_more ds d old new add held i =
 pub counted : {X Y Z : Type 0} (f : X → Z) (g : Y → Z) (xs : List X) (ys : List Y) → map f xs ≡ map g ys → length xs ≡ length ys
 counted f g xs ys e = sym (length-map xs f) ∙ ap length e ∙ length-map ys g
 
-pub parts_more : (ds : List Declaration) (d : Declaration) (old new : List PartTable) (t : PartTable) → new ≡ old ++ t ∷ [] → ((n : List ℕ) → sort_in (parts_of t) n ≡ sort_in (declared_parts d) n) → ((n : List ℕ) → map (λ t. sort_in (parts_of t) n) old ≡ map (λ d. sort_in (declared_parts d) n) ds) → (n : List ℕ) → map (λ t. sort_in (parts_of t) n) new ≡ map (λ d. sort_in (declared_parts d) n) (ds ++ d ∷ [])
+pub parts_more : (ds : List Declaration) (d : Declaration) (old new : List PartTable) (t : PartTable) → new ≡ old ++ t ∷ []
+    → ((n : List ℕ) → sort_in (parts_of t) n ≡ sort_in (declared_parts d) n)
+    → ((n : List ℕ) → map (λ t. sort_in (parts_of t) n) old ≡ map (λ d. sort_in (declared_parts d) n) ds) → (n : List ℕ)
+    → map (λ t. sort_in (parts_of t) n) new ≡ map (λ d. sort_in (declared_parts d) n) (ds ++ d ∷ [])
 parts_more ds d old new t push table held n =
     ap (map (λ t. sort_in (parts_of t) n)) push
     ∙ map-append (λ t. sort_in (parts_of t) n) old (t ∷ [])

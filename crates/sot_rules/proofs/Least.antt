@@ -1,5 +1,6 @@
 -- What the least of a list is.
-use Rattle.std.proofs.Common.{◌≡◌, ℕ, ◌<◌, ◌≤◌, ◌⊎◌, inl, inr, List, [], ◌∷◌, ◌++◌, Option, Some, refl, ap, sym, ◌∙◌, subst, arith, true, false, Bool, ◌||◌, ◌&&◌, ◌==◌, nat_lt, if◌then◌else◌, fold}
+use Rattle.std.proofs.Common.{◌≡◌, ℕ, ◌<◌, ◌≤◌, ◌⊎◌, inl, inr, List, [], ◌∷◌, ◌++◌, Option, Some, refl, ap, sym, ◌∙◌, subst, arith, true, false, Bool, ◌||◌}
+use Rattle.std.proofs.Common.{◌&&◌, ◌==◌, nat_lt, if◌then◌else◌, fold}
 use Rattle.std.proofs.lemmas.List.Sums.{fold-append}
 use Rattle.sot_text.specs.declared.token.Span.{Span}
 use Rattle.sot_text.specs.Place.{rank}
@@ -60,8 +61,10 @@ abbrev IsLesser : TypeFault → TypeFault → TypeFault → Type 0
 IsLesser f g h = ((h ≡ f) ⊎ (h ≡ g)) × IsNotAfter h f × IsNotAfter h g
 
 lesser_by : (f g h : TypeFault) (b : Bool) → is_before g f ≡ b → (if b then Some g else Some f) ≡ Some h → IsLesser f g h
-lesser_by f g h true e i = let q : g ≡ h = some_is i in (inr (sym q), subst (λ z. IsNotAfter z f) q (before_is g f e), subst (λ z. IsNotAfter z g) q (not_after_refl g))
-lesser_by f g h false e i = let q : f ≡ h = some_is i in (inl (sym q), subst (λ z. IsNotAfter z f) q (not_after_refl f), subst (λ z. IsNotAfter z g) q (not_before_is g f e))
+lesser_by f g h true e i =
+    let q : g ≡ h = some_is i in (inr (sym q), subst (λ z. IsNotAfter z f) q (before_is g f e), subst (λ z. IsNotAfter z g) q (not_after_refl g))
+lesser_by f g h false e i =
+    let q : f ≡ h = some_is i in (inl (sym q), subst (λ z. IsNotAfter z f) q (not_after_refl f), subst (λ z. IsNotAfter z g) q (not_before_is g f e))
 
 lesser_is : (f g h : TypeFault) → lesser (Some f) g ≡ Some h → IsLesser f g h
 lesser_is f g h e = lesser_by f g h (is_before g f) refl e
@@ -86,7 +89,8 @@ least_step f x m h xs a b = (
 
 pub least_is : (f : TypeFault) (xs : List TypeFault) (h : TypeFault) → least (Some f) xs ≡ Some h → IsLeast f xs h
 least_is f [] h e = let q : f ≡ h = some_is e in (inl (sym q), subst (λ z. IsNotAfter z f) q (not_after_refl f), λ g i. absurd i)
-least_is f (x ∷ xs) h e = let s = lesser_some f x in least_step f x s.0 h xs (lesser_is f x s.0 s.1) (least_is s.0 xs h (subst (λ z. fold lesser z xs ≡ Some h) s.1 e))
+least_is f (x ∷ xs) h e =
+    let s = lesser_some f x in least_step f x s.0 h xs (lesser_is f x s.0 s.1) (least_is s.0 xs h (subst (λ z. fold lesser z xs ≡ Some h) s.1 e))
 
 -- a list with a fault has a least one
 pub least_some : (f : TypeFault) (xs : List TypeFault) → (h : TypeFault) × (least (Some f) xs ≡ Some h)

@@ -12,7 +12,8 @@ module _ {X Y : Type 0} (f : X → Y) (at : Y → Span) (xs : List X) (limit : �
   mapped = slice_get-map at (map f xs) limit ∙ ap (option_map at) (slice_get-map f xs limit)
 
   -- one item stands past the limit
-  pub past_noted : (x : X) (n : Y) (a b : Option TypeFault) → limit < length xs → x ≡ get_or xs limit x → n ≡ f x → b ≡ least a (when true (at n) TooMany) → b ≡ least a (past limit (map at (map f xs)))
+  pub past_noted : (x : X) (n : Y) (a b : Option TypeFault) → limit < length xs → x ≡ get_or xs limit x → n ≡ f x → b ≡ least a (when true (at n) TooMany)
+      → b ≡ least a (past limit (map at (map f xs)))
   past_noted x n a b lt e named noted =
       noted
       ∙ ap (λ z. least a (when true (at z) TooMany)) named

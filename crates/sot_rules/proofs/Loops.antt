@@ -1,5 +1,6 @@
 -- Steps of the loops that note faults item by item.
-use Rattle.std.proofs.Common.{◌≡◌, ℕ, ◌+◌, ◌<◌, ◌≤◌, List, [], ◌∷◌, ◌++◌, length, get_or, drop, map, refl, sym, ap, ◌∙◌, Option, Some, Bool, true, false, ◌||◌, fold}
+use Rattle.std.proofs.Common.{◌≡◌, ℕ, ◌+◌, ◌<◌, ◌≤◌, List, [], ◌∷◌, ◌++◌, length, get_or, drop, map, refl, sym, ap, ◌∙◌, Option, Some, Bool, true, false, ◌||◌}
+use Rattle.std.proofs.Common.{fold}
 use Rattle.std.specs.List.{list_any, slice_get, flat_map}
 use Rattle.std.proofs.lemmas.List.{drop_more, drop_all}
 use Rattle.std.proofs.lemmas.Option.{slice_get_within, get_or_from_slice_get}
@@ -16,7 +17,9 @@ pub rest_is : {X : Type 0} (xs : List X) (i : ℕ) (x : X) → i < length xs →
 rest_is xs i x lt e = drop_more xs i x lt ∙ ap (λ z. z ∷ drop (i + 1) xs) (sym e)
 
 -- an item's faults are noted, and then what is left
-pub step_least : {X : Type 0} (faults : List X → List TypeFault) (one : X → List TypeFault) → ((x : X) (more : List X) → faults (x ∷ more) ≡ one x ++ faults more) → (xs : List X) (i : ℕ) (x : X) (a b c : Option TypeFault) → i < length xs → x ≡ get_or xs i x → least a (faults (drop i xs)) ≡ c → b ≡ least a (one x) → least b (faults (drop (i + 1) xs)) ≡ c
+pub step_least : {X : Type 0} (faults : List X → List TypeFault) (one : X → List TypeFault)
+    → ((x : X) (more : List X) → faults (x ∷ more) ≡ one x ++ faults more) → (xs : List X) (i : ℕ) (x : X) (a b c : Option TypeFault) → i < length xs
+    → x ≡ get_or xs i x → least a (faults (drop i xs)) ≡ c → b ≡ least a (one x) → least b (faults (drop (i + 1) xs)) ≡ c
 step_least faults one shape xs i x a b c lt e inv now =
     ap (λ z. least z (faults (drop (i + 1) xs))) now
     ∙ sym (least_append a (one x) (faults (drop (i + 1) xs)))
@@ -25,23 +28,31 @@ step_least faults one shape xs i x a b c lt e inv now =
     ∙ inv
 
 -- the same of an item that is looked up
-pub step_got : {X : Type 0} (faults : List X → List TypeFault) (one : X → List TypeFault) → ((x : X) (more : List X) → faults (x ∷ more) ≡ one x ++ faults more) → (xs : List X) (i : ℕ) (x : X) (a b c : Option TypeFault) → slice_get xs i ≡ Some x → least a (faults (drop i xs)) ≡ c → b ≡ least a (one x) → least b (faults (drop (i + 1) xs)) ≡ c
+pub step_got : {X : Type 0} (faults : List X → List TypeFault) (one : X → List TypeFault) → ((x : X) (more : List X) → faults (x ∷ more) ≡ one x ++ faults more)
+    → (xs : List X) (i : ℕ) (x : X) (a b c : Option TypeFault) → slice_get xs i ≡ Some x → least a (faults (drop i xs)) ≡ c → b ≡ least a (one x)
+    → least b (faults (drop (i + 1) xs)) ≡ c
 step_got faults one shape xs i x a b c got inv now =
     step_least faults one shape xs i x a b c (slice_get_within xs i x got) (sym (get_or_from_slice_get xs i x x got)) inv now
 
 -- the same where each item has a list of its own
-pub step_each : {X : Type 0} (one : X → List TypeFault) (xs : List X) (i : ℕ) (x : X) (a b c : Option TypeFault) → i < length xs → x ≡ get_or xs i x → least a (flat_map one (drop i xs)) ≡ c → b ≡ least a (one x) → least b (flat_map one (drop (i + 1) xs)) ≡ c
+pub step_each : {X : Type 0} (one : X → List TypeFault) (xs : List X) (i : ℕ) (x : X) (a b c : Option TypeFault) → i < length xs → x ≡ get_or xs i x
+    → least a (flat_map one (drop i xs)) ≡ c → b ≡ least a (one x) → least b (flat_map one (drop (i + 1) xs)) ≡ c
 step_each one xs i x a b c lt e inv now = step_least (λ ys. flat_map one ys) one (λ y more. refl) xs i x a b c lt e inv now
 
-pub step_viewed : {X Y : Type 0} (view : X → Y) (one : Y → List TypeFault) (xs : List X) (i : ℕ) (x : X) (a b c : Option TypeFault) → i < length xs → x ≡ get_or xs i x → least a (flat_map one (map view (drop i xs))) ≡ c → b ≡ least a (one (view x)) → least b (flat_map one (map view (drop (i + 1) xs))) ≡ c
+pub step_viewed : {X Y : Type 0} (view : X → Y) (one : Y → List TypeFault) (xs : List X) (i : ℕ) (x : X) (a b c : Option TypeFault) → i < length xs
+    → x ≡ get_or xs i x → least a (flat_map one (map view (drop i xs))) ≡ c → b ≡ least a (one (view x))
+    → least b (flat_map one (map view (drop (i + 1) xs))) ≡ c
 step_viewed view one xs i x a b c lt e inv now = step_least (λ ys. flat_map one (map view ys)) (λ y. one (view y)) (λ y more. refl) xs i x a b c lt e inv now
 
 -- no item is left
-pub none_left : {X : Type 0} (faults : List X → List TypeFault) → faults [] ≡ [] → (xs : List X) (i : ℕ) (a c : Option TypeFault) → length xs ≤ i → least a (faults (drop i xs)) ≡ c → a ≡ c
+pub none_left : {X : Type 0} (faults : List X → List TypeFault) → faults [] ≡ [] → (xs : List X) (i : ℕ) (a c : Option TypeFault) → length xs ≤ i
+    → least a (faults (drop i xs)) ≡ c → a ≡ c
 none_left faults empty xs i a c le inv = ap (least a) (sym (ap faults (drop_all i xs le) ∙ empty)) ∙ inv
 
 -- an operand is taken in, and then what is left
-pub step_fold : {X : Type 0} (of : List X → List Sort) (one : X → Sort) → ((x : X) (more : List X) → of (x ∷ more) ≡ one x ∷ of more) → (xs : List X) (i : ℕ) (x : X) (a b c : Operands) → i < length xs → x ≡ get_or xs i x → fold with_operand a (of (drop i xs)) ≡ c → b ≡ with_operand a (one x) → fold with_operand b (of (drop (i + 1) xs)) ≡ c
+pub step_fold : {X : Type 0} (of : List X → List Sort) (one : X → Sort) → ((x : X) (more : List X) → of (x ∷ more) ≡ one x ∷ of more)
+    → (xs : List X) (i : ℕ) (x : X) (a b c : Operands) → i < length xs → x ≡ get_or xs i x → fold with_operand a (of (drop i xs)) ≡ c
+    → b ≡ with_operand a (one x) → fold with_operand b (of (drop (i + 1) xs)) ≡ c
 step_fold of one shape xs i x a b c lt e inv now =
     ap (λ z. fold with_operand z (of (drop (i + 1) xs))) now
     ∙ ap (fold with_operand a) (sym (shape x (drop (i + 1) xs)))

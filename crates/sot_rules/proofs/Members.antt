@@ -43,7 +43,8 @@ pub in_when : (b : Bool) (at : Span) (k : TypeKind) → b ≡ true → In (fault
 in_when true at k e = inl refl
 in_when false at k e = cc
 
-pub of_when : (P : Span → TypeKind → Type 0) (b : Bool) (w : Span) (kind : TypeKind) → (b ≡ true → P w kind) → (at : Span) (k : TypeKind) → In (fault at k) (when b w kind) → P at k
+pub of_when : (P : Span → TypeKind → Type 0) (b : Bool) (w : Span) (kind : TypeKind) → (b ≡ true → P w kind) → (at : Span) (k : TypeKind)
+    → In (fault at k) (when b w kind) → P at k
 of_when P true w kind make at k (inl e) = subst (λ (z : TypeFault). P z.at z.kind) e (make refl)
 of_when P true w kind make at k (inr h) = absurd h
 of_when P false w kind make at k h = absurd h
@@ -55,7 +56,8 @@ in_kind kind scale at e = before (fault at KindDiffers) (when kind at KindDiffer
 pub in_scale : (kind scale : Bool) (at : Span) → scale ≡ true → In (fault at ScaleDiffers) (misfits kind scale at)
 in_scale kind scale at e = after (fault at ScaleDiffers) (when kind at KindDiffers) _ (in_when scale at ScaleDiffers e)
 
-pub of_misfits : (P : Span → TypeKind → Type 0) (kind scale : Bool) (w : Span) → (kind ≡ true → P w KindDiffers) → (scale ≡ true → P w ScaleDiffers) → (at : Span) (k : TypeKind) → In (fault at k) (misfits kind scale w) → P at k
+pub of_misfits : (P : Span → TypeKind → Type 0) (kind scale : Bool) (w : Span) → (kind ≡ true → P w KindDiffers) → (scale ≡ true → P w ScaleDiffers)
+    → (at : Span) (k : TypeKind) → In (fault at k) (misfits kind scale w) → P at k
 of_misfits P kind scale w one two at k h =
     split (fault at k) (when kind w KindDiffers) (when scale w ScaleDiffers) h
     (of_when P kind w KindDiffers one at k)
@@ -66,7 +68,8 @@ pub in_reading : (r : Reading) (at : Span) → r ≡ nothing_at at → In (fault
 in_reading (gives s) at e = cc
 in_reading (nothing_at w) at e = inl (let q : w ≡ at = cc in ap (λ z. fault z Unknown) q)
 
-pub of_reading : (P : Span → TypeKind → Type 0) (r : Reading) → ((w : Span) → r ≡ nothing_at w → P w Unknown) → (at : Span) (k : TypeKind) → In (fault at k) (reading_faults r) → P at k
+pub of_reading : (P : Span → TypeKind → Type 0) (r : Reading) → ((w : Span) → r ≡ nothing_at w → P w Unknown) → (at : Span) (k : TypeKind)
+    → In (fault at k) (reading_faults r) → P at k
 of_reading P (gives s) make at k h = absurd h
 of_reading P (nothing_at w) make at k (inl e) = subst (λ (z : TypeFault). P z.at z.kind) e (make w refl)
 of_reading P (nothing_at w) make at k (inr h) = absurd h

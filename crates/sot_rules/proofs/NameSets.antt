@@ -29,14 +29,16 @@ module _ (n : List ℕ) (seen : List (List ℕ)) (j : Ident) where
       let there : list_any (bytes_eq n) seen ≡ true = ap (λ z. list_any (bytes_eq z) seen) ((bytes_eq-Decides n j.name).0 e) ∙ h in
       there ∙ sym (ap (λ b. b || true) there)
 
-  one_by : (b : Bool) → list_any (bytes_eq j.name) seen ≡ b → list_any (bytes_eq n) (if b then seen else seen ++ j.name ∷ []) ≡ (list_any (bytes_eq n) seen || bytes_eq n j.name)
+  one_by : (b : Bool) → list_any (bytes_eq j.name) seen ≡ b
+      → list_any (bytes_eq n) (if b then seen else seen ++ j.name ∷ []) ≡ (list_any (bytes_eq n) seen || bytes_eq n j.name)
   one_by true h = known (bytes_eq n j.name) refl h
   one_by false h = list_any-append (bytes_eq n) seen (j.name ∷ []) ∙ ap (λ b. list_any (bytes_eq n) seen || b) (sym (or_none (bytes_eq n j.name)))
 
   one_more : list_any (bytes_eq n) (with_name seen j) ≡ (list_any (bytes_eq n) seen || bytes_eq n j.name)
   one_more = one_by (list_any (bytes_eq j.name) seen) refl
 
-all_more : (n : List ℕ) (seen : List (List ℕ)) (names : List Ident) → list_any (bytes_eq n) (fold with_name seen names) ≡ (list_any (bytes_eq n) seen || among n names)
+all_more : (n : List ℕ) (seen : List (List ℕ)) (names : List Ident)
+    → list_any (bytes_eq n) (fold with_name seen names) ≡ (list_any (bytes_eq n) seen || among n names)
 all_more n seen [] = or_none (list_any (bytes_eq n) seen)
 all_more n seen (j ∷ names) =
     all_more n (with_name seen j) names
@@ -44,7 +46,8 @@ all_more n seen (j ∷ names) =
     ∙ or_assoc (list_any (bytes_eq n) seen) (bytes_eq n j.name) (among n names)
 
 -- names that are added to those of a list
-pub more_held : (old_keys keys : List (Bor (List ℕ))) (more : List Ident) → seen_names keys ≡ fold with_name (seen_names old_keys) more → (names : List Ident) → HasNames old_keys names → HasNames keys (names ++ more)
+pub more_held : (old_keys keys : List (Bor (List ℕ))) (more : List Ident) → seen_names keys ≡ fold with_name (seen_names old_keys) more → (names : List Ident)
+    → HasNames old_keys names → HasNames keys (names ++ more)
 more_held old_keys keys more added names held i =
     ap (list_any (bytes_eq i.name)) added
     ∙ all_more i.name (seen_names old_keys) more
@@ -65,7 +68,8 @@ listed_held keys xs ys held e i = held i ∙ ap (is_among i) e
 pub one_held : (keys : List (Bor (List ℕ))) (xs ys : List Ident) → HasNames keys (same xs) → xs ≡ ys → HasNames keys ys
 one_held keys xs ys held e i = held i ∙ ap (is_among i) (map-id xs ∙ e)
 
-pub two_held : (old_keys keys : List (Bor (List ℕ))) (names xs ys : List Ident) → HasNames old_keys names → ((some : List Ident) → HasNames old_keys some → HasNames keys (some ++ same xs)) → xs ≡ ys → HasNames keys (names ++ ys)
+pub two_held : (old_keys keys : List (Bor (List ℕ))) (names xs ys : List Ident) → HasNames old_keys names
+    → ((some : List Ident) → HasNames old_keys some → HasNames keys (some ++ same xs)) → xs ≡ ys → HasNames keys (names ++ ys)
 two_held old_keys keys names xs ys held more e i = more names held i ∙ ap (λ z. is_among i (names ++ z)) (map-id xs ∙ e)
 
 pub mapped_held : {X : Type 0} (f : X → Ident) (keys : List (Bor (List ℕ))) (xs ys : List X) → HasNames keys (map f xs) → xs ≡ ys → HasNames keys (map f ys)

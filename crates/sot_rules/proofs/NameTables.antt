@@ -1,5 +1,6 @@
 -- A table of names after a name is put into it, and the lists that tables stand for, one item longer.
-use Rattle.std.proofs.Common.{◌≡◌, ◌∙◌, ℕ, zero, suc, ◌+◌, ◌<◌, ◌≤◌, List, [], ◌∷◌, ◌++◌, length, get_or, take, map, find, Option, Some, None, Bool, true, false, is_some, cond, if◌then◌else◌, not, ◌||◌, ◌==◌, option_map, position, unwrap_or, refl, sym, ap, arith, nat_lt}
+use Rattle.std.proofs.Common.{◌≡◌, ◌∙◌, ℕ, zero, suc, ◌+◌, ◌<◌, ◌≤◌, List, [], ◌∷◌, ◌++◌, length, get_or, take, map, find, Option, Some, None, Bool, true}
+use Rattle.std.proofs.Common.{false, is_some, cond, if◌then◌else◌, not, ◌||◌, ◌==◌, option_map, position, unwrap_or, refl, sym, ap, arith, nat_lt}
 use Rattle.std.specs.Option.{option_or}
 use Rattle.std.specs.Str.{bytes_eq}
 use Rattle.std.specs.List.{list_any, position_or_len, slice_get}
@@ -24,13 +25,16 @@ bytes_eq_sym : (a b : List ℕ) → bytes_eq a b ≡ bytes_eq b a
 bytes_eq_sym a b = nat_list_eq_equiv.symm a b
 
 -- a name with the value that it has, or else with a new one
-put_by : {V : Type 0} (old at_key : Option V) (b : Bool) (v : V) → (b ≡ true → at_key ≡ old) → cond b (Some (unwrap_or at_key v)) old ≡ option_or old (if b then Some v else None)
+put_by : {V : Type 0} (old at_key : Option V) (b : Bool) (v : V) → (b ≡ true → at_key ≡ old)
+    → cond b (Some (unwrap_or at_key v)) old ≡ option_or old (if b then Some v else None)
 put_by None at_key true v h = ap (λ o. Some (unwrap_or o v)) (h refl)
 put_by (Some x) at_key true v h = ap (λ o. Some (unwrap_or o v)) (h refl)
 put_by None at_key false v h = refl
 put_by (Some x) at_key false v h = refl
 
-pub put : {V S : Type 0} (m new : IndexMap (Bor (List ℕ)) V S) (key : Bor (List ℕ)) (w v : V) → w ≡ unwrap_or (found m key.now) v → ((q : Bor (List ℕ)) → found new q.now ≡ cond (bytes_eq key.now q.now) (Some w) (found m q.now)) → (n : List ℕ) → found new n ≡ option_or (found m n) (entry key.now v n)
+pub put : {V S : Type 0} (m new : IndexMap (Bor (List ℕ)) V S) (key : Bor (List ℕ)) (w v : V) → w ≡ unwrap_or (found m key.now) v
+    → ((q : Bor (List ℕ)) → found new q.now ≡ cond (bytes_eq key.now q.now) (Some w) (found m q.now)) → (n : List ℕ)
+    → found new n ≡ option_or (found m n) (entry key.now v n)
 put m new key w v e h n =
     h (record key { now = n })
     ∙ ap (λ x. cond (bytes_eq key.now n) (Some x) (found m n)) e
@@ -44,21 +48,27 @@ sort_push [] p name = by (bytes_eq name p.name)
     by : (b : Bool) → option_map (λ (x : Part). x.sort) (cond b (Some p) None) ≡ (if b then Some p.sort else None)
     by true = refl
     by false = refl
-sort_push (x ∷ ps) p name = by (bytes_eq name x.name) (find (λ (x : Part). bytes_eq name x.name) (ps ++ p ∷ [])) (find (λ (x : Part). bytes_eq name x.name) ps) (sort_push ps p name)
+sort_push (x ∷ ps) p name =
+    by (bytes_eq name x.name) (find (λ (x : Part). bytes_eq name x.name) (ps ++ p ∷ [])) (find (λ (x : Part). bytes_eq name x.name) ps) (sort_push ps p name)
   where
-    by : (b : Bool) (o q : Option Part) → option_map (λ (x : Part). x.sort) o ≡ option_or (option_map (λ (x : Part). x.sort) q) (entry p.name p.sort name) → option_map (λ (x : Part). x.sort) (cond b (Some x) o) ≡ option_or (option_map (λ (x : Part). x.sort) (cond b (Some x) q)) (entry p.name p.sort name)
+    by : (b : Bool) (o q : Option Part) → option_map (λ (x : Part). x.sort) o ≡ option_or (option_map (λ (x : Part). x.sort) q) (entry p.name p.sort name)
+        → option_map (λ (x : Part). x.sort) (cond b (Some x) o) ≡ option_or (option_map (λ (x : Part). x.sort) (cond b (Some x) q)) (entry p.name p.sort name)
     by true o q h = refl
     by false o q h = h
 
 -- the first items of a list, with one more
-pub map_more : {X Y : Type 0} (g : X → Y) (xs : List X) (i : ℕ) (x : X) → i < length xs → x ≡ get_or xs i x → map g (take (i + 1) xs) ≡ map g (take i xs) ++ g x ∷ []
+pub map_more : {X Y : Type 0} (g : X → Y) (xs : List X) (i : ℕ) (x : X) → i < length xs → x ≡ get_or xs i x
+    → map g (take (i + 1) xs) ≡ map g (take i xs) ++ g x ∷ []
 map_more g xs i x lt e =
     ap (map g) (take_more xs i x lt)
     ∙ map-append g (take i xs) (get_or xs i x ∷ [])
     ∙ ap (λ z. map g (take i xs) ++ g z ∷ []) (sym e)
 
 -- a table of parts, one part longer
-pub sorts_more : {X S : Type 0} (g : X → Part) (xs : List X) (i : ℕ) (x : X) (old new : IndexMap (Bor (List ℕ)) Sort S) (key : List ℕ) (s : Sort) → i < length xs → x ≡ get_or xs i x → ((n : List ℕ) → found old n ≡ sort_in (map g (take i xs)) n) → ((n : List ℕ) → found new n ≡ option_or (found old n) (entry key s n)) → key ≡ (g x).name → s ≡ (g x).sort → (n : List ℕ) → found new n ≡ sort_in (map g (take (i + 1) xs)) n
+pub sorts_more : {X S : Type 0} (g : X → Part) (xs : List X) (i : ℕ) (x : X) (old new : IndexMap (Bor (List ℕ)) Sort S) (key : List ℕ) (s : Sort)
+    → i < length xs → x ≡ get_or xs i x → ((n : List ℕ) → found old n ≡ sort_in (map g (take i xs)) n)
+    → ((n : List ℕ) → found new n ≡ option_or (found old n) (entry key s n)) → key ≡ (g x).name → s ≡ (g x).sort → (n : List ℕ)
+    → found new n ≡ sort_in (map g (take (i + 1) xs)) n
 sorts_more g xs i x old new key s lt e inv add named sorted n =
     add n
     ∙ ap (λ o. option_or o (entry key s n)) (inv n)
@@ -71,11 +81,13 @@ length_push : {X : Type 0} (xs : List X) (y : X) → length (xs ++ y ∷ []) ≡
 length_push xs y = length-append xs (y ∷ [])
 
 -- the first place at which a test passes, in a list that is one item longer
-place_by : (p n : ℕ) (b : Bool) → p ≤ n → cond (nat_lt (cond (p == n) (n + cond b 0 1) p) (n + 1)) (Some (cond (p == n) (n + cond b 0 1) p)) None ≡ option_or (cond (nat_lt p n) (Some p) None) (if b then Some n else None)
+place_by : (p n : ℕ) (b : Bool) → p ≤ n → cond (nat_lt (cond (p == n) (n + cond b 0 1) p) (n + 1)) (Some (cond (p == n) (n + cond b 0 1) p)) None
+    ≡ option_or (cond (nat_lt p n) (Some p) None) (if b then Some n else None)
 place_by p n true h = grind (arith, nat_tests)
 place_by p n false h = grind (arith, nat_tests)
 
-pub position_push : {X : Type 0} (test : X → Bool) (xs : List X) (y : X) → position test (xs ++ y ∷ []) ≡ option_or (position test xs) (if test y then Some (length xs) else None)
+pub position_push : {X : Type 0} (test : X → Bool) (xs : List X) (y : X)
+    → position test (xs ++ y ∷ []) ≡ option_or (position test xs) (if test y then Some (length xs) else None)
 position_push test xs y =
     ap (λ m. cond (nat_lt (position_or_len test (xs ++ y ∷ [])) m) (Some (position_or_len test (xs ++ y ∷ []))) None) (length_push xs y)
     ∙ ap (λ p. cond (nat_lt p (length xs + 1)) (Some p) None) (position_or_len_push test xs y)
@@ -121,10 +133,12 @@ or_false true b = refl
 or_false false true = refl
 or_false false false = refl
 
-pub keys_more : (keys : List (Bor (List ℕ))) (key : Bor (List ℕ)) (i : Ident) → is_key (if list_any (λ (x : Bor (List ℕ)). bytes_eq key.now x.now) keys then keys else keys ++ key ∷ []) i ≡ (is_key keys i || bytes_eq key.now i.name)
+pub keys_more : (keys : List (Bor (List ℕ))) (key : Bor (List ℕ)) (i : Ident)
+    → is_key (if list_any (λ (x : Bor (List ℕ)). bytes_eq key.now x.now) keys then keys else keys ++ key ∷ []) i ≡ (is_key keys i || bytes_eq key.now i.name)
 keys_more keys key i = by (list_any (λ (x : Bor (List ℕ)). bytes_eq key.now x.now) keys) refl
   where
-    by : (b : Bool) → list_any (λ (x : Bor (List ℕ)). bytes_eq key.now x.now) keys ≡ b → is_key (if b then keys else keys ++ key ∷ []) i ≡ (is_key keys i || bytes_eq key.now i.name)
+    by : (b : Bool) → list_any (λ (x : Bor (List ℕ)). bytes_eq key.now x.now) keys ≡ b
+        → is_key (if b then keys else keys ++ key ∷ []) i ≡ (is_key keys i || bytes_eq key.now i.name)
     by true e = or_kept (is_key keys i) (bytes_eq key.now i.name) (λ h. ap (λ n. list_any (λ (x : Bor (List ℕ)). bytes_eq n x.now) keys) (sym (same_by h)) ∙ e)
     by false e =
         list_any-append (λ (k : Bor (List ℕ)). bytes_eq i.name k.now) keys (key ∷ [])

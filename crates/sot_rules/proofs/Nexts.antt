@@ -1,5 +1,6 @@
 -- The `next` clauses of a plant, from what is noted of them.
-use Rattle.std.proofs.Common.{◌≡◌, ◌∙◌, ℕ, zero, suc, ◌+◌, ◌<◌, List, [], ◌∷◌, ◌++◌, length, get_or, drop, map, flat_map, Option, Bool, not, None, refl, sym, ap, ap₂, nat_lt, add-one}
+use Rattle.std.proofs.Common.{◌≡◌, ◌∙◌, ℕ, zero, suc, ◌+◌, ◌<◌, List, [], ◌∷◌, ◌++◌, length, get_or, drop, map, flat_map, Option, Bool, not, None, refl, sym}
+use Rattle.std.proofs.Common.{ap, ap₂, nat_lt, add-one}
 use Rattle.std.specs.List.{slice_get}
 use Rattle.std.proofs.lemmas.List.{length-map}
 use Rattle.sot_tree.specs.declared.tree.NextDecl.{NextDecl}
@@ -18,21 +19,30 @@ use Rattle.sot_rules.proofs.Least.{least_append}
 use Rattle.sot_rules.proofs.Loops.{rest_is}
 
 -- names that read alike
-next_alike : (p : Program) (q : Plant) (used given : List Thing) → ReadsAlike used (plant_scope p q) → ReadsAlike given (state_scope q) → (n : Next) → next_faults_in used given n ≡ next_faults p q n
-next_alike p q used given h g n = appended (tree_alike used (plant_scope p q) h n.value) (ap₂ (λ r s. target_faults r s n.name.at) (g n.name None) (sort_alike used (plant_scope p q) h n.value))
+next_alike : (p : Program) (q : Plant) (used given : List Thing) → ReadsAlike used (plant_scope p q) → ReadsAlike given (state_scope q) → (n : Next)
+    → next_faults_in used given n ≡ next_faults p q n
+next_alike p q used given h g n =
+    appended (tree_alike used (plant_scope p q) h n.value) (ap₂ (λ r s. target_faults r s n.name.at) (g n.name None)
+    (sort_alike used (plant_scope p q) h n.value))
 
-nexts_alike : (p : Program) (q : Plant) (used given : List Thing) → ReadsAlike used (plant_scope p q) → ReadsAlike given (state_scope q) → (ns : List Next) → flat_map (next_faults_in used given) ns ≡ flat_map (next_faults p q) ns
+nexts_alike : (p : Program) (q : Plant) (used given : List Thing) → ReadsAlike used (plant_scope p q) → ReadsAlike given (state_scope q) → (ns : List Next)
+    → flat_map (next_faults_in used given) ns ≡ flat_map (next_faults p q) ns
 nexts_alike p q used given h g [] = refl
 nexts_alike p q used given h g (n ∷ ns) = appended (next_alike p q used given h g n) (nexts_alike p q used given h g ns)
 
 -- the clause at a place
-order_at : (states : List StateDecl) (i : ℕ) (n : Next) (more : List Next) → order_faults (drop i states) (n ∷ more) ≡ when (not (is_state n.name (slice_get states i))) n.name.at NextMissing ++ order_faults (drop (suc i) states) more
+order_at : (states : List StateDecl) (i : ℕ) (n : Next) (more : List Next)
+    → order_faults (drop i states) (n ∷ more) ≡ when (not (is_state n.name (slice_get states i))) n.name.at NextMissing
+    ++ order_faults (drop (suc i) states) more
 order_at [] zero n more = refl
 order_at [] (suc i) n more = refl
 order_at (s ∷ states) zero n more = refl
 order_at (s ∷ states) (suc i) n more = order_at states i n more
 
-pub order_more : (states : List StateDecl) (ns : List NextDecl) (i : ℕ) (n : NextDecl) (fits : Bool) (a b c : Option TypeFault) → i < length ns → n ≡ get_or ns i n → fits ≡ is_state n.name (slice_get states i) → b ≡ least a (when (not fits) n.name.at NextMissing) → least a (order_faults (drop i states) (map next_view (drop i ns))) ≡ c → least b (order_faults (drop (i + 1) states) (map next_view (drop (i + 1) ns))) ≡ c
+pub order_more : (states : List StateDecl) (ns : List NextDecl) (i : ℕ) (n : NextDecl) (fits : Bool) (a b c : Option TypeFault) → i < length ns
+    → n ≡ get_or ns i n → fits ≡ is_state n.name (slice_get states i) → b ≡ least a (when (not fits) n.name.at NextMissing)
+    → least a (order_faults (drop i states) (map next_view (drop i ns))) ≡ c
+    → least b (order_faults (drop (i + 1) states) (map next_view (drop (i + 1) ns))) ≡ c
 order_more states ns i n fits a b c lt e test noted inv =
     let here = when (not (is_state n.name (slice_get states i))) n.name.at NextMissing in
     let rest = order_faults (drop (i + 1) states) (map next_view (drop (i + 1) ns)) in
@@ -43,7 +53,11 @@ order_more states ns i n fits a b c lt e test noted inv =
     ∙ ap (λ l. least a (order_faults (drop i states) (map next_view l))) (sym (rest_is ns i n lt e))
     ∙ inv
 
-pub nexts_noted : (p : Program) (q : Plant) (used given : List Thing) (ns : List NextDecl) (a b c d : Option TypeFault) → ReadsAlike used (plant_scope p q) → ReadsAlike given (state_scope q) → b ≡ least a (flat_map (next_faults_in used given) (map next_view ns)) → c ≡ least b (order_faults q.states (map next_view ns)) → d ≡ least c (when (nat_lt (length ns) (length q.states)) q.end NextMissing) → d ≡ least a (flat_map (next_faults p q) (map next_view ns) ++ (order_faults q.states (map next_view ns) ++ when (nat_lt (length (map next_view ns)) (length q.states)) q.end NextMissing))
+pub nexts_noted : (p : Program) (q : Plant) (used given : List Thing) (ns : List NextDecl) (a b c d : Option TypeFault) → ReadsAlike used (plant_scope p q)
+    → ReadsAlike given (state_scope q) → b ≡ least a (flat_map (next_faults_in used given) (map next_view ns))
+    → c ≡ least b (order_faults q.states (map next_view ns)) → d ≡ least c (when (nat_lt (length ns) (length q.states)) q.end NextMissing)
+    → d ≡ least a (flat_map (next_faults p q) (map next_view ns)
+    ++ (order_faults q.states (map next_view ns) ++ when (nat_lt (length (map next_view ns)) (length q.states)) q.end NextMissing))
 nexts_noted p q used given ns a b c d h g one two three =
     let each = flat_map (next_faults p q) (map next_view ns) in
     let order = order_faults q.states (map next_view ns) in

@@ -11,7 +11,8 @@ use Rattle.sot_rules.proofs.Loops.{step_got, none_left}
 
 module _ {A B : Type 0} (f : A × B → List TypeFault) (xs : List A) (ys : List B) (i : ℕ) where
   -- a pair's faults are noted, and then what is left
-  pub step_pairs : (x : A) (y : B) (a b c : Option TypeFault) → slice_get xs i ≡ Some x → slice_get ys i ≡ Some y → least a (flat_map f (drop i (zip xs ys))) ≡ c → b ≡ least a (f (x, y)) → least b (flat_map f (drop (i + 1) (zip xs ys))) ≡ c
+  pub step_pairs : (x : A) (y : B) (a b c : Option TypeFault) → slice_get xs i ≡ Some x → slice_get ys i ≡ Some y
+      → least a (flat_map f (drop i (zip xs ys))) ≡ c → b ≡ least a (f (x, y)) → least b (flat_map f (drop (i + 1) (zip xs ys))) ≡ c
   step_pairs x y a b c left right inv now =
       step_got (λ ps. flat_map f ps) f (λ p more. refl) (zip xs ys) i (x, y) a b c (slice_get-zip_some xs ys i x y left right) inv now
 

@@ -16,8 +16,11 @@ use Rattle.sot_rules.specs.Sorts.{scale_sort, scalar_sort, const_sort, differ}
 use Rattle.sot_rules.specs.Names.{gives}
 use Rattle.sot_rules.specs.TreeSorts.{has_decimals, is_no_scale}
 use Rattle.sot_rules.specs.Tests.{is_empty, is_wide, starts_outside, const_place, is_off, is_late, has_other_width, sides_of}
-use Rattle.sot_rules.specs.Fails.{BoundsFail, low_scale, high_scale, empty, wide, ScalarFails, no_scale, int_bounds, fix_bounds, StartFails, start_misfit, start_outside, TimesFail, period_decimals, offset_decimals, period_off, offset_late, RegionFails, other_width, side, many_boxes}
-use Rattle.sot_rules.specs.Faults.{fault, when, bounds_lists, bounds_faults, scalar_faults, start_faults, times_lists, times_faults, target_faults, area_faults, region_faults}
+use Rattle.sot_rules.specs.Fails.{BoundsFail, low_scale, high_scale, empty, wide, ScalarFails, no_scale, int_bounds, fix_bounds, StartFails, start_misfit}
+use Rattle.sot_rules.specs.Fails.{start_outside, TimesFail, period_decimals, offset_decimals, period_off, offset_late, RegionFails, other_width, side}
+use Rattle.sot_rules.specs.Fails.{many_boxes}
+use Rattle.sot_rules.specs.Faults.{fault, when, bounds_lists, bounds_faults, scalar_faults, start_faults, times_lists, times_faults, target_faults, area_faults}
+use Rattle.sot_rules.specs.Faults.{region_faults}
 use Rattle.sot_rules.proofs.Members.{In, before, after, split, in_when, of_when, in_together, of_together, in_each, of_each}
 use Rattle.sot_rules.proofs.ListFaults.{past_in, of_past}
 use Rattle.sot_rules.proofs.TreeFaults.{target_in, of_target}
@@ -38,7 +41,8 @@ pub bounds_in : (limited : Bool) (s : Sort) (b : Bounds) {at : Span} {k : TypeKi
 bounds_in limited s b (low_scale h) = in_together _ (bounds_lists limited s b) 0 (in_when (differ s (Scaled b.lo.scale)) b.lo.at ScaleDiffers h)
 bounds_in limited s b (high_scale h) = in_together _ (bounds_lists limited s b) 1 (in_when (differ s (Scaled b.hi.scale)) b.hi.at ScaleDiffers h)
 bounds_in limited s b (empty h) = in_together _ (bounds_lists limited s b) 2 (in_when (is_empty b) b.lo.at RangeEmpty h)
-bounds_in limited s b (wide l h) = in_together _ (bounds_lists limited s b) 3 (in_when (limited && is_wide b) b.lo.at RangeWide (both_hold limited (is_wide b) l h))
+bounds_in limited s b (wide l h) =
+    in_together _ (bounds_lists limited s b) 3 (in_when (limited && is_wide b) b.lo.at RangeWide (both_hold limited (is_wide b) l h))
 
 pub of_bounds : (limited : Bool) (s : Sort) (b : Bounds) (at : Span) (k : TypeKind) → In (fault at k) (bounds_faults limited s b) → BoundsFail limited s b at k
 of_bounds limited s b at k h =
@@ -49,7 +53,8 @@ of_bounds limited s b at k h =
         (
           of_when (BoundsFail limited s b) (is_empty b) b.lo.at RangeEmpty (λ q. empty q) at k,
           (
-            of_when (BoundsFail limited s b) (limited && is_wide b) b.lo.at RangeWide (λ q. wide (one_holds limited (is_wide b) q) (other_holds limited (is_wide b) q)) at k,
+            of_when (BoundsFail limited s b) (limited && is_wide b) b.lo.at RangeWide
+                (λ q. wide (one_holds limited (is_wide b) q) (other_holds limited (is_wide b) q)) at k,
             tt,
           ),
         ),
@@ -71,8 +76,10 @@ of_scalar limited (Fix d b) at k h =
 of_scalar limited (BoolScalar w) at k h = absurd h
 
 pub start_in : (s : Scalar) (c : Const) {at : Span} {k : TypeKind} → StartFails s c at k → In (fault at k) (start_faults s c)
-start_in s c (start_misfit h) = before _ (target_faults (gives (scalar_sort s)) (const_sort c) (const_place c)) _ (target_in (gives (scalar_sort s)) (const_sort c) (const_place c) h)
-start_in s c (start_outside h) = after _ (target_faults (gives (scalar_sort s)) (const_sort c) (const_place c)) _ (in_when (starts_outside s c) (const_place c) InitOutside h)
+start_in s c (start_misfit h) =
+    before _ (target_faults (gives (scalar_sort s)) (const_sort c) (const_place c)) _ (target_in (gives (scalar_sort s)) (const_sort c) (const_place c) h)
+start_in s c (start_outside h) =
+    after _ (target_faults (gives (scalar_sort s)) (const_sort c) (const_place c)) _ (in_when (starts_outside s c) (const_place c) InitOutside h)
 
 pub of_start : (s : Scalar) (c : Const) (at : Span) (k : TypeKind) → In (fault at k) (start_faults s c) → StartFails s c at k
 of_start s c at k h =
@@ -103,12 +110,19 @@ of_times period offset at k h =
     )
     h
 
-pub region_in : (width : Option (List Sort)) (boxes : List Area) {at : Span} {k : TypeKind} → RegionFails width boxes at k → In (fault at k) (region_faults width boxes)
-region_in width boxes (other_width {b = b} m h) = before _ (flat_map (area_faults width) boxes) _ (in_each _ (area_faults width) boxes b m (before _ (when (has_other_width width b) b.at KindDiffers) _ (in_when (has_other_width width b) b.at KindDiffers h)))
-region_in width boxes (side {b = b} {s = s} {r = r} m n h) = before _ (flat_map (area_faults width) boxes) _ (in_each _ (area_faults width) boxes b m (after _ (when (has_other_width width b) b.at KindDiffers) _ (in_each _ (λ x. bounds_faults false x.0 x.1) (sides_of width b) (s, r) n (bounds_in false s r h))))
+pub region_in : (width : Option (List Sort)) (boxes : List Area) {at : Span} {k : TypeKind} → RegionFails width boxes at k
+    → In (fault at k) (region_faults width boxes)
+region_in width boxes (other_width {b = b} m h) =
+    before _ (flat_map (area_faults width) boxes) _ (in_each _ (area_faults width) boxes b m
+    (before _ (when (has_other_width width b) b.at KindDiffers) _ (in_when (has_other_width width b) b.at KindDiffers h)))
+region_in width boxes (side {b = b} {s = s} {r = r} m n h) =
+    before _ (flat_map (area_faults width) boxes) _ (in_each _ (area_faults width) boxes b m
+    (after _ (when (has_other_width width b) b.at KindDiffers) _
+    (in_each _ (λ x. bounds_faults false x.0 x.1) (sides_of width b) (s, r) n (bounds_in false s r h))))
 region_in width boxes (many_boxes {at = at} h) = after _ (flat_map (area_faults width) boxes) _ (past_in 256 (map (λ b. b.at) boxes) at h)
 
-pub of_region : (width : Option (List Sort)) (boxes : List Area) (at : Span) (k : TypeKind) → In (fault at k) (region_faults width boxes) → RegionFails width boxes at k
+pub of_region : (width : Option (List Sort)) (boxes : List Area) (at : Span) (k : TypeKind) → In (fault at k) (region_faults width boxes)
+    → RegionFails width boxes at k
 of_region width boxes at k h =
     split (fault at k) (flat_map (area_faults width) boxes) _ h
     (λ x. of_each (fault at k) (area_faults width) boxes x

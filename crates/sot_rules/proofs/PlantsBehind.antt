@@ -26,17 +26,20 @@ module _ (from : Span) where
   next_is_behind p q n e =
       let here = and_left (is_behind from n.name.at) _ e in
       both_behind from (tree_faults (plant_scope p q) n.value) _ (tree_is_behind from (plant_scope p q) n.value (and_right (is_behind from n.name.at) _ e))
-      (target_behind from (reading (state_scope q) n.name None) (sort (plant_scope p q) n.value) n.name.at (reading_behind from n.name here (state_scope q) None refl) here)
+      (target_behind from (reading (state_scope q) n.name None) (sort (plant_scope p q) n.value) n.name.at
+      (reading_behind from n.name here (state_scope q) None refl) here)
 
   order_behind : (states : List StateDecl) (ns : List Next) → nexts_behind from ns ≡ true → AreBehind from (order_faults states ns)
   order_behind states [] e = refl
   order_behind [] (n ∷ ns) e =
       both_behind from (when true n.name.at NextMissing) _
-      (when_behind from true n.name.at NextMissing (and_left (is_behind from n.name.at) _ (and_left (is_behind from n.name.at && tree_behind from n.value) _ e)))
+      (when_behind from true n.name.at NextMissing (and_left (is_behind from n.name.at) _
+      (and_left (is_behind from n.name.at && tree_behind from n.value) _ e)))
       (order_behind [] ns (and_right (is_behind from n.name.at && tree_behind from n.value) _ e))
   order_behind (s ∷ states) (n ∷ ns) e =
       both_behind from (when (not (are_same n.name s.name)) n.name.at NextMissing) _
-      (when_behind from (not (are_same n.name s.name)) n.name.at NextMissing (and_left (is_behind from n.name.at) _ (and_left (is_behind from n.name.at && tree_behind from n.value) _ e)))
+      (when_behind from (not (are_same n.name s.name)) n.name.at NextMissing
+      (and_left (is_behind from n.name.at) _ (and_left (is_behind from n.name.at && tree_behind from n.value) _ e)))
       (order_behind states ns (and_right (is_behind from n.name.at && tree_behind from n.value) _ e))
 
   nexts_are_behind : (p : Program) (q : Plant) → is_behind from q.end ≡ true → nexts_behind from q.next ≡ true → AreBehind from (nexts_faults p q)
@@ -46,7 +49,8 @@ module _ (from : Span) where
       (both_behind from (order_faults q.states q.next) _ (order_behind q.states q.next e)
       (when_behind from (nat_lt (length q.next) (length q.states)) q.end NextMissing end))
 
-  disturbance_is_behind : (q : Plant) (f : Field) → (is_behind from f.name.at && scalar_behind from f.scalar) ≡ true → AreBehind from (together (noise_lists q f))
+  disturbance_is_behind : (q : Plant) (f : Field) → (is_behind from f.name.at && scalar_behind from f.scalar) ≡ true
+      → AreBehind from (together (noise_lists q f))
   disturbance_is_behind q f e =
       let here = and_left (is_behind from f.name.at) _ e in
       both_behind from (when (is_among f.name (state_names q ++ q.inputs ++ q.sees)) f.name.at Twice) _ (when_behind from _ f.name.at Twice here)
@@ -67,7 +71,8 @@ module _ (from : Span) where
       (both_behind from (repeats [] (noise_names q)) _ (repeats_behind from [] (noise_names q) names)
       (past_behind from (places (noise_names q)) 4 (list_all-map (is_behind from) (λ i. i.at) (noise_names q) ∙ names)))
 
-pub nexts_stay : (f : TypeFault) (p : Program) (q : Plant) → is_behind f.at q.end ≡ true → nexts_behind f.at q.next ≡ true → least (Some f) (nexts_faults p q) ≡ Some f
+pub nexts_stay : (f : TypeFault) (p : Program) (q : Plant) → is_behind f.at q.end ≡ true → nexts_behind f.at q.next ≡ true
+    → least (Some f) (nexts_faults p q) ≡ Some f
 nexts_stay f p q end e = stays_before f (nexts_faults p q) (nexts_are_behind f.at p q end e)
 
 pub noise_stays : (f : TypeFault) (q : Plant) → noise_behind f.at q.noise ≡ true → least (Some f) (disturbances_faults q) ≡ Some f

@@ -1,5 +1,6 @@
 -- Places in lists that are put together, and in the statements of a block with loops unrolled.
-use Rattle.std.proofs.Common.{◌≡◌, ◌≢◌, ◌∙◌, ℕ, zero, suc, ◌+◌, ◌-◌, ◌*◌, ◌/◌, ◌%◌, ◌<◌, ◌≤◌, List, [], ◌∷◌, ◌++◌, length, get_or, drop, Some, refl, sym, ap, subst, arith, add-one, nat_abs, length-append}
+use Rattle.std.proofs.Common.{◌≡◌, ◌≢◌, ◌∙◌, ℕ, zero, suc, ◌+◌, ◌-◌, ◌*◌, ◌/◌, ◌%◌, ◌<◌, ◌≤◌, List, [], ◌∷◌, ◌++◌, length, get_or, drop, Some, refl, sym, ap}
+use Rattle.std.proofs.Common.{subst, arith, add-one, nat_abs, length-append}
 use Rattle.std.specs.List.{slice_get}
 use Rattle.std.proofs.lemmas.List.{drop_all}
 use Rattle.std.specs.Global.{Box, Vec}
@@ -75,12 +76,14 @@ copies_inside n k xs (At at) lt some h =
 copies_inside n k xs (Left m) lt some h = absurd (omega arith)
 
 -- the statements of a block
-pub block_then : (ss : List Stmt) (i k n : ℕ) (s : Stmt) (r : Reached) → i < length ss → s ≡ get_or ss i s → k ≡ length (unrolled (statement_view s)) + n → IsReached n (block_unrolled (block_view (drop (i + 1) ss))) r → IsReached k (block_unrolled (block_view (drop i ss))) r
+pub block_then : (ss : List Stmt) (i k n : ℕ) (s : Stmt) (r : Reached) → i < length ss → s ≡ get_or ss i s → k ≡ length (unrolled (statement_view s)) + n
+    → IsReached n (block_unrolled (block_view (drop (i + 1) ss))) r → IsReached k (block_unrolled (block_view (drop i ss))) r
 block_then ss i k n s r lt e counted h =
     subst (λ xs. IsReached k (block_unrolled (block_view xs)) r) (sym (rest_is ss i s lt e))
     (reached_then k n (unrolled (statement_view s)) (block_unrolled (block_view (drop (i + 1) ss))) r counted h)
 
-pub block_at : (ss : List Stmt) (i k : ℕ) (s : Stmt) (at : Span) → i < length ss → s ≡ get_or ss i s → slice_get (unrolled (statement_view s)) k ≡ Some at → IsReached k (block_unrolled (block_view (drop i ss))) (At at)
+pub block_at : (ss : List Stmt) (i k : ℕ) (s : Stmt) (at : Span) → i < length ss → s ≡ get_or ss i s → slice_get (unrolled (statement_view s)) k ≡ Some at
+    → IsReached k (block_unrolled (block_view (drop i ss))) (At at)
 block_at ss i k s at lt e h =
     subst (λ xs. IsReached k (block_unrolled (block_view xs)) (At at)) (sym (rest_is ss i s lt e))
     (in_first (unrolled (statement_view s)) (block_unrolled (block_view (drop (i + 1) ss))) k at h)
@@ -90,26 +93,33 @@ block_done ss i k le = subst (λ xs. IsReached k (block_unrolled (block_view xs)
 
 -- an `if`, past its own place
 module _ (b : Box Branch) (at : Span) (k : ℕ) where
-  branch_by : (r : Reached) → k ≡ (k - 1) + 1 → IsReached (k - 1) (block_unrolled (block_view b.value.yes.items) ++ block_unrolled (block_view b.value.no.items)) r → IsReached k (unrolled (statement_view (If b at))) r
+  branch_by : (r : Reached) → k ≡ (k - 1) + 1 → IsReached (k - 1)
+      (block_unrolled (block_view b.value.yes.items) ++ block_unrolled (block_view b.value.no.items)) r → IsReached k (unrolled (statement_view (If b at))) r
   branch_by r some h =
       subst (λ s. IsReached k (unrolled s) r) (sym (branch_view b at))
       (reached_next k (k - 1) at (block_unrolled (block_view b.value.yes.items) ++ block_unrolled (block_view b.value.no.items)) r some h)
 
-  pub branch_at : (found : Span) → k ≡ (k - 1) + 1 → slice_get (block_unrolled (block_view b.value.yes.items)) (k - 1) ≡ Some found → IsReached k (unrolled (statement_view (If b at))) (At found)
-  branch_at found some h = branch_by (At found) some (in_first (block_unrolled (block_view b.value.yes.items)) (block_unrolled (block_view b.value.no.items)) (k - 1) found h)
+  pub branch_at : (found : Span) → k ≡ (k - 1) + 1 → slice_get (block_unrolled (block_view b.value.yes.items)) (k - 1) ≡ Some found
+      → IsReached k (unrolled (statement_view (If b at))) (At found)
+  branch_at found some h =
+      branch_by (At found) some (in_first (block_unrolled (block_view b.value.yes.items)) (block_unrolled (block_view b.value.no.items)) (k - 1) found h)
 
-  pub branch_then : (n : ℕ) (r : Reached) → k ≡ (k - 1) + 1 → k - 1 ≡ length (block_unrolled (block_view b.value.yes.items)) + n → IsReached n (block_unrolled (block_view b.value.no.items)) r → IsReached k (unrolled (statement_view (If b at))) r
-  branch_then n r some counted h = branch_by r some (reached_then (k - 1) n (block_unrolled (block_view b.value.yes.items)) (block_unrolled (block_view b.value.no.items)) r counted h)
+  pub branch_then : (n : ℕ) (r : Reached) → k ≡ (k - 1) + 1 → k - 1 ≡ length (block_unrolled (block_view b.value.yes.items)) + n
+      → IsReached n (block_unrolled (block_view b.value.no.items)) r → IsReached k (unrolled (statement_view (If b at))) r
+  branch_then n r some counted h =
+      branch_by r some (reached_then (k - 1) n (block_unrolled (block_view b.value.yes.items)) (block_unrolled (block_view b.value.no.items)) r counted h)
 
 -- a loop, past its own place
-pub repeat_by : (l : Lit) (v : Vec Stmt) (at : Span) (k count : ℕ) (r : Reached) → k ≡ (k - 1) + 1 → count ≡ nat_abs l.mantissa → IsReached (k - 1) (copies count (block_unrolled (block_view v.items))) r → IsReached k (unrolled (statement_view (Repeat l v at))) r
+pub repeat_by : (l : Lit) (v : Vec Stmt) (at : Span) (k count : ℕ) (r : Reached) → k ≡ (k - 1) + 1 → count ≡ nat_abs l.mantissa
+    → IsReached (k - 1) (copies count (block_unrolled (block_view v.items))) r → IsReached k (unrolled (statement_view (Repeat l v at))) r
 repeat_by l v at k count r some counted h =
     subst (λ s. IsReached k (unrolled s) r) (sym (repeat_view l v at))
     (reached_next k (k - 1) at (copies (nat_abs l.mantissa) (block_unrolled (block_view v.items))) r some
     (subst (λ n. IsReached (k - 1) (copies n (block_unrolled (block_view v.items))) r) counted h))
 
 -- the body that is looked into again, at what is left of the place
-pub inside_by : (n k left : ℕ) (xs : List Span) (r : Reached) → k ≡ length xs + left → k < n * (k - left) → 0 < k - left → IsReached (k % (k - left)) xs r → IsReached k (copies n xs) r
+pub inside_by : (n k left : ℕ) (xs : List Span) (r : Reached) → k ≡ length xs + left → k < n * (k - left) → 0 < k - left → IsReached (k % (k - left)) xs r
+    → IsReached k (copies n xs) r
 inside_by n k left xs r e lt some h =
     let len : k - left ≡ length xs = omega arith in
     copies_inside n k xs r (subst (λ m. k < n * m) len lt) (subst (λ m. 0 < m) len some) (subst (λ m. IsReached (k % m) xs r) len h)

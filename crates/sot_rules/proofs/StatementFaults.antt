@@ -8,24 +8,34 @@ use Rattle.sot_rules.specs.Sorts.{is_scaled}
 use Rattle.sot_rules.specs.Names.{Scope, reading}
 use Rattle.sot_rules.specs.TreeSorts.{has_decimals, sort}
 use Rattle.sot_rules.specs.Tests.{is_off}
-use Rattle.sot_rules.specs.Fails.{StatementFails, BlockFails, assigned_target, assigned_value, published_target, published_value, condition_kind, times_decimals, times_off, in_test, in_taken, in_other, in_body, in_statement, in_following}
+use Rattle.sot_rules.specs.Fails.{StatementFails, BlockFails, assigned_target, assigned_value, published_target, published_value, condition_kind}
+use Rattle.sot_rules.specs.Fails.{times_decimals, times_off, in_test, in_taken, in_other, in_body, in_statement, in_following}
 use Rattle.sot_rules.specs.Faults.{fault, when, tree_faults, statement_faults, block_faults}
 use Rattle.sot_rules.proofs.Members.{In, before, after, split, in_when, of_when}
 use Rattle.sot_rules.proofs.TreeFaults.{tree_in, of_tree, target_in, of_target}
 
 mutual
   pub statement_in : (s : Scope) {a : Statement} {at : Span} {k : TypeKind} → StatementFails s a at k → In (fault at k) (statement_faults s a)
-  statement_in s (assigned_target {target = target} {e = e} h) = after _ (tree_faults s.read e) _ (target_in (reading s.local target None) (sort s.read e) target.at h)
+  statement_in s (assigned_target {target = target} {e = e} h) =
+      after _ (tree_faults s.read e) _ (target_in (reading s.local target None) (sort s.read e) target.at h)
   statement_in s (assigned_value {e = e} h) = before _ (tree_faults s.read e) _ (tree_in s.read h)
-  statement_in s (published_target {topic = topic} {field = field} {e = e} h) = after _ (tree_faults s.read e) _ (target_in (reading s.written topic field) (sort s.read e) topic.at h)
+  statement_in s (published_target {topic = topic} {field = field} {e = e} h) =
+      after _ (tree_faults s.read e) _ (target_in (reading s.written topic field) (sort s.read e) topic.at h)
   statement_in s (published_value {e = e} h) = before _ (tree_faults s.read e) _ (tree_in s.read h)
-  statement_in s (condition_kind {c = c} {at = at} h) = after _ (tree_faults s.read c) _ (before _ (when (is_scaled (sort s.read c)) at KindDiffers) _ (in_when (is_scaled (sort s.read c)) at KindDiffers h))
-  statement_in s (times_decimals {times = times} h) = before _ (when (has_decimals times) times.at ScaleDiffers) _ (in_when (has_decimals times) times.at ScaleDiffers h)
-  statement_in s (times_off {times = times} h) = after _ (when (has_decimals times) times.at ScaleDiffers) _ (before _ (when (is_off times) times.at PeriodOutside) _ (in_when (is_off times) times.at PeriodOutside h))
+  statement_in s (condition_kind {c = c} {at = at} h) =
+      after _ (tree_faults s.read c) _ (before _ (when (is_scaled (sort s.read c)) at KindDiffers) _ (in_when (is_scaled (sort s.read c)) at KindDiffers h))
+  statement_in s (times_decimals {times = times} h) =
+      before _ (when (has_decimals times) times.at ScaleDiffers) _ (in_when (has_decimals times) times.at ScaleDiffers h)
+  statement_in s (times_off {times = times} h) =
+      after _ (when (has_decimals times) times.at ScaleDiffers) _
+      (before _ (when (is_off times) times.at PeriodOutside) _ (in_when (is_off times) times.at PeriodOutside h))
   statement_in s (in_test {c = c} h) = before _ (tree_faults s.read c) _ (tree_in s.read h)
-  statement_in s (in_taken {c = c} {taken = taken} {w = w} h) = after _ (tree_faults s.read c) _ (after _ (when (is_scaled (sort s.read c)) w KindDiffers) _ (before _ (block_faults s taken) _ (block_in s h)))
-  statement_in s (in_other {c = c} {taken = taken} {w = w} h) = after _ (tree_faults s.read c) _ (after _ (when (is_scaled (sort s.read c)) w KindDiffers) _ (after _ (block_faults s taken) _ (block_in s h)))
-  statement_in s (in_body {times = times} h) = after _ (when (has_decimals times) times.at ScaleDiffers) _ (after _ (when (is_off times) times.at PeriodOutside) _ (block_in s h))
+  statement_in s (in_taken {c = c} {taken = taken} {w = w} h) =
+      after _ (tree_faults s.read c) _ (after _ (when (is_scaled (sort s.read c)) w KindDiffers) _ (before _ (block_faults s taken) _ (block_in s h)))
+  statement_in s (in_other {c = c} {taken = taken} {w = w} h) =
+      after _ (tree_faults s.read c) _ (after _ (when (is_scaled (sort s.read c)) w KindDiffers) _ (after _ (block_faults s taken) _ (block_in s h)))
+  statement_in s (in_body {times = times} h) =
+      after _ (when (has_decimals times) times.at ScaleDiffers) _ (after _ (when (is_off times) times.at PeriodOutside) _ (block_in s h))
 
   pub block_in : (s : Scope) {body : Block} {at : Span} {k : TypeKind} → BlockFails s body at k → In (fault at k) (block_faults s body)
   block_in s (in_statement {a = a} h) = before _ (statement_faults s a) _ (statement_in s h)

@@ -16,7 +16,8 @@ use Rattle.sot_rules.specs.Scopes.{parts_of, kept_parts}
 
 -- each name gives the same in both lists, or is at fault at the same place
 abbrev pub ReadsAlike : List Thing → List Thing → Type 0
-ReadsAlike xs ys = (first : Ident) (field : Option Ident) → reading xs first field ≡ reading ys first field
+ReadsAlike xs ys =
+    (first : Ident) (field : Option Ident) → reading xs first field ≡ reading ys first field
 
 pub record ScopesAlike (a b : Scope) : Type 0 where
   pub read : ReadsAlike a.read b.read
@@ -24,7 +25,9 @@ pub record ScopesAlike (a b : Scope) : Type 0 where
   pub written : ReadsAlike a.written b.written
 
 abbrev pub PartsAlike : Parts → Parts → Type 0
-PartsAlike a b = (first : Ident) (field : Option Ident) → parts_reading first field a ≡ parts_reading first field b
+PartsAlike a b =
+    (first : Ident) (field : Option Ident)
+    → parts_reading first field a ≡ parts_reading first field b
 
 -- no parts on both sides, or parts that read alike
 abbrev pub AreAlike : Option Parts → Option Parts → Type 0
@@ -39,18 +42,22 @@ parts_found xs name = option_map (λ x. x.parts) (find (λ x. bytes_eq name x.na
 
 -- the table stands for the list: each name stands for the same in both
 abbrev pub StandsFor : List (List Part) → Things → List Thing → Type 0
-StandsFor tables m xs = (name : List ℕ) → AreAlike (option_map (kept_parts tables) (found_in m name)) (parts_found xs name)
+StandsFor tables m xs =
+    (name : List ℕ) → AreAlike (option_map (kept_parts tables) (found_in m name))
+    (parts_found xs name)
 
 -- the table takes in these things, after those that it stands for
 abbrev pub Adds : List (List Part) → Things → Things → List Thing → Type 0
-Adds tables old new ys = (xs : List Thing) → StandsFor tables old xs → StandsFor tables new (xs ++ ys)
+Adds tables old new ys =
+    (xs : List Thing) → StandsFor tables old xs → StandsFor tables new (xs ++ ys)
 
 -- what is kept of a name stands for the thing that it adds to a list, where it adds one
 abbrev pub StandsForThing : List (List Part) → List ℕ → Option Kept → Option Thing → Type 0
 StandsForThing tables name None None = Unit {0}
 StandsForThing tables name None (Some x) = ⊥
 StandsForThing tables name (Some s) None = ⊥
-StandsForThing tables name (Some s) (Some x) = (name ≡ x.name) × PartsAlike (kept_parts tables s) x.parts
+StandsForThing tables name (Some s) (Some x) =
+    (name ≡ x.name) × PartsAlike (kept_parts tables s) x.parts
 
 -- the parts of each declaration
 abbrev pub tables_in : Index → List (List Part)

@@ -1,4 +1,5 @@
--- What stands behind a place of the text: faults, and the places at which the parts of a program may be at fault.
+-- What stands behind a place of the text: faults, and the places at which the parts of a program
+-- may be at fault.
 use Rattle.std.specs.Prelude.{◌≡◌, nat_lt, nat_le, Bool, true, ◌&&◌, List, [], Option, Some, None}
 use Rattle.std.specs.List.{filter, list_all}
 use Rattle.sot_text.specs.declared.token.Span.{Span}
@@ -8,7 +9,10 @@ use Rattle.sot_tree.specs.declared.tree.Field.{Field}
 use Rattle.sot_tree.specs.declared.tree.Bounds.{Bounds}
 use Rattle.sot_tree.specs.declared.tree.Scalar.{Scalar}
 use Rattle.sot_tree.specs.declared.tree.Scalar.TheVariants.{Int, Fix, Bool as BoolScalar}
-use Rattle.sot_tree.specs.Trees.{Tree, Trees, number, truth, named, binary, rest, negated, denied, called, rescaled, chosen, no_tree, one_more, Statement, Block, assigned, published, branched, repeated, no_statement, statement, Local, Next}
+use Rattle.sot_tree.specs.Trees.{Tree, Trees, number, truth, named, binary, rest, negated, denied}
+use Rattle.sot_tree.specs.Trees.{called, rescaled, chosen, no_tree, one_more, Statement, Block}
+use Rattle.sot_tree.specs.Trees.{assigned, published, branched, repeated, no_statement, statement}
+use Rattle.sot_tree.specs.Trees.{Local, Next}
 use Rattle.sot_rules.specs.declared.fault.TypeFault.{TypeFault}
 use Rattle.sot_rules.specs.Tests.{const_place}
 
@@ -41,7 +45,8 @@ scalar_behind from (BoolScalar at) = true
 
 -- the name, the type and the initial value of a local
 abbrev pub local_behind : Span → Local → Bool
-local_behind from l = is_behind from l.name.at && (scalar_behind from l.scalar && is_behind from (const_place l.init))
+local_behind from l =
+    is_behind from l.name.at && (scalar_behind from l.scalar && is_behind from (const_place l.init))
 
 abbrev pub locals_behind : Span → List Local → Bool
 locals_behind from locals = list_all (local_behind from) locals
@@ -56,13 +61,17 @@ abbrev mutual
   tree_behind from (number l) = true
   tree_behind from (truth b at) = true
   tree_behind from (named first field) = is_behind from first.at && field_behind from field
-  tree_behind from (binary op a b at) = is_behind from at && (tree_behind from a && tree_behind from b)
-  tree_behind from (rest a by at) = is_behind from at && (is_behind from by.at && tree_behind from a)
+  tree_behind from (binary op a b at) =
+      is_behind from at && (tree_behind from a && tree_behind from b)
+  tree_behind from (rest a by at) =
+      is_behind from at && (is_behind from by.at && tree_behind from a)
   tree_behind from (negated a at) = is_behind from at && tree_behind from a
   tree_behind from (denied a at) = is_behind from at && tree_behind from a
   tree_behind from (called f parts at) = is_behind from at && trees_behind from parts
-  tree_behind from (rescaled a to at) = is_behind from at && (is_behind from to.at && tree_behind from a)
-  tree_behind from (chosen c a b at) = is_behind from at && (tree_behind from c && (tree_behind from a && tree_behind from b))
+  tree_behind from (rescaled a to at) =
+      is_behind from at && (is_behind from to.at && tree_behind from a)
+  tree_behind from (chosen c a b at) =
+      is_behind from at && (tree_behind from c && (tree_behind from a && tree_behind from b))
 
   pub trees_behind : Span → Trees → Bool
   trees_behind from no_tree = true
@@ -71,9 +80,13 @@ abbrev mutual
 abbrev mutual
   pub statement_behind : Span → Statement → Bool
   statement_behind from (assigned target e) = is_behind from target.at && tree_behind from e
-  statement_behind from (published topic field e) = is_behind from topic.at && (field_behind from field && tree_behind from e)
-  statement_behind from (branched c taken other at) = is_behind from at && (tree_behind from c && (block_behind from taken && block_behind from other))
-  statement_behind from (repeated times body at) = is_behind from at && (is_behind from times.at && block_behind from body)
+  statement_behind from (published topic field e) =
+      is_behind from topic.at && (field_behind from field && tree_behind from e)
+  statement_behind from (branched c taken other at) =
+      is_behind from at && (tree_behind from c &&
+      (block_behind from taken && block_behind from other))
+  statement_behind from (repeated times body at) =
+      is_behind from at && (is_behind from times.at && block_behind from body)
 
   pub block_behind : Span → Block → Bool
   block_behind from no_statement = true
@@ -84,4 +97,5 @@ abbrev pub nexts_behind : Span → List Next → Bool
 nexts_behind from next = list_all (λ n. is_behind from n.name.at && tree_behind from n.value) next
 
 abbrev pub noise_behind : Span → List Field → Bool
-noise_behind from noise = list_all (λ f. is_behind from f.name.at && scalar_behind from f.scalar) noise
+noise_behind from noise =
+    list_all (λ f. is_behind from f.name.at && scalar_behind from f.scalar) noise

@@ -1,5 +1,8 @@
--- All faults of a program as a list, in the order in which they are looked for, and the least of a list.
-use Rattle.std.specs.Prelude.{ℕ, ◌+◌, nat_lt, nat_le, ◌==◌, Bool, true, false, not, ◌&&◌, ◌||◌, if◌then◌else◌, List, [], ◌∷◌, ◌++◌, map, length, Option, Some, None, fold, flat_map, slice_get}
+-- All faults of a program as a list, in the order in which they are looked for, and the least of a
+-- list.
+use Rattle.std.specs.Prelude.{ℕ, ◌+◌, nat_lt, nat_le, ◌==◌, Bool, true, false, not, ◌&&◌, ◌||◌}
+use Rattle.std.specs.Prelude.{if◌then◌else◌, List, [], ◌∷◌, ◌++◌, map, length, Option, Some, None}
+use Rattle.std.specs.Prelude.{fold, flat_map, slice_get}
 use Rattle.std.specs.List.{list_any}
 use Rattle.std.specs.Str.{bytes_eq}
 use Rattle.sot_text.specs.declared.token.Span.{Span}
@@ -12,17 +15,35 @@ use Rattle.sot_tree.specs.declared.tree.Scalar.TheVariants.{Int, Fix, Bool as Bo
 use Rattle.sot_tree.specs.declared.tree.Const.{Const}
 use Rattle.sot_tree.specs.declared.tree.Field.{Field}
 use Rattle.sot_tree.specs.declared.tree.StateDecl.{StateDecl}
-use Rattle.sot_tree.specs.Trees.{Tree, Trees, number, truth, named, binary, rest, negated, denied, called, rescaled, chosen, no_tree, one_more, Statement, Block, assigned, published, branched, repeated, no_statement, statement, Topic, Plant, Node, Module, Local, Next, Area, Declaration, a_topic, a_plant, a_node, a_module, Program}
+use Rattle.sot_tree.specs.Trees.{Tree, Trees, number, truth, named, binary, rest, negated, denied}
+use Rattle.sot_tree.specs.Trees.{called, rescaled, chosen, no_tree, one_more, Statement, Block}
+use Rattle.sot_tree.specs.Trees.{assigned, published, branched, repeated, no_statement, statement}
+use Rattle.sot_tree.specs.Trees.{Topic, Plant, Node, Module, Local, Next, Area, Declaration}
+use Rattle.sot_tree.specs.Trees.{a_topic, a_plant, a_node, a_module, Program}
 use Rattle.sot_rules.specs.declared.fault.TypeFault.{TypeFault}
 use Rattle.sot_rules.specs.declared.fault.TypeKind.{TypeKind}
-use Rattle.sot_rules.specs.declared.fault.TypeKind.TheVariants.{Unknown, Twice, ScaleDiffers, KindDiffers, RangeEmpty, InitOutside, ReadsAndWrites, TooMany, RangeWide, NoModule, PeriodOutside, NextMissing}
+use Rattle.sot_rules.specs.declared.fault.TypeKind.TheVariants.{Unknown, Twice, ScaleDiffers}
+use Rattle.sot_rules.specs.declared.fault.TypeKind.TheVariants.{KindDiffers, RangeEmpty}
+use Rattle.sot_rules.specs.declared.fault.TypeKind.TheVariants.{InitOutside, ReadsAndWrites}
+use Rattle.sot_rules.specs.declared.fault.TypeKind.TheVariants.{TooMany, RangeWide, NoModule}
+use Rattle.sot_rules.specs.declared.fault.TypeKind.TheVariants.{PeriodOutside, NextMissing}
 use Rattle.sot_rules.specs.declared.expressions.sort.Sort.{Sort}
 use Rattle.sot_rules.specs.declared.expressions.sort.Sort.TheVariants.{Scaled}
-use Rattle.sot_rules.specs.Sorts.{scale_sort, scalar_sort, const_sort, is_truthful, is_scaled, differ, are_mixed, kinds_misfit, scales_misfit, some_differ, branches_misfit}
-use Rattle.sot_rules.specs.Names.{declared_name, meaning, is_topic, is_plant, is_node, is_environment, is_external, Thing, Scope, node_scope, plant_scope, state_scope, Reading, gives, nothing_at, reading, reading_sort}
+use Rattle.sot_rules.specs.Sorts.{scale_sort, scalar_sort, const_sort, is_truthful, is_scaled}
+use Rattle.sot_rules.specs.Sorts.{differ, are_mixed, kinds_misfit, scales_misfit, some_differ}
+use Rattle.sot_rules.specs.Sorts.{branches_misfit}
+use Rattle.sot_rules.specs.Names.{declared_name, meaning, is_topic, is_plant, is_node}
+use Rattle.sot_rules.specs.Names.{is_environment, is_external, Thing, Scope, node_scope}
+use Rattle.sot_rules.specs.Names.{plant_scope, state_scope, Reading, gives, nothing_at, reading}
+use Rattle.sot_rules.specs.Names.{reading_sort}
 use Rattle.sot_rules.specs.TreeSorts.{has_decimals, is_no_scale, is_zero, sort, sorts}
 use Rattle.sot_rules.specs.Lists.{are_same, is_among, places}
-use Rattle.sot_rules.specs.Tests.{is_empty, is_wide, starts_outside, const_place, form_scalars, form_names, start_place, counts_differ, starts, is_off, is_late, topic_name, plant_name, node_name, module_name, names_of, has_module, topic_size, read_size, state_names, noise_names, local_names, side_sorts, has_other_width, sides_of, block_unrolled}
+use Rattle.sot_rules.specs.Tests.{is_empty, is_wide, starts_outside, const_place, form_scalars}
+use Rattle.sot_rules.specs.Tests.{form_names, start_place, counts_differ, starts, is_off, is_late}
+use Rattle.sot_rules.specs.Tests.{topic_name, plant_name, node_name, module_name, names_of}
+use Rattle.sot_rules.specs.Tests.{has_module, topic_size, read_size, state_names, noise_names}
+use Rattle.sot_rules.specs.Tests.{local_names, side_sorts, has_other_width, sides_of}
+use Rattle.sot_rules.specs.Tests.{block_unrolled}
 use Rattle.sot_rules.specs.First.{number_of}
 
 abbrev pub fault : Span → TypeKind → TypeFault
@@ -50,27 +71,50 @@ abbrev mutual
   tree_faults names (number l) = []
   tree_faults names (truth b at) = []
   tree_faults names (named first field) = reading_faults (reading names first field)
-  tree_faults names (binary op a b at) = tree_faults names a ++ (tree_faults names b ++ misfits (kinds_misfit op (sort names a) (sort names b)) (scales_misfit op (sort names a) (sort names b)) at)
-  tree_faults names (rest a by at) = tree_faults names a ++ (misfits (is_truthful (sort names a)) (differ (sort names a) (Scaled by.scale)) at ++ when (is_zero by) by.at KindDiffers)
-  tree_faults names (negated a at) = tree_faults names a ++ when (is_truthful (sort names a)) at KindDiffers
-  tree_faults names (denied a at) = tree_faults names a ++ when (is_scaled (sort names a)) at KindDiffers
-  tree_faults names (called f parts at) = parts_faults names parts ++ misfits (list_any is_truthful (sorts names parts)) (some_differ (sorts names parts)) at
-  tree_faults names (rescaled a to at) = tree_faults names a ++ (when (is_truthful (sort names a)) at KindDiffers ++ when (is_no_scale to) to.at ScaleDiffers)
-  tree_faults names (chosen c a b at) = tree_faults names c ++ (tree_faults names a ++ (tree_faults names b ++ misfits (branches_misfit (sort names c) (sort names a) (sort names b)) (differ (sort names a) (sort names b)) at))
+  tree_faults names (binary op a b at) =
+      tree_faults names a ++ (tree_faults names b
+      ++ misfits (kinds_misfit op (sort names a) (sort names b))
+      (scales_misfit op (sort names a) (sort names b)) at)
+  tree_faults names (rest a by at) =
+      tree_faults names a ++ (misfits (is_truthful (sort names a))
+      (differ (sort names a) (Scaled by.scale)) at ++ when (is_zero by) by.at KindDiffers)
+  tree_faults names (negated a at) =
+      tree_faults names a ++ when (is_truthful (sort names a)) at KindDiffers
+  tree_faults names (denied a at) =
+      tree_faults names a ++ when (is_scaled (sort names a)) at KindDiffers
+  tree_faults names (called f parts at) =
+      parts_faults names parts ++ misfits (list_any is_truthful (sorts names parts))
+      (some_differ (sorts names parts)) at
+  tree_faults names (rescaled a to at) =
+      tree_faults names a ++ (when (is_truthful (sort names a)) at KindDiffers
+      ++ when (is_no_scale to) to.at ScaleDiffers)
+  tree_faults names (chosen c a b at) =
+      tree_faults names c ++ (tree_faults names a
+      ++ (tree_faults names b ++ misfits
+      (branches_misfit (sort names c) (sort names a) (sort names b))
+      (differ (sort names a) (sort names b)) at))
 
   pub parts_faults : List Thing → Trees → List TypeFault
   parts_faults names no_tree = []
   parts_faults names (one_more e more) = tree_faults names e ++ parts_faults names more
 
 abbrev pub target_faults : Reading → Sort → Span → List TypeFault
-target_faults target value at = reading_faults target ++ misfits (are_mixed (reading_sort target) value) (differ (reading_sort target) value) at
+target_faults target value at =
+    reading_faults target ++ misfits (are_mixed (reading_sort target) value)
+    (differ (reading_sort target) value) at
 
 abbrev mutual
   pub statement_faults : Scope → Statement → List TypeFault
-  statement_faults s (assigned target e) = tree_faults s.read e ++ target_faults (reading s.local target None) (sort s.read e) target.at
-  statement_faults s (published topic field e) = tree_faults s.read e ++ target_faults (reading s.written topic field) (sort s.read e) topic.at
-  statement_faults s (branched c taken other at) = tree_faults s.read c ++ (when (is_scaled (sort s.read c)) at KindDiffers ++ (block_faults s taken ++ block_faults s other))
-  statement_faults s (repeated times body at) = when (has_decimals times) times.at ScaleDiffers ++ (when (is_off times) times.at PeriodOutside ++ block_faults s body)
+  statement_faults s (assigned target e) =
+      tree_faults s.read e ++ target_faults (reading s.local target None) (sort s.read e) target.at
+  statement_faults s (published topic field e) =
+      tree_faults s.read e ++ target_faults (reading s.written topic field) (sort s.read e) topic.at
+  statement_faults s (branched c taken other at) =
+      tree_faults s.read c ++ (when (is_scaled (sort s.read c)) at KindDiffers
+      ++ (block_faults s taken ++ block_faults s other))
+  statement_faults s (repeated times body at) =
+      when (has_decimals times) times.at ScaleDiffers
+      ++ (when (is_off times) times.at PeriodOutside ++ block_faults s body)
 
   pub block_faults : Scope → Block → List TypeFault
   block_faults s no_statement = []
@@ -94,7 +138,9 @@ past limit items = one_past (slice_get items limit)
 -- the name with which a sum of sizes passes a limit
 abbrev pub passes : (Ident → ℕ) → ℕ → ℕ → List Ident → List TypeFault
 passes size limit sum [] = []
-passes size limit sum (i ∷ more) = when (nat_le sum limit && nat_lt limit (sum + size i)) i.at TooMany ++ passes size limit (sum + size i) more
+passes size limit sum (i ∷ more) =
+    when (nat_le sum limit && nat_lt limit (sum + size i)) i.at TooMany
+    ++ passes size limit (sum + size i) more
 
 abbrev pub bounds_lists : Bool → Sort → Bounds → List (List TypeFault)
 bounds_lists limited s b =
@@ -109,11 +155,14 @@ bounds_faults limited s b = together (bounds_lists limited s b)
 
 abbrev pub scalar_faults : Bool → Scalar → List TypeFault
 scalar_faults limited (Int b) = bounds_faults limited (Scaled 0) b
-scalar_faults limited (Fix d b) = when (is_no_scale d) d.at ScaleDiffers ++ bounds_faults limited (scale_sort d) b
+scalar_faults limited (Fix d b) =
+    when (is_no_scale d) d.at ScaleDiffers ++ bounds_faults limited (scale_sort d) b
 scalar_faults limited (BoolScalar at) = []
 
 abbrev pub start_faults : Scalar → Const → List TypeFault
-start_faults s c = target_faults (gives (scalar_sort s)) (const_sort c) (const_place c) ++ when (starts_outside s c) (const_place c) InitOutside
+start_faults s c =
+    target_faults (gives (scalar_sort s)) (const_sort c) (const_place c)
+    ++ when (starts_outside s c) (const_place c) InitOutside
 
 abbrev pub times_lists : Lit → Lit → List (List TypeFault)
 times_lists period offset =
@@ -150,7 +199,8 @@ seen_lists p q i =
     when (not (is_topic (meaning p i)) && not (is_plant (meaning p i))) i.at Unknown
     ∷ when (is_topic (meaning p i)) i.at KindDiffers
     ∷ when (is_plant (meaning p i) && are_same i q.name) i.at KindDiffers
-    ∷ when (is_plant (meaning p i) && (not (are_same i q.name) && is_among i (state_names q))) i.at Twice
+    ∷ when (is_plant (meaning p i) && (not (are_same i q.name) && is_among i (state_names q))) i.at
+    Twice
     ∷ []
 
 abbrev pub noise_lists : Plant → Field → List (List TypeFault)
@@ -163,13 +213,15 @@ noise_lists q f =
 abbrev pub next_faults : Program → Plant → Next → List TypeFault
 next_faults p q n =
     tree_faults (plant_scope p q) n.value
-    ++ target_faults (reading (state_scope q) n.name None) (sort (plant_scope p q) n.value) n.name.at
+    ++ target_faults (reading (state_scope q) n.name None) (sort (plant_scope p q) n.value)
+    n.name.at
 
 -- the clauses that do not give the state variable at their place
 abbrev pub order_faults : List StateDecl → List Next → List TypeFault
 order_faults states [] = []
 order_faults [] (n ∷ more) = fault n.name.at NextMissing ∷ order_faults [] more
-order_faults (s ∷ states) (n ∷ more) = when (not (are_same n.name s.name)) n.name.at NextMissing ++ order_faults states more
+order_faults (s ∷ states) (n ∷ more) =
+    when (not (are_same n.name s.name)) n.name.at NextMissing ++ order_faults states more
 
 abbrev pub plant_lists : Program → Plant → List (List TypeFault)
 plant_lists p q =
@@ -228,7 +280,9 @@ node_lists p n =
     ∷ []
 
 abbrev pub area_faults : Option (List Sort) → Area → List TypeFault
-area_faults width b = when (has_other_width width b) b.at KindDiffers ++ flat_map (λ x. bounds_faults false x.0 x.1) (sides_of width b)
+area_faults width b =
+    when (has_other_width width b) b.at KindDiffers
+    ++ flat_map (λ x. bounds_faults false x.0 x.1) (sides_of width b)
 
 abbrev pub region_faults : Option (List Sort) → List Area → List TypeFault
 region_faults width boxes = flat_map (area_faults width) boxes ++ past 256 (map (λ b. b.at) boxes)
@@ -240,7 +294,8 @@ module_lists p m =
     ∷ when (is_external (meaning p m.sc)) m.sc.at KindDiffers
     ∷ when (are_same m.ac m.sc) m.sc.at Twice
     ∷ times_faults m.period m.offset
-    ∷ when (not (is_topic (meaning p m.plant)) && not (is_plant (meaning p m.plant))) m.plant.at Unknown
+    ∷ when (not (is_topic (meaning p m.plant)) && not (is_plant (meaning p m.plant))) m.plant.at
+    Unknown
     ∷ when (is_topic (meaning p m.plant)) m.plant.at KindDiffers
     ∷ region_faults (side_sorts (meaning p m.plant)) m.safe
     ∷ region_faults (side_sorts (meaning p m.plant)) m.safer
@@ -267,7 +322,9 @@ faults p = together (program_lists p)
 
 -- the first fault so far, and one more
 abbrev pub is_before : TypeFault → TypeFault → Bool
-is_before f g = nat_lt (rank f.at) (rank g.at) || ((rank f.at == rank g.at) && nat_lt (number_of f.kind) (number_of g.kind))
+is_before f g =
+    nat_lt (rank f.at) (rank g.at) || ((rank f.at == rank g.at) && nat_lt (number_of f.kind)
+    (number_of g.kind))
 
 abbrev pub lesser : Option TypeFault → TypeFault → Option TypeFault
 lesser None g = Some g

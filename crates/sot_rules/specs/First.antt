@@ -5,7 +5,11 @@ use Rattle.sot_text.specs.Place.{rank}
 use Rattle.sot_tree.specs.Trees.{Program}
 use Rattle.sot_rules.specs.declared.fault.TypeFault.{TypeFault}
 use Rattle.sot_rules.specs.declared.fault.TypeKind.{TypeKind}
-use Rattle.sot_rules.specs.declared.fault.TypeKind.TheVariants.{Unknown, Twice, ScaleDiffers, KindDiffers, RangeEmpty, InitOutside, ReadsAndWrites, TooMany, RangeWide, NoModule, PeriodOutside, NextMissing}
+use Rattle.sot_rules.specs.declared.fault.TypeKind.TheVariants.{Unknown, Twice, ScaleDiffers}
+use Rattle.sot_rules.specs.declared.fault.TypeKind.TheVariants.{KindDiffers, RangeEmpty}
+use Rattle.sot_rules.specs.declared.fault.TypeKind.TheVariants.{InitOutside, ReadsAndWrites}
+use Rattle.sot_rules.specs.declared.fault.TypeKind.TheVariants.{TooMany, RangeWide, NoModule}
+use Rattle.sot_rules.specs.declared.fault.TypeKind.TheVariants.{PeriodOutside, NextMissing}
 use Rattle.sot_rules.specs.Fails.{Fails}
 
 -- the numbers of the rules
@@ -25,7 +29,8 @@ number_of NextMissing = 12
 
 -- f stands before g, or where g stands and with no greater number
 abbrev pub IsNotAfter : TypeFault → TypeFault → Type 0
-IsNotAfter f g = (rank f.at < rank g.at) ⊎ ((rank f.at ≡ rank g.at) × (number_of f.kind ≤ number_of g.kind))
+IsNotAfter f g =
+    (rank f.at < rank g.at) ⊎ ((rank f.at ≡ rank g.at) × (number_of f.kind ≤ number_of g.kind))
 
 -- a rule fails there, and none that fails comes before it
 pub record IsFirstFault (p : Program) (f : TypeFault) : Type 0 where

@@ -7,15 +7,20 @@ use Rattle.sot_rules.specs.declared.fault.TypeFault.{TypeFault}
 use Rattle.sot_rules.specs.declared.fault.TypeKind.TheVariants.{Unknown, Twice, KindDiffers}
 use Rattle.sot_rules.specs.Names.{meaning, is_node, is_external}
 use Rattle.sot_rules.specs.Lists.{are_same, places}
-use Rattle.sot_rules.specs.Tests.{form_names, start_place, counts_differ, starts, topic_size, read_size, noise_names, local_names}
-use Rattle.sot_rules.specs.Faults.{when, together, repeats, past, passes, start_faults, scale_faults, input_faults, seen_lists, noise_lists, read_faults, write_lists, local_lists}
+use Rattle.sot_rules.specs.Tests.{form_names, start_place, counts_differ, starts, topic_size}
+use Rattle.sot_rules.specs.Tests.{read_size, noise_names, local_names}
+use Rattle.sot_rules.specs.Faults.{when, together, repeats, past, passes, start_faults}
+use Rattle.sot_rules.specs.Faults.{scale_faults, input_faults, seen_lists, noise_lists, read_faults}
+use Rattle.sot_rules.specs.Faults.{write_lists, local_lists}
 
 -- of a topic: the names of its fields, and its initial value
 abbrev pub names_faults : Form → List TypeFault
 names_faults f = repeats [] (form_names f) ++ past 8 (places (form_names f))
 
 abbrev pub starts_faults : Topic → List TypeFault
-starts_faults t = when (counts_differ t) (start_place t.init) KindDiffers ++ flat_map (λ x. start_faults x.0 x.1) (starts t)
+starts_faults t =
+    when (counts_differ t) (start_place t.init) KindDiffers
+    ++ flat_map (λ x. start_faults x.0 x.1) (starts t)
 
 -- of a plant: its state variables, its inputs, the plants that it sees, and its disturbances
 abbrev pub states_faults : List StateDecl → List TypeFault

@@ -24,7 +24,8 @@ abbrev pub form_fields : Form → List Part
 form_fields (one s) = []
 form_fields (fields fs) = map field_part fs
 
--- the parts of a declaration that has several: the fields of a record, the state variables of a plant
+-- the parts of a declaration that has several: the fields of a record, the state variables of a
+-- plant
 abbrev pub declared_parts : Declaration → List Part
 declared_parts (a_topic t) = form_fields t.shape
 declared_parts (a_plant q) = map state_part q.states
@@ -45,7 +46,8 @@ pub record Indexes (ds : List Declaration) (x : Index) : Type 0 where
   -- a name is owned where some module names it as its plant
   pub owned : (i : Ident) → is_key x.owned.keys i ≡ list_any (is_plant_of i) ds
   -- the tables of parts stand in the order of the declarations, and give what their parts do
-  pub parts : (name : List ℕ) → map (λ t. sort_in (parts_of t) name) x.parts.items ≡ map (λ d. sort_in (declared_parts d) name) ds
+  pub parts : (name : List ℕ) → map (λ t. sort_in (parts_of t) name) x.parts.items
+      ≡ map (λ d. sort_in (declared_parts d) name) ds
 
 -- the tables hold all declarations of their program
 abbrev pub IsIndex : Index → Type 0

@@ -28,7 +28,8 @@ abbrev pub with_byte : NameHash → ℕ → NameHash
 with_byte s b =
     let last = ((s.last * 256) % 2 ^ 64 + b) % 2 ^ 64 in
     let length = (s.length + 1) % 2 ^ 64 in
-    cond (length % 8 == 0) (record { words = with_word s.words last; last = 0; length = length }) (record { words = s.words; last = last; length = length })
+    cond (length % 8 == 0) (record { words = with_word s.words last; last = 0; length = length })
+    (record { words = s.words; last = last; length = length })
 
 -- a byte is told by itself, and what is told otherwise is left out
 abbrev pub with_bytes : NameHash → List ℕ → NameHash

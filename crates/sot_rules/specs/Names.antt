@@ -1,11 +1,13 @@
 -- What names mean, and which names an owner's expressions may use.
-use Rattle.std.specs.Prelude.{ℕ, Bool, true, false, List, ◌++◌, map, Option, Some, None, find, filter_map, is_none}
+use Rattle.std.specs.Prelude.{ℕ, Bool, true, false, List, ◌++◌, map, Option, Some, None, find}
+use Rattle.std.specs.Prelude.{filter_map, is_none}
 use Rattle.std.specs.Str.{bytes_eq}
 use Rattle.sot_text.specs.declared.token.Span.{Span}
 use Rattle.sot_tree.specs.declared.tree.Ident.{Ident}
 use Rattle.sot_tree.specs.declared.tree.Field.{Field}
 use Rattle.sot_tree.specs.declared.tree.StateDecl.{StateDecl}
-use Rattle.sot_tree.specs.Trees.{Form, one, fields, Topic, Plant, Node, Local, Declaration, a_topic, a_plant, a_node, a_module, Program}
+use Rattle.sot_tree.specs.Trees.{Form, one, fields, Topic, Plant, Node, Local, Declaration, a_topic}
+use Rattle.sot_tree.specs.Trees.{a_plant, a_node, a_module, Program}
 use Rattle.sot_rules.specs.declared.expressions.sort.Sort.{Sort}
 use Rattle.sot_rules.specs.declared.expressions.sort.Sort.TheVariants.{Anything}
 use Rattle.sot_rules.specs.Sorts.{scalar_sort, state_sort}
@@ -41,7 +43,8 @@ abbrev pub is_external : Option Declaration → Bool
 is_external (Some (a_node n)) = is_none n.body
 is_external _ = false
 
--- A thing that may be named: one number or truth value, or several, which a second name tells apart.
+-- A thing that may be named: one number or truth value, or several, which a second name tells
+-- apart.
 pub record Part : Type 0 where
   pub name : List ℕ
   pub sort : Sort
@@ -93,8 +96,8 @@ either_meant (Some (a_topic t)) = Some (topic_thing t)
 either_meant (Some (a_plant q)) = Some (plant_thing q)
 either_meant _ = None
 
--- the names that a node's statements use: its expressions name what it reads and its locals, its assignments the locals, and
--- its publications the topics that it writes
+-- the names that a node's statements use: its expressions name what it reads and its locals, its
+-- assignments the locals, and its publications the topics that it writes
 pub record Scope : Type 0 where
   pub read : List Thing
   pub local : List Thing
@@ -132,7 +135,8 @@ abbrev pub parts_reading : Ident → Option Ident → Parts → Reading
 parts_reading first None (alone s) = gives s
 parts_reading first (Some field) (alone s) = nothing_at field.at
 parts_reading first None (several parts) = nothing_at first.at
-parts_reading first (Some field) (several parts) = part_reading field (find (λ x. bytes_eq field.name x.name) parts)
+parts_reading first (Some field) (several parts) =
+    part_reading field (find (λ x. bytes_eq field.name x.name) parts)
 
 abbrev pub thing_reading : Ident → Option Ident → Option Thing → Reading
 thing_reading first field None = nothing_at first.at
@@ -140,7 +144,8 @@ thing_reading first field (Some x) = parts_reading first field x.parts
 
 -- a name means the first thing of that name
 abbrev pub reading : List Thing → Ident → Option Ident → Reading
-reading things first field = thing_reading first field (find (λ x. bytes_eq first.name x.name) things)
+reading things first field =
+    thing_reading first field (find (λ x. bytes_eq first.name x.name) things)
 
 abbrev pub reading_sort : Reading → Sort
 reading_sort (gives s) = s

@@ -1,5 +1,6 @@
 -- The names that the code keeps in tables, as the things that they stand for.
-use Rattle.std.specs.Prelude.{ℕ, List, [], map, slice_index_or, Option, Some, None, option_map, Result, Ok, Err}
+use Rattle.std.specs.Prelude.{ℕ, List, [], map, slice_index_or, Option, Some, None, option_map}
+use Rattle.std.specs.Prelude.{Result, Ok, Err}
 use denote.Ref.{Bor}
 use Rattle.indexmap.specs.IndexMap.{IndexMap}
 use Rattle.sot_text.specs.declared.token.Span.{Span}
@@ -9,13 +10,15 @@ use Rattle.sot_rules.specs.declared.expressions.sort.Sort.{Sort}
 use Rattle.sot_rules.specs.declared.names.scope.Names.{Names}
 use Rattle.sot_rules.specs.declared.names.scope.Things.{Things}
 use Rattle.sot_rules.specs.declared.names.scope.PartTable.{PartTable}
-use Rattle.sot_rules.specs.declared.names.scope.PartTable.TheVariants.{Nothing, Fields, States, Table}
+use Rattle.sot_rules.specs.declared.names.scope.PartTable.TheVariants.{Nothing, Fields, States}
+use Rattle.sot_rules.specs.declared.names.scope.PartTable.TheVariants.{Table}
 use Rattle.sot_rules.specs.declared.names.scope.Scope.{Scope as CodeScope}
 use Rattle.sot_rules.specs.declared.names.scope.Kept.{Kept}
 use Rattle.sot_rules.specs.declared.names.scope.Kept.TheVariants.{Alone, Several}
 use Rattle.sot_rules.specs.Sorts.{state_sort}
 use Rattle.sot_rules.specs.NameTables.{entries_in}
-use Rattle.sot_rules.specs.Names.{Part, field_part, state_part, Parts, alone, several, Thing, Scope, Reading, gives, nothing_at, parts_reading}
+use Rattle.sot_rules.specs.Names.{Part, field_part, state_part, Parts, alone, several, Thing, Scope}
+use Rattle.sot_rules.specs.Names.{Reading, gives, nothing_at, parts_reading}
 
 -- the parts that a table has
 abbrev pub parts_in : {S : Type 0} → IndexMap (Bor (List ℕ)) Sort S → List Part
@@ -34,7 +37,9 @@ kept_parts tables (Alone s) = alone s
 kept_parts tables (Several k) = several (slice_index_or tables k [])
 
 abbrev pub things_of : List PartTable → Things → List Thing
-things_of tables m = map (λ e. record { name = e.0.now; parts = kept_parts (map parts_of tables) e.1 }) (entries_in m)
+things_of tables m =
+    map (λ e. record { name = e.0.now; parts = kept_parts (map parts_of tables) e.1 })
+    (entries_in m)
 
 -- what a look-up answers: a sort, or the place of the fault
 abbrev pub answer : Result Sort Span → Reading
@@ -55,7 +60,8 @@ unfoldable pub names_in : Names → List Thing
 names_in n = things_of n.tables.now n.things
 
 abbrev pub scope_in : CodeScope → Scope
-scope_in s = record { read = names_in s.read; local = names_in s.local; written = names_in s.written }
+scope_in s =
+    record { read = names_in s.read; local = names_in s.local; written = names_in s.written }
 
 -- the sorts of the state variables of a plant, where it is known
 abbrev pub sorts_in : Option (Bor (List StateDecl)) → Option (List Sort)

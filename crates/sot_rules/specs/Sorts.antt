@@ -1,5 +1,7 @@
--- Sorts: when two of them fit, and what the operators make of them. What may be anything fits everything.
-use Rattle.std.specs.Prelude.{ℕ, ◌+◌, ◌-◌, nat_lt, ◌==◌, Bool, true, false, not, ◌&&◌, ◌||◌, if◌then◌else◌, List, [], ◌∷◌, Option, Some, None, nat_abs, fold}
+-- Sorts: when two of them fit, and what the operators make of them. What may be anything fits
+-- everything.
+use Rattle.std.specs.Prelude.{ℕ, ◌+◌, ◌-◌, nat_lt, ◌==◌, Bool, true, false, not, ◌&&◌, ◌||◌}
+use Rattle.std.specs.Prelude.{if◌then◌else◌, List, [], ◌∷◌, Option, Some, None, nat_abs, fold}
 use Rattle.sot_tree.specs.declared.tree.Lit.{Lit}
 use Rattle.sot_tree.specs.declared.tree.Scalar.{Scalar}
 use Rattle.sot_tree.specs.declared.tree.Scalar.TheVariants.{Int, Fix, Bool as BoolScalar}
@@ -11,7 +13,8 @@ use Rattle.sot_tree.specs.declared.operator.Op.TheVariants.{Add, Sub, Mul, Div, 
 use Rattle.sot_rules.specs.declared.expressions.sort.Sort.{Sort}
 use Rattle.sot_rules.specs.declared.expressions.sort.Sort.TheVariants.{Scaled, Truthful, Anything}
 
--- a written count of decimals: any number is taken as it stands, and one that has decimals itself says nothing
+-- a written count of decimals: any number is taken as it stands, and one that has decimals itself
+-- says nothing
 abbrev pub scale_sort : Lit → Sort
 scale_sort d = if d.scale == 0 then Scaled (nat_abs d.mantissa) else Anything
 
@@ -63,7 +66,8 @@ kinds_misfit And a b = is_scaled a || is_scaled b
 kinds_misfit Or a b = is_scaled a || is_scaled b
 kinds_misfit _ a b = is_truthful a || is_truthful b
 
--- a product has at most 6 decimals, a quotient not less than none, and every other operator takes numbers of one scale
+-- a product has at most 6 decimals, a quotient not less than none, and every other operator takes
+-- numbers of one scale
 abbrev pub scales_misfit : Op → Sort → Sort → Bool
 scales_misfit And a b = false
 scales_misfit Or a b = false

@@ -1,5 +1,7 @@
 -- What is tested of ranges, initial values, periods, limits and plants.
-use Rattle.std.specs.Prelude.{ℕ, zero, suc, ◌^◌, ◌==◌, pos, ◌+ℤ◌, ◌-ℤ◌, int_lt, int_le, Bool, true, false, not, ◌&&◌, ◌||◌, List, [], ◌∷◌, ◌++◌, map, length, zip, Option, Some, None, filter_map, nat_abs}
+use Rattle.std.specs.Prelude.{ℕ, zero, suc, ◌^◌, ◌==◌, pos, ◌+ℤ◌, ◌-ℤ◌, int_lt, int_le, Bool, true}
+use Rattle.std.specs.Prelude.{false, not, ◌&&◌, ◌||◌, List, [], ◌∷◌, ◌++◌, map, length, zip, Option}
+use Rattle.std.specs.Prelude.{Some, None, filter_map, nat_abs}
 use Rattle.std.specs.List.{list_any}
 use Rattle.sot_text.specs.declared.token.Span.{Span}
 use Rattle.sot_tree.specs.declared.tree.Ident.{Ident}
@@ -10,7 +12,10 @@ use Rattle.sot_tree.specs.declared.tree.Scalar.TheVariants.{Int, Fix}
 use Rattle.sot_tree.specs.declared.tree.Const.{Const}
 use Rattle.sot_tree.specs.declared.tree.Const.TheVariants.{Number, Truth}
 use Rattle.sot_tree.specs.declared.tree.StateDecl.{StateDecl}
-use Rattle.sot_tree.specs.Trees.{Form, one, fields, Start, one_value, values, Topic, Plant, Node, Area, Declaration, a_topic, a_plant, a_node, a_module, Program, Statement, Block, assigned, published, branched, repeated, no_statement, statement}
+use Rattle.sot_tree.specs.Trees.{Form, one, fields, Start, one_value, values, Topic, Plant, Node}
+use Rattle.sot_tree.specs.Trees.{Area, Declaration, a_topic, a_plant, a_node, a_module, Program}
+use Rattle.sot_tree.specs.Trees.{Statement, Block, assigned, published, branched, repeated}
+use Rattle.sot_tree.specs.Trees.{no_statement, statement}
 use Rattle.sot_rules.specs.declared.expressions.sort.Sort.{Sort}
 use Rattle.sot_rules.specs.declared.expressions.sort.Sort.TheVariants.{Scaled, Anything}
 use Rattle.sot_rules.specs.Sorts.{scalar_sort, state_sort}
@@ -22,7 +27,8 @@ is_empty b = (b.lo.scale == b.hi.scale) && int_lt b.hi.mantissa b.lo.mantissa
 
 -- ends of one scale, with more than 2^32 numbers
 abbrev pub is_wide : Bounds → Bool
-is_wide b = (b.lo.scale == b.hi.scale) && int_lt (pos (2 ^ 32)) ((b.hi.mantissa -ℤ b.lo.mantissa) +ℤ pos 1)
+is_wide b =
+    (b.lo.scale == b.hi.scale) && int_lt (pos (2 ^ 32)) ((b.hi.mantissa -ℤ b.lo.mantissa) +ℤ pos 1)
 
 -- a number that is not within ends of its scale
 abbrev pub is_outside : Bounds → Lit → Bool
@@ -66,7 +72,9 @@ counts_differ t = not (length (form_scalars t.shape) == length (start_values t.i
 
 -- a scalar and its initial value, where there are as many of both
 abbrev pub starts : Topic → List (Scalar × Const)
-starts t = elim (counts_differ t) as (λ x. List (Scalar × Const)) [ true ↦ [] | false ↦ zip (form_scalars t.shape) (start_values t.init) ]
+starts t =
+    elim (counts_differ t) as (λ x. List (Scalar × Const))
+    [ true ↦ [] | false ↦ zip (form_scalars t.shape) (start_values t.init) ]
 
 -- a whole number that is not 1 to 1,000
 abbrev pub is_off : Lit → Bool
@@ -74,7 +82,8 @@ is_off l = (l.scale == 0) && (int_lt l.mantissa (pos 1) || int_lt (pos 1000) l.m
 
 -- whole numbers, of which the offset is not below the period
 abbrev pub is_late : Lit → Lit → Bool
-is_late period offset = (period.scale == 0) && ((offset.scale == 0) && int_le period.mantissa offset.mantissa)
+is_late period offset =
+    (period.scale == 0) && ((offset.scale == 0) && int_le period.mantissa offset.mantissa)
 
 -- declarations of one sort
 abbrev pub topic_name : Declaration → Option Ident
@@ -137,13 +146,16 @@ abbrev pub has_other_width : Option (List Sort) → Area → Bool
 has_other_width None b = false
 has_other_width (Some sorts) b = not (length sorts == length b.sides)
 
--- the sides of a box with what they are to fit: anything, where the plant is not known or the widths differ
+-- the sides of a box with what they are to fit: anything, where the plant is not known or the
+-- widths differ
 abbrev pub free_sides : Area → List (Sort × Bounds)
 free_sides b = map (λ s. (Anything, s)) b.sides
 
 abbrev pub sides_of : Option (List Sort) → Area → List (Sort × Bounds)
 sides_of None b = free_sides b
-sides_of (Some sorts) b = elim (has_other_width (Some sorts) b) as (λ x. List (Sort × Bounds)) [ true ↦ free_sides b | false ↦ zip sorts b.sides ]
+sides_of (Some sorts) b =
+    elim (has_other_width (Some sorts) b) as (λ x. List (Sort × Bounds))
+    [ true ↦ free_sides b | false ↦ zip sorts b.sides ]
 
 -- a list so many times
 abbrev pub copies : ℕ → List Span → List Span

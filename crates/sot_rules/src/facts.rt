@@ -1,5 +1,14 @@
 //! Worked programs with their first faults, and two that have none.
-ghost use Rattle.sot_rules.specs.Examples.{FirstOfUnknownName, FirstOfSecondName, FirstOfOtherScale, FirstOfOtherKind, FirstOfEmptyRange, FirstOfOutsideStart, FirstOfOwnInput, FirstOfNineFields, FirstOfWideRange, FirstOfLonePlant, FirstOfNoPeriod, FirstOfNoNext, FirstOfSwappedNext, FirstOfTwoAtOne, FirstOfTwoPlaces, FirstOfTwoTruths, FirstOfBareRecord, FirstOfHiddenTopic, FirstOfOwnNameSeen, FirstOfManyStatements, FirstOfLateOffset, FirstOfWideBox, OtherOfTwoAtOne, NoneInTheLine, NoneInTheRest};
+ghost use Rattle.sot_rules.specs.Examples.{FirstOfUnknownName, FirstOfSecondName};
+ghost use Rattle.sot_rules.specs.Examples.{FirstOfOtherScale, FirstOfOtherKind, FirstOfEmptyRange};
+ghost use Rattle.sot_rules.specs.Examples.{FirstOfOutsideStart, FirstOfOwnInput, FirstOfNineFields};
+ghost use Rattle.sot_rules.specs.Examples.{FirstOfWideRange, FirstOfLonePlant, FirstOfNoPeriod};
+ghost use Rattle.sot_rules.specs.Examples.{FirstOfNoNext, FirstOfSwappedNext, FirstOfTwoAtOne};
+ghost use Rattle.sot_rules.specs.Examples.{FirstOfTwoPlaces, FirstOfTwoTruths, FirstOfBareRecord};
+ghost use Rattle.sot_rules.specs.Examples.{FirstOfHiddenTopic, FirstOfOwnNameSeen};
+ghost use Rattle.sot_rules.specs.Examples.{FirstOfManyStatements, FirstOfLateOffset};
+ghost use Rattle.sot_rules.specs.Examples.{FirstOfWideBox, OtherOfTwoAtOne, NoneInTheLine};
+ghost use Rattle.sot_rules.specs.Examples.{NoneInTheRest};
 
 /// The first faults of worked programs: each rule once, and the order of two faults.
 pub fn first_faults_are_as_stated()

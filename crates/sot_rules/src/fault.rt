@@ -12,11 +12,13 @@ use std::alloc::AllocError;
 pub enum TypeKind {
     /// A name is nothing that may be named there.
     Unknown,
-    /// A name is declared again, hides a name that its owner may use, stands twice in a list, or a module's two nodes are one.
+    /// A name is declared again, hides a name that its owner may use, stands twice in a list, or a
+    /// module's two nodes are one.
     Twice,
     /// Scales do not fit, or a number has more decimals than it may have.
     ScaleDiffers,
-    /// A truth value stands for a number or the reverse, or another sort of thing or count of items than may stand there.
+    /// A truth value stands for a number or the reverse, or another sort of thing or count of items
+    /// than may stand there.
     KindDiffers,
     /// The lower end of a range is above its upper end.
     RangeEmpty,
@@ -108,7 +110,8 @@ pub fn is_behind(at: Span, from: Span) -> bool
     from.rank() < at.rank()
 }
 
-/// Whether a place stands behind the first fault, where there is one. Then no fault there is the first.
+/// Whether a place stands behind the first fault, where there is one. Then no fault there is the
+/// first.
 pub fn stands_behind(first: Option<TypeFault>, at: Span) -> bool
     ensures { result ≡ true → StandsBehind first at }
 {

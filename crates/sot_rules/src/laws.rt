@@ -7,7 +7,8 @@ ghost use Rattle.sot_rules.specs.Fails.{Fails};
 ghost use Rattle.sot_rules.specs.First.{IsFirstFault, IsFaultless};
 ghost use Rattle.sot_rules.specs.Faults.{faults, least};
 
-/// The list of a program's faults has exactly the rules that fail, and its least one is the program's first fault.
+/// The list of a program's faults has exactly the rules that fail, and its least one is the
+/// program's first fault.
 pub fn faults_are_the_failing_rules()
     ensures listed { (p : Program) (f : TypeFault) → Has (faults p) f ↔ Fails p f.at f.kind }
     ensures first { (p : Program) (f : TypeFault) → least None (faults p)

@@ -101,8 +101,9 @@ pub fn first_fault_in(alloc: Global, index: &Index) -> Result<Option<TypeFault>,
     Ok(first)
 }
 
-/// The first rule of typing that a program breaks, by its place and then by its number, or nothing where it breaks none. It takes
-/// memory for tables of the names, and time that grows with the length of the program times the depth of its loops.
+/// The first rule of typing that a program breaks, by its place and then by its number, or nothing
+/// where it breaks none. It takes memory for tables of the names, and time that grows with the
+/// length of the program times the depth of its loops.
 pub fn first_fault(alloc: Global, program: &Program) -> Result<Option<TypeFault>, AllocError>
     ensures faultless { IfOk result (λ f. f ≡ None → IsFaultless (program_view program.now)) }
     ensures first { IfOk result

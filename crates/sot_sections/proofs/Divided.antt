@@ -13,9 +13,12 @@ first_is_section (b ∷ bs) = elim (cases_Bool (b == 10)) [ inl end ↦ rw end r
 opens : (n : ℕ) (l : List ℕ) (ls : List (List ℕ)) → is_section_line l ≡ true → division n (l ∷ ls) ≡ opened n l (division (suc n) ls)
 opens n l ls is = rw is refl
 
-pub divided_opened : (n : ℕ) (bs : List ℕ) → is_section_line bs ≡ true → divided n bs ≡ opened n (take (line_len bs) bs) (divided (suc n) (drop (line_len bs) bs))
+pub divided_opened : (n : ℕ) (bs : List ℕ) → is_section_line bs ≡ true
+    → divided n bs ≡ opened n (take (line_len bs) bs) (divided (suc n) (drop (line_len bs) bs))
 divided_opened n [] is = absurd cc
-divided_opened n (b ∷ bs) is = ap (division n) (first_line (b ∷ bs) (omega arith)) ∙ opens n (take (line_len (b ∷ bs)) (b ∷ bs)) (lines (drop (line_len (b ∷ bs)) (b ∷ bs))) (first_is_section (b ∷ bs) ∙ is)
+divided_opened n (b ∷ bs) is =
+    ap (division n) (first_line (b ∷ bs) (omega arith)) ∙ opens n (take (line_len (b ∷ bs)) (b ∷ bs)) (lines (drop (line_len (b ∷ bs)) (b ∷ bs)))
+    (first_is_section (b ∷ bs) ∙ is)
 
 pub end_moves : (n : ℕ) (bs : List ℕ) → 0 < length bs → end_line n bs ≡ end_line (suc n) (drop (line_len bs) bs)
 end_moves n bs some = (let len = ap (λ (ls : List (List ℕ)). length ls) (first_line bs some) in omega (arith, len))

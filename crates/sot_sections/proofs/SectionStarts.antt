@@ -1,5 +1,6 @@
 -- The bytes in front of the next section line, and how they divide a text.
-use Rattle.std.proofs.Common.{◌≡◌, ◌≢◌, ℕ, zero, suc, ◌+◌, ◌-◌, ◌<◌, ◌≤◌, List, [], ◌∷◌, ◌++◌, Bool, true, false, ◌==◌, inl, inr, length, take, drop, refl, sym, ap, subst, ◌∙◌, arith, append_assoc, length-drop, drop_of_length-le}
+use Rattle.std.proofs.Common.{◌≡◌, ◌≢◌, ℕ, zero, suc, ◌+◌, ◌-◌, ◌<◌, ◌≤◌, List, [], ◌∷◌, ◌++◌, Bool, true, false, ◌==◌, inl, inr, length, take, drop, refl, sym}
+use Rattle.std.proofs.Common.{ap, subst, ◌∙◌, arith, append_assoc, length-drop, drop_of_length-le}
 use Rattle.std.specs.Prelude.{◌⊎◌, slice_index, if◌then◌else◌}
 use Rattle.std.proofs.lemmas.Bool.{cases_Bool, cases_lt, cases_order}
 use Rattle.std.proofs.lemmas.Bool.Decides.{nat_tests}
@@ -39,7 +40,8 @@ division_plain n b [] plain = rw plain refl
 division_plain n b (l ∷ ls) plain = rw plain refl
 
 -- one byte that begins no section line
-step_divided : (s : Bool) (n b : ℕ) (bs : List ℕ) → (s ≡ true → (b == 37) ≡ false) → divided_in s n (b ∷ bs) ≡ continued (b ∷ []) (divided_in (b == 10) (number_behind b n) bs)
+step_divided : (s : Bool) (n b : ℕ) (bs : List ℕ) → (s ≡ true → (b == 37) ≡ false)
+    → divided_in s n (b ∷ bs) ≡ continued (b ∷ []) (divided_in (b == 10) (number_behind b n) bs)
 step_divided true n b bs plain =
     elim (cases_Bool (b == 10)) [
       | inl end ↦ rw (end, plain refl) refl
@@ -94,7 +96,8 @@ both a b d = ap (λ (f : List ℕ). let whole : Division = record { front = f; s
 
 -- what stands behind those bytes is divided by itself
 cut_in : (s : Bool) (n at : ℕ) (bs : List ℕ) → Quiet s at bs → Ends s at bs
-    → (divided_in s n bs ≡ continued (take at bs) (divided (last_in s n (take at bs)) (drop at bs))) × (last_in s n bs ≡ end_line (last_in s n (take at bs)) (drop at bs))
+    → (divided_in s n bs ≡ continued (take at bs) (divided (last_in s n (take at bs)) (drop at bs)))
+    × (last_in s n bs ≡ end_line (last_in s n (take at bs)) (drop at bs))
 cut_in true n zero bs quiet ends = (let none : n + 0 ≡ n = omega arith in rw none (refl, refl))
 cut_in false n zero [] quiet ends = (refl, (let none : n + 1 + 0 ≡ n + 1 = omega arith in sym none))
 cut_in false n zero (b ∷ bs) quiet (inl begins) = absurd cc
@@ -225,7 +228,8 @@ none_before bs at before none nowhere j less is =
     ]
 
 -- a `%` further on in its line begins no section line, and neither does the rest of that line
-pub none_more : (bs : List ℕ) (mark k : ℕ) → NoneBegins bs mark → mark ≢ 0 → slice_index bs (mark - 1) ≢ 10 → k ≡ line_len (drop mark bs) → NoneBegins bs (mark + k)
+pub none_more : (bs : List ℕ) (mark k : ℕ) → NoneBegins bs mark → mark ≢ 0 → slice_index bs (mark - 1) ≢ 10 → k ≡ line_len (drop mark bs)
+    → NoneBegins bs (mark + k)
 none_more bs mark k none some other len j less is =
     elim (cases_order j mark) [
       | inl here ↦ subst (λ (i : ℕ). (i ≢ 0) × (slice_index bs (i - 1) ≢ 10)) (sym here) (some, other)

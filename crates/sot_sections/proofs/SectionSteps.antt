@@ -1,5 +1,6 @@
 -- How sections are taken one by one, in their order.
-use Rattle.std.proofs.Common.{◌≡◌, ◌≢◌, ℕ, suc, ◌+◌, ◌<◌, ◌≤◌, List, [], ◌∷◌, true, false, ◌==◌, nat_le, inl, inr, length, take, drop, Option, None, Some, refl, sym, ap, ◌∙◌, subst, arith, add-one, ◌-◌, length-drop}
+use Rattle.std.proofs.Common.{◌≡◌, ◌≢◌, ℕ, suc, ◌+◌, ◌<◌, ◌≤◌, List, [], ◌∷◌, true, false, ◌==◌, nat_le, inl, inr, length, take, drop, Option, None, Some, refl}
+use Rattle.std.proofs.Common.{sym, ap, ◌∙◌, subst, arith, add-one, ◌-◌, length-drop}
 use Rattle.std.specs.Prelude.{if◌then◌else◌, Bool, codes, Result, Ok}
 use Rattle.std.specs.Str.{bytes_eq}
 use Rattle.std.proofs.lemmas.Bool.{cases_Bool, cases_eq}
@@ -79,7 +80,8 @@ body_first k (s ∷ ss) none =
           subst Lacks (first_no k s ss other).1 none ∙ sym (first_no k s ss other).0
     ]
 
-pub fault_first : (s : Section) (ss : List Section) → fault_behind 3 (s ∷ ss) ≡ Some (record { line = s.line; kind = (if place (title s.mark) == 0 then Unknown else Order) })
+pub fault_first : (s : Section) (ss : List Section) → fault_behind 3 (s ∷ ss)
+    ≡ Some (record { line = s.line; kind = (if place (title s.mark) == 0 then Unknown else Order) })
 fault_first s ss =
     let limit = place_limit (title s.mark) in
     elim (cases_Bool (place (title s.mark) == 0)) [
@@ -110,7 +112,8 @@ bodies_left ss none =
 
 -- what the first section gives, and what stands behind it
 taken_here : (n wanted : ℕ) (bs : List ℕ) → begins_section bs ≡ true → 0 < wanted → place (title (take (line_len bs) bs)) ≡ wanted
-    → (first_body wanted (divided n bs).sections ≡ Some (divided (suc n) (drop (line_len bs) bs)).front) × (behind_first wanted (divided n bs).sections ≡ (divided (suc n) (drop (line_len bs) bs)).sections) × (0 < length bs)
+    → (first_body wanted (divided n bs).sections ≡ Some (divided (suc n) (drop (line_len bs) bs)).front)
+    × (behind_first wanted (divided n bs).sections ≡ (divided (suc n) (drop (line_len bs) bs)).sections) × (0 < length bs)
 taken_here n wanted [] begins some is = absurd (omega (arith, is, place_nothing))
 taken_here n wanted (b ∷ bs) begins some is =
     let text = b ∷ bs in
@@ -122,11 +125,13 @@ taken_here n wanted (b ∷ bs) begins some is =
 
 -- the same, as code counts
 pub taken : (n k wanted : ℕ) (bs : List ℕ) → begins_section bs ≡ true → 0 < wanted → k ≡ line_len bs → place (title (take k bs)) ≡ wanted
-    → (first_body wanted (divided n bs).sections ≡ Some (divided (n + 1) (drop k bs)).front) × (behind_first wanted (divided n bs).sections ≡ (divided (n + 1) (drop k bs)).sections) × (0 < length bs)
+    → (first_body wanted (divided n bs).sections ≡ Some (divided (n + 1) (drop k bs)).front)
+    × (behind_first wanted (divided n bs).sections ≡ (divided (n + 1) (drop k bs)).sections) × (0 < length bs)
 taken n k wanted bs begins some len is = rw (len, add-one) (taken_here n wanted bs begins some (rw len at is))
 
 -- where the first section is taken, what is found behind its line is the section and the rest
-pub taken_rest : (n k wanted r : ℕ) (bs tail body rest : List ℕ) → begins_section bs ≡ true → 0 < wanted → k ≡ line_len bs → place (title (take k bs)) ≡ wanted → tail ≡ drop k bs
+pub taken_rest : (n k wanted r : ℕ) (bs tail body rest : List ℕ) → begins_section bs ≡ true → 0 < wanted → k ≡ line_len bs → place (title (take k bs)) ≡ wanted
+    → tail ≡ drop k bs
     → body ≡ (divided (n + 1) tail).front → IsRest (divided (n + 1) tail).sections (end_line (n + 1) tail) (n + 1 + length tail) r rest
     → (Some body ≡ first_body wanted (divided n bs).sections) × IsRest (behind_first wanted (divided n bs).sections) (end_line n bs) (n + length bs) r rest
 taken_rest n k wanted r bs tail body rest begins some len is at_tail is_body is_rest =
@@ -175,7 +180,8 @@ unless_same : (r r' : Option SectionFault) (a b : Result Parts SectionFault) →
 unless_same r None a b e same = rw e (same refl)
 unless_same r (Some fault) a b e same = rw e refl
 
-same_needed : (need : Need) (n n' : ℕ) (p p' : List ℕ) (c c' f f' t t' : Option (List ℕ)) → n ≡ n' → p ≡ p' → c ≡ c' → f ≡ f' → t ≡ t' → or_missing n (needed need p c f t) ≡ or_missing n' (needed need p' c' f' t')
+same_needed : (need : Need) (n n' : ℕ) (p p' : List ℕ) (c c' f f' t t' : Option (List ℕ)) → n ≡ n' → p ≡ p' → c ≡ c' → f ≡ f' → t ≡ t'
+    → or_missing n (needed need p c f t) ≡ or_missing n' (needed need p' c' f' t')
 same_needed need n n' p p' c c' f f' t t' en ep ec ef et = rw (en, ep, ec, ef, et) refl
 
 -- the whole of `split`, from what was taken one by one
@@ -192,7 +198,8 @@ collected bytes n₁ n₂ n₃ n₄ m₁ m₂ m₃ m₄ t₁ t₂ t₃ t₄ p c 
     let s₄ : (divided n₄ t₄).sections ≡ behind_first 3 (behind_first 2 (behind_first 1 ss)) = r₄.same ∙ ap (behind_first 3) s₃ in
     let faults : fault_behind 0 ss ≡ fault_behind 3 (divided n₄ t₄).sections = fault_left ss ∙ ap (fault_behind 3) (sym s₄) in
     unless_same (fault_behind 0 ss) (fault_behind 3 (divided n₄ t₄).sections)
-    (or_missing (suc (length (lines bytes))) (needed need (divided 1 bytes).front (body_of 1 ss) (body_of 2 ss) (body_of 3 ss))) (or_missing n₄ (needed need p c f t)) faults
+    (or_missing (suc (length (lines bytes))) (needed need (divided 1 bytes).front (body_of 1 ss) (body_of 2 ss) (body_of 3 ss)))
+    (or_missing n₄ (needed need p c f t)) faults
     (λ none.
     let empty : (divided n₄ t₄).sections ≡ [] = none_left (divided n₄ t₄).sections none in
     let bodies = bodies_left ss (sym s₄ ∙ empty) in

@@ -1,5 +1,8 @@
 //! Worked missions and their sections.
-ghost use Rattle.sot_sections.specs.SectionExamples.{AllParts, PartsForFlight, PartsForCheck, LinesEndWithCr, TwoCrs, UnknownFarBehind, Repeated, OutOfOrder, Skipped, EmptyText, SectionsAreTheText};
+ghost use Rattle.sot_sections.specs.SectionExamples.{AllParts, PartsForFlight, PartsForCheck};
+ghost use Rattle.sot_sections.specs.SectionExamples.{LinesEndWithCr, TwoCrs, UnknownFarBehind};
+ghost use Rattle.sot_sections.specs.SectionExamples.{Repeated, OutOfOrder, Skipped, EmptyText};
+ghost use Rattle.sot_sections.specs.SectionExamples.{SectionsAreTheText};
 
 /// Worked missions and their sections, and that the sections of a text put together are the text.
 pub fn sections_are_as_stated()

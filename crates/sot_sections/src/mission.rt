@@ -2,15 +2,17 @@
 ghost use Rattle.std.specs.Prelude.{◌≡◌, ℕ, ◌+◌, ◌<◌, ◌≤◌, ◌^◌, true, length};
 ghost use Rattle.std.specs.Option.{option_map};
 ghost use Rattle.sot_text.specs.LineEnds.{lines, without_last};
-ghost use Rattle.sot_sections.specs.Sections.{title, place, fault_behind, needed, or_missing, unless, split_of, parts_of, answer_seen};
+ghost use Rattle.sot_sections.specs.Sections.{title, place, fault_behind, needed, or_missing};
+ghost use Rattle.sot_sections.specs.Sections.{unless, split_of, parts_of, answer_seen};
 ghost use Rattle.sot_text.specs.LineEnds.{line_len};
-ghost use Rattle.sot_sections.specs.Dividing.{divided, begins_section, end_line, NoneBegins, IsCut, section_lines, first_body, behind_first, IsRest};
+ghost use Rattle.sot_sections.specs.Dividing.{divided, begins_section, end_line, NoneBegins, IsCut};
+ghost use Rattle.sot_sections.specs.Dividing.{section_lines, first_body, behind_first, IsRest};
 
 use memchr::memchr;
 use sot_text::line_len;
 
-/// What a command needs of a mission beside its program: to check needs the certificate, to fly the flight too, and to replay
-/// the trace as well.
+/// What a command needs of a mission beside its program: to check needs the certificate, to fly the
+/// flight too, and to replay the trace as well.
 #[derive(Clone, Copy, Debug, PartialEq, Eq)]
 pub enum Need {
     Check,
@@ -90,7 +92,8 @@ fn place(title: &[u8]) -> u8
     }
 }
 
-// Where the next section line begins, or the end. The lines on the way are not gone over one by one, since few of them have a `%`.
+// Where the next section line begins, or the end. The lines on the way are not gone over one by
+// one, since few of them have a `%`.
 fn section_start(bytes: &[u8]) -> usize
     ensures within { result ≤ length bytes.now }
     ensures none { NoneBegins bytes.now result }
@@ -110,7 +113,8 @@ fn section_start(bytes: &[u8]) -> usize
 // The bytes before the next section line.
 fn front<'a>(bytes: &'a [u8]) -> Cut<'a>
     ensures body { (line : ℕ) → result.body.now ≡ (divided line bytes.now).front }
-    ensures rest { (line : ℕ) → IsRest (divided line bytes.now).sections (end_line line bytes.now) (line + length bytes.now) (end_line line result.body.now) result.rest.now }
+    ensures rest { (line : ℕ) → IsRest (divided line bytes.now).sections (end_line line bytes.now)
+        (line + length bytes.now) (end_line line result.body.now) result.rest.now }
 {
     let at = section_start(bytes);
     Cut {
@@ -123,8 +127,11 @@ fn front<'a>(bytes: &'a [u8]) -> Cut<'a>
 fn take_section<'a>(bytes: &'a [u8], wanted: u8) -> Taken<'a>
     requires begins { begins_section bytes.now ≡ true }
     requires wanted { 0 < wanted }
-    ensures body { (line : ℕ) → option_map (λ b. b.now) result.body ≡ first_body wanted (divided line bytes.now).sections }
-    ensures rest { (line : ℕ) → IsRest (behind_first wanted (divided line bytes.now).sections) (end_line line bytes.now) (line + length bytes.now) (line + section_lines (option_map (λ b. b.now) result.body)) result.rest.now }
+    ensures body { (line : ℕ) → option_map (λ b. b.now) result.body
+        ≡ first_body wanted (divided line bytes.now).sections }
+    ensures rest { (line : ℕ) → IsRest (behind_first wanted (divided line bytes.now).sections)
+        (end_line line bytes.now) (line + length bytes.now)
+        (line + section_lines (option_map (λ b. b.now) result.body)) result.rest.now }
 {
     let len = line_len(bytes);
     if place(title(&bytes[..len])) == wanted {
@@ -165,7 +172,9 @@ fn needed<'a>(
     flight: Option<&'a [u8]>,
     trace: Option<&'a [u8]>,
 ) -> Option<Sections<'a>>
-    ensures { option_map parts_of result ≡ needed need program.now (option_map (λ b. b.now) cert.entry) (option_map (λ b. b.now) flight.entry) (option_map (λ b. b.now) trace.entry) }
+    ensures { option_map parts_of result
+        ≡ needed need program.now (option_map (λ b. b.now) cert.entry)
+        (option_map (λ b. b.now) flight.entry) (option_map (λ b. b.now) trace.entry) }
 {
     match (need, cert, flight, trace) {
         (Need::Check, Some(cert), _, _) => Some(Sections {
@@ -232,24 +241,30 @@ fn count_section(body: Option<&[u8]>) -> usize
     }
 }
 
-// The number of the line behind the program and these sections. It is counted only where it is told.
+// The number of the line behind the program and these sections. It is counted only where it is
+// told.
 fn line_behind(
     program: &[u8],
     cert: Option<&[u8]>,
     flight: Option<&[u8]>,
     trace: Option<&[u8]>,
 ) -> u32
-    requires { end_line 1 program.now + section_lines (option_map (λ b. b.now) cert) + section_lines (option_map (λ b. b.now) flight) + section_lines (option_map (λ b. b.now) trace) < 2 ^ 32 }
-    ensures { result ≡ end_line 1 program.now + section_lines (option_map (λ b. b.now) cert.entry) + section_lines (option_map (λ b. b.now) flight.entry) + section_lines (option_map (λ b. b.now) trace.entry) }
+    requires { end_line 1 program.now + section_lines (option_map (λ b. b.now) cert)
+        + section_lines (option_map (λ b. b.now) flight)
+        + section_lines (option_map (λ b. b.now) trace) < 2 ^ 32 }
+    ensures { result ≡ end_line 1 program.now + section_lines (option_map (λ b. b.now) cert.entry)
+        + section_lines (option_map (λ b. b.now) flight.entry)
+        + section_lines (option_map (λ b. b.now) trace.entry) }
 {
     let front = 1 + count_lines(program);
     let sections = count_section(cert) + count_section(flight) + count_section(trace);
     (front + sections) as u32
 }
 
-/// The sections of a mission, as far as they are needed. A line that begins with `%` is a section line; the program stands before
-/// the first, and each section from behind its line to the next. The whole text is looked through for a section line with a
-/// fault, also behind what is needed, and the first such line is told. Only where there is none can a section be missing.
+/// The sections of a mission, as far as they are needed. A line that begins with `%` is a section
+/// line; the program stands before the first, and each section from behind its line to the next.
+/// The whole text is looked through for a section line with a fault, also behind what is needed,
+/// and the first such line is told. Only where there is none can a section be missing.
 pub fn split<'a>(bytes: &'a [u8], need: Need) -> Result<Sections<'a>, SectionFault>
     requires { length bytes.now + 1 < 2 ^ 32 }
     ensures { answer_seen result ≡ split_of bytes.now need }

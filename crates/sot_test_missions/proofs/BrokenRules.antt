@@ -4,7 +4,8 @@ use Rattle.std.proofs.lemmas.Int.{ints}
 use Rattle.std.specs.Global.{Global}
 use Rattle.sot_lang.specs.TableRules.{MeetsTableRules}
 use Rattle.sot_lang.specs.Line.{pos_name}
-use Rattle.sot_test_missions.specs.Broken.{reads_its_own, one_name_twice, sees_itself, seven_decimals, one_value_too_many, long_period, box_of_two_sides, turned_box}
+use Rattle.sot_test_missions.specs.Broken.{reads_its_own, one_name_twice, sees_itself, seven_decimals, one_value_too_many, long_period, box_of_two_sides}
+use Rattle.sot_test_missions.specs.Broken.{turned_box}
 
 module _ (g : Global) where
   pub own_read : MeetsTableRules (reads_its_own g) → ⊥

@@ -1,5 +1,6 @@
 -- The tables of the double integrator meet the rules of tables.
-use Rattle.std.proofs.Common.{◌≡◌, ◌≢◌, ℕ, zero, suc, ◌<◌, ◌≤◌, ◌+◌, ◌*◌, ◌-◌, ℤ, true, false, List, [], ◌∷◌, refl, sym, ap, ◌∙◌, subst, arith, negsuc, ◌≤ℤ◌, length, pos}
+use Rattle.std.proofs.Common.{◌≡◌, ◌≢◌, ℕ, zero, suc, ◌<◌, ◌≤◌, ◌+◌, ◌*◌, ◌-◌, ℤ, true, false, List, [], ◌∷◌, refl, sym, ap, ◌∙◌, subst, arith, negsuc, ◌≤ℤ◌}
+use Rattle.std.proofs.Common.{length, pos}
 use Rattle.std.specs.Prelude.{slice_index_or, replicate, map, ◌++◌, ◌==◌, if◌then◌else◌, ltb, Bool}
 use Rattle.std.proofs.lemmas.Int.{ints}
 use Rattle.std.proofs.lemmas.Option.{same_Some, none-some}
@@ -23,7 +24,8 @@ use Rattle.sot_lang.specs.Ranges.{local_ranges}
 use Rattle.sot_lang.specs.OwnerNames.{width_of, seen_width, is_truth_scalar, node_truths, plant_truths, reads_truth}
 use Rattle.sot_lang.specs.TermRules.{TermsFit}
 use Rattle.sot_lang.specs.ActRules.{ActsFit}
-use Rattle.sot_lang.specs.TableRules.{IsTyped, IsCoded, IsNarrow, AreDistinct, MeetsTableRules, MeetsScalarRules, MeetsPlantRules, MeetsNodeRules, MeetsModuleRules}
+use Rattle.sot_lang.specs.TableRules.{IsTyped, IsCoded, IsNarrow, AreDistinct, MeetsTableRules, MeetsScalarRules, MeetsPlantRules, MeetsNodeRules}
+use Rattle.sot_lang.specs.TableRules.{MeetsModuleRules}
 use Rattle.sot_lang.specs.Line.{side, fast_name, slow_name, nav_name}
 use Rattle.sot_lists.proofs.ShortLists.{at_more, at_one, at_two}
 use Rattle.sot_lang.proofs.Owners.{one_body}
@@ -91,7 +93,8 @@ at_snoc P (x ∷ xs) y all h (suc i) b at = at_snoc P xs y (λ i b at. all (suc 
 -- the boxes of the safe region have two sides, whose ends are in order
 rows_fit : (n : ℕ) → n ≤ 29 → (i : ℕ) (b : List Side) → At (rows n) i b → (length b ≡ 2) × AreOrdered b
 rows_fit zero few i b at = absurd (none-some b at)
-rows_fit (suc n) few i b at = at_snoc (λ b. (length b ≡ 2) × AreOrdered b) (rows n) (row n) (rows_fit n (omega (arith, few))) (row_fits n (omega (arith, few))) i b at
+rows_fit (suc n) few i b at =
+    at_snoc (λ b. (length b ≡ 2) × AreOrdered b) (rows n) (row n) (rows_fit n (omega (arith, few))) (row_fits n (omega (arith, few))) i b at
 
 all_rows : length (rows 29) ≡ 29
 all_rows = refl
@@ -99,7 +102,8 @@ all_rows = refl
 -- of a plant's names none is a truth value
 numbers_alone : (states : List StateInfo) (inputs : List ℕ) (seen : ℕ) (noise : List NoiseInfo)
     → states ≡ state_named 120 ∷ state_named 118 ∷ [] → inputs ≡ 0 ∷ [] → seen ≡ 0 → noise ≡ noise_w ∷ []
-    → (map (λ s. false) states ++ map (is_truth_scalar (number ∷ [])) inputs ++ replicate seen false ++ map (λ d. false) noise) ≡ false ∷ false ∷ false ∷ false ∷ []
+    → (map (λ s. false) states ++ map (is_truth_scalar (number ∷ [])) inputs ++ replicate seen false ++ map (λ d. false) noise)
+    ≡ false ∷ false ∷ false ∷ false ∷ []
 numbers_alone states inputs seen noise a b c d = rw (a, b, c, d) refl
 
 -- a number that is read is a state variable of the arm
@@ -154,26 +158,38 @@ module _ (low high : ℤ) (in_order : low ≤ℤ high) (p : Tables) (h : IsDoubl
 
   typed : IsTyped made
   typed = record {
-    node_times = at_two (λ n node. node.offset < node.period) h.fast h.slow (omega (arith, h.is_fast.offset, h.is_fast.period)) (omega (arith, h.is_slow.offset, h.is_slow.period));
+    node_times =
+        at_two (λ n node. node.offset < node.period) h.fast h.slow (omega (arith, h.is_fast.offset, h.is_fast.period))
+        (omega (arith, h.is_slow.offset, h.is_slow.period));
     module_times = at_one (λ m a. a.offset < a.period) (stops low high) (omega arith);
     ac_is = at_one (λ m a. (node : NodeInfo) × At made.nodes a.ac node) (stops low high) (h.fast, refl);
-    sc_is = at_one (λ m a. (node : NodeInfo) × (acts : List Act) × At made.nodes a.sc node × IsCoded node acts) (stops low high) (h.slow, h.is_slow.body.0, refl, h.is_slow.body.1);
+    sc_is =
+        at_one (λ m a. (node : NodeInfo) × (acts : List Act) × At made.nodes a.sc node × IsCoded node acts) (stops low high)
+        (h.slow, h.is_slow.body.0, refl, h.is_slow.body.1);
     plant_is = at_one (λ m a. (plant : PlantInfo) × At plants a.plant plant) (stops low high) (h.arm, refl);
     apart = at_one (λ m a. a.ac ≢ a.sc) (stops low high) (λ e. omega (arith, e));
-    sees_are = λ k one n at. at_one (λ k one. Has one.sees.items n → (other : PlantInfo) × At plants n other) h.arm (λ w. absurd (nothing h.arm.sees.items h.is_arm.sees w.0 n w.1)) k one at;
+    sees_are =
+        λ k one n at. at_one (λ k one. Has one.sees.items n → (other : PlantInfo) × At plants n other) h.arm
+        (λ w. absurd (nothing h.arm.sees.items h.is_arm.sees w.0 n w.1)) k one at;
     named = at_one (λ k one. (m : ℕ) × (a : ModuleInfo) × At made.modules m a × (a.plant ≡ k)) h.arm (0, stops low high, refl, refl);
     reads_are = λ n node k v at. at_two (λ n node. Has node.reads.items (State k v) → (other : PlantInfo) × At plants k other) h.fast h.slow
         (λ w. there k v (reads_arm h.fast h.is_fast.reads (State k v) w)) (λ w. there k v (reads_arm h.slow h.is_slow.reads (State k v) w)) n node at;
     inits = (omega (arith, ints), omega (arith, ints), tt);
-    local_inits = at_two (λ n node. IsWithin (local_ranges node) (map (λ l. l.init) node.locals.items)) h.fast h.slow (no_inits h.fast h.is_fast.locals) (no_inits h.slow h.is_slow.locals);
+    local_inits =
+        at_two (λ n node. IsWithin (local_ranges node) (map (λ l. l.init) node.locals.items)) h.fast h.slow (no_inits h.fast h.is_fast.locals)
+        (no_inits h.slow h.is_slow.locals);
     once = λ n node i j k at. at_two (λ n node. At node.writes.items i k → At node.writes.items j k → i ≡ j) h.fast h.slow
         (once h.fast h.is_fast.writes i j k) (once h.slow h.is_slow.writes i j k) n node at;
     inside = λ n node k at. at_two (λ n node. Has node.writes.items k → k < 1) h.fast h.slow
         (below_one h.fast.writes.items h.is_fast.writes k) (below_one h.slow.writes.items h.is_slow.writes k) n node at;
     outside = λ n node t i info at at_t e less has. at_one (λ t info. info.outside ≡ true → ⊥) u (λ e. false≢true e) t info at_t e;
-    scalar_topic = at_one (λ k info. (topic : TopicInfo) × At made.topics info.topic topic × (topic.first ≤ k) × (k < topic.first + topic.count)) number (u, refl, omega arith, omega arith);
-    topic_scalar = λ t k topic at. at_one (λ t topic. topic.first ≤ k → k < topic.first + topic.count → (info : ScalarInfo) × At made.scalars k info × (info.topic ≡ t)) u
-        (λ a b. let e : 0 ≡ k = omega (arith, a, b) in subst (λ k. (info : ScalarInfo) × At made.scalars k info × (info.topic ≡ 0)) e (number, refl, refl)) t topic at;
+    scalar_topic =
+        at_one (λ k info. (topic : TopicInfo) × At made.topics info.topic topic × (topic.first ≤ k) × (k < topic.first + topic.count)) number
+        (u, refl, omega arith, omega arith);
+    topic_scalar =
+        λ t k topic at. at_one (λ t topic. topic.first ≤ k → k < topic.first + topic.count → (info : ScalarInfo) × At made.scalars k info × (info.topic ≡ t)) u
+        (λ a b. let e : 0 ≡ k = omega (arith, a, b) in subst (λ k. (info : ScalarInfo) × At made.scalars k info × (info.topic ≡ 0)) e (number, refl, refl)) t
+        topic at;
     whole_writes = λ n node j k a b at w x y e. whole node.writes.items j k a b w x y;
     whole_inputs = λ i one j k a b at w x y e. whole one.inputs.items j k a b w x y;
     inputs_are = λ i one k at. at_one (λ i one. Has one.inputs.items k → k < 1) h.arm (below_one h.arm.inputs.items h.is_arm.inputs k) i one at;
@@ -191,20 +207,27 @@ module _ (low high : ℤ) (in_order : low ≤ℤ high) (p : Tables) (h : IsDoubl
   arm_rules = record {
     some_state = omega (arith, ap length h.is_arm.states);
     states = omega (arith, ap length h.is_arm.states);
-    state_scales = λ i info at. at_two (λ i (s : StateInfo). s.scale ≤ 6) (state_named 120) (state_named 118) (omega arith) (omega arith) i info (subst (λ l. At l i info) h.is_arm.states at);
+    state_scales =
+        λ i info at. at_two (λ i (s : StateInfo). s.scale ≤ 6) (state_named 120) (state_named 118) (omega arith) (omega arith) i info
+        (subst (λ l. At l i info) h.is_arm.states at);
     inputs = omega (arith, ap length h.is_arm.inputs);
     sees = omega (arith, ap length h.is_arm.sees);
     sees_others = λ n w. absurd (nothing h.arm.sees.items h.is_arm.sees w.0 n w.1);
     noise = omega (arith, ap length h.is_arm.noise);
-    noise_ranges = λ i info at. at_one (λ i (w : NoiseInfo). (w.scale ≤ 6) × IsNarrow w.lo w.hi) noise_w (omega arith, (omega (arith, ints), omega (arith, ints))) i info (subst (λ l. At l i info) h.is_arm.noise at);
+    noise_ranges =
+        λ i info at. at_one (λ i (w : NoiseInfo). (w.scale ≤ 6) × IsNarrow w.lo w.hi) noise_w (omega arith, (omega (arith, ints), omega (arith, ints))) i info
+        (subst (λ l. At l i info) h.is_arm.noise at);
     one_next = ap length h.is_arm.next ∙ sym (ap length h.is_arm.states);
-    next = subst (TermsFit (plant_truths made h.arm)) (sym h.is_arm.next)
-        (place_fits (plant_truths made h.arm) four_truths h.is_arm.«place» h.is_arm.is_place, (speed_fits (plant_truths made h.arm) four_truths h.is_arm.speed h.is_arm.is_speed, tt));
+    next = subst (TermsFit (plant_truths made h.arm)) (sym h.is_arm.next) (
+      place_fits (plant_truths made h.arm) four_truths h.is_arm.«place» h.is_arm.is_place,
+      (speed_fits (plant_truths made h.arm) four_truths h.is_arm.speed h.is_arm.is_speed, tt),
+    );
   }
 
   -- a node that reads the arm and writes its input
   node_rules : (node : NodeInfo) → node.period ≤ 1000 → node.reads.items ≡ State 0 0 ∷ State 0 1 ∷ [] → node.writes.items ≡ 0 ∷ [] → node.locals.items ≡ []
-      → ((acts : List Act) → IsCoded node acts → ActsFit (node_truths made node) (length node.locals.items) (length node.writes.items) acts) → MeetsNodeRules made node
+      → ((acts : List Act) → IsCoded node acts → ActsFit (node_truths made node) (length node.locals.items) (length node.writes.items) acts)
+      → MeetsNodeRules made node
   node_rules node period reads writes locals body = record {
     period = period;
     reads = omega (arith, ap length reads);
@@ -219,11 +242,14 @@ module _ (low high : ℤ) (in_order : low ≤ℤ high) (p : Tables) (h : IsDoubl
   }
 
   fast_rules : MeetsNodeRules made h.fast
-  fast_rules = node_rules h.fast (omega (arith, h.is_fast.period)) h.is_fast.reads h.is_fast.writes h.is_fast.locals (λ acts coded. absurd (none-some coded.0 (sym h.is_fast.body ∙ coded.1)))
+  fast_rules =
+      node_rules h.fast (omega (arith, h.is_fast.period)) h.is_fast.reads h.is_fast.writes h.is_fast.locals
+      (λ acts coded. absurd (none-some coded.0 (sym h.is_fast.body ∙ coded.1)))
 
   slow_rules : MeetsNodeRules made h.slow
   slow_rules = node_rules h.slow (omega (arith, h.is_slow.period)) h.is_slow.reads h.is_slow.writes h.is_slow.locals
-      (λ acts coded. thrust_fits (node_truths made h.slow) (length h.slow.locals.items) (length h.slow.writes.items) acts two_truths (ap length h.is_slow.writes)
+      (λ acts coded. thrust_fits (node_truths made h.slow) (length h.slow.locals.items) (length h.slow.writes.items) acts two_truths
+      (ap length h.is_slow.writes)
       (subst IsThrust (one_body h.slow h.is_slow.body.0 acts h.is_slow.body.1 coded) h.is_slow.body.2))
 
   module_rules : MeetsModuleRules made (stops low high)

@@ -29,6 +29,7 @@ push_fits truths t two h =
     let parts : TermsFit truths h.parts.items = subst (TermsFit truths) (sym h.items) (gap, (refl, (refl, tt))) in
     subst (TermFits truths) (sym h.is) (Call-TermFits Clamp h.parts (place 17 17) truths parts (ap length h.items))
 
-pub thrust_fits : (truths : List Bool) (locals writes : ℕ) (acts : List Act) → truths ≡ false ∷ false ∷ [] → writes ≡ 1 → IsThrust acts → ActsFit truths locals writes acts
+pub thrust_fits : (truths : List Bool) (locals writes : ℕ) (acts : List Act) → truths ≡ false ∷ false ∷ [] → writes ≡ 1 → IsThrust acts
+    → ActsFit truths locals writes acts
 thrust_fits truths locals writes acts two some h =
     subst (ActsFit truths locals writes) (sym h.2) ((omega (arith, some), push_fits truths h.0 two h.1), tt)

@@ -23,7 +23,8 @@ use Rattle.sot_lang.specs.Tables.{Tables}
 use Rattle.sot_lang.specs.Ranges.{local_ranges}
 use Rattle.sot_lang.specs.OwnerNames.{width_of, seen_width, is_truth_scalar, node_truths, plant_truths, reads_truth}
 use Rattle.sot_lang.specs.TermRules.{TermFits, TermsFit}
-use Rattle.sot_lang.specs.TableRules.{IsTyped, IsCoded, IsNarrow, AreDistinct, MeetsTableRules, MeetsScalarRules, MeetsPlantRules, MeetsNodeRules, MeetsModuleRules, IsRegionFor}
+use Rattle.sot_lang.specs.TableRules.{IsTyped, IsCoded, IsNarrow, AreDistinct, MeetsTableRules, MeetsScalarRules, MeetsPlantRules, MeetsNodeRules}
+use Rattle.sot_lang.specs.TableRules.{MeetsModuleRules, IsRegionFor}
 use Rattle.sot_lang.specs.Line.{side, cmd_name, pos_name, fast_name, slow_name, nav_name}
 use Rattle.sot_lists.proofs.ShortLists.{at_one, at_two}
 use Rattle.sot_lang.proofs.Owners.{one_body}
@@ -106,7 +107,8 @@ module _ (N : Term → Type 0) (fits : (truths : List Bool) (t : Term) → truth
   width_one : width_of made.plants 0 ≡ 1
   width_one = ap length hp.states
 
-  node_reads : (node : NodeInfo) → node.reads.items ≡ State 0 0 ∷ [] → (k v : ℕ) → Has node.reads.items (State k v) → (other : PlantInfo) × At made.plants k other
+  node_reads : (node : NodeInfo) → node.reads.items ≡ State 0 0 ∷ [] → (k v : ℕ) → Has node.reads.items (State k v)
+      → (other : PlantInfo) × At made.plants k other
   node_reads node reads k v a = subst (λ k. (other : PlantInfo) × At made.plants k other) (is_plant node reads k v a) (plant, refl)
 
   node_vars : (node : NodeInfo) → node.reads.items ≡ State 0 0 ∷ [] → (k v : ℕ) → Has node.reads.items (State k v) → v < width_of made.plants k
@@ -137,24 +139,38 @@ module _ (N : Term → Type 0) (fits : (truths : List Bool) (t : Term) → truth
     sc_is = at_one (λ m a. (node : NodeInfo) × (acts : List Act) × At made.nodes a.sc node × IsCoded node acts) nav (slow, hs.body.0, refl, hs.body.1);
     plant_is = at_one (λ m a. (plant : PlantInfo) × At made.plants a.plant plant) nav (plant, refl);
     apart = at_one (λ m a. a.ac ≢ a.sc) nav (λ e. omega (arith, e));
-    sees_are = λ k one n at. at_one (λ k one. Has one.sees.items n → (other : PlantInfo) × At made.plants n other) plant (λ h. absurd (nothing plant.sees.items hp.sees h.0 n h.1)) k one at;
+    sees_are =
+        λ k one n at. at_one (λ k one. Has one.sees.items n → (other : PlantInfo) × At made.plants n other) plant
+        (λ h. absurd (nothing plant.sees.items hp.sees h.0 n h.1)) k one at;
     named = at_one (λ k one. (m : ℕ) × (a : ModuleInfo) × At made.modules m a × (a.plant ≡ k)) plant (0, nav, refl, refl);
     reads_are = λ n node k v at. at_two (λ n node. Has node.reads.items (State k v) → (other : PlantInfo) × At made.plants k other) fast slow
         (node_reads fast hf.reads k v) (node_reads slow hs.reads k v) n node at;
     inits = (omega (arith, ints), omega (arith, ints), tt);
-    local_inits = at_two (λ n node. IsWithin (local_ranges node) (map (λ l. l.init) node.locals.items)) fast slow (no_inits fast hf.locals) (no_inits slow hs.locals);
+    local_inits =
+        at_two (λ n node. IsWithin (local_ranges node) (map (λ l. l.init) node.locals.items)) fast slow (no_inits fast hf.locals) (no_inits slow hs.locals);
     once = λ n node i j k at. at_two (λ n node. At node.writes.items i k → At node.writes.items j k → i ≡ j) fast slow
         (writes_once fast hf.writes i j k) (writes_once slow hs.writes i j k) n node at;
     inside = λ n node k at. at_two (λ n node. Has node.writes.items k → k < 1) fast slow (writes_low fast hf.writes k) (writes_low slow hs.writes k) n node at;
     outside = λ n node t i info at at_t e less has. at_one (λ t info. info.outside ≡ true → ⊥) cmd (λ e. false≢true e) t info at_t e;
-    scalar_topic = at_one (λ k info. (topic : TopicInfo) × At made.topics info.topic topic × (topic.first ≤ k) × (k < topic.first + topic.count)) number (cmd, refl, omega arith, omega arith);
-    topic_scalar = λ t k topic at. at_one (λ t topic. topic.first ≤ k → k < topic.first + topic.count → (info : ScalarInfo) × At made.scalars k info × (info.topic ≡ t)) cmd
-        (λ a b. let e : 0 ≡ k = omega (arith, a, b) in subst (λ k. (info : ScalarInfo) × At made.scalars k info × (info.topic ≡ 0)) e (number, refl, refl)) t topic at;
-    whole_writes = λ n node j k a b at. at_two (λ n node. Has node.writes.items j → At made.scalars j a → At made.scalars k b → a.topic ≡ b.topic → Has node.writes.items k) fast slow
+    scalar_topic =
+        at_one (λ k info. (topic : TopicInfo) × At made.topics info.topic topic × (topic.first ≤ k) × (k < topic.first + topic.count)) number
+        (cmd, refl, omega arith, omega arith);
+    topic_scalar =
+        λ t k topic at. at_one (λ t topic. topic.first ≤ k → k < topic.first + topic.count → (info : ScalarInfo) × At made.scalars k info × (info.topic ≡ t))
+        cmd
+        (λ a b. let e : 0 ≡ k = omega (arith, a, b) in subst (λ k. (info : ScalarInfo) × At made.scalars k info × (info.topic ≡ 0)) e (number, refl, refl)) t
+        topic at;
+    whole_writes =
+        λ n node j k a b at. at_two (λ n node. Has node.writes.items j → At made.scalars j a → At made.scalars k b → a.topic ≡ b.topic
+        → Has node.writes.items k) fast slow
         (λ h x y e. writes_whole fast hf.writes j k a b h x y) (λ h x y e. writes_whole slow hs.writes j k a b h x y) n node at;
-    whole_inputs = λ i one j k a b at. at_one (λ i one. Has one.inputs.items j → At made.scalars j a → At made.scalars k b → a.topic ≡ b.topic → Has one.inputs.items k) plant
+    whole_inputs =
+        λ i one j k a b at. at_one (λ i one. Has one.inputs.items j → At made.scalars j a → At made.scalars k b → a.topic ≡ b.topic → Has one.inputs.items k)
+        plant
         (λ h x y e. whole_inputs j k a b h x y) i one at;
-    inputs_are = λ i one k at. at_one (λ i one. Has one.inputs.items k → k < 1) plant (λ h. let e = only 0 plant.inputs.items hp.inputs k h in omega (arith, e)) i one at;
+    inputs_are =
+        λ i one k at. at_one (λ i one. Has one.inputs.items k → k < 1) plant (λ h. let e = only 0 plant.inputs.items hp.inputs k h in omega (arith, e)) i one
+        at;
   }
 
   one_number : MeetsScalarRules made number
@@ -174,7 +190,9 @@ module _ (N : Term → Type 0) (fits : (truths : List Bool) (t : Term) → truth
     sees = omega (arith, ap length hp.sees);
     sees_others = λ n h. absurd (nothing plant.sees.items hp.sees h.0 n h.1);
     noise = omega (arith, ap length hp.noise);
-    noise_ranges = λ i info at. at_one (λ i (d : NoiseInfo). (d.scale ≤ 6) × IsNarrow d.lo d.hi) noise_w (omega arith, (omega (arith, ints), omega (arith, ints))) i info (subst (λ l. At l i info) hp.noise at);
+    noise_ranges =
+        λ i info at. at_one (λ i (d : NoiseInfo). (d.scale ≤ 6) × IsNarrow d.lo d.hi) noise_w (omega arith, (omega (arith, ints), omega (arith, ints))) i info
+        (subst (λ l. At l i info) hp.noise at);
     one_next = ap length hp.next.2 ∙ sym (ap length hp.states);
     next = subst (TermsFit (plant_truths made plant)) (sym hp.next.2) (fits (plant_truths made plant) hp.next.0 three_truths hp.next.1, tt);
   }
@@ -241,7 +259,8 @@ module _ (N : Term → Type 0) (fits : (truths : List Bool) (t : Term) → truth
     fields_once = λ i j a b at_i at_j s f. at_one (λ i x. i ≡ j) number (sym (at_one (λ j x. j ≡ 0) number refl j b at_j)) i a at_i;
   }
 
-pub line_meets_rules : (N : Term → Type 0) → ((truths : List Bool) (t : Term) → truths ≡ false ∷ false ∷ false ∷ [] → N t → TermFits truths t) → (p : Tables) → IsLine N p → MeetsTableRules p
+pub line_meets_rules : (N : Term → Type 0) → ((truths : List Bool) (t : Term) → truths ≡ false ∷ false ∷ false ∷ [] → N t → TermFits truths t) → (p : Tables)
+    → IsLine N p → MeetsTableRules p
 line_meets_rules N fits p h =
     let e : made N fits h.plants.0 h.nodes.0 h.nodes.1 h.plants.1 h.nodes.2 h.nodes.3 ≡ p = λ i. record {
       topics = sym h.topics i;

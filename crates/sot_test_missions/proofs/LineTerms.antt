@@ -30,6 +30,7 @@ return_fits truths t one h =
     let rest : TermFits truths h.2 = subst (TermFits truths) (sym h.5.3) (is_below, below, refl, refl) in
     subst (TermFits truths) (sym h.6.3) (is_above, above, refl, rest)
 
-pub command_fits : (truths : List Bool) (locals writes : ℕ) (acts : List Act) → truths ≡ false ∷ [] → writes ≡ 1 → IsCommand acts → ActsFit truths locals writes acts
+pub command_fits : (truths : List Bool) (locals writes : ℕ) (acts : List Act) → truths ≡ false ∷ [] → writes ≡ 1 → IsCommand acts
+    → ActsFit truths locals writes acts
 command_fits truths locals writes acts one some h =
     subst (ActsFit truths locals writes) (sym h.2) ((omega (arith, some), return_fits truths h.0 one h.1), tt)

@@ -1,5 +1,6 @@
 -- The tables of the vehicle beside a battery meet the rules of tables.
-use Rattle.std.proofs.Common.{◌≡◌, ◌≢◌, ℕ, zero, suc, ◌<◌, ◌≤◌, ◌+◌, ◌*◌, ℤ, true, false, List, [], ◌∷◌, refl, sym, ap, ◌∙◌, subst, arith, negsuc, ◌≤ℤ◌, length, pos}
+use Rattle.std.proofs.Common.{◌≡◌, ◌≢◌, ℕ, zero, suc, ◌<◌, ◌≤◌, ◌+◌, ◌*◌, ℤ, true, false, List, [], ◌∷◌, refl, sym, ap, ◌∙◌, subst, arith, negsuc, ◌≤ℤ◌, length}
+use Rattle.std.proofs.Common.{pos}
 use Rattle.std.specs.Prelude.{slice_index_or, replicate, map, ◌++◌, ◌==◌, if◌then◌else◌}
 use Rattle.std.proofs.lemmas.Int.{ints}
 use Rattle.std.proofs.lemmas.Option.{same_Some, none-some}
@@ -23,7 +24,8 @@ use Rattle.sot_lang.specs.Ranges.{local_ranges}
 use Rattle.sot_lang.specs.OwnerNames.{width_of, seen_width, is_truth_scalar, node_truths, plant_truths, reads_truth}
 use Rattle.sot_lang.specs.TermRules.{TermsFit}
 use Rattle.sot_lang.specs.ActRules.{ActsFit}
-use Rattle.sot_lang.specs.TableRules.{IsTyped, IsCoded, IsNarrow, AreDistinct, MeetsTableRules, MeetsScalarRules, MeetsPlantRules, MeetsNodeRules, MeetsModuleRules, IsRegionFor}
+use Rattle.sot_lang.specs.TableRules.{IsTyped, IsCoded, IsNarrow, AreDistinct, MeetsTableRules, MeetsScalarRules, MeetsPlantRules, MeetsNodeRules}
+use Rattle.sot_lang.specs.TableRules.{MeetsModuleRules, IsRegionFor}
 use Rattle.sot_lang.specs.Line.{side, cmd_name, pos_name, fast_name, slow_name, nav_name}
 use Rattle.sot_lists.proofs.ShortLists.{at_more, at_one, at_two}
 use Rattle.sot_lang.proofs.Owners.{one_body}
@@ -107,7 +109,8 @@ at_snoc P (x ∷ xs) y all h (suc i) b at = at_snoc P xs y (λ i b at. all (suc 
 stair_fits : (n : ℕ) → n ≤ 11 → (i : ℕ) (b : List Side) → At (stairs n) i b → (length b ≡ 2) × AreOrdered b
 stair_fits zero few i b at = absurd (none-some b at)
 stair_fits (suc n) few i b at =
-    at_snoc (λ b. (length b ≡ 2) × AreOrdered b) (stairs n) (stair n) (stair_fits n (omega (arith, few))) (refl, (omega (arith, ints), (omega (arith, ints, few), tt))) i b at
+    at_snoc (λ b. (length b ≡ 2) × AreOrdered b) (stairs n) (stair n) (stair_fits n (omega (arith, few)))
+    (refl, (omega (arith, ints), (omega (arith, ints, few), tt))) i b at
 
 eleven : length (stairs 11) ≡ 11
 eleven = refl
@@ -115,12 +118,14 @@ eleven = refl
 -- of a plant's names none is a truth value
 numbers_alone : (states : List StateInfo) (inputs : List ℕ) (seen : ℕ) (noise : List NoiseInfo)
     → states ≡ state_named 120 ∷ [] → inputs ≡ 0 ∷ [] → seen ≡ 0 → noise ≡ noise_w (negsuc 0) ∷ []
-    → (map (λ s. false) states ++ map (is_truth_scalar (cmd_number ∷ d_number ∷ [])) inputs ++ replicate seen false ++ map (λ d. false) noise) ≡ false ∷ false ∷ false ∷ []
+    → (map (λ s. false) states ++ map (is_truth_scalar (cmd_number ∷ d_number ∷ [])) inputs ++ replicate seen false ++ map (λ d. false) noise)
+    ≡ false ∷ false ∷ false ∷ []
 numbers_alone states inputs seen noise a b c e = rw (a, b, c, e) refl
 
 five_numbers : (states : List StateInfo) (inputs : List ℕ) (seen : ℕ) (noise : List NoiseInfo)
     → states ≡ state_named 104 ∷ state_named 98 ∷ [] → inputs ≡ 1 ∷ [] → seen ≡ 1 → noise ≡ noise_w (pos 0) ∷ []
-    → (map (λ s. false) states ++ map (is_truth_scalar (cmd_number ∷ d_number ∷ [])) inputs ++ replicate seen false ++ map (λ d. false) noise) ≡ false ∷ false ∷ false ∷ false ∷ false ∷ []
+    → (map (λ s. false) states ++ map (is_truth_scalar (cmd_number ∷ d_number ∷ [])) inputs ++ replicate seen false ++ map (λ d. false) noise)
+    ≡ false ∷ false ∷ false ∷ false ∷ false ∷ []
 five_numbers states inputs seen noise a b c e = rw (a, b, c, e) refl
 
 module _ (low : ℤ) (in_order : low ≤ℤ pos 1000) (p : Tables) (h : IsPair low p) where
@@ -192,22 +197,29 @@ module _ (low : ℤ) (in_order : low ≤ℤ pos 1000) (p : Tables) (h : IsPair l
         (λ w. subst (λ n. (other : PlantInfo) × At plants n other) (only 0 h.cell.sees.items h.is_cell.sees n w) (h.vehicle, refl)) k one at;
     named = at_two (λ k one. (m : ℕ) × (a : ModuleInfo) × At made.modules m a × (a.plant ≡ k)) h.vehicle h.cell (0, nav, refl, refl) (1, fly low, refl, refl);
     reads_are = λ n node k v at. at_four (λ n node. Has node.reads.items (State k v) → (other : PlantInfo) × At plants k other) h.fast h.slow h.up h.down
-        (λ w. there 0 1 h.vehicle refl k v (reads_x h.fast h.is_fast.reads (State k v) w)) (λ w. there 0 1 h.vehicle refl k v (reads_x h.slow h.is_slow.reads (State k v) w))
-        (λ w. there 1 2 h.cell refl k v (reads_cell h.up h.is_up.reads (State k v) w)) (λ w. there 1 2 h.cell refl k v (reads_cell h.down h.is_down.reads (State k v) w)) n node at;
+        (λ w. there 0 1 h.vehicle refl k v (reads_x h.fast h.is_fast.reads (State k v) w))
+        (λ w. there 0 1 h.vehicle refl k v (reads_x h.slow h.is_slow.reads (State k v) w))
+        (λ w. there 1 2 h.cell refl k v (reads_cell h.up h.is_up.reads (State k v) w))
+        (λ w. there 1 2 h.cell refl k v (reads_cell h.down h.is_down.reads (State k v) w)) n node at;
     inits = (omega (arith, ints), omega (arith, ints), (omega (arith, ints), omega (arith, ints), tt));
     local_inits = at_four (λ n node. IsWithin (local_ranges node) (map (λ l. l.init) node.locals.items)) h.fast h.slow h.up h.down
         (no_inits h.fast h.is_fast.locals) (no_inits h.slow h.is_slow.locals) (no_inits h.up h.is_up.locals) (no_inits h.down h.is_down.locals);
     once = λ n node i j k at. at_four (λ n node. At node.writes.items i k → At node.writes.items j k → i ≡ j) h.fast h.slow h.up h.down
-        (once h.fast 0 h.is_fast.writes i j k) (once h.slow 0 h.is_slow.writes i j k) (once h.up 1 h.is_up.writes i j k) (once h.down 1 h.is_down.writes i j k) n node at;
+        (once h.fast 0 h.is_fast.writes i j k) (once h.slow 0 h.is_slow.writes i j k) (once h.up 1 h.is_up.writes i j k) (once h.down 1 h.is_down.writes i j k)
+        n node at;
     inside = λ n node k at. at_four (λ n node. Has node.writes.items k → k < 2) h.fast h.slow h.up h.down
         (below_two h.fast.writes.items 0 h.is_fast.writes (omega arith) k) (below_two h.slow.writes.items 0 h.is_slow.writes (omega arith) k)
         (below_two h.up.writes.items 1 h.is_up.writes (omega arith) k) (below_two h.down.writes.items 1 h.is_down.writes (omega arith) k) n node at;
     outside = λ n node t i info at at_t e less has. at_two (λ t info. info.outside ≡ true → ⊥) cmd d (λ e. false≢true e) (λ e. false≢true e) t info at_t e;
-    scalar_topic = at_two (λ k info. (topic : TopicInfo) × At made.topics info.topic topic × (topic.first ≤ k) × (k < topic.first + topic.count)) cmd_number d_number
+    scalar_topic =
+        at_two (λ k info. (topic : TopicInfo) × At made.topics info.topic topic × (topic.first ≤ k) × (k < topic.first + topic.count)) cmd_number d_number
         (cmd, refl, omega arith, omega arith) (d, refl, omega arith, omega arith);
-    topic_scalar = λ t k topic at. at_two (λ t topic. topic.first ≤ k → k < topic.first + topic.count → (info : ScalarInfo) × At made.scalars k info × (info.topic ≡ t)) cmd d
+    topic_scalar =
+        λ t k topic at. at_two (λ t topic. topic.first ≤ k → k < topic.first + topic.count → (info : ScalarInfo) × At made.scalars k info × (info.topic ≡ t))
+        cmd d
         (λ a b. let e : 0 ≡ k = omega (arith, a, b) in subst (λ k. (info : ScalarInfo) × At made.scalars k info × (info.topic ≡ 0)) e (cmd_number, refl, refl))
-        (λ a b. let e : 1 ≡ k = omega (arith, a, b) in subst (λ k. (info : ScalarInfo) × At made.scalars k info × (info.topic ≡ 1)) e (d_number, refl, refl)) t topic at;
+        (λ a b. let e : 1 ≡ k = omega (arith, a, b) in subst (λ k. (info : ScalarInfo) × At made.scalars k info × (info.topic ≡ 1)) e (d_number, refl, refl)) t
+        topic at;
     whole_writes = λ n node j k a b at w x y e. whole node.writes.items j k a b w x y e;
     whole_inputs = λ i one j k a b at w x y e. whole one.inputs.items j k a b w x y e;
     inputs_are = λ i one k at. at_two (λ i one. Has one.inputs.items k → k < 2) h.vehicle h.cell
@@ -239,10 +251,14 @@ module _ (low : ℤ) (in_order : low ≤ℤ pos 1000) (p : Tables) (h : IsPair l
     sees = omega (arith, ap length h.is_pos.sees);
     sees_others = λ n w. absurd (nothing h.vehicle.sees.items h.is_pos.sees w.0 n w.1);
     noise = omega (arith, ap length h.is_pos.noise);
-    noise_ranges = λ i info at. at_one (λ i (w : NoiseInfo). (w.scale ≤ 6) × IsNarrow w.lo w.hi) (noise_w (negsuc 0)) (omega arith, (omega (arith, ints), omega (arith, ints))) i info
+    noise_ranges =
+        λ i info at. at_one (λ i (w : NoiseInfo). (w.scale ≤ 6) × IsNarrow w.lo w.hi) (noise_w (negsuc 0))
+        (omega arith, (omega (arith, ints), omega (arith, ints))) i info
         (subst (λ l. At l i info) h.is_pos.noise at);
     one_next = ap length h.is_pos.next.2 ∙ sym (ap length h.is_pos.states);
-    next = subst (TermsFit (plant_truths made h.vehicle)) (sym h.is_pos.next.2) (move_fits (plant_truths made h.vehicle) h.is_pos.next.0 truths_pos h.is_pos.next.1, tt);
+    next =
+        subst (TermsFit (plant_truths made h.vehicle)) (sym h.is_pos.next.2)
+        (move_fits (plant_truths made h.vehicle) h.is_pos.next.0 truths_pos h.is_pos.next.1, tt);
   }
 
   cell_rules : MeetsPlantRules made 1 h.cell
@@ -255,17 +271,22 @@ module _ (low : ℤ) (in_order : low ≤ℤ pos 1000) (p : Tables) (h : IsPair l
     sees = omega (arith, ap length h.is_cell.sees);
     sees_others = λ n w e. let f = only 0 h.cell.sees.items h.is_cell.sees n w in omega (arith, e, f);
     noise = omega (arith, ap length h.is_cell.noise);
-    noise_ranges = λ i info at. at_one (λ i (w : NoiseInfo). (w.scale ≤ 6) × IsNarrow w.lo w.hi) (noise_w (pos 0)) (omega arith, (omega (arith, ints), omega (arith, ints))) i info
+    noise_ranges =
+        λ i info at. at_one (λ i (w : NoiseInfo). (w.scale ≤ 6) × IsNarrow w.lo w.hi) (noise_w (pos 0))
+        (omega arith, (omega (arith, ints), omega (arith, ints))) i info
         (subst (λ l. At l i info) h.is_cell.noise at);
     one_next = ap length h.is_cell.next ∙ sym (ap length h.is_cell.states);
-    next = subst (TermsFit (plant_truths made h.cell)) (sym h.is_cell.next)
-        (height_fits (plant_truths made h.cell) truths_cell h.is_cell.height h.is_cell.is_height, (battery_fits (plant_truths made h.cell) truths_cell h.is_cell.battery h.is_cell.is_battery, tt));
+    next = subst (TermsFit (plant_truths made h.cell)) (sym h.is_cell.next) (
+      height_fits (plant_truths made h.cell) truths_cell h.is_cell.height h.is_cell.is_height,
+      (battery_fits (plant_truths made h.cell) truths_cell h.is_cell.battery h.is_cell.is_battery, tt),
+    );
   }
 
   -- a node that reads these state variables of a plant and writes one scalar
   node_rules : (node : NodeInfo) (plant width s : ℕ) → width_of plants plant ≡ width → node.period ≤ 1000 → length node.reads.items ≤ 64
       → ((slot : Slot) → Has node.reads.items slot → IsOf plant width slot) → node.writes.items ≡ s ∷ [] → node.locals.items ≡ []
-      → ((acts : List Act) → IsCoded node acts → ActsFit (node_truths made node) (length node.locals.items) (length node.writes.items) acts) → MeetsNodeRules made node
+      → ((acts : List Act) → IsCoded node acts → ActsFit (node_truths made node) (length node.locals.items) (length node.writes.items) acts)
+      → MeetsNodeRules made node
   node_rules node plant width s wide period few reads writes locals body = record {
     period = period;
     reads = few;
@@ -280,20 +301,29 @@ module _ (low : ℤ) (in_order : low ≤ℤ pos 1000) (p : Tables) (h : IsPair l
   }
 
   fast_rules : MeetsNodeRules made h.fast
-  fast_rules = node_rules h.fast 0 1 0 width_pos (omega (arith, h.is_fast.period)) (omega (arith, ap length h.is_fast.reads)) (reads_x h.fast h.is_fast.reads) h.is_fast.writes h.is_fast.locals
+  fast_rules =
+      node_rules h.fast 0 1 0 width_pos (omega (arith, h.is_fast.period)) (omega (arith, ap length h.is_fast.reads)) (reads_x h.fast h.is_fast.reads)
+      h.is_fast.writes h.is_fast.locals
       (λ acts coded. absurd (none-some coded.0 (sym h.is_fast.body ∙ coded.1)))
 
   slow_rules : MeetsNodeRules made h.slow
-  slow_rules = node_rules h.slow 0 1 0 width_pos (omega (arith, h.is_slow.period)) (omega (arith, ap length h.is_slow.reads)) (reads_x h.slow h.is_slow.reads) h.is_slow.writes h.is_slow.locals
-      (λ acts coded. command_fits (node_truths made h.slow) (length h.slow.locals.items) (length h.slow.writes.items) acts (truths_x h.slow h.is_slow.reads h.is_slow.locals) (ap length h.is_slow.writes)
+  slow_rules =
+      node_rules h.slow 0 1 0 width_pos (omega (arith, h.is_slow.period)) (omega (arith, ap length h.is_slow.reads)) (reads_x h.slow h.is_slow.reads)
+      h.is_slow.writes h.is_slow.locals
+      (λ acts coded. command_fits (node_truths made h.slow) (length h.slow.locals.items) (length h.slow.writes.items) acts
+      (truths_x h.slow h.is_slow.reads h.is_slow.locals) (ap length h.is_slow.writes)
       (subst IsCommand (one_body h.slow h.is_slow.body.0 acts h.is_slow.body.1 coded) h.is_slow.body.2))
 
   up_rules : MeetsNodeRules made h.up
-  up_rules = node_rules h.up 1 2 1 width_cell (omega (arith, h.is_up.period)) (omega (arith, ap length h.is_up.reads)) (reads_cell h.up h.is_up.reads) h.is_up.writes h.is_up.locals
+  up_rules =
+      node_rules h.up 1 2 1 width_cell (omega (arith, h.is_up.period)) (omega (arith, ap length h.is_up.reads)) (reads_cell h.up h.is_up.reads) h.is_up.writes
+      h.is_up.locals
       (λ acts coded. absurd (none-some coded.0 (sym h.is_up.body ∙ coded.1)))
 
   down_rules : MeetsNodeRules made h.down
-  down_rules = node_rules h.down 1 2 1 width_cell (omega (arith, h.is_down.period)) (omega (arith, ap length h.is_down.reads)) (reads_cell h.down h.is_down.reads) h.is_down.writes h.is_down.locals
+  down_rules =
+      node_rules h.down 1 2 1 width_cell (omega (arith, h.is_down.period)) (omega (arith, ap length h.is_down.reads)) (reads_cell h.down h.is_down.reads)
+      h.is_down.writes h.is_down.locals
       (λ acts coded. descent_fits (node_truths made h.down) (length h.down.locals.items) (length h.down.writes.items) acts (ap length h.is_down.writes)
       (subst IsDescent (one_body h.down h.is_down.body.0 acts h.is_down.body.1 coded) h.is_down.body.2))
 
@@ -327,7 +357,9 @@ module _ (low : ℤ) (in_order : low ≤ℤ pos 1000) (p : Tables) (h : IsPair l
   }
 
   names : all_names ≡ (cmd_name ∷ (100 ∷ []) ∷ h.vehicle.name ∷ h.cell.name ∷ h.fast.name ∷ h.slow.name ∷ h.up.name ∷ h.down.name ∷ nav_name ∷ fly_name ∷ [])
-  names i = cmd_name ∷ (100 ∷ []) ∷ sym h.is_pos.name i ∷ sym h.is_cell.name i ∷ sym h.is_fast.name i ∷ sym h.is_slow.name i ∷ sym h.is_up.name i ∷ sym h.is_down.name i ∷ nav_name ∷ fly_name ∷ []
+  names i =
+      cmd_name ∷ (100 ∷ []) ∷ sym h.is_pos.name i ∷ sym h.is_cell.name i ∷ sym h.is_fast.name i ∷ sym h.is_slow.name i ∷ sym h.is_up.name i ∷ sym h.is_down.name
+      i ∷ nav_name ∷ fly_name ∷ []
 
   rules : MeetsTableRules made
   rules = record {

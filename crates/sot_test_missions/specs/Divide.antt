@@ -1,5 +1,5 @@
--- A node that divides by what it reads, or by `max(n, 1)` in place of `n`. Places are those of this text, whose first line is
--- line 1:
+-- A node that divides by what it reads, or by `max(n, 1)` in place of `n`. Places are those of this
+-- text, whose first line is line 1:
 --   topic n: int[0..5] = 0;
 --   topic k: int[0..10] = 0;
 --   node calc period 1 offset 0 {
@@ -29,7 +29,9 @@ IsWhatIsRead t = t ≡ Place 0
 
 -- max(n, 1), wherever its parts stand in memory
 abbrev pub IsAtLeastOne : Term → Type 0
-IsAtLeastOne t = (parts : Vec Term) × (parts.items ≡ Place 0 ∷ Number (pos 1) ∷ []) × (t ≡ Call Max parts (place 7 22))
+IsAtLeastOne t =
+    (parts : Vec Term) × (parts.items ≡ Place 0 ∷ Number (pos 1) ∷ [])
+    × (t ≡ Call Max parts (place 7 22))
 
 -- 10 divided by such an expression: the division stands at line 7, column 20
 abbrev pub IsQuotient : (Term → Type 0) → Term → Type 0
@@ -37,7 +39,8 @@ IsQuotient IsDivisor t = (d : Term) × IsDivisor d × IsBinary Div (Number (pos 
 
 -- the quotient is published as k
 abbrev pub IsDivision : (Term → Type 0) → List Act → Type 0
-IsDivision IsDivisor acts = (t : Term) × IsQuotient IsDivisor t × (acts ≡ Publish 0 t (place 7 13) ∷ [])
+IsDivision IsDivisor acts =
+    (t : Term) × IsQuotient IsDivisor t × (acts ≡ Publish 0 t (place 7 13) ∷ [])
 
 pub record IsCalc (IsDivisor : Term → Type 0) (node : NodeInfo) : Type 0 where
   pub name : node.name ≡ 99 ∷ 97 ∷ 108 ∷ 99 ∷ []

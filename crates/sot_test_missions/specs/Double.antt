@@ -1,4 +1,5 @@
--- A double integrator, a place and a speed. Places are those of this text, whose first line is line 1:
+-- A double integrator, a place and a speed. Places are those of this text, whose first line is line
+-- 1:
 --   topic u: int[-2..2] = 0;
 --   plant arm {
 --     state x: int, v: int;
@@ -26,7 +27,8 @@
 --     safe [-195..300, -14..-14] | [-209..300, -13..-13] | .. | [-300..300, 0..0] | .. | [-300..195, 14..14];
 --     safer [-169..169, -2..2];
 --   }
-use Rattle.std.specs.Prelude.{false, ◌≡◌, ℕ, zero, suc, ◌+◌, ◌-◌, ltb, if◌then◌else◌, ℤ, pos, negsuc, ◌-ℤ◌, neg_ℤ, None, List, [], ◌∷◌, ◌++◌}
+use Rattle.std.specs.Prelude.{false, ◌≡◌, ℕ, zero, suc, ◌+◌, ◌-◌, ltb, if◌then◌else◌, ℤ, pos}
+use Rattle.std.specs.Prelude.{negsuc, ◌-ℤ◌, neg_ℤ, None, List, [], ◌∷◌, ◌++◌}
 use Rattle.std.specs.Global.{Vec}
 use Rattle.sot_box.specs.Sides.{Side}
 use Rattle.sot_tree.specs.declared.operator.Op.TheVariants.{Add, Sub, Greater}
@@ -57,15 +59,19 @@ IsNextPlace t = IsBinary Add (Place 0) (Place 1) (place 6 14) t
 
 -- how fast it is next: (v + u) + w
 abbrev pub IsNextSpeed : Term → Type 0
-IsNextSpeed t = (sum : Term) × IsBinary Add (Place 1) (Place 2) (place 7 15) sum × IsBinary Add sum (Place 3) (place 7 20) t
+IsNextSpeed t =
+    (sum : Term) × IsBinary Add (Place 1) (Place 2) (place 7 15) sum
+    × IsBinary Add sum (Place 3) (place 7 20) t
 
 -- the plant
 pub record IsArm (plant : PlantInfo) : Type 0 where
   pub name : plant.name ≡ arm_name
-  pub states : plant.states.items ≡ record { name = 120 ∷ []; scale = 0 } ∷ record { name = 118 ∷ []; scale = 0 } ∷ []
+  pub states : plant.states.items ≡ record { name = 120 ∷ []; scale = 0 } ∷ record
+      { name = 118 ∷ []; scale = 0 } ∷ []
   pub inputs : plant.inputs.items ≡ 0 ∷ []
   pub sees : plant.sees.items ≡ []
-  pub noise : plant.noise.items ≡ record { name = 119 ∷ []; scale = 0; lo = negsuc 0; hi = pos 1 } ∷ []
+  pub noise : plant.noise.items ≡ record { name = 119 ∷ []; scale = 0; lo = negsuc 0; hi = pos 1 } ∷
+      []
   pub «place» : Term
   pub speed : Term
   pub is_place : IsNextPlace «place»
@@ -140,7 +146,12 @@ stops low high = record {
   offset = 0;
   plant = 0;
   safe = record { width = 2; boxes = rows 29; settled = false };
-  safer = record { width = 2; boxes = (side low high ∷ side (negsuc 1) (pos 2) ∷ []) ∷ []; settled = false };
+  safer =
+      record {
+        width = 2;
+        boxes = (side low high ∷ side (negsuc 1) (pos 2) ∷ []) ∷ [];
+        settled = false;
+      };
 }
 
 -- the tables, with such places in the safer region

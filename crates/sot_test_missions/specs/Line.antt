@@ -42,7 +42,9 @@ use Rattle.sot_test_missions.specs.Parts.{place, one_topic, whole_number, IsBina
 
 -- where the vehicle is next: (x + cmd) + w
 abbrev pub IsMove : Term → Type 0
-IsMove t = (sum : Term) × IsBinary Add (Place 0) (Place 1) (place 6 15) sum × IsBinary Add sum (Place 2) (place 6 22) t
+IsMove t =
+    (sum : Term) × IsBinary Add (Place 0) (Place 1) (place 6 15) sum
+    × IsBinary Add sum (Place 2) (place 6 22) t
 
 -- with another tick in that line: (x + cmd) + (w / (x - 5))
 abbrev pub IsDrift : Term → Type 0
@@ -58,13 +60,15 @@ pub record IsPos (IsNext : Term → Type 0) (plant : PlantInfo) : Type 0 where
   pub states : plant.states.items ≡ record { name = 120 ∷ []; scale = 0 } ∷ []
   pub inputs : plant.inputs.items ≡ 0 ∷ []
   pub sees : plant.sees.items ≡ []
-  pub noise : plant.noise.items ≡ record { name = 119 ∷ []; scale = 0; lo = negsuc 0; hi = pos 1 } ∷ []
+  pub noise : plant.noise.items ≡ record { name = 119 ∷ []; scale = 0; lo = negsuc 0; hi = pos 1 } ∷
+      []
   pub next : (t : Term) × IsNext t × (plant.next.items ≡ t ∷ [])
 
 -- if (pos.x > 10) then -2 else (if (pos.x < -10) then 2 else 0)
 abbrev pub IsReturn : Term → Type 0
 IsReturn t =
-    (above : Term) × (below : Term) × (rest : Term) × IsBinary Greater (Place 0) (Number (pos 10)) (place 16 29) above
+    (above : Term) × (below : Term) × (rest : Term)
+    × IsBinary Greater (Place 0) (Number (pos 10)) (place 16 29) above
     × IsBinary Less (Place 0) (Number (negsuc 9)) (place 16 59) below
     × IsChoice below (Number (pos 2)) (Number (pos 0)) (place 16 49) rest
     × IsChoice above (Number (negsuc 1)) rest (place 16 19) t
@@ -111,5 +115,6 @@ pub record IsLine (IsNext : Term → Type 0) (p : Tables) : Type 0 where
   pub topics : p.topics ≡ one_topic cmd_name 0 ∷ []
   pub scalars : p.scalars ≡ whole_number 0 (negsuc 1) (pos 2) ∷ []
   pub plants : (plant : PlantInfo) × IsPos IsNext plant × (p.plants ≡ plant ∷ [])
-  pub nodes : (fast : NodeInfo) × (slow : NodeInfo) × IsFast fast × IsSlow slow × (p.nodes ≡ fast ∷ slow ∷ [])
+  pub nodes : (fast : NodeInfo) × (slow : NodeInfo) × IsFast fast × IsSlow slow
+      × (p.nodes ≡ fast ∷ slow ∷ [])
   pub modules : p.modules ≡ nav ∷ []

@@ -1,5 +1,5 @@
--- The vehicle on a line beside a battery that sees it. Places are those of the vehicle's text, which has 26 lines, followed by
--- this one, whose first line is line 27:
+-- The vehicle on a line beside a battery that sees it. Places are those of the vehicle's text,
+-- which has 26 lines, followed by this one, whose first line is line 27:
 --   topic d: int[-1..1] = 0;
 --   plant cell {
 --     state h: int, b: int;
@@ -28,7 +28,8 @@
 --     safe [0..0, 0..1000] | [1..1, 3..1000] | .. | [10..10, 30..1000];
 --     safer [0..10, 42..1000];
 --   }
-use Rattle.std.specs.Prelude.{false, ◌≡◌, ℕ, zero, suc, ◌*◌, ℤ, pos, negsuc, None, List, [], ◌∷◌, ◌++◌}
+use Rattle.std.specs.Prelude.{false, ◌≡◌, ℕ, zero, suc, ◌*◌, ℤ, pos, negsuc, None, List, [], ◌∷◌}
+use Rattle.std.specs.Prelude.{◌++◌}
 use Rattle.std.specs.Global.{Vec}
 use Rattle.sot_box.specs.Sides.{Side}
 use Rattle.sot_tree.specs.declared.operator.Op.TheVariants.{Add, Sub, Greater}
@@ -101,7 +102,8 @@ pub record IsBattery (t : Term) : Type 0 where
 -- the plant
 pub record IsCell (plant : PlantInfo) : Type 0 where
   pub name : plant.name ≡ cell_name
-  pub states : plant.states.items ≡ record { name = 104 ∷ []; scale = 0 } ∷ record { name = 98 ∷ []; scale = 0 } ∷ []
+  pub states : plant.states.items ≡ record { name = 104 ∷ []; scale = 0 } ∷ record
+      { name = 98 ∷ []; scale = 0 } ∷ []
   pub inputs : plant.inputs.items ≡ 1 ∷ []
   pub sees : plant.sees.items ≡ 0 ∷ []
   pub noise : plant.noise.items ≡ record { name = 119 ∷ []; scale = 0; lo = pos 0; hi = pos 1 } ∷ []
@@ -154,13 +156,19 @@ fly low = record {
   offset = 0;
   plant = 1;
   safe = record { width = 2; boxes = stairs 11; settled = false };
-  safer = record { width = 2; boxes = (side (pos 0) (pos 10) ∷ side low (pos 1000) ∷ []) ∷ []; settled = false };
+  safer =
+      record {
+        width = 2;
+        boxes = (side (pos 0) (pos 10) ∷ side low (pos 1000) ∷ []) ∷ [];
+        settled = false;
+      };
 }
 
 -- the tables, with such a low end of the battery in the safer region
 pub record IsPair (low : ℤ) (p : Tables) : Type 0 where
   pub topics : p.topics ≡ one_topic cmd_name 0 ∷ one_topic (100 ∷ []) 1 ∷ []
-  pub scalars : p.scalars ≡ whole_number 0 (negsuc 1) (pos 2) ∷ whole_number 1 (negsuc 0) (pos 1) ∷ []
+  pub scalars : p.scalars ≡ whole_number 0 (negsuc 1) (pos 2) ∷ whole_number 1 (negsuc 0) (pos 1) ∷
+      []
   pub vehicle : PlantInfo
   pub cell : PlantInfo
   pub is_pos : IsPos IsMove vehicle

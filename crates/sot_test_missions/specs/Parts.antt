@@ -18,13 +18,16 @@ one_topic name first = record { name = name; outside = false; first = first; cou
 
 -- the scalar of such a topic: a whole number from lo to hi, at first 0
 abbrev pub whole_number : ℕ → ℤ → ℤ → ScalarInfo
-whole_number topic lo hi = record { topic = topic; field = None; scale = 0; truth = false; lo = lo; hi = hi; init = pos 0 }
+whole_number topic lo hi =
+    record { topic = topic; field = None; scale = 0; truth = false; lo = lo; hi = hi; init = pos 0 }
 
 -- an operator between two expressions, wherever these stand in memory
 abbrev pub IsBinary : Op → Term → Term → Span → Term → Type 0
-IsBinary op left right at t = (p : Box (Unit {0})) × (q : Box (Unit {0})) × (t ≡ Binary' op p left q right at)
+IsBinary op left right at t =
+    (p : Box (Unit {0})) × (q : Box (Unit {0})) × (t ≡ Binary' op p left q right at)
 
 -- a condition and its two branches, wherever these stand in memory
 abbrev pub IsChoice : Term → Term → Term → Span → Term → Type 0
 IsChoice cond first second at t =
-    (p : Box (Unit {0})) × (q : Box (Unit {0})) × (r : Box (Unit {0})) × (t ≡ If' p cond q first r second at)
+    (p : Box (Unit {0})) × (q : Box (Unit {0})) × (r : Box (Unit {0}))
+    × (t ≡ If' p cond q first r second at)

@@ -1,10 +1,14 @@
 //! A double integrator, whose safe node stops it in time.
-ghost use Rattle.std.specs.Prelude.{false, ◌≡◌, ◌≤◌, ◌<◌, ◌*◌, ◌≤ℤ◌, ◌∷◌, [], pos, negsuc, length, IfOk};
+ghost use Rattle.std.specs.Prelude.{false, ◌≡◌, ◌≤◌, ◌<◌, ◌*◌, ◌≤ℤ◌, ◌∷◌, [], pos, negsuc, length};
+ghost use Rattle.std.specs.Prelude.{IfOk};
 ghost use Rattle.sot_lang.specs.declared.term.Term.{Term};
 ghost use Rattle.sot_lang.specs.declared.tables.PlantInfo.{PlantInfo};
 ghost use Rattle.sot_lang.specs.declared.tables.NodeInfo.{NodeInfo};
 ghost use Rattle.sot_test_missions.specs.Parts.{one_topic, whole_number};
-ghost use Rattle.sot_test_missions.specs.Double.{u_name, IsNextPlace, IsNextSpeed, IsArm, IsPush, IsThrust, IsPilot, IsBrake, IsDouble, run as run_of, falling as falling_box, rising as rising_box, row as row_box, rows, stops};
+ghost use Rattle.sot_test_missions.specs.Double.{u_name, IsNextPlace, IsNextSpeed, IsArm, IsPush};
+ghost use Rattle.sot_test_missions.specs.Double.{IsThrust, IsPilot, IsBrake, IsDouble};
+ghost use Rattle.sot_test_missions.specs.Double.{run as run_of, falling as falling_box};
+ghost use Rattle.sot_test_missions.specs.Double.{rising as rising_box, row as row_box, rows, stops};
 
 use crate::parts::{binary, choice, node, noise, number, plant, span, topic};
 use sot_box::{BoxN, Interval, Region};
@@ -254,9 +258,9 @@ fn modules(alloc: Global, low: i64, high: i64) -> Result<Vec<ModuleInfo>, AllocE
     Ok(vec![in alloc; nav]?)
 }
 
-/// The tables of a mission with one plant, an arm with a place and a speed, whose safe region has a box for each of 29 speeds. Node
-/// 0, `fast`, is external, and node 1, `slow`, brings the arm back. Its module trusts `fast` where the arm stands between `low` and
-/// `high` at a speed of at most 2.
+/// The tables of a mission with one plant, an arm with a place and a speed, whose safe region has a
+/// box for each of 29 speeds. Node 0, `fast`, is external, and node 1, `slow`, brings the arm back.
+/// Its module trusts `fast` where the arm stands between `low` and `high` at a speed of at most 2.
 pub fn double(alloc: Global, low: i64, high: i64) -> Result<Typed, AllocError>
     requires { low ≤ℤ high }
     ensures { IfOk result (IsDouble low high) }

@@ -6,7 +6,9 @@ ghost use Rattle.sot_lang.specs.declared.tables.NodeInfo.{NodeInfo};
 ghost use Rattle.sot_lang.specs.Line.{cmd_name};
 ghost use Rattle.sot_test_missions.specs.Parts.{one_topic, whole_number};
 ghost use Rattle.sot_test_missions.specs.Line.{IsMove, IsPos, IsFast, IsSlow, nav};
-ghost use Rattle.sot_test_missions.specs.Pair.{IsHeight, IsAway, IsToll, IsDrain, IsBattery, IsCell, IsUp, IsDown, IsDescent, IsPair, stairs, fly};
+ghost use Rattle.sot_test_missions.specs.Pair.{IsHeight, IsAway, IsToll, IsDrain, IsBattery};
+ghost use Rattle.sot_test_missions.specs.Pair.{IsCell, IsUp, IsDown, IsDescent, IsPair, stairs};
+ghost use Rattle.sot_test_missions.specs.Pair.{fly};
 
 use crate::parts::{binary, choice, node, noise, number, plant, span, topic};
 use crate::vehicle::{fast, module, moving_plant, slow};
@@ -239,9 +241,10 @@ fn modules(alloc: Global, low: i64) -> Result<Vec<ModuleInfo>, AllocError>
     Ok(vec![in alloc; nav, fly]?)
 }
 
-/// The tables of a mission with two plants: the vehicle on a line, and a battery, plant 1, that is drained in the air, and more
-/// where the vehicle, which it sees, is more than 20 away from 0. Node 2, `up`, is external, and node 3, `down`, lets it sink.
-/// Module 1 trusts `up` where the battery is at least at `low`.
+/// The tables of a mission with two plants: the vehicle on a line, and a battery, plant 1, that is
+/// drained in the air, and more where the vehicle, which it sees, is more than 20 away from 0. Node
+/// 2, `up`, is external, and node 3, `down`, lets it sink. Module 1 trusts `up` where the battery
+/// is at least at `low`.
 pub fn pair(alloc: Global, low: i64) -> Result<Typed, AllocError>
     requires { low ≤ℤ pos 1000 }
     ensures { IfOk result (IsPair low) }

@@ -2,7 +2,8 @@
 ghost use Rattle.std.specs.Prelude.{◌≡◌, ◌∷◌, [], pos, false, IfOk};
 ghost use Rattle.sot_lang.specs.TermRules.{TermFits};
 ghost use Rattle.sot_test_missions.specs.Parts.{one_topic, whole_number};
-ghost use Rattle.sot_test_missions.specs.Divide.{IsWhatIsRead, IsAtLeastOne, IsDivision, IsCalc, IsDivide};
+ghost use Rattle.sot_test_missions.specs.Divide.{IsWhatIsRead, IsAtLeastOne, IsDivision, IsCalc};
+ghost use Rattle.sot_test_missions.specs.Divide.{IsDivide};
 
 use crate::parts::{binary, node, number, span, topic};
 use sot_lang::{Act, NodeInfo, ScalarInfo, Slot, Term, TopicInfo, Typed};
@@ -64,7 +65,8 @@ fn tables(alloc: Global, divisor: Term) -> Result<Typed, AllocError>
     })
 }
 
-/// The tables of a mission with one node, `calc`, that reads the scalar 0 and divides 10 by it: at 0 it traps.
+/// The tables of a mission with one node, `calc`, that reads the scalar 0 and divides 10 by it: at
+/// 0 it traps.
 pub fn divide(alloc: Global) -> Result<Typed, AllocError>
     ensures { IfOk result (IsDivide IsWhatIsRead) }
 {

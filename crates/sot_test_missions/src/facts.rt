@@ -4,7 +4,9 @@ ghost use Rattle.std.specs.Global.{Global};
 ghost use Rattle.sot_lang.specs.Line.{side};
 ghost use Rattle.sot_lang.specs.SafeRegions.{safe_of};
 ghost use Rattle.sot_lang.specs.TableRules.{MeetsTableRules};
-ghost use Rattle.sot_test_missions.specs.Broken.{reads_its_own, one_name_twice, sees_itself, seven_decimals, one_value_too_many, long_period, box_of_two_sides, turned_box, module_with};
+ghost use Rattle.sot_test_missions.specs.Broken.{reads_its_own, one_name_twice, sees_itself};
+ghost use Rattle.sot_test_missions.specs.Broken.{seven_decimals, one_value_too_many, long_period};
+ghost use Rattle.sot_test_missions.specs.Broken.{box_of_two_sides, turned_box, module_with};
 
 /// Tables that break one rule are no tables of a program.
 pub fn broken_tables_are_refused()

@@ -1,9 +1,10 @@
 //! Worked missions as tables, for the tests of the layers that run and check programs.
 //!
-//! [`line`] is a vehicle on a line with an advanced and a safe node, [`pair`] the same beside a battery that is drained faster
-//! where the vehicle is far away, [`double`] an arm with a place and a speed that has to stop in time, and [`divide`] a node that
-//! divides by what it reads. Their texts stand in `specs/`. What each makes is stated field by field, the places of traps
-//! included, and meets the rules of tables, since it is a `Typed`.
+//! [`line`] is a vehicle on a line with an advanced and a safe node, [`pair`] the same beside a
+//! battery that is drained faster where the vehicle is far away, [`double`] an arm with a place and
+//! a speed that has to stop in time, and [`divide`] a node that divides by what it reads. Their
+//! texts stand in `specs/`. What each makes is stated field by field, the places of traps included,
+//! and meets the rules of tables, since it is a `Typed`.
 #![tactic(auto)]
 
 mod arm;

@@ -47,7 +47,8 @@ pub(crate) fn number(topic: u32, lo: i64, hi: i64) -> ScalarInfo
 
 // The one disturbance of a plant, `w`, a whole number.
 pub(crate) fn noise(alloc: Global, lo: i64, hi: i64) -> Result<Vec<NoiseInfo>, AllocError>
-    ensures { IfOk result (λ v. v.items ≡ record { name = 119 ∷ []; scale = 0; lo = lo; hi = hi } ∷ []) }
+    ensures { IfOk result (λ v. v.items
+        ≡ record { name = 119 ∷ []; scale = 0; lo = lo; hi = hi } ∷ []) }
 {
     let w = NoiseInfo {
         name: Name::from_bytes(alloc, b"w")?,

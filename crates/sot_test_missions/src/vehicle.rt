@@ -8,7 +8,8 @@ ghost use Rattle.sot_tree.specs.declared.operator.Op.TheVariants.{Less};
 ghost use Rattle.sot_lang.specs.declared.term.Term.{Term};
 ghost use Rattle.sot_lang.specs.declared.term.Term.TheVariants.{Number, Place};
 ghost use Rattle.sot_test_missions.specs.Parts.{one_topic, whole_number, place, IsBinary, IsChoice};
-ghost use Rattle.sot_test_missions.specs.Line.{IsMove, IsDrift, IsPos, IsReturn, IsCommand, IsFast, IsSlow, IsLine, nav};
+ghost use Rattle.sot_test_missions.specs.Line.{IsMove, IsDrift, IsPos, IsReturn, IsCommand, IsFast};
+ghost use Rattle.sot_test_missions.specs.Line.{IsSlow, IsLine, nav};
 
 use crate::parts::{binary, choice, interval, node, noise, number, span, topic};
 use sot_lang::{
@@ -161,7 +162,8 @@ pub(crate) fn module(alloc: Global) -> Result<ModuleInfo, AllocError>
 }
 
 fn plants(alloc: Global, next: Term) -> Result<Vec<PlantInfo>, AllocError>
-    ensures { IfOk result (λ v. (plant : PlantInfo) × IsPos (λ t. t ≡ next) plant × (v.items ≡ plant ∷ [])) }
+    ensures { IfOk result (λ v. (plant : PlantInfo) × IsPos (λ t. t ≡ next) plant
+        × (v.items ≡ plant ∷ [])) }
 {
     let plant = plant(alloc, next)?;
     Ok(vec![in alloc; plant]?)
@@ -201,8 +203,8 @@ fn tables(alloc: Global, next: Term) -> Result<Typed, AllocError>
     })
 }
 
-/// The tables of a mission with one plant, a vehicle on a line, whose node 1, `slow`, commands it back once it is more than 10
-/// away from 0. Node 0, `fast`, is external.
+/// The tables of a mission with one plant, a vehicle on a line, whose node 1, `slow`, commands it
+/// back once it is more than 10 away from 0. Node 0, `fast`, is external.
 pub fn line(alloc: Global) -> Result<Typed, AllocError>
     ensures { IfOk result (IsLine IsMove) }
 {
@@ -211,7 +213,8 @@ pub fn line(alloc: Global) -> Result<Typed, AllocError>
     Ok(tables)
 }
 
-/// The same with a vehicle that divides its disturbance by how far it is past 5: there its tick traps.
+/// The same with a vehicle that divides its disturbance by how far it is past 5: there its tick
+/// traps.
 pub fn drifting_line(alloc: Global) -> Result<Typed, AllocError>
     ensures { IfOk result (IsLine IsDrift) }
 {

@@ -1,5 +1,6 @@
 -- The tokens to come are there, are only these, and each is a whole token.
-use Rattle.std.proofs.Common.{◌≡◌, ℕ, cond, zero, suc, ◌+◌, ◌-◌, ◌<◌, ◌≤◌, List, [], ◌∷◌, Bool, true, false, not, ◌==◌, length, take, drop, Option, None, Some, Result, Ok, Err, inl, inr, refl, sym, ap, subst, ◌∙◌, arith}
+use Rattle.std.proofs.Common.{◌≡◌, ℕ, cond, zero, suc, ◌+◌, ◌-◌, ◌<◌, ◌≤◌, List, [], ◌∷◌, Bool, true, false, not, ◌==◌, length, take, drop, Option, None, Some}
+use Rattle.std.proofs.Common.{Result, Ok, Err, inl, inr, refl, sym, ap, subst, ◌∙◌, arith}
 use Rattle.std.proofs.lemmas.Bool.{cases_Bool, cond-true, cond-false}
 use Rattle.std.proofs.lemmas.List.{length-drop, length-take-le}
 use Rattle.sot_text.specs.declared.token.Kind.{Kind}
@@ -23,8 +24,17 @@ skipped_within false (b ∷ bs) =
       | inl hash ↦ omega (arith, comment, here ∙ cond-true (b == 35) (1 + skipped true bs) other_len hash)
       | inr other ↦
           elim (cases_Bool (is_blank b)) [
-            | inl blank_byte ↦ omega (arith, blank, here ∙ cond-false (b == 35) (1 + skipped true bs) other_len other ∙ cond-true (is_blank b) (1 + skipped false bs) 0 blank_byte)
-            | inr none ↦ omega (arith, here ∙ cond-false (b == 35) (1 + skipped true bs) other_len other ∙ cond-false (is_blank b) (1 + skipped false bs) 0 none)
+            | inl blank_byte ↦ omega (
+              arith,
+              blank,
+              here ∙ cond-false (b == 35) (1 + skipped true bs) other_len other
+                  ∙ cond-true (is_blank b) (1 + skipped false bs) 0 blank_byte,
+            )
+            | inr none ↦ omega (
+              arith,
+              here ∙ cond-false (b == 35) (1 + skipped true bs) other_len other
+                  ∙ cond-false (is_blank b) (1 + skipped false bs) 0 none,
+            )
           ]
     ]
 
@@ -34,7 +44,8 @@ pub record IsNext (bytes : List ℕ) (at : ℕ) (t : Lexeme) : Type 0 where
   pub within : t.to ≤ length bytes
   pub whole : IsTokenText t.kind t.text
 
-lexed_next : (bytes : List ℕ) (at from : ℕ) (t : Lexeme) (f : Front) → at ≤ from → front (drop from bytes) ≡ f → lexed bytes from f ≡ Ok (Some t) → IsNext bytes at t
+lexed_next : (bytes : List ℕ) (at from : ℕ) (t : Lexeme) (f : Front) → at ≤ from → front (drop from bytes) ≡ f → lexed bytes from f ≡ Ok (Some t)
+    → IsNext bytes at t
 lexed_next bytes at from t fronts.End le is e = absurd cc
 lexed_next bytes at from t fronts.BadByte le is e = absurd cc
 lexed_next bytes at from t (fronts.NameLong len) le is e = absurd cc
@@ -54,7 +65,8 @@ pub next_is : (bytes : List ℕ) (at : ℕ) (t : Lexeme) → next_lexeme bytes a
 next_is bytes at t e = lexed_next bytes at (next_from bytes at) t (front (drop (next_from bytes at) bytes)) (omega arith) refl e
 
 -- the bytes of a token that stands there
-pub token_text : (bytes rest : List ℕ) (kind : Kind) (len from n : ℕ) → front rest ≡ fronts.Token kind len → rest ≡ drop from bytes → n ≡ len → IsTokenText kind (take n (drop from bytes))
+pub token_text : (bytes rest : List ℕ) (kind : Kind) (len from n : ℕ) → front rest ≡ fronts.Token kind len → rest ≡ drop from bytes → n ≡ len
+    → IsTokenText kind (take n (drop from bytes))
 token_text bytes rest kind len from n is rest_is len_is =
     let whole = token_whole rest kind len is in
     let text_len : length (take len rest) ≡ len = length-take-le len rest whole.within in
@@ -80,9 +92,11 @@ pub ahead_step : (bytes : List ℕ) (at : ℕ) → ahead_from bytes at ≡ ahead
 unfolding ahead_from ahead_within
 ahead_step bytes at =
     step_same (ahead_within (length bytes - at) bytes) (ahead_from bytes) (next_lexeme bytes at)
-    (λ t e. let is = next_is bytes at t e in within_same (length bytes - at) (suc (length bytes - t.to)) bytes t.to (omega (arith, is.forward, is.within)) (omega arith))
+    (λ t e. let is = next_is bytes at t e in within_same (length bytes - at) (suc (length bytes - t.to)) bytes t.to (omega (arith, is.forward, is.within))
+    (omega arith))
 
-comes_with : (bytes : List ℕ) (at : ℕ) (more : ℕ → Ahead) (r : Result (Option Lexeme) LexFault) → next_lexeme bytes at ≡ r → ((t : Lexeme) → r ≡ Ok (Some t) → Comes bytes t.to (more t.to)) → Comes bytes at (ahead_with more r)
+comes_with : (bytes : List ℕ) (at : ℕ) (more : ℕ → Ahead) (r : Result (Option Lexeme) LexFault) → next_lexeme bytes at ≡ r
+    → ((t : Lexeme) → r ≡ Ok (Some t) → Comes bytes t.to (more t.to)) → Comes bytes at (ahead_with more r)
 comes_with bytes at more (Ok None) is rest = (at, refl, is)
 comes_with bytes at more (Err e) is rest = (at, refl, is)
 comes_with bytes at more (Ok (Some t)) is rest = (let behind = rest t refl in (behind.0, (is, behind.1), behind.2))
@@ -109,7 +123,8 @@ ending_is (Some f) None e = absurd cc
 ending_is (Some f) (Some g) e = cc
 
 -- they are determined
-comes_only : (bytes : List ℕ) (at : ℕ) (ts us : List Lexeme) (e f : Option LexFault) → Comes bytes at (record { tokens = ts; end = e }) → Comes bytes at (record { tokens = us; end = f }) → (ts ≡ us) × (e ≡ f)
+comes_only : (bytes : List ℕ) (at : ℕ) (ts us : List Lexeme) (e f : Option LexFault) → Comes bytes at (record { tokens = ts; end = e })
+    → Comes bytes at (record { tokens = us; end = f }) → (ts ≡ us) × (e ≡ f)
 comes_only bytes at [] [] e f (to, run, stop) (to', run', stop') =
     let same : ending e ≡ ending f = sym stop ∙ ap (next_lexeme bytes) (run ∙ sym run') ∙ stop' in
     (refl, ending_is e f same)

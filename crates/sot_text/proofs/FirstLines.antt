@@ -1,5 +1,6 @@
 -- How far the first line of a text goes, and the place behind it.
-use Rattle.std.proofs.Common.{◌≡◌, ◌≢◌, ℕ, zero, suc, ◌+◌, ◌-◌, ◌<◌, List, [], ◌∷◌, true, false, ◌==◌, inl, inr, length, take, drop, get_or, refl, sym, ap, ◌∙◌, arith}
+use Rattle.std.proofs.Common.{◌≡◌, ◌≢◌, ℕ, zero, suc, ◌+◌, ◌-◌, ◌<◌, List, [], ◌∷◌, true, false, ◌==◌, inl, inr, length, take, drop, get_or, refl, sym, ap, ◌∙◌}
+use Rattle.std.proofs.Common.{arith}
 use Rattle.std.proofs.lemmas.Bool.{cases_Bool, cond-true, cond-false}
 use Rattle.std.proofs.lemmas.Bool.Decides.{nat_tests}
 use Rattle.memchr.specs.Find.{Nowhere, Passes, is_byte}
@@ -17,7 +18,8 @@ line_found zero (b ∷ bs) inside none here = rw here refl
 line_found (suc k) (b ∷ bs) inside none here =
     elim (cases_Bool (b == 10)) [
       | inl end ↦ absurd (none 0 (omega arith) (omega arith) end)
-      | inr more ↦ (let rest = line_found k bs (omega arith) (λ j low high passes. none (suc j) (omega arith) (omega arith) passes) here in rw more (omega arith))
+      | inr more ↦ (let rest = line_found k bs (omega arith) (λ j low high passes. none (suc j) (omega arith) (omega arith) passes) here in
+          rw more (omega arith))
     ]
 
 -- and is the whole text where there is none
@@ -37,7 +39,8 @@ pub byte_goes_on : (p : Span) (b : ℕ) → (b == 10) ≡ false → after_byte p
 byte_goes_on p b more = cond-false (b == 10) _ _ more
 
 pub further-add : (p : Span) (n m k : ℕ) → n + m ≡ k → further (further p n) m ≡ further p k
-further-add p n m k sum = (let column : p.column + n + m ≡ p.column + k = omega arith in ap (λ (c : ℕ). let q : Span = record { line = p.line; column = c } in q) column)
+further-add p n m k sum =
+    (let column : p.column + n + m ≡ p.column + k = omega arith in ap (λ (c : ℕ). let q : Span = record { line = p.line; column = c } in q) column)
 
 pub further-none : (p : Span) → p ≡ further p 0
 further-none p = (let column : p.column ≡ p.column + 0 = omega arith in ap (λ (c : ℕ). let q : Span = record { line = p.line; column = c } in q) column)
@@ -64,7 +67,8 @@ after_ended p (b ∷ c ∷ bs) some end =
       | inl here ↦ rw here (byte_ends p b here)
       | inr more ↦
           let rest : List ℕ = c ∷ bs in
-          rw more (ap (λ (q : Span). after q (take (line_len rest) rest)) (byte_goes_on p b more) ∙ after_ended (further p 1) (c ∷ bs) (omega arith) (last_byte b 10 rest (omega arith) more end))
+          rw more (ap (λ (q : Span). after q (take (line_len rest) rest)) (byte_goes_on p b more)
+          ∙ after_ended (further p 1) (c ∷ bs) (omega arith) (last_byte b 10 rest (omega arith) more end))
     ]
 
 -- behind a line that the text ends, only columns were gone over
@@ -82,10 +86,12 @@ after_open p (b ∷ c ∷ bs) end =
       | inl here ↦ (let is : b ≡ 10 = grind (arith, nat_tests) in absurd (rw here at end is))
       | inr more ↦
           let other : get_or rest (n - 1) 0 ≢ 10 = λ e. end (last_byte_on b 10 rest (omega arith) more e) in
-          rw more (ap (λ (q : Span). after q (take n rest)) (byte_goes_on p b more) ∙ after_open (further p 1) (c ∷ bs) other ∙ further-add p 1 n (suc n) (omega arith))
+          rw more (ap (λ (q : Span). after q (take n rest)) (byte_goes_on p b more) ∙ after_open (further p 1) (c ∷ bs) other
+          ∙ further-add p 1 n (suc n) (omega arith))
     ]
   where
-    last_byte_on : (b x : ℕ) (bs : List ℕ) → 0 < length bs → (b == 10) ≡ false → get_or bs (line_len bs - 1) 0 ≡ x → get_or (b ∷ bs) (line_len (b ∷ bs) - 1) 0 ≡ x
+    last_byte_on : (b x : ℕ) (bs : List ℕ) → 0 < length bs → (b == 10) ≡ false → get_or bs (line_len bs - 1) 0 ≡ x
+        → get_or (b ∷ bs) (line_len (b ∷ bs) - 1) 0 ≡ x
     last_byte_on b x bs some more is =
         let pos = line_len-pos bs some in
         let less : suc (line_len bs) - 1 ≡ suc (line_len bs - 1) = omega arith in

@@ -1,5 +1,6 @@
 -- A token's text is itself a token, the same one.
-use Rattle.std.proofs.Common.{◌≡◌, ℕ, zero, suc, ◌+◌, ◌-◌, ◌<◌, ◌≤◌, ◌^◌, List, [], ◌∷◌, ◌++◌, Bool, true, false, cond, inl, inr, ◌||◌, ◌==◌, nat_lt, length, take, drop, slice_index_or, refl, sym, ap, subst, ◌∙◌, arith}
+use Rattle.std.proofs.Common.{◌≡◌, ℕ, zero, suc, ◌+◌, ◌-◌, ◌<◌, ◌≤◌, ◌^◌, List, [], ◌∷◌, ◌++◌, Bool, true, false, cond, inl, inr, ◌||◌, ◌==◌, nat_lt, length}
+use Rattle.std.proofs.Common.{take, drop, slice_index_or, refl, sym, ap, subst, ◌∙◌, arith}
 use Rattle.std.specs.List.{prefix_len}
 use Rattle.std.specs.Char.{is_ascii_digit}
 use Rattle.std.proofs.lemmas.Bool.{cases_Bool, cond-true, cond-false}
@@ -10,7 +11,8 @@ use Rattle.std.proofs.lemmas.List.Sums.{prefix_len-le-length}
 use Rattle.sot_text.specs.declared.token.Kind.{Kind}
 use Rattle.sot_text.specs.declared.token.Kind.TheVariants.{Name, Keyword, Number, Sign}
 use Rattle.sot_text.specs.declared.lexeme.Front.TheVariants.{Token, BadByte, NameLong, LiteralWide}
-use Rattle.sot_text.specs.Lexeme.{begins_word, is_in_word, word_len, digits_len, decimals_len, decimals_of, mantissa_of, number_len, value, is_keyword, sign_len, word, sized, number, sign, front}
+use Rattle.sot_text.specs.Lexeme.{begins_word, is_in_word, word_len, digits_len, decimals_len, decimals_of, mantissa_of, number_len, value, is_keyword}
+use Rattle.sot_text.specs.Lexeme.{sign_len, word, sized, number, sign, front}
 use Rattle.sot_text.specs.Inside.{is_long_sign, is_short_sign, sign_by_two}
 use Rattle.sot_text.proofs.Signs.{by_two}
 
@@ -39,11 +41,13 @@ pub by_word : (bs : List ℕ) → 1 ≤ length bs → begins_word (slice_index_o
 by_word [] some first = absurd (omega (arith, some))
 by_word (b ∷ bs) some first = front_word b bs first
 
-pub by_number : (bs : List ℕ) → 1 ≤ length bs → begins_word (slice_index_or bs 0 0) ≡ false → is_ascii_digit (slice_index_or bs 0 0) ≡ true → front bs ≡ number bs
+pub by_number : (bs : List ℕ) → 1 ≤ length bs → begins_word (slice_index_or bs 0 0) ≡ false → is_ascii_digit (slice_index_or bs 0 0) ≡ true
+    → front bs ≡ number bs
 by_number [] some no_word first = absurd (omega (arith, some))
 by_number (b ∷ bs) some no_word first = front_number b bs no_word first
 
-pub by_sign : (bs : List ℕ) → 1 ≤ length bs → begins_word (slice_index_or bs 0 0) ≡ false → is_ascii_digit (slice_index_or bs 0 0) ≡ false → front bs ≡ sign (sign_len bs)
+pub by_sign : (bs : List ℕ) → 1 ≤ length bs → begins_word (slice_index_or bs 0 0) ≡ false → is_ascii_digit (slice_index_or bs 0 0) ≡ false
+    → front bs ≡ sign (sign_len bs)
 by_sign [] some no_word no_digit = absurd (omega (arith, some))
 by_sign (b ∷ bs) some no_word no_digit = front_sign b bs no_word no_digit
 
@@ -65,8 +69,10 @@ word_takes text kind n e =
       | inl key ↦ sym (token_is Keyword kind (length text) n (sym (cond-true (is_keyword text) _ _ key) ∙ e)).1
       | inr name ↦
           elim (cases_Bool (nat_lt 64 (length text))) [
-            | inl long ↦ (let never : NameLong (length text) ≡ Token kind n = sym (cond-true (nat_lt 64 (length text)) _ _ long) ∙ sym (cond-false (is_keyword text) _ _ name) ∙ e in absurd cc)
-            | inr fits ↦ sym (token_is Name kind (length text) n (sym (cond-false (nat_lt 64 (length text)) _ _ fits) ∙ sym (cond-false (is_keyword text) _ _ name) ∙ e)).1
+            | inl long ↦ (let never : NameLong (length text) ≡ Token kind n = sym (cond-true (nat_lt 64 (length text)) _ _ long)
+                ∙ sym (cond-false (is_keyword text) _ _ name) ∙ e in absurd cc)
+            | inr fits ↦ sym (token_is Name kind (length text) n
+                (sym (cond-false (nat_lt 64 (length text)) _ _ fits) ∙ sym (cond-false (is_keyword text) _ _ name) ∙ e)).1
           ]
     ]
 
@@ -88,7 +94,8 @@ whole_word b bs kind n first e =
     let len : n ≡ w = word_takes (take w (b ∷ bs)) kind n is ∙ length-prefix_len is_in_word (b ∷ bs) in
     let some : 0 < w = some_word b bs first in
     let less : w ≡ suc (w - 1) = omega (arith, some) in
-    let alone : front (take w (b ∷ bs)) ≡ word (take w (b ∷ bs)) = subst (λ (k : ℕ). front (take k (b ∷ bs)) ≡ word (take k (b ∷ bs))) (sym less) (word_alone b bs (w - 1) first less) in
+    let alone : front (take w (b ∷ bs)) ≡ word (take w (b ∷ bs)) =
+    subst (λ (k : ℕ). front (take k (b ∷ bs)) ≡ word (take k (b ∷ bs))) (sym less) (word_alone b bs (w - 1) first less) in
     record {
       some = omega (arith, len, some);
       within = omega (arith, len, prefix_len-le-length is_in_word (b ∷ bs));
@@ -180,7 +187,8 @@ mantissa_of-take xs =
     let n : ℕ = number_len xs in
     ap (λ w. value (take w (take n xs) ++ take (decimals_of (take n xs)) (drop (w + 1) (take n xs)))) (digits_len-take xs)
     ∙ ap (λ d. value (take (digits_len xs) (take n xs) ++ take d (drop (digits_len xs + 1) (take n xs)))) (decimals_of-take xs)
-    ∙ ap (λ front. value (front ++ take (decimals_of xs) (drop (digits_len xs + 1) (take n xs)))) (take-take (digits_len xs) n xs (omega (arith, number_len_is xs)))
+    ∙ ap (λ front. value (front ++ take (decimals_of xs) (drop (digits_len xs + 1) (take n xs))))
+    (take-take (digits_len xs) n xs (omega (arith, number_len_is xs)))
     ∙ ap (λ back. value (take (digits_len xs) xs ++ back)) (decimals-take xs)
 
 number_len-take : (xs : List ℕ) → number_len (take (number_len xs) xs) ≡ number_len xs
@@ -204,11 +212,13 @@ sized_takes d m n len kind e =
 some_number : (b : ℕ) (bs : List ℕ) → is_ascii_digit b ≡ true → 0 < number_len (b ∷ bs)
 some_number b bs first = omega (arith, number_len_is (b ∷ bs), cond-true (is_ascii_digit b) (1 + digits_len bs) 0 first)
 
-number_alone : (b : ℕ) (bs : List ℕ) (m : ℕ) → begins_word b ≡ false → is_ascii_digit b ≡ true → number_len (b ∷ bs) ≡ suc m → front (take (suc m) (b ∷ bs)) ≡ number (b ∷ bs)
+number_alone : (b : ℕ) (bs : List ℕ) (m : ℕ) → begins_word b ≡ false → is_ascii_digit b ≡ true → number_len (b ∷ bs) ≡ suc m
+    → front (take (suc m) (b ∷ bs)) ≡ number (b ∷ bs)
 number_alone b bs m no_word first len =
     front_number b (take m bs) no_word first ∙ ap (λ n. number (take n (b ∷ bs))) (sym len) ∙ number-take (b ∷ bs)
 
-whole_number : (b : ℕ) (bs : List ℕ) (kind : Kind) (n : ℕ) → begins_word b ≡ false → is_ascii_digit b ≡ true → front (b ∷ bs) ≡ Token kind n → IsWhole (b ∷ bs) kind n
+whole_number : (b : ℕ) (bs : List ℕ) (kind : Kind) (n : ℕ) → begins_word b ≡ false → is_ascii_digit b ≡ true → front (b ∷ bs) ≡ Token kind n
+    → IsWhole (b ∷ bs) kind n
 whole_number b bs kind n no_word first e =
     let xs : List ℕ = b ∷ bs in
     let is : number xs ≡ Token kind n = sym (front_number b bs no_word first) ∙ e in
@@ -258,12 +268,14 @@ sign_by_two-take (a ∷ b ∷ bs) =
       | inr short ↦ one_sign a (b ∷ bs) (sign_by_two (a ∷ b ∷ bs)) (cond-false (is_long_sign a b) _ _ short)
     ]
 
-sign_alone : (b : ℕ) (bs : List ℕ) (m : ℕ) → begins_word b ≡ false → is_ascii_digit b ≡ false → sign_by_two (b ∷ bs) ≡ suc m → front (take (suc m) (b ∷ bs)) ≡ sign (suc m)
+sign_alone : (b : ℕ) (bs : List ℕ) (m : ℕ) → begins_word b ≡ false → is_ascii_digit b ≡ false → sign_by_two (b ∷ bs) ≡ suc m
+    → front (take (suc m) (b ∷ bs)) ≡ sign (suc m)
 sign_alone b bs m no_word no_digit len =
     let same : sign_by_two (take (suc m) (b ∷ bs)) ≡ suc m = ap (λ k. sign_by_two (take k (b ∷ bs))) (sym len) ∙ (sign_by_two-take (b ∷ bs)).same ∙ len in
     front_sign b (take m bs) no_word no_digit ∙ ap sign (sym (by_two (take (suc m) (b ∷ bs))) ∙ same)
 
-whole_sign : (b : ℕ) (bs : List ℕ) (kind : Kind) (n : ℕ) → begins_word b ≡ false → is_ascii_digit b ≡ false → front (b ∷ bs) ≡ Token kind n → IsWhole (b ∷ bs) kind n
+whole_sign : (b : ℕ) (bs : List ℕ) (kind : Kind) (n : ℕ) → begins_word b ≡ false → is_ascii_digit b ≡ false → front (b ∷ bs) ≡ Token kind n
+    → IsWhole (b ∷ bs) kind n
 whole_sign b bs kind n no_word no_digit e =
     let xs : List ℕ = b ∷ bs in
     let k : ℕ = sign_by_two xs in

@@ -14,7 +14,8 @@ other_length [] (b ∷ w) differ = refl
 other_length (a ∷ k) [] differ = refl
 other_length (a ∷ k) (b ∷ w) differ = rw (other_length k w (λ e. differ (ap suc e))) (and_false (a == b))
 
-any_of_length : (n : ℕ) (w : List ℕ) (ks : List (List ℕ)) → length w ≡ n → list_any (λ k. bytes_eq k w) ks ≡ list_any (λ k. bytes_eq k w) (filter (λ k. length k == n) ks)
+any_of_length : (n : ℕ) (w : List ℕ) (ks : List (List ℕ)) → length w ≡ n
+    → list_any (λ k. bytes_eq k w) ks ≡ list_any (λ k. bytes_eq k w) (filter (λ k. length k == n) ks)
 any_of_length n w [] len = refl
 any_of_length n w (k ∷ ks) len =
     let more = any_of_length n w ks len in
@@ -38,6 +39,7 @@ none_of_length n a b c d e f g h =
     simp (differs 2 n a, differs 3 n b, differs 4 n c, differs 5 n d, differs 6 n e, differs 7 n f, differs 8 n g, differs 11 n h) refl
 
 -- no keyword has another length
-pub other_lengths : (w : List ℕ) → length w ≢ 2 → length w ≢ 3 → length w ≢ 4 → length w ≢ 5 → length w ≢ 6 → length w ≢ 7 → length w ≢ 8 → length w ≢ 11 → is_keyword w ≡ false
+pub other_lengths : (w : List ℕ) → length w ≢ 2 → length w ≢ 3 → length w ≢ 4 → length w ≢ 5 → length w ≢ 6 → length w ≢ 7 → length w ≢ 8 → length w ≢ 11
+    → is_keyword w ≡ false
 other_lengths w a b c d e f g h =
     by_length (length w) w refl ∙ ap (λ (ks : List (List ℕ)). list_any (λ k. bytes_eq k w) ks) (none_of_length (length w) a b c d e f g h)

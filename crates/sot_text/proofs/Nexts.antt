@@ -13,7 +13,8 @@ use Rattle.sot_text.specs.Reading.{Reading, Lexeme, lexed, next_from, next_lexem
 use Rattle.sot_text.proofs.Starts.{after_on}
 use Rattle.sot_text.proofs.TokenPlaces.{token_on}
 
-pub next_at : (r : Reading) (bytes : List ℕ) (at from : ℕ) (f : Front) → r ≡ record { bytes = bytes; at = at } → from ≡ next_from bytes at → f ≡ front (take (length bytes - from) (drop from bytes)) → lexed bytes from f ≡ next_lexeme r.bytes r.at
+pub next_at : (r : Reading) (bytes : List ℕ) (at from : ℕ) (f : Front) → r ≡ record { bytes = bytes; at = at } → from ≡ next_from bytes at
+    → f ≡ front (take (length bytes - from) (drop from bytes)) → lexed bytes from f ≡ next_lexeme r.bytes r.at
 next_at r bytes at from f seen from_is front_is =
     let there : f ≡ front (drop from bytes) = front_is ∙ ap front (take_rest bytes from) in
     ap (lexed bytes from) there
@@ -23,13 +24,15 @@ next_at r bytes at from f seen from_is front_is =
 abbrev token_of : Kind → List ℕ → ℕ → Span → Result (Option Lexeme) LexFault
 token_of kind text to at = Ok (Some (record { kind = kind; text = text; at = at; to = to }))
 
-pub token_is : (bytes : List ℕ) (from len : ℕ) (kind : Kind) (s : Span) → s ≡ span bytes from → token_of kind (take (from + len - from) (drop from bytes)) (from + len) s ≡ lexed bytes from (fronts.Token kind len)
+pub token_is : (bytes : List ℕ) (from len : ℕ) (kind : Kind) (s : Span) → s ≡ span bytes from
+    → token_of kind (take (from + len - from) (drop from bytes)) (from + len) s ≡ lexed bytes from (fronts.Token kind len)
 token_is bytes from len kind s is =
     let count : from + len - from ≡ len = omega arith in
     ap (λ (n : ℕ). token_of kind (take n (drop from bytes)) (from + len) s) count ∙ ap (token_of kind (take len (drop from bytes)) (from + len)) is
 
 -- the place behind a token
-pub place_behind : (bytes : List ℕ) (from len : ℕ) (kind : Kind) (p q : Span) → p ≡ after begin (take from bytes) → q ≡ further p len → fronts.Token kind len ≡ front (take (length bytes - from) (drop from bytes)) → q ≡ after begin (take (from + len) bytes)
+pub place_behind : (bytes : List ℕ) (from len : ℕ) (kind : Kind) (p q : Span) → p ≡ after begin (take from bytes) → q ≡ further p len
+    → fronts.Token kind len ≡ front (take (length bytes - from) (drop from bytes)) → q ≡ after begin (take (from + len) bytes)
 place_behind bytes from len kind p q here is token =
     let there : front (drop from bytes) ≡ fronts.Token kind len = sym (token ∙ ap front (take_rest bytes from)) in
     after_on bytes from len p q here (token_on p (drop from bytes) kind len there ∙ sym is)

@@ -49,7 +49,9 @@ one_more false false m e = omega arith
 
 -- six texts of two bytes
 longest_of_six : (p q r s t u : Bool)
-    → max (cond (p && true) 2 0) (max (cond (q && true) 2 0) (max (cond (r && true) 2 0) (max (cond (s && true) 2 0) (max (cond (t && true) 2 0) (max (cond (u && true) 2 0) 0))))) ≡ cond (p || q || r || s || t || u) 2 0
+    → max (cond (p && true) 2 0) (max (cond (q && true) 2 0)
+    (max (cond (r && true) 2 0) (max (cond (s && true) 2 0) (max (cond (t && true) 2 0) (max (cond (u && true) 2 0) 0)))))
+    ≡ cond (p || q || r || s || t || u) 2 0
 longest_of_six p q r s t u =
     let f = one_more u false 0 refl in
     let e = one_more t (u || false) _ f in

@@ -16,7 +16,8 @@ use Rattle.sot_text.proofs.FirstLines.{comment_skips, after_ended, after_open, b
 -- the place behind some more bytes
 pub after_on : (bs : List ℕ) (at n : ℕ) (p q : Span) → p ≡ after begin (take at bs) → after p (take n (drop at bs)) ≡ q → q ≡ after begin (take (at + n) bs)
 after_on bs at n p q here more =
-    sym more ∙ ap (λ (r : Span). after r (take n (drop at bs))) here ∙ after-append begin (take at bs) (take n (drop at bs)) ∙ ap (after begin) (sym (take-add at n bs))
+    sym more ∙ ap (λ (r : Span). after r (take n (drop at bs))) here ∙ after-append begin (take at bs) (take n (drop at bs))
+    ∙ ap (after begin) (sym (take-add at n bs))
 
 -- what is skipped behind skipped bytes is all that is skipped
 pub skips_on : (bs : List ℕ) (at n : ℕ) → skipped false (drop at bs) ≡ n + skipped false (drop n (drop at bs)) → next_from bs (at + n) ≡ next_from bs at
@@ -51,13 +52,15 @@ last_at bs at k inside len =
     let place : at + (line_len (drop at bs) - 1) ≡ at + k - 1 = omega arith in
     get_or-drop at bs (line_len (drop at bs) - 1) 0 ∙ ap (λ (n : ℕ). get_or bs n 0) place
 
-pub line_ended : (bs : List ℕ) (at k : ℕ) (p : Span) → p ≡ after begin (take at bs) → at < length bs → k ≡ line_len (drop at bs) → get_or bs (at + k - 1) 0 ≡ 10 → next_line p ≡ after begin (take (at + k) bs)
+pub line_ended : (bs : List ℕ) (at k : ℕ) (p : Span) → p ≡ after begin (take at bs) → at < length bs → k ≡ line_len (drop at bs) → get_or bs (at + k - 1) 0 ≡ 10
+    → next_line p ≡ after begin (take (at + k) bs)
 line_ended bs at k p here inside len end =
     after_on bs at k p (next_line p) here
     (ap (λ (n : ℕ). after p (take n (drop at bs))) len
     ∙ after_ended p (drop at bs) (omega (arith, length-drop at bs)) (last_at bs at k inside len ∙ end))
 
-pub line_open : (bs : List ℕ) (at k : ℕ) (p : Span) → p ≡ after begin (take at bs) → at < length bs → k ≡ line_len (drop at bs) → get_or bs (at + k - 1) 0 ≢ 10 → further p k ≡ after begin (take (at + k) bs)
+pub line_open : (bs : List ℕ) (at k : ℕ) (p : Span) → p ≡ after begin (take at bs) → at < length bs → k ≡ line_len (drop at bs) → get_or bs (at + k - 1) 0 ≢ 10
+    → further p k ≡ after begin (take (at + k) bs)
 line_open bs at k p here inside len open_end =
     after_on bs at k p (further p k) here
     (ap (λ (n : ℕ). after p (take n (drop at bs))) len
@@ -65,13 +68,15 @@ line_open bs at k p here inside len open_end =
     ∙ ap (further p) (sym len))
 
 -- the place behind one byte
-pub byte_ended : (bs : List ℕ) (at x : ℕ) (p : Span) → p ≡ after begin (take at bs) → at < length bs → get_or bs at x ≡ 10 → next_line p ≡ after begin (take (at + 1) bs)
+pub byte_ended : (bs : List ℕ) (at x : ℕ) (p : Span) → p ≡ after begin (take at bs) → at < length bs → get_or bs at x ≡ 10
+    → next_line p ≡ after begin (take (at + 1) bs)
 byte_ended bs at x p here inside end =
     let b : ℕ = get_or bs at x in
     let is : (b == 10) ≡ true = grind (arith, nat_tests) in
     after_on bs at 1 p (next_line p) here (ap (λ (l : List ℕ). after p (take 1 l)) (drop_more bs at x inside) ∙ byte_ends p b is)
 
-pub byte_open : (bs : List ℕ) (at x : ℕ) (p : Span) → p ≡ after begin (take at bs) → at < length bs → get_or bs at x ≢ 10 → further p 1 ≡ after begin (take (at + 1) bs)
+pub byte_open : (bs : List ℕ) (at x : ℕ) (p : Span) → p ≡ after begin (take at bs) → at < length bs → get_or bs at x ≢ 10
+    → further p 1 ≡ after begin (take (at + 1) bs)
 byte_open bs at x p here inside other =
     let b : ℕ = get_or bs at x in
     let is : (b == 10) ≡ false = grind (arith, nat_tests) in

@@ -52,8 +52,10 @@ point_on p (y ∷ ys) (suc e) is =
       | inl point ↦
           let digits : digits_len ys ≡ suc e = sym (cond-true (y == 46) _ _ point) ∙ is in
           let other : (y == 10) ≡ false = grind (arith, nat_tests) in
-          let rest : after (further p 1) (take (suc e) ys) ≡ further (further p 1) (suc e) = ap (λ (n : ℕ). after (further p 1) (take n ys)) (sym digits) ∙ prefix_on is_ascii_digit (further p 1) ys refl ∙ ap (further (further p 1)) digits in
-          ap (λ (n : ℕ). after p (take n (y ∷ ys))) (point_len_some e) ∙ first_on p y (suc e) (take (suc e) ys) other rest ∙ ap (further p) (sym (point_len_some e))
+          let rest : after (further p 1) (take (suc e) ys) ≡ further (further p 1) (suc e) = ap (λ (n : ℕ). after (further p 1) (take n ys)) (sym digits)
+          ∙ prefix_on is_ascii_digit (further p 1) ys refl ∙ ap (further (further p 1)) digits in
+          ap (λ (n : ℕ). after p (take n (y ∷ ys))) (point_len_some e) ∙ first_on p y (suc e) (take (suc e) ys) other rest
+          ∙ ap (further p) (sym (point_len_some e))
       | inr other ↦ absurd (omega (arith, sym (cond-false (y == 46) _ _ other) ∙ is))
     ]
 

@@ -1,5 +1,6 @@
 -- The tokens that a text has still to come, and how they end.
-use Rattle.std.specs.Prelude.{◌≡◌, ℕ, zero, suc, ◌-◌, List, [], ◌∷◌, length, Option, None, Some, Result, Ok, Err}
+use Rattle.std.specs.Prelude.{◌≡◌, ℕ, zero, suc, ◌-◌, List, [], ◌∷◌, length, Option, None, Some}
+use Rattle.std.specs.Prelude.{Result, Ok, Err}
 use Rattle.sot_text.specs.declared.token.LexFault.{LexFault}
 use Rattle.sot_text.specs.Reading.{Lexeme, Lexes, next_lexeme}
 
@@ -15,7 +16,8 @@ ending (Some fault) = Err fault
 
 -- from a place on the text has these tokens, and ends so
 abbrev pub Comes : List ℕ → ℕ → Ahead → Type 0
-Comes bytes at ahead = (to : ℕ) × Lexes bytes at ahead.tokens to × (next_lexeme bytes to ≡ ending ahead.end)
+Comes bytes at ahead =
+    (to : ℕ) × Lexes bytes at ahead.tokens to × (next_lexeme bytes to ≡ ending ahead.end)
 
 abbrev pub push : Lexeme → Ahead → Ahead
 push t ahead = record { tokens = t ∷ ahead.tokens; end = ahead.end }

@@ -3,12 +3,15 @@ use Rattle.std.specs.Prelude.{ℕ, ◌+◌, ◌<◌, List, [], ◌∷◌, Bool, 
 use Rattle.std.specs.List.{list_any}
 use Rattle.sot_text.specs.declared.token.Span.{Span}
 use Rattle.sot_text.specs.declared.lexeme.Front.{Front}
-use Rattle.sot_text.specs.declared.lexeme.Front.TheVariants.{End, Token, BadByte, NameLong, LiteralWide}
+use Rattle.sot_text.specs.declared.lexeme.Front.TheVariants.{End, Token, BadByte, NameLong}
+use Rattle.sot_text.specs.declared.lexeme.Front.TheVariants.{LiteralWide}
 use Rattle.sot_text.specs.Lexeme.{is_blank, sign_characters}
 
 -- ':=', '..', '<=', '>=', '==' and '!='
 abbrev pub is_long_sign : ℕ → ℕ → Bool
-is_long_sign a b = (a == 58 && b == 61) || (a == 46 && b == 46) || (a == 60 && b == 61) || (a == 62 && b == 61) || (a == 61 && b == 61) || (a == 33 && b == 61)
+is_long_sign a b =
+    (a == 58 && b == 61) || (a == 46 && b == 46) || (a == 60 && b == 61) || (a == 62 && b == 61) ||
+    (a == 61 && b == 61) || (a == 33 && b == 61)
 
 abbrev pub is_short_sign : ℕ → Bool
 is_short_sign a = list_any (λ s. a == s) sign_characters

@@ -16,7 +16,8 @@ pub fn line_len(bytes: &[u8]) -> usize
     }
 }
 
-// So many bytes are looked at one by one, which is quicker for the many short comments than to begin a search.
+// So many bytes are looked at one by one, which is quicker for the many short comments than to
+// begin a search.
 const NEAR: usize = 16;
 
 // The same, if the first line ends within the first bytes.

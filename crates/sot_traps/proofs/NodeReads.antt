@@ -20,7 +20,8 @@ use Rattle.sot_traps.specs.Verdict.{HaveSafeBoxes, IsCodedNode, IsVerdictOf}
 use Rattle.sot_traps.proofs.SlotReadings.{can_be_read, readings_length}
 use Rattle.sot_traps.proofs.Verdicts.{told, verdict_of}
 
-module _ (made p : Tables) (view : made ≡ p) (kept : MeetsTableRules made) (boxes : HaveSafeBoxes p) (n : ℕ) (coded : IsCodedNode p n) (info : NodeInfo) (read : info ≡ get_or made.nodes n info) where
+module _ (made p : Tables) (view : made ≡ p) (kept : MeetsTableRules made) (boxes : HaveSafeBoxes p) (n : ℕ) (coded : IsCodedNode p n) (info : NodeInfo)
+    (read : info ≡ get_or made.nodes n info) where
   rules' : MeetsTableRules p
   rules' = subst MeetsTableRules view kept
 
@@ -61,7 +62,8 @@ module _ (made p : Tables) (view : made ≡ p) (kept : MeetsTableRules made) (bo
         pub may_evaluate : MayEvaluate p n ranges
         may_evaluate =
             let size = ap length whole ∙ length-append sides (local_ranges info) in
-            let own : length (local_ranges info) ≡ length info.locals.items = length-map info.locals.items (λ (x : LocalInfo). record { lo = x.lo; hi = x.hi }) in
+            let own : length (local_ranges info) ≡ length info.locals.items =
+            length-map info.locals.items (λ (x : LocalInfo). record { lo = x.lo; hi = x.hi }) in
             let names : length ranges ≡ length info.reads.items + length info.locals.items = omega (arith, size, own, long) in
             record {
               node = info;
@@ -72,7 +74,8 @@ module _ (made p : Tables) (view : made ≡ p) (kept : MeetsTableRules made) (bo
             }
 
         -- what the evaluation gives is the verdict
-        pub verdict : (result : OrMayTrap (List Drafted)) → IsNodeDraft p n ranges result → (node : NodeInfo) (acts : List Act) → At p.nodes n node → IsCoded node acts → IsVerdictOf p node acts (told result)
+        pub verdict : (result : OrMayTrap (List Drafted)) → IsNodeDraft p n ranges result → (node : NodeInfo) (acts : List Act) → At p.nodes n node
+            → IsCoded node acts → IsVerdictOf p node acts (told result)
         verdict result gives node acts at body =
             let theirs : info ≡ node = sym (node_is p n node info at is) in
             let its : AreReadings p node.reads.items sides = subst (λ (x : NodeInfo). AreReadings p x.reads.items sides) theirs mine in

@@ -42,8 +42,10 @@ verdict_from p node acts (Err u) hs runs one = record {
   trap = λ t. (λ e. let same : u ≡ t = cc in subst (λ x. IsSafeExecution p node acts (Err x)) same (hs.0, hs.1, runs hs.0 hs.1), λ h. ap told (one (Err t) h));
 }
 
-pub verdict_is : (p : Tables) (n : ℕ) (node : NodeInfo) (acts : List Act) (sides : List Side) (o : OrMayTrap Intervals) → MeetsTableRules p → HaveSafeBoxes p → At p.nodes n node
-    → AreReadings p node.reads.items sides → IsExecutionIntervals acts (local_ranges node) (write_ranges p node) sides (local_ranges node) o → IsVerdictOf p node acts (told o)
+pub verdict_is : (p : Tables) (n : ℕ) (node : NodeInfo) (acts : List Act) (sides : List Side) (o : OrMayTrap Intervals) → MeetsTableRules p → HaveSafeBoxes p
+    → At p.nodes n node
+    → AreReadings p node.reads.items sides → IsExecutionIntervals acts (local_ranges node) (write_ranges p node) sides (local_ranges node) o
+    → IsVerdictOf p node acts (told o)
 verdict_is p n node acts sides o rules boxes at are runs = verdict_from p node acts o (all_hulls p rules boxes) over one
   where
     over : (hulls : List (List Side)) → AllHulls p hulls → IsNodeExecution p node acts hulls o
@@ -55,14 +57,18 @@ verdict_is p n node acts sides o rules boxes at are runs = verdict_from p node a
     one q h = execution_same acts (local_ranges node) (write_ranges p node) _ (local_ranges node) o q (over h.0 h.1) h.2
 
 -- the verdict by what the evaluation of the node hands out
-pub verdict_of : (p : Tables) (n : ℕ) (node : NodeInfo) (acts : List Act) (sides ranges : List Side) (result : OrMayTrap (List Drafted)) → MeetsTableRules p → HaveSafeBoxes p → At p.nodes n node
+pub verdict_of : (p : Tables) (n : ℕ) (node : NodeInfo) (acts : List Act) (sides ranges : List Side) (result : OrMayTrap (List Drafted)) → MeetsTableRules p
+    → HaveSafeBoxes p → At p.nodes n node
     → AreReadings p node.reads.items sides → ranges ≡ sides ++ local_ranges node
-    → (o : OrMayTrap Intervals) × IsExecutionIntervals acts (local_ranges node) (write_ranges p node) (take (length node.reads.items) ranges) (drop (length node.reads.items) ranges) o × (result ≡ drafts_of o)
+    → (o : OrMayTrap Intervals) × IsExecutionIntervals acts (local_ranges node) (write_ranges p node) (take (length node.reads.items) ranges)
+    (drop (length node.reads.items) ranges) o × (result ≡ drafts_of o)
     → IsVerdictOf p node acts (told result)
 verdict_of p n node acts sides ranges result rules boxes at are whole h =
     let long : length node.reads.items ≡ length sides = sym (readings_length p node.reads.items sides are) in
-    let front : take (length node.reads.items) ranges ≡ sides = ap (λ k. take k ranges) long ∙ ap (take (length sides)) whole ∙ take-append_seam sides (local_ranges node) in
-    let back : drop (length node.reads.items) ranges ≡ local_ranges node = ap (λ k. drop k ranges) long ∙ ap (drop (length sides)) whole ∙ drop-append_seam sides (local_ranges node) in
+    let front : take (length node.reads.items) ranges ≡ sides = ap (λ k. take k ranges) long ∙ ap (take (length sides)) whole
+    ∙ take-append_seam sides (local_ranges node) in
+    let back : drop (length node.reads.items) ranges ≡ local_ranges node = ap (λ k. drop k ranges) long ∙ ap (drop (length sides)) whole
+    ∙ drop-append_seam sides (local_ranges node) in
     let runs = subst (λ q. IsExecutionIntervals acts (local_ranges node) (write_ranges p node) q (local_ranges node) h.0) front
     (subst (λ q. IsExecutionIntervals acts (local_ranges node) (write_ranges p node) (take (length node.reads.items) ranges) q h.0) back h.1) in
     let same : told h.0 ≡ told result = sym (ap told h.2 ∙ told_drafts h.0) in

@@ -19,10 +19,13 @@ abbrev pub IsCodedNode : Tables → ℕ → Type 0
 IsCodedNode p n = (node : NodeInfo) × (acts : List Act) × At p.nodes n node × IsCoded node acts
 
 -- success exactly where the node is trap-free; a trap exactly where it is the first one
-pub record IsVerdictOf (p : Tables) (node : NodeInfo) (acts : List Act) (result : OrMayTrap (Unit {0})) : Type 0 where
+pub record IsVerdictOf (p : Tables) (node : NodeInfo) (acts : List Act)
+    (result : OrMayTrap (Unit {0})) : Type 0 where
   pub free : (result ≡ Ok tt) ↔ IsTrapFree p node acts
   pub trap : (t : MayTrap) → (result ≡ Err t) ↔ IsSafeExecution p node acts (Err t)
 
 -- that of the coded node at this place
 abbrev pub IsTrapVerdict : Tables → ℕ → OrMayTrap (Unit {0}) → Type 0
-IsTrapVerdict p n result = (node : NodeInfo) (acts : List Act) → At p.nodes n node → IsCoded node acts → IsVerdictOf p node acts result
+IsTrapVerdict p n result =
+    (node : NodeInfo) (acts : List Act) → At p.nodes n node → IsCoded node acts
+    → IsVerdictOf p node acts result

@@ -21,7 +21,8 @@ fn state_side(p: &Typed, plant: u32, var: u32) -> Interval
     hull.side(var as usize)
 }
 
-/// The interval of what a slot shows: a topic's scalar anywhere in its range, a plant anywhere in the hull of its safe region.
+/// The interval of what a slot shows: a topic's scalar anywhere in its range, a plant anywhere in
+/// the hull of its safe region.
 pub fn slot_side(p: &Typed, slot: Slot) -> Interval
     requires { CanBeRead p.now slot }
     ensures { IsReading p.now slot result }

@@ -16,7 +16,8 @@ row_items (more_of-Stmt s rest_) = ap (statement (statement_view s)) (row_items 
 block_is : (v : Vec Stmt) → row_view (hidden-the_row-Stmt-0 v) ≡ block_view v.items
 block_is v = row_items {m = _} (hidden-the_row-Stmt-0 v) ∙ ap block_view (items_hidden-the_row-Stmt-0 v)
 
-pub branch_view : (b : Box Branch) (at : Span) → statement_view (If b at) ≡ branched (tree_view b.value.cond) (block_view b.value.yes.items) (block_view b.value.no.items) at
+pub branch_view : (b : Box Branch) (at : Span) → statement_view (If b at)
+    ≡ branched (tree_view b.value.cond) (block_view b.value.yes.items) (block_view b.value.no.items) at
 branch_view b at = (let p = block_is b.value.yes in let q = block_is b.value.no in ap₂ (λ x y. branched (tree_view b.value.cond) x y at) p q)
 
 pub repeat_view : (n : Lit) (v : Vec Stmt) (at : Span) → statement_view (Repeat n v at) ≡ repeated n (block_view v.items) at

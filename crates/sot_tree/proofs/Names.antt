@@ -45,10 +45,12 @@ name_word : (text : List ℕ) → IsTokenText Name text → prefix_len is_in_wor
 name_word [] is = refl
 name_word (b ∷ bs) is =
     elim (cases_Bool (begins_word b)) [
-      | inl first ↦ sym (word_length (take (word_len (b ∷ bs)) (b ∷ bs)) (length (b ∷ bs)) (sym (front_word b bs first) ∙ is) ∙ length-prefix_len is_in_word (b ∷ bs))
+      | inl first ↦ sym (word_length (take (word_len (b ∷ bs)) (b ∷ bs)) (length (b ∷ bs)) (sym (front_word b bs first) ∙ is)
+          ∙ length-prefix_len is_in_word (b ∷ bs))
       | inr no_word ↦
           elim (cases_Bool (is_ascii_digit b)) [
-            | inl digit ↦ absurd (number_no_name (decimals_of (b ∷ bs)) (mantissa_of (b ∷ bs)) (number_len (b ∷ bs)) _ (sym (front_number b bs no_word digit) ∙ is))
+            | inl digit ↦ absurd (number_no_name (decimals_of (b ∷ bs)) (mantissa_of (b ∷ bs)) (number_len (b ∷ bs)) _
+                (sym (front_number b bs no_word digit) ∙ is))
             | inr no_digit ↦ absurd (sign_no_name (sign_len (b ∷ bs)) _ (sym (front_sign b bs no_word no_digit) ∙ is))
           ]
     ]
@@ -60,7 +62,8 @@ words_ascii : (text : List ℕ) → prefix_len is_in_word text ≡ length text �
 words_ascii [] e = IsAscii-nil
 words_ascii (b ∷ bs) e =
     elim (cases_Bool (is_in_word b)) [
-      | inl inside ↦ (let more : 1 + prefix_len is_in_word bs ≡ length (b ∷ bs) = sym (cond-true (is_in_word b) _ _ inside) ∙ e in IsAscii-cons b bs (small_byte b inside) (words_ascii bs (omega arith)))
+      | inl inside ↦ (let more : 1 + prefix_len is_in_word bs ≡ length (b ∷ bs) = sym (cond-true (is_in_word b) _ _ inside) ∙ e in
+          IsAscii-cons b bs (small_byte b inside) (words_ascii bs (omega arith)))
       | inr outside ↦ (let none : 0 ≡ length (b ∷ bs) = sym (cond-false (is_in_word b) _ _ outside) ∙ e in absurd (omega arith))
     ]
 
@@ -87,10 +90,12 @@ pub name_fits : (text : List ℕ) → IsTokenText Name text → length text ≤ 
 name_fits [] is = omega arith
 name_fits (b ∷ bs) is =
     elim (cases_Bool (begins_word b)) [
-      | inl first ↦ (let whole : take (word_len (b ∷ bs)) (b ∷ bs) ≡ b ∷ bs = name_prefix (b ∷ bs) is in subst (λ t. length t ≤ 64) whole (word_fits (take (word_len (b ∷ bs)) (b ∷ bs)) (length (b ∷ bs)) (sym (front_word b bs first) ∙ is)))
+      | inl first ↦ (let whole : take (word_len (b ∷ bs)) (b ∷ bs) ≡ b ∷ bs = name_prefix (b ∷ bs) is in
+          subst (λ t. length t ≤ 64) whole (word_fits (take (word_len (b ∷ bs)) (b ∷ bs)) (length (b ∷ bs)) (sym (front_word b bs first) ∙ is)))
       | inr no_word ↦
           elim (cases_Bool (is_ascii_digit b)) [
-            | inl digit ↦ absurd (number_no_name (decimals_of (b ∷ bs)) (mantissa_of (b ∷ bs)) (number_len (b ∷ bs)) _ (sym (front_number b bs no_word digit) ∙ is))
+            | inl digit ↦ absurd (number_no_name (decimals_of (b ∷ bs)) (mantissa_of (b ∷ bs)) (number_len (b ∷ bs)) _
+                (sym (front_number b bs no_word digit) ∙ is))
             | inr no_digit ↦ absurd (sign_no_name (sign_len (b ∷ bs)) _ (sym (front_sign b bs no_word no_digit) ∙ is))
           ]
     ]

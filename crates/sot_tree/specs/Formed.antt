@@ -1,5 +1,6 @@
 -- What the grammar alone makes sure of a program's tree.
-use Rattle.std.specs.Prelude.{◌≡◌, ℕ, zero, suc, ◌≤◌, ◌^◌, pos, ◌≤ℤ◌, nat_abs, List, [], ◌∷◌, Option, Some, None}
+use Rattle.std.specs.Prelude.{◌≡◌, ℕ, zero, suc, ◌≤◌, ◌^◌, pos, ◌≤ℤ◌, nat_abs, List, [], ◌∷◌}
+use Rattle.std.specs.Prelude.{Option, Some, None}
 use Rattle.sot_text.specs.declared.token.Kind.TheVariants.{Name}
 use Rattle.sot_text.specs.Lexeme.{IsTokenText}
 use Rattle.sot_tree.specs.Functions.{arity}
@@ -12,7 +13,12 @@ use Rattle.sot_tree.specs.declared.tree.Field.{Field}
 use Rattle.sot_tree.specs.declared.tree.Const.{Const}
 use Rattle.sot_tree.specs.declared.tree.Const.TheVariants.{Number, Truth}
 use Rattle.sot_tree.specs.declared.tree.StateDecl.{StateDecl}
-use Rattle.sot_tree.specs.Trees.{Tree, Trees, number, truth, named, binary, rest, negated, denied, called, rescaled, chosen, no_tree, one_more, Statement, Block, assigned, published, branched, repeated, no_statement, statement, Form, one, fields, Start, one_value, values, Topic, Next, Local, Plant, Node, Area, Module, Declaration, a_topic, a_plant, a_node, a_module, Program}
+use Rattle.sot_tree.specs.Trees.{Tree, Trees, number, truth, named, binary, rest, negated, denied}
+use Rattle.sot_tree.specs.Trees.{called, rescaled, chosen, no_tree, one_more, Statement, Block}
+use Rattle.sot_tree.specs.Trees.{assigned, published, branched, repeated, no_statement, statement}
+use Rattle.sot_tree.specs.Trees.{Form, one, fields, Start, one_value, values, Topic, Next, Local}
+use Rattle.sot_tree.specs.Trees.{Plant, Node, Area, Module, Declaration, a_topic, a_plant, a_node}
+use Rattle.sot_tree.specs.Trees.{a_module, Program}
 
 abbrev pub Each : {A : Type 0} → (A → Type 0) → List A → Type 0
 Each P [] = Unit {0}
@@ -31,7 +37,8 @@ HasItem (x ∷ xs) = Unit {0}
 abbrev pub IsName : Ident → Type 0
 IsName i = IsTokenText Name i.name
 
--- a literal has at most 6 decimals and a mantissa of at most 10^12; one that takes no minus is not below 0
+-- a literal has at most 6 decimals and a mantissa of at most 10^12; one that takes no minus is not
+-- below 0
 pub record IsLiteral (l : Lit) : Type 0 where
   pub scale : l.scale ≤ 6
   pub mantissa : nat_abs l.mantissa ≤ 10 ^ 12

@@ -1,7 +1,10 @@
 -- The trees that the code holds, as contracts see them.
 use Rattle.std.specs.Prelude.{List, [], ◌∷◌, map, Option, None, Some}
-use Rattle.sot_tree.specs.declared.tree.Expr.{Expr, Number, Truth, Name, Member, Binary', Rest', Neg', Not', Call', Rescale', If', Row_of-Expr, end_of-Expr, more_of-Expr}
-use Rattle.sot_tree.specs.declared.tree.Stmt.{Stmt, Assign, Publish, PublishField, If' as IfStmt', Repeat', Row_of-Stmt, end_of-Stmt, more_of-Stmt}
+use Rattle.sot_tree.specs.declared.tree.Expr.{Expr, Number, Truth, Name, Member, Binary', Rest'}
+use Rattle.sot_tree.specs.declared.tree.Expr.{Neg', Not', Call', Rescale', If', Row_of-Expr}
+use Rattle.sot_tree.specs.declared.tree.Expr.{end_of-Expr, more_of-Expr}
+use Rattle.sot_tree.specs.declared.tree.Stmt.{Stmt, Assign, Publish, PublishField, If' as IfStmt'}
+use Rattle.sot_tree.specs.declared.tree.Stmt.{Repeat', Row_of-Stmt, end_of-Stmt, more_of-Stmt}
 use Rattle.sot_tree.specs.declared.tree.Shape.{Shape}
 use Rattle.sot_tree.specs.declared.tree.Shape.TheVariants as shapes
 use Rattle.sot_tree.specs.declared.tree.Init.{Init}
@@ -16,7 +19,12 @@ use Rattle.sot_tree.specs.declared.tree.ModuleDecl.{ModuleDecl}
 use Rattle.sot_tree.specs.declared.tree.Decl.{Decl}
 use Rattle.sot_tree.specs.declared.tree.Decl.TheVariants as decls
 use Rattle.sot_tree.specs.declared.tree.Program.{Program as CodeProgram}
-use Rattle.sot_tree.specs.Trees.{Tree, Trees, number, truth, named, binary, rest, negated, denied, called, rescaled, chosen, no_tree, one_more, Statement, Block, assigned, published, branched, repeated, no_statement, statement, Form, one, fields, Start, one_value, values, Topic, Next, Local, Plant, Node, Area, Module, Declaration, a_topic, a_plant, a_node, a_module, Program}
+use Rattle.sot_tree.specs.Trees.{Tree, Trees, number, truth, named, binary, rest, negated, denied}
+use Rattle.sot_tree.specs.Trees.{called, rescaled, chosen, no_tree, one_more, Statement, Block}
+use Rattle.sot_tree.specs.Trees.{assigned, published, branched, repeated, no_statement, statement}
+use Rattle.sot_tree.specs.Trees.{Form, one, fields, Start, one_value, values, Topic, Next, Local}
+use Rattle.sot_tree.specs.Trees.{Plant, Node, Area, Module, Declaration, a_topic, a_plant, a_node}
+use Rattle.sot_tree.specs.Trees.{a_module, Program}
 
 abbrev mutual
   pub tree_view : Expr → Tree
@@ -40,8 +48,10 @@ abbrev mutual
   pub statement_view : Stmt → Statement
   statement_view (Assign target value) = assigned target (tree_view value)
   statement_view (Publish topic value) = published topic None (tree_view value)
-  statement_view (PublishField place value) = published place.first (Some place.field) (tree_view value)
-  statement_view (IfStmt' p cond m yes_ n no_ at) = branched (tree_view cond) (row_view yes_) (row_view no_) at
+  statement_view (PublishField place value) =
+      published place.first (Some place.field) (tree_view value)
+  statement_view (IfStmt' p cond m yes_ n no_ at) =
+      branched (tree_view cond) (row_view yes_) (row_view no_) at
   statement_view (Repeat' times m body at) = repeated times (row_view body) at
 
   pub row_view : {m : _} → Row_of-Stmt m → Block
@@ -65,7 +75,13 @@ init_view (inits.One c) = one_value c
 init_view (inits.Fields items at) = values items.items at
 
 abbrev pub topic_view : TopicDecl → Topic
-topic_view t = record { outside = t.outside; name = t.name; shape = shape_view t.shape; init = init_view t.init }
+topic_view t =
+    record {
+      outside = t.outside;
+      name = t.name;
+      shape = shape_view t.shape;
+      init = init_view t.init;
+    }
 
 abbrev pub next_view : NextDecl → Next
 next_view n = record { name = n.name; value = tree_view n.value }

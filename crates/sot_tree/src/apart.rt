@@ -4,8 +4,9 @@ ghost use Rattle.std.specs.Prelude.{◌≡◌, IfOk};
 use std::alloc::{AllocError, Global};
 use std::marker::Model;
 
-/// What lies in memory of its own, as a node among declarations or the literal behind a `%`. Each declaration, statement and
-/// expression has room for the largest of its forms, and most are of smaller ones.
+/// What lies in memory of its own, as a node among declarations or the literal behind a `%`. Each
+/// declaration, statement and expression has room for the largest of its forms, and most are of
+/// smaller ones.
 #[derive(Drop)]
 pub struct Apart<T: Drop> {
     content: Box<T>,

@@ -12,8 +12,8 @@ pub(crate) enum Letters {
     Many(Box<Row<64>>),
 }
 
-// Most names are short. What a copy puts into memory byte by byte must all be there before it is read again in one piece, so
-// few bytes are put together without one.
+// Most names are short. What a copy puts into memory byte by byte must all be there before it is
+// read again in one piece, so few bytes are put together without one.
 #[inline(always)]
 fn few(bytes: &[u8]) -> Row<14>
     requires { length bytes.now ≤ 14 }

@@ -1,4 +1,5 @@
-//! A program as it is written: names, operators, and the trees of declarations, statements and expressions.
+//! A program as it is written: names, operators, and the trees of declarations, statements and
+//! expressions.
 #![tactic(auto)]
 
 mod apart;

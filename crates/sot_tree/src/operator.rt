@@ -17,7 +17,8 @@ pub enum Op {
     Or,
 }
 
-/// A named function. `Min` and `Max` take two parts, `Abs` one, and `Clamp` a number, its low end and its high end.
+/// A named function. `Min` and `Max` take two parts, `Abs` one, and `Clamp` a number, its low end
+/// and its high end.
 #[derive(Clone, Copy, Debug, PartialEq, Eq)]
 pub enum Func {
     Min,

@@ -12,14 +12,16 @@ pub struct Ident {
     pub at: Span,
 }
 
-/// A field of a topic, or a state variable of a plant, as in `limits.high`: two names with a point between them.
+/// A field of a topic, or a state variable of a plant, as in `limits.high`: two names with a point
+/// between them.
 #[derive(Drop)]
 pub struct Member {
     pub first: Ident,
     pub field: Ident,
 }
 
-/// A literal: its digits without the point, with its sign, and the count of its decimals. `at` is its first token.
+/// A literal: its digits without the point, with its sign, and the count of its decimals. `at` is
+/// its first token.
 #[derive(Clone, Copy, Debug, PartialEq, Eq)]
 pub struct Lit {
     pub mantissa: i64,
@@ -175,8 +177,9 @@ pub struct Choice {
     pub no: Expr,
 }
 
-/// An expression. `at` is the token that names its operator, its function or its `if`. Each expression has room for the
-/// largest of its forms, so what takes more than a name lies in memory of its own.
+/// An expression. `at` is the token that names its operator, its function or its `if`. Each
+/// expression has room for the largest of its forms, so what takes more than a name lies in memory
+/// of its own.
 #[cycle(expression)]
 #[derive(Drop)]
 pub enum Expr {
@@ -222,7 +225,8 @@ pub enum Expr {
     },
 }
 
-/// The condition and the blocks of an `if`, which lie in memory together. An `else` that is left out is an empty block.
+/// The condition and the blocks of an `if`, which lie in memory together. An `else` that is left
+/// out is an empty block.
 #[cycle(statement)]
 #[derive(Drop)]
 pub struct Branch {

@@ -31,7 +31,8 @@ module _ (p : Tables) (j : ℕ) (cert : Cert) where
     ),
   )
 
-  pub passes_certified : IsTyped p → ((n : ℕ) (node : NodeInfo) → At p.nodes n node → j < node.period) → ((m : ℕ) (a : ModuleInfo) → At p.modules m a → j < a.period) → (verdict p j cert).Passes → IsWellCertified p j cert
+  pub passes_certified : IsTyped p → ((n : ℕ) (node : NodeInfo) → At p.nodes n node → j < node.period)
+      → ((m : ℕ) (a : ModuleInfo) → At p.modules m a → j < a.period) → (verdict p j cert).Passes → IsWellCertified p j cert
   passes_certified typed nodes modules v = record {
     node_jitter = nodes;
     module_jitter = modules;

@@ -9,13 +9,15 @@ use Rattle.sot_tube.specs.Composition.{IsComposed, IsComposedByScalars}
 use Rattle.sot_lists.proofs.Places.{at_below}
 
 -- a scalar that a node writes has a topic, which the node writes
-pub writes_its_topic : (p : Tables) → IsTyped p → (n : ℕ) (node : NodeInfo) (k : ℕ) → At p.nodes n node → Has node.writes.items k → (t : ℕ) × IsOfTopic p k t × WritesTopic p node t
+pub writes_its_topic : (p : Tables) → IsTyped p → (n : ℕ) (node : NodeInfo) (k : ℕ) → At p.nodes n node → Has node.writes.items k
+    → (t : ℕ) × IsOfTopic p k t × WritesTopic p node t
 writes_its_topic p typed n node k at has =
     let info = at_below p.scalars k (typed.inside n node k at has) in
     (info.0.topic, (info.0, info.1, refl), (k, has, (info.0, info.1, refl)))
 
 -- a node that writes a topic writes each scalar of it
-pub writes_all : (p : Tables) → IsTyped p → (n : ℕ) (node : NodeInfo) (t k : ℕ) → At p.nodes n node → WritesTopic p node t → IsOfTopic p k t → Has node.writes.items k
+pub writes_all : (p : Tables) → IsTyped p → (n : ℕ) (node : NodeInfo) (t k : ℕ) → At p.nodes n node → WritesTopic p node t → IsOfTopic p k t
+    → Has node.writes.items k
 writes_all p typed n node t k at writes of = typed.whole_writes n node writes.0 k writes.2.0 of.0 at writes.1 writes.2.1 of.1 (writes.2.2 ∙ sym of.2)
 
 pub composed_by_scalars : (p : Tables) → IsTyped p → IsComposed p → IsComposedByScalars p

@@ -61,8 +61,11 @@ narrow_map f g [] h = tt
 narrow_map f g (x ∷ xs) h = (h x (0, refl), narrow_map f g xs (λ y has. h y (suc has.0, has.1)))
 
 module _ (p : Tables) (typed : IsTyped p) (one : NoSharedPlant p) where
-  reading_narrow : (m : ℕ) (a : ModuleInfo) (plant : PlantInfo) (sc : NodeInfo) (hulls : List (List Side)) (cell : List Side) (s : List ℤ) → At p.modules m a → At p.plants a.plant plant → At p.nodes a.sc sc → AllHulls p hulls → IsWithin cell s → Covers a.safe.boxes cell → AreNarrower (reading_intervals p sc (slice_set hulls a.plant cell)) (reading_intervals p sc hulls)
-  reading_narrow m a plant sc hulls cell s at_m at_p at_s are w covers = narrow_map (interval_at p (slice_set hulls a.plant cell)) (interval_at p hulls) sc.reads.items each
+  reading_narrow : (m : ℕ) (a : ModuleInfo) (plant : PlantInfo) (sc : NodeInfo) (hulls : List (List Side)) (cell : List Side) (s : List ℤ) → At p.modules m a
+      → At p.plants a.plant plant → At p.nodes a.sc sc → AllHulls p hulls → IsWithin cell s → Covers a.safe.boxes cell
+      → AreNarrower (reading_intervals p sc (slice_set hulls a.plant cell)) (reading_intervals p sc hulls)
+  reading_narrow m a plant sc hulls cell s at_m at_p at_s are w covers =
+      narrow_map (interval_at p (slice_set hulls a.plant cell)) (interval_at p hulls) sc.reads.items each
     where
       lt : a.plant < length hulls
       lt = omega (arith, slice_get_within p.plants a.plant plant at_p, are.0)
@@ -70,7 +73,8 @@ module _ (p : Tables) (typed : IsTyped p) (one : NoSharedPlant p) where
       own : AreNarrower cell (slice_index_or hulls a.plant [])
       own =
           let e : safe_of p.modules a.plant ≡ a.safe.boxes = safe_of_is p.modules m a at_m (λ i b at_b same. one i m b a at_b at_m same) in
-          covered_narrow a.safe.boxes cell (slice_index_or hulls a.plant []) s w covers (subst (λ q. IsHull q (slice_index_or hulls a.plant [])) e (are.1 a.plant plant at_p))
+          covered_narrow a.safe.boxes cell (slice_index_or hulls a.plant []) s w covers
+          (subst (λ q. IsHull q (slice_index_or hulls a.plant [])) e (are.1 a.plant plant at_p))
 
       boxes : (k v : ℕ) → Has sc.reads.items (State k v) → AreNarrower (slice_index_or (slice_set hulls a.plant cell) k []) (slice_index_or hulls k [])
       boxes k v has =
@@ -79,17 +83,22 @@ module _ (p : Tables) (typed : IsTyped p) (one : NoSharedPlant p) where
           (subst (λ q. AreNarrower q (slice_index_or hulls a.plant [])) (sym (get_or-set_same hulls a.plant cell [] lt)) own))
           (λ (ne : k ≡ a.plant → ⊥). let other = typed.reads_are a.sc sc k v at_s has in
           let hull = are.1 k other.0 other.1 in
-          subst (λ q. AreNarrower q (slice_index_or hulls k [])) (sym (get_or-set_other hulls a.plant k cell [] ne)) (narrow_self (slice_index_or hulls k []) hull.has_point.0 (hull.holds hull.has_point.0 hull.has_point.1)))
+          subst (λ q. AreNarrower q (slice_index_or hulls k [])) (sym (get_or-set_other hulls a.plant k cell [] ne))
+          (narrow_self (slice_index_or hulls k []) hull.has_point.0 (hull.holds hull.has_point.0 hull.has_point.1)))
           (cases_eq k a.plant)
 
       each : (x : Slot) → Has sc.reads.items x → IsNarrower (interval_at p (slice_set hulls a.plant cell) x) (interval_at p hulls x)
       each (Scalar k) has = narrow_read (scalar_ranges p) (scalar_ranges p) k (narrow_self (scalar_ranges p) (map (λ i. i.init) p.scalars) typed.inits)
       each (State k v) has = narrow_read (slice_index_or (slice_set hulls a.plant cell) k []) (slice_index_or hulls k []) v (boxes k v has)
 
-  pub cell_never_traps : (m : ℕ) (a : ModuleInfo) (plant : PlantInfo) (sc : NodeInfo) (acts : List Act) (hulls : List (List Side)) (cell : List Side) (s : List ℤ) (o : OrMayTrap Intervals) → At p.modules m a → At p.plants a.plant plant → At p.nodes a.sc sc → IsTrapFree p sc acts → AllHulls p hulls → IsWithin cell s → Covers a.safe.boxes cell → IsNodeExecution p sc acts (slice_set hulls a.plant cell) o → (f : Intervals) × (o ≡ Ok f)
+  pub cell_never_traps : (m : ℕ) (a : ModuleInfo) (plant : PlantInfo) (sc : NodeInfo) (acts : List Act) (hulls : List (List Side)) (cell : List Side)
+      (s : List ℤ) (o : OrMayTrap Intervals) → At p.modules m a → At p.plants a.plant plant → At p.nodes a.sc sc → IsTrapFree p sc acts → AllHulls p hulls
+      → IsWithin cell s → Covers a.safe.boxes cell → IsNodeExecution p sc acts (slice_set hulls a.plant cell) o → (f : Intervals) × (o ≡ Ok f)
   cell_never_traps m a plant sc acts hulls cell s o at_m at_p at_s free are w covers runs =
       let same = all_hulls_same p free.0 hulls free.1 are in
       let wide = subst (λ q. IsNodeExecution p sc acts q (Ok free.2.0)) same free.2.1 in
-      let n = execution_narrow acts (local_ranges sc) (write_ranges p sc) (reading_intervals p sc (slice_set hulls a.plant cell)) (local_ranges sc) (reading_intervals p sc hulls) (local_ranges sc) free.2.0 o
-      (reading_narrow m a plant sc hulls cell s at_m at_p at_s are w covers) (narrow_self (local_ranges sc) (map (λ l. l.init) sc.locals.items) (typed.local_inits a.sc sc at_s)) wide runs in
+      let n = execution_narrow acts (local_ranges sc) (write_ranges p sc) (reading_intervals p sc (slice_set hulls a.plant cell)) (local_ranges sc)
+      (reading_intervals p sc hulls) (local_ranges sc) free.2.0 o
+      (reading_narrow m a plant sc hulls cell s at_m at_p at_s are w covers)
+      (narrow_self (local_ranges sc) (map (λ l. l.init) sc.locals.items) (typed.local_inits a.sc sc at_s)) wide runs in
       (n.0, n.1)

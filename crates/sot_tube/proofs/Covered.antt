@@ -38,7 +38,8 @@ within_wider (r ∷ rs) (q ∷ qs) (x ∷ xs) same lie w =
       within_wider rs qs xs (omega (arith, same)) (λ k below. lie (suc k) (omega (arith, below))) w.2,
     )
 
-stays_covers : (plant : PlantInfo) (held seen : List Side) (region : List (List Side)) (b : List Side) (k : ℕ) → StaysInside plant held seen region b k → Covers region b
+stays_covers : (plant : PlantInfo) (held seen : List Side) (region : List (List Side)) (b : List Side) (k : ℕ) → StaysInside plant held seen region b k
+    → Covers region b
 stays_covers plant held seen region b zero h = h
 stays_covers plant held seen region b (suc k) h = h.0
 
@@ -46,7 +47,8 @@ stays_covers plant held seen region b (suc k) h = h.0
 pub record ShownSoFar (p : Tables) (k : ℕ) (region : BoxList) (first held seen : List Side) (ticks : ℕ) (area : List Side) (n : ℕ) : Type 0 where
   pub step : MayTickBox p k area held seen
   pub width : length area ≡ region.width
-  pub stays : (info : PlantInfo) → At p.plants k info → StaysInside info held seen region.boxes area (ticks - n) → StaysInside info held seen region.boxes first ticks
+  pub stays : (info : PlantInfo) → At p.plants k info → StaysInside info held seen region.boxes area (ticks - n)
+      → StaysInside info held seen region.boxes first ticks
 
 module _ (p : Tables) (k : ℕ) (region : BoxList) (first held seen : List Side) (ticks : ℕ) where
   pub shown_start : MayTickBox p k first held seen → length first ≡ region.width → ShownSoFar p k region first held seen ticks first 0
@@ -57,15 +59,20 @@ module _ (p : Tables) (k : ℕ) (region : BoxList) (first held seen : List Side)
   }
 
   pub shown_next : (area next : List Side) (n : ℕ) → ShownSoFar p k region first held seen ticks area n → MeetsTableRules p → n < ticks
-      → (Covers region.boxes next → Covers region.boxes area) → IsBoxAfterTick p k area held seen (Ok next) → ShownSoFar p k region first held seen ticks next (suc n)
+      → (Covers region.boxes next → Covers region.boxes area) → IsBoxAfterTick p k area held seen (Ok next)
+      → ShownSoFar p k region first held seen ticks next (suc n)
   shown_next area next n sofar rules lt covers steps =
-      let long : length next ≡ length sofar.step.plant.states.items = terms_long sofar.step.plant.next.items _ next (steps sofar.step.plant sofar.step.is) ∙ (rules.plants k sofar.step.plant sofar.step.is).one_next in
+      let long : length next ≡ length sofar.step.plant.states.items = terms_long sofar.step.plant.next.items _ next (steps sofar.step.plant sofar.step.is)
+      ∙ (rules.plants k sofar.step.plant sofar.step.is).one_next in
       record {
         step = record { plant = sofar.step.plant; is = sofar.step.is; states = long; inputs = sofar.step.inputs; seen_are = sofar.step.seen_are };
         width = long ∙ sym sofar.step.states ∙ sofar.width;
         stays = λ info at s. sofar.stays info at
-            (one_left (StaysInside info held seen region.boxes area) ticks n lt (covers (stays_covers info held seen region.boxes next (ticks - suc n) s), (next, steps info at, s)));
+            (one_left (StaysInside info held seen region.boxes area) ticks n lt
+            (covers (stays_covers info held seen region.boxes next (ticks - suc n) s), (next, steps info at, s)));
       }
 
-  pub shown : (area : List Side) → ShownSoFar p k region first held seen ticks area ticks → Covers region.boxes area → (info : PlantInfo) → At p.plants k info → StaysInside info held seen region.boxes first ticks
-  shown area sofar covers info at = sofar.stays info at (let e : 0 ≡ ticks - ticks = omega arith in subst (StaysInside info held seen region.boxes area) e covers)
+  pub shown : (area : List Side) → ShownSoFar p k region first held seen ticks area ticks → Covers region.boxes area → (info : PlantInfo) → At p.plants k info
+      → StaysInside info held seen region.boxes first ticks
+  shown area sofar covers info at =
+      sofar.stays info at (let e : 0 ≡ ticks - ticks = omega arith in subst (StaysInside info held seen region.boxes area) e covers)

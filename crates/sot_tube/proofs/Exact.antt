@@ -29,7 +29,8 @@ for_each_exact {A} xs check each = record {
       (each h'.0 h'.1).unique r r' (subst (λ x. (check h'.0 x).Refuses r) entry moved) h'.3);
 }
 
-pub of_the_exact : {A : Type 0} (Is : A → Type 0) (check : A → Check) → ((x y : A) → Is x → Is y → x ≡ y) → ((x : A) → IsExact (check x)) → IsExact (of_the Is check)
+pub of_the_exact : {A : Type 0} (Is : A → Type 0) (check : A → Check) → ((x y : A) → Is x → Is y → x ≡ y) → ((x : A) → IsExact (check x))
+    → IsExact (of_the Is check)
 of_the_exact {A} Is check one each = record {
   exclusive = λ r h passes. (each h.0).exclusive r h.2 (passes h.0 h.1);
   unique = λ r r' h h'. (each h'.0).unique r r' (subst (λ x. (check x).Refuses r) (one h.0 h'.0 h.1 h'.1) h.2) h'.2;

@@ -30,11 +30,13 @@ narrow_plant [] k h = omega arith
 narrow_plant (plant ∷ ps) zero h = h 0 plant refl
 narrow_plant (plant ∷ ps) (suc k) h = narrow_plant ps k (λ i x at. h (suc i) x at)
 
-few_seen : (ps : List PlantInfo) (ks : List ℕ) → ((i : ℕ) (plant : PlantInfo) → At ps i plant → length plant.states.items ≤ 4) → seen_width ps ks ≤ 4 * length ks
+few_seen : (ps : List PlantInfo) (ks : List ℕ) → ((i : ℕ) (plant : PlantInfo) → At ps i plant → length plant.states.items ≤ 4)
+    → seen_width ps ks ≤ 4 * length ks
 few_seen ps [] h = omega arith
 few_seen ps (k ∷ ks) h = let a = narrow_plant ps k h in let b = few_seen ps ks h in omega (arith, a, b)
 
-some_safe : (ms : List ModuleInfo) (k i : ℕ) (a : ModuleInfo) → At ms i a → a.plant ≡ k → ((j : ℕ) (b : ModuleInfo) → At ms j b → b.safe.boxes ≢ []) → safe_of ms k ≢ []
+some_safe : (ms : List ModuleInfo) (k i : ℕ) (a : ModuleInfo) → At ms i a → a.plant ≡ k → ((j : ℕ) (b : ModuleInfo) → At ms j b → b.safe.boxes ≢ [])
+    → safe_of ms k ≢ []
 some_safe [] k i a at e h none = none-some a at
 some_safe (m ∷ ms) k zero a at e h none =
     let here : m.plant ≡ k = ap (λ x. x.plant) (same_Some m a at) ∙ e in
@@ -52,13 +54,15 @@ nothing_seen plant empty is told =
     nil_from_length plant.sees.items (sym plant.sees.ok.0 ∙ none)
 
 -- the tube's answer, from that of the walk with the hulls in between
-answer : (p : Tables) (plant : PlantInfo) (commands seen : List Side) (region : List (List Side)) (box : List Side) (k : ℕ) (r : Result (Unit {0}) Leave) → AreSeenHulls p.modules plant.sees.items seen
+answer : (p : Tables) (plant : PlantInfo) (commands seen : List Side) (region : List (List Side)) (box : List Side) (k : ℕ) (r : Result (Unit {0}) Leave)
+    → AreSeenHulls p.modules plant.sees.items seen
     → MatchResult r (λ _. StaysInside plant commands seen region box k) (λ l. Leaves plant commands seen region box 0 k l)
     → MatchResult r (λ _. TubeInside p plant commands region box k) (λ l. TubeLeaves p plant commands region box k l)
 answer p plant commands seen region box k (Ok u) h w = record { hulls = h.0; are = h.1; stays = subst (λ q. StaysInside plant commands q region box k) h.2 w }
 answer p plant commands seen region box k (Err l) h w = record { hulls = h.0; are = h.1; leaves = subst (λ q. Leaves plant commands q region box 0 k l) h.2 w }
 
-module _ (p : Tables) (rules' : MeetsTableRules p) (m : ℕ) (box : List Side) (may : MayFollow p m box) (info : ModuleInfo) (info_is : info ≡ get_or p.modules m info) where
+module _ (p : Tables) (rules' : MeetsTableRules p) (m : ℕ) (box : List Side) (may : MayFollow p m box) (info : ModuleInfo)
+    (info_is : info ≡ get_or p.modules m info) where
   pub info_at : At p.modules m info
   info_at = at_read p.modules m info may.exists' info_is
 
@@ -88,7 +92,8 @@ module _ (p : Tables) (rules' : MeetsTableRules p) (m : ℕ) (box : List Side) (
         let named = rules'.typed.named k other.0 other.1 in
         some_safe p.modules k named.0 named.1 named.2 named.3 may.boxes
 
-    pub may_tick : (commands seen : List Side) → AreCommands p m commands → length seen ≡ seen_width p.plants plant.sees.items → MayTickBox p info.plant box commands seen
+    pub may_tick : (commands seen : List Side) → AreCommands p m commands → length seen ≡ seen_width p.plants plant.sees.items
+        → MayTickBox p info.plant box commands seen
     may_tick commands seen are width = record {
       plant = plant;
       is = plant_at plant plant_is;
@@ -98,7 +103,8 @@ module _ (p : Tables) (rules' : MeetsTableRules p) (m : ℕ) (box : List Side) (
     }
 
     pub answers : (commands seen : List Side) (k : ℕ) (r : Result (Unit {0}) Leave) → AreSeenHulls p.modules plant.sees.items seen
-        → ((i : PlantInfo) → At p.plants info.plant i → MatchResult r (λ _. StaysInside i commands seen info.safe.boxes box k) (λ l. Leaves i commands seen info.safe.boxes box 0 k l))
+        → ((i : PlantInfo) → At p.plants info.plant i → MatchResult r (λ _. StaysInside i commands seen info.safe.boxes box k)
+        (λ l. Leaves i commands seen info.safe.boxes box 0 k l))
         → AnswersTube p m commands box k r
     answers commands seen k r hulls walked a i at_a at_i =
         let same : info ≡ a = at_same p.modules m info a info_at at_a in
@@ -114,7 +120,8 @@ module _ (p : Tables) (rules' : MeetsTableRules p) (m : ℕ) (box : List Side) (
 
     module _ (types : List Side) (types_are : types ≡ input_ranges p plant) where
       pub are_commands : AreCommands p m types
-      are_commands a i at_a at_i = ap length types_are ∙ length-map plant.inputs.items (range_of p.scalars) ∙ ap (λ x. length x.inputs.items) (one_plant a i at_a at_i)
+      are_commands a i at_a at_i =
+          ap length types_are ∙ length-map plant.inputs.items (range_of p.scalars) ∙ ap (λ x. length x.inputs.items) (one_plant a i at_a at_i)
 
       pub any_answers : (k : ℕ) (r : Result (Unit {0}) Leave) → AnswersTube p m types box k r → AnswersAnyTube p m box k r
       any_answers k r told a i at_a at_i =

@@ -14,7 +14,8 @@ use Rattle.sot_tube.specs.Leaves.{Leave}
 use Rattle.sot_tube.specs.Calls.{AnswersAnyTube}
 use Rattle.sot_tube.proofs.Leaving.{tube_leaves_not}
 
-pub keeps_exactly : (p : Tables) (jitter m : ℕ) (s : List ℤ) (k : ℕ) (a : ModuleInfo) (r : Result (Unit {0}) Leave) → IsTyped p → At p.modules m a → k ≡ 2 * (a.period + jitter)
+pub keeps_exactly : (p : Tables) (jitter m : ℕ) (s : List ℤ) (k : ℕ) (a : ModuleInfo) (r : Result (Unit {0}) Leave) → IsTyped p → At p.modules m a
+    → k ≡ 2 * (a.period + jitter)
     → AnswersAnyTube p m (point_box s) k r → IsTrue (is_ok r) ↔ Keeps p jitter a s
 keeps_exactly p jitter m s k a (Ok u) typed at long told = (
   (λ t. let there = typed.plant_is m a at in record {
@@ -24,5 +25,8 @@ keeps_exactly p jitter m s k a (Ok u) typed at long told = (
   }),
   (λ h. refl),
 )
-keeps_exactly p jitter m s k a (Err l) typed at long told =
-    ((λ f. absurd (false≢true f)), (λ h. absurd (tube_leaves_not p h.plant (input_ranges p h.plant) a.safe.boxes (point_box s) k l (told a h.plant at h.is) (subst (AnyTubeInside p h.plant a.safe.boxes (point_box s)) (sym long) h.inside))))
+keeps_exactly p jitter m s k a (Err l) typed at long told = (
+  (λ f. absurd (false≢true f)),
+  (λ h. absurd (tube_leaves_not p h.plant (input_ranges p h.plant) a.safe.boxes (point_box s) k l (told a h.plant at h.is)
+      (subst (AnyTubeInside p h.plant a.safe.boxes (point_box s)) (sym long) h.inside))),
+)

@@ -15,7 +15,8 @@ use Rattle.sot_lists.proofs.Places.{at_below, same_list}
 use Rattle.std.proofs.lemmas.Option.{slice_get_within, get_or_from_slice_get}
 use Rattle.sot_iv.proofs.Plants.{plant_same}
 
-pub leaves_not : (plant : PlantInfo) (cs hs : List Side) (region : List (List Side)) (b : List Side) (n k : ℕ) (leave : Leave) → Leaves plant cs hs region b n k leave → StaysInside plant cs hs region b k → ⊥
+pub leaves_not : (plant : PlantInfo) (cs hs : List Side) (region : List (List Side)) (b : List Side) (n k : ℕ) (leave : Leave)
+    → Leaves plant cs hs region b n k leave → StaysInside plant cs hs region b k → ⊥
 leaves_not plant cs hs region b n zero leave l s = l.1.outside (s l.0 l.1.inside)
 leaves_not plant cs hs region b n (suc k) leave l s =
     ⊎_elim
@@ -49,7 +50,8 @@ out_same : (region : List (List Side)) (box : List Side) (n : ℕ) (l l' : Leave
 out_same region box n l l' h h' = let e = gap_unique region box h.0 h'.0 h.1 h'.1 in cc
 
 -- a tube leaves in one way
-pub leaves_same : (plant : PlantInfo) (cs hs : List Side) (region : List (List Side)) (b : List Side) (n k : ℕ) (l l' : Leave) → Leaves plant cs hs region b n k l → Leaves plant cs hs region b n k l' → l ≡ l'
+pub leaves_same : (plant : PlantInfo) (cs hs : List Side) (region : List (List Side)) (b : List Side) (n k : ℕ) (l l' : Leave)
+    → Leaves plant cs hs region b n k l → Leaves plant cs hs region b n k l' → l ≡ l'
 leaves_same plant cs hs region b n zero l l' h h' = out_same region b n l l' h h'
 leaves_same plant cs hs region b n (suc k) l l' h h' =
     ⊎_elim
@@ -62,7 +64,9 @@ leaves_same plant cs hs region b n (suc k) l l' h h' =
     h
   where
     Goes : Leave → Type 0
-    Goes m = (Covers region b × (t : MayTrap) × IsNextBox plant b cs hs (Err t) × (m ≡ Trap n t.at)) ⊎ (Covers region b × (c : List Side) × IsNextBox plant b cs hs (Ok c) × Leaves plant cs hs region c (suc n) k m)
+    Goes m =
+        (Covers region b × (t : MayTrap) × IsNextBox plant b cs hs (Err t) × (m ≡ Trap n t.at))
+        ⊎ (Covers region b × (c : List Side) × IsNextBox plant b cs hs (Ok c) × Leaves plant cs hs region c (suc n) k m)
 
     goes_on : ((c : List Side) → Leaves plant cs hs region c (suc n) k l → Leaves plant cs hs region c (suc n) k l' → l ≡ l') → Goes l → Goes l' → l ≡ l'
     goes_on rest more more' =

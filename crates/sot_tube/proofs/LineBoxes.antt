@@ -27,7 +27,8 @@ add_least x y p q = record {
   high = record { a = x.hi; b = y.hi; a_in = (p, omega (arith, ints)); b_in = (q, omega (arith, ints)); is = refl };
 }
 
-pub add_box : (x y : Side) → x.lo ≤ℤ x.hi → y.lo ≤ℤ y.hi → IsWordRange (side (x.lo +ℤ y.lo) (x.hi +ℤ y.hi)) → IsLeastResult Add somewhere x y (Ok (side (x.lo +ℤ y.lo) (x.hi +ℤ y.hi)))
+pub add_box : (x y : Side) → x.lo ≤ℤ x.hi → y.lo ≤ℤ y.hi → IsWordRange (side (x.lo +ℤ y.lo) (x.hi +ℤ y.hi))
+    → IsLeastResult Add somewhere x y (Ok (side (x.lo +ℤ y.lo) (x.hi +ℤ y.hi)))
 add_box x y p q w = inr ((λ no'. no'), (side (x.lo +ℤ y.lo) (x.hi +ℤ y.hi), add_least x y p q, (refl, w)))
 
 -- comparisons that are decided
@@ -115,7 +116,8 @@ greater_open = inr (
     side (pos 0) (pos 1),
     record {
       holds = λ z s. rw s.is (truth_in (int_lt s.b s.a));
-      low = record { a = negsuc 39; b = pos 10; a_in = (omega (arith, ints), omega (arith, ints)); b_in = (omega (arith, ints), omega (arith, ints)); is = refl };
+      low =
+          record { a = negsuc 39; b = pos 10; a_in = (omega (arith, ints), omega (arith, ints)); b_in = (omega (arith, ints), omega (arith, ints)); is = refl };
       high = record { a = pos 40; b = pos 10; a_in = (omega (arith, ints), omega (arith, ints)); b_in = (omega (arith, ints), omega (arith, ints)); is = refl };
     },
     (refl, (refl, refl)),
@@ -129,8 +131,16 @@ less_open = inr (
     side (pos 0) (pos 1),
     record {
       holds = λ z s. rw s.is (truth_in (int_lt s.a s.b));
-      low = record { a = pos 40; b = negsuc 9; a_in = (omega (arith, ints), omega (arith, ints)); b_in = (omega (arith, ints), omega (arith, ints)); is = refl };
-      high = record { a = negsuc 39; b = negsuc 9; a_in = (omega (arith, ints), omega (arith, ints)); b_in = (omega (arith, ints), omega (arith, ints)); is = refl };
+      low =
+          record { a = pos 40; b = negsuc 9; a_in = (omega (arith, ints), omega (arith, ints)); b_in = (omega (arith, ints), omega (arith, ints)); is = refl };
+      high =
+          record {
+            a = negsuc 39;
+            b = negsuc 9;
+            a_in = (omega (arith, ints), omega (arith, ints));
+            b_in = (omega (arith, ints), omega (arith, ints));
+            is = refl;
+          };
     },
     (refl, (refl, refl)),
   ),
@@ -205,7 +215,8 @@ module _ (g : Global) where
         high = inl (omega (arith, ints), omega (arith, ints));
       }
 
-      inner : IsTermInterval (If' (boxed g) (Binary' Less (boxed g) (Place 0) (boxed g) (Number (negsuc 9)) somewhere) (boxed g) (Number (pos 2)) (boxed g) (Number (pos 0)) somewhere) (side (negsuc 39) (pos 40) ∷ []) (Ok (side (pos 0) (pos 2)))
+      inner : IsTermInterval (If' (boxed g) (Binary' Less (boxed g) (Place 0) (boxed g) (Number (negsuc 9)) somewhere) (boxed g) (Number (pos 2)) (boxed g)
+          (Number (pos 0)) somewhere) (side (negsuc 39) (pos 40) ∷ []) (Ok (side (pos 0) (pos 2)))
       inner = (
         Ok (side (pos 0) (pos 1)),
         (Ok (side (negsuc 39) (pos 40)), refl, (Ok (side (negsuc 9) (negsuc 9)), refl, less_open)),
@@ -213,7 +224,8 @@ module _ (g : Global) where
       )
 
   -- one tick, with commands in an interval
-  pub next_box : (b c : Side) → b.lo ≤ℤ b.hi → c.lo ≤ℤ c.hi → IsWordRange (side (b.lo +ℤ c.lo) (b.hi +ℤ c.hi)) → IsWordRange (side (b.lo +ℤ c.lo +ℤ negsuc 0) (b.hi +ℤ c.hi +ℤ pos 1))
+  pub next_box : (b c : Side) → b.lo ≤ℤ b.hi → c.lo ≤ℤ c.hi → IsWordRange (side (b.lo +ℤ c.lo) (b.hi +ℤ c.hi))
+      → IsWordRange (side (b.lo +ℤ c.lo +ℤ negsuc 0) (b.hi +ℤ c.hi +ℤ pos 1))
       → IsNextBox (pos_plant g) (b ∷ []) (c ∷ []) [] (Ok (side (b.lo +ℤ c.lo +ℤ negsuc 0) (b.hi +ℤ c.hi +ℤ pos 1) ∷ []))
   next_box b c p q w v = (Ok (side (b.lo +ℤ c.lo +ℤ negsuc 0) (b.hi +ℤ c.hi +ℤ pos 1)), term, (Ok [], refl, refl))
     where
@@ -221,11 +233,17 @@ module _ (g : Global) where
       term = (
         Ok (side (b.lo +ℤ c.lo) (b.hi +ℤ c.hi)),
         (Ok b, refl, (Ok c, refl, add_box b c p q w)),
-        (Ok (side (negsuc 0) (pos 1)), refl, add_box (side (b.lo +ℤ c.lo) (b.hi +ℤ c.hi)) (side (negsuc 0) (pos 1)) (omega (arith, ints)) (omega (arith, ints)) v),
+        (
+          Ok (side (negsuc 0) (pos 1)),
+          refl,
+          add_box (side (b.lo +ℤ c.lo) (b.hi +ℤ c.hi)) (side (negsuc 0) (pos 1)) (omega (arith, ints)) (omega (arith, ints))
+              v,
+        ),
       )
 
   -- one tick, with any commands
-  pub any_box : (lo hi : ℤ) → lo ≤ℤ hi → negsuc 99 ≤ℤ lo → hi ≤ℤ pos 100 → IsNextBox (pos_plant g) (side lo hi ∷ []) (side (negsuc 1) (pos 2) ∷ []) [] (Ok (side (lo +ℤ negsuc 1 +ℤ negsuc 0) (hi +ℤ pos 2 +ℤ pos 1) ∷ []))
+  pub any_box : (lo hi : ℤ) → lo ≤ℤ hi → negsuc 99 ≤ℤ lo → hi ≤ℤ pos 100
+      → IsNextBox (pos_plant g) (side lo hi ∷ []) (side (negsuc 1) (pos 2) ∷ []) [] (Ok (side (lo +ℤ negsuc 1 +ℤ negsuc 0) (hi +ℤ pos 2 +ℤ pos 1) ∷ []))
   any_box lo hi le low high =
       next_box (side lo hi) (side (negsuc 1) (pos 2)) le (omega (arith, ints))
       (small_range (lo +ℤ negsuc 1) (hi +ℤ pos 2) (omega (arith, ints)) (omega (arith, ints)) (omega (arith, ints)))
@@ -237,7 +255,8 @@ module _ (g : Global) where
   covers lo hi p q (x ∷ y ∷ ys) w = absurd w.2
 
   -- with any commands a box grows by 3 a tick on either side
-  pub any_stays : (k : ℕ) (lo hi : ℤ) → lo ≤ℤ hi → (negsuc 39 +ℤ pos (3 * k)) ≤ℤ lo → (hi +ℤ pos (3 * k)) ≤ℤ pos 40 → StaysInside (pos_plant g) (side (negsuc 1) (pos 2) ∷ []) [] (nav g).safe.boxes (side lo hi ∷ []) k
+  pub any_stays : (k : ℕ) (lo hi : ℤ) → lo ≤ℤ hi → (negsuc 39 +ℤ pos (3 * k)) ≤ℤ lo → (hi +ℤ pos (3 * k)) ≤ℤ pos 40
+      → StaysInside (pos_plant g) (side (negsuc 1) (pos 2) ∷ []) [] (nav g).safe.boxes (side lo hi ∷ []) k
   any_stays zero lo hi le low high = covers lo hi (omega (arith, ints)) (omega (arith, ints))
   any_stays (suc k) lo hi le low high = (
     covers lo hi (omega (arith, ints)) (omega (arith, ints)),

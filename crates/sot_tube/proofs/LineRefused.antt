@@ -1,5 +1,6 @@
 -- Worked refusals, and what else the running example shows.
-use Rattle.std.proofs.Common.{suc, zero, ◌+◌, ◌-◌, Option, ◌≡◌, ◌≢◌, ℕ, ◌<◌, ◌≤◌, ℤ, pos, negsuc, ◌⊎◌, inl, inr, ⊎_elim, refl, sym, ap, ◌∙◌, Ok, Err, Some, None, List, [], ◌∷◌, arith, subst}
+use Rattle.std.proofs.Common.{suc, zero, ◌+◌, ◌-◌, Option, ◌≡◌, ◌≢◌, ℕ, ◌<◌, ◌≤◌, ℤ, pos, negsuc, ◌⊎◌, inl, inr, ⊎_elim, refl, sym, ap, ◌∙◌, Ok, Err, Some}
+use Rattle.std.proofs.Common.{None, List, [], ◌∷◌, arith, subst}
 use Rattle.std.specs.Prelude.{slice_get, slice_index_or}
 use Rattle.std.proofs.lemmas.Int.{ints}
 use Rattle.std.proofs.lemmas.Option.{same_Some, none-some}
@@ -26,11 +27,17 @@ use Rattle.sot_tube.specs.Composition.{UsesNode, ArePartners, NoSharedNode, NoSh
 use Rattle.sot_tube.specs.Verdict.{ShareNode, code, IsLonger, IsWrittenByOne, ShareOutput, IsForeignInput}
 use Rattle.sot_tube.specs.Tubes.{IsNextBox}
 use Rattle.sot_tube.specs.Refusals.{ClosedLeaves, ReachLeaves}
-use Rattle.sot_tube.specs.Examples.{segment, at_x, nav_with, line_body, line_nodes, cells_with, divider, with_unread, WholeCellLeaves, WideCellLeavesAtOnce, UnreadPlantsAreNoPremise}
-use Rattle.sot_tube.specs.RefusalExamples.{slow_5, fast_5, fast_alt, slow_alt, two_topics, third_writer, two_inputs, foreign, calc_acts, crossed, rivals, other_fast, other_slow, dividing, WideReachIsRefused, OneClosedCellIsRefused, GapsAreRefused, LongPeriodsAreRefused, OtherOutputsAreRefused, EmptyRegionsAreRefused, SharedNodesAreRefused, SharedOutputsAreRefused, ForeignInputsAreRefused, TrapsAreRefused, CrossedNodesAreRefused, RivalsAreRefusedInOrder, OtherTopicsAreNoInputs, VerdictsAreInOrder, TrapsOfCellsAreRefused, ShapeIsWellFormed}
+use Rattle.sot_tube.specs.Examples.{segment, at_x, nav_with, line_body, line_nodes, cells_with, divider, with_unread, WholeCellLeaves, WideCellLeavesAtOnce}
+use Rattle.sot_tube.specs.Examples.{UnreadPlantsAreNoPremise}
+use Rattle.sot_tube.specs.RefusalExamples.{slow_5, fast_5, fast_alt, slow_alt, two_topics, third_writer, two_inputs, foreign, calc_acts, crossed, rivals}
+use Rattle.sot_tube.specs.RefusalExamples.{other_fast, other_slow, dividing, WideReachIsRefused, OneClosedCellIsRefused, GapsAreRefused, LongPeriodsAreRefused}
+use Rattle.sot_tube.specs.RefusalExamples.{OtherOutputsAreRefused, EmptyRegionsAreRefused, SharedNodesAreRefused, SharedOutputsAreRefused}
+use Rattle.sot_tube.specs.RefusalExamples.{ForeignInputsAreRefused, TrapsAreRefused, CrossedNodesAreRefused, RivalsAreRefusedInOrder, OtherTopicsAreNoInputs}
+use Rattle.sot_tube.specs.RefusalExamples.{VerdictsAreInOrder, TrapsOfCellsAreRefused, ShapeIsWellFormed}
 use Rattle.sot_tube.proofs.LineBoxes.{covers, near, undecided}
 use Rattle.sot_tube.proofs.LineTubes.{gap_above, later, low_end, wide_leaves}
-use Rattle.sot_tube.proofs.LineCertified.{hulls, one_module, same_outputs, short, composition_passes, shape_passes, code_passes, closed_covers, closed_cells, cells_refused, drafts, safer_10, some_10}
+use Rattle.sot_tube.proofs.LineCertified.{hulls, one_module, same_outputs, short, composition_passes, shape_passes, code_passes, closed_covers, closed_cells}
+use Rattle.sot_tube.proofs.LineCertified.{cells_refused, drafts, safer_10, some_10}
 
 plant_no : Slot → ℕ
 plant_no (Scalar k) = k
@@ -42,11 +49,17 @@ module _ (g : Global) where
     covers g (negsuc 39) (pos 40) (omega (arith, ints)) (omega (arith, ints)),
     record { locals = []; draft = Sure (side (negsuc 1) (pos 2)) ∷ [] },
     drafts g (safer_10 g) (side (negsuc 39) (pos 40)) (side (negsuc 1) (pos 2)) (undecided g) refl refl,
-    record { hulls = []; are = tt; leaves = later g 1 0 (negsuc 39) (pos 40) (Out 1 (segment (negsuc 42) (pos 43)) (at_x (negsuc 42))) (omega (arith, ints)) (omega (arith, ints)) (omega (arith, ints)) (inl (low_end g 1 (negsuc 42) (pos 43) (omega (arith, ints)) (omega (arith, ints)))) },
+    record {
+      hulls = [];
+      are = tt;
+      leaves = later g 1 0 (negsuc 39) (pos 40) (Out 1 (segment (negsuc 42) (pos 43)) (at_x (negsuc 42))) (omega (arith, ints))
+          (omega (arith, ints)) (omega (arith, ints)) (inl (low_end g 1 (negsuc 42) (pos 43) (omega (arith, ints)) (omega (arith, ints))));
+    },
   )
 
   pub wide_cell_leaves : WideCellLeavesAtOnce g
-  wide_cell_leaves = inl (at_x (pos 41), gap_above (negsuc 39) (pos 40) (negsuc 9) (pos 41) (omega (arith, ints)) (omega (arith, ints)) (omega (arith, ints)), refl)
+  wide_cell_leaves =
+      inl (at_x (pos 41), gap_above (negsuc 39) (pos 40) (negsuc 9) (pos 41) (omega (arith, ints)) (omega (arith, ints)) (omega (arith, ints)), refl)
 
   pub unread_plants : UnreadPlantsAreNoPremise g
   unfolding plant_no
@@ -54,7 +67,9 @@ module _ (g : Global) where
     (λ points safe. safe 1 (pos_plant g) refl),
     record {
       scalars_in = (omega (arith, ints), omega (arith, ints), tt);
-      plants_in = λ k v has. at_one (λ i x. IsInRegion (safe_of (with_unread g).modules (plant_no x)) (slice_index_or (at_x (pos 0) ∷ []) (plant_no x) [])) (State 0 0) (inl (omega (arith, ints), omega (arith, ints), tt)) has.0 (State k v) has.1;
+      plants_in =
+          λ k v has. at_one (λ i x. IsInRegion (safe_of (with_unread g).modules (plant_no x)) (slice_index_or (at_x (pos 0) ∷ []) (plant_no x) [])) (State 0 0)
+          (inl (omega (arith, ints), omega (arith, ints), tt)) has.0 (State k v) has.1;
       locals_in = tt;
     },
   )
@@ -73,7 +88,17 @@ module _ (g : Global) where
                 closed_cells g safer,
                 inr (
                   (λ s i. i),
-                  (0, segment (negsuc 16) (pos 17), refl, (Out 8 (segment (negsuc 40) (pos 41)) (at_x (negsuc 40)), record { hulls = []; are = tt; leaves = wide_leaves g }, refl), (λ j y lt at. absurd (omega (arith, lt)))),
+                  (
+                    0,
+                    segment (negsuc 16) (pos 17),
+                    refl,
+                    (
+                      Out 8 (segment (negsuc 40) (pos 41)) (at_x (negsuc 40)),
+                      record { hulls = []; are = tt; leaves = wide_leaves g },
+                      refl,
+                    ),
+                    (λ j y lt at. absurd (omega (arith, lt))),
+                  ),
                 ),
               ),
             )),
@@ -97,8 +122,18 @@ module _ (g : Global) where
       shape_passes g (safer_10 g) (slow g).body (some_10 g) (cells_with g (segment (negsuc 39) (pos 40) ∷ []) (safer_10 g)),
       inr (
         code_passes g (safer_10 g),
-        cells_refused g (safer_10 g) (cells_with g (segment (negsuc 39) (pos 40) ∷ []) (safer_10 g)) (ClosedLeaves 0 0 1 (segment (negsuc 42) (pos 43)) (at_x (negsuc 42)))
-            (inr ((λ s i. i), inl (0, segment (negsuc 39) (pos 40), refl, (Out 1 (segment (negsuc 42) (pos 43)) (at_x (negsuc 42)), whole_cell_leaves, refl), (λ j y lt at. absurd (omega (arith, lt)))))),
+        cells_refused g (safer_10 g) (cells_with g (segment (negsuc 39) (pos 40) ∷ []) (safer_10 g))
+            (ClosedLeaves 0 0 1 (segment (negsuc 42) (pos 43)) (at_x (negsuc 42)))
+            (inr (
+              (λ s i. i),
+              inl (
+                0,
+                segment (negsuc 39) (pos 40),
+                refl,
+                (Out 1 (segment (negsuc 42) (pos 43)) (at_x (negsuc 42)), whole_cell_leaves, refl),
+                (λ j y lt at. absurd (omega (arith, lt))),
+              ),
+            )),
       ),
     ),
   )
@@ -111,7 +146,8 @@ module _ (g : Global) where
     least = least;
   }
     where
-      least : (t : List ℤ) → IsWithin (segment (negsuc 39) (pos 40)) t → IsBefore t (at_x (negsuc 9)) → IsInRegion (segment (negsuc 39) (negsuc 10) ∷ segment (pos 11) (pos 40) ∷ []) t
+      least : (t : List ℤ) → IsWithin (segment (negsuc 39) (pos 40)) t → IsBefore t (at_x (negsuc 9))
+          → IsInRegion (segment (negsuc 39) (negsuc 10) ∷ segment (pos 11) (pos 40) ∷ []) t
       least [] w before = absurd w
       least (x ∷ []) w before = ⊎_elim (λ less. inl (w.0, omega (arith, ints, less), tt)) (λ same. absurd same.1) before
       least (x ∷ y ∷ ys) w before = absurd w.2
@@ -145,8 +181,10 @@ module _ (g : Global) where
       let zero' : u ≡ 0 = omega arith in
       let ea : ac ≡ h.0 = same_Some ac h.0 h.2 in
       let es : sc ≡ h.1 = same_Some sc h.1 h.3 in
-      let wa : WritesTopic (two_topics g ac sc) h.0 u = subst (λ q. WritesTopic (two_topics g ac sc) q u) ea (subst (λ q. WritesTopic (two_topics g ac sc) ac q) (sym zero') (0, a, (cmd_number g, refl, refl))) in
-      let ws : WritesTopic (two_topics g ac sc) h.1 u = subst (λ q. WritesTopic (two_topics g ac sc) q u) es (subst (λ q. WritesTopic (two_topics g ac sc) sc q) (sym zero') (0, s, (cmd_number g, refl, refl))) in
+      let wa : WritesTopic (two_topics g ac sc) h.0 u = subst (λ q. WritesTopic (two_topics g ac sc) q u) ea
+      (subst (λ q. WritesTopic (two_topics g ac sc) ac q) (sym zero') (0, a, (cmd_number g, refl, refl))) in
+      let ws : WritesTopic (two_topics g ac sc) h.1 u = subst (λ q. WritesTopic (two_topics g ac sc) q u) es
+      (subst (λ q. WritesTopic (two_topics g ac sc) sc q) (sym zero') (0, s, (cmd_number g, refl, refl))) in
       ⊎_elim (λ x. x.1 ws) (λ y. y.1 wa) h.4
 
   second : (ac sc node : NodeInfo) → At node.writes.items 1 1 → WritesTopic (two_topics g ac sc) node 1
@@ -155,11 +193,13 @@ module _ (g : Global) where
   not_second : (ac sc node : NodeInfo) → node.writes.items ≡ 0 ∷ [] → WritesTopic (two_topics g ac sc) node 1 → ⊥
   not_second ac sc node e h = let z = writes_first ac sc node 1 e h in omega (arith, z)
 
-  short_two : (ac sc : NodeInfo) → ac.period ≤ 4 → sc.period ≤ 4 → (node : NodeInfo) → (At (two_topics g ac sc).nodes 0 node ⊎ At (two_topics g ac sc).nodes 1 node) → node.period ≤ 4
+  short_two : (ac sc : NodeInfo) → ac.period ≤ 4 → sc.period ≤ 4 → (node : NodeInfo)
+      → (At (two_topics g ac sc).nodes 0 node ⊎ At (two_topics g ac sc).nodes 1 node) → node.period ≤ 4
   short_two ac sc a s node o = ⊎_elim (λ at. subst (λ q. q.period ≤ 4) (same_Some ac node at) a) (λ at. subst (λ q. q.period ≤ 4) (same_Some sc node at) s) o
 
   not_longer_alt : IsLonger (two_topics g (fast_alt g) (slow_5 g)) (nav g) 0 → ⊥
-  not_longer_alt h = let e : fast_alt g ≡ h.0 = same_Some (fast_alt g) h.0 h.1 in let four : h.0.period ≡ 4 = ap (λ x. x.period) (sym e) in omega (arith, h.2, four)
+  not_longer_alt h =
+      let e : fast_alt g ≡ h.0 = same_Some (fast_alt g) h.0 h.1 in let four : h.0.period ≡ 4 = ap (λ x. x.period) (sym e) in omega (arith, h.2, four)
 
   pub other_outputs : OtherOutputsAreRefused g
   other_outputs = (
@@ -253,7 +293,9 @@ module _ (g : Global) where
   )
     where
       no_partners : (m : ℕ) × (a : ModuleInfo) × At (third_writer g).modules m a × (((a.ac ≡ 0) × (a.sc ≡ 2)) ⊎ ((a.sc ≡ 0) × (a.ac ≡ 2))) → ⊥
-      no_partners h = at_one (λ m a. (((a.ac ≡ 0) × (a.sc ≡ 2)) ⊎ ((a.sc ≡ 0) × (a.ac ≡ 2))) → ⊥) (nav g) (λ o. ⊎_elim (λ x. omega (arith, x.1)) (λ y. omega (arith, y.0)) o) h.0 h.1 h.2 h.3
+      no_partners h =
+          at_one (λ m a. (((a.ac ≡ 0) × (a.sc ≡ 2)) ⊎ ((a.sc ≡ 0) × (a.ac ≡ 2))) → ⊥) (nav g)
+          (λ o. ⊎_elim (λ x. omega (arith, x.1)) (λ y. omega (arith, y.0)) o) h.0 h.1 h.2 h.3
 
       partners : (k : ℕ) → k < 2 → 0 < k → ShareOutput (third_writer g) 0 0 k → ⊥
       partners k lt le c = let one : k ≡ 1 = omega arith in c.6 (0, nav g, refl, inl (refl, sym one))
@@ -272,7 +314,8 @@ module _ (g : Global) where
       own u lt h =
           let zero' : u ≡ 0 = omega arith in
           let es : slow g ≡ h.1 = same_Some (slow g) h.1 h.3 in
-          h.5 (subst (λ q. WritesTopic (foreign g) q u) es (subst (λ q. WritesTopic (foreign g) (slow g) q) (sym zero') (0, (0, refl), (cmd_number g, refl, refl))))
+          h.5 (subst (λ q. WritesTopic (foreign g) q u) es (subst (λ q. WritesTopic (foreign g) (slow g) q) (sym zero')
+          (0, (0, refl), (cmd_number g, refl, refl))))
 
   pub traps : TrapsAreRefused g
   traps = (
@@ -283,7 +326,15 @@ module _ (g : Global) where
       (
         [],
         (refl, λ k plant at. absurd (none-some plant at)),
-        (Err trap, (Err trap, (Ok (side (pos 10) (pos 10)), refl, (Ok (side (pos 0) (pos 5)), refl, inl ((omega (arith, ints), omega (arith, ints)), refl))), refl), refl),
+        (
+          Err trap,
+          (
+            Err trap,
+            (Ok (side (pos 10) (pos 10)), refl, (Ok (side (pos 0) (pos 5)), refl, inl ((omega (arith, ints), omega (arith, ints)), refl))),
+            refl,
+          ),
+          refl,
+        ),
       ),
       refl,
     ),
@@ -309,7 +360,9 @@ module _ (g : Global) where
     where
       -- module 0 alone uses node 0
       uses_0 : (i : ℕ) (a : ModuleInfo) → At (crossed g).modules i a → UsesNode a 0 → i ≡ 0
-      uses_0 = at_two (λ i a. UsesNode a 0 → i ≡ 0) (nav g) (record (nav g) { ac = 1; sc = 2 }) (λ u. refl) (λ u. ⊎_elim (λ x. absurd (omega (arith, x))) (λ y. absurd (omega (arith, y))) u)
+      uses_0 =
+          at_two (λ i a. UsesNode a 0 → i ≡ 0) (nav g) (record (nav g) { ac = 1; sc = 2 }) (λ u. refl)
+          (λ u. ⊎_elim (λ x. absurd (omega (arith, x))) (λ y. absurd (omega (arith, y))) u)
 
       none_0 : (y i k : ℕ) → y < 1 → i < k → ShareNode (crossed g) y i k → ⊥
       none_0 y i k lt le c =
@@ -331,7 +384,9 @@ module _ (g : Global) where
           (λ u. inr (refl, ⊎_elim (λ e. omega (arith, e)) (λ e. omega (arith, e)) u)) m a at
 
       same : Low m n → Low m' n → m ≡ m'
-      same p q = ⊎_elim (λ x. ⊎_elim (λ x'. x.0 ∙ sym x'.0) (λ y'. absurd (omega (arith, x.1, y'.1))) q) (λ y. ⊎_elim (λ x'. absurd (omega (arith, y.1, x'.1))) (λ y'. y.0 ∙ sym y'.0) q) p
+      same p q =
+          ⊎_elim (λ x. ⊎_elim (λ x'. x.0 ∙ sym x'.0) (λ y'. absurd (omega (arith, x.1, y'.1))) q)
+          (λ y. ⊎_elim (λ x'. absurd (omega (arith, y.1, x'.1))) (λ y'. y.0 ∙ sym y'.0) q) p
 
   -- a node that writes the second scalar alone writes the second topic alone
   writes_second : (ac sc : NodeInfo) (node : NodeInfo) (t : ℕ) → node.writes.items ≡ 1 ∷ [] → WritesTopic (two_topics g ac sc) node t → t ≡ 1
@@ -368,21 +423,27 @@ module _ (g : Global) where
 
       part : (n : ℕ) (a : NodeInfo) → At (rivals g (other_fast g) (other_slow g)).nodes n a → WritesTopic (rivals g (other_fast g) (other_slow g)) a t → Part n
       part =
-          at_more (λ n a. WritesTopic (rivals g (other_fast g) (other_slow g)) a t → Part n) (fast g) (slow g ∷ other_fast g ∷ other_slow g ∷ []) (λ w. inl (omega arith, writes_first (fast g) (slow g) (fast g) t refl w))
-          (at_more (λ n a. WritesTopic (rivals g (other_fast g) (other_slow g)) a t → Part (suc n)) (slow g) (other_fast g ∷ other_slow g ∷ []) (λ w. inl (omega arith, writes_first (fast g) (slow g) (slow g) t refl w))
+          at_more (λ n a. WritesTopic (rivals g (other_fast g) (other_slow g)) a t → Part n) (fast g) (slow g ∷ other_fast g ∷ other_slow g ∷ [])
+          (λ w. inl (omega arith, writes_first (fast g) (slow g) (fast g) t refl w))
+          (at_more (λ n a. WritesTopic (rivals g (other_fast g) (other_slow g)) a t → Part (suc n)) (slow g) (other_fast g ∷ other_slow g ∷ [])
+          (λ w. inl (omega arith, writes_first (fast g) (slow g) (slow g) t refl w))
           (at_two (λ n a. WritesTopic (rivals g (other_fast g) (other_slow g)) a t → Part (suc (suc n))) (other_fast g) (other_slow g)
           (λ w. inr (omega arith, omega arith, writes_second (fast g) (slow g) (other_fast g) t refl w))
           (λ w. inr (omega arith, omega arith, writes_second (fast g) (slow g) (other_slow g) t refl w))))
 
       first : n < 2 → n' < 2 → ArePartners (rivals g (other_fast g) (other_slow g)) n n'
-      first lt lt' = pairs (ArePartners (rivals g (other_fast g) (other_slow g))) (0, nav g, refl, inl (refl, refl)) (0, nav g, refl, inr (refl, refl)) n n' lt lt' ne
+      first lt lt' =
+          pairs (ArePartners (rivals g (other_fast g) (other_slow g))) (0, nav g, refl, inl (refl, refl)) (0, nav g, refl, inr (refl, refl)) n n' lt lt' ne
 
       second' : 1 < n → n < 4 → 1 < n' → n' < 4 → ArePartners (rivals g (other_fast g) (other_slow g)) n n'
       second' gt lt gt' lt' =
           let up : n - 2 + 2 ≡ n = omega arith in
           let up' : n' - 2 + 2 ≡ n' = omega arith in
-          let p = pairs (λ i k. ArePartners (rivals g (other_fast g) (other_slow g)) (i + 2) (k + 2)) (1, record (nav g) { ac = 2; sc = 3 }, refl, inl (refl, refl)) (1, record (nav g) { ac = 2; sc = 3 }, refl, inr (refl, refl)) (n - 2) (n' - 2) (omega arith) (omega arith) (λ e. ne (omega (arith, e))) in
-          subst (λ q. ArePartners (rivals g (other_fast g) (other_slow g)) q n') up (subst (λ q. ArePartners (rivals g (other_fast g) (other_slow g)) (n - 2 + 2) q) up' p)
+          let p = pairs (λ i k. ArePartners (rivals g (other_fast g) (other_slow g)) (i + 2) (k + 2))
+          (1, record (nav g) { ac = 2; sc = 3 }, refl, inl (refl, refl)) (1, record (nav g) { ac = 2; sc = 3 }, refl, inr (refl, refl)) (n - 2) (n' - 2)
+          (omega arith) (omega arith) (λ e. ne (omega (arith, e))) in
+          subst (λ q. ArePartners (rivals g (other_fast g) (other_slow g)) q n') up
+          (subst (λ q. ArePartners (rivals g (other_fast g) (other_slow g)) (n - 2 + 2) q) up' p)
 
   pub rivals_in_order : RivalsAreRefusedInOrder g
   rivals_in_order = (
@@ -426,7 +487,8 @@ module _ (g : Global) where
       no_partners : ArePartners (rivals g (fast g) (slow g)) 0 2 → ⊥
       no_partners h =
           at_two (λ m a. (((a.ac ≡ 0) × (a.sc ≡ 2)) ⊎ ((a.sc ≡ 0) × (a.ac ≡ 2))) → ⊥) (nav g) (record (nav g) { ac = 2; sc = 3 })
-          (λ o. ⊎_elim (λ x. omega (arith, x.1)) (λ y. omega (arith, y.0)) o) (λ o. ⊎_elim (λ x. omega (arith, x.0)) (λ y. omega (arith, y.0)) o) h.0 h.1 h.2 h.3
+          (λ o. ⊎_elim (λ x. omega (arith, x.1)) (λ y. omega (arith, y.0)) o) (λ o. ⊎_elim (λ x. omega (arith, x.0)) (λ y. omega (arith, y.0)) o) h.0 h.1 h.2
+          h.3
 
       partners : (k : ℕ) → k < 2 → 0 < k → ShareOutput (rivals g (fast g) (slow g)) 0 0 k → ⊥
       partners k lt le c = let one : k ≡ 1 = omega arith in c.6 (0, nav g, refl, inl (refl, sym one))
@@ -441,7 +503,16 @@ module _ (g : Global) where
   pub in_order : VerdictsAreInOrder g
   in_order = (
     inl shared_nodes.0,
-    inr (composition_passes g [] body, inl (0, nav_with g [], refl, inr ((cells_with g [] [], refl), inr (short g [] body, inr (same_outputs g [] body, inr (some, refl, refl)))), (λ j y lt at. absurd (omega (arith, lt))))),
+    inr (
+      composition_passes g [] body,
+      inl (
+        0,
+        nav_with g [],
+        refl,
+        inr ((cells_with g [] [], refl), inr (short g [] body, inr (same_outputs g [] body, inr (some, refl, refl)))),
+        (λ j y lt at. absurd (omega (arith, lt))),
+      ),
+    ),
     inr (
       composition_passes g (safer_10 g) body,
       inr (
@@ -458,7 +529,19 @@ module _ (g : Global) where
               (
                 segment (negsuc 39) (pos 40) ∷ [],
                 hulls g (safer_10 g),
-                (Err trap, (Err trap, (Ok (side (pos 10) (pos 10)), refl, (Ok (side (negsuc 39) (pos 40)), refl, inl ((omega (arith, ints), omega (arith, ints)), refl))), refl), refl),
+                (
+                  Err trap,
+                  (
+                    Err trap,
+                    (
+                      Ok (side (pos 10) (pos 10)),
+                      refl,
+                      (Ok (side (negsuc 39) (pos 40)), refl, inl ((omega (arith, ints), omega (arith, ints)), refl)),
+                    ),
+                    refl,
+                  ),
+                  refl,
+                ),
               ),
               refl,
             ),
@@ -489,15 +572,35 @@ module _ (g : Global) where
       inr (
         covers g (negsuc 9) (pos 10) (omega (arith, ints)) (omega (arith, ints)),
         record { locals = []; draft = Sure (side (pos 0) (pos 0)) ∷ [] },
-        drafts g (safer_10 g) (side (negsuc 9) (pos 10)) (side (pos 0) (pos 0)) (near g (side (negsuc 9) (pos 10)) (omega (arith, ints)) (omega (arith, ints)) (omega (arith, ints))) refl refl,
-        record { hulls = []; are = tt; leaves = inr (inl (covers g (negsuc 9) (pos 10) (omega (arith, ints)) (omega (arith, ints)), _, divides (segment (pos 0) (pos 0)), refl)) },
+        drafts g (safer_10 g) (side (negsuc 9) (pos 10)) (side (pos 0) (pos 0))
+            (near g (side (negsuc 9) (pos 10)) (omega (arith, ints)) (omega (arith, ints)) (omega (arith, ints))) refl refl,
+        record {
+          hulls = [];
+          are = tt;
+          leaves = inr (inl (
+            covers g (negsuc 9) (pos 10) (omega (arith, ints)) (omega (arith, ints)),
+            _,
+            divides (segment (pos 0) (pos 0)),
+            refl,
+          ));
+        },
       ),
       refl,
     ),
-    (Trap 0 somewhere, record { hulls = []; are = tt; leaves = inr (inl (covers g (negsuc 9) (pos 10) (omega (arith, ints)) (omega (arith, ints)), _, divides (segment (negsuc 1) (pos 2)), refl)) }, refl),
+    (
+      Trap 0 somewhere,
+      record {
+        hulls = [];
+        are = tt;
+        leaves =
+            inr (inl (covers g (negsuc 9) (pos 10) (omega (arith, ints)) (omega (arith, ints)), _, divides (segment (negsuc 1) (pos 2)), refl));
+      },
+      refl,
+    ),
   )
     where
-      divides : (commands : List Side) → IsNextBox (divider g) (segment (negsuc 9) (pos 10)) commands [] (Err (record { at = somewhere; kind = ZeroDivisor; lo = negsuc 9; hi = pos 10 }))
+      divides : (commands : List Side) → IsNextBox (divider g) (segment (negsuc 9) (pos 10)) commands []
+          (Err (record { at = somewhere; kind = ZeroDivisor; lo = negsuc 9; hi = pos 10 }))
       divides commands = (
         Err (record { at = somewhere; kind = ZeroDivisor; lo = negsuc 9; hi = pos 10 }),
         (Ok (side (pos 10) (pos 10)), refl, (Ok (side (negsuc 9) (pos 10)), refl, inl ((omega (arith, ints), omega (arith, ints)), refl))),
@@ -508,6 +611,8 @@ module _ (g : Global) where
   shapes = (
     (λ w. let le = w.periods 0 (nav g) refl (fast_5 g) (inl refl) in omega (arith, le)),
     (λ w. let le = w.periods 0 (nav g) refl (slow_5 g) (inr refl) in omega (arith, le)),
-    (λ w. not_second (fast_alt g) (slow g) (slow g) refl ((w.outputs 0 (nav g) refl (fast_alt g) (slow g) 1 refl refl).0 (second (fast_alt g) (slow g) (fast_alt g) refl))),
-    (λ w. not_second (fast g) (slow_alt g) (fast g) refl ((w.outputs 0 (nav g) refl (fast g) (slow_alt g) 1 refl refl).1 (second (fast g) (slow_alt g) (slow_alt g) refl))),
+    (λ w. not_second (fast_alt g) (slow g) (slow g) refl ((w.outputs 0 (nav g) refl (fast_alt g) (slow g) 1 refl refl).0
+        (second (fast_alt g) (slow g) (fast_alt g) refl))),
+    (λ w. not_second (fast g) (slow_alt g) (fast g) refl ((w.outputs 0 (nav g) refl (fast g) (slow_alt g) 1 refl refl).1
+        (second (fast g) (slow_alt g) (slow_alt g) refl))),
   )

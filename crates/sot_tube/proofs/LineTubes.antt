@@ -15,7 +15,8 @@ use Rattle.sot_tube.specs.declared.leave.Leave.TheVariants.{Out}
 use Rattle.sot_lang.specs.declared.trap.TrapKind.TheVariants.{ZeroDivisor}
 use Rattle.sot_tube.specs.Tubes.{IsNextBox, AnyTubeInside, Keeps}
 use Rattle.sot_tube.specs.Leaves.{GoesOut, Leaves}
-use Rattle.sot_tube.specs.Examples.{segment, at_x, line1, follower, divider, KeptAt12, JitterIsTwice, TubesOfTheLine, CommandsAreSureOrWhole, SeenPlantsAreInHulls, OutComesBeforeTrap}
+use Rattle.sot_tube.specs.Examples.{segment, at_x, line1, follower, divider, KeptAt12, JitterIsTwice, TubesOfTheLine, CommandsAreSureOrWhole}
+use Rattle.sot_tube.specs.Examples.{SeenPlantsAreInHulls, OutComesBeforeTrap}
 use Rattle.sot_tube.proofs.LineBoxes.{add_box, any_box, any_stays, covers}
 use Rattle.sot_tube.proofs.Leaving.{tube_leaves_not}
 
@@ -61,7 +62,8 @@ module _ (g : Global) where
   pub low_end : (n : ℕ) (lo hi : ℤ) → lo <ℤ negsuc 39 → lo ≤ℤ hi → GoesOut (nav g).safe.boxes (segment lo hi) n (Out n (segment lo hi) (at_x lo))
   low_end n lo hi below le = (at_x lo, gap_below (negsuc 39) (pos 40) lo hi below le, refl)
 
-  pub wide_leaves : Leaves (pos_plant g) (segment (negsuc 1) (pos 2)) [] (nav g).safe.boxes (segment (negsuc 16) (pos 17)) 0 8 (Out 8 (segment (negsuc 40) (pos 41)) (at_x (negsuc 40)))
+  pub wide_leaves : Leaves (pos_plant g) (segment (negsuc 1) (pos 2)) [] (nav g).safe.boxes (segment (negsuc 16) (pos 17)) 0 8
+      (Out 8 (segment (negsuc 40) (pos 41)) (at_x (negsuc 40)))
   wide_leaves =
       later 7 0 (negsuc 16) (pos 17) end (omega (arith, ints)) (omega (arith, ints)) (omega (arith, ints))
       (later 6 1 (negsuc 19) (pos 20) end (omega (arith, ints)) (omega (arith, ints)) (omega (arith, ints))
@@ -82,19 +84,30 @@ module _ (g : Global) where
     record { hulls = []; are = tt; leaves = wide_leaves },
   )
 
-  kept : (jitter : ℕ) (x : ℤ) → (negsuc 39 +ℤ pos (3 * (2 * (4 + jitter)))) ≤ℤ x → (x +ℤ pos (3 * (2 * (4 + jitter)))) ≤ℤ pos 40 → Keeps (line1 g) jitter (nav g) (at_x x)
-  kept jitter x low high = record { plant = pos_plant g; is = refl; inside = record { hulls = []; are = tt; stays = any_stays g (2 * (4 + jitter)) x x (omega (arith, ints)) low high } }
+  kept : (jitter : ℕ) (x : ℤ) → (negsuc 39 +ℤ pos (3 * (2 * (4 + jitter)))) ≤ℤ x → (x +ℤ pos (3 * (2 * (4 + jitter)))) ≤ℤ pos 40
+      → Keeps (line1 g) jitter (nav g) (at_x x)
+  kept jitter x low high =
+      record {
+        plant = pos_plant g;
+        is = refl;
+        inside = record
+            { hulls = []; are = tt; stays = any_stays g (2 * (4 + jitter)) x x (omega (arith, ints)) low high };
+      }
 
-  pub high_end : (n : ℕ) (lo hi : ℤ) → negsuc 39 ≤ℤ lo → lo ≤ℤ pos 41 → pos 40 <ℤ hi → GoesOut (nav g).safe.boxes (segment lo hi) n (Out n (segment lo hi) (at_x (pos 41)))
+  pub high_end : (n : ℕ) (lo hi : ℤ) → negsuc 39 ≤ℤ lo → lo ≤ℤ pos 41 → pos 40 <ℤ hi
+      → GoesOut (nav g).safe.boxes (segment lo hi) n (Out n (segment lo hi) (at_x (pos 41)))
   high_end n lo hi in' meets above = (at_x (pos 41), gap_above (negsuc 39) (pos 40) lo hi in' meets above, refl)
 
-  not_kept : (jitter : ℕ) (x : ℤ) (leave : Leave) → Leaves (pos_plant g) (segment (negsuc 1) (pos 2)) [] (nav g).safe.boxes (segment x x) 0 (2 * (4 + jitter)) leave → Keeps (line1 g) jitter (nav g) (at_x x) → ⊥
+  not_kept : (jitter : ℕ) (x : ℤ) (leave : Leave) → Leaves (pos_plant g) (segment (negsuc 1) (pos 2)) [] (nav g).safe.boxes (segment x x) 0 (2 * (4 + jitter))
+      leave → Keeps (line1 g) jitter (nav g) (at_x x) → ⊥
   not_kept jitter x leave leaves keeps =
       let same : keeps.plant ≡ pos_plant g = sym (same_Some (pos_plant g) keeps.plant keeps.is) in
-      tube_leaves_not (line1 g) (pos_plant g) (segment (negsuc 1) (pos 2)) (nav g).safe.boxes (segment x x) (2 * (4 + jitter)) leave (record { hulls = []; are = tt; leaves = leaves })
+      tube_leaves_not (line1 g) (pos_plant g) (segment (negsuc 1) (pos 2)) (nav g).safe.boxes (segment x x) (2 * (4 + jitter)) leave
+      (record { hulls = []; are = tt; leaves = leaves })
       (subst (λ q. AnyTubeInside (line1 g) q (nav g).safe.boxes (segment x x) (2 * (4 + jitter))) same keeps.inside)
 
-  leaves_from_20 : Leaves (pos_plant g) (segment (negsuc 1) (pos 2)) [] (nav g).safe.boxes (segment (pos 20) (pos 20)) 0 8 (Out 7 (segment (negsuc 0) (pos 41)) (at_x (pos 41)))
+  leaves_from_20 : Leaves (pos_plant g) (segment (negsuc 1) (pos 2)) [] (nav g).safe.boxes (segment (pos 20) (pos 20)) 0 8
+      (Out 7 (segment (negsuc 0) (pos 41)) (at_x (pos 41)))
   leaves_from_20 =
       later 7 0 (pos 20) (pos 20) end (omega (arith, ints)) (omega (arith, ints)) (omega (arith, ints))
       (later 6 1 (pos 17) (pos 23) end (omega (arith, ints)) (omega (arith, ints)) (omega (arith, ints))
@@ -108,7 +121,8 @@ module _ (g : Global) where
       end : Leave
       end = Out 7 (segment (negsuc 0) (pos 41)) (at_x (pos 41))
 
-  leaves_from_11 : Leaves (pos_plant g) (segment (negsuc 1) (pos 2)) [] (nav g).safe.boxes (segment (pos 11) (pos 11)) 0 10 (Out 10 (segment (negsuc 18) (pos 41)) (at_x (pos 41)))
+  leaves_from_11 : Leaves (pos_plant g) (segment (negsuc 1) (pos 2)) [] (nav g).safe.boxes (segment (pos 11) (pos 11)) 0 10
+      (Out 10 (segment (negsuc 18) (pos 41)) (at_x (pos 41)))
   leaves_from_11 =
       later 9 0 (pos 11) (pos 11) end (omega (arith, ints)) (omega (arith, ints)) (omega (arith, ints))
       (later 8 1 (pos 8) (pos 14) end (omega (arith, ints)) (omega (arith, ints)) (omega (arith, ints))
@@ -126,10 +140,12 @@ module _ (g : Global) where
       end = Out 10 (segment (negsuc 18) (pos 41)) (at_x (pos 41))
 
   pub kept_at_12 : KeptAt12 g
-  kept_at_12 = (kept 0 (pos 12) (omega (arith, ints)) (omega (arith, ints)), not_kept 0 (pos 20) (Out 7 (segment (negsuc 0) (pos 41)) (at_x (pos 41))) leaves_from_20)
+  kept_at_12 =
+      (kept 0 (pos 12) (omega (arith, ints)) (omega (arith, ints)), not_kept 0 (pos 20) (Out 7 (segment (negsuc 0) (pos 41)) (at_x (pos 41))) leaves_from_20)
 
   pub jitter_is_twice : JitterIsTwice g
-  jitter_is_twice = (kept 1 (pos 10) (omega (arith, ints)) (omega (arith, ints)), not_kept 1 (pos 11) (Out 10 (segment (negsuc 18) (pos 41)) (at_x (pos 41))) leaves_from_11)
+  jitter_is_twice =
+      (kept 1 (pos 10) (omega (arith, ints)) (omega (arith, ints)), not_kept 1 (pos 11) (Out 10 (segment (negsuc 18) (pos 41)) (at_x (pos 41))) leaves_from_11)
 
   pub commands_are_sure_or_whole : CommandsAreSureOrWhole g
   commands_are_sure_or_whole = (refl, refl, refl, refl)
@@ -138,11 +154,20 @@ module _ (g : Global) where
   follows : IsNextBox (follower g) (segment (pos 0) (pos 0)) (segment (negsuc 1) (pos 2)) (segment (negsuc 39) (pos 40)) (Ok (segment (negsuc 39) (pos 40)))
   follows = (
     Ok (side (negsuc 39) (pos 40)),
-    (Ok (side (pos 0) (pos 0)), refl, (Ok (side (negsuc 39) (pos 40)), refl, add_box (side (pos 0) (pos 0)) (side (negsuc 39) (pos 40)) (omega (arith, ints)) (omega (arith, ints)) (refl, refl))),
+    (
+      Ok (side (pos 0) (pos 0)),
+      refl,
+      (
+        Ok (side (negsuc 39) (pos 40)),
+        refl,
+        add_box (side (pos 0) (pos 0)) (side (negsuc 39) (pos 40)) (omega (arith, ints)) (omega (arith, ints)) (refl, refl),
+      ),
+    ),
     (Ok [], refl, refl),
   )
 
-  follower_leaves : Leaves (follower g) (segment (negsuc 1) (pos 2)) (segment (negsuc 39) (pos 40)) (segment (negsuc 38) (pos 40) ∷ []) (segment (pos 0) (pos 0)) 0 1 (Out 1 (segment (negsuc 39) (pos 40)) (at_x (negsuc 39)))
+  follower_leaves : Leaves (follower g) (segment (negsuc 1) (pos 2)) (segment (negsuc 39) (pos 40)) (segment (negsuc 38) (pos 40) ∷ [])
+      (segment (pos 0) (pos 0)) 0 1 (Out 1 (segment (negsuc 39) (pos 40)) (at_x (negsuc 39)))
   follower_leaves = inr (inr (
     covers_segment (negsuc 38) (pos 40) (pos 0) (pos 0) (omega (arith, ints)) (omega (arith, ints)),
     _,
@@ -151,7 +176,8 @@ module _ (g : Global) where
   ))
 
   -- the hull of a region on one axis, of which both ends are points
-  hull_between : (region : List (List Side)) (lo hi : ℤ) → IsInRegion region (at_x lo) → IsInRegion region (at_x hi) → ((s : List ℤ) → IsInRegion region s → IsWithin (segment lo hi) s) → IsHull region (segment lo hi)
+  hull_between : (region : List (List Side)) (lo hi : ℤ) → IsInRegion region (at_x lo) → IsInRegion region (at_x hi)
+      → ((s : List ℤ) → IsInRegion region s → IsWithin (segment lo hi) s) → IsHull region (segment lo hi)
   hull_between region lo hi low high holds = record {
     has_point = (at_x lo, low);
     holds = holds;
@@ -160,7 +186,9 @@ module _ (g : Global) where
   }
 
   pub nav_hull : IsHull (nav g).safe.boxes (segment (negsuc 39) (pos 40))
-  nav_hull = hull_between (nav g).safe.boxes (negsuc 39) (pos 40) (inl (omega (arith, ints), omega (arith, ints), tt)) (inl (omega (arith, ints), omega (arith, ints), tt)) (λ s i. ⊎_elim (λ w. w) (λ no'. absurd no') i)
+  nav_hull =
+      hull_between (nav g).safe.boxes (negsuc 39) (pos 40) (inl (omega (arith, ints), omega (arith, ints), tt))
+      (inl (omega (arith, ints), omega (arith, ints), tt)) (λ s i. ⊎_elim (λ w. w) (λ no'. absurd no') i)
 
   pieces : (s : List ℤ) → IsInRegion (segment (negsuc 39) (negsuc 29) ∷ segment (pos 30) (pos 40) ∷ []) s → IsWithin (segment (negsuc 39) (pos 40)) s
   pieces [] i = ⊎_elim (λ w. absurd w) (λ more. ⊎_elim (λ w. absurd w) (λ no'. absurd no') more) i
@@ -168,7 +196,9 @@ module _ (g : Global) where
   pieces (x ∷ y ∷ ys) i = ⊎_elim (λ w. absurd w.2) (λ more. ⊎_elim (λ w. absurd w.2) (λ no'. absurd no') more) i
 
   split_hull : IsHull (segment (negsuc 39) (negsuc 29) ∷ segment (pos 30) (pos 40) ∷ []) (segment (negsuc 39) (pos 40))
-  split_hull = hull_between (segment (negsuc 39) (negsuc 29) ∷ segment (pos 30) (pos 40) ∷ []) (negsuc 39) (pos 40) (inl (omega (arith, ints), omega (arith, ints), tt)) (inr (inl (omega (arith, ints), omega (arith, ints), tt))) pieces
+  split_hull =
+      hull_between (segment (negsuc 39) (negsuc 29) ∷ segment (pos 30) (pos 40) ∷ []) (negsuc 39) (pos 40) (inl (omega (arith, ints), omega (arith, ints), tt))
+      (inr (inl (omega (arith, ints), omega (arith, ints), tt))) pieces
 
   pub seen_plants_are_in_hulls : SeenPlantsAreInHulls g
   seen_plants_are_in_hulls = (
@@ -177,7 +207,8 @@ module _ (g : Global) where
   )
 
   -- the divider's step from 0 to 2 may divide by 0
-  divides : IsNextBox (divider g) (segment (pos 0) (pos 2)) (segment (negsuc 1) (pos 2)) [] (Err (record { at = somewhere; kind = ZeroDivisor; lo = pos 0; hi = pos 2 }))
+  divides : IsNextBox (divider g) (segment (pos 0) (pos 2)) (segment (negsuc 1) (pos 2)) []
+      (Err (record { at = somewhere; kind = ZeroDivisor; lo = pos 0; hi = pos 2 }))
   divides = (
     Err (record { at = somewhere; kind = ZeroDivisor; lo = pos 0; hi = pos 2 }),
     (Ok (side (pos 10) (pos 10)), refl, (Ok (side (pos 0) (pos 2)), refl, inl ((omega (arith, ints), omega (arith, ints)), refl))),
@@ -186,7 +217,24 @@ module _ (g : Global) where
 
   pub out_comes_before_trap : OutComesBeforeTrap g
   out_comes_before_trap = (
-    record { hulls = []; are = tt; leaves = inl (at_x (pos 6), gap_above (pos 0) (pos 5) (pos 0) (pos 6) (omega (arith, ints)) (omega (arith, ints)) (omega (arith, ints)), refl) },
-    record { hulls = []; are = tt; leaves = inr (inl (covers_segment (pos 0) (pos 5) (pos 0) (pos 2) (omega (arith, ints)) (omega (arith, ints)), _, divides, refl)) },
+    record {
+      hulls = [];
+      are = tt;
+      leaves = inl (
+        at_x (pos 6),
+        gap_above (pos 0) (pos 5) (pos 0) (pos 6) (omega (arith, ints)) (omega (arith, ints)) (omega (arith, ints)),
+        refl,
+      );
+    },
+    record {
+      hulls = [];
+      are = tt;
+      leaves = inr (inl (
+        covers_segment (pos 0) (pos 5) (pos 0) (pos 2) (omega (arith, ints)) (omega (arith, ints)),
+        _,
+        divides,
+        refl,
+      ));
+    },
     record { hulls = []; are = tt; stays = covers_segment (pos 0) (pos 5) (pos 0) (pos 2) (omega (arith, ints)) (omega (arith, ints)) },
   )

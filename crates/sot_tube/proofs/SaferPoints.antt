@@ -87,7 +87,8 @@ module _ (p : Tables) (jitter : ℕ) (cert : Cert) (rules : MeetsTableRules p) (
           let cells = certified.entries m a at in
           let cell = box_with cells.0.reach.boxes s (certified.reach_cover m a cells.0 at cells.1 s safer) in
           let reach = certified.reach_cells m a plant cells.0 cell.0 cell.1 at at_p cells.1 cell.2 in
-          let inputs = within_in_order (input_ranges p plant) _ (within_picked (scalar_ranges p) (map (λ i. i.init) p.scalars) plant.inputs.items rules.typed.inits) in
+          let inputs = within_in_order (input_ranges p plant) _
+          (within_picked (scalar_ranges p) (map (λ i. i.init) p.scalars) plant.inputs.items rules.typed.inits) in
           record {
             plant = plant;
             is = at_p;
@@ -95,8 +96,10 @@ module _ (p : Tables) (jitter : ℕ) (cert : Cert) (rules : MeetsTableRules p) (
               hulls = reach.hulls;
               are = reach.are;
               stays =
-                  stays_narrower plant (input_ranges p plant) (joined_boxes reach.hulls) a.safe.boxes (length (plant_truths p plant)) (HavePlaces-TermsFit (plant_truths p plant) plant.next.items r.next)
-                  inputs (hulls_ordered p.modules plant.sees.items reach.hulls reach.are) (noise_ordered plant.noise.items (λ i d at_d. (r.noise_ranges i d at_d).1.0))
+                  stays_narrower plant (input_ranges p plant) (joined_boxes reach.hulls) a.safe.boxes (length (plant_truths p plant))
+                  (HavePlaces-TermsFit (plant_truths p plant) plant.next.items r.next)
+                  inputs (hulls_ordered p.modules plant.sees.items reach.hulls reach.are)
+                  (noise_ordered plant.noise.items (λ i d at_d. (r.noise_ranges i d at_d).1.0))
                   (2 * (a.period + jitter)) (point_box s) cell.1 (point_narrower cell.1 s cell.3) reach.stays;
             };
           }

@@ -25,14 +25,17 @@ use Rattle.sot_tube.specs.Refusals.{Refusal, SharedNode, SharedOutput, SharedPla
 use Rattle.sot_tube.specs.Checks.{Check, and_then, for_each, IsLeastClash, IsExact}
 use Rattle.sot_tube.specs.Leaves.{TubeLeaves}
 use Rattle.sot_tube.specs.Certified.{HasCells, DraftsFrom, command_intervals}
-use Rattle.sot_tube.specs.Verdict.{ShareNode, ShareOutput, SharePlant, IsForeignInput, IsWrittenByOne, ClosedCellLeaves, shared_node, shared_output, shared_plant, foreign_input, composition, entry, periods, outputs, boxes, shape, trap_free, code, closed_cover, reach_cover, closed_cell, reach_cell, cell_checks, cells_of, verdict}
+use Rattle.sot_tube.specs.Verdict.{ShareNode, ShareOutput, SharePlant, IsForeignInput, IsWrittenByOne, ClosedCellLeaves, shared_node, shared_output}
+use Rattle.sot_tube.specs.Verdict.{shared_plant, foreign_input, composition, entry, periods, outputs, boxes, shape, trap_free, code, closed_cover, reach_cover}
+use Rattle.sot_tube.specs.Verdict.{closed_cell, reach_cell, cell_checks, cells_of, verdict}
 use Rattle.sot_tube.proofs.Exact.{and_then_exact, for_each_exact, of_the_exact, least_number_same, least_clash_same}
 use Rattle.sot_box.proofs.Laws.{gap_unique, gap_uncovered, first_gap_unique}
 use Rattle.sot_tube.proofs.Gaps.{first_gap_in}
 use Rattle.sot_tube.proofs.Leaving.{all_hulls_same, tube_leaves_not, tube_leaves_same}
 
 -- three numbers make one refusal
-three : (f : ℕ → ℕ → ℕ → Refusal) (Clash : ℕ → ℕ → ℕ → Type 0) (r r' : Refusal) → (x a b : ℕ) × IsLeastClash Clash x a b × (r ≡ f x a b) → (x a b : ℕ) × IsLeastClash Clash x a b × (r' ≡ f x a b) → r ≡ r'
+three : (f : ℕ → ℕ → ℕ → Refusal) (Clash : ℕ → ℕ → ℕ → Type 0) (r r' : Refusal) → (x a b : ℕ) × IsLeastClash Clash x a b × (r ≡ f x a b)
+    → (x a b : ℕ) × IsLeastClash Clash x a b × (r' ≡ f x a b) → r ≡ r'
 three f Clash r r' h h' = let e = least_clash_same Clash h.0 h.1 h.2 h'.0 h'.1 h'.2 h.3 h'.3 in cc (e.xs, e.as', e.bs)
 
 shared_node_exact : (p : Tables) → IsExact (shared_node p)
@@ -114,17 +117,20 @@ shape_exact p cert m a =
 pub cells_same : (cert : Cert) (m : ℕ) (a b : Cells) → HasCells cert m a → HasCells cert m b → a ≡ b
 cells_same cert m a b h h' = same_Some a b (same_Some (Some a) (Some b) (sym h ∙ h'))
 
-safe_execution_same : (p : Tables) (node : NodeInfo) (us : List Act) (o o' : OrMayTrap Intervals) → IsSafeExecution p node us o → IsSafeExecution p node us o' → o ≡ o'
+safe_execution_same : (p : Tables) (node : NodeInfo) (us : List Act) (o o' : OrMayTrap Intervals) → IsSafeExecution p node us o → IsSafeExecution p node us o'
+    → o ≡ o'
 safe_execution_same p node us o o' h h' =
     let e = all_hulls_same p h.0 h'.0 h.1 h'.1 in
     execution_same us (local_ranges node) (write_ranges p node) (reading_intervals p node h'.0) (local_ranges node) o o'
     (subst (λ q. IsExecutionIntervals us (local_ranges node) (write_ranges p node) (reading_intervals p node q) (local_ranges node) o) e h.2) h'.2
 
-pub drafts_same : (p : Tables) (a : ModuleInfo) (sc : NodeInfo) (us : List Act) (cell : List Side) (f g : Intervals) → DraftsFrom p a sc us cell f → DraftsFrom p a sc us cell g → f ≡ g
+pub drafts_same : (p : Tables) (a : ModuleInfo) (sc : NodeInfo) (us : List Act) (cell : List Side) (f g : Intervals) → DraftsFrom p a sc us cell f
+    → DraftsFrom p a sc us cell g → f ≡ g
 drafts_same p a sc us cell f g h h' =
     let e = all_hulls_same p h.hulls h'.hulls h.are h'.are in
     let one = execution_same us (local_ranges sc) (write_ranges p sc) (reading_intervals p sc (slice_set h'.hulls a.plant cell)) (local_ranges sc) (Ok f) (Ok g)
-    (subst (λ q. IsExecutionIntervals us (local_ranges sc) (write_ranges p sc) (reading_intervals p sc (slice_set q a.plant cell)) (local_ranges sc) (Ok f)) e h.runs) h'.runs in
+    (subst (λ q. IsExecutionIntervals us (local_ranges sc) (write_ranges p sc) (reading_intervals p sc (slice_set q a.plant cell)) (local_ranges sc) (Ok f)) e
+    h.runs) h'.runs in
     cc
 
 trap_free_exact : (p : Tables) (n : ℕ) (node : NodeInfo) (us : List Act) → IsExact (trap_free p n node us)
@@ -136,7 +142,8 @@ trap_free_exact p n node us = record {
 pub code_exact : (p : Tables) (n : ℕ) (node : NodeInfo) → IsExact (code p n node)
 code_exact p n node = of_the_exact (IsCoded node) (trap_free p n node) (one_body node) (trap_free_exact p n node)
 
-closed_cell_exact : (p : Tables) (j m : ℕ) (a : ModuleInfo) (plant : PlantInfo) (sc : NodeInfo) (us : List Act) (i : ℕ) (cell : List Side) → IsExact (closed_cell p j m a plant sc us i cell)
+closed_cell_exact : (p : Tables) (j m : ℕ) (a : ModuleInfo) (plant : PlantInfo) (sc : NodeInfo) (us : List Act) (i : ℕ) (cell : List Side)
+    → IsExact (closed_cell p j m a plant sc us i cell)
 closed_cell_exact p j m a plant sc us i cell = record {
   exclusive = λ r h passes.
       ⊎_elim
@@ -181,11 +188,14 @@ reach_cover_exact m a cells = record {
   unique = λ r r' h h'. let e = first_gap_unique a.safer.boxes cells.reach.boxes h.0 h'.0 h.1 h'.1 in cc;
 }
 
-cell_checks_exact : (p : Tables) (j m : ℕ) (a : ModuleInfo) (plant : PlantInfo) (sc : NodeInfo) (us : List Act) (cells : Cells) → IsExact (cell_checks p j m a plant sc us cells)
+cell_checks_exact : (p : Tables) (j m : ℕ) (a : ModuleInfo) (plant : PlantInfo) (sc : NodeInfo) (us : List Act) (cells : Cells)
+    → IsExact (cell_checks p j m a plant sc us cells)
 cell_checks_exact p j m a plant sc us cells =
     and_then_exact (closed_cover m a cells) (and_then closed (and_then (reach_cover m a cells) reach)) (closed_cover_exact m a cells)
-    (and_then_exact closed (and_then (reach_cover m a cells) reach) (for_each_exact cells.closed.boxes (closed_cell p j m a plant sc us) (closed_cell_exact p j m a plant sc us))
-    (and_then_exact (reach_cover m a cells) reach (reach_cover_exact m a cells) (for_each_exact cells.reach.boxes (reach_cell p j m a plant) (reach_cell_exact p j m a plant))))
+    (and_then_exact closed (and_then (reach_cover m a cells) reach)
+    (for_each_exact cells.closed.boxes (closed_cell p j m a plant sc us) (closed_cell_exact p j m a plant sc us))
+    (and_then_exact (reach_cover m a cells) reach (reach_cover_exact m a cells)
+    (for_each_exact cells.reach.boxes (reach_cell p j m a plant) (reach_cell_exact p j m a plant))))
   where
     closed : Check
     closed = for_each cells.closed.boxes (closed_cell p j m a plant sc us)

@@ -49,24 +49,39 @@ module _ (p : Tables) (k : ℕ) (region : BoxList) (first held seen : List Side)
   }
 
   module _ (area : List Side) (n : ℕ) (sofar : WalkSoFar p k region first held seen ticks area n) where
-    pub walk_next : (next : List Side) → MeetsTableRules p → n < ticks → Covers region.boxes area → IsBoxAfterTick p k area held seen (Ok next) → WalkSoFar p k region first held seen ticks next (suc n)
-    walk_next next rules lt covers steps = let long : length next ≡ length sofar.step.plant.states.items = terms_long sofar.step.plant.next.items _ next (steps sofar.step.plant sofar.step.is) ∙ (rules.plants k sofar.step.plant sofar.step.is).one_next in let same : length next ≡ length area = long ∙ sym sofar.step.states in record {
-      step = record { plant = sofar.step.plant; is = sofar.step.is; states = long; inputs = sofar.step.inputs; seen_are = sofar.step.seen_are };
-      width = same ∙ sofar.width;
-      walked = λ info at. let w = sofar.walked info at in record {
-        stays = λ s. w.stays (one_left (StaysInside info held seen region.boxes area) ticks n lt (covers, (next, steps info at, s)));
-        leaves = λ leave l. w.leaves leave (one_left (λ q. Leaves info held seen region.boxes area n q leave) ticks n lt (inr (inr (covers, next, steps info at, l))));
-      };
-    }
+    pub walk_next : (next : List Side) → MeetsTableRules p → n < ticks → Covers region.boxes area → IsBoxAfterTick p k area held seen (Ok next)
+        → WalkSoFar p k region first held seen ticks next (suc n)
+    walk_next next rules lt covers steps =
+        let long : length next ≡ length sofar.step.plant.states.items = terms_long sofar.step.plant.next.items _ next (steps sofar.step.plant sofar.step.is)
+        ∙ (rules.plants k sofar.step.plant sofar.step.is).one_next in let same : length next ≡ length area = long ∙ sym sofar.step.states in record {
+          step = record { plant = sofar.step.plant; is = sofar.step.is; states = long; inputs = sofar.step.inputs; seen_are = sofar.step.seen_are };
+          width = same ∙ sofar.width;
+          walked = λ info at. let w = sofar.walked info at in record {
+            stays = λ s. w.stays (one_left (StaysInside info held seen region.boxes area) ticks n lt (covers, (next, steps info at, s)));
+            leaves =
+                λ leave l. w.leaves leave (one_left (λ q. Leaves info held seen region.boxes area n q leave) ticks n lt
+                (inr (inr (covers, next, steps info at, l))));
+          };
+        }
 
-    pub walk_out : (info : PlantInfo) (s : List ℤ) → At p.plants k info → n < ticks → IsGap region.boxes area s → Leaves info held seen region.boxes first 0 ticks (Out n area s)
-    walk_out info s at lt gap = (sofar.walked info at).leaves (Out n area s) (one_left (λ q. Leaves info held seen region.boxes area n q (Out n area s)) ticks n lt (inl (s, gap, refl)))
+    pub walk_out : (info : PlantInfo) (s : List ℤ) → At p.plants k info → n < ticks → IsGap region.boxes area s
+        → Leaves info held seen region.boxes first 0 ticks (Out n area s)
+    walk_out info s at lt gap =
+        (sofar.walked info at).leaves (Out n area s) (one_left (λ q. Leaves info held seen region.boxes area n q (Out n area s)) ticks n lt
+        (inl (s, gap, refl)))
 
-    pub walk_trap : (info : PlantInfo) (t : MayTrap) → At p.plants k info → n < ticks → Covers region.boxes area → IsBoxAfterTick p k area held seen (Err t) → Leaves info held seen region.boxes first 0 ticks (Trap n t.at)
-    walk_trap info t at lt covers steps = (sofar.walked info at).leaves (Trap n t.at) (one_left (λ q. Leaves info held seen region.boxes area n q (Trap n t.at)) ticks n lt (inr (inl (covers, t, steps info at, refl))))
+    pub walk_trap : (info : PlantInfo) (t : MayTrap) → At p.plants k info → n < ticks → Covers region.boxes area → IsBoxAfterTick p k area held seen (Err t)
+        → Leaves info held seen region.boxes first 0 ticks (Trap n t.at)
+    walk_trap info t at lt covers steps =
+        (sofar.walked info at).leaves (Trap n t.at) (one_left (λ q. Leaves info held seen region.boxes area n q (Trap n t.at)) ticks n lt
+        (inr (inl (covers, t, steps info at, refl))))
 
-  pub walk_out_last : (area : List Side) (info : PlantInfo) (s : List ℤ) → WalkSoFar p k region first held seen ticks area ticks → At p.plants k info → IsGap region.boxes area s → Leaves info held seen region.boxes first 0 ticks (Out ticks area s)
-  walk_out_last area info s sofar at gap = (sofar.walked info at).leaves (Out ticks area s) (none_left (λ q. Leaves info held seen region.boxes area ticks q (Out ticks area s)) ticks (s, gap, refl))
+  pub walk_out_last : (area : List Side) (info : PlantInfo) (s : List ℤ) → WalkSoFar p k region first held seen ticks area ticks → At p.plants k info
+      → IsGap region.boxes area s → Leaves info held seen region.boxes first 0 ticks (Out ticks area s)
+  walk_out_last area info s sofar at gap =
+      (sofar.walked info at).leaves (Out ticks area s) (none_left (λ q. Leaves info held seen region.boxes area ticks q (Out ticks area s)) ticks
+      (s, gap, refl))
 
-  pub walk_stays : (area : List Side) (info : PlantInfo) → WalkSoFar p k region first held seen ticks area ticks → At p.plants k info → Covers region.boxes area → StaysInside info held seen region.boxes first ticks
+  pub walk_stays : (area : List Side) (info : PlantInfo) → WalkSoFar p k region first held seen ticks area ticks → At p.plants k info → Covers region.boxes area
+      → StaysInside info held seen region.boxes first ticks
   walk_stays area info sofar at covers = (sofar.walked info at).stays (none_left (StaysInside info held seen region.boxes area) ticks covers)

@@ -15,11 +15,14 @@ and_then first second = record {
   Refuses = λ r. first.Refuses r ⊎ (first.Passes × second.Refuses r);
 }
 
--- a check of each entry of a list, in order: the refusal is that of the first entry that does not pass
+-- a check of each entry of a list, in order: the refusal is that of the first entry that does not
+-- pass
 abbrev pub for_each : {A : Type 0} → List A → (ℕ → A → Check) → Check
 for_each {A} xs check = record {
   Passes = (i : ℕ) (x : A) → At xs i x → (check i x).Passes;
-  Refuses = λ r. (i : ℕ) × (x : A) × At xs i x × (check i x).Refuses r × ((j : ℕ) (y : A) → j < i → At xs j y → (check j y).Passes);
+  Refuses =
+      λ r. (i : ℕ) × (x : A) × At xs i x × (check i x).Refuses r
+      × ((j : ℕ) (y : A) → j < i → At xs j y → (check j y).Passes);
 }
 
 -- a check of the thing that is named so
@@ -34,7 +37,8 @@ pub record IsLeastNumber (Property : ℕ → Type 0) (t : ℕ) : Type 0 where
   pub has : Property t
   pub least : (u : ℕ) → u < t → Property u → ⊥
 
--- a and b, a before b, clash over x; it is the least x of which this can be said, then the least a, then the least b
+-- a and b, a before b, clash over x; it is the least x of which this can be said, then the least a,
+-- then the least b
 pub record IsLeastClash (Clash : ℕ → ℕ → ℕ → Type 0) (x a b : ℕ) : Type 0 where
   pub before : a < b
   pub clash : Clash x a b

@@ -32,7 +32,8 @@ NoSharedOutput p =
 -- no plant belongs to two modules
 abbrev pub NoSharedPlant : Tables → Type 0
 NoSharedPlant p =
-    (m m' : ℕ) (a b : ModuleInfo) → At p.modules m a → At p.modules m' b → a.plant ≡ b.plant → m ≡ m'
+    (m m' : ℕ) (a b : ModuleInfo) → At p.modules m a → At p.modules m' b → a.plant ≡ b.plant
+    → m ≡ m'
 
 -- every input topic of a module's plant is written by the module's safe node
 abbrev pub NoForeignInput : Tables → ModuleInfo → Type 0
@@ -50,6 +51,9 @@ pub record IsComposed (p : Tables) : Type 0 where
 -- the same, with scalars in place of topics
 pub record IsComposedByScalars (p : Tables) : Type 0 where
   pub own_node : NoSharedNode p
-  pub own_output : (n n' : ℕ) (a b : NodeInfo) (k : ℕ) → At p.nodes n a → At p.nodes n' b → Has a.writes.items k → Has b.writes.items k → n ≢ n' → ArePartners p n n'
+  pub own_output : (n n' : ℕ) (a b : NodeInfo) (k : ℕ) → At p.nodes n a → At p.nodes n' b
+      → Has a.writes.items k → Has b.writes.items k → n ≢ n' → ArePartners p n n'
   pub own_plant : NoSharedPlant p
-  pub own_inputs : (m : ℕ) (a : ModuleInfo) (plant : PlantInfo) (sc : NodeInfo) (i k : ℕ) → At p.modules m a → At p.plants a.plant plant → At p.nodes a.sc sc → At plant.inputs.items i k → Has sc.writes.items k
+  pub own_inputs : (m : ℕ) (a : ModuleInfo) (plant : PlantInfo) (sc : NodeInfo) (i k : ℕ)
+      → At p.modules m a → At p.plants a.plant plant → At p.nodes a.sc sc
+      → At plant.inputs.items i k → Has sc.writes.items k

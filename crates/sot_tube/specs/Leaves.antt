@@ -1,5 +1,5 @@
--- How a tube leaves a region: at each tick, from 0 on, its box may have a point outside, and else the step
--- to the next tick may trap.
+-- How a tube leaves a region: at each tick, from 0 on, its box may have a point outside, and else
+-- the step to the next tick may trap.
 use Rattle.std.specs.Prelude.{ℕ, zero, suc, ℤ, List, Ok, Err, ◌≡◌, ◌⊎◌}
 use Rattle.sot_iv.specs.declared.may_trap.MayTrap.{MayTrap}
 pub use Rattle.sot_tube.specs.declared.leave.Leave.{Leave}
@@ -17,19 +17,24 @@ abbrev pub GoesOut : List (List Side) → List Side → ℕ → Leave → Type 0
 GoesOut region box n leave = (s : List ℤ) × IsGap region box s × (leave ≡ Out n box s)
 
 -- the tube of k ticks from a box, which is its box at tick n, first leaves the region in this way
-abbrev pub Leaves : PlantInfo → List Side → List Side → List (List Side) → List Side → ℕ → ℕ → Leave → Type 0
+abbrev pub Leaves : PlantInfo → List Side → List Side → List (List Side) → List Side → ℕ → ℕ → Leave
+    → Type 0
 Leaves plant commands seen region box n zero leave = GoesOut region box n leave
 Leaves plant commands seen region box n (suc k) leave =
     GoesOut region box n leave
-    ⊎ (Covers region box × (t : MayTrap) × IsNextBox plant box commands seen (Err t) × (leave ≡ Trap n t.at))
-    ⊎ (Covers region box × (b : List Side) × IsNextBox plant box commands seen (Ok b) × Leaves plant commands seen region b (suc n) k leave)
+    ⊎ (Covers region box × (t : MayTrap) × IsNextBox plant box commands seen (Err t)
+    × (leave ≡ Trap n t.at))
+    ⊎ (Covers region box × (b : List Side) × IsNextBox plant box commands seen (Ok b)
+    × Leaves plant commands seen region b (suc n) k leave)
 
 -- the tube with these commands from a box leaves a region in this way, within so many ticks
-pub record TubeLeaves (p : Tables) (plant : PlantInfo) (commands : List Side) (region : List (List Side)) (box : List Side) (k : ℕ) (leave : Leave) : Type 0 where
+pub record TubeLeaves (p : Tables) (plant : PlantInfo) (commands : List Side)
+    (region : List (List Side)) (box : List Side) (k : ℕ) (leave : Leave) : Type 0 where
   pub hulls : List (List Side)
   pub are : AreHulls p.modules plant.sees.items hulls
   pub leaves : Leaves plant commands (joined_boxes hulls) region box 0 k leave
 
 -- with commands anywhere in their types
 abbrev pub AnyTubeLeaves : Tables → PlantInfo → List (List Side) → List Side → ℕ → Leave → Type 0
-AnyTubeLeaves p plant region box k leave = TubeLeaves p plant (input_ranges p plant) region box k leave
+AnyTubeLeaves p plant region box k leave =
+    TubeLeaves p plant (input_ranges p plant) region box k leave

@@ -4,8 +4,8 @@ use Rattle.sot_text.specs.declared.token.Span.{Span}
 use Rattle.sot_lang.specs.declared.trap.TrapKind.{TrapKind}
 use Rattle.sot_box.specs.Sides.{Side}
 
--- why a program and its certificate are refused; contracts of a checker cite this. Modules, nodes, topics,
--- plants, cells and ticks are numbered from 0
+-- why a program and its certificate are refused; contracts of a checker cite this. Modules, nodes,
+-- topics, plants, cells and ticks are numbered from 0
 pub data Refusal : Type 0 where
   Periods : (module_no node : ℕ) → Refusal
   Outputs : (module_no topic : ℕ) → Refusal

@@ -11,14 +11,18 @@ use Rattle.sot_lang.specs.Ranges.{input_ranges}
 use Rattle.sot_lang.specs.SafeRegions.{AreHulls, joined_boxes}
 pub use Rattle.sot_iv.specs.PlantIntervals.{IsNextBox}
 
--- the region covers each box of the tube of k ticks from this box on, and no tick has a trapping operand
-abbrev pub StaysInside : PlantInfo → List Side → List Side → List (List Side) → List Side → ℕ → Type 0
+-- the region covers each box of the tube of k ticks from this box on, and no tick has a trapping
+-- operand
+abbrev pub StaysInside : PlantInfo → List Side → List Side → List (List Side) → List Side → ℕ
+    → Type 0
 StaysInside plant commands seen region box zero = Covers region box
 StaysInside plant commands seen region box (suc k) =
-    Covers region box × ((b : List Side) × IsNextBox plant box commands seen (Ok b) × StaysInside plant commands seen region b k)
+    Covers region box × ((b : List Side) × IsNextBox plant box commands seen (Ok b)
+    × StaysInside plant commands seen region b k)
 
 -- the tube with these commands from a box is inside a region
-pub record TubeInside (p : Tables) (plant : PlantInfo) (commands : List Side) (region : List (List Side)) (box : List Side) (k : ℕ) : Type 0 where
+pub record TubeInside (p : Tables) (plant : PlantInfo) (commands : List Side)
+    (region : List (List Side)) (box : List Side) (k : ℕ) : Type 0 where
   pub hulls : List (List Side)
   pub are : AreHulls p.modules plant.sees.items hulls
   pub stays : StaysInside plant commands (joined_boxes hulls) region box k
@@ -27,8 +31,10 @@ pub record TubeInside (p : Tables) (plant : PlantInfo) (commands : List Side) (r
 abbrev pub AnyTubeInside : Tables → PlantInfo → List (List Side) → List Side → ℕ → Type 0
 AnyTubeInside p plant region box k = TubeInside p plant (input_ranges p plant) region box k
 
--- from the point s on, the tube of twice the sum of the module's period and the jitter is inside its safe region
+-- from the point s on, the tube of twice the sum of the module's period and the jitter is inside
+-- its safe region
 pub record Keeps (p : Tables) (jitter : ℕ) (module_info : ModuleInfo) (s : List ℤ) : Type 0 where
   pub plant : PlantInfo
   pub is : At p.plants module_info.plant plant
-  pub inside : AnyTubeInside p plant module_info.safe.boxes (point_box s) (2 * (module_info.period + jitter))
+  pub inside : AnyTubeInside p plant module_info.safe.boxes (point_box s)
+      (2 * (module_info.period + jitter))

@@ -17,11 +17,15 @@ use Rattle.sot_iv.specs.TrapFree.{IsSafeExecution, IsTrapFree}
 use Rattle.sot_tube.specs.declared.leave.Leave.{Leave}
 use Rattle.sot_tube.specs.declared.leave.Leave.TheVariants.{Out, Trap}
 use Rattle.sot_tube.specs.Topics.{WritesTopic, IsInputTopic}
-use Rattle.sot_tube.specs.Composition.{UsesNode, ArePartners, NoSharedNode, NoSharedOutput, NoSharedPlant, NoForeignInput}
+use Rattle.sot_tube.specs.Composition.{UsesNode, ArePartners, NoSharedNode, NoSharedOutput}
+use Rattle.sot_tube.specs.Composition.{NoSharedPlant, NoForeignInput}
 use Rattle.sot_tube.specs.Modules.{AreShortPeriods, AreSameOutputs}
 use Rattle.sot_tube.specs.Leaves.{GoesOut, TubeLeaves, AnyTubeLeaves}
-use Rattle.sot_tube.specs.Certified.{HasCells, DraftsFrom, command_intervals, IsClosedCell, IsReachCell}
-use Rattle.sot_tube.specs.Refusals.{Refusal, Periods, Outputs, EmptyRegion, ClosedGap, ClosedTrap, ClosedLeaves, ReachGap, ReachLeaves, ReachTrap, SharedNode, SharedOutput, SharedPlant, ForeignInput, CodeMayTrap, NoCells}
+use Rattle.sot_tube.specs.Certified.{HasCells, DraftsFrom, command_intervals, IsClosedCell}
+use Rattle.sot_tube.specs.Certified.{IsReachCell}
+use Rattle.sot_tube.specs.Refusals.{Refusal, Periods, Outputs, EmptyRegion, ClosedGap, ClosedTrap}
+use Rattle.sot_tube.specs.Refusals.{ClosedLeaves, ReachGap, ReachLeaves, ReachTrap, SharedNode}
+use Rattle.sot_tube.specs.Refusals.{SharedOutput, SharedPlant, ForeignInput, CodeMayTrap, NoCells}
 use Rattle.sot_tube.specs.Checks.{Check, and_then, for_each, of_the, IsLeastNumber, IsLeastClash}
 
 -- 1. how modules are put together
@@ -34,7 +38,8 @@ ShareNode p n m m' =
 -- nodes n and n' write topic t, and are not the two nodes of a module
 abbrev pub ShareOutput : Tables → ℕ → ℕ → ℕ → Type 0
 ShareOutput p t n n' =
-    (a b : NodeInfo) × At p.nodes n a × At p.nodes n' b × WritesTopic p a t × WritesTopic p b t × (ArePartners p n n' → ⊥)
+    (a b : NodeInfo) × At p.nodes n a × At p.nodes n' b × WritesTopic p a t × WritesTopic p b t
+    × (ArePartners p n n' → ⊥)
 
 -- modules m and m' name plant k
 abbrev pub SharePlant : Tables → ℕ → ℕ → ℕ → Type 0
@@ -74,7 +79,8 @@ foreign_input p m a = record {
 -- the checks of how all modules are put together, in order
 abbrev pub composition : Tables → Check
 composition p =
-    and_then (shared_node p) (and_then (shared_output p) (and_then (shared_plant p) (for_each p.modules (foreign_input p))))
+    and_then (shared_node p) (and_then (shared_output p)
+    (and_then (shared_plant p) (for_each p.modules (foreign_input p))))
 
 -- 2. the shape of a module
 
@@ -86,7 +92,8 @@ IsLonger p a n = (node : NodeInfo) × At p.nodes n node × (a.period < node.peri
 abbrev pub IsWrittenByOne : Tables → ModuleInfo → ℕ → Type 0
 IsWrittenByOne p a t =
     (ac sc : NodeInfo) × At p.nodes a.ac ac × At p.nodes a.sc sc
-    × ((WritesTopic p ac t × (WritesTopic p sc t → ⊥)) ⊎ (WritesTopic p sc t × (WritesTopic p ac t → ⊥)))
+    × ((WritesTopic p ac t × (WritesTopic p sc t → ⊥))
+    ⊎ (WritesTopic p sc t × (WritesTopic p ac t → ⊥)))
 
 abbrev pub entry : Cert → ℕ → Check
 entry cert m = record {
@@ -120,14 +127,17 @@ boxes m a = record {
 
 -- the checks of a module's shape, in order
 abbrev pub shape : Tables → Cert → ℕ → ModuleInfo → Check
-shape p cert m a = and_then (entry cert m) (and_then (periods p m a) (and_then (outputs p m a) (boxes m a)))
+shape p cert m a =
+    and_then (entry cert m) (and_then (periods p m a) (and_then (outputs p m a) (boxes m a)))
 
 -- 3. coded nodes
 
 abbrev pub trap_free : Tables → ℕ → NodeInfo → List Act → Check
 trap_free p n node acts = record {
   Passes = IsTrapFree p node acts;
-  Refuses = λ r. (t : MayTrap) × IsSafeExecution p node acts (Err t) × (r ≡ CodeMayTrap n t.at t.kind t.lo t.hi);
+  Refuses =
+      λ r. (t : MayTrap) × IsSafeExecution p node acts (Err t)
+      × (r ≡ CodeMayTrap n t.at t.kind t.lo t.hi);
 }
 
 abbrev pub code : Tables → ℕ → NodeInfo → Check
@@ -156,28 +166,37 @@ reach_cover m a cells = record {
   Refuses = λ r. (s : List ℤ) × IsFirstGap a.safer.boxes cells.reach.boxes s × (r ≡ ReachGap m s);
 }
 
--- how the held tube of a closed cell leaves: a cell that the safe region does not cover leaves at tick 0, whatever the
--- safe node drafts there
-abbrev pub ClosedCellLeaves : Tables → ℕ → ModuleInfo → PlantInfo → NodeInfo → List Act → List Side → Leave → Type 0
+-- how the held tube of a closed cell leaves: a cell that the safe region does not cover leaves at
+-- tick 0, whatever the safe node drafts there
+abbrev pub ClosedCellLeaves : Tables → ℕ → ModuleInfo → PlantInfo → NodeInfo → List Act → List Side
+    → Leave → Type 0
 ClosedCellLeaves p jitter a plant sc acts cell leave =
     GoesOut a.safe.boxes cell 0 leave
     ⊎ (Covers a.safe.boxes cell × (fired : Intervals) × DraftsFrom p a sc acts cell fired
-    × TubeLeaves p plant (command_intervals p plant sc fired.draft) a.safe.boxes cell (sc.period + jitter) leave)
+    × TubeLeaves p plant (command_intervals p plant sc fired.draft) a.safe.boxes cell
+    (sc.period + jitter) leave)
 
-abbrev pub closed_cell : Tables → ℕ → ℕ → ModuleInfo → PlantInfo → NodeInfo → List Act → ℕ → List Side → Check
+abbrev pub closed_cell : Tables → ℕ → ℕ → ModuleInfo → PlantInfo → NodeInfo → List Act → ℕ
+    → List Side → Check
 closed_cell p jitter m a plant sc acts i cell = record {
   Passes = IsClosedCell p jitter a plant sc acts cell;
-  Refuses = λ r. (leave : Leave) × ClosedCellLeaves p jitter a plant sc acts cell leave × (r ≡ closed_refusal m i leave);
+  Refuses =
+      λ r. (leave : Leave) × ClosedCellLeaves p jitter a plant sc acts cell leave
+      × (r ≡ closed_refusal m i leave);
 }
 
 abbrev pub reach_cell : Tables → ℕ → ℕ → ModuleInfo → PlantInfo → ℕ → List Side → Check
 reach_cell p jitter m a plant i cell = record {
   Passes = IsReachCell p jitter a plant cell;
-  Refuses = λ r. (leave : Leave) × AnyTubeLeaves p plant a.safe.boxes cell (2 * (a.period + jitter)) leave × (r ≡ reach_refusal m i leave);
+  Refuses =
+      λ r. (leave : Leave) × AnyTubeLeaves p plant a.safe.boxes cell (2 * (a.period + jitter)) leave
+      × (r ≡ reach_refusal m i leave);
 }
 
--- the checks of a module's cells, in order, given its plant, its safe node, that node's body and the cells
-abbrev pub cell_checks : Tables → ℕ → ℕ → ModuleInfo → PlantInfo → NodeInfo → List Act → Cells → Check
+-- the checks of a module's cells, in order, given its plant, its safe node, that node's body and
+-- the cells
+abbrev pub cell_checks : Tables → ℕ → ℕ → ModuleInfo → PlantInfo → NodeInfo → List Act → Cells
+    → Check
 cell_checks p jitter m a plant sc acts cells =
     and_then (closed_cover m a cells)
     (and_then (for_each cells.closed.boxes (closed_cell p jitter m a plant sc acts))
@@ -185,10 +204,12 @@ cell_checks p jitter m a plant sc acts cells =
 
 abbrev pub cells_of : Tables → ℕ → Cert → ℕ → ModuleInfo → Check
 cells_of p jitter cert m a =
-    of_the (At p.plants a.plant) (λ plant. of_the (At p.nodes a.sc) (λ sc. of_the (IsCoded sc) (λ acts.
+    of_the (At p.plants a.plant) (λ plant.
+    of_the (At p.nodes a.sc) (λ sc. of_the (IsCoded sc) (λ acts.
     of_the (HasCells cert m) (λ cells. cell_checks p jitter m a plant sc acts cells))))
 
--- all checks: how the modules are put together, then the shape of each, then each coded node, then the cells of each module
+-- all checks: how the modules are put together, then the shape of each, then each coded node, then
+-- the cells of each module
 abbrev pub verdict : Tables → ℕ → Cert → Check
 verdict p jitter cert =
     and_then (composition p)

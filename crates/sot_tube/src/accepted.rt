@@ -6,7 +6,8 @@ ghost use Rattle.sot_tube.specs.Certified.{IsWellCertified};
 use sot_lang::{Cert, Typed};
 use std::marker::Model;
 
-/// A program that is well certified by its certificate: all conditions hold, as long as this value lives.
+/// A program that is well certified by its certificate: all conditions hold, as long as this value
+/// lives.
 #[derive(Drop)]
 pub struct Accepted<'a> {
     program: &'a Typed,
@@ -27,7 +28,8 @@ impl<'a> Model for Accepted<'a> {
 
     ghost view = { λ a. record { program = a.program.now; cert = a.cert.now } };
 
-    ghost invariant = { λ a. MeetsTableRules a.program.now × IsWellCertified a.program.now a.cert.now.jitter a.cert.now };
+    ghost invariant = { λ a. MeetsTableRules a.program.now
+        × IsWellCertified a.program.now a.cert.now.jitter a.cert.now };
 }
 
 impl<'a> Accepted<'a> {

@@ -21,7 +21,8 @@ fn lies_in(b: &BoxN, other: &BoxN) -> bool
     true
 }
 
-/// Whether it is seen that a region covers a box if it covers the next one: the box lies in that one, or is covered by itself.
+/// Whether it is seen that a region covers a box if it covers the next one: the box lies in that
+/// one, or is covered by itself.
 pub(crate) fn is_covered_with(region: &Region, area: &BoxN, next: &BoxN) -> bool
     requires same { length area.now ≡ length next.now }
     requires width { length area.now ≡ region.now.width }

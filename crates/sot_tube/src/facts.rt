@@ -1,11 +1,22 @@
-//! Worked examples of the definitions: each of these functions does nothing, and its contract is what a person worked out.
+//! Worked examples of the definitions: each of these functions does nothing, and its contract is
+//! what a person worked out.
 
 ghost use Rattle.std.specs.Global.{Global};
-ghost use Rattle.sot_tube.specs.Examples.{LineIsCertified, KeptAt12, JitterIsTwice, TubesOfTheLine, CommandsAreSureOrWhole, WholeCellLeaves, WideCellLeavesAtOnce, SeenPlantsAreInHulls, OutComesBeforeTrap, UnreadPlantsAreNoPremise};
-ghost use Rattle.sot_tube.specs.RefusalExamples.{WideReachIsRefused, OneClosedCellIsRefused, GapsAreRefused, LongPeriodsAreRefused, OtherOutputsAreRefused, EmptyRegionsAreRefused, SharedNodesAreRefused, SharedOutputsAreRefused, ForeignInputsAreRefused, TrapsAreRefused, ShapeIsWellFormed, CrossedNodesAreRefused, RivalsAreRefusedInOrder, OtherTopicsAreNoInputs, VerdictsAreInOrder, TrapsOfCellsAreRefused};
+ghost use Rattle.sot_tube.specs.Examples.{LineIsCertified, KeptAt12, JitterIsTwice, TubesOfTheLine};
+ghost use Rattle.sot_tube.specs.Examples.{CommandsAreSureOrWhole, WholeCellLeaves};
+ghost use Rattle.sot_tube.specs.Examples.{WideCellLeavesAtOnce, SeenPlantsAreInHulls};
+ghost use Rattle.sot_tube.specs.Examples.{OutComesBeforeTrap, UnreadPlantsAreNoPremise};
+ghost use Rattle.sot_tube.specs.RefusalExamples.{WideReachIsRefused, OneClosedCellIsRefused};
+ghost use Rattle.sot_tube.specs.RefusalExamples.{GapsAreRefused, LongPeriodsAreRefused};
+ghost use Rattle.sot_tube.specs.RefusalExamples.{OtherOutputsAreRefused, EmptyRegionsAreRefused};
+ghost use Rattle.sot_tube.specs.RefusalExamples.{SharedNodesAreRefused, SharedOutputsAreRefused};
+ghost use Rattle.sot_tube.specs.RefusalExamples.{ForeignInputsAreRefused, TrapsAreRefused};
+ghost use Rattle.sot_tube.specs.RefusalExamples.{ShapeIsWellFormed, CrossedNodesAreRefused};
+ghost use Rattle.sot_tube.specs.RefusalExamples.{RivalsAreRefusedInOrder, OtherTopicsAreNoInputs};
+ghost use Rattle.sot_tube.specs.RefusalExamples.{VerdictsAreInOrder, TrapsOfCellsAreRefused};
 
-/// The running example is well certified; what is well formed asks for more than safety needs, and no unread plant makes it
-/// hold for nothing.
+/// The running example is well certified; what is well formed asks for more than safety needs, and
+/// no unread plant makes it hold for nothing.
 pub fn line_is_certified()
     ensures line { (g : Global) → LineIsCertified g }
     ensures shapes { (g : Global) → ShapeIsWellFormed g }

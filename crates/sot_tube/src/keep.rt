@@ -24,12 +24,14 @@ fn box_at(s: &Point) -> BoxN
     BoxN::of(sides.as_slice()).unwrap()
 }
 
-/// Whether a module keeps its plant inside its safe region from a point on for two of its periods, each longer by the jitter,
-/// whatever the commands: the tube of so many ticks from the box of that point is inside. Takes no memory.
+/// Whether a module keeps its plant inside its safe region from a point on for two of its periods,
+/// each longer by the jitter, whatever the commands: the tube of so many ticks from the box of that
+/// point is inside. Takes no memory.
 pub fn keeps(p: &Typed, module: u32, s: &Point, jitter: u32) -> bool
     requires follow { MayFollow p.now «module» (point_box s.now) }
     requires jitter { jitter < 1000 }
-    ensures { (a : ModuleInfo) → At p.now.modules «module» a → IsTrue result ↔ Keeps p.now jitter a s.now }
+    ensures { (a : ModuleInfo) → At p.now.modules «module» a
+        → IsTrue result ↔ Keeps p.now jitter a s.now }
 {
     let period = p.modules[module as usize].period;
     any_inside(p, module, &box_at(s), 2 * (period + jitter)).is_ok()

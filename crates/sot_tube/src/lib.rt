@@ -1,4 +1,5 @@
-//! Tubes of boxes that hold each point a plant can come to, and what a certificate of such boxes shows of a program.
+//! Tubes of boxes that hold each point a plant can come to, and what a certificate of such boxes
+//! shows of a program.
 #![tactic(auto)]
 
 mod accepted;

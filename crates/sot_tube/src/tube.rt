@@ -8,8 +8,9 @@ use sot_box::{BoxN, Interval};
 use sot_iv::{Ranges, put_types, seen_hulls};
 use sot_lang::Typed;
 
-/// Whether the tube of a module's plant from a box, with commands in these intervals, one for each input of the plant, is
-/// inside the module's safe region for so many ticks; else how it first leaves. Takes no memory.
+/// Whether the tube of a module's plant from a box, with commands in these intervals, one for each
+/// input of the plant, is inside the module's safe region for so many ticks; else how it first
+/// leaves. Takes no memory.
 pub fn held_inside(
     p: &Typed,
     module: u32,
@@ -31,8 +32,8 @@ pub fn held_inside(
     walk(p, info.plant, &info.safe, b, held, seen.as_slice(), ticks)
 }
 
-/// Whether the tube of a module's plant from a box, with commands anywhere in their types, is inside the module's safe region
-/// for so many ticks; else how it first leaves. Takes no memory.
+/// Whether the tube of a module's plant from a box, with commands anywhere in their types, is
+/// inside the module's safe region for so many ticks; else how it first leaves. Takes no memory.
 pub fn any_inside(p: &Typed, module: u32, b: &BoxN, ticks: u32) -> Result<(), Leave>
     requires { MayFollow p.now «module» b.now }
     ensures { AnswersAnyTube p.now «module» b.now ticks result }

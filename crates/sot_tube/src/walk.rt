@@ -38,7 +38,8 @@ pub(crate) fn walk(
     }
 }
 
-// Whether it is seen that the tube stays inside. Most tubes grow: where a box lies in the next one, that one alone is tested.
+// Whether it is seen that the tube stays inside. Most tubes grow: where a box lies in the next one,
+// that one alone is tested.
 fn stays(
     p: &Typed,
     plant: u32,
@@ -51,7 +52,8 @@ fn stays(
     requires rules { MeetsTableRules p.now }
     requires step { MayTickBox p.now plant b.now held.now seen.now }
     requires width { length b.now ≡ region.now.width }
-    ensures { result ≡ true → (info : PlantInfo) → At p.now.plants plant info → StaysInside info held.now seen.now region.now.boxes b.now ticks }
+    ensures { result ≡ true → (info : PlantInfo) → At p.now.plants plant info
+        → StaysInside info held.now seen.now region.now.boxes b.now ticks }
 {
     let mut area = *b;
     let mut names = Ranges::none();

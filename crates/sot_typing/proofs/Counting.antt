@@ -74,11 +74,14 @@ few_left c (a_module m) ds few = record {
 }
 
 -- a declaration among those that are left
-pub left_are : (xs : List Decl) (i : ℕ) (x : Decl) → i < length xs → x ≡ get_or xs i x → map declaration_view (drop i xs) ≡ declaration_view x ∷ map declaration_view (drop (i + 1) xs)
+pub left_are : (xs : List Decl) (i : ℕ) (x : Decl) → i < length xs → x ≡ get_or xs i x
+    → map declaration_view (drop i xs) ≡ declaration_view x ∷ map declaration_view (drop (i + 1) xs)
 left_are xs i x lt e = ap (map declaration_view) (rest_is xs i x lt e)
 
 -- one declaration is numbered, and then those that are left
-pub step_numbers : (xs : List Decl) (i : ℕ) (x : Decl) (c now : Counts) (n : Number) (out more all : List Number) → i < length xs → x ≡ get_or xs i x → n ≡ numbered c (declaration_view x) → now ≡ counted c (declaration_view x) → more ≡ out ++ n ∷ [] → out ++ numbers_from c (map declaration_view (drop i xs)) ≡ all → more ++ numbers_from now (map declaration_view (drop (i + 1) xs)) ≡ all
+pub step_numbers : (xs : List Decl) (i : ℕ) (x : Decl) (c now : Counts) (n : Number) (out more all : List Number) → i < length xs → x ≡ get_or xs i x
+    → n ≡ numbered c (declaration_view x) → now ≡ counted c (declaration_view x) → more ≡ out ++ n ∷ []
+    → out ++ numbers_from c (map declaration_view (drop i xs)) ≡ all → more ++ numbers_from now (map declaration_view (drop (i + 1) xs)) ≡ all
 step_numbers xs i x c now n out more all lt e is counts pushed inv =
     let ds = map declaration_view (drop (i + 1) xs) in
     ap (λ z. z ++ numbers_from now ds) pushed

@@ -1,5 +1,6 @@
 -- How many things a program may declare, and that names tell them apart.
-use Rattle.std.proofs.Common.{◌≡◌, ◌∙◌, ℕ, suc, ◌+◌, ◌<◌, ◌≤◌, ◌⊎◌, inl, inr, List, [], ◌∷◌, ◌++◌, map, length, filter_map, refl, sym, ap, subst, Option, Some, None, option_map, arith}
+use Rattle.std.proofs.Common.{◌≡◌, ◌∙◌, ℕ, suc, ◌+◌, ◌<◌, ◌≤◌, ◌⊎◌, inl, inr, List, [], ◌∷◌, ◌++◌, map, length, filter_map, refl, sym, ap, subst, Option, Some}
+use Rattle.std.proofs.Common.{None, option_map, arith}
 use Rattle.std.specs.List.{cons_option}
 use Rattle.sot_lists.specs.Places.{At}
 use Rattle.sot_text.specs.declared.token.Span.{Span}
@@ -25,16 +26,20 @@ use Rattle.sot_typing.proofs.Meanings.{topic_is, plant_is, node_is, module_is, t
 use Rattle.sot_typing.proofs.Seen.{AreSeen, of_topic, of_plant, of_node, of_module, topic_length, plant_length, node_length, module_length}
 
 -- as many things as names
-kept_length : {A X : Type 0} (pick : A → Option X) (name : A → Option Ident) (of : X → Ident) → ((d : A) → name d ≡ option_map of (pick d)) → (ds : List A) → length (filter_map name ds) ≡ length (filter_map pick ds)
+kept_length : {A X : Type 0} (pick : A → Option X) (name : A → Option Ident) (of : X → Ident) → ((d : A) → name d ≡ option_map of (pick d)) → (ds : List A)
+    → length (filter_map name ds) ≡ length (filter_map pick ds)
 kept_length pick name of h [] = refl
 kept_length {X = X} pick name of h (d ∷ ds) = by (pick d) (h d) (kept_length pick name of h ds)
   where
-    by : (o : Option X) → name d ≡ option_map of o → length (filter_map name ds) ≡ length (filter_map pick ds) → length (cons_option (name d) (filter_map name ds)) ≡ length (cons_option o (filter_map pick ds))
+    by : (o : Option X) → name d ≡ option_map of o → length (filter_map name ds) ≡ length (filter_map pick ds)
+        → length (cons_option (name d) (filter_map name ds)) ≡ length (cons_option o (filter_map pick ds))
     by None e r = ap (λ x. length (cons_option x (filter_map name ds))) e ∙ r
     by (Some x) e r = ap (λ x. length (cons_option x (filter_map name ds))) e ∙ ap suc r
 
 -- at most as many things as names
-pub within : {X : Type 0} (pick : Declaration → Option X) (name : Declaration → Option Ident) (of : X → Ident) → ((d : Declaration) → name d ≡ option_map of (pick d)) → (p : Program) (limit : ℕ) → ((at : Span) → IsPast limit (places (names_of name p)) at → ⊥) → length (filter_map pick p.decls) ≤ limit
+pub within : {X : Type 0} (pick : Declaration → Option X) (name : Declaration → Option Ident) (of : X → Ident)
+    → ((d : Declaration) → name d ≡ option_map of (pick d)) → (p : Program) (limit : ℕ) → ((at : Span) → IsPast limit (places (names_of name p)) at → ⊥)
+    → length (filter_map pick p.decls) ≤ limit
 within pick name of h p limit none =
     let a = not_past limit (λ (i : Ident). i.at) (filter_map name p.decls) none in
     let b = kept_length pick name of h p.decls in
@@ -75,7 +80,8 @@ abbrev NamedBy : Program → (ℕ → Type 0) → List (List ℕ) → Type 0
 NamedBy p R names = (k : ℕ) (name : List ℕ) → At names k name → (j : ℕ) × (d : Declaration) × At p.decls j d × ((declared_name d).name ≡ name) × R (rank d)
 
 -- lists of names of different ranks
-both_distinct : (p : Program) → IsFaultless p → (n : ℕ) (xs ys : List (List ℕ)) → AreDistinct xs → AreDistinct ys → NamedBy p (λ r. r < n) xs → NamedBy p (λ r. r ≡ n) ys → AreDistinct (xs ++ ys)
+both_distinct : (p : Program) → IsFaultless p → (n : ℕ) (xs ys : List (List ℕ)) → AreDistinct xs → AreDistinct ys → NamedBy p (λ r. r < n) xs
+    → NamedBy p (λ r. r ≡ n) ys → AreDistinct (xs ++ ys)
 both_distinct p f n xs ys dx dy x y i j name a b = by (of_append xs ys i name a) (of_append xs ys j name b)
   where
     never : (i j : ℕ) → At xs i name → At ys j name → ⊥
@@ -98,12 +104,15 @@ both_distinct p f n xs ys dx dy x y i j name a b = by (of_append xs ys i name a)
 both_named : (p : Program) (n : ℕ) (xs ys : List (List ℕ)) → NamedBy p (λ r. r < n) xs → NamedBy p (λ r. r ≡ n) ys → NamedBy p (λ r. r < suc n) (xs ++ ys)
 both_named p n xs ys x y k name a = by (of_append xs ys k name a)
   where
-    by : At xs k name ⊎ ((j : ℕ) × At ys j name × (k ≡ length xs + j)) → (j : ℕ) × (d : Declaration) × At p.decls j d × ((declared_name d).name ≡ name) × (rank d < suc n)
+    by : At xs k name ⊎ ((j : ℕ) × At ys j name × (k ≡ length xs + j))
+        → (j : ℕ) × (d : Declaration) × At p.decls j d × ((declared_name d).name ≡ name) × (rank d < suc n)
     by (inl u) = (let r = x k name u in (r.0, r.1, r.2, r.3, (let l = r.4 in omega arith)))
     by (inr u) = (let r = y u.0 name u.1 in (r.0, r.1, r.2, r.3, (let l = r.4 in omega arith)))
 
 -- the names of one sort
-module _ {X I : Type 0} (p : Program) (f : IsFaultless p) (pick : Declaration → Option X) (of : X → Ident) (link : (d : Declaration) (x : X) → pick d ≡ Some x → declared_name d ≡ of x) (infos : List I) (shown : I → List ℕ) (from : (k : ℕ) (i : I) → At infos k i → (x : X) × At (filter_map pick p.decls) k x × ((of x).name ≡ shown i)) where
+module _ {X I : Type 0} (p : Program) (f : IsFaultless p) (pick : Declaration → Option X) (of : X → Ident)
+    (link : (d : Declaration) (x : X) → pick d ≡ Some x → declared_name d ≡ of x) (infos : List I) (shown : I → List ℕ)
+    (from : (k : ℕ) (i : I) → At infos k i → (x : X) × At (filter_map pick p.decls) k x × ((of x).name ≡ shown i)) where
   one_distinct : AreDistinct (map shown infos)
   one_distinct i j name a b =
       let u = at_mapped shown infos i name a in
@@ -136,16 +145,23 @@ module_rank d m e = ap rank (module_is d m e)
 
 module _ (p : Program) (t : Tables) (s : AreSeen p t) (f : IsFaultless p) where
   pub few_topics : length t.topics ≤ 512
-  few_topics = subst (λ n. n ≤ 512) (sym (topic_length p t s)) (within a_topic_of topic_name (λ (t : Topic). t.name) topic_names p 512 (λ at h. f at TooMany (many_topics h)))
+  few_topics =
+      subst (λ n. n ≤ 512) (sym (topic_length p t s)) (within a_topic_of topic_name (λ (t : Topic). t.name) topic_names p 512
+      (λ at h. f at TooMany (many_topics h)))
 
   pub few_plants : length t.plants ≤ 100
-  few_plants = subst (λ n. n ≤ 100) (sym (plant_length p t s)) (within a_plant_of plant_name (λ (q : Plant). q.name) plant_names p 100 (λ at h. f at TooMany (many_plants h)))
+  few_plants =
+      subst (λ n. n ≤ 100) (sym (plant_length p t s)) (within a_plant_of plant_name (λ (q : Plant). q.name) plant_names p 100
+      (λ at h. f at TooMany (many_plants h)))
 
   pub few_nodes : length t.nodes ≤ 300
-  few_nodes = subst (λ n. n ≤ 300) (sym (node_length p t s)) (within a_node_of node_name (λ (n : Node). n.name) node_names p 300 (λ at h. f at TooMany (many_nodes h)))
+  few_nodes =
+      subst (λ n. n ≤ 300) (sym (node_length p t s)) (within a_node_of node_name (λ (n : Node). n.name) node_names p 300 (λ at h. f at TooMany (many_nodes h)))
 
   pub few_modules : length t.modules ≤ 100
-  few_modules = subst (λ n. n ≤ 100) (sym (module_length p t s)) (within a_module_of module_name (λ (m : Module). m.name) module_names p 100 (λ at h. f at TooMany (many_modules h)))
+  few_modules =
+      subst (λ n. n ≤ 100) (sym (module_length p t s)) (within a_module_of module_name (λ (m : Module). m.name) module_names p 100
+      (λ at h. f at TooMany (many_modules h)))
 
   from_topic : (k : ℕ) (i : TopicInfo) → At t.topics k i → (x : Topic) × At (topics p) k x × (x.name.name ≡ i.name)
   from_topic k i a = (let r = of_topic p t s k i a in (r.0, r.1, ap (λ (y : TopicInfo). y.name) r.2))

@@ -9,7 +9,8 @@ use Rattle.sot_tree.specs.Trees.{Tree, Trees, binary, rest, negated, denied, cal
 use Rattle.sot_rules.specs.declared.fault.TypeKind.{TypeKind}
 use Rattle.sot_rules.specs.declared.expressions.sort.Sort.{Sort}
 use Rattle.sot_rules.specs.declared.expressions.sort.Sort.TheVariants.{Scaled}
-use Rattle.sot_rules.specs.Sorts.{is_truthful, is_scaled, differ, kinds_misfit, scales_misfit, operator_sort, unless, given, some_differ, call_sort, branches_misfit}
+use Rattle.sot_rules.specs.Sorts.{is_truthful, is_scaled, differ, kinds_misfit, scales_misfit, operator_sort, unless, given, some_differ, call_sort}
+use Rattle.sot_rules.specs.Sorts.{branches_misfit}
 use Rattle.sot_rules.specs.Names.{Thing}
 use Rattle.sot_rules.specs.TreeSorts.{is_no_scale, sort, sorts}
 use Rattle.sot_rules.specs.Faults.{when, misfits, tree_faults, parts_faults}
@@ -62,10 +63,13 @@ module _ (names : List Thing) (op : Op) (l r : Tree) (at : Span) (e : Tree) (is 
     pub scales_fit : scales_misfit op a.sort b.sort ≡ false
     scales_fit = ap₂ (scales_misfit op) p.sort q.sort ∙ binary_fits.1
 
-    pub joined_is : (m : Sorted) → IsSorted (to.binary op (formula_view a.term) (formula_view b.term) at) (given a.sort (given b.sort (operator_sort op a.sort b.sort))) m → IsSorted (formula_of names e) (sort names e) m
+    pub joined_is : (m : Sorted) → IsSorted (to.binary op (formula_view a.term) (formula_view b.term) at)
+        (given a.sort (given b.sort (operator_sort op a.sort b.sort))) m → IsSorted (formula_of names e) (sort names e) m
     joined_is m d = record {
       form = d.form ∙ ap₂ (λ x y. to.binary op x y at) p.form q.form ∙ sym (ap (formula_of names) is);
-      sort = d.sort ∙ ap₂ (λ x y. given x (given y (operator_sort op x y))) p.sort q.sort ∙ sym (neither _ _ _ binary_fits.0 binary_fits.1) ∙ sym (ap (sort names) is);
+      sort =
+          d.sort ∙ ap₂ (λ x y. given x (given y (operator_sort op x y))) p.sort q.sort ∙ sym (neither _ _ _ binary_fits.0 binary_fits.1)
+          ∙ sym (ap (sort names) is);
       decimals = d.decimals;
     }
 
@@ -86,10 +90,13 @@ module _ (names : List Thing) (part : Tree) (at : Span) (e : Tree) (is : e ≡ n
   pub negated_part : tree_faults names part ≡ []
   negated_part = nil_left _ _ negated_faults
 
-  pub negated_is : (a : Sorted) → IsSorted (formula_of names part) (sort names part) a → (m : Sorted) → IsSorted (to.negated (formula_view a.term) at) a.sort m → IsSorted (formula_of names e) (sort names e) m
+  pub negated_is : (a : Sorted) → IsSorted (formula_of names part) (sort names part) a → (m : Sorted) → IsSorted (to.negated (formula_view a.term) at) a.sort m
+      → IsSorted (formula_of names e) (sort names e) m
   negated_is a p m q = record {
     form = q.form ∙ ap (λ x. to.negated x at) p.form ∙ sym (ap (formula_of names) is);
-    sort = q.sort ∙ p.sort ∙ sym (holds _ _ (when_not (is_truthful (sort names part)) at _ (nil_right (tree_faults names part) _ negated_faults))) ∙ sym (ap (sort names) is);
+    sort =
+        q.sort ∙ p.sort ∙ sym (holds _ _ (when_not (is_truthful (sort names part)) at _ (nil_right (tree_faults names part) _ negated_faults)))
+        ∙ sym (ap (sort names) is);
     decimals = q.decimals;
   }
 
@@ -100,10 +107,13 @@ module _ (names : List Thing) (part : Tree) (at : Span) (e : Tree) (is : e ≡ d
   pub denied_part : tree_faults names part ≡ []
   denied_part = nil_left _ _ denied_faults
 
-  pub denied_is : (a : Sorted) → IsSorted (formula_of names part) (sort names part) a → (m : Sorted) → IsSorted (to.denied (formula_view a.term) at) a.sort m → IsSorted (formula_of names e) (sort names e) m
+  pub denied_is : (a : Sorted) → IsSorted (formula_of names part) (sort names part) a → (m : Sorted) → IsSorted (to.denied (formula_view a.term) at) a.sort m
+      → IsSorted (formula_of names e) (sort names e) m
   denied_is a p m q = record {
     form = q.form ∙ ap (λ x. to.denied x at) p.form ∙ sym (ap (formula_of names) is);
-    sort = q.sort ∙ p.sort ∙ sym (holds _ _ (when_not (is_scaled (sort names part)) at _ (nil_right (tree_faults names part) _ denied_faults))) ∙ sym (ap (sort names) is);
+    sort =
+        q.sort ∙ p.sort ∙ sym (holds _ _ (when_not (is_scaled (sort names part)) at _ (nil_right (tree_faults names part) _ denied_faults)))
+        ∙ sym (ap (sort names) is);
     decimals = q.decimals;
   }
 
@@ -120,7 +130,9 @@ module _ (names : List Thing) (part : Tree) (d : Lit) (at : Span) (e : Tree) (is
   is_number : is_truthful (sort names part) ≡ false
   is_number = when_not (is_truthful (sort names part)) at _ (nil_left _ _ (nil_right (tree_faults names part) _ rescaled_faults))
 
-  pub rescaled_is : (a : Sorted) → IsSorted (formula_of names part) (sort names part) a → (m : Sorted) → IsSorted (to.rescaled (formula_view a.term) (sort_scale a.sort) (nat_abs d.mantissa) at) (given a.sort (Scaled (nat_abs d.mantissa))) m → IsSorted (formula_of names e) (sort names e) m
+  pub rescaled_is : (a : Sorted) → IsSorted (formula_of names part) (sort names part) a → (m : Sorted)
+      → IsSorted (to.rescaled (formula_view a.term) (sort_scale a.sort) (nat_abs d.mantissa) at) (given a.sort (Scaled (nat_abs d.mantissa))) m
+      → IsSorted (formula_of names e) (sort names e) m
   rescaled_is a p m q = record {
     form = q.form ∙ ap₂ (λ x s. to.rescaled x (sort_scale s) (nat_abs d.mantissa) at) p.form p.sort ∙ sym (ap (formula_of names) is);
     sort = q.sort ∙ ap (λ s. given s (Scaled (nat_abs d.mantissa))) p.sort ∙ sym (neither _ _ _ is_number is_scale) ∙ sym (ap (sort names) is);
@@ -134,7 +146,8 @@ module _ (names : List Thing) (c l r : Tree) (at : Span) (e : Tree) (is : e ≡ 
   pub condition : tree_faults names c ≡ []
   condition = nil_left _ _ chosen_faults
 
-  branches : tree_faults names l ++ (tree_faults names r ++ misfits (branches_misfit (sort names c) (sort names l) (sort names r)) (differ (sort names l) (sort names r)) at) ≡ []
+  branches : tree_faults names l ++ (tree_faults names r ++ misfits (branches_misfit (sort names c) (sort names l) (sort names r))
+      (differ (sort names l) (sort names r)) at) ≡ []
   branches = nil_right (tree_faults names c) _ chosen_faults
 
   pub first_branch : tree_faults names l ≡ []
@@ -146,11 +159,17 @@ module _ (names : List Thing) (c l r : Tree) (at : Span) (e : Tree) (is : e ≡ 
   branches_fit : (branches_misfit (sort names c) (sort names l) (sort names r) ≡ false) × (differ (sort names l) (sort names r) ≡ false)
   branches_fit = misfits_not _ _ at (nil_right (tree_faults names r) _ (nil_right (tree_faults names l) _ branches))
 
-  module _ (k a b : Sorted) (o : IsSorted (formula_of names c) (sort names c) k) (p : IsSorted (formula_of names l) (sort names l) a) (q : IsSorted (formula_of names r) (sort names r) b) where
-    pub chosen_is : (m : Sorted) → IsSorted (to.chosen (formula_view k.term) (formula_view a.term) (formula_view b.term) at) (given k.sort (given b.sort a.sort)) m → IsSorted (formula_of names e) (sort names e) m
+  module _ (k a b : Sorted) (o : IsSorted (formula_of names c) (sort names c) k) (p : IsSorted (formula_of names l) (sort names l) a)
+      (q : IsSorted (formula_of names r) (sort names r) b) where
+    pub chosen_is : (m : Sorted) → IsSorted (to.chosen (formula_view k.term) (formula_view a.term) (formula_view b.term) at)
+        (given k.sort (given b.sort a.sort)) m → IsSorted (formula_of names e) (sort names e) m
     chosen_is m d = record {
-      form = d.form ∙ ap (λ x. to.chosen x (formula_view a.term) (formula_view b.term) at) o.form ∙ ap₂ (λ x y. to.chosen (formula_of names c) x y at) p.form q.form ∙ sym (ap (formula_of names) is);
-      sort = d.sort ∙ ap (λ x. given x (given b.sort a.sort)) o.sort ∙ ap₂ (λ x y. given (sort names c) (given y x)) p.sort q.sort ∙ sym (neither _ _ _ branches_fit.0 branches_fit.1) ∙ sym (ap (sort names) is);
+      form =
+          d.form ∙ ap (λ x. to.chosen x (formula_view a.term) (formula_view b.term) at) o.form
+          ∙ ap₂ (λ x y. to.chosen (formula_of names c) x y at) p.form q.form ∙ sym (ap (formula_of names) is);
+      sort =
+          d.sort ∙ ap (λ x. given x (given b.sort a.sort)) o.sort ∙ ap₂ (λ x y. given (sort names c) (given y x)) p.sort q.sort
+          ∙ sym (neither _ _ _ branches_fit.0 branches_fit.1) ∙ sym (ap (sort names) is);
       decimals = d.decimals;
     }
 
@@ -164,7 +183,8 @@ module _ (names : List Thing) (f : Func) (parts : Trees) (at : Span) (e : Tree) 
   parts_fit : (list_any is_truthful (sorts names parts) ≡ false) × (some_differ (sorts names parts) ≡ false)
   parts_fit = misfits_not _ _ at (nil_right (parts_faults names parts) _ called_faults)
 
-  pub called_is : (a : SortedList) → AreSorted (formulas_of names parts) (call_sort (sorts names parts)) a → (m : Sorted) → IsSorted (to.called f (formulas_view a.terms.items) at) a.sort m → IsSorted (formula_of names e) (sort names e) m
+  pub called_is : (a : SortedList) → AreSorted (formulas_of names parts) (call_sort (sorts names parts)) a → (m : Sorted)
+      → IsSorted (to.called f (formulas_view a.terms.items) at) a.sort m → IsSorted (formula_of names e) (sort names e) m
   called_is a p m q = record {
     form = q.form ∙ ap (λ x. to.called f x at) p.form ∙ sym (ap (formula_of names) is);
     sort = q.sort ∙ p.sort ∙ sym (neither _ _ _ parts_fit.0 parts_fit.1) ∙ sym (ap (sort names) is);

@@ -16,7 +16,8 @@ use Rattle.sot_tree.specs.declared.tree.StateDecl.{StateDecl}
 use Rattle.sot_tree.specs.Trees.{Form, one, fields, Topic, Plant, Node, Module, Area, Declaration, a_topic, a_plant, a_node, a_module, Program}
 use Rattle.sot_rules.specs.declared.fault.TypeKind.{TypeKind}
 use Rattle.sot_rules.specs.declared.fault.TypeKind.TheVariants.{Unknown, KindDiffers, TooMany}
-use Rattle.sot_rules.specs.Fails.{ScalarFails, scalar, many_fields, many_states, seen_unknown, seen_topic, noise_scalar, node_times, local_scalar, ac_unknown, sc_unknown, module_times, plant_unknown, plant_topic, safe, safer, many_topics, many_plants, many_nodes, many_modules}
+use Rattle.sot_rules.specs.Fails.{ScalarFails, scalar, many_fields, many_states, seen_unknown, seen_topic, noise_scalar, node_times, local_scalar, ac_unknown}
+use Rattle.sot_rules.specs.Fails.{sc_unknown, module_times, plant_unknown, plant_topic, safe, safer, many_topics, many_plants, many_nodes, many_modules}
 use Rattle.sot_rules.specs.First.{IsFaultless}
 use Rattle.sot_tree.specs.Formed.{IsFormed, IsDeclaration, HasItem}
 use Rattle.sot_rules.specs.Faults.{declaration_faults, program_lists, faults}
@@ -69,7 +70,8 @@ ordered_all : (sides : List Bounds) → AreOrdered (map side_of sides) → All S
 ordered_all [] h = All-nil SideFits
 ordered_all (b ∷ sides) h = All-cons SideFits b sides h.0 (ordered_all sides h.1)
 
-areas_fit : (width : ℕ) (areas : List Area) → ((i : ℕ) (b : List Side) → At (map (λ (a : Area). map side_of a.sides) areas) i b → (length b ≡ width) × AreOrdered b) → All (AreaFits width) areas
+areas_fit : (width : ℕ) (areas : List Area) → ((i : ℕ) (b : List Side) → At (map (λ (a : Area). map side_of a.sides) areas) i b
+    → (length b ≡ width) × AreOrdered b) → All (AreaFits width) areas
 areas_fit width areas h =
     all_has (AreaFits width) areas
     (λ a x. let r = h x.0 (map side_of a.sides) (at_map (λ (a : Area). map side_of a.sides) areas x.0 a x.1) in

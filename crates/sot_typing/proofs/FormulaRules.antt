@@ -11,7 +11,8 @@ use Rattle.sot_lang.specs.Values.{is_word}
 use Rattle.sot_tree.specs.Functions.{arity}
 use Rattle.sot_lang.specs.TermRules.{GivesTruth, IsTruth, OperandsFit, TermFits, PartsFit}
 use Rattle.sot_lang.specs.ActRules.{ActFits, RowFits, ActsFit}
-use Rattle.sot_typing.specs.Formulas.{Formula, Formulas, number, place, binary, rest, negated, denied, called, rescaled, chosen, no_formula, one_more, Deed, Deeds, assigned, published, branched, repeated, no_deed, deed, formula_view, parts_view, deed_view, row_view, deeds_view}
+use Rattle.sot_typing.specs.Formulas.{Formula, Formulas, number, place, binary, rest, negated, denied, called, rescaled, chosen, no_formula, one_more, Deed}
+use Rattle.sot_typing.specs.Formulas.{Deeds, assigned, published, branched, repeated, no_deed, deed, formula_view, parts_view, deed_view, row_view, deeds_view}
 
 abbrev pub IsTruthFormula : List Bool → Formula → Type 0
 IsTruthFormula truths (number z) = (pos 0 ≤ℤ z) × (z ≤ℤ pos 1)
@@ -50,7 +51,8 @@ abbrev mutual
   pub DeedFits : List Bool → ℕ → ℕ → Deed → Type 0
   DeedFits truths locals writes (assigned k a at) = (k < locals) × FormulaFits truths a
   DeedFits truths locals writes (published k a at) = (k < writes) × FormulaFits truths a
-  DeedFits truths locals writes (branched c us vs) = IsTruthFormula truths c × FormulaFits truths c × DeedsFit truths locals writes us × DeedsFit truths locals writes vs
+  DeedFits truths locals writes (branched c us vs) =
+      IsTruthFormula truths c × FormulaFits truths c × DeedsFit truths locals writes us × DeedsFit truths locals writes vs
   DeedFits truths locals writes (repeated n us) = (1 ≤ n) × (n ≤ 1000) × DeedsFit truths locals writes us
 
   pub DeedsFit : List Bool → ℕ → ℕ → Deeds → Type 0
@@ -107,10 +109,12 @@ mutual
   act_fits : (truths : List Bool) (locals writes : ℕ) (a : Act) → DeedFits truths locals writes (deed_view a) → ActFits truths locals writes a
   act_fits truths locals writes (Assign k t at) h = (h.0, term_fits truths t h.1)
   act_fits truths locals writes (Publish k t at) h = (h.0, term_fits truths t h.1)
-  act_fits truths locals writes (IfAct' c m us n vs) h = (is_truth truths c h.0, term_fits truths c h.1, row_fits truths locals writes us h.2, row_fits truths locals writes vs h.3)
+  act_fits truths locals writes (IfAct' c m us n vs) h =
+      (is_truth truths c h.0, term_fits truths c h.1, row_fits truths locals writes us h.2, row_fits truths locals writes vs h.3)
   act_fits truths locals writes (Repeat' n m us) h = (h.0, h.1, row_fits truths locals writes us h.2)
 
-  row_fits : {m : _} (truths : List Bool) (locals writes : ℕ) (row : Row_of-Act m) → DeedsFit truths locals writes (row_view row) → RowFits truths locals writes row
+  row_fits : {m : _} (truths : List Bool) (locals writes : ℕ) (row : Row_of-Act m) → DeedsFit truths locals writes (row_view row)
+      → RowFits truths locals writes row
   row_fits truths locals writes end_of-Act h = tt
   row_fits truths locals writes (more_of-Act a more) h = (act_fits truths locals writes a h.0, row_fits truths locals writes more h.1)
 

@@ -1,5 +1,6 @@
 -- A name that is found at a place of the declarations has its number among those of its sort.
-use Rattle.std.proofs.Common.{◌≡◌, ◌∙◌, ℕ, zero, suc, ◌+◌, ◌<◌, ◌≤◌, List, [], ◌∷◌, length, get_or, take, drop, map, Option, Some, None, Bool, true, false, not, cond, refl, sym, ap, subst, arith, fold}
+use Rattle.std.proofs.Common.{◌≡◌, ◌∙◌, ℕ, zero, suc, ◌+◌, ◌<◌, ◌≤◌, List, [], ◌∷◌, length, get_or, take, drop, map, Option, Some, None, Bool, true, false, not}
+use Rattle.std.proofs.Common.{cond, refl, sym, ap, subst, arith, fold}
 use Rattle.std.specs.Prelude.{filter_map, sum_by, position, slice_get}
 use Rattle.std.specs.List.{position_or_len, cons_option}
 use Rattle.std.proofs.lemmas.List.{take-append-drop, take_at}
@@ -54,20 +55,28 @@ counted_all c (a_topic t ∷ ds) =
       nodes = more.nodes;
       modules = more.modules;
     }
-counted_all c (a_plant q ∷ ds) = (let more = counted_all (counted c (a_plant q)) ds in record { topics = more.topics; scalars = more.scalars; plants = omega (arith, more.plants); nodes = more.nodes; modules = more.modules })
-counted_all c (a_node n ∷ ds) = (let more = counted_all (counted c (a_node n)) ds in record { topics = more.topics; scalars = more.scalars; plants = more.plants; nodes = omega (arith, more.nodes); modules = more.modules })
-counted_all c (a_module m ∷ ds) = (let more = counted_all (counted c (a_module m)) ds in record { topics = more.topics; scalars = more.scalars; plants = more.plants; nodes = more.nodes; modules = omega (arith, more.modules) })
+counted_all c (a_plant q ∷ ds) =
+    (let more = counted_all (counted c (a_plant q)) ds in record
+    { topics = more.topics; scalars = more.scalars; plants = omega (arith, more.plants); nodes = more.nodes; modules = more.modules })
+counted_all c (a_node n ∷ ds) =
+    (let more = counted_all (counted c (a_node n)) ds in record
+    { topics = more.topics; scalars = more.scalars; plants = more.plants; nodes = omega (arith, more.nodes); modules = more.modules })
+counted_all c (a_module m ∷ ds) =
+    (let more = counted_all (counted c (a_module m)) ds in record
+    { topics = more.topics; scalars = more.scalars; plants = more.plants; nodes = more.nodes; modules = omega (arith, more.modules) })
 
 -- the first thing that passes is, among those of its sort, behind those that stand before it
 module _ {X Y : Type 0} (pick : X → Option Y) (test : X → Bool) (inner : Y → Bool) (agree : (x : X) (y : Y) → pick x ≡ Some y → test x ≡ inner y) where
   abbrev place_in : List Y → ℕ
   place_in ys = position_or_len inner ys
 
-  passed : (o : Option Y) (ys zs : List Y) → ((y : Y) → o ≡ Some y → inner y ≡ false) → place_in ys ≡ length zs → place_in (cons_option o ys) ≡ length (cons_option o zs)
+  passed : (o : Option Y) (ys zs : List Y) → ((y : Y) → o ≡ Some y → inner y ≡ false) → place_in ys ≡ length zs
+      → place_in (cons_option o ys) ≡ length (cons_option o zs)
   passed None ys zs no' e = e
   passed (Some y) ys zs no' e = (let n = no' y refl in ap (λ b. cond (not b) (1 + place_in ys) 0) n ∙ omega (arith, e))
 
-  pub place_among : (xs : List X) (k : ℕ) (x : X) (y : Y) → At xs k x → pick x ≡ Some y → test x ≡ true → ((i : ℕ) (z : X) → i < k → At xs i z → test z ≡ false) → place_in (filter_map pick xs) ≡ length (filter_map pick (take k xs))
+  pub place_among : (xs : List X) (k : ℕ) (x : X) (y : Y) → At xs k x → pick x ≡ Some y → test x ≡ true → ((i : ℕ) (z : X) → i < k → At xs i z → test z ≡ false)
+      → place_in (filter_map pick xs) ≡ length (filter_map pick (take k xs))
   place_among [] k x y at is yes' no' = cc
   place_among (z ∷ xs) zero x y at is yes' no' =
       let same : z ≡ x = cc in
@@ -80,9 +89,11 @@ module _ {X Y : Type 0} (pick : X → Option Y) (test : X → Bool) (inner : Y �
       (place_among xs k x y at is yes' (λ i w lt a. no' (suc i) w (omega arith) a))
 
 -- those of a sort among the first of a list are the first of that sort
-pub take_among : {X Y : Type 0} (pick : X → Option Y) (xs : List X) (k : ℕ) → take (length (filter_map pick (take k xs))) (filter_map pick xs) ≡ filter_map pick (take k xs)
+pub take_among : {X Y : Type 0} (pick : X → Option Y) (xs : List X) (k : ℕ)
+    → take (length (filter_map pick (take k xs))) (filter_map pick xs) ≡ filter_map pick (take k xs)
 take_among pick xs k =
-    ap (λ z. take (length (filter_map pick (take k xs))) z) (sym (ap (filter_map pick) (take-append-drop k xs)) ∙ filter_map-append pick (take k xs) (drop k xs))
+    ap (λ z. take (length (filter_map pick (take k xs))) z)
+    (sym (ap (filter_map pick) (take-append-drop k xs)) ∙ filter_map-append pick (take k xs) (drop k xs))
     ∙ take_at (filter_map pick (take k xs)) (filter_map pick (drop k xs)) _ refl
 
 number_same : (a b c d : ℕ) → a ≡ b → c ≡ d → (let n : Number = record { place = a; first = c } in n) ≡ record { place = b; first = d }
@@ -130,7 +141,8 @@ module _ (p : Program) (i : Ident) (k : ℕ) (e : Some k ≡ position (is_named 
   number_found (a_topic t) at =
       let all = counted_all nothing_counted (take k ds) in
       let place = place_among a_topic_of (is_named i.name) (λ t. are_same i t.name) topic_agrees ds k _ t at refl (passes _ at) fails in
-      let first : sum_by scalar_count (filter_map a_topic_of (take k ds)) ≡ first_scalar p (topic_place p i) = sym (ap (first_scalar p) place ∙ ap (sum_by scalar_count) (take_among a_topic_of ds k)) in
+      let first : sum_by scalar_count (filter_map a_topic_of (take k ds)) ≡ first_scalar p (topic_place p i) =
+      sym (ap (first_scalar p) place ∙ ap (sum_by scalar_count) (take_among a_topic_of ds k)) in
       number_same _ _ _ _ (omega (arith, all.topics, place)) (omega (arith, all.scalars, first))
   number_found (a_plant q) at =
       let all = counted_all nothing_counted (take k ds) in
@@ -161,7 +173,9 @@ room_is c (a_node m) n e room = (let f : n.first ≡ 0 = ap (λ z. z.first) e in
 room_is c (a_module m) n e room = (let f : n.first ≡ 0 = ap (λ z. z.first) e in omega (arith, f))
 
 -- all that is known of a name that is found
-pub is_meant : (x : Index) (ns : List Number) (i : Ident) (k : ℕ) (d : Declaration) (n : Number) → AreNumbers x ns → Some k ≡ position (is_named i.name) (program_in x).decls → slice_get (program_in x).decls k ≡ meaning (program_in x) i → At (program_in x).decls k d → n ≡ get_or ns k n → k < length ns → IsMeant (program_in x) i d n
+pub is_meant : (x : Index) (ns : List Number) (i : Ident) (k : ℕ) (d : Declaration) (n : Number) → AreNumbers x ns
+    → Some k ≡ position (is_named i.name) (program_in x).decls → slice_get (program_in x).decls k ≡ meaning (program_in x) i → At (program_in x).decls k d
+    → n ≡ get_or ns k n → k < length ns → IsMeant (program_in x) i d n
 is_meant x ns i k d n held first meant at read lt =
     let p = program_in x in
     let so_far = fold counted nothing_counted (take k p.decls) in

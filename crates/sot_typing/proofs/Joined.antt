@@ -1,5 +1,6 @@
 -- Places in lists that are joined end to end, and sums of sizes.
-use Rattle.std.proofs.Common.{◌≡◌, ℕ, zero, suc, ◌+◌, ◌<◌, ◌≤◌, ◌⊎◌, inl, inr, List, [], ◌∷◌, ◌++◌, length, take, sum_by, flat_map, refl, sym, ap, subst, Some, arith}
+use Rattle.std.proofs.Common.{◌≡◌, ℕ, zero, suc, ◌+◌, ◌<◌, ◌≤◌, ◌⊎◌, inl, inr, List, [], ◌∷◌, ◌++◌, length, take, sum_by, flat_map, refl, sym, ap, subst, Some}
+use Rattle.std.proofs.Common.{arith}
 use Rattle.std.proofs.lemmas.List.Sums.{sum_by-cons}
 use Rattle.std.proofs.lemmas.List.{length-append}
 use Rattle.sot_lists.specs.Places.{At, Has}
@@ -42,7 +43,8 @@ sum_within size (y ∷ ys) (suc j) x a =
     omega arith
 
 -- a place counted through sizes lies with one item alone
-less : {A : Type 0} (size : A → ℕ) (xs : List A) (i j m n : ℕ) (x : A) → At xs i x → i < j → m < size x → sum_by size (take i xs) + m ≡ sum_by size (take j xs) + n → ⊥
+less : {A : Type 0} (size : A → ℕ) (xs : List A) (i j m n : ℕ) (x : A) → At xs i x → i < j → m < size x
+    → sum_by size (take i xs) + m ≡ sum_by size (take j xs) + n → ⊥
 less size xs i j m n x a l b e = (let r = sum_below size xs i j x a l in absurd (omega arith))
 
 -- two places are one, or one comes first
@@ -57,7 +59,8 @@ order (suc i) (suc j) = by (order i j)
     by (inr (inl l)) = inr (inl (omega arith))
     by (inr (inr l)) = inr (inr (omega arith))
 
-pub sum_place : {A : Type 0} (size : A → ℕ) (xs : List A) (i j m n : ℕ) (x y : A) → At xs i x → At xs j y → m < size x → n < size y → sum_by size (take i xs) + m ≡ sum_by size (take j xs) + n → i ≡ j
+pub sum_place : {A : Type 0} (size : A → ℕ) (xs : List A) (i j m n : ℕ) (x y : A) → At xs i x → At xs j y → m < size x → n < size y
+    → sum_by size (take i xs) + m ≡ sum_by size (take j xs) + n → i ≡ j
 sum_place size xs i j m n x y a b l k e = by (order i j)
   where
     by : (i ≡ j) ⊎ ((i < j) ⊎ (j < i)) → i ≡ j
@@ -66,7 +69,8 @@ sum_place size xs i j m n x y a b l k e = by (order i j)
     by (inr (inr q)) = absurd (less size xs j i n m y b q k (sym e))
 
 -- places in lists that are joined, each of a size that is known
-pub at_joined : {A B : Type 0} (f : A → List B) (size : A → ℕ) (xs : List A) (j m : ℕ) (x : A) (y : B) → ((i : ℕ) (z : A) → At xs i z → length (f z) ≡ size z) → At xs j x → At (f x) m y → At (flat_map f xs) (sum_by size (take j xs) + m) y
+pub at_joined : {A B : Type 0} (f : A → List B) (size : A → ℕ) (xs : List A) (j m : ℕ) (x : A) (y : B) → ((i : ℕ) (z : A) → At xs i z → length (f z) ≡ size z)
+    → At xs j x → At (f x) m y → At (flat_map f xs) (sum_by size (take j xs) + m) y
 at_joined f size [] j m x y h a b = cc
 at_joined f size (z ∷ xs) zero m x y h a b =
     let e : z ≡ x = cc in
@@ -79,11 +83,14 @@ at_joined f size (z ∷ xs) (suc j) m x y h a b =
     let q : length (f z) + (sum_by size (take j xs) + m) ≡ sum_by size (take (suc j) (z ∷ xs)) + m = omega arith in
     subst (λ n. At (f z ++ flat_map f xs) n y) q r
 
-pub of_joined : {A B : Type 0} (f : A → List B) (size : A → ℕ) (xs : List A) (k : ℕ) (y : B) → ((i : ℕ) (z : A) → At xs i z → length (f z) ≡ size z) → At (flat_map f xs) k y → (j : ℕ) × (x : A) × (m : ℕ) × At xs j x × At (f x) m y × (k ≡ sum_by size (take j xs) + m)
+pub of_joined : {A B : Type 0} (f : A → List B) (size : A → ℕ) (xs : List A) (k : ℕ) (y : B) → ((i : ℕ) (z : A) → At xs i z → length (f z) ≡ size z)
+    → At (flat_map f xs) k y → (j : ℕ) × (x : A) × (m : ℕ) × At xs j x × At (f x) m y × (k ≡ sum_by size (take j xs) + m)
 of_joined f size [] k y h a = cc
 of_joined {A = A} f size (z ∷ xs) k y h a = by (of_append (f z) (flat_map f xs) k y a) (λ i b. of_joined f size xs i y (λ i w c. h (suc i) w c) b)
   where
-    by : At (f z) k y ⊎ ((j : ℕ) × At (flat_map f xs) j y × (k ≡ length (f z) + j)) → ((i : ℕ) → At (flat_map f xs) i y → (j : ℕ) × (x : A) × (m : ℕ) × At xs j x × At (f x) m y × (i ≡ sum_by size (take j xs) + m)) → (j : ℕ) × (x : A) × (m : ℕ) × At (z ∷ xs) j x × At (f x) m y × (k ≡ sum_by size (take j (z ∷ xs)) + m)
+    by : At (f z) k y ⊎ ((j : ℕ) × At (flat_map f xs) j y × (k ≡ length (f z) + j))
+        → ((i : ℕ) → At (flat_map f xs) i y → (j : ℕ) × (x : A) × (m : ℕ) × At xs j x × At (f x) m y × (i ≡ sum_by size (take j xs) + m))
+        → (j : ℕ) × (x : A) × (m : ℕ) × At (z ∷ xs) j x × At (f x) m y × (k ≡ sum_by size (take j (z ∷ xs)) + m)
     by (inl b) more = (0, z, k, refl, b, omega arith)
     by (inr b) more =
         let r = more b.0 b.1 in
@@ -93,7 +100,8 @@ of_joined {A = A} f size (z ∷ xs) k y h a = by (of_append (f z) (flat_map f xs
         let q = r.5 in
         (suc r.0, r.1, r.2, r.3, r.4, omega arith)
 
-pub length_joined : {A B : Type 0} (f : A → List B) (size : A → ℕ) (xs : List A) → ((i : ℕ) (z : A) → At xs i z → length (f z) ≡ size z) → length (flat_map f xs) ≡ sum_by size xs
+pub length_joined : {A B : Type 0} (f : A → List B) (size : A → ℕ) (xs : List A) → ((i : ℕ) (z : A) → At xs i z → length (f z) ≡ size z)
+    → length (flat_map f xs) ≡ sum_by size xs
 length_joined f size [] h = refl
 length_joined f size (z ∷ xs) h =
     let r = length_joined f size xs (λ i w c. h (suc i) w c) in
@@ -125,7 +133,8 @@ length_counted a (suc n) = ap suc (length_counted (suc a) n)
 pub at_counted : (a n k : ℕ) → k < n → At (counted_from a n) k (a + k)
 at_counted a zero k l = absurd (omega arith)
 at_counted a (suc n) zero l = (let e : a ≡ a + 0 = omega arith in ap (λ z. Some z) e)
-at_counted a (suc n) (suc k) l = (let e : suc a + k ≡ a + suc k = omega arith in subst (λ z. At (counted_from (suc a) n) k z) e (at_counted (suc a) n k (omega arith)))
+at_counted a (suc n) (suc k) l =
+    (let e : suc a + k ≡ a + suc k = omega arith in subst (λ z. At (counted_from (suc a) n) k z) e (at_counted (suc a) n k (omega arith)))
 
 pub of_counted : (a n k z : ℕ) → At (counted_from a n) k z → (k < n) × (z ≡ a + k)
 of_counted a zero k z h = cc

@@ -10,7 +10,9 @@ use Rattle.sot_tree.specs.TreeViews.{declaration_view}
 use Rattle.sot_rules.proofs.Loops.{rest_is}
 
 -- what some items add, each of them its own
-module _ {K T X : Type 0} (seen : List K → List T) (of : List X → List T) (one : X → List T) (shape : (x : X) (more : List X) → of (x ∷ more) ≡ one x ++ of more) (none : of [] ≡ []) (xs : List X) (i : ℕ) (ts : List K) (whole : List T) (inv : seen ts ++ of (drop i xs) ≡ whole) where
+module _ {K T X : Type 0} (seen : List K → List T) (of : List X → List T) (one : X → List T)
+    (shape : (x : X) (more : List X) → of (x ∷ more) ≡ one x ++ of more) (none : of [] ≡ []) (xs : List X) (i : ℕ) (ts : List K) (whole : List T)
+    (inv : seen ts ++ of (drop i xs) ≡ whole) where
   pub add_next : (x : X) → i < length xs → x ≡ get_or xs i x → (us : List K) → seen us ≡ seen ts ++ one x → seen us ++ of (drop (i + 1) xs) ≡ whole
   add_next x lt e us push =
       ap (λ z. z ++ of (drop (i + 1) xs)) push
@@ -30,7 +32,8 @@ filter_shape {X} {T} h x more = by (h x)
     by (Some y) = refl
 
 -- what the declarations of one sort add: the rows of each behind those of the ones before it
-module _ {K R T : Type 0} (seen : List K → List T) (of_sort : Declaration → Option R) (rows : List R → List T) (split : (xs ys : List R) → rows (xs ++ ys) ≡ rows xs ++ rows ys) (none : rows [] ≡ []) (ds : List Decl) (i : ℕ) (ts : List K) where
+module _ {K R T : Type 0} (seen : List K → List T) (of_sort : Declaration → Option R) (rows : List R → List T)
+    (split : (xs ys : List R) → rows (xs ++ ys) ≡ rows xs ++ rows ys) (none : rows [] ≡ []) (ds : List Decl) (i : ℕ) (ts : List K) where
   abbrev pub rows_of : List Decl → List T
   rows_of ds = rows (filter_map of_sort (map declaration_view ds))
 
@@ -40,11 +43,13 @@ module _ {K R T : Type 0} (seen : List K → List T) (of_sort : Declaration → 
   rows_shape : (d : Decl) (more : List Decl) → rows_of (d ∷ more) ≡ rows_at d ++ rows_of more
   rows_shape d more = by (of_sort (declaration_view d))
     where
-      by : (o : Option R) → rows (cons_option o (filter_map of_sort (map declaration_view more))) ≡ rows (cons_option o []) ++ rows (filter_map of_sort (map declaration_view more))
+      by : (o : Option R) → rows (cons_option o (filter_map of_sort (map declaration_view more)))
+          ≡ rows (cons_option o []) ++ rows (filter_map of_sort (map declaration_view more))
       by None = split [] (filter_map of_sort (map declaration_view more))
       by (Some r) = split (r ∷ []) (filter_map of_sort (map declaration_view more))
 
-  pub rows_next : (whole : List T) → seen ts ++ rows_of (drop i ds) ≡ whole → (d : Decl) → i < length ds → d ≡ get_or ds i d → (us : List K) → seen us ≡ seen ts ++ rows_at d → seen us ++ rows_of (drop (i + 1) ds) ≡ whole
+  pub rows_next : (whole : List T) → seen ts ++ rows_of (drop i ds) ≡ whole → (d : Decl) → i < length ds → d ≡ get_or ds i d → (us : List K)
+      → seen us ≡ seen ts ++ rows_at d → seen us ++ rows_of (drop (i + 1) ds) ≡ whole
   rows_next whole inv d lt e us push = add_next seen rows_of rows_at rows_shape none ds i ts whole inv d lt e us push
 
   pub rows_done : (whole : List T) → seen ts ++ rows_of (drop i ds) ≡ whole → length ds ≤ i → seen ts ≡ whole

@@ -1,5 +1,6 @@
 -- Places in lists that are made of others.
-use Rattle.std.proofs.Common.{◌≡◌, ◌∙◌, ℕ, zero, suc, ◌+◌, ◌⊎◌, inl, inr, List, [], ◌∷◌, ◌++◌, length, zip, filter_map, refl, ap, subst, Option, Some, None, true, false, Bool, ◌||◌, arith}
+use Rattle.std.proofs.Common.{◌≡◌, ◌∙◌, ℕ, zero, suc, ◌+◌, ◌⊎◌, inl, inr, List, [], ◌∷◌, ◌++◌, length, zip, filter_map, refl, ap, subst, Option, Some, None}
+use Rattle.std.proofs.Common.{true, false, Bool, ◌||◌, arith}
 use Rattle.std.specs.List.{list_any, cons_option}
 pub use Rattle.std.proofs.lemmas.Option.{slice_get_within as at_lt}
 pub use Rattle.sot_lists.proofs.Places.{at_map, at_same, at_below, at_mapped}
@@ -45,7 +46,8 @@ pub any_of : {A : Type 0} (f : A → Bool) (xs : List A) → list_any f xs ≡ t
 any_of f [] h = cc
 any_of {A = A} f (y ∷ ys) h = by (f y) refl h (λ q. any_of f ys q)
   where
-    by : (b : Bool) → f y ≡ b → (b || list_any f ys) ≡ true → (list_any f ys ≡ true → (k : ℕ) × (x : A) × At ys k x × (f x ≡ true)) → (k : ℕ) × (x : A) × At (y ∷ ys) k x × (f x ≡ true)
+    by : (b : Bool) → f y ≡ b → (b || list_any f ys) ≡ true → (list_any f ys ≡ true → (k : ℕ) × (x : A) × At ys k x × (f x ≡ true))
+        → (k : ℕ) × (x : A) × At (y ∷ ys) k x × (f x ≡ true)
     by true e q more = (0, y, refl, e)
     by false e q more = (let r = more q in (suc r.0, r.1, r.2, r.3))
 
@@ -88,7 +90,8 @@ of_kept {A = A} {B = B} f (z ∷ xs) j y a = by (f z) refl j a (λ i b. of_kept 
     later : (k : ℕ) × (x : A) × At xs k x × (f x ≡ Some y) → (k : ℕ) × (x : A) × At (z ∷ xs) k x × (f x ≡ Some y)
     later r = (suc r.0, r.1, r.2, r.3)
 
-    by : (o : Option B) → f z ≡ o → (j : ℕ) → At (cons_option o (filter_map f xs)) j y → ((i : ℕ) → At (filter_map f xs) i y → (k : ℕ) × (x : A) × At xs k x × (f x ≡ Some y)) → (k : ℕ) × (x : A) × At (z ∷ xs) k x × (f x ≡ Some y)
+    by : (o : Option B) → f z ≡ o → (j : ℕ) → At (cons_option o (filter_map f xs)) j y
+        → ((i : ℕ) → At (filter_map f xs) i y → (k : ℕ) × (x : A) × At xs k x × (f x ≡ Some y)) → (k : ℕ) × (x : A) × At (z ∷ xs) k x × (f x ≡ Some y)
     by None e j a more = later (more j a)
     by (Some w) e zero a more = (0, z, refl, e ∙ a)
     by (Some w) e (suc j) a more = later (more j a)

@@ -17,7 +17,8 @@ use Rattle.sot_tree.specs.Formed.{IsFormed, IsDeclaration, IsTopic, IsPlant, IsN
 use Rattle.sot_rules.specs.Names.{declared_name, meaning, is_topic, is_plant, is_node}
 use Rattle.sot_rules.specs.Lists.{are_same}
 use Rattle.sot_rules.specs.Tests.{topic_size, read_size}
-use Rattle.sot_typing.specs.Resolved.{a_topic_of, a_plant_of, a_node_of, a_module_of, topics, plants, nodes, modules, topic_place, plant_place, node_place, scalar_count, first_scalar, counted_from, scalars_meant, slots_meant}
+use Rattle.sot_typing.specs.Resolved.{a_topic_of, a_plant_of, a_node_of, a_module_of, topics, plants, nodes, modules, topic_place, plant_place, node_place}
+use Rattle.sot_typing.specs.Resolved.{scalar_count, first_scalar, counted_from, scalars_meant, slots_meant}
 use Rattle.sot_typing.proofs.Lists.{at_mapped, each_at, of_kept}
 use Rattle.sot_typing.proofs.Joined.{length_counted, of_counted}
 use Rattle.sot_typing.proofs.Once.{AreOnce, once_map, same_name}
@@ -152,13 +153,16 @@ a_node_meant (Some (a_module m)) e = cc
 abbrev pub scalars_in : Program → Ident → Option Declaration → List ℕ
 scalars_in p i o = elim o as (λ x. List ℕ) [ Some (a_topic t) ↦ counted_from (first_scalar p (topic_place p i)) (scalar_count t) | _ ↦ [] ]
 
-pub scalars_are : (p : Program) (i : Ident) (t : Topic) → meaning p i ≡ Some (a_topic t) → scalars_meant p i ≡ counted_from (first_scalar p (topic_place p i)) (scalar_count t)
+pub scalars_are : (p : Program) (i : Ident) (t : Topic) → meaning p i ≡ Some (a_topic t)
+    → scalars_meant p i ≡ counted_from (first_scalar p (topic_place p i)) (scalar_count t)
 scalars_are p i t e = ap (scalars_in p i) e
 
-pub of_scalars : (p : Program) (i : Ident) (m k : ℕ) → At (scalars_meant p i) m k → (t : Topic) × (meaning p i ≡ Some (a_topic t)) × (m < scalar_count t) × (k ≡ first_scalar p (topic_place p i) + m)
+pub of_scalars : (p : Program) (i : Ident) (m k : ℕ) → At (scalars_meant p i) m k
+    → (t : Topic) × (meaning p i ≡ Some (a_topic t)) × (m < scalar_count t) × (k ≡ first_scalar p (topic_place p i) + m)
 of_scalars p i m k a = by (meaning p i) refl a
   where
-    by : (o : Option Declaration) → meaning p i ≡ o → At (scalars_in p i o) m k → (t : Topic) × (meaning p i ≡ Some (a_topic t)) × (m < scalar_count t) × (k ≡ first_scalar p (topic_place p i) + m)
+    by : (o : Option Declaration) → meaning p i ≡ o → At (scalars_in p i o) m k
+        → (t : Topic) × (meaning p i ≡ Some (a_topic t)) × (m < scalar_count t) × (k ≡ first_scalar p (topic_place p i) + m)
     by None e a = absurd (none-some k a)
     by (Some (a_topic t)) e a = (let r = of_counted (first_scalar p (topic_place p i)) (scalar_count t) m k a in (t, e, r.0, r.1))
     by (Some (a_plant q)) e a = absurd (none-some k a)
@@ -177,12 +181,19 @@ length_scalars p i = by (meaning p i)
 
 -- the numbers that a node reads by a name
 abbrev pub slots_in : Program → Ident → Option Declaration → List Slot
-slots_in p i o = elim o as (λ x. List Slot) [ Some (a_topic t) ↦ map (λ k. ScalarSlot k) (scalars_meant p i) | Some (a_plant q) ↦ map (λ v. State (plant_place p i) v) (counted_from 0 (length q.states)) | _ ↦ [] ]
+slots_in p i o =
+    elim o as (λ x. List Slot) [
+      | Some (a_topic t) ↦ map (λ k. ScalarSlot k) (scalars_meant p i)
+      | Some (a_plant q) ↦ map (λ v. State (plant_place p i) v)
+          (counted_from 0 (length q.states))
+      | _ ↦ []
+    ]
 
 pub slots_of_topic : (p : Program) (i : Ident) (t : Topic) → meaning p i ≡ Some (a_topic t) → slots_meant p i ≡ map (λ k. ScalarSlot k) (scalars_meant p i)
 slots_of_topic p i t e = ap (slots_in p i) e
 
-pub slots_of_plant : (p : Program) (i : Ident) (q : Plant) → meaning p i ≡ Some (a_plant q) → slots_meant p i ≡ map (λ v. State (plant_place p i) v) (counted_from 0 (length q.states))
+pub slots_of_plant : (p : Program) (i : Ident) (q : Plant) → meaning p i ≡ Some (a_plant q)
+    → slots_meant p i ≡ map (λ v. State (plant_place p i) v) (counted_from 0 (length q.states))
 slots_of_plant p i q e = ap (slots_in p i) e
 
 pub of_scalar_slot : (p : Program) (i : Ident) (m k : ℕ) → At (slots_meant p i) m (ScalarSlot k) → At (scalars_meant p i) m k
@@ -195,10 +206,12 @@ of_scalar_slot p i m k a = by (meaning p i) refl a
     by (Some (a_node n)) e a = absurd (none-some (ScalarSlot k) a)
     by (Some (a_module l)) e a = absurd (none-some (ScalarSlot k) a)
 
-pub of_state_slot : (p : Program) (i : Ident) (m k v : ℕ) → At (slots_meant p i) m (State k v) → (q : Plant) × (meaning p i ≡ Some (a_plant q)) × (k ≡ plant_place p i) × (v < length q.states)
+pub of_state_slot : (p : Program) (i : Ident) (m k v : ℕ) → At (slots_meant p i) m (State k v)
+    → (q : Plant) × (meaning p i ≡ Some (a_plant q)) × (k ≡ plant_place p i) × (v < length q.states)
 of_state_slot p i m k v a = by (meaning p i) refl a
   where
-    by : (o : Option Declaration) → meaning p i ≡ o → At (slots_in p i o) m (State k v) → (q : Plant) × (meaning p i ≡ Some (a_plant q)) × (k ≡ plant_place p i) × (v < length q.states)
+    by : (o : Option Declaration) → meaning p i ≡ o → At (slots_in p i o) m (State k v)
+        → (q : Plant) × (meaning p i ≡ Some (a_plant q)) × (k ≡ plant_place p i) × (v < length q.states)
     by None e a = absurd (none-some (State k v) a)
     by (Some (a_topic t)) e a = (let r = at_mapped (λ k. ScalarSlot k) (scalars_meant p i) m (State k v) a in let s = r.2 in cc)
     by (Some (a_plant q)) e a =

@@ -1,5 +1,6 @@
 -- The tables of a program of the grammar in which no rule fails are in order.
-use Rattle.std.proofs.Common.{◌≡◌, ◌∙◌, ℕ, suc, List, [], ◌∷◌, ◌++◌, map, length, refl, sym, ap, subst, Option, Some, None, option_map, replicate, Bool, true, false}
+use Rattle.std.proofs.Common.{◌≡◌, ◌∙◌, ℕ, suc, List, [], ◌∷◌, ◌++◌, map, length, refl, sym, ap, subst, Option, Some, None, option_map, replicate, Bool, true}
+use Rattle.std.proofs.Common.{false}
 use Rattle.std.specs.Global.{Vec}
 use Rattle.std.proofs.lemmas.Option.{none-some, same_Some}
 use Rattle.std.proofs.lemmas.List.{length-map}
@@ -46,7 +47,8 @@ terms_each truths [] h = tt
 terms_each truths (t ∷ ts) h = (h 0 t refl, terms_each truths ts (λ k x a. h (suc k) x a))
 
 -- what a coded node's body is seen as
-body_seen : {B : Type 0} (o : Option (Vec Act)) (b : Option B) (g : B → Deeds) (v : Vec Act) → option_map (λ (v : Vec Act). deeds_view v.items) o ≡ option_map g b → o ≡ Some v → (x : B) × (b ≡ Some x) × (deeds_view v.items ≡ g x)
+body_seen : {B : Type 0} (o : Option (Vec Act)) (b : Option B) (g : B → Deeds) (v : Vec Act)
+    → option_map (λ (v : Vec Act). deeds_view v.items) o ≡ option_map g b → o ≡ Some v → (x : B) × (b ≡ Some x) × (deeds_view v.items ≡ g x)
 body_seen o (Some x) g v e q = (x, refl, same_Some (deeds_view v.items) (g x) (ap (option_map (λ (v : Vec Act). deeds_view v.items)) (sym q) ∙ e))
 body_seen o None g v e q = absurd (none-some (deeds_view v.items) (sym e ∙ ap (option_map (λ (v : Vec Act). deeds_view v.items)) q))
 
@@ -59,9 +61,14 @@ module _ (p : Program) (t : Tables) (s : AreSeen p t) (f : IsFaultless p) (fo : 
       let one = state_names x.0.states (plant.state_known p x.0 none) in
       let two = input_names p t s f x.0.inputs in
       let three = seen_names p t s f x.0.sees (plant.seen_meant p t s f k x.0 x.1) in
-      let four = noise_names x.0.noise (λ d h. ((scalar_is true d.scalar (λ at kind w. none at kind (noise_scalar h w))).known, false_from_ne_true _ (λ e. none d.name.at KindDiffers (noise_truth h e)))) in
+      let four = noise_names x.0.noise (λ d h. (
+        (scalar_is true d.scalar (λ at kind w. none at kind (noise_scalar h w))).known,
+        false_from_ne_true _ (λ e. none d.name.at KindDiffers (noise_truth h e)),
+      )) in
       let all = both_names _ _ _ _ (both_names _ _ _ _ (both_names _ _ _ _ one two) three) four in
-      subst (λ (y : PlantTable). AreNames (plant_scope p x.0) (map (λ (z : StateInfo). false) y.states ++ map (is_truth_scalar t.scalars) y.inputs ++ replicate (seen_width t.plants y.sees) false ++ map (λ (z : NoiseInfo). false) y.noise)) (sym x.2) all
+      subst (λ (y : PlantTable). AreNames (plant_scope p x.0)
+      (map (λ (z : StateInfo). false) y.states ++ map (is_truth_scalar t.scalars) y.inputs ++ replicate (seen_width t.plants y.sees) false
+      ++ map (λ (z : NoiseInfo). false) y.noise)) (sym x.2) all
 
   next_fits : (k : ℕ) (i : PlantInfo) → At t.plants k i → TermsFit (plant_truths t i) i.next.items
   next_fits k i a = terms_each (plant_truths t i) i.next.items one
@@ -69,13 +76,16 @@ module _ (p : Program) (t : Tables) (s : AreSeen p t) (f : IsFaultless p) (fo : 
       one : (m : ℕ) (u : Term) → At i.next.items m u → TermFits (plant_truths t i) u
       one m u b =
           let x = of_plant p t s k i a in
-          let r = of_seen formula_view (λ (n : Next). formula_of (plant_scope p x.0) n.value) i.next.items x.0.next (ap (λ (y : PlantTable). y.next) x.2) m u b in
+          let r = of_seen formula_view (λ (n : Next). formula_of (plant_scope p x.0) n.value) i.next.items x.0.next (ap (λ (y : PlantTable). y.next) x.2) m u b
+          in
           let g = each_at IsNext x.0.next m r.0 (plant_formed p fo k x.0 x.1).next r.1 in
-          let y = tree_sound (plant_scope p x.0) (plant_truths t i) (plant_names k i a) r.0.value g.1 (λ at kind h. plant_faultless p f k x.0 x.1 at kind (next_value (m, r.1) h)) in
+          let y = tree_sound (plant_scope p x.0) (plant_truths t i) (plant_names k i a) r.0.value g.1
+          (λ at kind h. plant_faultless p f k x.0 x.1 at kind (next_value (m, r.1) h)) in
           term_fits (plant_truths t i) u (subst (FormulaFits (plant_truths t i)) (sym r.2) y.fits)
 
   -- the names of a node
-  own_names : (k : ℕ) (i : NodeInfo) (a : At t.nodes k i) → AreNames (map local_thing (of_node p t s k i a).0.locals) (map (λ (l : LocalInfo). l.truth) (map local_info (of_node p t s k i a).0.locals))
+  own_names : (k : ℕ) (i : NodeInfo) (a : At t.nodes k i) → AreNames (map local_thing (of_node p t s k i a).0.locals)
+      (map (λ (l : LocalInfo). l.truth) (map local_info (of_node p t s k i a).0.locals))
   own_names k i a =
       let x = of_node p t s k i a in
       local_names x.0.locals (λ l h. (scalar_is false l.scalar (λ at kind w. node_faultless p f k x.0 x.1 at kind (local_scalar h w))).known)
@@ -89,23 +99,27 @@ module _ (p : Program) (t : Tables) (s : AreSeen p t) (f : IsFaultless p) (fo : 
   count_locals : (k : ℕ) (i : NodeInfo) (a : At t.nodes k i) → length (thing_sorts (node_scope p (of_node p t s k i a).0).local) ≡ length i.locals.items
   count_locals k i a =
       let x = of_node p t s k i a in
-      sym (names_length _ _ (own_names k i a)) ∙ length-map (map local_info x.0.locals) (λ (l : LocalInfo). l.truth) ∙ sym (ap (λ (y : NodeTable). length y.locals) x.2)
+      sym (names_length _ _ (own_names k i a)) ∙ length-map (map local_info x.0.locals) (λ (l : LocalInfo). l.truth)
+      ∙ sym (ap (λ (y : NodeTable). length y.locals) x.2)
 
   count_writes : (k : ℕ) (i : NodeInfo) (a : At t.nodes k i) → length (thing_sorts (node_scope p (of_node p t s k i a).0).written) ≡ length i.writes.items
   count_writes k i a =
       let x = of_node p t s k i a in
       sym (names_length _ _ (input_names p t s f x.0.writes)) ∙ length-map _ (is_truth_scalar t.scalars) ∙ sym (ap (λ (y : NodeTable). length y.writes) x.2)
 
-  body_fits : (k : ℕ) (i : NodeInfo) (a : At t.nodes k i) (acts : List Act) → IsCoded i acts → ActsFit (node_truths t i) (length i.locals.items) (length i.writes.items) acts
+  body_fits : (k : ℕ) (i : NodeInfo) (a : At t.nodes k i) (acts : List Act) → IsCoded i acts
+      → ActsFit (node_truths t i) (length i.locals.items) (length i.writes.items) acts
   body_fits k i a acts (v, e, q) =
       let x = of_node p t s k i a in
       let b = body_seen i.body x.0.body (deeds_of (node_scope p x.0)) v (ap (λ (y : NodeTable). y.body) x.2) e in
       let g : IsBlock b.0 = subst (IfThere IsBlock) b.1 (node_formed p fo k x.0 x.1).body in
       let d = block_fits (node_scope p x.0) (node_truths t i) (node_names k i a) b.0 g (λ at kind h. node_faultless p f k x.0 x.1 at kind (statements b.1 h)) in
-      let c = subst (λ n. DeedsFit (node_truths t i) n (length (thing_sorts (node_scope p x.0).written)) (deeds_of (node_scope p x.0) b.0)) (count_locals k i a) d in
+      let c = subst (λ n. DeedsFit (node_truths t i) n (length (thing_sorts (node_scope p x.0).written)) (deeds_of (node_scope p x.0) b.0)) (count_locals k i a)
+      d in
       let w = subst (λ n. DeedsFit (node_truths t i) (length i.locals.items) n (deeds_of (node_scope p x.0) b.0)) (count_writes k i a) c in
       subst (ActsFit (node_truths t i) (length i.locals.items) (length i.writes.items)) q
-      (acts_fit (node_truths t i) (length i.locals.items) (length i.writes.items) v.items (subst (DeedsFit (node_truths t i) (length i.locals.items) (length i.writes.items)) (sym b.2) w))
+      (acts_fit (node_truths t i) (length i.locals.items) (length i.writes.items) v.items
+      (subst (DeedsFit (node_truths t i) (length i.locals.items) (length i.writes.items)) (sym b.2) w))
 
   plant_meets : (k : ℕ) (i : PlantInfo) → At t.plants k i → MeetsPlantRules t k i
   plant_meets k i a = record {

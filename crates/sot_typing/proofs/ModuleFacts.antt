@@ -1,5 +1,6 @@
 -- The modules of the tables of a program in which no rule fails.
-use Rattle.std.proofs.Common.{◌≡◌, ◌∙◌, ℕ, suc, ◌<◌, ◌≤◌, ◌≢◌, ◌≤ℤ◌, List, [], ◌∷◌, map, zip, length, refl, sym, ap, subst, Option, Some, None, option_map, is_none, Bool, true, false, arith}
+use Rattle.std.proofs.Common.{◌≡◌, ◌∙◌, ℕ, suc, ◌<◌, ◌≤◌, ◌≢◌, ◌≤ℤ◌, List, [], ◌∷◌, map, zip, length, refl, sym, ap, subst, Option, Some, None, option_map}
+use Rattle.std.proofs.Common.{is_none, Bool, true, false, arith}
 use Rattle.std.specs.Global.{Vec}
 use Rattle.std.proofs.lemmas.List.{length-map}
 use Rattle.std.proofs.lemmas.Option.{none-some}
@@ -23,7 +24,8 @@ use Rattle.sot_tree.specs.Formed.{IsFormed}
 use Rattle.sot_rules.specs.Sorts.{state_sort}
 use Rattle.sot_rules.specs.Names.{meaning, is_topic, is_plant, is_node, is_external, node_scope}
 use Rattle.sot_rules.specs.Tests.{side_sorts, has_other_width, sides_of, free_sides}
-use Rattle.sot_rules.specs.Fails.{PlantFails, BoundsFail, RegionFails, other_width, side, many_boxes, ac_unknown, sc_unknown, sc_external, same_node, module_times, plant_unknown, plant_topic, safe, safer}
+use Rattle.sot_rules.specs.Fails.{PlantFails, BoundsFail, RegionFails, other_width, side, many_boxes, ac_unknown, sc_unknown, sc_external, same_node}
+use Rattle.sot_rules.specs.Fails.{module_times, plant_unknown, plant_topic, safe, safer}
 use Rattle.sot_typing.specs.Formulas.{Deeds, deeds_view}
 use Rattle.sot_typing.specs.Terms.{deeds_of}
 use Rattle.sot_typing.specs.Resolved.{nodes, modules, plant_place, node_place, side_of, state_count, region_of, NodeTable}
@@ -37,7 +39,8 @@ use Rattle.sot_typing.proofs.Seen.{AreSeen, of_module, node_in}
 use Rattle.sot_typing.proofs.PlantFacts.{state_known, plant_meant, width_meant}
 
 -- a node with a body is coded
-coded : (o : Option (Vec Act)) (b : Option Block) (g : Block → Deeds) → option_map (λ (v : Vec Act). deeds_view v.items) o ≡ option_map g b → is_none b ≡ false → (v : Vec Act) × (o ≡ Some v)
+coded : (o : Option (Vec Act)) (b : Option Block) (g : Block → Deeds) → option_map (λ (v : Vec Act). deeds_view v.items) o ≡ option_map g b → is_none b ≡ false
+    → (v : Vec Act) × (o ≡ Some v)
 coded (Some v) b g e n = (v, refl)
 coded None None g e n = cc
 coded None (Some b) g e n = absurd (none-some (g b) e)
@@ -54,15 +57,19 @@ abbrev count_by_meaning : Option Declaration → ℕ
 count_by_meaning o = elim o as (λ x. ℕ) [ Some (a_plant q) ↦ length q.states | _ ↦ 0 ]
 
 -- the region of a plant in which no rule fails
-module _ (p : Program) (q : Plant) (none : (at : Span) (k : TypeKind) → PlantFails p q at k → ⊥) (areas : List Area) (width : Option (List Sort)) (is : width ≡ Some (map state_sort q.states)) (never : (at : Span) (k : TypeKind) → RegionFails width areas at k → ⊥) where
-  one_side : (a : Area) → Has areas a → length (map state_sort q.states) ≡ length a.sides → has_other_width width a ≡ false → (k : ℕ) (b : Bounds) → At a.sides k b → b.lo.mantissa ≤ℤ b.hi.mantissa
+module _ (p : Program) (q : Plant) (none : (at : Span) (k : TypeKind) → PlantFails p q at k → ⊥) (areas : List Area) (width : Option (List Sort))
+    (is : width ≡ Some (map state_sort q.states)) (never : (at : Span) (k : TypeKind) → RegionFails width areas at k → ⊥) where
+  one_side : (a : Area) → Has areas a → length (map state_sort q.states) ≡ length a.sides → has_other_width width a ≡ false → (k : ℕ) (b : Bounds)
+      → At a.sides k b → b.lo.mantissa ≤ℤ b.hi.mantissa
   one_side a h e w k b c =
       let l = at_lt a.sides k b c in
       let m = length-map q.states state_sort in
       let s = at_below q.states k (omega arith) in
       let r = state_known p q none s.0 (k, s.1) in
       let z = at_zip (map state_sort q.states) a.sides k (state_sort s.0) b (at_map state_sort q.states k s.0 s.1) c in
-      let y : At (sides_of (Some (map state_sort q.states)) a) k (state_sort s.0, b) = subst (λ (l : List (Sort × Bounds)). At l k (state_sort s.0, b)) (sym (ap (sides_by (map state_sort q.states) a) (ap (λ o. has_other_width o a) (sym is) ∙ w))) z in
+      let y : At (sides_of (Some (map state_sort q.states)) a) k (state_sort s.0, b) =
+      subst (λ (l : List (Sort × Bounds)). At l k (state_sort s.0, b))
+      (sym (ap (sides_by (map state_sort q.states) a) (ap (λ o. has_other_width o a) (sym is) ∙ w))) z in
       let x : At (sides_of width a) k (state_sort s.0, b) = subst (λ o. At (sides_of o a) k (state_sort s.0, b)) (sym is) y in
       (range_is false r.0 b (λ at kind f. never at kind (side h (k, x) (subst (λ v. BoundsFail false v b at kind) (sym r.1) f)))).ordered
 
@@ -129,8 +136,10 @@ module _ (p : Program) (t : Tables) (s : AreSeen p t) (f : IsFaultless p) where
       let m = ac_of k x.0 x.1 in
       let n = sc_of k x.0 x.1 in
       let q : node_place p x.0.ac ≡ node_place p x.0.sc = ap (λ (i : ModuleInfo). i.ac) x.2 ∙ e ∙ sym (ap (λ (i : ModuleInfo). i.sc) x.2) in
-      let w : m.0 ≡ n.0 = at_same (nodes p) (node_place p x.0.sc) m.0 n.0 (subst (λ j. At (nodes p) j m.0) q (node_at p x.0.ac m.0 m.1)) (node_at p x.0.sc n.0 n.1) in
-      let name : x.0.ac.name ≡ x.0.sc.name = meaning_name p x.0.ac (a_node m.0) m.1 ∙ ap (λ (y : Node). y.name.name) w ∙ sym (meaning_name p x.0.sc (a_node n.0) n.1) in
+      let w : m.0 ≡ n.0 = at_same (nodes p) (node_place p x.0.sc) m.0 n.0 (subst (λ j. At (nodes p) j m.0) q (node_at p x.0.ac m.0 m.1))
+      (node_at p x.0.sc n.0 n.1) in
+      let name : x.0.ac.name ≡ x.0.sc.name = meaning_name p x.0.ac (a_node m.0) m.1 ∙ ap (λ (y : Node). y.name.name) w
+      ∙ sym (meaning_name p x.0.sc (a_node n.0) n.1) in
       module_faultless p f k x.0 x.1 x.0.sc.at Twice (same_node (name_same x.0.ac x.0.sc name))
 
   -- when it decides
@@ -142,7 +151,9 @@ module _ (p : Program) (t : Tables) (s : AreSeen p t) (f : IsFaultless p) where
       subst (λ (i : ModuleInfo). (i.period ≤ 1000) × (i.offset < i.period)) x.2 r
 
   -- its regions
-  region_is : (k : ℕ) (m : Module) → At (modules p) k m → (areas : List Area) → ((at : Span) (kind : TypeKind) → RegionFails (side_sorts (meaning p m.plant)) areas at kind → ⊥) → IsRegionFor t (plant_place p m.plant) (region_of p m.plant areas)
+  region_is : (k : ℕ) (m : Module) → At (modules p) k m → (areas : List Area)
+      → ((at : Span) (kind : TypeKind) → RegionFails (side_sorts (meaning p m.plant)) areas at kind → ⊥)
+      → IsRegionFor t (plant_place p m.plant) (region_of p m.plant areas)
   region_is k m a areas never =
       let q = plant_of k m a in
       let none = plant_faultless p f (plant_place p m.plant) q.0 (plant_at p m.plant q.0 q.1) in
@@ -158,6 +169,10 @@ module _ (p : Program) (t : Tables) (s : AreSeen p t) (f : IsFaultless p) where
       let x = of_module p t s k info a in
       record {
         period = (module_times_are fo k info a).0;
-        safe = subst (λ (i : ModuleInfo). IsRegionFor t i.plant i.safe) x.2 (region_is k x.0 x.1 x.0.safe (λ at kind h. module_faultless p f k x.0 x.1 at kind (safe h)));
-        safer = subst (λ (i : ModuleInfo). IsRegionFor t i.plant i.safer) x.2 (region_is k x.0 x.1 x.0.safer (λ at kind h. module_faultless p f k x.0 x.1 at kind (safer h)));
+        safe =
+            subst (λ (i : ModuleInfo). IsRegionFor t i.plant i.safe) x.2
+            (region_is k x.0 x.1 x.0.safe (λ at kind h. module_faultless p f k x.0 x.1 at kind (safe h)));
+        safer =
+            subst (λ (i : ModuleInfo). IsRegionFor t i.plant i.safer) x.2
+            (region_is k x.0 x.1 x.0.safer (λ at kind h. module_faultless p f k x.0 x.1 at kind (safer h)));
       }

@@ -1,5 +1,6 @@
 -- The nodes of the tables of a program in which no rule fails, but for their bodies.
-use Rattle.std.proofs.Common.{◌≡◌, ◌∙◌, ℕ, ◌+◌, ◌<◌, ◌≤◌, ◌≤ℤ◌, List, [], map, length, flat_map, refl, sym, ap, subst, Option, Some, None, option_map, true, false, arith}
+use Rattle.std.proofs.Common.{◌≡◌, ◌∙◌, ℕ, ◌+◌, ◌<◌, ◌≤◌, ◌≤ℤ◌, List, [], map, length, flat_map, refl, sym, ap, subst, Option, Some, None, option_map, true}
+use Rattle.std.proofs.Common.{false, arith}
 use Rattle.std.specs.Global.{Vec}
 use Rattle.std.proofs.lemmas.List.{length-map}
 use Rattle.std.proofs.lemmas.Option.{none-some}
@@ -28,7 +29,8 @@ use Rattle.sot_rules.specs.Tests.{read_size}
 use Rattle.sot_rules.specs.Fails.{node_times, many_read, written_twice, written_outside, written_read, many_written, local_scalar, local_start, many_locals}
 use Rattle.sot_typing.specs.Formulas.{deeds_view}
 use Rattle.sot_typing.specs.Terms.{deeds_of}
-use Rattle.sot_typing.specs.Resolved.{topics, topic_place, plant_place, scalar_count, first_scalar, scalars_meant, slots_meant, lowest, greatest, const_number, local_info, NodeTable}
+use Rattle.sot_typing.specs.Resolved.{topics, topic_place, plant_place, scalar_count, first_scalar, scalars_meant, slots_meant, lowest, greatest, const_number}
+use Rattle.sot_typing.specs.Resolved.{local_info, NodeTable}
 use Rattle.sot_typing.proofs.Lists.{at_mapped, at_same, any_at}
 use Rattle.sot_typing.proofs.Joined.{of_has_joined, length_joined, has_joined}
 use Rattle.sot_typing.proofs.Once.{not_passed, name_same}
@@ -80,7 +82,8 @@ module _ (p : Program) (t : Tables) (s : AreSeen p t) (f : IsFaultless p) where
       let x = of_node p t s n node a in
       listed_below p t s f x.0.reads k (scalar_read p x.0.reads k (subst (λ (l : List Slot). Has l (ScalarSlot k)) (reads_by n node a) h))
 
-  state_read : (n : ℕ) (node : NodeInfo) (k v : ℕ) → At t.nodes n node → Has node.reads.items (State k v) → (i : Ident) × (q : Plant) × (meaning p i ≡ Some (a_plant q)) × (k ≡ plant_place p i) × (v < length q.states)
+  state_read : (n : ℕ) (node : NodeInfo) (k v : ℕ) → At t.nodes n node → Has node.reads.items (State k v)
+      → (i : Ident) × (q : Plant) × (meaning p i ≡ Some (a_plant q)) × (k ≡ plant_place p i) × (v < length q.states)
   state_read n node k v a h =
       let x = of_node p t s n node a in
       let r = of_has_joined (slots_meant p) x.0.reads (State k v) (subst (λ (l : List Slot). Has l (State k v)) (reads_by n node a) h) in
@@ -102,28 +105,33 @@ module _ (p : Program) (t : Tables) (s : AreSeen p t) (f : IsFaultless p) where
   writes_by : (k : ℕ) (node : NodeInfo) (a : At t.nodes k node) → node.writes.items ≡ flat_map (scalars_meant p) (of_node p t s k node a).0.writes
   writes_by k node a = ap (λ (y : NodeTable). y.writes) (of_node p t s k node a).2
 
-  written : (n : ℕ) (node : NodeInfo) (k : ℕ) (a : At t.nodes n node) → Has node.writes.items k → Has (flat_map (scalars_meant p) (of_node p t s n node a).0.writes) k
+  written : (n : ℕ) (node : NodeInfo) (k : ℕ) (a : At t.nodes n node) → Has node.writes.items k
+      → Has (flat_map (scalars_meant p) (of_node p t s n node a).0.writes) k
   written n node k a h = subst (λ (l : List ℕ). Has l k) (writes_by n node a) h
 
   pub few_writes : (k : ℕ) (node : NodeInfo) → At t.nodes k node → length node.writes.items ≤ 8
   few_writes k node a =
       let x = of_node p t s k node a in
-      subst (λ (l : List ℕ). length l ≤ 8) (sym (writes_by k node a)) (few_listed p 8 x.0.writes (λ at h. node_faultless p f k x.0 x.1 at TooMany (many_written h)))
+      subst (λ (l : List ℕ). length l ≤ 8) (sym (writes_by k node a))
+      (few_listed p 8 x.0.writes (λ at h. node_faultless p f k x.0 x.1 at TooMany (many_written h)))
 
   pub writes_once : (n : ℕ) (node : NodeInfo) (i j k : ℕ) → At t.nodes n node → At node.writes.items i k → At node.writes.items j k → i ≡ j
   writes_once n node i j k a u v =
       let x = of_node p t s n node a in
       let e = writes_by n node a in
-      listed_once p x.0.writes (λ at h. node_faultless p f n x.0 x.1 at Twice (written_twice h)) i j k (subst (λ (l : List ℕ). At l i k) e u) (subst (λ (l : List ℕ). At l j k) e v)
+      listed_once p x.0.writes (λ at h. node_faultless p f n x.0 x.1 at Twice (written_twice h)) i j k (subst (λ (l : List ℕ). At l i k) e u)
+      (subst (λ (l : List ℕ). At l j k) e v)
 
   pub writes_inside : (n : ℕ) (node : NodeInfo) (k : ℕ) → At t.nodes n node → Has node.writes.items k → k < length t.scalars
   writes_inside n node k a h = listed_below p t s f (of_node p t s n node a).0.writes k (written n node k a h)
 
-  pub whole_writes : (n : ℕ) (node : NodeInfo) (j k : ℕ) (u v : ScalarInfo) → At t.nodes n node → Has node.writes.items j → At t.scalars j u → At t.scalars k v → u.topic ≡ v.topic → Has node.writes.items k
+  pub whole_writes : (n : ℕ) (node : NodeInfo) (j k : ℕ) (u v : ScalarInfo) → At t.nodes n node → Has node.writes.items j → At t.scalars j u → At t.scalars k v
+      → u.topic ≡ v.topic → Has node.writes.items k
   whole_writes n node j k u v a h x y e =
       subst (λ (l : List ℕ). Has l k) (sym (writes_by n node a)) (listed_whole p t s f (of_node p t s n node a).0.writes j k u v (written n node j a h) x y e)
 
-  pub writes_outside : (n : ℕ) (node : NodeInfo) (j i : ℕ) (info : TopicInfo) → At t.nodes n node → At t.topics j info → info.outside ≡ true → i < info.count → Has node.writes.items (info.first + i) → ⊥
+  pub writes_outside : (n : ℕ) (node : NodeInfo) (j i : ℕ) (info : TopicInfo) → At t.nodes n node → At t.topics j info → info.outside ≡ true → i < info.count
+      → Has node.writes.items (info.first + i) → ⊥
   writes_outside n node j i info a b o l h =
       let x = of_node p t s n node a in
       let w = of_listed p x.0.writes (info.first + i) (written n node (info.first + i) a h) in
@@ -133,7 +141,8 @@ module _ (p : Program) (t : Tables) (s : AreSeen p t) (f : IsFaultless p) where
       let d = topic_at p w.name w.topic w.means in
       let e : topic_place p w.name ≡ j = same_topic p (topic_place p w.name) j w.nth i w.topic u.0 d u.1 w.below c (sym w.place ∙ sym g) in
       let q : w.topic ≡ u.0 = at_same (topics p) j w.topic u.0 (subst (λ m. At (topics p) m w.topic) e d) u.1 in
-      let r : is_environment (meaning p w.name) ≡ true = ap is_environment w.means ∙ ap (λ (y : Topic). y.outside) q ∙ ap (λ (y : TopicInfo). y.outside) u.2 ∙ o in
+      let r : is_environment (meaning p w.name) ≡ true = ap is_environment w.means ∙ ap (λ (y : Topic). y.outside) q ∙ ap (λ (y : TopicInfo). y.outside) u.2
+      ∙ o in
       node_faultless p f n x.0 x.1 w.name.at KindDiffers (written_outside w.listed r)
 
   pub not_read : (n : ℕ) (node : NodeInfo) (k : ℕ) → At t.nodes n node → Has node.reads.items (ScalarSlot k) → Has node.writes.items k → ⊥
@@ -156,11 +165,13 @@ module _ (p : Program) (t : Tables) (s : AreSeen p t) (f : IsFaultless p) where
       let e : length node.locals.items ≡ length x.0.locals = ap (λ (y : NodeTable). length y.locals) x.2 ∙ length-map x.0.locals local_info in
       omega arith
 
-  local_is : (k : ℕ) (node : NodeInfo) (a : At t.nodes k node) (i : ℕ) (info : LocalInfo) → At node.locals.items i info → (l : Local) × (local_info l ≡ info) × IsTyping false l.scalar × (lowest l.scalar ≤ℤ const_number l.init) × (const_number l.init ≤ℤ greatest l.scalar)
+  local_is : (k : ℕ) (node : NodeInfo) (a : At t.nodes k node) (i : ℕ) (info : LocalInfo) → At node.locals.items i info
+      → (l : Local) × (local_info l ≡ info) × IsTyping false l.scalar × (lowest l.scalar ≤ℤ const_number l.init) × (const_number l.init ≤ℤ greatest l.scalar)
   local_is k node a i info b =
       let x = of_node p t s k node a in
       let m = at_mapped local_info x.0.locals i info (subst (λ (l : List LocalInfo). At l i info) (locals_by k node a) b) in
-      let r = start_is false m.0.scalar m.0.init (λ at kind h. node_faultless p f k x.0 x.1 at kind (local_scalar (i, m.1) h)) (λ at kind h. node_faultless p f k x.0 x.1 at kind (local_start (i, m.1) h)) in
+      let r = start_is false m.0.scalar m.0.init (λ at kind h. node_faultless p f k x.0 x.1 at kind (local_scalar (i, m.1) h))
+      (λ at kind h. node_faultless p f k x.0 x.1 at kind (local_start (i, m.1) h)) in
       (m.0, m.2, scalar_is false m.0.scalar (λ at kind h. node_faultless p f k x.0 x.1 at kind (local_scalar (i, m.1) h)), r.0, r.1)
 
   pub locals_meet : (k : ℕ) (node : NodeInfo) → At t.nodes k node → (i : ℕ) (info : LocalInfo) → At node.locals.items i info → MeetsLocalRules info
@@ -169,7 +180,9 @@ module _ (p : Program) (t : Tables) (s : AreSeen p t) (f : IsFaultless p) where
       subst MeetsLocalRules x.1 (record { scale = x.2.scale; range = x.2.ordered; truth = x.2.truth })
 
   pub local_inits : (k : ℕ) (node : NodeInfo) → At t.nodes k node → IsWithin (local_ranges node) (map (λ (l : LocalInfo). l.init) node.locals.items)
-  local_inits k node a = within_each (λ (i : LocalInfo). i.lo) (λ (i : LocalInfo). i.hi) (λ (i : LocalInfo). i.init) node.locals.items (λ i info b. (let x = local_is k node a i info b in subst (λ (z : LocalInfo). (z.lo ≤ℤ z.init) × (z.init ≤ℤ z.hi)) x.1 (x.3, x.4)))
+  local_inits k node a =
+      within_each (λ (i : LocalInfo). i.lo) (λ (i : LocalInfo). i.hi) (λ (i : LocalInfo). i.init) node.locals.items
+      (λ i info b. (let x = local_is k node a i info b in subst (λ (z : LocalInfo). (z.lo ≤ℤ z.init) × (z.init ≤ℤ z.hi)) x.1 (x.3, x.4)))
 
   -- an external node has none
   pub external_locals : IsFormed p → (k : ℕ) (node : NodeInfo) → At t.nodes k node → node.body ≡ None → node.locals.items ≡ []

@@ -54,7 +54,8 @@ not_past limit place xs none = by (order limit (length xs))
     by (inr (inl l)) = (let r = at_below xs limit l in absurd (none (place r.0) (at_map place xs limit r.0 r.1)))
     by (inr (inr l)) = omega arith
 
-below : (size : Ident → ℕ) (limit : ℕ) (names : List Ident) → ((at : Span) → IsPassedBy size limit names at → ⊥) → (k : ℕ) → k ≤ length names → sum_by size (take k names) ≤ limit
+below : (size : Ident → ℕ) (limit : ℕ) (names : List Ident) → ((at : Span) → IsPassedBy size limit names at → ⊥) → (k : ℕ) → k ≤ length names
+    → sum_by size (take k names) ≤ limit
 below size limit names none zero l = omega arith
 below size limit names none (suc k) l = by (at_below names k (omega arith)) (below size limit names none k (omega arith))
   where
@@ -64,10 +65,12 @@ below size limit names none (suc k) l = by (at_below names k (omega arith)) (bel
         e : sum_by size (take (suc k) names) ≡ sum_by size (take k names) + size x.0
         e = sum_next size names k x.0 x.1
 
-        at_most : (limit ≡ sum_by size (take k names) + size x.0) ⊎ ((limit < sum_by size (take k names) + size x.0) ⊎ (sum_by size (take k names) + size x.0 < limit)) → sum_by size (take (suc k) names) ≤ limit
+        at_most : (limit ≡ sum_by size (take k names) + size x.0)
+            ⊎ ((limit < sum_by size (take k names) + size x.0) ⊎ (sum_by size (take k names) + size x.0 < limit)) → sum_by size (take (suc k) names) ≤ limit
         at_most (inl q) = omega (arith, e)
         at_most (inr (inl q)) = absurd (none x.0.at (record { place = k; name = x.0; stands = x.1; before = h; after = q; here = refl }))
         at_most (inr (inr q)) = omega (arith, e)
 
 pub not_passed : (size : Ident → ℕ) (limit : ℕ) (names : List Ident) → ((at : Span) → IsPassedBy size limit names at → ⊥) → sum_by size names ≤ limit
-not_passed size limit names none = subst (λ l. sum_by size l ≤ limit) (take_all (length names) names (omega arith)) (below size limit names none (length names) (omega arith))
+not_passed size limit names none =
+    subst (λ l. sum_by size l ≤ limit) (take_all (length names) names (omega arith)) (below size limit names none (length names) (omega arith))

@@ -36,22 +36,28 @@ module _ (names : List Thing) (es : List Expr) (i : ℕ) where
     pub rest_faultless : parts_faults names (parts_view (drop (i + 1) es)) ≡ []
     rest_faultless = nil_right (tree_faults names (tree_view x)) _ here
 
-  module _ (x : Expr) (lt : i < length es) (e : x ≡ get_or es i x) (a : Sorted) (p : IsSorted (formula_of names (tree_view x)) (sort names (tree_view x)) a) where
-    pub form_next : (ts us : List Term) → us ≡ ts ++ a.term ∷ [] → parts_then ts (formulas_of names (parts_view (drop i es))) ≡ formulas_of names (parts_view es) → parts_then us (formulas_of names (parts_view (drop (i + 1) es))) ≡ formulas_of names (parts_view es)
-    form_next ts us push inv =
-        ap (λ z. parts_then z (formulas_of names (parts_view (drop (i + 1) es)))) push
-        ∙ parts_push ts a.term (formulas_of names (parts_view (drop (i + 1) es)))
-        ∙ ap (λ z. parts_then ts (one_more z (formulas_of names (parts_view (drop (i + 1) es))))) p.form
-        ∙ sym (ap (λ z. parts_then ts (formulas_of names (parts_view z))) (rest_is es i x lt e))
-        ∙ inv
+  module _ (x : Expr) (lt : i < length es) (e : x ≡ get_or es i x) (a : Sorted) (p : IsSorted (formula_of names (tree_view x)) (sort names (tree_view x)) a)
+    where
+      pub form_next : (ts us : List Term) → us ≡ ts ++ a.term ∷ []
+          → parts_then ts (formulas_of names (parts_view (drop i es))) ≡ formulas_of names (parts_view es)
+          → parts_then us (formulas_of names (parts_view (drop (i + 1) es))) ≡ formulas_of names (parts_view es)
+      form_next ts us push inv =
+          ap (λ z. parts_then z (formulas_of names (parts_view (drop (i + 1) es)))) push
+          ∙ parts_push ts a.term (formulas_of names (parts_view (drop (i + 1) es)))
+          ∙ ap (λ z. parts_then ts (one_more z (formulas_of names (parts_view (drop (i + 1) es))))) p.form
+          ∙ sym (ap (λ z. parts_then ts (formulas_of names (parts_view z))) (rest_is es i x lt e))
+          ∙ inv
 
-    pub sort_next : (s r : Sort) → r ≡ given s a.sort → fold given s (sorts names (parts_view (drop i es))) ≡ call_sort (sorts names (parts_view es)) → fold given r (sorts names (parts_view (drop (i + 1) es))) ≡ call_sort (sorts names (parts_view es))
-    sort_next s r now inv =
-        ap (λ z. fold given z (sorts names (parts_view (drop (i + 1) es)))) (now ∙ ap (given s) p.sort)
-        ∙ sym (ap (λ z. fold given s (sorts names (parts_view z))) (rest_is es i x lt e))
-        ∙ inv
+      pub sort_next : (s r : Sort) → r ≡ given s a.sort → fold given s (sorts names (parts_view (drop i es))) ≡ call_sort (sorts names (parts_view es))
+          → fold given r (sorts names (parts_view (drop (i + 1) es))) ≡ call_sort (sorts names (parts_view es))
+      sort_next s r now inv =
+          ap (λ z. fold given z (sorts names (parts_view (drop (i + 1) es)))) (now ∙ ap (given s) p.sort)
+          ∙ sym (ap (λ z. fold given s (sorts names (parts_view z))) (rest_is es i x lt e))
+          ∙ inv
 
-  pub parts_done : (m : SortedList) → length es ≤ i → parts_then m.terms.items (formulas_of names (parts_view (drop i es))) ≡ formulas_of names (parts_view es) → fold given m.sort (sorts names (parts_view (drop i es))) ≡ call_sort (sorts names (parts_view es)) → sort_scale m.sort ≤ 255 → AreSorted (formulas_of names (parts_view es)) (call_sort (sorts names (parts_view es))) m
+  pub parts_done : (m : SortedList) → length es ≤ i → parts_then m.terms.items (formulas_of names (parts_view (drop i es))) ≡ formulas_of names (parts_view es)
+      → fold given m.sort (sorts names (parts_view (drop i es))) ≡ call_sort (sorts names (parts_view es)) → sort_scale m.sort ≤ 255
+      → AreSorted (formulas_of names (parts_view es)) (call_sort (sorts names (parts_view es))) m
   parts_done m le form kind decimals = record {
     form = parts_end m.terms.items ∙ sym (ap (λ z. parts_then m.terms.items (formulas_of names (parts_view z))) (drop_all i es le)) ∙ form;
     sort = sym (ap (λ z. fold given m.sort (sorts names (parts_view z))) (drop_all i es le)) ∙ kind;

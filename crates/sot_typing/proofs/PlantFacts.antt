@@ -1,5 +1,6 @@
 -- The plants of the tables of a program in which no rule fails, but for their `next` expressions.
-use Rattle.std.proofs.Common.{◌≡◌, ◌∙◌, ℕ, ◌<◌, ◌≤◌, ◌≢◌, ◌⊎◌, inl, inr, List, [], ◌∷◌, map, length, flat_map, nat_abs, refl, sym, ap, subst, Option, Some, None, true, arith}
+use Rattle.std.proofs.Common.{◌≡◌, ◌∙◌, ℕ, ◌<◌, ◌≤◌, ◌≢◌, ◌⊎◌, inl, inr, List, [], ◌∷◌, map, length, flat_map, nat_abs, refl, sym, ap, subst, Option, Some}
+use Rattle.std.proofs.Common.{None, true, arith}
 use Rattle.std.specs.List.{position_or_len}
 use Rattle.std.specs.Str.{bytes_eq}
 use Rattle.std.proofs.lemmas.List.{length-map}
@@ -30,7 +31,8 @@ use Rattle.sot_rules.specs.Names.{meaning, is_topic, is_plant, plant_scope}
 use Rattle.sot_rules.specs.Lists.{IsPast, places}
 use Rattle.sot_rules.specs.Tests.{has_module, is_plant_of, is_state}
 use Rattle.sot_rules.specs.TreeSorts.{is_no_scale}
-use Rattle.sot_rules.specs.Fails.{PlantFails, no_module, many_states, state_scale, many_inputs, seen_unknown, seen_topic, sees_itself, many_seen, noise_scalar, many_noise, next_order, next_short}
+use Rattle.sot_rules.specs.Fails.{PlantFails, no_module, many_states, state_scale, many_inputs, seen_unknown, seen_topic, sees_itself, many_seen, noise_scalar}
+use Rattle.sot_rules.specs.Fails.{many_noise, next_order, next_short}
 use Rattle.sot_typing.specs.Formulas.{formula_view}
 use Rattle.sot_typing.specs.Terms.{sort_scale, formula_of}
 use Rattle.sot_typing.specs.Resolved.{plants, a_module_of, plant_place, scalars_meant, state_info, noise_info, plant_table, plant_seen, PlantTable, module_info}
@@ -45,12 +47,15 @@ use Rattle.sot_typing.proofs.TopicLists.{few_listed, listed_below, listed_whole}
 use Rattle.sot_lang.proofs.Owners.{width_at}
 
 -- a state variable is a number of at most 6 decimals
-pub state_known : (p : Program) (q : Plant) → ((at : Span) (k : TypeKind) → PlantFails p q at k → ⊥) → (s : StateDecl) → Has q.states s → (n : ℕ) × (state_sort s ≡ Scaled n) × (n ≤ 6)
+pub state_known : (p : Program) (q : Plant) → ((at : Span) (k : TypeKind) → PlantFails p q at k → ⊥) → (s : StateDecl) → Has q.states s
+    → (n : ℕ) × (state_sort s ≡ Scaled n) × (n ≤ 6)
 state_known p q none s h = by s.scale refl
   where
     by : (o : Option Lit) → s.scale ≡ o → (n : ℕ) × (state_sort s ≡ Scaled n) × (n ≤ 6)
     by None e = (0, ap written_scale e, omega arith)
-    by (Some d) e = (let r = scale_known d (false_from_ne_true (is_no_scale d) (λ w. none d.at ScaleDiffers (state_scale h e w))) in (nat_abs d.mantissa, ap written_scale e ∙ r.0, r.1))
+    by (Some d) e =
+        (let r = scale_known d (false_from_ne_true (is_no_scale d) (λ w. none d.at ScaleDiffers (state_scale h e w))) in
+        (nat_abs d.mantissa, ap written_scale e ∙ r.0, r.1))
 
 some_length : {A : Type 0} (xs : List A) → HasItem xs → 1 ≤ length xs
 some_length [] h = absurd h
@@ -88,7 +93,8 @@ plant_place_by p i j e = ap (λ n. position_or_len (λ (q : Plant). bytes_eq n q
 
 module _ (p : Program) (t : Tables) (s : AreSeen p t) (f : IsFaultless p) where
   -- what is seen of a plant by its name
-  pub plant_meant : (i : Ident) (q : Plant) → meaning p i ≡ Some (a_plant q) → (info : PlantInfo) × At t.plants (plant_place p i) info × (plant_seen info ≡ plant_table p q)
+  pub plant_meant : (i : Ident) (q : Plant) → meaning p i ≡ Some (a_plant q)
+      → (info : PlantInfo) × At t.plants (plant_place p i) info × (plant_seen info ≡ plant_table p q)
   plant_meant i q e = plant_in p t s (plant_place p i) q (plant_at p i q e)
 
   pub width_meant : (i : Ident) (q : Plant) → meaning p i ≡ Some (a_plant q) → width_of t.plants (plant_place p i) ≡ length q.states
@@ -113,7 +119,8 @@ module _ (p : Program) (t : Tables) (s : AreSeen p t) (f : IsFaultless p) where
       let x = false_from_ne_true (is_topic (meaning p i)) (λ e. none i.at KindDiffers (seen_topic h e)) in
       a_plant_meant (meaning p i) (no_false (is_plant (meaning p i)) (λ e. none i.at Unknown (seen_unknown h x e)))
 
-  seen_by : (k : ℕ) (plant : PlantInfo) (n : ℕ) → At t.plants k plant → Has plant.sees.items n → (q : Plant) × (i : Ident) × At (plants p) k q × Has q.sees i × (plant_place p i ≡ n)
+  seen_by : (k : ℕ) (plant : PlantInfo) (n : ℕ) → At t.plants k plant → Has plant.sees.items n
+      → (q : Plant) × (i : Ident) × At (plants p) k q × Has q.sees i × (plant_place p i ≡ n)
   seen_by k plant n a h =
       let x = of_plant p t s k plant a in
       let e : plant.sees.items ≡ map (plant_place p) x.0.sees = ap (λ (y : PlantTable). y.sees) x.2 in
@@ -145,15 +152,18 @@ module _ (p : Program) (t : Tables) (s : AreSeen p t) (f : IsFaultless p) where
       let x = of_plant p t s k plant a in
       listed_below p t s f x.0.inputs n (subst (λ (l : List ℕ). Has l n) (inputs_by k plant a) h)
 
-  pub whole_inputs : (i : ℕ) (plant : PlantInfo) (j k : ℕ) (u v : ScalarInfo) → At t.plants i plant → Has plant.inputs.items j → At t.scalars j u → At t.scalars k v → u.topic ≡ v.topic → Has plant.inputs.items k
+  pub whole_inputs : (i : ℕ) (plant : PlantInfo) (j k : ℕ) (u v : ScalarInfo) → At t.plants i plant → Has plant.inputs.items j → At t.scalars j u
+      → At t.scalars k v → u.topic ≡ v.topic → Has plant.inputs.items k
   whole_inputs i plant j k u v a h x y e =
       let r = of_plant p t s i plant a in
-      subst (λ (l : List ℕ). Has l k) (sym (inputs_by i plant a)) (listed_whole p t s f r.0.inputs j k u v (subst (λ (l : List ℕ). Has l j) (inputs_by i plant a) h) x y e)
+      subst (λ (l : List ℕ). Has l k) (sym (inputs_by i plant a))
+      (listed_whole p t s f r.0.inputs j k u v (subst (λ (l : List ℕ). Has l j) (inputs_by i plant a) h) x y e)
 
   pub few_inputs : (k : ℕ) (plant : PlantInfo) → At t.plants k plant → length plant.inputs.items ≤ 8
   few_inputs k plant a =
       let x = of_plant p t s k plant a in
-      subst (λ (l : List ℕ). length l ≤ 8) (sym (inputs_by k plant a)) (few_listed p 8 x.0.inputs (λ at h. plant_faultless p f k x.0 x.1 at TooMany (many_inputs h)))
+      subst (λ (l : List ℕ). length l ≤ 8) (sym (inputs_by k plant a))
+      (few_listed p 8 x.0.inputs (λ at h. plant_faultless p f k x.0 x.1 at TooMany (many_inputs h)))
 
   pub few_seen : (k : ℕ) (plant : PlantInfo) → At t.plants k plant → length plant.sees.items ≤ 16
   few_seen k plant a =
@@ -189,7 +199,8 @@ module _ (p : Program) (t : Tables) (s : AreSeen p t) (f : IsFaultless p) where
       let e : length plant.noise.items ≡ length x.0.noise = ap (λ (y : PlantTable). length y.noise) x.2 ∙ length-map x.0.noise noise_info in
       omega arith
 
-  pub noise_ranges : (k : ℕ) (plant : PlantInfo) → At t.plants k plant → (i : ℕ) (info : NoiseInfo) → At plant.noise.items i info → (info.scale ≤ 6) × IsNarrow info.lo info.hi
+  pub noise_ranges : (k : ℕ) (plant : PlantInfo) → At t.plants k plant → (i : ℕ) (info : NoiseInfo) → At plant.noise.items i info
+      → (info.scale ≤ 6) × IsNarrow info.lo info.hi
   noise_ranges k plant a i info b =
       let x = of_plant p t s k plant a in
       let m = at_mapped noise_info x.0.noise i info (subst (λ (l : List NoiseInfo). At l i info) (ap (λ (y : PlantTable). y.noise) x.2) b) in
@@ -202,5 +213,6 @@ module _ (p : Program) (t : Tables) (s : AreSeen p t) (f : IsFaultless p) where
       let x = of_plant p t s k plant a in
       let e = count_states k plant a in
       let n = next_few p x.0 (plant_faultless p f k x.0 x.1) in
-      let u : length plant.next.items ≡ length x.0.next = sym (length-map plant.next.items formula_view) ∙ ap (λ (y : PlantTable). length y.next) x.2 ∙ length-map x.0.next (λ (n : Next). formula_of (plant_scope p x.0) n.value) in
+      let u : length plant.next.items ≡ length x.0.next = sym (length-map plant.next.items formula_view) ∙ ap (λ (y : PlantTable). length y.next) x.2
+      ∙ length-map x.0.next (λ (n : Next). formula_of (plant_scope p x.0) n.value) in
       omega arith

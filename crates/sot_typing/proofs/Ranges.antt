@@ -1,5 +1,6 @@
 -- Scalars in which no rule fails: their scales, their ranges and their initial values.
-use Rattle.std.proofs.Common.{List, [], ◌∷◌, map, ◌≡◌, ◌∙◌, ℕ, suc, ◌≤◌, ◌^◌, ◌==◌, nat_lt, ℤ, pos, ◌≤ℤ◌, ◌-ℤ◌, ◌+ℤ◌, nat_abs, int_lt, refl, sym, ap, subst, true, false, Bool, not, ◌&&◌, ◌||◌, if◌then◌else◌, arith}
+use Rattle.std.proofs.Common.{List, [], ◌∷◌, map, ◌≡◌, ◌∙◌, ℕ, suc, ◌≤◌, ◌^◌, ◌==◌, nat_lt, ℤ, pos, ◌≤ℤ◌, ◌-ℤ◌, ◌+ℤ◌, nat_abs, int_lt, refl, sym, ap, subst}
+use Rattle.std.proofs.Common.{true, false, Bool, not, ◌&&◌, ◌||◌, if◌then◌else◌, arith}
 use Rattle.std.proofs.lemmas.Int.{ints}
 use Rattle.std.proofs.lemmas.Bool.{false_from_ne_true}
 use Rattle.sot_box.specs.Boxes.{IsWithin}
@@ -19,7 +20,8 @@ use Rattle.sot_rules.specs.declared.expressions.sort.Sort.TheVariants.{Scaled, T
 use Rattle.sot_rules.specs.Sorts.{scale_sort, scalar_sort, differ, are_mixed, is_truthful}
 use Rattle.sot_rules.specs.TreeSorts.{is_no_scale}
 use Rattle.sot_rules.specs.Tests.{is_outside, sort_is}
-use Rattle.sot_rules.specs.Fails.{BoundsFail, low_scale, high_scale, empty, wide, ScalarFails, no_scale, int_bounds, fix_bounds, StartFails, start_misfit, start_outside, target_kind, target_scale}
+use Rattle.sot_rules.specs.Fails.{BoundsFail, low_scale, high_scale, empty, wide, ScalarFails, no_scale, int_bounds, fix_bounds, StartFails, start_misfit}
+use Rattle.sot_rules.specs.Fails.{start_outside, target_kind, target_scale}
 use Rattle.sot_typing.proofs.Tests.{and_tail, same_number}
 use Rattle.sot_typing.specs.Terms.{sort_scale}
 use Rattle.sot_typing.specs.Resolved.{lowest, greatest, const_number, scalar_scale, is_truth}
@@ -33,7 +35,8 @@ IsKnown Anything = ⊥
 pub scale_known : (d : Lit) → is_no_scale d ≡ false → (scale_sort d ≡ Scaled (nat_abs d.mantissa)) × (nat_abs d.mantissa ≤ 6)
 scale_known d e = by (d.scale == 0) refl e
   where
-    by : (b : Bool) → (d.scale == 0) ≡ b → (not b || nat_lt 6 (nat_abs d.mantissa)) ≡ false → (scale_sort d ≡ Scaled (nat_abs d.mantissa)) × (nat_abs d.mantissa ≤ 6)
+    by : (b : Bool) → (d.scale == 0) ≡ b → (not b || nat_lt 6 (nat_abs d.mantissa)) ≡ false
+        → (scale_sort d ≡ Scaled (nat_abs d.mantissa)) × (nat_abs d.mantissa ≤ 6)
     by true q e = (ap (λ b. if b then Scaled (nat_abs d.mantissa) else Anything) q, grind arith)
     by false q e = cc
 
@@ -58,7 +61,9 @@ range_is limited scale b none =
       low = sym low;
       high = sym high;
       ordered = not_empty b.lo.scale b.hi.scale b.lo.mantissa b.hi.mantissa (sym low ∙ high) (false_from_ne_true _ (λ e. none b.lo.at RangeEmpty (empty e)));
-      narrow = λ l. not_wide b.lo.scale b.hi.scale ((b.hi.mantissa -ℤ b.lo.mantissa) +ℤ pos 1) (pos (2 ^ 32)) (sym low ∙ high) (false_from_ne_true _ (λ e. none b.lo.at RangeWide (wide l e)));
+      narrow =
+          λ l. not_wide b.lo.scale b.hi.scale ((b.hi.mantissa -ℤ b.lo.mantissa) +ℤ pos 1) (pos (2 ^ 32)) (sym low ∙ high)
+          (false_from_ne_true _ (λ e. none b.lo.at RangeWide (wide l e)));
     }
 
 -- the type of a scalar
@@ -83,16 +88,27 @@ scalar_is limited (Fix d b) none =
       narrow = λ l. (r.ordered, r.narrow l);
       truth = λ t. (let q : is_truthful (Scaled (nat_abs d.mantissa)) ≡ true = ap is_truthful (sym e.0) ∙ t in cc);
     }
-scalar_is limited (BoolScalar at) none = record { scale = omega arith; known = tt; ordered = omega (arith, ints); narrow = λ l. (omega (arith, ints), omega (arith, ints)); truth = λ e. (refl, refl) }
+scalar_is limited (BoolScalar at) none =
+    record {
+      scale = omega arith;
+      known = tt;
+      ordered = omega (arith, ints);
+      narrow = λ l. (omega (arith, ints), omega (arith, ints));
+      truth = λ e. (refl, refl);
+    }
 
 -- its initial value
 inside : (s t u : ℕ) (lo hi z : ℤ) → s ≡ u → t ≡ u → (((s == u) && (t == u)) && (int_lt z lo || int_lt hi z)) ≡ false → (lo ≤ℤ z) × (z ≤ℤ hi)
 inside s t u lo hi z p q h = (grind (arith, ints), grind (arith, ints))
 
-starts : (n : ℕ) (b : Bounds) (l : Lit) (limited : Bool) → IsRange limited n b → n ≡ l.scale → ((n == l.scale) && is_outside b l) ≡ false → (b.lo.mantissa ≤ℤ l.mantissa) × (l.mantissa ≤ℤ b.hi.mantissa)
-starts n b l limited r e h = inside b.lo.scale b.hi.scale l.scale b.lo.mantissa b.hi.mantissa l.mantissa (r.low ∙ e) (r.high ∙ e) (and_tail (n == l.scale) (is_outside b l) (grind arith) h)
+starts : (n : ℕ) (b : Bounds) (l : Lit) (limited : Bool) → IsRange limited n b → n ≡ l.scale → ((n == l.scale) && is_outside b l) ≡ false
+    → (b.lo.mantissa ≤ℤ l.mantissa) × (l.mantissa ≤ℤ b.hi.mantissa)
+starts n b l limited r e h =
+    inside b.lo.scale b.hi.scale l.scale b.lo.mantissa b.hi.mantissa l.mantissa (r.low ∙ e) (r.high ∙ e)
+    (and_tail (n == l.scale) (is_outside b l) (grind arith) h)
 
-pub start_is : (limited : Bool) (s : Scalar) (c : Const) → ((at : Span) (k : TypeKind) → ScalarFails limited s at k → ⊥) → ((at : Span) (k : TypeKind) → StartFails s c at k → ⊥) → (lowest s ≤ℤ const_number c) × (const_number c ≤ℤ greatest s)
+pub start_is : (limited : Bool) (s : Scalar) (c : Const) → ((at : Span) (k : TypeKind) → ScalarFails limited s at k → ⊥)
+    → ((at : Span) (k : TypeKind) → StartFails s c at k → ⊥) → (lowest s ≤ℤ const_number c) × (const_number c ≤ℤ greatest s)
 start_is limited (Int b) (Number l) none never =
     starts 0 b l limited (range_is limited 0 b (λ at k h. none at k (int_bounds h)))
     (same_number 0 l.scale (false_from_ne_true _ (λ e. never l.at ScaleDiffers (start_misfit (target_scale e)))))
@@ -102,7 +118,8 @@ start_is limited (Fix d b) (Number l) none never =
     let e = scale_known d (false_from_ne_true _ (λ e. none d.at ScaleDiffers (no_scale e))) in
     starts (nat_abs d.mantissa) b l limited
     (range_is limited (nat_abs d.mantissa) b (λ at k h. none at k (fix_bounds (subst (λ s. BoundsFail limited s b at k) (sym e.0) h))))
-    (same_number (nat_abs d.mantissa) l.scale (ap (λ s. differ s (Scaled l.scale)) (sym e.0) ∙ false_from_ne_true _ (λ e. never l.at ScaleDiffers (start_misfit (target_scale e)))))
+    (same_number (nat_abs d.mantissa) l.scale (ap (λ s. differ s (Scaled l.scale)) (sym e.0)
+    ∙ false_from_ne_true _ (λ e. never l.at ScaleDiffers (start_misfit (target_scale e)))))
     (ap (λ s. sort_is s l.scale && is_outside b l) (sym e.0) ∙ false_from_ne_true _ (λ e. never l.at InitOutside (start_outside e)))
 start_is limited (Fix d b) (Truth v at) none never =
     let e = scale_known d (false_from_ne_true _ (λ e. none d.at ScaleDiffers (no_scale e))) in
@@ -112,6 +129,7 @@ start_is limited (BoolScalar w) (Truth true at) none never = (omega (arith, ints
 start_is limited (BoolScalar w) (Truth false at) none never = (omega (arith, ints), omega (arith, ints))
 
 -- all initial values are in their ranges
-pub within_each : {A : Type 0} (lo hi init : A → ℤ) (xs : List A) → ((k : ℕ) (x : A) → At xs k x → (lo x ≤ℤ init x) × (init x ≤ℤ hi x)) → IsWithin (map (λ x. record { lo = lo x; hi = hi x }) xs) (map init xs)
+pub within_each : {A : Type 0} (lo hi init : A → ℤ) (xs : List A) → ((k : ℕ) (x : A) → At xs k x → (lo x ≤ℤ init x) × (init x ≤ℤ hi x))
+    → IsWithin (map (λ x. record { lo = lo x; hi = hi x }) xs) (map init xs)
 within_each lo hi init [] h = tt
 within_each lo hi init (x ∷ xs) h = (let r = h 0 x refl in (r.0, r.1, within_each lo hi init xs (λ k y a. h (suc k) y a)))

@@ -1,5 +1,6 @@
 -- A name that is looked up gives the sort that stands at its place.
-use Rattle.std.proofs.Common.{◌≡◌, ◌∙◌, ℕ, zero, suc, ◌+◌, List, [], ◌∷◌, ◌++◌, map, length, find, cond, not, flat_map, refl, sym, ap, subst, Option, Some, None, true, false, Bool, ◌&&◌, arith}
+use Rattle.std.proofs.Common.{◌≡◌, ◌∙◌, ℕ, zero, suc, ◌+◌, List, [], ◌∷◌, ◌++◌, map, length, find, cond, not, flat_map, refl, sym, ap, subst, Option, Some}
+use Rattle.std.proofs.Common.{None, true, false, Bool, ◌&&◌, arith}
 use Rattle.std.specs.List.{position_or_len}
 use Rattle.std.specs.Str.{bytes_eq}
 use Rattle.std.proofs.lemmas.List.{length-map, length-append}
@@ -20,7 +21,8 @@ parts_sorts (several parts) = map (λ x. x.sort) parts
 abbrev pub thing_sorts : List Thing → List Sort
 thing_sorts things = flat_map (λ x. parts_sorts x.parts) things
 
-position_left : {A : Type 0} (test : A → Bool) (xs ys : List A) (k : ℕ) (x : A) → At xs k x → test x ≡ true → position_or_len test (xs ++ ys) ≡ position_or_len test xs
+position_left : {A : Type 0} (test : A → Bool) (xs ys : List A) (k : ℕ) (x : A) → At xs k x → test x ≡ true
+    → position_or_len test (xs ++ ys) ≡ position_or_len test xs
 position_left test [] ys k x a e = cc
 position_left test (z ∷ xs) ys zero x a e =
     let q : test z ≡ true = (let r : z ≡ x = cc in ap test r ∙ e) in
@@ -31,7 +33,8 @@ position_left test (z ∷ xs) ys (suc k) x a e = ap (λ n. cond (not (test z)) (
 is_first : {A : Type 0} (test : A → Bool) (xs : List A) (x : A) → At xs (position_or_len test xs) x → test x ≡ true
 is_first test xs x a = (let r = of_find test xs x (find_at test xs ∙ a) in r.2)
 
-position_right : {A : Type 0} (test : A → Bool) (xs ys : List A) → ((k : ℕ) (x : A) → At xs k x → test x ≡ false) → position_or_len test (xs ++ ys) ≡ length xs + position_or_len test ys
+position_right : {A : Type 0} (test : A → Bool) (xs ys : List A) → ((k : ℕ) (x : A) → At xs k x → test x ≡ false)
+    → position_or_len test (xs ++ ys) ≡ length xs + position_or_len test ys
 position_right test [] ys h = omega arith
 position_right test (z ∷ xs) ys h =
     let r = position_right test xs ys (λ k x a. h (suc k) x a) in
@@ -43,7 +46,8 @@ position_map test f (z ∷ xs) = ap (λ n. cond (not (test (f z))) (1 + n) 0) (p
 
 position_same : {A : Type 0} (test other : A → Bool) (xs : List A) → ((x : A) → test x ≡ other x) → position_or_len test xs ≡ position_or_len other xs
 position_same test other [] h = refl
-position_same test other (z ∷ xs) h = ap (λ b. cond (not b) (1 + position_or_len test xs) 0) (h z) ∙ ap (λ n. cond (not (other z)) (1 + n) 0) (position_same test other xs h)
+position_same test other (z ∷ xs) h =
+    ap (λ b. cond (not b) (1 + position_or_len test xs) 0) (h z) ∙ ap (λ n. cond (not (other z)) (1 + n) 0) (position_same test other xs h)
 
 length_parts : (name : List ℕ) (parts : Parts) → length (parts_references name parts) ≡ length (parts_sorts parts)
 length_parts name (alone s) = refl
@@ -59,8 +63,10 @@ length_references (z ∷ things) =
     omega arith
 
 -- a name that another thing has
-other_name : (first : Ident) (field : Option Ident) (name : List ℕ) (parts : Parts) → bytes_eq first.name name ≡ false → (k : ℕ) (r : Reference) → At (parts_references name parts) k r → is_meant first field r ≡ false
-other_name first field name (alone s) e zero r a = (let q : record { name = name; field = None } ≡ r = cc in ap (is_meant first field) (sym q) ∙ ap (λ b. b && are_both field None) e)
+other_name : (first : Ident) (field : Option Ident) (name : List ℕ) (parts : Parts) → bytes_eq first.name name ≡ false → (k : ℕ) (r : Reference)
+    → At (parts_references name parts) k r → is_meant first field r ≡ false
+other_name first field name (alone s) e zero r a =
+    (let q : record { name = name; field = None } ≡ r = cc in ap (is_meant first field) (sym q) ∙ ap (λ b. b && are_both field None) e)
 other_name first field name (alone s) e (suc k) r a = cc
 other_name first field name (several ps) e k r a =
     let m = at_mapped (λ (x : Part). record { name = name; field = Some x.name }) ps k r a in
@@ -71,7 +77,8 @@ part_found : (field : Ident) (s : Sort) (o : Option Part) → part_reading field
 part_found field s None e = cc
 part_found field s (Some x) e = (x, refl, cc)
 
-in_parts : (first : Ident) (field : Option Ident) (name : List ℕ) (parts : Parts) (s : Sort) → bytes_eq first.name name ≡ true → parts_reading first field parts ≡ gives s → At (parts_sorts parts) (position_or_len (is_meant first field) (parts_references name parts)) s
+in_parts : (first : Ident) (field : Option Ident) (name : List ℕ) (parts : Parts) (s : Sort) → bytes_eq first.name name ≡ true
+    → parts_reading first field parts ≡ gives s → At (parts_sorts parts) (position_or_len (is_meant first field) (parts_references name parts)) s
 in_parts first None name (alone u) s e r =
     let q : u ≡ s = cc in
     subst (λ b. At (u ∷ []) (cond (not (b && true)) (1 + 0) 0) s) (sym e) (ap Some q)
@@ -80,13 +87,15 @@ in_parts first None name (several ps) s e r = cc
 in_parts first (Some f) name (several ps) s e r =
     let x = part_found f s (find (λ (x : Part). bytes_eq f.name x.name) ps) r in
     let at : At ps (position_or_len (λ (x : Part). bytes_eq f.name x.name) ps) x.0 = sym (find_at (λ (x : Part). bytes_eq f.name x.name) ps) ∙ x.1 in
-    let same = position_map (is_meant first (Some f)) (λ (x : Part). record { name = name; field = Some x.name }) ps ∙ position_same _ (λ (x : Part). bytes_eq f.name x.name) ps (λ x. ap (λ b. b && bytes_eq f.name x.name) e) in
+    let same = position_map (is_meant first (Some f)) (λ (x : Part). record { name = name; field = Some x.name }) ps
+    ∙ position_same _ (λ (x : Part). bytes_eq f.name x.name) ps (λ x. ap (λ b. b && bytes_eq f.name x.name) e) in
     subst (λ n. At (map (λ (x : Part). x.sort) ps) n s) (sym same) (at_map (λ (x : Part). x.sort) ps _ x.0 at ∙ ap Some x.2)
 
 length_at : {A B : Type 0} (xs : List A) (ys : List B) (k : ℕ) (y : B) → length xs ≡ length ys → At ys k y → (x : A) × At xs k x
 length_at xs ys k y e a = (let l = at_lt ys k y a in at_below xs k (omega arith))
 
-pub place_is : (things : List Thing) (first : Ident) (field : Option Ident) (s : Sort) → reading things first field ≡ gives s → At (thing_sorts things) (place_of things first field) s
+pub place_is : (things : List Thing) (first : Ident) (field : Option Ident) (s : Sort) → reading things first field ≡ gives s
+    → At (thing_sorts things) (place_of things first field) s
 place_is [] first field s e = cc
 place_is (z ∷ things) first field s e = by (bytes_eq first.name z.name) refl e (λ q. place_is things first field s q)
   where
@@ -98,13 +107,17 @@ place_is (z ∷ things) first field s e = by (bytes_eq first.name z.name) refl e
         let n = position_left (is_meant first field) (parts_references z.name z.parts) (references things) _ x.0 x.1 m in
         subst (λ n. At (thing_sorts (z ∷ things)) n s) (sym n) (at_left (parts_sorts z.parts) (thing_sorts things) _ s a)
 
-    later : bytes_eq first.name z.name ≡ false → At (thing_sorts things) (place_of things first field) s → At (thing_sorts (z ∷ things)) (place_of (z ∷ things) first field) s
+    later : bytes_eq first.name z.name ≡ false → At (thing_sorts things) (place_of things first field) s
+        → At (thing_sorts (z ∷ things)) (place_of (z ∷ things) first field) s
     later q a =
         let n = position_right (is_meant first field) (parts_references z.name z.parts) (references things) (other_name first field z.name z.parts q) in
         let l = length_parts z.name z.parts in
-        let m : length (parts_sorts z.parts) + place_of things first field ≡ place_of (z ∷ things) first field = ap (λ k. k + place_of things first field) (sym l) ∙ sym n in
+        let m : length (parts_sorts z.parts) + place_of things first field ≡ place_of (z ∷ things) first field =
+        ap (λ k. k + place_of things first field) (sym l) ∙ sym n in
         subst (λ n. At (thing_sorts (z ∷ things)) n s) m (at_right (parts_sorts z.parts) (thing_sorts things) _ s a)
 
-    by : (b : Bool) → bytes_eq first.name z.name ≡ b → thing_reading first field (cond b (Some z) (find (λ (x : Thing). bytes_eq first.name x.name) things)) ≡ gives s → (reading things first field ≡ gives s → At (thing_sorts things) (place_of things first field) s) → At (thing_sorts (z ∷ things)) (place_of (z ∷ things) first field) s
+    by : (b : Bool) → bytes_eq first.name z.name ≡ b → thing_reading first field (cond b (Some z) (find (λ (x : Thing). bytes_eq first.name x.name) things))
+        ≡ gives s → (reading things first field ≡ gives s → At (thing_sorts things) (place_of things first field) s)
+        → At (thing_sorts (z ∷ things)) (place_of (z ∷ things) first field) s
     by true q r more = here q r
     by false q r more = later q (more r)

@@ -1,5 +1,6 @@
 -- The topics and the scalars of the tables of a program in which no rule fails.
-use Rattle.std.proofs.Common.{◌≡◌, ◌∙◌, ℕ, zero, suc, ◌+◌, ◌-◌, ◌<◌, ◌≤◌, pos, ◌≤ℤ◌, List, [], ◌∷◌, map, length, refl, sym, ap, subst, Option, Some, None, true, arith}
+use Rattle.std.proofs.Common.{◌≡◌, ◌∙◌, ℕ, zero, suc, ◌+◌, ◌-◌, ◌<◌, ◌≤◌, pos, ◌≤ℤ◌, List, [], ◌∷◌, map, length, refl, sym, ap, subst, Option, Some, None, true}
+use Rattle.std.proofs.Common.{arith}
 use Rattle.std.proofs.lemmas.List.{length-map}
 use Rattle.std.proofs.lemmas.Option.{same_Some, none-some}
 use Rattle.sot_lists.specs.Places.{At}
@@ -27,7 +28,8 @@ use Rattle.sot_typing.proofs.Seen.{AreSeen, of_topic, topic_in}
 use Rattle.sot_typing.proofs.Topics.{IsScalarAt, of_scalar, scalar_there, same_topic}
 
 -- one field has one place
-field_once : (s : Form) → ((at : Span) → IsRepeated (form_names s) at → ⊥) → (m n : ℕ) (x : Option (List ℕ)) → At (field_names s) m x → At (field_names s) n x → m ≡ n
+field_once : (s : Form) → ((at : Span) → IsRepeated (form_names s) at → ⊥) → (m n : ℕ) (x : Option (List ℕ)) → At (field_names s) m x → At (field_names s) n x
+    → m ≡ n
 field_once (one s) h zero zero x a b = refl
 field_once (one s) h zero (suc n) x a b = cc
 field_once (one s) h (suc m) n x a b = cc
@@ -59,7 +61,8 @@ typing_is p f k info x = scalar_is true x.scalar (λ at kind h. topic_faultless 
 
 starts_inside : (p : Program) → IsFaultless p → (k : ℕ) (info : ScalarInfo) → IsScalarAt p k info → (info.lo ≤ℤ info.init) × (info.init ≤ℤ info.hi)
 starts_inside p f k info x =
-    let r = start_is true x.scalar x.value (λ at kind h. topic_faultless p f x.topic x.tree x.stands at kind (scalar (x.nth, x.typed) h)) (λ at kind h. topic_faultless p f x.topic x.tree x.stands at kind (start (x.nth, x.starts) h)) in
+    let r = start_is true x.scalar x.value (λ at kind h. topic_faultless p f x.topic x.tree x.stands at kind (scalar (x.nth, x.typed) h))
+    (λ at kind h. topic_faultless p f x.topic x.tree x.stands at kind (start (x.nth, x.starts) h)) in
     subst (λ (i : ScalarInfo). (i.lo ≤ℤ i.init) × (i.init ≤ℤ i.hi)) (sym x.is) r
 
 module _ (p : Program) (t : Tables) (s : AreSeen p t) (f : IsFaultless p) where
@@ -76,9 +79,12 @@ module _ (p : Program) (t : Tables) (s : AreSeen p t) (f : IsFaultless p) where
   scalar_below j m u a l = (let r = scalar_in j m u a l in at_lt t.scalars _ r.0 r.1)
 
   pub inits : IsWithin (scalar_ranges t) (map (λ i. i.init) t.scalars)
-  inits = within_each (λ (i : ScalarInfo). i.lo) (λ (i : ScalarInfo). i.hi) (λ (i : ScalarInfo). i.init) t.scalars (λ k x a. starts_inside p f k x (at_scalar k x a))
+  inits =
+      within_each (λ (i : ScalarInfo). i.lo) (λ (i : ScalarInfo). i.hi) (λ (i : ScalarInfo). i.init) t.scalars
+      (λ k x a. starts_inside p f k x (at_scalar k x a))
 
-  pub topic_of_scalar : (k : ℕ) (info : ScalarInfo) → At t.scalars k info → (topic : TopicInfo) × At t.topics info.topic topic × (topic.first ≤ k) × (k < topic.first + topic.count)
+  pub topic_of_scalar : (k : ℕ) (info : ScalarInfo) → At t.scalars k info
+      → (topic : TopicInfo) × At t.topics info.topic topic × (topic.first ≤ k) × (k < topic.first + topic.count)
   topic_of_scalar k info a =
       let x = at_scalar k info a in
       let e : x.topic ≡ info.topic = sym (ap (λ (i : ScalarInfo). i.topic) x.is) in
@@ -88,16 +94,20 @@ module _ (p : Program) (t : Tables) (s : AreSeen p t) (f : IsFaultless p) where
       (topic_info p x.tree, subst (λ n. At t.topics n (topic_info p x.tree)) e (topic_in p t s x.topic x.tree x.stands), omega arith, omega arith)
 
   -- a place within a topic is one of its scalars
-  scalar_from : (j m k : ℕ) (u : Topic) → At (topics p) j u → m < scalar_count u → first_scalar p j + m ≡ k → (info : ScalarInfo) × At t.scalars k info × (info.topic ≡ j)
+  scalar_from : (j m k : ℕ) (u : Topic) → At (topics p) j u → m < scalar_count u → first_scalar p j + m ≡ k
+      → (info : ScalarInfo) × At t.scalars k info × (info.topic ≡ j)
   scalar_from j m k u a l e =
       let r = scalar_in j m u a l in
       let b : At t.scalars k r.0 = subst (λ n. At t.scalars n r.0) e r.1 in
       (r.0, b, topic_number j m k u r.0 (at_scalar k r.0 b) a l e)
     where
-      topic_number : (j m k : ℕ) (u : Topic) (info : ScalarInfo) (x : IsScalarAt p k info) → At (topics p) j u → m < scalar_count u → first_scalar p j + m ≡ k → info.topic ≡ j
-      topic_number j m k u info x a l e = ap (λ (i : ScalarInfo). i.topic) x.is ∙ same_topic p x.topic j x.nth m x.tree u x.stands a x.below l (sym x.place ∙ sym e)
+      topic_number : (j m k : ℕ) (u : Topic) (info : ScalarInfo) (x : IsScalarAt p k info) → At (topics p) j u → m < scalar_count u → first_scalar p j + m ≡ k
+          → info.topic ≡ j
+      topic_number j m k u info x a l e =
+          ap (λ (i : ScalarInfo). i.topic) x.is ∙ same_topic p x.topic j x.nth m x.tree u x.stands a x.below l (sym x.place ∙ sym e)
 
-  pub scalar_of_topic : (j k : ℕ) (topic : TopicInfo) → At t.topics j topic → topic.first ≤ k → k < topic.first + topic.count → (info : ScalarInfo) × At t.scalars k info × (info.topic ≡ j)
+  pub scalar_of_topic : (j k : ℕ) (topic : TopicInfo) → At t.topics j topic → topic.first ≤ k → k < topic.first + topic.count
+      → (info : ScalarInfo) × At t.scalars k info × (info.topic ≡ j)
   scalar_of_topic j k topic a low high =
       let u = of_topic p t s j topic a in
       let q = first_is j u.0 u.1 in

@@ -8,7 +8,8 @@ use Rattle.sot_lang.specs.declared.tables.NodeInfo.{NodeInfo}
 use Rattle.sot_lang.specs.declared.tables.ModuleInfo.{ModuleInfo}
 use Rattle.sot_lang.specs.Tables.{Tables}
 use Rattle.sot_tree.specs.Trees.{Topic, Plant, Node, Module, Program}
-use Rattle.sot_typing.specs.Resolved.{topics, plants, nodes, modules, topic_info, topic_scalars, plant_table, plant_seen, node_table, node_seen, module_info, tables_of, AreTables}
+use Rattle.sot_typing.specs.Resolved.{topics, plants, nodes, modules, topic_info, topic_scalars, plant_table, plant_seen, node_table, node_seen, module_info}
+use Rattle.sot_typing.specs.Resolved.{tables_of, AreTables}
 use Rattle.sot_typing.proofs.Lists.{at_map, at_mapped}
 
 -- each list of the tables
@@ -30,13 +31,15 @@ are_seen p t e = record {
 }
 
 -- two lists that are seen alike
-pub of_seen : {A B C : Type 0} (f : A → C) (g : B → C) (xs : List A) (ys : List B) → map f xs ≡ map g ys → (k : ℕ) (x : A) → At xs k x → (y : B) × At ys k y × (f x ≡ g y)
+pub of_seen : {A B C : Type 0} (f : A → C) (g : B → C) (xs : List A) (ys : List B) → map f xs ≡ map g ys → (k : ℕ) (x : A) → At xs k x
+    → (y : B) × At ys k y × (f x ≡ g y)
 of_seen {C = C} f g xs ys e k x a =
     let b : At (map g ys) k (f x) = subst (λ (l : List C). At l k (f x)) e (at_map f xs k x a) in
     let r = at_mapped g ys k (f x) b in
     (r.0, r.1, sym r.2)
 
-seen_in : {A B C : Type 0} (f : A → C) (g : B → C) (xs : List A) (ys : List B) → map f xs ≡ map g ys → (k : ℕ) (y : B) → At ys k y → (x : A) × At xs k x × (f x ≡ g y)
+seen_in : {A B C : Type 0} (f : A → C) (g : B → C) (xs : List A) (ys : List B) → map f xs ≡ map g ys → (k : ℕ) (y : B) → At ys k y
+    → (x : A) × At xs k x × (f x ≡ g y)
 seen_in f g xs ys e k y a = (let r = of_seen g f ys xs (sym e) k y a in (r.0, r.1, sym r.2))
 
 seen_length : {A B C : Type 0} (f : A → C) (g : B → C) (xs : List A) (ys : List B) → map f xs ≡ map g ys → length xs ≡ length ys

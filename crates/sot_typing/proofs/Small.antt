@@ -1,5 +1,7 @@
 -- In a program without faults an owner has at most 80 numbers, and each of them has at most 6 decimals.
-use Rattle.std.proofs.Common.{◌≡◌, ℕ, zero, suc, nat_eq, ◌+◌, ◌*◌, ◌≤◌, List, [], ◌∷◌, ◌++◌, length, get_or, map, find, cond, ◌<◌, ◌⊎◌, append-nil, filter_map, flat_map, sum_by, nat_abs, Bool, true, false, not, ◌||◌, ◌&&◌, Option, Some, None, inl, inr, refl, sym, ap, subst, ◌∙◌, arith, length-append}
+use Rattle.std.proofs.Common.{◌≡◌, ℕ, zero, suc, nat_eq, ◌+◌, ◌*◌, ◌≤◌, List, [], ◌∷◌, ◌++◌, length, get_or, map, find, cond, ◌<◌, ◌⊎◌, append-nil, filter_map}
+use Rattle.std.proofs.Common.{flat_map, sum_by, nat_abs, Bool, true, false, not, ◌||◌, ◌&&◌, Option, Some, None, inl, inr, refl, sym, ap, subst, ◌∙◌, arith}
+use Rattle.std.proofs.Common.{length-append}
 use Rattle.std.specs.Prelude.{nat_lt, nat_le, if◌then◌else◌, slice_get, slice_index_or}
 use Rattle.std.specs.List.{cons_option}
 use Rattle.std.specs.Str.{bytes_eq}
@@ -21,14 +23,17 @@ use Rattle.sot_rules.specs.declared.fault.TypeFault.{TypeFault}
 use Rattle.sot_rules.specs.declared.expressions.sort.Sort.{Sort}
 use Rattle.sot_rules.specs.declared.expressions.sort.Sort.TheVariants.{Scaled, Anything}
 use Rattle.sot_rules.specs.Sorts.{scale_sort, scalar_sort, written_scale, state_sort}
-use Rattle.sot_rules.specs.Names.{declared_name, state_scope, Part, Parts, alone, several, Thing, field_part, state_part, form_parts, topic_thing, plant_thing, local_thing, state_thing, noise_thing, topic_meant, plant_meant, either_meant, meaning, part_reading, parts_reading, thing_reading, reading, reading_sort, node_scope, plant_scope}
+use Rattle.sot_rules.specs.Names.{declared_name, state_scope, Part, Parts, alone, several, Thing, field_part, state_part, form_parts, topic_thing, plant_thing}
+use Rattle.sot_rules.specs.Names.{local_thing, state_thing, noise_thing, topic_meant, plant_meant, either_meant, meaning, part_reading, parts_reading}
+use Rattle.sot_rules.specs.Names.{thing_reading, reading, reading_sort, node_scope, plant_scope}
 use Rattle.sot_rules.specs.TreeSorts.{is_no_scale}
 use Rattle.sot_rules.specs.Tests.{form_scalars, topic_size, read_size, state_names, noise_names, local_names}
 use Rattle.sot_rules.specs.declared.fault.TypeKind.TheVariants.{TooMany}
 use Rattle.sot_rules.specs.Lists.{places}
 use Rattle.sot_rules.specs.First.{IsFaultless}
 use Rattle.sot_tree.specs.Formed.{Each, IfThere}
-use Rattle.sot_rules.specs.Faults.{when, together, one_past, past, passes, scalar_faults, scale_faults, topic_lists, plant_lists, local_lists, noise_lists, node_lists, declaration_faults, program_lists, faults}
+use Rattle.sot_rules.specs.Faults.{when, together, one_past, past, passes, scalar_faults, scale_faults, topic_lists, plant_lists, local_lists, noise_lists}
+use Rattle.sot_rules.specs.Faults.{node_lists, declaration_faults, program_lists, faults}
 use Rattle.sot_rules.proofs.Members.{In, in_has}
 use Rattle.sot_rules.proofs.FirstFault.{listed}
 use Rattle.sot_typing.specs.Terms.{parts_references, references, sort_scale}
@@ -113,7 +118,8 @@ abbrev ThingFits : Thing → Type 0
 ThingFits x = PartsFit x.parts
 
 reading_few : (things : List Thing) → Each ThingFits things → (first : Ident) (field : Option Ident) → FewDecimals (reading_sort (reading things first field))
-reading_few things h first field = thing (find (λ (x : Thing). bytes_eq first.name x.name) things) (each_found ThingFits (λ (x : Thing). bytes_eq first.name x.name) things h)
+reading_few things h first field =
+    thing (find (λ (x : Thing). bytes_eq first.name x.name) things) (each_found ThingFits (λ (x : Thing). bytes_eq first.name x.name) things h)
   where
     part : (f : Ident) (o : Option Part) → IfThere (λ (x : Part). FewDecimals x.sort) o → FewDecimals (reading_sort (part_reading f o))
     part f None h = omega arith
@@ -123,13 +129,15 @@ reading_few things h first field = thing (find (λ (x : Thing). bytes_eq first.n
     parts first None (alone s) h = h
     parts first (Some f) (alone s) h = omega arith
     parts first None (several ps) h = omega arith
-    parts first (Some f) (several ps) h = part f (find (λ (x : Part). bytes_eq f.name x.name) ps) (each_found (λ (x : Part). FewDecimals x.sort) (λ (x : Part). bytes_eq f.name x.name) ps h)
+    parts first (Some f) (several ps) h =
+        part f (find (λ (x : Part). bytes_eq f.name x.name) ps) (each_found (λ (x : Part). FewDecimals x.sort) (λ (x : Part). bytes_eq f.name x.name) ps h)
 
     thing : (o : Option Thing) → IfThere ThingFits o → FewDecimals (reading_sort (thing_reading first field o))
     thing None h = omega arith
     thing (Some x) h = parts first field x.parts h
 
-fields_few : (fs : List Field) → flat_map (scalar_faults true) (map (λ (x : Field). x.scalar) fs) ≡ [] → Each (λ (x : Part). FewDecimals x.sort) (map field_part fs)
+fields_few : (fs : List Field) → flat_map (scalar_faults true) (map (λ (x : Field). x.scalar) fs) ≡ []
+    → Each (λ (x : Part). FewDecimals x.sort) (map field_part fs)
 fields_few [] e = tt
 fields_few (x ∷ fs) e = (scalar_few true x.scalar (nil_left (scalar_faults true x.scalar) _ e), fields_few fs (nil_right (scalar_faults true x.scalar) _ e))
 
@@ -143,8 +151,11 @@ topic_few t h = form_few t.shape (nth_empty (topic_lists t) 2 h)
 states_few : (p : Program) (q : Plant) → together (plant_lists p q) ≡ [] → Each (λ (s : StateDecl). FewDecimals (state_sort s)) q.states
 states_few p q h = by q.states (nth_empty (plant_lists p q) 3 h)
   where
-    by : (states : List StateDecl) → flat_map (λ (s : StateDecl). scale_faults s.scale) states ≡ [] → Each (λ (s : StateDecl). FewDecimals (state_sort s)) states
-    by states e = each_mapped (λ (s : StateDecl). scale_faults s.scale ≡ []) (λ (s : StateDecl). FewDecimals (state_sort s)) state_few states (each_empty (λ (s : StateDecl). scale_faults s.scale) states e)
+    by : (states : List StateDecl) → flat_map (λ (s : StateDecl). scale_faults s.scale) states ≡ []
+        → Each (λ (s : StateDecl). FewDecimals (state_sort s)) states
+    by states e =
+        each_mapped (λ (s : StateDecl). scale_faults s.scale ≡ []) (λ (s : StateDecl). FewDecimals (state_sort s)) state_few states
+        (each_empty (λ (s : StateDecl). scale_faults s.scale) states e)
 
 plant_few : (p : Program) (q : Plant) → together (plant_lists p q) ≡ [] → ThingFits (plant_thing q)
 plant_few p q h = each_map (λ (x : Part). FewDecimals x.sort) state_part (λ s k. k) q.states (states_few p q h)
@@ -157,23 +168,28 @@ ones : {A : Type 0} (g : A → Thing) → ((x : A) → length (references (g x �
 ones g h [] = refl
 ones g h (x ∷ xs) = (let a = length_both (g x ∷ []) (map g xs) in let b = ones g h xs in let c = h x in omega arith)
 
-weigh : (h : Ident → Option Thing) (size : Ident → ℕ) → ((i : Ident) → length (references (option_to_list (h i))) ≤ size i) → (names : List Ident) → length (references (filter_map h names)) ≤ sum_by size names
+weigh : (h : Ident → Option Thing) (size : Ident → ℕ) → ((i : Ident) → length (references (option_to_list (h i))) ≤ size i) → (names : List Ident)
+    → length (references (filter_map h names)) ≤ sum_by size names
 weigh h size k [] = omega arith
 weigh h size k (i ∷ names) = by (h i) (k i) (weigh h size k names)
   where
-    by : (o : Option Thing) → length (references (option_to_list o)) ≤ size i → length (references (filter_map h names)) ≤ sum_by size names → length (references (cons_option o (filter_map h names))) ≤ sum_by size (i ∷ names)
+    by : (o : Option Thing) → length (references (option_to_list o)) ≤ size i → length (references (filter_map h names)) ≤ sum_by size names
+        → length (references (cons_option o (filter_map h names))) ≤ sum_by size (i ∷ names)
     by None a b = (let e = sum_by-cons size i names in omega arith)
     by (Some x) a b = (let e = sum_by-cons size i names in let c = length_both (x ∷ []) (filter_map h names) in omega arith)
 
 sum_same : (n : ℕ) (names : List Ident) → sum_by (λ i. n) names ≡ n * length names
 sum_same n [] = omega arith
-sum_same n (i ∷ names) = (let r = sum_same n names in let e = sum_by-cons (λ (j : Ident). n) i names in let m : n * length (i ∷ names) ≡ n + n * length names = omega arith in omega arith)
+sum_same n (i ∷ names) =
+    (let r = sum_same n names in let e = sum_by-cons (λ (j : Ident). n) i names in let m : n * length (i ∷ names) ≡ n + n * length names = omega arith in
+    omega arith)
 
 -- the limits that no list passes
 past_few : (limit : ℕ) (items : List Span) → past limit items ≡ [] → length items ≤ limit
 past_few limit items h = by (slice_get_cases items limit).1
   where
-    by : ((x : Span) × (limit < length items) × (slice_get items limit ≡ Some x) × (get_or items limit x ≡ x)) ⊎ ((length items ≤ limit) × (slice_get items limit ≡ None)) → length items ≤ limit
+    by : ((x : Span) × (limit < length items) × (slice_get items limit ≡ Some x) × (get_or items limit x ≡ x))
+        ⊎ ((length items ≤ limit) × (slice_get items limit ≡ None)) → length items ≤ limit
     by (inl r) = (let e : one_past (slice_get items limit) ≡ one_past (Some r.0) = ap one_past r.2 in let k = sym e ∙ h in cc)
     by (inr r) = r.0
 
@@ -187,7 +203,9 @@ passes_few size limit sum (i ∷ names) h le =
     omega arith
 
 length_states : (q : Plant) → length (references (plant_thing q ∷ [])) ≡ length q.states
-length_states q = ap length (append-nil (parts_references q.name.name (several (map state_part q.states)))) ∙ length-map (map state_part q.states) _ ∙ length-map q.states state_part
+length_states q =
+    ap length (append-nil (parts_references q.name.name (several (map state_part q.states)))) ∙ length-map (map state_part q.states) _
+    ∙ length-map q.states state_part
 
 length_form : (name : List ℕ) (s : Form) → length (parts_references name (form_parts s)) ≡ length (form_scalars s)
 length_form name (one s) = refl
@@ -218,7 +236,9 @@ few_states p q h =
 -- what the names of a faultless program stand for
 module _ (p : Program) (f : faults p ≡ []) where
   declared : (i : Ident) → IfThere (λ d. declaration_faults p d ≡ []) (meaning p i)
-  declared i = each_found (λ d. declaration_faults p d ≡ []) (λ d. bytes_eq i.name (declared_name d).name) p.decls (each_empty (declaration_faults p) p.decls (nth_empty (program_lists p) 5 (unfold faults in f)))
+  declared i =
+      each_found (λ d. declaration_faults p d ≡ []) (λ d. bytes_eq i.name (declared_name d).name) p.decls
+      (each_empty (declaration_faults p) p.decls (nth_empty (program_lists p) 5 (unfold faults in f)))
 
   topic_fits : (d : Option Declaration) → IfThere (λ d. declaration_faults p d ≡ []) d → IfThere ThingFits (topic_meant d)
   topic_fits None h = tt
@@ -268,7 +288,9 @@ module _ (p : Program) (f : faults p ≡ []) where
             let sum = passes_few (λ i. read_size (meaning p i)) 64 0 n.reads (nth_empty (node_lists p n) 3 h) (omega arith) in
             let both = length_both (filter_map (λ i. either_meant (meaning p i)) n.reads) (map local_thing n.locals) in
             omega (arith, few_locals);
-        decimals = reading_few (node_scope p n).read (each_append ThingFits (filter_map (λ i. either_meant (meaning p i)) n.reads) (map local_thing n.locals) (each_filter ThingFits (λ i. either_meant (meaning p i)) (λ i. either_fits (meaning p i) (declared i)) n.reads) locals_fit);
+        decimals =
+            reading_few (node_scope p n).read (each_append ThingFits (filter_map (λ i. either_meant (meaning p i)) n.reads) (map local_thing n.locals)
+            (each_filter ThingFits (λ i. either_meant (meaning p i)) (λ i. either_fits (meaning p i) (declared i)) n.reads) locals_fit);
       };
       local = record { count = omega (arith, few_locals); decimals = reading_few (map local_thing n.locals) locals_fit };
       written = record {
@@ -276,7 +298,8 @@ module _ (p : Program) (f : faults p ≡ []) where
             let writes = weigh (λ i. topic_meant (meaning p i)) (λ i. topic_size (meaning p i)) (λ i. topic_weight (meaning p i)) n.writes in
             let sum = passes_few (λ i. topic_size (meaning p i)) 8 0 n.writes (nth_empty (node_lists p n) 6 h) (omega arith) in
             omega arith;
-        decimals = reading_few (node_scope p n).written (each_filter ThingFits (λ i. topic_meant (meaning p i)) (λ i. topic_fits (meaning p i) (declared i)) n.writes);
+        decimals =
+            reading_few (node_scope p n).written (each_filter ThingFits (λ i. topic_meant (meaning p i)) (λ i. topic_fits (meaning p i) (declared i)) n.writes);
       };
     }
 
@@ -312,5 +335,10 @@ module _ (p : Program) (f : faults p ≡ []) where
           let b = length_both (state_scope q ++ inputs) sees in
           let c = length_both (state_scope q) inputs in
           omega (arith, few_states p q h);
-      decimals = reading_few (plant_scope p q) (each_append ThingFits (state_scope q ++ inputs ++ sees) (map noise_thing q.noise) (each_append ThingFits (state_scope q ++ inputs) sees (each_append ThingFits (state_scope q) inputs (each_map ThingFits state_thing (λ s k. k) q.states (states_few p q h)) (each_filter ThingFits (λ i. topic_meant (meaning p i)) (λ i. topic_fits (meaning p i) (declared i)) q.inputs)) (each_filter ThingFits (λ i. plant_meant (meaning p i)) (λ i. plant_fits (meaning p i) (declared i)) q.sees)) noise_fits);
+      decimals =
+          reading_few (plant_scope p q) (each_append ThingFits (state_scope q ++ inputs ++ sees) (map noise_thing q.noise)
+          (each_append ThingFits (state_scope q ++ inputs) sees
+          (each_append ThingFits (state_scope q) inputs (each_map ThingFits state_thing (λ s k. k) q.states (states_few p q h))
+          (each_filter ThingFits (λ i. topic_meant (meaning p i)) (λ i. topic_fits (meaning p i) (declared i)) q.inputs))
+          (each_filter ThingFits (λ i. plant_meant (meaning p i)) (λ i. plant_fits (meaning p i) (declared i)) q.sees)) noise_fits);
     }

@@ -10,7 +10,8 @@ use Rattle.sot_rules.specs.Sorts.{is_truthful, is_scaled, kinds_misfit, scales_m
 use Rattle.sot_typing.proofs.Ranges.{IsKnown}
 
 -- two numbers, two truth values
-both_scaled : (P : Sort → Sort → Type 0) → ((s t : ℕ) → s ≤ 6 → t ≤ 6 → P (Scaled s) (Scaled t)) → (a b : Sort) → IsKnown a → IsKnown b → (is_truthful a || is_truthful b) ≡ false → P a b
+both_scaled : (P : Sort → Sort → Type 0) → ((s t : ℕ) → s ≤ 6 → t ≤ 6 → P (Scaled s) (Scaled t)) → (a b : Sort) → IsKnown a → IsKnown b
+    → (is_truthful a || is_truthful b) ≡ false → P a b
 both_scaled P make (Scaled s) (Scaled t) x y e = make s t x y
 both_scaled P make (Scaled s) Truthful x y e = cc
 both_scaled P make Truthful b x y e = cc
@@ -35,8 +36,11 @@ pub record IsOperation (op : Op) (a b : Sort) : Type 0 where
   pub truth : given a (given b (operator_sort op a b)) ≡ Truthful → GivesTruth op
   pub operands : OperandSorts op a b
 
-compares : (op : Op) → ((a b : Sort) → operator_sort op a b ≡ Truthful) → GivesTruth op → ((a b : Sort) → OperandSorts op a b) → (a b : Sort) → IsKnown a → IsKnown b → (is_truthful a || is_truthful b) ≡ false → IsOperation op a b
-compares op gives truth any a b x y e = both_scaled (λ a b. IsOperation op a b) (λ s t u v. record { known = subst IsKnown (sym (gives (Scaled s) (Scaled t))) tt; truth = λ q. truth; operands = any (Scaled s) (Scaled t) }) a b x y e
+compares : (op : Op) → ((a b : Sort) → operator_sort op a b ≡ Truthful) → GivesTruth op → ((a b : Sort) → OperandSorts op a b) → (a b : Sort) → IsKnown a
+    → IsKnown b → (is_truthful a || is_truthful b) ≡ false → IsOperation op a b
+compares op gives truth any a b x y e =
+    both_scaled (λ a b. IsOperation op a b) (λ s t u v. record
+    { known = subst IsKnown (sym (gives (Scaled s) (Scaled t))) tt; truth = λ q. truth; operands = any (Scaled s) (Scaled t) }) a b x y e
 
 product : (s t : ℕ) → nat_lt 6 (s + t) ≡ false → s + t ≤ 6
 product s t e = grind arith
@@ -44,7 +48,9 @@ product s t e = grind arith
 pub operation_is : (op : Op) (a b : Sort) → IsKnown a → IsKnown b → kinds_misfit op a b ≡ false → scales_misfit op a b ≡ false → IsOperation op a b
 operation_is Add a b x y k m = both_scaled (λ a b. IsOperation Add a b) (λ s t u v. record { known = u; truth = λ q. cc; operands = tt }) a b x y k
 operation_is Sub a b x y k m = both_scaled (λ a b. IsOperation Sub a b) (λ s t u v. record { known = u; truth = λ q. cc; operands = tt }) a b x y k
-operation_is Mul a b x y k m = both_scaled (λ a b. scales_misfit Mul a b ≡ false → IsOperation Mul a b) (λ s t u v e. record { known = product s t e; truth = λ q. cc; operands = tt }) a b x y k m
+operation_is Mul a b x y k m =
+    both_scaled (λ a b. scales_misfit Mul a b ≡ false → IsOperation Mul a b) (λ s t u v e. record { known = product s t e; truth = λ q. cc; operands = tt }) a b
+    x y k m
 operation_is Div a b x y k m = both_scaled (λ a b. IsOperation Div a b) (λ s t u v. record { known = omega arith; truth = λ q. cc; operands = tt }) a b x y k
 operation_is Less a b x y k m = compares Less (λ a b. refl) tt (λ a b. tt) a b x y k
 operation_is LessEqual a b x y k m = compares LessEqual (λ a b. refl) tt (λ a b. tt) a b x y k
@@ -88,14 +94,16 @@ abbrev pub AreKnown : List Sort → Type 0
 AreKnown [] = Unit {0}
 AreKnown (s ∷ more) = IsKnown s × AreKnown more
 
-pub call_is : (s : Sort) (more : List Sort) → IsKnown s → AreKnown more → list_any is_truthful (s ∷ more) ≡ false → IsKnown (call_sort (s ∷ more)) × (is_truthful (call_sort (s ∷ more)) ≡ false)
+pub call_is : (s : Sort) (more : List Sort) → IsKnown s → AreKnown more → list_any is_truthful (s ∷ more) ≡ false
+    → IsKnown (call_sort (s ∷ more)) × (is_truthful (call_sort (s ∷ more)) ≡ false)
 call_is s more x y e = step s more x y e
   where
     parts : (a b : Bool) → (a || b) ≡ false → (a ≡ false) × (b ≡ false)
     parts true b e = cc
     parts false b e = (refl, e)
 
-    step : (s : Sort) (more : List Sort) → IsKnown s → AreKnown more → (is_truthful s || list_any is_truthful more) ≡ false → IsKnown (fold given s more) × (is_truthful (fold given s more) ≡ false)
+    step : (s : Sort) (more : List Sort) → IsKnown s → AreKnown more → (is_truthful s || list_any is_truthful more) ≡ false
+        → IsKnown (fold given s more) × (is_truthful (fold given s more) ≡ false)
     step s [] x y e = (x, (parts (is_truthful s) false e).0)
     step s (t ∷ more) x y e =
         let q = given_known s t x in

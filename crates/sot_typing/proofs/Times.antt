@@ -26,11 +26,15 @@ before (negsuc m) y h k e = absurd (omega (arith, ints))
 before (pos m) (negsuc n) h k e = absurd (omega (arith, ints))
 
 -- a period is at most 1,000, and an offset is below it
-pub times_are : (period offset : Lit) → IsNumber period → IsNumber offset → ((at : Span) (k : TypeKind) → TimesFail period offset at k → ⊥) → (nat_abs period.mantissa ≤ 1000) × (nat_abs offset.mantissa < nat_abs period.mantissa)
+pub times_are : (period offset : Lit) → IsNumber period → IsNumber offset → ((at : Span) (k : TypeKind) → TimesFail period offset at k → ⊥)
+    → (nat_abs period.mantissa ≤ 1000) × (nat_abs offset.mantissa < nat_abs period.mantissa)
 times_are period offset f g none =
     let a = false_from_ne_true (has_decimals period) (λ e. none period.at ScaleDiffers (period_decimals e)) in
     let b = false_from_ne_true (has_decimals offset) (λ e. none offset.at ScaleDiffers (offset_decimals e)) in
     let c = false_from_ne_true (is_off period) (λ e. none period.at PeriodOutside (period_off e)) in
     let d = false_from_ne_true (is_late period offset) (λ e. none offset.at PeriodOutside (offset_late e)) in
-    let n = count_is period f.1 a c in
-    (n.1, before offset.mantissa period.mantissa g.1 f.1 (and_tail (offset.scale == 0) _ (not-false (offset.scale == 0) b) (and_tail (period.scale == 0) _ (not-false (period.scale == 0) a) d)))
+    let n = count_is period f.1 a c in (
+      n.1,
+      before offset.mantissa period.mantissa g.1 f.1 (and_tail (offset.scale == 0) _ (not-false (offset.scale == 0) b)
+          (and_tail (period.scale == 0) _ (not-false (period.scale == 0) a) d)),
+    )

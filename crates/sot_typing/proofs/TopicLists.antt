@@ -35,21 +35,29 @@ of_listed p names k h =
     let m = of_scalars p r.0 r.2.0 k r.2.1 in
     record { name = r.0; topic = m.0; nth = r.2.0; listed = r.1; means = m.1; below = m.2; place = m.3 }
 
-pub listed_at : (p : Program) (names : List Ident) (i : Ident) (t : Topic) (m : ℕ) → Has names i → meaning p i ≡ Some (a_topic t) → m < scalar_count t → Has (flat_map (scalars_meant p) names) (first_scalar p (topic_place p i) + m)
-listed_at p names i t m h e l = has_joined (scalars_meant p) names i _ h (m, subst (λ (x : List ℕ). At x m (first_scalar p (topic_place p i) + m)) (sym (scalars_are p i t e)) (at_counted (first_scalar p (topic_place p i)) (scalar_count t) m l))
+pub listed_at : (p : Program) (names : List Ident) (i : Ident) (t : Topic) (m : ℕ) → Has names i → meaning p i ≡ Some (a_topic t) → m < scalar_count t
+    → Has (flat_map (scalars_meant p) names) (first_scalar p (topic_place p i) + m)
+listed_at p names i t m h e l =
+    has_joined (scalars_meant p) names i _ h (
+      m,
+      subst (λ (x : List ℕ). At x m (first_scalar p (topic_place p i) + m)) (sym (scalars_are p i t e))
+          (at_counted (first_scalar p (topic_place p i)) (scalar_count t) m l),
+    )
 
 -- how many they are
 pub length_listed : (p : Program) (names : List Ident) → length (flat_map (scalars_meant p) names) ≡ sum_by (λ i. topic_size (meaning p i)) names
 length_listed p names = length_joined (scalars_meant p) (λ i. topic_size (meaning p i)) names (λ i z a. length_scalars p z)
 
-pub few_listed : (p : Program) (limit : ℕ) (names : List Ident) → ((at : Span) → IsPassedBy (λ i. topic_size (meaning p i)) limit names at → ⊥) → length (flat_map (scalars_meant p) names) ≤ limit
+pub few_listed : (p : Program) (limit : ℕ) (names : List Ident) → ((at : Span) → IsPassedBy (λ i. topic_size (meaning p i)) limit names at → ⊥)
+    → length (flat_map (scalars_meant p) names) ≤ limit
 few_listed p limit names h =
     let a = not_passed (λ i. topic_size (meaning p i)) limit names h in
     let b = length_listed p names in
     omega arith
 
 -- two names for one scalar are one
-pub one_name : (p : Program) (names others : List Ident) (k : ℕ) (x : IsListed p names k) (y : IsListed p others k) → (topic_place p x.name ≡ topic_place p y.name) × (x.name.name ≡ y.name.name)
+pub one_name : (p : Program) (names others : List Ident) (k : ℕ) (x : IsListed p names k) (y : IsListed p others k)
+    → (topic_place p x.name ≡ topic_place p y.name) × (x.name.name ≡ y.name.name)
 one_name p names others k x y =
     let a = topic_at p x.name x.topic x.means in
     let b = topic_at p y.name y.topic y.means in
@@ -58,7 +66,8 @@ one_name p names others k x y =
     (e, meaning_name p x.name (a_topic x.topic) x.means ∙ ap (λ (t : Topic). t.name.name) t ∙ sym (meaning_name p y.name (a_topic y.topic) y.means))
 
 -- each stands once
-pub listed_once : (p : Program) (names : List Ident) → ((at : Span) → IsRepeated names at → ⊥) → (i j k : ℕ) → At (flat_map (scalars_meant p) names) i k → At (flat_map (scalars_meant p) names) j k → i ≡ j
+pub listed_once : (p : Program) (names : List Ident) → ((at : Span) → IsRepeated names at → ⊥) → (i j k : ℕ) → At (flat_map (scalars_meant p) names) i k
+    → At (flat_map (scalars_meant p) names) j k → i ≡ j
 listed_once p names none i j k a b =
     let x = of_joined (scalars_meant p) (λ i. topic_size (meaning p i)) names i k (λ i z a. length_scalars p z) a in
     let y = of_joined (scalars_meant p) (λ i. topic_size (meaning p i)) names j k (λ i z a. length_scalars p z) b in
@@ -70,7 +79,8 @@ listed_once p names none i j k a b =
     let e : x.0 ≡ y.0 = names_once names none x.0 y.0 x.1 y.1 x.3 y.3 s.1 in
     let f : first_scalar p (topic_place p x.1) ≡ first_scalar p (topic_place p y.1) = ap (first_scalar p) s.0 in
     let g : x.2 ≡ y.2 = (let q = m.3 in let r = n.3 in omega arith) in
-    x.5 ∙ ap (λ w. sum_by (λ i. topic_size (meaning p i)) (take w names) + x.2) e ∙ ap (λ w. sum_by (λ i. topic_size (meaning p i)) (take y.0 names) + w) g ∙ sym y.5
+    x.5 ∙ ap (λ w. sum_by (λ i. topic_size (meaning p i)) (take w names) + x.2) e ∙ ap (λ w. sum_by (λ i. topic_size (meaning p i)) (take y.0 names) + w) g
+    ∙ sym y.5
 
 module _ (p : Program) (t : Tables) (s : AreSeen p t) (f : IsFaultless p) (names : List Ident) where
   -- each is a scalar of the tables
@@ -80,13 +90,15 @@ module _ (p : Program) (t : Tables) (s : AreSeen p t) (f : IsFaultless p) (names
       subst (λ n. n < length t.scalars) (sym x.place) (scalar_below p t s f (topic_place p x.name) x.nth x.topic (topic_at p x.name x.topic x.means) x.below)
 
   -- they are whole topics
-  pub listed_whole : (j k : ℕ) (a b : ScalarInfo) → Has (flat_map (scalars_meant p) names) j → At t.scalars j a → At t.scalars k b → a.topic ≡ b.topic → Has (flat_map (scalars_meant p) names) k
+  pub listed_whole : (j k : ℕ) (a b : ScalarInfo) → Has (flat_map (scalars_meant p) names) j → At t.scalars j a → At t.scalars k b → a.topic ≡ b.topic
+      → Has (flat_map (scalars_meant p) names) k
   listed_whole j k a b h u v e =
       let x = of_listed p names j h in
       let y = at_scalar p t s f j a u in
       let z = at_scalar p t s f k b v in
       let w = topic_at p x.name x.topic x.means in
-      let m : topic_place p x.name ≡ y.topic = same_topic p (topic_place p x.name) y.topic x.nth y.nth x.topic y.tree w y.stands x.below y.below (sym x.place ∙ y.place) in
+      let m : topic_place p x.name ≡ y.topic = same_topic p (topic_place p x.name) y.topic x.nth y.nth x.topic y.tree w y.stands x.below y.below
+      (sym x.place ∙ y.place) in
       let n : topic_place p x.name ≡ z.topic = m ∙ sym (ap (λ (i : ScalarInfo). i.topic) y.is) ∙ e ∙ ap (λ (i : ScalarInfo). i.topic) z.is in
       let q : x.topic ≡ z.tree = at_same (topics p) z.topic x.topic z.tree (subst (λ n. At (topics p) n x.topic) n w) z.stands in
       let l : z.nth < scalar_count x.topic = subst (λ (t : Topic). z.nth < scalar_count t) (sym q) z.below in

@@ -27,7 +27,9 @@ pub starts_are : (t : Topic) → counts_differ t ≡ false → starts t ≡ zip 
 starts_are t e = ap (starts_by t) e
 
 pub length_starts : (t : Topic) → counts_differ t ≡ false → length (starts t) ≡ scalar_count t
-length_starts t e = ap length (starts_are t e) ∙ length_zip (form_scalars t.shape) (start_values t.init) (same_number (length (form_scalars t.shape)) (length (start_values t.init)) e)
+length_starts t e =
+    ap length (starts_are t e) ∙ length_zip (form_scalars t.shape) (start_values t.init)
+    (same_number (length (form_scalars t.shape)) (length (start_values t.init)) e)
 
 length_fields : (s : Form) → length (field_names s) ≡ length (form_scalars s)
 length_fields (one s) = refl
@@ -87,7 +89,8 @@ module _ (p : Program) (f : IsFaultless p) where
         is = sym m.2 ∙ ap (λ n. scalar_info n m.0.0 m.0.1.0 m.0.1.1) (topic_own p f r.0 r.1 r.3).1;
       }
 
-  pub scalar_there : (j m : ℕ) (t : Topic) → At (topics p) j t → m < scalar_count t → (info : ScalarInfo) × At (flat_map (topic_scalars p) (topics p)) (first_scalar p j + m) info
+  pub scalar_there : (j m : ℕ) (t : Topic) → At (topics p) j t → m < scalar_count t
+      → (info : ScalarInfo) × At (flat_map (topic_scalars p) (topics p)) (first_scalar p j + m) info
   scalar_there j m t a l =
       let c = counts j t a in
       let x = at_below (topic_scalars p t) m (omega arith) in
@@ -97,5 +100,6 @@ module _ (p : Program) (f : IsFaultless p) where
   scalar_total = length_joined (topic_scalars p) scalar_count (topics p) counts
 
 -- one place among the scalars is of one topic
-pub same_topic : (p : Program) (i j m n : ℕ) (t u : Topic) → At (topics p) i t → At (topics p) j u → m < scalar_count t → n < scalar_count u → first_scalar p i + m ≡ first_scalar p j + n → i ≡ j
+pub same_topic : (p : Program) (i j m n : ℕ) (t u : Topic) → At (topics p) i t → At (topics p) j u → m < scalar_count t → n < scalar_count u
+    → first_scalar p i + m ≡ first_scalar p j + n → i ≡ j
 same_topic p i j m n t u a b l k e = sum_place scalar_count (topics p) i j m n t u a b l k e

@@ -4,7 +4,12 @@ use Rattle.sot_typing.specs.declared.code.acts.BodyNames.{BodyNames}
 use Rattle.sot_typing.specs.Things.{things_in, AreFew}
 
 abbrev pub scope_in : BodyNames → Scope
-scope_in n = record { read = things_in n.read.now; local = things_in n.local.now; written = things_in n.written.now }
+scope_in n =
+    record {
+      read = things_in n.read.now;
+      local = things_in n.local.now;
+      written = things_in n.written.now;
+    }
 
 -- an owner has few numbers in each of its lists
 pub record IsSmall (s : Scope) : Type 0 where

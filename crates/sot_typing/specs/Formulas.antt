@@ -4,7 +4,8 @@ use Rattle.sot_text.specs.declared.token.Span.{Span}
 use Rattle.sot_tree.specs.declared.operator.Op.{Op}
 use Rattle.sot_tree.specs.declared.operator.Func.{Func}
 use Rattle.sot_lang.specs.declared.term.Term.{Term, Row_of-Term, end_of-Term, more_of-Term}
-use Rattle.sot_lang.specs.declared.term.Term.TheVariants.{Number, Place, Binary', Rest', Neg', Not', Call', Rescale', If'}
+use Rattle.sot_lang.specs.declared.term.Term.TheVariants.{Number, Place, Binary', Rest', Neg', Not'}
+use Rattle.sot_lang.specs.declared.term.Term.TheVariants.{Call', Rescale', If'}
 use Rattle.sot_lang.specs.declared.act.Act.{Act, Row_of-Act, end_of-Act, more_of-Act}
 use Rattle.sot_lang.specs.declared.act.Act.TheVariants.{Assign, Publish, If' as IfAct', Repeat'}
 

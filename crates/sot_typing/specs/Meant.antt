@@ -12,7 +12,8 @@ use Rattle.sot_typing.specs.declared.names.numbers.Number.{Number}
 use Rattle.sot_typing.specs.Resolved.{modules, topic_place, plant_place, node_place, first_scalar}
 use Rattle.sot_typing.specs.Numbers.{FitLimits, nothing_counted, numbers_of, scalars_in}
 
--- the index holds its program, the numbers are those of its declarations, and nothing is more than may be
+-- the index holds its program, the numbers are those of its declarations, and nothing is more than
+-- may be
 pub record AreNumbers (x : Index) (numbers : List Number) : Type 0 where
   pub index : IsIndex x
   pub are : numbers ≡ numbers_of (program_in x).decls
@@ -21,10 +22,12 @@ pub record AreNumbers (x : Index) (numbers : List Number) : Type 0 where
 
 -- the number of a name that means this declaration
 abbrev pub number_meant : Program → Ident → Declaration → Number
-number_meant p i (a_topic t) = record { place = topic_place p i; first = first_scalar p (topic_place p i) }
+number_meant p i (a_topic t) =
+    record { place = topic_place p i; first = first_scalar p (topic_place p i) }
 number_meant p i (a_plant q) = record { place = plant_place p i; first = 0 }
 number_meant p i (a_node n) = record { place = node_place p i; first = 0 }
-number_meant p i (a_module m) = record { place = position_or_len (λ m. are_same i m.name) (modules p); first = 0 }
+number_meant p i (a_module m) =
+    record { place = position_or_len (λ m. are_same i m.name) (modules p); first = 0 }
 
 -- the name means this declaration, which has this number
 pub record IsMeant (p : Program) (i : Ident) (d : Declaration) (n : Number) : Type 0 where

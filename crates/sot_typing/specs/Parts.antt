@@ -1,5 +1,5 @@
--- What the parts of a declaration are to satisfy so that they have tables: above all, scales are at most 6. The parts of a
--- program of the grammar without faults do.
+-- What the parts of a declaration are to satisfy so that they have tables: above all, scales are at
+-- most 6. The parts of a program of the grammar without faults do.
 use Rattle.std.specs.Prelude.{◌≡◌, ℕ, ◌≤◌, ◌≤ℤ◌, false, List, [], ◌∷◌, map, zip, length, Some}
 use Rattle.std.specs.List.{All}
 use Rattle.sot_tree.specs.declared.tree.Bounds.{Bounds}
@@ -33,13 +33,15 @@ pub record TopicFits (t : Topic) : Type 0 where
 
 -- the scalars of a topic with this number
 abbrev pub scalars_at : ℕ → Topic → List ScalarInfo
-scalars_at topic t = map (λ x. scalar_info topic x.0 x.1.0 x.1.1) (zip (field_names t.shape) (starts t))
+scalars_at topic t =
+    map (λ x. scalar_info topic x.0 x.1.0 x.1.1) (zip (field_names t.shape) (starts t))
 
 -- the scalars of a record's fields with these initial values
 abbrev pub field_scalars : ℕ → List Field → List Const → List ScalarInfo
 field_scalars topic [] cs = []
 field_scalars topic (f ∷ fs) [] = []
-field_scalars topic (f ∷ fs) (c ∷ cs) = scalar_info topic (Some f.name.name) f.scalar c ∷ field_scalars topic fs cs
+field_scalars topic (f ∷ fs) (c ∷ cs) =
+    scalar_info topic (Some f.name.name) f.scalar c ∷ field_scalars topic fs cs
 
 -- the low end of a side is at most its high end
 abbrev pub SideFits : Bounds → Type 0

@@ -1,5 +1,7 @@
 -- The tables of a program.
-use Rattle.std.specs.Prelude.{◌≡◌, ℕ, zero, suc, Bool, true, ℤ, pos, List, [], ◌∷◌, map, length, zip, Option, Some, None, option_map, nat_abs, flat_map, filter_map, sum_by, take}
+use Rattle.std.specs.Prelude.{◌≡◌, ℕ, zero, suc, Bool, true, ℤ, pos, List, [], ◌∷◌, map, length}
+use Rattle.std.specs.Prelude.{zip, Option, Some, None, option_map, nat_abs, flat_map, filter_map}
+use Rattle.std.specs.Prelude.{sum_by, take}
 use Rattle.std.specs.List.{position_or_len}
 use Rattle.sot_box.specs.BoxList.{BoxList}
 use Rattle.sot_box.specs.Sides.{Side}
@@ -22,7 +24,8 @@ use Rattle.sot_lang.specs.declared.tables.ModuleInfo.{ModuleInfo}
 use Rattle.sot_lang.specs.declared.tables.Slot.{Slot}
 use Rattle.sot_lang.specs.declared.tables.Slot.TheVariants.{Scalar as ScalarSlot, State}
 use Rattle.sot_lang.specs.Tables.{Tables}
-use Rattle.sot_tree.specs.Trees.{Form, one, fields, Topic, Plant, Node, Module, Local, Area, Declaration, a_topic, a_plant, a_node, a_module, Program}
+use Rattle.sot_tree.specs.Trees.{Form, one, fields, Topic, Plant, Node, Module, Local, Area}
+use Rattle.sot_tree.specs.Trees.{Declaration, a_topic, a_plant, a_node, a_module, Program}
 use Rattle.sot_rules.specs.Sorts.{scalar_sort, state_sort, is_truthful}
 use Rattle.sot_rules.specs.Names.{meaning, node_scope, plant_scope}
 use Rattle.sot_rules.specs.Tests.{form_scalars, starts}
@@ -120,7 +123,13 @@ is_truth s = is_truthful (scalar_sort s)
 
 -- topics
 abbrev pub topic_info : Program → Topic → TopicInfo
-topic_info p t = record { name = t.name.name; outside = t.outside; first = first_scalar p (topic_place p t.name); count = scalar_count t }
+topic_info p t =
+    record {
+      name = t.name.name;
+      outside = t.outside;
+      first = first_scalar p (topic_place p t.name);
+      count = scalar_count t;
+    }
 
 -- the scalars of a topic: each with its field, its type and its initial value
 abbrev pub field_names : Form → List (Option (List ℕ))
@@ -139,14 +148,22 @@ scalar_info topic field s c = record {
 }
 
 abbrev pub topic_scalars : Program → Topic → List ScalarInfo
-topic_scalars p t = map (λ x. scalar_info (topic_place p t.name) x.0 x.1.0 x.1.1) (zip (field_names t.shape) (starts t))
+topic_scalars p t =
+    map (λ x. scalar_info (topic_place p t.name) x.0 x.1.0 x.1.1)
+    (zip (field_names t.shape) (starts t))
 
 -- plants
 abbrev pub state_info : StateDecl → StateInfo
 state_info s = record { name = s.name.name; scale = sort_scale (state_sort s) }
 
 abbrev pub noise_info : Field → NoiseInfo
-noise_info f = record { name = f.name.name; scale = scalar_scale f.scalar; lo = lowest f.scalar; hi = greatest f.scalar }
+noise_info f =
+    record {
+      name = f.name.name;
+      scale = scalar_scale f.scalar;
+      lo = lowest f.scalar;
+      hi = greatest f.scalar;
+    }
 
 -- a plant with its lists; inputs are scalars, seen plants are plants
 pub record PlantTable : Type 0 where
@@ -227,7 +244,12 @@ abbrev pub state_count : Program → Ident → ℕ
 state_count p i = elim (meaning p i) as (λ x. ℕ) [ Some (a_plant q) ↦ length q.states | _ ↦ 0 ]
 
 abbrev pub region_of : Program → Ident → List Area → BoxList
-region_of p plant areas = record { width = state_count p plant; boxes = map (λ a. map side_of a.sides) areas; settled = true }
+region_of p plant areas =
+    record {
+      width = state_count p plant;
+      boxes = map (λ a. map side_of a.sides) areas;
+      settled = true;
+    }
 
 abbrev pub module_info : Program → Module → ModuleInfo
 module_info p m = record {

@@ -3,7 +3,8 @@ use Rattle.std.specs.Prelude.{◌≡◌, [], map, flat_map}
 use Rattle.sot_tree.specs.Trees.{Plant, Node, Program}
 use Rattle.sot_typing.specs.declared.tables.lists.Lists.{Lists}
 use Rattle.sot_typing.specs.Resolved as tables
-use Rattle.sot_typing.specs.Resolved.{PlantTable, NodeTable, topic_info, topic_scalars, plant_seen, plant_table, node_seen, node_table, module_info}
+use Rattle.sot_typing.specs.Resolved.{PlantTable, NodeTable, topic_info, topic_scalars, plant_seen}
+use Rattle.sot_typing.specs.Resolved.{plant_table, node_seen, node_table, module_info}
 
 pub record AreEmpty (l : Lists) : Type 0 where
   pub topics : l.topics.items ≡ []
@@ -22,7 +23,8 @@ pub record AreLists (p : Program) (l : Lists) : Type 0 where
 
 -- the tables of a plant and of a node, before their lists are filled
 abbrev pub bare_plant : Program → Plant → PlantTable
-bare_plant p q = record (plant_table p q) { states = []; inputs = []; sees = []; noise = []; next = [] }
+bare_plant p q =
+    record (plant_table p q) { states = []; inputs = []; sees = []; noise = []; next = [] }
 
 abbrev pub bare_node : Program → Node → NodeTable
 bare_node p n = record (node_table p n) { reads = []; writes = []; locals = [] }

@@ -1,9 +1,12 @@
 -- The expressions and statements of a program with places for names.
-use Rattle.std.specs.Prelude.{ℕ, ℤ, pos, Bool, true, false, ◌&&◌, if◌then◌else◌, List, [], ◌∷◌, map, flat_map, Option, Some, None, nat_abs}
+use Rattle.std.specs.Prelude.{ℕ, ℤ, pos, Bool, true, false, ◌&&◌, if◌then◌else◌, List, [], ◌∷◌, map}
+use Rattle.std.specs.Prelude.{flat_map, Option, Some, None, nat_abs}
 use Rattle.std.specs.List.{position_or_len}
 use Rattle.std.specs.Str.{bytes_eq}
 use Rattle.sot_tree.specs.declared.tree.Ident.{Ident}
-use Rattle.sot_tree.specs.Trees.{Tree, Trees, number, truth, named, binary, rest, negated, denied, called, rescaled, chosen, no_tree, one_more, Statement, Block, assigned, published, branched, repeated, no_statement, statement}
+use Rattle.sot_tree.specs.Trees.{Tree, Trees, number, truth, named, binary, rest, negated, denied}
+use Rattle.sot_tree.specs.Trees.{called, rescaled, chosen, no_tree, one_more, Statement, Block}
+use Rattle.sot_tree.specs.Trees.{assigned, published, branched, repeated, no_statement, statement}
 use Rattle.sot_rules.specs.declared.expressions.sort.Sort.{Sort}
 use Rattle.sot_rules.specs.declared.expressions.sort.Sort.TheVariants.{Scaled, Truthful, Anything}
 use Rattle.sot_rules.specs.Names.{Parts, alone, several, Thing, Scope}
@@ -45,7 +48,8 @@ sort_scale (Scaled s) = s
 sort_scale Truthful = 0
 sort_scale Anything = 0
 
--- a literal is its mantissa, a truth value 0 or 1, a name its place; `rescale` tells the scale that its operand has
+-- a literal is its mantissa, a truth value 0 or 1, a name its place; `rescale` tells the scale that
+-- its operand has
 abbrev mutual
   pub formula_of : List Thing → Tree → Formula
   formula_of names (number l) = to.number l.mantissa
@@ -56,19 +60,25 @@ abbrev mutual
   formula_of names (negated a at) = to.negated (formula_of names a) at
   formula_of names (denied a at) = to.denied (formula_of names a) at
   formula_of names (called f parts at) = to.called f (formulas_of names parts) at
-  formula_of names (rescaled a d at) = to.rescaled (formula_of names a) (sort_scale (sort names a)) (nat_abs d.mantissa) at
-  formula_of names (chosen c a b at) = to.chosen (formula_of names c) (formula_of names a) (formula_of names b) at
+  formula_of names (rescaled a d at) =
+      to.rescaled (formula_of names a) (sort_scale (sort names a)) (nat_abs d.mantissa) at
+  formula_of names (chosen c a b at) =
+      to.chosen (formula_of names c) (formula_of names a) (formula_of names b) at
 
   pub formulas_of : List Thing → Trees → Formulas
   formulas_of names no_tree = no_formula
   formulas_of names (one_more e more) = to.one_more (formula_of names e) (formulas_of names more)
 
--- an assignment names a local by its place, a publication a scalar by its place among those that are written
+-- an assignment names a local by its place, a publication a scalar by its place among those that
+-- are written
 abbrev mutual
   pub deed_of : Scope → Statement → Deed
-  deed_of s (assigned target e) = to.assigned (place_of s.local target None) (formula_of s.read e) target.at
-  deed_of s (published topic field e) = to.published (place_of s.written topic field) (formula_of s.read e) topic.at
-  deed_of s (branched c taken other at) = to.branched (formula_of s.read c) (deeds_of s taken) (deeds_of s other)
+  deed_of s (assigned target e) =
+      to.assigned (place_of s.local target None) (formula_of s.read e) target.at
+  deed_of s (published topic field e) =
+      to.published (place_of s.written topic field) (formula_of s.read e) topic.at
+  deed_of s (branched c taken other at) =
+      to.branched (formula_of s.read c) (deeds_of s taken) (deeds_of s other)
   deed_of s (repeated times body at) = to.repeated (nat_abs times.mantissa) (deeds_of s body)
 
   pub deeds_of : Scope → Block → Deeds

@@ -1,7 +1,8 @@
 -- The names of an owner, as the code keeps them.
 use Rattle.std.specs.Prelude.{◌≤◌, List, map, length, Option}
 use Rattle.sot_tree.specs.declared.tree.Ident.{Ident}
-use Rattle.sot_rules.specs.Names.{Parts, alone, several, Thing, field_part, state_part, reading, reading_sort}
+use Rattle.sot_rules.specs.Names.{Parts, alone, several, Thing, field_part, state_part, reading}
+use Rattle.sot_rules.specs.Names.{reading_sort}
 use Rattle.sot_typing.specs.declared.names.things.Parts.{Parts as KeptParts}
 use Rattle.sot_typing.specs.declared.names.things.Parts.TheVariants.{Alone, Fields, States}
 use Rattle.sot_typing.specs.declared.names.things.Thing.{Thing as Kept}
@@ -21,4 +22,5 @@ things_in xs = map thing_in xs
 -- an owner has at most 80 numbers, and each that is named has at most 6 decimals
 pub record AreFew (things : List Thing) : Type 0 where
   pub count : length (references things) ≤ 80
-  pub decimals : (first : Ident) (field : Option Ident) → sort_scale (reading_sort (reading things first field)) ≤ 6
+  pub decimals : (first : Ident) (field : Option Ident)
+      → sort_scale (reading_sort (reading things first field)) ≤ 6

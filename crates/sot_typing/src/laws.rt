@@ -6,7 +6,8 @@ ghost use Rattle.sot_rules.specs.First.{IsFaultless};
 ghost use Rattle.sot_tree.specs.Formed.{IsFormed};
 ghost use Rattle.sot_typing.specs.Resolved.{AreTables};
 
-/// The tables of a program of the grammar in which no rule of typing fails satisfy what tables must.
+/// The tables of a program of the grammar in which no rule of typing fails satisfy what tables
+/// must.
 pub fn tables_meet_their_rules()
     ensures met { (p : Program) (t : Tables) → IsFormed p → IsFaultless p → AreTables p t
         → MeetsTableRules t }

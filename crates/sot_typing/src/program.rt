@@ -26,7 +26,8 @@ fn indexed_tables(alloc: Global, index: &Index) -> Result<Typed, AllocError>
     all_tables(alloc, index, &numbers)
 }
 
-// The tables of the program of an index, or the first rule of typing that it breaks. So the names of a program are put into tables once.
+// The tables of the program of an index, or the first rule of typing that it breaks. So the names
+// of a program are put into tables once.
 fn indexed(alloc: Global, index: &Index) -> Result<Typed, TypeFail>
     requires indexed { IsIndex index.now }
     requires formed { IsFormed (program_in index.now) }
@@ -41,8 +42,8 @@ fn indexed(alloc: Global, index: &Index) -> Result<Typed, TypeFail>
     Ok(indexed_tables(alloc, index)?)
 }
 
-/// The tables of a program, or the first rule of typing that it breaks, by its place in the text and then by its number.
-/// The tree is one of the grammar, as that of a text is.
+/// The tables of a program, or the first rule of typing that it breaks, by its place in the text
+/// and then by its number. The tree is one of the grammar, as that of a text is.
 pub fn resolve(alloc: Global, program: &Program) -> Result<Typed, TypeFail>
     requires formed { IsFormed (program_view program.now) }
     ensures faultless { IfOk result (λ t. IsFaultless (program_view program.now)) }

@@ -1,7 +1,9 @@
-//! What stands behind a place of the text. Once a fault is known, no fault behind it is the first one.
+//! What stands behind a place of the text. Once a fault is known, no fault behind it is the first
+//! one.
 ghost use Rattle.std.specs.Prelude.{◌≡◌, ◌&&◌, map};
 ghost use Rattle.sot_tree.specs.TreeViews.{local_view, next_view};
-ghost use Rattle.sot_rules.specs.Behind.{bounds_behind, scalar_behind, local_behind, locals_behind, nexts_behind, noise_behind};
+ghost use Rattle.sot_rules.specs.Behind.{bounds_behind, scalar_behind, local_behind, locals_behind};
+ghost use Rattle.sot_rules.specs.Behind.{nexts_behind, noise_behind};
 
 use crate::declarations::range::const_place;
 use crate::expressions::behind::is_tree_behind;

@@ -45,8 +45,9 @@ fn are_past(names: &[Ident], first: Option<TypeFault>) -> bool
     true
 }
 
-/// The name in a list with which the sizes of what the names mean pass a limit in sum. Plants count where they are to. A sum passes
-/// a limit once, so that nothing is to be noted of the names that follow.
+/// The name in a list with which the sizes of what the names mean pass a limit in sum. Plants count
+/// where they are to. A sum passes a limit once, so that nothing is to be noted of the names that
+/// follow.
 pub fn note_passes(
     index: &Index,
     plants: bool,

@@ -74,7 +74,8 @@ fn note_short(states: &[StateDecl], next: &[NextDecl], end: Span, first: &mut Op
     note(first, next.len() < states.len(), end, TypeKind::NextMissing);
 }
 
-// The `next` clauses of a plant, with names that are to be those that they use and those that they may give.
+// The `next` clauses of a plant, with names that are to be those that they use and those that they
+// may give.
 fn note_nexts_by<'t, 'p>(
     used: &mut Names<'t, 'p>,
     given: &mut Names<'t, 'p>,
@@ -98,7 +99,8 @@ fn note_nexts_by<'t, 'p>(
     Ok(())
 }
 
-// Whether the `next` clauses of a plant and its end stand behind the first fault. Then no fault of the clauses is the first.
+// Whether the `next` clauses of a plant and its end stand behind the first fault. Then no fault of
+// the clauses is the first.
 fn are_nexts_past(q: &PlantDecl, first: Option<TypeFault>) -> bool
     ensures { result ≡ true → (p : Program)
         → least first (nexts_faults p (plant_view q.now)) ≡ first }
@@ -109,7 +111,8 @@ fn are_nexts_past(q: &PlantDecl, first: Option<TypeFault>) -> bool
     }
 }
 
-/// The `next` clauses of a plant: their expressions, and that there is one for each state variable, in order.
+/// The `next` clauses of a plant: their expressions, and that there is one for each state variable,
+/// in order.
 pub fn note_nexts<'p>(
     alloc: Global,
     index: &Index<'p>,

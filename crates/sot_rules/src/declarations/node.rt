@@ -2,11 +2,13 @@
 ghost use Rattle.std.specs.Prelude.{◌≡◌, ◌++◌, ◌&&◌, [], map, flat_map, true, false, IfOk, OnOk};
 ghost use Rattle.sot_tree.specs.TreeViews.{local_view, node_view};
 ghost use Rattle.sot_tree.specs.Trees.{Node};
-ghost use Rattle.sot_rules.specs.Faults.{least, together, read_faults, write_lists, local_lists, node_lists};
+ghost use Rattle.sot_rules.specs.Faults.{least, together, read_faults, write_lists, local_lists};
+ghost use Rattle.sot_rules.specs.Faults.{node_lists};
 ghost use Rattle.sot_rules.specs.NameSets.{keys_in};
 ghost use Rattle.sot_rules.specs.SeenNames.{HasNames};
 ghost use Rattle.sot_rules.specs.Indexes.{program_in, IsIndex};
-ghost use Rattle.sot_rules.specs.Groups.{reads_faults, writes_faults, some_writes_faults, locals_faults};
+ghost use Rattle.sot_rules.specs.Groups.{reads_faults, writes_faults, some_writes_faults};
+ghost use Rattle.sot_rules.specs.Groups.{locals_faults};
 ghost use Rattle.sot_rules.specs.Behind.{names_behind, locals_behind};
 
 use crate::declarations::behind::are_locals_behind;
@@ -66,7 +68,8 @@ fn note_reads<'p>(
     Ok(())
 }
 
-// The hasher of the topics and plants that a node uses. What it writes is put beside them only where it has locals.
+// The hasher of the topics and plants that a node uses. What it writes is put beside them only
+// where it has locals.
 fn used_hasher(n: &NodeDecl) -> NameHasher {
     if n.reads.len().saturating_add(n.writes.len()) <= FEW {
         return NameHasher::of_none();
@@ -79,7 +82,8 @@ fn used_hasher(n: &NodeDecl) -> NameHasher {
     key.hasher()
 }
 
-// A name among those that a node writes, where a set has those that it reads. It is not looked up behind the first fault.
+// A name among those that a node writes, where a set has those that it reads. It is not looked up
+// behind the first fault.
 #[tactic(auto, using(crate::proofs::Least::least_append))]
 fn note_write(index: &Index, reads: &NameSet, name: &Ident, first: &mut Option<TypeFault>)
     requires { IsIndex index.now }
@@ -130,7 +134,8 @@ fn note_some_writes(
     Ok(())
 }
 
-// Where a node writes many names: what the first of them show, if the others stand behind their first fault.
+// Where a node writes many names: what the first of them show, if the others stand behind their
+// first fault.
 fn note_front_writes(
     alloc: Global,
     index: &Index,
@@ -219,7 +224,8 @@ fn note_locals<'p>(
     Ok(())
 }
 
-// What a node reads and writes and its locals, with an empty set that is to have the topics and plants that it uses.
+// What a node reads and writes and its locals, with an empty set that is to have the topics and
+// plants that it uses.
 fn note_uses_beside<'p>(
     alloc: Global,
     index: &Index,
@@ -266,8 +272,8 @@ fn are_uses_behind(n: &NodeDecl, reads: &[Ident], from: Span) -> bool
         && (are_names_behind(&n.writes, from) && are_locals_behind(&n.locals, from))
 }
 
-// Where a node reads many names: what the first of them show, if the other things that it uses stand behind their first fault.
-// Then those need not be looked at.
+// Where a node reads many names: what the first of them show, if the other things that it uses
+// stand behind their first fault. Then those need not be looked at.
 fn note_front(
     alloc: Global,
     index: &Index,

@@ -3,11 +3,13 @@ ghost use Rattle.std.specs.Prelude.{◌≡◌, ◌++◌, [], flat_map, true, fal
 ghost use Rattle.sot_tree.specs.Trees.{Plant};
 ghost use Rattle.sot_tree.specs.TreeViews.{plant_view};
 ghost use Rattle.sot_rules.specs.Tests.{state_names};
-ghost use Rattle.sot_rules.specs.Faults.{least, together, scale_faults, input_faults, seen_lists, noise_lists, plant_lists};
+ghost use Rattle.sot_rules.specs.Faults.{least, together, scale_faults, input_faults, seen_lists};
+ghost use Rattle.sot_rules.specs.Faults.{noise_lists, plant_lists};
 ghost use Rattle.sot_rules.specs.NameSets.{keys_in};
 ghost use Rattle.sot_rules.specs.SeenNames.{HasNames};
 ghost use Rattle.sot_rules.specs.Indexes.{program_in, IsIndex};
-ghost use Rattle.sot_rules.specs.Groups.{states_faults, inputs_faults, some_inputs_faults, sees_faults, disturbances_faults};
+ghost use Rattle.sot_rules.specs.Groups.{states_faults, inputs_faults, some_inputs_faults};
+ghost use Rattle.sot_rules.specs.Groups.{sees_faults, disturbances_faults};
 
 use crate::declarations::behind::is_noise_behind;
 use crate::declarations::limit::{note_passes, note_past};
@@ -56,7 +58,8 @@ fn note_states(
     Ok(())
 }
 
-// A name among a plant's inputs, where a set has those of its state variables. It is not looked up behind the first fault.
+// A name among a plant's inputs, where a set has those of its state variables. It is not looked up
+// behind the first fault.
 #[tactic(auto, using(crate::proofs::Least::least_append))]
 fn note_input(index: &Index, states: &NameSet, name: &Ident, first: &mut Option<TypeFault>)
     requires { IsIndex index.now }
@@ -100,7 +103,8 @@ fn note_some_inputs(
     Ok(())
 }
 
-// Where a plant has many inputs: what the first of them show, if the others stand behind their first fault.
+// Where a plant has many inputs: what the first of them show, if the others stand behind their
+// first fault.
 fn note_front_inputs(
     alloc: Global,
     index: &Index,
@@ -149,8 +153,8 @@ fn note_inputs(
     note_some_inputs(alloc, index, states, &q.inputs, first)
 }
 
-// A name among the plants that a plant sees, where a set has the names of its state variables. It is not looked up behind the
-// first fault.
+// A name among the plants that a plant sees, where a set has the names of its state variables. It
+// is not looked up behind the first fault.
 #[tactic(auto, using(crate::proofs::Least::least_append))]
 fn note_seen(
     index: &Index,
@@ -314,7 +318,8 @@ fn note_noise_beside<'p>(
     Ok(())
 }
 
-// Whether the disturbances of a plant stand behind the first fault. Then no fault of them is the first.
+// Whether the disturbances of a plant stand behind the first fault. Then no fault of them is the
+// first.
 fn is_noise_past(q: &PlantDecl, first: Option<TypeFault>) -> bool
     ensures { result ≡ true → least first (disturbances_faults (plant_view q.now)) ≡ first }
 {
@@ -340,7 +345,8 @@ fn note_noise(alloc: Global, q: &PlantDecl, first: &mut Option<TypeFault>) -> Re
     noted
 }
 
-/// A plant: its module, its state variables, what it takes in and sees, its disturbances and its `next` clauses.
+/// A plant: its module, its state variables, what it takes in and sees, its disturbances and its
+/// `next` clauses.
 pub fn note_plant<'p>(
     alloc: Global,
     index: &Index<'p>,

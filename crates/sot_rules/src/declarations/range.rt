@@ -1,8 +1,10 @@
 //! The faults of ranges, scalars, initial values and times.
 ghost use Rattle.std.specs.Prelude.{◌≡◌, ◌-ℤ◌, ◌+ℤ◌, pos};
 ghost use Rattle.sot_rules.specs.Sorts.{scalar_sort, const_sort};
-ghost use Rattle.sot_rules.specs.Tests.{is_empty, is_wide, is_outside, sort_is, starts_outside, const_place, is_late};
-ghost use Rattle.sot_rules.specs.Faults.{least, bounds_faults, scalar_faults, start_faults, times_faults};
+ghost use Rattle.sot_rules.specs.Tests.{is_empty, is_wide, is_outside, sort_is, starts_outside};
+ghost use Rattle.sot_rules.specs.Tests.{const_place, is_late};
+ghost use Rattle.sot_rules.specs.Faults.{least, bounds_faults, scalar_faults, start_faults};
+ghost use Rattle.sot_rules.specs.Faults.{times_faults};
 
 use crate::expressions::sort::{Sort, differ, has_decimals, is_no_scale, scale_sort};
 use crate::fault::{TypeFault, TypeKind, note};

@@ -64,7 +64,8 @@ fn note_areas(states: Option<&[StateDecl]>, boxes: &[BoxDecl], first: &mut Optio
     }
 }
 
-/// A region: each box at the state variables of its plant, where it has one, and the count of boxes.
+/// A region: each box at the state variables of its plant, where it has one, and the count of
+/// boxes.
 #[tactic(auto, using(crate::proofs::Least::least_append))]
 pub fn note_region(states: Option<&[StateDecl]>, boxes: &[BoxDecl], first: &mut Option<TypeFault>)
     ensures { first.new ≡ least first.old

@@ -1,5 +1,6 @@
 //! The faults of a topic.
-ghost use Rattle.std.specs.Prelude.{◌≡◌, ◌<◌, map, zip, length, true, slice_get, flat_map, Some, OnOk};
+ghost use Rattle.std.specs.Prelude.{◌≡◌, ◌<◌, map, zip, length, true, slice_get, flat_map, Some};
+ghost use Rattle.std.specs.Prelude.{OnOk};
 ghost use Rattle.sot_tree.specs.TreeViews.{shape_view, init_view, topic_view};
 ghost use Rattle.sot_rules.specs.Tests.{form_scalars, start_values, start_place};
 ghost use Rattle.sot_rules.specs.Faults.{least, together, scalar_faults, start_faults, topic_lists};

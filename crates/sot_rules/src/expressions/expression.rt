@@ -1,12 +1,14 @@
 //! The sort of an expression, and the faults inside it.
 ghost use Rattle.std.specs.Prelude.{◌≡◌, ◌||◌, ◌++◌, fold, nat_abs};
 ghost use Rattle.sot_tree.specs.TreeViews.{tree_view, parts_view};
-ghost use Rattle.sot_rules.specs.Sorts.{unless, given, kinds_misfit, scales_misfit, operator_sort, differ, branches_misfit, is_truthful, is_scaled};
+ghost use Rattle.sot_rules.specs.Sorts.{unless, given, kinds_misfit, scales_misfit, operator_sort};
+ghost use Rattle.sot_rules.specs.Sorts.{differ, branches_misfit, is_truthful, is_scaled};
 ghost use Rattle.sot_rules.specs.Names.{reading_sort};
 ghost use Rattle.sot_rules.specs.declared.expressions.sort.Sort.TheVariants.{Scaled};
 ghost use Rattle.sot_rules.specs.declared.fault.TypeKind.TheVariants.{KindDiffers, ScaleDiffers};
 ghost use Rattle.sot_rules.specs.TreeSorts.{sort, sorts, is_zero, is_no_scale};
-ghost use Rattle.sot_rules.specs.Faults.{least, when, misfits, reading_faults, tree_faults, parts_faults};
+ghost use Rattle.sot_rules.specs.Faults.{least, when, misfits, reading_faults, tree_faults};
+ghost use Rattle.sot_rules.specs.Faults.{parts_faults};
 ghost use Rattle.sot_rules.specs.Scopes.{names_in, answer};
 ghost use Rattle.sot_rules.specs.Operands.{no_operand, with_operand};
 

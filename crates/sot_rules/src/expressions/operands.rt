@@ -4,7 +4,8 @@ ghost use Rattle.sot_rules.specs.Operands.{no_operand, with_operand};
 
 use crate::expressions::sort::{Sort, differ, given, is_scaled, is_truthful};
 
-/// The operands of a call: whether one is a truth value, whether two numbers differ in scale, the last number, and their sort.
+/// The operands of a call: whether one is a truth value, whether two numbers differ in scale, the
+/// last number, and their sort.
 #[derive(Clone, Copy)]
 pub struct Operands {
     pub truth: bool,

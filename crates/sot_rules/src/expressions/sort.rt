@@ -1,11 +1,14 @@
 //! Sorts: when two of them fit, and what the operators make of them.
 ghost use Rattle.std.specs.Prelude.{◌≡◌, false};
-ghost use Rattle.sot_rules.specs.Sorts.{scale_sort, is_truthful, is_scaled, differ, are_mixed, kinds_misfit, scales_misfit, operator_sort, unless, given, branches_misfit};
+ghost use Rattle.sot_rules.specs.Sorts.{scale_sort, is_truthful, is_scaled, differ, are_mixed};
+ghost use Rattle.sot_rules.specs.Sorts.{kinds_misfit, scales_misfit, operator_sort, unless, given};
+ghost use Rattle.sot_rules.specs.Sorts.{branches_misfit};
 ghost use Rattle.sot_rules.specs.TreeSorts.{has_decimals, is_no_scale};
 
 use sot_tree::{Lit, Op};
 
-/// What an expression gives: a number with so many decimals, a truth value, or anything, where a fault is inside it.
+/// What an expression gives: a number with so many decimals, a truth value, or anything, where a
+/// fault is inside it.
 #[derive(Clone, Copy, Debug, PartialEq, Eq)]
 pub enum Sort {
     Scaled(u64),

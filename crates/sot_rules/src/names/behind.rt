@@ -6,7 +6,8 @@ use crate::fault::is_behind;
 use crate::names::named::Named;
 use sot_text::Span;
 
-/// How many items of a list are looked at by themselves at first. Hardly any list without a fault has more.
+/// How many items of a list are looked at by themselves at first. Hardly any list without a fault
+/// has more.
 pub const FRONT: usize = 128;
 
 /// Whether the names of all things of a list stand behind a place.

@@ -2,7 +2,8 @@
 ghost use Rattle.std.specs.Prelude.{◌≡◌, List, Option, map, OnOk};
 ghost use Rattle.std.specs.Option.{option_to_list};
 ghost use Rattle.sot_tree.specs.TreeViews.{declaration_view, local_view, shape_view};
-ghost use Rattle.sot_rules.specs.Names.{Part, Thing, meaning, local_thing, noise_thing, state_thing};
+ghost use Rattle.sot_rules.specs.Names.{Part, Thing, meaning, local_thing, noise_thing};
+ghost use Rattle.sot_rules.specs.Names.{state_thing};
 ghost use Rattle.sot_rules.specs.Indexes.{program_in, IsIndex};
 ghost use Rattle.sot_rules.specs.Alike.{Adds, StandsForThing, form_kept, kept_of_list, tables_in};
 ghost use Rattle.sot_rules.specs.NameLists.{thing_of_list, things_of_list};

@@ -1,11 +1,12 @@
 //! How tables hash names: by whole words, behind a key that is made of the names that they take.
 //!
-//! With one hash for all texts, whoever knows it finds names that collide, and a text of those makes tables slow. Here a text
-//! would have to hold the key that its own names give.
+//! With one hash for all texts, whoever knows it finds names that collide, and a text of those
+//! makes tables slow. Here a text would have to hold the key that its own names give.
 ghost use Rattle.std.specs.Prelude.{◌≡◌, map};
 ghost use Rattle.std.specs.List.{fold};
 ghost use Rattle.std.specs.Hash.DefaultHasher as sip;
-ghost use Rattle.sot_rules.specs.NameHashes.{with_hash_of, keyed_by, hash_from, with_byte, with_bytes, finished};
+ghost use Rattle.sot_rules.specs.NameHashes.{with_hash_of, keyed_by, hash_from, with_byte};
+ghost use Rattle.sot_rules.specs.NameHashes.{with_bytes, finished};
 
 use crate::names::named::Named;
 use crate::names::things::FEW;
@@ -42,8 +43,9 @@ impl BuildHasher for NameHasher {
     }
 }
 
-/// The hash of one name, whose bytes are put together to words before SipHash takes them in. A list is hashed with its length
-/// first and then byte by byte. The length is left out here: the last word tells it.
+/// The hash of one name, whose bytes are put together to words before SipHash takes them in. A list
+/// is hashed with its length first and then byte by byte. The length is left out here: the last
+/// word tells it.
 #[derive(Clone, Copy)]
 pub struct NameHash {
     words: DefaultHasher,

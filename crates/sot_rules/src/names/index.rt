@@ -1,5 +1,7 @@
 //! The declarations of a program by their names.
-ghost use Rattle.std.specs.Prelude.{◌≡◌, ◌++◌, ◌∷◌, [], ◌||◌, ◌<◌, true, ℕ, List, length, is_some, map, position, slice_get, Option, option_map, IfOk, OnOk, IfSome};
+ghost use Rattle.std.specs.Prelude.{◌≡◌, ◌++◌, ◌∷◌, [], ◌||◌, ◌<◌, true, ℕ, List, length, is_some};
+ghost use Rattle.std.specs.Prelude.{map, position, slice_get, Option, option_map, IfOk, OnOk};
+ghost use Rattle.std.specs.Prelude.{IfSome};
 ghost use Rattle.sot_tree.specs.Trees.{Declaration};
 ghost use Rattle.sot_tree.specs.TreeViews.{declaration_view, program_view};
 ghost use Rattle.sot_rules.specs.Names.{declared_name, field_part, meaning, state_part};
@@ -8,7 +10,8 @@ ghost use Rattle.sot_rules.specs.Faults.{repeats};
 ghost use Rattle.sot_rules.specs.Tests.{has_module, is_plant_of};
 ghost use Rattle.sot_rules.specs.NameTables.{found};
 ghost use Rattle.sot_rules.specs.Scopes.{parts_of};
-ghost use Rattle.sot_rules.specs.Indexes.{program_in, is_named, is_key, declared_parts, sort_in, Indexes, IsIndex};
+ghost use Rattle.sot_rules.specs.Indexes.{program_in, is_named, is_key, declared_parts, sort_in};
+ghost use Rattle.sot_rules.specs.Indexes.{Indexes, IsIndex};
 
 use crate::declarations::range::scalar_sort;
 use crate::expressions::sort::{Sort, scale_sort};
@@ -28,7 +31,8 @@ pub struct Index<'p> {
     pub places: NameMap<'p, usize>,
     /// The plants that modules name as their own.
     pub owned: NameKeys<'p>,
-    /// For each declaration the fields of its record or its state variables, and nothing for any other one.
+    /// For each declaration the fields of its record or its state variables, and nothing for any
+    /// other one.
     pub parts: Vec<PartTable<'p>>,
 }
 
@@ -256,7 +260,8 @@ impl<'p> Index<'p> {
         }
     }
 
-    /// Whether each declaration has a name of its own: then the table of places has an entry for each of them.
+    /// Whether each declaration has a name of its own: then the table of places has an entry for
+    /// each of them.
     pub fn is_distinct(&self) -> bool
         requires { IsIndex self.now }
         ensures { result ≡ true → repeats [] (map declared_name (program_in self.now).decls) ≡ [] }

@@ -66,7 +66,8 @@ fn note_all_repeats<T: Named>(
     noted
 }
 
-// Of a long list: what its first things show, if the others stand behind their first fault. Then those need not be looked at.
+// Of a long list: what its first things show, if the others stand behind their first fault. Then
+// those need not be looked at.
 fn note_front_repeats<T: Named>(
     alloc: Global,
     items: &[T],

@@ -3,7 +3,8 @@ ghost use Rattle.std.specs.Prelude.{◌≡◌, [], find, map, slice_index_or};
 ghost use Rattle.std.specs.Str.{bytes_eq};
 ghost use Rattle.sot_rules.specs.Names.{field_part, part_reading, reading, state_part};
 ghost use Rattle.sot_rules.specs.Indexes.{sort_in};
-ghost use Rattle.sot_rules.specs.Scopes.{parts_of, kept_parts, names_in, answer, field_in, reading_of};
+ghost use Rattle.sot_rules.specs.Scopes.{parts_of, kept_parts, names_in, answer, field_in};
+ghost use Rattle.sot_rules.specs.Scopes.{reading_of};
 
 use crate::declarations::range::scalar_sort;
 use crate::expressions::sort::Sort;
@@ -13,14 +14,16 @@ use crate::names::things::thing_of;
 use sot_text::Span;
 use sot_tree::{Field, Ident, StateDecl};
 
-/// What a name stands for: one number or truth value, or several, whose names are in one of the tables of parts.
+/// What a name stands for: one number or truth value, or several, whose names are in one of the
+/// tables of parts.
 #[derive(Clone, Copy)]
 pub enum Kept {
     Alone(Sort),
     Several(usize),
 }
 
-/// The parts of a declaration. A few of them are looked at one by one, and many are in a table by their names.
+/// The parts of a declaration. A few of them are looked at one by one, and many are in a table by
+/// their names.
 #[derive(Drop)]
 pub enum PartTable<'p> {
     Nothing,
@@ -43,7 +46,8 @@ pub struct Names<'t, 'p> {
     pub things: Things<'p>,
 }
 
-/// The names that a node's statements use: those that its expressions read, its locals, and the topics that it writes.
+/// The names that a node's statements use: those that its expressions read, its locals, and the
+/// topics that it writes.
 #[derive(Drop)]
 pub struct Scope<'t, 'p> {
     pub read: Names<'t, 'p>,

@@ -1,6 +1,7 @@
 //! Sets of names, which are mostly small.
 //!
-//! The first few names are looked at one by one, which takes no hash and little memory. Those beyond are in a table.
+//! The first few names are looked at one by one, which takes no hash and little memory. Those
+//! beyond are in a table.
 ghost use Rattle.std.specs.Prelude.{◌≡◌, [], ◌∷◌, ◌++◌, not, IfOk, OnOk, if◌then◌else◌};
 ghost use Rattle.std.specs.List.{list_any};
 ghost use Rattle.std.specs.Str.{bytes_eq};

@@ -6,7 +6,8 @@ ghost use Rattle.sot_rules.specs.NameTables.{found, entry};
 use crate::names::hasher::NameMap;
 use std::alloc::AllocError;
 
-/// Puts a name into a table with its value. A name that is there already keeps the value that it has.
+/// Puts a name into a table with its value. A name that is there already keeps the value that it
+/// has.
 pub fn add<'p, V: Drop>(
     table: &mut NameMap<'p, V>,
     name: &'p [u8],

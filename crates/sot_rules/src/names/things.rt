@@ -1,6 +1,7 @@
 //! What an owner's names stand for, in lists that are mostly short.
 //!
-//! The first few names are looked at one by one, which takes no hash and little memory. Those beyond are in a table.
+//! The first few names are looked at one by one, which takes no hash and little memory. Those
+//! beyond are in a table.
 ghost use Rattle.std.specs.Prelude.{◌≡◌, ℕ, List, [], OnOk};
 ghost use Rattle.std.specs.Map.{lookup};
 ghost use Rattle.std.specs.Option.{option_or};
@@ -55,7 +56,8 @@ pub fn thing_of(things: &Things, name: &[u8]) -> Option<Kept>
     }
 }
 
-/// Puts a name with what it stands for behind the others. A name that is there already keeps what it stands for.
+/// Puts a name with what it stands for behind the others. A name that is there already keeps what
+/// it stands for.
 pub fn add<'p>(table: &mut Things<'p>, name: &'p [u8], kept: Kept) -> Result<(), AllocError>
     ensures { OnOk result ((n : List ℕ) → found_in table.new n
         ≡ option_or (found_in table.old n) (entry name.now kept n)) }

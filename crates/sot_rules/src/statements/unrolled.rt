@@ -25,7 +25,8 @@ fn one(at: Span, k: u64) -> Reached
     }
 }
 
-// How far place k is past the end of so many copies of a list, where it is. A product of the two may fit no number.
+// How far place k is past the end of so many copies of a list, where it is. A product of the two
+// may fit no number.
 fn past_copies(times: u64, len: u64, k: u64) -> Option<u64>
     ensures past { IfSome result (λ n. k ≡ times * len + n) }
     ensures within { IfNone result (k < times * len) }
@@ -48,9 +49,9 @@ fn count_of(times: Lit) -> u64
     times.mantissa.unsigned_abs()
 }
 
-/// The place k of a block's statements with loops unrolled, which are counted and not written out. A loop's body is
-/// walked once to count it, and a second time only where the place is inside the loop: so the work is at most the size
-/// of the block times its depth.
+/// The place k of a block's statements with loops unrolled, which are counted and not written out.
+/// A loop's body is walked once to count it, and a second time only where the place is inside the
+/// loop: so the work is at most the size of the block times its depth.
 #[cycle(unrolled)]
 pub fn reach_block(stmts: &[Stmt], k: u64) -> Reached
     ensures { IsReached k (block_unrolled (block_view stmts.now)) result }

@@ -11,7 +11,7 @@ fn canonical(rt: &impl Abort, alloc: Global, text: &str) -> Option<String> {
     if text.len() > 10_000 {
         return None;
     }
-    match parse(alloc, &mut Lexer::new(text.as_bytes())) {
+    match parse(alloc, &Lexer::new(text.as_bytes())) {
         Ok(program) => Some(print(alloc, &program).expect(rt, "memory")),
         Err(ParseFail::Memory) => panic!(rt; "memory"),
         Err(ParseFail::Syntax(_)) => None,

@@ -38,7 +38,7 @@ fn parsed(alloc: Global, text: &str) -> Result<Program, ParseFail> {
     if text.len() > 10_000 {
         return Err(ParseFail::Memory);
     }
-    parse(alloc, &mut Lexer::new(text.as_bytes()))
+    parse(alloc, &Lexer::new(text.as_bytes()))
 }
 
 // Texts, with the line, the column and the kind of their fault.

@@ -5,7 +5,8 @@ ghost use Rattle.sot_rules.specs.Names.{reading};
 ghost use Rattle.sot_rules.specs.TreeSorts.{has_decimals};
 ghost use Rattle.sot_rules.specs.Scopes.{field_in};
 ghost use Rattle.sot_rules.specs.Tests.{is_off};
-ghost use Rattle.sot_rules.specs.Faults.{reading_faults, tree_faults, statement_faults, block_faults};
+ghost use Rattle.sot_rules.specs.Faults.{reading_faults, tree_faults, statement_faults};
+ghost use Rattle.sot_rules.specs.Faults.{block_faults};
 ghost use Rattle.sot_typing.specs.Formulas.{assigned, published, deed_view, deeds_view};
 ghost use Rattle.sot_typing.specs.Terms.{place_of, formula_of, deed_of, deeds_of};
 ghost use Rattle.sot_typing.specs.Bodies.{scope_in, IsSmall};
@@ -16,7 +17,8 @@ use sot_lang::Act;
 use sot_tree::{Expr, Ident, Lit, Stmt};
 use std::alloc::{AllocError, Global};
 
-/// The names that a node's statements use: those that its expressions read, its locals, and the topics that it writes.
+/// The names that a node's statements use: those that its expressions read, its locals, and the
+/// topics that it writes.
 #[derive(Clone, Copy)]
 pub struct BodyNames<'t, 'p> {
     pub read: &'t [Thing<'p>],

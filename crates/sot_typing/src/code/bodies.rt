@@ -2,7 +2,8 @@
 ghost use Rattle.std.specs.Prelude.{◌≡◌, ◌++◌, [], IfOk, OnOk, All, map, option_map};
 ghost use Rattle.sot_tree.specs.TreeViews.{tree_view, block_view, plant_view, node_view};
 ghost use Rattle.sot_rules.specs.Names.{node_scope, plant_scope};
-ghost use Rattle.sot_rules.specs.Faults.{together, node_lists, plant_lists, tree_faults, block_faults};
+ghost use Rattle.sot_rules.specs.Faults.{together, node_lists, plant_lists, tree_faults};
+ghost use Rattle.sot_rules.specs.Faults.{block_faults};
 ghost use Rattle.sot_rules.specs.Indexes.{program_in, IsIndex};
 ghost use Rattle.sot_typing.specs.Formulas.{formula_view, deeds_view};
 ghost use Rattle.sot_typing.specs.Terms.{formula_of, deeds_of};
@@ -44,8 +45,8 @@ fn add_body_names<'p>(
     Ok(())
 }
 
-// Puts what the expressions of a plant name into an empty list: its state variables, its inputs, the plants that it sees,
-// and its disturbances.
+// Puts what the expressions of a plant name into an empty list: its state variables, its inputs,
+// the plants that it sees, and its disturbances.
 fn add_plant_names<'p>(
     things: &mut Vec<Thing<'p>>,
     index: &Index<'p>,
@@ -132,7 +133,8 @@ fn put_terms(
     Ok(())
 }
 
-/// Puts the values that a plant without faults gives its state variables behind the others, in the order of its clauses.
+/// Puts the values that a plant without faults gives its state variables behind the others, in the
+/// order of its clauses.
 pub fn put_next<'p>(
     alloc: Global,
     index: &Index<'p>,

@@ -7,8 +7,10 @@ ghost use Rattle.sot_rules.specs.Scopes.{field_in};
 ghost use Rattle.sot_rules.specs.TreeSorts.{sort, sorts, is_no_scale};
 ghost use Rattle.sot_rules.specs.Faults.{reading_faults, tree_faults, parts_faults};
 ghost use Rattle.sot_rules.specs.declared.expressions.sort.Sort.TheVariants.{Scaled, Truthful};
-ghost use Rattle.sot_typing.specs.Formulas.{formula_view, number, place, binary, rest, negated, denied, called, rescaled, chosen};
-ghost use Rattle.sot_typing.specs.Terms.{place_of, formula_of, formulas_of, sort_scale, truth_number};
+ghost use Rattle.sot_typing.specs.Formulas.{formula_view, number, place, binary, rest, negated};
+ghost use Rattle.sot_typing.specs.Formulas.{denied, called, rescaled, chosen};
+ghost use Rattle.sot_typing.specs.Terms.{place_of, formula_of, formulas_of, sort_scale};
+ghost use Rattle.sot_typing.specs.Terms.{truth_number};
 ghost use Rattle.sot_typing.specs.Things.{things_in, AreFew};
 ghost use Rattle.sot_typing.specs.Sorted.{formulas_view, IsSorted, AreSorted};
 
@@ -25,8 +27,8 @@ pub struct Sorted {
     pub sort: Sort,
 }
 
-// Written by hand, so that letting one go is one call: a function that holds one over a `?` is proved without the
-// variants of its term.
+// Written by hand, so that letting one go is one call: a function that holds one over a `?` is
+// proved without the variants of its term.
 impl Drop for Sorted {
     fn drop(self) {
         let Sorted { term: _, sort: _ } = self;
@@ -222,8 +224,8 @@ fn terms(alloc: Global, things: &[Thing], parts: &[Expr]) -> Result<SortedList, 
     Ok(made)
 }
 
-/// An expression without faults, with places for the names of its owner. The sort goes along, since `rescale` tells the
-/// scale that its operand has.
+/// An expression without faults, with places for the names of its owner. The sort goes along, since
+/// `rescale` tells the scale that its operand has.
 #[cycle(term)]
 pub fn term(alloc: Global, things: &[Thing], e: &Expr) -> Result<Sorted, AllocError>
     requires few { AreFew (things_in things.now) }

@@ -2,7 +2,8 @@
 ghost use Rattle.std.specs.Prelude.{◌≡◌, ◌++◌, OnOk, map, filter_map, option_map};
 ghost use Rattle.std.specs.Option.{option_to_list};
 ghost use Rattle.sot_tree.specs.TreeViews.{topic_view, plant_view, local_view, declaration_view};
-ghost use Rattle.sot_rules.specs.Names.{meaning, topic_thing, plant_thing, local_thing, state_thing, noise_thing};
+ghost use Rattle.sot_rules.specs.Names.{meaning, topic_thing, plant_thing, local_thing};
+ghost use Rattle.sot_rules.specs.Names.{state_thing, noise_thing};
 ghost use Rattle.sot_rules.specs.Indexes.{program_in, IsIndex};
 ghost use Rattle.sot_typing.specs.Things.{thing_in, things_in};
 ghost use Rattle.sot_rules.specs.NameLists.{thing_of_list};

@@ -1,13 +1,15 @@
 //! The numbers of declarations among those of their kind.
 ghost use Rattle.std.specs.Prelude.{◌≡◌, map, IfOk};
 ghost use Rattle.sot_tree.specs.TreeViews.{declaration_view};
-ghost use Rattle.sot_typing.specs.Numbers.{FitLimits, HasRoom, counted, nothing_counted, numbered, numbers_of};
+ghost use Rattle.sot_typing.specs.Numbers.{FitLimits, HasRoom, counted, nothing_counted, numbered};
+ghost use Rattle.sot_typing.specs.Numbers.{numbers_of};
 
 use sot_rules::scalar_count;
 use sot_tree::Decl;
 use std::alloc::{AllocError, Global};
 
-/// The number of a declaration among those of its sort, from 0 on, and of a topic the place of its first scalar.
+/// The number of a declaration among those of its sort, from 0 on, and of a topic the place of its
+/// first scalar.
 #[derive(Clone, Copy)]
 pub struct Number {
     pub place: u32,

@@ -1,9 +1,11 @@
-//! The scalars, state variables and declarations that names stand for, by their places in the tables.
+//! The scalars, state variables and declarations that names stand for, by their places in the
+//! tables.
 ghost use Rattle.std.specs.Prelude.{◌≡◌, ◌+◌, ◌≤◌, ◌++◌, map, flat_map, true, OnOk};
 ghost use Rattle.std.specs.List.{All};
 ghost use Rattle.sot_rules.specs.Indexes.{program_in};
 ghost use Rattle.sot_rules.specs.Names.{meaning, is_topic, is_plant, is_node};
-ghost use Rattle.sot_typing.specs.Resolved.{counted_from, scalars_meant, slots_meant, topic_place, first_scalar, plant_place, node_place};
+ghost use Rattle.sot_typing.specs.Resolved.{counted_from, scalars_meant, slots_meant, topic_place};
+ghost use Rattle.sot_typing.specs.Resolved.{first_scalar, plant_place, node_place};
 ghost use Rattle.sot_typing.specs.Meant.{AreNumbers};
 
 use crate::names::lookup::look_up;
@@ -47,7 +49,8 @@ fn put_state_slots(plant: u32, count: usize, slots: &mut Vec<Slot>) -> Result<()
     Ok(())
 }
 
-// Puts the scalars that a name stands for behind the others: those of a topic, and none for any other name.
+// Puts the scalars that a name stands for behind the others: those of a topic, and none for any
+// other name.
 fn put_scalars_meant(
     index: &Index,
     numbers: &[Number],
@@ -67,7 +70,8 @@ fn put_scalars_meant(
     }
 }
 
-// Puts what a node reads by a name behind the others: the scalars of a topic, or the state variables of a plant.
+// Puts what a node reads by a name behind the others: the scalars of a topic, or the state
+// variables of a plant.
 fn put_slots_meant(
     index: &Index,
     numbers: &[Number],

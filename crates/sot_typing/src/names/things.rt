@@ -3,7 +3,8 @@ ghost use Rattle.std.specs.Prelude.{◌≡◌, ℕ, ◌≤◌, [], List, length,
 ghost use Rattle.std.specs.List.{position_or_len};
 ghost use Rattle.std.specs.Str.{bytes_eq};
 ghost use Rattle.sot_tree.specs.declared.tree.Ident.{Ident as AnIdent};
-ghost use Rattle.sot_rules.specs.Names.{field_part, state_part, part_reading, parts_reading, reading, reading_sort};
+ghost use Rattle.sot_rules.specs.Names.{field_part, state_part, part_reading, parts_reading};
+ghost use Rattle.sot_rules.specs.Names.{reading, reading_sort};
 ghost use Rattle.sot_rules.specs.Scopes.{field_in};
 ghost use Rattle.sot_rules.specs.Faults.{reading_faults};
 ghost use Rattle.sot_typing.specs.Terms.{is_meant, parts_references, place_of};
@@ -12,7 +13,8 @@ ghost use Rattle.sot_typing.specs.Things.{parts_in, things_in, AreFew};
 use sot_rules::{Sort, scalar_sort, state_sort};
 use sot_tree::{Field, Ident, StateDecl};
 
-/// What a name stands for: one number or truth value, the fields of a record, or the state variables of a plant.
+/// What a name stands for: one number or truth value, the fields of a record, or the state
+/// variables of a plant.
 #[derive(Clone, Copy)]
 pub enum Parts<'p> {
     Alone(Sort),
@@ -118,7 +120,8 @@ fn size(parts: Parts<'_>) -> usize
     }
 }
 
-/// What is named so. An owner has at most 80 numbers where its program has no fault, so the list is searched.
+/// What is named so. An owner has at most 80 numbers where its program has no fault, so the list is
+/// searched.
 pub fn named(things: &[Thing], first: &Ident, field: Option<&Ident>) -> Found
     requires few { AreFew (things_in things.now) }
     requires known { reading_faults (reading (things_in things.now) first.now (field_in field))

@@ -4,7 +4,9 @@ ghost use Rattle.sot_tree.specs.TreeViews.{declaration_view};
 ghost use Rattle.sot_tree.specs.Formed.{IsFormed};
 ghost use Rattle.sot_rules.specs.First.{IsFaultless};
 ghost use Rattle.sot_rules.specs.Indexes.{program_in};
-ghost use Rattle.sot_typing.specs.Resolved.{a_topic_of, a_plant_of, a_node_of, a_module_of, topic_info, topic_scalars, plant_seen, plant_table, node_seen, node_table, module_info, AreTables};
+ghost use Rattle.sot_typing.specs.Resolved.{a_topic_of, a_plant_of, a_node_of, a_module_of};
+ghost use Rattle.sot_typing.specs.Resolved.{topic_info, topic_scalars, plant_seen, plant_table};
+ghost use Rattle.sot_typing.specs.Resolved.{node_seen, node_table, module_info, AreTables};
 ghost use Rattle.sot_typing.specs.Meant.{AreNumbers};
 ghost use Rattle.sot_typing.specs.Fits.{DeclarationFits, AllFit};
 ghost use Rattle.sot_typing.specs.TableLists.{AreEmpty, AreLists};
@@ -28,7 +30,8 @@ pub struct Lists {
     pub modules: Vec<ModuleInfo>,
 }
 
-// Each of these puts the tables of one declaration behind the others, and none where it is of another sort.
+// Each of these puts the tables of one declaration behind the others, and none where it is of
+// another sort.
 
 fn put_topic(
     alloc: Global,

@@ -2,7 +2,8 @@
 ghost use Rattle.std.specs.Prelude.{◌≡◌, ◌≤◌, nat_abs, IfOk, OnOk};
 ghost use Rattle.sot_tree.specs.TreeViews.{plant_view, node_view, module_view};
 ghost use Rattle.sot_rules.specs.Indexes.{IsIndex, program_in};
-ghost use Rattle.sot_typing.specs.Resolved.{plant_seen, plant_table, node_seen, node_table, module_info, state_count};
+ghost use Rattle.sot_typing.specs.Resolved.{plant_seen, plant_table, node_seen, node_table};
+ghost use Rattle.sot_typing.specs.Resolved.{module_info, state_count};
 ghost use Rattle.sot_typing.specs.Meant.{AreNumbers};
 ghost use Rattle.sot_typing.specs.Fits.{PlantFits, NodeFits, ModuleFits};
 ghost use Rattle.sot_typing.specs.TableLists.{bare_plant, bare_node};

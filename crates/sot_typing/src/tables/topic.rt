@@ -87,7 +87,12 @@ pub fn put_scalars(
 pub fn topic_info(alloc: Global, t: &TopicDecl, first: u32) -> Result<TopicInfo, AllocError>
     requires { TopicFits (topic_view t.now) }
     ensures { IfOk result (λ i. i
-        ≡ record { name = t.now.name.name; outside = t.now.outside; first = first; count = scalar_count (topic_view t.now) }) }
+        ≡ record {
+          name = t.now.name.name;
+          outside = t.now.outside;
+          first = first;
+          count = scalar_count (topic_view t.now);
+        }) }
 {
     let name = t.name.name.copy(alloc)?;
     Ok(TopicInfo {

@@ -14,7 +14,8 @@ loop-i-preserved c =
     let f : SFits w64 c.push.inside.lo = search rules in
     let kept : to_z w64 (of_z w64 c.push.inside.lo) ≡ c.push.inside.lo = to_z-of_z w64 c.push.inside.lo f in
     let seen : c.push.inside.lo ≡ c.first.result.lo = ap (λ (s : Side). s.lo) c.push.view_is in
-    c.in_ok-push.ensures.items ∙ entries_more c.args.boxes.now c.loop-i.i c.index-boxes-i.result (to_z w64 (of_z w64 c.push.inside.lo)) c.loop-i.entries.items place (low ∙ sym seen ∙ sym kept) c.loop-i.invariant
+    c.in_ok-push.ensures.items ∙ entries_more c.args.boxes.now c.loop-i.i c.index-boxes-i.result (to_z w64 (of_z w64 c.push.inside.lo)) c.loop-i.entries.items
+    place (low ∙ sym seen ∙ sym kept) c.loop-i.invariant
 
 pub returns : goal.returns
 returns c = c.loop-i.invariant ∙ entries_all c.args.boxes.now c.loop-i.i c.loop-i-test.false

@@ -26,7 +26,8 @@ returns-then-reaches-left c =
     c.loop-left.invariant c.first-x.ensures short
 
 pub bounds-boxes-place : goal.bounds-boxes-place
-bounds-boxes-place c = places_below c.args.boxes.now c.args.entries.now c.requires.index.names (c.loop-left.left - 1) nothing (omega (arith, c.loop-left.invariant.within))
+bounds-boxes-place c =
+    places_below c.args.boxes.now c.args.entries.now c.requires.index.names (c.loop-left.left - 1) nothing (omega (arith, c.loop-left.invariant.within))
 
 pub offset_bounds-boxes-place : goal.offset_bounds-boxes-place
 offset_bounds-boxes-place c =
@@ -45,7 +46,8 @@ returns-then-has c =
     let lt : (get_or c.args.entries.now (c.loop-left.left - 1) nothing).place < length c.args.boxes.now =
     places_below c.args.boxes.now c.args.entries.now c.requires.index.names (c.loop-left.left - 1) nothing (omega (arith, c.loop-left.invariant.within)) in (
       c.index-boxes-place.result,
-      placed c.args.boxes.now c.args.boxes.now (get_or c.args.entries.now (c.loop-left.left - 1) nothing).place c.index-boxes-place.result refl lt c.index-boxes-place.is,
+      placed c.args.boxes.now c.args.boxes.now (get_or c.args.entries.now (c.loop-left.left - 1) nothing).place c.index-boxes-place.result refl lt
+          c.index-boxes-place.is,
       c.if-has.ensures.0 refl,
     )
 
@@ -54,8 +56,10 @@ loop-left-preserved c =
     let lt : (get_or c.args.entries.now (c.loop-left.left - 1) nothing).place < length c.args.boxes.now =
     places_below c.args.boxes.now c.args.entries.now c.requires.index.names (c.loop-left.left - 1) nothing (omega (arith, c.loop-left.invariant.within)) in
     behind_more c.args.boxes.now c.args.entries.now c.args.p.now c.loop-left.left nothing c.index-boxes-place.result (omega arith) c.loop-left.invariant
-    (placed c.args.boxes.now c.args.boxes.now (get_or c.args.entries.now (c.loop-left.left - 1) nothing).place c.index-boxes-place.result refl lt c.index-boxes-place.is)
+    (placed c.args.boxes.now c.args.boxes.now (get_or c.args.entries.now (c.loop-left.left - 1) nothing).place c.index-boxes-place.result refl lt
+    c.index-boxes-place.is)
     (λ w. let t = c.if-has.ensures.1 w in absurd (cc))
 
 pub returns : goal.returns
-returns c = behind_none c.args.boxes.now c.args.entries.now c.args.reaches.now c.args.p.now c.loop-left.left (omega arith) c.requires.index c.loop-left.invariant
+returns c =
+    behind_none c.args.boxes.now c.args.entries.now c.args.reaches.now c.args.p.now c.loop-left.left (omega arith) c.requires.index c.loop-left.invariant

@@ -15,7 +15,8 @@ nothing = record { low = pos 0; place = 0 }
 pub loop-e-preserved : goal.loop-e-preserved
 loop-e-preserved c =
     let lt : (get_or c.args.entries.now c.loop-e.e-index nothing).place < length c.args.boxes.now = c.requires c.loop-e.e-index nothing c.loop-e-test.true in
-    let place = placed c.args.boxes.now c.args.boxes.now (get_or c.args.entries.now c.loop-e.e-index nothing).place c.index-boxes-e.result refl lt c.index-boxes-e.is in
+    let place = placed c.args.boxes.now c.args.boxes.now (get_or c.args.entries.now c.loop-e.e-index nothing).place c.index-boxes-e.result refl lt
+    c.index-boxes-e.is in
     let high : coordinate (highs c.index-boxes-e.result) 0 ≡ c.first.result.hi = highs-at c.index-boxes-e.result 0 c.first.result c.first.ensures in
     let f : SFits w64 c.max-greatest.result = search rules in
     let g : SFits w64 c.max.inside.hi = search rules in
@@ -26,4 +27,5 @@ loop-e-preserved c =
     c.loop-e.invariant place max c.in_ok-push.ensures.items
 
 pub returns : goal.returns
-returns c = reached_all c.args.boxes.now c.args.entries.now c.loop-e.e-index _ c.loop-e.reaches.items c.loop-e.auto.e-index-end c.loop-e-test.false c.loop-e.invariant
+returns c =
+    reached_all c.args.boxes.now c.args.entries.now c.loop-e.e-index _ c.loop-e.reaches.items c.loop-e.auto.e-index-end c.loop-e-test.false c.loop-e.invariant

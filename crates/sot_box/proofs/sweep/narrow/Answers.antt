@@ -16,7 +16,8 @@ loop-k-preserved c =
     let g : SFits w64 c.at.result = search rules in
     let m : SFits w64 c.min-least.result = search rules in
     let p : IsPut c.loop-k.reach c.loop-k.k c.min-least.result c.set.new.self =
-    put-by c.loop-k.reach c.set.new.self c.loop-k.k c.min-least.result (to_z w64 (of_z w64 c.min-least.result)) c.set.ensures (to_z-of_z w64 c.min-least.result m)
+    put-by c.loop-k.reach c.set.new.self c.loop-k.k c.min-least.result (to_z w64 (of_z w64 c.min-least.result)) c.set.ensures
+    (to_z-of_z w64 c.min-least.result m)
     (omega (arith, c.loop-k.invariant.width, c.requires)) in
     narrow-step c.args.by.now c.loop-k.k c.args.reach.now c.loop-k.reach c.set.new.self c.min-least.result c.loop-k.invariant
     (rw (r, h) (simp to_z-of_z at c.min-least.ensures.value)) p

@@ -13,7 +13,8 @@ use Rattle.sot_code.proofs.body.+run.Goals as goal
 pub run-step-requires : goal.run-step-requires
 run-step-requires t c =
     let lt = c.loop-one-test.true in
-    let size : length c.args.node.now.reads.items + length c.args.node.now.locals.items ≡ length c.loop-one.numbers = omega (arith, c.loop-one.invariant.size, c.requires.size) in
+    let size : length c.args.node.now.reads.items + length c.args.node.now.locals.items ≡ length c.loop-one.numbers =
+    omega (arith, c.loop-one.invariant.size, c.requires.size) in
     let f = fits_at _ _ _ c.args.acts.now c.loop-one.one-index c.one-item.result c.requires.fits (omega arith) c.one-item.is in
     (search (rules, the_lemmas, c.one-item.is, c.decreases), (c.requires.node, (f, size)))
 
@@ -53,38 +54,75 @@ step-value-requires t c =
 
 pub step-run-requires : goal.step-run-requires
 step-run-requires t c =
-    let f = ActFits-If _ _ _ c.in-If.cond c.in-If.yes c.in-If.no (rw c.in-If.is at c.requires.fits) in
-    (search (rules, the_lemmas, c.in-If.is, c.deref.ensures.value, c.decreases), (c.requires.node, (subst (λ us. ActsFit (node_truths c.args.p.now c.args.node.now) (length c.args.node.now.locals.items) (length c.args.node.now.writes.items) us) (sym c.deref.ensures.value) f.2, c.requires.size)))
+    let f = ActFits-If _ _ _ c.in-If.cond c.in-If.yes c.in-If.no (rw c.in-If.is at c.requires.fits) in (
+      search (rules, the_lemmas, c.in-If.is, c.deref.ensures.value, c.decreases),
+      (
+        c.requires.node,
+        (
+          subst (λ us. ActsFit (node_truths c.args.p.now c.args.node.now) (length c.args.node.now.locals.items)
+              (length c.args.node.now.writes.items) us) (sym c.deref.ensures.value) f.2,
+          c.requires.size,
+        ),
+      ),
+    )
 
 pub step-run-requires-else-branch-ne0 : goal.step-run-requires-else-branch-ne0
 step-run-requires-else-branch-ne0 t c =
-    let f = ActFits-If _ _ _ c.in-If.cond c.in-If.yes c.in-If.no (rw c.in-If.is at c.requires.fits) in
-    (search (rules, the_lemmas, c.in-If.is, c.deref-else-branch-ne0.ensures.value, c.decreases), (c.requires.node, (subst (λ us. ActsFit (node_truths c.args.p.now c.args.node.now) (length c.args.node.now.locals.items) (length c.args.node.now.writes.items) us) (sym c.deref-else-branch-ne0.ensures.value) f.3, c.requires.size)))
+    let f = ActFits-If _ _ _ c.in-If.cond c.in-If.yes c.in-If.no (rw c.in-If.is at c.requires.fits) in (
+      search (rules, the_lemmas, c.in-If.is, c.deref-else-branch-ne0.ensures.value, c.decreases),
+      (
+        c.requires.node,
+        (
+          subst (λ us. ActsFit (node_truths c.args.p.now c.args.node.now) (length c.args.node.now.locals.items)
+              (length c.args.node.now.writes.items) us) (sym c.deref-else-branch-ne0.ensures.value) f.3,
+          c.requires.size,
+        ),
+      ),
+    )
 
 pub step-turns-requires : goal.step-turns-requires
 step-turns-requires t c =
-    let f = ActFits-Repeat _ _ _ c.in-Repeat.times c.in-Repeat.body (rw c.in-Repeat.is at c.requires.fits) in
-    (search (rules, the_lemmas, c.in-Repeat.is, c.deref-in-Repeat.ensures.value, c.decreases), (c.requires.node, (subst (λ us. ActsFit (node_truths c.args.p.now c.args.node.now) (length c.args.node.now.locals.items) (length c.args.node.now.writes.items) us) (sym c.deref-in-Repeat.ensures.value) f.2, c.requires.size)))
+    let f = ActFits-Repeat _ _ _ c.in-Repeat.times c.in-Repeat.body (rw c.in-Repeat.is at c.requires.fits) in (
+      search (rules, the_lemmas, c.in-Repeat.is, c.deref-in-Repeat.ensures.value, c.decreases),
+      (
+        c.requires.node,
+        (
+          subst (λ us. ActsFit (node_truths c.args.p.now c.args.node.now) (length c.args.node.now.locals.items)
+              (length c.args.node.now.writes.items) us) (sym c.deref-in-Repeat.ensures.value) f.2,
+          c.requires.size,
+        ),
+      ),
+    )
 
 pub step-returns-then-branch-ne0-clause-ends : goal.step-returns-then-branch-ne0-clause-ends
 step-returns-then-branch-ne0-clause-ends t c =
     let z = c.in_ok-value-in-If.field-0 in
     let f = fired_at c.args.node.now c.args.numbers.now c.args.draft.now in
-    let taken = takes_first c.args.p.now c.args.node.now c.args.numbers.now c.in-If.cond c.in-If.yes c.in-If.no c.args.draft.now z (sym c.value.ensures ∙ c.in_ok-value-in-If.was) (true_of_ne z (λ e. c.if-branch-ne0.true (ap (of_z w64) e))) in
-    ends_same c.args.node.now c.run.result c.run.new.numbers c.run.new.draft _ _ (sym (ap (λ a. step_of c.args.p.now c.args.node.now c.args.numbers.now a f) c.in-If.is ∙ taken ∙ ap (λ us. run_of c.args.p.now c.args.node.now c.args.numbers.now us f) (sym c.deref.ensures.value))) c.run.ensures.ends
+    let taken = takes_first c.args.p.now c.args.node.now c.args.numbers.now c.in-If.cond c.in-If.yes c.in-If.no c.args.draft.now z
+    (sym c.value.ensures ∙ c.in_ok-value-in-If.was) (true_of_ne z (λ e. c.if-branch-ne0.true (ap (of_z w64) e))) in
+    ends_same c.args.node.now c.run.result c.run.new.numbers c.run.new.draft _ _
+    (sym (ap (λ a. step_of c.args.p.now c.args.node.now c.args.numbers.now a f) c.in-If.is ∙ taken
+    ∙ ap (λ us. run_of c.args.p.now c.args.node.now c.args.numbers.now us f) (sym c.deref.ensures.value))) c.run.ensures.ends
 
 pub step-returns-else-branch-ne0-clause-ends : goal.step-returns-else-branch-ne0-clause-ends
 step-returns-else-branch-ne0-clause-ends t c =
     let z = c.in_ok-value-in-If.field-0 in
     let f = fired_at c.args.node.now c.args.numbers.now c.args.draft.now in
     let fits : FitsSigned w64 z = search rules in
-    let taken = takes_second c.args.p.now c.args.node.now c.args.numbers.now c.in-If.cond c.in-If.yes c.in-If.no c.args.draft.now z (sym c.value.ensures ∙ c.in_ok-value-in-If.was) (ap is_true (zero_of_bits z fits c.if-branch-ne0.false)) in
-    ends_same c.args.node.now c.run-else-branch-ne0.result c.run-else-branch-ne0.new.numbers c.run-else-branch-ne0.new.draft _ _ (sym (ap (λ a. step_of c.args.p.now c.args.node.now c.args.numbers.now a f) c.in-If.is ∙ taken ∙ ap (λ us. run_of c.args.p.now c.args.node.now c.args.numbers.now us f) (sym c.deref-else-branch-ne0.ensures.value))) c.run-else-branch-ne0.ensures.ends
+    let taken = takes_second c.args.p.now c.args.node.now c.args.numbers.now c.in-If.cond c.in-If.yes c.in-If.no c.args.draft.now z
+    (sym c.value.ensures ∙ c.in_ok-value-in-If.was) (ap is_true (zero_of_bits z fits c.if-branch-ne0.false)) in
+    ends_same c.args.node.now c.run-else-branch-ne0.result c.run-else-branch-ne0.new.numbers c.run-else-branch-ne0.new.draft _ _
+    (sym (ap (λ a. step_of c.args.p.now c.args.node.now c.args.numbers.now a f) c.in-If.is ∙ taken
+    ∙ ap (λ us. run_of c.args.p.now c.args.node.now c.args.numbers.now us f) (sym c.deref-else-branch-ne0.ensures.value)))
+    c.run-else-branch-ne0.ensures.ends
 
 pub step-returns-in-Repeat-clause-ends : goal.step-returns-in-Repeat-clause-ends
 step-returns-in-Repeat-clause-ends t c =
     let f = fired_at c.args.node.now c.args.numbers.now c.args.draft.now in
-    ends_same c.args.node.now c.turns.result c.turns.new.numbers c.turns.new.draft _ _ (sym (ap (λ a. step_of c.args.p.now c.args.node.now c.args.numbers.now a f) c.in-Repeat.is ∙ act-Repeat _ _ _ _ _ _ ∙ ap (λ us. turns_of c.args.p.now c.args.node.now c.args.numbers.now c.in-Repeat.times us f) (sym c.deref-in-Repeat.ensures.value))) c.turns.ensures.ends
+    ends_same c.args.node.now c.turns.result c.turns.new.numbers c.turns.new.draft _ _
+    (sym (ap (λ a. step_of c.args.p.now c.args.node.now c.args.numbers.now a f) c.in-Repeat.is ∙ act-Repeat _ _ _ _ _ _
+    ∙ ap (λ us. turns_of c.args.p.now c.args.node.now c.args.numbers.now c.in-Repeat.times us f) (sym c.deref-in-Repeat.ensures.value)))
+    c.turns.ensures.ends
 
 pub turns-loop-turn-preserved : goal.turns-loop-turn-preserved
 turns-loop-turn-preserved t c =
@@ -103,4 +141,5 @@ turns-returns-in_err-run-clause-ends t c =
     let i = c.loop-turn.invariant in
     let e = rw i.read at c.in_err-run.ensures.ends in
     let q = err_from_is_err_and c.from_residual.result c.from_residual.ensures.1 in
-    rw (q.1, q.2) (turns_stop c.loop-turn._turn c.args.count (run_of c.args.p.now c.args.node.now c.args.numbers.now c.args.acts.now) _ _ _ (omega arith) i.ends e)
+    rw (q.1, q.2) (turns_stop c.loop-turn._turn c.args.count (run_of c.args.p.now c.args.node.now c.args.numbers.now c.args.acts.now) _ _ _ (omega arith) i.ends
+    e)

@@ -8,7 +8,8 @@ invariant-run-loop-one l = record {
   size : length l.numbers ≡ length l.initial.numbers;
   slots : length l.draft ≡ length l.initial.draft;
   unused : drop (length l.node.writes.items) l.draft ≡ drop (length l.node.writes.items) l.initial.draft;
-  ends : run_of l.p l.node l.initial.numbers (take l.one-index l.acts) (fired_at l.node l.initial.numbers l.initial.draft) ≡ Ok (fired_at l.node l.numbers l.draft);
+  ends : run_of l.p l.node l.initial.numbers (take l.one-index l.acts) (fired_at l.node l.initial.numbers l.initial.draft)
+      ≡ Ok (fired_at l.node l.numbers l.draft);
 }
 
 abbrev pub invariant-turns-loop-turn : goal.invariant-turns-loop-turn

@@ -12,7 +12,11 @@ returns c =
     let lo_fits : FitsSigned w64 info.lo = search rules in
     let hi_fits : FitsSigned w64 info.hi = search rules in
     let z_fits : FitsSigned w64 z = search rules in
-    let below : c.index.result.now < length c.args.p.now.scalars = c.requires.node.written c.args.slot c.index.result.now (rw (slice_get-get_or c.args.node.now.writes.items c.args.slot c.index.result.now c.requires.slot, ← c.index.ensures) refl) in
-    let here : info ≡ get_or c.args.p.now.scalars c.index.result.now info = c.index-info.ensures ∙ ap (λ (t : Tables). get_or t.scalars c.index.result.now info) c.p.view_is in
+    let below : c.index.result.now < length c.args.p.now.scalars =
+    c.requires.node.written c.args.slot c.index.result.now
+    (rw (slice_get-get_or c.args.node.now.writes.items c.args.slot c.index.result.now c.requires.slot, ← c.index.ensures) refl) in
+    let here : info ≡ get_or c.args.p.now.scalars c.index.result.now info = c.index-info.ensures
+    ∙ ap (λ (t : Tables). get_or t.scalars c.index.result.now info) c.p.view_is in
     rw (read_word info.lo lo_fits, read_word info.hi hi_fits, read_word z z_fits) at c.inside.ensures
-    ∙ sym (scalar_value c.args.p.now c.args.node.now c.args.slot c.index.result.now info c.args.at _ z c.requires.slot c.index.ensures below here (sym c.value.ensures ∙ c.in_ok-z.was))
+    ∙ sym (scalar_value c.args.p.now c.args.node.now c.args.slot c.index.result.now info c.args.at _ z c.requires.slot c.index.ensures below here
+    (sym c.value.ensures ∙ c.in_ok-z.was))

@@ -9,4 +9,5 @@ returns-then-part-eq1-clause-front c =
     let below : 0 < length c.args.part.now = omega (arith, c.if-part-eq1.true) in
     let fits : FitsSigned w64 number = search rules in
     let front = rw (read_word number fits) at c.put_number.ensures.front in
-    one_behind c.put_number.new.numbers (take c.args.from c.args.numbers.now) c.args.part.now c.args.from number c.if-part-eq1.true (slice_get-get_or c.args.part.now 0 (pos 0) below) front
+    one_behind c.put_number.new.numbers (take c.args.from c.args.numbers.now) c.args.part.now c.args.from number c.if-part-eq1.true
+    (slice_get-get_or c.args.part.now 0 (pos 0) below) front

@@ -10,5 +10,7 @@ loop-i-preserved c =
     let inside : c.args.from + c.loop-i.i < length c.loop-i.numbers = omega (arith, k.size, c.requires.room, below) in
     record {
       size = search (rules, k.size);
-      front = rw (read_word c.at.result fits) (taken_behind c.loop-i.numbers c.args.locals.now (take c.args.from c.args.numbers.now) c.args.from c.loop-i.i c.at.result inside below k.front c.at.ensures);
+      front =
+          rw (read_word c.at.result fits) (taken_behind c.loop-i.numbers c.args.locals.now (take c.args.from c.args.numbers.now) c.args.from c.loop-i.i
+          c.at.result inside below k.front c.at.ensures);
     }

@@ -10,7 +10,9 @@ loop-i-preserved c =
     let inside : c.args.from + c.loop-i.i < length c.loop-i.numbers = omega (arith, k.size, c.requires, below) in
     record {
       size = search (rules, k.size);
-      front = rw (read_word c.at-in-loop-i.result fits) (taken_behind c.loop-i.numbers c.args.point.now (take c.args.from c.args.numbers.now) c.args.from c.loop-i.i c.at-in-loop-i.result inside below k.front c.at-in-loop-i.ensures);
+      front =
+          rw (read_word c.at-in-loop-i.result fits) (taken_behind c.loop-i.numbers c.args.point.now (take c.args.from c.args.numbers.now) c.args.from c.loop-i.i
+          c.at-in-loop-i.result inside below k.front c.at-in-loop-i.ensures);
     }
 
 pub returns-then-len-eq1-clause-front : goal.returns-then-len-eq1-clause-front

@@ -12,5 +12,7 @@ loop-i-preserved g c =
     let inside : c.loop-i.i < length c.loop-i.numbers = omega (arith, k.size, c.requires.room, c.loop-i-test.true) in
     record {
       size = search (rules, k.size);
-      front = taken_more c.loop-i.numbers seen c.loop-i.i (pos 0) _ inside below k.front (read_word _ fits ∙ sym (get_or_from_slice_get seen c.loop-i.i c.read.result (pos 0) c.read.ensures));
+      front =
+          taken_more c.loop-i.numbers seen c.loop-i.i (pos 0) _ inside below k.front
+          (read_word _ fits ∙ sym (get_or_from_slice_get seen c.loop-i.i c.read.result (pos 0) c.read.ensures));
     }

@@ -21,5 +21,7 @@ returns g c =
     c.split_at_mut-numbers.ensures.front ∙ ap (λ n. take (c.len-reads.result + n) c.put_locals.new.numbers) c.len.ensures.count
     ∙ c.put_locals.ensures.front ∙ ap (λ l. l ++ locals) c.put_seen.ensures.front in
     c.fire.ensures
-    ∙ ap (λ l. recorded (execution c.args.acts.now (local_ranges node) (write_ranges p node) l (drop (length node.reads.items) numbers))) (taken_front seen locals numbers (length node.reads.items) c.requires.reads joined)
-    ∙ ap (λ l. recorded (execution c.args.acts.now (local_ranges node) (write_ranges p node) seen l)) (taken_back seen locals numbers (length node.reads.items) c.requires.reads joined)
+    ∙ ap (λ l. recorded (execution c.args.acts.now (local_ranges node) (write_ranges p node) l (drop (length node.reads.items) numbers)))
+    (taken_front seen locals numbers (length node.reads.items) c.requires.reads joined)
+    ∙ ap (λ l. recorded (execution c.args.acts.now (local_ranges node) (write_ranges p node) seen l))
+    (taken_back seen locals numbers (length node.reads.items) c.requires.reads joined)

@@ -15,4 +15,5 @@ returns c =
 pub returns-in_err-run : goal.returns-in_err-run
 returns-in_err-run c =
     let q = err_from_is_err_and c.from_residual.result c.from_residual.ensures.1 in
-    rw (q.1, q.2) (traps c.args.p.now c.args.node.now c.args.acts.now c.args.numbers.now c.requires.node.few _ (rw c.requires.blank at c.in_err-run.ensures.ends))
+    rw (q.1, q.2) (traps c.args.p.now c.args.node.now c.args.acts.now c.args.numbers.now c.requires.node.few _
+    (rw c.requires.blank at c.in_err-run.ensures.ends))

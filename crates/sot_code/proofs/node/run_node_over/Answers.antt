@@ -15,7 +15,8 @@ execute-requires-clause-node g c =
     let p = c.args.p.now in
     let info = c.index-info.result.now in
     let is : info ≡ get_or p.nodes c.args.node info = c.index-info.ensures ∙ ap (λ (t : Tables). get_or t.nodes c.args.node info) c.p.view_is in
-    let here : At p.nodes c.args.node info = subst (λ x. At p.nodes c.args.node x) (node_is p c.args.node c.requires.run.node info c.requires.run.is is) c.requires.run.is in
+    let here : At p.nodes c.args.node info = subst (λ x. At p.nodes c.args.node x) (node_is p c.args.node c.requires.run.node info c.requires.run.is is)
+    c.requires.run.is in
     runnable p c.args.node info (subst MeetsTableRules c.p.view_is c.p.invariant) here
 
 pub execute-requires-clause-few : goal.execute-requires-clause-few
@@ -23,7 +24,8 @@ execute-requires-clause-few g c =
     let p = c.args.p.now in
     let info = c.index-info.result.now in
     let is : info ≡ get_or p.nodes c.args.node info = c.index-info.ensures ∙ ap (λ (t : Tables). get_or t.nodes c.args.node info) c.p.view_is in
-    let here : At p.nodes c.args.node info = subst (λ x. At p.nodes c.args.node x) (node_is p c.args.node c.requires.run.node info c.requires.run.is is) c.requires.run.is in
+    let here : At p.nodes c.args.node info = subst (λ x. At p.nodes c.args.node x) (node_is p c.args.node c.requires.run.node info c.requires.run.is is)
+    c.requires.run.is in
     let rules' : MeetsTableRules p = subst MeetsTableRules c.p.view_is c.p.invariant in
     (rules'.nodes c.args.node info here).locals
 
@@ -32,7 +34,8 @@ execute-requires-clause-fits g c =
     let p = c.args.p.now in
     let info = c.index-info.result.now in
     let is : info ≡ get_or p.nodes c.args.node info = c.index-info.ensures ∙ ap (λ (t : Tables). get_or t.nodes c.args.node info) c.p.view_is in
-    let here : At p.nodes c.args.node info = subst (λ x. At p.nodes c.args.node x) (node_is p c.args.node c.requires.run.node info c.requires.run.is is) c.requires.run.is in
+    let here : At p.nodes c.args.node info = subst (λ x. At p.nodes c.args.node x) (node_is p c.args.node c.requires.run.node info c.requires.run.is is)
+    c.requires.run.is in
     let rules' : MeetsTableRules p = subst MeetsTableRules c.p.view_is c.p.invariant in
     let body_is = sym c.as_ref.ensures.value ∙ ap option_copied c.unwrap-acts.ensures in
     (rules'.nodes c.args.node info here).body c.deref.result.now (c.unwrap-acts.result.now, body_is, sym c.deref.ensures.value)

@@ -14,7 +14,8 @@ point_of-requires-clause-some c =
     let p = c.args.p.now in
     let info = c.index-info.result.now in
     let is : info ≡ get_or p.plants c.args.plant info = c.index-info.ensures ∙ ap (λ (t : Tables). get_or t.plants c.args.plant info) c.p.view_is in
-    let here : At p.plants c.args.plant info = subst (λ x. At p.plants c.args.plant x) (plant_is p c.args.plant c.requires.plant info c.requires.is is) c.requires.is in
+    let here : At p.plants c.args.plant info = subst (λ x. At p.plants c.args.plant x) (plant_is p c.args.plant c.requires.plant info c.requires.is is)
+    c.requires.is in
     let r = (subst MeetsTableRules c.p.view_is c.p.invariant).plants c.args.plant info here in
     let same = ap length c.deref.ensures.value in
     omega (arith, r.some_state, r.one_next, same)
@@ -24,7 +25,8 @@ point_of-requires-clause-few c =
     let p = c.args.p.now in
     let info = c.index-info.result.now in
     let is : info ≡ get_or p.plants c.args.plant info = c.index-info.ensures ∙ ap (λ (t : Tables). get_or t.plants c.args.plant info) c.p.view_is in
-    let here : At p.plants c.args.plant info = subst (λ x. At p.plants c.args.plant x) (plant_is p c.args.plant c.requires.plant info c.requires.is is) c.requires.is in
+    let here : At p.plants c.args.plant info = subst (λ x. At p.plants c.args.plant x) (plant_is p c.args.plant c.requires.plant info c.requires.is is)
+    c.requires.is in
     let r = (subst MeetsTableRules c.p.view_is c.p.invariant).plants c.args.plant info here in
     let same = ap length c.deref.ensures.value in
     omega (arith, r.states, r.one_next, same)
@@ -37,7 +39,8 @@ point_of-requires-clause-places c =
     let same = plant_is p c.args.plant c.requires.plant info c.requires.is is in
     let here : At p.plants c.args.plant info = subst (λ x. At p.plants c.args.plant x) same c.requires.is in
     let r = (subst MeetsTableRules c.p.view_is c.p.invariant).plants c.args.plant info here in
-    let names = c.requires.names ∙ ap (λ (x : PlantInfo). length x.states.items + length x.inputs.items + seen_width p.plants x.sees.items + length x.noise.items) same in
+    let names = c.requires.names ∙ ap (λ (x : PlantInfo). length x.states.items + length x.inputs.items + seen_width p.plants x.sees.items
+    + length x.noise.items) same in
     plant_places p info c.deref.result.now (length c.args.numbers.now) (subst (TermsFit (plant_truths p info)) (sym c.deref.ensures.value) r.next) names
 
 pub returns : goal.returns

@@ -6,7 +6,8 @@ use Rattle.sot_code.proofs.Plants.{values_more, values_stop, have_at}
 use Rattle.sot_code.proofs.plant.put_values.Goals as goal
 
 pub value-requires : goal.value-requires
-value-requires c = have_at (length c.args.numbers.now) c.args.terms.now c.loop-i.i c.index-terms-i.result c.requires.places c.loop-i-test.true c.index-terms-i.is
+value-requires c =
+    have_at (length c.args.numbers.now) c.args.terms.now c.loop-i.i c.index-terms-i.result c.requires.places c.loop-i-test.true c.index-terms-i.is
 
 pub loop-i-preserved : goal.loop-i-preserved
 loop-i-preserved c =
@@ -17,11 +18,13 @@ loop-i-preserved c =
     record {
       size = search (rules, k.size);
       ends = rw (read_word x fits)
-          (values_more c.args.numbers.now c.args.terms.now c.loop-i.i c.index-terms-i.result _ x c.loop-i-test.true c.index-terms-i.is k.ends (sym c.value.ensures ∙ c.in_ok-point.was)
+          (values_more c.args.numbers.now c.args.terms.now c.loop-i.i c.index-terms-i.result _ x c.loop-i-test.true c.index-terms-i.is k.ends
+          (sym c.value.ensures ∙ c.in_ok-point.was)
           ∙ ap Ok (sym (take_more_set c.loop-i.point c.loop-i.i x inside)));
     }
 
 pub returns-in_err-point-clause-ends : goal.returns-in_err-point-clause-ends
 returns-in_err-point-clause-ends c =
     let q = err_from_is_err_and c.from_residual.result c.from_residual.ensures.1 in
-    rw (q.1, q.2) (values_stop c.args.numbers.now c.args.terms.now c.loop-i.i c.index-terms-i.result _ _ c.loop-i-test.true c.index-terms-i.is c.loop-i.invariant.ends (sym c.value.ensures ∙ c.in_err-point.was))
+    rw (q.1, q.2) (values_stop c.args.numbers.now c.args.terms.now c.loop-i.i c.index-terms-i.result _ _ c.loop-i-test.true c.index-terms-i.is
+    c.loop-i.invariant.ends (sym c.value.ensures ∙ c.in_err-point.was))

@@ -9,8 +9,11 @@ pub returns : goal.returns
 returns c =
     let fits : SFits w64 c.middle_of-end.result = search rules in
     let same = to_z-of_z w64 c.middle_of-end.result fits in
-    let low : c.up_to-low.result ≡ record { lo = c.args.side.lo; hi = c.middle_of-end.result } = interval_ends c.up_to-low.result (record { lo = c.args.side.lo; hi = c.middle_of-end.result }) c.up_to-low.ensures.lo (c.up_to-low.ensures.hi ∙ same) in
-    let high : c.above-high.result ≡ record { lo = c.middle_of-end.result +ℤ pos 1; hi = c.args.side.hi } = interval_ends c.above-high.result (record { lo = c.middle_of-end.result +ℤ pos 1; hi = c.args.side.hi }) (c.above-high.ensures.lo ∙ ap (λ z. z +ℤ pos 1) same) c.above-high.ensures.hi in
+    let low : c.up_to-low.result ≡ record { lo = c.args.side.lo; hi = c.middle_of-end.result } =
+    interval_ends c.up_to-low.result (record { lo = c.args.side.lo; hi = c.middle_of-end.result }) c.up_to-low.ensures.lo (c.up_to-low.ensures.hi ∙ same) in
+    let high : c.above-high.result ≡ record { lo = c.middle_of-end.result +ℤ pos 1; hi = c.args.side.hi } =
+    interval_ends c.above-high.result (record { lo = c.middle_of-end.result +ℤ pos 1; hi = c.args.side.hi })
+    (c.above-high.ensures.lo ∙ ap (λ z. z +ℤ pos 1) same) c.above-high.ensures.hi in
     record {
       axis = c.args.axis;
       side = c.args.side;

@@ -7,5 +7,7 @@ use Rattle.sot_halving.proofs.halves.with_side.Goals as goal
 pub loop-i-preserved : goal.loop-i-preserved
 loop-i-preserved c = record {
   four = length-set _ _ _ ∙ c.loop-i.invariant.four;
-  done = filled c.loop-i.sides (slice_set c.args.cell.now c.args.axis c.args.side) c.loop-i.i c.side_or.result (omega (arith, c.loop-i.invariant.four)) c.side_or.ensures c.loop-i.invariant.done;
+  done =
+      filled c.loop-i.sides (slice_set c.args.cell.now c.args.axis c.args.side) c.loop-i.i c.side_or.result (omega (arith, c.loop-i.invariant.four))
+      c.side_or.ensures c.loop-i.invariant.done;
 }

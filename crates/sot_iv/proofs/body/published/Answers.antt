@@ -11,7 +11,11 @@ returns c =
     let x = c.in_ok-x.x in
     let lo_fits : FitsSigned w64 info.lo = search rules in
     let hi_fits : FitsSigned w64 info.hi = search rules in
-    let below : c.index.result.now < length c.args.p.now.scalars = c.requires.node.written c.args.slot c.index.result.now (rw (slice_get-get_or c.args.node.now.writes.items c.args.slot c.index.result.now c.requires.slot, ← c.index.ensures) refl) in
-    let here : info ≡ get_or c.args.p.now.scalars c.index.result.now info = c.index-info.ensures ∙ ap (λ (t : Tables). get_or t.scalars c.index.result.now info) c.p.view_is in
+    let below : c.index.result.now < length c.args.p.now.scalars =
+    c.requires.node.written c.args.slot c.index.result.now
+    (rw (slice_get-get_or c.args.node.now.writes.items c.args.slot c.index.result.now c.requires.slot, ← c.index.ensures) refl) in
+    let here : info ≡ get_or c.args.p.now.scalars c.index.result.now info = c.index-info.ensures
+    ∙ ap (λ (t : Tables). get_or t.scalars c.index.result.now info) c.p.view_is in
     rw (word info.lo lo_fits, word info.hi hi_fits) at c.inside.ensures
-    ∙ sym (scalar_value c.args.p.now c.args.node.now c.args.slot c.index.result.now info c.args.at _ x c.requires.slot c.index.ensures below here (sym c.interval_of.ensures ∙ c.in_ok-x.was))
+    ∙ sym (scalar_value c.args.p.now c.args.node.now c.args.slot c.index.result.now info c.args.at _ x c.requires.slot c.index.ensures below here
+    (sym c.interval_of.ensures ∙ c.in_ok-x.was))

@@ -6,7 +6,8 @@ use Rattle.sot_iv.proofs.ScalarTypes.{word_side, types_more}
 use Rattle.sot_iv.proofs.bounds.put_types.Goals as goal
 
 pub bounds-infos-scalar : goal.bounds-infos-scalar
-bounds-infos-scalar c = c.requires.inside (get_or c.args.scalars.now c.loop-i.i 0) (c.loop-i.i, slice_get-get_or c.args.scalars.now c.loop-i.i 0 c.loop-i-test.true)
+bounds-infos-scalar c =
+    c.requires.inside (get_or c.args.scalars.now c.loop-i.i 0) (c.loop-i.i, slice_get-get_or c.args.scalars.now c.loop-i.i 0 c.loop-i-test.true)
 
 pub invariant_of-push : goal.invariant_of-push
 invariant_of-push c =
@@ -27,4 +28,5 @@ loop-i-preserved c =
     let lo_fits : SFits w64 info.lo = search rules in
     let hi_fits : SFits w64 info.hi = search rules in
     let pushed = c.push.ensures ∙ ap (λ s. c.loop-i.sides ++ s ∷ []) (word_side info.lo info.hi lo_fits hi_fits) in
-    types_more c.args.infos.now c.args.scalars.now c.loop-i.i info c.args.sides.now c.loop-i.sides c.push.new.self c.loop-i-test.true at c.loop-i.invariant pushed
+    types_more c.args.infos.now c.args.scalars.now c.loop-i.i info c.args.sides.now c.loop-i.sides c.push.new.self c.loop-i-test.true at c.loop-i.invariant
+    pushed

@@ -12,7 +12,9 @@ returns-then-info-plant c =
     let rules : MeetsTableRules c.args.p.now = subst MeetsTableRules c.p.view_is c.p.invariant in
     let lt : c.loop-info.info-index < length c.deref-info-items.result.now = omega arith in
     let at : At c.args.p.now.modules c.loop-info.info-index info =
-    subst (λ q. At q c.loop-info.info-index info) c.loop-info.invariant.0 (slice_get_read c.deref-info-items.result.now (length c.deref-info-items.result.now) c.loop-info.info-index info refl lt c.info-item.is) in
+    subst (λ q. At q c.loop-info.info-index info) c.loop-info.invariant.0
+    (slice_get_read c.deref-info-items.result.now (length c.deref-info-items.result.now) c.loop-info.info-index info refl lt c.info-item.is) in
     let width = (rules.modules c.loop-info.info-index info at).safe.width ∙ ap (width_of c.args.p.now.plants) c.if-info-plant.true in
-    safe_answer c.args.p.now.modules c.args.plant c.loop-info.info-index (width_of c.args.p.now.plants c.args.plant) info c.hull.result at c.if-info-plant.true c.loop-info.invariant.1 width
+    safe_answer c.args.p.now.modules c.args.plant c.loop-info.info-index (width_of c.args.p.now.plants c.args.plant) info c.hull.result at c.if-info-plant.true
+    c.loop-info.invariant.1 width
     (hull_answer info.safe.boxes info.safe.width c.hull.result c.hull.ensures.least c.hull.ensures.width)

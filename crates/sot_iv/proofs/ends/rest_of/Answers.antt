@@ -11,4 +11,5 @@ ordered-requires c =
     let f = word c.floor_above.result (record { sfits = c.floor_above.type_inv }) ∙ c.floor_above.ensures in
     let g = word c.floor_above-2.result (record { sfits = c.floor_above-2.type_inv }) ∙ c.floor_above-2.ensures in
     let le = rw (f, g, word c.args.a c.ranges.a, word c.args.b c.ranges.b, word c.args.by c.ranges.by) at c.if-floor_above.true in
-    rw (lo, hi, word c.args.a c.ranges.a, word c.args.b c.ranges.b, word c.args.by c.ranges.by) (rests_in_order c.args.a c.args.b c.args.by c.requires.divisor c.requires.order (grind (arith, ints, le)))
+    rw (lo, hi, word c.args.a c.ranges.a, word c.args.b c.ranges.b, word c.args.by c.ranges.by)
+    (rests_in_order c.args.a c.args.b c.args.by c.requires.divisor c.requires.order (grind (arith, ints, le)))

@@ -13,7 +13,8 @@ returns-in_err-run c =
     let q = err_from_is_err_and c.from_residual.result c.from_residual.ensures.1 in
     let count : c.len.result ≡ length n.writes.items = c.len.ensures ∙ n.writes.ok.0 in
     let none : c.split_at_mut-draft.result.0.now ≡ replicate (length n.writes.items) Absent =
-    c.split_at_mut-draft.ensures.front ∙ take-replicate c.len.result 8 Absent (omega (arith, count, c.requires.node.few)) ∙ ap (λ k. replicate k Absent) count in
+    c.split_at_mut-draft.ensures.front ∙ take-replicate c.len.result 8 Absent (omega (arith, count, c.requires.node.few))
+    ∙ ap (λ k. replicate k Absent) count in
     let e = leaves_err c.run.result c.run.new.locals c.run.new.draft _ c.in_err-run.field-0.0 c.in_err-run.was c.run.ensures in
     let same = ap₂ (λ l d. run_of c.args.p.now n c.args.seen.now c.args.acts.now (state l d)) c.copy_locals.ensures none in
     rw (q.1, q.2) (ap drafts_of (sym e ∙ same))
@@ -23,7 +24,8 @@ returns c =
     let n = c.args.node.now in
     let count : c.len.result ≡ length n.writes.items = c.len.ensures ∙ n.writes.ok.0 in
     let none : c.split_at_mut-draft.result.0.now ≡ replicate (length n.writes.items) Absent =
-    c.split_at_mut-draft.ensures.front ∙ take-replicate c.len.result 8 Absent (omega (arith, count, c.requires.node.few)) ∙ ap (λ k. replicate k Absent) count in
+    c.split_at_mut-draft.ensures.front ∙ take-replicate c.len.result 8 Absent (omega (arith, count, c.requires.node.few))
+    ∙ ap (λ k. replicate k Absent) count in
     let e = leaves_ok c.run.result c.run.new.locals c.run.new.draft _ _ c.in_ok-run.was c.run.ensures in
     let same = ap₂ (λ l d. run_of c.args.p.now n c.args.seen.now c.args.acts.now (state l d)) c.copy_locals.ensures none in
     ap Ok c.from_slice.ensures ∙ ap drafts_of (sym e ∙ same)

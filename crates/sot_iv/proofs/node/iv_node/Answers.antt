@@ -22,12 +22,15 @@ use Rattle.sot_iv.proofs.node.iv_node.Goals as goal
 
 -- what holds of the node and the body that the code reads holds of those that the caller names
 handed : (p : Tables) (rs : List Side) (result : OrMayTrap (List Drafted)) (info node : NodeInfo) → info ≡ node → (us acts : List Act) → us ≡ acts →
-    (o : OrMayTrap Intervals) × IsExecutionIntervals us (local_ranges info) (write_ranges p info) (take (length info.reads.items) rs) (drop (length info.reads.items) rs) o × (result ≡ drafts_of o) →
-    (o : OrMayTrap Intervals) × IsExecutionIntervals acts (local_ranges node) (write_ranges p node) (take (length node.reads.items) rs) (drop (length node.reads.items) rs) o × (result ≡ drafts_of o)
+    (o : OrMayTrap Intervals) × IsExecutionIntervals us (local_ranges info) (write_ranges p info) (take (length info.reads.items) rs)
+    (drop (length info.reads.items) rs) o × (result ≡ drafts_of o) →
+    (o : OrMayTrap Intervals) × IsExecutionIntervals acts (local_ranges node) (write_ranges p node) (take (length node.reads.items) rs)
+    (drop (length node.reads.items) rs) o × (result ≡ drafts_of o)
 handed p rs result info node same us acts bodies h = (
   h.0,
   subst (λ x. IsExecutionIntervals acts (local_ranges x) (write_ranges p x) (take (length x.reads.items) rs) (drop (length x.reads.items) rs) h.0) same
-      (subst (λ l. IsExecutionIntervals l (local_ranges info) (write_ranges p info) (take (length info.reads.items) rs) (drop (length info.reads.items) rs) h.0) bodies h.1),
+      (subst (λ l. IsExecutionIntervals l (local_ranges info) (write_ranges p info) (take (length info.reads.items) rs) (drop (length info.reads.items) rs) h.0)
+      bodies h.1),
   h.2,
 )
 
@@ -59,7 +62,8 @@ fire-requires-clause-size c =
     let is : info ≡ get_or p.nodes c.args.node info = c.index-info.ensures ∙ ap (λ (t : Tables). get_or t.nodes c.args.node info) c.p.view_is in
     let same = node_is p c.args.node c.requires.node info c.requires.is is in
     let base : c.len.result ≡ length info.reads.items = c.len.ensures ∙ info.reads.ok.0 in
-    let names : length c.args.ranges.now ≡ length info.reads.items + length info.locals.items = subst (λ x. length c.args.ranges.now ≡ length x.reads.items + length x.locals.items) same c.requires.names in
+    let names : length c.args.ranges.now ≡ length info.reads.items + length info.locals.items =
+    subst (λ x. length c.args.ranges.now ≡ length x.reads.items + length x.locals.items) same c.requires.names in
     let whole = ap length c.as_slice.ensures.value in
     omega (arith, base, names, whole, c.split_at.ensures.back_len)
 
@@ -84,7 +88,14 @@ returns c node acts at coded =
     let writes : length (write_ranges p info) ≡ length info.writes.items = length-map info.writes.items (range_of p.scalars) in
     let fired = c.fire.ensures
     ∙ ap₂ (λ s l. drafts_of (run_of p info s c.deref.result.now (state l (replicate (length info.writes.items) Absent)))) front back
-    ∙ ap (λ k. drafts_of (run_of p info (take (length info.reads.items) rs) c.deref.result.now (state (drop (length info.reads.items) rs) (replicate k Absent)))) (sym writes) in
-    let are = execution_is (node_truths p info) (length info.locals.items) (length info.writes.items) (take (length info.reads.items) rs) (local_ranges info) (write_ranges p info) (front_ordered rs (length info.reads.items) ordered) c.deref.result.now (drop (length info.reads.items) rs) fits (back_ordered rs (length info.reads.items) ordered) in
-    handed p rs c.fire.result info node theirs c.deref.result.now acts bodies
-    (run_of p info (take (length info.reads.items) rs) c.deref.result.now (state (drop (length info.reads.items) rs) (replicate (length (write_ranges p info)) Absent)), are, fired)
+    ∙ ap (λ k. drafts_of (run_of p info (take (length info.reads.items) rs) c.deref.result.now
+    (state (drop (length info.reads.items) rs) (replicate k Absent)))) (sym writes) in
+    let are = execution_is (node_truths p info) (length info.locals.items) (length info.writes.items) (take (length info.reads.items) rs) (local_ranges info)
+    (write_ranges p info) (front_ordered rs (length info.reads.items) ordered) c.deref.result.now (drop (length info.reads.items) rs) fits
+    (back_ordered rs (length info.reads.items) ordered) in
+    handed p rs c.fire.result info node theirs c.deref.result.now acts bodies (
+      run_of p info (take (length info.reads.items) rs) c.deref.result.now
+          (state (drop (length info.reads.items) rs) (replicate (length (write_ranges p info)) Absent)),
+      are,
+      fired,
+    )

@@ -12,4 +12,5 @@ iv_plant_over-requires c = record {
 }
 
 pub returns : goal.returns
-returns c plant at = subst (λ l. AreTermIntervals plant.next.items l c.iv_plant_over.result) (c.put_plant_ranges.ensures plant at) (c.iv_plant_over.ensures plant at)
+returns c plant at =
+    subst (λ l. AreTermIntervals plant.next.items l c.iv_plant_over.result) (c.put_plant_ranges.ensures plant at) (c.iv_plant_over.ensures plant at)

@@ -43,7 +43,8 @@ box_of-requires-clause-places c =
     let is : info ≡ get_or p.plants c.args.plant info = c.index-info.ensures ∙ ap (λ (t : Tables). get_or t.plants c.args.plant info) c.p.view_is in
     let same = plant_is p c.args.plant c.requires.may.plant info c.requires.may.is is in
     let places : HavePlaces (length c.args.names.now) info.next.items = over_places p c.args.plant c.args.names.now info tables c.requires same in
-    let at_names : HavePlaces (length c.as_slice.result.now) info.next.items = subst (λ l. HavePlaces (length l) info.next.items) (sym c.as_slice.ensures.value) places in
+    let at_names : HavePlaces (length c.as_slice.result.now) info.next.items =
+    subst (λ l. HavePlaces (length l) info.next.items) (sym c.as_slice.ensures.value) places in
     subst (HavePlaces (length c.as_slice.result.now)) (sym c.deref.ensures.value) at_names
 
 pub returns : goal.returns

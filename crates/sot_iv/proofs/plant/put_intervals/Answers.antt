@@ -33,4 +33,5 @@ pub returns-in_err-sides-clause-ends : goal.returns-in_err-sides-clause-ends
 returns-in_err-sides-clause-ends c =
     let q = err_from_is_err_and c.from_residual.result c.from_residual.ensures.1 in
     let now = sym (c.interval_of.ensures ∙ ap (term_interval c.index-terms-i.result) (append-nil c.args.names.now)) ∙ c.in_err-sides.was in
-    rw (q.1, q.2) (intervals_stop c.args.names.now c.args.terms.now c.loop-i.i c.index-terms-i.result _ _ c.loop-i-test.true c.index-terms-i.is c.loop-i.invariant.ends now)
+    rw (q.1, q.2) (intervals_stop c.args.names.now c.args.terms.now c.loop-i.i c.index-terms-i.result _ _ c.loop-i-test.true c.index-terms-i.is
+    c.loop-i.invariant.ends now)

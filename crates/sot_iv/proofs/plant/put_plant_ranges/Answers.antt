@@ -55,6 +55,7 @@ returns c plant at =
     let v = c.args.seen.now in
     let b = c.args.b.now in
     c.put_bounds.ensures
-    ∙ ap (λ l. l ++ map (λ (d : NoiseInfo). record { lo = d.lo; hi = d.hi }) c.deref.result.now) (c.extend-2.ensures ∙ ap (λ l. l ++ v) (c.extend.ensures ∙ ap (λ l. l ++ h) (c.put_box.ensures ∙ ap (λ l. l ++ c.args.b.now) c.requires.empty)))
+    ∙ ap (λ l. l ++ map (λ (d : NoiseInfo). record { lo = d.lo; hi = d.hi }) c.deref.result.now)
+    (c.extend-2.ensures ∙ ap (λ l. l ++ v) (c.extend.ensures ∙ ap (λ l. l ++ h) (c.put_box.ensures ∙ ap (λ l. l ++ c.args.b.now) c.requires.empty)))
     ∙ ap (λ l. b ++ h ++ v ++ map (λ (d : NoiseInfo). record { lo = d.lo; hi = d.hi }) l) c.deref.ensures.value
     ∙ ap (λ x. b ++ h ++ v ++ bounds x) theirs

@@ -19,7 +19,8 @@ returns-clause-words c = (
 )
 
 pub returns-clause-declarations : goal.returns-clause-declarations
-returns-clause-declarations c = (λ e. (let bad : 120 ≡ 121 = ap name_byte e in omega arith), λ e. cc, λ e. cc, λ e. (let bad : 0 ≡ 120 = ap name_byte e in omega arith))
+returns-clause-declarations c =
+    (λ e. (let bad : 120 ≡ 121 = ap name_byte e in omega arith), λ e. cc, λ e. cc, λ e. (let bad : 0 ≡ 120 = ap name_byte e in omega arith))
 
 pub returns-clause-branches : goal.returns-clause-branches
 returns-clause-branches c = (λ e. cc, λ e. cc, λ e. cc)

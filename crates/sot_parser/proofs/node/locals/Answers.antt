@@ -15,7 +15,8 @@ pub returns-in_err-local : goal.returns-in_err-local
 returns-in_err-local c =
     let p = err_from_is_err_and c.from_residual.result c.from_residual.ensures.1 in
     rw (p.1, p.2) (
-      breaks_so (begins (is_keyword (codes "local"))) local_at (all_at (begins (is_keyword (codes "local"))) local_at c.args.tokens.now.tokens) (map local_view c.loop-alloc.locals.items) c.loop-alloc.tokens.tokens c.local.new.tokens.tokens c.in_err-local.field-0.0
+      breaks_so (begins (is_keyword (codes "local"))) local_at (all_at (begins (is_keyword (codes "local"))) local_at c.args.tokens.now.tokens)
+          (map local_view c.loop-alloc.locals.items) c.loop-alloc.tokens.tokens c.local.new.tokens.tokens c.in_err-local.field-0.0
           (sym c.is_keyword.ensures ∙ c.loop-alloc-test.true) c.in_err-local.ensures.0 c.loop-alloc.invariant.0,
       c.in_err-local.ensures.1 ∙ c.loop-alloc.invariant.1,
     )
@@ -26,14 +27,17 @@ loop-alloc-smaller c = local_short c.loop-alloc.tokens.tokens (local_view c.in_o
 pub loop-alloc-preserved : goal.loop-alloc-preserved
 loop-alloc-preserved c =
     rw c.in_ok-push.ensures.items (
-      again_seen local_view (begins (is_keyword (codes "local"))) local_at local_short (all_at (begins (is_keyword (codes "local"))) local_at c.args.tokens.now.tokens) c.loop-alloc.locals.items c.in_ok-local.local c.loop-alloc.tokens.tokens c.local.new.tokens.tokens
+      again_seen local_view (begins (is_keyword (codes "local"))) local_at local_short
+          (all_at (begins (is_keyword (codes "local"))) local_at c.args.tokens.now.tokens) c.loop-alloc.locals.items c.in_ok-local.local
+          c.loop-alloc.tokens.tokens c.local.new.tokens.tokens
           (sym c.is_keyword.ensures ∙ c.loop-alloc-test.true) c.in_ok-local.ensures.0 c.loop-alloc.invariant.0,
       c.in_ok-local.ensures.1 ∙ c.loop-alloc.invariant.1,
     )
 
 pub returns : goal.returns
 returns c = (
-  stops (begins (is_keyword (codes "local"))) local_at (all_at (begins (is_keyword (codes "local"))) local_at c.args.tokens.now.tokens) (map local_view c.loop-alloc.locals.items) c.loop-alloc.tokens.tokens
+  stops (begins (is_keyword (codes "local"))) local_at (all_at (begins (is_keyword (codes "local"))) local_at c.args.tokens.now.tokens)
+      (map local_view c.loop-alloc.locals.items) c.loop-alloc.tokens.tokens
       (sym c.is_keyword.ensures ∙ c.loop-alloc-test.false) c.loop-alloc.invariant.0,
   c.loop-alloc.invariant.1,
 )

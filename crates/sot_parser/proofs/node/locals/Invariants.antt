@@ -8,7 +8,8 @@ use Rattle.sot_parser.proofs.node.locals.Given as goal
 
 abbrev pub invariant-loop-alloc : goal.invariant-loop-alloc
 invariant-loop-alloc l =
-    Loop (begins (is_keyword (codes "local"))) local_at (all_at (begins (is_keyword (codes "local"))) local_at l.fn.tokens.tokens) (map local_view l.locals.items) l.tokens.tokens
+    Loop (begins (is_keyword (codes "local"))) local_at (all_at (begins (is_keyword (codes "local"))) local_at l.fn.tokens.tokens)
+    (map local_view l.locals.items) l.tokens.tokens
     × (l.tokens.end ≡ l.fn.tokens.end)
 
 abbrev pub decreases-loop-alloc : goal.decreases-loop-alloc

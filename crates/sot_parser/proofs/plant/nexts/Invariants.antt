@@ -8,7 +8,8 @@ use Rattle.sot_parser.proofs.plant.nexts.Given as goal
 
 abbrev pub invariant-loop-alloc : goal.invariant-loop-alloc
 invariant-loop-alloc l =
-    Loop (begins (is_keyword (codes "next"))) (next_at l.room) (all_at (begins (is_keyword (codes "next"))) (next_at l.fn.room) l.fn.tokens.tokens) (map next_view l.nexts.items) l.tokens.tokens
+    Loop (begins (is_keyword (codes "next"))) (next_at l.room) (all_at (begins (is_keyword (codes "next"))) (next_at l.fn.room) l.fn.tokens.tokens)
+    (map next_view l.nexts.items) l.tokens.tokens
     × (l.tokens.end ≡ l.fn.tokens.end)
 
 abbrev pub decreases-loop-alloc : goal.decreases-loop-alloc

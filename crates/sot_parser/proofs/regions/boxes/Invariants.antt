@@ -8,7 +8,8 @@ use Rattle.sot_parser.proofs.regions.boxes.Given as goal
 
 abbrev pub invariant-loop-alloc : goal.invariant-loop-alloc
 invariant-loop-alloc l =
-    Loop (begins (is_sign (codes "|"))) (further_at (codes "|") box_at) (separated_at (codes "|") box_at l.fn.tokens.tokens) (map area_view l.boxes.items) l.tokens.tokens
+    Loop (begins (is_sign (codes "|"))) (further_at (codes "|") box_at) (separated_at (codes "|") box_at l.fn.tokens.tokens) (map area_view l.boxes.items)
+    l.tokens.tokens
     × (l.tokens.end ≡ l.fn.tokens.end)
 
 abbrev pub decreases-loop-alloc : goal.decreases-loop-alloc

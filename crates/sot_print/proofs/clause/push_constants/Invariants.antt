@@ -7,4 +7,5 @@ use Rattle.sot_print.proofs.clause.push_constants.Given as goal
 -- what is written, and then what is left
 abbrev pub invariant-loop-place : goal.invariant-loop-place
 invariant-loop-place l =
-    string_bytes l.out ++ laid (items_from constant_words l.gap (l.place == 0) (drop l.place l.constants)) ≡ string_bytes l.initial.out ++ laid (listed constant_words l.gap l.constants)
+    string_bytes l.out ++ laid (items_from constant_words l.gap (l.place == 0) (drop l.place l.constants))
+    ≡ string_bytes l.initial.out ++ laid (listed constant_words l.gap l.constants)

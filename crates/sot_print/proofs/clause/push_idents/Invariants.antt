@@ -7,4 +7,5 @@ use Rattle.sot_print.proofs.clause.push_idents.Given as goal
 -- what is written, and then what is left
 abbrev pub invariant-loop-place : goal.invariant-loop-place
 invariant-loop-place l =
-    string_bytes l.out ++ laid (items_from ident_words l.gap (l.place == 0) (drop l.place l.idents)) ≡ string_bytes l.initial.out ++ laid (listed ident_words l.gap l.idents)
+    string_bytes l.out ++ laid (items_from ident_words l.gap (l.place == 0) (drop l.place l.idents))
+    ≡ string_bytes l.initial.out ++ laid (listed ident_words l.gap l.idents)

@@ -7,4 +7,5 @@ use Rattle.sot_print.proofs.clause.push_sides.Given as goal
 -- what is written, and then what is left
 abbrev pub invariant-loop-place : goal.invariant-loop-place
 invariant-loop-place l =
-    string_bytes l.out ++ laid (items_from bounds_words l.gap (l.place == 0) (drop l.place l.sides)) ≡ string_bytes l.initial.out ++ laid (listed bounds_words l.gap l.sides)
+    string_bytes l.out ++ laid (items_from bounds_words l.gap (l.place == 0) (drop l.place l.sides))
+    ≡ string_bytes l.initial.out ++ laid (listed bounds_words l.gap l.sides)

@@ -8,4 +8,5 @@ use Rattle.sot_print.proofs.clause.push_states.Given as goal
 -- what is written, and then what is left
 abbrev pub invariant-loop-place : goal.invariant-loop-place
 invariant-loop-place l =
-    string_bytes l.out ++ laid (items_from state_words l.gap (l.place == 0) (drop l.place l.states)) ≡ string_bytes l.initial.out ++ laid (listed state_words l.gap l.states)
+    string_bytes l.out ++ laid (items_from state_words l.gap (l.place == 0) (drop l.place l.states))
+    ≡ string_bytes l.initial.out ++ laid (listed state_words l.gap l.states)

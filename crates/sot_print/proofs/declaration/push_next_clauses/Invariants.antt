@@ -8,4 +8,5 @@ use Rattle.sot_print.proofs.declaration.push_next_clauses.Given as goal
 -- what is written, and then what is left
 abbrev pub invariant-loop-clause : goal.invariant-loop-clause
 invariant-loop-clause l =
-    string_bytes l.out ++ laid (each next_clause (map next_view (drop l.clause-index l.clauses))) ≡ string_bytes l.initial.out ++ laid (each next_clause (map next_view l.clauses))
+    string_bytes l.out ++ laid (each next_clause (map next_view (drop l.clause-index l.clauses)))
+    ≡ string_bytes l.initial.out ++ laid (each next_clause (map next_view l.clauses))

@@ -30,5 +30,6 @@ push_expression-returns-in-Call t c =
     let shown = ap (λ e. laid (expression_words (tree_view e) c.args.gap)) c.in-Call.is ∙ call_bytes c.in-Call.func c.in-Call.parts c.in-Call.at c.args.gap in
     let parts = c.deref-in-Call-2.ensures.value ∙ ap (λ (v : Vec Expr). v.items) c.deref-in-Call.ensures in
     IfOk-equal c.push_call.result _ _ _ c.push_call.ensures
-    (ap (λ es. start ++ (blanks c.args.gap ++ (function_name c.in-Call.func ++ (codes "(" ++ (laid (listed (λ gap e. expression_words (tree_view e) gap) Touching es) ++ codes ")"))))) parts
+    (ap (λ es. start ++ (blanks c.args.gap ++ (function_name c.in-Call.func
+    ++ (codes "(" ++ (laid (listed (λ gap e. expression_words (tree_view e) gap) Touching es) ++ codes ")"))))) parts
     ∙ ap (λ bytes. start ++ bytes) (sym shown))

@@ -31,10 +31,12 @@ push_statement-returns-in_ok-push_block-in-If t c =
     let start = string_bytes c.args.out.now in
     let indent = c.args.indent in
     let shown = ap (λ s. laid (statement_words (statement_view s) indent)) c.in-If.is ∙ branch_bytes c.in-If.branch c.in-If.at indent in
-    let tested = c.in_ok-push_expression-in-If.ensures ∙ ap (λ (b : Branch). string_bytes c.push_word-in-If.new.out ++ laid (expression_words (tree_view b.cond) Space)) c.deref.ensures in
+    let tested = c.in_ok-push_expression-in-If.ensures ∙ ap
+    (λ (b : Branch). string_bytes c.push_word-in-If.new.out ++ laid (expression_words (tree_view b.cond) Space)) c.deref.ensures in
     let taken = c.deref-in-If-2.ensures.value ∙ ap (λ (b : Branch). b.yes.items) c.deref-in-If.ensures in
     let other = c.deref-in-If-4.ensures.value ∙ ap (λ (b : Branch). b.no.items) c.deref-in-If-3.ensures in
-    let yes_ = c.in_ok-push_block-in-If.ensures ∙ ap (λ ss. string_bytes c.push_expression.new.out ++ laid (braced_words indent (block_words (block_view ss)))) taken in
+    let yes_ = c.in_ok-push_block-in-If.ensures ∙ ap (λ ss. string_bytes c.push_expression.new.out ++ laid (braced_words indent (block_words (block_view ss))))
+    taken in
     IfOk-equal c.push_otherwise.result _ _ _ c.push_otherwise.ensures
     (ap (λ ss. string_bytes c.push_block.new.out ++ laid (otherwise_words (block_view ss) indent (block_words (block_view ss)))) other
     ∙ branch_written start _ _ _ (blanks (Line indent)) _ _ _ _ c.in_ok-push_word-in-If.ensures tested yes_
@@ -44,7 +46,8 @@ pub push_statement-returns-in_ok-push_literal-in-Repeat : goal.push_statement-re
 push_statement-returns-in_ok-push_literal-in-Repeat t c =
     let start = string_bytes c.args.out.now in
     let indent = c.args.indent in
-    let shown = ap (λ s. laid (statement_words (statement_view s) indent)) c.in-Repeat.is ∙ repeat_bytes c.in-Repeat.times c.in-Repeat.body c.in-Repeat.at indent in
+    let shown = ap (λ s. laid (statement_words (statement_view s) indent)) c.in-Repeat.is
+    ∙ repeat_bytes c.in-Repeat.times c.in-Repeat.body c.in-Repeat.at indent in
     IfOk-equal c.push_block-in-Repeat.result _ _ _ c.push_block-in-Repeat.ensures
     (ap (λ ss. string_bytes c.push_literal.new.out ++ laid (braced_words indent (block_words (block_view ss)))) c.deref-in-Repeat.ensures.value
     ∙ repeat_written start _ _ (blanks (Line indent)) _ _ _ c.in_ok-push_word-in-Repeat.ensures c.in_ok-push_literal-in-Repeat.ensures

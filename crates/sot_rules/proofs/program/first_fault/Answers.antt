@@ -11,4 +11,5 @@ returns-clause-faultless c =
 
 pub returns-clause-first : goal.returns-clause-first
 returns-clause-first c =
-    subst (λ p. IfOk c.first_fault_in-found.result (λ f. (g : TypeFault) → f ≡ Some g → IsFirstFault p g)) c.in_ok-index.ensures.program c.first_fault_in-found.ensures.first
+    subst (λ p. IfOk c.first_fault_in-found.result (λ f. (g : TypeFault) → f ≡ Some g → IsFirstFault p g)) c.in_ok-index.ensures.program
+    c.first_fault_in-found.ensures.first

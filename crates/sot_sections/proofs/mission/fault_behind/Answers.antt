@@ -21,5 +21,6 @@ returns-else-place-eq0 c =
     let bytes = c.args.bytes.now in
     let k = c.line_len.result in
     let some : 0 < length bytes = search rules in
-    let test : (place (title (take k bytes)) == 0) ≡ false = not_zero (place (title (take k bytes))) (λ e. c.if-place-eq0.false (c.place.ensures ∙ ap place c.title.ensures ∙ e)) in
+    let test : (place (title (take k bytes)) == 0) ≡ false =
+    not_zero (place (title (take k bytes))) (λ e. c.if-place-eq0.false (c.place.ensures ∙ ap place c.title.ensures ∙ e)) in
     sym (rw test at (fault_here c.args.line k bytes c.requires some c.line_len.ensures.len))

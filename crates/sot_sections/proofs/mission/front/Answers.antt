@@ -13,5 +13,6 @@ pub returns-clause-rest : goal.returns-clause-rest
 returns-clause-rest c line =
     let at = c.section_start-at in
     let bytes = c.args.bytes.now in
-    subst (λ (rest : List ℕ). IsRest (divided line bytes).sections (end_line line bytes) (line + length bytes) (end_line line (take at.result bytes)) rest) (sym (take_rest bytes at.result))
+    subst (λ (rest : List ℕ). IsRest (divided line bytes).sections (end_line line bytes) (line + length bytes) (end_line line (take at.result bytes)) rest)
+    (sym (take_rest bytes at.result))
     (front_cut line at.result bytes at.ensures.within at.ensures.none at.ensures.cut).1

@@ -43,11 +43,13 @@ returns-in-Some c =
     let n₃ = n₂ + section_lines flight_body in
     let n₄ = n₃ + section_lines trace_body in
     let whole = collected c.args.bytes.now n₁ n₂ n₃ n₄ _ _ _ _ program.result.rest.now cert.result.rest.now flight.result.rest.now trace.result.rest.now
-    program.result.body.now cert_body flight_body trace_body c.args.need (program.ensures.body 1) (program.ensures.rest 1) (cert.ensures.body n₁) (cert.ensures.rest n₁)
+    program.result.body.now cert_body flight_body trace_body c.args.need (program.ensures.body 1) (program.ensures.rest 1) (cert.ensures.body n₁)
+    (cert.ensures.rest n₁)
     (flight.ensures.body n₂) (flight.ensures.rest n₂) (trace.ensures.body n₃) (trace.ensures.rest n₃) in
     let none : trace.result.rest.now ≡ [] = search rules in
     let are : needed c.args.need program.result.body.now cert_body flight_body trace_body ≡ Some (parts_of c.in-Some.sections) = sym c.in-Some.ensures in
-    sym (whole ∙ collected_ok n₄ trace.result.rest.now program.result.body.now cert_body flight_body trace_body c.args.need (parts_of c.in-Some.sections) none are)
+    sym (whole ∙ collected_ok n₄ trace.result.rest.now program.result.body.now cert_body flight_body trace_body c.args.need (parts_of c.in-Some.sections) none
+    are)
 
 pub returns : goal.returns
 returns c =
@@ -64,8 +66,10 @@ returns c =
     let n₄ = n₃ + section_lines trace_body in
     let line : c.line_behind-line.result ≡ n₄ = c.line_behind-line.ensures in
     let whole = collected c.args.bytes.now n₁ n₂ n₃ n₄ _ _ _ _ program.result.rest.now cert.result.rest.now flight.result.rest.now trace.result.rest.now
-    program.result.body.now cert_body flight_body trace_body c.args.need (program.ensures.body 1) (program.ensures.rest 1) (cert.ensures.body n₁) (cert.ensures.rest n₁)
+    program.result.body.now cert_body flight_body trace_body c.args.need (program.ensures.body 1) (program.ensures.rest 1) (cert.ensures.body n₁)
+    (cert.ensures.rest n₁)
     (flight.ensures.body n₂) (flight.ensures.rest n₂) (trace.ensures.body n₃) (trace.ensures.rest n₃) in
     let here : split_of c.args.bytes.now c.args.need ≡ unless (fault_behind 3 (divided c.line_behind-line.result trace.result.rest.now).sections)
     (or_missing c.line_behind-line.result (needed c.args.need program.result.body.now cert_body flight_body trace_body)) = rw line whole in
-    c.answer.ensures ∙ ap₂ (λ (r : Option SectionFault) (q : Option Parts). unless r (or_missing c.line_behind-line.result q)) c.fault_behind.ensures c.needed-parts.ensures ∙ sym here
+    c.answer.ensures ∙ ap₂ (λ (r : Option SectionFault) (q : Option Parts). unless r (or_missing c.line_behind-line.result q)) c.fault_behind.ensures
+    c.needed-parts.ensures ∙ sym here

@@ -21,7 +21,8 @@ returns-then-place-wanted-clause-rest c n =
     let k = c.line_len-len.result in
     let cut = c.front-cut in
     let is : place (title (take k bytes)) ≡ c.args.wanted = ap place (sym c.title.ensures) ∙ sym c.place.ensures ∙ c.if-place-wanted.true in
-    let whole = (taken_rest n k c.args.wanted (end_line (n + 1) cut.result.body.now) bytes (take (length bytes - k) (drop k bytes)) cut.result.body.now cut.result.rest.now
+    let whole = (taken_rest n k c.args.wanted (end_line (n + 1) cut.result.body.now) bytes (take (length bytes - k) (drop k bytes)) cut.result.body.now
+    cut.result.rest.now
     c.requires.begins c.requires.wanted c.line_len-len.ensures.len is (take_rest bytes k) (cut.ensures.body (n + 1)) (cut.ensures.rest (n + 1))).1 in
     let number : end_line (n + 1) cut.result.body.now ≡ n + suc (length (lines cut.result.body.now)) = omega arith in
     subst (λ (m : ℕ). IsRest (behind_first c.args.wanted (divided n bytes).sections) (end_line n bytes) (n + length bytes) m cut.result.rest.now) number whole

@@ -27,4 +27,5 @@ pub returns-in-11 : goal.returns-in-11
 returns-in-11 c = c.is_listed-in-11.ensures ∙ sym (by_length 11 c.args.word.now c.in-11.is)
 
 pub returns-in_default : goal.returns-in_default
-returns-in_default c = sym (other_lengths c.args.word.now (omega arith) (omega arith) (omega arith) (omega arith) (omega arith) (omega arith) (omega arith) (omega arith))
+returns-in_default c =
+    sym (other_lengths c.args.word.now (omega arith) (omega arith) (omega arith) (omega arith) (omega arith) (omega arith) (omega arith) (omega arith))

@@ -13,5 +13,6 @@ push-requires c =
 pub loop-slot-preserved : goal.loop-slot-preserved
 loop-slot-preserved c =
     let i = c.loop-slot.slot-index in
-    let more = readings_more c.args.p.now c.args.slots.now i c.loop-slot.sides _ c.slot_side-side.result c.loop-slot-test.true c.loop-slot.invariant c.slot_side-side.ensures in
+    let more = readings_more c.args.p.now c.args.slots.now i c.loop-slot.sides _ c.slot_side-side.result c.loop-slot-test.true c.loop-slot.invariant
+    c.slot_side-side.ensures in
     subst (λ q. AreReadings c.args.p.now (take (i + 1) c.args.slots.now) q) (sym c.push.ensures) more

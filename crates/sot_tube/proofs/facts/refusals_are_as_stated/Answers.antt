@@ -1,4 +1,5 @@
-use Rattle.sot_tube.proofs.LineRefused.{wide_reach, one_closed_cell, gaps, long_periods, other_outputs, empty_regions, shared_nodes, shared_outputs, foreign_inputs, traps, crossed_nodes, rivals_in_order, no_inputs, in_order, traps_of_cells}
+use Rattle.sot_tube.proofs.LineRefused.{wide_reach, one_closed_cell, gaps, long_periods, other_outputs, empty_regions, shared_nodes, shared_outputs}
+use Rattle.sot_tube.proofs.LineRefused.{foreign_inputs, traps, crossed_nodes, rivals_in_order, no_inputs, in_order, traps_of_cells}
 use Rattle.sot_tube.proofs.facts.refusals_are_as_stated.Goals as goal
 
 pub returns-clause-reach : goal.returns-clause-reach

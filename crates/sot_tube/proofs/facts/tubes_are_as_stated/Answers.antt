@@ -1,4 +1,5 @@
-use Rattle.sot_tube.proofs.LineTubes.{tubes_of_the_line, kept_at_12, jitter_is_twice, commands_are_sure_or_whole, seen_plants_are_in_hulls, out_comes_before_trap}
+use Rattle.sot_tube.proofs.LineTubes.{tubes_of_the_line, kept_at_12, jitter_is_twice, commands_are_sure_or_whole, seen_plants_are_in_hulls}
+use Rattle.sot_tube.proofs.LineTubes.{out_comes_before_trap}
 use Rattle.sot_tube.proofs.LineRefused.{whole_cell_leaves, wide_cell_leaves}
 use Rattle.sot_tube.proofs.facts.tubes_are_as_stated.Goals as goal
 

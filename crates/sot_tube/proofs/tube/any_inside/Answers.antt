@@ -15,7 +15,8 @@ put_types-requires-clause-inside c k has =
     let plant = c.index-plant.result.now in
     let plant_is : plant ≡ get_or p.plants info.plant plant = c.index-plant.ensures ∙ ap (λ (t : Tables). get_or t.plants info.plant plant) c.p.view_is in
     let scalars : c.deref.result.now ≡ p.scalars = c.deref.ensures.value ∙ ap (λ (t : Tables). t.scalars) c.p.view_is in
-    subst (λ l. k < length l) (sym scalars) (inputs_below p rules' c.args.module c.args.b.now c.requires info info_is plant plant_is k (subst (λ l. Has l k) c.deref-2.ensures.value has))
+    subst (λ l. k < length l) (sym scalars) (inputs_below p rules' c.args.module c.args.b.now c.requires info info_is plant plant_is k
+    (subst (λ l. Has l k) c.deref-2.ensures.value has))
 
 pub held_inside-requires-clause-commands : goal.held_inside-requires-clause-commands
 held_inside-requires-clause-commands c =
@@ -27,7 +28,8 @@ held_inside-requires-clause-commands c =
     let plant_is : plant ≡ get_or p.plants info.plant plant = c.index-plant.ensures ∙ ap (λ (t : Tables). get_or t.plants info.plant plant) c.p.view_is in
     let scalars : c.deref.result.now ≡ p.scalars = c.deref.ensures.value ∙ ap (λ (t : Tables). t.scalars) c.p.view_is in
     let types : c.as_slice.result.now ≡ input_ranges p plant =
-    c.as_slice.ensures.value ∙ c.put_types.ensures ∙ ap (λ l. l ++ map (range_of c.deref.result.now) c.deref-2.result.now) c.none-types.ensures ∙ ap (λ l. map (range_of c.deref.result.now) l) c.deref-2.ensures.value ∙ ap (λ l. map (range_of l) plant.inputs.items) scalars in
+    c.as_slice.ensures.value ∙ c.put_types.ensures ∙ ap (λ l. l ++ map (range_of c.deref.result.now) c.deref-2.result.now) c.none-types.ensures
+    ∙ ap (λ l. map (range_of c.deref.result.now) l) c.deref-2.ensures.value ∙ ap (λ l. map (range_of l) plant.inputs.items) scalars in
     are_commands p rules' c.args.module c.args.b.now c.requires info info_is plant plant_is c.as_slice.result.now types
 
 pub returns : goal.returns
@@ -40,5 +42,7 @@ returns c =
     let plant_is : plant ≡ get_or p.plants info.plant plant = c.index-plant.ensures ∙ ap (λ (t : Tables). get_or t.plants info.plant plant) c.p.view_is in
     let scalars : c.deref.result.now ≡ p.scalars = c.deref.ensures.value ∙ ap (λ (t : Tables). t.scalars) c.p.view_is in
     let types : c.as_slice.result.now ≡ input_ranges p plant =
-    c.as_slice.ensures.value ∙ c.put_types.ensures ∙ ap (λ l. l ++ map (range_of c.deref.result.now) c.deref-2.result.now) c.none-types.ensures ∙ ap (λ l. map (range_of c.deref.result.now) l) c.deref-2.ensures.value ∙ ap (λ l. map (range_of l) plant.inputs.items) scalars in
-    any_answers p rules' c.args.module c.args.b.now c.requires info info_is plant plant_is c.as_slice.result.now types c.args.ticks c.held_inside.result c.held_inside.ensures
+    c.as_slice.ensures.value ∙ c.put_types.ensures ∙ ap (λ l. l ++ map (range_of c.deref.result.now) c.deref-2.result.now) c.none-types.ensures
+    ∙ ap (λ l. map (range_of c.deref.result.now) l) c.deref-2.ensures.value ∙ ap (λ l. map (range_of l) plant.inputs.items) scalars in
+    any_answers p rules' c.args.module c.args.b.now c.requires info info_is plant plant_is c.as_slice.result.now types c.args.ticks c.held_inside.result
+    c.held_inside.ensures

@@ -65,7 +65,8 @@ returns c =
     let seen : AreSeenHulls p.modules plant.sees.items c.as_slice.result.now =
     subst (AreSeenHulls p.modules plant.sees.items) (sym c.as_slice.ensures.value)
     (subst (λ l. AreSeenHulls p.modules l c.seen_hulls-seen.result) c.deref.ensures.value c.seen_hulls-seen.ensures.hulls) in
-    answers p rules' c.args.module c.args.b.now c.requires.follow info info_is plant plant_is c.args.held.now c.as_slice.result.now c.args.ticks c.walk-2.result seen c.walk-2.ensures
+    answers p rules' c.args.module c.args.b.now c.requires.follow info info_is plant plant_is c.args.held.now c.as_slice.result.now c.args.ticks c.walk-2.result
+    seen c.walk-2.ensures
 
 pub walk-requires-clause-step : goal.walk-requires-clause-step
 walk-requires-clause-step c =
@@ -76,7 +77,8 @@ walk-requires-clause-step c =
     let plant = c.index-plant.result.now in
     let plant_is : plant ≡ get_or p.plants info.plant plant = c.index-plant.ensures ∙ ap (λ (t : Tables). get_or t.plants info.plant plant) c.p.view_is in
     let none : plant.sees.items ≡ [] = nothing_seen plant c.is_empty.result c.is_empty.ensures c.if-is_empty.true in
-    may_tick p rules' c.args.module c.args.b.now c.requires.follow info info_is plant plant_is c.args.held.now [] c.requires.commands (ap (seen_width p.plants) (sym none))
+    may_tick p rules' c.args.module c.args.b.now c.requires.follow info info_is plant plant_is c.args.held.now [] c.requires.commands
+    (ap (seen_width p.plants) (sym none))
 
 pub returns-then-is_empty : goal.returns-then-is_empty
 returns-then-is_empty c =

@@ -18,4 +18,5 @@ pub returns-clause-tables : goal.returns-clause-tables
 returns-clause-tables c = subst (λ z. IfOk c.indexed-made.result (λ t. AreTables z t)) c.in_ok-index.ensures.program c.indexed-made.ensures.tables
 
 pub returns-clause-fault : goal.returns-clause-fault
-returns-clause-fault c = subst (λ z. IfErr c.indexed-made.result (λ e. (f : TypeFault) → e ≡ Fault f → IsFirstFault z f)) c.in_ok-index.ensures.program c.indexed-made.ensures.fault
+returns-clause-fault c =
+    subst (λ z. IfErr c.indexed-made.result (λ e. (f : TypeFault) → e ≡ Fault f → IsFirstFault z f)) c.in_ok-index.ensures.program c.indexed-made.ensures.fault

@@ -23,10 +23,18 @@ loop-k-preserved c =
     let bhi : c.b.inside.hi ≡ c.side-b.result.hi = ap (λ r. r.hi) c.b.view_is in
     let lo : to_z w64 (of_z w64 c.min-lo.result) ≡ int_min (coordinate (lows c.loop-k.self) c.loop-k.k) (coordinate (lows c.args.by.now) c.loop-k.k) =
     to_z-of_z w64 c.min-lo.result fits_lo
-    ∙ rw (lows-at c.loop-k.self c.loop-k.k c.side-a.result c.side-a.ensures ∙ sym alo, lows-at c.args.by.now c.loop-k.k c.side-b.result c.side-b.ensures ∙ sym blo) (simp to_z-of_z at c.min-lo.ensures.value) in
+    ∙ rw (
+      lows-at c.loop-k.self c.loop-k.k c.side-a.result c.side-a.ensures ∙ sym alo,
+      lows-at c.args.by.now c.loop-k.k c.side-b.result c.side-b.ensures
+          ∙ sym blo,
+    ) (simp to_z-of_z at c.min-lo.ensures.value) in
     let hi : to_z w64 (of_z w64 c.max-hi.result) ≡ int_max (coordinate (highs c.loop-k.self) c.loop-k.k) (coordinate (highs c.args.by.now) c.loop-k.k) =
     to_z-of_z w64 c.max-hi.result fits_hi
-    ∙ rw (highs-at c.loop-k.self c.loop-k.k c.side-a.result c.side-a.ensures ∙ sym ahi, highs-at c.args.by.now c.loop-k.k c.side-b.result c.side-b.ensures ∙ sym bhi) (simp to_z-of_z at c.max-hi.ensures.value) in
+    ∙ rw (
+      highs-at c.loop-k.self c.loop-k.k c.side-a.result c.side-a.ensures ∙ sym ahi,
+      highs-at c.args.by.now c.loop-k.k c.side-b.result c.side-b.ensures
+          ∙ sym bhi,
+    ) (simp to_z-of_z at c.max-hi.ensures.value) in
     widen-step c.args.by.now c.loop-k.k c.args.self.now c.loop-k.self c.put.new.self (to_z w64 (of_z w64 c.min-lo.result)) (to_z w64 (of_z w64 c.max-hi.result))
     c.loop-k.invariant (ap length c.put.ensures ∙ length-set _ _ _) lo hi
     (put-low c.loop-k.self c.put.new.self c.loop-k.k _ c.put.ensures lt)

@@ -10,7 +10,8 @@ use Rattle.sot_box.proofs.index.Index.of.Goals as goal
 pub reaches_of-requires : goal.reaches_of-requires
 reaches_of-requires c =
     let names = subst (λ (ds : List Entry). IsPermutation ds c.sort_by_key.new.self.items) c.in_ok-entries.ensures c.sort_by_key.ensures.permutation in
-    subst (λ (ds : List Entry). All (λ e. e.place < length c.args.boxes.now) ds) (sym c.deref.ensures.value) (places_below c.args.boxes.now c.sort_by_key.new.self.items names)
+    subst (λ (ds : List Entry). All (λ e. e.place < length c.args.boxes.now) ds) (sym c.deref.ensures.value)
+    (places_below c.args.boxes.now c.sort_by_key.new.self.items names)
 
 pub returns : goal.returns
 returns c = record {

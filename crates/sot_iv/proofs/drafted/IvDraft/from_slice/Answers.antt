@@ -8,7 +8,8 @@ use Rattle.sot_iv.specs.declared.drafted.Drafted.TheVariants.{Absent}
 use Rattle.sot_iv.proofs.drafted.IvDraft.from_slice.Goals as goal
 
 -- one slot fewer is left
-rest_step : (slots : List Drafted) (i : ℕ) (x : Drafted) → i < 8 → length slots ≡ 8 → drop i slots ≡ replicate (8 - i) Absent → drop (i + 1) (slice_set slots i x) ≡ replicate (8 - (i + 1)) Absent
+rest_step : (slots : List Drafted) (i : ℕ) (x : Drafted) → i < 8 → length slots ≡ 8 → drop i slots ≡ replicate (8 - i) Absent
+    → drop (i + 1) (slice_set slots i x) ≡ replicate (8 - (i + 1)) Absent
 rest_step slots i x lt eight h =
     drop-set-lt (i + 1) slots i x (omega arith)
     ∙ drop_more_same slots (replicate 8 Absent) i (h ∙ sym (drop-replicate i 8 Absent))

@@ -18,7 +18,8 @@ invariant_of-self-2 c =
     let size : length (take n xs) ≡ n = length-take-le n xs (omega (arith, inv.0, inv.1)) in
     let room : n < 80 = omega (arith, size, ap length c.self.view_is, c.requires) in
     let lt : n < length xs = omega (arith, room, inv.1) in
-    let more : take (n + 1) (slice_set xs n x) ≡ take n (slice_set xs n x) ++ x ∷ [] = take_more_set xs n x lt ∙ ap (λ l. l ++ x ∷ []) (sym (take-set xs n x)) in
+    let more : take (n + 1) (slice_set xs n x) ≡ take n (slice_set xs n x) ++ x ∷ [] = take_more_set xs n x lt
+    ∙ ap (λ l. l ++ x ∷ []) (sym (take-set xs n x)) in
     let in_order : x.lo ≤ℤ x.hi = rw (to_z-of_z w64 c.side.inside.lo lo_fits, to_z-of_z w64 c.side.inside.hi hi_fits) c.side.invariant in
     let size' : length (slice_set xs n x) ≡ length xs = length-set _ _ _ in (
       omega (arith, room),

@@ -11,7 +11,8 @@ returns-then-there-i c =
     let fits : SFits w64 (get_or numbers c.args.i (pos 0)) = search rules in
     let inside : c.args.i < length there = omega (arith, c.self.invariant.0, c.requires) in
     rw (to_z-of_z w64 _ fits, ← c.self.view_is)
-    (slot-read c.args.i there numbers (c.self.invariant.0 ∙ sym c.self.invariant.1) inside ∙ ap (λ b. Some (slot b (get_or numbers c.args.i (pos 0)))) c.if-there-i.true)
+    (slot-read c.args.i there numbers (c.self.invariant.0 ∙ sym c.self.invariant.1) inside
+    ∙ ap (λ b. Some (slot b (get_or numbers c.args.i (pos 0)))) c.if-there-i.true)
 
 pub returns-else-there-i : goal.returns-else-there-i
 returns-else-there-i c =
@@ -19,4 +20,5 @@ returns-else-there-i c =
     let numbers = c.self.inside.numbers in
     let inside : c.args.i < length there = omega (arith, c.self.invariant.0, c.requires) in
     rw (← c.self.view_is)
-    (slot-read c.args.i there numbers (c.self.invariant.0 ∙ sym c.self.invariant.1) inside ∙ ap (λ b. Some (slot b (get_or numbers c.args.i (pos 0)))) c.if-there-i.false)
+    (slot-read c.args.i there numbers (c.self.invariant.0 ∙ sym c.self.invariant.1) inside
+    ∙ ap (λ b. Some (slot b (get_or numbers c.args.i (pos 0)))) c.if-there-i.false)

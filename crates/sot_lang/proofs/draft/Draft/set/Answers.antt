@@ -14,4 +14,6 @@ invariant_of-self c =
     )
 
 pub returns : goal.returns
-returns c = rw (to_z-of_z w64 c.args.v c.ranges.v, ← c.self.view_is) (slots-set c.args.i c.args.v c.self.inside.there c.self.inside.numbers (c.self.invariant.0 ∙ sym c.self.invariant.1))
+returns c =
+    rw (to_z-of_z w64 c.args.v c.ranges.v, ← c.self.view_is)
+    (slots-set c.args.i c.args.v c.self.inside.there c.self.inside.numbers (c.self.invariant.0 ∙ sym c.self.invariant.1))

@@ -17,7 +17,8 @@ loop-name-init c =
     let none : c.args.limit - c.args.limit ≡ 0 = omega arith in
     record {
       within = omega arith;
-      noted = ap (λ s. least c.args.first.now (passes (λ i. size_of c.args.plants (meaning (program_in c.args.index.now) i)) c.args.limit s c.args.names.now)) none;
+      noted =
+          ap (λ s. least c.args.first.now (passes (λ i. size_of c.args.plants (meaning (program_in c.args.index.now) i)) c.args.limit s c.args.names.now)) none;
     }
 
 pub loop-name-preserved : goal.loop-name-preserved
@@ -31,7 +32,8 @@ loop-name-preserved c = record {
 
 pub returns : goal.returns
 returns c =
-    none_left (λ is. passes (λ i. size_of c.args.plants (meaning (program_in c.args.index.now) i)) c.args.limit (c.args.limit - c.loop-name.room) is) refl c.args.names.now
+    none_left (λ is. passes (λ i. size_of c.args.plants (meaning (program_in c.args.index.now) i)) c.args.limit (c.args.limit - c.loop-name.room) is) refl
+    c.args.names.now
     c.loop-name.name-index _ _ c.loop-name-test.false c.loop-name.invariant.noted
 
 pub returns-then-size-room : goal.returns-then-size-room

@@ -9,5 +9,6 @@ use Rattle.sot_rules.proofs.declarations.limit.note_passes.Given as goal
 abbrev pub invariant-loop-name : goal.invariant-loop-name
 invariant-loop-name l = record {
   within : l.room ≤ l.limit;
-  noted : least l.first (passes (λ i. size_of l.plants (meaning (program_in l.index) i)) l.limit (l.limit - l.room) (drop l.name-index l.names)) ≡ least l.fn.first (passes (λ i. size_of l.plants (meaning (program_in l.index) i)) l.limit 0 l.names);
+  noted : least l.first (passes (λ i. size_of l.plants (meaning (program_in l.index) i)) l.limit (l.limit - l.room) (drop l.name-index l.names))
+      ≡ least l.fn.first (passes (λ i. size_of l.plants (meaning (program_in l.index) i)) l.limit 0 l.names);
 }

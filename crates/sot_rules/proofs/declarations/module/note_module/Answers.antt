@@ -25,7 +25,8 @@ returns c =
     _ _ _ _ _ _ _
     c.note_nodes.ensures
     c.note_times.ensures
-    (c.note.ensures ∙ ap (λ b. least c.note_times.new.first (when b m.plant.at Unknown)) (c.is_neither.ensures ∙ ap (λ d. not (is_topic d) && not (is_plant d)) plant))
+    (c.note.ensures ∙ ap (λ b. least c.note_times.new.first (when b m.plant.at Unknown))
+    (c.is_neither.ensures ∙ ap (λ d. not (is_topic d) && not (is_plant d)) plant))
     (c.note-2.ensures ∙ ap (λ b. least c.note.new.first (when b m.plant.at KindDiffers)) (c.is_topic.ensures ∙ ap is_topic plant))
     (c.note_region.ensures ∙ ap₂ (λ w bs. least c.note-2.new.first (region_faults w (map area_view bs))) states c.deref.ensures.value)
     (c.note_region-2.ensures ∙ ap₂ (λ w bs. least c.note_region.new.first (region_faults w (map area_view bs))) states c.deref-2.ensures.value)

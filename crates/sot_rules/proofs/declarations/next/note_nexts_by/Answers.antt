@@ -20,9 +20,11 @@ returns c =
     let q = c.args.q.now in
     nexts_noted (program_in c.args.index.now) (plant_view q) used given q.next.items
     c.args.first.now c.note_each.new.first c.note_order.new.first c.note_short.new.first
-    (names_alike (record c.args.used.now { things = c.add_plant.new.things }) tables _ c.requires.used_tables (c.in_ok-add_plant.ensures [] c.requires.none_used))
+    (names_alike (record c.args.used.now { things = c.add_plant.new.things }) tables _ c.requires.used_tables
+    (c.in_ok-add_plant.ensures [] c.requires.none_used))
     (names_alike (record c.args.given.now { things = c.add_states.new.things }) tables _ c.requires.given_tables
     (stands_same tables _ _ c.add_states.new.things (ap (map state_thing) c.deref.ensures.value) (c.in_ok-add_states.ensures tables [] c.requires.none_given)))
     (c.note_each.ensures ∙ ap (λ ns. least c.args.first.now (flat_map (next_faults_in used given) (map next_view ns))) c.deref-2.ensures.value)
     (c.note_order.ensures ∙ ap₂ (λ ss ns. least c.note_each.new.first (order_faults ss (map next_view ns))) c.deref-3.ensures.value c.deref-4.ensures.value)
-    (c.note_short.ensures ∙ ap₂ (λ ss ns. least c.note_order.new.first (when (nat_lt (length ns) (length ss)) q.end NextMissing)) c.deref-5.ensures.value c.deref-6.ensures.value)
+    (c.note_short.ensures ∙ ap₂ (λ ss ns. least c.note_order.new.first (when (nat_lt (length ns) (length ss)) q.end NextMissing)) c.deref-5.ensures.value
+    c.deref-6.ensures.value)

@@ -18,8 +18,13 @@ returns c =
     let n = node_view c.args.n.now in
     let locals = c.args.n.now.locals.items in
     let names = λ (ls : List LocalDecl). map (λ (l : LocalDecl). l.name) ls in
-    let used : HasNames (keys_in c.add_names.new.set) (n.reads ++ n.writes) = two_held (keys_in c.args.used.now) (keys_in c.add_names.new.set) n.reads c.deref.result.now n.writes c.requires c.in_ok-add_names.ensures c.deref.ensures.value in
+    let used : HasNames (keys_in c.add_names.new.set) (n.reads ++ n.writes) =
+    two_held (keys_in c.args.used.now) (keys_in c.add_names.new.set) n.reads c.deref.result.now n.writes c.requires c.in_ok-add_names.ensures
+    c.deref.ensures.value in
     three_noted (flat_map (λ l. together (local_lists n l)) n.locals) (repeats [] (local_names n)) (past 16 (places (local_names n))) _ _ _ _
-    (c.note_each_local.ensures n used ∙ ap (λ ls. least c.args.first.now (flat_map (λ l. together (local_lists n l)) (map local_view ls))) c.deref-2.ensures.value)
-    (c.in_ok-note_repeats.ensures ∙ ap (λ is. least c.note_each_local.new.first (repeats [] is)) (ap names c.deref-3.ensures.value ∙ map_twice (λ l. l.name) local_view locals))
-    (c.note_past.ensures ∙ ap (λ is. least c.note_repeats.new.first (past 16 (places is))) (ap names c.deref-4.ensures.value ∙ map_twice (λ l. l.name) local_view locals))
+    (c.note_each_local.ensures n used ∙ ap (λ ls. least c.args.first.now (flat_map (λ l. together (local_lists n l)) (map local_view ls)))
+    c.deref-2.ensures.value)
+    (c.in_ok-note_repeats.ensures ∙ ap (λ is. least c.note_each_local.new.first (repeats [] is))
+    (ap names c.deref-3.ensures.value ∙ map_twice (λ l. l.name) local_view locals))
+    (c.note_past.ensures ∙ ap (λ is. least c.note_repeats.new.first (past 16 (places is)))
+    (ap names c.deref-4.ensures.value ∙ map_twice (λ l. l.name) local_view locals))

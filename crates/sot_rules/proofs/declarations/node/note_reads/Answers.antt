@@ -28,5 +28,6 @@ pub returns-clause-used : goal.returns-clause-used
 returns-clause-used c =
     let names = c.args.names.now in
     one_held (keys_in c.note_seen.new.seen) names names
-    (more_held (keys_in c.args.used.now) (keys_in c.note_seen.new.seen) (map (λ i. i) names) c.in_ok-note_seen.ensures.seen [] (none_held (keys_in c.args.used.now) c.requires.empty))
+    (more_held (keys_in c.args.used.now) (keys_in c.note_seen.new.seen) (map (λ i. i) names) c.in_ok-note_seen.ensures.seen []
+    (none_held (keys_in c.args.used.now) c.requires.empty))
     refl

@@ -17,9 +17,15 @@ pub returns : goal.returns
 returns c =
     let q = plant_view c.args.q.now in
     let names = λ (fs : List Field). map (λ (f : Field). f.name) fs in
-    let states : HasNames (keys_in c.add_names.new.set) (state_names q) = mapped_held (λ (s : StateDecl). s.name) (keys_in c.add_names.new.set) c.deref.result.now q.states (c.in_ok-add_names.ensures [] c.requires) c.deref.ensures.value in
-    let inputs : HasNames (keys_in c.add_names-2.new.set) (state_names q ++ q.inputs) = two_held (keys_in c.add_names.new.set) (keys_in c.add_names-2.new.set) (state_names q) c.deref-2.result.now q.inputs states c.in_ok-add_names-2.ensures c.deref-2.ensures.value in
-    let used : HasNames (keys_in c.add_names-3.new.set) (state_names q ++ q.inputs ++ q.sees) = two_held (keys_in c.add_names-2.new.set) (keys_in c.add_names-3.new.set) (state_names q ++ q.inputs) c.deref-3.result.now q.sees inputs c.in_ok-add_names-3.ensures c.deref-3.ensures.value in
+    let states : HasNames (keys_in c.add_names.new.set) (state_names q) =
+    mapped_held (λ (s : StateDecl). s.name) (keys_in c.add_names.new.set) c.deref.result.now q.states (c.in_ok-add_names.ensures [] c.requires)
+    c.deref.ensures.value in
+    let inputs : HasNames (keys_in c.add_names-2.new.set) (state_names q ++ q.inputs) =
+    two_held (keys_in c.add_names.new.set) (keys_in c.add_names-2.new.set) (state_names q) c.deref-2.result.now q.inputs states c.in_ok-add_names-2.ensures
+    c.deref-2.ensures.value in
+    let used : HasNames (keys_in c.add_names-3.new.set) (state_names q ++ q.inputs ++ q.sees) =
+    two_held (keys_in c.add_names-2.new.set) (keys_in c.add_names-3.new.set) (state_names q ++ q.inputs) c.deref-3.result.now q.sees inputs
+    c.in_ok-add_names-3.ensures c.deref-3.ensures.value in
     three_noted (flat_map (λ f. together (noise_lists q f)) q.noise) (repeats [] (noise_names q)) (past 4 (places (noise_names q))) _ _ _ _
     (c.note_disturbances.ensures q used ∙ ap (λ fs. least c.args.first.now (flat_map (λ f. together (noise_lists q f)) fs)) c.deref-4.ensures.value)
     (c.in_ok-note_repeats.ensures ∙ ap (λ fs. least c.note_disturbances.new.first (repeats [] (names fs))) c.deref-5.ensures.value)

@@ -25,7 +25,8 @@ returns c =
     (flat_map (next_faults p q) q.next) (order_faults q.states q.next) (when (nat_lt (length q.next) (length q.states)) q.end NextMissing)
     _ _ _ _ _ _
     (c.note.ensures ∙ ap (λ b. least c.args.first.now (when (not b) q.name.at NoModule)) c.has_module-is_lone.ensures)
-    (c.in_ok-note_states.ensures ∙ ap (λ ss. least c.note.new.first (repeats [] (names ss) ++ (past 4 (places (names ss)) ++ flat_map (λ s. scale_faults s.scale) ss))) c.deref.ensures.value)
+    (c.in_ok-note_states.ensures ∙ ap (λ ss. least c.note.new.first
+    (repeats [] (names ss) ++ (past 4 (places (names ss)) ++ flat_map (λ s. scale_faults s.scale) ss))) c.deref.ensures.value)
     c.in_ok-note_taken.ensures
     c.in_ok-note_noise.ensures
     c.in_ok-note_nexts.ensures

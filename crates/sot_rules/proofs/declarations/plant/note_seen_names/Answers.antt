@@ -7,5 +7,6 @@ use Rattle.sot_rules.proofs.declarations.plant.note_seen_names.Goals as goal
 
 pub loop-name-preserved : goal.loop-name-preserved
 loop-name-preserved c =
-    step_each (λ i. together (seen_lists (program_in c.args.index.now) (plant_view c.args.q.now) i)) c.args.names.now c.loop-name.name-index c.name-item.result _ _ _
+    step_each (λ i. together (seen_lists (program_in c.args.index.now) (plant_view c.args.q.now) i)) c.args.names.now c.loop-name.name-index c.name-item.result
+    _ _ _
     c.loop-name-test.true c.name-item.is c.loop-name.invariant c.note_seen.ensures

@@ -12,11 +12,13 @@ use Rattle.sot_rules.proofs.declarations.plant.note_taken_beside.Goals as goal
 
 pub note_inputs-requires-clause-states : goal.note_inputs-requires-clause-states
 note_inputs-requires-clause-states c =
-    mapped_held (λ (s : StateDecl). s.name) (keys_in c.add_names.new.set) c.deref.result.now c.args.q.now.states.items (c.in_ok-add_names.ensures [] c.requires.empty) c.deref.ensures.value
+    mapped_held (λ (s : StateDecl). s.name) (keys_in c.add_names.new.set) c.deref.result.now c.args.q.now.states.items
+    (c.in_ok-add_names.ensures [] c.requires.empty) c.deref.ensures.value
 
 pub note_sees-requires-clause-states : goal.note_sees-requires-clause-states
 note_sees-requires-clause-states c =
-    mapped_held (λ (s : StateDecl). s.name) (keys_in c.add_names.new.set) c.deref.result.now c.args.q.now.states.items (c.in_ok-add_names.ensures [] c.requires.empty) c.deref.ensures.value
+    mapped_held (λ (s : StateDecl). s.name) (keys_in c.add_names.new.set) c.deref.result.now c.args.q.now.states.items
+    (c.in_ok-add_names.ensures [] c.requires.empty) c.deref.ensures.value
 
 pub returns : goal.returns
 returns c =

@@ -14,5 +14,6 @@ pub loop-side-preserved : goal.loop-side-preserved
 loop-side-preserved c =
     let sides = c.args.sides.now in
     let i = c.loop-side.side-index in
-    step_got (λ (bs : List Bounds). flat_map (λ (x : Sort × Bounds). bounds_faults false x.0 x.1) (map (λ s. (Anything, s)) bs)) (λ s. bounds_faults false Anything s) (λ x more. refl)
+    step_got (λ (bs : List Bounds). flat_map (λ (x : Sort × Bounds). bounds_faults false x.0 x.1) (map (λ s. (Anything, s)) bs))
+    (λ s. bounds_faults false Anything s) (λ x more. refl)
     sides i (get_or sides i no_bounds) _ _ _ (slice_get-get_or sides i no_bounds c.loop-side-test.true) c.loop-side.invariant c.note_bounds.ensures

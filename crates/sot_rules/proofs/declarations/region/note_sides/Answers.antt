@@ -14,7 +14,8 @@ loop-i-preserved c =
     let i = c.loop-i.i in
     step_pairs (λ x. bounds_faults false x.0 x.1) (map state_sort states) sides i
     c.state_sort.result (get_or sides i no_bounds) _ _ _
-    (slice_get-map state_sort states i ∙ ap (option_map state_sort) (slice_get_read states (length states) i c.index-states-i.result refl (omega arith) c.index-states-i.is) ∙ ap (λ s. Some s) (sym c.state_sort.ensures))
+    (slice_get-map state_sort states i ∙ ap (option_map state_sort)
+    (slice_get_read states (length states) i c.index-states-i.result refl (omega arith) c.index-states-i.is) ∙ ap (λ s. Some s) (sym c.state_sort.ensures))
     (slice_get-get_or sides i no_bounds c.loop-i-test.true) c.loop-i.invariant c.note_bounds.ensures
 
 pub returns : goal.returns

@@ -116,9 +116,11 @@ expression-returns-in-Member-clause-noted t c =
 pub expression-returns-in-Binary-clause-sort : goal.expression-returns-in-Binary-clause-sort
 expression-returns-in-Binary-clause-sort t c =
     let names = names_in c.args.names.now in
-    let is = ap tree_view c.in-Binary.is ∙ ap₂ (λ x y. binary c.in-Binary.op (tree_view (out-Operands x).left) (tree_view (out-Operands y).right) c.in-Binary.at) (sym c.deref.ensures) (sym c.deref-in-Binary.ensures) in
+    let is = ap tree_view c.in-Binary.is ∙ ap₂ (λ x y. binary c.in-Binary.op (tree_view (out-Operands x).left) (tree_view (out-Operands y).right)
+    c.in-Binary.at) (sym c.deref.ensures) (sym c.deref-in-Binary.ensures) in
     c.apply.ensures.sort
-    ∙ ap₂ (λ a b. unless (kinds_misfit c.in-Binary.op a b || scales_misfit c.in-Binary.op a b) (given a (given b (operator_sort c.in-Binary.op a b)))) c.expression-a.ensures.sort c.expression-b.ensures.sort
+    ∙ ap₂ (λ a b. unless (kinds_misfit c.in-Binary.op a b || scales_misfit c.in-Binary.op a b) (given a (given b (operator_sort c.in-Binary.op a b))))
+    c.expression-a.ensures.sort c.expression-b.ensures.sort
     ∙ sym (ap (sort names) is)
 
 pub expression-returns-in-Binary-clause-noted : goal.expression-returns-in-Binary-clause-noted
@@ -127,12 +129,14 @@ expression-returns-in-Binary-clause-noted t c =
     let op = c.in-Binary.op in
     let left = tree_view (out-Operands c.deref.result.now).left in
     let right = tree_view (out-Operands c.deref-in-Binary.result.now).right in
-    let is = ap tree_view c.in-Binary.is ∙ ap₂ (λ x y. binary c.in-Binary.op (tree_view (out-Operands x).left) (tree_view (out-Operands y).right) c.in-Binary.at) (sym c.deref.ensures) (sym c.deref-in-Binary.ensures) in
+    let is = ap tree_view c.in-Binary.is ∙ ap₂ (λ x y. binary c.in-Binary.op (tree_view (out-Operands x).left) (tree_view (out-Operands y).right)
+    c.in-Binary.at) (sym c.deref.ensures) (sym c.deref-in-Binary.ensures) in
     three_noted (tree_faults names left) (tree_faults names right)
     (misfits (kinds_misfit op (sort names left) (sort names right)) (scales_misfit op (sort names left) (sort names right)) c.in-Binary.at) _ _ _ _
     c.expression-a.ensures.noted c.expression-b.ensures.noted
     (c.apply.ensures.noted
-    ∙ ap₂ (λ a b. least c.expression-b.new.first (misfits (kinds_misfit op a b) (scales_misfit op a b) c.in-Binary.at)) c.expression-a.ensures.sort c.expression-b.ensures.sort)
+    ∙ ap₂ (λ a b. least c.expression-b.new.first (misfits (kinds_misfit op a b) (scales_misfit op a b) c.in-Binary.at)) c.expression-a.ensures.sort
+    c.expression-b.ensures.sort)
     ∙ sym (ap (λ e. least c.args.first.now (tree_faults names e)) is)
 
 pub expression-returns-in-Rest-clause-sort : goal.expression-returns-in-Rest-clause-sort
@@ -155,9 +159,11 @@ expression-returns-in-Rest-clause-noted t c =
     ap tree_view c.in-Rest.is
     ∙ ap (λ x. rest (tree_view x) c.in-Rest.by c.in-Rest.at) (sym c.deref-in-Rest.ensures)
     ∙ ap (λ l. rest (tree_view c.deref-in-Rest.result.now) l c.in-Rest.at) (sym c.content.ensures) in
-    two_noted (tree_faults names part) (misfits (is_truthful (sort names part)) (differ (sort names part) (Scaled by.scale)) c.in-Rest.at ++ when (is_zero by) by.at KindDiffers) _ _ _
+    two_noted (tree_faults names part) (misfits (is_truthful (sort names part)) (differ (sort names part) (Scaled by.scale)) c.in-Rest.at
+    ++ when (is_zero by) by.at KindDiffers) _ _ _
     c.expression-a-in-Rest.ensures.noted
-    (c.rest.ensures.noted ∙ ap (λ a. least c.expression-a-in-Rest.new.first (misfits (is_truthful a) (differ a (Scaled by.scale)) c.in-Rest.at ++ when (is_zero by) by.at KindDiffers)) c.expression-a-in-Rest.ensures.sort)
+    (c.rest.ensures.noted ∙ ap (λ a. least c.expression-a-in-Rest.new.first
+    (misfits (is_truthful a) (differ a (Scaled by.scale)) c.in-Rest.at ++ when (is_zero by) by.at KindDiffers)) c.expression-a-in-Rest.ensures.sort)
     ∙ sym (ap (λ e. least c.args.first.now (tree_faults names e)) is)
 
 pub expression-returns-in-Neg-clause-sort : goal.expression-returns-in-Neg-clause-sort
@@ -216,7 +222,8 @@ expression-returns-in-Rescale-clause-noted t c =
     ∙ ap (λ l. rescaled (tree_view c.deref-in-Rescale.result.now) l c.in-Rescale.at) (sym c.content-in-Rescale.ensures) in
     two_noted (tree_faults names part) (when (is_truthful (sort names part)) c.in-Rescale.at KindDiffers ++ when (is_no_scale to) to.at ScaleDiffers) _ _ _
     c.expression-a-in-Rescale.ensures.noted
-    (c.rescale.ensures.noted ∙ ap (λ a. least c.expression-a-in-Rescale.new.first (when (is_truthful a) c.in-Rescale.at KindDiffers ++ when (is_no_scale to) to.at ScaleDiffers)) c.expression-a-in-Rescale.ensures.sort)
+    (c.rescale.ensures.noted ∙ ap (λ a. least c.expression-a-in-Rescale.new.first
+    (when (is_truthful a) c.in-Rescale.at KindDiffers ++ when (is_no_scale to) to.at ScaleDiffers)) c.expression-a-in-Rescale.ensures.sort)
     ∙ sym (ap (λ e. least c.args.first.now (tree_faults names e)) is)
 
 pub expression-returns-in-If-clause-sort : goal.expression-returns-in-If-clause-sort
@@ -224,8 +231,10 @@ expression-returns-in-If-clause-sort t c =
     let names = names_in c.args.names.now in
     let is =
     ap tree_view c.in-If.is
-    ∙ ap (λ (x : Choice). chosen (tree_view x.cond) (tree_view c.in-If.choice.value.yes) (tree_view c.in-If.choice.value.no) c.in-If.at) (sym c.deref-in-If.ensures)
-    ∙ ap₂ (λ (x y : Choice). chosen (tree_view c.deref-in-If.result.now.cond) (tree_view x.yes) (tree_view y.no) c.in-If.at) (sym c.deref-in-If-2.ensures) (sym c.deref-in-If-3.ensures) in
+    ∙ ap (λ (x : Choice). chosen (tree_view x.cond) (tree_view c.in-If.choice.value.yes) (tree_view c.in-If.choice.value.no) c.in-If.at)
+    (sym c.deref-in-If.ensures)
+    ∙ ap₂ (λ (x y : Choice). chosen (tree_view c.deref-in-If.result.now.cond) (tree_view x.yes) (tree_view y.no) c.in-If.at) (sym c.deref-in-If-2.ensures)
+    (sym c.deref-in-If-3.ensures) in
     let made = λ (x a b : Sort). unless (branches_misfit x a b || differ a b) (given x (given b a)) in
     c.choose.ensures.sort
     ∙ ap (λ x. made x c.expression-a-in-If.result c.expression-b-in-If.result) c.expression-c.ensures.sort
@@ -242,8 +251,10 @@ expression-returns-in-If-clause-noted t c =
     let done = c.expression-b-in-If.new.first in
     let is =
     ap tree_view c.in-If.is
-    ∙ ap (λ (x : Choice). chosen (tree_view x.cond) (tree_view c.in-If.choice.value.yes) (tree_view c.in-If.choice.value.no) c.in-If.at) (sym c.deref-in-If.ensures)
-    ∙ ap₂ (λ (x y : Choice). chosen (tree_view c.deref-in-If.result.now.cond) (tree_view x.yes) (tree_view y.no) c.in-If.at) (sym c.deref-in-If-2.ensures) (sym c.deref-in-If-3.ensures) in
+    ∙ ap (λ (x : Choice). chosen (tree_view x.cond) (tree_view c.in-If.choice.value.yes) (tree_view c.in-If.choice.value.no) c.in-If.at)
+    (sym c.deref-in-If.ensures)
+    ∙ ap₂ (λ (x y : Choice). chosen (tree_view c.deref-in-If.result.now.cond) (tree_view x.yes) (tree_view y.no) c.in-If.at) (sym c.deref-in-If-2.ensures)
+    (sym c.deref-in-If-3.ensures) in
     two_noted (tree_faults names cond) (tree_faults names yes ++ (tree_faults names no ++ faults (sort names cond) (sort names yes) (sort names no))) _ _ _
     c.expression-c.ensures.noted
     (three_noted (tree_faults names yes) (tree_faults names no) (faults (sort names cond) (sort names yes) (sort names no)) _ _ _ _

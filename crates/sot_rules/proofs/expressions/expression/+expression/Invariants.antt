@@ -9,6 +9,8 @@ use Rattle.sot_rules.proofs.expressions.expression.+expression.Given as goal
 
 abbrev pub invariant-operands-loop-part : goal.invariant-operands-loop-part
 invariant-operands-loop-part l = record {
-  sorts : fold with_operand l.o (sorts (names_in l.names) (parts_view (drop l.part-index l.parts))) ≡ fold with_operand no_operand (sorts (names_in l.names) (parts_view l.parts));
-  noted : least l.first (parts_faults (names_in l.names) (parts_view (drop l.part-index l.parts))) ≡ least l.fn.first (parts_faults (names_in l.names) (parts_view l.parts));
+  sorts : fold with_operand l.o (sorts (names_in l.names) (parts_view (drop l.part-index l.parts)))
+      ≡ fold with_operand no_operand (sorts (names_in l.names) (parts_view l.parts));
+  noted : least l.first (parts_faults (names_in l.names) (parts_view (drop l.part-index l.parts)))
+      ≡ least l.fn.first (parts_faults (names_in l.names) (parts_view l.parts));
 }

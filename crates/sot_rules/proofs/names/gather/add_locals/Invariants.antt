@@ -6,4 +6,6 @@ use Rattle.sot_rules.specs.Alike.{StandsFor}
 use Rattle.sot_rules.proofs.names.gather.add_locals.Given as goal
 
 abbrev pub invariant-loop-l : goal.invariant-loop-l
-invariant-loop-l l = (tables : List (List Part)) (xs : List Thing) → StandsFor tables l.fn.things xs → StandsFor tables l.things (xs ++ map (λ d. local_thing (local_view d)) (take l.l-index l.locals))
+invariant-loop-l l =
+    (tables : List (List Part)) (xs : List Thing) → StandsFor tables l.fn.things xs
+    → StandsFor tables l.things (xs ++ map (λ d. local_thing (local_view d)) (take l.l-index l.locals))

@@ -8,4 +8,6 @@ use Rattle.sot_rules.specs.NameLists.{thing_of_list}
 use Rattle.sot_rules.proofs.names.gather.add_named.Given as goal
 
 abbrev pub invariant-loop-name : goal.invariant-loop-name
-invariant-loop-name l = (xs : List Thing) → StandsFor (tables_in l.index) l.fn.things xs → StandsFor (tables_in l.index) l.things (xs ++ filter_map (λ i. thing_of_list l.list (meaning (program_in l.index) i)) (take l.name-index l.names))
+invariant-loop-name l =
+    (xs : List Thing) → StandsFor (tables_in l.index) l.fn.things xs
+    → StandsFor (tables_in l.index) l.things (xs ++ filter_map (λ i. thing_of_list l.list (meaning (program_in l.index) i)) (take l.name-index l.names))

@@ -19,9 +19,11 @@ returns-clause-read c =
 pub returns-clause-local : goal.returns-clause-local
 returns-clause-local c =
     let tables = tables_in c.args.index.now in
-    adds_same tables c.args.local.now c.add_locals-2.new.things _ _ (ap (λ ls. map local_thing (map local_view ls)) c.deref-3.ensures.value) (c.in_ok-add_locals-2.ensures tables)
+    adds_same tables c.args.local.now c.add_locals-2.new.things _ _ (ap (λ ls. map local_thing (map local_view ls)) c.deref-3.ensures.value)
+    (c.in_ok-add_locals-2.ensures tables)
 
 pub returns-clause-written : goal.returns-clause-written
 returns-clause-written c =
     let p = program_in c.args.index.now in
-    adds_same (tables_in c.args.index.now) c.args.written.now c.add_named-2.new.things _ _ (ap (filter_map (λ i. topic_meant (meaning p i))) c.deref-4.ensures.value) c.in_ok-add_named-2.ensures
+    adds_same (tables_in c.args.index.now) c.args.written.now c.add_named-2.new.things _ _
+    (ap (filter_map (λ i. topic_meant (meaning p i))) c.deref-4.ensures.value) c.in_ok-add_named-2.ensures

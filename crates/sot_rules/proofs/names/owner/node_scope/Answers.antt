@@ -8,7 +8,13 @@ pub returns-in-Ok : goal.returns-in-Ok
 returns-in-Ok c =
     let tables = tables_in c.args.index.now in
     record {
-      read = names_alike (record c.no_names-read.result { things = c.add_scope-added.new.read }) tables _ c.no_names-read.ensures.tables (c.in-Ok.ensures.read [] c.no_names-read.ensures.none);
-      local = names_alike (record c.no_names-local.result { things = c.add_scope-added.new.local }) tables _ c.no_names-local.ensures.tables (c.in-Ok.ensures.local [] c.no_names-local.ensures.none);
-      written = names_alike (record c.no_names-written.result { things = c.add_scope-added.new.written }) tables _ c.no_names-written.ensures.tables (c.in-Ok.ensures.written [] c.no_names-written.ensures.none);
+      read =
+          names_alike (record c.no_names-read.result { things = c.add_scope-added.new.read }) tables _ c.no_names-read.ensures.tables
+          (c.in-Ok.ensures.read [] c.no_names-read.ensures.none);
+      local =
+          names_alike (record c.no_names-local.result { things = c.add_scope-added.new.local }) tables _ c.no_names-local.ensures.tables
+          (c.in-Ok.ensures.local [] c.no_names-local.ensures.none);
+      written =
+          names_alike (record c.no_names-written.result { things = c.add_scope-added.new.written }) tables _ c.no_names-written.ensures.tables
+          (c.in-Ok.ensures.written [] c.no_names-written.ensures.none);
     }

@@ -7,6 +7,8 @@ use Rattle.sot_rules.specs.NameSets.{keys_in}
 
 abbrev pub invariant-loop-item : goal.invariant-loop-item
 invariant-loop-item g l = record {
-  noted : least l.first (repeats (seen_names (keys_in l.seen)) (map g.T.Named.ident (drop l.item-index l.items))) ≡ least l.fn.first (repeats (seen_names (keys_in l.fn.seen)) (map g.T.Named.ident l.items));
-  seen : fold with_name (seen_names (keys_in l.seen)) (map g.T.Named.ident (drop l.item-index l.items)) ≡ fold with_name (seen_names (keys_in l.fn.seen)) (map g.T.Named.ident l.items);
+  noted : least l.first (repeats (seen_names (keys_in l.seen)) (map g.T.Named.ident (drop l.item-index l.items)))
+      ≡ least l.fn.first (repeats (seen_names (keys_in l.fn.seen)) (map g.T.Named.ident l.items));
+  seen : fold with_name (seen_names (keys_in l.seen)) (map g.T.Named.ident (drop l.item-index l.items))
+      ≡ fold with_name (seen_names (keys_in l.fn.seen)) (map g.T.Named.ident l.items);
 }

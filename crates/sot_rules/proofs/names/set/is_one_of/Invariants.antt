@@ -6,4 +6,5 @@ use denote.Ref.{Bor}
 use Rattle.sot_rules.proofs.names.set.is_one_of.Given as goal
 
 abbrev pub invariant-loop-key : goal.invariant-loop-key
-invariant-loop-key l = list_any (λ (k : Bor (List ℕ)). bytes_eq l.fn.name k.now) l.fn.keys ≡ list_any (λ (k : Bor (List ℕ)). bytes_eq l.fn.name k.now) (drop l.key-index l.fn.keys)
+invariant-loop-key l =
+    list_any (λ (k : Bor (List ℕ)). bytes_eq l.fn.name k.now) l.fn.keys ≡ list_any (λ (k : Bor (List ℕ)). bytes_eq l.fn.name k.now) (drop l.key-index l.fn.keys)

@@ -18,7 +18,8 @@ is_statement_behind-returns-then-a t c =
     c.is_block_behind-b.ensures
     ∙ ap (λ ss. block_behind from (block_view ss)) other
     ∙ true_and first second (sym (c.is_block_behind-a.ensures ∙ ap (λ ss. block_behind from (block_view ss)) taken) ∙ c.if-a.true)
-    ∙ true_and (tree_behind from (tree_view b.cond)) (first && second) (sym (c.is_tree_behind-c.ensures ∙ ap (λ (x : Branch). tree_behind from (tree_view x.cond)) c.deref.ensures) ∙ c.if-c.true)
+    ∙ true_and (tree_behind from (tree_view b.cond)) (first && second)
+    (sym (c.is_tree_behind-c.ensures ∙ ap (λ (x : Branch). tree_behind from (tree_view x.cond)) c.deref.ensures) ∙ c.if-c.true)
     ∙ true_and (is_behind from c.in-If.at) (tree_behind from (tree_view b.cond) && (first && second)) (sym c.is_behind-in-If.ensures ∙ c.if-is_behind-4.true)
     ∙ sym (ap (statement_behind from) (branch_view c.in-If.branch c.in-If.at))
     ∙ sym (ap (λ s. statement_behind from (statement_view s)) c.in-If.is)
@@ -33,7 +34,8 @@ is_statement_behind-returns-else-a t c =
     let is = c.is_block_behind-a.ensures ∙ ap (λ ss. block_behind from (block_view ss)) taken in
     is
     ∙ false_and first second (sym is ∙ c.if-a.false)
-    ∙ true_and (tree_behind from (tree_view b.cond)) (first && second) (sym (c.is_tree_behind-c.ensures ∙ ap (λ (x : Branch). tree_behind from (tree_view x.cond)) c.deref.ensures) ∙ c.if-c.true)
+    ∙ true_and (tree_behind from (tree_view b.cond)) (first && second)
+    (sym (c.is_tree_behind-c.ensures ∙ ap (λ (x : Branch). tree_behind from (tree_view x.cond)) c.deref.ensures) ∙ c.if-c.true)
     ∙ true_and (is_behind from c.in-If.at) (tree_behind from (tree_view b.cond) && (first && second)) (sym c.is_behind-in-If.ensures ∙ c.if-is_behind-4.true)
     ∙ sym (ap (statement_behind from) (branch_view c.in-If.branch c.in-If.at))
     ∙ sym (ap (λ s. statement_behind from (statement_view s)) c.in-If.is)

@@ -64,7 +64,8 @@ statement-returns-in-Publish t c =
     let at = c.in-Publish.topic.at in
     two_noted (tree_faults scope.read value) (target_faults (reading scope.written c.in-Publish.topic None) (sort scope.read value) at) _ _ _
     c.expression-s-in-Publish.ensures.noted
-    (c.note_target-in-Publish.ensures ∙ ap₂ (λ r s. least c.expression-s-in-Publish.new.first (target_faults r s at)) c.reading_alone-wanted-in-Publish.ensures c.expression-s-in-Publish.ensures.sort)
+    (c.note_target-in-Publish.ensures ∙ ap₂ (λ r s. least c.expression-s-in-Publish.new.first (target_faults r s at)) c.reading_alone-wanted-in-Publish.ensures
+    c.expression-s-in-Publish.ensures.sort)
     ∙ sym (ap (λ z. least c.args.first.now (statement_faults scope (statement_view z))) c.in-Publish.is)
 
 pub statement-returns-in-PublishField : goal.statement-returns-in-PublishField
@@ -76,6 +77,7 @@ statement-returns-in-PublishField t c =
     two_noted (tree_faults scope.read value) (known c.in-PublishField.place) _ _ _
     c.expression-s-in-PublishField.ensures.noted
     (c.note_target-in-PublishField.ensures
-    ∙ ap₂ (λ r s. least c.expression-s-in-PublishField.new.first (target_faults r s m.first.at)) c.reading-wanted.ensures c.expression-s-in-PublishField.ensures.sort
+    ∙ ap₂ (λ r s. least c.expression-s-in-PublishField.new.first (target_faults r s m.first.at)) c.reading-wanted.ensures
+    c.expression-s-in-PublishField.ensures.sort
     ∙ ap (λ m. least c.expression-s-in-PublishField.new.first (known m)) c.content-member.ensures)
     ∙ sym (ap (λ z. least c.args.first.now (statement_faults scope (statement_view z))) c.in-PublishField.is)

@@ -80,7 +80,9 @@ reach_block-returns-in-At t c =
 pub reach_block-loop-stmt-preserved : goal.reach_block-loop-stmt-preserved
 reach_block-loop-stmt-preserved t c r h =
     c.loop-stmt.invariant r
-    (block_then c.args.stmts.now c.loop-stmt.stmt-index c.loop-stmt.left c.in-Left.n c.stmt-item.result r c.loop-stmt-test.true c.stmt-item.is c.in-Left.ensures h)
+    (block_then c.args.stmts.now c.loop-stmt.stmt-index c.loop-stmt.left c.in-Left.n c.stmt-item.result r c.loop-stmt-test.true c.stmt-item.is c.in-Left.ensures
+    h)
 
 pub reach_block-returns : goal.reach_block-returns
-reach_block-returns t c = c.loop-stmt.invariant (Left c.loop-stmt.left) (block_done c.args.stmts.now c.loop-stmt.stmt-index c.loop-stmt.left c.loop-stmt-test.false)
+reach_block-returns t c =
+    c.loop-stmt.invariant (Left c.loop-stmt.left) (block_done c.args.stmts.now c.loop-stmt.stmt-index c.loop-stmt.left c.loop-stmt-test.false)

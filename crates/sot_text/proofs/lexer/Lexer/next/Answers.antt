@@ -22,12 +22,14 @@ invariant_of-self c =
     let from = c.next_start-start.result.at in
     let len = c.in-Token.len in
     let within : from + len ≤ length bytes = omega (arith, c.in-Token.ensures.within, ap length (take_rest bytes from), length-drop from bytes) in
-    let place = place_behind bytes from len c.in-Token.kind c.next_start-start.result.place c.further-self-inside.result c.next_start-start.ensures.place c.further-self-inside.ensures c.in-Token.ensures.front in
+    let place = place_behind bytes from len c.in-Token.kind c.next_start-start.result.place c.further-self-inside.result c.next_start-start.ensures.place
+    c.further-self-inside.ensures c.in-Token.ensures.front in
     (within, c.self.invariant.1, place)
 
 pub returns-in-End-clause-next : goal.returns-in-End-clause-next
 returns-in-End-clause-next c =
-    next_at c.args.self.now c.self.inside.bytes.now c.self.inside.at c.next_start-start.result.at fronts.End (sym c.self.view_is) c.next_start-start.ensures.at c.in-End.ensures.front
+    next_at c.args.self.now c.self.inside.bytes.now c.self.inside.at c.next_start-start.result.at fronts.End (sym c.self.view_is) c.next_start-start.ensures.at
+    c.in-End.ensures.front
 
 pub returns-in-Token-clause-next : goal.returns-in-Token-clause-next
 returns-in-Token-clause-next c =
@@ -35,7 +37,8 @@ returns-in-Token-clause-next c =
     let from = c.next_start-start.result.at in
     let token = fronts.Token c.in-Token.kind c.in-Token.len in
     token_is bytes from c.in-Token.len c.in-Token.kind c.next_start-start.result.place c.next_start-start.ensures.place
-    ∙ next_at c.args.self.now bytes c.self.inside.at c.next_start-start.result.at token (sym c.self.view_is) c.next_start-start.ensures.at c.in-Token.ensures.front
+    ∙ next_at c.args.self.now bytes c.self.inside.at c.next_start-start.result.at token (sym c.self.view_is) c.next_start-start.ensures.at
+    c.in-Token.ensures.front
 
 pub returns-in-Token-clause-bytes : goal.returns-in-Token-clause-bytes
 returns-in-Token-clause-bytes c = ap (λ (r : Reading). r.bytes) c.self.view_is
@@ -43,7 +46,8 @@ returns-in-Token-clause-bytes c = ap (λ (r : Reading). r.bytes) c.self.view_is
 pub returns-in-Token-clause-whole : goal.returns-in-Token-clause-whole
 returns-in-Token-clause-whole c =
     let from = c.next_start-start.result.at in
-    token_text c.self.inside.bytes.now _ c.in-Token.kind c.in-Token.len from _ (sym c.in-Token.ensures.front) (take_rest c.self.inside.bytes.now from) (omega arith)
+    token_text c.self.inside.bytes.now _ c.in-Token.kind c.in-Token.len from _ (sym c.in-Token.ensures.front) (take_rest c.self.inside.bytes.now from)
+    (omega arith)
 
 pub returns-in-Token-clause-forward : goal.returns-in-Token-clause-forward
 returns-in-Token-clause-forward c =
@@ -60,18 +64,21 @@ returns-in-BadByte-clause-next c =
     let bytes = c.self.inside.bytes.now in
     let from = c.next_start-start.result.at in
     ap (λ (at : Span). Err (faults.BadByte at)) c.next_start-start.ensures.place
-    ∙ next_at c.args.self.now bytes c.self.inside.at c.next_start-start.result.at fronts.BadByte (sym c.self.view_is) c.next_start-start.ensures.at c.in-BadByte.ensures.front
+    ∙ next_at c.args.self.now bytes c.self.inside.at c.next_start-start.result.at fronts.BadByte (sym c.self.view_is) c.next_start-start.ensures.at
+    c.in-BadByte.ensures.front
 
 pub returns-in-NameLong-clause-next : goal.returns-in-NameLong-clause-next
 returns-in-NameLong-clause-next c =
     let bytes = c.self.inside.bytes.now in
     let from = c.next_start-start.result.at in
     ap (λ (at : Span). Err (faults.NameLong at)) c.next_start-start.ensures.place
-    ∙ next_at c.args.self.now bytes c.self.inside.at c.next_start-start.result.at (fronts.NameLong c.in-NameLong.len) (sym c.self.view_is) c.next_start-start.ensures.at c.in-NameLong.ensures.front
+    ∙ next_at c.args.self.now bytes c.self.inside.at c.next_start-start.result.at (fronts.NameLong c.in-NameLong.len) (sym c.self.view_is)
+    c.next_start-start.ensures.at c.in-NameLong.ensures.front
 
 pub returns-in-LiteralWide-clause-next : goal.returns-in-LiteralWide-clause-next
 returns-in-LiteralWide-clause-next c =
     let bytes = c.self.inside.bytes.now in
     let from = c.next_start-start.result.at in
     ap (λ (at : Span). Err (faults.LiteralWide at)) c.next_start-start.ensures.place
-    ∙ next_at c.args.self.now bytes c.self.inside.at c.next_start-start.result.at (fronts.LiteralWide c.in-LiteralWide.len) (sym c.self.view_is) c.next_start-start.ensures.at c.in-LiteralWide.ensures.front
+    ∙ next_at c.args.self.now bytes c.self.inside.at c.next_start-start.result.at (fronts.LiteralWide c.in-LiteralWide.len) (sym c.self.view_is)
+    c.next_start-start.ensures.at c.in-LiteralWide.ensures.front

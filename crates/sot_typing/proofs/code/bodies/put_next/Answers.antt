@@ -11,7 +11,8 @@ use Rattle.sot_typing.proofs.code.bodies.put_next.Goals as goal
 
 pub put_terms-requires-clause-faultless : goal.put_terms-requires-clause-faultless
 put_terms-requires-clause-faultless c =
-    clauses_faultless (program_in c.args.index.now) c.args.q.now c.requires.faultless _ (ap things_in c.deref.ensures.value ∙ c.in_ok-add_plant_names.ensures) _ c.deref-2.ensures.value
+    clauses_faultless (program_in c.args.index.now) c.args.q.now c.requires.faultless _ (ap things_in c.deref.ensures.value ∙ c.in_ok-add_plant_names.ensures) _
+    c.deref-2.ensures.value
 
 pub returns : goal.returns
 returns c =

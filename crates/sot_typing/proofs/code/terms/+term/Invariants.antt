@@ -12,7 +12,9 @@ use Rattle.sot_typing.proofs.code.terms.+term.Given as goal
 abbrev pub invariant-terms-loop-part : goal.invariant-terms-loop-part
 invariant-terms-loop-part l = record {
   faultless : parts_faults (things_in l.things) (parts_view (drop l.part-index l.parts)) ≡ [];
-  form : parts_then l.made.terms.items (formulas_of (things_in l.things) (parts_view (drop l.part-index l.parts))) ≡ formulas_of (things_in l.things) (parts_view l.parts);
-  sort : fold given l.made.sort (sorts (things_in l.things) (parts_view (drop l.part-index l.parts))) ≡ call_sort (sorts (things_in l.things) (parts_view l.parts));
+  form : parts_then l.made.terms.items (formulas_of (things_in l.things) (parts_view (drop l.part-index l.parts)))
+      ≡ formulas_of (things_in l.things) (parts_view l.parts);
+  sort : fold given l.made.sort (sorts (things_in l.things) (parts_view (drop l.part-index l.parts)))
+      ≡ call_sort (sorts (things_in l.things) (parts_view l.parts));
   decimals : sort_scale l.made.sort ≤ 255;
 }

@@ -6,4 +6,6 @@ use Rattle.sot_typing.specs.Things.{things_in}
 use Rattle.sot_typing.proofs.names.gather.add_locals.Given as goal
 
 abbrev pub invariant-loop-l : goal.invariant-loop-l
-invariant-loop-l l = things_in l.things.items ++ map local_thing (map local_view (drop l.l-index l.locals)) ≡ things_in l.fn.things.items ++ map local_thing (map local_view l.locals)
+invariant-loop-l l =
+    things_in l.things.items ++ map local_thing (map local_view (drop l.l-index l.locals))
+    ≡ things_in l.fn.things.items ++ map local_thing (map local_view l.locals)

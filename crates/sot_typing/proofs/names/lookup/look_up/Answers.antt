@@ -8,12 +8,14 @@ use Rattle.sot_typing.proofs.names.lookup.look_up.Goals as goal
 
 pub bounds-numbers-place : goal.bounds-numbers-place
 bounds-numbers-place c =
-    let all = ap length c.requires.are ∙ numbers_length nothing_counted (map declaration_view c.args.index.now.decls.now) ∙ length-map c.args.index.now.decls.now declaration_view in
+    let all = ap length c.requires.are ∙ numbers_length nothing_counted (map declaration_view c.args.index.now.decls.now)
+    ∙ length-map c.args.index.now.decls.now declaration_view in
     omega (arith, all, c.in_ok-place.ensures.within)
 
 pub returns : goal.returns
 returns c =
-    let all = ap length c.requires.are ∙ numbers_length nothing_counted (map declaration_view c.args.index.now.decls.now) ∙ length-map c.args.index.now.decls.now declaration_view in
+    let all = ap length c.requires.are ∙ numbers_length nothing_counted (map declaration_view c.args.index.now.decls.now)
+    ∙ length-map c.args.index.now.decls.now declaration_view in
     let inside : c.in_ok-place.place < length c.args.numbers.now = omega (arith, all, c.in_ok-place.ensures.within) in
     is_meant c.args.index.now c.args.numbers.now c.args.name.now c.in_ok-place.place _ _ c.requires c.in_ok-place.ensures.first c.in_ok-place.ensures.meant
     (decl_at c.args.index.now.decls.now _ _ c.in_ok-place.ensures.within c.index-decls-place.is)

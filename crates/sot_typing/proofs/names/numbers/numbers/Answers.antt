@@ -16,7 +16,9 @@ loop-d-preserved c =
     let here = left_are c.args.decls.now c.loop-d.d-index c.d-item.result c.loop-d-test.true c.d-item.is in
     let left = map declaration_view (drop (c.loop-d.d-index + 1) c.args.decls.now) in
     record {
-      few = subst (λ z. FitLimits z left) (sym c.count.ensures.counts) (few_left c.loop-d.counts _ _ (subst (FitLimits c.loop-d.counts) here c.loop-d.invariant.few));
+      few =
+          subst (λ z. FitLimits z left) (sym c.count.ensures.counts)
+          (few_left c.loop-d.counts _ _ (subst (FitLimits c.loop-d.counts) here c.loop-d.invariant.few));
       numbers = step_numbers c.args.decls.now c.loop-d.d-index c.d-item.result c.loop-d.counts c.count.new.counts c.count.result _ _ _
           c.loop-d-test.true c.d-item.is c.count.ensures.number c.count.ensures.counts c.in_ok-push.ensures.items c.loop-d.invariant.numbers;
     }
@@ -24,5 +26,6 @@ loop-d-preserved c =
 pub returns : goal.returns
 returns c =
     sym (append-nil c.loop-d.numbers.items)
-    ∙ ap (λ z. c.loop-d.numbers.items ++ numbers_from c.loop-d.counts (map declaration_view z)) (sym (drop_all c.loop-d.d-index c.args.decls.now c.loop-d-test.false))
+    ∙ ap (λ z. c.loop-d.numbers.items ++ numbers_from c.loop-d.counts (map declaration_view z))
+    (sym (drop_all c.loop-d.d-index c.args.decls.now c.loop-d-test.false))
     ∙ c.loop-d.invariant.numbers

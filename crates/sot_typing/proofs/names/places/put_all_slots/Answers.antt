@@ -9,9 +9,11 @@ use Rattle.sot_typing.proofs.names.places.put_all_slots.Goals as goal
 pub loop-name-preserved : goal.loop-name-preserved
 loop-name-preserved c =
     let of = slots_meant (program_in c.args.index.now) in
-    add_next (λ ts. ts) (flat_map of) of (λ x more. refl) refl c.args.names.now c.loop-name.name-index c.loop-name.slots.items _ c.loop-name.invariant c.name-item.result c.loop-name-test.true c.name-item.is _ c.in_ok-put_slots_meant.ensures
+    add_next (λ ts. ts) (flat_map of) of (λ x more. refl) refl c.args.names.now c.loop-name.name-index c.loop-name.slots.items _ c.loop-name.invariant
+    c.name-item.result c.loop-name-test.true c.name-item.is _ c.in_ok-put_slots_meant.ensures
 
 pub returns : goal.returns
 returns c =
     let of = slots_meant (program_in c.args.index.now) in
-    add_done (λ ts. ts) (flat_map of) of (λ x more. refl) refl c.args.names.now c.loop-name.name-index c.loop-name.slots.items _ c.loop-name.invariant c.loop-name-test.false
+    add_done (λ ts. ts) (flat_map of) of (λ x more. refl) refl c.args.names.now c.loop-name.name-index c.loop-name.slots.items _ c.loop-name.invariant
+    c.loop-name-test.false

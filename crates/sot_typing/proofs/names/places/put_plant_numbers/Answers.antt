@@ -14,10 +14,12 @@ plant_number-requires-clause-plant c =
 pub loop-name-preserved : goal.loop-name-preserved
 loop-name-preserved c =
     let of = plant_place (program_in c.args.index.now) in
-    add_next (λ ts. ts) (map of) (λ x. of x ∷ []) (λ x more. refl) refl c.args.names.now c.loop-name.name-index c.loop-name.plants.items _ c.loop-name.invariant c.name-item.result c.loop-name-test.true c.name-item.is _
+    add_next (λ ts. ts) (map of) (λ x. of x ∷ []) (λ x more. refl) refl c.args.names.now c.loop-name.name-index c.loop-name.plants.items _ c.loop-name.invariant
+    c.name-item.result c.loop-name-test.true c.name-item.is _
     (c.in_ok-push.ensures.items ∙ ap (λ n. c.loop-name.plants.items ++ n ∷ []) c.plant_number.ensures)
 
 pub returns : goal.returns
 returns c =
     let of = plant_place (program_in c.args.index.now) in
-    add_done (λ ts. ts) (map of) (λ x. of x ∷ []) (λ x more. refl) refl c.args.names.now c.loop-name.name-index c.loop-name.plants.items _ c.loop-name.invariant c.loop-name-test.false
+    add_done (λ ts. ts) (map of) (λ x. of x ∷ []) (λ x more. refl) refl c.args.names.now c.loop-name.name-index c.loop-name.plants.items _ c.loop-name.invariant
+    c.loop-name-test.false

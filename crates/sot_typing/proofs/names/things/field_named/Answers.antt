@@ -9,22 +9,28 @@ loop-place-preserved c =
     let i = c.loop-place.invariant in
     let other = tested _ _ _ _ _ _ c.eq.ensures c.bytes_of.ensures c.as_bytes.ensures c.if-eq.false in
     record {
-      found = found_next field_part c.args.name.now c.args.fields.now c.loop-place.place c.index-fields-place.result c.loop-place-test.true c.index-fields-place.is i.found i.place other;
-      place = place_next field_part c.args.name.now c.args.fields.now c.loop-place.place c.index-fields-place.result c.loop-place-test.true c.index-fields-place.is i.found i.place other;
+      found =
+          found_next field_part c.args.name.now c.args.fields.now c.loop-place.place c.index-fields-place.result c.loop-place-test.true c.index-fields-place.is
+          i.found i.place other;
+      place =
+          place_next field_part c.args.name.now c.args.fields.now c.loop-place.place c.index-fields-place.result c.loop-place-test.true c.index-fields-place.is
+          i.found i.place other;
     }
 
 pub returns-then-eq-clause-place : goal.returns-then-eq-clause-place
 returns-then-eq-clause-place c =
     let i = c.loop-place.invariant in
     let same = tested _ _ _ _ _ _ c.eq.ensures c.bytes_of.ensures c.as_bytes.ensures c.if-eq.true in
-    place_here field_part c.args.name.now c.args.fields.now c.loop-place.place c.index-fields-place.result c.loop-place-test.true c.index-fields-place.is i.found i.place same
+    place_here field_part c.args.name.now c.args.fields.now c.loop-place.place c.index-fields-place.result c.loop-place-test.true c.index-fields-place.is
+    i.found i.place same
 
 pub returns-then-eq-clause-sort : goal.returns-then-eq-clause-sort
 returns-then-eq-clause-sort c =
     let i = c.loop-place.invariant in
     let same = tested _ _ _ _ _ _ c.eq.ensures c.bytes_of.ensures c.as_bytes.ensures c.if-eq.true in
     c.scalar_sort.ensures
-    ∙ sort_here field_part c.args.name.now c.args.fields.now c.loop-place.place c.index-fields-place.result c.loop-place-test.true c.index-fields-place.is i.found i.place same
+    ∙ sort_here field_part c.args.name.now c.args.fields.now c.loop-place.place c.index-fields-place.result c.loop-place-test.true c.index-fields-place.is
+    i.found i.place same
 
 pub unreachable-requires : goal.unreachable-requires
 unreachable-requires c =

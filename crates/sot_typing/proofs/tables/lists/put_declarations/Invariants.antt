@@ -3,7 +3,8 @@ use Rattle.std.proofs.Common.{◌≡◌, ◌++◌, map, drop}
 use Rattle.std.specs.Prelude.{flat_map, filter_map}
 use Rattle.sot_tree.specs.TreeViews.{declaration_view}
 use Rattle.sot_rules.specs.Indexes.{program_in}
-use Rattle.sot_typing.specs.Resolved.{a_topic_of, a_plant_of, a_node_of, a_module_of, topic_info, topic_scalars, plant_seen, plant_table, node_seen, node_table, module_info}
+use Rattle.sot_typing.specs.Resolved.{a_topic_of, a_plant_of, a_node_of, a_module_of, topic_info, topic_scalars, plant_seen, plant_table, node_seen, node_table}
+use Rattle.sot_typing.specs.Resolved.{module_info}
 use Rattle.sot_typing.proofs.tables.lists.put_declarations.Given as goal
 
 abbrev pub invariant-loop-d : goal.invariant-loop-d

@@ -11,9 +11,11 @@ local_info-requires c = subst (λ l. LocalFits (local_view l)) (sym c.l-item.is)
 
 pub loop-l-preserved : goal.loop-l-preserved
 loop-l-preserved c =
-    add_next (λ ts. ts) (λ xs. map local_info (map local_view xs)) (λ x. local_info (local_view x) ∷ []) (λ x more. refl) refl c.args.locals.now c.loop-l.l-index c.loop-l.infos.items _ c.loop-l.invariant c.l-item.result c.loop-l-test.true c.l-item.is _
+    add_next (λ ts. ts) (λ xs. map local_info (map local_view xs)) (λ x. local_info (local_view x) ∷ []) (λ x more. refl) refl c.args.locals.now
+    c.loop-l.l-index c.loop-l.infos.items _ c.loop-l.invariant c.l-item.result c.loop-l-test.true c.l-item.is _
     (c.in_ok-push.ensures.items ∙ ap (λ i. c.loop-l.infos.items ++ i ∷ []) c.in_ok-local_info.ensures)
 
 pub returns : goal.returns
 returns c =
-    add_done (λ ts. ts) (λ xs. map local_info (map local_view xs)) (λ x. local_info (local_view x) ∷ []) (λ x more. refl) refl c.args.locals.now c.loop-l.l-index c.loop-l.infos.items _ c.loop-l.invariant c.loop-l-test.false
+    add_done (λ ts. ts) (λ xs. map local_info (map local_view xs)) (λ x. local_info (local_view x) ∷ []) (λ x more. refl) refl c.args.locals.now
+    c.loop-l.l-index c.loop-l.infos.items _ c.loop-l.invariant c.loop-l-test.false

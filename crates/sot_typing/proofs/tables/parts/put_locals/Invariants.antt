@@ -5,4 +5,5 @@ use Rattle.sot_typing.specs.Resolved.{local_info}
 use Rattle.sot_typing.proofs.tables.parts.put_locals.Given as goal
 
 abbrev pub invariant-loop-l : goal.invariant-loop-l
-invariant-loop-l l = l.infos.items ++ map local_info (map local_view (drop l.l-index l.locals)) ≡ l.initial.infos.items ++ map local_info (map local_view l.locals)
+invariant-loop-l l =
+    l.infos.items ++ map local_info (map local_view (drop l.l-index l.locals)) ≡ l.initial.infos.items ++ map local_info (map local_view l.locals)

@@ -10,9 +10,11 @@ noise_info-requires c = subst FieldFits (sym c.f-item.is) (c.requires c.loop-f.f
 
 pub loop-f-preserved : goal.loop-f-preserved
 loop-f-preserved c =
-    add_next (λ ts. ts) (λ xs. map noise_info xs) (λ x. noise_info x ∷ []) (λ x more. refl) refl c.args.noise.now c.loop-f.f-index c.loop-f.infos.items _ c.loop-f.invariant c.f-item.result c.loop-f-test.true c.f-item.is _
+    add_next (λ ts. ts) (λ xs. map noise_info xs) (λ x. noise_info x ∷ []) (λ x more. refl) refl c.args.noise.now c.loop-f.f-index c.loop-f.infos.items _
+    c.loop-f.invariant c.f-item.result c.loop-f-test.true c.f-item.is _
     (c.in_ok-push.ensures.items ∙ ap (λ i. c.loop-f.infos.items ++ i ∷ []) c.in_ok-noise_info.ensures)
 
 pub returns : goal.returns
 returns c =
-    add_done (λ ts. ts) (λ xs. map noise_info xs) (λ x. noise_info x ∷ []) (λ x more. refl) refl c.args.noise.now c.loop-f.f-index c.loop-f.infos.items _ c.loop-f.invariant c.loop-f-test.false
+    add_done (λ ts. ts) (λ xs. map noise_info xs) (λ x. noise_info x ∷ []) (λ x more. refl) refl c.args.noise.now c.loop-f.f-index c.loop-f.infos.items _
+    c.loop-f.invariant c.loop-f-test.false

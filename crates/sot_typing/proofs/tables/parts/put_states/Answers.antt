@@ -10,9 +10,11 @@ state_info-requires c = subst StateFits (sym c.s-item.is) (c.requires c.loop-s.s
 
 pub loop-s-preserved : goal.loop-s-preserved
 loop-s-preserved c =
-    add_next (λ ts. ts) (λ xs. map state_info xs) (λ x. state_info x ∷ []) (λ x more. refl) refl c.args.states.now c.loop-s.s-index c.loop-s.infos.items _ c.loop-s.invariant c.s-item.result c.loop-s-test.true c.s-item.is _
+    add_next (λ ts. ts) (λ xs. map state_info xs) (λ x. state_info x ∷ []) (λ x more. refl) refl c.args.states.now c.loop-s.s-index c.loop-s.infos.items _
+    c.loop-s.invariant c.s-item.result c.loop-s-test.true c.s-item.is _
     (c.in_ok-push.ensures.items ∙ ap (λ i. c.loop-s.infos.items ++ i ∷ []) c.in_ok-state_info.ensures)
 
 pub returns : goal.returns
 returns c =
-    add_done (λ ts. ts) (λ xs. map state_info xs) (λ x. state_info x ∷ []) (λ x more. refl) refl c.args.states.now c.loop-s.s-index c.loop-s.infos.items _ c.loop-s.invariant c.loop-s-test.false
+    add_done (λ ts. ts) (λ xs. map state_info xs) (λ x. state_info x ∷ []) (λ x more. refl) refl c.args.states.now c.loop-s.s-index c.loop-s.infos.items _
+    c.loop-s.invariant c.loop-s-test.false

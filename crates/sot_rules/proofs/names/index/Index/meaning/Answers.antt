@@ -9,5 +9,6 @@ pub returns-in-Some : goal.returns-in-Some
 returns-in-Some c =
     let ds = c.args.self.now.decls.now in
     let k = c.in-Some.k in
-    sym (slice_get-map declaration_view ds k ∙ ap (option_map declaration_view) (slice_get_read ds (length ds) k c.index-decls-k.result refl c.in-Some.ensures.within c.index-decls-k.is))
+    sym (slice_get-map declaration_view ds k ∙ ap (option_map declaration_view)
+    (slice_get_read ds (length ds) k c.index-decls-k.result refl c.in-Some.ensures.within c.index-decls-k.is))
     ∙ c.in-Some.ensures.meant

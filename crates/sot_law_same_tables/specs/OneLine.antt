@@ -23,8 +23,11 @@ plain_tables t = record (unplaced_tables t) { modules = map plain_module t.modul
 
 -- the tables that are made of the program of the running example are its tables, for any allocator
 abbrev pub MadeTablesAreTheLine : Type 0
-MadeTablesAreTheLine = (g : Global) → plain_tables (tables_of examples.line) ≡ plain_tables (tables_seen (line g))
+MadeTablesAreTheLine =
+    (g : Global) → plain_tables (tables_of examples.line) ≡ plain_tables (tables_seen (line g))
 
 -- so are the worked tables
 abbrev pub WorkedTablesAreTheLine : Type 0
-WorkedTablesAreTheLine = (g : Global) (p : Tables) → IsLine IsMove p → plain_tables (tables_seen p) ≡ plain_tables (tables_seen (line g))
+WorkedTablesAreTheLine =
+    (g : Global) (p : Tables) → IsLine IsMove p
+    → plain_tables (tables_seen p) ≡ plain_tables (tables_seen (line g))

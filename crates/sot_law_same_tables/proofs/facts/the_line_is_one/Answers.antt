@@ -1,8 +1,8 @@
 -- The made tables are computed, and the worked ones are looked at part by part.
 use Rattle.std.proofs.Common.{refl}
 use Rattle.sot_typing.specs.Resolved.{tables_of}
-use Rattle.sot_one_line.proofs.Worked.{worked_is}
-use Rattle.sot_one_line.proofs.facts.the_line_is_one.Goals as goal
+use Rattle.sot_law_same_tables.proofs.Worked.{worked_is}
+use Rattle.sot_law_same_tables.proofs.facts.the_line_is_one.Goals as goal
 
 pub returns-clause-made : goal.returns-clause-made
 unfolding tables_of

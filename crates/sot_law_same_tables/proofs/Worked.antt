@@ -13,7 +13,7 @@ use Rattle.sot_typing.specs.Formulas.{Formula, number, place, binary, chosen, pu
 use Rattle.sot_typing.specs.Resolved.{plant_seen, node_seen}
 use Rattle.sot_law_same_tables.specs.UnplacedTables.{unplaced_formula, unplaced_deeds, unplaced_plant_table, unplaced_node_table}
 use Rattle.sot_test_missions.specs.Line.{IsMove, IsReturn, IsCommand, IsPos, IsFast, IsSlow}
-use Rattle.sot_one_line.specs.OneLine.{plain_module, WorkedTablesAreTheLine}
+use Rattle.sot_law_same_tables.specs.OneLine.{plain_module, WorkedTablesAreTheLine}
 
 -- how an expression looks without places
 abbrev looks : Term → Formula
@@ -28,7 +28,8 @@ module _ (g : Global) where
       ap looks whole
       ∙ ap (λ x. chosen (looks x) (number (negsuc 1)) (looks rest) nowhere) is_above
       ∙ ap (λ x. chosen (binary Greater (place 0) (number (pos 10)) nowhere) (number (negsuc 1)) (looks x) nowhere) is_rest
-      ∙ ap (λ x. chosen (binary Greater (place 0) (number (pos 10)) nowhere) (number (negsuc 1)) (chosen (looks x) (number (pos 2)) (number (pos 0)) nowhere) nowhere) is_below
+      ∙ ap (λ x. chosen (binary Greater (place 0) (number (pos 10)) nowhere) (number (negsuc 1)) (chosen (looks x) (number (pos 2)) (number (pos 0)) nowhere)
+      nowhere) is_below
 
   command_looks : (acts : List Act) → IsCommand acts → unplaced_deeds (deeds_view acts) ≡ unplaced_deeds (deeds_view (slow_acts g))
   command_looks acts (t, returns, is) =

@@ -1,2 +1,0 @@
--- the worked tables, part by part
-pub mod Worked

@@ -1,2 +1,0 @@
--- tables of the running example that look the same
-pub mod OneLine
