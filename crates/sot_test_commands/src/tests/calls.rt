@@ -3,6 +3,7 @@
 use super::*;
 use sot_commands::command_of;
 use sot_ports::MemSource;
+use sot_test_rows::LINE_FORMATTED;
 
 const LIMIT: usize = 16_777_216;
 
@@ -19,35 +20,6 @@ fn checks_a_mission(rt: HostRuntime) {
     let text = mission(alloc).expect(&rt, "memory");
     answers(&rt, alloc, "check", &text, ACCEPTED)
 }
-
-// The same mission in its canonical text.
-const LINE_FORMATTED: &str = "topic cmd: int[-2..2] = 0;
-plant pos {
-  state x: int;
-  input cmd;
-  noise w: int[-1..1];
-  next x = (x + cmd) + w;
-}
-external fast period 4 offset 0 {
-  reads pos;
-  writes cmd;
-}
-node slow period 2 offset 0 {
-  reads pos;
-  writes cmd;
-  do {
-    publish cmd = if (pos.x > 10) then -2 else (if (pos.x < -10) then 2 else 0);
-  }
-}
-module nav {
-  ac fast;
-  sc slow;
-  period 4 offset 0;
-  plant pos;
-  safe [-40..40];
-  safer [-10..10];
-}
-";
 
 const TWO_BLOCKS: &str = "node n period 1 offset 0{do{if a{}else{a:=-(1);}if a{a:=-1-2;}else{}}}";
 

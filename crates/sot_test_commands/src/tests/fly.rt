@@ -5,6 +5,7 @@ ghost use Rattle.std.specs.Prelude.{None};
 use super::*;
 use sot_board::View;
 use sot_lang::Draft;
+use sot_test_rows::SWITCHED;
 
 // A node that copies what comes from outside, and nothing to certify.
 const RELAY: &str = "environment topic e: int[0..9] = 0;
@@ -26,48 +27,6 @@ node slow period 4 offset 1 {
 module nav { ac fast; sc slow; period 4 offset 0; plant pos; safe [-40..40]; safer [-10..10]; }
 %certificate
 {\"format\":1,\"modules\":{\"nav\":{\"closed\":[[[-40,-11]],[[-10,10]],[[11,40]]],\"reach\":[[[-10,10]]]}}}
-";
-
-// A flight of the vehicle in which its decision node switches to the advanced node and back.
-const SWITCHED: &str = "soter trace 1
-start pos 0
-0 decide nav ac
-0 tick pos(0)=0
-1 idle slow cmd=0
-1 tick pos(0)=0
-2 fire fast cmd=2
-2 tick pos(0)=2
-3 tick pos(0)=4
-4 decide nav ac
-4 tick pos(0)=6
-5 idle slow cmd=0
-5 tick pos(0)=8
-6 fire fast cmd=2
-6 tick pos(0)=10
-7 tick pos(0)=12
-8 decide nav ac
-8 tick pos(0)=14
-9 idle slow cmd=-2
-9 tick pos(0)=16
-10 fire fast cmd=2
-10 tick pos(0)=18
-11 tick pos(0)=20
-12 decide nav sc
-12 tick pos(0)=22
-13 fire slow cmd=-2
-13 tick pos(0)=20
-14 idle fast cmd=2
-14 tick pos(0)=18
-15 tick pos(0)=16
-16 decide nav sc
-16 tick pos(0)=14
-17 fire slow cmd=-2
-17 tick pos(0)=12
-18 idle fast cmd=2
-18 tick pos(0)=10
-19 tick pos(0)=8
-20 decide nav ac
-end 20 events 36 refused 0
 ";
 
 // The flight of a relay to which one number comes from outside.

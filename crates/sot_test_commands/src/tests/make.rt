@@ -1,65 +1,7 @@
 //! Tests of `make`: its words, and the text that it writes.
 
 use super::*;
-
-// The mission of two modules for seed 42, as an independent program makes it.
-const TWO_MODULES: &str = "topic cmd0: int[-2..2] = 0;
-plant pos0 {
-  state x: int;
-  input cmd0;
-  noise w: int[-1..1];
-  next x = (x + cmd0) + w;
-}
-external fast0 period 4 offset 0 {
-  reads pos0;
-  writes cmd0;
-}
-node slow0 period 2 offset 1 {
-  reads pos0;
-  writes cmd0;
-  do {
-    publish cmd0 = if (pos0.x > 10) then -2 else (if (pos0.x < -10) then 2 else 0);
-  }
-}
-module nav0 {
-  ac fast0;
-  sc slow0;
-  period 4 offset 2;
-  plant pos0;
-  safe [-40..40];
-  safer [-10..10];
-}
-topic cmd1: int[-2..2] = 0;
-plant pos1 {
-  state x: int;
-  input cmd1;
-  noise w: int[-1..1];
-  next x = (x + cmd1) + w;
-}
-external fast1 period 4 offset 2 {
-  reads pos1;
-  writes cmd1;
-}
-node slow1 period 2 offset 1 {
-  reads pos1;
-  writes cmd1;
-  do {
-    publish cmd1 = if (pos1.x > 10) then -2 else (if (pos1.x < -10) then 2 else 0);
-  }
-}
-module nav1 {
-  ac fast1;
-  sc slow1;
-  period 4 offset 0;
-  plant pos1;
-  safe [-40..40];
-  safer [-10..10];
-}
-%certificate
-{\"format\":1,\"modules\":{\"nav0\":{\"closed\":[[[-40,-11]],[[-10,10]],[[11,40]]],\"reach\":[[[-10,10]]]},\"nav1\":{\"closed\":[[[-40,-11]],[[-10,10]],[[11,40]]],\"reach\":[[[-10,10]]]}}}
-%flight
-{\"crew\":{\"fast0\":{\"kind\":\"wild\",\"seed\":42,\"stream\":1000},\"fast1\":{\"kind\":\"wild\",\"seed\":42,\"stream\":1001}},\"format\":1,\"horizon\":1000,\"inputs\":[],\"start\":{\"pos0\":[0],\"pos1\":[0]},\"sway\":{\"pos0\":{\"kind\":\"seed\",\"seed\":42,\"stream\":0},\"pos1\":{\"kind\":\"seed\",\"seed\":42,\"stream\":1}}}
-";
+use sot_test_rows::TWO_MODULES;
 
 #[test]
 fn makes_a_mission_and_reads_nothing(rt: HostRuntime) {

@@ -2,6 +2,7 @@
 use super::*;
 use sot_board::Board;
 use sot_compose::check_all;
+use sot_test_rows::{IDLE, SWITCHED};
 use sot_trace::board_text;
 use sot_workers::fly_alone as fly;
 use sot_world::OpenFail;
@@ -44,48 +45,6 @@ fn flies(
 const CALM: &str = "{\"kind\":\"list\",\"values\":[[0]]}";
 
 const TWO: &str = "{\"drafts\":[[2]],\"kind\":\"script\"}";
-
-// Twenty ticks, in which the module switches to the safe node at 12 and back at 20.
-const SWITCHED: &str = "soter trace 1
-start pos 0
-0 decide nav ac
-0 tick pos(0)=0
-1 idle slow cmd=0
-1 tick pos(0)=0
-2 fire fast cmd=2
-2 tick pos(0)=2
-3 tick pos(0)=4
-4 decide nav ac
-4 tick pos(0)=6
-5 idle slow cmd=0
-5 tick pos(0)=8
-6 fire fast cmd=2
-6 tick pos(0)=10
-7 tick pos(0)=12
-8 decide nav ac
-8 tick pos(0)=14
-9 idle slow cmd=-2
-9 tick pos(0)=16
-10 fire fast cmd=2
-10 tick pos(0)=18
-11 tick pos(0)=20
-12 decide nav sc
-12 tick pos(0)=22
-13 fire slow cmd=-2
-13 tick pos(0)=20
-14 idle fast cmd=2
-14 tick pos(0)=18
-15 tick pos(0)=16
-16 decide nav sc
-16 tick pos(0)=14
-17 fire slow cmd=-2
-17 tick pos(0)=12
-18 idle fast cmd=2
-18 tick pos(0)=10
-19 tick pos(0)=8
-20 decide nav ac
-end 20 events 36 refused 0
-";
 
 #[test]
 fn flies_as_the_flight_states(rt: HostRuntime) {
@@ -158,47 +117,6 @@ start pos 10
 end 0 events 3 refused 1
 ";
 
-// Sixteen ticks, in which the node `fast` is idle in its second, third and fourth firings. What it drafts there counts as refused too.
-const ROWS: &str = "soter trace 1
-start pos 10
-0 decide nav ac
-0 fire fast cmd=2
-0 idle slow cmd=0
-0 tick pos(1)=13
-1 tick pos(1)=16
-2 idle slow cmd=-2
-2 tick pos(1)=19
-3 tick pos(1)=22
-4 decide nav sc
-4 idle fast cmd!7
-4 fire slow cmd=-2
-4 tick pos(1)=21
-5 tick pos(1)=20
-6 fire slow cmd=-2
-6 tick pos(1)=19
-7 tick pos(1)=18
-8 decide nav sc
-8 idle fast
-8 fire slow cmd=-2
-8 tick pos(1)=17
-9 tick pos(1)=16
-10 fire slow cmd=-2
-10 tick pos(1)=15
-11 tick pos(1)=14
-12 decide nav sc
-12 idle fast cmd!-9
-12 fire slow cmd=-2
-12 tick pos(1)=13
-13 tick pos(1)=12
-14 fire slow cmd=-2
-14 tick pos(1)=11
-15 tick pos(1)=10
-16 decide nav ac
-16 fire fast cmd=1
-16 idle slow cmd=0
-end 16 events 35 refused 2
-";
-
 // Five ticks of a plant with two disturbances.
 const GUSTS: &str = "soter trace 1
 start pos 0
@@ -226,7 +144,7 @@ fn idle_nodes_draft_too(rt: HostRuntime) {
             "16",
             "{\"kind\":\"high\"}",
             "{\"drafts\":[[2],[7],[null],[-9],[1]],\"kind\":\"script\"}",
-            ROWS,
+            IDLE,
         ),
     ] {
         let flight = flight(&rt, alloc, "10", horizon, sway, crew);

@@ -7,90 +7,9 @@ use super::*;
 use sot_board::Board;
 use sot_flight::Flight;
 use sot_lang::Typed;
+use sot_test_rows::{IDLE, SWITCHED};
 use sot_trace::board_text;
 use sot_workers::fly_alone as fly;
-
-const SWITCHED: &str = "soter trace 1
-start pos 0
-0 decide nav ac
-0 tick pos(0)=0
-1 idle slow cmd=0
-1 tick pos(0)=0
-2 fire fast cmd=2
-2 tick pos(0)=2
-3 tick pos(0)=4
-4 decide nav ac
-4 tick pos(0)=6
-5 idle slow cmd=0
-5 tick pos(0)=8
-6 fire fast cmd=2
-6 tick pos(0)=10
-7 tick pos(0)=12
-8 decide nav ac
-8 tick pos(0)=14
-9 idle slow cmd=-2
-9 tick pos(0)=16
-10 fire fast cmd=2
-10 tick pos(0)=18
-11 tick pos(0)=20
-12 decide nav sc
-12 tick pos(0)=22
-13 fire slow cmd=-2
-13 tick pos(0)=20
-14 idle fast cmd=2
-14 tick pos(0)=18
-15 tick pos(0)=16
-16 decide nav sc
-16 tick pos(0)=14
-17 fire slow cmd=-2
-17 tick pos(0)=12
-18 idle fast cmd=2
-18 tick pos(0)=10
-19 tick pos(0)=8
-20 decide nav ac
-end 20 events 36 refused 0
-";
-
-// The node `fast` is idle in its second, third and fourth firings. What it drafts there counts as refused too.
-const IDLE: &str = "soter trace 1
-start pos 10
-0 decide nav ac
-0 fire fast cmd=2
-0 idle slow cmd=0
-0 tick pos(1)=13
-1 tick pos(1)=16
-2 idle slow cmd=-2
-2 tick pos(1)=19
-3 tick pos(1)=22
-4 decide nav sc
-4 idle fast cmd!7
-4 fire slow cmd=-2
-4 tick pos(1)=21
-5 tick pos(1)=20
-6 fire slow cmd=-2
-6 tick pos(1)=19
-7 tick pos(1)=18
-8 decide nav sc
-8 idle fast
-8 fire slow cmd=-2
-8 tick pos(1)=17
-9 tick pos(1)=16
-10 fire slow cmd=-2
-10 tick pos(1)=15
-11 tick pos(1)=14
-12 decide nav sc
-12 idle fast cmd!-9
-12 fire slow cmd=-2
-12 tick pos(1)=13
-13 tick pos(1)=12
-14 fire slow cmd=-2
-14 tick pos(1)=11
-15 tick pos(1)=10
-16 decide nav ac
-16 fire fast cmd=1
-16 idle slow cmd=0
-end 16 events 35 refused 2
-";
 
 #[test]
 fn whole_flights(rt: HostRuntime) {

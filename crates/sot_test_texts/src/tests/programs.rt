@@ -1,38 +1,11 @@
 //! Which program a text spells, and where one that spells none goes wrong.
 use super::{cut, same, unescaped};
 use sot_parser::{ParseFail, Syntax, parse};
+use sot_test_rows::LINE_FORMATTED;
 use sot_text::{LexFault, Lexer};
 use sot_tree::{Decl, Program, Stmt};
 use std::alloc::Global;
 use std::process::Abort;
-
-const LINE: &str = "topic cmd: int[-2..2] = 0;
-plant pos {
-  state x: int;
-  input cmd;
-  noise w: int[-1..1];
-  next x = (x + cmd) + w;
-}
-external fast period 4 offset 0 {
-  reads pos;
-  writes cmd;
-}
-node slow period 2 offset 0 {
-  reads pos;
-  writes cmd;
-  do {
-    publish cmd = if (pos.x > 10) then -2 else (if (pos.x < -10) then 2 else 0);
-  }
-}
-module nav {
-  ac fast;
-  sc slow;
-  period 4 offset 0;
-  plant pos;
-  safe [-40..40];
-  safer [-10..10];
-}
-";
 
 fn parsed(alloc: Global, text: &str) -> Result<Program, ParseFail> {
     if text.len() > 10_000 {
@@ -85,7 +58,7 @@ fn decl_at<'p>(rt: &impl Abort, program: &'p Program, i: usize) -> &'p Decl {
 
 #[test]
 fn reads_a_plant(rt: HostRuntime) {
-    let program = program_of(&rt, rt.alloc(), LINE);
+    let program = program_of(&rt, rt.alloc(), LINE_FORMATTED);
     same(&rt, "declarations", program.decls.len(), 5);
     let Decl::Plant(plant) = decl_at(&rt, &program, 1) else {
         panic!(rt; "no plant");
@@ -100,7 +73,7 @@ fn reads_a_plant(rt: HostRuntime) {
 
 #[test]
 fn reads_a_module(rt: HostRuntime) {
-    let program = program_of(&rt, rt.alloc(), LINE);
+    let program = program_of(&rt, rt.alloc(), LINE_FORMATTED);
     let Decl::Module(module) = decl_at(&rt, &program, 4) else {
         panic!(rt; "no module");
     };
@@ -145,7 +118,7 @@ fn fault_is(rt: &impl Abort, alloc: Global, row: &str) {
 fn names_the_place_of_a_fault(rt: HostRuntime) {
     let alloc = rt.alloc();
     let fields = "environment topic a: {x: bool, y: fix(2)[0.5..1.5]} = {true, 1};";
-    for text in ["", " # nothing", LINE, fields] {
+    for text in ["", " # nothing", LINE_FORMATTED, fields] {
         same(&rt, text, fault_of(alloc, text), None);
     }
     for row in FAULTS.lines() {

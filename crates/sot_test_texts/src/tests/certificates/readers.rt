@@ -1,7 +1,10 @@
 //! The small readers of JSON values, each once.
 use super::same;
 use serde_json::Value;
-use sot_json::{JsonFail, JsonKind, Path, count_of, fault_at, fault_under, fault_under_index, has_only, member_of, two_of, value_of, whole_of};
+use sot_json::{
+    JsonFail, JsonKind, Path, count_of, fault_at, fault_under, fault_under_index, has_only,
+    member_of, two_of, value_of, whole_of,
+};
 use std::alloc::Global;
 use std::process::Abort;
 
