@@ -15,12 +15,12 @@ abbrev pub Gives : {X Y : Type 0} → (X → Y) → Result X JsonFail → Says Y
 Gives view (Ok x) says = says ≡ Ok (view x)
 Gives view (Err e) says = Fails e says
 
--- a fault of that kind at the value itself
+-- a fault of that kind at the value itself, which takes no memory
 abbrev pub IsHere : JsonKind → JsonFail → Type 0
-IsHere k fails.Memory = Unit {0}
+IsHere k fails.Memory = ⊥
 IsHere k (fails.Fault g) = g ≡ record { path = []; kind = k }
 
--- e stands at the part of that name, and r is e as it stands from the value that holds the part
+-- e stands at the part of that name, and r is e as it stands from the value that holds the part, but for want of memory
 abbrev pub IsUnder : List ℕ → JsonFail → JsonFail → Type 0
 IsUnder name e fails.Memory = Unit {0}
 IsUnder name fails.Memory (fails.Fault g) = ⊥

@@ -29,7 +29,7 @@ pub fn value_of(alloc: Global, bytes: &[u8]) -> Result<Value, JsonFail>
     }
 }
 
-/// The fault of that kind at the value itself.
+/// The fault of that kind at the value itself. Takes no memory.
 pub fn fault_at(alloc: Global, kind: JsonKind) -> JsonFail
     ensures { IsHere kind result }
 {
@@ -39,7 +39,7 @@ pub fn fault_at(alloc: Global, kind: JsonKind) -> JsonFail
     })
 }
 
-/// The fault of a part, as it stands from the value that holds the part under that name.
+/// The fault of a part, as it stands from the value that holds the part under that name, but for want of memory.
 pub fn fault_under(alloc: Global, name: &str, fail: JsonFail) -> JsonFail
     ensures { IsUnder name.now fail result }
 {
@@ -55,7 +55,7 @@ pub fn fault_under(alloc: Global, name: &str, fail: JsonFail) -> JsonFail
     }
 }
 
-/// The same for an item of a list, by its place.
+/// The same for an item of a list, by its place, but for want of memory.
 pub fn fault_under_index(alloc: Global, i: usize, fail: JsonFail) -> JsonFail
     ensures { IsUnder (decimal i) fail result }
 {
@@ -71,7 +71,7 @@ fn decimal_of(alloc: Global, i: usize) -> Result<String, AllocError>
     format!(in alloc; "{i}")
 }
 
-/// What was read of the part of that name, as it stands from the value that holds the part.
+/// What was read of the part of that name, as it stands from the value that holds the part, but for want of memory.
 pub fn part_of<T>(alloc: Global, name: &str, read: Result<T, JsonFail>) -> Result<T, JsonFail>
     ensures { IsPart name.now read result }
 {
