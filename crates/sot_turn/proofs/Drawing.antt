@@ -1,5 +1,6 @@
 -- Drawing a ticket keeps the rule.
-use Rattle.std.proofs.Common.{◌≡◌, ◌≢◌, ℕ, ◌+◌, ◌^◌, ◌<◌, ◌≤◌, ◌==◌, true, List, slice_index, slice_set, Option, Some, true≢false, sym, refl, ap, ◌∙◌, subst, inl, inr, arith, length-set, get_or-set_other, get_or-set_same}
+use Rattle.std.proofs.Common.{◌≡◌, ◌≢◌, ℕ, ◌+◌, ◌^◌, ◌<◌, ◌≤◌, ◌==◌, true, List, slice_index, slice_set, Option, Some, true≢false, sym, refl, ap, ◌∙◌, subst}
+use Rattle.std.proofs.Common.{inl, inr, arith, length-set, get_or-set_other, get_or-set_same}
 use mathlib.Core.Logic.{dite}
 use mathlib.Core.Option as maybe
 use native.Mathlib.Decide.{ℕ_discrete}
@@ -21,7 +22,8 @@ module _ {Ground Entry : Type 0} (common : List Entry) (base : Ground) (tickets 
   with_ticket view ticket = record view { ticket = Some ticket }
 
   -- the view after its draw
-  drawer_fits : (old : View Ground Entry) → IsIdle old → now ≤ tickets → Fits common base tickets now old → Fits common base (tickets + 1) now (with_ticket old tickets)
+  drawer_fits : (old : View Ground Entry) → IsIdle old → now ≤ tickets → Fits common base tickets now old
+      → Fits common base (tickets + 1) now (with_ticket old tickets)
   drawer_fits old idle low fits = let has = has_some old.own_ground idle.2 in record {
     has_ground = fits.has_ground;
     keeps_ground = fits.keeps_ground;
@@ -48,7 +50,8 @@ module _ {Ground Entry : Type 0} (common : List Entry) (base : Ground) (tickets 
 
 module _ {Value Ground Entry : Type 0} (ground_of : Value → Ground) (entries_of : Value → List Entry) where
   -- a step that changes no word and no view
-  pub unmoved : (table : Table Value Ground Entry) (rule : Kept ground_of entries_of table) (word place : ℕ) (taken : List (ℕ × Option Value)) (view : View Ground Entry) →
+  pub unmoved : (table : Table Value Ground Entry) (rule : Kept ground_of entries_of table) (word place : ℕ) (taken : List (ℕ × Option Value))
+      (view : View Ground Entry) →
       IsAt table.views place view → Kept ground_of entries_of (stepped table word (slice_index table.words word) place taken view keeps)
   unmoved table rule word place taken view at =
       subst (λ (x : List ℕ × List (View Ground Entry)). Kept ground_of entries_of record { words = x.0; homes = table.homes; views = x.1 })
@@ -61,7 +64,8 @@ module _ {Value Ground Entry : Type 0} (ground_of : Value → Ground) (entries_o
   abbrev new : View Ground Entry
   new = record old { ticket = Some (drawn table) }
 
-  new_ticket_is_fresh : (i ticket : ℕ) (view : View Ground Entry) → i ≢ place → IsAt table.views i view → view.ticket ≡ Some ticket → new.ticket ≡ Some ticket → ⊥
+  new_ticket_is_fresh : (i ticket : ℕ) (view : View Ground Entry) → i ≢ place → IsAt table.views i view → view.ticket ≡ Some ticket → new.ticket ≡ Some ticket
+      → ⊥
   new_ticket_is_fresh i ticket view apart there has new_has =
       let same : drawn table ≡ ticket = some_same (drawn table) ticket new_has in
       let waits = (rule.each_fits i view there).ticket_waits ticket has in
@@ -90,7 +94,8 @@ module _ {Value Ground Entry : Type 0} (ground_of : Value → Ground) (entries_o
   drawn_kept : (taken : List (ℕ × Option Value)) → Kept ground_of entries_of (stepped table 0 (drawn table + 1) place taken new keeps)
   drawn_kept taken =
       let three = rule.three_words in
-      kept_by_parts ground_of entries_of rule.common rule.base (drawn table + 1) (served table) (slice_set table.words 0 (drawn table + 1)) table.homes (slice_set table.views place new)
+      kept_by_parts ground_of entries_of rule.common rule.base (drawn table + 1) (served table) (slice_set table.words 0 (drawn table + 1)) table.homes
+      (slice_set table.views place new)
       (length-set table.words 0 (drawn table + 1) ∙ three)
       (get_or-set_same table.words 0 (drawn table + 1) 0 (omega arith))
       (get_or-set_other table.words 0 1 (drawn table + 1) 0 (λ e. omega arith))
@@ -99,7 +104,8 @@ module _ {Value Ground Entry : Type 0} (ground_of : Value → Ground) (entries_o
 
 module _ {Value Ground Entry : Type 0} (ground_of : Value → Ground) (entries_of : Value → List Entry) where
   -- the same at the number that was expected
-  drawn_as_expected : (table : Table Value Ground Entry) (rule : Kept ground_of entries_of table) (place ticket : ℕ) (taken : List (ℕ × Option Value)) (old : View Ground Entry) →
+  drawn_as_expected : (table : Table Value Ground Entry) (rule : Kept ground_of entries_of table) (place ticket : ℕ) (taken : List (ℕ × Option Value))
+      (old : View Ground Entry) →
       IsAt table.views place old → IsIdle old → ticket + 1 < 2 ^ 64 → drawn table ≡ ticket →
       Kept ground_of entries_of (stepped table 0 (ticket + 1) place taken (record old { ticket = Some ticket }) keeps)
   drawn_as_expected table rule place ticket taken old at idle fits is =

@@ -2,7 +2,7 @@
 use Rattle.std.proofs.Common.{◌≡◌, ℕ, true, List, [], ◌∷◌, Option, Some, sym, refl, ap, subst}
 use Rattle.atomic_table.specs.Table.{rest}
 use Rattle.sot_turn.specs.Prefixes.{IsPrefix}
-use Rattle.sot_turn.specs.Views.{Seated}
+use Rattle.sot_turn.specs.Views.{Seated, extended}
 use Rattle.sot_turn.specs.Places.{HasTaken}
 
 module _ {Value Ground Entry : Type 0} (ground_of : Value → Ground) (entries_of : Value → List Entry) (value : Value) where
@@ -23,7 +23,12 @@ module _ {Value Ground Entry : Type 0} (ground_of : Value → Ground) (entries_o
   pub puts_back : (old new : Seated Value Ground Entry) → HasTaken old → old.0.own_ground ≡ Some (ground_of value) → IsPrefix old.0.seen (entries_of value) →
       new ≡ (old.0, (0, Some value) ∷ rest old.1) → HasPutBack new
   puts_back old new taken own goes_on is =
-      subst HasPutBack (sym is) record { turn = taken.0; own = own; slot = ap (λ (slots : List (ℕ × Option Value)). (0, Some value) ∷ rest slots) taken.1; goes_on = goes_on }
+      subst HasPutBack (sym is) record {
+        turn = taken.0;
+        own = own;
+        slot = ap (λ (slots : List (ℕ × Option Value)). (0, Some value) ∷ rest slots) taken.1;
+        goes_on = goes_on;
+      }
 
-  pub has_announced : (old new : Seated Value Ground Entry) → HasPutBack old → new ≡ (record old.0 { seen = entries_of value }, old.1) → HasAnnounced new
+  pub has_announced : (old new : Seated Value Ground Entry) → HasPutBack old → new ≡ (extended old.0 (entries_of value), old.1) → HasAnnounced new
   has_announced old new before is = subst HasAnnounced (sym is) record { turn = before.turn; own = before.own; slot = before.slot; all_seen = refl }

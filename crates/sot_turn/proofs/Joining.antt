@@ -13,14 +13,16 @@ use Rattle.sot_turn.proofs.Parts.{Parts, Fits-idle, kept_by_parts}
 
 module _ {Ground Entry : Type 0} (common : List Entry) (base : Ground) (tickets now : ℕ) where
   -- the view that takes in the other
-  joined_fits : (view other : View Ground Entry) → IsIdle view → IsIdle other → Fits common base tickets now view → Fits common base tickets now other → Fits common base tickets now (joined view other)
+  joined_fits : (view other : View Ground Entry) → IsIdle view → IsIdle other → Fits common base tickets now view → Fits common base tickets now other
+      → Fits common base tickets now (joined view other)
   joined_fits view other idle other_idle fits other_fits =
       let has = has_some view.own_ground idle.2 in
       let other_has = has_some other.own_ground other_idle.2 in
       let both = IsPrefix-longer view.seen other.seen common fits.has_seen other_fits.has_seen in
       Fits-idle common base has.0 tickets now (joined view other) refl refl has.1
       fits.has_ground
-      (subst (λ (own : Option Ground). All (λ kept. kept ≡ base) (list_of own)) (sym other_has.1) (All-one (λ kept. kept ≡ base) other_has.0 (other_fits.has_ground other_has.0 other_has.1)))
+      (subst (λ (own : Option Ground). All (λ kept. kept ≡ base) (list_of own)) (sym other_has.1)
+      (All-one (λ kept. kept ≡ base) other_has.0 (other_fits.has_ground other_has.0 other_has.1)))
       both.0
       (All-two (λ kept. IsPrefix kept (longer view.seen other.seen)) view.seen other.seen both.1 both.2)
 
@@ -45,7 +47,9 @@ module _ {Value Ground Entry : Type 0} (ground_of : Value → Ground) (entries_o
   idle_parts no_ticket no_turn no_ticket_now no_turn_now fits = record {
     drawn_fits = rule.drawn_fits;
     served_at_most_drawn = rule.served_at_most_drawn;
-    each_fits = EachView-set table.views place old new at (Fits rule.common rule.base (drawn table) (served table)) fits (λ i view _ there. rule.each_fits i view there);
+    each_fits =
+        EachView-set table.views place old new at (Fits rule.common rule.base (drawn table) (served table)) fits
+        (λ i view _ there. rule.each_fits i view there);
     distinct = HaveDistinctTickets-kept table.views place old new at rule.distinct (λ ticket its. absurd (some_is_not_none ticket (sym its ∙ no_ticket_now)));
     each_ticket = HaveEachTicket-kept table.views place old new at (served table) (drawn table) rule.each_ticket (no_ticket_now ∙ sym no_ticket);
     home_stands = rule.home_stands;
@@ -67,7 +71,8 @@ module _ {Value Ground Entry : Type 0} (ground_of : Value → Ground) (entries_o
   joins_keep place view other_place other idle other_idle table rule at apart there =
       let both : View Ground Entry = joined view other in
       let was : IsAt table.views other_place other = sym (set_else table.views place other_place both apart) ∙ there in
-      let fits = joined_fits rule.common rule.base (drawn table) (served table) view other idle other_idle (rule.each_fits place view at) (rule.each_fits other_place other was) in
+      let fits = joined_fits rule.common rule.base (drawn table) (served table) view other idle other_idle (rule.each_fits place view at)
+      (rule.each_fits other_place other was) in
       let between : Table Value Ground Entry = record { words = table.words; homes = table.homes; views = slice_set table.views place both } in
       let between_rule : Kept ground_of entries_of between = idle_kept ground_of entries_of table rule place view both at idle.0 idle.1 refl refl fits in
       idle_kept ground_of entries_of between between_rule other_place other spent there other_idle.0 other_idle.1 refl refl
@@ -85,6 +90,7 @@ pub one_ground : {Ground Entry : Type 0} (view other now : View Ground Entry) �
 one_ground {Ground} {Entry} view other now idle other_idle is =
     let has = has_some view.own_ground idle.2 in
     subst
-    (λ (v : View Ground Entry). ((own : Ground) → v.own_ground ≡ Some own → All (λ kept. kept ≡ own) v.kept_grounds) → (v.own_ground ≡ view.own_ground) × (v.own_ground ≡ other.own_ground))
+    (λ (v : View Ground Entry). ((own : Ground) → v.own_ground ≡ Some own → All (λ kept. kept ≡ own) v.kept_grounds)
+    → (v.own_ground ≡ view.own_ground) × (v.own_ground ≡ other.own_ground))
     (sym is)
     (λ told. (refl, has.1 ∙ sym (kept_is_own has.0 other.own_ground other_idle.2 (told has.0 has.1))))

@@ -24,7 +24,9 @@ module _ {Ground Entry : Type 0} (common : List Entry) (base : Ground) (tickets 
     has_ground = fits.has_ground;
     keeps_ground = fits.keeps_ground;
     has_seen = IsPrefix-refl common;
-    keeps_lists = All-map (λ kept. IsPrefix kept old.seen) (λ kept. IsPrefix kept common) (λ kept shorter. IsPrefix-trans kept old.seen common shorter fits.has_seen) old.kept_lists fits.keeps_lists;
+    keeps_lists =
+        All-map (λ kept. IsPrefix kept old.seen) (λ kept. IsPrefix kept common) (λ kept shorter. IsPrefix-trans kept old.seen common shorter fits.has_seen)
+        old.kept_lists fits.keeps_lists;
     ticket_waits = fits.ticket_waits;
     turn_is_served = λ _. ticket;
     turn_has_seen = λ _. refl;
@@ -72,9 +74,11 @@ module _ {Value Ground Entry : Type 0} (ground_of : Value → Ground) (entries_o
   served_kept : (taken : List (ℕ × Option Value)) (value : Value) → length table.homes ≡ 1 → IsSome old.own_ground → entries_of value ≡ rule.common →
       Kept ground_of entries_of (stepped table 1 (served table) place taken (record old { turn = true; seen = entries_of value }) (takes 0 (Some value)))
   served_kept taken value one grounded is =
-      subst (λ (x : List ℕ × List Entry). Kept ground_of entries_of record { words = x.0; homes = slice_set table.homes 0 maybe.none; views = slice_set table.views place (record old { turn = true; seen = x.1 }) })
+      subst (λ (x : List ℕ × List Entry). Kept ground_of entries_of record
+      { words = x.0; homes = slice_set table.homes 0 maybe.none; views = slice_set table.views place (record old { turn = true; seen = x.1 }) })
       (λ i. (sym (set-get_or table.words 1 0) i, sym is i))
-      (kept_by_parts ground_of entries_of rule.common rule.base (drawn table) (served table) table.words (slice_set table.homes 0 maybe.none) (slice_set table.views place new)
+      (kept_by_parts ground_of entries_of rule.common rule.base (drawn table) (served table) table.words (slice_set table.homes 0 maybe.none)
+      (slice_set table.views place new)
       rule.three_words refl refl rule.length_is_announced (served_parts one grounded))
 
 module _ {Value Ground Entry : Type 0} (ground_of : Value → Ground) (entries_of : Value → List Entry) where

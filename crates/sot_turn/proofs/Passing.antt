@@ -1,5 +1,6 @@
 -- Passing the turn keeps the rule.
-use Rattle.std.proofs.Common.{◌≡◌, ◌≢◌, ℕ, ◌+◌, ◌%◌, ◌^◌, ◌<◌, true, false, List, length, slice_set, Option, Some, None, true≢false, sym, refl, ap, ◌∙◌, subst, inr, arith, length-set, get_or-set_other, get_or-set_same, mod-eq_of_lt}
+use Rattle.std.proofs.Common.{◌≡◌, ◌≢◌, ℕ, ◌+◌, ◌%◌, ◌^◌, ◌<◌, true, false, List, length, slice_set, Option, Some, None, true≢false, sym, refl, ap, ◌∙◌, subst}
+use Rattle.std.proofs.Common.{inr, arith, length-set, get_or-set_other, get_or-set_same, mod-eq_of_lt}
 use mathlib.Core.Option as maybe
 use Rattle.atomic_table.specs.Table.{step, gives, put_back, Allows}
 use Rattle.sot_turn.specs.declared.turn.rule.View.{View}
@@ -15,7 +16,8 @@ use Rattle.sot_turn.proofs.Announcing.{nobody_else}
 
 module _ {Ground Entry : Type 0} (common : List Entry) (base : Ground) (tickets now : ℕ) where
   -- another view, whose ticket is not the one that was served
-  other_fits : (view : View Ground Entry) → (view.ticket ≡ Some now → ⊥) → (view.turn ≡ true → ⊥) → Fits common base tickets now view → Fits common base tickets (now + 1) view
+  other_fits : (view : View Ground Entry) → (view.ticket ≡ Some now → ⊥) → (view.turn ≡ true → ⊥) → Fits common base tickets now view
+      → Fits common base tickets (now + 1) view
   other_fits view not_served no_turn fits = record {
     has_ground = fits.has_ground;
     keeps_ground = fits.keeps_ground;
@@ -41,7 +43,8 @@ module _ {Value Ground Entry : Type 0} (ground_of : Value → Ground) (entries_o
 
   passer_fits : Fits rule.common rule.base (drawn table) (served table + 1) new
   passer_fits =
-      Fits-idle rule.common rule.base (ground_of value) (drawn table) (served table + 1) new refl refl has mine.has_ground mine.keeps_ground mine.has_seen mine.keeps_lists
+      Fits-idle rule.common rule.base (ground_of value) (drawn table) (served table + 1) new refl refl has mine.has_ground mine.keeps_ground mine.has_seen
+      mine.keeps_lists
 
   others_fit : (i : ℕ) (view : View Ground Entry) → i ≢ place → IsAt table.views i view → Fits rule.common rule.base (drawn table) (served table + 1) view
   others_fit i view apart there =
@@ -54,7 +57,8 @@ module _ {Value Ground Entry : Type 0} (ground_of : Value → Ground) (entries_o
   value_stands = (mine.has_ground (ground_of value) has, sym all ∙ mine.turn_has_seen turn)
 
   passed_parts : length table.homes ≡ 1 →
-      Parts ground_of entries_of rule.common rule.base (drawn table) (served table + 1) (slice_set table.homes 0 (maybe.some (Some value))) (slice_set table.views place new)
+      Parts ground_of entries_of rule.common rule.base (drawn table) (served table + 1) (slice_set table.homes 0 (maybe.some (Some value)))
+      (slice_set table.views place new)
   passed_parts one =
       let home = IsHome-given table.homes value one in
       let ticket = mine.turn_is_served turn in
@@ -64,7 +68,12 @@ module _ {Value Ground Entry : Type 0} (ground_of : Value → Ground) (entries_o
         each_fits = EachView-set table.views place old new at (Fits rule.common rule.base (drawn table) (served table + 1)) passer_fits others_fit;
         distinct = HaveDistinctTickets-kept table.views place old new at rule.distinct (λ other its. absurd (some_is_not_none other (sym its)));
         each_ticket = HaveEachTicket-set table.views place old new at (served table) (drawn table) (served table + 1) (drawn table) rule.each_ticket
-            (λ other low high. inr (omega arith, high, (λ its. (let same : served table ≡ other = some_same (served table) other (sym ticket ∙ its) in omega arith))));
+            (λ other low high. inr (
+              omega arith,
+              high,
+              (λ its. (let same : served table ≡ other = some_same (served table) other (sym ticket ∙ its) in
+                  omega arith)),
+            ));
         home_stands = λ other is_home.
             (let same = one_at_home (slice_set table.homes 0 (maybe.some (Some value))) value other home is_home in
             (ap ground_of (sym same) ∙ value_stands.0, ap entries_of (sym same) ∙ value_stands.1));
@@ -75,14 +84,19 @@ module _ {Value Ground Entry : Type 0} (ground_of : Value → Ground) (entries_o
       }
 
   passed_kept : length table.homes ≡ 1 →
-      Kept ground_of entries_of record { words = slice_set table.words 1 ((served table + 1) % 2 ^ 64); homes = slice_set table.homes 0 (maybe.some (Some value)); views = slice_set table.views place new }
+      Kept ground_of entries_of record {
+        words = slice_set table.words 1 ((served table + 1) % 2 ^ 64);
+        homes = slice_set table.homes 0 (maybe.some (Some value));
+        views = slice_set table.views place new;
+      }
   passed_kept one =
       let three = rule.three_words in
       let small = rule.drawn_fits in
       let below = (mine.ticket_waits (served table) (mine.turn_is_served turn)).1 in
       let next : ℕ = (served table + 1) % 2 ^ 64 in
       let up : next ≡ served table + 1 = mod-eq_of_lt (let within : served table + 1 < 2 ^ 64 = omega arith in within) in
-      kept_by_parts ground_of entries_of rule.common rule.base (drawn table) (served table + 1) (slice_set table.words 1 next) (slice_set table.homes 0 (maybe.some (Some value))) (slice_set table.views place new)
+      kept_by_parts ground_of entries_of rule.common rule.base (drawn table) (served table + 1) (slice_set table.words 1 next)
+      (slice_set table.homes 0 (maybe.some (Some value))) (slice_set table.views place new)
       (length-set table.words 1 next ∙ three)
       (get_or-set_other table.words 1 0 next 0 (λ e. omega arith))
       (get_or-set_same table.words 1 next 0 (omega arith) ∙ up)
@@ -98,7 +112,8 @@ module _ {Value Ground Entry : Type 0} (ground_of : Value → Ground) (entries_o
         gives,
         tt,
         subst
-            (λ (taken : List (ℕ × Option Value)). Kept ground_of entries_of record { words = slice_set table.words 1 ((served table + 1) % 2 ^ 64); homes = put_back table.homes taken; views = slice_set table.views place new })
+            (λ (taken : List (ℕ × Option Value)). Kept ground_of entries_of record
+            { words = slice_set table.words 1 ((served table + 1) % 2 ^ 64); homes = put_back table.homes taken; views = slice_set table.views place new })
             (sym has.slot)
             (passed_kept ground_of entries_of table rule place me.0 at has.turn value has.own has.all_seen (long ∙ one)),
         refl,

@@ -1,5 +1,6 @@
 -- Prefixes, and facts about all elements of short lists.
-use Rattle.std.proofs.Common.{◌≡◌, zero, suc, ◌<◌, ◌≤◌, Bool, true, false, if◌then◌else◌, List, [], ◌∷◌, ◌++◌, length, All, Option, Some, None, IsSome, nat_lt, slice_index_or, sym, refl, ap, ◌∙◌, arith, append_assoc, append-nil}
+use Rattle.std.proofs.Common.{◌≡◌, zero, suc, ◌<◌, ◌≤◌, Bool, true, false, if◌then◌else◌, List, [], ◌∷◌, ◌++◌, length, All, Option, Some, None, IsSome, nat_lt}
+use Rattle.std.proofs.Common.{slice_index_or, sym, refl, ap, ◌∙◌, arith, append_assoc, append-nil}
 use Rattle.std.proofs.lemmas.Bool.Decides.{nat_tests}
 use Rattle.sot_turn.specs.Prefixes.{IsPrefix}
 use Rattle.sot_turn.specs.Views.{longer}
@@ -27,8 +28,11 @@ module _ {A : Type 0} where
 
   longer_by : (first second whole : List A) (test : Bool) → nat_lt (length first) (length second) ≡ test → IsPrefix first whole → IsPrefix second whole
       → Longer first second whole (if test then second else first)
-  longer_by first second whole true is one two =
-      (two, IsPrefix-shorter first second whole one two (let less : length first < length second = grind (arith, nat_tests) in omega arith), IsPrefix-refl second)
+  longer_by first second whole true is one two = (
+    two,
+    IsPrefix-shorter first second whole one two (let less : length first < length second = grind (arith, nat_tests) in omega arith),
+    IsPrefix-refl second,
+  )
   longer_by first second whole false is one two =
       (one, IsPrefix-refl first, IsPrefix-shorter second first whole two one (let at_most : length second ≤ length first = grind (arith, nat_tests) in at_most))
 

@@ -15,7 +15,8 @@ module _ {Ground Entry : Type 0} (views : List (View Ground Entry)) (added : Vie
       ⊎_elim (others i view) (λ (is : added ≡ view). subst Holds is mine) (at_snoc views added view i there)
 
   -- a view with a ticket was there before, if the added one has none
-  was_there : added.ticket ≡ None → (i ticket : ℕ) (view : View Ground Entry) → IsAt (views ++ added ∷ []) i view → view.ticket ≡ Some ticket → IsAt views i view
+  was_there : added.ticket ≡ None → (i ticket : ℕ) (view : View Ground Entry) → IsAt (views ++ added ∷ []) i view → view.ticket ≡ Some ticket
+      → IsAt views i view
   was_there none i ticket view there has =
       ⊎_elim
       (λ before. before)
@@ -39,7 +40,8 @@ module _ {Value Ground Entry : Type 0} (ground_of : Value → Ground) (entries_o
     drawn_fits = rule.drawn_fits;
     served_at_most_drawn = rule.served_at_most_drawn;
     each_fits = EachView-added table.views new (Fits rule.common rule.base (drawn table) (served table)) new_fits rule.each_fits;
-    distinct = λ i j ticket view other one two its others. rule.distinct i j ticket view other (was i ticket view one its) (was j ticket other two others) its others;
+    distinct =
+        λ i j ticket view other one two its others. rule.distinct i j ticket view other (was i ticket view one its) (was j ticket other two others) its others;
     each_ticket = λ ticket low high.
         (let found = rule.each_ticket ticket low high in (found.0, found.1, at_longer table.views (new ∷ []) found.0 found.1 found.2, found.3));
     home_stands = rule.home_stands;
@@ -48,9 +50,12 @@ module _ {Value Ground Entry : Type 0} (ground_of : Value → Ground) (entries_o
   }
 
 module _ {Value Ground Entry : Type 0} (ground_of : Value → Ground) (entries_of : Value → List Entry) where
-  pub splits_keep : (place : ℕ) (old : View Ground Entry) → IsSome old.own_ground → Splits (Kept ground_of entries_of) place old old (idle old.own_ground old.seen)
+  pub splits_keep : (place : ℕ) (old : View Ground Entry) → IsSome old.own_ground
+      → Splits (Kept ground_of entries_of) place old old (idle old.own_ground old.seen)
   splits_keep place old grounded table rule at =
-      subst (λ (views : List (View Ground Entry)). Kept ground_of entries_of record { words = table.words; homes = table.homes; views = views ++ idle old.own_ground old.seen ∷ [] })
+      subst (λ (views : List (View Ground Entry)). Kept ground_of entries_of record
+      { words = table.words; homes = table.homes; views = views ++ idle old.own_ground old.seen ∷ [] })
       (sym (set_again table.views place old at))
-      (kept_by_parts ground_of entries_of rule.common rule.base (drawn table) (served table) table.words table.homes (table.views ++ idle old.own_ground old.seen ∷ [])
+      (kept_by_parts ground_of entries_of rule.common rule.base (drawn table) (served table) table.words table.homes
+      (table.views ++ idle old.own_ground old.seen ∷ [])
       rule.three_words refl refl rule.length_is_announced (split_parts ground_of entries_of table rule place old at grounded))

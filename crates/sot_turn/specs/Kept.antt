@@ -1,11 +1,13 @@
--- The rule of the lock: what holds between any two steps.
--- Word 0 is the number of tickets drawn, word 1 the ticket that is served, word 2 the length of the value's list. The slot has the value, or nothing while it is out.
+-- The rule of the lock: what holds between any two steps. Word 0 is the number of tickets drawn,
+-- word 1 the ticket that is served, word 2 the length of the value's list. The slot has the value,
+-- or nothing while it is out.
 use Rattle.std.specs.Prelude.{◌≡◌, ℕ, ◌^◌, ◌<◌, ◌≤◌, true, List, length, All, Option, Some, None}
 use mathlib.Core.Option as maybe
 use lib.ListN.{get_elem?}
 use Rattle.sot_turn.specs.declared.turn.rule.View.{View}
 use Rattle.sot_turn.specs.Prefixes.{IsPrefix}
-use Rattle.sot_turn.specs.Views.{Table, drawn, served, announced, spent, EachView, HaveDistinctTickets, HaveEachTicket, HaveOneTurn, NobodyHasTurn}
+use Rattle.sot_turn.specs.Views.{Table, drawn, served, announced, spent, EachView}
+use Rattle.sot_turn.specs.Views.{HaveDistinctTickets, HaveEachTicket, HaveOneTurn, NobodyHasTurn}
 
 -- Slots that are at home, each with what lies there. The lock has one, which is 0.
 abbrev pub Homes : Type 0 → Type 0
@@ -20,7 +22,8 @@ module _ {Value : Type 0} where
   abbrev pub IsOut : Homes Value → Type 0
   IsOut homes = get_elem? homes 0 ≡ maybe.some maybe.none
 
--- What the rule says of one view, by the common list and ground, the number of tickets drawn and the ticket served.
+-- What the rule says of one view, by the common list and ground, the number of tickets drawn and
+-- the ticket served.
 pub record Fits {Ground Entry : Type 0} (common : List Entry) (base : Ground) (tickets now : ℕ)
     (view : View Ground Entry) : Type 0 where
   -- its ground is the common one
@@ -41,7 +44,8 @@ pub record Fits {Ground Entry : Type 0} (common : List Entry) (base : Ground) (t
   pub spent_has_nothing : view.own_ground ≡ None → view ≡ spent
 
 -- The rule, of a value that stands for a ground and a list.
-pub record Kept {Value Ground Entry : Type 0} (ground_of : Value → Ground) (entries_of : Value → List Entry)
+pub record Kept {Value Ground Entry : Type 0} (ground_of : Value → Ground)
+    (entries_of : Value → List Entry)
     (table : Table Value Ground Entry) : Type 0 where
   -- the list of which all seen and kept lists are prefixes
   pub common : List Entry
@@ -58,7 +62,8 @@ pub record Kept {Value Ground Entry : Type 0} (ground_of : Value → Ground) (en
   pub each_ticket : HaveEachTicket table.views (served table) (drawn table)
   pub one_turn : HaveOneTurn table.views
   -- a value at home has the common ground and stands for the common list
-  pub home_stands : (value : Value) → IsHome table.homes value → (ground_of value ≡ base) × (entries_of value ≡ common)
+  pub home_stands : (value : Value) → IsHome table.homes value
+      → (ground_of value ≡ base) × (entries_of value ≡ common)
   -- where no view has the turn, the value is at home
   pub home_unless_turn : NobodyHasTurn table.views → (value : Value) × IsHome table.homes value
   -- while a view has the turn, its seat has the slot

@@ -1,7 +1,7 @@
 -- What contracts say of a lock, a pass and a held value.
 use Rattle.std.specs.Prelude.{List, Option}
 use Rattle.atomic_table.specs.Seated.{TableId}
-use Rattle.sot_turn.specs.declared.journal.Journal.{Ghosts}
+use Rattle.sot_journal.specs.declared.Journal.{Ghosts}
 use Rattle.sot_turn.specs.declared.turn.Turn.{Turn}
 use Rattle.sot_turn.specs.declared.turn.Pass.{Pass}
 use Rattle.sot_turn.specs.declared.turn.Held.{Held}
@@ -23,6 +23,10 @@ module _ {Value Ground Entry : Type 0} {journal : Ghosts Value Ground Entry} whe
   abbrev pub pass_seen : Pass Value Ground Entry journal → List Entry
   pass_seen pass = pass.place.me.0.seen
 
+  -- what its owner has put behind the list
+  abbrev pub pass_added : Pass Value Ground Entry journal → List Entry
+  pass_added pass = pass.place.me.0.added
+
   -- the lock that the held value is of
   abbrev pub held_lock : Held Value Ground Entry journal → TableId
   held_lock held = held.served.place.table_id
@@ -34,6 +38,10 @@ module _ {Value Ground Entry : Type 0} {journal : Ghosts Value Ground Entry} whe
   -- the list that the value had when it was taken
   abbrev pub held_seen : Held Value Ground Entry journal → List Entry
   held_seen held = held.served.place.me.0.seen
+
+  -- what the holder had put behind the list when it took the value
+  abbrev pub held_added : Held Value Ground Entry journal → List Entry
+  held_added held = held.served.place.me.0.added
 
   -- the value as it is now
   abbrev pub held_value : Held Value Ground Entry journal → Value

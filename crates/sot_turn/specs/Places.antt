@@ -20,7 +20,8 @@ IsIdle view = (view.ticket ≡ None) × (view.turn ≡ false) × IsSome view.own
 module _ {Value Ground Entry : Type 0} where
   -- it has drawn the ticket, and has no turn and no slot
   abbrev pub Waits : ℕ → Seated Value Ground Entry → Type 0
-  Waits ticket me = (me.0.ticket ≡ Some ticket) × (me.0.turn ≡ false) × IsSome me.0.own_ground × (me.1 ≡ [])
+  Waits ticket me =
+      (me.0.ticket ≡ Some ticket) × (me.0.turn ≡ false) × IsSome me.0.own_ground × (me.1 ≡ [])
 
   -- it has the turn, and the slot with nothing in it
   abbrev pub HasTaken : Seated Value Ground Entry → Type 0

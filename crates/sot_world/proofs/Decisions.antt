@@ -54,7 +54,9 @@ module _ (p : Tables) (j : ℕ) (typed : IsTyped p) (well : IsWellFormed p j) wh
         h.ac i a plant r at_m at_p (sym (mode_other i ne) ∙ mode) (subst (λ b. IsUntil j b a.period a.offset C.time r) (dm_other i ne) u1))
         (cases_eq i m));
     sc = λ i a plant sc q at_m at_p at_s mode u.
-        let u1 : IsUntil j (is_left C a.sc) sc.period sc.offset C.time q = subst (λ x. IsUntil j (is_left x a.sc) sc.period sc.offset C.time q) s.rest (subst (λ t. IsUntil j (is_left D a.sc) sc.period sc.offset t q) time u) in
+        let u1 : IsUntil j (is_left C a.sc) sc.period sc.offset C.time q =
+        subst (λ x. IsUntil j (is_left x a.sc) sc.period sc.offset C.time q) s.rest (subst (λ t. IsUntil j (is_left D a.sc) sc.period sc.offset t q) time u)
+        in
         let here : AllInside (HeldReach p plant (point_of C a.plant) (commands plant C) q) a.safe.boxes = ⊎_elim
         (λ (was : mode_of C i ≡ Ac).
         let r = until_exists j (is_left_dm C i) a.period a.offset C.time (typed.module_times i a at_m) (h.due_dm i a at_m) in
@@ -65,7 +67,8 @@ module _ (p : Tables) (j : ℕ) (typed : IsTyped p) (well : IsWellFormed p j) wh
         (inside_fewer p plant (IsWithin (input_ranges p plant)) (point_of C a.plant) q (r.0 + a.period + j) a.safe.boxes (omega arith) any))
         (λ (was : mode_of C i ≡ Sc). h.sc i a plant sc q at_m at_p at_s was u1)
         (cases_mode (mode_of C i)) in
-        subst (λ xs. AllInside (HeldReach p plant (point_of D a.plant) (map (λ k. slice_index_or xs k (pos 0)) plant.inputs.items) q) a.safe.boxes) (sym scalars)
+        subst (λ xs. AllInside (HeldReach p plant (point_of D a.plant) (map (λ k. slice_index_or xs k (pos 0)) plant.inputs.items) q) a.safe.boxes)
+        (sym scalars)
         (subst (λ ps. AllInside (HeldReach p plant (slice_index_or ps a.plant []) (commands plant C) q) a.safe.boxes) (sym points) here);
   }
     where

@@ -7,14 +7,16 @@ use Rattle.sot_lists.specs.Places.{At}
 use Rattle.sot_world.specs.Configurations.{Mode, Ac, Sc}
 use Rattle.sot_world.specs.Steps.{allows, allowed_by}
 
-pub allowed_true : (ms : List ModuleInfo) (modes : List Mode) (n m : ℕ) (a : ModuleInfo) → allowed_by ms modes n ≡ true → At ms m a → allows a (slice_index_or modes m Sc) n ≡ true
+pub allowed_true : (ms : List ModuleInfo) (modes : List Mode) (n m : ℕ) (a : ModuleInfo) → allowed_by ms modes n ≡ true → At ms m a
+    → allows a (slice_index_or modes m Sc) n ≡ true
 allowed_true [] modes n m a e at = cc
 allowed_true (b ∷ ms) [] n zero a e at = (let s : b ≡ a = cc in subst (λ x. allows x Sc n ≡ true) s (and_parts _ _ e).0)
 allowed_true (b ∷ ms) [] n (suc m) a e at = allowed_true ms [] n m a (and_parts _ _ e).1 at
 allowed_true (b ∷ ms) (mode ∷ modes) n zero a e at = (let s : b ≡ a = cc in subst (λ x. allows x mode n ≡ true) s (and_parts _ _ e).0)
 allowed_true (b ∷ ms) (mode ∷ modes) n (suc m) a e at = allowed_true ms modes n m a (and_parts _ _ e).1 at
 
-pub allowed_false : (ms : List ModuleInfo) (modes : List Mode) (n : ℕ) → allowed_by ms modes n ≡ false → (m : ℕ) × (a : ModuleInfo) × At ms m a × (allows a (slice_index_or modes m Sc) n ≡ false)
+pub allowed_false : (ms : List ModuleInfo) (modes : List Mode) (n : ℕ) → allowed_by ms modes n ≡ false
+    → (m : ℕ) × (a : ModuleInfo) × At ms m a × (allows a (slice_index_or modes m Sc) n ≡ false)
 allowed_false [] modes n e = cc
 allowed_false (b ∷ ms) [] n e =
     ⊎_elim

@@ -1,5 +1,6 @@
 -- A world's firings are steps of the semantics.
-use Rattle.std.proofs.Common.{◌≡◌, ℕ, zero, suc, ◌-◌, ◌≤◌, ℤ, Bool, true, false, List, [], ◌∷◌, ◌++◌, Option, None, Ok, take, replicate, length, refl, sym, ap, ◌∙◌, subst, arith, length-take-le}
+use Rattle.std.proofs.Common.{◌≡◌, ℕ, zero, suc, ◌-◌, ◌≤◌, ℤ, Bool, true, false, List, [], ◌∷◌, ◌++◌, Option, None, Ok, take, replicate, length, refl, sym, ap}
+use Rattle.std.proofs.Common.{◌∙◌, subst, arith, length-take-le}
 use Rattle.std.specs.Prelude.{slice_index_or, slice_set}
 use Rattle.std.proofs.lemmas.List.{length-map}
 use Rattle.std.proofs.lemmas.Option.{slice_get_within}
@@ -21,7 +22,10 @@ use Rattle.sot_world.specs.Configurations.{Configuration, is_left, locals_of}
 use Rattle.sot_world.specs.Steps.{Fires, CodeFires, GuestFires, is_enabled, published}
 use Rattle.sot_world.specs.Events.{slot_count, outcome_of}
 use Rattle.sot_world.specs.Outcomes.{Recorded, RecordsCode, NodeFired}
+use Rattle.sot_world.specs.declared.outcome.Outcome.{Outcome}
 use Rattle.sot_world.specs.declared.outcome.Outcome.TheVariants as outcome
+use Rattle.sot_world.specs.declared.outcome.Firing.{Firing}
+use Rattle.sot_world.specs.StepOutcomes.{IsFiring}
 use Rattle.sot_code.specs.declared.fired.Fired as code
 use Rattle.sot_world.specs.State.{IsKept}
 use Rattle.sot_world.specs.State as worlds
@@ -42,11 +46,14 @@ module _ (a : Admitted) (C : Configuration) (kept : IsKept a C) where
       there (State k v) has =
           let other = kept.rules.typed.reads_are n node k v at has in
           let below = (kept.rules.nodes n node at).reads_states k v has in
-          let wide = (are_points a C kept).widths k other.0 other.1 in
-          (omega (arith, slice_get_within a.program.plants k other.0 other.1, kept.holds.sizes.points), omega (arith, below, wide, width_at a.program.plants k other.0 other.1))
+          let wide = (are_points a C kept).widths k other.0 other.1 in (
+            omega (arith, slice_get_within a.program.plants k other.0 other.1, kept.holds.sizes.points),
+            omega (arith, below, wide, width_at a.program.plants k other.0 other.1),
+          )
 
   -- a coded node can be run
-  pub may_run : (n : ℕ) (node : NodeInfo) (acts : List Act) → At a.program.nodes n node → IsCoded node acts → Runs a.program n C.scalars C.points (locals_of C n)
+  pub may_run : (n : ℕ) (node : NodeInfo) (acts : List Act) → At a.program.nodes n node → IsCoded node acts
+      → Runs a.program n C.scalars C.points (locals_of C n)
   may_run n node acts at coded =
       let run = code_runs a.program a.cert.jitter kept.rules.typed (well_formed a C kept) C n node acts kept.holds at coded in
       record {
@@ -55,14 +62,17 @@ module _ (a : Admitted) (C : Configuration) (kept : IsKept a C) where
         is = at;
         coded = coded;
         there = reads_there n node at;
-        locals_are = within_length (local_ranges node) (locals_of C n) (kept.holds.locals n node at) ∙ length-map node.locals.items (λ l. let r : Side = record { lo = l.lo; hi = l.hi } in r);
+        locals_are =
+            within_length (local_ranges node) (locals_of C n) (kept.holds.locals n node at)
+            ∙ length-map node.locals.items (λ l. let r : Side = record { lo = l.lo; hi = l.hi } in r);
         fired = run.0;
         runs = run.1;
       }
 
 module _ (p : Tables) (C : Configuration) (n : ℕ) (node : NodeInfo) where
   fires_so :
-      (locals : List ℤ) (draft : List (Option ℤ)) (on : Bool) (left : List Bool) (all : List (List ℤ)) (scalars : List ℤ) → is_left C n ≡ true → on ≡ is_enabled p C n
+      (locals : List ℤ) (draft : List (Option ℤ)) (on : Bool) (left : List Bool) (all : List (List ℤ)) (scalars : List ℤ) → is_left C n ≡ true
+      → on ≡ is_enabled p C n
       → left ≡ slice_set C.left n false → all ≡ slice_set C.locals n locals → scalars ≡ published on p node.writes.items draft C.scalars
       → Fires p n node locals draft C (record C { left = left; locals = all; scalars = scalars })
   fires_so locals draft on left all scalars was on_is l k s = record {
@@ -78,7 +88,8 @@ module _ (p : Tables) (C : Configuration) (n : ℕ) (node : NodeInfo) where
 
   -- a coded node's firing, with its draft in eight slots
   pub code_so :
-      (acts : List Act) (fired : Fired) (slots : List (Option ℤ)) (on : Bool) (left : List Bool) (all : List (List ℤ)) (scalars : List ℤ) → At p.nodes n node → IsCoded node acts
+      (acts : List Act) (fired : Fired) (slots : List (Option ℤ)) (on : Bool) (left : List Bool) (all : List (List ℤ)) (scalars : List ℤ) → At p.nodes n node
+      → IsCoded node acts
       → execution acts (local_ranges node) (write_ranges p node) (reading node C.scalars C.points) (locals_of C n) ≡ Ok fired
       → slots ≡ in_slots fired.draft → is_left C n ≡ true → on ≡ is_enabled p C n
       → left ≡ slice_set C.left n false → all ≡ slice_set C.locals n fired.locals → scalars ≡ published on p node.writes.items slots C.scalars
@@ -91,7 +102,8 @@ module _ (p : Tables) (C : Configuration) (n : ℕ) (node : NodeInfo) where
     fired = fired;
     runs = runs;
     fires = fires_so fired.locals fired.draft on left all scalars was on_is l k
-        (s ∙ ap (λ d. published on p node.writes.items d C.scalars) same ∙ published_padded on p node.writes.items fired.draft (8 - length fired.draft) C.scalars);
+        (s ∙ ap (λ d. published on p node.writes.items d C.scalars) same
+        ∙ published_padded on p node.writes.items fired.draft (8 - length fired.draft) C.scalars);
   }
 
   set_same : (xs : List (List ℤ)) (i : ℕ) → xs ≡ slice_set xs i (slice_index_or xs i [])
@@ -101,7 +113,8 @@ module _ (p : Tables) (C : Configuration) (n : ℕ) (node : NodeInfo) where
 
   -- an external node's firing, of which its own slots alone are published
   pub guest_so :
-      (draft : List (Option ℤ)) (on : Bool) (left : List Bool) (scalars : List ℤ) → At p.nodes n node → node.body ≡ None → length node.writes.items ≤ length draft → is_left C n ≡ true → on ≡ is_enabled p C n
+      (draft : List (Option ℤ)) (on : Bool) (left : List Bool) (scalars : List ℤ) → At p.nodes n node → node.body ≡ None
+      → length node.writes.items ≤ length draft → is_left C n ≡ true → on ≡ is_enabled p C n
       → left ≡ slice_set C.left n false → scalars ≡ published on p node.writes.items draft C.scalars
       → GuestFires p n (take (slot_count p n) draft) C (record C { left = left; scalars = scalars })
   guest_so draft on left scalars at external room was on_is l s =
@@ -116,44 +129,53 @@ module _ (p : Tables) (C : Configuration) (n : ℕ) (node : NodeInfo) where
 
 -- what is recorded of a coded node's firing
 pub code_recorded :
-    (p : Tables) (C : Configuration) (n : ℕ) (node : NodeInfo) (acts : List Act) (fired : Fired) (slots : List (Option ℤ)) (on : Bool) → At p.nodes n node → IsCoded node acts
+    (p : Tables) (C : Configuration) (n : ℕ) (node : NodeInfo) (acts : List Act) (fired : Fired) (slots : List (Option ℤ)) (on : Bool) → At p.nodes n node
+    → IsCoded node acts
     → execution acts (local_ranges node) (write_ranges p node) (reading node C.scalars C.points) (locals_of C n) ≡ Ok fired
     → slots ≡ in_slots fired.draft → on ≡ is_enabled p C n
-    → (r : Recorded) × RecordsCode p n C r × (outcome.Fired slots on ≡ outcome_of r)
+    → (r : Recorded) × RecordsCode p n C r × IsFiring (record { draft = slots; enabled = on }) r
 code_recorded p C n node acts fired slots on at coded runs same on_is = (
   NodeFired fired.draft (is_enabled p C n),
   record { node = node; is = at; acts = acts; coded = coded; fired = fired; runs = runs; recorded = refl },
-  ap (λ d. outcome.Fired d on) same ∙ ap (outcome.Fired (in_slots fired.draft)) on_is,
+  (fired.draft, ap (NodeFired fired.draft) (sym on_is), same),
 )
 
 -- .. and of an external node's
 pub guest_recorded :
-    (p : Tables) (C : Configuration) (n : ℕ) (node : NodeInfo) (draft slots : List (Option ℤ)) (on : Bool) (count : ℕ) → At p.nodes n node → length node.writes.items ≤ length draft
+    (p : Tables) (C : Configuration) (n : ℕ) (node : NodeInfo) (draft slots : List (Option ℤ)) (on : Bool) (count : ℕ) → At p.nodes n node
+    → length node.writes.items ≤ length draft
     → count ≡ length node.writes.items → slots ≡ take count draft ++ replicate (8 - count) None → on ≡ is_enabled p C n
-    → outcome.Fired slots on ≡ outcome_of (NodeFired (take (slot_count p n) draft) (is_enabled p C n))
+    → IsFiring (record { draft = slots; enabled = on }) (NodeFired (take (slot_count p n) draft) (is_enabled p C n))
 guest_recorded p C n node draft slots on count at room counts same on_is =
     let k : slot_count p n ≡ count = slots_of p n node at ∙ sym counts in
     let size : length (take (slot_count p n) draft) ≡ count = length-take-le (slot_count p n) draft (omega (arith, k, counts, room)) ∙ k in
     let own : slots ≡ take (slot_count p n) draft ++ replicate (8 - length (take (slot_count p n) draft)) None =
     same ∙ ap (λ i. take i draft ++ replicate (8 - count) None) (sym k) ∙ ap (λ i. take (slot_count p n) draft ++ replicate (8 - i) None) (sym size) in
-    ap (λ d. outcome.Fired d on) own ∙ ap (outcome.Fired (take (slot_count p n) draft ++ replicate (8 - length (take (slot_count p n) draft)) None)) on_is
+    (take (slot_count p n) draft, ap (NodeFired (take (slot_count p n) draft)) (sym on_is), own)
+
+-- the outcome that has the parts of a firing
+pub firing_outcome : (firing : Firing) (r : Recorded) (o : Outcome) → o ≡ outcome.Fired firing.draft firing.enabled → IsFiring firing r → o ≡ outcome_of r
+firing_outcome firing r o is (draft, recorded, slots) = is ∙ ap (λ d. outcome.Fired d firing.enabled) slots ∙ sym (ap outcome_of recorded)
 
 -- the same numbers and points, and the same program
 pub runs_along : (p q : Tables) (n : ℕ) (s t : List ℤ) (x y : List (List ℤ)) (k l : List ℤ) → p ≡ q → s ≡ t → x ≡ y → k ≡ l → Runs q n t y l → Runs p n s x k
 runs_along p q n s t x y k l a b d e runs =
     subst (λ z. Runs z n s x k) (sym a) (subst (λ z. Runs q n z x k) (sym b) (subst (λ z. Runs q n t z k) (sym d) (subst (λ z. Runs q n t y z) (sym e) runs)))
 
-pub run_along : (p q : Tables) (n : ℕ) (s t : List ℤ) (x y : List (List ℤ)) (k l : List ℤ) (f : code.Fired) → p ≡ q → s ≡ t → x ≡ y → k ≡ l → IsRun p n s x k f → IsRun q n t y l f
+pub run_along : (p q : Tables) (n : ℕ) (s t : List ℤ) (x y : List (List ℤ)) (k l : List ℤ) (f : code.Fired) → p ≡ q → s ≡ t → x ≡ y → k ≡ l → IsRun p n s x k f
+    → IsRun q n t y l f
 run_along p q n s t x y k l f a b d e run =
     subst (λ z. IsRun q n t y z f) e (subst (λ z. IsRun q n t z k f) d (subst (λ z. IsRun q n z x k f) b (subst (λ z. IsRun z n s x k f) a run)))
 
 -- what is published, of the same program, scalars and numbers
-pub published_along : (on : Bool) (p q : Tables) (ws vs : List ℕ) (draft : List (Option ℤ)) (s t r : List ℤ) → p ≡ q → ws ≡ vs → s ≡ t → r ≡ published on p ws draft s → r ≡ published on q vs draft t
+pub published_along : (on : Bool) (p q : Tables) (ws vs : List ℕ) (draft : List (Option ℤ)) (s t r : List ℤ) → p ≡ q → ws ≡ vs → s ≡ t
+    → r ≡ published on p ws draft s → r ≡ published on q vs draft t
 published_along on p q ws vs draft s t r a b d is =
     is ∙ ap (λ z. published on z ws draft s) a ∙ ap (λ z. published on q z draft s) b ∙ ap (published on q vs draft) d
 
 -- an external node's firing from a state that is another one's
 pub guest_along :
-    (s t : worlds.State) (n : ℕ) (draft : List (Option ℤ)) (D : Configuration) → s ≡ t → GuestFires s.accepted.program n (take (slot_count s.accepted.program n) draft) s.at D
+    (s t : worlds.State) (n : ℕ) (draft : List (Option ℤ)) (D : Configuration) → s ≡ t
+    → GuestFires s.accepted.program n (take (slot_count s.accepted.program n) draft) s.at D
     → GuestFires t.accepted.program n (take (slot_count t.accepted.program n) draft) t.at D
 guest_along s t n draft D same step = subst (λ x. GuestFires x.accepted.program n (take (slot_count x.accepted.program n) draft) x.at D) same step

@@ -1,5 +1,6 @@
 -- The invariant holds after a firing.
-use Rattle.std.proofs.Common.{◌≡◌, ℕ, ◌+◌, ◌<◌, ◌≤◌, ℤ, pos, Bool, true, false, inl, inr, ⊎_elim, List, [], Option, Some, length, refl, sym, ap, ◌∙◌, subst, arith}
+use Rattle.std.proofs.Common.{◌≡◌, ℕ, ◌+◌, ◌<◌, ◌≤◌, ℤ, pos, Bool, true, false, inl, inr, ⊎_elim, List, [], Option, Some, length, refl, sym, ap, ◌∙◌, subst}
+use Rattle.std.proofs.Common.{arith}
 use Rattle.std.specs.Prelude.{slice_index_or, slice_set}
 use Rattle.std.proofs.lemmas.Bool.{cases_Bool, cases_eq, false≢true}
 use Rattle.std.proofs.lemmas.List.{get_or-set_same, get_or-set_other, length-set}
@@ -31,13 +32,16 @@ use Rattle.sot_world.proofs.Modes.{same_module, left_same, left_none, scalars_le
 use Rattle.sot_world.proofs.Safety.{in_safe, meets}
 use Rattle.sot_tube.proofs.ByScalars.{composed_by_scalars}
 
-published_within : (p : Tables) (b : Bool) (ws : List ℕ) (draft : List (Option ℤ)) (xs : List ℤ) → IsWithin (scalar_ranges p) xs → IsWithin (scalar_ranges p) (published b p ws draft xs)
+published_within : (p : Tables) (b : Bool) (ws : List ℕ) (draft : List (Option ℤ)) (xs : List ℤ) → IsWithin (scalar_ranges p) xs
+    → IsWithin (scalar_ranges p) (published b p ws draft xs)
 published_within p true ws draft xs w = publish_within p ws draft xs w
 published_within p false ws draft xs w = w
 
 module _ (p : Tables) (j : ℕ) (typed : IsTyped p) (well : IsWellFormed p j) where
   -- a plant takes none of its inputs from an enabled node other than its module's safe node, in mode Sc
-  other_inputs : (C : Configuration) (n : ℕ) (node : NodeInfo) (draft : List (Option ℤ)) (m : ℕ) (a : ModuleInfo) (plant : PlantInfo) (sc : NodeInfo) → At p.nodes n node → At p.modules m a → At p.plants a.plant plant → At p.nodes a.sc sc → mode_of C m ≡ Sc → (a.sc ≡ n → ⊥) → (b : Bool) → is_enabled p C n ≡ b → (k : ℕ) → Has plant.inputs.items k → slice_index_or (published b p node.writes.items draft C.scalars) k (pos 0) ≡ number_of C k
+  other_inputs : (C : Configuration) (n : ℕ) (node : NodeInfo) (draft : List (Option ℤ)) (m : ℕ) (a : ModuleInfo) (plant : PlantInfo) (sc : NodeInfo)
+      → At p.nodes n node → At p.modules m a → At p.plants a.plant plant → At p.nodes a.sc sc → mode_of C m ≡ Sc → (a.sc ≡ n → ⊥) → (b : Bool)
+      → is_enabled p C n ≡ b → (k : ℕ) → Has plant.inputs.items k → slice_index_or (published b p node.writes.items draft C.scalars) k (pos 0) ≡ number_of C k
   other_inputs C n node draft m a plant sc at_n at_m at_p at_s mode ne false e k has = refl
   other_inputs C n node draft m a plant sc at_n at_m at_p at_s mode ne true e k has =
       ⊎_elim
@@ -64,7 +68,8 @@ module _ (p : Tables) (j : ℕ) (typed : IsTyped p) (well : IsWellFormed p j) wh
   fires_hold :
       (C D : Configuration) → KeepsInvariant p j C → (n : ℕ) (node : NodeInfo) (locals : List ℤ) (draft : List (Option ℤ)) →
       At p.nodes n node → Fires p n node locals draft C D → IsWithin (local_ranges node) locals →
-      ((m : ℕ) (a : ModuleInfo) (plant : PlantInfo) → At p.modules m a → At p.plants a.plant plant → a.sc ≡ n → mode_of C m ≡ Sc → is_enabled p C n ≡ true → IsWithin (scalar_ranges p) D.scalars → AllInside (HeldReach p plant (point_of C a.plant) (commands plant D) (node.period + j)) a.safe.boxes) →
+      ((m : ℕ) (a : ModuleInfo) (plant : PlantInfo) → At p.modules m a → At p.plants a.plant plant → a.sc ≡ n → mode_of C m ≡ Sc → is_enabled p C n ≡ true
+      → IsWithin (scalar_ranges p) D.scalars → AllInside (HeldReach p plant (point_of C a.plant) (commands plant D) (node.period + j)) a.safe.boxes) →
       KeepsInvariant p j D
   fires_hold C D h n node locals draft at_n f within safe = record {
     scalars = scalars_in;
@@ -81,9 +86,12 @@ module _ (p : Tables) (j : ℕ) (typed : IsTyped p) (well : IsWellFormed p j) wh
         (λ e. absurd (false≢true (sym (left_now i e) ∙ is)))
         (λ ne. subst (λ t. IsStillDue j other.period other.offset t) (sym f.time) (h.due i other at (sym (left_other i ne) ∙ is)))
         (cases_eq i n);
-    due_dm = λ m a at is. subst (λ t. IsStillDue j a.period a.offset t) (sym f.time) (h.due_dm m a at (ap (λ l. slice_index_or l m false) (sym f.left_dm) ∙ is));
+    due_dm =
+        λ m a at is. subst (λ t. IsStillDue j a.period a.offset t) (sym f.time) (h.due_dm m a at (ap (λ l. slice_index_or l m false) (sym f.left_dm) ∙ is));
     ac = λ m a plant r at_m at_p mode u.
-        let u' : IsUntil j (is_left_dm C m) a.period a.offset C.time r = subst (λ l. IsUntil j (slice_index_or l m false) a.period a.offset C.time r) f.left_dm (subst (λ t. IsUntil j (is_left_dm D m) a.period a.offset t r) f.time u) in
+        let u' : IsUntil j (is_left_dm C m) a.period a.offset C.time r =
+        subst (λ l. IsUntil j (slice_index_or l m false) a.period a.offset C.time r) f.left_dm
+        (subst (λ t. IsUntil j (is_left_dm D m) a.period a.offset t r) f.time u) in
         let r' = h.ac m a plant r at_m at_p (ap (λ l. slice_index_or l m Sc) (sym f.modes) ∙ mode) u' in
         subst (λ ps. AllInside (AnyReach p plant (slice_index_or ps a.plant []) (r + a.period + j)) a.safe.boxes) (sym f.points) r';
     sc = λ m a plant sc q at_m at_p at_s mode u.
@@ -94,7 +102,8 @@ module _ (p : Tables) (j : ℕ) (typed : IsTyped p) (well : IsWellFormed p j) wh
         (λ (ne : a.sc ≡ n → ⊥).
         let u2 : IsUntil j (is_left C a.sc) sc.period sc.offset C.time q = subst (λ b. IsUntil j b sc.period sc.offset C.time q) (left_other a.sc ne) u1 in
         let same : commands plant C ≡ commands plant D = map_same (number_of C) (number_of D) plant.inputs.items (λ k has.
-        sym (ap (λ xs. slice_index_or xs k (pos 0)) f.scalars ∙ other_inputs C n node draft m a plant sc at_n at_m at_p at_s mode' ne (is_enabled p C n) refl k has)) in
+        sym (ap (λ xs. slice_index_or xs k (pos 0)) f.scalars ∙ other_inputs C n node draft m a plant sc at_n at_m at_p at_s mode' ne (is_enabled p C n) refl k
+        has)) in
         subst (λ c. AllInside (HeldReach p plant (point_of C a.plant) c q) a.safe.boxes) same (h.sc m a plant sc q at_m at_p at_s mode' u2))
         (cases_eq a.sc n) in
         subst (λ ps. AllInside (HeldReach p plant (slice_index_or ps a.plant []) (commands plant D) q) a.safe.boxes) (sym f.points) there;
@@ -115,19 +124,24 @@ module _ (p : Tables) (j : ℕ) (typed : IsTyped p) (well : IsWellFormed p j) wh
           (λ (e : i ≡ n).
           let same : other ≡ node = at_same p.nodes n other node (subst (λ k. At p.nodes k other) e at) at_n in
           let lt : n < length C.locals = omega (arith, slice_get_within p.nodes n node at_n, h.sizes.locals) in
-          let new : slice_index_or (slice_set C.locals n locals) i [] ≡ locals = ap (λ k. slice_index_or (slice_set C.locals n locals) k []) e ∙ get_or-set_same C.locals n locals [] lt in
-          subst (λ o. IsWithin (local_ranges o) (slice_index_or (slice_set C.locals n locals) i [])) (sym same) (subst (IsWithin (local_ranges node)) (sym new) within))
+          let new : slice_index_or (slice_set C.locals n locals) i [] ≡ locals = ap (λ k. slice_index_or (slice_set C.locals n locals) k []) e
+          ∙ get_or-set_same C.locals n locals [] lt in
+          subst (λ o. IsWithin (local_ranges o) (slice_index_or (slice_set C.locals n locals) i [])) (sym same)
+          (subst (IsWithin (local_ranges node)) (sym new) within))
           (λ (ne : i ≡ n → ⊥). subst (IsWithin (local_ranges other)) (sym (get_or-set_other C.locals n i locals [] ne)) (h.locals i other at))
           (cases_eq i n))
 
-      mine : (m : ℕ) (a : ModuleInfo) (plant : PlantInfo) (sc : NodeInfo) (q : ℕ) → At p.modules m a → At p.plants a.plant plant → At p.nodes a.sc sc → mode_of C m ≡ Sc → IsUntil j (is_left D a.sc) sc.period sc.offset C.time q → a.sc ≡ n → AllInside (HeldReach p plant (point_of C a.plant) (commands plant D) q) a.safe.boxes
+      mine : (m : ℕ) (a : ModuleInfo) (plant : PlantInfo) (sc : NodeInfo) (q : ℕ) → At p.modules m a → At p.plants a.plant plant → At p.nodes a.sc sc
+          → mode_of C m ≡ Sc → IsUntil j (is_left D a.sc) sc.period sc.offset C.time q → a.sc ≡ n
+          → AllInside (HeldReach p plant (point_of C a.plant) (commands plant D) q) a.safe.boxes
       mine m a plant sc q at_m at_p at_s mode u e =
           let same : sc ≡ node = at_same p.nodes n sc node (subst (λ k. At p.nodes k sc) e at_s) at_n in
           let bound : q ≤ sc.period + j = until_bound j (is_left D a.sc) sc.period sc.offset C.time q (typed.node_times a.sc sc at_s) u in
           let per : sc.period ≡ node.period = ap (λ x. x.period) same in
           ⊎_elim
           (λ on.
-          inside_fewer p plant (λ d. d ≡ commands plant D) (point_of C a.plant) q (node.period + j) a.safe.boxes (omega (arith, bound, per)) (safe m a plant at_m at_p e mode on scalars_in))
+          inside_fewer p plant (λ d. d ≡ commands plant D) (point_of C a.plant) q (node.period + j) a.safe.boxes (omega (arith, bound, per))
+          (safe m a plant at_m at_p e mode on scalars_in))
           (λ off.
           let o = allowed_false p.modules C.modes n off in
           ⊎_elim
@@ -145,13 +159,18 @@ module _ (p : Tables) (j : ℕ) (typed : IsTyped p) (well : IsWellFormed p j) wh
   -- a coded node's firing
   pub code_holds : (C D : Configuration) (n : ℕ) → KeepsInvariant p j C → CodeFires p n C D → KeepsInvariant p j D
   code_holds C D n h s =
-      let within : IsWithin (local_ranges s.node) s.fired.locals = exec_locals s.acts (local_ranges s.node) (write_ranges p s.node) (reading s.node C.scalars C.points) (locals_of C n) s.fired (h.locals n s.node s.is) s.runs in
+      let within : IsWithin (local_ranges s.node) s.fired.locals =
+      exec_locals s.acts (local_ranges s.node) (write_ranges p s.node) (reading s.node C.scalars C.points) (locals_of C n) s.fired (h.locals n s.node s.is)
+      s.runs in
       fires_hold C D h n s.node s.fired.locals s.fired.draft s.is s.fires within (λ m a plant at_m at_p e mode on scalars_in.
       let at_s : At p.nodes a.sc s.node = subst (λ k. At p.nodes k s.node) (sym e) s.is in
       let c_in : IsWithin (input_ranges p plant) (commands plant D) = within_picked (scalar_ranges p) D.scalars plant.inputs.items scalars_in in
-      let agrees : (i k l : ℕ) (z : ℤ) → At s.node.writes.items i l → At plant.inputs.items k l → At s.fired.draft i (Some z) → At (commands plant D) k z = λ i k l z at_w at_i at_d.
-      let r = exec_draft s.acts (local_ranges s.node) (write_ranges p s.node) (reading s.node C.scalars C.points) (locals_of C n) s.fired (h.locals n s.node s.is) s.runs i z at_d in
-      let range_is : r.0 ≡ range_of p.scalars l = at_same (write_ranges p s.node) i r.0 (range_of p.scalars l) r.1 (at_map (range_of p.scalars) s.node.writes.items i l at_w) in
+      let agrees : (i k l : ℕ) (z : ℤ) → At s.node.writes.items i l → At plant.inputs.items k l → At s.fired.draft i (Some z)
+      → At (commands plant D) k z = λ i k l z at_w at_i at_d.
+      let r = exec_draft s.acts (local_ranges s.node) (write_ranges p s.node) (reading s.node C.scalars C.points) (locals_of C n) s.fired
+      (h.locals n s.node s.is) s.runs i z at_d in
+      let range_is : r.0 ≡ range_of p.scalars l = at_same (write_ranges p s.node) i r.0 (range_of p.scalars l) r.1
+      (at_map (range_of p.scalars) s.node.writes.items i l at_w) in
       let z_in : IsIn (range_of p.scalars l) z = subst (λ x. IsIn x z) range_is r.2 in
       let lt : l < length C.scalars = omega (arith, typed.inside n s.node l s.is (i, at_w), h.sizes.scalars) in
       let set : number_of D l ≡ z =
@@ -159,7 +178,8 @@ module _ (p : Tables) (j : ℕ) (typed : IsTyped p) (well : IsWellFormed p j) wh
       ∙ ap (λ b. slice_index_or (published b p s.node.writes.items s.fired.draft C.scalars) l (pos 0)) on
       ∙ publish_set p s.node.writes.items s.fired.draft C.scalars i l z (λ x y w at_x at_y. typed.once n s.node x y w s.is at_x at_y) at_w at_d z_in lt in
       at_map (number_of D) plant.inputs.items k l at_i ∙ ap Some set in
-      well.safe_holds m a plant s.node s.acts at_m at_p at_s s.coded (point_of C a.plant) C.scalars C.points (locals_of C n) s.fired (commands plant D) (in_safe p j typed well C h m a plant at_m at_p) refl (meets p j typed well C n s.node h s.is) s.runs c_in agrees)
+      well.safe_holds m a plant s.node s.acts at_m at_p at_s s.coded (point_of C a.plant) C.scalars C.points (locals_of C n) s.fired (commands plant D)
+      (in_safe p j typed well C h m a plant at_m at_p) refl (meets p j typed well C n s.node h s.is) s.runs c_in agrees)
 
   -- an external node's firing
   pub guest_holds : (C D : Configuration) (n : ℕ) (draft : List (Option ℤ)) → KeepsInvariant p j C → GuestFires p n draft C D → KeepsInvariant p j D

@@ -22,7 +22,8 @@ module _ (p : Tables) (j : ℕ) (typed : IsTyped p) (well : IsWellFormed p j) wh
   step_holds C D (Decide m) h s = decides_hold p j typed well C D m h s
   step_holds C D (Tick noise) h s = ticks_hold p j typed well C D noise h s
 
-  pub run_holds : (C : Configuration) (es : List Event) (Ds : List Configuration) → KeepsInvariant p j C → Run p j C es Ds → (i : ℕ) (D : Configuration) → At (C ∷ Ds) i D → KeepsInvariant p j D
+  pub run_holds : (C : Configuration) (es : List Event) (Ds : List Configuration) → KeepsInvariant p j C → Run p j C es Ds → (i : ℕ) (D : Configuration)
+      → At (C ∷ Ds) i D → KeepsInvariant p j D
   run_holds C es Ds h r zero D at = subst (KeepsInvariant p j) (same_Some C D at) h
   run_holds C [] [] h r (suc i) D at = cc
   run_holds C (e ∷ es) (next ∷ Ds) h r (suc i) D at = run_holds next es Ds (step_holds C next e h r.0) r.1 i D at

@@ -33,15 +33,18 @@ module _ (p : Tables) (j : ℕ) (typed : IsTyped p) (well : IsWellFormed p j) wh
     due_dm = λ m a at is. subst (λ t. IsStillDue j a.period a.offset t) (sym time) (h.due_dm m a at (ap (λ x. is_left_dm x m) (sym s.rest) ∙ is));
     ac = λ m a plant r at_m at_p mode u.
         let u' : IsUntil j (is_left_dm C m) a.period a.offset C.time r = subst (λ x. IsUntil j (is_left_dm x m) a.period a.offset x.time r) s.rest u in
-        subst (λ ps. AllInside (AnyReach p plant (slice_index_or ps a.plant []) (r + a.period + j)) a.safe.boxes) (sym points) (h.ac m a plant r at_m at_p (ap (λ x. mode_of x m) (sym s.rest) ∙ mode) u');
+        subst (λ ps. AllInside (AnyReach p plant (slice_index_or ps a.plant []) (r + a.period + j)) a.safe.boxes) (sym points)
+        (h.ac m a plant r at_m at_p (ap (λ x. mode_of x m) (sym s.rest) ∙ mode) u');
     sc = λ m a plant sc q at_m at_p at_s mode u.
         let u' : IsUntil j (is_left C a.sc) sc.period sc.offset C.time q = subst (λ x. IsUntil j (is_left x a.sc) sc.period sc.offset x.time q) s.rest u in
         let same : commands plant C ≡ commands plant D = map_same (number_of C) (number_of D) plant.inputs.items (λ k has.
         sym (ap (λ xs. slice_index_or xs k (pos 0)) s.scalars
         ∙ write_other s.info.first value C.scalars k (λ i lt e.
-        typed.outside a.sc sc topic i s.info at_s s.is s.outside (omega (arith, s.size)) (rw (← e) ((composed_by_scalars p typed well.composed).own_inputs m a plant sc has.0 k at_m at_p at_s has.1))))) in
+        typed.outside a.sc sc topic i s.info at_s s.is s.outside (omega (arith, s.size))
+        (rw (← e) ((composed_by_scalars p typed well.composed).own_inputs m a plant sc has.0 k at_m at_p at_s has.1))))) in
         subst (λ c. AllInside (HeldReach p plant (point_of D a.plant) c q) a.safe.boxes) same
-        (subst (λ ps. AllInside (HeldReach p plant (slice_index_or ps a.plant []) (commands plant C) q) a.safe.boxes) (sym points) (h.sc m a plant sc q at_m at_p at_s (ap (λ x. mode_of x m) (sym s.rest) ∙ mode) u'));
+        (subst (λ ps. AllInside (HeldReach p plant (slice_index_or ps a.plant []) (commands plant C) q) a.safe.boxes) (sym points)
+        (h.sc m a plant sc q at_m at_p at_s (ap (λ x. mode_of x m) (sym s.rest) ∙ mode) u'));
   }
     where
       time : D.time ≡ C.time

@@ -38,7 +38,9 @@ module _ (g : Global) where
   }
 
   pub no_stay : Step (line1 g) 0 (deciding 12 Ac (pos 20)) (Decide 0) (record (deciding 12 Ac (pos 20)) { left_dm = false ∷ [] }) → ⊥
-  no_stay d = ⊎_elim (λ s. absurd (sc_not_ac (sym s.0))) (λ k. (kept_at_12 g).1 (subst (λ a. Keeps (line1 g) 0 a (point_of (deciding 12 Ac (pos 20)) a.plant)) (sym (same_Some (nav g) d.module_info d.is)) k.1)) (d.mode.0 refl)
+  no_stay d =
+      ⊎_elim (λ s. absurd (sc_not_ac (sym s.0))) (λ k. (kept_at_12 g).1
+      (subst (λ a. Keeps (line1 g) 0 a (point_of (deciding 12 Ac (pos 20)) a.plant)) (sym (same_Some (nav g) d.module_info d.is)) k.1)) (d.mode.0 refl)
 
   -- 16 is not in the safer region
   pub stays_sc : Step (line1 g) 0 (deciding 16 Sc (pos 16)) (Decide 0) (record (deciding 16 Sc (pos 16)) { left_dm = false ∷ [] })
@@ -48,7 +50,11 @@ module _ (g : Global) where
     was_left = refl;
     left_dm = refl;
     modes = refl;
-    mode = ((λ e. absurd (sc_not_ac e)), (λ o. ⊎_elim (λ s. ⊎_elim (λ w. absurd (omega (arith, ints, w.1))) (λ no'. absurd no') s.1) (λ k. absurd (sc_not_ac k.0)) o));
+    mode = (
+      (λ e. absurd (sc_not_ac e)),
+      (λ o. ⊎_elim (λ s. ⊎_elim (λ w. absurd (omega (arith, ints, w.1))) (λ no'. absurd no') s.1) (λ k. absurd (sc_not_ac k.0))
+          o),
+    );
     rest = refl;
   }
 

@@ -27,7 +27,9 @@ module _ (g : Global) where
   pub opens : IsOpening (line g) ((pos 0 ∷ []) ∷ []) at_opening
   opens = record {
     time = refl;
-    left = at_two (λ n node. (is_left at_opening n ≡ true) ↔ IsDue node.period node.offset 0) (fast g) (slow g) ((λ e. (omega arith, refl)), (λ d. refl)) ((λ e. (omega arith, refl)), (λ d. refl));
+    left =
+        at_two (λ n node. (is_left at_opening n ≡ true) ↔ IsDue node.period node.offset 0) (fast g) (slow g) ((λ e. (omega arith, refl)), (λ d. refl))
+        ((λ e. (omega arith, refl)), (λ d. refl));
     left_dm = at_one (λ m a. (is_left_dm at_opening m ≡ true) ↔ IsDue a.period a.offset 0) (nav g) ((λ e. (omega arith, refl)), (λ d. refl));
     modes = refl;
     scalars = refl;
@@ -62,13 +64,34 @@ module _ (g : Global) where
   decides_once D s = false≢true s.was_left
 
   pub takes_2 : Step (line g) 0 decided (Guest 0 (Some (pos 2) ∷ [])) drafted
-  takes_2 = record { node = fast g; is = refl; external = refl; slots = refl; fires = record { was_left = refl; time = refl; left = refl; left_dm = refl; modes = refl; points = refl; locals_set = refl; scalars = refl } }
+  takes_2 =
+      record {
+        node = fast g;
+        is = refl;
+        external = refl;
+        slots = refl;
+        fires = record { was_left = refl; time = refl; left = refl; left_dm = refl; modes = refl; points = refl; locals_set = refl; scalars = refl };
+      }
 
   pub refuses_7 : Step (line g) 0 decided (Guest 0 (Some (pos 7) ∷ [])) refused
-  refuses_7 = record { node = fast g; is = refl; external = refl; slots = refl; fires = record { was_left = refl; time = refl; left = refl; left_dm = refl; modes = refl; points = refl; locals_set = refl; scalars = refl } }
+  refuses_7 =
+      record {
+        node = fast g;
+        is = refl;
+        external = refl;
+        slots = refl;
+        fires = record { was_left = refl; time = refl; left = refl; left_dm = refl; modes = refl; points = refl; locals_set = refl; scalars = refl };
+      }
 
   pub blank : Step (line g) 0 decided (Guest 0 (None ∷ [])) refused
-  blank = record { node = fast g; is = refl; external = refl; slots = refl; fires = record { was_left = refl; time = refl; left = refl; left_dm = refl; modes = refl; points = refl; locals_set = refl; scalars = refl } }
+  blank =
+      record {
+        node = fast g;
+        is = refl;
+        external = refl;
+        slots = refl;
+        fires = record { was_left = refl; time = refl; left = refl; left_dm = refl; modes = refl; points = refl; locals_set = refl; scalars = refl };
+      }
 
   pub fires_once : (D : Configuration) → Step (line g) 0 drafted (Guest 0 (Some (pos 2) ∷ [])) D → ⊥
   fires_once D s = false≢true s.fires.was_left
@@ -99,12 +122,29 @@ module _ (g : Global) where
 
   pub idle_recorded : Records (line g) drafted (Code 1) settled (NodeFired (Some (pos 0) ∷ []) false)
   unfolding execution
-  idle_recorded = record { node = slow g; is = refl; acts = slow_acts g; coded = (_, refl, refl); fired = record { locals = []; draft = Some (pos 0) ∷ [] }; runs = refl; recorded = refl }
+  idle_recorded =
+      record {
+        node = slow g;
+        is = refl;
+        acts = slow_acts g;
+        coded = (_, refl, refl);
+        fired = record { locals = []; draft = Some (pos 0) ∷ [] };
+        runs = refl;
+        recorded = refl;
+      }
 
   pub advanced_idle : Step (line g) 0 braking (Guest 0 (Some (pos 2) ∷ [])) (record braking { left = false ∷ true ∷ [] })
-  advanced_idle = record { node = fast g; is = refl; external = refl; slots = refl; fires = record { was_left = refl; time = refl; left = refl; left_dm = refl; modes = refl; points = refl; locals_set = refl; scalars = refl } }
+  advanced_idle =
+      record {
+        node = fast g;
+        is = refl;
+        external = refl;
+        slots = refl;
+        fires = record { was_left = refl; time = refl; left = refl; left_dm = refl; modes = refl; points = refl; locals_set = refl; scalars = refl };
+      }
 
-  pub advanced_recorded : Records (line g) braking (Guest 0 (Some (pos 2) ∷ [])) (record braking { left = false ∷ true ∷ [] }) (NodeFired (Some (pos 2) ∷ []) false)
+  pub advanced_recorded : Records (line g) braking (Guest 0 (Some (pos 2) ∷ [])) (record braking { left = false ∷ true ∷ [] })
+      (NodeFired (Some (pos 2) ∷ []) false)
   advanced_recorded = refl
 
   pub brakes : Step (line g) 0 braking (Code 1) (record braking { left = true ∷ false ∷ []; scalars = negsuc 1 ∷ [] })
@@ -149,8 +189,12 @@ module _ (g : Global) where
 
   pub none_left : (C : Configuration) → C.left ≡ false ∷ false ∷ [] → C.left_dm ≡ false ∷ [] → MayTick (line g) 0 C
   none_left C l m = record {
-    nodes = λ n node d at is. absurd (at_two (λ n node. slice_index_or C.left n false ≡ true → ⊥) (fast g) (slow g) (λ e. false≢true (sym (ap (λ x. slice_index_or x 0 false) l) ∙ e)) (λ e. false≢true (sym (ap (λ x. slice_index_or x 1 false) l) ∙ e)) n node at is);
-    modules = λ k a d at is. absurd (at_one (λ k a. slice_index_or C.left_dm k false ≡ true → ⊥) (nav g) (λ e. false≢true (sym (ap (λ x. slice_index_or x 0 false) m) ∙ e)) k a at is);
+    nodes =
+        λ n node d at is. absurd (at_two (λ n node. slice_index_or C.left n false ≡ true → ⊥) (fast g) (slow g)
+        (λ e. false≢true (sym (ap (λ x. slice_index_or x 0 false) l) ∙ e)) (λ e. false≢true (sym (ap (λ x. slice_index_or x 1 false) l) ∙ e)) n node at is);
+    modules =
+        λ k a d at is. absurd (at_one (λ k a. slice_index_or C.left_dm k false ≡ true → ⊥) (nav g)
+        (λ e. false≢true (sym (ap (λ x. slice_index_or x 0 false) m) ∙ e)) k a at is);
   }
 
   pub ticks : Step (line g) 0 settled (Tick ((pos 1 ∷ []) ∷ [])) ticked
@@ -158,13 +202,18 @@ module _ (g : Global) where
   ticks = record {
     may = none_left settled refl refl;
     each = refl;
-    bounded = at_one (λ k plant. IsWithin (bounds plant) (slice_index_or ((pos 1 ∷ []) ∷ []) k [])) (pos_plant g) (omega (arith, ints), omega (arith, ints), tt);
-    moves = at_one (λ k plant. next_state plant (point_of settled k) (commands plant settled) (joined (seen_points plant settled)) (slice_index_or ((pos 1 ∷ []) ∷ []) k []) ≡ Ok (point_of ticked k)) (pos_plant g) refl;
+    bounded =
+        at_one (λ k plant. IsWithin (bounds plant) (slice_index_or ((pos 1 ∷ []) ∷ []) k [])) (pos_plant g) (omega (arith, ints), omega (arith, ints), tt);
+    moves =
+        at_one (λ k plant. next_state plant (point_of settled k) (commands plant settled) (joined (seen_points plant settled))
+        (slice_index_or ((pos 1 ∷ []) ∷ []) k []) ≡ Ok (point_of ticked k)) (pos_plant g) refl;
     time = refl;
     left = at_two (λ n node. (is_left ticked n ≡ true) ↔ ((is_left settled n ≡ true) ⊎ IsDue node.period node.offset 1)) (fast g) (slow g)
         ((λ e. absurd (false≢true e)), (λ o. ⊎_elim (λ e. e) (λ d. absurd (no_one d.1)) o))
         ((λ e. absurd (false≢true e)), (λ o. ⊎_elim (λ e. e) (λ d. absurd (no_one d.1)) o));
-    left_dm = at_one (λ m a. (is_left_dm ticked m ≡ true) ↔ ((is_left_dm settled m ≡ true) ⊎ IsDue a.period a.offset 1)) (nav g) ((λ e. absurd (false≢true e)), (λ o. ⊎_elim (λ e. e) (λ d. absurd (no_one d.1)) o));
+    left_dm =
+        at_one (λ m a. (is_left_dm ticked m ≡ true) ↔ ((is_left_dm settled m ≡ true) ⊎ IsDue a.period a.offset 1)) (nav g)
+        ((λ e. absurd (false≢true e)), (λ o. ⊎_elim (λ e. e) (λ d. absurd (no_one d.1)) o));
     sizes = record { left = refl; left_dm = refl; modes = refl; scalars = refl; locals = refl; points = refl };
     rest = refl;
   }
@@ -175,13 +224,18 @@ module _ (g : Global) where
   ticks_again = record {
     may = none_left ticked refl refl;
     each = refl;
-    bounded = at_one (λ k plant. IsWithin (bounds plant) (slice_index_or ((negsuc 0 ∷ []) ∷ []) k [])) (pos_plant g) (omega (arith, ints), omega (arith, ints), tt);
-    moves = at_one (λ k plant. next_state plant (point_of ticked k) (commands plant ticked) (joined (seen_points plant ticked)) (slice_index_or ((negsuc 0 ∷ []) ∷ []) k []) ≡ Ok (point_of second k)) (pos_plant g) refl;
+    bounded =
+        at_one (λ k plant. IsWithin (bounds plant) (slice_index_or ((negsuc 0 ∷ []) ∷ []) k [])) (pos_plant g) (omega (arith, ints), omega (arith, ints), tt);
+    moves =
+        at_one (λ k plant. next_state plant (point_of ticked k) (commands plant ticked) (joined (seen_points plant ticked))
+        (slice_index_or ((negsuc 0 ∷ []) ∷ []) k []) ≡ Ok (point_of second k)) (pos_plant g) refl;
     time = refl;
     left = at_two (λ n node. (is_left second n ≡ true) ↔ ((is_left ticked n ≡ true) ⊎ IsDue node.period node.offset 2)) (fast g) (slow g)
         ((λ e. absurd (false≢true e)), (λ o. ⊎_elim (λ e. e) (λ d. absurd (no_two d.1)) o))
         ((λ e. inr (omega arith, refl)), (λ o. refl));
-    left_dm = at_one (λ m a. (is_left_dm second m ≡ true) ↔ ((is_left_dm ticked m ≡ true) ⊎ IsDue a.period a.offset 2)) (nav g) ((λ e. absurd (false≢true e)), (λ o. ⊎_elim (λ e. e) (λ d. absurd (no_two d.1)) o));
+    left_dm =
+        at_one (λ m a. (is_left_dm second m ≡ true) ↔ ((is_left_dm ticked m ≡ true) ⊎ IsDue a.period a.offset 2)) (nav g)
+        ((λ e. absurd (false≢true e)), (λ o. ⊎_elim (λ e. e) (λ d. absurd (no_two d.1)) o));
     sizes = record { left = refl; left_dm = refl; modes = refl; scalars = refl; locals = refl; points = refl };
     rest = refl;
   }

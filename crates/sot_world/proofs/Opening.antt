@@ -22,9 +22,12 @@ module _ (p : Tables) (j : ℕ) (typed : IsTyped p) (well : IsWellFormed p j) wh
   opening_holds start C o safer = record {
     scalars = subst (IsWithin (scalar_ranges p)) (sym o.scalars) typed.inits;
     locals = λ n node at. subst (λ l. IsWithin (local_ranges node) (slice_index_or l n [])) (sym o.locals)
-        (subst (IsWithin (local_ranges node)) (sym (get_or_from_slice_get (map (λ k. map (λ l. l.init) k.locals.items) p.nodes) n _ [] (at_map (λ k. map (λ l. l.init) k.locals.items) p.nodes n node at))) (typed.local_inits n node at));
+        (subst (IsWithin (local_ranges node)) (sym (get_or_from_slice_get (map (λ k. map (λ l. l.init) k.locals.items) p.nodes) n _ []
+        (at_map (λ k. map (λ l. l.init) k.locals.items) p.nodes n node at))) (typed.local_inits n node at));
     sizes = o.sizes;
-    due = λ n node at is. subst (λ t. IsStillDue j node.period node.offset t) (sym o.time) (0, last_now node.period node.offset 0 ((o.left n node at).0 is), omega arith);
+    due =
+        λ n node at is. subst (λ t. IsStillDue j node.period node.offset t) (sym o.time)
+        (0, last_now node.period node.offset 0 ((o.left n node at).0 is), omega arith);
     due_dm = λ m a at is. subst (λ t. IsStillDue j a.period a.offset t) (sym o.time) (0, last_now a.period a.offset 0 ((o.left_dm m a at).0 is), omega arith);
     ac = λ m a plant r at_m at_p mode u. (let clash : Sc ≡ Ac = sym (all_sc m) ∙ mode in cc);
     sc = λ m a plant sc q at_m at_p at_s mode u.
@@ -32,7 +35,8 @@ module _ (p : Tables) (j : ℕ) (typed : IsTyped p) (well : IsWellFormed p j) wh
         let per : sc.period ≤ a.period = well.periods m a at_m sc (inr at_s) in
         let scalars_in : IsWithin (scalar_ranges p) C.scalars = subst (IsWithin (scalar_ranges p)) (sym o.scalars) typed.inits in
         inside_held p plant (point_of C a.plant) (commands plant C) q a.safe.boxes (within_picked (scalar_ranges p) C.scalars plant.inputs.items scalars_in)
-        (inside_fewer p plant (IsWithin (input_ranges p plant)) (point_of C a.plant) q (2 * (a.period + j)) a.safe.boxes (omega arith) (well.safer_holds m a plant at_m at_p (point_of C a.plant) (safer m a at_m)));
+        (inside_fewer p plant (IsWithin (input_ranges p plant)) (point_of C a.plant) q (2 * (a.period + j)) a.safe.boxes (omega arith)
+        (well.safer_holds m a plant at_m at_p (point_of C a.plant) (safer m a at_m)));
   }
     where
       all_sc : (m : ℕ) → mode_of C m ≡ Sc

@@ -3,7 +3,8 @@ use Rattle.sot_lang.specs.declared.tables.TopicInfo.{TopicInfo}
 use Rattle.sot_lang.specs.Ranges.{range_of, bounds}
 use Rattle.sot_world.specs.Steps.{Input, write_at, Code, Guest, Decide, Tick, is_enabled, published, Fires, MayTick}
 use Rattle.sot_world.specs.Outcomes.{InputTaken, NodeFired, ModuleDecided, PlantsTicked}
-use Rattle.std.proofs.Common.{◌+◌, ◌≡◌, ℕ, zero, suc, ◌<◌, ℤ, Bool, true, false, ◌⊎◌, ◌↔◌, inl, inr, ⊎_elim, List, [], ◌∷◌, Option, None, Ok, length, refl, sym, ap, subst, arith}
+use Rattle.std.proofs.Common.{◌+◌, ◌≡◌, ℕ, zero, suc, ◌<◌, ℤ, Bool, true, false, ◌⊎◌, ◌↔◌, inl, inr, ⊎_elim, List, [], ◌∷◌, Option, None, Ok, length, refl, sym}
+use Rattle.std.proofs.Common.{ap, subst, arith}
 use Rattle.std.specs.Prelude.{slice_index_or, slice_set}
 use Rattle.std.proofs.lemmas.Bool.{false≢true}
 use Rattle.std.proofs.lemmas.List.{get_or-set_same}
@@ -30,14 +31,16 @@ use Rattle.sot_world.proofs.Publishes.{in_range_cases}
 use Rattle.sot_world.proofs.Safety.{code_runs, tick_runs}
 
 -- where each element of a list has its part, there is the list of the parts
-pub list_of : {A B : Type 0} (d : B) (xs : List A) (P : ℕ → A → B → Type 0) → ((k : ℕ) (x : A) → At xs k x → (b : B) × P k x b) → (bs : List B) × (length bs ≡ length xs) × ((k : ℕ) (x : A) → At xs k x → P k x (slice_index_or bs k d))
+pub list_of : {A B : Type 0} (d : B) (xs : List A) (P : ℕ → A → B → Type 0) → ((k : ℕ) (x : A) → At xs k x → (b : B) × P k x b)
+    → (bs : List B) × (length bs ≡ length xs) × ((k : ℕ) (x : A) → At xs k x → P k x (slice_index_or bs k d))
 list_of d [] P h = ([], refl, λ k x at. absurd (none-some x at))
 list_of d (y ∷ ys) P h =
     let first = h 0 y refl in
     let rest = list_of d ys (λ k. P (suc k)) (λ k x at. h (suc k) x at) in
     (first.0 ∷ rest.0, ap suc rest.1, each first rest.0 rest.2)
   where
-    each : (first : (b : _) × P 0 y b) (bs : List _) → ((k : ℕ) (x : _) → At ys k x → P (suc k) x (slice_index_or bs k d)) → (k : ℕ) (x : _) → At (y ∷ ys) k x → P k x (slice_index_or (first.0 ∷ bs) k d)
+    each : (first : (b : _) × P 0 y b) (bs : List _) → ((k : ℕ) (x : _) → At ys k x → P (suc k) x (slice_index_or bs k d)) → (k : ℕ) (x : _) → At (y ∷ ys) k x
+        → P k x (slice_index_or (first.0 ∷ bs) k d)
     each first bs h zero x at = subst (λ z. P 0 z first.0) (same_Some y x at) first.1
     each first bs h (suc k) x at = h k x at
 
@@ -89,18 +92,44 @@ decision Ac In Keep region (inl h) = (Ac, ((λ e. inr (refl, h)), (λ o. refl)))
 decision Ac In Keep region (inr no') = (Sc, ((λ e. absurd (sc_not_ac e)), (λ o. absurd (⊎_elim (λ a. sc_not_ac (sym a.0)) (λ b. no' b.1) o))))
 
 module _ (p : Tables) (j : ℕ) where
-  fires : (C : Configuration) (n : ℕ) (node : NodeInfo) (locals : List ℤ) (draft : List (Option ℤ)) → is_left C n ≡ true → Fires p n node locals draft C (record C { left = slice_set C.left n false; locals = slice_set C.locals n locals; scalars = published (is_enabled p C n) p node.writes.items draft C.scalars })
-  fires C n node locals draft left = record { was_left = left; time = refl; left = refl; left_dm = refl; modes = refl; points = refl; locals_set = refl; scalars = refl }
+  fires : (C : Configuration) (n : ℕ) (node : NodeInfo) (locals : List ℤ) (draft : List (Option ℤ)) → is_left C n ≡ true
+      → Fires p n node locals draft C (record C {
+        left = slice_set C.left n false;
+        locals = slice_set C.locals n locals;
+        scalars = published (is_enabled p C n) p node.writes.items draft C.scalars;
+      })
+  fires C n node locals draft left =
+      record { was_left = left; time = refl; left = refl; left_dm = refl; modes = refl; points = refl; locals_set = refl; scalars = refl }
 
-  input_happens : (C : Configuration) (t : ℕ) (info : TopicInfo) (value : List ℤ) → At p.topics t info → info.outside ≡ true → length value ≡ info.count → ((i : ℕ) (z : ℤ) → At value i z → IsIn (range_of p.scalars (info.first + i)) z) → Happens p j C (Input t value)
-  input_happens C t info value at outside size typed = (record C { scalars = write_at info.first value C.scalars }, InputTaken, record { info = info; is = at; outside = outside; size = size; typed = typed; scalars = refl; rest = refl }, refl)
+  input_happens : (C : Configuration) (t : ℕ) (info : TopicInfo) (value : List ℤ) → At p.topics t info → info.outside ≡ true → length value ≡ info.count
+      → ((i : ℕ) (z : ℤ) → At value i z → IsIn (range_of p.scalars (info.first + i)) z) → Happens p j C (Input t value)
+  input_happens C t info value at outside size typed = (
+    record C { scalars = write_at info.first value C.scalars },
+    InputTaken,
+    record { info = info; is = at; outside = outside; size = size; typed = typed; scalars = refl; rest = refl },
+    refl,
+  )
 
-  guest_happens : (C : Configuration) (n : ℕ) (node : NodeInfo) (draft : List (Option ℤ)) → At p.nodes n node → node.body ≡ None → length draft ≡ length node.writes.items → is_left C n ≡ true → Happens p j C (Guest n draft)
-  guest_happens C n node draft at external slots left = (_, NodeFired draft (is_enabled p C n), record { node = node; is = at; external = external; slots = slots; fires = fires C n node (locals_of C n) draft left }, refl)
+  guest_happens : (C : Configuration) (n : ℕ) (node : NodeInfo) (draft : List (Option ℤ)) → At p.nodes n node → node.body ≡ None
+      → length draft ≡ length node.writes.items → is_left C n ≡ true → Happens p j C (Guest n draft)
+  guest_happens C n node draft at external slots left = (
+    _,
+    NodeFired draft (is_enabled p C n),
+    record {
+      node = node;
+      is = at;
+      external = external;
+      slots = slots;
+      fires = fires C n node (locals_of C n) draft left;
+    },
+    refl,
+  )
 
-  decide_happens : (C : Configuration) (m : ℕ) (a : ModuleInfo) → length C.modes ≡ length p.modules → At p.modules m a → is_left_dm C m ≡ true → (Keeps p j a (point_of C a.plant) ⊎ (Keeps p j a (point_of C a.plant) → ⊥)) → Happens p j C (Decide m)
+  decide_happens : (C : Configuration) (m : ℕ) (a : ModuleInfo) → length C.modes ≡ length p.modules → At p.modules m a → is_left_dm C m ≡ true
+      → (Keeps p j a (point_of C a.plant) ⊎ (Keeps p j a (point_of C a.plant) → ⊥)) → Happens p j C (Decide m)
   decide_happens C m a size at left keep =
-      let after = decision (mode_of C m) (IsInRegion a.safer.boxes (point_of C a.plant)) (Keeps p j a (point_of C a.plant)) (region_cases a.safer.boxes (point_of C a.plant)) keep in
+      let after = decision (mode_of C m) (IsInRegion a.safer.boxes (point_of C a.plant)) (Keeps p j a (point_of C a.plant))
+      (region_cases a.safer.boxes (point_of C a.plant)) keep in
       let lt : m < length C.modes = omega (arith, slice_get_within p.modules m a at, size) in
       let set : slice_index_or (slice_set C.modes m after.0) m Sc ≡ after.0 = get_or-set_same C.modes m after.0 Sc lt in (
         record C { left_dm = slice_set C.left_dm m false; modes = slice_set C.modes m after.0 },
@@ -111,19 +140,26 @@ module _ (p : Tables) (j : ℕ) where
           was_left = left;
           left_dm = refl;
           modes = ap (slice_set C.modes m) (sym set);
-          mode = subst (λ y. (y ≡ Ac) ↔ (((mode_of C m ≡ Sc) × IsInRegion a.safer.boxes (point_of C a.plant)) ⊎ ((mode_of C m ≡ Ac) × Keeps p j a (point_of C a.plant)))) (sym set) after.1;
+          mode =
+              subst (λ y. (y ≡ Ac) ↔ (((mode_of C m ≡ Sc) × IsInRegion a.safer.boxes (point_of C a.plant))
+              ⊎ ((mode_of C m ≡ Ac) × Keeps p j a (point_of C a.plant)))) (sym set) after.1;
           rest = refl;
         },
         refl,
       )
 
   tick_happens :
-      (C : Configuration) → KeepsInvariant p j C → (noise : List (List ℤ)) → MayTick p j C → length noise ≡ length p.plants → ((k : ℕ) (plant : PlantInfo) → At p.plants k plant → IsWithin (bounds plant) (slice_index_or noise k [])) →
-      ((k : ℕ) (plant : PlantInfo) → At p.plants k plant → (s : List ℤ) × (next_state plant (point_of C k) (commands plant C) (joined (seen_points plant C)) (slice_index_or noise k []) ≡ Ok s)) → Happens p j C (Tick noise)
+      (C : Configuration) → KeepsInvariant p j C → (noise : List (List ℤ)) → MayTick p j C → length noise ≡ length p.plants
+      → ((k : ℕ) (plant : PlantInfo) → At p.plants k plant → IsWithin (bounds plant) (slice_index_or noise k [])) →
+      ((k : ℕ) (plant : PlantInfo) → At p.plants k plant → (s : List ℤ)
+      × (next_state plant (point_of C k) (commands plant C) (joined (seen_points plant C)) (slice_index_or noise k []) ≡ Ok s)) → Happens p j C (Tick noise)
   tick_happens C h noise may each bounded moves =
-      let left = list_of false p.nodes (λ n node x. (x ≡ true) ↔ ((is_left C n ≡ true) ⊎ IsDue node.period node.offset (suc C.time))) (λ n node at. due_flag (is_left C n) node.period node.offset (suc C.time)) in
-      let left_dm = list_of false p.modules (λ m a x. (x ≡ true) ↔ ((is_left_dm C m ≡ true) ⊎ IsDue a.period a.offset (suc C.time))) (λ m a at. due_flag (is_left_dm C m) a.period a.offset (suc C.time)) in
-      let points = list_of [] p.plants (λ k plant s. next_state plant (point_of C k) (commands plant C) (joined (seen_points plant C)) (slice_index_or noise k []) ≡ Ok s) moves in (
+      let left = list_of false p.nodes (λ n node x. (x ≡ true) ↔ ((is_left C n ≡ true) ⊎ IsDue node.period node.offset (suc C.time)))
+      (λ n node at. due_flag (is_left C n) node.period node.offset (suc C.time)) in
+      let left_dm = list_of false p.modules (λ m a x. (x ≡ true) ↔ ((is_left_dm C m ≡ true) ⊎ IsDue a.period a.offset (suc C.time)))
+      (λ m a at. due_flag (is_left_dm C m) a.period a.offset (suc C.time)) in
+      let points = list_of [] p.plants (λ k plant s. next_state plant (point_of C k) (commands plant C) (joined (seen_points plant C))
+      (slice_index_or noise k []) ≡ Ok s) moves in (
         record C { time = suc C.time; left = left.0; left_dm = left_dm.0; points = points.0 },
         PlantsTicked,
         record {
@@ -151,7 +187,8 @@ module _ (p : Tables) (j : ℕ) where
       (some_flag C.left)
 
   module _ (typed : IsTyped p) (well : IsWellFormed p j) where
-    code_happens : (C : Configuration) → KeepsInvariant p j C → (n : ℕ) (node : NodeInfo) (acts : List Act) → At p.nodes n node → IsCoded node acts → is_left C n ≡ true → Happens p j C (Code n)
+    code_happens : (C : Configuration) → KeepsInvariant p j C → (n : ℕ) (node : NodeInfo) (acts : List Act) → At p.nodes n node → IsCoded node acts
+        → is_left C n ≡ true → Happens p j C (Code n)
     code_happens C h n node acts at coded left =
         let run = code_runs p j typed well C n node acts h at coded in (
           _,
@@ -166,6 +203,8 @@ something_can_happen p j C typed well h = record {
   code = code_happens p j typed well C h;
   guest = guest_happens p j C;
   decide = λ m a at left keep. decide_happens p j C m a h.sizes.modes at left keep;
-  tick = λ noise may each bounded. tick_happens p j C h noise may each bounded (λ k plant at. tick_runs p j typed well C h may k plant (slice_index_or noise k []) at (bounded k plant at));
+  tick =
+      λ noise may each bounded. tick_happens p j C h noise may each bounded
+      (λ k plant at. tick_runs p j typed well C h may k plant (slice_index_or noise k []) at (bounded k plant at));
   some = something p j C;
 }

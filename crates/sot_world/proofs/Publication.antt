@@ -16,11 +16,14 @@ pub firings_publish_so : FiringsPublishSo
 firings_publish_so p n node locals draft C D typed sized at f = record {
   taken = λ i k z e at_w at_d inside. at_scalar k (on e)
       ∙ publish_set p node.writes.items draft C.scalars i k z once at_w at_d inside (omega (arith, typed.inside n node k at (i, at_w), sized.scalars));
-  refused = λ i k z at_w at_d outside. stays k (publish_kept p node.writes.items draft C.scalars i k once at_w (λ y at_y inside. outside (subst_z i y z at_y at_d k inside)));
+  refused =
+      λ i k z at_w at_d outside. stays k (publish_kept p node.writes.items draft C.scalars i k once at_w
+      (λ y at_y inside. outside (subst_z i y z at_y at_d k inside)));
   not_drafted = λ i k at_w at_d. stays k (publish_kept p node.writes.items draft C.scalars i k once at_w (λ y at_y inside. nothing i y at_y at_d));
   not_written = λ k has. stays k (publish_other p node.writes.items draft C.scalars k has);
   disabled = off;
-  locals_new = ap (λ l. slice_index_or l n []) f.locals_set ∙ get_or-set_same C.locals n locals [] (omega (arith, slice_get_within p.nodes n node at, sized.locals));
+  locals_new =
+      ap (λ l. slice_index_or l n []) f.locals_set ∙ get_or-set_same C.locals n locals [] (omega (arith, slice_get_within p.nodes n node at, sized.locals));
 }
   where
     once : (a b k : ℕ) → At node.writes.items a k → At node.writes.items b k → a ≡ b

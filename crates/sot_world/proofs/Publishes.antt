@@ -1,5 +1,6 @@
 -- What a draft's publication leaves.
-use Rattle.std.proofs.Common.{◌≡◌, ℕ, zero, suc, ◌<◌, ℤ, pos, Bool, true, ◌⊎◌, inl, inr, ⊎_elim, List, [], ◌∷◌, Option, Some, None, length, refl, sym, ap, ◌∙◌, subst, arith}
+use Rattle.std.proofs.Common.{◌≡◌, ℕ, zero, suc, ◌<◌, ℤ, pos, Bool, true, ◌⊎◌, inl, inr, ⊎_elim, List, [], ◌∷◌, Option, Some, None, length, refl, sym, ap, ◌∙◌}
+use Rattle.std.proofs.Common.{subst, arith}
 use Rattle.std.specs.Prelude.{slice_index_or, slice_set, int_le, ◌&&◌}
 use Rattle.std.proofs.lemmas.Bool.{cases_Bool, false≢true}
 use Rattle.std.proofs.lemmas.List.{get_or-set_same, get_or-set_other, length-set}
@@ -28,7 +29,8 @@ put_in r k z xs i = rw (is_in_range r z i) refl
 put_cases : (r : Side) (k : ℕ) (z : ℤ) (xs : List ℤ) → (IsIn r z × (put r k z xs ≡ slice_set xs k z)) ⊎ (put r k z xs ≡ xs)
 put_cases r k z xs = ⊎_elim (λ t. inl (in_range_is r z t, rw t refl)) (λ f. inr (rw f refl)) (cases_Bool (in_range r z))
 
-pub publish_within : (p : Tables) (ws : List ℕ) (draft : List (Option ℤ)) (xs : List ℤ) → IsWithin (scalar_ranges p) xs → IsWithin (scalar_ranges p) (publish p ws draft xs)
+pub publish_within : (p : Tables) (ws : List ℕ) (draft : List (Option ℤ)) (xs : List ℤ) → IsWithin (scalar_ranges p) xs
+    → IsWithin (scalar_ranges p) (publish p ws draft xs)
 publish_within p [] draft xs w = w
 publish_within p (k ∷ ks) [] xs w = w
 publish_within p (k ∷ ks) (None ∷ draft) xs w = publish_within p ks draft xs w
@@ -41,7 +43,8 @@ publish_within p (k ∷ ks) (Some z ∷ draft) xs w =
 put_length : (r : Side) (k : ℕ) (z : ℤ) (xs : List ℤ) → length (put r k z xs) ≡ length xs
 put_length r k z xs = ⊎_elim (λ a. ap length a.1 ∙ length-set xs k z) (λ e. ap length e) (put_cases r k z xs)
 
-pub publish_other : (p : Tables) (ws : List ℕ) (draft : List (Option ℤ)) (xs : List ℤ) (n : ℕ) → (Has ws n → ⊥) → slice_index_or (publish p ws draft xs) n (pos 0) ≡ slice_index_or xs n (pos 0)
+pub publish_other : (p : Tables) (ws : List ℕ) (draft : List (Option ℤ)) (xs : List ℤ) (n : ℕ) → (Has ws n → ⊥)
+    → slice_index_or (publish p ws draft xs) n (pos 0) ≡ slice_index_or xs n (pos 0)
 publish_other p [] draft xs n no' = refl
 publish_other p (k ∷ ks) [] xs n no' = refl
 publish_other p (k ∷ ks) (None ∷ draft) xs n no' = publish_other p ks draft xs n (λ h. no' (suc h.0, h.1))
@@ -54,7 +57,8 @@ publish_other p (k ∷ ks) (Some z ∷ draft) xs n no' =
     (put_cases r k z xs)
 
 -- a drafted number in its range is published, where no scalar is written twice
-pub publish_set : (p : Tables) (ws : List ℕ) (draft : List (Option ℤ)) (xs : List ℤ) (i k : ℕ) (z : ℤ) → ((a b n : ℕ) → At ws a n → At ws b n → a ≡ b) → At ws i k → At draft i (Some z) → IsIn (range_of p.scalars k) z → k < length xs → slice_index_or (publish p ws draft xs) k (pos 0) ≡ z
+pub publish_set : (p : Tables) (ws : List ℕ) (draft : List (Option ℤ)) (xs : List ℤ) (i k : ℕ) (z : ℤ) → ((a b n : ℕ) → At ws a n → At ws b n → a ≡ b)
+    → At ws i k → At draft i (Some z) → IsIn (range_of p.scalars k) z → k < length xs → slice_index_or (publish p ws draft xs) k (pos 0) ≡ z
 publish_set p [] draft xs i k z one at d w lt = cc
 publish_set p (n ∷ ns) [] xs i k z one at d w lt = cc
 publish_set p (n ∷ ns) (None ∷ draft) xs zero k z one at d w lt = cc
@@ -75,7 +79,8 @@ publish_set p (n ∷ ns) (Some y ∷ draft) xs (suc i) k z one at d w lt =
     publish_set p ns draft (put r n y xs) i k z (λ a b m x y. omega (arith, one (suc a) (suc b) m x y)) at d w (omega (arith, put_length r n y xs))
 
 -- a scalar stays where its slot has no number in its range, and no scalar is written twice
-pub publish_kept : (p : Tables) (ws : List ℕ) (draft : List (Option ℤ)) (xs : List ℤ) (i k : ℕ) → ((a b n : ℕ) → At ws a n → At ws b n → a ≡ b) → At ws i k → ((z : ℤ) → At draft i (Some z) → IsIn (range_of p.scalars k) z → ⊥) → slice_index_or (publish p ws draft xs) k (pos 0) ≡ slice_index_or xs k (pos 0)
+pub publish_kept : (p : Tables) (ws : List ℕ) (draft : List (Option ℤ)) (xs : List ℤ) (i k : ℕ) → ((a b n : ℕ) → At ws a n → At ws b n → a ≡ b) → At ws i k
+    → ((z : ℤ) → At draft i (Some z) → IsIn (range_of p.scalars k) z → ⊥) → slice_index_or (publish p ws draft xs) k (pos 0) ≡ slice_index_or xs k (pos 0)
 publish_kept p [] draft xs i k one at h = refl
 publish_kept p (n ∷ ns) [] xs i k one at h = refl
 publish_kept p (n ∷ ns) (None ∷ draft) xs zero k one at h =
@@ -92,6 +97,7 @@ publish_kept p (n ∷ ns) (Some y ∷ draft) xs zero k one at h =
 publish_kept p (n ∷ ns) (Some y ∷ draft) xs (suc i) k one at h =
     publish_kept p ns draft (put (range_of p.scalars n) n y xs) i k (λ a b m x y. omega (arith, one (suc a) (suc b) m x y)) at h
     ∙ ⊎_elim
-    (λ a. ap (λ ys. slice_index_or ys k (pos 0)) a.1 ∙ get_or-set_other xs n k y (pos 0) (λ e. let z = one 0 (suc i) k (ap Some (sym e)) at in absurd (omega (arith, z))))
+    (λ a. ap (λ ys. slice_index_or ys k (pos 0)) a.1 ∙ get_or-set_other xs n k y (pos 0)
+    (λ e. let z = one 0 (suc i) k (ap Some (sym e)) at in absurd (omega (arith, z))))
     (λ e. ap (λ ys. slice_index_or ys k (pos 0)) e)
     (put_cases (range_of p.scalars n) n y xs)

@@ -40,7 +40,9 @@ module _ (g : Global) where
   no_other D s = false≢true (ap (λ x. x.outside) (same_Some (m_topic g) s.info s.is) ∙ s.outside)
 
   pub no_10 : (D : Configuration) → Step (relay g) 0 (relaying (pos 0) (pos 0)) (Input 0 (pos 10 ∷ [])) D → ⊥
-  no_10 D s = (let t = subst (λ x. IsIn (range_of (relay g).scalars (x.first + 0)) (pos 10)) (sym (same_Some (e_topic g) s.info s.is)) (s.typed 0 (pos 10) refl) in omega (arith, ints, t.1))
+  no_10 D s =
+      (let t = subst (λ x. IsIn (range_of (relay g).scalars (x.first + 0)) (pos 10)) (sym (same_Some (e_topic g) s.info s.is)) (s.typed 0 (pos 10) refl) in
+      omega (arith, ints, t.1))
 
   pub no_more : (D : Configuration) → Step (relay g) 0 (relaying (pos 0) (pos 0)) (Input 0 (pos 5 ∷ pos 5 ∷ [])) D → ⊥
   no_more D s = (let e : ◌≡◌ {A = ℕ} 2 1 = s.size ∙ ap (λ x. x.count) (sym (same_Some (e_topic g) s.info s.is)) in omega (arith, e))

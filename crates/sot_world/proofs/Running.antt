@@ -22,7 +22,8 @@ use Rattle.sot_world.specs.WorldView.{state, configuration, IsWorld}
 use Rattle.sot_world.specs.Changes.{Runs, HasRun}
 use Rattle.sot_world.proofs.FiringSteps.{may_run, runs_along}
 
-module _ (p : Tables) (n : ℕ) (scalars : List ℤ) (points : List (List ℤ)) (locals seen : List ℤ) (r : Runs p n scalars points locals) (read : seen ≡ reading r.node scalars points) where
+module _ (p : Tables) (n : ℕ) (scalars : List ℤ) (points : List (List ℤ)) (locals seen : List ℤ) (r : Runs p n scalars points locals)
+    (read : seen ≡ reading r.node scalars points) where
   pub runnable : MayRun p n seen locals
   runnable = record {
     node = r.node;
@@ -54,22 +55,26 @@ module _ (p : Tables) (n : ℕ) (scalars : List ℤ) (points : List (List ℤ)) 
       )
 
 -- a body that gives something has not trapped, and what it left is that
-pub left_ok : {U : Type 0} (result : Result U Trap) (locals : List ℤ) (draft : List (Option ℤ)) (f : Fired) → left_by result locals draft ≡ Ok f → f ≡ record { locals = locals; draft = draft }
+pub left_ok : {U : Type 0} (result : Result U Trap) (locals : List ℤ) (draft : List (Option ℤ)) (f : Fired) → left_by result locals draft ≡ Ok f
+    → f ≡ record { locals = locals; draft = draft }
 left_ok (Ok u) locals draft f is = cc
 left_ok (Err t) locals draft f is = absurd cc
 
-pub left_none : {U : Type 0} (result : Result U Trap) (locals : List ℤ) (draft : List (Option ℤ)) (f : Fired) → left_by result locals draft ≡ Ok f → is_err result ≡ false
+pub left_none : {U : Type 0} (result : Result U Trap) (locals : List ℤ) (draft : List (Option ℤ)) (f : Fired) → left_by result locals draft ≡ Ok f
+    → is_err result ≡ false
 left_none (Ok u) locals draft f is = refl
 left_none (Err t) locals draft f is = absurd cc
 
 -- .. of the node's locals and of the numbers that a world keeps
 pub world_runs : (w : Inside) (s : State) (n : ℕ) (p : Tables) (scalars : List ℤ) (points : List (List ℤ)) (locals : List ℤ) → IsWorld w → state w ≡ s
     → (info : NodeInfo) × (acts : List Act) × At s.accepted.program.nodes n info × IsCoded info acts
-    → p ≡ w.accepted.now.program → scalars ≡ w.scalars.items → points ≡ w.points.items → locals ≡ slice_index_or w.locals.items n locals → Runs p n scalars points locals
+    → p ≡ w.accepted.now.program → scalars ≡ w.scalars.items → points ≡ w.points.items → locals ≡ slice_index_or w.locals.items n locals
+    → Runs p n scalars points locals
 world_runs w s n p scalars points locals is view coded same_p same_scalars same_points same_locals =
     let C = configuration w in
     let a = w.accepted.now in
     let here = subst (λ s. (info : NodeInfo) × (acts : List Act) × At s.accepted.program.nodes n info × IsCoded info acts) (sym view) coded in
     let there = slice_get_within a.program.nodes n here.0 here.2 in
     let locals_there : n < length C.locals = omega (arith, there, is.kept.holds.sizes.locals) in
-    runs_along _ _ n _ _ _ _ _ _ same_p same_scalars same_points (read_or C.locals n _ [] locals_there same_locals) (may_run a C is.kept n here.0 here.1 here.2 here.3)
+    runs_along _ _ n _ _ _ _ _ _ same_p same_scalars same_points (read_or C.locals n _ [] locals_there same_locals)
+    (may_run a C is.kept n here.0 here.1 here.2 here.3)

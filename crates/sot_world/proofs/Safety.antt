@@ -30,7 +30,8 @@ use Rattle.sot_world.proofs.Modes.{cases_mode}
 
 module _ (p : Tables) (j : ℕ) (typed : IsTyped p) (well : IsWellFormed p j) where
   -- the plant of each module is in its safe region
-  pub in_safe : (C : Configuration) → KeepsInvariant p j C → (m : ℕ) (a : ModuleInfo) (plant : PlantInfo) → At p.modules m a → At p.plants a.plant plant → IsInRegion a.safe.boxes (point_of C a.plant)
+  pub in_safe : (C : Configuration) → KeepsInvariant p j C → (m : ℕ) (a : ModuleInfo) (plant : PlantInfo) → At p.modules m a → At p.plants a.plant plant
+      → IsInRegion a.safe.boxes (point_of C a.plant)
   in_safe C h m a plant at_m at_p =
       ⊎_elim
       (λ ac.
@@ -62,11 +63,13 @@ module _ (p : Tables) (j : ℕ) (typed : IsTyped p) (well : IsWellFormed p j) wh
   }
 
   -- no coded node that is left, enabled or not, traps
-  pub code_runs : (C : Configuration) (n : ℕ) (node : NodeInfo) (acts : List Act) → KeepsInvariant p j C → At p.nodes n node → IsCoded node acts → (fired : Fired) × (execution acts (local_ranges node) (write_ranges p node) (reading node C.scalars C.points) (locals_of C n) ≡ Ok fired)
+  pub code_runs : (C : Configuration) (n : ℕ) (node : NodeInfo) (acts : List Act) → KeepsInvariant p j C → At p.nodes n node → IsCoded node acts
+      → (fired : Fired) × (execution acts (local_ranges node) (write_ranges p node) (reading node C.scalars C.points) (locals_of C n) ≡ Ok fired)
   code_runs C n node acts h at coded = well.no_trap n node acts at coded C.scalars C.points (locals_of C n) (meets C n node h at)
 
   -- no tick traps either
-  pub tick_runs : (C : Configuration) → KeepsInvariant p j C → MayTick p j C → (k : ℕ) (plant : PlantInfo) (w : List ℤ) → At p.plants k plant → IsWithin (bounds plant) w → (s : List ℤ) × (next_state plant (point_of C k) (commands plant C) (joined (seen_points plant C)) w ≡ Ok s)
+  pub tick_runs : (C : Configuration) → KeepsInvariant p j C → MayTick p j C → (k : ℕ) (plant : PlantInfo) (w : List ℤ) → At p.plants k plant
+      → IsWithin (bounds plant) w → (s : List ℤ) × (next_state plant (point_of C k) (commands plant C) (joined (seen_points plant C)) w ≡ Ok s)
   tick_runs C h may k plant w at within =
       let n = typed.named k plant at in
       let m = n.0 in
@@ -80,7 +83,8 @@ module _ (p : Tables) (j : ℕ) (typed : IsTyped p) (well : IsWellFormed p j) wh
       let r = until_exists j (is_left_dm C m) a.period a.offset C.time (typed.module_times m a n.2) (h.due_dm m a n.2) in
       let later = until_later j (is_left_dm C m) a.period a.offset C.time r.0 (h.due_dm m a n.2) (λ d l last. may.modules m a d n.2 l last) r.1 in
       ends plant (IsWithin (input_ranges p plant)) (point_of C a.plant) (commands plant C) (seen_points plant C) w a.safe.boxes in_types seen within
-      (inside_fewer p plant (IsWithin (input_ranges p plant)) (point_of C a.plant) 1 (r.0 + a.period + j) a.safe.boxes (omega arith) (h.ac m a plant r.0 n.2 at_p ac r.1))
+      (inside_fewer p plant (IsWithin (input_ranges p plant)) (point_of C a.plant) 1 (r.0 + a.period + j) a.safe.boxes (omega arith)
+      (h.ac m a plant r.0 n.2 at_p ac r.1))
       (next_state plant (point_of C a.plant) (commands plant C) (joined (seen_points plant C)) w) refl)
       (λ sc.
       let t = typed.sc_is m a n.2 in
@@ -91,10 +95,13 @@ module _ (p : Tables) (j : ℕ) (typed : IsTyped p) (well : IsWellFormed p j) wh
       (next_state plant (point_of C a.plant) (commands plant C) (joined (seen_points plant C)) w) refl)
       (cases_mode (mode_of C m)))
     where
-      ends : (plant : PlantInfo) (Allowed : List ℤ → Type 0) (s c : List ℤ) (seen : List (List ℤ)) (w : List ℤ) (region : List (List Side)) → Allowed c → AreSafe p.modules plant.sees.items seen → IsWithin (bounds plant) w → AllInside (Reach p plant Allowed s 1) region → (o : Outcome (List ℤ)) → o ≡ next_state plant s c (joined seen) w → (s' : List ℤ) × (next_state plant s c (joined seen) w ≡ Ok s')
+      ends : (plant : PlantInfo) (Allowed : List ℤ → Type 0) (s c : List ℤ) (seen : List (List ℤ)) (w : List ℤ) (region : List (List Side)) → Allowed c
+          → AreSafe p.modules plant.sees.items seen → IsWithin (bounds plant) w → AllInside (Reach p plant Allowed s 1) region → (o : Outcome (List ℤ))
+          → o ≡ next_state plant s c (joined seen) w → (s' : List ℤ) × (next_state plant s c (joined seen) w ≡ Ok s')
       ends plant Allowed s c seen w region allowed safe bounded inside (Ok s') e = (s', sym e)
       ends plant Allowed s c seen w region allowed safe bounded inside (Err t) e =
-          absurd (inside_no_trap p plant Allowed s t 0 region (record { c = c; seen = seen; w = w; allowed = allowed; safe = safe; bounded = bounded; is = e }) inside)
+          absurd (inside_no_trap p plant Allowed s t 0 region (record { c = c; seen = seen; w = w; allowed = allowed; safe = safe; bounded = bounded; is = e })
+          inside)
 
   pub safe_now : (C : Configuration) → KeepsInvariant p j C → IsSafeNow p j C
   safe_now C h = record {

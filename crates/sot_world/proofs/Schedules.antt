@@ -1,6 +1,7 @@
 -- What is due next, and what a tick leaves.
 use Rattle.std.specs.Prelude.{◌==◌, if◌then◌else◌, slice_index_or, slice_get, slice_set}
-use Rattle.std.proofs.Common.{◌≡◌, ◌≢◌, ℕ, zero, suc, ◌+◌, ◌-◌, ◌%◌, ◌<◌, ◌≤◌, Bool, true, false, ◌⊎◌, ◌↔◌, inl, inr, ⊎_elim, List, [], ◌∷◌, ◌++◌, map, take, length, refl, sym, ap, ap₂, ◌∙◌, subst, arith}
+use Rattle.std.proofs.Common.{◌≡◌, ◌≢◌, ℕ, zero, suc, ◌+◌, ◌-◌, ◌%◌, ◌<◌, ◌≤◌, Bool, true, false, ◌⊎◌, ◌↔◌, inl, inr, ⊎_elim, List, [], ◌∷◌, ◌++◌, map, take}
+use Rattle.std.proofs.Common.{length, refl, sym, ap, ap₂, ◌∙◌, subst, arith}
 use Rattle.std.proofs.lemmas.Bool.{cases_lt, eqb-true, eq-eqb, false≢true}
 use Rattle.std.proofs.lemmas.List.{length-map, take_more_set, map_more, get_or-set_other, set-get_or}
 use Rattle.std.proofs.lemmas.Option.{slice_get_within, get_or_from_slice_get}
@@ -43,13 +44,18 @@ first_by p o true is lt =
     let e : 0 + p ≡ p = omega arith in
     record { every = refl; next = subst (λ d. IsNextDue p o 1 d) e next }
 first_by p o false is lt =
-    record { every = refl; next = next_first p o 1 (⊎_elim (λ (none : o < 1). let e : o ≡ 0 = omega arith in absurd (false≢true (sym is ∙ eq-eqb o 0 e))) (λ some. some) (cases_lt o 1)) }
+    record {
+      every = refl;
+      next = next_first p o 1 (⊎_elim (λ (none : o < 1). let e : o ≡ 0 = omega arith in absurd (false≢true (sym is ∙ eq-eqb o 0 e)))
+          (λ some. some) (cases_lt o 1));
+    }
 
 -- the first time after 0
 first_scheduled : (p o : ℕ) → o < p → IsScheduled p o 1 (first p o)
 first_scheduled p o lt = first_by p o (o == 0) refl lt
 
-after_by : (p o t : ℕ) (s : Schedule) (b : Bool) → (s.next == t) ≡ b → o < p → IsScheduled p o t s → IsScheduled p o (t + 1) (record { next = (if b then t + s.period else s.next); period = s.period })
+after_by : (p o t : ℕ) (s : Schedule) (b : Bool) → (s.next == t) ≡ b → o < p → IsScheduled p o t s
+    → IsScheduled p o (t + 1) (record { next = (if b then t + s.period else s.next); period = s.period })
 after_by p o t s true is lt was =
     let due = subst (λ n. IsDue p o n) (eqb-true s.next t is) was.next.due in
     record { every = was.every; next = subst (λ n. IsNextDue p o (t + 1) (t + n)) (sym was.every) (next_behind p o t lt due) }
@@ -61,7 +67,8 @@ after_scheduled : (p o t : ℕ) (s : Schedule) → o < p → IsScheduled p o t s
 after_scheduled p o t s lt was = after_by p o t s (s.next == t) refl lt was
 
 module _ {A : Type 0} (period offset : A → ℕ) (of : List A) where
-  pub all_first : (xs : List Schedule) → xs ≡ map (λ x. first (period x) (offset x)) of → ((k : ℕ) (x : A) → At of k x → offset x < period x) → AreScheduled period offset of 1 xs
+  pub all_first : (xs : List Schedule) → xs ≡ map (λ x. first (period x) (offset x)) of → ((k : ℕ) (x : A) → At of k x → offset x < period x)
+      → AreScheduled period offset of 1 xs
   all_first xs same short =
       let f : A → Schedule = λ x. first (period x) (offset x) in
       record {
@@ -69,16 +76,21 @@ module _ {A : Type 0} (period offset : A → ℕ) (of : List A) where
         are = λ k x at. (f x, subst (λ l. At l k (f x)) (sym same) (at_map f of k x at), first_scheduled (period x) (offset x) (short k x at));
       }
 
-  pub all_after : (t : ℕ) (xs ys : List Schedule) → ys ≡ map (after t) xs → ((k : ℕ) (x : A) → At of k x → offset x < period x) → AreScheduled period offset of t xs → AreScheduled period offset of (t + 1) ys
+  pub all_after : (t : ℕ) (xs ys : List Schedule) → ys ≡ map (after t) xs → ((k : ℕ) (x : A) → At of k x → offset x < period x)
+      → AreScheduled period offset of t xs → AreScheduled period offset of (t + 1) ys
   all_after t xs ys same short was = record {
     each = ap length same ∙ length-map xs (after t) ∙ was.each;
     are = λ k x at.
-        let s = was.are k x at in
-        (after t s.0, subst (λ l. At l k (after t s.0)) (sym same) (at_map (after t) xs k s.0 s.1), after_scheduled (period x) (offset x) t s.0 (short k x at) s.2);
+        let s = was.are k x at in (
+          after t s.0,
+          subst (λ l. At l k (after t s.0)) (sym same) (at_map (after t) xs k s.0 s.1),
+          after_scheduled (period x) (offset x) t s.0 (short k x at) s.2,
+        );
   }
 
   -- a bound of all periods
-  pub periods_below : (t most : ℕ) (xs ys : List Schedule) → ys ≡ xs → ((k : ℕ) (x : A) → At of k x → period x ≤ most) → AreScheduled period offset of t xs → (k : ℕ) (s : Schedule) → At ys k s → s.period ≤ most
+  pub periods_below : (t most : ℕ) (xs ys : List Schedule) → ys ≡ xs → ((k : ℕ) (x : A) → At of k x → period x ≤ most) → AreScheduled period offset of t xs
+      → (k : ℕ) (s : Schedule) → At ys k s → s.period ≤ most
   periods_below t most xs ys same bound was k s at_y =
       let at = subst (λ l. At l k s) same at_y in
       let below : k < length of = omega (arith, slice_get_within xs k s at, was.each) in
@@ -120,21 +132,28 @@ module _ (t k : ℕ) (was xs : List Schedule) (x : Schedule) (at : At xs k x) (t
   pub done_more : (y : Schedule) → y ≡ after t x → take k xs ≡ map (after t) (take k was) → take (k + 1) (slice_set xs k y) ≡ map (after t) (take (k + 1) was)
   done_more y is done =
       take_more_set xs k y (slice_get_within xs k x at) ∙ ap₂ (λ l z. l ++ z ∷ []) done is
-      ∙ ap (λ z. map (after t) (take k was) ++ after t z ∷ []) (sym (get_or_from_slice_get was k x x here)) ∙ sym (map_more (after t) was k x (slice_get_within was k x here))
+      ∙ ap (λ z. map (after t) (take k was) ++ after t z ∷ []) (sym (get_or_from_slice_get was k x x here))
+      ∙ sym (map_more (after t) was k x (slice_get_within was k x here))
 
   pub to_come_more : (y : Schedule) (j : ℕ) → k + 1 ≤ j → slice_get (slice_set xs k y) j ≡ slice_get was j
   to_come_more y j le = get_set_before xs k j y (omega (arith, le)) ∙ to_come j (omega (arith, le))
 
   -- .. and falls due
-  pub flag_up : (flags left : List Bool) → k < length left → x.next ≡ t → ((j : ℕ) → j < k → IsFlag t was flags j (slice_index_or left j false)) → (j : ℕ) → j < k + 1 → IsFlag t was flags j (slice_index_or (slice_set left k true) j false)
+  pub flag_up : (flags left : List Bool) → k < length left → x.next ≡ t → ((j : ℕ) → j < k → IsFlag t was flags j (slice_index_or left j false)) → (j : ℕ)
+      → j < k + 1 → IsFlag t was flags j (slice_index_or (slice_set left k true) j false)
   flag_up flags left lt due before =
-      set_more false (IsFlag t was flags) left k true lt (λ s at_s. let e : x ≡ s = at_same was k x s here at_s in (λ is. inr (sym (ap (λ z. z.next) e) ∙ due), λ o. refl)) before
+      set_more false (IsFlag t was flags) left k true lt (λ s at_s. let e : x ≡ s = at_same was k x s here at_s in
+      (λ is. inr (sym (ap (λ z. z.next) e) ∙ due), λ o. refl)) before
 
-  pub flags_behind : (flags left : List Bool) → ((j : ℕ) → k ≤ j → slice_index_or left j false ≡ slice_index_or flags j false) → (j : ℕ) → k + 1 ≤ j → slice_index_or (slice_set left k true) j false ≡ slice_index_or flags j false
+  pub flags_behind : (flags left : List Bool) → ((j : ℕ) → k ≤ j → slice_index_or left j false ≡ slice_index_or flags j false) → (j : ℕ) → k + 1 ≤ j
+      → slice_index_or (slice_set left k true) j false ≡ slice_index_or flags j false
   flags_behind flags left behind j le = get_or-set_other left k j true false (λ e. omega (arith, le, e)) ∙ behind j (omega (arith, le))
 
   -- .. and does not
-  pub flag_stays : (flags left : List Bool) → k < length left → (x.next ≡ t → ⊥) → slice_index_or left k false ≡ slice_index_or flags k false → ((j : ℕ) → j < k → IsFlag t was flags j (slice_index_or left j false)) → (j : ℕ) → j < k + 1 → IsFlag t was flags j (slice_index_or left j false)
+  pub flag_stays : (flags left : List Bool) → k < length left → (x.next ≡ t → ⊥) → slice_index_or left k false ≡ slice_index_or flags k false
+      → ((j : ℕ) → j < k → IsFlag t was flags j (slice_index_or left j false)) → (j : ℕ) → j < k + 1 → IsFlag t was flags j (slice_index_or left j false)
   flag_stays flags left lt not_due same before j le =
       subst (λ l. IsFlag t was flags j (slice_index_or l j false)) (set-get_or left k false)
-      (set_more false (IsFlag t was flags) left k (slice_index_or left k false) lt (λ s at_s. let e : x ≡ s = at_same was k x s here at_s in (λ is. inl (sym same ∙ is), λ o. ⊎_elim (λ old. same ∙ old) (λ due. absurd (not_due (ap (λ z. z.next) e ∙ due))) o)) before j le)
+      (set_more false (IsFlag t was flags) left k (slice_index_or left k false) lt
+      (λ s at_s. let e : x ≡ s = at_same was k x s here at_s in
+      (λ is. inl (sym same ∙ is), λ o. ⊎_elim (λ old. same ∙ old) (λ due. absurd (not_due (ap (λ z. z.next) e ∙ due))) o)) before j le)

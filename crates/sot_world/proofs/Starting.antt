@@ -1,6 +1,7 @@
 -- Where modules start.
 use Rattle.std.specs.Prelude.{◌==◌}
-use Rattle.std.proofs.Common.{◌-◌, ◌%◌, ◌↔◌, Bool, true, false, map, ◌≡◌, ℕ, ◌+◌, ◌<◌, ℤ, ⊎_elim, List, [], length, get_or, slice_index_or, refl, sym, ap, ◌∙◌, subst, arith}
+use Rattle.std.proofs.Common.{◌-◌, ◌%◌, ◌↔◌, Bool, true, false, map, ◌≡◌, ℕ, ◌+◌, ◌<◌, ℤ, ⊎_elim, List, [], length, get_or, slice_index_or, refl, sym, ap, ◌∙◌}
+use Rattle.std.proofs.Common.{subst, arith}
 use Rattle.std.proofs.lemmas.Bool.{cases_lt, eqb-true, eq-eqb}
 use Rattle.std.proofs.lemmas.List.{length-map}
 use Rattle.std.proofs.Math.Nat.{zero-mod}
@@ -22,19 +23,22 @@ use Rattle.sot_world.proofs.Opening.{opening_holds}
 use Rattle.sot_lang.proofs.Owners.{width_at}
 
 -- the point of a module's plant has the width of its safer region
-pub start_width : (p : Tables) (start : List (List ℤ)) (m : ℕ) (a : ModuleInfo) → MeetsTableRules p → AreStarts p start → At p.modules m a → length (slice_index_or start a.plant []) ≡ a.safer.width
+pub start_width : (p : Tables) (start : List (List ℤ)) (m : ℕ) (a : ModuleInfo) → MeetsTableRules p → AreStarts p start → At p.modules m a
+    → length (slice_index_or start a.plant []) ≡ a.safer.width
 start_width p start m a rules starts at =
     let plant = rules.typed.plant_is m a at in
     starts.widths a.plant plant.0 plant.1 ∙ sym (width_at p.plants a.plant plant.0 plant.1) ∙ sym (rules.modules m a at).safer.width
 
 -- .. and is there
-pub start_there : (p : Tables) (start : List (List ℤ)) (m : ℕ) (a : ModuleInfo) → MeetsTableRules p → AreStarts p start → At p.modules m a → a.plant < length start
+pub start_there : (p : Tables) (start : List (List ℤ)) (m : ℕ) (a : ModuleInfo) → MeetsTableRules p → AreStarts p start → At p.modules m a
+    → a.plant < length start
 start_there p start m a rules starts at =
     let plant = rules.typed.plant_is m a at in
     omega (arith, slice_get_within p.plants a.plant plant.0 plant.1, starts.each)
 
 -- one more module starts inside
-pub one_more_inside : (p : Tables) (start : List (List ℤ)) (m : ℕ) (a : ModuleInfo) → At p.modules m a → StartInside p start m → IsInRegion a.safer.boxes (slice_index_or start a.plant []) → StartInside p start (m + 1)
+pub one_more_inside : (p : Tables) (start : List (List ℤ)) (m : ℕ) (a : ModuleInfo) → At p.modules m a → StartInside p start m
+    → IsInRegion a.safer.boxes (slice_index_or start a.plant []) → StartInside p start (m + 1)
 one_more_inside p start m a at before here k b lt at_k =
     ⊎_elim
     (λ less. before k b less at_k)
@@ -65,13 +69,18 @@ flag_at f xs flags n x same at = ap (λ l. slice_index_or l n false) same ∙ ge
 
 pub opens_so :
     (p : Tables) (start : List (List ℤ)) (left left_dm : List Bool) (modes : List Mode) (scalars : List ℤ) (locals points : List (List ℤ)) →
-    AreStarts p start → left ≡ map (λ k. k.offset == 0) p.nodes → left_dm ≡ map (λ k. k.offset == 0) p.modules → modes ≡ map (λ m. Sc) p.modules → scalars ≡ map (λ i. i.init) p.scalars →
+    AreStarts p start → left ≡ map (λ k. k.offset == 0) p.nodes → left_dm ≡ map (λ k. k.offset == 0) p.modules → modes ≡ map (λ m. Sc) p.modules
+    → scalars ≡ map (λ i. i.init) p.scalars →
     locals ≡ map (λ n. map (λ l. l.init) n.locals.items) p.nodes → points ≡ start →
     IsOpening p start (record { time = 0; left = left; left_dm = left_dm; modes = modes; scalars = scalars; locals = locals; points = points })
 opens_so p start left left_dm modes scalars locals points starts l d m s k q = record {
   time = refl;
-  left = λ n node at. subst (λ b. (b ≡ true) ↔ IsDue node.period node.offset 0) (sym (flag_at (λ x. x.offset == 0) p.nodes left n node l at)) (due_at_0 node.period node.offset);
-  left_dm = λ i a at. subst (λ b. (b ≡ true) ↔ IsDue a.period a.offset 0) (sym (flag_at (λ x. x.offset == 0) p.modules left_dm i a d at)) (due_at_0 a.period a.offset);
+  left =
+      λ n node at. subst (λ b. (b ≡ true) ↔ IsDue node.period node.offset 0) (sym (flag_at (λ x. x.offset == 0) p.nodes left n node l at))
+      (due_at_0 node.period node.offset);
+  left_dm =
+      λ i a at. subst (λ b. (b ≡ true) ↔ IsDue a.period a.offset 0) (sym (flag_at (λ x. x.offset == 0) p.modules left_dm i a d at))
+      (due_at_0 a.period a.offset);
   modes = m;
   scalars = s;
   locals = k;
@@ -87,11 +96,13 @@ opens_so p start left left_dm modes scalars locals points starts l d m s k q = r
   widths = λ i plant at. ap (λ ps. length (slice_index_or ps i [])) q ∙ starts.widths i plant at;
 }
 
-pub starts_safer : (p : Tables) (start points : List (List ℤ)) → points ≡ start → StartInside p start (length p.modules) → (m : ℕ) (a : ModuleInfo) → At p.modules m a → IsInRegion a.safer.boxes (slice_index_or points a.plant [])
+pub starts_safer : (p : Tables) (start points : List (List ℤ)) → points ≡ start → StartInside p start (length p.modules) → (m : ℕ) (a : ModuleInfo)
+    → At p.modules m a → IsInRegion a.safer.boxes (slice_index_or points a.plant [])
 starts_safer p start points q inside m a at =
     subst (λ ps. IsInRegion a.safer.boxes (slice_index_or ps a.plant [])) (sym q) (inside m a (slice_get_within p.modules m a at) at)
 
-pub opens_kept : (a : Admitted) (start : List (List ℤ)) (C : Configuration) → MeetsTableRules a.program → IsWellCertified a.program a.cert.jitter a.cert → IsOpening a.program start C → IsSafer a.program C → IsKept a C
+pub opens_kept : (a : Admitted) (start : List (List ℤ)) (C : Configuration) → MeetsTableRules a.program → IsWellCertified a.program a.cert.jitter a.cert
+    → IsOpening a.program start C → IsSafer a.program C → IsKept a C
 opens_kept a start C rules certified opening safer = record {
   rules = rules;
   certified = certified;

@@ -75,7 +75,8 @@ module _ (a : Admitted) (C : Configuration) (kept : IsKept a C) where
 
 -- a decision
 pub decides_so :
-    (p : Tables) (j : ℕ) (C : Configuration) (m : ℕ) (info : ModuleInfo) (next : Mode) (left_dm : List Bool) (modes : List Mode) → length C.modes ≡ length p.modules → At p.modules m info → is_left_dm C m ≡ true
+    (p : Tables) (j : ℕ) (C : Configuration) (m : ℕ) (info : ModuleInfo) (next : Mode) (left_dm : List Bool) (modes : List Mode)
+    → length C.modes ≡ length p.modules → At p.modules m info → is_left_dm C m ≡ true
     → IsNextMode p j info (mode_of C m) (point_of C info.plant) next → left_dm ≡ slice_set C.left_dm m false → modes ≡ slice_set C.modes m next
     → Decides p j m C (record C { left_dm = left_dm; modes = modes })
 decides_so p j C m info next left_dm modes size at left is d e =
@@ -93,7 +94,8 @@ decides_so p j C m info next left_dm modes size at left is d e =
 
 -- an input
 pub inputs_so :
-    (p : Tables) (C : Configuration) (topic : ℕ) (value : List ℤ) (info : TopicInfo) (scalars : List ℤ) → At p.topics topic info → info.outside ≡ true → length value ≡ info.count
+    (p : Tables) (C : Configuration) (topic : ℕ) (value : List ℤ) (info : TopicInfo) (scalars : List ℤ) → At p.topics topic info → info.outside ≡ true
+    → length value ≡ info.count
     → IsTypedInput p topic value → scalars ≡ write_at info.first value C.scalars → Inputs p topic value C (record C { scalars = scalars })
 inputs_so p C topic value info scalars at outside size typed s =
     let same : typed.0 ≡ info = at_same p.topics topic typed.0 info typed.1 at in
@@ -108,5 +110,6 @@ inputs_so p C topic value info scalars at outside size typed s =
     }
 
 -- a step from a state that is another one's
-pub step_along : (s t : State) (e : Event) (D : Configuration) → s ≡ t → Step s.accepted.program s.accepted.cert.jitter s.at e D → Step t.accepted.program t.accepted.cert.jitter t.at e D
+pub step_along : (s t : State) (e : Event) (D : Configuration) → s ≡ t → Step s.accepted.program s.accepted.cert.jitter s.at e D
+    → Step t.accepted.program t.accepted.cert.jitter t.at e D
 step_along s t e D same step = subst (λ x. Step x.accepted.program x.accepted.cert.jitter x.at e D) same step

@@ -22,7 +22,9 @@ module _ (g : Global) where
     is = refl;
     outside = refl;
     size = refl;
-    typed = at_two (λ i z. IsIn (range_of (twins g).scalars (0 + i)) z) (pos 5) (pos 6) (omega (arith, ints), omega (arith, ints)) (omega (arith, ints), omega (arith, ints));
+    typed =
+        at_two (λ i z. IsIn (range_of (twins g).scalars (0 + i)) z) (pos 5) (pos 6) (omega (arith, ints), omega (arith, ints))
+        (omega (arith, ints), omega (arith, ints));
     scalars = refl;
     rest = refl;
   }
@@ -46,8 +48,13 @@ module _ (g : Global) where
       modules = λ m a d at is. absurd (at_two (λ m a. is_left_dm (twins_idle 1) m ≡ true → ⊥) _ _ (λ e. false≢true e) (λ e. false≢true e) m a at is);
     };
     each = refl;
-    bounded = at_two (λ k plant. IsWithin (bounds plant) (slice_index_or ((pos 1 ∷ []) ∷ (negsuc 0 ∷ []) ∷ []) k [])) (swapping g 1) (swapping g 0) (omega (arith, ints), omega (arith, ints), tt) (omega (arith, ints), omega (arith, ints), tt);
-    moves = at_two (λ k plant. next_state plant (point_of (twins_idle 1) k) (commands plant (twins_idle 1)) (joined (seen_points plant (twins_idle 1))) (slice_index_or ((pos 1 ∷ []) ∷ (negsuc 0 ∷ []) ∷ []) k []) ≡ Ok (slice_index_or ((pos 4 ∷ []) ∷ (pos 19 ∷ []) ∷ []) k [])) (swapping g 1) (swapping g 0) refl refl;
+    bounded =
+        at_two (λ k plant. IsWithin (bounds plant) (slice_index_or ((pos 1 ∷ []) ∷ (negsuc 0 ∷ []) ∷ []) k [])) (swapping g 1) (swapping g 0)
+        (omega (arith, ints), omega (arith, ints), tt) (omega (arith, ints), omega (arith, ints), tt);
+    moves =
+        at_two (λ k plant. next_state plant (point_of (twins_idle 1) k) (commands plant (twins_idle 1)) (joined (seen_points plant (twins_idle 1)))
+        (slice_index_or ((pos 1 ∷ []) ∷ (negsuc 0 ∷ []) ∷ []) k []) ≡ Ok (slice_index_or ((pos 4 ∷ []) ∷ (pos 19 ∷ []) ∷ []) k [])) (swapping g 1)
+        (swapping g 0) refl refl;
     time = refl;
     left = at_none _;
     left_dm = at_two (λ m a. (is_left_dm (twins_idle 2) m ≡ true) ↔ ((is_left_dm (twins_idle 1) m ≡ true) ⊎ IsDue a.period a.offset 2)) _ _

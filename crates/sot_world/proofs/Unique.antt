@@ -33,18 +33,25 @@ same_flag true false P a b = sym (b.1 (a.0 refl))
 same_flag false true P a b = a.1 (b.0 refl)
 
 -- two lists that agree at each place of a third one of their length are one list
-same_lists : {A B : Type 0} (d : B) (xs : List A) (ys zs : List B) → length ys ≡ length xs → length zs ≡ length xs → ((k : ℕ) (x : A) → At xs k x → slice_index_or ys k d ≡ slice_index_or zs k d) → ys ≡ zs
-same_lists d xs ys zs a b h = ext_get_or d ys zs (a ∙ sym b) (λ i lt. ⊎_elim (λ here. h i here.0 here.2) (λ past. absurd (omega (arith, past.0, a))) (slice_get_cases xs i).1)
+same_lists : {A B : Type 0} (d : B) (xs : List A) (ys zs : List B) → length ys ≡ length xs → length zs ≡ length xs
+    → ((k : ℕ) (x : A) → At xs k x → slice_index_or ys k d ≡ slice_index_or zs k d) → ys ≡ zs
+same_lists d xs ys zs a b h =
+    ext_get_or d ys zs (a ∙ sym b) (λ i lt. ⊎_elim (λ here. h i here.0 here.2) (λ past. absurd (omega (arith, past.0, a))) (slice_get_cases xs i).1)
 
-same_configuration : (C D : Configuration) → C.time ≡ D.time → C.left ≡ D.left → C.left_dm ≡ D.left_dm → C.modes ≡ D.modes → C.scalars ≡ D.scalars → C.locals ≡ D.locals → C.points ≡ D.points → C ≡ D
+same_configuration : (C D : Configuration) → C.time ≡ D.time → C.left ≡ D.left → C.left_dm ≡ D.left_dm → C.modes ≡ D.modes → C.scalars ≡ D.scalars
+    → C.locals ≡ D.locals → C.points ≡ D.points → C ≡ D
 same_configuration C D t l m o s k q i = record { time = t i; left = l i; left_dm = m i; modes = o i; scalars = s i; locals = k i; points = q i }
 
-fires_same : (p : Tables) (n : ℕ) (node : NodeInfo) (locals : List ℤ) (draft : List (Option ℤ)) (C D D' : Configuration) → Fires p n node locals draft C D → Fires p n node locals draft C D' → D ≡ D'
+fires_same : (p : Tables) (n : ℕ) (node : NodeInfo) (locals : List ℤ) (draft : List (Option ℤ)) (C D D' : Configuration) → Fires p n node locals draft C D
+    → Fires p n node locals draft C D' → D ≡ D'
 fires_same p n node locals draft C D D' f g =
-    same_configuration D D' (f.time ∙ sym g.time) (f.left ∙ sym g.left) (f.left_dm ∙ sym g.left_dm) (f.modes ∙ sym g.modes) (f.scalars ∙ sym g.scalars) (f.locals_set ∙ sym g.locals_set) (f.points ∙ sym g.points)
+    same_configuration D D' (f.time ∙ sym g.time) (f.left ∙ sym g.left) (f.left_dm ∙ sym g.left_dm) (f.modes ∙ sym g.modes) (f.scalars ∙ sym g.scalars)
+    (f.locals_set ∙ sym g.locals_set) (f.points ∙ sym g.points)
 
 module _ (p : Tables) (j : ℕ) (C : Configuration) where
-  fired_same : (n : ℕ) (node node' : NodeInfo) (acts acts' : List Act) (f f' : Fired) → node ≡ node' → IsCoded node acts → IsCoded node' acts' → execution acts (local_ranges node) (write_ranges p node) (reading node C.scalars C.points) (locals_of C n) ≡ Ok f → execution acts' (local_ranges node') (write_ranges p node') (reading node' C.scalars C.points) (locals_of C n) ≡ Ok f' → f ≡ f'
+  fired_same : (n : ℕ) (node node' : NodeInfo) (acts acts' : List Act) (f f' : Fired) → node ≡ node' → IsCoded node acts → IsCoded node' acts'
+      → execution acts (local_ranges node) (write_ranges p node) (reading node C.scalars C.points) (locals_of C n) ≡ Ok f
+      → execution acts' (local_ranges node') (write_ranges p node') (reading node' C.scalars C.points) (locals_of C n) ≡ Ok f' → f ≡ f'
   fired_same n node node' acts acts' f f' e c c' r r' =
       let body : acts ≡ acts' = sym c.2 ∙ ap (λ v. v.items) (same_Some c.0 c'.0 (sym c.1 ∙ ap (λ x. x.body) e ∙ c'.1)) ∙ c'.2 in
       let one = ap (λ a. execution a (local_ranges node) (write_ranges p node) (reading node C.scalars C.points) (locals_of C n)) body in
@@ -75,7 +82,8 @@ module _ (p : Tables) (j : ℕ) (C : Configuration) where
   mode_same m D D' s t =
       let info = at_same p.modules m t.module_info s.module_info t.is s.is in
       same_mode (mode_of D m) (mode_of D' m) _ s.mode
-      (subst (λ a. (mode_of D' m ≡ Ac) ↔ (((mode_of C m ≡ Sc) × IsInRegion a.safer.boxes (point_of C a.plant)) ⊎ ((mode_of C m ≡ Ac) × Keeps p j a (point_of C a.plant)))) info t.mode)
+      (subst (λ a. (mode_of D' m ≡ Ac) ↔ (((mode_of C m ≡ Sc) × IsInRegion a.safer.boxes (point_of C a.plant))
+      ⊎ ((mode_of C m ≡ Ac) × Keeps p j a (point_of C a.plant)))) info t.mode)
 
   decide_same : (m : ℕ) (D D' : Configuration) → Decides p j m C D → Decides p j m C D' → D ≡ D'
   decide_same m D D' s t =
@@ -85,7 +93,8 @@ module _ (p : Tables) (j : ℕ) (C : Configuration) where
 
   tick_same : (noise : List (List ℤ)) (D D' : Configuration) → Ticks p j noise C D → Ticks p j noise C D' → D ≡ D'
   tick_same noise D D' s t =
-      same_configuration D D' time left left_dm (ap (λ x. x.modes) s.rest ∙ sym (ap (λ x. x.modes) t.rest)) (ap (λ x. x.scalars) s.rest ∙ sym (ap (λ x. x.scalars) t.rest)) (ap (λ x. x.locals) s.rest ∙ sym (ap (λ x. x.locals) t.rest)) points
+      same_configuration D D' time left left_dm (ap (λ x. x.modes) s.rest ∙ sym (ap (λ x. x.modes) t.rest))
+      (ap (λ x. x.scalars) s.rest ∙ sym (ap (λ x. x.scalars) t.rest)) (ap (λ x. x.locals) s.rest ∙ sym (ap (λ x. x.locals) t.rest)) points
     where
       time : D.time ≡ D'.time
       time = s.time ∙ sym t.time
@@ -101,7 +110,9 @@ module _ (p : Tables) (j : ℕ) (C : Configuration) where
           (subst (λ x. (is_left_dm D m ≡ true) ↔ ((is_left_dm C m ≡ true) ⊎ IsDue a.period a.offset x)) time (s.left_dm m a at)) (t.left_dm m a at))
 
       points : D.points ≡ D'.points
-      points = same_lists [] p.plants D.points D'.points s.sizes.points t.sizes.points (λ k plant at. let both : Ok (point_of D k) ≡ Ok (point_of D' k) = sym (s.moves k plant at) ∙ t.moves k plant at in cc)
+      points =
+          same_lists [] p.plants D.points D'.points s.sizes.points t.sizes.points
+          (λ k plant at. let both : Ok (point_of D k) ≡ Ok (point_of D' k) = sym (s.moves k plant at) ∙ t.moves k plant at in cc)
 
   step_same : (e : Event) (D D' : Configuration) → Step p j C e D → Step p j C e D' → D ≡ D'
   step_same (Input topic value) D D' s t = input_same topic value D D' s t

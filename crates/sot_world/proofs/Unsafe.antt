@@ -16,7 +16,8 @@ use Rattle.sot_calendar.specs.Due.{IsDue}
 use Rattle.sot_world.specs.Configurations.{IsOpening, IsSafer, is_left, is_left_dm, point_of, commands, seen_points}
 use Rattle.sot_world.specs.Steps.{Step, Tick}
 use Rattle.sot_world.specs.Headline.{IsSafeNow, EveryRunIsSafe}
-use Rattle.sot_world.specs.Examples.{ticked, settled, relaying, narrow, drifting, dividing, divided_plant, far_relay, far_copy, far_acts, opening_at, drift_0, drift_1}
+use Rattle.sot_world.specs.Examples.{ticked, settled, relaying, narrow, drifting, dividing, divided_plant, far_relay, far_copy, far_acts, opening_at, drift_0}
+use Rattle.sot_world.specs.Examples.{drift_1}
 use Rattle.sot_world.proofs.LineSteps.{opens, none_left}
 
 pub no_value : {A : Type 0} (o : Result A Trap) (t : Trap) (x : A) → o ≡ Err t → o ≡ Ok x → ⊥
@@ -35,7 +36,8 @@ module _ (g : Global) where
   unfolding next_state
   tick_traps s =
       let none = none_left g settled refl refl in
-      let moved = s.ticks (record { nodes = none.nodes; modules = none.modules }) 0 (divided_plant g) (pos 0 ∷ []) refl (omega (arith, ints), omega (arith, ints), tt) in
+      let moved = s.ticks (record { nodes = none.nodes; modules = none.modules }) 0 (divided_plant g) (pos 0 ∷ []) refl
+      (omega (arith, ints), omega (arith, ints), tt) in
       no_value _ _ moved.0 refl moved.1
 
   opens_narrow : IsOpening (narrow g) ((pos 7 ∷ []) ∷ []) (opening_at (pos 7))
@@ -54,14 +56,17 @@ module _ (g : Global) where
   -- the opening belongs to the run
   pub unsafe_opening : EveryRunIsSafe (narrow g) 0 → ⊥
   unsafe_opening every =
-      let safer : IsSafer (narrow g) (opening_at (pos 7)) = at_one (λ m a. IsInRegion a.safer.boxes (point_of (opening_at (pos 7)) a.plant)) _ (inl (omega (arith, ints), omega (arith, ints), tt)) in
+      let safer : IsSafer (narrow g) (opening_at (pos 7)) = at_one (λ m a. IsInRegion a.safer.boxes (point_of (opening_at (pos 7)) a.plant)) _
+      (inl (omega (arith, ints), omega (arith, ints), tt)) in
       let s = every ((pos 7 ∷ []) ∷ []) (opening_at (pos 7)) [] [] opens_narrow safer tt 0 (opening_at (pos 7)) refl in
       ⊎_elim (λ w. omega (arith, ints, w.1)) (λ no'. no') (s.modules 0 _ refl)
 
   opens_drift : IsOpening (drifting g) ((pos 0 ∷ []) ∷ []) drift_0
   opens_drift = record {
     time = refl;
-    left = at_two (λ n node. (is_left drift_0 n ≡ true) ↔ IsDue node.period node.offset 0) _ _ ((λ e. absurd (false≢true e)), (λ d. absurd (omega (arith, d.0)))) ((λ e. absurd (false≢true e)), (λ d. absurd (omega (arith, d.0))));
+    left =
+        at_two (λ n node. (is_left drift_0 n ≡ true) ↔ IsDue node.period node.offset 0) _ _ ((λ e. absurd (false≢true e)), (λ d. absurd (omega (arith, d.0))))
+        ((λ e. absurd (false≢true e)), (λ d. absurd (omega (arith, d.0))));
     left_dm = at_one (λ m a. (is_left_dm drift_0 m ≡ true) ↔ IsDue a.period a.offset 0) _ ((λ e. absurd (false≢true e)), (λ d. absurd (omega (arith, d.0))));
     modes = refl;
     scalars = refl;
@@ -79,19 +84,25 @@ module _ (g : Global) where
       modules = λ m a d at is. absurd (at_one (λ m a. is_left_dm drift_0 m ≡ true → ⊥) _ (λ e. false≢true e) m a at is);
     };
     each = refl;
-    bounded = at_one (λ k plant. IsWithin (bounds plant) (slice_index_or ((pos 1 ∷ []) ∷ []) k [])) (pos_plant g) (omega (arith, ints), omega (arith, ints), tt);
-    moves = at_one (λ k plant. next_state plant (point_of drift_0 k) (commands plant drift_0) (joined (seen_points plant drift_0)) (slice_index_or ((pos 1 ∷ []) ∷ []) k []) ≡ Ok (point_of drift_1 k)) (pos_plant g) refl;
+    bounded =
+        at_one (λ k plant. IsWithin (bounds plant) (slice_index_or ((pos 1 ∷ []) ∷ []) k [])) (pos_plant g) (omega (arith, ints), omega (arith, ints), tt);
+    moves =
+        at_one (λ k plant. next_state plant (point_of drift_0 k) (commands plant drift_0) (joined (seen_points plant drift_0))
+        (slice_index_or ((pos 1 ∷ []) ∷ []) k []) ≡ Ok (point_of drift_1 k)) (pos_plant g) refl;
     time = refl;
     left = at_two (λ n node. (is_left drift_1 n ≡ true) ↔ ((is_left drift_0 n ≡ true) ⊎ IsDue node.period node.offset 1)) _ _
         ((λ e. absurd (false≢true e)), (λ o. ⊎_elim (λ e. e) (λ d. absurd (omega (arith, d.0))) o))
         ((λ e. inr (omega arith, refl)), (λ o. refl));
-    left_dm = at_one (λ m a. (is_left_dm drift_1 m ≡ true) ↔ ((is_left_dm drift_0 m ≡ true) ⊎ IsDue a.period a.offset 1)) _ ((λ e. inr (omega arith, refl)), (λ o. refl));
+    left_dm =
+        at_one (λ m a. (is_left_dm drift_1 m ≡ true) ↔ ((is_left_dm drift_0 m ≡ true) ⊎ IsDue a.period a.offset 1)) _
+        ((λ e. inr (omega arith, refl)), (λ o. refl));
     sizes = record { left = refl; left_dm = refl; modes = refl; scalars = refl; locals = refl; points = refl };
     rest = refl;
   }
 
   pub unsafe_run : EveryRunIsSafe (drifting g) 0 → ⊥
   unsafe_run every =
-      let safer : IsSafer (drifting g) drift_0 = at_one (λ m a. IsInRegion a.safer.boxes (point_of drift_0 a.plant)) _ (inl (omega (arith, ints), omega (arith, ints), tt)) in
+      let safer : IsSafer (drifting g) drift_0 = at_one (λ m a. IsInRegion a.safer.boxes (point_of drift_0 a.plant)) _
+      (inl (omega (arith, ints), omega (arith, ints), tt)) in
       let s = every ((pos 0 ∷ []) ∷ []) drift_0 (Tick ((pos 1 ∷ []) ∷ []) ∷ []) (drift_1 ∷ []) opens_drift safer (drifts, tt) 1 drift_1 refl in
       ⊎_elim (λ w. omega (arith, ints, w.1)) (λ no'. no') (s.modules 0 _ refl)

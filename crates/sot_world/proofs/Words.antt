@@ -1,8 +1,10 @@
 -- The parts of a history's words.
-use Rattle.std.proofs.Common.{◌≡◌, ◌≢◌, ℕ, ◌+◌, ◌*◌, ◌/◌, ◌%◌, ◌≤◌, ◌<◌, ◌==◌, ℤ, pos, ◌-ℤ◌, ◌+ℤ◌, Bool, true, false, if◌then◌else◌, List, refl, sym, ap, ap₂, ◌∙◌, subst, arith}
+use Rattle.std.proofs.Common.{◌≡◌, ◌≢◌, ℕ, ◌+◌, ◌*◌, ◌/◌, ◌%◌, ◌≤◌, ◌<◌, ◌==◌, ℤ, pos, ◌-ℤ◌, ◌+ℤ◌, Bool, true, false, if◌then◌else◌, List, refl, sym, ap, ap₂}
+use Rattle.std.proofs.Common.{◌∙◌, subst, arith}
 use Rattle.sot_world.specs.declared.mode.Mode.{Mode}
 use Rattle.sot_world.specs.declared.mode.Mode.TheVariants.{Ac, Sc}
-use Rattle.sot_world.specs.HistoryRecords.{One, Decision, Firing, LateDecision, Value, Moves, bit_of, near_word, far_word, flag_in, number_in, record_as, record_in, logged, end_of, told, told_to}
+use Rattle.sot_world.specs.HistoryRecords.{One, Decision, Firing, LateDecision, Value, Moves, bit_of, near_word, far_word, flag_in, number_in, record_as}
+use Rattle.sot_world.specs.HistoryRecords.{record_in, logged, end_of, entry_in, entry_end}
 
 bit_small : (b : Bool) → bit_of b < 2
 bit_small true = omega arith
@@ -45,20 +47,25 @@ abbrev mode_of : Bool → Mode
 mode_of b = if b then Ac else Sc
 
 -- what each form of word tells
-pub near_one : (time node number : ℕ) (b : Bool) → time < 262144 → node < 1024 → record_in (near_word 0 (bit_of b) time node number) ≡ One time node (pos number -ℤ pos 2147483648) b
+pub near_one : (time node number : ℕ) (b : Bool) → time < 262144 → node < 1024
+    → record_in (near_word 0 (bit_of b) time node number) ≡ One time node (pos number -ℤ pos 2147483648) b
 near_one time node number b t i =
     let w = near_word 0 (bit_of b) time node number in
     let g = bit_small b in
     ap (λ k. record_as k w) (near_form 0 (bit_of b) time node number (omega arith) g t i)
-    ∙ ap₂ (λ x y. One x y (number_in w) (flag_in w)) (near_time 0 (bit_of b) time node number (omega arith) g t i) (near_index 0 (bit_of b) time node number (omega arith) g t i)
-    ∙ ap₂ (One time node) (ap (λ n. pos n -ℤ pos 2147483648) (near_number 0 (bit_of b) time node number (omega arith) g t i)) (ap (λ f. f == 1) (near_flag 0 (bit_of b) time node number (omega arith) g t i) ∙ bit_read b)
+    ∙ ap₂ (λ x y. One x y (number_in w) (flag_in w)) (near_time 0 (bit_of b) time node number (omega arith) g t i)
+    (near_index 0 (bit_of b) time node number (omega arith) g t i)
+    ∙ ap₂ (One time node) (ap (λ n. pos n -ℤ pos 2147483648) (near_number 0 (bit_of b) time node number (omega arith) g t i))
+    (ap (λ f. f == 1) (near_flag 0 (bit_of b) time node number (omega arith) g t i) ∙ bit_read b)
 
-pub near_decision : (time decider : ℕ) (b : Bool) → time < 262144 → decider < 1024 → record_in (near_word 1 (bit_of b) time decider 0) ≡ Decision time decider (if b then Ac else Sc)
+pub near_decision : (time decider : ℕ) (b : Bool) → time < 262144 → decider < 1024
+    → record_in (near_word 1 (bit_of b) time decider 0) ≡ Decision time decider (if b then Ac else Sc)
 near_decision time decider b t i =
     let w = near_word 1 (bit_of b) time decider 0 in
     let g = bit_small b in
     ap (λ k. record_as k w) (near_form 1 (bit_of b) time decider 0 (omega arith) g t i)
-    ∙ ap₂ (λ x y. Decision x y (mode_of (flag_in w))) (near_time 1 (bit_of b) time decider 0 (omega arith) g t i) (near_index 1 (bit_of b) time decider 0 (omega arith) g t i)
+    ∙ ap₂ (λ x y. Decision x y (mode_of (flag_in w))) (near_time 1 (bit_of b) time decider 0 (omega arith) g t i)
+    (near_index 1 (bit_of b) time decider 0 (omega arith) g t i)
     ∙ ap (λ x. Decision time decider (mode_of x)) (ap (λ f. f == 1) (near_flag 1 (bit_of b) time decider 0 (omega arith) g t i) ∙ bit_read b)
 
 pub far_firing : (there place : ℕ) (b : Bool) → there < 256 → record_in (far_word 2 (bit_of b) there place) ≡ Firing place there b
@@ -74,21 +81,24 @@ far_decision place b =
     let w = far_word 3 (bit_of b) 0 place in
     let g = bit_small b in
     ap (λ k. record_as k w) (far_form 3 (bit_of b) 0 place (omega arith) g (omega arith))
-    ∙ ap₂ (λ x y. LateDecision x (mode_of y)) (far_place 3 (bit_of b) 0 place (omega arith) g (omega arith)) (ap (λ f. f == 1) (far_flag 3 (bit_of b) 0 place (omega arith) g (omega arith)) ∙ bit_read b)
+    ∙ ap₂ (λ x y. LateDecision x (mode_of y)) (far_place 3 (bit_of b) 0 place (omega arith) g (omega arith))
+    (ap (λ f. f == 1) (far_flag 3 (bit_of b) 0 place (omega arith) g (omega arith)) ∙ bit_read b)
 
 pub far_value : (place : ℕ) → record_in (far_word 4 (bit_of false) 0 place) ≡ Value place
 far_value place =
     let w = far_word 4 (bit_of false) 0 place in
-    ap (λ k. record_as k w) (far_form 4 0 0 place (omega arith) (omega arith) (omega arith)) ∙ ap Value (far_place 4 0 0 place (omega arith) (omega arith) (omega arith))
+    ap (λ k. record_as k w) (far_form 4 0 0 place (omega arith) (omega arith) (omega arith))
+    ∙ ap Value (far_place 4 0 0 place (omega arith) (omega arith) (omega arith))
 
 pub far_moves : (place : ℕ) → record_in (far_word 5 (bit_of false) 0 place) ≡ Moves place
 far_moves place =
     let w = far_word 5 (bit_of false) 0 place in
-    ap (λ k. record_as k w) (far_form 5 0 0 place (omega arith) (omega arith) (omega arith)) ∙ ap Moves (far_place 5 0 0 place (omega arith) (omega arith) (omega arith))
+    ap (λ k. record_as k w) (far_form 5 0 0 place (omega arith) (omega arith) (omega arith))
+    ∙ ap Moves (far_place 5 0 0 place (omega arith) (omega arith) (omega arith))
 
 -- a word of this form
-pub told_as : (numbers : List ℤ) (form word : ℕ) → word % 8 ≡ form → told numbers word ≡ logged numbers (record_as form word)
+pub told_as : (numbers : List ℤ) (form word : ℕ) → word % 8 ≡ form → entry_in numbers word ≡ logged numbers (record_as form word)
 told_as numbers form word is = ap (λ k. logged numbers (record_as k word)) is
 
-pub told_to_as : (numbers : List ℤ) (form word : ℕ) → word % 8 ≡ form → told_to numbers word ≡ end_of numbers (record_as form word)
+pub told_to_as : (numbers : List ℤ) (form word : ℕ) → word % 8 ≡ form → entry_end numbers word ≡ end_of numbers (record_as form word)
 told_to_as numbers form word is = ap (λ k. end_of numbers (record_as k word)) is

@@ -10,4 +10,6 @@ use Rattle.sot_world.specs.declared.answers.Answer.TheVariants.{Nothing, Given}
 -- an answer is right: the module keeps its plant from that point on exactly where it says so
 abbrev pub IsRight : Admitted → Answer → Type 0
 IsRight acc Nothing = Unit {0}
-IsRight acc (Given kept m s) = (a : ModuleInfo) → At acc.program.modules m a → IsTrue kept ↔ Keeps acc.program acc.cert.jitter a s
+IsRight acc (Given kept m s) =
+    (a : ModuleInfo) → At acc.program.modules m a
+    → IsTrue kept ↔ Keeps acc.program acc.cert.jitter a s

@@ -1,4 +1,5 @@
--- Without jitter: what is left is due now, and the counts until the next firing are those of the calendar.
+-- Without jitter: what is left is due now, and the counts until the next firing are those of the
+-- calendar.
 use Rattle.std.specs.Prelude.{ℕ, ◌≡◌, ◌↔◌, true, false}
 use Rattle.sot_lang.specs.declared.tables.NodeInfo.{NodeInfo}
 use Rattle.sot_lang.specs.declared.tables.ModuleInfo.{ModuleInfo}
@@ -15,11 +16,13 @@ LeftIsDue = (period offset t : ℕ) → IsStillDue 0 period offset t ↔ IsDue p
 
 -- what is left fires in 0 ticks
 abbrev pub LeftIsNow : Type 0
-LeftIsNow = (period offset t r : ℕ) → IsDue period offset t → IsUntil 0 true period offset t r ↔ (r ≡ 0)
+LeftIsNow =
+    (period offset t r : ℕ) → IsDue period offset t → IsUntil 0 true period offset t r ↔ (r ≡ 0)
 
 -- what is not left fires in the least number of ticks, at least 1, after which it is due
 abbrev pub NotLeftIsNext : Type 0
-NotLeftIsNext = (period offset t r : ℕ) → IsUntil 0 false period offset t r ↔ IsDueIn period offset t r
+NotLeftIsNext =
+    (period offset t r : ℕ) → IsUntil 0 false period offset t r ↔ IsDueIn period offset t r
 
 -- nothing is left to fire
 pub record NothingLeft (p : Tables) (C : Configuration) : Type 0 where
@@ -28,4 +31,5 @@ pub record NothingLeft (p : Tables) (C : Configuration) : Type 0 where
 
 -- a tick may come exactly where nothing is left
 abbrev pub TicksWhereNothingIsLeft : Type 0
-TicksWhereNothingIsLeft = (p : Tables) (C : Configuration) → KeepsInvariant p 0 C → MayTick p 0 C ↔ NothingLeft p C
+TicksWhereNothingIsLeft =
+    (p : Tables) (C : Configuration) → KeepsInvariant p 0 C → MayTick p 0 C ↔ NothingLeft p C

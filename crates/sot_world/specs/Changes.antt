@@ -1,5 +1,6 @@
 -- What a step does to the parts of a configuration, part by part.
-use Rattle.std.specs.Prelude.{ℕ, ℤ, pos, Bool, true, false, not, List, [], slice_index_or, ◌≡◌, ◌⊎◌, ◌↔◌, ◌<◌, Ok, Result, Option, Some, None, map, length}
+use Rattle.std.specs.Prelude.{ℕ, ℤ, pos, Bool, true, false, not, List, [], slice_index_or, ◌≡◌, ◌⊎◌}
+use Rattle.std.specs.Prelude.{◌↔◌, ◌<◌, Ok, Result, Option, Some, None, map, length}
 use Rattle.sot_box.specs.Sides.{Side}
 use Rattle.sot_lang.specs.declared.act.Act.{Act}
 use Rattle.sot_lang.specs.declared.tables.NodeInfo.{NodeInfo}
@@ -26,7 +27,8 @@ use Rattle.sot_world.specs.Steps.{put}
 
 -- the mode after a decision from this mode, with the module's plant at this point
 abbrev pub IsNextMode : Tables → ℕ → ModuleInfo → Mode → List ℤ → Mode → Type 0
-IsNextMode p jitter a mode s next = (next ≡ Ac) ↔ (((mode ≡ Sc) × IsInRegion a.safer.boxes s) ⊎ ((mode ≡ Ac) × Keeps p jitter a s))
+IsNextMode p jitter a mode s next =
+    (next ≡ Ac) ↔ (((mode ≡ Sc) × IsInRegion a.safer.boxes s) ⊎ ((mode ≡ Ac) × Keeps p jitter a s))
 
 abbrev pub is_ac : Mode → Bool
 is_ac Ac = true
@@ -51,7 +53,8 @@ IsThere scalars points (State k v) = (k < length points) × (v < length (slice_i
 
 -- there is a number in each of these slots
 abbrev pub AreThere : List ℤ → List (List ℤ) → List Slot → Type 0
-AreThere scalars points slots = (i : ℕ) (slot : Slot) → At slots i slot → IsThere scalars points slot
+AreThere scalars points slots =
+    (i : ℕ) (slot : Slot) → At slots i slot → IsThere scalars points slot
 
 -- what is drafted for a scalar is put there, if it is a number
 abbrev pub put_drafted : Side → ℕ → Option ℤ → List ℤ → List ℤ
@@ -59,7 +62,8 @@ put_drafted r k None xs = xs
 put_drafted r k (Some z) xs = put r k z xs
 
 -- the body of a coded node ends on these numbers, with no trap
-pub record Runs (p : Tables) (n : ℕ) (scalars : List ℤ) (points : List (List ℤ)) (locals : List ℤ) : Type 0 where
+pub record Runs (p : Tables) (n : ℕ) (scalars : List ℤ) (points : List (List ℤ)) (locals : List ℤ) :
+    Type 0 where
   pub node : NodeInfo
   pub acts : List Act
   pub is : At p.nodes n node
@@ -67,18 +71,22 @@ pub record Runs (p : Tables) (n : ℕ) (scalars : List ℤ) (points : List (List
   pub there : AreThere scalars points node.reads.items
   pub locals_are : length locals ≡ length node.locals.items
   pub fired : bodies.Fired
-  pub runs : bodies.execution acts (local_ranges node) (write_ranges p node) (reading node scalars points) locals ≡ Ok fired
+  pub runs : bodies.execution acts (local_ranges node) (write_ranges p node)
+      (reading node scalars points) locals ≡ Ok fired
 
 -- what the body gives, with its draft in eight slots
 abbrev pub IsRun : Tables → ℕ → List ℤ → List (List ℤ) → List ℤ → Fired → Type 0
 IsRun p n scalars points locals result =
-    (node : NodeInfo) (acts : List Act) (fired : bodies.Fired) → At p.nodes n node → IsCoded node acts
-    → bodies.execution acts (local_ranges node) (write_ranges p node) (reading node scalars points) locals ≡ Ok fired
+    (node : NodeInfo) (acts : List Act) (fired : bodies.Fired) → At p.nodes n node
+    → IsCoded node acts
+    → bodies.execution acts (local_ranges node) (write_ranges p node) (reading node scalars points)
+    locals ≡ Ok fired
     → (result.locals ≡ fired.locals) × (result.draft ≡ in_slots fired.draft)
 
 -- the body ends with no trap, and gives this
 abbrev pub HasRun : Tables → ℕ → List ℤ → List (List ℤ) → List ℤ → Result Fired Trap → Type 0
-HasRun p n scalars points locals result = (fired : Fired) × (result ≡ Ok fired) × IsRun p n scalars points locals fired
+HasRun p n scalars points locals result =
+    (fired : Fired) × (result ≡ Ok fired) × IsRun p n scalars points locals fired
 
 -- the numbers of a plant's inputs, and the points of the plants that it sees
 abbrev pub held_of : PlantInfo → List ℤ → List ℤ
@@ -90,19 +98,24 @@ seen_of plant points = joined (map (λ k. slice_index_or points k []) plant.sees
 -- a plant's next point, from these scalars and points and with these disturbances
 abbrev pub IsMoved : Tables → ℕ → List ℤ → List (List ℤ) → List ℤ → List ℤ → Type 0
 IsMoved p k scalars points noise next =
-    (plant : PlantInfo) → At p.plants k plant → next_state plant (slice_index_or points k []) (held_of plant scalars) (seen_of plant points) noise ≡ Ok next
+    (plant : PlantInfo) → At p.plants k plant
+    → next_state plant (slice_index_or points k []) (held_of plant scalars) (seen_of plant points)
+    noise ≡ Ok next
 
 -- the plant's inputs and the plants that it sees are there, and its tick does not trap
-pub record MayMove (p : Tables) (k : ℕ) (scalars : List ℤ) (points : List (List ℤ)) (noise : List ℤ) : Type 0 where
+pub record MayMove (p : Tables) (k : ℕ) (scalars : List ℤ) (points : List (List ℤ)) (noise : List ℤ)
+    : Type 0 where
   pub plant : PlantInfo
   pub is : At p.plants k plant
   pub inputs : (i n : ℕ) → At plant.inputs.items i n → n < length scalars
   pub sees : (i n : ℕ) → At plant.sees.items i n → n < length points
   pub noise_are : length noise ≡ length plant.noise.items
   pub next : List ℤ
-  pub moves : next_state plant (slice_index_or points k []) (held_of plant scalars) (seen_of plant points) noise ≡ Ok next
+  pub moves : next_state plant (slice_index_or points k []) (held_of plant scalars)
+      (seen_of plant points) noise ≡ Ok next
 
 -- there is a point for each plant, of its width
 pub record ArePoints (p : Tables) (points : List (List ℤ)) : Type 0 where
   pub each : length points ≡ length p.plants
-  pub widths : (k : ℕ) (plant : PlantInfo) → At p.plants k plant → length (slice_index_or points k []) ≡ length plant.states.items
+  pub widths : (k : ℕ) (plant : PlantInfo) → At p.plants k plant
+      → length (slice_index_or points k []) ≡ length plant.states.items

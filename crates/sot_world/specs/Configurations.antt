@@ -1,5 +1,6 @@
 -- Configurations of a running program.
-use Rattle.std.specs.Prelude.{ℕ, ℤ, pos, Bool, true, false, List, [], slice_index_or, ◌≡◌, length, map, ◌↔◌}
+use Rattle.std.specs.Prelude.{ℕ, ℤ, pos, Bool, true, false, List, [], slice_index_or, ◌≡◌, length}
+use Rattle.std.specs.Prelude.{map, ◌↔◌}
 pub use Rattle.sot_world.specs.declared.mode.Mode.{Mode}
 pub use Rattle.sot_world.specs.declared.mode.Mode.TheVariants.{Ac, Sc}
 use Rattle.sot_lang.specs.declared.tables.PlantInfo.{PlantInfo}
@@ -10,7 +11,8 @@ use Rattle.sot_lists.specs.Places.{At}
 use Rattle.sot_box.specs.Regions.{IsInRegion}
 use Rattle.sot_calendar.specs.Due.{IsDue}
 
--- a configuration: the count of ticks so far, what is left to fire now, a mode per module, a number per scalar, a list of locals per node, and a point per plant
+-- a configuration: the count of ticks so far, what is left to fire now, a mode per module, a number
+-- per scalar, a list of locals per node, and a point per plant
 pub record Configuration : Type 0 where
   pub time : ℕ
   pub left : List Bool  -- per node, that it is left to fire
@@ -56,18 +58,24 @@ pub record IsSized (p : Tables) (C : Configuration) : Type 0 where
   pub locals : length C.locals ≡ length p.nodes
   pub points : length C.points ≡ length p.plants
 
--- the opening at these points: time 0, all that is due at 0 left to fire, every mode Sc, and scalars and locals as declared
+-- the opening at these points: time 0, all that is due at 0 left to fire, every mode Sc, and
+-- scalars and locals as declared
 pub record IsOpening (p : Tables) (start : List (List ℤ)) (C : Configuration) : Type 0 where
   pub time : C.time ≡ 0
-  pub left : (n : ℕ) (node : NodeInfo) → At p.nodes n node → (is_left C n ≡ true) ↔ IsDue node.period node.offset 0
-  pub left_dm : (m : ℕ) (module_info : ModuleInfo) → At p.modules m module_info → (is_left_dm C m ≡ true) ↔ IsDue module_info.period module_info.offset 0
+  pub left : (n : ℕ) (node : NodeInfo) → At p.nodes n node
+      → (is_left C n ≡ true) ↔ IsDue node.period node.offset 0
+  pub left_dm : (m : ℕ) (module_info : ModuleInfo) → At p.modules m module_info
+      → (is_left_dm C m ≡ true) ↔ IsDue module_info.period module_info.offset 0
   pub modes : C.modes ≡ map (λ m. Sc) p.modules
   pub scalars : C.scalars ≡ map (λ i. i.init) p.scalars
   pub locals : C.locals ≡ map (λ n. map (λ l. l.init) n.locals.items) p.nodes
   pub points : C.points ≡ start
   pub sizes : IsSized p C
-  pub widths : (k : ℕ) (plant : PlantInfo) → At p.plants k plant → length (point_of C k) ≡ length plant.states.items
+  pub widths : (k : ℕ) (plant : PlantInfo) → At p.plants k plant
+      → length (point_of C k) ≡ length plant.states.items
 
 -- each module's plant starts in its safer region
 abbrev pub IsSafer : Tables → Configuration → Type 0
-IsSafer p C = (m : ℕ) (module_info : ModuleInfo) → At p.modules m module_info → IsInRegion module_info.safer.boxes (point_of C module_info.plant)
+IsSafer p C =
+    (m : ℕ) (module_info : ModuleInfo) → At p.modules m module_info
+    → IsInRegion module_info.safer.boxes (point_of C module_info.plant)

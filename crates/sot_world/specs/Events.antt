@@ -1,5 +1,6 @@
 -- Events as they are handed in: what they name, when they are possible, and why they are not.
-use Rattle.std.specs.Prelude.{ℕ, ◌+◌, ◌<◌, ℤ, true, false, List, [], ◌∷◌, ◌++◌, ◌≡◌, None, ◌-◌, take, drop, length, map, replicate, slice_index_or}
+use Rattle.std.specs.Prelude.{ℕ, ◌+◌, ◌<◌, ℤ, true, false, List, [], ◌∷◌, ◌++◌, ◌≡◌, None, ◌-◌}
+use Rattle.std.specs.Prelude.{take, drop, length, map, replicate, slice_index_or}
 use Rattle.sot_lang.specs.declared.act.Act.{Act}
 use Rattle.sot_lang.specs.declared.tables.TopicInfo.{TopicInfo}
 use Rattle.sot_lang.specs.declared.tables.PlantInfo.{PlantInfo}
@@ -15,7 +16,8 @@ use Rattle.sot_calendar.specs.Due.{IsDueWithin}
 use Rattle.sot_world.specs.declared.event.Event.{Event}
 use Rattle.sot_world.specs.declared.event.Event.TheVariants.{Input, Code, Guest, Decide, Tick}
 use Rattle.sot_world.specs.declared.outcome.Why.{Why}
-use Rattle.sot_world.specs.declared.outcome.Why.TheVariants.{NotDue, AlreadyFired, NodesLeft, OutsideType}
+use Rattle.sot_world.specs.declared.outcome.Why.TheVariants.{NotDue, AlreadyFired, NodesLeft}
+use Rattle.sot_world.specs.declared.outcome.Why.TheVariants.{OutsideType}
 use Rattle.sot_world.specs.declared.outcome.Outcome.{Outcome}
 use Rattle.sot_world.specs.declared.outcome.Outcome.TheVariants as outcome
 use Rattle.sot_world.specs.Configurations.{Configuration, is_left, is_left_dm}
@@ -36,7 +38,8 @@ abbrev pub cut : List PlantInfo → List ℤ → List (List ℤ)
 cut [] w = []
 cut (k ∷ ks) w = take (length k.noise.items) w ∷ cut ks (drop (length k.noise.items) w)
 
--- the event of the semantics: a draft is its slots of the scalars that the node writes, and the list of all disturbances is cut plant by plant
+-- the event of the semantics: a draft is its slots of the scalars that the node writes, and the
+-- list of all disturbances is cut plant by plant
 abbrev pub event_of : Tables → Event → steps.Event
 event_of p (Input topic value) = steps.Input topic value.now
 event_of p (Code n) = steps.Code n
@@ -44,9 +47,12 @@ event_of p (Guest n draft) = steps.Guest n (take (slot_count p n) draft)
 event_of p (Decide m) = steps.Decide m
 event_of p (Tick noise) = steps.Tick (cut p.plants noise.now)
 
--- an event names what is there and of the right sort, and its lists have the lengths of what they are for
+-- an event names what is there and of the right sort, and its lists have the lengths of what they
+-- are for
 abbrev pub Names : Tables → Event → Type 0
-Names p (Input topic value) = (info : TopicInfo) × At p.topics topic info × (info.outside ≡ true) × (length value.now ≡ info.count)
+Names p (Input topic value) =
+    (info : TopicInfo) × At p.topics topic info × (info.outside ≡ true)
+    × (length value.now ≡ info.count)
 Names p (Code n) = (node : NodeInfo) × (acts : List Act) × At p.nodes n node × IsCoded node acts
 Names p (Guest n draft) = (node : NodeInfo) × At p.nodes n node × (node.body ≡ None)
 Names p (Decide m) = m < length p.modules
@@ -59,13 +65,17 @@ IsInType p first value = (i : ℕ) (z : ℤ) → At value i z → IsIn (range_of
 -- each plant's part of a list of disturbances is in its bounds
 abbrev pub IsInBounds : List PlantInfo → List ℤ → Type 0
 IsInBounds [] w = Unit {0}
-IsInBounds (k ∷ ks) w = IsWithin (bounds k) (take (length k.noise.items) w) × IsInBounds ks (drop (length k.noise.items) w)
+IsInBounds (k ∷ ks) w =
+    IsWithin (bounds k) (take (length k.noise.items) w)
+    × IsInBounds ks (drop (length k.noise.items) w)
 
 -- the topic's value is in its type
 abbrev pub IsTypedInput : Tables → ℕ → List ℤ → Type 0
-IsTypedInput p topic value = (info : TopicInfo) × At p.topics topic info × IsInType p info.first value
+IsTypedInput p topic value =
+    (info : TopicInfo) × At p.topics topic info × IsInType p info.first value
 
--- an event can happen now: a value is in its topic's type, what fires or decides is left to do so, and for a tick nothing that is left has its deadline now and all disturbances are in bounds
+-- an event can happen now: a value is in its topic's type, what fires or decides is left to do so,
+-- and for a tick nothing that is left has its deadline now and all disturbances are in bounds
 abbrev pub IsPossible : Tables → ℕ → Configuration → Event → Type 0
 IsPossible p jitter C (Input topic value) = IsTypedInput p topic value.now
 IsPossible p jitter C (Code n) = is_left C n ≡ true
@@ -75,11 +85,13 @@ IsPossible p jitter C (Tick noise) = steps.MayTick p jitter C × IsInBounds p.pl
 
 -- a node is due now, or was at most as many ticks ago as the jitter
 abbrev pub IsNodeDue : Tables → ℕ → Configuration → ℕ → Type 0
-IsNodeDue p jitter C n = (node : NodeInfo) × At p.nodes n node × IsDueWithin jitter node.period node.offset C.time
+IsNodeDue p jitter C n =
+    (node : NodeInfo) × At p.nodes n node × IsDueWithin jitter node.period node.offset C.time
 
 -- the same of a decision
 abbrev pub IsDecisionDue : Tables → ℕ → Configuration → ℕ → Type 0
-IsDecisionDue p jitter C m = (a : ModuleInfo) × At p.modules m a × IsDueWithin jitter a.period a.offset C.time
+IsDecisionDue p jitter C m =
+    (a : ModuleInfo) × At p.modules m a × IsDueWithin jitter a.period a.offset C.time
 
 -- why a node cannot fire now: there is no such due time, or it has fired for it
 abbrev pub RefusesNode : Tables → ℕ → Configuration → ℕ → Why → Type 0
@@ -107,7 +119,8 @@ abbrev pub RefusesTick : Tables → ℕ → Configuration → List ℤ → Why �
 RefusesTick p jitter C noise NotDue = ⊥
 RefusesTick p jitter C noise AlreadyFired = ⊥
 RefusesTick p jitter C noise NodesLeft = steps.MayTick p jitter C → ⊥
-RefusesTick p jitter C noise OutsideType = steps.MayTick p jitter C × (IsInBounds p.plants noise → ⊥)
+RefusesTick p jitter C noise OutsideType =
+    steps.MayTick p jitter C × (IsInBounds p.plants noise → ⊥)
 
 -- why an event cannot happen now
 abbrev pub Refuses : Tables → ℕ → Configuration → Event → Why → Type 0
@@ -120,6 +133,7 @@ Refuses p jitter C (Tick noise) why = RefusesTick p jitter C noise.now why
 -- the outcome that tells what is recorded, with nothing in the slots past the node's
 abbrev pub outcome_of : Recorded → Outcome
 outcome_of InputTaken = outcome.Input
-outcome_of (NodeFired draft enabled) = outcome.Fired (draft ++ replicate (8 - length draft) None) enabled
+outcome_of (NodeFired draft enabled) =
+    outcome.Fired (draft ++ replicate (8 - length draft) None) enabled
 outcome_of (ModuleDecided mode) = outcome.Decided mode
 outcome_of PlantsTicked = outcome.Ticked

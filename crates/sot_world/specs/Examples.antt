@@ -55,9 +55,17 @@ second = record ticked { time = 2; left = false ∷ true ∷ []; points = (pos 4
 
 -- a decision is left at a time, in a mode and with the plant at a point
 abbrev pub deciding : ℕ → Mode → ℤ → Configuration
-deciding t mode x = record at_opening { time = t; left = false ∷ false ∷ []; modes = mode ∷ []; scalars = pos 2 ∷ []; points = (x ∷ []) ∷ [] }
+deciding t mode x =
+    record at_opening {
+      time = t;
+      left = false ∷ false ∷ [];
+      modes = mode ∷ [];
+      scalars = pos 2 ∷ [];
+      points = (x ∷ []) ∷ [];
+    }
 
--- a run: the module decides, the advanced node drafts 2, the safe node fires, and the plant ticks with the disturbance 1
+-- a run: the module decides, the advanced node drafts 2, the safe node fires, and the plant ticks
+-- with the disturbance 1
 abbrev pub line_events : List Event
 line_events = Decide 0 ∷ Guest 0 (Some (pos 2) ∷ []) ∷ Code 1 ∷ Tick ((pos 1 ∷ []) ∷ []) ∷ []
 
@@ -69,20 +77,32 @@ abbrev pub braking : Configuration
 braking = record at_opening { time = 12; left_dm = false ∷ []; points = (pos 20 ∷ []) ∷ [] }
 
 module _ (g : Global) where
-  -- the running example with a safe node that counts its firings in a local n and publishes it: n = n + 1; publish cmd = n
+  -- the running example with a safe node that counts its firings in a local n and publishes it: n =
+  -- n + 1; publish cmd = n
   abbrev pub count_acts : List Act
-  count_acts = Assign 0 (Binary' Add (boxed g) (Place 1) (boxed g) (Number (pos 1)) somewhere) somewhere ∷ Publish 0 (Place 1) somewhere ∷ []
+  count_acts =
+      Assign 0 (Binary' Add (boxed g) (Place 1) (boxed g) (Number (pos 1)) somewhere) somewhere ∷
+      Publish 0 (Place 1) somewhere ∷ []
 
   abbrev pub counter : NodeInfo
   counter = record (slow g) {
-    locals = vec g (record { name = 110 ∷ []; scale = 0; truth = false; lo = pos 0; hi = pos 9; init = pos 0 } ∷ []) refl;
+    locals =
+        vec g (record {
+          name = 110 ∷ [];
+          scale = 0;
+          truth = false;
+          lo = pos 0;
+          hi = pos 9;
+          init = pos 0;
+        } ∷ []) refl;
     body = Some (vec g count_acts refl);
   }
 
   abbrev pub counting : Tables
   counting = record (line g) { nodes = fast g ∷ counter ∷ [] }
 
-  -- a relay: environment topic e: int[0..9] = 0; topic m: int[0..9] = 0; node copy period 6 offset 0 { reads e; writes m; do { publish m = e; } }
+  -- a relay: environment topic e: int[0..9] = 0; topic m: int[0..9] = 0; node copy period 6 offset
+  -- 0 { reads e; writes m; do { publish m = e; } }
   abbrev pub e_topic : TopicInfo
   e_topic = record { name = 101 ∷ []; outside = true; first = 0; count = 1 }
 
@@ -90,7 +110,16 @@ module _ (g : Global) where
   m_topic = record { name = 109 ∷ []; outside = false; first = 1; count = 1 }
 
   abbrev pub digit : ℕ → ScalarInfo
-  digit topic = record { topic = topic; field = None; scale = 0; truth = false; lo = pos 0; hi = pos 9; init = pos 0 }
+  digit topic =
+      record {
+        topic = topic;
+        field = None;
+        scale = 0;
+        truth = false;
+        lo = pos 0;
+        hi = pos 9;
+        init = pos 0;
+      }
 
   abbrev pub copy_acts : List Act
   copy_acts = Publish 0 (Place 0) somewhere ∷ []
@@ -107,11 +136,27 @@ module _ (g : Global) where
   }
 
   abbrev pub relay : Tables
-  relay = record { topics = e_topic ∷ m_topic ∷ []; scalars = digit 0 ∷ digit 1 ∷ []; plants = []; nodes = copy ∷ []; modules = [] }
+  relay =
+      record {
+        topics = e_topic ∷ m_topic ∷ [];
+        scalars = digit 0 ∷ digit 1 ∷ [];
+        plants = [];
+        nodes = copy ∷ [];
+        modules = [];
+      }
 
 -- the two numbers of the relay, with its node left to fire
 abbrev pub relaying : ℤ → ℤ → Configuration
-relaying e m = record { time = 0; left = true ∷ []; left_dm = []; modes = []; scalars = e ∷ m ∷ []; locals = [] ∷ []; points = [] }
+relaying e m =
+    record {
+      time = 0;
+      left = true ∷ [];
+      left_dm = [];
+      modes = [];
+      scalars = e ∷ m ∷ [];
+      locals = [] ∷ [];
+      points = [];
+    }
 
 -- the counting node's local, in mode Ac, in which the counting node is disabled
 abbrev pub idle_counter : ℤ → Configuration
@@ -130,19 +175,30 @@ module _ (g : Global) where
   abbrev pub drifting : Tables
   drifting = record (line g) {
     nodes = record (fast g) { offset = 2 } ∷ record (slow g) { offset = 1 } ∷ [];
-    modules = record (nav g) { offset = 1; safe = segments (pos 0) (pos 0); safer = segments (pos 0) (pos 0) } ∷ [];
+    modules =
+        record (nav g) {
+          offset = 1;
+          safe = segments (pos 0) (pos 0);
+          safer = segments (pos 0) (pos 0);
+        } ∷ [];
   }
 
   -- with a plant whose tick divides by its state
   abbrev pub divided_plant : PlantInfo
-  divided_plant = record (pos_plant g) { next = vec g (Binary' Div (boxed g) (Number (pos 10)) (boxed g) (Place 0) somewhere ∷ []) refl }
+  divided_plant =
+      record (pos_plant g) {
+        next = vec g
+            (Binary' Div (boxed g) (Number (pos 10)) (boxed g) (Place 0) somewhere ∷ []) refl;
+      }
 
   abbrev pub dividing : Tables
   dividing = record (line g) { plants = divided_plant ∷ [] }
 
   -- the relay with a node that publishes m = e + 9
   abbrev pub far_acts : List Act
-  far_acts = Publish 0 (Binary' Add (boxed g) (Place 0) (boxed g) (Number (pos 9)) somewhere) somewhere ∷ []
+  far_acts =
+      Publish 0 (Binary' Add (boxed g) (Place 0) (boxed g) (Number (pos 9)) somewhere) somewhere ∷
+      []
 
   abbrev pub far_copy : NodeInfo
   far_copy = record (copy g) { body = Some (vec g far_acts refl) }
@@ -159,9 +215,16 @@ abbrev pub drift_0 : Configuration
 drift_0 = record at_opening { left = false ∷ false ∷ []; left_dm = false ∷ [] }
 
 abbrev pub drift_1 : Configuration
-drift_1 = record drift_0 { time = 1; left = false ∷ true ∷ []; left_dm = true ∷ []; points = (pos 1 ∷ []) ∷ [] }
+drift_1 =
+    record drift_0 {
+      time = 1;
+      left = false ∷ true ∷ [];
+      left_dm = true ∷ [];
+      points = (pos 1 ∷ []) ∷ [];
+    }
 
--- two modules whose plants see each other and move to where the other one is, with the disturbance added, beside an environment topic of two numbers
+-- two modules whose plants see each other and move to where the other one is, with the disturbance
+-- added, beside an environment topic of two numbers
 module _ (g : Global) where
   abbrev pub pair_topic : TopicInfo
   pair_topic = record { name = 112 ∷ []; outside = true; first = 0; count = 2 }
@@ -184,7 +247,16 @@ module _ (g : Global) where
 
 -- the first plant at 20, outside the safer region, and the second one at 3, inside it
 abbrev pub twins_at : ℕ → Configuration
-twins_at t = record { time = t; left = []; left_dm = true ∷ true ∷ []; modes = Sc ∷ Sc ∷ []; scalars = pos 0 ∷ pos 0 ∷ []; locals = []; points = (pos 20 ∷ []) ∷ (pos 3 ∷ []) ∷ [] }
+twins_at t =
+    record {
+      time = t;
+      left = [];
+      left_dm = true ∷ true ∷ [];
+      modes = Sc ∷ Sc ∷ [];
+      scalars = pos 0 ∷ pos 0 ∷ [];
+      locals = [];
+      points = (pos 20 ∷ []) ∷ (pos 3 ∷ []) ∷ [];
+    }
 
 -- with no decision left
 abbrev pub twins_idle : ℕ → Configuration

@@ -9,7 +9,8 @@ pub data Logged : Type 0 where
   DecideAt : (time decider : ℕ) (mode : Mode) → Logged
   TickAt : (time : ℕ) (noise states : List ℤ) → Logged
 
--- the entries so far, and the room left: for so many entries, and for so many numbers of values, disturbances and states
+-- the entries so far, and the room left: for so many entries, and for so many numbers of values,
+-- disturbances and states
 pub record Story : Type 0 where
   pub entries : List Logged
   pub entries_left : ℕ

@@ -1,5 +1,9 @@
--- The records of a history: words, and numbers that stand in one list.
-use Rattle.std.specs.Prelude.{ℕ, zero, suc, ℤ, pos, ◌+◌, ◌*◌, ◌/◌, ◌%◌, ◌==◌, ◌-ℤ◌, Bool, true, false, if◌then◌else◌, Option, None, Some, List, [], ◌∷◌, take, drop, replicate, slice_index_or, unsigned_abs}
+-- The records of a history: words, and numbers that stand in one list. Nothing here has to be
+-- trusted: which entries a history has, is said by the clauses of its calls in the entries
+-- themselves (`HistoryEntry`), whatever the words are.
+use Rattle.std.specs.Prelude.{ℕ, zero, suc, ℤ, pos, ◌+◌, ◌*◌, ◌/◌, ◌%◌, ◌==◌, ◌-ℤ◌, Bool, true}
+use Rattle.std.specs.Prelude.{false, if◌then◌else◌, Option, None, Some, List, [], ◌∷◌, take, drop}
+use Rattle.std.specs.Prelude.{replicate, slice_index_or, unsigned_abs}
 use Rattle.sot_world.specs.declared.mode.Mode.{Mode}
 use Rattle.sot_world.specs.declared.mode.Mode.TheVariants.{Ac, Sc}
 use Rattle.sot_world.specs.HistoryEntry.{Logged, InputAt, FireAt, DecideAt, TickAt}
@@ -38,12 +42,14 @@ end_at numbers at = at + 1 + count_at numbers at
 abbrev pub short_at : List ℤ → ℕ → ℕ
 short_at numbers at = count_at numbers at % 4294967296
 
--- what a word says: most are of the first two forms, which hold all of an entry; of the others there is a place of the list, where their time stands
+-- what a word says: most are of the first two forms, which hold all of an entry; of the others
+-- there is a place of the list, where their time stands
 pub data Record : Type 0 where
   -- a draft with a number in its first slot alone
   One : (time node : ℕ) (number : ℤ) (enabled : Bool) → Record
   Decision : (time decider : ℕ) (mode : Mode) → Record
-  -- a time, a node, and the numbers of a draft, in the slots that have a bit, the first one the lowest
+  -- a time, a node, and the numbers of a draft, in the slots that have a bit, the first one the
+  -- lowest
   Firing : (place there : ℕ) (enabled : Bool) → Record
   -- a time and a module
   LateDecision : (place : ℕ) (mode : Mode) → Record
@@ -56,9 +62,11 @@ pub data Record : Type 0 where
 abbrev pub bit_of : Bool → ℕ
 bit_of b = if b then 1 else 0
 
--- a word that holds an entry: three bits of its form, a flag, 18 bits of time, 10 of an index, and 32 of a number
+-- a word that holds an entry: three bits of its form, a flag, 18 bits of time, 10 of an index, and
+-- 32 of a number
 abbrev pub near_word : (form flag time index number : ℕ) → ℕ
-near_word form flag time index number = form + 8 * (flag + 2 * (time + 262144 * (index + 1024 * number)))
+near_word form flag time index number =
+    form + 8 * (flag + 2 * (time + 262144 * (index + 1024 * number)))
 
 -- a word that holds a place: three bits of its form, a flag, eight bits of slots, and the place
 abbrev pub far_word : (form flag there place : ℕ) → ℕ
@@ -103,12 +111,19 @@ record_in word = record_as (word % 8) word
 
 -- an entry, with its numbers from the list
 abbrev pub logged : List ℤ → Record → Logged
-logged numbers (One time node number enabled) = FireAt time node (Some number ∷ replicate 7 None) enabled
+logged numbers (One time node number enabled) =
+    FireAt time node (Some number ∷ replicate 7 None) enabled
 logged numbers (Decision time m mode) = DecideAt time m mode
-logged numbers (Firing place there enabled) = FireAt (short_at numbers place) (short_at numbers (place + 1)) (slots_filled (flags_in 8 there) (drop (place + 2) numbers)) enabled
-logged numbers (LateDecision place mode) = DecideAt (short_at numbers place) (short_at numbers (place + 1)) mode
-logged numbers (Value place) = InputAt (short_at numbers place) (short_at numbers (place + 1)) (counted_at numbers (place + 2))
-logged numbers (Moves place) = TickAt (short_at numbers place) (counted_at numbers (place + 1)) (counted_at numbers (end_at numbers (place + 1)))
+logged numbers (Firing place there enabled) =
+    FireAt (short_at numbers place) (short_at numbers (place + 1))
+    (slots_filled (flags_in 8 there) (drop (place + 2) numbers)) enabled
+logged numbers (LateDecision place mode) =
+    DecideAt (short_at numbers place) (short_at numbers (place + 1)) mode
+logged numbers (Value place) =
+    InputAt (short_at numbers place) (short_at numbers (place + 1)) (counted_at numbers (place + 2))
+logged numbers (Moves place) =
+    TickAt (short_at numbers place) (counted_at numbers (place + 1))
+    (counted_at numbers (end_at numbers (place + 1)))
 
 -- where an entry's numbers end
 abbrev pub end_of : List ℤ → Record → ℕ
@@ -120,8 +135,8 @@ end_of numbers (Value place) = end_at numbers (place + 2)
 end_of numbers (Moves place) = end_at numbers (end_at numbers (place + 1))
 
 -- the entry that a word tells of, and where its numbers end
-abbrev pub told : List ℤ → ℕ → Logged
-told numbers word = logged numbers (record_in word)
+abbrev pub entry_in : List ℤ → ℕ → Logged
+entry_in numbers word = logged numbers (record_in word)
 
-abbrev pub told_to : List ℤ → ℕ → ℕ
-told_to numbers word = end_of numbers (record_in word)
+abbrev pub entry_end : List ℤ → ℕ → ℕ
+entry_end numbers word = end_of numbers (record_in word)

@@ -11,11 +11,14 @@ use Rattle.sot_box.specs.Regions.{IsInRegion}
 -- one point for each plant, with one coordinate for each of its state variables
 pub record AreStarts (p : Tables) (start : List (List ℤ)) : Type 0 where
   pub each : length start ≡ length p.plants
-  pub widths : (k : ℕ) (plant : PlantInfo) → At p.plants k plant → length (slice_index_or start k []) ≡ length plant.states.items
+  pub widths : (k : ℕ) (plant : PlantInfo) → At p.plants k plant
+      → length (slice_index_or start k []) ≡ length plant.states.items
 
 -- the modules before this place start inside their safer regions
 abbrev pub StartInside : Tables → List (List ℤ) → ℕ → Type 0
-StartInside p start m = (k : ℕ) (a : ModuleInfo) → k < m → At p.modules k a → IsInRegion a.safer.boxes (slice_index_or start a.plant [])
+StartInside p start m =
+    (k : ℕ) (a : ModuleInfo) → k < m → At p.modules k a
+    → IsInRegion a.safer.boxes (slice_index_or start a.plant [])
 
 -- the first module that starts outside its safer region
 pub record IsFirstOutside (p : Tables) (start : List (List ℤ)) (m : ℕ) : Type 0 where

@@ -1,5 +1,6 @@
 -- What is recorded of each step.
-use Rattle.std.specs.Prelude.{ℕ, suc, ℤ, Bool, false, ◌&&◌, not, int_le, if◌then◌else◌, List, [], ◌∷◌, Ok, ◌≡◌, Some, Option, None}
+use Rattle.std.specs.Prelude.{ℕ, ℤ, Bool, false, ◌&&◌, not, int_le, List, Ok, ◌≡◌, Some, Option}
+use Rattle.std.specs.Prelude.{None}
 use Rattle.sot_lang.specs.declared.act.Act.{Act}
 use Rattle.sot_lang.specs.declared.tables.NodeInfo.{NodeInfo}
 use Rattle.sot_lang.specs.Tables.{Tables}
@@ -11,7 +12,8 @@ use Rattle.sot_lang.specs.TableRules.{IsCoded}
 use Rattle.sot_world.specs.Configurations.{Configuration, mode_of, locals_of, Mode}
 use Rattle.sot_world.specs.Steps.{Event, Input, Code, Guest, Decide, Tick, is_enabled}
 
--- of a firing the draft and whether the node is enabled are recorded, of a decision the mode afterwards, and of an input or a tick nothing more than that it came
+-- of a firing the draft and whether the node is enabled are recorded, of a decision the mode
+-- afterwards, and of an input or a tick nothing more than that it came
 pub data Recorded : Type 0 where
   InputTaken : Recorded
   NodeFired : (draft : List (Option ℤ)) (enabled : Bool) → Recorded
@@ -25,7 +27,8 @@ pub record RecordsCode (p : Tables) (n : ℕ) (C : Configuration) (r : Recorded)
   pub acts : List Act
   pub coded : IsCoded node acts
   pub fired : Fired
-  pub runs : execution acts (local_ranges node) (write_ranges p node) (reading node C.scalars C.points) (locals_of C n) ≡ Ok fired
+  pub runs : execution acts (local_ranges node) (write_ranges p node)
+      (reading node C.scalars C.points) (locals_of C n) ≡ Ok fired
   pub recorded : r ≡ NodeFired fired.draft (is_enabled p C n)
 
 -- what is recorded of the step by an event from C to D
@@ -39,10 +42,5 @@ Records p C (Tick noise) D r = r ≡ PlantsTicked
 -- the number that a draft has for the scalar k is refused: it is outside the scalar's range
 abbrev pub is_refused : Tables → ℕ → Option ℤ → Bool
 is_refused p k None = false
-is_refused p k (Some z) = not (int_le (range_of p.scalars k).lo z && int_le z (range_of p.scalars k).hi)
-
--- how many numbers of a draft are refused, for a node that writes these scalars
-abbrev pub refusals : Tables → List ℕ → List (Option ℤ) → ℕ
-refusals p [] draft = 0
-refusals p (k ∷ ks) [] = 0
-refusals p (k ∷ ks) (d ∷ draft) = if is_refused p k d then suc (refusals p ks draft) else refusals p ks draft
+is_refused p k (Some z) =
+    not (int_le (range_of p.scalars k).lo z && int_le z (range_of p.scalars k).hi)

@@ -18,11 +18,17 @@ abbrev pub IsSettled : Tables → ℕ → Configuration → Event → Type 0
 IsSettled p jitter C (Input topic value) = Unit {0}
 IsSettled p jitter C (Code n) = Unit {0}
 IsSettled p jitter C (Guest n draft) = length draft ≡ 8
-IsSettled p jitter C (Decide m) = (a : ModuleInfo) → At p.modules m a → Keeps p jitter a (point_of C a.plant) ⊎ (Keeps p jitter a (point_of C a.plant) → ⊥)
+IsSettled p jitter C (Decide m) =
+    (a : ModuleInfo) → At p.modules m a
+    → Keeps p jitter a (point_of C a.plant) ⊎ (Keeps p jitter a (point_of C a.plant) → ⊥)
 IsSettled p jitter C (Tick noise) = Unit {0}
 
--- in a configuration that satisfies the invariant, an event that names what is there is possible exactly where the semantics has a step by it
+-- in a configuration that satisfies the invariant, an event that names what is there is possible
+-- exactly where the semantics has a step by it
 abbrev pub PossibleIsStep : Type 0
 PossibleIsStep =
-    (p : Tables) (jitter : ℕ) (C : Configuration) (e : Event) → MeetsTableRules p → IsWellFormed p jitter → KeepsInvariant p jitter C → Names p e →
-    ((D : Configuration) → Step p jitter C (event_of p e) D → IsPossible p jitter C e) × (IsPossible p jitter C e → IsSettled p jitter C e → (D : Configuration) × Step p jitter C (event_of p e) D)
+    (p : Tables) (jitter : ℕ) (C : Configuration) (e : Event) → MeetsTableRules p
+    → IsWellFormed p jitter → KeepsInvariant p jitter C → Names p e →
+    ((D : Configuration) → Step p jitter C (event_of p e) D → IsPossible p jitter C e)
+    × (IsPossible p jitter C e → IsSettled p jitter C e
+    → (D : Configuration) × Step p jitter C (event_of p e) D)

@@ -18,6 +18,8 @@ pub record IsScheduled (period offset t : ℕ) (s : Schedule) : Type 0 where
   pub next : IsNextDue period offset t s.next
 
 -- of each element of a list, by its period and its offset
-pub record AreScheduled {A : Type 0} (period offset : A → ℕ) (of : List A) (t : ℕ) (schedules : List Schedule) : Type 0 where
+pub record AreScheduled {A : Type 0} (period offset : A → ℕ) (of : List A) (t : ℕ)
+    (schedules : List Schedule) : Type 0 where
   pub each : length schedules ≡ length of
-  pub are : (k : ℕ) (x : A) → At of k x → (s : Schedule) × At schedules k s × IsScheduled (period x) (offset x) t s
+  pub are : (k : ℕ) (x : A) → At of k x
+      → (s : Schedule) × At schedules k s × IsScheduled (period x) (offset x) t s

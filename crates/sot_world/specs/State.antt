@@ -11,7 +11,8 @@ pub record State : Type 0 where
   pub accepted : Admitted
   pub at : Configuration
 
--- the configuration of a world satisfies the invariant, for all modules together, and its time is at most the greatest horizon
+-- the configuration of a world satisfies the invariant, for all modules together, and its time is
+-- at most the greatest horizon
 pub record IsKept (a : Admitted) (C : Configuration) : Type 0 where
   pub rules : MeetsTableRules a.program
   pub certified : IsWellCertified a.program a.cert.jitter a.cert

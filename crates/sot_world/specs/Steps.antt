@@ -1,5 +1,7 @@
 -- The steps of a running program.
-use Rattle.std.specs.Prelude.{ℕ, suc, ℤ, Bool, true, false, if◌then◌else◌, ◌&&◌, not, int_le, List, [], ◌∷◌, Ok, slice_index_or, ◌≡◌, ◌⊎◌, ◌==◌, Some, Option, None, slice_set, length, ◌+◌, ◌≢◌, ◌↔◌}
+use Rattle.std.specs.Prelude.{ℕ, suc, ℤ, Bool, true, false, if◌then◌else◌, ◌&&◌, not, int_le, List}
+use Rattle.std.specs.Prelude.{[], ◌∷◌, Ok, slice_index_or, ◌≡◌, ◌⊎◌, ◌==◌, Some, Option, None}
+use Rattle.std.specs.Prelude.{slice_set, length, ◌+◌, ◌≢◌, ◌↔◌}
 use Rattle.sot_lang.specs.declared.act.Act.{Act}
 use Rattle.sot_lang.specs.declared.tables.TopicInfo.{TopicInfo}
 use Rattle.sot_lang.specs.declared.tables.PlantInfo.{PlantInfo}
@@ -16,7 +18,8 @@ use Rattle.sot_lang.specs.Ticks.{next_state, joined}
 use Rattle.sot_lang.specs.Readings.{reading}
 use Rattle.sot_calendar.specs.Due.{IsDue, IsLastDue}
 use Rattle.sot_tube.specs.Tubes.{Keeps}
-use Rattle.sot_world.specs.Configurations.{Configuration, is_left, is_left_dm, mode_of, locals_of, point_of, commands, seen_points, IsSized, Mode, Ac, Sc}
+use Rattle.sot_world.specs.Configurations.{Configuration, is_left, is_left_dm, mode_of, locals_of}
+use Rattle.sot_world.specs.Configurations.{point_of, commands, seen_points, IsSized, Mode, Ac, Sc}
 
 -- an advanced node is enabled in mode Ac, a safe node in mode Sc, and any other always
 abbrev pub allows : ModuleInfo → Mode → ℕ → Bool
@@ -35,7 +38,8 @@ is_enabled p C n = allowed_by p.modules C.modes n
 abbrev pub put : Side → ℕ → ℤ → List ℤ → List ℤ
 put r k z xs = if int_le r.lo z && int_le z r.hi then slice_set xs k z else xs
 
--- a draft is published: each drafted number in its scalar's range is the scalar's new value, and every other scalar stays
+-- a draft is published: each drafted number in its scalar's range is the scalar's new value, and
+-- every other scalar stays
 abbrev pub publish : Tables → List ℕ → List (Option ℤ) → List ℤ → List ℤ
 publish p [] draft xs = xs
 publish p (k ∷ ks) [] xs = xs
@@ -47,8 +51,10 @@ abbrev pub published : Bool → Tables → List ℕ → List (Option ℤ) → Li
 published true p writes draft xs = publish p writes draft xs
 published false p writes draft xs = xs
 
--- the node n, which is left, fires with these new locals and this draft: it is no longer left, its locals are new also where it is disabled, and its draft is published where it is enabled
-pub record Fires (p : Tables) (n : ℕ) (node : NodeInfo) (locals : List ℤ) (draft : List (Option ℤ)) (C D : Configuration) : Type 0 where
+-- the node n, which is left, fires with these new locals and this draft: it is no longer left, its
+-- locals are new also where it is disabled, and its draft is published where it is enabled
+pub record Fires (p : Tables) (n : ℕ) (node : NodeInfo) (locals : List ℤ) (draft : List (Option ℤ))
+    (C D : Configuration) : Type 0 where
   pub was_left : is_left C n ≡ true
   pub time : D.time ≡ C.time
   pub left : D.left ≡ slice_set C.left n false
@@ -58,7 +64,8 @@ pub record Fires (p : Tables) (n : ℕ) (node : NodeInfo) (locals : List ℤ) (d
   pub locals_set : D.locals ≡ slice_set C.locals n locals
   pub scalars : D.scalars ≡ published (is_enabled p C n) p node.writes.items draft C.scalars
 
--- what happens: a value comes on a topic, a coded node fires, an external node fires with a draft, a module decides, or all plants tick, with the disturbances of each plant in declared order
+-- what happens: a value comes on a topic, a coded node fires, an external node fires with a draft,
+-- a module decides, or all plants tick, with the disturbances of each plant in declared order
 pub data Event : Type 0 where
   Input : (topic : ℕ) (value : List ℤ) → Event
   Code : (node : ℕ) → Event
@@ -88,42 +95,59 @@ pub record CodeFires (p : Tables) (n : ℕ) (C D : Configuration) : Type 0 where
   pub acts : List Act
   pub coded : (v : _) × (node.body ≡ Some v) × (v.items ≡ acts)
   pub fired : Fired
-  pub runs : execution acts (local_ranges node) (write_ranges p node) (reading node C.scalars C.points) (locals_of C n) ≡ Ok fired
+  pub runs : execution acts (local_ranges node) (write_ranges p node)
+      (reading node C.scalars C.points) (locals_of C n) ≡ Ok fired
   pub fires : Fires p n node fired.locals fired.draft C D
 
--- an external node gives any draft, which has for each scalar that the node writes a number or nothing
-pub record GuestFires (p : Tables) (n : ℕ) (draft : List (Option ℤ)) (C D : Configuration) : Type 0 where
-  pub node : NodeInfo
-  pub is : At p.nodes n node
-  pub external : node.body ≡ None
-  pub slots : length draft ≡ length node.writes.items
-  pub fires : Fires p n node (locals_of C n) draft C D
+-- an external node gives any draft, which has for each scalar that the node writes a number or
+-- nothing
+pub record GuestFires (p : Tables) (n : ℕ) (draft : List (Option ℤ)) (C D : Configuration) : Type 0
+  where
+    pub node : NodeInfo
+    pub is : At p.nodes n node
+    pub external : node.body ≡ None
+    pub slots : length draft ≡ length node.writes.items
+    pub fires : Fires p n node (locals_of C n) draft C D
 
 -- no decision node and no node that is left has its deadline now (without jitter: nothing is left)
 pub record MayTick (p : Tables) (jitter : ℕ) (C : Configuration) : Type 0 where
-  pub nodes : (n : ℕ) (node : NodeInfo) (d : ℕ) → At p.nodes n node → is_left C n ≡ true → IsLastDue node.period node.offset C.time d → d + jitter ≢ C.time
-  pub modules : (m : ℕ) (module_info : ModuleInfo) (d : ℕ) → At p.modules m module_info → is_left_dm C m ≡ true → IsLastDue module_info.period module_info.offset C.time d → d + jitter ≢ C.time
+  pub nodes : (n : ℕ) (node : NodeInfo) (d : ℕ) → At p.nodes n node → is_left C n ≡ true
+      → IsLastDue node.period node.offset C.time d → d + jitter ≢ C.time
+  pub modules : (m : ℕ) (module_info : ModuleInfo) (d : ℕ) → At p.modules m module_info
+      → is_left_dm C m ≡ true → IsLastDue module_info.period module_info.offset C.time d
+      → d + jitter ≢ C.time
 
--- all plants tick together, each from the points before the tick and with disturbances in its bounds; the time rises by 1, and what is due then is left to fire
-pub record Ticks (p : Tables) (jitter : ℕ) (noise : List (List ℤ)) (C D : Configuration) : Type 0 where
-  pub may : MayTick p jitter C
-  pub each : length noise ≡ length p.plants
-  pub bounded : (k : ℕ) (plant : PlantInfo) → At p.plants k plant → IsWithin (bounds plant) (slice_index_or noise k [])
-  pub moves : (k : ℕ) (plant : PlantInfo) → At p.plants k plant → next_state plant (point_of C k) (commands plant C) (joined (seen_points plant C)) (slice_index_or noise k []) ≡ Ok (point_of D k)
-  pub time : D.time ≡ suc C.time
-  pub left : (n : ℕ) (node : NodeInfo) → At p.nodes n node → (is_left D n ≡ true) ↔ ((is_left C n ≡ true) ⊎ IsDue node.period node.offset D.time)
-  pub left_dm : (m : ℕ) (module_info : ModuleInfo) → At p.modules m module_info → (is_left_dm D m ≡ true) ↔ ((is_left_dm C m ≡ true) ⊎ IsDue module_info.period module_info.offset D.time)
-  pub sizes : IsSized p D
-  pub rest : D ≡ record C { time = D.time; left = D.left; left_dm = D.left_dm; points = D.points }
+-- all plants tick together, each from the points before the tick and with disturbances in its
+-- bounds; the time rises by 1, and what is due then is left to fire
+pub record Ticks (p : Tables) (jitter : ℕ) (noise : List (List ℤ)) (C D : Configuration) : Type 0
+  where
+    pub may : MayTick p jitter C
+    pub each : length noise ≡ length p.plants
+    pub bounded : (k : ℕ) (plant : PlantInfo) → At p.plants k plant
+        → IsWithin (bounds plant) (slice_index_or noise k [])
+    pub moves : (k : ℕ) (plant : PlantInfo) → At p.plants k plant
+        → next_state plant (point_of C k) (commands plant C) (joined (seen_points plant C))
+        (slice_index_or noise k []) ≡ Ok (point_of D k)
+    pub time : D.time ≡ suc C.time
+    pub left : (n : ℕ) (node : NodeInfo) → At p.nodes n node
+        → (is_left D n ≡ true) ↔ ((is_left C n ≡ true) ⊎ IsDue node.period node.offset D.time)
+    pub left_dm : (m : ℕ) (module_info : ModuleInfo) → At p.modules m module_info
+        → (is_left_dm D m ≡ true) ↔ ((is_left_dm C m ≡ true)
+        ⊎ IsDue module_info.period module_info.offset D.time)
+    pub sizes : IsSized p D
+    pub rest : D ≡ record C { time = D.time; left = D.left; left_dm = D.left_dm; points = D.points }
 
--- a module whose decision is left decides: it is in mode Ac afterwards exactly where it was in mode Sc with its plant in the safer region, or in mode Ac and the tube keeps
+-- a module whose decision is left decides: it is in mode Ac afterwards exactly where it was in mode
+-- Sc with its plant in the safer region, or in mode Ac and the tube keeps
 pub record Decides (p : Tables) (jitter m : ℕ) (C D : Configuration) : Type 0 where
   pub module_info : ModuleInfo
   pub is : At p.modules m module_info
   pub was_left : is_left_dm C m ≡ true
   pub left_dm : D.left_dm ≡ slice_set C.left_dm m false
   pub modes : D.modes ≡ slice_set C.modes m (mode_of D m)
-  pub mode : (mode_of D m ≡ Ac) ↔ (((mode_of C m ≡ Sc) × IsInRegion module_info.safer.boxes (point_of C module_info.plant)) ⊎ ((mode_of C m ≡ Ac) × Keeps p jitter module_info (point_of C module_info.plant)))
+  pub mode : (mode_of D m ≡ Ac) ↔ (((mode_of C m ≡ Sc)
+      × IsInRegion module_info.safer.boxes (point_of C module_info.plant))
+      ⊎ ((mode_of C m ≡ Ac) × Keeps p jitter module_info (point_of C module_info.plant)))
   pub rest : D ≡ record C { left_dm = D.left_dm; modes = D.modes }
 
 -- one step of the semantics; what a case does not name stays

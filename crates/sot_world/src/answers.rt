@@ -1,6 +1,7 @@
 //! Answers that were given before.
 
-ghost use Rattle.std.specs.Prelude.{◌≡◌, ℕ, ◌+◌, ◌*◌, ◌<◌, true, length, slice_set, IfOk, IfSome, IsTrue, ◌↔◌};
+ghost use Rattle.std.specs.Prelude.{◌≡◌, ℕ, ◌+◌, ◌*◌, ◌<◌, true, length, slice_set, IfOk, IfSome};
+ghost use Rattle.std.specs.Prelude.{IsTrue, ◌↔◌};
 ghost use Rattle.sot_lists.specs.Places.{At};
 ghost use Rattle.sot_lang.specs.declared.tables.ModuleInfo.{ModuleInfo};
 ghost use Rattle.sot_box.specs.Boxes.{point_box};
@@ -26,8 +27,8 @@ pub enum Answer {
     },
 }
 
-/// Answers that were given of the modules of an accepted program. States come back, and to look for an answer takes some forty
-/// instructions, where to follow a tube takes thousands.
+/// Answers that were given of the modules of an accepted program. States come back, and to look for
+/// an answer takes some forty instructions, where to follow a tube takes thousands.
 #[derive(Drop)]
 pub struct Answers<'a> {
     accepted: &'a Accepted<'a>,
@@ -50,7 +51,8 @@ impl<'a> Model for Answers<'a> {
 
     ghost view = { λ a. a.accepted.now };
 
-    ghost invariant = { λ a. (i : ℕ) (answer : AnAnswer) → At a.given.items i answer → IsRight a.accepted.now answer };
+    ghost invariant = { λ a. (i : ℕ) (answer : AnAnswer) → At a.given.items i answer
+        → IsRight a.accepted.now answer };
 }
 
 // So many answers are kept of each module.
@@ -121,10 +123,12 @@ impl<'a> Answers<'a> {
         self.accepted.typed()
     }
 
-    // Whether the safer region of a module has a point. From such a point on the certificate shows that the module keeps its plant safe.
+    // Whether the safer region of a module has a point. From such a point on the certificate shows
+    // that the module keeps its plant safe.
     fn is_shown(&self, module: u32, s: &Point) -> bool
         requires { MayFollow self.now.program «module» (point_box s.now) }
-        ensures { IsTrue result → (a : ModuleInfo) → At self.now.program.modules «module» a → Keeps self.now.program self.now.cert.jitter a s.now }
+        ensures { IsTrue result → (a : ModuleInfo) → At self.now.program.modules «module» a
+            → Keeps self.now.program self.now.cert.jitter a s.now }
     {
         safer_points_are_kept();
         let p = self.accepted.typed();
@@ -135,7 +139,8 @@ impl<'a> Answers<'a> {
     fn ask(&mut self, place: usize, module: u32, s: &Point) -> bool
         requires follow { MayFollow self.old.program «module» (point_box s.now) }
         requires jitter { self.old.cert.jitter < 1000 }
-        ensures kept { (a : ModuleInfo) → At self.old.program.modules «module» a → IsTrue result ↔ Keeps self.old.program self.old.cert.jitter a s.now }
+        ensures kept { (a : ModuleInfo) → At self.old.program.modules «module» a
+            → IsTrue result ↔ Keeps self.old.program self.old.cert.jitter a s.now }
         ensures same { self.new ≡ self.old }
     {
         let kept = keeps(
@@ -164,12 +169,14 @@ impl<'a> Answers<'a> {
         }
     }
 
-    /// Whether a module keeps its plant safe from a point on for two of its periods, each longer by the jitter, whatever the
-    /// commands. No tube is followed from a point of the safer region, nor from one whose answer is still there.
+    /// Whether a module keeps its plant safe from a point on for two of its periods, each longer by
+    /// the jitter, whatever the commands. No tube is followed from a point of the safer region, nor
+    /// from one whose answer is still there.
     pub fn keeps(&mut self, module: u32, s: &Point) -> bool
         requires follow { MayFollow self.old.program «module» (point_box s.now) }
         requires jitter { self.old.cert.jitter < 1000 }
-        ensures kept { (a : ModuleInfo) → At self.old.program.modules «module» a → IsTrue result ↔ Keeps self.old.program self.old.cert.jitter a s.now }
+        ensures kept { (a : ModuleInfo) → At self.old.program.modules «module» a
+            → IsTrue result ↔ Keeps self.old.program self.old.cert.jitter a s.now }
         ensures same { self.new ≡ self.old }
     {
         if self.is_shown(module, s) {

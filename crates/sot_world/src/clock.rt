@@ -33,7 +33,8 @@ pub fn at_deadline(jitter: u32, period: u32, offset: u32, t: u32) -> bool
 
 /// Whether no node that is left to fire has its deadline at a time.
 pub fn no_node_at_deadline(jitter: u32, nodes: &[NodeInfo], left: &[bool], time: u32) -> bool
-    requires periods { (n : ℕ) (node : Node) → At nodes.now n node → (jitter < node.period) × (node.offset < node.period) × (node.period ≤ 1000) }
+    requires periods { (n : ℕ) (node : Node) → At nodes.now n node
+        → (jitter < node.period) × (node.offset < node.period) × (node.period ≤ 1000) }
     requires time { time ≤ 100000 }
     requires size { length left.now ≡ length nodes.now }
     ensures { IsTrue result ↔ NoNodeAtDeadline jitter nodes.now left.now time }
@@ -54,7 +55,8 @@ pub fn no_decision_at_deadline(
     left: &[bool],
     time: u32,
 ) -> bool
-    requires periods { (m : ℕ) (a : Module) → At modules.now m a → (jitter < a.period) × (a.offset < a.period) × (a.period ≤ 1000) }
+    requires periods { (m : ℕ) (a : Module) → At modules.now m a
+        → (jitter < a.period) × (a.offset < a.period) × (a.period ≤ 1000) }
     requires time { time ≤ 100000 }
     requires size { length left.now ≡ length modules.now }
     ensures { IsTrue result ↔ NoDecisionAtDeadline jitter modules.now left.now time }

@@ -19,12 +19,14 @@ fn mode_by(trusted: bool) -> Mode
     if trusted { Mode::Ac } else { Mode::Sc }
 }
 
-/// The mode after a module's decision, from this mode and with its plant at this point. The advanced node is trusted from the
-/// safer region on, for as long as the tube of two periods, each longer by the jitter, is inside the safe region.
+/// The mode after a module's decision, from this mode and with its plant at this point. The
+/// advanced node is trusted from the safer region on, for as long as the tube of two periods, each
+/// longer by the jitter, is inside the safe region.
 pub fn next_mode(answers: &mut Answers<'_>, module: u32, mode: Mode, s: &Point) -> Mode
     requires follow { MayFollow answers.old.program «module» (point_box s.now) }
     requires jitter { answers.old.cert.jitter < 1000 }
-    ensures mode { (a : ModuleInfo) → At answers.old.program.modules «module» a → IsNextMode answers.old.program answers.old.cert.jitter a mode s.now result }
+    ensures mode { (a : ModuleInfo) → At answers.old.program.modules «module» a
+        → IsNextMode answers.old.program answers.old.cert.jitter a mode s.now result }
     ensures same { answers.new ≡ answers.old }
 {
     match mode {

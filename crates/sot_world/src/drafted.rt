@@ -1,6 +1,8 @@
 //! Drafts as a history keeps them: their numbers in a list, and which slots these are of.
 
-ghost use Rattle.std.specs.Prelude.{◌≡◌, ◌+◌, ◌*◌, ◌≤◌, ◌<◌, ◌++◌, ◌∷◌, ℤ, List, Some, None, IfSome, if◌then◌else◌, length, drop, replicate, is_some, slice_index_or, option_to_list, vec_len, vec_capacity};
+ghost use Rattle.std.specs.Prelude.{◌≡◌, ◌+◌, ◌*◌, ◌≤◌, ◌<◌, ◌++◌, ◌∷◌, ℤ, List, Some, None};
+ghost use Rattle.std.specs.Prelude.{IfSome, if◌then◌else◌, length, drop, replicate, is_some};
+ghost use Rattle.std.specs.Prelude.{slice_index_or, option_to_list, vec_len, vec_capacity};
 ghost use Rattle.sot_world.specs.HistoryRecords.{slots_filled, count_there, flags_in};
 
 use sot_lang::Draft;
@@ -25,7 +27,8 @@ fn append_slot(numbers: &mut Vec<i64>, slot: Option<i64>) -> bool
 // Appends the numbers of a draft, for which there is room, and tells which slots they are of.
 fn append_slots(numbers: &mut Vec<i64>, draft: &Draft) -> [bool; 8]
     requires { vec_len numbers.old + 8 ≤ vec_capacity numbers.old }
-    ensures kept { (more : List ℤ) × (numbers.new.items ≡ numbers.old.items ++ more) × (count_there result ≡ length more) × (slots_filled result more ≡ draft.now) }
+    ensures kept { (more : List ℤ) × (numbers.new.items ≡ numbers.old.items ++ more)
+        × (count_there result ≡ length more) × (slots_filled result more ≡ draft.now) }
     ensures len { vec_len numbers.new ≤ vec_len numbers.old + 8 }
     ensures capacity { vec_capacity numbers.old ≤ vec_capacity numbers.new }
 {
@@ -56,10 +59,13 @@ fn bits_of(there: &[bool; 8]) -> u8
     bits
 }
 
-/// Appends the numbers of a draft, for which there is room, and tells by a bit of each slot which ones they are of.
+/// Appends the numbers of a draft, for which there is room, and tells by a bit of each slot which
+/// ones they are of.
 pub(crate) fn append_draft(numbers: &mut Vec<i64>, draft: &Draft) -> u8
     requires { vec_len numbers.old + 8 ≤ vec_capacity numbers.old }
-    ensures kept { (more : List ℤ) × (numbers.new.items ≡ numbers.old.items ++ more) × (count_there (flags_in 8 result) ≡ length more) × (slots_filled (flags_in 8 result) more ≡ draft.now) }
+    ensures kept { (more : List ℤ) × (numbers.new.items ≡ numbers.old.items ++ more)
+        × (count_there (flags_in 8 result) ≡ length more)
+        × (slots_filled (flags_in 8 result) more ≡ draft.now) }
     ensures len { vec_len numbers.new ≤ vec_len numbers.old + 8 }
     ensures capacity { vec_capacity numbers.old ≤ vec_capacity numbers.new }
 {

@@ -1,6 +1,7 @@
 //! What a firing publishes.
 
-ghost use Rattle.std.specs.Prelude.{◌≡◌, ℕ, ℤ, Option, ◌-◌, ◌<◌, ◌≤◌, ◌++◌, None, length, take, replicate, slice_set};
+ghost use Rattle.std.specs.Prelude.{◌≡◌, ℕ, ℤ, Option, ◌-◌, ◌<◌, ◌≤◌, ◌++◌, None, length, take};
+ghost use Rattle.std.specs.Prelude.{replicate, slice_set};
 ghost use Rattle.sot_lists.specs.Places.{At};
 ghost use Rattle.sot_lang.specs.declared.tables.NodeInfo.{NodeInfo};
 ghost use Rattle.sot_lang.specs.Ranges.{range_of};
@@ -43,8 +44,10 @@ pub(crate) fn seen_by<'w>(
     scalars: &'w [i64],
     points: &'w [Point],
 ) -> Lent<'w>
-    requires { (info : NodeInfo) × At p.now.nodes node info × AreThere scalars.now points.now info.reads.items }
-    ensures { (info : NodeInfo) → At p.now.nodes node info → result ≡ reading info scalars.now points.now }
+    requires { (info : NodeInfo) × At p.now.nodes node info
+        × AreThere scalars.now points.now info.reads.items }
+    ensures { (info : NodeInfo) → At p.now.nodes node info
+        → result ≡ reading info scalars.now points.now }
 {
     Lent::of(&p.nodes[node as usize].reads, scalars, points)
 }

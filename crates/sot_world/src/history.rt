@@ -1,6 +1,7 @@
 //! The events of a run as they are recorded.
 
-ghost use Rattle.std.specs.Prelude.{◌≡◌, ◌+◌, ◌^◌, ◌<◌, ◌≤◌, [], ◌∷◌, ◌++◌, length, slice_get, Some, IfOk, vec_len, vec_capacity};
+ghost use Rattle.std.specs.Prelude.{◌≡◌, ◌+◌, ◌^◌, ◌<◌, ◌≤◌, [], ◌∷◌, ◌++◌, length, slice_get};
+ghost use Rattle.std.specs.Prelude.{Some, IfOk, vec_len, vec_capacity};
 ghost use Rattle.sot_world.specs.HistoryEntry.{FireAt};
 ghost use Rattle.sot_world.specs.Histories.{entry_of, numbers_in};
 
@@ -32,7 +33,8 @@ pub enum Entry<'h> {
         module: u32,
         mode: Mode,
     },
-    /// The disturbances of all plants, and their states after the tick, each one plant after another.
+    /// The disturbances of all plants, and their states after the tick, each one plant after
+    /// another.
     Tick {
         time: u32,
         noise: &'h [i64],
@@ -64,12 +66,14 @@ impl Model for History {
 impl History {
     /// No entries yet, with room for so many, and for so many numbers in their slices.
     pub fn none(alloc: Global, entries: u32, numbers: u32) -> Result<History, AllocError>
-        ensures { IfOk result (λ h. h ≡ record { entries = []; entries_left = entries; numbers_left = numbers }) }
+        ensures { IfOk result (λ h. h ≡ record
+            { entries = []; entries_left = entries; numbers_left = numbers }) }
     {
         let entries_left = entries as usize;
         let numbers_left = numbers as usize;
-        // Each entry may be a firing, of which a time, a node and at most eight numbers are kept; of another entry at most a time and
-        // two counts are. Where pages are handed out when they are first touched, what is never written takes up none.
+        // Each entry may be a firing, of which a time, a node and at most eight numbers are kept;
+        // of another entry at most a time and two counts are. Where pages are handed out when they
+        // are first touched, what is never written takes up none.
         Ok(History {
             words: Vec::with_capacity(alloc, entries_left)?,
             numbers: Vec::with_capacity(alloc, numbers_left + 10 * entries_left)?,
@@ -84,7 +88,8 @@ impl History {
         requires numbers { numbers_in (entry_of e.now) ≤ self.old.numbers_left }
         ensures appended { self.new.entries ≡ self.old.entries ++ entry_of e.now ∷ [] }
         ensures entries_left { self.new.entries_left + 1 ≡ self.old.entries_left }
-        ensures numbers_left { self.new.numbers_left + numbers_in (entry_of e.now) ≡ self.old.numbers_left }
+        ensures numbers_left { self.new.numbers_left + numbers_in (entry_of e.now)
+            ≡ self.old.numbers_left }
     {
         let word = kept(&mut self.numbers, e);
         self.numbers_left -= numbers_in(e);
@@ -92,10 +97,12 @@ impl History {
         self.entries_left -= 1;
     }
 
-    /// Puts a firing behind the other entries, as [`History::push`] does. Its draft is looked at where it lies.
+    /// Puts a firing behind the other entries, as [`History::push`] does. Its draft is looked at
+    /// where it lies.
     pub fn push_firing(&mut self, time: u32, node: u32, draft: &Draft, enabled: bool)
         requires { 0 < self.old.entries_left }
-        ensures appended { self.new.entries ≡ self.old.entries ++ FireAt time node draft.now enabled ∷ [] }
+        ensures appended { self.new.entries
+            ≡ self.old.entries ++ FireAt time node draft.now enabled ∷ [] }
         ensures entries_left { self.new.entries_left + 1 ≡ self.old.entries_left }
         ensures numbers_left { self.new.numbers_left ≡ self.old.numbers_left }
     {
@@ -112,7 +119,8 @@ impl History {
     }
 
     /// The entry at place `i`, in the order in which they were pushed.
-    // An entry is large: where it is handed out by more than one call it is copied as often, also if the calls are inlined.
+    // An entry is large: where it is handed out by more than one call it is copied as often, also
+    // if the calls are inlined.
     #[inline(never)]
     pub fn entry(&self, i: usize) -> Entry<'_>
         requires { i < length self.now.entries }

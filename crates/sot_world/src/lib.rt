@@ -1,7 +1,8 @@
 //! Runs of a program, and the theorem that they are safe.
 //!
-//! A configuration goes to the next one by an input, a firing, a decision or a tick. In every run from plants in their safer
-//! regions each configuration satisfies an invariant of all modules together, and what satisfies it is safe.
+//! A configuration goes to the next one by an input, a firing, a decision or a tick. In every run
+//! from plants in their safer regions each configuration satisfies an invariant of all modules
+//! together, and what satisfies it is safe.
 #![tactic(auto)]
 
 mod answers;
@@ -38,7 +39,8 @@ pub use laws::{
     runs_keep_the_invariant, something_can_happen, steps_are_unique, steps_keep_the_invariant,
     the_invariant_is_safe, without_jitter,
 };
+pub use looks::is_in_bounds;
 pub use mode::Mode;
 pub use open_fail::OpenFail;
-pub use outcome::{Outcome, Why};
+pub use outcome::{Firing, Outcome, Why};
 pub use world::World;

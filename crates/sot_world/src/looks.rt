@@ -21,7 +21,8 @@ pub fn is_in(lo: i64, hi: i64, z: i64) -> bool
 /// Whether each number is in its scalar's range, from the scalar `first` on.
 pub fn is_in_type(infos: &[ScalarInfo], first: usize, value: &[i64]) -> bool
     requires { first + length value.now ≤ length infos.now }
-    ensures { IsTrue result ↔ ((i : ℕ) (z : ℤ) → At value.now i z → IsIn (range_of infos.now (first + i)) z) }
+    ensures { IsTrue result ↔ ((i : ℕ) (z : ℤ) → At value.now i z
+        → IsIn (range_of infos.now (first + i)) z) }
 {
     for i in 0..value.len() {
         let info = &infos[first + i];

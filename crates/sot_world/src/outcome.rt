@@ -3,12 +3,22 @@
 use crate::mode::Mode;
 use sot_lang::Draft;
 
+/// What is recorded of a firing.
+#[derive(Clone, Copy, Debug, PartialEq, Eq)]
+pub struct Firing {
+    /// Nothing stands in the slots past the node's scalars. Numbers outside their scalar's range
+    /// are in it too.
+    pub draft: Draft,
+    /// Whether the node is enabled.
+    pub enabled: bool,
+}
+
 /// What is recorded of a step.
 #[derive(Clone, Copy, Debug, PartialEq, Eq)]
 pub enum Outcome {
     /// A value came.
     Input,
-    /// The draft, with nothing in the slots past the node's scalars, and whether the node is enabled. Numbers outside their scalar's range are in it too.
+    /// The parts of a [`Firing`].
     Fired { draft: Draft, enabled: bool },
     /// The mode after the decision.
     Decided { mode: Mode },

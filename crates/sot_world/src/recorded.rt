@@ -1,9 +1,12 @@
 //! Entries as a history keeps them: words, and numbers that stand in one list.
 
-ghost use Rattle.std.specs.Prelude.{◌≡◌, ◌+◌, ◌^◌, ◌<◌, ◌≤◌, [], ◌∷◌, ◌++◌, ℤ, List, pos, length, drop, vec_len, vec_capacity};
+ghost use Rattle.std.specs.Prelude.{◌≡◌, ◌+◌, ◌^◌, ◌<◌, ◌≤◌, [], ◌∷◌, ◌++◌, ℤ, List, pos, length};
+ghost use Rattle.std.specs.Prelude.{drop, vec_len, vec_capacity};
 ghost use Rattle.sot_world.specs.HistoryEntry.{InputAt, FireAt, DecideAt, TickAt};
 ghost use Rattle.sot_world.specs.Histories.{entry_of, numbers_in};
-ghost use Rattle.sot_world.specs.HistoryRecords.{short_at, counted_at, end_at, flags_in, count_there, record_as, logged, end_of, told, told_to};
+ghost use Rattle.sot_world.specs.HistoryRecords.{short_at, counted_at, end_at, flags_in};
+ghost use Rattle.sot_world.specs.HistoryRecords.{count_there, record_as, logged, end_of, entry_in};
+ghost use Rattle.sot_world.specs.HistoryRecords.{entry_end};
 
 use crate::drafted::{append_draft, draft_at, draft_of, short_alone};
 use crate::history::Entry;
@@ -72,8 +75,8 @@ fn kept_input(numbers: &mut Vec<i64>, time: u32, topic: u32, value: &[i64]) -> u
     requires few { length value.now < 2 ^ 32 }
     requires room { vec_len numbers.old + length value.now + 10 ≤ vec_capacity numbers.old }
     requires place { vec_len numbers.old < 2 ^ 40 }
-    ensures same { told numbers.new.items result ≡ InputAt time topic value.now }
-    ensures inside { told_to numbers.new.items result ≤ length numbers.new.items }
+    ensures same { entry_in numbers.new.items result ≡ InputAt time topic value.now }
+    ensures inside { entry_end numbers.new.items result ≤ length numbers.new.items }
     ensures behind { (more : List ℤ) × (numbers.new.items ≡ numbers.old.items ++ more) }
     ensures len { vec_len numbers.new ≤ vec_len numbers.old + length value.now + 10 }
     ensures capacity { vec_capacity numbers.old ≤ vec_capacity numbers.new }
@@ -88,12 +91,14 @@ fn kept_input(numbers: &mut Vec<i64>, time: u32, topic: u32, value: &[i64]) -> u
 #[inline(never)]
 fn kept_tick(numbers: &mut Vec<i64>, time: u32, noise: &[i64], states: &[i64]) -> u64
     requires few { length noise.now + length states.now < 2 ^ 32 }
-    requires room { vec_len numbers.old + (length noise.now + length states.now) + 10 ≤ vec_capacity numbers.old }
+    requires room { vec_len numbers.old + (length noise.now + length states.now)
+        + 10 ≤ vec_capacity numbers.old }
     requires place { vec_len numbers.old < 2 ^ 40 }
-    ensures same { told numbers.new.items result ≡ TickAt time noise.now states.now }
-    ensures inside { told_to numbers.new.items result ≤ length numbers.new.items }
+    ensures same { entry_in numbers.new.items result ≡ TickAt time noise.now states.now }
+    ensures inside { entry_end numbers.new.items result ≤ length numbers.new.items }
     ensures behind { (more : List ℤ) × (numbers.new.items ≡ numbers.old.items ++ more) }
-    ensures len { vec_len numbers.new ≤ vec_len numbers.old + (length noise.now + length states.now) + 10 }
+    ensures len { vec_len numbers.new ≤ vec_len numbers.old + (length noise.now + length states.now)
+        + 10 }
     ensures capacity { vec_capacity numbers.old ≤ vec_capacity numbers.new }
 {
     let place = numbers.len();
@@ -108,8 +113,8 @@ fn kept_tick(numbers: &mut Vec<i64>, time: u32, noise: &[i64], states: &[i64]) -
 fn kept_late_decision(numbers: &mut Vec<i64>, time: u32, module: u32, mode: Mode) -> u64
     requires room { vec_len numbers.old + 10 ≤ vec_capacity numbers.old }
     requires place { vec_len numbers.old < 2 ^ 40 }
-    ensures same { told numbers.new.items result ≡ DecideAt time «module» mode }
-    ensures inside { told_to numbers.new.items result ≤ length numbers.new.items }
+    ensures same { entry_in numbers.new.items result ≡ DecideAt time «module» mode }
+    ensures inside { entry_end numbers.new.items result ≤ length numbers.new.items }
     ensures behind { (more : List ℤ) × (numbers.new.items ≡ numbers.old.items ++ more) }
     ensures len { vec_len numbers.new ≤ vec_len numbers.old + 10 }
     ensures capacity { vec_capacity numbers.old ≤ vec_capacity numbers.new }
@@ -124,8 +129,8 @@ fn kept_late_decision(numbers: &mut Vec<i64>, time: u32, module: u32, mode: Mode
 fn kept_draft(numbers: &mut Vec<i64>, time: u32, node: u32, draft: &Draft, enabled: bool) -> u64
     requires room { vec_len numbers.old + 10 ≤ vec_capacity numbers.old }
     requires place { vec_len numbers.old < 2 ^ 40 }
-    ensures same { told numbers.new.items result ≡ FireAt time node draft.now enabled }
-    ensures inside { told_to numbers.new.items result ≤ length numbers.new.items }
+    ensures same { entry_in numbers.new.items result ≡ FireAt time node draft.now enabled }
+    ensures inside { entry_end numbers.new.items result ≤ length numbers.new.items }
     ensures behind { (more : List ℤ) × (numbers.new.items ≡ numbers.old.items ++ more) }
     ensures len { vec_len numbers.new ≤ vec_len numbers.old + 10 }
     ensures capacity { vec_capacity numbers.old ≤ vec_capacity numbers.new }
@@ -146,8 +151,8 @@ pub(crate) fn kept_firing(
 ) -> u64
     requires room { vec_len numbers.old + 10 ≤ vec_capacity numbers.old }
     requires place { vec_len numbers.old < 2 ^ 40 }
-    ensures same { told numbers.new.items result ≡ FireAt time node draft.now enabled }
-    ensures inside { told_to numbers.new.items result ≤ length numbers.new.items }
+    ensures same { entry_in numbers.new.items result ≡ FireAt time node draft.now enabled }
+    ensures inside { entry_end numbers.new.items result ≤ length numbers.new.items }
     ensures behind { (more : List ℤ) × (numbers.new.items ≡ numbers.old.items ++ more) }
     ensures len { vec_len numbers.new ≤ vec_len numbers.old + 10 }
     ensures capacity { vec_capacity numbers.old ≤ vec_capacity numbers.new }
@@ -164,8 +169,8 @@ pub(crate) fn kept_firing(
 fn kept_decision(numbers: &mut Vec<i64>, time: u32, module: u32, mode: Mode) -> u64
     requires room { vec_len numbers.old + 10 ≤ vec_capacity numbers.old }
     requires place { vec_len numbers.old < 2 ^ 40 }
-    ensures same { told numbers.new.items result ≡ DecideAt time «module» mode }
-    ensures inside { told_to numbers.new.items result ≤ length numbers.new.items }
+    ensures same { entry_in numbers.new.items result ≡ DecideAt time «module» mode }
+    ensures inside { entry_end numbers.new.items result ≤ length numbers.new.items }
     ensures behind { (more : List ℤ) × (numbers.new.items ≡ numbers.old.items ++ more) }
     ensures len { vec_len numbers.new ≤ vec_len numbers.old + 10 }
     ensures capacity { vec_capacity numbers.old ≤ vec_capacity numbers.new }
@@ -179,11 +184,12 @@ fn kept_decision(numbers: &mut Vec<i64>, time: u32, module: u32, mode: Mode) -> 
 
 /// The word of an entry, whose numbers go behind the list where the word has no room for them.
 pub(crate) fn kept(numbers: &mut Vec<i64>, e: &Entry<'_>) -> u64
-    requires room { vec_len numbers.old + numbers_in (entry_of e.now) + 10 ≤ vec_capacity numbers.old }
+    requires room { vec_len numbers.old + numbers_in (entry_of e.now)
+        + 10 ≤ vec_capacity numbers.old }
     requires few { numbers_in (entry_of e.now) < 2 ^ 32 }
     requires place { vec_len numbers.old < 2 ^ 40 }
-    ensures same { told numbers.new.items result ≡ entry_of e.now }
-    ensures inside { told_to numbers.new.items result ≤ length numbers.new.items }
+    ensures same { entry_in numbers.new.items result ≡ entry_of e.now }
+    ensures inside { entry_end numbers.new.items result ≤ length numbers.new.items }
     ensures behind { (more : List ℤ) × (numbers.new.items ≡ numbers.old.items ++ more) }
     ensures len { vec_len numbers.new ≤ vec_len numbers.old + numbers_in (entry_of e.now) + 10 }
     ensures capacity { vec_capacity numbers.old ≤ vec_capacity numbers.new }
@@ -292,8 +298,8 @@ fn lent_tick(numbers: &[i64], word: u64) -> Entry<'_>
 /// The entry that a word tells of.
 #[inline(always)]
 pub(crate) fn lent(numbers: &[i64], word: u64) -> Entry<'_>
-    requires { told_to numbers.now word ≤ length numbers.now }
-    ensures { entry_of result ≡ told numbers.now word }
+    requires { entry_end numbers.now word ≤ length numbers.now }
+    ensures { entry_of result ≡ entry_in numbers.now word }
 {
     match word % 8 {
         0 => lent_one(word),

@@ -1,6 +1,8 @@
-//! When nodes and decisions are due next, so that a tick has nothing to work out for what is not due.
+//! When nodes and decisions are due next, so that a tick has nothing to work out for what is not
+//! due.
 
-ghost use Rattle.std.specs.Prelude.{◌≡◌, ℕ, ◌≤◌, ◌⊎◌, true, false, length, map, slice_index_or, IsTrue, ◌↔◌, IfOk};
+ghost use Rattle.std.specs.Prelude.{◌≡◌, ℕ, ◌≤◌, ◌⊎◌, true, false, length, map, slice_index_or};
+ghost use Rattle.std.specs.Prelude.{IsTrue, ◌↔◌, IfOk};
 ghost use Rattle.sot_lists.specs.Places.{At};
 ghost use Rattle.sot_world.specs.Schedules.{first, after};
 
@@ -67,7 +69,8 @@ pub(crate) fn leave(time: u32, schedules: &mut [Schedule], left: &mut [bool])
     requires periods { (k : ℕ) (s : _) → At schedules.old k s → s.period ≤ 1000 }
     requires size { length left.old ≡ length schedules.old }
     ensures left { (k : ℕ) (s : _) → At schedules.old k s →
-        (slice_index_or left.new k false ≡ true) ↔ ((slice_index_or left.old k false ≡ true) ⊎ (s.next ≡ time)) }
+        (slice_index_or left.new k false ≡ true)
+        ↔ ((slice_index_or left.old k false ≡ true) ⊎ (s.next ≡ time)) }
     ensures after { schedules.new ≡ map (after time) schedules.old }
 {
     for k in 0..schedules.len() {

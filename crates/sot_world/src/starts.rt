@@ -1,6 +1,7 @@
 //! The parts of an opening configuration.
 
-ghost use Rattle.std.specs.Prelude.{◌≡◌, ℕ, ◌<◌, ◌≤◌, ◌==◌, length, map, replicate, IfOk, MatchOption};
+ghost use Rattle.std.specs.Prelude.{◌≡◌, ℕ, ◌<◌, ◌≤◌, ◌==◌, length, map, replicate, IfOk};
+ghost use Rattle.std.specs.Prelude.{MatchOption};
 ghost use Rattle.sot_world.specs.Opens.{AreStarts, StartInside, IsFirstOutside};
 ghost use Rattle.sot_world.specs.Configurations.{Sc};
 ghost use Rattle.sot_world.specs.Roles.{AreRoles, IsRole};

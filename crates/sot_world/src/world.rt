@@ -1,11 +1,15 @@
 //! A configuration of a run of an accepted program.
 
-ghost use Rattle.std.specs.Prelude.{◌≡◌, ℕ, ◌<◌, ◌≤◌, length, true, MatchResult, IsTrue, ◌↔◌, IfOk, IfErr, IsErrOf};
+ghost use Rattle.std.specs.Prelude.{◌≡◌, ℕ, ◌<◌, ◌≤◌, length, true, MatchResult, IsTrue, ◌↔◌, IfOk};
+ghost use Rattle.std.specs.Prelude.{IfErr, IsErrOf};
 ghost use Rattle.sot_lists.specs.Places.{At};
 ghost use Rattle.sot_lang.specs.declared.tables.TopicInfo.{TopicInfo};
-ghost use Rattle.sot_world.specs.Configurations.{is_left, is_left_dm, mode_of, number_of, locals_of, point_of, IsOpening, IsSafer};
+ghost use Rattle.sot_world.specs.Configurations.{is_left, is_left_dm, mode_of, number_of};
+ghost use Rattle.sot_world.specs.Configurations.{locals_of, point_of, IsOpening, IsSafer};
 ghost use Rattle.sot_world.specs.Opens.{AreStarts, StartInside, IsFirstOutside, IfNotSafer};
-ghost use Rattle.sot_world.specs.Events.{Names, IsPossible, Refuses, RefusesNode, RefusesDecision, RefusesInput, RefusesTick, IsTypedInput, IsInBounds, noise_count};
+ghost use Rattle.sot_world.specs.Events.{Names, IsPossible, Refuses, RefusesNode, RefusesDecision};
+ghost use Rattle.sot_world.specs.Events.{RefusesInput, RefusesTick, IsTypedInput, IsInBounds};
+ghost use Rattle.sot_world.specs.Events.{noise_count};
 ghost use Rattle.sot_world.specs.Steps.{MayTick};
 ghost use Rattle.sot_world.specs.State.{IsKept};
 
@@ -30,9 +34,9 @@ use std::marker::Model;
 
 mod step;
 
-/// A configuration of a run of an accepted program. Its type keeps the invariant, for all modules together: in mode Ac any
-/// commands keep the plant in the safe region until a period after the next decision, and in mode Sc the present commands do
-/// until the safe node fires next.
+/// A configuration of a run of an accepted program. Its type keeps the invariant, for all modules
+/// together: in mode Ac any commands keep the plant in the safe region until a period after the
+/// next decision, and in mode Sc the present commands do until the safe node fires next.
 #[derive(Drop)]
 pub struct World<'a> {
     accepted: &'a Accepted<'a>,
@@ -70,11 +74,12 @@ impl<'a> Model for World<'a> {
 }
 
 impl<'a> World<'a> {
-    /// The opening of a program at these points, one for each plant with a coordinate for each of its state variables: time 0,
-    /// all that is due left to fire, every module in mode Sc. It takes all memory that the world will ever need.
+    /// The opening of a program at these points, one for each plant with a coordinate for each of
+    /// its state variables: time 0, all that is due left to fire, every module in mode Sc. It takes
+    /// all memory that the world will ever need.
     ///
-    /// `NotSafer` names the first module whose plant starts outside the module's safer region; `Memory` says that there is none,
-    /// and comes only where every plant starts inside.
+    /// `NotSafer` names the first module whose plant starts outside the module's safer region;
+    /// `Memory` says that there is none, and comes only where every plant starts inside.
     pub fn open(
         alloc: Global,
         acc: &'a Accepted<'a>,
@@ -84,8 +89,10 @@ impl<'a> World<'a> {
         ensures opening { IfOk result (λ w. IsOpening acc.now.program start.now w.at) }
         ensures safer { IfOk result (λ w. IsSafer acc.now.program w.at) }
         ensures accepted { IfOk result (λ w. w.accepted ≡ acc.now) }
-        ensures not_safer { IfErr result (λ f. IfNotSafer f (λ m. IsFirstOutside acc.now.program start.now m)) }
-        ensures memory { IsErrOf result OpenFail.Memory → StartInside acc.now.program start.now (length acc.now.program.modules) }
+        ensures not_safer { IfErr result (λ f.
+            IfNotSafer f (λ m. IsFirstOutside acc.now.program start.now m)) }
+        ensures memory { IsErrOf result OpenFail.Memory
+            → StartInside acc.now.program start.now (length acc.now.program.modules) }
     {
         let p = acc.typed();
         if let Some(module) = first_outside(p, start) {
@@ -137,8 +144,9 @@ impl<'a> World<'a> {
         })
     }
 
-    /// What the type keeps, as a fact: the tables are in form, the certificate holds, and the configuration satisfies the invariant.
-    pub fn keeps_invariant(&self)
+    /// Does nothing, and tells the proof what the type keeps: the tables are in form, the certificate
+    /// holds, and the configuration satisfies the invariant.
+    pub fn reveal_invariant(&self)
         ensures { IsKept self.now.accepted self.now.at }
     {
         // A look at a field brings what the type keeps.
@@ -168,7 +176,8 @@ impl<'a> World<'a> {
         self.modes[module as usize]
     }
 
-    /// The point of a plant, with a coordinate for each of its state variables, in mantissas at their scales.
+    /// The point of a plant, with a coordinate for each of its state variables, in mantissas at
+    /// their scales.
     pub fn state(&self, plant: u32) -> Point
         requires { plant < length self.now.accepted.program.plants }
         ensures { result ≡ point_of self.now.at plant }
@@ -208,15 +217,19 @@ impl<'a> World<'a> {
         self.left_dm[module as usize]
     }
 
-    /// Whether an event can happen now, and else why not. `NotDue`: no due time of the node or decision is now or at most the
-    /// certificate's jitter ago. `AlreadyFired`: there is one, and it has fired for it. `NodesLeft`: at a tick something that is left
-    /// has its deadline now. `OutsideType`: a value or a disturbance is out of range; for a tick it is looked for last. The event names
-    /// what is there and of the right sort, and its lists have the lengths of what they are for.
+    /// Whether an event can happen now, and else why not. `NotDue`: no due time of the node or
+    /// decision is now or at most the certificate's jitter ago. `AlreadyFired`: there is one, and
+    /// it has fired for it. `NodesLeft`: at a tick something that is left has its deadline now.
+    /// `OutsideType`: a value or a disturbance is out of range; for a tick it is looked for last.
+    /// The event names what is there and of the right sort, and its lists have the lengths of what
+    /// they are for.
     pub fn can(&self, e: &Event<'_>) -> Result<(), Why>
         requires { Names self.now.accepted.program e.now }
         ensures { MatchResult result
-            (λ _. IsPossible self.now.accepted.program self.now.accepted.cert.jitter self.now.at e.now)
-            (λ why. Refuses self.now.accepted.program self.now.accepted.cert.jitter self.now.at e.now why) }
+            (λ _. IsPossible self.now.accepted.program self.now.accepted.cert.jitter self.now.at
+            e.now)
+            (λ why. Refuses self.now.accepted.program self.now.accepted.cert.jitter self.now.at
+            e.now why) }
     {
         match *e {
             Event::Input { topic, value } => self.can_take(topic, value),
@@ -228,7 +241,8 @@ impl<'a> World<'a> {
     }
 
     fn can_take(&self, topic: u32, value: &[i64]) -> Result<(), Why>
-        requires { (info : TopicInfo) × At self.now.accepted.program.topics topic info × (length value.now ≡ info.count) }
+        requires { (info : TopicInfo) × At self.now.accepted.program.topics topic info
+            × (length value.now ≡ info.count) }
         ensures { MatchResult result
             (λ _. IsTypedInput self.now.accepted.program topic value.now)
             (λ why. RefusesInput self.now.accepted.program topic value.now why) }
@@ -246,7 +260,8 @@ impl<'a> World<'a> {
         requires { node < length self.now.accepted.program.nodes }
         ensures { MatchResult result
             (λ _. is_left self.now.at node ≡ true)
-            (λ why. RefusesNode self.now.accepted.program self.now.accepted.cert.jitter self.now.at node why) }
+            (λ why. RefusesNode self.now.accepted.program self.now.accepted.cert.jitter self.now.at
+            node why) }
     {
         if self.left[node as usize] {
             return Ok(());
@@ -265,7 +280,8 @@ impl<'a> World<'a> {
         requires { «module» < length self.now.accepted.program.modules }
         ensures { MatchResult result
             (λ _. is_left_dm self.now.at «module» ≡ true)
-            (λ why. RefusesDecision self.now.accepted.program self.now.accepted.cert.jitter self.now.at «module» why) }
+            (λ why. RefusesDecision self.now.accepted.program self.now.accepted.cert.jitter
+            self.now.at «module» why) }
     {
         if self.left_dm[module as usize] {
             return Ok(());
@@ -282,7 +298,8 @@ impl<'a> World<'a> {
 
     /// Whether nothing that is left to fire or to decide has its deadline now.
     pub fn may_tick(&self) -> bool
-        ensures { IsTrue result ↔ MayTick self.now.accepted.program self.now.accepted.cert.jitter self.now.at }
+        ensures { IsTrue result ↔ MayTick self.now.accepted.program self.now.accepted.cert.jitter
+            self.now.at }
     {
         let p = self.accepted.typed();
         let jitter = self.accepted.cert().jitter;
@@ -293,8 +310,10 @@ impl<'a> World<'a> {
     fn can_tick(&self, noise: &[i64]) -> Result<(), Why>
         requires { length noise.now ≡ noise_count self.now.accepted.program.plants }
         ensures { MatchResult result
-            (λ _. MayTick self.now.accepted.program self.now.accepted.cert.jitter self.now.at × IsInBounds self.now.accepted.program.plants noise.now)
-            (λ why. RefusesTick self.now.accepted.program self.now.accepted.cert.jitter self.now.at noise.now why) }
+            (λ _. MayTick self.now.accepted.program self.now.accepted.cert.jitter self.now.at
+            × IsInBounds self.now.accepted.program.plants noise.now)
+            (λ why. RefusesTick self.now.accepted.program self.now.accepted.cert.jitter self.now.at
+            noise.now why) }
     {
         if !self.may_tick() {
             return Err(Why::NodesLeft);

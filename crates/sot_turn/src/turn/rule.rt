@@ -1,7 +1,7 @@
-//! The table of the lock. Word 0 is the number of tickets drawn, word 1 the ticket that is served, word 2 the
-//! length of the value's list. The slot has the value, or nothing while it is out.
-use crate::Journal;
+//! The table of the lock. Word 0 is the number of tickets drawn, word 1 the ticket that is served,
+//! word 2 the length of the value's list. The slot has the value, or nothing while it is out.
 use atomic_table::{Seat, Shared, Table, TableRule};
+use sot_journal::Journal;
 use std::alloc::Global;
 use std::collections::LinkedList;
 use std::marker::PhantomData;
@@ -16,6 +16,8 @@ pub struct View<Ground, Entry> {
     pub turn: bool,
     /// How much of the value's list its owner has seen.
     pub seen: LinkedList<Entry>,
+    /// What its owner has put behind the list, in the turns that it gave back.
+    pub added: LinkedList<Entry>,
     /// The two lists that were seen before the last join.
     pub kept_lists: LinkedList<LinkedList<Entry>>,
     /// The ground of the view that was taken in by the last join.

@@ -1,11 +1,13 @@
-//! The steps of a seat, put together: it draws a ticket, waits for it and takes the value, and hands the value back.
+//! The steps of a seat, put together: it draws a ticket, waits for it and takes the value, and
+//! hands the value back.
 ghost use Rattle.std.specs.Prelude.{◌≡◌, true, false, [], ◌∷◌, None, Some};
 ghost use Rattle.sot_turn.specs.Prefixes.{IsPrefix};
+ghost use Rattle.sot_turn.specs.Views.{extended};
 ghost use Rattle.sot_turn.specs.Places.{IsPlaceOf, IsSamePlace, IsIdle, Waits, HasTaken};
 
-use crate::Journal;
 use crate::turn::rule::{Place, Top};
 use crate::turn::steps::{Announce, Draw, Look, PassOn};
+use sot_journal::Journal;
 use std::sync::Wait;
 use std::thread;
 
@@ -41,7 +43,8 @@ pub(super) fn serve<G: Journal, R: Wait>(
     requires place { IsPlaceOf top.now.table_id place.old.table_id }
     requires waits { Waits ticket place.old.me }
     ensures same { IsSamePlace place.old place.new }
-    ensures served { place.new.me ≡ (record place.old.me.0 { turn = true; seen = G.entries result }, (0, None) ∷ []) }
+    ensures served { place.new.me ≡
+        (record place.old.me.0 { turn = true; seen = G.entries result }, (0, None) ∷ []) }
     ensures ground { place.old.me.0.own_ground ≡ Some (G.ground result) }
     ensures goes_on { IsPrefix place.old.me.0.seen (G.entries result) }
 {
@@ -62,11 +65,13 @@ pub(super) fn hand_back<G: Journal + Drop>(top: &Top<G>, place: &mut Place<G>, v
     requires ground { place.old.me.0.own_ground ≡ Some (G.ground value) }
     requires goes_on { IsPrefix place.old.me.0.seen (G.entries value) }
     ensures same { IsSamePlace place.old place.new }
-    ensures passed { place.new.me ≡ (record place.old.me.0 { ticket = None; turn = false; seen = G.entries value }, []) }
+    ensures passed { place.new.me ≡
+        (record (extended place.old.me.0 (G.entries value)) { ticket = None; turn = false }, []) }
 {
     let len = value.len();
     let nothing = top.exchange(place, 0, Some(value));
-    // The rule of a store sees no value but the one in the seat's slot, so the length comes after it.
+    // The rule of a store sees no value but the one in the seat's slot, so the length comes after
+    // it.
     top.store::<Announce<G>>(place, 2, len);
     top.fetch_add::<PassOn>(place, 1, 1);
     drop(nothing);

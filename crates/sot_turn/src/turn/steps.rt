@@ -1,10 +1,11 @@
-//! What each kind of step tells the seat that makes it. The two that move the value by `exchange` tell nothing.
+//! What each kind of step tells the seat that makes it. The two that move the value by `exchange`
+//! tell nothing.
 ghost use Rattle.sot_turn.specs.Views.{idle, joined, spent};
 ghost use Rattle.sot_turn.specs.Steps.{draws, looks, announces, passes};
 
-use crate::Journal;
 use crate::turn::rule::View;
 use atomic_table::{Join, Play, Split};
+use sot_journal::Journal;
 use std::marker::PhantomData;
 
 /// Draws a ticket: a compare-exchange of word 0 from a number to the next.

@@ -15,13 +15,16 @@ has-requires c =
     sym (length-map c.args.s.now (λ x. let r : Side = record { lo = x; hi = x } in r)) ∙ c.requires.follow.width _ at ∙ sym (rules.modules _ _ at).safer.width
 
 pub returns-in-Ac-clause-mode : goal.returns-in-Ac-clause-mode
-returns-in-Ac-clause-mode c = λ a at. next_by_keeps c.args.answers.now.program c.args.answers.now.cert.jitter a c.args.mode c.mode_by.result c.args.s.now c.keeps.result c.in-Ac.is c.mode_by.ensures (c.keeps.ensures.kept a at)
+returns-in-Ac-clause-mode c =
+    λ a at. next_by_keeps c.args.answers.now.program c.args.answers.now.cert.jitter a c.args.mode c.mode_by.result c.args.s.now c.keeps.result c.in-Ac.is
+    c.mode_by.ensures (c.keeps.ensures.kept a at)
 
 pub returns-in-Sc-clause-mode : goal.returns-in-Sc-clause-mode
 returns-in-Sc-clause-mode c = λ a at.
     let here = read_at _ _ c.args.module _ (ap (λ t. t.modules) (c.p.view_is ∙ c.typed-p.ensures)) c.requires.follow.exists' c.index.ensures in
     let same = at_same c.args.answers.now.program.modules c.args.module _ a here at in
-    next_by_safer c.args.answers.now.program c.args.answers.now.cert.jitter a c.args.mode c.mode_by-in-Sc.result c.args.s.now c.has.result c.in-Sc.is c.mode_by-in-Sc.ensures (
+    next_by_safer c.args.answers.now.program c.args.answers.now.cert.jitter a c.args.mode c.mode_by-in-Sc.result c.args.s.now c.has.result c.in-Sc.is
+    c.mode_by-in-Sc.ensures (
       (λ t. subst (λ x. IsInRegion x.safer.boxes c.args.s.now) same (c.has.ensures.0 t)),
       (λ i. c.has.ensures.1 (subst (λ x. IsInRegion x.safer.boxes c.args.s.now) (sym same) i)),
     )

@@ -8,5 +8,6 @@ invariant-loop-i l = record {
   size : length l.there ≡ 8;
   len : vec_len l.numbers ≤ vec_len l.initial.numbers + l.i;
   capacity : vec_capacity l.initial.numbers ≤ vec_capacity l.numbers;
-  kept : (more : List ℤ) × (l.numbers.items ≡ l.initial.numbers.items ++ more) × (count_there (take l.i l.there) ≡ length more) × (slots_filled (take l.i l.there) more ≡ take l.i l.draft);
+  kept : (more : List ℤ) × (l.numbers.items ≡ l.initial.numbers.items ++ more) × (count_there (take l.i l.there) ≡ length more)
+      × (slots_filled (take l.i l.there) more ≡ take l.i l.draft);
 }

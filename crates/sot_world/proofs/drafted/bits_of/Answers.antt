@@ -9,7 +9,8 @@ pub behind-bits-requires : goal.behind-bits-requires
 behind-bits-requires c = bits_below c.args.there.now c.loop-i.i c.loop-i.bits c.told-there c.loop-i-test.true c.loop-i.invariant
 
 pub loop-i-preserved : goal.loop-i-preserved
-loop-i-preserved c = bits_next c.args.there.now c.loop-i.i c.loop-i.bits c.told-there c.loop-i-test.true c.loop-i.invariant c.behind-bits.result c.behind-bits.ensures
+loop-i-preserved c =
+    bits_next c.args.there.now c.loop-i.i c.loop-i.bits c.told-there c.loop-i-test.true c.loop-i.invariant c.behind-bits.result c.behind-bits.ensures
 
 pub returns : goal.returns
 returns c = bits_all c.args.there.now c.loop-i.i c.loop-i.bits (omega (arith, c.loop-i-test.false, c.loop-i.auto.i-end)) c.loop-i.invariant

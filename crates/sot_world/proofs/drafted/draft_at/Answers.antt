@@ -16,7 +16,8 @@ loop-i-preserved c =
           let fits : SFits w64 (get_or numbers c.loop-i.at (pos 0)) = search rules in
           let new = w.draft-is ∙ w.set.ensures ∙ ap (λ z. set c.loop-i.draft c.loop-i.i (Some z)) (to_z-of_z w64 _ fits) in
           subst (λ n. ReadSoFar there numbers c.args.from (c.loop-i.i + 1) next n draft) (sym w.at-is)
-          (read_there there numbers c.args.from c.loop-i.i c.loop-i.left c.loop-i.at c.loop-i.draft c.loop-i-test.true c.loop-i.invariant draft w.if-left-eq1.true new)
+          (read_there there numbers c.args.from c.loop-i.i c.loop-i.left c.loop-i.at c.loop-i.draft c.loop-i-test.true c.loop-i.invariant draft
+          w.if-left-eq1.true new)
       | else-left-eq1 w ↦
           subst (λ n. ReadSoFar there numbers c.args.from (c.loop-i.i + 1) next n draft) (sym w.at-is)
           (subst (ReadSoFar there numbers c.args.from (c.loop-i.i + 1) next c.loop-i.at) (sym w.draft-is)

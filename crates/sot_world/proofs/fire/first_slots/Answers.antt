@@ -15,6 +15,8 @@ pub loop-i-preserved : goal.loop-i-preserved
 loop-i-preserved c =
     let lt : c.loop-i.i < 8 = omega (arith, c.loop-i-test.true, c.requires) in
     record {
-      kept = c.copy_slot.ensures ∙ ap (λ l. slice_set l c.loop-i.i c.get.result) c.loop-i.invariant.kept ∙ put_more c.args.draft.now c.loop-i.i c.get.result c.get.ensures lt;
+      kept =
+          c.copy_slot.ensures ∙ ap (λ l. slice_set l c.loop-i.i c.get.result) c.loop-i.invariant.kept
+          ∙ put_more c.args.draft.now c.loop-i.i c.get.result c.get.ensures lt;
       there = omega (arith, slice_get_within c.args.draft.now c.loop-i.i c.get.result c.get.ensures);
     }

@@ -34,11 +34,13 @@ loop-k-preserved c =
         done = done;
         to_come = to_come;
         before = subst (λ l. (j : ℕ) → j < k + 1 → IsFlag t was c.args.left.now j (slice_index_or l j false)) (sym w.left-is)
-            (flag_stays t k was xs _ at i.to_come c.args.left.now c.loop-k.left lt_left (λ due. false≢true (sym w.if-falls_due.false ∙ c.falls_due.ensures.due.1 due)) (i.behind k (omega arith)) i.before);
+            (flag_stays t k was xs _ at i.to_come c.args.left.now c.loop-k.left lt_left
+            (λ due. false≢true (sym w.if-falls_due.false ∙ c.falls_due.ensures.due.1 due)) (i.behind k (omega arith)) i.before);
         behind = λ j le. ap (λ l. slice_index_or l j false) w.left-is ∙ i.behind j (omega (arith, le));
       }
     ]
 
 pub returns-clause-left : goal.returns-clause-left
 returns-clause-left c = λ k s at.
-    c.loop-k.invariant.before k (omega (arith, slice_get_within c.args.schedules.now k s at, c.loop-k-test.false, c.loop-k.auto.schedules, c.loop-k.auto.k-end)) s at
+    c.loop-k.invariant.before k (omega (arith, slice_get_within c.args.schedules.now k s at, c.loop-k-test.false, c.loop-k.auto.schedules, c.loop-k.auto.k-end))
+    s at

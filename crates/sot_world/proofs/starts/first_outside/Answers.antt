@@ -36,4 +36,5 @@ loop-m-preserved c =
     let lt : c.loop-m.m < length c.p.inside.modules.items = omega (arith, c.loop-m-test.true, c.len-m-end.ensures, c.p.inside.modules.ok.0) in
     let at = read_at _ _ c.loop-m.m _ (ap (λ t. t.modules) tables) (subst (λ l. c.loop-m.m < length l) (ap (λ t. t.modules) tables) lt) c.index-info.ensures in
     let point = read_list c.args.start.now _ _ (start_there _ _ _ _ rules c.requires at) c.index-start-info.is in
-    one_more_inside c.args.p.now _ c.loop-m.m _ at c.loop-m.invariant (subst (IsInRegion c.index-info.result.now.safer.boxes) point (c.has.ensures.0 c.if-not-has.false))
+    one_more_inside c.args.p.now _ c.loop-m.m _ at c.loop-m.invariant
+    (subst (IsInRegion c.index-info.result.now.safer.boxes) point (c.has.ensures.0 c.if-not-has.false))

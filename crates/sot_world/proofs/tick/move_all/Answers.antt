@@ -31,9 +31,18 @@ loop-k-preserved c =
     record {
       room = c.next_point.ensures.room;
       size = length-set c.loop-k.next c.loop-k.k c.next_point.result ∙ k.size;
-      count = omega (arith, ap length more, length-drop (length c.index.result.now.noise.items) c.loop-k.rest.now, k.count, noise_from c.args.p.now.plants c.loop-k.k _ at);
+      count =
+          omega (
+            arith,
+            ap length more,
+            length-drop (length c.index.result.now.noise.items) c.loop-k.rest.now,
+            k.count,
+            noise_from c.args.p.now.plants c.loop-k.k _ at,
+          );
       parts = parts.1 ∙ ap (cut (drop (c.loop-k.k + 1) c.args.p.now.plants)) (sym more);
-      moved = set_more [] (λ j x. IsMoved c.args.p.now j c.args.scalars.now c.args.points.now (slice_index_or (cut c.args.p.now.plants c.args.noise.now) j []) x) c.loop-k.next c.loop-k.k c.next_point.result lt
+      moved =
+          set_more [] (λ j x. IsMoved c.args.p.now j c.args.scalars.now c.args.points.now (slice_index_or (cut c.args.p.now.plants c.args.noise.now) j []) x)
+          c.loop-k.next c.loop-k.k c.next_point.result lt
           (subst (λ w. IsMoved c.args.p.now c.loop-k.k c.args.scalars.now c.args.points.now w c.next_point.result) own c.next_point.ensures.moved)
           k.moved;
     }

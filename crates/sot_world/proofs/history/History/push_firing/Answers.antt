@@ -2,7 +2,7 @@ use Rattle.std.proofs.Common.{rules, ◌∙◌, ◌≤◌, ap, sym, subst, ◌�
 use Rattle.std.specs.Prelude.{map}
 use Rattle.std.specs.List.{All}
 use Rattle.sot_world.specs.HistoryEntry.{FireAt}
-use Rattle.sot_world.specs.HistoryRecords.{told, told_to}
+use Rattle.sot_world.specs.HistoryRecords.{entry_in, entry_end}
 use Rattle.sot_world.proofs.Records.{told_push, inside_push}
 use Rattle.sot_world.proofs.history.History.push_firing.Goals as goal
 
@@ -10,8 +10,9 @@ pub returns-clause-appended : goal.returns-clause-appended
 returns-clause-appended c =
     let behind = c.kept_firing-word.ensures.behind in
     let entry = FireAt c.args.time c.args.node c.args.draft.now c.args.enabled in
-    ap (map (told c.kept_firing-word.new.numbers.items)) c.add.ensures.items
-    ∙ told_push c.self.inside.numbers.items behind.0 c.kept_firing-word.new.numbers.items c.self.inside.words.items c.kept_firing-word.result entry behind.1 c.self.invariant.inside c.kept_firing-word.ensures.same
+    ap (map (entry_in c.kept_firing-word.new.numbers.items)) c.add.ensures.items
+    ∙ told_push c.self.inside.numbers.items behind.0 c.kept_firing-word.new.numbers.items c.self.inside.words.items c.kept_firing-word.result entry behind.1
+    c.self.invariant.inside c.kept_firing-word.ensures.same
     ∙ ap (λ s. s.entries ++ entry ∷ []) c.self.view_is
 
 pub invariant_of-self : goal.invariant_of-self
@@ -20,8 +21,9 @@ invariant_of-self c =
     let ns = c.kept_firing-word.new.numbers.items in
     record {
       inside =
-          subst (All (λ w. told_to ns w ≤ length ns)) (sym c.add.ensures.items)
-          (inside_push c.self.inside.numbers.items behind.0 ns c.self.inside.words.items c.kept_firing-word.result behind.1 c.self.invariant.inside c.kept_firing-word.ensures.inside);
+          subst (All (λ w. entry_end ns w ≤ length ns)) (sym c.add.ensures.items)
+          (inside_push c.self.inside.numbers.items behind.0 ns c.self.inside.words.items c.kept_firing-word.result behind.1 c.self.invariant.inside
+          c.kept_firing-word.ensures.inside);
       entries = search rules;
       numbers = search rules;
       few = search rules;

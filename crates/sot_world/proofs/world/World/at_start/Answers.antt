@@ -24,8 +24,12 @@ invariant_of-result c =
       roles = subst (λ t. AreRoles t c.in_ok-roles.roles.items) c.typed-p.ensures.program c.in_ok-roles.ensures;
       next = ap length c.in_ok-next.ensures.items ∙ c.requires.starts.each;
       answers = c.in_ok-answers.ensures;
-      nodes = all_first (λ x. x.period) (λ x. x.offset) _ _ (c.in_ok-node_schedules.ensures ∙ ap (map (λ x. first x.period x.offset)) (c.deref-6.ensures.value ∙ ap (λ t. t.nodes) tables)) rules.typed.node_times;
-      decisions = all_first (λ x. x.period) (λ x. x.offset) _ _ (c.in_ok-decision_schedules.ensures ∙ ap (map (λ x. first x.period x.offset)) (c.deref-7.ensures.value ∙ ap (λ t. t.modules) tables)) rules.typed.module_times;
+      nodes =
+          all_first (λ x. x.period) (λ x. x.offset) _ _ (c.in_ok-node_schedules.ensures
+          ∙ ap (map (λ x. first x.period x.offset)) (c.deref-6.ensures.value ∙ ap (λ t. t.nodes) tables)) rules.typed.node_times;
+      decisions =
+          all_first (λ x. x.period) (λ x. x.offset) _ _ (c.in_ok-decision_schedules.ensures
+          ∙ ap (map (λ x. first x.period x.offset)) (c.deref-7.ensures.value ∙ ap (λ t. t.modules) tables)) rules.typed.module_times;
     }
 
 pub returns-clause-opening : goal.returns-clause-opening

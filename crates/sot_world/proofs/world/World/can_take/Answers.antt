@@ -24,8 +24,12 @@ pub returns-then-is_in_type : goal.returns-then-is_in_type
 returns-then-is_in_type c =
     let tables = c.p.view_is ∙ c.typed-p.ensures.program ∙ ap (λ s. s.accepted.program) c.self.view_is in
     let at = read_at _ _ c.args.topic _ (ap (λ t. t.topics) tables) (slice_get_within _ _ _ c.requires.1) c.index-info.ensures in
-    let scalars = c.deref.ensures.value ∙ ap (λ t. t.scalars) tables in
-    (c.index-info.result.now, at, λ i z at_i. subst (λ l. IsIn (range_of l (c.index-info.result.now.first + i)) z) scalars (c.is_in_type.ensures.0 c.if-is_in_type.true i z at_i))
+    let scalars = c.deref.ensures.value ∙ ap (λ t. t.scalars) tables in (
+      c.index-info.result.now,
+      at,
+      λ i z at_i. subst (λ l. IsIn (range_of l (c.index-info.result.now.first + i)) z) scalars
+          (c.is_in_type.ensures.0 c.if-is_in_type.true i z at_i),
+    )
 
 pub returns-else-is_in_type : goal.returns-else-is_in_type
 returns-else-is_in_type c =
@@ -35,4 +39,5 @@ returns-else-is_in_type c =
     λ t.
     let info = same_Some t.0 c.index-info.result.now (sym t.1 ∙ at) in
     false≢true (sym c.if-is_in_type.false ∙ c.is_in_type.ensures.1 (λ i z at_i.
-    subst (λ l. IsIn (range_of l (c.index-info.result.now.first + i)) z) (sym scalars) (subst (λ x. IsIn (range_of c.args.self.now.accepted.program.scalars (x.first + i)) z) info (t.2 i z at_i))))
+    subst (λ l. IsIn (range_of l (c.index-info.result.now.first + i)) z) (sym scalars)
+    (subst (λ x. IsIn (range_of c.args.self.now.accepted.program.scalars (x.first + i)) z) info (t.2 i z at_i))))

@@ -18,17 +18,20 @@ next_mode-mode-requires-clause-follow c =
     let there = subst (λ s. c.args.module < length s.accepted.program.modules) (sym c.self.view_is) c.requires.there in
     let at = read_at _ _ c.args.module _ (ap (λ t. t.modules) (c.p.view_is ∙ c.typed-p.ensures.program)) there c.index.ensures in
     let plant = kept.rules.typed.plant_is c.args.module _ at in
-    let inside : c.index.result.now.plant < length C.points = omega (arith, slice_get_within c.self.inside.accepted.now.program.plants c.index.result.now.plant plant.0 plant.1, kept.holds.sizes.points) in
+    let inside : c.index.result.now.plant < length C.points =
+    omega (arith, slice_get_within c.self.inside.accepted.now.program.plants c.index.result.now.plant plant.0 plant.1, kept.holds.sizes.points) in
     let point = read_or C.points _ _ [] inside c.index-point.ensures in
     subst (λ x. MayFollow x.program c.args.module (point_box c.index-point.result.now)) (sym c.self.invariant.answers)
-    (subst (λ s. MayFollow c.self.inside.accepted.now.program c.args.module (point_box s)) (sym point) (may_follow c.self.inside.accepted.now C kept c.args.module _ at))
+    (subst (λ s. MayFollow c.self.inside.accepted.now.program c.args.module (point_box s)) (sym point)
+    (may_follow c.self.inside.accepted.now C kept c.args.module _ at))
 
 pub next_mode-mode-requires-clause-jitter : goal.next_mode-mode-requires-clause-jitter
 next_mode-mode-requires-clause-jitter c =
     let kept = c.self.invariant.kept in
     let there = subst (λ s. c.args.module < length s.accepted.program.modules) (sym c.self.view_is) c.requires.there in
     let at = read_at _ _ c.args.module _ (ap (λ t. t.modules) (c.p.view_is ∙ c.typed-p.ensures.program)) there c.index.ensures in
-    subst (λ x. x.cert.jitter < 1000) (sym c.self.invariant.answers) (omega (arith, kept.certified.module_jitter c.args.module _ at, (kept.rules.modules c.args.module _ at).period))
+    subst (λ x. x.cert.jitter < 1000) (sym c.self.invariant.answers)
+    (omega (arith, kept.certified.module_jitter c.args.module _ at, (kept.rules.modules c.args.module _ at).period))
 
 pub invariant_of-self : goal.invariant_of-self
 invariant_of-self c =
@@ -38,7 +41,8 @@ invariant_of-self c =
     let there = subst (λ s. c.args.module < length s.accepted.program.modules) (sym c.self.view_is) c.requires.there in
     let at = read_at _ _ c.args.module _ (ap (λ t. t.modules) (c.p.view_is ∙ c.typed-p.ensures.program)) there c.index.ensures in
     let plant = kept.rules.typed.plant_is c.args.module _ at in
-    let inside : c.index.result.now.plant < length C.points = omega (arith, slice_get_within c.self.inside.accepted.now.program.plants c.index.result.now.plant plant.0 plant.1, kept.holds.sizes.points) in
+    let inside : c.index.result.now.plant < length C.points =
+    omega (arith, slice_get_within c.self.inside.accepted.now.program.plants c.index.result.now.plant plant.0 plant.1, kept.holds.sizes.points) in
     let point = read_or C.points _ _ [] inside c.index-point.ensures in
     let lt : c.args.module < length C.modes = omega (arith, there, kept.holds.sizes.modes) in
     let before = read_or C.modes c.args.module _ Sc lt c.index-before.ensures in
@@ -48,9 +52,19 @@ invariant_of-self c =
     let told = c.next_mode-mode.ensures.mode info (subst (λ x. At x.program.modules c.args.module info) (sym c.self.invariant.answers) at) in
     let own = subst (λ x. IsNextMode x.program x.cert.jitter info c.index-before.result.now c.index-point.result.now next) c.self.invariant.answers told in
     let j = c.self.inside.accepted.now.cert.jitter in
-    let is = subst (λ s. IsNextMode p j info (mode_of C c.args.module) s next) point (subst (λ x. IsNextMode p j info x c.index-point.result.now next) before own) in
+    let is = subst (λ s. IsNextMode p j info (mode_of C c.args.module) s next) point
+    (subst (λ x. IsNextMode p j info x c.index-point.result.now next) before own) in
     let step = decides_so p c.self.inside.accepted.now.cert.jitter C c.args.module info next _ _ kept.holds.sizes.modes at left is refl refl in
-    record { kept = step_kept c.self.inside.accepted.now C kept _ (Decide c.args.module) step kept.time; roles = c.self.invariant.roles; next = c.self.invariant.next; answers = c.next_mode-mode.ensures.same ∙ c.self.invariant.answers; nodes = c.self.invariant.nodes; decisions = c.self.invariant.decisions }
+    record {
+      kept = step_kept c.self.inside.accepted.now C kept _ (Decide c.args.module) step kept.time;
+      roles = c.self.invariant.roles;
+      next =
+          c.self.invariant.next;
+      answers =
+          c.next_mode-mode.ensures.same ∙ c.self.invariant.answers;
+      nodes = c.self.invariant.nodes;
+      decisions = c.self.invariant.decisions;
+    }
 
 pub returns-clause-step : goal.returns-clause-step
 returns-clause-step c =
@@ -60,7 +74,8 @@ returns-clause-step c =
     let there = subst (λ s. c.args.module < length s.accepted.program.modules) (sym c.self.view_is) c.requires.there in
     let at = read_at _ _ c.args.module _ (ap (λ t. t.modules) (c.p.view_is ∙ c.typed-p.ensures.program)) there c.index.ensures in
     let plant = kept.rules.typed.plant_is c.args.module _ at in
-    let inside : c.index.result.now.plant < length C.points = omega (arith, slice_get_within c.self.inside.accepted.now.program.plants c.index.result.now.plant plant.0 plant.1, kept.holds.sizes.points) in
+    let inside : c.index.result.now.plant < length C.points =
+    omega (arith, slice_get_within c.self.inside.accepted.now.program.plants c.index.result.now.plant plant.0 plant.1, kept.holds.sizes.points) in
     let point = read_or C.points _ _ [] inside c.index-point.ensures in
     let lt : c.args.module < length C.modes = omega (arith, there, kept.holds.sizes.modes) in
     let before = read_or C.modes c.args.module _ Sc lt c.index-before.ensures in
@@ -70,5 +85,7 @@ returns-clause-step c =
     let told = c.next_mode-mode.ensures.mode info (subst (λ x. At x.program.modules c.args.module info) (sym c.self.invariant.answers) at) in
     let own = subst (λ x. IsNextMode x.program x.cert.jitter info c.index-before.result.now c.index-point.result.now next) c.self.invariant.answers told in
     let j = c.self.inside.accepted.now.cert.jitter in
-    let is = subst (λ s. IsNextMode p j info (mode_of C c.args.module) s next) point (subst (λ x. IsNextMode p j info x c.index-point.result.now next) before own) in
-    step_along _ _ (Decide c.args.module) _ c.self.view_is (decides_so p c.self.inside.accepted.now.cert.jitter C c.args.module info next _ _ kept.holds.sizes.modes at left is refl refl)
+    let is = subst (λ s. IsNextMode p j info (mode_of C c.args.module) s next) point
+    (subst (λ x. IsNextMode p j info x c.index-point.result.now next) before own) in
+    step_along _ _ (Decide c.args.module) _ c.self.view_is (decides_so p c.self.inside.accepted.now.cert.jitter C c.args.module info next _ _
+    kept.holds.sizes.modes at left is refl refl)

@@ -7,5 +7,8 @@ no_decision_at_deadline-requires-clause-periods c = λ m a at.
     let here = subst (λ l. At l m a) c.deref-then-no_node_at_deadline.ensures.value at in
     let kept = c.self.invariant.kept in
     let there = subst (λ l. At l m a) (ap (λ t. t.modules) (c.p.view_is ∙ c.typed-p.ensures.program)) here in
-    let late = kept.certified.module_jitter m a there in
-    (subst (λ j. j < a.period) (sym (ap (λ k. k.jitter) c.cert.ensures.cert)) late, c.p.invariant.typed.module_times m a here, (c.p.invariant.modules m a here).period)
+    let late = kept.certified.module_jitter m a there in (
+      subst (λ j. j < a.period) (sym (ap (λ k. k.jitter) c.cert.ensures.cert)) late,
+      c.p.invariant.typed.module_times m a here,
+      (c.p.invariant.modules m a here).period,
+    )

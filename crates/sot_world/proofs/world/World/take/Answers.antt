@@ -15,7 +15,8 @@ use Rattle.sot_world.proofs.world.World.take.Goals as goal
 pub write-requires : goal.write-requires
 write-requires c =
     let kept = c.self.invariant.kept in
-    let topic = subst (λ s. (info : TopicInfo) × At s.accepted.program.topics c.args.topic info × (info.outside ≡ true) × (length c.args.value.now ≡ info.count)) (sym c.self.view_is) c.requires.topic in
+    let topic = subst (λ s. (info : TopicInfo) × At s.accepted.program.topics c.args.topic info × (info.outside ≡ true)
+    × (length c.args.value.now ≡ info.count)) (sym c.self.view_is) c.requires.topic in
     let at = read_at _ _ c.args.topic _ (ap (λ t. t.topics) (c.p.view_is ∙ c.typed-p.ensures.program)) (slice_get_within _ _ _ topic.1) c.index.ensures in
     let same = at_same _ c.args.topic topic.0 c.index.result.now topic.1 at in
     let inside = topic_inside _ kept.rules c.args.topic _ at in
@@ -28,23 +29,36 @@ invariant_of-self c =
     let C = configuration c.self.inside in
     let p = c.self.inside.accepted.now.program in
     let kept = c.self.invariant.kept in
-    let topic = subst (λ s. (info : TopicInfo) × At s.accepted.program.topics c.args.topic info × (info.outside ≡ true) × (length c.args.value.now ≡ info.count)) (sym c.self.view_is) c.requires.topic in
+    let topic = subst (λ s. (info : TopicInfo) × At s.accepted.program.topics c.args.topic info × (info.outside ≡ true)
+    × (length c.args.value.now ≡ info.count)) (sym c.self.view_is) c.requires.topic in
     let typed = subst (λ s. IsTypedInput s.accepted.program c.args.topic c.args.value.now) (sym c.self.view_is) c.requires.typed in
     let at = read_at _ _ c.args.topic _ (ap (λ t. t.topics) (c.p.view_is ∙ c.typed-p.ensures.program)) (slice_get_within _ _ _ topic.1) c.index.ensures in
     let same = at_same p.topics c.args.topic c.index.result.now topic.0 at topic.1 in
     let put = with_items_is c.self.inside.scalars c.write.new.scalars (omega (arith, c.write.auto.scalars, c.deref_mut.ensures.len)) in
-    let written = put ∙ c.write.ensures ∙ ap (write_at c.index.result.now.first c.args.value.now) c.deref_mut.ensures.value ∙ ap (λ x. write_at x.first c.args.value.now C.scalars) same in
-    let step = inputs_so p C c.args.topic c.args.value.now topic.0 (with_items c.self.inside.scalars c.write.new.scalars).items topic.1 topic.2 topic.3 typed written in
-    record { kept = step_kept c.self.inside.accepted.now C kept _ (Input c.args.topic c.args.value.now) step kept.time; roles = c.self.invariant.roles; next = c.self.invariant.next; answers = c.self.invariant.answers; nodes = c.self.invariant.nodes; decisions = c.self.invariant.decisions }
+    let written = put ∙ c.write.ensures ∙ ap (write_at c.index.result.now.first c.args.value.now) c.deref_mut.ensures.value
+    ∙ ap (λ x. write_at x.first c.args.value.now C.scalars) same in
+    let step = inputs_so p C c.args.topic c.args.value.now topic.0 (with_items c.self.inside.scalars c.write.new.scalars).items topic.1 topic.2 topic.3 typed
+    written in
+    record {
+      kept = step_kept c.self.inside.accepted.now C kept _ (Input c.args.topic c.args.value.now) step kept.time;
+      roles = c.self.invariant.roles;
+      next = c.self.invariant.next;
+      answers = c.self.invariant.answers;
+      nodes = c.self.invariant.nodes;
+      decisions = c.self.invariant.decisions;
+    }
 
 pub returns-clause-step : goal.returns-clause-step
 returns-clause-step c =
     let C = configuration c.self.inside in
     let p = c.self.inside.accepted.now.program in
-    let topic = subst (λ s. (info : TopicInfo) × At s.accepted.program.topics c.args.topic info × (info.outside ≡ true) × (length c.args.value.now ≡ info.count)) (sym c.self.view_is) c.requires.topic in
+    let topic = subst (λ s. (info : TopicInfo) × At s.accepted.program.topics c.args.topic info × (info.outside ≡ true)
+    × (length c.args.value.now ≡ info.count)) (sym c.self.view_is) c.requires.topic in
     let typed = subst (λ s. IsTypedInput s.accepted.program c.args.topic c.args.value.now) (sym c.self.view_is) c.requires.typed in
     let at = read_at _ _ c.args.topic _ (ap (λ t. t.topics) (c.p.view_is ∙ c.typed-p.ensures.program)) (slice_get_within _ _ _ topic.1) c.index.ensures in
     let same = at_same p.topics c.args.topic c.index.result.now topic.0 at topic.1 in
     let put = with_items_is c.self.inside.scalars c.write.new.scalars (omega (arith, c.write.auto.scalars, c.deref_mut.ensures.len)) in
-    let written = put ∙ c.write.ensures ∙ ap (write_at c.index.result.now.first c.args.value.now) c.deref_mut.ensures.value ∙ ap (λ x. write_at x.first c.args.value.now C.scalars) same in
-    step_along _ _ (Input c.args.topic c.args.value.now) _ c.self.view_is (inputs_so p C c.args.topic c.args.value.now topic.0 (with_items c.self.inside.scalars c.write.new.scalars).items topic.1 topic.2 topic.3 typed written)
+    let written = put ∙ c.write.ensures ∙ ap (write_at c.index.result.now.first c.args.value.now) c.deref_mut.ensures.value
+    ∙ ap (λ x. write_at x.first c.args.value.now C.scalars) same in
+    step_along _ _ (Input c.args.topic c.args.value.now) _ c.self.view_is
+    (inputs_so p C c.args.topic c.args.value.now topic.0 (with_items c.self.inside.scalars c.write.new.scalars).items topic.1 topic.2 topic.3 typed written)

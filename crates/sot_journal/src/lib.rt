@@ -1,4 +1,9 @@
-//! What a value behind the lock has to be.
+//! What a value has to be that is taken in turns: it stands for a ground, which never changes, and for a list,
+//! which only grows.
+//!
+//! The lock (`sot_turn`) and the values behind it know this trait, and not each other.
+#![tactic(auto)]
+
 ghost use Rattle.std.specs.Prelude.{◌≡◌, List, length};
 
 /// A value that stands for a ground and for a list of entries, both plain data.
