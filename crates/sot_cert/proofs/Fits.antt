@@ -52,7 +52,8 @@ entry_form width d c h =
     let b = at_ok (codes "reach") (cells width) ms.0 reach.0 reach.1 in
     subst (IsEntry width) e (record { closed = cells_form width a.0 closed.0 a.1; reach = cells_form width b.0 reach.0 b.1 })
 
-entries_len : (plants : List PlantInfo) (infos : List ModuleInfo) (ms : Members) (os : List (Option Cells)) → entries plants infos ms ≡ Ok os → length os ≡ length infos
+entries_len : (plants : List PlantInfo) (infos : List ModuleInfo) (ms : Members) (os : List (Option Cells)) → entries plants infos ms ≡ Ok os
+    → length os ≡ length infos
 unfolding entries
 entries_len plants [] ms os h = let e : [] ≡ os = ok_same [] os h in ap length (sym e)
 entries_len plants (m ∷ more) ms os h =
@@ -97,8 +98,12 @@ jitter_below p d j h =
     let b : is_below_periods p n.0 ≡ true = unless_ok OutsideRange _ _ ok.1 in
     let e : n.0 ≡ j = ok_same n.0 j ok.2 in
     subst (IsBelow p) e (record {
-      nodes = λ k node at. ltb-true _ _ (all_at (λ (x : NodeInfo). nat_lt n.0 x.period) p.nodes k node (and_parts (list_all (λ (x : NodeInfo). nat_lt n.0 x.period) p.nodes) _ b).0 at);
-      infos = λ k a at. ltb-true _ _ (all_at (λ (x : ModuleInfo). nat_lt n.0 x.period) p.modules k a (and_parts (list_all (λ (x : NodeInfo). nat_lt n.0 x.period) p.nodes) _ b).1 at);
+      nodes =
+          λ k node at. ltb-true _ _ (all_at (λ (x : NodeInfo). nat_lt n.0 x.period) p.nodes k node
+          (and_parts (list_all (λ (x : NodeInfo). nat_lt n.0 x.period) p.nodes) _ b).0 at);
+      infos =
+          λ k a at. ltb-true _ _ (all_at (λ (x : ModuleInfo). nat_lt n.0 x.period) p.modules k a
+          (and_parts (list_all (λ (x : NodeInfo). nat_lt n.0 x.period) p.nodes) _ b).1 at);
     })
 
 jitter_in_below : (p : Tables) → MeetsTableRules p → (jittered : Bool) (ms : Members) (j : ℕ) → jitter_in jittered p ms ≡ Ok j → IsBelow p j
@@ -152,8 +157,12 @@ cert_fits p rules d c h =
     let below = jitter_in_below p rules read.jittered read.members c.jitter read.jitter_is in
     record {
       entries = entries_len p.plants p.modules list.0 c.modules.items list.1;
-      closed = λ k info cells is_info is_c. of_plant info.plant cells.closed (entries_form p.plants p.modules list.0 c.modules.items list.1 k info cells is_info is_c).closed;
-      reach = λ k info cells is_info is_c. of_plant info.plant cells.reach (entries_form p.plants p.modules list.0 c.modules.items list.1 k info cells is_info is_c).reach;
+      closed =
+          λ k info cells is_info is_c. of_plant info.plant cells.closed
+          (entries_form p.plants p.modules list.0 c.modules.items list.1 k info cells is_info is_c).closed;
+      reach =
+          λ k info cells is_info is_c. of_plant info.plant cells.reach
+          (entries_form p.plants p.modules list.0 c.modules.items list.1 k info cells is_info is_c).reach;
       node_jitter = below.nodes;
       module_jitter = below.infos;
     }

@@ -1,5 +1,6 @@
 -- The program's modules one after the other, as a loop goes over them.
-use Rattle.std.proofs.Common.{◌≡◌, ℕ, zero, suc, ◌+◌, ◌<◌, ◌≤◌, List, [], ◌∷◌, ◌++◌, length, drop, get_or, Option, Ok, Err, Bool, true, false, ◌||◌, bytes_eq, refl, sym, ap, subst, ◌∙◌, append_assoc, arith}
+use Rattle.std.proofs.Common.{◌≡◌, ℕ, zero, suc, ◌+◌, ◌<◌, ◌≤◌, List, [], ◌∷◌, ◌++◌, length, drop, get_or, Option, Ok, Err, Bool, true, false, ◌||◌, bytes_eq}
+use Rattle.std.proofs.Common.{refl, sym, ap, subst, ◌∙◌, append_assoc, arith}
 use Rattle.std.proofs.lemmas.List.{append-nil}
 use Rattle.serde_json.specs.Data.{Members}
 use Rattle.sot_lang.specs.declared.tables.PlantInfo.{PlantInfo}
@@ -42,16 +43,19 @@ bind_fails fails.Memory says f h = tt
 bind_fails (fails.Fault g) says f h = rw h refl
 
 -- The module m at place i has the entry x.
-pub entries_on : (plants : List PlantInfo) (front : List (Option Cells)) (ms : List ModuleInfo) (i : ℕ) (m : ModuleInfo) (os : Members) (x : Option Cells) (total : Says (List (Option Cells))) → i < length ms → m ≡ get_or ms i m
+pub entries_on : (plants : List PlantInfo) (front : List (Option Cells)) (ms : List ModuleInfo) (i : ℕ) (m : ModuleInfo) (os : Members) (x : Option Cells)
+    (total : Says (List (Option Cells))) → i < length ms → m ≡ get_or ms i m
     → may m.name (entry (width_of plants m.plant)) os ≡ Ok x
     → with_front front (entries plants (drop i ms) os) ≡ total → with_front (front ++ x ∷ []) (entries plants (drop (i + 1) ms) os) ≡ total
 unfolding entries
 entries_on plants front ms i m os x total lt is h so_far =
-    let one : with_front front (entries plants (drop i ms) os) ≡ with_front (front ++ x ∷ []) (entries plants (drop (i + 1) ms) os) = rw (drop_from ms i m lt is, h) (regroup front x (entries plants (drop (i + 1) ms) os)) in
+    let one : with_front front (entries plants (drop i ms) os) ≡ with_front (front ++ x ∷ []) (entries plants (drop (i + 1) ms) os) =
+    rw (drop_from ms i m lt is, h) (regroup front x (entries plants (drop (i + 1) ms) os)) in
     sym one ∙ so_far
 
 -- The module m at place i has a fault.
-pub entries_end : (plants : List PlantInfo) (front : List (Option Cells)) (ms : List ModuleInfo) (i : ℕ) (m : ModuleInfo) (os : Members) (r : JsonFail) (total : Says (List (Option Cells))) → i < length ms → m ≡ get_or ms i m
+pub entries_end : (plants : List PlantInfo) (front : List (Option Cells)) (ms : List ModuleInfo) (i : ℕ) (m : ModuleInfo) (os : Members) (r : JsonFail)
+    (total : Says (List (Option Cells))) → i < length ms → m ≡ get_or ms i m
     → Fails r (may m.name (entry (width_of plants m.plant)) os) → with_front front (entries plants (drop i ms) os) ≡ total → Fails r total
 unfolding entries
 entries_end plants front ms i m os r total lt is h so_far =
@@ -59,20 +63,23 @@ entries_end plants front ms i m os r total lt is h so_far =
     subst (λ (s : Says (List _)). Fails r s) so_far (bind_fails r _ _ one)
 
 -- All modules were read.
-pub entries_done : (plants : List PlantInfo) (front : List (Option Cells)) (ms : List ModuleInfo) (i : ℕ) (os : Members) (total : Says (List (Option Cells))) → length ms ≤ i → with_front front (entries plants (drop i ms) os) ≡ total → total ≡ Ok front
+pub entries_done : (plants : List PlantInfo) (front : List (Option Cells)) (ms : List ModuleInfo) (i : ℕ) (os : Members) (total : Says (List (Option Cells)))
+    → length ms ≤ i → with_front front (entries plants (drop i ms) os) ≡ total → total ≡ Ok front
 unfolding entries
 entries_done plants front ms i os total le so_far =
     let one : with_front front (entries plants (drop i ms) os) ≡ Ok front = rw (drop_past ms i le) (ap Ok (append-nil front)) in
     sym so_far ∙ one
 
-pub among_from : (k : List ℕ) (ms : List ModuleInfo) (i : ℕ) (m : ModuleInfo) (b : Bool) → i < length ms → m ≡ get_or ms i m → bytes_eq k m.name ≡ b → is_among k (names (drop i ms)) ≡ (b || is_among k (names (drop (i + 1) ms)))
+pub among_from : (k : List ℕ) (ms : List ModuleInfo) (i : ℕ) (m : ModuleInfo) (b : Bool) → i < length ms → m ≡ get_or ms i m → bytes_eq k m.name ≡ b
+    → is_among k (names (drop i ms)) ≡ (b || is_among k (names (drop (i + 1) ms)))
 among_from k ms i m b lt is h = rw (drop_from ms i m lt is, h) refl
 
 pub among_past : (k : List ℕ) (ms : List ModuleInfo) (i : ℕ) → length ms ≤ i → is_among k (names (drop i ms)) ≡ false
 among_past k ms i le = rw (drop_past ms i le) refl
 
 -- The key is the name of the module at place i.
-pub among_at : (k : List ℕ) (ms : List ModuleInfo) (i : ℕ) (m : ModuleInfo) → i < length ms → m ≡ get_or ms i m → bytes_eq k m.name ≡ true → is_among k (names ms) ≡ true
+pub among_at : (k : List ℕ) (ms : List ModuleInfo) (i : ℕ) (m : ModuleInfo) → i < length ms → m ≡ get_or ms i m → bytes_eq k m.name ≡ true
+    → is_among k (names ms) ≡ true
 among_at k [] i m lt is h = absurd (omega (arith, lt))
 among_at k (n ∷ ms) zero m lt is h = ap (λ b. b || is_among k (names ms)) (ap (λ (o : ModuleInfo). bytes_eq k o.name) (sym is) ∙ h)
 among_at k (n ∷ ms) (suc i) m lt is h = ap (λ b. bytes_eq k n.name || b) (among_at k ms i m (omega (arith, lt)) is h) ∙ or_true (bytes_eq k n.name)

@@ -18,7 +18,8 @@ use Rattle.sot_json.proofs.Binds.{bind_ok, part_ok, unless_ok, ok_same}
 use Rattle.sot_json.proofs.Bounds.{int_le_true}
 
 -- what each item keeps holds of all of them
-pub each_keeps : {A : Type 0} (f : Data → Says A) (Q : List A → Type 0) → ((done : List A) (d : Data) (x : A) → Q done → f d ≡ Ok x → Q (done ++ x ∷ [])) → (done : List A) (ds : Items) (xs : List A) → Q done → each_after (λ (_ : List A). f) done ds ≡ Ok xs → Q xs
+pub each_keeps : {A : Type 0} (f : Data → Says A) (Q : List A → Type 0) → ((done : List A) (d : Data) (x : A) → Q done → f d ≡ Ok x → Q (done ++ x ∷ []))
+    → (done : List A) (ds : Items) (xs : List A) → Q done → each_after (λ (_ : List A). f) done ds ≡ Ok xs → Q xs
 unfolding each_after
 each_keeps f Q step done no_items xs q h = let e : done ≡ xs = ok_same done xs h in subst Q e q
 each_keeps f Q step done (item d ds) xs q h =
@@ -26,7 +27,8 @@ each_keeps f Q step done (item d ds) xs q h =
     each_keeps f Q step (done ++ b.0 ∷ []) ds xs (step done d b.0 q (part_ok (decimal (length done)) (f d) b.0 b.1)) b.2
 
 -- there are as many as items
-pub each_len : {A : Type 0} (f : Data → Says A) (done : List A) (ds : Items) (xs : List A) → each_after (λ (_ : List A). f) done ds ≡ Ok xs → length xs ≡ length done + items_len ds
+pub each_len : {A : Type 0} (f : Data → Says A) (done : List A) (ds : Items) (xs : List A) → each_after (λ (_ : List A). f) done ds ≡ Ok xs
+    → length xs ≡ length done + items_len ds
 unfolding each_after
 each_len f done no_items xs h = let e : done ≡ xs = ok_same done xs h in rw (← e) (omega arith)
 each_len f done (item d ds) xs h =
@@ -64,7 +66,8 @@ pub record AreCells (width : ℕ) (r : BoxList) : Type 0 where
   pub few : length r.boxes ≤ 4096
   pub form : (i : ℕ) (b : List Side) → At r.boxes i b → (length b ≡ r.width) × AreOrdered b
 
-form_push : {A : Type 0} (P : A → Type 0) (done : List A) (x : A) → ((i : ℕ) (y : A) → At done i y → P y) → P x → (i : ℕ) (y : A) → At (done ++ x ∷ []) i y → P y
+form_push : {A : Type 0} (P : A → Type 0) (done : List A) (x : A) → ((i : ℕ) (y : A) → At done i y → P y) → P x → (i : ℕ) (y : A) → At (done ++ x ∷ []) i y
+    → P y
 form_push P [] x all p zero y at = subst P (same_Some x y at) p
 form_push P [] x all p (suc i) y at = cc
 form_push P (z ∷ zs) x all p zero y at = all 0 y at
@@ -80,7 +83,8 @@ cells_form width d r h =
     let l : length boxes.0 ≡ length {A = List Side} [] + items_len ds.0 = each_len (cell width) [] ds.0 boxes.0 boxes.1 in
     let e : region_of width boxes.0 ≡ r = ok_same (region_of width boxes.0) r boxes.2 in
     let P = λ (b : List Side). (length b ≡ width) × AreOrdered b in
-    let form = each_keeps (cell width) (λ (bs : List (List Side)). (i : ℕ) (b : List Side) → At bs i b → P b) (λ done c b all s. form_push P done b all (cell_form width c b s)) [] ds.0 boxes.0 (λ i b at. absurd (none_at i b at)) boxes.1 in
+    let form = each_keeps (cell width) (λ (bs : List (List Side)). (i : ℕ) (b : List Side) → At bs i b → P b)
+    (λ done c b all s. form_push P done b all (cell_form width c b s)) [] ds.0 boxes.0 (λ i b at. absurd (none_at i b at)) boxes.1 in
     subst (λ (r : BoxList). AreCells width r) e (record { width_is = refl; few = omega arith; form = form })
   where
     none_at : (i : ℕ) (b : List Side) → At [] i b → ⊥

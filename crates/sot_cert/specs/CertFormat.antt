@@ -1,5 +1,7 @@
--- What a certificate's JSON says of a program, or its first fault: one definition for each value of the format, in its order.
-use Rattle.std.specs.Prelude.{ℕ, ℤ, pos, negsuc, List, [], ◌∷◌, codes, Bool, true, false, ◌&&◌, ◌==◌, nat_lt, nat_le, int_le, Option, Ok, map}
+-- What a certificate's JSON says of a program, or its first fault: one definition for each value of
+-- the format, in its order.
+use Rattle.std.specs.Prelude.{ℕ, ℤ, pos, negsuc, List, [], ◌∷◌, codes, Bool, true, false, ◌&&◌}
+use Rattle.std.specs.Prelude.{◌==◌, nat_lt, nat_le, int_le, Option, Ok, map}
 use Rattle.std.specs.List.{list_all}
 use Rattle.serde_json.specs.Data.{Data, Members}
 use Rattle.serde_json.specs.Events.{items_len}
@@ -12,7 +14,8 @@ use Rattle.sot_lang.specs.declared.cert.Cells.{Cells}
 use Rattle.sot_lang.specs.declared.cert.Cert.{Cert}
 use Rattle.sot_lang.specs.Tables.{Tables}
 use Rattle.sot_lang.specs.OwnerNames.{width_of}
-use Rattle.sot_json.specs.declared.fault.JsonKind.TheVariants.{NotJson, WrongShape, OutsideRange, Unknown, Width, Empty, TooMany}
+use Rattle.sot_json.specs.declared.fault.JsonKind.TheVariants.{NotJson, WrongShape, OutsideRange}
+use Rattle.sot_json.specs.declared.fault.JsonKind.TheVariants.{Unknown, Width, Empty, TooMany}
 use Rattle.sot_json.specs.Says.{Says, ◌>>=◌, or, unless, part}
 use Rattle.sot_json.specs.Json.{json_of, whole, count, each, two, at, may, all_among}
 
@@ -82,7 +85,8 @@ modules p d = do
 
 -- below the period of every node and of every module
 abbrev pub is_below_periods : Tables → ℕ → Bool
-is_below_periods p j = list_all (λ n. nat_lt j n.period) p.nodes && list_all (λ m. nat_lt j m.period) p.modules
+is_below_periods p j =
+    list_all (λ n. nat_lt j n.period) p.nodes && list_all (λ m. nat_lt j m.period) p.modules
 
 -- a jitter: a number from 0 to 999, below every period
 unfoldable pub jitter : Tables → Data → Says ℕ
@@ -112,7 +116,8 @@ pub record Contents : Type 0 where
   pub jitter : ℕ
   pub modules : List (Option Cells)
 
--- a certificate: an object of its format, which is 1 or 2, of its jitter in format 2, and of its modules
+-- a certificate: an object of its format, which is 1 or 2, of its jitter in format 2, and of its
+-- modules
 unfoldable pub cert : Tables → Data → Says Contents
 cert p d = do
   ms ← or WrongShape (as_object d)

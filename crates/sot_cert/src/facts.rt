@@ -1,6 +1,8 @@
-//! Worked certificates of the running example, as facts that the check computes from the definitions.
+//! Worked certificates of the running example, as facts that the check computes from the
+//! definitions.
 ghost use Rattle.std.specs.Global.{Global};
-ghost use Rattle.sot_cert.specs.CertExamples.{Certificates, LastOfRepeated, NoJson, Numbers, Keys, Jitters, CellFaults, CellLimit};
+ghost use Rattle.sot_cert.specs.CertExamples.{Certificates, LastOfRepeated, NoJson, Numbers, Keys};
+ghost use Rattle.sot_cert.specs.CertExamples.{Jitters, CellFaults, CellLimit};
 
 /// What texts say as certificates.
 pub fn certificates_are_as_stated()

@@ -7,7 +7,9 @@ ghost use Rattle.sot_lang.specs.OwnerNames.{width_of};
 ghost use Rattle.sot_lang.specs.TableRules.{MeetsTableRules};
 ghost use Rattle.sot_lang.specs.CertRules.{FitsTables};
 ghost use Rattle.sot_json.specs.Json.{at, may, is_among, all_among};
-ghost use Rattle.sot_cert.specs.CertFormat.{cells, entry, entries, names, modules as modules_say, is_below_periods, jitter, jitter_in, has_jitter, keys, cert, cert_of, contents};
+ghost use Rattle.sot_cert.specs.CertFormat.{cells, entry, entries, names, modules as modules_say};
+ghost use Rattle.sot_cert.specs.CertFormat.{is_below_periods, jitter, jitter_in, has_jitter, keys};
+ghost use Rattle.sot_cert.specs.CertFormat.{cert, cert_of, contents};
 ghost use Rattle.sot_json.specs.Answers.{Gives};
 
 use crate::cells::cells_of;
@@ -97,7 +99,8 @@ fn entries_of(
     p: &Typed,
     object: &Map<String, Value>,
 ) -> Result<Vec<Option<Cells>>, JsonFail>
-    ensures says { Gives (λ v. v.items) result (entries p.now.plants p.now.modules (members_view object.now.entries)) }
+    ensures says { Gives (λ v. v.items) result
+        (entries p.now.plants p.now.modules (members_view object.now.entries)) }
     ensures rules { MeetsTableRules p.now }
 {
     let mut found = Vec::with_capacity(alloc, p.modules.len())?;
@@ -136,8 +139,8 @@ fn is_module_at(p: &Typed, k: usize, key: &str) -> bool
     }
 }
 
-/// Whether a key names a module. Most certificates have their entries in the order of the modules, so the one at a place is
-/// looked at first.
+/// Whether a key names a module. Most certificates have their entries in the order of the modules,
+/// so the one at a place is looked at first.
 fn is_entry(p: &Typed, k: usize, key: &str) -> bool
     ensures { result ≡ is_among key.now (names p.now.modules) }
 {
@@ -181,7 +184,8 @@ fn modules_at(
     p: &Typed,
     object: &Map<String, Value>,
 ) -> Result<Vec<Option<Cells>>, JsonFail>
-    ensures says { Gives (λ v. v.items) result (at (codes "modules") (modules_say p.now) (members_view object.now.entries)) }
+    ensures says { Gives (λ v. v.items) result
+        (at (codes "modules") (modules_say p.now) (members_view object.now.entries)) }
     ensures rules { OnOk result (MeetsTableRules p.now) }
 {
     let value = needed(alloc, object, "modules")?;
@@ -220,7 +224,8 @@ fn jitter_of(alloc: Global, p: &Typed, value: &Value) -> Result<u32, JsonFail>
 
 #[tactic(auto, unfolding(sot_json::specs::Json::at), using(sot_json::proofs::Parts::found_there, sot_json::proofs::Parts::lacking))]
 fn jitter_at(alloc: Global, p: &Typed, object: &Map<String, Value>) -> Result<u32, JsonFail>
-    ensures { Gives (λ x. x) result (at (codes "jitter") (jitter p.now) (members_view object.now.entries)) }
+    ensures { Gives (λ x. x) result (at (codes "jitter") (jitter p.now)
+        (members_view object.now.entries)) }
 {
     let value = needed(alloc, object, "jitter")?;
     part_of(alloc, "jitter", jitter_of(alloc, p, value))
@@ -236,7 +241,8 @@ fn format_of(alloc: Global, value: &Value) -> Result<bool, JsonFail>
 
 #[tactic(auto, unfolding(sot_json::specs::Json::at), using(sot_json::proofs::Parts::found_there, sot_json::proofs::Parts::lacking))]
 fn format_at(alloc: Global, object: &Map<String, Value>) -> Result<bool, JsonFail>
-    ensures { Gives (λ x. x) result (at (codes "format") has_jitter (members_view object.now.entries)) }
+    ensures { Gives (λ x. x) result (at (codes "format") has_jitter
+        (members_view object.now.entries)) }
 {
     let value = needed(alloc, object, "format")?;
     part_of(alloc, "format", format_of(alloc, value))
@@ -285,9 +291,9 @@ fn cert_in(alloc: Global, p: &Typed, value: &Value) -> Result<Cert, JsonFail>
     Ok(Cert { jitter, modules })
 }
 
-/// The certificate that the bytes say, with an entry or none for each module of the program in declared order, or their
-/// first fault in the order of the format. A module without an entry is no fault. What was read of the format is let go, unless the
-/// process ends.
+/// The certificate that the bytes say, with an entry or none for each module of the program in
+/// declared order, or their first fault in the order of the format. A module without an entry is no
+/// fault. What was read of the format is let go, unless the process ends.
 pub fn read_cert(alloc: Global, p: &Typed, bytes: &[u8], process: Process) -> Result<Cert, CertFail>
     ensures says { Gives contents result (cert_of p.now bytes.now) }
     ensures fits { IfOk result (λ c. FitsTables p.now c) }

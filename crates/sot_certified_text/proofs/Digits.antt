@@ -22,7 +22,8 @@ glyph_plain d =
 onto_one_line : (k n : ℕ) (acc : List ℕ) → is_one_line acc ≡ true → is_one_line (digits_onto k 10 false n acc) ≡ true
 onto_one_line zero n acc one = one
 onto_one_line (suc k) n acc one =
-    let next : is_one_line (digit_glyph false (n % 10) ∷ acc) ≡ true = both (not (digit_glyph false (n % 10) == 10)) (is_one_line acc) (glyph_no_end (n % 10)) one in
+    let next : is_one_line (digit_glyph false (n % 10) ∷ acc) ≡ true =
+    both (not (digit_glyph false (n % 10) == 10)) (is_one_line acc) (glyph_no_end (n % 10)) one in
     elim (cases_Bool (n / 10 == 0)) [
       | inl last ↦ rw last next
       | inr more ↦ rw more (onto_one_line k (n / 10) (digit_glyph false (n % 10) ∷ acc) next)

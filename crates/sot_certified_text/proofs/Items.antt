@@ -14,13 +14,16 @@ made_items f [] = refl
 made_items f (x ∷ xs) = ap (item (f x)) (made_items f xs)
 
 -- one value more
-pub one_more : {A : Type 0} (f : A → Data) (xs : List A) (i : ℕ) (x : A) (done after : List Value) (v : Value) → At xs i x → map view done ≡ map f (take i xs) → view v ≡ f x → after ≡ done ++ v ∷ []
+pub one_more : {A : Type 0} (f : A → Data) (xs : List A) (i : ℕ) (x : A) (done after : List Value) (v : Value) → At xs i x → map view done ≡ map f (take i xs)
+    → view v ≡ f x → after ≡ done ++ v ∷ []
     → map view after ≡ map f (take (i + 1) xs)
 one_more f xs i x done after v at before is same =
     ap (map view) same ∙ map-append view done (v ∷ []) ∙ ap₂ (λ a b. a ++ b ∷ []) before is
-    ∙ sym (map-append f (take i xs) (x ∷ [])) ∙ ap (map f) (sym (take_more xs i x (slice_get_within xs i x at) ∙ ap (λ y. take i xs ++ y ∷ []) (get_or_from_slice_get xs i x x at)))
+    ∙ sym (map-append f (take i xs) (x ∷ [])) ∙ ap (map f) (sym
+    (take_more xs i x (slice_get_within xs i x at) ∙ ap (λ y. take i xs ++ y ∷ []) (get_or_from_slice_get xs i x x at)))
 
 -- all values made
-pub whole : {A : Type 0} (f : A → Data) (xs : List A) (v : Vec Value Global) (i : ℕ) → length xs ≤ i → map view v.items ≡ map f (take i xs) → view (Array v) ≡ array (items_by f xs)
+pub whole : {A : Type 0} (f : A → Data) (xs : List A) (v : Vec Value Global) (i : ℕ) → length xs ≤ i → map view v.items ≡ map f (take i xs)
+    → view (Array v) ≡ array (items_by f xs)
 whole f xs v i le done =
     view-Array v ∙ ap (λ l. array (items_of l)) (done ∙ ap (map f) (take_all i xs le)) ∙ ap array (made_items f xs)

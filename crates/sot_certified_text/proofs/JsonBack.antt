@@ -1,5 +1,6 @@
 -- JSON that is written with no blank is read back, where its numbers have 64 bits, its texts are UTF-8 and its keys are in order.
-use Rattle.std.proofs.Common.{◌≡◌, ℕ, ◌<◌, ◌≤◌, ◌^◌, pos, negsuc, Bool, true, false, Some, option_map, option_and_then, List, [], ◌∷◌, ◌++◌, Ordering, Less, Equal, Greater, nat_cmp, refl, sym, ap, ◌∙◌, subst, arith}
+use Rattle.std.proofs.Common.{◌≡◌, ℕ, ◌<◌, ◌≤◌, ◌^◌, pos, negsuc, Bool, true, false, Some, option_map, option_and_then, List, [], ◌∷◌, ◌++◌, Ordering, Less}
+use Rattle.std.proofs.Common.{Equal, Greater, nat_cmp, refl, sym, ap, ◌∙◌, subst, arith}
 use Rattle.std.specs.Cmp.Lexicographic.{slice_cmp}
 use Rattle.std.specs.Ordering.{match_ordering, ordering_reverse}
 use Rattle.std.specs.Str.{IsUtf8}
@@ -15,7 +16,8 @@ use Rattle.json.proofs.Printed.Decimals.{IsNumber-decimal, IsNumber-signed_decim
 use Rattle.json.proofs.Printed.Tokens.{tokens-print}
 use Rattle.json.proofs.Printed.Trees.{value-json_tokens, ArePrintable-json_tokens}
 use Rattle.json.proofs.Printed.Utf8.{IsUtf8-are_ascii, IsUtf8-quoted, IsUtf8-boolean}
-use Rattle.serde_json.specs.Data.{Num, unsigned, negative, float, Data, null, boolean, number, string, array, object, Items, no_items, item, Members, no_members, member, put, depth, items_depth, members_depth}
+use Rattle.serde_json.specs.Data.{Num, unsigned, negative, float, Data, null, boolean, number, string, array, object, Items, no_items, item, Members}
+use Rattle.serde_json.specs.Data.{no_members, member, put, depth, items_depth, members_depth}
 use Rattle.serde_json.specs.Read.{number_of, of_json, of_items, of_members, max_depth, read}
 use Rattle.serde_json.specs.Written.{number_text, outline, items_outline, members_outline, comma_if, compact_text, items_text, members_text}
 use Rattle.serde_json.proofs.Numbers.{number_of-decimal, number_of-negative}
@@ -73,7 +75,8 @@ put_before : (q k : List ℕ) (d : Data) (ms : Members) → slice_cmp nat_cmp q 
 put_before q k d no_members less all = (less, tt)
 put_before q k d (member l e ms) less all = placed (slice_cmp nat_cmp k l) (put_before q k d ms less all.1)
   where
-    placed : (o : Ordering) → ComesBefore q (put k d ms) → ComesBefore q (match_ordering o (member k d (member l e ms)) (member l d ms) (member l e (put k d ms)))
+    placed : (o : Ordering) → ComesBefore q (put k d ms) → ComesBefore q
+        (match_ordering o (member k d (member l e ms)) (member l d ms) (member l e (put k d ms)))
     placed Less rest = (less, all)
     placed Equal rest = all
     placed Greater rest = (all.0, rest)
@@ -82,7 +85,8 @@ pub put_sorted : (k : List ℕ) (d : Data) (ms : Members) → AreSorted ms → A
 put_sorted k d no_members sorted = (tt, tt)
 put_sorted k d (member l e ms) sorted = placed (slice_cmp nat_cmp k l) refl (put_sorted k d ms sorted.1)
   where
-    placed : (o : Ordering) → slice_cmp nat_cmp k l ≡ o → AreSorted (put k d ms) → AreSorted (match_ordering o (member k d (member l e ms)) (member l d ms) (member l e (put k d ms)))
+    placed : (o : Ordering) → slice_cmp nat_cmp k l ≡ o → AreSorted (put k d ms)
+        → AreSorted (match_ordering o (member k d (member l e ms)) (member l d ms) (member l e (put k d ms)))
     placed Less is rest = ((is, comes_before_all k l ms is sorted.0), sorted)
     placed Equal is rest = sorted
     placed Greater is rest = (put_before l k d ms (before k l is) sorted.0, rest)
@@ -91,7 +95,8 @@ pub put_can_write : (k : List ℕ) (d : Data) (ms : Members) → IsUtf8 k → Ca
 put_can_write k d no_members key own all = (key, own, tt)
 put_can_write k d (member l e ms) key own all = placed (slice_cmp nat_cmp k l) (put_can_write k d ms key own all.2)
   where
-    placed : (o : Ordering) → CanWriteMembers (put k d ms) → CanWriteMembers (match_ordering o (member k d (member l e ms)) (member l d ms) (member l e (put k d ms)))
+    placed : (o : Ordering) → CanWriteMembers (put k d ms) → CanWriteMembers
+        (match_ordering o (member k d (member l e ms)) (member l d ms) (member l e (put k d ms)))
     placed Less rest = (key, own, all)
     placed Equal rest = (all.0, own, all.2)
     placed Greater rest = (all.0, all.1, rest)
@@ -117,14 +122,17 @@ appended_one : (done : Members) (k : List ℕ) (d : Data) (ms : Members) → app
 appended_one no_members k d ms = refl
 appended_one (member l e done) k d ms = ap (member l e) (appended_one done k d ms)
 
-comes_before_later : (l : List ℕ) (done : Members) (k : List ℕ) (d : Data) (ms : Members) → ComesBefore l (appended done (member k d ms)) → slice_cmp nat_cmp l k ≡ Less
+comes_before_later : (l : List ℕ) (done : Members) (k : List ℕ) (d : Data) (ms : Members) → ComesBefore l (appended done (member k d ms))
+    → slice_cmp nat_cmp l k ≡ Less
 comes_before_later l no_members k d ms all = all.0
 comes_before_later l (member q e done) k d ms all = comes_before_later l done k d ms all.1
 
-put_last : (done : Members) (k : List ℕ) (d : Data) (ms : Members) → AreSorted (appended done (member k d ms)) → put k d done ≡ appended done (member k d no_members)
+put_last : (done : Members) (k : List ℕ) (d : Data) (ms : Members) → AreSorted (appended done (member k d ms))
+    → put k d done ≡ appended done (member k d no_members)
 put_last no_members k d ms sorted = refl
 put_last (member l e done) k d ms sorted =
-    ap (λ o. match_ordering o (member k d (member l e done)) (member l d done) (member l e (put k d done))) (after l k (comes_before_later l done k d ms sorted.0))
+    ap (λ o. match_ordering o (member k d (member l e done)) (member l d done) (member l e (put k d done)))
+    (after l k (comes_before_later l done k d ms sorted.0))
     ∙ ap (member l e) (put_last done k d ms sorted.1)
 
 mutual
@@ -213,7 +221,8 @@ mutual
   items_utf8 : (later : Bool) (ds : Items) → CanWriteItems ds → IsUtf8 (items_text later ds)
   items_utf8 later no_items can = IsUtf8-are_ascii (93 ∷ []) refl
   items_utf8 later (item d ds) can =
-      IsUtf8-append (comma_if later) (compact_text d ++ items_text true ds) (comma_utf8 later) (IsUtf8-append (compact_text d) (items_text true ds) (data_utf8 d can.0) (items_utf8 true ds can.1))
+      IsUtf8-append (comma_if later) (compact_text d ++ items_text true ds) (comma_utf8 later)
+      (IsUtf8-append (compact_text d) (items_text true ds) (data_utf8 d can.0) (items_utf8 true ds can.1))
 
   members_utf8 : (later : Bool) (ms : Members) → CanWriteMembers ms → IsUtf8 (members_text later ms)
   members_utf8 later no_members can = IsUtf8-are_ascii (125 ∷ []) refl
@@ -221,14 +230,16 @@ mutual
       let rest : List ℕ = compact_text d ++ members_text true ms in
       IsUtf8-append (comma_if later) (quoted k ++ 58 ∷ rest) (comma_utf8 later)
       (IsUtf8-append (quoted k) (58 ∷ rest) (IsUtf8-quoted k can.0)
-      (IsUtf8-append (58 ∷ []) rest (IsUtf8-are_ascii (58 ∷ []) refl) (IsUtf8-append (compact_text d) (members_text true ms) (data_utf8 d can.1) (members_utf8 true ms can.2))))
+      (IsUtf8-append (58 ∷ []) rest (IsUtf8-are_ascii (58 ∷ []) refl)
+      (IsUtf8-append (compact_text d) (members_text true ms) (data_utf8 d can.1) (members_utf8 true ms can.2))))
 
 -- ---- the whole
 
 whole_back : (d : Data) → CanWrite d → depth d ≤ 127 → read (compact_text d) ≡ Some d
 whole_back d can flat =
     let j : json.Json = outline d in
-    let same : tokens (compact_text d) ≡ tree.json_tokens j = ap tokens (sym (print-outline d)) ∙ tokens-print (tree.json_tokens j) (ArePrintable-json_tokens j (has_numbers d can)) in
+    let same : tokens (compact_text d) ≡ tree.json_tokens j = ap tokens (sym (print-outline d))
+    ∙ tokens-print (tree.json_tokens j) (ArePrintable-json_tokens j (has_numbers d can)) in
     let shallow : tree.depth j ≤ 127 = omega (arith, same_depth d, flat) in
     ap (λ ts. option_and_then of_json (option_and_then (λ p. json.if_last p.0 p.1) (json.value max_depth ts))) (same ∙ sym (append-nil (tree.json_tokens j)))
     ∙ ap (λ o. option_and_then of_json (option_and_then (λ p. json.if_last p.0 p.1) o)) (value-json_tokens j max_depth [] shallow)

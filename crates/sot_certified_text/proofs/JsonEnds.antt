@@ -1,5 +1,6 @@
 -- JSON with a line end behind it is the same JSON.
-use Rattle.std.proofs.Common.{◌≡◌, ℕ, ◌+◌, ◌-◌, ◌==◌, ◌&&◌, ◌||◌, not, nat_lt, Bool, true, false, cond, Option, None, Some, option_map, option_and_then, List, [], ◌∷◌, ◌++◌, length, take, drop, inl, inr, refl, ap, ap₂, ◌∙◌, arith, length-append}
+use Rattle.std.proofs.Common.{◌≡◌, ℕ, ◌+◌, ◌-◌, ◌==◌, ◌&&◌, ◌||◌, not, nat_lt, Bool, true, false, cond, Option, None, Some, option_map, option_and_then, List}
+use Rattle.std.proofs.Common.{[], ◌∷◌, ◌++◌, length, take, drop, inl, inr, refl, ap, ap₂, ◌∙◌, arith, length-append}
 use Rattle.std.specs.Prelude.{nat_eq}
 use Rattle.std.specs.Char.{is_ascii_digit, encode_utf8}
 use Rattle.std.specs.List.{prefix_len, starts_with}
@@ -11,9 +12,12 @@ use Rattle.std.proofs.lemmas.Str.{IsUtf8-append, IsUtf8-from_is_utf8, is_utf8-fr
 use Rattle.std.proofs.lemmas.Str.Ascii.{IsAscii-nil, IsAscii-cons}
 use Rattle.json.specs.Ascii as ascii
 use Rattle.json.specs.Token.{Token, number, boolean, null, bad}
-use Rattle.json.specs.Text.{Within, plain, after_backslash, after_u, after_high, content, code_unit, short_escape, prepend, is_high_surrogate, is_low_surrogate, surrogate_pair}
-use Rattle.json.specs.Word.{head, ends_word, after_digits, after_minus, after_sign, after_whole, after_fraction, after_exponent, after_number, number_before, literal, word}
-use Rattle.json.specs.Lex.{Lexeme, token, Class, quote, backslash, operator, space, other, class, operator_lexeme, string_token, Mode, between, in_word, in_string, in_escape, lex_byte, lex, punctuate, fresh, tokens}
+use Rattle.json.specs.Text.{Within, plain, after_backslash, after_u, after_high, content, code_unit, short_escape, prepend, is_high_surrogate, is_low_surrogate}
+use Rattle.json.specs.Text.{surrogate_pair}
+use Rattle.json.specs.Word.{head, ends_word, after_digits, after_minus, after_sign, after_whole, after_fraction, after_exponent, after_number, number_before}
+use Rattle.json.specs.Word.{literal, word}
+use Rattle.json.specs.Lex.{Lexeme, token, Class, quote, backslash, operator, space, other, class, operator_lexeme, string_token, Mode, between, in_word}
+use Rattle.json.specs.Lex.{in_string, in_escape, lex_byte, lex, punctuate, fresh, tokens}
 use Rattle.serde_json.specs.Data.{Data}
 use Rattle.serde_json.specs.Read.{read}
 use Rattle.sot_json.specs.Json.{json_of}
@@ -46,18 +50,23 @@ content_ends : (w : Within) (xs : List ℕ) → content w (ended xs) ≡ content
 unfolding content short_escape
 content_ends plain [] = refl
 content_ends plain (x ∷ xs) =
-    ap₂ (λ a b. cond (x == ascii.quote) (Some []) (cond (x == ascii.backslash) a (cond (nat_lt x ascii.space) None (prepend (x ∷ []) b)))) (content_ends after_backslash xs) (content_ends plain xs)
+    ap₂ (λ a b. cond (x == ascii.quote) (Some []) (cond (x == ascii.backslash) a (cond (nat_lt x ascii.space) None (prepend (x ∷ []) b))))
+    (content_ends after_backslash xs) (content_ends plain xs)
 content_ends after_backslash [] = refl
-content_ends after_backslash (x ∷ xs) = ap₂ (λ a b. cond (x == ascii.lower_u) a (option_and_then (λ c. prepend (c ∷ []) b) (short_escape x))) (content_ends after_u xs) (content_ends plain xs)
+content_ends after_backslash (x ∷ xs) =
+    ap₂ (λ a b. cond (x == ascii.lower_u) a (option_and_then (λ c. prepend (c ∷ []) b) (short_escape x))) (content_ends after_u xs) (content_ends plain xs)
 content_ends after_u [] = refl
 content_ends after_u (a ∷ []) = refl
 content_ends after_u (a ∷ b ∷ []) = refl
 content_ends after_u (a ∷ b ∷ c ∷ []) =
-    ap (λ o. option_and_then (λ u. cond (is_high_surrogate u) (content (after_high u) []) (cond (is_low_surrogate u) None (prepend (encode_utf8 u) (content plain [])))) o) (no_unit a b c)
+    ap (λ o. option_and_then (λ u. cond (is_high_surrogate u) (content (after_high u) [])
+    (cond (is_low_surrogate u) None (prepend (encode_utf8 u) (content plain [])))) o) (no_unit a b c)
 content_ends after_u (a ∷ b ∷ c ∷ d ∷ xs) =
-    option_same (λ u. cond (is_high_surrogate u) (content (after_high u) (ended xs)) (cond (is_low_surrogate u) None (prepend (encode_utf8 u) (content plain (ended xs)))))
+    option_same (λ u. cond (is_high_surrogate u) (content (after_high u) (ended xs))
+    (cond (is_low_surrogate u) None (prepend (encode_utf8 u) (content plain (ended xs)))))
     (λ u. cond (is_high_surrogate u) (content (after_high u) xs) (cond (is_low_surrogate u) None (prepend (encode_utf8 u) (content plain xs))))
-    (λ u. ap₂ (λ p q. cond (is_high_surrogate u) p (cond (is_low_surrogate u) None (prepend (encode_utf8 u) q))) (content_ends (after_high u) xs) (content_ends plain xs))
+    (λ u. ap₂ (λ p q. cond (is_high_surrogate u) p (cond (is_low_surrogate u) None (prepend (encode_utf8 u) q))) (content_ends (after_high u) xs)
+    (content_ends plain xs))
     (code_unit a b c d)
 content_ends (after_high h) [] = refl
 content_ends (after_high h) (s ∷ []) = refl
@@ -65,10 +74,12 @@ content_ends (after_high h) (s ∷ u ∷ []) = refl
 content_ends (after_high h) (s ∷ u ∷ a ∷ []) = refl
 content_ends (after_high h) (s ∷ u ∷ a ∷ b ∷ []) = refl
 content_ends (after_high h) (s ∷ u ∷ a ∷ b ∷ c ∷ []) =
-    ap (λ o. cond ((s == ascii.backslash) && (u == ascii.lower_u)) (option_and_then (λ l. cond (is_low_surrogate l) (prepend (encode_utf8 (surrogate_pair h l)) (content plain [])) None) o) None) (no_unit a b c)
+    ap (λ o. cond ((s == ascii.backslash) && (u == ascii.lower_u))
+    (option_and_then (λ l. cond (is_low_surrogate l) (prepend (encode_utf8 (surrogate_pair h l)) (content plain [])) None) o) None) (no_unit a b c)
     ∙ same_arms ((s == ascii.backslash) && (u == ascii.lower_u)) None
 content_ends (after_high h) (s ∷ u ∷ a ∷ b ∷ c ∷ d ∷ xs) =
-    ap (λ r. cond ((s == ascii.backslash) && (u == ascii.lower_u)) (option_and_then (λ l. cond (is_low_surrogate l) (prepend (encode_utf8 (surrogate_pair h l)) r) None) (code_unit a b c d)) None) (content_ends plain xs)
+    ap (λ r. cond ((s == ascii.backslash) && (u == ascii.lower_u))
+    (option_and_then (λ l. cond (is_low_surrogate l) (prepend (encode_utf8 (surrogate_pair h l)) r) None) (code_unit a b c d)) None) (content_ends plain xs)
 
 -- ---- words
 
@@ -92,7 +103,8 @@ literal_at (n ∷ ns) [] one =
 literal_at (n ∷ ns) (x ∷ xs) one = within (nat_eq n x) (literal_at ns xs (second_of (not (n == 10)) (is_one_line ns) one))
   where
     within : (b : Bool) → is_literal ns (ended xs) ≡ is_literal ns xs
-        → ((b && starts_with nat_eq (ended xs) ns) && ends_word (drop (length ns) (ended xs))) ≡ ((b && starts_with nat_eq xs ns) && ends_word (drop (length ns) xs))
+        → ((b && starts_with nat_eq (ended xs) ns) && ends_word (drop (length ns) (ended xs)))
+        ≡ ((b && starts_with nat_eq xs ns) && ends_word (drop (length ns) xs))
     within true e = e
     within false e = refl
 
@@ -131,11 +143,13 @@ sign_end (x ∷ xs) = pushed ((x == ascii.minus) || (x == ascii.plus)) xs (x ∷
 
 whole_end : (t : List ℕ) → after_whole (ended t) ≡ left (after_whole t)
 whole_end [] = refl
-whole_end (x ∷ xs) = ap (λ o. cond (x == ascii.zero) (Some (ended xs)) o) (digits_end (x ∷ xs)) ∙ pushed_left (x == ascii.zero) (Some xs) (after_digits (x ∷ xs))
+whole_end (x ∷ xs) =
+    ap (λ o. cond (x == ascii.zero) (Some (ended xs)) o) (digits_end (x ∷ xs)) ∙ pushed_left (x == ascii.zero) (Some xs) (after_digits (x ∷ xs))
 
 fraction_end : (t : List ℕ) → after_fraction (ended t) ≡ left (after_fraction t)
 fraction_end [] = refl
-fraction_end (x ∷ xs) = ap (λ o. cond (x == ascii.dot) o (Some (ended (x ∷ xs)))) (digits_end xs) ∙ pushed_left (x == ascii.dot) (after_digits xs) (Some (x ∷ xs))
+fraction_end (x ∷ xs) =
+    ap (λ o. cond (x == ascii.dot) o (Some (ended (x ∷ xs)))) (digits_end xs) ∙ pushed_left (x == ascii.dot) (after_digits xs) (Some (x ∷ xs))
 
 exponent_end : (t : List ℕ) → after_exponent (ended t) ≡ left (after_exponent t)
 exponent_end [] = refl
@@ -143,7 +157,8 @@ exponent_end (x ∷ xs) =
     ap (λ o. cond ((x == ascii.lower_e) || (x == ascii.upper_e)) o (Some (ended (x ∷ xs)))) (ap after_digits (sign_end xs) ∙ digits_end (after_sign xs))
     ∙ pushed_left ((x == ascii.lower_e) || (x == ascii.upper_e)) (after_digits (after_sign xs)) (Some (x ∷ xs))
 
-chained : (f : List ℕ → Option (List ℕ)) → ((t : List ℕ) → f (ended t) ≡ left (f t)) → (o : Option (List ℕ)) → option_and_then f (left o) ≡ left (option_and_then f o)
+chained : (f : List ℕ → Option (List ℕ)) → ((t : List ℕ) → f (ended t) ≡ left (f t)) → (o : Option (List ℕ))
+    → option_and_then f (left o) ≡ left (option_and_then f o)
 chained f same None = refl
 chained f same (Some t) = same t
 
@@ -162,17 +177,22 @@ number_same t (Some r) =
     ap (λ n. take n (ended t)) less ∙ take-append-le (length t - length r) t (10 ∷ []) (omega arith) in
     ap₂ (λ b s. cond b (number s) bad) (word_over r) text
 
-either : (a b c d e f : Bool) (p q r s u v w x : Token) → a ≡ b → c ≡ d → e ≡ f → p ≡ q → r ≡ s → u ≡ v → w ≡ x → cond a p (cond c r (cond e u w)) ≡ cond b q (cond d s (cond f v x))
+either : (a b c d e f : Bool) (p q r s u v w x : Token) → a ≡ b → c ≡ d → e ≡ f → p ≡ q → r ≡ s → u ≡ v → w ≡ x
+    → cond a p (cond c r (cond e u w)) ≡ cond b q (cond d s (cond f v x))
 either a b c d e f p q r s u v w x h i j k l m n = cc
 
 word_ends : (t : List ℕ) → word (ended t) ≡ word t
 unfolding word
 word_ends t =
-    either (head (ended t) == ascii.lower_t) (head t == ascii.lower_t) (head (ended t) == ascii.lower_f) (head t == ascii.lower_f) (head (ended t) == ascii.lower_n) (head t == ascii.lower_n)
-    (literal ascii.true_text (boolean true) (ended t)) (literal ascii.true_text (boolean true) t) (literal ascii.false_text (boolean false) (ended t)) (literal ascii.false_text (boolean false) t)
-    (literal ascii.null_text null (ended t)) (literal ascii.null_text null t) (number_before (ended t) (after_number (ended t))) (number_before t (after_number t))
+    either (head (ended t) == ascii.lower_t) (head t == ascii.lower_t) (head (ended t) == ascii.lower_f) (head t == ascii.lower_f)
+    (head (ended t) == ascii.lower_n) (head t == ascii.lower_n)
+    (literal ascii.true_text (boolean true) (ended t)) (literal ascii.true_text (boolean true) t) (literal ascii.false_text (boolean false) (ended t))
+    (literal ascii.false_text (boolean false) t)
+    (literal ascii.null_text null (ended t)) (literal ascii.null_text null t) (number_before (ended t) (after_number (ended t)))
+    (number_before t (after_number t))
     (head_test t ascii.lower_t refl) (head_test t ascii.lower_f refl) (head_test t ascii.lower_n refl)
-    (ap (λ b. cond b (boolean true) bad) (literal_at ascii.true_text t refl)) (ap (λ b. cond b (boolean false) bad) (literal_at ascii.false_text t refl)) (ap (λ b. cond b null bad) (literal_at ascii.null_text t refl))
+    (ap (λ b. cond b (boolean true) bad) (literal_at ascii.true_text t refl)) (ap (λ b. cond b (boolean false) bad) (literal_at ascii.false_text t refl))
+    (ap (λ b. cond b null bad) (literal_at ascii.null_text t refl))
     (ap (number_before (ended t)) (number_end t) ∙ number_same t (after_number t))
 
 -- ---- tokens
@@ -214,7 +234,8 @@ read_ends bytes = rw (tokens_end bytes) refl
 
 utf8_ends : (bytes : List ℕ) → is_utf8 bytes ≡ true → is_utf8 (ended bytes) ≡ true
 utf8_ends bytes is =
-    is_utf8-from_IsUtf8 (ended bytes) (IsUtf8-append bytes (10 ∷ []) (IsUtf8-from_is_utf8 bytes is) (IsUtf8-from_ascii (10 ∷ []) (IsAscii-cons 10 [] (omega arith) IsAscii-nil)))
+    is_utf8-from_IsUtf8 (ended bytes) (IsUtf8-append bytes (10 ∷ []) (IsUtf8-from_is_utf8 bytes is)
+    (IsUtf8-from_ascii (10 ∷ []) (IsAscii-cons 10 [] (omega arith) IsAscii-nil)))
 
 pub json_ends : (bytes : List ℕ) (d : Data) → json_of bytes ≡ Some d → json_of (ended bytes) ≡ Some d
 json_ends bytes d is =

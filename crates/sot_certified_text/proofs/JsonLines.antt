@@ -4,7 +4,8 @@ use Rattle.std.specs.Char.{digit_char}
 use Rattle.std.proofs.lemmas.Bool.{cases_Bool}
 use Rattle.std.proofs.lemmas.Bool.Decides.{nat_tests}
 use Rattle.json.specs.Print.{escape_letter, escape_byte, escape, quoted}
-use Rattle.serde_json.specs.Data.{Num, unsigned, negative, float, Data, null, boolean, number, string, array, object, Items, no_items, item, Members, no_members, member}
+use Rattle.serde_json.specs.Data.{Num, unsigned, negative, float, Data, null, boolean, number, string, array, object, Items, no_items, item, Members}
+use Rattle.serde_json.specs.Data.{no_members, member}
 use Rattle.serde_json.specs.Written.{number_text, comma_if, compact_text, items_text, members_text}
 use Rattle.sot_certified_text.proofs.PlainTexts.{is_one_line, both, one_line_on}
 use Rattle.sot_certified_text.proofs.Digits.{decimal_one_line, signed_one_line}
@@ -43,7 +44,8 @@ byte_one_line x =
       | inl short ↦ rw short (both (not (escape_letter x == 10)) true (letter_no_end x) refl)
       | inr no_letter ↦
           elim (cases_Bool (nat_lt x 32)) [
-            | inl low ↦ rw (no_letter, low) (both (not (digit_char (x / 16) == 10)) (not (digit_char (x % 16) == 10) && true) (digit_no_end (x / 16)) (both (not (digit_char (x % 16) == 10)) true (digit_no_end (x % 16)) refl))
+            | inl low ↦ rw (no_letter, low) (both (not (digit_char (x / 16) == 10)) (not (digit_char (x % 16) == 10) && true) (digit_no_end (x / 16))
+                (both (not (digit_char (x % 16) == 10)) true (digit_no_end (x % 16)) refl))
             | inr high ↦ (let other : (x == 10) ≡ false = grind (arith, nat_tests) in rw (no_letter, high, other) refl)
           ]
     ]
@@ -77,10 +79,12 @@ mutual
   items_one_line : (later : Bool) (ds : Items) → is_one_line (items_text later ds) ≡ true
   items_one_line later no_items = refl
   items_one_line later (item d ds) =
-      one_line_on (comma_if later) (compact_text d ++ items_text true ds) (comma_one_line later) (one_line_on (compact_text d) (items_text true ds) (data_one_line d) (items_one_line true ds))
+      one_line_on (comma_if later) (compact_text d ++ items_text true ds) (comma_one_line later)
+      (one_line_on (compact_text d) (items_text true ds) (data_one_line d) (items_one_line true ds))
 
   members_one_line : (later : Bool) (ms : Members) → is_one_line (members_text later ms) ≡ true
   members_one_line later no_members = refl
   members_one_line later (member k d ms) =
       one_line_on (comma_if later) (quoted k ++ 58 ∷ (compact_text d ++ members_text true ms)) (comma_one_line later)
-      (one_line_on (quoted k) (58 ∷ (compact_text d ++ members_text true ms)) (quoted_one_line k) (one_line_on (compact_text d) (members_text true ms) (data_one_line d) (members_one_line true ms)))
+      (one_line_on (quoted k) (58 ∷ (compact_text d ++ members_text true ms)) (quoted_one_line k)
+      (one_line_on (compact_text d) (members_text true ms) (data_one_line d) (members_one_line true ms)))

@@ -40,7 +40,8 @@ sides_written [] o h i r at = absurd (cc)
 sides_written (s ∷ ss) o h zero r at = (let e : s ≡ r = cc in subst (λ q. CanWrite (side_data q)) e (side_written s o.0 (h 0 s refl)))
 sides_written (s ∷ ss) o h (suc i) r at = sides_written ss o.1 (λ j. h (suc j)) i r at
 
-cells_written : (p : Tables) (plant : ℕ) (r : BoxList) → AreCellsOf p plant r → ((i : ℕ) (b : List Side) → At r.boxes i b → AreShort b) → CanWrite (cells_data r.boxes)
+cells_written : (p : Tables) (plant : ℕ) (r : BoxList) → AreCellsOf p plant r → ((i : ℕ) (b : List Side) → At r.boxes i b → AreShort b)
+    → CanWrite (cells_data r.boxes)
 cells_written p plant r fit short =
     items_written cell_data r.boxes (λ i b at. items_written side_data b (sides_written b (fit.each i b at).1 (short i b at)))
 
@@ -48,21 +49,26 @@ entry_written : (c : Cells) → CanWrite (cells_data c.closed.boxes) → CanWrit
 entry_written c closed reach = ((IsUtf8-are_ascii (codes "closed") refl, closed, (IsUtf8-are_ascii (codes "reach") refl, reach, tt)), ((refl, tt), (tt, tt)))
 
 entries_written : (infos : List ModuleInfo) (os : List (Option Cells)) → ((i : ℕ) (m : ModuleInfo) → At infos i m → IsUtf8 m.name)
-    → ((i : ℕ) (m : ModuleInfo) (c : Cells) → At infos i m → At os i (Some c) → CanWrite (entry_data c)) → CanWriteMembers (entries_data infos os) × AreSorted (entries_data infos os)
+    → ((i : ℕ) (m : ModuleInfo) (c : Cells) → At infos i m → At os i (Some c) → CanWrite (entry_data c))
+    → CanWriteMembers (entries_data infos os) × AreSorted (entries_data infos os)
 entries_written [] os names own = (tt, tt)
 entries_written (m ∷ ms) [] names own = (tt, tt)
 entries_written (m ∷ ms) (None ∷ os) names own = entries_written ms os (λ i. names (suc i)) (λ i. own (suc i))
 entries_written (m ∷ ms) (Some c ∷ os) names own =
-    let rest = entries_written ms os (λ i. names (suc i)) (λ i. own (suc i)) in
-    (put_can_write m.name (entry_data c) (entries_data ms os) (names 0 m refl) (own 0 m c refl refl) rest.0, put_sorted m.name (entry_data c) (entries_data ms os) rest.1)
+    let rest = entries_written ms os (λ i. names (suc i)) (λ i. own (suc i)) in (
+      put_can_write m.name (entry_data c) (entries_data ms os) (names 0 m refl) (own 0 m c refl refl) rest.0,
+      put_sorted m.name (entry_data c) (entries_data ms os) rest.1,
+    )
 
 certificate_written : (t : Tables) (cert : Cert) → AreModulesNamed t → FitsTables t cert → IsWritable cert → CanWrite (certificate_data t cert)
 certificate_written t cert named fits w =
     let entries = entries_written t.modules cert.modules.items (λ i m at. name_utf8 m.name (named i m at))
-    (λ i m c at_m at_c. entry_written c (cells_written t m.plant c.closed (fits.closed i m c at_m at_c) (λ j b at. w.closed i j c b at_c at)) (cells_written t m.plant c.reach (fits.reach i m c at_m at_c) (λ j b at. w.reach i j c b at_c at))) in
+    (λ i m c at_m at_c. entry_written c (cells_written t m.plant c.closed (fits.closed i m c at_m at_c) (λ j b at. w.closed i j c b at_c at))
+    (cells_written t m.plant c.reach (fits.reach i m c at_m at_c) (λ j b at. w.reach i j c b at_c at))) in
     ((IsUtf8-are_ascii (codes "format") refl, omega arith, (IsUtf8-are_ascii (codes "modules") refl, entries, tt)), ((refl, tt), (tt, tt)))
 
 pub line_back : CertificateLinesReadBack
 line_back t cert rules named fits w =
     let d : Data = certificate_data t cert in
-    read_back t cert (compact_text d ++ 10 ∷ []) rules fits w (json_ends (compact_text d) d (json_back d (certificate_written t cert named fits w) (certificate_flat t cert)))
+    read_back t cert (compact_text d ++ 10 ∷ []) rules fits w
+    (json_ends (compact_text d) d (json_back d (certificate_written t cert named fits w) (certificate_flat t cert)))

@@ -1,5 +1,6 @@
 -- Boxes that are halved stay within short sides, so a text can say the certificates that are made.
-use Rattle.std.proofs.Common.{◌≡◌, ℕ, zero, suc, ◌≤◌, ◌^◌, ◌⊎◌, inl, inr, ⊎_elim, ℤ, pos, negsuc, ◌≤ℤ◌, ◌+ℤ◌, Some, List, [], ◌∷◌, ◌++◌, map, nat_abs, refl, sym, subst, arith}
+use Rattle.std.proofs.Common.{◌≡◌, ℕ, zero, suc, ◌≤◌, ◌^◌, ◌⊎◌, inl, inr, ⊎_elim, ℤ, pos, negsuc, ◌≤ℤ◌, ◌+ℤ◌, Some, List, [], ◌∷◌, ◌++◌, map, nat_abs, refl}
+use Rattle.std.proofs.Common.{sym, subst, arith}
 use Rattle.std.specs.Prelude.{slice_set}
 use Rattle.std.proofs.lemmas.Int.{ints}
 use Rattle.std.proofs.lemmas.Option.{none-some, same_Some, slice_get_within}
@@ -85,7 +86,8 @@ box_short Good (suc n) box found own (inr (inr (inr h))) =
     let halves = halves_short box h.1 h.2 h.3 own in
     same_short found (followed h.4 h.5) h.8 (followed_short h.4 h.5 (box_short Good n h.1 h.4 halves.0 h.6) (box_short Good n h.2 h.5 halves.1 h.7))
 
-boxes_short : (Good : List Side → Type 0) (boxes : List (List Side)) (found : Finding) → ((i : ℕ) (box : List Side) → At boxes i box → AreShort box) → BisectsEach Good boxes found → AllShort (cells_of found)
+boxes_short : (Good : List Side → Type 0) (boxes : List (List Side)) (found : Finding) → ((i : ℕ) (box : List Side) → At boxes i box → AreShort box)
+    → BisectsEach Good boxes found → AllShort (cells_of found)
 boxes_short Good [] found all (inl h) = same_short found (Begun []) h tt
 boxes_short Good [] found all (inr h) = same_short found (Whole []) h tt
 boxes_short Good (b ∷ bs) found all h =
@@ -97,7 +99,8 @@ short_at [] all i cell at = absurd (none-some cell at)
 short_at (c ∷ cs) all zero cell at = subst AreShort (same_Some c cell at) all.0
 short_at (c ∷ cs) all (suc i) cell at = short_at cs all.1 i cell at
 
-list_short : (Good : List Side → Type 0) (region : BoxList) (cells : List (List Side)) → HasShortBoxes region → BisectsEach Good region.boxes (Whole cells) → (i : ℕ) (cell : List Side) → At cells i cell → AreShort cell
+list_short : (Good : List Side → Type 0) (region : BoxList) (cells : List (List Side)) → HasShortBoxes region → BisectsEach Good region.boxes (Whole cells)
+    → (i : ℕ) (cell : List Side) → At cells i cell → AreShort cell
 list_short Good region cells short found = short_at cells (boxes_short Good region.boxes (Whole cells) short found)
 
 module _ (t : Tables) (cert : Cert) (short : HaveShortRegions t) (made : IsMadeFor t cert) where
@@ -120,8 +123,10 @@ module _ (t : Tables) (cert : Cert) (short : HaveShortRegions t) (made : IsMadeF
   writable : IsWritable cert
   writable = record {
     jitter = made.jitter;
-    closed = λ m i cells cell at. (let e = entry_at m cells at in list_short _ e.info.safe cells.closed.boxes (short m e.info e.is).0 e.lists.closed.whole i cell);
-    reach = λ m i cells cell at. (let e = entry_at m cells at in list_short _ e.info.safer cells.reach.boxes (short m e.info e.is).1 e.lists.reach.whole i cell);
+    closed =
+        λ m i cells cell at. (let e = entry_at m cells at in list_short _ e.info.safe cells.closed.boxes (short m e.info e.is).0 e.lists.closed.whole i cell);
+    reach =
+        λ m i cells cell at. (let e = entry_at m cells at in list_short _ e.info.safer cells.reach.boxes (short m e.info e.is).1 e.lists.reach.whole i cell);
     closed_settled = λ m cells at. (entry_at m cells at).lists.closed_settled;
     reach_settled = λ m cells at. (entry_at m cells at).lists.reach_settled;
   }

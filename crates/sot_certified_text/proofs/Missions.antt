@@ -1,5 +1,6 @@
 -- A text behind which a certificate's line and its body stand.
-use Rattle.std.proofs.Common.{◌≡◌, ℕ, suc, List, [], ◌∷◌, ◌++◌, ◌==◌, if◌then◌else◌, length, false, None, Ok, codes, inl, inr, refl, sym, ap, ◌∙◌, subst, append_assoc}
+use Rattle.std.proofs.Common.{◌≡◌, ℕ, suc, List, [], ◌∷◌, ◌++◌, ◌==◌, if◌then◌else◌, length, false, None, Ok, codes, inl, inr, refl, sym, ap, ◌∙◌, subst}
+use Rattle.std.proofs.Common.{append_assoc}
 use Rattle.std.proofs.lemmas.Bool.{cases_Bool}
 use Rattle.std.proofs.lemmas.List.{append-nil}
 use Rattle.sot_sections.specs.declared.mission.Need.TheVariants.{Check}
@@ -87,7 +88,8 @@ division_on n [] ms h = refl
 division_on n (l ∷ ls) ms h =
     rw (first_plain n l ls h)
     (ap (continued l) (division_on (suc n) ls ms (rest_plain n l ls h))
-    ∙ ap (λ f. record { front = f; sections = (division (passed (suc n) ls) ms).sections }) (sym (append_assoc l (flat ls) (division (passed (suc n) ls) ms).front)))
+    ∙ ap (λ f. record { front = f; sections = (division (passed (suc n) ls) ms).sections })
+    (sym (append_assoc l (flat ls) (division (passed (suc n) ls) ms).front)))
 
 renumbered : (n m : ℕ) (ls : Lines) → (division n ls).sections ≡ [] → (division m ls).sections ≡ []
 renumbered n m [] h = refl

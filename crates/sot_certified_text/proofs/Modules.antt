@@ -1,5 +1,6 @@
 -- The modules of a certificate's JSON are those of the certificate.
-use Rattle.std.proofs.Common.{◌≡◌, ℕ, zero, suc, ◌||◌, Bool, false, true, Option, None, Some, Ok, List, [], ◌∷◌, ◌++◌, length, map, codes, bytes_eq, Ordering, Less, Equal, Greater, nat_cmp, refl, sym, ap, ◌∙◌, subst, arith}
+use Rattle.std.proofs.Common.{◌≡◌, ℕ, zero, suc, ◌||◌, Bool, false, true, Option, None, Some, Ok, List, [], ◌∷◌, ◌++◌, length, map, codes, bytes_eq, Ordering}
+use Rattle.std.proofs.Common.{Less, Equal, Greater, nat_cmp, refl, sym, ap, ◌∙◌, subst, arith}
 use Rattle.std.specs.Ordering.{match_ordering}
 use Rattle.std.specs.Cmp.Lexicographic.{slice_cmp}
 use Rattle.std.proofs.lemmas.Option.{none-some, same_Some}
@@ -31,15 +32,18 @@ use Rattle.sot_certified_text.proofs.ReadBack.{cells_read}
 region_same : (width : ℕ) (r : BoxList) → r.width ≡ width → r.settled ≡ true → region_of width r.boxes ≡ r
 region_same width r w s i = record { width = sym w i; boxes = r.boxes; settled = sym s i }
 
-list_read : (p : Tables) (plant : ℕ) (r : BoxList) → AreCellsOf p plant r → r.settled ≡ true → ((i : ℕ) (b : List Side) → At r.boxes i b → AreShort b) → cells (width_of p.plants plant) (cells_data r.boxes) ≡ Ok r
+list_read : (p : Tables) (plant : ℕ) (r : BoxList) → AreCellsOf p plant r → r.settled ≡ true → ((i : ℕ) (b : List Side) → At r.boxes i b → AreShort b)
+    → cells (width_of p.plants plant) (cells_data r.boxes) ≡ Ok r
 list_read p plant r fit settled short =
     cells_read (width_of p.plants plant) r.boxes fit.boxes (λ i b at. let f = fit.each i b at in (f.0 ∙ fit.width, f.1)) short
     ∙ ap Ok (region_same (width_of p.plants plant) r fit.width settled)
 
-entry_read : (width : ℕ) (c : Cells) → cells width (cells_data c.closed.boxes) ≡ Ok c.closed → cells width (cells_data c.reach.boxes) ≡ Ok c.reach → entry width (entry_data c) ≡ Ok c
+entry_read : (width : ℕ) (c : Cells) → cells width (cells_data c.closed.boxes) ≡ Ok c.closed → cells width (cells_data c.reach.boxes) ≡ Ok c.reach
+    → entry width (entry_data c) ≡ Ok c
 unfolding entry at
 entry_read width c closed reach =
-    ap (λ s. part (codes "closed") s >>= λ a. part (codes "reach") (cells width (cells_data c.reach.boxes)) >>= λ b. Ok (record { closed = a; reach = b })) closed
+    ap (λ s. part (codes "closed") s >>= λ a. part (codes "reach") (cells width (cells_data c.reach.boxes)) >>= λ b. Ok (record { closed = a; reach = b }))
+    closed
     ∙ ap (λ s. part (codes "reach") s >>= λ b. Ok (record { closed = c.closed; reach = b })) reach
 
 -- what stands under a module's name
@@ -50,13 +54,15 @@ option_data (Some c) = Some (entry_data c)
 abbrev NamesDiffer : List ModuleInfo → Type 0
 NamesDiffer infos = (i j : ℕ) (a b : ModuleInfo) → At infos i a → At infos j b → a.name ≡ b.name → i ≡ j
 
-absent : (q : List ℕ) (infos : List ModuleInfo) (os : List (Option Cells)) → ((i : ℕ) (m : ModuleInfo) → At infos i m → q ≡ m.name → ⊥) → get_member q (entries_data infos os) ≡ None
+absent : (q : List ℕ) (infos : List ModuleInfo) (os : List (Option Cells)) → ((i : ℕ) (m : ModuleInfo) → At infos i m → q ≡ m.name → ⊥)
+    → get_member q (entries_data infos os) ≡ None
 absent q [] os h = refl
 absent q (m ∷ ms) [] h = refl
 absent q (m ∷ ms) (None ∷ os) h = absent q ms os (λ i. h (suc i))
 absent q (m ∷ ms) (Some c ∷ os) h = get_member-put_other q m.name (entry_data c) (entries_data ms os) (h 0 m refl) ∙ absent q ms os (λ i. h (suc i))
 
-found : (infos : List ModuleInfo) (os : List (Option Cells)) (i : ℕ) (m : ModuleInfo) (o : Option Cells) → NamesDiffer infos → At infos i m → At os i o → get_member m.name (entries_data infos os) ≡ option_data o
+found : (infos : List ModuleInfo) (os : List (Option Cells)) (i : ℕ) (m : ModuleInfo) (o : Option Cells) → NamesDiffer infos → At infos i m → At os i o
+    → get_member m.name (entries_data infos os) ≡ option_data o
 unfolding option_data
 found [] os i m o d at_m at_o = absurd (none-some m at_m)
 found (n ∷ ns) [] i m o d at_m at_o = absurd (none-some o at_o)
@@ -65,19 +71,23 @@ found (n ∷ ns) (None ∷ es) zero m o d at_m at_o =
     (absent m.name ns es (λ i b at_b same. absurd (omega (arith, d 0 (suc i) n b refl at_b (ap (λ (x : ModuleInfo). x.name) (same_Some n m at_m) ∙ same)))))
 found (n ∷ ns) (Some c ∷ es) zero m o d at_m at_o =
     subst (λ e. get_member m.name (put n.name (entry_data c) (entries_data ns es)) ≡ option_data e) (same_Some (Some c) o at_o)
-    (subst (λ (x : ModuleInfo). get_member x.name (put n.name (entry_data c) (entries_data ns es)) ≡ Some (entry_data c)) (same_Some n m at_m) (get_member-put n.name (entry_data c) (entries_data ns es)))
-found (n ∷ ns) (None ∷ es) (suc i) m o d at_m at_o = found ns es i m o (λ j k a b at_a at_b e. (let s = d (suc j) (suc k) a b at_a at_b e in omega (arith, s))) at_m at_o
+    (subst (λ (x : ModuleInfo). get_member x.name (put n.name (entry_data c) (entries_data ns es)) ≡ Some (entry_data c)) (same_Some n m at_m)
+    (get_member-put n.name (entry_data c) (entries_data ns es)))
+found (n ∷ ns) (None ∷ es) (suc i) m o d at_m at_o =
+    found ns es i m o (λ j k a b at_a at_b e. (let s = d (suc j) (suc k) a b at_a at_b e in omega (arith, s))) at_m at_o
 found (n ∷ ns) (Some c ∷ es) (suc i) m o d at_m at_o =
     get_member-put_other m.name n.name (entry_data c) (entries_data ns es) (λ e. absurd (omega (arith, d (suc i) 0 m n at_m refl e)))
     ∙ found ns es i m o (λ j k a b at_a at_b e. (let s = d (suc j) (suc k) a b at_a at_b e in omega (arith, s))) at_m at_o
 
-may_read : (name : List ℕ) (width : ℕ) (ms : Members) (o : Option Cells) → get_member name ms ≡ option_data o → ((c : Cells) → o ≡ Some c → entry width (entry_data c) ≡ Ok c) → may name (entry width) ms ≡ Ok o
+may_read : (name : List ℕ) (width : ℕ) (ms : Members) (o : Option Cells) → get_member name ms ≡ option_data o
+    → ((c : Cells) → o ≡ Some c → entry width (entry_data c) ≡ Ok c) → may name (entry width) ms ≡ Ok o
 unfolding option_data
 may_read name width ms None h k = ap (λ d. part name (optional (entry width) d)) h
 may_read name width ms (Some c) h k = ap (λ d. part name (optional (entry width) d)) h ∙ ap (λ s. part name (some s)) (k c refl)
 
 entries_read : (plants : List PlantInfo) (infos : List ModuleInfo) (os : List (Option Cells)) (ms : Members) → length os ≡ length infos
-    → ((i : ℕ) (m : ModuleInfo) (o : Option Cells) → At infos i m → At os i o → may m.name (entry (width_of plants m.plant)) ms ≡ Ok o) → entries plants infos ms ≡ Ok os
+    → ((i : ℕ) (m : ModuleInfo) (o : Option Cells) → At infos i m → At os i o → may m.name (entry (width_of plants m.plant)) ms ≡ Ok o)
+    → entries plants infos ms ≡ Ok os
 unfolding entries
 entries_read plants [] [] ms e h = refl
 entries_read plants [] (o ∷ os) ms e h = absurd (omega (arith, e))
@@ -100,7 +110,8 @@ among (n ∷ ns) (suc i) m at = later (bytes_eq m.name n.name) (among ns i m at)
     later true h = refl
     later false h = h
 
-put_at : (o : Ordering) (k l : List ℕ) (d e : Data) (ms rest : Members) (ls : List (List ℕ)) → is_among k ls ≡ true → all_among (member l e ms) ls ≡ true → all_among rest ls ≡ true
+put_at : (o : Ordering) (k l : List ℕ) (d e : Data) (ms rest : Members) (ls : List (List ℕ)) → is_among k ls ≡ true → all_among (member l e ms) ls ≡ true
+    → all_among rest ls ≡ true
     → all_among (match_ordering o (member k d (member l e ms)) (member l d ms) (member l e rest)) ls ≡ true
 put_at Less k l d e ms rest ls h g r = both (is_among k ls) _ h g
 put_at Equal k l d e ms rest ls h g r = g
@@ -108,9 +119,11 @@ put_at Greater k l d e ms rest ls h g r = both (is_among l ls) (all_among rest l
 
 put_among : (k : List ℕ) (d : Data) (ms : Members) (ls : List (List ℕ)) → is_among k ls ≡ true → all_among ms ls ≡ true → all_among (put k d ms) ls ≡ true
 put_among k d no_members ls h g = both (is_among k ls) true h refl
-put_among k d (member l e ms) ls h g = put_at (slice_cmp nat_cmp k l) k l d e ms (put k d ms) ls h g (put_among k d ms ls h (second_of (is_among l ls) (all_among ms ls) g))
+put_among k d (member l e ms) ls h g =
+    put_at (slice_cmp nat_cmp k l) k l d e ms (put k d ms) ls h g (put_among k d ms ls h (second_of (is_among l ls) (all_among ms ls) g))
 
-entries_among : (infos : List ModuleInfo) (os : List (Option Cells)) (ls : List (List ℕ)) → ((i : ℕ) (m : ModuleInfo) → At infos i m → is_among m.name ls ≡ true) → all_among (entries_data infos os) ls ≡ true
+entries_among : (infos : List ModuleInfo) (os : List (Option Cells)) (ls : List (List ℕ))
+    → ((i : ℕ) (m : ModuleInfo) → At infos i m → is_among m.name ls ≡ true) → all_among (entries_data infos os) ls ≡ true
 entries_among [] os ls h = refl
 entries_among (m ∷ ms) [] ls h = refl
 entries_among (m ∷ ms) (None ∷ os) ls h = entries_among ms os ls (λ i. h (suc i))
@@ -125,14 +138,17 @@ rest_once (x ∷ xs) ys h = rest_once xs ys (λ i j name a b. (let e = h (suc i)
 module _ (p : Tables) (rules : MeetsTableRules p) where
   differ : NamesDiffer p.modules
   differ i j a b at_a at_b e =
-      let once = rest_once (map (λ t. t.name) p.topics ++ map (λ k. k.name) p.plants ++ map (λ n. n.name) p.nodes) (map (λ m. m.name) p.modules) rules.names_once in
-      once i j a.name (at_map (λ (m : ModuleInfo). m.name) p.modules i a at_a) (subst (λ n. At (map (λ (m : ModuleInfo). m.name) p.modules) j n) (sym e) (at_map (λ (m : ModuleInfo). m.name) p.modules j b at_b))
+      let once = rest_once (map (λ t. t.name) p.topics ++ map (λ k. k.name) p.plants ++ map (λ n. n.name) p.nodes) (map (λ m. m.name) p.modules)
+      rules.names_once in
+      once i j a.name (at_map (λ (m : ModuleInfo). m.name) p.modules i a at_a)
+      (subst (λ n. At (map (λ (m : ModuleInfo). m.name) p.modules) j n) (sym e) (at_map (λ (m : ModuleInfo). m.name) p.modules j b at_b))
 
   module _ (c : Cert) (fits : FitsTables p c) (w : IsWritable c) where
     abbrev written : Members
     written = entries_data p.modules c.modules.items
 
-    one_read : (i : ℕ) (m : ModuleInfo) (o : Option Cells) → At p.modules i m → At c.modules.items i o → may m.name (entry (width_of p.plants m.plant)) written ≡ Ok o
+    one_read : (i : ℕ) (m : ModuleInfo) (o : Option Cells) → At p.modules i m → At c.modules.items i o
+        → may m.name (entry (width_of p.plants m.plant)) written ≡ Ok o
     one_read i m o at_m at_o =
         may_read m.name (width_of p.plants m.plant) written o (found p.modules c.modules.items i m o differ at_m at_o)
         (λ x is.
@@ -144,7 +160,8 @@ module _ (p : Tables) (rules : MeetsTableRules p) where
     modules_read : modules p (object written) ≡ Ok c.modules.items
     unfolding modules
     modules_read =
-        ap (λ s. s >>= λ list. unless Unknown (all_among written (names p.modules)) >>= λ ok. Ok list) (entries_read p.plants p.modules c.modules.items written fits.entries one_read)
+        ap (λ s. s >>= λ list. unless Unknown (all_among written (names p.modules)) >>= λ ok. Ok list)
+        (entries_read p.plants p.modules c.modules.items written fits.entries one_read)
         ∙ ap (λ t. unless Unknown t >>= λ ok. Ok c.modules.items) (entries_among p.modules c.modules.items (names p.modules) (among p.modules))
 
     cert_read : cert p (certificate_data p c) ≡ Ok (contents c)

@@ -80,7 +80,9 @@ goes_on (b ∷ bs) rest one =
 
 pub one_line_on : (as_ bs : List ℕ) → is_one_line as_ ≡ true → is_one_line bs ≡ true → is_one_line (as_ ++ bs) ≡ true
 one_line_on [] bs a b = b
-one_line_on (c ∷ cs) bs a b = both (not (c == 10)) (is_one_line (cs ++ bs)) (first_of (not (c == 10)) (is_one_line cs) a) (one_line_on cs bs (second_of (not (c == 10)) (is_one_line cs) a) b)
+one_line_on (c ∷ cs) bs a b =
+    both (not (c == 10)) (is_one_line (cs ++ bs)) (first_of (not (c == 10)) (is_one_line cs) a)
+    (one_line_on cs bs (second_of (not (c == 10)) (is_one_line cs) a) b)
 
 pub begins_on : (as_ bs : List ℕ) → begins_plain as_ ≡ true → begins_plain (as_ ++ bs) ≡ true
 begins_on [] bs e = absurd cc
@@ -95,4 +97,5 @@ line_alone (b ∷ bs) one =
 
 pub line_plain : (text : List ℕ) → is_one_line text ≡ true → begins_plain text ≡ true → IsPlain (text ++ 10 ∷ [])
 line_plain [] one opens = refl
-line_plain (b ∷ bs) one opens = plain_text ((b ∷ bs) ++ 10 ∷ []) (both (not (b == 37)) (is_plain (b == 10) (bs ++ 10 ∷ [])) opens (goes_on (b ∷ bs) (10 ∷ []) one))
+line_plain (b ∷ bs) one opens =
+    plain_text ((b ∷ bs) ++ 10 ∷ []) (both (not (b == 37)) (is_plain (b == 10) (bs ++ 10 ∷ [])) opens (goes_on (b ∷ bs) (10 ∷ []) one))

@@ -25,17 +25,21 @@ no_floats f [] h = refl
 no_floats f (x ∷ xs) h = or_from (has_float (f x)) (items_have_float (items_by f xs)) (h x) (no_floats f xs h)
 
 side_whole : (r : Side) → has_float (side_data r) ≡ false
-side_whole r = or_from (has_float (number (of_integer r.lo))) _ (whole_number r.lo) (or_from (has_float (number (of_integer r.hi))) false (whole_number r.hi) refl)
+side_whole r =
+    or_from (has_float (number (of_integer r.lo))) _ (whole_number r.lo) (or_from (has_float (number (of_integer r.hi))) false (whole_number r.hi) refl)
 
 cells_whole : (cells : List (List Side)) → has_float (cells_data cells) ≡ false
 cells_whole cells = no_floats cell_data cells (λ cell. no_floats side_data cell side_whole)
 
 entry_whole : (cells : Cells) → has_float (entry_data cells) ≡ false
-entry_whole cells = or_from (has_float (cells_data cells.closed.boxes)) _ (cells_whole cells.closed.boxes) (or_from (has_float (cells_data cells.reach.boxes)) false (cells_whole cells.reach.boxes) refl)
+entry_whole cells =
+    or_from (has_float (cells_data cells.closed.boxes)) _ (cells_whole cells.closed.boxes)
+    (or_from (has_float (cells_data cells.reach.boxes)) false (cells_whole cells.reach.boxes) refl)
 
 -- objects
 
-by_place_whole : (o : Ordering) (k l : List ℕ) (d e : Data) (ms more : Members) → has_float d ≡ false → members_have_float (member l e ms) ≡ false → members_have_float more ≡ false
+by_place_whole : (o : Ordering) (k l : List ℕ) (d e : Data) (ms more : Members) → has_float d ≡ false → members_have_float (member l e ms) ≡ false
+    → members_have_float more ≡ false
     → members_have_float (match_ordering o (member k d (member l e ms)) (member l d ms) (member l e more)) ≡ false
 by_place_whole Less k l d e ms more h g r = or_from (has_float d) _ h g
 by_place_whole Equal k l d e ms more h g r = or_from (has_float d) (members_have_float ms) h (or_parts (has_float e) (members_have_float ms) g).1
@@ -69,14 +73,17 @@ items_flat f [] n h = omega arith
 items_flat f (x ∷ xs) n h = greater (depth (f x)) (items_depth (items_by f xs)) n (h x) (items_flat f xs n h)
 
 side_flat : (r : Side) → depth (side_data r) ≤ 1
-side_flat r = (let a = flat r.lo in let b = flat r.hi in let m = greater (depth (number (of_integer r.lo))) (max (depth (number (of_integer r.hi))) 0) 0 (omega (arith, a)) (greater (depth (number (of_integer r.hi))) 0 0 (omega (arith, b)) (omega arith)) in omega (arith, m))
+side_flat r =
+    (let a = flat r.lo in let b = flat r.hi in let m = greater (depth (number (of_integer r.lo))) (max (depth (number (of_integer r.hi))) 0) 0
+    (omega (arith, a)) (greater (depth (number (of_integer r.hi))) 0 0 (omega (arith, b)) (omega arith)) in omega (arith, m))
 
 cells_flat : (cells : List (List Side)) → depth (cells_data cells) ≤ 3
 cells_flat cells = (let m = items_flat cell_data cells 2 (λ cell. (let n = items_flat side_data cell 1 side_flat in omega (arith, n))) in omega (arith, m))
 
 entry_flat : (cells : Cells) → depth (entry_data cells) ≤ 4
 entry_flat cells =
-    let m = greater (depth (cells_data cells.closed.boxes)) (max (depth (cells_data cells.reach.boxes)) 0) 3 (cells_flat cells.closed.boxes) (greater (depth (cells_data cells.reach.boxes)) 0 3 (cells_flat cells.reach.boxes) (omega arith)) in
+    let m = greater (depth (cells_data cells.closed.boxes)) (max (depth (cells_data cells.reach.boxes)) 0) 3 (cells_flat cells.closed.boxes)
+    (greater (depth (cells_data cells.reach.boxes)) 0 3 (cells_flat cells.reach.boxes) (omega arith)) in
     omega (arith, m)
 
 lesser_first : (a b n : ℕ) → max a b ≤ n → a ≤ n
@@ -85,7 +92,8 @@ lesser_first a b n h = omega (arith, h)
 lesser_second : (a b n : ℕ) → max a b ≤ n → b ≤ n
 lesser_second a b n h = omega (arith, h)
 
-by_place_flat : (o : Ordering) (k l : List ℕ) (d e : Data) (ms more : Members) (n : ℕ) → depth d ≤ n → members_depth (member l e ms) ≤ n → members_depth more ≤ n
+by_place_flat : (o : Ordering) (k l : List ℕ) (d e : Data) (ms more : Members) (n : ℕ) → depth d ≤ n → members_depth (member l e ms) ≤ n
+    → members_depth more ≤ n
     → members_depth (match_ordering o (member k d (member l e ms)) (member l d ms) (member l e more)) ≤ n
 by_place_flat Less k l d e ms more n h g r = greater (depth d) (members_depth (member l e ms)) n h g
 by_place_flat Equal k l d e ms more n h g r = greater (depth d) (members_depth ms) n h (lesser_second (depth e) (members_depth ms) n g)

@@ -1,5 +1,6 @@
 -- Words of which none holds a line end, and none that begins a line begins with '%'.
-use Rattle.std.proofs.Common.{◌≡◌, ℕ, zero, suc, ◌==◌, ◌&&◌, ◌||◌, not, Bool, true, false, cond, List, [], ◌∷◌, ◌++◌, replicate, inl, inr, refl, ap, ◌∙◌, append_assoc}
+use Rattle.std.proofs.Common.{◌≡◌, ℕ, zero, suc, ◌==◌, ◌&&◌, ◌||◌, not, Bool, true, false, cond, List, [], ◌∷◌, ◌++◌, replicate, inl, inr, refl, ap, ◌∙◌}
+use Rattle.std.proofs.Common.{append_assoc}
 use Rattle.sot_print.specs.declared.gap.Gap.{Gap}
 use Rattle.sot_print.specs.declared.gap.Gap.TheVariants.{Touching, Space, Line}
 use Rattle.sot_print.specs.Words.{Word, blanks, laid, text_of}
@@ -35,7 +36,8 @@ choice false as_ bs yes_ no_ = no_
 
 -- the text of tidy words is plain
 
-indented : (n : ℕ) (text rest : List ℕ) → begins_plain text ≡ true → is_one_line text ≡ true → is_plain true (replicate n 32 ++ (text ++ rest)) ≡ is_plain false rest
+indented : (n : ℕ) (text rest : List ℕ) → begins_plain text ≡ true → is_one_line text ≡ true
+    → is_plain true (replicate n 32 ++ (text ++ rest)) ≡ is_plain false rest
 indented zero [] rest opens one = absurd cc
 indented zero (b ∷ bs) rest opens one =
     let other : (b == 37) ≡ false = not_true (b == 37) opens in
@@ -51,7 +53,8 @@ or_false : (b : Bool) → (b || false) ≡ true → b ≡ true
 or_false true e = refl
 or_false false e = absurd cc
 
-word_goes : (gap : Gap) (text rest : List ℕ) → is_one_line text ≡ true → (begins_plain text || stays gap) ≡ true → is_plain false (blanks gap ++ (text ++ rest)) ≡ is_plain false rest
+word_goes : (gap : Gap) (text rest : List ℕ) → is_one_line text ≡ true → (begins_plain text || stays gap) ≡ true
+    → is_plain false (blanks gap ++ (text ++ rest)) ≡ is_plain false rest
 word_goes Touching text rest one opens = goes_on text rest one
 word_goes Space text rest one opens = goes_on text rest one
 word_goes (Line indent) text rest one opens = indented indent text rest (or_false (begins_plain text) opens) one
@@ -61,7 +64,8 @@ laid_goes [] rest tidy = refl
 laid_goes (w ∷ ws) rest tidy =
     let own : is_tidy w ≡ true = first_of (is_tidy w) (are_tidy ws) tidy in
     ap (is_plain false) (append_assoc (blanks w.before) (w.text ++ laid ws) rest ∙ ap (λ bs. blanks w.before ++ bs) (append_assoc w.text (laid ws) rest))
-    ∙ word_goes w.before w.text (laid ws ++ rest) (first_of (is_one_line w.text) (begins_plain w.text || stays w.before) own) (second_of (is_one_line w.text) (begins_plain w.text || stays w.before) own)
+    ∙ word_goes w.before w.text (laid ws ++ rest) (first_of (is_one_line w.text) (begins_plain w.text || stays w.before) own)
+    (second_of (is_one_line w.text) (begins_plain w.text || stays w.before) own)
     ∙ laid_goes ws rest (second_of (is_tidy w) (are_tidy ws) tidy)
 
 -- the first byte of a text

@@ -1,5 +1,6 @@
 -- The words of literals, names, lists and types are tidy.
-use Rattle.std.proofs.Common.{◌≡◌, ℕ, zero, suc, ◌+◌, ◌%◌, ◌^◌, ◌/◌, ◌==◌, ◌||◌, Bool, true, false, Option, None, Some, List, [], ◌∷◌, ◌++◌, length, take, codes, pos, int_lt, unsigned_abs, inl, inr, refl, sym, ◌∙◌, arith}
+use Rattle.std.proofs.Common.{◌≡◌, ℕ, zero, suc, ◌+◌, ◌%◌, ◌^◌, ◌/◌, ◌==◌, ◌||◌, Bool, true, false, Option, None, Some, List, [], ◌∷◌, ◌++◌, length, take}
+use Rattle.std.proofs.Common.{codes, pos, int_lt, unsigned_abs, inl, inr, refl, sym, ◌∙◌, arith}
 use Rattle.std.specs.Char.{is_ascii_digit}
 use Rattle.std.specs.Fmt.{decimal}
 use Rattle.std.specs.List.{prefix_len}
@@ -23,7 +24,8 @@ use Rattle.sot_tree.proofs.Names.{number_no_name}
 use Rattle.sot_print.specs.declared.gap.Gap.{Gap}
 use Rattle.sot_print.specs.declared.gap.Gap.TheVariants.{Touching, Space}
 use Rattle.sot_print.specs.Words.{Word, keyword, sign, name, number}
-use Rattle.sot_print.specs.Leaves.{last_digits, numeral, literal_words, ident_words, reference_words, truth_words, constant_words, items_from, listed, bounds_words, range_words, fixed_words, scalar_words, field_words}
+use Rattle.sot_print.specs.Leaves.{last_digits, numeral, literal_words, ident_words, reference_words, truth_words, constant_words, items_from, listed}
+use Rattle.sot_print.specs.Leaves.{bounds_words, range_words, fixed_words, scalar_words, field_words}
 use Rattle.sot_certified_text.proofs.PlainTexts.{is_one_line, begins_plain, both, one_line_on, begins_on}
 use Rattle.sot_certified_text.proofs.Digits.{decimal_one_line, decimal_plain}
 use Rattle.sot_certified_text.proofs.Tidy.{stays, is_tidy, Tidy, joined, then_word, choice}
@@ -40,7 +42,8 @@ numeral_one_line : (digits scale : ℕ) → is_one_line (numeral digits scale) �
 numeral_one_line digits scale =
     elim (cases_Bool (scale == 0)) [
       | inl whole ↦ rw whole (decimal_one_line digits)
-      | inr some ↦ rw some (one_line_on (decimal (digits / 10 ^ scale)) (codes "." ++ last_digits scale digits) (decimal_one_line (digits / 10 ^ scale)) (last_one_line scale digits))
+      | inr some ↦ rw some (one_line_on (decimal (digits / 10 ^ scale)) (codes "." ++ last_digits scale digits) (decimal_one_line (digits / 10 ^ scale))
+          (last_one_line scale digits))
     ]
 
 numeral_plain : (digits scale : ℕ) → begins_plain (numeral digits scale) ≡ true
@@ -80,11 +83,14 @@ name_word b bs is =
     elim (cases_Bool (begins_word b)) [
       | inl first ↦ record {
         first = first;
-        all = sym (word_takes (take (word_len (b ∷ bs)) (b ∷ bs)) Name (length (b ∷ bs)) (sym (front_word b bs first) ∙ is) ∙ length-prefix_len is_in_word (b ∷ bs));
+        all =
+            sym (word_takes (take (word_len (b ∷ bs)) (b ∷ bs)) Name (length (b ∷ bs)) (sym (front_word b bs first) ∙ is)
+            ∙ length-prefix_len is_in_word (b ∷ bs));
       }
       | inr no_word ↦
           elim (cases_Bool (is_ascii_digit b)) [
-            | inl digit ↦ absurd (number_no_name (decimals_of (b ∷ bs)) (mantissa_of (b ∷ bs)) (number_len (b ∷ bs)) _ (sym (front_number b bs no_word digit) ∙ is))
+            | inl digit ↦ absurd (number_no_name (decimals_of (b ∷ bs)) (mantissa_of (b ∷ bs)) (number_len (b ∷ bs)) _
+                (sym (front_number b bs no_word digit) ∙ is))
             | inr no_digit ↦
                 let takes = sign_takes (sign_len (b ∷ bs)) (length (b ∷ bs)) Name (sym (front_sign b bs no_word no_digit) ∙ is) in
                 let never : Token Name (length (b ∷ bs)) ≡ Token Sign (sign_len (b ∷ bs)) = takes.2 in
@@ -119,7 +125,8 @@ ident_tidy i gap is = then_word (name gap i.name) [] (name_tidy gap i.name is) r
 
 pub reference_tidy : (first : Ident) (field : Option Ident) (gap : Gap) → IsName first → IfThere IsName field → Tidy (reference_words gap first field)
 reference_tidy first None gap is there = ident_tidy first gap is
-reference_tidy first (Some field) gap is there = then_word (name gap first.name) (sign Touching (codes ".") ∷ ident_words Touching field) (name_tidy gap first.name is) (ident_tidy field Touching there)
+reference_tidy first (Some field) gap is there =
+    then_word (name gap first.name) (sign Touching (codes ".") ∷ ident_words Touching field) (name_tidy gap first.name is) (ident_tidy field Touching there)
 
 -- ---- constants, lists and types
 
@@ -131,22 +138,28 @@ pub constant_tidy : (c : Const) (gap : Gap) → Tidy (constant_words gap c)
 constant_tidy (Numeral l) gap = literal_tidy l gap
 constant_tidy (Truth value at) gap = truth_tidy value gap
 
-items_tidy : {A : Type 0} (item : Gap → A → List Word) (P : A → Type 0) → ((x : A) (gap : Gap) → P x → Tidy (item gap x)) → (gap : Gap) (first : Bool) (xs : List A) → Each P xs → Tidy (items_from item gap first xs)
+items_tidy : {A : Type 0} (item : Gap → A → List Word) (P : A → Type 0) → ((x : A) (gap : Gap) → P x → Tidy (item gap x))
+    → (gap : Gap) (first : Bool) (xs : List A) → Each P xs → Tidy (items_from item gap first xs)
 items_tidy item P tidy gap first [] all = refl
 items_tidy item P tidy gap true (x ∷ xs) all = joined (item gap x) (items_from item gap false xs) (tidy x gap all.0) (items_tidy item P tidy gap false xs all.1)
-items_tidy item P tidy gap false (x ∷ xs) all = joined (sign Touching (codes ",") ∷ item Space x) (items_from item gap false xs) (tidy x Space all.0) (items_tidy item P tidy gap false xs all.1)
+items_tidy item P tidy gap false (x ∷ xs) all =
+    joined (sign Touching (codes ",") ∷ item Space x) (items_from item gap false xs) (tidy x Space all.0) (items_tidy item P tidy gap false xs all.1)
 
-pub listed_tidy : {A : Type 0} (item : Gap → A → List Word) (P : A → Type 0) → ((x : A) (gap : Gap) → P x → Tidy (item gap x)) → (gap : Gap) (xs : List A) → Each P xs → Tidy (listed item gap xs)
+pub listed_tidy : {A : Type 0} (item : Gap → A → List Word) (P : A → Type 0) → ((x : A) (gap : Gap) → P x → Tidy (item gap x)) → (gap : Gap) (xs : List A)
+    → Each P xs → Tidy (listed item gap xs)
 listed_tidy item P tidy gap xs all = items_tidy item P tidy gap true xs all
 
 pub bounds_tidy : (b : Bounds) (gap : Gap) → Tidy (bounds_words gap b)
-bounds_tidy b gap = joined (literal_words gap b.lo) (sign Touching (codes "..") ∷ literal_words Touching b.hi) (literal_tidy b.lo gap) (literal_tidy b.hi Touching)
+bounds_tidy b gap =
+    joined (literal_words gap b.lo) (sign Touching (codes "..") ∷ literal_words Touching b.hi) (literal_tidy b.lo gap) (literal_tidy b.hi Touching)
 
 range_tidy : (b : Bounds) → Tidy (range_words b)
 range_tidy b = joined (sign Touching (codes "[") ∷ bounds_words Touching b) (sign Touching (codes "]") ∷ []) (bounds_tidy b Touching) refl
 
 pub fixed_tidy : (scale : Lit) → Tidy (fixed_words scale)
-fixed_tidy scale = joined (keyword Space (codes "fix") ∷ sign Touching (codes "(") ∷ literal_words Touching scale) (sign Touching (codes ")") ∷ []) (literal_tidy scale Touching) refl
+fixed_tidy scale =
+    joined (keyword Space (codes "fix") ∷ sign Touching (codes "(") ∷ literal_words Touching scale) (sign Touching (codes ")") ∷ [])
+    (literal_tidy scale Touching) refl
 
 pub scalar_tidy : (s : Scalar) → Tidy (scalar_words s)
 scalar_tidy (Int b) = range_tidy b
@@ -154,4 +167,5 @@ scalar_tidy (Fix scale b) = joined (fixed_words scale) (range_words b) (fixed_ti
 scalar_tidy (Truths at) = refl
 
 pub field_tidy : (f : Field) (gap : Gap) → IsField f → Tidy (field_words gap f)
-field_tidy f gap is = then_word (name gap f.name.name) (sign Touching (codes ":") ∷ scalar_words f.scalar) (name_tidy gap f.name.name is.0) (scalar_tidy f.scalar)
+field_tidy f gap is =
+    then_word (name gap f.name.name) (sign Touching (codes ":") ∷ scalar_words f.scalar) (name_tidy gap f.name.name is.0) (scalar_tidy f.scalar)

@@ -4,7 +4,8 @@ use Rattle.sot_tree.specs.declared.operator.Op.{Op}
 use Rattle.sot_tree.specs.declared.operator.Op.TheVariants.{Add, Sub, Mul, Div, Less, LessEqual, Greater, GreaterEqual, Equal, NotEqual, And, Or}
 use Rattle.sot_tree.specs.declared.operator.Func.{Func}
 use Rattle.sot_tree.specs.declared.operator.Func.TheVariants.{Min, Max, Abs, Clamp}
-use Rattle.sot_tree.specs.Trees.{Tree, Trees, number, truth, named, binary, rest, negated, denied, called, rescaled, chosen, no_tree, one_more, Statement, Block, assigned, published, branched, repeated, no_statement, statement}
+use Rattle.sot_tree.specs.Trees.{Tree, Trees, number, truth, named, binary, rest, negated, denied, called, rescaled, chosen, no_tree, one_more, Statement}
+use Rattle.sot_tree.specs.Trees.{Block, assigned, published, branched, repeated, no_statement, statement}
 use Rattle.sot_tree.specs.Formed.{IsTree, AreTrees, IsStatement, IsBlock}
 use Rattle.sot_print.specs.declared.gap.Gap.{Gap}
 use Rattle.sot_print.specs.declared.gap.Gap.TheVariants.{Touching, Space, Line}
@@ -71,13 +72,16 @@ mutual
       let two : List Word = keyword Space (codes "then") ∷ operand_words yes_ Space (expression_words yes_) in
       let three : List Word = keyword Space (codes "else") ∷ operand_words no_ Space (expression_words no_) in
       joined (one ++ two) three
-      (joined one two (operand_tidy cond_ Space (expression_words cond_) (expression_tidy cond_ is.0)) (operand_tidy yes_ Space (expression_words yes_) (expression_tidy yes_ is.1)))
+      (joined one two (operand_tidy cond_ Space (expression_words cond_) (expression_tidy cond_ is.0))
+      (operand_tidy yes_ Space (expression_words yes_) (expression_tidy yes_ is.1)))
       (operand_tidy no_ Space (expression_words no_) (expression_tidy no_ is.2))
 
   parts_tidy : (first : Bool) (parts : Trees) → AreTrees parts → Tidy (parts_from first parts)
   parts_tidy first no_tree is = refl
-  parts_tidy true (one_more e rest_) is = joined (expression_words e Touching) (parts_from false rest_) (expression_tidy e is.0 Touching) (parts_tidy false rest_ is.1)
-  parts_tidy false (one_more e rest_) is = joined (sign Touching (codes ",") ∷ expression_words e Space) (parts_from false rest_) (expression_tidy e is.0 Space) (parts_tidy false rest_ is.1)
+  parts_tidy true (one_more e rest_) is =
+      joined (expression_words e Touching) (parts_from false rest_) (expression_tidy e is.0 Touching) (parts_tidy false rest_ is.1)
+  parts_tidy false (one_more e rest_) is =
+      joined (sign Touching (codes ",") ∷ expression_words e Space) (parts_from false rest_) (expression_tidy e is.0 Space) (parts_tidy false rest_ is.1)
 
 -- ---- statements
 
@@ -92,7 +96,8 @@ mutual
   pub statement_tidy : (s : Statement) → IsStatement s → (indent : ℕ) → Tidy (statement_words s indent)
   statement_tidy (assigned target value) is indent =
       joined (name (Line indent) target.name ∷ sign Space (codes ":=") ∷ expression_words value Space) semicolon
-      (then_word (name (Line indent) target.name) (sign Space (codes ":=") ∷ expression_words value Space) (name_tidy (Line indent) target.name is.0) (expression_tidy value is.1 Space))
+      (then_word (name (Line indent) target.name) (sign Space (codes ":=") ∷ expression_words value Space) (name_tidy (Line indent) target.name is.0)
+      (expression_tidy value is.1 Space))
       refl
   statement_tidy (published topic field value) is indent =
       let head : List Word = keyword (Line indent) (codes "publish") ∷ reference_words Space topic field in
@@ -104,8 +109,10 @@ mutual
       (joined head (braced_words indent (block_words yes_)) (expression_tidy cond_ is.0 Space) (braced_tidy indent (block_words yes_) (block_tidy yes_ is.1)))
       (otherwise_tidy no_ indent (block_words no_) (block_tidy no_ is.2))
   statement_tidy (repeated times body at) is indent =
-      joined (keyword (Line indent) (codes "repeat") ∷ literal_words Space times) (braced_words indent (block_words body)) (literal_tidy times Space) (braced_tidy indent (block_words body) (block_tidy body is.1))
+      joined (keyword (Line indent) (codes "repeat") ∷ literal_words Space times) (braced_words indent (block_words body)) (literal_tidy times Space)
+      (braced_tidy indent (block_words body) (block_tidy body is.1))
 
   pub block_tidy : (b : Block) → IsBlock b → (indent : ℕ) → Tidy (block_words b indent)
   block_tidy no_statement is indent = refl
-  block_tidy (statement s rest_) is indent = joined (statement_words s indent) (block_words rest_ indent) (statement_tidy s is.0 indent) (block_tidy rest_ is.1 indent)
+  block_tidy (statement s rest_) is indent =
+      joined (statement_words s indent) (block_words rest_ indent) (statement_tidy s is.0 indent) (block_tidy rest_ is.1 indent)

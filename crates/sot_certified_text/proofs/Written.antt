@@ -55,7 +55,8 @@ module _ (bytes : List ℕ) (p : Program) (t : Tables) (cert : Cert) (has : IsCe
   alike : (parts : Parts) (q : Program) (u : Tables) → HasParts Check (written p t cert) parts → Spells parts.program 0 q → Resolves q u → AreAlike t u
   alike parts q u divided spelled resolved = tables_alike p q t u (same_program parts q divided spelled) has.resolved.tables resolved.tables
 
-  says_too : (parts : Parts) (q : Program) (u : Tables) → HasParts Check (written p t cert) parts → Spells parts.program 0 q → Resolves q u → cert_of u parts.cert ≡ Ok (contents cert)
+  says_too : (parts : Parts) (q : Program) (u : Tables) → HasParts Check (written p t cert) parts → Spells parts.program 0 q → Resolves q u
+      → cert_of u parts.cert ≡ Ok (contents cert)
   says_too parts q u divided spelled resolved =
       ap (λ (x : Parts). cert_of u x.cert) (parts_are parts divided)
       ∙ sym (certificates_alike t u (certificate_line t cert) (alike parts q u divided spelled resolved))
@@ -89,8 +90,10 @@ missions_certified bytes p t cert guests m has mission =
     same_contents (cert_of m.tables mission.parts.cert) (contents cert) (contents m.cert)
     (says_too bytes p t cert has mission.parts m.program m.tables mission.divided mission.spelled mission.resolved) mission.certified
     in
-    let well_there = certified_alike t m.tables cert.jitter cert m.cert there (ap (λ (c : Contents). c.modules) same) (well bytes p t cert has) in
-    (same_program bytes p t cert has mission.parts m.program mission.divided mission.spelled, subst (λ j. IsWellCertified m.tables j m.cert) (ap (λ (c : Contents). c.jitter) same) well_there)
+    let well_there = certified_alike t m.tables cert.jitter cert m.cert there (ap (λ (c : Contents). c.modules) same) (well bytes p t cert has) in (
+      same_program bytes p t cert has mission.parts m.program mission.divided mission.spelled,
+      subst (λ j. IsWellCertified m.tables j m.cert) (ap (λ (c : Contents). c.jitter) same) well_there,
+    )
 
 pub missions_passed : WrittenMissionsAreNotRefused
 missions_passed bytes p t cert guests m r has mission refuses =

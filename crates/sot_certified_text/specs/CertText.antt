@@ -1,6 +1,8 @@
--- A certificate as a line of JSON: format 1, with no blank, and the keys of each object in the order of their bytes.
+-- A certificate as a line of JSON: format 1, with no blank, and the keys of each object in the
+-- order of their bytes.
 use Rattle.std.specs.Prelude.{ℕ, List, [], ◌∷◌, ◌++◌, Option, None, Some, codes}
-use Rattle.serde_json.specs.Data.{Data, unsigned, number, array, object, Items, no_items, item, Members, no_members, member, put}
+use Rattle.serde_json.specs.Data.{Data, unsigned, number, array, object, Items, no_items, item}
+use Rattle.serde_json.specs.Data.{Members, no_members, member, put}
 use Rattle.serde_json.specs.Find.{of_integer}
 use Rattle.serde_json.specs.Written.{compact_text}
 use Rattle.sot_box.specs.Sides.{Side}
@@ -28,9 +30,12 @@ cells_data cells = array (items_by cell_data cells)
 
 -- the entry of a module: its two lists of cells
 abbrev pub entry_data : Cells → Data
-entry_data cells = object (member (codes "closed") (cells_data cells.closed.boxes) (member (codes "reach") (cells_data cells.reach.boxes) no_members))
+entry_data cells =
+    object (member (codes "closed") (cells_data cells.closed.boxes)
+    (member (codes "reach") (cells_data cells.reach.boxes) no_members))
 
--- an entry under its module's name, where there is one, among others in the order of the names' bytes
+-- an entry under its module's name, where there is one, among others in the order of the names'
+-- bytes
 abbrev pub put_data : List ℕ → Option Cells → Members → Members
 put_data name None others = others
 put_data name (Some cells) others = put name (entry_data cells) others
@@ -44,7 +49,8 @@ entries_data (m ∷ ms) (entry ∷ entries) = put_data m.name entry (entries_dat
 -- the certificate: its format and its modules
 abbrev pub certificate_data : Tables → Cert → Data
 certificate_data p cert =
-    object (member (codes "format") (number (unsigned 1)) (member (codes "modules") (object (entries_data p.modules cert.modules.items)) no_members))
+    object (member (codes "format") (number (unsigned 1))
+    (member (codes "modules") (object (entries_data p.modules cert.modules.items)) no_members))
 
 -- its line (LF is 10)
 abbrev pub certificate_line : Tables → Cert → List ℕ

@@ -13,9 +13,11 @@ list_word true = codes "reach"
 
 -- `refused certify module NAME closed`, or the same with `reach`, which goes on
 abbrev pub of_list : Tables → ℕ → Bool → List ℕ
-of_list t m reach = codes "refused certify module " ++ module_name t m ++ codes " " ++ list_word reach
+of_list t m reach =
+    codes "refused certify module " ++ module_name t m ++ codes " " ++ list_word reach
 
--- the refusal's own line; the list and its failing point; the list and `TooMany`. Want of memory has no line
+-- the refusal's own line; the list and its failing point; the list and `TooMany`. Want of memory
+-- has no line
 abbrev pub fail_text : Tables → CertifyFail → List ℕ
 fail_text t (Refused r) = refusal_text t (refusal_view r)
 fail_text t (Point m reach s) = line (of_list t m reach ++ codes " point " ++ point_text s)

@@ -24,17 +24,27 @@ use Rattle.sot_certified_text.specs.ReadBack.{IsWritable}
 
 -- a certificate's line is one line, and no section line
 abbrev pub CertificateLinesArePlain : Type 0
-CertificateLinesArePlain = (t : Tables) (cert : Cert) → (lines (certificate_line t cert) ≡ certificate_line t cert ∷ []) × IsPlain (certificate_line t cert)
+CertificateLinesArePlain =
+    (t : Tables) (cert : Cert) → (lines (certificate_line t cert) ≡ certificate_line t cert ∷ [])
+    × IsPlain (certificate_line t cert)
 
--- the text of a certified program divides into the program's canonical text and the certificate's line
+-- the text of a certified program divides into the program's canonical text and the certificate's
+-- line
 abbrev pub CertifiedTextsDivide : Type 0
 CertifiedTextsDivide =
     (p : Program) (t : Tables) (cert : Cert) → IsFormed p
-    → split_of (mission_text (canonical p) (certificate_line t cert)) Check ≡ Ok (record { program = canonical p; cert = certificate_line t cert; flight = None; trace = None })
+    → split_of (mission_text (canonical p) (certificate_line t cert)) Check
+    ≡ Ok (record {
+      program = canonical p;
+      cert = certificate_line t cert;
+      flight = None;
+      trace = None;
+    })
 
 -- JSON with a line end behind it is the same JSON
 abbrev pub LineEndsChangeNoJson : Type 0
-LineEndsChangeNoJson = (bytes : List ℕ) (d : Data) → json_of bytes ≡ Some d → json_of (bytes ++ 10 ∷ []) ≡ Some d
+LineEndsChangeNoJson =
+    (bytes : List ℕ) (d : Data) → json_of bytes ≡ Some d → json_of (bytes ++ 10 ∷ []) ≡ Some d
 
 -- the modules' names are words of the language, as each `Name` is by its type
 abbrev pub AreModulesNamed : Tables → Type 0
@@ -43,4 +53,5 @@ AreModulesNamed t = (m : ℕ) (info : ModuleInfo) → At t.modules m info → Is
 -- a certificate that a text can say is what its own line says
 abbrev pub CertificateLinesReadBack : Type 0
 CertificateLinesReadBack =
-    (t : Tables) (cert : Cert) → MeetsTableRules t → AreModulesNamed t → FitsTables t cert → IsWritable cert → cert_of t (certificate_line t cert) ≡ Ok (contents cert)
+    (t : Tables) (cert : Cert) → MeetsTableRules t → AreModulesNamed t → FitsTables t cert
+    → IsWritable cert → cert_of t (certificate_line t cert) ≡ Ok (contents cert)

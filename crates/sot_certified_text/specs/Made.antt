@@ -27,20 +27,31 @@ HasShortBoxes region = (i : ℕ) (box : List Side) → At region.boxes i box →
 
 -- the regions of all modules have
 abbrev pub HaveShortRegions : Tables → Type 0
-HaveShortRegions t = (m : ℕ) (a : ModuleInfo) → At t.modules m a → HasShortBoxes a.safe × HasShortBoxes a.safer
+HaveShortRegions t =
+    (m : ℕ) (a : ModuleInfo) → At t.modules m a → HasShortBoxes a.safe × HasShortBoxes a.safer
 
 -- the tables of a formed program have short regions, and its modules' names are words
 abbrev pub TablesHaveShortRegions : Type 0
-TablesHaveShortRegions = (p : Program) (t : Tables) → IsFormed p → AreTables p t → HaveShortRegions t × AreModulesNamed t
+TablesHaveShortRegions =
+    (p : Program) (t : Tables) → IsFormed p → AreTables p t → HaveShortRegions t × AreModulesNamed t
 
 -- a text can say each certificate that is made for short regions
 abbrev pub MadeCertificatesAreWritable : Type 0
-MadeCertificatesAreWritable = (t : Tables) (cert : Cert) → HaveShortRegions t → IsMadeFor t cert → IsWritable cert
+MadeCertificatesAreWritable =
+    (t : Tables) (cert : Cert) → HaveShortRegions t → IsMadeFor t cert → IsWritable cert
 
--- a certificate that is made for the tables of a formed program, and the text with that certificate: it divides into the program's
--- canonical text and the certificate's line, which says the certificate
+-- a certificate that is made for the tables of a formed program, and the text with that
+-- certificate: it divides into the program's canonical text and the certificate's line, which says
+-- the certificate
 abbrev pub CertifiedTextsSay : Type 0
 CertifiedTextsSay =
-    (p : Program) (t : Tables) (cert : Cert) → IsFormed p → AreTables p t → MeetsTableRules t → FitsTables t cert → IsMadeFor t cert
-    → (split_of (mission_text (canonical p) (certificate_line t cert)) Check ≡ Ok (record { program = canonical p; cert = certificate_line t cert; flight = None; trace = None }))
+    (p : Program) (t : Tables) (cert : Cert) → IsFormed p → AreTables p t → MeetsTableRules t
+    → FitsTables t cert → IsMadeFor t cert
+    → (split_of (mission_text (canonical p) (certificate_line t cert)) Check
+    ≡ Ok (record {
+      program = canonical p;
+      cert = certificate_line t cert;
+      flight = None;
+      trace = None;
+    }))
     × (cert_of t (certificate_line t cert) ≡ Ok (contents cert))

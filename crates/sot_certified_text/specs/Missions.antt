@@ -12,4 +12,5 @@ mission_text program cert = program ++ ((codes "%certificate" ++ 10 ∷ []) ++ c
 abbrev pub CertificatesStandBehind : Type 0
 CertificatesStandBehind =
     (program cert : List ℕ) → EndsLine program → IsPlain program → IsPlain cert
-    → split_of (mission_text program cert) Check ≡ Ok (record { program = program; cert = cert; flight = None; trace = None })
+    → split_of (mission_text program cert) Check
+    ≡ Ok (record { program = program; cert = cert; flight = None; trace = None })

@@ -18,16 +18,22 @@ IsShort r = (negsuc 999999999999 ≤ℤ r.lo) × (r.hi ≤ℤ pos 1000000000000)
 abbrev pub AreShort : List Side → Type 0
 AreShort sides = (i : ℕ) (r : Side) → At sides i r → IsShort r
 
--- a certificate that a text can say: no jitter, cells of short sides, and lists that have their index
+-- a certificate that a text can say: no jitter, cells of short sides, and lists that have their
+-- index
 pub record IsWritable (cert : Cert) : Type 0 where
   pub jitter : cert.jitter ≡ 0
-  pub closed : (m i : ℕ) (cells : Cells) (cell : List Side) → At cert.modules.items m (Some cells) → At cells.closed.boxes i cell → AreShort cell
-  pub reach : (m i : ℕ) (cells : Cells) (cell : List Side) → At cert.modules.items m (Some cells) → At cells.reach.boxes i cell → AreShort cell
-  pub closed_settled : (m : ℕ) (cells : Cells) → At cert.modules.items m (Some cells) → cells.closed.settled ≡ true
-  pub reach_settled : (m : ℕ) (cells : Cells) → At cert.modules.items m (Some cells) → cells.reach.settled ≡ true
+  pub closed : (m i : ℕ) (cells : Cells) (cell : List Side) → At cert.modules.items m (Some cells)
+      → At cells.closed.boxes i cell → AreShort cell
+  pub reach : (m i : ℕ) (cells : Cells) (cell : List Side) → At cert.modules.items m (Some cells)
+      → At cells.reach.boxes i cell → AreShort cell
+  pub closed_settled : (m : ℕ) (cells : Cells) → At cert.modules.items m (Some cells)
+      → cells.closed.settled ≡ true
+  pub reach_settled : (m : ℕ) (cells : Cells) → At cert.modules.items m (Some cells)
+      → cells.reach.settled ≡ true
 
 -- bytes that are the JSON of a certificate say it
 abbrev pub CertificatesReadBack : Type 0
 CertificatesReadBack =
-    (p : Tables) (cert : Cert) (bytes : List ℕ) → MeetsTableRules p → FitsTables p cert → IsWritable cert → json_of bytes ≡ Some (certificate_data p cert)
+    (p : Tables) (cert : Cert) (bytes : List ℕ) → MeetsTableRules p → FitsTables p cert
+    → IsWritable cert → json_of bytes ≡ Some (certificate_data p cert)
     → cert_of p bytes ≡ Ok (contents cert)

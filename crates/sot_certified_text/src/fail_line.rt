@@ -35,7 +35,8 @@ fn point_line(
     reach: bool,
     point: &Point,
 ) -> Result<Vec<u8>, AllocError>
-    ensures { IfOk result (λ text. text.items ≡ line (of_list p.now «module» reach ++ codes " point " ++ point_text point.now)) }
+    ensures { IfOk result (λ text. text.items
+        ≡ line (of_list p.now «module» reach ++ codes " point " ++ point_text point.now)) }
 {
     let mut text = list_front(alloc, p, module, reach)?;
     put(&mut text, " point ")?;
@@ -45,16 +46,17 @@ fn point_line(
 }
 
 fn many_line(alloc: Global, p: &Typed, module: u32, reach: bool) -> Result<Vec<u8>, AllocError>
-    ensures { IfOk result (λ text. text.items ≡ line (of_list p.now «module» reach ++ codes " TooMany")) }
+    ensures { IfOk result (λ text. text.items
+        ≡ line (of_list p.now «module» reach ++ codes " TooMany")) }
 {
     let mut text = list_front(alloc, p, module, reach)?;
     put(&mut text, " TooMany\n")?;
     Ok(text)
 }
 
-/// The line that says why there is no certificate: that of the refusal, or `refused certify module NAME closed point (X)`, or
-/// `refused certify module NAME closed TooMany`, with `reach` in place of `closed` for a list of reach cells. Want of memory has no
-/// line, and an empty text here.
+/// The line that says why there is no certificate: that of the refusal, or `refused certify module
+/// NAME closed point (X)`, or `refused certify module NAME closed TooMany`, with `reach` in place
+/// of `closed` for a list of reach cells. Want of memory has no line, and an empty text here.
 pub fn fail_text(alloc: Global, p: &Typed, fail: &CertifyFail) -> Result<Vec<u8>, AllocError>
     ensures { IfOk result (λ text. text.items ≡ fail_text p.now fail.now) }
 {

@@ -1,8 +1,9 @@
 //! The text of a certified program, and what follows when it is read again.
 //!
-//! [`certificate_line`] writes a certificate without jitter as one line of JSON, which a reader of certificates reads back;
-//! [`mission_text`] writes the whole mission. [`fail_text`] says why there is none. The laws say that no line of a program's canonical
-//! text is a section line, that the whole divides into its sections, and that it is accepted when it is read again.
+//! [`certificate_line`] writes a certificate without jitter as one line of JSON, which a reader of
+//! certificates reads back; [`mission_text`] writes the whole mission. [`fail_text`] says why there
+//! is none. The laws say that no line of a program's canonical text is a section line, that the
+//! whole divides into its sections, and that it is accepted when it is read again.
 #![tactic(auto)]
 
 mod facts;

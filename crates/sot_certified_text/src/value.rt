@@ -2,7 +2,8 @@
 
 ghost use Rattle.std.specs.Prelude.{◌≡◌, length, IfOk, OnOk};
 ghost use Rattle.serde_json.specs.View.{view, members_view};
-ghost use Rattle.sot_certified_text.specs.CertText.{side_data, cell_data, cells_data, entry_data, put_data, entries_data, certificate_data};
+ghost use Rattle.sot_certified_text.specs.CertText.{side_data, cell_data, cells_data, entry_data};
+ghost use Rattle.sot_certified_text.specs.CertText.{put_data, entries_data, certificate_data};
 
 use serde_json::{Map, Value, json};
 use sot_box::{BoxN, Interval, Region};
@@ -57,7 +58,8 @@ fn put_entry(
     name: &str,
     entry: &Option<Cells>,
 ) -> Result<(), AllocError>
-    ensures { OnOk result (members_view map.new.entries ≡ put_data name.now entry.now (members_view map.old.entries)) }
+    ensures { OnOk result (members_view map.new.entries
+        ≡ put_data name.now entry.now (members_view map.old.entries)) }
 {
     if let Some(cells) = entry {
         let value = entry_value(alloc, cells)?;
@@ -69,7 +71,8 @@ fn put_entry(
 // The entries of the modules that have one.
 fn entries_value(alloc: Global, p: &Typed, cert: &Cert) -> Result<Map<String, Value>, AllocError>
     requires { length cert.now.modules.items ≡ length p.now.modules }
-    ensures { IfOk result (λ m. members_view m.entries ≡ entries_data p.now.modules cert.now.modules.items) }
+    ensures { IfOk result (λ m. members_view m.entries
+        ≡ entries_data p.now.modules cert.now.modules.items) }
 {
     let mut map = Map::new(alloc);
     let mut left = p.modules.len();

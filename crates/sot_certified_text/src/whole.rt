@@ -13,8 +13,9 @@ use sot_print::print;
 use sot_tree::Program;
 use std::alloc::{AllocError, Global};
 
-/// The canonical text of a program, the line `%certificate`, and the line of its certificate, which reads back as its value. The
-/// certificate has an entry, or none, for each module of the program, and no jitter, which its line would not say.
+/// The canonical text of a program, the line `%certificate`, and the line of its certificate, which
+/// reads back as its value. The certificate has an entry, or none, for each module of the program,
+/// and no jitter, which its line would not say.
 pub fn mission_text(
     alloc: Global,
     program: &Program,
@@ -23,8 +24,10 @@ pub fn mission_text(
 ) -> Result<Vec<u8>, AllocError>
     requires entries { length cert.now.modules.items ≡ length p.now.modules }
     requires no_jitter { cert.now.jitter ≡ 0 }
-    ensures text { IfOk result (λ text. text.items ≡ mission_text (canonical (program_view program.now)) (certificate_line p.now cert.now)) }
-    ensures reads_back { IfOk result (λ text. json_of (certificate_line p.now cert.now) ≡ Some (certificate_data p.now cert.now)) }
+    ensures text { IfOk result (λ text. text.items
+        ≡ mission_text (canonical (program_view program.now)) (certificate_line p.now cert.now)) }
+    ensures reads_back { IfOk result (λ text. json_of (certificate_line p.now cert.now)
+        ≡ Some (certificate_data p.now cert.now)) }
 {
     let front = print(alloc, program)?;
     let line = certificate_line(alloc, p, cert)?;

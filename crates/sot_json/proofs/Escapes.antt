@@ -25,7 +25,10 @@ high_plain (b ∷ bs) h =
     let e : escape_of b ≡ b ∷ [] = plain b (λ k. omega (arith, k)) (λ k. omega (arith, k)) in
     rw (e, high_plain bs h.1) refl
 
-high_bytes : (x y z : Bool) (c : ℕ) → x ≡ false → AreHigh (cond x (c ∷ []) (cond y ((192 + c / 64) ∷ (128 + c % 64) ∷ []) (cond z ((224 + c / 4096) ∷ (128 + c / 64 % 64) ∷ (128 + c % 64) ∷ []) ((240 + c / 262144) ∷ (128 + c / 4096 % 64) ∷ (128 + c / 64 % 64) ∷ (128 + c % 64) ∷ []))))
+high_bytes : (x y z : Bool) (c : ℕ) → x ≡ false → AreHigh
+    (cond x (c ∷ []) (cond y ((192 + c / 64) ∷ (128 + c % 64) ∷ [])
+    (cond z ((224 + c / 4096) ∷ (128 + c / 64 % 64) ∷ (128 + c % 64) ∷ [])
+    ((240 + c / 262144) ∷ (128 + c / 4096 % 64) ∷ (128 + c / 64 % 64) ∷ (128 + c % 64) ∷ []))))
 unfolding AreHigh
 high_bytes true y z c h = cc
 high_bytes false true z c h = (omega arith, (omega arith, tt))
@@ -42,7 +45,9 @@ escaped_char c h k = by_size (ltb c 128) c refl h k
 
 -- one more character
 pub escaped_push : (cs : List ℕ) (c : ℕ) → escaped (encode_utf8_all (cs ++ c ∷ [])) ≡ escaped (encode_utf8_all cs) ++ escaped (encode c)
-escaped_push cs c = ap escaped (encodes-append cs (c ∷ []) ∙ ap (λ e. encode_utf8_all cs ++ e) (append-nil (encode c))) ∙ flat_map-append escape_of (encode_utf8_all cs) (encode c)
+escaped_push cs c =
+    ap escaped (encodes-append cs (c ∷ []) ∙ ap (λ e. encode_utf8_all cs ++ e) (append-nil (encode c)))
+    ∙ flat_map-append escape_of (encode_utf8_all cs) (encode c)
 
 map_same : (cs : List ℕ) → map (λ c. c) cs ≡ cs
 map_same [] = refl

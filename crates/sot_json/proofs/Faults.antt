@@ -11,22 +11,26 @@ use Rattle.sot_json.specs.Says.{Says, ◌>>=◌, or, under, part}
 use Rattle.sot_json.specs.Json.{json_of, optional}
 use Rattle.sot_json.specs.Answers.{Fails, IsUnder, IsHere}
 
-pub part_fails : {A B : Type 0} (e r : JsonFail) (name : List ℕ) (says : Says A) (f : A → Says B) → IsUnder name e r → Fails e says → Fails r (part name says >>= f)
+pub part_fails : {A B : Type 0} (e r : JsonFail) (name : List ℕ) (says : Says A) (f : A → Says B) → IsUnder name e r → Fails e says
+    → Fails r (part name says >>= f)
 part_fails e fails.Memory name says f below at = tt
 part_fails (fails.Fault g) (fails.Fault h) name says f below at = rw at (ap Err (sym below))
 part_fails fails.Memory (fails.Fault h) name says f below at = absurd below
 
-pub at_fails : {A : Type 0} (e r : JsonFail) (name : List ℕ) (f : Data → Says A) (d : Data) (o : Option Data) → o ≡ Some d → IsUnder name e r → Fails e (f d) → Fails r (part name (or Missing o >>= f))
+pub at_fails : {A : Type 0} (e r : JsonFail) (name : List ℕ) (f : Data → Says A) (d : Data) (o : Option Data) → o ≡ Some d → IsUnder name e r → Fails e (f d)
+    → Fails r (part name (or Missing o >>= f))
 at_fails e fails.Memory name f d o is below h = tt
 at_fails (fails.Fault g) (fails.Fault k) name f d o is below h = rw (is, h) (ap Err (sym below))
 at_fails fails.Memory (fails.Fault k) name f d o is below h = absurd below
 
-pub at_missing : {A : Type 0} (e r : JsonFail) (name : List ℕ) (f : Data → Says A) (o : Option Data) → o ≡ None → IsUnder name e r → IsHere Missing e → Fails r (part name (or Missing o >>= f))
+pub at_missing : {A : Type 0} (e r : JsonFail) (name : List ℕ) (f : Data → Says A) (o : Option Data) → o ≡ None → IsUnder name e r → IsHere Missing e
+    → Fails r (part name (or Missing o >>= f))
 at_missing e fails.Memory name f o is below h = tt
 at_missing (fails.Fault g) (fails.Fault k) name f o is below h = rw is (ap Err (ap (under name) (sym h) ∙ sym below))
 at_missing fails.Memory (fails.Fault k) name f o is below h = absurd below
 
-pub may_fails : {A : Type 0} (e r : JsonFail) (name : List ℕ) (f : Data → Says A) (d : Data) (o : Option Data) → o ≡ Some d → IsUnder name e r → Fails e (f d) → Fails r (part name (optional f o))
+pub may_fails : {A : Type 0} (e r : JsonFail) (name : List ℕ) (f : Data → Says A) (d : Data) (o : Option Data) → o ≡ Some d → IsUnder name e r → Fails e (f d)
+    → Fails r (part name (optional f o))
 may_fails e fails.Memory name f d o is below h = tt
 may_fails (fails.Fault g) (fails.Fault k) name f d o is below h = rw (is, h) (ap Err (sym below))
 may_fails fails.Memory (fails.Fault k) name f d o is below h = absurd below

@@ -20,7 +20,8 @@ abbrev pub IsHere : JsonKind → JsonFail → Type 0
 IsHere k fails.Memory = ⊥
 IsHere k (fails.Fault g) = g ≡ record { path = []; kind = k }
 
--- e stands at the part of that name, and r is e as it stands from the value that holds the part, but for want of memory
+-- e stands at the part of that name, and r is e as it stands from the value that holds the part,
+-- but for want of memory
 abbrev pub IsUnder : List ℕ → JsonFail → JsonFail → Type 0
 IsUnder name e fails.Memory = Unit {0}
 IsUnder name fails.Memory (fails.Fault g) = ⊥

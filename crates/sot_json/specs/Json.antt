@@ -1,10 +1,13 @@
 -- What the formats say of JSON values: numbers, lists, and keys of an object.
-use Rattle.std.specs.Prelude.{unsigned_abs, ℕ, ℤ, pos, List, [], ◌∷◌, ◌++◌, length, decimal, Bool, true, false, ◌&&◌, ◌||◌, int_le, bytes_eq, Option, Some, None, Ok, Err, if◌then◌else◌}
+use Rattle.std.specs.Prelude.{unsigned_abs, ℕ, ℤ, pos, List, [], ◌∷◌, ◌++◌, length, decimal, Bool}
+use Rattle.std.specs.Prelude.{true, false, ◌&&◌, ◌||◌, int_le, bytes_eq, Option, Some, None, Ok}
+use Rattle.std.specs.Prelude.{Err, if◌then◌else◌}
 use Rattle.std.specs.Str.{is_utf8}
 use Rattle.serde_json.specs.Data.{Data, Items, no_items, item, Members, no_members, member}
 use Rattle.serde_json.specs.Find.{get_member, as_number, as_integer}
 use Rattle.serde_json.specs.Read.{read}
-use Rattle.sot_json.specs.declared.fault.JsonKind.TheVariants.{WrongShape, NotWhole, OutsideRange, Missing}
+use Rattle.sot_json.specs.declared.fault.JsonKind.TheVariants.{WrongShape, NotWhole, OutsideRange}
+use Rattle.sot_json.specs.declared.fault.JsonKind.TheVariants.{Missing}
 use Rattle.sot_json.specs.Says.{Says, ◌>>=◌, or, unless, part}
 
 -- the value that bytes are, if they are JSON; of a repeated key the last value stays
@@ -32,7 +35,8 @@ count greatest d = do
 
 -- ---- lists
 
--- Items one after the other; f is told what was read of those before. The part of an item is its place.
+-- Items one after the other; f is told what was read of those before. The part of an item is its
+-- place.
 unfoldable pub each_after : {A : Type 0} → (List A → Data → Says A) → List A → Items → Says (List A)
 each_after f done no_items = Ok done
 each_after f done (item d ds) = do

@@ -1,5 +1,6 @@
 -- What a JSON value says, or its first fault.
-use Rattle.std.specs.Prelude.{ℕ, List, [], ◌∷◌, ◌++◌, Bool, true, false, Option, Some, None, Result, Ok, Err}
+use Rattle.std.specs.Prelude.{ℕ, List, [], ◌∷◌, ◌++◌, Bool, true, false, Option, Some, None, Result}
+use Rattle.std.specs.Prelude.{Ok, Err}
 use Rattle.sot_json.specs.Pointers.{escaped}
 use Rattle.sot_json.specs.declared.fault.JsonKind.{JsonKind}
 use Rattle.sot_json.specs.declared.fault.JsonFault.{JsonFault}

@@ -5,10 +5,12 @@ ghost use Rattle.sot_json.specs.declared.fault.JsonFail.TheVariants.{Memory};
 use crate::path::Path;
 use std::alloc::{AllocError, AllocFailed};
 
-/// How a value breaks the format. Where a path has several kinds, the first one of this list is given.
+/// How a value breaks the format. Where a path has several kinds, the first one of this list is
+/// given.
 #[derive(Clone, Copy, Debug, PartialEq, Eq)]
 pub enum JsonKind {
-    /// The text is no JSON: no UTF-8, cut, followed by more, nested past 127 levels, or with a number past every float.
+    /// The text is no JSON: no UTF-8, cut, followed by more, nested past 127 levels, or with a
+    /// number past every float.
     NotJson,
     /// The value is of another JSON kind than the format's.
     WrongShape,

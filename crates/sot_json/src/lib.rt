@@ -1,7 +1,8 @@
-//! What the formats say of JSON values: small readers of values, each with its first fault as a path and a kind.
+//! What the formats say of JSON values: small readers of values, each with its first fault as a
+//! path and a kind.
 //!
-//! A fault is told as it stands from the value that is read; who reads a part puts the part's name before its path. The words that
-//! say what a value says are public, for the formats above.
+//! A fault is told as it stands from the value that is read; who reads a part puts the part's name
+//! before its path. The words that say what a value says are public, for the formats above.
 #![tactic(auto)]
 
 mod fault;

@@ -1,5 +1,6 @@
 //! Small readers of JSON values, each with what the value says by the words of `specs/Json.antt`.
-ghost use Rattle.std.specs.Prelude.{◌≡◌, ◌≤◌, ◌≤ℤ◌, decimal, map, pos, string_bytes, option_map, IfOk};
+ghost use Rattle.std.specs.Prelude.{◌≡◌, ◌≤◌, ◌≤ℤ◌, decimal, map, pos, string_bytes, option_map};
+ghost use Rattle.std.specs.Prelude.{IfOk};
 ghost use Rattle.serde_json.specs.View.{view, items_view, members_view};
 ghost use Rattle.serde_json.specs.Find.{get_member};
 ghost use Rattle.sot_json.specs.declared.fault.JsonKind.TheVariants.{NotJson, Missing};
@@ -13,7 +14,8 @@ use crate::path::Path;
 use serde_json::{Map, Value};
 use std::alloc::{AllocError, Global};
 
-/// The value that the bytes are. They are `NotJson` where they are no JSON, at most 127 arrays and objects deep.
+/// The value that the bytes are. They are `NotJson` where they are no JSON, at most 127 arrays and
+/// objects deep.
 #[tactic(auto, using(crate::proofs::Faults::no_json, crate::proofs::Faults::is_json))]
 pub fn value_of(alloc: Global, bytes: &[u8]) -> Result<Value, JsonFail>
     ensures { Gives view result (or NotJson (json_of bytes.now)) }
@@ -39,7 +41,8 @@ pub fn fault_at(alloc: Global, kind: JsonKind) -> JsonFail
     })
 }
 
-/// The fault of a part, as it stands from the value that holds the part under that name, but for want of memory.
+/// The fault of a part, as it stands from the value that holds the part under that name, but for
+/// want of memory.
 pub fn fault_under(alloc: Global, name: &str, fail: JsonFail) -> JsonFail
     ensures { IsUnder name.now fail result }
 {
@@ -71,7 +74,8 @@ fn decimal_of(alloc: Global, i: usize) -> Result<String, AllocError>
     format!(in alloc; "{i}")
 }
 
-/// What was read of the part of that name, as it stands from the value that holds the part, but for want of memory.
+/// What was read of the part of that name, as it stands from the value that holds the part, but for
+/// want of memory.
 pub fn part_of<T>(alloc: Global, name: &str, read: Result<T, JsonFail>) -> Result<T, JsonFail>
     ensures { IsPart name.now read result }
 {
@@ -121,7 +125,8 @@ pub fn count_of(alloc: Global, greatest: u64, value: &Value) -> Result<u64, Json
 /// The two items of a list of two.
 #[tactic(auto, using(crate::proofs::Lists::two_none, crate::proofs::Lists::two_some))]
 pub fn two_of(list: &Vec<Value>) -> Option<(&Value, &Value)>
-    ensures { option_map (λ v. (view v.0.now, view v.1.now)) result ≡ two (items_view list.now.items) }
+    ensures { option_map (λ v. (view v.0.now, view v.1.now)) result
+        ≡ two (items_view list.now.items) }
 {
     if list.len() != 2 {
         return None;
@@ -131,7 +136,8 @@ pub fn two_of(list: &Vec<Value>) -> Option<(&Value, &Value)>
 
 /// The value at a key of an object.
 pub fn member_of<'v>(object: &'v Map<String, Value>, name: &str) -> Option<&'v Value>
-    ensures { option_map (λ x. view x.now) result ≡ get_member name.now (members_view object.now.entries) }
+    ensures { option_map (λ x. view x.now) result
+        ≡ get_member name.now (members_view object.now.entries) }
 {
     object.get(name)
 }
@@ -143,7 +149,8 @@ pub fn needed<'v>(
     object: &'v Map<String, Value>,
     name: &str,
 ) -> Result<&'v Value, JsonFail>
-    ensures { Gives (λ v. view v.now) result (part name.now (or Missing (get_member name.now (members_view object.now.entries)))) }
+    ensures { Gives (λ v. view v.now) result
+        (part name.now (or Missing (get_member name.now (members_view object.now.entries)))) }
 {
     match member_of(object, name) {
         Some(value) => Ok(value),

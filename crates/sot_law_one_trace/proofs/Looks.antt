@@ -1,5 +1,6 @@
 -- Tables that look the same have the same traces, of the same histories.
-use Rattle.std.proofs.Common.{◌≡◌, ℕ, zero, suc, ◌+◌, ◌<◌, ℤ, List, [], ◌∷◌, ◌++◌, Option, Some, None, length, map, take, drop, codes, refl, sym, ap, ap₂, ◌∙◌, subst, arith}
+use Rattle.std.proofs.Common.{◌≡◌, ℕ, zero, suc, ◌+◌, ◌<◌, ℤ, List, [], ◌∷◌, ◌++◌, Option, Some, None, length, map, take, drop, codes, refl, sym, ap, ap₂, ◌∙◌}
+use Rattle.std.proofs.Common.{subst, arith}
 use Rattle.std.specs.Prelude.{slice_get, sum_by}
 use Rattle.std.specs.Option.{option_map_or}
 use Rattle.std.proofs.lemmas.List.{length-map}
@@ -21,7 +22,8 @@ use Rattle.sot_trace.specs.Traces.{text_of, trace_lines, trace_text}
 use Rattle.sot_trace.specs.Telling.{IsDraftOf, IsTold, IsTraced}
 
 -- what is read of an entry as it looks
-pub looked : {A B C : Type 0} (seen : A → B) (part : B → C) (d : C) (xs : List A) (n : ℕ) → option_map_or (λ x. part (seen x)) (slice_get xs n) d ≡ option_map_or part (slice_get (map seen xs) n) d
+pub looked : {A B C : Type 0} (seen : A → B) (part : B → C) (d : C) (xs : List A) (n : ℕ)
+    → option_map_or (λ x. part (seen x)) (slice_get xs n) d ≡ option_map_or part (slice_get (map seen xs) n) d
 looked seen part d [] n = refl
 looked seen part d (x ∷ xs) zero = refl
 looked seen part d (x ∷ xs) (suc n) = looked seen part d xs n
@@ -45,7 +47,8 @@ refused_bare p (k ∷ ks) (None ∷ d) = ap (λ n. 0 + n) (refused_bare p ks d)
 refused_bare p (k ∷ ks) (Some z ∷ d) = ap (λ n. slot_refused p k (Some z) + n) (refused_bare p ks d)
 
 -- plants that look the same
-one_seen : (k l : PlantInfo) (ks ls : List PlantInfo) → map plant_seen (k ∷ ks) ≡ map plant_seen (l ∷ ls) → (plant_seen k ≡ plant_seen l) × (map plant_seen ks ≡ map plant_seen ls)
+one_seen : (k l : PlantInfo) (ks ls : List PlantInfo) → map plant_seen (k ∷ ks) ≡ map plant_seen (l ∷ ls)
+    → (plant_seen k ≡ plant_seen l) × (map plant_seen ks ≡ map plant_seen ls)
 one_seen k l ks ls same = (cc, ap (drop 1) same)
 
 moves_seen : (ks ls : List PlantInfo) → map plant_seen ks ≡ map plant_seen ls → (v s : List ℤ) → moves_text ks v s ≡ moves_text ls v s
@@ -57,7 +60,8 @@ moves_seen (k ∷ ks) (l ∷ ls) same v s =
     let name = ap (λ (x : PlantTable). x.name) one in
     let noise = ap (λ (x : PlantTable). length x.noise) one in
     let states = ap (λ (x : PlantTable). length x.states) one in
-    (λ i. (codes " " ++ (name i ++ (codes "(" ++ (numbers (take (noise i) v) ++ (codes ")=" ++ numbers (take (states i) s)))))) ++ moves_seen ks ls more (drop (noise i) v) (drop (states i) s) i)
+    (λ i. (codes " " ++ (name i ++ (codes "(" ++ (numbers (take (noise i) v) ++ (codes ")=" ++ numbers (take (states i) s))))))
+    ++ moves_seen ks ls more (drop (noise i) v) (drop (states i) s) i)
 
 starts_seen : (ks ls : List PlantInfo) → map plant_seen ks ≡ map plant_seen ls → (xs : List (List ℤ)) → start_lines ks xs ≡ start_lines ls xs
 starts_seen [] [] same xs = refl
@@ -121,16 +125,19 @@ module _ (t u : Tables) (same : tables_seen t ≡ tables_seen u) where
 
   lines_same : (e : Logged) → line_of t e ≡ line_of u e
   lines_same (InputAt time topic value) =
-      ap (λ (topics : List TopicInfo). numeral time ++ (codes " input " ++ (option_map_or (λ (x : TopicInfo). x.name) (slice_get topics topic) [] ++ (codes "=" ++ numbers value)))) topics_same
+      ap (λ (topics : List TopicInfo). numeral time ++ (codes " input "
+      ++ (option_map_or (λ (x : TopicInfo). x.name) (slice_get topics topic) [] ++ (codes "=" ++ numbers value)))) topics_same
   lines_same (FireAt time n d enabled) = ap₂ (λ name draft. numeral time ++ (firing_word enabled ++ (name ++ draft))) (node_named_same n) (drafts_same n d)
   lines_same (DecideAt time m mode) =
-      ap (λ (modules : List ModuleInfo). numeral time ++ (codes " decide " ++ (option_map_or (λ (x : ModuleInfo). x.name) (slice_get modules m) [] ++ mode_word mode))) modules_same
+      ap (λ (modules : List ModuleInfo). numeral time ++ (codes " decide "
+      ++ (option_map_or (λ (x : ModuleInfo). x.name) (slice_get modules m) [] ++ mode_word mode))) modules_same
   lines_same (TickAt time noise states) = ap (λ x. numeral time ++ (codes " tick" ++ x)) (moves_seen t.plants u.plants plants_same noise states)
 
   pub trace_lines_same : (start : List (List ℤ)) (entries : List Logged) → trace_lines t start entries ≡ trace_lines u start entries
   trace_lines_same start entries =
       let starts = starts_seen t.plants u.plants plants_same start in
-      (λ i. header ∷ (starts i ++ (map (λ e. lines_same e i) entries ++ (end_line (sum_by ticks_in entries) (length entries) (sum_by (λ e. refused_same e i) entries) ∷ []))))
+      (λ i. header ∷ (starts i ++ (map (λ e. lines_same e i) entries
+      ++ (end_line (sum_by ticks_in entries) (length entries) (sum_by (λ e. refused_same e i) entries) ∷ []))))
 
   pub text_same : (start : List (List ℤ)) (entries : List Logged) → trace_text t start entries ≡ trace_text u start entries
   text_same start entries = ap text_of (trace_lines_same start entries)
@@ -142,7 +149,8 @@ module _ (t u : Tables) (same : tables_seen t ≡ tables_seen u) where
     subst (λ ks. IsDraftOf ks d) (sym (writes_same n)) told.1,
   )
   told_same (DecideAt time m mode) told = subst (λ (modules : List ModuleInfo). m < length modules) (sym modules_same) told
-  told_same (TickAt time noise states) told = (let counts = counts_seen t.plants u.plants plants_same in (omega (arith, told.0, counts.0), omega (arith, told.1, counts.1)))
+  told_same (TickAt time noise states) told =
+      (let counts = counts_seen t.plants u.plants plants_same in (omega (arith, told.0, counts.0), omega (arith, told.1, counts.1)))
 
   pub traced_same : (start : List (List ℤ)) (entries : List Logged) → IsTraced u start entries → IsTraced t start entries
   traced_same start entries traced = record {

@@ -36,11 +36,19 @@ module _ (p : Program) (t : Tables) (seen : AreSeen p t) (faultless : IsFaultles
 
   pub named : AreWords t
   named = record {
-    topics = λ k info at. (let (x, stands, is) = of_topic p t seen k info at in subst IsWord (ap (λ (i : TopicInfo). i.name) is) (topic_formed p formed k x stands).0);
+    topics =
+        λ k info at. (let (x, stands, is) = of_topic p t seen k info at in
+        subst IsWord (ap (λ (i : TopicInfo). i.name) is) (topic_formed p formed k x stands).0);
     fields = field_named;
-    plants = λ k info at. (let (x, stands, is) = of_plant p t seen k info at in subst IsWord (sym (ap (λ (i : PlantTable). i.name) is)) (plant_formed p formed k x stands).name);
-    nodes = λ k info at. (let (x, stands, is) = of_node p t seen k info at in subst IsWord (sym (ap (λ (i : NodeTable). i.name) is)) (node_formed p formed k x stands).name);
-    modules = λ k info at. (let (x, stands, is) = of_module p t seen k info at in subst IsWord (ap (λ (i : ModuleInfo). i.name) is) (module_formed p formed k x stands).name);
+    plants =
+        λ k info at. (let (x, stands, is) = of_plant p t seen k info at in
+        subst IsWord (sym (ap (λ (i : PlantTable). i.name) is)) (plant_formed p formed k x stands).name);
+    nodes =
+        λ k info at. (let (x, stands, is) = of_node p t seen k info at in
+        subst IsWord (sym (ap (λ (i : NodeTable). i.name) is)) (node_formed p formed k x stands).name);
+    modules =
+        λ k info at. (let (x, stands, is) = of_module p t seen k info at in
+        subst IsWord (ap (λ (i : ModuleInfo). i.name) is) (module_formed p formed k x stands).name);
   }
 
 pub names : NamesAreWords

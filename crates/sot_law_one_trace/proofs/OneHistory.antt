@@ -13,7 +13,8 @@ use Rattle.sot_law_one_trace.proofs.Looks.{text_same, traced_same}
 pub one_history : TracesAreOfOneHistory
 one_history need guests bytes m n f g i j x y one other (P, flown_x, end_x) (Q, flown_y, end_y) same =
     let parts : one.parts ≡ other.parts = (let both = sym one.divided ∙ other.divided in cc) in
-    let programs : m.program ≡ n.program = spells_unique other.parts.program 0 m.program n.program (subst (λ (x : Parts). Spells x.program 0 m.program) parts one.spelled) other.spelled in
+    let programs : m.program ≡ n.program = spells_unique other.parts.program 0 m.program n.program
+    (subst (λ (x : Parts). Spells x.program 0 m.program) parts one.spelled) other.spelled in
     let looks : tables_seen m.tables ≡ tables_seen n.tables = one.resolved.tables ∙ ap tables_of programs ∙ sym other.resolved.tables in
     let words = names one.parts.program 0 m.program m.tables one.spelled one.resolved in
     (text_tells m.tables f.start g.start x y one.resolved.rules words (flown_told m.tables i f x P one.resolved.rules flown_x)

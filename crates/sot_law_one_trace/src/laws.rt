@@ -6,7 +6,8 @@ pub fn names_are_words()
     ensures { NamesAreWords }
 {}
 
-/// Two histories of the flight of a mission that bytes spell are the same, if they have the same trace.
+/// Two histories of the flight of a mission that bytes spell are the same, if they have the same
+/// trace.
 pub fn traces_are_of_one_history()
     ensures { TracesAreOfOneHistory }
 {}

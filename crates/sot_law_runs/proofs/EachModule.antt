@@ -19,7 +19,9 @@ module _ (g : Global) where
   -- the decisions are left, so no tick may come
   pub inside : IsSafeNow (twins g) 0 (twins_in (pos 20) (pos 3))
   inside = record {
-    modules = at_two (λ m a. IsInRegion a.safe.boxes (point_of (twins_in (pos 20) (pos 3)) a.plant)) _ _ (inl (omega (arith, ints), omega (arith, ints), tt)) (inl (omega (arith, ints), omega (arith, ints), tt));
+    modules =
+        at_two (λ m a. IsInRegion a.safe.boxes (point_of (twins_in (pos 20) (pos 3)) a.plant)) _ _ (inl (omega (arith, ints), omega (arith, ints), tt))
+        (inl (omega (arith, ints), omega (arith, ints), tt));
     bodies = λ n node acts at. absurd (at_none (λ n node. ⊥) n node at);
     ticks = λ may. absurd (may.modules 0 (nav g) 0 refl refl (last_now 4 0 0 (omega arith, refl)) refl);
   }
@@ -41,12 +43,15 @@ module _ (g : Global) where
   second_tick s =
       let moved = s.ticks (record {
         nodes = λ n node d at is. absurd (false≢true is);
-        modules = λ m a d at is. absurd (at_two (λ m a. is_left_dm (twins_rest (pos 3) (pos 0)) m ≡ true → ⊥) _ _ (λ e. false≢true e) (λ e. false≢true e) m a at is);
+        modules =
+            λ m a d at is. absurd (at_two (λ m a. is_left_dm (twins_rest (pos 3) (pos 0)) m ≡ true → ⊥) _ _ (λ e. false≢true e) (λ e. false≢true e) m a at is);
       }) 1 (divided_plant g) (pos 0 ∷ []) refl (omega (arith, ints), omega (arith, ints), tt) in
       no_value _ _ moved.0 refl moved.1
 
   pub safer : IsSafer (twins g) (twins_in (pos 10) (negsuc 9))
-  safer = at_two (λ m a. IsInRegion a.safer.boxes (point_of (twins_in (pos 10) (negsuc 9)) a.plant)) _ _ (inl (omega (arith, ints), omega (arith, ints), tt)) (inl (omega (arith, ints), omega (arith, ints), tt))
+  safer =
+      at_two (λ m a. IsInRegion a.safer.boxes (point_of (twins_in (pos 10) (negsuc 9)) a.plant)) _ _ (inl (omega (arith, ints), omega (arith, ints), tt))
+      (inl (omega (arith, ints), omega (arith, ints), tt))
 
   pub second_not_safer : IsSafer (twins g) (twins_in (pos 3) (pos 11)) → ⊥
   second_not_safer s = ⊎_elim (λ w. omega (arith, ints, w.1)) (λ no'. no') (s 1 _ refl)

@@ -14,7 +14,8 @@ module _ (g : Global) where
   pub opens : IsOpening (relay g) [] (relaying (pos 0) (pos 0))
   opens = record {
     time = refl;
-    left = at_one (λ n node. (is_left (relaying (pos 0) (pos 0)) n ≡ true) ↔ IsDue node.period node.offset 0) (copy g) ((λ e. (omega arith, refl)), (λ d. refl));
+    left =
+        at_one (λ n node. (is_left (relaying (pos 0) (pos 0)) n ≡ true) ↔ IsDue node.period node.offset 0) (copy g) ((λ e. (omega arith, refl)), (λ d. refl));
     left_dm = at_none _;
     modes = refl;
     scalars = refl;
@@ -40,7 +41,9 @@ module _ (g : Global) where
     bounded = at_none _;
     moves = at_none _;
     time = refl;
-    left = at_one (λ n node. (is_left (relay_at 6 true (pos 0)) n ≡ true) ↔ ((is_left (relay_at 5 false (pos 0)) n ≡ true) ⊎ IsDue node.period node.offset 6)) (copy g) ((λ e. inr (omega arith, refl)), (λ o. refl));
+    left =
+        at_one (λ n node. (is_left (relay_at 6 true (pos 0)) n ≡ true) ↔ ((is_left (relay_at 5 false (pos 0)) n ≡ true) ⊎ IsDue node.period node.offset 6))
+        (copy g) ((λ e. inr (omega arith, refl)), (λ o. refl));
     left_dm = at_none _;
     sizes = record { left = refl; left_dm = refl; modes = refl; scalars = refl; locals = refl; points = refl };
     rest = refl;
@@ -71,7 +74,9 @@ module _ (g : Global) where
     bounded = at_none _;
     moves = at_none _;
     time = refl;
-    left = at_one (λ n node. (is_left (relay_at 7 false (pos 5)) n ≡ true) ↔ ((is_left (relay_at 6 false (pos 5)) n ≡ true) ⊎ IsDue node.period node.offset 7)) (copy g) ((λ e. absurd (false≢true e)), (λ o. ⊎_elim (λ e. e) (λ d. absurd (no_seven d)) o));
+    left =
+        at_one (λ n node. (is_left (relay_at 7 false (pos 5)) n ≡ true) ↔ ((is_left (relay_at 6 false (pos 5)) n ≡ true) ⊎ IsDue node.period node.offset 7))
+        (copy g) ((λ e. absurd (false≢true e)), (λ o. ⊎_elim (λ e. e) (λ d. absurd (no_seven d)) o));
     left_dm = at_none _;
     sizes = record { left = refl; left_dm = refl; modes = refl; scalars = refl; locals = refl; points = refl };
     rest = refl;

@@ -23,7 +23,8 @@ use Rattle.sot_law_runs.specs.GoingOn.{AreDisturbances, HoldsNode, HoldsDecision
 use Rattle.sot_law_runs.proofs.Lists.{some_or_all, set_below, ordered_map}
 
 -- what is left has its deadline now or later
-deadline_or_later : (jitter period offset t : ℕ) → IsStillDue jitter period offset t → IsDeadline jitter period offset t ⊎ ((d : ℕ) → IsLastDue period offset t d → d + jitter ≡ t → ⊥)
+deadline_or_later : (jitter period offset t : ℕ) → IsStillDue jitter period offset t
+    → IsDeadline jitter period offset t ⊎ ((d : ℕ) → IsLastDue period offset t d → d + jitter ≡ t → ⊥)
 deadline_or_later jitter period offset t h =
     ⊎_elim
     (λ e. inl (h.0, h.1, e))
@@ -34,14 +35,20 @@ module _ (p : Tables) (j : ℕ) (rules : MeetsTableRules p) (well : IsWellFormed
   -- the low ends of the bounds
   pub lowest : (noise : List (List ℤ)) × AreDisturbances p noise
   lowest =
-      let low = list_of [] p.plants (λ k plant w. IsWithin (bounds plant) w) (λ k plant at. (_, lows_within (bounds plant) (ordered_map _ plant.noise.items (λ i info at_i. ((rules.plants k plant at).noise_ranges i info at_i).1.0)))) in
+      let low = list_of [] p.plants (λ k plant w. IsWithin (bounds plant) w)
+      (λ k plant at. (
+        _,
+        lows_within (bounds plant) (ordered_map _ plant.noise.items
+            (λ i info at_i. ((rules.plants k plant at).noise_ranges i info at_i).1.0)),
+      )) in
       (low.0, record { each = low.1; bounded = low.2 })
 
   module _ (C : Configuration) (h : KeepsInvariant p j C) where
     can : CanGoOn p j C
     can = something_can_happen p j C rules.typed well h
 
-    node_case : (n : ℕ) (node : NodeInfo) → At p.nodes n node → HoldsNode p j C n ⊎ ((d : ℕ) → is_left C n ≡ true → IsLastDue node.period node.offset C.time d → d + j ≡ C.time → ⊥)
+    node_case : (n : ℕ) (node : NodeInfo) → At p.nodes n node
+        → HoldsNode p j C n ⊎ ((d : ℕ) → is_left C n ≡ true → IsLastDue node.period node.offset C.time d → d + j ≡ C.time → ⊥)
     node_case n node at =
         ⊎_elim
         (λ left. ⊎_elim
@@ -51,7 +58,8 @@ module _ (p : Tables) (j : ℕ) (rules : MeetsTableRules p) (well : IsWellFormed
         (λ rest. inr (λ d is last e. false≢true (sym rest ∙ is)))
         (cases_Bool (is_left C n))
 
-    decision_case : (m : ℕ) (a : ModuleInfo) → At p.modules m a → HoldsDecision p j C m ⊎ ((d : ℕ) → is_left_dm C m ≡ true → IsLastDue a.period a.offset C.time d → d + j ≡ C.time → ⊥)
+    decision_case : (m : ℕ) (a : ModuleInfo) → At p.modules m a
+        → HoldsDecision p j C m ⊎ ((d : ℕ) → is_left_dm C m ≡ true → IsLastDue a.period a.offset C.time d → d + j ≡ C.time → ⊥)
     decision_case m a at =
         ⊎_elim
         (λ left. ⊎_elim
@@ -64,15 +72,21 @@ module _ (p : Tables) (j : ℕ) (rules : MeetsTableRules p) (well : IsWellFormed
     pub ticks : MayTick p j C → (noise : List (List ℤ)) → AreDisturbances p noise → Happens p j C (Tick noise)
     ticks may noise are = can.tick noise may are.each are.bounded
 
-    held_or_ticks : ((noise : List (List ℤ)) → AreDisturbances p noise → Happens p j C (Tick noise)) ⊎ (((n : ℕ) × HoldsNode p j C n) ⊎ ((m : ℕ) × HoldsDecision p j C m))
+    held_or_ticks : ((noise : List (List ℤ)) → AreDisturbances p noise → Happens p j C (Tick noise))
+        ⊎ (((n : ℕ) × HoldsNode p j C n) ⊎ ((m : ℕ) × HoldsDecision p j C m))
     held_or_ticks =
         ⊎_elim
         (λ held. inr (inl (held.0, held.3)))
         (λ no_node. ⊎_elim
         (λ held. inr (inr (held.0, held.3)))
-        (λ no_module. inl (ticks (record { nodes = λ n node d at is last e. no_node n node at d is last e; modules = λ m a d at is last e. no_module m a at d is last e })))
-        (some_or_all p.modules (λ m a. HoldsDecision p j C m) (λ m a. (d : ℕ) → is_left_dm C m ≡ true → IsLastDue a.period a.offset C.time d → d + j ≡ C.time → ⊥) decision_case))
-        (some_or_all p.nodes (λ n node. HoldsNode p j C n) (λ n node. (d : ℕ) → is_left C n ≡ true → IsLastDue node.period node.offset C.time d → d + j ≡ C.time → ⊥) node_case)
+        (λ no_module. inl (ticks (record {
+          nodes = λ n node d at is last e. no_node n node at d is last e;
+          modules = λ m a d at is last e. no_module m a at d is last e;
+        })))
+        (some_or_all p.modules (λ m a. HoldsDecision p j C m) (λ m a. (d : ℕ) → is_left_dm C m ≡ true → IsLastDue a.period a.offset C.time d → d + j ≡ C.time
+        → ⊥) decision_case))
+        (some_or_all p.nodes (λ n node. HoldsNode p j C n) (λ n node. (d : ℕ) → is_left C n ≡ true → IsLastDue node.period node.offset C.time d → d + j ≡ C.time
+        → ⊥) node_case)
 
     body_case : (node : NodeInfo) → (node.body ≡ None) ⊎ ((v : _) × (node.body ≡ Some v))
     body_case node = body_of node.body refl
@@ -86,7 +100,10 @@ module _ (p : Tables) (j : ℕ) (rules : MeetsTableRules p) (well : IsWellFormed
         let lt = set_below C.left n left in
         let node = at_below p.nodes n (omega (arith, lt, h.sizes.left)) in
         ⊎_elim
-        (λ none. inr (replicate (length node.0.writes.items) None, can.guest n node.0 (replicate (length node.0.writes.items) None) node.1 none (length-replicate (length node.0.writes.items) None) left))
+        (λ none. inr (
+          replicate (length node.0.writes.items) None,
+          can.guest n node.0 (replicate (length node.0.writes.items) None) node.1 none (length-replicate (length node.0.writes.items) None) left,
+        ))
         (λ some. inl (can.code n node.0 some.0.items node.1 (some.0, some.1, refl) left))
         (body_case node.0)
 
@@ -101,7 +118,8 @@ module _ (p : Tables) (j : ℕ) (rules : MeetsTableRules p) (well : IsWellFormed
         ⊎_elim
         (λ (tick : (noise : List (List ℤ)) → AreDisturbances p noise → Happens p j C (Tick noise)). no' (Tick lowest.0) (tick lowest.0 lowest.1))
         (λ held. ⊎_elim
-        (λ (node : (n : ℕ) × HoldsNode p j C n). ⊎_elim (λ code. no' (Code node.0) code) (λ guest. no' (Guest node.0 guest.0) guest.1) (fires node.0 node.1.left))
+        (λ (node : (n : ℕ) × HoldsNode p j C n). ⊎_elim (λ code. no' (Code node.0) code) (λ guest. no' (Guest node.0 guest.0) guest.1)
+        (fires node.0 node.1.left))
         (λ (decision : (m : ℕ) × HoldsDecision p j C m). decides decision.0 decision.1.left (λ happens. no' (Decide decision.0) happens))
         held)
         held_or_ticks

@@ -37,18 +37,27 @@ module _ (g : Global) where
 
   -- a tick before any deadline to a time at which nothing is due: what was left stays left
   ticks_quietly :
-      (jitter t : ℕ) (a b m : Bool) (x z w : ℤ) → t < jitter → (IsDue 2 0 (suc t) → ⊥) → (IsDue 4 0 (suc t) → ⊥) → IsWithin (bounds (pos_plant g)) (w ∷ []) → next_state (pos_plant g) (x ∷ []) (pos 2 ∷ []) [] (w ∷ []) ≡ Ok (z ∷ []) →
+      (jitter t : ℕ) (a b m : Bool) (x z w : ℤ) → t < jitter → (IsDue 2 0 (suc t) → ⊥) → (IsDue 4 0 (suc t) → ⊥) → IsWithin (bounds (pos_plant g)) (w ∷ [])
+      → next_state (pos_plant g) (x ∷ []) (pos 2 ∷ []) [] (w ∷ []) ≡ Ok (z ∷ []) →
       Step (line g) jitter (line_at t (a ∷ b ∷ []) m x) (Tick ((w ∷ []) ∷ [])) (line_at (suc t) (a ∷ b ∷ []) m z)
   ticks_quietly jitter t a b m x z w early no_two no_four in_bounds next = record {
     may = record { nodes = λ n node d at is last e. omega (arith, e, early); modules = λ k info d at is last e. omega (arith, e, early) };
     each = refl;
     bounded = at_one (λ k plant. IsWithin (bounds plant) (slice_index_or ((w ∷ []) ∷ []) k [])) (pos_plant g) in_bounds;
-    moves = at_one (λ k plant. next_state plant (point_of (line_at t (a ∷ b ∷ []) m x) k) (commands plant (line_at t (a ∷ b ∷ []) m x)) (joined (seen_points plant (line_at t (a ∷ b ∷ []) m x))) (slice_index_or ((w ∷ []) ∷ []) k []) ≡ Ok (point_of (line_at (suc t) (a ∷ b ∷ []) m z) k)) (pos_plant g) next;
+    moves =
+        at_one (λ k plant. next_state plant (point_of (line_at t (a ∷ b ∷ []) m x) k) (commands plant (line_at t (a ∷ b ∷ []) m x))
+        (joined (seen_points plant (line_at t (a ∷ b ∷ []) m x))) (slice_index_or ((w ∷ []) ∷ []) k []) ≡ Ok (point_of (line_at (suc t) (a ∷ b ∷ []) m z) k))
+        (pos_plant g) next;
     time = refl;
-    left = at_two (λ n node. (is_left (line_at (suc t) (a ∷ b ∷ []) m z) n ≡ true) ↔ ((is_left (line_at t (a ∷ b ∷ []) m x) n ≡ true) ⊎ IsDue node.period node.offset (suc t))) (fast g) (slow g)
+    left =
+        at_two (λ n node. (is_left (line_at (suc t) (a ∷ b ∷ []) m z) n ≡ true)
+        ↔ ((is_left (line_at t (a ∷ b ∷ []) m x) n ≡ true) ⊎ IsDue node.period node.offset (suc t))) (fast g) (slow g)
         ((λ e. inl e), (λ o. ⊎_elim (λ e. e) (λ d. absurd (no_four d)) o))
         ((λ e. inl e), (λ o. ⊎_elim (λ e. e) (λ d. absurd (no_two d)) o));
-    left_dm = at_one (λ k info. (is_left_dm (line_at (suc t) (a ∷ b ∷ []) m z) k ≡ true) ↔ ((is_left_dm (line_at t (a ∷ b ∷ []) m x) k ≡ true) ⊎ IsDue info.period info.offset (suc t))) (nav g) ((λ e. inl e), (λ o. ⊎_elim (λ e. e) (λ d. absurd (no_four d)) o));
+    left_dm =
+        at_one (λ k info. (is_left_dm (line_at (suc t) (a ∷ b ∷ []) m z) k ≡ true)
+        ↔ ((is_left_dm (line_at t (a ∷ b ∷ []) m x) k ≡ true) ⊎ IsDue info.period info.offset (suc t))) (nav g)
+        ((λ e. inl e), (λ o. ⊎_elim (λ e. e) (λ d. absurd (no_four d)) o));
     sizes = record { left = refl; left_dm = refl; modes = refl; scalars = refl; locals = refl; points = refl };
     rest = refl;
   }
@@ -62,12 +71,18 @@ module _ (g : Global) where
 
   pub node : Step (line g) 1 (line_at 0 (false ∷ true ∷ []) false (pos 0)) (Tick ((pos 1 ∷ []) ∷ [])) (line_at 1 (false ∷ true ∷ []) false (pos 3))
   unfolding next_state
-  node = ticks_quietly 1 0 false true false (pos 0) (pos 3) (pos 1) (omega arith) (λ d. one_alone d.1) (λ d. one_alone d.1) (omega (arith, ints), omega (arith, ints), tt) refl
+  node =
+      ticks_quietly 1 0 false true false (pos 0) (pos 3) (pos 1) (omega arith) (λ d. one_alone d.1) (λ d. one_alone d.1)
+      (omega (arith, ints), omega (arith, ints), tt) refl
 
   pub decision : Step (line g) 1 (line_at 0 (false ∷ false ∷ []) true (pos 0)) (Tick ((pos 1 ∷ []) ∷ [])) (line_at 1 (false ∷ false ∷ []) true (pos 3))
   unfolding next_state
-  decision = ticks_quietly 1 0 false false true (pos 0) (pos 3) (pos 1) (omega arith) (λ d. one_alone d.1) (λ d. one_alone d.1) (omega (arith, ints), omega (arith, ints), tt) refl
+  decision =
+      ticks_quietly 1 0 false false true (pos 0) (pos 3) (pos 1) (omega arith) (λ d. one_alone d.1) (λ d. one_alone d.1)
+      (omega (arith, ints), omega (arith, ints), tt) refl
 
   pub three : Step (line g) 3 (line_at 2 (true ∷ false ∷ []) true (pos 4)) (Tick ((negsuc 0 ∷ []) ∷ [])) (line_at 3 (true ∷ false ∷ []) true (pos 5))
   unfolding next_state
-  three = ticks_quietly 3 2 true false true (pos 4) (pos 5) (negsuc 0) (omega arith) (λ d. one_alone d.1) (λ d. three_alone d.1) (omega (arith, ints), omega (arith, ints), tt) refl
+  three =
+      ticks_quietly 3 2 true false true (pos 4) (pos 5) (negsuc 0) (omega arith) (λ d. one_alone d.1) (λ d. three_alone d.1)
+      (omega (arith, ints), omega (arith, ints), tt) refl

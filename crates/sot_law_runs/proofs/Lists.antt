@@ -7,7 +7,8 @@ use Rattle.sot_lists.specs.Places.{At}
 use Rattle.sot_box.specs.Sides.{Side, AreOrdered}
 
 -- some element is of the one kind, or all are of the other
-pub some_or_all : {A : Type 0} (xs : List A) (P Q : ℕ → A → Type 0) → ((k : ℕ) (x : A) → At xs k x → P k x ⊎ Q k x) → ((k : ℕ) × (x : A) × At xs k x × P k x) ⊎ ((k : ℕ) (x : A) → At xs k x → Q k x)
+pub some_or_all : {A : Type 0} (xs : List A) (P Q : ℕ → A → Type 0) → ((k : ℕ) (x : A) → At xs k x → P k x ⊎ Q k x)
+    → ((k : ℕ) × (x : A) × At xs k x × P k x) ⊎ ((k : ℕ) (x : A) → At xs k x → Q k x)
 some_or_all [] P Q h = inr (λ k x at. absurd (none-some x at))
 some_or_all (y ∷ ys) P Q h =
     ⊎_elim

@@ -51,21 +51,26 @@ pub points_open : PointsOpen
 points_open p start starts = (opening_at p start, opens p start starts)
 
 -- two lists that agree at each place of a third one of their length are one list
-same_flags : {A : Type 0} (xs : List A) (ys zs : List Bool) → length ys ≡ length xs → length zs ≡ length xs → ((k : ℕ) (x : A) → At xs k x → slice_index_or ys k false ≡ slice_index_or zs k false) → ys ≡ zs
+same_flags : {A : Type 0} (xs : List A) (ys zs : List Bool) → length ys ≡ length xs → length zs ≡ length xs
+    → ((k : ℕ) (x : A) → At xs k x → slice_index_or ys k false ≡ slice_index_or zs k false) → ys ≡ zs
 same_flags xs ys zs a b h = ext_get_or false ys zs (a ∙ sym b) (λ k lt. let here = at_below xs k (omega (arith, lt, a)) in h k here.0 here.1)
 
 pub openings_are_unique : OpeningsAreUnique
 openings_are_unique p start C D c d =
     same_configuration C D (c.time ∙ sym d.time)
-    (same_flags p.nodes C.left D.left c.sizes.left d.sizes.left (λ n node at. same_flag (is_left C n) (is_left D n) (IsDue node.period node.offset 0) (c.left n node at) (d.left n node at)))
-    (same_flags p.modules C.left_dm D.left_dm c.sizes.left_dm d.sizes.left_dm (λ m a at. same_flag (is_left_dm C m) (is_left_dm D m) (IsDue a.period a.offset 0) (c.left_dm m a at) (d.left_dm m a at)))
+    (same_flags p.nodes C.left D.left c.sizes.left d.sizes.left
+    (λ n node at. same_flag (is_left C n) (is_left D n) (IsDue node.period node.offset 0) (c.left n node at) (d.left n node at)))
+    (same_flags p.modules C.left_dm D.left_dm c.sizes.left_dm d.sizes.left_dm
+    (λ m a at. same_flag (is_left_dm C m) (is_left_dm D m) (IsDue a.period a.offset 0) (c.left_dm m a at) (d.left_dm m a at)))
     (c.modes ∙ sym d.modes) (c.scalars ∙ sym d.scalars) (c.locals ∙ sym d.locals) (c.points ∙ sym d.points)
   where
-    same_configuration : (C D : Configuration) → C.time ≡ D.time → C.left ≡ D.left → C.left_dm ≡ D.left_dm → C.modes ≡ D.modes → C.scalars ≡ D.scalars → C.locals ≡ D.locals → C.points ≡ D.points → C ≡ D
+    same_configuration : (C D : Configuration) → C.time ≡ D.time → C.left ≡ D.left → C.left_dm ≡ D.left_dm → C.modes ≡ D.modes → C.scalars ≡ D.scalars
+        → C.locals ≡ D.locals → C.points ≡ D.points → C ≡ D
     same_configuration C D t l m o s k q i = record { time = t i; left = l i; left_dm = m i; modes = o i; scalars = s i; locals = k i; points = q i }
 
 -- a region with a box has a point as wide as its boxes
-region_point : (region : List (List Side)) (width : ℕ) → region ≢ [] → ((i : ℕ) (b : List Side) → At region i b → (length b ≡ width) × AreOrdered b) → (s : List ℤ) × (length s ≡ width) × IsInRegion region s
+region_point : (region : List (List Side)) (width : ℕ) → region ≢ [] → ((i : ℕ) (b : List Side) → At region i b → (length b ≡ width) × AreOrdered b)
+    → (s : List ℤ) × (length s ≡ width) × IsInRegion region s
 region_point [] width some each = absurd (some refl)
 region_point (b ∷ bs) width some each = (let first = each 0 b refl in (lows b, length-map b (λ r. r.lo) ∙ first.0, inl (lows_within b first.1)))
 
@@ -84,7 +89,8 @@ module _ (p : Tables) (j : ℕ) (cert : Cert) (rules : MeetsTableRules p) (c : I
         record {
           width = point.1 ∙ region.width ∙ ap (λ i. Rattle.sot_lang.specs.OwnerNames.width_of p.plants i) owner.3 ∙ width_at p.plants k plant at;
           safer = λ m a at_m is.
-              let same : owner.1 ≡ a = same_module p.modules owner.0 m owner.1 a (c.own_plant owner.0 m owner.1 a owner.2 at_m (owner.3 ∙ sym is)) owner.2 at_m in
+              let same : owner.1 ≡ a = same_module p.modules owner.0 m owner.1 a (c.own_plant owner.0 m owner.1 a owner.2 at_m (owner.3 ∙ sym is)) owner.2 at_m
+              in
               subst (λ x. IsInRegion x.safer.boxes point.0) same point.2;
         },
       )

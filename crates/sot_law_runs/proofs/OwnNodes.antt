@@ -17,7 +17,8 @@ module _ (g : Global) where
     fires = record { was_left = refl; time = refl; left = refl; left_dm = refl; modes = refl; points = refl; locals_set = refl; scalars = refl };
   }
 
-  pub advanced_disabled : Step (two_lines g) 0 (two_lines_in Sc Ac all_left (pos 0) (pos 0)) (Guest 0 (Some (pos 2) ∷ [])) (two_lines_in Sc Ac fired_0 (pos 0) (pos 0))
+  pub advanced_disabled : Step (two_lines g) 0 (two_lines_in Sc Ac all_left (pos 0) (pos 0)) (Guest 0 (Some (pos 2) ∷ []))
+      (two_lines_in Sc Ac fired_0 (pos 0) (pos 0))
   advanced_disabled = record {
     node = fast g;
     is = refl;
@@ -50,7 +51,8 @@ module _ (g : Global) where
     fires = record { was_left = refl; time = refl; left = refl; left_dm = refl; modes = refl; points = refl; locals_set = refl; scalars = refl };
   }
 
-  pub second_advanced : Step (two_lines g) 0 (two_lines_in Sc Ac all_left (pos 0) (pos 0)) (Guest 2 (Some (pos 2) ∷ [])) (two_lines_in Sc Ac fired_2 (pos 0) (pos 2))
+  pub second_advanced : Step (two_lines g) 0 (two_lines_in Sc Ac all_left (pos 0) (pos 0)) (Guest 2 (Some (pos 2) ∷ []))
+      (two_lines_in Sc Ac fired_2 (pos 0) (pos 2))
   second_advanced = record {
     node = fast_2 g;
     is = refl;
@@ -59,7 +61,8 @@ module _ (g : Global) where
     fires = record { was_left = refl; time = refl; left = refl; left_dm = refl; modes = refl; points = refl; locals_set = refl; scalars = refl };
   }
 
-  pub second_advanced_disabled : Step (two_lines g) 0 (two_lines_in Ac Sc all_left (pos 0) (pos 0)) (Guest 2 (Some (pos 2) ∷ [])) (two_lines_in Ac Sc fired_2 (pos 0) (pos 0))
+  pub second_advanced_disabled : Step (two_lines g) 0 (two_lines_in Ac Sc all_left (pos 0) (pos 0)) (Guest 2 (Some (pos 2) ∷ []))
+      (two_lines_in Ac Sc fired_2 (pos 0) (pos 0))
   second_advanced_disabled = record {
     node = fast_2 g;
     is = refl;

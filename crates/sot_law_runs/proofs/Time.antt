@@ -23,7 +23,8 @@ module _ (p : Tables) (j : ℕ) (rules : MeetsTableRules p) (well : IsWellFormed
   one_more C D e time s r = record { events = e ∷ r.events; Ds = D ∷ r.Ds; run = (s, r.run); place = suc r.place; D = r.D; there = r.there; is = r.is }
 
   -- a firing leaves less, at the same time
-  fires_less : (C D : Configuration) (n : ℕ) (node : _) (locals : _) (draft : _) → Fires p n node locals draft C D → (suc (left_count D) ≡ left_count C) × (D.time ≡ C.time)
+  fires_less : (C D : Configuration) (n : ℕ) (node : _) (locals : _) (draft : _) → Fires p n node locals draft C D
+      → (suc (left_count D) ≡ left_count C) × (D.time ≡ C.time)
   unfolding left_count
   fires_less C D n node locals draft f =
       let less = set_less C.left n f.was_left in
@@ -59,7 +60,8 @@ module _ (p : Tables) (j : ℕ) (rules : MeetsTableRules p) (well : IsWellFormed
       happens
 
   settled_decision : (C : Configuration) (m : ℕ) → Happens p j C (Decide m) → Settles C
-  settled_decision C m happens = (let f = decides_less C happens.0 m happens.2 in record { e = Decide m; D = happens.0; step = happens.2; less = f.0; time = f.1 })
+  settled_decision C m happens =
+      (let f = decides_less C happens.0 m happens.2 in record { e = Decide m; D = happens.0; step = happens.2; less = f.0; time = f.1 })
 
   -- something is left, and then it is not so that nothing settles; or a tick may come
   settles_or_ticks : (C : Configuration) → KeepsInvariant p j C → ((Settles C → ⊥) → ⊥) ⊎ MayTick p j C
@@ -68,7 +70,8 @@ module _ (p : Tables) (j : ℕ) (rules : MeetsTableRules p) (well : IsWellFormed
       ⊎_elim
       (λ (node : (n : ℕ) × (is_left C n ≡ true)). inl (λ no'. no' (settled_node C node.0 (on.node node.0 node.1))))
       (λ no_node. ⊎_elim
-      (λ (decision : (m : ℕ) × (is_left_dm C m ≡ true)). inl (λ no'. on.decision decision.0 decision.1 (λ happens. no' (settled_decision C decision.0 happens))))
+      (λ (decision : (m : ℕ) × (is_left_dm C m ≡ true)). inl
+      (λ no'. on.decision decision.0 decision.1 (λ happens. no' (settled_decision C decision.0 happens))))
       (λ no_module. inr (record { nodes = λ n node d at is last. absurd (no_node n is); modules = λ m a d at is last. absurd (no_module m is) }))
       (some_flag C.left_dm))
       (some_flag C.left)
@@ -80,7 +83,8 @@ module _ (p : Tables) (j : ℕ) (rules : MeetsTableRules p) (well : IsWellFormed
         let low = lowest p j rules well in
         let tick = ticks p j rules well C h may low.0 low.1 in
         let later : tick.0.time + u ≡ C.time + suc u = omega (arith, tick.2.time) in
-        next tick.0 (steps_keep_invariant p j C tick.0 (Tick low.0) rules.typed well h tick.2) (λ r. no' (one_more C tick.0 (Tick low.0) (C.time + suc u) tick.2 (subst (ComesToTime p j tick.0) later r)))
+        next tick.0 (steps_keep_invariant p j C tick.0 (Tick low.0) rules.typed well h tick.2)
+        (λ r. no' (one_more C tick.0 (Tick low.0) (C.time + suc u) tick.2 (subst (ComesToTime p j tick.0) later r)))
 
     settles : (k : ℕ) (C : Configuration) → left_count C ≤ k → KeepsInvariant p j C → (ComesToTime p j C (C.time + suc u) → ⊥) → ⊥
     settles zero C le h no' =
@@ -92,7 +96,8 @@ module _ (p : Tables) (j : ℕ) (rules : MeetsTableRules p) (well : IsWellFormed
         ⊎_elim
         (λ (some : (Settles C → ⊥) → ⊥). some (λ s.
         let same : s.D.time + suc u ≡ C.time + suc u = ap (λ t. t + suc u) s.time in
-        settles k s.D (omega (arith, s.less, le)) (steps_keep_invariant p j C s.D s.e rules.typed well h s.step) (λ r. no' (one_more C s.D s.e (C.time + suc u) s.step (subst (ComesToTime p j s.D) same r)))))
+        settles k s.D (omega (arith, s.less, le)) (steps_keep_invariant p j C s.D s.e rules.typed well h s.step)
+        (λ r. no' (one_more C s.D s.e (C.time + suc u) s.step (subst (ComesToTime p j s.D) same r)))))
         (λ may. tick_on C h may no')
         (settles_or_ticks C h)
 

@@ -12,22 +12,36 @@ use Rattle.sot_lang.specs.Tables.{Tables}
 use Rattle.sot_lang.specs.Line.{vec, cmd, cmd_number, pos_plant, fast, slow, nav}
 use Rattle.sot_world.specs.declared.mode.Mode.{Mode}
 use Rattle.sot_world.specs.Configurations.{Configuration}
-use Rattle.sot_world.specs.Examples.{settled, relay, copy, far_copy, twins, twins_at, twins_idle, swapping, divided_plant}
+use Rattle.sot_world.specs.Examples.{settled, relay, copy, far_copy, twins, twins_at, twins_idle}
+use Rattle.sot_world.specs.Examples.{swapping, divided_plant}
 
--- the relay at a time, its node left or not, with the number 5 on its environment topic and a number on the other
+-- the relay at a time, its node left or not, with the number 5 on its environment topic and a
+-- number on the other
 abbrev pub relay_at : ℕ → Bool → ℤ → Configuration
-relay_at t left m = record { time = t; left = left ∷ []; left_dm = []; modes = []; scalars = pos 5 ∷ m ∷ []; locals = [] ∷ []; points = [] }
+relay_at t left m =
+    record {
+      time = t;
+      left = left ∷ [];
+      left_dm = [];
+      modes = [];
+      scalars = pos 5 ∷ m ∷ [];
+      locals = [] ∷ [];
+      points = [];
+    }
 
--- the running example at a time, with nodes left to fire, its decision left or not, and the plant at a point; the command is 2
+-- the running example at a time, with nodes left to fire, its decision left or not, and the plant
+-- at a point; the command is 2
 abbrev pub line_at : ℕ → List Bool → Bool → ℤ → Configuration
-line_at t left left_dm x = record settled { time = t; left = left; left_dm = left_dm ∷ []; points = (x ∷ []) ∷ [] }
+line_at t left left_dm x =
+    record settled { time = t; left = left; left_dm = left_dm ∷ []; points = (x ∷ []) ∷ [] }
 
 -- a program with nothing in it, and the one configuration that it has at a time
 abbrev pub nothing : Tables
 nothing = record { topics = []; scalars = []; plants = []; nodes = []; modules = [] }
 
 abbrev pub nothing_at : ℕ → Configuration
-nothing_at t = record { time = t; left = []; left_dm = []; modes = []; scalars = []; locals = []; points = [] }
+nothing_at t =
+    record { time = t; left = []; left_dm = []; modes = []; scalars = []; locals = []; points = [] }
 
 -- the two plants that see each other, at two points
 abbrev pub twins_in : ℤ → ℤ → Configuration
@@ -47,9 +61,19 @@ abbrev pub twins_rest : ℤ → ℤ → Configuration
 twins_rest x y = record (twins_idle 1) { points = (x ∷ []) ∷ (y ∷ []) ∷ [] }
 
 abbrev pub two_nodes_at : ℤ → Configuration
-two_nodes_at e = record { time = 1; left = false ∷ false ∷ []; left_dm = []; modes = []; scalars = e ∷ pos 0 ∷ []; locals = [] ∷ [] ∷ []; points = [] }
+two_nodes_at e =
+    record {
+      time = 1;
+      left = false ∷ false ∷ [];
+      left_dm = [];
+      modes = [];
+      scalars = e ∷ pos 0 ∷ [];
+      locals = [] ∷ [] ∷ [];
+      points = [];
+    }
 
--- the running example twice over in one program: a second topic, plant, advanced node (2), safe node (3) and module beside the first ones
+-- the running example twice over in one program: a second topic, plant, advanced node (2), safe
+-- node (3) and module beside the first ones
 module _ (g : Global) where
   abbrev pub cmd_2 : TopicInfo
   cmd_2 = record { name = 99 ∷ 50 ∷ []; outside = false; first = 1; count = 1 }
@@ -61,10 +85,20 @@ module _ (g : Global) where
   plant_2 = record (pos_plant g) { name = 112 ∷ 50 ∷ []; inputs = vec g (1 ∷ []) refl }
 
   abbrev pub fast_2 : NodeInfo
-  fast_2 = record (fast g) { name = 102 ∷ 50 ∷ []; reads = vec g (State 1 0 ∷ []) refl; writes = vec g (1 ∷ []) refl }
+  fast_2 =
+      record (fast g) {
+        name = 102 ∷ 50 ∷ [];
+        reads = vec g (State 1 0 ∷ []) refl;
+        writes = vec g (1 ∷ []) refl;
+      }
 
   abbrev pub slow_2 : NodeInfo
-  slow_2 = record (slow g) { name = 115 ∷ 50 ∷ []; reads = vec g (State 1 0 ∷ []) refl; writes = vec g (1 ∷ []) refl }
+  slow_2 =
+      record (slow g) {
+        name = 115 ∷ 50 ∷ [];
+        reads = vec g (State 1 0 ∷ []) refl;
+        writes = vec g (1 ∷ []) refl;
+      }
 
   abbrev pub nav_2 : ModuleInfo
   nav_2 = record (nav g) { name = 110 ∷ 50 ∷ []; ac = 2; sc = 3; plant = 1 }
@@ -78,7 +112,8 @@ module _ (g : Global) where
     modules = nav g ∷ nav_2 ∷ [];
   }
 
--- both plants at 20, no decision left, with the modes of the two modules, what is left to fire, and the two commands
+-- both plants at 20, no decision left, with the modes of the two modules, what is left to fire, and
+-- the two commands
 abbrev pub two_lines_in : Mode → Mode → List Bool → ℤ → ℤ → Configuration
 two_lines_in first second left c d = record {
   time = 0;

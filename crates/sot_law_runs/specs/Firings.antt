@@ -1,5 +1,6 @@
 -- How often nodes fire and modules decide in a run.
-use Rattle.std.specs.Prelude.{ℕ, suc, ℤ, Bool, true, false, ◌==◌, if◌then◌else◌, List, [], ◌∷◌, take, ◌+◌, ◌<◌}
+use Rattle.std.specs.Prelude.{ℕ, suc, ℤ, Bool, true, false, ◌==◌, if◌then◌else◌, List, [], ◌∷◌}
+use Rattle.std.specs.Prelude.{take, ◌+◌, ◌<◌}
 use Rattle.sot_lists.specs.Places.{At}
 use Rattle.sot_lang.specs.declared.tables.NodeInfo.{NodeInfo}
 use Rattle.sot_lang.specs.declared.tables.ModuleInfo.{ModuleInfo}
@@ -34,12 +35,18 @@ abbrev pub one_if : Bool → ℕ
 one_if true = 1
 one_if false = 0
 
--- at each place of a run from an opening a node has been due as often as it has fired so far, and once more where it is left; and so for the decisions of a module. Offsets and the jitter are below the periods
+-- at each place of a run from an opening a node has been due as often as it has fired so far, and
+-- once more where it is left; and so for the decisions of a module. Offsets and the jitter are
+-- below the periods
 abbrev pub FiringsAreDueTimes : Type 0
 FiringsAreDueTimes =
-    (p : Tables) (jitter : ℕ) (start : List (List ℤ)) (C : Configuration) (events : List Event) (Ds : List Configuration) (i : ℕ) (D : Configuration) →
+    (p : Tables) (jitter : ℕ) (start : List (List ℤ)) (C : Configuration) (events : List Event)
+    (Ds : List Configuration) (i : ℕ) (D : Configuration) →
     IsOpening p start C → Run p jitter C events Ds → At (C ∷ Ds) i D →
-    ((n : ℕ) (node : NodeInfo) → At p.nodes n node → node.offset < node.period → jitter < node.period →
-    IsDueCount node.period node.offset D.time (count_of (is_firing n) (take i events) + one_if (is_left D n)))
+    ((n : ℕ) (node : NodeInfo) → At p.nodes n node → node.offset < node.period
+    → jitter < node.period →
+    IsDueCount node.period node.offset D.time
+    (count_of (is_firing n) (take i events) + one_if (is_left D n)))
     × ((m : ℕ) (a : ModuleInfo) → At p.modules m a → a.offset < a.period → jitter < a.period →
-    IsDueCount a.period a.offset D.time (count_of (is_decision m) (take i events) + one_if (is_left_dm D m)))
+    IsDueCount a.period a.offset D.time
+    (count_of (is_decision m) (take i events) + one_if (is_left_dm D m)))

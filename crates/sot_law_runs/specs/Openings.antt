@@ -11,13 +11,18 @@ use Rattle.sot_law_runs.specs.GoingOn.{ComesToTime}
 
 -- at any points, one a plant and each as wide as its plant, there is an opening
 abbrev pub PointsOpen : Type 0
-PointsOpen = (p : Tables) (start : List (List ℤ)) → AreStarts p start → (C : Configuration) × IsOpening p start C
+PointsOpen =
+    (p : Tables) (start : List (List ℤ)) → AreStarts p start
+    → (C : Configuration) × IsOpening p start C
 
 -- and there is one at most
 abbrev pub OpeningsAreUnique : Type 0
-OpeningsAreUnique = (p : Tables) (start : List (List ℤ)) (C D : Configuration) → IsOpening p start C → IsOpening p start D → C ≡ D
+OpeningsAreUnique =
+    (p : Tables) (start : List (List ℤ)) (C D : Configuration) → IsOpening p start C
+    → IsOpening p start D → C ≡ D
 
--- an opening at points in the safer regions, which is safe, and from which it is not so that no run comes to some time
+-- an opening at points in the safer regions, which is safe, and from which it is not so that no run
+-- comes to some time
 pub record OpensSafely (p : Tables) (jitter : ℕ) : Type 0 where
   pub start : List (List ℤ)
   pub C : Configuration
@@ -28,4 +33,6 @@ pub record OpensSafely (p : Tables) (jitter : ℕ) : Type 0 where
 
 -- every well-certified program has such an opening
 abbrev pub CertifiedProgramsOpen : Type 0
-CertifiedProgramsOpen = (p : Tables) (jitter : ℕ) (cert : Cert) → MeetsTableRules p → IsWellCertified p jitter cert → OpensSafely p jitter
+CertifiedProgramsOpen =
+    (p : Tables) (jitter : ℕ) (cert : Cert) → MeetsTableRules p → IsWellCertified p jitter cert
+    → OpensSafely p jitter

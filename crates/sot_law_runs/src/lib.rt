@@ -1,5 +1,5 @@
-//! Facts and laws that tie the meaning of programs down: facts that a wrong definition would make false, and laws that say that there is
-//! something to speak of.
+//! Facts and laws that tie the meaning of programs down: facts that a wrong definition would make
+//! false, and laws that say that there is something to speak of.
 #![tactic(auto)]
 
 mod facts;

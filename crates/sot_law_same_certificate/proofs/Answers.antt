@@ -69,6 +69,8 @@ module _ (t u : Tables) (same : tables_seen t ≡ tables_seen u) where
 pub answers_alike : AnswersAlike
 answers_alike t u (Ok cert) same h = ((without_cells_carried t u same).passes h.0, made_for_alike t u same cert h.1)
 answers_alike t u (Err (Refused r)) same h = (without_cells_carried t u same).refuses (refusal_view r) h
-answers_alike t u (Err (Point m reach s)) same h = ((without_cells_carried t u same).passes h.0, h.1, before_alike t u same m h.1 reach h.2, fails_alike t u same h.1 reach s h.3)
-answers_alike t u (Err (TooMany m reach)) same h = ((without_cells_carried t u same).passes h.0, h.1, before_alike t u same m h.1 reach h.2, too_many_alike t u same h.1 reach h.3)
+answers_alike t u (Err (Point m reach s)) same h =
+    ((without_cells_carried t u same).passes h.0, h.1, before_alike t u same m h.1 reach h.2, fails_alike t u same h.1 reach s h.3)
+answers_alike t u (Err (TooMany m reach)) same h =
+    ((without_cells_carried t u same).passes h.0, h.1, before_alike t u same m h.1 reach h.2, too_many_alike t u same h.1 reach h.3)
 answers_alike t u (Err Memory) same h = tt

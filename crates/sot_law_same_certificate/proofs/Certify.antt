@@ -1,7 +1,8 @@
 -- What is answered for tables that look the same is one answer, but for want of memory.
 use Rattle.std.proofs.Common.{◌≡◌, Ok, Err, refl, sym, ap, ◌∙◌}
 use Rattle.std.specs.Prelude.{◌≢◌}
-use Rattle.sot_tube.specs.Refusals.{Refusal, Periods, Outputs, EmptyRegion, ClosedGap, ClosedTrap, ClosedLeaves, ReachGap, ReachLeaves, ReachTrap, SharedNode, SharedOutput, SharedPlant, ForeignInput, CodeMayTrap, NoCells}
+use Rattle.sot_tube.specs.Refusals.{Refusal, Periods, Outputs, EmptyRegion, ClosedGap, ClosedTrap, ClosedLeaves, ReachGap, ReachLeaves, ReachTrap, SharedNode}
+use Rattle.sot_tube.specs.Refusals.{SharedOutput, SharedPlant, ForeignInput, CodeMayTrap, NoCells}
 use Rattle.sot_rta.specs.declared.refusal.Refusal.{Refusal as CodeRefusal}
 use Rattle.sot_rta.specs.declared.refusal.Refusal.TheVariants as codes
 use Rattle.sot_rta.specs.Refused.{refusal_view}

@@ -9,13 +9,15 @@ use Rattle.sot_iv.specs.TermIntervals.{OrMayTrap}
 use Rattle.sot_iv.specs.BodyIntervals.{Intervals}
 use Rattle.sot_iv.specs.TrapFree.{IsSafeExecution}
 use Rattle.sot_tube.specs.Checks.{Check, and_then, for_each}
-use Rattle.sot_tube.specs.Verdict.{ShareNode, ShareOutput, SharePlant, IsForeignInput, IsLonger, IsWrittenByOne, shared_node, shared_output, shared_plant, foreign_input, composition, periods, outputs, boxes, trap_free, code}
+use Rattle.sot_tube.specs.Verdict.{ShareNode, ShareOutput, SharePlant, IsForeignInput, IsLonger, IsWrittenByOne, shared_node, shared_output, shared_plant}
+use Rattle.sot_tube.specs.Verdict.{foreign_input, composition, periods, outputs, boxes, trap_free, code}
 use Rattle.sot_typing.specs.Formulas.{deeds_view}
 use Rattle.sot_typing.specs.Resolved.{NodeTable, node_seen, tables_seen}
 use Rattle.sot_law_same_tables.proofs.Seen.{module_back, plant_back, node_back}
 use Rattle.sot_law_same_tables.proofs.Plants.{along}
 use Rattle.sot_law_same_tables.proofs.Nodes.{coded_alike, execution_alike}
-use Rattle.sot_law_same_tables.proofs.Modules.{writes_alike, input_alike, partners_alike, own_node_alike, own_output_alike, own_plant_alike, own_inputs_alike, periods_alike, outputs_alike}
+use Rattle.sot_law_same_tables.proofs.Modules.{writes_alike, input_alike, partners_alike, own_node_alike, own_output_alike, own_plant_alike, own_inputs_alike}
+use Rattle.sot_law_same_tables.proofs.Modules.{periods_alike, outputs_alike}
 use Rattle.sot_law_same_tables.proofs.Cells.{hulls_alike, trap_free_alike}
 use Rattle.sot_certify.specs.Conditions.{frame, without_cells}
 use Rattle.sot_law_same_certificate.proofs.Carried.{Carried, both_carried, each_carried, the_carried, least_carried, clash_carried}
@@ -31,8 +33,16 @@ module _ (t u : Tables) (same : tables_seen t ≡ tables_seen u) where
   share_output_alike : (k n n' : ℕ) → ShareOutput t k n n' → ShareOutput u k n n'
   share_output_alike k n n' h =
       let x = node_back u t (sym same) n h.0 h.2 in
-      let z = node_back u t (sym same) n' h.1 h.3 in
-      (x.0, z.0, x.1, z.1, writes_alike t u same h.0 x.0 k (sym x.2) h.4, writes_alike t u same h.1 z.0 k (sym z.2) h.5, λ p. h.6 (partners_alike u t (sym same) n n' p))
+      let z = node_back u t (sym same) n' h.1 h.3 in (
+        x.0,
+        z.0,
+        x.1,
+        z.1,
+        writes_alike t u same h.0 x.0 k (sym x.2) h.4,
+        writes_alike t u same h.1 z.0 k (sym z.2) h.5,
+        λ p.
+            h.6 (partners_alike u t (sym same) n n' p),
+      )
 
   foreign_alike : (a : ModuleInfo) (k : ℕ) → IsForeignInput t a k → IsForeignInput u a k
   foreign_alike a k h =
@@ -59,7 +69,8 @@ module _ (t u : Tables) (same : tables_seen t ≡ tables_seen u) where
             h.4,
       )
 
-  execution_carried : (x y : NodeInfo) (us acts : List Act) (o : OrMayTrap Intervals) → node_seen x ≡ node_seen y → deeds_view us ≡ deeds_view acts → IsSafeExecution t x us o → IsSafeExecution u y acts o
+  execution_carried : (x y : NodeInfo) (us acts : List Act) (o : OrMayTrap Intervals) → node_seen x ≡ node_seen y → deeds_view us ≡ deeds_view acts
+      → IsSafeExecution t x us o → IsSafeExecution u y acts o
   execution_carried x y us acts o alike deeds h = (h.0, hulls_alike t u same h.0 h.1, along (execution_alike t u same x y alike us acts h.0 o deeds) h.2)
 
 -- each check
@@ -67,19 +78,34 @@ module _ (t u : Tables) (same : tables_seen t ≡ tables_seen u) where
   shared_node_carried : Carried (shared_node t) (shared_node u)
   shared_node_carried = record {
     passes = own_node_alike t u same;
-    refuses = λ r h. (h.0, h.1, h.2, clash_carried (ShareNode t) (ShareNode u) (share_node_alike t u same) (share_node_alike u t (sym same)) h.0 h.1 h.2 h.3, h.4);
+    refuses =
+        λ r h. (h.0, h.1, h.2, clash_carried (ShareNode t) (ShareNode u) (share_node_alike t u same) (share_node_alike u t (sym same)) h.0 h.1 h.2 h.3, h.4);
   }
 
   shared_output_carried : Carried (shared_output t) (shared_output u)
   shared_output_carried = record {
     passes = own_output_alike t u same;
-    refuses = λ r h. (h.0, h.1, h.2, clash_carried (ShareOutput t) (ShareOutput u) (share_output_alike t u same) (share_output_alike u t (sym same)) h.0 h.1 h.2 h.3, h.4);
+    refuses =
+        λ r h. (
+          h.0,
+          h.1,
+          h.2,
+          clash_carried (ShareOutput t) (ShareOutput u) (share_output_alike t u same) (share_output_alike u t (sym same)) h.0 h.1 h.2 h.3,
+          h.4,
+        );
   }
 
   shared_plant_carried : Carried (shared_plant t) (shared_plant u)
   shared_plant_carried = record {
     passes = own_plant_alike t u same;
-    refuses = λ r h. (h.0, h.1, h.2, clash_carried (SharePlant t) (SharePlant u) (share_plant_alike t u same) (share_plant_alike u t (sym same)) h.0 h.1 h.2 h.3, h.4);
+    refuses =
+        λ r h. (
+          h.0,
+          h.1,
+          h.2,
+          clash_carried (SharePlant t) (SharePlant u) (share_plant_alike t u same) (share_plant_alike u t (sym same)) h.0 h.1 h.2 h.3,
+          h.4,
+        );
   }
 
   foreign_carried : (m : ℕ) (a : ModuleInfo) → Carried (foreign_input t m a) (foreign_input u m a)
@@ -113,7 +139,8 @@ module _ (t u : Tables) (same : tables_seen t ≡ tables_seen u) where
       (both_carried (periods t m a) (outputs t m a) (periods u m a) (outputs u m a) (periods_carried m a) (outputs_carried m a))
       (boxes_carried m a)
 
-  trap_free_carried : (n : ℕ) (x y : NodeInfo) → node_seen x ≡ node_seen y → (us acts : List Act) → deeds_view us ≡ deeds_view acts → Carried (trap_free t n x us) (trap_free u n y acts)
+  trap_free_carried : (n : ℕ) (x y : NodeInfo) → node_seen x ≡ node_seen y → (us acts : List Act) → deeds_view us ≡ deeds_view acts
+      → Carried (trap_free t n x us) (trap_free u n y acts)
   trap_free_carried n x y alike us acts deeds = record {
     passes = trap_free_alike t u same x y us acts alike deeds;
     refuses = λ r h. (h.0, execution_carried t u same x y us acts (Err h.0) alike deeds h.1, h.2);
@@ -128,7 +155,8 @@ module _ (t u : Tables) (same : tables_seen t ≡ tables_seen u) where
 
 -- checks of each module, and of each node
 module _ (t u : Tables) (same : tables_seen t ≡ tables_seen u) where
-  pub modules_carried : (f g : ℕ → ModuleInfo → Check) → ((m : ℕ) (a : ModuleInfo) → Carried (f m a) (g m a)) → Carried (for_each t.modules f) (for_each u.modules g)
+  pub modules_carried : (f g : ℕ → ModuleInfo → Check) → ((m : ℕ) (a : ModuleInfo) → Carried (f m a) (g m a))
+      → Carried (for_each t.modules f) (for_each u.modules g)
   modules_carried f g each =
       each_carried (λ a b. a ≡ b) t.modules u.modules f g
       (λ m a at. (a, module_back u t (sym same) m a at, refl))

@@ -38,7 +38,8 @@ module _ (t u : Tables) (same : tables_seen t ≡ tables_seen u) where
   width_same : (k : ℕ) → width_of t.plants k ≡ width_of u.plants k
   width_same k = width_seen t.plants k ∙ ap (λ xs. states_of xs k) (plants_seen_same t u same) ∙ sym (width_seen u.plants k)
 
-  one_boxes : (a : ModuleInfo) (x y : BoxList) → AreCellsOf t a.plant x → AreCellsOf u a.plant y → x.boxes ≡ y.boxes → x.settled ≡ true → y.settled ≡ true → x ≡ y
+  one_boxes : (a : ModuleInfo) (x y : BoxList) → AreCellsOf t a.plant x → AreCellsOf u a.plant y → x.boxes ≡ y.boxes → x.settled ≡ true → y.settled ≡ true
+      → x ≡ y
   one_boxes a x y fits fits' boxes settled settled' = same_boxes x y (fits.width ∙ width_same a.plant ∙ sym fits'.width) boxes (settled ∙ sym settled')
 
   module _ (c d : Cert) (fits : FitsTables t c) (fits' : FitsTables u d) (h : Certifies t (Ok c)) (h' : Certifies u (Ok d)) where
@@ -48,8 +49,10 @@ module _ (t u : Tables) (same : tables_seen t ≡ tables_seen u) where
         let here = h.1.cells m a at in
         let there = h'.1.cells m a at' in
         let boxes = cells_alike t u c d m a here.0 there.0 same h h' at here.1 there.1 in
-        let closed = one_boxes a here.0.closed there.0.closed (fits.closed m a here.0 at here.1) (fits'.closed m a there.0 at' there.1) boxes.0 here.2.closed_settled there.2.closed_settled in
-        let reach = one_boxes a here.0.reach there.0.reach (fits.reach m a here.0 at here.1) (fits'.reach m a there.0 at' there.1) boxes.1 here.2.reach_settled there.2.reach_settled in
+        let closed = one_boxes a here.0.closed there.0.closed (fits.closed m a here.0 at here.1) (fits'.closed m a there.0 at' there.1) boxes.0
+        here.2.closed_settled there.2.closed_settled in
+        let reach = one_boxes a here.0.reach there.0.reach (fits.reach m a here.0 at here.1) (fits'.reach m a there.0 at' there.1) boxes.1 here.2.reach_settled
+        there.2.reach_settled in
         at_same c.modules.items m x (Some here.0) at_x here.1
         ∙ ap (λ z. Some z) (same_cells here.0 there.0 closed reach)
         ∙ sym (at_same d.modules.items m y (Some there.0) at_y there.1)

@@ -12,7 +12,8 @@ use Rattle.sot_lang.specs.Tables.{Tables}
 use Rattle.sot_lang.specs.TableRules.{IsCoded}
 use Rattle.sot_tube.specs.Certified.{HasCells}
 use Rattle.sot_tube.specs.Checks.{Check, and_then, for_each, of_the}
-use Rattle.sot_tube.specs.Verdict.{entry, periods, outputs, boxes, shape, composition, code, closed_cover, closed_cell, reach_cover, reach_cell, cell_checks, cells_of, verdict}
+use Rattle.sot_tube.specs.Verdict.{entry, periods, outputs, boxes, shape, composition, code, closed_cover, closed_cell, reach_cover, reach_cell, cell_checks}
+use Rattle.sot_tube.specs.Verdict.{cells_of, verdict}
 use Rattle.sot_typing.specs.Formulas.{deeds_view}
 use Rattle.sot_typing.specs.Resolved.{plant_seen, node_seen, tables_seen}
 use Rattle.sot_law_same_tables.proofs.Seen.{plant_back, node_back}
@@ -26,39 +27,45 @@ use Rattle.sot_law_same_certificate.proofs.Conditions.{periods_carried, outputs_
 same_carried : (a : Check) → Carried a a
 same_carried a = record { passes = λ p. p; refuses = λ r h. h }
 
-module _ (t u : Tables) (same : tables_seen t ≡ tables_seen u) (jitter : ℕ) (m : ℕ) (a : ModuleInfo) (x y : PlantInfo) (plants : plant_seen x ≡ plant_seen y) where
-  reach_carried : (i : ℕ) (cell : List Side) → Carried (reach_cell t jitter m a x i cell) (reach_cell u jitter m a y i cell)
-  reach_carried i cell = record {
-    passes = reach_cell_alike t u same x y plants a jitter cell;
-    refuses = λ r h. (h.0, reach_leaves_alike t u same x y plants a jitter cell h.0 h.1, h.2);
-  }
-
-  module _ (v w : NodeInfo) (nodes : node_seen v ≡ node_seen w) (us acts : List Act) (deeds : deeds_view us ≡ deeds_view acts) where
-    closed_carried : (i : ℕ) (cell : List Side) → Carried (closed_cell t jitter m a x v us i cell) (closed_cell u jitter m a y w acts i cell)
-    closed_carried i cell = record {
-      passes = closed_cell_alike t u same x y plants a jitter cell v w nodes us acts deeds;
-      refuses = λ r h. (h.0, closed_leaves_alike t u same x y plants a jitter cell v w nodes us acts deeds h.0 h.1, h.2);
+module _ (t u : Tables) (same : tables_seen t ≡ tables_seen u) (jitter : ℕ) (m : ℕ) (a : ModuleInfo) (x y : PlantInfo) (plants : plant_seen x ≡ plant_seen y)
+  where
+    reach_carried : (i : ℕ) (cell : List Side) → Carried (reach_cell t jitter m a x i cell) (reach_cell u jitter m a y i cell)
+    reach_carried i cell = record {
+      passes = reach_cell_alike t u same x y plants a jitter cell;
+      refuses = λ r h. (h.0, reach_leaves_alike t u same x y plants a jitter cell h.0 h.1, h.2);
     }
 
-    same_cells : (cells : List (List Side)) (f g : ℕ → List Side → Check) → ((i : ℕ) (cell : List Side) → Carried (f i cell) (g i cell)) → Carried (for_each cells f) (for_each cells g)
-    same_cells cells f g each =
-        each_carried (λ b c. b ≡ c) cells cells f g
-        (λ i b at. (b, at, refl))
-        (λ i b at. (b, at, refl))
-        (λ i b c one. subst (λ z. Carried (f i b) (g i z)) one (each i b))
+    module _ (v w : NodeInfo) (nodes : node_seen v ≡ node_seen w) (us acts : List Act) (deeds : deeds_view us ≡ deeds_view acts) where
+      closed_carried : (i : ℕ) (cell : List Side) → Carried (closed_cell t jitter m a x v us i cell) (closed_cell u jitter m a y w acts i cell)
+      closed_carried i cell = record {
+        passes = closed_cell_alike t u same x y plants a jitter cell v w nodes us acts deeds;
+        refuses = λ r h. (h.0, closed_leaves_alike t u same x y plants a jitter cell v w nodes us acts deeds h.0 h.1, h.2);
+      }
 
-    checks_carried : (cells : Cells) → Carried (cell_checks t jitter m a x v us cells) (cell_checks u jitter m a y w acts cells)
-    checks_carried cells =
-        both_carried (closed_cover m a cells) (and_then (for_each cells.closed.boxes (closed_cell t jitter m a x v us)) (and_then (reach_cover m a cells) (for_each cells.reach.boxes (reach_cell t jitter m a x))))
-        (closed_cover m a cells) (and_then (for_each cells.closed.boxes (closed_cell u jitter m a y w acts)) (and_then (reach_cover m a cells) (for_each cells.reach.boxes (reach_cell u jitter m a y))))
-        (same_carried (closed_cover m a cells))
-        (both_carried (for_each cells.closed.boxes (closed_cell t jitter m a x v us)) (and_then (reach_cover m a cells) (for_each cells.reach.boxes (reach_cell t jitter m a x)))
-        (for_each cells.closed.boxes (closed_cell u jitter m a y w acts)) (and_then (reach_cover m a cells) (for_each cells.reach.boxes (reach_cell u jitter m a y)))
-        (same_cells cells.closed.boxes (closed_cell t jitter m a x v us) (closed_cell u jitter m a y w acts) closed_carried)
-        (both_carried (reach_cover m a cells) (for_each cells.reach.boxes (reach_cell t jitter m a x))
-        (reach_cover m a cells) (for_each cells.reach.boxes (reach_cell u jitter m a y))
-        (same_carried (reach_cover m a cells))
-        (same_cells cells.reach.boxes (reach_cell t jitter m a x) (reach_cell u jitter m a y) reach_carried)))
+      same_cells : (cells : List (List Side)) (f g : ℕ → List Side → Check) → ((i : ℕ) (cell : List Side) → Carried (f i cell) (g i cell))
+          → Carried (for_each cells f) (for_each cells g)
+      same_cells cells f g each =
+          each_carried (λ b c. b ≡ c) cells cells f g
+          (λ i b at. (b, at, refl))
+          (λ i b at. (b, at, refl))
+          (λ i b c one. subst (λ z. Carried (f i b) (g i z)) one (each i b))
+
+      checks_carried : (cells : Cells) → Carried (cell_checks t jitter m a x v us cells) (cell_checks u jitter m a y w acts cells)
+      checks_carried cells =
+          both_carried (closed_cover m a cells) (and_then (for_each cells.closed.boxes (closed_cell t jitter m a x v us))
+          (and_then (reach_cover m a cells) (for_each cells.reach.boxes (reach_cell t jitter m a x))))
+          (closed_cover m a cells) (and_then (for_each cells.closed.boxes (closed_cell u jitter m a y w acts))
+          (and_then (reach_cover m a cells) (for_each cells.reach.boxes (reach_cell u jitter m a y))))
+          (same_carried (closed_cover m a cells))
+          (both_carried (for_each cells.closed.boxes (closed_cell t jitter m a x v us))
+          (and_then (reach_cover m a cells) (for_each cells.reach.boxes (reach_cell t jitter m a x)))
+          (for_each cells.closed.boxes (closed_cell u jitter m a y w acts))
+          (and_then (reach_cover m a cells) (for_each cells.reach.boxes (reach_cell u jitter m a y)))
+          (same_cells cells.closed.boxes (closed_cell t jitter m a x v us) (closed_cell u jitter m a y w acts) closed_carried)
+          (both_carried (reach_cover m a cells) (for_each cells.reach.boxes (reach_cell t jitter m a x))
+          (reach_cover m a cells) (for_each cells.reach.boxes (reach_cell u jitter m a y))
+          (same_carried (reach_cover m a cells))
+          (same_cells cells.reach.boxes (reach_cell t jitter m a x) (reach_cell u jitter m a y) reach_carried)))
 
 module _ (t u : Tables) (same : tables_seen t ≡ tables_seen u) (jitter : ℕ) (c d : Cert) (entries : c.modules.items ≡ d.modules.items) where
   cells_forth : (m : ℕ) (cells : Cells) → HasCells c m cells → HasCells d m cells
@@ -82,16 +89,19 @@ module _ (t u : Tables) (same : tables_seen t ≡ tables_seen u) (jitter : ℕ) 
       (periods_carried t u same m a)
       (both_carried (outputs t m a) (boxes m a) (outputs u m a) (boxes m a) (outputs_carried t u same m a) (boxes_carried t u same m a)))
 
-  named_carried : (m : ℕ) (a : ModuleInfo) (x y : PlantInfo) → plant_seen x ≡ plant_seen y → (v w : NodeInfo) → node_seen v ≡ node_seen w → (us acts : List Act) → deeds_view us ≡ deeds_view acts
+  named_carried : (m : ℕ) (a : ModuleInfo) (x y : PlantInfo) → plant_seen x ≡ plant_seen y → (v w : NodeInfo) → node_seen v ≡ node_seen w → (us acts : List Act)
+      → deeds_view us ≡ deeds_view acts
       → Carried (of_the (HasCells c m) (cell_checks t jitter m a x v us)) (of_the (HasCells d m) (cell_checks u jitter m a y w acts))
   named_carried m a x y plants v w nodes us acts deeds =
       the_carried (HasCells c m) (HasCells d m) (λ b e. b ≡ e) (cell_checks t jitter m a x v us) (cell_checks u jitter m a y w acts)
       (λ b has. (b, cells_forth m b has, refl))
       (λ b has. (b, cells_back m b has, refl))
-      (λ b e one. subst (λ z. Carried (cell_checks t jitter m a x v us b) (cell_checks u jitter m a y w acts z)) one (checks_carried t u same jitter m a x y plants v w nodes us acts deeds b))
+      (λ b e one. subst (λ z. Carried (cell_checks t jitter m a x v us b) (cell_checks u jitter m a y w acts z)) one
+      (checks_carried t u same jitter m a x y plants v w nodes us acts deeds b))
 
   coded_carried : (m : ℕ) (a : ModuleInfo) (x y : PlantInfo) → plant_seen x ≡ plant_seen y → (v w : NodeInfo) → node_seen v ≡ node_seen w
-      → Carried (of_the (IsCoded v) (λ us. of_the (HasCells c m) (cell_checks t jitter m a x v us))) (of_the (IsCoded w) (λ acts. of_the (HasCells d m) (cell_checks u jitter m a y w acts)))
+      → Carried (of_the (IsCoded v) (λ us. of_the (HasCells c m) (cell_checks t jitter m a x v us)))
+      (of_the (IsCoded w) (λ acts. of_the (HasCells d m) (cell_checks u jitter m a y w acts)))
   coded_carried m a x y plants v w nodes =
       the_carried (IsCoded v) (IsCoded w) (λ us acts. deeds_view us ≡ deeds_view acts)
       (λ us. of_the (HasCells c m) (cell_checks t jitter m a x v us)) (λ acts. of_the (HasCells d m) (cell_checks u jitter m a y w acts))
@@ -122,7 +132,8 @@ module _ (t u : Tables) (same : tables_seen t ≡ tables_seen u) (jitter : ℕ) 
       (both_carried (for_each t.modules (shape t c)) (and_then (for_each t.nodes (code t)) (for_each t.modules (cells_of t jitter c)))
       (for_each u.modules (shape u d)) (and_then (for_each u.nodes (code u)) (for_each u.modules (cells_of u jitter d)))
       (modules_carried t u same (shape t c) (shape u d) shape_carried)
-      (both_carried (for_each t.nodes (code t)) (for_each t.modules (cells_of t jitter c)) (for_each u.nodes (code u)) (for_each u.modules (cells_of u jitter d))
+      (both_carried (for_each t.nodes (code t)) (for_each t.modules (cells_of t jitter c)) (for_each u.nodes (code u))
+      (for_each u.modules (cells_of u jitter d))
       (nodes_carried t u same)
       (modules_carried t u same (cells_of t jitter c) (cells_of u jitter d) cells_carried)))
 

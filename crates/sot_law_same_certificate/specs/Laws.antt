@@ -14,26 +14,34 @@ use Rattle.sot_certify.specs.declared.fail.CertifyFail.{CertifyFail}
 use Rattle.sot_certify.specs.declared.fail.CertifyFail.TheVariants.{Memory}
 use Rattle.sot_certify.specs.Certifying.{Certifies}
 
--- what may be answered for a table may be answered for each that looks the same: the same certificate, or the same failure
+-- what may be answered for a table may be answered for each that looks the same: the same
+-- certificate, or the same failure
 abbrev pub AnswersAlike : Type 0
-AnswersAlike = (t u : Tables) (answer : Result Cert CertifyFail) → tables_seen t ≡ tables_seen u → Certifies t answer → Certifies u answer
+AnswersAlike =
+    (t u : Tables) (answer : Result Cert CertifyFail) → tables_seen t ≡ tables_seen u
+    → Certifies t answer → Certifies u answer
 
--- no certificate is made for one of the tables of a program where there is none for another, unless memory was short
+-- no certificate is made for one of the tables of a program where there is none for another, unless
+-- memory was short
 abbrev pub CertifyAlike : Type 0
 CertifyAlike =
-    (t u : Tables) (cert : Cert) (fail : CertifyFail) → tables_seen t ≡ tables_seen u → fail ≢ Memory
+    (t u : Tables) (cert : Cert) (fail : CertifyFail) → tables_seen t ≡ tables_seen u
+    → fail ≢ Memory
     → Certifies t (Ok cert) → Certifies u (Err fail) → ⊥
 
--- why there is no certificate is one thing for all tables of a program: the same refusal, or the same list with the same point
+-- why there is no certificate is one thing for all tables of a program: the same refusal, or the
+-- same list with the same point
 abbrev pub FailsAlike : Type 0
 FailsAlike =
     (t u : Tables) (f g : CertifyFail) → tables_seen t ≡ tables_seen u → f ≢ Memory → g ≢ Memory
     → Certifies t (Err f) → Certifies u (Err g) → f ≡ g
 
--- the certificates that are made for tables of one program have the same boxes as cells, in the same order
+-- the certificates that are made for tables of one program have the same boxes as cells, in the
+-- same order
 abbrev pub CellsAlike : Type 0
 CellsAlike =
-    (t u : Tables) (c d : Cert) (m : ℕ) (a : ModuleInfo) (x y : Cells) → tables_seen t ≡ tables_seen u
+    (t u : Tables) (c d : Cert) (m : ℕ) (a : ModuleInfo) (x y : Cells)
+    → tables_seen t ≡ tables_seen u
     → Certifies t (Ok c) → Certifies u (Ok d) → At t.modules m a → HasCells c m x → HasCells d m y
     → (x.closed.boxes ≡ y.closed.boxes) × (x.reach.boxes ≡ y.reach.boxes)
 
@@ -41,10 +49,13 @@ CellsAlike =
 abbrev pub EntriesAlike : Type 0
 EntriesAlike =
     (t u : Tables) (c d : Cert) → tables_seen t ≡ tables_seen u → FitsTables t c → FitsTables u d
-    → Certifies t (Ok c) → Certifies u (Ok d) → (c.jitter ≡ d.jitter) × (c.modules.items ≡ d.modules.items)
+    → Certifies t (Ok c) → Certifies u (Ok d)
+    → (c.jitter ≡ d.jitter) × (c.modules.items ≡ d.modules.items)
 
--- what the checker refuses of one of the tables of a program, it refuses of each, with the same evidence, by certificates that say the same
+-- what the checker refuses of one of the tables of a program, it refuses of each, with the same
+-- evidence, by certificates that say the same
 abbrev pub RefusalsAlike : Type 0
 RefusalsAlike =
-    (t u : Tables) (c d : Cert) (r : Refusal) → tables_seen t ≡ tables_seen u → c.jitter ≡ d.jitter → c.modules.items ≡ d.modules.items
+    (t u : Tables) (c d : Cert) (r : Refusal) → tables_seen t ≡ tables_seen u → c.jitter ≡ d.jitter
+    → c.modules.items ≡ d.modules.items
     → (verdict t c.jitter c).Refuses r → (verdict u d.jitter d).Refuses r

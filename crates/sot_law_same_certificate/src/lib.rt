@@ -1,5 +1,5 @@
-//! Tables that look the same are certified alike: whether a certificate is made, which cells it has, and else why there is none, does
-//! not depend on where the parts of the tables lie in memory.
+//! Tables that look the same are certified alike: whether a certificate is made, which cells it
+//! has, and else why there is none, does not depend on where the parts of the tables lie in memory.
 #![tactic(auto)]
 
 mod laws;

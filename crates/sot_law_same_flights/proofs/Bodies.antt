@@ -47,12 +47,14 @@ mutual
       (λ z. if is_true z then rows_view seen locals writes us f i else rows_view seen locals writes vs f i)
   act_view seen locals writes (Repeat' n s us) f = λ i. times n (λ g. rows_view seen locals writes us g i) f
 
-  rows_view : {m : _} (seen : List ℤ) (locals writes : List Side) (us : Row_of-Act m) (f : Fired) → acts seen locals writes us f ≡ deeds_leave seen locals writes (row_view us) f
+  rows_view : {m : _} (seen : List ℤ) (locals writes : List Side) (us : Row_of-Act m) (f : Fired)
+      → acts seen locals writes us f ≡ deeds_leave seen locals writes (row_view us) f
   rows_view seen locals writes end_of-Act f = refl
   rows_view seen locals writes (more_of-Act a more) f = λ i.
       then_with (act_view seen locals writes a f i) (λ g. rows_view seen locals writes more g i)
 
-body_view : (seen : List ℤ) (locals writes : List Side) (us : List Act) (f : Fired) → body seen locals writes us f ≡ deeds_leave seen locals writes (deeds_view us) f
+body_view : (seen : List ℤ) (locals writes : List Side) (us : List Act) (f : Fired)
+    → body seen locals writes us f ≡ deeds_leave seen locals writes (deeds_view us) f
 body_view seen locals writes [] f = refl
 body_view seen locals writes (a ∷ more) f = λ i.
     then_with (act_view seen locals writes a f i) (λ g. body_view seen locals writes more g i)
@@ -61,6 +63,7 @@ body_view seen locals writes (a ∷ more) f = λ i.
 abbrev pub deeds_execution : Deeds → List Side → List Side → List ℤ → List ℤ → Outcome Fired
 deeds_execution deeds locals writes seen at_start = deeds_leave seen locals writes deeds (record { locals = at_start; draft = replicate (length writes) None })
 
-pub execution_view : (us : List Act) (locals writes : List Side) (seen at_start : List ℤ) → execution us locals writes seen at_start ≡ deeds_execution (deeds_view us) locals writes seen at_start
+pub execution_view : (us : List Act) (locals writes : List Side) (seen at_start : List ℤ)
+    → execution us locals writes seen at_start ≡ deeds_execution (deeds_view us) locals writes seen at_start
 unfolding execution
 execution_view us locals writes seen at_start = body_view seen locals writes us (record { locals = at_start; draft = replicate (length writes) None })

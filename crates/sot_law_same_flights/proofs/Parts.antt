@@ -37,7 +37,8 @@ module _ (t u : Tables) (same : tables_seen t ≡ tables_seen u) where
   publish_same [] draft xs = refl
   publish_same (k ∷ ks) [] xs = refl
   publish_same (k ∷ ks) (None ∷ draft) xs = publish_same ks draft xs
-  publish_same (k ∷ ks) (Some z ∷ draft) xs = publish_same ks draft (put (range_of t.scalars k) k z xs) ∙ ap (λ r. publish u ks draft (put r k z xs)) (range_same k)
+  publish_same (k ∷ ks) (Some z ∷ draft) xs =
+      publish_same ks draft (put (range_of t.scalars k) k z xs) ∙ ap (λ r. publish u ks draft (put r k z xs)) (range_same k)
 
   pub enabled_same : (C : Configuration) (n : ℕ) → is_enabled t C n ≡ is_enabled u C n
   enabled_same C n = ap (λ modules. allowed_by modules C.modes n) (modules_same t u same)
@@ -77,7 +78,8 @@ module _ (t u : Tables) (same : tables_seen t ≡ tables_seen u) (x y : NodeInfo
 
   -- have one execution
   pub execution_same : (us acts : List Act) → deeds_view us ≡ deeds_view acts → (scalars : List ℤ) (points : List (List ℤ)) (locals : List ℤ)
-      → execution us (local_ranges x) (write_ranges t x) (reading x scalars points) locals ≡ execution acts (local_ranges y) (write_ranges u y) (reading y scalars points) locals
+      → execution us (local_ranges x) (write_ranges t x) (reading x scalars points) locals
+      ≡ execution acts (local_ranges y) (write_ranges u y) (reading y scalars points) locals
   execution_same us acts deeds scalars points locals =
       execution_view us (local_ranges x) (write_ranges t x) (reading x scalars points) locals
       ∙ (λ i. deeds_execution (deeds i) (locals_same i) (write_ranges_same i) (reading_same scalars points i) locals)

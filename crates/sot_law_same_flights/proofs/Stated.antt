@@ -29,8 +29,10 @@ noises_same (x ∷ xs) (y ∷ ys) same (sway ∷ sways) t =
     λ i. noise_same x y heads sway t i ∷ noises_same xs ys tails sways t i
 
 -- the drafts of nodes that look the same
-pub draft_same : (t u : Tables) → tables_seen t ≡ tables_seen u → (x y : NodeInfo) → node_seen x ≡ node_seen y → (crew : Crew) (f : ℕ) → draft_of t x crew f ≡ draft_of u y crew f
+pub draft_same : (t u : Tables) → tables_seen t ≡ tables_seen u → (x y : NodeInfo) → node_seen x ≡ node_seen y → (crew : Crew) (f : ℕ)
+    → draft_of t x crew f ≡ draft_of u y crew f
 draft_same t u same x y alike Coded f = refl
 draft_same t u same x y alike (Script drafts) f = refl
-draft_same t u same x y alike (Wild seed stream) f = λ i. Some (map Some (drawn_from seed stream (f * length (alike i).writes) (write_ranges_same t u same x y alike i)))
+draft_same t u same x y alike (Wild seed stream) f =
+    λ i. Some (map Some (drawn_from seed stream (f * length (alike i).writes) (write_ranges_same t u same x y alike i)))
 draft_same t u same x y alike (Guest index) f = refl

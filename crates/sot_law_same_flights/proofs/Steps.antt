@@ -22,7 +22,8 @@ use Rattle.sot_typing.specs.Resolved.{PlantTable, NodeTable, node_seen, tables_s
 use Rattle.sot_law_same_tables.proofs.Seen.{module_back, plant_back, node_back}
 use Rattle.sot_law_same_tables.proofs.Nodes.{coded_alike}
 use Rattle.sot_law_same_tables.proofs.Plants.{any_tube_alike}
-use Rattle.sot_law_same_flights.proofs.Parts.{topics_same, plant_count, range_same, enabled_same, firing_same, sized_same, writes_same, execution_same, bounds_same, next_same}
+use Rattle.sot_law_same_flights.proofs.Parts.{topics_same, plant_count, range_same, enabled_same, firing_same, sized_same, writes_same, execution_same}
+use Rattle.sot_law_same_flights.proofs.Parts.{bounds_same, next_same}
 
 unmapped : {A B : Type 0} (f : A → B) (o : Option A) → option_map f o ≡ None → o ≡ None
 unmapped f None e = refl
@@ -43,7 +44,8 @@ module _ (t u : Tables) (same : tables_seen t ≡ tables_seen u) (jitter : ℕ) 
       let x = plant_back u t (sym same) a.plant keeps.plant keeps.is in
       record { plant = x.0; is = x.1; inside = any_tube_alike t u same keeps.plant x.0 (sym x.2) _ _ _ keeps.inside }
 
-  fires_same : (n : ℕ) (x y : NodeInfo) → node_seen x ≡ node_seen y → (locals : List ℤ) (draft : List (Option ℤ)) (D : Configuration) → Fires t n x locals draft C D → Fires u n y locals draft C D
+  fires_same : (n : ℕ) (x y : NodeInfo) → node_seen x ≡ node_seen y → (locals : List ℤ) (draft : List (Option ℤ)) (D : Configuration)
+      → Fires t n x locals draft C D → Fires u n y locals draft C D
   fires_same n x y alike locals draft D fires = record {
     was_left = fires.was_left;
     time = fires.time;
@@ -52,7 +54,9 @@ module _ (t u : Tables) (same : tables_seen t ≡ tables_seen u) (jitter : ℕ) 
     modes = fires.modes;
     points = fires.points;
     locals_set = fires.locals_set;
-    scalars = fires.scalars ∙ firing_same t u same C n x.writes.items draft C.scalars ∙ ap (λ ks. published (is_enabled u C n) u ks draft C.scalars) (writes_same t u same x y alike);
+    scalars =
+        fires.scalars ∙ firing_same t u same C n x.writes.items draft C.scalars
+        ∙ ap (λ ks. published (is_enabled u C n) u ks draft C.scalars) (writes_same t u same x y alike);
   }
 
   pub may_same : MayTick t jitter C → MayTick u jitter C

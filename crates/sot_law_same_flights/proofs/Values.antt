@@ -6,7 +6,8 @@ use Rattle.sot_lang.specs.declared.term.Term.TheVariants.{Number, Place, Binary'
 use Rattle.sot_lang.specs.Values.{Outcome, word, truth, is_true, floor_div, apply, then_with, both, branch, value_of, values_of_parts}
 use Rattle.sot_lang.specs.Values as meant
 use Rattle.sot_lang.specs.Ticks.{values}
-use Rattle.sot_typing.specs.Formulas.{Formula, number, place, binary, rest, negated, denied, called, rescaled, chosen, Formulas, no_formula, one_more, formula_view, parts_view}
+use Rattle.sot_typing.specs.Formulas.{Formula, number, place, binary, rest, negated, denied, called, rescaled, chosen, Formulas, no_formula, one_more}
+use Rattle.sot_typing.specs.Formulas.{formula_view, parts_view}
 
 -- the value of an expression without memory
 abbrev mutual

@@ -6,10 +6,12 @@ use Rattle.sot_world.specs.HistoryEntry.{Logged}
 use Rattle.sot_flight.specs.Plans.{Plan}
 use Rattle.sot_board.specs.Flown.{Position, FlownSoFar, FlownBy}
 
--- a history of a flight so far is one of the same flight of tables that look the same, and comes to the same position
+-- a history of a flight so far is one of the same flight of tables that look the same, and comes to
+-- the same position
 abbrev pub HistoriesAlikeSoFar : Type 0
 HistoriesAlikeSoFar =
-    (t u : Tables) (jitter : ℕ) (f : Plan) (entries : List Logged) (Q : Position) → tables_seen t ≡ tables_seen u
+    (t u : Tables) (jitter : ℕ) (f : Plan) (entries : List Logged) (Q : Position)
+    → tables_seen t ≡ tables_seen u
     → FlownSoFar t jitter f entries Q → FlownSoFar u jitter f entries Q
 
 -- so a whole history is a whole one

@@ -1,5 +1,5 @@
-//! Tables that look the same have the same histories of flights: what a flight does does not depend on where the parts of its program's
-//! tables lie in memory.
+//! Tables that look the same have the same histories of flights: what a flight does does not depend
+//! on where the parts of its program's tables lie in memory.
 #![tactic(auto)]
 
 mod laws;

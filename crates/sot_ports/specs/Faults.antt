@@ -9,7 +9,8 @@ counted n = min (n + 1) (2 ^ 64 - 1)
 abbrev pub Rose : ℕ → ℕ → Type 0
 Rose before now = (before < now) ⊎ (now ≡ 2 ^ 64 - 1)
 
--- the count fits 64 bits and has not fallen; an error comes only where it rose, and a call that went well leaves it
+-- the count fits 64 bits and has not fallen; an error comes only where it rose, and a call that
+-- went well leaves it
 pub record HasCause {T E : Type 0} (before now : ℕ) (result : Result T E) : Type 0 where
   pub fits : now < 2 ^ 64
   pub later : before ≤ now

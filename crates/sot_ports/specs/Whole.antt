@@ -9,7 +9,8 @@ ReadsAll (Some left) after bytes = (left ≡ bytes) × (after ≡ Some [])
 
 -- exactly this many bytes were taken from the front of what a source had left
 abbrev pub ReadsCount : Option (List ℕ) → Option (List ℕ) → ℕ → Type 0
-ReadsCount before after count = (bytes : List ℕ) × (length bytes ≡ count) × Consumes before after bytes
+ReadsCount before after count =
+    (bytes : List ℕ) × (length bytes ≡ count) × Consumes before after bytes
 
 -- at most this many bytes were taken from the front of what a source had left
 abbrev pub ReadsUpTo : Option (List ℕ) → Option (List ℕ) → ℕ → Type 0

@@ -1,6 +1,7 @@
 //! Sinks into memory, and one that tells nothing.
 
-ghost use Rattle.std.specs.Prelude.{◌≡◌, ℕ, ◌<◌, ◌≤◌, [], ◌⊎◌, ◌↔◌, None, Some, Ok, length, is_err, IsTrue, Contains, IfOk, MatchResult};
+ghost use Rattle.std.specs.Prelude.{◌≡◌, ℕ, ◌<◌, ◌≤◌, [], ◌⊎◌, ◌↔◌, None, Some, Ok, length, is_err};
+ghost use Rattle.std.specs.Prelude.{IsTrue, Contains, IfOk, MatchResult};
 ghost use Rattle.std.specs.Io.KnownBytes.{WriteAppends};
 ghost use Rattle.sot_ports.specs.Faults.{HasCause};
 

@@ -1,6 +1,8 @@
 //! Sources from memory.
 
-ghost use Rattle.std.specs.Prelude.{◌≡◌, ℕ, ◌<◌, ◌≤◌, [], ◌+◌, ◌++◌, ◌↔◌, Some, take, drop, length, min, vec_len, is_err, IsTrue, Contains, IfOk, IsOk, MatchResult};
+ghost use Rattle.std.specs.Prelude.{◌≡◌, ℕ, ◌<◌, ◌≤◌, [], ◌+◌, ◌++◌, ◌↔◌, Some, take, drop, length};
+ghost use Rattle.std.specs.Prelude.{min, vec_len, is_err, IsTrue, Contains, IfOk, IsOk};
+ghost use Rattle.std.specs.Prelude.{MatchResult};
 ghost use Rattle.std.specs.Io.{ReadsAtMost};
 ghost use Rattle.std.specs.Io.KnownBytes.{ReadConsumes};
 ghost use Rattle.sot_ports.specs.Faults.{HasCause, counted};

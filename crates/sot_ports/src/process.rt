@@ -10,7 +10,8 @@ pub enum Process {
     Ends,
 }
 
-/// Lets a value go. Where the process goes on, its memory is given back piece by piece; where it ends, that would only take time.
+/// Lets a value go. Where the process goes on, its memory is given back piece by piece; where it
+/// ends, that would only take time.
 pub fn let_go<T: Drop>(value: T, process: Process) {
     match process {
         Process::GoesOn => drop(value),

@@ -37,7 +37,8 @@ pub entries_begin :
     → map (line_of p) hs ++ (last_line p all ∷ []) ≡ map (line_of p) es ++ (line ∷ rest)
     → (more : List Logged) × (hs ≡ es ++ more) × (map (line_of p) more ++ (last_line p all ∷ []) ≡ line ∷ rest)
 entries_begin p rules words [] hs all told told' line rest same = (hs, refl, same)
-entries_begin p rules words (e ∷ es) [] all told told' line rest same = absurd (not_last p e all (sym (same_heads (last_line p all) (line_of p e) [] (map (line_of p) es ++ (line ∷ rest)) same).0))
+entries_begin p rules words (e ∷ es) [] all told told' line rest same =
+    absurd (not_last p e all (sym (same_heads (last_line p all) (line_of p e) [] (map (line_of p) es ++ (line ∷ rest)) same).0))
 entries_begin p rules words (e ∷ es) (h ∷ hs) all told told' line rest same =
     let parts = same_heads (line_of p h) (line_of p e) (map (line_of p) hs ++ (last_line p all ∷ [])) (map (line_of p) es ++ (line ∷ rest)) same in
     let first : h ≡ e = line_same p rules words h e (told' 0 h refl) (told 0 e refl) parts.0 in
@@ -49,7 +50,8 @@ pub no_end_there : (p : Tables) (es hs all : List Logged) → map (line_of p) hs
 no_end_there p [] [] all same = absurd cc
 no_end_there p [] (h ∷ hs) all same = absurd cc
 no_end_there p (e ∷ es) [] all same = not_last p e all (sym (same_heads (last_line p all) (line_of p e) [] (map (line_of p) es) same).0)
-no_end_there p (e ∷ es) (h ∷ hs) all same = no_end_there p es hs all (same_heads (line_of p h) (line_of p e) (map (line_of p) hs ++ (last_line p all ∷ [])) (map (line_of p) es) same).1
+no_end_there p (e ∷ es) (h ∷ hs) all same =
+    no_end_there p es hs all (same_heads (line_of p h) (line_of p e) (map (line_of p) hs ++ (last_line p all ∷ [])) (map (line_of p) es) same).1
 
 -- the lines of a trace with one front of its opening, and of its entries
 pub behind_opening :

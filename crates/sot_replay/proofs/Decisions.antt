@@ -15,11 +15,14 @@ use Rattle.sot_replay.proofs.SpelledEntries.{spells_entry, decision_of, decides}
 use Rattle.sot_replay.proofs.Judging.{same_one, one_line}
 
 pub decision_handed : (f : Plan) (t m : ℕ) (mode : Mode) → AreHandedOver f (DecideAt t m mode ∷ [])
-decision_handed f t m mode i time node index draft enabled at crew k z there = (let same = same_one (DecideAt t m mode) i (FireAt time node draft enabled) at in absurd cc)
+decision_handed f t m mode i time node index draft enabled at crew k z there =
+    (let same = same_one (DecideAt t m mode) i (FireAt time node draft enabled) at in absurd cc)
 
-module _ (b : Standing) (stands : IsStanding b) (words : AreWords b.accepted.program) (line : List ℕ) (t m : ℕ) (mode : Mode) (spelled : IsSpelled b.accepted.program line (DecideLine t m mode)) where
+module _ (b : Standing) (stands : IsStanding b) (words : AreWords b.accepted.program) (line : List ℕ) (t m : ℕ) (mode : Mode)
+    (spelled : IsSpelled b.accepted.program line (DecideLine t m mode)) where
   -- a line with which the flight goes on is that of the decision's entry
-  pub decision_line : (new : Standing) (entry : Logged) → Logs b new (Decide m) entry → IsNextLine b.accepted.program b.accepted.cert.jitter b.plan b.position line → line ≡ line_of b.accepted.program entry
+  pub decision_line : (new : Standing) (entry : Logged) → Logs b new (Decide m) entry
+      → IsNextLine b.accepted.program b.accepted.cert.jitter b.plan b.position line → line ≡ line_of b.accepted.program entry
   decision_line new entry logs (e, Q, flies, handed, same) =
       let p = b.accepted.program in
       let spells = spells_entry b stands words line (DecideLine t m mode) spelled e Q flies same in

@@ -8,18 +8,21 @@ use Rattle.sot_flight.specs.Plans.{Plan}
 use Rattle.sot_board.specs.Flown.{Position}
 use Rattle.sot_trace_lines.specs.Spelled.{Spelled, spelled_time, IsSpelled}
 use Rattle.sot_replay.specs.declared.fail.LineKind.{LineKind}
-use Rattle.sot_replay.specs.declared.fail.LineKind.TheVariants.{NotALine, WrongTime, NotDue, AlreadyFired, NodesLeft, OutsideType, InputsLeft, TooFar, Differs, Ended, Missing}
+use Rattle.sot_replay.specs.declared.fail.LineKind.TheVariants.{NotALine, WrongTime, NotDue, AlreadyFired, NodesLeft, OutsideType, InputsLeft, TooFar, Differs}
+use Rattle.sot_replay.specs.declared.fail.LineKind.TheVariants.{Ended, Missing}
 use Rattle.sot_replay.specs.Tests.{order_of, WorldRefuses, LeavesInputs, IsTooFar, IsGiven, Fails, IsFirstFailing}
 use Rattle.sot_replay.specs.Judges.{kind_of}
 
 -- a line that spells nothing
-pub not_a_line : (p : Tables) (j : ℕ) (f : Plan) (es : List Logged) (P : Position) (line : List ℕ) → ((s : Spelled) → IsSpelled p line s → ⊥) → IsFirstFailing p j f es P line NotALine
+pub not_a_line : (p : Tables) (j : ℕ) (f : Plan) (es : List Logged) (P : Position) (line : List ℕ) → ((s : Spelled) → IsSpelled p line s → ⊥)
+    → IsFirstFailing p j f es P line NotALine
 not_a_line p j f es P line none = inl (refl, none)
 
 module _ (p : Tables) (j : ℕ) (f : Plan) (es : List Logged) (P : Position) (line : List ℕ) (s : Spelled) (spelled : IsSpelled p line s) where
   -- the tests before the one of this order do not fail
   none_before :
-      (n : ℕ) → n ≤ 5 → (1 < n → spelled_time s ≡ P.at.time) → (2 < n → (why : Why) → WorldRefuses p j P.at s why → ⊥) → (3 < n → LeavesInputs P s → ⊥) → (4 < n → IsTooFar f P s → ⊥)
+      (n : ℕ) → n ≤ 5 → (1 < n → spelled_time s ≡ P.at.time) → (2 < n → (why : Why) → WorldRefuses p j P.at s why → ⊥) → (3 < n → LeavesInputs P s → ⊥)
+      → (4 < n → IsTooFar f P s → ⊥)
       → (k : LineKind) → order_of k < n → Fails k p j f es P s line → ⊥
   none_before n five time world inputs far NotALine lt fails = fails
   none_before n five time world inputs far WrongTime lt fails = fails (time lt)
@@ -39,14 +42,17 @@ module _ (p : Tables) (j : ℕ) (f : Plan) (es : List Logged) (P : Position) (li
     record {
       spelled = spelled;
       fails = not;
-      first = none_before 1 (omega arith) (λ lt. absurd (omega (arith, lt))) (λ lt. absurd (omega (arith, lt))) (λ lt. absurd (omega (arith, lt))) (λ lt. absurd (omega (arith, lt)));
+      first =
+          none_before 1 (omega arith) (λ lt. absurd (omega (arith, lt))) (λ lt. absurd (omega (arith, lt))) (λ lt. absurd (omega (arith, lt)))
+          (λ lt. absurd (omega (arith, lt)));
     },
   )
 
   module _ (time : spelled_time s ≡ P.at.time) where
     -- before the world is asked
     before_world : (k : LineKind) → order_of k < 2 → Fails k p j f es P s line → ⊥
-    before_world = none_before 2 (omega arith) (λ lt. time) (λ lt. absurd (omega (arith, lt))) (λ lt. absurd (omega (arith, lt))) (λ lt. absurd (omega (arith, lt)))
+    before_world =
+        none_before 2 (omega arith) (λ lt. time) (λ lt. absurd (omega (arith, lt))) (λ lt. absurd (omega (arith, lt))) (λ lt. absurd (omega (arith, lt)))
 
     pub refused : (why : Why) → WorldRefuses p j P.at s why → IsFirstFailing p j f es P line (kind_of why)
     refused whys.NotDue fails = inr (s, record { spelled = spelled; fails = fails; first = before_world })

@@ -42,19 +42,26 @@ pub other_text : (r : Bool) (text line : List ℕ) → r ≡ bytes_eq text line 
 other_text r text line is off same = false≢true (sym off ∙ is ∙ (bytes_eq-Decides text line).1 (sym same))
 
 -- last lines of the same counts are the same
-pub end_counted : {ticks events refused ticks' events' refused' : ℕ} → ticks ≡ ticks' → events ≡ events' → refused ≡ refused' → end_line ticks events refused ≡ end_line ticks' events' refused'
+pub end_counted : {ticks events refused ticks' events' refused' : ℕ} → ticks ≡ ticks' → events ≡ events' → refused ≡ refused'
+    → end_line ticks events refused ≡ end_line ticks' events' refused'
 end_counted a b c = rw (a, b, c) refl
 
 -- of an event one line tells
-pub one_line : (old new : Standing) (event : Event) (entry e : Logged) (Q : Position) → Logs old new event entry → (flies : Flies old.accepted.program old.accepted.cert.jitter old.plan old.position e Q) → flies.event ≡ event
+pub one_line : (old new : Standing) (event : Event) (entry e : Logged) (Q : Position) → Logs old new event entry
+    → (flies : Flies old.accepted.program old.accepted.cert.jitter old.plan old.position e Q) → flies.event ≡ event
     → line_of old.accepted.program e ≡ line_of old.accepted.program entry
 one_line old new event entry e Q logs flies is =
-    ap (line_of old.accepted.program) (entry_same old.accepted.program old.accepted.cert.jitter old.plan old.position e entry Q new.position flies logs.flies (is ∙ sym logs.event_is))
+    ap (line_of old.accepted.program) (entry_same old.accepted.program old.accepted.cert.jitter old.plan old.position e entry Q new.position flies logs.flies
+    (is ∙ sym logs.event_is))
 
 -- what is judged of a line that is compared with that of the entry of an event
 pub judged :
-    (old new : Standing) (event : Event) (entry : Logged) (line : List ℕ) (j : Judged) → Logs old new event entry → AreHandedOver old.plan (entry ∷ []) → IsCompared old.accepted.program entry line j
-    → ((line ≡ line_of old.accepted.program entry → ⊥) → IsFirstFailing old.accepted.program old.accepted.cert.jitter old.plan old.entries old.position line Differs) → IsJudged old new line j
-judged old new event entry line (Goes added) logs handed (is, adds) differs = record { entry = entry; flies = logs.flies; handed = handed; is = is; adds = adds; entries = logs.entries; accepted = logs.accepted; plan = logs.plan }
+    (old new : Standing) (event : Event) (entry : Logged) (line : List ℕ) (j : Judged) → Logs old new event entry → AreHandedOver old.plan (entry ∷ [])
+    → IsCompared old.accepted.program entry line j
+    → ((line ≡ line_of old.accepted.program entry → ⊥) → IsFirstFailing old.accepted.program old.accepted.cert.jitter old.plan old.entries old.position line
+    Differs) → IsJudged old new line j
+judged old new event entry line (Goes added) logs handed (is, adds) differs =
+    record { entry = entry; flies = logs.flies; handed = handed; is = is; adds = adds; entries = logs.entries; accepted = logs.accepted; plan = logs.plan }
 judged old new event entry line Ends logs handed is differs = absurd is
-judged old new event entry line (Fails kind) logs handed (is, not) differs = subst (IsFirstFailing old.accepted.program old.accepted.cert.jitter old.plan old.entries old.position line) (sym is) (differs not)
+judged old new event entry line (Fails kind) logs handed (is, not) differs =
+    subst (IsFirstFailing old.accepted.program old.accepted.cert.jitter old.plan old.entries old.position line) (sym is) (differs not)

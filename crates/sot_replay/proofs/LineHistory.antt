@@ -27,16 +27,56 @@ none_handed entries i time node index draft enabled at crew =
 
 module _ (g : Global) where
   pub flies_decision : Flies (line g) 0 line_flight (standing at_opening (0 ∷ 0 ∷ [])) decision (standing decided (0 ∷ 0 ∷ []))
-  flies_decision = record { event = Decide 0; stated = tt; step = line_step.decides g; recorded = ModuleDecided Ac; records = refl; tells = (Ac, refl, refl); inputs = refl; fired = refl }
+  flies_decision =
+      record {
+        event = Decide 0;
+        stated = tt;
+        step = line_step.decides g;
+        recorded = ModuleDecided Ac;
+        records = refl;
+        tells = (Ac, refl, refl);
+        inputs = refl;
+        fired = refl;
+      }
 
   pub flies_draft : Flies (line g) 0 line_flight (standing decided (0 ∷ 0 ∷ [])) publication (standing drafted (1 ∷ 0 ∷ []))
-  flies_draft = record { event = Guest 0 (Some (pos 2) ∷ []); stated = (fast g, _, refl, refl, refl); step = line_step.takes_2 g; recorded = NodeFired (Some (pos 2) ∷ []) true; records = refl; tells = (Some (pos 2) ∷ [], true, refl, refl); inputs = refl; fired = refl }
+  flies_draft =
+      record {
+        event = Guest 0 (Some (pos 2) ∷ []);
+        stated = (fast g, _, refl, refl, refl);
+        step = line_step.takes_2 g;
+        recorded = NodeFired (Some (pos 2) ∷ []) true;
+        records = refl;
+        tells = (Some (pos 2) ∷ [], true, refl, refl);
+        inputs = refl;
+        fired = refl;
+      }
 
   pub flies_idle : Flies (line g) 0 line_flight (standing drafted (1 ∷ 0 ∷ [])) idling (standing settled (1 ∷ 1 ∷ []))
-  flies_idle = record { event = Code 1; stated = tt; step = line_step.idle g; recorded = NodeFired (Some (pos 0) ∷ []) false; records = line_step.idle_recorded g; tells = (Some (pos 0) ∷ [], false, refl, refl); inputs = refl; fired = refl }
+  flies_idle =
+      record {
+        event = Code 1;
+        stated = tt;
+        step = line_step.idle g;
+        recorded = NodeFired (Some (pos 0) ∷ []) false;
+        records = line_step.idle_recorded g;
+        tells = (Some (pos 0) ∷ [], false, refl, refl);
+        inputs = refl;
+        fired = refl;
+      }
 
   pub flies_tick : Flies (line g) 0 line_flight (standing settled (1 ∷ 1 ∷ [])) move (standing ticked (1 ∷ 1 ∷ []))
-  flies_tick = record { event = Tick ((pos 1 ∷ []) ∷ []); stated = (omega arith, (λ i x at. absurd (none-some x at)), refl); step = line_step.ticks g; recorded = PlantsTicked; records = refl; tells = refl; inputs = refl; fired = refl }
+  flies_tick =
+      record {
+        event = Tick ((pos 1 ∷ []) ∷ []);
+        stated = (omega arith, (λ i x at. absurd (none-some x at)), refl);
+        step = line_step.ticks g;
+        recorded = PlantsTicked;
+        records = refl;
+        tells = refl;
+        inputs = refl;
+        fired = refl;
+      }
 
   -- of which events these tell
   pub decision_event : flies_decision.event ≡ Decide 0
@@ -81,12 +121,16 @@ module _ (g : Global) where
   only_decision C D m step = at_one (λ k a. Decide k ≡ Decide 0) (nav g) refl m step.module_info step.is
 
   pub only_code : (C D : Configuration) (n : ℕ) → Step (line g) 0 C (Code n) D → n ≡ 1
-  only_code C D n step = at_two (λ k node. (v : _) → node.body ≡ Some v → k ≡ 1) (fast g) (slow g) (λ v e. absurd (none-some v e)) (λ v e. refl) n step.node step.is step.coded.0 step.coded.1
+  only_code C D n step =
+      at_two (λ k node. (v : _) → node.body ≡ Some v → k ≡ 1) (fast g) (slow g) (λ v e. absurd (none-some v e)) (λ v e. refl) n step.node step.is step.coded.0
+      step.coded.1
 
   pub only_guest : (C D : Configuration) (n : ℕ) (d : _) → Step (line g) 0 C (Guest n d) D → n ≡ 0
-  only_guest C D n d step = at_two (λ k node. node.body ≡ None → k ≡ 0) (fast g) (slow g) (λ e. refl) (λ e. absurd (none-some _ (sym e))) n step.node step.is step.external
+  only_guest C D n d step =
+      at_two (λ k node. node.body ≡ None → k ≡ 0) (fast g) (slow g) (λ e. refl) (λ e. absurd (none-some _ (sym e))) n step.node step.is step.external
 
-  pub only_draft : (C D : Configuration) (fired : List ℕ) (n : ℕ) (d : _) → IsStated (line g) line_flight (standing C fired) (Guest n d) → Step (line g) 0 C (Guest n d) D → Guest n d ≡ Guest 0 (Some (pos 2) ∷ [])
+  pub only_draft : (C D : Configuration) (fired : List ℕ) (n : ℕ) (d : _) → IsStated (line g) line_flight (standing C fired) (Guest n d)
+      → Step (line g) 0 C (Guest n d) D → Guest n d ≡ Guest 0 (Some (pos 2) ∷ [])
   only_draft C D fired n d (node, crew, at_node, at_crew, stated) step =
       let first = only_guest C D n d step in
       let script = same_Some (Script ((Some (pos 2) ∷ []) ∷ [])) crew (subst (λ i. At line_flight.crews i crew) first at_crew) in

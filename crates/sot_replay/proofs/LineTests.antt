@@ -30,13 +30,15 @@ use Rattle.sot_trace_lines.proofs.StartLines.{starts_is}
 use Rattle.sot_replay.specs.GoesOn.{GoesOn}
 use Rattle.sot_replay.specs.Tests.{WorldRefuses, IsNextLine}
 use Rattle.sot_replay.specs.Replays.{IsRefusedAt}
-use Rattle.sot_replay.specs.LineExamples.{line_flight, decision, publication, idling, move, standing, line_lines, OtherStartLines, LineFailsAt, OtherDecisions, OtherDrafts, OtherTicks, OtherLaterLines, LineMeetsTheLaws}
+use Rattle.sot_replay.specs.LineExamples.{line_flight, decision, publication, idling, move, standing, line_lines, OtherStartLines, LineFailsAt, OtherDecisions}
+use Rattle.sot_replay.specs.LineExamples.{OtherDrafts, OtherTicks, OtherLaterLines, LineMeetsTheLaws}
 use Rattle.sot_replay.specs.declared.fail.LineKind.{LineKind}
 use Rattle.sot_replay.specs.declared.fail.LineKind.TheVariants.{NotALine, Differs}
 use Rattle.sot_replay.proofs.FirstFailing.{not_a_line, wrong_time, refused, too_far, differs}
 use Rattle.sot_replay.proofs.SameEntry.{entry_same}
 use Rattle.sot_replay.proofs.LinesGoOn.{other_opening}
-use Rattle.sot_replay.proofs.LineHistory.{flies_decision, flies_draft, flies_idle, flies_tick, decision_event, draft_event, idle_event, tick_event, nothing, line_trace, only_decision, only_code, only_guest, only_draft}
+use Rattle.sot_replay.proofs.LineHistory.{flies_decision, flies_draft, flies_idle, flies_tick, decision_event, draft_event, idle_event, tick_event, nothing}
+use Rattle.sot_replay.proofs.LineHistory.{line_trace, only_decision, only_code, only_guest, only_draft}
 use Rattle.sot_replay.proofs.RelayLines.{other_at}
 
 module _ (g : Global) where
@@ -69,7 +71,8 @@ module _ (g : Global) where
   only_idle (Tick w) D step = absurd (line_step.not_yet g w D step)
 
   -- nothing is left
-  only_tick : (ev : Event) (D : Configuration) → IsStated (line g) line_flight (standing settled (1 ∷ 1 ∷ [])) ev → Step (line g) 0 settled ev D → ev ≡ Tick ((pos 1 ∷ []) ∷ [])
+  only_tick : (ev : Event) (D : Configuration) → IsStated (line g) line_flight (standing settled (1 ∷ 1 ∷ [])) ev → Step (line g) 0 settled ev D
+      → ev ≡ Tick ((pos 1 ∷ []) ∷ [])
   only_tick (Input topic value) D stated step = absurd (no_input settled D topic value step)
   only_tick (Code n) D stated step = absurd (no_code settled D n refl step)
   only_tick (Guest n d) D stated step = absurd (no_guest settled D n d refl step)
@@ -77,17 +80,20 @@ module _ (g : Global) where
   only_tick (Tick w) D stated step = ap Tick stated.2
 
   -- the byte at a place of a firing's line, whether the node is enabled or not
-  firing_byte : (k : ℕ) (l : List ℕ) (entry : Logged) (n : ℕ) (slots : List (Option ℤ)) (on : Bool) → l ≡ line_of (line g) entry → entry ≡ FireAt 0 n slots on → slice_index_or l k 0 ≡ slice_index_or (line_of (line g) (FireAt 0 n slots on)) k 0
+  firing_byte : (k : ℕ) (l : List ℕ) (entry : Logged) (n : ℕ) (slots : List (Option ℤ)) (on : Bool) → l ≡ line_of (line g) entry → entry ≡ FireAt 0 n slots on
+      → slice_index_or l k 0 ≡ slice_index_or (line_of (line g) (FireAt 0 n slots on)) k 0
   firing_byte k l entry n slots on is told = ap (λ x. slice_index_or x k 0) (is ∙ ap (line_of (line g)) told)
 
   -- no line of a firing is one of a decision
-  no_firing : (l : List ℕ) (entry : Logged) (n : ℕ) (slots : List (Option ℤ)) (on : Bool) → slice_index_or l 2 0 ≡ 100 → l ≡ line_of (line g) entry → entry ≡ FireAt 0 n slots on → ⊥
+  no_firing : (l : List ℕ) (entry : Logged) (n : ℕ) (slots : List (Option ℤ)) (on : Bool) → slice_index_or l 2 0 ≡ 100 → l ≡ line_of (line g) entry
+      → entry ≡ FireAt 0 n slots on → ⊥
   no_firing l entry n slots true d is told = (let e : ◌≡◌ {A = ℕ} 100 102 = sym d ∙ firing_byte 2 l entry n slots true is told in omega (arith, e))
   no_firing l entry n slots false d is told = (let e : ◌≡◌ {A = ℕ} 100 105 = sym d ∙ firing_byte 2 l entry n slots false is told in omega (arith, e))
 
   -- of the three that are left, a line of a decision tells of the decision
   decision_alone :
-      (ev : Event) (r : Recorded) (entry : Logged) (D : Configuration) (l : List ℕ) → slice_index_or l 2 0 ≡ 100 → l ≡ line_of (line g) entry → Step (line g) 0 at_opening ev D → Tells at_opening ev r D entry
+      (ev : Event) (r : Recorded) (entry : Logged) (D : Configuration) (l : List ℕ) → slice_index_or l 2 0 ≡ 100 → l ≡ line_of (line g) entry
+      → Step (line g) 0 at_opening ev D → Tells at_opening ev r D entry
       → ev ≡ Decide 0
   decision_alone (Input topic value) r entry D l d is step tells = absurd (no_input at_opening D topic value step)
   decision_alone (Code n) r entry D l d is step (draft, on, was, told) = absurd (no_firing l entry n _ on d is told)
@@ -96,31 +102,44 @@ module _ (g : Global) where
   decision_alone (Tick w) r entry D l d is step tells = absurd (step.may.nodes 0 (fast g) 0 refl refl (last_now 4 0 0 (omega arith, refl)) refl)
 
   -- no line of `slow` is one of `fast`
-  no_slow : (l : List ℕ) (entry : Logged) (n : ℕ) (slots : List (Option ℤ)) (on : Bool) → n ≡ 1 → slice_index_or l 7 0 ≡ 102 → l ≡ line_of (line g) entry → entry ≡ FireAt 0 n slots on → ⊥
-  no_slow l entry n slots true one f is told = (let e : ◌≡◌ {A = ℕ} 102 115 = sym f ∙ firing_byte 7 l entry 1 slots true is (told ∙ ap (λ k. FireAt 0 k slots true) one) in omega (arith, e))
-  no_slow l entry n slots false one f is told = (let e : ◌≡◌ {A = ℕ} 102 115 = sym f ∙ firing_byte 7 l entry 1 slots false is (told ∙ ap (λ k. FireAt 0 k slots false) one) in omega (arith, e))
+  no_slow : (l : List ℕ) (entry : Logged) (n : ℕ) (slots : List (Option ℤ)) (on : Bool) → n ≡ 1 → slice_index_or l 7 0 ≡ 102 → l ≡ line_of (line g) entry
+      → entry ≡ FireAt 0 n slots on → ⊥
+  no_slow l entry n slots true one f is told =
+      (let e : ◌≡◌ {A = ℕ} 102 115 = sym f ∙ firing_byte 7 l entry 1 slots true is (told ∙ ap (λ k. FireAt 0 k slots true) one) in omega (arith, e))
+  no_slow l entry n slots false one f is told =
+      (let e : ◌≡◌ {A = ℕ} 102 115 = sym f ∙ firing_byte 7 l entry 1 slots false is (told ∙ ap (λ k. FireAt 0 k slots false) one) in omega (arith, e))
 
   -- of the two that are left, a line of `fast` tells of its draft
   draft_alone :
       (ev : Event) (r : Recorded) (entry : Logged) (D : Configuration) (l : List ℕ) → slice_index_or l 7 0 ≡ 102 → l ≡ line_of (line g) entry
-      → IsStated (line g) line_flight (standing decided (0 ∷ 0 ∷ [])) ev → Step (line g) 0 decided ev D → Tells decided ev r D entry → ev ≡ Guest 0 (Some (pos 2) ∷ [])
+      → IsStated (line g) line_flight (standing decided (0 ∷ 0 ∷ [])) ev → Step (line g) 0 decided ev D → Tells decided ev r D entry
+      → ev ≡ Guest 0 (Some (pos 2) ∷ [])
   draft_alone (Input topic value) r entry D l f is stated step tells = absurd (no_input decided D topic value step)
   draft_alone (Code n) r entry D l f is stated step (draft, on, was, told) = absurd (no_slow l entry n _ on (only_code g decided D n step) f is told)
   draft_alone (Guest n given) r entry D l f is stated step tells = only_draft g decided D (0 ∷ 0 ∷ []) n given stated step
   draft_alone (Decide m) r entry D l f is stated step tells = absurd (no_decision decided D m refl step)
   draft_alone (Tick w) r entry D l f is stated step tells = absurd (step.may.nodes 0 (fast g) 0 refl refl (last_now 4 0 0 (omega arith, refl)) refl)
 
-  no_other_decision : (l : List ℕ) → slice_index_or l 2 0 ≡ 100 → l ≢ line_of (line g) decision → IsNextLine (line g) 0 line_flight (standing at_opening (0 ∷ 0 ∷ [])) l → ⊥
-  no_other_decision l d = next_is (standing at_opening (0 ∷ 0 ∷ [])) _ decision (flies_decision g) l (λ entry R flies is. decision_alone flies.event flies.recorded entry R.at l d is flies.step flies.tells ∙ sym (decision_event g))
+  no_other_decision : (l : List ℕ) → slice_index_or l 2 0 ≡ 100 → l ≢ line_of (line g) decision
+      → IsNextLine (line g) 0 line_flight (standing at_opening (0 ∷ 0 ∷ [])) l → ⊥
+  no_other_decision l d =
+      next_is (standing at_opening (0 ∷ 0 ∷ [])) _ decision (flies_decision g) l
+      (λ entry R flies is. decision_alone flies.event flies.recorded entry R.at l d is flies.step flies.tells ∙ sym (decision_event g))
 
-  no_other_draft : (l : List ℕ) → slice_index_or l 7 0 ≡ 102 → l ≢ line_of (line g) publication → IsNextLine (line g) 0 line_flight (standing decided (0 ∷ 0 ∷ [])) l → ⊥
-  no_other_draft l f = next_is (standing decided (0 ∷ 0 ∷ [])) _ publication (flies_draft g) l (λ entry R flies is. draft_alone flies.event flies.recorded entry R.at l f is flies.stated flies.step flies.tells ∙ sym (draft_event g))
+  no_other_draft : (l : List ℕ) → slice_index_or l 7 0 ≡ 102 → l ≢ line_of (line g) publication
+      → IsNextLine (line g) 0 line_flight (standing decided (0 ∷ 0 ∷ [])) l → ⊥
+  no_other_draft l f =
+      next_is (standing decided (0 ∷ 0 ∷ [])) _ publication (flies_draft g) l
+      (λ entry R flies is. draft_alone flies.event flies.recorded entry R.at l f is flies.stated flies.step flies.tells ∙ sym (draft_event g))
 
   no_other_idling : (l : List ℕ) → l ≢ line_of (line g) idling → IsNextLine (line g) 0 line_flight (standing drafted (1 ∷ 0 ∷ [])) l → ⊥
-  no_other_idling l = next_is (standing drafted (1 ∷ 0 ∷ [])) _ idling (flies_idle g) l (λ entry R flies is. only_idle flies.event R.at flies.step ∙ sym (idle_event g))
+  no_other_idling l =
+      next_is (standing drafted (1 ∷ 0 ∷ [])) _ idling (flies_idle g) l (λ entry R flies is. only_idle flies.event R.at flies.step ∙ sym (idle_event g))
 
   no_other_tick : (l : List ℕ) → l ≢ line_of (line g) move → IsNextLine (line g) 0 line_flight (standing settled (1 ∷ 1 ∷ [])) l → ⊥
-  no_other_tick l = next_is (standing settled (1 ∷ 1 ∷ [])) _ move (flies_tick g) l (λ entry R flies is. only_tick flies.event R.at flies.stated flies.step ∙ sym (tick_event g))
+  no_other_tick l =
+      next_is (standing settled (1 ∷ 1 ∷ [])) _ move (flies_tick g) l
+      (λ entry R flies is. only_tick flies.event R.at flies.stated flies.step ∙ sym (tick_event g))
 
   -- the world takes what is due and left
   can_fire : (C : Configuration) (n : ℕ) → IsNodeDue (line g) 0 C n → is_left C n ≡ true → (why : Why) → RefusesNode (line g) 0 C n why → ⊥
@@ -135,13 +154,15 @@ module _ (g : Global) where
   can_decide whys.NodesLeft none = none
   can_decide whys.OutsideType none = none
 
-  can_tick : (C : Configuration) (w x : ℤ) → MayTick (line g) 0 C → IsInBounds (line g).plants (w ∷ []) → (why : Why) → WorldRefuses (line g) 0 C (TickLine 0 (w ∷ []) (x ∷ [])) why → ⊥
+  can_tick : (C : Configuration) (w x : ℤ) → MayTick (line g) 0 C → IsInBounds (line g).plants (w ∷ []) → (why : Why)
+      → WorldRefuses (line g) 0 C (TickLine 0 (w ∷ []) (x ∷ [])) why → ⊥
   can_tick C w x may inside whys.NotDue none = none
   can_tick C w x may inside whys.AlreadyFired none = none
   can_tick C w x may inside whys.NodesLeft not = not may
   can_tick C w x may inside whys.OutsideType (_, not) = not inside
 
-  can_end : (C : Configuration) (events : ℕ) → C.left ≡ false ∷ false ∷ [] → C.left_dm ≡ false ∷ [] → (why : Why) → WorldRefuses (line g) 0 C (EndLine 0 events 0) why → ⊥
+  can_end : (C : Configuration) (events : ℕ) → C.left ≡ false ∷ false ∷ [] → C.left_dm ≡ false ∷ [] → (why : Why)
+      → WorldRefuses (line g) 0 C (EndLine 0 events 0) why → ⊥
   can_end C events l m whys.NotDue none = none
   can_end C events l m whys.AlreadyFired none = none
   can_end C events l m whys.NodesLeft not = not (nothing g C l m)
@@ -167,51 +188,74 @@ module _ (g : Global) where
 
   -- what is read as nothing spells nothing
   spells_nothing : (entries : List Logged) (P : Position) (l : List ℕ) → spelled_at (line g) l ≡ None → LineFailsAt g 0 entries P l NotALine
-  spells_nothing entries P l none = not_a_line (line g) 0 line_flight entries P l (λ s is. none-some s (sym none ∙ read_spelled (line g) (line_meets_rules g) (words g) l s is))
+  spells_nothing entries P l none =
+      not_a_line (line g) 0 line_flight entries P l (λ s is. none-some s (sym none ∙ read_spelled (line g) (line_meets_rules g) (words g) l s is))
 
   pub other_decisions : OtherDecisions g
   other_decisions = (
-    differs (line g) 0 line_flight _ _ _ (DecideLine 0 0 Sc) (omega arith, refl) refl can_decide (λ none. none) (λ none. none) (no_other_decision _ refl (other_at 13 115 97 _ _ refl refl (λ e. omega (arith, e)))),
+    differs (line g) 0 line_flight _ _ _ (DecideLine 0 0 Sc) (omega arith, refl) refl can_decide (λ none. none) (λ none. none)
+        (no_other_decision _ refl (other_at 13 115 97 _ _ refl refl (λ e. omega (arith, e)))),
     wrong_time (line g) 0 line_flight _ _ _ (DecideLine 1 0 Ac) (omega arith, refl) (λ e. absurd cc),
     spells_nothing _ _ _ refl,
-    refused (line g) 0 line_flight _ _ _ (TickLine 0 (pos 1 ∷ []) (pos 1 ∷ [])) ((refl, refl), refl) refl whys.NodesLeft (λ may. may.nodes 0 (fast g) 0 refl refl (last_now 4 0 0 (omega arith, refl)) refl),
-    refused (line g) 0 line_flight _ _ _ (DecideLine 0 0 Ac) (omega arith, refl) refl whys.AlreadyFired ((nav g, refl, (0, (omega arith, refl), omega arith, omega arith)), refl),
+    refused (line g) 0 line_flight _ _ _ (TickLine 0 (pos 1 ∷ []) (pos 1 ∷ [])) ((refl, refl), refl) refl whys.NodesLeft
+        (λ may. may.nodes 0 (fast g) 0 refl refl (last_now 4 0 0 (omega arith, refl)) refl),
+    refused (line g) 0 line_flight _ _ _ (DecideLine 0 0 Ac) (omega arith, refl) refl whys.AlreadyFired
+        ((nav g, refl, (0, (omega arith, refl), omega arith, omega arith)), refl),
   )
 
   pub other_drafts : OtherDrafts g
   other_drafts = (
-    differs (line g) 0 line_flight _ _ _ (FireLine 0 0 true (Some (true, pos 1) ∷ [])) ((omega arith, refl), refl) refl (can_fire decided 0 (fast_due decided refl) refl) (λ none. none) (λ none. none) (no_other_draft _ refl (other_at 16 49 50 _ _ refl refl (λ e. omega (arith, e)))),
+    differs (line g) 0 line_flight _ _ _ (FireLine 0 0 true (Some (true, pos 1) ∷ [])) ((omega arith, refl), refl) refl
+        (can_fire decided 0 (fast_due decided refl) refl) (λ none. none) (λ none. none)
+        (no_other_draft _ refl (other_at 16 49 50 _ _ refl refl (λ e. omega (arith, e)))),
     spells_nothing _ _ _ refl,
-    differs (line g) 0 line_flight _ _ _ (FireLine 0 1 true (Some (true, pos 0) ∷ [])) ((omega arith, refl), refl) refl (can_fire drafted 1 slow_due refl) (λ none. none) (λ none. none) (no_other_idling _ (other_at 2 102 105 _ _ refl refl (λ e. omega (arith, e)))),
-    differs (line g) 0 line_flight _ _ _ (FireLine 0 1 false (Some (true, pos 1) ∷ [])) ((omega arith, refl), refl) refl (can_fire drafted 1 slow_due refl) (λ none. none) (λ none. none) (no_other_idling _ (other_at 16 49 48 _ _ refl refl (λ e. omega (arith, e)))),
-    refused (line g) 0 line_flight _ _ _ (FireLine 0 0 true (Some (true, pos 2) ∷ [])) ((omega arith, refl), refl) refl whys.AlreadyFired (fast_due drafted refl, refl),
+    differs (line g) 0 line_flight _ _ _ (FireLine 0 1 true (Some (true, pos 0) ∷ [])) ((omega arith, refl), refl) refl (can_fire drafted 1 slow_due refl)
+        (λ none. none) (λ none. none) (no_other_idling _ (other_at 2 102 105 _ _ refl refl (λ e. omega (arith, e)))),
+    differs (line g) 0 line_flight _ _ _ (FireLine 0 1 false (Some (true, pos 1) ∷ [])) ((omega arith, refl), refl) refl (can_fire drafted 1 slow_due refl)
+        (λ none. none) (λ none. none) (no_other_idling _ (other_at 16 49 48 _ _ refl refl (λ e. omega (arith, e)))),
+    refused (line g) 0 line_flight _ _ _ (FireLine 0 0 true (Some (true, pos 2) ∷ [])) ((omega arith, refl), refl) refl whys.AlreadyFired
+        (fast_due drafted refl, refl),
   )
 
   pub other_ticks : OtherTicks g
   other_ticks = (
-    refused (line g) 0 line_flight _ _ _ (TickLine 0 (pos 2 ∷ []) (pos 14 ∷ [])) ((refl, refl), refl) refl whys.OutsideType (line_step.none_left g settled refl refl, λ b. omega (arith, ints, b.0.1)),
-    differs (line g) 0 line_flight _ _ _ (TickLine 0 (pos 0 ∷ []) (pos 2 ∷ [])) ((refl, refl), refl) refl (can_tick settled (pos 0) (pos 2) (line_step.none_left g settled refl refl) zero_inside) (λ due. due (λ i x at. absurd (none-some x at))) (λ far. omega (arith, far)) (no_other_tick _ (other_at 11 48 49 _ _ refl refl (λ e. omega (arith, e)))),
-    differs (line g) 0 line_flight _ _ _ (TickLine 0 (pos 1 ∷ []) (pos 4 ∷ [])) ((refl, refl), refl) refl (can_tick settled (pos 1) (pos 4) (line_step.none_left g settled refl refl) one_inside) (λ due. due (λ i x at. absurd (none-some x at))) (λ far. omega (arith, far)) (no_other_tick _ (other_at 14 52 51 _ _ refl refl (λ e. omega (arith, e)))),
+    refused (line g) 0 line_flight _ _ _ (TickLine 0 (pos 2 ∷ []) (pos 14 ∷ [])) ((refl, refl), refl) refl whys.OutsideType
+        (line_step.none_left g settled refl refl, λ b. omega (arith, ints, b.0.1)),
+    differs (line g) 0 line_flight _ _ _ (TickLine 0 (pos 0 ∷ []) (pos 2 ∷ [])) ((refl, refl), refl) refl
+        (can_tick settled (pos 0) (pos 2) (line_step.none_left g settled refl refl) zero_inside) (λ due. due (λ i x at. absurd (none-some x at)))
+        (λ far. omega (arith, far)) (no_other_tick _ (other_at 11 48 49 _ _ refl refl (λ e. omega (arith, e)))),
+    differs (line g) 0 line_flight _ _ _ (TickLine 0 (pos 1 ∷ []) (pos 4 ∷ [])) ((refl, refl), refl) refl
+        (can_tick settled (pos 1) (pos 4) (line_step.none_left g settled refl refl) one_inside) (λ due. due (λ i x at. absurd (none-some x at)))
+        (λ far. omega (arith, far)) (no_other_tick _ (other_at 14 52 51 _ _ refl refl (λ e. omega (arith, e)))),
     spells_nothing _ _ _ refl,
-    too_far (line g) 0 line_flight _ _ _ (EndLine 0 3 0) (tt, refl) refl (can_end settled 3 refl refl) (λ due. due (λ i x at. absurd (none-some x at))) (omega arith),
+    too_far (line g) 0 line_flight _ _ _ (EndLine 0 3 0) (tt, refl) refl (can_end settled 3 refl refl) (λ due. due (λ i x at. absurd (none-some x at)))
+        (omega arith),
     wrong_time (line g) 0 line_flight _ _ _ (EndLine 1 3 0) (tt, refl) (λ e. absurd cc),
   )
 
   pub other_later_lines : OtherLaterLines g
   other_later_lines = (
-    refused (line g) 0 line_flight _ _ _ (FireLine 1 0 true (Some (true, pos 2) ∷ [])) ((omega arith, refl), refl) refl whys.NotDue (λ (node, is, within). not_at_1 (subst (λ n. IsDueWithin 0 n.period n.offset 1) (sym (same_Some (fast g) node is)) within)),
-    refused (line g) 0 line_flight _ _ _ (DecideLine 1 0 Ac) (omega arith, refl) refl whys.NotDue (λ (a, is, within). not_at_1 (subst (λ n. IsDueWithin 0 n.period n.offset 1) (sym (same_Some (nav g) a is)) within)),
-    refused (line g) 1 line_flight _ _ _ (FireLine 1 0 true (Some (true, pos 2) ∷ [])) ((omega arith, refl), refl) refl whys.AlreadyFired ((fast g, refl, (0, (omega arith, refl), omega arith, omega arith)), refl),
-    refused (line g) 1 line_flight _ _ _ (DecideLine 1 0 Ac) (omega arith, refl) refl whys.AlreadyFired ((nav g, refl, (0, (omega arith, refl), omega arith, omega arith)), refl),
-    too_far (line g) 0 line_flight _ _ _ (TickLine 1 (pos 1 ∷ []) (pos 6 ∷ [])) ((refl, refl), refl) refl (can_tick ticked (pos 1) (pos 6) (line_step.none_left g ticked refl refl) one_inside) (λ due. due (λ i x at. absurd (none-some x at))) (omega arith),
-    differs (line g) 0 line_flight _ _ _ (EndLine 1 5 0) (tt, refl) refl (can_end ticked 5 refl refl) (λ due. due (λ i x at. absurd (none-some x at))) (λ far. omega (arith, far)) (other_at 13 53 52 _ _ refl refl (λ e. omega (arith, e))),
+    refused (line g) 0 line_flight _ _ _ (FireLine 1 0 true (Some (true, pos 2) ∷ [])) ((omega arith, refl), refl) refl whys.NotDue
+        (λ (node, is, within). not_at_1 (subst (λ n. IsDueWithin 0 n.period n.offset 1) (sym (same_Some (fast g) node is)) within)),
+    refused (line g) 0 line_flight _ _ _ (DecideLine 1 0 Ac) (omega arith, refl) refl whys.NotDue
+        (λ (a, is, within). not_at_1 (subst (λ n. IsDueWithin 0 n.period n.offset 1) (sym (same_Some (nav g) a is)) within)),
+    refused (line g) 1 line_flight _ _ _ (FireLine 1 0 true (Some (true, pos 2) ∷ [])) ((omega arith, refl), refl) refl whys.AlreadyFired
+        ((fast g, refl, (0, (omega arith, refl), omega arith, omega arith)), refl),
+    refused (line g) 1 line_flight _ _ _ (DecideLine 1 0 Ac) (omega arith, refl) refl whys.AlreadyFired
+        ((nav g, refl, (0, (omega arith, refl), omega arith, omega arith)), refl),
+    too_far (line g) 0 line_flight _ _ _ (TickLine 1 (pos 1 ∷ []) (pos 6 ∷ [])) ((refl, refl), refl) refl
+        (can_tick ticked (pos 1) (pos 6) (line_step.none_left g ticked refl refl) one_inside) (λ due. due (λ i x at. absurd (none-some x at))) (omega arith),
+    differs (line g) 0 line_flight _ _ _ (EndLine 1 5 0) (tt, refl) refl (can_end ticked 5 refl refl) (λ due. due (λ i x at. absurd (none-some x at)))
+        (λ far. omega (arith, far)) (other_at 13 53 52 _ _ refl refl (λ e. omega (arith, e))),
   )
 
   -- the header goes on
   goes_on : GoesOn (line g) 0 line_flight (header ∷ [])
   goes_on = (decision ∷ publication ∷ idling ∷ move ∷ [], codes "start pos 0" ∷ line_lines, (line_trace g).0, refl)
 
-  in_place : (l : List ℕ) (more : List (List ℕ)) (kind : LineKind) → l ≢ codes "start pos 0" → ((kind ≡ NotALine) × (IsStartLine (line g) l → ⊥)) ⊎ ((kind ≡ Differs) × IsStartLine (line g) l) → IsRefusedAt (line g) 0 line_flight (header ∷ l ∷ more) 2 kind
+  in_place : (l : List ℕ) (more : List (List ℕ)) (kind : LineKind) → l ≢ codes "start pos 0"
+      → ((kind ≡ NotALine) × (IsStartLine (line g) l → ⊥)) ⊎ ((kind ≡ Differs) × IsStartLine (line g) l)
+      → IsRefusedAt (line g) 0 line_flight (header ∷ l ∷ more) 2 kind
   in_place l more kind other why = record {
     front = header ∷ [];
     rest = l ∷ more;
@@ -226,7 +270,8 @@ module _ (g : Global) where
 
   pub other_start_lines : OtherStartLines g
   other_start_lines = (
-    in_place (codes "start pos 9") line_lines Differs (other_at 10 57 48 _ _ refl refl (λ e. omega (arith, e))) (inr (refl, (0, pos_plant g, pos 9 ∷ [], refl, refl, refl))),
+    in_place (codes "start pos 9") line_lines Differs (other_at 10 57 48 _ _ refl refl (λ e. omega (arith, e)))
+        (inr (refl, (0, pos_plant g, pos 9 ∷ [], refl, refl, refl))),
     in_place (codes "start zap 0") line_lines NotALine (other_at 6 122 112 _ _ refl refl (λ e. omega (arith, e))) (inl (refl, no_start _ refl)),
     in_place _ _ NotALine (other_at 0 48 115 _ _ refl refl (λ e. omega (arith, e))) (inl (refl, no_start _ refl)),
   )

@@ -1,5 +1,6 @@
 -- What is in a range whose ends have 64 bits has 64 bits.
-use Rattle.std.proofs.Common.{◌≡◌, ◌⊎◌, ⊎_elim, inl, inr, ℕ, zero, suc, ℤ, pos, negsuc, List, [], ◌∷◌, ◌++◌, length, map, take, drop, refl, sym, subst, arith, take-append-drop}
+use Rattle.std.proofs.Common.{◌≡◌, ◌⊎◌, ⊎_elim, inl, inr, ℕ, zero, suc, ℤ, pos, negsuc, List, [], ◌∷◌, ◌++◌, length, map, take, drop, refl, sym, subst, arith}
+use Rattle.std.proofs.Common.{take-append-drop}
 use Rattle.std.specs.Prelude.{◌≤ℤ◌}
 use Rattle.std.proofs.lemmas.Int.{ints}
 use Rattle.std.proofs.lemmas.List.{length-drop}
@@ -21,7 +22,8 @@ between (pos l) hi (negsuc n) low high from to = absurd (omega (arith, ints))
 between (negsuc l) hi (negsuc n) low high from to = omega (arith, ints)
 
 -- a number in the range of a scalar; where there is no scalar, the range is 0 alone
-pub in_range : (infos : List ScalarInfo) → ((k : ℕ) (info : ScalarInfo) → At infos k info → Has64Bits info.lo × Has64Bits info.hi) → (k : ℕ) (z : ℤ) → IsIn (range_of infos k) z → Has64Bits z
+pub in_range : (infos : List ScalarInfo) → ((k : ℕ) (info : ScalarInfo) → At infos k info → Has64Bits info.lo × Has64Bits info.hi) → (k : ℕ) (z : ℤ)
+    → IsIn (range_of infos k) z → Has64Bits z
 in_range [] ends k z inside = between (pos 0) (pos 0) z (omega arith) (omega arith) inside.0 inside.1
 in_range (x ∷ xs) ends zero z inside = (let e = ends 0 x refl in between x.lo x.hi z e.0 e.1 inside.0 inside.1)
 in_range (x ∷ xs) ends (suc k) z inside = in_range xs (λ n info at. ends (suc n) info at) k z inside
@@ -43,7 +45,8 @@ in_either (x ∷ xs) ys (suc i) z at = in_either xs ys i z at
 
 -- .. of all plants
 pub in_bounds :
-    (plants : List PlantInfo) → ((k : ℕ) (plant : PlantInfo) (i : ℕ) (info : NoiseInfo) → At plants k plant → At plant.noise.items i info → Has64Bits info.lo × Has64Bits info.hi)
+    (plants : List PlantInfo) → ((k : ℕ) (plant : PlantInfo) (i : ℕ) (info : NoiseInfo) → At plants k plant → At plant.noise.items i info
+    → Has64Bits info.lo × Has64Bits info.hi)
     → (w : List ℤ) → length w ≡ noise_count plants → IsInBounds plants w → (i : ℕ) (z : ℤ) → At w i z → Has64Bits z
 in_bounds [] ends [] size inside i z at = absurd (none-some z at)
 in_bounds [] ends (x ∷ w) size inside i z at = absurd (omega (arith, size))
@@ -52,5 +55,6 @@ in_bounds (k ∷ ks) ends w size inside i z at =
     let split = in_either (take n w) (drop n w) i z (subst (λ l. At l i z) (sym (take-append-drop n w)) at) in
     ⊎_elim
     (λ own. within k.noise.items (λ j info here. ends 0 k j info refl here) (take n w) inside.0 i z own)
-    (λ rest. in_bounds ks (λ j plant m info here there. ends (suc j) plant m info here there) (drop n w) (omega (arith, size, length-drop n w)) inside.1 rest.0 z rest.1)
+    (λ rest. in_bounds ks (λ j plant m info here there. ends (suc j) plant m info here there) (drop n w) (omega (arith, size, length-drop n w)) inside.1 rest.0
+    z rest.1)
     split

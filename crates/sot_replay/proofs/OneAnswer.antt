@@ -1,5 +1,6 @@
 -- Lines have one answer: they are the trace of one history, or are refused at one line by one test.
-use Rattle.std.proofs.Common.{◌≡◌, ℕ, suc, ◌<◌, ◌≤◌, ◌⊎◌, ⊎_elim, inl, inr, List, [], ◌∷◌, ◌++◌, map, length, refl, sym, ap, ◌∙◌, subst, arith, append_assoc, append-nil}
+use Rattle.std.proofs.Common.{◌≡◌, ℕ, suc, ◌<◌, ◌≤◌, ◌⊎◌, ⊎_elim, inl, inr, List, [], ◌∷◌, ◌++◌, map, length, refl, sym, ap, ◌∙◌, subst, arith, append_assoc}
+use Rattle.std.proofs.Common.{append-nil}
 use Rattle.std.proofs.Math.Seq.{take-length, drop-length}
 use Rattle.std.proofs.lemmas.Bool.{cases_lt}
 use Rattle.std.proofs.lemmas.List.{append_cancel_left, length-append}
@@ -25,13 +26,15 @@ use Rattle.sot_replay.specs.Tests.{order_of, WorldRefuses, Fails, FailsFirst, Is
 use Rattle.sot_replay.specs.Replays.{opening_lines, Tell, RefusesStart, RefusesLine, StopsShort, StopsAt, IsRefusedAt}
 use Rattle.sot_replay.specs.Laws.{RefusedOnce, TracesAreNotRefused, TracedOnce}
 use Rattle.sot_replay.specs.declared.fail.LineKind.{LineKind}
-use Rattle.sot_replay.specs.declared.fail.LineKind.TheVariants.{NotALine, WrongTime, NotDue, AlreadyFired, NodesLeft, OutsideType, InputsLeft, TooFar, Differs, Ended, Missing}
+use Rattle.sot_replay.specs.declared.fail.LineKind.TheVariants.{NotALine, WrongTime, NotDue, AlreadyFired, NodesLeft, OutsideType, InputsLeft, TooFar, Differs}
+use Rattle.sot_replay.specs.declared.fail.LineKind.TheVariants.{Ended, Missing}
 use Rattle.sot_trace.proofs.TraceTexts.{AreTold}
 use Rattle.sot_replay.proofs.BegunTraces.{no_end_there, behind_opening, same_heads}
 use Rattle.sot_replay.proofs.LinesGoOn.{fewer_go_on}
 
 -- two fronts of a list, the first no longer than the second
-shorter_front : {A : Type 0} (xs rest ys other : List A) → xs ++ rest ≡ ys ++ other → length xs ≤ length ys → (more : List A) × (ys ≡ xs ++ more) × (rest ≡ more ++ other)
+shorter_front : {A : Type 0} (xs rest ys other : List A) → xs ++ rest ≡ ys ++ other → length xs ≤ length ys
+    → (more : List A) × (ys ≡ xs ++ more) × (rest ≡ more ++ other)
 shorter_front [] rest ys other same le = (ys, refl, same)
 shorter_front (x ∷ xs) rest [] other same le = absurd (omega (arith, le))
 shorter_front {A} (x ∷ xs) rest (y ∷ ys) other same le =
@@ -41,7 +44,8 @@ shorter_front {A} (x ∷ xs) rest (y ∷ ys) other same le =
     (more, ap (λ z. z ∷ ys) (sym heads) ∙ ap (λ l. x ∷ l) is, left)
 
 -- the lines of entries tell them
-lines_same : (p : Tables) → MeetsTableRules p → AreWords p → (es hs : List Logged) → AreTold p es → AreTold p hs → map (line_of p) es ≡ map (line_of p) hs → es ≡ hs
+lines_same : (p : Tables) → MeetsTableRules p → AreWords p → (es hs : List Logged) → AreTold p es → AreTold p hs → map (line_of p) es ≡ map (line_of p) hs
+    → es ≡ hs
 lines_same p rules words [] [] told told' same = refl
 lines_same p rules words [] (h ∷ hs) told told' same = absurd cc
 lines_same p rules words (e ∷ es) [] told told' same = absurd cc
@@ -131,7 +135,8 @@ module _ (p : Tables) (j : ℕ) (f : Plan) (es : List Logged) (P : Position) (li
   same_order s k l a b =
       ⊎_elim
       (λ less. absurd (b.first k less a.fails))
-      (λ le. ⊎_elim (λ more. absurd (a.first l more b.fails)) (λ ge. let e : order_of k ≡ order_of l = omega (arith, le, ge) in e) (cases_lt (order_of l) (order_of k)))
+      (λ le. ⊎_elim (λ more. absurd (a.first l more b.fails)) (λ ge. let e : order_of k ≡ order_of l = omega (arith, le, ge) in e)
+      (cases_lt (order_of l) (order_of k)))
       (cases_lt (order_of k) (order_of l))
 
   one_failing : MeetsTableRules p → AreWords p → (k l : LineKind) → IsFirstFailing p j f es P line k → IsFirstFailing p j f es P line l → k ≡ l
@@ -162,11 +167,13 @@ module _ (p : Tables) (j : ℕ) (f : Plan) (rules : MeetsTableRules p) (words : 
 
   told_short : (es : List Logged) (P : Position) (hs : List Logged) → Tell p j f front es P → IsTraceOf p j f front hs → ⊥
   told_short es P hs tell trace =
-      no_end_there p es hs hs (behind_opening p f hs es [] (sym trace.1 ∙ tell.2 ∙ sym (append-nil (opening_lines p f ++ map (line_of p) es))) ∙ append-nil (map (line_of p) es))
+      no_end_there p es hs hs (behind_opening p f hs es [] (sym trace.1 ∙ tell.2 ∙ sym (append-nil (opening_lines p f ++ map (line_of p) es)))
+      ∙ append-nil (map (line_of p) es))
 
   told_once : (es hs : List Logged) (P Q : Position) → Tell p j f front es P → Tell p j f front hs Q → es ≡ hs
   told_once es hs P Q a b =
-      lines_same p rules words es hs (flown_told p j f es P rules a.0).told (flown_told p j f hs Q rules b.0).told (append_cancel_left (opening_lines p f) (map (line_of p) es) (map (line_of p) hs) (sym a.2 ∙ b.2))
+      lines_same p rules words es hs (flown_told p j f es P rules a.0).told (flown_told p j f hs Q rules b.0).told
+      (append_cancel_left (opening_lines p f) (map (line_of p) es) (map (line_of p) hs) (sym a.2 ∙ b.2))
 
   one_start : (line : List ℕ) (k l : LineKind) → RefusesStart p line k → RefusesStart p line l → k ≡ l
   one_start line k l (inl a) (inl b) = a.0 ∙ sym b.0
@@ -188,7 +195,8 @@ module _ (p : Tables) (j : ℕ) (f : Plan) (rules : MeetsTableRules p) (words : 
   one_refusal line k l (inr (inr (inl (es, P, tell, failing)))) (inr (inr (inl (hs, Q, tell', failing')))) =
       let same = told_once es hs P Q tell tell' in
       let position = one_position p j f es P Q tell.0 (subst (λ x. FlownSoFar p j f x Q) (sym same) tell'.0) in
-      one_failing p j f es P line rules words k l failing (subst (λ x. IsFirstFailing p j f es x line l) (sym position) (subst (λ x. IsFirstFailing p j f x Q line l) (sym same) failing'))
+      one_failing p j f es P line rules words k l failing (subst (λ x. IsFirstFailing p j f es x line l) (sym position)
+      (subst (λ x. IsFirstFailing p j f x Q line l) (sym same) failing'))
   one_refusal line k l (inr (inr (inl (es, P, tell, failing)))) (inr (inr (inr (hs, trace, is)))) = absurd (told_short es P hs tell trace)
   one_refusal line k l (inr (inr (inr (es, trace, is)))) (inl b) = absurd (omega (arith, some_opening, trace_length es trace, ap length b.0))
   one_refusal line k l (inr (inr (inr (es, trace, is)))) (inr (inl b)) = absurd (omega (arith, trace_length es trace, b.1))
@@ -206,7 +214,8 @@ module _ (p : Tables) (j : ℕ) (f : Plan) (lines : List (List ℕ)) where
       let (more, is, left) = shorter_front a.front a.rest b.front b.rest (sym a.is ∙ b.is) (omega (arith, less)) in
       by_more more is left
     where
-      at_line : (line x : List ℕ) (rest more : List (List ℕ)) → b.front ≡ a.front ++ x ∷ more → line ∷ rest ≡ (x ∷ more) ++ b.rest → (GoesOn p j f (a.front ++ line ∷ []) → ⊥) → ⊥
+      at_line : (line x : List ℕ) (rest more : List (List ℕ)) → b.front ≡ a.front ++ x ∷ more → line ∷ rest ≡ (x ∷ more) ++ b.rest
+          → (GoesOn p j f (a.front ++ line ∷ []) → ⊥) → ⊥
       at_line line x rest more is left stops =
           let same : line ≡ x = cc in
           stops (subst (λ y. GoesOn p j f (a.front ++ y ∷ [])) (sym same) (goes_with a.front x more (subst (GoesOn p j f) is b.goes_on)))
@@ -236,7 +245,8 @@ module _ (p : Tables) (j : ℕ) (f : Plan) (lines : List (List ℕ)) where
       no_more [] few = refl
       no_more (x ∷ xs) few = absurd (omega (arith, few))
 
-  one_reason : MeetsTableRules p → AreWords p → (front rest : List (List ℕ)) (k l : LineKind) → (StopsShort p j f front rest k ⊎ StopsAt p j f front rest k) → (StopsShort p j f front rest l ⊎ StopsAt p j f front rest l) → k ≡ l
+  one_reason : MeetsTableRules p → AreWords p → (front rest : List (List ℕ)) (k l : LineKind) → (StopsShort p j f front rest k ⊎ StopsAt p j f front rest k)
+      → (StopsShort p j f front rest l ⊎ StopsAt p j f front rest l) → k ≡ l
   one_reason rules words front rest k l (inl a) (inl b) = a.1 ∙ sym b.1
   one_reason rules words front rest k l (inl a) (inr (line, more, begins, stops, why)) = absurd (let e = sym a.0 ∙ begins in cc)
   one_reason rules words front rest k l (inr (line, more, begins, stops, why)) (inl b) = absurd (let e = sym b.0 ∙ begins in cc)
@@ -250,7 +260,8 @@ refused_once p j f lines number other kind another rules words a b =
     let (fronts, rests) = same_front p j f lines number other kind another a b in (
       a.counted ∙ ap (λ l. suc (length l)) fronts ∙ sym b.counted,
       one_reason p j f lines rules words a.front a.rest kind another a.why
-          (subst (λ r. StopsShort p j f a.front r another ⊎ StopsAt p j f a.front r another) (sym rests) (subst (λ x. StopsShort p j f x b.rest another ⊎ StopsAt p j f x b.rest another) (sym fronts) b.why)),
+          (subst (λ r. StopsShort p j f a.front r another ⊎ StopsAt p j f a.front r another) (sym rests)
+          (subst (λ x. StopsShort p j f x b.rest another ⊎ StopsAt p j f x b.rest another) (sym fronts) b.why)),
     )
 
 pub traces_are_not_refused : TracesAreNotRefused
@@ -264,4 +275,5 @@ traces_are_not_refused p j f lines entries number kind (flown, is) a =
 
 pub traced_once : TracedOnce
 traced_once p j f lines entries others rules words (((P, flown, ended), handed), is) (((Q, flown', ended'), handed'), is') =
-    (text_tells p f.start f.start entries others rules words (flown_told p j f entries P rules flown) (flown_told p j f others Q rules flown') (ap text_of (sym is ∙ is'))).1
+    (text_tells p f.start f.start entries others rules words (flown_told p j f entries P rules flown) (flown_told p j f others Q rules flown')
+    (ap text_of (sym is ∙ is'))).1

@@ -1,5 +1,6 @@
 -- The header and the start lines, place by place.
-use Rattle.std.proofs.Common.{◌≡◌, ◌∙◌, inl, inr, ℕ, zero, suc, ◌+◌, ◌-◌, ◌<◌, ℤ, List, [], ◌∷◌, ◌++◌, Some, length, take, drop, refl, sym, ap, subst, arith, append_assoc}
+use Rattle.std.proofs.Common.{◌≡◌, ◌∙◌, inl, inr, ℕ, zero, suc, ◌+◌, ◌-◌, ◌<◌, ℤ, List, [], ◌∷◌, ◌++◌, Some, length, take, drop, refl, sym, ap, subst, arith}
+use Rattle.std.proofs.Common.{append_assoc}
 use Rattle.std.proofs.Math.Seq.{take-append_seam, drop-append_seam, take-length}
 use Rattle.std.proofs.lemmas.List.{length-take-le}
 use Rattle.std.proofs.lemmas.Option.{none-some, same_Some}
@@ -19,7 +20,8 @@ starts_count [] points same = refl
 starts_count (k ∷ ks) [] same = absurd (omega (arith, same))
 starts_count (k ∷ ks) (x ∷ xs) same = ap suc (starts_count ks xs (omega (arith, same)))
 
-start_at : (plants : List PlantInfo) (points : List (List ℤ)) (k : ℕ) (plant : PlantInfo) (point : List ℤ) → At plants k plant → At points k point → At (start_lines plants points) k (start_line plant point)
+start_at : (plants : List PlantInfo) (points : List (List ℤ)) (k : ℕ) (plant : PlantInfo) (point : List ℤ) → At plants k plant → At points k point
+    → At (start_lines plants points) k (start_line plant point)
 start_at [] points k plant point at_k at_x = absurd (none-some plant at_k)
 start_at (q ∷ ks) [] k plant point at_k at_x = absurd (none-some point at_x)
 start_at (q ∷ ks) (x ∷ xs) zero plant point at_k at_x = (let a = same_Some q plant at_k in let b = same_Some x point at_x in λ i. Some (start_line (a i) (b i)))
@@ -35,7 +37,8 @@ first_is p f place line first at = sym (same_Some header line (subst (λ n. At (
 
 -- .. and in a later one
 pub later_is :
-    (p : Tables) (f : Plan) (place : ℕ) (plant : PlantInfo) (point : List ℤ) (line : List ℕ) → (place ≡ 0 → ⊥) → At p.plants (place - 1) plant → At f.start (place - 1) point → At (opening_lines p f) place line → line ≡ start_line plant point
+    (p : Tables) (f : Plan) (place : ℕ) (plant : PlantInfo) (point : List ℤ) (line : List ℕ) → (place ≡ 0 → ⊥) → At p.plants (place - 1) plant
+    → At f.start (place - 1) point → At (opening_lines p f) place line → line ≡ start_line plant point
 later_is p f place plant point line later at_k at_x at =
     let next : place ≡ suc (place - 1) = omega (arith, later) in
     let here : At (start_lines p.plants f.start) (place - 1) line = subst (λ n. At (opening_lines p f) n line) next at in
@@ -50,7 +53,8 @@ further (y ∷ xs) (suc n) x at = ap (λ l. y ∷ l) (further xs n x at)
 one_further : (xs : List (List ℕ)) (n : ℕ) (x : List ℕ) → At xs n x → take (n + 1) xs ≡ take n xs ++ x ∷ []
 one_further xs n x at = (let one : n + 1 ≡ suc n = omega arith in ap (λ k. take k xs) one ∙ further xs n x at)
 
-module _ (p : Tables) (f : Plan) (lines left : List (List ℕ)) (place : ℕ) (is : lines ≡ take place (opening_lines p f) ++ left) (inside : place < length (opening_lines p f)) where
+module _ (p : Tables) (f : Plan) (lines left : List (List ℕ)) (place : ℕ) (is : lines ≡ take place (opening_lines p f) ++ left)
+    (inside : place < length (opening_lines p f)) where
   size : length (take place (opening_lines p f)) ≡ place
   size = length-take-le place (opening_lines p f) (omega (arith, inside))
 
@@ -65,14 +69,18 @@ module _ (p : Tables) (f : Plan) (lines left : List (List ℕ)) (place : ℕ) (i
   opening_stops none = record { inside = inside; front = front; why = inl (rest ∙ none, refl) }
 
   -- .. or another one stands there
-  pub opening_differs : (line : List ℕ) (more : List (List ℕ)) (kind : LineKind) → left ≡ line ∷ more → (At (opening_lines p f) place line → ⊥) → RefusesOpening p place line kind → IsOpeningRefused p f lines place kind
+  pub opening_differs : (line : List ℕ) (more : List (List ℕ)) (kind : LineKind) → left ≡ line ∷ more → (At (opening_lines p f) place line → ⊥)
+      → RefusesOpening p place line kind → IsOpeningRefused p f lines place kind
   opening_differs line more kind here other why = record { inside = inside; front = front; why = inr (line, more, rest ∙ here, other, why) }
 
   -- .. or the one that has to
-  pub opening_goes : (line : List ℕ) (more : List (List ℕ)) → left ≡ line ∷ more → At (opening_lines p f) place line → lines ≡ take (place + 1) (opening_lines p f) ++ more
+  pub opening_goes : (line : List ℕ) (more : List (List ℕ)) → left ≡ line ∷ more → At (opening_lines p f) place line
+      → lines ≡ take (place + 1) (opening_lines p f) ++ more
   opening_goes line more here at =
-      is ∙ ap (λ l. take place (opening_lines p f) ++ l) here ∙ sym (append_assoc (take place (opening_lines p f)) (line ∷ []) more) ∙ ap (λ l. l ++ more) (sym (one_further (opening_lines p f) place line at))
+      is ∙ ap (λ l. take place (opening_lines p f) ++ l) here ∙ sym (append_assoc (take place (opening_lines p f)) (line ∷ []) more)
+      ∙ ap (λ l. l ++ more) (sym (one_further (opening_lines p f) place line at))
 
 -- behind the last place all of them stand there
-pub opening_whole : (p : Tables) (f : Plan) (lines left : List (List ℕ)) (place : ℕ) → lines ≡ take place (opening_lines p f) ++ left → place ≡ length (opening_lines p f) → lines ≡ opening_lines p f ++ left
+pub opening_whole : (p : Tables) (f : Plan) (lines left : List (List ℕ)) (place : ℕ) → lines ≡ take place (opening_lines p f) ++ left
+    → place ≡ length (opening_lines p f) → lines ≡ opening_lines p f ++ left
 opening_whole p f lines left place is all = is ∙ ap (λ n. take n (opening_lines p f) ++ left) all ∙ ap (λ l. l ++ left) (take-length (opening_lines p f))

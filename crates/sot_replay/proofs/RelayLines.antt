@@ -1,5 +1,6 @@
 -- The worked lines of the relay's flight.
-use Rattle.std.proofs.Common.{◌≡◌, ◌≢◌, ℕ, ℤ, pos, true, false, ◌⊎◌, ⊎_elim, inl, inr, refl, sym, ap, subst, ◌∙◌, ◌+◌, List, [], ◌∷◌, Some, None, Ok, arith, ◌↔◌}
+use Rattle.std.proofs.Common.{◌≡◌, ◌≢◌, ℕ, ℤ, pos, true, false, ◌⊎◌, ⊎_elim, inl, inr, refl, sym, ap, subst, ◌∙◌, ◌+◌, List, [], ◌∷◌, Some, None, Ok, arith}
+use Rattle.std.proofs.Common.{◌↔◌}
 use Rattle.std.specs.Prelude.{codes, slice_index_or, Result}
 use Rattle.std.proofs.lemmas.Bool.{false≢true}
 use Rattle.std.proofs.lemmas.Int.{ints}
@@ -50,13 +51,15 @@ other_at k a b xs ys is_a is_b other e = other (sym is_a ∙ ap (λ l. slice_ind
 
 -- no guest fires in this flight
 pub none_handed : (entries : List Logged) → AreHandedOver relay_flight entries
-none_handed entries i time node index draft enabled at crew = absurd (at_one (λ n c. c ≡ ByGuest index → ⊥) Coded (λ e. absurd cc) node (ByGuest index) crew refl)
+none_handed entries i time node index draft enabled at crew =
+    absurd (at_one (λ n c. c ≡ ByGuest index → ⊥) Coded (λ e. absurd cc) node (ByGuest index) crew refl)
 
 module _ (g : Global) where
   pub opens : IsOpening (relay g) [] (relaying (pos 0) (pos 0))
   opens = record {
     time = refl;
-    left = at_one (λ n node. (is_left (relaying (pos 0) (pos 0)) n ≡ true) ↔ IsDue node.period node.offset 0) (copy g) ((λ e. (omega arith, refl)), (λ d. refl));
+    left =
+        at_one (λ n node. (is_left (relaying (pos 0) (pos 0)) n ≡ true) ↔ IsDue node.period node.offset 0) (copy g) ((λ e. (omega arith, refl)), (λ d. refl));
     left_dm = λ m a at. absurd (none-some a at);
     modes = refl;
     scalars = refl;
@@ -95,7 +98,16 @@ module _ (g : Global) where
             fires = record { was_left = refl; time = refl; left = refl; left_dm = refl; modes = refl; points = refl; locals_set = refl; scalars = refl };
           };
           recorded = NodeFired (Some (pos 0) ∷ []) true;
-          records = record { node = copy g; is = refl; acts = copy_acts g; coded = (_, refl, refl); fired = record { locals = []; draft = Some (pos 0) ∷ [] }; runs = refl; recorded = refl };
+          records =
+              record {
+                node = copy g;
+                is = refl;
+                acts = copy_acts g;
+                coded = (_, refl, refl);
+                fired = record { locals = []; draft = Some (pos 0) ∷ [] };
+                runs = refl;
+                recorded = refl;
+              };
           tells = (Some (pos 0) ∷ [], true, refl, refl);
           inputs = refl;
           fired = refl;
@@ -140,20 +152,26 @@ module _ (g : Global) where
   -- what the node copies at the start
   code_gives :
       (n : ℕ) (node : NodeInfo) → At (relay g).nodes n node → (acts : List Act) (fired : Fired) → IsCoded node acts
-      → execution acts (local_ranges node) (write_ranges (relay g) node) (reading node starting.at.scalars starting.at.points) (locals_of starting.at n) ≡ Ok fired → (n ≡ 0) × (fired.draft ≡ Some (pos 0) ∷ [])
+      → execution acts (local_ranges node) (write_ranges (relay g) node) (reading node starting.at.scalars starting.at.points) (locals_of starting.at n)
+      ≡ Ok fired → (n ≡ 0) × (fired.draft ≡ Some (pos 0) ∷ [])
   unfolding execution
   code_gives = at_one
       (λ n node. (acts : List Act) (fired : Fired) → IsCoded node acts
-      → execution acts (local_ranges node) (write_ranges (relay g) node) (reading node starting.at.scalars starting.at.points) (locals_of starting.at n) ≡ Ok fired → (n ≡ 0) × (fired.draft ≡ Some (pos 0) ∷ []))
+      → execution acts (local_ranges node) (write_ranges (relay g) node) (reading node starting.at.scalars starting.at.points) (locals_of starting.at n)
+      ≡ Ok fired → (n ≡ 0) × (fired.draft ≡ Some (pos 0) ∷ []))
       (copy g)
       (λ acts fired (v, is, items) runs.
       let acts_are : acts ≡ copy_acts g = sym items ∙ ap (λ x. x.items) (sym (same_Some _ v is)) in
-      let from : execution (copy_acts g) (local_ranges (copy g)) (write_ranges (relay g) (copy g)) (reading (copy g) starting.at.scalars starting.at.points) (locals_of starting.at 0) ≡ Ok fired = subst (λ a. execution a (local_ranges (copy g)) (write_ranges (relay g) (copy g)) (reading (copy g) starting.at.scalars starting.at.points) (locals_of starting.at 0) ≡ Ok fired) acts_are runs in
+      let from : execution (copy_acts g) (local_ranges (copy g)) (write_ranges (relay g) (copy g)) (reading (copy g) starting.at.scalars starting.at.points)
+      (locals_of starting.at 0) ≡ Ok fired =
+      subst (λ a. execution a (local_ranges (copy g)) (write_ranges (relay g) (copy g)) (reading (copy g) starting.at.scalars starting.at.points)
+      (locals_of starting.at 0) ≡ Ok fired) acts_are runs in
       (refl, ap (λ x. x.draft) (same_ok fired (record { locals = []; draft = Some (pos 0) ∷ [] }) _ from refl)))
 
   -- with which entries the flight can begin
   begins :
-      (ev : Event) (r : Recorded) (entry : Logged) (D : Configuration) → IsStated (relay g) relay_flight starting ev → Step (relay g) 0 starting.at ev D → Records (relay g) starting.at ev D r
+      (ev : Event) (r : Recorded) (entry : Logged) (D : Configuration) → IsStated (relay g) relay_flight starting ev → Step (relay g) 0 starting.at ev D
+      → Records (relay g) starting.at ev D r
       → Tells starting.at ev r D entry → (entry ≡ InputAt 0 0 (pos 5 ∷ [])) ⊎ (entry ≡ copies (pos 0))
   begins (Input topic value) r entry D (rest, is) step records tells =
       let expected : StatedInput = record { at = 0; topic = 0; value = pos 5 ∷ [] } in
@@ -164,15 +182,18 @@ module _ (g : Global) where
       let same : NodeFired draft enabled ≡ NodeFired records.fired.draft true = sym was ∙ records.recorded in
       let draft_is : draft ≡ records.fired.draft = cc in
       let on : enabled ≡ true = cc in
-      inr (is ∙ ap (λ k. FireAt 0 k (in_slots draft) enabled) gives.0 ∙ ap (λ d. FireAt 0 0 (in_slots d) enabled) (draft_is ∙ gives.1) ∙ ap (FireAt 0 0 (in_slots (Some (pos 0) ∷ []))) on)
-  begins (Guest n given) r entry D stated step records tells = absurd (at_one (λ k node. node.body ≡ None → ⊥) (copy g) (λ e. none-some _ (sym e)) n step.node step.is step.external)
+      inr (is ∙ ap (λ k. FireAt 0 k (in_slots draft) enabled) gives.0 ∙ ap (λ d. FireAt 0 0 (in_slots d) enabled) (draft_is ∙ gives.1)
+      ∙ ap (FireAt 0 0 (in_slots (Some (pos 0) ∷ []))) on)
+  begins (Guest n given) r entry D stated step records tells =
+      absurd (at_one (λ k node. node.body ≡ None → ⊥) (copy g) (λ e. none-some _ (sym e)) n step.node step.is step.external)
   begins (Decide m) r entry D stated step records tells = absurd (none-some step.module_info step.is)
   begins (Tick noise) r entry D stated step records tells = absurd (omega (arith, stated.0))
 
   -- another line is not the next one
   pub no_next : (line : List ℕ) → line ≢ codes "0 input e=5" → line ≢ codes "0 fire copy m=0" → IsNextLine (relay g) 0 relay_flight starting line → ⊥
   no_next line not_heard not_copied (entry, Q, flies, handed, is) =
-      ⊎_elim (λ e. not_heard (is ∙ ap (line_of (relay g)) e)) (λ e. not_copied (is ∙ ap (line_of (relay g)) e)) (begins flies.event flies.recorded entry Q.at flies.stated flies.step flies.records flies.tells)
+      ⊎_elim (λ e. not_heard (is ∙ ap (line_of (relay g)) e)) (λ e. not_copied (is ∙ ap (line_of (relay g)) e))
+      (begins flies.event flies.recorded entry Q.at flies.stated flies.step flies.records flies.tells)
 
   -- the node can fire at the start, and a value in the type of e can come
   can_fire : (why : Why) → RefusesNode (relay g) 0 starting.at 0 why → ⊥
@@ -191,7 +212,9 @@ module _ (g : Global) where
   can_come whys.OutsideType not = not six
 
   ten : IsTypedInput (relay g) 0 (pos 10 ∷ []) → ⊥
-  ten (info, is, typed) = (let t = subst (λ x. IsIn (range_of (relay g).scalars (x.first + 0)) (pos 10)) (sym (same_Some (e_topic g) info is)) (typed 0 (pos 10) refl) in omega (arith, ints, t.1))
+  ten (info, is, typed) =
+      (let t = subst (λ x. IsIn (range_of (relay g).scalars (x.first + 0)) (pos 10)) (sym (same_Some (e_topic g) info is)) (typed 0 (pos 10) refl) in
+      omega (arith, ints, t.1))
 
   -- lines that spell an input and a firing
   spells_input : (line : List ℕ) (time : ℕ) (z : ℤ) → line ≡ line_of (relay g) (InputAt time 0 (z ∷ [])) → IsSpelled (relay g) line (InputLine time 0 (z ∷ []))
@@ -199,10 +222,14 @@ module _ (g : Global) where
 
   pub other_first_lines : OtherFirstLines g
   other_first_lines = (
-    differs (relay g) 0 relay_flight [] starting _ (FireLine 0 0 true (Some (true, pos 5) ∷ [])) ((omega arith, refl), refl) refl can_fire (λ none. none) (λ none. none) (no_next _ (other_at 2 102 105 _ _ refl refl (λ e. omega (arith, e))) (other_at 14 53 48 _ _ refl refl (λ e. omega (arith, e)))),
-    differs (relay g) 0 relay_flight [] starting _ (FireLine 0 0 true (Some (false, pos 0) ∷ [])) ((omega arith, refl), refl) refl can_fire (λ none. none) (λ none. none) (no_next _ (other_at 2 102 105 _ _ refl refl (λ e. omega (arith, e))) (other_at 13 33 61 _ _ refl refl (λ e. omega (arith, e)))),
-    differs (relay g) 0 relay_flight [] starting _ (FireLine 0 0 false (Some (true, pos 0) ∷ [])) ((omega arith, refl), refl) refl can_fire (λ none. none) (λ none. none) (no_next _ (other_at 3 100 110 _ _ refl refl (λ e. omega (arith, e))) (other_at 2 105 102 _ _ refl refl (λ e. omega (arith, e)))),
-    differs (relay g) 0 relay_flight [] starting _ (InputLine 0 0 (pos 6 ∷ [])) (spells_input _ 0 (pos 6) refl) refl can_come (λ none. none) (λ none. none) (no_next _ (other_at 10 54 53 _ _ refl refl (λ e. omega (arith, e))) (other_at 2 105 102 _ _ refl refl (λ e. omega (arith, e)))),
+    differs (relay g) 0 relay_flight [] starting _ (FireLine 0 0 true (Some (true, pos 5) ∷ [])) ((omega arith, refl), refl) refl can_fire (λ none. none)
+        (λ none. none) (no_next _ (other_at 2 102 105 _ _ refl refl (λ e. omega (arith, e))) (other_at 14 53 48 _ _ refl refl (λ e. omega (arith, e)))),
+    differs (relay g) 0 relay_flight [] starting _ (FireLine 0 0 true (Some (false, pos 0) ∷ [])) ((omega arith, refl), refl) refl can_fire (λ none. none)
+        (λ none. none) (no_next _ (other_at 2 102 105 _ _ refl refl (λ e. omega (arith, e))) (other_at 13 33 61 _ _ refl refl (λ e. omega (arith, e)))),
+    differs (relay g) 0 relay_flight [] starting _ (FireLine 0 0 false (Some (true, pos 0) ∷ [])) ((omega arith, refl), refl) refl can_fire (λ none. none)
+        (λ none. none) (no_next _ (other_at 3 100 110 _ _ refl refl (λ e. omega (arith, e))) (other_at 2 105 102 _ _ refl refl (λ e. omega (arith, e)))),
+    differs (relay g) 0 relay_flight [] starting _ (InputLine 0 0 (pos 6 ∷ [])) (spells_input _ 0 (pos 6) refl) refl can_come (λ none. none) (λ none. none)
+        (no_next _ (other_at 10 54 53 _ _ refl refl (λ e. omega (arith, e))) (other_at 2 105 102 _ _ refl refl (λ e. omega (arith, e)))),
     refused (relay g) 0 relay_flight [] starting _ (InputLine 0 0 (pos 10 ∷ [])) (spells_input _ 0 (pos 10) refl) refl whys.OutsideType ten,
     wrong_time (relay g) 0 relay_flight [] starting _ (InputLine 1 0 (pos 5 ∷ [])) (spells_input _ 1 (pos 5) refl) (λ e. absurd cc),
     wrong_time (relay g) 0 relay_flight [] starting _ (InputLine 1 0 (pos 10 ∷ [])) (spells_input _ 1 (pos 10) refl) (λ e. absurd cc),
@@ -242,15 +269,20 @@ module _ (g : Global) where
     refused (relay g) 0 relay_flight _ heard _ (EndLine 0 1 0) (tt, refl) refl whys.NodesLeft (λ none. false≢true (sym (none.nodes 0 (copy g) refl))),
     inputs_left (relay g) 0 relay_flight _ unheard _ (EndLine 0 1 0) (tt, refl) refl (ends_at unheard.at refl 1 0) input_due,
     inputs_left (relay g) 0 relay_flight _ unheard _ (TickLine 0 [] []) ((refl, refl), refl) refl (ticks_at unheard.at refl) input_due,
-    refused (relay g) 0 relay_flight _ unheard _ (FireLine 0 0 true (Some (true, pos 0) ∷ [])) ((omega arith, refl), refl) refl whys.AlreadyFired ((copy g, refl, due), refl),
-    too_far (relay g) 0 relay_flight _ copied _ (TickLine 0 [] []) ((refl, refl), refl) refl (ticks_at copied.at refl) (λ due'. due' (λ i x at. absurd (none-some x at))) (omega arith),
-    differs (relay g) 0 relay_flight _ copied _ (EndLine 0 3 0) (tt, refl) refl (ends_at copied.at refl 3 0) (λ due'. due' (λ i x at. absurd (none-some x at))) (λ lt. omega (arith, lt)) (other_at 13 51 50 _ _ refl refl (λ e. omega (arith, e))),
-    differs (relay g) 0 relay_flight _ copied _ (EndLine 0 2 1) (tt, refl) refl (ends_at copied.at refl 2 1) (λ due'. due' (λ i x at. absurd (none-some x at))) (λ lt. omega (arith, lt)) (other_at 23 49 48 _ _ refl refl (λ e. omega (arith, e))),
+    refused (relay g) 0 relay_flight _ unheard _ (FireLine 0 0 true (Some (true, pos 0) ∷ [])) ((omega arith, refl), refl) refl whys.AlreadyFired
+        ((copy g, refl, due), refl),
+    too_far (relay g) 0 relay_flight _ copied _ (TickLine 0 [] []) ((refl, refl), refl) refl (ticks_at copied.at refl)
+        (λ due'. due' (λ i x at. absurd (none-some x at))) (omega arith),
+    differs (relay g) 0 relay_flight _ copied _ (EndLine 0 3 0) (tt, refl) refl (ends_at copied.at refl 3 0) (λ due'. due' (λ i x at. absurd (none-some x at)))
+        (λ lt. omega (arith, lt)) (other_at 13 51 50 _ _ refl refl (λ e. omega (arith, e))),
+    differs (relay g) 0 relay_flight _ copied _ (EndLine 0 2 1) (tt, refl) refl (ends_at copied.at refl 2 1) (λ due'. due' (λ i x at. absurd (none-some x at)))
+        (λ lt. omega (arith, lt)) (other_at 23 49 48 _ _ refl refl (λ e. omega (arith, e))),
   )
 
   -- what is read as nothing spells nothing
   spells_nothing : (line : List ℕ) → spelled_at (relay g) line ≡ None → FailsAt g [] starting line NotALine
-  spells_nothing line none = not_a_line (relay g) 0 relay_flight [] starting line (λ s is. none-some s (sym none ∙ read_spelled (relay g) (rules g) (words g) line s is))
+  spells_nothing line none =
+      not_a_line (relay g) 0 relay_flight [] starting line (λ s is. none-some s (sym none ∙ read_spelled (relay g) (rules g) (words g) line s is))
 
   pub spell_nothing : SpellNothing g
   spell_nothing = (

@@ -32,7 +32,8 @@ module _ (g : Global) where
   not_ended Q same end = false≢true (sym (end.nothing.nodes 0 (copy g) refl) ∙ ap (λ P. is_left P.at 0) (sym same))
 
   -- where the history begins with no entry of this line, none has it behind the header
-  other_history : (entries : List Logged) (line : List ℕ) (rest : List (List ℕ)) (Q : Position) → (IsNextLine (relay g) 0 relay_flight starting line → ⊥) → Leads (relay g) 0 relay_flight starting entries Q
+  other_history : (entries : List Logged) (line : List ℕ) (rest : List (List ℕ)) (Q : Position) → (IsNextLine (relay g) 0 relay_flight starting line → ⊥)
+      → Leads (relay g) 0 relay_flight starting entries Q
       → IsEnd (relay g) relay_flight Q → trace_lines (relay g) relay_flight.start entries ≡ header ∷ line ∷ rest → ⊥
   other_history [] line rest Q not same end is = not_ended Q same end
   other_history (e ∷ es) line rest Q not (R, flies, more) end is =
@@ -49,7 +50,8 @@ module _ (g : Global) where
   begun = (relay_history, _, (two_traces g).0.0, refl)
 
   -- a first line behind the header is refused in its place, whatever follows
-  in_place : (line : List ℕ) (more : List (List ℕ)) (kind : LineKind) → line ≢ codes "0 input e=5" → line ≢ codes "0 fire copy m=0" → IsFirstFailing (relay g) 0 relay_flight [] starting line kind
+  in_place : (line : List ℕ) (more : List (List ℕ)) (kind : LineKind) → line ≢ codes "0 input e=5" → line ≢ codes "0 fire copy m=0"
+      → IsFirstFailing (relay g) 0 relay_flight [] starting line kind
       → IsRefusedAt (relay g) 0 relay_flight (header ∷ line ∷ more) 2 kind
   in_place line more kind not_heard not_copied fails = record {
     front = header ∷ [];
@@ -61,7 +63,8 @@ module _ (g : Global) where
   }
 
   -- lines that stop short
-  short : (n : ℕ) (lines : List (List ℕ)) → GoesOn (relay g) 0 relay_flight lines → lines ≡ take n (opening_lines (relay g) relay_flight) → IsRefusedAt (relay g) 0 relay_flight lines (suc (length lines)) Missing
+  short : (n : ℕ) (lines : List (List ℕ)) → GoesOn (relay g) 0 relay_flight lines → lines ≡ take n (opening_lines (relay g) relay_flight)
+      → IsRefusedAt (relay g) 0 relay_flight lines (suc (length lines)) Missing
   short n lines goes is = record {
     front = lines;
     rest = [];
@@ -85,7 +88,8 @@ module _ (g : Global) where
       is = refl;
       counted = refl;
       goes_on = begun;
-      why = inr (_, _, refl, other_opening (relay g) 0 relay_flight 0 header _ refl (other_at 12 50 49 _ _ refl refl (λ e. omega (arith, e))), inl (refl, refl));
+      why =
+          inr (_, _, refl, other_opening (relay g) 0 relay_flight 0 header _ refl (other_at 12 50 49 _ _ refl refl (λ e. omega (arith, e))), inl (refl, refl));
     },
     refused_behind_end (relay g) 0 relay_flight _ _ (codes "x") [] relay_history 5 (rules g) (words g) refl refl (two_traces g).0,
   )

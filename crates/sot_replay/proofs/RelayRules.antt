@@ -72,16 +72,26 @@ module _ (g : Global) where
     once = λ n node i j k at. at_one (λ n node. At node.writes.items i k → At node.writes.items j k → i ≡ j) (copy g)
         (λ a b. at_one (λ p x. p ≡ 0) 1 refl i k a ∙ sym (at_one (λ p x. p ≡ 0) 1 refl j k b)) n node at;
     inside = λ n node k at. at_one (λ n node. Has node.writes.items k → k < 2) (copy g) (λ a. let e = writes k a in omega (arith, e)) n node at;
-    outside = λ n node t i info at at_t e less has. at_two (λ t info. info.outside ≡ true → i < info.count → Has (copy g).writes.items (info.first + i) → ⊥) (e_topic g) (m_topic g)
+    outside =
+        λ n node t i info at at_t e less has. at_two (λ t info. info.outside ≡ true → i < info.count → Has (copy g).writes.items (info.first + i) → ⊥)
+        (e_topic g) (m_topic g)
         (λ e less a. let one = writes (0 + i) a in omega (arith, less, one)) (λ e less a. false≢true e) t info at_t e less
         (at_one (λ n node. Has node.writes.items (info.first + i) → Has (copy g).writes.items (info.first + i)) (copy g) (λ a. a) n node at has);
-    scalar_topic = at_two (λ k info. (topic : TopicInfo) × At (relay g).topics info.topic topic × (topic.first ≤ k) × (k < topic.first + topic.count)) (digit g 0) (digit g 1)
+    scalar_topic =
+        at_two (λ k info. (topic : TopicInfo) × At (relay g).topics info.topic topic × (topic.first ≤ k) × (k < topic.first + topic.count)) (digit g 0)
+        (digit g 1)
         (e_topic g, refl, omega arith, omega arith) (m_topic g, refl, omega arith, omega arith);
-    topic_scalar = λ t k topic at. at_two (λ t topic. topic.first ≤ k → k < topic.first + topic.count → (info : ScalarInfo) × At (relay g).scalars k info × (info.topic ≡ t)) (e_topic g) (m_topic g)
-        (λ a b. let e : 0 ≡ k = omega (arith, a, b) in subst (λ k. (info : ScalarInfo) × At (relay g).scalars k info × (info.topic ≡ 0)) e (digit g 0, refl, refl))
-        (λ a b. let e : 1 ≡ k = omega (arith, a, b) in subst (λ k. (info : ScalarInfo) × At (relay g).scalars k info × (info.topic ≡ 1)) e (digit g 1, refl, refl))
+    topic_scalar =
+        λ t k topic at. at_two (λ t topic. topic.first ≤ k → k < topic.first + topic.count
+        → (info : ScalarInfo) × At (relay g).scalars k info × (info.topic ≡ t)) (e_topic g) (m_topic g)
+        (λ a b. let e : 0 ≡ k = omega (arith, a, b) in subst (λ k. (info : ScalarInfo) × At (relay g).scalars k info × (info.topic ≡ 0)) e
+        (digit g 0, refl, refl))
+        (λ a b. let e : 1 ≡ k = omega (arith, a, b) in subst (λ k. (info : ScalarInfo) × At (relay g).scalars k info × (info.topic ≡ 1)) e
+        (digit g 1, refl, refl))
         t topic at;
-    whole_writes = λ n node j k a b at. at_one (λ n node. Has node.writes.items j → At (relay g).scalars j a → At (relay g).scalars k b → a.topic ≡ b.topic → Has node.writes.items k) (copy g)
+    whole_writes =
+        λ n node j k a b at. at_one (λ n node. Has node.writes.items j → At (relay g).scalars j a → At (relay g).scalars k b → a.topic ≡ b.topic
+        → Has node.writes.items k) (copy g)
         (λ w x y e. subst (λ k. Has (copy g).writes.items k) (sym (topic_is j a x) ∙ e ∙ topic_is k b y) w) n node at;
     whole_inputs = λ i plant j k a b at. absurd (none-some plant at);
     inputs_are = λ i plant k at. absurd (none-some plant at);
@@ -139,7 +149,9 @@ module _ (g : Global) where
   pub words : AreWords (relay g)
   words = record {
     topics = at_two (λ t x. IsWord x.name) (e_topic g) (m_topic g) refl refl;
-    fields = λ k info field at is. absurd (at_two (λ n x. x.field ≡ Some field → ⊥) (digit g 0) (digit g 1) (λ e. none-some field e) (λ e. none-some field e) k info at is);
+    fields =
+        λ k info field at is. absurd (at_two (λ n x. x.field ≡ Some field → ⊥) (digit g 0) (digit g 1) (λ e. none-some field e) (λ e. none-some field e) k info
+        at is);
     plants = λ k plant at. absurd (none-some plant at);
     nodes = at_one (λ k x. IsWord x.name) (copy g) refl;
     modules = λ m info at. absurd (none-some info at);

@@ -17,11 +17,13 @@ use Rattle.sot_replay.proofs.PassedTests.{entry_fits}
 
 -- what a line spells that is the line of an entry with which the flight goes on
 pub spells_entry :
-    (b : Standing) → IsStanding b → AreWords b.accepted.program → (line : List ℕ) (s : Spelled) → IsSpelled b.accepted.program line s → (e : Logged) (Q : Position)
+    (b : Standing) → IsStanding b → AreWords b.accepted.program → (line : List ℕ) (s : Spelled) → IsSpelled b.accepted.program line s
+    → (e : Logged) (Q : Position)
     → Flies b.accepted.program b.accepted.cert.jitter b.plan b.position e Q → line ≡ line_of b.accepted.program e → spelled_of b.accepted.program e ≡ s
 spells_entry b stands words line s spelled e Q flies is =
     let p = b.accepted.program in
-    spelled_once p line (spelled_of p e) s stands.kept.rules words (subst (λ l. IsSpelled p l (spelled_of p e)) (sym is) (entries_spelled p e (entry_fits b stands e Q flies))) spelled
+    spelled_once p line (spelled_of p e) s stands.kept.rules words
+    (subst (λ l. IsSpelled p l (spelled_of p e)) (sym is) (entries_spelled p e (entry_fits b stands e Q flies))) spelled
 
 -- the entry that is spelled as a decision
 pub decision_of : (p : Tables) (e : Logged) (t m : ℕ) (mode : Mode) → spelled_of p e ≡ DecideLine t m mode → e ≡ DecideAt t m mode
@@ -45,9 +47,11 @@ tick_of p (DecideAt time k mode) t noise states same = absurd cc
 tick_of p (TickAt time w x) t noise states same = cc
 
 -- .. as a firing
-pub firing_of : (p : Tables) (e : Logged) (t n : ℕ) (on : Bool) (slots : List (Option (Bool × ℤ))) → spelled_of p e ≡ FireLine t n on slots → (draft : List (Option ℤ)) × (e ≡ FireAt t n draft on) × (marks_of p (writes_of p n) draft ≡ slots)
+pub firing_of : (p : Tables) (e : Logged) (t n : ℕ) (on : Bool) (slots : List (Option (Bool × ℤ))) → spelled_of p e ≡ FireLine t n on slots
+    → (draft : List (Option ℤ)) × (e ≡ FireAt t n draft on) × (marks_of p (writes_of p n) draft ≡ slots)
 firing_of p (InputAt time k kept) t n on slots same = absurd cc
-firing_of p (FireAt time node draft enabled) t n on slots same = (let n_is : node ≡ n = cc in (draft, cc, subst (λ k. marks_of p (writes_of p k) draft ≡ slots) n_is cc))
+firing_of p (FireAt time node draft enabled) t n on slots same =
+    (let n_is : node ≡ n = cc in (draft, cc, subst (λ k. marks_of p (writes_of p k) draft ≡ slots) n_is cc))
 firing_of p (DecideAt time k mode) t n on slots same = absurd cc
 firing_of p (TickAt time w x) t n on slots same = absurd cc
 
@@ -77,9 +81,11 @@ module _ (C D : Configuration) (r : Recorded) where
   moves (Tick noise) e t w x same is = (noise, refl)
 
   -- .. of a firing
-  pub fires : (ev : Event) (e : Logged) (t n : ℕ) (slots : List (Option ℤ)) (on : Bool) → e ≡ FireAt t n slots on → Tells C ev r D e → (ev ≡ Code n) ⊎ ((d : List (Option ℤ)) × (ev ≡ Guest n d))
+  pub fires : (ev : Event) (e : Logged) (t n : ℕ) (slots : List (Option ℤ)) (on : Bool) → e ≡ FireAt t n slots on → Tells C ev r D e
+      → (ev ≡ Code n) ⊎ ((d : List (Option ℤ)) × (ev ≡ Guest n d))
   fires (Input k kept) e t n slots on same is = (let both = sym same ∙ is in absurd cc)
   fires (Code k) e t n slots on same (d, kept, was, is) = (let both = sym same ∙ is in inl cc)
-  fires (Guest k given) e t n slots on same (d, kept, was, is) = (let both = sym same ∙ is in let n_is : k ≡ n = cc in inr (given, ap (λ x. Guest x given) n_is))
+  fires (Guest k given) e t n slots on same (d, kept, was, is) =
+      (let both = sym same ∙ is in let n_is : k ≡ n = cc in inr (given, ap (λ x. Guest x given) n_is))
   fires (Decide k) e t n slots on same (kept, was, is) = (let both = sym same ∙ is in absurd cc)
   fires (Tick noise) e t n slots on same is = (let both = sym same ∙ is in absurd cc)

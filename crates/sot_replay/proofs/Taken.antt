@@ -17,14 +17,16 @@ use Rattle.sot_replay.specs.Tests.{RefusesEnd}
 
 module _ (b : Standing) (stands : IsStanding b) where
   pub node_taken :
-      (n : ℕ) (node : NodeInfo) → At b.accepted.program.nodes n node → is_left b.position.at n ≡ true → (why : Why) → RefusesNode b.accepted.program b.accepted.cert.jitter b.position.at n why → ⊥
+      (n : ℕ) (node : NodeInfo) → At b.accepted.program.nodes n node → is_left b.position.at n ≡ true → (why : Why)
+      → RefusesNode b.accepted.program b.accepted.cert.jitter b.position.at n why → ⊥
   node_taken n node at left whys.NotDue not = (let due = stands.kept.holds.due n node at left in not (node, at, (due.0, due.1.due, due.1.past, due.2)))
   node_taken n node at left whys.AlreadyFired (due, fired) = false≢true (sym fired ∙ left)
   node_taken n node at left whys.NodesLeft not = not
   node_taken n node at left whys.OutsideType not = not
 
   pub decision_taken :
-      (m : ℕ) (a : ModuleInfo) → At b.accepted.program.modules m a → is_left_dm b.position.at m ≡ true → (why : Why) → RefusesDecision b.accepted.program b.accepted.cert.jitter b.position.at m why → ⊥
+      (m : ℕ) (a : ModuleInfo) → At b.accepted.program.modules m a → is_left_dm b.position.at m ≡ true → (why : Why)
+      → RefusesDecision b.accepted.program b.accepted.cert.jitter b.position.at m why → ⊥
   decision_taken m a at left whys.NotDue not = (let due = stands.kept.holds.due_dm m a at left in not (a, at, (due.0, due.1.due, due.1.past, due.2)))
   decision_taken m a at left whys.AlreadyFired (due, fired) = false≢true (sym fired ∙ left)
   decision_taken m a at left whys.NodesLeft not = not
@@ -36,7 +38,8 @@ input_taken p topic value typed whys.AlreadyFired not = not
 input_taken p topic value typed whys.NodesLeft not = not
 input_taken p topic value typed whys.OutsideType not = not typed
 
-pub tick_taken : (p : Tables) (j : ℕ) (C : configurations.Configuration) (noise : List ℤ) → MayTick p j C × IsInBounds p.plants noise → (why : Why) → RefusesTick p j C noise why → ⊥
+pub tick_taken : (p : Tables) (j : ℕ) (C : configurations.Configuration) (noise : List ℤ) → MayTick p j C × IsInBounds p.plants noise → (why : Why)
+    → RefusesTick p j C noise why → ⊥
 tick_taken p j C noise both whys.NotDue not = not
 tick_taken p j C noise both whys.AlreadyFired not = not
 tick_taken p j C noise both whys.NodesLeft not = not both.0

@@ -21,17 +21,21 @@ use Rattle.sot_replay.proofs.Taken.{tick_taken}
 use Rattle.sot_replay.proofs.Judging.{same_one, one_line}
 
 tick_handed : (f : Plan) (t : ℕ) (noise states : List ℤ) → AreHandedOver f (TickAt t noise states ∷ [])
-tick_handed f t noise states i time node index draft enabled at crew k z there = (let same = same_one (TickAt t noise states) i (FireAt time node draft enabled) at in absurd cc)
+tick_handed f t noise states i time node index draft enabled at crew k z there =
+    (let same = same_one (TickAt t noise states) i (FireAt time node draft enabled) at in absurd cc)
 
 pub logged_handed : (b new : Standing) (noise : List (List ℤ)) (entry : Logged) → Logs b new (Tick noise) entry → AreHandedOver b.plan (entry ∷ [])
 logged_handed b new noise entry logs =
-    let is : entry ≡ TickAt b.position.at.time (joined noise) (joined new.position.at.points) = subst (λ ev. Tells b.position.at ev logs.flies.recorded new.position.at entry) logs.event_is logs.flies.tells in
+    let is : entry ≡ TickAt b.position.at.time (joined noise) (joined new.position.at.points) =
+    subst (λ ev. Tells b.position.at ev logs.flies.recorded new.position.at entry) logs.event_is logs.flies.tells in
     subst (λ e. AreHandedOver b.plan (e ∷ [])) (sym is) (tick_handed b.plan b.position.at.time (joined noise) (joined new.position.at.points))
 
-module _ (b : Standing) (stands : IsStanding b) (words : AreWords b.accepted.program) (line : List ℕ) (t : ℕ) (w x : List ℤ) (spelled : IsSpelled b.accepted.program line (TickLine t w x)) where
+module _ (b : Standing) (stands : IsStanding b) (words : AreWords b.accepted.program) (line : List ℕ) (t : ℕ) (w x : List ℤ)
+    (spelled : IsSpelled b.accepted.program line (TickLine t w x)) where
   -- a line with which the flight goes on is that of the tick's entry
   pub tick_line :
-      (new : Standing) (entry : Logged) → Logs b new (Tick (stated_noise b.accepted.program b.plan b.position.at.time)) entry → IsNextLine b.accepted.program b.accepted.cert.jitter b.plan b.position line → line ≡ line_of b.accepted.program entry
+      (new : Standing) (entry : Logged) → Logs b new (Tick (stated_noise b.accepted.program b.plan b.position.at.time)) entry
+      → IsNextLine b.accepted.program b.accepted.cert.jitter b.plan b.position line → line ≡ line_of b.accepted.program entry
   tick_line new entry logs (e, Q, flies, handed, same) =
       let p = b.accepted.program in
       let spells = spells_entry b stands words line (TickLine t w x) spelled e Q flies same in
@@ -41,9 +45,12 @@ module _ (b : Standing) (stands : IsStanding b) (words : AreWords b.accepted.pro
 
   -- no test before the comparison fails of a line of a tick that is possible, and the line is not that of the tick's entry
   pub tick_differs :
-      (time : t ≡ b.position.at.time) → MayTick b.accepted.program b.accepted.cert.jitter b.position.at → IsInBounds b.accepted.program.plants w → NoInputDue b.position → b.position.at.time < b.plan.horizon
-      → (new : Standing) (entry : Logged) → Logs b new (Tick (stated_noise b.accepted.program b.plan b.position.at.time)) entry → (line ≡ line_of b.accepted.program entry → ⊥)
+      (time : t ≡ b.position.at.time) → MayTick b.accepted.program b.accepted.cert.jitter b.position.at → IsInBounds b.accepted.program.plants w
+      → NoInputDue b.position → b.position.at.time < b.plan.horizon
+      → (new : Standing) (entry : Logged) → Logs b new (Tick (stated_noise b.accepted.program b.plan b.position.at.time)) entry
+      → (line ≡ line_of b.accepted.program entry → ⊥)
       → IsFirstFailing b.accepted.program b.accepted.cert.jitter b.plan b.entries b.position line Differs
   tick_differs time may inside none near new entry logs not =
-      differs b.accepted.program b.accepted.cert.jitter b.plan b.entries b.position line (TickLine t w x) spelled time (tick_taken b.accepted.program b.accepted.cert.jitter b.position.at w (may, inside)) (λ left. left none) (λ far. omega (arith, far, near))
+      differs b.accepted.program b.accepted.cert.jitter b.plan b.entries b.position line (TickLine t w x) spelled time
+      (tick_taken b.accepted.program b.accepted.cert.jitter b.position.at w (may, inside)) (λ left. left none) (λ far. omega (arith, far, near))
       (λ given. not (tick_line new entry logs given))

@@ -18,42 +18,59 @@ use Rattle.sot_replay.specs.declared.fail.LineKind.TheVariants.{NotALine, Missin
 -- lines that tell the history of a flight so far begin the trace of a whole one
 abbrev pub ToldLinesGoOn : Type 0
 ToldLinesGoOn =
-    (b : Standing) (front : List (List ℕ)) → IsStanding b → Tell b.accepted.program b.accepted.cert.jitter b.plan front b.entries b.position → GoesOn b.accepted.program b.accepted.cert.jitter b.plan front
+    (b : Standing) (front : List (List ℕ)) → IsStanding b
+    → Tell b.accepted.program b.accepted.cert.jitter b.plan front b.entries b.position
+    → GoesOn b.accepted.program b.accepted.cert.jitter b.plan front
 
--- with a line more they do so exactly where it is the line of an entry with which the flight goes on, or the last line at the flight's end
+-- with a line more they do so exactly where it is the line of an entry with which the flight goes
+-- on, or the last line at the flight's end
 abbrev pub NextLinesGoOn : Type 0
 NextLinesGoOn =
-    (b : Standing) (front : List (List ℕ)) (line : List ℕ) → IsStanding b → AreWords b.accepted.program → Tell b.accepted.program b.accepted.cert.jitter b.plan front b.entries b.position
+    (b : Standing) (front : List (List ℕ)) (line : List ℕ) → IsStanding b
+    → AreWords b.accepted.program → Tell b.accepted.program b.accepted.cert.jitter b.plan front
+    b.entries b.position
     → GoesOn b.accepted.program b.accepted.cert.jitter b.plan (front ++ line ∷ [])
-    ↔ (IsNextLine b.accepted.program b.accepted.cert.jitter b.plan b.position line ⊎ (IsEnd b.accepted.program b.plan b.position × (line ≡ last_line b.accepted.program b.entries)))
+    ↔ (IsNextLine b.accepted.program b.accepted.cert.jitter b.plan b.position line
+    ⊎ (IsEnd b.accepted.program b.plan b.position
+    × (line ≡ last_line b.accepted.program b.entries)))
 
 -- with a line for which a test fails they do not
 abbrev pub FailingLinesStop : Type 0
 FailingLinesStop =
-    (b : Standing) (front : List (List ℕ)) (line : List ℕ) (kind : LineKind) → IsStanding b → AreWords b.accepted.program
-    → Tell b.accepted.program b.accepted.cert.jitter b.plan front b.entries b.position → IsFirstFailing b.accepted.program b.accepted.cert.jitter b.plan b.entries b.position line kind
+    (b : Standing) (front : List (List ℕ)) (line : List ℕ) (kind : LineKind) → IsStanding b
+    → AreWords b.accepted.program
+    → Tell b.accepted.program b.accepted.cert.jitter b.plan front b.entries b.position
+    → IsFirstFailing b.accepted.program b.accepted.cert.jitter b.plan b.entries b.position line kind
     → GoesOn b.accepted.program b.accepted.cert.jitter b.plan (front ++ line ∷ []) → ⊥
 
 -- lines are refused at one line, and there by one test
 abbrev pub RefusedOnce : Type 0
 RefusedOnce =
-    (p : Tables) (jitter : ℕ) (f : Plan) (lines : List (List ℕ)) (number other : ℕ) (kind another : LineKind) → MeetsTableRules p → AreWords p
-    → IsRefusedAt p jitter f lines number kind → IsRefusedAt p jitter f lines other another → (number ≡ other) × (kind ≡ another)
+    (p : Tables) (jitter : ℕ) (f : Plan) (lines : List (List ℕ)) (number other : ℕ)
+    (kind another : LineKind) → MeetsTableRules p → AreWords p
+    → IsRefusedAt p jitter f lines number kind → IsRefusedAt p jitter f lines other another
+    → (number ≡ other) × (kind ≡ another)
 
 -- the trace of a whole history is not refused
 abbrev pub TracesAreNotRefused : Type 0
 TracesAreNotRefused =
-    (p : Tables) (jitter : ℕ) (f : Plan) (lines : List (List ℕ)) (entries : List Logged) (number : ℕ) (kind : LineKind) → IsTraceOf p jitter f lines entries → IsRefusedAt p jitter f lines number kind → ⊥
+    (p : Tables) (jitter : ℕ) (f : Plan) (lines : List (List ℕ)) (entries : List Logged)
+    (number : ℕ) (kind : LineKind) → IsTraceOf p jitter f lines entries
+    → IsRefusedAt p jitter f lines number kind → ⊥
 
 -- lines are the trace of one history
 abbrev pub TracedOnce : Type 0
 TracedOnce =
-    (p : Tables) (jitter : ℕ) (f : Plan) (lines : List (List ℕ)) (entries others : List Logged) → MeetsTableRules p → AreWords p
+    (p : Tables) (jitter : ℕ) (f : Plan) (lines : List (List ℕ)) (entries others : List Logged)
+    → MeetsTableRules p → AreWords p
     → IsTraceOf p jitter f lines entries → IsTraceOf p jitter f lines others → entries ≡ others
 
--- no line at all is missing at line 1, and another first line than the header is no line of a trace, whatever follows
+-- no line at all is missing at line 1, and another first line than the header is no line of a
+-- trace, whatever follows
 abbrev pub FirstLines : Type 0
 FirstLines =
-    (b : Standing) (front : List (List ℕ)) → IsStanding b → Tell b.accepted.program b.accepted.cert.jitter b.plan front b.entries b.position
+    (b : Standing) (front : List (List ℕ)) → IsStanding b
+    → Tell b.accepted.program b.accepted.cert.jitter b.plan front b.entries b.position
     → IsRefusedAt b.accepted.program b.accepted.cert.jitter b.plan [] 1 Missing
-    × ((line : List ℕ) (more : List (List ℕ)) → line ≢ header → IsRefusedAt b.accepted.program b.accepted.cert.jitter b.plan (line ∷ more) 1 NotALine)
+    × ((line : List ℕ) (more : List (List ℕ)) → line ≢ header
+    → IsRefusedAt b.accepted.program b.accepted.cert.jitter b.plan (line ∷ more) 1 NotALine)

@@ -1,4 +1,5 @@
--- what the public contracts say: which lines go on as traces of a flight, the tests that a line has to pass, and what a replay answers
+-- what the public contracts say: which lines go on as traces of a flight, the tests that a line has
+-- to pass, and what a replay answers
 pub mod GoesOn
 pub mod Tests
 pub mod Replays

@@ -19,31 +19,41 @@ opening_lines p f = header ∷ start_lines p.plants f.start
 
 -- these lines tell a history of the flight so far, which leads to P
 abbrev pub Tell : Tables → ℕ → Plan → List (List ℕ) → List Logged → Position → Type 0
-Tell p jitter f front entries P = FlownSoFar p jitter f entries P × AreHandedOver f entries × (front ≡ opening_lines p f ++ map (line_of p) entries)
+Tell p jitter f front entries P =
+    FlownSoFar p jitter f entries P × AreHandedOver f entries
+    × (front ≡ opening_lines p f ++ map (line_of p) entries)
 
 -- why a line in the place of a start line is refused
 abbrev pub RefusesStart : Tables → List ℕ → LineKind → Type 0
-RefusesStart p line kind = ((kind ≡ NotALine) × (IsStartLine p line → ⊥)) ⊎ ((kind ≡ Differs) × IsStartLine p line)
+RefusesStart p line kind =
+    ((kind ≡ NotALine) × (IsStartLine p line → ⊥)) ⊎ ((kind ≡ Differs) × IsStartLine p line)
 
--- why a line behind this front is refused: it is not the header; it is not the start line that has to stand there; a test fails; or it stands behind the end
+-- why a line behind this front is refused: it is not the header; it is not the start line that has
+-- to stand there; a test fails; or it stands behind the end
 abbrev pub RefusesLine : Tables → ℕ → Plan → List (List ℕ) → List ℕ → LineKind → Type 0
 RefusesLine p jitter f front line kind =
     ((front ≡ []) × (kind ≡ NotALine))
     ⊎ ((front ≢ []) × (length front < length (opening_lines p f)) × RefusesStart p line kind)
-    ⊎ ((entries : List Logged) × (P : Position) × Tell p jitter f front entries P × IsFirstFailing p jitter f entries P line kind)
+    ⊎ ((entries : List Logged) × (P : Position) × Tell p jitter f front entries P
+    × IsFirstFailing p jitter f entries P line kind)
     ⊎ ((entries : List Logged) × IsTraceOf p jitter f front entries × (kind ≡ Ended))
 
 -- the lines stop before the end line
 abbrev pub StopsShort : Tables → ℕ → Plan → List (List ℕ) → List (List ℕ) → LineKind → Type 0
-StopsShort p jitter f front rest kind = (rest ≡ []) × (kind ≡ Missing) × ((entries : List Logged) → IsTraceOf p jitter f front entries → ⊥)
+StopsShort p jitter f front rest kind =
+    (rest ≡ []) × (kind ≡ Missing) × ((entries : List Logged) → IsTraceOf p jitter f front entries
+    → ⊥)
 
 -- with this line no trace of the flight goes on
 abbrev pub StopsAt : Tables → ℕ → Plan → List (List ℕ) → List (List ℕ) → LineKind → Type 0
 StopsAt p jitter f front rest kind =
-    (line : List ℕ) × (more : List (List ℕ)) × (rest ≡ line ∷ more) × (GoesOn p jitter f (front ++ line ∷ []) → ⊥) × RefusesLine p jitter f front line kind
+    (line : List ℕ) × (more : List (List ℕ)) × (rest ≡ line ∷ more)
+    × (GoesOn p jitter f (front ++ line ∷ []) → ⊥) × RefusesLine p jitter f front line kind
 
--- of these lines the one with this number, counted from 1, is the first with which no trace of the flight goes on, or they stop short before it
-pub record IsRefusedAt (p : Tables) (jitter : ℕ) (f : Plan) (lines : List (List ℕ)) (number : ℕ) (kind : LineKind) : Type 0 where
+-- of these lines the one with this number, counted from 1, is the first with which no trace of the
+-- flight goes on, or they stop short before it
+pub record IsRefusedAt (p : Tables) (jitter : ℕ) (f : Plan) (lines : List (List ℕ)) (number : ℕ)
+    (kind : LineKind) : Type 0 where
   pub front : List (List ℕ)
   pub rest : List (List ℕ)
   pub is : lines ≡ front ++ rest

@@ -11,10 +11,14 @@ use Rattle.sot_flight.specs.Plans.{Plan}
 use Rattle.sot_board.specs.Flown.{Position, NoInputDue, Flies}
 use Rattle.sot_trace.specs.Lines.{line_of}
 use Rattle.sot_trace.specs.Traces.{last_line}
-use Rattle.sot_trace_lines.specs.Spelled.{Spelled, InputLine, FireLine, DecideLine, TickLine, EndLine, spelled_time, IsSpelled}
+use Rattle.sot_trace_lines.specs.Spelled.{Spelled, InputLine, FireLine, DecideLine, TickLine}
+use Rattle.sot_trace_lines.specs.Spelled.{EndLine, spelled_time, IsSpelled}
 use Rattle.sot_replay.specs.GoesOn.{AreHandedOver}
 use Rattle.sot_replay.specs.declared.fail.LineKind.{LineKind}
-use Rattle.sot_replay.specs.declared.fail.LineKind.TheVariants.{NotALine, WrongTime, NotDue, AlreadyFired, NodesLeft, OutsideType, InputsLeft, TooFar, Differs, Ended, Missing}
+use Rattle.sot_replay.specs.declared.fail.LineKind.TheVariants.{NotALine, WrongTime, NotDue}
+use Rattle.sot_replay.specs.declared.fail.LineKind.TheVariants.{AlreadyFired, NodesLeft}
+use Rattle.sot_replay.specs.declared.fail.LineKind.TheVariants.{OutsideType, InputsLeft, TooFar}
+use Rattle.sot_replay.specs.declared.fail.LineKind.TheVariants.{Differs, Ended, Missing}
 
 -- the place of a test in their order; the four answers of the world are one test
 abbrev pub order_of : LineKind → ℕ
@@ -63,9 +67,12 @@ IsTooFar f P (EndLine ticks events refused) = P.at.time < f.horizon
 
 -- the line is that of an entry with which the flight goes on
 abbrev pub IsNextLine : Tables → ℕ → Plan → Position → List ℕ → Type 0
-IsNextLine p jitter f P line = (entry : Logged) × (Q : Position) × Flies p jitter f P entry Q × AreHandedOver f (entry ∷ []) × (line ≡ line_of p entry)
+IsNextLine p jitter f P line =
+    (entry : Logged) × (Q : Position) × Flies p jitter f P entry Q × AreHandedOver f (entry ∷ [])
+    × (line ≡ line_of p entry)
 
--- the line is the one that its event gives by the program and the flight; at the end it counts the history
+-- the line is the one that its event gives by the program and the flight; at the end it counts the
+-- history
 abbrev pub IsGiven : Tables → ℕ → Plan → List Logged → Position → Spelled → List ℕ → Type 0
 IsGiven p jitter f entries P (InputLine time topic value) line = IsNextLine p jitter f P line
 IsGiven p jitter f entries P (FireLine time node enabled slots) line = IsNextLine p jitter f P line
@@ -73,7 +80,9 @@ IsGiven p jitter f entries P (DecideLine time decider mode) line = IsNextLine p 
 IsGiven p jitter f entries P (TickLine time noise states) line = IsNextLine p jitter f P line
 IsGiven p jitter f entries P (EndLine ticks events refused) line = line ≡ last_line p entries
 
--- the test of this kind fails for a line that spells s, behind a history so far that leads to P; that a line spells something, that none stands behind the end and that none is missing are tests of other places
+-- the test of this kind fails for a line that spells s, behind a history so far that leads to P;
+-- that a line spells something, that none stands behind the end and that none is missing are tests
+-- of other places
 abbrev pub Fails : LineKind → Tables → ℕ → Plan → List Logged → Position → Spelled → List ℕ → Type 0
 Fails NotALine p jitter f entries P s line = ⊥
 Fails WrongTime p jitter f entries P s line = spelled_time s ≢ P.at.time
@@ -87,12 +96,15 @@ Fails Differs p jitter f entries P s line = IsGiven p jitter f entries P s line 
 Fails Ended p jitter f entries P s line = ⊥
 Fails Missing p jitter f entries P s line = ⊥
 
--- the test of this kind is the first that fails: the line spells nothing, or it spells s, for which it fails and no earlier one
-pub record FailsFirst (p : Tables) (jitter : ℕ) (f : Plan) (entries : List Logged) (P : Position) (line : List ℕ) (kind : LineKind) (s : Spelled) : Type 0 where
+-- the test of this kind is the first that fails: the line spells nothing, or it spells s, for which
+-- it fails and no earlier one
+pub record FailsFirst (p : Tables) (jitter : ℕ) (f : Plan) (entries : List Logged) (P : Position)
+    (line : List ℕ) (kind : LineKind) (s : Spelled) : Type 0 where
   pub spelled : IsSpelled p line s
   pub fails : Fails kind p jitter f entries P s line
   pub first : (k : LineKind) → order_of k < order_of kind → Fails k p jitter f entries P s line → ⊥
 
 abbrev pub IsFirstFailing : Tables → ℕ → Plan → List Logged → Position → List ℕ → LineKind → Type 0
 IsFirstFailing p jitter f entries P line kind =
-    ((kind ≡ NotALine) × ((s : Spelled) → IsSpelled p line s → ⊥)) ⊎ ((s : Spelled) × FailsFirst p jitter f entries P line kind s)
+    ((kind ≡ NotALine) × ((s : Spelled) → IsSpelled p line s → ⊥))
+    ⊎ ((s : Spelled) × FailsFirst p jitter f entries P line kind s)

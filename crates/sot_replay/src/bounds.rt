@@ -48,7 +48,8 @@ fn are_in_bounds(plants: &[PlantInfo], noise: &[i64]) -> bool
 /// Whether disturbances that were read are in their bounds. One of more than 64 bits is not.
 pub fn are_possible(plants: &[PlantInfo], whole: bool, noise: &[i64]) -> bool
     requires { (all : List ℤ) × (length all ≡ noise_count plants.now) × Holds whole noise.now all }
-    ensures { (all : List ℤ) → length all ≡ noise_count plants.now → Holds whole noise.now all → IsTrue result ↔ IsInBounds plants.now all }
+    ensures { (all : List ℤ) → length all ≡ noise_count plants.now → Holds whole noise.now all
+        → IsTrue result ↔ IsInBounds plants.now all }
 {
     if whole {
         return are_in_bounds(plants, noise);

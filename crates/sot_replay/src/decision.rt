@@ -10,7 +10,8 @@ use crate::now::is_now;
 use sot_board::Board;
 use sot_world::Event;
 
-/// Judges a line that spells a decision: the module decides, and the line has to be that of its entry.
+/// Judges a line that spells a decision: the module decides, and the line has to be that of its
+/// entry.
 pub fn judge_decision(board: &mut Board<'_>, line: &[u8], time: Option<i64>, module: u32) -> Judged
     requires words { AreWords board.old.accepted.program }
     requires spelled { SpellsDecision board.old.accepted.program line.now time «module» }

@@ -12,7 +12,8 @@ use sot_board::Board;
 use sot_trace::put_end_line;
 use std::alloc::AllocError;
 
-/// Judges a line that spells the end: it has to be the last line of the history, of which these are the counts, where the flight is at its end.
+/// Judges a line that spells the end: it has to be the last line of the history, of which these are
+/// the counts, where the flight is at its end.
 pub fn judge_end(
     board: &Board<'_>,
     line: &[u8],
@@ -22,7 +23,8 @@ pub fn judge_end(
 ) -> Result<Judged, AllocError>
     requires spelled { SpellsEnd board.now.accepted.program line.now ticks }
     requires ticks { counts.ticks ≡ sum_by ticks_in board.now.entries }
-    requires refused { counts.refused ≡ sum_by (refused_in board.now.accepted.program) board.now.entries }
+    requires refused { counts.refused ≡ sum_by (refused_in board.now.accepted.program)
+        board.now.entries }
     ensures { IfOk result (IsJudged board.now board.now line.now) }
 {
     board.is_standing();

@@ -25,10 +25,13 @@ fn added_by(p: &Typed, entry: &Entry<'_>) -> Added
     }
 }
 
-/// A line goes where it is that of the last entry of the board's history, with what this adds to the counts, and else it differs.
+/// A line goes where it is that of the last entry of the board's history, with what this adds to
+/// the counts, and else it differs.
 pub fn compare(board: &Board<'_>, line: &[u8]) -> Judged
-    requires { (front : List Logged) × (entry : Logged) × (board.now.entries ≡ front ++ entry ∷ []) }
-    ensures { (front : List Logged) (entry : Logged) → board.now.entries ≡ front ++ entry ∷ [] → IsCompared board.now.accepted.program entry line.now result }
+    requires { (front : List Logged) × (entry : Logged)
+        × (board.now.entries ≡ front ++ entry ∷ []) }
+    ensures { (front : List Logged) (entry : Logged) → board.now.entries ≡ front ++ entry ∷ []
+        → IsCompared board.now.accepted.program entry line.now result }
 {
     board.is_standing();
     let p = board.typed();

@@ -1,6 +1,7 @@
 //! A line that spells a firing.
 
-ghost use Rattle.std.specs.Prelude.{◌≡◌, ℕ, ◌<◌, ℤ, List, Option, true, None, Some, length, MatchResult, IfOk};
+ghost use Rattle.std.specs.Prelude.{◌≡◌, ℕ, ◌<◌, ℤ, List, Option, true, None, Some, length};
+ghost use Rattle.std.specs.Prelude.{MatchResult, IfOk};
 ghost use Rattle.sot_lists.specs.Places.{At};
 ghost use Rattle.sot_world.specs.Configurations.{is_left};
 ghost use Rattle.sot_world.specs.Events.{RefusesNode};
@@ -27,7 +28,8 @@ fn can_fire(board: &Board<'_>, node: u32) -> Result<(), Why>
     requires { node < length board.now.accepted.program.nodes }
     ensures { MatchResult result
         (λ _. is_left board.now.position.at node ≡ true)
-        (λ why. RefusesNode board.now.accepted.program board.now.accepted.cert.jitter board.now.position.at node why) }
+        (λ why. RefusesNode board.now.accepted.program board.now.accepted.cert.jitter
+        board.now.position.at node why) }
 {
     if is_coded(board.typed(), node) {
         return board.world().can(&Event::Code { node });
@@ -79,11 +81,12 @@ fn judge_stated(
     read_on(p, line, judged, from, numbers)
 }
 
-// A guest's node fires with the draft of the line, and the line has to be that of its entry. No guest hands over a number of more
-// than 64 bits.
+// A guest's node fires with the draft of the line, and the line has to be that of its entry. No
+// guest hands over a number of more than 64 bits.
 fn judge_draft(board: &mut Board<'_>, line: &[u8], node: u32, draft: Option<Draft>) -> Judged
     requires words { AreWords board.old.accepted.program }
-    requires spelled { SpellsFiringAt board.old.accepted.program board.old.position.at.time line.now node draft }
+    requires spelled { SpellsFiringAt board.old.accepted.program board.old.position.at.time line.now
+        node draft }
     requires guest { (i : ℕ) × At board.old.plan.crews node (plans.Guest i) }
     requires left { is_left board.old.position.at node ≡ true }
     ensures { IsJudged board.old board.new line.now result }
@@ -101,8 +104,10 @@ fn judge_draft(board: &mut Board<'_>, line: &[u8], node: u32, draft: Option<Draf
 
 // The draft of a line that was read as a firing's.
 fn draft_of(read: Line) -> Option<Draft>
-    requires { (time : Option ℤ) × (node : ℕ) × (draft : Option (List (Option ℤ))) × (read ≡ IsFire time node draft) }
-    ensures { (time : Option ℤ) (node : ℕ) (draft : Option (List (Option ℤ))) → read ≡ IsFire time node draft → result ≡ draft }
+    requires { (time : Option ℤ) × (node : ℕ) × (draft : Option (List (Option ℤ)))
+        × (read ≡ IsFire time node draft) }
+    ensures { (time : Option ℤ) (node : ℕ) (draft : Option (List (Option ℤ)))
+        → read ≡ IsFire time node draft → result ≡ draft }
 {
     match read {
         Line::Fire { draft, .. } => draft,
@@ -130,9 +135,9 @@ fn judge_guest(
     Ok(judge_draft(board, line, node, draft_of(read)))
 }
 
-/// Judges a line that begins as a firing does: the node fires, by its code, with the draft that the flight states, or with a guest's
-/// draft as the line has it, and the line has to be that of its entry. It is read to its end only for a guest's draft, and where a test
-/// fails.
+/// Judges a line that begins as a firing does: the node fires, by its code, with the draft that the
+/// flight states, or with a guest's draft as the line has it, and the line has to be that of its
+/// entry. It is read to its end only for a guest's draft, and where a test fails.
 pub fn judge_firing(
     board: &mut Board<'_>,
     line: &[u8],

@@ -22,8 +22,10 @@ pub fn follow(
 ) -> Result<(), ReplayFail>
     requires none { board.old.entries ≡ [] }
     requires words { AreWords board.old.accepted.program }
-    ensures ended { IfOk result (λ _. HasEnded board.old board.new lines.old.to_come lines.old.number lines.new.to_come lines.new.number) }
-    ensures refused { IfErr result (λ fail. MatchFail fail (λ _. ⊥) (AreRefused board.old lines.old.to_come lines.old.number)) }
+    ensures ended { IfOk result (λ _. HasEnded board.old board.new lines.old.to_come
+        lines.old.number lines.new.to_come lines.new.number) }
+    ensures refused { IfErr result (λ fail.
+        MatchFail fail (λ _. ⊥) (AreRefused board.old lines.old.to_come lines.old.number)) }
 {
     let mut from = 0;
     let mut counts = Counts {

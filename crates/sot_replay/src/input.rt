@@ -18,7 +18,8 @@ use sot_world::{Event, Why};
 
 // Whether a value can come on a topic. One with a number of more than 64 bits cannot.
 fn can_come(board: &Board<'_>, topic: u32, whole: bool, value: &[i64]) -> Result<(), Why>
-    requires { (info : TopicInfo) × (all : List ℤ) × At board.now.accepted.program.topics topic info × (info.outside ≡ true) × (length all ≡ info.count) × Holds whole value.now all }
+    requires { (info : TopicInfo) × (all : List ℤ) × At board.now.accepted.program.topics topic info
+        × (info.outside ≡ true) × (length all ≡ info.count) × Holds whole value.now all }
     ensures { (info : TopicInfo) (all : List ℤ) → At board.now.accepted.program.topics topic info → length all ≡ info.count → Holds whole value.now all → MatchResult result
         (λ _. IsTypedInput board.now.accepted.program topic all)
         (λ why. RefusesInput board.now.accepted.program topic all why) }
@@ -30,8 +31,8 @@ fn can_come(board: &Board<'_>, topic: u32, whole: bool, value: &[i64]) -> Result
     Err(Why::OutsideType)
 }
 
-/// Judges a line that spells an input, with a value in the list where each of its numbers has 64 bits: the flight's next input
-/// comes, and the line has to be that of its entry.
+/// Judges a line that spells an input, with a value in the list where each of its numbers has 64
+/// bits: the flight's next input comes, and the line has to be that of its entry.
 pub fn judge_input(
     board: &mut Board<'_>,
     line: &[u8],

@@ -31,7 +31,8 @@ fn judge_whole(
     requires words { AreWords board.old.accepted.program }
     requires read { AnswersLine board.old.accepted.program line.now numbers.old.items (Some read) }
     requires ticks { counts.ticks ≡ sum_by ticks_in board.old.entries }
-    requires refused { counts.refused ≡ sum_by (refused_in board.old.accepted.program) board.old.entries }
+    requires refused { counts.refused ≡ sum_by (refused_in board.old.accepted.program)
+        board.old.entries }
     ensures { IfOk result (IsJudged board.old board.new line.now) }
 {
     board.is_standing();
@@ -46,9 +47,9 @@ fn judge_whole(
     }
 }
 
-/// Judges a line where a flight stands: the first test that it does not pass, or the flight goes on by it, or it is the last one at
-/// the flight's end. What it names is looked for from a place on first. The counts are those of the
-/// history so far.
+/// Judges a line where a flight stands: the first test that it does not pass, or the flight goes on
+/// by it, or it is the last one at the flight's end. What it names is looked for from a place on
+/// first. The counts are those of the history so far.
 pub fn judge(
     board: &mut Board<'_>,
     line: &[u8],
@@ -59,7 +60,8 @@ pub fn judge(
 ) -> Result<Judged, AllocError>
     requires words { AreWords board.old.accepted.program }
     requires ticks { counts.ticks ≡ sum_by ticks_in board.old.entries }
-    requires refused { counts.refused ≡ sum_by (refused_in board.old.accepted.program) board.old.entries }
+    requires refused { counts.refused ≡ sum_by (refused_in board.old.accepted.program)
+        board.old.entries }
     ensures { IfOk result (IsJudged board.old board.new line.now) }
 {
     match read_front(board.typed(), line, from, numbers) {

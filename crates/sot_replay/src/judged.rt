@@ -6,7 +6,8 @@ ghost use Rattle.sot_replay.specs.Judges.{kind_of};
 use crate::fail::LineKind;
 use sot_world::Why;
 
-/// What the entry of a line adds to the counts of the last line: ticks, and numbers outside their scalars' ranges.
+/// What the entry of a line adds to the counts of the last line: ticks, and numbers outside their
+/// scalars' ranges.
 #[derive(Clone, Copy)]
 pub struct Added {
     pub ticks: u8,

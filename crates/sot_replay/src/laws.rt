@@ -1,14 +1,15 @@
 //! The laws of replay. Each of these functions does nothing, and its contract is the law.
 
-ghost use Rattle.sot_replay.specs.Laws.{ToldLinesGoOn, NextLinesGoOn, FailingLinesStop, FirstLines, RefusedOnce, TracesAreNotRefused, TracedOnce};
+ghost use Rattle.sot_replay.specs.Laws.{ToldLinesGoOn, NextLinesGoOn, FailingLinesStop, FirstLines};
+ghost use Rattle.sot_replay.specs.Laws.{RefusedOnce, TracesAreNotRefused, TracedOnce};
 
 /// Lines that tell the history of a flight so far begin the trace of a whole history of it.
 pub fn told_lines_go_on()
     ensures { ToldLinesGoOn }
 {}
 
-/// With a line more they do so exactly where it is the line of an entry with which the flight goes on, or the last line at the
-/// flight's end.
+/// With a line more they do so exactly where it is the line of an entry with which the flight goes
+/// on, or the last line at the flight's end.
 pub fn next_lines_go_on()
     ensures { NextLinesGoOn }
 {}
@@ -18,7 +19,8 @@ pub fn failing_lines_stop()
     ensures { FailingLinesStop }
 {}
 
-/// Where there is no line, line 1 is missing; and where the first line is not the header, line 1 is none of a trace.
+/// Where there is no line, line 1 is missing; and where the first line is not the header, line 1 is
+/// none of a trace.
 pub fn first_lines_are_refused()
     ensures { FirstLines }
 {}

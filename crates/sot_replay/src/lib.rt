@@ -1,6 +1,7 @@
 //! Replay: whether lines are the trace of a flight.
 //!
-//! [`replay`] flies a board along the lines: each is read, tested, and compared with the line of the entry that the board then has.
+//! [`replay`] flies a board along the lines: each is read, tested, and compared with the line of
+//! the entry that the board then has.
 #![tactic(auto)]
 
 mod bounds;

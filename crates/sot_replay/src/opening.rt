@@ -1,6 +1,7 @@
 //! The lines in the places of the header and of the start lines.
 
-ghost use Rattle.std.specs.Prelude.{◌≡◌, ℕ, ◌+◌, ◌≤◌, ◌++◌, List, length, OnOk, IfOk, IfErr, MatchOption};
+ghost use Rattle.std.specs.Prelude.{◌≡◌, ℕ, ◌+◌, ◌≤◌, ◌++◌, List, length, OnOk, IfOk, IfErr};
+ghost use Rattle.std.specs.Prelude.{MatchOption};
 ghost use Rattle.std.specs.String.{string_bytes};
 ghost use Rattle.sot_lists.specs.Places.{At};
 ghost use Rattle.sot_flight.specs.Fits.{FitsFlight};
@@ -24,7 +25,8 @@ fn put_opening_line(
 ) -> Result<(), AllocError>
     requires fits { (guests : ℕ) × FitsFlight p.now guests flight.now }
     requires place { place ≤ length p.now.plants }
-    ensures { (expected : List ℕ) → At (opening_lines p.now flight.now) place expected → OnOk result (string_bytes out.new ≡ string_bytes out.old ++ expected) }
+    ensures { (expected : List ℕ) → At (opening_lines p.now flight.now) place expected
+        → OnOk result (string_bytes out.new ≡ string_bytes out.old ++ expected) }
 {
     if place == 0 {
         out.push_str("soter trace 1")
@@ -43,7 +45,9 @@ fn opening_kind(
 ) -> Result<Option<LineKind>, AllocError>
     requires fits { (guests : ℕ) × FitsFlight p.now guests flight.now }
     requires place { place ≤ length p.now.plants }
-    ensures { (expected : List ℕ) → At (opening_lines p.now flight.now) place expected → IfOk result (λ answer. MatchOption answer (line.now ≡ expected) (λ kind. (line.now ≡ expected → ⊥) × RefusesOpening p.now place line.now kind)) }
+    ensures { (expected : List ℕ) → At (opening_lines p.now flight.now) place expected
+        → IfOk result (λ answer. MatchOption answer (line.now ≡ expected)
+        (λ kind. (line.now ≡ expected → ⊥) × RefusesOpening p.now place line.now kind)) }
 {
     scratch.clear();
     put_opening_line(scratch, p, flight, place)?;
@@ -68,8 +72,12 @@ pub fn read_opening(
     scratch: &mut String,
 ) -> Result<(), ReplayFail>
     requires fits { (guests : ℕ) × FitsFlight p.now guests flight.now }
-    ensures read { IfOk result (λ _. (lines.old.to_come ≡ opening_lines p.now flight.now ++ lines.new.to_come) × (lines.new.number ≡ lines.old.number + length (opening_lines p.now flight.now))) }
-    ensures refused { IfErr result (λ fail. MatchFail fail (λ _. ⊥) (λ at kind. (place : ℕ) × (at ≡ lines.old.number + place) × IsOpeningRefused p.now flight.now lines.old.to_come place kind)) }
+    ensures read { IfOk result (λ _. (lines.old.to_come
+        ≡ opening_lines p.now flight.now ++ lines.new.to_come)
+        × (lines.new.number ≡ lines.old.number + length (opening_lines p.now flight.now))) }
+    ensures refused { IfErr result (λ fail.
+        MatchFail fail (λ _. ⊥) (λ at kind. (place : ℕ) × (at ≡ lines.old.number + place)
+        × IsOpeningRefused p.now flight.now lines.old.to_come place kind)) }
 {
     'places: for place in 0..p.plants.len() + 1 {
         let Some((number, line)) = lines.next() else {

@@ -1,4 +1,5 @@
-//! What is in a range, in a plant's bounds or in a draft has 64 bits, since each is kept in so many.
+//! What is in a range, in a plant's bounds or in a draft has 64 bits, since each is kept in so
+//! many.
 
 ghost use Rattle.std.specs.Prelude.{ℕ, ◌<◌, ℤ, Some};
 ghost use Rattle.sot_lists.specs.Places.{At};
@@ -11,7 +12,8 @@ use sot_lang::{Draft, NoiseInfo, PlantInfo, ScalarInfo};
 
 /// The ends of the ranges of scalars have 64 bits.
 pub fn ranges_have_64_bits(scalars: &[ScalarInfo])
-    ensures { (k : ℕ) (info : Scalar) → At scalars.now k info → Has64Bits info.lo × Has64Bits info.hi }
+    ensures { (k : ℕ) (info : Scalar) → At scalars.now k info
+        → Has64Bits info.lo × Has64Bits info.hi }
 {
     for info in scalars {
         let _ends = (info.lo, info.hi);
@@ -28,7 +30,8 @@ fn noise_has_64_bits(noise: &[NoiseInfo])
 
 /// The bounds of the disturbances of plants have 64 bits.
 pub fn bounds_have_64_bits(plants: &[PlantInfo])
-    ensures { (k : ℕ) (plant : Plant) (i : ℕ) (info : Noise) → At plants.now k plant → At plant.noise.items i info → Has64Bits info.lo × Has64Bits info.hi }
+    ensures { (k : ℕ) (plant : Plant) (i : ℕ) (info : Noise) → At plants.now k plant
+        → At plant.noise.items i info → Has64Bits info.lo × Has64Bits info.hi }
 {
     for plant in plants {
         noise_has_64_bits(&plant.noise);

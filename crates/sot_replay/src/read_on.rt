@@ -10,7 +10,8 @@ use sot_lang::Typed;
 use sot_trace_lines::read_line;
 use std::alloc::AllocError;
 
-/// What is judged of a line, where this was judged of it by its front: what fails may be spelled as no line at all.
+/// What is judged of a line, where this was judged of it by its front: what fails may be spelled as
+/// no line at all.
 pub fn read_on(
     p: &Typed,
     line: &[u8],

@@ -3,7 +3,8 @@
 ghost use Rattle.std.specs.Prelude.{◌≡◌, ℤ, Bool, Option, IfOk};
 ghost use Rattle.sot_trace.specs.Words.{AreWords};
 ghost use Rattle.sot_trace_lines.specs.declared.line.Line.TheVariants.{Tick as IsTick};
-ghost use Rattle.sot_replay.specs.Judges.{IsJudged, BeginsAsTick, SpellsTicks, ReadsTick, FailsTick};
+ghost use Rattle.sot_replay.specs.Judges.{IsJudged, BeginsAsTick, SpellsTicks, ReadsTick};
+ghost use Rattle.sot_replay.specs.Judges.{FailsTick};
 
 use crate::bounds::are_possible;
 use crate::entry_line::compare;
@@ -27,7 +28,8 @@ fn is_whole(read: Line) -> bool
     }
 }
 
-// Whether the list holds all disturbances of a line of a tick, once it is read; none where it is spelled as no line.
+// Whether the list holds all disturbances of a line of a tick, once it is read; none where it is
+// spelled as no line.
 fn read_whole(
     p: &Typed,
     line: &[u8],
@@ -45,7 +47,8 @@ fn read_whole(
     }
 }
 
-// The test that fails of a line of a tick, where this one does if the line is spelled so and its disturbances are in their bounds.
+// The test that fails of a line of a tick, where this one does if the line is spelled so and its
+// disturbances are in their bounds.
 fn tick_kind(
     p: &Typed,
     line: &[u8],
@@ -67,8 +70,8 @@ fn tick_kind(
     }
 }
 
-/// Judges a line that begins as a tick does: a tick comes with the disturbances that the flight states, and the line has to be that of
-/// its entry. It is read to its end only where a test fails.
+/// Judges a line that begins as a tick does: a tick comes with the disturbances that the flight
+/// states, and the line has to be that of its entry. It is read to its end only where a test fails.
 pub fn judge_tick(
     board: &mut Board<'_>,
     line: &[u8],

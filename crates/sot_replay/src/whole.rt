@@ -28,8 +28,11 @@ fn replay_on(
     requires none { board.old.entries ≡ [] }
     requires words { AreWords board.old.accepted.program }
     requires none_lent { lines.old.number ≡ 1 }
-    ensures legal { IfOk result (λ _. IsTraceOf board.old.accepted.program board.old.accepted.cert.jitter board.old.plan lines.old.to_come board.new.entries) }
-    ensures refused { IfErr result (λ fail. MatchFail fail (λ _. ⊥) (IsRefusedAt board.old.accepted.program board.old.accepted.cert.jitter board.old.plan lines.old.to_come)) }
+    ensures legal { IfOk result (λ _. IsTraceOf board.old.accepted.program
+        board.old.accepted.cert.jitter board.old.plan lines.old.to_come board.new.entries) }
+    ensures refused { IfErr result (λ fail.
+        MatchFail fail (λ _. ⊥) (IsRefusedAt board.old.accepted.program
+        board.old.accepted.cert.jitter board.old.plan lines.old.to_come)) }
 {
     board.is_standing();
     read_opening(lines, board.typed(), board.flight(), scratch)?;
@@ -43,11 +46,13 @@ fn replay_on(
     }
 }
 
-/// Whether lines, none of which has been lent yet, are the trace of a flight: it answers the number of its events.
+/// Whether lines, none of which has been lent yet, are the trace of a flight: it answers the number
+/// of its events.
 ///
-/// `NotSafer` names the first module whose plant starts outside the module's safer region. `Line` names the first line with which no
-/// trace of the flight goes on, counted from 1, and the first test that it does not pass; then, and where the lines are such a trace,
-/// every module's plant starts inside. `Memory` says that there is none.
+/// `NotSafer` names the first module whose plant starts outside the module's safer region. `Line`
+/// names the first line with which no trace of the flight goes on, counted from 1, and the first
+/// test that it does not pass; then, and where the lines are such a trace, every module's plant
+/// starts inside. `Memory` says that there is none.
 pub fn replay(
     alloc: Global,
     acc: &Accepted<'_>,
@@ -57,9 +62,16 @@ pub fn replay(
     requires fits { (guests : ℕ) × FitsFlight acc.now.program guests flight.now }
     requires words { AreWords acc.now.program }
     requires none_lent { lines.number ≡ 1 }
-    ensures legal { IfOk result (λ events. (entries : List Logged) × IsTraceOf acc.now.program acc.now.cert.jitter flight.now lines.entry.to_come entries × (length entries ≡ events)) }
-    ensures refused { IfErr result (λ fail. MatchFail fail (IsFirstOutside acc.now.program flight.now.start) (IsRefusedAt acc.now.program acc.now.cert.jitter flight.now lines.entry.to_come)) }
-    ensures inside { MatchResult result (λ _. StartInside acc.now.program flight.now.start (length acc.now.program.modules)) (λ fail. MatchFail fail (λ _. Unit {0}) (λ _ _. StartInside acc.now.program flight.now.start (length acc.now.program.modules))) }
+    ensures legal { IfOk result (λ events. (entries : List Logged)
+        × IsTraceOf acc.now.program acc.now.cert.jitter flight.now lines.entry.to_come entries
+        × (length entries ≡ events)) }
+    ensures refused { IfErr result (λ fail.
+        MatchFail fail (IsFirstOutside acc.now.program flight.now.start)
+        (IsRefusedAt acc.now.program acc.now.cert.jitter flight.now lines.entry.to_come)) }
+    ensures inside { MatchResult result
+        (λ _. StartInside acc.now.program flight.now.start (length acc.now.program.modules))
+        (λ fail. MatchFail fail (λ _. Unit {0})
+        (λ _ _. StartInside acc.now.program flight.now.start (length acc.now.program.modules))) }
 {
     let mut board = match Board::open(alloc, acc, flight) {
         Ok(board) => board,

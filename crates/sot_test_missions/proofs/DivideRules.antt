@@ -120,7 +120,8 @@ module _ (D : Term → Type 0) (fits : (truths : List Bool) (t : Term) → truth
           (λ a b. only_place 1 calc.writes.items h.writes i k a ∙ sym (only_place 1 calc.writes.items h.writes j k b)) n node at;
       inside = λ n node k at. at_one (λ n node. Has node.writes.items k → k < 2) calc (λ a. let e = writes k a in omega (arith, e)) n node at;
       outside =
-          λ n node t i info at at_t e less has. at_two (λ t info. info.outside ≡ true → ⊥) topic_n topic_k (λ e. false≢true e) (λ e. false≢true e) t info at_t e;
+          λ n node t i info at at_t e less has. at_two (λ t info. info.outside ≡ true → ⊥) topic_n topic_k (λ e. false≢true e) (λ e. false≢true e) t info at_t
+          e;
       scalar_topic =
           at_two (λ k info. (topic : TopicInfo) × At made.topics info.topic topic × (topic.first ≤ k) × (k < topic.first + topic.count)) scalar_n scalar_k
           (topic_n, refl, omega arith, omega arith) (topic_k, refl, omega arith, omega arith);
@@ -165,7 +166,8 @@ module _ (D : Term → Type 0) (fits : (truths : List Bool) (t : Term) → truth
       locals = omega (arith, ap length h.locals);
       local_ranges = λ i info at. absurd (no_local i info at);
       external = λ e. h.locals;
-      body = λ acts coded. division_fits D fits (node_truths made calc) (length calc.locals.items) (length calc.writes.items) acts the_truths (ap length h.writes)
+      body =
+          λ acts coded. division_fits D fits (node_truths made calc) (length calc.locals.items) (length calc.writes.items) acts the_truths (ap length h.writes)
           (subst (IsDivision D) (one_body calc h.body.0 acts h.body.1 coded) h.body.2);
     }
 

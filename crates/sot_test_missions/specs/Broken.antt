@@ -56,8 +56,9 @@ module _ (g : Global) where
   abbrev pub turned_box : Tables
   turned_box =
       record (line g) {
-        modules = record (nav g)
-            { safe = record { width = 1; boxes = (side (pos 1) (pos 0) ∷ []) ∷ []; settled = false } } ∷
+        modules = record (nav g) {
+          safe = record { width = 1; boxes = (side (pos 1) (pos 0) ∷ []) ∷ []; settled = false };
+        } ∷
             [];
       }
 

@@ -1,4 +1,5 @@
-//! Lines that are replayed. Expected answers come from an independent program, or from a person where that is said.
+//! Lines that are replayed. Expected answers come from an independent program, or from a person
+//! where that is said.
 mod ends;
 mod flights;
 mod guests;
@@ -104,7 +105,8 @@ pub fn windy(rt: &impl Abort, alloc: Global) -> String {
     flown(rt, alloc, mission.as_str(), 10, 5, HIGH, TWO)
 }
 
-// A trace of it: at time 4 the decision comes before the safe node's firing, which then brakes at once.
+// A trace of it: at time 4 the decision comes before the safe node's firing, which then brakes at
+// once.
 pub const BRAKED: [&str; 15] = [
     "soter trace 1",
     "start pos 10",

@@ -41,13 +41,15 @@ fit widths cert none count each p h = record {
 }
 
 -- a certificate with one entry
-pub one_entry : (width : ℕ) (cells : Cells) (cert : Cert) → cert.jitter ≡ 0 → AreCellsBoth width cells → cert.modules.items ≡ Some cells ∷ [] → FitsAll (width ∷ []) cert
+pub one_entry : (width : ℕ) (cells : Cells) (cert : Cert) → cert.jitter ≡ 0 → AreCellsBoth width cells → cert.modules.items ≡ Some cells ∷ []
+    → FitsAll (width ∷ []) cert
 one_entry width cells cert none h e = fit (width ∷ []) cert none (ap length e) (λ m other at.
     at_one (λ m (entry : Option Cells). (one : Cells) → entry ≡ Some one → AreCellsBoth (slice_index_or (width ∷ []) m 0) one) (Some cells)
     (λ one same. subst (AreCellsBoth width) (same_Some cells one same) h) m (Some other) (subst (λ l. At l m (Some other)) e at) other refl)
 
 -- a certificate with two entries
-pub two_entries : (a b : ℕ) (first second : Cells) (cert : Cert) → cert.jitter ≡ 0 → AreCellsBoth a first → AreCellsBoth b second → cert.modules.items ≡ Some first ∷ Some second ∷ [] → FitsAll (a ∷ b ∷ []) cert
+pub two_entries : (a b : ℕ) (first second : Cells) (cert : Cert) → cert.jitter ≡ 0 → AreCellsBoth a first → AreCellsBoth b second
+    → cert.modules.items ≡ Some first ∷ Some second ∷ [] → FitsAll (a ∷ b ∷ []) cert
 two_entries a b first second cert none h k e = fit (a ∷ b ∷ []) cert none (ap length e) (λ m other at.
     at_two (λ m (entry : Option Cells). (one : Cells) → entry ≡ Some one → AreCellsBoth (slice_index_or (a ∷ b ∷ []) m 0) one) (Some first) (Some second)
     (λ one same. subst (AreCellsBoth a) (same_Some first one same) h) (λ one same. subst (AreCellsBoth b) (same_Some second one same) k)
@@ -56,7 +58,8 @@ two_entries a b first second cert none h k e = fit (a ∷ b ∷ []) cert none (a
 -- a certificate whose one entry is not there, and one of a program with no module
 pub no_entry : (width : ℕ) (cert : Cert) → cert.jitter ≡ 0 → cert.modules.items ≡ None ∷ [] → FitsAll (width ∷ []) cert
 no_entry width cert none e = fit (width ∷ []) cert none (ap length e) (λ m cells at.
-    absurd (at_one (λ m (entry : Option Cells). (one : Cells) → entry ≡ Some one → ⊥) None (λ one same. none-some one same) m (Some cells) (subst (λ l. At l m (Some cells)) e at) cells refl))
+    absurd (at_one (λ m (entry : Option Cells). (one : Cells) → entry ≡ Some one → ⊥) None (λ one same. none-some one same) m (Some cells)
+    (subst (λ l. At l m (Some cells)) e at) cells refl))
 
 pub no_module : (cert : Cert) → cert.jitter ≡ 0 → cert.modules.items ≡ [] → FitsAll [] cert
 no_module cert none e = fit [] cert none (ap length e) (λ m cells at. absurd (none-some (Some cells) (subst (λ l. At l m (Some cells)) e at)))

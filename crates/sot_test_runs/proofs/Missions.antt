@@ -22,17 +22,22 @@ module _ (N : Term → Type 0) (p : Tables) (h : IsLine N p) where
   pub line_widths : HasWidths (1 ∷ []) p
   line_widths = record {
     modules = ap length h.modules;
-    plants = λ m info at. at_one (λ m (a : ModuleInfo). width_of p.plants a.plant ≡ slice_index_or (1 ∷ []) m 0) nav line_width m info (subst (λ (l : List ModuleInfo). At l m info) h.modules at);
-    node_periods = λ n node at. at_two (λ n (a : NodeInfo). 0 < a.period) h.nodes.0 h.nodes.1 (omega (arith, h.nodes.2.period)) (omega (arith, h.nodes.3.period)) n node
+    plants =
+        λ m info at. at_one (λ m (a : ModuleInfo). width_of p.plants a.plant ≡ slice_index_or (1 ∷ []) m 0) nav line_width m info
+        (subst (λ (l : List ModuleInfo). At l m info) h.modules at);
+    node_periods =
+        λ n node at. at_two (λ n (a : NodeInfo). 0 < a.period) h.nodes.0 h.nodes.1 (omega (arith, h.nodes.2.period)) (omega (arith, h.nodes.3.period)) n node
         (subst (λ (l : List NodeInfo). At l n node) h.nodes.4 at);
-    module_periods = λ m info at. at_one (λ m (a : ModuleInfo). 0 < a.period) nav (omega arith) m info (subst (λ (l : List ModuleInfo). At l m info) h.modules at);
+    module_periods =
+        λ m info at. at_one (λ m (a : ModuleInfo). 0 < a.period) nav (omega arith) m info (subst (λ (l : List ModuleInfo). At l m info) h.modules at);
   }
 
   pub line_starts : (start : List (List ℤ)) (s : List ℤ) → start ≡ s ∷ [] → length s ≡ 1 → AreStarts p start
   line_starts start s e one = record {
     each = ap length e ∙ sym (ap length h.plants.2);
     widths = λ k plant at. at_one (λ k (one : PlantInfo). length (slice_index_or start k []) ≡ length one.states.items) h.plants.0
-        (ap (λ l. length (slice_index_or l 0 [])) e ∙ one ∙ sym (ap length h.plants.1.states)) k plant (subst (λ (l : List PlantInfo). At l k plant) h.plants.2 at);
+        (ap (λ l. length (slice_index_or l 0 [])) e ∙ one ∙ sym (ap length h.plants.1.states)) k plant
+        (subst (λ (l : List PlantInfo). At l k plant) h.plants.2 at);
   }
 
   pub line_modules : 0 < length p.modules
@@ -51,6 +56,8 @@ pub divide_widths : (D : Term → Type 0) (p : Tables) → IsDivide D p → HasW
 divide_widths D p h = record {
   modules = ap length h.modules;
   plants = λ m info at. absurd (none-some info (subst (λ (l : List ModuleInfo). At l m info) h.modules at));
-  node_periods = λ n node at. at_one (λ n (a : NodeInfo). 0 < a.period) h.nodes.0 (omega (arith, h.nodes.1.period)) n node (subst (λ (l : List NodeInfo). At l n node) h.nodes.2 at);
+  node_periods =
+      λ n node at. at_one (λ n (a : NodeInfo). 0 < a.period) h.nodes.0 (omega (arith, h.nodes.1.period)) n node
+      (subst (λ (l : List NodeInfo). At l n node) h.nodes.2 at);
   module_periods = λ m info at. absurd (none-some info (subst (λ (l : List ModuleInfo). At l m info) h.modules at));
 }

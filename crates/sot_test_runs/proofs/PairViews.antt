@@ -29,9 +29,12 @@ module _ (low : ℤ) (p : Tables) (h : IsPair low p) where
     plants = λ m info at. at_two (λ m (a : ModuleInfo). width_of p.plants a.plant ≡ slice_index_or (1 ∷ 2 ∷ []) m 0) nav (fly low) width_pos width_cell m info
         (subst (λ (l : List ModuleInfo). At l m info) h.modules at);
     node_periods = λ n node at. at_more has_period h.fast (h.slow ∷ h.up ∷ h.down ∷ []) (omega (arith, h.is_fast.period))
-        (at_more has_period h.slow (h.up ∷ h.down ∷ []) (omega (arith, h.is_slow.period)) (at_two has_period h.up h.down (omega (arith, h.is_up.period)) (omega (arith, h.is_down.period)))) n node
+        (at_more has_period h.slow (h.up ∷ h.down ∷ []) (omega (arith, h.is_slow.period))
+        (at_two has_period h.up h.down (omega (arith, h.is_up.period)) (omega (arith, h.is_down.period)))) n node
         (subst (λ (l : List NodeInfo). At l n node) h.nodes at);
-    module_periods = λ m info at. at_two (λ m (a : ModuleInfo). 0 < a.period) nav (fly low) (omega arith) (omega arith) m info (subst (λ (l : List ModuleInfo). At l m info) h.modules at);
+    module_periods =
+        λ m info at. at_two (λ m (a : ModuleInfo). 0 < a.period) nav (fly low) (omega arith) (omega arith) m info
+        (subst (λ (l : List ModuleInfo). At l m info) h.modules at);
   }
 
   starts : (s t : List ℤ) → length s ≡ 1 → length t ≡ 2 → AreStarts p (s ∷ t ∷ [])

@@ -11,10 +11,12 @@ use Rattle.sot_lang.specs.Tables.{Tables}
 use Rattle.sot_lang.specs.OwnerNames.{width_of}
 use Rattle.sot_lang.specs.CertRules.{FitsTables}
 
--- a program with so many modules, whose plants have these counts of state variables, and with no period of 0
+-- a program with so many modules, whose plants have these counts of state variables, and with no
+-- period of 0
 pub record HasWidths (widths : List ℕ) (p : Tables) : Type 0 where
   pub modules : length p.modules ≡ length widths
-  pub plants : (m : ℕ) (info : ModuleInfo) → At p.modules m info → width_of p.plants info.plant ≡ slice_index_or widths m 0
+  pub plants : (m : ℕ) (info : ModuleInfo) → At p.modules m info
+      → width_of p.plants info.plant ≡ slice_index_or widths m 0
   pub node_periods : (n : ℕ) (node : NodeInfo) → At p.nodes n node → 0 < node.period
   pub module_periods : (m : ℕ) (info : ModuleInfo) → At p.modules m info → 0 < info.period
 

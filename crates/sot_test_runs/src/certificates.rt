@@ -117,8 +117,8 @@ fn vehicle_cells(alloc: Global) -> Result<Cells, AllocError>
     Ok(Cells { closed, reach })
 }
 
-/// A certificate of the vehicle beside a battery, which is trusted from this battery on: sixteen cells, of which the battery's are
-/// the boxes of its regions.
+/// A certificate of the vehicle beside a battery, which is trusted from this battery on: sixteen
+/// cells, of which the battery's are the boxes of its regions.
 pub fn pair_cert(alloc: Global, low: i64) -> Result<Cert, AllocError>
     requires { low ≤ℤ pos 1000 }
     ensures { IfOk result (FitsAll (1 ∷ 2 ∷ [])) }
@@ -199,8 +199,8 @@ fn slow_places(alloc: Global, low: i64, high: i64) -> Result<Region, AllocError>
     }
 }
 
-/// A certificate of the double integrator, which is trusted between these places: 58 closed cells, two for each speed, and one
-/// reach cell.
+/// A certificate of the double integrator, which is trusted between these places: 58 closed cells,
+/// two for each speed, and one reach cell.
 pub fn double_cert(alloc: Global, low: i64, high: i64) -> Result<Cert, AllocError>
     requires { low ≤ℤ high }
     ensures { IfOk result (FitsAll (2 ∷ [])) }

@@ -29,17 +29,21 @@ text_of-append (l ∷ a) b = ap (λ x. l ++ (10 ∷ x)) (text_of-append a b) ∙
 
 -- the first lines, the lines of the entries, and the last line
 pub whole_trace : (p : Tables) (start : List (List ℤ)) (entries : List Logged) (front middle all : List ℕ) (ticks events refused : ℕ)
-    → front ≡ header ++ (10 ∷ text_of (start_lines p.plants start)) → middle ≡ front ++ text_of (map (line_of p) entries) → all ≡ middle ++ (end_line ticks events refused ++ (10 ∷ []))
+    → front ≡ header ++ (10 ∷ text_of (start_lines p.plants start)) → middle ≡ front ++ text_of (map (line_of p) entries)
+    → all ≡ middle ++ (end_line ticks events refused ++ (10 ∷ []))
     → ticks ≡ sum_by ticks_in entries → events ≡ length entries → refused ≡ sum_by (refused_in p) entries → all ≡ trace_text p start entries
 whole_trace p start entries front middle all ticks events refused is_front is_middle is_all is_ticks is_events is_refused =
     let starts = start_lines p.plants start in
     let lines = map (line_of p) entries in
     let last = λ (t n r : ℕ). text_of (end_line t n r ∷ []) in
-    let counted = ap (λ t. last t events refused) is_ticks ∙ ap (λ n. last (sum_by ticks_in entries) n refused) is_events ∙ ap (λ r. last (sum_by ticks_in entries) (length entries) r) is_refused in
+    let counted = ap (λ t. last t events refused) is_ticks ∙ ap (λ n. last (sum_by ticks_in entries) n refused) is_events
+    ∙ ap (λ r. last (sum_by ticks_in entries) (length entries) r) is_refused in
     let end = last (sum_by ticks_in entries) (length entries) (sum_by (refused_in p) entries) in
     is_all
     ∙ ap (λ x. middle ++ x) counted
     ∙ ap (λ x. x ++ end) (is_middle ∙ ap (λ x. x ++ text_of lines) is_front)
     ∙ append_assoc (header ++ (10 ∷ text_of starts)) (text_of lines) end
-    ∙ ap (λ x. header ++ (10 ∷ text_of starts) ++ x) (sym (text_of-append lines (end_line (sum_by ticks_in entries) (length entries) (sum_by (refused_in p) entries) ∷ [])))
-    ∙ ap (λ x. header ++ (10 ∷ x)) (sym (text_of-append starts (lines ++ (end_line (sum_by ticks_in entries) (length entries) (sum_by (refused_in p) entries) ∷ []))))
+    ∙ ap (λ x. header ++ (10 ∷ text_of starts) ++ x) (sym (text_of-append lines
+    (end_line (sum_by ticks_in entries) (length entries) (sum_by (refused_in p) entries) ∷ [])))
+    ∙ ap (λ x. header ++ (10 ∷ x)) (sym (text_of-append starts
+    (lines ++ (end_line (sum_by ticks_in entries) (length entries) (sum_by (refused_in p) entries) ∷ []))))

@@ -1,5 +1,6 @@
 -- A line tells its entry.
-use Rattle.std.proofs.Common.{◌≡◌, ℕ, suc, ◌-◌, ℤ, ◌<◌, ◌≤◌, Bool, true, false, List, [], ◌∷◌, ◌++◌, Option, None, length, replicate, refl, sym, ap, subst, ◌∙◌, arith, drop, codes, length-append}
+use Rattle.std.proofs.Common.{◌≡◌, ℕ, suc, ◌-◌, ℤ, ◌<◌, ◌≤◌, Bool, true, false, List, [], ◌∷◌, ◌++◌, Option, None, length, replicate, refl, sym, ap, subst, ◌∙◌}
+use Rattle.std.proofs.Common.{arith, drop, codes, length-append}
 use Rattle.std.specs.Prelude.{slice_index_or}
 use Rattle.std.specs.Option.{option_map_or}
 use Rattle.std.proofs.Math.Seq.{drop-append_seam}
@@ -115,12 +116,14 @@ module _ (p : Tables) (rules : MeetsTableRules p) (words : AreWords p) where
       (apart_from node.writes.items (λ i j k at_i at_j. rules.typed.once n node i j k at at_i at_j))
       d e (room a d _ size_a is_a) (room b e _ size_b is_b) (nothing_behind a d _ size_a is_a ∙ sym (nothing_behind b e _ size_b is_b)) same
 
-  inputs_same : (s t : ℕ) (v w : List ℤ) → s < length p.topics → t < length p.topics → topic_name p s ++ (61 ∷ numbers v) ≡ topic_name p t ++ (61 ∷ numbers w) → (s ≡ t) × (v ≡ w)
+  inputs_same : (s t : ℕ) (v w : List ℤ) → s < length p.topics → t < length p.topics → topic_name p s ++ (61 ∷ numbers v) ≡ topic_name p t ++ (61 ∷ numbers w)
+      → (s ≡ t) × (v ≡ w)
   inputs_same s t v w ls lt e =
       let a = at_below p.topics s ls in
       let b = at_below p.topics t lt in
       let named = sym (ap (λ n. n ++ (61 ∷ numbers v)) (topic_named p s a.0 a.1)) ∙ e ∙ ap (λ n. n ++ (61 ∷ numbers w)) (topic_named p t b.0 b.1) in
-      let parts = cut_same is_in_word a.0.name b.0.name (61 ∷ numbers v) (61 ∷ numbers w) (topic_in p rules words s a.0 a.1) (topic_in p rules words t b.0 b.1) refl refl named in
+      let parts = cut_same is_in_word a.0.name b.0.name (61 ∷ numbers v) (61 ∷ numbers w) (topic_in p rules words s a.0 a.1) (topic_in p rules words t b.0 b.1)
+      refl refl named in
       (topic_same p rules s t a.0 b.0 a.1 b.1 parts.0, numbers_same v w (ap (drop 1) parts.1))
 
   firings_same : (m n : ℕ) (d e : List (Option ℤ)) → m < length p.nodes → n < length p.nodes → IsDraftOf (writes_of p m) d → IsDraftOf (writes_of p n) e
@@ -128,8 +131,10 @@ module _ (p : Tables) (rules : MeetsTableRules p) (words : AreWords p) where
   firings_same m n d e lm ln hd he same =
       let a = at_below p.nodes m lm in
       let b = at_below p.nodes n ln in
-      let named = sym (ap (λ x. x ++ draft_text p (writes_of p m) d) (node_named p m a.0 a.1)) ∙ same ∙ ap (λ x. x ++ draft_text p (writes_of p n) e) (node_named p n b.0 b.1) in
-      let parts = cut_same is_in_word a.0.name b.0.name _ _ (node_in p rules words m a.0 a.1) (node_in p rules words n b.0 b.1) (draft_stops p is_in_word refl (writes_of p m) d) (draft_stops p is_in_word refl (writes_of p n) e) named in
+      let named = sym (ap (λ x. x ++ draft_text p (writes_of p m) d) (node_named p m a.0 a.1)) ∙ same
+      ∙ ap (λ x. x ++ draft_text p (writes_of p n) e) (node_named p n b.0 b.1) in
+      let parts = cut_same is_in_word a.0.name b.0.name _ _ (node_in p rules words m a.0 a.1) (node_in p rules words n b.0 b.1)
+      (draft_stops p is_in_word refl (writes_of p m) d) (draft_stops p is_in_word refl (writes_of p n) e) named in
       let node : m ≡ n = node_same p rules m n a.0 b.0 a.1 b.1 parts.0 in
       let of_m = writes_are m a.0 a.1 in
       let of_n = ap (writes_of p) (sym node) ∙ of_m in (
@@ -138,12 +143,14 @@ module _ (p : Tables) (rules : MeetsTableRules p) (words : AreWords p) where
             (sym (ap (λ ks. draft_text p ks d) of_m) ∙ parts.1 ∙ ap (λ ks. draft_text p ks e) of_n),
       )
 
-  decisions_same : (m n : ℕ) (a b : Mode) → m < length p.modules → n < length p.modules → module_name p m ++ mode_word a ≡ module_name p n ++ mode_word b → (m ≡ n) × (a ≡ b)
+  decisions_same : (m n : ℕ) (a b : Mode) → m < length p.modules → n < length p.modules → module_name p m ++ mode_word a ≡ module_name p n ++ mode_word b
+      → (m ≡ n) × (a ≡ b)
   decisions_same m n a b lm ln same =
       let x = at_below p.modules m lm in
       let y = at_below p.modules n ln in
       let named = sym (ap (λ z. z ++ mode_word a) (module_named p m x.0 x.1)) ∙ same ∙ ap (λ z. z ++ mode_word b) (module_named p n y.0 y.1) in
-      let parts = cut_same is_in_word x.0.name y.0.name _ _ (module_in p rules words m x.0 x.1) (module_in p rules words n y.0 y.1) (mode_stops a) (mode_stops b) named in
+      let parts = cut_same is_in_word x.0.name y.0.name _ _ (module_in p rules words m x.0 x.1) (module_in p rules words n y.0 y.1) (mode_stops a)
+      (mode_stops b) named in
       (module_same p rules m n x.0 y.0 x.1 y.1 parts.0, mode_same a b parts.1)
 
   -- with the same time, what stands behind the time tells the entry
@@ -161,6 +168,7 @@ module _ (p : Tables) (rules : MeetsTableRules p) (words : AreWords p) where
   -- a line tells its entry
   pub line_same : (e f : Logged) → IsTold p e → IsTold p f → line_of p e ≡ line_of p f → e ≡ f
   line_same e f he hf same =
-      let parts = cut_same in_number (numeral (time_of e)) (numeral (time_of f)) (tail_of p e) (tail_of p f) (numeral_in (time_of e)) (numeral_in (time_of f)) (tail_stops p e) (tail_stops p f)
+      let parts = cut_same in_number (numeral (time_of e)) (numeral (time_of f)) (tail_of p e) (tail_of p f) (numeral_in (time_of e)) (numeral_in (time_of f))
+      (tail_stops p e) (tail_stops p f)
       (sym (line_parts p e) ∙ same ∙ line_parts p f) in
       tail_same e f he hf (numeral_same (time_of e) (time_of f) parts.0) (sym (letter_is p e) ∙ ap (λ l. slice_index_or l 4 0) parts.1 ∙ letter_is p f) parts.1

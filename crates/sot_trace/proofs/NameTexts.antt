@@ -1,5 +1,6 @@
 -- What the texts of names are made of, and that they tell what they name.
-use Rattle.std.proofs.Common.{◌≡◌, ℕ, zero, suc, ◌+◌, ◌==◌, Bool, true, ◌||◌, List, [], ◌∷◌, ◌++◌, Option, Some, None, map, length, inl, inr, refl, sym, ap, subst, ◌∙◌, arith, take, drop}
+use Rattle.std.proofs.Common.{◌≡◌, ℕ, zero, suc, ◌+◌, ◌==◌, Bool, true, ◌||◌, List, [], ◌∷◌, ◌++◌, Option, Some, None, map, length, inl, inr, refl, sym, ap}
+use Rattle.std.proofs.Common.{subst, ◌∙◌, arith, take, drop}
 use Rattle.std.specs.List.{prefix_len}
 use Rattle.std.specs.Char.{is_ascii_digit}
 use Rattle.std.specs.Option.{option_map_or}
@@ -34,10 +35,12 @@ word_len_is : (text : List ℕ) → IsWord text → word_len text ≡ length tex
 word_len_is [] is = refl
 word_len_is (b ∷ bs) is =
     elim (cases_Bool (begins_word b)) [
-      | inl first ↦ sym (word_takes (take (word_len (b ∷ bs)) (b ∷ bs)) Name (length (b ∷ bs)) (sym (front_word b bs first) ∙ is) ∙ length-prefix_len is_in_word (b ∷ bs))
+      | inl first ↦ sym (word_takes (take (word_len (b ∷ bs)) (b ∷ bs)) Name (length (b ∷ bs)) (sym (front_word b bs first) ∙ is)
+          ∙ length-prefix_len is_in_word (b ∷ bs))
       | inr no_word ↦
           elim (cases_Bool (is_ascii_digit b)) [
-            | inl digit ↦ absurd (number_no_name (decimals_of (b ∷ bs)) (mantissa_of (b ∷ bs)) (number_len (b ∷ bs)) (length (b ∷ bs)) (sym (front_number b bs no_word digit) ∙ is))
+            | inl digit ↦ absurd (number_no_name (decimals_of (b ∷ bs)) (mantissa_of (b ∷ bs)) (number_len (b ∷ bs)) (length (b ∷ bs))
+                (sym (front_number b bs no_word digit) ∙ is))
             | inr no_digit ↦ (let never = (sign_takes (sign_len (b ∷ bs)) (length (b ∷ bs)) Name (sym (front_sign b bs no_word no_digit) ∙ is)).2 in absurd cc)
           ]
     ]
@@ -76,7 +79,9 @@ module _ (p : Tables) where
   module_named m x at = ap (λ o. option_map_or (λ (y : ModuleInfo). y.name) o []) at
 
   pub scalar_named : (k : ℕ) (x : ScalarInfo) (t : TopicInfo) → At p.scalars k x → At p.topics x.topic t → scalar_name p k ≡ t.name ++ field_part x.field
-  scalar_named k x t at at_t = ap (λ o. option_map_or (λ (y : ScalarInfo). topic_name p y.topic ++ field_part y.field) o []) at ∙ ap (λ n. n ++ field_part x.field) (topic_named x.topic t at_t)
+  scalar_named k x t at at_t =
+      ap (λ o. option_map_or (λ (y : ScalarInfo). topic_name p y.topic ++ field_part y.field) o []) at
+      ∙ ap (λ n. n ++ field_part x.field) (topic_named x.topic t at_t)
 
 field_stops : (f : Option (List ℕ)) → Stops is_in_word (field_part f)
 field_stops None = tt
@@ -104,7 +109,8 @@ module _ (p : Tables) (rules : MeetsTableRules p) where
       let place = λ (k : ℕ) (z : NodeInfo) (at : At p.nodes k z).
       at_front (before ++ map (λ a. a.name) p.nodes) (map (λ a. a.name) p.modules) (length before + k) z.name
       (at_behind before (map (λ a. a.name) p.nodes) k z.name (at_map (λ (a : NodeInfo). a.name) p.nodes k z at)) in
-      let same : length before + s ≡ length before + t = rules.names_once (length before + s) (length before + t) y.name (subst (λ n. At (declared_names p) (length before + s) n) e (place s x at_x)) (place t y at_y) in
+      let same : length before + s ≡ length before + t = rules.names_once (length before + s) (length before + t) y.name
+      (subst (λ n. At (declared_names p) (length before + s) n) e (place s x at_x)) (place t y at_y) in
       omega (arith, same)
 
   pub module_same : (s t : ℕ) (x y : ModuleInfo) → At p.modules s x → At p.modules t y → x.name ≡ y.name → s ≡ t
@@ -112,7 +118,8 @@ module _ (p : Tables) (rules : MeetsTableRules p) where
       let before : List (List ℕ) = map (λ a. a.name) p.topics ++ map (λ a. a.name) p.plants ++ map (λ a. a.name) p.nodes in
       let place = λ (k : ℕ) (z : ModuleInfo) (at : At p.modules k z).
       at_behind before (map (λ a. a.name) p.modules) k z.name (at_map (λ (a : ModuleInfo). a.name) p.modules k z at) in
-      let same : length before + s ≡ length before + t = rules.names_once (length before + s) (length before + t) y.name (subst (λ n. At (declared_names p) (length before + s) n) e (place s x at_x)) (place t y at_y) in
+      let same : length before + s ≡ length before + t = rules.names_once (length before + s) (length before + t) y.name
+      (subst (λ n. At (declared_names p) (length before + s) n) e (place s x at_x)) (place t y at_y) in
       omega (arith, same)
 
 module _ (p : Tables) (rules : MeetsTableRules p) (words : AreWords p) where
@@ -133,7 +140,8 @@ module _ (p : Tables) (rules : MeetsTableRules p) (words : AreWords p) where
   scalar_in k x at =
       let topic = rules.typed.scalar_topic k x at in
       subst (AllIn in_name) (sym (scalar_named p k x topic.0 at topic.1))
-      (both_in in_name topic.0.name (field_part x.field) (in_wider is_in_word in_name name_wider topic.0.name (topic_in x.topic topic.0 topic.1)) (field_in k x x.field at refl))
+      (both_in in_name topic.0.name (field_part x.field) (in_wider is_in_word in_name name_wider topic.0.name (topic_in x.topic topic.0 topic.1))
+      (field_in k x x.field at refl))
 
   -- a scalar's name tells the scalar
   pub scalar_same : (i j : ℕ) (x y : ScalarInfo) → At p.scalars i x → At p.scalars j y → scalar_name p i ≡ scalar_name p j → i ≡ j
@@ -141,5 +149,6 @@ module _ (p : Tables) (rules : MeetsTableRules p) (words : AreWords p) where
       let s = rules.typed.scalar_topic i x at_x in
       let t = rules.typed.scalar_topic j y at_y in
       let whole = sym (scalar_named p i x s.0 at_x s.1) ∙ e ∙ scalar_named p j y t.0 at_y t.1 in
-      let parts = cut_same is_in_word s.0.name t.0.name (field_part x.field) (field_part y.field) (topic_in x.topic s.0 s.1) (topic_in y.topic t.0 t.1) (field_stops x.field) (field_stops y.field) whole in
+      let parts = cut_same is_in_word s.0.name t.0.name (field_part x.field) (field_part y.field) (topic_in x.topic s.0 s.1) (topic_in y.topic t.0 t.1)
+      (field_stops x.field) (field_stops y.field) whole in
       rules.fields_once i j x y at_x at_y (topic_same p rules x.topic y.topic s.0 t.0 s.1 t.1 parts.0) (field_same x.field y.field parts.1)

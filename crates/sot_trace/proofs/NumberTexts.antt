@@ -1,5 +1,6 @@
 -- What the texts of numbers are made of, and that they tell the numbers.
-use Rattle.std.proofs.Common.{◌≡◌, ℕ, zero, suc, ℤ, pos, negsuc, ◌+◌, ◌/◌, ◌%◌, ◌<◌, ◌==◌, Bool, true, false, ◌||◌, List, [], ◌∷◌, ◌++◌, length, get_or, map, refl, sym, ap, subst, ◌∙◌, arith, drop, append_assoc, length-append}
+use Rattle.std.proofs.Common.{◌≡◌, ℕ, zero, suc, ℤ, pos, negsuc, ◌+◌, ◌/◌, ◌%◌, ◌<◌, ◌==◌, Bool, true, false, ◌||◌, List, [], ◌∷◌, ◌++◌, length, get_or, map}
+use Rattle.std.proofs.Common.{refl, sym, ap, subst, ◌∙◌, arith, drop, append_assoc, length-append}
 use Rattle.std.specs.Int.Digits.{digits_with_fuel, digits_of, AllBelowBase}
 use Rattle.std.specs.Char.{is_ascii_digit}
 use Rattle.std.proofs.lemmas.Int.Digits.{same_from_digits_of, all_below_base_digits_of, first_digits_of, length-digits_of_step}
@@ -46,7 +47,8 @@ digits_in (d ∷ ds) h = (digit_in d h.0, digits_in ds h.1)
 
 pub numeral_digits : (n : ℕ) → AllIn is_ascii_digit (numeral n)
 numeral_digits zero = (refl, tt)
-numeral_digits (suc n) = subst (AllIn is_ascii_digit) (sym (digits_are n)) (digits_in (digits_of 10 (suc n)) (all_below_base_digits_of 10 (suc n) (omega arith)))
+numeral_digits (suc n) =
+    subst (AllIn is_ascii_digit) (sym (digits_are n)) (digits_in (digits_of 10 (suc n)) (all_below_base_digits_of 10 (suc n) (omega arith)))
 
 pub numeral_in : (n : ℕ) → AllIn in_number (numeral n)
 numeral_in n = in_wider is_ascii_digit in_number digit_wider (numeral n) (numeral_digits n)
@@ -54,7 +56,8 @@ numeral_in n = in_wider is_ascii_digit in_number digit_wider (numeral n) (numera
 -- a number has a digit
 pub numeral_some : (n : ℕ) → 0 < length (numeral n)
 numeral_some zero = omega arith
-numeral_some (suc n) = omega (arith, ap length (digits_are n), length-map (digits_of 10 (suc n)) (λ d. 48 + d), length-digits_of_step 10 (suc n) (omega arith) (omega arith))
+numeral_some (suc n) =
+    omega (arith, ap length (digits_are n), length-map (digits_of 10 (suc n)) (λ d. 48 + d), length-digits_of_step 10 (suc n) (omega arith) (omega arith))
 
 pub signed_in : (z : ℤ) → AllIn in_number (signed_numeral z)
 signed_in (pos n) = numeral_in n
@@ -100,11 +103,13 @@ more_in b is = rw is refl
 
 further_in : (xs : List ℤ) → AllIn in_numbers (further xs)
 further_in [] = tt
-further_in (x ∷ xs) = (refl, both_in in_numbers (signed_numeral x) (further xs) (in_wider in_number in_numbers more_in (signed_numeral x) (signed_in x)) (further_in xs))
+further_in (x ∷ xs) =
+    (refl, both_in in_numbers (signed_numeral x) (further xs) (in_wider in_number in_numbers more_in (signed_numeral x) (signed_in x)) (further_in xs))
 
 pub numbers_in : (xs : List ℤ) → AllIn in_numbers (numbers xs)
 numbers_in [] = tt
-numbers_in (x ∷ xs) = both_in in_numbers (signed_numeral x) (further xs) (in_wider in_number in_numbers more_in (signed_numeral x) (signed_in x)) (further_in xs)
+numbers_in (x ∷ xs) =
+    both_in in_numbers (signed_numeral x) (further xs) (in_wider in_number in_numbers more_in (signed_numeral x) (signed_in x)) (further_in xs)
 
 further_stops : (xs : List ℤ) → Stops in_number (further xs)
 further_stops [] = tt
@@ -115,7 +120,8 @@ further_same [] [] same = refl
 further_same [] (y ∷ ys) same = absurd cc
 further_same (x ∷ xs) [] same = absurd cc
 further_same (x ∷ xs) (y ∷ ys) same =
-    let parts = cut_same in_number (signed_numeral x) (signed_numeral y) (further xs) (further ys) (signed_in x) (signed_in y) (further_stops xs) (further_stops ys) (ap (drop 1) same) in
+    let parts = cut_same in_number (signed_numeral x) (signed_numeral y) (further xs) (further ys) (signed_in x) (signed_in y) (further_stops xs)
+    (further_stops ys) (ap (drop 1) same) in
     let first : x ≡ y = signed_same x y parts.0 in
     let rest : xs ≡ ys = further_same xs ys parts.1 in
     cc

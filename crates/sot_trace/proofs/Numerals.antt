@@ -1,5 +1,6 @@
 -- What the code prints of a number is its text.
-use Rattle.std.proofs.Common.{◌≡◌, ℕ, zero, suc, ℤ, pos, negsuc, ◌+◌, ◌/◌, ◌%◌, ◌<◌, ◌≤◌, ◌^◌, List, [], ◌∷◌, ◌++◌, true, map, Result, Ok, Err, OnOk, refl, sym, ap, ap₂, ◌∙◌, arith, append_assoc}
+use Rattle.std.proofs.Common.{◌≡◌, ℕ, zero, suc, ℤ, pos, negsuc, ◌+◌, ◌/◌, ◌%◌, ◌<◌, ◌≤◌, ◌^◌, List, [], ◌∷◌, ◌++◌, true, map, Result, Ok, Err, OnOk, refl, sym}
+use Rattle.std.proofs.Common.{ap, ap₂, ◌∙◌, arith, append_assoc}
 use Rattle.std.specs.Prelude.{int_le, nat_abs}
 use Rattle.std.specs.Bool.{if◌then◌else◌}
 use Rattle.std.specs.Result.{is_ok}
@@ -53,7 +54,8 @@ signed_decimal_is (pos n) small = decimal_is n (omega arith)
 signed_decimal_is (negsuc n) small = ap (λ x. 45 ∷ x) (decimal_is (suc n) (omega arith))
 
 -- what was put is its text by either word
-pub put_so : {A E : Type 0} (r : Result A E) (new old text other : List ℕ) → new ≡ (if is_ok r then old ++ text else old) → text ≡ other → OnOk r (new ≡ old ++ other)
+pub put_so : {A E : Type 0} (r : Result A E) (new old text other : List ℕ) → new ≡ (if is_ok r then old ++ text else old) → text ≡ other
+    → OnOk r (new ≡ old ++ other)
 put_so (Ok x) new old text other is same = is ∙ ap (λ t. old ++ t) same
 put_so (Err e) new old text other is same = tt
 
@@ -63,7 +65,8 @@ put_same (Ok x) new old text other is same = is ∙ ap (λ t. old ++ t) same
 put_same (Err e) new old text other is same = tt
 
 -- the front of a number was put, and its last digit behind it
-pub put_last : {A E : Type 0} (r : Result A E) (new mid old front : List ℕ) (n : ℕ) → 10 ≤ n → OnOk r (new ≡ mid ++ ((48 + n % 10) ∷ [])) → mid ≡ old ++ front → front ≡ numeral (n / 10)
+pub put_last : {A E : Type 0} (r : Result A E) (new mid old front : List ℕ) (n : ℕ) → 10 ≤ n → OnOk r (new ≡ mid ++ ((48 + n % 10) ∷ [])) → mid ≡ old ++ front
+    → front ≡ numeral (n / 10)
     → OnOk r (new ≡ old ++ numeral n)
 put_last (Ok x) new mid old front n large is was front_is =
     is ∙ ap (λ t. t ++ ((48 + n % 10) ∷ [])) was ∙ append_assoc old front ((48 + n % 10) ∷ []) ∙ ap (λ t. old ++ t) (last_digit n front large front_is)

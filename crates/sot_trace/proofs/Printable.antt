@@ -45,7 +45,8 @@ joined_count count width none more (x ∷ plants) (s ∷ points) same each =
     omega (arith, rest, each 0 x refl, more x plants, length-append s (joined points))
 
 module _ (p : Tables) (rules : MeetsTableRules p) where
-  moved_width : (k : ℕ) (plant : PlantInfo) (s c v w next : List ℤ) → At p.plants k plant → next_state plant s c v w ≡ Ok next → length next ≡ length plant.states.items
+  moved_width : (k : ℕ) (plant : PlantInfo) (s c v w next : List ℤ) → At p.plants k plant → next_state plant s c v w ≡ Ok next
+      → length next ≡ length plant.states.items
   unfolding next_state
   moved_width k plant s c v w next at e = values_length plant.next.items (s ++ c ++ v ++ w) next e ∙ (rules.plants k plant at).one_next
 
@@ -55,13 +56,16 @@ module _ (p : Tables) (rules : MeetsTableRules p) where
   told_fits j P Q (Guest n d) r entry step (draft, enabled, was, is) = subst (FitsEntry p) (sym is) (slice_get_within p.nodes n step.node step.is)
   told_fits j P Q (Decide m) r entry step (mode, was, is) = subst (FitsEntry p) (sym is) (slice_get_within p.modules m step.module_info step.is)
   told_fits j P Q (Tick noise) r entry step is = subst (FitsEntry p) (sym is) (
-    joined_count noise_count (λ x. length x.noise.items) refl (λ k ks. refl) p.plants noise step.each (λ k plant at. within_length _ _ (step.bounded k plant at) ∙ length-map plant.noise.items (λ d. record { lo = d.lo; hi = d.hi })),
-    joined_count state_count (λ x. length x.states.items) refl (λ k ks. refl) p.plants Q.at.points step.sizes.points (λ k plant at. moved_width k plant _ _ _ _ _ at (step.moves k plant at)),
+    joined_count noise_count (λ x. length x.noise.items) refl (λ k ks. refl) p.plants noise step.each
+        (λ k plant at. within_length _ _ (step.bounded k plant at) ∙ length-map plant.noise.items (λ d. record { lo = d.lo; hi = d.hi })),
+    joined_count state_count (λ x. length x.states.items) refl (λ k ks. refl) p.plants Q.at.points step.sizes.points
+        (λ k plant at. moved_width k plant _ _ _ _ _ at (step.moves k plant at)),
   )
 
   led_fits : (j : ℕ) (f : Plan) (P : Position) (es : List Logged) (Q : Position) → Leads p j f P es Q → FitsHistory p es
   led_fits j f P [] Q led i e at = absurd cc
-  led_fits j f P (x ∷ es) Q (R, flies, led) zero e at = subst (FitsEntry p) (let same : x ≡ e = cc in same) (told_fits j P R flies.event flies.recorded x flies.step flies.tells)
+  led_fits j f P (x ∷ es) Q (R, flies, led) zero e at =
+      subst (FitsEntry p) (let same : x ≡ e = cc in same) (told_fits j P R flies.event flies.recorded x flies.step flies.tells)
   led_fits j f P (x ∷ es) Q (R, flies, led) (suc i) e at = led_fits j f R es Q led i e at
 
   pub flown_fits : (j : ℕ) (f : Plan) (es : List Logged) (Q : Position) → FlownSoFar p j f es Q → FitsHistory p es

@@ -1,5 +1,6 @@
 -- The text of a history tells the start and the history.
-use Rattle.std.proofs.Common.{◌≡◌, ℕ, suc, ◌<◌, ◌≤◌, ◌==◌, ℤ, Bool, true, false, List, [], ◌∷◌, ◌++◌, map, length, refl, sym, ap, subst, ◌∙◌, arith, drop, append_assoc, codes}
+use Rattle.std.proofs.Common.{◌≡◌, ℕ, suc, ◌<◌, ◌≤◌, ◌==◌, ℤ, Bool, true, false, List, [], ◌∷◌, ◌++◌, map, length, refl, sym, ap, subst, ◌∙◌, arith, drop}
+use Rattle.std.proofs.Common.{append_assoc, codes}
 use Rattle.std.specs.Prelude.{sum_by}
 use Rattle.std.proofs.lemmas.Bool.Decides.{nat_tests}
 use Rattle.std.proofs.lemmas.List.{append_cancel_left}
@@ -34,7 +35,8 @@ opens_so : (q r : ℕ → Bool) → ((b : ℕ) → q b ≡ true → r b ≡ fals
 opens_so q r other [] x some h = absurd (omega arith)
 opens_so q r other (b ∷ a) x some h = other b h.0
 
-starts_same : (ks : List PlantInfo) (xs ys : List (List ℤ)) (r s : List (List ℕ)) → length xs ≤ length ks → length ys ≤ length ks → Stops is_s (text_of r) → Stops is_s (text_of s)
+starts_same : (ks : List PlantInfo) (xs ys : List (List ℤ)) (r s : List (List ℕ)) → length xs ≤ length ks → length ys ≤ length ks → Stops is_s (text_of r)
+    → Stops is_s (text_of s)
     → text_of (start_lines ks xs ++ r) ≡ text_of (start_lines ks ys ++ s) → (xs ≡ ys) × (text_of r ≡ text_of s)
 starts_same [] [] [] r s lx ly sr ss e = (refl, e)
 starts_same [] (x ∷ xs) ys r s lx ly sr ss e = absurd (omega arith)
@@ -71,14 +73,17 @@ module _ (p : Tables) where
   no_start [] t n r = refl
   no_start (e ∷ es) t n r =
       let more = tail_of p e ++ (10 ∷ text_of (map (line_of p) es ++ (end_line t n r ∷ []))) in
-      let whole = ap (λ l. l ++ (10 ∷ text_of (map (line_of p) es ++ (end_line t n r ∷ [])))) (line_parts p e) ∙ append_assoc (numeral (time_of e)) (tail_of p e) _ in
+      let whole = ap (λ l. l ++ (10 ∷ text_of (map (line_of p) es ++ (end_line t n r ∷ [])))) (line_parts p e)
+      ∙ append_assoc (numeral (time_of e)) (tail_of p e) _ in
       subst (Stops is_s) (sym whole) (opens_so in_number is_s no_s (numeral (time_of e)) more (numeral_some (time_of e)) (numeral_in (time_of e)))
 
   -- a line begins with a digit, and the last line does not
   last_is_last : (e : Logged) (x y : List ℕ) (t n r : ℕ) → line_of p e ++ x ≡ end_line t n r ++ y → ⊥
   last_is_last e x y t n r same =
-      let opened : numeral (time_of e) ++ (tail_of p e ++ x) ≡ end_line t n r ++ y = sym (ap (λ l. l ++ x) (line_parts p e) ∙ append_assoc (numeral (time_of e)) (tail_of p e) x) ∙ same in
-      let parts = cut_same in_number (numeral (time_of e)) [] (tail_of p e ++ x) (end_line t n r ++ y) (numeral_in (time_of e)) tt (goes_on p e x) refl opened in
+      let opened : numeral (time_of e) ++ (tail_of p e ++ x) ≡ end_line t n r ++ y =
+      sym (ap (λ l. l ++ x) (line_parts p e) ∙ append_assoc (numeral (time_of e)) (tail_of p e) x) ∙ same in
+      let parts = cut_same in_number (numeral (time_of e)) [] (tail_of p e ++ x) (end_line t n r ++ y) (numeral_in (time_of e)) tt (goes_on p e x) refl opened
+      in
       omega (arith, numeral_some (time_of e), ap length parts.0)
 
 module _ (p : Tables) (rules : MeetsTableRules p) (words : AreWords p) where
@@ -88,7 +93,8 @@ module _ (p : Tables) (rules : MeetsTableRules p) (words : AreWords p) where
   entries_same [] (f ∷ fs) he hf t n r u m s same = absurd (last_is_last p f _ _ t n r (sym same))
   entries_same (e ∷ es) [] he hf t n r u m s same = absurd (last_is_last p e _ _ u m s same)
   entries_same (e ∷ es) (f ∷ fs) he hf t n r u m s same =
-      let parts = cut_same no_end (line_of p e) (line_of p f) (10 ∷ text_of (map (line_of p) es ++ (end_line t n r ∷ []))) (10 ∷ text_of (map (line_of p) fs ++ (end_line u m s ∷ [])))
+      let parts = cut_same no_end (line_of p e) (line_of p f) (10 ∷ text_of (map (line_of p) es ++ (end_line t n r ∷ [])))
+      (10 ∷ text_of (map (line_of p) fs ++ (end_line u m s ∷ [])))
       (line_unbroken p rules words e (he 0 e refl)) (line_unbroken p rules words f (hf 0 f refl)) refl refl same in
       let first : e ≡ f = line_same p rules words e f (he 0 e refl) (hf 0 f refl) parts.0 in
       let rest : es ≡ fs = entries_same es fs (λ i x at. he (suc i) x at) (λ i x at. hf (suc i) x at) t n r u m s (ap (drop 1) parts.1) in
@@ -99,6 +105,11 @@ pub text_tells : TextTellsHistory
 text_tells p start other_start entries others rules words one other same =
     let ticks = λ (es : List Logged). sum_by ticks_in es in
     let refused = λ (es : List Logged). sum_by (refused_in p) es in
-    let parts = starts_same p.plants start other_start (map (line_of p) entries ++ (last_line p entries ∷ [])) (map (line_of p) others ++ (last_line p others ∷ [])) one.starts other.starts
-    (no_start p entries (ticks entries) (length entries) (refused entries)) (no_start p others (ticks others) (length others) (refused others)) (ap (drop 14) same) in
-    (parts.0, entries_same p rules words entries others one.told other.told (ticks entries) (length entries) (refused entries) (ticks others) (length others) (refused others) parts.1)
+    let parts = starts_same p.plants start other_start (map (line_of p) entries ++ (last_line p entries ∷ []))
+    (map (line_of p) others ++ (last_line p others ∷ [])) one.starts other.starts
+    (no_start p entries (ticks entries) (length entries) (refused entries)) (no_start p others (ticks others) (length others) (refused others))
+    (ap (drop 14) same) in (
+      parts.0,
+      entries_same p rules words entries others one.told other.told (ticks entries) (length entries) (refused entries) (ticks others) (length others)
+          (refused others) parts.1,
+    )

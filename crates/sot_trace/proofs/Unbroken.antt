@@ -1,5 +1,6 @@
 -- No entry's line has a line end inside.
-use Rattle.std.proofs.Common.{◌≡◌, ℕ, suc, ℤ, ◌==◌, Bool, true, false, not, List, [], ◌∷◌, ◌++◌, Option, Some, None, length, refl, sym, subst, arith, take, codes}
+use Rattle.std.proofs.Common.{◌≡◌, ℕ, suc, ℤ, ◌==◌, Bool, true, false, not, List, [], ◌∷◌, ◌++◌, Option, Some, None, length, refl, sym, subst, arith, take}
+use Rattle.std.proofs.Common.{codes}
 use Rattle.std.specs.List.{list_all}
 use Rattle.std.proofs.lemmas.Bool.Decides.{nat_tests}
 use Rattle.sot_text.specs.Lexeme.{is_in_word}
@@ -91,7 +92,8 @@ module _ (p : Tables) (rules : MeetsTableRules p) (words : AreWords p) where
       let m = mark (is_in_range p k z) in
       let slot : Unbroken (slot_text p k (Some z)) = (
         refl,
-        then_text (scalar_name p k) (m ++ signed_numeral z) (in_wider in_name no_end name_wider (scalar_name p k) (scalar_in p rules words k there.0.0 there.0.1))
+        then_text (scalar_name p k) (m ++ signed_numeral z) (in_wider in_name no_end name_wider (scalar_name p k)
+            (scalar_in p rules words k there.0.0 there.0.1))
             (then_text m (signed_numeral z) (mark_unbroken (is_in_range p k z)) (in_wider in_number no_end number_wider (signed_numeral z) (signed_in z))),
       ) in
       then_text (slot_text p k (Some z)) (draft_text p ks d) slot (draft_unbroken ks there.1 d)
@@ -107,7 +109,8 @@ module _ (p : Tables) (rules : MeetsTableRules p) (words : AreWords p) where
   line_unbroken (FireAt time node draft enabled) told =
       let a = at_below p.nodes node told.0 in
       let of_a = writes_are p rules words node a.0 a.1 in
-      let drafted : Unbroken (draft_text p a.0.writes.items draft) = draft_unbroken a.0.writes.items (there_from p a.0.writes.items (λ k has. at_below p.scalars k (rules.typed.inside node a.0 k a.1 has))) draft in
+      let drafted : Unbroken (draft_text p a.0.writes.items draft) =
+      draft_unbroken a.0.writes.items (there_from p a.0.writes.items (λ k has. at_below p.scalars k (rules.typed.inside node a.0 k a.1 has))) draft in
       then_text (numeral time) _ (numeral_unbroken time)
       (then_text (firing_word enabled) _ (firing_unbroken enabled)
       (then_text (node_name p node) _ (subst Unbroken (sym (node_named p node a.0 a.1)) (word_unbroken a.0.name (node_in p rules words node a.0 a.1)))
@@ -116,7 +119,8 @@ module _ (p : Tables) (rules : MeetsTableRules p) (words : AreWords p) where
       let a = at_below p.modules decider told in
       then_text (numeral time) _ (numeral_unbroken time)
       (then_text (codes " decide ") _ (fixed (codes " decide ") refl)
-      (then_text (module_name p decider) _ (subst Unbroken (sym (module_named p decider a.0 a.1)) (word_unbroken a.0.name (module_in p rules words decider a.0 a.1)))
+      (then_text (module_name p decider) _ (subst Unbroken (sym (module_named p decider a.0 a.1))
+      (word_unbroken a.0.name (module_in p rules words decider a.0 a.1)))
       (mode_unbroken mode)))
   line_unbroken (TickAt time noise states) told =
       then_text (numeral time) _ (numeral_unbroken time)

@@ -23,5 +23,6 @@ pub traced : (g : Global) → IsTraced (line g) ((pos 20 ∷ []) ∷ []) back
 traced g = record {
   starts = lit≤ tt;
   told = at_more (λ i e. IsTold (line g) e) (DecideAt 12 0 Sc) (fires 13 1 (negsuc 1) ∷ ticks 13 (pos 1) (negsuc 18) ∷ []) (lit< tt)
-      (at_two (λ i e. IsTold (line g) e) (fires 13 1 (negsuc 1)) (ticks 13 (pos 1) (negsuc 18)) (lit< tt, (Some (negsuc 1) ∷ [], refl, refl)) (lit≤ tt, lit≤ tt));
+      (at_two (λ i e. IsTold (line g) e) (fires 13 1 (negsuc 1)) (ticks 13 (pos 1) (negsuc 18)) (lit< tt, (Some (negsuc 1) ∷ [], refl, refl))
+      (lit≤ tt, lit≤ tt));
 }

@@ -1,5 +1,7 @@
--- What a line says of a draft: each drafted scalar with its number, and whether the number is in the scalar's range.
-use Rattle.std.specs.Prelude.{ℕ, ◌+◌, ℤ, Bool, if◌then◌else◌, int_le, ◌&&◌, List, [], ◌∷◌, ◌++◌, Option, Some, None, codes}
+-- What a line says of a draft: each drafted scalar with its number, and whether the number is in
+-- the scalar's range.
+use Rattle.std.specs.Prelude.{ℕ, ◌+◌, ℤ, Bool, if◌then◌else◌, int_le, ◌&&◌, List, [], ◌∷◌, ◌++◌}
+use Rattle.std.specs.Prelude.{Option, Some, None, codes}
 use Rattle.sot_lang.specs.Tables.{Tables}
 use Rattle.sot_lang.specs.Ranges.{range_of}
 use Rattle.sot_trace.specs.Names.{scalar_name}
@@ -16,7 +18,8 @@ mark in_range = if in_range then codes "=" else codes "!"
 -- ` NAME=V` or ` NAME!V`, and nothing where nothing is drafted
 abbrev pub slot_text : Tables → ℕ → Option ℤ → List ℕ
 slot_text p k None = []
-slot_text p k (Some z) = codes " " ++ (scalar_name p k ++ (mark (is_in_range p k z) ++ signed_numeral z))
+slot_text p k (Some z) =
+    codes " " ++ (scalar_name p k ++ (mark (is_in_range p k z) ++ signed_numeral z))
 
 -- the slots of a draft, each for its scalar; slots past the last scalar are not printed
 abbrev pub draft_text : Tables → List ℕ → List (Option ℤ) → List ℕ

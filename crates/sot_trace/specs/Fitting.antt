@@ -9,10 +9,12 @@ use Rattle.sot_board.specs.Counts.{state_count}
 
 -- an entry names what is there, and its lists have the lengths of what they are for
 abbrev pub FitsEntry : Tables → Logged → Type 0
-FitsEntry p (InputAt time topic value) = (info : TopicInfo) × At p.topics topic info × (length value ≡ info.count)
+FitsEntry p (InputAt time topic value) =
+    (info : TopicInfo) × At p.topics topic info × (length value ≡ info.count)
 FitsEntry p (FireAt time node draft enabled) = node < length p.nodes
 FitsEntry p (DecideAt time decider mode) = decider < length p.modules
-FitsEntry p (TickAt time noise states) = (length noise ≡ noise_count p.plants) × (length states ≡ state_count p.plants)
+FitsEntry p (TickAt time noise states) =
+    (length noise ≡ noise_count p.plants) × (length states ≡ state_count p.plants)
 
 -- each entry does
 abbrev pub FitsHistory : Tables → List Logged → Type 0

@@ -25,12 +25,18 @@ abbrev pub mode_word : Mode → List ℕ
 mode_word Ac = codes " ac"
 mode_word Sc = codes " sc"
 
--- `T input TOPIC=V,..`, `T fire NODE WRITES`, `T idle NODE WRITES`, `T decide MODULE MODE` and `T tick PLANT(W,..)=X,..`
+-- `T input TOPIC=V,..`, `T fire NODE WRITES`, `T idle NODE WRITES`, `T decide MODULE MODE` and `T
+-- tick PLANT(W,..)=X,..`
 abbrev pub line_of : Tables → Logged → List ℕ
-line_of p (InputAt time topic value) = numeral time ++ (codes " input " ++ (topic_name p topic ++ (codes "=" ++ numbers value)))
-line_of p (FireAt time node draft enabled) = numeral time ++ (firing_word enabled ++ (node_name p node ++ draft_text p (writes_of p node) draft))
-line_of p (DecideAt time decider mode) = numeral time ++ (codes " decide " ++ (module_name p decider ++ mode_word mode))
-line_of p (TickAt time noise states) = numeral time ++ (codes " tick" ++ moves_text p.plants noise states)
+line_of p (InputAt time topic value) =
+    numeral time ++ (codes " input " ++ (topic_name p topic ++ (codes "=" ++ numbers value)))
+line_of p (FireAt time node draft enabled) =
+    numeral time ++ (firing_word enabled
+    ++ (node_name p node ++ draft_text p (writes_of p node) draft))
+line_of p (DecideAt time decider mode) =
+    numeral time ++ (codes " decide " ++ (module_name p decider ++ mode_word mode))
+line_of p (TickAt time noise states) =
+    numeral time ++ (codes " tick" ++ moves_text p.plants noise states)
 
 -- the first line
 abbrev pub header : List ℕ
@@ -48,7 +54,9 @@ start_lines (k ∷ ks) (x ∷ xs) = start_line k x ∷ start_lines ks xs
 
 -- `end H events E refused R`
 abbrev pub end_line : ℕ → ℕ → ℕ → List ℕ
-end_line ticks events refused = codes "end " ++ (numeral ticks ++ (codes " events " ++ (numeral events ++ (codes " refused " ++ numeral refused))))
+end_line ticks events refused =
+    codes "end " ++ (numeral ticks ++ (codes " events "
+    ++ (numeral events ++ (codes " refused " ++ numeral refused))))
 
 -- 1 for a tick
 abbrev pub ticks_in : Logged → ℕ

@@ -5,7 +5,8 @@ use Rattle.sot_trace.specs.Numbers.{numbers}
 
 -- ` PLANT(W,..)=X,..`
 abbrev pub move_text : PlantInfo → List ℤ → List ℤ → List ℕ
-move_text plant noise states = codes " " ++ (plant.name ++ (codes "(" ++ (numbers noise ++ (codes ")=" ++ numbers states))))
+move_text plant noise states =
+    codes " " ++ (plant.name ++ (codes "(" ++ (numbers noise ++ (codes ")=" ++ numbers states))))
 
 -- one plant after another, each with its part of the disturbances and of the states
 abbrev pub moves_text : List PlantInfo → List ℤ → List ℤ → List ℕ

@@ -19,4 +19,5 @@ field_part (Some field) = codes "." ++ field
 
 -- a scalar: `topic`, or `topic.field`
 abbrev pub scalar_name : Tables → ℕ → List ℕ
-scalar_name p k = option_map_or (λ s. topic_name p s.topic ++ field_part s.field) (slice_get p.scalars k) []
+scalar_name p k =
+    option_map_or (λ s. topic_name p s.topic ++ field_part s.field) (slice_get p.scalars k) []

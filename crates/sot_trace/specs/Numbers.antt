@@ -1,5 +1,6 @@
 -- Numbers in decimal, alone and in a row.
-use Rattle.std.specs.Prelude.{ℕ, zero, suc, ℤ, pos, negsuc, ◌+◌, ◌/◌, ◌%◌, List, [], ◌∷◌, ◌++◌, codes}
+use Rattle.std.specs.Prelude.{ℕ, zero, suc, ℤ, pos, negsuc, ◌+◌, ◌/◌, ◌%◌, List, [], ◌∷◌, ◌++◌}
+use Rattle.std.specs.Prelude.{codes}
 
 -- the digits of a number before what stands there, in so many steps at the most
 abbrev pub digits_before : ℕ → ℕ → List ℕ → List ℕ
@@ -7,7 +8,8 @@ digits_before zero n text = text
 digits_before (suc steps) zero text = text
 digits_before (suc steps) (suc n) text = digits_before steps (suc n / 10) ((48 + suc n % 10) ∷ text)
 
--- a number of any size in decimal, without zeros in front; no number has more digits than it counts, so the steps are enough
+-- a number of any size in decimal, without zeros in front; no number has more digits than it
+-- counts, so the steps are enough
 abbrev pub numeral : ℕ → List ℕ
 numeral zero = codes "0"
 numeral (suc n) = digits_before (suc n) (suc n) []

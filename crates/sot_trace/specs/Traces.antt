@@ -11,11 +11,13 @@ text_of (line ∷ lines) = line ++ (10 ∷ text_of lines)
 
 -- the last line counts the ticks, the entries and the numbers outside their ranges
 abbrev pub last_line : Tables → List Logged → List ℕ
-last_line p entries = end_line (sum_by ticks_in entries) (length entries) (sum_by (refused_in p) entries)
+last_line p entries =
+    end_line (sum_by ticks_in entries) (length entries) (sum_by (refused_in p) entries)
 
 -- the lines of a history from these points
 abbrev pub trace_lines : Tables → List (List ℤ) → List Logged → List (List ℕ)
-trace_lines p start entries = header ∷ (start_lines p.plants start ++ (map (line_of p) entries ++ (last_line p entries ∷ [])))
+trace_lines p start entries =
+    header ∷ (start_lines p.plants start ++ (map (line_of p) entries ++ (last_line p entries ∷ [])))
 
 -- the text of a history from these points
 abbrev pub trace_text : Tables → List (List ℤ) → List Logged → List ℕ

@@ -5,7 +5,8 @@ ghost use Rattle.std.specs.String.{string_bytes};
 ghost use Rattle.sot_lists.specs.Places.{At};
 ghost use Rattle.sot_trace.specs.Names.{scalar_name};
 ghost use Rattle.sot_trace.specs.Numbers.{signed_numeral};
-ghost use Rattle.sot_trace.specs.Drafts.{is_in_range, mark, slot_text, draft_text, slot_refused, draft_refused};
+ghost use Rattle.sot_trace.specs.Drafts.{is_in_range, mark, slot_text, draft_text, slot_refused};
+ghost use Rattle.sot_trace.specs.Drafts.{draft_refused};
 
 use crate::name::put_scalar_name;
 use crate::number::put_number;
@@ -29,7 +30,9 @@ fn put_drafted(
     in_range: bool,
 ) -> Result<(), AllocError>
     requires { scalar < length p.now.scalars }
-    ensures { OnOk result (string_bytes out.new ≡ string_bytes out.old ++ (codes " " ++ (scalar_name p.now scalar ++ (mark in_range ++ signed_numeral number)))) }
+    ensures { OnOk result (string_bytes out.new
+        ≡ string_bytes out.old ++ (codes " "
+        ++ (scalar_name p.now scalar ++ (mark in_range ++ signed_numeral number)))) }
 {
     out.push(' ')?;
     put_scalar_name(out, p, scalar)?;
@@ -40,7 +43,8 @@ fn put_drafted(
 // One slot of a draft, and 1 for a number outside its scalar's range.
 fn put_slot(out: &mut String, p: &Typed, scalar: usize, slot: Option<i64>) -> Result<u8, AllocError>
     requires { scalar < length p.now.scalars }
-    ensures text { OnOk result (string_bytes out.new ≡ string_bytes out.old ++ slot_text p.now scalar slot) }
+    ensures text { OnOk result (string_bytes out.new
+        ≡ string_bytes out.old ++ slot_text p.now scalar slot) }
     ensures refused { IfOk result (λ refused. refused ≡ slot_refused p.now scalar slot) }
     ensures few { IfOk result (λ refused. refused ≤ 1) }
 {
@@ -52,7 +56,8 @@ fn put_slot(out: &mut String, p: &Typed, scalar: usize, slot: Option<i64>) -> Re
     Ok(if in_range { 0 } else { 1 })
 }
 
-/// The numbers of a draft, each behind its scalar's name, and how many of them are outside their scalars' ranges.
+/// The numbers of a draft, each behind its scalar's name, and how many of them are outside their
+/// scalars' ranges.
 pub fn put_draft(
     out: &mut String,
     p: &Typed,
@@ -61,7 +66,8 @@ pub fn put_draft(
 ) -> Result<u8, AllocError>
     requires few { length writes.now ≤ 8 }
     requires written { (i k : ℕ) → At writes.now i k → k < length p.now.scalars }
-    ensures text { OnOk result (string_bytes out.new ≡ string_bytes out.old ++ draft_text p.now writes.now draft.now) }
+    ensures text { OnOk result (string_bytes out.new
+        ≡ string_bytes out.old ++ draft_text p.now writes.now draft.now) }
     ensures refused { IfOk result (λ refused. refused ≡ draft_refused p.now writes.now draft.now) }
     ensures few { IfOk result (λ refused. refused ≤ 8) }
 {

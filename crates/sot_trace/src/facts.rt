@@ -1,7 +1,9 @@
 //! Worked traces.
 
 ghost use Rattle.std.specs.Global.{Global};
-ghost use Rattle.sot_trace.specs.Examples.{AwayFromNought, TurnedBack, OutsideIsMarked, MarksOfDrafts, DisabledDrafts, RecordsAndInputs, NumbersOfAnySize, MeetsTheLaw};
+ghost use Rattle.sot_trace.specs.Examples.{AwayFromNought, TurnedBack, OutsideIsMarked};
+ghost use Rattle.sot_trace.specs.Examples.{MarksOfDrafts, DisabledDrafts, RecordsAndInputs};
+ghost use Rattle.sot_trace.specs.Examples.{NumbersOfAnySize, MeetsTheLaw};
 
 /// Traces, lines and numbers, written out by hand: of the running example and of a wider one.
 pub fn traces_are_as_stated()

@@ -10,7 +10,8 @@ use std::alloc::{AllocError, Global};
 
 /// The text of what has happened on a board so far, from the start of its flight.
 pub fn board_text(alloc: Global, board: &Board<'_>) -> Result<String, AllocError>
-    ensures { IfOk result (λ text. string_bytes text ≡ trace_text board.now.accepted.program board.now.plan.start board.now.entries) }
+    ensures { IfOk result (λ text. string_bytes text
+        ≡ trace_text board.now.accepted.program board.now.plan.start board.now.entries) }
 {
     board.is_standing();
     trace_text(

@@ -1,8 +1,10 @@
 //! The text of a history.
 //!
-//! [`trace_text`] prints a history line by line, and [`board_text`] that of a board. The text tells the history: no other history of the same program has it.
-//! [`put_start`], [`put_line`] and [`put_last_line`] put single lines, [`ticks_in`] and [`refused_in`] say what an entry adds to the
-//! last one, and [`put_end_line`] puts it for counts that were kept so. [`is_in_range`] says which mark a number has, and [`digit`] and [`digit_below`] the texts of small ones.
+//! [`trace_text`] prints a history line by line, and [`board_text`] that of a board. The text tells
+//! the history: no other history of the same program has it. [`put_start`], [`put_line`] and
+//! [`put_last_line`] put single lines, [`ticks_in`] and [`refused_in`] say what an entry adds to
+//! the last one, and [`put_end_line`] puts it for counts that were kept so. [`is_in_range`] says
+//! which mark a number has, and [`digit`] and [`digit_below`] the texts of small ones.
 #![tactic(auto)]
 
 mod draft;

@@ -5,7 +5,8 @@ ghost use Rattle.std.specs.String.{string_bytes};
 ghost use Rattle.sot_lists.specs.Places.{At};
 ghost use Rattle.sot_world.specs.Histories.{entry_of};
 ghost use Rattle.sot_world.specs.HistoryEntry.{InputAt, FireAt, DecideAt, TickAt};
-ghost use Rattle.sot_trace.specs.Lines.{writes_of, firing_word, mode_word, line_of, refused_in, ticks_in};
+ghost use Rattle.sot_trace.specs.Lines.{writes_of, firing_word, mode_word, line_of, refused_in};
+ghost use Rattle.sot_trace.specs.Lines.{ticks_in};
 ghost use Rattle.sot_trace.specs.Fitting.{FitsEntry};
 
 use crate::draft::{put_draft, refused_in_draft};
@@ -23,7 +24,8 @@ fn put_input(
     topic: u32,
     value: &[i64],
 ) -> Result<(), AllocError>
-    ensures { OnOk result (string_bytes out.new ≡ string_bytes out.old ++ line_of p.now (InputAt time topic value.now)) }
+    ensures { OnOk result (string_bytes out.new
+        ≡ string_bytes out.old ++ line_of p.now (InputAt time topic value.now)) }
 {
     put_time(out, time)?;
     out.push_str(" input ")?;
@@ -63,8 +65,10 @@ fn put_firing(
     enabled: bool,
 ) -> Result<u8, AllocError>
     requires { node < length p.now.nodes }
-    ensures text { OnOk result (string_bytes out.new ≡ string_bytes out.old ++ line_of p.now (FireAt time node draft.now enabled)) }
-    ensures refused { IfOk result (λ refused. refused ≡ refused_in p.now (FireAt time node draft.now enabled)) }
+    ensures text { OnOk result (string_bytes out.new
+        ≡ string_bytes out.old ++ line_of p.now (FireAt time node draft.now enabled)) }
+    ensures refused { IfOk result (λ refused. refused
+        ≡ refused_in p.now (FireAt time node draft.now enabled)) }
     ensures few { IfOk result (λ refused. refused ≤ 8) }
 {
     put_time(out, time)?;
@@ -89,7 +93,8 @@ fn put_decision(
     decider: u32,
     mode: Mode,
 ) -> Result<(), AllocError>
-    ensures { OnOk result (string_bytes out.new ≡ string_bytes out.old ++ line_of p.now (DecideAt time decider mode)) }
+    ensures { OnOk result (string_bytes out.new
+        ≡ string_bytes out.old ++ line_of p.now (DecideAt time decider mode)) }
 {
     put_time(out, time)?;
     out.push_str(" decide ")?;
@@ -105,7 +110,8 @@ fn put_tick(
     states: &[i64],
 ) -> Result<(), AllocError>
     requires { FitsEntry p.now (TickAt time noise.now states.now) }
-    ensures { OnOk result (string_bytes out.new ≡ string_bytes out.old ++ line_of p.now (TickAt time noise.now states.now)) }
+    ensures { OnOk result (string_bytes out.new
+        ≡ string_bytes out.old ++ line_of p.now (TickAt time noise.now states.now)) }
 {
     put_time(out, time)?;
     out.push_str(" tick")?;
@@ -115,7 +121,8 @@ fn put_tick(
 /// The line of an entry without its line end, and how many of its numbers are outside their ranges.
 pub fn put_line(out: &mut String, p: &Typed, entry: &Entry<'_>) -> Result<u8, AllocError>
     requires { FitsEntry p.now (entry_of entry.now) }
-    ensures text { OnOk result (string_bytes out.new ≡ string_bytes out.old ++ line_of p.now (entry_of entry.now)) }
+    ensures text { OnOk result (string_bytes out.new
+        ≡ string_bytes out.old ++ line_of p.now (entry_of entry.now)) }
     ensures refused { IfOk result (λ refused. refused ≡ refused_in p.now (entry_of entry.now)) }
     ensures few { IfOk result (λ refused. refused ≤ 8) }
 {

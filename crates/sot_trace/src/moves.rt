@@ -25,7 +25,8 @@ fn put_move(
     noise: &[i64],
     states: &[i64],
 ) -> Result<(), AllocError>
-    ensures { OnOk result (string_bytes out.new ≡ string_bytes out.old ++ move_text plant.now noise.now states.now) }
+    ensures { OnOk result (string_bytes out.new
+        ≡ string_bytes out.old ++ move_text plant.now noise.now states.now) }
 {
     out.push(' ')?;
     put_name(out, &plant.name)?;
@@ -44,7 +45,8 @@ pub fn put_moves(
 ) -> Result<(), AllocError>
     requires noise { length noise.now ≡ noise_count plants.now }
     requires states { length states.now ≡ state_count plants.now }
-    ensures { OnOk result (string_bytes out.new ≡ string_bytes out.old ++ moves_text plants.now noise.now states.now) }
+    ensures { OnOk result (string_bytes out.new
+        ≡ string_bytes out.old ++ moves_text plants.now noise.now states.now) }
 {
     let (_, mut noise_left) = noise.split_at(0);
     let (_, mut states_left) = states.split_at(0);

@@ -2,7 +2,8 @@
 
 ghost use Rattle.std.specs.Prelude.{◌≡◌, ◌<◌, ◌++◌, length, OnOk};
 ghost use Rattle.std.specs.String.{string_bytes};
-ghost use Rattle.sot_trace.specs.Names.{topic_name, node_name, module_name, field_part, scalar_name};
+ghost use Rattle.sot_trace.specs.Names.{topic_name, node_name, module_name, field_part};
+ghost use Rattle.sot_trace.specs.Names.{scalar_name};
 
 use sot_lang::Typed;
 use sot_tree::Name;
@@ -37,7 +38,8 @@ pub fn put_node(out: &mut String, p: &Typed, node: u32) -> Result<(), AllocError
 
 /// The name of a module, and nothing where there is none.
 pub fn put_module(out: &mut String, p: &Typed, module: u32) -> Result<(), AllocError>
-    ensures { OnOk result (string_bytes out.new ≡ string_bytes out.old ++ module_name p.now «module») }
+    ensures { OnOk result (string_bytes out.new
+        ≡ string_bytes out.old ++ module_name p.now «module») }
 {
     match p.modules.get(module as usize) {
         Some(info) => put_name(out, &info.name),

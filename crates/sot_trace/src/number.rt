@@ -1,6 +1,7 @@
 //! Numbers, each put behind what stands there already.
 
-ghost use Rattle.std.specs.Prelude.{◌≡◌, ◌+◌, ◌<◌, ◌≤◌, ◌∷◌, ◌++◌, [], ℕ, pos, negsuc, OnOk, IfSome, IfNone};
+ghost use Rattle.std.specs.Prelude.{◌≡◌, ◌+◌, ◌<◌, ◌≤◌, ◌∷◌, ◌++◌, [], ℕ, pos, negsuc, OnOk};
+ghost use Rattle.std.specs.Prelude.{IfSome, IfNone};
 ghost use Rattle.std.specs.String.{string_bytes};
 ghost use Rattle.sot_trace.specs.Numbers.{numeral, signed_numeral, further, numbers};
 
@@ -36,7 +37,8 @@ fn put_three(out: &mut String, number: u32) -> Result<(), AllocError>
     put_digit(out, number % 10)
 }
 
-// A number of up to three digits, digit by digit: what is written digit by digit and then copied at once is waited for.
+// A number of up to three digits, digit by digit: what is written digit by digit and then copied at
+// once is waited for.
 #[inline(always)]
 fn put_short(out: &mut String, number: u32) -> Result<(), AllocError>
     requires { number < 1000 }
@@ -117,7 +119,8 @@ fn put_longer(out: &mut String, number: i64) -> Result<(), AllocError>
     }
 }
 
-/// A number in decimal, behind a `-` where it is below 0. It is inlined, since most numbers have one digit.
+/// A number in decimal, behind a `-` where it is below 0. It is inlined, since most numbers have
+/// one digit.
 #[inline(always)]
 pub fn put_number(out: &mut String, number: i64) -> Result<(), AllocError>
     ensures { OnOk result (string_bytes out.new ≡ string_bytes out.old ++ signed_numeral number) }

@@ -15,7 +15,8 @@ use std::alloc::AllocError;
 
 // The coordinates after the first, each behind a comma.
 fn put_further_coordinates(out: &mut String, point: &Point) -> Result<(), AllocError>
-    ensures { OnOk result (string_bytes out.new ≡ string_bytes out.old ++ further (drop 1 point.now)) }
+    ensures { OnOk result (string_bytes out.new
+        ≡ string_bytes out.old ++ further (drop 1 point.now)) }
 {
     for i in 1..point.len() {
         out.push_str(",")?;
@@ -34,7 +35,8 @@ fn put_point(out: &mut String, point: &Point) -> Result<(), AllocError>
 
 /// Where a plant starts, without a line end.
 pub fn put_start(out: &mut String, plant: &PlantInfo, point: &Point) -> Result<(), AllocError>
-    ensures { OnOk result (string_bytes out.new ≡ string_bytes out.old ++ start_line plant.now point.now) }
+    ensures { OnOk result (string_bytes out.new
+        ≡ string_bytes out.old ++ start_line plant.now point.now) }
 {
     out.push_str("start ")?;
     put_name(out, &plant.name)?;
@@ -45,7 +47,8 @@ pub fn put_start(out: &mut String, plant: &PlantInfo, point: &Point) -> Result<(
 // A line for each plant.
 fn put_starts(out: &mut String, plants: &[PlantInfo], start: &[Point]) -> Result<(), AllocError>
     requires { length start.now ≡ length plants.now }
-    ensures { OnOk result (string_bytes out.new ≡ string_bytes out.old ++ text_of (start_lines plants.now start.now)) }
+    ensures { OnOk result (string_bytes out.new
+        ≡ string_bytes out.old ++ text_of (start_lines plants.now start.now)) }
 {
     for i in 0..plants.len() {
         put_start(out, &plants[i], &start[i])?;
@@ -57,7 +60,8 @@ fn put_starts(out: &mut String, plants: &[PlantInfo], start: &[Point]) -> Result
 /// The header, and a line for each plant.
 pub fn put_front(out: &mut String, p: &Typed, start: &[Point]) -> Result<(), AllocError>
     requires { AreStarts p.now start.now }
-    ensures { OnOk result (string_bytes out.new ≡ string_bytes out.old ++ (header ++ (10 ∷ text_of (start_lines p.now.plants start.now)))) }
+    ensures { OnOk result (string_bytes out.new
+        ≡ string_bytes out.old ++ (header ++ (10 ∷ text_of (start_lines p.now.plants start.now)))) }
 {
     out.push_str("soter trace 1\n")?;
     put_starts(out, &p.plants, start)?;

@@ -25,9 +25,11 @@ struct Counts {
 // The lines of all entries, and what the last line counts of them.
 fn put_entries(out: &mut String, p: &Typed, history: &History) -> Result<Counts, AllocError>
     requires { FitsHistory p.now history.now.entries }
-    ensures text { OnOk result (string_bytes out.new ≡ string_bytes out.old ++ text_of (map (line_of p.now) history.now.entries)) }
+    ensures text { OnOk result (string_bytes out.new
+        ≡ string_bytes out.old ++ text_of (map (line_of p.now) history.now.entries)) }
     ensures ticks { IfOk result (λ counts. counts.ticks ≡ sum_by ticks_in history.now.entries) }
-    ensures refused { IfOk result (λ counts. counts.refused ≡ sum_by (refused_in p.now) history.now.entries) }
+    ensures refused { IfOk result (λ counts. counts.refused
+        ≡ sum_by (refused_in p.now) history.now.entries) }
 {
     let mut counts = Counts {
         ticks: 0,
@@ -43,15 +45,16 @@ fn put_entries(out: &mut String, p: &Typed, history: &History) -> Result<Counts,
     Ok(counts)
 }
 
-/// The last line of a history with these counts, without its line end: of ticks, of entries, and of numbers outside their
-/// scalars' ranges.
+/// The last line of a history with these counts, without its line end: of ticks, of entries, and of
+/// numbers outside their scalars' ranges.
 pub fn put_end_line(
     out: &mut String,
     ticks: usize,
     events: usize,
     refused: u128,
 ) -> Result<(), AllocError>
-    ensures { OnOk result (string_bytes out.new ≡ string_bytes out.old ++ end_line ticks events refused) }
+    ensures { OnOk result (string_bytes out.new
+        ≡ string_bytes out.old ++ end_line ticks events refused) }
 {
     out.push_str("end ")?;
     put_count(out, ticks as u128)?;
@@ -63,7 +66,8 @@ pub fn put_end_line(
 
 // The last line, with its line end.
 fn put_end(out: &mut String, ticks: usize, events: usize, refused: u128) -> Result<(), AllocError>
-    ensures { OnOk result (string_bytes out.new ≡ string_bytes out.old ++ (end_line ticks events refused ++ codes "\n")) }
+    ensures { OnOk result (string_bytes out.new
+        ≡ string_bytes out.old ++ (end_line ticks events refused ++ codes "\n")) }
 {
     put_end_line(out, ticks, events, refused)?;
     out.push_str("\n")
@@ -90,7 +94,8 @@ fn count_entries(p: &Typed, history: &History) -> Counts
 /// The last line of a history, without its line end.
 pub fn put_last_line(out: &mut String, p: &Typed, history: &History) -> Result<(), AllocError>
     requires { FitsHistory p.now history.now.entries }
-    ensures { OnOk result (string_bytes out.new ≡ string_bytes out.old ++ last_line p.now history.now.entries) }
+    ensures { OnOk result (string_bytes out.new
+        ≡ string_bytes out.old ++ last_line p.now history.now.entries) }
 {
     let counts = count_entries(p, history);
     put_end_line(out, counts.ticks, history.len(), counts.refused)
@@ -98,8 +103,9 @@ pub fn put_last_line(out: &mut String, p: &Typed, history: &History) -> Result<(
 
 /// The trace of a history from these points, one for each plant.
 ///
-/// Lines with line ends (LF): a header, where each plant starts, a line for each entry in order, and the counts of ticks, of
-/// entries, and of numbers outside their scalars' ranges. Times are in ticks, numbers are mantissas. The error is want of memory.
+/// Lines with line ends (LF): a header, where each plant starts, a line for each entry in order,
+/// and the counts of ticks, of entries, and of numbers outside their scalars' ranges. Times are in
+/// ticks, numbers are mantissas. The error is want of memory.
 pub fn trace_text(
     alloc: Global,
     p: &Typed,
@@ -108,7 +114,8 @@ pub fn trace_text(
 ) -> Result<String, AllocError>
     requires starts { AreStarts p.now start.now }
     requires fits { FitsHistory p.now history.now.entries }
-    ensures { IfOk result (λ text. string_bytes text ≡ trace_text p.now start.now history.now.entries) }
+    ensures { IfOk result (λ text. string_bytes text
+        ≡ trace_text p.now start.now history.now.entries) }
 {
     let mut out = String::with_capacity(alloc, history.len().saturating_mul(LINE))?;
     put_front(&mut out, p, start)?;
@@ -117,6 +124,6 @@ pub fn trace_text(
     Ok(out)
 }
 
-// Room for a line, more than most need, so that the text is seldom moved. Where pages are handed out when they are first
-// touched, what is never written takes up none.
+// Room for a line, more than most need, so that the text is seldom moved. Where pages are handed
+// out when they are first touched, what is never written takes up none.
 const LINE: usize = 48;

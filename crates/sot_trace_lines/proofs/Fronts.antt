@@ -25,7 +25,8 @@ firing_event p t true rest = refl
 firing_event p t false rest = refl
 
 -- .. of the node that is named
-pub fire_begins : (p : Tables) (enabled : Bool) (t n : ℕ) (text name rest : List ℕ) (time : Option ℤ) → word_at text ≡ (name, rest) → node_named p name ≡ Some n → time ≡ bounded (pos t)
+pub fire_begins : (p : Tables) (enabled : Bool) (t n : ℕ) (text name rest : List ℕ) (time : Option ℤ) → word_at text ≡ (name, rest) → node_named p name ≡ Some n
+    → time ≡ bounded (pos t)
     → (s : Spelled) → fire_at p enabled t text ≡ Some s → BeginsFiring time n s
 fire_begins p enabled t n text name rest time word named is s e =
     let step = sym (fire_is p enabled t n name rest (word_at text) word named) ∙ e in
@@ -37,7 +38,8 @@ fire_begins p enabled t n text name rest time word named is s e =
 tick_event : (p : Tables) (t : ℕ) (rest : List ℕ) → event_at p t (codes " tick" ++ rest) ≡ tick_at p t rest
 tick_event p t rest = refl
 
-pub tick_begins : (p : Tables) (t : ℕ) (text rest : List ℕ) (time : Option ℤ) → behind (codes " tick") text ≡ Some rest → time ≡ bounded (pos t) → (s : Spelled) → event_at p t text ≡ Some s → BeginsTick time s
+pub tick_begins : (p : Tables) (t : ℕ) (text rest : List ℕ) (time : Option ℤ) → behind (codes " tick") text ≡ Some rest → time ≡ bounded (pos t) → (s : Spelled)
+    → event_at p t text ≡ Some s → BeginsTick time s
 tick_begins p t text rest time is bound s e =
     let step = sym (ap (event_at p t) (in_front (codes " tick") text rest is) ∙ tick_event p t rest) ∙ e in
     let b = both (moves_at p.plants rest) (λ m. at_end (TickLine t m.0 m.1) m.2) s step in
@@ -53,13 +55,15 @@ whole_shows p list (Some l) o shows = shows
 pub end_spelled : (p : Tables) (line rest : List ℕ) → behind (codes "end ") line ≡ Some rest → spelled_at p line ≡ counts_at rest
 end_spelled p line rest is = ap (λ o. option_map_or counts_at o (numeral_at line >>= λ t. event_at p t.0 t.1)) is
 
-front_answers : (p : Tables) (line : List ℕ) (list : List ℤ) (f : Option Front) → MeetsTableRules p → AreWords p → ShowsFront p list f (spelled_at p line) → AnswersFront p line list f
+front_answers : (p : Tables) (line : List ℕ) (list : List ℤ) (f : Option Front) → MeetsTableRules p → AreWords p → ShowsFront p list f (spelled_at p line)
+    → AnswersFront p line list f
 front_answers p line list None rules words shows = answers p line list None (spelled_at p line) rules words refl shows
 front_answers p line list (Some (Firing time node)) rules words (there, begins) = (there, λ s spelled. begins s (read_spelled p rules words line s spelled))
 front_answers p line list (Some (Tick time)) rules words begins = λ s spelled. begins s (read_spelled p rules words line s spelled)
 front_answers p line list (Some (Whole l)) rules words shows = answers p line list (Some l) (spelled_at p line) rules words refl shows
 
 -- what is read is the answer
-pub front_answered : {E : Type 0} (p : Tables) (line : List ℕ) (list : List ℤ) (r : Result (Option Front) E) → MeetsTableRules p → AreWords p → IfOk r (λ f. ShowsFront p list f (spelled_at p line)) → IfOk r (λ f. AnswersFront p line list f)
+pub front_answered : {E : Type 0} (p : Tables) (line : List ℕ) (list : List ℤ) (r : Result (Option Front) E) → MeetsTableRules p → AreWords p
+    → IfOk r (λ f. ShowsFront p list f (spelled_at p line)) → IfOk r (λ f. AnswersFront p line list f)
 front_answered p line list (Ok f) rules words shows = front_answers p line list f rules words shows
 front_answered p line list (Err e) rules words shows = shows

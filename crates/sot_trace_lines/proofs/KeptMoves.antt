@@ -34,11 +34,14 @@ none_before kept ks None e = refl
 none_before kept ks (Some m) e = absurd cc
 
 -- a plant was read
-pub moved : (ks : List PlantInfo) (i : ℕ) (k : PlantInfo) (kept next : Kept) (text rest : List ℕ) → drop i ks ≡ k ∷ drop (i + 1) ks → kept_noise kept (move_at k text) ≡ Some (next, rest)
+pub moved : (ks : List PlantInfo) (i : ℕ) (k : PlantInfo) (kept next : Kept) (text rest : List ℕ) → drop i ks ≡ k ∷ drop (i + 1) ks
+    → kept_noise kept (move_at k text) ≡ Some (next, rest)
     → kept_noise next (moves_at (drop (i + 1) ks) rest) ≡ kept_noise kept (moves_at (drop i ks) text)
 moved ks i k kept next text rest at is = kept_before kept next (drop (i + 1) ks) rest (move_at k text) is ∙ ap (λ l. kept_noise kept (moves_at l text)) (sym at)
 
 -- .. or none
-pub unmoved : (ks : List PlantInfo) (i : ℕ) (k : PlantInfo) (kept : Kept) (text : List ℕ) → drop i ks ≡ k ∷ drop (i + 1) ks → kept_noise kept (move_at k text) ≡ None
+pub unmoved : (ks : List PlantInfo) (i : ℕ) (k : PlantInfo) (kept : Kept) (text : List ℕ) → drop i ks ≡ k ∷ drop (i + 1) ks
+    → kept_noise kept (move_at k text) ≡ None
     → None ≡ kept_noise kept (moves_at (drop i ks) text)
-unmoved ks i k kept text at is = sym (ap (λ l. kept_noise kept (moves_at l text)) at ∙ ap (kept_noise kept) (none_before kept (drop (i + 1) ks) (move_at k text) is))
+unmoved ks i k kept text at is =
+    sym (ap (λ l. kept_noise kept (moves_at l text)) at ∙ ap (kept_noise kept) (none_before kept (drop (i + 1) ks) (move_at k text) is))

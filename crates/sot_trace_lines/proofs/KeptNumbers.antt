@@ -1,5 +1,6 @@
 -- What is kept of numbers is the numbers, or one of them has more than 64 bits.
-use Rattle.std.proofs.Common.{◌≡◌, ◌⊎◌, ℕ, zero, suc, ◌-◌, ◌<◌, ◌≤◌, ◌^◌, Bool, true, false, nat_lt, cond, List, [], ◌∷◌, ◌++◌, Option, Some, None, map, length, inl, inr, refl, sym, ap, ap₂, subst, ◌∙◌, arith, append_assoc, length-append}
+use Rattle.std.proofs.Common.{◌≡◌, ◌⊎◌, ℕ, zero, suc, ◌-◌, ◌<◌, ◌≤◌, ◌^◌, Bool, true, false, nat_lt, cond, List, [], ◌∷◌, ◌++◌, Option, Some, None, map, length}
+use Rattle.std.proofs.Common.{inl, inr, refl, sym, ap, ap₂, subst, ◌∙◌, arith, append_assoc, length-append}
 use Rattle.std.specs.Prelude.{ℤ, pos, negsuc, replicate, slice_set}
 use Rattle.std.specs.Option.{option_map}
 use Rattle.std.proofs.lemmas.Bool.{cases_Bool, cond-true, cond-false}
@@ -72,7 +73,8 @@ holds_all list zs whole e = holds_when whole list zs e
 abbrev pub bare : Option (Bool × ℤ) → Option ℤ
 bare slot = option_map (λ s. s.1) slot
 
-set_next : (done : List (Option ℤ)) (n : ℕ) (slot : Option ℤ) → slice_set (done ++ replicate (suc n) None) (length done) slot ≡ (done ++ (slot ∷ [])) ++ replicate n None
+set_next : (done : List (Option ℤ)) (n : ℕ) (slot : Option ℤ)
+    → slice_set (done ++ replicate (suc n) None) (length done) slot ≡ (done ++ (slot ∷ [])) ++ replicate n None
 set_next [] n slot = refl
 set_next (x ∷ done) n slot = ap (λ xs. x ∷ xs) (set_next done n slot)
 
@@ -80,7 +82,8 @@ blank_next : (done : List (Option ℤ)) (n : ℕ) → done ++ replicate (suc n) 
 blank_next done n = sym (append_assoc done (None ∷ []) (replicate n None))
 
 -- a slot in its place
-put_next : (done : List (Option ℤ)) (n : ℕ) (whole : Bool) (slot : Option (Bool × ℤ)) → (put_slot (length done) (done ++ replicate (suc n) None, whole) slot).1 ≡ true
+put_next : (done : List (Option ℤ)) (n : ℕ) (whole : Bool) (slot : Option (Bool × ℤ))
+    → (put_slot (length done) (done ++ replicate (suc n) None, whole) slot).1 ≡ true
     → (whole ≡ true) × ((put_slot (length done) (done ++ replicate (suc n) None, whole) slot).0 ≡ (done ++ (bare slot ∷ [])) ++ replicate n None)
 put_next done n whole None is = (is, blank_next done n)
 put_next done n whole (Some (m, z)) is =
@@ -120,13 +123,16 @@ stays_lost (Some (m, z) ∷ slots) i kept is =
 parts_are : (kept : Drafted) (draft : List (Option ℤ)) → kept.1 ≡ true → kept.0 ≡ draft → kept ≡ (draft, true)
 parts_are (d, w) draft is same = ap₂ (λ x y. (x, y)) same is
 
-all_drafted : (slots : List (Option (Bool × ℤ))) (done : List (Option ℤ)) (n : ℕ) → length slots ≤ n → (draft_all (length done) (done ++ replicate n None, true) slots).1 ≡ true
+all_drafted : (slots : List (Option (Bool × ℤ))) (done : List (Option ℤ)) (n : ℕ) → length slots ≤ n
+    → (draft_all (length done) (done ++ replicate n None, true) slots).1 ≡ true
     → (draft_all (length done) (done ++ replicate n None, true) slots).0 ≡ (done ++ map bare slots) ++ replicate (n - length slots) None
 all_drafted [] done n few is = (let left : n ≡ n - 0 = omega arith in ap₂ (λ xs m. xs ++ replicate m None) (sym (append-nil done)) left)
 all_drafted (slot ∷ slots) done zero few is = absurd (omega arith)
 all_drafted (slot ∷ slots) done (suc n) few is =
-    let one : (put_slot (length done) (done ++ replicate (suc n) None, true) slot).1 ≡ true = stays_lost slots (suc (length done)) (put_slot (length done) (done ++ replicate (suc n) None, true) slot) is in
-    let next : put_slot (length done) (done ++ replicate (suc n) None, true) slot ≡ ((done ++ (bare slot ∷ [])) ++ replicate n None, true) = parts_are _ _ one (put_next done n true slot one).1 in
+    let one : (put_slot (length done) (done ++ replicate (suc n) None, true) slot).1 ≡ true =
+    stays_lost slots (suc (length done)) (put_slot (length done) (done ++ replicate (suc n) None, true) slot) is in
+    let next : put_slot (length done) (done ++ replicate (suc n) None, true) slot ≡ ((done ++ (bare slot ∷ [])) ++ replicate n None, true) =
+    parts_are _ _ one (put_next done n true slot one).1 in
     let count : suc (length done) ≡ length (done ++ (bare slot ∷ [])) = omega (arith, length-append done (bare slot ∷ [])) in
     let whole = ap₂ (λ k (d : Drafted). draft_all k d slots) count next in
     let left : n - length slots ≡ suc n - length (slot ∷ slots) = omega arith in
@@ -147,7 +153,8 @@ some_undrafted (slot ∷ slots) i kept lost =
       | inr later ↦ inr (later.0, (suc later.1.0, later.1.1), later.2)
     ]
 
-shows_when : (b : Bool) (draft : List (Option ℤ)) (slots : List (Option (Bool × ℤ))) → length slots ≤ 8 → draft_all 0 (replicate 8 None, true) slots ≡ (draft, b)
+shows_when : (b : Bool) (draft : List (Option ℤ)) (slots : List (Option (Bool × ℤ))) → length slots ≤ 8
+    → draft_all 0 (replicate 8 None, true) slots ≡ (draft, b)
     → ShowsDraft (cond b (Some draft) None) slots
 shows_when true draft slots few e =
     let all = all_drafted slots [] 8 few (ap (λ (k : Drafted). k.1) e) in
@@ -159,6 +166,7 @@ shows_when false draft slots few e =
     ]
 
 -- what is kept of the slots
-pub shows_draft : (draft : List (Option ℤ)) (whole : Bool) (slots : List (Option (Bool × ℤ))) → length slots ≤ 8 → draft_all 0 (replicate 8 None, true) slots ≡ (draft, whole)
+pub shows_draft : (draft : List (Option ℤ)) (whole : Bool) (slots : List (Option (Bool × ℤ))) → length slots ≤ 8
+    → draft_all 0 (replicate 8 None, true) slots ≡ (draft, whole)
     → ShowsDraft (cond whole (Some draft) None) slots
 shows_draft draft whole slots few e = shows_when whole draft slots few e

@@ -31,9 +31,11 @@ one_left : (count i : ℕ) → i < count → count - i ≡ suc (count - (i + 1))
 one_left count i lt = omega arith
 
 pub no_comma : (count i : ℕ) (text : List ℕ) → i < count → behind (codes ",") text ≡ None → further_at (count - i) text ≡ None
-no_comma count i text lt none = ap (λ n. further_at n text) (one_left count i lt) ∙ ap (λ o. o >>= λ r. number_at r >>= λ c. more c.0 (further_at (count - (i + 1)) c.1)) none
+no_comma count i text lt none =
+    ap (λ n. further_at n text) (one_left count i lt) ∙ ap (λ o. o >>= λ r. number_at r >>= λ c. more c.0 (further_at (count - (i + 1)) c.1)) none
 
-pub no_further : (count i : ℕ) (text r : List ℕ) → i < count → behind (codes ",") text ≡ Some r → kept_number (number_at r) ≡ None → further_at (count - i) text ≡ None
+pub no_further : (count i : ℕ) (text r : List ℕ) → i < count → behind (codes ",") text ≡ Some r → kept_number (number_at r) ≡ None
+    → further_at (count - i) text ≡ None
 no_further count i text r lt comma none =
     ap (λ n. further_at n text) (one_left count i lt)
     ∙ then_next (behind (codes ",") text) (λ t. number_at t >>= λ c. more c.0 (further_at (count - (i + 1)) c.1)) r comma
@@ -48,7 +50,8 @@ one_further count i text r z rest lt comma number =
 
 -- a number was read and kept
 pub kept_further : (count i : ℕ) (kept next : Kept) (text r : List ℕ) (v : Option ℤ) (rest : List ℕ) → i < count → behind (codes ",") text ≡ Some r
-    → kept_number (number_at r) ≡ Some (v, rest) → next ≡ put_one kept v → kept_row next (further_at (count - (i + 1)) rest) ≡ kept_row kept (further_at (count - i) text)
+    → kept_number (number_at r) ≡ Some (v, rest) → next ≡ put_one kept v
+    → kept_row next (further_at (count - (i + 1)) rest) ≡ kept_row kept (further_at (count - i) text)
 kept_further count i kept next text r v rest lt comma number is =
     let s = some_number (number_at r) v rest number in
     sym (
@@ -67,14 +70,16 @@ pub no_row : (count : ℕ) (text : List ℕ) → 0 < count → kept_number (numb
 no_row zero text some none = absurd (omega arith)
 no_row (suc n) text some none = ap (λ o. o >>= λ c. more c.0 (further_at n c.1)) (no_number (number_at text) none)
 
-one_row : (count : ℕ) (text : List ℕ) (z : ℤ) (rest : List ℕ) → 0 < count → number_at text ≡ Some (z, rest) → row_at count text ≡ more z (further_at (count - 1) rest)
+one_row : (count : ℕ) (text : List ℕ) (z : ℤ) (rest : List ℕ) → 0 < count → number_at text ≡ Some (z, rest)
+    → row_at count text ≡ more z (further_at (count - 1) rest)
 one_row zero text z rest some number = absurd (omega arith)
 one_row (suc n) text z rest some number =
     let same : n ≡ suc n - 1 = omega arith in
     then_next (number_at text) (λ c. more c.0 (further_at n c.1)) (z, rest) number ∙ ap (λ m. more z (further_at m rest)) same
 
 -- the first number of a row was read and kept
-pub kept_first : (count : ℕ) (kept next : Kept) (text : List ℕ) (v : Option ℤ) (rest : List ℕ) → 0 < count → kept_number (number_at text) ≡ Some (v, rest) → next ≡ put_one kept v
+pub kept_first : (count : ℕ) (kept next : Kept) (text : List ℕ) (v : Option ℤ) (rest : List ℕ) → 0 < count → kept_number (number_at text) ≡ Some (v, rest)
+    → next ≡ put_one kept v
     → kept_row next (further_at (count - 1) rest) ≡ kept_row kept (row_at count text)
 kept_first count kept next text v rest some number is =
     let s = some_number (number_at text) v rest number in

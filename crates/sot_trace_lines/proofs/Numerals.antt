@@ -1,5 +1,6 @@
 -- A number's numeral is read as the number, and what is read as a number is its numeral.
-use Rattle.std.proofs.Common.{◌≡◌, ℕ, zero, suc, ℤ, pos, negsuc, ◌+◌, ◌-◌, ◌*◌, ◌/◌, ◌%◌, ◌<◌, ◌==◌, not, Bool, true, false, List, [], ◌∷◌, ◌++◌, Some, None, cond, length, get_or, take, drop, map, inl, inr, refl, sym, ap, ap₂, subst, ◌∙◌, arith, append_assoc, take-append-drop}
+use Rattle.std.proofs.Common.{◌≡◌, ℕ, zero, suc, ℤ, pos, negsuc, ◌+◌, ◌-◌, ◌*◌, ◌/◌, ◌%◌, ◌<◌, ◌==◌, not, Bool, true, false, List, [], ◌∷◌, ◌++◌, Some, None}
+use Rattle.std.proofs.Common.{cond, length, get_or, take, drop, map, inl, inr, refl, sym, ap, ap₂, subst, ◌∙◌, arith, append_assoc, take-append-drop}
 use Rattle.std.specs.List.{prefix_len}
 use Rattle.std.specs.Char.{is_ascii_digit}
 use Rattle.std.specs.Int.Digits.{digits_of}
@@ -22,7 +23,8 @@ pub front_in : (q : ℕ → Bool) (text : List ℕ) → AllIn q (take (prefix_le
 front_in q [] = tt
 front_in q (b ∷ bs) =
     elim (cases_Bool (q b)) [
-      | inl is ↦ (let len : prefix_len q (b ∷ bs) ≡ suc (prefix_len q bs) = cond-true (q b) _ _ is ∙ omega arith in subst (λ n. AllIn q (take n (b ∷ bs))) (sym len) (is, front_in q bs))
+      | inl is ↦ (let len : prefix_len q (b ∷ bs) ≡ suc (prefix_len q bs) = cond-true (q b) _ _ is ∙ omega arith in
+          subst (λ n. AllIn q (take n (b ∷ bs))) (sym len) (is, front_in q bs))
       | inr no' ↦ (let len : prefix_len q (b ∷ bs) ≡ 0 = cond-false (q b) _ _ no' in subst (λ n. AllIn q (take n (b ∷ bs))) (sym len) tt)
     ]
 
@@ -62,7 +64,8 @@ digits_on n (d ∷ ds) some all =
     ∙ ap (λ b. numeral n ++ (b ∷ ds)) is.1
 
 first_is : (d : ℕ) → is_ascii_digit d ≡ true → numeral (10 * 0 + (d - 48)) ≡ d ∷ []
-first_is d is = (let at = digit_is d is in let same : 10 * 0 + (d - 48) ≡ d - 48 = omega arith in ap numeral same ∙ small_digit (d - 48) at.0 ∙ ap (λ b. b ∷ []) at.1)
+first_is d is =
+    (let at = digit_is d is in let same : 10 * 0 + (d - 48) ≡ d - 48 = omega arith in ap numeral same ∙ small_digit (d - 48) at.0 ∙ ap (λ b. b ∷ []) at.1)
 
 not_nought : (d : ℕ) → is_ascii_digit d ≡ true → not (d == 48) ≡ true → 0 < 10 * 0 + (d - 48)
 not_nought d is some = grind (arith, nat_tests)
@@ -83,8 +86,12 @@ digits_from text ds rest e =
           let are : Some (take k text, drop k text) ≡ Some (ds, rest) = sym (cond-true (is_plain (take k text)) _ _ yes') ∙ e in
           let same = parts_same (take k text) ds (drop k text) rest are in
           let first : take k text ≡ ds = same.0 in
-          let second : drop k text ≡ rest = same.1 in
-          (sym (ap is_plain first) ∙ yes', subst (AllIn is_ascii_digit) first (front_in is_ascii_digit text), sym (take-append-drop k text) ∙ ap₂ (λ a b. a ++ b) first second)
+          let second : drop k text ≡ rest = same.1 in (
+            sym (ap is_plain first) ∙ yes',
+            subst (AllIn is_ascii_digit) first (front_in is_ascii_digit text),
+            sym (take-append-drop k text)
+                ∙ ap₂ (λ a b. a ++ b) first second,
+          )
           )
       | inr no' ↦ absurd (none-some (ds, rest) (sym (cond-false (is_plain (take k text)) _ _ no') ∙ e))
     ]
@@ -116,7 +123,8 @@ digits_read ds rest plain all stops =
 
 pub read_numeral : (n : ℕ) (rest : List ℕ) → Stops is_ascii_digit rest → numeral_at (numeral n ++ rest) ≡ Some (n, rest)
 read_numeral n rest stops =
-    then_next (digits_at (numeral n ++ rest)) (λ c. Some (value c.0, c.1)) (numeral n, rest) (digits_read (numeral n) rest (numeral_plain n) (numeral_digits n) stops)
+    then_next (digits_at (numeral n ++ rest)) (λ c. Some (value c.0, c.1)) (numeral n, rest)
+    (digits_read (numeral n) rest (numeral_plain n) (numeral_digits n) stops)
     ∙ ap (λ m. Some (m, rest)) (numeral_same (value (numeral n)) n (plain_is (numeral n) (numeral_plain n) (numeral_digits n)))
 
 below_none : (n : ℕ) (z : ℤ) → minus n ≡ Some z → 45 ∷ numeral n ≡ signed_numeral z

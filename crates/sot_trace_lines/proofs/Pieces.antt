@@ -1,5 +1,6 @@
 -- What it means that a reader of pieces answers, and that it finds the bytes that stand in front.
-use Rattle.std.proofs.Common.{◌≡◌, ℕ, ◌+◌, ◌==◌, true, false, List, [], ◌∷◌, ◌++◌, Option, Some, None, Bor, length, take, drop, inl, inr, refl, sym, ap, ◌∙◌, arith}
+use Rattle.std.proofs.Common.{◌≡◌, ℕ, ◌+◌, ◌==◌, true, false, List, [], ◌∷◌, ◌++◌, Option, Some, None, Bor, length, take, drop, inl, inr, refl, sym, ap, ◌∙◌}
+use Rattle.std.proofs.Common.{arith}
 use Rattle.std.specs.Prelude.{MatchOption, nat_eq}
 use Rattle.std.specs.Option.{option_map}
 use Rattle.std.specs.Cmp.Lexicographic.{pointwise}
@@ -53,7 +54,8 @@ in_front (c ∷ cs) (b ∷ bs) rest e =
 
 -- what `strip_prefix` answers is what stands behind
 pub stripped : (text front : List ℕ) (r : Option (Bor (List ℕ)))
-    → MatchOption r (pointwise nat_eq (take (length front) text) front ≡ false) (λ x. (pointwise nat_eq (take (length front) text) front ≡ true) × (x.now ≡ drop (length front) text) × (length x.now + length front ≡ length text))
+    → MatchOption r (pointwise nat_eq (take (length front) text) front ≡ false)
+    (λ x. (pointwise nat_eq (take (length front) text) front ≡ true) × (x.now ≡ drop (length front) text) × (length x.now + length front ≡ length text))
     → option_map (λ rest. rest.now) r ≡ behind front text
 stripped text front (Some x) is = sym (ap (behind front) (strip_prefix_is Decides-eqb text front (Some x) is) ∙ behind_them front x.now)
 stripped text front None is = nothing (behind front text) refl

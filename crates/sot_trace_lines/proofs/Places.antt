@@ -1,5 +1,6 @@
 -- What is found by its name.
-use Rattle.std.proofs.Common.{◌≡◌, ℕ, zero, suc, ◌+◌, ◌<◌, true, nat_lt, not, cond, List, [], ◌∷◌, Some, None, length, drop, get_or, inl, inr, refl, sym, ap, subst, ◌∙◌, arith}
+use Rattle.std.proofs.Common.{◌≡◌, ℕ, zero, suc, ◌+◌, ◌<◌, true, nat_lt, not, cond, List, [], ◌∷◌, Some, None, length, drop, get_or, inl, inr, refl, sym, ap}
+use Rattle.std.proofs.Common.{subst, ◌∙◌, arith}
 use Rattle.std.specs.List.{position_or_len}
 use Rattle.std.specs.Str.{bytes_eq}
 use Rattle.std.proofs.lemmas.Bool.{cases_Bool, cond-true}
@@ -21,7 +22,8 @@ behind_first (y ∷ ys) (suc from) k x at =
     subst (λ n. At (y ∷ ys) n x) same step
 
 module _ {A : Type 0} (name : A → List ℕ) (word : List ℕ) where
-  first_place : (xs : List A) (k : ℕ) (x : A) → At xs k x → name x ≡ word → ((j : ℕ) (y : A) → At xs j y → name y ≡ word → j ≡ k) → position_or_len (λ y. bytes_eq (name y) word) xs ≡ k
+  first_place : (xs : List A) (k : ℕ) (x : A) → At xs k x → name x ≡ word → ((j : ℕ) (y : A) → At xs j y → name y ≡ word → j ≡ k)
+      → position_or_len (λ y. bytes_eq (name y) word) xs ≡ k
   first_place [] k x at is once = absurd (none-some x at)
   first_place (y ∷ ys) zero x at is once =
       let named : name y ≡ word = ap name (same_Some y x at) ∙ is in
@@ -29,7 +31,9 @@ module _ {A : Type 0} (name : A → List ℕ) (word : List ℕ) where
   first_place (y ∷ ys) (suc k) x at is once =
       elim (cases_Bool (bytes_eq (name y) word)) [
         | inl yes' ↦ (let never : 0 ≡ suc k = once 0 y refl ((bytes_eq-Decides (name y) word).0 yes') in absurd (omega arith))
-        | inr no' ↦ ap (λ b. cond (not b) (1 + position_or_len (λ z. bytes_eq (name z) word) ys) 0) no' ∙ ap (λ n. 1 + n) (first_place ys k x at is (λ j z at_z named. (let more : suc j ≡ suc k = once (suc j) z at_z named in omega (arith, more)))) ∙ omega arith
+        | inr no' ↦ ap (λ b. cond (not b) (1 + position_or_len (λ z. bytes_eq (name z) word) ys) 0) no'
+            ∙ ap (λ n. 1 + n) (first_place ys k x at is (λ j z at_z named. (let more : suc j ≡ suc k = once (suc j) z at_z named in omega (arith, more))))
+            ∙ omega arith
       ]
 
   below_yes : (k n : ℕ) → k < n → nat_lt k n ≡ true
@@ -50,7 +54,8 @@ module _ {A : Type 0} (name : A → List ℕ) (word : List ℕ) where
       (at.0, at.1, sym (ap name (get_or_from_slice_get (y ∷ ys) k at.0 y at.1)) ∙ (bytes_eq-Decides (name (get_or (y ∷ ys) k y)) word).0 is.1)
 
   -- what is found in some place or behind it is the one thing of that name
-  pub found_from : (xs : List A) (from k : ℕ) → ((i j : ℕ) (x y : A) → At xs i x → At xs j y → name x ≡ name y → i ≡ j) → place_of name (drop from xs) word ≡ Some k → place_of name xs word ≡ Some (from + k)
+  pub found_from : (xs : List A) (from k : ℕ) → ((i j : ℕ) (x y : A) → At xs i x → At xs j y → name x ≡ name y → i ≡ j)
+      → place_of name (drop from xs) word ≡ Some k → place_of name xs word ≡ Some (from + k)
   found_from xs from k once e =
       let is = found_at (drop from xs) k e in
       let at : At xs (from + k) is.0 = behind_first xs from k is.0 is.1 in

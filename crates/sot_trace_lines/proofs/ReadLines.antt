@@ -1,5 +1,6 @@
 -- What a line spells is read, so that it spells one thing at most.
-use Rattle.std.proofs.Common.{◌≡◌, ℕ, ℤ, ◌<◌, ◌==◌, Bool, true, false, List, [], ◌∷◌, ◌++◌, Option, Some, None, length, take, drop, codes, refl, sym, ap, ap₂, subst, ◌∙◌, arith}
+use Rattle.std.proofs.Common.{◌≡◌, ℕ, ℤ, ◌<◌, ◌==◌, Bool, true, false, List, [], ◌∷◌, ◌++◌, Option, Some, None, length, take, drop, codes, refl, sym, ap, ap₂}
+use Rattle.std.proofs.Common.{subst, ◌∙◌, arith}
 use Rattle.std.specs.Prelude.{slice_get}
 use Rattle.std.specs.Option.{option_map_or}
 use Rattle.std.specs.Char.{is_ascii_digit}
@@ -32,7 +33,8 @@ use Rattle.sot_trace.proofs.LineTexts.{there_from, apart_from, mode_stops}
 use Rattle.sot_trace_lines.specs.Pieces.{◌>>=◌, behind, at_end, numeral_at, row_at}
 use Rattle.sot_trace_lines.specs.Spelled.{Spelled, InputLine, FireLine, DecideLine, TickLine, EndLine, marks_text, spelled_text, Fits, IsSpelled}
 use Rattle.sot_trace_lines.specs.Laws.{marks_of, spelled_of, SpelledOnce, EntriesAreSpelled}
-use Rattle.sot_trace_lines.specs.Readers.{word_at, place_of, value_at, input_at, slots_at, fire_at, mode_of, decide_at, moves_at, tick_at, refused_at, events_at, counts_at, event_at, spelled_at}
+use Rattle.sot_trace_lines.specs.Readers.{word_at, place_of, value_at, input_at, slots_at, fire_at, mode_of, decide_at, moves_at, tick_at, refused_at}
+use Rattle.sot_trace_lines.specs.Readers.{events_at, counts_at, event_at, spelled_at}
 use Rattle.sot_trace_lines.proofs.Pieces.{then_next}
 use Rattle.sot_trace_lines.proofs.Numerals.{front_is, read_numeral}
 use Rattle.sot_trace_lines.proofs.Rows.{read_row}
@@ -64,11 +66,14 @@ row_read n zs size = ap₂ row_at (sym size) (sym (append-nil (numbers zs))) ∙
 last_numeral : (n : ℕ) → numeral_at (numeral n) ≡ Some (n, [])
 last_numeral n = ap numeral_at (sym (append-nil (numeral n))) ∙ read_numeral n [] tt
 
-counts_read : (ticks events refused : ℕ) → counts_at (numeral ticks ++ (codes " events " ++ (numeral events ++ (codes " refused " ++ numeral refused)))) ≡ Some (EndLine ticks events refused)
+counts_read : (ticks events refused : ℕ) → counts_at (numeral ticks ++ (codes " events " ++ (numeral events ++ (codes " refused " ++ numeral refused))))
+    ≡ Some (EndLine ticks events refused)
 counts_read ticks events refused =
     let second : List ℕ = numeral events ++ (codes " refused " ++ numeral refused) in
-    then_next (numeral_at (numeral ticks ++ (codes " events " ++ second))) (λ n. behind (codes " events ") n.1 >>= events_at n.0) (ticks, codes " events " ++ second) (read_numeral ticks (codes " events " ++ second) refl)
-    ∙ then_next (numeral_at second) (λ n. behind (codes " refused ") n.1 >>= refused_at ticks n.0) (events, codes " refused " ++ numeral refused) (read_numeral events (codes " refused " ++ numeral refused) refl)
+    then_next (numeral_at (numeral ticks ++ (codes " events " ++ second))) (λ n. behind (codes " events ") n.1 >>= events_at n.0)
+    (ticks, codes " events " ++ second) (read_numeral ticks (codes " events " ++ second) refl)
+    ∙ then_next (numeral_at second) (λ n. behind (codes " refused ") n.1 >>= refused_at ticks n.0) (events, codes " refused " ++ numeral refused)
+    (read_numeral events (codes " refused " ++ numeral refused) refl)
     ∙ then_next (numeral_at (numeral refused)) (λ n. at_end (EndLine ticks events n.0) n.1) (refused, []) (last_numeral refused)
 
 module _ (p : Tables) (rules : MeetsTableRules p) (words : AreWords p) where
@@ -92,44 +97,54 @@ module _ (p : Tables) (rules : MeetsTableRules p) (words : AreWords p) where
       let ks : List ℕ = writes_of p n in
       let marks : List ℕ = marks_text p ks slots in
       let parts = word_is node.0.name marks (node_in p rules words n node.0 node.1) (marks_stop p is_in_word refl ks slots) in
-      let place = found (λ (x : NodeInfo). x.name) node.0.name p.nodes n node.0 node.1 refl (λ j y at_y same. node_same p rules j n y node.0 at_y node.1 same) in
+      let place = found (λ (x : NodeInfo). x.name) node.0.name p.nodes n node.0 node.1 refl (λ j y at_y same. node_same p rules j n y node.0 at_y node.1 same)
+      in
       let are : ks ≡ node.0.writes.items = ap (λ o. option_map_or (λ (x : NodeInfo). x.writes.items) o []) node.1 in
       let there = there_from p ks (λ k has. at_below p.scalars k (rules.typed.inside n node.0 k node.1 (subst (λ l. Has l k) are has))) in
       let apart = apart_from ks (λ i j k at_i at_j. rules.typed.once n node.0 i j k node.1 (subst (λ l. At l i k) are at_i) (subst (λ l. At l j k) are at_j)) in
       ap (λ name. fire_at p enabled time (name ++ marks)) (node_named p n node.0 node.1)
-      ∙ ap₂ (λ word rest. place_of (λ (x : NodeInfo). x.name) p.nodes word >>= λ m. slots_at p (writes_of p m) rest >>= λ d. at_end (FireLine time m enabled d.0) d.1) parts.0 parts.1
-      ∙ then_next (place_of (λ (x : NodeInfo). x.name) p.nodes node.0.name) (λ m. slots_at p (writes_of p m) marks >>= λ d. at_end (FireLine time m enabled d.0) d.1) n place
+      ∙ ap₂ (λ word rest. place_of (λ (x : NodeInfo). x.name) p.nodes word >>= λ m. slots_at p (writes_of p m) rest >>= λ d.
+      at_end (FireLine time m enabled d.0) d.1) parts.0 parts.1
+      ∙ then_next (place_of (λ (x : NodeInfo). x.name) p.nodes node.0.name)
+      (λ m. slots_at p (writes_of p m) marks >>= λ d. at_end (FireLine time m enabled d.0) d.1) n place
       ∙ then_next (slots_at p ks marks) (λ d. at_end (FireLine time n enabled d.0) d.1) (slots, []) (read_slots p rules words ks there apart slots size)
 
   decide_read : (time m : ℕ) (mode : Mode) → m < length p.modules → decide_at p time (module_name p m ++ mode_word mode) ≡ Some (DecideLine time m mode)
   decide_read time m mode lt =
       let info = at_below p.modules m lt in
       let parts = word_is info.0.name (mode_word mode) (module_in p rules words m info.0 info.1) (mode_stops mode) in
-      let place = found (λ (x : ModuleInfo). x.name) info.0.name p.modules m info.0 info.1 refl (λ j y at_y same. module_same p rules j m y info.0 at_y info.1 same) in
+      let place = found (λ (x : ModuleInfo). x.name) info.0.name p.modules m info.0 info.1 refl
+      (λ j y at_y same. module_same p rules j m y info.0 at_y info.1 same) in
       ap (λ name. decide_at p time (name ++ mode_word mode)) (module_named p m info.0 info.1)
       ∙ ap₂ (λ word rest. place_of (λ (x : ModuleInfo). x.name) p.modules word >>= λ n. mode_of rest >>= λ a. Some (DecideLine time n a)) parts.0 parts.1
       ∙ then_next (place_of (λ (x : ModuleInfo). x.name) p.modules info.0.name) (λ n. mode_of (mode_word mode) >>= λ a. Some (DecideLine time n a)) m place
       ∙ then_next (mode_of (mode_word mode)) (λ a. Some (DecideLine time m a)) mode (mode_read mode)
 
-  tick_read : (time : ℕ) (noise states : List ℤ) → Fits p (TickLine time noise states) → tick_at p time (moves_text p.plants noise states) ≡ Some (TickLine time noise states)
+  tick_read : (time : ℕ) (noise states : List ℤ) → Fits p (TickLine time noise states)
+      → tick_at p time (moves_text p.plants noise states) ≡ Some (TickLine time noise states)
   tick_read time noise states fits =
-      then_next (moves_at p.plants (moves_text p.plants noise states)) (λ m. at_end (TickLine time m.0 m.1) m.2) (noise, states, []) (read_moves p.plants noise states fits.0 fits.1)
+      then_next (moves_at p.plants (moves_text p.plants noise states)) (λ m. at_end (TickLine time m.0 m.1) m.2) (noise, states, [])
+      (read_moves p.plants noise states fits.0 fits.1)
 
   -- what stands behind the time
   timed : (time : ℕ) (tail : List ℕ) (s : Spelled) → Stops is_ascii_digit tail → event_at p time tail ≡ Some s → spelled_at p (numeral time ++ tail) ≡ Some s
   timed time tail s stops is =
-      ap (λ o. option_map_or counts_at o (numeral_at (numeral time ++ tail) >>= λ t. event_at p t.0 t.1)) (no_end (numeral time) tail (numeral_some time) (numeral_digits time))
+      ap (λ o. option_map_or counts_at o (numeral_at (numeral time ++ tail) >>= λ t. event_at p t.0 t.1))
+      (no_end (numeral time) tail (numeral_some time) (numeral_digits time))
       ∙ then_next (numeral_at (numeral time ++ tail)) (λ t. event_at p t.0 t.1) (time, tail) (read_numeral time tail stops)
       ∙ is
 
   -- what fits is read in its text
   read_text : (s : Spelled) → Fits p s → spelled_at p (spelled_text p s) ≡ Some s
   read_text (InputLine time topic value) (info, at, is, size) =
-      timed time (codes " input " ++ (topic_name p topic ++ (61 ∷ numbers value))) (InputLine time topic value) refl (input_read time topic info value at is size)
+      timed time (codes " input " ++ (topic_name p topic ++ (61 ∷ numbers value))) (InputLine time topic value) refl
+      (input_read time topic info value at is size)
   read_text (FireLine time node true slots) (lt, size) =
-      timed time (codes " fire " ++ (node_name p node ++ marks_text p (writes_of p node) slots)) (FireLine time node true slots) refl (fire_read true time node slots lt size)
+      timed time (codes " fire " ++ (node_name p node ++ marks_text p (writes_of p node) slots)) (FireLine time node true slots) refl
+      (fire_read true time node slots lt size)
   read_text (FireLine time node false slots) (lt, size) =
-      timed time (codes " idle " ++ (node_name p node ++ marks_text p (writes_of p node) slots)) (FireLine time node false slots) refl (fire_read false time node slots lt size)
+      timed time (codes " idle " ++ (node_name p node ++ marks_text p (writes_of p node) slots)) (FireLine time node false slots) refl
+      (fire_read false time node slots lt size)
   read_text (DecideLine time decider mode) lt =
       timed time (codes " decide " ++ (module_name p decider ++ mode_word mode)) (DecideLine time decider mode) refl (decide_read time decider mode lt)
   read_text (TickLine time noise states) fits =
@@ -156,7 +171,8 @@ drafted_text p (k ∷ ks) (Some z ∷ draft) = ap (λ x. slot_text p k (Some z) 
 -- the line of an entry is the text of what it spells
 pub entry_text : (p : Tables) (entry : Logged) → line_of p entry ≡ spelled_text p (spelled_of p entry)
 entry_text p (InputAt time topic value) = refl
-entry_text p (FireAt time node draft enabled) = ap (λ x. numeral time ++ (firing_word enabled ++ (node_name p node ++ x))) (sym (drafted_text p (writes_of p node) draft))
+entry_text p (FireAt time node draft enabled) =
+    ap (λ x. numeral time ++ (firing_word enabled ++ (node_name p node ++ x))) (sym (drafted_text p (writes_of p node) draft))
 entry_text p (DecideAt time decider mode) = refl
 entry_text p (TickAt time noise states) = refl
 

@@ -1,5 +1,6 @@
 -- The plants of a tick are read as they are spelled.
-use Rattle.std.proofs.Common.{◌≡◌, ℕ, ℤ, ◌+◌, List, [], ◌∷◌, ◌++◌, Option, Some, length, take, drop, codes, refl, sym, ap, ap₂, ◌∙◌, arith, append_assoc, length-append, length-drop, take-append-drop}
+use Rattle.std.proofs.Common.{◌≡◌, ℕ, ℤ, ◌+◌, List, [], ◌∷◌, ◌++◌, Option, Some, length, take, drop, codes, refl, sym, ap, ap₂, ◌∙◌, arith, append_assoc}
+use Rattle.std.proofs.Common.{length-append, length-drop, take-append-drop}
 use Rattle.std.specs.Char.{is_ascii_digit}
 use Rattle.std.proofs.Math.Seq.{take-append_seam, drop-append_seam}
 use Rattle.std.proofs.lemmas.Option.{same_Some}
@@ -18,7 +19,8 @@ use Rattle.sot_trace_lines.proofs.Rows.{row_from, read_row}
 
 -- two answers of three parts that are the same
 triple_same : {A B C : Type 0} (x y : A) (u v : B) (s t : C) → ◌≡◌ {A = Option (A × B × C)} (Some (x, u, s)) (Some (y, v, t)) → (x ≡ y) × (u ≡ v) × (s ≡ t)
-triple_same {A} {B} {C} x y u v s t e = (ap (λ (q : A × B × C). q.0) (same_Some _ _ e), ap (λ (q : A × B × C). q.1) (same_Some _ _ e), ap (λ (q : A × B × C). q.2) (same_Some _ _ e))
+triple_same {A} {B} {C} x y u v s t e =
+    (ap (λ (q : A × B × C). q.0) (same_Some _ _ e), ap (λ (q : A × B × C). q.1) (same_Some _ _ e), ap (λ (q : A × B × C). q.2) (same_Some _ _ e))
 
 move_from : (k : PlantInfo) (text : List ℕ) (a b : List ℤ) (rest : List ℕ) → move_at k text ≡ Some (a, b, rest)
     → (length a ≡ length k.noise.items) × (length b ≡ length k.states.items) × (text ≡ move_text k a b ++ rest)
@@ -33,9 +35,15 @@ move_from k text a b rest e =
     let noise = row_from (length k.noise.items) f.0 v.0.0 v.0.1 v.1 in
     let states = row_from (length k.states.items) w.0 x.0.0 x.0.1 x.1 in
     let last : w.0 ≡ numbers b ++ rest = states.1 ∙ ap₂ (λ n r. numbers n ++ r) same.1 same.2 in
-    let inner : f.0 ≡ numbers a ++ (41 ∷ 61 ∷ (numbers b ++ rest)) = noise.1 ∙ ap₂ (λ n r. numbers n ++ r) same.0 (in_front (codes ")=") v.0.1 w.0 w.1 ∙ ap (λ r. 41 ∷ 61 ∷ r) last) in
-    let named : s.0 ≡ k.name ++ (40 ∷ (numbers a ++ (41 ∷ 61 ∷ (numbers b ++ rest)))) = in_front k.name s.0 t.0 t.1 ∙ ap (λ r. k.name ++ r) (in_front (codes "(") t.0 f.0 t.2 ∙ ap (λ r. 40 ∷ r) inner) in
-    (ap length (sym same.0) ∙ noise.0, ap length (sym same.1) ∙ states.0, in_front (codes " ") text s.0 s.1 ∙ ap (λ r. 32 ∷ r) named ∙ sym (move_opens k a b rest))
+    let inner : f.0 ≡ numbers a ++ (41 ∷ 61 ∷ (numbers b ++ rest)) = noise.1
+    ∙ ap₂ (λ n r. numbers n ++ r) same.0 (in_front (codes ")=") v.0.1 w.0 w.1 ∙ ap (λ r. 41 ∷ 61 ∷ r) last) in
+    let named : s.0 ≡ k.name ++ (40 ∷ (numbers a ++ (41 ∷ 61 ∷ (numbers b ++ rest)))) = in_front k.name s.0 t.0 t.1
+    ∙ ap (λ r. k.name ++ r) (in_front (codes "(") t.0 f.0 t.2 ∙ ap (λ r. 40 ∷ r) inner) in (
+      ap length (sym same.0) ∙ noise.0,
+      ap length (sym same.1) ∙ states.0,
+      in_front (codes " ") text s.0 s.1 ∙ ap (λ r. 32 ∷ r) named
+          ∙ sym (move_opens k a b rest),
+    )
 
 -- one plant before others
 moves_opens : (k : PlantInfo) (ks : List PlantInfo) (a b c d : List ℤ) → length a ≡ length k.noise.items → length b ≡ length k.states.items
@@ -66,13 +74,16 @@ moves_from (k ∷ ks) text a b rest e =
 read_sized : (n : ℕ) (zs : List ℤ) (rest : List ℕ) → length zs ≡ n → Stops is_ascii_digit rest → row_at n (numbers zs ++ rest) ≡ Some (zs, rest)
 read_sized n zs rest size stops = ap (λ m. row_at m (numbers zs ++ rest)) (sym size) ∙ read_row zs rest stops
 
-read_move : (k : PlantInfo) (a b : List ℤ) (rest : List ℕ) → length a ≡ length k.noise.items → length b ≡ length k.states.items → Stops is_ascii_digit rest → move_at k (move_text k a b ++ rest) ≡ Some (a, b, rest)
+read_move : (k : PlantInfo) (a b : List ℤ) (rest : List ℕ) → length a ≡ length k.noise.items → length b ≡ length k.states.items → Stops is_ascii_digit rest
+    → move_at k (move_text k a b ++ rest) ≡ Some (a, b, rest)
 read_move k a b rest len_a len_b stops =
     let states : List ℕ = numbers b ++ rest in
     let noise : List ℕ = numbers a ++ (41 ∷ 61 ∷ states) in
     ap (move_at k) (move_opens k a b rest)
-    ∙ then_next (behind k.name (k.name ++ (40 ∷ noise)) >>= behind (codes "(")) (noise_at k) noise (then_next (behind k.name (k.name ++ (40 ∷ noise))) (behind (codes "(")) (40 ∷ noise) (behind_them k.name (40 ∷ noise)))
-    ∙ then_next (row_at (length k.noise.items) noise) (λ w. behind (codes ")=") w.1 >>= states_at k w.0) (a, 41 ∷ 61 ∷ states) (read_sized (length k.noise.items) a (41 ∷ 61 ∷ states) len_a refl)
+    ∙ then_next (behind k.name (k.name ++ (40 ∷ noise)) >>= behind (codes "(")) (noise_at k) noise
+    (then_next (behind k.name (k.name ++ (40 ∷ noise))) (behind (codes "(")) (40 ∷ noise) (behind_them k.name (40 ∷ noise)))
+    ∙ then_next (row_at (length k.noise.items) noise) (λ w. behind (codes ")=") w.1 >>= states_at k w.0) (a, 41 ∷ 61 ∷ states)
+    (read_sized (length k.noise.items) a (41 ∷ 61 ∷ states) len_a refl)
     ∙ then_next (row_at (length k.states.items) states) (λ y. Some (a, y.0, y.1)) (b, rest) (read_sized (length k.states.items) b rest len_b stops)
 
 moves_stop : (ks : List PlantInfo) (a b : List ℤ) → Stops is_ascii_digit (moves_text ks a b)
@@ -84,7 +95,8 @@ no_numbers [] none = refl
 no_numbers (x ∷ xs) none = absurd (omega arith)
 
 -- the text of a tick is read as its numbers
-pub read_moves : (ks : List PlantInfo) (a b : List ℤ) → length a ≡ noise_count ks → length b ≡ state_count ks → moves_at ks (moves_text ks a b) ≡ Some (a, b, [])
+pub read_moves : (ks : List PlantInfo) (a b : List ℤ) → length a ≡ noise_count ks → length b ≡ state_count ks
+    → moves_at ks (moves_text ks a b) ≡ Some (a, b, [])
 read_moves [] a b len_a len_b = ap₂ (λ x y. Some (x, y, [])) (sym (no_numbers a len_a)) (sym (no_numbers b len_b))
 read_moves (k ∷ ks) a b len_a len_b =
     let n : ℕ = length k.noise.items in

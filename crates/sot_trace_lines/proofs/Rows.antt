@@ -25,7 +25,8 @@ further_from (suc n) text zs rest e =
     let below = further_from n t.0.1 u.0.0 u.0.1 u.1 in (
       ap length (sym same.0) ∙ omega (arith, below.0),
       in_front (codes ",") text s.0 s.1
-          ∙ ap (λ x. 44 ∷ x) (number_from s.0 t.0.0 t.0.1 t.1 ∙ ap (λ x. signed_numeral t.0.0 ++ x) (below.1 ∙ ap (λ x. further u.0.0 ++ x) same.1) ∙ sym (append_assoc (signed_numeral t.0.0) (further u.0.0) rest))
+          ∙ ap (λ x. 44 ∷ x) (number_from s.0 t.0.0 t.0.1 t.1 ∙ ap (λ x. signed_numeral t.0.0 ++ x) (below.1 ∙ ap (λ x. further u.0.0 ++ x) same.1)
+          ∙ sym (append_assoc (signed_numeral t.0.0) (further u.0.0) rest))
           ∙ ap (λ x. further x ++ rest) same.0,
     )
 
@@ -52,7 +53,8 @@ read_further [] rest stops = refl
 read_further (z ∷ zs) rest stops =
     let text : List ℕ = further zs ++ rest in
     ap (λ x. number_at x >>= λ c. further_at (length zs) c.1 >>= λ d. Some (c.0 ∷ d.0, d.1)) (append_assoc (signed_numeral z) (further zs) rest)
-    ∙ then_next (number_at (signed_numeral z ++ text)) (λ c. further_at (length zs) c.1 >>= λ d. Some (c.0 ∷ d.0, d.1)) (z, text) (read_number z text (further_stops zs rest stops))
+    ∙ then_next (number_at (signed_numeral z ++ text)) (λ c. further_at (length zs) c.1 >>= λ d. Some (c.0 ∷ d.0, d.1)) (z, text)
+    (read_number z text (further_stops zs rest stops))
     ∙ then_next (further_at (length zs) text) (λ d. Some (z ∷ d.0, d.1)) (zs, rest) (read_further zs rest stops)
 
 -- the text of numbers is read as the numbers
@@ -61,5 +63,6 @@ read_row [] rest stops = refl
 read_row (z ∷ zs) rest stops =
     let text : List ℕ = further zs ++ rest in
     ap (λ x. number_at x >>= λ c. further_at (length zs) c.1 >>= λ d. Some (c.0 ∷ d.0, d.1)) (append_assoc (signed_numeral z) (further zs) rest)
-    ∙ then_next (number_at (signed_numeral z ++ text)) (λ c. further_at (length zs) c.1 >>= λ d. Some (c.0 ∷ d.0, d.1)) (z, text) (read_number z text (further_stops zs rest stops))
+    ∙ then_next (number_at (signed_numeral z ++ text)) (λ c. further_at (length zs) c.1 >>= λ d. Some (c.0 ∷ d.0, d.1)) (z, text)
+    (read_number z text (further_stops zs rest stops))
     ∙ then_next (further_at (length zs) text) (λ d. Some (z ∷ d.0, d.1)) (zs, rest) (read_further zs rest stops)

@@ -1,5 +1,6 @@
 -- The slots of a firing are read as they are spelled.
-use Rattle.std.proofs.Common.{◌≡◌, ℕ, suc, ℤ, ◌==◌, Bool, true, false, List, [], ◌∷◌, ◌++◌, Option, Some, None, length, codes, inl, inr, refl, sym, ap, ap₂, ◌∙◌, arith, drop, append_assoc}
+use Rattle.std.proofs.Common.{◌≡◌, ℕ, suc, ℤ, ◌==◌, Bool, true, false, List, [], ◌∷◌, ◌++◌, Option, Some, None, length, codes, inl, inr, refl, sym, ap, ap₂}
+use Rattle.std.proofs.Common.{◌∙◌, arith, drop, append_assoc}
 use Rattle.std.specs.Char.{is_ascii_digit}
 use Rattle.std.proofs.lemmas.Bool.{cases_Bool, cond-true, cond-false}
 use Rattle.std.proofs.lemmas.Option.{none-some}
@@ -55,14 +56,18 @@ module _ (p : Tables) where
       in_front (codes " ") text s.0 s.1 ∙ ap (λ x. 32 ∷ x) (in_front (scalar_name p k) s.0 t.0 t.1 ∙ ap (λ x. scalar_name p k ++ x) (mark_from t.0 m rest t.2))
 
   front_read : (k : ℕ) (m : Bool) (rest : List ℕ) → slot_front p k (32 ∷ (scalar_name p k ++ (mark m ++ rest))) ≡ Some (m, rest)
-  front_read k m rest = then_next (behind (scalar_name p k) (scalar_name p k ++ (mark m ++ rest))) mark_at (mark m ++ rest) (behind_them (scalar_name p k) (mark m ++ rest)) ∙ mark_read m rest
+  front_read k m rest =
+      then_next (behind (scalar_name p k) (scalar_name p k ++ (mark m ++ rest))) mark_at (mark m ++ rest) (behind_them (scalar_name p k) (mark m ++ rest))
+      ∙ mark_read m rest
 
   -- a slot that is there begins with a blank and the scalar's name
   marked_opens : (k : ℕ) (m : Bool) (z : ℤ) (x : List ℕ) → marked_text p k (Some (m, z)) ++ x ≡ 32 ∷ (scalar_name p k ++ (mark m ++ (signed_numeral z ++ x)))
   marked_opens k m z x =
-      ap (λ y. 32 ∷ y) (append_assoc (scalar_name p k) (mark m ++ signed_numeral z) x ∙ ap (λ y. scalar_name p k ++ y) (append_assoc (mark m) (signed_numeral z) x))
+      ap (λ y. 32 ∷ y) (append_assoc (scalar_name p k) (mark m ++ signed_numeral z) x
+      ∙ ap (λ y. scalar_name p k ++ y) (append_assoc (mark m) (signed_numeral z) x))
 
-  slot_from : (k : ℕ) (text : List ℕ) (slot : Option (Bool × ℤ)) (rest : List ℕ) (o : Option (Bool × List ℕ)) → slot_front p k text ≡ o → slot_number text o ≡ Some (slot, rest)
+  slot_from : (k : ℕ) (text : List ℕ) (slot : Option (Bool × ℤ)) (rest : List ℕ) (o : Option (Bool × List ℕ)) → slot_front p k text ≡ o
+      → slot_number text o ≡ Some (slot, rest)
       → text ≡ marked_text p k slot ++ rest
   slot_from k text slot rest None is e = (let same = parts_same None slot text rest e in same.1 ∙ ap (λ x. marked_text p k x ++ rest) same.0)
   slot_from k text slot rest (Some (m, r)) is e =
@@ -103,18 +108,22 @@ module _ (p : Tables) (rules : MeetsTableRules p) (words : AreWords p) where
   later k info at x stops (j ∷ ks) there [] e = absurd cc
   later k info at x stops (j ∷ ks) there (None ∷ d) e = (let has = later k info at x stops ks there.1 d e in (suc has.0, has.1))
   later k info at x stops (j ∷ ks) there (Some (m, z) ∷ d) e =
-      let whole : scalar_name p j ++ (mark m ++ (signed_numeral z ++ marks_text p ks d)) ≡ scalar_name p k ++ x = ap (drop 1) (sym (marked_opens p j m z (marks_text p ks d)) ∙ e) in
-      let parts = cut_same in_name (scalar_name p j) (scalar_name p k) (mark m ++ (signed_numeral z ++ marks_text p ks d)) x (scalar_in p rules words j there.0.0 there.0.1) (scalar_in p rules words k info at) (mark_stops m _) stops whole in
+      let whole : scalar_name p j ++ (mark m ++ (signed_numeral z ++ marks_text p ks d)) ≡ scalar_name p k ++ x =
+      ap (drop 1) (sym (marked_opens p j m z (marks_text p ks d)) ∙ e) in
+      let parts = cut_same in_name (scalar_name p j) (scalar_name p k) (mark m ++ (signed_numeral z ++ marks_text p ks d)) x
+      (scalar_in p rules words j there.0.0 there.0.1) (scalar_in p rules words k info at) (mark_stops m _) stops whole in
       (0, ap Some (scalar_same p rules words j k there.0.0 info there.0.1 at parts.0))
 
   -- no slot is read of a scalar that is left out
-  left_out : (k : ℕ) (ks : List ℕ) → AreThere p (k ∷ ks) → AreApart (k ∷ ks) → (d : List (Option (Bool × ℤ))) (o : Option (Bool × List ℕ)) → slot_front p k (marks_text p ks d) ≡ o → o ≡ None
+  left_out : (k : ℕ) (ks : List ℕ) → AreThere p (k ∷ ks) → AreApart (k ∷ ks) → (d : List (Option (Bool × ℤ))) (o : Option (Bool × List ℕ))
+      → slot_front p k (marks_text p ks d) ≡ o → o ≡ None
   left_out k ks there apart d None is = refl
   left_out k ks there apart d (Some (m, rest)) is =
       absurd (apart.0 (later k there.0.0 there.0.1 (mark m ++ rest) (mark_stops m rest) ks there.1 d (front_from p k (marks_text p ks d) m rest is)))
 
   -- the text of slots is read as the slots
-  pub read_slots : (ks : List ℕ) → AreThere p ks → AreApart ks → (slots : List (Option (Bool × ℤ))) → length slots ≡ length ks → slots_at p ks (marks_text p ks slots) ≡ Some (slots, [])
+  pub read_slots : (ks : List ℕ) → AreThere p ks → AreApart ks → (slots : List (Option (Bool × ℤ))) → length slots ≡ length ks
+      → slots_at p ks (marks_text p ks slots) ≡ Some (slots, [])
   read_slots [] there apart [] size = refl
   read_slots [] there apart (x ∷ slots) size = absurd (omega arith)
   read_slots (k ∷ ks) there apart [] size = absurd (omega arith)

@@ -1,5 +1,6 @@
 -- A line is read as what it spells.
-use Rattle.std.proofs.Common.{◌≡◌, ◌⊎◌, ℕ, ℤ, Bool, true, false, cond, List, [], ◌∷◌, ◌++◌, Option, Some, None, length, codes, inl, inr, refl, sym, ap, ap₂, subst, ◌∙◌, take-append-drop}
+use Rattle.std.proofs.Common.{◌≡◌, ◌⊎◌, ℕ, ℤ, Bool, true, false, cond, List, [], ◌∷◌, ◌++◌, Option, Some, None, length, codes, inl, inr, refl, sym, ap, ap₂}
+use Rattle.std.proofs.Common.{subst, ◌∙◌, take-append-drop}
 use Rattle.std.specs.Option.{option_map_or}
 use Rattle.std.specs.List.{prefix_len}
 use Rattle.std.specs.Str.{bytes_eq}
@@ -21,7 +22,8 @@ use Rattle.sot_trace.specs.Lines.{writes_of, firing_word, mode_word}
 use Rattle.sot_trace.proofs.NameTexts.{topic_named, node_named, module_named}
 use Rattle.sot_trace_lines.specs.Pieces.{◌>>=◌, behind, at_end, numeral_at, row_at}
 use Rattle.sot_trace_lines.specs.Spelled.{Spelled, InputLine, FireLine, DecideLine, TickLine, EndLine, marks_text, spelled_text, Fits, IsSpelled}
-use Rattle.sot_trace_lines.specs.Readers.{word_at, place_of, numbers_for, value_at, input_at, slots_at, fire_at, mode_of, decide_at, moves_at, tick_at, refused_at, events_at, counts_at, event_at, spelled_at}
+use Rattle.sot_trace_lines.specs.Readers.{word_at, place_of, numbers_for, value_at, input_at, slots_at, fire_at, mode_of, decide_at, moves_at, tick_at}
+use Rattle.sot_trace_lines.specs.Readers.{refused_at, events_at, counts_at, event_at, spelled_at}
 use Rattle.sot_trace_lines.proofs.Pieces.{both, then_next, is_ended, in_front}
 use Rattle.sot_trace_lines.proofs.Numerals.{numeral_from}
 use Rattle.sot_trace_lines.proofs.Rows.{row_from}
@@ -70,7 +72,8 @@ module _ (p : Tables) where
       let step = sym (then_next _ (λ info. value_at time a.0 info (word_at text).1) named.0 named.1) ∙ a.2 in
       let v = value_from time a.0 named.0 (word_at text).1 s step in
       let is = v.1 in
-      let whole : text ≡ topic_name p a.0 ++ (61 ∷ numbers is.0) = sym (word_parts text) ∙ ap₂ (λ x y. x ++ y) (sym named.2 ∙ sym (topic_named p a.0 named.0 named.1)) is.3 in
+      let whole : text ≡ topic_name p a.0 ++ (61 ∷ numbers is.0) = sym (word_parts text)
+      ∙ ap₂ (λ x y. x ++ y) (sym named.2 ∙ sym (topic_named p a.0 named.0 named.1)) is.3 in
       subst (IsEvent p time (codes " input " ++ text)) (sym is.2)
       ((named.0, named.1, v.0, is.1), ap (λ x. numeral time ++ (codes " input " ++ x)) whole)
 
@@ -83,21 +86,24 @@ module _ (p : Tables) where
       let are = slots_from p (writes_of p a.0) (word_at text).1 b.0.0 b.0.1 b.1 in
       let ends = is_ended (FireLine time a.0 enabled b.0.0) s b.0.1 b.2 in
       let slots : List ℕ = marks_text p (writes_of p a.0) b.0.0 in
-      let whole : text ≡ node_name p a.0 ++ slots = sym (word_parts text) ∙ ap₂ (λ x y. x ++ y) (sym named.2 ∙ sym (node_named p a.0 named.0 named.1)) (are.1 ∙ no_rest slots b.0.1 ends.0) in
+      let whole : text ≡ node_name p a.0 ++ slots = sym (word_parts text)
+      ∙ ap₂ (λ x y. x ++ y) (sym named.2 ∙ sym (node_named p a.0 named.0 named.1)) (are.1 ∙ no_rest slots b.0.1 ends.0) in
       subst (IsEvent p time (firing_word enabled ++ text)) ends.1
       ((slice_get_within p.nodes a.0 named.0 named.1, are.0), ap (λ x. numeral time ++ (firing_word enabled ++ x)) whole)
 
   mode_from : (text : List ℕ) (mode : Mode) → mode_of text ≡ Some mode → text ≡ mode_word mode
   mode_from text mode e =
       elim (cases_Bool (bytes_eq text (codes " ac"))) [
-        | inl yes' ↦ (bytes_eq-Decides text (codes " ac")).0 yes' ∙ ap mode_word (same_Some Ac mode (sym (cond-true (bytes_eq text (codes " ac")) _ _ yes') ∙ e))
+        | inl yes' ↦ (bytes_eq-Decides text (codes " ac")).0 yes'
+            ∙ ap mode_word (same_Some Ac mode (sym (cond-true (bytes_eq text (codes " ac")) _ _ yes') ∙ e))
         | inr no' ↦ mode_second text mode (sym (cond-false (bytes_eq text (codes " ac")) _ _ no') ∙ e)
       ]
     where
       mode_second : (text : List ℕ) (mode : Mode) → cond (bytes_eq text (codes " sc")) (Some Sc) None ≡ Some mode → text ≡ mode_word mode
       mode_second text mode e =
           elim (cases_Bool (bytes_eq text (codes " sc"))) [
-            | inl yes' ↦ (bytes_eq-Decides text (codes " sc")).0 yes' ∙ ap mode_word (same_Some Sc mode (sym (cond-true (bytes_eq text (codes " sc")) _ _ yes') ∙ e))
+            | inl yes' ↦ (bytes_eq-Decides text (codes " sc")).0 yes'
+                ∙ ap mode_word (same_Some Sc mode (sym (cond-true (bytes_eq text (codes " sc")) _ _ yes') ∙ e))
             | inr no' ↦ absurd (none-some mode (sym (cond-false (bytes_eq text (codes " sc")) _ _ no') ∙ e))
           ]
 
@@ -107,7 +113,8 @@ module _ (p : Tables) where
       let a = both (place_of (λ (x : ModuleInfo). x.name) p.modules word) _ s e in
       let named = found_at (λ (x : ModuleInfo). x.name) word p.modules a.0 a.1 in
       let b = both (mode_of (word_at text).1) (λ mode. Some (DecideLine time a.0 mode)) s a.2 in
-      let whole : text ≡ module_name p a.0 ++ mode_word b.0 = sym (word_parts text) ∙ ap₂ (λ x y. x ++ y) (sym named.2 ∙ sym (module_named p a.0 named.0 named.1)) (mode_from (word_at text).1 b.0 b.1) in
+      let whole : text ≡ module_name p a.0 ++ mode_word b.0 = sym (word_parts text)
+      ∙ ap₂ (λ x y. x ++ y) (sym named.2 ∙ sym (module_named p a.0 named.0 named.1)) (mode_from (word_at text).1 b.0 b.1) in
       subst (IsEvent p time (codes " decide " ++ text)) (same_Some (DecideLine time a.0 b.0) s b.2)
       (slice_get_within p.modules a.0 named.0 named.1, ap (λ x. numeral time ++ (codes " decide " ++ x)) whole)
 

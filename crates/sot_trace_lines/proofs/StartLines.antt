@@ -1,5 +1,6 @@
 -- Start lines are read as they are spelled.
-use Rattle.std.proofs.Common.{◌≡◌, ◌↔◌, ℕ, zero, suc, ◌||◌, Bool, true, false, List, [], ◌∷◌, ◌++◌, Option, Some, None, length, codes, inl, inr, refl, sym, ap, ap₂, ◌∙◌}
+use Rattle.std.proofs.Common.{◌≡◌, ◌↔◌, ℕ, zero, suc, ◌||◌, Bool, true, false, List, [], ◌∷◌, ◌++◌, Option, Some, None, length, codes, inl, inr, refl, sym, ap}
+use Rattle.std.proofs.Common.{ap₂, ◌∙◌}
 use Rattle.std.specs.Prelude.{ℤ, is_some, IsTrue}
 use Rattle.std.specs.List.{list_any}
 use Rattle.std.specs.Option.{option_map_or}
@@ -17,7 +18,8 @@ use Rattle.sot_trace_lines.specs.Readers.{start_front, point_at, start_at, start
 use Rattle.sot_trace_lines.proofs.Pieces.{both, then_next, is_ended, in_front, behind_them}
 use Rattle.sot_trace_lines.proofs.Rows.{row_from, read_row}
 
-start_from : (plant : PlantInfo) (text : List ℕ) (point : List ℤ) → start_at plant text ≡ Some point → (length point ≡ length plant.states.items) × (text ≡ plant.name ++ (32 ∷ numbers point))
+start_from : (plant : PlantInfo) (text : List ℕ) (point : List ℤ) → start_at plant text ≡ Some point
+    → (length point ≡ length plant.states.items) × (text ≡ plant.name ++ (32 ∷ numbers point))
 start_from plant text point e =
     let a = both (start_front plant text) (point_at plant) point e in
     let b = both (behind plant.name text) (behind (codes " ")) a.0 a.1 in
@@ -51,7 +53,8 @@ module _ {A : Type 0} (test : A → Bool) where
         | inr no' ↦ ap (λ b. b || list_any test xs) no' ∙ at_any xs k x at is
       ]
 
-starts_from : (p : Tables) (line : List ℕ) (o : Option (List ℕ)) → behind (codes "start ") line ≡ o → option_map_or (λ text. list_any (λ plant. is_some (start_at plant text)) p.plants) o false ≡ true → IsStartLine p line
+starts_from : (p : Tables) (line : List ℕ) (o : Option (List ℕ)) → behind (codes "start ") line ≡ o
+    → option_map_or (λ text. list_any (λ plant. is_some (start_at plant text)) p.plants) o false ≡ true → IsStartLine p line
 starts_from p line None is e = absurd cc
 starts_from p line (Some text) is e =
     let one = any_at (λ plant. is_some (start_at plant text)) p.plants e in

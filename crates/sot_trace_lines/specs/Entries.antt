@@ -1,4 +1,5 @@
--- How the line of an entry is found piece by piece from the front of a text: what stands behind it, or nothing.
+-- How the line of an entry is found piece by piece from the front of a text: what stands behind it,
+-- or nothing.
 use Rattle.std.specs.Prelude.{ℕ, ℤ, List, [], ◌∷◌, Option, Some, None, length, take, drop, codes}
 use Rattle.sot_lang.specs.declared.tables.PlantInfo.{PlantInfo}
 use Rattle.sot_lang.specs.Tables.{Tables}
@@ -13,7 +14,8 @@ use Rattle.sot_trace_lines.specs.Readers.{move_front}
 -- a row of numbers
 abbrev pub behind_further : List ℤ → List ℕ → Option (List ℕ)
 behind_further [] text = Some text
-behind_further (z ∷ zs) text = behind (codes ",") text >>= λ a. behind (signed_numeral z) a >>= behind_further zs
+behind_further (z ∷ zs) text =
+    behind (codes ",") text >>= λ a. behind (signed_numeral z) a >>= behind_further zs
 
 abbrev pub behind_numbers : List ℤ → List ℕ → Option (List ℕ)
 behind_numbers [] text = Some text
@@ -22,7 +24,9 @@ behind_numbers (z ∷ zs) text = behind (signed_numeral z) text >>= behind_furth
 -- the slots of a draft
 abbrev pub behind_slot : Tables → ℕ → Option ℤ → List ℕ → Option (List ℕ)
 behind_slot p k None text = Some text
-behind_slot p k (Some z) text = behind (codes " ") text >>= λ a. behind (scalar_name p k) a >>= λ b. behind (mark (is_in_range p k z)) b >>= behind (signed_numeral z)
+behind_slot p k (Some z) text =
+    behind (codes " ") text >>= λ a. behind (scalar_name p k) a >>= λ b.
+    behind (mark (is_in_range p k z)) b >>= behind (signed_numeral z)
 
 abbrev pub behind_draft : Tables → List ℕ → List (Option ℤ) → List ℕ → Option (List ℕ)
 behind_draft p [] draft text = Some text
@@ -31,7 +35,9 @@ behind_draft p (k ∷ ks) (slot ∷ draft) text = behind_slot p k slot text >>= 
 
 -- plants with their disturbances and states
 abbrev pub behind_move : PlantInfo → List ℤ → List ℤ → List ℕ → Option (List ℕ)
-behind_move plant noise states text = move_front plant text >>= λ a. behind_numbers noise a >>= λ b. behind (codes ")=") b >>= behind_numbers states
+behind_move plant noise states text =
+    move_front plant text >>= λ a. behind_numbers noise a >>= λ b.
+    behind (codes ")=") b >>= behind_numbers states
 
 abbrev pub behind_moves : List PlantInfo → List ℤ → List ℤ → List ℕ → Option (List ℕ)
 behind_moves [] noise states text = Some text
@@ -42,7 +48,14 @@ behind_moves (k ∷ ks) noise states text =
 -- the line of an entry
 abbrev pub behind_entry : Tables → Logged → List ℕ → Option (List ℕ)
 behind_entry p (InputAt time topic value) line =
-    behind (numeral time) line >>= λ a. behind (codes " input ") a >>= λ b. behind (topic_name p topic) b >>= λ c. behind (codes "=") c >>= behind_numbers value
-behind_entry p (FireAt time node draft enabled) line = behind (numeral time) line >>= λ a. behind (firing_word enabled) a >>= λ b. behind (node_name p node) b >>= behind_draft p (writes_of p node) draft
-behind_entry p (DecideAt time decider mode) line = behind (numeral time) line >>= λ a. behind (codes " decide ") a >>= λ b. behind (module_name p decider) b >>= behind (mode_word mode)
-behind_entry p (TickAt time noise states) line = behind (numeral time) line >>= λ a. behind (codes " tick") a >>= behind_moves p.plants noise states
+    behind (numeral time) line >>= λ a. behind (codes " input ") a >>= λ b.
+    behind (topic_name p topic) b >>= λ c. behind (codes "=") c >>= behind_numbers value
+behind_entry p (FireAt time node draft enabled) line =
+    behind (numeral time) line >>= λ a. behind (firing_word enabled) a >>= λ b.
+    behind (node_name p node) b >>= behind_draft p (writes_of p node) draft
+behind_entry p (DecideAt time decider mode) line =
+    behind (numeral time) line >>= λ a. behind (codes " decide ") a >>= λ b.
+    behind (module_name p decider) b >>= behind (mode_word mode)
+behind_entry p (TickAt time noise states) line =
+    behind (numeral time) line >>= λ a.
+    behind (codes " tick") a >>= behind_moves p.plants noise states

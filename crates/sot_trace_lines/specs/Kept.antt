@@ -1,5 +1,6 @@
 -- What is kept of numbers that are read: those of 64 bits, and whether all of them are.
-use Rattle.std.specs.Prelude.{ℕ, suc, ◌<◌, ◌≡◌, length, ◌^◌, ℤ, pos, negsuc, List, [], ◌∷◌, ◌++◌, Bool, false, nat_lt, if◌then◌else◌, Option, Some, None, slice_set}
+use Rattle.std.specs.Prelude.{ℕ, suc, ◌<◌, ◌≡◌, length, ◌^◌, ℤ, pos, negsuc, List, [], ◌∷◌, ◌++◌}
+use Rattle.std.specs.Prelude.{Bool, false, nat_lt, if◌then◌else◌, Option, Some, None, slice_set}
 use Rattle.sot_lang.specs.Tables.{Tables}
 use Rattle.sot_trace_lines.specs.declared.line.Line.{Line}
 use Rattle.sot_trace_lines.specs.declared.line.Front.{Front}
@@ -59,12 +60,14 @@ abbrev pub put_slot : ℕ → List (Option ℤ) × Bool → Option (Bool × ℤ)
 put_slot i kept None = kept
 put_slot i kept (Some slot) = draft_one i kept (bounded slot.1)
 
-abbrev pub kept_slot : ℕ → List (Option ℤ) × Bool → Option (Option (Bool × ℤ) × List ℕ) → Option ((List (Option ℤ) × Bool) × List ℕ)
+abbrev pub kept_slot : ℕ → List (Option ℤ) × Bool → Option (Option (Bool × ℤ) × List ℕ)
+    → Option ((List (Option ℤ) × Bool) × List ℕ)
 kept_slot i kept None = None
 kept_slot i kept (Some s) = Some (put_slot i kept s.0, s.1)
 
 -- each slot, from this place on
-abbrev pub draft_all : ℕ → List (Option ℤ) × Bool → List (Option (Bool × ℤ)) → List (Option ℤ) × Bool
+abbrev pub draft_all : ℕ → List (Option ℤ) × Bool → List (Option (Bool × ℤ))
+    → List (Option ℤ) × Bool
 draft_all i kept [] = kept
 draft_all i kept (slot ∷ slots) = draft_all (suc i) (put_slot i kept slot) slots
 
@@ -73,7 +76,8 @@ abbrev pub behind_mark : Option (Bool × List ℕ) → Option (List ℕ)
 behind_mark None = None
 behind_mark (Some front) = Some front.1
 
-abbrev pub kept_slots : ℕ → List (Option ℤ) × Bool → Option (List (Option (Bool × ℤ)) × List ℕ) → Option ((List (Option ℤ) × Bool) × List ℕ)
+abbrev pub kept_slots : ℕ → List (Option ℤ) × Bool → Option (List (Option (Bool × ℤ)) × List ℕ)
+    → Option ((List (Option ℤ) × Bool) × List ℕ)
 kept_slots i kept None = None
 kept_slots i kept (Some d) = Some (draft_all i kept d.0, d.1)
 
@@ -87,6 +91,7 @@ ShowsRead list None (Some s) = ⊥
 -- what is looked at of the front of a line, of what was read of the line, if anything was
 abbrev pub ShowsFront : Tables → List ℤ → Option Front → Option Spelled → Type 0
 ShowsFront p list None o = ShowsRead list None o
-ShowsFront p list (Some (Firing time node)) o = (node < length p.nodes) × ((s : Spelled) → o ≡ Some s → BeginsFiring time node s)
+ShowsFront p list (Some (Firing time node)) o =
+    (node < length p.nodes) × ((s : Spelled) → o ≡ Some s → BeginsFiring time node s)
 ShowsFront p list (Some (Tick time)) o = (s : Spelled) → o ≡ Some s → BeginsTick time s
 ShowsFront p list (Some (Whole l)) o = ShowsRead list (Some l) o

@@ -1,5 +1,6 @@
 -- The lines of a text without their line ends.
-use Rattle.std.specs.Prelude.{◌≡◌, ℕ, suc, List, [], ◌∷◌, ◌==◌, if◌then◌else◌, map, slice_index_or, length, ◌-◌, Option, Some, None}
+use Rattle.std.specs.Prelude.{◌≡◌, ℕ, suc, List, [], ◌∷◌, ◌==◌, if◌then◌else◌, map, slice_index_or}
+use Rattle.std.specs.Prelude.{length, ◌-◌, Option, Some, None}
 use Rattle.sot_text.specs.LineEnds.{lines, without_last}
 
 -- whether a line ends with an LF: the last line of a text may have none
@@ -22,4 +23,5 @@ pub record Lending : Type 0 where
 -- nothing is lent where nothing is to come; else the first line, with its number
 abbrev pub Lends : Lending → Option (ℕ × List ℕ) → Lending → Type 0
 Lends old None new = (old.to_come ≡ []) × (new ≡ old)
-Lends old (Some l) new = (old.to_come ≡ l.1 ∷ new.to_come) × (l.0 ≡ old.number) × (new.number ≡ suc old.number)
+Lends old (Some l) new =
+    (old.to_come ≡ l.1 ∷ new.to_come) × (l.0 ≡ old.number) × (new.number ≡ suc old.number)

@@ -8,7 +8,8 @@ pub mod Spelled
 pub mod Shown
 -- what the public laws say
 pub mod Laws
--- what the crate's own functions promise each other: how lines are read from their front, what is kept of their numbers, and how the line of an entry is found
+-- what the crate's own functions promise each other: how lines are read from their front, what is
+-- kept of their numbers, and how the line of an entry is found
 pub mod Pieces
 pub mod Readers
 pub mod Kept

@@ -1,5 +1,7 @@
--- How a line is read, piece by piece from its front: a reader gives what stands in front and what stands behind it, or nothing.
-use Rattle.std.specs.Prelude.{ℕ, zero, suc, ℤ, pos, negsuc, List, [], ◌∷◌, Bool, true, false, ◌==◌, not, if◌then◌else◌, Option, Some, None, take, drop, codes}
+-- How a line is read, piece by piece from its front: a reader gives what stands in front and what
+-- stands behind it, or nothing.
+use Rattle.std.specs.Prelude.{ℕ, zero, suc, ℤ, pos, negsuc, List, [], ◌∷◌, Bool, true, false, ◌==◌}
+use Rattle.std.specs.Prelude.{not, if◌then◌else◌, Option, Some, None, take, drop, codes}
 use Rattle.std.specs.List.{prefix_len}
 use Rattle.std.specs.Char.{is_ascii_digit}
 use Rattle.sot_text.specs.Lexeme.{value}
@@ -30,7 +32,8 @@ is_plain (d ∷ e ∷ ds) = not (d == 48)
 -- the digits of a number
 abbrev pub digits_at : List ℕ → Option (List ℕ × List ℕ)
 digits_at text =
-    if is_plain (take (prefix_len is_ascii_digit text) text) then Some (take (prefix_len is_ascii_digit text) text, drop (prefix_len is_ascii_digit text) text)
+    if is_plain (take (prefix_len is_ascii_digit text) text) then Some
+    (take (prefix_len is_ascii_digit text) text, drop (prefix_len is_ascii_digit text) text)
     else None
 
 -- a number from 0 on
@@ -56,7 +59,9 @@ number_at (b ∷ bs) = if b == 45 then negative_at bs else positive_at (b ∷ bs
 -- so many numbers, each behind a comma
 abbrev pub further_at : ℕ → List ℕ → Option (List ℤ × List ℕ)
 further_at zero text = Some ([], text)
-further_at (suc n) text = behind (codes ",") text >>= λ r. number_at r >>= λ c. further_at n c.1 >>= λ d. Some (c.0 ∷ d.0, d.1)
+further_at (suc n) text =
+    behind (codes ",") text >>= λ r. number_at r >>= λ c. further_at n c.1 >>= λ d.
+    Some (c.0 ∷ d.0, d.1)
 
 -- so many numbers with a comma between two
 abbrev pub row_at : ℕ → List ℕ → Option (List ℤ × List ℕ)

@@ -13,7 +13,9 @@ ghost use Rattle.sot_trace.specs.Drafts.{mark};
 ghost use Rattle.sot_trace.specs.Lines.{line_of, writes_of, firing_word, mode_word};
 ghost use Rattle.sot_trace.specs.Fitting.{FitsEntry};
 ghost use Rattle.sot_trace_lines.specs.Pieces.{behind};
-ghost use Rattle.sot_trace_lines.specs.Entries.{behind_further, behind_numbers, behind_slot, behind_draft, behind_move, behind_moves, behind_entry};
+ghost use Rattle.sot_trace_lines.specs.Entries.{behind_further, behind_numbers, behind_slot};
+ghost use Rattle.sot_trace_lines.specs.Entries.{behind_draft, behind_move, behind_moves};
+ghost use Rattle.sot_trace_lines.specs.Entries.{behind_entry};
 
 use crate::moves::move_front;
 use crate::piece::{behind, behind_byte};
@@ -95,7 +97,8 @@ fn behind_slot<'a>(p: &Typed, scalar: usize, slot: Option<i64>, text: &'a [u8]) 
 fn behind_draft<'a>(p: &Typed, writes: &[u32], draft: &Draft, text: &'a [u8]) -> Option<&'a [u8]>
     requires few { length writes.now ≤ 8 }
     requires written { (i k : ℕ) → At writes.now i k → k < length p.now.scalars }
-    ensures { option_map (λ rest. rest.now) result ≡ behind_draft p.now writes.now draft.now text.now }
+    ensures { option_map (λ rest. rest.now) result
+        ≡ behind_draft p.now writes.now draft.now text.now }
 {
     let (_, mut rest) = text.split_at(0);
     for i in 0..writes.len() {
@@ -110,7 +113,8 @@ fn behind_move<'a>(
     states: &[i64],
     text: &'a [u8],
 ) -> Option<&'a [u8]>
-    ensures { option_map (λ rest. rest.now) result ≡ behind_move plant.now noise.now states.now text.now }
+    ensures { option_map (λ rest. rest.now) result
+        ≡ behind_move plant.now noise.now states.now text.now }
 {
     let front = move_front(plant, text)?;
     let sign = behind_numbers(noise, front)?;
@@ -126,7 +130,8 @@ fn behind_moves<'a>(
 ) -> Option<&'a [u8]>
     requires noise { length noise.now ≡ noise_count plants.now }
     requires states { length states.now ≡ state_count plants.now }
-    ensures { option_map (λ rest. rest.now) result ≡ behind_moves plants.now noise.now states.now text.now }
+    ensures { option_map (λ rest. rest.now) result
+        ≡ behind_moves plants.now noise.now states.now text.now }
 {
     let (_, mut rest) = text.split_at(0);
     let (_, mut noise_left) = noise.split_at(0);
@@ -195,7 +200,8 @@ fn behind_input<'a>(
     value: &[i64],
     line: &'a [u8],
 ) -> Option<&'a [u8]>
-    ensures { option_map (λ rest. rest.now) result ≡ behind_entry p.now (InputAt time topic value.now) line.now }
+    ensures { option_map (λ rest. rest.now) result
+        ≡ behind_entry p.now (InputAt time topic value.now) line.now }
 {
     let event = behind_time(time, line)?;
     let name = behind(event, b" input ")?;
@@ -213,7 +219,8 @@ fn behind_firing<'a>(
     line: &'a [u8],
 ) -> Option<&'a [u8]>
     requires { node < length p.now.nodes }
-    ensures { option_map (λ rest. rest.now) result ≡ behind_entry p.now (FireAt time node draft.now enabled) line.now }
+    ensures { option_map (λ rest. rest.now) result
+        ≡ behind_entry p.now (FireAt time node draft.now enabled) line.now }
 {
     let event = behind_time(time, line)?;
     let name = behind_firing_word(enabled, event)?;
@@ -228,7 +235,8 @@ fn behind_decision<'a>(
     mode: Mode,
     line: &'a [u8],
 ) -> Option<&'a [u8]>
-    ensures { option_map (λ rest. rest.now) result ≡ behind_entry p.now (DecideAt time «module» mode) line.now }
+    ensures { option_map (λ rest. rest.now) result
+        ≡ behind_entry p.now (DecideAt time «module» mode) line.now }
 {
     let event = behind_time(time, line)?;
     let name = behind(event, b" decide ")?;
@@ -245,7 +253,8 @@ fn behind_tick<'a>(
 ) -> Option<&'a [u8]>
     requires noise { length noise.now ≡ noise_count p.now.plants }
     requires states { length states.now ≡ state_count p.now.plants }
-    ensures { option_map (λ rest. rest.now) result ≡ behind_entry p.now (TickAt time noise.now states.now) line.now }
+    ensures { option_map (λ rest. rest.now) result
+        ≡ behind_entry p.now (TickAt time noise.now states.now) line.now }
 {
     let event = behind_time(time, line)?;
     let moves = behind(event, b" tick")?;
@@ -254,7 +263,8 @@ fn behind_tick<'a>(
 
 fn behind_entry<'a>(p: &Typed, entry: &Entry<'_>, line: &'a [u8]) -> Option<&'a [u8]>
     requires { FitsEntry p.now (entry_of entry.now) }
-    ensures { option_map (λ rest. rest.now) result ≡ behind_entry p.now (entry_of entry.now) line.now }
+    ensures { option_map (λ rest. rest.now) result
+        ≡ behind_entry p.now (entry_of entry.now) line.now }
 {
     match entry {
         Entry::Input { time, topic, value } => behind_input(p, *time, *topic, value, line),

@@ -1,6 +1,7 @@
 //! The front of a line, read as far as it shows what the line can spell.
 
-ghost use Rattle.std.specs.Prelude.{◌≡◌, ◌++◌, ℕ, ◌<◌, ℤ, pos, [], List, Bool, IfOk, IfSome, length};
+ghost use Rattle.std.specs.Prelude.{◌≡◌, ◌++◌, ℕ, ◌<◌, ℤ, pos, [], List, Bool, IfOk, IfSome};
+ghost use Rattle.std.specs.Prelude.{length};
 ghost use Rattle.std.specs.Option.{option_map};
 ghost use Rattle.sot_trace.specs.Lines.{firing_word};
 ghost use Rattle.sot_trace.specs.Words.{AreWords};
@@ -18,7 +19,8 @@ use std::alloc::AllocError;
 
 // The text behind the word of a firing, enabled or not.
 fn behind_firing(text: &[u8]) -> Option<&[u8]>
-    ensures { IfSome result (λ rest. (enabled : Bool) × (text.now ≡ firing_word enabled ++ rest.now)) }
+    ensures { IfSome result (λ rest. (enabled : Bool)
+        × (text.now ≡ firing_word enabled ++ rest.now)) }
 {
     if let Some(rest) = behind(text, b" fire ") {
         return Some(rest);
@@ -28,7 +30,8 @@ fn behind_firing(text: &[u8]) -> Option<&[u8]>
 
 // The node of a firing, behind its word. What stands behind the node's name is not looked at.
 fn firing_front(p: &Typed, time: Option<i64>, text: &[u8], from: &mut usize) -> Option<Front>
-    ensures { (t : ℕ) (enabled : Bool) (list : List ℤ) → time ≡ bounded (pos t) → ShowsFront p.now list result (fire_at p.now enabled t text.now) }
+    ensures { (t : ℕ) (enabled : Bool) (list : List ℤ) → time ≡ bounded (pos t)
+        → ShowsFront p.now list result (fire_at p.now enabled t text.now) }
 {
     let word = word_at(text);
     let node = node_named(p, word.name, from)?;
@@ -53,7 +56,8 @@ fn event_front(
     numbers: &mut Vec<i64>,
 ) -> Result<Option<Front>, AllocError>
     requires { numbers.old.items ≡ [] }
-    ensures { IfOk result (λ f. (t : ℕ) → time ≡ bounded (pos t) → ShowsFront p.now numbers.new.items f (event_at p.now t text.now)) }
+    ensures { IfOk result (λ f. (t : ℕ) → time ≡ bounded (pos t)
+        → ShowsFront p.now numbers.new.items f (event_at p.now t text.now)) }
 {
     if let Some(rest) = behind_firing(text) {
         return Ok(firing_front(p, time, rest, from));
@@ -82,9 +86,10 @@ fn front(
     event_front(p, time.value, time.rest, from, numbers)
 }
 
-/// What is looked at first of a line, none where it is spelled as no line that stands behind the start lines. Of a line that begins as
-/// a firing or a tick does, this is its time, and a firing's node, whether it is spelled so to its end or not, and of any other line what
-/// [`read_line`] tells of it, with the same place and list, and the same error.
+/// What is looked at first of a line, none where it is spelled as no line that stands behind the
+/// start lines. Of a line that begins as a firing or a tick does, this is its time, and a firing's
+/// node, whether it is spelled so to its end or not, and of any other line what [`read_line`] tells
+/// of it, with the same place and list, and the same error.
 ///
 /// [`read_line`]: crate::read_line
 pub fn read_front(

@@ -1,7 +1,8 @@
 //! The lines of a trace, read.
 //!
-//! [`Lines`] lends the lines of a text, and [`read_line`] reads one line as a line of a trace: what it spells, whether it is true of a
-//! flight or not; [`read_front`] stops where a firing's node is known. [`is_line_of`] tells whether a line is that of an entry.
+//! [`Lines`] lends the lines of a text, and [`read_line`] reads one line as a line of a trace: what
+//! it spells, whether it is true of a flight or not; [`read_front`] stops where a firing's node is
+//! known. [`is_line_of`] tells whether a line is that of an entry.
 #![tactic(auto)]
 
 mod entry;

@@ -9,8 +9,9 @@ ghost use Rattle.sot_trace_lines.specs.LentLines.{without_end};
 use sot_text::line_len;
 use std::marker::Model;
 
-/// Lends the lines of a text in order, each once, without its line end. That is an LF, together with a CR directly before it; the last
-/// line may have none, and then a CR at its end is a byte like any other.
+/// Lends the lines of a text in order, each once, without its line end. That is an LF, together
+/// with a CR directly before it; the last line may have none, and then a CR at its end is a byte
+/// like any other.
 #[derive(Drop)]
 pub struct Lines<'t> {
     rest: &'t [u8],

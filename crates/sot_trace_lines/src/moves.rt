@@ -26,7 +26,8 @@ fn move_at<'a>(
     whole: bool,
     numbers: &mut Vec<i64>,
 ) -> Result<Option<Row<'a>>, AllocError>
-    ensures { IfOk result (λ read. option_map (λ r. ((numbers.new.items, r.whole), r.rest.now)) read ≡ kept_noise (numbers.old.items, whole) (move_at plant.now text.now)) }
+    ensures { IfOk result (λ read. option_map (λ r. ((numbers.new.items, r.whole), r.rest.now)) read
+        ≡ kept_noise (numbers.old.items, whole) (move_at plant.now text.now)) }
 {
     let Some(front) = move_front(plant, text) else {
         return Ok(None);
@@ -52,7 +53,8 @@ pub fn moves_at<'a>(
     text: &'a [u8],
     numbers: &mut Vec<i64>,
 ) -> Result<Option<Row<'a>>, AllocError>
-    ensures { IfOk result (λ read. option_map (λ r. ((numbers.new.items, r.whole), r.rest.now)) read ≡ kept_noise (numbers.old.items, true) (moves_at plants.now text.now)) }
+    ensures { IfOk result (λ read. option_map (λ r. ((numbers.new.items, r.whole), r.rest.now)) read
+        ≡ kept_noise (numbers.old.items, true) (moves_at plants.now text.now)) }
 {
     let (_, mut rest) = text.split_at(0);
     let mut whole = true;

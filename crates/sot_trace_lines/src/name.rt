@@ -9,7 +9,8 @@ ghost use Rattle.sot_lang.specs.TableRules.{MeetsTableRules};
 ghost use Rattle.sot_lang.specs.declared.tables.TopicInfo.{TopicInfo as Topic};
 ghost use Rattle.sot_lang.specs.declared.tables.NodeInfo.{NodeInfo as Node};
 ghost use Rattle.sot_lang.specs.declared.tables.ModuleInfo.{ModuleInfo as Module};
-ghost use Rattle.sot_trace_lines.specs.Readers.{word_at, place_of, topic_named, node_named, module_named};
+ghost use Rattle.sot_trace_lines.specs.Readers.{word_at, place_of, topic_named, node_named};
+ghost use Rattle.sot_trace_lines.specs.Readers.{module_named};
 
 use sot_lang::{ModuleInfo, NodeInfo, TopicInfo, Typed};
 
@@ -75,8 +76,8 @@ fn topic_place(p: &Typed, from: usize, name: &[u8]) -> Option<usize>
     topic_among(&p.topics, name)
 }
 
-/// The topic of that name, looked for in this place and behind it, and then among all. Where it is there, the next one is looked
-/// for behind it.
+/// The topic of that name, looked for in this place and behind it, and then among all. Where it is
+/// there, the next one is looked for behind it.
 pub fn topic_named(p: &Typed, name: &[u8], from: &mut usize) -> Option<u32>
     ensures value { result ≡ topic_named p.now name.now }
     ensures there { IfSome result (λ k. k < length p.now.topics) }
@@ -112,8 +113,8 @@ fn node_place(p: &Typed, from: usize, name: &[u8]) -> Option<usize>
     node_among(&p.nodes, name)
 }
 
-/// The node of that name, looked for in this place and behind it, and then among all. Where it is there, the next one is looked
-/// for behind it.
+/// The node of that name, looked for in this place and behind it, and then among all. Where it is
+/// there, the next one is looked for behind it.
 pub fn node_named(p: &Typed, name: &[u8], from: &mut usize) -> Option<u32>
     ensures value { result ≡ node_named p.now name.now }
     ensures there { IfSome result (λ n. n < length p.now.nodes) }
@@ -149,8 +150,8 @@ fn module_place(p: &Typed, from: usize, name: &[u8]) -> Option<usize>
     module_among(&p.modules, name)
 }
 
-/// The module of that name, looked for in this place and behind it, and then among all. Where it is there, the next one is looked
-/// for behind it.
+/// The module of that name, looked for in this place and behind it, and then among all. Where it is
+/// there, the next one is looked for behind it.
 pub fn module_named(p: &Typed, name: &[u8], from: &mut usize) -> Option<u32>
     ensures { result ≡ module_named p.now name.now }
 {

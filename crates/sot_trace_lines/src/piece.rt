@@ -1,11 +1,13 @@
 //! Pieces of a line, each read from the front of a text.
 
-ghost use Rattle.std.specs.Prelude.{◌≡◌, ◌∷◌, [], ℕ, ℤ, pos, ◌+◌, ◌-◌, ◌<◌, ◌≤◌, ◌^◌, min, List, length, Some, IsTrue, ◌↔◌, IfSome, IfNone};
+ghost use Rattle.std.specs.Prelude.{◌≡◌, ◌∷◌, [], ℕ, ℤ, pos, ◌+◌, ◌-◌, ◌<◌, ◌≤◌, ◌^◌, min, List};
+ghost use Rattle.std.specs.Prelude.{length, Some, IsTrue, ◌↔◌, IfSome, IfNone};
 ghost use Rattle.std.specs.List.{prefix_len};
 ghost use Rattle.std.specs.Char.{is_ascii_digit};
 ghost use Rattle.std.specs.Option.{option_map};
 ghost use Rattle.sot_text.specs.Lexeme.{value, with_digits};
-ghost use Rattle.sot_trace_lines.specs.Pieces.{behind, is_plain, digits_at, minus, numeral_at, positive_at, negative_at, number_at};
+ghost use Rattle.sot_trace_lines.specs.Pieces.{behind, is_plain, digits_at, minus, numeral_at};
+ghost use Rattle.sot_trace_lines.specs.Pieces.{positive_at, negative_at, number_at};
 ghost use Rattle.sot_trace_lines.specs.Kept.{bounded, kept_numeral, kept_number};
 
 // Digits, and the text behind them.
@@ -42,7 +44,8 @@ pub fn behind_byte(text: &[u8], byte: u8) -> Option<&[u8]>
     }
 }
 
-/// The text behind these bytes, if they stand in front. It is inlined, so that bytes that are known beforehand are compared at once.
+/// The text behind these bytes, if they stand in front. It is inlined, so that bytes that are known
+/// beforehand are compared at once.
 #[inline(always)]
 pub fn behind<'a>(text: &'a [u8], front: &[u8]) -> Option<&'a [u8]>
     ensures { option_map (λ rest. rest.now) result ≡ behind front.now text.now }
@@ -176,7 +179,8 @@ fn negative_at<'a>(text: &'a [u8]) -> Option<Number<'a>>
 
 fn below_one_digit(digit: u8, rest: &[u8]) -> Option<Number<'_>>
     requires { digit < 10 }
-    ensures { (text : List ℕ) → numeral_at text ≡ Some (digit, rest.now) → option_map (λ n. (n.value, n.rest.now)) result ≡ kept_number (negative_at text) }
+    ensures { (text : List ℕ) → numeral_at text ≡ Some (digit, rest.now)
+        → option_map (λ n. (n.value, n.rest.now)) result ≡ kept_number (negative_at text) }
 {
     if digit == 0 {
         return None;

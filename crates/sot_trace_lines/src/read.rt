@@ -1,10 +1,12 @@
 //! A line, read as what it spells.
 
-ghost use Rattle.std.specs.Prelude.{◌≡◌, ℕ, ◌<◌, ℤ, pos, [], List, Option, Some, None, if◌then◌else◌, is_some, IfOk};
+ghost use Rattle.std.specs.Prelude.{◌≡◌, ℕ, ◌<◌, ℤ, pos, [], List, Option, Some, None};
+ghost use Rattle.std.specs.Prelude.{if◌then◌else◌, is_some, IfOk};
 ghost use Rattle.sot_trace.specs.Lines.{writes_of};
 ghost use Rattle.sot_trace.specs.Words.{AreWords};
 ghost use Rattle.sot_trace_lines.specs.Shown.{AnswersLine};
-ghost use Rattle.sot_trace_lines.specs.Readers.{value_at, input_at, fire_at, mode_of, decide_at, tick_at, counts_at, event_at, spelled_at};
+ghost use Rattle.sot_trace_lines.specs.Readers.{value_at, input_at, fire_at, mode_of, decide_at};
+ghost use Rattle.sot_trace_lines.specs.Readers.{tick_at, counts_at, event_at, spelled_at};
 ghost use Rattle.sot_trace_lines.specs.Kept.{bounded, ShowsRead};
 
 use crate::line::Line;
@@ -26,7 +28,8 @@ fn read_value(
     numbers: &mut Vec<i64>,
 ) -> Result<Option<Line>, AllocError>
     requires { numbers.old.items ≡ [] }
-    ensures { IfOk result (λ l. (t : ℕ) → time ≡ bounded (pos t) → ShowsRead numbers.new.items l (value_at t topic info.now text.now)) }
+    ensures { IfOk result (λ l. (t : ℕ) → time ≡ bounded (pos t)
+        → ShowsRead numbers.new.items l (value_at t topic info.now text.now)) }
 {
     if !info.outside {
         return Ok(None);
@@ -55,7 +58,8 @@ fn read_input(
     numbers: &mut Vec<i64>,
 ) -> Result<Option<Line>, AllocError>
     requires { numbers.old.items ≡ [] }
-    ensures { IfOk result (λ l. (t : ℕ) → time ≡ bounded (pos t) → ShowsRead numbers.new.items l (input_at p.now t text.now)) }
+    ensures { IfOk result (λ l. (t : ℕ) → time ≡ bounded (pos t)
+        → ShowsRead numbers.new.items l (input_at p.now t text.now)) }
 {
     let word = word_at(text);
     let Some(topic) = topic_named(p, word.name, from) else {
@@ -72,7 +76,8 @@ fn drafted(slots: &Slots<'_>) -> Option<Draft>
 
 // A firing, enabled or not.
 fn read_fire(p: &Typed, time: Option<i64>, text: &[u8], from: &mut usize) -> Option<Line>
-    ensures { (t : ℕ) (enabled : _) (list : List ℤ) → time ≡ bounded (pos t) → ShowsRead list result (fire_at p.now enabled t text.now) }
+    ensures { (t : ℕ) (enabled : _) (list : List ℤ) → time ≡ bounded (pos t)
+        → ShowsRead list result (fire_at p.now enabled t text.now) }
 {
     let word = word_at(text);
     let node = node_named(p, word.name, from)?;
@@ -96,7 +101,8 @@ fn is_mode(text: &[u8]) -> bool
 }
 
 fn read_decision(p: &Typed, time: Option<i64>, text: &[u8], from: &mut usize) -> Option<Line>
-    ensures { (t : ℕ) (list : List ℤ) → time ≡ bounded (pos t) → ShowsRead list result (decide_at p.now t text.now) }
+    ensures { (t : ℕ) (list : List ℤ) → time ≡ bounded (pos t)
+        → ShowsRead list result (decide_at p.now t text.now) }
 {
     let word = word_at(text);
     let decider = module_named(p, word.name, from)?;
@@ -116,7 +122,8 @@ fn read_tick(
     numbers: &mut Vec<i64>,
 ) -> Result<Option<Line>, AllocError>
     requires { numbers.old.items ≡ [] }
-    ensures { IfOk result (λ l. (t : ℕ) → time ≡ bounded (pos t) → ShowsRead numbers.new.items l (tick_at p.now t text.now)) }
+    ensures { IfOk result (λ l. (t : ℕ) → time ≡ bounded (pos t)
+        → ShowsRead numbers.new.items l (tick_at p.now t text.now)) }
 {
     let Some(read) = moves_at(&p.plants, text, numbers)? else {
         return Ok(None);
@@ -152,7 +159,8 @@ pub(crate) fn read_event(
     numbers: &mut Vec<i64>,
 ) -> Result<Option<Line>, AllocError>
     requires { numbers.old.items ≡ [] }
-    ensures { IfOk result (λ l. (t : ℕ) → time ≡ bounded (pos t) → ShowsRead numbers.new.items l (event_at p.now t text.now)) }
+    ensures { IfOk result (λ l. (t : ℕ) → time ≡ bounded (pos t)
+        → ShowsRead numbers.new.items l (event_at p.now t text.now)) }
 {
     if let Some(rest) = behind(text, b" input ") {
         return read_input(p, time, rest, from, numbers);
@@ -190,10 +198,11 @@ fn read(
     read_event(p, time.value, time.rest, from, numbers)
 }
 
-/// What is looked at of a line, none where it is spelled as no line that stands behind the start lines. The list is cleared, and then
-/// holds the value of an input or the disturbances of a tick; only it takes memory, and the error is want of it. What a line names is
-/// looked for from a place on, then among all, and the place is set behind it: lines mostly come in the order of what they name. The
-/// answer is the same from each place.
+/// What is looked at of a line, none where it is spelled as no line that stands behind the start
+/// lines. The list is cleared, and then holds the value of an input or the disturbances of a tick;
+/// only it takes memory, and the error is want of it. What a line names is looked for from a place
+/// on, then among all, and the place is set behind it: lines mostly come in the order of what they
+/// name. The answer is the same from each place.
 pub fn read_line(
     p: &Typed,
     line: &[u8],

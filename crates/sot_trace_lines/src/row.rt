@@ -17,7 +17,8 @@ pub struct Row<'a> {
 
 // Puts a number behind those of the list, and tells whether each so far has 64 bits.
 fn keep(value: Option<i64>, whole: bool, numbers: &mut Vec<i64>) -> Result<bool, AllocError>
-    ensures { IfOk result (λ kept. (numbers.new.items, kept) ≡ put_one (numbers.old.items, whole) value) }
+    ensures { IfOk result (λ kept. (numbers.new.items, kept)
+        ≡ put_one (numbers.old.items, whole) value) }
 {
     match value {
         Some(number) => {
@@ -35,7 +36,8 @@ fn further_at<'a>(
     whole: bool,
     numbers: &mut Vec<i64>,
 ) -> Result<Option<Row<'a>>, AllocError>
-    ensures { IfOk result (λ read. option_map (λ r. ((numbers.new.items, r.whole), r.rest.now)) read ≡ kept_row (numbers.old.items, whole) (further_at count text.now)) }
+    ensures { IfOk result (λ read. option_map (λ r. ((numbers.new.items, r.whole), r.rest.now)) read
+        ≡ kept_row (numbers.old.items, whole) (further_at count text.now)) }
 {
     let (_, mut rest) = text.split_at(0);
     let mut whole = whole;
@@ -52,7 +54,8 @@ fn further_at<'a>(
     Ok(Some(Row { whole, rest }))
 }
 
-/// So many numbers with a comma between two, put behind those of the list as far as they have 64 bits.
+/// So many numbers with a comma between two, put behind those of the list as far as they have 64
+/// bits.
 #[inline(always)]
 pub fn row_at<'a>(
     count: usize,
@@ -60,7 +63,8 @@ pub fn row_at<'a>(
     whole: bool,
     numbers: &mut Vec<i64>,
 ) -> Result<Option<Row<'a>>, AllocError>
-    ensures { IfOk result (λ read. option_map (λ r. ((numbers.new.items, r.whole), r.rest.now)) read ≡ kept_row (numbers.old.items, whole) (row_at count text.now)) }
+    ensures { IfOk result (λ read. option_map (λ r. ((numbers.new.items, r.whole), r.rest.now)) read
+        ≡ kept_row (numbers.old.items, whole) (row_at count text.now)) }
 {
     if count == 0 {
         return Ok(Some(Row { whole, rest: text }));

@@ -61,7 +61,8 @@ fn behind_mark(text: &[u8]) -> Option<&[u8]>
 // The text behind a blank, the scalar's name and its mark.
 fn behind_front<'a>(p: &Typed, scalar: usize, text: &'a [u8]) -> Option<&'a [u8]>
     requires { scalar < length p.now.scalars }
-    ensures { option_map (λ rest. rest.now) result ≡ behind_mark (slot_front p.now scalar text.now) }
+    ensures { option_map (λ rest. rest.now) result
+        ≡ behind_mark (slot_front p.now scalar text.now) }
 {
     let text = behind(text, b" ")?;
     let text = behind_scalar(p, scalar, text)?;
@@ -93,7 +94,8 @@ fn slot_at<'a>(
 ) -> Option<Slot<'a>>
     requires there { scalar < length p.now.scalars }
     requires few { i < 8 }
-    ensures { option_map (λ s. ((draft.new, s.whole), s.rest.now)) result ≡ kept_slot i (draft.old, whole) (slot_number text.now (slot_front p.now scalar text.now)) }
+    ensures { option_map (λ s. ((draft.new, s.whole), s.rest.now)) result
+        ≡ kept_slot i (draft.old, whole) (slot_number text.now (slot_front p.now scalar text.now)) }
 {
     let Some(front) = behind_front(p, scalar, text) else {
         return Some(Slot { whole, rest: text });
@@ -110,7 +112,8 @@ fn slot_at<'a>(
 pub fn slots_at<'a>(p: &Typed, writes: &[u32], text: &'a [u8]) -> Option<Slots<'a>>
     requires few { length writes.now ≤ 8 }
     requires written { (i k : ℕ) → At writes.now i k → k < length p.now.scalars }
-    ensures { option_map (λ s. ((s.draft, s.whole), s.rest.now)) result ≡ kept_slots 0 (replicate 8 None, true) (slots_at p.now writes.now text.now) }
+    ensures { option_map (λ s. ((s.draft, s.whole), s.rest.now)) result
+        ≡ kept_slots 0 (replicate 8 None, true) (slots_at p.now writes.now text.now) }
 {
     let (_, mut rest) = text.split_at(0);
     let mut draft = Draft::blank();

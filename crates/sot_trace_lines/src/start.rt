@@ -52,7 +52,8 @@ fn is_spelled(p: &Typed, line: &[u8]) -> bool
     }
 }
 
-/// Whether a line is spelled as a start line: of a plant that is there, with a number for each of its state variables.
+/// Whether a line is spelled as a start line: of a plant that is there, with a number for each of
+/// its state variables.
 pub fn is_start_line(p: &Typed, line: &[u8]) -> bool
     ensures { IsTrue result ↔ IsStartLine p.now line.now }
 {

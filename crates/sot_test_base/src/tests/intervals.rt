@@ -1,4 +1,5 @@
-//! The least intervals of operators: rows that were worked by hand, and small ranges against all their points.
+//! The least intervals of operators: rows that were worked by hand, and small ranges against all
+//! their points.
 
 ghost use Rattle.std.specs.Prelude.{◌≡◌};
 ghost use Rattle.sot_lang.specs.TermPlaces.{HasPlaces};
@@ -119,7 +120,8 @@ fn intervals(alloc: Global, low: i64, high: i64) -> Result<Vec<Ends>, AllocError
     Ok(all)
 }
 
-/// The first ranges where the interval is not the hull of the results, or where it is given though some operands trap.
+/// The first ranges where the interval is not the hull of the results, or where it is given though
+/// some operands trap.
 fn first_difference(
     term: &Term,
     form: Form,

@@ -1,4 +1,5 @@
-//! What operators give at numbers, in plain arithmetic: a reading of the rules beside the one that is proved.
+//! What operators give at numbers, in plain arithmetic: a reading of the rules beside the one that
+//! is proved.
 
 use crate::tests::forms::Form;
 use sot_tree::{Func, Op};

@@ -13,7 +13,8 @@ fn number(row: &str, place: usize) -> u32 {
     row.split(' ').nth(place).unwrap_or("").parse().unwrap_or(0)
 }
 
-// The room of a piece, the read that fails (0: none) and the limit; then what `read_all` gives of five letters, and what the next read gives.
+// The room of a piece, the read that fails (0: none) and the limit; then what `read_all` gives of
+// five letters, and what the next read gives.
 const READS: &str = "2 0 5 => abcde, then nothing
 9 0 6 => abcde, then nothing
 9 0 4 => TooLong, then nothing
@@ -59,7 +60,8 @@ fn reads_to_the_end_or_says_why_not(rt: HostRuntime) {
     assert!(rt; all.is_ok_and(|all| all.as_slice() == b"abcde".as_slice()));
 }
 
-// The room of a sink, that of a piece and the write that fails (0: none); then how a write of five letters ends, and what the sink holds.
+// The room of a sink, that of a piece and the write that fails (0: none); then how a write of five
+// letters ends, and what the sink holds.
 const WRITES: &str = "9 2 0 => whole: abcde
 5 9 0 => whole: abcde
 9 2 2 => 2: ab
@@ -146,7 +148,8 @@ impl Write for Script<'_> {
     }
 }
 
-// How an outside answers by turns, and what two counted calls of it say and count. A write that took a byte is flushed, and only such a one.
+// How an outside answers by turns, and what two counted calls of it say and count. A write that
+// took a byte is flushed, and only such a one.
 const COUNTED: &str = "read oo => Ok(1) Ok(1) 0
 read ze => Ok(0) Err(Failed) 1
 read ee => Err(Failed) Err(Failed) 2

@@ -1,4 +1,5 @@
-//! Regions before and after they are settled: the same questions have the same answers, worked by hand.
+//! Regions before and after they are settled: the same questions have the same answers, worked by
+//! hand.
 
 ghost use Rattle.std.specs.Prelude.{◌≡◌, length};
 
@@ -39,8 +40,8 @@ fn ask(rt: &impl Abort, region: &Region, worked: &Worked<'_>)
     same(rt, "hull", region.hull(), box_of(worked.hull));
 }
 
-/// Asks before and after the region is settled, and once more after it is settled again. Where there is
-/// no memory for an index the answers are the same.
+/// Asks before and after the region is settled, and once more after it is settled again. Where
+/// there is no memory for an index the answers are the same.
 fn ask_settled(rt: &impl Abort, region: &mut Region, worked: &Worked<'_>)
     requires { region.old.width ≡ 2 }
     ensures { region.new.width ≡ 2 }

@@ -38,7 +38,8 @@ impl Tally {
     pub(crate) fn add(&mut self, number: u64) -> Result<(), AllocError>
         ensures base { self.new.base ≡ self.old.base }
         ensures goes_on { IsPrefix self.old.numbers.items self.new.numbers.items }
-        ensures ok { IfOk result (λ _. self.new.numbers.items ≡ self.old.numbers.items ++ number ∷ []) }
+        ensures ok { IfOk result (λ _. self.new.numbers.items
+            ≡ self.old.numbers.items ++ number ∷ []) }
     {
         self.numbers.push(number)?;
         Ok(())

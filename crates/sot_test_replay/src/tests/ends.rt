@@ -1,7 +1,8 @@
 //! Where lines end, where a trace ends, and bytes that are no text.
 use super::*;
 
-// The trace of the windy flight, with this end behind each line but the last, and with the last one's.
+// The trace of the windy flight, with this end behind each line but the last, and with the last
+// one's.
 fn with_ends(alloc: Global, end: &str, last: &str) -> Result<String, AllocError> {
     let mut text = String::new(alloc);
     for i in 0..BRAKED.len() {

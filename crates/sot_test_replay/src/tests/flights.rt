@@ -1,5 +1,5 @@
-//! Whole flights, whose traces are legal: a switch and a return, a seed, drafts that are refused, also of an idle node, and one of
-//! nothing. What is flown is a trace too.
+//! Whole flights, whose traces are legal: a switch and a return, a seed, drafts that are refused,
+//! also of an idle node, and one of nothing. What is flown is a trace too.
 ghost use Rattle.sot_flight.specs.Fits.{FitsFlight};
 ghost use Rattle.sot_workers.specs.Flying.{HasNoGuests};
 

@@ -11,7 +11,8 @@ const ROWS: [(&str, u32, &str); 9] = [
     (" cmd=7", 1, "refused line 7 Differs"),
     (" cmd!2", 0, "refused line 7 Differs"),
     (" cmd!7", 0, "refused line 9 Differs"),
-    // No guest hands over a number of more than 64 bits. The independent program, whose numbers have any length, lets it pass.
+    // No guest hands over a number of more than 64 bits. The independent program, whose numbers
+    // have any length, lets it pass.
     (" cmd!9223372036854775808", 1, "refused line 7 Differs"),
 ];
 

@@ -1,4 +1,5 @@
-//! Inputs, which come in the flight's order and at their times, before or after what fires in their instant.
+//! Inputs, which come in the flight's order and at their times, before or after what fires in their
+//! instant.
 use super::*;
 
 // A node that copies what comes from outside, and a flight with one input.

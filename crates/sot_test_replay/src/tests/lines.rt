@@ -16,8 +16,8 @@ use std::process::Abort;
 
 const LONGEST: usize = 16_777_216;
 
-// An environment topic and one that nodes write, both records, a topic of one number, a plant of two state variables, and one
-// without disturbances.
+// An environment topic and one that nodes write, both records, a topic of one number, a plant of
+// two state variables, and one without disturbances.
 const MISSION: &str = "environment topic wind: {east: int[0..9], north: int[-9..9]} = {0, 0};
 topic cmd: int[-2..2] = 0;
 topic lamp: {level: int[0..9], warn: bool} = {0, false};
@@ -64,7 +64,8 @@ fn push_row(numbers: &[i64], whole: bool, text: &mut String) -> Result<(), Alloc
     text.push_str(more)
 }
 
-// Adds the numbers of a draft, each behind its place, or `large` where some number has more than 64 bits.
+// Adds the numbers of a draft, each behind its place, or `large` where some number has more than 64
+// bits.
 fn push_draft(draft: &Option<Draft>, text: &mut String) -> Result<(), AllocError> {
     let Some(draft) = draft else {
         return text.push_str(" large");

@@ -1,7 +1,8 @@
 //! Whole traces of flights, in the orders that a flight may take.
 use super::*;
 
-// At time 4 the safe node fires before the decision, so the command of before is held for one tick more.
+// At time 4 the safe node fires before the decision, so the command of before is held for one tick
+// more.
 const HELD: [&str; 15] = [
     "soter trace 1",
     "start pos 10",

@@ -1,5 +1,5 @@
-//! The double integrator: verdicts, its cells, and a run into a corner of its safe region. All numbers were worked out by hand, and
-//! again by a program that was written from the rules alone.
+//! The double integrator: verdicts, its cells, and a run into a corner of its safe region. All
+//! numbers were worked out by hand, and again by a program that was written from the rules alone.
 
 ghost use Rattle.std.specs.Prelude.{◌≡◌, ◌≤ℤ◌, ◌∷◌, [], pos, negsuc, IfOk};
 ghost use Rattle.sot_test_missions.specs.Double.{IsDouble};
@@ -88,7 +88,8 @@ fn opened<'a>(alloc: Global, p: &Typed, acc: &'a Accepted<'a>) -> Result<World<'
     Ok(world)
 }
 
-// The greatest command and disturbance, each time before the decision, so that the command still holds for a period after it.
+// The greatest command and disturbance, each time before the decision, so that the command still
+// holds for a period after it.
 fn event(i: usize) -> Event<'static> {
     match i {
         0 | 7 => Event::Decide { module: 0 },

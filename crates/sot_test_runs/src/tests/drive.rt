@@ -29,7 +29,8 @@ fn has_noise(plants: &[PlantInfo], noise: &[i64]) -> bool
 }
 
 fn has_code(p: &Typed, node: u32) -> bool
-    ensures { IsTrue result → (info : NodeInfo) × (acts : List Act) × At p.now.nodes node info × IsCoded info acts }
+    ensures { IsTrue result → (info : NodeInfo) × (acts : List Act) × At p.now.nodes node info
+        × IsCoded info acts }
 {
     if node as usize >= p.nodes.len() {
         return false;
@@ -67,7 +68,8 @@ fn names(p: &Typed, e: &Event<'_>) -> bool
     }
 }
 
-// Steps by an event that can happen now, and else tells why not. `None` where the event names nothing.
+// Steps by an event that can happen now, and else tells why not. `None` where the event names
+// nothing.
 pub(super) fn happen(p: &Typed, w: &mut World<'_>, e: &Event<'_>) -> Option<Result<Outcome, Why>>
     requires { w.old.accepted.program ≡ p.now }
     ensures { w.new.accepted.program ≡ p.now }

@@ -1,13 +1,15 @@
 //! Verdicts on certificates with so many cells that several threads check them.
 
-// Worked out by hand: from [-40..40] the safe node may draft -2 and 2, so one tick leads to [-43..43].
+// Worked out by hand: from [-40..40] the safe node may draft -2 and 2, so one tick leads to
+// [-43..43].
 use super::verdicts::{Answer, closed_leaves, judges, side};
 use sot_box::Interval;
 use std::alloc::{AllocError, Global};
 use std::process::Abort;
 use std::thread::Threads;
 
-// The three closed cells of the vehicle in turn until there are 4,096, and at these places one cell that is all of the region.
+// The three closed cells of the vehicle in turn until there are 4,096, and at these places one cell
+// that is all of the region.
 fn in_turn(alloc: Global, wide: &[usize]) -> Result<Vec<Interval>, AllocError> {
     let mut cells = Vec::new(alloc);
     for i in 0..4096usize {

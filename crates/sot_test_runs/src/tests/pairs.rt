@@ -1,7 +1,7 @@
 //! The vehicle beside a battery: verdicts, and one instant in all its orders.
 
-// The vehicle beside a battery that sees it. All numbers were worked out by hand, and those of the checks again by a program that
-// was written from the rules alone.
+// The vehicle beside a battery that sees it. All numbers were worked out by hand, and those of the
+// checks again by a program that was written from the rules alone.
 ghost use Rattle.std.specs.Prelude.{◌≡◌, ◌≤ℤ◌, ◌∷◌, [], pos, IfOk};
 ghost use Rattle.sot_test_missions.specs.Pair.{IsPair};
 
@@ -89,7 +89,8 @@ fn opened<'a>(alloc: Global, p: &Typed, acc: &'a Accepted<'a>) -> Result<World<'
     Ok(world)
 }
 
-// What is due at first: both decisions, then the nodes. The advanced ones draft the most that is in their ranges.
+// What is due at first: both decisions, then the nodes. The advanced ones draft the most that is in
+// their ranges.
 fn event(i: usize) -> Event<'static> {
     match i {
         0 => Event::Decide { module: 0 },
@@ -153,8 +154,8 @@ fn ticked(
     (w.state(0), w.state(1))
 }
 
-// Where they should be. The command 2 stands where `fast` fires in mode Ac, and the height falls where `down` and `up` both fire
-// in mode Sc.
+// Where they should be. The command 2 stands where `fast` fires in mode Ac, and the height falls
+// where `down` and `up` both fire in mode Sc.
 fn wanted(order: &[usize; 6]) -> (Point, Point) {
     let x = if is_before(order, 0, 2) { 3 } else { 1 };
     let falls = is_before(order, 4, 1) && is_before(order, 5, 1);

@@ -1,7 +1,7 @@
 //! Verdicts on the vehicle on a line and on divisions.
 
-// What is accepted, and for what the rest is refused. The evidence was worked out by hand, and again by a program that was
-// written from the rules alone.
+// What is accepted, and for what the rest is refused. The evidence was worked out by hand, and
+// again by a program that was written from the rules alone.
 ghost use Rattle.std.specs.Prelude.{◌≤ℤ◌, ◌∷◌, [], ◌≡◌};
 ghost use Rattle.sot_lang.specs.CertRules.{FitsTables};
 ghost use Rattle.sot_test_runs.specs.Entries.{FitsAll};

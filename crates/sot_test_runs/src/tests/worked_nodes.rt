@@ -1,4 +1,5 @@
-//! The nodes and the plant of worked missions, run and looked at for traps. What they should do was worked out by hand.
+//! The nodes and the plant of worked missions, run and looked at for traps. What they should do was
+//! worked out by hand.
 ghost use Rattle.std.specs.Prelude.{◌≡◌, ◌∷◌, []};
 ghost use Rattle.sot_code.specs.Recorded.{MayRun};
 

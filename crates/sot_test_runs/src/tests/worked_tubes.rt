@@ -1,5 +1,5 @@
-//! Tubes of the vehicle on a line. All numbers were worked out by hand, and again by a program that was written from the rules
-//! alone.
+//! Tubes of the vehicle on a line. All numbers were worked out by hand, and again by a program that
+//! was written from the rules alone.
 ghost use Rattle.std.specs.Prelude.{◌≡◌, ◌∷◌, [], IfSome, length};
 
 use super::worlds::at;
@@ -105,7 +105,8 @@ const ANY: &str = "-10..10 for 8: inside
 -40..40 for 0: inside
 -41..40 for 0: 0 at -41..40";
 
-// Tubes with held commands: the places with the commands, how many ticks, and where the tube leaves.
+// Tubes with held commands: the places with the commands, how many ticks, and where the tube
+// leaves.
 const HELD: &str = "-40..40 by -2..2 for 0: inside
 -40..40 by -2..2 for 2: 1 at -43..43
 -40..-11 by 2..2 for 2: inside

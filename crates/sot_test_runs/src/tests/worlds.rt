@@ -1,5 +1,5 @@
-//! The vehicle on a line, opened and stepped. What comes of each step was worked out by hand, and the flight again by a program
-//! that was written from the rules alone.
+//! The vehicle on a line, opened and stepped. What comes of each step was worked out by hand, and
+//! the flight again by a program that was written from the rules alone.
 
 ghost use Rattle.std.specs.Prelude.{◌≡◌, ◌∷◌, [], IfOk};
 ghost use Rattle.sot_lang.specs.CertRules.{FitsTables};
@@ -174,7 +174,8 @@ fn ask(p: &Typed, w: &mut World<'_>, name: u32, v: i64) -> Option<Result<Outcome
 
 type Step = (u32, Result<Outcome, Why>, View);
 
-// What is asked of a world, what it answers and how it is then. The advanced node drafts `v`, and then the command is `cmd`.
+// What is asked of a world, what it answers and how it is then. The advanced node drafts `v`, and
+// then the command is `cmd`.
 fn plan(v: i64, cmd: i64, x: i64) -> [Step; 10] {
     [
         (CALM, Err(Why::NodesLeft), opening()),
@@ -245,7 +246,8 @@ fn a_draft_outside_its_range_is_recorded_alone(rt: HostRuntime) {
     steps(&rt, rt.alloc(), 7, &plan(7, 0, 1));
 }
 
-// The safe node, then the advanced one with a draft of 2, then a calm tick: each where it can happen.
+// The safe node, then the advanced one with a draft of 2, then a calm tick: each where it can
+// happen.
 fn fly(p: &Typed, w: &mut World<'_>)
     requires { w.old.accepted.program ≡ p.now }
     ensures { w.new.accepted.program ≡ p.now }

@@ -1,5 +1,5 @@
-//! What texts say as certificates of the worked missions, and their first faults. Expected answers come from an independent
-//! reader of the format.
+//! What texts say as certificates of the worked missions, and their first faults. Expected answers
+//! come from an independent reader of the format.
 mod bytes;
 mod faults;
 mod limits;

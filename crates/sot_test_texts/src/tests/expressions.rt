@@ -7,9 +7,9 @@ use std::alloc::{AllocError, Global};
 use std::mem::size_of;
 use std::process::Abort;
 
-// How much room there is, a text, and what is read: the tree, or the fault, and the column of the next
-// token. Each word of a tree stands in front of its parts, with the column of its token; a number is its digits and
-// its count of decimals.
+// How much room there is, a text, and what is read: the tree, or the fault, and the column of the
+// next token. Each word of a tree stands in front of its parts, with the column of its token; a
+// number is its digits and its count of decimals.
 const READ: &str = "64 | 7 => 7e0@1 at end
 64 | -1.25 => -125e2@1 at end
 64 | - 3 => -3e0@1 at end

@@ -4,7 +4,8 @@ use sot_sections::{Need, split};
 use std::alloc::Global;
 use std::process::Abort;
 
-// Texts with their parts, or the line and the kind of their fault: where the certificate is needed, the flight too, and the trace too.
+// Texts with their parts, or the line and the kind of their fault: where the certificate is needed,
+// the flight too, and the trace too.
 const CHECK: &str = r#" => 1 Missing
 a\n%certificate\nb\n => "a\n" "b\n" None None
 a\r\n%certificate\r\nb\r\n => "a\r\n" "b\r\n" None None

@@ -1,4 +1,5 @@
-//! The theorems of these crates are functions without work. Each is called, so that it is known to be callable.
+//! The theorems of these crates are functions without work. Each is called, so that it is known to
+//! be callable.
 use sot_expression::{expressions_are_unique, reads_each_expression, reads_only_expressions};
 use sot_parser::programs_are_unique;
 use sot_print::{

@@ -6,7 +6,8 @@ use std::process::Abort;
 
 const TEXT: &str = "topic x1: int[-2..\n\t2.5] # c := d\n  :=_9";
 
-// The tokens of that text, by kind, with the line and the column where each stands, and how many bytes there are up to its end.
+// The tokens of that text, by kind, with the line and the column where each stands, and how many
+// bytes there are up to its end.
 const TOKENS: &str = "Keyword topic 1:1 5
 Name x1 1:7 8
 Sign : 1:9 9
@@ -20,7 +21,8 @@ Sign ] 2:5 24
 Sign := 3:3 38
 Name _9 3:5 40";
 
-// Texts, with the length of their first token, or 0 at their end, or their fault and where it stands.
+// Texts, with the length of their first token, or 0 at their end, or their fault and where it
+// stands.
 const FIRST: &str = r#" => 0
  \t\r\n# to the end of its line => 0
 # "\n!= => 2

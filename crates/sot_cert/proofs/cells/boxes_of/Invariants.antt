@@ -6,4 +6,6 @@ use Rattle.sot_cert.specs.CertFormat.{cell}
 use Rattle.sot_cert.proofs.cells.boxes_of.Given as goal
 
 abbrev pub invariant-loop-item : goal.invariant-loop-item
-invariant-loop-item l = (l.found.width ≡ l.width) × (each_after (λ done. cell l.width) l.found.boxes (items_view (drop l.item-index l.item-items)) ≡ each_after (λ done. cell l.width) [] (items_view l.list.items))
+invariant-loop-item l =
+    (l.found.width ≡ l.width) × (each_after (λ done. cell l.width) l.found.boxes (items_view (drop l.item-index l.item-items))
+    ≡ each_after (λ done. cell l.width) [] (items_view l.list.items))

@@ -16,14 +16,16 @@ loop-i-preserved c =
       size = search (rules, l.invariant.size);
       read = subst (λ done. each_after (λ _. side) done (items_view (drop (l.i + 1) c.args.list.now)) ≡ each_after (λ _. side) [] (items_view c.args.list.now))
           (sym (take_more_set l.sides l.i c.in-Ok.side inside))
-          (goes_on (λ done. side) (take l.i l.sides) c.args.list.now l.i c.index-list-i.result c.in-Ok.side _ c.loop-i-test.true c.index-list-i.is c.in-Ok.ensures l.invariant.read);
+          (goes_on (λ done. side) (take l.i l.sides) c.args.list.now l.i c.index-list-i.result c.in-Ok.side _ c.loop-i-test.true c.index-list-i.is
+          c.in-Ok.ensures l.invariant.read);
     }
 
 pub returns-in-Err-clause-says : goal.returns-in-Err-clause-says
 returns-in-Err-clause-says c =
     let l = c.loop-i in
     let some : l.i ≤ length l.sides = omega (arith, l.invariant.size, c.requires, c.loop-i-test.true) in
-    ends (λ done. side) (take l.i l.sides) c.args.list.now l.i c.index-list-i.result c.in-Err.fail c.fault_under_index.result _ c.loop-i-test.true c.index-list-i.is
+    ends (λ done. side) (take l.i l.sides) c.args.list.now l.i c.index-list-i.result c.in-Err.fail c.fault_under_index.result _ c.loop-i-test.true
+    c.index-list-i.is
     (subst (λ n. IsUnder (decimal n) c.in-Err.fail c.fault_under_index.result) (sym (length-take-le l.i l.sides some)) c.fault_under_index.ensures)
     c.in-Err.ensures l.invariant.read
 

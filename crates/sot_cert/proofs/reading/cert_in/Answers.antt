@@ -10,4 +10,6 @@ unfolding cert
 returns-clause-says c = search rules
 
 pub returns-clause-fits : goal.returns-clause-fits
-returns-clause-fits c = cert_fits c.args.p.now c.in_ok-modules.ensures.rules (view c.args.value.now) (record { jitter = c.in_ok-jitter.jitter; modules = c.in_ok-modules.modules }) (returns-clause-says c)
+returns-clause-fits c =
+    cert_fits c.args.p.now c.in_ok-modules.ensures.rules (view c.args.value.now) (record { jitter = c.in_ok-jitter.jitter; modules = c.in_ok-modules.modules })
+    (returns-clause-says c)

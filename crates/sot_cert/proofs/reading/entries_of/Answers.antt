@@ -34,7 +34,8 @@ loop-info-preserved c =
     let is = subst (λ (l : List ModuleInfo). info ≡ get_or l i info) e c.info-item.is in
     let read = rw c.as_str.ensures at (rw c.width_at-width.ensures.value at c.in-Ok.ensures) in
     let on = entries_on plants c.loop-info.found.items infos i info object c.in-Ok.entry (entries plants infos object) lt is read c.loop-info.invariant in
-    subst (λ (l : List (Option Cells)). with_front l (entries plants (drop (i + 1) infos) object) ≡ entries plants infos object) (sym c.in_ok-push-in-Ok.ensures.items) on
+    subst (λ (l : List (Option Cells)). with_front l (entries plants (drop (i + 1) infos) object) ≡ entries plants infos object)
+    (sym c.in_ok-push-in-Ok.ensures.items) on
 
 pub returns-in-Err-clause-says : goal.returns-in-Err-clause-says
 returns-in-Err-clause-says c =
@@ -55,4 +56,5 @@ returns-clause-says c =
     let l = c.loop-info in
     let e : c.deref-info-items.result.now ≡ c.args.p.now.modules = c.deref-info-items.ensures.value ∙ ap (λ (t : Tables). t.modules) c.p.view_is in
     let k = ap length e in
-    entries_done c.args.p.now.plants l.found.items c.args.p.now.modules l.info-index (members_view c.args.object.now.entries) _ (omega (arith, k, c.loop-info-test.false)) l.invariant
+    entries_done c.args.p.now.plants l.found.items c.args.p.now.modules l.info-index (members_view c.args.object.now.entries) _
+    (omega (arith, k, c.loop-info-test.false)) l.invariant

@@ -14,5 +14,8 @@ returns-clause-text c =
 pub returns-clause-reads_back : goal.returns-clause-reads_back
 returns-clause-reads_back c =
     let is = c.in_ok-value.ensures in
-    is_json c.in_ok-text.text.items (certificate_data c.args.p.now c.args.cert.now)
-    (c.in_ok-text.ensures.utf8, c.in_ok-text.ensures.reads_back (subst (λ d. depth d ≤ 127) (sym is) (certificate_flat c.args.p.now c.args.cert.now)) ∙ ap Some is)
+    is_json c.in_ok-text.text.items (certificate_data c.args.p.now c.args.cert.now) (
+      c.in_ok-text.ensures.utf8,
+      c.in_ok-text.ensures.reads_back (subst (λ d. depth d ≤ 127) (sym is) (certificate_flat c.args.p.now c.args.cert.now))
+          ∙ ap Some is,
+    )

@@ -4,7 +4,9 @@ use Rattle.sot_certified_text.proofs.Items.{one_more, whole}
 use Rattle.sot_certified_text.proofs.value.cell_value.Goals as goal
 
 pub loop-i-preserved : goal.loop-i-preserved
-loop-i-preserved c = one_more side_data c.args.cell.now c.loop-i.i c.side.result c.loop-i.sides.items c.push.new.self.items c.in_ok-side.side c.side.ensures c.loop-i.invariant c.in_ok-side.ensures c.in_ok-push.ensures.items
+loop-i-preserved c =
+    one_more side_data c.args.cell.now c.loop-i.i c.side.result c.loop-i.sides.items c.push.new.self.items c.in_ok-side.side c.side.ensures c.loop-i.invariant
+    c.in_ok-side.ensures c.in_ok-push.ensures.items
 
 pub returns : goal.returns
 returns c =

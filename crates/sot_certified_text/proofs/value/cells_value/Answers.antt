@@ -4,7 +4,9 @@ use Rattle.sot_certified_text.proofs.Items.{one_more, whole}
 use Rattle.sot_certified_text.proofs.value.cells_value.Goals as goal
 
 pub loop-i-preserved : goal.loop-i-preserved
-loop-i-preserved c = one_more cell_data c.args.cells.now.boxes c.loop-i.i c.at.result c.loop-i.values.items c.push.new.self.items c.in_ok-cell.cell c.at.ensures.place c.loop-i.invariant c.in_ok-cell.ensures c.in_ok-push.ensures.items
+loop-i-preserved c =
+    one_more cell_data c.args.cells.now.boxes c.loop-i.i c.at.result c.loop-i.values.items c.push.new.self.items c.in_ok-cell.cell c.at.ensures.place
+    c.loop-i.invariant c.in_ok-cell.ensures c.in_ok-push.ensures.items
 
 pub returns : goal.returns
 returns c =

@@ -28,10 +28,12 @@ returns-in-Err c =
     let b = c.args.board.now in
     let (t, mode, spelled, reads) = c.requires.spelled in
     let time : t ≡ b.position.at.time = (c.is_now.ensures t reads).0 c.if-not-is_now.false ∙ c.time.ensures in
-    let one = subst (λ (a : Admitted). RefusesDecision a.program a.cert.jitter c.world.result.now.at c.args.module c.in-Err.why) c.world.ensures.accepted c.in-Err.ensures in
+    let one = subst (λ (a : Admitted). RefusesDecision a.program a.cert.jitter c.world.result.now.at c.args.module c.in-Err.why) c.world.ensures.accepted
+    c.in-Err.ensures in
     let two = subst (λ (C : Configuration). RefusesDecision b.accepted.program b.accepted.cert.jitter C c.args.module c.in-Err.why) c.world.ensures.at one in
     subst (λ (k : LineKind). IsFirstFailing b.accepted.program b.accepted.cert.jitter b.plan b.entries b.position c.args.line.now k) (sym c.kind_of.ensures)
-    (refused b.accepted.program b.accepted.cert.jitter b.plan b.entries b.position c.args.line.now (DecideLine t c.args.module mode) spelled time c.in-Err.why two)
+    (refused b.accepted.program b.accepted.cert.jitter b.plan b.entries b.position c.args.line.now (DecideLine t c.args.module mode) spelled time c.in-Err.why
+    two)
 
 pub returns : goal.returns
 returns c =
@@ -47,5 +49,6 @@ returns c =
     let entry = DecideAt b.position.at.time m c.decide.result in
     judged b new (Decide m) entry line c.compare.result logs (decision_handed b.plan b.position.at.time m c.decide.result)
     (subst (λ (x : Admitted). IsCompared x.program entry line c.compare.result) logs.accepted (c.compare.ensures b.entries entry logs.entries))
-    (λ not. differs b.accepted.program b.accepted.cert.jitter b.plan b.entries b.position line (DecideLine t m mode) spelled time (decision_taken b c.is_standing.ensures m a.0 a.1 left) (λ none. none) (λ none. none)
+    (λ not. differs b.accepted.program b.accepted.cert.jitter b.plan b.entries b.position line (DecideLine t m mode) spelled time
+    (decision_taken b c.is_standing.ensures m a.0 a.1 left) (λ none. none) (λ none. none)
     (λ given. not (decision_line b c.is_standing.ensures c.requires.words line t m mode spelled new entry logs given)))

@@ -33,7 +33,8 @@ returns-then-due_input c =
     let (h, events, outside, spelled, reads) = c.requires.spelled in
     let time : h ≡ b.position.at.time = (c.is_now.ensures h reads).0 c.if-not-is_now.false ∙ c.time.ensures in
     let nothing = c.nothing_left.ensures.0 c.if-not-nothing_left.false in
-    inputs_left b.accepted.program b.accepted.cert.jitter b.plan b.entries b.position c.args.line.now (EndLine h events outside) spelled time (end_taken b.accepted.program b.position.at nothing)
+    inputs_left b.accepted.program b.accepted.cert.jitter b.plan b.entries b.position c.args.line.now (EndLine h events outside) spelled time
+    (end_taken b.accepted.program b.position.at nothing)
     (λ none. input_not_due b none (c.due_input.ensures.0 c.if-due_input.true))
 
 pub returns-then-time-horizon : goal.returns-then-time-horizon
@@ -44,7 +45,8 @@ returns-then-time-horizon c =
     let nothing = c.nothing_left.ensures.0 c.if-not-nothing_left.false in
     let none = no_input_due b c.is_standing.ensures (λ due. both_ways c.due_input.result c.if-due_input.false (c.due_input.ensures.1 due)) in
     let horizon : c.horizon.result ≡ b.plan.horizon = c.horizon.ensures ∙ ap (λ (f : Plan). f.horizon) c.flight.ensures in
-    too_far b.accepted.program b.accepted.cert.jitter b.plan b.entries b.position c.args.line.now (EndLine h events outside) spelled time (end_taken b.accepted.program b.position.at nothing) (λ left. left none)
+    too_far b.accepted.program b.accepted.cert.jitter b.plan b.entries b.position c.args.line.now (EndLine h events outside) spelled time
+    (end_taken b.accepted.program b.position.at nothing) (λ left. left none)
     (omega (arith, c.if-time-horizon.true, horizon, c.time-2.ensures))
 
 pub returns-then-eq : goal.returns-then-eq
@@ -55,7 +57,8 @@ returns-then-eq c =
     let none = no_input_due b s (λ due. both_ways c.due_input.result c.if-due_input.false (c.due_input.ensures.1 due)) in
     let horizon : c.horizon.result ≡ b.plan.horizon = c.horizon.ensures ∙ ap (λ (f : Plan). f.horizon) c.flight.ensures in
     let time : b.position.at.time ≡ b.plan.horizon = omega (arith, s.in_time, c.if-time-horizon.false, horizon, c.time-2.ensures) in
-    let told = c.as_bytes.ensures.value ∙ c.in_ok-put_end_line.ensures ∙ ap (λ t. t ++ end_line c.args.counts.ticks c.len-events.result c.args.counts.refused) c.clear.ensures.bytes in
+    let told = c.as_bytes.ensures.value ∙ c.in_ok-put_end_line.ensures
+    ∙ ap (λ t. t ++ end_line c.args.counts.ticks c.len-events.result c.args.counts.refused) c.clear.ensures.bytes in
     let count = c.len-events.ensures ∙ ap (λ (es : List Logged). length es) c.history.ensures in
     let line : c.as_bytes.result.now ≡ last_line b.accepted.program b.entries = told ∙ end_counted c.requires.ticks count c.requires.refused in
     record {
@@ -73,9 +76,11 @@ returns-else-eq c =
     let nothing = c.nothing_left.ensures.0 c.if-not-nothing_left.false in
     let none = no_input_due b s (λ due. both_ways c.due_input.result c.if-due_input.false (c.due_input.ensures.1 due)) in
     let horizon : c.horizon.result ≡ b.plan.horizon = c.horizon.ensures ∙ ap (λ (f : Plan). f.horizon) c.flight.ensures in
-    let told = c.as_bytes.ensures.value ∙ c.in_ok-put_end_line.ensures ∙ ap (λ t. t ++ end_line c.args.counts.ticks c.len-events.result c.args.counts.refused) c.clear.ensures.bytes in
+    let told = c.as_bytes.ensures.value ∙ c.in_ok-put_end_line.ensures
+    ∙ ap (λ t. t ++ end_line c.args.counts.ticks c.len-events.result c.args.counts.refused) c.clear.ensures.bytes in
     let count = c.len-events.ensures ∙ ap (λ (es : List Logged). length es) c.history.ensures in
     let line : c.as_bytes.result.now ≡ last_line b.accepted.program b.entries = told ∙ end_counted c.requires.ticks count c.requires.refused in
-    differs b.accepted.program b.accepted.cert.jitter b.plan b.entries b.position c.args.line.now (EndLine h events outside) spelled now (end_taken b.accepted.program b.position.at nothing) (λ left. left none)
+    differs b.accepted.program b.accepted.cert.jitter b.plan b.entries b.position c.args.line.now (EndLine h events outside) spelled now
+    (end_taken b.accepted.program b.position.at nothing) (λ left. left none)
     (λ far. omega (arith, far, c.if-time-horizon.false, horizon, c.time-2.ensures))
     (λ same. other_text c.eq.result c.as_bytes.result.now c.args.line.now c.eq.ensures c.if-eq.false (same ∙ sym line))

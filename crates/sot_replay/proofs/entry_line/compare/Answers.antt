@@ -32,8 +32,10 @@ returns-then-is_line_of c front entry is =
     let at = subst (λ (es : List Logged). At es (c.len.result - 1) (entry_of c.entry-entry.result)) c.history-history.ensures c.entry-entry.ensures in
     let size = c.len.ensures ∙ ap (λ (es : List Logged). length es) c.history-history.ensures in
     let last = last_is b.entries front entry (entry_of c.entry-entry.result) c.len.result is size at in
-    let line : line_of c.typed-p.result.now (entry_of c.entry-entry.result) ≡ line_of b.accepted.program entry = ap (λ (p : Tables). line_of p (entry_of c.entry-entry.result)) c.typed-p.ensures ∙ ap (line_of b.accepted.program) last in
-    let refused = c.added_by-added.ensures.1 ∙ ap (λ (p : Tables). refused_in p (entry_of c.entry-entry.result)) c.typed-p.ensures ∙ ap (refused_in b.accepted.program) last in
+    let line : line_of c.typed-p.result.now (entry_of c.entry-entry.result) ≡ line_of b.accepted.program entry =
+    ap (λ (p : Tables). line_of p (entry_of c.entry-entry.result)) c.typed-p.ensures ∙ ap (line_of b.accepted.program) last in
+    let refused = c.added_by-added.ensures.1 ∙ ap (λ (p : Tables). refused_in p (entry_of c.entry-entry.result)) c.typed-p.ensures
+    ∙ ap (refused_in b.accepted.program) last in
     (c.is_line_of.ensures.0 c.if-is_line_of.true ∙ line, (c.added_by-added.ensures.0 ∙ ap ticks_in last, refused))
 
 pub returns-else-is_line_of : goal.returns-else-is_line_of
@@ -41,5 +43,7 @@ returns-else-is_line_of c front entry is =
     let b = c.args.board.now in
     let at = subst (λ (es : List Logged). At es (c.len.result - 1) (entry_of c.entry-entry.result)) c.history-history.ensures c.entry-entry.ensures in
     let size = c.len.ensures ∙ ap (λ (es : List Logged). length es) c.history-history.ensures in
-    let line : line_of c.typed-p.result.now (entry_of c.entry-entry.result) ≡ line_of b.accepted.program entry = ap (λ (p : Tables). line_of p (entry_of c.entry-entry.result)) c.typed-p.ensures ∙ ap (line_of b.accepted.program) (last_is b.entries front entry (entry_of c.entry-entry.result) c.len.result is size at) in
+    let line : line_of c.typed-p.result.now (entry_of c.entry-entry.result) ≡ line_of b.accepted.program entry =
+    ap (λ (p : Tables). line_of p (entry_of c.entry-entry.result)) c.typed-p.ensures
+    ∙ ap (line_of b.accepted.program) (last_is b.entries front entry (entry_of c.entry-entry.result) c.len.result is size at) in
     (refl, λ same. false≢true (sym c.if-is_line_of.false ∙ c.is_line_of.ensures.1 (same ∙ sym line)))

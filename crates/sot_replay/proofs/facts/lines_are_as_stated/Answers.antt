@@ -5,4 +5,13 @@ use Rattle.sot_replay.proofs.RelayRules.{rules, words}
 use Rattle.sot_replay.proofs.facts.lines_are_as_stated.Goals as goal
 
 pub returns : goal.returns
-returns c = record { order = refl; traces = two_traces; first = other_first_lines; last = other_last_lines; nothing = spell_nothing; refused = refused_lines; laws = λ g. (rules g, words g) }
+returns c =
+    record {
+      order = refl;
+      traces = two_traces;
+      first = other_first_lines;
+      last = other_last_lines;
+      nothing = spell_nothing;
+      refused = refused_lines;
+      laws = λ g. (rules g, words g);
+    }

@@ -3,4 +3,13 @@ use Rattle.sot_replay.proofs.LineTests.{other_start_lines, other_decisions, othe
 use Rattle.sot_replay.proofs.facts.lines_of_the_vehicle_are_as_stated.Goals as goal
 
 pub returns : goal.returns
-returns c = record { trace = line_trace; starts = other_start_lines; decisions = other_decisions; drafts = other_drafts; ticks = other_ticks; later = other_later_lines; laws = meets_the_laws }
+returns c =
+    record {
+      trace = line_trace;
+      starts = other_start_lines;
+      decisions = other_decisions;
+      drafts = other_drafts;
+      ticks = other_ticks;
+      later = other_later_lines;
+      laws = meets_the_laws;
+    }

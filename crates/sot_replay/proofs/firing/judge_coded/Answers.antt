@@ -22,11 +22,13 @@ returns c =
     let (info, acts, at, coded) = c.requires.coded in
     let logs = c.fire.ensures.logs in
     let entry = FireAt b.position.at.time n c.fire.result.draft c.fire.ensures.enabled in
-    read_judged b new line c.read_on.result (Code n) entry c.compare-judged.result logs (own_handed b.plan b.position.at.time n c.fire.result.draft c.fire.ensures.enabled (coded_no_guest b s n info acts at coded))
+    read_judged b new line c.read_on.result (Code n) entry c.compare-judged.result logs
+    (own_handed b.plan b.position.at.time n c.fire.result.draft c.fire.ensures.enabled (coded_no_guest b s n info acts at coded))
     (subst (λ (x : Admitted). IsCompared x.program entry line c.compare-judged.result) logs.accepted (c.compare-judged.ensures b.entries entry logs.entries))
     (subst (λ (p : Tables). IfOk c.read_on.result (λ k. IsReadOn p line c.compare-judged.result k)) c.typed-p.ensures c.read_on.ensures)
     (λ not x spells.
     let (on, slots, is) = c.requires.fires x spells in
     let spelled = subst (IsSpelled b.accepted.program line) is spells in
-    differs b.accepted.program b.accepted.cert.jitter b.plan b.entries b.position line (FireLine b.position.at.time n on slots) spelled refl (node_taken b s n info at c.requires.left) (λ none. none) (λ none. none)
+    differs b.accepted.program b.accepted.cert.jitter b.plan b.entries b.position line (FireLine b.position.at.time n on slots) spelled refl
+    (node_taken b s n info at c.requires.left) (λ none. none) (λ none. none)
     (λ given. not (code_line b s c.requires.words line b.position.at.time n on slots spelled info acts at coded new entry logs given)))

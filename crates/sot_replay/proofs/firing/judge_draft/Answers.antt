@@ -22,7 +22,8 @@ returns-in-None c =
     let (on, slots, spelled, shows) = c.requires.spelled in
     let (info, at, external) = guest_external b s n c.requires.guest in
     let wide = subst (λ (d : Option (List (Option ℤ))). ShowsDraft d slots) c.in-None.is shows in
-    differs b.accepted.program b.accepted.cert.jitter b.plan b.entries b.position line (FireLine b.position.at.time n on slots) spelled refl (node_taken b s n info at c.requires.left) (λ none. none) (λ none. none)
+    differs b.accepted.program b.accepted.cert.jitter b.plan b.entries b.position line (FireLine b.position.at.time n on slots) spelled refl
+    (node_taken b s n info at c.requires.left) (λ none. none) (λ none. none)
     (no_wide_draft b s c.requires.words line b.position.at.time n on slots spelled c.requires.guest.0 c.requires.guest.1 wide)
 
 pub returns-in-Some : goal.returns-in-Some
@@ -39,7 +40,10 @@ returns-in-Some c =
     let event = Guest n (take (slot_count b.accepted.program n) draft) in
     let fires = c.commit_guest-receipt.ensures in
     let entry = FireAt b.position.at.time n c.commit_guest-receipt.result.draft fires.enabled in
-    judged b new event entry line c.compare.result fires.logs (guest_handed b s new n (take (slot_count b.accepted.program n) draft) c.commit_guest-receipt.result.draft fires.enabled fires.logs c.draft_has_64_bits.ensures)
+    judged b new event entry line c.compare.result fires.logs
+    (guest_handed b s new n (take (slot_count b.accepted.program n) draft) c.commit_guest-receipt.result.draft fires.enabled fires.logs
+    c.draft_has_64_bits.ensures)
     (subst (λ (x : Admitted). IsCompared x.program entry line c.compare.result) fires.logs.accepted (c.compare.ensures b.entries entry fires.logs.entries))
-    (λ not. differs b.accepted.program b.accepted.cert.jitter b.plan b.entries b.position line (FireLine b.position.at.time n on slots) spelled refl (node_taken b s n info at c.requires.left) (λ none. none) (λ none. none)
+    (λ not. differs b.accepted.program b.accepted.cert.jitter b.plan b.entries b.position line (FireLine b.position.at.time n on slots) spelled refl
+    (node_taken b s n info at c.requires.left) (λ none. none) (λ none. none)
     (λ given. not (guest_line b s c.requires.words line b.position.at.time n on slots spelled info at external draft shown new entry fires.logs given)))

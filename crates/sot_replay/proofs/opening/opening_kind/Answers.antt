@@ -15,10 +15,14 @@ returns-then-place-eq0 c expected at =
 
 pub returns-then-is_start_line : goal.returns-then-is_start_line
 returns-then-is_start_line c expected at =
-    let line = c.as_bytes.ensures.value ∙ c.in_ok-put_opening_line.ensures expected at ∙ ap (λ t. t ++ expected) c.clear.ensures.bytes in
-    ((λ same. other_text c.eq.result c.as_bytes.result.now c.args.line.now c.eq.ensures c.if-eq.false (same ∙ sym line)), inr (c.if-place-eq0.false, inr (refl, c.is_start_line.ensures.0 c.if-is_start_line.true)))
+    let line = c.as_bytes.ensures.value ∙ c.in_ok-put_opening_line.ensures expected at ∙ ap (λ t. t ++ expected) c.clear.ensures.bytes in (
+      (λ same. other_text c.eq.result c.as_bytes.result.now c.args.line.now c.eq.ensures c.if-eq.false (same ∙ sym line)),
+      inr (c.if-place-eq0.false, inr (refl, c.is_start_line.ensures.0 c.if-is_start_line.true)),
+    )
 
 pub returns-else-is_start_line : goal.returns-else-is_start_line
 returns-else-is_start_line c expected at =
-    let line = c.as_bytes.ensures.value ∙ c.in_ok-put_opening_line.ensures expected at ∙ ap (λ t. t ++ expected) c.clear.ensures.bytes in
-    ((λ same. other_text c.eq.result c.as_bytes.result.now c.args.line.now c.eq.ensures c.if-eq.false (same ∙ sym line)), inr (c.if-place-eq0.false, inl (refl, λ is. both_ways c.is_start_line.result c.if-is_start_line.false (c.is_start_line.ensures.1 is))))
+    let line = c.as_bytes.ensures.value ∙ c.in_ok-put_opening_line.ensures expected at ∙ ap (λ t. t ++ expected) c.clear.ensures.bytes in (
+      (λ same. other_text c.eq.result c.as_bytes.result.now c.args.line.now c.eq.ensures c.if-eq.false (same ∙ sym line)),
+      inr (c.if-place-eq0.false, inl (refl, λ is. both_ways c.is_start_line.result c.if-is_start_line.false (c.is_start_line.ensures.1 is))),
+    )

@@ -18,9 +18,14 @@ returns-in_default-clause-refused c =
     let lines = c.args.lines.now in
     let (none, same) = c.in_default.ensures in
     let count = opening_count p f c.requires.fits.1.starts in
-    let inside : c.places.place < length (opening_lines p f) = omega (arith, count, c.places-test.true, c.len-place-end.ensures, ap (λ (t : Tables). length t.plants) c.p.view_is) in
-    subst (λ (x : ReplayFail). MatchFail x (λ m. ⊥) (λ at kind. (place : ℕ) × (at ≡ lines.number + place) × IsOpeningRefused p f lines.to_come place kind)) (sym c.missing.ensures)
-    (c.places.place, ap (λ (l : Lending). l.number) same ∙ c.places.invariant.number, opening_stops p f lines.to_come c.places.lines.to_come c.places.place c.places.invariant.is inside none)
+    let inside : c.places.place < length (opening_lines p f) =
+    omega (arith, count, c.places-test.true, c.len-place-end.ensures, ap (λ (t : Tables). length t.plants) c.p.view_is) in
+    subst (λ (x : ReplayFail). MatchFail x (λ m. ⊥) (λ at kind. (place : ℕ) × (at ≡ lines.number + place) × IsOpeningRefused p f lines.to_come place kind))
+    (sym c.missing.ensures) (
+      c.places.place,
+      ap (λ (l : Lending). l.number) same ∙ c.places.invariant.number,
+      opening_stops p f lines.to_come c.places.lines.to_come c.places.place c.places.invariant.is inside none,
+    )
 
 pub returns-in-Ok-Some-clause-refused : goal.returns-in-Ok-Some-clause-refused
 returns-in-Ok-Some-clause-refused c =
@@ -30,9 +35,11 @@ returns-in-Ok-Some-clause-refused c =
     let line = c.in-Some.line.now in
     let (here, numbered, step) = c.in-Some.ensures in
     let count = opening_count p f c.requires.fits.1.starts in
-    let inside : c.places.place < length (opening_lines p f) = omega (arith, count, c.places-test.true, c.len-place-end.ensures, ap (λ (t : Tables). length t.plants) c.p.view_is) in
+    let inside : c.places.place < length (opening_lines p f) =
+    omega (arith, count, c.places-test.true, c.len-place-end.ensures, ap (λ (t : Tables). length t.plants) c.p.view_is) in
     let expected = at_below (opening_lines p f) c.places.place inside in
-    let why = subst (λ (a : Option LineKind). MatchOption a (line ≡ expected.0) (λ kind. (line ≡ expected.0 → ⊥) × RefusesOpening p c.places.place line kind)) c.in-Ok-Some.field-0-is (c.in-Ok-Some.ensures expected.0 expected.1) in (
+    let why = subst (λ (a : Option LineKind). MatchOption a (line ≡ expected.0) (λ kind. (line ≡ expected.0 → ⊥) × RefusesOpening p c.places.place line kind))
+    c.in-Ok-Some.field-0-is (c.in-Ok-Some.ensures expected.0 expected.1) in (
       c.places.place,
       numbered ∙ c.places.invariant.number,
       opening_differs p f lines.to_come c.places.lines.to_come c.places.place c.places.invariant.is inside line c.next.new.self.to_come c.in-Ok-Some.kind here
@@ -47,11 +54,16 @@ places-preserved c =
     let line = c.in-Some.line.now in
     let (here, numbered, step) = c.in-Some.ensures in
     let count = opening_count p f c.requires.fits.1.starts in
-    let inside : c.places.place < length (opening_lines p f) = omega (arith, count, c.places-test.true, c.len-place-end.ensures, ap (λ (t : Tables). length t.plants) c.p.view_is) in
+    let inside : c.places.place < length (opening_lines p f) =
+    omega (arith, count, c.places-test.true, c.len-place-end.ensures, ap (λ (t : Tables). length t.plants) c.p.view_is) in
     let expected = at_below (opening_lines p f) c.places.place inside in
-    let same : line ≡ expected.0 = subst (λ (a : Option LineKind). MatchOption a (line ≡ expected.0) (λ kind. (line ≡ expected.0 → ⊥) × RefusesOpening p c.places.place line kind)) c.in-Ok-None.field-0-is (c.in-Ok-None.ensures expected.0 expected.1) in
+    let same : line ≡ expected.0 = subst (λ (a : Option LineKind).
+    MatchOption a (line ≡ expected.0) (λ kind. (line ≡ expected.0 → ⊥) × RefusesOpening p c.places.place line kind)) c.in-Ok-None.field-0-is
+    (c.in-Ok-None.ensures expected.0 expected.1) in
     record {
-      is = opening_goes p f lines.to_come c.places.lines.to_come c.places.place c.places.invariant.is inside line c.next.new.self.to_come here (subst (λ l. At (opening_lines p f) c.places.place l) (sym same) expected.1);
+      is =
+          opening_goes p f lines.to_come c.places.lines.to_come c.places.place c.places.invariant.is inside line c.next.new.self.to_come here
+          (subst (λ l. At (opening_lines p f) c.places.place l) (sym same) expected.1);
       number = omega (arith, step, c.places.invariant.number);
     }
 
@@ -61,5 +73,9 @@ returns-clause-read c =
     let f = c.args.flight.now in
     let lines = c.args.lines.now in
     let count = opening_count p f c.requires.fits.1.starts in
-    let all : c.places.place ≡ length (opening_lines p f) = omega (arith, count, c.places-test.false, c.places.auto.place-end, c.len-place-end.ensures, ap (λ (t : Tables). length t.plants) c.p.view_is) in
-    (opening_whole p f lines.to_come c.places.lines.to_come c.places.place c.places.invariant.is all, c.places.invariant.number ∙ ap (λ n. lines.number + n) all)
+    let all : c.places.place ≡ length (opening_lines p f) =
+    omega (arith, count, c.places-test.false, c.places.auto.place-end, c.len-place-end.ensures, ap (λ (t : Tables). length t.plants) c.p.view_is) in (
+      opening_whole p f lines.to_come c.places.lines.to_come c.places.place c.places.invariant.is all,
+      c.places.invariant.number
+          ∙ ap (λ n. lines.number + n) all,
+    )

@@ -7,4 +7,6 @@ use Rattle.sot_replay.proofs.ranges.bounds_have_64_bits.Given as goal
 
 -- those of the plants so far have
 abbrev pub invariant-loop-plant : goal.invariant-loop-plant
-invariant-loop-plant l = (k : ℕ) (plant : PlantInfo) (i : ℕ) (info : NoiseInfo) → k < l.plant-index → At l.plants k plant → At plant.noise.items i info → Has64Bits info.lo × Has64Bits info.hi
+invariant-loop-plant l =
+    (k : ℕ) (plant : PlantInfo) (i : ℕ) (info : NoiseInfo) → k < l.plant-index → At l.plants k plant → At plant.noise.items i info
+    → Has64Bits info.lo × Has64Bits info.hi

@@ -39,4 +39,12 @@ returns-else-are_possible c =
     let plants : c.deref.result.now ≡ p.plants = c.deref.ensures.value ∙ ap (λ (q : Tables). q.plants) c.p.view_is in
     let size = subst (λ (ks : List PlantInfo). length noise ≡ noise_count ks) (sym plants) spelled.0.0 in
     let held = subst (λ (l : List ℤ). Holds whole l noise) (sym c.deref-2.ensures.value) holds in
-    inr (inl (refl, t, noise, states, spelled, λ inside. both_ways c.are_possible.result c.if-are_possible.false ((c.are_possible.ensures noise size held).1 (subst (λ (ks : List PlantInfo). IsInBounds ks noise) (sym plants) inside))))
+    inr (inl (
+      refl,
+      t,
+      noise,
+      states,
+      spelled,
+      λ inside. both_ways c.are_possible.result c.if-are_possible.false
+          ((c.are_possible.ensures noise size held).1 (subst (λ (ks : List PlantInfo). IsInBounds ks noise) (sym plants) inside)),
+    ))

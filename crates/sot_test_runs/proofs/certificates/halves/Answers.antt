@@ -13,7 +13,9 @@ pub loop-i-preserved : goal.loop-i-preserved
 loop-i-preserved c = record {
   width = search rules;
   boxes = omega (arith, longer c.loop-i.region.boxes c.push.new.self.boxes c.half-cell.result c.in_default.ensures.ok);
-  each = one_more 2 c.loop-i.region.boxes c.push.new.self.boxes c.half-cell.result c.loop-i.invariant.each (search rules) c.len-sides.ensures.ordered c.in_default.ensures.ok;
+  each =
+      one_more 2 c.loop-i.region.boxes c.push.new.self.boxes c.half-cell.result c.loop-i.invariant.each (search rules) c.len-sides.ensures.ordered
+      c.in_default.ensures.ok;
 }
 
 pub returns : goal.returns

@@ -13,7 +13,9 @@ pub loop-h-preserved : goal.loop-h-preserved
 loop-h-preserved c = record {
   width = search rules;
   boxes = omega (arith, longer c.loop-h.region.boxes c.push.new.self.boxes c.unwrap-cell.result c.in_default.ensures.ok);
-  each = one_more 2 c.loop-h.region.boxes c.push.new.self.boxes c.unwrap-cell.result c.loop-h.invariant.each (search rules) c.len-sides.ensures.ordered c.in_default.ensures.ok;
+  each =
+      one_more 2 c.loop-h.region.boxes c.push.new.self.boxes c.unwrap-cell.result c.loop-h.invariant.each (search rules) c.len-sides.ensures.ordered
+      c.in_default.ensures.ok;
 }
 
 pub returns : goal.returns

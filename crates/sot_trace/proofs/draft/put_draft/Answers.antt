@@ -12,8 +12,11 @@ loop-i-preserved c =
     let at = slice_get-get_or c.args.writes.now c.loop-i.i 0 c.loop-i-test.true in
     let refused = refused_more c.args.p.now c.args.writes.now c.args.draft.now c.loop-i.i k c.get.result at c.get.ensures in
     record {
-      text = piece_more (string_bytes c.loop-i.out) (string_bytes c.put_slot.new.out) (slot_text c.args.p.now k c.get.result) _ (draft_text c.args.p.now (drop (c.loop-i.i + 1) c.args.writes.now) (drop (c.loop-i.i + 1) c.args.draft.now)) _
-          c.in_ok-refused.ensures.text (text_more c.args.p.now c.args.writes.now c.args.draft.now c.loop-i.i k c.get.result at c.get.ensures) c.loop-i.invariant.text;
+      text =
+          piece_more (string_bytes c.loop-i.out) (string_bytes c.put_slot.new.out) (slot_text c.args.p.now k c.get.result) _
+          (draft_text c.args.p.now (drop (c.loop-i.i + 1) c.args.writes.now) (drop (c.loop-i.i + 1) c.args.draft.now)) _
+          c.in_ok-refused.ensures.text (text_more c.args.p.now c.args.writes.now c.args.draft.now c.loop-i.i k c.get.result at c.get.ensures)
+          c.loop-i.invariant.text;
       refused = omega (arith, refused, c.in_ok-refused.ensures.refused, c.loop-i.invariant.refused);
       few = omega (arith, c.in_ok-refused.ensures.few, c.loop-i.invariant.few);
     }

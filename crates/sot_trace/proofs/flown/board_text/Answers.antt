@@ -11,12 +11,18 @@ use Rattle.sot_trace.proofs.flown.board_text.Goals as goal
 pub trace_text-requires-clause-fits : goal.trace_text-requires-clause-fits
 trace_text-requires-clause-fits c =
     let standing = c.is_standing.ensures in
-    let fits = flown_fits c.args.board.now.accepted.program standing.kept.rules c.args.board.now.accepted.cert.jitter c.args.board.now.plan c.args.board.now.entries c.args.board.now.position standing.flown in
-    subst (λ (es : List Logged). FitsHistory c.typed.result.now es) (sym c.history.ensures) (subst (λ (p : Tables). FitsHistory p c.args.board.now.entries) (sym c.typed.ensures) fits)
+    let fits = flown_fits c.args.board.now.accepted.program standing.kept.rules c.args.board.now.accepted.cert.jitter c.args.board.now.plan
+    c.args.board.now.entries c.args.board.now.position standing.flown in
+    subst (λ (es : List Logged). FitsHistory c.typed.result.now es) (sym c.history.ensures)
+    (subst (λ (p : Tables). FitsHistory p c.args.board.now.entries) (sym c.typed.ensures) fits)
 
 -- src/flown.rt:12:1
 pub returns : goal.returns
 returns c =
-    let one = subst (λ (p : Tables). IfOk c.trace_text.result (λ text. string_bytes text ≡ trace_text p c.start.result.now c.history.result.now.entries)) c.typed.ensures c.trace_text.ensures in
-    let two = subst (λ (s : List (List ℤ)). IfOk c.trace_text.result (λ text. string_bytes text ≡ trace_text c.args.board.now.accepted.program s c.history.result.now.entries)) (c.start.ensures ∙ ap (λ f. f.start) c.flight.ensures) one in
-    subst (λ (es : List Logged). IfOk c.trace_text.result (λ text. string_bytes text ≡ trace_text c.args.board.now.accepted.program c.args.board.now.plan.start es)) c.history.ensures two
+    let one = subst (λ (p : Tables). IfOk c.trace_text.result (λ text. string_bytes text ≡ trace_text p c.start.result.now c.history.result.now.entries))
+    c.typed.ensures c.trace_text.ensures in
+    let two = subst (λ (s : List (List ℤ)). IfOk c.trace_text.result
+    (λ text. string_bytes text ≡ trace_text c.args.board.now.accepted.program s c.history.result.now.entries))
+    (c.start.ensures ∙ ap (λ f. f.start) c.flight.ensures) one in
+    subst (λ (es : List Logged). IfOk c.trace_text.result (λ text. string_bytes text
+    ≡ trace_text c.args.board.now.accepted.program c.args.board.now.plan.start es)) c.history.ensures two

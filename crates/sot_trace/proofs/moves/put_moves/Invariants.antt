@@ -10,5 +10,6 @@ abbrev pub invariant-loop-plant : goal.invariant-loop-plant
 invariant-loop-plant l = record {
   noise : length l.noise_left ≡ noise_count (drop l.plant-index l.plants);
   states : length l.states_left ≡ state_count (drop l.plant-index l.plants);
-  text : string_bytes l.out ++ moves_text (drop l.plant-index l.plants) l.noise_left l.states_left ≡ string_bytes l.initial.out ++ moves_text l.plants l.noise l.states;
+  text : string_bytes l.out ++ moves_text (drop l.plant-index l.plants) l.noise_left l.states_left
+      ≡ string_bytes l.initial.out ++ moves_text l.plants l.noise l.states;
 }

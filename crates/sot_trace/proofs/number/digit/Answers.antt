@@ -5,4 +5,6 @@ use Rattle.sot_trace.proofs.Numerals.{digit_is}
 use Rattle.sot_trace.proofs.number.digit.Goals as goal
 
 pub returns-then-number-le9-clause-numeral : goal.returns-then-number-le9-clause-numeral
-returns-then-number-le9-clause-numeral c = ap signed_numeral (sym (to_z-of_z w64 c.args.number c.ranges.number)) ∙ digit_is (to_z w64 (of_z w64 c.args.number)) c.if-number-ge0.true c.if-number-le9.true
+returns-then-number-le9-clause-numeral c =
+    ap signed_numeral (sym (to_z-of_z w64 c.args.number c.ranges.number))
+    ∙ digit_is (to_z w64 (of_z w64 c.args.number)) c.if-number-ge0.true c.if-number-le9.true

@@ -6,5 +6,6 @@ use Rattle.sot_trace.proofs.number.put_much.Goals as goal
 
 pub returns : goal.returns
 returns c =
-    let text = c.format.ensures.text ∙ ap signed_decimal (to_z-of_z w64 c.args.number c.ranges.number) ∙ signed_decimal_is c.args.number (omega (arith, c.ranges.number.sfits)) in
+    let text = c.format.ensures.text ∙ ap signed_decimal (to_z-of_z w64 c.args.number c.ranges.number)
+    ∙ signed_decimal_is c.args.number (omega (arith, c.ranges.number.sfits)) in
     put_so c.push_str.result _ _ _ _ c.push_str.ensures.bytes text

@@ -11,6 +11,8 @@ loop-i-preserved c =
     let fits : SFits w64 c.at.result = search rules in
     let number = c.in_ok-put_number.ensures ∙ ap (λ z. string_bytes c.push_str.new.self ++ signed_numeral z) (to_z-of_z w64 c.at.result fits) in
     let rest = further (drop (c.loop-i.i + 1) c.args.point.now) in
-    piece_more (string_bytes c.push_str.new.self) (string_bytes c.put_number.new.out) (signed_numeral c.at.result) (signed_numeral c.at.result ++ rest) rest _ number refl
-    (piece_more (string_bytes c.loop-i.out) (string_bytes c.push_str.new.self) (codes ",") (further (drop c.loop-i.i c.args.point.now)) (signed_numeral c.at.result ++ rest) _ c.in_ok-push_str.ensures.bytes
+    piece_more (string_bytes c.push_str.new.self) (string_bytes c.put_number.new.out) (signed_numeral c.at.result) (signed_numeral c.at.result ++ rest) rest _
+    number refl
+    (piece_more (string_bytes c.loop-i.out) (string_bytes c.push_str.new.self) (codes ",") (further (drop c.loop-i.i c.args.point.now))
+    (signed_numeral c.at.result ++ rest) _ c.in_ok-push_str.ensures.bytes
     (ap further (drop_at c.args.point.now c.loop-i.i c.at.result c.at.ensures)) c.loop-i.invariant)

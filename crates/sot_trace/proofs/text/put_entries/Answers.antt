@@ -19,7 +19,8 @@ loop-i-preserved c =
     let end = c.in_ok-push.ensures.bytes ∙ ap (λ x. string_bytes c.put_line.new.out ++ x) (c.push.ensures.ascii (omega arith)) in
     record {
       text = piece_more (string_bytes c.put_line.new.out) (string_bytes c.push.new.self) (codes "\n") (10 ∷ rest) rest _ end refl
-          (piece_more (string_bytes c.loop-i.out) (string_bytes c.put_line.new.out) (line_of p e) (text_of (map (line_of p) (drop c.loop-i.i es))) (10 ∷ rest) _ c.in_ok-refused.ensures.text (line_more p es c.loop-i.i e at) c.loop-i.invariant.text);
+          (piece_more (string_bytes c.loop-i.out) (string_bytes c.put_line.new.out) (line_of p e) (text_of (map (line_of p) (drop c.loop-i.i es))) (10 ∷ rest) _
+          c.in_ok-refused.ensures.text (line_more p es c.loop-i.i e at) c.loop-i.invariant.text);
       ticks = omega (arith, ticks, c.ticks_in.ensures.value, c.loop-i.invariant.ticks);
       refused = omega (arith, refused, c.in_ok-refused.ensures.refused, c.loop-i.invariant.refused);
       few_ticks = omega (arith, c.ticks_in.ensures.few, c.loop-i.invariant.few_ticks);

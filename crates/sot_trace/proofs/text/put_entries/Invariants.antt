@@ -8,7 +8,8 @@ use Rattle.sot_trace.proofs.text.put_entries.Given as goal
 -- what is written and counted, and then what is left
 abbrev pub invariant-loop-i : goal.invariant-loop-i
 invariant-loop-i l = record {
-  text : string_bytes l.out ++ text_of (map (line_of l.p) (drop l.i l.history.entries)) ≡ string_bytes l.initial.out ++ text_of (map (line_of l.p) l.history.entries);
+  text : string_bytes l.out ++ text_of (map (line_of l.p) (drop l.i l.history.entries))
+      ≡ string_bytes l.initial.out ++ text_of (map (line_of l.p) l.history.entries);
   ticks : l.counts.ticks + sum_by ticks_in (drop l.i l.history.entries) ≡ sum_by ticks_in l.history.entries;
   refused : l.counts.refused + sum_by (refused_in l.p) (drop l.i l.history.entries) ≡ sum_by (refused_in l.p) l.history.entries;
   few_ticks : l.counts.ticks ≤ l.i;

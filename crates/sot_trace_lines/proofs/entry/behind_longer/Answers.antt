@@ -13,5 +13,6 @@ returns-in-Some c =
 
 pub returns-in-None : goal.returns-in-None
 returns-in-None c =
-    let text = c.format.ensures.text ∙ ap signed_decimal (to_z-of_z w64 c.args.number c.ranges.number) ∙ signed_decimal_is c.args.number (omega (arith, c.ranges.number.sfits)) in
+    let text = c.format.ensures.text ∙ ap signed_decimal (to_z-of_z w64 c.args.number c.ranges.number)
+    ∙ signed_decimal_is c.args.number (omega (arith, c.ranges.number.sfits)) in
     c.behind-in-None.ensures ∙ ap (λ front. behind front c.args.text.now) (c.as_bytes.ensures.value ∙ text)

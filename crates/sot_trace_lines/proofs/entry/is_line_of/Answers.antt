@@ -24,5 +24,6 @@ returns-in-None c =
     let whole : List ℕ = line_of c.args.p.now (entry_of c.args.entry.now) in
     let line : List ℕ = c.args.line.now in (
       λ never. absurd (false≢true never),
-      λ same. (let never : None ≡ Some [] = c.in-None.ensures ∙ entry_is c.args.p.now (entry_of c.args.entry.now) line ∙ nothing_behind whole line same in absurd cc),
+      λ same. (let never : None ≡ Some [] = c.in-None.ensures ∙ entry_is c.args.p.now (entry_of c.args.entry.now) line ∙ nothing_behind whole line same in
+          absurd cc),
     )

@@ -7,5 +7,6 @@ use Rattle.sot_trace_lines.proofs.front.event_front.Goals as goal
 pub returns-in-Some : goal.returns-in-Some
 returns-in-Some c = λ t is.
     let (enabled, text) = c.in-Some.ensures in
-    subst (ShowsFront c.args.p.now c.args.numbers.now.items c.firing_front.result) (sym (ap (event_at c.args.p.now t) text ∙ firing_event c.args.p.now t enabled c.in-Some.rest.now))
+    subst (ShowsFront c.args.p.now c.args.numbers.now.items c.firing_front.result)
+    (sym (ap (event_at c.args.p.now t) text ∙ firing_event c.args.p.now t enabled c.in-Some.rest.now))
     (c.firing_front.ensures t enabled c.args.numbers.now.items is)

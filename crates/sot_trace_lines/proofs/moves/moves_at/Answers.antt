@@ -16,7 +16,8 @@ pub loop-plant-preserved : goal.loop-plant-preserved
 loop-plant-preserved c =
     let l = c.loop-plant in
     let plants = c.args.plants.now in
-    moved plants l.plant-index c.plant-item.result (l.numbers.items, l.whole) (c.move_at.new.numbers.items, c.in-Some.read.whole) l.rest.now c.in-Some.read.rest.now
+    moved plants l.plant-index c.plant-item.result (l.numbers.items, l.whole) (c.move_at.new.numbers.items, c.in-Some.read.whole) l.rest.now
+    c.in-Some.read.rest.now
     (drop_more plants l.plant-index c.plant-item.result c.loop-plant-test.true ∙ ap (λ x. x ∷ drop (l.plant-index + 1) plants) (sym c.plant-item.is))
     (sym (rw c.in-Some.is at c.in_ok-read.ensures))
     ∙ l.invariant

@@ -11,5 +11,6 @@ pub returns : goal.returns
 returns c text read =
     sym (
     ap (λ o. kept_number (o >>= λ d. minus d.0 >>= λ z. Some (z, d.1))) read
-    ∙ below_is c.args.digit c.from.result c.below.result c.args.rest.now (omega (arith, c.from.ensures, c.requires)) (λ none. c.if-digit-eq0.false (sym c.from.ensures ∙ none)) c.below.ensures
+    ∙ below_is c.args.digit c.from.result c.below.result c.args.rest.now (omega (arith, c.from.ensures, c.requires))
+    (λ none. c.if-digit-eq0.false (sym c.from.ensures ∙ none)) c.below.ensures
     )

@@ -12,7 +12,8 @@ loop-digit-preserved c =
     record {
       small = omega (arith, c.saturating_add-sum.ensures);
       same =
-          same_counted c.saturating_add-sum.result (10 * c.loop-digit.sum + (d - 48)) rest (omega (arith, c.from-more.ensures, c.saturating_sub.ensures, c.saturating_mul.ensures, c.saturating_add-sum.ensures))
+          same_counted c.saturating_add-sum.result (10 * c.loop-digit.sum + (d - 48)) rest
+          (omega (arith, c.from-more.ensures, c.saturating_sub.ensures, c.saturating_mul.ensures, c.saturating_add-sum.ensures))
           ∙ sym (at_drop_more (λ l. min (with_digits c.loop-digit.sum l) (2 ^ 64 - 1)) c.args.digits.now i 0 c.loop-digit-test.true)
           ∙ c.loop-digit.invariant.same;
     }

@@ -10,5 +10,7 @@ returns-then-not-is_empty c =
     let refused = c.in_ok-refused.refused in
     let some : length refused.rest.now ≢ 0 = search rules in
     λ list. nothing list (counts_at c.args.text.now)
-    (counts_go_on c.args.text.now ticks.rest.now c.in_ok-behind.field-0.now events.rest.now c.in_ok-behind-2.field-0.now refused.rest.now ticks.value events.value refused.value
-    (sym c.in_ok-ticks.ensures) (sym c.in_ok-behind.ensures) (sym c.in_ok-events.ensures) (sym c.in_ok-behind-2.ensures) (sym c.in_ok-refused.ensures) (not_empty refused.rest.now some))
+    (counts_go_on c.args.text.now ticks.rest.now c.in_ok-behind.field-0.now events.rest.now c.in_ok-behind-2.field-0.now refused.rest.now ticks.value
+    events.value refused.value
+    (sym c.in_ok-ticks.ensures) (sym c.in_ok-behind.ensures) (sym c.in_ok-events.ensures) (sym c.in_ok-behind-2.ensures) (sym c.in_ok-refused.ensures)
+    (not_empty refused.rest.now some))

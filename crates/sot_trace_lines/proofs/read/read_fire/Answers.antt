@@ -9,5 +9,7 @@ returns c =
     let slots = c.in-Some.slots in
     let none : length slots.rest.now ≡ 0 = search rules in
     λ t enabled list is.
-    fire_read c.args.p.now list enabled t c.in_ok-node.node word.name.now word.rest.now slots.rest.now (word_at c.args.text.now) c.writes_of.result.now c.args.time slots.draft slots.whole c.drafted.result
-    (sym c.word_at-word.ensures) (sym c.in_ok-node.ensures.value) c.writes_of.ensures.value c.writes_of.ensures.few (sym c.in-Some.ensures) (is_empty slots.rest.now none) c.drafted.ensures is
+    fire_read c.args.p.now list enabled t c.in_ok-node.node word.name.now word.rest.now slots.rest.now (word_at c.args.text.now) c.writes_of.result.now
+    c.args.time slots.draft slots.whole c.drafted.result
+    (sym c.word_at-word.ensures) (sym c.in_ok-node.ensures.value) c.writes_of.ensures.value c.writes_of.ensures.few (sym c.in-Some.ensures)
+    (is_empty slots.rest.now none) c.drafted.ensures is

@@ -15,6 +15,9 @@ returns c =
     let inside : Tables = tables c.p.inside in
     let lt : k < length inside.topics = omega (arith, c.in-Some.ensures.there, ap (λ (p : Tables). length p.topics) c.p.view_is) in
     let named = ap (λ (p : Tables). topic_named p word.name.now) c.p.view_is ∙ sym c.in-Some.ensures.value in
-    let same = λ (t : ℕ). sym (ap (λ (p : Tables). input_at p t c.args.text.now) c.p.view_is) ∙ input_is inside t k c.args.text.now word.name.now word.rest.now info (word_at c.args.text.now) (sym c.word_at-word.ensures) named lt c.index.ensures in
-    subst (λ (f : ℕ → Option Spelled). IfOk c.read_value.result (λ l. (t : ℕ) → c.args.time ≡ bounded (pos t) → ShowsRead c.read_value.new.numbers.items l (f t)))
+    let same = λ (t : ℕ). sym (ap (λ (p : Tables). input_at p t c.args.text.now) c.p.view_is)
+    ∙ input_is inside t k c.args.text.now word.name.now word.rest.now info (word_at c.args.text.now) (sym c.word_at-word.ensures) named lt c.index.ensures
+    in
+    subst (λ (f : ℕ → Option Spelled). IfOk c.read_value.result
+    (λ l. (t : ℕ) → c.args.time ≡ bounded (pos t) → ShowsRead c.read_value.new.numbers.items l (f t)))
     (λ i t. sym (same t) i) c.read_value.ensures

@@ -15,5 +15,6 @@ returns c =
     let outside : info.outside ≡ true = search rules in
     let kept = ap (λ items. kept_row (items, true) (row_at info.count text)) (sym c.requires) ∙ sym (rw c.in-Some-2.is at c.in_ok-value.ensures) in
     λ t is.
-    subst (ShowsRead list (Some (Input c.args.time c.args.topic value.whole))) (sym (value_is t c.args.topic info c.args.text.now text outside (sym c.in-Some.ensures)))
+    subst (ShowsRead list (Some (Input c.args.time c.args.topic value.whole)))
+    (sym (value_is t c.args.topic info c.args.text.now text outside (sym c.in-Some.ensures)))
     (input_shown list value.whole value.rest.now c.args.time t c.args.topic (row_at info.count text) kept (is_empty value.rest.now none) is)
