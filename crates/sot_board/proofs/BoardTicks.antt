@@ -18,16 +18,28 @@ noise_now p q f t u a b = ap (λ x. joined (stated_noise x f t)) a ∙ ap (λ n.
 module _ (b : Inside) (is : IsBoard b) where
   -- the stated disturbances for now: how many, how they are cut, and their bounds
   pub noise_many : length (joined (stated_noise b.world.accepted.program b.flight.now b.world.at.time)) ≡ noise_count b.world.accepted.program.plants
-  noise_many = noise_size b.world.accepted.program.plants (stated_noise b.world.accepted.program b.flight.now b.world.at.time) (stated_length b.world.accepted.program is.has.standing.guests b.flight.now is.has.standing.fits b.world.at.time) (stated_size b.world.accepted.program is.has.standing.guests b.flight.now is.has.standing.fits b.world.at.time)
+  noise_many =
+      noise_size b.world.accepted.program.plants (stated_noise b.world.accepted.program b.flight.now b.world.at.time)
+      (stated_length b.world.accepted.program is.has.standing.guests b.flight.now is.has.standing.fits b.world.at.time)
+      (stated_size b.world.accepted.program is.has.standing.guests b.flight.now is.has.standing.fits b.world.at.time)
 
-  pub noise_cut : cut b.world.accepted.program.plants (joined (stated_noise b.world.accepted.program b.flight.now b.world.at.time)) ≡ stated_noise b.world.accepted.program b.flight.now b.world.at.time
-  noise_cut = cut_joined b.world.accepted.program.plants (stated_noise b.world.accepted.program b.flight.now b.world.at.time) (stated_length b.world.accepted.program is.has.standing.guests b.flight.now is.has.standing.fits b.world.at.time) (stated_size b.world.accepted.program is.has.standing.guests b.flight.now is.has.standing.fits b.world.at.time)
+  pub noise_cut : cut b.world.accepted.program.plants (joined (stated_noise b.world.accepted.program b.flight.now b.world.at.time))
+      ≡ stated_noise b.world.accepted.program b.flight.now b.world.at.time
+  noise_cut =
+      cut_joined b.world.accepted.program.plants (stated_noise b.world.accepted.program b.flight.now b.world.at.time)
+      (stated_length b.world.accepted.program is.has.standing.guests b.flight.now is.has.standing.fits b.world.at.time)
+      (stated_size b.world.accepted.program is.has.standing.guests b.flight.now is.has.standing.fits b.world.at.time)
 
   pub noise_inside : IsInBounds b.world.accepted.program.plants (joined (stated_noise b.world.accepted.program b.flight.now b.world.at.time))
-  noise_inside = joined_within b.world.accepted.program.plants (stated_noise b.world.accepted.program b.flight.now b.world.at.time) (stated_length b.world.accepted.program is.has.standing.guests b.flight.now is.has.standing.fits b.world.at.time) (stated_size b.world.accepted.program is.has.standing.guests b.flight.now is.has.standing.fits b.world.at.time)
+  noise_inside =
+      joined_within b.world.accepted.program.plants (stated_noise b.world.accepted.program b.flight.now b.world.at.time)
+      (stated_length b.world.accepted.program is.has.standing.guests b.flight.now is.has.standing.fits b.world.at.time)
+      (stated_size b.world.accepted.program is.has.standing.guests b.flight.now is.has.standing.fits b.world.at.time)
       (stated_within b.world.accepted.program is.has.standing.guests b.flight.now is.has.standing.fits is.has.standing.kept.rules b.world.at.time)
 
   -- a tick with these numbers is one with the stated disturbances
-  pub tick_as : (D : Configuration) (numbers : List ℤ) → numbers ≡ joined (stated_noise b.world.accepted.program b.flight.now b.world.at.time) → Ticks b.world.accepted.program b.world.accepted.cert.jitter (cut b.world.accepted.program.plants numbers) b.world.at D
+  pub tick_as : (D : Configuration) (numbers : List ℤ) → numbers ≡ joined (stated_noise b.world.accepted.program b.flight.now b.world.at.time)
+      → Ticks b.world.accepted.program b.world.accepted.cert.jitter (cut b.world.accepted.program.plants numbers) b.world.at D
       → Ticks b.world.accepted.program b.world.accepted.cert.jitter (stated_noise b.world.accepted.program b.flight.now b.world.at.time) b.world.at D
-  tick_as D numbers same step = subst (λ w. Ticks b.world.accepted.program b.world.accepted.cert.jitter w b.world.at D) (ap (cut b.world.accepted.program.plants) same ∙ noise_cut) step
+  tick_as D numbers same step =
+      subst (λ w. Ticks b.world.accepted.program b.world.accepted.cert.jitter w b.world.at D) (ap (cut b.world.accepted.program.plants) same ∙ noise_cut) step

@@ -1,5 +1,6 @@
 -- A board stands after an event as it stood before.
-use Rattle.std.proofs.Common.{◌≡◌, ℕ, zero, suc, ◌+◌, ◌≤◌, ◌<◌, ◌⊎◌, ⊎_elim, inl, inr, Bool, true, false, ℤ, Option, List, [], ◌∷◌, ◌++◌, length, map, refl, sym, ap, ◌∙◌, subst, arith}
+use Rattle.std.proofs.Common.{◌≡◌, ℕ, zero, suc, ◌+◌, ◌≤◌, ◌<◌, ◌⊎◌, ⊎_elim, inl, inr, Bool, true, false, ℤ, Option, List, [], ◌∷◌, ◌++◌, length, map, refl}
+use Rattle.std.proofs.Common.{sym, ap, ◌∙◌, subst, arith}
 use Rattle.std.specs.Prelude.{slice_index_or, slice_set, if◌then◌else◌}
 use Rattle.std.proofs.lemmas.List.{length-append, length-map, length-set}
 use Rattle.std.proofs.lemmas.Option.{slice_get_within, get_or_from_slice_get}
@@ -31,7 +32,8 @@ use Rattle.sot_board.proofs.RoomLemmas.{once_due, after_tick, after_one}
 use Rattle.sot_board.proofs.Entries.{flown_more, version_more, drafts_append, count_firing}
 
 -- an event keeps the time, or is a tick
-pub time_goes : (p : Tables) (j : ℕ) (C D : Configuration) (e : Event) → Step p j C e D → (D.time ≡ C.time) ⊎ ((noise : List (List ℤ)) × (e ≡ Tick noise) × (D.time ≡ suc C.time))
+pub time_goes : (p : Tables) (j : ℕ) (C D : Configuration) (e : Event) → Step p j C e D
+    → (D.time ≡ C.time) ⊎ ((noise : List (List ℤ)) × (e ≡ Tick noise) × (D.time ≡ suc C.time))
 time_goes p j C D (Input topic value) s = inl (ap (λ c. c.time) s.rest)
 time_goes p j C D (Code n) s = inl s.fires.time
 time_goes p j C D (Guest n draft) s = inl s.fires.time
@@ -39,15 +41,22 @@ time_goes p j C D (Decide m) s = inl (ap (λ c. c.time) s.rest)
 time_goes p j C D (Tick noise) s = inr (noise, refl, s.time)
 
 -- the inputs stay, or the first one has come
-inputs_go : (p : Tables) (f : Plan) (P : Position) (e : Event) → IsStated p f P e → (inputs_after e P.inputs ≡ P.inputs) ⊎ ((x : StatedInput) × (P.inputs ≡ x ∷ inputs_after e P.inputs))
-inputs_go p f P (Input topic value) (rest, is) = inr (record { at = P.at.time; topic = topic; value = value }, is ∙ ap (λ xs. record { at = P.at.time; topic = topic; value = value } ∷ xs) (sym (ap (inputs_after (Input topic value)) is)))
+inputs_go : (p : Tables) (f : Plan) (P : Position) (e : Event) → IsStated p f P e
+    → (inputs_after e P.inputs ≡ P.inputs) ⊎ ((x : StatedInput) × (P.inputs ≡ x ∷ inputs_after e P.inputs))
+inputs_go p f P (Input topic value) (rest, is) =
+    inr (
+      record { at = P.at.time; topic = topic; value = value },
+      is
+          ∙ ap (λ xs. record { at = P.at.time; topic = topic; value = value } ∷ xs) (sym (ap (inputs_after (Input topic value)) is)),
+    )
 inputs_go p f P (Code n) s = inl refl
 inputs_go p f P (Guest n draft) s = inl refl
 inputs_go p f P (Decide m) s = inl refl
 inputs_go p f P (Tick noise) s = inl refl
 
 -- what is still to come stood there before
-pub still_at : (p : Tables) (f : Plan) (P : Position) (e : Event) → IsStated p f P e → (i : ℕ) (x : StatedInput) → At (inputs_after e P.inputs) i x → (k : ℕ) × At P.inputs k x
+pub still_at : (p : Tables) (f : Plan) (P : Position) (e : Event) → IsStated p f P e → (i : ℕ) (x : StatedInput) → At (inputs_after e P.inputs) i x
+    → (k : ℕ) × At P.inputs k x
 still_at p f P e s i x at =
     ⊎_elim
     (λ same. (i, subst (λ l. At l i x) same at))
@@ -55,7 +64,8 @@ still_at p f P e s i x at =
     (inputs_go p f P e s)
 
 module _ (p : Tables) (j : ℕ) (f : Plan) (P : Position) (e : Event) (Q : Configuration) (stated : IsStated p f P e) (step : Step p j P.at e Q) where
-  pub still_ahead : ((i : ℕ) (x : StatedInput) → At P.inputs i x → P.at.time ≤ x.at) → (i : ℕ) (x : StatedInput) → At (inputs_after e P.inputs) i x → Q.time ≤ x.at
+  pub still_ahead : ((i : ℕ) (x : StatedInput) → At P.inputs i x → P.at.time ≤ x.at) → (i : ℕ) (x : StatedInput) → At (inputs_after e P.inputs) i x
+      → Q.time ≤ x.at
   still_ahead ahead i x at =
       let k = still_at p f P e stated i x at in
       let before = ahead k.0 x k.1 in
@@ -74,7 +84,8 @@ module _ (p : Tables) (j : ℕ) (f : Plan) (P : Position) (e : Event) (Q : Confi
       (λ (noise, is, later). (let below = (subst (IsStated p f P) is stated).0 in omega (arith, later, below)))
       (time_goes p j P.at Q e step)
 
-  pub still_ordered : ((i : ℕ) (x y : StatedInput) → At P.inputs i x → At P.inputs (suc i) y → x.at ≤ y.at) → (i : ℕ) (x y : StatedInput) → At (inputs_after e P.inputs) i x → At (inputs_after e P.inputs) (suc i) y → x.at ≤ y.at
+  pub still_ordered : ((i : ℕ) (x y : StatedInput) → At P.inputs i x → At P.inputs (suc i) y → x.at ≤ y.at) → (i : ℕ) (x y : StatedInput)
+      → At (inputs_after e P.inputs) i x → At (inputs_after e P.inputs) (suc i) y → x.at ≤ y.at
   still_ordered ordered i x y at_x at_y =
       ⊎_elim
       (λ same. ordered i x y (subst (λ l. At l i x) same at_x) (subst (λ l. At l (suc i) y) same at_y))
@@ -89,7 +100,8 @@ none_more n es entry none =
 
 -- each node's count is that of its drafts
 pub still_counted :
-    (p : Tables) (P : Position) (e : Event) (D : Configuration) (r : Recorded) (entry : Logged) (es : List Logged) (n : ℕ) → Tells P.at e r D entry → n < length P.fired → fired_of P n ≡ length (drafts_of n es)
+    (p : Tables) (P : Position) (e : Event) (D : Configuration) (r : Recorded) (entry : Logged) (es : List Logged) (n : ℕ) → Tells P.at e r D entry
+    → n < length P.fired → fired_of P n ≡ length (drafts_of n es)
     → slice_index_or (fired_after e P.fired) n 0 ≡ length (drafts_of n (es ++ entry ∷ []))
 still_counted p P (Input topic value) D r entry es n is lt was =
     was ∙ none_more n es entry (ap (λ x. drafts_of n (x ∷ [])) is)
@@ -111,7 +123,8 @@ still_each (Tick noise) fired = refl
 
 -- how much is still to come at a configuration is told by its time and by what is left
 same_come :
-    (xs ys : List (ℕ × ℕ)) (k t u : ℕ) (l m l' m' : List Bool) → u ≡ t → l' ≡ l → m' ≡ m → to_come u k xs l' + to_come u k ys m' ≡ to_come t k xs l + to_come t k ys m
+    (xs ys : List (ℕ × ℕ)) (k t u : ℕ) (l m l' m' : List Bool) → u ≡ t → l' ≡ l → m' ≡ m
+    → to_come u k xs l' + to_come u k ys m' ≡ to_come t k xs l + to_come t k ys m
 same_come xs ys k t u l m l' m' a b d =
     ap (λ z. to_come z k xs l' + to_come z k ys m') a ∙ ap (λ z. to_come t k xs z + to_come t k ys m') b ∙ ap (λ z. to_come t k xs l + to_come t k ys z) d
 
@@ -155,19 +168,25 @@ module_count p = length-map p.modules (λ x. let r : ℕ × ℕ = (x.period, x.o
 
 -- with fewer ticks to the horizon after an event, one event less is to come, and fewer numbers
 abbrev pub Lessens : Tables → ℕ → Position → ℕ → Position → Logged → Type 0
-Lessens p h P k Q entry = (l : ℕ) × (Q.at.time + l ≡ h) × (events_to_come p l Q + 1 ≤ events_to_come p k P) × (numbers_to_come p l Q + numbers_in entry ≤ numbers_to_come p k P)
+Lessens p h P k Q entry =
+    (l : ℕ) × (Q.at.time + l ≡ h) × (events_to_come p l Q + 1 ≤ events_to_come p k P) × (numbers_to_come p l Q + numbers_in entry ≤ numbers_to_come p k P)
 
-module _ (p : Tables) (j : ℕ) (f : Plan) (P Q : Position) (r : Recorded) (entry : Logged) (k : ℕ) (ends : P.at.time + k ≡ f.horizon) (sizes : IsSized p P.at) (points : ArePoints p Q.at.points) where
-  fires_less : (n : ℕ) (node : NodeInfo) (locals : List ℤ) (draft : List (Option ℤ)) → At p.nodes n node → Fires p n node locals draft P.at Q.at → Q.inputs ≡ P.inputs → numbers_in entry ≡ 0 → Lessens p f.horizon P k Q entry
+module _ (p : Tables) (j : ℕ) (f : Plan) (P Q : Position) (r : Recorded) (entry : Logged) (k : ℕ) (ends : P.at.time + k ≡ f.horizon) (sizes : IsSized p P.at)
+    (points : ArePoints p Q.at.points) where
+  fires_less : (n : ℕ) (node : NodeInfo) (locals : List ℤ) (draft : List (Option ℤ)) → At p.nodes n node → Fires p n node locals draft P.at Q.at
+      → Q.inputs ≡ P.inputs → numbers_in entry ≡ 0 → Lessens p f.horizon P k Q entry
   fires_less n node locals draft at fires inputs none =
       let lt : n < length (node_times p) = omega (arith, slice_get_within p.nodes n node at, node_count p) in
       let one = after_one P.at.time k (node_times p) P.at.left n lt fires.was_left in
-      let same = same_come (node_times p) (module_times p) k P.at.time Q.at.time (slice_set P.at.left n false) P.at.left_dm Q.at.left Q.at.left_dm fires.time fires.left fires.left_dm in
+      let same = same_come (node_times p) (module_times p) k P.at.time Q.at.time (slice_set P.at.left n false) P.at.left_dm Q.at.left Q.at.left_dm fires.time
+      fires.left fires.left_dm in
       (k, ap (λ t. t + k) fires.time ∙ ends, omega (arith, one, same, ap length inputs), omega (arith, none, ap input_numbers inputs))
 
-  pub lessens : (e : Event) → IsStated p f P e → Step p j P.at e Q.at → Tells P.at e r Q.at entry → Q.inputs ≡ inputs_after e P.inputs → Lessens p f.horizon P k Q entry
+  pub lessens : (e : Event) → IsStated p f P e → Step p j P.at e Q.at → Tells P.at e r Q.at entry → Q.inputs ≡ inputs_after e P.inputs
+      → Lessens p f.horizon P k Q entry
   lessens (Input topic value) stated step told inputs =
-      let same = same_come (node_times p) (module_times p) k P.at.time Q.at.time P.at.left P.at.left_dm Q.at.left Q.at.left_dm (ap (λ c. c.time) step.rest) (ap (λ c. c.left) step.rest) (ap (λ c. c.left_dm) step.rest) in
+      let same = same_come (node_times p) (module_times p) k P.at.time Q.at.time P.at.left P.at.left_dm Q.at.left Q.at.left_dm (ap (λ c. c.time) step.rest)
+      (ap (λ c. c.left) step.rest) (ap (λ c. c.left_dm) step.rest) in
       let first = stated.1 in
       let now = inputs ∙ ap (inputs_after (Input topic value)) first in (
         k,
@@ -180,24 +199,33 @@ module _ (p : Tables) (j : ℕ) (f : Plan) (P Q : Position) (r : Recorded) (entr
   lessens (Decide m) stated step told inputs =
       let lt : m < length (module_times p) = omega (arith, slice_get_within p.modules m step.module_info step.is, module_count p) in
       let one = after_one P.at.time k (module_times p) P.at.left_dm m lt step.was_left in
-      let same = same_come (node_times p) (module_times p) k P.at.time Q.at.time P.at.left (slice_set P.at.left_dm m false) Q.at.left Q.at.left_dm (ap (λ c. c.time) step.rest) (ap (λ c. c.left) step.rest) step.left_dm in
+      let same = same_come (node_times p) (module_times p) k P.at.time Q.at.time P.at.left (slice_set P.at.left_dm m false) Q.at.left Q.at.left_dm
+      (ap (λ c. c.time) step.rest) (ap (λ c. c.left) step.rest) step.left_dm in
       (k, ap (λ c. c.time + k) step.rest ∙ ends, omega (arith, one, same, ap length inputs), omega (arith, ap numbers_in told.2, ap input_numbers inputs))
   lessens (Tick noise) stated step told inputs = tick k ends
     where
       size : length (joined noise) + length (joined Q.at.points) ≡ tick_numbers p.plants
       size = tick_size p.plants noise Q.at.points step.each points.each
-          (λ i plant at. within_length (bounds plant) (slice_index_or noise i []) (step.bounded i plant at) ∙ length-map plant.noise.items (λ d. let s : Side = record { lo = d.lo; hi = d.hi } in s))
+          (λ i plant at. within_length (bounds plant) (slice_index_or noise i []) (step.bounded i plant at)
+          ∙ length-map plant.noise.items (λ d. let s : Side = record { lo = d.lo; hi = d.hi } in s))
           points.widths
 
       tick : (k : ℕ) → P.at.time + k ≡ f.horizon → Lessens p f.horizon P k Q entry
       tick zero end = absurd (omega (arith, end, stated.0))
       tick (suc k) end =
-          let nodes = left_after (λ x. let r : ℕ × ℕ = (x.period, x.offset) in r) p.nodes P.at.time k P.at.left Q.at.left sizes.left step.sizes.left (λ i x at on. subst (λ t. (is_left P.at i ≡ true) ⊎ IsDue x.period x.offset t) step.time ((step.left i x at).0 on)) in
-          let modules = left_after (λ x. let r : ℕ × ℕ = (x.period, x.offset) in r) p.modules P.at.time k P.at.left_dm Q.at.left_dm sizes.left_dm step.sizes.left_dm (λ i x at on. subst (λ t. (is_left_dm P.at i ≡ true) ⊎ IsDue x.period x.offset t) step.time ((step.left_dm i x at).0 on)) in
-          let same = same_come (node_times p) (module_times p) k (suc P.at.time) Q.at.time Q.at.left Q.at.left_dm Q.at.left Q.at.left_dm step.time refl refl in
-          (k, omega (arith, step.time, end), omega (arith, nodes, modules, same, ap length inputs), omega (arith, size, ap numbers_in told, ap input_numbers inputs))
+          let nodes = left_after (λ x. let r : ℕ × ℕ = (x.period, x.offset) in r) p.nodes P.at.time k P.at.left Q.at.left sizes.left step.sizes.left
+          (λ i x at on. subst (λ t. (is_left P.at i ≡ true) ⊎ IsDue x.period x.offset t) step.time ((step.left i x at).0 on)) in
+          let modules = left_after (λ x. let r : ℕ × ℕ = (x.period, x.offset) in r) p.modules P.at.time k P.at.left_dm Q.at.left_dm sizes.left_dm
+          step.sizes.left_dm (λ i x at on. subst (λ t. (is_left_dm P.at i ≡ true) ⊎ IsDue x.period x.offset t) step.time ((step.left_dm i x at).0 on)) in
+          let same = same_come (node_times p) (module_times p) k (suc P.at.time) Q.at.time Q.at.left Q.at.left_dm Q.at.left Q.at.left_dm step.time refl refl in (
+            k,
+            omega (arith, step.time, end),
+            omega (arith, nodes, modules, same, ap length inputs),
+            omega (arith, size, ap numbers_in told, ap input_numbers inputs),
+          )
 
-module _ (b : Standing) (versions : List ℕ) (entries_left numbers_left : ℕ) (has : HasStanding b versions entries_left numbers_left) (entry : Logged) (Q : Position)
+module _ (b : Standing) (versions : List ℕ) (entries_left numbers_left : ℕ) (has : HasStanding b versions entries_left numbers_left) (entry : Logged)
+    (Q : Position)
     (flies : Flies b.accepted.program b.accepted.cert.jitter b.plan b.position entry Q) where
   abbrev p : Tables
   p = b.accepted.program
@@ -209,7 +237,9 @@ module _ (b : Standing) (versions : List ℕ) (entries_left numbers_left : ℕ) 
   kept' = step_kept b.accepted b.position.at has.standing.kept Q.at flies.event flies.step (omega (arith, in_time', has.standing.fits.horizon))
 
   less : Lessens p b.plan.horizon b.position has.room.ticks Q entry
-  less = lessens p b.accepted.cert.jitter b.plan b.position Q flies.recorded entry has.room.ticks has.room.horizon_is has.standing.kept.holds.sizes (are_points b.accepted Q.at kept') flies.event flies.stated flies.step flies.tells flies.inputs
+  less =
+      lessens p b.accepted.cert.jitter b.plan b.position Q flies.recorded entry has.room.ticks has.room.horizon_is has.standing.kept.holds.sizes
+      (are_points b.accepted Q.at kept') flies.event flies.stated flies.step flies.tells flies.inputs
 
   -- each plant has a point of its width
   pub points_after : ArePoints b.accepted.program Q.at.points
@@ -224,7 +254,8 @@ module _ (b : Standing) (versions : List ℕ) (entries_left numbers_left : ℕ) 
 
   -- .. and the board stands after it
   pub stands_after :
-      (versions' : List ℕ) (entries_left' numbers_left' : ℕ) → Counted b.accepted.program entry versions versions' → entries_left' + 1 ≡ entries_left → numbers_left' + numbers_in entry ≡ numbers_left
+      (versions' : List ℕ) (entries_left' numbers_left' : ℕ) → Counted b.accepted.program entry versions versions' → entries_left' + 1 ≡ entries_left
+      → numbers_left' + numbers_in entry ≡ numbers_left
       → HasStanding (record { accepted = b.accepted; plan = b.plan; entries = b.entries ++ entry ∷ []; position = Q }) versions' entries_left' numbers_left'
   stands_after versions' entries_left' numbers_left' counted e n = record {
     standing = record {
@@ -233,14 +264,29 @@ module _ (b : Standing) (versions : List ℕ) (entries_left numbers_left : ℕ) 
       kept = kept';
       flown = flown_more p b.accepted.cert.jitter b.plan b.entries b.position entry Q has.standing.flown flies;
       in_time = in_time';
-      ahead = λ i x at. still_ahead p b.accepted.cert.jitter b.plan b.position flies.event Q.at flies.stated flies.step has.standing.ahead i x (subst (λ l. At l i x) flies.inputs at);
-      inputs = λ i x at. (let k = still_at p b.plan b.position flies.event flies.stated i x (subst (λ l. At l i x) flies.inputs at) in has.standing.inputs k.0 x k.1);
-      ordered = λ i x y at_x at_y. still_ordered p b.accepted.cert.jitter b.plan b.position flies.event Q.at flies.stated flies.step has.standing.ordered i x y (subst (λ l. At l i x) flies.inputs at_x) (subst (λ l. At l (suc i) y) flies.inputs at_y);
+      ahead =
+          λ i x at. still_ahead p b.accepted.cert.jitter b.plan b.position flies.event Q.at flies.stated flies.step has.standing.ahead i x
+          (subst (λ l. At l i x) flies.inputs at);
+      inputs =
+          λ i x at. (let k = still_at p b.plan b.position flies.event flies.stated i x (subst (λ l. At l i x) flies.inputs at) in
+          has.standing.inputs k.0 x k.1);
+      ordered =
+          λ i x y at_x at_y. still_ordered p b.accepted.cert.jitter b.plan b.position flies.event Q.at flies.stated flies.step has.standing.ordered i x y
+          (subst (λ l. At l i x) flies.inputs at_x) (subst (λ l. At l (suc i) y) flies.inputs at_y);
       fired_each = ap length flies.fired ∙ still_each flies.event b.position.fired ∙ has.standing.fired_each;
-      fired = λ i lt. ap (λ l. slice_index_or l i 0) flies.fired ∙ still_counted p b.position flies.event Q.at flies.recorded entry b.entries i flies.tells (omega (arith, lt, has.standing.fired_each)) (has.standing.fired i lt);
+      fired =
+          λ i lt. ap (λ l. slice_index_or l i 0) flies.fired ∙ still_counted p b.position flies.event Q.at flies.recorded entry b.entries i flies.tells
+          (omega (arith, lt, has.standing.fired_each)) (has.standing.fired i lt);
     };
     each = counted.0 ∙ has.each;
-    versions_are = λ i lt. counted.1 i lt ∙ ap (λ v. if writes_topic p i entry then suc v else v) (has.versions_are i lt) ∙ sym (version_more p i b.entries entry);
-    room = record { ticks = less.0; horizon_is = less.1; events = omega (arith, less.2, has.room.events, e); all_numbers = omega (arith, less.3, has.room.all_numbers, n) };
+    versions_are =
+        λ i lt. counted.1 i lt ∙ ap (λ v. if writes_topic p i entry then suc v else v) (has.versions_are i lt) ∙ sym (version_more p i b.entries entry);
+    room =
+        record {
+          ticks = less.0;
+          horizon_is = less.1;
+          events = omega (arith, less.2, has.room.events, e);
+          all_numbers = omega (arith, less.3, has.room.all_numbers, n);
+        };
     events = ap (λ i. i + entries_left') (length-append b.entries (entry ∷ [])) ∙ omega (arith, e, has.events);
   }

@@ -9,7 +9,8 @@ use Rattle.sot_board.specs.Calls.{InputDue}
 
 -- inputs by time: none comes before the first one
 first_least :
-    (x : StatedInput) (xs : List StatedInput) → ((i : ℕ) (y z : StatedInput) → At (x ∷ xs) i y → At (x ∷ xs) (suc i) z → y.at ≤ z.at) → (i : ℕ) (y : StatedInput) → At (x ∷ xs) i y → x.at ≤ y.at
+    (x : StatedInput) (xs : List StatedInput) → ((i : ℕ) (y z : StatedInput) → At (x ∷ xs) i y → At (x ∷ xs) (suc i) z → y.at ≤ z.at)
+    → (i : ℕ) (y : StatedInput) → At (x ∷ xs) i y → x.at ≤ y.at
 first_least x xs ordered zero y at = (let e = same_Some x y at in omega (arith, ap (λ z. z.at) e))
 first_least x [] ordered (suc i) y at = absurd (none-some y at)
 first_least x (w ∷ xs) ordered (suc i) y at =
@@ -18,7 +19,8 @@ first_least x (w ∷ xs) ordered (suc i) y at =
     omega (arith, rest, here)
 
 -- where the next input is not due, none is
-none_due : (t : ℕ) (xs : List StatedInput) → ((i : ℕ) (x : StatedInput) → At xs i x → t ≤ x.at) → ((i : ℕ) (y z : StatedInput) → At xs i y → At xs (suc i) z → y.at ≤ z.at)
+none_due : (t : ℕ) (xs : List StatedInput) → ((i : ℕ) (x : StatedInput) → At xs i x → t ≤ x.at)
+    → ((i : ℕ) (y z : StatedInput) → At xs i y → At xs (suc i) z → y.at ≤ z.at)
     → ((x : StatedInput) (rest : List StatedInput) → xs ≡ x ∷ rest → x.at ≡ t → ⊥) → (i : ℕ) (x : StatedInput) → At xs i x → x.at ≢ t
 none_due t [] ahead ordered not i x at now = none-some x at
 none_due t (w ∷ xs) ahead ordered not i x at now =
@@ -36,7 +38,8 @@ input_not_due b none (x, rest, same, now) = none 0 x (subst (λ l. At l 0 x) (sy
 pub no_input_left : (b : Standing) → IsStanding b → b.position.at.time ≡ b.plan.horizon → NoInputDue b.position → b.position.inputs ≡ []
 no_input_left b is end none = from b.position.inputs is.ahead none (λ i x at. (is.inputs i x at).in_time)
   where
-    from : (xs : List StatedInput) → ((i : ℕ) (x : StatedInput) → At xs i x → b.position.at.time ≤ x.at) → ((i : ℕ) (x : StatedInput) → At xs i x → x.at ≢ b.position.at.time) → ((i : ℕ) (x : StatedInput) → At xs i x → x.at ≤ b.plan.horizon) → xs ≡ []
+    from : (xs : List StatedInput) → ((i : ℕ) (x : StatedInput) → At xs i x → b.position.at.time ≤ x.at)
+        → ((i : ℕ) (x : StatedInput) → At xs i x → x.at ≢ b.position.at.time) → ((i : ℕ) (x : StatedInput) → At xs i x → x.at ≤ b.plan.horizon) → xs ≡ []
     from [] ahead not by = refl
     from (x ∷ xs) ahead not by = (let a = ahead 0 x refl in let d = by 0 x refl in absurd (not 0 x refl (omega (arith, a, d, end))))
 

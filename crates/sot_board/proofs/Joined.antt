@@ -14,7 +14,9 @@ joined_short (x ∷ xs) zero = omega arith
 joined_short (x ∷ xs) (suc i) = (let rest = joined_short xs i in omega (arith, rest, length-append x (joined xs), length-append x (joined (take i xs))))
 
 -- the states of plants, each of its width
-pub joined_size : (plants : List PlantInfo) (points : List (List ℤ)) → length points ≡ length plants → ((k : ℕ) (plant : PlantInfo) → At plants k plant → length (slice_index_or points k []) ≡ length plant.states.items) → length (joined points) ≡ state_count plants
+pub joined_size : (plants : List PlantInfo) (points : List (List ℤ)) → length points ≡ length plants
+    → ((k : ℕ) (plant : PlantInfo) → At plants k plant → length (slice_index_or points k []) ≡ length plant.states.items)
+    → length (joined points) ≡ state_count plants
 joined_size [] [] size wide = refl
 joined_size [] (s ∷ points) size wide = cc
 joined_size (x ∷ plants) [] size wide = cc

@@ -18,7 +18,8 @@ module _ (g : Global) where
   opens : IsOpening (relay g) [] (relaying (pos 0) (pos 0))
   opens = record {
     time = refl;
-    left = at_one (λ n node. (is_left (relaying (pos 0) (pos 0)) n ≡ true) ↔ IsDue node.period node.offset 0) (copy g) ((λ e. (omega arith, refl)), (λ d. refl));
+    left =
+        at_one (λ n node. (is_left (relaying (pos 0) (pos 0)) n ≡ true) ↔ IsDue node.period node.offset 0) (copy g) ((λ e. (omega arith, refl)), (λ d. refl));
     left_dm = λ m a at. absurd (none-some a at);
     modes = refl;
     scalars = refl;
@@ -43,7 +44,16 @@ module _ (g : Global) where
       record { opening = opens; inputs = refl; fired = refl },
       (
         record { at = relaying (pos 5) (pos 0); inputs = []; fired = 0 ∷ [] },
-        record { event = Input 0 (pos 5 ∷ []); stated = ([], refl); step = input_5 g; recorded = InputTaken; records = refl; tells = refl; inputs = refl; fired = refl },
+        record {
+          event = Input 0 (pos 5 ∷ []);
+          stated = ([], refl);
+          step = input_5 g;
+          recorded = InputTaken;
+          records = refl;
+          tells = refl;
+          inputs = refl;
+          fired = refl;
+        },
         (
           record { at = copied; inputs = []; fired = 1 ∷ [] },
           record {
@@ -51,7 +61,16 @@ module _ (g : Global) where
             stated = tt;
             step = copy_5 g;
             recorded = NodeFired (Some (pos 5) ∷ []) true;
-            records = record { node = copy g; is = refl; acts = copy_acts g; coded = (_, refl, refl); fired = record { locals = []; draft = Some (pos 5) ∷ [] }; runs = refl; recorded = refl };
+            records =
+                record {
+                  node = copy g;
+                  is = refl;
+                  acts = copy_acts g;
+                  coded = (_, refl, refl);
+                  fired = record { locals = []; draft = Some (pos 5) ∷ [] };
+                  runs = refl;
+                  recorded = refl;
+                };
             tells = (Some (pos 5) ∷ [], true, refl, refl);
             inputs = refl;
             fired = refl;
@@ -71,7 +90,8 @@ module _ (g : Global) where
   )
 
   -- a firing leaves the inputs that are still to come
-  inputs_stay : (P Q : Position) (e : Event) (r : Recorded) (slots : List (Option ℤ)) (enabled : Bool) → Tells P.at e r Q.at (FireAt 0 0 slots enabled) → inputs_after e P.inputs ≡ P.inputs
+  inputs_stay : (P Q : Position) (e : Event) (r : Recorded) (slots : List (Option ℤ)) (enabled : Bool) → Tells P.at e r Q.at (FireAt 0 0 slots enabled)
+      → inputs_after e P.inputs ≡ P.inputs
   inputs_stay P Q (Input topic value) r slots enabled told = cc
   inputs_stay P Q (Code n) r slots enabled told = refl
   inputs_stay P Q (Guest n draft) r slots enabled told = refl

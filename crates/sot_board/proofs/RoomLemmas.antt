@@ -19,7 +19,8 @@ fewer false true n h = ⊎_elim (λ e. cc) (λ e. omega (arith, e)) (h refl)
 -- a tick: what is left after it was left before it or is due then
 pub after_tick :
     (t k : ℕ) (xs : List (ℕ × ℕ)) (left left' : List Bool) → length left ≡ length xs → length left' ≡ length xs
-    → ((i : ℕ) → i < length xs → slice_index_or left' i false ≡ true → (slice_index_or left i false ≡ true) ⊎ (due_once (slice_index_or xs i (0, 0)).0 (slice_index_or xs i (0, 0)).1 (suc t) ≡ 1))
+    → ((i : ℕ) → i < length xs → slice_index_or left' i false ≡ true
+    → (slice_index_or left i false ≡ true) ⊎ (due_once (slice_index_or xs i (0, 0)).0 (slice_index_or xs i (0, 0)).1 (suc t) ≡ 1))
     → to_come (suc t) k xs left' ≤ to_come t (suc k) xs left
 after_tick t k [] left left' size size' each = omega arith
 after_tick t k (x ∷ xs) [] left' size size' each = cc
@@ -41,11 +42,13 @@ after_one t k (x ∷ xs) (b ∷ left) (suc i) lt was = (let rest = after_one t k
 -- the calendar's count from the first tick on
 last_tick : (period offset t k : ℕ) → due_after period offset t (suc k) ≡ due_after period offset t k + due_once period offset (suc (t + k))
 last_tick period offset t zero =
-    let at : due_once period offset (suc t) ≡ due_once period offset (suc (t + 0)) = ap (λ n. due_once period offset n) (let e : suc t ≡ suc (t + 0) = omega arith in e) in
+    let at : due_once period offset (suc t) ≡ due_once period offset (suc (t + 0)) =
+    ap (λ n. due_once period offset n) (let e : suc t ≡ suc (t + 0) = omega arith in e) in
     omega (arith, at)
 last_tick period offset t (suc k) =
     let rest = last_tick period offset (suc t) k in
-    let at : due_once period offset (suc (suc t + k)) ≡ due_once period offset (suc (t + suc k)) = ap (λ n. due_once period offset n) (let e : suc (suc t + k) ≡ suc (t + suc k) = omega arith in e) in
+    let at : due_once period offset (suc (suc t + k)) ≡ due_once period offset (suc (t + suc k)) =
+    ap (λ n. due_once period offset n) (let e : suc (suc t + k) ≡ suc (t + suc k) = omega arith in e) in
     omega (arith, rest, at)
 
 pub count_from_0 : (period offset h : ℕ) → due_once period offset 0 + due_after period offset 0 h ≡ due_count period offset h
@@ -53,7 +56,8 @@ count_from_0 period offset zero = omega arith
 count_from_0 period offset (suc h) =
     let rest = count_from_0 period offset h in
     let last = last_tick period offset 0 h in
-    let at : due_once period offset (suc (0 + h)) ≡ due_once period offset (suc h) = ap (λ n. due_once period offset n) (let e : suc (0 + h) ≡ suc h = omega arith in e) in
+    let at : due_once period offset (suc (0 + h)) ≡ due_once period offset (suc h) =
+    ap (λ n. due_once period offset n) (let e : suc (0 + h) ≡ suc h = omega arith in e) in
     omega (arith, rest, last, at)
 
 -- the sum of the counts

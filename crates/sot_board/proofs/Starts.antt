@@ -44,7 +44,8 @@ decisions h (m ∷ ms) = (let rest = decisions h ms in omega (arith, rest))
 -- what is left at an opening is due at 0
 opening_come :
     {A : Type 0} (times : A → ℕ × ℕ) (xs : List A) (h t : ℕ) (left : List Bool) → t ≡ 0 → length left ≡ length xs
-    → ((i : ℕ) (x : A) → At xs i x → slice_index_or left i false ≡ true → IsDue (times x).0 (times x).1 0) → to_come t h (map times xs) left ≤ counts h (map times xs)
+    → ((i : ℕ) (x : A) → At xs i x → slice_index_or left i false ≡ true → IsDue (times x).0 (times x).1 0)
+    → to_come t h (map times xs) left ≤ counts h (map times xs)
 opening_come times xs h t left now size each =
     subst (λ u. to_come u h (map times xs) left ≤ counts h (map times xs)) (sym now)
     (at_opening h (map times xs) left (size ∙ sym (length-map xs times)) (λ i lt on.
@@ -52,17 +53,21 @@ opening_come times xs h t left now size each =
     let is = get_or_from_slice_get (map times xs) i (times x.0) (0, 0) (at_map times xs i x.0 x.1) in
     subst (λ z. due_once z.0 z.1 0 ≡ 1) (sym is) (once_due (times x.0).0 (times x.0).1 0 (each i x.0 x.1 on))))
 
-pub starts : (p : Tables) (f : Plan) (C : Configuration) (fired : List ℕ) → IsOpening p f.start C → fired ≡ zeros_of (length p.nodes) → IsStart p f (record { at = C; inputs = f.inputs; fired = fired })
+pub starts : (p : Tables) (f : Plan) (C : Configuration) (fired : List ℕ) → IsOpening p f.start C → fired ≡ zeros_of (length p.nodes)
+    → IsStart p f (record { at = C; inputs = f.inputs; fired = fired })
 starts p f C fired opening zeros = record { opening = opening; inputs = refl; fired = zeros ∙ zeros_map p.nodes }
 
 pub stands_at_start :
-    (a : Admitted) (f : Plan) (guests : ℕ) (C : Configuration) (fired versions : List ℕ) → IsKept a C → FitsFlight a.program guests f → IsOpening a.program f.start C
+    (a : Admitted) (f : Plan) (guests : ℕ) (C : Configuration) (fired versions : List ℕ) → IsKept a C → FitsFlight a.program guests f
+    → IsOpening a.program f.start C
     → fired ≡ zeros_of (length a.program.nodes) → versions ≡ zeros_of (length a.program.topics)
     → HasStanding (record { accepted = a; plan = f; entries = []; position = record { at = C; inputs = f.inputs; fired = fired } }) versions f.events f.numbers
 stands_at_start a f guests C fired versions kept fits opening zeros zeros' =
     let p = a.program in
-    let nodes = opening_come (λ n. let r : ℕ × ℕ = (n.period, n.offset) in r) p.nodes f.horizon C.time C.left opening.time opening.sizes.left (λ i x at on. (opening.left i x at).0 on) in
-    let modules = opening_come (λ m. let r : ℕ × ℕ = (m.period, m.offset) in r) p.modules f.horizon C.time C.left_dm opening.time opening.sizes.left_dm (λ i x at on. (opening.left_dm i x at).0 on) in
+    let nodes = opening_come (λ n. let r : ℕ × ℕ = (n.period, n.offset) in r) p.nodes f.horizon C.time C.left opening.time opening.sizes.left
+    (λ i x at on. (opening.left i x at).0 on) in
+    let modules = opening_come (λ m. let r : ℕ × ℕ = (m.period, m.offset) in r) p.modules f.horizon C.time C.left_dm opening.time opening.sizes.left_dm
+    (λ i x at on. (opening.left_dm i x at).0 on) in
     record {
       standing = record {
         guests = guests;

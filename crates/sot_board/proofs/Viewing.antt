@@ -15,18 +15,24 @@ use Rattle.sot_board.specs.Views.{slot_version}
 use Rattle.sot_board.proofs.Publishing.{topic_inside}
 
 -- the topic of each scalar that a node reads has a count
-pub counts_there : (p : Tables) → MeetsTableRules p → (counts : List ℕ) → length counts ≡ length p.topics → (n : ℕ) (node : NodeInfo) → At p.nodes n node → (i : ℕ) (slot : Slot) → At node.reads.items i slot → HasCount p counts slot
+pub counts_there : (p : Tables) → MeetsTableRules p → (counts : List ℕ) → length counts ≡ length p.topics → (n : ℕ) (node : NodeInfo) → At p.nodes n node
+    → (i : ℕ) (slot : Slot) → At node.reads.items i slot → HasCount p counts slot
 counts_there p rules counts size n node at i (Scalar k) there =
-    let lt = (rules.nodes n node at).reads_scalars k (i, there) in
-    (lt, topic_inside p k (length counts) lt (λ j info at_j. let topic = rules.typed.scalar_topic j info at_j in omega (arith, slice_get_within p.topics info.topic topic.0 topic.1, size)))
+    let lt = (rules.nodes n node at).reads_scalars k (i, there) in (
+      lt,
+      topic_inside p k (length counts) lt (λ j info at_j. let topic = rules.typed.scalar_topic j info at_j in
+          omega (arith, slice_get_within p.topics info.topic topic.0 topic.1, size)),
+    )
 counts_there p rules counts size n node at i (State k v) there = tt
 
 -- the counts are the versions
 pub counts_are :
-    (p : Tables) (entries : List Logged) (counts : List ℕ) (slots : List Slot) → length counts ≡ length p.topics → ((i : ℕ) (slot : Slot) → At slots i slot → HasCount p counts slot)
+    (p : Tables) (entries : List Logged) (counts : List ℕ) (slots : List Slot) → length counts ≡ length p.topics
+    → ((i : ℕ) (slot : Slot) → At slots i slot → HasCount p counts slot)
     → ((k : ℕ) → k < length p.topics → slice_index_or counts k 0 ≡ version p k entries) → map (count_of p counts) slots ≡ map (slot_version p entries) slots
 counts_are p entries counts [] size there are = refl
-counts_are p entries counts (slot ∷ slots) size there are = ap₂ (λ x xs. x ∷ xs) (one slot (there 0 slot refl)) (counts_are p entries counts slots size (λ i. there (suc i)) are)
+counts_are p entries counts (slot ∷ slots) size there are =
+    ap₂ (λ x xs. x ∷ xs) (one slot (there 0 slot refl)) (counts_are p entries counts slots size (λ i. there (suc i)) are)
   where
     one : (s : Slot) → HasCount p counts s → count_of p counts s ≡ slot_version p entries s
     one (Scalar k) has = are (topic_of p k) (omega (arith, has.1, size))

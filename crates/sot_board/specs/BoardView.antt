@@ -7,10 +7,21 @@ use Rattle.sot_board.specs.Standing.{Standing, HasStanding}
 use Rattle.sot_board.specs.Counts.{state_count}
 
 abbrev pub position : Inside → Position
-position b = record { at = b.world.at; inputs = drop b.next_input b.flight.now.inputs; fired = b.fired.items }
+position b =
+    record {
+      at = b.world.at;
+      inputs = drop b.next_input b.flight.now.inputs;
+      fired = b.fired.items;
+    }
 
 abbrev pub standing : Inside → Standing
-standing b = record { accepted = b.world.accepted; plan = b.flight.now; entries = b.history.entries; position = position b }
+standing b =
+    record {
+      accepted = b.world.accepted;
+      plan = b.flight.now;
+      entries = b.history.entries;
+      position = position b;
+    }
 
 -- what is kept, the place in the inputs, and room for the disturbances and the states of one tick
 pub record IsBoard (b : Inside) : Type 0 where

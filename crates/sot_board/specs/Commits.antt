@@ -11,16 +11,23 @@ use Rattle.sot_board.specs.declared.commit.Commit.{Commit}
 use Rattle.sot_board.specs.declared.commit.Commit.TheVariants.{Done, Again}
 use Rattle.sot_board.specs.Flown.{Position, FlownSoFar}
 use Rattle.sot_board.specs.Standing.{Standing}
-use Rattle.sot_board.specs.Views.{IsView, slot_version, viewed_node, viewed_time, viewed_entries, viewed_numbers, viewed_versions, viewed_locals}
+use Rattle.sot_board.specs.Views.{IsView, slot_version, viewed_node, viewed_time, viewed_entries}
+use Rattle.sot_board.specs.Views.{viewed_numbers, viewed_versions, viewed_locals}
 
 -- the view was taken where a front of the present history, of the view's length, led to
 abbrev pub IsTakenFrom : Standing → View → Type 0
 IsTakenFrom b v =
-    (P : Position) × FlownSoFar b.accepted.program b.accepted.cert.jitter b.plan (take (viewed_entries v) b.entries) P × IsView b.accepted.program (take (viewed_entries v) b.entries) P (viewed_node v) v
+    (P : Position) × FlownSoFar b.accepted.program b.accepted.cert.jitter b.plan
+    (take (viewed_entries v) b.entries) P
+    × IsView b.accepted.program (take (viewed_entries v) b.entries) P (viewed_node v) v
 
--- the view's time is the present time, and the versions of the topics that its node reads are the present ones
+-- the view's time is the present time, and the versions of the topics that its node reads are the
+-- present ones
 abbrev pub IsCurrent : Standing → View → Type 0
-IsCurrent b v = (viewed_time v ≡ b.position.at.time) × ((info : NodeInfo) → At b.accepted.program.nodes (viewed_node v) info → viewed_versions v ≡ map (slot_version b.accepted.program b.entries) info.reads.items)
+IsCurrent b v =
+    (viewed_time v ≡ b.position.at.time)
+    × ((info : NodeInfo) → At b.accepted.program.nodes (viewed_node v) info
+    → viewed_versions v ≡ map (slot_version b.accepted.program b.entries) info.reads.items)
 
 -- this is what the node's code gives on the view
 abbrev pub IsRunOn : Tables → View → Fired → Type 0

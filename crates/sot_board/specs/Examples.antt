@@ -33,4 +33,6 @@ RelayIsFlown = (g : Global) → FlownBy (relay g) 0 relay_flight relay_history
 
 -- .. but not by a firing alone, whatever is drafted
 abbrev pub NotWithoutInput : Type 0
-NotWithoutInput = (g : Global) (slots : List (Option ℤ)) (enabled : Bool) → FlownBy (relay g) 0 relay_flight (FireAt 0 0 slots enabled ∷ []) → ⊥
+NotWithoutInput =
+    (g : Global) (slots : List (Option ℤ)) (enabled : Bool)
+    → FlownBy (relay g) 0 relay_flight (FireAt 0 0 slots enabled ∷ []) → ⊥

@@ -1,5 +1,7 @@
--- Histories of a flight: runs whose inputs, disturbances and drafts are those that the flight states.
-use Rattle.std.specs.Prelude.{ℕ, suc, ℤ, ◌<◌, ◌≡◌, ◌≢◌, Bool, List, [], ◌∷◌, Option, Some, None, slice_index_or, slice_set, map}
+-- Histories of a flight: runs whose inputs, disturbances and drafts are those that the flight
+-- states.
+use Rattle.std.specs.Prelude.{ℕ, suc, ℤ, ◌<◌, ◌≡◌, ◌≢◌, Bool, List, [], ◌∷◌, Option, Some, None}
+use Rattle.std.specs.Prelude.{slice_index_or, slice_set, map}
 use Rattle.sot_lists.specs.Places.{At}
 use Rattle.sot_lang.specs.declared.tables.NodeInfo.{NodeInfo}
 use Rattle.sot_lang.specs.Tables.{Tables}
@@ -13,7 +15,8 @@ use Rattle.sot_world.specs.HistoryEntry.{Logged, InputAt, FireAt, DecideAt, Tick
 use Rattle.sot_flight.specs.Plans.{StatedInput, Plan, Crew}
 use Rattle.sot_flight.specs.Stated.{stated_noise, draft_of}
 
--- where a flight stands: its configuration, the inputs that are still to come, and for each node how often it has fired
+-- where a flight stands: its configuration, the inputs that are still to come, and for each node
+-- how often it has fired
 pub record Position : Type 0 where
   pub at : Configuration
   pub inputs : List StatedInput
@@ -31,13 +34,20 @@ abbrev pub IsStatedDraft : Option (List (Option ℤ)) → List (Option ℤ) → 
 IsStatedDraft None draft = Unit {0}
 IsStatedDraft (Some stated) draft = draft ≡ stated
 
--- an event is as the flight states it: an input is the next one, at its time; a draft is the stated one of that firing; a tick comes before the horizon, once no input is due, with the stated disturbances
+-- an event is as the flight states it: an input is the next one, at its time; a draft is the stated
+-- one of that firing; a tick comes before the horizon, once no input is due, with the stated
+-- disturbances
 abbrev pub IsStated : Tables → Plan → Position → Event → Type 0
-IsStated p f P (Input topic value) = (rest : List StatedInput) × (P.inputs ≡ record { at = P.at.time; topic = topic; value = value } ∷ rest)
+IsStated p f P (Input topic value) =
+    (rest : List StatedInput) × (P.inputs
+    ≡ record { at = P.at.time; topic = topic; value = value } ∷ rest)
 IsStated p f P (Code n) = Unit {0}
-IsStated p f P (Guest n draft) = (node : NodeInfo) × (crew : Crew) × At p.nodes n node × At f.crews n crew × IsStatedDraft (draft_of p node crew (fired_of P n)) draft
+IsStated p f P (Guest n draft) =
+    (node : NodeInfo) × (crew : Crew) × At p.nodes n node × At f.crews n crew
+    × IsStatedDraft (draft_of p node crew (fired_of P n)) draft
 IsStated p f P (Decide m) = Unit {0}
-IsStated p f P (Tick noise) = (P.at.time < f.horizon) × NoInputDue P × (noise ≡ stated_noise p f P.at.time)
+IsStated p f P (Tick noise) =
+    (P.at.time < f.horizon) × NoInputDue P × (noise ≡ stated_noise p f P.at.time)
 
 -- the inputs that are still to come after an event
 abbrev pub inputs_after : Event → List StatedInput → List StatedInput
@@ -56,16 +66,25 @@ fired_after (Guest n draft) fired = slice_set fired n (suc (slice_index_or fired
 fired_after (Decide m) fired = fired
 fired_after (Tick noise) fired = fired
 
--- an entry of a history tells of an event from C to D: its time, what it was, and what is recorded of it; a draft stands in eight slots, the disturbances and the states of all plants one plant after another
+-- an entry of a history tells of an event from C to D: its time, what it was, and what is recorded
+-- of it; a draft stands in eight slots, the disturbances and the states of all plants one plant
+-- after another
 abbrev pub Tells : Configuration → Event → Recorded → Configuration → Logged → Type 0
 Tells C (Input topic value) r D entry = entry ≡ InputAt C.time topic value
-Tells C (Code n) r D entry = (draft : List (Option ℤ)) × (enabled : Bool) × (r ≡ NodeFired draft enabled) × (entry ≡ FireAt C.time n (in_slots draft) enabled)
-Tells C (Guest n _) r D entry = (draft : List (Option ℤ)) × (enabled : Bool) × (r ≡ NodeFired draft enabled) × (entry ≡ FireAt C.time n (in_slots draft) enabled)
-Tells C (Decide m) r D entry = (mode : _) × (r ≡ ModuleDecided mode) × (entry ≡ DecideAt C.time m mode)
+Tells C (Code n) r D entry =
+    (draft : List (Option ℤ)) × (enabled : Bool) × (r ≡ NodeFired draft enabled)
+    × (entry ≡ FireAt C.time n (in_slots draft) enabled)
+Tells C (Guest n _) r D entry =
+    (draft : List (Option ℤ)) × (enabled : Bool) × (r ≡ NodeFired draft enabled)
+    × (entry ≡ FireAt C.time n (in_slots draft) enabled)
+Tells C (Decide m) r D entry =
+    (mode : _) × (r ≡ ModuleDecided mode) × (entry ≡ DecideAt C.time m mode)
 Tells C (Tick noise) r D entry = entry ≡ TickAt C.time (joined noise) (joined D.points)
 
--- a flight goes from P to Q by one event of the semantics, as the flight states it, and this entry tells of it
-pub record Flies (p : Tables) (jitter : ℕ) (f : Plan) (P : Position) (entry : Logged) (Q : Position) : Type 0 where
+-- a flight goes from P to Q by one event of the semantics, as the flight states it, and this entry
+-- tells of it
+pub record Flies (p : Tables) (jitter : ℕ) (f : Plan) (P : Position) (entry : Logged) (Q : Position)
+    : Type 0 where
   pub event : Event
   pub stated : IsStated p f P event
   pub step : Step p jitter P.at event Q.at
@@ -78,7 +97,8 @@ pub record Flies (p : Tables) (jitter : ℕ) (f : Plan) (P : Position) (entry : 
 -- the entries lead from P to Q, one event after another
 abbrev pub Leads : Tables → ℕ → Plan → Position → List Logged → Position → Type 0
 Leads p jitter f P [] Q = P ≡ Q
-Leads p jitter f P (entry ∷ entries) Q = (R : Position) × Flies p jitter f P entry R × Leads p jitter f R entries Q
+Leads p jitter f P (entry ∷ entries) Q =
+    (R : Position) × Flies p jitter f P entry R × Leads p jitter f R entries Q
 
 -- the start of a flight: the opening at its points, all inputs still to come, and no node has fired
 pub record IsStart (p : Tables) (f : Plan) (P : Position) : Type 0 where
@@ -96,6 +116,8 @@ pub record IsEnd (p : Tables) (f : Plan) (Q : Position) : Type 0 where
   pub inputs : Q.inputs ≡ []
   pub nothing : NothingLeft p Q.at
 
--- a history of the flight: a run from its start with as many ticks as the horizon, after which nothing is left to fire or to input; its inputs are the flight's, each at its time and in order, its disturbances and stated drafts are those of the flight, and the drafts of guests are any
+-- a history of the flight: a run from its start with as many ticks as the horizon, after which
+-- nothing is left to fire or to input; its inputs are the flight's, each at its time and in order,
+-- its disturbances and stated drafts are those of the flight, and the drafts of guests are any
 abbrev pub FlownBy : Tables → ℕ → Plan → List Logged → Type 0
 FlownBy p jitter f entries = (Q : Position) × FlownSoFar p jitter f entries Q × IsEnd p f Q

@@ -8,6 +8,7 @@ pub mod Calls
 -- room for what is still to come
 pub mod Room
 pub mod Counts
+pub mod Firings
 -- counts of topics by read slots
 pub mod ReadCounts
 -- what a view has

@@ -12,7 +12,8 @@ use Rattle.sot_board.specs.declared.view.View.{View}
 use Rattle.sot_board.specs.Flown.{Position}
 use Rattle.sot_board.specs.Versions.{topic_of, version}
 
--- its node, its time, the length of its history, the numbers of the read slots, the versions of their topics, and the locals
+-- its node, its time, the length of its history, the numbers of the read slots, the versions of
+-- their topics, and the locals
 abbrev pub viewed_node : View → ℕ
 viewed_node v = v.node
 
@@ -37,10 +38,13 @@ slot_version p entries (Scalar k) = version p (topic_of p k) entries
 slot_version p entries (State k v) = 0
 
 -- the view of a node where these entries lead to this position
-pub record IsView (p : Tables) (entries : List Logged) (P : Position) (n : ℕ) (v : View) : Type 0 where
-  pub node : viewed_node v ≡ n
-  pub time : viewed_time v ≡ P.at.time
-  pub history : viewed_entries v ≡ length entries
-  pub numbers : (info : NodeInfo) → At p.nodes n info → viewed_numbers v ≡ reading info P.at.scalars P.at.points
-  pub versions : (info : NodeInfo) → At p.nodes n info → viewed_versions v ≡ map (slot_version p entries) info.reads.items
-  pub locals : viewed_locals v ≡ locals_of P.at n
+pub record IsView (p : Tables) (entries : List Logged) (P : Position) (n : ℕ) (v : View) : Type 0
+  where
+    pub node : viewed_node v ≡ n
+    pub time : viewed_time v ≡ P.at.time
+    pub history : viewed_entries v ≡ length entries
+    pub numbers : (info : NodeInfo) → At p.nodes n info
+        → viewed_numbers v ≡ reading info P.at.scalars P.at.points
+    pub versions : (info : NodeInfo) → At p.nodes n info
+        → viewed_versions v ≡ map (slot_version p entries) info.reads.items
+    pub locals : viewed_locals v ≡ locals_of P.at n

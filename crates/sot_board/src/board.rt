@@ -1,6 +1,7 @@
 //! A board: the world of a flight with its history.
 
-ghost use Rattle.std.specs.Prelude.{◌≡◌, ℕ, ◌<◌, true, [], length, IsTrue, ◌↔◌, IfOk, IfErr, IsErrOf};
+ghost use Rattle.std.specs.Prelude.{◌≡◌, ℕ, ◌<◌, true, [], length, IsTrue, ◌↔◌, IfOk, IfErr};
+ghost use Rattle.std.specs.Prelude.{IsErrOf};
 ghost use Rattle.sot_world.specs.Configurations.{is_left, is_left_dm, IsOpening, IsSafer};
 ghost use Rattle.sot_world.specs.Calendar.{NothingLeft};
 ghost use Rattle.sot_world.specs.Opens.{StartInside, IsFirstOutside, IfNotSafer};
@@ -25,9 +26,10 @@ mod calls;
 mod commits;
 mod views;
 
-/// A world that is flown as a flight states, with the history of what happened. Its type keeps that the history is one of the
-/// flight so far: a run from its start, of at most as many ticks as its horizon, with its inputs, each at its time and in order,
-/// its disturbances and its stated drafts; and that the world is where this run leads.
+/// A world that is flown as a flight states, with the history of what happened. Its type keeps that
+/// the history is one of the flight so far: a run from its start, of at most as many ticks as its
+/// horizon, with its inputs, each at its time and in order, its disturbances and its stated drafts;
+/// and that the world is where this run leads.
 #[derive(Drop)]
 pub struct Board<'a> {
     world: World<'a>,
@@ -59,11 +61,11 @@ impl<'a> Model for Board<'a> {
 }
 
 impl<'a> Board<'a> {
-    /// A board at the start of a flight of the program: the opening at the flight's points, and no entry yet. It takes all memory of
-    /// the flight.
+    /// A board at the start of a flight of the program: the opening at the flight's points, and no
+    /// entry yet. It takes all memory of the flight.
     ///
-    /// `NotSafer` names the first module whose plant starts outside the module's safer region; `Memory` says that there is none,
-    /// and comes only where every plant starts inside.
+    /// `NotSafer` names the first module whose plant starts outside the module's safer region;
+    /// `Memory` says that there is none, and comes only where every plant starts inside.
     pub fn open(
         alloc: Global,
         acc: &'a Accepted<'a>,
@@ -75,8 +77,10 @@ impl<'a> Board<'a> {
         ensures entries { IfOk result (λ b. b.entries ≡ []) }
         ensures accepted { IfOk result (λ b. b.accepted ≡ acc.now) }
         ensures plan { IfOk result (λ b. b.plan ≡ flight.now) }
-        ensures not_safer { IfErr result (λ f. IfNotSafer f (λ m. IsFirstOutside acc.now.program flight.now.start m)) }
-        ensures memory { IsErrOf result OpenFail.Memory → StartInside acc.now.program flight.now.start (length acc.now.program.modules) }
+        ensures not_safer { IfErr result (λ f.
+            IfNotSafer f (λ m. IsFirstOutside acc.now.program flight.now.start m)) }
+        ensures memory { IsErrOf result OpenFail.Memory
+            → StartInside acc.now.program flight.now.start (length acc.now.program.modules) }
     {
         let world = World::open(alloc, acc, flight.start())?;
         match Board::of(alloc, world, flight) {
@@ -89,13 +93,14 @@ impl<'a> Board<'a> {
     fn of(alloc: Global, world: World<'a>, flight: &'a Flight) -> Result<Board<'a>, AllocError>
         requires fits { (guests : ℕ) × FitsFlight world.accepted.program guests flight.now }
         requires opening { IsOpening world.accepted.program flight.now.start world.at }
-        ensures start { IfOk result (λ b. IsStart world.entry.accepted.program flight.now b.position) }
+        ensures start { IfOk result (λ b.
+            IsStart world.entry.accepted.program flight.now b.position) }
         ensures same { IfOk result (λ b. b.position.at ≡ world.entry.at) }
         ensures entries { IfOk result (λ b. b.entries ≡ []) }
         ensures accepted { IfOk result (λ b. b.accepted ≡ world.entry.accepted) }
         ensures plan { IfOk result (λ b. b.plan ≡ flight.now) }
     {
-        world.keeps_invariant();
+        world.reveal_invariant();
         let p = world.typed();
         let history = History::none(alloc, flight.events(), flight.numbers())?;
         let fired = no_counts(alloc, p.nodes.len())?;
@@ -114,8 +119,8 @@ impl<'a> Board<'a> {
         })
     }
 
-    /// What the type keeps, as a fact.
-    pub fn is_standing(&self)
+    /// Does nothing, and tells the proof what the type keeps.
+    pub fn reveal_invariant(&self)
         ensures { IsStanding self.now }
     {
         // A look at a field brings what the type keeps.
@@ -191,7 +196,8 @@ impl<'a> Board<'a> {
 
     /// Whether a tick may come: nothing that is left has its deadline now, and no input is due now.
     pub fn may_tick(&self) -> bool
-        ensures { IsTrue result ↔ MayTickNow self.now.accepted.program self.now.accepted.cert.jitter self.now.position }
+        ensures { IsTrue result ↔ MayTickNow self.now.accepted.program self.now.accepted.cert.jitter
+            self.now.position }
     {
         !self.due_input() && self.world.may_tick()
     }

@@ -24,7 +24,8 @@ pub fn count_noise(plants: &[PlantInfo]) -> usize
 /// The number of state variables of these plants.
 pub fn count_states(plants: &[PlantInfo]) -> usize
     requires few { length plants.now ≤ 100 }
-    requires each { (k : ℕ) (plant : Plant) → At plants.now k plant → length plant.states.items ≤ 4 }
+    requires each { (k : ℕ) (plant : Plant) → At plants.now k plant
+        → length plant.states.items ≤ 4 }
     ensures { result ≡ state_count plants.now }
 {
     let mut count = 0;

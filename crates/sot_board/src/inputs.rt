@@ -28,7 +28,8 @@ impl<'b, 'a> Model for Inputs<'b, 'a> {
 
     ghost view = { λ l. map (number_at l.world.now.at.scalars l.world.now.at.points) l.reads.now };
 
-    ghost invariant = { λ l. IsSized l.world.now.accepted.program l.world.now.at × AreThere l.world.now.at.scalars l.world.now.at.points l.reads.now };
+    ghost invariant = { λ l. IsSized l.world.now.accepted.program l.world.now.at
+        × AreThere l.world.now.at.scalars l.world.now.at.points l.reads.now };
 }
 
 impl<'b, 'a> Inputs<'b, 'a> {

@@ -2,8 +2,8 @@
 
 use crate::board::Board;
 use sot_flight::Flight;
+use sot_journal::Journal;
 use sot_tube::Accepted;
-use sot_turn::Journal;
 use sot_world::Entry;
 use std::marker::Model;
 
@@ -22,7 +22,8 @@ impl<'h> Model for HistoryEntry<'h> {
     ghost view = { λ it. entry_of it.entry };
 }
 
-/// The ground, which never changes, is the accepted program with its certificate, and the flight; the list is the history.
+/// The ground, which never changes, is the accepted program with its certificate, and the flight;
+/// the list is the history.
 impl<'a> Journal for Board<'a> {
     type Ground = (Accepted<'a>, Flight);
 

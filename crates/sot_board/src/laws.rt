@@ -2,7 +2,8 @@
 
 ghost use Rattle.sot_board.specs.Laws.{ViewsStay, CodeRunsOnViews, CodeRunsOnInputs};
 
-/// A view of a board was taken from any later state of the board, so what the code gives on it may be handed to `commit_code`.
+/// A view of a board was taken from any later state of the board, so what the code gives on it may
+/// be handed to `commit_code`.
 pub fn views_stay()
     ensures { ViewsStay }
 {}

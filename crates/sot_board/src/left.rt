@@ -9,7 +9,8 @@ use sot_world::World;
 // Whether no node is left to fire.
 fn no_node_left(world: &World<'_>, nodes: u32) -> bool
     requires { nodes ≡ length world.now.accepted.program.nodes }
-    ensures { IsTrue result ↔ ((n : ℕ) → n < length world.now.accepted.program.nodes → is_left world.now.at n ≡ false) }
+    ensures { IsTrue result ↔ ((n : ℕ) → n < length world.now.accepted.program.nodes
+        → is_left world.now.at n ≡ false) }
 {
     for n in 0..nodes {
         if world.left(n) {
@@ -22,7 +23,8 @@ fn no_node_left(world: &World<'_>, nodes: u32) -> bool
 // Whether no decision is left.
 fn no_decision_left(world: &World<'_>, modules: u32) -> bool
     requires { modules ≡ length world.now.accepted.program.modules }
-    ensures { IsTrue result ↔ ((m : ℕ) → m < length world.now.accepted.program.modules → is_left_dm world.now.at m ≡ false) }
+    ensures { IsTrue result ↔ ((m : ℕ) → m < length world.now.accepted.program.modules
+        → is_left_dm world.now.at m ≡ false) }
 {
     for m in 0..modules {
         if world.left_dm(m) {

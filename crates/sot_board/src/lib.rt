@@ -1,8 +1,9 @@
 //! Boards: a world that is flown as a flight states, with its history.
 //!
-//! The type of a board keeps that its history is one of the flight so far, and that its world is where this history leads. Each
-//! call that changes a board goes on by one event of the semantics, as the flight states it, and appends the one entry that tells of
-//! it. [`Board::open`] takes all memory that the flight will need, and no later call takes any.
+//! The type of a board keeps that its history is one of the flight so far, and that its world is
+//! where this history leads. Each call that changes a board goes on by one event of the semantics,
+//! as the flight states it, and appends the one entry that tells of it. [`Board::open`] takes all
+//! memory that the flight will need, and no later call takes any.
 #![tactic(auto)]
 
 mod board;

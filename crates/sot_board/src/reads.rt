@@ -29,7 +29,8 @@ pub fn read_numbers(world: &World<'_>, reads: &[Slot], numbers: &mut [i64])
     requires there { AreThere world.now.at.scalars world.now.at.points reads.now }
     requires room { length reads.now ≤ length numbers.old }
     ensures size { length numbers.new ≡ length numbers.old }
-    ensures front { take (length reads.now) numbers.new ≡ map (number_at world.now.at.scalars world.now.at.points) reads.now }
+    ensures front { take (length reads.now) numbers.new
+        ≡ map (number_at world.now.at.scalars world.now.at.points) reads.now }
 {
     for i in 0..reads.len() {
         let number = number_in(world, &reads[i]);
@@ -53,7 +54,8 @@ pub fn read_counts(p: &Typed, reads: &[Slot], counts: &[u32], versions: &mut [u3
     requires there { (i : ℕ) (slot : Read) → At reads.now i slot → HasCount p.now counts.now slot }
     requires room { length reads.now ≤ length versions.old }
     ensures size { length versions.new ≡ length versions.old }
-    ensures front { take (length reads.now) versions.new ≡ map (count_of p.now counts.now) reads.now }
+    ensures front { take (length reads.now) versions.new
+        ≡ map (count_of p.now counts.now) reads.now }
 {
     for i in 0..reads.len() {
         let count = count_in(p, &reads[i], counts);

@@ -1,6 +1,7 @@
 //! Which topics a firing writes, and how often each was written.
 
-ghost use Rattle.std.specs.Prelude.{◌≡◌, ℕ, ◌+◌, ◌<◌, ◌≤◌, ◌^◌, ◌&&◌, ◌==◌, not, suc, length, slice_index_or, slice_set, if◌then◌else◌, drop};
+ghost use Rattle.std.specs.Prelude.{◌≡◌, ℕ, ◌+◌, ◌<◌, ◌≤◌, ◌^◌, ◌&&◌, ◌==◌, not, suc, length};
+ghost use Rattle.std.specs.Prelude.{slice_index_or, slice_set, if◌then◌else◌, drop};
 ghost use Rattle.sot_lists.specs.Places.{At};
 ghost use Rattle.sot_lang.specs.declared.tables.ScalarInfo.{ScalarInfo as Scalar};
 ghost use Rattle.sot_board.specs.Versions.{is_published, publishes_on, topic_of};
@@ -35,7 +36,8 @@ fn is_published_on(p: &Typed, topic: u32, scalar: u32, slot: Option<i64>) -> boo
     topic_of(p, scalar) == topic && is_published(p, scalar, slot)
 }
 
-// Whether some number of a draft is published on a topic, of the scalars that a node writes from this place on.
+// Whether some number of a draft is published on a topic, of the scalars that a node writes from
+// this place on.
 fn publishes(p: &Typed, topic: u32, writes: &[u32], from: usize, draft: &Draft) -> bool
     requires few { length writes.now ≤ 8 }
     requires there { from ≤ length writes.now }
@@ -64,7 +66,8 @@ fn is_last(
     requires few { length writes.now ≤ 8 }
     requires there { next ≤ length writes.now }
     requires written { (i k : ℕ) → At writes.now i k → k < length p.now.scalars }
-    ensures { result ≡ (is_published p.now scalar slot && not (publishes_on p.now topic (drop next writes.now) (drop next draft.now))) }
+    ensures { result ≡ (is_published p.now scalar slot && not
+        (publishes_on p.now topic (drop next writes.now) (drop next draft.now))) }
 {
     is_published(p, scalar, slot) && !publishes(p, topic, writes, next, draft)
 }
@@ -82,22 +85,26 @@ pub fn count_one(k: u32, counts: &mut [u32])
 fn count_if(yes: bool, k: u32, counts: &mut [u32])
     requires there { k < length counts.old }
     requires room { slice_index_or counts.old k 0 < 2 ^ 31 }
-    ensures { counts.new ≡ (if yes then slice_set counts.old k (suc (slice_index_or counts.old k 0)) else counts.old) }
+    ensures { counts.new ≡ (if yes then slice_set counts.old k (suc (slice_index_or counts.old k 0))
+        else counts.old) }
 {
     if yes {
         count_one(k, counts);
     }
 }
 
-/// One more for each topic on which a number of a draft is published, of a node that writes these scalars.
+/// One more for each topic on which a number of a draft is published, of a node that writes these
+/// scalars.
 pub fn count_firing(p: &Typed, writes: &[u32], draft: &Draft, versions: &mut [u32])
     requires few { length writes.now ≤ 8 }
     requires written { (i k : ℕ) → At writes.now i k → k < length p.now.scalars }
-    requires topics { (k : ℕ) (info : Scalar) → At p.now.scalars k info → info.topic < length versions.old }
+    requires topics { (k : ℕ) (info : Scalar) → At p.now.scalars k info
+        → info.topic < length versions.old }
     requires room { (k : ℕ) → slice_index_or versions.old k 0 < 2 ^ 30 }
     ensures size { length versions.new ≡ length versions.old }
     ensures counted { (k : ℕ) → k < length versions.old → slice_index_or versions.new k 0 ≡
-        (if publishes_on p.now k writes.now draft.now then suc (slice_index_or versions.old k 0) else slice_index_or versions.old k 0) }
+        (if publishes_on p.now k writes.now draft.now then suc (slice_index_or versions.old k 0)
+        else slice_index_or versions.old k 0) }
 {
     for i in 0..writes.len() {
         let scalar = writes[i];

@@ -6,8 +6,9 @@ use sot_code::Locals;
 
 mod readers;
 
-/// What a node sees at a moment: the numbers in its read slots, its locals, and the versions of the topics that it reads, with the time
-/// and the length of the history then. Numbers are mantissas at their scales.
+/// What a node sees at a moment: the numbers in its read slots, its locals, and the versions of the
+/// topics that it reads, with the time and the length of the history then. Numbers are mantissas at
+/// their scales.
 #[derive(Clone, Copy)]
 pub struct View {
     pub(crate) node: u32,

@@ -25,7 +25,8 @@ module _ (plant : PlantInfo) (i : ℕ) (info : NoiseInfo) (at : At plant.noise.i
   pub high_at : At (highs (bounds plant)) i info.hi
   high_at = at_map (λ r. r.hi) (bounds plant) i _ bound_at
 
-  pub noise_drawn_at : (seed stream given : ℕ) → At (drawn_from seed stream given (bounds plant)) i (drawn (record { lo = info.lo; hi = info.hi }) (word seed stream (given + i)))
+  pub noise_drawn_at : (seed stream given : ℕ) → At (drawn_from seed stream given (bounds plant)) i
+      (drawn (record { lo = info.lo; hi = info.hi }) (word seed stream (given + i)))
   noise_drawn_at seed stream given = drawn_at seed stream given (bounds plant) i _ bound_at
 
 pub length-bounds : (plant : PlantInfo) → length (bounds plant) ≡ length plant.noise.items
@@ -35,5 +36,6 @@ pub length-noise_drawn : (plant : PlantInfo) (seed stream given : ℕ) → lengt
 length-noise_drawn plant seed stream given = length-drawn_from seed stream given (bounds plant) ∙ length-bounds plant
 
 -- the range of a scalar that a node writes
-pub write_at : (p : Tables) (node : NodeInfo) (i k : ℕ) (info : ScalarInfo) → At node.writes.items i k → At p.scalars k info → At (write_ranges p node) i (record { lo = info.lo; hi = info.hi })
+pub write_at : (p : Tables) (node : NodeInfo) (i k : ℕ) (info : ScalarInfo) → At node.writes.items i k → At p.scalars k info
+    → At (write_ranges p node) i (record { lo = info.lo; hi = info.hi })
 write_at p node i k info at is = at_map (range_of p.scalars) node.writes.items i k at ∙ ap Some (range_at p.scalars k info is)

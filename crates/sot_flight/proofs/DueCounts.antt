@@ -61,28 +61,35 @@ pub decisions_small : (h : ℕ) (infos : List ModuleInfo) → h ≤ 100000 → d
 decisions_small h [] le = omega arith
 decisions_small h (m ∷ ms) le = omega (arith, decisions_small h ms le, due_small m.period m.offset h)
 
-pub firings_more : (h : ℕ) (nodes : List NodeInfo) (i : ℕ) (node : NodeInfo) → At nodes i node → firing_count h (drop i nodes) ≡ due_count node.period node.offset h + firing_count h (drop (i + 1) nodes)
+pub firings_more : (h : ℕ) (nodes : List NodeInfo) (i : ℕ) (node : NodeInfo) → At nodes i node
+    → firing_count h (drop i nodes) ≡ due_count node.period node.offset h + firing_count h (drop (i + 1) nodes)
 firings_more h nodes i node at = ap (firing_count h) (drop_at nodes i node at)
 
-pub decisions_more : (h : ℕ) (infos : List ModuleInfo) (i : ℕ) (info : ModuleInfo) → At infos i info → decision_count h (drop i infos) ≡ due_count info.period info.offset h + decision_count h (drop (i + 1) infos)
+pub decisions_more : (h : ℕ) (infos : List ModuleInfo) (i : ℕ) (info : ModuleInfo) → At infos i info
+    → decision_count h (drop i infos) ≡ due_count info.period info.offset h + decision_count h (drop (i + 1) infos)
 decisions_more h infos i info at = ap (decision_count h) (drop_at infos i info at)
 
-pub ticks_small : (plants : List PlantInfo) → ((k : ℕ) (plant : PlantInfo) → At plants k plant → (length plant.noise.items ≤ 4) × (length plant.states.items ≤ 4)) → tick_numbers plants ≤ 8 * length plants
+pub ticks_small : (plants : List PlantInfo) → ((k : ℕ) (plant : PlantInfo) → At plants k plant
+    → (length plant.noise.items ≤ 4) × (length plant.states.items ≤ 4)) → tick_numbers plants ≤ 8 * length plants
 ticks_small [] few = omega arith
 ticks_small (k ∷ ks) few = (let here = few 0 k refl in omega (arith, here.0, here.1, ticks_small ks (λ i x at. few (suc i) x at)))
 
-pub ticks_more : (plants : List PlantInfo) (i : ℕ) (plant : PlantInfo) → At plants i plant → tick_numbers (drop i plants) ≡ length plant.noise.items + length plant.states.items + tick_numbers (drop (i + 1) plants)
+pub ticks_more : (plants : List PlantInfo) (i : ℕ) (plant : PlantInfo) → At plants i plant
+    → tick_numbers (drop i plants) ≡ length plant.noise.items + length plant.states.items + tick_numbers (drop (i + 1) plants)
 ticks_more plants i plant at = ap tick_numbers (drop_at plants i plant at)
 
-pub drafts_small : (h : ℕ) (nodes : List NodeInfo) → h ≤ 100000 → ((n : ℕ) (node : NodeInfo) → At nodes n node → length node.writes.items ≤ 8) → draft_numbers h nodes ≤ 800008 * length nodes
+pub drafts_small : (h : ℕ) (nodes : List NodeInfo) → h ≤ 100000 → ((n : ℕ) (node : NodeInfo) → At nodes n node → length node.writes.items ≤ 8)
+    → draft_numbers h nodes ≤ 800008 * length nodes
 drafts_small h [] le few = omega arith
 drafts_small h (n ∷ ns) le few =
     let here = few 0 n refl in
     let one = mul-le-mul_left (due_count n.period n.offset h) here in
     omega (arith, one, drafts_small h ns le (λ i x at. few (suc i) x at), due_small n.period n.offset h)
 
-pub drafts_more : (h : ℕ) (nodes : List NodeInfo) (i : ℕ) (node : NodeInfo) → At nodes i node → draft_numbers h (drop i nodes) ≡ due_count node.period node.offset h * length node.writes.items + draft_numbers h (drop (i + 1) nodes)
+pub drafts_more : (h : ℕ) (nodes : List NodeInfo) (i : ℕ) (node : NodeInfo) → At nodes i node
+    → draft_numbers h (drop i nodes) ≡ due_count node.period node.offset h * length node.writes.items + draft_numbers h (drop (i + 1) nodes)
 drafts_more h nodes i node at = ap (draft_numbers h) (drop_at nodes i node at)
 
-pub values_more : (inputs : List Input) (i : ℕ) (input : Input) → At inputs i input → input_numbers (map input_of (drop i inputs)) ≡ length input.value.items + input_numbers (map input_of (drop (i + 1) inputs))
+pub values_more : (inputs : List Input) (i : ℕ) (input : Input) → At inputs i input
+    → input_numbers (map input_of (drop i inputs)) ≡ length input.value.items + input_numbers (map input_of (drop (i + 1) inputs))
 values_more inputs i input at = ap (λ l. input_numbers (map input_of l)) (drop_at inputs i input at)

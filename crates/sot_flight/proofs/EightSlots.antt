@@ -12,7 +12,8 @@ blank_from (x ∷ xs) zero n at = ap (λ y. y ∷ replicate n None) (sym (same_S
 blank_from (x ∷ xs) (suc i) n at = ap (λ ys. x ∷ ys) (blank_from xs i n at)
 
 -- .. or is left blank
-pub blank_more : (draft : List (Option ℤ)) (i : ℕ) → At draft i None → i < 8 → take i draft ++ replicate (8 - i) None ≡ take (i + 1) draft ++ replicate (8 - (i + 1)) None
+pub blank_more : (draft : List (Option ℤ)) (i : ℕ) → At draft i None → i < 8
+    → take i draft ++ replicate (8 - i) None ≡ take (i + 1) draft ++ replicate (8 - (i + 1)) None
 blank_more draft i at lt =
     let e : 8 - i ≡ suc (8 - (i + 1)) = omega arith in
     let s : suc i ≡ i + 1 = omega arith in
@@ -20,4 +21,5 @@ blank_more draft i at lt =
 
 -- all are drafted
 pub put_all : (draft : List (Option ℤ)) (i : ℕ) → i ≡ length draft → take i draft ++ replicate (8 - i) None ≡ in_slots draft
-put_all draft i is = ap (λ n. take n draft ++ replicate (8 - n) None) is ∙ ap (λ l. l ++ replicate (8 - length draft) None) (take_all (length draft) draft (omega arith))
+put_all draft i is =
+    ap (λ n. take n draft ++ replicate (8 - n) None) is ∙ ap (λ l. l ++ replicate (8 - length draft) None) (take_all (length draft) draft (omega arith))

@@ -1,5 +1,6 @@
 -- What the flight of a program states fits the program.
-use Rattle.std.proofs.Common.{◌≡◌, ℕ, zero, suc, ◌+◌, ◌*◌, ◌≤◌, ◌<◌, ◌≤ℤ◌, ℤ, Option, List, [], ◌∷◌, ◌++◌, length, map, take, Some, refl, sym, ap, ap₂, ◌∙◌, subst, arith, append_assoc, length-append}
+use Rattle.std.proofs.Common.{◌≡◌, ℕ, zero, suc, ◌+◌, ◌*◌, ◌≤◌, ◌<◌, ◌≤ℤ◌, ℤ, Option, List, [], ◌∷◌, ◌++◌, length, map, take, Some, refl, sym, ap, ap₂, ◌∙◌}
+use Rattle.std.proofs.Common.{subst, arith, append_assoc, length-append}
 use Rattle.std.specs.Prelude.{slice_index_or}
 use Rattle.std.proofs.lemmas.Int.{ints}
 use Rattle.std.proofs.lemmas.Option.{none-some, same_Some, slice_get_within, get_or_from_slice_get}
@@ -45,7 +46,8 @@ noise_size plant (Listed rows) t fits = listed_size plant rows t fits
 noise_size plant (Drawn seed stream) t fits = length-noise_drawn plant seed stream _
 
 -- what is stated for a plant, by its place
-pub noises_at : (plants : List PlantInfo) (sways : List Sway) (t k : ℕ) (plant : PlantInfo) (sway : Sway) → At plants k plant → At sways k sway → At (noises plants sways t) k (noise_of plant sway t)
+pub noises_at : (plants : List PlantInfo) (sways : List Sway) (t k : ℕ) (plant : PlantInfo) (sway : Sway) → At plants k plant → At sways k sway
+    → At (noises plants sways t) k (noise_of plant sway t)
 noises_at [] sways t k plant sway at is = absurd (none-some plant at)
 noises_at (x ∷ plants) [] t k plant sway at is = absurd (none-some sway is)
 noises_at (x ∷ plants) (y ∷ sways) t zero plant sway at is = ap Some (ap₂ (λ a b. noise_of a b t) (same_Some x plant at) (same_Some y sway is))
@@ -86,14 +88,16 @@ ordered_bounds plant narrow i r at =
 
 -- the stated disturbances of a tick are in the bounds of the plant
 pub noise_within : (plant : PlantInfo) (sway : Sway) (t : ℕ) → HasNarrowNoise plant → FitsSway plant sway → IsWithin (bounds plant) (noise_of plant sway t)
-noise_within plant Still t narrow fits = subst (λ (ds : List NoiseInfo). IsWithin (map (λ d. let s : Side = record { lo = d.lo; hi = d.hi } in s) ds) []) (sym fits) tt
+noise_within plant Still t narrow fits =
+    subst (λ (ds : List NoiseInfo). IsWithin (map (λ d. let s : Side = record { lo = d.lo; hi = d.hi } in s) ds) []) (sym fits) tt
 noise_within plant Low t narrow fits = lows_within (bounds plant) (ordered_bounds plant narrow)
 noise_within plant High t narrow fits = highs_within (bounds plant) (ordered_bounds plant narrow)
 noise_within plant (Listed rows) t narrow fits = listed_within plant rows t fits
 noise_within plant (Drawn seed stream) t narrow fits = drawn_within seed stream _ (bounds plant) (ordered_bounds plant narrow)
 
 -- what a flight states for a plant, by its place
-pub stated_at : (p : Tables) (f : Plan) (t k : ℕ) (plant : PlantInfo) (sway : Sway) → At p.plants k plant → At f.sways k sway → slice_index_or (stated_noise p f t) k [] ≡ noise_of plant sway t
+pub stated_at : (p : Tables) (f : Plan) (t k : ℕ) (plant : PlantInfo) (sway : Sway) → At p.plants k plant → At f.sways k sway
+    → slice_index_or (stated_noise p f t) k [] ≡ noise_of plant sway t
 stated_at p f t k plant sway at is = get_or_from_slice_get (stated_noise p f t) k (noise_of plant sway t) [] (noises_at p.plants f.sways t k plant sway at is)
 
 module _ (p : Tables) (guests : ℕ) (f : Plan) (fits : FitsFlight p guests f) where
@@ -115,7 +119,8 @@ module _ (p : Tables) (guests : ℕ) (f : Plan) (fits : FitsFlight p guests f) w
       ap length (stated_at p f t k plant s.0 at s.1) ∙ noise_size plant s.0 t s.2
 
   -- .. in its bounds
-  pub stated_within : MeetsTableRules p → (t k : ℕ) (plant : PlantInfo) → At p.plants k plant → IsWithin (bounds plant) (slice_index_or (stated_noise p f t) k [])
+  pub stated_within : MeetsTableRules p → (t k : ℕ) (plant : PlantInfo) → At p.plants k plant
+      → IsWithin (bounds plant) (slice_index_or (stated_noise p f t) k [])
   stated_within rules t k plant at =
       let s = sway_is k plant at in
       subst (IsWithin (bounds plant)) (sym (stated_at p f t k plant s.0 at s.1)) (noise_within plant s.0 t (narrow_noise p rules k plant at) s.2)
@@ -132,10 +137,12 @@ module _ (p : Tables) (guests : ℕ) (f : Plan) (fits : FitsFlight p guests f) w
       (s.0, s.1, fits.crewed n node s.0 at s.1)
 
 -- a stated draft has as many slots as the node writes
-pub draft_size : (p : Tables) (node : NodeInfo) (crew : Crew) (i : ℕ) (draft : List (Option ℤ)) → FitsCrew node crew → draft_of p node crew i ≡ Some draft → length draft ≡ length node.writes.items
+pub draft_size : (p : Tables) (node : NodeInfo) (crew : Crew) (i : ℕ) (draft : List (Option ℤ)) → FitsCrew node crew → draft_of p node crew i ≡ Some draft
+    → length draft ≡ length node.writes.items
 draft_size p node Coded i draft fits is = absurd cc
 draft_size p node (Script drafts) i draft fits is = (let k = row_among drafts i fits.1 in ap length (sym (same_Some _ draft is)) ∙ fits.2 k.0 _ k.1)
 draft_size p node (Wild seed stream) i draft fits is =
     let list = drawn_from seed stream (i * length node.writes.items) (write_ranges p node) in
-    ap length (sym (same_Some _ draft is)) ∙ length-map list Some ∙ length-drawn_from seed stream _ (write_ranges p node) ∙ length-map node.writes.items (range_of p.scalars)
+    ap length (sym (same_Some _ draft is)) ∙ length-map list Some ∙ length-drawn_from seed stream _ (write_ranges p node)
+    ∙ length-map node.writes.items (range_of p.scalars)
 draft_size p node (Guest index) i draft fits is = absurd cc

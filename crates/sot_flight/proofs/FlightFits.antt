@@ -1,5 +1,6 @@
 -- A flight that was read fits the program.
-use Rattle.std.proofs.Common.{◌≡◌, ◌≢◌, ℕ, zero, suc, ◌+◌, ◌≤◌, ◌<◌, ⊎_elim, ℤ, pos, negsuc, ◌≤ℤ◌, Bool, true, false, List, [], ◌∷◌, length, map, take, drop, Option, Some, None, Result, Ok, Err, IfOk, codes, refl, sym, ap, subst, ◌∙◌, arith}
+use Rattle.std.proofs.Common.{◌≡◌, ◌≢◌, ℕ, zero, suc, ◌+◌, ◌≤◌, ◌<◌, ⊎_elim, ℤ, pos, negsuc, ◌≤ℤ◌, Bool, true, false, List, [], ◌∷◌, length, map, take, drop}
+use Rattle.std.proofs.Common.{Option, Some, None, Result, Ok, Err, IfOk, codes, refl, sym, ap, subst, ◌∙◌, arith}
 use Rattle.std.specs.Prelude.{unsigned_abs, slice_index_or, slice_get, nat_le, nat_lt, int_le, ◌==◌, not, ◌||◌, bytes_eq, filter, position, is_none}
 use Rattle.std.specs.List.{list_any}
 use Rattle.std.proofs.lemmas.Bool.{eqb-true, eq-eqb, leb-true, ltb-true, cases_lt, lt-ltb, not-true, and_parts}
@@ -22,7 +23,8 @@ use Rattle.sot_lang.specs.Tables.{Tables}
 use Rattle.sot_lang.specs.TableRules.{MeetsTableRules}
 use Rattle.sot_lang.specs.Ranges.{bounds, range_of, scalar_ranges}
 use Rattle.sot_lang.proofs.Topics.{topic_inside}
-use Rattle.sot_json.specs.declared.fault.JsonKind.TheVariants.{WrongShape, OutsideRange, Width, Empty, Unknown, Order, NoGuest, GuestTwice, TooManyEvents, TooManyNumbers}
+use Rattle.sot_json.specs.declared.fault.JsonKind.TheVariants.{WrongShape, OutsideRange, Width, Empty, Unknown, Order, NoGuest, GuestTwice, TooManyEvents}
+use Rattle.sot_json.specs.declared.fault.JsonKind.TheVariants.{TooManyNumbers}
 use Rattle.sot_json.specs.declared.fault.JsonFail.{JsonFail}
 use Rattle.sot_json.specs.Answers.{Gives}
 use Rattle.sot_json.specs.Says.{Says, or, unless}
@@ -39,7 +41,9 @@ use Rattle.sot_flight.specs.Plans.{StatedInput, Plan, Sway, Still, Low, High, Li
 use Rattle.sot_flight.specs.Counts.{events_of, numbers_of}
 use Rattle.sot_flight.specs.Fits.{FitsInput, FitsSway, FitsCrew, FitsFlight}
 use Rattle.sot_flight.specs.ListForms.{number_in, number_at, numbers_in, numbers, rows_in, slot, draft, drafts, for_each_after}
-use Rattle.sot_flight.specs.FlightFormat.{greatest, point_at, plant_names, start, last_time, time, is_outside, topic, ranges_of_topic, topic_ranges, input, inputs, sway_kind, sway_as, sway, has_noise, sway_at, sways, crew_kind, is_guest, guest, crew_as, crew, is_external, crew_at, crews, node_names, flight_keys, counted, flight}
+use Rattle.sot_flight.specs.FlightFormat.{greatest, point_at, plant_names, start, last_time, time, is_outside, topic, ranges_of_topic, topic_ranges, input}
+use Rattle.sot_flight.specs.FlightFormat.{inputs, sway_kind, sway_as, sway, has_noise, sway_at, sways, crew_kind, is_guest, guest, crew_as, crew, is_external}
+use Rattle.sot_flight.specs.FlightFormat.{crew_at, crews, node_names, flight_keys, counted, flight}
 use Rattle.sot_flight.proofs.ReadForms.{numbers_len}
 use Rattle.sot_flight.proofs.FoundLists.{found_len, found_at, read_len, read_at_place, taken_len}
 
@@ -81,11 +85,13 @@ numbers_inside ranges d zs h =
       size = read_len (number_at ranges) ds.0 zs ok.2 ∙ n;
       each_in = λ i z r at is.
           let e = read_at_place (number_at ranges) ds.0 zs ok.2 i z at in
-          let range = ap (λ k. slice_index_or ranges k nought) (taken_len (number_at ranges) ds.0 zs ok.2 i z at) ∙ get_or_from_slice_get ranges i r nought is in
+          let range = ap (λ k. slice_index_or ranges k nought) (taken_len (number_at ranges) ds.0 zs ok.2 i z at)
+          ∙ get_or_from_slice_get ranges i r nought is in
           subst (λ s. IsIn s z) range (number_inside _ e.0 z e.1);
     }
 
-within_ranges : (ranges : List Side) (zs : List ℤ) → length zs ≡ length ranges → ((i : ℕ) (z : ℤ) (r : Side) → At zs i z → At ranges i r → IsIn r z) → IsWithin ranges zs
+within_ranges : (ranges : List Side) (zs : List ℤ) → length zs ≡ length ranges → ((i : ℕ) (z : ℤ) (r : Side) → At zs i z → At ranges i r → IsIn r z)
+    → IsWithin ranges zs
 within_ranges [] [] size each_in = tt
 within_ranges [] (z ∷ zs) size each_in = absurd (omega (arith, size))
 within_ranges (r ∷ rs) [] size each_in = absurd (omega (arith, size))
@@ -131,7 +137,11 @@ drafts_form size d rows h =
     let n : 0 < items_len ds.0 = ltb-true _ _ (unless_ok Empty _ _ ok.1) in
     let f = λ (done : List (List (Option ℤ))). draft size in
     let len = read_len f ds.0 rows ok.2 in
-    record { some_row = some_read rows (omega (arith, n, len)); sizes = λ i row at. let e = read_at_place f ds.0 rows ok.2 i row at in draft_len size e.0 row e.1 }
+    record {
+      some_row = some_read rows (omega (arith, n, len));
+      sizes = λ i row at. let e = read_at_place f ds.0 rows ok.2 i row at in
+          draft_len size e.0 row e.1;
+    }
 
 -- ---- where the plants start
 
@@ -227,7 +237,8 @@ ranges_len (x ∷ xs) (suc n) count le = ranges_len xs n count (omega (arith, le
 value_fits : (p : Tables) → MeetsTableRules p → (k : ℕ) (info : TopicInfo) → At p.topics k info → (zs : List ℤ) → AreInRanges (topic_ranges p k) zs
     → (length zs ≡ info.count) × ((i : ℕ) (z : ℤ) → At zs i z → IsIn (range_of p.scalars (info.first + i)) z)
 value_fits p rules k info at zs inside =
-    let ranges : topic_ranges p k ≡ ranges_of_topic p info = get_or_from_slice_get (map (ranges_of_topic p) p.topics) k (ranges_of_topic p info) [] (at_map (ranges_of_topic p) p.topics k info at) in
+    let ranges : topic_ranges p k ≡ ranges_of_topic p info =
+    get_or_from_slice_get (map (ranges_of_topic p) p.topics) k (ranges_of_topic p info) [] (at_map (ranges_of_topic p) p.topics k info at) in
     let room : info.first + info.count ≤ length (scalar_ranges p) = omega (arith, topic_inside p rules k info at, ranges_count p) in
     let len = ranges_len (scalar_ranges p) info.first info.count room in
     let size : length zs ≡ info.count = inside.size ∙ ap length ranges ∙ len in (
@@ -259,7 +270,8 @@ record IsInputAfter (p : Tables) (horizon before : ℕ) (x : StatedInput) : Type
   fits : FitsInput p horizon x
   later : before ≤ x.at
 
-input_form : (p : Tables) → MeetsTableRules p → (horizon : ℕ) (done : List StatedInput) (d : Data) (x : StatedInput) → input p horizon done d ≡ Ok x → IsInputAfter p horizon (last_time done) x
+input_form : (p : Tables) → MeetsTableRules p → (horizon : ℕ) (done : List StatedInput) (d : Data) (x : StatedInput) → input p horizon done d ≡ Ok x
+    → IsInputAfter p horizon (last_time done) x
 unfolding input
 input_form p rules horizon done d x h =
     let ms = bind_ok (or WrongShape (as_object d)) _ x h in
@@ -324,7 +336,8 @@ sway_as_fits plant ms sway_kinds.Seed s h =
     let ok = bind_ok (unless Unknown (all_among ms (codes "kind" ∷ codes "seed" ∷ codes "stream" ∷ []))) _ s stream.2 in
     let a = at_ok (codes "seed") (count greatest) ms seed.0 seed.1 in
     let b = at_ok (codes "stream") (count greatest) ms stream.0 stream.1 in
-    subst (FitsSway plant) (ok_same (Drawn seed.0 stream.0) s ok.2) (omega (arith, count_small greatest a.0 seed.0 a.1), omega (arith, count_small greatest b.0 stream.0 b.1))
+    subst (FitsSway plant) (ok_same (Drawn seed.0 stream.0) s ok.2)
+    (omega (arith, count_small greatest a.0 seed.0 a.1), omega (arith, count_small greatest b.0 stream.0 b.1))
 
 sway_fits : (plant : PlantInfo) (d : Data) (s : Sway) → sway plant d ≡ Ok s → FitsSway plant s
 unfolding sway
@@ -383,16 +396,19 @@ guest_form guests done d i h =
     let n = bind_ok (count greatest d) _ i h in
     let low = bind_ok (unless NoGuest (nat_lt n.0 guests)) _ i n.2 in
     let one = bind_ok (unless GuestTwice (not (list_any (is_guest n.0) done))) _ i low.2 in
-    subst (IsGuestAfter guests done) (ok_same n.0 i one.2) (record { there = ltb-true _ _ (unless_ok NoGuest _ _ low.1); once = not-true _ (unless_ok GuestTwice _ _ one.1) })
+    subst (IsGuestAfter guests done) (ok_same n.0 i one.2) (record
+    { there = ltb-true _ _ (unless_ok NoGuest _ _ low.1); once = not-true _ (unless_ok GuestTwice _ _ one.1) })
 
-crew_as_form : (guests : ℕ) (done : List Crew) (node : NodeInfo) (ms : Members) (kind : CrewKind) (c : Crew) → node.body ≡ None → crew_as guests done node ms kind ≡ Ok c → IsCrewAfter guests done node c
+crew_as_form : (guests : ℕ) (done : List Crew) (node : NodeInfo) (ms : Members) (kind : CrewKind) (c : Crew) → node.body ≡ None
+    → crew_as guests done node ms kind ≡ Ok c → IsCrewAfter guests done node c
 unfolding crew_as
 crew_as_form guests done node ms crew_kinds.Script c external h =
     let rows = bind_ok (at (codes "drafts") (drafts (length node.writes.items)) ms) _ c h in
     let ok = bind_ok (unless Unknown (all_among ms (codes "kind" ∷ codes "drafts" ∷ []))) _ c rows.2 in
     let d = at_ok (codes "drafts") (drafts (length node.writes.items)) ms rows.0 rows.1 in
     let form = drafts_form (length node.writes.items) d.0 rows.0 d.1 in
-    subst (IsCrewAfter guests done node) (ok_same (Script rows.0) c ok.2) (record { fits = (external, form.some_row, form.sizes); there = λ i e. cc; once = λ i e. cc })
+    subst (IsCrewAfter guests done node) (ok_same (Script rows.0) c ok.2)
+    (record { fits = (external, form.some_row, form.sizes); there = λ i e. cc; once = λ i e. cc })
 crew_as_form guests done node ms crew_kinds.Wild c external h =
     let seed = bind_ok (at (codes "seed") (count greatest) ms) _ c h in
     let stream = bind_ok (at (codes "stream") (count greatest) ms) _ c seed.2 in
@@ -400,7 +416,11 @@ crew_as_form guests done node ms crew_kinds.Wild c external h =
     let a = at_ok (codes "seed") (count greatest) ms seed.0 seed.1 in
     let b = at_ok (codes "stream") (count greatest) ms stream.0 stream.1 in
     subst (IsCrewAfter guests done node) (ok_same (Wild seed.0 stream.0) c ok.2)
-    (record { fits = (external, omega (arith, count_small greatest a.0 seed.0 a.1), omega (arith, count_small greatest b.0 stream.0 b.1)); there = λ i e. cc; once = λ i e. cc })
+    (record {
+      fits = (external, omega (arith, count_small greatest a.0 seed.0 a.1), omega (arith, count_small greatest b.0 stream.0 b.1));
+      there = λ i e. cc;
+      once = λ i e. cc;
+    })
 crew_as_form guests done node ms crew_kinds.Guest c external h =
     let n = bind_ok (at (codes "index") (guest guests done) ms) _ c h in
     let ok = bind_ok (unless Unknown (all_among ms (codes "kind" ∷ codes "index" ∷ []))) _ c n.2 in
@@ -412,7 +432,8 @@ crew_as_form guests done node ms crew_kinds.Guest c external h =
       once = λ i e. subst (λ j. list_any (is_guest j) done ≡ false) (guest_same n.0 i e) form.once;
     })
 
-crew_form : (guests : ℕ) (done : List Crew) (node : NodeInfo) (d : Data) (c : Crew) → node.body ≡ None → crew guests done node d ≡ Ok c → IsCrewAfter guests done node c
+crew_form : (guests : ℕ) (done : List Crew) (node : NodeInfo) (d : Data) (c : Crew) → node.body ≡ None → crew guests done node d ≡ Ok c
+    → IsCrewAfter guests done node c
 unfolding crew
 crew_form guests done node d c external h =
     let ms = bind_ok (or WrongShape (as_object d)) _ c h in
@@ -438,7 +459,8 @@ crew_at_form guests ms done node c h = go (is_external node) refl
     go false is =
         let said : told Coded ≡ told c = rw is at h in
         let body = some_body node.body is in
-        subst (IsCrewAfter guests done node) (ok_same Coded c said) (record { fits = (body.0.items, (body.0, body.1, refl)); there = λ i e. cc; once = λ i e. cc })
+        subst (IsCrewAfter guests done node) (ok_same Coded c said)
+        (record { fits = (body.0.items, (body.0, body.1, refl)); there = λ i e. cc; once = λ i e. cc })
 
 record AreCrews (p : Tables) (guests : ℕ) (cs : List Crew) : Type 0 where
   count_is : length cs ≡ length p.nodes
@@ -464,7 +486,8 @@ crews_form p guests d cs h =
     let ok = bind_ok (unless Unknown (all_among ms.0 (node_names (filter is_external p.nodes)))) _ cs list.2 in
     let found : for_each_after f [] p.nodes ≡ Ok cs = list.1 ∙ ap Ok (ok_same list.0 cs ok.2) in
     let size : length cs ≡ length p.nodes = omega (arith, found_len f [] p.nodes cs found) in
-    let form = λ (n : ℕ) (node : NodeInfo) (c : Crew) (at : At p.nodes n node) (is : At cs n c). crew_at_form guests ms.0 (take n cs) node c (found_at f p.nodes cs found n node c at is) in
+    let form = λ (n : ℕ) (node : NodeInfo) (c : Crew) (at : At p.nodes n node) (is : At cs n c).
+    crew_at_form guests ms.0 (take n cs) node c (found_at f p.nodes cs found n node c at is) in
     let node_at = λ (n : ℕ) (c : Crew) (is : At cs n c). below size n c is in
     let apart = λ (m n i : ℕ) (lt : m < n) (a : At cs m (Guest i)) (b : At cs n (Guest i)).
     let node = node_at n (Guest i) b in
@@ -475,7 +498,9 @@ crews_form p guests d cs h =
       count_is = size;
       fit = λ n node c at is. (form n node c at is).fits;
       there = λ n i is. let node = node_at n (Guest i) is in (form n node.0 (Guest i) node.1 is).there i refl;
-      once = λ m n i a b. ⊎_elim (λ lt. absurd (apart m n i lt a b)) (λ le. ⊎_elim (λ lt. absurd (apart n m i lt b a)) (λ le2. omega (arith, le, le2)) (cases_lt n m)) (cases_lt m n);
+      once =
+          λ m n i a b. ⊎_elim (λ lt. absurd (apart m n i lt a b))
+          (λ le. ⊎_elim (λ lt. absurd (apart n m i lt b a)) (λ le2. omega (arith, le, le2)) (cases_lt n m)) (cases_lt m n);
     }
   where
     below : length cs ≡ length p.nodes → (n : ℕ) (c : Crew) → At cs n c → (node : NodeInfo) × At p.nodes n node
@@ -504,7 +529,15 @@ flight_fits p rules guests d f h =
     let ok = bind_ok (unless Unknown (all_among ms.0 flight_keys)) _ f crewed.2 in
     let few = bind_ok (unless TooManyEvents (nat_le (events_of p horizon.0 given.0) 200000)) _ f ok.2 in
     let fine = bind_ok (unless TooManyNumbers (nat_le (numbers_of p horizon.0 given.0) 1000000)) _ f few.2 in
-    let made : Plan = record { horizon = horizon.0; start = points.0; inputs = given.0; sways = swayed.0; crews = crewed.0; events = events_of p horizon.0 given.0; numbers = numbers_of p horizon.0 given.0 } in
+    let made : Plan = record {
+      horizon = horizon.0;
+      start = points.0;
+      inputs = given.0;
+      sways = swayed.0;
+      crews = crewed.0;
+      events = events_of p horizon.0 given.0;
+      numbers = numbers_of p horizon.0 given.0;
+    } in
     let hd = at_ok (codes "horizon") (count 100000) ms.0 horizon.0 horizon.1 in
     let pd = at_ok (codes "start") (start p) ms.0 points.0 points.1 in
     let id = at_ok (codes "inputs") (inputs p horizon.0) ms.0 given.0 given.1 in

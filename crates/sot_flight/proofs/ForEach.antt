@@ -19,7 +19,8 @@ module _ {X A : Type 0} (f : List A → X → Says A) where
       → for_each_after f done (drop i xs) ≡ total → for_each_after f (done ++ y ∷ []) (drop (i + 1) xs) ≡ total
   unfolding for_each_after
   found_on done xs i x y total lt is h so_far =
-      let one : for_each_after f done (drop i xs) ≡ for_each_after f (done ++ y ∷ []) (drop (i + 1) xs) = rw (drop_at xs i x (slice_get_read xs (length xs) i x refl lt is), h) refl in
+      let one : for_each_after f done (drop i xs) ≡ for_each_after f (done ++ y ∷ []) (drop (i + 1) xs) =
+      rw (drop_at xs i x (slice_get_read xs (length xs) i x refl lt is), h) refl in
       sym one ∙ so_far
 
   -- for x at place i there is a fault
@@ -39,7 +40,8 @@ module _ {X A : Type 0} (f : List A → X → Says A) where
 
 module _ {X A B : Type 0} (of : B → A) (f : List A → X → Says A) where
   -- the same, where the loop keeps what stands for the things found
-  pub kept_on : (done : List B) (xs : List X) (i : ℕ) (x : X) (y : B) (total : Says (List A)) → i < length xs → x ≡ get_or xs i x → f (map of done) x ≡ Ok (of y)
+  pub kept_on : (done : List B) (xs : List X) (i : ℕ) (x : X) (y : B) (total : Says (List A)) → i < length xs → x ≡ get_or xs i x
+      → f (map of done) x ≡ Ok (of y)
       → for_each_after f (map of done) (drop i xs) ≡ total → for_each_after f (map of (done ++ y ∷ [])) (drop (i + 1) xs) ≡ total
   kept_on done xs i x y total lt is h so_far =
       ap (λ l. for_each_after f l (drop (i + 1) xs)) (map-append of done (y ∷ [])) ∙ found_on f (map of done) xs i x (of y) total lt is h so_far

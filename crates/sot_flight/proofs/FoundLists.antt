@@ -1,5 +1,6 @@
 -- What was found for each of a list, and read of each of the items of a list, by place.
-use Rattle.std.proofs.Common.{◌≡◌, ℕ, zero, suc, ◌+◌, ◌<◌, List, [], ◌∷◌, ◌++◌, length, take, Ok, Err, decimal, refl, sym, ap, ap₂, subst, ◌∙◌, arith, length-append}
+use Rattle.std.proofs.Common.{◌≡◌, ℕ, zero, suc, ◌+◌, ◌<◌, List, [], ◌∷◌, ◌++◌, length, take, Ok, Err, decimal, refl, sym, ap, ap₂, subst, ◌∙◌, arith}
+use Rattle.std.proofs.Common.{length-append}
 use Rattle.std.specs.Prelude.{slice_get}
 use Rattle.std.proofs.lemmas.Option.{same_Some, none-some, slice_get_within}
 use Rattle.std.proofs.lemmas.List.{take_all, length-take-le}
@@ -49,7 +50,8 @@ module _ {X A : Type 0} (f : List A → X → Says A) where
       let b = bind_ok (f done x) _ ys h in
       take_less ys done b.0 (length (done ++ b.0 ∷ [])) (found_front (done ++ b.0 ∷ []) xs ys b.2) refl
 
-  found_from : (done : List A) (xs : List X) (ys : List A) → for_each_after f done xs ≡ Ok ys → (i : ℕ) (x : X) (y : A) → At xs i x → At ys (length done + i) y → f (take (length done + i) ys) x ≡ Ok y
+  found_from : (done : List A) (xs : List X) (ys : List A) → for_each_after f done xs ≡ Ok ys → (i : ℕ) (x : X) (y : A) → At xs i x → At ys (length done + i) y
+      → f (take (length done + i) ys) x ≡ Ok y
   unfolding for_each_after
   found_from done [] ys h i x y at is = absurd (none-some x at)
   found_from done (w ∷ xs) ys h zero x y at is =
@@ -90,7 +92,10 @@ unfolding each_after for_each_after listed named
 each_as f done no_items = refl
 each_as {A = A} f done (item d ds) = go (part (decimal (length done)) (f done d)) (λ x. each_as f (done ++ x ∷ []) ds)
   where
-    go : (says : Says A) → ((x : A) → each_after f (done ++ x ∷ []) ds ≡ for_each_after (λ done d. part (decimal (length done)) (f done d)) (done ++ x ∷ []) (listed ds)) → (says >>= λ x. each_after f (done ++ x ∷ []) ds) ≡ (says >>= λ x. for_each_after (λ done d. part (decimal (length done)) (f done d)) (done ++ x ∷ []) (listed ds))
+    go : (says : Says A) → ((x : A) → each_after f (done ++ x ∷ []) ds
+        ≡ for_each_after (λ done d. part (decimal (length done)) (f done d)) (done ++ x ∷ []) (listed ds))
+        → (says >>= λ x. each_after f (done ++ x ∷ []) ds) ≡ (says >>= λ x.
+        for_each_after (λ done d. part (decimal (length done)) (f done d)) (done ++ x ∷ []) (listed ds))
     go (Ok x) more = more x
     go (Err e) more = refl
 

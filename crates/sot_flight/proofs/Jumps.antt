@@ -1,5 +1,6 @@
 -- A jump by many words is one multiplication and one addition.
-use Rattle.std.proofs.Common.{◌≡◌, ℕ, zero, suc, ◌+◌, ◌-◌, ◌*◌, ◌%◌, ◌^◌, ◌<◌, ◌≤◌, ◌==◌, ◌&&◌, Bool, true, refl, sym, ap, subst, ◌∙◌, inl, inr, arith, eq-zero-or-pos}
+use Rattle.std.proofs.Common.{◌≡◌, ℕ, zero, suc, ◌+◌, ◌-◌, ◌*◌, ◌%◌, ◌^◌, ◌<◌, ◌≤◌, ◌==◌, ◌&&◌, Bool, true, refl, sym, ap, subst, ◌∙◌, inl, inr, arith}
+use Rattle.std.proofs.Common.{eq-zero-or-pos}
 use Rattle.std.specs.Prelude.{slice_index_or}
 use Rattle.std.proofs.lemmas.Bool.{and_parts}
 use Rattle.std.proofs.lemmas.Bool.Decides.{nat_tests}
@@ -32,7 +33,8 @@ difference : (a b : ℕ) → ((a + b) % 2 ^ 64 + (2 ^ 64 - b % 2 ^ 64)) % 2 ^ 64
 difference a b = omega arith
 
 -- the numbers of a jump, read off two generators
-pub is_jump : (n by more : ℕ) → more ≡ state_after 64 multiplier_64 1 n 0 → by ≡ (state_after 64 multiplier_64 1 n 1 + (2 ^ 64 - more)) % 2 ^ 64 → IsJump n by more
+pub is_jump : (n by more : ℕ) → more ≡ state_after 64 multiplier_64 1 n 0 → by ≡ (state_after 64 multiplier_64 1 n 1 + (2 ^ 64 - more)) % 2 ^ 64
+    → IsJump n by more
 is_jump n by more none one =
     let a = power multiplier_64 n in
     let b = sums multiplier_64 n in
@@ -111,7 +113,8 @@ all_follow by more first (suc n) = follows by more (first + n) && all_follow by 
 same_number : (a b : ℕ) → (a == b) ≡ true → a ≡ b
 same_number a b is = grind (arith, nat_tests)
 
-level : (unit by more first n : ℕ) → IsJump unit by more → IsListed first 0 → all_follow by more first n ≡ true → (c : ℕ) → c ≤ n → IsListed (first + c) (c * unit)
+level : (unit by more first n : ℕ) → IsJump unit by more → IsListed first 0 → all_follow by more first n ≡ true → (c : ℕ) → c ≤ n
+    → IsListed (first + c) (c * unit)
 level unit by more first n jump none all zero le =
     let same : first + 0 ≡ first = omega arith in
     let nothing : 0 * unit ≡ 0 = omega arith in
@@ -124,7 +127,8 @@ level unit by more first (suc n) jump none all (suc c) le =
           let same : n ≡ c = omega (arith, last, le) in
           let before = level unit by more first n jump none parts.1 c (omega (arith, le)) in
           let here = subst (λ k. follows by more (first + k) ≡ true) same parts.0 in
-          let both = and_parts (by_at (suc (first + c)) == by_at (first + c) * by % 2 ^ 64) (more_at (suc (first + c)) == (more_at (first + c) * by % 2 ^ 64 + more) % 2 ^ 64) here in
+          let both = and_parts (by_at (suc (first + c)) == by_at (first + c) * by % 2 ^ 64)
+          (more_at (suc (first + c)) == (more_at (first + c) * by % 2 ^ 64 + more) % 2 ^ 64) here in
           let next = jump_sum (c * unit) unit (by_at (first + c)) by (more_at (first + c)) more before jump in
           let place : first + suc c ≡ suc (first + c) = omega arith in
           let count : suc c * unit ≡ c * unit + unit = omega arith in

@@ -11,10 +11,12 @@ use Rattle.sot_json.specs.Json.{is_among}
 use Rattle.sot_flight.specs.FlightFormat.{plant_names, has_noise, is_external, node_names}
 
 module _ {X : Type 0} (name : X → List ℕ) (key : List ℕ) where
-  names_from : (xs : List X) (i : ℕ) (x : X) (b : Bool) → i < length xs → x ≡ get_or xs i x → bytes_eq key (name x) ≡ b → is_among key (map name (drop i xs)) ≡ (b || is_among key (map name (drop (i + 1) xs)))
+  names_from : (xs : List X) (i : ℕ) (x : X) (b : Bool) → i < length xs → x ≡ get_or xs i x → bytes_eq key (name x) ≡ b
+      → is_among key (map name (drop i xs)) ≡ (b || is_among key (map name (drop (i + 1) xs)))
   names_from xs i x b lt is same = rw (drop_at xs i x (slice_get_read xs (length xs) i x refl lt is), same) refl
 
-  one_more : (test : X → Bool) (x : X) (xs : List X) (a b : Bool) → test x ≡ a → (test x && bytes_eq key (name x)) ≡ b → is_among key (map name (filter test (x ∷ xs))) ≡ (b || is_among key (map name (filter test xs)))
+  one_more : (test : X → Bool) (x : X) (xs : List X) (a b : Bool) → test x ≡ a → (test x && bytes_eq key (name x)) ≡ b
+      → is_among key (map name (filter test (x ∷ xs))) ≡ (b || is_among key (map name (filter test xs)))
   one_more test x xs true b is same =
       let e : bytes_eq key (name x) ≡ b = ap (λ a. a && bytes_eq key (name x)) (sym is) ∙ same in
       rw (is, e) refl
@@ -22,22 +24,30 @@ module _ {X : Type 0} (name : X → List ℕ) (key : List ℕ) where
       let e : false ≡ b = ap (λ a. a && bytes_eq key (name x)) (sym is) ∙ same in
       rw (is, ← e) refl
 
-  some_names_from : (test : X → Bool) (xs : List X) (i : ℕ) (x : X) (b : Bool) → i < length xs → x ≡ get_or xs i x → (test x && bytes_eq key (name x)) ≡ b → is_among key (map name (filter test (drop i xs))) ≡ (b || is_among key (map name (filter test (drop (i + 1) xs))))
-  some_names_from test xs i x b lt is same = rw (drop_at xs i x (slice_get_read xs (length xs) i x refl lt is)) (one_more test x (drop (i + 1) xs) _ b refl same)
+  some_names_from : (test : X → Bool) (xs : List X) (i : ℕ) (x : X) (b : Bool) → i < length xs → x ≡ get_or xs i x → (test x && bytes_eq key (name x)) ≡ b
+      → is_among key (map name (filter test (drop i xs))) ≡ (b || is_among key (map name (filter test (drop (i + 1) xs))))
+  some_names_from test xs i x b lt is same =
+      rw (drop_at xs i x (slice_get_read xs (length xs) i x refl lt is)) (one_more test x (drop (i + 1) xs) _ b refl same)
 
-pub plants_from : (key : List ℕ) (plants : List PlantInfo) (i : ℕ) (plant : PlantInfo) (b : Bool) → i < length plants → plant ≡ get_or plants i plant → bytes_eq key plant.name ≡ b → is_among key (plant_names (drop i plants)) ≡ (b || is_among key (plant_names (drop (i + 1) plants)))
+pub plants_from : (key : List ℕ) (plants : List PlantInfo) (i : ℕ) (plant : PlantInfo) (b : Bool) → i < length plants → plant ≡ get_or plants i plant
+    → bytes_eq key plant.name ≡ b → is_among key (plant_names (drop i plants)) ≡ (b || is_among key (plant_names (drop (i + 1) plants)))
 plants_from key plants i plant b lt is same = names_from (λ k. k.name) key plants i plant b lt is same
 
 pub plants_past : (key : List ℕ) (plants : List PlantInfo) (i : ℕ) → length plants ≤ i → is_among key (plant_names (drop i plants)) ≡ false
 plants_past key plants i le = rw (drop_of_length-le plants le) refl
 
-pub disturbed_from : (key : List ℕ) (plants : List PlantInfo) (i : ℕ) (plant : PlantInfo) (b : Bool) → i < length plants → plant ≡ get_or plants i plant → (has_noise plant && bytes_eq key plant.name) ≡ b → is_among key (plant_names (filter has_noise (drop i plants))) ≡ (b || is_among key (plant_names (filter has_noise (drop (i + 1) plants))))
+pub disturbed_from : (key : List ℕ) (plants : List PlantInfo) (i : ℕ) (plant : PlantInfo) (b : Bool) → i < length plants → plant ≡ get_or plants i plant
+    → (has_noise plant && bytes_eq key plant.name) ≡ b → is_among key (plant_names (filter has_noise (drop i plants)))
+    ≡ (b || is_among key (plant_names (filter has_noise (drop (i + 1) plants))))
 disturbed_from key plants i plant b lt is same = some_names_from (λ k. k.name) key has_noise plants i plant b lt is same
 
-pub disturbed_past : (key : List ℕ) (plants : List PlantInfo) (i : ℕ) → length plants ≤ i → is_among key (plant_names (filter has_noise (drop i plants))) ≡ false
+pub disturbed_past : (key : List ℕ) (plants : List PlantInfo) (i : ℕ) → length plants ≤ i
+    → is_among key (plant_names (filter has_noise (drop i plants))) ≡ false
 disturbed_past key plants i le = rw (drop_of_length-le plants le) refl
 
-pub external_from : (key : List ℕ) (nodes : List NodeInfo) (i : ℕ) (node : NodeInfo) (b : Bool) → i < length nodes → node ≡ get_or nodes i node → (is_external node && bytes_eq key node.name) ≡ b → is_among key (node_names (filter is_external (drop i nodes))) ≡ (b || is_among key (node_names (filter is_external (drop (i + 1) nodes))))
+pub external_from : (key : List ℕ) (nodes : List NodeInfo) (i : ℕ) (node : NodeInfo) (b : Bool) → i < length nodes → node ≡ get_or nodes i node
+    → (is_external node && bytes_eq key node.name) ≡ b → is_among key (node_names (filter is_external (drop i nodes)))
+    ≡ (b || is_among key (node_names (filter is_external (drop (i + 1) nodes))))
 external_from key nodes i node b lt is same = some_names_from (λ n. n.name) key is_external nodes i node b lt is same
 
 pub external_past : (key : List ℕ) (nodes : List NodeInfo) (i : ℕ) → length nodes ≤ i → is_among key (node_names (filter is_external (drop i nodes))) ≡ false

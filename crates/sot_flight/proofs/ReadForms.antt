@@ -24,7 +24,8 @@ numbers_len width d xs h =
     omega (arith, l, n)
 
 -- as many numbers as a point may have make one
-pub point_there : (name : List ℕ) (width : ℕ) (ms : Members) (xs ys : List ℤ) → at name (numbers width) ms ≡ Ok xs → ys ≡ xs → 1 ≤ width → width ≤ 4 → (length ys ≡ 0) ⊎ (4 < length ys) → ⊥
+pub point_there : (name : List ℕ) (width : ℕ) (ms : Members) (xs ys : List ℤ) → at name (numbers width) ms ≡ Ok xs → ys ≡ xs → 1 ≤ width → width ≤ 4
+    → (length ys ≡ 0) ⊎ (4 < length ys) → ⊥
 point_there name width ms xs ys h same some few no_point =
     let d = at_ok name (numbers width) ms xs h in
     let size = numbers_len width d.0 xs d.1 in

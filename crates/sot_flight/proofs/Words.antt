@@ -28,7 +28,8 @@ words_more seed stream i =
     ap at e
 
 -- the number at a place is drawn from the word of that place
-pub drawn_at : (seed stream first : ℕ) (rs : List Side) (i : ℕ) (r : Side) → At rs i r → At (drawn_from seed stream first rs) i (drawn r (word seed stream (first + i)))
+pub drawn_at : (seed stream first : ℕ) (rs : List Side) (i : ℕ) (r : Side) → At rs i r
+    → At (drawn_from seed stream first rs) i (drawn r (word seed stream (first + i)))
 drawn_at seed stream first [] i r at = absurd (none-some r at)
 drawn_at seed stream first (s ∷ rs) zero r at =
     let e : first ≡ first + 0 = omega arith in
@@ -48,7 +49,9 @@ place_below (negsuc k) w some = absurd (omega (arith, ints, some))
 
 -- the number of a range, as it is computed in 64 bits
 pub read_draw : (lo hi : ℤ) (w : ℕ) → FitsSigned w64 lo → FitsSigned w64 hi → IsNarrow lo hi
-    → to_z w64 (of_z w64 (to_z w64 (of_z w64 lo) +ℤ to_z w64 (w % unsigned_abs (to_z w64 (of_z w64 (to_z w64 (of_z w64 (to_z w64 (of_z w64 hi) -ℤ to_z w64 (of_z w64 lo))) +ℤ pos 1)))))) ≡ drawn (record { lo = lo; hi = hi }) w
+    → to_z w64 (of_z w64 (to_z w64 (of_z w64 lo) +ℤ to_z w64
+    (w % unsigned_abs (to_z w64 (of_z w64 (to_z w64 (of_z w64 (to_z w64 (of_z w64 hi) -ℤ to_z w64 (of_z w64 lo))) +ℤ pos 1))))))
+    ≡ drawn (record { lo = lo; hi = hi }) w
 read_draw lo hi w low high narrow =
     let ordered = narrow.0 in
     let few = narrow.1 in
@@ -57,14 +60,23 @@ read_draw lo hi w low high narrow =
     let width_fits : FitsSigned w64 ((hi -ℤ lo) +ℤ pos 1) = omega (arith, ints) in
     let small : w % unsigned_abs ((hi -ℤ lo) +ℤ pos 1) < 2 ^ hbits w64 = omega (arith, ints) in
     let fits : FitsSigned w64 (lo +ℤ pos (w % unsigned_abs ((hi -ℤ lo) +ℤ pos 1))) = omega (arith, ints) in
-    rw (to_z-of_z w64 lo low, to_z-of_z w64 hi high, to_z-of_z w64 (hi -ℤ lo) less, to_z-of_z w64 ((hi -ℤ lo) +ℤ pos 1) width_fits, to_z_pos w64 (w % unsigned_abs ((hi -ℤ lo) +ℤ pos 1)) small, to_z-of_z w64 (lo +ℤ pos (w % unsigned_abs ((hi -ℤ lo) +ℤ pos 1))) fits) refl
+    rw (
+      to_z-of_z w64 lo low,
+      to_z-of_z w64 hi high,
+      to_z-of_z w64 (hi -ℤ lo) less,
+      to_z-of_z w64 ((hi -ℤ lo) +ℤ pos 1) width_fits,
+      to_z_pos w64 (w % unsigned_abs ((hi -ℤ lo) +ℤ pos 1)) small,
+      to_z-of_z w64 (lo +ℤ pos (w % unsigned_abs ((hi -ℤ lo) +ℤ pos 1))) fits,
+    ) refl
 
 -- a number that was drawn with ends that were read
-pub drawn_read : (lo hi z : ℤ) (w v : ℕ) → FitsSigned w64 lo → FitsSigned w64 hi → z ≡ drawn (record { lo = to_z w64 (of_z w64 lo); hi = to_z w64 (of_z w64 hi) }) w → w ≡ v → z ≡ drawn (record { lo = lo; hi = hi }) v
+pub drawn_read : (lo hi z : ℤ) (w v : ℕ) → FitsSigned w64 lo → FitsSigned w64 hi
+    → z ≡ drawn (record { lo = to_z w64 (of_z w64 lo); hi = to_z w64 (of_z w64 hi) }) w → w ≡ v → z ≡ drawn (record { lo = lo; hi = hi }) v
 drawn_read lo hi z w v low high is same = (rw (to_z-of_z w64 lo low, to_z-of_z w64 hi high) at is) ∙ ap (drawn (record { lo = lo; hi = hi })) same
 
 -- the words after one more, as a loop counts them
-pub words_on : (seed stream given i : ℕ) (words more : Lcg) → words ≡ words_from seed stream (given + i) → more ≡ next 64 multiplier_64 words → more ≡ words_from seed stream (given + (i + 1))
+pub words_on : (seed stream given i : ℕ) (words more : Lcg) → words ≡ words_from seed stream (given + i) → more ≡ next 64 multiplier_64 words
+    → more ≡ words_from seed stream (given + (i + 1))
 words_on seed stream given i words more is step =
     let e : suc (given + i) ≡ given + (i + 1) = omega arith in
     step ∙ ap (next 64 multiplier_64) is ∙ words_more seed stream (given + i) ∙ ap (words_from seed stream) e

@@ -1,5 +1,6 @@
 -- How many events and numbers a flight has, counted from the calendar.
-use Rattle.std.specs.Prelude.{ℕ, zero, suc, ◌+◌, ◌*◌, ◌-◌, ◌%◌, ◌==◌, nat_le, ◌&&◌, if◌then◌else◌, List, [], ◌∷◌, length}
+use Rattle.std.specs.Prelude.{ℕ, zero, suc, ◌+◌, ◌*◌, ◌-◌, ◌%◌, ◌==◌, nat_le, ◌&&◌, if◌then◌else◌}
+use Rattle.std.specs.Prelude.{List, [], ◌∷◌, length}
 use Rattle.sot_lang.specs.declared.tables.PlantInfo.{PlantInfo}
 use Rattle.sot_lang.specs.declared.tables.NodeInfo.{NodeInfo}
 use Rattle.sot_lang.specs.declared.tables.ModuleInfo.{ModuleInfo}
@@ -40,7 +41,8 @@ tick_numbers (k ∷ ks) = length k.noise.items + length k.states.items + tick_nu
 -- the numbers of the firings: for each one a number a scalar that the node writes
 abbrev pub draft_numbers : ℕ → List NodeInfo → ℕ
 draft_numbers h [] = 0
-draft_numbers h (n ∷ ns) = due_count n.period n.offset h * length n.writes.items + draft_numbers h ns
+draft_numbers h (n ∷ ns) =
+    due_count n.period n.offset h * length n.writes.items + draft_numbers h ns
 
 abbrev pub input_numbers : List StatedInput → ℕ
 input_numbers [] = 0

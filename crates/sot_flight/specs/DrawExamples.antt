@@ -11,10 +11,12 @@ Words = (word 42 54 0 ≡ 0xa15c02b7) × (word 42 54 1 ≡ 0x7b47f409) × (word 
 abbrev pub minus_one_to_one : Side
 minus_one_to_one = record { lo = negsuc 0; hi = pos 1 }
 
--- what these words stand for in -1..1; the second word for a range of one number, and for one of 2^32
+-- what these words stand for in -1..1; the second word for a range of one number, and for one of
+-- 2^32
 abbrev pub Numbers : Type 0
 Numbers =
-    (drawn_from 42 54 0 (minus_one_to_one ∷ minus_one_to_one ∷ minus_one_to_one ∷ []) ≡ negsuc 0 ∷ negsuc 0 ∷ pos 1 ∷ [])
+    (drawn_from 42 54 0 (minus_one_to_one ∷ minus_one_to_one ∷ minus_one_to_one ∷ [])
+    ≡ negsuc 0 ∷ negsuc 0 ∷ pos 1 ∷ [])
     × (drawn_from 42 54 1 (record { lo = pos 7; hi = pos 7 } ∷ []) ≡ pos 7 ∷ [])
     × (drawn_from 42 54 1 (record { lo = pos 0; hi = pos 4294967295 } ∷ []) ≡ pos 0x7b47f409 ∷ [])
 
@@ -27,4 +29,6 @@ abbrev pub two_drafts : List (List (Option ℤ))
 two_drafts = (Some (pos 5) ∷ []) ∷ (None ∷ []) ∷ []
 
 abbrev pub TwoRows : Type 0
-TwoRows = (row_at two_drafts 0 ≡ Some (pos 5) ∷ []) × (row_at two_drafts 1 ≡ None ∷ []) × (row_at two_drafts 2 ≡ None ∷ [])
+TwoRows =
+    (row_at two_drafts 0 ≡ Some (pos 5) ∷ []) × (row_at two_drafts 1 ≡ None ∷ [])
+    × (row_at two_drafts 2 ≡ None ∷ [])

@@ -1,5 +1,8 @@
--- What a flight's JSON says of a program, or its first fault: one definition for each value of the format, in its order.
-use Rattle.std.specs.Prelude.{ℕ, ℤ, pos, List, [], ◌∷◌, length, codes, Bool, false, not, ◌&&◌, ◌==◌, nat_lt, nat_le, bytes_eq, Option, Some, None, Ok, map, take, drop, filter, position, slice_index_or, is_none, if◌then◌else◌}
+-- What a flight's JSON says of a program, or its first fault: one definition for each value of the
+-- format, in its order.
+use Rattle.std.specs.Prelude.{ℕ, ℤ, pos, List, [], ◌∷◌, length, codes, Bool, false, not, ◌&&◌, ◌==◌}
+use Rattle.std.specs.Prelude.{nat_lt, nat_le, bytes_eq, Option, Some, None, Ok, map, take, drop}
+use Rattle.std.specs.Prelude.{filter, position, slice_index_or, is_none, if◌then◌else◌}
 use Rattle.std.specs.List.{list_any}
 use Rattle.serde_json.specs.Data.{Data, Members}
 use Rattle.serde_json.specs.Find.{as_array, as_object, as_str}
@@ -9,14 +12,17 @@ use Rattle.sot_lang.specs.declared.tables.PlantInfo.{PlantInfo}
 use Rattle.sot_lang.specs.declared.tables.NodeInfo.{NodeInfo}
 use Rattle.sot_lang.specs.Tables.{Tables}
 use Rattle.sot_lang.specs.Ranges.{bounds, scalar_ranges}
-use Rattle.sot_json.specs.declared.fault.JsonKind.TheVariants.{NotJson, WrongShape, Unknown, Order, NoGuest, GuestTwice, TooManyEvents, TooManyNumbers}
+use Rattle.sot_json.specs.declared.fault.JsonKind.TheVariants.{NotJson, WrongShape, Unknown, Order}
+use Rattle.sot_json.specs.declared.fault.JsonKind.TheVariants.{NoGuest, GuestTwice, TooManyEvents}
+use Rattle.sot_json.specs.declared.fault.JsonKind.TheVariants.{TooManyNumbers}
 use Rattle.sot_json.specs.Says.{Says, ◌>>=◌, or, unless}
 use Rattle.sot_json.specs.Json.{json_of, whole, count, each_after, at, all_among}
 use Rattle.sot_flight.specs.declared.sway.SwayKind.{SwayKind}
 use Rattle.sot_flight.specs.declared.sway.SwayKind.TheVariants as sway_kinds
 use Rattle.sot_flight.specs.declared.crew.CrewKind.{CrewKind}
 use Rattle.sot_flight.specs.declared.crew.CrewKind.TheVariants as crew_kinds
-use Rattle.sot_flight.specs.Plans.{StatedInput, Plan, Sway, Still, Low, High, Listed, Drawn, Crew, Coded, Script, Wild, Guest}
+use Rattle.sot_flight.specs.Plans.{StatedInput, Plan, Sway, Still, Low, High, Listed, Drawn, Crew}
+use Rattle.sot_flight.specs.Plans.{Coded, Script, Wild, Guest}
 use Rattle.sot_flight.specs.Counts.{events_of, numbers_of}
 use Rattle.sot_flight.specs.ListForms.{numbers_in, numbers, rows_in, drafts, for_each_after}
 
@@ -201,7 +207,8 @@ is_external node = is_none node.body
 
 -- the crew of an external node, under its name; any other one is coded
 abbrev pub crew_at : ℕ → Members → List Crew → NodeInfo → Says Crew
-crew_at guests ms done node = if is_external node then at node.name (crew guests done node) ms else Ok Coded
+crew_at guests ms done node =
+    if is_external node then at node.name (crew guests done node) ms else Ok Coded
 
 abbrev pub node_names : List NodeInfo → List (List ℕ)
 node_names nodes = map (λ n. n.name) nodes
@@ -217,14 +224,25 @@ crews p guests d = do
 -- ---- the whole
 
 abbrev pub flight_keys : List (List ℕ)
-flight_keys = codes "format" ∷ codes "horizon" ∷ codes "start" ∷ codes "inputs" ∷ codes "sway" ∷ codes "crew" ∷ []
+flight_keys =
+    codes "format" ∷ codes "horizon" ∷ codes "start" ∷ codes "inputs" ∷ codes "sway" ∷ codes "crew"
+    ∷ []
 
 -- a flight, with its counts, of which there are not more than the limits
-unfoldable pub counted : Tables → ℕ → List (List ℤ) → List StatedInput → List Sway → List Crew → Says Plan
+unfoldable pub counted : Tables → ℕ → List (List ℤ) → List StatedInput → List Sway → List Crew
+    → Says Plan
 counted p horizon points given swayed crewed = do
   few_events ← unless TooManyEvents (nat_le (events_of p horizon given) 200000)
   few_numbers ← unless TooManyNumbers (nat_le (numbers_of p horizon given) 1000000)
-  Ok (record { horizon = horizon; start = points; inputs = given; sways = swayed; crews = crewed; events = events_of p horizon given; numbers = numbers_of p horizon given })
+  Ok (record {
+    horizon = horizon;
+    start = points;
+    inputs = given;
+    sways = swayed;
+    crews = crewed;
+    events = events_of p horizon given;
+    numbers = numbers_of p horizon given;
+  })
 
 -- a flight: an object of its format, which is 1, of its horizon, and of its parts
 unfoldable pub flight : Tables → ℕ → Data → Says Plan

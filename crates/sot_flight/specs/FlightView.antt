@@ -7,7 +7,8 @@ use Rattle.sot_flight.specs.declared.sway.Sway as kept_sway
 use Rattle.sot_flight.specs.declared.sway.Sway.TheVariants as kept_sways
 use Rattle.sot_flight.specs.declared.crew.Crew as kept_crew
 use Rattle.sot_flight.specs.declared.crew.Crew.TheVariants as kept_crews
-use Rattle.sot_flight.specs.Plans.{StatedInput, Plan, Sway, Still, Low, High, Listed, Drawn, Crew, Coded, Script, Wild, Guest}
+use Rattle.sot_flight.specs.Plans.{StatedInput, Plan, Sway, Still, Low, High, Listed, Drawn, Crew}
+use Rattle.sot_flight.specs.Plans.{Coded, Script, Wild, Guest}
 
 abbrev pub sway_of : kept_sway.Sway → Sway
 sway_of kept_sways.Still = Still

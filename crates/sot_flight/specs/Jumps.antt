@@ -16,8 +16,10 @@ sums m (suc n) = sums m n * m + 1
 
 -- the two numbers of a jump by so many words
 abbrev pub IsJump : ℕ → ℕ → ℕ → Type 0
-IsJump given by more = (by ≡ power multiplier_64 given % 2 ^ 64) × (more ≡ sums multiplier_64 given % 2 ^ 64)
+IsJump given by more =
+    (by ≡ power multiplier_64 given % 2 ^ 64) × (more ≡ sums multiplier_64 given % 2 ^ 64)
 
 -- the table has the two numbers of the jump by so many words, at a place
 abbrev pub IsListed : ℕ → ℕ → Type 0
-IsListed place given = IsJump given (slice_index_or JUMPS (2 * place) 0) (slice_index_or JUMPS (2 * place + 1) 0)
+IsListed place given =
+    IsJump given (slice_index_or JUMPS (2 * place) 0) (slice_index_or JUMPS (2 * place + 1) 0)

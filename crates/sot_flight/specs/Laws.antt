@@ -14,15 +14,19 @@ use Rattle.sot_flight.specs.Fits.{FitsFlight}
 -- each tick has disturbances for each plant, in its bounds
 abbrev pub StatedNoiseIsInBounds : Type 0
 StatedNoiseIsInBounds =
-    (p : Tables) (guests : ℕ) (f : Plan) (t k : ℕ) (plant : PlantInfo) → MeetsTableRules p → FitsFlight p guests f → At p.plants k plant →
+    (p : Tables) (guests : ℕ) (f : Plan) (t k : ℕ) (plant : PlantInfo) → MeetsTableRules p
+    → FitsFlight p guests f → At p.plants k plant →
     IsWithin (bounds plant) (slice_index_or (stated_noise p f t) k [])
 
 -- .. and no others
 abbrev pub StatedNoiseIsForPlants : Type 0
-StatedNoiseIsForPlants = (p : Tables) (guests : ℕ) (f : Plan) (t : ℕ) → FitsFlight p guests f → length (stated_noise p f t) ≡ length p.plants
+StatedNoiseIsForPlants =
+    (p : Tables) (guests : ℕ) (f : Plan) (t : ℕ) → FitsFlight p guests f
+    → length (stated_noise p f t) ≡ length p.plants
 
 -- a stated draft has a slot for each scalar that the node writes
 abbrev pub StatedDraftsAreOfNodes : Type 0
 StatedDraftsAreOfNodes =
-    (p : Tables) (guests : ℕ) (f : Plan) (n i : ℕ) (node : NodeInfo) (crew : Crew) (draft : List (Option ℤ)) → FitsFlight p guests f → At p.nodes n node → At f.crews n crew →
+    (p : Tables) (guests : ℕ) (f : Plan) (n i : ℕ) (node : NodeInfo) (crew : Crew)
+    (draft : List (Option ℤ)) → FitsFlight p guests f → At p.nodes n node → At f.crews n crew →
     draft_of p node crew i ≡ Some draft → length draft ≡ length node.writes.items

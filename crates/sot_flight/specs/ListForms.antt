@@ -1,10 +1,13 @@
--- What the format of flights says of numbers and lists of them, and of the parts of an object that stand for a program's plants and nodes.
-use Rattle.std.specs.Prelude.{ℕ, ℤ, List, [], ◌∷◌, ◌++◌, length, ◌==◌, nat_lt, Option, None, Ok, slice_index_or, is_some, if◌then◌else◌}
+-- What the format of flights says of numbers and lists of them, and of the parts of an object that
+-- stand for a program's plants and nodes.
+use Rattle.std.specs.Prelude.{ℕ, ℤ, List, [], ◌∷◌, ◌++◌, length, ◌==◌, nat_lt, Option, None, Ok}
+use Rattle.std.specs.Prelude.{slice_index_or, is_some, if◌then◌else◌}
 use Rattle.serde_json.specs.Data.{Data}
 use Rattle.serde_json.specs.Events.{items_len}
 use Rattle.serde_json.specs.Find.{as_null, as_array}
 use Rattle.sot_box.specs.Sides.{Side, nought}
-use Rattle.sot_json.specs.declared.fault.JsonKind.TheVariants.{WrongShape, OutsideRange, Width, Empty}
+use Rattle.sot_json.specs.declared.fault.JsonKind.TheVariants.{WrongShape, OutsideRange, Width}
+use Rattle.sot_json.specs.declared.fault.JsonKind.TheVariants.{Empty}
 use Rattle.sot_json.specs.Says.{Says, ◌>>=◌, or, unless}
 use Rattle.sot_json.specs.Json.{is_within, each_after, each, some}
 use Rattle.sot_cert.specs.CertFormat.{number}
@@ -60,7 +63,8 @@ drafts size d = do
   each (draft size) ds
 
 -- Something for each of these, one after the other; f is told what was found for those before.
-unfoldable pub for_each_after : {X A : Type 0} → (List A → X → Says A) → List A → List X → Says (List A)
+unfoldable pub for_each_after : {X A : Type 0} → (List A → X → Says A) → List A → List X
+    → Says (List A)
 for_each_after f done [] = Ok done
 for_each_after f done (x ∷ xs) = do
   y ← f done x

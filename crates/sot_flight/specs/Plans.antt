@@ -7,7 +7,8 @@ pub record StatedInput : Type 0 where
   pub topic : ℕ
   pub value : List ℤ
 
--- what drives the disturbances of a plant: none, where it has none; the low or the high bound of each; a list of disturbances for each tick, of which the last one stays; or words of a generator
+-- what drives the disturbances of a plant: none, where it has none; the low or the high bound of
+-- each; a list of disturbances for each tick, of which the last one stays; or words of a generator
 pub data Sway : Type 0 where
   Still : Sway
   Low : Sway
@@ -15,14 +16,16 @@ pub data Sway : Type 0 where
   Listed : (rows : List (List ℤ)) → Sway
   Drawn : (seed stream : ℕ) → Sway
 
--- who drafts for a node: its own code; a list of drafts for each firing, of which the last one stays; words of a generator; or the guest of that number
+-- who drafts for a node: its own code; a list of drafts for each firing, of which the last one
+-- stays; words of a generator; or the guest of that number
 pub data Crew : Type 0 where
   Coded : Crew
   Script : (drafts : List (List (Option ℤ))) → Crew
   Wild : (seed stream : ℕ) → Crew
   Guest : (index : ℕ) → Crew
 
--- a flight: how many ticks it has, where its plants start, its inputs in order, a sway for each plant, a crew for each node, how many events it has, and how many numbers
+-- a flight: how many ticks it has, where its plants start, its inputs in order, a sway for each
+-- plant, a crew for each node, how many events it has, and how many numbers
 pub record Plan : Type 0 where
   pub horizon : ℕ
   pub start : List (List ℤ)

@@ -4,7 +4,8 @@ use Rattle.sot_lang.specs.declared.tables.PlantInfo.{PlantInfo}
 use Rattle.sot_lang.specs.declared.tables.NodeInfo.{NodeInfo}
 use Rattle.sot_lang.specs.Tables.{Tables}
 use Rattle.sot_lang.specs.Ranges.{bounds, write_ranges}
-use Rattle.sot_flight.specs.Plans.{Plan, Sway, Still, Low, High, Listed, Drawn, Crew, Coded, Script, Wild, Guest}
+use Rattle.sot_flight.specs.Plans.{Plan, Sway, Still, Low, High, Listed, Drawn, Crew, Coded, Script}
+use Rattle.sot_flight.specs.Plans.{Wild, Guest}
 use Rattle.sot_flight.specs.Draws.{drawn_from}
 
 -- the row of that number, and past the last row that one again
@@ -20,7 +21,8 @@ noise_of plant Still t = []
 noise_of plant Low t = map (λ r. r.lo) (bounds plant)
 noise_of plant High t = map (λ r. r.hi) (bounds plant)
 noise_of plant (Listed rows) t = row_at rows t
-noise_of plant (Drawn seed stream) t = drawn_from seed stream (t * length plant.noise.items) (bounds plant)
+noise_of plant (Drawn seed stream) t =
+    drawn_from seed stream (t * length plant.noise.items) (bounds plant)
 
 -- those of each of these plants
 abbrev pub noises : List PlantInfo → List Sway → ℕ → List (List ℤ)
@@ -32,9 +34,11 @@ noises (plant ∷ plants) (sway ∷ sways) t = noise_of plant sway t ∷ noises 
 abbrev pub stated_noise : Tables → Plan → ℕ → List (List ℤ)
 stated_noise p f t = noises p.plants f.sways t
 
--- the draft of a node's firing f, with a number or nothing for each scalar that it writes; nothing is stated where its own code or a guest drafts
+-- the draft of a node's firing f, with a number or nothing for each scalar that it writes; nothing
+-- is stated where its own code or a guest drafts
 abbrev pub draft_of : Tables → NodeInfo → Crew → ℕ → Option (List (Option ℤ))
 draft_of p node Coded f = None
 draft_of p node (Script drafts) f = Some (row_at drafts f)
-draft_of p node (Wild seed stream) f = Some (map Some (drawn_from seed stream (f * length node.writes.items) (write_ranges p node)))
+draft_of p node (Wild seed stream) f =
+    Some (map Some (drawn_from seed stream (f * length node.writes.items) (write_ranges p node)))
 draft_of p node (Guest index) f = None

@@ -6,7 +6,8 @@ ghost use Rattle.sot_lang.specs.declared.tables.NodeInfo.{NodeInfo};
 ghost use Rattle.sot_lang.specs.declared.tables.ModuleInfo.{ModuleInfo};
 ghost use Rattle.sot_lang.specs.declared.tables.PlantInfo.{PlantInfo};
 ghost use Rattle.sot_lang.specs.TableRules.{MeetsTableRules};
-ghost use Rattle.sot_flight.specs.Counts.{due_count, firing_count, decision_count, tick_numbers, draft_numbers, input_numbers, events_of, numbers_of};
+ghost use Rattle.sot_flight.specs.Counts.{due_count, firing_count, decision_count, tick_numbers};
+ghost use Rattle.sot_flight.specs.Counts.{draft_numbers, input_numbers, events_of, numbers_of};
 ghost use Rattle.sot_flight.specs.FlightView.{input_of};
 
 use crate::input::Input;
@@ -24,7 +25,8 @@ fn due_times(period: u32, offset: u32, horizon: u32) -> u64
 }
 
 fn firings_of(nodes: &[NodeInfo], horizon: u32) -> u64
-    requires times { (n : ℕ) (node : NodeInfo) → At nodes.now n node → (node.offset < node.period) × (node.period ≤ 1000) }
+    requires times { (n : ℕ) (node : NodeInfo) → At nodes.now n node
+        → (node.offset < node.period) × (node.period ≤ 1000) }
     requires few { length nodes.now ≤ 300 }
     requires horizon { horizon ≤ 100000 }
     ensures { result ≡ firing_count horizon nodes.now }
@@ -37,7 +39,8 @@ fn firings_of(nodes: &[NodeInfo], horizon: u32) -> u64
 }
 
 fn decisions_of(modules: &[ModuleInfo], horizon: u32) -> u64
-    requires times { (m : ℕ) (info : ModuleInfo) → At modules.now m info → (info.offset < info.period) × (info.period ≤ 1000) }
+    requires times { (m : ℕ) (info : ModuleInfo) → At modules.now m info
+        → (info.offset < info.period) × (info.period ≤ 1000) }
     requires few { length modules.now ≤ 100 }
     requires horizon { horizon ≤ 100000 }
     ensures { result ≡ decision_count horizon modules.now }
@@ -50,7 +53,8 @@ fn decisions_of(modules: &[ModuleInfo], horizon: u32) -> u64
 }
 
 fn ticks_of(plants: &[PlantInfo]) -> u64
-    requires few { (k : ℕ) (plant : PlantInfo) → At plants.now k plant → (length plant.noise.items ≤ 4) × (length plant.states.items ≤ 4) }
+    requires few { (k : ℕ) (plant : PlantInfo) → At plants.now k plant
+        → (length plant.noise.items ≤ 4) × (length plant.states.items ≤ 4) }
     requires count { length plants.now ≤ 100 }
     ensures count { result ≡ tick_numbers plants.now }
     ensures small { result ≤ 800 }
@@ -63,8 +67,10 @@ fn ticks_of(plants: &[PlantInfo]) -> u64
 }
 
 fn drafts_of(nodes: &[NodeInfo], horizon: u32) -> u64
-    requires times { (n : ℕ) (node : NodeInfo) → At nodes.now n node → (node.offset < node.period) × (node.period ≤ 1000) }
-    requires writes { (n : ℕ) (node : NodeInfo) → At nodes.now n node → length node.writes.items ≤ 8 }
+    requires times { (n : ℕ) (node : NodeInfo) → At nodes.now n node
+        → (node.offset < node.period) × (node.period ≤ 1000) }
+    requires writes { (n : ℕ) (node : NodeInfo) → At nodes.now n node
+        → length node.writes.items ≤ 8 }
     requires few { length nodes.now ≤ 300 }
     requires horizon { horizon ≤ 100000 }
     ensures count { result ≡ draft_numbers horizon nodes.now }
@@ -100,7 +106,8 @@ pub(crate) fn events_in(p: &Typed, horizon: u32, inputs: &Vec<Input>) -> u128
         + u128::from(horizon)
 }
 
-/// The number of disturbances, states, drafted scalars and input scalars up to and including the horizon.
+/// The number of disturbances, states, drafted scalars and input scalars up to and including the
+/// horizon.
 pub(crate) fn numbers_in(p: &Typed, horizon: u32, inputs: &Vec<Input>) -> u128
     requires { horizon ≤ 100000 }
     ensures { result ≡ numbers_of p.now horizon (map input_of inputs.now.items) }

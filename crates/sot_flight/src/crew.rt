@@ -5,7 +5,8 @@
 pub(crate) enum Crew {
     /// Its own code.
     Coded,
-    /// A list of drafts for each firing, with a number or nothing for each scalar; the last one stays.
+    /// A list of drafts for each firing, with a number or nothing for each scalar; the last one
+    /// stays.
     Script(Vec<Vec<Option<i64>>>),
     /// Words of a generator, one a scalar that the node writes.
     Wild { seed: u64, stream: u64 },

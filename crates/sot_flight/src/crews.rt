@@ -7,7 +7,9 @@ ghost use Rattle.sot_json.specs.Json.{at};
 ghost use Rattle.sot_json.specs.Answers.{Gives};
 ghost use Rattle.sot_flight.specs.ListForms.{drafts, for_each_after};
 ghost use Rattle.sot_flight.specs.FlightView.{crew_of};
-ghost use Rattle.sot_flight.specs.FlightFormat.{crew_kind, is_guest, guest as guest_says, crew_as, crew as crew_says, crew_at as crew_at_says, crews as crews_say};
+ghost use Rattle.sot_flight.specs.FlightFormat.{crew_kind, is_guest, guest as guest_says, crew_as};
+ghost use Rattle.sot_flight.specs.FlightFormat.{crew as crew_says, crew_at as crew_at_says};
+ghost use Rattle.sot_flight.specs.FlightFormat.{crews as crews_say};
 
 use crate::crew::{Crew, CrewKind};
 use crate::keys::{GREATEST, count_at, has_only_external};
@@ -49,7 +51,8 @@ fn drafts_at(
     size: usize,
     object: &Map<String, Value>,
 ) -> Result<Vec<Vec<Option<i64>>>, JsonFail>
-    ensures { Gives (λ v. map (λ row. row.items) v.items) result (at (codes "drafts") (drafts size) (members_view object.now.entries)) }
+    ensures { Gives (λ v. map (λ row. row.items) v.items) result
+        (at (codes "drafts") (drafts size) (members_view object.now.entries)) }
 {
     let value = needed(alloc, object, "drafts")?;
     part_of(alloc, "drafts", drafts_of(alloc, size, value))
@@ -79,7 +82,8 @@ fn has_guest(done: &Vec<Crew>, index: u32) -> bool
 
 #[tactic(auto, unfolding(crate::specs::FlightFormat::guest))]
 fn guest_of(alloc: Global, guests: u32, done: &Vec<Crew>, value: &Value) -> Result<u32, JsonFail>
-    ensures { Gives (λ x. x) result (guest_says guests (map crew_of done.now.items) (view value.now)) }
+    ensures { Gives (λ x. x) result (guest_says guests (map crew_of done.now.items)
+        (view value.now)) }
 {
     let index = count_of(alloc, GREATEST, value)?;
     if index >= u64::from(guests) {
@@ -99,7 +103,8 @@ fn guest_at(
     done: &Vec<Crew>,
     object: &Map<String, Value>,
 ) -> Result<u32, JsonFail>
-    ensures { Gives (λ x. x) result (at (codes "index") (guest_says guests (map crew_of done.now.items)) (members_view object.now.entries)) }
+    ensures { Gives (λ x. x) result (at (codes "index")
+        (guest_says guests (map crew_of done.now.items)) (members_view object.now.entries)) }
 {
     let value = needed(alloc, object, "index")?;
     part_of(alloc, "index", guest_of(alloc, guests, done, value))
@@ -114,7 +119,8 @@ fn crew_as_kind(
     object: &Map<String, Value>,
     kind: CrewKind,
 ) -> Result<Crew, JsonFail>
-    ensures { Gives crew_of result (crew_as guests (map crew_of done.now.items) node.now (members_view object.now.entries) kind) }
+    ensures { Gives crew_of result (crew_as guests (map crew_of done.now.items) node.now
+        (members_view object.now.entries) kind) }
 {
     match kind {
         CrewKind::Script => {
@@ -150,7 +156,8 @@ fn one_crew(
     node: &NodeInfo,
     value: &Value,
 ) -> Result<Crew, JsonFail>
-    ensures { Gives crew_of result (crew_says guests (map crew_of done.now.items) node.now (view value.now)) }
+    ensures { Gives crew_of result (crew_says guests (map crew_of done.now.items) node.now
+        (view value.now)) }
 {
     let Some(object) = value.as_object() else {
         return Err(fault_at(alloc, JsonKind::WrongShape));
@@ -167,7 +174,8 @@ fn crew_under(
     node: &NodeInfo,
     object: &Map<String, Value>,
 ) -> Result<Crew, JsonFail>
-    ensures { Gives crew_of result (at node.now.name (crew_says guests (map crew_of done.now.items) node.now) (members_view object.now.entries)) }
+    ensures { Gives crew_of result (at node.now.name
+        (crew_says guests (map crew_of done.now.items) node.now) (members_view object.now.entries)) }
 {
     let name = node.name.as_str();
     let value = needed(alloc, object, name)?;
@@ -182,7 +190,8 @@ fn crew_where(
     node: &NodeInfo,
     object: &Map<String, Value>,
 ) -> Result<Crew, JsonFail>
-    ensures { Gives crew_of result (crew_at_says guests (members_view object.now.entries) (map crew_of done.now.items) node.now) }
+    ensures { Gives crew_of result (crew_at_says guests (members_view object.now.entries)
+        (map crew_of done.now.items) node.now) }
 {
     if node.body.is_none() {
         crew_under(alloc, guests, done, node, object)
@@ -197,7 +206,8 @@ fn each_crew(
     guests: u32,
     object: &Map<String, Value>,
 ) -> Result<Vec<Crew>, JsonFail>
-    ensures { Gives (λ v. map crew_of v.items) result (for_each_after (crew_at_says guests (members_view object.now.entries)) [] p.now.nodes) }
+    ensures { Gives (λ v. map crew_of v.items) result
+        (for_each_after (crew_at_says guests (members_view object.now.entries)) [] p.now.nodes) }
 {
     let mut found = Vec::new(alloc);
     for node in p.nodes.iter() {
@@ -231,7 +241,8 @@ pub(crate) fn crews_at(
     guests: u32,
     object: &Map<String, Value>,
 ) -> Result<Vec<Crew>, JsonFail>
-    ensures { Gives (λ v. map crew_of v.items) result (at (codes "crew") (crews_say p.now guests) (members_view object.now.entries)) }
+    ensures { Gives (λ v. map crew_of v.items) result
+        (at (codes "crew") (crews_say p.now guests) (members_view object.now.entries)) }
 {
     let value = needed(alloc, object, "crew")?;
     part_of(alloc, "crew", crews_of(alloc, p, guests, value))

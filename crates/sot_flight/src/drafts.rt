@@ -29,11 +29,14 @@ fn script_draft(row: &[Option<i64>]) -> Draft
     draft
 }
 
-// A number in its range for each scalar that a node writes, from that firing's first word on, in eight slots.
+// A number in its range for each scalar that a node writes, from that firing's first word on, in
+// eight slots.
 fn wild_draft(p: &Typed, info: &NodeInfo, seed: u64, stream: u64, firing: u32) -> Draft
     requires is { Has p.now.nodes info.now }
     requires few { length info.now.writes.items ≤ 8 }
-    ensures { result ≡ in_slots (map Some (drawn_from seed stream (firing * length info.now.writes.items) (write_ranges p.now info.now))) }
+    ensures { result ≡ in_slots (map Some
+        (drawn_from seed stream (firing * length info.now.writes.items)
+        (write_ranges p.now info.now))) }
 {
     let given = u64::from(firing) * info.writes.len() as u64;
     let mut words = words_from(seed, stream, given);
@@ -48,8 +51,10 @@ fn wild_draft(p: &Typed, info: &NodeInfo, seed: u64, stream: u64, firing: u32) -
 /// The stated draft of a node's firing, in eight slots; none where its own code or a guest drafts.
 pub(crate) fn stated_draft(p: &Typed, node: u32, crew: &Crew, firing: u32) -> Option<Draft>
     requires node { node < length p.now.nodes }
-    requires fits { (info : NodeInfo) → At p.now.nodes node info → FitsCrew info (crew_of crew.now) }
-    ensures { (info : NodeInfo) → At p.now.nodes node info → result ≡ option_map in_slots (draft_of p.now info (crew_of crew.now) firing) }
+    requires fits { (info : NodeInfo) → At p.now.nodes node info
+        → FitsCrew info (crew_of crew.now) }
+    ensures { (info : NodeInfo) → At p.now.nodes node info
+        → result ≡ option_map in_slots (draft_of p.now info (crew_of crew.now) firing) }
 {
     let info = &p.nodes[node as usize];
     match crew {

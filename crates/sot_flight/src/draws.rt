@@ -12,8 +12,8 @@ use rand_core::utils::NextWord;
 use rand_pcg::Pcg32;
 use std::marker::Model;
 
-/// What so many words do to the state of any generator: they multiply it, and add a multiple of the generator's increment. To
-/// jump many generators by one count, both numbers are worked out once.
+/// What so many words do to the state of any generator: they multiply it, and add a multiple of the
+/// generator's increment. To jump many generators by one count, both numbers are worked out once.
 #[derive(Drop)]
 pub(crate) struct Jump {
     given: u64,
@@ -33,7 +33,8 @@ impl Model for Jump {
 }
 
 impl Jump {
-    /// The jump by so many words. It is read off two generators with the increment 1, one from the state 0 and one from 1.
+    /// The jump by so many words. It is read off two generators with the increment 1, one from the
+    /// state 0 and one from 1.
     pub(crate) fn by(given: u64) -> Jump
         ensures { result ≡ given }
     {
@@ -105,7 +106,8 @@ impl Jump {
             .wrapping_add(increment.wrapping_mul(self.sum))
     }
 
-    /// The generator with this seed on this stream, once it has given as many words as the jump is by.
+    /// The generator with this seed on this stream, once it has given as many words as the jump is
+    /// by.
     pub(crate) fn words_from(&self, seed: u64, stream: u64) -> Pcg32
         ensures { result ≡ words_from_word seed stream self.now }
     {

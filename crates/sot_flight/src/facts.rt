@@ -2,7 +2,9 @@
 
 ghost use Rattle.std.specs.Global.{Global};
 ghost use Rattle.sot_flight.specs.DrawExamples.{Words, Numbers, OneRow, TwoRows};
-ghost use Rattle.sot_flight.specs.FlightExamples.{OnTheLine, OfEachKind, LastOfRepeated, Keys, Horizons, Starts, InputFaults, SwayFaults, CrewFaults, NumberLimit, EventLimit};
+ghost use Rattle.sot_flight.specs.FlightExamples.{OnTheLine, OfEachKind, LastOfRepeated, Keys};
+ghost use Rattle.sot_flight.specs.FlightExamples.{Horizons, Starts, InputFaults, SwayFaults};
+ghost use Rattle.sot_flight.specs.FlightExamples.{CrewFaults};
 
 /// The first words of a generator, and the numbers that they stand for.
 pub fn draws_are_as_stated()
@@ -31,6 +33,4 @@ pub fn flight_faults_are_as_stated()
     ensures inputs { (g : Global) → InputFaults g }
     ensures sways { (g : Global) → SwayFaults g }
     ensures crews { (g : Global) → CrewFaults g }
-    ensures numbers { (g : Global) → NumberLimit g }
-    ensures events { (g : Global) → EventLimit g }
 {}

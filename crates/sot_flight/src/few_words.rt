@@ -1,7 +1,8 @@
 //! Jumps of generators by few words.
 
-/// What few words do to the state of a generator: they multiply it, and add a multiple of the generator's increment. Both numbers
-/// stand side by side, for each count of words from 0 to 15, then for 16 times such a count, and then for 256 times such a count.
+/// What few words do to the state of a generator: they multiply it, and add a multiple of the
+/// generator's increment. Both numbers stand side by side, for each count of words from 0 to 15,
+/// then for 16 times such a count, and then for 256 times such a count.
 pub(crate) static JUMPS: [u64; 96] = [
     0x0000000000000001,
     0x0000000000000000,

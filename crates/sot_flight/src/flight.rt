@@ -1,6 +1,7 @@
 //! A flight, and its readers.
 
-ghost use Rattle.std.specs.Prelude.{◌≡◌, ℕ, ◌<◌, ◌^◌, [], length, slice_get, slice_index_or, Some, option_map, MatchOption};
+ghost use Rattle.std.specs.Prelude.{◌≡◌, ℕ, ◌<◌, ◌^◌, [], length, slice_get, slice_index_or, Some};
+ghost use Rattle.std.specs.Prelude.{option_map, MatchOption};
 ghost use Rattle.sot_lists.specs.Places.{At};
 ghost use Rattle.sot_lang.specs.declared.tables.PlantInfo.{PlantInfo};
 ghost use Rattle.sot_lang.specs.declared.tables.NodeInfo.{NodeInfo};
@@ -20,8 +21,8 @@ use sot_box::Point;
 use sot_lang::{Draft, Typed};
 use std::marker::Model;
 
-/// A flight of a program: its horizon in ticks, where its plants start, its inputs in order, what drives the disturbances of each
-/// plant, and who drafts for each node.
+/// A flight of a program: its horizon in ticks, where its plants start, its inputs in order, what
+/// drives the disturbances of each plant, and who drafts for each node.
 #[derive(Drop)]
 pub struct Flight {
     pub(crate) horizon: u32,
@@ -97,7 +98,8 @@ impl Flight {
     pub fn noise(&self, p: &Typed, plant: u32, tick: u32, i: u32) -> i64
         requires fits { (guests : ℕ) × FitsFlight p.now guests self.now }
         requires plant { plant < length p.now.plants }
-        requires there { (info : PlantInfo) → At p.now.plants plant info → i < length info.noise.items }
+        requires there { (info : PlantInfo) → At p.now.plants plant info
+            → i < length info.noise.items }
         ensures { At (slice_index_or (stated_noise p.now self.now tick) plant []) i result }
     {
         noise_at(
@@ -117,11 +119,14 @@ impl Flight {
         put_all(p, &self.sways, tick, noise)
     }
 
-    /// The stated draft of a node's firing, from 0 on; none exactly where its own code or a guest drafts.
+    /// The stated draft of a node's firing, from 0 on; none exactly where its own code or a guest
+    /// drafts.
     pub fn stated(&self, p: &Typed, node: u32, firing: u32) -> Option<Draft>
         requires fits { (guests : ℕ) × FitsFlight p.now guests self.now }
         requires node { node < length p.now.nodes }
-        ensures { (info : NodeInfo) (crew : plans.Crew) → At p.now.nodes node info → At self.now.crews node crew → result ≡ option_map in_slots (draft_of p.now info crew firing) }
+        ensures { (info : NodeInfo) (crew : plans.Crew) → At p.now.nodes node info
+            → At self.now.crews node crew → result
+            ≡ option_map in_slots (draft_of p.now info crew firing) }
     {
         stated_draft(p, node, &self.crews[node as usize], firing)
     }
@@ -129,7 +134,8 @@ impl Flight {
     /// The number of the guest that drafts for a node; none exactly where no guest does.
     pub fn guest(&self, node: u32) -> Option<u32>
         requires { node < length self.now.crews }
-        ensures { MatchOption result ((index : ℕ) → At self.now.crews node (plans.Guest index) → ⊥) (λ index. At self.now.crews node (plans.Guest index)) }
+        ensures { MatchOption result ((index : ℕ) → At self.now.crews node (plans.Guest index) → ⊥)
+            (λ index. At self.now.crews node (plans.Guest index)) }
     {
         match &self.crews[node as usize] {
             Crew::Coded | Crew::Script(_) | Crew::Wild { .. } => None,

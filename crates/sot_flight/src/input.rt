@@ -1,6 +1,7 @@
 //! Inputs of a flight.
 
-/// An input: the time at which it comes, its topic, and a number for each scalar of the topic, a mantissa at its scale.
+/// An input: the time at which it comes, its topic, and a number for each scalar of the topic, a
+/// mantissa at its scale.
 #[derive(Clone, Copy)]
 pub struct Given<'f> {
     pub at: u32,

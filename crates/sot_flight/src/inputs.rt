@@ -1,19 +1,25 @@
 //! The inputs of a flight.
 
-ghost use Rattle.std.specs.Prelude.{◌≡◌, ◌≤◌, ◌<◌, ◌&&◌, [], length, map, codes, position, bytes_eq, IfOk, slice_get, Some};
+ghost use Rattle.std.specs.Prelude.{◌≡◌, ◌≤◌, ◌<◌, ◌&&◌, [], length, map, codes, position};
+ghost use Rattle.std.specs.Prelude.{bytes_eq, IfOk, slice_get, Some};
 ghost use Rattle.serde_json.specs.View.{view, items_view, members_view};
 ghost use Rattle.sot_lang.specs.TableRules.{MeetsTableRules};
 ghost use Rattle.sot_json.specs.Json.{at, each_after};
 ghost use Rattle.sot_json.specs.Answers.{Gives};
 ghost use Rattle.sot_flight.specs.ListForms.{numbers_in};
 ghost use Rattle.sot_flight.specs.FlightView.{input_of};
-ghost use Rattle.sot_flight.specs.FlightFormat.{last_time, time, is_outside, topic as topic_says, topic_ranges, input as input_says, inputs as inputs_say};
+ghost use Rattle.sot_flight.specs.FlightFormat.{last_time, time, is_outside, topic as topic_says};
+ghost use Rattle.sot_flight.specs.FlightFormat.{topic_ranges, input as input_says};
+ghost use Rattle.sot_flight.specs.FlightFormat.{inputs as inputs_say};
 
 use crate::input::Input;
 use crate::lists::numbers_in_of;
 use crate::ranges::ranges_of_topic;
 use serde_json::{Map, Value};
-use sot_json::{JsonFail, JsonKind, count_of, fault_at, fault_under, fault_under_index, has_only, member_of, needed, part_of};
+use sot_json::{
+    JsonFail, JsonKind, count_of, fault_at, fault_under, fault_under_index, has_only, member_of,
+    needed, part_of,
+};
 use sot_lang::Typed;
 use std::alloc::Global;
 
@@ -46,7 +52,8 @@ fn time_at(
     done: &Vec<Input>,
     object: &Map<String, Value>,
 ) -> Result<u32, JsonFail>
-    ensures { Gives (λ x. x) result (at (codes "at") (time horizon (map input_of done.now.items)) (members_view object.now.entries)) }
+    ensures { Gives (λ x. x) result (at (codes "at") (time horizon (map input_of done.now.items))
+        (members_view object.now.entries)) }
 {
     let value = needed(alloc, object, "at")?;
     part_of(alloc, "at", time_of(alloc, horizon, done, value))
@@ -54,7 +61,8 @@ fn time_at(
 
 // The place of the environment topic of that name.
 fn outside_place(p: &Typed, name: &str) -> Option<usize>
-    ensures { result ≡ position (λ topic. topic.outside && bytes_eq topic.name name.now) p.now.topics }
+    ensures { result ≡ position (λ topic. topic.outside && bytes_eq topic.name name.now)
+        p.now.topics }
 {
     p.topics
         .iter()
@@ -79,7 +87,8 @@ fn topic_of(alloc: Global, p: &Typed, value: &Value) -> Result<u32, JsonFail>
 
 #[tactic(auto, unfolding(sot_json::specs::Json::at), using(sot_json::proofs::Faults::at_fails, sot_json::proofs::Faults::at_missing))]
 fn topic_at(alloc: Global, p: &Typed, object: &Map<String, Value>) -> Result<u32, JsonFail>
-    ensures says { Gives (λ x. x) result (at (codes "topic") (topic_says p.now) (members_view object.now.entries)) }
+    ensures says { Gives (λ x. x) result
+        (at (codes "topic") (topic_says p.now) (members_view object.now.entries)) }
     ensures there { IfOk result (λ k. k < length p.now.topics) }
 {
     let Some(value) = member_of(object, "topic") else {
@@ -99,7 +108,9 @@ fn value_at(
     object: &Map<String, Value>,
 ) -> Result<Vec<i64>, JsonFail>
     requires { topic < length p.now.topics }
-    ensures { Gives (λ v. v.items) result (at (codes "value") (numbers_in (topic_ranges p.now topic)) (members_view object.now.entries)) }
+    ensures { Gives (λ v. v.items) result
+        (at (codes "value") (numbers_in (topic_ranges p.now topic))
+        (members_view object.now.entries)) }
 {
     let value = needed(alloc, object, "value")?;
     let ranges = ranges_of_topic(alloc, p, topic)?;
@@ -114,7 +125,8 @@ fn one_input(
     done: &Vec<Input>,
     value: &Value,
 ) -> Result<Input, JsonFail>
-    ensures { Gives input_of result (input_says p.now horizon (map input_of done.now.items) (view value.now)) }
+    ensures { Gives input_of result (input_says p.now horizon (map input_of done.now.items)
+        (view value.now)) }
 {
     let Some(object) = value.as_object() else {
         return Err(fault_at(alloc, JsonKind::WrongShape));
@@ -134,7 +146,8 @@ fn each_input(
     horizon: u32,
     list: &Vec<Value>,
 ) -> Result<Vec<Input>, JsonFail>
-    ensures { Gives (λ v. map input_of v.items) result (each_after (input_says p.now horizon) [] (items_view list.now.items)) }
+    ensures { Gives (λ v. map input_of v.items) result
+        (each_after (input_says p.now horizon) [] (items_view list.now.items)) }
 {
     let mut found = Vec::new(alloc);
     for item in list.iter() {
@@ -164,7 +177,8 @@ pub(crate) fn inputs_at(
     horizon: u32,
     object: &Map<String, Value>,
 ) -> Result<Vec<Input>, JsonFail>
-    ensures { Gives (λ v. map input_of v.items) result (at (codes "inputs") (inputs_say p.now horizon) (members_view object.now.entries)) }
+    ensures { Gives (λ v. map input_of v.items) result
+        (at (codes "inputs") (inputs_say p.now horizon) (members_view object.now.entries)) }
 {
     let value = needed(alloc, object, "inputs")?;
     part_of(alloc, "inputs", inputs_of(alloc, p, horizon, value))

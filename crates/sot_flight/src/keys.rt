@@ -22,7 +22,8 @@ pub(crate) fn count_at(
     greatest: u64,
     object: &Map<String, Value>,
 ) -> Result<u64, JsonFail>
-    ensures says { Gives (λ x. x) result (at name.now (count greatest) (members_view object.now.entries)) }
+    ensures says { Gives (λ x. x) result
+        (at name.now (count greatest) (members_view object.now.entries)) }
     ensures within { IfOk result (λ x. x ≤ greatest) }
 {
     let Some(value) = member_of(object, name) else {
@@ -96,7 +97,8 @@ pub(crate) fn has_only_plants(p: &Typed, object: &Map<String, Value>) -> bool
 
 /// Whether each key is the name of a plant with disturbances.
 pub(crate) fn has_only_disturbed(p: &Typed, object: &Map<String, Value>) -> bool
-    ensures { result ≡ all_among (members_view object.now.entries) (plant_names (filter has_noise p.now.plants)) }
+    ensures { result ≡ all_among (members_view object.now.entries)
+        (plant_names (filter has_noise p.now.plants)) }
 {
     for (key, _value) in object.iter() {
         if !is_disturbed(&p.plants, key.as_str()) {
@@ -108,7 +110,8 @@ pub(crate) fn has_only_disturbed(p: &Typed, object: &Map<String, Value>) -> bool
 
 /// Whether each key is the name of an external node.
 pub(crate) fn has_only_external(p: &Typed, object: &Map<String, Value>) -> bool
-    ensures { result ≡ all_among (members_view object.now.entries) (node_names (filter is_external p.now.nodes)) }
+    ensures { result ≡ all_among (members_view object.now.entries)
+        (node_names (filter is_external p.now.nodes)) }
 {
     for (key, _value) in object.iter() {
         if !is_external_node(&p.nodes, key.as_str()) {

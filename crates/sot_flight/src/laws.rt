@@ -1,6 +1,7 @@
 //! The theorems on what a flight states.
 
-ghost use Rattle.sot_flight.specs.Laws.{StatedNoiseIsInBounds, StatedNoiseIsForPlants, StatedDraftsAreOfNodes};
+ghost use Rattle.sot_flight.specs.Laws.{StatedNoiseIsInBounds, StatedNoiseIsForPlants};
+ghost use Rattle.sot_flight.specs.Laws.{StatedDraftsAreOfNodes};
 
 /// The stated disturbances of each tick are in the bounds of their plants, and there are no others.
 pub fn stated_noise_is_in_bounds()

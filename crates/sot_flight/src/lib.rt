@@ -1,8 +1,10 @@
-//! Flights: how long one is, where its plants start, which inputs come and when, and what drives disturbances and drafts.
+//! Flights: how long one is, where its plants start, which inputs come and when, and what drives
+//! disturbances and drafts.
 //!
-//! [`read_flight`] answers with the flight of a program that the bytes say, or with their first fault in the order of the format.
-//! What a flight states for a tick, and for a firing by its number, is a function of the flight and the program's tables
-//! (`specs/Stated`): the readers here equal it, and take no memory.
+//! [`read_flight`] answers with the flight of a program that the bytes say, or with their first
+//! fault in the order of the format. What a flight states for a tick, and for a firing by its
+//! number, is a function of the flight and the program's tables (`specs/Stated`): the readers here
+//! equal it, and take no memory.
 #![tactic(auto)]
 
 mod counts;

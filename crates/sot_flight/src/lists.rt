@@ -5,7 +5,8 @@ ghost use Rattle.serde_json.specs.View.{view, items_view};
 ghost use Rattle.sot_json.specs.Json.{each, each_after};
 ghost use Rattle.sot_cert.specs.CertFormat.{number};
 ghost use Rattle.sot_json.specs.Answers.{Gives};
-ghost use Rattle.sot_flight.specs.ListForms.{number_in, numbers_in, numbers, rows_in, slot, draft, drafts, number_at};
+ghost use Rattle.sot_flight.specs.ListForms.{number_in, numbers_in, numbers, rows_in, slot, draft};
+ghost use Rattle.sot_flight.specs.ListForms.{drafts, number_at};
 
 use serde_json::Value;
 use sot_box::Interval;
@@ -37,7 +38,8 @@ fn number_in_of(alloc: Global, range: &Interval, value: &Value) -> Result<i64, J
 
 fn each_in(alloc: Global, ranges: &[Interval], list: &Vec<Value>) -> Result<Vec<i64>, JsonFail>
     requires { vec_len list.now ≡ length ranges.now }
-    ensures { Gives (λ x. x.items) result (each_after (number_at ranges.now) [] (items_view list.now.items)) }
+    ensures { Gives (λ x. x.items) result
+        (each_after (number_at ranges.now) [] (items_view list.now.items)) }
 {
     let mut found = Vec::new(alloc);
     for (i, item) in list.iter().enumerate() {
@@ -99,7 +101,8 @@ fn each_row(
     ranges: &[Interval],
     list: &Vec<Value>,
 ) -> Result<Vec<Vec<i64>>, JsonFail>
-    ensures { Gives (λ x. map (λ row. row.items) x.items) result (each (numbers_in ranges.now) (items_view list.now.items)) }
+    ensures { Gives (λ x. map (λ row. row.items) x.items) result
+        (each (numbers_in ranges.now) (items_view list.now.items)) }
 {
     let mut found = Vec::new(alloc);
     for item in list.iter() {
@@ -118,7 +121,8 @@ pub(crate) fn rows_in_of(
     ranges: &[Interval],
     value: &Value,
 ) -> Result<Vec<Vec<i64>>, JsonFail>
-    ensures { Gives (λ x. map (λ row. row.items) x.items) result (rows_in ranges.now (view value.now)) }
+    ensures { Gives (λ x. map (λ row. row.items) x.items) result
+        (rows_in ranges.now (view value.now)) }
 {
     let Some(list) = value.as_array() else {
         return Err(fault_at(alloc, JsonKind::WrongShape));
@@ -175,7 +179,8 @@ fn each_draft(
     size: usize,
     list: &Vec<Value>,
 ) -> Result<Vec<Vec<Option<i64>>>, JsonFail>
-    ensures { Gives (λ x. map (λ row. row.items) x.items) result (each (draft size) (items_view list.now.items)) }
+    ensures { Gives (λ x. map (λ row. row.items) x.items) result
+        (each (draft size) (items_view list.now.items)) }
 {
     let mut found = Vec::new(alloc);
     for item in list.iter() {

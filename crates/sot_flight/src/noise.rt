@@ -1,6 +1,7 @@
 //! The disturbances of a plant for a tick.
 
-ghost use Rattle.std.specs.Prelude.{◌≡◌, ℕ, ◌+◌, ◌*◌, ◌<◌, ◌≤◌, ◌≢◌, ◌^◌, ◌++◌, [], length, take, map};
+ghost use Rattle.std.specs.Prelude.{◌≡◌, ℕ, ◌+◌, ◌*◌, ◌<◌, ◌≤◌, ◌≢◌, ◌^◌, ◌++◌, [], length, take};
+ghost use Rattle.std.specs.Prelude.{map};
 ghost use Rattle.sot_lists.specs.Places.{At};
 ghost use Rattle.sot_box.specs.Boxes.{lows, highs};
 ghost use Rattle.sot_lang.specs.declared.tables.PlantInfo.{PlantInfo};
@@ -32,7 +33,8 @@ fn put_row(row: &[i64], first: usize, numbers: &mut [i64])
 fn put_lows(plant: &PlantInfo, first: usize, numbers: &mut [i64])
     requires { first + length plant.now.noise.items ≤ length numbers.old }
     ensures size { length numbers.new ≡ length numbers.old }
-    ensures front { take (first + length plant.now.noise.items) numbers.new ≡ take first numbers.old ++ lows (bounds plant.now) }
+    ensures front { take (first + length plant.now.noise.items) numbers.new
+        ≡ take first numbers.old ++ lows (bounds plant.now) }
 {
     for i in 0..plant.noise.len() {
         numbers[first + i] = plant.noise[i].lo;
@@ -43,15 +45,16 @@ fn put_lows(plant: &PlantInfo, first: usize, numbers: &mut [i64])
 fn put_highs(plant: &PlantInfo, first: usize, numbers: &mut [i64])
     requires { first + length plant.now.noise.items ≤ length numbers.old }
     ensures size { length numbers.new ≡ length numbers.old }
-    ensures front { take (first + length plant.now.noise.items) numbers.new ≡ take first numbers.old ++ highs (bounds plant.now) }
+    ensures front { take (first + length plant.now.noise.items) numbers.new
+        ≡ take first numbers.old ++ highs (bounds plant.now) }
 {
     for i in 0..plant.noise.len() {
         numbers[first + i] = plant.noise[i].hi;
     }
 }
 
-// A number in the bounds of each disturbance, from that word on, behind the first `first` numbers. Plants with as many
-// disturbances share a jump.
+// A number in the bounds of each disturbance, from that word on, behind the first `first` numbers.
+// Plants with as many disturbances share a jump.
 fn put_drawn(
     plant: &PlantInfo,
     seed: u64,
@@ -64,7 +67,8 @@ fn put_drawn(
     requires narrow { HasNarrowNoise plant.now }
     requires room { first + length plant.now.noise.items ≤ length numbers.old }
     ensures size { length numbers.new ≡ length numbers.old }
-    ensures front { take (first + length plant.now.noise.items) numbers.new ≡ take first numbers.old ++ drawn_from seed stream given (bounds plant.now) }
+    ensures front { take (first + length plant.now.noise.items) numbers.new
+        ≡ take first numbers.old ++ drawn_from seed stream given (bounds plant.now) }
 {
     jump.turn_to(given);
     let mut words = jump.words_from(seed, stream);
@@ -87,7 +91,8 @@ pub(crate) fn put_noise(
     requires fits { FitsSway plant.now (sway_of sway.now) }
     requires room { first + length plant.now.noise.items ≤ length numbers.old }
     ensures size { length numbers.new ≡ length numbers.old }
-    ensures front { take (first + length plant.now.noise.items) numbers.new ≡ take first numbers.old ++ noise_of plant.now (sway_of sway.now) tick }
+    ensures front { take (first + length plant.now.noise.items) numbers.new
+        ≡ take first numbers.old ++ noise_of plant.now (sway_of sway.now) tick }
 {
     match sway {
         Sway::Still => {}
@@ -124,8 +129,10 @@ pub(crate) fn noise_at(plant: &PlantInfo, sway: &Sway, tick: u32, i: usize) -> i
 /// The stated disturbances of all plants for a tick, one plant after another.
 pub(crate) fn put_all(p: &Typed, sways: &[Sway], tick: u32, numbers: &mut [i64])
     requires each { length sways.now ≡ length p.now.plants }
-    requires fits { (k : ℕ) (plant : PlantInfo) (sway : _) → At p.now.plants k plant → At sways.now k sway → FitsSway plant (sway_of sway) }
-    requires size { length numbers.old ≡ length (joined (noises p.now.plants (map sway_of sways.now) tick)) }
+    requires fits { (k : ℕ) (plant : PlantInfo) (sway : _) → At p.now.plants k plant
+        → At sways.now k sway → FitsSway plant (sway_of sway) }
+    requires size { length numbers.old
+        ≡ length (joined (noises p.now.plants (map sway_of sways.now) tick)) }
     ensures { numbers.new ≡ joined (noises p.now.plants (map sway_of sways.now) tick) }
 {
     let mut jump = Jump::by(0);

@@ -36,7 +36,8 @@ const NUMBER_LIMIT: u128 = 1_000_000;
 
 #[tactic(auto, unfolding(sot_json::specs::Json::at), using(sot_json::proofs::Parts::found_there, sot_json::proofs::Parts::lacking))]
 fn format_at(alloc: Global, object: &Map<String, Value>) -> Result<i64, JsonFail>
-    ensures { Gives (λ x. x) result (at (codes "format") (whole (pos 1) (pos 1)) (members_view object.now.entries)) }
+    ensures { Gives (λ x. x) result (at (codes "format") (whole (pos 1) (pos 1))
+        (members_view object.now.entries)) }
 {
     let value = needed(alloc, object, "format")?;
     part_of(alloc, "format", whole_of(alloc, 1, 1, value))
@@ -54,7 +55,9 @@ fn counted_flight(
     crews: Vec<Crew>,
 ) -> Result<Flight, JsonFail>
     requires { horizon ≤ 100000 }
-    ensures says { Gives (λ f. f) result (counted p.now horizon start.items (map input_of inputs.items) (map sway_of sways.items) (map crew_of crews.items)) }
+    ensures says { Gives (λ f. f) result
+        (counted p.now horizon start.items (map input_of inputs.items) (map sway_of sways.items)
+        (map crew_of crews.items)) }
     ensures rules { MeetsTableRules p.now }
 {
     let events = events_in(p, horizon, &inputs);
@@ -97,7 +100,8 @@ fn flight_in(alloc: Global, p: &Typed, guests: u32, value: &Value) -> Result<Fli
     counted_flight(alloc, p, horizon, start, inputs, sways, crews)
 }
 
-/// The flight of the program that the bytes say, where so many guests may draft, or its first fault in the order of the format.
+/// The flight of the program that the bytes say, where so many guests may draft, or its first fault
+/// in the order of the format.
 pub fn read_flight(
     alloc: Global,
     p: &Typed,

@@ -22,7 +22,8 @@ fn numbers_at(
     width: usize,
     object: &Map<String, Value>,
 ) -> Result<Vec<i64>, JsonFail>
-    ensures { Gives (λ v. v.items) result (at name.now (numbers width) (members_view object.now.entries)) }
+    ensures { Gives (λ v. v.items) result
+        (at name.now (numbers width) (members_view object.now.entries)) }
 {
     let value = needed(alloc, object, name)?;
     part_of(alloc, name, numbers_of(alloc, width, value))
@@ -45,7 +46,8 @@ fn point_of(
 }
 
 fn points_of(alloc: Global, p: &Typed, object: &Map<String, Value>) -> Result<Vec<Point>, JsonFail>
-    ensures { Gives (λ v. v.items) result (for_each_after (λ done. point_at (members_view object.now.entries)) [] p.now.plants) }
+    ensures { Gives (λ v. v.items) result
+        (for_each_after (λ done. point_at (members_view object.now.entries)) [] p.now.plants) }
 {
     let mut found = Vec::new(alloc);
     for plant in p.plants.iter() {
@@ -78,7 +80,8 @@ pub(crate) fn start_at(
     p: &Typed,
     object: &Map<String, Value>,
 ) -> Result<Vec<Point>, JsonFail>
-    ensures { Gives (λ v. v.items) result (at (codes "start") (start p.now) (members_view object.now.entries)) }
+    ensures { Gives (λ v. v.items) result
+        (at (codes "start") (start p.now) (members_view object.now.entries)) }
 {
     let value = needed(alloc, object, "start")?;
     part_of(alloc, "start", start_of(alloc, p, value))

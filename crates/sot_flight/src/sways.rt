@@ -8,7 +8,8 @@ ghost use Rattle.sot_json.specs.Answers.{Gives};
 ghost use Rattle.sot_flight.specs.ListForms.{rows_in, for_each_after};
 ghost use Rattle.sot_flight.specs.NoiseRules.{HasNarrowNoise};
 ghost use Rattle.sot_flight.specs.FlightView.{sway_of};
-ghost use Rattle.sot_flight.specs.FlightFormat.{sway_kind, sway_as, sway as sway_says, sway_at as sway_at_says, sways as sways_say};
+ghost use Rattle.sot_flight.specs.FlightFormat.{sway_kind, sway_as, sway as sway_says};
+ghost use Rattle.sot_flight.specs.FlightFormat.{sway_at as sway_at_says, sways as sways_say};
 
 use crate::keys::{GREATEST, count_at, has_only_disturbed};
 use crate::lists::rows_in_of;
@@ -54,7 +55,8 @@ fn rows_at(
     object: &Map<String, Value>,
 ) -> Result<Vec<Vec<i64>>, JsonFail>
     requires { HasNarrowNoise plant.now }
-    ensures { Gives (λ v. map (λ row. row.items) v.items) result (at (codes "values") (rows_in (bounds plant.now)) (members_view object.now.entries)) }
+    ensures { Gives (λ v. map (λ row. row.items) v.items) result
+        (at (codes "values") (rows_in (bounds plant.now)) (members_view object.now.entries)) }
 {
     let value = needed(alloc, object, "values")?;
     let ranges = bounds_of(alloc, plant)?;
@@ -121,7 +123,8 @@ fn sway_under(
     object: &Map<String, Value>,
 ) -> Result<Sway, JsonFail>
     requires { HasNarrowNoise plant.now }
-    ensures { Gives sway_of result (at plant.now.name (sway_says plant.now) (members_view object.now.entries)) }
+    ensures { Gives sway_of result (at plant.now.name (sway_says plant.now)
+        (members_view object.now.entries)) }
 {
     let name = plant.name.as_str();
     let value = needed(alloc, object, name)?;
@@ -145,7 +148,8 @@ fn sway_where(
 }
 
 fn each_sway(alloc: Global, p: &Typed, object: &Map<String, Value>) -> Result<Vec<Sway>, JsonFail>
-    ensures { Gives (λ v. map sway_of v.items) result (for_each_after (λ done. sway_at_says (members_view object.now.entries)) [] p.now.plants) }
+    ensures { Gives (λ v. map sway_of v.items) result
+        (for_each_after (λ done. sway_at_says (members_view object.now.entries)) [] p.now.plants) }
 {
     let mut found = Vec::new(alloc);
     for plant in p.plants.iter() {
@@ -178,7 +182,8 @@ pub(crate) fn sways_at(
     p: &Typed,
     object: &Map<String, Value>,
 ) -> Result<Vec<Sway>, JsonFail>
-    ensures { Gives (λ v. map sway_of v.items) result (at (codes "sway") (sways_say p.now) (members_view object.now.entries)) }
+    ensures { Gives (λ v. map sway_of v.items) result
+        (at (codes "sway") (sways_say p.now) (members_view object.now.entries)) }
 {
     let value = needed(alloc, object, "sway")?;
     part_of(alloc, "sway", sways_of(alloc, p, value))

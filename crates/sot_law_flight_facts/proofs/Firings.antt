@@ -25,7 +25,8 @@ drafts_more n (DecideAt time m mode) xs = omega arith
 drafts_more n (TickAt time noise states) xs = omega arith
 drafts_more n (FireAt time k draft enabled) xs = by_flag (n == k) refl
   where
-    by_flag : (b : Bool) → (n == k) ≡ b → length (drafts_of n (FireAt time k draft enabled ∷ xs)) ≡ length (drafts_of n (FireAt time k draft enabled ∷ [])) + length (drafts_of n xs)
+    by_flag : (b : Bool) → (n == k) ≡ b → length (drafts_of n (FireAt time k draft enabled ∷ xs))
+        ≡ length (drafts_of n (FireAt time k draft enabled ∷ [])) + length (drafts_of n xs)
     by_flag true e = rw e (omega arith)
     by_flag false e = rw e (omega arith)
 
@@ -89,20 +90,37 @@ module _ (p : Tables) (j : ℕ) (f : Plan) where
         Ds = R.at ∷ rest.Ds;
         run = (flies.step, rest.run);
         last = rest.last;
-        firings = λ n. omega (arith, drafts_more n x xs, told_firing n P.at R.at flies.event flies.recorded x flies.tells, rest.firings n, one_more (is_firing n) flies.event (take (length xs) rest.events));
-        decisions = λ m. omega (arith, decisions_more m x xs, told_decision m P.at R.at flies.event flies.recorded x flies.tells, rest.decisions m, one_more (is_decision m) flies.event (take (length xs) rest.events));
+        firings =
+            λ n. omega (
+              arith,
+              drafts_more n x xs,
+              told_firing n P.at R.at flies.event flies.recorded x flies.tells,
+              rest.firings n,
+              one_more (is_firing n) flies.event (take (length xs) rest.events),
+            );
+        decisions =
+            λ m. omega (
+              arith,
+              decisions_more m x xs,
+              told_decision m P.at R.at flies.event flies.recorded x flies.tells,
+              rest.decisions m,
+              one_more (is_decision m) flies.event (take (length xs) rest.events),
+            );
       }
 
 pub so_far : FlightsFireWhatIsDue
 so_far p j f xs Q (P, start, led) =
     let e = events_of p j f P xs Q led in
     let counted = firings_are_due_times p j f.start P.at e.events e.Ds (length xs) Q.at start.opening e.run e.last in (
-      (λ n node at begins short. subst (λ c. IsDueCount node.period node.offset Q.at.time (c + one_if (is_left Q.at n))) (sym (e.firings n)) (counted.0 n node at begins short)),
-      (λ m a at begins short. subst (λ c. IsDueCount a.period a.offset Q.at.time (c + one_if (is_left_dm Q.at m))) (sym (e.decisions m)) (counted.1 m a at begins short)),
+      (λ n node at begins short. subst (λ c. IsDueCount node.period node.offset Q.at.time (c + one_if (is_left Q.at n))) (sym (e.firings n))
+          (counted.0 n node at begins short)),
+      (λ m a at begins short. subst (λ c. IsDueCount a.period a.offset Q.at.time (c + one_if (is_left_dm Q.at m))) (sym (e.decisions m))
+          (counted.1 m a at begins short)),
     )
 
 -- with nothing left at the horizon
-at_horizon : (period offset t horizon count : ℕ) (left : Bool) → t ≡ horizon → left ≡ false → IsDueCount period offset t (count + one_if left) → IsDueCount period offset horizon count
+at_horizon : (period offset t horizon count : ℕ) (left : Bool) → t ≡ horizon → left ≡ false → IsDueCount period offset t (count + one_if left)
+    → IsDueCount period offset horizon count
 at_horizon period offset t horizon count left time none h =
     let rest : count + one_if left ≡ count = (let e : count + 0 ≡ count = omega arith in ap (λ b. count + one_if b) none ∙ e) in
     subst (λ x. IsDueCount period offset x count) time (subst (IsDueCount period offset t) rest h)
@@ -110,6 +128,8 @@ at_horizon period offset t horizon count left time none h =
 pub whole : WholeFlightsFireAllDue
 whole p j f xs (Q, flown, ended) =
     let counted = so_far p j f xs Q flown in (
-      (λ n node at begins short. at_horizon node.period node.offset Q.at.time f.horizon _ (is_left Q.at n) ended.time (ended.nothing.nodes n node at) (counted.0 n node at begins short)),
-      (λ m a at begins short. at_horizon a.period a.offset Q.at.time f.horizon _ (is_left_dm Q.at m) ended.time (ended.nothing.modules m a at) (counted.1 m a at begins short)),
+      (λ n node at begins short. at_horizon node.period node.offset Q.at.time f.horizon _ (is_left Q.at n) ended.time (ended.nothing.nodes n node at)
+          (counted.0 n node at begins short)),
+      (λ m a at begins short. at_horizon a.period a.offset Q.at.time f.horizon _ (is_left_dm Q.at m) ended.time (ended.nothing.modules m a at)
+          (counted.1 m a at begins short)),
     )

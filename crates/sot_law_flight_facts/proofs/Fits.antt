@@ -58,14 +58,19 @@ module _ (g : Global) where
   )
     where
       outside_range : (z : ℤ) → (IsIn (range_of (relay g).scalars 0) z → ⊥) → FitsInput (relay g) 4 (given 4 0 (z ∷ [])) → ⊥
-      outside_range z out fits = out (subst (λ x. IsIn (range_of (relay g).scalars (x.first + 0)) z) (sym (same_Some (e_topic g) fits.topic fits.is)) (fits.typed 0 z refl))
+      outside_range z out fits =
+          out (subst (λ x. IsIn (range_of (relay g).scalars (x.first + 0)) z) (sym (same_Some (e_topic g) fits.topic fits.is)) (fits.typed 0 z refl))
 
       size : (zs : List ℤ) → FitsInput (relay g) 4 (given 4 0 zs) → length zs ≡ 1
       size zs fits = fits.size ∙ ap (λ x. x.count) (sym (same_Some (e_topic g) fits.topic fits.is))
 
   pub sways : SwaysFit g
   sways = (
-    ((λ e. cc), at_two (λ i row. IsWithin (bounds (pos_plant g)) row) (pos 1 ∷ []) (negsuc 0 ∷ []) (omega (arith, ints), omega (arith, ints), tt) (omega (arith, ints), omega (arith, ints), tt)),
+    (
+      (λ e. cc),
+      at_two (λ i row. IsWithin (bounds (pos_plant g)) row) (pos 1 ∷ []) (negsuc 0 ∷ []) (omega (arith, ints), omega (arith, ints), tt)
+          (omega (arith, ints), omega (arith, ints), tt),
+    ),
     (λ fits. fits.0 refl),
     (λ fits. (let is = fits.1 1 (pos 2 ∷ []) refl in omega (arith, ints, is.1))),
     (λ fits. (let is = fits.1 0 (negsuc 1 ∷ []) refl in omega (arith, ints, is.0))),
@@ -104,7 +109,8 @@ module _ (g : Global) where
       swayed = λ k plant sway at is. absurd (none-some plant at);
       crews = refl;
       crewed = λ n node crew at is. at_two (λ k x. At (hosting (Guest 1) (Guest 0)).crews k crew → FitsCrew x crew) (fast g) (fast g)
-          (λ is. subst (FitsCrew (fast g)) (same_Some (Guest 1) crew is) refl) (λ is. subst (FitsCrew (fast g)) (same_Some (Guest 0) crew is) refl) n node at is;
+          (λ is. subst (FitsCrew (fast g)) (same_Some (Guest 1) crew is) refl) (λ is. subst (FitsCrew (fast g)) (same_Some (Guest 0) crew is) refl) n node at
+          is;
       guests_there = λ n i at. at_two (λ k x. x ≡ Guest i → i < 2) (Guest 1) (Guest 0)
           (λ e. (let one = same_guest 1 i e in omega (arith, one))) (λ e. (let none = same_guest 0 i e in omega (arith, none))) n (Guest i) at refl;
       guests_once = λ m n i at is. (let first = place m i at in let second = place n i is in omega (arith, first, second));

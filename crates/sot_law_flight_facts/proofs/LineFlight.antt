@@ -43,13 +43,18 @@ module _ (g : Global) where
   ticks_low = record {
     may = line_step.none_left g settled refl refl;
     each = refl;
-    bounded = at_one (λ k plant. IsWithin (bounds plant) (slice_index_or ((negsuc 0 ∷ []) ∷ []) k [])) (pos_plant g) (omega (arith, ints), omega (arith, ints), tt);
-    moves = at_one (λ k plant. next_state plant (point_of settled k) (commands plant settled) (joined (seen_points plant settled)) (slice_index_or ((negsuc 0 ∷ []) ∷ []) k []) ≡ Ok (point_of low_tick k)) (pos_plant g) refl;
+    bounded =
+        at_one (λ k plant. IsWithin (bounds plant) (slice_index_or ((negsuc 0 ∷ []) ∷ []) k [])) (pos_plant g) (omega (arith, ints), omega (arith, ints), tt);
+    moves =
+        at_one (λ k plant. next_state plant (point_of settled k) (commands plant settled) (joined (seen_points plant settled))
+        (slice_index_or ((negsuc 0 ∷ []) ∷ []) k []) ≡ Ok (point_of low_tick k)) (pos_plant g) refl;
     time = refl;
     left = at_two (λ n node. (is_left low_tick n ≡ true) ↔ ((is_left settled n ≡ true) ⊎ IsDue node.period node.offset 1)) (fast g) (slow g)
         ((λ e. absurd (false≢true e)), (λ o. ⊎_elim (λ e. e) (λ d. absurd (no_one d.1)) o))
         ((λ e. absurd (false≢true e)), (λ o. ⊎_elim (λ e. e) (λ d. absurd (no_one d.1)) o));
-    left_dm = at_one (λ m a. (is_left_dm low_tick m ≡ true) ↔ ((is_left_dm settled m ≡ true) ⊎ IsDue a.period a.offset 1)) (nav g) ((λ e. absurd (false≢true e)), (λ o. ⊎_elim (λ e. e) (λ d. absurd (no_one d.1)) o));
+    left_dm =
+        at_one (λ m a. (is_left_dm low_tick m ≡ true) ↔ ((is_left_dm settled m ≡ true) ⊎ IsDue a.period a.offset 1)) (nav g)
+        ((λ e. absurd (false≢true e)), (λ o. ⊎_elim (λ e. e) (λ d. absurd (no_one d.1)) o));
     sizes = record { left = refl; left_dm = refl; modes = refl; scalars = refl; locals = refl; points = refl };
     rest = refl;
   }
@@ -61,15 +66,45 @@ module _ (g : Global) where
 
     flies_decision : Flies (line g) 0 flight (standing at_opening (0 ∷ 0 ∷ [])) decides (standing decided (0 ∷ 0 ∷ []))
     unfolding standing flight
-    flies_decision = record { event = Decide 0; stated = tt; step = line_step.decides g; recorded = ModuleDecided Ac; records = refl; tells = (Ac, refl, refl); inputs = refl; fired = refl }
+    flies_decision =
+        record {
+          event = Decide 0;
+          stated = tt;
+          step = line_step.decides g;
+          recorded = ModuleDecided Ac;
+          records = refl;
+          tells = (Ac, refl, refl);
+          inputs = refl;
+          fired = refl;
+        }
 
     flies_draft : Flies (line g) 0 flight (standing decided (0 ∷ 0 ∷ [])) (drafts (pos 2) true) (standing drafted (1 ∷ 0 ∷ []))
     unfolding standing flight
-    flies_draft = record { event = Guest 0 (Some (pos 2) ∷ []); stated = (fast g, _, refl, refl, refl); step = line_step.takes_2 g; recorded = NodeFired (Some (pos 2) ∷ []) true; records = refl; tells = (Some (pos 2) ∷ [], true, refl, refl); inputs = refl; fired = refl }
+    flies_draft =
+        record {
+          event = Guest 0 (Some (pos 2) ∷ []);
+          stated = (fast g, _, refl, refl, refl);
+          step = line_step.takes_2 g;
+          recorded = NodeFired (Some (pos 2) ∷ []) true;
+          records = refl;
+          tells = (Some (pos 2) ∷ [], true, refl, refl);
+          inputs = refl;
+          fired = refl;
+        }
 
     flies_idle : Flies (line g) 0 flight (standing drafted (1 ∷ 0 ∷ [])) (steers false) (standing settled (1 ∷ 1 ∷ []))
     unfolding standing flight
-    flies_idle = record { event = Code 1; stated = tt; step = line_step.idle g; recorded = NodeFired (Some (pos 0) ∷ []) false; records = line_step.idle_recorded g; tells = (Some (pos 0) ∷ [], false, refl, refl); inputs = refl; fired = refl }
+    flies_idle =
+        record {
+          event = Code 1;
+          stated = tt;
+          step = line_step.idle g;
+          recorded = NodeFired (Some (pos 0) ∷ []) false;
+          records = line_step.idle_recorded g;
+          tells = (Some (pos 0) ∷ [], false, refl, refl);
+          inputs = refl;
+          fired = refl;
+        }
 
     starts : IsStart (line g) flight (standing at_opening (0 ∷ 0 ∷ []))
     unfolding standing flight
@@ -77,7 +112,17 @@ module _ (g : Global) where
 
   flies_tick : Flies (line g) 0 line_flight (standing settled (1 ∷ 1 ∷ [])) (ticks (negsuc 0) (pos 1)) (standing low_tick (1 ∷ 1 ∷ []))
   unfolding standing low_tick
-  flies_tick = record { event = Tick ((negsuc 0 ∷ []) ∷ []); stated = (omega arith, (λ i x at. absurd (none-some x at)), refl); step = ticks_low; recorded = PlantsTicked; records = refl; tells = refl; inputs = refl; fired = refl }
+  flies_tick =
+      record {
+        event = Tick ((negsuc 0 ∷ []) ∷ []);
+        stated = (omega arith, (λ i x at. absurd (none-some x at)), refl);
+        step = ticks_low;
+        recorded = PlantsTicked;
+        records = refl;
+        tells = refl;
+        inputs = refl;
+        fired = refl;
+      }
 
   pub flown : FlownBy (line g) 0 line_flight (decides ∷ drafts (pos 2) true ∷ steers false ∷ ticks (negsuc 0) (pos 1) ∷ [])
   unfolding standing flight low_tick
@@ -114,16 +159,20 @@ module _ (g : Global) where
   none_due period rest counts = ⊎_elim (λ due. (let e : ◌≡◌ {A = ℕ} 0 1 = due.1 in omega (arith, e))) (λ no'. no'.0 (omega arith, rest)) counts
 
   pub safe_node_left : FlownBy (line g) 0 instant_flight (decides ∷ drafts (pos 2) true ∷ []) → ⊥
-  safe_node_left flown = none_due 2 refl ((whole (line g) 0 instant_flight (decides ∷ drafts (pos 2) true ∷ []) flown).0 1 (slow g) refl (omega arith) (omega arith))
+  safe_node_left flown =
+      none_due 2 refl ((whole (line g) 0 instant_flight (decides ∷ drafts (pos 2) true ∷ []) flown).0 1 (slow g) refl (omega arith) (omega arith))
 
   pub advanced_node_left : FlownBy (line g) 0 instant_flight (decides ∷ steers false ∷ []) → ⊥
-  advanced_node_left flown = none_due 4 refl ((whole (line g) 0 instant_flight (decides ∷ steers false ∷ []) flown).0 0 (fast g) refl (omega arith) (omega arith))
+  advanced_node_left flown =
+      none_due 4 refl ((whole (line g) 0 instant_flight (decides ∷ steers false ∷ []) flown).0 0 (fast g) refl (omega arith) (omega arith))
 
   pub decision_left : FlownBy (line g) 0 instant_flight (drafts (pos 2) false ∷ steers true ∷ []) → ⊥
-  decision_left flown = none_due 4 refl ((whole (line g) 0 instant_flight (drafts (pos 2) false ∷ steers true ∷ []) flown).1 0 (nav g) refl (omega arith) (omega arith))
+  decision_left flown =
+      none_due 4 refl ((whole (line g) 0 instant_flight (drafts (pos 2) false ∷ steers true ∷ []) flown).1 0 (nav g) refl (omega arith) (omega arith))
 
   -- an entry of a tick tells the stated disturbances, before the horizon
-  tick_told : (f : Plan) (P R : Position) (e : Event) (r : Recorded) (t : ℕ) (w s : List ℤ) → IsStated (line g) f P e → Tells P.at e r R.at (TickAt t w s) → (P.at.time < f.horizon) × (w ≡ joined (stated_noise (line g) f P.at.time))
+  tick_told : (f : Plan) (P R : Position) (e : Event) (r : Recorded) (t : ℕ) (w s : List ℤ) → IsStated (line g) f P e → Tells P.at e r R.at (TickAt t w s)
+      → (P.at.time < f.horizon) × (w ≡ joined (stated_noise (line g) f P.at.time))
   tick_told f P R (Input topic value) r t w s stated is = absurd cc
   tick_told f P R (Code k) r t w s stated (draft, enabled, was, is) = absurd cc
   tick_told f P R (Guest k d) r t w s stated (draft, enabled, was, is) = absurd cc
@@ -132,17 +181,21 @@ module _ (g : Global) where
 
   pub other_disturbance : FlownBy (line g) 0 line_flight (decides ∷ drafts (pos 2) true ∷ steers false ∷ ticks (pos 1) (pos 3) ∷ []) → ⊥
   other_disturbance (Q, (P, start, (after_decision, decision, (after_draft, draft_flown, (after_steering, steering, (after_tick, tick_flown, same))))), ended) =
-      let told = tick_told line_flight after_steering after_tick tick_flown.event tick_flown.recorded 0 (pos 1 ∷ []) (pos 3 ∷ []) tick_flown.stated tick_flown.tells in
+      let told = tick_told line_flight after_steering after_tick tick_flown.event tick_flown.recorded 0 (pos 1 ∷ []) (pos 3 ∷ []) tick_flown.stated
+      tick_flown.tells in
       let e : pos 1 ∷ [] ≡ negsuc 0 ∷ [] = told.1 in
       cc
 
   pub tick_after_the_end : FlownBy (line g) 0 instant_flight (decides ∷ drafts (pos 2) true ∷ steers false ∷ ticks (negsuc 0) (pos 1) ∷ []) → ⊥
-  tick_after_the_end (Q, (P, start, (after_decision, decision, (after_draft, draft_flown, (after_steering, steering, (after_tick, tick_flown, same))))), ended) =
-      let told = tick_told instant_flight after_steering after_tick tick_flown.event tick_flown.recorded 0 (negsuc 0 ∷ []) (pos 1 ∷ []) tick_flown.stated tick_flown.tells in
+  tick_after_the_end (Q, (P, start, (after_decision, decision, (after_draft, draft_flown, (after_steering, steering, (after_tick, tick_flown, same))))), ended)
+      =
+      let told = tick_told instant_flight after_steering after_tick tick_flown.event tick_flown.recorded 0 (negsuc 0 ∷ []) (pos 1 ∷ []) tick_flown.stated
+      tick_flown.tells in
       omega (arith, told.0)
 
   -- an entry of a firing of `fast` tells the stated draft
-  draft_told : (P R : Position) (e : Event) (r : Recorded) (slots : List (Option ℤ)) → IsStated (line g) line_flight P e → Step (line g) 0 P.at e R.at → Records (line g) P.at e R.at r → Tells P.at e r R.at (FireAt 0 0 slots true) → slots ≡ in_slots (Some (pos 2) ∷ [])
+  draft_told : (P R : Position) (e : Event) (r : Recorded) (slots : List (Option ℤ)) → IsStated (line g) line_flight P e → Step (line g) 0 P.at e R.at
+      → Records (line g) P.at e R.at r → Tells P.at e r R.at (FireAt 0 0 slots true) → slots ≡ in_slots (Some (pos 2) ∷ [])
   draft_told P R (Input topic value) r slots stated step records is = absurd cc
   draft_told P R (Code k) r slots stated step records (draft, enabled, was, is) =
       let first : k ≡ 0 = cc in
@@ -160,7 +213,8 @@ module _ (g : Global) where
 
   pub other_draft : FlownBy (line g) 0 line_flight (decides ∷ drafts (pos 1) true ∷ steers false ∷ ticks (negsuc 0) (pos 0) ∷ []) → ⊥
   other_draft (Q, (P, start, (after_decision, decision, (after_draft, draft_flown, rest))), ended) =
-      let told = draft_told after_decision after_draft draft_flown.event draft_flown.recorded (in_slots (Some (pos 1) ∷ [])) draft_flown.stated draft_flown.step draft_flown.records draft_flown.tells in
+      let told = draft_told after_decision after_draft draft_flown.event draft_flown.recorded (in_slots (Some (pos 1) ∷ [])) draft_flown.stated draft_flown.step
+      draft_flown.records draft_flown.tells in
       let e : pos 1 ≡ pos 2 = one_number (ap (λ xs. slice_index_or xs 0 None) told) in
       cc
     where
@@ -168,7 +222,8 @@ module _ (g : Global) where
       one_number e = cc
 
   -- an entry of no tick takes no time
-  time_stays : (P R : Position) (e : Event) (r : Recorded) (x : Logged) → ((t : ℕ) (w s : List ℤ) → x ≡ TickAt t w s → ⊥) → Step (line g) 0 P.at e R.at → Tells P.at e r R.at x → R.at.time ≡ P.at.time
+  time_stays : (P R : Position) (e : Event) (r : Recorded) (x : Logged) → ((t : ℕ) (w s : List ℤ) → x ≡ TickAt t w s → ⊥) → Step (line g) 0 P.at e R.at
+      → Tells P.at e r R.at x → R.at.time ≡ P.at.time
   time_stays P R (Input topic value) r x no_tick step is = ap (λ (C : Configuration). C.time) step.rest
   time_stays P R (Code k) r x no_tick step is = step.fires.time
   time_stays P R (Guest k d) r x no_tick step is = step.fires.time
@@ -178,7 +233,8 @@ module _ (g : Global) where
   pub no_tick : FlownBy (line g) 0 line_flight (decides ∷ drafts (pos 2) true ∷ steers false ∷ []) → ⊥
   no_tick (Q, (P, start, (after_decision, decision, (after_draft, draft_flown, (after_steering, steering, same)))), ended) =
       let first = time_stays P after_decision decision.event decision.recorded decides (λ t w s e. cc) decision.step decision.tells in
-      let second = time_stays after_decision after_draft draft_flown.event draft_flown.recorded (drafts (pos 2) true) (λ t w s e. cc) draft_flown.step draft_flown.tells in
+      let second = time_stays after_decision after_draft draft_flown.event draft_flown.recorded (drafts (pos 2) true) (λ t w s e. cc) draft_flown.step
+      draft_flown.tells in
       let third = time_stays after_draft after_steering steering.event steering.recorded (steers false) (λ t w s e. cc) steering.step steering.tells in
       let last : after_steering.at.time ≡ Q.at.time = ap (λ (x : Position). x.at.time) same in
       let end : ◌≡◌ {A = ℕ} Q.at.time 1 = ended.time in

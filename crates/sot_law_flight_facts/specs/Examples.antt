@@ -5,7 +5,8 @@ use Rattle.sot_world.specs.declared.mode.Mode.TheVariants.{Ac}
 use Rattle.sot_world.specs.HistoryEntry.{Logged, FireAt, DecideAt, TickAt}
 use Rattle.sot_flight.specs.Plans.{Plan, Low, Script, Coded}
 
--- one tick from the point 0 with the disturbance at its low end; `fast` drafts 2, and `slow` has its own code
+-- one tick from the point 0 with the disturbance at its low end; `fast` drafts 2, and `slow` has
+-- its own code
 abbrev pub line_flight : Plan
 line_flight = record {
   horizon = 1;

@@ -4,6 +4,7 @@ pub mod Firings
 pub mod Views
 pub mod Stated
 pub mod Fits
+pub mod Limits
 pub mod Versions
 pub mod Marks
 -- a worked flight

@@ -1,4 +1,5 @@
--- What flights of the running example state, whose disturbance is within -1..1, and whose node `fast` writes one number within -2..2.
+-- What flights of the running example state, whose disturbance is within -1..1, and whose node
+-- `fast` writes one number within -2..2.
 use Rattle.std.specs.Prelude.{◌≡◌, ℤ, pos, negsuc, Option, Some, None, List, [], ◌∷◌}
 use Rattle.std.proofs.Common.{refl}
 use Rattle.std.specs.Global.{Global}
@@ -12,7 +13,12 @@ use Rattle.sot_board.specs.Examples.{relay_flight}
 module _ (g : Global) where
   -- two disturbances, within -1..1 and 0..2
   abbrev pub windy : PlantInfo
-  windy = record (pos_plant g) { noise = vec g (record { name = 119 ∷ []; scale = 0; lo = negsuc 0; hi = pos 1 } ∷ record { name = 118 ∷ []; scale = 0; lo = pos 0; hi = pos 2 } ∷ []) refl }
+  windy =
+      record (pos_plant g) {
+        noise = vec g
+            (record { name = 119 ∷ []; scale = 0; lo = negsuc 0; hi = pos 1 } ∷ record
+            { name = 118 ∷ []; scale = 0; lo = pos 0; hi = pos 2 } ∷ []) refl;
+      }
 
   -- a node that writes twice
   abbrev pub twice : NodeInfo
@@ -37,9 +43,12 @@ RowsStay g =
     × (noise_of (pos_plant g) (Listed two_rows) 2 ≡ negsuc 0 ∷ [])
     × (noise_of (pos_plant g) (Listed two_rows) 7 ≡ negsuc 0 ∷ [])
 
--- one word a disturbance: tick 0 takes the words a15c02b7 and 7b47f409, tick 1 the words ba1d3330 and 83d2f293, each modulo 3
+-- one word a disturbance: tick 0 takes the words a15c02b7 and 7b47f409, tick 1 the words ba1d3330
+-- and 83d2f293, each modulo 3
 abbrev pub WordsOfSways : Global → Type 0
-WordsOfSways g = (noise_of (windy g) (Drawn 42 54) 0 ≡ negsuc 0 ∷ pos 0 ∷ []) × (noise_of (windy g) (Drawn 42 54) 1 ≡ pos 1 ∷ pos 1 ∷ [])
+WordsOfSways g =
+    (noise_of (windy g) (Drawn 42 54) 0 ≡ negsuc 0 ∷ pos 0 ∷ [])
+    × (noise_of (windy g) (Drawn 42 54) 1 ≡ pos 1 ∷ pos 1 ∷ [])
 
 -- drafts come one a firing, and the last one stays; nothing is stated for code and guests
 abbrev pub two_drafts : List (List (Option ℤ))

@@ -1,4 +1,5 @@
--- Views of the relay's node, which reads topic 0 and writes topic 1, and the boards that they are asked of.
+-- Views of the relay's node, which reads topic 0 and writes topic 1, and the boards that they are
+-- asked of.
 use Rattle.std.specs.Prelude.{ℕ, ℤ, pos, List, [], ◌∷◌, replicate}
 use Rattle.std.proofs.Common.{refl, lit≤}
 use Rattle.std.specs.Global.{Global}
@@ -18,14 +19,37 @@ standing t e m = record { at = record (relaying e m) { time = t }; inputs = []; 
 
 -- the board there, with these entries behind it
 abbrev pub board : Global → List Logged → Position → Standing
-board g entries P = record { accepted = record { program = relay g; cert = record { jitter = 0; modules = vec g [] refl } }; plan = relay_flight; entries = entries; position = P }
+board g entries P =
+    record {
+      accepted = record {
+        program = relay g;
+        cert =
+            record { jitter = 0; modules = vec g [] refl };
+      };
+      plan = relay_flight;
+      entries = entries;
+      position = P;
+    }
 
 abbrev pub input : ℤ → Logged
 input z = InputAt 0 0 (z ∷ [])
 
 -- the view from before any entry
 abbrev pub first_view : View
-first_view = record { node = 0; time = 0; entries = 0; count = 1; numbers = replicate 64 (pos 0); versions = replicate 64 0; locals = []; few = lit≤ tt; numbers_there = refl; versions_there = refl }
+first_view =
+    record {
+      node = 0;
+      time = 0;
+      entries = 0;
+      count = 1;
+      numbers = replicate 64 (pos 0);
+      versions =
+          replicate 64 0;
+      locals = [];
+      few = lit≤ tt;
+      numbers_there = refl;
+      versions_there = refl;
+    }
 
 -- there is such a view
 abbrev pub FirstViewIsThere : Global → Type 0
@@ -33,20 +57,30 @@ FirstViewIsThere g = IsView (relay g) [] (standing 0 (pos 0) (pos 0)) 0 first_vi
 
 -- a view from before the input of 5 is not current after it
 abbrev pub InputEndsView : Global → Type 0
-InputEndsView g = (v : View) → IsView (relay g) [] (standing 0 (pos 0) (pos 0)) 0 v → IsCurrent (board g (input (pos 5) ∷ []) (standing 0 (pos 5) (pos 0))) v → ⊥
+InputEndsView g =
+    (v : View) → IsView (relay g) [] (standing 0 (pos 0) (pos 0)) 0 v
+    → IsCurrent (board g (input (pos 5) ∷ []) (standing 0 (pos 5) (pos 0))) v → ⊥
 
 -- .. and one from after it is
 abbrev pub LaterViewIsCurrent : Global → Type 0
-LaterViewIsCurrent g = (v : View) → IsView (relay g) (input (pos 5) ∷ []) (standing 0 (pos 5) (pos 0)) 0 v → IsCurrent (board g (input (pos 5) ∷ []) (standing 0 (pos 5) (pos 0))) v
+LaterViewIsCurrent g =
+    (v : View) → IsView (relay g) (input (pos 5) ∷ []) (standing 0 (pos 5) (pos 0)) 0 v
+    → IsCurrent (board g (input (pos 5) ∷ []) (standing 0 (pos 5) (pos 0))) v
 
 -- .. also once a topic that the node does not read was written
 abbrev pub OtherTopicsLeaveView : Global → Type 0
-OtherTopicsLeaveView g = (v : View) → IsView (relay g) (input (pos 5) ∷ []) (standing 0 (pos 5) (pos 0)) 0 v → IsCurrent (board g (input (pos 5) ∷ copies (pos 5) ∷ []) (standing 0 (pos 5) (pos 5))) v
+OtherTopicsLeaveView g =
+    (v : View) → IsView (relay g) (input (pos 5) ∷ []) (standing 0 (pos 5) (pos 0)) 0 v
+    → IsCurrent (board g (input (pos 5) ∷ copies (pos 5) ∷ []) (standing 0 (pos 5) (pos 5))) v
 
 -- .. but not at a later time
 abbrev pub TimeEndsView : Global → Type 0
-TimeEndsView g = (v : View) → IsView (relay g) [] (standing 0 (pos 0) (pos 0)) 0 v → IsCurrent (board g (TickAt 0 [] [] ∷ []) (standing 1 (pos 0) (pos 0))) v → ⊥
+TimeEndsView g =
+    (v : View) → IsView (relay g) [] (standing 0 (pos 0) (pos 0)) 0 v
+    → IsCurrent (board g (TickAt 0 [] [] ∷ []) (standing 1 (pos 0) (pos 0))) v → ⊥
 
 -- a topic that was changed to 5 and back to 0 has the same number and another version
 abbrev pub ChangedBackEndsView : Global → Type 0
-ChangedBackEndsView g = (v : View) → IsView (relay g) [] (standing 0 (pos 0) (pos 0)) 0 v → IsCurrent (board g (input (pos 5) ∷ input (pos 0) ∷ []) (standing 0 (pos 0) (pos 0))) v → ⊥
+ChangedBackEndsView g =
+    (v : View) → IsView (relay g) [] (standing 0 (pos 0) (pos 0)) 0 v
+    → IsCurrent (board g (input (pos 5) ∷ input (pos 0) ∷ []) (standing 0 (pos 0) (pos 0))) v → ⊥

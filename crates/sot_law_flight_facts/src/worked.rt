@@ -1,13 +1,22 @@
-//! Worked flights, boards and traces. Each function does nothing, and its contract is what a person worked out.
+//! Worked flights, boards and traces. Each function does nothing, and its contract is what a person
+//! worked out.
 
 ghost use Rattle.std.specs.Global.{Global};
-ghost use Rattle.sot_law_flight_facts.specs.Versions.{LaterScalarIsWritten, NothingIsWritten, InputsWrite, WritesAreCounted};
-ghost use Rattle.sot_law_flight_facts.specs.Views.{FirstViewIsThere, InputEndsView, LaterViewIsCurrent, OtherTopicsLeaveView, TimeEndsView, ChangedBackEndsView};
-ghost use Rattle.sot_law_flight_facts.specs.Stated.{EndsOfBounds, RowsStay, WordsOfSways, DraftsStay, WordsOfCrews};
-ghost use Rattle.sot_law_flight_facts.specs.Fits.{HorizonLimit, InputsFit, SwaysFit, CrewsFit, GuestsFit, CountsOfFlights};
+ghost use Rattle.sot_law_flight_facts.specs.Versions.{LaterScalarIsWritten, NothingIsWritten};
+ghost use Rattle.sot_law_flight_facts.specs.Versions.{InputsWrite, WritesAreCounted};
+ghost use Rattle.sot_law_flight_facts.specs.Views.{FirstViewIsThere, InputEndsView};
+ghost use Rattle.sot_law_flight_facts.specs.Views.{LaterViewIsCurrent, OtherTopicsLeaveView};
+ghost use Rattle.sot_law_flight_facts.specs.Views.{TimeEndsView, ChangedBackEndsView};
+ghost use Rattle.sot_law_flight_facts.specs.Stated.{EndsOfBounds, RowsStay, WordsOfSways};
+ghost use Rattle.sot_law_flight_facts.specs.Stated.{DraftsStay, WordsOfCrews};
+ghost use Rattle.sot_law_flight_facts.specs.Fits.{HorizonLimit, InputsFit, SwaysFit, CrewsFit};
+ghost use Rattle.sot_law_flight_facts.specs.Fits.{GuestsFit, CountsOfFlights};
+ghost use Rattle.sot_law_flight_facts.specs.Limits.{MostEvents, OneEventTooMany, MostNumbers};
+ghost use Rattle.sot_law_flight_facts.specs.Limits.{OneNumberTooMany, FitNoMore};
 ghost use Rattle.sot_law_flight_facts.specs.Marks.{TwoMarksOfOneFiring, IdleMarksCount};
 
-/// A view of the relay's node is current as long as neither the time nor the version of the topic that it reads has changed.
+/// A view of the relay's node is current as long as neither the time nor the version of the topic
+/// that it reads has changed.
 pub fn views_are_current_by_versions()
     ensures there { (g : Global) → FirstViewIsThere g }
     ensures input_came { (g : Global) → InputEndsView g }
@@ -34,6 +43,15 @@ pub fn flights_fit_as_stated()
     ensures crews { (g : Global) → CrewsFit g }
     ensures guests { (g : Global) → GuestsFit g }
     ensures counts { (g : Global) → CountsOfFlights g }
+{}
+
+/// Flights may have 200,000 events and 1,000,000 numbers, and not one more.
+pub fn flights_count_up_to_their_limits()
+    ensures most_events { (g : Global) → MostEvents g }
+    ensures one_event_too_many { (g : Global) → OneEventTooMany g }
+    ensures most_numbers { (g : Global) → MostNumbers g }
+    ensures one_number_too_many { (g : Global) → OneNumberTooMany g }
+    ensures fit_no_more { FitNoMore }
 {}
 
 /// Which entries write a topic.

@@ -27,7 +27,7 @@ pub fn judge_end(
         board.now.entries }
     ensures { IfOk result (IsJudged board.now board.now line.now) }
 {
-    board.is_standing();
+    board.reveal_invariant();
     if !is_now(ticks, board.time()) {
         return Ok(Judged::Fails(LineKind::WrongTime));
     }

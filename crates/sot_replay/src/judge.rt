@@ -35,7 +35,7 @@ fn judge_whole(
         board.old.entries }
     ensures { IfOk result (IsJudged board.old board.new line.now) }
 {
-    board.is_standing();
+    board.reveal_invariant();
     match read {
         Line::Input { time, topic, whole } => {
             Ok(judge_input(board, line, time, topic, whole, numbers))

@@ -17,7 +17,8 @@ use std::process::Abort;
 
 const LONGEST: usize = 16_777_216;
 
-// A vehicle whose advanced node has a guest and reads what comes from outside, and whose safe node is not due in the first tick.
+// A vehicle whose advanced node has a guest and reads what comes from outside, and whose safe node
+// is not due in the first tick.
 const VEHICLE: &str = "environment topic e: int[0..9] = 0;
 topic cmd: int[-2..2] = 0;
 plant pos { state x: int; input cmd; noise w: int[-1..1]; next x = (x + cmd) + w; }

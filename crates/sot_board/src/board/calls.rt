@@ -1,4 +1,5 @@
-//! The calls that change a board. Each goes on by one event, and appends the one entry that tells of it.
+//! The calls that change a board. Each goes on by one event, and appends the one entry that tells
+//! of it.
 
 ghost use Rattle.std.specs.Prelude.{◌≡◌, ℕ, ◌<◌, true, None, List, Option, ℤ, length, take};
 ghost use Rattle.sot_lists.specs.Places.{At};
@@ -16,11 +17,11 @@ ghost use Rattle.sot_board.specs.Calls.{InputDue, MayTickNow, Logs, LogsInput, L
 
 use super::Board;
 use crate::receipt::Receipt;
-use crate::record::{count_topics, firing_of, mode_of, push_firing};
+use crate::record::note_firing;
 use crate::states::put_states;
 use crate::versions::count_one;
 use sot_lang::Draft;
-use sot_world::{Entry, Event, Mode};
+use sot_world::{Entry, Mode};
 
 impl<'a> Board<'a> {
     /// The flight's next input comes.
@@ -31,10 +32,7 @@ impl<'a> Board<'a> {
         let flight = self.flight;
         let given = flight.input(self.next_input);
         let time = self.world.time();
-        let _ = self.world.step(&Event::Input {
-            topic: given.topic,
-            value: given.value,
-        });
+        self.world.take(given.topic, given.value);
         count_one(given.topic, &mut self.versions);
         self.next_input += 1;
         self.history.push(&Entry::Input {
@@ -48,70 +46,82 @@ impl<'a> Board<'a> {
     pub fn decide(&mut self, module: u32) -> Mode
         requires there { «module» < length self.old.accepted.program.modules }
         requires left { is_left_dm self.old.position.at «module» ≡ true }
-        ensures { Logs self.old self.new (steps.Decide «module») (DecideAt self.old.position.at.time «module» result) }
+        ensures { Logs self.old self.new (steps.Decide «module»)
+            (DecideAt self.old.position.at.time «module» result) }
     {
         let time = self.world.time();
-        let mode = mode_of(self.world.step(&Event::Decide { module }));
+        let mode = self.world.decide(module);
         self.history.push(&Entry::Decide { time, module, mode });
         mode
     }
 
     /// A coded node fires with what its body gives on the present numbers.
     pub fn fire(&mut self, node: u32) -> Receipt
-        requires coded { (info : NodeInfo) × (acts : List Act) × At self.old.accepted.program.nodes node info × IsCoded info acts }
+        requires coded { (info : NodeInfo) × (acts : List Act)
+            × At self.old.accepted.program.nodes node info × IsCoded info acts }
         requires left { is_left self.old.position.at node ≡ true }
         ensures { LogsFiring self.old self.new node (steps.Code node) result }
     {
         let p = self.world.typed();
         let time = self.world.time();
-        let place = self.history.len() as u32;
-        let firing = firing_of(self.world.step(&Event::Code { node }));
-        count_topics(p, time, node, &firing, &mut self.versions);
-        count_one(node, &mut self.fired);
-        push_firing(time, node, &firing, &mut self.history);
-        Receipt {
-            place,
-            draft: firing.draft,
-        }
+        let firing = self.world.fire_code(node);
+        note_firing(
+            p,
+            time,
+            node,
+            &firing,
+            &mut self.versions,
+            &mut self.fired,
+            &mut self.history,
+        )
     }
 
     // A node that is not coded fires with a draft.
     fn fire_guest(&mut self, node: u32, draft: Draft) -> Receipt
-        requires external { (info : NodeInfo) × At self.old.accepted.program.nodes node info × (info.body ≡ None) }
-        requires stated { IsStated self.old.accepted.program self.old.plan self.old.position (steps.Guest node (take (slot_count self.old.accepted.program node) draft)) }
+        requires external { (info : NodeInfo) × At self.old.accepted.program.nodes node info
+            × (info.body ≡ None) }
+        requires stated { IsStated self.old.accepted.program self.old.plan self.old.position
+            (steps.Guest node (take (slot_count self.old.accepted.program node) draft)) }
         requires left { is_left self.old.position.at node ≡ true }
-        ensures { LogsFiring self.old self.new node (steps.Guest node (take (slot_count self.old.accepted.program node) draft)) result }
+        ensures { LogsFiring self.old self.new node
+            (steps.Guest node (take (slot_count self.old.accepted.program node) draft)) result }
     {
         let p = self.world.typed();
         let time = self.world.time();
-        let place = self.history.len() as u32;
-        let firing = firing_of(self.world.step(&Event::Guest { node, draft }));
-        count_topics(p, time, node, &firing, &mut self.versions);
-        count_one(node, &mut self.fired);
-        push_firing(time, node, &firing, &mut self.history);
-        Receipt {
-            place,
-            draft: firing.draft,
-        }
+        let firing = self.world.fire_guest(node, &draft);
+        note_firing(
+            p,
+            time,
+            node,
+            &firing,
+            &mut self.versions,
+            &mut self.fired,
+            &mut self.history,
+        )
     }
 
-    /// A node that a guest flies fires with the guest's draft, of which the slots of the scalars that the node writes count.
+    /// A node that a guest flies fires with the guest's draft, of which the slots of the scalars
+    /// that the node writes count.
     pub fn commit_guest(&mut self, node: u32, draft: Draft) -> Receipt
         requires guest { (i : ℕ) × At self.old.plan.crews node (plans.Guest i) }
         requires left { is_left self.old.position.at node ≡ true }
-        ensures { LogsFiring self.old self.new node (steps.Guest node (take (slot_count self.old.accepted.program node) draft)) result }
+        ensures { LogsFiring self.old self.new node
+            (steps.Guest node (take (slot_count self.old.accepted.program node) draft)) result }
     {
         // A look at a field brings what the type keeps.
         let _world = &self.world;
         self.fire_guest(node, draft)
     }
 
-    /// A node that is not coded and that no guest flies fires with the draft that the flight states for this firing.
+    /// A node that is not coded and that no guest flies fires with the draft that the flight states
+    /// for this firing.
     pub fn commit_stated(&mut self, node: u32) -> Receipt
-        requires external { (info : NodeInfo) × At self.old.accepted.program.nodes node info × (info.body ≡ None) }
+        requires external { (info : NodeInfo) × At self.old.accepted.program.nodes node info
+            × (info.body ≡ None) }
         requires no_guest { (i : ℕ) → At self.old.plan.crews node (plans.Guest i) → ⊥ }
         requires left { is_left self.old.position.at node ≡ true }
-        ensures { (draft : List (Option ℤ)) × LogsFiring self.old self.new node (steps.Guest node draft) result }
+        ensures { (draft : List (Option ℤ))
+            × LogsFiring self.old self.new node (steps.Guest node draft) result }
     {
         let p = self.world.typed();
         let firing = self.fired[node as usize];
@@ -121,14 +131,17 @@ impl<'a> Board<'a> {
 
     /// All plants tick, with the disturbances that the flight states.
     pub fn tick(&mut self)
-        requires may { MayTickNow self.old.accepted.program self.old.accepted.cert.jitter self.old.position }
+        requires may { MayTickNow self.old.accepted.program self.old.accepted.cert.jitter
+            self.old.position }
         requires time { self.old.position.at.time < self.old.plan.horizon }
-        ensures { (entry : Logged) × Logs self.old self.new (steps.Tick (stated_noise self.old.accepted.program self.old.plan self.old.position.at.time)) entry }
+        ensures { (entry : Logged) × Logs self.old self.new
+            (steps.Tick (stated_noise self.old.accepted.program self.old.plan
+            self.old.position.at.time)) entry }
     {
         let p = self.world.typed();
         let time = self.world.time();
         self.flight.disturb(p, time, &mut self.noise);
-        let _ = self.world.step(&Event::Tick { noise: &self.noise });
+        self.world.tick(&self.noise);
         put_states(&self.world, p.plants.len() as u32, &mut self.states);
         self.history.push(&Entry::Tick {
             time,

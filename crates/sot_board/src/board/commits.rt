@@ -15,13 +15,13 @@ ghost use Rattle.sot_board.specs.Commits.{IsTakenFrom, IsCurrent, IsRunOn, Match
 use super::Board;
 use crate::commit::Commit;
 use crate::receipt::Receipt;
-use crate::record::{count_topics, firing_of, push_firing};
-use crate::versions::count_one;
+use crate::record::note_firing;
 use crate::view::View;
 use sot_code::Fired;
 
 impl<'a> Board<'a> {
-    // Whether a view has the present time, and the present versions of the topics that its node reads.
+    // Whether a view has the present time, and the present versions of the topics that its node
+    // reads.
     fn is_current(&self, view: &View) -> bool
         requires { viewed_node view.now < length self.now.accepted.program.nodes }
         ensures { IsTrue result ↔ IsCurrent self.now view.now }
@@ -32,35 +32,44 @@ impl<'a> Board<'a> {
 
     // A coded node fires with what its body gives on the present numbers.
     fn commit_run(&mut self, node: u32, fired: &Fired) -> Receipt
-        requires coded { (info : NodeInfo) × (acts : List Act) × At self.old.accepted.program.nodes node info × IsCoded info acts }
+        requires coded { (info : NodeInfo) × (acts : List Act)
+            × At self.old.accepted.program.nodes node info × IsCoded info acts }
         requires left { is_left self.old.position.at node ≡ true }
-        requires run { IsRun self.old.accepted.program node self.old.position.at.scalars self.old.position.at.points (locals_of self.old.position.at node) fired.now }
+        requires run { IsRun self.old.accepted.program node self.old.position.at.scalars
+            self.old.position.at.points (locals_of self.old.position.at node) fired.now }
         ensures { LogsFiring self.old self.new node (steps.Code node) result }
     {
         let p = self.world.typed();
         let time = self.world.time();
-        let place = self.history.len() as u32;
-        let firing = firing_of(self.world.commit(node, fired));
-        count_topics(p, time, node, &firing, &mut self.versions);
-        count_one(node, &mut self.fired);
-        push_firing(time, node, &firing, &mut self.history);
-        Receipt {
-            place,
-            draft: firing.draft,
-        }
+        let firing = self.world.commit(node, fired);
+        note_firing(
+            p,
+            time,
+            node,
+            &firing,
+            &mut self.versions,
+            &mut self.fired,
+            &mut self.history,
+        )
     }
 
-    /// The node of a view, which is coded and still to fire, fires with what its code gives on the view. `Again`, with the view of now,
-    /// comes exactly where time went on or the version of a topic that the node reads differs from the view's; it changes nothing.
-    /// The view was taken of this board, at any length of its history so far.
+    /// The node of a view, which is coded and still to fire, fires with what its code gives on the
+    /// view. `Again`, with the view of now, comes exactly where time went on or the version of a
+    /// topic that the node reads differs from the view's; it changes nothing. The view was taken of
+    /// this board, at any length of its history so far.
     pub fn commit_code(&mut self, view: View, fired: &Fired) -> Commit
-        requires coded { (info : NodeInfo) × (acts : List Act) × At self.old.accepted.program.nodes (viewed_node view) info × IsCoded info acts }
+        requires coded { (info : NodeInfo) × (acts : List Act)
+            × At self.old.accepted.program.nodes (viewed_node view) info × IsCoded info acts }
         requires left { is_left self.old.position.at (viewed_node view) ≡ true }
         requires taken { IsTakenFrom self.old view }
         requires ran { IsRunOn self.old.accepted.program view fired.now }
         ensures { MatchCommit result
-            (λ receipt. IsCurrent self.old view × LogsFiring self.old self.new (viewed_node view) (steps.Code (viewed_node view)) receipt)
-            (λ again. (IsCurrent self.old view → ⊥) × (self.new ≡ self.old) × IsView self.old.accepted.program self.old.entries self.old.position (viewed_node view) again) }
+            (λ receipt. IsCurrent self.old view
+            × LogsFiring self.old self.new (viewed_node view) (steps.Code (viewed_node view))
+            receipt)
+            (λ again. (IsCurrent self.old view → ⊥) × (self.new ≡ self.old)
+            × IsView self.old.accepted.program self.old.entries self.old.position
+            (viewed_node view) again) }
     {
         // A look at a field brings what the type keeps.
         let _world = &self.world;

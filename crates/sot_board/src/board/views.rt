@@ -37,7 +37,8 @@ impl<'a> Board<'a> {
     /// The numbers that a node reads, lent from the board.
     pub fn lend(&self, node: u32) -> Inputs<'_, 'a>
         requires { node < length self.now.accepted.program.nodes }
-        ensures { (info : NodeInfo) → At self.now.accepted.program.nodes node info → result ≡ reading info self.now.position.at.scalars self.now.position.at.points }
+        ensures { (info : NodeInfo) → At self.now.accepted.program.nodes node info
+            → result ≡ reading info self.now.position.at.scalars self.now.position.at.points }
     {
         let p = self.world.typed();
         Inputs::of(&p.nodes[node as usize].reads, &self.world)

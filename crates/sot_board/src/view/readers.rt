@@ -1,7 +1,8 @@
 //! What a view tells.
 
 ghost use Rattle.std.specs.Prelude.{◌≡◌, ◌<◌, length, slice_get, Some, IsTrue, ◌↔◌};
-ghost use Rattle.sot_board.specs.Views.{viewed_node, viewed_time, viewed_numbers, viewed_versions, viewed_locals};
+ghost use Rattle.sot_board.specs.Views.{viewed_node, viewed_time, viewed_numbers, viewed_versions};
+ghost use Rattle.sot_board.specs.Views.{viewed_locals};
 
 use super::View;
 use sot_code::{Locals, Seen};

@@ -1,12 +1,13 @@
-//! Each kind of value at each place of a flight. The answers are those of an independent reader of the format.
+//! Each kind of value at each place of a flight. The answers are those of an independent reader of
+//! the format.
 use super::*;
 use sot_ports::Process;
 use sot_report::{LoadFail, fault_text};
 
 const KINDS: [&str; 7] = ["null", "true", "1", "1.5", "\"x\"", "[]", "{}"];
 
-// A part of a flight and its value, with @ at the place; the place's path; and what each kind of value is there: a fault at this path, one
-// at another, or none.
+// A part of a flight and its value, with @ at the place; the place's path; and what each kind of
+// value is there: a fault at this path, one at another, or none.
 const PLACES: &str =
     r#"format @ /format WrongShape WrongShape ok NotWhole WrongShape WrongShape WrongShape
 horizon @ /horizon WrongShape WrongShape ok NotWhole WrongShape WrongShape WrongShape

@@ -5,7 +5,8 @@ use super::*;
 use sot_flight::Flight;
 use sot_lang::Typed;
 
-// What a flight states: where the first plant starts, its counts, its first input, and the disturbance of the first tick.
+// What a flight states: where the first plant starts, its counts, its first input, and the
+// disturbance of the first tick.
 fn stated(rt: &impl Abort, alloc: Global, p: &Typed, flight: &Flight) -> String
     requires { FitsFlight p.now 1 flight.now }
 {

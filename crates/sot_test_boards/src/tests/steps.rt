@@ -1,12 +1,13 @@
-//! A flight that is stepped event by event, and what its board tells in between. The numbers are worked out by hand.
+//! A flight that is stepped event by event, and what its board tells in between. The numbers are
+//! worked out by hand.
 ghost use Rattle.std.specs.Prelude.{◌<◌, length};
 
 use super::*;
 use sot_board::Board;
 use sot_code::Seen;
 use sot_compose::check_all;
+use sot_journal::Journal;
 use sot_lang::Draft;
-use sot_turn::Journal;
 use sot_world::Mode;
 
 // What is done to a board.
@@ -35,9 +36,10 @@ fn decide(board: &mut Board<'_>) -> bool {
     false
 }
 
-// The first node fires with a guest's draft of a number, if it has a guest and is left to. The receipt has the place and the draft.
+// The first node fires with a guest's draft of a number, if it has a guest and is left to. The
+// receipt has the place and the draft.
 fn draft(board: &mut Board<'_>, number: i64) -> bool {
-    board.is_standing();
+    board.reveal_invariant();
     if board.typed().nodes.len() == 0 || !board.due(0) {
         return false;
     }
@@ -96,7 +98,8 @@ fn push_if(holds: bool, word: &str, text: &mut String) -> Result<(), AllocError>
     text.push_str(if holds { word } else { "" })
 }
 
-// Adds what a board tells: its time, the length of its history, how often its nodes fired, what the first one sees, and what is left.
+// Adds what a board tells: its time, the length of its history, how often its nodes fired, what the
+// first one sees, and what is left.
 fn push_told(board: &Board<'_>, text: &mut String) -> Result<(), AllocError> {
     let p = board.typed();
     if p.nodes.len() < 2 || p.modules.len() == 0 {
@@ -119,7 +122,8 @@ fn push_told(board: &Board<'_>, text: &mut String) -> Result<(), AllocError> {
     text.push_str("\n")
 }
 
-// The input comes first, then the module switches to the advanced node, whose guest drafts 2; the wind is -1.
+// The input comes first, then the module switches to the advanced node, whose guest drafts 2; the
+// wind is -1.
 const TOLD: &str = "time 0 entries 0 fired 0 0 sees 3 3 0 0 input decision fast
 time 0 entries 1 fired 0 0 sees 3 3 5 5 decision fast
 time 0 entries 2 fired 0 0 sees 3 3 5 5 fast

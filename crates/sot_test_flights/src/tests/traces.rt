@@ -19,7 +19,7 @@ fn trace_of(rt: &(impl Abort + Threads + Sync), alloc: Global, text: &str) -> Re
     };
     match Board::open(alloc, &accepted, flight) {
         Ok(mut board) => {
-            fly(&mut board, flight);
+            fly(&mut board);
             Ok(board_text(alloc, &board).expect(rt, "memory"))
         }
         Err(OpenFail::NotSafer { module }) => Err(module),

@@ -19,7 +19,7 @@ fn run(board: &Board<'_>, node: u32, view: &View) -> Fired
     requires view { IsView board.now.accepted.program board.now.entries board.now.position node view.now }
     ensures { IsRunOn board.now.accepted.program view.now result }
 {
-    board.is_standing();
+    board.reveal_invariant();
     code_runs_on_views();
     match run_node(board.typed(), node, view, &view.locals()) {
         Ok(fired) => fired,
@@ -34,7 +34,7 @@ fn input(board: &mut Board<'_>, node: u32, view: &View)
     ensures accepted { board.new.accepted ≡ board.old.accepted }
     ensures taken { IsTakenFrom board.new view.now }
 {
-    board.is_standing();
+    board.reveal_invariant();
     views_stay();
     board.input();
 }
@@ -48,7 +48,7 @@ fn fire_stated(board: &mut Board<'_>, writer: u32, reader: u32, view: &View)
     ensures accepted { board.new.accepted ≡ board.old.accepted }
     ensures taken { IsTakenFrom board.new view.now }
 {
-    board.is_standing();
+    board.reveal_invariant();
     views_stay();
     board.commit_stated(writer);
 }
@@ -58,7 +58,7 @@ fn is_taken(board: &Board<'_>, node: u32, view: &View)
     requires view { IsView board.now.accepted.program board.now.entries board.now.position node view.now }
     ensures { IsTakenFrom board.now view.now }
 {
-    board.is_standing();
+    board.reveal_invariant();
     views_stay();
 }
 

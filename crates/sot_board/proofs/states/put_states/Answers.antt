@@ -12,7 +12,8 @@ put_point-requires c =
     let points = c.args.world.now.at.points in
     let k = c.loop-k.invariant in
     let lt : c.loop-k.k < length points = omega (arith, c.loop-k-test.true, c.requires.plants, c.requires.points.each) in
-    let at : At points c.loop-k.k c.state-point.result = slice_get-get_or points c.loop-k.k [] lt ∙ ap (λ x. let r : Option (List ℤ) = Some x in r) (sym c.state-point.ensures) in
+    let at : At points c.loop-k.k c.state-point.result = slice_get-get_or points c.loop-k.k [] lt
+    ∙ ap (λ x. let r : Option (List ℤ) = Some x in r) (sym c.state-point.ensures) in
     let more = ap length (joined_more points c.loop-k.k c.state-point.result at) ∙ length-append (joined (take c.loop-k.k points)) c.state-point.result in
     let short = joined_short points (c.loop-k.k + 1) in
     let all = joined_size c.args.world.now.accepted.program.plants points c.requires.points.each c.requires.points.widths in
@@ -24,13 +25,16 @@ loop-k-preserved c =
     let points = c.args.world.now.at.points in
     let k = c.loop-k.invariant in
     let lt : c.loop-k.k < length points = omega (arith, c.loop-k-test.true, c.requires.plants, c.requires.points.each) in
-    let at : At points c.loop-k.k c.state-point.result = slice_get-get_or points c.loop-k.k [] lt ∙ ap (λ x. let r : Option (List ℤ) = Some x in r) (sym c.state-point.ensures) in
+    let at : At points c.loop-k.k c.state-point.result = slice_get-get_or points c.loop-k.k [] lt
+    ∙ ap (λ x. let r : Option (List ℤ) = Some x in r) (sym c.state-point.ensures) in
     let more = joined_more points c.loop-k.k c.state-point.result at in
     let size = ap length more ∙ length-append (joined (take c.loop-k.k points)) c.state-point.result in
     record {
       size = search (rules, k.size);
       count = omega (arith, k.count, size, c.len-count.ensures.value);
-      front = ap (λ n. take (c.loop-k.count + n) c.put_point.new.numbers) c.len-count.ensures.value ∙ c.put_point.ensures.front ∙ ap (λ l. l ++ c.state-point.result) k.front ∙ sym more;
+      front =
+          ap (λ n. take (c.loop-k.count + n) c.put_point.new.numbers) c.len-count.ensures.value ∙ c.put_point.ensures.front
+          ∙ ap (λ l. l ++ c.state-point.result) k.front ∙ sym more;
     }
 
 pub returns : goal.returns

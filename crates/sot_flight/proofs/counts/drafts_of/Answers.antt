@@ -21,7 +21,8 @@ overflow_add-sum c =
     let more = drafts_more c.args.horizon list c.loop-node.node-index node at in
     let small = drafts_small c.args.horizon list c.requires.horizon c.requires.writes in
     let len : c.len.result ≡ length node.writes.items = omega (arith, c.len.ensures, node.writes.ok.0) in
-    let product : c.due_times.result * c.len.result ≡ due_count node.period node.offset c.args.horizon * length node.writes.items = ap (λ n. n * c.len.result) c.due_times.ensures ∙ ap (λ n. due_count node.period node.offset c.args.horizon * n) len in
+    let product : c.due_times.result * c.len.result ≡ due_count node.period node.offset c.args.horizon * length node.writes.items =
+    ap (λ n. n * c.len.result) c.due_times.ensures ∙ ap (λ n. due_count node.period node.offset c.args.horizon * n) len in
     omega (arith, c.loop-node.invariant, more, small, c.requires.few, product)
 
 pub returns-clause-small : goal.returns-clause-small

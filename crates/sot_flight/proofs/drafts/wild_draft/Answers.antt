@@ -66,13 +66,17 @@ loop-i-preserved c =
     let lt : c.loop-i.i < 8 = omega (arith, c.requires.few, below) in
     let slot_at = slice_get_read info.writes.items _ i c.index.result.now refl below c.index.ensures in
     let there = c.p.invariant.typed.inside node info c.index.result.now node_at (i, slot_at) in
-    let scalar_at = subst (λ t. At t.scalars c.index.result.now scalar) c.p.view_is (slice_get_read c.p.inside.scalars.items _ c.index.result.now scalar refl there c.index-scalar.ensures) in
+    let scalar_at = subst (λ t. At t.scalars c.index.result.now scalar) c.p.view_is
+    (slice_get_read c.p.inside.scalars.items _ c.index.result.now scalar refl there c.index-scalar.ensures) in
     let value = drawn_read scalar.lo scalar.hi c.draw.result _ _ low high c.draw.ensures.value (ap (λ g. output_xsh_rr g.state) k.words) in
-    let number_at = drawn_at c.args.seed c.args.stream given _ i _ (write_at c.args.p.now info i c.index.result.now scalar slot_at scalar_at) ∙ ap Some (sym value) in
+    let number_at = drawn_at c.args.seed c.args.stream given _ i _ (write_at c.args.p.now info i c.index.result.now scalar slot_at scalar_at)
+    ∙ ap Some (sym value) in
     let at = at_map Some _ i _ number_at in
     record {
       words = words_on c.args.seed c.args.stream given i c.loop-i.words c.draw.new.words k.words c.draw.ensures.next;
-      draft = c.set.ensures ∙ ap (λ z. slice_set c.loop-i.draft i (Some z)) (read_word c.draw.result fits) ∙ ap (λ d. slice_set d i (Some c.draw.result)) k.draft ∙ put_more _ i (Some c.draw.result) at lt;
+      draft =
+          c.set.ensures ∙ ap (λ z. slice_set c.loop-i.draft i (Some z)) (read_word c.draw.result fits) ∙ ap (λ d. slice_set d i (Some c.draw.result)) k.draft
+          ∙ put_more _ i (Some c.draw.result) at lt;
     }
 
 pub returns : goal.returns
@@ -81,7 +85,8 @@ returns c =
     let i = c.loop-i.i in
     let given = c.from.result * c.len.result in
     let list = drawn_from c.args.seed c.args.stream given (write_ranges c.args.p.now info) in
-    let size = length-map list Some ∙ length-drawn_from c.args.seed c.args.stream given (write_ranges c.args.p.now info) ∙ length-map info.writes.items (range_of c.args.p.now.scalars) in
+    let size = length-map list Some ∙ length-drawn_from c.args.seed c.args.stream given (write_ranges c.args.p.now info)
+    ∙ length-map info.writes.items (range_of c.args.p.now.scalars) in
     let all : c.loop-i.i ≡ length info.writes.items = omega (arith, c.len-i-end.ensures, c.loop-i.auto.i-end, c.loop-i-test.false, info.writes.ok.0) in
     let len : c.len.result ≡ length info.writes.items = omega (arith, c.len.ensures, info.writes.ok.0) in
     let first : given ≡ c.args.firing * length info.writes.items = ap (λ n. n * c.len.result) c.from.ensures ∙ ap (λ n. c.args.firing * n) len in

@@ -12,17 +12,22 @@ pub returns-in-Err : goal.returns-in-Err
 returns-in-Err c =
     let l = c.loop-item in
     let n : c.len.result ≡ length l.found.items = search rules in
-    rows_end input_of (input c.args.p.now c.args.horizon) l.found.items c.deref-item-items.result.now l.item-index c.item-item.result c.in-Err.fail c.fault_under_index.result _ (omega arith) c.item-item.is (subst (λ n. IsUnder (decimal n) c.in-Err.fail c.fault_under_index.result) n c.fault_under_index.ensures) c.in-Err.ensures l.invariant
+    rows_end input_of (input c.args.p.now c.args.horizon) l.found.items c.deref-item-items.result.now l.item-index c.item-item.result c.in-Err.fail
+    c.fault_under_index.result _ (omega arith) c.item-item.is
+    (subst (λ n. IsUnder (decimal n) c.in-Err.fail c.fault_under_index.result) n c.fault_under_index.ensures) c.in-Err.ensures l.invariant
 
 pub loop-item-preserved : goal.loop-item-preserved
 loop-item-preserved c =
     let l = c.loop-item in
     let f = input c.args.p.now c.args.horizon in
     let items = c.deref-item-items.result.now in
-    let on = rows_go_on input_of f l.found.items items l.item-index c.item-item.result c.in-Ok.input _ (omega arith) c.item-item.is c.in-Ok.ensures l.invariant in
-    subst (λ (inputs : List Input). each_after f (map input_of inputs) (items_view (drop (c.loop-item.item-index + 1) items)) ≡ each_after f [] (items_view c.args.list.now.items)) (sym c.in_ok-push-in-Ok.ensures.items) on
+    let on = rows_go_on input_of f l.found.items items l.item-index c.item-item.result c.in-Ok.input _ (omega arith) c.item-item.is c.in-Ok.ensures l.invariant
+    in
+    subst (λ (inputs : List Input). each_after f (map input_of inputs) (items_view (drop (c.loop-item.item-index + 1) items))
+    ≡ each_after f [] (items_view c.args.list.now.items)) (sym c.in_ok-push-in-Ok.ensures.items) on
 
 pub returns : goal.returns
 returns c =
     let l = c.loop-item in
-    rows_done input_of (input c.args.p.now c.args.horizon) l.found.items c.deref-item-items.result.now l.item-index _ (omega (arith, c.loop-item-test.false)) l.invariant
+    rows_done input_of (input c.args.p.now c.args.horizon) l.found.items c.deref-item-items.result.now l.item-index _ (omega (arith, c.loop-item-test.false))
+    l.invariant

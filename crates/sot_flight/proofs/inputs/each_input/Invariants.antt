@@ -6,4 +6,6 @@ use Rattle.sot_flight.specs.FlightFormat.{input}
 use Rattle.sot_flight.proofs.inputs.each_input.Given as goal
 
 abbrev pub invariant-loop-item : goal.invariant-loop-item
-invariant-loop-item l = each_after (input l.fn.p l.fn.horizon) (map input_of l.found.items) (items_view (drop l.item-index l.item-items)) ≡ each_after (input l.fn.p l.fn.horizon) [] (items_view l.list.items)
+invariant-loop-item l =
+    each_after (input l.fn.p l.fn.horizon) (map input_of l.found.items) (items_view (drop l.item-index l.item-items))
+    ≡ each_after (input l.fn.p l.fn.horizon) [] (items_view l.list.items)

@@ -6,4 +6,6 @@ use Rattle.sot_flight.specs.FlightFormat.{plant_names, has_noise}
 use Rattle.sot_flight.proofs.keys.has_only_disturbed.Given as goal
 
 abbrev pub invariant-loop-key : goal.invariant-loop-key
-invariant-loop-key l = all_among (members_view l.fn.object.entries) (plant_names (filter has_noise l.fn.p.plants)) ≡ all_among (members_view l.key-iterator) (plant_names (filter has_noise l.fn.p.plants))
+invariant-loop-key l =
+    all_among (members_view l.fn.object.entries) (plant_names (filter has_noise l.fn.p.plants))
+    ≡ all_among (members_view l.key-iterator) (plant_names (filter has_noise l.fn.p.plants))

@@ -6,4 +6,6 @@ use Rattle.sot_flight.specs.FlightFormat.{node_names, is_external}
 use Rattle.sot_flight.proofs.keys.has_only_external.Given as goal
 
 abbrev pub invariant-loop-key : goal.invariant-loop-key
-invariant-loop-key l = all_among (members_view l.fn.object.entries) (node_names (filter is_external l.fn.p.nodes)) ≡ all_among (members_view l.key-iterator) (node_names (filter is_external l.fn.p.nodes))
+invariant-loop-key l =
+    all_among (members_view l.fn.object.entries) (node_names (filter is_external l.fn.p.nodes))
+    ≡ all_among (members_view l.key-iterator) (node_names (filter is_external l.fn.p.nodes))

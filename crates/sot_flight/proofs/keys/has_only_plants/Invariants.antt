@@ -5,4 +5,5 @@ use Rattle.sot_flight.specs.FlightFormat.{plant_names}
 use Rattle.sot_flight.proofs.keys.has_only_plants.Given as goal
 
 abbrev pub invariant-loop-key : goal.invariant-loop-key
-invariant-loop-key l = all_among (members_view l.fn.object.entries) (plant_names l.fn.p.plants) ≡ all_among (members_view l.key-iterator) (plant_names l.fn.p.plants)
+invariant-loop-key l =
+    all_among (members_view l.fn.object.entries) (plant_names l.fn.p.plants) ≡ all_among (members_view l.key-iterator) (plant_names l.fn.p.plants)

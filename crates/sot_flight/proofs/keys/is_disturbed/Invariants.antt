@@ -5,4 +5,5 @@ use Rattle.sot_flight.specs.FlightFormat.{plant_names, has_noise}
 use Rattle.sot_flight.proofs.keys.is_disturbed.Given as goal
 
 abbrev pub invariant-loop-plant : goal.invariant-loop-plant
-invariant-loop-plant l = is_among l.fn.key (plant_names (filter has_noise l.fn.plants)) ≡ is_among l.fn.key (plant_names (filter has_noise (drop l.plant-index l.fn.plants)))
+invariant-loop-plant l =
+    is_among l.fn.key (plant_names (filter has_noise l.fn.plants)) ≡ is_among l.fn.key (plant_names (filter has_noise (drop l.plant-index l.fn.plants)))

@@ -11,7 +11,8 @@ pub returns-in-Err : goal.returns-in-Err
 returns-in-Err c =
     let l = c.loop-item in
     let n : c.len.result ≡ length l.found.items = search rules in
-    ends (λ done. number) l.found.items c.deref-item-items.result.now l.item-index c.item-item.result c.in-Err.fail c.fault_under_index.result _ (omega arith) c.item-item.is (subst (λ n. IsUnder (decimal n) c.in-Err.fail c.fault_under_index.result) n c.fault_under_index.ensures) c.in-Err.ensures l.invariant
+    ends (λ done. number) l.found.items c.deref-item-items.result.now l.item-index c.item-item.result c.in-Err.fail c.fault_under_index.result _ (omega arith)
+    c.item-item.is (subst (λ n. IsUnder (decimal n) c.in-Err.fail c.fault_under_index.result) n c.fault_under_index.ensures) c.in-Err.ensures l.invariant
 
 pub returns : goal.returns
 returns c =

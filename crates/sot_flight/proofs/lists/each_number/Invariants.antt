@@ -5,4 +5,5 @@ use Rattle.sot_cert.specs.CertFormat.{number}
 use Rattle.sot_flight.proofs.lists.each_number.Given as goal
 
 abbrev pub invariant-loop-item : goal.invariant-loop-item
-invariant-loop-item l = each_after (λ done. number) l.found.items (items_view (drop l.item-index l.item-items)) ≡ each_after (λ done. number) [] (items_view l.list.items)
+invariant-loop-item l =
+    each_after (λ done. number) l.found.items (items_view (drop l.item-index l.item-items)) ≡ each_after (λ done. number) [] (items_view l.list.items)

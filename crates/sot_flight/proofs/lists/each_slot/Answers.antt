@@ -10,7 +10,8 @@ pub returns-in-Err : goal.returns-in-Err
 returns-in-Err c =
     let l = c.loop-item in
     let n : c.len.result ≡ length l.found.items = search rules in
-    ends (λ done. slot) l.found.items c.deref-item-items.result.now l.item-index c.item-item.result c.in-Err.fail c.fault_under_index.result _ (omega arith) c.item-item.is (subst (λ n. IsUnder (decimal n) c.in-Err.fail c.fault_under_index.result) n c.fault_under_index.ensures) c.in-Err.ensures l.invariant
+    ends (λ done. slot) l.found.items c.deref-item-items.result.now l.item-index c.item-item.result c.in-Err.fail c.fault_under_index.result _ (omega arith)
+    c.item-item.is (subst (λ n. IsUnder (decimal n) c.in-Err.fail c.fault_under_index.result) n c.fault_under_index.ensures) c.in-Err.ensures l.invariant
 
 pub returns : goal.returns
 returns c =
@@ -23,4 +24,5 @@ loop-item-preserved c =
     let f = λ (done : List (Option ℤ)). slot in
     let items = c.deref-item-items.result.now in
     let on = goes_on f l.found.items items l.item-index c.item-item.result c.in-Ok.slot _ (omega arith) c.item-item.is c.in-Ok.ensures l.invariant in
-    subst (λ (found : List (Option ℤ)). each_after f found (items_view (drop (c.loop-item.item-index + 1) items)) ≡ each_after f [] (items_view c.args.list.now.items)) (sym c.in_ok-push-in-Ok.ensures.items) on
+    subst (λ (found : List (Option ℤ)). each_after f found (items_view (drop (c.loop-item.item-index + 1) items))
+    ≡ each_after f [] (items_view c.args.list.now.items)) (sym c.in_ok-push-in-Ok.ensures.items) on

@@ -51,7 +51,8 @@ returns-in-Listed c =
     let lt : c.args.i < length row = omega (arith, listed_size plant _ c.args.tick fits, ap length c.row_of.ensures, c.requires.there) in
     let number : FitsSigned w64 (get_or row c.args.i (pos 0)) = search rules in
     rw (read_word (get_or row c.args.i (pos 0)) number)
-    (subst (λ l. At l c.args.i (get_or row c.args.i (pos 0))) (c.row_of.ensures ∙ ap (λ s. noise_of plant (sway_of s) c.args.tick) (sym c.in-Listed.is)) (slice_get-get_or row c.args.i (pos 0) lt))
+    (subst (λ l. At l c.args.i (get_or row c.args.i (pos 0))) (c.row_of.ensures ∙ ap (λ s. noise_of plant (sway_of s) c.args.tick) (sym c.in-Listed.is))
+    (slice_get-get_or row c.args.i (pos 0) lt))
 
 pub returns-in-Drawn : goal.returns-in-Drawn
 returns-in-Drawn c =
@@ -62,7 +63,8 @@ returns-in-Drawn c =
     let fits : FitsSigned w64 c.draw.result = search rules in
     let at = slice_get_read plant.noise.items _ c.args.i info refl c.requires.there c.index-info.ensures in
     let len : c.len.result ≡ length plant.noise.items = omega (arith, c.len.ensures, plant.noise.ok.0) in
-    let given : c.from.result * c.len.result ≡ c.args.tick * length plant.noise.items = ap (λ n. n * c.len.result) c.from.ensures ∙ ap (λ n. c.args.tick * n) len in
+    let given : c.from.result * c.len.result ≡ c.args.tick * length plant.noise.items = ap (λ n. n * c.len.result) c.from.ensures
+    ∙ ap (λ n. c.args.tick * n) len in
     let same = ap (λ g. output_xsh_rr g.state) c.words_from.ensures ∙ ap (λ n. word c.in-Drawn.seed c.in-Drawn.stream (n + c.args.i)) given in
     let value = drawn_read info.lo info.hi c.draw.result _ _ low high c.draw.ensures.value same in
     let here = noise_drawn_at plant c.args.i info at c.in-Drawn.seed c.in-Drawn.stream (c.args.tick * length plant.noise.items) ∙ ap Some (sym value) in

@@ -48,7 +48,16 @@ loop-k-preserved c =
     let more = joined_more all c.loop-k.k _ own in
     record {
       size = c.put_noise.ensures.size ∙ k.size;
-      count = omega (arith, k.count, len, size, ap length more, length-append (joined (take c.loop-k.k all)) (noise_of plant (sway_of c.index-sways-k.result) c.args.tick));
+      count =
+          omega (
+            arith,
+            k.count,
+            len,
+            size,
+            ap length more,
+            length-append (joined (take c.loop-k.k all))
+                (noise_of plant (sway_of c.index-sways-k.result) c.args.tick),
+          );
       front = ap (λ n. take (c.loop-k.count + n) c.put_noise.new.numbers) len ∙ c.put_noise.ensures.front
           ∙ ap (λ l. l ++ noise_of plant (sway_of c.index-sways-k.result) c.args.tick) k.front ∙ sym more;
     }

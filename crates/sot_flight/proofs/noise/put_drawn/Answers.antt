@@ -35,7 +35,9 @@ loop-i-preserved c =
     record {
       words = words_on c.args.seed c.args.stream c.args.given c.loop-i.i c.loop-i.words c.draw.new.words k.words c.draw.ensures.next;
       size = search (rules, k.size);
-      front = rw (read_word c.draw.result fits) (taken_behind c.loop-i.numbers (drawn_from c.args.seed c.args.stream c.args.given (bounds plant)) (take c.args.first c.args.numbers.now) c.args.first c.loop-i.i c.draw.result inside (slice_get_within _ _ _ at) k.front at);
+      front =
+          rw (read_word c.draw.result fits) (taken_behind c.loop-i.numbers (drawn_from c.args.seed c.args.stream c.args.given (bounds plant))
+          (take c.args.first c.args.numbers.now) c.args.first c.loop-i.i c.draw.result inside (slice_get_within _ _ _ at) k.front at);
     }
 
 pub returns-clause-front : goal.returns-clause-front

@@ -17,5 +17,7 @@ loop-i-preserved c =
     let inside : c.args.first + c.loop-i.i < length c.loop-i.numbers = omega (arith, k.size, c.requires, below) in
     record {
       size = search (rules, k.size);
-      front = rw (read_word bound fits) (taken_behind c.loop-i.numbers (highs (bounds plant)) (take c.args.first c.args.numbers.now) c.args.first c.loop-i.i bound inside (slice_get_within _ _ _ at) k.front at);
+      front =
+          rw (read_word bound fits) (taken_behind c.loop-i.numbers (highs (bounds plant)) (take c.args.first c.args.numbers.now) c.args.first c.loop-i.i bound
+          inside (slice_get_within _ _ _ at) k.front at);
     }

@@ -29,4 +29,5 @@ loop-i-preserved c =
     let at = bound_at plant c.loop-i.i info (slice_get_read plant.noise.items _ c.loop-i.i info refl below c.index-info.ensures) in
     let is = c.in-Some.ensures in
     c.in_ok-push-in-Some.ensures.items
-    ∙ range_more c.loop-i.found.items (bounds plant) c.loop-i.i c.in-Some.range _ at c.loop-i.invariant (is.0 ∙ read_word info.lo low) (is.1 ∙ read_word info.hi high)
+    ∙ range_more c.loop-i.found.items (bounds plant) c.loop-i.i c.in-Some.range _ at c.loop-i.invariant (is.0 ∙ read_word info.lo low)
+    (is.1 ∙ read_word info.hi high)

@@ -43,8 +43,11 @@ loop-i-preserved c =
     let at = slice_get_read c.p.inside.topics.items _ c.args.topic info refl below c.index-info.ensures in
     let there = c.p.invariant.typed.topic_scalar c.args.topic (info.first + c.loop-i.i) info at (omega arith) (omega (arith, c.loop-i-test.true)) in
     let inside = slice_get_within c.p.inside.scalars.items (info.first + c.loop-i.i) there.0 there.1 in
-    let scalar_at = subst (λ t. At t.scalars (info.first + c.loop-i.i) scalar) c.p.view_is (slice_get_read c.p.inside.scalars.items _ (info.first + c.loop-i.i) scalar refl inside c.index-scalar.ensures) in
+    let scalar_at = subst (λ t. At t.scalars (info.first + c.loop-i.i) scalar) c.p.view_is
+    (slice_get_read c.p.inside.scalars.items _ (info.first + c.loop-i.i) scalar refl inside c.index-scalar.ensures) in
     let range = at_map (λ i. let s : Side = record { lo = i.lo; hi = i.hi } in s) c.args.p.now.scalars (info.first + c.loop-i.i) scalar scalar_at in
     let is = c.in-Some.ensures in
     c.in_ok-push-in-Some.ensures.items
-    ∙ range_more c.loop-i.found.items (drop info.first (scalar_ranges c.args.p.now)) c.loop-i.i c.in-Some.range _ (at_dropped (scalar_ranges c.args.p.now) info.first c.loop-i.i _ range) c.loop-i.invariant (is.0 ∙ read_word scalar.lo low) (is.1 ∙ read_word scalar.hi high)
+    ∙ range_more c.loop-i.found.items (drop info.first (scalar_ranges c.args.p.now)) c.loop-i.i c.in-Some.range _
+    (at_dropped (scalar_ranges c.args.p.now) info.first c.loop-i.i _ range) c.loop-i.invariant (is.0 ∙ read_word scalar.lo low)
+    (is.1 ∙ read_word scalar.hi high)

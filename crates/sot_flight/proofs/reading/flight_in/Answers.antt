@@ -13,4 +13,5 @@ pub returns-clause-fits : goal.returns-clause-fits
 returns-clause-fits c =
     let p = c.args.p.now in
     let d = view c.args.value.now in
-    if_gives (FitsFlight p c.args.guests) c.counted_flight.result (flight p c.args.guests d) (returns-clause-says c) (flight_fits p c.counted_flight.ensures.rules c.args.guests d)
+    if_gives (FitsFlight p c.args.guests) c.counted_flight.result (flight p c.args.guests d) (returns-clause-says c)
+    (flight_fits p c.counted_flight.ensures.rules c.args.guests d)

@@ -8,4 +8,5 @@ unreachable-requires c =
     let plant = c.args.plant.now in
     let some : 1 ≤ c.len.result = omega (arith, c.requires, c.len.ensures, plant.states.ok.0) in
     let few : c.len.result ≤ 4 = omega (arith, c.requires, c.len.ensures, plant.states.ok.0) in
-    point_there c.as_str.result.now c.len.result (members_view c.args.object.now.entries) c.in_ok-numbers.numbers.items c.deref.result.now c.in_ok-numbers.ensures c.deref.ensures.value some few c.in-None.ensures
+    point_there c.as_str.result.now c.len.result (members_view c.args.object.now.entries) c.in_ok-numbers.numbers.items c.deref.result.now
+    c.in_ok-numbers.ensures c.deref.ensures.value some few c.in-None.ensures

@@ -12,7 +12,8 @@ returns-in-Err c =
     let l = c.loop-plant in
     let e : c.deref-plant-items.result.now ≡ c.args.p.now.plants = c.deref-plant-items.ensures.value ∙ ap (λ (t : Tables). t.plants) c.p.view_is in
     let lt : c.loop-plant.plant-index < length c.args.p.now.plants = omega (arith, c.loop-plant-test.true, ap length e) in
-    found_end (λ done. point_at (members_view c.args.object.now.entries)) l.found.items c.args.p.now.plants l.plant-index c.plant-item.result c.in-Err.fail _ lt (c.plant-item.is ∙ ap (λ xs. get_or xs c.loop-plant.plant-index c.plant-item.result) e) c.in-Err.ensures l.invariant
+    found_end (λ done. point_at (members_view c.args.object.now.entries)) l.found.items c.args.p.now.plants l.plant-index c.plant-item.result c.in-Err.fail _ lt
+    (c.plant-item.is ∙ ap (λ xs. get_or xs c.loop-plant.plant-index c.plant-item.result) e) c.in-Err.ensures l.invariant
 
 pub loop-plant-preserved : goal.loop-plant-preserved
 loop-plant-preserved c =
@@ -21,19 +22,23 @@ loop-plant-preserved c =
     let plants = c.args.p.now.plants in
     let e : c.deref-plant-items.result.now ≡ plants = c.deref-plant-items.ensures.value ∙ ap (λ (t : Tables). t.plants) c.p.view_is in
     let lt : c.loop-plant.plant-index < length plants = omega (arith, c.loop-plant-test.true, ap length e) in
-    let on = found_on f l.found.items plants l.plant-index c.plant-item.result c.in-Ok.point _ lt (c.plant-item.is ∙ ap (λ xs. get_or xs c.loop-plant.plant-index c.plant-item.result) e) c.in-Ok.ensures l.invariant in
-    subst (λ (points : List (List ℤ)). for_each_after f points (drop (c.loop-plant.plant-index + 1) plants) ≡ for_each_after f [] plants) (sym c.in_ok-push-in-Ok.ensures.items) on
+    let on = found_on f l.found.items plants l.plant-index c.plant-item.result c.in-Ok.point _ lt
+    (c.plant-item.is ∙ ap (λ xs. get_or xs c.loop-plant.plant-index c.plant-item.result) e) c.in-Ok.ensures l.invariant in
+    subst (λ (points : List (List ℤ)). for_each_after f points (drop (c.loop-plant.plant-index + 1) plants) ≡ for_each_after f [] plants)
+    (sym c.in_ok-push-in-Ok.ensures.items) on
 
 pub returns : goal.returns
 returns c =
     let l = c.loop-plant in
     let e : c.deref-plant-items.result.now ≡ c.args.p.now.plants = c.deref-plant-items.ensures.value ∙ ap (λ (t : Tables). t.plants) c.p.view_is in
-    found_all (λ done. point_at (members_view c.args.object.now.entries)) l.found.items c.args.p.now.plants l.plant-index _ (omega (arith, c.loop-plant-test.false, ap length e)) l.invariant
+    found_all (λ done. point_at (members_view c.args.object.now.entries)) l.found.items c.args.p.now.plants l.plant-index _
+    (omega (arith, c.loop-plant-test.false, ap length e)) l.invariant
 
 pub point_of-requires : goal.point_of-requires
 point_of-requires c =
     let items = c.deref-plant-items.ensures.value in
     let lt : c.loop-plant.plant-index < length c.p.inside.plants.items = omega (arith, c.loop-plant-test.true, ap length items) in
-    let at = slice_get_read c.p.inside.plants.items _ c.loop-plant.plant-index _ refl lt (c.plant-item.is ∙ ap (λ xs. get_or xs c.loop-plant.plant-index c.plant-item.result) items) in
+    let at = slice_get_read c.p.inside.plants.items _ c.loop-plant.plant-index _ refl lt
+    (c.plant-item.is ∙ ap (λ xs. get_or xs c.loop-plant.plant-index c.plant-item.result) items) in
     let rules = c.p.invariant.plants c.loop-plant.plant-index _ at in
     (rules.some_state, rules.states)

@@ -15,7 +15,11 @@ stated-requires c =
     let there = slice_get_within c.args.self.now.accepted.program.nodes c.args.node external.0 external.1 in
     let same = c.typed-p.ensures ∙ ap (λ s. s.accepted.program) c.self.view_is in
     record {
-      fits = (c.self.invariant.has.standing.guests, subst (λ t. FitsFlight t c.self.invariant.has.standing.guests b.flight.now) (sym c.typed-p.ensures) c.self.invariant.has.standing.fits);
+      fits = (
+        c.self.invariant.has.standing.guests,
+        subst (λ t. FitsFlight t c.self.invariant.has.standing.guests b.flight.now) (sym c.typed-p.ensures)
+            c.self.invariant.has.standing.fits,
+      );
       node = subst (λ t. c.args.node < length t.nodes) (sym same) there;
     }
 
@@ -28,9 +32,12 @@ unwrap-draft-requires c =
     let same = c.typed-p.ensures ∙ ap (λ x. x.accepted.program) c.self.view_is in
     let there = slice_get_within s.accepted.program.nodes c.args.node crew.0 crew.2 in
     let lt : c.args.node < length b.fired.items = omega (arith, there, ap (λ x. length x.position.fired) c.self.view_is, is.fired_each) in
-    let firing = read_or b.fired.items c.args.node c.index-firing.result.now 0 lt c.index-firing.ensures ∙ ap (λ x. fired_of x.position c.args.node) c.self.view_is in
-    let told = c.stated.ensures crew.0 crew.1 (subst (λ t. At t.nodes c.args.node crew.0) (sym same) crew.2) (subst (λ x. At x.plan.crews c.args.node crew.1) (sym c.self.view_is) crew.3) in
-    some_answer c.typed-p.result.now s.accepted.program crew.0 crew.1 c.index-firing.result.now (fired_of s.position c.args.node) c.stated.result crew.5.0 same firing told crew.5.1
+    let firing = read_or b.fired.items c.args.node c.index-firing.result.now 0 lt c.index-firing.ensures
+    ∙ ap (λ x. fired_of x.position c.args.node) c.self.view_is in
+    let told = c.stated.ensures crew.0 crew.1 (subst (λ t. At t.nodes c.args.node crew.0) (sym same) crew.2)
+    (subst (λ x. At x.plan.crews c.args.node crew.1) (sym c.self.view_is) crew.3) in
+    some_answer c.typed-p.result.now s.accepted.program crew.0 crew.1 c.index-firing.result.now (fired_of s.position c.args.node) c.stated.result crew.5.0 same
+    firing told crew.5.1
 
 pub fire_guest-requires-clause-stated : goal.fire_guest-requires-clause-stated
 fire_guest-requires-clause-stated c =
@@ -41,9 +48,12 @@ fire_guest-requires-clause-stated c =
     let same = c.typed-p.ensures ∙ ap (λ x. x.accepted.program) c.self.view_is in
     let there = slice_get_within s.accepted.program.nodes c.args.node crew.0 crew.2 in
     let lt : c.args.node < length b.fired.items = omega (arith, there, ap (λ x. length x.position.fired) c.self.view_is, is.fired_each) in
-    let firing = read_or b.fired.items c.args.node c.index-firing.result.now 0 lt c.index-firing.ensures ∙ ap (λ x. fired_of x.position c.args.node) c.self.view_is in
-    let told = c.stated.ensures crew.0 crew.1 (subst (λ t. At t.nodes c.args.node crew.0) (sym same) crew.2) (subst (λ x. At x.plan.crews c.args.node crew.1) (sym c.self.view_is) crew.3) in
-    let slots = slots_same c.typed-p.result.now s.accepted.program crew.0 crew.1 c.index-firing.result.now (fired_of s.position c.args.node) c.stated.result crew.5.0 c.unwrap-draft.result same firing told crew.5.1 c.unwrap-draft.ensures in
+    let firing = read_or b.fired.items c.args.node c.index-firing.result.now 0 lt c.index-firing.ensures
+    ∙ ap (λ x. fired_of x.position c.args.node) c.self.view_is in
+    let told = c.stated.ensures crew.0 crew.1 (subst (λ t. At t.nodes c.args.node crew.0) (sym same) crew.2)
+    (subst (λ x. At x.plan.crews c.args.node crew.1) (sym c.self.view_is) crew.3) in
+    let slots = slots_same c.typed-p.result.now s.accepted.program crew.0 crew.1 c.index-firing.result.now (fired_of s.position c.args.node) c.stated.result
+    crew.5.0 c.unwrap-draft.result same firing told crew.5.1 c.unwrap-draft.ensures in
     stated_is s c.args.node crew.0 crew.1 crew.5.0 c.unwrap-draft.result crew.2 crew.3 crew.4 crew.5.1 slots
 
 pub returns : goal.returns

@@ -8,4 +8,5 @@ pub returns : goal.returns
 returns c =
     let b = c.self.inside in
     subst (λ s. IsTrue c.is_due.result ↔ InputDue s.position) c.self.view_is
-    (subst (λ t. IsTrue c.is_due.result ↔ ((x : StatedInput) × (rest : List StatedInput) × (drop b.next_input b.flight.now.inputs ≡ x ∷ rest) × (x.at ≡ t))) c.time.ensures.value c.is_due.ensures)
+    (subst (λ t. IsTrue c.is_due.result ↔ ((x : StatedInput) × (rest : List StatedInput) × (drop b.next_input b.flight.now.inputs ≡ x ∷ rest) × (x.at ≡ t)))
+    c.time.ensures.value c.is_due.ensures)

@@ -7,82 +7,86 @@ use Rattle.sot_lists.specs.Places.{At}
 use Rattle.sot_lang.specs.declared.act.Act.{Act}
 use Rattle.sot_lang.specs.declared.tables.NodeInfo.{NodeInfo}
 use Rattle.sot_lang.specs.TableRules.{IsCoded}
-use Rattle.sot_world.specs.HistoryEntry.{FireAt}
 use Rattle.sot_world.specs.Steps.{Code}
-use Rattle.sot_world.specs.Outcomes.{RecordsCode}
 use Rattle.sot_board.specs.BoardView.{position, standing}
 use Rattle.sot_board.specs.Calls.{LogsFiring}
-use Rattle.sot_board.proofs.Events.{code_flies, code_outcome, told_along}
-use Rattle.sot_board.proofs.Boards.{few_writings, few_firings, has_room, after_firing, logs_firing, counted_along}
+use Rattle.sot_board.proofs.Events.{code_flies}
+use Rattle.sot_board.proofs.Boards.{few_entries, has_room, nodes_there, topics_each, versions_few, firings_few, after_firing, logs_firing}
 use Rattle.sot_board.proofs.board.Board.fire.Goals as goal
 
-pub step-requires-clause-names : goal.step-requires-clause-names
-step-requires-clause-names c = subst (λ s. (info : NodeInfo) × (acts : List Act) × At s.accepted.program.nodes c.args.node info × IsCoded info acts) (sym c.self.view_is) c.requires.coded
+pub fire_code-firing-requires-clause-coded : goal.fire_code-firing-requires-clause-coded
+fire_code-firing-requires-clause-coded c =
+    subst (λ s. (info : NodeInfo) × (acts : List Act) × At s.accepted.program.nodes c.args.node info × IsCoded info acts) (sym c.self.view_is) c.requires.coded
 
-pub firing_of-firing-requires : goal.firing_of-firing-requires
-firing_of-firing-requires c = code_outcome _ _ _ _ c.step.ensures.outcome
-
-pub count_topics-requires-clause-there : goal.count_topics-requires-clause-there
-count_topics-requires-clause-there c =
+pub note_firing-requires-clause-there : goal.note_firing-requires-clause-there
+note_firing-requires-clause-there c =
     let b = c.self.inside in
-    let node = subst (λ s. (info : NodeInfo) × (acts : List Act) × At s.accepted.program.nodes c.args.node info × IsCoded info acts) (sym c.self.view_is) c.requires.coded in
-    subst (λ t. c.args.node < length t.nodes) (sym c.typed-p.ensures) (slice_get_within b.world.accepted.program.nodes c.args.node node.0 node.2)
+    let node = subst (λ s. (info : NodeInfo) × (acts : List Act) × At s.accepted.program.nodes c.args.node info × IsCoded info acts) (sym c.self.view_is)
+    c.requires.coded in
+    let there = slice_get_within b.world.accepted.program.nodes c.args.node node.0 node.2 in
+    nodes_there b c.self.invariant _ c.args.node _ _ c.typed-p.ensures c.deref_mut.ensures.value c.deref_mut-2.ensures.value there
 
-pub count_topics-requires-clause-topics : goal.count_topics-requires-clause-topics
-count_topics-requires-clause-topics c = ap length c.deref_mut.ensures.value ∙ c.self.invariant.has.each ∙ ap (λ t. length t.topics) (sym c.typed-p.ensures)
-
-pub count_topics-requires-clause-room : goal.count_topics-requires-clause-room
-count_topics-requires-clause-room c = λ k. (let few = few_writings c.self.inside c.self.invariant k in omega (arith, few, ap (λ l. slice_index_or l k 0) c.deref_mut.ensures.value))
-
-pub count_one-requires-clause-there : goal.count_one-requires-clause-there
-count_one-requires-clause-there c =
+pub note_firing-requires-clause-topics : goal.note_firing-requires-clause-topics
+note_firing-requires-clause-topics c =
     let b = c.self.inside in
-    let node = subst (λ s. (info : NodeInfo) × (acts : List Act) × At s.accepted.program.nodes c.args.node info × IsCoded info acts) (sym c.self.view_is) c.requires.coded in
-    let lt = slice_get_within b.world.accepted.program.nodes c.args.node node.0 node.2 in
-    omega (arith, lt, ap length c.deref_mut-2.ensures.value, c.self.invariant.has.standing.fired_each)
+    let node = subst (λ s. (info : NodeInfo) × (acts : List Act) × At s.accepted.program.nodes c.args.node info × IsCoded info acts) (sym c.self.view_is)
+    c.requires.coded in
+    let there = slice_get_within b.world.accepted.program.nodes c.args.node node.0 node.2 in
+    topics_each b c.self.invariant _ c.args.node _ _ c.typed-p.ensures c.deref_mut.ensures.value c.deref_mut-2.ensures.value there
 
-pub count_one-requires-clause-room : goal.count_one-requires-clause-room
-count_one-requires-clause-room c =
+pub note_firing-requires-clause-few : goal.note_firing-requires-clause-few
+note_firing-requires-clause-few c =
     let b = c.self.inside in
-    let node = subst (λ s. (info : NodeInfo) × (acts : List Act) × At s.accepted.program.nodes c.args.node info × IsCoded info acts) (sym c.self.view_is) c.requires.coded in
-    let few = few_firings b c.self.invariant c.args.node (slice_get_within b.world.accepted.program.nodes c.args.node node.0 node.2) in
-    omega (arith, few, ap (λ l. slice_index_or l c.args.node 0) c.deref_mut-2.ensures.value)
+    let node = subst (λ s. (info : NodeInfo) × (acts : List Act) × At s.accepted.program.nodes c.args.node info × IsCoded info acts) (sym c.self.view_is)
+    c.requires.coded in
+    let there = slice_get_within b.world.accepted.program.nodes c.args.node node.0 node.2 in
+    versions_few b c.self.invariant _ c.args.node _ _ c.typed-p.ensures c.deref_mut.ensures.value c.deref_mut-2.ensures.value there
 
-pub push_firing-requires : goal.push_firing-requires
-push_firing-requires c =
+pub note_firing-requires-clause-few_firings : goal.note_firing-requires-clause-few_firings
+note_firing-requires-clause-few_firings c =
     let b = c.self.inside in
-    let firing = c.firing_of-firing.result in
-    let next = slice_set b.fired.items c.args.node (suc (slice_index_or b.fired.items c.args.node 0)) in
-    let told = told_along {X = RecordsCode b.world.accepted.program c.args.node b.world.at} _ firing.draft firing.enabled c.firing_of-firing.ensures c.step.ensures.outcome in
-    let room = has_room b c.self.invariant _ _ (code_flies b.world.accepted.program b.world.accepted.cert.jitter b.flight.now (position b) c.step.new.self.at c.args.node firing.draft firing.enabled next refl c.step.ensures.step told) in
-    record { room = room }
+    let node = subst (λ s. (info : NodeInfo) × (acts : List Act) × At s.accepted.program.nodes c.args.node info × IsCoded info acts) (sym c.self.view_is)
+    c.requires.coded in
+    let there = slice_get_within b.world.accepted.program.nodes c.args.node node.0 node.2 in
+    firings_few b c.self.invariant _ c.args.node _ _ c.typed-p.ensures c.deref_mut.ensures.value c.deref_mut-2.ensures.value there
+
+pub note_firing-requires-clause-room : goal.note_firing-requires-clause-room
+note_firing-requires-clause-room c =
+    let b = c.self.inside in
+    has_room b c.self.invariant _ _
+    (code_flies b.world.accepted.program b.world.accepted.cert.jitter b.flight.now (position b) c.fire_code-firing.new.self.at c.args.node
+    c.fire_code-firing.result (slice_set b.fired.items c.args.node (suc (slice_index_or b.fired.items c.args.node 0))) refl c.fire_code-firing.ensures.step
+    c.fire_code-firing.ensures.firing)
+
+pub note_firing-requires-clause-short : goal.note_firing-requires-clause-short
+note_firing-requires-clause-short c = (let few = few_entries c.self.inside c.self.invariant in omega (arith, few))
 
 pub invariant_of-self : goal.invariant_of-self
 invariant_of-self c =
     let b = c.self.inside in
-    let p = b.world.accepted.program in
-    let firing = c.firing_of-firing.result in
-    let fired = with_items_is b.fired c.count_one.new.counts (omega (arith, c.count_one.auto.counts, c.deref_mut-2.ensures.len)) in
-    let versions = with_items_is b.versions c.count_topics.new.versions (omega (arith, c.count_topics.auto.versions, c.deref_mut.ensures.len)) in
-    let counted = fired ∙ c.count_one.ensures ∙ ap (λ l. slice_set l c.args.node (suc (slice_index_or l c.args.node 0))) c.deref_mut-2.ensures.value in
-    let told = told_along {X = RecordsCode b.world.accepted.program c.args.node b.world.at} _ firing.draft firing.enabled c.firing_of-firing.ensures c.step.ensures.outcome in
-    let flies = code_flies b.world.accepted.program b.world.accepted.cert.jitter b.flight.now (position b) c.step.new.self.at c.args.node firing.draft firing.enabled (with_items b.fired c.count_one.new.counts).items counted c.step.ensures.step told in
-    let entries = c.push_firing.ensures.appended ∙ ap (λ t. b.history.entries ++ FireAt t c.args.node firing.draft firing.enabled ∷ []) c.time-time.ensures.value in
-    after_firing b c.self.invariant c.args.node firing.draft firing.enabled c.step.new.self c.push_firing.new.history (with_items b.fired c.count_one.new.counts) (with_items b.versions c.count_topics.new.versions)
-    c.step.ensures.accepted entries flies c.push_firing.ensures.entries_left c.push_firing.ensures.numbers_left
-    (counted_along _ _ _ _ c.args.node firing.draft firing.enabled _ _ _ _ c.typed-p.ensures c.time-time.ensures.value c.deref_mut.ensures.value versions c.count_topics.ensures)
+    let fired = with_items_is b.fired c.note_firing.new.fired (omega (arith, c.note_firing.auto.fired, c.deref_mut-2.ensures.len)) in
+    let versions = with_items_is b.versions c.note_firing.new.versions (omega (arith, c.note_firing.auto.versions, c.deref_mut.ensures.len)) in
+    after_firing b c.self.invariant _ _ c.args.node c.fire_code-firing.result _ _ _ _ c.fire_code-firing.new.self c.note_firing.new.history
+    (with_items b.fired c.note_firing.new.fired) (with_items b.versions c.note_firing.new.versions) c.fire_code-firing.ensures.accepted c.typed-p.ensures
+    c.time-time.ensures.value c.deref_mut.ensures.value c.deref_mut-2.ensures.value versions fired c.note_firing.ensures.notes
+    (λ next is. code_flies b.world.accepted.program b.world.accepted.cert.jitter b.flight.now (position b) c.fire_code-firing.new.self.at c.args.node
+    c.fire_code-firing.result next is c.fire_code-firing.ensures.step c.fire_code-firing.ensures.firing)
 
 pub returns : goal.returns
 returns c =
     let b = c.self.inside in
-    let p = b.world.accepted.program in
-    let firing = c.firing_of-firing.result in
-    let fired = with_items_is b.fired c.count_one.new.counts (omega (arith, c.count_one.auto.counts, c.deref_mut-2.ensures.len)) in
-    let counted = fired ∙ c.count_one.ensures ∙ ap (λ l. slice_set l c.args.node (suc (slice_index_or l c.args.node 0))) c.deref_mut-2.ensures.value in
-    let told = told_along {X = RecordsCode b.world.accepted.program c.args.node b.world.at} _ firing.draft firing.enabled c.firing_of-firing.ensures c.step.ensures.outcome in
-    let flies = code_flies b.world.accepted.program b.world.accepted.cert.jitter b.flight.now (position b) c.step.new.self.at c.args.node firing.draft firing.enabled (with_items b.fired c.count_one.new.counts).items counted c.step.ensures.step told in
-    let entries = c.push_firing.ensures.appended ∙ ap (λ t. b.history.entries ++ FireAt t c.args.node firing.draft firing.enabled ∷ []) c.time-time.ensures.value in
-    let all = logs_firing b c.self.invariant c.args.node firing.draft firing.enabled c.step.new.self c.push_firing.new.history (with_items b.fired c.count_one.new.counts) (with_items b.versions c.count_topics.new.versions)
-    c.step.ensures.accepted entries flies (record { place = c.len-place.result; draft = firing.draft }) refl c.len-place.ensures in
-    let new = standing (record b { world = c.step.new.self; history = c.push_firing.new.history; fired = with_items b.fired c.count_one.new.counts; versions = with_items b.versions c.count_topics.new.versions }) in
-    subst (λ s. LogsFiring s new c.args.node (Code c.args.node) (record { place = c.len-place.result; draft = firing.draft })) c.self.view_is all
+    let fired = with_items_is b.fired c.note_firing.new.fired (omega (arith, c.note_firing.auto.fired, c.deref_mut-2.ensures.len)) in
+    let versions = with_items_is b.versions c.note_firing.new.versions (omega (arith, c.note_firing.auto.versions, c.deref_mut.ensures.len)) in
+    let new = standing (record b {
+      world = c.fire_code-firing.new.self;
+      history = c.note_firing.new.history;
+      fired = with_items b.fired c.note_firing.new.fired;
+      versions = with_items b.versions c.note_firing.new.versions;
+    }) in
+    subst (λ s. LogsFiring s new c.args.node (Code c.args.node) c.note_firing.result) c.self.view_is
+    (logs_firing b c.self.invariant _ _ c.args.node c.fire_code-firing.result _ _ _ _ c.fire_code-firing.new.self c.note_firing.new.history
+    (with_items b.fired c.note_firing.new.fired) (with_items b.versions c.note_firing.new.versions) c.fire_code-firing.ensures.accepted c.typed-p.ensures
+    c.time-time.ensures.value c.deref_mut.ensures.value c.deref_mut-2.ensures.value versions fired c.note_firing.ensures.notes
+    (λ next is. code_flies b.world.accepted.program b.world.accepted.cert.jitter b.flight.now (position b) c.fire_code-firing.new.self.at c.args.node
+    c.fire_code-firing.result next is c.fire_code-firing.ensures.step c.fire_code-firing.ensures.firing) c.note_firing.result c.note_firing.ensures.draft
+    c.note_firing.ensures.place)

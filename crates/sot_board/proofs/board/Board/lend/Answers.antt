@@ -11,7 +11,8 @@ of-requires-clause-there c = λ i slot at_i.
     let b = c.self.inside in
     let lt = subst (λ s. c.args.node < length s.accepted.program.nodes) (sym c.self.view_is) c.requires in
     let info = read_at _ _ c.args.node _ (ap (λ t. t.nodes) (c.p.view_is ∙ c.typed-p.ensures)) lt c.index.ensures in
-    reads_there b.world.accepted b.world.at c.self.invariant.has.standing.kept c.args.node c.index.result.now info i slot (subst (λ l. At l i slot) c.deref.ensures.value at_i)
+    reads_there b.world.accepted b.world.at c.self.invariant.has.standing.kept c.args.node c.index.result.now info i slot
+    (subst (λ l. At l i slot) c.deref.ensures.value at_i)
 
 pub returns : goal.returns
 returns c =
@@ -19,5 +20,7 @@ returns c =
     let lt = subst (λ s. c.args.node < length s.accepted.program.nodes) (sym c.self.view_is) c.requires in
     let info = read_at _ _ c.args.node _ (ap (λ t. t.nodes) (c.p.view_is ∙ c.typed-p.ensures)) lt c.index.ensures in
     let numbers = c.of.ensures ∙ ap (map (number_at b.world.at.scalars b.world.at.points)) c.deref.ensures.value in
-    subst (λ s. (node : NodeInfo) → At s.accepted.program.nodes c.args.node node → c.of.result ≡ reading node s.position.at.scalars s.position.at.points) c.self.view_is
-    (λ node at. numbers ∙ ap (λ (x : NodeInfo). map (number_at b.world.at.scalars b.world.at.points) x.reads.items) (at_same b.world.accepted.program.nodes c.args.node c.index.result.now node info at))
+    subst (λ s. (node : NodeInfo) → At s.accepted.program.nodes c.args.node node → c.of.result ≡ reading node s.position.at.scalars s.position.at.points)
+    c.self.view_is
+    (λ node at. numbers ∙ ap (λ (x : NodeInfo). map (number_at b.world.at.scalars b.world.at.points) x.reads.items)
+    (at_same b.world.accepted.program.nodes c.args.node c.index.result.now node info at))

@@ -10,7 +10,8 @@ pub returns-then-not-due_input : goal.returns-then-not-due_input
 returns-then-not-due_input c =
     let b = c.self.inside in
     let ens = c.nothing_left.ensures in
-    let none = no_input_due (standing b) c.self.invariant.has.standing (λ due. both_ways c.due_input.result c.if-not-due_input.true (c.due_input.ensures.1 (subst (λ s. InputDue s.position) c.self.view_is due))) in
+    let none = no_input_due (standing b) c.self.invariant.has.standing
+    (λ due. both_ways c.due_input.result c.if-not-due_input.true (c.due_input.ensures.1 (subst (λ s. InputDue s.position) c.self.view_is due))) in
     subst (λ s. IsTrue c.nothing_left.result ↔ IsSettled s.accepted.program s.position) c.self.view_is ((λ on. (ens.0 on, none)), (λ both. ens.1 both.0))
 
 pub returns-else-not-due_input : goal.returns-else-not-due_input

@@ -15,7 +15,8 @@ read_numbers-requires-clause-there c = λ i slot at_i.
     let b = c.self.inside in
     let lt = subst (λ s. c.args.node < length s.accepted.program.nodes) (sym c.self.view_is) c.requires in
     let info = read_at _ _ c.args.node _ (ap (λ t. t.nodes) (c.p.view_is ∙ c.typed-p.ensures)) lt c.index.ensures in
-    reads_there b.world.accepted b.world.at c.self.invariant.has.standing.kept c.args.node c.index.result.now info i slot (subst (λ l. At l i slot) c.deref.ensures.value at_i)
+    reads_there b.world.accepted b.world.at c.self.invariant.has.standing.kept c.args.node c.index.result.now info i slot
+    (subst (λ l. At l i slot) c.deref.ensures.value at_i)
 
 pub read_numbers-requires-clause-room : goal.read_numbers-requires-clause-room
 read_numbers-requires-clause-room c =
@@ -28,8 +29,10 @@ read_counts-requires-clause-there c = λ i slot at_i.
     let b = c.self.inside in
     let lt = subst (λ s. c.args.node < length s.accepted.program.nodes) (sym c.self.view_is) c.requires in
     let info = read_at _ _ c.args.node _ (ap (λ t. t.nodes) (c.p.view_is ∙ c.typed-p.ensures)) lt c.index.ensures in
-    let has = counts_there b.world.accepted.program c.self.invariant.has.standing.kept.rules b.versions.items c.self.invariant.has.each c.args.node c.index.result.now info i slot (subst (λ l. At l i slot) c.deref-2.ensures.value at_i) in
-    subst (λ t. HasCount t c.deref-3.result.now slot) (sym c.typed-p.ensures) (subst (λ l. HasCount b.world.accepted.program l slot) (sym c.deref-3.ensures.value) has)
+    let has = counts_there b.world.accepted.program c.self.invariant.has.standing.kept.rules b.versions.items c.self.invariant.has.each c.args.node
+    c.index.result.now info i slot (subst (λ l. At l i slot) c.deref-2.ensures.value at_i) in
+    subst (λ t. HasCount t c.deref-3.result.now slot) (sym c.typed-p.ensures)
+    (subst (λ l. HasCount b.world.accepted.program l slot) (sym c.deref-3.ensures.value) has)
 
 pub returns : goal.returns
 returns c =
@@ -39,18 +42,26 @@ returns c =
     let info = read_at _ _ c.args.node _ (ap (λ t. t.nodes) (c.p.view_is ∙ c.typed-p.ensures)) lt c.index.ensures in
     let reads = c.index.result.now.reads.items in
     let many : c.len-2.result ≡ length reads = omega (arith, c.len-2.ensures, c.index.result.now.reads.ok.0) in
-    let numbers = ap (λ n. take n c.read_numbers.new.numbers) (many ∙ ap length (sym c.deref.ensures.value)) ∙ c.read_numbers.ensures.front ∙ ap (map (number_at b.world.at.scalars b.world.at.points)) c.deref.ensures.value in
+    let numbers = ap (λ n. take n c.read_numbers.new.numbers) (many ∙ ap length (sym c.deref.ensures.value)) ∙ c.read_numbers.ensures.front
+    ∙ ap (map (number_at b.world.at.scalars b.world.at.points)) c.deref.ensures.value in
     let there = counts_there p c.self.invariant.has.standing.kept.rules b.versions.items c.self.invariant.has.each c.args.node c.index.result.now info in
     let versions = ap (λ n. take n c.read_counts.new.versions) (many ∙ ap length (sym c.deref-2.ensures.value)) ∙ c.read_counts.ensures.front
-    ∙ ap (λ t. map (count_of t c.deref-3.result.now) c.deref-2.result.now) c.typed-p.ensures ∙ ap₂ (λ l s. map (count_of p l) s) c.deref-3.ensures.value c.deref-2.ensures.value
+    ∙ ap (λ t. map (count_of t c.deref-3.result.now) c.deref-2.result.now) c.typed-p.ensures
+    ∙ ap₂ (λ l s. map (count_of p l) s) c.deref-3.ensures.value c.deref-2.ensures.value
     ∙ counts_are p b.history.entries b.versions.items reads c.self.invariant.has.each there c.self.invariant.has.versions_are in
     record {
       node = refl;
       time = c.time.ensures.value ∙ ap (λ s. s.position.at.time) c.self.view_is;
       history = c.len.ensures ∙ ap (λ s. length s.entries) c.self.view_is;
-      numbers = subst (λ s. (node : NodeInfo) → At s.accepted.program.nodes c.args.node node → take c.len-2.result c.read_numbers.new.numbers ≡ reading node s.position.at.scalars s.position.at.points) c.self.view_is
-          (λ node at. numbers ∙ ap (λ (x : NodeInfo). map (number_at b.world.at.scalars b.world.at.points) x.reads.items) (at_same p.nodes c.args.node c.index.result.now node info at));
-      versions = subst (λ s. (node : NodeInfo) → At s.accepted.program.nodes c.args.node node → take c.len-2.result c.read_counts.new.versions ≡ map (slot_version s.accepted.program s.entries) node.reads.items) c.self.view_is
-          (λ node at. versions ∙ ap (λ (x : NodeInfo). map (slot_version p b.history.entries) x.reads.items) (at_same p.nodes c.args.node c.index.result.now node info at));
+      numbers =
+          subst (λ s. (node : NodeInfo) → At s.accepted.program.nodes c.args.node node
+          → take c.len-2.result c.read_numbers.new.numbers ≡ reading node s.position.at.scalars s.position.at.points) c.self.view_is
+          (λ node at. numbers ∙ ap (λ (x : NodeInfo). map (number_at b.world.at.scalars b.world.at.points) x.reads.items)
+          (at_same p.nodes c.args.node c.index.result.now node info at));
+      versions =
+          subst (λ s. (node : NodeInfo) → At s.accepted.program.nodes c.args.node node
+          → take c.len-2.result c.read_counts.new.versions ≡ map (slot_version s.accepted.program s.entries) node.reads.items) c.self.view_is
+          (λ node at. versions ∙ ap (λ (x : NodeInfo). map (slot_version p b.history.entries) x.reads.items)
+          (at_same p.nodes c.args.node c.index.result.now node info at));
       locals = c.locals.ensures ∙ ap (λ s. locals_of s.position.at c.args.node) c.self.view_is;
     }

@@ -18,8 +18,10 @@ pub noise_at-requires-clause-fits : goal.noise_at-requires-clause-fits
 noise_at-requires-clause-fits c =
     let at = read_at _ _ c.args.plant c.index.result.now (ap (λ t. t.plants) c.p.view_is) c.requires.plant c.index.ensures in
     let sways = ap (λ f. f.sways) c.self.view_is in
-    let below : c.args.plant < length c.self.inside.sways.items = omega (arith, c.requires.plant, c.requires.fits.1.sways, ap length sways, length-map c.self.inside.sways.items sway_of) in
-    let is = subst (λ l. At l c.args.plant (sway_of c.index-2.result.now)) sways (at_map sway_of c.self.inside.sways.items c.args.plant _ (slice_get_read c.self.inside.sways.items _ c.args.plant _ refl below c.index-2.ensures)) in
+    let below : c.args.plant < length c.self.inside.sways.items =
+    omega (arith, c.requires.plant, c.requires.fits.1.sways, ap length sways, length-map c.self.inside.sways.items sway_of) in
+    let is = subst (λ l. At l c.args.plant (sway_of c.index-2.result.now)) sways
+    (at_map sway_of c.self.inside.sways.items c.args.plant _ (slice_get_read c.self.inside.sways.items _ c.args.plant _ refl below c.index-2.ensures)) in
     c.requires.fits.1.swayed c.args.plant _ _ at is
 
 pub noise_at-requires-clause-there : goal.noise_at-requires-clause-there
@@ -31,8 +33,10 @@ pub returns : goal.returns
 returns c =
     let at = read_at _ _ c.args.plant c.index.result.now (ap (λ t. t.plants) c.p.view_is) c.requires.plant c.index.ensures in
     let sways = ap (λ f. f.sways) c.self.view_is in
-    let below : c.args.plant < length c.self.inside.sways.items = omega (arith, c.requires.plant, c.requires.fits.1.sways, ap length sways, length-map c.self.inside.sways.items sway_of) in
-    let is = subst (λ l. At l c.args.plant (sway_of c.index-2.result.now)) sways (at_map sway_of c.self.inside.sways.items c.args.plant _ (slice_get_read c.self.inside.sways.items _ c.args.plant _ refl below c.index-2.ensures)) in
+    let below : c.args.plant < length c.self.inside.sways.items =
+    omega (arith, c.requires.plant, c.requires.fits.1.sways, ap length sways, length-map c.self.inside.sways.items sway_of) in
+    let is = subst (λ l. At l c.args.plant (sway_of c.index-2.result.now)) sways
+    (at_map sway_of c.self.inside.sways.items c.args.plant _ (slice_get_read c.self.inside.sways.items _ c.args.plant _ refl below c.index-2.ensures)) in
     let number : FitsSigned w64 c.noise_at.result = search rules in
     rw (read_word c.noise_at.result number)
     (subst (λ l. At l c.args.i c.noise_at.result) (sym (stated_at c.args.p.now c.args.self.now c.args.tick c.args.plant _ _ at is)) c.noise_at.ensures)

@@ -25,11 +25,11 @@ pub run_node-requires : goal.run_node-requires
 run_node-requires c =
     subst (λ l. MayRun c.typed.result.now c.args.node (viewed_numbers c.args.view.now) l) (sym c.locals.ensures)
     (subst (λ (p : Tables). MayRun p c.args.node (viewed_numbers c.args.view.now) (viewed_locals c.args.view.now)) (sym c.typed.ensures)
-    (may_run c.args.board.now c.args.node c.args.view.now c.code_runs_on_views.ensures c.is_standing.ensures c.requires.view c.requires.coded))
+    (may_run c.args.board.now c.args.node c.args.view.now c.code_runs_on_views.ensures c.reveal_invariant.ensures c.requires.view c.requires.coded))
 
 pub unreachable-requires : goal.unreachable-requires
 unreachable-requires c =
     no_trap c.run_node.result c.in-Err.field-0 c.in-Err.is
-    (gives c.args.board.now c.args.node c.args.view.now c.code_runs_on_views.ensures c.is_standing.ensures c.requires.view c.requires.coded c.run_node.result
+    (gives c.args.board.now c.args.node c.args.view.now c.code_runs_on_views.ensures c.reveal_invariant.ensures c.requires.view c.requires.coded c.run_node.result
     (subst (λ l. IsExecution c.args.board.now.accepted.program c.args.node (viewed_numbers c.args.view.now) l c.run_node.result) c.locals.ensures
     (subst (λ (p : Tables). IsExecution p c.args.node (viewed_numbers c.args.view.now) c.locals.result c.run_node.result) c.typed.ensures c.run_node.ensures)))
