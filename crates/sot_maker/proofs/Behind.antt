@@ -9,7 +9,8 @@ one_object (Ok t) old one new a x z is last = rw (last, is) (simp append_assoc)
 one_object (Err e) old one new a x z is last = tt
 
 -- three of them, and a last text
-pub three_objects : {T E : Type 0} (r : Result T E) (old one two three new a x b y c w z : List ℕ) → one ≡ old ++ (a ++ x) → two ≡ one ++ (b ++ y) → three ≡ two ++ (c ++ w)
+pub three_objects : {T E : Type 0} (r : Result T E) (old one two three new a x b y c w z : List ℕ) → one ≡ old ++ (a ++ x) → two ≡ one ++ (b ++ y)
+    → three ≡ two ++ (c ++ w)
     → new ≡ (if is_ok r then three ++ z else three) → OnOk r (new ≡ old ++ (a ++ (x ++ (b ++ (y ++ (c ++ (w ++ z)))))))
 three_objects (Ok t) old one two three new a x b y c w z is_one is_two is_three last = rw (last, is_three, is_two, is_one) (simp append_assoc)
 three_objects (Err e) old one two three new a x b y c w z is_one is_two is_three last = tt

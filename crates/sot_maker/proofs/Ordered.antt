@@ -27,7 +27,8 @@ number_more test first k n before after whole lt more is =
     ∙ ap (λ ks. before ++ filter test ks) (sym (numbers_more (first + k) k n lt)) ∙ is
 
 pub digit_more : (test : ℕ → Bool) (d : ℕ) (before after whole : List ℕ) → d < 10 → after ≡ before ++ filter test (led_by d)
-    → before ++ filter test (flat_map led_by (numbers_from d (10 - d))) ≡ whole → after ++ filter test (flat_map led_by (numbers_from (d + 1) (10 - (d + 1)))) ≡ whole
+    → before ++ filter test (flat_map led_by (numbers_from d (10 - d))) ≡ whole
+    → after ++ filter test (flat_map led_by (numbers_from (d + 1) (10 - (d + 1)))) ≡ whole
 digit_more test d before after whole lt more is =
     let rest = flat_map led_by (numbers_from (d + 1) (10 - (d + 1))) in
     ap (λ z. z ++ filter test rest) more
@@ -54,7 +55,8 @@ zero_first n none first empty is =
     ap (λ z. z ++ filter (λ k. nat_lt k n) rest) (is ∙ ap (λ z. z ++ filter (λ k. nat_lt k n) (0 ∷ [])) empty)
     ∙ sym (filter-append (λ k. nat_lt k n) (0 ∷ []) rest)
 
-pub digits_all : (test : ℕ → Bool) (d : ℕ) (after whole : List ℕ) → 10 ≤ d → after ++ filter test (flat_map led_by (numbers_from d (10 - d))) ≡ whole → after ≡ whole
+pub digits_all : (test : ℕ → Bool) (d : ℕ) (after whole : List ℕ) → 10 ≤ d → after ++ filter test (flat_map led_by (numbers_from d (10 - d))) ≡ whole
+    → after ≡ whole
 unfolding numbers_from
 digits_all test d after whole past is =
     let e : 10 - d ≡ 0 = omega arith in

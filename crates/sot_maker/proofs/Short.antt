@@ -6,7 +6,8 @@ use Rattle.sot_maker.specs.declared.member.Member.{Member}
 use Rattle.sot_maker.specs.declared.member.Member.TheVariants.{Cells, Crew, Start, Sway}
 use Rattle.sot_maker.specs.Generator.{word, mission_stream}
 use Rattle.sot_maker.specs.Offsets.{offsets_of}
-use Rattle.sot_maker.specs.Declarations.{topic_text, plant_text, fast_text, code_text, slow_front, slow_text, module_text, declarations_text, declarations_from, program_text}
+use Rattle.sot_maker.specs.Declarations.{topic_text, plant_text, fast_text, code_text, slow_front, slow_text, module_text, declarations_text, declarations_from}
+use Rattle.sot_maker.specs.Declarations.{program_text}
 use Rattle.sot_maker.specs.Members.{cells_text, crew_text, start_text, sway_text, member_text, further, listed, object_text}
 
 -- a decimal of 64 bits has at most 20 digits
@@ -70,7 +71,8 @@ cells_short i fits = (let d = short i fits in simp length-append (omega (arith, 
 
 crew_short : (seed i : ℕ) → seed < 2 ^ 64 → i < 100 → length (crew_text seed i) ≤ 200
 unfolding crew_text
-crew_short seed i fits small = (let d = short i (omega arith) in let e = short seed fits in let f = short (1000 + i) (omega arith) in simp length-append (omega (arith, d, e, f)))
+crew_short seed i fits small =
+    (let d = short i (omega arith) in let e = short seed fits in let f = short (1000 + i) (omega arith) in simp length-append (omega (arith, d, e, f)))
 
 start_short : (i : ℕ) → i < 2 ^ 64 → length (start_text i) ≤ 200
 unfolding start_text

@@ -5,7 +5,8 @@ use Rattle.rand_pcg.specs.Pcg.{multiplier_64, output_xsh_rr}
 
 -- the generator with this seed on this stream, once it has given i words
 abbrev pub words_from : ℕ → ℕ → ℕ → Lcg
-words_from seed stream i = advance 64 multiplier_64 i (started 64 multiplier_64 seed (increment_of 64 stream))
+words_from seed stream i =
+    advance 64 multiplier_64 i (started 64 multiplier_64 seed (increment_of 64 stream))
 
 -- word i, from 0 on, of the generator with this seed on this stream
 abbrev pub word : ℕ → ℕ → ℕ → ℕ

@@ -1,4 +1,5 @@
--- Numbers in the byte order of their names: 10 stands between 1 and 2, wherever names end with a number.
+-- Numbers in the byte order of their names: 10 stands between 1 and 2, wherever names end with a
+-- number.
 use Rattle.std.specs.Prelude.{ℕ, zero, suc, ◌*◌, List, [], ◌∷◌, nat_lt}
 use Rattle.std.specs.List.{flat_map, filter}
 

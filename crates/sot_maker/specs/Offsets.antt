@@ -2,8 +2,9 @@
 use Rattle.std.specs.Prelude.{ℕ, ◌+◌, ◌-◌, ◌*◌, ◌/◌, ◌%◌}
 use Rattle.sot_maker.specs.declared.offsets.Offsets.{Offsets}
 
--- what a word stands for: its last bit says whether the safe node fires at even or at odd instants, the other two take turns in
--- the instants between, and the bit before the last says which of them comes first
+-- what a word stands for: its last bit says whether the safe node fires at even or at odd instants,
+-- the other two take turns in the instants between, and the bit before the last says which of them
+-- comes first
 abbrev pub offsets_of : ℕ → Offsets
 offsets_of w =
     let slow = w % 2 in

@@ -3,7 +3,9 @@
 ghost use Rattle.std.specs.Prelude.{◌≡◌, ◌++◌, OnOk};
 ghost use Rattle.std.specs.String.{string_bytes};
 ghost use Rattle.sot_maker.specs.Offsets.{offsets_of};
-ghost use Rattle.sot_maker.specs.Declarations.{topic_text, plant_text, fast_text, slow_front, code_text, slow_text, module_text, declarations_text, program_text};
+ghost use Rattle.sot_maker.specs.Declarations.{topic_text, plant_text, fast_text, slow_front};
+ghost use Rattle.sot_maker.specs.Declarations.{code_text, slow_text, module_text};
+ghost use Rattle.sot_maker.specs.Declarations.{declarations_text, program_text};
 
 use crate::offsets::offsets_of;
 use rand_core::utils::NextWord;
@@ -80,7 +82,8 @@ fn put_module(out: &mut String, i: u32, offset: u32) -> Result<(), AllocError>
 // The declarations of a module with the offsets that a word stands for.
 #[tactic(auto, unfolding(crate::specs::Declarations::declarations_text))]
 fn put_declarations(out: &mut String, i: u32, word: u32) -> Result<(), AllocError>
-    ensures { OnOk result (string_bytes out.new ≡ string_bytes out.old ++ declarations_text i (offsets_of word)) }
+    ensures { OnOk result (string_bytes out.new
+        ≡ string_bytes out.old ++ declarations_text i (offsets_of word)) }
 {
     let offsets = offsets_of(word);
     put_topic(out, i)?;

@@ -2,7 +2,8 @@
 
 ghost use Rattle.std.specs.Prelude.{◌≡◌, ◌++◌, OnOk};
 ghost use Rattle.std.specs.String.{string_bytes};
-ghost use Rattle.sot_maker.specs.Members.{cells_text, crew_text, start_text, sway_text, member_text, further, listed, object_text};
+ghost use Rattle.sot_maker.specs.Members.{cells_text, crew_text, start_text, sway_text};
+ghost use Rattle.sot_maker.specs.Members.{member_text, further, listed, object_text};
 
 use std::alloc::AllocError;
 
@@ -71,7 +72,8 @@ fn put_member(out: &mut String, member: Member, seed: u64, i: u32) -> Result<(),
 
 // A comma before each member.
 fn put_further(out: &mut String, member: Member, seed: u64, more: &[u32]) -> Result<(), AllocError>
-    ensures { OnOk result (string_bytes out.new ≡ string_bytes out.old ++ further member seed more.now) }
+    ensures { OnOk result (string_bytes out.new
+        ≡ string_bytes out.old ++ further member seed more.now) }
 {
     for i in more {
         out.push_str(",")?;
@@ -82,7 +84,8 @@ fn put_further(out: &mut String, member: Member, seed: u64, more: &[u32]) -> Res
 
 // Members with a comma between two.
 fn put_listed(out: &mut String, member: Member, seed: u64, all: &[u32]) -> Result<(), AllocError>
-    ensures { OnOk result (string_bytes out.new ≡ string_bytes out.old ++ listed member seed all.now) }
+    ensures { OnOk result (string_bytes out.new
+        ≡ string_bytes out.old ++ listed member seed all.now) }
 {
     if all.is_empty() {
         return Ok(());
@@ -99,7 +102,8 @@ pub(crate) fn put_object(
     seed: u64,
     order: &[u32],
 ) -> Result<(), AllocError>
-    ensures { OnOk result (string_bytes out.new ≡ string_bytes out.old ++ object_text member seed order.now) }
+    ensures { OnOk result (string_bytes out.new
+        ≡ string_bytes out.old ++ object_text member seed order.now) }
 {
     out.push_str("{")?;
     put_listed(out, member, seed, order)?;

@@ -18,7 +18,8 @@ fn put_behind(
     seed: u64,
     order: &[u32],
 ) -> Result<(), AllocError>
-    ensures { OnOk result (string_bytes out.new ≡ string_bytes out.old ++ (text.now ++ object_text member seed order.now)) }
+    ensures { OnOk result (string_bytes out.new
+        ≡ string_bytes out.old ++ (text.now ++ object_text member seed order.now)) }
 {
     out.push_str(text)?;
     put_object(out, member, seed, order)
@@ -26,7 +27,8 @@ fn put_behind(
 
 // The certificate of the modules of these numbers.
 fn put_certificate(out: &mut String, seed: u64, order: &[u32]) -> Result<(), AllocError>
-    ensures { OnOk result (string_bytes out.new ≡ string_bytes out.old ++ certificate_text seed order.now) }
+    ensures { OnOk result (string_bytes out.new
+        ≡ string_bytes out.old ++ certificate_text seed order.now) }
 {
     put_behind(
         out,
@@ -40,7 +42,8 @@ fn put_certificate(out: &mut String, seed: u64, order: &[u32]) -> Result<(), All
 
 // Their flight.
 fn put_flight(out: &mut String, seed: u64, order: &[u32]) -> Result<(), AllocError>
-    ensures { OnOk result (string_bytes out.new ≡ string_bytes out.old ++ flight_text seed order.now) }
+    ensures { OnOk result (string_bytes out.new
+        ≡ string_bytes out.old ++ flight_text seed order.now) }
 {
     put_behind(out, "{\"crew\":", Member::Crew, seed, order)?;
     put_behind(
@@ -54,7 +57,8 @@ fn put_flight(out: &mut String, seed: u64, order: &[u32]) -> Result<(), AllocErr
     out.push_str("}")
 }
 
-/// The text of a mission of n modules: its program, its certificate and its flight. The error is want of memory.
+/// The text of a mission of n modules: its program, its certificate and its flight. The error is
+/// want of memory.
 #[tactic(auto, unfolding(crate::specs::Missions::mission_text))]
 pub fn make(alloc: Global, n: u32, seed: u64) -> Result<String, AllocError>
     requires some { 1 ≤ n }

@@ -19,7 +19,8 @@ fn push_below(order: &mut Vec<u32>, k: u32, n: u32) -> Result<(), AllocError>
 // A digit and the numbers of two digits that begin with it, those below n.
 fn push_led(order: &mut Vec<u32>, digit: u32, n: u32) -> Result<(), AllocError>
     requires { digit ≤ 9 }
-    ensures { OnOk result (order.new.items ≡ order.old.items ++ filter (λ k. nat_lt k n) (led_by digit)) }
+    ensures { OnOk result (order.new.items
+        ≡ order.old.items ++ filter (λ k. nat_lt k n) (led_by digit)) }
 {
     push_below(order, digit, n)?;
     for last in 0..10 {

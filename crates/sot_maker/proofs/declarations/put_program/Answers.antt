@@ -20,8 +20,12 @@ loop-i-preserved c =
     let k = c.loop-i.invariant in
     let e : suc c.loop-i.i ≡ c.loop-i.i + 1 = omega arith in
     record {
-      words = ap (λ s. s.1) c.next_word.ensures ∙ ap (next 64 multiplier_64) k.words ∙ words_more c.args.seed mission_stream c.loop-i.i ∙ ap (words_from c.args.seed mission_stream) e;
-      text = module_more c.args.seed c.loop-i.i c.args.n c.next_word.result _ _ _ c.loop-i-test.true (ap (λ s. s.0) c.next_word.ensures ∙ ap (λ g. output_xsh_rr g.state) k.words) c.in_ok-put_declarations.ensures k.text;
+      words =
+          ap (λ s. s.1) c.next_word.ensures ∙ ap (next 64 multiplier_64) k.words ∙ words_more c.args.seed mission_stream c.loop-i.i
+          ∙ ap (words_from c.args.seed mission_stream) e;
+      text =
+          module_more c.args.seed c.loop-i.i c.args.n c.next_word.result _ _ _ c.loop-i-test.true
+          (ap (λ s. s.0) c.next_word.ensures ∙ ap (λ g. output_xsh_rr g.state) k.words) c.in_ok-put_declarations.ensures k.text;
     }
 
 pub returns : goal.returns
