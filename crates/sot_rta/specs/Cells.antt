@@ -1,5 +1,5 @@
 -- What has to hold before the cells of modules are checked.
-use Rattle.std.specs.Prelude.{ℕ, ◌+◌, ◌<◌, List, Result, MatchResult}
+use Rattle.std.specs.Prelude.{ℕ, ◌+◌, ◌<◌, ◌≡◌, List, Result, MatchResult}
 use Rattle.sot_box.specs.Sides.{Side}
 use Rattle.sot_box.specs.BoxList.{BoxList}
 use Rattle.sot_lang.specs.declared.tables.PlantInfo.{PlantInfo}
@@ -29,6 +29,12 @@ pub record MayHaveCells (p : Tables) : Type 0 where
   pub own_plant : NoSharedPlant p
   pub boxes : HaveSafeBoxes p
   pub free : (n : ℕ) (node : NodeInfo) (acts : List Act) → At p.nodes n node → IsCoded node acts → IsTrapFree p node acts
+
+-- these are the intervals of the commands that are held from a cell, with what the safe node surely drafts there
+abbrev pub AreHeldCommands : Tables → ModuleInfo → List Side → List Side → Type 0
+AreHeldCommands p a cell sides =
+    (plant : PlantInfo) (sc : NodeInfo) (acts : List Act) → At p.plants a.plant plant → At p.nodes a.sc sc → IsCoded sc acts
+    → (fired : Intervals) × DraftsFrom p a sc acts cell fired × (sides ≡ command_intervals p plant sc fired.draft)
 
 -- whether the held tube of a cell is inside the safe region, with what the safe node surely drafts from the cell, and else how it leaves
 abbrev pub AnswersHeldTube : Tables → ℕ → ModuleInfo → List Side → Result (Unit {0}) Leave → Type 0

@@ -1,15 +1,16 @@
 //! The cells of a module.
 
-ghost use Rattle.std.specs.Prelude.{◌≡◌, ◌<◌, length};
+ghost use Rattle.std.specs.Prelude.{◌≡◌, ℕ, ◌<◌, length};
 ghost use Rattle.sot_lists.specs.Places.{At};
 ghost use Rattle.sot_box.specs.Sides.{AreOrdered};
 ghost use Rattle.sot_lang.specs.declared.tables.ModuleInfo.{ModuleInfo as Info};
+ghost use Rattle.sot_lang.specs.declared.tables.PlantInfo.{PlantInfo as Plant};
 ghost use Rattle.sot_lang.specs.CertRules.{FitsTables, AreCellsOf};
 ghost use Rattle.sot_lang.specs.OwnerNames.{width_of};
 ghost use Rattle.sot_lang.specs.TableRules.{MeetsTableRules};
 ghost use Rattle.sot_box.specs.Regions.{Covers};
 ghost use Rattle.sot_tube.specs.Verdict.{closed_refusal, reach_refusal, cells_of};
-ghost use Rattle.sot_rta.specs.Cells.{MayHaveCells, MayCheck, AnswersHeldTube, AnswersClosedCell, AnswersReachCell, AnswersClosedPlace, AnswersReachPlace, AnswersClosedCells, AnswersReachCells, AnswersCells};
+ghost use Rattle.sot_rta.specs.Cells.{MayHaveCells, MayCheck, AreHeldCommands, AnswersHeldTube, AnswersClosedCell, AnswersReachCell, AnswersClosedPlace, AnswersReachPlace, AnswersClosedCells, AnswersReachCells, AnswersCells};
 ghost use Rattle.sot_rta.specs.Refused.{Answers, refusal_view};
 
 use crate::commands::put_commands;
@@ -64,6 +65,24 @@ fn reach_refusal(module: u32, cell: u32, leave: Leave) -> Refusal
     }
 }
 
+/// Puts the intervals of the commands that are held from a cell: what the safe node surely drafts with its plant there, and else a
+/// command's whole type. There is a place for each input of the plant. The safe region has to cover the cell. Takes no memory.
+pub fn held_commands(p: &Typed, info: &ModuleInfo, cell: &BoxN, sides: &mut [Interval])
+    requires is { (m : ℕ) × At p.now.modules m info.now }
+    requires rules { MeetsTableRules p.now }
+    requires may { MayHaveCells p.now }
+    requires width { length cell.now ≡ width_of p.now.plants info.now.plant }
+    requires ordered { AreOrdered cell.now }
+    requires covered { Covers info.now.safe.boxes cell.now }
+    requires size { (plant : Plant) → At p.now.plants info.now.plant plant → length sides.old ≡ length plant.inputs.items }
+    ensures { AreHeldCommands p.now info.now cell.now sides.new }
+{
+    let plant = plant_at(p, info.plant);
+    let sc = node_at(p, info.sc);
+    let draft = cell_draft(p, info, sc, cell).unwrap();
+    put_commands(p, &plant.inputs, &sc.writes, &draft, sides);
+}
+
 // The held tube of a cell that the safe region covers.
 fn held_tube(
     p: &Typed,
@@ -83,10 +102,9 @@ fn held_tube(
 {
     let plant = plant_at(p, info.plant);
     let sc = node_at(p, info.sc);
-    let draft = cell_draft(p, info, sc, cell).unwrap();
     let mut inline = [Interval { lo: 0, hi: 0 }; 8];
     let (held, _) = inline.split_at_mut(plant.inputs.len());
-    put_commands(p, &plant.inputs, &sc.writes, &draft, held);
+    held_commands(p, info, cell, held);
     held_inside(p, module, cell, held, sc.period + jitter)
 }
 
