@@ -1,15 +1,19 @@
 //! The cells of a module.
 
-ghost use Rattle.std.specs.Prelude.{◌≡◌, ◌<◌, length};
+ghost use Rattle.std.specs.Prelude.{◌≡◌, ℕ, ◌<◌, length};
 ghost use Rattle.sot_lists.specs.Places.{At};
 ghost use Rattle.sot_box.specs.Sides.{AreOrdered};
 ghost use Rattle.sot_lang.specs.declared.tables.ModuleInfo.{ModuleInfo as Info};
+ghost use Rattle.sot_lang.specs.declared.tables.PlantInfo.{PlantInfo as Plant};
 ghost use Rattle.sot_lang.specs.CertRules.{FitsTables, AreCellsOf};
 ghost use Rattle.sot_lang.specs.OwnerNames.{width_of};
 ghost use Rattle.sot_lang.specs.TableRules.{MeetsTableRules};
 ghost use Rattle.sot_box.specs.Regions.{Covers};
 ghost use Rattle.sot_tube.specs.Verdict.{closed_refusal, reach_refusal, cells_of};
-ghost use Rattle.sot_rta.specs.Cells.{MayHaveCells, MayCheck, AnswersHeldTube, AnswersClosedCell, AnswersReachCell, AnswersClosedPlace, AnswersReachPlace, AnswersClosedCells, AnswersReachCells, AnswersCells};
+ghost use Rattle.sot_rta.specs.Cells.{MayHaveCells, MayCheck, AreHeldCommands, AnswersHeldTube};
+ghost use Rattle.sot_rta.specs.Cells.{AnswersClosedCell, AnswersReachCell, AnswersClosedPlace};
+ghost use Rattle.sot_rta.specs.Cells.{AnswersReachPlace, AnswersClosedCells, AnswersReachCells};
+ghost use Rattle.sot_rta.specs.Cells.{AnswersCells};
 ghost use Rattle.sot_rta.specs.Refused.{Answers, refusal_view};
 
 use crate::commands::put_commands;
@@ -64,6 +68,26 @@ fn reach_refusal(module: u32, cell: u32, leave: Leave) -> Refusal
     }
 }
 
+/// Puts the intervals of the commands that are held from a cell: what the safe node surely drafts
+/// with its plant there, and else a command's whole type. There is a place for each input of the
+/// plant. The safe region has to cover the cell. Takes no memory.
+pub fn held_commands(p: &Typed, info: &ModuleInfo, cell: &BoxN, sides: &mut [Interval])
+    requires is { (m : ℕ) × At p.now.modules m info.now }
+    requires rules { MeetsTableRules p.now }
+    requires may { MayHaveCells p.now }
+    requires width { length cell.now ≡ width_of p.now.plants info.now.plant }
+    requires ordered { AreOrdered cell.now }
+    requires covered { Covers info.now.safe.boxes cell.now }
+    requires size { (plant : Plant) → At p.now.plants info.now.plant plant
+        → length sides.old ≡ length plant.inputs.items }
+    ensures { AreHeldCommands p.now info.now cell.now sides.new }
+{
+    let plant = plant_at(p, info.plant);
+    let sc = node_at(p, info.sc);
+    let draft = cell_draft(p, info, sc, cell).unwrap();
+    put_commands(p, &plant.inputs, &sc.writes, &draft, sides);
+}
+
 // The held tube of a cell that the safe region covers.
 fn held_tube(
     p: &Typed,
@@ -83,15 +107,15 @@ fn held_tube(
 {
     let plant = plant_at(p, info.plant);
     let sc = node_at(p, info.sc);
-    let draft = cell_draft(p, info, sc, cell).unwrap();
     let mut inline = [Interval { lo: 0, hi: 0 }; 8];
     let (held, _) = inline.split_at_mut(plant.inputs.len());
-    put_commands(p, &plant.inputs, &sc.writes, &draft, held);
+    held_commands(p, info, cell, held);
     held_inside(p, module, cell, held, sc.period + jitter)
 }
 
-/// Whether one closed cell keeps: the safe region covers it, and its held tube stays inside for the safe node's period, longer by
-/// the jitter. `i` is the number that a refusal gives the cell. Takes no memory.
+/// Whether one closed cell keeps: the safe region covers it, and its held tube stays inside for the
+/// safe node's period, longer by the jitter. `i` is the number that a refusal gives the cell. Takes
+/// no memory.
 pub fn check_closed_cell(
     p: &Typed,
     jitter: u32,
@@ -123,8 +147,8 @@ pub fn check_closed_cell(
     }
 }
 
-/// Whether one reach cell keeps: its tube stays in the safe region for two periods of the module, each longer by the jitter. `i` is
-/// the number that a refusal gives the cell. Takes no memory.
+/// Whether one reach cell keeps: its tube stays in the safe region for two periods of the module,
+/// each longer by the jitter. `i` is the number that a refusal gives the cell. Takes no memory.
 pub fn check_reach_cell(
     p: &Typed,
     jitter: u32,
@@ -146,7 +170,8 @@ pub fn check_reach_cell(
     }
 }
 
-// What it costs to follow a tube of a plant for so many ticks: a step of each state variable a tick.
+// What it costs to follow a tube of a plant for so many ticks: a step of each state variable a
+// tick.
 fn tube_cost(p: &Typed, plant: u32, ticks: u32) -> u64
     requires { plant < length p.now.plants }
 {
@@ -175,8 +200,10 @@ fn closed_cells<R: Threads + Sync>(
         closed.len() as u32,
         tube_cost(p, info.plant, node_at(p, info.sc).period),
         &|i: u32| -> Result<(), Refusal>
-            requires { MayCheck p.now jitter «module» info.now closed.now × (i < length closed.now.boxes) }
-            ensures { AnswersClosedPlace p.entry.now jitter «module» info.entry.now closed.entry.now.boxes i result }
+            requires { MayCheck p.now jitter «module» info.now closed.now
+                × (i < length closed.now.boxes) }
+            ensures { AnswersClosedPlace p.entry.now jitter «module» info.entry.now
+                closed.entry.now.boxes i result }
         { check_closed_cell(p, jitter, module, info, i, &closed.at(i as usize)) },
     )
 }
@@ -202,8 +229,10 @@ fn reach_cells<R: Threads + Sync>(
         reach.len() as u32,
         tube_cost(p, info.plant, info.period.saturating_mul(2)),
         &|i: u32| -> Result<(), Refusal>
-            requires { MayCheck p.now jitter «module» info.now reach.now × (i < length reach.now.boxes) }
-            ensures { AnswersReachPlace p.entry.now jitter «module» info.entry.now reach.entry.now.boxes i result }
+            requires { MayCheck p.now jitter «module» info.now reach.now
+                × (i < length reach.now.boxes) }
+            ensures { AnswersReachPlace p.entry.now jitter «module» info.entry.now
+                reach.entry.now.boxes i result }
         { check_reach_cell(p, jitter, module, info, i, &reach.at(i as usize)) },
     )
 }
@@ -237,10 +266,12 @@ fn cells_of<R: Threads + Sync>(
     reach_cells(rt, p, jitter, module, info, &cells.reach)
 }
 
-/// Whether the cells that a certificate gives for a module show what they are to show, in this order: the closed cells cover the
-/// safe region; the held tube of each stays in it; the reach cells cover the safer region; the tube of each stays in the safe
-/// region for two periods. Each period is longer by the certificate's jitter. A module without an entry has no cells to check.
-/// A long list of cells is checked by several threads; a refusal is that of its first cell that fails all the same. Takes no memory.
+/// Whether the cells that a certificate gives for a module show what they are to show, in this
+/// order: the closed cells cover the safe region; the held tube of each stays in it; the reach
+/// cells cover the safer region; the tube of each stays in the safe region for two periods. Each
+/// period is longer by the certificate's jitter. A module without an entry has no cells to check. A
+/// long list of cells is checked by several threads; a refusal is that of its first cell that fails
+/// all the same. Takes no memory.
 pub fn check_cells<R: Threads + Sync>(
     rt: &R,
     p: &Typed,
@@ -250,7 +281,8 @@ pub fn check_cells<R: Threads + Sync>(
     requires module_is { «module» < length p.now.modules }
     requires fits { FitsTables p.now c.now }
     requires may { MayHaveCells p.now }
-    ensures { (a : Info) → At p.now.modules «module» a → Answers (cells_of p.now c.now.jitter c.now «module» a) result }
+    ensures { (a : Info) → At p.now.modules «module» a
+        → Answers (cells_of p.now c.now.jitter c.now «module» a) result }
 {
     let info = module_at(p, module);
     match &c.modules[module as usize] {

@@ -10,7 +10,7 @@ mod refusal;
 mod shape;
 mod topics;
 
-pub use cells::{check_cells, check_closed_cell, check_reach_cell};
+pub use cells::{check_cells, check_closed_cell, check_reach_cell, held_commands};
 pub use places::{module_at, node_at, plant_at};
 pub use refusal::Refusal;
 pub use shape::{check_nodes, check_regions, check_shape};
