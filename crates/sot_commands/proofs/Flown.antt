@@ -18,8 +18,9 @@ use Rattle.sot_report.specs.Missions.{Mission, SaysFlight}
 use Rattle.sot_commands.specs.declared.answer.Answer.{Answer}
 use Rattle.sot_commands.specs.Answers.{IsOutsideOf, SpellsFor}
 use Rattle.sot_commands.specs.declared.telling.Telling.{Telling}
-use Rattle.sot_commands.specs.declared.telling.Telling.TheVariants.{Trace, Summed}
-use Rattle.sot_commands.specs.Steps.{told_text, IsToldOf, JudgesFlight}
+use Rattle.sot_commands.specs.declared.telling.Telling.TheVariants.{Trace, Summary}
+use Rattle.sot_commands.specs.Orders.{IsToldOf}
+use Rattle.sot_commands.specs.Steps.{told_text, JudgesFlight}
 
 -- a safer opening at the flight's points
 pub starts_inside : (t : Tables) (f : Plan) (P : Position) → IsStart t f P → IsSafer t P.at → StartInside t f.start (length t.modules)
@@ -29,7 +30,7 @@ starts_inside t f P start safer = λ k a lt at. subst (λ points. IsInRegion a.s
 told_of : (telling : Telling) (t : Tables) (jitter : ℕ) (f : Plan) (history : List Logged) (text : List ℕ) → StartInside t f.start (length t.modules) → FlownBy t jitter f history
     → text ≡ told_text telling t f history → IsToldOf telling t jitter f text
 told_of Trace t jitter f history text inside flown said = (inside, (history, flown, said))
-told_of Summed t jitter f history text inside flown said = (inside, (history, flown, said))
+told_of Summary t jitter f history text inside flown said = (inside, (history, flown, said))
 
 pub told_result :
     (r : Result Answer AllocError) (telling : Telling) (acc : Admitted) (f : Plan) (b : Standing) → b.accepted ≡ acc → b.plan ≡ f → StartInside acc.program f.start (length acc.program.modules)

@@ -25,7 +25,8 @@ use Rattle.sot_commands.specs.declared.answer.Answer.{Answer}
 use Rattle.sot_commands.specs.declared.words.Command.TheVariants.{Check, Format}
 use Rattle.sot_commands.specs.Answers.{SpellsFor, Replies}
 use Rattle.sot_commands.specs.declared.telling.Telling.{Telling}
-use Rattle.sot_commands.specs.Steps.{Judges, JudgesFlight, JudgesFlown, FliesBytes}
+use Rattle.sot_commands.specs.Orders.{FliesBytes}
+use Rattle.sot_commands.specs.Steps.{Judges, JudgesFlight, JudgesFlown}
 
 -- `format`: a text that spells a program has its canonical text said
 pub formatted_result : (guests : ℕ) (r : Result Answer AllocError) (bytes : List ℕ) (program : Program) → Spells bytes 0 program → IfOk r (λ a. a.status ≡ 0) → IfOk r (λ a. a.text.items ≡ canonical program)

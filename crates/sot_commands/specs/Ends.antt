@@ -18,6 +18,15 @@ pub record Outside : Type 0 where
   pub read_faults : ℕ
   pub write_faults : ℕ
 
+abbrev pub outside : Option (List ℕ) → Option (List ℕ) → ℕ → ℕ → Outside
+outside left held read_faults write_faults = record { left = left; held = held; read_faults = read_faults; write_faults = write_faults }
+
+-- a text was written without a fault and this is its status, or the sink failed before its end
+abbrev pub Written : Option (List ℕ) → Option (List ℕ) → ℕ → ℕ → ℕ → List ℕ → ℕ → Type 0
+Written held held_after faults faults_after said text status =
+    ((status ≡ said) × (faults_after ≡ faults) × Appends held held_after text)
+    ⊎ ((status ≡ 5) × Rose faults faults_after × ((n : ℕ) × (n < length text) × Appends held held_after (take n text)))
+
 -- what a command takes of a source: all that it has left; and nothing for `make` and `soak`, which have no input
 abbrev pub Takes : Command → Option (List ℕ) → Option (List ℕ) → List ℕ → Type 0
 Takes Check left after bytes = ReadsAll left after bytes

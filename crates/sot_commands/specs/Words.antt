@@ -53,6 +53,20 @@ Reads Certify = Unit {0}
 Reads (Make n seed) = ⊥
 Reads (Soak n seed) = ⊥
 
+-- the commands that fly
+abbrev pub Flies : Command → Type 0
+Flies Check = ⊥
+Flies Fly = Unit {0}
+Flies Replay = ⊥
+Flies Format = ⊥
+Flies Certify = ⊥
+Flies (Make n seed) = ⊥
+Flies (Soak n seed) = Unit {0}
+
+-- the words ask for a command that flies
+abbrev pub AsksFlight : List (String Global) → Type 0
+AsksFlight words = (command : Command) × Flies command × Asks words command
+
 -- the words ask for a command that reads, or for none that does
 abbrev pub AsksReader : List (String Global) → Type 0
 AsksReader words = (command : Command) × Reads command × Asks words command

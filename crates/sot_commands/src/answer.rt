@@ -1,6 +1,6 @@
 //! Answers: a status with the text that is written with it.
 
-ghost use Rattle.std.specs.Prelude.{◌≡◌, ℕ, [], IfOk};
+ghost use Rattle.std.specs.Prelude.{◌≡◌, ℕ, IfOk};
 ghost use Rattle.std.specs.String.{string_bytes};
 ghost use Rattle.sot_tree.specs.TreeViews.{program_view};
 ghost use Rattle.sot_lang.specs.CertRules.{FitsTables};
@@ -9,10 +9,10 @@ ghost use Rattle.sot_rta.specs.Refused.{refusal_view};
 ghost use Rattle.sot_world.specs.Opens.{IsFirstOutside};
 ghost use Rattle.sot_flight.specs.Fits.{FitsFlight};
 ghost use Rattle.sot_commands.specs.ReplayTexts.{legal_text, kind_word, refused_line_text};
-ghost use Rattle.sot_commands.specs.Answers.{IsOutsideOf, Replies};
+ghost use Rattle.sot_commands.specs.Answers.{IsOutsideOf};
 ghost use Rattle.sot_commands.specs.Steps.{told_text};
 ghost use Rattle.sot_commands.specs.Words.{AreAsked};
-ghost use Rattle.sot_commands.specs.declared.words.Command.TheVariants.{Make as MakeCommand};
+ghost use Rattle.sot_maker.specs.Missions.{mission_text as made_text};
 ghost use Rattle.sot_report.specs.FaultTexts.{fault_text};
 ghost use Rattle.sot_report.specs.RefusalTexts.{refusal_text};
 ghost use Rattle.sot_report.specs.AcceptedTexts.{accepted_text};
@@ -66,7 +66,8 @@ pub fn canonical(alloc: Global, program: &Program) -> Result<Answer, AllocError>
 /// Status 0: the mission that is made from two numbers.
 pub fn made(alloc: Global, n: u32, seed: u64) -> Result<Answer, AllocError>
     requires { AreAsked n seed }
-    ensures { (guests : ℕ) → IfOk result (λ answer. Replies guests (MakeCommand n seed) [] answer.status answer.text.items) }
+    ensures status { IfOk result (λ answer. answer.status ≡ 0) }
+    ensures text { IfOk result (λ answer. answer.text.items ≡ made_text n seed) }
 {
     let text = make(alloc, n, seed)?;
     Ok(Answer {
@@ -103,7 +104,7 @@ fn told_text(alloc: Global, telling: Telling, board: &Board<'_>) -> Result<Strin
 {
     match telling {
         Telling::Trace => board_text(alloc, board),
-        Telling::Summed => summary_text(alloc, &board_summary(board)),
+        Telling::Summary => summary_text(alloc, &board_summary(board)),
     }
 }
 

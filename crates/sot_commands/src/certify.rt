@@ -12,7 +12,7 @@ ghost use Rattle.sot_commands.specs.declared.words.Command.TheVariants.{Certify 
 use crate::answer::{Answer, faulty, uncertified};
 use sot_certified_text::mission_text;
 use sot_certify::{CertifyFail, certify as certificate};
-use sot_compose::{CheckFail, check_all};
+use sot_compose::check_all;
 use sot_lang::{Cert, Typed};
 use sot_parser::{ParseFail, parse};
 use sot_ports::{Process, let_go};
@@ -33,8 +33,7 @@ fn read_back<R: Threads + Sync>(rt: &R, alloc: Global, text: &[u8]) -> Result<()
     match load(alloc, text, Need::Check, 0, Process::GoesOn) {
         Ok(loaded) => match check_all(rt, &loaded.program, &loaded.cert) {
             Ok(_accepted) => Ok(()),
-            Err(CheckFail::Refused(_)) => unreachable!(),
-            Err(CheckFail::Memory) => Err(AllocError),
+            Err(_) => unreachable!(),
         },
         Err(LoadFail::Fault(_)) => unreachable!(),
         Err(LoadFail::Memory) => Err(AllocError),

@@ -12,10 +12,16 @@ mod answer;
 mod certify;
 mod check;
 mod facts;
+mod flight;
 mod fly;
+mod input;
 mod laws;
+mod order;
+mod program;
 mod replay;
+mod reply;
 mod soak;
+mod status;
 mod telling;
 mod top;
 mod words;
@@ -25,5 +31,11 @@ pub use laws::{
     accepted_once, flew_once, lines_refused_once, named_are_asked, others_stay, refused_once,
     rejected_once,
 };
-pub use top::{Status, soter};
+pub use order::{Begun, FlightOrder};
+pub use program::run;
+pub use sot_node_worker::Controller;
+pub use sot_ports::{Process, Sink, Source, StdSink, StdSource};
+pub use status::Status;
+pub use telling::Telling;
+pub use top::{begin, fly_to_the_end, soter};
 pub use words::{Command, WordFail, command_of};

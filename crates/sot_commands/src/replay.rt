@@ -10,7 +10,7 @@ ghost use Rattle.sot_commands.specs.Steps.{JudgesLines, JudgesReplayed};
 ghost use Rattle.sot_commands.specs.declared.words.Command.TheVariants.{Replay as ReplayCommand};
 
 use crate::answer::{Answer, faulty, legal, outside, refused, refused_line};
-use sot_compose::{CheckFail, check_all};
+use sot_compose::check_all;
 use sot_flight::Flight;
 use sot_lang::{Cert, Typed};
 use sot_ports::{Process, let_go};
@@ -61,8 +61,7 @@ fn judge<R: Threads + Sync>(
 {
     match check_all(rt, program, cert) {
         Ok(accepted) => replay_accepted(alloc, &accepted, flight, guests, trace),
-        Err(CheckFail::Refused(refusal)) => refused(alloc, program, &refusal),
-        Err(CheckFail::Memory) => Err(AllocError),
+        Err(refusal) => refused(alloc, program, &refusal),
     }
 }
 

@@ -14,7 +14,6 @@ ghost use Rattle.sot_rta.specs.Refused.{Answers, refusal_view};
 ghost use Rattle.sot_compose.specs.Accepting.{Accepts};
 
 use crate::composition::check_composition;
-use crate::fail::CheckFail;
 use sot_iv::MayTrap;
 use sot_lang::{Cert, NodeInfo, Typed};
 use sot_rta::{Refusal, check_cells, check_shape, module_at, node_at};
@@ -28,6 +27,7 @@ fn shapes(p: &Typed, c: &Cert) -> Result<(), Refusal>
     ensures { Answers (for_each p.now.modules (shape p.now c.now)) result }
 {
     for module in 0..p.modules.len() as u32 {
+        // The proof speaks of the module that stands there.
         let _info = module_at(p, module);
         if let Err(refusal) = check_shape(p, module, c) {
             return Err(refusal);
@@ -85,6 +85,7 @@ fn cells<R: Threads + Sync>(rt: &R, p: &Typed, c: &Cert) -> Result<(), Refusal>
     ensures { Answers (for_each p.now.modules (cells_of p.now c.now.jitter c.now)) result }
 {
     for module in 0..p.modules.len() as u32 {
+        // The proof speaks of the module that stands there.
         let _info = module_at(p, module);
         if let Err(refusal) = check_cells(rt, p, module, c) {
             return Err(refusal);
@@ -122,7 +123,7 @@ pub fn check_all<'a, R: Threads + Sync>(
     rt: &R,
     p: &'a Typed,
     c: &'a Cert,
-) -> Result<Accepted<'a>, CheckFail>
+) -> Result<Accepted<'a>, Refusal>
     requires { FitsTables p.now c.now }
     ensures answer { Accepts p.now c.now result }
     ensures safe { IfOk result (λ _. EveryRunIsSafe p.now c.now.jitter) }
@@ -131,6 +132,6 @@ pub fn check_all<'a, R: Threads + Sync>(
     let _modules = p.modules.len();
     match checked(rt, p, c) {
         Ok(()) => Ok(Accepted::of(p, c)),
-        Err(refusal) => Err(CheckFail::Refused(refusal)),
+        Err(refusal) => Err(refusal),
     }
 }

@@ -8,11 +8,9 @@
 mod check;
 mod clash;
 mod composition;
-mod fail;
 mod ordered;
 mod outputs;
 mod parts;
 
 pub use check::{check_all, check_codes};
 pub use composition::check_composition;
-pub use fail::CheckFail;

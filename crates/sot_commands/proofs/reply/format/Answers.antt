@@ -1,7 +1,7 @@
 use Rattle.std.proofs.Common.{◌≡◌, Err, ap, subst, IfOk}
 use Rattle.sot_report.specs.FaultTexts.{syntax_text}
 use Rattle.sot_commands.proofs.Forms.{formatted_result, misspelled_result}
-use Rattle.sot_commands.proofs.top.format.Goals as goal
+use Rattle.sot_commands.proofs.reply.format.Goals as goal
 
 pub returns-in-Ok : goal.returns-in-Ok
 returns-in-Ok c =
