@@ -60,9 +60,13 @@ module _ (p : Tables) (cert : Cert) (rules : MeetsTableRules p) where
     boxes = λ m a at. (passes.1.0 m a at).1;
     trap_free = λ n node acts at coded. passes.1.1 n node at acts coded;
     closed_cover = λ m a cells at has. (whole_each (IsGood p a false) a.safe.boxes cells.closed.boxes (closed m a cells at has).whole).holds;
-    closed_cells = λ m a plant sc acts cells i cell at at_p at_s coded has at_i. (whole_each (IsGood p a false) a.safe.boxes cells.closed.boxes (closed m a cells at has).whole).good i cell at_i plant sc acts at_p at_s coded;
+    closed_cells =
+        λ m a plant sc acts cells i cell at at_p at_s coded has at_i.
+        (whole_each (IsGood p a false) a.safe.boxes cells.closed.boxes (closed m a cells at has).whole).good i cell at_i plant sc acts at_p at_s coded;
     reach_cover = λ m a cells at has. (whole_each (IsGood p a true) a.safer.boxes cells.reach.boxes (reach m a cells at has).whole).holds;
-    reach_cells = λ m a plant cells i cell at at_p has at_i. (whole_each (IsGood p a true) a.safer.boxes cells.reach.boxes (reach m a cells at has).whole).good i cell at_i plant at_p;
+    reach_cells =
+        λ m a plant cells i cell at at_p has at_i. (whole_each (IsGood p a true) a.safer.boxes cells.reach.boxes (reach m a cells at has).whole).good i cell
+        at_i plant at_p;
   }
     where
       closed : (m : ℕ) (a : ModuleInfo) (cells : Cells) → At p.modules m a → HasCells cert m cells → IsMade p a false cells.closed.boxes

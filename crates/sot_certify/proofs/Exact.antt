@@ -26,12 +26,14 @@ use Rattle.sot_certify.specs.Laws.{SameFail, SameAnswer, AnswersAreOne}
 
 frame_exact : (p : Tables) (m : ℕ) (a : ModuleInfo) → IsExact (frame p m a)
 frame_exact p m a =
-    and_then_exact (and_then (periods p m a) (outputs p m a)) (boxes m a) (and_then_exact (periods p m a) (outputs p m a) (periods_exact p m a) (outputs_exact p m a)) (boxes_exact m a)
+    and_then_exact (and_then (periods p m a) (outputs p m a)) (boxes m a)
+    (and_then_exact (periods p m a) (outputs p m a) (periods_exact p m a) (outputs_exact p m a)) (boxes_exact m a)
 
 without_exact : (p : Tables) → IsExact (without_cells p)
 without_exact p =
     and_then_exact (composition p) (and_then (for_each p.modules (frame p)) (for_each p.nodes (code p))) (composition_exact p)
-    (and_then_exact (for_each p.modules (frame p)) (for_each p.nodes (code p)) (for_each_exact p.modules (frame p) (frame_exact p)) (for_each_exact p.nodes (code p) (code_exact p)))
+    (and_then_exact (for_each p.modules (frame p)) (for_each p.nodes (code p)) (for_each_exact p.modules (frame p) (frame_exact p))
+    (for_each_exact p.nodes (code p) (code_exact p)))
 
 -- a list that begins with more than 4,096 cells has more
 too_long : (cells first : List (List Side)) → BeginsWith cells first → length cells ≤ 4096 → 4096 < length first → ⊥
@@ -42,10 +44,14 @@ module _ (p : Tables) (a : ModuleInfo) (reach : Bool) where
   made_or_fails cells s made fails = each_agree (IsGood p a reach) (region_of a reach).boxes (Whole cells) (Failing fails.cells s) made.whole fails.found
 
   made_or_many : (cells : List (List Side)) → IsMade p a reach cells → HasTooMany p a reach → ⊥
-  made_or_many cells made many = too_long cells many.cells (each_agree (IsGood p a reach) (region_of a reach).boxes (Whole cells) (Begun many.cells) made.whole many.found) made.few many.many
+  made_or_many cells made many =
+      too_long cells many.cells (each_agree (IsGood p a reach) (region_of a reach).boxes (Whole cells) (Begun many.cells) made.whole many.found) made.few
+      many.many
 
   fails_or_many : (s : List ℤ) → FailsAt p a reach s → HasTooMany p a reach → ⊥
-  fails_or_many s fails many = too_long fails.cells many.cells (each_agree (IsGood p a reach) (region_of a reach).boxes (Failing fails.cells s) (Begun many.cells) fails.found many.found) fails.few many.many
+  fails_or_many s fails many =
+      too_long fails.cells many.cells (each_agree (IsGood p a reach) (region_of a reach).boxes (Failing fails.cells s) (Begun many.cells) fails.found
+      many.found) fails.few many.many
 
   one_point : (s t : List ℤ) → FailsAt p a reach s → FailsAt p a reach t → s ≡ t
   one_point s t f g = (each_agree (IsGood p a reach) (region_of a reach).boxes (Failing f.cells s) (Failing g.cells t) f.found g.found).1
@@ -66,13 +72,15 @@ record SameList (m n : ℕ) (a b : ModuleInfo) (r q : Bool) : Type 0 where
   info : a ≡ b
   sort : r ≡ q
 
-same_sort : (p : Tables) (a : ModuleInfo) (r q : Bool) → IsStuck p a r → IsStuck p a q → (r ≡ true → (cells : List (List Side)) × IsMade p a false cells) → (q ≡ true → (cells : List (List Side)) × IsMade p a false cells) → r ≡ q
+same_sort : (p : Tables) (a : ModuleInfo) (r q : Bool) → IsStuck p a r → IsStuck p a q → (r ≡ true → (cells : List (List Side)) × IsMade p a false cells)
+    → (q ≡ true → (cells : List (List Side)) × IsMade p a false cells) → r ≡ q
 same_sort p a false false f g h k = refl
 same_sort p a true true f g h k = refl
 same_sort p a false true f g h k = absurd (not_made p a false f (k refl))
 same_sort p a true false f g h k = absurd (not_made p a false g (h refl))
 
-same_list : (p : Tables) (m n : ℕ) (a b : ModuleInfo) (r q : Bool) → AreMadeBefore p m a r → AreMadeBefore p n b q → IsStuck p a r → IsStuck p b q → SameList m n a b r q
+same_list : (p : Tables) (m n : ℕ) (a b : ModuleInfo) (r q : Bool) → AreMadeBefore p m a r → AreMadeBefore p n b q → IsStuck p a r → IsStuck p b q
+    → SameList m n a b r q
 same_list p m n a b r q h k f g =
     by_order m n
     (λ less. absurd (not_made p a r f (k.earlier m a r less h.is)))
@@ -82,7 +90,9 @@ same_list p m n a b r q h k f g =
     record {
       place = same;
       info = one;
-      sort = same_sort p b r q (subst (λ (x : ModuleInfo). IsStuck p x r) one f) g (subst (λ (x : ModuleInfo). r ≡ true → (cells : List (List Side)) × IsMade p x false cells) one h.closed) k.closed;
+      sort =
+          same_sort p b r q (subst (λ (x : ModuleInfo). IsStuck p x r) one f) g
+          (subst (λ (x : ModuleInfo). r ≡ true → (cells : List (List Side)) × IsMade p x false cells) one h.closed) k.closed;
     })
 
 same_fail : (p : Tables) (e f : CertifyFail) → Fails p e → Fails p f → SameFail e f
@@ -132,8 +142,10 @@ answers_are_one p (Ok c) (Ok d) h k = λ m a x y at has_x has_y.
     let f = k.1.cells m a at in
     let ex = cells_same c m e.0 x e.1 has_x in
     let fy = cells_same d m f.0 y f.1 has_y in (
-      one_list p a false x.closed.boxes y.closed.boxes (subst (λ (z : Cells). IsMade p a false z.closed.boxes) ex e.2.closed) (subst (λ (z : Cells). IsMade p a false z.closed.boxes) fy f.2.closed),
-      one_list p a true x.reach.boxes y.reach.boxes (subst (λ (z : Cells). IsMade p a true z.reach.boxes) ex e.2.reach) (subst (λ (z : Cells). IsMade p a true z.reach.boxes) fy f.2.reach),
+      one_list p a false x.closed.boxes y.closed.boxes (subst (λ (z : Cells). IsMade p a false z.closed.boxes) ex e.2.closed)
+          (subst (λ (z : Cells). IsMade p a false z.closed.boxes) fy f.2.closed),
+      one_list p a true x.reach.boxes y.reach.boxes (subst (λ (z : Cells). IsMade p a true z.reach.boxes) ex e.2.reach)
+          (subst (λ (z : Cells). IsMade p a true z.reach.boxes) fy f.2.reach),
     )
 answers_are_one p (Ok c) (Err e) h k = made_fails p c e h k
 answers_are_one p (Err e) (Ok d) h k = fails_made p d e k h

@@ -49,13 +49,15 @@ closed p a s plant sc acts fired at at_s coded drafts h inside =
     let same : sc ≡ sc' = at_same p.nodes a.sc sc sc' at_s at_s' in
     subst (λ (x : PlantInfo). IsClosedCell p 0 a x sc' acts' (point_box s)) (at_same p.plants a.plant plant plant' at at')
     (subst (λ (y : NodeInfo). IsClosedCell p 0 a plant y acts' (point_box s)) same
-    (subst (λ us. IsClosedCell p 0 a plant sc us (point_box s)) (one_body sc acts acts' coded (subst (λ (y : NodeInfo). IsCoded y acts') (sym same) coded')) cell)))
+    (subst (λ us. IsClosedCell p 0 a plant sc us (point_box s)) (one_body sc acts acts' coded (subst (λ (y : NodeInfo). IsCoded y acts') (sym same) coded'))
+    cell)))
 
 pub reach : (p : Tables) (a : ModuleInfo) (s : List ℤ) (plant : PlantInfo) → At p.plants a.plant plant → FailsAt p a true s
     → AnyTubeInside p plant a.safe.boxes (point_box s) (2 * a.period) → ⊥
 reach p a s plant at h inside =
     let f = failing_each (IsGood p a true) a.safer.boxes h.cells s h.found in
-    let cell : IsReachCell p 0 a plant (point_box s) = subst (λ n. AnyTubeInside p plant a.safe.boxes (point_box s) (2 * n)) (sym (none_more a.period)) inside in
+    let cell : IsReachCell p 0 a plant (point_box s) = subst (λ n. AnyTubeInside p plant a.safe.boxes (point_box s) (2 * n)) (sym (none_more a.period)) inside
+    in
     f.1 (λ plant' at'. subst (λ (x : PlantInfo). IsReachCell p 0 a x (point_box s)) (at_same p.plants a.plant plant plant' at at') cell)
 
 pub tubes_leave : TubesOfFailingPointsLeave

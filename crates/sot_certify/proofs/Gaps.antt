@@ -37,7 +37,13 @@ module _ (A B : ℤ → Type 0) (each : (z : ℤ) → A z ⊎ B z) where
         before = λ z low less. one_more x here z (λ above. f.before z above less) low;
       }))
       (first_of n (x +ℤ pos 1)))
-      (λ out. inr (record { number = x; low = omega (arith, ints); high = omega (arith, ints); here = out; before = λ z low less. absurd (omega (arith, ints, low, less)) }))
+      (λ out. inr (record {
+        number = x;
+        low = omega (arith, ints);
+        high = omega (arith, ints);
+        here = out;
+        before = λ z low less. absurd (omega (arith, ints, low, less));
+      }))
       (each x)
 
   -- of an interval
@@ -62,13 +68,15 @@ none_before : (P : List ℤ → Type 0) (t : List ℤ) → IsBefore t [] → P t
 none_before P [] before = absurd before
 none_before P (x ∷ xs) before = absurd before
 
-least_by_first : (P : List ℤ → Type 0) (r : Side) (rs : List Side) (z : ℤ) (s : List ℤ) → ((y : ℤ) → r.lo ≤ℤ y → y <ℤ z → (t : List ℤ) → IsWithin rs t → P (y ∷ t)) → IsLeastWithout (λ t. P (z ∷ t)) rs s
+least_by_first : (P : List ℤ → Type 0) (r : Side) (rs : List Side) (z : ℤ) (s : List ℤ)
+    → ((y : ℤ) → r.lo ≤ℤ y → y <ℤ z → (t : List ℤ) → IsWithin rs t → P (y ∷ t)) → IsLeastWithout (λ t. P (z ∷ t)) rs s
     → (t : List ℤ) → IsWithin (r ∷ rs) t → IsBefore t (z ∷ s) → P t
 least_by_first P r rs z s earlier least [] w before = absurd w
 least_by_first P r rs z s earlier least (y ∷ ys) w before =
     ⊎_elim (λ less. earlier y w.0 less ys w.2) (λ same. subst (λ q. P (q ∷ ys)) (sym same.0) (least.least ys w.2 same.1)) before
 
-all_or_least : (box : List Side) (P : List ℤ → Type 0) → ((s : List ℤ) → P s ⊎ (P s → ⊥)) → ((s : List ℤ) → IsWithin box s → P s) ⊎ ((s : List ℤ) × IsLeastWithout P box s)
+all_or_least : (box : List Side) (P : List ℤ → Type 0) → ((s : List ℤ) → P s ⊎ (P s → ⊥))
+    → ((s : List ℤ) → IsWithin box s → P s) ⊎ ((s : List ℤ) × IsLeastWithout P box s)
 all_or_least [] P each =
     ⊎_elim
     (λ here. inl (all_without_axes P here))
@@ -90,4 +98,5 @@ all_or_least (r ∷ rs) P each =
 
 pub covers_or_gap : (region : List (List Side)) (box : List Side) → Covers region box ⊎ ((s : List ℤ) × IsGap region box s)
 covers_or_gap region box =
-    ⊎_elim (λ all. inl all) (λ h. inr (h.0, record { inside = h.1.inside; outside = h.1.missed; least = h.1.least })) (all_or_least box (IsInRegion region) (region_cases region))
+    ⊎_elim (λ all. inl all) (λ h. inr (h.0, record { inside = h.1.inside; outside = h.1.missed; least = h.1.least }))
+    (all_or_least box (IsInRegion region) (region_cases region))

@@ -47,7 +47,8 @@ ordered_map f (x ∷ xs) h = (h x (0, refl), ordered_map f xs (λ y has. h y (su
 
 narrow_self : (rs : List Side) → AreOrdered rs → AreNarrower rs rs
 narrow_self [] o = tt
-narrow_self (r ∷ rs) o = (let low : r.lo ≤ℤ r.lo = omega (arith, ints) in let high : r.hi ≤ℤ r.hi = omega (arith, ints) in ((low, o.0, high), narrow_self rs o.1))
+narrow_self (r ∷ rs) o =
+    (let low : r.lo ≤ℤ r.lo = omega (arith, ints) in let high : r.hi ≤ℤ r.hi = omega (arith, ints) in ((low, o.0, high), narrow_self rs o.1))
 
 -- a command's interval has a number in it, where those of the drafts have
 sure_ordered : (whole : Side) (d e : Drafted) → IsOrdered whole → IsNarrowerDraft d e → IsOrdered (sure_interval whole d)
@@ -61,7 +62,8 @@ either_ordered : (t : Bool) (x y : Side) → IsOrdered x → IsOrdered y → IsO
 either_ordered true x y a b = a
 either_ordered false x y a b = b
 
-command_ordered : (p : Tables) (ws : List ℕ) (ds es : List Drafted) (k : ℕ) → AreOrdered (scalar_ranges p) → AreNarrowerDrafts ds es → IsOrdered (command_interval p ws ds k)
+command_ordered : (p : Tables) (ws : List ℕ) (ds es : List Drafted) (k : ℕ) → AreOrdered (scalar_ranges p) → AreNarrowerDrafts ds es
+    → IsOrdered (command_interval p ws ds k)
 command_ordered p [] ds es k o n = ordered_read (scalar_ranges p) k o
 command_ordered p (w ∷ ws) [] es k o n = ordered_read (scalar_ranges p) k o
 command_ordered p (w ∷ ws) (d ∷ ds) (e ∷ es) k o n =
@@ -79,7 +81,8 @@ module _ (p : Tables) (rules : MeetsTableRules p) (a : ModuleInfo) (plant : Plan
   locals_ordered = within_in_order (local_ranges sc) (map (λ l. l.init) sc.locals.items) (rules.typed.local_inits a.sc sc sc_at)
 
   -- what the node reads, with its plant in a box
-  readings_ordered : (hulls : List (List Side)) (cell : List Side) → AllHulls p hulls → AreOrdered cell → AreOrdered (reading_intervals p sc (slice_set hulls a.plant cell))
+  readings_ordered : (hulls : List (List Side)) (cell : List Side) → AllHulls p hulls → AreOrdered cell
+      → AreOrdered (reading_intervals p sc (slice_set hulls a.plant cell))
   readings_ordered hulls cell are ordered = ordered_map (interval_at p (slice_set hulls a.plant cell)) sc.reads.items each
     where
       lt : a.plant < length hulls
@@ -88,10 +91,12 @@ module _ (p : Tables) (rules : MeetsTableRules p) (a : ModuleInfo) (plant : Plan
       boxes : (k v : ℕ) → Has sc.reads.items (State k v) → AreOrdered (slice_index_or (slice_set hulls a.plant cell) k [])
       boxes k v has =
           ⊎_elim
-          (λ (same : k ≡ a.plant). subst (λ q. AreOrdered (slice_index_or (slice_set hulls a.plant cell) q [])) (sym same) (subst AreOrdered (sym (get_or-set_same hulls a.plant cell [] lt)) ordered))
+          (λ (same : k ≡ a.plant). subst (λ q. AreOrdered (slice_index_or (slice_set hulls a.plant cell) q [])) (sym same)
+          (subst AreOrdered (sym (get_or-set_same hulls a.plant cell [] lt)) ordered))
           (λ (ne : k ≡ a.plant → ⊥). let other = rules.typed.reads_are a.sc sc k v sc_at has in
           let hull = are.1 k other.0 other.1 in
-          subst AreOrdered (sym (get_or-set_other hulls a.plant k cell [] ne)) (within_in_order (slice_index_or hulls k []) hull.has_point.0 (hull.holds hull.has_point.0 hull.has_point.1)))
+          subst AreOrdered (sym (get_or-set_other hulls a.plant k cell [] ne))
+          (within_in_order (slice_index_or hulls k []) hull.has_point.0 (hull.holds hull.has_point.0 hull.has_point.1)))
           (cases_eq k a.plant)
 
       each : (x : Slot) → Has sc.reads.items x → IsOrdered (interval_at p (slice_set hulls a.plant cell) x)
@@ -103,8 +108,10 @@ module _ (p : Tables) (rules : MeetsTableRules p) (a : ModuleInfo) (plant : Plan
       → (o : OrMayTrap Intervals) × IsNodeExecution p sc acts (slice_set hulls a.plant cell) o
   outcome acts hulls cell coded are ordered =
       let seen = reading_intervals p sc (slice_set hulls a.plant cell) in (
-        body_intervals seen (local_ranges sc) (write_ranges p sc) acts (record { locals = local_ranges sc; draft = replicate (length (write_ranges p sc)) Absent }),
-        execution_is (node_truths p sc) (length sc.locals.items) (length sc.writes.items) seen (local_ranges sc) (write_ranges p sc) (readings_ordered hulls cell are ordered)
+        body_intervals seen (local_ranges sc) (write_ranges p sc) acts
+            (record { locals = local_ranges sc; draft = replicate (length (write_ranges p sc)) Absent }),
+        execution_is (node_truths p sc) (length sc.locals.items) (length sc.writes.items) seen (local_ranges sc) (write_ranges p sc)
+            (readings_ordered hulls cell are ordered)
             acts (local_ranges sc) ((rules.nodes a.sc sc sc_at).body acts coded) locals_ordered,
       )
 
@@ -113,18 +120,21 @@ module _ (p : Tables) (rules : MeetsTableRules p) (a : ModuleInfo) (plant : Plan
       → Covers a.safe.boxes cell → (fired : Intervals) × DraftsFrom p a sc acts cell fired
   drafts_from m acts cell at one coded free ordered covers =
       let o = outcome acts free.0 cell coded free.1 ordered in
-      let f = cell_never_traps p rules.typed one m a plant sc acts free.0 cell (lows cell) o.0 at plant_at sc_at free free.1 (lows_within cell ordered) covers o.1 in
+      let f = cell_never_traps p rules.typed one m a plant sc acts free.0 cell (lows cell) o.0 at plant_at sc_at free free.1 (lows_within cell ordered) covers
+      o.1 in
       (f.0, record { hulls = free.0; are = free.1; runs = subst (λ q. IsNodeExecution p sc acts (slice_set free.0 a.plant cell) q) f.1 o.1 })
 
   -- the intervals of the commands have a number in each
-  pub commands_ordered : (acts : List Act) (cell : List Side) (fired : Intervals) → AreOrdered cell → DraftsFrom p a sc acts cell fired → AreOrdered (command_intervals p plant sc fired.draft)
+  pub commands_ordered : (acts : List Act) (cell : List Side) (fired : Intervals) → AreOrdered cell → DraftsFrom p a sc acts cell fired
+      → AreOrdered (command_intervals p plant sc fired.draft)
   commands_ordered acts cell fired ordered from =
       let seen = reading_intervals p sc (slice_set from.hulls a.plant cell) in
       let n = execution_narrow acts (local_ranges sc) (write_ranges p sc) seen (local_ranges sc) seen (local_ranges sc) fired (Ok fired)
       (narrow_self seen (readings_ordered from.hulls cell from.are ordered)) (narrow_self (local_ranges sc) locals_ordered) from.runs from.runs in
       let same : n.0 ≡ fired = (let e = n.1 in cc) in
       let drafts = subst (λ (f : Intervals). AreNarrowerDrafts f.draft fired.draft) same n.2.draft in
-      ordered_map (command_interval p sc.writes.items fired.draft) plant.inputs.items (λ k has. command_ordered p sc.writes.items fired.draft fired.draft k scalars_ordered drafts)
+      ordered_map (command_interval p sc.writes.items fired.draft) plant.inputs.items
+      (λ k has. command_ordered p sc.writes.items fired.draft fired.draft k scalars_ordered drafts)
 
   pub inputs_ordered : AreOrdered (input_ranges p plant)
   inputs_ordered = ordered_map (range_of p.scalars) plant.inputs.items (λ k has. ordered_read (scalar_ranges p) k scalars_ordered)

@@ -34,10 +34,12 @@ module _ (p : Tables) (rules : MeetsTableRules p) (passes : (without_cells p).Pa
       let sc = rules.typed.sc_is m a at in
       let inside = (failing_each (IsGood p a false) a.safe.boxes h.cells s h.found).0 in
       let free = passes.1.1 a.sc sc.0 sc.2 sc.1 sc.3 in
-      let f = drafts_from p rules a plant.0 sc.0 plant.1 sc.2 m sc.1 (point_box s) at passes.0.1.1.0 sc.3 free (point_ordered s) (tubes.point_covered a s inside) in
+      let f = drafts_from p rules a plant.0 sc.0 plant.1 sc.2 m sc.1 (point_box s) at passes.0.1.1.0 sc.3 free (point_ordered s)
+      (tubes.point_covered a s inside) in
       let outside = tubes.closed p a s plant.0 sc.0 sc.1 f.0 plant.1 sc.2 sc.3 f.1 h in
       let commands = commands_ordered p rules a plant.0 sc.0 plant.1 sc.2 sc.1 (point_box s) f.0 (point_ordered s) f.1 in
-      let way = excluded (inside_or_leaves p a.plant plant.0 free.0 (command_intervals p plant.0 sc.0 f.0.draft) a.safe.boxes (point_box s) sc.0.period rules plant.1 free.1 commands (point_ordered s)) outside in
+      let way = excluded (inside_or_leaves p a.plant plant.0 free.0 (command_intervals p plant.0 sc.0 f.0.draft) a.safe.boxes (point_box s) sc.0.period rules
+      plant.1 free.1 commands (point_ordered s)) outside in
       record {
         plant = plant.0;
         plant_is = plant.1;
@@ -60,7 +62,8 @@ module _ (p : Tables) (rules : MeetsTableRules p) (passes : (without_cells p).Pa
       let free = passes.1.1 a.sc sc.0 sc.2 sc.1 sc.3 in
       let outside = tubes.reach p a s plant.0 plant.1 h in
       let commands = inputs_ordered p rules a plant.0 sc.0 plant.1 sc.2 in
-      let way = excluded (inside_or_leaves p a.plant plant.0 free.0 (input_ranges p plant.0) a.safe.boxes (point_box s) (2 * a.period) rules plant.1 free.1 commands (point_ordered s)) outside in
+      let way = excluded (inside_or_leaves p a.plant plant.0 free.0 (input_ranges p plant.0) a.safe.boxes (point_box s) (2 * a.period) rules plant.1 free.1
+      commands (point_ordered s)) outside in
       record { plant = plant.0; plant_is = plant.1; outside = outside; way = way.0; leaves = way.1 }
 
 pub points_leave : PointsLeave

@@ -33,13 +33,15 @@ closed_refused p m a plant sc us i cell r h passes =
     (subst (λ q. TubeLeaves p plant (command_intervals p plant sc q.draft) a.safe.boxes cell (sc.period + 0) h.0) e later.3) passes.stays)
     h.1
 
-pub not_closed : (p : Tables) (m : ℕ) (a : ModuleInfo) (cell : List Side) (r : CodeRefusal) → MeetsTableRules p → At p.modules m a → AnswersClosedCell p 0 m a 0 cell (Err r) → IsGood p a false cell → ⊥
+pub not_closed : (p : Tables) (m : ℕ) (a : ModuleInfo) (cell : List Side) (r : CodeRefusal) → MeetsTableRules p → At p.modules m a
+    → AnswersClosedCell p 0 m a 0 cell (Err r) → IsGood p a false cell → ⊥
 not_closed p m a cell r rules at answer good =
     let plant = rules.typed.plant_is m a at in
     let sc = rules.typed.sc_is m a at in
     closed_refused p m a plant.0 sc.0 sc.1 0 cell (refusal_view r) (answer plant.0 sc.0 sc.1 plant.1 sc.2 sc.3) (good plant.0 sc.0 sc.1 plant.1 sc.2 sc.3)
 
-pub not_reach : (p : Tables) (m : ℕ) (a : ModuleInfo) (cell : List Side) (r : CodeRefusal) → MeetsTableRules p → At p.modules m a → AnswersReachCell p 0 m a 0 cell (Err r) → IsGood p a true cell → ⊥
+pub not_reach : (p : Tables) (m : ℕ) (a : ModuleInfo) (cell : List Side) (r : CodeRefusal) → MeetsTableRules p → At p.modules m a
+    → AnswersReachCell p 0 m a 0 cell (Err r) → IsGood p a true cell → ⊥
 not_reach p m a cell r rules at answer good =
     let plant = rules.typed.plant_is m a at in
     let h = answer plant.0 plant.1 in

@@ -24,4 +24,5 @@ pub refusals_are_the_verdicts : RefusalsAreTheVerdicts
 refusals_are_the_verdicts p jitter cert r all (inl h) = inl h
 refusals_are_the_verdicts p jitter cert r all (inr (composed, inl (i, a, at, h, before))) =
     inr (composed, inl (i, a, at, shape_refuses p cert all i a r at h, λ j b lt at_b. shape_passes p cert all j b at_b (before j b lt at_b)))
-refusals_are_the_verdicts p jitter cert r all (inr (composed, inr (frames, h))) = inr (composed, inr (λ m a at. shape_passes p cert all m a at (frames m a at), inl h))
+refusals_are_the_verdicts p jitter cert r all (inr (composed, inr (frames, h))) =
+    inr (composed, inr (λ m a at. shape_passes p cert all m a at (frames m a at), inl h))

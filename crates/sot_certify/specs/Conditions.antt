@@ -9,6 +9,8 @@ use Rattle.sot_tube.specs.Verdict.{composition, periods, outputs, boxes, code}
 abbrev pub frame : Tables → ℕ → ModuleInfo → Check
 frame p m a = and_then (and_then (periods p m a) (outputs p m a)) (boxes m a)
 
--- of a program, in the order of the verdict: how its modules are put together, then each module, then each coded node
+-- of a program, in the order of the verdict: how its modules are put together, then each module,
+-- then each coded node
 abbrev pub without_cells : Tables → Check
-without_cells p = and_then (composition p) (and_then (for_each p.modules (frame p)) (for_each p.nodes (code p)))
+without_cells p =
+    and_then (composition p) (and_then (for_each p.modules (frame p)) (for_each p.nodes (code p)))

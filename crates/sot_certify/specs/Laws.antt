@@ -32,30 +32,42 @@ FailingPointsLeave =
     (p : Tables) (a : ModuleInfo) (reach : Bool) (s : List ℤ) → FailsAt p a reach s
     → IsInRegion (region_of a reach).boxes s × (IsGood p a reach (point_box s) → ⊥)
 
--- the tube of a failing point is not inside the safe region, or a tick of it may trap. In a list of closed cells, where the safe node meets
--- no trap from the point: under the commands that it surely drafts there, for its period. In a list of reach cells: under any commands,
--- for two periods of the module
+-- the tube of a failing point is not inside the safe region, or a tick of it may trap. In a list of
+-- closed cells, where the safe node meets no trap from the point: under the commands that it surely
+-- drafts there, for its period. In a list of reach cells: under any commands, for two periods of
+-- the module
 abbrev pub TubesOfFailingPointsLeave : Type 0
 TubesOfFailingPointsLeave =
-    ((p : Tables) (a : ModuleInfo) (s : List ℤ) (plant : PlantInfo) (sc : NodeInfo) (acts : List Act) (fired : Intervals)
-    → At p.plants a.plant plant → At p.nodes a.sc sc → IsCoded sc acts → DraftsFrom p a sc acts (point_box s) fired → FailsAt p a false s
-    → TubeInside p plant (command_intervals p plant sc fired.draft) a.safe.boxes (point_box s) sc.period → ⊥)
-    × ((p : Tables) (a : ModuleInfo) (s : List ℤ) (plant : PlantInfo) → At p.plants a.plant plant → FailsAt p a true s
+    ((p : Tables) (a : ModuleInfo) (s : List ℤ) (plant : PlantInfo) (sc : NodeInfo)
+    (acts : List Act) (fired : Intervals)
+    → At p.plants a.plant plant → At p.nodes a.sc sc → IsCoded sc acts
+    → DraftsFrom p a sc acts (point_box s) fired → FailsAt p a false s
+    → TubeInside p plant (command_intervals p plant sc fired.draft) a.safe.boxes (point_box s)
+    sc.period → ⊥)
+    × ((p : Tables) (a : ModuleInfo) (s : List ℤ) (plant : PlantInfo) → At p.plants a.plant plant
+    → FailsAt p a true s
     → AnyTubeInside p plant a.safe.boxes (point_box s) (2 * a.period) → ⊥)
 
--- so of each failing point that may be answered the tube leaves, with no premise but the rules of tables
+-- so of each failing point that may be answered the tube leaves, with no premise but the rules of
+-- tables
 abbrev pub PointsLeave : Type 0
-PointsLeave = (p : Tables) (m : ℕ) (reach : Bool) (s : List ℤ) → MeetsTableRules p → Fails p (Point m reach s) → PointTubeLeaves p m reach s
+PointsLeave =
+    (p : Tables) (m : ℕ) (reach : Bool) (s : List ℤ) → MeetsTableRules p → Fails p (Point m reach s)
+    → PointTubeLeaves p m reach s
 
--- what is refused before cells are made is what a checker refuses, at any jitter and with any certificate that has an entry for each module
+-- what is refused before cells are made is what a checker refuses, at any jitter and with any
+-- certificate that has an entry for each module
 abbrev pub RefusalsAreTheVerdicts : Type 0
 RefusalsAreTheVerdicts =
-    (p : Tables) (jitter : ℕ) (cert : Cert) (r : Refusal) → ((m : ℕ) (a : ModuleInfo) → At p.modules m a → (cells : Cells) × HasCells cert m cells)
+    (p : Tables) (jitter : ℕ) (cert : Cert) (r : Refusal)
+    → ((m : ℕ) (a : ModuleInfo) → At p.modules m a → (cells : Cells) × HasCells cert m cells)
     → (without_cells p).Refuses r → (verdict p jitter cert).Refuses r
 
 -- what is found for a list is one thing: there is one list of cells, or one first failing point
 abbrev pub ListsAreFoundOnce : Type 0
-ListsAreFoundOnce = (p : Tables) (a : ModuleInfo) (reach : Bool) (f g : Finding) → FindsCells p a reach f → FindsCells p a reach g → Agree f g
+ListsAreFoundOnce =
+    (p : Tables) (a : ModuleInfo) (reach : Bool) (f g : Finding) → FindsCells p a reach f
+    → FindsCells p a reach g → Agree f g
 
 -- two failures are one, but for want of memory
 abbrev pub SameFail : CertifyFail → CertifyFail → Type 0
@@ -86,7 +98,8 @@ IsMemory Memory = Unit {0}
 -- two certificates of a program have the same cells
 abbrev pub HaveSameCells : Tables → Cert → Cert → Type 0
 HaveSameCells p c d =
-    (m : ℕ) (a : ModuleInfo) (x y : Cells) → At p.modules m a → HasCells c m x → HasCells d m y → (x.closed.boxes ≡ y.closed.boxes) × (x.reach.boxes ≡ y.reach.boxes)
+    (m : ℕ) (a : ModuleInfo) (x y : Cells) → At p.modules m a → HasCells c m x → HasCells d m y
+    → (x.closed.boxes ≡ y.closed.boxes) × (x.reach.boxes ≡ y.reach.boxes)
 
 -- two answers are one, but for want of memory
 abbrev pub SameAnswer : Tables → Result Cert CertifyFail → Result Cert CertifyFail → Type 0
@@ -95,6 +108,8 @@ SameAnswer p (Ok c) (Err e) = IsMemory e
 SameAnswer p (Err e) (Ok d) = IsMemory e
 SameAnswer p (Err e) (Err f) = SameFail e f
 
--- what may be answered of a program is one answer, besides want of memory: so each answer comes exactly where it is true
+-- what may be answered of a program is one answer, besides want of memory: so each answer comes
+-- exactly where it is true
 abbrev pub AnswersAreOne : Type 0
-AnswersAreOne = (p : Tables) (r q : Result Cert CertifyFail) → Certifies p r → Certifies p q → SameAnswer p r q
+AnswersAreOne =
+    (p : Tables) (r q : Result Cert CertifyFail) → Certifies p r → Certifies p q → SameAnswer p r q

@@ -16,8 +16,10 @@ use Rattle.sot_halving.specs.Findings.{Finding, Whole, Failing, Begun, BisectsEa
 -- a box is good as a closed cell, or as a reach cell, of the module
 abbrev pub IsGood : Tables → ModuleInfo → Bool → List Side → Type 0
 IsGood p a false cell =
-    (plant : PlantInfo) (sc : NodeInfo) (acts : List Act) → At p.plants a.plant plant → At p.nodes a.sc sc → IsCoded sc acts → IsClosedCell p 0 a plant sc acts cell
-IsGood p a true cell = (plant : PlantInfo) → At p.plants a.plant plant → IsReachCell p 0 a plant cell
+    (plant : PlantInfo) (sc : NodeInfo) (acts : List Act) → At p.plants a.plant plant
+    → At p.nodes a.sc sc → IsCoded sc acts → IsClosedCell p 0 a plant sc acts cell
+IsGood p a true cell =
+    (plant : PlantInfo) → At p.plants a.plant plant → IsReachCell p 0 a plant cell
 
 -- the region whose cells a list gives: the safe one of closed cells, the safer one of reach cells
 abbrev pub region_of : ModuleInfo → Bool → BoxList
@@ -29,9 +31,10 @@ abbrev pub FindsCells : Tables → ModuleInfo → Bool → Finding → Type 0
 FindsCells p a reach found = BisectsEach (IsGood p a reach) (region_of a reach).boxes found
 
 -- the list is whole, and has at most 4,096 cells
-pub record IsMade (p : Tables) (a : ModuleInfo) (reach : Bool) (cells : List (List Side)) : Type 0 where
-  pub whole : FindsCells p a reach (Whole cells)
-  pub few : length cells ≤ 4096
+pub record IsMade (p : Tables) (a : ModuleInfo) (reach : Bool) (cells : List (List Side)) : Type 0
+  where
+    pub whole : FindsCells p a reach (Whole cells)
+    pub few : length cells ≤ 4096
 
 -- the list fails with this point, before a 4,097th cell
 pub record FailsAt (p : Tables) (a : ModuleInfo) (reach : Bool) (point : List ℤ) : Type 0 where

@@ -18,12 +18,14 @@ use Rattle.sot_certify.specs.declared.fail.CertifyFail.{CertifyFail}
 use Rattle.sot_certify.specs.declared.fail.CertifyFail.TheVariants.{Refused, Point, TooMany, Memory}
 use Rattle.sot_certify.specs.Made.{region_of}
 
--- A tube that is not inside the region has, at some tick from 0 to its last, a box with a state outside, or a step to the next tick in which some
--- operands may trap; `way` says which of them comes first, and where. Boxes are least intervals, with the seen plants in the hulls of their safe
--- regions and disturbances in their bounds, so the plant itself may stay inside.
+-- A tube that is not inside the region has, at some tick from 0 to its last, a box with a state
+-- outside, or a step to the next tick in which some operands may trap; `way` says which of them
+-- comes first, and where. Boxes are least intervals, with the seen plants in the hulls of their
+-- safe regions and disturbances in their bounds, so the plant itself may stay inside.
 
--- of closed cells: the safe node meets no trap from the point, and what it drafts there is one thing; and under what it surely drafts the tube
--- of its period is not inside the safe region, and leaves it in this way
+-- of closed cells: the safe node meets no trap from the point, and what it drafts there is one
+-- thing; and under what it surely drafts the tube of its period is not inside the safe region, and
+-- leaves it in this way
 pub record LeavesUnderSafeNode (p : Tables) (a : ModuleInfo) (s : List ℤ) : Type 0 where
   pub plant : PlantInfo
   pub plant_is : At p.plants a.plant plant
@@ -34,11 +36,14 @@ pub record LeavesUnderSafeNode (p : Tables) (a : ModuleInfo) (s : List ℤ) : Ty
   pub fired : Intervals
   pub drafts : DraftsFrom p a sc acts (point_box s) fired
   pub only : (other : Intervals) → DraftsFrom p a sc acts (point_box s) other → other ≡ fired
-  pub outside : TubeInside p plant (command_intervals p plant sc fired.draft) a.safe.boxes (point_box s) sc.period → ⊥
+  pub outside : TubeInside p plant (command_intervals p plant sc fired.draft) a.safe.boxes
+      (point_box s) sc.period → ⊥
   pub way : Leave
-  pub leaves : TubeLeaves p plant (command_intervals p plant sc fired.draft) a.safe.boxes (point_box s) sc.period way
+  pub leaves : TubeLeaves p plant (command_intervals p plant sc fired.draft) a.safe.boxes
+      (point_box s) sc.period way
 
--- of reach cells: under any commands the tube of two periods of the module is not inside the safe region, and leaves it in this way
+-- of reach cells: under any commands the tube of two periods of the module is not inside the safe
+-- region, and leaves it in this way
 pub record LeavesUnderAny (p : Tables) (a : ModuleInfo) (s : List ℤ) : Type 0 where
   pub plant : PlantInfo
   pub plant_is : At p.plants a.plant plant

@@ -6,8 +6,8 @@ use sot_box::Point;
 use sot_rta::Refusal;
 use std::alloc::{AllocError, AllocFailed};
 
-/// Why there is no certificate for a program. Modules are numbered from 0; `reach` is true of a list of reach cells, and false of one of
-/// closed cells.
+/// Why there is no certificate for a program. Modules are numbered from 0; `reach` is true of a
+/// list of reach cells, and false of one of closed cells.
 #[derive(Clone, Copy, Debug, PartialEq, Eq)]
 pub enum CertifyFail {
     /// A condition that speaks of no cells fails.

@@ -18,7 +18,8 @@ fn is_good_closed(p: &Typed, module: u32, info: &ModuleInfo, cell: &BoxN) -> boo
     requires may { MayHaveCells p.now }
     requires width { length cell.now ≡ width_of p.now.plants info.now.plant }
     requires ordered { AreOrdered cell.now }
-    ensures { MatchBool result (IsGood p.now info.now false cell.now) (¬ IsGood p.now info.now false cell.now) }
+    ensures { MatchBool result (IsGood p.now info.now false cell.now)
+        (¬ IsGood p.now info.now false cell.now) }
 {
     match check_closed_cell(p, 0, module, info, 0, cell) {
         Ok(()) => true,
@@ -31,7 +32,8 @@ fn is_good_reach(p: &Typed, module: u32, info: &ModuleInfo, cell: &BoxN) -> bool
     requires rules { MeetsTableRules p.now }
     requires may { MayHaveCells p.now }
     requires width { length cell.now ≡ width_of p.now.plants info.now.plant }
-    ensures { MatchBool result (IsGood p.now info.now true cell.now) (¬ IsGood p.now info.now true cell.now) }
+    ensures { MatchBool result (IsGood p.now info.now true cell.now)
+        (¬ IsGood p.now info.now true cell.now) }
 {
     match check_reach_cell(p, 0, module, info, 0, cell) {
         Ok(()) => true,
@@ -45,7 +47,8 @@ pub fn is_good(p: &Typed, module: u32, info: &ModuleInfo, reach: bool, cell: &Bo
     requires rules { MeetsTableRules p.now }
     requires may { MayHaveCells p.now }
     requires width { length cell.now ≡ width_of p.now.plants info.now.plant }
-    ensures good { MatchBool result (IsGood p.now info.now reach cell.now) (¬ IsGood p.now info.now reach cell.now) }
+    ensures good { MatchBool result (IsGood p.now info.now reach cell.now)
+        (¬ IsGood p.now info.now reach cell.now) }
     ensures ordered { AreOrdered cell.now }
 {
     let _axes = cell.len();

@@ -1,8 +1,9 @@
 //! Certificates made for given regions.
 //!
-//! [`certify`] halves the boxes of each module's regions until each is a cell that keeps, and gives the certificate of these cells, with
-//! firings on time. Where it cannot, it says why: a condition that speaks of no cells, a single point whose own tube leaves, or a list
-//! with more cells than a certificate may have.
+//! [`certify`] halves the boxes of each module's regions until each is a cell that keeps, and gives
+//! the certificate of these cells, with firings on time. Where it cannot, it says why: a condition
+//! that speaks of no cells, a single point whose own tube leaves, or a list with more cells than a
+//! certificate may have.
 #![tactic(auto)]
 
 mod conditions;

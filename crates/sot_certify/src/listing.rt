@@ -1,6 +1,7 @@
 //! One list of cells.
 
-ghost use Rattle.std.specs.Prelude.{◌≡◌, ℕ, List, [], ◌∷◌, ◌++◌, ◌<◌, ◌≤◌, ◌⊎◌, length, reverse, IfOk, IfErr, OnOk, MatchResult};
+ghost use Rattle.std.specs.Prelude.{◌≡◌, ℕ, List, [], ◌∷◌, ◌++◌, ◌<◌, ◌≤◌, ◌⊎◌, length, reverse};
+ghost use Rattle.std.specs.Prelude.{IfOk, IfErr, OnOk, MatchResult};
 ghost use Rattle.sot_lists.specs.Places.{At};
 ghost use Rattle.sot_box.specs.Sides.{Side, AreOrdered};
 ghost use Rattle.sot_box.specs.Boxes.{lows};
@@ -10,7 +11,8 @@ ghost use Rattle.sot_lang.specs.TableRules.{MeetsTableRules};
 ghost use Rattle.sot_rta.specs.Cells.{MayHaveCells};
 ghost use Rattle.sot_certify.specs.Made.{IsGood, region_of};
 ghost use Rattle.sot_certify.specs.Steps.{IsTaken, IsNotTaken, IsNotMade, IsListOf};
-ghost use Rattle.sot_certify.specs.declared.listing.ListFail.TheVariants.{Point as AtPoint, TooMany, Memory};
+ghost use Rattle.sot_certify.specs.declared.listing.ListFail.TheVariants.{Point as AtPoint};
+ghost use Rattle.sot_certify.specs.declared.listing.ListFail.TheVariants.{TooMany, Memory};
 
 use crate::good::is_good;
 use sot_box::{BoxN, Point, Region};
@@ -52,7 +54,8 @@ fn keep(cells: &mut Region, cell: BoxN) -> Result<(), ListFail>
     ensures ok { OnOk result (cells.new.boxes ≡ cells.old.boxes ++ cell ∷ []) }
     ensures few { OnOk result (length cells.new.boxes ≤ 4096) }
     ensures width { cells.new.width ≡ cells.old.width }
-    ensures fail { IfErr result (λ e. (e ≡ TooMany) × (4096 ≤ length cells.old.boxes) ⊎ (e ≡ Memory)) }
+    ensures fail { IfErr result (λ e. (e ≡ TooMany) × (4096 ≤ length cells.old.boxes)
+        ⊎ (e ≡ Memory)) }
 {
     if cells.len() >= CELL_LIMIT {
         return Err(ListFail::TooMany);
@@ -65,8 +68,10 @@ fn keep(cells: &mut Region, cell: BoxN) -> Result<(), ListFail>
 
 // Opens the two halves of a box, the low one as the next, or says that the box is one point.
 fn open_halves(pending: &mut Vec<BoxN>, cell: &BoxN) -> Result<(), ListFail>
-    ensures ok { OnOk result ((low high : List Side) × AreHalves cell.now low high × (pending.new.items ≡ (pending.old.items ++ high ∷ []) ++ low ∷ [])) }
-    ensures fail { IfErr result (λ e. (IsOnePoint cell.now × (e ≡ AtPoint (lows cell.now))) ⊎ (e ≡ Memory)) }
+    ensures ok { OnOk result ((low high : List Side) × AreHalves cell.now low high
+        × (pending.new.items ≡ (pending.old.items ++ high ∷ []) ++ low ∷ [])) }
+    ensures fail { IfErr result (λ e. (IsOnePoint cell.now × (e ≡ AtPoint (lows cell.now)))
+        ⊎ (e ≡ Memory)) }
 {
     let Some(halves) = halves_of(cell) else {
         return Err(ListFail::Point(low_corner(cell)));
@@ -91,11 +96,13 @@ fn take(
     requires may { MayHaveCells p.now }
     requires width { length cell ≡ width_of p.now.plants info.now.plant }
     requires region { cells.old.width ≡ width_of p.now.plants info.now.plant }
-    ensures ok { OnOk result (IsTaken (IsGood p.now info.now reach) cell pending.old.items pending.new.items cells.old.boxes cells.new.boxes) }
+    ensures ok { OnOk result (IsTaken (IsGood p.now info.now reach) cell pending.old.items
+        pending.new.items cells.old.boxes cells.new.boxes) }
     ensures few { OnOk result (length cells.old.boxes ≤ 4096 → length cells.new.boxes ≤ 4096) }
     ensures ordered { AreOrdered cell }
     ensures region { cells.new.width ≡ cells.old.width }
-    ensures fail { IfErr result (λ e. IsNotTaken (IsGood p.now info.now reach) cell cells.old.boxes e) }
+    ensures fail { IfErr result (λ e. IsNotTaken (IsGood p.now info.now reach) cell cells.old.boxes
+        e) }
 {
     if is_good(p, module, info, reach, &cell) {
         keep(cells, cell)

@@ -9,7 +9,8 @@ ghost use Rattle.sot_world.specs.Headline.{EveryRunIsSafe};
 ghost use Rattle.sot_rta.specs.Cells.{MayHaveCells};
 ghost use Rattle.sot_certify.specs.Certifying.{Certifies};
 ghost use Rattle.sot_certify.specs.Points.{IfPointLeaves};
-ghost use Rattle.sot_certify.specs.Steps.{AreListsOf, HasNoCells, named, AreEntriesTo, HasNoEntries};
+ghost use Rattle.sot_certify.specs.Steps.{AreListsOf, HasNoCells, named, AreEntriesTo};
+ghost use Rattle.sot_certify.specs.Steps.{HasNoEntries};
 
 use crate::conditions::check_without_cells;
 use crate::fail::CertifyFail;
@@ -55,7 +56,8 @@ fn cells_of(alloc: Global, p: &Typed, module: u32, info: &ModuleInfo) -> Result<
 fn entries(alloc: Global, p: &Typed) -> Result<Vec<Option<Cells>>, CertifyFail>
     requires rules { MeetsTableRules p.now }
     requires may { MayHaveCells p.now }
-    ensures { MatchResult result (λ v. AreEntriesTo p.now v.items (length p.now.modules)) (HasNoEntries p.now) }
+    ensures { MatchResult result (λ v. AreEntriesTo p.now v.items (length p.now.modules))
+        (HasNoEntries p.now) }
 {
     let mut found = Vec::new(alloc);
     for module in 0..p.modules.len() as u32 {
@@ -67,15 +69,18 @@ fn entries(alloc: Global, p: &Typed) -> Result<Vec<Option<Cells>>, CertifyFail>
     Ok(found)
 }
 
-/// The certificate of a program whose regions are given: for each module the boxes of its safe region, in order, are halved until each is
-/// a closed cell, and those of its safer region until each is a reach cell, with firings on time. A cut goes through the widest side, of
-/// equal ones the first, behind the middle, and the low half comes first. The program is well certified with it, so every run from
-/// plants in their safer regions is safe.
+/// The certificate of a program whose regions are given: for each module the boxes of its safe
+/// region, in order, are halved until each is a closed cell, and those of its safer region until
+/// each is a reach cell, with firings on time. A cut goes through the widest side, of equal ones
+/// the first, behind the middle, and the low half comes first. The program is well certified with
+/// it, so every run from plants in their safer regions is safe.
 ///
-/// There is none where a condition that speaks of no cells fails; else where the first list that cannot be made, in the order of the
-/// modules and closed cells before reach cells, meets a single point that is not good, or a 4,097th cell, whichever comes first. From that
-/// point the tube leaves the safe region, or a step of it may trap: of closed cells under what the safe node surely drafts there, for its
-/// period; of reach cells under any commands, for two periods of the module.
+/// There is none where a condition that speaks of no cells fails; else where the first list that
+/// cannot be made, in the order of the modules and closed cells before reach cells, meets a single
+/// point that is not good, or a 4,097th cell, whichever comes first. From that point the tube
+/// leaves the safe region, or a step of it may trap: of closed cells under what the safe node
+/// surely drafts there, for its period; of reach cells under any commands, for two periods of the
+/// module.
 pub fn certify(alloc: Global, p: &Typed) -> Result<Cert, CertifyFail>
     ensures answer { Certifies p.now result }
     ensures point { IfErr result (λ fail. IfPointLeaves p.now fail) }

@@ -1,5 +1,6 @@
 -- What becomes of guests.
-use Rattle.std.proofs.Common.{◌≡◌, ◌⊎◌, ⊎_elim, ℕ, zero, suc, List, [], ◌∷◌, Option, None, Some, length, Result, Ok, Err, inl, inr, refl, sym, ap, ◌∙◌, subst, append-nil, arith, ◌<◌, true}
+use Rattle.std.proofs.Common.{◌≡◌, ◌⊎◌, ⊎_elim, ℕ, zero, suc, List, [], ◌∷◌, Option, None, Some, length, Result, Ok, Err, inl, inr, refl, sym, ap, ◌∙◌, subst}
+use Rattle.std.proofs.Common.{append-nil, arith, ◌<◌, true}
 use Rattle.std.specs.Prelude.{IfOk, ◌==◌, ◌≢◌, vec_len}
 use Rattle.std.specs.Global.{Vec}
 use Rattle.std.specs.Io.KnownBytes.{Appends}
@@ -53,18 +54,21 @@ named_or_not (crew ∷ crews) i = behind (here crew) (named_or_not crews i)
     at_none differ none zero at = differ (same_Some crew (Guest i) at)
     at_none differ none (suc n) at = none n at
 
-    behind : (crew ≡ Guest i) ⊎ (crew ≡ Guest i → ⊥) → ((n : ℕ) × At crews n (Guest i)) ⊎ ((n : ℕ) → At crews n (Guest i) → ⊥) → ((n : ℕ) × At (crew ∷ crews) n (Guest i)) ⊎ ((n : ℕ) → At (crew ∷ crews) n (Guest i) → ⊥)
+    behind : (crew ≡ Guest i) ⊎ (crew ≡ Guest i → ⊥) → ((n : ℕ) × At crews n (Guest i)) ⊎ ((n : ℕ) → At crews n (Guest i) → ⊥)
+        → ((n : ℕ) × At (crew ∷ crews) n (Guest i)) ⊎ ((n : ℕ) → At (crew ∷ crews) n (Guest i) → ⊥)
     behind (inl is) rest = inl (0, ap (λ (c : Crew). Some c) is)
     behind (inr differ) (inl (n, at)) = inl (suc n, at)
     behind (inr differ) (inr none) = inr (at_none differ none)
 
 -- a list that answers firings is told on
-answered_on : (t : Tables) (jitter : ℕ) (f : Plan) (n : ℕ) (history : List Logged) (before after : Option (List Asking)) → Answered t jitter f n history before after → TellsOn before after
+answered_on : (t : Tables) (jitter : ℕ) (f : Plan) (n : ℕ) (history : List Logged) (before after : Option (List Asking))
+    → Answered t jitter f n history before after → TellsOn before after
 answered_on t jitter f n history before None answered = tt
 answered_on t jitter f n history before (Some after) answered = (answered.first, answered.more, answered.before_is, answered.after_is)
 
 -- guests that flew go on
-pub flew_told : {C : Type 0} (told : C → Option (List Asking)) (a : Admitted) (f : Plan) (history : List Logged) (before after : List C) → EachAnswered told a f history before after → EachUnnamedStays f before after → GuestsGoOn told before after
+pub flew_told : {C : Type 0} (told : C → Option (List Asking)) (a : Admitted) (f : Plan) (history : List Logged) (before after : List C)
+    → EachAnswered told a f history before after → EachUnnamedStays f before after → GuestsGoOn told before after
 flew_told told a f history before after answered unnamed i was now at at' =
     ⊎_elim
     (λ (n, named). answered_on a.program a.cert.jitter f n history (told was) (told now) (answered n i was now named at at'))
@@ -72,7 +76,8 @@ flew_told told a f history before after answered unnamed i was now at at' =
     (named_or_not f.crews i)
 
 -- and flew the flight of their board
-pub flew_result : {C : Type 0} (told : C → Option (List Asking)) (r : Result Answer AllocError) (telling : Telling) (acc : Admitted) (f : Plan) (b : Standing) (before after : List C) → b.accepted ≡ acc → b.plan ≡ f
+pub flew_result : {C : Type 0} (told : C → Option (List Asking)) (r : Result Answer AllocError) (telling : Telling) (acc : Admitted) (f : Plan) (b : Standing)
+    (before after : List C) → b.accepted ≡ acc → b.plan ≡ f
     → FlownBy b.accepted.program b.accepted.cert.jitter b.plan b.entries → IfOk r (λ a. a.text.items ≡ told_text telling b.accepted.program b.plan b.entries)
     → EachAnswered told b.accepted b.plan b.entries before after → EachUnnamedStays b.plan before after
     → IfOk r (λ a. a.status ≡ 0 → telling ≡ Trace → GuestsFlew told acc.program acc.cert.jitter f a.text.items before after)
@@ -84,7 +89,8 @@ flew_result told (Ok a) Summary acc f b before after is plan flown text answered
 flew_result told (Err e) telling acc f b before after is plan flown text answered unnamed = tt
 
 -- a flight that names no guest was flown by none, so all stay as they are
-pub flew_alone : {C : Type 0} (told : C → Option (List Asking)) (r : Result Answer AllocError) (telling : Telling) (t : Tables) (jitter : ℕ) (f : Plan) (guests : List C) → HasNoGuests f
+pub flew_alone : {C : Type 0} (told : C → Option (List Asking)) (r : Result Answer AllocError) (telling : Telling) (t : Tables) (jitter : ℕ) (f : Plan)
+    (guests : List C) → HasNoGuests f
     → IfOk r (λ a. JudgesFlight telling t jitter f a.status a.text.items)
     → IfOk r (λ a. a.status ≡ 0 → telling ≡ Trace → GuestsFlew told t jitter f a.text.items guests guests)
 flew_alone told (Ok a) Trace t jitter f guests none (inl (well, (inside, (history, flown, said)))) = λ ended trace. record {
@@ -106,10 +112,12 @@ names_none p count f fits empty n i named =
     absurd (omega (arith, there, none))
 
 -- and that of the mission that the bytes spell
-pub flew_mission : {C : Type 0} (told : C → Option (List Asking)) (r : Result Answer AllocError) (telling : Telling) (guests : ℕ) (bytes : List ℕ) (m : Mission) (f : Plan) (before after : List C) → SpellsFor needs.Fly guests bytes m → m.flight ≡ Some f
+pub flew_mission : {C : Type 0} (told : C → Option (List Asking)) (r : Result Answer AllocError) (telling : Telling) (guests : ℕ) (bytes : List ℕ) (m : Mission)
+    (f : Plan) (before after : List C) → SpellsFor needs.Fly guests bytes m → m.flight ≡ Some f
     → IfOk r (λ a. a.status ≡ 0 → telling ≡ Trace → GuestsFlew told m.tables m.cert.jitter f a.text.items before after)
     → IfOk r (λ a. a.status ≡ 0 → telling ≡ Trace → Flew told guests bytes a.text.items before after)
-flew_mission told (Ok a) telling guests bytes m f before after spells is flew = λ zero trace. record { mission = m; spelled = spells; plan = f; flight = is; flew = flew zero trace }
+flew_mission told (Ok a) telling guests bytes m f before after spells is flew =
+    λ zero trace. record { mission = m; spelled = spells; plan = f; flight = is; flew = flew zero trace }
 flew_mission told (Err e) telling guests bytes m f before after spells is flew = tt
 
 -- guests that nobody asked are as they were
@@ -124,21 +132,26 @@ same_unasked : {C : Type 0} (r : Result Answer AllocError) (guests : Vec C) → 
 same_unasked (Ok a) guests = λ other. refl
 same_unasked (Err e) guests = tt
 
-pub stayed : {C : Type 0} (told : C → Option (List Asking)) (telling : Telling) (r : Result Answer AllocError) (Stay : Type 0) (Fly : List ℕ → Type 0) (guests : Vec C) → Stay
+pub stayed : {C : Type 0} (told : C → Option (List Asking)) (telling : Telling) (r : Result Answer AllocError) (Stay : Type 0) (Fly : List ℕ → Type 0)
+    (guests : Vec C) → Stay
     → IfOk r (λ a. a.status ≡ 0 → telling ≡ Trace → Fly a.text.items) → GuestsDid told telling r Stay Fly guests guests
-stayed told telling r Stay Fly guests stay flew = record { count = refl; go_on = stay_told told guests.items; unasked = same_unasked r guests; stay = stay; flew = flew }
+stayed told telling r Stay Fly guests stay flew =
+    record { count = refl; go_on = stay_told told guests.items; unasked = same_unasked r guests; stay = stay; flew = flew }
 
-not_flown : (r : Result Answer AllocError) (telling : Telling) (Fly : List ℕ → Type 0) (status : ℕ) → 0 < status → IfOk r (λ a. a.status ≡ status) → IfOk r (λ a. a.status ≡ 0 → telling ≡ Trace → Fly a.text.items)
+not_flown : (r : Result Answer AllocError) (telling : Telling) (Fly : List ℕ → Type 0) (status : ℕ) → 0 < status → IfOk r (λ a. a.status ≡ status)
+    → IfOk r (λ a. a.status ≡ 0 → telling ≡ Trace → Fly a.text.items)
 not_flown (Ok a) telling Fly status other is = λ zero trace. absurd (omega (arith, is, zero, other))
 not_flown (Err e) telling Fly status other is = tt
 
 -- where no flight was flown
-pub unflown : {C : Type 0} (told : C → Option (List Asking)) (telling : Telling) (r : Result Answer AllocError) (Stay : Type 0) (Fly : List ℕ → Type 0) (guests : Vec C) (status : ℕ) → Stay → 0 < status
+pub unflown : {C : Type 0} (told : C → Option (List Asking)) (telling : Telling) (r : Result Answer AllocError) (Stay : Type 0) (Fly : List ℕ → Type 0)
+    (guests : Vec C) (status : ℕ) → Stay → 0 < status
     → IfOk r (λ a. a.status ≡ status) → GuestsDid told telling r Stay Fly guests guests
 unflown told telling r Stay Fly guests status stay other is = stayed told telling r Stay Fly guests stay (not_flown r telling Fly status other is)
 
 -- where memory ran out before the flight
-pub lacking : {C : Type 0} (told : C → Option (List Asking)) (telling : Telling) (e : AllocError) (f : Plan) (Fly : List ℕ → Type 0) (before after : Vec C) → vec_len after ≡ vec_len before → after.items ≡ before.items
+pub lacking : {C : Type 0} (told : C → Option (List Asking)) (telling : Telling) (e : AllocError) (f : Plan) (Fly : List ℕ → Type 0) (before after : Vec C)
+    → vec_len after ≡ vec_len before → after.items ≡ before.items
     → GuestsDid told telling (Err e) (EachUnnamedStays f before.items after.items) Fly before after
 lacking told telling e f Fly before after count same = record {
   count = count;
@@ -153,10 +166,13 @@ zero_unasked (Ok a) before after is = λ other. absurd (other is)
 zero_unasked (Err e) before after is = tt
 
 -- where it was flown
-pub flown : {C : Type 0} (told : C → Option (List Asking)) (r : Result Answer AllocError) (telling : Telling) (acc : Admitted) (f : Plan) (b : Standing) (before after : Vec C) → vec_len after ≡ vec_len before → b.accepted ≡ acc → b.plan ≡ f
-    → FlownBy b.accepted.program b.accepted.cert.jitter b.plan b.entries → IfOk r (λ a. a.status ≡ 0) → IfOk r (λ a. a.text.items ≡ told_text telling b.accepted.program b.plan b.entries)
+pub flown : {C : Type 0} (told : C → Option (List Asking)) (r : Result Answer AllocError) (telling : Telling) (acc : Admitted) (f : Plan) (b : Standing)
+    (before after : Vec C) → vec_len after ≡ vec_len before → b.accepted ≡ acc → b.plan ≡ f
+    → FlownBy b.accepted.program b.accepted.cert.jitter b.plan b.entries → IfOk r (λ a. a.status ≡ 0)
+    → IfOk r (λ a. a.text.items ≡ told_text telling b.accepted.program b.plan b.entries)
     → EachAnswered told b.accepted b.plan b.entries before.items after.items → EachUnnamedStays b.plan before.items after.items
-    → GuestsDid told telling r (EachUnnamedStays f before.items after.items) (λ text. GuestsFlew told acc.program acc.cert.jitter f text before.items after.items) before after
+    → GuestsDid told telling r (EachUnnamedStays f before.items after.items)
+    (λ text. GuestsFlew told acc.program acc.cert.jitter f text before.items after.items) before after
 flown told r telling acc f b before after count is plan flown status text answered unnamed = record {
   count = count;
   go_on = flew_told told b.accepted b.plan b.entries before.items after.items answered unnamed;
@@ -166,6 +182,7 @@ flown told r telling acc f b before after count is plan flown status text answer
 }
 
 -- at status 0 all of the text was written, and it is the answer's status
-pub all_written : (held after : Option (List ℕ)) (faults faults_after said : ℕ) (text : List ℕ) (status : ℕ) → Written held after faults faults_after said text status → status ≡ 0 → (said ≡ 0) × Appends held after text
+pub all_written : (held after : Option (List ℕ)) (faults faults_after said : ℕ) (text : List ℕ) (status : ℕ)
+    → Written held after faults faults_after said text status → status ≡ 0 → (said ≡ 0) × Appends held after text
 all_written held after faults faults_after said text status (inl (is, calm, appended)) none = (sym is ∙ none, appended)
 all_written held after faults faults_after said text status (inr (five, rose, part)) none = absurd (omega (arith, five, none))

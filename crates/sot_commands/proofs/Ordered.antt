@@ -25,29 +25,34 @@ use Rattle.sot_commands.proofs.Guests.{stay_told, stayed, all_written}
 
 -- what is said of the mission of a trace, or of a summary, is said of the order
 pub traced : (telling : Telling) (guests : ℕ) (bytes mission : List ℕ) (r : Result Answer AllocError) → telling ≡ Trace → bytes ≡ mission
-    → IfOk r (λ a. FliesBytes guests Trace bytes a.status a.text.items) → IfOk r (λ a. FliesBytes (handed_in telling guests) telling mission a.status a.text.items)
+    → IfOk r (λ a. FliesBytes guests Trace bytes a.status a.text.items)
+    → IfOk r (λ a. FliesBytes (handed_in telling guests) telling mission a.status a.text.items)
 traced telling guests bytes mission r is same flies =
     subst (λ (t : Telling). IfOk r (λ a. FliesBytes (handed_in t guests) t mission a.status a.text.items)) (sym is)
     (subst (λ (b : List ℕ). IfOk r (λ a. FliesBytes guests Trace b a.status a.text.items)) same flies)
 
 pub summed : (telling : Telling) (guests none : ℕ) (bytes mission : List ℕ) (r : Result Answer AllocError) → telling ≡ Summary → none ≡ 0 → bytes ≡ mission
-    → IfOk r (λ a. FliesBytes none Summary bytes a.status a.text.items) → IfOk r (λ a. FliesBytes (handed_in telling guests) telling mission a.status a.text.items)
+    → IfOk r (λ a. FliesBytes none Summary bytes a.status a.text.items)
+    → IfOk r (λ a. FliesBytes (handed_in telling guests) telling mission a.status a.text.items)
 summed telling guests none bytes mission r is nobody same flies =
     subst (λ (t : Telling). IfOk r (λ a. FliesBytes (handed_in t guests) t mission a.status a.text.items)) (sym is)
     (subst (λ (n : ℕ). IfOk r (λ a. FliesBytes n Summary mission a.status a.text.items)) nobody
     (subst (λ (b : List ℕ). IfOk r (λ a. FliesBytes none Summary b a.status a.text.items)) same flies))
 
 -- a flight that is summed was flown without the guests
-summed_flew : (r : Result Answer AllocError) (telling : Telling) (Did : List ℕ → Type 0) → telling ≡ Summary → IfOk r (λ a. a.status ≡ 0 → telling ≡ Trace → Did a.text.items)
+summed_flew : (r : Result Answer AllocError) (telling : Telling) (Did : List ℕ → Type 0) → telling ≡ Summary
+    → IfOk r (λ a. a.status ≡ 0 → telling ≡ Trace → Did a.text.items)
 summed_flew (Ok a) telling Did is = λ zero trace. (let e = sym is ∙ trace in absurd cc)
 summed_flew (Err e) telling Did is = tt
 
-pub summed_did : {C : Type 0} (told : C → Option (List Asking)) (telling : Telling) (r : Result Answer AllocError) (Stay : Type 0) (Did : List ℕ → Type 0) (guests : Vec C) → telling ≡ Summary → Stay
+pub summed_did : {C : Type 0} (told : C → Option (List Asking)) (telling : Telling) (r : Result Answer AllocError) (Stay : Type 0) (Did : List ℕ → Type 0)
+    (guests : Vec C) → telling ≡ Summary → Stay
     → GuestsDid told telling r Stay Did guests guests
 summed_did told telling r Stay Did guests is stay = stayed told telling r Stay Did guests stay (summed_flew r telling Did is)
 
 -- a command that ordered a flight replies with what is said of it
-replies_of : (guests : ℕ) (c : Command) (bytes mission : List ℕ) (telling : Telling) (status : ℕ) (text : List ℕ) → Orders c bytes telling mission → FliesBytes (handed_in telling guests) telling mission status text
+replies_of : (guests : ℕ) (c : Command) (bytes mission : List ℕ) (telling : Telling) (status : ℕ) (text : List ℕ) → Orders c bytes telling mission
+    → FliesBytes (handed_in telling guests) telling mission status text
     → Replies guests c bytes status text
 replies_of guests Check bytes mission telling status text orders flies = absurd orders
 replies_of guests Fly bytes mission telling status text (is, same) flies =
@@ -60,12 +65,14 @@ replies_of guests (Soak n seed) bytes mission telling status text (is, same) fli
     subst (λ (b : List ℕ). FliesBytes 0 Summary b status text) same (subst (λ (t : Telling). FliesBytes (handed_in t guests) t mission status text) is flies)
 
 -- what is said late is said at a late status, or not written
-pub said_late : (held after : Option (List ℕ)) (faults faults_after said : ℕ) (text : List ℕ) (status : ℕ) → said ≡ 7 → Written held after faults faults_after said text status → 4 ≤ status
+pub said_late : (held after : Option (List ℕ)) (faults faults_after said : ℕ) (text : List ℕ) (status : ℕ) → said ≡ 7
+    → Written held after faults faults_after said text status → 4 ≤ status
 said_late held after faults faults_after said text status late (inl (is, calm, wrote)) = omega (arith, late, is)
 said_late held after faults faults_after said text status late (inr (five, rose, part)) = omega (arith, five)
 
 -- memory ran out before anything was said
-ends_lacking : (guests : ℕ) (words : List (String Global)) (before after : Outside) (status : ℕ) → status ≡ 6 → after.read_faults ≡ before.read_faults → after.write_faults ≡ before.write_faults → Keeps before.held after.held
+ends_lacking : (guests : ℕ) (words : List (String Global)) (before after : Outside) (status : ℕ) → status ≡ 6 → after.read_faults ≡ before.read_faults
+    → after.write_faults ≡ before.write_faults → Keeps before.held after.held
     → Ends guests words before after status
 ends_lacking guests words before after status six read wrote keeps = record {
   known = omega (arith, six);
@@ -83,14 +90,19 @@ ends_lacking guests words before after status six read wrote keeps = record {
 }
 
 -- the call ends as the flight does
-pub ordered_ends : (guests : ℕ) (words : List (String Global)) (before after : Outside) (order : FlightOrder) (status : ℕ) → IsOrdered words before.left after.left order → after.read_faults ≡ before.read_faults
-    → FlightEnds guests order.telling order.text.items before.held after.held before.write_faults after.write_faults status → (status ≡ 6 → Keeps before.held after.held) → Ends guests words before after status
-ordered_ends guests words before after order status ordered read (inl (six, wrote)) keeps = ends_lacking guests words before after status six read wrote (keeps six)
+pub ordered_ends : (guests : ℕ) (words : List (String Global)) (before after : Outside) (order : FlightOrder) (status : ℕ)
+    → IsOrdered words before.left after.left order → after.read_faults ≡ before.read_faults
+    → FlightEnds guests order.telling order.text.items before.held after.held before.write_faults after.write_faults status
+    → (status ≡ 6 → Keeps before.held after.held) → Ends guests words before after status
+ordered_ends guests words before after order status ordered read (inl (six, wrote)) keeps =
+    ends_lacking guests words before after status six read wrote (keeps six)
 ordered_ends guests words before after order status (c, asks, (bytes, takes, short, orders)) read (inr (said, text, flies, written)) keeps =
-    ends_said guests words before after text said status (inl (c, asks, inl (bytes, takes, short, replies_of guests c bytes order.text.items order.telling said text orders flies))) read written
+    ends_said guests words before after text said status (inl
+    (c, asks, inl (bytes, takes, short, replies_of guests c bytes order.text.items order.telling said text orders flies))) read written
 
 -- where no flight was asked for, or none was left, the guests are as they were
-pub untouched : {C : Type 0} (told : C → Option (List Asking)) (Flies : Type 0) (IsMission : List ℕ → Type 0) (held held_after : Option (List ℕ)) (guests : Vec C) (status : ℕ) → (status ≡ 0 → Flies → ⊥)
+pub untouched : {C : Type 0} (told : C → Option (List Asking)) (Flies : Type 0) (IsMission : List ℕ → Type 0) (held held_after : Option (List ℕ))
+    (guests : Vec C) (status : ℕ) → (status ≡ 0 → Flies → ⊥)
     → GuestsEnd told Flies IsMission held held_after guests guests status
 untouched told Flies IsMission held held_after guests status never = record {
   count = refl;
@@ -106,14 +118,17 @@ stays_but_for_traces : {C : Type 0} (telling : Telling) (was now : Vec C) → (t
 stays_but_for_traces Trace was now alone none = absurd (none refl)
 stays_but_for_traces Summary was now alone none = alone refl
 
-unasked_said : {C : Type 0} (said status : ℕ) (was now : Vec C) (held held_after : Option (List ℕ)) (faults faults_after : ℕ) (text : List ℕ) → (said ≢ 0 → now ≡ was) → Written held held_after faults faults_after said text status
+unasked_said : {C : Type 0} (said status : ℕ) (was now : Vec C) (held held_after : Option (List ℕ)) (faults faults_after : ℕ) (text : List ℕ)
+    → (said ≢ 0 → now ≡ was) → Written held held_after faults faults_after said text status
     → status ≢ 0 → status ≢ 5 → status ≢ 6 → now ≡ was
 unasked_said said status was now held held_after faults faults_after text same (inl (is, calm, wrote)) zero five six = same (λ none. zero (is ∙ none))
 unasked_said said status was now held held_after faults faults_after text same (inr (is, rose, part)) zero five six = absurd (five is)
 
-pub said_guests : {C : Type 0} (told : C → Option (List Asking)) (telling : Telling) (a : Answer) (mission : List ℕ) (held held_after : Option (List ℕ)) (faults faults_after : ℕ) (was now : Vec C) (status : ℕ)
+pub said_guests : {C : Type 0} (told : C → Option (List Asking)) (telling : Telling) (a : Answer) (mission : List ℕ) (held held_after : Option (List ℕ))
+    (faults faults_after : ℕ) (was now : Vec C) (status : ℕ)
     → Written held held_after faults faults_after a.status a.text.items status
-    → GuestsDid told telling (Ok a) (UnnamedStay (vec_len was) mission was.items now.items) (λ text. Flew told (vec_len was) mission text was.items now.items) was now → (telling ≡ Summary → now ≡ was)
+    → GuestsDid told telling (Ok a) (UnnamedStay (vec_len was) mission was.items now.items) (λ text. Flew told (vec_len was) mission text was.items now.items)
+    was now → (telling ≡ Summary → now ≡ was)
     → GuestsEnd told (telling ≡ Trace) (λ bytes. bytes ≡ mission) held held_after was now status
 said_guests told telling a mission held held_after faults faults_after was now status written did alone = record {
   count = did.count;
@@ -121,11 +136,14 @@ said_guests told telling a mission held held_after faults faults_after was now s
   stay = stays_but_for_traces telling was now alone;
   unasked = unasked_said a.status status was now held held_after faults faults_after a.text.items did.unasked written;
   unnamed = inr (mission, refl, did.stay);
-  flew = λ zero trace. (let wrote = all_written held held_after faults faults_after a.status a.text.items status written zero in (mission, a.text.items, refl, wrote.1, did.flew wrote.0 trace));
+  flew =
+      λ zero trace. (let wrote = all_written held held_after faults faults_after a.status a.text.items status written zero in
+      (mission, a.text.items, refl, wrote.1, did.flew wrote.0 trace));
 }
 
 -- and where memory ran out
-pub silent_guests : {C : Type 0} (told : C → Option (List Asking)) (telling : Telling) (e : AllocError) (mission : List ℕ) (held held_after : Option (List ℕ)) (was now : Vec C) (Did : List ℕ → Type 0)
+pub silent_guests : {C : Type 0} (told : C → Option (List Asking)) (telling : Telling) (e : AllocError) (mission : List ℕ) (held held_after : Option (List ℕ))
+    (was now : Vec C) (Did : List ℕ → Type 0)
     → GuestsDid told telling (Err e) (UnnamedStay (vec_len was) mission was.items now.items) Did was now → (telling ≡ Summary → now ≡ was)
     → GuestsEnd told (telling ≡ Trace) (λ bytes. bytes ≡ mission) held held_after was now 6
 silent_guests told telling e mission held held_after was now Did did alone = record {
@@ -137,12 +155,15 @@ silent_guests told telling e mission held held_after was now Did did alone = rec
   flew = λ zero trace. absurd (omega (arith, zero));
 }
 
-module _ {C : Type 0} (told : C → Option (List Asking)) (words : List (String Global)) (left after : Option (List ℕ)) (order : FlightOrder) (held held_after : Option (List ℕ)) (was now : Vec C) (status : ℕ)
+module _ {C : Type 0} (told : C → Option (List Asking)) (words : List (String Global)) (left after : Option (List ℕ)) (order : FlightOrder)
+    (held held_after : Option (List ℕ)) (was now : Vec C) (status : ℕ)
     (did : GuestsEnd told (order.telling ≡ Trace) (λ bytes. bytes ≡ order.text.items) held held_after was now status) where
   -- the guests of a `fly` flew the mission that was read
-  flown_guests : (bytes : List ℕ) → Asks words Fly → order.telling ≡ Trace → order.text.items ≡ bytes → ReadsAll left after bytes → GuestsEnd told (Asks words Fly) (ReadsAll left after) held held_after was now status
+  flown_guests : (bytes : List ℕ) → Asks words Fly → order.telling ≡ Trace → order.text.items ≡ bytes → ReadsAll left after bytes
+      → GuestsEnd told (Asks words Fly) (ReadsAll left after) held held_after was now status
   flown_guests bytes asks trace same reads =
-      let all : (b : List ℕ) → b ≡ order.text.items → ReadsAll left after b = λ b is. subst (λ (x : List ℕ). ReadsAll left after x) (sym (is ∙ same)) reads in record {
+      let all : (b : List ℕ) → b ≡ order.text.items → ReadsAll left after b = λ b is. subst (λ (x : List ℕ). ReadsAll left after x) (sym (is ∙ same)) reads in
+      record {
         count = did.count;
         go_on = did.go_on;
         stay = λ none. absurd (none asks);
@@ -152,11 +173,13 @@ module _ {C : Type 0} (told : C → Option (List Asking)) (words : List (String 
       }
 
   -- and those of a `soak` were not asked
-  summed_guests : (n seed : ℕ) → Asks words (Soak n seed) → order.telling ≡ Summary → GuestsEnd told (Asks words Fly) (ReadsAll left after) held held_after was now status
+  summed_guests : (n seed : ℕ) → Asks words (Soak n seed) → order.telling ≡ Summary
+      → GuestsEnd told (Asks words Fly) (ReadsAll left after) held held_after was now status
   summed_guests n seed asks summary =
       let same : now ≡ was = did.stay (λ trace. (let e = sym summary ∙ trace in absurd cc)) in
       subst (λ (x : Vec C). GuestsEnd told (Asks words Fly) (ReadsAll left after) held held_after was x status) (sym same)
-      (untouched told (Asks words Fly) (ReadsAll left after) held held_after was status (λ zero fly. (let e = same_command words (Soak n seed) Fly asks fly in absurd cc)))
+      (untouched told (Asks words Fly) (ReadsAll left after) held held_after was status
+      (λ zero fly. (let e = same_command words (Soak n seed) Fly asks fly in absurd cc)))
 
   pub ordered_guests : IsOrdered words left after order → GuestsEnd told (Asks words Fly) (ReadsAll left after) held held_after was now status
   ordered_guests (Check, asks, (bytes, takes, short, orders)) = absurd orders

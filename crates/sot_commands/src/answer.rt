@@ -54,7 +54,8 @@ pub fn fixed(alloc: Global, status: u8, text: &str) -> Result<Answer, AllocError
 /// Status 0: the canonical text of a program.
 pub fn canonical(alloc: Global, program: &Program) -> Result<Answer, AllocError>
     ensures status { IfOk result (λ answer. answer.status ≡ 0) }
-    ensures text { IfOk result (λ answer. answer.text.items ≡ canonical (program_view program.now)) }
+    ensures text { IfOk result (λ answer.
+        answer.text.items ≡ canonical (program_view program.now)) }
 {
     let text = print(alloc, program)?;
     Ok(Answer {
@@ -92,7 +93,8 @@ pub fn accepted(alloc: Global, program: &Typed, cert: &Cert) -> Result<Answer, A
 /// Status 1: the line of a refusal.
 pub fn refused(alloc: Global, program: &Typed, refusal: &Refusal) -> Result<Answer, AllocError>
     ensures status { IfOk result (λ answer. answer.status ≡ 1) }
-    ensures text { IfOk result (λ answer. answer.text.items ≡ refusal_text program.now (refusal_view refusal.now)) }
+    ensures text { IfOk result (λ answer. answer.text.items
+        ≡ refusal_text program.now (refusal_view refusal.now)) }
 {
     let text = sot_report::refusal_text(alloc, program, refusal)?;
     Ok(Answer { status: 1, text })
@@ -100,7 +102,8 @@ pub fn refused(alloc: Global, program: &Typed, refusal: &Refusal) -> Result<Answ
 
 // The trace or the summary of what was flown.
 fn told_text(alloc: Global, telling: Telling, board: &Board<'_>) -> Result<String, AllocError>
-    ensures { IfOk result (λ text. string_bytes text ≡ told_text telling board.now.accepted.program board.now.plan board.now.entries) }
+    ensures { IfOk result (λ text. string_bytes text
+        ≡ told_text telling board.now.accepted.program board.now.plan board.now.entries) }
 {
     match telling {
         Telling::Trace => board_text(alloc, board),
@@ -111,7 +114,8 @@ fn told_text(alloc: Global, telling: Telling, board: &Board<'_>) -> Result<Strin
 /// Status 0: what is told of what was flown.
 pub fn told(alloc: Global, telling: Telling, board: &Board<'_>) -> Result<Answer, AllocError>
     ensures status { IfOk result (λ answer. answer.status ≡ 0) }
-    ensures text { IfOk result (λ answer. answer.text.items ≡ told_text telling board.now.accepted.program board.now.plan board.now.entries) }
+    ensures text { IfOk result (λ answer. answer.text.items
+        ≡ told_text telling board.now.accepted.program board.now.plan board.now.entries) }
 {
     let text = told_text(alloc, telling, board)?;
     Ok(Answer {
@@ -120,7 +124,8 @@ pub fn told(alloc: Global, telling: Telling, board: &Board<'_>) -> Result<Answer
     })
 }
 
-/// Status 1: the line of a flight whose start is refused, since the plant of this module starts outside the module's safer region.
+/// Status 1: the line of a flight whose start is refused, since the plant of this module starts
+/// outside the module's safer region.
 pub fn outside(
     alloc: Global,
     program: &Typed,

@@ -24,7 +24,8 @@ use sot_typing::resolve;
 use std::alloc::{AllocError, Global};
 use std::thread::Threads;
 
-// Reads a text again that was written of a certified program: no such text has a fault, and none is refused.
+// Reads a text again that was written of a certified program: no such text has a fault, and none is
+// refused.
 fn read_back<R: Threads + Sync>(rt: &R, alloc: Global, text: &[u8]) -> Result<(), AllocError>
     requires short { length text.now + 1 < 2 ^ 32 }
     requires written { IsWritten text.now }
@@ -52,7 +53,8 @@ fn certified<R: Threads + Sync>(
     requires resolved { Resolves (program_view program.now) tables.now }
     requires fits { FitsTables tables.now cert.now }
     requires made { Certifies tables.now (Ok cert.now) }
-    ensures { IfOk result (λ answer. CertifiesTables (program_view program.now) tables.now answer.status answer.text.items) }
+    ensures { IfOk result (λ answer. CertifiesTables (program_view program.now) tables.now
+        answer.status answer.text.items) }
 {
     let text = mission_text(alloc, program, tables, cert)?;
     // Places have 32 bits: there is no room for a longer text.
@@ -72,7 +74,8 @@ fn certify_tables<R: Threads + Sync>(
 ) -> Result<Answer, AllocError>
     requires spelled { IsSpelled (program_view program.now) }
     requires resolved { Resolves (program_view program.now) tables.now }
-    ensures { IfOk result (λ answer. CertifiesTables (program_view program.now) tables.now answer.status answer.text.items) }
+    ensures { IfOk result (λ answer. CertifiesTables (program_view program.now) tables.now
+        answer.status answer.text.items) }
 {
     match certificate(alloc, tables) {
         Ok(cert) => certified(rt, alloc, program, tables, &cert),
@@ -88,7 +91,8 @@ fn certify_tree<R: Threads + Sync>(
     program: &Program,
 ) -> Result<Answer, AllocError>
     requires spelled { IsSpelled (program_view program.now) }
-    ensures { IfOk result (λ answer. CertifiesTree (program_view program.now) answer.status answer.text.items) }
+    ensures { IfOk result (λ answer. CertifiesTree (program_view program.now) answer.status
+        answer.text.items) }
 {
     match resolve(alloc, program) {
         Ok(tables) => certify_tables(rt, alloc, program, &tables),
@@ -105,7 +109,8 @@ pub fn certify<R: Threads + Sync>(
     process: Process,
 ) -> Result<Answer, AllocError>
     requires { length bytes.now ≤ input_limit }
-    ensures { (guests : ℕ) → IfOk result (λ answer. Replies guests CertifyCommand bytes.now answer.status answer.text.items) }
+    ensures { (guests : ℕ) → IfOk result
+        (λ answer. Replies guests CertifyCommand bytes.now answer.status answer.text.items) }
 {
     match parse(alloc, &mut Lexer::new(bytes)) {
         Ok(program) => {

@@ -39,7 +39,8 @@ pub fn check<R: Threads + Sync>(
     process: Process,
 ) -> Result<Answer, AllocError>
     requires { length bytes.now ≤ input_limit }
-    ensures { (guests : ℕ) → IfOk result (λ answer. Replies guests CheckCommand bytes.now answer.status answer.text.items) }
+    ensures { (guests : ℕ) → IfOk result
+        (λ answer. Replies guests CheckCommand bytes.now answer.status answer.text.items) }
 {
     match load(alloc, bytes, Need::Check, 0, process) {
         Ok(loaded) => {

@@ -32,7 +32,8 @@ pub fn fly_ordered<C: Controller + Send, R: Threads + Wait + Sync>(
         order.now.telling order.now.text.items answer.status answer.text.items) }
     ensures guests { GuestsDid C.told order.now.telling result
         (UnnamedStay (vec_len guests.old) order.now.text.items guests.old.items guests.new.items)
-        (λ text. Flew C.told (vec_len guests.old) order.now.text.items text guests.old.items guests.new.items)
+        (λ text. Flew C.told (vec_len guests.old) order.now.text.items text guests.old.items
+        guests.new.items)
         guests.old guests.new }
     ensures alone { order.now.telling ≡ Summary → guests.new ≡ guests.old }
 {

@@ -1,4 +1,5 @@
-//! `fly`: the trace of a mission's flight. `soak` does the same on a text that is made, and tells the flight's summary.
+//! `fly`: the trace of a mission's flight. `soak` does the same on a text that is made, and tells
+//! the flight's summary.
 
 ghost use Rattle.std.specs.Prelude.{◌≡◌, ◌<◌, ◌≤◌, ◌^◌, [], length, vec_len, IfOk};
 ghost use Rattle.sot_lang.specs.CertRules.{FitsTables};
@@ -36,15 +37,18 @@ fn fly_unaided(
     telling: Telling,
 ) -> Result<Answer, AllocError>
     requires flight { flight.now ≡ board.old.plan }
-    requires inside { StartInside board.old.accepted.program flight.now.start (length board.old.accepted.program.modules) }
+    requires inside { StartInside board.old.accepted.program flight.now.start
+        (length board.old.accepted.program.modules) }
     requires no_guests { HasNoGuests flight.now }
-    ensures { IfOk result (λ answer. JudgesFlight telling board.old.accepted.program board.old.accepted.cert.jitter flight.now answer.status answer.text.items) }
+    ensures { IfOk result (λ answer. JudgesFlight telling board.old.accepted.program
+        board.old.accepted.cert.jitter flight.now answer.status answer.text.items) }
 {
     fly_alone(board, flight);
     told(alloc, telling, board)
 }
 
-// Flies a newly opened board with its guests, and tells what was flown. Where there are no guests, it takes no lists of drafts.
+// Flies a newly opened board with its guests, and tells what was flown. Where there are no guests,
+// it takes no lists of drafts.
 fn fly_opened<'a, C: Controller + Send, R: Threads + Wait + Sync>(
     rt: &R,
     alloc: Global,
@@ -55,12 +59,16 @@ fn fly_opened<'a, C: Controller + Send, R: Threads + Wait + Sync>(
 ) -> Result<Answer, AllocError>
     requires flight { flight.now ≡ board.plan }
     requires opened { board.entries ≡ [] }
-    requires inside { StartInside board.accepted.program flight.now.start (length board.accepted.program.modules) }
+    requires inside { StartInside board.accepted.program flight.now.start
+        (length board.accepted.program.modules) }
     requires fits { FitsFlight board.accepted.program (vec_len guests.old) flight.now }
-    ensures judges { IfOk result (λ answer. JudgesFlight telling board.entry.accepted.program board.entry.accepted.cert.jitter flight.now answer.status answer.text.items) }
+    ensures judges { IfOk result (λ answer.
+        JudgesFlight telling board.entry.accepted.program board.entry.accepted.cert.jitter
+        flight.now answer.status answer.text.items) }
     ensures guests { GuestsDid C.told telling result
         (EachUnnamedStays flight.now guests.old.items guests.new.items)
-        (λ text. GuestsFlew C.told board.entry.accepted.program board.entry.accepted.cert.jitter flight.now text guests.old.items guests.new.items)
+        (λ text. GuestsFlew C.told board.entry.accepted.program board.entry.accepted.cert.jitter
+        flight.now text guests.old.items guests.new.items)
         guests.old guests.new }
 {
     if guests.is_empty() {
@@ -82,10 +90,13 @@ fn fly_accepted<C: Controller + Send, R: Threads + Wait + Sync>(
     telling: Telling,
 ) -> Result<Answer, AllocError>
     requires { FitsFlight accepted.now.program (vec_len guests.old) flight.now }
-    ensures judges { IfOk result (λ answer. JudgesFlight telling accepted.now.program accepted.now.cert.jitter flight.now answer.status answer.text.items) }
+    ensures judges { IfOk result (λ answer.
+        JudgesFlight telling accepted.now.program accepted.now.cert.jitter flight.now answer.status
+        answer.text.items) }
     ensures guests { GuestsDid C.told telling result
         (EachUnnamedStays flight.now guests.old.items guests.new.items)
-        (λ text. GuestsFlew C.told accepted.now.program accepted.now.cert.jitter flight.now text guests.old.items guests.new.items)
+        (λ text. GuestsFlew C.told accepted.now.program accepted.now.cert.jitter flight.now text
+        guests.old.items guests.new.items)
         guests.old guests.new }
 {
     match Board::open(alloc, accepted, flight) {
@@ -107,10 +118,12 @@ fn judge<C: Controller + Send, R: Threads + Wait + Sync>(
 ) -> Result<Answer, AllocError>
     requires cert { FitsTables program.now cert.now }
     requires flight { FitsFlight program.now (vec_len guests.old) flight.now }
-    ensures judges { IfOk result (λ answer. JudgesFlown telling program.now cert.now flight.now answer.status answer.text.items) }
+    ensures judges { IfOk result (λ answer.
+        JudgesFlown telling program.now cert.now flight.now answer.status answer.text.items) }
     ensures guests { GuestsDid C.told telling result
         (EachUnnamedStays flight.now guests.old.items guests.new.items)
-        (λ text. GuestsFlew C.told program.now cert.now.jitter flight.now text guests.old.items guests.new.items)
+        (λ text. GuestsFlew C.told program.now cert.now.jitter flight.now text guests.old.items
+        guests.new.items)
         guests.old guests.new }
 {
     match check_all(rt, program, cert) {
@@ -119,8 +132,8 @@ fn judge<C: Controller + Send, R: Threads + Wait + Sync>(
     }
 }
 
-/// Flies a mission with these guests: reads its sections, its program, its certificate and its flight, checks it, flies it, and tells
-/// what was flown.
+/// Flies a mission with these guests: reads its sections, its program, its certificate and its
+/// flight, checks it, flies it, and tells what was flown.
 pub fn fly<C: Controller + Send, R: Threads + Wait + Sync>(
     rt: &R,
     alloc: Global,
@@ -131,7 +144,8 @@ pub fn fly<C: Controller + Send, R: Threads + Wait + Sync>(
 ) -> Result<Answer, AllocError>
     requires short { length bytes.now ≤ input_limit }
     requires few { vec_len guests.old < 2 ^ 32 }
-    ensures flies { IfOk result (λ answer. FliesBytes (vec_len guests.old) telling bytes.now answer.status answer.text.items) }
+    ensures flies { IfOk result (λ answer.
+        FliesBytes (vec_len guests.old) telling bytes.now answer.status answer.text.items) }
     ensures guests { GuestsDid C.told telling result
         (UnnamedStay (vec_len guests.old) bytes.now guests.old.items guests.new.items)
         (λ text. Flew C.told (vec_len guests.old) bytes.now text guests.old.items guests.new.items)

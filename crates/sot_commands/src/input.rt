@@ -22,9 +22,11 @@ fn reads(command: Command) -> bool
 /// All that the source has left, for a command that reads; and nothing for one that does not.
 #[tactic(auto, using(crate::proofs::Nothing::reads_nothing, crate::proofs::Nothing::takes_all, crate::proofs::Nothing::takes_none))]
 pub fn take<S: Source>(alloc: Global, command: Command, source: &mut S) -> Result<Vec<u8>, ReadFail>
-    ensures ok { IfOk result (λ bytes. Takes command (S.left source.old) (S.left source.new) bytes.items) }
+    ensures ok { IfOk result (λ bytes.
+        Takes command (S.left source.old) (S.left source.new) bytes.items) }
     ensures within { IfOk result (λ bytes. vec_len bytes ≤ INPUT_LIMIT) }
-    ensures fault { IsErrOf result ReadFail.Fault → Rose (S.faults source.old) (S.faults source.new) }
+    ensures fault { IsErrOf result ReadFail.Fault
+        → Rose (S.faults source.old) (S.faults source.new) }
     ensures too_long { IsErrOf result ReadFail.TooLong →
         ReadsCount (S.left source.old) (S.left source.new) (INPUT_LIMIT + 1) }
     ensures well { ¬ (IsErrOf result ReadFail.Fault) → S.faults source.new ≡ S.faults source.old }

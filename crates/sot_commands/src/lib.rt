@@ -1,11 +1,13 @@
 //! The commands of `soter`: what words ask, done over any source and any sink.
 //!
-//! [`soter`] is the top call: it looks at the words, reads, decides and writes one text. Its contract is a record with a field for each
-//! exit status (specs/Ends.antt), and says of all bytes of the input which status they get. [`command_of`] says which command the words
-//! ask for. The other functions are laws on what is answered, whatever the code does.
+//! [`soter`] is the top call: it looks at the words, reads, decides and writes one text. Its
+//! contract is a record with a field for each exit status (specs/Ends.antt), and says of all bytes
+//! of the input which status they get. [`command_of`] says which command the words ask for. The
+//! other functions are laws on what is answered, whatever the code does.
 //!
-//! The rules themselves stand in the crates below: `sot_report` says what the bytes of a mission spell and which texts are written,
-//! `sot_compose` whether a mission is accepted, `sot_world` what a run is, and `sot_ports` what was read and written.
+//! The rules themselves stand in the crates below: `sot_report` says what the bytes of a mission
+//! spell and which texts are written, `sot_compose` whether a mission is accepted, `sot_world` what
+//! a run is, and `sot_ports` what was read and written.
 #![tactic(auto)]
 
 mod answer;

@@ -26,8 +26,9 @@ impl Controller for Nobody {
     fn decide(&mut self, _view: &View, _draft: &mut Draft) {}
 }
 
-/// What the program does: `begin`, and `fly_to_the_end` where the words ask for a flight, which is all that may wait. It
-/// hands in no guest, and ends with the status of the call. The words are those behind the program's name.
+/// What the program does: `begin`, and `fly_to_the_end` where the words ask for a flight, which is
+/// all that may wait. It hands in no guest, and ends with the status of the call. The words are
+/// those behind the program's name.
 pub fn run<R: Threads + Wait + Sync>(
     rt: &R,
     alloc: Global,

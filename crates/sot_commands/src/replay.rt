@@ -22,7 +22,8 @@ use sot_tube::Accepted;
 use std::alloc::{AllocError, Global};
 use std::thread::Threads;
 
-// Whether the lines of a text are the trace of an accepted program's flight, if its plants start inside their safer regions.
+// Whether the lines of a text are the trace of an accepted program's flight, if its plants start
+// inside their safer regions.
 fn replay_accepted(
     alloc: Global,
     accepted: &Accepted<'_>,
@@ -33,7 +34,8 @@ fn replay_accepted(
     requires flight { FitsFlight accepted.now.program guests flight.now }
     requires words { AreWords accepted.now.program }
     requires short { length trace.now ≤ input_limit }
-    ensures { IfOk result (λ answer. JudgesLines accepted.now.program accepted.now.cert.jitter flight.now (lent_lines trace.now) answer.status answer.text.items) }
+    ensures { IfOk result (λ answer. JudgesLines accepted.now.program accepted.now.cert.jitter
+        flight.now (lent_lines trace.now) answer.status answer.text.items) }
 {
     match replay_lines(alloc, accepted, flight, Lines::new(trace)) {
         Ok(events) => legal(alloc, events),
@@ -57,7 +59,8 @@ fn judge<R: Threads + Sync>(
     requires flight { FitsFlight program.now guests flight.now }
     requires words { AreWords program.now }
     requires short { length trace.now ≤ input_limit }
-    ensures { IfOk result (λ answer. JudgesReplayed program.now cert.now flight.now (lent_lines trace.now) answer.status answer.text.items) }
+    ensures { IfOk result (λ answer. JudgesReplayed program.now cert.now flight.now
+        (lent_lines trace.now) answer.status answer.text.items) }
 {
     match check_all(rt, program, cert) {
         Ok(accepted) => replay_accepted(alloc, &accepted, flight, guests, trace),
@@ -65,7 +68,8 @@ fn judge<R: Threads + Sync>(
     }
 }
 
-/// Reads a mission with its flight, for so many guests, and a trace, checks the mission, and tells whether the trace is that of a history of the flight.
+/// Reads a mission with its flight, for so many guests, and a trace, checks the mission, and tells
+/// whether the trace is that of a history of the flight.
 pub fn replay<R: Threads + Sync>(
     rt: &R,
     alloc: Global,
@@ -74,7 +78,8 @@ pub fn replay<R: Threads + Sync>(
     process: Process,
 ) -> Result<Answer, AllocError>
     requires { length bytes.now ≤ input_limit }
-    ensures { IfOk result (λ answer. Replies guests ReplayCommand bytes.now answer.status answer.text.items) }
+    ensures { IfOk result (λ answer. Replies guests ReplayCommand bytes.now answer.status
+        answer.text.items) }
 {
     match load(alloc, bytes, Need::Replay, guests, process) {
         Ok(loaded) => {

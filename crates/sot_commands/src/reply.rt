@@ -56,8 +56,8 @@ fn format(alloc: Global, bytes: &[u8], process: Process) -> Result<Answer, Alloc
     }
 }
 
-/// What a command says of the text that it works on, where so many guests are handed in; of one that flies, the order
-/// of the flight. It does not wait.
+/// What a command says of the text that it works on, where so many guests are handed in; of one
+/// that flies, the order of the flight. It does not wait.
 pub fn reply_of<R: Threads + Sync>(
     rt: &R,
     alloc: Global,

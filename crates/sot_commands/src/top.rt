@@ -1,6 +1,7 @@
 //! The top calls: words and input to one text and a status.
 
-ghost use Rattle.std.specs.Prelude.{◌≡◌, ◌≢◌, ◌+◌, ◌<◌, ◌≤◌, ◌^◌, ◌⊎◌, Ok, length, vec_len, IsErr, IfOk, IfErr, MatchResult};
+ghost use Rattle.std.specs.Prelude.{◌≡◌, ◌≢◌, ◌+◌, ◌<◌, ◌≤◌, ◌^◌, ◌⊎◌, Ok, length, vec_len, IsErr};
+ghost use Rattle.std.specs.Prelude.{IfOk, IfErr, MatchResult};
 ghost use Rattle.sot_ports.specs.Faults.{Rose};
 ghost use Rattle.sot_ports.specs.Whole.{ReadsAll, ReadsUpTo};
 ghost use Rattle.sot_commands.specs.Words.{Reads, IsInForm, Asks, AsksNoReader, AsksFlight};
@@ -100,11 +101,12 @@ fn say<K: Sink>(answer: &Answer, sink: &mut K) -> Status
     }
 }
 
-/// Does all that needs no waiting: looks at the words, reads at most the input's limit and one byte more, and ends with
-/// one text that is written, unless the words ask for a flight (`fly`, `soak`). That flight it orders, and writes nothing.
-/// The words are those after the program's name; so many guests are to be handed in with the flight. Its runtime cannot
-/// wait, so it returns. Threads of `rt` check long lists of cells; what is answered does not depend on them. Where the
-/// process ends with this call, what was read is not given back to memory.
+/// Does all that needs no waiting: looks at the words, reads at most the input's limit and one byte
+/// more, and ends with one text that is written, unless the words ask for a flight (`fly`, `soak`).
+/// That flight it orders, and writes nothing. The words are those after the program's name; so many
+/// guests are to be handed in with the flight. Its runtime cannot wait, so it returns. Threads of
+/// `rt` check long lists of cells; what is answered does not depend on them. Where the process ends
+/// with this call, what was read is not given back to memory.
 pub fn begin<R: Threads + Sync, S: Source, K: Sink>(
     rt: &R,
     alloc: Global,
@@ -121,7 +123,8 @@ pub fn begin<R: Threads + Sync, S: Source, K: Sink>(
     ensures flight { IfFlight result (IsOrdered words.now (S.left source.old) (S.left source.new)) }
     ensures short { IfFlight result (λ order. length order.text.items ≤ INPUT_LIMIT) }
     ensures well { IfFlight result (λ _. S.faults source.new ≡ S.faults source.old) }
-    // Words that ask for a flight leave one, but for a fault of reading or writing, want of memory, and too long an input.
+    // Words that ask for a flight leave one, but for a fault of reading or writing, want of memory,
+    // and too long an input.
     ensures leaves { AsksFlight words.now → IfEnded result (λ status. 4 ≤ status.0) }
 
     // Whatever the end, at most one byte more than the limit was taken from the source.
@@ -140,9 +143,9 @@ pub fn begin<R: Threads + Sync, S: Source, K: Sink>(
     }
 }
 
-/// Flies what `begin` ordered, and writes what is told of it. The guests, fewer than 2^32, fly the nodes that the flight
-/// of a `fly` names them for; a `soak` is flown without them. It waits for its turn and for the guests, so it returns
-/// only if they do.
+/// Flies what `begin` ordered, and writes what is told of it. The guests, fewer than 2^32, fly the
+/// nodes that the flight of a `fly` names them for; a `soak` is flown without them. It waits for
+/// its turn and for the guests, so it returns only if they do.
 pub fn fly_to_the_end<C: Controller + Send, R: Threads + Wait + Sync, K: Sink>(
     rt: &R,
     alloc: Global,
@@ -157,7 +160,8 @@ pub fn fly_to_the_end<C: Controller + Send, R: Threads + Wait + Sync, K: Sink>(
         (K.held sink.old) (K.held sink.new) (K.faults sink.old) (K.faults sink.new) result.0 }
     // Want of memory leaves the sink as it was.
     ensures unwritten { result.0 ≡ 6 → sink.new ≡ sink.old }
-    ensures guests { GuestsEnd C.told (order.now.telling ≡ Trace) (λ bytes. bytes ≡ order.now.text.items)
+    ensures guests { GuestsEnd C.told
+        (order.now.telling ≡ Trace) (λ bytes. bytes ≡ order.now.text.items)
         (K.held sink.old) (K.held sink.new) guests.old guests.new result.0 }
 {
     match fly_ordered(rt, alloc, guests, order, process) {
@@ -166,8 +170,8 @@ pub fn fly_to_the_end<C: Controller + Send, R: Threads + Wait + Sync, K: Sink>(
     }
 }
 
-/// Does what the words ask: `begin`, and `fly_to_the_end` where they ask for a flight. It may wait for guests, of which
-/// there are as many afterwards, and for its turn, in a flight alone.
+/// Does what the words ask: `begin`, and `fly_to_the_end` where they ask for a flight. It may wait
+/// for guests, of which there are as many afterwards, and for its turn, in a flight alone.
 pub fn soter<C: Controller + Send, R: Threads + Wait + Sync, S: Source, K: Sink>(
     rt: &R,
     alloc: Global,

@@ -10,5 +10,6 @@ use Rattle.sot_rta.specs.declared.refusal.Refusal.{Refusal}
 
 -- this program with this certificate, which is well certified; or the first condition that fails
 abbrev pub Accepts : Tables → Cert → Result Admitted Refusal → Type 0
-Accepts p cert (Ok accepted) = (accepted ≡ record { program = p; cert = cert }) × IsWellCertified p cert.jitter cert
+Accepts p cert (Ok accepted) =
+    (accepted ≡ record { program = p; cert = cert }) × IsWellCertified p cert.jitter cert
 Accepts p cert (Err r) = (verdict p cert.jitter cert).Refuses (refusal_view r)

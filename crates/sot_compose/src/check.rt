@@ -64,7 +64,8 @@ fn code_of(p: &Typed, node: u32, info: &NodeInfo) -> Result<(), Refusal>
     }
 }
 
-/// Whether each coded node never traps, whatever it meets; else the first that may. Takes no memory.
+/// Whether each coded node never traps, whatever it meets; else the first that may. Takes no
+/// memory.
 pub fn check_codes(p: &Typed) -> Result<(), Refusal>
     requires rules { MeetsTableRules p.now }
     requires boxes { HaveSafeBoxes p.now }
@@ -111,14 +112,16 @@ fn checked<R: Threads + Sync>(rt: &R, p: &Typed, c: &Cert) -> Result<(), Refusal
     cells(rt, p, c)
 }
 
-/// Accepts a program with its certificate exactly where all fifteen conditions hold; else refuses it for the first one that fails,
-/// with its evidence. The order is: no shared node, no shared output, no shared plant, no foreign input; then per module an entry,
-/// short periods, outputs in common, regions that are not empty; then per coded node no trap; then per module its closed cells
-/// and its reach cells. `c` is a certificate of this program. Long lists of cells are checked by threads of `rt`; which condition is
-/// the first does not depend on them. Takes no memory.
+/// Accepts a program with its certificate exactly where all fifteen conditions hold; else refuses
+/// it for the first one that fails, with its evidence. The order is: no shared node, no shared
+/// output, no shared plant, no foreign input; then per module an entry, short periods, outputs in
+/// common, regions that are not empty; then per coded node no trap; then per module its closed
+/// cells and its reach cells. `c` is a certificate of this program. Long lists of cells are checked
+/// by threads of `rt`; which condition is the first does not depend on them. Takes no memory.
 ///
-/// Of an accepted program every run from plants in their safer regions is safe, with firings up to the certificate's jitter late:
-/// at each tick every module's plant is in the module's safe region, and no coded node traps.
+/// Of an accepted program every run from plants in their safer regions is safe, with firings up to
+/// the certificate's jitter late: at each tick every module's plant is in the module's safe region,
+/// and no coded node traps.
 pub fn check_all<'a, R: Threads + Sync>(
     rt: &R,
     p: &'a Typed,

@@ -1,8 +1,9 @@
 //! Whether a program is accepted with its certificate.
 //!
-//! [`check_all`] tests all fifteen conditions of a certificate in order: how the modules are put together, the shape of each, each
-//! coded node, and the cells of each module. It accepts exactly where all of them hold, and else gives the first that fails with
-//! its evidence. The conditions of one module stand in `sot_rta`, what they show of runs in `sot_tube` and `sot_world`.
+//! [`check_all`] tests all fifteen conditions of a certificate in order: how the modules are put
+//! together, the shape of each, each coded node, and the cells of each module. It accepts exactly
+//! where all of them hold, and else gives the first that fails with its evidence. The conditions of
+//! one module stand in `sot_rta`, what they show of runs in `sot_tube` and `sot_world`.
 #![tactic(auto)]
 
 mod check;

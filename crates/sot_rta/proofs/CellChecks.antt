@@ -33,17 +33,22 @@ behind first second passes (Ok x) h = (passes, h)
 behind first second passes (Err e) h = inr (passes, h)
 
 -- the reach cells behind all else that passes
-pub cells_answer : (p : Tables) (jitter m : ℕ) (a : ModuleInfo) (plant : PlantInfo) (sc : NodeInfo) (acts : List Act) (cells : Cells) → (closed_cover m a cells).Passes → (for_each cells.closed.boxes (closed_cell p jitter m a plant sc acts)).Passes → (reach_cover m a cells).Passes
-    → (r : Result (Unit {0}) Refusal) → Answers (for_each cells.reach.boxes (reach_cell p jitter m a plant)) r → Answers (cell_checks p jitter m a plant sc acts cells) r
+pub cells_answer : (p : Tables) (jitter m : ℕ) (a : ModuleInfo) (plant : PlantInfo) (sc : NodeInfo) (acts : List Act) (cells : Cells)
+    → (closed_cover m a cells).Passes → (for_each cells.closed.boxes (closed_cell p jitter m a plant sc acts)).Passes → (reach_cover m a cells).Passes
+    → (r : Result (Unit {0}) Refusal) → Answers (for_each cells.reach.boxes (reach_cell p jitter m a plant)) r
+    → Answers (cell_checks p jitter m a plant sc acts cells) r
 cells_answer p jitter m a plant sc acts cells cover closed safer (Ok x) h = (cover, (closed, (safer, h)))
 cells_answer p jitter m a plant sc acts cells cover closed safer (Err e) h = inr (cover, inr (closed, inr (safer, h)))
 
 -- the entry of a module
-pub entry_there : (p : Tables) (cert : Cert) → FitsTables p cert → (m : ℕ) (x : Option Cells) → m < length p.modules → x ≡ get_or cert.modules.items m x → At cert.modules.items m x
+pub entry_there : (p : Tables) (cert : Cert) → FitsTables p cert → (m : ℕ) (x : Option Cells) → m < length p.modules → x ≡ get_or cert.modules.items m x
+    → At cert.modules.items m x
 entry_there p cert fits m x lt is = read_at cert.modules.items cert.modules.items m x refl (subst (λ n. m < n) (sym fits.entries) lt) is
 
-module _ (p : Tables) (rules : MeetsTableRules p) (jitter : ℕ) (cert : Cert) (m : ℕ) (a : ModuleInfo) (at : At p.modules m a) (cells : Cells) (entry : HasCells cert m cells) where
-  passes : ((plant : PlantInfo) (sc : NodeInfo) (acts : List Act) → At p.plants a.plant plant → At p.nodes a.sc sc → IsCoded sc acts → (cell_checks p jitter m a plant sc acts cells).Passes) → (cells_of p jitter cert m a).Passes
+module _ (p : Tables) (rules : MeetsTableRules p) (jitter : ℕ) (cert : Cert) (m : ℕ) (a : ModuleInfo) (at : At p.modules m a) (cells : Cells)
+    (entry : HasCells cert m cells) where
+  passes : ((plant : PlantInfo) (sc : NodeInfo) (acts : List Act) → At p.plants a.plant plant → At p.nodes a.sc sc → IsCoded sc acts
+      → (cell_checks p jitter m a plant sc acts cells).Passes) → (cells_of p jitter cert m a).Passes
   passes h plant plant_at sc sc_at acts coded others has =
       let same : cells ≡ others = same_Some cells others (same_Some (Some cells) (Some others) (sym entry ∙ has)) in
       subst (λ q. (cell_checks p jitter m a plant sc acts q).Passes) same (h plant sc acts plant_at sc_at coded)

@@ -67,7 +67,8 @@ module _ (Answer : Answering) where
     first_of_chunks a (suc n) (Ok u ∷ xs) h =
         let found = unwrap_or (find is_err xs) (Ok tt) in
         let same : bound (a + 1 + n) ≡ bound (a + suc n) = ap bound (omega arith) in
-        behind_ok (bound a) (bound (a + 1)) (bound (a + suc n)) (rises a) h.0 found (subst (λ to. AnswersAll Answer (bound (a + 1)) to found) same (first_of_chunks (a + 1) n xs h.1))
+        behind_ok (bound a) (bound (a + 1)) (bound (a + suc n)) (rises a) h.0 found
+        (subst (λ to. AnswersAll Answer (bound (a + 1)) to found) same (first_of_chunks (a + 1) n xs h.1))
     first_of_chunks a (suc n) (Err r ∷ xs) h =
         let same : bound (a + 1 + n) ≡ bound (a + suc n) = ap bound (omega arith) in
         (h.0.0, h.0.1, omega (arith, same, further (a + 1) n, h.0.2), h.0.3, h.0.4)

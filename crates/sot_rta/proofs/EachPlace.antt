@@ -9,7 +9,8 @@ use Rattle.sot_rta.specs.declared.refusal.Refusal.{Refusal}
 use Rattle.sot_rta.specs.Refused.{Answers}
 use Rattle.sot_rta.specs.Many.{Answering, AnswersAll}
 
-module _ {A : Type 0} (xs : List A) (check : ℕ → A → Check) (Answer : Answering) (are : (i : ℕ) (x : A) → At xs i x → (r : Result (Unit {0}) Refusal) → Answer i r → Answers (check i x) r) where
+module _ {A : Type 0} (xs : List A) (check : ℕ → A → Check) (Answer : Answering)
+    (are : (i : ℕ) (x : A) → At xs i x → (r : Result (Unit {0}) Refusal) → Answer i r → Answers (check i x) r) where
   pub each_answers : (n : ℕ) → n ≡ length xs → (result : Result (Unit {0}) Refusal) → AnswersAll Answer 0 n result → Answers (for_each xs check) result
   each_answers n all (Ok u) h = λ i x at. are i x at (Ok tt) (h i (omega arith) (omega (arith, all, slice_get_within xs i x at)))
   each_answers n all (Err r) h =

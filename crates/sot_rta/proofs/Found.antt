@@ -30,7 +30,8 @@ not_longer p a n node at le longer =
     omega (arith, longer.2, le, period)
 
 -- scalars written by a node exist
-pub written_there : (p : Tables) → MeetsTableRules p → (n : ℕ) (node : NodeInfo) → At p.nodes n node → (scalars : List ScalarInfo) (writes : List ℕ) → scalars ≡ p.scalars → writes ≡ node.writes.items
+pub written_there : (p : Tables) → MeetsTableRules p → (n : ℕ) (node : NodeInfo) → At p.nodes n node → (scalars : List ScalarInfo) (writes : List ℕ)
+    → scalars ≡ p.scalars → writes ≡ node.writes.items
     → (k : ℕ) → Has writes k → k < length scalars
 written_there p rules n node at scalars writes same are k h = subst (λ l. k < length l) (sym same) (rules.typed.inside n node k at (subst (λ l. Has l k) are h))
 
@@ -47,7 +48,8 @@ module _ (p : Tables) (a : ModuleInfo) (ac sc : NodeInfo) (ac_at : At p.nodes a.
       let same_a : one.0 ≡ ac = same_Some one.0 ac (sym one.2 ∙ ac_at) in
       let same_s : one.1 ≡ sc = same_Some one.1 sc (sym one.3 ∙ sc_at) in
       let o : IsOfOneAlone p.scalars ac.writes.items sc.writes.items t =
-      subst (λ (x : NodeInfo). IsOfOneAlone p.scalars x.writes.items sc.writes.items t) same_a (subst (λ (x : NodeInfo). IsOfOneAlone p.scalars one.0.writes.items x.writes.items t) same_s one.4) in
+      subst (λ (x : NodeInfo). IsOfOneAlone p.scalars x.writes.items sc.writes.items t) same_a
+      (subst (λ (x : NodeInfo). IsOfOneAlone p.scalars one.0.writes.items x.writes.items t) same_s one.4) in
       ⊎_elim (λ l. l.1 (alike.0 l.0)) (λ r. r.1 (alike.1 r.0)) o
 
   same_outputs : MeetsTableRules p → ((t : ℕ) → t < length p.topics → AreAlike p.scalars ac.writes.items sc.writes.items t) → AreSameOutputs p a
@@ -58,18 +60,25 @@ module _ (p : Tables) (a : ModuleInfo) (ac sc : NodeInfo) (ac_at : At p.nodes a.
         (λ w. (each t (topic_there p rules ac.writes.items t w)).0 w),
         (λ w. (each t (topic_there p rules sc.writes.items t w)).1 w),
       ) in
-      subst (λ (x : NodeInfo). AreAlike p.scalars x.writes.items sc'.writes.items t) same_a (subst (λ (x : NodeInfo). AreAlike p.scalars ac.writes.items x.writes.items t) same_s alike)
+      subst (λ (x : NodeInfo). AreAlike p.scalars x.writes.items sc'.writes.items t) same_a
+      (subst (λ (x : NodeInfo). AreAlike p.scalars ac.writes.items x.writes.items t) same_s alike)
 
   pub least_alone : (scalars : List ScalarInfo) (some others : List ℕ) → scalars ≡ p.scalars → some ≡ ac.writes.items → others ≡ sc.writes.items
       → (t : ℕ) → IsOfOneAlone scalars some others t → ((u : ℕ) → u < t → AreAlike scalars some others u) → IsLeastNumber (IsWrittenByOne p a) t
   least_alone scalars some others e f g t has before =
-      let here : IsOfOneAlone p.scalars ac.writes.items sc.writes.items t = subst (λ x. IsOfOneAlone x ac.writes.items sc.writes.items t) e (subst (λ x. IsOfOneAlone scalars x sc.writes.items t) f (subst (λ x. IsOfOneAlone scalars some x t) g has)) in
+      let here : IsOfOneAlone p.scalars ac.writes.items sc.writes.items t =
+      subst (λ x. IsOfOneAlone x ac.writes.items sc.writes.items t) e
+      (subst (λ x. IsOfOneAlone scalars x sc.writes.items t) f (subst (λ x. IsOfOneAlone scalars some x t) g has)) in
       record {
         has = (ac, sc, ac_at, sc_at, here);
-        least = λ u lt. not_by_one u (subst (λ x. AreAlike x ac.writes.items sc.writes.items u) e (subst (λ x. AreAlike scalars x sc.writes.items u) f (subst (λ x. AreAlike scalars some x u) g (before u lt))));
+        least =
+            λ u lt. not_by_one u (subst (λ x. AreAlike x ac.writes.items sc.writes.items u) e
+            (subst (λ x. AreAlike scalars x sc.writes.items u) f (subst (λ x. AreAlike scalars some x u) g (before u lt))));
       }
 
-  pub all_alike : MeetsTableRules p → (scalars : List ScalarInfo) (some others : List ℕ) → scalars ≡ p.scalars → some ≡ ac.writes.items → others ≡ sc.writes.items
+  pub all_alike : MeetsTableRules p → (scalars : List ScalarInfo) (some others : List ℕ) → scalars ≡ p.scalars → some ≡ ac.writes.items
+      → others ≡ sc.writes.items
       → ((t : ℕ) → t < length p.topics → AreAlike scalars some others t) → AreSameOutputs p a
   all_alike rules scalars some others e f g each =
-      same_outputs rules (λ t lt. subst (λ x. AreAlike x ac.writes.items sc.writes.items t) e (subst (λ x. AreAlike scalars x sc.writes.items t) f (subst (λ x. AreAlike scalars some x t) g (each t lt))))
+      same_outputs rules (λ t lt. subst (λ x. AreAlike x ac.writes.items sc.writes.items t) e
+      (subst (λ x. AreAlike scalars x sc.writes.items t) f (subst (λ x. AreAlike scalars some x t) g (each t lt))))

@@ -38,14 +38,16 @@ map_same : (f g : ℕ → Side) (xs : List ℕ) → ((x : ℕ) → f x ≡ g x) 
 map_same f g [] h = refl
 map_same f g (x ∷ xs) h = ap₂ (λ y ys. y ∷ ys) (h x) (map_same f g xs h)
 
-module _ (p : Tables) (rules : MeetsTableRules p) (may : MayHaveCells p) (m : ℕ) (a : ModuleInfo) (at : At p.modules m a) (plant : PlantInfo) (plant_at : At p.plants a.plant plant) (sc : NodeInfo) (sc_at : At p.nodes a.sc sc) where
+module _ (p : Tables) (rules : MeetsTableRules p) (may : MayHaveCells p) (m : ℕ) (a : ModuleInfo) (at : At p.modules m a) (plant : PlantInfo)
+    (plant_at : At p.plants a.plant plant) (sc : NodeInfo) (sc_at : At p.nodes a.sc sc) where
   -- the safe node is coded
   pub is_coded : (acts : List Act) × IsCoded sc acts
   is_coded =
       let n = rules.typed.sc_is m a at in
       (n.1, subst (λ (x : NodeInfo). IsCoded x n.1) (same_Some n.0 sc (sym n.2 ∙ sc_at)) n.3)
 
-  module _ (cell : List Side) (ordered : AreOrdered cell) (covered : Covers a.safe.boxes cell) (result : OrMayTrap (List Drafted)) (drafts : IsCellDraft p a.plant cell sc result) where
+  module _ (cell : List Side) (ordered : AreOrdered cell) (covered : Covers a.safe.boxes cell) (result : OrMayTrap (List Drafted))
+      (drafts : IsCellDraft p a.plant cell sc result) where
     abbrev Answered : ℕ → PlantInfo → NodeInfo → List Act → Result (Unit {0}) Leave → Type 0
     Answered jitter plant sc acts r =
         (fired : Intervals) × DraftsFrom p a sc acts cell fired
@@ -58,7 +60,8 @@ module _ (p : Tables) (rules : MeetsTableRules p) (may : MayHaveCells p) (m : �
     fires =
         let hs = all_hulls p rules may.boxes in
         let o = drafts is_coded.0 hs.0 is_coded.1 hs.1 in
-        let f = cell_never_traps p rules.typed may.own_plant m a plant sc is_coded.0 hs.0 cell (lows cell) o.0 at plant_at sc_at (may.free a.sc sc is_coded.0 sc_at is_coded.1) hs.1 (lows_within cell ordered) covered o.1 in
+        let f = cell_never_traps p rules.typed may.own_plant m a plant sc is_coded.0 hs.0 cell (lows cell) o.0 at plant_at sc_at
+        (may.free a.sc sc is_coded.0 sc_at is_coded.1) hs.1 (lows_within cell ordered) covered o.1 in
         let runs = subst (λ q. IsNodeExecution p sc is_coded.0 (slice_set hs.0 a.plant cell) q) f.1 o.1 in
         (f.0, record { hulls = hs.0; are = hs.1; runs = runs }, o.2 ∙ ap drafts_of f.1)
 
@@ -66,7 +69,8 @@ module _ (p : Tables) (rules : MeetsTableRules p) (may : MayHaveCells p) (m : �
     is_ok = subst IsOk (sym fires.2) refl
 
     -- the tube's answer, with the commands that were found
-    pub answers : (jitter : ℕ) (draft : List Drafted) → result ≡ Ok draft → (inputs writes : List ℕ) (held : List Side) → inputs ≡ plant.inputs.items → writes ≡ sc.writes.items → held ≡ map (command_interval p writes draft) inputs
+    pub answers : (jitter : ℕ) (draft : List Drafted) → result ≡ Ok draft → (inputs writes : List ℕ) (held : List Side) → inputs ≡ plant.inputs.items
+        → writes ≡ sc.writes.items → held ≡ map (command_interval p writes draft) inputs
         → (r : Result (Unit {0}) Leave) → AnswersTube p m held cell (sc.period + jitter) r → AnswersHeldTube p jitter a cell r
     answers jitter draft is inputs writes held inputs_are writes_are held_is r tube plant' sc' acts plant_at' sc_at' coded =
         let same_p : plant ≡ plant' = same_Some plant plant' (sym plant_at ∙ plant_at') in
@@ -75,11 +79,15 @@ module _ (p : Tables) (rules : MeetsTableRules p) (may : MayHaveCells p) (m : �
         let f = fires in
         let drafted : draft ≡ f.0.draft ++ replicate (8 - length f.0.draft) Absent = same_Ok draft _ (sym is ∙ f.2) in
         let commands : held ≡ command_intervals p plant sc f.0.draft =
-        held_is ∙ ap (map (command_interval p writes draft)) inputs_are ∙ ap (λ l. map (command_interval p l draft) plant.inputs.items) writes_are ∙ ap (λ l. map (command_interval p sc.writes.items l) plant.inputs.items) drafted
-        ∙ map_same (command_interval p sc.writes.items (f.0.draft ++ replicate (8 - length f.0.draft) Absent)) (command_interval p sc.writes.items f.0.draft) plant.inputs.items (λ k. padded p k sc.writes.items f.0.draft (8 - length f.0.draft)) in
+        held_is ∙ ap (map (command_interval p writes draft)) inputs_are ∙ ap (λ l. map (command_interval p l draft) plant.inputs.items) writes_are
+        ∙ ap (λ l. map (command_interval p sc.writes.items l) plant.inputs.items) drafted
+        ∙ map_same (command_interval p sc.writes.items (f.0.draft ++ replicate (8 - length f.0.draft) Absent)) (command_interval p sc.writes.items f.0.draft)
+        plant.inputs.items (λ k. padded p k sc.writes.items f.0.draft (8 - length f.0.draft)) in
         let found : Answered jitter plant sc is_coded.0 r = (
           f.0,
           f.1,
-          subst (λ l. MatchResult r (λ _. TubeInside p plant l a.safe.boxes cell (sc.period + jitter)) (λ leave. TubeLeaves p plant l a.safe.boxes cell (sc.period + jitter) leave)) commands (tube a plant at plant_at),
+          subst (λ l. MatchResult r (λ _. TubeInside p plant l a.safe.boxes cell (sc.period + jitter))
+              (λ leave. TubeLeaves p plant l a.safe.boxes cell (sc.period + jitter) leave)) commands (tube a plant at plant_at),
         ) in
-        subst (λ q. Answered jitter q sc' acts r) same_p (subst (λ q. Answered jitter plant q acts r) same_s (subst (λ q. Answered jitter plant sc q r) body found))
+        subst (λ q. Answered jitter q sc' acts r) same_p (subst (λ q. Answered jitter plant q acts r) same_s
+        (subst (λ q. Answered jitter plant sc q r) body found))

@@ -10,7 +10,8 @@ use Rattle.sot_rta.proofs.Steps.{one_more}
 module _ {A : Type 0} (xs : List A) (check : ℕ → A → Check) where
   pub next_passes : (n : ℕ) (x : A) → At xs n x → (check n x).Passes → PassBefore xs check n → PassBefore xs check (n + 1)
   next_passes n x at passes before i y lt =
-      one_more (λ i. (y : A) → At xs i y → (check i y).Passes) n (λ i lt y. before i y lt) (λ y at_y. subst (λ z. (check n z).Passes) (same_Some x y (sym at ∙ at_y)) passes) i lt y
+      one_more (λ i. (y : A) → At xs i y → (check i y).Passes) n (λ i lt y. before i y lt)
+      (λ y at_y. subst (λ z. (check n z).Passes) (same_Some x y (sym at ∙ at_y)) passes) i lt y
 
   pub all_pass : (n : ℕ) → length xs ≤ n → PassBefore xs check n → (for_each xs check).Passes
   all_pass n le before i x at = before i x (omega (arith, le, slice_get_within xs i x at)) at

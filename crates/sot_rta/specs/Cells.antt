@@ -28,28 +28,39 @@ use Rattle.sot_traps.specs.Verdict.{HaveSafeBoxes}
 pub record MayHaveCells (p : Tables) : Type 0 where
   pub own_plant : NoSharedPlant p
   pub boxes : HaveSafeBoxes p
-  pub free : (n : ℕ) (node : NodeInfo) (acts : List Act) → At p.nodes n node → IsCoded node acts → IsTrapFree p node acts
+  pub free : (n : ℕ) (node : NodeInfo) (acts : List Act) → At p.nodes n node → IsCoded node acts
+      → IsTrapFree p node acts
 
--- whether the held tube of a cell is inside the safe region, with what the safe node surely drafts from the cell, and else how it leaves
+-- whether the held tube of a cell is inside the safe region, with what the safe node surely drafts
+-- from the cell, and else how it leaves
 abbrev pub AnswersHeldTube : Tables → ℕ → ModuleInfo → List Side → Result (Unit {0}) Leave → Type 0
 AnswersHeldTube p jitter a cell result =
-    (plant : PlantInfo) (sc : NodeInfo) (acts : List Act) → At p.plants a.plant plant → At p.nodes a.sc sc → IsCoded sc acts
+    (plant : PlantInfo) (sc : NodeInfo) (acts : List Act) → At p.plants a.plant plant
+    → At p.nodes a.sc sc → IsCoded sc acts
     → (fired : Intervals) × DraftsFrom p a sc acts cell fired
     × MatchResult result
-    (λ _. TubeInside p plant (command_intervals p plant sc fired.draft) a.safe.boxes cell (sc.period + jitter))
-    (λ leave. TubeLeaves p plant (command_intervals p plant sc fired.draft) a.safe.boxes cell (sc.period + jitter) leave)
+    (λ _. TubeInside p plant (command_intervals p plant sc fired.draft) a.safe.boxes cell
+    (sc.period + jitter))
+    (λ leave. TubeLeaves p plant (command_intervals p plant sc fired.draft) a.safe.boxes cell
+    (sc.period + jitter) leave)
 
 -- the answer of a closed cell
-abbrev pub AnswersClosedCell : Tables → ℕ → ℕ → ModuleInfo → ℕ → List Side → Result (Unit {0}) Refusal → Type 0
+abbrev pub AnswersClosedCell : Tables → ℕ → ℕ → ModuleInfo → ℕ → List Side
+    → Result (Unit {0}) Refusal → Type 0
 AnswersClosedCell p jitter m a i cell result =
-    (plant : PlantInfo) (sc : NodeInfo) (acts : List Act) → At p.plants a.plant plant → At p.nodes a.sc sc → IsCoded sc acts
+    (plant : PlantInfo) (sc : NodeInfo) (acts : List Act) → At p.plants a.plant plant
+    → At p.nodes a.sc sc → IsCoded sc acts
     → Answers (closed_cell p jitter m a plant sc acts i cell) result
 
 -- of a reach cell
-abbrev pub AnswersReachCell : Tables → ℕ → ℕ → ModuleInfo → ℕ → List Side → Result (Unit {0}) Refusal → Type 0
-AnswersReachCell p jitter m a i cell result = (plant : PlantInfo) → At p.plants a.plant plant → Answers (reach_cell p jitter m a plant i cell) result
+abbrev pub AnswersReachCell : Tables → ℕ → ℕ → ModuleInfo → ℕ → List Side
+    → Result (Unit {0}) Refusal → Type 0
+AnswersReachCell p jitter m a i cell result =
+    (plant : PlantInfo) → At p.plants a.plant plant
+    → Answers (reach_cell p jitter m a plant i cell) result
 
--- the cells of module m may be checked: it is there, its tables meet their rules, and the cells are cells of its plant
+-- the cells of module m may be checked: it is there, its tables meet their rules, and the cells are
+-- cells of its plant
 pub record MayCheck (p : Tables) (jitter m : ℕ) (a : ModuleInfo) (cells : BoxList) : Type 0 where
   pub below : jitter < 1000
   pub there : At p.modules m a
@@ -58,23 +69,33 @@ pub record MayCheck (p : Tables) (jitter m : ℕ) (a : ModuleInfo) (cells : BoxL
   pub fit : AreCellsOf p a.plant cells
 
 -- the answer of the closed cell at place i, and of the reach cell there
-abbrev pub AnswersClosedPlace : Tables → ℕ → ℕ → ModuleInfo → List (List Side) → ℕ → Result (Unit {0}) Refusal → Type 0
-AnswersClosedPlace p jitter m a cells i result = (cell : List Side) → At cells i cell → AnswersClosedCell p jitter m a i cell result
+abbrev pub AnswersClosedPlace : Tables → ℕ → ℕ → ModuleInfo → List (List Side) → ℕ
+    → Result (Unit {0}) Refusal → Type 0
+AnswersClosedPlace p jitter m a cells i result =
+    (cell : List Side) → At cells i cell → AnswersClosedCell p jitter m a i cell result
 
-abbrev pub AnswersReachPlace : Tables → ℕ → ℕ → ModuleInfo → List (List Side) → ℕ → Result (Unit {0}) Refusal → Type 0
-AnswersReachPlace p jitter m a cells i result = (cell : List Side) → At cells i cell → AnswersReachCell p jitter m a i cell result
+abbrev pub AnswersReachPlace : Tables → ℕ → ℕ → ModuleInfo → List (List Side) → ℕ
+    → Result (Unit {0}) Refusal → Type 0
+AnswersReachPlace p jitter m a cells i result =
+    (cell : List Side) → At cells i cell → AnswersReachCell p jitter m a i cell result
 
 -- of all closed cells, and of all reach cells
-abbrev pub AnswersClosedCells : Tables → ℕ → ℕ → ModuleInfo → List (List Side) → Result (Unit {0}) Refusal → Type 0
+abbrev pub AnswersClosedCells : Tables → ℕ → ℕ → ModuleInfo → List (List Side)
+    → Result (Unit {0}) Refusal → Type 0
 AnswersClosedCells p jitter m a cells result =
-    (plant : PlantInfo) (sc : NodeInfo) (acts : List Act) → At p.plants a.plant plant → At p.nodes a.sc sc → IsCoded sc acts
+    (plant : PlantInfo) (sc : NodeInfo) (acts : List Act) → At p.plants a.plant plant
+    → At p.nodes a.sc sc → IsCoded sc acts
     → Answers (for_each cells (closed_cell p jitter m a plant sc acts)) result
 
-abbrev pub AnswersReachCells : Tables → ℕ → ℕ → ModuleInfo → List (List Side) → Result (Unit {0}) Refusal → Type 0
-AnswersReachCells p jitter m a cells result = (plant : PlantInfo) → At p.plants a.plant plant → Answers (for_each cells (reach_cell p jitter m a plant)) result
+abbrev pub AnswersReachCells : Tables → ℕ → ℕ → ModuleInfo → List (List Side)
+    → Result (Unit {0}) Refusal → Type 0
+AnswersReachCells p jitter m a cells result =
+    (plant : PlantInfo) → At p.plants a.plant plant
+    → Answers (for_each cells (reach_cell p jitter m a plant)) result
 
 -- of the whole
 abbrev pub AnswersCells : Tables → ℕ → ℕ → ModuleInfo → Cells → Result (Unit {0}) Refusal → Type 0
 AnswersCells p jitter m a cells result =
-    (plant : PlantInfo) (sc : NodeInfo) (acts : List Act) → At p.plants a.plant plant → At p.nodes a.sc sc → IsCoded sc acts
+    (plant : PlantInfo) (sc : NodeInfo) (acts : List Act) → At p.plants a.plant plant
+    → At p.nodes a.sc sc → IsCoded sc acts
     → Answers (cell_checks p jitter m a plant sc acts cells) result

@@ -9,7 +9,9 @@ ghost use Rattle.sot_lang.specs.OwnerNames.{width_of};
 ghost use Rattle.sot_lang.specs.TableRules.{MeetsTableRules};
 ghost use Rattle.sot_box.specs.Regions.{Covers};
 ghost use Rattle.sot_tube.specs.Verdict.{closed_refusal, reach_refusal, cells_of};
-ghost use Rattle.sot_rta.specs.Cells.{MayHaveCells, MayCheck, AnswersHeldTube, AnswersClosedCell, AnswersReachCell, AnswersClosedPlace, AnswersReachPlace, AnswersClosedCells, AnswersReachCells, AnswersCells};
+ghost use Rattle.sot_rta.specs.Cells.{MayHaveCells, MayCheck, AnswersHeldTube, AnswersClosedCell};
+ghost use Rattle.sot_rta.specs.Cells.{AnswersReachCell, AnswersClosedPlace, AnswersReachPlace};
+ghost use Rattle.sot_rta.specs.Cells.{AnswersClosedCells, AnswersReachCells, AnswersCells};
 ghost use Rattle.sot_rta.specs.Refused.{Answers, refusal_view};
 
 use crate::commands::put_commands;
@@ -90,8 +92,9 @@ fn held_tube(
     held_inside(p, module, cell, held, sc.period + jitter)
 }
 
-/// Whether one closed cell keeps: the safe region covers it, and its held tube stays inside for the safe node's period, longer by
-/// the jitter. `i` is the number that a refusal gives the cell. Takes no memory.
+/// Whether one closed cell keeps: the safe region covers it, and its held tube stays inside for the
+/// safe node's period, longer by the jitter. `i` is the number that a refusal gives the cell. Takes
+/// no memory.
 pub fn check_closed_cell(
     p: &Typed,
     jitter: u32,
@@ -123,8 +126,8 @@ pub fn check_closed_cell(
     }
 }
 
-/// Whether one reach cell keeps: its tube stays in the safe region for two periods of the module, each longer by the jitter. `i` is
-/// the number that a refusal gives the cell. Takes no memory.
+/// Whether one reach cell keeps: its tube stays in the safe region for two periods of the module,
+/// each longer by the jitter. `i` is the number that a refusal gives the cell. Takes no memory.
 pub fn check_reach_cell(
     p: &Typed,
     jitter: u32,
@@ -146,7 +149,8 @@ pub fn check_reach_cell(
     }
 }
 
-// What it costs to follow a tube of a plant for so many ticks: a step of each state variable a tick.
+// What it costs to follow a tube of a plant for so many ticks: a step of each state variable a
+// tick.
 fn tube_cost(p: &Typed, plant: u32, ticks: u32) -> u64
     requires { plant < length p.now.plants }
 {
@@ -175,8 +179,10 @@ fn closed_cells<R: Threads + Sync>(
         closed.len() as u32,
         tube_cost(p, info.plant, node_at(p, info.sc).period),
         &|i: u32| -> Result<(), Refusal>
-            requires { MayCheck p.now jitter «module» info.now closed.now × (i < length closed.now.boxes) }
-            ensures { AnswersClosedPlace p.entry.now jitter «module» info.entry.now closed.entry.now.boxes i result }
+            requires { MayCheck p.now jitter «module» info.now closed.now
+                × (i < length closed.now.boxes) }
+            ensures { AnswersClosedPlace p.entry.now jitter «module» info.entry.now
+                closed.entry.now.boxes i result }
         { check_closed_cell(p, jitter, module, info, i, &closed.at(i as usize)) },
     )
 }
@@ -202,8 +208,10 @@ fn reach_cells<R: Threads + Sync>(
         reach.len() as u32,
         tube_cost(p, info.plant, info.period.saturating_mul(2)),
         &|i: u32| -> Result<(), Refusal>
-            requires { MayCheck p.now jitter «module» info.now reach.now × (i < length reach.now.boxes) }
-            ensures { AnswersReachPlace p.entry.now jitter «module» info.entry.now reach.entry.now.boxes i result }
+            requires { MayCheck p.now jitter «module» info.now reach.now
+                × (i < length reach.now.boxes) }
+            ensures { AnswersReachPlace p.entry.now jitter «module» info.entry.now
+                reach.entry.now.boxes i result }
         { check_reach_cell(p, jitter, module, info, i, &reach.at(i as usize)) },
     )
 }
@@ -237,10 +245,12 @@ fn cells_of<R: Threads + Sync>(
     reach_cells(rt, p, jitter, module, info, &cells.reach)
 }
 
-/// Whether the cells that a certificate gives for a module show what they are to show, in this order: the closed cells cover the
-/// safe region; the held tube of each stays in it; the reach cells cover the safer region; the tube of each stays in the safe
-/// region for two periods. Each period is longer by the certificate's jitter. A module without an entry has no cells to check.
-/// A long list of cells is checked by several threads; a refusal is that of its first cell that fails all the same. Takes no memory.
+/// Whether the cells that a certificate gives for a module show what they are to show, in this
+/// order: the closed cells cover the safe region; the held tube of each stays in it; the reach
+/// cells cover the safer region; the tube of each stays in the safe region for two periods. Each
+/// period is longer by the certificate's jitter. A module without an entry has no cells to check. A
+/// long list of cells is checked by several threads; a refusal is that of its first cell that fails
+/// all the same. Takes no memory.
 pub fn check_cells<R: Threads + Sync>(
     rt: &R,
     p: &Typed,
@@ -250,7 +260,8 @@ pub fn check_cells<R: Threads + Sync>(
     requires module_is { «module» < length p.now.modules }
     requires fits { FitsTables p.now c.now }
     requires may { MayHaveCells p.now }
-    ensures { (a : Info) → At p.now.modules «module» a → Answers (cells_of p.now c.now.jitter c.now «module» a) result }
+    ensures { (a : Info) → At p.now.modules «module» a
+        → Answers (cells_of p.now c.now.jitter c.now «module» a) result }
 {
     let info = module_at(p, module);
     match &c.modules[module as usize] {

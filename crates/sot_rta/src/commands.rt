@@ -27,8 +27,8 @@ fn command(p: &Typed, scalar: u32, writes: &[u32], draft: &IvDraft) -> Interval
     whole
 }
 
-/// The intervals of the commands of a plant with these inputs, under a node that writes these scalars and drafts so, in places for
-/// as many.
+/// The intervals of the commands of a plant with these inputs, under a node that writes these
+/// scalars and drafts so, in places for as many.
 pub fn put_commands(
     p: &Typed,
     inputs: &[u32],

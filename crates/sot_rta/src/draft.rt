@@ -55,7 +55,8 @@ fn put_cell_readings(p: &Typed, slots: &[Slot], plant: u32, cell: &BoxN, sides: 
     }
 }
 
-/// What the safe node of a module drafts with its plant in a cell, the other plants anywhere in the hulls of their safe regions.
+/// What the safe node of a module drafts with its plant in a cell, the other plants anywhere in the
+/// hulls of their safe regions.
 pub fn cell_draft(
     p: &Typed,
     info: &ModuleInfo,

@@ -8,10 +8,12 @@ use crate::refusal::Refusal;
 use rayon::prelude::*;
 use std::thread::Threads;
 
-// Where all calls together cost less than this, the calling thread makes them: threads would take processor time to start.
+// Where all calls together cost less than this, the calling thread makes them: threads would take
+// processor time to start.
 const LITTLE: u64 = 16384;
 
-// Many numbers are gone through in so many chunks: each thread beyond these costs more than it brings.
+// Many numbers are gone through in so many chunks: each thread beyond these costs more than it
+// brings.
 const CHUNKS: u32 = 4;
 
 // Goes through the numbers from `from` up to `to` in order, and stops at the first that is refused.
@@ -36,14 +38,15 @@ fn in_chunk<F: Fn(u32) -> Result<(), Refusal>>(
 ) -> Result<(), Refusal>
     requires begins { k * size < count }
     requires each { (i : ℕ) → i < count → F.pre check.now i }
-    ensures { AnswersAll (F.post check.now) (min (k * size) count) (min ((k + 1) * size) count) result }
+    ensures { AnswersAll (F.post check.now) (min (k * size) count) (min ((k + 1) * size) count)
+        result }
 {
     let from = k * size;
     in_order(from, from + size.min(count - from), check)
 }
 
-// Goes through chunks of this size side by side: the first chunk that has a refusal has the first one of all. Nothing is kept but
-// one answer a thread, so no memory is taken.
+// Goes through chunks of this size side by side: the first chunk that has a refusal has the first
+// one of all. Nothing is kept but one answer a thread, so no memory is taken.
 fn in_chunks<R: Threads + Sync, F: Fn(u32) -> Result<(), Refusal> + Sync>(
     rt: &R,
     size: u32,
@@ -60,7 +63,8 @@ fn in_chunks<R: Threads + Sync, F: Fn(u32) -> Result<(), Refusal> + Sync>(
         .map(
             move |k: u32| -> Result<(), Refusal>
                 requires { (k * size < count) × ((i : ℕ) → i < count → F.pre check.now i) }
-                ensures { AnswersAll (F.post check.entry.now) (min (k * size) count) (min ((k + 1) * size) count) result }
+                ensures { AnswersAll (F.post check.entry.now) (min (k * size) count)
+                    (min ((k + 1) * size) count) result }
             { in_chunk(k, size, count, check) },
         )
         .find_first(
@@ -72,9 +76,10 @@ fn in_chunks<R: Threads + Sync, F: Fn(u32) -> Result<(), Refusal> + Sync>(
         .unwrap_or(Ok(()))
 }
 
-/// Calls `check` for the numbers below `count`, and answers the refusal of the first number that has one. `cost` says what a call
-/// costs, in steps of one state variable of a tube. Calls that cost little together are made one after another, and others in
-/// chunks, side by side, in threads of `rt`. Takes no memory.
+/// Calls `check` for the numbers below `count`, and answers the refusal of the first number that
+/// has one. `cost` says what a call costs, in steps of one state variable of a tube. Calls that
+/// cost little together are made one after another, and others in chunks, side by side, in threads
+/// of `rt`. Takes no memory.
 pub fn first_refused<R: Threads + Sync, F: Fn(u32) -> Result<(), Refusal> + Sync>(
     rt: &R,
     count: u32,

@@ -4,8 +4,8 @@ use sot_box::{BoxN, Point};
 use sot_lang::TrapKind;
 use sot_text::Span;
 
-/// Why a program and its certificate are refused: the first condition that fails, with its evidence. Modules, nodes, topics,
-/// plants, cells and ticks are numbered from 0.
+/// Why a program and its certificate are refused: the first condition that fails, with its
+/// evidence. Modules, nodes, topics, plants, cells and ticks are numbered from 0.
 #[derive(Clone, Copy, Debug, PartialEq, Eq)]
 pub enum Refusal {
     /// The period of the node is longer than the module's.
@@ -35,7 +35,8 @@ pub enum Refusal {
         tick: u32,
         at: Span,
     },
-    /// The held tube of the closed cell leaves the safe region: its box at this tick has the point outside.
+    /// The held tube of the closed cell leaves the safe region: its box at this tick has the point
+    /// outside.
     ClosedLeaves {
         module: u32,
         cell: u32,

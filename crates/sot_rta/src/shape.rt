@@ -95,27 +95,30 @@ fn shape_of(p: &Typed, module: u32, info: &ModuleInfo, c: &Cert) -> Result<(), R
 fn nodes_of(p: &Typed, module: u32, info: &ModuleInfo) -> Result<(), Refusal>
     requires is { At p.now.modules «module» info.now }
     requires rules { MeetsTableRules p.now }
-    ensures { Answers (and_then (periods p.now «module» info.now) (outputs p.now «module» info.now)) result }
+    ensures { Answers (and_then (periods p.now «module» info.now) (outputs p.now «module» info.now))
+        result }
 {
     periods(p, module, info)?;
     outputs(p, module, info)
 }
 
-/// Whether a module's two nodes have short periods and outputs in common, in this order. It asks for no certificate, and
-/// takes no memory.
+/// Whether a module's two nodes have short periods and outputs in common, in this order. It asks
+/// for no certificate, and takes no memory.
 pub fn check_nodes(p: &Typed, module: u32) -> Result<(), Refusal>
     requires module_is { «module» < length p.now.modules }
-    ensures { (a : Info) → At p.now.modules «module» a → Answers (and_then (periods p.now «module» a) (outputs p.now «module» a)) result }
+    ensures { (a : Info) → At p.now.modules «module» a
+        → Answers (and_then (periods p.now «module» a) (outputs p.now «module» a)) result }
 {
     nodes_of(p, module, module_at(p, module))
 }
 
-/// Whether a module has an entry in the certificate, short periods, outputs in common and regions that are not empty, in this
-/// order. Takes no memory.
+/// Whether a module has an entry in the certificate, short periods, outputs in common and regions
+/// that are not empty, in this order. Takes no memory.
 pub fn check_shape(p: &Typed, module: u32, c: &Cert) -> Result<(), Refusal>
     requires module_is { «module» < length p.now.modules }
     requires fits { FitsTables p.now c.now }
-    ensures { (a : Info) → At p.now.modules «module» a → Answers (shape p.now c.now «module» a) result }
+    ensures { (a : Info) → At p.now.modules «module» a
+        → Answers (shape p.now c.now «module» a) result }
 {
     shape_of(p, module, module_at(p, module), c)
 }

@@ -1,6 +1,7 @@
 //! Which topics some scalars are of.
 
-ghost use Rattle.std.specs.Prelude.{ℕ, ◌<◌, ◌≡◌, length, true, false, IsTrue, ◌↔◌, MatchOption, IfSome};
+ghost use Rattle.std.specs.Prelude.{ℕ, ◌<◌, ◌≡◌, length, true, false, IsTrue, ◌↔◌, MatchOption};
+ghost use Rattle.std.specs.Prelude.{IfSome};
 ghost use Rattle.sot_lists.specs.Places.{Has};
 ghost use Rattle.sot_rta.specs.Topics.{AreSomeOf, IsOfOneAlone, IsMissing, AreAlike, GoesOver};
 
@@ -72,7 +73,8 @@ pub fn first_of_one_alone(
     requires other { (k : ℕ) → Has others.now k → k < length infos.now }
     ensures first { MatchOption result
         ((t : ℕ) → t < topics → AreAlike infos.now some.now others.now t)
-        (λ t. IsOfOneAlone infos.now some.now others.now t × ((u : ℕ) → u < t → AreAlike infos.now some.now others.now u)) }
+        (λ t. IsOfOneAlone infos.now some.now others.now t
+        × ((u : ℕ) → u < t → AreAlike infos.now some.now others.now u)) }
     ensures within { IfSome result (λ t. t < topics) }
 {
     if go_over(infos, some, others) && go_over(infos, others, some) {
@@ -92,7 +94,8 @@ pub fn first_missing(infos: &[ScalarInfo], topics: u32, some: &[u32], others: &[
     requires other { (k : ℕ) → Has others.now k → k < length infos.now }
     ensures first { MatchOption result
         ((t : ℕ) → t < topics → GoesOver infos.now some.now others.now t)
-        (λ t. IsMissing infos.now some.now others.now t × ((u : ℕ) → u < t → GoesOver infos.now some.now others.now u)) }
+        (λ t. IsMissing infos.now some.now others.now t
+        × ((u : ℕ) → u < t → GoesOver infos.now some.now others.now u)) }
     ensures within { IfSome result (λ t. t < topics) }
 {
     if go_over(infos, some, others) {

@@ -4,7 +4,9 @@ use Rattle.sot_certify.specs.Conditions.{frame}
 use Rattle.sot_certify.proofs.conditions.frames.Goals as goal
 
 pub loop-module-preserved : goal.loop-module-preserved
-loop-module-preserved c = next_passes c.args.p.now.modules (frame c.args.p.now) c.loop-module.«module» c.module_at.result.now c.module_at.ensures.is c.in_default.ensures c.loop-module.invariant
+loop-module-preserved c =
+    next_passes c.args.p.now.modules (frame c.args.p.now) c.loop-module.«module» c.module_at.result.now c.module_at.ensures.is c.in_default.ensures
+    c.loop-module.invariant
 
 pub returns : goal.returns
 returns c =

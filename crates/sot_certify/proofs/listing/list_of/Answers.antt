@@ -15,7 +15,8 @@ loop-cell-init c = record {
       let w = width_of c.args.p.now.plants c.args.info.now.plant in
       let same : c.in_ok-pending.pending.items ≡ reverse all = c.in_ok-pending.ensures.ok ∙ ap (λ r. reverse r.boxes) c.region_of-region.ensures in
       subst (λ l. Stands good all w l c.in_ok-pending.pending.items) (sym c.none-cells.ensures.empty)
-      (begins good all w c.in_ok-pending.pending.items (region_widths c.args.p.now c.requires.rules c.args.«module» c.args.info.now c.requires.is c.args.reach) same);
+      (begins good all w c.in_ok-pending.pending.items (region_widths c.args.p.now c.requires.rules c.args.«module» c.args.info.now c.requires.is c.args.reach)
+      same);
 }
 
 pub take-requires-clause-width : goal.take-requires-clause-width
@@ -23,7 +24,8 @@ take-requires-clause-width c =
     let good = IsGood c.args.p.now c.args.info.now c.args.reach in
     let all = (region_of c.args.info.now c.args.reach).boxes in
     let w = width_of c.args.p.now.plants c.args.info.now.plant in
-    next_width good all w c.loop-cell.cells.boxes c.pop.new.self.items c.in-Some.cell (subst (Stands good all w c.loop-cell.cells.boxes) c.in-Some.ensures.items c.loop-cell.invariant.stands)
+    next_width good all w c.loop-cell.cells.boxes c.pop.new.self.items c.in-Some.cell
+    (subst (Stands good all w c.loop-cell.cells.boxes) c.in-Some.ensures.items c.loop-cell.invariant.stands)
 
 pub loop-cell-smaller : goal.loop-cell-smaller
 loop-cell-smaller c =
@@ -32,7 +34,8 @@ loop-cell-smaller c =
     let w = width_of c.args.p.now.plants c.args.info.now.plant in
     let s = subst (Stands good all w c.loop-cell.cells.boxes) c.in-Some.ensures.items c.loop-cell.invariant.stands in
     subst (λ l. effort (reverse c.take.new.pending.items) < effort (reverse l)) (sym c.in-Some.ensures.items)
-    (falls good all w c.loop-cell.cells.boxes c.pop.new.self.items c.in-Some.cell s c.take.new.pending.items c.take.new.cells.boxes c.in_default-take.ensures.ok)
+    (falls good all w c.loop-cell.cells.boxes c.pop.new.self.items c.in-Some.cell s c.take.new.pending.items c.take.new.cells.boxes
+    c.in_default-take.ensures.ok)
 
 pub loop-cell-preserved : goal.loop-cell-preserved
 loop-cell-preserved c =
@@ -42,7 +45,9 @@ loop-cell-preserved c =
     let s = subst (Stands good all w c.loop-cell.cells.boxes) c.in-Some.ensures.items c.loop-cell.invariant.stands in
     record {
       width = c.in_default-take.ensures.region ∙ c.loop-cell.invariant.width;
-      stands = goes_on good all w c.loop-cell.cells.boxes c.pop.new.self.items c.in-Some.cell s c.take.new.pending.items c.take.new.cells.boxes c.in_default-take.ensures.ordered c.in_default-take.ensures.ok (c.in_default-take.ensures.few s.few);
+      stands =
+          goes_on good all w c.loop-cell.cells.boxes c.pop.new.self.items c.in-Some.cell s c.take.new.pending.items c.take.new.cells.boxes
+          c.in_default-take.ensures.ordered c.in_default-take.ensures.ok (c.in_default-take.ensures.few s.few);
     }
 
 pub returns-in-Err : goal.returns-in-Err
@@ -58,5 +63,8 @@ returns c =
     let good = IsGood c.args.p.now c.args.info.now c.args.reach in
     let all = (region_of c.args.info.now c.args.reach).boxes in
     let w = width_of c.args.p.now.plants c.args.info.now.plant in
-    let none : c.loop-cell.pending.items ≡ [] = c.in_default.ensures.items ∙ ap (λ l. l ++ []) (c.in_default.ensures.rest ∙ ap (λ n. take (n - 1) c.loop-cell.pending.items) c.in_default.ensures.cases.0) in
-    is_list c.args.p.now c.args.info.now c.args.reach c.settle.new.self c.loop-cell.cells (subst (Stands good all w c.loop-cell.cells.boxes) none c.loop-cell.invariant.stands) c.loop-cell.invariant.width c.in_ok-settle.ensures.boxes c.in_ok-settle.ensures.width c.in_ok-settle.ensures.ok
+    let none : c.loop-cell.pending.items ≡ [] = c.in_default.ensures.items
+    ∙ ap (λ l. l ++ []) (c.in_default.ensures.rest ∙ ap (λ n. take (n - 1) c.loop-cell.pending.items) c.in_default.ensures.cases.0) in
+    is_list c.args.p.now c.args.info.now c.args.reach c.settle.new.self c.loop-cell.cells
+    (subst (Stands good all w c.loop-cell.cells.boxes) none c.loop-cell.invariant.stands) c.loop-cell.invariant.width c.in_ok-settle.ensures.boxes
+    c.in_ok-settle.ensures.width c.in_ok-settle.ensures.ok

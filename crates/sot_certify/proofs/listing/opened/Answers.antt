@@ -7,5 +7,7 @@ loop-left-preserved c =
     let pushed : c.push.new.self.items ≡ c.loop-left.pending.items ++ c.at.result ∷ [] = search (rules, c.in_ok-push.ensures.items) in
     record {
       inside = omega (arith, c.loop-left.invariant.inside);
-      done = pushed ∙ ap (λ l. l ++ c.at.result ∷ []) c.loop-left.invariant.done ∙ turned_more c.args.region.now.boxes c.loop-left.left (c.loop-left.left - 1) c.at.result (omega (arith, c.loop-left-test.true)) c.at.ensures.place;
+      done =
+          pushed ∙ ap (λ l. l ++ c.at.result ∷ []) c.loop-left.invariant.done
+          ∙ turned_more c.args.region.now.boxes c.loop-left.left (c.loop-left.left - 1) c.at.result (omega (arith, c.loop-left-test.true)) c.at.ensures.place;
     }

@@ -32,10 +32,12 @@ returns-clause-fits c =
 pub returns-clause-certified : goal.returns-clause-certified
 returns-clause-certified c =
     let rules = subst MeetsTableRules c.p.view_is c.p.invariant in
-    well_certified c.args.p.now (record { jitter = 0; modules = c.in_ok-modules.modules }) rules c.in_default.ensures (made c.args.p.now (record { jitter = 0; modules = c.in_ok-modules.modules }) rules refl c.in_ok-modules.ensures)
+    well_certified c.args.p.now (record { jitter = 0; modules = c.in_ok-modules.modules }) rules c.in_default.ensures
+    (made c.args.p.now (record { jitter = 0; modules = c.in_ok-modules.modules }) rules refl c.in_ok-modules.ensures)
 
 pub returns-clause-safe : goal.returns-clause-safe
 returns-clause-safe c =
     let rules = subst MeetsTableRules c.p.view_is c.p.invariant in
     certified_runs_are_safe c.args.p.now 0 (record { jitter = 0; modules = c.in_ok-modules.modules }) rules.typed
-    (well_certified c.args.p.now (record { jitter = 0; modules = c.in_ok-modules.modules }) rules c.in_default.ensures (made c.args.p.now (record { jitter = 0; modules = c.in_ok-modules.modules }) rules refl c.in_ok-modules.ensures))
+    (well_certified c.args.p.now (record { jitter = 0; modules = c.in_ok-modules.modules }) rules c.in_default.ensures
+    (made c.args.p.now (record { jitter = 0; modules = c.in_ok-modules.modules }) rules refl c.in_ok-modules.ensures))

@@ -12,7 +12,8 @@ returns-in-Some-clause-flies g c =
     subst
     (λ (n : ℕ). IfOk c.judge-answer.result (λ a. FliesBytes n c.args.telling c.args.bytes.now a.status a.text.items))
     c.len.ensures
-    (flown_result c.len.result c.judge-answer.result c.args.telling c.args.bytes.now _ c.in-Some.flight c.in-Ok.ensures.ok.mission c.in-Some.is c.judge-answer.ensures.judges)
+    (flown_result c.len.result c.judge-answer.result c.args.telling c.args.bytes.now _ c.in-Some.flight c.in-Ok.ensures.ok.mission c.in-Some.is
+    c.judge-answer.ensures.judges)
 
 pub returns-in-Some-clause-guests : goal.returns-in-Some-clause-guests
 returns-in-Some-clause-guests g c =
@@ -21,9 +22,11 @@ returns-in-Some-clause-guests g c =
     let was = c.args.guests.now in
     let now = c.judge-answer.new.guests in
     subst
-    (λ (n : ℕ). GuestsDid told c.args.telling c.judge-answer.result (UnnamedStay n bytes was.items now.items) (λ text. Flew told n bytes text was.items now.items) was now)
+    (λ (n : ℕ). GuestsDid told c.args.telling c.judge-answer.result (UnnamedStay n bytes was.items now.items)
+    (λ text. Flew told n bytes text was.items now.items) was now)
     c.len.ensures
-    (mission_guests told c.judge-answer.result c.args.telling c.len.result bytes _ c.in-Some.flight was now c.in-Ok.ensures.ok.mission c.in-Some.is c.judge-answer.ensures.guests)
+    (mission_guests told c.judge-answer.result c.args.telling c.len.result bytes _ c.in-Some.flight was now c.in-Ok.ensures.ok.mission c.in-Some.is
+    c.judge-answer.ensures.guests)
 
 pub returns-in-Err-Fault-clause-guests : goal.returns-in-Err-Fault-clause-guests
 returns-in-Err-Fault-clause-guests g c =

@@ -36,19 +36,22 @@ returns-in-Ok-clause-guests g c =
     let was = c.args.guests.now in
     let now = c.fly_opened.new.guests in
     subst
-    (λ (a : Admitted). GuestsDid told c.args.telling c.fly_opened.result (EachUnnamedStays f was.items now.items) (λ text. GuestsFlew told a.program a.cert.jitter f text was.items now.items) was now)
+    (λ (a : Admitted). GuestsDid told c.args.telling c.fly_opened.result (EachUnnamedStays f was.items now.items)
+    (λ text. GuestsFlew told a.program a.cert.jitter f text was.items now.items) was now)
     c.in-Ok.ensures.accepted
     c.fly_opened.ensures.guests
 
 pub returns-in-Err-NotSafer-clause-judges : goal.returns-in-Err-NotSafer-clause-judges
 returns-in-Err-NotSafer-clause-judges g c =
-    let said = subst (λ (t : Tables). IfOk c.outside.result (λ a. IsOutsideOf t c.args.flight.now a.text.items)) c.typed.ensures.program c.outside.ensures.text in
+    let said = subst (λ (t : Tables). IfOk c.outside.result (λ a. IsOutsideOf t c.args.flight.now a.text.items)) c.typed.ensures.program c.outside.ensures.text
+    in
     outside_result c.outside.result c.args.telling c.args.accepted.now.program c.args.accepted.now.cert.jitter c.args.flight.now c.outside.ensures.status said
 
 pub returns-in-Err-NotSafer-clause-guests : goal.returns-in-Err-NotSafer-clause-guests
 returns-in-Err-NotSafer-clause-guests g c =
     let guests = c.args.guests.now in
-    unflown g.C.Controller.told c.args.telling c.outside.result _ _ guests 1 (unnamed_same c.args.flight.now guests.items) (omega arith) c.outside.ensures.status
+    unflown g.C.Controller.told c.args.telling c.outside.result _ _ guests 1 (unnamed_same c.args.flight.now guests.items) (omega arith)
+    c.outside.ensures.status
 
 pub returns-in-Err-Memory-clause-guests : goal.returns-in-Err-Memory-clause-guests
 returns-in-Err-Memory-clause-guests g c =

@@ -17,6 +17,8 @@ returns-in-Flight-clause-ends g c =
     let held = g.K.Sink.held in
     let faults = g.K.Sink.faults in
     let end = c.fly_to_the_end in
-    let flies = subst (λ k. FlightEnds (vec_len c.args.guests.now) c.in-Flight.order.telling c.in-Flight.order.text.items (held k) (held end.new.sink) (faults k) (faults end.new.sink) end.result.0) c.in-Flight.ensures.unsaid end.ensures.ends in
+    let flies = subst (λ k. FlightEnds (vec_len c.args.guests.now) c.in-Flight.order.telling c.in-Flight.order.text.items (held k) (held end.new.sink)
+    (faults k) (faults end.new.sink) end.result.0) c.in-Flight.ensures.unsaid end.ensures.ends in
     ordered_ends (vec_len c.args.guests.now) c.args.words.now _ _ c.in-Flight.order end.result.0 c.in-Flight.ensures.flight c.in-Flight.ensures.well flies
-    (λ six. subst (λ k. Keeps (held c.args.sink.now) (held k)) (sym (end.ensures.unwritten six ∙ c.in-Flight.ensures.unsaid)) (Keeps-refl (held c.args.sink.now)))
+    (λ six. subst (λ k. Keeps (held c.args.sink.now) (held k)) (sym (end.ensures.unwritten six ∙ c.in-Flight.ensures.unsaid))
+    (Keeps-refl (held c.args.sink.now)))

@@ -15,5 +15,8 @@ returns-in-Some-uncovered g c plant sc acts plant_at sc_at coded =
 
 pub returns : goal.returns
 returns g c plant sc acts plant_at sc_at coded =
-    cells_answer c.args.p.now c.args.jitter c.args.«module» c.args.info.now plant sc acts c.args.cells.now (covers_points c.args.info.now.safe.boxes c.args.cells.now.closed.boxes c.in_default.ensures)
-    (c.in_default-closed_cells.ensures plant sc acts plant_at sc_at coded) (covers_points c.args.info.now.safer.boxes c.args.cells.now.reach.boxes c.in_default-uncovered.ensures) c.reach_cells.result (c.reach_cells.ensures plant plant_at)
+    cells_answer c.args.p.now c.args.jitter c.args.«module» c.args.info.now plant sc acts c.args.cells.now
+    (covers_points c.args.info.now.safe.boxes c.args.cells.now.closed.boxes c.in_default.ensures)
+    (c.in_default-closed_cells.ensures plant sc acts plant_at sc_at coded)
+    (covers_points c.args.info.now.safer.boxes c.args.cells.now.reach.boxes c.in_default-uncovered.ensures) c.reach_cells.result
+    (c.reach_cells.ensures plant plant_at)

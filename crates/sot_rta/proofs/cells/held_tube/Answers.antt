@@ -8,25 +8,35 @@ use Rattle.sot_rta.proofs.HeldTubes.{is_coded, is_ok, answers}
 use Rattle.sot_rta.proofs.cells.held_tube.Goals as goal
 
 pub cell_draft-requires-clause-coded : goal.cell_draft-requires-clause-coded
-cell_draft-requires-clause-coded c = is_coded c.args.p.now c.requires.rules c.requires.may c.args.«module» c.args.info.now c.requires.is c.plant_at-plant.result.now c.plant_at-plant.ensures.is c.node_at-sc.result.now c.node_at-sc.ensures.is
+cell_draft-requires-clause-coded c =
+    is_coded c.args.p.now c.requires.rules c.requires.may c.args.«module» c.args.info.now c.requires.is c.plant_at-plant.result.now c.plant_at-plant.ensures.is
+    c.node_at-sc.result.now c.node_at-sc.ensures.is
 
 pub cell_draft-requires-clause-there : goal.cell_draft-requires-clause-there
 cell_draft-requires-clause-there c = plant_there c.args.p.now c.requires.rules c.args.«module» c.args.info.now c.requires.is
 
 pub unwrap-draft-requires : goal.unwrap-draft-requires
-unwrap-draft-requires c = is_ok c.args.p.now c.requires.rules c.requires.may c.args.«module» c.args.info.now c.requires.is c.plant_at-plant.result.now c.plant_at-plant.ensures.is c.node_at-sc.result.now c.node_at-sc.ensures.is c.args.cell.now c.requires.ordered c.requires.covered c.cell_draft.result c.cell_draft.ensures
+unwrap-draft-requires c =
+    is_ok c.args.p.now c.requires.rules c.requires.may c.args.«module» c.args.info.now c.requires.is c.plant_at-plant.result.now c.plant_at-plant.ensures.is
+    c.node_at-sc.result.now c.node_at-sc.ensures.is c.args.cell.now c.requires.ordered c.requires.covered c.cell_draft.result c.cell_draft.ensures
 
 pub put_commands-requires-clause-there : goal.put_commands-requires-clause-there
-put_commands-requires-clause-there c = inputs_there c.args.p.now c.requires.rules c.args.info.now.plant c.plant_at-plant.result.now c.plant_at-plant.ensures.is c.args.p.now.scalars c.deref.result.now refl c.deref.ensures.value
+put_commands-requires-clause-there c =
+    inputs_there c.args.p.now c.requires.rules c.args.info.now.plant c.plant_at-plant.result.now c.plant_at-plant.ensures.is c.args.p.now.scalars
+    c.deref.result.now refl c.deref.ensures.value
 
 pub held_inside-requires-clause-follow : goal.held_inside-requires-clause-follow
 held_inside-requires-clause-follow c = record {
   boxes = c.requires.may.boxes;
   exists' = slice_get_within c.args.p.now.modules c.args.«module» c.args.info.now c.requires.is;
-  width = λ a at. subst (λ (x : ModuleInfo). length c.args.cell.now ≡ width_of c.args.p.now.plants x.plant) (same_Some c.args.info.now a (sym c.requires.is ∙ at)) c.requires.width;
+  width =
+      λ a at. subst (λ (x : ModuleInfo). length c.args.cell.now ≡ width_of c.args.p.now.plants x.plant) (same_Some c.args.info.now a (sym c.requires.is ∙ at))
+      c.requires.width;
 }
 
 pub returns : goal.returns
 returns c =
-    answers c.args.p.now c.requires.rules c.requires.may c.args.«module» c.args.info.now c.requires.is c.plant_at-plant.result.now c.plant_at-plant.ensures.is c.node_at-sc.result.now c.node_at-sc.ensures.is c.args.cell.now c.requires.ordered c.requires.covered c.cell_draft.result c.cell_draft.ensures
-    c.args.jitter c.unwrap-draft.result c.unwrap-draft.ensures c.deref.result.now c.deref-2.result.now c.put_commands.new.sides c.deref.ensures.value c.deref-2.ensures.value c.put_commands.ensures c.held_inside.result c.held_inside.ensures
+    answers c.args.p.now c.requires.rules c.requires.may c.args.«module» c.args.info.now c.requires.is c.plant_at-plant.result.now c.plant_at-plant.ensures.is
+    c.node_at-sc.result.now c.node_at-sc.ensures.is c.args.cell.now c.requires.ordered c.requires.covered c.cell_draft.result c.cell_draft.ensures
+    c.args.jitter c.unwrap-draft.result c.unwrap-draft.ensures c.deref.result.now c.deref-2.result.now c.put_commands.new.sides c.deref.ensures.value
+    c.deref-2.ensures.value c.put_commands.ensures c.held_inside.result c.held_inside.ensures

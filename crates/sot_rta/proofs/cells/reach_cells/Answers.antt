@@ -5,8 +5,10 @@ use Rattle.sot_rta.proofs.EachPlace.{each_answers}
 use Rattle.sot_rta.proofs.cells.reach_cells.Goals as goal
 
 pub first_refused-requires-clause-each : goal.first_refused-requires-clause-each
-first_refused-requires-clause-each g c κs within i lt =
-    (record { below = c.requires.jitter; there = c.requires.is; rules = c.requires.rules; may = c.requires.may; fit = c.requires.cells }, omega (arith, c.len.ensures, lt))
+first_refused-requires-clause-each g c κs within i lt = (
+  record { below = c.requires.jitter; there = c.requires.is; rules = c.requires.rules; may = c.requires.may; fit = c.requires.cells },
+  omega (arith, c.len.ensures, lt),
+)
 
 pub returns : goal.returns
 returns g c plant plant_at =

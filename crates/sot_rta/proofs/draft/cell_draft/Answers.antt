@@ -11,13 +11,16 @@ use Rattle.sot_rta.proofs.draft.cell_draft.Goals as goal
 
 pub put_cell_readings-requires-clause-readable : goal.put_cell_readings-requires-clause-readable
 put_cell_readings-requires-clause-readable c i s at =
-    can_be_read c.args.p.now c.requires.rules c.requires.boxes c.args.info.now.sc c.args.sc.now c.requires.node i s (subst (λ l. At l i s) c.deref.ensures.value at)
+    can_be_read c.args.p.now c.requires.rules c.requires.boxes c.args.info.now.sc c.args.sc.now c.requires.node i s
+    (subst (λ l. At l i s) c.deref.ensures.value at)
 
 pub iv_node-requires : goal.iv_node-requires
 iv_node-requires c =
     let whole = c.put_locals.ensures in
-    let size = ap length whole ∙ length-append c.put_cell_readings.new.sides (map (λ (x : LocalInfo). let side : Side = record { lo = x.lo; hi = x.hi } in side) c.deref-2.result.now) in
-    let own : length (map (λ (x : LocalInfo). let side : Side = record { lo = x.lo; hi = x.hi } in side) c.deref-2.result.now) ≡ length c.deref-2.result.now = length-map c.deref-2.result.now (λ (x : LocalInfo). let side : Side = record { lo = x.lo; hi = x.hi } in side) in
+    let size = ap length whole ∙ length-append c.put_cell_readings.new.sides
+    (map (λ (x : LocalInfo). let side : Side = record { lo = x.lo; hi = x.hi } in side) c.deref-2.result.now) in
+    let own : length (map (λ (x : LocalInfo). let side : Side = record { lo = x.lo; hi = x.hi } in side) c.deref-2.result.now) ≡ length c.deref-2.result.now =
+    length-map c.deref-2.result.now (λ (x : LocalInfo). let side : Side = record { lo = x.lo; hi = x.hi } in side) in
     let reads = ap length c.deref.ensures.value in
     let locals = ap length c.deref-2.ensures.value in
     record {
@@ -30,6 +33,9 @@ iv_node-requires c =
 
 pub returns : goal.returns
 returns c =
-    drafts_are c.args.p.now c.args.info.now.sc c.args.sc.now c.args.info.now.plant c.args.cell.now c.put_cell_readings.new.sides c.put_locals.new.sides c.iv_node.result c.requires.node
-    (subst (λ l. AreCellReadings c.args.p.now c.args.info.now.plant c.args.cell.now l c.put_cell_readings.new.sides) c.deref.ensures.value c.put_cell_readings.ensures)
-    (c.put_locals.ensures ∙ ap (λ l. c.put_cell_readings.new.sides ++ map (λ (x : LocalInfo). let side : Side = record { lo = x.lo; hi = x.hi } in side) l) c.deref-2.ensures.value) c.iv_node.ensures
+    drafts_are c.args.p.now c.args.info.now.sc c.args.sc.now c.args.info.now.plant c.args.cell.now c.put_cell_readings.new.sides c.put_locals.new.sides
+    c.iv_node.result c.requires.node
+    (subst (λ l. AreCellReadings c.args.p.now c.args.info.now.plant c.args.cell.now l c.put_cell_readings.new.sides) c.deref.ensures.value
+    c.put_cell_readings.ensures)
+    (c.put_locals.ensures ∙ ap (λ l. c.put_cell_readings.new.sides ++ map (λ (x : LocalInfo). let side : Side = record { lo = x.lo; hi = x.hi } in side) l)
+    c.deref-2.ensures.value) c.iv_node.ensures

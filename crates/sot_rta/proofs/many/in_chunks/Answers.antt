@@ -7,7 +7,8 @@ use Rattle.sot_rta.proofs.many.in_chunks.Goals as goal
 pub find_first-requires-clause-items : goal.find_first-requires-clause-items
 find_first-requires-clause-items g c κs within =
     let ends = c.into_par_iter.ensures in
-    let inside = nat_range-All (λ k. k * c.args.size < c.args.count) 0 c.div_ceil.result (λ k low high. begins c.args.size c.args.count k c.requires.size (omega (arith, high, c.div_ceil.ensures))) in
+    let inside = nat_range-All (λ k. k * c.args.size < c.args.count) 0 c.div_ceil.result
+    (λ k low high. begins c.args.size c.args.count k c.requires.size (omega (arith, high, c.div_ceil.ensures))) in
     rw (c.map.ensures.base, c.map.ensures.f, c.with_min_len.ensures.base, ends.0, ends.1) (λ k d lt. ((inside k d lt, c.requires.each), λ y answered p is. tt))
 
 pub returns : goal.returns

@@ -16,14 +16,16 @@ pub returns-then-infos-scalar : goal.returns-then-infos-scalar
 returns-then-infos-scalar c =
     let at_k = slice_get-get_or c.args.scalars.now c.loop-i.i 0 c.loop-i-test.true in
     let k = slice_index_or c.args.scalars.now c.loop-i.i 0 in
-    let at_info = slice_get_read c.args.infos.now (length c.args.infos.now) k c.index-infos-scalar.result refl (c.requires k (c.loop-i.i, at_k)) c.index-infos-scalar.is in
+    let at_info = slice_get_read c.args.infos.now (length c.args.infos.now) k c.index-infos-scalar.result refl (c.requires k (c.loop-i.i, at_k))
+    c.index-infos-scalar.is in
     ((λ f. (k, (c.loop-i.i, at_k), (c.index-infos-scalar.result, at_info, search rules))), (λ some. refl))
 
 pub loop-i-preserved : goal.loop-i-preserved
 loop-i-preserved c =
     let at_k = slice_get-get_or c.args.scalars.now c.loop-i.i 0 c.loop-i-test.true in
     let k = slice_index_or c.args.scalars.now c.loop-i.i 0 in
-    let at_info = slice_get_read c.args.infos.now (length c.args.infos.now) k c.index-infos-scalar.result refl (c.requires k (c.loop-i.i, at_k)) c.index-infos-scalar.is in
+    let at_info = slice_get_read c.args.infos.now (length c.args.infos.now) k c.index-infos-scalar.result refl (c.requires k (c.loop-i.i, at_k))
+    c.index-infos-scalar.is in
     λ j m info lt at_j at_m same.
     one_more (λ j. (m : ℕ) (info : ScalarInfo) → At c.args.scalars.now j m → At c.args.infos.now m info → info.topic ≡ c.args.topic → ⊥) c.loop-i.i
     (λ j lt m info at_j at_m same. c.loop-i.invariant j m info lt at_j at_m same)
@@ -36,5 +38,6 @@ loop-i-preserved c =
 pub returns : goal.returns
 returns c = (
   (λ f. absurd (false≢true f)),
-  (λ some. absurd (c.loop-i.invariant some.1.0 some.0 some.2.0 (omega (arith, slice_get_within c.args.scalars.now some.1.0 some.0 some.1.1, c.loop-i-test.false)) some.1.1 some.2.1 some.2.2)),
+  (λ some. absurd (c.loop-i.invariant some.1.0 some.0 some.2.0
+      (omega (arith, slice_get_within c.args.scalars.now some.1.0 some.0 some.1.1, c.loop-i-test.false)) some.1.1 some.2.1 some.2.2)),
 )

@@ -16,9 +16,11 @@ pub loop-i-preserved : goal.loop-i-preserved
 loop-i-preserved c =
     let at_k = slice_get-get_or c.args.some.now c.loop-i.i 0 c.loop-i-test.true in
     let k = slice_index_or c.args.some.now c.loop-i.i 0 in
-    let at_info = slice_get_read c.args.infos.now (length c.args.infos.now) k c.index-infos-scalar.result refl (c.requires.one k (c.loop-i.i, at_k)) c.index-infos-scalar.is in
+    let at_info = slice_get_read c.args.infos.now (length c.args.infos.now) k c.index-infos-scalar.result refl (c.requires.one k (c.loop-i.i, at_k))
+    c.index-infos-scalar.is in
     λ j m info lt at_j at_m.
-    one_more (λ j. (m : ℕ) (info : ScalarInfo) → At c.args.some.now j m → At c.args.infos.now m info → AreSomeOf c.args.infos.now c.args.others.now info.topic) c.loop-i.i
+    one_more (λ j. (m : ℕ) (info : ScalarInfo) → At c.args.some.now j m → At c.args.infos.now m info → AreSomeOf c.args.infos.now c.args.others.now info.topic)
+    c.loop-i.i
     (λ j lt m info at_j at_m. c.loop-i.invariant j m info lt at_j at_m)
     (λ m info at_j at_m.
     let here : k ≡ m = same_Some k m (sym at_k ∙ at_j) in
@@ -30,4 +32,5 @@ loop-i-preserved c =
 pub returns : goal.returns
 returns c e t some =
     subst (λ x. AreSomeOf c.args.infos.now c.args.others.now x) some.2.2
-    (c.loop-i.invariant some.1.0 some.0 some.2.0 (omega (arith, slice_get_within c.args.some.now some.1.0 some.0 some.1.1, c.loop-i-test.false)) some.1.1 some.2.1)
+    (c.loop-i.invariant some.1.0 some.0 some.2.0 (omega (arith, slice_get_within c.args.some.now some.1.0 some.0 some.1.1, c.loop-i-test.false)) some.1.1
+    some.2.1)
