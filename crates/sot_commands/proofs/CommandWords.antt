@@ -1,5 +1,6 @@
 -- `clap` takes the word of a command: alone, or with two words behind it.
-use Rattle.std.proofs.Common.{◌≡◌, ℕ, List, [], ◌∷◌, ◌++◌, Bool, true, false, ◌||◌, inl, inr, Option, Some, None, refl, sym, ap, ◌∙◌, subst, codes, map, append_assoc, ◌==◌, arith, get_or, Global, ◌≢◌, ◌⊎◌, Result, Ok, Err}
+use Rattle.std.proofs.Common.{◌≡◌, ℕ, List, [], ◌∷◌, ◌++◌, Bool, true, false, ◌||◌, inl, inr, Option, Some, None, refl, sym, ap, ◌∙◌, subst, codes, map}
+use Rattle.std.proofs.Common.{append_assoc, ◌==◌, arith, get_or, Global, ◌≢◌, ◌⊎◌, Result, Ok, Err}
 use Rattle.std.specs.Prelude.{option_map, find, fold, if◌then◌else◌, String, IfOk, IsErrOf, Box}
 use Rattle.std.specs.List.{list_any}
 use Rattle.std.specs.Str.{bytes_eq}
@@ -13,7 +14,8 @@ use Rattle.clap.specs.declared.parser.matches.SubCommand.{SubCommand}
 use Rattle.clap.specs.declared.parser.matches.ArgMatches.TheViews.{out-SubCommand}
 use Rattle.std.proofs.lemmas.Slice.Eq.{bytes_eq-Decides}
 use Rattle.clap.specs.Walk.{Held, Names, Step, Text, Waiting, idle, value, answers_to, nothing_held, walk, walk_from, walked, word_met}
-use Rattle.clap.specs.Simple.{Shape, built, entered, built_leaf, inherited, marked_built, is_simple, names_of, new_shape, subcommand_of, subcommand_rows, with_leaf_noted}
+use Rattle.clap.specs.Simple.{Shape, built, entered, built_leaf, inherited, marked_built, is_simple, names_of, new_shape, subcommand_of, subcommand_rows}
+use Rattle.clap.specs.Simple.{with_leaf_noted}
 use Rattle.clap.specs.Kinds.{Kinds, IsAmong, or_else}
 use Rattle.clap.specs.Faults.{turn_fault, step_fault, stray_fault, walk_fault, level_fault, entered_fault, fault_of}
 use Rattle.clap.specs.declared.error.kind.ErrorKind.{ErrorKind}
@@ -36,7 +38,8 @@ neither [] b e = (refl, e)
 neither (k ∷ ks) b e = absurd cc
 
 -- a word without '-' that names no subcommand is a value
-is_value : (names : Names) (word : Text) → is_dashed word ≡ false → find (answers_to word) names ≡ None → word_met [] names false idle 1 word nothing_held ≡ (nothing_held, value)
+is_value : (names : Names) (word : Text) → is_dashed word ≡ false → find (answers_to word) names ≡ None
+    → word_met [] names false idle 1 word nothing_held ≡ (nothing_held, value)
 is_value names [] plain none = rw none refl
 is_value names (x ∷ xs) plain none = rw (none, plain, plain) refl
 
@@ -51,14 +54,16 @@ unfolding walk_fault
 strays s names word rest rules plain none e =
     let met : word_met s.rules names false idle 1 word nothing_held ≡ (nothing_held, value) = rw rules (is_value names word plain none) in
     let turn : turn_fault s names (walk_from nothing_held) word ≡ [] = (neither _ _ e).0 in
-    let step : step_fault s 1 (word_met s.rules names false idle 1 word nothing_held).0 (word_met s.rules names false idle 1 word nothing_held).1 ≡ [] = (neither _ _ turn).1 in
+    let step : step_fault s 1 (word_met s.rules names false idle 1 word nothing_held).0 (word_met s.rules names false idle 1 word nothing_held).1 ≡ [] =
+    (neither _ _ turn).1 in
     let at_value : step_fault s 1 nothing_held value ≡ [] = subst (λ (m : Held × Step). step_fault s 1 m.0 m.1 ≡ []) met step in
     let stray : stray_fault s ≡ [] = rw rules at at_value in
     two_kinds s.is_leaf kind.UnknownArgument kind.UnknownArgument kind.InvalidSubcommand stray
 
 -- a walk that stopped at a subcommand keeps the words behind it
 stops : (names : Names) (h : Held) (waiting : Waiting) (position : ℕ) (trailing : Bool) (name : Text) (behind rest : List Text)
-    → (fold (walked [] names) (record { held = h; waiting = waiting; position = position; is_trailing = trailing; stopped = Some (name, behind) }) rest).stopped ≡ Some (name, behind ++ rest)
+    → (fold (walked [] names) (record { held = h; waiting = waiting; position = position; is_trailing = trailing; stopped = Some (name, behind) }) rest).stopped
+    ≡ Some (name, behind ++ rest)
 unfolding walked
 stops names h waiting position trailing name behind [] = ap (λ (l : List Text). Some (name, l)) (sym (append-nil behind))
 stops names h waiting position trailing name behind (r ∷ rest) =
@@ -83,31 +88,36 @@ alone Check (r ∷ rest) none plain e =
     let parts = or_parts (is_dashed r) (list_any is_dashed rest) plain in
     let below : entered_fault (built program) (walk [] sub_names nothing_held (codes "check" ∷ r ∷ rest)).stopped ≡ [] = (neither _ _ (neither _ _ e).1).0 in
     let inner : entered_fault (built program) (Some (codes "check", r ∷ rest)) ≡ [] =
-    subst (λ (p : Option (Text × List Text)). entered_fault (built program) p ≡ []) (stops sub_names nothing_held idle 1 false (codes "check") [] (r ∷ rest)) below in
+    subst (λ (p : Option (Text × List Text)). entered_fault (built program) p ≡ []) (stops sub_names nothing_held idle 1 false (codes "check") [] (r ∷ rest))
+    below in
     absurd (nothing_behind (sub_shape (codes "check")) r rest refl parts.0 inner)
 alone Fly (r ∷ rest) none plain e =
     let parts = or_parts (is_dashed r) (list_any is_dashed rest) plain in
     let below : entered_fault (built program) (walk [] sub_names nothing_held (codes "fly" ∷ r ∷ rest)).stopped ≡ [] = (neither _ _ (neither _ _ e).1).0 in
     let inner : entered_fault (built program) (Some (codes "fly", r ∷ rest)) ≡ [] =
-    subst (λ (p : Option (Text × List Text)). entered_fault (built program) p ≡ []) (stops sub_names nothing_held idle 1 false (codes "fly") [] (r ∷ rest)) below in
+    subst (λ (p : Option (Text × List Text)). entered_fault (built program) p ≡ []) (stops sub_names nothing_held idle 1 false (codes "fly") [] (r ∷ rest))
+    below in
     absurd (nothing_behind (sub_shape (codes "fly")) r rest refl parts.0 inner)
 alone Replay (r ∷ rest) none plain e =
     let parts = or_parts (is_dashed r) (list_any is_dashed rest) plain in
     let below : entered_fault (built program) (walk [] sub_names nothing_held (codes "replay" ∷ r ∷ rest)).stopped ≡ [] = (neither _ _ (neither _ _ e).1).0 in
     let inner : entered_fault (built program) (Some (codes "replay", r ∷ rest)) ≡ [] =
-    subst (λ (p : Option (Text × List Text)). entered_fault (built program) p ≡ []) (stops sub_names nothing_held idle 1 false (codes "replay") [] (r ∷ rest)) below in
+    subst (λ (p : Option (Text × List Text)). entered_fault (built program) p ≡ []) (stops sub_names nothing_held idle 1 false (codes "replay") [] (r ∷ rest))
+    below in
     absurd (nothing_behind (sub_shape (codes "replay")) r rest refl parts.0 inner)
 alone Format (r ∷ rest) none plain e =
     let parts = or_parts (is_dashed r) (list_any is_dashed rest) plain in
     let below : entered_fault (built program) (walk [] sub_names nothing_held (codes "format" ∷ r ∷ rest)).stopped ≡ [] = (neither _ _ (neither _ _ e).1).0 in
     let inner : entered_fault (built program) (Some (codes "format", r ∷ rest)) ≡ [] =
-    subst (λ (p : Option (Text × List Text)). entered_fault (built program) p ≡ []) (stops sub_names nothing_held idle 1 false (codes "format") [] (r ∷ rest)) below in
+    subst (λ (p : Option (Text × List Text)). entered_fault (built program) p ≡ []) (stops sub_names nothing_held idle 1 false (codes "format") [] (r ∷ rest))
+    below in
     absurd (nothing_behind (sub_shape (codes "format")) r rest refl parts.0 inner)
 alone Certify (r ∷ rest) none plain e =
     let parts = or_parts (is_dashed r) (list_any is_dashed rest) plain in
     let below : entered_fault (built program) (walk [] sub_names nothing_held (codes "certify" ∷ r ∷ rest)).stopped ≡ [] = (neither _ _ (neither _ _ e).1).0 in
     let inner : entered_fault (built program) (Some (codes "certify", r ∷ rest)) ≡ [] =
-    subst (λ (p : Option (Text × List Text)). entered_fault (built program) p ≡ []) (stops sub_names nothing_held idle 1 false (codes "certify") [] (r ∷ rest)) below in
+    subst (λ (p : Option (Text × List Text)). entered_fault (built program) p ≡ []) (stops sub_names nothing_held idle 1 false (codes "certify") [] (r ∷ rest))
+    below in
     absurd (nothing_behind (sub_shape (codes "certify")) r rest refl parts.0 inner)
 alone (Make n seed) (r ∷ rest) none plain e = absurd cc
 alone (Soak n seed) (r ∷ rest) none plain e = absurd cc
@@ -118,7 +128,8 @@ begins c w rest is plain e =
     (rest, ap (λ (t : Text). t ∷ rest) (sym is), λ none. alone c rest none plain (subst (λ (t : Text). fault_of program (t ∷ rest) ≡ []) (sym is) e))
 
 -- what is taken begins with the word of a command, and is no more where the command has no numbers
-pub only : (words : List Text) → list_any is_dashed words ≡ false → fault_of program words ≡ [] → (c : Command) × ((rest : List Text) × (words ≡ word_of c ∷ rest) × (numbers_of c ≡ [] → rest ≡ []))
+pub only : (words : List Text) → list_any is_dashed words ≡ false → fault_of program words ≡ []
+    → (c : Command) × ((rest : List Text) × (words ≡ word_of c ∷ rest) × (numbers_of c ≡ [] → rest ≡ []))
 only [] plain e = absurd (no_words e)
 only (w ∷ rest) plain e =
     let parts = or_parts (is_dashed w) (list_any is_dashed rest) plain in
@@ -143,7 +154,8 @@ only (w ∷ rest) plain e =
                                         elim (cases_Bool (bytes_eq (codes "soak") w)) [
                                           | inl is ↦ (Soak 0 0, begins (Soak 0 0) w rest ((bytes_eq-Decides (codes "soak") w).0 is) parts.1 e)
                                           | inr no_soak ↦
-                                              let none : find (answers_to w) sub_names ≡ None = rw (no_check, no_fly, no_replay, no_format, no_certify, no_make, no_soak) refl in
+                                              let none : find (answers_to w) sub_names ≡ None =
+                                              rw (no_check, no_fly, no_replay, no_format, no_certify, no_make, no_soak) refl in
                                               absurd (strays (built program).top sub_names w rest refl parts.0 none (neither _ _ e).0)
                                         ]
                                   ]
@@ -157,19 +169,26 @@ only (w ∷ rest) plain e =
 pub named : (c : Command) (rest : List Text) → option_map (λ p. p.0) (subcommand_of program (word_of c ∷ rest)) ≡ Some (word_of c)
 unfolding walked clap_on_literals
 named Check rest =
-    subst (λ (p : Option (Text × List Text)). option_map (λ q. q.0) (entered (built program) p) ≡ Some (codes "check")) (sym (stops sub_names nothing_held idle 1 false (codes "check") [] rest)) refl
+    subst (λ (p : Option (Text × List Text)). option_map (λ q. q.0) (entered (built program) p) ≡ Some (codes "check"))
+    (sym (stops sub_names nothing_held idle 1 false (codes "check") [] rest)) refl
 named Fly rest =
-    subst (λ (p : Option (Text × List Text)). option_map (λ q. q.0) (entered (built program) p) ≡ Some (codes "fly")) (sym (stops sub_names nothing_held idle 1 false (codes "fly") [] rest)) refl
+    subst (λ (p : Option (Text × List Text)). option_map (λ q. q.0) (entered (built program) p) ≡ Some (codes "fly"))
+    (sym (stops sub_names nothing_held idle 1 false (codes "fly") [] rest)) refl
 named Replay rest =
-    subst (λ (p : Option (Text × List Text)). option_map (λ q. q.0) (entered (built program) p) ≡ Some (codes "replay")) (sym (stops sub_names nothing_held idle 1 false (codes "replay") [] rest)) refl
+    subst (λ (p : Option (Text × List Text)). option_map (λ q. q.0) (entered (built program) p) ≡ Some (codes "replay"))
+    (sym (stops sub_names nothing_held idle 1 false (codes "replay") [] rest)) refl
 named Format rest =
-    subst (λ (p : Option (Text × List Text)). option_map (λ q. q.0) (entered (built program) p) ≡ Some (codes "format")) (sym (stops sub_names nothing_held idle 1 false (codes "format") [] rest)) refl
+    subst (λ (p : Option (Text × List Text)). option_map (λ q. q.0) (entered (built program) p) ≡ Some (codes "format"))
+    (sym (stops sub_names nothing_held idle 1 false (codes "format") [] rest)) refl
 named Certify rest =
-    subst (λ (p : Option (Text × List Text)). option_map (λ q. q.0) (entered (built program) p) ≡ Some (codes "certify")) (sym (stops sub_names nothing_held idle 1 false (codes "certify") [] rest)) refl
+    subst (λ (p : Option (Text × List Text)). option_map (λ q. q.0) (entered (built program) p) ≡ Some (codes "certify"))
+    (sym (stops sub_names nothing_held idle 1 false (codes "certify") [] rest)) refl
 named (Make n seed) rest =
-    subst (λ (p : Option (Text × List Text)). option_map (λ q. q.0) (entered (built program) p) ≡ Some (codes "make")) (sym (stops sub_names nothing_held idle 1 false (codes "make") [] rest)) refl
+    subst (λ (p : Option (Text × List Text)). option_map (λ q. q.0) (entered (built program) p) ≡ Some (codes "make"))
+    (sym (stops sub_names nothing_held idle 1 false (codes "make") [] rest)) refl
 named (Soak n seed) rest =
-    subst (λ (p : Option (Text × List Text)). option_map (λ q. q.0) (entered (built program) p) ≡ Some (codes "soak")) (sym (stops sub_names nothing_held idle 1 false (codes "soak") [] rest)) refl
+    subst (λ (p : Option (Text × List Text)). option_map (λ q. q.0) (entered (built program) p) ≡ Some (codes "soak"))
+    (sym (stops sub_names nothing_held idle 1 false (codes "soak") [] rest)) refl
 
 -- two words that do not begin with '-' are taken behind `make` and `soak`
 make_taken : (x y : ℕ) (xs ys : List ℕ) → (x == 45) ≡ false → (y == 45) ≡ false → fault_of program (codes "make" ∷ (x ∷ xs) ∷ (y ∷ ys) ∷ []) ≡ []
@@ -293,11 +312,13 @@ found_asks words name (Ok c) plain free is (names, numbered) =
 pub lost_asks : (words : List (String Global)) (name : Option Text) → name ≡ option_map (λ p. p.0) (subcommand_of program (map string_bytes words))
     → ((c : Command) → name ≡ Some (word_of c) → ¬ (IsNumbered words c)) → (c : Command) → ¬ (Asks words c)
 lost_asks words name is none c asks =
-    let names : name ≡ Some (word_of c) = is ∙ ap (λ (ws : List Text). option_map (λ p. p.0) (subcommand_of program ws)) asks.0 ∙ named c (map decimal (numbers_of c)) in
+    let names : name ≡ Some (word_of c) = is ∙ ap (λ (ws : List Text). option_map (λ p. p.0) (subcommand_of program ws)) asks.0
+    ∙ named c (map decimal (numbers_of c)) in
     none c names (numbered_asks words c asks)
 
 -- the name of the subcommand that was found
-pub name_found : {Z : Type 0} (o : Option (Box SubCommand Z)) → option_map (λ b. (out-SubCommand (box_value b)).name.now) o ≡ option_map (λ p. p.0) (subcommand_rows o)
+pub name_found : {Z : Type 0} (o : Option (Box SubCommand Z))
+    → option_map (λ b. (out-SubCommand (box_value b)).name.now) o ≡ option_map (λ p. p.0) (subcommand_rows o)
 name_found None = refl
 name_found (Some b) = refl
 
@@ -306,7 +327,8 @@ unfolding clap_on_literals
 is_simple_program = refl
 
 -- words that `clap` does not take ask for nothing
-pub fault_asks : (k : ErrorKind) (words : List (String Global)) (c : Command) → (k ≡ kind.OutOfMemory) ⊎ IsAmong k (fault_of program (map string_bytes words)) → k ≢ kind.OutOfMemory
+pub fault_asks : (k : ErrorKind) (words : List (String Global)) (c : Command) → (k ≡ kind.OutOfMemory) ⊎ IsAmong k (fault_of program (map string_bytes words))
+    → k ≢ kind.OutOfMemory
     → ¬ (Asks words c)
 fault_asks k words c (inl memory) enough asks = enough memory
 fault_asks k words c (inr among) enough asks =

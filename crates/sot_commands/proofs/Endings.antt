@@ -7,8 +7,8 @@ use Rattle.sot_ports.specs.Faults.{Rose}
 use Rattle.sot_commands.specs.declared.words.Command.{Command}
 use Rattle.sot_commands.specs.declared.words.Command.TheVariants.{Check, Fly, Replay, Format, Certify, Make, Soak}
 use Rattle.sot_commands.specs.Answers.{Accepts, Refutes, Rejects, Replies, given_to, input_limit}
-use Rattle.sot_commands.specs.Steps.{WordAnswer, Written}
-use Rattle.sot_commands.specs.Ends.{Outside, Ends, Takes, Done, IsUsage, IsTooLong, IsAnswer, Decides}
+use Rattle.sot_commands.specs.Steps.{WordAnswer}
+use Rattle.sot_commands.specs.Ends.{Outside, Ends, Written, Takes, Done, IsUsage, IsTooLong, IsAnswer, Decides}
 use Rattle.sot_commands.proofs.Unique.{decides_once}
 
 -- a status, and the text that belongs to it
@@ -29,7 +29,8 @@ given (Make n seed) xs after bytes none = none.0
 given (Soak n seed) xs after bytes none = none.0
 
 -- what is answered at the words decides the status
-decides : (guests : ℕ) (words : List (String Global)) (left after : Option (List ℕ)) (status : ℕ) (text : List ℕ) → WordAnswer guests words left after status text
+decides : (guests : ℕ) (words : List (String Global)) (left after : Option (List ℕ)) (status : ℕ) (text : List ℕ)
+    → WordAnswer guests words left after status text
     → IfSome left (λ bytes. Decides guests words bytes status)
 decides guests words None after status text answer = tt
 decides guests words (Some xs) after status text (inr (other, is, text_is)) = inl (is, other)
@@ -106,7 +107,8 @@ module _ (guests : ℕ) (words : List (String Global)) (before after : Outside) 
   is_too_long status (inr (inr (inr (inr (is, a))))) e = a
 
   -- all of the text was written
-  ends_whole : (status : ℕ) → WordAnswer guests words before.left after.left status text → after.read_faults ≡ before.read_faults → after.write_faults ≡ before.write_faults
+  ends_whole : (status : ℕ) → WordAnswer guests words before.left after.left status text → after.read_faults ≡ before.read_faults
+      → after.write_faults ≡ before.write_faults
       → Appends before.held after.held text → Ends guests words before after status
   ends_whole status answer read wrote appended =
       let said = says status answer in
@@ -127,7 +129,8 @@ module _ (guests : ℕ) (words : List (String Global)) (before after : Outside) 
 
   -- the sink failed before its end
   ends_part : (said status : ℕ) → WordAnswer guests words before.left after.left said text → after.read_faults ≡ before.read_faults → status ≡ 5
-      → Rose before.write_faults after.write_faults → ((n : ℕ) × (n < length text) × Appends before.held after.held (take n text)) → Ends guests words before after status
+      → Rose before.write_faults after.write_faults → ((n : ℕ) × (n < length text) × Appends before.held after.held (take n text))
+      → Ends guests words before after status
   ends_part said status answer read is rose part = record {
     known = omega arith;
     accepted = λ e. absurd (omega arith);

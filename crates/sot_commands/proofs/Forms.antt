@@ -25,71 +25,85 @@ use Rattle.sot_commands.specs.declared.answer.Answer.{Answer}
 use Rattle.sot_commands.specs.declared.words.Command.TheVariants.{Check, Format}
 use Rattle.sot_commands.specs.Answers.{SpellsFor, Replies}
 use Rattle.sot_commands.specs.declared.telling.Telling.{Telling}
-use Rattle.sot_commands.specs.Steps.{Judges, JudgesFlight, JudgesFlown, FliesBytes}
+use Rattle.sot_commands.specs.Orders.{FliesBytes}
+use Rattle.sot_commands.specs.Steps.{Judges, JudgesFlight, JudgesFlown}
 
 -- `format`: a text that spells a program has its canonical text said
-pub formatted_result : (guests : ℕ) (r : Result Answer AllocError) (bytes : List ℕ) (program : Program) → Spells bytes 0 program → IfOk r (λ a. a.status ≡ 0) → IfOk r (λ a. a.text.items ≡ canonical program)
+pub formatted_result : (guests : ℕ) (r : Result Answer AllocError) (bytes : List ℕ) (program : Program) → Spells bytes 0 program → IfOk r (λ a. a.status ≡ 0)
+    → IfOk r (λ a. a.text.items ≡ canonical program)
     → IfOk r (λ a. Replies guests Format bytes a.status a.text.items)
 formatted_result guests (Ok a) bytes program spells status text = inl (status, (program, spells, text))
 formatted_result guests (Err e) bytes program spells status text = tt
 
 -- and of a text that spells none it was said where the grammar does not go on
-pub misspelled_result : (guests : ℕ) (r : Result Answer AllocError) (bytes : List ℕ) (fault : Syntax) → SpellsNone bytes → fault ≡ fault_at bytes 0 → IfOk r (λ a. a.status ≡ 3) → IfOk r (λ a. a.text.items ≡ syntax_text fault)
+pub misspelled_result : (guests : ℕ) (r : Result Answer AllocError) (bytes : List ℕ) (fault : Syntax) → SpellsNone bytes → fault ≡ fault_at bytes 0
+    → IfOk r (λ a. a.status ≡ 3) → IfOk r (λ a. a.text.items ≡ syntax_text fault)
     → IfOk r (λ a. Replies guests Format bytes a.status a.text.items)
 misspelled_result guests (Ok a) bytes fault none place status text = inr (inr (status, (fault, none, fault_is_placed bytes 0 fault none place, text)))
 misspelled_result guests (Err e) bytes fault none place status text = tt
 
 -- `check`: a mission that is accepted, and one that is refused
-pub accepted_result : (r : Result Answer AllocError) (t : Tables) (c : Cert) → IsWellCertified t c.jitter c → EveryRunIsSafe t c.jitter → IfOk r (λ a. a.status ≡ 0) → IfOk r (λ a. a.text.items ≡ accepted_text t c)
+pub accepted_result : (r : Result Answer AllocError) (t : Tables) (c : Cert) → IsWellCertified t c.jitter c → EveryRunIsSafe t c.jitter
+    → IfOk r (λ a. a.status ≡ 0) → IfOk r (λ a. a.text.items ≡ accepted_text t c)
     → IfOk r (λ a. Judges t c a.status a.text.items)
 accepted_result (Ok a) t c certified safe status text = inl (status, certified, safe, text)
 accepted_result (Err e) t c certified safe status text = tt
 
-pub refused_result : (r : Result Answer AllocError) (t : Tables) (c : Cert) (v : Refusal) → (verdict t c.jitter c).Refuses v → IfOk r (λ a. a.status ≡ 1) → IfOk r (λ a. a.text.items ≡ refusal_text t v)
+pub refused_result : (r : Result Answer AllocError) (t : Tables) (c : Cert) (v : Refusal) → (verdict t c.jitter c).Refuses v → IfOk r (λ a. a.status ≡ 1)
+    → IfOk r (λ a. a.text.items ≡ refusal_text t v)
     → IfOk r (λ a. Judges t c a.status a.text.items)
 refused_result (Ok a) t c v refuses status text = inr (status, (v, refuses, text))
 refused_result (Err e) t c v refuses status text = tt
 
 -- what is said of its program and certificate is said of the mission
-replied : (guests : ℕ) (bytes text : List ℕ) (status : ℕ) (m : Mission) → SpellsFor needs.Check 0 bytes m → Judges m.tables m.cert status text → Replies guests Check bytes status text
+replied : (guests : ℕ) (bytes text : List ℕ) (status : ℕ) (m : Mission) → SpellsFor needs.Check 0 bytes m → Judges m.tables m.cert status text
+    → Replies guests Check bytes status text
 replied guests bytes text status m spells (inl (is, certified, safe, says)) = inl (is, (m, spells, certified, safe, says))
 replied guests bytes text status m spells (inr (is, refused)) = inr (inl (is, (m, spells, refused)))
 
-pub judged_result : (guests : ℕ) (r : Result Answer AllocError) (bytes : List ℕ) (m : Mission) → SpellsFor needs.Check 0 bytes m → IfOk r (λ a. Judges m.tables m.cert a.status a.text.items)
+pub judged_result : (guests : ℕ) (r : Result Answer AllocError) (bytes : List ℕ) (m : Mission) → SpellsFor needs.Check 0 bytes m
+    → IfOk r (λ a. Judges m.tables m.cert a.status a.text.items)
     → IfOk r (λ a. Replies guests Check bytes a.status a.text.items)
 judged_result guests (Ok a) bytes m spells judges = replied guests bytes a.text.items a.status m spells judges
 judged_result guests (Err e) bytes m spells judges = tt
 
 -- and bytes that have a fault
-pub faulty_result : (guests : ℕ) (r : Result Answer AllocError) (bytes : List ℕ) (fault : Fault) → HasFault needs.Check 0 bytes fault → IfOk r (λ a. a.status ≡ 3) → IfOk r (λ a. a.text.items ≡ fault_text fault)
+pub faulty_result : (guests : ℕ) (r : Result Answer AllocError) (bytes : List ℕ) (fault : Fault) → HasFault needs.Check 0 bytes fault
+    → IfOk r (λ a. a.status ≡ 3) → IfOk r (λ a. a.text.items ≡ fault_text fault)
     → IfOk r (λ a. Replies guests Check bytes a.status a.text.items)
 faulty_result guests (Ok a) bytes fault has status text = inr (inr (status, (fault, has, text)))
 faulty_result guests (Err e) bytes fault has status text = tt
 
 -- `fly` and `soak`: what is said of an accepted program's flight is said of the program with its certificate, and so is a refusal
-pub flight_result : (r : Result Answer AllocError) (telling : Telling) (t : Tables) (c : Cert) (f : Plan) → IsWellCertified t c.jitter c → EveryRunIsSafe t c.jitter
+pub flight_result : (r : Result Answer AllocError) (telling : Telling) (t : Tables) (c : Cert) (f : Plan) → IsWellCertified t c.jitter c
+    → EveryRunIsSafe t c.jitter
     → IfOk r (λ a. JudgesFlight telling t c.jitter f a.status a.text.items) → IfOk r (λ a. JudgesFlown telling t c f a.status a.text.items)
 flight_result (Ok a) telling t c f certified safe judges = inl (certified, safe, judges)
 flight_result (Err e) telling t c f certified safe judges = tt
 
-pub unflown_result : (r : Result Answer AllocError) (telling : Telling) (t : Tables) (c : Cert) (f : Plan) (v : Refusal) → (verdict t c.jitter c).Refuses v → IfOk r (λ a. a.status ≡ 1)
+pub unflown_result : (r : Result Answer AllocError) (telling : Telling) (t : Tables) (c : Cert) (f : Plan) (v : Refusal) → (verdict t c.jitter c).Refuses v
+    → IfOk r (λ a. a.status ≡ 1)
     → IfOk r (λ a. a.text.items ≡ refusal_text t v) → IfOk r (λ a. JudgesFlown telling t c f a.status a.text.items)
 unflown_result (Ok a) telling t c f v refuses status text = inr (status, (v, refuses, text))
 unflown_result (Err e) telling t c f v refuses status text = tt
 
 -- and what is said of these is said of the mission
-flown : (guests : ℕ) (telling : Telling) (bytes text : List ℕ) (status : ℕ) (m : Mission) (f : Plan) → SpellsFor needs.Fly guests bytes m → m.flight ≡ Some f → JudgesFlown telling m.tables m.cert f status text
+flown : (guests : ℕ) (telling : Telling) (bytes text : List ℕ) (status : ℕ) (m : Mission) (f : Plan) → SpellsFor needs.Fly guests bytes m → m.flight ≡ Some f
+    → JudgesFlown telling m.tables m.cert f status text
     → FliesBytes guests telling bytes status text
 flown guests telling bytes text status m f spells is (inl (certified, safe, inl (zero, says))) = inl (zero, (m, spells, certified, safe, (f, is, says)))
-flown guests telling bytes text status m f spells is (inl (certified, safe, inr (one, outside))) = inr (inl (one, (m, spells, inr (certified, (f, is, outside)))))
+flown guests telling bytes text status m f spells is (inl (certified, safe, inr (one, outside))) =
+    inr (inl (one, (m, spells, inr (certified, (f, is, outside)))))
 flown guests telling bytes text status m f spells is (inr (one, refused)) = inr (inl (one, (m, spells, inl refused)))
 
-pub flown_result : (guests : ℕ) (r : Result Answer AllocError) (telling : Telling) (bytes : List ℕ) (m : Mission) (f : Plan) → SpellsFor needs.Fly guests bytes m → m.flight ≡ Some f
+pub flown_result : (guests : ℕ) (r : Result Answer AllocError) (telling : Telling) (bytes : List ℕ) (m : Mission) (f : Plan)
+    → SpellsFor needs.Fly guests bytes m → m.flight ≡ Some f
     → IfOk r (λ a. JudgesFlown telling m.tables m.cert f a.status a.text.items) → IfOk r (λ a. FliesBytes guests telling bytes a.status a.text.items)
 flown_result guests (Ok a) telling bytes m f spells is judges = flown guests telling bytes a.text.items a.status m f spells is judges
 flown_result guests (Err e) telling bytes m f spells is judges = tt
 
-pub unread_result : (guests : ℕ) (r : Result Answer AllocError) (telling : Telling) (bytes : List ℕ) (fault : Fault) → HasFault needs.Fly guests bytes fault → IfOk r (λ a. a.status ≡ 3)
+pub unread_result : (guests : ℕ) (r : Result Answer AllocError) (telling : Telling) (bytes : List ℕ) (fault : Fault) → HasFault needs.Fly guests bytes fault
+    → IfOk r (λ a. a.status ≡ 3)
     → IfOk r (λ a. a.text.items ≡ fault_text fault) → IfOk r (λ a. FliesBytes guests telling bytes a.status a.text.items)
 unread_result guests (Ok a) telling bytes fault has status text = inr (inr (status, (fault, has, text)))
 unread_result guests (Err e) telling bytes fault has status text = tt

@@ -56,7 +56,8 @@ module _ (need : Need) (guests : ℕ) (bytes : List ℕ) (m n : Mission) (x : Sp
   -- have one flight
   pub flight_same : (f g : Plan) → m.flight ≡ Some f → n.flight ≡ Some g → f ≡ g
   flight_same f g is is' =
-      same_flown guests m.tables n.tables x.parts.flight f g m.flight n.flight looks is is' x.flown (subst (λ (q : Parts). SaysFlight n.tables guests q.flight n.flight) (sym (sections need guests bytes m n x y)) y.flown)
+      same_flown guests m.tables n.tables x.parts.flight f g m.flight n.flight looks is is' x.flown
+      (subst (λ (q : Parts). SaysFlight n.tables guests q.flight n.flight) (sym (sections need guests bytes m n x y)) y.flown)
 
 -- one module is the first that starts outside
 first_outside : (t : Tables) (start : List (List ℤ)) (k l : ℕ) → IsFirstOutside t start k → IsFirstOutside t start l → k < l → ⊥
@@ -69,7 +70,8 @@ same_outside t start k l a b =
     (λ le. ⊎_elim (λ more. absurd (first_outside t start l k b a more)) (λ ge. omega (arith, le, ge)) (cases_lt l k))
     (cases_lt k l)
 
-module _ (need : Need) (guests : ℕ) (bytes : List ℕ) (m n : Mission) (x : SpellsFor need guests bytes m) (y : SpellsFor need guests bytes n) (f g : Plan) (is : m.flight ≡ Some f) (is' : n.flight ≡ Some g) where
+module _ (need : Need) (guests : ℕ) (bytes : List ℕ) (m n : Mission) (x : SpellsFor need guests bytes m) (y : SpellsFor need guests bytes n) (f g : Plan)
+    (is : m.flight ≡ Some f) (is' : n.flight ≡ Some g) where
   -- the first module that starts outside, by the other tables
   outside_moved : (k : ℕ) → IsFirstOutside m.tables f.start k → IsFirstOutside n.tables g.start k
   outside_moved k first =
@@ -87,7 +89,8 @@ module _ (need : Need) (guests : ℕ) (bytes : List ℕ) (m n : Mission) (x : Sp
   outside_text text other (k, first, told) (l, second, told') =
       let one : k ≡ l = same_outside n.tables g.start k l (outside_moved k first) second in
       let infos : first.info ≡ second.info =
-      at_same n.tables.modules l first.info second.info (subst (λ j. At n.tables.modules j first.info) one (subst (λ (ms : List ModuleInfo). At ms k first.info) (modules_same m.tables n.tables (looks need guests bytes m n x y)) first.is)) second.is
+      at_same n.tables.modules l first.info second.info (subst (λ j. At n.tables.modules j first.info) one
+      (subst (λ (ms : List ModuleInfo). At ms k first.info) (modules_same m.tables n.tables (looks need guests bytes m n x y)) first.is)) second.is
       in
       let flights = flight_same need guests bytes m n x y f g is is' in
       told
@@ -98,16 +101,20 @@ module _ (need : Need) (guests : ℕ) (bytes : List ℕ) (m n : Mission) (x : Sp
 -- a mission that does not fly is told so with one text
 unflown_text : (guests : ℕ) (bytes text other : List ℕ) → DoesNotFly guests bytes text → DoesNotFly guests bytes other → text ≡ other
 unflown_text guests bytes text other (m, x, inl refused) (n, y, inl refused') = refused_text needs.Fly guests bytes m n x y text other refused refused'
-unflown_text guests bytes text other (m, x, inl (r, refuses, says)) (n, y, inr (certified, outside)) = absurd (accepted_refused needs.Fly guests bytes n m y x r certified refuses)
-unflown_text guests bytes text other (m, x, inr (certified, outside)) (n, y, inl (r, refuses, says)) = absurd (accepted_refused needs.Fly guests bytes m n x y r certified refuses)
-unflown_text guests bytes text other (m, x, inr (certified, (f, is, outside))) (n, y, inr (certified', (g, is', outside'))) = outside_text needs.Fly guests bytes m n x y f g is is' text other outside outside'
+unflown_text guests bytes text other (m, x, inl (r, refuses, says)) (n, y, inr (certified, outside)) =
+    absurd (accepted_refused needs.Fly guests bytes n m y x r certified refuses)
+unflown_text guests bytes text other (m, x, inr (certified, outside)) (n, y, inl (r, refuses, says)) =
+    absurd (accepted_refused needs.Fly guests bytes m n x y r certified refuses)
+unflown_text guests bytes text other (m, x, inr (certified, (f, is, outside))) (n, y, inr (certified', (g, is', outside'))) =
+    outside_text needs.Fly guests bytes m n x y f g is is' text other outside outside'
 
 pub refuted_once : RefusedOnce
 refuted_once guests Check bytes text other way (m, x, refused) (n, y, refused') = refused_text needs.Check 0 bytes m n x y text other refused refused'
 refuted_once guests Fly bytes text other way a b = unflown_text guests bytes text other a b
 refuted_once guests Replay bytes text other way a b = absurd way
 refuted_once guests Format bytes text other way a b = absurd a
-refuted_once guests Certify bytes text other way (p, t, spells, resolves, (fail, enough, fails, says)) (q, u, spells', resolves', (fail', enough', fails', says')) =
+refuted_once guests Certify bytes text other way (p, t, spells, resolves, (fail, enough, fails, says))
+    (q, u, spells', resolves', (fail', enough', fails', says')) =
     let looks = same_seen p q t u (spells_unique bytes 0 p q spells spells') resolves resolves' in
     says ∙ fail_text_same t u looks fail ∙ ap (fail_text u) (fails_alike t u fail fail' looks enough enough' fails fails') ∙ sym says'
 refuted_once guests (Make n seed) bytes text other way a b = absurd a
@@ -115,19 +122,24 @@ refuted_once guests (Soak n seed) bytes text other way a b = unflown_text 0 (mad
 
 pub lines_refused_once : LinesRefusedOnce
 lines_refused_once guests bytes m f lines text other x (inside, (number, kind, refused, says)) (inside', (number', kind', refused', says')) =
-    let one = refused_once m.tables m.cert.jitter f lines number number' kind kind' x.resolved.rules (mission_words needs.Replay guests bytes m x) refused refused' in
+    let one = refused_once m.tables m.cert.jitter f lines number number' kind kind' x.resolved.rules (mission_words needs.Replay guests bytes m x) refused
+    refused' in
     says ∙ ap₂ refused_line_text one.0 one.1 ∙ sym says'
 
 pub accepted_once : AcceptedOnce
 accepted_once guests Check bytes text other one (m, x, certified, safe, says) (n, y, certified', safe', says') =
     says ∙ accepted_text_same m.tables n.tables (looks needs.Check 0 bytes m n x y) m.cert n.cert (entries_same needs.Check 0 bytes m n x y) ∙ sym says'
 accepted_once guests Fly bytes text other one a b = absurd one
-accepted_once guests Replay bytes text other one (m, x, certified, safe, (f, lines, has, (inside, (history, traced, says)))) (n, y, certified', safe', (g, lines', has', (inside', (history', traced', says')))) =
+accepted_once guests Replay bytes text other one (m, x, certified, safe, (f, lines, has, (inside, (history, traced, says))))
+    (n, y, certified', safe', (g, lines', has', (inside', (history', traced', says')))) =
     let there = traced_moved guests bytes m n x y f g lines lines' has has' history traced in
-    let same : history ≡ history' = traced_once n.tables n.cert.jitter g lines' history history' y.resolved.rules (mission_words needs.Replay guests bytes n y) there traced' in
+    let same : history ≡ history' = traced_once n.tables n.cert.jitter g lines' history history' y.resolved.rules (mission_words needs.Replay guests bytes n y)
+    there traced' in
     says ∙ ap (λ (h : List Logged). legal_text (length h)) same ∙ sym says'
-accepted_once guests Format bytes text other one (p, spells, says) (q, spells', says') = says ∙ ap canonical (spells_unique bytes 0 p q spells spells') ∙ sym says'
-accepted_once guests Certify bytes text other one (p, t, spells, resolves, (c, made, fits, says), accepted) (q, u, spells', resolves', (d, made', fits', says'), accepted') =
+accepted_once guests Format bytes text other one (p, spells, says) (q, spells', says') =
+    says ∙ ap canonical (spells_unique bytes 0 p q spells spells') ∙ sym says'
+accepted_once guests Certify bytes text other one (p, t, spells, resolves, (c, made, fits, says), accepted)
+    (q, u, spells', resolves', (d, made', fits', says'), accepted') =
     let programs : p ≡ q = spells_unique bytes 0 p q spells spells' in
     let looks = same_seen p q t u programs resolves resolves' in
     let lines = certificate_line_same t u looks c d (entries_alike t u c d looks fits fits' made made').1 in

@@ -16,7 +16,8 @@ use Rattle.sot_law_fault_place.specs.Places.{IsFaultOf}
 use Rattle.sot_law_fault_place.proofs.OnePlace.{exact_places_are_one}
 use Rattle.sot_rules.specs.declared.fault.TypeFault.{TypeFault}
 use Rattle.sot_rules.specs.declared.fault.TypeKind.{TypeKind}
-use Rattle.sot_rules.specs.declared.fault.TypeKind.TheVariants.{Unknown, Twice, ScaleDiffers, KindDiffers, RangeEmpty, InitOutside, ReadsAndWrites, TooMany, RangeWide, NoModule, PeriodOutside, NextMissing}
+use Rattle.sot_rules.specs.declared.fault.TypeKind.TheVariants.{Unknown, Twice, ScaleDiffers, KindDiffers, RangeEmpty, InitOutside, ReadsAndWrites, TooMany}
+use Rattle.sot_rules.specs.declared.fault.TypeKind.TheVariants.{RangeWide, NoModule, PeriodOutside, NextMissing}
 use Rattle.sot_rules.specs.First.{number_of, IsFirstFault, IsFaultless}
 use Rattle.sot_lang.specs.Tables.{Tables}
 use Rattle.sot_typing.specs.Resolved.{tables_seen}
@@ -77,7 +78,8 @@ same_rule k l e = sym (rule_back k) ∙ ap rule_of e ∙ rule_back l
 typing_once : (p : Program) (f g : TypeFault) → IsFirstFault p f → IsFirstFault p g → SayOne (type_text f) (type_text g)
 typing_once p f g a b = by (a.first g b.fails) (b.first f a.fails)
   where
-    by : (rank f.at < rank g.at) ⊎ ((rank f.at ≡ rank g.at) × (number_of f.kind ≤ number_of g.kind)) → (rank g.at < rank f.at) ⊎ ((rank g.at ≡ rank f.at) × (number_of g.kind ≤ number_of f.kind)) → SayOne (type_text f) (type_text g)
+    by : (rank f.at < rank g.at) ⊎ ((rank f.at ≡ rank g.at) × (number_of f.kind ≤ number_of g.kind))
+        → (rank g.at < rank f.at) ⊎ ((rank g.at ≡ rank f.at) × (number_of g.kind ≤ number_of f.kind)) → SayOne (type_text f) (type_text g)
     by (inl less) (inl more) = absurd (omega (arith, less, more))
     by (inl less) (inr (same, le)) = absurd (omega (arith, less, same))
     by (inr (same, le)) (inl more) = absurd (omega (arith, more, same))
@@ -100,24 +102,28 @@ module _ (need : Need) (guests : ℕ) (bytes : List ℕ) where
   none_or_program : (a b : Parts) (p : Program) → HasParts need bytes a → HasParts need bytes b → SpellsNone a.program → Spells b.program 0 p → ⊥
   none_or_program a b p has has' none spells = none p (subst (λ (q : Parts). Spells q.program 0 p) (same_parts need bytes b a has' has) spells)
 
-  typing_or_tables : (a b : Parts) (p q : Program) (t : Tables) (f : TypeFault) → HasParts need bytes a → HasParts need bytes b → Spells a.program 0 p → IsFirstFault p f → SpellsTables b q t → ⊥
+  typing_or_tables : (a b : Parts) (p q : Program) (t : Tables) (f : TypeFault) → HasParts need bytes a → HasParts need bytes b → Spells a.program 0 p
+      → IsFirstFault p f → SpellsTables b q t → ⊥
   typing_or_tables a b p q t f has has' spells first (spells', resolves) =
       let same : q ≡ p = same_program b a q p (same_parts need bytes b a has' has) spells' spells in
       subst (λ (x : Program). IsFaultless x) same resolves.faultless f.at f.kind first.fails
 
-  said_alike : (a b : Parts) (p q : Program) (t u : Tables) → HasParts need bytes a → HasParts need bytes b → SpellsTables a p t → SpellsTables b q u → cert_of t a.cert ≡ cert_of u b.cert
+  said_alike : (a b : Parts) (p q : Program) (t u : Tables) → HasParts need bytes a → HasParts need bytes b → SpellsTables a p t → SpellsTables b q u
+      → cert_of t a.cert ≡ cert_of u b.cert
   said_alike a b p q t u has has' (spells, resolves) (spells', resolves') =
       let here = same_parts need bytes a b has has' in
       same_said a b t u here (same_seen p q t u (same_program a b p q here spells spells') resolves resolves')
 
-  flown_alike : (a b : Parts) (p q : Program) (t u : Tables) (f g : JsonFault) → HasParts need bytes a → HasParts need bytes b → SpellsTables a p t → SpellsTables b q u
+  flown_alike : (a b : Parts) (p q : Program) (t u : Tables) (f g : JsonFault) → HasParts need bytes a → HasParts need bytes b → SpellsTables a p t
+      → SpellsTables b q u
       → FaultsFlight t guests a.flight f → FaultsFlight u guests b.flight g → f ≡ g
   flown_alike a b p q t u f g has has' (spells, resolves) (spells', resolves') fails fails' =
       let here = same_parts need bytes a b has has' in
       let looks = same_seen p q t u (same_program a b p q here spells spells') resolves resolves' in
       by a.flight f g looks fails (subst (λ (q : Parts). FaultsFlight u guests q.flight g) (sym here) fails')
     where
-      by : (section : Option (List ℕ)) (f g : JsonFault) → tables_seen t ≡ tables_seen u → FaultsFlight t guests section f → FaultsFlight u guests section g → f ≡ g
+      by : (section : Option (List ℕ)) (f g : JsonFault) → tables_seen t ≡ tables_seen u → FaultsFlight t guests section f → FaultsFlight u guests section g
+          → f ≡ g
       by None f g looks x y = absurd x
       by (Some section) f g looks x y = (let both = sym x ∙ flights_alike t u guests section looks ∙ y in cc)
 
@@ -132,20 +138,29 @@ module _ (need : Need) (guests : ℕ) (bytes : List ℕ) where
   fault_once (faults.Cert f) (faults.Section g) (a, has, more) e = absurd (parts_or_fault g a e has)
   fault_once (faults.Flight f) (faults.Section g) (a, has, more) e = absurd (parts_or_fault g a e has)
   fault_once (faults.Syntax f) (faults.Syntax g) (a, has, none, is) (b, has', none', is') =
-      syntax_once a.program (ahead_from a.program 0) f g is (subst (λ (q : Parts). IsFaultOf q.program (ahead_from q.program 0) g) (same_parts need bytes b a has' has) is')
+      syntax_once a.program (ahead_from a.program 0) f g is (subst (λ (q : Parts). IsFaultOf q.program (ahead_from q.program 0) g)
+      (same_parts need bytes b a has' has) is')
   fault_once (faults.Syntax f) (faults.Typing g) (a, has, none, is) (b, has', (q, spells', first')) = absurd (none_or_program a b q has has' none spells')
-  fault_once (faults.Syntax f) (faults.Cert g) (a, has, none, is) (b, has', (q, u, (spells', resolves'), fails')) = absurd (none_or_program a b q has has' none spells')
-  fault_once (faults.Syntax f) (faults.Flight g) (a, has, none, is) (b, has', (q, u, (spells', resolves'), says', fails')) = absurd (none_or_program a b q has has' none spells')
+  fault_once (faults.Syntax f) (faults.Cert g) (a, has, none, is) (b, has', (q, u, (spells', resolves'), fails')) =
+      absurd (none_or_program a b q has has' none spells')
+  fault_once (faults.Syntax f) (faults.Flight g) (a, has, none, is) (b, has', (q, u, (spells', resolves'), says', fails')) =
+      absurd (none_or_program a b q has has' none spells')
   fault_once (faults.Typing f) (faults.Syntax g) (a, has, (p, spells, first)) (b, has', none', is') = absurd (none_or_program b a p has' has none' spells)
-  fault_once (faults.Cert f) (faults.Syntax g) (a, has, (p, t, (spells, resolves), fails)) (b, has', none', is') = absurd (none_or_program b a p has' has none' spells)
-  fault_once (faults.Flight f) (faults.Syntax g) (a, has, (p, t, (spells, resolves), says, fails)) (b, has', none', is') = absurd (none_or_program b a p has' has none' spells)
+  fault_once (faults.Cert f) (faults.Syntax g) (a, has, (p, t, (spells, resolves), fails)) (b, has', none', is') =
+      absurd (none_or_program b a p has' has none' spells)
+  fault_once (faults.Flight f) (faults.Syntax g) (a, has, (p, t, (spells, resolves), says, fails)) (b, has', none', is') =
+      absurd (none_or_program b a p has' has none' spells)
   fault_once (faults.Typing f) (faults.Typing g) (a, has, (p, spells, first)) (b, has', (q, spells', first')) =
       let same : q ≡ p = same_program b a q p (same_parts need bytes b a has' has) spells' spells in
       typing_once p f g first (subst (λ x. IsFirstFault x g) same first')
-  fault_once (faults.Typing f) (faults.Cert g) (a, has, (p, spells, first)) (b, has', (q, u, there, fails')) = absurd (typing_or_tables a b p q u f has has' spells first there)
-  fault_once (faults.Typing f) (faults.Flight g) (a, has, (p, spells, first)) (b, has', (q, u, there, says', fails')) = absurd (typing_or_tables a b p q u f has has' spells first there)
-  fault_once (faults.Cert f) (faults.Typing g) (a, has, (p, t, there, fails)) (b, has', (q, spells', first')) = absurd (typing_or_tables b a q p t g has' has spells' first' there)
-  fault_once (faults.Flight f) (faults.Typing g) (a, has, (p, t, there, says, fails)) (b, has', (q, spells', first')) = absurd (typing_or_tables b a q p t g has' has spells' first' there)
+  fault_once (faults.Typing f) (faults.Cert g) (a, has, (p, spells, first)) (b, has', (q, u, there, fails')) =
+      absurd (typing_or_tables a b p q u f has has' spells first there)
+  fault_once (faults.Typing f) (faults.Flight g) (a, has, (p, spells, first)) (b, has', (q, u, there, says', fails')) =
+      absurd (typing_or_tables a b p q u f has has' spells first there)
+  fault_once (faults.Cert f) (faults.Typing g) (a, has, (p, t, there, fails)) (b, has', (q, spells', first')) =
+      absurd (typing_or_tables b a q p t g has' has spells' first' there)
+  fault_once (faults.Flight f) (faults.Typing g) (a, has, (p, t, there, says, fails)) (b, has', (q, spells', first')) =
+      absurd (typing_or_tables b a q p t g has' has spells' first' there)
   fault_once (faults.Cert f) (faults.Cert g) (a, has, (p, t, there, fails)) (b, has', (q, u, there', fails')) =
       let both = sym fails ∙ said_alike a b p q t u has has' there there' ∙ fails' in
       let one : f ≡ g = cc in
@@ -161,7 +176,8 @@ program_once : (bytes : List ℕ) (f g : Fault) → HasProgramFault bytes f → 
 program_once bytes (faults.Syntax f) (faults.Syntax g) (none, is) (none', is') = syntax_once bytes (ahead_from bytes 0) f g is is'
 program_once bytes (faults.Syntax f) (faults.Typing g) (none, is) (q, spells', first') = absurd (none q spells')
 program_once bytes (faults.Typing f) (faults.Syntax g) (p, spells, first) (none', is') = absurd (none' p spells)
-program_once bytes (faults.Typing f) (faults.Typing g) (p, spells, first) (q, spells', first') = typing_once p f g first (subst (λ x. IsFirstFault x g) (spells_unique bytes 0 q p spells' spells) first')
+program_once bytes (faults.Typing f) (faults.Typing g) (p, spells, first) (q, spells', first') =
+    typing_once p f g first (subst (λ x. IsFirstFault x g) (spells_unique bytes 0 q p spells' spells) first')
 program_once bytes (faults.Section f) g a b = absurd a
 program_once bytes (faults.Cert f) g a b = absurd a
 program_once bytes (faults.Flight f) g a b = absurd a
@@ -173,10 +189,16 @@ program_once bytes (faults.Typing f) (faults.Cert g) a b = absurd b
 program_once bytes (faults.Typing f) (faults.Flight g) a b = absurd b
 
 pub rejected_once : RejectedOnce
-rejected_once guests Check bytes text other (f, has, is) (g, has', is') = said_so text other (fault_text f) (fault_text g) is is' (fault_once needs.Check 0 bytes f g has has')
-rejected_once guests Fly bytes text other (f, has, is) (g, has', is') = said_so text other (fault_text f) (fault_text g) is is' (fault_once needs.Fly guests bytes f g has has')
-rejected_once guests Replay bytes text other (f, has, is) (g, has', is') = said_so text other (fault_text f) (fault_text g) is is' (fault_once needs.Replay guests bytes f g has has')
-rejected_once guests Format bytes text other (f, none, has, is) (g, none', has', is') = said_so text other (syntax_text f) (syntax_text g) is is' (syntax_once bytes (ahead_from bytes 0) f g has has')
-rejected_once guests Certify bytes text other (f, has, is) (g, has', is') = said_so text other (fault_text f) (fault_text g) is is' (program_once bytes f g has has')
+rejected_once guests Check bytes text other (f, has, is) (g, has', is') =
+    said_so text other (fault_text f) (fault_text g) is is' (fault_once needs.Check 0 bytes f g has has')
+rejected_once guests Fly bytes text other (f, has, is) (g, has', is') =
+    said_so text other (fault_text f) (fault_text g) is is' (fault_once needs.Fly guests bytes f g has has')
+rejected_once guests Replay bytes text other (f, has, is) (g, has', is') =
+    said_so text other (fault_text f) (fault_text g) is is' (fault_once needs.Replay guests bytes f g has has')
+rejected_once guests Format bytes text other (f, none, has, is) (g, none', has', is') =
+    said_so text other (syntax_text f) (syntax_text g) is is' (syntax_once bytes (ahead_from bytes 0) f g has has')
+rejected_once guests Certify bytes text other (f, has, is) (g, has', is') =
+    said_so text other (fault_text f) (fault_text g) is is' (program_once bytes f g has has')
 rejected_once guests (Make n seed) bytes text other a b = absurd a
-rejected_once guests (Soak n seed) bytes text other (f, has, is) (g, has', is') = said_so text other (fault_text f) (fault_text g) is is' (fault_once needs.Fly 0 (made_text n seed) f g has has')
+rejected_once guests (Soak n seed) bytes text other (f, has, is) (g, has', is') =
+    said_so text other (fault_text f) (fault_text g) is is' (fault_once needs.Fly 0 (made_text n seed) f g has has')

@@ -13,7 +13,8 @@ use Rattle.sot_lang.specs.Tables.{Tables}
 use Rattle.sot_typing.specs.Resolved.{ProgramTables, PlantTable, NodeTable, plant_seen, node_seen, tables_seen}
 use Rattle.sot_law_same_tables.proofs.Seen.{modules_same, plants_seen_same, nodes_seen_same}
 use Rattle.sot_law_one_trace.proofs.Looks.{looked}
-use Rattle.sot_tube.specs.Refusals.{Refusal, Periods, Outputs, EmptyRegion, ClosedGap, ClosedTrap, ClosedLeaves, ReachGap, ReachLeaves, ReachTrap, SharedNode, SharedOutput, SharedPlant, ForeignInput, CodeMayTrap, NoCells}
+use Rattle.sot_tube.specs.Refusals.{Refusal, Periods, Outputs, EmptyRegion, ClosedGap, ClosedTrap, ClosedLeaves, ReachGap, ReachLeaves, ReachTrap, SharedNode}
+use Rattle.sot_tube.specs.Refusals.{SharedOutput, SharedPlant, ForeignInput, CodeMayTrap, NoCells}
 use Rattle.sot_rta.specs.Refused.{refusal_view}
 use Rattle.sot_certify.specs.declared.fail.CertifyFail.{CertifyFail}
 use Rattle.sot_certify.specs.declared.fail.CertifyFail.TheVariants.{Refused, Point, TooMany, Memory}
@@ -45,7 +46,8 @@ module _ (t u : Tables) (same : tables_seen t ≡ tables_seen u) where
   of_module_same : (condition : List ℕ) (m : ℕ) → of_module condition t m ≡ of_module condition u m
   of_module_same condition m = λ i. codes "refused " ++ condition ++ codes " module " ++ module_same m i
 
-  gap_same : (condition : List ℕ) (m : ℕ) (point : List ℤ) → line (of_module condition t m ++ codes " point " ++ point_text point) ≡ line (of_module condition u m ++ codes " point " ++ point_text point)
+  gap_same : (condition : List ℕ) (m : ℕ) (point : List ℤ)
+      → line (of_module condition t m ++ codes " point " ++ point_text point) ≡ line (of_module condition u m ++ codes " point " ++ point_text point)
   gap_same condition m point = λ i. line (of_module_same condition m i ++ codes " point " ++ point_text point)
 
   pub refusal_text_same : (r : Refusal) → refusal_text t r ≡ refusal_text u r
@@ -54,15 +56,21 @@ module _ (t u : Tables) (same : tables_seen t ≡ tables_seen u) where
   refusal_text_same (EmptyRegion m safer) = λ i. line (of_module_same (codes "3 EmptyRegion") m i ++ codes " " ++ region_word safer)
   refusal_text_same (ClosedGap m point) = gap_same (codes "4 ClosedGap") m point
   refusal_text_same (ClosedTrap m cell tick at) = λ i. line (of_module_same (codes "5 ClosedTrap") m i ++ cell_text cell tick ++ place_text at)
-  refusal_text_same (ClosedLeaves m cell tick area point) = λ i. line (of_module_same (codes "6 ClosedLeaves") m i ++ cell_text cell tick ++ codes "box " ++ box_text area ++ codes " point " ++ point_text point)
+  refusal_text_same (ClosedLeaves m cell tick area point) =
+      λ i. line (of_module_same (codes "6 ClosedLeaves") m i ++ cell_text cell tick ++ codes "box " ++ box_text area ++ codes " point " ++ point_text point)
   refusal_text_same (ReachGap m point) = gap_same (codes "7 ReachGap") m point
-  refusal_text_same (ReachLeaves m cell tick area point) = λ i. line (of_module_same (codes "8 ReachLeaves") m i ++ cell_text cell tick ++ codes "box " ++ box_text area ++ codes " point " ++ point_text point)
+  refusal_text_same (ReachLeaves m cell tick area point) =
+      λ i. line (of_module_same (codes "8 ReachLeaves") m i ++ cell_text cell tick ++ codes "box " ++ box_text area ++ codes " point " ++ point_text point)
   refusal_text_same (ReachTrap m cell tick at) = λ i. line (of_module_same (codes "9 ReachTrap") m i ++ cell_text cell tick ++ place_text at)
-  refusal_text_same (SharedNode n a b) = λ i. line (codes "refused " ++ codes "10 SharedNode node " ++ node_same n i ++ codes " modules " ++ module_same a i ++ codes " " ++ module_same b i)
-  refusal_text_same (SharedOutput k a b) = λ i. line (codes "refused " ++ codes "11 SharedOutput topic " ++ topic_same k i ++ codes " nodes " ++ node_same a i ++ codes " " ++ node_same b i)
-  refusal_text_same (SharedPlant k a b) = λ i. line (codes "refused " ++ codes "12 SharedPlant plant " ++ plant_same k i ++ codes " modules " ++ module_same a i ++ codes " " ++ module_same b i)
+  refusal_text_same (SharedNode n a b) =
+      λ i. line (codes "refused " ++ codes "10 SharedNode node " ++ node_same n i ++ codes " modules " ++ module_same a i ++ codes " " ++ module_same b i)
+  refusal_text_same (SharedOutput k a b) =
+      λ i. line (codes "refused " ++ codes "11 SharedOutput topic " ++ topic_same k i ++ codes " nodes " ++ node_same a i ++ codes " " ++ node_same b i)
+  refusal_text_same (SharedPlant k a b) =
+      λ i. line (codes "refused " ++ codes "12 SharedPlant plant " ++ plant_same k i ++ codes " modules " ++ module_same a i ++ codes " " ++ module_same b i)
   refusal_text_same (ForeignInput m k) = λ i. line (of_module_same (codes "13 ForeignInput") m i ++ codes " topic " ++ topic_same k i)
-  refusal_text_same (CodeMayTrap n at kind lo hi) = λ i. line ((codes "refused 14 CodeMayTrap node " ++ node_same n i ++ codes " " ++ place_text at) ++ codes " " ++ trap_word kind ++ ends_text lo hi)
+  refusal_text_same (CodeMayTrap n at kind lo hi) =
+      λ i. line ((codes "refused 14 CodeMayTrap node " ++ node_same n i ++ codes " " ++ place_text at) ++ codes " " ++ trap_word kind ++ ends_text lo hi)
   refusal_text_same (NoCells m) = λ i. line (of_module_same (codes "15 NoCells") m i)
 
   pub start_text_same : (m : ℕ) (point : List ℤ) → start_text t m point ≡ start_text u m point
@@ -70,14 +78,16 @@ module _ (t u : Tables) (same : tables_seen t ≡ tables_seen u) where
 
   pub fail_text_same : (f : CertifyFail) → fail_text t f ≡ fail_text u f
   fail_text_same (Refused r) = refusal_text_same (refusal_view r)
-  fail_text_same (Point m reach s) = λ i. line ((codes "refused certify module " ++ module_same m i ++ codes " " ++ list_word reach) ++ codes " point " ++ point_text s)
+  fail_text_same (Point m reach s) =
+      λ i. line ((codes "refused certify module " ++ module_same m i ++ codes " " ++ list_word reach) ++ codes " point " ++ point_text s)
   fail_text_same (TooMany m reach) = λ i. line ((codes "refused certify module " ++ module_same m i ++ codes " " ++ list_word reach) ++ codes " TooMany")
   fail_text_same Memory = refl
 
   pub certificate_line_same : (c d : Cert) → c.modules.items ≡ d.modules.items → certificate_line t c ≡ certificate_line u d
   certificate_line_same c d entries =
       ap₂
-      (λ (ms : List ModuleInfo) (es : List (Option Cells)). compact_text (object (member (codes "format") (number (unsigned 1)) (member (codes "modules") (object (entries_data ms es)) no_members))) ++ 10 ∷ [])
+      (λ (ms : List ModuleInfo) (es : List (Option Cells)). compact_text
+      (object (member (codes "format") (number (unsigned 1)) (member (codes "modules") (object (entries_data ms es)) no_members))) ++ 10 ∷ [])
       (modules_same t u same)
       entries
 

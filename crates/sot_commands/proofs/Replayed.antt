@@ -1,5 +1,6 @@
 -- What is said of a trace that is replayed.
-use Rattle.std.proofs.Common.{◌≡◌, ◌∙◌, sym, ap, subst, refl, ℕ, suc, ◌≤◌, Bool, true, false, List, [], ◌∷◌, ◌++◌, Option, None, Some, length, Result, Ok, Err, inl, inr, arith}
+use Rattle.std.proofs.Common.{◌≡◌, ◌∙◌, sym, ap, subst, refl, ℕ, suc, ◌≤◌, Bool, true, false, List, [], ◌∷◌, ◌++◌, Option, None, Some, length, Result, Ok, Err}
+use Rattle.std.proofs.Common.{inl, inr, arith}
 use Rattle.std.specs.Prelude.{IfOk, if◌then◌else◌, ◌==◌}
 use Rattle.std.specs.List.{flat_map}
 use Rattle.std.proofs.lemmas.List.{length-append}
@@ -40,49 +41,63 @@ use Rattle.sot_commands.specs.Steps.{JudgesLines, JudgesReplayed}
 use Rattle.sot_commands.proofs.Flown.{found_of, says_none}
 
 -- the trace of a history is that of one of tables that look the same
-pub traced_alike : (t u : Tables) (jitter : ℕ) (f : Plan) (ls : List (List ℕ)) (history : List Logged) → tables_seen t ≡ tables_seen u → IsTraceOf t jitter f ls history → IsTraceOf u jitter f ls history
-traced_alike t u jitter f ls history same ((flown, handed), is) = ((whole t u jitter f history same flown, handed), is ∙ trace_lines_same t u same f.start history)
+pub traced_alike : (t u : Tables) (jitter : ℕ) (f : Plan) (ls : List (List ℕ)) (history : List Logged) → tables_seen t ≡ tables_seen u
+    → IsTraceOf t jitter f ls history → IsTraceOf u jitter f ls history
+traced_alike t u jitter f ls history same ((flown, handed), is) =
+    ((whole t u jitter f history same flown, handed), is ∙ trace_lines_same t u same f.start history)
 
 -- what is said of lines
-pub legal_result : (r : Result Answer AllocError) (t : Tables) (jitter : ℕ) (f : Plan) (ls : List (List ℕ)) (history : List Logged) (events : ℕ) → StartInside t f.start (length t.modules)
-    → IsTraceOf t jitter f ls history → length history ≡ events → IfOk r (λ a. a.status ≡ 0) → IfOk r (λ a. a.text.items ≡ legal_text events) → IfOk r (λ a. JudgesLines t jitter f ls a.status a.text.items)
+pub legal_result : (r : Result Answer AllocError) (t : Tables) (jitter : ℕ) (f : Plan) (ls : List (List ℕ)) (history : List Logged) (events : ℕ)
+    → StartInside t f.start (length t.modules)
+    → IsTraceOf t jitter f ls history → length history ≡ events → IfOk r (λ a. a.status ≡ 0) → IfOk r (λ a. a.text.items ≡ legal_text events)
+    → IfOk r (λ a. JudgesLines t jitter f ls a.status a.text.items)
 legal_result (Ok a) t jitter f ls history events inside traced count status text = inl (status, (inside, (history, traced, text ∙ ap legal_text (sym count))))
 legal_result (Err e) t jitter f ls history events inside traced count status text = tt
 
-pub illegal_result : (r : Result Answer AllocError) (t : Tables) (jitter : ℕ) (f : Plan) (ls : List (List ℕ)) (number : ℕ) (kind : LineKind) → StartInside t f.start (length t.modules)
-    → IsRefusedAt t jitter f ls number kind → IfOk r (λ a. a.status ≡ 1) → IfOk r (λ a. a.text.items ≡ refused_line_text number kind) → IfOk r (λ a. JudgesLines t jitter f ls a.status a.text.items)
+pub illegal_result : (r : Result Answer AllocError) (t : Tables) (jitter : ℕ) (f : Plan) (ls : List (List ℕ)) (number : ℕ) (kind : LineKind)
+    → StartInside t f.start (length t.modules)
+    → IsRefusedAt t jitter f ls number kind → IfOk r (λ a. a.status ≡ 1) → IfOk r (λ a. a.text.items ≡ refused_line_text number kind)
+    → IfOk r (λ a. JudgesLines t jitter f ls a.status a.text.items)
 illegal_result (Ok a) t jitter f ls number kind inside refused status text = inr (status, inr (inside, (number, kind, refused, text)))
 illegal_result (Err e) t jitter f ls number kind inside refused status text = tt
 
-pub unstarted_result : (r : Result Answer AllocError) (t : Tables) (jitter : ℕ) (f : Plan) (ls : List (List ℕ)) → IfOk r (λ a. a.status ≡ 1) → IfOk r (λ a. IsOutsideOf t f a.text.items)
+pub unstarted_result : (r : Result Answer AllocError) (t : Tables) (jitter : ℕ) (f : Plan) (ls : List (List ℕ)) → IfOk r (λ a. a.status ≡ 1)
+    → IfOk r (λ a. IsOutsideOf t f a.text.items)
     → IfOk r (λ a. JudgesLines t jitter f ls a.status a.text.items)
 unstarted_result (Ok a) t jitter f ls status text = inr (status, inl text)
 unstarted_result (Err e) t jitter f ls status text = tt
 
 -- what is said of an accepted program's lines is said of the program with its certificate, and so is a refusal
-pub lines_result : (r : Result Answer AllocError) (t : Tables) (c : Cert) (f : Plan) (ls : List (List ℕ)) → IsWellCertified t c.jitter c → EveryRunIsSafe t c.jitter
+pub lines_result : (r : Result Answer AllocError) (t : Tables) (c : Cert) (f : Plan) (ls : List (List ℕ)) → IsWellCertified t c.jitter c
+    → EveryRunIsSafe t c.jitter
     → IfOk r (λ a. JudgesLines t c.jitter f ls a.status a.text.items) → IfOk r (λ a. JudgesReplayed t c f ls a.status a.text.items)
 lines_result (Ok a) t c f ls certified safe judges = inl (certified, safe, judges)
 lines_result (Err e) t c f ls certified safe judges = tt
 
-pub unreplayed_result : (r : Result Answer AllocError) (t : Tables) (c : Cert) (f : Plan) (ls : List (List ℕ)) (v : Refusal) → (verdict t c.jitter c).Refuses v → IfOk r (λ a. a.status ≡ 1) → IfOk r (λ a. a.text.items ≡ refusal_text t v)
+pub unreplayed_result : (r : Result Answer AllocError) (t : Tables) (c : Cert) (f : Plan) (ls : List (List ℕ)) (v : Refusal) → (verdict t c.jitter c).Refuses v
+    → IfOk r (λ a. a.status ≡ 1) → IfOk r (λ a. a.text.items ≡ refusal_text t v)
     → IfOk r (λ a. JudgesReplayed t c f ls a.status a.text.items)
 unreplayed_result (Ok a) t c f ls v refuses status text = inr (status, (v, refuses, text))
 unreplayed_result (Err e) t c f ls v refuses status text = tt
 
 -- and what is said of these is said of the mission
-replayed : (guests : ℕ) (bytes text : List ℕ) (status : ℕ) (m : Mission) (f : Plan) (trace : List ℕ) → SpellsFor needs.Replay guests bytes m → m.flight ≡ Some f → m.trace ≡ Some trace
+replayed : (guests : ℕ) (bytes text : List ℕ) (status : ℕ) (m : Mission) (f : Plan) (trace : List ℕ) → SpellsFor needs.Replay guests bytes m → m.flight ≡ Some f
+    → m.trace ≡ Some trace
     → JudgesReplayed m.tables m.cert f (lent_lines trace) status text → Replies guests Replay bytes status text
-replayed guests bytes text status m f trace spells is has (inl (certified, safe, inl (zero, legal))) = inl (zero, (m, spells, certified, safe, (f, lent_lines trace, (is, (trace, has, refl)), legal)))
-replayed guests bytes text status m f trace spells is has (inl (certified, safe, inr (one, said))) = inr (inl (one, (m, spells, inr (certified, (f, lent_lines trace, (is, (trace, has, refl)), said)))))
+replayed guests bytes text status m f trace spells is has (inl (certified, safe, inl (zero, legal))) =
+    inl (zero, (m, spells, certified, safe, (f, lent_lines trace, (is, (trace, has, refl)), legal)))
+replayed guests bytes text status m f trace spells is has (inl (certified, safe, inr (one, said))) =
+    inr (inl (one, (m, spells, inr (certified, (f, lent_lines trace, (is, (trace, has, refl)), said)))))
 replayed guests bytes text status m f trace spells is has (inr (one, refused)) = inr (inl (one, (m, spells, inl refused)))
 
-pub replayed_result : (guests : ℕ) (r : Result Answer AllocError) (bytes : List ℕ) (m : Mission) (f : Plan) (trace : List ℕ) → SpellsFor needs.Replay guests bytes m → m.flight ≡ Some f → m.trace ≡ Some trace
+pub replayed_result : (guests : ℕ) (r : Result Answer AllocError) (bytes : List ℕ) (m : Mission) (f : Plan) (trace : List ℕ)
+    → SpellsFor needs.Replay guests bytes m → m.flight ≡ Some f → m.trace ≡ Some trace
     → IfOk r (λ a. JudgesReplayed m.tables m.cert f (lent_lines trace) a.status a.text.items) → IfOk r (λ a. Replies guests Replay bytes a.status a.text.items)
 replayed_result guests (Ok a) bytes m f trace spells is has judges = replayed guests bytes a.text.items a.status m f trace spells is has judges
 replayed_result guests (Err e) bytes m f trace spells is has judges = tt
 
-pub unspelled_result : (guests : ℕ) (r : Result Answer AllocError) (bytes : List ℕ) (fault : Fault) → HasFault needs.Replay guests bytes fault → IfOk r (λ a. a.status ≡ 3) → IfOk r (λ a. a.text.items ≡ fault_text fault)
+pub unspelled_result : (guests : ℕ) (r : Result Answer AllocError) (bytes : List ℕ) (fault : Fault) → HasFault needs.Replay guests bytes fault
+    → IfOk r (λ a. a.status ≡ 3) → IfOk r (λ a. a.text.items ≡ fault_text fault)
     → IfOk r (λ a. Replies guests Replay bytes a.status a.text.items)
 unspelled_result guests (Ok a) bytes fault has status text = inr (inr (status, (fault, has, text)))
 unspelled_result guests (Err e) bytes fault has status text = tt
@@ -96,9 +111,12 @@ body_within : (k : ℕ) (ss : List Section) (t : List ℕ) → body_of k ss ≡ 
 body_within k [] t e = absurd cc
 body_within k (s ∷ ss) t e = pick (place (title s.mark) == k) (body_within k ss t) e
   where
-    pick : (b : Bool) → (body_of k ss ≡ Some t → length t ≤ length (flat_map (λ (s : Section). s.mark ++ s.body) ss)) → (if b then Some s.body else body_of k ss) ≡ Some t
+    pick : (b : Bool) → (body_of k ss ≡ Some t → length t ≤ length (flat_map (λ (s : Section). s.mark ++ s.body) ss))
+        → (if b then Some s.body else body_of k ss) ≡ Some t
         → length t ≤ length ((s.mark ++ s.body) ++ flat_map (λ (s : Section). s.mark ++ s.body) ss)
-    pick true below is = (let same = ap length (same_Some s.body t is) in omega (arith, same, length-append s.mark s.body, length-append (s.mark ++ s.body) (flat_map (λ (s : Section). s.mark ++ s.body) ss)))
+    pick true below is =
+        (let same = ap length (same_Some s.body t is) in omega
+        (arith, same, length-append s.mark s.body, length-append (s.mark ++ s.body) (flat_map (λ (s : Section). s.mark ++ s.body) ss)))
     pick false below is = (let there = below is in omega (arith, there, length-append (s.mark ++ s.body) (flat_map (λ (s : Section). s.mark ++ s.body) ss)))
 
 -- what is needed to replay has a flight and a trace, which are those of the sections
@@ -114,9 +132,11 @@ needed_both front (Some c) (Some f) (Some t) parts e =
 module _ (guests : ℕ) (bytes : List ℕ) (m : Mission) (x : SpellsFor needs.Replay guests bytes m) where
   both : ((f : List ℕ) × (x.parts.flight ≡ Some f)) × ((y : List ℕ) × (x.parts.trace ≡ Some y) × (body_of 3 (division 1 (lines bytes)).sections ≡ Some y))
   both =
-      needed_both (division 1 (lines bytes)).front (body_of 1 (division 1 (lines bytes)).sections) (body_of 2 (division 1 (lines bytes)).sections) (body_of 3 (division 1 (lines bytes)).sections) x.parts
+      needed_both (division 1 (lines bytes)).front (body_of 1 (division 1 (lines bytes)).sections) (body_of 2 (division 1 (lines bytes)).sections)
+      (body_of 3 (division 1 (lines bytes)).sections) x.parts
       (found_of (fault_behind 0 (division 1 (lines bytes)).sections) (suc (length (lines bytes)))
-      (needed needs.Replay (division 1 (lines bytes)).front (body_of 1 (division 1 (lines bytes)).sections) (body_of 2 (division 1 (lines bytes)).sections) (body_of 3 (division 1 (lines bytes)).sections)) x.parts x.divided)
+      (needed needs.Replay (division 1 (lines bytes)).front (body_of 1 (division 1 (lines bytes)).sections) (body_of 2 (division 1 (lines bytes)).sections)
+      (body_of 3 (division 1 (lines bytes)).sections)) x.parts x.divided)
 
   pub replayed_flight_there : m.flight ≡ None → ⊥
   replayed_flight_there none =
@@ -132,4 +152,11 @@ module _ (guests : ℕ) (bytes : List ℕ) (m : Mission) (x : SpellsFor needs.Re
       let same = same_Some both.1.0 trace (sym both.1.1 ∙ sym x.traced ∙ has) in
       let below = body_within 3 (division 1 (lines bytes)).sections both.1.0 both.1.2 in
       let text = ap length (sections_are_the_text bytes) in
-      omega (arith, ap length same, below, text, length-append (division 1 (lines bytes)).front (flat_map (λ (s : Section). s.mark ++ s.body) (division 1 (lines bytes)).sections))
+      omega (
+        arith,
+        ap length same,
+        below,
+        text,
+        length-append (division 1 (lines bytes)).front
+            (flat_map (λ (s : Section). s.mark ++ s.body) (division 1 (lines bytes)).sections),
+      )

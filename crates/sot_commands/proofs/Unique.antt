@@ -1,5 +1,6 @@
 -- A text decides one status.
-use Rattle.std.proofs.Common.{◌≡◌, ℕ, List, [], ◌∷◌, Option, None, Some, length, Result, Ok, inl, inr, refl, sym, ap, ◌∙◌, subst, arith, codes, Global, ap₂, map, ◌<◌, ◌≤◌, ◌^◌}
+use Rattle.std.proofs.Common.{◌≡◌, ℕ, List, [], ◌∷◌, Option, None, Some, length, Result, Ok, inl, inr, refl, sym, ap, ◌∙◌, subst, arith, codes, Global, ap₂}
+use Rattle.std.proofs.Common.{map, ◌<◌, ◌≤◌, ◌^◌}
 use Rattle.std.specs.Prelude.{if◌then◌else◌, String, slice_index_or}
 use Rattle.std.specs.Str.{bytes_eq}
 use Rattle.std.specs.Fmt.{decimal}
@@ -45,7 +46,8 @@ use Rattle.sot_report.specs.Missions.{Mission, Resolves, HasParts, SaysFlight, F
 use Rattle.sot_commands.specs.declared.words.Command.{Command}
 use Rattle.sot_commands.specs.declared.words.Command.TheVariants.{Check, Fly, Replay, Format, Certify, Make, Soak}
 use Rattle.sot_commands.specs.Words.{word_of, numbers_of, Reads, IsInForm, Asks}
-use Rattle.sot_commands.specs.Answers.{IsAccepted, IsRefusedFor, SpellsFor, IsTraceOf, IsSummaryOf, FliesWith, DoesNotFly, HasLines, HasProgramFault, Accepts, Refutes, Rejects, Replies, given_to}
+use Rattle.sot_commands.specs.Answers.{IsAccepted, IsRefusedFor, SpellsFor, IsTraceOf, IsSummaryOf, FliesWith, DoesNotFly, HasLines, HasProgramFault, Accepts}
+use Rattle.sot_commands.specs.Answers.{Refutes, Rejects, Replies, given_to}
 use Rattle.sot_commands.specs.Ends.{Decides}
 
 -- bytes have one list of sections, and its program's text spells one program
@@ -67,7 +69,8 @@ pub same_said : (a b : Parts) (t u : Tables) → a ≡ b → tables_seen t ≡ t
 same_said a b t u same seen = certificates_alike t u a.cert seen ∙ ap (λ (x : Parts). cert_of u x.cert) same
 
 -- the flight's text says the same flight of tables that look the same
-pub same_flown : (guests : ℕ) (t u : Tables) (section : Option (List ℕ)) (f g : Plan) (a b : Option Plan) → tables_seen t ≡ tables_seen u → a ≡ Some f → b ≡ Some g
+pub same_flown : (guests : ℕ) (t u : Tables) (section : Option (List ℕ)) (f g : Plan) (a b : Option Plan) → tables_seen t ≡ tables_seen u → a ≡ Some f
+    → b ≡ Some g
     → SaysFlight t guests section a → SaysFlight u guests section b → f ≡ g
 same_flown guests t u None f g None b seen is is' x y = absurd cc
 same_flown guests t u None f g (Some a) b seen is is' x y = absurd x
@@ -78,7 +81,8 @@ same_flown guests t u (Some section) f g (Some a) (Some b) seen is is' x y =
     same_Some f a (sym is) ∙ one ∙ same_Some b g is'
 
 -- and has no fault of one of them where it says a flight of the other
-flown_faulty : (guests : ℕ) (t u : Tables) (section : Option (List ℕ)) (a : Option Plan) (fault : JsonFault) → tables_seen t ≡ tables_seen u → SaysFlight t guests section a → FaultsFlight u guests section fault → ⊥
+flown_faulty : (guests : ℕ) (t u : Tables) (section : Option (List ℕ)) (a : Option Plan) (fault : JsonFault) → tables_seen t ≡ tables_seen u
+    → SaysFlight t guests section a → FaultsFlight u guests section fault → ⊥
 flown_faulty guests t u None a fault seen x y = y
 flown_faulty guests t u (Some section) None fault seen x y = x
 flown_faulty guests t u (Some section) (Some f) fault seen x y = (let e = sym x.0 ∙ flights_alike t u guests section seen ∙ y in absurd cc)
@@ -91,7 +95,9 @@ module _ (need : Need) (guests : ℕ) (bytes : List ℕ) (m n : Mission) (x : Sp
   seen = same_seen m.program n.program m.tables n.tables (same_program x.parts y.parts m.program n.program sections x.spelled y.spelled) x.resolved y.resolved
 
   pub said : contents m.cert ≡ contents n.cert
-  said = same_ok (cert_of n.tables y.parts.cert) (contents m.cert) (contents n.cert) (sym (same_said x.parts y.parts m.tables n.tables sections seen) ∙ x.certified) y.certified
+  said =
+      same_ok (cert_of n.tables y.parts.cert) (contents m.cert) (contents n.cert)
+      (sym (same_said x.parts y.parts m.tables n.tables sections seen) ∙ x.certified) y.certified
 
   -- a mission that is accepted is not refused
   pub accepted_refused : (r : Refusal) → IsAccepted m → IsRefusedFor n r → ⊥
@@ -105,29 +111,37 @@ module _ (need : Need) (guests : ℕ) (bytes : List ℕ) (m n : Mission) (x : Sp
   inside_outside : (f g : Plan) → m.flight ≡ Some f → n.flight ≡ Some g → StartInside m.tables f.start (length m.tables.modules)
       → (k : ℕ) → IsFirstOutside n.tables g.start k → ⊥
   inside_outside f g is is' inside k first =
-      let flights : f ≡ g = same_flown guests m.tables n.tables x.parts.flight f g m.flight n.flight seen is is' x.flown (subst (λ (q : Parts). SaysFlight n.tables guests q.flight n.flight) (sym sections) y.flown) in
+      let flights : f ≡ g = same_flown guests m.tables n.tables x.parts.flight f g m.flight n.flight seen is is' x.flown
+      (subst (λ (q : Parts). SaysFlight n.tables guests q.flight n.flight) (sym sections) y.flown) in
       let here = subst (λ ms. At ms k first.info) (sym (modules_same m.tables n.tables seen)) first.is in
-      first.outside (subst (λ (h : Plan). IsInRegion first.info.safer.boxes (slice_index_or h.start first.info.plant [])) flights (inside k first.info (slice_get_within m.tables.modules k first.info here) here))
+      first.outside (subst (λ (h : Plan). IsInRegion first.info.safer.boxes (slice_index_or h.start first.info.plant [])) flights
+      (inside k first.info (slice_get_within m.tables.modules k first.info here) here))
 
 -- the trace of a history, by one of a mission's tables, is that by each
-pub traced_moved : (guests : ℕ) (bytes : List ℕ) (m n : Mission) → SpellsFor needs.Replay guests bytes m → SpellsFor needs.Replay guests bytes n → (f g : Plan) (lines lines' : List (List ℕ)) → HasLines m f lines → HasLines n g lines'
+pub traced_moved : (guests : ℕ) (bytes : List ℕ) (m n : Mission) → SpellsFor needs.Replay guests bytes m → SpellsFor needs.Replay guests bytes n
+    → (f g : Plan) (lines lines' : List (List ℕ)) → HasLines m f lines → HasLines n g lines'
     → (history : List Logged) → goes_on.IsTraceOf m.tables m.cert.jitter f lines history → goes_on.IsTraceOf n.tables n.cert.jitter g lines' history
 traced_moved guests bytes m n x y f g lines lines' (is, (trace, has, are)) (is', (trace', has', are')) history traced =
     let same_seen = seen needs.Replay guests bytes m n x y in
     let parts = sections needs.Replay guests bytes m n x y in
-    let flights : f ≡ g = same_flown guests m.tables n.tables x.parts.flight f g m.flight n.flight same_seen is is' x.flown (subst (λ (q : Parts). SaysFlight n.tables guests q.flight n.flight) (sym parts) y.flown) in
+    let flights : f ≡ g = same_flown guests m.tables n.tables x.parts.flight f g m.flight n.flight same_seen is is' x.flown
+    (subst (λ (q : Parts). SaysFlight n.tables guests q.flight n.flight) (sym parts) y.flown) in
     let jitter : m.cert.jitter ≡ n.cert.jitter = ap (λ (c : Contents). c.jitter) (said needs.Replay guests bytes m n x y) in
     let traces : trace ≡ trace' = same_Some trace trace' (sym has ∙ x.traced ∙ ap (λ (q : Parts). q.trace) parts ∙ sym y.traced ∙ has') in
     let here = are ∙ ap lent_lines traces ∙ sym are' in
     let other = traced_alike m.tables n.tables m.cert.jitter f lines history same_seen traced in
     subst (λ (ls : List (List ℕ)). goes_on.IsTraceOf n.tables n.cert.jitter g ls history) here
-    (subst (λ (h : Plan). goes_on.IsTraceOf n.tables n.cert.jitter h lines history) flights (subst (λ j. goes_on.IsTraceOf n.tables j f lines history) jitter other))
+    (subst (λ (h : Plan). goes_on.IsTraceOf n.tables n.cert.jitter h lines history) flights
+    (subst (λ j. goes_on.IsTraceOf n.tables j f lines history) jitter other))
 
 -- lines that are the trace of a history are not refused
-traced_refused : (guests : ℕ) (bytes : List ℕ) (m n : Mission) → SpellsFor needs.Replay guests bytes m → SpellsFor needs.Replay guests bytes n → (f g : Plan) (lines lines' : List (List ℕ)) → HasLines m f lines → HasLines n g lines'
-    → (history : List Logged) → goes_on.IsTraceOf m.tables m.cert.jitter f lines history → (number : ℕ) (kind : LineKind) → IsRefusedAt n.tables n.cert.jitter g lines' number kind → ⊥
+traced_refused : (guests : ℕ) (bytes : List ℕ) (m n : Mission) → SpellsFor needs.Replay guests bytes m → SpellsFor needs.Replay guests bytes n
+    → (f g : Plan) (lines lines' : List (List ℕ)) → HasLines m f lines → HasLines n g lines'
+    → (history : List Logged) → goes_on.IsTraceOf m.tables m.cert.jitter f lines history → (number : ℕ) (kind : LineKind)
+    → IsRefusedAt n.tables n.cert.jitter g lines' number kind → ⊥
 traced_refused guests bytes m n x y f g lines lines' has has' history traced number kind refused =
-    traces_are_not_refused n.tables n.cert.jitter g lines' history number kind (traced_moved guests bytes m n x y f g lines lines' has has' history traced) refused
+    traces_are_not_refused n.tables n.cert.jitter g lines' history number kind (traced_moved guests bytes m n x y f g lines lines' has has' history traced)
+    refused
 
 -- bytes that spell a mission have no fault
 spelled_faulty : (need : Need) (guests : ℕ) (bytes : List ℕ) (m : Mission) (f : Fault) → SpellsFor need guests bytes m → HasFault need guests bytes f → ⊥
@@ -145,7 +159,8 @@ spelled_faulty need guests bytes m (faults.Cert f) x (parts, has, (p, t, (spells
 spelled_faulty need guests bytes m (faults.Flight f) x (parts, has, (p, t, (spells, resolves), says, fails)) =
     let here = same_parts need bytes x.parts parts x.divided has in
     let same : m.program ≡ p = same_program x.parts parts m.program p here x.spelled spells in
-    flown_faulty guests m.tables t parts.flight m.flight f (same_seen m.program p m.tables t same x.resolved resolves) (subst (λ (q : Parts). SaysFlight m.tables guests q.flight m.flight) here x.flown) fails
+    flown_faulty guests m.tables t parts.flight m.flight f (same_seen m.program p m.tables t same x.resolved resolves)
+    (subst (λ (q : Parts). SaysFlight m.tables guests q.flight m.flight) here x.flown) fails
 
 -- a program's text that breaks no rule of typing has no fault
 program_faulty : (bytes : List ℕ) (p : Program) (t : Tables) (f : Fault) → Spells bytes 0 p → Resolves p t → HasProgramFault bytes f → ⊥
@@ -160,22 +175,29 @@ program_faulty bytes p t (faults.Flight f) spells resolves has = has
 abbrev StartsInside : (Tables → ℕ → Plan → List ℕ → Type 0) → Type 0
 StartsInside Says = (t : Tables) (jitter : ℕ) (f : Plan) (text : List ℕ) → Says t jitter f text → StartInside t f.start (length t.modules)
 
-flies_once : (Says : Tables → ℕ → Plan → List ℕ → Type 0) → StartsInside Says → (guests : ℕ) (bytes text text' : List ℕ) → FliesWith Says guests bytes text → DoesNotFly guests bytes text' → ⊥
-flies_once Says starts guests bytes text text' (m, spells, certified, safe, flown) (n, spells', inl (r, refuses, says')) = accepted_refused needs.Fly guests bytes m n spells spells' r certified refuses
+flies_once : (Says : Tables → ℕ → Plan → List ℕ → Type 0) → StartsInside Says → (guests : ℕ) (bytes text text' : List ℕ) → FliesWith Says guests bytes text
+    → DoesNotFly guests bytes text' → ⊥
+flies_once Says starts guests bytes text text' (m, spells, certified, safe, flown) (n, spells', inl (r, refuses, says')) =
+    accepted_refused needs.Fly guests bytes m n spells spells' r certified refuses
 flies_once Says starts guests bytes text text' (m, spells, certified, safe, (f, is, says)) (n, spells', inr (certified', (g, is', (k, first, says')))) =
     inside_outside needs.Fly guests bytes m n spells spells' f g is is' (starts m.tables m.cert.jitter f text says) k first
 
 -- what is accepted is neither refused nor rejected, and what is refused is not rejected
 not_refuted : (guests : ℕ) (c : Command) (bytes text text' : List ℕ) → Accepts guests c bytes text → Refutes guests c bytes text' → ⊥
-not_refuted guests Check bytes text text' (m, spells, certified, safe, says) (n, spells', (r, refuses, says')) = accepted_refused needs.Check 0 bytes m n spells spells' r certified refuses
+not_refuted guests Check bytes text text' (m, spells, certified, safe, says) (n, spells', (r, refuses, says')) =
+    accepted_refused needs.Check 0 bytes m n spells spells' r certified refuses
 not_refuted guests Fly bytes text text' a r = flies_once IsTraceOf (λ t jitter f x says. says.0) guests bytes text text' a r
-not_refuted guests Replay bytes text text' (m, spells, certified, safe, legal) (n, spells', inl (r, refuses, says')) = accepted_refused needs.Replay guests bytes m n spells spells' r certified refuses
-not_refuted guests Replay bytes text text' (m, spells, certified, safe, (f, lines, (is, has), (inside, legal))) (n, spells', inr (certified', (g, lines', (is', has'), inl (k, first, says')))) =
+not_refuted guests Replay bytes text text' (m, spells, certified, safe, legal) (n, spells', inl (r, refuses, says')) =
+    accepted_refused needs.Replay guests bytes m n spells spells' r certified refuses
+not_refuted guests Replay bytes text text' (m, spells, certified, safe, (f, lines, (is, has), (inside, legal)))
+    (n, spells', inr (certified', (g, lines', (is', has'), inl (k, first, says')))) =
     inside_outside needs.Replay guests bytes m n spells spells' f g is is' inside k first
-not_refuted guests Replay bytes text text' (m, spells, certified, safe, (f, lines, has, (inside, (history, traced, says)))) (n, spells', inr (certified', (g, lines', has', inr (inside', (number, kind, refused, says'))))) =
+not_refuted guests Replay bytes text text' (m, spells, certified, safe, (f, lines, has, (inside, (history, traced, says))))
+    (n, spells', inr (certified', (g, lines', has', inr (inside', (number, kind, refused, says'))))) =
     traced_refused guests bytes m n spells spells' f g lines lines' has has' history traced number kind refused
 not_refuted guests Format bytes text text' a r = r
-not_refuted guests Certify bytes text text' (p, t, spells, resolves, (cert, made, fits, says), accepted) (q, u, spells', resolves', (fail, enough, fails, says')) =
+not_refuted guests Certify bytes text text' (p, t, spells, resolves, (cert, made, fits, says), accepted)
+    (q, u, spells', resolves', (fail, enough, fails, says')) =
     certify_alike t u cert fail (same_seen p q t u (spells_unique bytes 0 p q spells spells') resolves resolves') enough made fails
 not_refuted guests (Make n seed) bytes text text' a r = r
 not_refuted guests (Soak n seed) bytes text text' a r = flies_once IsSummaryOf (λ t jitter f x says. says.0) 0 (made_text n seed) text text' a r
@@ -187,7 +209,8 @@ not_rejected guests Replay bytes text text' (m, spells, certified, safe, legal) 
 not_rejected guests Format bytes text text' a r = r.1 a.0 a.1
 not_rejected guests Certify bytes text text' (p, t, spells, resolves, has, accepted) (f, fault, says) = program_faulty bytes p t f spells resolves fault
 not_rejected guests (Make n seed) bytes text text' a r = r
-not_rejected guests (Soak n seed) bytes text text' (m, spells, certified, safe, flown) (f, has, says') = spelled_faulty needs.Fly 0 (made_text n seed) m f spells has
+not_rejected guests (Soak n seed) bytes text text' (m, spells, certified, safe, flown) (f, has, says') =
+    spelled_faulty needs.Fly 0 (made_text n seed) m f spells has
 
 refuted_not_rejected : (guests : ℕ) (c : Command) (bytes text text' : List ℕ) → Refutes guests c bytes text → Rejects guests c bytes text' → ⊥
 refuted_not_rejected guests Check bytes text text' (m, spells, refused) (f, has, says') = spelled_faulty needs.Check 0 bytes m f spells has
@@ -273,7 +296,8 @@ given_reader (Make n seed) bytes reads = absurd reads
 given_reader (Soak n seed) bytes reads = absurd reads
 
 -- so words that ask for one have no short input where the bytes are too many
-never_both : (words : List (String Global)) (bytes : List ℕ) (c d : Command) → Asks words c → Reads d → Asks words d → length (given_to c bytes) ≤ 16777216 → 16777216 < length bytes → ⊥
+never_both : (words : List (String Global)) (bytes : List ℕ) (c d : Command) → Asks words c → Reads d → Asks words d → length (given_to c bytes) ≤ 16777216
+    → 16777216 < length bytes → ⊥
 never_both words bytes c d asks reads asks' short long =
     let same : given_to c bytes ≡ bytes = ap (λ (x : Command). given_to x bytes) (same_command words c d asks asks') ∙ given_reader d bytes reads in
     let size = ap length same in
@@ -286,8 +310,11 @@ decides_once guests words bytes s t (inl (is, other)) (inr (inl (is', (d, reads,
 decides_once guests words bytes s t (inl (is, other)) (inr (inr (c, asks, short, replies))) = absurd (other c asks)
 decides_once guests words bytes s t (inr (inl (is, (d, reads, asks), long))) (inl (is', other)) = absurd (other d asks)
 decides_once guests words bytes s t (inr (inl (is, asks, long))) (inr (inl (is', asks', long'))) = is ∙ sym is'
-decides_once guests words bytes s t (inr (inl (is, (d, reads, asks), long))) (inr (inr (c, asks', short, replies))) = absurd (never_both words bytes c d asks' reads asks short long)
+decides_once guests words bytes s t (inr (inl (is, (d, reads, asks), long))) (inr (inr (c, asks', short, replies))) =
+    absurd (never_both words bytes c d asks' reads asks short long)
 decides_once guests words bytes s t (inr (inr (c, asks, short, replies))) (inl (is', other)) = absurd (other c asks)
-decides_once guests words bytes s t (inr (inr (c, asks, short, replies))) (inr (inl (is', (d, reads, asks'), long))) = absurd (never_both words bytes c d asks reads asks' short long)
+decides_once guests words bytes s t (inr (inr (c, asks, short, replies))) (inr (inl (is', (d, reads, asks'), long))) =
+    absurd (never_both words bytes c d asks reads asks' short long)
 decides_once guests words bytes s t (inr (inr (c, asks, short, (text, replies)))) (inr (inr (d, asks', short', (text', replies')))) =
-    replies_once guests c (given_to c bytes) text text' s t replies (subst (λ (x : Command). Replies guests x (given_to x bytes) t text') (same_command words d c asks' asks) replies')
+    replies_once guests c (given_to c bytes) text text' s t replies
+    (subst (λ (x : Command). Replies guests x (given_to x bytes) t text') (same_command words d c asks' asks) replies')

@@ -8,17 +8,27 @@ use Rattle.sot_workers.specs.Flying.{IsUnnamed}
 use Rattle.sot_commands.specs.Guests.{Flew}
 
 module _ {C : Type 0} (told : C → Option (List Asking)) where
-  -- two accounts of one written trace are of one flight and one history: bytes and text decide which firings the guests answered
+  -- two accounts of one written trace are of one flight and one history: bytes and text decide
+  -- which firings the guests answered
   abbrev pub FlewOnce : Type 0
-  FlewOnce = (guests : ℕ) (bytes text : List ℕ) (before after other_before other_after : List C) (x : Flew told guests bytes text before after) (y : Flew told guests bytes text other_before other_after) → (x.plan ≡ y.plan) × (x.flew.history ≡ y.flew.history)
+  FlewOnce =
+      (guests : ℕ) (bytes text : List ℕ) (before after other_before other_after : List C)
+      (x : Flew told guests bytes text before after)
+      (y : Flew told guests bytes text other_before other_after)
+      → (x.plan ≡ y.plan) × (x.flew.history ≡ y.flew.history)
 
-  -- a guest that flies a node, where it tells its list, has answered the firings of the node in the history that was written
+  -- a guest that flies a node, where it tells its list, has answered the firings of the node in the
+  -- history that was written
   abbrev pub NamedAreAsked : Type 0
   NamedAreAsked =
-      (guests : ℕ) (bytes text : List ℕ) (before after : List C) (x : Flew told guests bytes text before after) (n i : ℕ) (was now : C) (list : List Asking)
+      (guests : ℕ) (bytes text : List ℕ) (before after : List C)
+      (x : Flew told guests bytes text before after) (n i : ℕ) (was now : C) (list : List Asking)
       → At x.plan.crews n (Guest i) → At before i was → At after i now → told now ≡ Some list
       → HasAnswered x.mission.tables x.mission.cert.jitter x.plan n x.flew.history (told was) list
 
   -- one that no node of this flight names is as it was
   abbrev pub OthersStay : Type 0
-  OthersStay = (guests : ℕ) (bytes text : List ℕ) (before after : List C) (x : Flew told guests bytes text before after) (i : ℕ) (was now : C) → IsUnnamed x.plan i → At before i was → At after i now → now ≡ was
+  OthersStay =
+      (guests : ℕ) (bytes text : List ℕ) (before after : List C)
+      (x : Flew told guests bytes text before after) (i : ℕ) (was now : C) → IsUnnamed x.plan i
+      → At before i was → At after i now → now ≡ was

@@ -1,8 +1,8 @@
 -- What becomes of the guests that are handed in.
-use Rattle.std.specs.Prelude.{◌≡◌, ℕ, List, ◌++◌, Option, None, Some}
+use Rattle.std.specs.Prelude.{◌≡◌, ◌≢◌, ℕ, ◌⊎◌, List, ◌++◌, Option, None, Some, vec_len}
+use Rattle.std.specs.Global.{Vec}
 use Rattle.std.specs.Io.KnownBytes.{Appends}
 use Rattle.sot_lists.specs.Places.{At}
-use Rattle.sot_ports.specs.Whole.{ReadsAll}
 use Rattle.sot_sections.specs.declared.mission.Need.TheVariants as needs
 use Rattle.sot_lang.specs.Tables.{Tables}
 use Rattle.sot_world.specs.HistoryEntry.{Logged}
@@ -18,19 +18,33 @@ use Rattle.sot_commands.specs.Answers.{SpellsFor}
 -- a list of askings that is told afterwards was told before, and has grown at its end
 abbrev pub TellsOn : Option (List Asking) → Option (List Asking) → Type 0
 TellsOn before None = Unit {0}
-TellsOn before (Some after) = (first more : List Asking) × (before ≡ Some first) × (after ≡ first ++ more)
+TellsOn before (Some after) =
+    (first more : List Asking) × (before ≡ Some first) × (after ≡ first ++ more)
+
+module _ {C : Type 0} where
+  -- whatever flight the bytes spell for so many guests, each guest that no node of it names is the
+  -- same
+  abbrev pub UnnamedStay : ℕ → List ℕ → List C → List C → Type 0
+  UnnamedStay guests bytes before after =
+      (m : Mission) (f : Plan) → SpellsFor needs.Fly guests bytes m → m.flight ≡ Some f
+      → EachUnnamedStays f before after
 
 module _ {C : Type 0} (told : C → Option (List Asking)) where
   -- each guest that tells its list tells it on
   abbrev pub GuestsGoOn : List C → List C → Type 0
-  GuestsGoOn before after = (i : ℕ) (was now : C) → At before i was → At after i now → TellsOn (told was) (told now)
+  GuestsGoOn before after =
+      (i : ℕ) (was now : C) → At before i was → At after i now → TellsOn (told was) (told now)
 
-  -- the guests flew this flight, and this text is the trace of its history: each guest that the flight names, where it still tells its list, was asked once a firing of its node, in the history's order, and each asking fits its firing; the others are as they were
-  pub record GuestsFlew (t : Tables) (jitter : ℕ) (f : Plan) (text : List ℕ) (before after : List C) : Type 0 where
+  -- the guests flew this flight, and this text is the trace of its history: each guest that the
+  -- flight names, where it still tells its list, was asked once a firing of its node, in the
+  -- history's order, and each asking fits its firing; the others are as they were
+  pub record GuestsFlew (t : Tables) (jitter : ℕ) (f : Plan) (text : List ℕ) (before after : List C)
+      : Type 0 where
     pub history : List Logged
     pub flown : FlownBy t jitter f history
     pub text_is : text ≡ trace_text t f.start history
-    pub answered : (n i : ℕ) (was now : C) → At f.crews n (Guest i) → At before i was → At after i now → Answered t jitter f n history (told was) (told now)
+    pub answered : (n i : ℕ) (was now : C) → At f.crews n (Guest i) → At before i was
+        → At after i now → Answered t jitter f n history (told was) (told now)
     pub unnamed : EachUnnamedStays f before after
 
   -- the bytes spell a mission with a flight for so many guests, and these flew it
@@ -41,11 +55,28 @@ module _ {C : Type 0} (told : C → Option (List Asking)) where
     pub flight : mission.flight ≡ Some plan
     pub flew : GuestsFlew mission.tables mission.cert.jitter plan text before after
 
-  -- the same of all that a source had left
-  abbrev pub FlewAll : ℕ → Option (List ℕ) → Option (List ℕ) → List ℕ → List C → List C → Type 0
-  FlewAll guests left left_after text before after = (bytes : List ℕ) × ReadsAll left left_after bytes × Flew guests bytes text before after
+  -- the same of the bytes of a mission, and what was written is the trace
+  abbrev pub FlewAndWrote : ℕ → (List ℕ → Type 0) → Option (List ℕ) → Option (List ℕ) → List C
+      → List C → Type 0
+  FlewAndWrote guests IsMission held held_after before after =
+      (bytes : List ℕ) × (text : List ℕ) × IsMission bytes × Appends held held_after text
+      × Flew guests bytes text before after
 
-  -- and what was written is the trace
-  abbrev pub FlewAndWrote : ℕ → Option (List ℕ) → Option (List ℕ) → Option (List ℕ) → Option (List ℕ) → List C → List C → Type 0
-  FlewAndWrote guests left left_after held held_after before after =
-      (text : List ℕ) × Appends held held_after text × FlewAll guests left left_after text before after
+  -- What has become of the guests where a call ends with this status. `Flies` says whether a flight
+  -- was asked for, and `IsMission` of which bytes.
+  pub record GuestsEnd (Flies : Type 0) (IsMission : List ℕ → Type 0)
+      (held held_after : Option (List ℕ)) (before after : Vec C) (status : ℕ) : Type 0 where
+    -- there are as many as before, and where one told the list of its askings, the one in its place
+    -- tells it on
+    pub count : vec_len after ≡ vec_len before
+    pub go_on : GuestsGoOn before.items after.items
+    -- without a flight none was asked
+    pub stay : ¬ Flies → after ≡ before
+    -- nor at another status than 0, unless the trace was flown and not written, or memory ran out
+    pub unasked : status ≢ 0 → status ≢ 5 → status ≢ 6 → after ≡ before
+    -- whatever the status, those that the flight does not name were not asked
+    pub unnamed : (after ≡ before) ⊎ ((bytes : List ℕ) × IsMission bytes
+        × UnnamedStay (vec_len before) bytes before.items after.items)
+    -- what was flown was asked of the guests, and it is the trace of this flight that was written
+    pub flew : status ≡ 0 → Flies → FlewAndWrote (vec_len before) IsMission held held_after
+        before.items after.items

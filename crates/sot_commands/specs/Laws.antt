@@ -9,10 +9,12 @@ use Rattle.sot_report.specs.Missions.{Mission}
 use Rattle.sot_sections.specs.declared.mission.Need.TheVariants as needs
 use Rattle.sot_flight.specs.Plans.{Plan}
 use Rattle.sot_commands.specs.declared.words.Command.{Command}
-use Rattle.sot_commands.specs.declared.words.Command.TheVariants.{Check, Fly, Replay, Format, Certify, Make, Soak}
+use Rattle.sot_commands.specs.declared.words.Command.TheVariants.{Check, Fly, Replay, Format}
+use Rattle.sot_commands.specs.declared.words.Command.TheVariants.{Certify, Make, Soak}
 use Rattle.sot_commands.specs.Answers.{SpellsFor, IsIllegal, Accepts, Refutes, Rejects}
 
--- the commands that say one thing of what they accept: all but those that fly, since a flight has several histories
+-- the commands that say one thing of what they accept: all but those that fly, since a flight has
+-- several histories
 abbrev pub AcceptsOneWay : Command → Type 0
 AcceptsOneWay Check = Unit {0}
 AcceptsOneWay Fly = ⊥
@@ -23,10 +25,12 @@ AcceptsOneWay (Make n seed) = Unit {0}
 AcceptsOneWay (Soak n seed) = ⊥
 
 abbrev pub AcceptedOnce : Type 0
-AcceptedOnce = (guests : ℕ) (command : Command) (bytes text other : List ℕ) → AcceptsOneWay command → Accepts guests command bytes text → Accepts guests command bytes other → text ≡ other
+AcceptedOnce =
+    (guests : ℕ) (command : Command) (bytes text other : List ℕ) → AcceptsOneWay command
+    → Accepts guests command bytes text → Accepts guests command bytes other → text ≡ other
 
--- bytes are refused with one text: the first condition that fails with its evidence, the start, or why there is no certificate. Of `replay` see
--- below
+-- bytes are refused with one text: the first condition that fails with its evidence, the start, or
+-- why there is no certificate. Of `replay` see below
 abbrev pub IsNoReplay : Command → Type 0
 IsNoReplay Check = Unit {0}
 IsNoReplay Fly = Unit {0}
@@ -37,13 +41,17 @@ IsNoReplay (Make n seed) = Unit {0}
 IsNoReplay (Soak n seed) = Unit {0}
 
 abbrev pub RefusedOnce : Type 0
-RefusedOnce = (guests : ℕ) (command : Command) (bytes text other : List ℕ) → IsNoReplay command → Refutes guests command bytes text → Refutes guests command bytes other → text ≡ other
+RefusedOnce =
+    (guests : ℕ) (command : Command) (bytes text other : List ℕ) → IsNoReplay command
+    → Refutes guests command bytes text → Refutes guests command bytes other → text ≡ other
 
 -- the lines of a trace are refused at one line by one test, of the tables of one mission
 abbrev pub LinesRefusedOnce : Type 0
 LinesRefusedOnce =
-    (guests : ℕ) (bytes : List ℕ) (m : Mission) (f : Plan) (lines : List (List ℕ)) (text other : List ℕ) → SpellsFor needs.Replay guests bytes m
-    → IsIllegal m.tables m.cert.jitter f lines text → IsIllegal m.tables m.cert.jitter f lines other → text ≡ other
+    (guests : ℕ) (bytes : List ℕ) (m : Mission) (f : Plan) (lines : List (List ℕ))
+    (text other : List ℕ) → SpellsFor needs.Replay guests bytes m
+    → IsIllegal m.tables m.cert.jitter f lines text → IsIllegal m.tables m.cert.jitter f lines other
+    → text ≡ other
 
 -- a text says that something nests too deep
 abbrev pub SaysDeep : List ℕ → Type 0
@@ -51,10 +59,14 @@ SaysDeep text = (at : Span) × (text ≡ syntax_text (Deep at))
 
 -- two texts tell faults of typing that begin at one place and break one rule
 abbrev pub TellOneRule : List ℕ → List ℕ → Type 0
-TellOneRule text other = (f g : TypeFault) × (rank f.at ≡ rank g.at) × (f.kind ≡ g.kind) × (text ≡ type_text f) × (other ≡ type_text g)
+TellOneRule text other =
+    (f g : TypeFault) × (rank f.at ≡ rank g.at) × (f.kind ≡ g.kind) × (text ≡ type_text f)
+    × (other ≡ type_text g)
 
--- bytes have one first fault; but that something nests too deep may be said of more places than one, and instead of what comes later
+-- bytes have one first fault; but that something nests too deep may be said of more places than
+-- one, and instead of what comes later
 abbrev pub RejectedOnce : Type 0
 RejectedOnce =
-    (guests : ℕ) (command : Command) (bytes text other : List ℕ) → Rejects guests command bytes text → Rejects guests command bytes other
+    (guests : ℕ) (command : Command) (bytes text other : List ℕ) → Rejects guests command bytes text
+    → Rejects guests command bytes other
     → (text ≡ other) ⊎ TellOneRule text other ⊎ SaysDeep text ⊎ SaysDeep other

@@ -3,7 +3,10 @@ use Rattle.std.specs.Prelude.{ℕ, List, ◌++◌, codes}
 use Rattle.std.specs.Fmt.{decimal}
 use Rattle.sot_report.specs.Pieces.{line}
 use Rattle.sot_replay.specs.declared.fail.LineKind.{LineKind}
-use Rattle.sot_replay.specs.declared.fail.LineKind.TheVariants.{NotALine, WrongTime, NotDue, AlreadyFired, NodesLeft, OutsideType, InputsLeft, TooFar, Differs, Ended, Missing}
+use Rattle.sot_replay.specs.declared.fail.LineKind.TheVariants.{NotALine, WrongTime, NotDue}
+use Rattle.sot_replay.specs.declared.fail.LineKind.TheVariants.{AlreadyFired, NodesLeft}
+use Rattle.sot_replay.specs.declared.fail.LineKind.TheVariants.{OutsideType, InputsLeft, TooFar}
+use Rattle.sot_replay.specs.declared.fail.LineKind.TheVariants.{Differs, Ended, Missing}
 
 -- `legal events E`
 abbrev pub legal_text : ℕ → List ℕ
@@ -24,4 +27,5 @@ kind_word Missing = codes "Missing"
 
 -- `refused replay line L KIND`
 abbrev pub refused_line_text : ℕ → LineKind → List ℕ
-refused_line_text number kind = codes "refused replay line " ++ (decimal number ++ (codes " " ++ line (kind_word kind)))
+refused_line_text number kind =
+    codes "refused replay line " ++ (decimal number ++ (codes " " ++ line (kind_word kind)))

@@ -10,9 +10,16 @@ abbrev pub is_dashed : List ℕ → Bool
 is_dashed [] = false
 is_dashed (b ∷ bs) = b == 45
 
--- a command without arguments of its own, one of whose subcommands has to be named; the words are those behind the program's name
+-- a command without arguments of its own, one of whose subcommands has to be named; the words are
+-- those behind the program's name
 abbrev pub top : Shape
-top = record (new_shape (codes "soter")) { no_binary_name = true; disable_help_flag = true; disable_help_subcommand = true; subcommand_required = true }
+top =
+    record (new_shape (codes "soter")) {
+      no_binary_name = true;
+      disable_help_flag = true;
+      disable_help_subcommand = true;
+      subcommand_required = true;
+    }
 
 abbrev pub bare : App
 bare = record { top = top; subs = [] }
@@ -23,16 +30,22 @@ one_value id = record (new_rule id) { required = true; action = Some Set }
 
 -- a command with two numbers behind its word
 abbrev pub numbered : List ℕ → Shape
-numbered name = record (new_shape name) { rules = one_value (codes "N") ∷ one_value (codes "SEED") ∷ [] }
+numbered name =
+    record (new_shape name) { rules = one_value (codes "N") ∷ one_value (codes "SEED") ∷ [] }
 
 -- the commands that read a mission
 abbrev pub missions : App
-missions = with_subcommand (with_subcommand (with_subcommand bare (new_shape (codes "check"))) (new_shape (codes "fly"))) (new_shape (codes "replay"))
+missions =
+    with_subcommand (with_subcommand (with_subcommand bare (new_shape (codes "check")))
+    (new_shape (codes "fly"))) (new_shape (codes "replay"))
 
 -- and those that read a program
 abbrev pub readers : App
-readers = with_subcommand (with_subcommand missions (new_shape (codes "format"))) (new_shape (codes "certify"))
+readers =
+    with_subcommand (with_subcommand missions (new_shape (codes "format")))
+    (new_shape (codes "certify"))
 
 -- and those that read nothing
 abbrev pub program : App
-program = with_subcommand (with_subcommand readers (numbered (codes "make"))) (numbered (codes "soak"))
+program =
+    with_subcommand (with_subcommand readers (numbered (codes "make"))) (numbered (codes "soak"))

@@ -4,7 +4,8 @@ use Rattle.std.specs.Fmt.{decimal}
 use Rattle.std.specs.String.{string_bytes}
 use Rattle.std.proofs.Common.{Global}
 use Rattle.sot_commands.specs.declared.words.Command.{Command}
-use Rattle.sot_commands.specs.declared.words.Command.TheVariants.{Check, Fly, Replay, Format, Certify, Make, Soak}
+use Rattle.sot_commands.specs.declared.words.Command.TheVariants.{Check, Fly, Replay, Format}
+use Rattle.sot_commands.specs.declared.words.Command.TheVariants.{Certify, Make, Soak}
 
 -- the word of a command
 abbrev pub word_of : Command → List ℕ
@@ -39,9 +40,11 @@ IsInForm Certify = Unit {0}
 IsInForm (Make n seed) = AreAsked n seed
 IsInForm (Soak n seed) = AreAsked n seed
 
--- the words ask for this command: they are its word, and behind it its numbers in decimal, without zeros in front
+-- the words ask for this command: they are its word, and behind it its numbers in decimal, without
+-- zeros in front
 abbrev pub Asks : List (String Global) → Command → Type 0
-Asks words command = (map string_bytes words ≡ word_of command ∷ map decimal (numbers_of command)) × IsInForm command
+Asks words command =
+    (map string_bytes words ≡ word_of command ∷ map decimal (numbers_of command)) × IsInForm command
 
 -- the commands that read an input
 abbrev pub Reads : Command → Type 0
@@ -52,6 +55,20 @@ Reads Format = Unit {0}
 Reads Certify = Unit {0}
 Reads (Make n seed) = ⊥
 Reads (Soak n seed) = ⊥
+
+-- the commands that fly
+abbrev pub Flies : Command → Type 0
+Flies Check = ⊥
+Flies Fly = Unit {0}
+Flies Replay = ⊥
+Flies Format = ⊥
+Flies Certify = ⊥
+Flies (Make n seed) = ⊥
+Flies (Soak n seed) = Unit {0}
+
+-- the words ask for a command that flies
+abbrev pub AsksFlight : List (String Global) → Type 0
+AsksFlight words = (command : Command) × Flies command × Asks words command
 
 -- the words ask for a command that reads, or for none that does
 abbrev pub AsksReader : List (String Global) → Type 0
@@ -66,7 +83,9 @@ AsksNone words = (command : Command) → ¬ (Asks words command)
 
 -- behind the first word stand these two numbers, and no more words
 abbrev pub HasNumbers : List (String Global) → ℕ → ℕ → Type 0
-HasNumbers words n seed = (name : List ℕ) × (map string_bytes words ≡ name ∷ decimal n ∷ decimal seed ∷ []) × AreAsked n seed
+HasNumbers words n seed =
+    (name : List ℕ) × (map string_bytes words ≡ name ∷ decimal n ∷ decimal seed ∷ [])
+    × AreAsked n seed
 
 -- behind the first word stand the numbers of this command, if it has numbers
 abbrev pub IsNumbered : List (String Global) → Command → Type 0

@@ -1,6 +1,6 @@
 //! Answers: a status with the text that is written with it.
 
-ghost use Rattle.std.specs.Prelude.{◌≡◌, ℕ, [], IfOk};
+ghost use Rattle.std.specs.Prelude.{◌≡◌, ℕ, IfOk};
 ghost use Rattle.std.specs.String.{string_bytes};
 ghost use Rattle.sot_tree.specs.TreeViews.{program_view};
 ghost use Rattle.sot_lang.specs.CertRules.{FitsTables};
@@ -9,10 +9,10 @@ ghost use Rattle.sot_rta.specs.Refused.{refusal_view};
 ghost use Rattle.sot_world.specs.Opens.{IsFirstOutside};
 ghost use Rattle.sot_flight.specs.Fits.{FitsFlight};
 ghost use Rattle.sot_commands.specs.ReplayTexts.{legal_text, kind_word, refused_line_text};
-ghost use Rattle.sot_commands.specs.Answers.{IsOutsideOf, Replies};
+ghost use Rattle.sot_commands.specs.Answers.{IsOutsideOf};
 ghost use Rattle.sot_commands.specs.Steps.{told_text};
 ghost use Rattle.sot_commands.specs.Words.{AreAsked};
-ghost use Rattle.sot_commands.specs.declared.words.Command.TheVariants.{Make as MakeCommand};
+ghost use Rattle.sot_maker.specs.Missions.{mission_text as made_text};
 ghost use Rattle.sot_report.specs.FaultTexts.{fault_text};
 ghost use Rattle.sot_report.specs.RefusalTexts.{refusal_text};
 ghost use Rattle.sot_report.specs.AcceptedTexts.{accepted_text};
@@ -54,7 +54,8 @@ pub fn fixed(alloc: Global, status: u8, text: &str) -> Result<Answer, AllocError
 /// Status 0: the canonical text of a program.
 pub fn canonical(alloc: Global, program: &Program) -> Result<Answer, AllocError>
     ensures status { IfOk result (λ answer. answer.status ≡ 0) }
-    ensures text { IfOk result (λ answer. answer.text.items ≡ canonical (program_view program.now)) }
+    ensures text { IfOk result (λ answer.
+        answer.text.items ≡ canonical (program_view program.now)) }
 {
     let text = print(alloc, program)?;
     Ok(Answer {
@@ -66,7 +67,8 @@ pub fn canonical(alloc: Global, program: &Program) -> Result<Answer, AllocError>
 /// Status 0: the mission that is made from two numbers.
 pub fn made(alloc: Global, n: u32, seed: u64) -> Result<Answer, AllocError>
     requires { AreAsked n seed }
-    ensures { (guests : ℕ) → IfOk result (λ answer. Replies guests (MakeCommand n seed) [] answer.status answer.text.items) }
+    ensures status { IfOk result (λ answer. answer.status ≡ 0) }
+    ensures text { IfOk result (λ answer. answer.text.items ≡ made_text n seed) }
 {
     let text = make(alloc, n, seed)?;
     Ok(Answer {
@@ -91,7 +93,8 @@ pub fn accepted(alloc: Global, program: &Typed, cert: &Cert) -> Result<Answer, A
 /// Status 1: the line of a refusal.
 pub fn refused(alloc: Global, program: &Typed, refusal: &Refusal) -> Result<Answer, AllocError>
     ensures status { IfOk result (λ answer. answer.status ≡ 1) }
-    ensures text { IfOk result (λ answer. answer.text.items ≡ refusal_text program.now (refusal_view refusal.now)) }
+    ensures text { IfOk result (λ answer. answer.text.items
+        ≡ refusal_text program.now (refusal_view refusal.now)) }
 {
     let text = sot_report::refusal_text(alloc, program, refusal)?;
     Ok(Answer { status: 1, text })
@@ -99,18 +102,20 @@ pub fn refused(alloc: Global, program: &Typed, refusal: &Refusal) -> Result<Answ
 
 // The trace or the summary of what was flown.
 fn told_text(alloc: Global, telling: Telling, board: &Board<'_>) -> Result<String, AllocError>
-    ensures { IfOk result (λ text. string_bytes text ≡ told_text telling board.now.accepted.program board.now.plan board.now.entries) }
+    ensures { IfOk result (λ text. string_bytes text
+        ≡ told_text telling board.now.accepted.program board.now.plan board.now.entries) }
 {
     match telling {
         Telling::Trace => board_text(alloc, board),
-        Telling::Summed => summary_text(alloc, &board_summary(board)),
+        Telling::Summary => summary_text(alloc, &board_summary(board)),
     }
 }
 
 /// Status 0: what is told of what was flown.
 pub fn told(alloc: Global, telling: Telling, board: &Board<'_>) -> Result<Answer, AllocError>
     ensures status { IfOk result (λ answer. answer.status ≡ 0) }
-    ensures text { IfOk result (λ answer. answer.text.items ≡ told_text telling board.now.accepted.program board.now.plan board.now.entries) }
+    ensures text { IfOk result (λ answer. answer.text.items
+        ≡ told_text telling board.now.accepted.program board.now.plan board.now.entries) }
 {
     let text = told_text(alloc, telling, board)?;
     Ok(Answer {
@@ -119,7 +124,8 @@ pub fn told(alloc: Global, telling: Telling, board: &Board<'_>) -> Result<Answer
     })
 }
 
-/// Status 1: the line of a flight whose start is refused, since the plant of this module starts outside the module's safer region.
+/// Status 1: the line of a flight whose start is refused, since the plant of this module starts
+/// outside the module's safer region.
 pub fn outside(
     alloc: Global,
     program: &Typed,

@@ -12,7 +12,7 @@ ghost use Rattle.sot_commands.specs.declared.words.Command.TheVariants.{Certify 
 use crate::answer::{Answer, faulty, uncertified};
 use sot_certified_text::mission_text;
 use sot_certify::{CertifyFail, certify as certificate};
-use sot_compose::{CheckFail, check_all};
+use sot_compose::check_all;
 use sot_lang::{Cert, Typed};
 use sot_parser::{ParseFail, parse};
 use sot_ports::{Process, let_go};
@@ -25,7 +25,8 @@ use sot_typing::resolve;
 use std::alloc::{AllocError, Global};
 use std::thread::Threads;
 
-// Reads a text again that was written of a certified program: no such text has a fault, and none is refused.
+// Reads a text again that was written of a certified program: no such text has a fault, and none is
+// refused.
 fn read_back<R: Threads + Sync>(rt: &R, alloc: Global, text: &[u8]) -> Result<(), AllocError>
     requires short { length text.now + 1 < 2 ^ 32 }
     requires written { IsWritten text.now }
@@ -34,8 +35,7 @@ fn read_back<R: Threads + Sync>(rt: &R, alloc: Global, text: &[u8]) -> Result<()
     match load(alloc, text, Need::Check, 0, Process::GoesOn) {
         Ok(loaded) => match check_all(rt, &loaded.program, &loaded.cert) {
             Ok(_accepted) => Ok(()),
-            Err(CheckFail::Refused(_)) => unreachable!(),
-            Err(CheckFail::Memory) => Err(AllocError),
+            Err(_) => unreachable!(),
         },
         Err(LoadFail::Fault(_)) => unreachable!(),
         Err(LoadFail::Memory) => Err(AllocError),
@@ -54,7 +54,8 @@ fn certified<R: Threads + Sync>(
     requires resolved { Resolves (program_view program.now) tables.now }
     requires fits { FitsTables tables.now cert.now }
     requires made { Certifies tables.now (Ok cert.now) }
-    ensures { IfOk result (λ answer. CertifiesTables (program_view program.now) tables.now answer.status answer.text.items) }
+    ensures { IfOk result (λ answer. CertifiesTables (program_view program.now) tables.now
+        answer.status answer.text.items) }
 {
     let text = mission_text(alloc, program, tables, cert)?;
     // Places have 32 bits: there is no room for a longer text.
@@ -74,7 +75,8 @@ fn certify_tables<R: Threads + Sync>(
 ) -> Result<Answer, AllocError>
     requires spelled { IsSpelled (program_view program.now) }
     requires resolved { Resolves (program_view program.now) tables.now }
-    ensures { IfOk result (λ answer. CertifiesTables (program_view program.now) tables.now answer.status answer.text.items) }
+    ensures { IfOk result (λ answer. CertifiesTables (program_view program.now) tables.now
+        answer.status answer.text.items) }
 {
     match certificate(alloc, tables) {
         Ok(cert) => certified(rt, alloc, program, tables, &cert),
@@ -90,7 +92,8 @@ fn certify_tree<R: Threads + Sync>(
     program: &Program,
 ) -> Result<Answer, AllocError>
     requires spelled { IsSpelled (program_view program.now) }
-    ensures { IfOk result (λ answer. CertifiesTree (program_view program.now) answer.status answer.text.items) }
+    ensures { IfOk result (λ answer. CertifiesTree (program_view program.now) answer.status
+        answer.text.items) }
 {
     match resolve(alloc, program) {
         Ok(tables) => certify_tables(rt, alloc, program, &tables),
@@ -107,7 +110,8 @@ pub fn certify<R: Threads + Sync>(
     process: Process,
 ) -> Result<Answer, AllocError>
     requires { length bytes.now ≤ input_limit }
-    ensures { (guests : ℕ) → IfOk result (λ answer. Replies guests CertifyCommand bytes.now answer.status answer.text.items) }
+    ensures { (guests : ℕ) → IfOk result
+        (λ answer. Replies guests CertifyCommand bytes.now answer.status answer.text.items) }
 {
     match parse(alloc, &Lexer::new(bytes)) {
         Ok(program) => {

@@ -7,7 +7,7 @@ ghost use Rattle.sot_commands.specs.Steps.{Judges};
 ghost use Rattle.sot_commands.specs.declared.words.Command.TheVariants.{Check as CheckCommand};
 
 use crate::answer::{Answer, accepted, faulty, refused};
-use sot_compose::{CheckFail, check_all};
+use sot_compose::check_all;
 use sot_lang::{Cert, Typed};
 use sot_ports::{Process, let_go};
 use sot_report::{LoadFail, load};
@@ -27,8 +27,7 @@ fn judge<R: Threads + Sync>(
 {
     match check_all(rt, program, cert) {
         Ok(_accepted) => accepted(alloc, program, cert),
-        Err(CheckFail::Refused(refusal)) => refused(alloc, program, &refusal),
-        Err(CheckFail::Memory) => Err(AllocError),
+        Err(refusal) => refused(alloc, program, &refusal),
     }
 }
 
@@ -40,7 +39,8 @@ pub fn check<R: Threads + Sync>(
     process: Process,
 ) -> Result<Answer, AllocError>
     requires { length bytes.now ≤ input_limit }
-    ensures { (guests : ℕ) → IfOk result (λ answer. Replies guests CheckCommand bytes.now answer.status answer.text.items) }
+    ensures { (guests : ℕ) → IfOk result
+        (λ answer. Replies guests CheckCommand bytes.now answer.status answer.text.items) }
 {
     match load(alloc, bytes, Need::Check, 0, process) {
         Ok(loaded) => {

@@ -1,6 +1,7 @@
 //! Laws on what is said. Each of these functions does nothing, and its contract is the law.
 
-ghost use Rattle.sot_commands.specs.Laws.{AcceptedOnce, RefusedOnce, LinesRefusedOnce, RejectedOnce};
+ghost use Rattle.sot_commands.specs.Laws.{AcceptedOnce, RefusedOnce, LinesRefusedOnce};
+ghost use Rattle.sot_commands.specs.Laws.{RejectedOnce};
 ghost use Rattle.sot_commands.specs.GuestLaws.{FlewOnce, NamedAreAsked, OthersStay};
 
 use sot_node_worker::Controller;
@@ -10,8 +11,8 @@ pub fn accepted_once()
     ensures { AcceptedOnce }
 {}
 
-/// Bytes are refused with one text, but for the lines of a trace: one condition with one evidence, one start, one reason why there is no
-/// certificate.
+/// Bytes are refused with one text, but for the lines of a trace: one condition with one evidence,
+/// one start, one reason why there is no certificate.
 pub fn refused_once()
     ensures { RefusedOnce }
 {}
@@ -21,7 +22,8 @@ pub fn lines_refused_once()
     ensures { LinesRefusedOnce }
 {}
 
-/// The first fault of bytes is told with one text, but for what nests too deep, and for the line and column of a fault of typing.
+/// The first fault of bytes is told with one text, but for what nests too deep, and for the line
+/// and column of a fault of typing.
 pub fn rejected_once()
     ensures { RejectedOnce }
 {}
@@ -31,7 +33,8 @@ pub fn flew_once<C: Controller>()
     ensures { FlewOnce C.told }
 {}
 
-/// A guest that flies a node, where it tells its list, has answered the node's firings in the history that was written.
+/// A guest that flies a node, where it tells its list, has answered the node's firings in the
+/// history that was written.
 pub fn named_are_asked<C: Controller>()
     ensures { NamedAreAsked C.told }
 {}

@@ -10,7 +10,7 @@ ghost use Rattle.sot_commands.specs.Steps.{JudgesLines, JudgesReplayed};
 ghost use Rattle.sot_commands.specs.declared.words.Command.TheVariants.{Replay as ReplayCommand};
 
 use crate::answer::{Answer, faulty, legal, outside, refused, refused_line};
-use sot_compose::{CheckFail, check_all};
+use sot_compose::check_all;
 use sot_flight::Flight;
 use sot_lang::{Cert, Typed};
 use sot_ports::{Process, let_go};
@@ -22,7 +22,8 @@ use sot_tube::Accepted;
 use std::alloc::{AllocError, Global};
 use std::thread::Threads;
 
-// Whether the lines of a text are the trace of an accepted program's flight, if its plants start inside their safer regions.
+// Whether the lines of a text are the trace of an accepted program's flight, if its plants start
+// inside their safer regions.
 fn replay_accepted(
     alloc: Global,
     accepted: &Accepted<'_>,
@@ -33,7 +34,8 @@ fn replay_accepted(
     requires flight { FitsFlight accepted.now.program guests flight.now }
     requires words { AreWords accepted.now.program }
     requires short { length trace.now ≤ input_limit }
-    ensures { IfOk result (λ answer. JudgesLines accepted.now.program accepted.now.cert.jitter flight.now (lent_lines trace.now) answer.status answer.text.items) }
+    ensures { IfOk result (λ answer. JudgesLines accepted.now.program accepted.now.cert.jitter
+        flight.now (lent_lines trace.now) answer.status answer.text.items) }
 {
     match replay_lines(alloc, accepted, flight, Lines::new(trace)) {
         Ok(events) => legal(alloc, events),
@@ -57,16 +59,17 @@ fn judge<R: Threads + Sync>(
     requires flight { FitsFlight program.now guests flight.now }
     requires words { AreWords program.now }
     requires short { length trace.now ≤ input_limit }
-    ensures { IfOk result (λ answer. JudgesReplayed program.now cert.now flight.now (lent_lines trace.now) answer.status answer.text.items) }
+    ensures { IfOk result (λ answer. JudgesReplayed program.now cert.now flight.now
+        (lent_lines trace.now) answer.status answer.text.items) }
 {
     match check_all(rt, program, cert) {
         Ok(accepted) => replay_accepted(alloc, &accepted, flight, guests, trace),
-        Err(CheckFail::Refused(refusal)) => refused(alloc, program, &refusal),
-        Err(CheckFail::Memory) => Err(AllocError),
+        Err(refusal) => refused(alloc, program, &refusal),
     }
 }
 
-/// Reads a mission with its flight, for so many guests, and a trace, checks the mission, and tells whether the trace is that of a history of the flight.
+/// Reads a mission with its flight, for so many guests, and a trace, checks the mission, and tells
+/// whether the trace is that of a history of the flight.
 pub fn replay<R: Threads + Sync>(
     rt: &R,
     alloc: Global,
@@ -75,7 +78,8 @@ pub fn replay<R: Threads + Sync>(
     process: Process,
 ) -> Result<Answer, AllocError>
     requires { length bytes.now ≤ input_limit }
-    ensures { IfOk result (λ answer. Replies guests ReplayCommand bytes.now answer.status answer.text.items) }
+    ensures { IfOk result (λ answer. Replies guests ReplayCommand bytes.now answer.status
+        answer.text.items) }
 {
     match load(alloc, bytes, Need::Replay, guests, process) {
         Ok(loaded) => {

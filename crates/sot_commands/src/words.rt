@@ -1,14 +1,17 @@
 //! The words of a command line.
 
-ghost use Rattle.std.specs.Prelude.{◌≡◌, ◌≢◌, ℕ, ◌≤◌, Some, map, IsOk, IfOk, IsErrOf, IfErr, IsTrue, ◌↔◌, false};
+ghost use Rattle.std.specs.Prelude.{◌≡◌, ◌≢◌, ℕ, ◌≤◌, Some, map, IsOk, IfOk, IsErrOf, IfErr};
+ghost use Rattle.std.specs.Prelude.{IsTrue, ◌↔◌, false};
 ghost use Rattle.std.specs.List.{list_any};
 ghost use Rattle.std.specs.Fmt.{decimal};
 ghost use Rattle.std.specs.String.{string_bytes};
-ghost use Rattle.clap.specs.Words.{app_of, kind_of, subcommand_name_of, FailsBy, HasMatchesOf, fault_of};
+ghost use Rattle.clap.specs.Words.{app_of, kind_of, subcommand_name_of, FailsBy, HasMatchesOf};
+ghost use Rattle.clap.specs.Words.{fault_of};
 ghost use Rattle.clap.specs.Simple.{shape_of};
 ghost use Rattle.clap.specs.declared.builder.command.Command.TheViews.{out-Command as fields_of};
 ghost use Rattle.sot_commands.specs.Words.{word_of, Asks, HasNumbers, IsNumbered};
-ghost use Rattle.sot_commands.specs.WordParser.{is_dashed, bare, one_value, numbered, missions, readers, program};
+ghost use Rattle.sot_commands.specs.WordParser.{is_dashed, bare, one_value, numbered, missions};
+ghost use Rattle.sot_commands.specs.WordParser.{readers, program};
 
 use clap::error::ErrorKind;
 use clap::{Arg, ArgAction, ArgMatches, Error};
@@ -133,8 +136,10 @@ fn is_decimal(alloc: Global, word: &str, number: u64) -> Result<bool, WordFail>
 
 // A word that is a number in these bounds in decimal, without zeros in front.
 fn number(alloc: Global, word: &str, least: u64, most: u64) -> Result<u64, WordFail>
-    ensures ok { IfOk result (λ number. (least ≤ number) × (number ≤ most) × (word.now ≡ decimal number)) }
-    ensures form { IsErrOf result WordFail.Form → (number : ℕ) → least ≤ number → number ≤ most → word.now ≢ decimal number }
+    ensures ok { IfOk result (λ number. (least ≤ number) × (number ≤ most)
+        × (word.now ≡ decimal number)) }
+    ensures form { IsErrOf result WordFail.Form → (number : ℕ) → least ≤ number → number ≤ most
+        → word.now ≢ decimal number }
 {
     let Ok(number) = word.parse::<u64>() else {
         return Err(WordFail::Form);
@@ -167,8 +172,11 @@ fn numbers(alloc: Global, words: &[String]) -> Result<(u32, u64), WordFail>
 
 // The command that `clap` found, with the numbers behind its word.
 fn found(alloc: Global, matches: &ArgMatches<'_>, words: &[String]) -> Result<Command, WordFail>
-    ensures ok { IfOk result (λ command. (subcommand_name_of matches.now ≡ Some (word_of command)) × IsNumbered words.now command) }
-    ensures form { IsErrOf result WordFail.Form → (command : _) → subcommand_name_of matches.now ≡ Some (word_of command) → ¬ (IsNumbered words.now command) }
+    ensures ok { IfOk result (λ command. (subcommand_name_of matches.now ≡ Some (word_of command))
+        × IsNumbered words.now command) }
+    ensures form { IsErrOf result WordFail.Form → (command : _)
+        → subcommand_name_of matches.now ≡ Some (word_of command)
+        → ¬ (IsNumbered words.now command) }
 {
     let Some(name) = matches.subcommand_name() else {
         return Err(WordFail::Form);
@@ -207,7 +215,8 @@ fn reason(error: &Error) -> WordFail
     }
 }
 
-/// The command that the words ask for: its word, and behind it its numbers. A word that begins with `-` stands in no form, so `clap` is not asked.
+/// The command that the words ask for: its word, and behind it its numbers. A word that begins with
+/// `-` stands in no form, so `clap` is not asked.
 pub fn command_of(alloc: Global, words: &[String]) -> Result<Command, WordFail>
     ensures ok { IfOk result (λ command. Asks words.now command) }
     ensures form { IsErrOf result WordFail.Form → (command : _) → ¬ (Asks words.now command) }

@@ -27,7 +27,8 @@ same_unless m n f g = elim (cases_Bool (nat_lt m n)) [
 ]
 
 -- the first users, in an equal list of modules
-pub least_shared : (part : Part) (ms ns : List ModuleInfo) (x a b : ℕ) → ms ≡ ns → AreFirstUsers part ms x a b → ((y : ℕ) → y < x → IsOfOneModule part ms y) → IsLeastClash (IsShared part ns) x a b
+pub least_shared : (part : Part) (ms ns : List ModuleInfo) (x a b : ℕ) → ms ≡ ns → AreFirstUsers part ms x a b → ((y : ℕ) → y < x → IsOfOneModule part ms y)
+    → IsLeastClash (IsShared part ns) x a b
 least_shared part ms ns x a b same first earlier = subst (λ l. IsLeastClash (IsShared part l) x a b) same (record {
   before = first.before;
   clash = first.shared;
@@ -40,7 +41,8 @@ node_there : (p : Tables) → MeetsTableRules p → (m : ℕ) (a : ModuleInfo) (
 node_there p rules m a n at (inl e) = subst (λ k. k < length p.nodes) e (ac_there p rules m a at)
 node_there p rules m a n at (inr e) = subst (λ k. k < length p.nodes) e (sc_there p rules m a at)
 
-pub no_shared_node : (p : Tables) → MeetsTableRules p → (ms : List ModuleInfo) → ms ≡ p.modules → ((x : ℕ) → x < length p.nodes → IsOfOneModule Node ms x) → NoSharedNode p
+pub no_shared_node : (p : Tables) → MeetsTableRules p → (ms : List ModuleInfo) → ms ≡ p.modules → ((x : ℕ) → x < length p.nodes → IsOfOneModule Node ms x)
+    → NoSharedNode p
 no_shared_node p rules ms same each m m' a b n at at' u u' =
     let one : IsOfOneModule Node p.modules n = subst (λ l. IsOfOneModule Node l n) same (each n (node_there p rules m a n at u)) in
     same_unless m m' (λ lt. one m m' lt (a, b, at, at', u, u')) (λ gt. one m' m gt (b, a, at', at, u', u))
@@ -48,7 +50,8 @@ no_shared_node p rules ms same each m m' a b n at at' u u' =
 plant_named : (p : Tables) → MeetsTableRules p → (m : ℕ) (a : ModuleInfo) → At p.modules m a → a.plant < length p.plants
 plant_named p rules m a at = let plant = rules.typed.plant_is m a at in slice_get_within p.plants a.plant plant.0 plant.1
 
-pub no_shared_plant : (p : Tables) → MeetsTableRules p → (ms : List ModuleInfo) → ms ≡ p.modules → ((x : ℕ) → x < length p.plants → IsOfOneModule Plant ms x) → NoSharedPlant p
+pub no_shared_plant : (p : Tables) → MeetsTableRules p → (ms : List ModuleInfo) → ms ≡ p.modules → ((x : ℕ) → x < length p.plants → IsOfOneModule Plant ms x)
+    → NoSharedPlant p
 no_shared_plant p rules ms same each m m' a b at at' e =
     let one : IsOfOneModule Plant p.modules b.plant = subst (λ l. IsOfOneModule Plant l b.plant) same (each b.plant (plant_named p rules m' b at')) in
     same_unless m m' (λ lt. one m m' lt (a, b, at, at', e, refl)) (λ gt. one m' m gt (b, a, at', at, refl, e))

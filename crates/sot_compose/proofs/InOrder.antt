@@ -1,5 +1,6 @@
 -- Nodes of which each writes one topic, behind those of the nodes before it.
-use Rattle.std.proofs.Common.{◌≡◌, ℕ, zero, suc, ◌+◌, ◌-◌, ◌<◌, ◌≤◌, ◌⊎◌, inl, inr, List, [], ◌∷◌, length, get_or, Option, Some, None, sym, ap, ◌∙◌, subst, arith}
+use Rattle.std.proofs.Common.{◌≡◌, ℕ, zero, suc, ◌+◌, ◌-◌, ◌<◌, ◌≤◌, ◌⊎◌, inl, inr, List, [], ◌∷◌, length, get_or, Option, Some, None, sym, ap, ◌∙◌, subst}
+use Rattle.std.proofs.Common.{arith}
 use Rattle.std.specs.Prelude.{IfSome}
 use Rattle.std.proofs.lemmas.Option.{slice_get_within, same_Some}
 use Rattle.sot_lang.specs.declared.tables.NodeInfo.{NodeInfo}
@@ -11,7 +12,8 @@ use Rattle.sot_compose.specs.Outputs.{ArePartnersIn, Writes, AreRelated, AreAllR
 use Rattle.sot_compose.proofs.Strangers.{order}
 
 -- one scalar alone is of one topic
-pub only : (infos : List ScalarInfo) (scalars : List ℕ) (info : ScalarInfo) → length scalars ≡ 1 → At infos (get_or scalars 0 0) info → (u : ℕ) → AreSomeOf infos scalars u → u ≡ info.topic
+pub only : (infos : List ScalarInfo) (scalars : List ℕ) (info : ScalarInfo) → length scalars ≡ 1 → At infos (get_or scalars 0 0) info → (u : ℕ)
+    → AreSomeOf infos scalars u → u ≡ info.topic
 only infos [] info one at u some = absurd (omega (arith, one))
 only infos (x ∷ []) info one at u (k, (zero, at_k), (other, at_other, is)) =
     let same : x ≡ k = same_Some x k at_k in
@@ -21,12 +23,14 @@ only infos (x ∷ []) info one at u (k, (suc j, at_k), more) = cc
 only infos (x ∷ y ∷ xs) info one at u some = absurd (omega (arith, one))
 
 -- the topic of a node that was found
-pub lone_is : (p : Tables) (n : ℕ) (node : NodeInfo) → At p.nodes n node → (infos : List ScalarInfo) (scalars : List ℕ) → infos ≡ p.scalars → scalars ≡ node.writes.items
+pub lone_is : (p : Tables) (n : ℕ) (node : NodeInfo) → At p.nodes n node → (infos : List ScalarInfo) (scalars : List ℕ) → infos ≡ p.scalars
+    → scalars ≡ node.writes.items
     → (r : Option ℕ) → IfSome r (λ t. (u : ℕ) → AreSomeOf infos scalars u → u ≡ t) → IfSome r (λ t. (u : ℕ) → Writes p n u → u ≡ t)
 lone_is p n node at infos scalars same are None h = h
 lone_is p n node at infos scalars same are (Some t) h = λ u w.
     let is : w.0 ≡ node = same_Some w.0 node (sym w.1 ∙ at) in
-    h u (subst (λ l. AreSomeOf l scalars u) (sym same) (subst (λ l. AreSomeOf p.scalars l u) (sym are) (subst (λ (x : NodeInfo). AreSomeOf p.scalars x.writes.items u) is w.2)))
+    h u (subst (λ l. AreSomeOf l scalars u) (sym same) (subst (λ l. AreSomeOf p.scalars l u) (sym are)
+    (subst (λ (x : NodeInfo). AreSomeOf p.scalars x.writes.items u) is w.2)))
 
 -- the nodes before a place: all that they write is before next, and before behind but for the last of them, and those that share a topic are partners
 pub record AreBefore (p : Tables) (node behind next : ℕ) : Type 0 where
@@ -61,7 +65,8 @@ module _ (p : Tables) (node behind next topic : ℕ) (lone : (u : ℕ) → Write
   apart (inl le) = fresh le
   apart (inr (le, some, partners)) = second le some partners
 
-  pub one_more : ((next ≤ topic) ⊎ ((behind ≤ topic) × (0 < node) × ArePartnersIn p.modules (node - 1) node)) → (more : ℕ) → next ≤ more → topic + 1 ≤ more → AreBefore p (node + 1) next more
+  pub one_more : ((next ≤ topic) ⊎ ((behind ≤ topic) × (0 < node) × ArePartnersIn p.modules (node - 1) node)) → (more : ℕ) → next ≤ more → topic + 1 ≤ more
+      → AreBefore p (node + 1) next more
   one_more sort more above past = record {
     all = λ i t lt w. elim (order i node) [
       | inl less ↦ (let bound = before.all i t less w in omega (arith, above, bound))

@@ -11,7 +11,8 @@ use Rattle.sot_tube.specs.Verdict.{ShareOutput}
 use Rattle.sot_compose.specs.Outputs.{ArePartnersIn, Writes, AreRelated, AreAllRelated, IsFirstWriter}
 
 -- two nodes that write a topic, by whether they are partners
-pub shares : (p : Tables) (t n k : ℕ) (a b c : Bool) (ms : List ModuleInfo) → (IsTrue a ↔ Writes p n t) → (IsTrue b ↔ Writes p k t) → (IsTrue c ↔ ArePartnersIn ms n k) → ms ≡ p.modules
+pub shares : (p : Tables) (t n k : ℕ) (a b c : Bool) (ms : List ModuleInfo) → (IsTrue a ↔ Writes p n t) → (IsTrue b ↔ Writes p k t)
+    → (IsTrue c ↔ ArePartnersIn ms n k) → ms ≡ p.modules
     → a ≡ true → b ≡ true → not c ≡ true → ShareOutput p t n k
 shares p t n k a b false ms x y z same d e f =
     let one = x.0 (subst IsTrue (sym d) refl) in
@@ -19,7 +20,8 @@ shares p t n k a b false ms x y z same d e f =
     (one.0, other.0, one.1, other.1, one.2, other.2, λ partners. false≢true (z.1 (subst (λ l. ArePartnersIn l n k) (sym same) partners)))
 shares p t n k a b true ms x y z same d e f = absurd (false≢true f)
 
-pub related : (p : Tables) (t n k : ℕ) (c : Bool) (ms : List ModuleInfo) → (IsTrue c ↔ ArePartnersIn ms n k) → ms ≡ p.modules → not c ≡ false → AreRelated p t n k
+pub related : (p : Tables) (t n k : ℕ) (c : Bool) (ms : List ModuleInfo) → (IsTrue c ↔ ArePartnersIn ms n k) → ms ≡ p.modules → not c ≡ false
+    → AreRelated p t n k
 related p t n k false ms z same f i j at_i at_j w v = absurd (false≢true (sym f))
 related p t n k true ms z same f i j at_i at_j w v = subst (λ l. ArePartnersIn l n k) same (z.0 refl)
 
@@ -71,7 +73,8 @@ module _ (p : Tables) (t a b : ℕ) (first : IsFirstWriter p t 0 a) (second : Is
   two_write c ms iff same yes_ n k lt i j at_i at_j w v = elim (is_one n (i, at_i, w)) [
     | inl n_a ↦ elim (is_one k (j, at_j, v)) [
       | inl k_a ↦ absurd (omega (arith, lt, n_a, k_a))
-      | inr k_b ↦ subst (λ x. ArePartnersIn p.modules x k) (sym n_a) (subst (λ x. ArePartnersIn p.modules a x) (sym k_b) (subst (λ l. ArePartnersIn l a b) same (iff.0 (subst IsTrue (sym yes_) refl))))
+      | inr k_b ↦ subst (λ x. ArePartnersIn p.modules x k) (sym n_a)
+          (subst (λ x. ArePartnersIn p.modules a x) (sym k_b) (subst (λ l. ArePartnersIn l a b) same (iff.0 (subst IsTrue (sym yes_) refl))))
     ]
     | inr n_b ↦ elim (is_one k (j, at_j, v)) [
       | inl k_a ↦ absurd (omega (arith, lt, n_b, k_a, second.after))

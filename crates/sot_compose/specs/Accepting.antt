@@ -6,15 +6,10 @@ use Rattle.sot_tube.specs.Admitted.{Admitted}
 use Rattle.sot_tube.specs.Certified.{IsWellCertified}
 use Rattle.sot_tube.specs.Verdict.{verdict}
 use Rattle.sot_rta.specs.Refused.{refusal_view}
-use Rattle.sot_compose.specs.declared.fail.CheckFail.{CheckFail}
-use Rattle.sot_compose.specs.declared.fail.CheckFail.TheVariants.{Refused, Memory}
-
--- the first condition that fails; nothing takes memory
-abbrev pub Fails : Tables → Cert → CheckFail → Type 0
-Fails p cert (Refused r) = (verdict p cert.jitter cert).Refuses (refusal_view r)
-Fails p cert Memory = ⊥
+use Rattle.sot_rta.specs.declared.refusal.Refusal.{Refusal}
 
 -- this program with this certificate, which is well certified; or the first condition that fails
-abbrev pub Accepts : Tables → Cert → Result Admitted CheckFail → Type 0
-Accepts p cert (Ok accepted) = (accepted ≡ record { program = p; cert = cert }) × IsWellCertified p cert.jitter cert
-Accepts p cert (Err fail) = Fails p cert fail
+abbrev pub Accepts : Tables → Cert → Result Admitted Refusal → Type 0
+Accepts p cert (Ok accepted) =
+    (accepted ≡ record { program = p; cert = cert }) × IsWellCertified p cert.jitter cert
+Accepts p cert (Err r) = (verdict p cert.jitter cert).Refuses (refusal_view r)

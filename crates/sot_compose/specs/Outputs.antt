@@ -28,7 +28,9 @@ pub record IsFirstWriter (p : Tables) (t from k : ℕ) : Type 0 where
 
 -- if both nodes write topic t, they are the two nodes of a module
 abbrev pub AreRelated : Tables → ℕ → ℕ → ℕ → Type 0
-AreRelated p t n n' = (a b : NodeInfo) → At p.nodes n a → At p.nodes n' b → WritesTopic p a t → WritesTopic p b t → ArePartners p n n'
+AreRelated p t n n' =
+    (a b : NodeInfo) → At p.nodes n a → At p.nodes n' b → WritesTopic p a t → WritesTopic p b t
+    → ArePartners p n n'
 
 abbrev pub AreAllRelated : Tables → ℕ → Type 0
 AreAllRelated p t = (n n' : ℕ) → n < n' → AreRelated p t n n'

@@ -13,11 +13,13 @@ Uses Plant a x = a.plant ≡ x
 
 -- modules m and m' use it
 abbrev pub IsShared : Part → List ModuleInfo → ℕ → ℕ → ℕ → Type 0
-IsShared part ms x m m' = (a b : ModuleInfo) × At ms m a × At ms m' b × Uses part a x × Uses part b x
+IsShared part ms x m m' =
+    (a b : ModuleInfo) × At ms m a × At ms m' b × Uses part a x × Uses part b x
 
 -- no module of these places uses it
 abbrev pub IsUnused : Part → List ModuleInfo → ℕ → ℕ → ℕ → Type 0
-IsUnused part ms x from to = (m : ℕ) (a : ModuleInfo) → from ≤ m → m < to → At ms m a → Uses part a x → ⊥
+IsUnused part ms x from to =
+    (m : ℕ) (a : ModuleInfo) → from ≤ m → m < to → At ms m a → Uses part a x → ⊥
 
 -- the first module from a place on that uses it
 pub record IsFirstUser (part : Part) (ms : List ModuleInfo) (x from m : ℕ) : Type 0 where

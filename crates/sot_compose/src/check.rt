@@ -14,7 +14,6 @@ ghost use Rattle.sot_rta.specs.Refused.{Answers, refusal_view};
 ghost use Rattle.sot_compose.specs.Accepting.{Accepts};
 
 use crate::composition::check_composition;
-use crate::fail::CheckFail;
 use sot_iv::MayTrap;
 use sot_lang::{Cert, NodeInfo, Typed};
 use sot_rta::{Refusal, check_cells, check_shape, module_at, node_at};
@@ -28,6 +27,7 @@ fn shapes(p: &Typed, c: &Cert) -> Result<(), Refusal>
     ensures { Answers (for_each p.now.modules (shape p.now c.now)) result }
 {
     for module in 0..p.modules.len() as u32 {
+        // The proof speaks of the module that stands there.
         let _info = module_at(p, module);
         if let Err(refusal) = check_shape(p, module, c) {
             return Err(refusal);
@@ -64,7 +64,8 @@ fn code_of(p: &Typed, node: u32, info: &NodeInfo) -> Result<(), Refusal>
     }
 }
 
-/// Whether each coded node never traps, whatever it meets; else the first that may. Takes no memory.
+/// Whether each coded node never traps, whatever it meets; else the first that may. Takes no
+/// memory.
 pub fn check_codes(p: &Typed) -> Result<(), Refusal>
     requires rules { MeetsTableRules p.now }
     requires boxes { HaveSafeBoxes p.now }
@@ -85,6 +86,7 @@ fn cells<R: Threads + Sync>(rt: &R, p: &Typed, c: &Cert) -> Result<(), Refusal>
     ensures { Answers (for_each p.now.modules (cells_of p.now c.now.jitter c.now)) result }
 {
     for module in 0..p.modules.len() as u32 {
+        // The proof speaks of the module that stands there.
         let _info = module_at(p, module);
         if let Err(refusal) = check_cells(rt, p, module, c) {
             return Err(refusal);
@@ -110,19 +112,21 @@ fn checked<R: Threads + Sync>(rt: &R, p: &Typed, c: &Cert) -> Result<(), Refusal
     cells(rt, p, c)
 }
 
-/// Accepts a program with its certificate exactly where all fifteen conditions hold; else refuses it for the first one that fails,
-/// with its evidence. The order is: no shared node, no shared output, no shared plant, no foreign input; then per module an entry,
-/// short periods, outputs in common, regions that are not empty; then per coded node no trap; then per module its closed cells
-/// and its reach cells. `c` is a certificate of this program. Long lists of cells are checked by threads of `rt`; which condition is
-/// the first does not depend on them. Takes no memory.
+/// Accepts a program with its certificate exactly where all fifteen conditions hold; else refuses
+/// it for the first one that fails, with its evidence. The order is: no shared node, no shared
+/// output, no shared plant, no foreign input; then per module an entry, short periods, outputs in
+/// common, regions that are not empty; then per coded node no trap; then per module its closed
+/// cells and its reach cells. `c` is a certificate of this program. Long lists of cells are checked
+/// by threads of `rt`; which condition is the first does not depend on them. Takes no memory.
 ///
-/// Of an accepted program every run from plants in their safer regions is safe, with firings up to the certificate's jitter late:
-/// at each tick every module's plant is in the module's safe region, and no coded node traps.
+/// Of an accepted program every run from plants in their safer regions is safe, with firings up to
+/// the certificate's jitter late: at each tick every module's plant is in the module's safe region,
+/// and no coded node traps.
 pub fn check_all<'a, R: Threads + Sync>(
     rt: &R,
     p: &'a Typed,
     c: &'a Cert,
-) -> Result<Accepted<'a>, CheckFail>
+) -> Result<Accepted<'a>, Refusal>
     requires { FitsTables p.now c.now }
     ensures answer { Accepts p.now c.now result }
     ensures safe { IfOk result (λ _. EveryRunIsSafe p.now c.now.jitter) }
@@ -131,6 +135,6 @@ pub fn check_all<'a, R: Threads + Sync>(
     let _modules = p.modules.len();
     match checked(rt, p, c) {
         Ok(()) => Ok(Accepted::of(p, c)),
-        Err(refusal) => Err(CheckFail::Refused(refusal)),
+        Err(refusal) => Err(refusal),
     }
 }

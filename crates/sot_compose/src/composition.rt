@@ -4,7 +4,8 @@ ghost use Rattle.std.specs.Prelude.{◌≡◌, ◌<◌, length};
 ghost use Rattle.sot_lists.specs.Places.{At};
 ghost use Rattle.sot_lang.specs.TableRules.{MeetsTableRules};
 ghost use Rattle.sot_tube.specs.Checks.{for_each};
-ghost use Rattle.sot_tube.specs.Verdict.{shared_node, shared_output, shared_plant, foreign_input, composition};
+ghost use Rattle.sot_tube.specs.Verdict.{shared_node, shared_output, shared_plant, foreign_input};
+ghost use Rattle.sot_tube.specs.Verdict.{composition};
 ghost use Rattle.sot_rta.specs.Refused.{Answers};
 
 use crate::outputs::first_shared_output;
@@ -79,7 +80,8 @@ fn own_inputs(p: &Typed) -> Result<(), Refusal>
     Ok(())
 }
 
-/// Whether modules share no node, no output and no plant, and each commands its plant alone, in this order.
+/// Whether modules share no node, no output and no plant, and each commands its plant alone, in
+/// this order.
 pub fn check_composition(p: &Typed) -> Result<(), Refusal>
     requires { MeetsTableRules p.now }
     ensures { Answers (composition p.now) result }

@@ -1,4 +1,5 @@
-//! Nodes in an order that shows by one look at each of them that those which write a topic are partners.
+//! Nodes in an order that shows by one look at each of them that those which write a topic are
+//! partners.
 
 ghost use Rattle.std.specs.Prelude.{ℕ, ◌≡◌, ◌<◌, ◌≤◌, ◌⊎◌, ◌-◌, length, true, IfSome};
 ghost use Rattle.sot_lists.specs.Places.{Has};
@@ -31,7 +32,8 @@ fn lone_topic(p: &Typed, node: u32) -> Option<u32>
     only_topic(&p.scalars, &node_at(p, node).writes)
 }
 
-// Whether a node writes a topic behind those of all nodes before it, or one behind those of all but its partner just before it.
+// Whether a node writes a topic behind those of all nodes before it, or one behind those of all but
+// its partner just before it.
 fn is_apart(p: &Typed, node: u32, topic: u64, behind: u64, next: u64) -> bool
     ensures { result ≡ true → (next ≤ topic)
         ⊎ ((behind ≤ topic) × (0 < node) × ArePartnersIn p.now.modules (node - 1) node) }
@@ -52,8 +54,8 @@ fn greater(a: u64, b: u64) -> u64
     a.max(b)
 }
 
-/// Whether each node writes one scalar, of a topic behind those of the nodes before it but perhaps its partner just before it. Then
-/// nodes that share a topic are partners.
+/// Whether each node writes one scalar, of a topic behind those of the nodes before it but perhaps
+/// its partner just before it. Then nodes that share a topic are partners.
 pub fn are_in_order(p: &Typed) -> bool
     requires { MeetsTableRules p.now }
     ensures { result ≡ true → (t : ℕ) → AreAllRelated p.now t }

@@ -1,9 +1,12 @@
 //! Topics that two nodes write.
 
-ghost use Rattle.std.specs.Prelude.{ℕ, ◌≡◌, ◌<◌, ◌≤◌, length, true, false, IsTrue, ◌↔◌, MatchOption, IfSome};
+ghost use Rattle.std.specs.Prelude.{ℕ, ◌≡◌, ◌<◌, ◌≤◌, length, true, false, IsTrue, ◌↔◌};
+ghost use Rattle.std.specs.Prelude.{MatchOption, IfSome};
 ghost use Rattle.sot_lang.specs.TableRules.{MeetsTableRules};
 ghost use Rattle.sot_tube.specs.Verdict.{ShareOutput};
-ghost use Rattle.sot_compose.specs.Outputs.{ArePair, ArePartnersIn, Writes, AreRelated, AreAllRelated, IsStranger, AreFirstWriters, IsFirstWriter};
+ghost use Rattle.sot_compose.specs.Outputs.{ArePair, ArePartnersIn, Writes, AreRelated};
+ghost use Rattle.sot_compose.specs.Outputs.{AreAllRelated, IsStranger, AreFirstWriters};
+ghost use Rattle.sot_compose.specs.Outputs.{IsFirstWriter};
 
 use crate::clash::Clash;
 use crate::ordered::are_in_order;
@@ -90,7 +93,8 @@ fn first_writer(p: &Typed, topic: u32, from: u32) -> Option<u32>
     None
 }
 
-// Whether a topic has no writers but two partners, or but one. Then none of its writers are to be compared with others.
+// Whether a topic has no writers but two partners, or but one. Then none of its writers are to be
+// compared with others.
 fn are_few(p: &Typed, topic: u32) -> bool
     requires rules { MeetsTableRules p.now }
     ensures { result ≡ true → AreAllRelated p.now topic }
@@ -134,7 +138,8 @@ pub fn first_shared_output(p: &Typed) -> Option<Clash>
     requires rules { MeetsTableRules p.now }
     ensures first { MatchOption result
         ((t : ℕ) → t < length p.now.topics → AreAllRelated p.now t)
-        (λ c. AreFirstWriters p.now c.what c.a c.b × ((t : ℕ) → t < c.what → AreAllRelated p.now t)) }
+        (λ c. AreFirstWriters p.now c.what c.a c.b
+        × ((t : ℕ) → t < c.what → AreAllRelated p.now t)) }
     ensures within { IfSome result (λ c. c.what < length p.now.topics) }
 {
     if are_in_order(p) {

@@ -1,8 +1,10 @@
 //! Nodes and plants that two modules share.
 
-ghost use Rattle.std.specs.Prelude.{ℕ, ◌≡◌, true, ◌<◌, ◌≤◌, length, ◌^◌, IsTrue, ◌↔◌, MatchOption, IfSome};
+ghost use Rattle.std.specs.Prelude.{ℕ, ◌≡◌, true, ◌<◌, ◌≤◌, length, ◌^◌, IsTrue, ◌↔◌, MatchOption};
+ghost use Rattle.std.specs.Prelude.{IfSome};
 ghost use Rattle.sot_lists.specs.Places.{At};
-ghost use Rattle.sot_compose.specs.Parts.{Uses, IsUnused, IsFirstUser, IsOfOneModule, AreFirstUsers};
+ghost use Rattle.sot_compose.specs.Parts.{Uses, IsUnused, IsFirstUser, IsOfOneModule};
+ghost use Rattle.sot_compose.specs.Parts.{AreFirstUsers};
 
 use crate::clash::Clash;
 use sot_lang::ModuleInfo;
@@ -92,7 +94,8 @@ pub fn first_shared(part: Part, modules: &[ModuleInfo], count: u32) -> Option<Cl
     requires { length modules.now < 2 ^ 32 }
     ensures first { MatchOption result
         ((x : ℕ) → x < count → IsOfOneModule part modules.now x)
-        (λ c. AreFirstUsers part modules.now c.what c.a c.b × ((x : ℕ) → x < c.what → IsOfOneModule part modules.now x)) }
+        (λ c. AreFirstUsers part modules.now c.what c.a c.b
+        × ((x : ℕ) → x < c.what → IsOfOneModule part modules.now x)) }
     ensures within { IfSome result (λ c. c.what < count) }
 {
     if are_in_order(part, modules) {

@@ -5,7 +5,8 @@ use Rattle.sot_lists.proofs.Places.{drop_at}
 use Rattle.sot_report.specs.Pieces.{further, listed}
 
 -- what is written, and then what is left, stays the same
-pub one_more : {A : Type 0} (item : A → List ℕ) (xs : List A) (i : ℕ) (x : A) (before comma after : List ℕ) → At xs i x → comma ≡ before ++ codes ", " → after ≡ comma ++ item x
+pub one_more : {A : Type 0} (item : A → List ℕ) (xs : List A) (i : ℕ) (x : A) (before comma after : List ℕ) → At xs i x → comma ≡ before ++ codes ", "
+    → after ≡ comma ++ item x
     → after ++ further item (drop (i + 1) xs) ≡ before ++ further item (drop i xs)
 one_more item xs i x before comma after at opened more =
     let rest = further item (drop (i + 1) xs) in
@@ -15,7 +16,8 @@ one_more item xs i x before comma after at opened more =
     ∙ ap (λ ys. before ++ further item ys) (sym (drop_at xs i x at))
 
 -- the first item, the further ones, and a sign on either side
-pub enclosed : {A : Type 0} (item : A → List ℕ) (xs : List A) (x : A) (left right before opened first all after : List ℕ) → At xs 0 x → opened ≡ before ++ left → first ≡ opened ++ item x
+pub enclosed : {A : Type 0} (item : A → List ℕ) (xs : List A) (x : A) (left right before opened first all after : List ℕ) → At xs 0 x → opened ≡ before ++ left
+    → first ≡ opened ++ item x
     → all ≡ first ++ further item (drop 1 xs) → after ≡ all ++ right → after ≡ before ++ (left ++ (listed item xs ++ right))
 enclosed item xs x left right before opened first all after at is_opened is_first is_all is_after =
     let rest = further item (drop 1 xs) in

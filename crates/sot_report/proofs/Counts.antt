@@ -1,5 +1,6 @@
 -- The cells of a certificate are few.
-use Rattle.std.proofs.Common.{◌≡◌, ℕ, suc, ◌+◌, ◌*◌, ◌<◌, ◌≤◌, Option, None, Some, List, [], ◌∷◌, length, drop, drop-cons, add-one, get_or, refl, sym, ap, ap₂, ◌∙◌, arith}
+use Rattle.std.proofs.Common.{◌≡◌, ℕ, suc, ◌+◌, ◌*◌, ◌<◌, ◌≤◌, Option, None, Some, List, [], ◌∷◌, length, drop, drop-cons, add-one, get_or, refl, sym, ap, ap₂}
+use Rattle.std.proofs.Common.{◌∙◌, arith}
 use Rattle.std.proofs.lemmas.Option.{slice_get_within}
 use Rattle.sot_lists.proofs.Places.{at_below}
 use Rattle.sot_lang.specs.declared.cert.Cells.{Cells}
@@ -27,7 +28,8 @@ few_cells [] few = omega arith
 few_cells (x ∷ xs) few = (let here = few 0 x refl in let rest = few_cells xs (few_rest x xs few) in omega (arith, here, rest))
 
 -- one more entry does not make too many
-pub few_so_far : (xs : List (Option Cells)) (i count : ℕ) (x : Option Cells) → AreFew xs → length xs ≤ 100 → i < length xs → x ≡ get_or xs i x → count + cell_count (drop i xs) ≡ cell_count xs
+pub few_so_far : (xs : List (Option Cells)) (i count : ℕ) (x : Option Cells) → AreFew xs → length xs ≤ 100 → i < length xs → x ≡ get_or xs i x
+    → count + cell_count (drop i xs) ≡ cell_count xs
     → count + entry_count x ≤ 819200
 few_so_far xs i count x few short lt is counted =
     let next : drop i xs ≡ x ∷ drop (i + 1) xs = drop-cons xs i x lt ∙ ap₂ (λ y n. y ∷ drop n xs) (sym is) (sym (add-one i)) in

@@ -10,8 +10,10 @@ use Rattle.sot_text.specs.LineEnds.{lines}
 use Rattle.sot_sections.proofs.SectionLaws.{sections_are_the_text}
 
 -- parts that are those of a text have its program
-program_of : (front c : List ℕ) (f t : Option (List ℕ)) (parts : Parts) → ◌≡◌ {A = Option Parts} (Some (record { program = front; cert = c; flight = f; trace = t })) (Some parts) → front ≡ parts.program
-program_of front c f t parts e = (let whole : Parts = record { program = front; cert = c; flight = f; trace = t } in let same : whole ≡ parts = cc in ap (λ (p : Parts). p.program) same)
+program_of : (front c : List ℕ) (f t : Option (List ℕ)) (parts : Parts)
+    → ◌≡◌ {A = Option Parts} (Some (record { program = front; cert = c; flight = f; trace = t })) (Some parts) → front ≡ parts.program
+program_of front c f t parts e =
+    (let whole : Parts = record { program = front; cert = c; flight = f; trace = t } in let same : whole ≡ parts = cc in ap (λ (p : Parts). p.program) same)
 
 -- what is needed of a text stands behind the program, which is what stands before the first section line
 front_of : (need : Need) (front : List ℕ) (c f t : Option (List ℕ)) (parts : Parts) → needed need front c f t ≡ Some parts → front ≡ parts.program
@@ -34,7 +36,8 @@ pub program_within : (need : Need) (bytes : List ℕ) (parts : Parts) → split_
 program_within need bytes parts split =
     let d : Division = division 1 (lines bytes) in
     let sections : List Section = d.sections in
-    let found = found_of (fault_behind 0 sections) (suc (length (lines bytes))) (needed need d.front (body_of 1 sections) (body_of 2 sections) (body_of 3 sections)) parts split in
+    let found = found_of (fault_behind 0 sections) (suc (length (lines bytes)))
+    (needed need d.front (body_of 1 sections) (body_of 2 sections) (body_of 3 sections)) parts split in
     let is = ap length (front_of need d.front (body_of 1 sections) (body_of 2 sections) (body_of 3 sections) parts found) in
     let whole = ap length (sections_are_the_text bytes) in
     omega (arith, is, whole, length-append d.front (flat_map (λ (s : Section). s.mark ++ s.body) sections))

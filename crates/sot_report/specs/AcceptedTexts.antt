@@ -18,8 +18,12 @@ cell_count (x ∷ xs) = entry_count x + cell_count xs
 
 -- `accepted`, and a line of counts: `modules M nodes N cells C`
 abbrev pub counts_text : ℕ → ℕ → ℕ → List ℕ
-counts_text modules nodes cells = line (codes "accepted") ++ (codes "modules " ++ (decimal modules ++ (codes " nodes " ++ (decimal nodes ++ (codes " cells " ++ line (decimal cells))))))
+counts_text modules nodes cells =
+    line (codes "accepted") ++ (codes "modules "
+    ++ (decimal modules ++ (codes " nodes "
+    ++ (decimal nodes ++ (codes " cells " ++ line (decimal cells))))))
 
 -- what is said of a program's tables with a certificate
 abbrev pub accepted_text : Tables → Cert → List ℕ
-accepted_text t cert = counts_text (length t.modules) (length t.nodes) (cell_count cert.modules.items)
+accepted_text t cert =
+    counts_text (length t.modules) (length t.nodes) (cell_count cert.modules.items)

@@ -25,12 +25,15 @@ section_word sections.Missing = codes "Missing"
 
 -- `fault section line L KIND`; lines count from 1
 abbrev pub section_text : SectionFault → List ℕ
-section_text fault = codes "fault section line " ++ (decimal fault.line ++ (codes " " ++ line (section_word fault.kind)))
+section_text fault =
+    codes "fault section line " ++ (decimal fault.line
+    ++ (codes " " ++ line (section_word fault.kind)))
 
 -- `fault SORT line L column C KIND`; lines and columns count from 1
 abbrev pub placed_text : List ℕ → Span → List ℕ → List ℕ
 placed_text sort at kind =
-    line (codes "fault " ++ (sort ++ (codes " line " ++ (decimal at.line ++ (codes " column " ++ (decimal at.column ++ (codes " " ++ kind)))))))
+    line (codes "fault " ++ (sort ++ (codes " line "
+    ++ (decimal at.line ++ (codes " column " ++ (decimal at.column ++ (codes " " ++ kind)))))))
 
 abbrev pub syntax_text : Syntax → List ℕ
 syntax_text (Lex (BadByte at)) = placed_text (codes "syntax") at (codes "BadByte")
@@ -81,7 +84,9 @@ path_text (b ∷ bs) = b ∷ bs
 
 -- `fault SECTION PATH KIND`
 abbrev pub json_text : List ℕ → JsonFault → List ℕ
-json_text section fault = codes "fault " ++ (section ++ (codes " " ++ (path_text fault.path ++ (codes " " ++ line (json_word fault.kind)))))
+json_text section fault =
+    codes "fault " ++ (section ++ (codes " "
+    ++ (path_text fault.path ++ (codes " " ++ line (json_word fault.kind)))))
 
 abbrev pub fault_text : Fault → List ℕ
 fault_text (faults.Section fault) = section_text fault

@@ -17,7 +17,8 @@ use Rattle.sot_report.specs.declared.fault.Fault.TheVariants as faults
 use Rattle.sot_report.specs.declared.fault.LoadFail.{LoadFail}
 use Rattle.sot_report.specs.declared.fault.LoadFail.TheVariants as fails
 use Rattle.sot_report.specs.declared.loading.Loaded.{Loaded}
-use Rattle.sot_report.specs.Missions.{Mission, SpellsNone, Resolves, SaysFlight, SpellsTables, FaultsFlight, SpellsMission}
+use Rattle.sot_report.specs.Missions.{Mission, SpellsNone, Resolves, SaysFlight, SpellsTables}
+use Rattle.sot_report.specs.Missions.{FaultsFlight, SpellsMission}
 
 -- a fault is what P says; want of memory may come at any time
 abbrev pub IfFault : LoadFail → (Fault → Type 0) → Type 0
@@ -59,15 +60,18 @@ FailsTables t parts guests (faults.Section fault) = ⊥
 FailsTables t parts guests (faults.Syntax fault) = ⊥
 FailsTables t parts guests (faults.Typing fault) = ⊥
 FailsTables t parts guests (faults.Cert fault) = cert_of t parts.cert ≡ Err fault
-FailsTables t parts guests (faults.Flight fault) = ((c : Contents) × (cert_of t parts.cert ≡ Ok c)) × FaultsFlight t guests parts.flight fault
+FailsTables t parts guests (faults.Flight fault) =
+    ((c : Contents) × (cert_of t parts.cert ≡ Ok c)) × FaultsFlight t guests parts.flight fault
 
 -- the program breaks a rule of typing, or a section says nothing of its tables
 abbrev pub FailsTree : Program → Parts → ℕ → Fault → Type 0
 FailsTree p parts guests (faults.Section fault) = ⊥
 FailsTree p parts guests (faults.Syntax fault) = ⊥
 FailsTree p parts guests (faults.Typing fault) = IsFirstFault p fault
-FailsTree p parts guests (faults.Cert fault) = (t : Tables) × Resolves p t × FailsTables t parts guests (faults.Cert fault)
-FailsTree p parts guests (faults.Flight fault) = (t : Tables) × Resolves p t × FailsTables t parts guests (faults.Flight fault)
+FailsTree p parts guests (faults.Cert fault) =
+    (t : Tables) × Resolves p t × FailsTables t parts guests (faults.Cert fault)
+FailsTree p parts guests (faults.Flight fault) =
+    (t : Tables) × Resolves p t × FailsTables t parts guests (faults.Flight fault)
 
 -- the same of the program that a text spells
 abbrev pub LoadsText : Parts → ℕ → Loaded → Type 0
@@ -75,14 +79,27 @@ LoadsText parts guests l = (p : Program) × Spells parts.program 0 p × LoadsTre
 
 abbrev pub FailsText : Parts → ℕ → Fault → Type 0
 FailsText parts guests (faults.Section fault) = ⊥
-FailsText parts guests (faults.Syntax fault) = SpellsNone parts.program × IsFaultOf parts.program (ahead_from parts.program 0) fault
-FailsText parts guests (faults.Typing fault) = (p : Program) × Spells parts.program 0 p × IsFirstFault p fault
-FailsText parts guests (faults.Cert fault) = (p : Program) × (t : Tables) × SpellsTables parts p t × FailsTables t parts guests (faults.Cert fault)
-FailsText parts guests (faults.Flight fault) = (p : Program) × (t : Tables) × SpellsTables parts p t × FailsTables t parts guests (faults.Flight fault)
+FailsText parts guests (faults.Syntax fault) =
+    SpellsNone parts.program × IsFaultOf parts.program (ahead_from parts.program 0) fault
+FailsText parts guests (faults.Typing fault) =
+    (p : Program) × Spells parts.program 0 p × IsFirstFault p fault
+FailsText parts guests (faults.Cert fault) =
+    (p : Program) × (t : Tables) × SpellsTables parts p t
+    × FailsTables t parts guests (faults.Cert fault)
+FailsText parts guests (faults.Flight fault) =
+    (p : Program) × (t : Tables) × SpellsTables parts p t
+    × FailsTables t parts guests (faults.Flight fault)
 
 -- what was loaded, as a mission of this program
 abbrev pub mission_of : Program → Loaded → Mission
-mission_of p l = record { program = p; tables = l.program; cert = l.cert; flight = l.flight; trace = option_map (λ b. b.now) l.trace }
+mission_of p l =
+    record {
+      program = p;
+      tables = l.program;
+      cert = l.cert;
+      flight = l.flight;
+      trace = option_map (λ b. b.now) l.trace;
+    }
 
 -- a mission was loaded
 pub record LoadsMission (need : Need) (guests : ℕ) (bytes : List ℕ) (l : Loaded) : Type 0 where

@@ -1,4 +1,5 @@
--- What the bytes of a mission spell: a program with its tables, a certificate, and what else a command needs, or a first fault.
+-- What the bytes of a mission spell: a program with its tables, a certificate, and what else a
+-- command needs, or a first fault.
 use Rattle.std.specs.Prelude.{◌≡◌, ℕ, List, Option, Some, None, Ok, Err}
 use Rattle.sot_sections.specs.declared.mission.Need.{Need}
 use Rattle.sot_sections.specs.Sections.{Parts, split_of}
@@ -34,7 +35,8 @@ pub record Resolves (p : Program) (t : Tables) : Type 0 where
   pub tables : AreTables p t
   pub rules : MeetsTableRules t
 
--- a mission: a program's tree, its tables, a certificate, and, where they are needed, a flight and the lines of a trace
+-- a mission: a program's tree, its tables, a certificate, and, where they are needed, a flight and
+-- the lines of a trace
 pub record Mission : Type 0 where
   pub program : Program
   pub tables : Tables
@@ -42,15 +44,18 @@ pub record Mission : Type 0 where
   pub flight : Option Plan
   pub trace : Option (List ℕ)
 
--- a section says this flight of the program, with so many guests, and the flight fits the tables; no section says none
+-- a section says this flight of the program, with so many guests, and the flight fits the tables;
+-- no section says none
 abbrev pub SaysFlight : Tables → ℕ → Option (List ℕ) → Option Plan → Type 0
 SaysFlight t guests None None = Unit {0}
 SaysFlight t guests None (Some f) = ⊥
 SaysFlight t guests (Some section) None = ⊥
-SaysFlight t guests (Some section) (Some f) = (flight_of t guests section ≡ Ok f) × FitsFlight t guests f
+SaysFlight t guests (Some section) (Some f) =
+    (flight_of t guests section ≡ Ok f) × FitsFlight t guests f
 
--- the bytes spell this mission: the sections that the command needs are there; the first is the text of the program, which breaks no
--- rule of typing; the second says the certificate, which fits the tables; and the others are the flight and the trace
+-- the bytes spell this mission: the sections that the command needs are there; the first is the
+-- text of the program, which breaks no rule of typing; the second says the certificate, which fits
+-- the tables; and the others are the flight and the trace
 pub record SpellsMission (need : Need) (guests : ℕ) (bytes : List ℕ) (m : Mission) : Type 0 where
   pub parts : Parts
   pub divided : HasParts need bytes parts
@@ -70,13 +75,20 @@ abbrev pub FaultsFlight : Tables → ℕ → Option (List ℕ) → JsonFault →
 FaultsFlight t guests None fault = ⊥
 FaultsFlight t guests (Some section) fault = flight_of t guests section ≡ Err fault
 
--- the first fault of the bytes: of the sections, else of syntax, else of typing, else of the certificate, else of the flight
+-- the first fault of the bytes: of the sections, else of syntax, else of typing, else of the
+-- certificate, else of the flight
 abbrev pub HasFault : Need → ℕ → List ℕ → Fault → Type 0
 HasFault need guests bytes (faults.Section fault) = split_of bytes need ≡ Err fault
-HasFault need guests bytes (faults.Syntax fault) = (parts : Parts) × HasParts need bytes parts × SpellsNone parts.program × IsFaultOf parts.program (ahead_from parts.program 0) fault
-HasFault need guests bytes (faults.Typing fault) = (parts : Parts) × HasParts need bytes parts × ((p : Program) × Spells parts.program 0 p × IsFirstFault p fault)
+HasFault need guests bytes (faults.Syntax fault) =
+    (parts : Parts) × HasParts need bytes parts × SpellsNone parts.program
+    × IsFaultOf parts.program (ahead_from parts.program 0) fault
+HasFault need guests bytes (faults.Typing fault) =
+    (parts : Parts) × HasParts need bytes parts
+    × ((p : Program) × Spells parts.program 0 p × IsFirstFault p fault)
 HasFault need guests bytes (faults.Cert fault) =
-    (parts : Parts) × HasParts need bytes parts × ((p : Program) × (t : Tables) × SpellsTables parts p t × (cert_of t parts.cert ≡ Err fault))
+    (parts : Parts) × HasParts need bytes parts
+    × ((p : Program) × (t : Tables) × SpellsTables parts p t × (cert_of t parts.cert ≡ Err fault))
 HasFault need guests bytes (faults.Flight fault) =
     (parts : Parts) × HasParts need bytes parts
-    × ((p : Program) × (t : Tables) × SpellsTables parts p t × ((c : Contents) × (cert_of t parts.cert ≡ Ok c)) × FaultsFlight t guests parts.flight fault)
+    × ((p : Program) × (t : Tables) × SpellsTables parts p t
+    × ((c : Contents) × (cert_of t parts.cert ≡ Ok c)) × FaultsFlight t guests parts.flight fault)

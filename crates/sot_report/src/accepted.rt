@@ -4,7 +4,8 @@ ghost use Rattle.std.specs.Prelude.{◌≡◌, ◌≤◌, length, IfOk};
 ghost use Rattle.std.specs.String.{string_bytes};
 ghost use Rattle.sot_lang.specs.CertRules.{FitsTables};
 ghost use Rattle.sot_report.specs.Counts.{AreFew};
-ghost use Rattle.sot_report.specs.AcceptedTexts.{entry_count, cell_count, counts_text, accepted_text};
+ghost use Rattle.sot_report.specs.AcceptedTexts.{entry_count, cell_count, counts_text};
+ghost use Rattle.sot_report.specs.AcceptedTexts.{accepted_text};
 
 use sot_lang::{Cells, Cert, Typed};
 use std::alloc::{AllocError, Global};

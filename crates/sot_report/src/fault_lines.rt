@@ -2,7 +2,9 @@
 
 ghost use Rattle.std.specs.Prelude.{◌≡◌, IfOk};
 ghost use Rattle.std.specs.String.{string_bytes};
-ghost use Rattle.sot_report.specs.FaultTexts.{section_word, rule_word, json_word, path_text, placed_text, section_text, syntax_text, type_text, json_text, fault_text};
+ghost use Rattle.sot_report.specs.FaultTexts.{section_word, rule_word, json_word, path_text};
+ghost use Rattle.sot_report.specs.FaultTexts.{placed_text, section_text, syntax_text, type_text};
+ghost use Rattle.sot_report.specs.FaultTexts.{json_text, fault_text};
 
 use crate::fault::Fault;
 use sot_json::{JsonFault, JsonKind, Path};

@@ -1,9 +1,10 @@
 //! What the bytes of a mission spell, and what is said of it.
 //!
-//! [`load`] gives what the bytes spell and a command needs: the program's tables, the certificate, the flight and the bytes of the
-//! trace; or their first fault: of the sections, else of syntax, else of typing, else of the certificate, else of the flight.
-//! [`fault_text`], [`refusal_text`], [`start_text`] and [`accepted_text`] are the texts of answers, each a line or two.
-//! [`put`], [`put_module`] and [`put_point`] put pieces of such lines behind what stands there already.
+//! [`load`] gives what the bytes spell and a command needs: the program's tables, the certificate,
+//! the flight and the bytes of the trace; or their first fault: of the sections, else of syntax,
+//! else of typing, else of the certificate, else of the flight. [`fault_text`], [`refusal_text`],
+//! [`start_text`] and [`accepted_text`] are the texts of answers, each a line or two. [`put`],
+//! [`put_module`] and [`put_point`] put pieces of such lines behind what stands there already.
 #![tactic(auto)]
 
 mod accepted;

@@ -9,7 +9,8 @@ ghost use Rattle.sot_tree.specs.Trees.{Program as Tree};
 ghost use Rattle.sot_lang.specs.CertRules.{FitsTables};
 ghost use Rattle.sot_flight.specs.Fits.{FitsFlight};
 ghost use Rattle.sot_report.specs.Missions.{Resolves, SaysFlight, HasFault};
-ghost use Rattle.sot_report.specs.Loads.{IfFault, SaysCert, FailsCert, FailsFlight, FailsTables, LoadsTree, FailsTree, LoadsText, FailsText, LoadsMission};
+ghost use Rattle.sot_report.specs.Loads.{IfFault, SaysCert, FailsCert, FailsFlight, FailsTables};
+ghost use Rattle.sot_report.specs.Loads.{LoadsTree, FailsTree, LoadsText, FailsText, LoadsMission};
 
 use crate::fault::{Fault, LoadFail};
 use sot_cert::{CertFail, read_cert};
@@ -24,8 +25,8 @@ use sot_tree::Program;
 use sot_typing::resolve;
 use std::alloc::Global;
 
-/// A mission: the tables of its program, its certificate, which fits them, and, where the command needs them, its flight and the
-/// bytes of its trace.
+/// A mission: the tables of its program, its certificate, which fits them, and, where the command
+/// needs them, its flight and the bytes of its trace.
 pub struct Loaded<'t> {
     pub program: Typed,
     pub cert: Cert,
@@ -65,9 +66,11 @@ fn load_flight(
     guests: u32,
     section: Option<&[u8]>,
 ) -> Result<Option<Flight>, LoadFail>
-    ensures ok { IfOk result (λ f. SaysFlight p.now guests (option_map (λ b. b.now) section.entry) f) }
+    ensures ok { IfOk result (λ f. SaysFlight p.now guests (option_map (λ b. b.now) section.entry)
+        f) }
     ensures flight_fits { IfOk result (λ f. IfSome f (λ x. FitsFlight p.now guests x)) }
-    ensures fault { IfErr result (λ e. IfFault e (FailsFlight p.now guests (option_map (λ b. b.now) section.entry))) }
+    ensures fault { IfErr result (λ e.
+        IfFault e (FailsFlight p.now guests (option_map (λ b. b.now) section.entry))) }
 {
     let Some(bytes) = section else {
         return Ok(None);
@@ -99,9 +102,11 @@ fn load_tables<'t>(
     guests: u32,
     process: Process,
 ) -> Result<Loaded<'t>, LoadFail>
-    ensures ok { IfOk result (λ l. (p : Tree) → Resolves p program → LoadsTree p (parts_of sections.entry) guests l) }
+    ensures ok { IfOk result (λ l. (p : Tree) → Resolves p program
+        → LoadsTree p (parts_of sections.entry) guests l) }
     ensures flight_fits { IfOk result (λ l. IfSome l.flight (λ f. FitsFlight l.program guests f)) }
-    ensures fault { IfErr result (λ e. IfFault e (FailsTables program (parts_of sections.entry) guests)) }
+    ensures fault { IfErr result (λ e.
+        IfFault e (FailsTables program (parts_of sections.entry) guests)) }
 {
     let cert = load_cert(alloc, &program, sections.cert, process)?;
     let flight = load_flight(alloc, &program, guests, sections.flight)?;
@@ -122,9 +127,11 @@ fn load_tree<'t>(
     process: Process,
 ) -> Result<Loaded<'t>, LoadFail>
     requires formed { IsFormed (program_view program.now) }
-    ensures ok { IfOk result (λ l. LoadsTree (program_view program.now) (parts_of sections.entry) guests l) }
+    ensures ok { IfOk result (λ l. LoadsTree (program_view program.now) (parts_of sections.entry)
+        guests l) }
     ensures flight_fits { IfOk result (λ l. IfSome l.flight (λ f. FitsFlight l.program guests f)) }
-    ensures fault { IfErr result (λ e. IfFault e (FailsTree (program_view program.now) (parts_of sections.entry) guests)) }
+    ensures fault { IfErr result (λ e.
+        IfFault e (FailsTree (program_view program.now) (parts_of sections.entry) guests)) }
 {
     match resolve(alloc, program) {
         Ok(typed) => load_tables(alloc, typed, sections, guests, process),
@@ -156,10 +163,11 @@ fn load_text<'t>(
     }
 }
 
-/// The mission that the bytes spell, with all that a command needs: its program and its certificate, to fly its flight too, and to
-/// replay the bytes of its trace as well. `guests` is how many controllers were handed in. What was read on the way is let go,
-/// unless the process ends. Else the first fault: of the sections,
-/// else of syntax, else of typing, else of the certificate, else of the flight. The bytes are fewer than 2^32 - 1.
+/// The mission that the bytes spell, with all that a command needs: its program and its
+/// certificate, to fly its flight too, and to replay the bytes of its trace as well. `guests` is
+/// how many controllers were handed in. What was read on the way is let go, unless the process
+/// ends. Else the first fault: of the sections, else of syntax, else of typing, else of the
+/// certificate, else of the flight. The bytes are fewer than 2^32 - 1.
 pub fn load<'t>(
     alloc: Global,
     bytes: &'t [u8],

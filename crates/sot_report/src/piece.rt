@@ -2,7 +2,9 @@
 
 ghost use Rattle.std.specs.Prelude.{◌≡◌, ◌++◌, drop, OnOk};
 ghost use Rattle.std.specs.Fmt.{decimal, signed_decimal};
-ghost use Rattle.sot_report.specs.Pieces.{module_name, node_name, topic_name, plant_name, further, listed, side_text, point_text, box_text, place_text, ends_text, trap_word};
+ghost use Rattle.sot_report.specs.Pieces.{module_name, node_name, topic_name, plant_name, further};
+ghost use Rattle.sot_report.specs.Pieces.{listed, side_text, point_text, box_text, place_text};
+ghost use Rattle.sot_report.specs.Pieces.{ends_text, trap_word};
 
 use sot_box::{BoxN, Interval, Point};
 use sot_lang::{TrapKind, Typed};
@@ -94,7 +96,8 @@ fn put_further_coordinates(
     text: &mut Vec<u8>,
     point: &Point,
 ) -> Result<(), AllocError>
-    ensures { OnOk result (text.new.items ≡ text.old.items ++ further signed_decimal (drop 1 point.now)) }
+    ensures { OnOk result (text.new.items
+        ≡ text.old.items ++ further signed_decimal (drop 1 point.now)) }
 {
     for i in 1..point.len() {
         put(text, ", ")?;

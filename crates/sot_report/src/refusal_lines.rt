@@ -2,7 +2,9 @@
 
 ghost use Rattle.std.specs.Prelude.{◌≡◌, ◌++◌, OnOk, IfOk};
 ghost use Rattle.sot_rta.specs.Refused.{refusal_view};
-ghost use Rattle.sot_report.specs.RefusalTexts.{region_word, of_module, cell_text, node_line, topic_line, gap_line, leaves_line, trap_line, code_text, refusal_text, start_text};
+ghost use Rattle.sot_report.specs.RefusalTexts.{region_word, of_module, cell_text, node_line};
+ghost use Rattle.sot_report.specs.RefusalTexts.{topic_line, gap_line, leaves_line, trap_line};
+ghost use Rattle.sot_report.specs.RefusalTexts.{code_text, refusal_text, start_text};
 
 use crate::piece::{
     put, put_box, put_count, put_ends, put_module, put_node, put_place, put_plant, put_point,
@@ -27,7 +29,8 @@ fn put_condition(
     condition: &str,
     module: u32,
 ) -> Result<(), AllocError>
-    ensures { OnOk result (text.new.items ≡ text.old.items ++ of_module condition.now p.now «module») }
+    ensures { OnOk result (text.new.items
+        ≡ text.old.items ++ of_module condition.now p.now «module») }
 {
     put(text, "refused ")?;
     put(text, condition)?;
@@ -107,7 +110,8 @@ fn leaves_line(
     area: &BoxN,
     point: &Point,
 ) -> Result<Vec<u8>, AllocError>
-    ensures { IfOk result (λ text. text.items ≡ leaves_line condition.now p.now «module» cell tick area.now point.now) }
+    ensures { IfOk result (λ text. text.items
+        ≡ leaves_line condition.now p.now «module» cell tick area.now point.now) }
 {
     let mut text = Vec::new(alloc);
     put_condition(&mut text, p, condition, module)?;
@@ -129,7 +133,8 @@ fn trap_line(
     tick: u32,
     at: Span,
 ) -> Result<Vec<u8>, AllocError>
-    ensures { IfOk result (λ text. text.items ≡ trap_line condition.now p.now «module» cell tick at) }
+    ensures { IfOk result (λ text.
+        text.items ≡ trap_line condition.now p.now «module» cell tick at) }
 {
     let mut text = Vec::new(alloc);
     put_condition(&mut text, p, condition, module)?;
@@ -140,7 +145,8 @@ fn trap_line(
 }
 
 fn region_line(alloc: Global, p: &Typed, module: u32, safer: bool) -> Result<Vec<u8>, AllocError>
-    ensures { IfOk result (λ text. text.items ≡ refusal_text p.now (refusal_view (Refusal.EmptyRegion «module» safer))) }
+    ensures { IfOk result (λ text. text.items
+        ≡ refusal_text p.now (refusal_view (Refusal.EmptyRegion «module» safer))) }
 {
     let mut text = Vec::new(alloc);
     put_condition(&mut text, p, "3 EmptyRegion", module)?;
@@ -157,7 +163,8 @@ fn shared_node_line(
     a: u32,
     b: u32,
 ) -> Result<Vec<u8>, AllocError>
-    ensures { IfOk result (λ text. text.items ≡ refusal_text p.now (refusal_view (Refusal.SharedNode node a b))) }
+    ensures { IfOk result (λ text. text.items
+        ≡ refusal_text p.now (refusal_view (Refusal.SharedNode node a b))) }
 {
     let mut text = Vec::new(alloc);
     put(&mut text, "refused 10 SharedNode node ")?;
@@ -177,7 +184,8 @@ fn shared_output_line(
     a: u32,
     b: u32,
 ) -> Result<Vec<u8>, AllocError>
-    ensures { IfOk result (λ text. text.items ≡ refusal_text p.now (refusal_view (Refusal.SharedOutput topic a b))) }
+    ensures { IfOk result (λ text. text.items
+        ≡ refusal_text p.now (refusal_view (Refusal.SharedOutput topic a b))) }
 {
     let mut text = Vec::new(alloc);
     put(&mut text, "refused 11 SharedOutput topic ")?;
@@ -197,7 +205,8 @@ fn shared_plant_line(
     a: u32,
     b: u32,
 ) -> Result<Vec<u8>, AllocError>
-    ensures { IfOk result (λ text. text.items ≡ refusal_text p.now (refusal_view (Refusal.SharedPlant plant a b))) }
+    ensures { IfOk result (λ text. text.items
+        ≡ refusal_text p.now (refusal_view (Refusal.SharedPlant plant a b))) }
 {
     let mut text = Vec::new(alloc);
     put(&mut text, "refused 12 SharedPlant plant ")?;
@@ -235,7 +244,8 @@ fn code_line(
     lo: i128,
     hi: i128,
 ) -> Result<Vec<u8>, AllocError>
-    ensures { IfOk result (λ text. text.items ≡ refusal_text p.now (refusal_view (Refusal.CodeMayTrap node at kind lo hi))) }
+    ensures { IfOk result (λ text. text.items
+        ≡ refusal_text p.now (refusal_view (Refusal.CodeMayTrap node at kind lo hi))) }
 {
     let mut text = Vec::new(alloc);
     put_code(alloc, &mut text, p, node, at)?;
@@ -247,7 +257,8 @@ fn code_line(
 }
 
 fn entry_line(alloc: Global, p: &Typed, module: u32) -> Result<Vec<u8>, AllocError>
-    ensures { IfOk result (λ text. text.items ≡ refusal_text p.now (refusal_view (Refusal.NoCells «module»))) }
+    ensures { IfOk result (λ text. text.items
+        ≡ refusal_text p.now (refusal_view (Refusal.NoCells «module»))) }
 {
     let mut text = Vec::new(alloc);
     put_condition(&mut text, p, "15 NoCells", module)?;
@@ -255,8 +266,9 @@ fn entry_line(alloc: Global, p: &Typed, module: u32) -> Result<Vec<u8>, AllocErr
     Ok(text)
 }
 
-/// The line of a refusal: `refused`, the number and the name of the condition that fails, and its evidence, with things of the
-/// program by their names. Numbers are mantissas at the scales of the plant's state variables.
+/// The line of a refusal: `refused`, the number and the name of the condition that fails, and its
+/// evidence, with things of the program by their names. Numbers are mantissas at the scales of the
+/// plant's state variables.
 pub fn refusal_text(alloc: Global, p: &Typed, refusal: &Refusal) -> Result<Vec<u8>, AllocError>
     ensures { IfOk result (λ text. text.items ≡ refusal_text p.now (refusal_view refusal.now)) }
 {
@@ -318,7 +330,8 @@ pub fn refusal_text(alloc: Global, p: &Typed, refusal: &Refusal) -> Result<Vec<u
     }
 }
 
-/// The line of a flight that is refused, since this module's plant starts at a point outside the module's safer region.
+/// The line of a flight that is refused, since this module's plant starts at a point outside the
+/// module's safer region.
 pub fn start_text(alloc: Global, p: &Typed, module: u32, at: &Point) -> Result<Vec<u8>, AllocError>
     ensures { IfOk result (λ text. text.items ≡ start_text p.now «module» at.now) }
 {

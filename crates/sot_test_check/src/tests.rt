@@ -8,8 +8,7 @@ mod shapes;
 mod ticks;
 mod traps;
 
-use sot_commands::soter;
-use sot_node_worker::Controller;
+use sot_commands::{Controller, soter};
 use sot_ports::{MemSink, Process, PureSource};
 use std::alloc::{AllocError, Global};
 use std::process::Abort;

@@ -9,8 +9,7 @@ mod places;
 mod replay;
 mod soak;
 
-use sot_commands::{Status, soter};
-use sot_node_worker::Controller;
+use sot_commands::{Controller, Status, soter};
 use sot_ports::{MemSink, Process, PureSource, Sink, Source};
 use std::alloc::{AllocError, Global};
 use std::process::Abort;
@@ -88,7 +87,7 @@ fn answer(
 ) -> String {
     let owned = words_of(rt, alloc, words);
     let mut source = PureSource::new(Vec::from_slice(alloc, text.as_bytes()).expect(rt, "memory"));
-    let mut sink = MemSink::new(alloc, 100_000, 100_000, Vec::new(alloc)).expect(rt, "memory");
+    let mut sink = MemSink::new(alloc, 200_000, 200_000, Vec::new(alloc)).expect(rt, "memory");
     let ended = alone(rt, alloc, &owned, &mut source, &mut sink);
     let mut answer = format!(in alloc; "{} ", ended.0).expect(rt, "memory");
     let mut next = [0; 5];

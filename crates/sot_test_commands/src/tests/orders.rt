@@ -131,6 +131,44 @@ fn a_list_has_as_many_reach_cells_as_there_may_be(rt: HostRuntime) {
     answers(&rt, alloc, "check", mission, accepted)
 }
 
+// A plant that needs a cell for each point, in both lists.
+const EACH_POINT: &str = "\
+plant p { state x: int; next x = x - x; }
+external a period 1 offset 0 { }
+node s period 1 offset 0 { do { } }
+module m { ac a; sc s; period 1 offset 0; plant p; safe [0..4095]; safer [0..4095]; }
+";
+
+// The cells of the points below 4,096.
+fn points(alloc: Global) -> Result<String, AllocError> {
+    let mut cells = String::from_str(alloc, "[[0,0]]")?;
+    for point in 1..4096 {
+        write!(cells, ",[[{point},{point}]]")?;
+    }
+    Ok(cells)
+}
+
+// With its canonical text the mission has 110,530 bytes, as an independent program writes it.
+#[test]
+fn both_lists_have_as_many_cells_as_there_may_be(rt: HostRuntime) {
+    let alloc = rt.alloc();
+    let cells = points(alloc).expect(&rt, "memory");
+    let line = format!(in alloc;
+        "{{\"format\":1,\"modules\":{{\"m\":{{\"closed\":[{cells}],\"reach\":[{cells}]}}}}}}"
+    ).expect(&rt, "memory");
+    certifies(&rt, alloc, EACH_POINT, &line);
+    let said = answer(&rt, alloc, "certify", EACH_POINT);
+    assert_eq!(rt; said.len(), "0 ".len() + 110_530);
+    let mission = said.strip_prefix("0 ").unwrap_or("");
+    answers(
+        &rt,
+        alloc,
+        "check",
+        mission,
+        "0 accepted~modules 1 nodes 2 cells 8192~",
+    )
+}
+
 // Position and speed: from 19 at speed 2 the vehicle is at 21 one tick later, and the safe region ends at 20.
 const POSITION_AND_SPEED: &str = "\
 topic u: int[-1..1] = 0;

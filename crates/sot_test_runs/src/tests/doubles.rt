@@ -10,7 +10,6 @@ use super::verdicts::{judged, side};
 use super::worlds::{accepted, draft};
 use crate::double_cert;
 use sot_box::{BoxN, Point};
-use sot_compose::CheckFail;
 use sot_lang::{Cert, Typed};
 use sot_rta::Refusal;
 use sot_test_missions::double;
@@ -26,7 +25,7 @@ fn answer(
     alloc: Global,
     low: i64,
     high: i64,
-) -> Result<Result<(), CheckFail>, AllocError>
+) -> Result<Result<(), Refusal>, AllocError>
     requires { low ≤ℤ high }
 {
     let p = double(alloc, low, high)?;
@@ -62,7 +61,7 @@ fn an_arm_is_accepted_or_refused(rt: HostRuntime) {
     let narrow = answer(&rt, alloc, -169, 169).expect(&rt, "memory");
     same(&rt, 169, narrow, Ok(()));
     let wide = answer(&rt, alloc, -170, 170).expect(&rt, "memory");
-    same(&rt, 170, wide, Err(CheckFail::Refused(leaves())));
+    same(&rt, 170, wide, Err(leaves()));
 }
 
 #[test]

@@ -11,7 +11,6 @@ use super::verdicts::{judged, side};
 use super::worlds::{accepted, at, draft};
 use crate::pair_cert;
 use sot_box::{BoxN, Point};
-use sot_compose::CheckFail;
 use sot_lang::{Cert, Typed};
 use sot_rta::Refusal;
 use sot_test_missions::pair;
@@ -26,7 +25,7 @@ fn answer(
     rt: &(impl Threads + Sync),
     alloc: Global,
     low: i64,
-) -> Result<Result<(), CheckFail>, AllocError>
+) -> Result<Result<(), Refusal>, AllocError>
     requires { low ≤ℤ pos 1000 }
 {
     let p = pair(alloc, low)?;
@@ -62,7 +61,7 @@ fn a_pair_is_accepted_or_refused(rt: HostRuntime) {
     let charged = answer(&rt, alloc, 42).expect(&rt, "memory");
     same(&rt, 42, charged, Ok(()));
     let low = answer(&rt, alloc, 41).expect(&rt, "memory");
-    same(&rt, 41, low, Err(CheckFail::Refused(leaves())));
+    same(&rt, 41, low, Err(leaves()));
 }
 
 #[test]

@@ -9,7 +9,7 @@ ghost use Rattle.sot_test_runs.specs.Entries.{FitsAll};
 use super::same;
 use crate::{line_cert, line_without_entry, nothing_to_certify};
 use sot_box::{BoxN, Interval, Point};
-use sot_compose::{CheckFail, check_all};
+use sot_compose::check_all;
 use sot_lang::{Cert, TrapKind, Typed};
 use sot_rta::Refusal;
 use sot_test_missions::{divide, divide_by_at_least_one, line};
@@ -18,7 +18,7 @@ use std::alloc::{AllocError, Global};
 use std::process::Abort;
 use std::thread::Threads;
 
-pub(super) type Answer = Result<(), CheckFail>;
+pub(super) type Answer = Result<(), Refusal>;
 
 pub(super) fn side(lo: i64, hi: i64) -> Interval
     requires { lo ≤ℤ hi }
@@ -38,7 +38,7 @@ pub(super) fn judged(rt: &(impl Threads + Sync), p: &Typed, c: &Cert) -> Answer
 }
 
 fn refused(r: Refusal) -> Answer {
-    Err(CheckFail::Refused(r))
+    Err(r)
 }
 
 fn line_answer(rt: &(impl Threads + Sync), alloc: Global, c: &Cert) -> Result<Answer, AllocError>
@@ -171,7 +171,7 @@ fn trap() -> Refusal {
 fn a_node_that_may_trap_is_refused(rt: HostRuntime) {
     let alloc = rt.alloc();
     let answer = divide_answer(&rt, alloc).expect(&rt, "memory");
-    same(&rt, "divide", answer, Err(CheckFail::Refused(trap())));
+    same(&rt, "divide", answer, Err(trap()));
     let guarded = guarded_divide_answer(&rt, alloc).expect(&rt, "memory");
     same(&rt, "guarded", guarded, Ok(()));
 }

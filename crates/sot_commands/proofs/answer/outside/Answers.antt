@@ -11,8 +11,10 @@ bounds-start-plant c =
     let tables = c.program.view_is in
     let rules = subst MeetsTableRules tables c.program.invariant in
     let first = c.requires.first in
-    let at = read_at _ _ c.args.module _ (ap (λ t. t.modules) tables) (slice_get_within c.args.program.now.modules c.args.module first.info first.is) c.index.ensures in
-    let there = start_there c.args.program.now c.args.flight.now.start c.args.module c.index.result.now rules (record { each = c.requires.fits.1.starts; widths = c.requires.fits.1.widths }) at in
+    let at = read_at _ _ c.args.module _ (ap (λ t. t.modules) tables) (slice_get_within c.args.program.now.modules c.args.module first.info first.is)
+    c.index.ensures in
+    let there = start_there c.args.program.now c.args.flight.now.start c.args.module c.index.result.now rules
+    (record { each = c.requires.fits.1.starts; widths = c.requires.fits.1.widths }) at in
     subst (λ s. c.index.result.now.plant < length s) (sym c.start.ensures) there
 
 pub returns-clause-text : goal.returns-clause-text
@@ -20,8 +22,10 @@ returns-clause-text c =
     let tables = c.program.view_is in
     let rules = subst MeetsTableRules tables c.program.invariant in
     let first = c.requires.first in
-    let at = read_at _ _ c.args.module _ (ap (λ t. t.modules) tables) (slice_get_within c.args.program.now.modules c.args.module first.info first.is) c.index.ensures in
-    let there = start_there c.args.program.now c.args.flight.now.start c.args.module c.index.result.now rules (record { each = c.requires.fits.1.starts; widths = c.requires.fits.1.widths }) at in
+    let at = read_at _ _ c.args.module _ (ap (λ t. t.modules) tables) (slice_get_within c.args.program.now.modules c.args.module first.info first.is)
+    c.index.ensures in
+    let there = start_there c.args.program.now c.args.flight.now.start c.args.module c.index.result.now rules
+    (record { each = c.requires.fits.1.starts; widths = c.requires.fits.1.widths }) at in
     let same : c.index.result.now ≡ first.info = same_Some _ _ (sym at ∙ first.is) in
     let point = read_list c.start.result.now _ _ (subst (λ s. c.index.result.now.plant < length s) (sym c.start.ensures) there) c.index-start-plant.is in
     let of_start = ap (λ s. slice_index_or s c.index.result.now.plant []) c.start.ensures in

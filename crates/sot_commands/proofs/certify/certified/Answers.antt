@@ -13,4 +13,9 @@ read_back-requires-clause-written g c κs within =
     (c.requires.spelled.0, program_view c.args.program.now, c.args.tables.now, c.args.cert.now, has, c.in_ok-text.ensures.text)
 
 pub returns : goal.returns
-returns g c = inl (refl, (c.args.cert.now, c.requires.made, c.requires.fits, c.in_ok-text.ensures.text), subst SpellsAccepted c.deref.ensures.value c.in_ok-read_back.ensures)
+returns g c =
+    inl (
+      refl,
+      (c.args.cert.now, c.requires.made, c.requires.fits, c.in_ok-text.ensures.text),
+      subst SpellsAccepted c.deref.ensures.value c.in_ok-read_back.ensures,
+    )

@@ -11,7 +11,8 @@ certify_tree-answer-requires-clause-spelled g c κs within =
 pub returns-in-Ok : goal.returns-in-Ok
 returns-in-Ok g c =
     let found = c.in-Ok.ensures.ok in
-    λ guests. certified_result guests c.certify_tree-answer.result c.args.bytes.now _ (rw (c.new.ensures.bytes, c.new.ensures.at) at found) c.certify_tree-answer.ensures
+    λ guests. certified_result guests c.certify_tree-answer.result c.args.bytes.now _ (rw (c.new.ensures.bytes, c.new.ensures.at) at found)
+    c.certify_tree-answer.ensures
 
 pub returns-in-Err-Syntax : goal.returns-in-Err-Syntax
 returns-in-Err-Syntax g c =

@@ -10,7 +10,11 @@ resolve-requires g c = record { formed = spelled_formed _ _ _ c.requires.spelled
 pub returns-in-Ok : goal.returns-in-Ok
 returns-in-Ok g c =
     tables_result c.certify_tables.result (program_view c.args.program.now) c.in-Ok.tables
-    (record { faultless = c.in-Ok.ensures.faultless; tables = c.in-Ok.ensures.tables; rules = tables_meet _ _ (spelled_formed _ _ _ c.requires.spelled.1) c.in-Ok.ensures.faultless c.in-Ok.ensures.tables }) c.certify_tables.ensures
+    (record {
+      faultless = c.in-Ok.ensures.faultless;
+      tables = c.in-Ok.ensures.tables;
+      rules = tables_meet _ _ (spelled_formed _ _ _ c.requires.spelled.1) c.in-Ok.ensures.faultless c.in-Ok.ensures.tables;
+    }) c.certify_tables.ensures
 
 pub returns-in-Err-Fault : goal.returns-in-Err-Fault
 returns-in-Err-Fault g c =

@@ -1,7 +1,6 @@
 use Rattle.std.proofs.Common.{subst}
 use Rattle.sot_sections.specs.declared.mission.Need.TheVariants as needs
 use Rattle.sot_rta.specs.Refused.{refusal_view}
-use Rattle.sot_compose.specs.Accepting.{Fails}
 use Rattle.sot_report.specs.Missions.{HasFault}
 use Rattle.sot_report.specs.Loads.{IfFault}
 use Rattle.sot_commands.proofs.Certified.{written_faulty, written_refused}
@@ -9,8 +8,7 @@ use Rattle.sot_commands.proofs.certify.read_back.Goals as goal
 
 pub unreachable-requires : goal.unreachable-requires
 unreachable-requires g c =
-    let fails = subst (Fails c.in-Ok.loaded.program c.in-Ok.loaded.cert) c.in-Err-Refused.field-0-is c.in-Err-Refused.ensures.answer in
-    written_refused c.args.text.now _ (refusal_view c.in-Err-Refused.field-0-0) c.requires.written c.in-Ok.ensures.ok.mission fails
+    written_refused c.args.text.now _ (refusal_view c.in-Err.field-0) c.requires.written c.in-Ok.ensures.ok.mission c.in-Err.ensures.answer
 
 pub unreachable-requires-in-Err-Fault : goal.unreachable-requires-in-Err-Fault
 unreachable-requires-in-Err-Fault g c =

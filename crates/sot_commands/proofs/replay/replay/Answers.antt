@@ -9,7 +9,8 @@ judge-answer-requires-clause-words g c κs within = mission_words needs.Replay c
 
 pub judge-answer-requires-clause-short : goal.judge-answer-requires-clause-short
 judge-answer-requires-clause-short g c κs within =
-    let inside = trace_within c.args.guests c.args.bytes.now _ c.in-Ok.ensures.ok.mission c.unwrap-trace.result.now (ap (option_map (λ b. b.now)) c.unwrap-trace.ensures) in
+    let inside = trace_within c.args.guests c.args.bytes.now _ c.in-Ok.ensures.ok.mission c.unwrap-trace.result.now
+    (ap (option_map (λ b. b.now)) c.unwrap-trace.ensures) in
     omega (arith, inside, c.requires)
 
 pub returns-in-Some : goal.returns-in-Some

@@ -1,11 +1,24 @@
-use Rattle.sot_commands.proofs.Endings.{ends_said}
-use Rattle.sot_commands.proofs.Guests.{all_written}
+use Rattle.std.proofs.Common.{◌≡◌, ◌≤◌, ◌∙◌, sym, subst, arith}
+use Rattle.std.specs.Prelude.{vec_len}
+use Rattle.std.specs.Io.KnownBytes.{Keeps}
+use Rattle.std.proofs.KnownBytes.{Keeps-refl}
+use Rattle.sot_commands.specs.declared.words.Command.TheVariants.{Fly}
+use Rattle.sot_commands.specs.Orders.{FlightEnds}
+use Rattle.sot_commands.proofs.Ordered.{ordered_ends, untouched}
 use Rattle.sot_commands.proofs.top.soter.Goals as goal
 
-pub returns-in-Ok-clause-ends : goal.returns-in-Ok-clause-ends
-returns-in-Ok-clause-ends g c = ends_said _ _ _ _ c.in-Ok.answer.text.items c.in-Ok.answer.status _ c.in-Ok.ensures.ok c.in-Ok.ensures.well c.say.ensures
+pub returns-in-Ended-clause-guests : goal.returns-in-Ended-clause-guests
+returns-in-Ended-clause-guests g c =
+    untouched g.C.Controller.told _ _ _ _ c.args.guests.now c.in-Ended.status.0
+    (λ zero asks. (let four : 4 ≤ c.in-Ended.status.0 = c.in-Ended.ensures.leaves (Fly, tt, asks) in omega (arith, four, zero)))
 
-pub returns-in-Ok-clause-flew : goal.returns-in-Ok-clause-flew
-returns-in-Ok-clause-flew g c = λ zero asks.
-    let wrote = all_written _ _ _ _ c.in-Ok.answer.status c.in-Ok.answer.text.items _ c.say.ensures zero in
-    (c.in-Ok.answer.text.items, wrote.1, c.in-Ok.ensures.flew wrote.0 asks)
+pub returns-in-Flight-clause-ends : goal.returns-in-Flight-clause-ends
+returns-in-Flight-clause-ends g c =
+    let held = g.K.Sink.held in
+    let faults = g.K.Sink.faults in
+    let end = c.fly_to_the_end in
+    let flies = subst (λ k. FlightEnds (vec_len c.args.guests.now) c.in-Flight.order.telling c.in-Flight.order.text.items (held k) (held end.new.sink)
+    (faults k) (faults end.new.sink) end.result.0) c.in-Flight.ensures.unsaid end.ensures.ends in
+    ordered_ends (vec_len c.args.guests.now) c.args.words.now _ _ c.in-Flight.order end.result.0 c.in-Flight.ensures.flight c.in-Flight.ensures.well flies
+    (λ six. subst (λ k. Keeps (held c.args.sink.now) (held k)) (sym (end.ensures.unwritten six ∙ c.in-Flight.ensures.unsaid))
+    (Keeps-refl (held c.args.sink.now)))

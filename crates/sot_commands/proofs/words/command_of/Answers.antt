@@ -17,7 +17,8 @@ returns-in-Ok-clause-ok c =
     let m : HasMatchesOf program (map string_bytes c.args.words.now) c.in-Ok.matches = c.in-Ok.ensures.matches in
     let name : subcommand_name_of c.in-Ok.matches ≡ option_map (λ p. p.0) (subcommand_of program (map string_bytes c.args.words.now)) =
     name_found (out-ArgMatches c.in-Ok.matches).subcommand ∙ ap (option_map (λ p. p.0)) (m is_simple_program).1 in
-    found_asks c.args.words.now (subcommand_name_of c.in-Ok.matches) c.found.result (sym c.has_dash.ensures ∙ c.if-has_dash.false) c.in-Ok.ensures.fails name c.found.ensures.ok
+    found_asks c.args.words.now (subcommand_name_of c.in-Ok.matches) c.found.result (sym c.has_dash.ensures ∙ c.if-has_dash.false) c.in-Ok.ensures.fails name
+    c.found.ensures.ok
 
 pub returns-in-Ok-clause-form : goal.returns-in-Ok-clause-form
 returns-in-Ok-clause-form c = λ form command.

@@ -4,7 +4,8 @@ use Rattle.sot_rta.proofs.Loops.{next_passes, all_pass}
 use Rattle.sot_compose.proofs.check.check_codes.Goals as goal
 
 pub loop-node-preserved : goal.loop-node-preserved
-loop-node-preserved c = next_passes c.args.p.now.nodes (code c.args.p.now) c.loop-node.node c.node_at.result.now c.node_at.ensures.is c.in_default.ensures c.loop-node.invariant
+loop-node-preserved c =
+    next_passes c.args.p.now.nodes (code c.args.p.now) c.loop-node.node c.node_at.result.now c.node_at.ensures.is c.in_default.ensures c.loop-node.invariant
 
 pub returns : goal.returns
 returns c =

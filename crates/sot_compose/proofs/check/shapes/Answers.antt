@@ -4,9 +4,12 @@ use Rattle.sot_rta.proofs.Loops.{next_passes, all_pass}
 use Rattle.sot_compose.proofs.check.shapes.Goals as goal
 
 pub loop-module-preserved : goal.loop-module-preserved
-loop-module-preserved c = next_passes c.args.p.now.modules (shape c.args.p.now c.args.c.now) c.loop-module.«module» c.module_at-info.result.now c.module_at-info.ensures.is (c.in_default.ensures c.module_at-info.result.now c.module_at-info.ensures.is) c.loop-module.invariant
+loop-module-preserved c =
+    next_passes c.args.p.now.modules (shape c.args.p.now c.args.c.now) c.loop-module.«module» c.module_at-info.result.now c.module_at-info.ensures.is
+    (c.in_default.ensures c.module_at-info.result.now c.module_at-info.ensures.is) c.loop-module.invariant
 
 pub returns : goal.returns
 returns c =
     let few : c.len-module-end.result ≡ length c.args.p.now.modules = search rules in
-    all_pass c.args.p.now.modules (shape c.args.p.now c.args.c.now) c.loop-module.«module» (omega (arith, few, c.loop-module-test.false)) c.loop-module.invariant
+    all_pass c.args.p.now.modules (shape c.args.p.now c.args.c.now) c.loop-module.«module» (omega (arith, few, c.loop-module-test.false))
+    c.loop-module.invariant

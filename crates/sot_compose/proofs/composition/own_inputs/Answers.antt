@@ -4,10 +4,14 @@ use Rattle.sot_rta.proofs.Loops.{next_passes, all_pass, refuses_at}
 use Rattle.sot_compose.proofs.composition.own_inputs.Goals as goal
 
 pub returns-in-Err : goal.returns-in-Err
-returns-in-Err c = refuses_at c.args.p.now.modules (foreign_input c.args.p.now) c.loop-module.«module» c.module_at.result.now _ c.module_at.ensures.is c.in-Err.ensures c.loop-module.invariant
+returns-in-Err c =
+    refuses_at c.args.p.now.modules (foreign_input c.args.p.now) c.loop-module.«module» c.module_at.result.now _ c.module_at.ensures.is c.in-Err.ensures
+    c.loop-module.invariant
 
 pub loop-module-preserved : goal.loop-module-preserved
-loop-module-preserved c = next_passes c.args.p.now.modules (foreign_input c.args.p.now) c.loop-module.«module» c.module_at.result.now c.module_at.ensures.is c.in_default.ensures c.loop-module.invariant
+loop-module-preserved c =
+    next_passes c.args.p.now.modules (foreign_input c.args.p.now) c.loop-module.«module» c.module_at.result.now c.module_at.ensures.is c.in_default.ensures
+    c.loop-module.invariant
 
 pub returns : goal.returns
 returns c =

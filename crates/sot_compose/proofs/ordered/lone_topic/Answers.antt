@@ -5,7 +5,9 @@ use Rattle.sot_compose.proofs.InOrder.{lone_is}
 use Rattle.sot_compose.proofs.ordered.lone_topic.Goals as goal
 
 pub only_topic-requires : goal.only_topic-requires
-only_topic-requires c = written_there c.args.p.now c.requires.rules c.args.node c.node_at.result.now c.node_at.ensures.is _ _ (c.deref.ensures.value ∙ ap (λ (t : Tables). t.scalars) c.p.view_is) c.deref-2.ensures.value
+only_topic-requires c =
+    written_there c.args.p.now c.requires.rules c.args.node c.node_at.result.now c.node_at.ensures.is _ _
+    (c.deref.ensures.value ∙ ap (λ (t : Tables). t.scalars) c.p.view_is) c.deref-2.ensures.value
 
 pub returns : goal.returns
 returns c =

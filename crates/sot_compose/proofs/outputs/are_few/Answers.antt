@@ -11,5 +11,6 @@ returns-in_default-first_writer c e = one_writes c.args.p.now c.args.topic c.in-
 
 pub returns-in-None : goal.returns-in-None
 returns-in-None c e =
-    two_write c.args.p.now c.args.topic c.in-Some.a c.in-Some-first_writer.b c.in-Some.ensures.first c.in-Some-first_writer.ensures.first c.in-None.ensures.first
+    two_write c.args.p.now c.args.topic c.in-Some.a c.in-Some-first_writer.b c.in-Some.ensures.first c.in-Some-first_writer.ensures.first
+    c.in-None.ensures.first
     c.are_partners.result _ c.are_partners.ensures (c.deref.ensures.value ∙ ap (λ (t : Tables). t.modules) c.p.view_is) e

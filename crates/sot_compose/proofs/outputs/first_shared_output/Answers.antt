@@ -5,7 +5,8 @@ use Rattle.sot_compose.proofs.outputs.first_shared_output.Goals as goal
 
 pub returns-in-Some-clause-first : goal.returns-in-Some-clause-first
 returns-in-Some-clause-first c =
-    subst (λ y. AreFirstWriters c.args.p.now y c.in-Some.clash.a c.in-Some.clash.b × ((t : ℕ) → t < y → AreAllRelated c.args.p.now t)) (sym c.in-Some.ensures.0) (c.in-Some.ensures.1, c.loop-topic.invariant)
+    subst (λ y. AreFirstWriters c.args.p.now y c.in-Some.clash.a c.in-Some.clash.b × ((t : ℕ) → t < y → AreAllRelated c.args.p.now t)) (sym c.in-Some.ensures.0)
+    (c.in-Some.ensures.1, c.loop-topic.invariant)
 
 pub loop-topic-preserved : goal.loop-topic-preserved
 loop-topic-preserved c = one_more (AreAllRelated c.args.p.now) c.loop-topic.topic c.loop-topic.invariant c.in_default.ensures

@@ -5,7 +5,9 @@ use Rattle.sot_compose.proofs.Strangers.{not_there}
 use Rattle.sot_compose.proofs.outputs.first_writers.Goals as goal
 
 pub loop-node-preserved : goal.loop-node-preserved
-loop-node-preserved c i j lt = one_more (λ i. (j : ℕ) → i < j → AreRelated c.args.p.now c.args.topic i j) c.loop-node.node (λ i lt j. c.loop-node.invariant i j lt) c.in_default.ensures i lt j
+loop-node-preserved c i j lt =
+    one_more (λ i. (j : ℕ) → i < j → AreRelated c.args.p.now c.args.topic i j) c.loop-node.node (λ i lt j. c.loop-node.invariant i j lt) c.in_default.ensures i
+    lt j
 
 pub returns : goal.returns
 returns c i j lt =

@@ -12,7 +12,8 @@ loop-info-preserved c =
     let ms = c.args.modules.now in
     let here : At ms k c.info-item.result = slice_get_read ms (length ms) k c.info-item.result refl c.loop-info-test.true c.info-item.is in
     let is = λ (m : ℕ) (a : ModuleInfo) (same : m ≡ k) (at : At ms m a). same_Some a c.info-item.result (sym (subst (λ i. At ms i a) same at) ∙ here) in
-    let ends = λ (m : ℕ) (a : ModuleInfo) (x : ℕ) (same : m ≡ k) (at : At ms m a) (u : Uses c.args.part a x). c.ends-low.ensures.within x (subst (λ (b : ModuleInfo). Uses c.args.part b x) (is m a same at) u) in
+    let ends = λ (m : ℕ) (a : ModuleInfo) (x : ℕ) (same : m ≡ k) (at : At ms m a) (u : Uses c.args.part a x).
+    c.ends-low.ensures.within x (subst (λ (b : ModuleInfo). Uses c.args.part b x) (is m a same at) u) in
     record {
       below = λ m a x lt at u. elim (below_next m k lt) [
         | inl less ↦ omega (arith, c.loop-info.invariant.below m a x less at u, c.if-low-next.false, c.ends-low.ensures.ordered)
@@ -20,7 +21,12 @@ loop-info-preserved c =
       ];
       apart = λ x m n lt last shared. elim (below_next n k last) [
         | inl less ↦ c.loop-info.invariant.apart x m n lt less shared
-        | inr same ↦ absurd (omega (arith, c.loop-info.invariant.below m shared.0 x (omega (arith, lt, same)) shared.2 shared.4, c.if-low-next.false, (ends n shared.1 x same shared.3 shared.5).0))
+        | inr same ↦ absurd (omega (
+          arith,
+          c.loop-info.invariant.below m shared.0 x (omega (arith, lt, same)) shared.2 shared.4,
+          c.if-low-next.false,
+          (ends n shared.1 x same shared.3 shared.5).0,
+        ))
       ];
     }
 

@@ -15,5 +15,7 @@ returns-in-Err-Syntax-clause-fault c =
     let is = ap (λ e. Err e) c.in-Err-Syntax.field-0-is in
     let none = c.in-Err-Syntax.ensures.syntax c.in-Err-Syntax.fault is in
     let place = c.in-Err-Syntax.ensures.place c.in-Err-Syntax.fault is in
-    subst (λ e. IfFault e (FailsText (parts_of c.args.sections) c.args.guests)) (sym (c.misspelled.ensures ∙ ap (λ f. fails.Fault (faults.Syntax f)) c.in-Err-Syntax.fault-is))
-    (let nothing = rw (c.new.ensures.bytes, c.new.ensures.at) at none in (nothing, fault_is_placed c.args.sections.program.now 0 c.in-Err-Syntax.fault nothing (rw (c.new.ensures.bytes, c.new.ensures.at) at place)))
+    subst (λ e. IfFault e (FailsText (parts_of c.args.sections) c.args.guests))
+    (sym (c.misspelled.ensures ∙ ap (λ f. fails.Fault (faults.Syntax f)) c.in-Err-Syntax.fault-is))
+    (let nothing = rw (c.new.ensures.bytes, c.new.ensures.at) at none in
+    (nothing, fault_is_placed c.args.sections.program.now 0 c.in-Err-Syntax.fault nothing (rw (c.new.ensures.bytes, c.new.ensures.at) at place)))

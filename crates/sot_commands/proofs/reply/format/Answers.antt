@@ -1,12 +1,13 @@
 use Rattle.std.proofs.Common.{◌≡◌, Err, ap, subst, IfOk}
 use Rattle.sot_report.specs.FaultTexts.{syntax_text}
 use Rattle.sot_commands.proofs.Forms.{formatted_result, misspelled_result}
-use Rattle.sot_commands.proofs.top.format.Goals as goal
+use Rattle.sot_commands.proofs.reply.format.Goals as goal
 
 pub returns-in-Ok : goal.returns-in-Ok
 returns-in-Ok c =
     let found = c.in-Ok.ensures.ok in
-    λ guests. formatted_result guests c.canonical-answer.result c.args.bytes.now _ (rw (c.new.ensures.bytes, c.new.ensures.at) at found) c.canonical-answer.ensures.status c.canonical-answer.ensures.text
+    λ guests. formatted_result guests c.canonical-answer.result c.args.bytes.now _ (rw (c.new.ensures.bytes, c.new.ensures.at) at found)
+    c.canonical-answer.ensures.status c.canonical-answer.ensures.text
 
 pub returns-in-Err-Syntax : goal.returns-in-Err-Syntax
 returns-in-Err-Syntax c =

@@ -1,0 +1,54 @@
+//! Flights that were ordered.
+
+ghost use Rattle.std.specs.Prelude.{◌≡◌, ◌<◌, ◌≤◌, ◌^◌, length, vec_len, IfOk};
+ghost use Rattle.sot_commands.specs.Guests.{UnnamedStay, Flew};
+ghost use Rattle.sot_commands.specs.Orders.{FliesBytes, handed_in};
+ghost use Rattle.sot_commands.specs.Steps.{GuestsDid};
+ghost use Rattle.sot_commands.specs.declared.telling.Telling.TheVariants.{Summary};
+
+use crate::answer::Answer;
+use crate::fly::fly;
+use crate::input::INPUT_LIMIT;
+use crate::order::FlightOrder;
+use crate::telling::Telling;
+use sot_node_worker::Controller;
+use sot_ports::Process;
+use std::alloc::{AllocError, Global};
+use std::sync::Wait;
+use std::thread::Threads;
+
+/// Flies what was ordered: the flight of a `fly` with these guests, that of a `soak` with none.
+pub fn fly_ordered<C: Controller + Send, R: Threads + Wait + Sync>(
+    rt: &R,
+    alloc: Global,
+    guests: &mut Vec<C>,
+    order: &FlightOrder,
+    process: Process,
+) -> Result<Answer, AllocError>
+    requires few { vec_len guests.old < 2 ^ 32 }
+    requires short { length order.now.text.items ≤ INPUT_LIMIT }
+    ensures flies { IfOk result (λ answer.
+        FliesBytes (handed_in order.now.telling (vec_len guests.old))
+        order.now.telling order.now.text.items answer.status answer.text.items) }
+    ensures guests { GuestsDid C.told order.now.telling result
+        (UnnamedStay (vec_len guests.old) order.now.text.items guests.old.items guests.new.items)
+        (λ text. Flew C.told (vec_len guests.old) order.now.text.items text guests.old.items
+        guests.new.items)
+        guests.old guests.new }
+    ensures alone { order.now.telling ≡ Summary → guests.new ≡ guests.old }
+{
+    match order.telling {
+        Telling::Trace => fly(rt, alloc, guests, &order.text, Telling::Trace, process),
+        Telling::Summary => {
+            let mut nobody: Vec<C> = Vec::new(alloc);
+            fly(
+                rt,
+                alloc,
+                &mut nobody,
+                &order.text,
+                Telling::Summary,
+                process,
+            )
+        }
+    }
+}

@@ -1,0 +1,42 @@
+//! What a command works on.
+
+ghost use Rattle.std.specs.Prelude.{◌≡◌, ◌+◌, ◌≤◌, IfOk, IfErr, IsErrOf, ◌↔◌, IsTrue, vec_len};
+ghost use Rattle.sot_ports.specs.Faults.{Rose};
+ghost use Rattle.sot_ports.specs.Whole.{ReadsCount, ReadsUpTo};
+ghost use Rattle.sot_commands.specs.Words.{Reads};
+ghost use Rattle.sot_commands.specs.Ends.{Takes};
+
+use crate::words::Command;
+use sot_ports::{ReadFail, Source, read_all};
+use std::alloc::Global;
+
+/// The most bytes of an input: 16 MiB.
+pub const INPUT_LIMIT: usize = 16_777_216;
+
+fn reads(command: Command) -> bool
+    ensures { IsTrue result ↔ Reads command }
+{
+    !matches!(command, Command::Make { .. } | Command::Soak { .. })
+}
+
+/// All that the source has left, for a command that reads; and nothing for one that does not.
+#[tactic(auto, using(crate::proofs::Nothing::reads_nothing, crate::proofs::Nothing::takes_all, crate::proofs::Nothing::takes_none))]
+pub fn take<S: Source>(alloc: Global, command: Command, source: &mut S) -> Result<Vec<u8>, ReadFail>
+    ensures ok { IfOk result (λ bytes.
+        Takes command (S.left source.old) (S.left source.new) bytes.items) }
+    ensures within { IfOk result (λ bytes. vec_len bytes ≤ INPUT_LIMIT) }
+    ensures fault { IsErrOf result ReadFail.Fault
+        → Rose (S.faults source.old) (S.faults source.new) }
+    ensures too_long { IsErrOf result ReadFail.TooLong →
+        ReadsCount (S.left source.old) (S.left source.new) (INPUT_LIMIT + 1) }
+    ensures well { ¬ (IsErrOf result ReadFail.Fault) → S.faults source.new ≡ S.faults source.old }
+    ensures reader { IfErr result (λ _. Reads command) }
+    ensures untouched { ¬ (Reads command) → source.new ≡ source.old }
+    ensures no_more { ReadsUpTo (S.left source.old) (S.left source.new) (INPUT_LIMIT + 1) }
+{
+    if reads(command) {
+        read_all(alloc, source, INPUT_LIMIT)
+    } else {
+        Ok(Vec::new(alloc))
+    }
+}
