@@ -1,5 +1,5 @@
 -- What becomes of guests.
-use Rattle.std.proofs.Common.{◌≡◌, ◌⊎◌, ⊎_elim, ℕ, zero, suc, List, [], ◌∷◌, Option, None, Some, length, Result, Ok, Err, inl, inr, refl, sym, ap, ◌∙◌, subst}
+use Rattle.std.proofs.Common.{◌≡◌, ◌⊎◌, ⊎_elim, ℕ, zero, suc, List, [], ◌∷◌, Option, None, Some, Result, Ok, Err, inl, inr, refl, sym, ap, ◌∙◌, subst}
 use Rattle.std.proofs.Common.{append-nil, arith, ◌<◌, true}
 use Rattle.std.specs.Prelude.{IfOk, ◌==◌, ◌≢◌, vec_len}
 use Rattle.std.specs.Global.{Vec}
@@ -166,14 +166,14 @@ zero_unasked (Ok a) before after is = λ other. absurd (other is)
 zero_unasked (Err e) before after is = tt
 
 -- where it was flown
-pub flown : {C : Type 0} (told : C → Option (List Asking)) (r : Result Answer AllocError) (telling : Telling) (acc : Admitted) (f : Plan) (b : Standing)
+pub flown_did : {C : Type 0} (told : C → Option (List Asking)) (r : Result Answer AllocError) (telling : Telling) (acc : Admitted) (f : Plan) (b : Standing)
     (before after : Vec C) → vec_len after ≡ vec_len before → b.accepted ≡ acc → b.plan ≡ f
     → FlownBy b.accepted.program b.accepted.cert.jitter b.plan b.entries → IfOk r (λ a. a.status ≡ 0)
     → IfOk r (λ a. a.text.items ≡ told_text telling b.accepted.program b.plan b.entries)
     → EachAnswered told b.accepted b.plan b.entries before.items after.items → EachUnnamedStays b.plan before.items after.items
     → GuestsDid told telling r (EachUnnamedStays f before.items after.items)
     (λ text. GuestsFlew told acc.program acc.cert.jitter f text before.items after.items) before after
-flown told r telling acc f b before after count is plan flown status text answered unnamed = record {
+flown_did told r telling acc f b before after count is plan flown status text answered unnamed = record {
   count = count;
   go_on = flew_told told b.accepted b.plan b.entries before.items after.items answered unnamed;
   unasked = zero_unasked r before after status;

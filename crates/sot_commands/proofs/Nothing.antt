@@ -1,7 +1,5 @@
 -- What is taken of a source: all that it has left, or nothing.
-use Rattle.std.proofs.Common.{◌≡◌, ℕ, List, [], Option, Result, refl, arith}
-use Rattle.std.specs.Prelude.{IfOk}
-use Rattle.std.specs.Global.{Vec}
+use Rattle.std.proofs.Common.{ℕ, List, [], Option, refl, arith}
 use Rattle.std.proofs.KnownBytes.{Consumes-nil}
 use Rattle.sot_ports.specs.Whole.{ReadsAll, ReadsUpTo}
 use Rattle.sot_commands.specs.declared.words.Command.{Command}

@@ -1,12 +1,11 @@
 -- From a flight that was ordered to the end of the call.
 use Rattle.std.proofs.Common.{◌≡◌, ℕ, ◌≤◌, List, Option, Result, Ok, Err, inl, inr, refl, sym, ◌∙◌, subst, arith, Global}
-use Rattle.std.specs.Prelude.{◌≢◌, IfOk, String, ◌⊎◌, vec_len}
+use Rattle.std.specs.Prelude.{◌≢◌, IfOk, String, vec_len}
 use Rattle.std.specs.Global.{Vec}
 use Rattle.std.specs.Io.KnownBytes.{Keeps}
 use Rattle.std.specs.declared.alloc.AllocError.{AllocError}
 use Rattle.sot_ports.specs.Whole.{ReadsAll}
 use Rattle.sot_node_worker.specs.Askings.{Asking}
-use Rattle.sot_maker.specs.Missions.{mission_text as made_text}
 use Rattle.sot_commands.specs.declared.words.Command.{Command}
 use Rattle.sot_commands.specs.declared.words.Command.TheVariants.{Check, Fly, Replay, Format, Certify, Make, Soak}
 use Rattle.sot_commands.specs.declared.telling.Telling.{Telling}

@@ -6,7 +6,7 @@ use Rattle.std.specs.Global.{Vec}
 use Rattle.std.specs.declared.alloc.AllocError.{AllocError}
 use Rattle.sot_ports.specs.Faults.{Rose}
 use Rattle.sot_node_worker.specs.Askings.{Asking}
-use Rattle.sot_ports.specs.Whole.{ReadsAll, ReadsCount}
+use Rattle.sot_ports.specs.Whole.{ReadsCount}
 use Rattle.sot_lang.specs.Tables.{Tables}
 use Rattle.sot_lang.specs.declared.cert.Cert.{Cert}
 use Rattle.sot_tube.specs.Refusals.{Refusal}

@@ -1,4 +1,4 @@
-use Rattle.std.proofs.Common.{refl, sym, subst, List, ℕ}
+use Rattle.std.proofs.Common.{sym, subst, List, ℕ}
 use Rattle.std.specs.Prelude.{vec_len}
 use Rattle.sot_commands.specs.declared.telling.Telling.{Telling}
 use Rattle.sot_commands.specs.Guests.{UnnamedStay, Flew}

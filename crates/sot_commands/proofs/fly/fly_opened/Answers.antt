@@ -1,6 +1,6 @@
 use Rattle.std.proofs.Common.{◌∙◌, sym}
 use Rattle.sot_commands.proofs.Flown.{told_result}
-use Rattle.sot_commands.proofs.Guests.{stayed, flown, lacking, unnamed_same, flew_alone, names_none}
+use Rattle.sot_commands.proofs.Guests.{stayed, flown_did, lacking, unnamed_same, flew_alone, names_none}
 use Rattle.sot_commands.proofs.fly.fly_opened.Goals as goal
 
 pub fly_unaided-requires-clause-no_guests : goal.fly_unaided-requires-clause-no_guests
@@ -34,7 +34,7 @@ returns-in-Ok-clause-judges g c =
 pub returns-in-Ok-clause-guests : goal.returns-in-Ok-clause-guests
 returns-in-Ok-clause-guests g c =
     let ended = c.in-Ok.ensures in
-    flown
+    flown_did
     g.C.Controller.told
     c.told.result
     c.args.telling

@@ -1,4 +1,4 @@
-use Rattle.std.proofs.Common.{◌≡◌, ◌≤◌, subst}
+use Rattle.std.proofs.Common.{subst}
 use Rattle.sot_commands.specs.declared.reply.Reply.{Reply}
 use Rattle.sot_commands.specs.Steps.{WordReply}
 use Rattle.sot_commands.proofs.Endings.{ends_said}
