@@ -39,7 +39,7 @@ fn fly_unaided(
     requires no_guests { HasNoGuests flight.now }
     ensures { IfOk result (λ answer. JudgesFlight telling board.old.accepted.program board.old.accepted.cert.jitter flight.now answer.status answer.text.items) }
 {
-    fly_alone(board, flight);
+    fly_alone(board);
     told(alloc, telling, board)
 }
 
@@ -65,7 +65,7 @@ fn fly_opened<'a, C: Controller + Send, R: Threads + Wait + Sync>(
     if guests.is_empty() {
         return fly_unaided(alloc, &mut board, flight, telling);
     }
-    match fly_to_the_end(rt, alloc, board, flight, guests) {
+    match fly_to_the_end(rt, alloc, board, guests) {
         Ok(flown) => told(alloc, telling, &flown.board),
         Err(_) => Err(AllocError),
     }

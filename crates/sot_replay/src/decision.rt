@@ -16,7 +16,7 @@ pub fn judge_decision(board: &mut Board<'_>, line: &[u8], time: Option<i64>, mod
     requires spelled { SpellsDecision board.old.accepted.program line.now time «module» }
     ensures { IsJudged board.old board.new line.now result }
 {
-    board.is_standing();
+    board.reveal_invariant();
     if !is_now(time, board.time()) {
         return Judged::Fails(LineKind::WrongTime);
     }

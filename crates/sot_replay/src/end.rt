@@ -25,7 +25,7 @@ pub fn judge_end(
     requires refused { counts.refused ≡ sum_by (refused_in board.now.accepted.program) board.now.entries }
     ensures { IfOk result (IsJudged board.now board.now line.now) }
 {
-    board.is_standing();
+    board.reveal_invariant();
     if !is_now(ticks, board.time()) {
         return Ok(Judged::Fails(LineKind::WrongTime));
     }

@@ -30,7 +30,7 @@ pub fn compare(board: &Board<'_>, line: &[u8]) -> Judged
     requires { (front : List Logged) × (entry : Logged) × (board.now.entries ≡ front ++ entry ∷ []) }
     ensures { (front : List Logged) (entry : Logged) → board.now.entries ≡ front ++ entry ∷ [] → IsCompared board.now.accepted.program entry line.now result }
 {
-    board.is_standing();
+    board.reveal_invariant();
     let p = board.typed();
     let history = board.history();
     let entry = history.entry(history.len() - 1);

@@ -50,7 +50,7 @@ fn judge_coded(
     requires left { is_left board.old.position.at node ≡ true }
     ensures { IfOk result (IsJudged board.old board.new line.now) }
 {
-    board.is_standing();
+    board.reveal_invariant();
     let p = board.typed();
     board.fire(node);
     let judged = compare(board, line);
@@ -72,7 +72,7 @@ fn judge_stated(
     requires left { is_left board.old.position.at node ≡ true }
     ensures { IfOk result (IsJudged board.old board.new line.now) }
 {
-    board.is_standing();
+    board.reveal_invariant();
     let p = board.typed();
     board.commit_stated(node);
     let judged = compare(board, line);
@@ -88,7 +88,7 @@ fn judge_draft(board: &mut Board<'_>, line: &[u8], node: u32, draft: Option<Draf
     requires left { is_left board.old.position.at node ≡ true }
     ensures { IsJudged board.old board.new line.now result }
 {
-    board.is_standing();
+    board.reveal_invariant();
     match draft {
         None => Judged::Fails(LineKind::Differs),
         Some(draft) => {
@@ -145,7 +145,7 @@ pub fn judge_firing(
     requires begins { BeginsAsFiring board.old.accepted.program line.now time node }
     ensures { IfOk result (IsJudged board.old board.new line.now) }
 {
-    board.is_standing();
+    board.reveal_invariant();
     let p = board.typed();
     if !is_now(time, board.time()) {
         return read_on(p, line, Judged::Fails(LineKind::WrongTime), from, numbers);

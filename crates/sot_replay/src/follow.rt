@@ -31,7 +31,7 @@ pub fn follow(
         refused: 0,
     };
     'lines: while let Some((number, line)) = lines.next() {
-        board.is_standing();
+        board.reveal_invariant();
         match judge(board, line, &mut from, counts, scratch, numbers) {
             Ok(Judged::Goes(added)) => counts = counted(counts, added),
             Ok(Judged::Ends) => return Ok(()),
@@ -39,6 +39,6 @@ pub fn follow(
             Err(_) => return Err(ReplayFail::Memory),
         }
     }
-    board.is_standing();
+    board.reveal_invariant();
     Err(missing(lines))
 }

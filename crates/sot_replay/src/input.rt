@@ -44,7 +44,7 @@ pub fn judge_input(
     requires spelled { SpellsInput board.old.accepted.program line.now time topic whole value.now }
     ensures { IsJudged board.old board.new line.now result }
 {
-    board.is_standing();
+    board.reveal_invariant();
     if !is_now(time, board.time()) {
         return Judged::Fails(LineKind::WrongTime);
     }

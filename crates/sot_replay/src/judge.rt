@@ -34,7 +34,7 @@ fn judge_whole(
     requires refused { counts.refused ≡ sum_by (refused_in board.old.accepted.program) board.old.entries }
     ensures { IfOk result (IsJudged board.old board.new line.now) }
 {
-    board.is_standing();
+    board.reveal_invariant();
     match read {
         Line::Input { time, topic, whole } => {
             Ok(judge_input(board, line, time, topic, whole, numbers))

@@ -80,7 +80,7 @@ pub fn judge_tick(
     requires begins { BeginsAsTick board.old.accepted.program line.now time }
     ensures { IfOk result (IsJudged board.old board.new line.now) }
 {
-    board.is_standing();
+    board.reveal_invariant();
     let p = board.typed();
     if !is_now(time, board.time()) {
         return read_on(p, line, Judged::Fails(LineKind::WrongTime), from, numbers);

@@ -31,7 +31,7 @@ fn replay_on(
     ensures legal { IfOk result (λ _. IsTraceOf board.old.accepted.program board.old.accepted.cert.jitter board.old.plan lines.old.to_come board.new.entries) }
     ensures refused { IfErr result (λ fail. MatchFail fail (λ _. ⊥) (IsRefusedAt board.old.accepted.program board.old.accepted.cert.jitter board.old.plan lines.old.to_come)) }
 {
-    board.is_standing();
+    board.reveal_invariant();
     read_opening(lines, board.typed(), board.flight(), scratch)?;
     follow(lines, board, scratch, numbers)?;
     match lines.next() {

@@ -11,7 +11,7 @@ use sot_board::Board;
 pub fn board_summary(board: &Board<'_>) -> Summary
     ensures { result ≡ summary_of board.now.accepted.program board.now.plan board.now.entries }
 {
-    board.is_standing();
+    board.reveal_invariant();
     let p = board.typed();
     let counts = count_entries(p, board.history());
     Summary {

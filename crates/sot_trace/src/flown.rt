@@ -12,7 +12,7 @@ use std::alloc::{AllocError, Global};
 pub fn board_text(alloc: Global, board: &Board<'_>) -> Result<String, AllocError>
     ensures { IfOk result (λ text. string_bytes text ≡ trace_text board.now.accepted.program board.now.plan.start board.now.entries) }
 {
-    board.is_standing();
+    board.reveal_invariant();
     trace_text(
         alloc,
         board.typed(),

@@ -161,7 +161,7 @@ fn flown_text(rt: &(impl Abort + Threads + Sync), alloc: Global, mission: &str) 
     let Ok(mut board) = Board::open(alloc, &accepted, flight) else {
         panic!(rt; "the flight does not start");
     };
-    fly(&mut board, flight);
+    fly(&mut board);
     board_text(alloc, &board).expect(rt, "memory")
 }
 

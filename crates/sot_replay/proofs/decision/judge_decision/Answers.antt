@@ -47,5 +47,5 @@ returns c =
     let entry = DecideAt b.position.at.time m c.decide.result in
     judged b new (Decide m) entry line c.compare.result logs (decision_handed b.plan b.position.at.time m c.decide.result)
     (subst (λ (x : Admitted). IsCompared x.program entry line c.compare.result) logs.accepted (c.compare.ensures b.entries entry logs.entries))
-    (λ not. differs b.accepted.program b.accepted.cert.jitter b.plan b.entries b.position line (DecideLine t m mode) spelled time (decision_taken b c.is_standing.ensures m a.0 a.1 left) (λ none. none) (λ none. none)
-    (λ given. not (decision_line b c.is_standing.ensures c.requires.words line t m mode spelled new entry logs given)))
+    (λ not. differs b.accepted.program b.accepted.cert.jitter b.plan b.entries b.position line (DecideLine t m mode) spelled time (decision_taken b c.reveal_invariant.ensures m a.0 a.1 left) (λ none. none) (λ none. none)
+    (λ given. not (decision_line b c.reveal_invariant.ensures c.requires.words line t m mode spelled new entry logs given)))

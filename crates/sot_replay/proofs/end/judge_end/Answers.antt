@@ -42,7 +42,7 @@ returns-then-time-horizon c =
     let (h, events, outside, spelled, reads) = c.requires.spelled in
     let time : h ≡ b.position.at.time = (c.is_now.ensures h reads).0 c.if-not-is_now.false ∙ c.time.ensures in
     let nothing = c.nothing_left.ensures.0 c.if-not-nothing_left.false in
-    let none = no_input_due b c.is_standing.ensures (λ due. both_ways c.due_input.result c.if-due_input.false (c.due_input.ensures.1 due)) in
+    let none = no_input_due b c.reveal_invariant.ensures (λ due. both_ways c.due_input.result c.if-due_input.false (c.due_input.ensures.1 due)) in
     let horizon : c.horizon.result ≡ b.plan.horizon = c.horizon.ensures ∙ ap (λ (f : Plan). f.horizon) c.flight.ensures in
     too_far b.accepted.program b.accepted.cert.jitter b.plan b.entries b.position c.args.line.now (EndLine h events outside) spelled time (end_taken b.accepted.program b.position.at nothing) (λ left. left none)
     (omega (arith, c.if-time-horizon.true, horizon, c.time-2.ensures))
@@ -50,7 +50,7 @@ returns-then-time-horizon c =
 pub returns-then-eq : goal.returns-then-eq
 returns-then-eq c =
     let b = c.args.board.now in
-    let s = c.is_standing.ensures in
+    let s = c.reveal_invariant.ensures in
     let nothing = c.nothing_left.ensures.0 c.if-not-nothing_left.false in
     let none = no_input_due b s (λ due. both_ways c.due_input.result c.if-due_input.false (c.due_input.ensures.1 due)) in
     let horizon : c.horizon.result ≡ b.plan.horizon = c.horizon.ensures ∙ ap (λ (f : Plan). f.horizon) c.flight.ensures in
@@ -67,7 +67,7 @@ returns-then-eq c =
 pub returns-else-eq : goal.returns-else-eq
 returns-else-eq c =
     let b = c.args.board.now in
-    let s = c.is_standing.ensures in
+    let s = c.reveal_invariant.ensures in
     let (h, events, outside, spelled, reads) = c.requires.spelled in
     let now : h ≡ b.position.at.time = (c.is_now.ensures h reads).0 c.if-not-is_now.false ∙ c.time.ensures in
     let nothing = c.nothing_left.ensures.0 c.if-not-nothing_left.false in

@@ -13,7 +13,7 @@ use Rattle.sot_replay.proofs.entry_line.compare.Goals as goal
 pub is_line_of-requires : goal.is_line_of-requires
 is_line_of-requires c =
     let b = c.args.board.now in
-    let s = c.is_standing.ensures in
+    let s = c.reveal_invariant.ensures in
     let fits = flown_fits b.accepted.program s.kept.rules b.accepted.cert.jitter b.plan b.entries b.position s.flown in
     let at = subst (λ (es : List Logged). At es (c.len.result - 1) (entry_of c.entry-entry.result)) c.history-history.ensures c.entry-entry.ensures in
     subst (λ (p : Tables). FitsEntry p (entry_of c.entry-entry.result)) (sym c.typed-p.ensures) (fits _ _ at)
@@ -21,7 +21,7 @@ is_line_of-requires c =
 pub added_by-added-requires : goal.added_by-added-requires
 added_by-added-requires c =
     let b = c.args.board.now in
-    let s = c.is_standing.ensures in
+    let s = c.reveal_invariant.ensures in
     let fits = flown_fits b.accepted.program s.kept.rules b.accepted.cert.jitter b.plan b.entries b.position s.flown in
     let at = subst (λ (es : List Logged). At es (c.len.result - 1) (entry_of c.entry-entry.result)) c.history-history.ensures c.entry-entry.ensures in
     subst (λ (p : Tables). FitsEntry p (entry_of c.entry-entry.result)) (sym c.typed-p.ensures) (fits _ _ at)

@@ -16,7 +16,7 @@ use Rattle.sot_replay.proofs.firing.judge_draft.Goals as goal
 pub returns-in-None : goal.returns-in-None
 returns-in-None c =
     let b = c.args.board.now in
-    let s = c.is_standing.ensures in
+    let s = c.reveal_invariant.ensures in
     let n = c.args.node in
     let line = c.args.line.now in
     let (on, slots, spelled, shows) = c.requires.spelled in
@@ -28,7 +28,7 @@ returns-in-None c =
 pub returns-in-Some : goal.returns-in-Some
 returns-in-Some c =
     let b = c.args.board.now in
-    let s = c.is_standing.ensures in
+    let s = c.reveal_invariant.ensures in
     let new = c.commit_guest-receipt.new.self in
     let n = c.args.node in
     let line = c.args.line.now in

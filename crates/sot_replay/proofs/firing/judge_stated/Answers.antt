@@ -15,7 +15,7 @@ use Rattle.sot_replay.proofs.firing.judge_stated.Goals as goal
 pub returns : goal.returns
 returns c =
     let b = c.args.board.now in
-    let s = c.is_standing.ensures in
+    let s = c.reveal_invariant.ensures in
     let new = c.commit_stated.new.self in
     let n = c.args.node in
     let line = c.args.line.now in

@@ -31,7 +31,7 @@ pub returns-in-Ok-Ends-clause-ended : goal.returns-in-Ok-Ends-clause-ended
 returns-in-Ok-Ends-clause-ended c =
     let (is, numbered, step) = c.in-Some.ensures in
     let ends = subst (λ (j : Judged). IsJudged c.lines.board c.judge.new.board c.in-Some.line.now j) c.in-Ok-Ends.field-0-is c.in-Ok-Ends.ensures in
-    followed_ends c.args.board.now c.args.lines.now.to_come c.args.lines.now.number c.lines.board c.lines.lines.to_come c.lines.lines.number c.lines.invariant.followed c.is_standing.ensures
+    followed_ends c.args.board.now c.args.lines.now.to_come c.args.lines.now.number c.lines.board c.lines.lines.to_come c.lines.lines.number c.lines.invariant.followed c.reveal_invariant.ensures
     c.in-Some.line.now c.next.new.self.to_come c.next.new.self.number c.judge.new.board is step ends
 
 pub returns-in-Ok-Fails-clause-refused : goal.returns-in-Ok-Fails-clause-refused
@@ -40,12 +40,12 @@ returns-in-Ok-Fails-clause-refused c =
     let fails = subst (λ (j : Judged). IsJudged c.lines.board c.judge.new.board c.in-Some.line.now j) c.in-Ok-Fails.field-0-is c.in-Ok-Fails.ensures in
     let words = subst (λ (a : Admitted). AreWords a.program) (sym c.lines.invariant.followed.accepted) c.requires.words in
     subst (λ (n : ℕ). AreRefused c.args.board.now c.args.lines.now.to_come c.args.lines.now.number n c.in-Ok-Fails.kind) (sym numbered)
-    (followed_fails c.args.board.now c.args.lines.now.to_come c.args.lines.now.number c.lines.board c.lines.lines.to_come c.lines.lines.number c.lines.invariant.followed c.is_standing.ensures
+    (followed_fails c.args.board.now c.args.lines.now.to_come c.args.lines.now.number c.lines.board c.lines.lines.to_come c.lines.lines.number c.lines.invariant.followed c.reveal_invariant.ensures
     words c.in-Some.line.now c.next.new.self.to_come c.in-Ok-Fails.kind is fails)
 
 pub returns-clause-refused : goal.returns-clause-refused
 returns-clause-refused c =
     let (none, same) = c.in_default.ensures in
-    let short = followed_short c.args.board.now c.args.lines.now.to_come c.args.lines.now.number c.lines.board c.lines.lines.to_come c.lines.lines.number c.lines.invariant.followed c.is_standing-2.ensures none in
+    let short = followed_short c.args.board.now c.args.lines.now.to_come c.args.lines.now.number c.lines.board c.lines.lines.to_come c.lines.lines.number c.lines.invariant.followed c.reveal_invariant-2.ensures none in
     subst (λ (f : ReplayFail). MatchFail f (λ x. ⊥) (AreRefused c.args.board.now c.args.lines.now.to_come c.args.lines.now.number)) (sym c.missing.ensures)
     (subst (λ (n : ℕ). AreRefused c.args.board.now c.args.lines.now.to_come c.args.lines.now.number n Missing) (sym (ap (λ (l : Lending). l.number) same)) short)

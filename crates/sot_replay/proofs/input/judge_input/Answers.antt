@@ -36,7 +36,7 @@ returns-then-not-due_input c =
     let (info, at, outside, size) = spelled.0 in
     let typed = c.in_default.ensures info value at size holds in
     differs b.accepted.program b.accepted.cert.jitter b.plan b.entries b.position c.args.line.now (InputLine t c.args.topic value) spelled time (input_taken b.accepted.program c.args.topic value typed) (λ none. none) (λ none. none)
-    (λ given. both_ways c.due_input.result c.if-not-due_input.true (c.due_input.ensures.1 (input_due b c.is_standing.ensures c.requires.words c.args.line.now t c.args.topic value spelled given)))
+    (λ given. both_ways c.due_input.result c.if-not-due_input.true (c.due_input.ensures.1 (input_due b c.reveal_invariant.ensures c.requires.words c.args.line.now t c.args.topic value spelled given)))
 
 pub returns : goal.returns
 returns c =
@@ -51,4 +51,4 @@ returns c =
     judged b new (Input k kept) entry line c.compare.result logs (logged_handed b new k kept entry logs)
     (subst (λ (x : Admitted). IsCompared x.program entry line c.compare.result) logs.accepted (c.compare.ensures b.entries entry logs.entries))
     (λ not. differs b.accepted.program b.accepted.cert.jitter b.plan b.entries b.position line (InputLine t c.args.topic value) spelled time (input_taken b.accepted.program c.args.topic value typed) (λ none. none) (λ none. none)
-    (λ given. not (input_line b c.is_standing.ensures c.requires.words line t c.args.topic value spelled new k kept entry logs given)))
+    (λ given. not (input_line b c.reveal_invariant.ensures c.requires.words line t c.args.topic value spelled new k kept entry logs given)))

@@ -48,7 +48,7 @@ pub tick-requires-clause-may : goal.tick-requires-clause-may
 tick-requires-clause-may c =
     let b = c.args.board.now in
     let one = subst (λ (a : Admitted). MayTick a.program a.cert.jitter c.world.result.now.at) c.world.ensures.accepted (c.may_tick.ensures.0 c.if-not-may_tick.false) in
-    (subst (λ (C : Configuration). MayTick b.accepted.program b.accepted.cert.jitter C) c.world.ensures.at one, no_input_due b c.is_standing.ensures (λ due. both_ways c.due_input.result c.if-due_input.false (c.due_input.ensures.1 due)))
+    (subst (λ (C : Configuration). MayTick b.accepted.program b.accepted.cert.jitter C) c.world.ensures.at one, no_input_due b c.reveal_invariant.ensures (λ due. both_ways c.due_input.result c.if-due_input.false (c.due_input.ensures.1 due)))
 
 pub returns-then-due_input : goal.returns-then-due_input
 returns-then-due_input c =
@@ -71,7 +71,7 @@ returns-then-time-horizon c =
     let now = (λ (t : ℕ) (w x : List ℤ) (spelled : IsSpelled p line (TickLine t w x)). (c.is_now.ensures t (tick_reads p line c.args.time t w x c.requires.begins spelled)).0 c.if-not-is_now.false ∙ c.time.ensures) in
     let one = subst (λ (a : Admitted). MayTick a.program a.cert.jitter c.world.result.now.at) c.world.ensures.accepted (c.may_tick.ensures.0 c.if-not-may_tick.false) in
     let may = subst (λ (C : Configuration). MayTick p b.accepted.cert.jitter C) c.world.ensures.at one in
-    let none = no_input_due b c.is_standing.ensures (λ due. both_ways c.due_input.result c.if-due_input.false (c.due_input.ensures.1 due)) in
+    let none = no_input_due b c.reveal_invariant.ensures (λ due. both_ways c.due_input.result c.if-due_input.false (c.due_input.ensures.1 due)) in
     let horizon : c.horizon.result ≡ b.plan.horizon = c.horizon.ensures ∙ ap (λ (f : Plan). f.horizon) c.flight.ensures in
     let fails = subst (λ (q : Tables). FailsTick q line TooFar c.in_ok-kind-2.kind) c.typed-p.ensures c.in_ok-kind-2.ensures in
     tick_fails b b line TooFar c.in_ok-kind-2.kind fails
@@ -86,7 +86,7 @@ returns-in_ok-kind-in-Fails c =
     let now = (λ (t : ℕ) (w x : List ℤ) (spelled : IsSpelled p line (TickLine t w x)). (c.is_now.ensures t (tick_reads p line c.args.time t w x c.requires.begins spelled)).0 c.if-not-is_now.false ∙ c.time.ensures) in
     let one = subst (λ (a : Admitted). MayTick a.program a.cert.jitter c.world.result.now.at) c.world.ensures.accepted (c.may_tick.ensures.0 c.if-not-may_tick.false) in
     let may = subst (λ (C : Configuration). MayTick p b.accepted.cert.jitter C) c.world.ensures.at one in
-    let none = no_input_due b c.is_standing.ensures (λ due. both_ways c.due_input.result c.if-due_input.false (c.due_input.ensures.1 due)) in
+    let none = no_input_due b c.reveal_invariant.ensures (λ due. both_ways c.due_input.result c.if-due_input.false (c.due_input.ensures.1 due)) in
     let horizon : c.horizon.result ≡ b.plan.horizon = c.horizon.ensures ∙ ap (λ (f : Plan). f.horizon) c.flight.ensures in
     let new = c.tick.new.self in
     let (entry, logs) = c.tick.ensures in
@@ -97,4 +97,4 @@ returns-in_ok-kind-in-Fails c =
     (λ t w x spelled out. refused p b.accepted.cert.jitter b.plan b.entries b.position line (TickLine t w x) spelled (now t w x spelled) whys.OutsideType (may, out))
     (λ t w x spelled inside.
     subst (IsFirstFailing p b.accepted.cert.jitter b.plan b.entries b.position line) (sym is)
-    (tick_differs b c.is_standing.ensures c.requires.words line t w x spelled (now t w x spelled) may inside none near new entry logs not))
+    (tick_differs b c.reveal_invariant.ensures c.requires.words line t w x spelled (now t w x spelled) may inside none near new entry logs not))

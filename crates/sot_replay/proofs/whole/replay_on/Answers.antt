@@ -17,7 +17,7 @@ returns-in_err-read_opening-clause-refused c =
     (λ at kind (place, numbered, refused).
     let one = subst (λ (p : Tables). IsOpeningRefused p c.flight.result.now lines.to_come place kind) c.typed.ensures refused in
     let two = subst (λ (f : Plan). IsOpeningRefused b.accepted.program f lines.to_come place kind) c.flight.ensures one in
-    opening_refused b c.is_standing.ensures c.requires.none lines.to_come at place kind (omega (arith, numbered, c.requires.none_lent)) two)
+    opening_refused b c.reveal_invariant.ensures c.requires.none lines.to_come at place kind (omega (arith, numbered, c.requires.none_lent)) two)
     c.in_err-read_opening.ensures.refused in
     rw (q.1, q.2) told
 
@@ -30,7 +30,7 @@ returns-in_err-follow-clause-refused c =
     let two = subst (λ (f : Plan). (lines.to_come ≡ opening_lines b.accepted.program f ++ c.read_opening.new.lines.to_come) × (c.read_opening.new.lines.number ≡ lines.number + length (opening_lines b.accepted.program f))) c.flight.ensures one in
     let number : c.read_opening.new.lines.number ≡ suc (length (opening_lines b.accepted.program b.plan)) = omega (arith, two.1, c.requires.none_lent) in
     let told = fail_map c.in_err-follow.field-0.0 _ (IsRefusedAt b.accepted.program b.accepted.cert.jitter b.plan lines.to_come)
-    (λ at kind refused. subst (λ l. IsRefusedAt b.accepted.program b.accepted.cert.jitter b.plan l at kind) (sym two.0) (refused (opening_lines b.accepted.program b.plan) (opening_tells b c.is_standing.ensures c.requires.none) number))
+    (λ at kind refused. subst (λ l. IsRefusedAt b.accepted.program b.accepted.cert.jitter b.plan l at kind) (sym two.0) (refused (opening_lines b.accepted.program b.plan) (opening_tells b c.reveal_invariant.ensures c.requires.none) number))
     c.in_err-follow.ensures.refused in
     rw (q.1, q.2) told
 
@@ -41,7 +41,7 @@ returns-in-None-clause-legal c =
     let one = subst (λ (p : Tables). (lines.to_come ≡ opening_lines p c.flight.result.now ++ c.read_opening.new.lines.to_come) × (c.read_opening.new.lines.number ≡ lines.number + length (opening_lines p c.flight.result.now))) c.typed.ensures c.in_ok-read_opening.ensures.read in
     let two = subst (λ (f : Plan). (lines.to_come ≡ opening_lines b.accepted.program f ++ c.read_opening.new.lines.to_come) × (c.read_opening.new.lines.number ≡ lines.number + length (opening_lines b.accepted.program f))) c.flight.ensures one in
     let number : c.read_opening.new.lines.number ≡ 1 + length (opening_lines b.accepted.program b.plan) = omega (arith, two.1, c.requires.none_lent) in
-    all_is_trace b c.follow.new.board c.is_standing.ensures c.requires.none lines.to_come c.read_opening.new.lines.to_come two.0 c.read_opening.new.lines.number number c.follow.new.lines.to_come c.follow.new.lines.number c.in_ok-follow.ensures.ended c.in-None.ensures.0
+    all_is_trace b c.follow.new.board c.reveal_invariant.ensures c.requires.none lines.to_come c.read_opening.new.lines.to_come two.0 c.read_opening.new.lines.number number c.follow.new.lines.to_come c.follow.new.lines.number c.in_ok-follow.ensures.ended c.in-None.ensures.0
 
 pub returns-in-Some-clause-refused : goal.returns-in-Some-clause-refused
 returns-in-Some-clause-refused c =
@@ -52,5 +52,5 @@ returns-in-Some-clause-refused c =
     let number : c.read_opening.new.lines.number ≡ 1 + length (opening_lines b.accepted.program b.plan) = omega (arith, two.1, c.requires.none_lent) in
     let (here, numbered, step) = c.in-Some.ensures in
     subst (λ (n : ℕ). IsRefusedAt b.accepted.program b.accepted.cert.jitter b.plan lines.to_come n Ended) (sym numbered)
-    (more_is_refused b c.follow.new.board c.is_standing.ensures c.requires.none lines.to_come c.read_opening.new.lines.to_come two.0 c.read_opening.new.lines.number number c.follow.new.lines.to_come c.follow.new.lines.number c.in_ok-follow.ensures.ended
+    (more_is_refused b c.follow.new.board c.reveal_invariant.ensures c.requires.none lines.to_come c.read_opening.new.lines.to_come two.0 c.read_opening.new.lines.number number c.follow.new.lines.to_come c.follow.new.lines.number c.in_ok-follow.ensures.ended
     c.requires.words c.in-Some.field-0-1.now c.next.new.self.to_come here)

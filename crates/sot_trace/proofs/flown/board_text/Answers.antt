@@ -10,7 +10,7 @@ use Rattle.sot_trace.proofs.flown.board_text.Goals as goal
 -- src/flown.rt:16:5
 pub trace_text-requires-clause-fits : goal.trace_text-requires-clause-fits
 trace_text-requires-clause-fits c =
-    let standing = c.is_standing.ensures in
+    let standing = c.reveal_invariant.ensures in
     let fits = flown_fits c.args.board.now.accepted.program standing.kept.rules c.args.board.now.accepted.cert.jitter c.args.board.now.plan c.args.board.now.entries c.args.board.now.position standing.flown in
     subst (λ (es : List Logged). FitsHistory c.typed.result.now es) (sym c.history.ensures) (subst (λ (p : Tables). FitsHistory p c.args.board.now.entries) (sym c.typed.ensures) fits)
 
