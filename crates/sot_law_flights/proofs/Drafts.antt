@@ -29,13 +29,18 @@ zeros (x ∷ xs) (suc n) = zeros xs n
 module _ (p : Tables) (jitter : ℕ) (f : Plan) where
   one_count : (P Q : Position) (e : Event) (r : _) (x : Logged) (done : List Logged) (n : ℕ) → n < length P.fired → fired_of P n ≡ length (drafts_of n done)
       → Tells P.at e r Q.at x → Q.fired ≡ fired_after e P.fired → fired_of Q n ≡ length (drafts_of n (done ++ x ∷ []))
-  one_count P Q (Input topic value) r x done n lt was is after = ap (λ xs. slice_index_or xs n 0) after ∙ was ∙ sym (no_firing n done x (ap (λ y. drafts_of n (y ∷ [])) is))
+  one_count P Q (Input topic value) r x done n lt was is after =
+      ap (λ xs. slice_index_or xs n 0) after ∙ was ∙ sym (no_firing n done x (ap (λ y. drafts_of n (y ∷ [])) is))
   one_count P Q (Code m) r x done n lt was (draft, enabled, recorded, is) after =
-      ap (λ xs. slice_index_or xs n 0) after ∙ count_firing n m P.at.time (in_slots draft) enabled done P.fired lt was ∙ ap (λ y. length (drafts_of n (done ++ y ∷ []))) (sym is)
+      ap (λ xs. slice_index_or xs n 0) after ∙ count_firing n m P.at.time (in_slots draft) enabled done P.fired lt was
+      ∙ ap (λ y. length (drafts_of n (done ++ y ∷ []))) (sym is)
   one_count P Q (Guest m d) r x done n lt was (draft, enabled, recorded, is) after =
-      ap (λ xs. slice_index_or xs n 0) after ∙ count_firing n m P.at.time (in_slots draft) enabled done P.fired lt was ∙ ap (λ y. length (drafts_of n (done ++ y ∷ []))) (sym is)
-  one_count P Q (Decide m) r x done n lt was (mode, recorded, is) after = ap (λ xs. slice_index_or xs n 0) after ∙ was ∙ sym (no_firing n done x (ap (λ y. drafts_of n (y ∷ [])) is))
-  one_count P Q (Tick noise) r x done n lt was is after = ap (λ xs. slice_index_or xs n 0) after ∙ was ∙ sym (no_firing n done x (ap (λ y. drafts_of n (y ∷ [])) is))
+      ap (λ xs. slice_index_or xs n 0) after ∙ count_firing n m P.at.time (in_slots draft) enabled done P.fired lt was
+      ∙ ap (λ y. length (drafts_of n (done ++ y ∷ []))) (sym is)
+  one_count P Q (Decide m) r x done n lt was (mode, recorded, is) after =
+      ap (λ xs. slice_index_or xs n 0) after ∙ was ∙ sym (no_firing n done x (ap (λ y. drafts_of n (y ∷ [])) is))
+  one_count P Q (Tick noise) r x done n lt was is after =
+      ap (λ xs. slice_index_or xs n 0) after ∙ was ∙ sym (no_firing n done x (ap (λ y. drafts_of n (y ∷ [])) is))
 
   one_width : (e : Event) (fired : List ℕ) → length (fired_after e fired) ≡ length fired
   one_width (Input topic value) fired = refl
@@ -44,7 +49,8 @@ module _ (p : Tables) (jitter : ℕ) (f : Plan) where
   one_width (Decide m) fired = refl
   one_width (Tick noise) fired = refl
 
-  led_count : (P : Position) (done xs : List Logged) (Q : Position) (n : ℕ) → n < length P.fired → fired_of P n ≡ length (drafts_of n done) → Leads p jitter f P xs Q
+  led_count : (P : Position) (done xs : List Logged) (Q : Position) (n : ℕ) → n < length P.fired → fired_of P n ≡ length (drafts_of n done)
+      → Leads p jitter f P xs Q
       → fired_of Q n ≡ length (drafts_of n (done ++ xs))
   led_count P done [] Q n lt was led = ap (λ (x : Position). fired_of x n) (sym led) ∙ was ∙ ap (λ es. length (drafts_of n es)) (sym (append-nil done))
   led_count P done (x ∷ xs) Q n lt was (R, flies, led) =
@@ -53,7 +59,8 @@ module _ (p : Tables) (jitter : ℕ) (f : Plan) where
       let count = one_count P R flies.event flies.recorded x done n lt was flies.tells flies.fired in
       led_count R (done ++ x ∷ []) xs Q n lt' count led ∙ ap (λ es. length (drafts_of n es)) (append_assoc done (x ∷ []) xs)
 
-  one_draft : (P Q : Position) (e : Event) (r : Recorded) (time n : ℕ) (draft : List (Option ℤ)) (enabled : Bool) (node : NodeInfo) (crew : Crew) (stated : List (Option ℤ))
+  one_draft : (P Q : Position) (e : Event) (r : Recorded) (time n : ℕ) (draft : List (Option ℤ)) (enabled : Bool) (node : NodeInfo) (crew : Crew)
+      (stated : List (Option ℤ))
       → At p.nodes n node → node.body ≡ None → At f.crews n crew → draft_of p node crew (fired_of P n) ≡ Some stated
       → IsStated p f P e → Step p jitter P.at e Q.at → Records p P.at e Q.at r → Tells P.at e r Q.at (FireAt time n draft enabled) → draft ≡ in_slots stated
   one_draft P Q (Input topic value) r time n draft enabled node crew stated at none at_crew states as_stated step records is = absurd cc
@@ -62,7 +69,8 @@ module _ (p : Tables) (jitter : ℕ) (f : Plan) where
       let node_is : step.node ≡ node = same_Some step.node node (sym (subst (λ k. At p.nodes k step.node) same step.is) ∙ at) in
       let body = sym step.coded.1 ∙ ap (λ (x : NodeInfo). x.body) node_is ∙ none in
       absurd cc
-  one_draft P Q (Guest m given) r time n draft enabled node crew stated at none at_crew states (node', crew', at', at_crew', drafted) step records (d, en, was, is) =
+  one_draft P Q (Guest m given) r time n draft enabled node crew stated at none at_crew states (node', crew', at', at_crew', drafted) step records
+      (d, en, was, is) =
       let same : m ≡ n = cc in
       let node_is : node' ≡ node = same_Some node' node (sym (subst (λ k. At p.nodes k node') same at') ∙ at) in
       let crew_is : crew' ≡ crew = same_Some crew' crew (sym (subst (λ k. At f.crews k crew') same at_crew') ∙ at_crew) in
@@ -76,7 +84,8 @@ module _ (p : Tables) (jitter : ℕ) (f : Plan) where
   one_draft P Q (Decide m) r time n draft enabled node crew stated at none at_crew states as_stated step records (mode, was, is) = absurd cc
   one_draft P Q (Tick noise) r time n draft enabled node crew stated at none at_crew states as_stated step records is = absurd cc
 
-  pub flown_drafts : (xs : List Logged) (time n : ℕ) (draft : List (Option ℤ)) (enabled : Bool) (Q : Position) → FlownSoFar p jitter f (xs ++ FireAt time n draft enabled ∷ []) Q
+  pub flown_drafts : (xs : List Logged) (time n : ℕ) (draft : List (Option ℤ)) (enabled : Bool) (Q : Position)
+      → FlownSoFar p jitter f (xs ++ FireAt time n draft enabled ∷ []) Q
       → (node : NodeInfo) (crew : Crew) (stated : List (Option ℤ)) → At p.nodes n node → node.body ≡ None → At f.crews n crew
       → draft_of p node crew (length (drafts_of n xs)) ≡ Some stated → draft ≡ in_slots stated
   flown_drafts xs time n draft enabled Q (P, start, led) node crew stated at none at_crew states =

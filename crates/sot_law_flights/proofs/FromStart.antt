@@ -24,7 +24,8 @@ use Rattle.sot_law_flights.specs.Completion.{HistoriesCanBeCompleted}
 use Rattle.sot_law_flights.proofs.Completing.{stands_after, flights_can_be_completed}
 
 opens_safer : (p : Tables) (f : Plan) (C : Configuration) → IsOpening p f.start C → StartInside p f.start (length p.modules) → IsSafer p C
-opens_safer p f C opening inside m a at = subst (λ points. IsInRegion a.safer.boxes (slice_index_or points a.plant [])) (sym opening.points) (inside m a (slice_get_within p.modules m a at) at)
+opens_safer p f C opening inside m a at =
+    subst (λ points. IsInRegion a.safer.boxes (slice_index_or points a.plant [])) (sym opening.points) (inside m a (slice_get_within p.modules m a at) at)
 
 none_fired : (nodes : List NodeInfo) (n : ℕ) → slice_index_or (map (λ x. let k : ℕ = 0 in k) nodes) n 0 ≡ 0
 none_fired [] n = refl
@@ -35,12 +36,15 @@ none_fired (x ∷ nodes) (suc n) = none_fired nodes n
 abbrev standing_of : Admitted → Plan → List Logged → Position → Standing
 standing_of a f entries P = record { accepted = a; plan = f; entries = entries; position = P }
 
-module _ (a : Admitted) (guests : ℕ) (f : Plan) (rules : MeetsTableRules a.program) (certified : IsWellCertified a.program a.cert.jitter a.cert) (fits : FitsFlight a.program guests f) (inside : StartInside a.program f.start (length a.program.modules)) where
+module _ (a : Admitted) (guests : ℕ) (f : Plan) (rules : MeetsTableRules a.program) (certified : IsWellCertified a.program a.cert.jitter a.cert)
+    (fits : FitsFlight a.program guests f) (inside : StartInside a.program f.start (length a.program.modules)) where
   kept_at_start : (P : Position) → IsStart a.program f P → IsKept a P.at
   kept_at_start P start = record {
     rules = rules;
     certified = certified;
-    holds = opening_holds a.program a.cert.jitter rules.typed (certified_well a.program a.cert.jitter a.cert rules.typed certified) f.start P.at start.opening (opens_safer a.program f P.at start.opening inside);
+    holds =
+        opening_holds a.program a.cert.jitter rules.typed (certified_well a.program a.cert.jitter a.cert rules.typed certified) f.start P.at start.opening
+        (opens_safer a.program f P.at start.opening inside);
     time = omega (arith, start.opening.time);
   }
 
@@ -58,8 +62,10 @@ module _ (a : Admitted) (guests : ℕ) (f : Plan) (rules : MeetsTableRules a.pro
     fired = λ n lt. ap (λ l. slice_index_or l n 0) start.fired ∙ none_fired a.program.nodes n;
   }
 
-  stands_further : (entries : List Logged) (P : Position) → IsStanding (standing_of a f entries P) → (more : List Logged) (Q : Position) → Leads a.program a.cert.jitter f P more Q → IsStanding (standing_of a f (entries ++ more) Q)
-  stands_further entries P is [] Q led = subst (λ es. IsStanding (standing_of a f es Q)) (sym (append-nil entries)) (subst (λ S. IsStanding (standing_of a f entries S)) led is)
+  stands_further : (entries : List Logged) (P : Position) → IsStanding (standing_of a f entries P) → (more : List Logged) (Q : Position)
+      → Leads a.program a.cert.jitter f P more Q → IsStanding (standing_of a f (entries ++ more) Q)
+  stands_further entries P is [] Q led =
+      subst (λ es. IsStanding (standing_of a f es Q)) (sym (append-nil entries)) (subst (λ S. IsStanding (standing_of a f entries S)) led is)
   stands_further entries P is (e ∷ more) Q (R, flies, led) =
       subst (λ es. IsStanding (standing_of a f es Q)) (append_assoc entries (e ∷ []) more)
       (stands_further (entries ++ e ∷ []) R (stands_after (standing_of a f entries P) is e R flies) more Q led)

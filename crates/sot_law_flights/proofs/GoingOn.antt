@@ -1,5 +1,6 @@
 -- Wherever a flight stands it is at its end, or it goes on.
-use Rattle.std.proofs.Common.{◌≡◌, ℕ, zero, suc, ◌+◌, ◌-◌, ◌≤◌, ◌<◌, ℤ, Bool, true, false, ◌⊎◌, ⊎_elim, inl, inr, List, [], ◌∷◌, ◌++◌, Option, Some, None, length, replicate, refl, sym, ap, ◌∙◌, subst, arith}
+use Rattle.std.proofs.Common.{◌≡◌, ℕ, zero, suc, ◌+◌, ◌-◌, ◌≤◌, ◌<◌, ℤ, Bool, true, false, ◌⊎◌, ⊎_elim, inl, inr, List, [], ◌∷◌, ◌++◌, Option, Some, None}
+use Rattle.std.proofs.Common.{length, replicate, refl, sym, ap, ◌∙◌, subst, arith}
 use Rattle.std.specs.Prelude.{slice_index_or}
 use Rattle.std.proofs.lemmas.Bool.{cases_eq, cases_lt, false≢true}
 use Rattle.std.proofs.lemmas.List.{length-replicate, replicate-append-replicate}
@@ -29,7 +30,8 @@ use Rattle.sot_law_flights.proofs.Keeping.{keeps_settled}
 
 -- the flight goes on by an entry with which no guest drafts anything
 abbrev pub GoesOn : Standing → Type 0
-GoesOn b = (entry : Logged) × (Q : Position) × Flies b.accepted.program b.accepted.cert.jitter b.plan b.position entry Q × GuestsDraftNothing b.plan (entry ∷ [])
+GoesOn b =
+    (entry : Logged) × (Q : Position) × Flies b.accepted.program b.accepted.cert.jitter b.plan b.position entry Q × GuestsDraftNothing b.plan (entry ∷ [])
 
 -- an entry that is no firing has no draft
 input_silent : (f : Plan) (t topic : ℕ) (value : List ℤ) → GuestsDraftNothing f (InputAt t topic value ∷ [])
@@ -45,7 +47,8 @@ tick_silent f t noise states zero time n guest draft enabled at crew = absurd (l
 tick_silent f t noise states (suc i) time n guest draft enabled at crew = cc
 
 -- a firing whose draft is none, if a guest flies the node
-firing_silent : (f : Plan) (t k : ℕ) (slots : List (Option ℤ)) (on : Bool) → ((guest : ℕ) → At f.crews k (plans.Guest guest) → slots ≡ replicate 8 None) → GuestsDraftNothing f (FireAt t k slots on ∷ [])
+firing_silent : (f : Plan) (t k : ℕ) (slots : List (Option ℤ)) (on : Bool) → ((guest : ℕ) → At f.crews k (plans.Guest guest) → slots ≡ replicate 8 None)
+    → GuestsDraftNothing f (FireAt t k slots on ∷ [])
 firing_silent f t k slots on none zero time n guest draft enabled at crew =
     let e : FireAt t k slots on ≡ FireAt time n draft enabled = same_Some _ _ at in
     let node : n ≡ k = cc in
@@ -77,7 +80,9 @@ at_its_time x t now = ap (λ n. let y : StatedInput = record { at = n; topic = x
 
 module _ (b : Standing) (is : IsStanding b) where
   can : CanGoOn b.accepted.program b.accepted.cert.jitter b.position.at
-  can = something_can_happen b.accepted.program b.accepted.cert.jitter b.position.at is.kept.rules.typed (well_formed b.accepted b.position.at is.kept) is.kept.holds
+  can =
+      something_can_happen b.accepted.program b.accepted.cert.jitter b.position.at is.kept.rules.typed (well_formed b.accepted b.position.at is.kept)
+      is.kept.holds
 
   input_comes : InputDue b.position → GoesOn b
   input_comes (x, rest, first, now) =
@@ -104,7 +109,8 @@ module _ (b : Standing) (is : IsStanding b) where
       let P = b.position in
       let p = b.accepted.program in
       let a = at_below p.modules m there in
-      let happens = can.decide m a.0 a.1 left (keeps_settled p b.accepted.cert.jitter b.accepted.cert is.kept.rules is.kept.certified m a.0 a.1 (point_of P.at a.0.plant)) in (
+      let happens = can.decide m a.0 a.1 left (keeps_settled p b.accepted.cert.jitter b.accepted.cert is.kept.rules is.kept.certified m a.0 a.1
+      (point_of P.at a.0.plant)) in (
         DecideAt P.at.time m (mode_of happens.0 m),
         record { at = happens.0; inputs = P.inputs; fired = P.fired },
         record {
@@ -138,13 +144,16 @@ module _ (b : Standing) (is : IsStanding b) where
           inputs = refl;
           fired = refl;
         },
-        firing_silent b.plan P.at.time n (in_slots draft) (is_enabled p P.at n) (λ guest crew. absurd (let none = is.fits.crewed n node (plans.Guest guest) at crew in let e = sym body ∙ none in cc)),
+        firing_silent b.plan P.at.time n (in_slots draft) (is_enabled p P.at n)
+            (λ guest crew. absurd (let none = is.fits.crewed n node (plans.Guest guest) at crew in let e = sym body ∙ none in cc)),
       )
 
   -- with a draft as it is stated, which is none for a guest
   external_fires :
-      (n : ℕ) (node : NodeInfo) (crew : plans.Crew) (draft : List (Option ℤ)) → At b.accepted.program.nodes n node → At b.plan.crews n crew → node.body ≡ None → length draft ≡ length node.writes.items
-      → IsStatedDraft (draft_of b.accepted.program node crew (fired_of b.position n)) draft → ((guest : ℕ) → crew ≡ plans.Guest guest → in_slots draft ≡ replicate 8 None) → is_left b.position.at n ≡ true → GoesOn b
+      (n : ℕ) (node : NodeInfo) (crew : plans.Crew) (draft : List (Option ℤ)) → At b.accepted.program.nodes n node → At b.plan.crews n crew → node.body ≡ None
+      → length draft ≡ length node.writes.items
+      → IsStatedDraft (draft_of b.accepted.program node crew (fired_of b.position n)) draft
+      → ((guest : ℕ) → crew ≡ plans.Guest guest → in_slots draft ≡ replicate 8 None) → is_left b.position.at n ≡ true → GoesOn b
   external_fires n node crew draft at at_c body size stated silent left =
       let P = b.position in
       let p = b.accepted.program in
@@ -161,24 +170,30 @@ module _ (b : Standing) (is : IsStanding b) where
           inputs = refl;
           fired = refl;
         },
-        firing_silent b.plan P.at.time n (in_slots draft) (is_enabled p P.at n) (λ guest crew'. silent guest (at_same b.plan.crews n crew (plans.Guest guest) at_c crew')),
+        firing_silent b.plan P.at.time n (in_slots draft) (is_enabled p P.at n)
+            (λ guest crew'. silent guest (at_same b.plan.crews n crew (plans.Guest guest) at_c crew')),
       )
 
-  crew_fires : (n : ℕ) (node : NodeInfo) (crew : plans.Crew) → At b.accepted.program.nodes n node → At b.plan.crews n crew → FitsCrew node crew → node.body ≡ None → is_left b.position.at n ≡ true → GoesOn b
+  crew_fires : (n : ℕ) (node : NodeInfo) (crew : plans.Crew) → At b.accepted.program.nodes n node → At b.plan.crews n crew → FitsCrew node crew
+      → node.body ≡ None → is_left b.position.at n ≡ true → GoesOn b
   crew_fires n node plans.Coded at at_c fits body left = absurd (let e = sym body ∙ fits.1.1 in cc)
   crew_fires n node (plans.Script drafts) at at_c fits body left =
-      external_fires n node (plans.Script drafts) _ at at_c body (draft_size b.accepted.program node (plans.Script drafts) (fired_of b.position n) _ fits refl) refl (λ guest e. cc) left
+      external_fires n node (plans.Script drafts) _ at at_c body (draft_size b.accepted.program node (plans.Script drafts) (fired_of b.position n) _ fits refl)
+      refl (λ guest e. cc) left
   crew_fires n node (plans.Wild seed stream) at at_c fits body left =
-      external_fires n node (plans.Wild seed stream) _ at at_c body (draft_size b.accepted.program node (plans.Wild seed stream) (fired_of b.position n) _ fits refl) refl (λ guest e. cc) left
+      external_fires n node (plans.Wild seed stream) _ at at_c body
+      (draft_size b.accepted.program node (plans.Wild seed stream) (fired_of b.position n) _ fits refl) refl (λ guest e. cc) left
   crew_fires n node (plans.Guest i) at at_c fits body left =
       let few = (is.kept.rules.nodes n node at).writes in
-      external_fires n node (plans.Guest i) (replicate (length node.writes.items) None) at at_c body (length-replicate (length node.writes.items) None) tt (λ guest e. nothing_in_slots (length node.writes.items) few) left
+      external_fires n node (plans.Guest i) (replicate (length node.writes.items) None) at at_c body (length-replicate (length node.writes.items) None) tt
+      (λ guest e. nothing_in_slots (length node.writes.items) few) left
 
   node_fires : (n : ℕ) → n < length b.accepted.program.nodes → is_left b.position.at n ≡ true → GoesOn b
   node_fires n there left = by_body (at_below b.accepted.program.nodes n there)
     where
       by_node : (node : NodeInfo) → At b.accepted.program.nodes n node → (body : _) → node.body ≡ body → GoesOn b
-      by_node node at None body = (let crew = crew_is b.accepted.program is.guests b.plan is.fits n node at in crew_fires n node crew.0 at crew.1 crew.2 body left)
+      by_node node at None body =
+          (let crew = crew_is b.accepted.program is.guests b.plan is.fits n node at in crew_fires n node crew.0 at crew.1 crew.2 body left)
       by_node node at (Some v) body = coded_fires n node v at body left
 
       by_body : (node : NodeInfo) × At b.accepted.program.nodes n node → GoesOn b
@@ -189,7 +204,8 @@ module _ (b : Standing) (is : IsStanding b) where
       let P = b.position in
       let p = b.accepted.program in
       let noise = stated_noise p b.plan P.at.time in
-      let happens = can.tick noise may (stated_length p is.guests b.plan is.fits P.at.time) (stated_within p is.guests b.plan is.fits is.kept.rules P.at.time) in (
+      let happens = can.tick noise may (stated_length p is.guests b.plan is.fits P.at.time) (stated_within p is.guests b.plan is.fits is.kept.rules P.at.time)
+      in (
         TickAt P.at.time (joined noise) (joined happens.0.points),
         record { at = happens.0; inputs = P.inputs; fired = P.fired },
         record {
@@ -206,10 +222,14 @@ module _ (b : Standing) (is : IsStanding b) where
       )
 
   -- nothing is left, and no input is due: the end, or a tick
-  settled_goes : NoInputDue b.position → ((n : ℕ) → is_left b.position.at n ≡ false) → ((m : ℕ) → is_left_dm b.position.at m ≡ false) → IsEnd b.accepted.program b.plan b.position ⊎ GoesOn b
+  settled_goes : NoInputDue b.position → ((n : ℕ) → is_left b.position.at n ≡ false) → ((m : ℕ) → is_left_dm b.position.at m ≡ false)
+      → IsEnd b.accepted.program b.plan b.position ⊎ GoesOn b
   settled_goes none nodes modules =
       ⊎_elim
-      (λ before. inr (plants_tick none (record { nodes = λ n node d at left last. absurd (false≢true (sym (nodes n) ∙ left)); modules = λ m a d at left last. absurd (false≢true (sym (modules m) ∙ left)) }) before))
+      (λ before. inr (plants_tick none (record {
+        nodes = λ n node d at left last. absurd (false≢true (sym (nodes n) ∙ left));
+        modules = λ m a d at left last. absurd (false≢true (sym (modules m) ∙ left));
+      }) before))
       (λ past.
       let end : b.position.at.time ≡ b.plan.horizon = omega (arith, past, is.in_time) in
       inl (record { time = end; inputs = no_input_left b is end none; nothing = record { nodes = λ n node at. nodes n; modules = λ m a at. modules m } }))

@@ -41,7 +41,8 @@ module _ (plant : PlantInfo) (commands seen : List Side) (region : List (List Si
     (ordered_commands : AreOrdered commands) (ordered_seen : AreOrdered seen) (ordered_bounds : AreOrdered (bounds plant)) where
   ordered_names : (box : List Side) → AreOrdered box → AreOrdered (box ++ commands ++ seen ++ bounds plant)
   ordered_names box ordered =
-      append_ordered (box ++ commands ++ seen) (bounds plant) (append_ordered (box ++ commands) seen (append_ordered box commands ordered ordered_commands) ordered_seen) ordered_bounds
+      append_ordered (box ++ commands ++ seen) (bounds plant)
+      (append_ordered (box ++ commands) seen (append_ordered box commands ordered ordered_commands) ordered_seen) ordered_bounds
 
   -- the next box is one of intervals in order
   ordered_next : (box next : List Side) → AreOrdered box → IsNextBox plant box commands seen (Ok next) → AreOrdered next
@@ -54,11 +55,13 @@ module _ (plant : PlantInfo) (commands seen : List Side) (region : List (List Si
   stays_settled zero box ordered = covers_settled region box
   stays_settled (suc k) box ordered =
       ⊎_elim
-      (λ covers. goes_on covers (λ next later. stays_settled k next later) (term_intervals plant.next.items (box ++ commands ++ seen ++ bounds plant)) (terms_are n plant.next.items (box ++ commands ++ seen ++ bounds plant) (ordered_names box ordered) places))
+      (λ covers. goes_on covers (λ next later. stays_settled k next later) (term_intervals plant.next.items (box ++ commands ++ seen ++ bounds plant))
+      (terms_are n plant.next.items (box ++ commands ++ seen ++ bounds plant) (ordered_names box ordered) places))
       (λ not. inr (λ stays. not stays.0))
       (covers_settled region box)
     where
-      goes_on : Covers region box → ((next : List Side) → AreOrdered next → IsSettled (StaysInside plant commands seen region next k)) → (o : OrMayTrap (List Side)) → IsNextBox plant box commands seen o → IsSettled (StaysInside plant commands seen region box (suc k))
+      goes_on : Covers region box → ((next : List Side) → AreOrdered next → IsSettled (StaysInside plant commands seen region next k))
+          → (o : OrMayTrap (List Side)) → IsNextBox plant box commands seen o → IsSettled (StaysInside plant commands seen region box (suc k))
       goes_on covers later (Err t) is = inr (λ stays. let e = plant_same plant box commands seen (Err t) (Ok stays.1.0) is stays.1.1 in cc)
       goes_on covers later (Ok next) is =
           ⊎_elim
@@ -71,7 +74,8 @@ module _ (plant : PlantInfo) (commands seen : List Side) (region : List (List Si
 
 module _ (p : Tables) (jitter : ℕ) (cert : Cert) (rules : MeetsTableRules p) (certified : IsWellCertified p jitter cert) where
   -- the plants that a module's plant sees have hulls: a reach cell of its certificate tells them
-  hulls_of : (m : ℕ) (a : ModuleInfo) (plant : PlantInfo) → At p.modules m a → At p.plants a.plant plant → (hulls : List (List Side)) × AreHulls p.modules plant.sees.items hulls
+  hulls_of : (m : ℕ) (a : ModuleInfo) (plant : PlantInfo) → At p.modules m a → At p.plants a.plant plant
+      → (hulls : List (List Side)) × AreHulls p.modules plant.sees.items hulls
   hulls_of m a plant at at_p =
       let cells = certified.entries m a at in
       let point = some_point a.safer.boxes (certified.boxes m a at).1 (λ i b at_b. ((rules.modules m a at).safer.each i b at_b).1) in
@@ -86,12 +90,16 @@ module _ (p : Tables) (jitter : ℕ) (cert : Cert) (rules : MeetsTableRules p) (
       by_plant (plant, at_p) =
           let hulls = hulls_of m a plant at at_p in
           let r = rules.plants a.plant plant at_p in
-          let inputs = within_in_order (input_ranges p plant) _ (within_picked (scalar_ranges p) (map (λ i. i.init) p.scalars) plant.inputs.items rules.typed.inits) in
+          let inputs = within_in_order (input_ranges p plant) _
+          (within_picked (scalar_ranges p) (map (λ i. i.init) p.scalars) plant.inputs.items rules.typed.inits) in
           ⊎_elim
           (λ stays. inl (record { plant = plant; is = at_p; inside = record { hulls = hulls.0; are = hulls.1; stays = stays } }))
           (λ not. inr (λ keeps.
-          let inside = subst (λ x. AnyTubeInside p x a.safe.boxes (point_box s) (2 * (a.period + jitter))) (at_same p.plants a.plant keeps.plant plant keeps.is at_p) keeps.inside in
-          not (subst (λ hs. StaysInside plant (input_ranges p plant) (joined_boxes hs) a.safe.boxes (point_box s) (2 * (a.period + jitter))) (hulls_same p.modules plant.sees.items inside.hulls hulls.0 inside.are hulls.1) inside.stays)))
-          (stays_settled plant (input_ranges p plant) (joined_boxes hulls.0) a.safe.boxes (length (plant_truths p plant)) (HavePlaces-TermsFit (plant_truths p plant) plant.next.items r.next)
+          let inside = subst (λ x. AnyTubeInside p x a.safe.boxes (point_box s) (2 * (a.period + jitter)))
+          (at_same p.plants a.plant keeps.plant plant keeps.is at_p) keeps.inside in
+          not (subst (λ hs. StaysInside plant (input_ranges p plant) (joined_boxes hs) a.safe.boxes (point_box s) (2 * (a.period + jitter)))
+          (hulls_same p.modules plant.sees.items inside.hulls hulls.0 inside.are hulls.1) inside.stays)))
+          (stays_settled plant (input_ranges p plant) (joined_boxes hulls.0) a.safe.boxes (length (plant_truths p plant))
+          (HavePlaces-TermsFit (plant_truths p plant) plant.next.items r.next)
           inputs (hulls_ordered p.modules plant.sees.items hulls.0 hulls.1) (noise_ordered plant.noise.items (λ i d at_d. (r.noise_ranges i d at_d).1.0))
           (2 * (a.period + jitter)) (point_box s) (point_ordered s))

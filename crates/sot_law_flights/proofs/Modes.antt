@@ -13,7 +13,8 @@ use Rattle.sot_law_flights.proofs.Told.{led_last}
 
 module _ (p : Tables) (jitter : ℕ) where
   -- an entry of a decision comes of a decision alone
-  one_mode : (C D : Configuration) (e : Event) (r : Recorded) (time m : ℕ) (mode : Mode) → Step p jitter C e D → Records p C e D r → Tells C e r D (DecideAt time m mode) → (time ≡ D.time) × (mode ≡ mode_of D m)
+  one_mode : (C D : Configuration) (e : Event) (r : Recorded) (time m : ℕ) (mode : Mode) → Step p jitter C e D → Records p C e D r
+      → Tells C e r D (DecideAt time m mode) → (time ≡ D.time) × (mode ≡ mode_of D m)
   one_mode C D (Input topic value) r time m mode step records is = absurd cc
   one_mode C D (Code n) r time m mode step records (draft, enabled, was, is) = absurd cc
   one_mode C D (Guest n d) r time m mode step records (draft, enabled, was, is) = absurd cc
@@ -27,7 +28,8 @@ module _ (p : Tables) (jitter : ℕ) where
   one_mode C D (Tick noise) r time m mode step records is = absurd cc
 
   -- a firing, of a coded node or of any other
-  one_enabled : (C D : Configuration) (e : Event) (r : Recorded) (time n : ℕ) (draft : List (Option ℤ)) (enabled : Bool) → Step p jitter C e D → Records p C e D r → Tells C e r D (FireAt time n draft enabled) → (time ≡ D.time) × (enabled ≡ is_enabled p D n)
+  one_enabled : (C D : Configuration) (e : Event) (r : Recorded) (time n : ℕ) (draft : List (Option ℤ)) (enabled : Bool) → Step p jitter C e D
+      → Records p C e D r → Tells C e r D (FireAt time n draft enabled) → (time ≡ D.time) × (enabled ≡ is_enabled p D n)
   one_enabled C D (Input topic value) r time n draft enabled step records is = absurd cc
   one_enabled C D (Code k) r time n draft enabled step records (told, on, was, is) =
       let same : NodeFired told on ≡ NodeFired records.fired.draft (is_enabled p C k) = sym was ∙ records.recorded in

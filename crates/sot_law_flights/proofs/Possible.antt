@@ -11,7 +11,8 @@ use Rattle.sot_world.proofs.Possible.{possible_is_step}
 use Rattle.sot_law_flights.specs.Possible.{HasEightSlots, PossibleHasStep}
 use Rattle.sot_law_flights.proofs.Keeping.{keeps_settled}
 
-settled : (a : Admitted) (C : Configuration) (e : Event) → MeetsTableRules a.program → IsWellCertified a.program a.cert.jitter a.cert → HasEightSlots e → IsSettled a.program a.cert.jitter C e
+settled : (a : Admitted) (C : Configuration) (e : Event) → MeetsTableRules a.program → IsWellCertified a.program a.cert.jitter a.cert → HasEightSlots e
+    → IsSettled a.program a.cert.jitter C e
 settled a C (Input topic value) rules certified eight = tt
 settled a C (Code n) rules certified eight = tt
 settled a C (Guest n draft) rules certified eight = eight

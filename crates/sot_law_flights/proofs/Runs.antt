@@ -40,9 +40,12 @@ module _ (p : Tables) (jitter : ℕ) (f : Plan) where
       (R, (P, start, begun))
 
   starts_safer : (C : Configuration) → IsOpening p f.start C → StartInside p f.start (length p.modules) → IsSafer p C
-  starts_safer C opening inside = λ m a at. subst (λ (points : List (List ℤ)). IsInRegion a.safer.boxes (slice_index_or points a.plant [])) (sym opening.points) (inside m a (slice_get_within p.modules m a at) at)
+  starts_safer C opening inside =
+      λ m a at. subst (λ (points : List (List ℤ)). IsInRegion a.safer.boxes (slice_index_or points a.plant [])) (sym opening.points)
+      (inside m a (slice_get_within p.modules m a at) at)
 
-  pub flown_safe : (entries : List Logged) (Q : Position) → EveryRunIsSafe p jitter → StartInside p f.start (length p.modules) → FlownSoFar p jitter f entries Q → IsSafeNow p jitter Q.at
+  pub flown_safe : (entries : List Logged) (Q : Position) → EveryRunIsSafe p jitter → StartInside p f.start (length p.modules) → FlownSoFar p jitter f entries Q
+      → IsSafeNow p jitter Q.at
   flown_safe entries Q safe inside flown =
       let r = flown_run entries Q flown in
       safe f.start r.C r.events r.Ds r.opening (starts_safer r.C r.opening inside) r.run (length entries) Q.at r.last

@@ -15,7 +15,8 @@ use Rattle.sot_law_flights.specs.Told.{inputs_told, ticks_told}
 
 module _ (p : Tables) (jitter : ℕ) (f : Plan) where
   -- one entry's part of the inputs, and what is left of the flight's
-  one_input : (P Q : Position) (e : Event) (r : Recorded) (x : Logged) → IsStated p f P e → Tells P.at e r Q.at x → Q.inputs ≡ inputs_after e P.inputs → inputs_told (x ∷ []) ++ Q.inputs ≡ P.inputs
+  one_input : (P Q : Position) (e : Event) (r : Recorded) (x : Logged) → IsStated p f P e → Tells P.at e r Q.at x → Q.inputs ≡ inputs_after e P.inputs
+      → inputs_told (x ∷ []) ++ Q.inputs ≡ P.inputs
   one_input P Q (Input topic value) r x (rest, is) tells after =
       let left = after ∙ ap (inputs_after (Input topic value)) is in
       ap (λ y. inputs_told (y ∷ []) ++ Q.inputs) tells ∙ ap (λ xs. record { at = P.at.time; topic = topic; value = value } ∷ xs) left ∙ sym is
@@ -34,7 +35,8 @@ module _ (p : Tables) (jitter : ℕ) (f : Plan) where
   led_inputs : (P : Position) (xs : List Logged) (Q : Position) → Leads p jitter f P xs Q → inputs_told xs ++ Q.inputs ≡ P.inputs
   led_inputs P [] Q led = ap (λ (x : Position). x.inputs) (sym led)
   led_inputs P (x ∷ xs) Q (R, flies, led) =
-      told_behind x xs Q.inputs ∙ ap (λ ys. inputs_told (x ∷ []) ++ ys) (led_inputs R xs Q led) ∙ one_input P R flies.event flies.recorded x flies.stated flies.tells flies.inputs
+      told_behind x xs Q.inputs ∙ ap (λ ys. inputs_told (x ∷ []) ++ ys) (led_inputs R xs Q led)
+      ∙ one_input P R flies.event flies.recorded x flies.stated flies.tells flies.inputs
 
   pub flown_inputs : (xs : List Logged) (Q : Position) → FlownSoFar p jitter f xs Q → inputs_told xs ++ Q.inputs ≡ f.inputs
   flown_inputs xs Q (P, start, led) = led_inputs P xs Q led ∙ start.inputs
@@ -46,7 +48,8 @@ module _ (p : Tables) (jitter : ℕ) (f : Plan) where
   stays : (P Q : Position) (x y : Logged) → Q.at.time ≡ P.at.time → ticks_told (y ∷ []) ≡ 0 → x ≡ y → Q.at.time ≡ ticks_told (x ∷ []) + P.at.time
   stays P Q x y time none is = omega (arith, time, none, ap (λ z. ticks_told (z ∷ [])) is)
 
-  one_tick : (P Q : Position) (e : Event) (r : Recorded) (x : Logged) → Step p jitter P.at e Q.at → Tells P.at e r Q.at x → Q.at.time ≡ ticks_told (x ∷ []) + P.at.time
+  one_tick : (P Q : Position) (e : Event) (r : Recorded) (x : Logged) → Step p jitter P.at e Q.at → Tells P.at e r Q.at x
+      → Q.at.time ≡ ticks_told (x ∷ []) + P.at.time
   one_tick P Q (Input topic value) r x step is = stays P Q x (InputAt P.at.time topic value) (ap (λ (c : Configuration). c.time) step.rest) refl is
   one_tick P Q (Code n) r x step (draft, enabled, was, is) = stays P Q x _ step.fires.time refl is
   one_tick P Q (Guest n d) r x step (draft, enabled, was, is) = stays P Q x _ step.fires.time refl is
@@ -65,7 +68,8 @@ module _ (p : Tables) (jitter : ℕ) (f : Plan) where
   led_ticks P [] Q led =
       let same : Q.at.time ≡ P.at.time = ap (λ (x : Position). x.at.time) (sym led) in
       omega (arith, same)
-  led_ticks P (x ∷ xs) Q (R, flies, led) = omega (arith, led_ticks R xs Q led, one_tick P R flies.event flies.recorded x flies.step flies.tells, ticks_behind x xs)
+  led_ticks P (x ∷ xs) Q (R, flies, led) =
+      omega (arith, led_ticks R xs Q led, one_tick P R flies.event flies.recorded x flies.step flies.tells, ticks_behind x xs)
 
   pub flown_ticks : (xs : List Logged) (Q : Position) → FlownSoFar p jitter f xs Q → ticks_told xs ≡ Q.at.time
   flown_ticks xs Q (P, start, led) = omega (arith, led_ticks P xs Q led, start.opening.time)
@@ -74,7 +78,8 @@ module _ (p : Tables) (jitter : ℕ) (f : Plan) where
   whole_ticks xs (Q, flown, end) = flown_ticks xs Q flown ∙ end.time
 
   -- the disturbances of a tick
-  one_stated : (P Q : Position) (e : Event) (r : Recorded) (time : ℕ) (noise states : List ℤ) → IsStated p f P e → Tells P.at e r Q.at (TickAt time noise states)
+  one_stated : (P Q : Position) (e : Event) (r : Recorded) (time : ℕ) (noise states : List ℤ) → IsStated p f P e
+      → Tells P.at e r Q.at (TickAt time noise states)
       → (time < f.horizon) × (noise ≡ joined (stated_noise p f time))
   one_stated P Q (Input topic value) r time noise states stated is = absurd cc
   one_stated P Q (Code n) r time noise states stated (draft, enabled, was, is) = absurd cc
@@ -85,7 +90,8 @@ module _ (p : Tables) (jitter : ℕ) (f : Plan) where
       let told : noise ≡ joined given = cc in
       (subst (λ t. t < f.horizon) (sym at) before, told ∙ ap joined as_stated ∙ ap (λ t. joined (stated_noise p f t)) (sym at))
 
-  led_stated : (P : Position) (xs : List Logged) (Q : Position) → Leads p jitter f P xs Q → (i time : ℕ) (noise states : List ℤ) → At xs i (TickAt time noise states)
+  led_stated : (P : Position) (xs : List Logged) (Q : Position) → Leads p jitter f P xs Q → (i time : ℕ) (noise states : List ℤ)
+      → At xs i (TickAt time noise states)
       → (time < f.horizon) × (noise ≡ joined (stated_noise p f time))
   led_stated P [] Q led i time noise states at = absurd cc
   led_stated P (x ∷ xs) Q (R, flies, led) zero time noise states at =
@@ -98,20 +104,23 @@ module _ (p : Tables) (jitter : ℕ) (f : Plan) where
   flown_stated xs Q (P, start, led) = led_stated P xs Q led
 
   -- the last entry of a history, with the position before it
-  pub led_last : (P : Position) (xs : List Logged) (x : Logged) (Q : Position) → Leads p jitter f P (xs ++ x ∷ []) Q → (R : Position) × Leads p jitter f P xs R × Flies p jitter f R x Q
+  pub led_last : (P : Position) (xs : List Logged) (x : Logged) (Q : Position) → Leads p jitter f P (xs ++ x ∷ []) Q
+      → (R : Position) × Leads p jitter f P xs R × Flies p jitter f R x Q
   led_last P [] x Q (R, flies, led) = (P, refl, subst (Flies p jitter f P x) led flies)
   led_last P (y ∷ xs) x Q (R, flies, led) =
       let (S, front, last) = led_last R xs x Q led in
       (S, (R, flies, front), last)
 
-  one_states : (P Q : Position) (e : Event) (r : Recorded) (time : ℕ) (noise states : List ℤ) → Tells P.at e r Q.at (TickAt time noise states) → states ≡ joined Q.at.points
+  one_states : (P Q : Position) (e : Event) (r : Recorded) (time : ℕ) (noise states : List ℤ) → Tells P.at e r Q.at (TickAt time noise states)
+      → states ≡ joined Q.at.points
   one_states P Q (Input topic value) r time noise states is = absurd cc
   one_states P Q (Code n) r time noise states (draft, enabled, was, is) = absurd cc
   one_states P Q (Guest n d) r time noise states (draft, enabled, was, is) = absurd cc
   one_states P Q (Decide m) r time noise states (mode, was, is) = absurd cc
   one_states P Q (Tick given) r time noise states is = (let same : states ≡ joined Q.at.points = cc in same)
 
-  pub flown_states : (xs : List Logged) (time : ℕ) (noise states : List ℤ) (Q : Position) → FlownSoFar p jitter f (xs ++ TickAt time noise states ∷ []) Q → states ≡ joined Q.at.points
+  pub flown_states : (xs : List Logged) (time : ℕ) (noise states : List ℤ) (Q : Position) → FlownSoFar p jitter f (xs ++ TickAt time noise states ∷ []) Q
+      → states ≡ joined Q.at.points
   flown_states xs time noise states Q (P, start, led) =
       let (R, front, last) = led_last P xs (TickAt time noise states) Q led in
       one_states R Q last.event last.recorded time noise states last.tells

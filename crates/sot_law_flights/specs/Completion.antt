@@ -12,13 +12,17 @@ use Rattle.sot_flight.specs.Fits.{FitsFlight}
 use Rattle.sot_board.specs.Flown.{Position, Leads, IsEnd, FlownSoFar, FlownBy}
 use Rattle.sot_board.specs.Standing.{Standing, IsStanding}
 
--- in these entries no guest drafts anything: each firing of a guest's node has nothing in each of its eight slots
+-- in these entries no guest drafts anything: each firing of a guest's node has nothing in each of
+-- its eight slots
 abbrev pub GuestsDraftNothing : Plan → List Logged → Type 0
 GuestsDraftNothing f entries =
-    (i time n guest : ℕ) (draft : List (Option ℤ)) (enabled : Bool) → At entries i (FireAt time n draft enabled) → At f.crews n (Guest guest) → draft ≡ replicate 8 None
+    (i time n guest : ℕ) (draft : List (Option ℤ)) (enabled : Bool)
+    → At entries i (FireAt time n draft enabled) → At f.crews n (Guest guest)
+    → draft ≡ replicate 8 None
 
 -- with these entries more, a history that led to P has come to the flight's end, and is whole
-pub record Completes (p : Tables) (jitter : ℕ) (f : Plan) (entries : List Logged) (P : Position) (more : List Logged) : Type 0 where
+pub record Completes (p : Tables) (jitter : ℕ) (f : Plan) (entries : List Logged) (P : Position)
+    (more : List Logged) : Type 0 where
   pub Q : Position
   pub leads : Leads p jitter f P more Q
   pub ended : IsEnd p f Q
@@ -27,11 +31,16 @@ pub record Completes (p : Tables) (jitter : ℕ) (f : Plan) (entries : List Logg
 
 -- wherever a flight stands, some entries more complete its history
 abbrev pub FlightsCanBeCompleted : Type 0
-FlightsCanBeCompleted = (b : Standing) → IsStanding b → (more : List Logged) × Completes b.accepted.program b.accepted.cert.jitter b.plan b.entries b.position more
+FlightsCanBeCompleted =
+    (b : Standing) → IsStanding b → (more : List Logged)
+    × Completes b.accepted.program b.accepted.cert.jitter b.plan b.entries b.position more
 
--- in a flight of a certified program with all plants starting in their modules' safer regions, some entries more complete each history so far
+-- in a flight of a certified program with all plants starting in their modules' safer regions, some
+-- entries more complete each history so far
 abbrev pub HistoriesCanBeCompleted : Type 0
 HistoriesCanBeCompleted =
-    (a : Admitted) (guests : ℕ) (f : Plan) (entries : List Logged) (P : Position) → MeetsTableRules a.program → IsWellCertified a.program a.cert.jitter a.cert
-    → FitsFlight a.program guests f → StartInside a.program f.start (length a.program.modules) → FlownSoFar a.program a.cert.jitter f entries P
+    (a : Admitted) (guests : ℕ) (f : Plan) (entries : List Logged) (P : Position)
+    → MeetsTableRules a.program → IsWellCertified a.program a.cert.jitter a.cert
+    → FitsFlight a.program guests f → StartInside a.program f.start (length a.program.modules)
+    → FlownSoFar a.program a.cert.jitter f entries P
     → (more : List Logged) × Completes a.program a.cert.jitter f entries P more

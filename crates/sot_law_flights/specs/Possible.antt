@@ -18,10 +18,14 @@ HasEightSlots (Guest n draft) = length draft ≡ 8
 HasEightSlots (Decide m) = Unit {0}
 HasEightSlots (Tick noise) = Unit {0}
 
--- in a configuration of a certified program that satisfies the invariant, an event that names what is there is possible exactly where the semantics has a step by it
+-- in a configuration of a certified program that satisfies the invariant, an event that names what
+-- is there is possible exactly where the semantics has a step by it
 abbrev pub PossibleHasStep : Type 0
 PossibleHasStep =
-    (a : Admitted) (C : Configuration) (e : Event) → MeetsTableRules a.program → IsWellCertified a.program a.cert.jitter a.cert
+    (a : Admitted) (C : Configuration) (e : Event) → MeetsTableRules a.program
+    → IsWellCertified a.program a.cert.jitter a.cert
     → KeepsInvariant a.program a.cert.jitter C → Names a.program e → HasEightSlots e
-    → ((D : Configuration) → Step a.program a.cert.jitter C (event_of a.program e) D → IsPossible a.program a.cert.jitter C e)
-    × (IsPossible a.program a.cert.jitter C e → (D : Configuration) × Step a.program a.cert.jitter C (event_of a.program e) D)
+    → ((D : Configuration) → Step a.program a.cert.jitter C (event_of a.program e) D
+    → IsPossible a.program a.cert.jitter C e)
+    × (IsPossible a.program a.cert.jitter C e
+    → (D : Configuration) × Step a.program a.cert.jitter C (event_of a.program e) D)

@@ -1,7 +1,8 @@
 //! Worked counts.
 
 ghost use Rattle.std.specs.Global.{Global};
-ghost use Rattle.sot_law_flights.specs.Examples.{VersionsOnTheLine, VersionsOnTheRelay, FiringsCount};
+ghost use Rattle.sot_law_flights.specs.Examples.{VersionsOnTheLine, VersionsOnTheRelay};
+ghost use Rattle.sot_law_flights.specs.Examples.{FiringsCount};
 
 /// The versions of topics and the firings of nodes in histories that were written out by hand.
 pub fn counts_are_as_stated()

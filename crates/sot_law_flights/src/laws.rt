@@ -1,10 +1,12 @@
 //! Each of these functions does nothing, and its contract is the law.
-ghost use Rattle.sot_law_flights.specs.Laws.{HistoriesAreRuns, BeginningsAreHistories, FlownPositionsAreSafe};
+ghost use Rattle.sot_law_flights.specs.Laws.{HistoriesAreRuns, BeginningsAreHistories};
+ghost use Rattle.sot_law_flights.specs.Laws.{FlownPositionsAreSafe};
 ghost use Rattle.sot_law_flights.specs.ToldModes.{DecisionsTellModes, FiringsTellWhetherEnabled};
-ghost use Rattle.sot_law_flights.specs.Told.{InputsAreTheFlights, TicksAreTheTime, TicksAreStated, TicksTellStates, DraftsAreStated};
+ghost use Rattle.sot_law_flights.specs.Told.{InputsAreTheFlights, TicksAreTheTime, TicksAreStated};
+ghost use Rattle.sot_law_flights.specs.Told.{TicksTellStates, DraftsAreStated};
 
-/// A history of a flight is a run from the opening at the flight's points, with one event an entry; the entry tells of this event, and
-/// the run ends where the flight stands.
+/// A history of a flight is a run from the opening at the flight's points, with one event an entry;
+/// the entry tells of this event, and the run ends where the flight stands.
 pub fn histories_are_runs()
     ensures { HistoriesAreRuns }
 {}
@@ -14,12 +16,14 @@ pub fn beginnings_are_histories()
     ensures { BeginningsAreHistories }
 {}
 
-/// Where every run is safe and a flight starts with all plants in their modules' safer regions, each position that it comes to is safe.
+/// Where every run is safe and a flight starts with all plants in their modules' safer regions,
+/// each position that it comes to is safe.
 pub fn flown_positions_are_safe()
     ensures { FlownPositionsAreSafe }
 {}
 
-/// A whole history tells the flight's inputs, each at its time and in order, and a history so far the first of them.
+/// A whole history tells the flight's inputs, each at its time and in order, and a history so far
+/// the first of them.
 pub fn inputs_are_the_flights()
     ensures { InputsAreTheFlights }
 {}
@@ -39,7 +43,8 @@ pub fn ticks_tell_states()
     ensures { TicksTellStates }
 {}
 
-/// A firing of an external node, whose draft the flight states by the number of the firing, tells this draft.
+/// A firing of an external node, whose draft the flight states by the number of the firing, tells
+/// this draft.
 pub fn drafts_are_stated()
     ensures { DraftsAreStated }
 {}

@@ -1,7 +1,8 @@
 //! What follows for the histories of flights.
 //!
-//! Each is a run of the program, it tells what its flight states, of an accepted program's flight from inside the safer regions each
-//! position is safe, and each history so far is the beginning of a whole one.
+//! Each is a run of the program, it tells what its flight states, of an accepted program's flight
+//! from inside the safer regions each position is safe, and each history so far is the beginning of
+//! a whole one.
 #![tactic(auto)]
 
 mod completion;

@@ -20,21 +20,27 @@ at_seam [] ys y = refl
 at_seam (x ∷ xs) ys y = at_seam xs ys y
 
 -- the drafts of a history are those before a firing, the firing's, and those after it
-around : (n time : ℕ) (draft : List (Option ℤ)) (enabled : Bool) (before after : List Logged) → drafts_of n (before ++ FireAt time n draft enabled ∷ after) ≡ drafts_of n before ++ draft ∷ drafts_of n after
+around : (n time : ℕ) (draft : List (Option ℤ)) (enabled : Bool) (before after : List Logged)
+    → drafts_of n (before ++ FireAt time n draft enabled ∷ after) ≡ drafts_of n before ++ draft ∷ drafts_of n after
 around n time draft enabled before after =
-    drafts_append n before (FireAt time n draft enabled ∷ after) ∙ ap (λ b. drafts_of n before ++ (if b then draft ∷ drafts_of n after else drafts_of n after)) (eq-eqb n n refl)
+    drafts_append n before (FireAt time n draft enabled ∷ after)
+    ∙ ap (λ b. drafts_of n before ++ (if b then draft ∷ drafts_of n after else drafts_of n after)) (eq-eqb n n refl)
 
 pub fits_give_drafts : FitsGiveDrafts
 fits_give_drafts p j f n history k one fits =
     let tail = fits.between ++ FireAt fits.time n fits.draft fits.enabled ∷ fits.rest in
-    let later : drafts_of n tail ≡ fits.draft ∷ drafts_of n fits.rest = around n fits.time fits.draft fits.enabled fits.between fits.rest ∙ ap (λ l. l ++ fits.draft ∷ drafts_of n fits.rest) fits.no_other in
-    let all : drafts_of n history ≡ drafts_of n fits.first ++ fits.draft ∷ drafts_of n fits.rest = ap (drafts_of n) fits.history_is ∙ drafts_append n fits.first tail ∙ ap (λ l. drafts_of n fits.first ++ l) later in
-    let there = subst (λ i. At (drafts_of n fits.first ++ fits.draft ∷ drafts_of n fits.rest) i fits.draft) fits.number (at_seam (drafts_of n fits.first) (drafts_of n fits.rest) fits.draft) in
+    let later : drafts_of n tail ≡ fits.draft ∷ drafts_of n fits.rest = around n fits.time fits.draft fits.enabled fits.between fits.rest
+    ∙ ap (λ l. l ++ fits.draft ∷ drafts_of n fits.rest) fits.no_other in
+    let all : drafts_of n history ≡ drafts_of n fits.first ++ fits.draft ∷ drafts_of n fits.rest = ap (drafts_of n) fits.history_is
+    ∙ drafts_append n fits.first tail ∙ ap (λ l. drafts_of n fits.first ++ l) later in
+    let there = subst (λ i. At (drafts_of n fits.first ++ fits.draft ∷ drafts_of n fits.rest) i fits.draft) fits.number
+    (at_seam (drafts_of n fits.first) (drafts_of n fits.rest) fits.draft) in
     subst (λ (d : List (Option ℤ)). At (drafts_of n history) k d) fits.draft_is (subst (λ l. At l k fits.draft) (sym all) there)
 
 -- the askings that were added give the drafts of all firings
 pub all_given :
-    (p : Tables) (j : ℕ) (f : Plan) (n : ℕ) (history : List Logged) (before : Option (List Asking)) (after : List Asking) (answered : HasAnswered p j f n history before after)
+    (p : Tables) (j : ℕ) (f : Plan) (n : ℕ) (history : List Logged) (before : Option (List Asking)) (after : List Asking)
+    (answered : HasAnswered p j f n history before after)
     → map (draft_given p n) answered.more ≡ drafts_of n history
 all_given p j f n history before after answered =
     same_items (map (draft_given p n) answered.more) (drafts_of n history) (length-map answered.more (draft_given p n) ∙ answered.count) (λ k draft at.
@@ -42,7 +48,8 @@ all_given p j f n history before after answered =
     subst (λ (d : List (Option ℤ)). At (drafts_of n history) k d) asked.2 (fits_give_drafts p j f n history k asked.0 (answered.fits k asked.0 asked.1)))
 
 pub askings_give_drafts : AskingsGiveDrafts
-askings_give_drafts p j f n history before after answered = (answered.first, answered.more, answered.before_is, answered.after_is, all_given p j f n history before after answered)
+askings_give_drafts p j f n history before after answered =
+    (answered.first, answered.more, answered.before_is, answered.after_is, all_given p j f n history before after answered)
 
 pub one_list_of_drafts : OneHistoryOneListOfDrafts
 one_list_of_drafts p j f n history before after other answered answers =

@@ -1,5 +1,6 @@
 -- The worked flight with a guest.
-use Rattle.std.proofs.Common.{◌≡◌, ℕ, zero, suc, ◌+◌, ◌≤◌, ◌⊎◌, ◌↔◌, inl, inr, ℤ, pos, true, false, Bool, Option, Some, None, List, [], ◌∷◌, ◌++◌, length, take, drop, refl, sym, ap, ◌∙◌, subst, arith}
+use Rattle.std.proofs.Common.{◌≡◌, ℕ, zero, suc, ◌+◌, ◌≤◌, ◌⊎◌, ◌↔◌, inl, inr, ℤ, pos, true, false, Bool, Option, Some, None, List, [], ◌∷◌, ◌++◌, length, take}
+use Rattle.std.proofs.Common.{drop, refl, sym, ap, ◌∙◌, subst, arith}
 use Rattle.std.proofs.lemmas.Bool.{false≢true}
 use Rattle.std.proofs.lemmas.Int.{ints}
 use Rattle.std.specs.Prelude.{slice_get}
@@ -27,7 +28,8 @@ use Rattle.sot_node_worker.specs.Askings.{Asking, asking}
 use Rattle.sot_node_worker.specs.Answers.{FitsFiring, HasAnswered, Answered}
 use Rattle.sot_workers.specs.declared.lists.NodeList.{NodeList}
 use Rattle.sot_workers.specs.Lists.{AreLists}
-use Rattle.sot_law_guests.specs.Examples.{asked_copy, asked_relay, asked_flight, asked_history, comes, drafted, FitsByHand, FitAsStated, SeenByHand, SeenAsStated, AnswersByHand, AnswerAsStated, EachAsStated, UnnamedAsStated, two_nodes, ListsByHand, ListsAsStated}
+use Rattle.sot_law_guests.specs.Examples.{asked_copy, asked_relay, asked_flight, asked_history, comes, drafted, FitsByHand, FitAsStated, SeenByHand}
+use Rattle.sot_law_guests.specs.Examples.{SeenAsStated, AnswersByHand, AnswerAsStated, EachAsStated, UnnamedAsStated, two_nodes, ListsByHand, ListsAsStated}
 use Rattle.sot_law_guests.specs.Laws.{draft_given}
 use Rattle.sot_law_guests.specs.Sights.{WereSeenInTime}
 use Rattle.sot_law_guests.proofs.Drafts.{at_seam, fits_give_drafts}
@@ -93,7 +95,9 @@ module _ (g : Global) where
   opens : IsOpening (asked_relay g) [] (relay_at 0 true (pos 0) (pos 0))
   opens = record {
     time = refl;
-    left = at_one (λ n node. (is_left (relay_at 0 true (pos 0) (pos 0)) n ≡ true) ↔ IsDue node.period node.offset 0) (asked_copy g) ((λ e. (omega arith, refl)), (λ d. refl));
+    left =
+        at_one (λ n node. (is_left (relay_at 0 true (pos 0) (pos 0)) n ≡ true) ↔ IsDue node.period node.offset 0) (asked_copy g)
+        ((λ e. (omega arith, refl)), (λ d. refl));
     left_dm = λ m a at. absurd (none-some a at);
     modes = refl;
     scalars = refl;
@@ -108,13 +112,28 @@ module _ (g : Global) where
 
   -- the guest's node fires, and its number is published
   fires_1 : Step (asked_relay g) 0 (relay_at 0 true (pos 0) (pos 0)) (Guest 0 (Some (pos 1) ∷ [])) (relay_at 0 false (pos 0) (pos 1))
-  fires_1 = record { node = asked_copy g; is = refl; external = refl; slots = refl; fires = record { was_left = refl; time = refl; left = refl; left_dm = refl; modes = refl; points = refl; locals_set = refl; scalars = refl } }
+  fires_1 =
+      record {
+        node = asked_copy g;
+        is = refl;
+        external = refl;
+        slots = refl;
+        fires = record { was_left = refl; time = refl; left = refl; left_dm = refl; modes = refl; points = refl; locals_set = refl; scalars = refl };
+      }
 
   fires_2 : Step (asked_relay g) 0 (relay_at 1 true (pos 8) (pos 1)) (Guest 0 (Some (pos 2) ∷ [])) (relay_at 1 false (pos 8) (pos 2))
-  fires_2 = record { node = asked_copy g; is = refl; external = refl; slots = refl; fires = record { was_left = refl; time = refl; left = refl; left_dm = refl; modes = refl; points = refl; locals_set = refl; scalars = refl } }
+  fires_2 =
+      record {
+        node = asked_copy g;
+        is = refl;
+        external = refl;
+        slots = refl;
+        fires = record { was_left = refl; time = refl; left = refl; left_dm = refl; modes = refl; points = refl; locals_set = refl; scalars = refl };
+      }
 
   -- a number of the environment comes, which is a digit
-  input : (time : ℕ) (left : Bool) (e m z : ℤ) → IsIn (range_of (asked_relay g).scalars 0) z → Step (asked_relay g) 0 (relay_at time left e m) (Input 0 (z ∷ [])) (relay_at time left z m)
+  input : (time : ℕ) (left : Bool) (e m z : ℤ) → IsIn (range_of (asked_relay g).scalars 0) z
+      → Step (asked_relay g) 0 (relay_at time left e m) (Input 0 (z ∷ [])) (relay_at time left z m)
   input time left e m z inside = record {
     info = e_topic g;
     is = refl;
@@ -135,29 +154,96 @@ module _ (g : Global) where
     bounded = λ k plant at. absurd (none-some plant at);
     moves = λ k plant at. absurd (none-some plant at);
     time = refl;
-    left = at_one (λ n node. (is_left (relay_at 1 true (pos 7) (pos 1)) n ≡ true) ↔ ((is_left (relay_at 0 false (pos 7) (pos 1)) n ≡ true) ⊎ IsDue node.period node.offset 1)) (asked_copy g) ((λ e. inr (omega arith, refl)), (λ o. refl));
+    left =
+        at_one (λ n node. (is_left (relay_at 1 true (pos 7) (pos 1)) n ≡ true)
+        ↔ ((is_left (relay_at 0 false (pos 7) (pos 1)) n ≡ true) ⊎ IsDue node.period node.offset 1)) (asked_copy g)
+        ((λ e. inr (omega arith, refl)), (λ o. refl));
     left_dm = λ m a at. absurd (none-some a at);
     sizes = record { left = refl; left_dm = refl; modes = refl; scalars = refl; locals = refl; points = refl };
     rest = refl;
   }
 
   flies_first : Flies (asked_relay g) 0 asked_flight at_start (FireAt 0 0 (drafted (pos 1)) true) once_fired
-  flies_first = record { event = Guest 0 (Some (pos 1) ∷ []); stated = (asked_copy g, _, refl, refl, tt); step = fires_1; recorded = NodeFired (Some (pos 1) ∷ []) true; records = refl; tells = (Some (pos 1) ∷ [], true, refl, refl); inputs = refl; fired = refl }
+  flies_first =
+      record {
+        event = Guest 0 (Some (pos 1) ∷ []);
+        stated = (asked_copy g, _, refl, refl, tt);
+        step = fires_1;
+        recorded = NodeFired (Some (pos 1) ∷ []) true;
+        records = refl;
+        tells = (Some (pos 1) ∷ [], true, refl, refl);
+        inputs = refl;
+        fired = refl;
+      }
 
   flies_five : Flies (asked_relay g) 0 asked_flight once_fired (InputAt 0 0 (pos 5 ∷ [])) with_five
-  flies_five = record { event = Input 0 (pos 5 ∷ []); stated = (comes 0 (pos 7) ∷ comes 1 (pos 8) ∷ [], refl); step = input 0 false (pos 0) (pos 1) (pos 5) (omega (arith, ints), omega (arith, ints)); recorded = InputTaken; records = refl; tells = refl; inputs = refl; fired = refl }
+  flies_five =
+      record {
+        event = Input 0 (pos 5 ∷ []);
+        stated = (comes 0 (pos 7) ∷ comes 1 (pos 8) ∷ [], refl);
+        step =
+            input 0 false (pos 0) (pos 1) (pos 5) (omega (arith, ints), omega (arith, ints));
+        recorded =
+            InputTaken;
+        records = refl;
+        tells = refl;
+        inputs = refl;
+        fired = refl;
+      }
 
   flies_seven : Flies (asked_relay g) 0 asked_flight with_five (InputAt 0 0 (pos 7 ∷ [])) with_seven
-  flies_seven = record { event = Input 0 (pos 7 ∷ []); stated = (comes 1 (pos 8) ∷ [], refl); step = input 0 false (pos 5) (pos 1) (pos 7) (omega (arith, ints), omega (arith, ints)); recorded = InputTaken; records = refl; tells = refl; inputs = refl; fired = refl }
+  flies_seven =
+      record {
+        event = Input 0 (pos 7 ∷ []);
+        stated = (comes 1 (pos 8) ∷ [], refl);
+        step =
+            input 0 false (pos 5) (pos 1) (pos 7) (omega (arith, ints), omega (arith, ints));
+        recorded =
+            InputTaken;
+        records = refl;
+        tells = refl;
+        inputs = refl;
+        fired = refl;
+      }
 
   flies_tick : Flies (asked_relay g) 0 asked_flight with_seven (TickAt 0 [] []) once_ticked
-  flies_tick = record { event = Tick []; stated = (omega arith, at_one (λ i x. x.at ≡ 0 → ⊥) (comes 1 (pos 8)) no_time, refl); step = ticks; recorded = PlantsTicked; records = refl; tells = refl; inputs = refl; fired = refl }
+  flies_tick =
+      record {
+        event = Tick [];
+        stated = (omega arith, at_one (λ i x. x.at ≡ 0 → ⊥) (comes 1 (pos 8)) no_time, refl);
+        step = ticks;
+        recorded = PlantsTicked;
+        records = refl;
+        tells = refl;
+        inputs = refl;
+        fired = refl;
+      }
 
   flies_eight : Flies (asked_relay g) 0 asked_flight once_ticked (InputAt 1 0 (pos 8 ∷ [])) with_eight
-  flies_eight = record { event = Input 0 (pos 8 ∷ []); stated = ([], refl); step = input 1 true (pos 7) (pos 1) (pos 8) (omega (arith, ints), omega (arith, ints)); recorded = InputTaken; records = refl; tells = refl; inputs = refl; fired = refl }
+  flies_eight =
+      record {
+        event = Input 0 (pos 8 ∷ []);
+        stated = ([], refl);
+        step = input 1 true (pos 7) (pos 1) (pos 8) (omega (arith, ints), omega (arith, ints));
+        recorded = InputTaken;
+        records = refl;
+        tells = refl;
+        inputs = refl;
+        fired = refl;
+      }
 
   flies_last : Flies (asked_relay g) 0 asked_flight with_eight (FireAt 1 0 (drafted (pos 2)) true) at_end
-  flies_last = record { event = Guest 0 (Some (pos 2) ∷ []); stated = (asked_copy g, _, refl, refl, tt); step = fires_2; recorded = NodeFired (Some (pos 2) ∷ []) true; records = refl; tells = (Some (pos 2) ∷ [], true, refl, refl); inputs = refl; fired = refl }
+  flies_last =
+      record {
+        event = Guest 0 (Some (pos 2) ∷ []);
+        stated = (asked_copy g, _, refl, refl, tt);
+        step = fires_2;
+        recorded = NodeFired (Some (pos 2) ∷ []) true;
+        records = refl;
+        tells = (Some (pos 2) ∷ [], true, refl, refl);
+        inputs = refl;
+        fired = refl;
+      }
 
   -- the first so many entries, for each count, lead to the place
   flown_to : (i : ℕ) → i ≤ 6 → FlownSoFar (asked_relay g) 0 asked_flight (take i asked_history) (place i)
@@ -165,15 +251,52 @@ module _ (g : Global) where
   flown_to (suc zero) le = (at_start, starts, (once_fired, flies_first, refl))
   flown_to (suc (suc zero)) le = (at_start, starts, (once_fired, flies_first, (with_five, flies_five, refl)))
   flown_to (suc (suc (suc zero))) le = (at_start, starts, (once_fired, flies_first, (with_five, flies_five, (with_seven, flies_seven, refl))))
-  flown_to (suc (suc (suc (suc zero)))) le = (at_start, starts, (once_fired, flies_first, (with_five, flies_five, (with_seven, flies_seven, (once_ticked, flies_tick, refl)))))
-  flown_to (suc (suc (suc (suc (suc zero))))) le = (at_start, starts, (once_fired, flies_first, (with_five, flies_five, (with_seven, flies_seven, (once_ticked, flies_tick, (with_eight, flies_eight, refl))))))
-  flown_to (suc (suc (suc (suc (suc (suc zero)))))) le = (at_start, starts, (once_fired, flies_first, (with_five, flies_five, (with_seven, flies_seven, (once_ticked, flies_tick, (with_eight, flies_eight, (at_end, flies_last, refl)))))))
+  flown_to (suc (suc (suc (suc zero)))) le =
+      (at_start, starts, (once_fired, flies_first, (with_five, flies_five, (with_seven, flies_seven, (once_ticked, flies_tick, refl)))))
+  flown_to (suc (suc (suc (suc (suc zero))))) le = (
+    at_start,
+    starts,
+    (
+      once_fired,
+      flies_first,
+      (
+        with_five,
+        flies_five,
+        (with_seven, flies_seven, (once_ticked, flies_tick, (with_eight, flies_eight, refl))),
+      ),
+    ),
+  )
+  flown_to (suc (suc (suc (suc (suc (suc zero)))))) le = (
+    at_start,
+    starts,
+    (
+      once_fired,
+      flies_first,
+      (
+        with_five,
+        flies_five,
+        (with_seven, flies_seven, (once_ticked, flies_tick, (with_eight, flies_eight, (at_end, flies_last, refl)))),
+      ),
+    ),
+  )
   flown_to (suc (suc (suc (suc (suc (suc (suc k))))))) le = absurd (omega (arith, le))
 
   pub flown : FlownBy (asked_relay g) 0 asked_flight asked_history
   flown = (
     at_end,
-    (at_start, starts, (once_fired, flies_first, (with_five, flies_five, (with_seven, flies_seven, (once_ticked, flies_tick, (with_eight, flies_eight, (at_end, flies_last, refl))))))),
+    (
+      at_start,
+      starts,
+      (
+        once_fired,
+        flies_first,
+        (
+          with_five,
+          flies_five,
+          (with_seven, flies_seven, (once_ticked, flies_tick, (with_eight, flies_eight, (at_end, flies_last, refl)))),
+        ),
+      ),
+    ),
     record {
       time = refl;
       inputs = refl;
@@ -185,14 +308,30 @@ module _ (g : Global) where
   )
 
   -- an asking that fits saw the numbers of such a place where the node is left, and gives the draft of the firing
-  by_place : (i : ℕ) → i ≤ 6 → (k : ℕ) (one : Asking) → is_left (place i).at 0 ≡ true → length (drafts_of 0 (take i asked_history)) ≡ k → one.values ≡ reading (asked_copy g) (place i).at.scalars (place i).at.points
+  by_place : (i : ℕ) → i ≤ 6 → (k : ℕ) (one : Asking) → is_left (place i).at 0 ≡ true → length (drafts_of 0 (take i asked_history)) ≡ k
+      → one.values ≡ reading (asked_copy g) (place i).at.scalars (place i).at.points
       → At (drafts_of 0 asked_history) k (draft_given (asked_relay g) 0 one) → FitsByHand k one
-  by_place zero le k one left count values gives = subst (λ c. FitsByHand c one) count (values, sym (same_Some (drafted (pos 1)) _ (subst (λ c. At (drafts_of 0 asked_history) c (draft_given (asked_relay g) 0 one)) (sym count) gives)))
+  by_place zero le k one left count values gives =
+      subst (λ c. FitsByHand c one) count (
+        values,
+        sym (same_Some (drafted (pos 1)) _
+            (subst (λ c. At (drafts_of 0 asked_history) c (draft_given (asked_relay g) 0 one)) (sym count) gives)),
+      )
   by_place (suc zero) le k one left count values gives = absurd (false≢true left)
   by_place (suc (suc zero)) le k one left count values gives = absurd (false≢true left)
   by_place (suc (suc (suc zero))) le k one left count values gives = absurd (false≢true left)
-  by_place (suc (suc (suc (suc zero)))) le k one left count values gives = subst (λ c. FitsByHand c one) count (inl (values, sym (same_Some (drafted (pos 2)) _ (subst (λ c. At (drafts_of 0 asked_history) c (draft_given (asked_relay g) 0 one)) (sym count) gives))))
-  by_place (suc (suc (suc (suc (suc zero))))) le k one left count values gives = subst (λ c. FitsByHand c one) count (inr (values, sym (same_Some (drafted (pos 2)) _ (subst (λ c. At (drafts_of 0 asked_history) c (draft_given (asked_relay g) 0 one)) (sym count) gives))))
+  by_place (suc (suc (suc (suc zero)))) le k one left count values gives =
+      subst (λ c. FitsByHand c one) count (inl (
+        values,
+        sym (same_Some (drafted (pos 2)) _
+            (subst (λ c. At (drafts_of 0 asked_history) c (draft_given (asked_relay g) 0 one)) (sym count) gives)),
+      ))
+  by_place (suc (suc (suc (suc (suc zero))))) le k one left count values gives =
+      subst (λ c. FitsByHand c one) count (inr (
+        values,
+        sym (same_Some (drafted (pos 2)) _
+            (subst (λ c. At (drafts_of 0 asked_history) c (draft_given (asked_relay g) 0 one)) (sym count) gives)),
+      ))
   by_place (suc (suc (suc (suc (suc (suc zero)))))) le k one left count values gives = absurd (false≢true left)
   by_place (suc (suc (suc (suc (suc (suc (suc i))))))) le k one left count values gives = absurd (omega (arith, le))
 
@@ -221,7 +360,8 @@ module _ (g : Global) where
       by_place (length fits.first) (omega (arith, few_entries fits.first tail fits.history_is)) k one
       (ap (λ (P : Position). is_left P.at 0) (stands_at fits.first tail fits.position fits.history_is fits.flown) ∙ fits.left)
       (ap (λ es. length (drafts_of 0 es)) (front_is fits.first tail fits.history_is) ∙ fits.number)
-      (fits.values ∙ ap (λ x. reading x fits.position.at.scalars fits.position.at.points) (sym info) ∙ reads_at fits.first tail fits.position fits.history_is fits.flown)
+      (fits.values ∙ ap (λ x. reading x fits.position.at.scalars fits.position.at.points) (sym info)
+      ∙ reads_at fits.first tail fits.position fits.history_is fits.flown)
       (fits_give_drafts (asked_relay g) 0 asked_flight 0 asked_history k one fits)
 
   fits_so : (k : ℕ) (one : Asking) → FitsByHand k one → FitsFiring (asked_relay g) 0 asked_flight 0 asked_history k one
@@ -284,12 +424,17 @@ module _ (g : Global) where
   pub fit_as_stated : FitAsStated g
   fit_as_stated k one = (fits_only k one, fits_so k one)
 
-  recent : (k : ℕ) (one : Asking) → FitsFiring (asked_relay g) 0 asked_flight 0 asked_history k one → WereSeenInTime (asked_relay g) 0 asked_flight 0 (asked_copy g) asked_history k one.values
-  recent k one fits = seen_are_recent (asked_relay g) 0 asked_flight 0 (asked_copy g) asked_history at_end k one refl (omega arith) (omega arith) (flown_to 6 (omega arith)) fits
+  recent : (k : ℕ) (one : Asking) → FitsFiring (asked_relay g) 0 asked_flight 0 asked_history k one
+      → WereSeenInTime (asked_relay g) 0 asked_flight 0 (asked_copy g) asked_history k one.values
+  recent k one fits =
+      seen_are_recent (asked_relay g) 0 asked_flight 0 (asked_copy g) asked_history at_end k one refl (omega arith) (omega arith) (flown_to 6 (omega arith))
+      fits
 
   -- a firing after so many entries, and numbers that were seen after no more of them and no earlier
-  by_sight : (i m : ℕ) → i ≤ m → m ≤ 5 → (time : ℕ) (draft : List (Option ℤ)) (enabled : Bool) → At asked_history m (FireAt time 0 draft enabled) → (k : ℕ) (values : List ℤ)
-      → length (drafts_of 0 (take i asked_history)) ≡ k → length (drafts_of 0 (take m asked_history)) ≡ k → values ≡ reading (asked_copy g) (place i).at.scalars (place i).at.points
+  by_sight : (i m : ℕ) → i ≤ m → m ≤ 5 → (time : ℕ) (draft : List (Option ℤ)) (enabled : Bool) → At asked_history m (FireAt time 0 draft enabled)
+      → (k : ℕ) (values : List ℤ)
+      → length (drafts_of 0 (take i asked_history)) ≡ k → length (drafts_of 0 (take m asked_history)) ≡ k
+      → values ≡ reading (asked_copy g) (place i).at.scalars (place i).at.points
       → (place m).at.time ≤ (place i).at.time → SeenByHand k values
   by_sight zero zero le few time draft enabled fires k values had still seen recent = subst (λ c. SeenByHand c values) had seen
   by_sight (suc i) zero le few time draft enabled fires k values had still seen recent = absurd (omega (arith, le))
@@ -300,10 +445,14 @@ module _ (g : Global) where
   by_sight zero (suc (suc (suc (suc (suc zero))))) le few time draft enabled fires k values had still seen recent = absurd (omega (arith, had, still))
   by_sight (suc zero) (suc (suc (suc (suc (suc zero))))) le few time draft enabled fires k values had still seen recent = absurd (omega (arith, recent))
   by_sight (suc (suc zero)) (suc (suc (suc (suc (suc zero))))) le few time draft enabled fires k values had still seen recent = absurd (omega (arith, recent))
-  by_sight (suc (suc (suc zero))) (suc (suc (suc (suc (suc zero))))) le few time draft enabled fires k values had still seen recent = absurd (omega (arith, recent))
-  by_sight (suc (suc (suc (suc zero)))) (suc (suc (suc (suc (suc zero))))) le few time draft enabled fires k values had still seen recent = subst (λ c. SeenByHand c values) had (inl seen)
-  by_sight (suc (suc (suc (suc (suc zero))))) (suc (suc (suc (suc (suc zero))))) le few time draft enabled fires k values had still seen recent = subst (λ c. SeenByHand c values) had (inr seen)
-  by_sight (suc (suc (suc (suc (suc (suc i)))))) (suc (suc (suc (suc (suc zero))))) le few time draft enabled fires k values had still seen recent = absurd (omega (arith, le))
+  by_sight (suc (suc (suc zero))) (suc (suc (suc (suc (suc zero))))) le few time draft enabled fires k values had still seen recent =
+      absurd (omega (arith, recent))
+  by_sight (suc (suc (suc (suc zero)))) (suc (suc (suc (suc (suc zero))))) le few time draft enabled fires k values had still seen recent =
+      subst (λ c. SeenByHand c values) had (inl seen)
+  by_sight (suc (suc (suc (suc (suc zero))))) (suc (suc (suc (suc (suc zero))))) le few time draft enabled fires k values had still seen recent =
+      subst (λ c. SeenByHand c values) had (inr seen)
+  by_sight (suc (suc (suc (suc (suc (suc i)))))) (suc (suc (suc (suc (suc zero))))) le few time draft enabled fires k values had still seen recent =
+      absurd (omega (arith, le))
   by_sight i (suc (suc (suc (suc (suc (suc m)))))) le few time draft enabled fires k values had still seen recent = absurd (omega (arith, few))
 
   seen_only : (k : ℕ) (values : List ℤ) → WereSeenInTime (asked_relay g) 0 asked_flight 0 (asked_copy g) asked_history k values → SeenByHand k values
@@ -313,7 +462,8 @@ module _ (g : Global) where
       let split : asked_history ≡ before ++ tail = were.history_is ∙ sym (append_assoc were.first were.between tail) in
       let now = ap (λ (P : Position). P.at.time) (stands_at before tail were.firing split were.fires_at) in
       let then = ap (λ (P : Position). P.at.time) (stands_at were.first (were.between ++ tail) were.seen were.history_is were.seen_at) in
-      by_sight (length were.first) (length before) (omega (arith, length-append were.first were.between)) (omega (arith, few_entries before tail split)) were.time were.draft were.enabled
+      by_sight (length were.first) (length before) (omega (arith, length-append were.first were.between)) (omega (arith, few_entries before tail split))
+      were.time were.draft were.enabled
       (ap (λ es. slice_get es (length before)) split ∙ at_seam before were.rest _)
       k values
       (ap (λ es. length (drafts_of 0 es)) (front_is were.first (were.between ++ tail) were.history_is) ∙ were.had_fired)
@@ -330,7 +480,8 @@ module _ (g : Global) where
   pub seen_as_stated : SeenAsStated g
   seen_as_stated k values = (seen_only k values, seen_so k values)
 
-  answers_only : (before : Option (List Asking)) (after : List Asking) → HasAnswered (asked_relay g) 0 asked_flight 0 asked_history before after → AnswersByHand before after
+  answers_only : (before : Option (List Asking)) (after : List Asking) → HasAnswered (asked_relay g) 0 asked_flight 0 asked_history before after
+      → AnswersByHand before after
   answers_only before after answered =
       let two = two_of answered.more answered.count in (
         answered.first,
@@ -342,7 +493,8 @@ module _ (g : Global) where
         fits_only 1 two.1 (answered.fits 1 two.1 (ap (λ more. slice_get more 1) two.2)),
       )
 
-  answers_so : (before : Option (List Asking)) (after : List Asking) → AnswersByHand before after → HasAnswered (asked_relay g) 0 asked_flight 0 asked_history before after
+  answers_so : (before : Option (List Asking)) (after : List Asking) → AnswersByHand before after
+      → HasAnswered (asked_relay g) 0 asked_flight 0 asked_history before after
   answers_so before after (first, one, other, before_is, after_is, fits, fits_too) = record {
     first = first;
     more = one ∷ other ∷ [];
@@ -375,7 +527,8 @@ first_unnamed : (n : ℕ) → At asked_flight.crews n (plan.Guest 0) → ⊥
 first_unnamed zero at = (let e : ◌≡◌ {A = ℕ} 1 0 = cc in omega (arith, e))
 first_unnamed (suc n) at = none-some (plan.Guest 0) at
 
-unnamed_same : (other was new now : ℕ) → new ≡ other → (i x y : ℕ) → ((n : ℕ) → At asked_flight.crews n (plan.Guest i) → ⊥) → At (other ∷ was ∷ []) i x → At (new ∷ now ∷ []) i y → y ≡ x
+unnamed_same : (other was new now : ℕ) → new ≡ other → (i x y : ℕ) → ((n : ℕ) → At asked_flight.crews n (plan.Guest i) → ⊥) → At (other ∷ was ∷ []) i x
+    → At (new ∷ now ∷ []) i y → y ≡ x
 unnamed_same other was new now same zero x y unnamed at_x at_y = sym (same_Some new y at_y) ∙ same ∙ same_Some other x at_x
 unnamed_same other was new now same (suc zero) x y unnamed at_x at_y = absurd (unnamed 0 refl)
 unnamed_same other was new now same (suc (suc i)) x y unnamed at_x at_y = absurd (none-some x at_x)

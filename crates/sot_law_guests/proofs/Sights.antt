@@ -1,5 +1,6 @@
 -- What is left to fire waits for its deadline, and no longer; so what was seen is recent.
-use Rattle.std.proofs.Common.{◌≡◌, ◌≢◌, ℕ, suc, ◌+◌, ◌<◌, ◌≤◌, ◌⊎◌, ◌↔◌, inl, ⊎_elim, ℤ, Bool, true, false, Option, Some, List, [], ◌∷◌, ◌++◌, length, refl, sym, ap, ◌∙◌, subst, arith, eq-eqb}
+use Rattle.std.proofs.Common.{◌≡◌, ◌≢◌, ℕ, suc, ◌+◌, ◌<◌, ◌≤◌, ◌⊎◌, ◌↔◌, inl, ⊎_elim, ℤ, Bool, true, false, Option, Some, List, [], ◌∷◌, ◌++◌, length, refl}
+use Rattle.std.proofs.Common.{sym, ap, ◌∙◌, subst, arith, eq-eqb}
 use Rattle.std.specs.Prelude.{slice_index_or, slice_set, if◌then◌else◌}
 use Rattle.std.proofs.Math.Seq.{take-append_seam, drop-append_seam}
 use Rattle.std.proofs.lemmas.Bool.{cases_eq, cases_lt, both_ways}
@@ -30,7 +31,8 @@ use Rattle.sot_law_guests.proofs.Drafts.{all_given}
 -- what is left once a node is taken was left before
 left_before : (C D : Configuration) (m n : ℕ) → D.left ≡ slice_set C.left m false → is_left D n ≡ true → is_left C n ≡ true
 left_before C D m n set left = ⊎_elim
-    (λ same. absurd (both_ways (is_left D n) (ap (λ l. slice_index_or l n false) set ∙ ap (λ k. slice_index_or (slice_set C.left k false) n false) (sym same) ∙ left_none C.left n) left))
+    (λ same. absurd (both_ways (is_left D n) (ap (λ l. slice_index_or l n false) set ∙ ap (λ k. slice_index_or (slice_set C.left k false) n false) (sym same)
+    ∙ left_none C.left n) left))
     (λ other. sym (ap (λ l. slice_index_or l n false) set ∙ get_or-set_other C.left m n false false other) ∙ left)
     (cases_eq n m)
 
@@ -84,7 +86,8 @@ module _ (p : Tables) (j : ℕ) (f : Plan) (n : ℕ) (node : NodeInfo) (at : At 
       in_time : C.time ≤ d + j
 
     still_waits : (C D : Configuration) → D.time ≡ C.time → is_left D n ≡ is_left C n → Waits C → Waits D
-    still_waits C D time left w = record { left = left ∙ w.left; last = subst (λ t. IsLastDue node.period node.offset t d) (sym time) w.last; in_time = omega (arith, time, w.in_time) }
+    still_waits C D time left w =
+        record { left = left ∙ w.left; last = subst (λ t. IsLastDue node.period node.offset t d) (sym time) w.last; in_time = omega (arith, time, w.in_time) }
 
     -- another node fires
     other_fires : (C D : Configuration) (m : ℕ) → D.time ≡ C.time → D.left ≡ slice_set C.left m false → (n ≡ m → ⊥) → Waits C → Waits D
@@ -104,10 +107,13 @@ module _ (p : Tables) (j : ℕ) (f : Plan) (n : ℕ) (node : NodeInfo) (at : At 
       omega (arith, in_time, not_yet),
     )
 
-    step_waits : (C D : Configuration) (e : Event) (r : Recorded) (x : Logged) → Step p j C e D → Tells C e r D x → drafts_of n (x ∷ []) ≡ [] → Waits C → Waits D
+    step_waits : (C D : Configuration) (e : Event) (r : Recorded) (x : Logged) → Step p j C e D → Tells C e r D x → drafts_of n (x ∷ []) ≡ [] → Waits C
+        → Waits D
     step_waits C D (Input topic value) r x s told none w = still_waits C D (ap (λ y. y.time) s.rest) (ap (λ y. is_left y n) s.rest) w
-    step_waits C D (Code m) r x s told none w = other_fires C D m s.fires.time s.fires.left (other_node n m C.time _ told.1 (ap (λ y. drafts_of n (y ∷ [])) (sym told.3) ∙ none)) w
-    step_waits C D (Guest m draft) r x s told none w = other_fires C D m s.fires.time s.fires.left (other_node n m C.time _ told.1 (ap (λ y. drafts_of n (y ∷ [])) (sym told.3) ∙ none)) w
+    step_waits C D (Code m) r x s told none w =
+        other_fires C D m s.fires.time s.fires.left (other_node n m C.time _ told.1 (ap (λ y. drafts_of n (y ∷ [])) (sym told.3) ∙ none)) w
+    step_waits C D (Guest m draft) r x s told none w =
+        other_fires C D m s.fires.time s.fires.left (other_node n m C.time _ told.1 (ap (λ y. drafts_of n (y ∷ [])) (sym told.3) ∙ none)) w
     step_waits C D (Decide m) r x s told none w = still_waits C D (ap (λ y. y.time) s.rest) (ap (λ y. is_left y n) s.rest) w
     step_waits C D (Tick noise) r x s told none w =
         let on = tick_waits C.time w.last w.in_time (s.may.nodes n node d at w.left w.last) in
@@ -146,7 +152,8 @@ seen_are_recent p j f n node history Q k one at begins short flown fits =
     let behind : Leads p j f fits.position tail Q = subst (λ es. Leads p j f fits.position es Q) (drop-append_seam fits.first tail) led in
     let till = leads_begin p j f fits.between (FireAt fits.time n fits.draft fits.enabled ∷ fits.rest) fits.position Q behind in
     let due = flown_in_time p j f n node at fits.first fits.position fits.flown fits.left in
-    let waits = led_waits p j f n node at begins short due.0 fits.between fits.position till.0 till.1 fits.no_other (record { left = fits.left; last = due.1; in_time = due.2 }) in
+    let waits = led_waits p j f n node at begins short due.0 fits.between fits.position till.0 till.1 fits.no_other
+    (record { left = fits.left; last = due.1; in_time = due.2 }) in
     let rises = time_rises p j f fits.between fits.position till.0 till.1 in
     record {
       first = fits.first;

@@ -12,7 +12,8 @@ use Rattle.sot_node_worker.specs.Answers.{FitsFiring, HasAnswered}
 use Rattle.sot_workers.specs.declared.lists.NodeList.{NodeList}
 use Rattle.sot_workers.specs.Lists.{AreLists}
 
--- the draft that an asking gives: its slots of the scalars that the node writes, and nothing in those past them
+-- the draft that an asking gives: its slots of the scalars that the node writes, and nothing in
+-- those past them
 abbrev pub draft_given : Tables → ℕ → Asking → List (Option ℤ)
 draft_given p n one = in_slots (take (slot_count p n) one.draft)
 
@@ -23,29 +24,42 @@ FitsGiveDrafts =
     → FitsFiring p jitter f n history k one → At (drafts_of n history) k (draft_given p n one)
 
 -- a list that was told has grown by askings that give these drafts, one after another
-abbrev pub GrowsBy : Tables → ℕ → Option (List Asking) → List Asking → List (List (Option ℤ)) → Type 0
-GrowsBy p n before after drafts = (first : List Asking) × (more : List Asking) × (before ≡ Some first) × (after ≡ first ++ more) × (map (draft_given p n) more ≡ drafts)
+abbrev pub GrowsBy : Tables → ℕ → Option (List Asking) → List Asking → List (List (Option ℤ))
+    → Type 0
+GrowsBy p n before after drafts =
+    (first : List Asking) × (more : List Asking) × (before ≡ Some first) × (after ≡ first ++ more)
+    × (map (draft_given p n) more ≡ drafts)
 
--- a list that has answered has grown by askings that give the drafts of the node's firings, in the history's order
+-- a list that has answered has grown by askings that give the drafts of the node's firings, in the
+-- history's order
 abbrev pub AskingsGiveDrafts : Type 0
 AskingsGiveDrafts =
-    (p : Tables) (jitter : ℕ) (f : Plan) (n : ℕ) (history : List Logged) (before : Option (List Asking)) (after : List Asking)
+    (p : Tables) (jitter : ℕ) (f : Plan) (n : ℕ) (history : List Logged)
+    (before : Option (List Asking)) (after : List Asking)
     → HasAnswered p jitter f n history before after → GrowsBy p n before after (drafts_of n history)
 
 -- so the history determines what drafts a list gives that was told before it
 abbrev pub OneHistoryOneListOfDrafts : Type 0
 OneHistoryOneListOfDrafts =
-    (p : Tables) (jitter : ℕ) (f : Plan) (n : ℕ) (history : List Logged) (before : Option (List Asking)) (after other : List Asking)
-    → HasAnswered p jitter f n history before after → HasAnswered p jitter f n history before other → map (draft_given p n) after ≡ map (draft_given p n) other
+    (p : Tables) (jitter : ℕ) (f : Plan) (n : ℕ) (history : List Logged)
+    (before : Option (List Asking)) (after other : List Asking)
+    → HasAnswered p jitter f n history before after → HasAnswered p jitter f n history before other
+    → map (draft_given p n) after ≡ map (draft_given p n) other
 
--- lists of drafts of one history: there are as many, and those at one place are of one node and have the same drafts
+-- lists of drafts of one history: there are as many, and those at one place are of one node and
+-- have the same drafts
 abbrev pub ListsAreOfOneHistory : Type 0
 ListsAreOfOneHistory =
-    (count : ℕ) (lists others : List NodeList) (history : List Logged) → AreLists count lists history → AreLists count others history
-    → (length lists ≡ length others) × ((n : ℕ) (list other : NodeList) → At lists n list → At others n other → (list.node ≡ other.node) × (list.drafts.items ≡ other.drafts.items))
+    (count : ℕ) (lists others : List NodeList) (history : List Logged)
+    → AreLists count lists history → AreLists count others history
+    → (length lists ≡ length others) ×
+    ((n : ℕ) (list other : NodeList) → At lists n list → At others n other
+    → (list.node ≡ other.node) × (list.drafts.items ≡ other.drafts.items))
 
 -- the list of a guest's node has its number, and the drafts that the guest's askings give
 abbrev pub ListsAreTheAskings : Type 0
 ListsAreTheAskings =
-    (p : Tables) (jitter : ℕ) (f : Plan) (n count : ℕ) (history : List Logged) (lists : List NodeList) (list : NodeList) (before : Option (List Asking)) (after : List Asking)
-    → AreLists count lists history → At lists n list → HasAnswered p jitter f n history before after → (list.node ≡ n) × GrowsBy p n before after list.drafts.items
+    (p : Tables) (jitter : ℕ) (f : Plan) (n count : ℕ) (history : List Logged)
+    (lists : List NodeList) (list : NodeList) (before : Option (List Asking)) (after : List Asking)
+    → AreLists count lists history → At lists n list → HasAnswered p jitter f n history before after
+    → (list.node ≡ n) × GrowsBy p n before after list.drafts.items

@@ -1,5 +1,5 @@
-//! What follows of the askings of a flight's guests and of the lists of drafts, and worked askings that a wrong definition would answer
-//! otherwise.
+//! What follows of the askings of a flight's guests and of the lists of drafts, and worked askings
+//! that a wrong definition would answer otherwise.
 #![tactic(auto)]
 
 mod facts;

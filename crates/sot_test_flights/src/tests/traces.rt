@@ -18,7 +18,7 @@ fn trace_of(rt: &(impl Abort + Threads + Sync), alloc: Global, text: &str) -> Re
     };
     match Board::open(alloc, &accepted, flight) {
         Ok(mut board) => {
-            fly(&mut board, flight);
+            fly(&mut board);
             Ok(board_text(alloc, &board).expect(rt, "memory"))
         }
         Err(OpenFail::NotSafer { module }) => Err(module),
@@ -158,7 +158,8 @@ start pos 10
 end 0 events 3 refused 1
 ";
 
-// Sixteen ticks, in which the node `fast` is idle in its second, third and fourth firings. What it drafts there counts as refused too.
+// Sixteen ticks, in which the node `fast` is idle in its second, third and fourth firings. What it
+// drafts there counts as refused too.
 const ROWS: &str = "soter trace 1
 start pos 10
 0 decide nav ac
