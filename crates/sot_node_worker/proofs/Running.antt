@@ -19,6 +19,8 @@ RunsOn p v =
     MayRun p (viewed_node v) (viewed_numbers v) (viewed_locals v)
     × ((result : Result Fired Trap) → IsExecution p (viewed_node v) (viewed_numbers v) (viewed_locals v) result → (fired : Fired) × (result ≡ Ok fired))
 
-pub view_runs : (p : Tables) (v : View) → IsCodedNode p (viewed_node v) → ((b : Standing) × (p ≡ b.accepted.program) × IsDueView b (viewed_node v) v) → RunsOn p v
+pub view_runs : (p : Tables) (v : View) → IsCodedNode p (viewed_node v) → ((b : Standing) × (p ≡ b.accepted.program) × IsDueView b (viewed_node v) v)
+    → RunsOn p v
 view_runs p v (info, acts, at, coded) (b, same, due) =
-    subst (λ q. RunsOn q v) (sym same) (code_runs_on_views b (viewed_node v) info acts v due.standing due.view (subst (λ (q : Tables). At q.nodes (viewed_node v) info) same at) coded)
+    subst (λ q. RunsOn q v) (sym same) (code_runs_on_views b (viewed_node v) info acts v due.standing due.view
+    (subst (λ (q : Tables). At q.nodes (viewed_node v) info) same at) coded)

@@ -3,14 +3,15 @@ use Rattle.std.proofs.Common.{◌≡◌, ◌<◌, ◌⊎◌, inl, inr, ⊎_elim,
 use Rattle.std.proofs.lemmas.List.{append_assoc, append-nil, length-append}
 use Rattle.sot_lists.specs.Places.{At}
 use Rattle.sot_lang.specs.Tables.{Tables}
-use Rattle.sot_world.specs.HistoryEntry.{Logged}
+use Rattle.sot_world.specs.HistoryEntry.{Logged, InputAt, FireAt, DecideAt, TickAt}
 use Rattle.sot_flight.specs.Plans.{Plan}
-use Rattle.sot_turn.specs.Passes.{pass_seen}
+use Rattle.sot_turn.specs.Passes.{pass_seen, pass_added}
 use Rattle.sot_board.specs.Versions.{drafts_of}
+use Rattle.sot_board.proofs.Entries.{drafts_append}
 use Rattle.sot_node_worker.specs.declared.shift.Shift.{Shift}
 use Rattle.sot_node_worker.specs.Askings.{Asking}
 use Rattle.sot_node_worker.specs.Answers.{FitsFiring, HasAnswered, Answered}
-use Rattle.sot_node_worker.specs.Shifts.{HasItsGuest, IsReady, EachGuest, IsOnShift}
+use Rattle.sot_node_worker.specs.Shifts.{HasItsGuest, IsReady, EachGuest, AreFirings, IsOnShift}
 use Rattle.sot_node_worker.specs.Turned.{AnswersOnce, AnswersOn, IsTurned}
 use Rattle.sot_node_worker.proofs.Histories.{fits_stay, answers_stay}
 
@@ -23,7 +24,8 @@ last_or_before (z ∷ zs) y (suc k) x at = ⊎_elim (λ before. inl before) (λ 
 
 module _ (p : Tables) (j : ℕ) (f : Plan) (n : ℕ) (old new : List Logged) (first : Option (List Asking)) where
   -- one asking more
-  asked_once : (before after : List Asking) → HasAnswered p j f n old first before → (once : AnswersOnce p j f n old new (Some before) (Some after)) → HasAnswered p j f n new first after
+  asked_once : (before after : List Asking) → HasAnswered p j f n old first before → (once : AnswersOnce p j f n old new (Some before) (Some after))
+      → HasAnswered p j f n new first after
   asked_once before after was once =
       let list = once.told.0 in
       let same : before ≡ list = (let e = once.told.1 in cc) in
@@ -41,7 +43,8 @@ module _ (p : Tables) (j : ℕ) (f : Plan) (n : ℕ) (old new : List Logged) (fi
             (last_or_before known once.one k one at);
       }
 
-  pub answered_on : (before after : Option (List Asking)) → Answered p j f n old first before → AnswersOn p j f n old new before after → Answered p j f n new first after
+  pub answered_on : (before after : Option (List Asking)) → Answered p j f n old first before → AnswersOn p j f n old new before after
+      → Answered p j f n new first after
   answered_on before after was (inl quiet) =
       subst (λ o. Answered p j f n new first o) (sym quiet.1)
       (subst (λ es. Answered p j f n es first before) (sym quiet.0.1) (answers_stay p j f n old quiet.0.0 first before quiet.0.2 was))
@@ -62,15 +65,25 @@ each_answered told p j f n old new (Some x) (Some y) None a b = absurd b
 
 -- there is a guest where there was one
 pub still_guest :
-    {C : Type 0} (R : Option (List Asking) → Option (List Asking) → Type 0) (told : C → Option (List Asking)) (f : Plan) (n : ℕ) (was now : Option C) → EachGuest R told was now → HasItsGuest f n was → HasItsGuest f n now
+    {C : Type 0} (R : Option (List Asking) → Option (List Asking) → Type 0) (told : C → Option (List Asking)) (f : Plan) (n : ℕ) (was now : Option C)
+    → EachGuest R told was now → HasItsGuest f n was → HasItsGuest f n now
 still_guest R told f n None None each has = has
 still_guest R told f n (Some x) (Some y) each has = has
 still_guest R told f n None (Some y) each has = absurd each
 still_guest R told f n (Some x) None each has = absurd each
 
+-- firings behind firings
+pub firings_append : (n : ℕ) (xs ys : List Logged) → AreFirings n xs → AreFirings n ys → AreFirings n (xs ++ ys)
+firings_append n [] ys one two = two
+firings_append n (FireAt time k draft enabled ∷ xs) ys one two = (one.0, firings_append n xs ys one.1 two)
+firings_append n (InputAt time topic value ∷ xs) ys one two = absurd one
+firings_append n (DecideAt time m mode ∷ xs) ys one two = absurd one
+firings_append n (TickAt time noise states ∷ xs) ys one two = absurd one
+
 -- one more turn of a shift that began
 pub one_turn_more :
-    {C : Type 0} (told : C → Option (List Asking)) (began old new : Shift C) (was : IsOnShift told began old) → IsTurned told was.at_work.accepted was.at_work.plan old new → IsOnShift told began new
+    {C : Type 0} (told : C → Option (List Asking)) (began old new : Shift C) (was : IsOnShift told began old)
+    → IsTurned told was.at_work.accepted was.at_work.plan old new → IsOnShift told began new
 one_turn_more told began old new was turned =
     let a = was.at_work.accepted in
     let f = was.at_work.plan in
@@ -80,19 +93,33 @@ one_turn_more told began old new was turned =
         plan = f;
         ground = turned.ground ∙ was.at_work.ground;
         there = subst (λ n. n < length a.program.nodes) (sym turned.node) was.at_work.there;
-        guest = subst (λ n. HasItsGuest f n new.guest) (sym turned.node) (still_guest (AnswersOn a.program a.cert.jitter f old.node (pass_seen old.pass) (pass_seen new.pass)) told f old.node old.guest new.guest turned.guest was.at_work.guest);
+        guest =
+            subst (λ n. HasItsGuest f n new.guest) (sym turned.node)
+            (still_guest (AnswersOn a.program a.cert.jitter f old.node (pass_seen old.pass) (pass_seen new.pass)) told f old.node old.guest new.guest
+            turned.guest was.at_work.guest);
         drafts = turned.drafts ∙ ap (λ n. drafts_of n (pass_seen new.pass)) (sym turned.node);
       };
       node = turned.node ∙ was.node;
       lock = turned.lock ∙ was.lock;
       ground = turned.ground ∙ was.ground;
+      own = was.own ++ turned.own;
+      added = turned.added ∙ ap (λ l. l ++ turned.own) was.added ∙ append_assoc (pass_added began.pass) was.own turned.own;
+      only_firings =
+          subst (λ n. AreFirings n (was.own ++ turned.own)) (sym turned.node) (firings_append old.node was.own turned.own was.only_firings turned.only_firings);
+      all_firings =
+          turned.all_firings ∙ ap (λ l. l ++ drafts_of old.node turned.own) was.all_firings
+          ∙ append_assoc began.drafts.items (drafts_of old.node was.own) (drafts_of old.node turned.own)
+          ∙ ap (λ l. began.drafts.items ++ l) (sym (drafts_append old.node was.own turned.own))
+          ∙ ap (λ n. began.drafts.items ++ drafts_of n (was.own ++ turned.own)) (sym turned.node);
       guest = subst (λ n. EachGuest (Answered a.program a.cert.jitter f n (pass_seen new.pass)) told began.guest new.guest) (sym turned.node)
-          (each_answered told a.program a.cert.jitter f old.node (pass_seen old.pass) (pass_seen new.pass) began.guest old.guest new.guest was.guest turned.guest);
+          (each_answered told a.program a.cert.jitter f old.node (pass_seen old.pass) (pass_seen new.pass) began.guest old.guest new.guest was.guest
+          turned.guest);
       finished = turned.finished;
     }
 
 -- nothing is answered yet
-nothing_answered : {C : Type 0} (told : C → Option (List Asking)) (p : Tables) (j : ℕ) (f : Plan) (n : ℕ) (history : List Logged) (guest : Option C) → drafts_of n history ≡ [] → EachGuest (Answered p j f n history) told guest guest
+nothing_answered : {C : Type 0} (told : C → Option (List Asking)) (p : Tables) (j : ℕ) (f : Plan) (n : ℕ) (history : List Logged) (guest : Option C)
+    → drafts_of n history ≡ [] → EachGuest (Answered p j f n history) told guest guest
 nothing_answered told p j f n history None none = tt
 nothing_answered told p j f n history (Some x) none = go (told x)
   where
@@ -116,6 +143,12 @@ ready_on_shift told lock shift ready =
       node = refl;
       lock = refl;
       ground = refl;
-      guest = nothing_answered told a.program a.cert.jitter ready.at_work.plan shift.node (pass_seen shift.pass) shift.guest (sym ready.at_work.drafts ∙ ready.no_drafts);
+      own = [];
+      added = sym (append-nil (pass_added shift.pass));
+      only_firings = tt;
+      all_firings = sym (append-nil shift.drafts.items);
+      guest =
+          nothing_answered told a.program a.cert.jitter ready.at_work.plan shift.node (pass_seen shift.pass) shift.guest
+          (sym ready.at_work.drafts ∙ ready.no_drafts);
       finished = λ yes. absurd (let e = sym yes ∙ ready.unfinished in cc);
     }

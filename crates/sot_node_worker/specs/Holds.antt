@@ -14,7 +14,8 @@ use Rattle.sot_node_worker.specs.declared.sight.Sight.TheVariants.{Ended, Idle, 
 
 -- the ground is known, and the node is one of its program
 abbrev pub HasNode : Option (Admitted × Plan) → ℕ → Type 0
-HasNode ground n = (a : Admitted) × (f : Plan) × (ground ≡ Some (a, f)) × (n < length a.program.nodes)
+HasNode ground n =
+    (a : Admitted) × (f : Plan) × (ground ≡ Some (a, f)) × (n < length a.program.nodes)
 
 -- a board as it stood when the view was taken, with the node left to fire
 pub record IsDueView (b : Standing) (n : ℕ) (v : View) : Type 0 where
@@ -23,19 +24,21 @@ pub record IsDueView (b : Standing) (n : ℕ) (v : View) : Type 0 where
   pub view : IsView b.accepted.program b.entries b.position n v
 
 -- the view was taken of a board of this ground, when this was its history
-pub record IsSeen (ground : Option (Admitted × Plan)) (seen : List Logged) (n : ℕ) (v : View) : Type 0 where
+pub record IsSeen (ground : Option (Admitted × Plan)) (seen : List Logged) (n : ℕ) (v : View) : Type
+    0 where
   pub board : Standing
   pub due : IsDueView board n v
   pub ground_is : ground ≡ Some (board.accepted, board.plan)
   pub entries : board.entries ≡ seen
 
 -- what a worker sees of its node at a board
-abbrev pub MatchSight : Sight → Type 0 → Type 0 → (Tables → View → Type 0) → (View → Type 0) → Type 0
-MatchSight Ended E S R A = E
-MatchSight Idle E S R A = Unit {0}
-MatchSight Stated E S R A = S
-MatchSight (Runs p view) E S R A = R p.now view
-MatchSight (Asks view) E S R A = A view
+abbrev pub MatchSight : Sight → Type 0 → Type 0 → Type 0 → (Tables → View → Type 0)
+    → (View → Type 0) → Type 0
+MatchSight Ended E I S R A = E
+MatchSight Idle E I S R A = I
+MatchSight Stated E I S R A = S
+MatchSight (Runs p view) E I S R A = R p.now view
+MatchSight (Asks view) E I S R A = A view
 
 -- the board went on by one firing of the node with this draft
 pub record Appends (old new : Standing) (n : ℕ) (draft : List (Option ℤ)) : Type 0 where
@@ -45,10 +48,13 @@ pub record Appends (old new : Standing) (n : ℕ) (draft : List (Option ℤ)) : 
   pub accepted : new.accepted ≡ old.accepted
   pub plan : new.plan ≡ old.plan
 
--- what is seen has gone on by entries that are no firings of the node, and then by its firing with this draft
-pub record HasFired (n : ℕ) (draft : List (Option ℤ)) (old new : List Logged) : Type 0 where
-  pub between : List Logged
-  pub time : ℕ
-  pub enabled : Bool
-  pub no_other : drafts_of n between ≡ []
-  pub seen : new ≡ old ++ (between ++ FireAt time n draft enabled ∷ [])
+-- what is seen has gone on by entries that are no firings of the node, and then by its firing with
+-- this draft, which is all that was added by the node's owner
+pub record HasFired (n : ℕ) (draft : List (Option ℤ)) (old new added added' : List Logged) : Type 0
+  where
+    pub between : List Logged
+    pub time : ℕ
+    pub enabled : Bool
+    pub no_other : drafts_of n between ≡ []
+    pub seen : new ≡ old ++ (between ++ FireAt time n draft enabled ∷ [])
+    pub adds : added' ≡ added ++ FireAt time n draft enabled ∷ []

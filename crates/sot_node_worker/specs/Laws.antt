@@ -10,14 +10,20 @@ use Rattle.sot_node_worker.specs.Answers.{FitsFiring, Answered}
 
 -- no history of a flight so far goes on from a whole one
 abbrev pub WholeHistoriesEnd : Type 0
-WholeHistoriesEnd = (p : Tables) (jitter : ℕ) (f : Plan) (history more : List Logged) (Q : Position) → FlownBy p jitter f history → FlownSoFar p jitter f (history ++ more) Q → more ≡ []
+WholeHistoriesEnd =
+    (p : Tables) (jitter : ℕ) (f : Plan) (history more : List Logged) (Q : Position)
+    → FlownBy p jitter f history → FlownSoFar p jitter f (history ++ more) Q → more ≡ []
 
 -- an asking that fits a firing fits it in each longer history
 abbrev pub FitsStay : Type 0
-FitsStay = (p : Tables) (jitter : ℕ) (f : Plan) (n : ℕ) (history more : List Logged) (k : ℕ) (one : Asking) → FitsFiring p jitter f n history k one → FitsFiring p jitter f n (history ++ more) k one
+FitsStay =
+    (p : Tables) (jitter : ℕ) (f : Plan) (n : ℕ) (history more : List Logged) (k : ℕ) (one : Asking)
+    → FitsFiring p jitter f n history k one → FitsFiring p jitter f n (history ++ more) k one
 
 -- what is answered stays answered in a longer history in which the node does not fire again
 abbrev pub AnswersStay : Type 0
 AnswersStay =
-    (p : Tables) (jitter : ℕ) (f : Plan) (n : ℕ) (history more : List Logged) (before after : Option (List Asking))
-    → drafts_of n more ≡ [] → Answered p jitter f n history before after → Answered p jitter f n (history ++ more) before after
+    (p : Tables) (jitter : ℕ) (f : Plan) (n : ℕ) (history more : List Logged)
+    (before after : Option (List Asking))
+    → drafts_of n more ≡ [] → Answered p jitter f n history before after
+    → Answered p jitter f n (history ++ more) before after

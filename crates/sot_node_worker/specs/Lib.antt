@@ -3,6 +3,7 @@ pub mod Askings
 pub mod Answers
 -- what became of a shift
 pub mod Shifts
+pub mod Turns
 -- laws on histories that go on
 pub mod Laws
 -- what the functions inside the crate tell each other

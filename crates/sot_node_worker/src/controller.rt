@@ -7,14 +7,17 @@ ghost use Rattle.sot_node_worker.specs.Askings.{Asking, asking, TellsOneMore};
 use sot_board::View;
 use sot_lang::Draft;
 
-/// A guest. It may tell the list of its askings, and tells no list from then on where it cannot keep one.
+/// A guest. It may tell the list of its askings, and tells no list from then on where it cannot
+/// keep one.
 pub trait Controller: Drop {
     ghost told: { Self → Option (List Asking) };
 
-    /// Drafts what a node writes, from what the node sees. The draft handed in is blank, and may be left so.
+    /// Drafts what a node writes, from what the node sees. The draft handed in is blank, and may be
+    /// left so.
     fn decide(&mut self, view: &View, draft: &mut Draft)
         requires blank { draft.old ≡ replicate 8 None }
-        ensures told { TellsOneMore (told self.old) (told self.new) (asking (viewed_numbers view.now) draft.new) };
+        ensures told { TellsOneMore (told self.old) (told self.new)
+            (asking (viewed_numbers view.now) draft.new) };
 }
 
 /// So guests of several types fly one flight.

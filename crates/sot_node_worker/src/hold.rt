@@ -2,7 +2,8 @@
 
 ghost use Rattle.std.specs.Prelude.{◌≡◌, ◌<◌, ℕ, ℤ, List, Option, true, Some, length, take};
 ghost use Rattle.sot_lists.specs.Places.{At};
-ghost use Rattle.sot_turn.specs.Passes.{lock_of, pass_lock, pass_ground, pass_seen, held_lock, held_ground, held_seen, held_value};
+ghost use Rattle.sot_turn.specs.Passes.{lock_of, pass_lock, pass_ground, pass_seen, pass_added};
+ghost use Rattle.sot_turn.specs.Passes.{held_lock, held_ground, held_seen, held_added, held_value};
 ghost use Rattle.sot_code.specs.Recorded.{in_slots};
 ghost use Rattle.sot_world.specs.Configurations.{is_left};
 ghost use Rattle.sot_world.specs.Events.{slot_count};
@@ -38,7 +39,9 @@ pub(crate) fn fire_stated<'a, R: Wait>(
     requires no_guest { (i : ℕ) → At (held_value held).plan.crews node (plans.Guest i) → ⊥ }
     ensures lock { pass_lock result ≡ held_lock held.entry }
     ensures ground { pass_ground result ≡ held_ground held.entry }
-    ensures fired { (draft : List (Option ℤ)) × HasFired node draft (held_value held.entry).entries (pass_seen result) }
+    ensures fired { (draft : List (Option ℤ))
+        × HasFired node draft (held_value held.entry).entries (pass_seen result)
+        (held_added held.entry) (pass_added result) }
     ensures drafts { drafts.new.items ≡ drafts_of node (pass_seen result) }
 {
     let mut held = held;
@@ -56,7 +59,8 @@ fn commit_stated(board: &mut Board<'_>, node: u32) -> Receipt
     board.commit_stated(node)
 }
 
-/// A coded node fires with what its code gives on the view, or on the present numbers where what it reads has changed since.
+/// A coded node fires with what its code gives on the view, or on the present numbers where what it
+/// reads has changed since.
 pub(crate) fn fire_code<'a, R: Wait>(
     rt: &R,
     turn: &Turn<Board<'a>>,
@@ -68,11 +72,14 @@ pub(crate) fn fire_code<'a, R: Wait>(
     requires lock { pass_lock pass ≡ lock_of turn.now }
     requires there { HasNode (pass_ground pass) (viewed_node view) }
     requires coded { IsCodedNode p.now (viewed_node view) }
-    requires seen { (seen : IsSeen (pass_ground pass) (pass_seen pass) (viewed_node view) view) × (p.now ≡ seen.board.accepted.program) }
+    requires seen { (seen : IsSeen (pass_ground pass) (pass_seen pass) (viewed_node view) view)
+        × (p.now ≡ seen.board.accepted.program) }
     requires drafts { drafts.old.items ≡ drafts_of (viewed_node view) (pass_seen pass) }
     ensures lock { pass_lock result ≡ pass_lock pass.entry }
     ensures ground { pass_ground result ≡ pass_ground pass.entry }
-    ensures fired { (draft : List (Option ℤ)) × HasFired (viewed_node view) draft (pass_seen pass.entry) (pass_seen result) }
+    ensures fired { (draft : List (Option ℤ))
+        × HasFired (viewed_node view) draft (pass_seen pass.entry) (pass_seen result)
+        (pass_added pass.entry) (pass_added result) }
     ensures drafts { drafts.new.items ≡ drafts_of (viewed_node view) (pass_seen result) }
 {
     let fired = run(p, &view);
@@ -85,7 +92,8 @@ pub(crate) fn fire_code<'a, R: Wait>(
 // What the code of a view's node gives on it.
 fn run(p: &Typed, view: &View) -> Fired
     requires coded { IsCodedNode p.now (viewed_node view.now) }
-    requires due { (b : Standing) × (p.now ≡ b.accepted.program) × IsDueView b (viewed_node view.now) view.now }
+    requires due { (b : Standing) × (p.now ≡ b.accepted.program)
+        × IsDueView b (viewed_node view.now) view.now }
     ensures { IsRunOn p.now view.now result }
 {
     let locals = view.locals();
@@ -123,11 +131,14 @@ pub(crate) fn fire_guest<'a, R: Wait>(
 ) -> Pass<Board<'a>>
     requires lock { pass_lock pass ≡ lock_of turn.now }
     requires there { HasNode (pass_ground pass) node }
-    requires guest { (a : _) (f : _) → pass_ground pass ≡ Some (a, f) → (i : ℕ) × At f.crews node (plans.Guest i) }
+    requires guest { (a : _) (f : _) → pass_ground pass ≡ Some (a, f)
+        → (i : ℕ) × At f.crews node (plans.Guest i) }
     requires drafts { drafts.old.items ≡ drafts_of node (pass_seen pass) }
     ensures lock { pass_lock result ≡ pass_lock pass.entry }
     ensures ground { pass_ground result ≡ pass_ground pass.entry }
-    ensures fired { (a : _) (f : _) → pass_ground pass.entry ≡ Some (a, f) → HasFired node (in_slots (take (slot_count a.program node) draft)) (pass_seen pass.entry) (pass_seen result) }
+    ensures fired { (a : _) (f : _) → pass_ground pass.entry ≡ Some (a, f)
+        → HasFired node (in_slots (take (slot_count a.program node) draft)) (pass_seen pass.entry)
+        (pass_seen result) (pass_added pass.entry) (pass_added result) }
     ensures drafts { drafts.new.items ≡ drafts_of node (pass_seen result) }
 {
     let mut held = take_in_step(rt, turn, pass, node, drafts);
@@ -140,7 +151,8 @@ fn commit_draft<R: Wait>(rt: &R, board: &mut Board<'_>, node: u32, draft: Draft)
     requires there { node < length board.old.accepted.program.nodes }
     requires guest { (i : ℕ) × At board.old.plan.crews node (plans.Guest i) }
     ensures appends { Appends board.old board.new node result.draft }
-    ensures draft { result.draft ≡ in_slots (take (slot_count board.old.accepted.program node) draft) }
+    ensures draft { result.draft ≡ in_slots
+        (take (slot_count board.old.accepted.program node) draft) }
 {
     if !board.due(node) {
         stop(rt);

@@ -2,7 +2,8 @@
 
 ghost use Rattle.sot_node_worker.specs.Laws.{WholeHistoriesEnd, FitsStay, AnswersStay};
 
-/// A whole history cannot go on, so what a finished worker has seen is what the board has at its end.
+/// A whole history cannot go on, so what a finished worker has seen is what the board has at its
+/// end.
 pub fn whole_histories_end()
     ensures { WholeHistoriesEnd }
 {}

@@ -1,8 +1,9 @@
 //! One worker's shift at a board that is taken in turns.
 //!
-//! A [`Controller`] is asked what a node writes, once a firing. A [`Shift`] is the job of one node: it takes turns at the board, sees
-//! there whether its node is due, computes outside the turn, and commits in another one. Its list of drafts is that of the node's
-//! firings in all that it has seen of the history. Nobody promises that a turn comes.
+//! A [`Controller`] is asked what a node writes, once a firing. A [`Shift`] is the job of one node:
+//! it takes turns at the board, sees there whether its node is due, computes outside the turn, and
+//! commits in another one. Its list of drafts is that of the node's firings in all that it has seen
+//! of the history. Nobody promises that a turn comes.
 #![tactic(auto)]
 
 mod controller;

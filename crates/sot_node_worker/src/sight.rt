@@ -2,15 +2,16 @@
 
 ghost use Rattle.std.specs.Prelude.{◌≡◌, ◌<◌, true, false, length};
 ghost use Rattle.sot_world.specs.Configurations.{is_left};
-ghost use Rattle.sot_board.specs.Flown.{FlownBy};
+ghost use Rattle.sot_board.specs.Flown.{IsEnd};
+ghost use Rattle.sot_board.specs.Standing.{IsStanding};
 ghost use Rattle.sot_board.specs.NodeSorts.{IsCodedNode, IsExternalNode};
 ghost use Rattle.sot_node_worker.specs.Holds.{IsDueView, MatchSight};
 
 use sot_board::{Board, View, is_coded};
 use sot_lang::Typed;
 
-/// The flight is at its end; the node is not due; it is due and its draft is stated; its code is to run on this view; or its guest
-/// is to be asked with it.
+/// The flight is at its end; the node is not due; it is due and its draft is stated; its code is to
+/// run on this view; or its guest is to be asked with it.
 #[derive(Clone, Copy)]
 pub enum Sight<'a> {
     Ended,
@@ -23,13 +24,18 @@ pub enum Sight<'a> {
 /// What there is to do for a node, which a guest flies or not.
 pub(crate) fn see<'a>(board: &Board<'a>, node: u32, guest: bool) -> Sight<'a>
     requires { node < length board.now.accepted.program.nodes }
-    ensures { MatchSight result
-        (FlownBy board.now.accepted.program board.now.accepted.cert.jitter board.now.plan board.now.entries)
-        ((guest ≡ false) × (is_left board.now.position.at node ≡ true) × IsExternalNode board.now.accepted.program node)
-        (λ p view. (guest ≡ false) × (p ≡ board.now.accepted.program) × IsCodedNode board.now.accepted.program node × IsDueView board.now node view)
+    ensures standing { IsStanding board.now }
+    ensures sight { MatchSight result
+        (IsEnd board.now.accepted.program board.now.plan board.now.position)
+        ((is_left board.now.position.at node ≡ false)
+        × (IsEnd board.now.accepted.program board.now.plan board.now.position → ⊥))
+        ((guest ≡ false) × (is_left board.now.position.at node ≡ true)
+        × IsExternalNode board.now.accepted.program node)
+        (λ p view. (guest ≡ false) × (p ≡ board.now.accepted.program)
+        × IsCodedNode board.now.accepted.program node × IsDueView board.now node view)
         (λ view. (guest ≡ true) × IsDueView board.now node view) }
 {
-    board.is_standing();
+    board.reveal_invariant();
     if board.finished() {
         return Sight::Ended;
     }

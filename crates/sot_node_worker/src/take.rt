@@ -2,7 +2,8 @@
 
 ghost use Rattle.std.specs.Prelude.{◌≡◌, ◌++◌, ◌∷◌, [], Some};
 ghost use Rattle.sot_turn.specs.Prefixes.{IsPrefix};
-ghost use Rattle.sot_turn.specs.Passes.{lock_of, pass_lock, pass_ground, pass_seen, held_lock, held_ground, held_seen, held_value};
+ghost use Rattle.sot_turn.specs.Passes.{lock_of, pass_lock, pass_ground, pass_seen, pass_added};
+ghost use Rattle.sot_turn.specs.Passes.{held_lock, held_ground, held_seen, held_added, held_value};
 ghost use Rattle.sot_board.specs.Versions.{drafts_of};
 ghost use Rattle.sot_node_worker.specs.Holds.{HasNode};
 
@@ -22,8 +23,8 @@ pub fn stop<R: Wait>(rt: &R)
     unreachable!()
 }
 
-/// Takes the turn. Where the node has not fired as often as there are drafts, it gives the turn back and waits
-/// without end.
+/// Takes the turn. Where the node has not fired as often as there are drafts, it gives the turn
+/// back and waits without end.
 pub(crate) fn take_in_step<'t, 'a, R: Wait>(
     rt: &R,
     turn: &'t Turn<Board<'a>>,
@@ -36,15 +37,17 @@ pub(crate) fn take_in_step<'t, 'a, R: Wait>(
     requires drafts { drafts.now.items ≡ drafts_of node (pass_seen pass) }
     ensures lock { held_lock result ≡ pass_lock pass.entry }
     ensures ground { held_ground result ≡ pass_ground pass.entry }
-    ensures ground_now { pass_ground pass.entry ≡ Some ((held_value result).accepted, (held_value result).plan) }
+    ensures ground_now { pass_ground pass.entry
+        ≡ Some ((held_value result).accepted, (held_value result).plan) }
     ensures seen { held_seen result ≡ (held_value result).entries }
     ensures goes_on { IsPrefix (pass_seen pass.entry) (held_value result).entries }
+    ensures added { held_added result ≡ pass_added pass.entry }
     ensures in_step { drafts_of node (held_value result).entries ≡ drafts.now.items }
 {
     let mut held = turn.take(rt, pass);
     let fired = held.lend().fired(node);
     if fired as usize != drafts.len() {
-        // Kept to the end that never comes: to let a pass go is dear to prove.
+        // Kept to the end that never comes, since to let a pass go is dear to prove.
         let _pass = turn.give(held);
         stop(rt);
         unreachable!()

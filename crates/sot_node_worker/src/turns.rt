@@ -1,10 +1,13 @@
 //! Turns, and work that goes on by turns.
 
-ghost use Rattle.std.specs.Prelude.{◌≡◌, ◌⊎◌, true};
-ghost use Rattle.sot_turn.specs.Passes.{lock_of, pass_lock};
+ghost use Rattle.std.specs.Prelude.{◌≡◌, Some};
+ghost use Rattle.sot_turn.specs.Passes.{lock_of, pass_lock, pass_ground};
+ghost use Rattle.sot_tube.specs.Admitted.{Admitted};
+ghost use Rattle.sot_flight.specs.Plans.{Plan};
 ghost use Rattle.sot_board.specs.Views.{viewed_numbers};
 ghost use Rattle.sot_node_worker.specs.Askings.{TellsOneMore, asking};
-ghost use Rattle.sot_node_worker.specs.Shifts.{IsAtWork, IsReady, IsOnShift};
+ghost use Rattle.sot_node_worker.specs.Shifts.{IsAtWork, IsReady, IsOnShift, HasWorked};
+ghost use Rattle.sot_node_worker.specs.Turns.{TakesTurn};
 
 use crate::controller::Controller;
 use crate::hold::{fire_code, fire_guest, fire_stated};
@@ -20,16 +23,18 @@ use std::thread::Parker;
 
 // Asks a guest with a view, on a blank draft.
 fn ask<C: Controller>(guest: &mut C, view: &View) -> Draft
-    ensures { TellsOneMore (C.told guest.old) (C.told guest.new) (asking (viewed_numbers view.now) result) }
+    ensures { TellsOneMore (C.told guest.old) (C.told guest.new)
+        (asking (viewed_numbers view.now) result) }
 {
     let mut draft = Draft::blank();
     guest.decide(view, &mut draft);
     draft
 }
 
-/// One turn at the board, in which it is seen what there is to do, and where the node's code is to run or its guest to be asked, a
-/// second turn for the firing. In each turn it goes on only where the node has fired as often as the shift has drafts, and elsewhere
-/// gives the turn back and waits without end.
+/// One turn at the board, in which it is seen what there is to do, and where the node's code is to
+/// run or its guest to be asked, a second turn for the firing. In each turn it goes on only where
+/// the node has fired as often as the shift has drafts, and elsewhere gives the turn back and waits
+/// without end.
 pub fn take_turn<'a, C: Controller, R: Wait>(
     rt: &R,
     turn: &Turn<Board<'a>>,
@@ -37,7 +42,10 @@ pub fn take_turn<'a, C: Controller, R: Wait>(
 ) -> Shift<'a, C>
     requires lock { pass_lock shift.pass ≡ lock_of turn.now }
     requires at_work { IsAtWork shift }
-    ensures { (began : _) → IsOnShift C.told began shift.entry → IsOnShift C.told began result }
+    ensures on_shift { (began : _) → IsOnShift C.told began shift.entry
+        → IsOnShift C.told began result }
+    ensures turn { (a : Admitted) (f : Plan) → pass_ground shift.entry.pass ≡ Some (a, f)
+        → TakesTurn a f shift.entry result }
 {
     let Shift {
         node,
@@ -55,33 +63,15 @@ pub fn take_turn<'a, C: Controller, R: Wait>(
             drafts,
             guest,
         },
-        Sight::Idle => Shift {
-            node,
-            finished: false,
-            pass: turn.give(held),
-            drafts,
-            guest,
-        },
+        Sight::Idle => Shift::unfinished(node, turn.give(held), drafts, guest),
         Sight::Stated => {
             let pass = fire_stated(rt, turn, held, node, &mut drafts);
-            Shift {
-                node,
-                finished: false,
-                pass,
-                drafts,
-                guest,
-            }
+            Shift::unfinished(node, pass, drafts, guest)
         }
         Sight::Runs(p, view) => {
             let pass = turn.give(held);
             let pass = fire_code(rt, turn, pass, p, view, &mut drafts);
-            Shift {
-                node,
-                finished: false,
-                pass,
-                drafts,
-                guest,
-            }
+            Shift::unfinished(node, pass, drafts, guest)
         }
         Sight::Asks(view) => {
             let pass = turn.give(held);
@@ -90,20 +80,15 @@ pub fn take_turn<'a, C: Controller, R: Wait>(
             };
             let draft = ask(&mut asked, &view);
             let pass = fire_guest(rt, turn, pass, node, draft, &mut drafts);
-            Shift {
-                node,
-                finished: false,
-                pass,
-                drafts,
-                guest: Some(asked),
-            }
+            Shift::unfinished(node, pass, drafts, Some(asked))
         }
     }
 }
 
-/// Takes turns until the board is finished; where the flag is raised at the beginning, none, and the shift comes back as it was. After
-/// each turn it rings for the caller, and waits until it is woken. So it is to be woken each time its node has become due, and once
-/// the board is finished; of this no clause speaks.
+/// Takes turns until the board is finished; where the flag is raised at the beginning, none, and
+/// the shift comes back as it was. After each turn it rings for the caller, and waits until it is
+/// woken. So it is to be woken each time its node has become due, and once the board is finished;
+/// of this no clause speaks.
 pub fn work<'a, C: Controller, R: Wait>(
     rt: &R,
     turn: &Turn<Board<'a>>,
@@ -113,8 +98,7 @@ pub fn work<'a, C: Controller, R: Wait>(
     shift: Shift<'a, C>,
 ) -> Shift<'a, C>
     requires { IsReady (lock_of turn.now) shift }
-    ensures on_shift { IsOnShift C.told shift.entry result }
-    ensures ended { (result ≡ shift.entry) ⊎ (result.finished ≡ true) }
+    ensures { HasWorked C.told shift.entry result }
 {
     if flag.load(Ordering::SeqCst) {
         return shift;

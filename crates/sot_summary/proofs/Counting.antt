@@ -16,8 +16,18 @@ states_more es i e at = ap states_sum (drop_at es i e at)
 
 -- summaries of the same counts are the same
 pub same_summary :
-    {modules modules' nodes nodes' horizon horizon' firings firings' ticks ticks' refused refused' outside outside' : ℕ} {sum sum' : ℤ} → modules ≡ modules' → nodes ≡ nodes' → horizon ≡ horizon'
+    {modules modules' nodes nodes' horizon horizon' firings firings' ticks ticks' refused refused' outside outside' : ℕ} {sum sum' : ℤ} → modules ≡ modules'
+    → nodes ≡ nodes' → horizon ≡ horizon'
     → firings ≡ firings' → ticks ≡ ticks' → refused ≡ refused' → outside ≡ outside' → sum ≡ sum'
-    → ◌≡◌ {A = Summary} (record { modules = modules; nodes = nodes; horizon = horizon; firings = firings; ticks = ticks; refused = refused; outside = outside; sum = sum })
+    → ◌≡◌ {A = Summary} (record {
+      modules = modules;
+      nodes = nodes;
+      horizon = horizon;
+      firings = firings;
+      ticks = ticks;
+      refused = refused;
+      outside = outside;
+      sum = sum;
+    })
     (record { modules = modules'; nodes = nodes'; horizon = horizon'; firings = firings'; ticks = ticks'; refused = refused'; outside = outside'; sum = sum' })
 same_summary a b c d e f g h = rw (a, b, c, d, e, f, g, h) refl

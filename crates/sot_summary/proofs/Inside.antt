@@ -37,7 +37,8 @@ region_width (b ∷ bs) n s each (inr r) = region_width bs n s (λ i c at. each 
 
 -- points that were put one after another are cut into the same points
 points_back : (plants : List PlantInfo) (points : List (List ℤ)) → length points ≡ length plants
-    → ((k : ℕ) (plant : PlantInfo) → At plants k plant → length (slice_index_or points k []) ≡ length plant.states.items) → points_in plants (joined points) ≡ points
+    → ((k : ℕ) (plant : PlantInfo) → At plants k plant → length (slice_index_or points k []) ≡ length plant.states.items)
+    → points_in plants (joined points) ≡ points
 points_back [] [] same each = refl
 points_back [] (s ∷ points) same each = absurd (omega (arith, same))
 points_back (k ∷ plants) [] same each = absurd (omega (arith, same))
@@ -45,7 +46,8 @@ points_back (k ∷ plants) (s ∷ points) same each =
     let n = length k.states.items in
     let front = take_at s (joined points) n (each 0 k refl) in
     let behind = drop_at s (joined points) n (each 0 k refl) in
-    ap₂ (λ (x : List ℤ) (xs : List (List ℤ)). x ∷ xs) front (ap (points_in plants) behind ∙ points_back plants points (omega (arith, same)) (λ i plant at. each (suc i) plant at))
+    ap₂ (λ (x : List ℤ) (xs : List (List ℤ)). x ∷ xs) front
+    (ap (points_in plants) behind ∙ points_back plants points (omega (arith, same)) (λ i plant at. each (suc i) plant at))
 
 none_any : {A : Type 0} (f : A → Bool) (xs : List A) → ((i : ℕ) (x : A) → At xs i x → f x ≡ false) → list_any f xs ≡ false
 none_any f [] each = refl
@@ -53,7 +55,8 @@ none_any f (x ∷ xs) each = or_from (f x) (list_any f xs) (each 0 x refl) (none
 
 module _ (p : Tables) (rules : MeetsTableRules p) where
   -- in a safe configuration each plant's point is as wide as the plant
-  safe_width : (jitter : ℕ) (C : Configuration) → IsSafeNow p jitter C → (k : ℕ) (plant : PlantInfo) → At p.plants k plant → length (point_of C k) ≡ length plant.states.items
+  safe_width : (jitter : ℕ) (C : Configuration) → IsSafeNow p jitter C → (k : ℕ) (plant : PlantInfo) → At p.plants k plant
+      → length (point_of C k) ≡ length plant.states.items
   safe_width jitter C safe k plant at =
       let (m, info, is, names) = rules.typed.named k plant at in
       let region = (rules.modules m info is).safe in
@@ -65,10 +68,12 @@ module _ (p : Tables) (rules : MeetsTableRules p) where
       let points = points_back p.plants C.points sizes.points (safe_width jitter C safe) in
       none_any _ p.modules (λ m info at.
       not_from_true (is_in_region info.safe.boxes (slice_index_or (points_in p.plants (joined C.points)) info.plant []))
-      ((region_test info.safe.boxes _).1 (subst (λ (xs : List (List ℤ)). IsInRegion info.safe.boxes (slice_index_or xs info.plant [])) (sym points) (safe.modules m info at))))
+      ((region_test info.safe.boxes _).1 (subst (λ (xs : List (List ℤ)). IsInRegion info.safe.boxes (slice_index_or xs info.plant [])) (sym points)
+      (safe.modules m info at))))
 
   -- a tick leaves a configuration of this program's sizes
-  tick_sizes : (jitter : ℕ) (P Q : Position) (e : Event) (r : Recorded) (time : ℕ) (noise states : List ℤ) → Step p jitter P.at e Q.at → Tells P.at e r Q.at (TickAt time noise states)
+  tick_sizes : (jitter : ℕ) (P Q : Position) (e : Event) (r : Recorded) (time : ℕ) (noise states : List ℤ) → Step p jitter P.at e Q.at
+      → Tells P.at e r Q.at (TickAt time noise states)
       → IsSized p Q.at
   tick_sizes jitter P Q (Input topic value) r time noise states step is = absurd cc
   tick_sizes jitter P Q (Code n) r time noise states step (draft, enabled, was, is) = absurd cc
@@ -77,12 +82,14 @@ module _ (p : Tables) (rules : MeetsTableRules p) where
   tick_sizes jitter P Q (Tick given) r time noise states step is = step.sizes
 
   module _ (jitter : ℕ) (f : Plan) (safe : EveryRunIsSafe p jitter) (inside : StartInside p f.start (length p.modules)) where
-    tick_inside : (xs : List Logged) (time : ℕ) (noise states : List ℤ) (Q : Position) → FlownSoFar p jitter f (xs ++ TickAt time noise states ∷ []) Q → is_outside p states ≡ false
+    tick_inside : (xs : List Logged) (time : ℕ) (noise states : List ℤ) (Q : Position) → FlownSoFar p jitter f (xs ++ TickAt time noise states ∷ []) Q
+        → is_outside p states ≡ false
     tick_inside xs time noise states Q (P, start, led) =
         let flown : FlownSoFar p jitter f (xs ++ TickAt time noise states ∷ []) Q = (P, start, led) in
         let (R, front, last) = led_last p jitter f P xs (TickAt time noise states) Q led in
         let sizes = tick_sizes jitter R Q last.event last.recorded time noise states last.step last.tells in
-        ap (is_outside p) (flown_states p jitter f xs time noise states Q flown) ∙ safe_inside jitter Q.at sizes (flown_safe p jitter f (xs ++ TickAt time noise states ∷ []) Q safe inside flown)
+        ap (is_outside p) (flown_states p jitter f xs time noise states Q flown)
+        ∙ safe_inside jitter Q.at sizes (flown_safe p jitter f (xs ++ TickAt time noise states ∷ []) Q safe inside flown)
 
     entry_inside : (xs : List Logged) (e : Logged) (Q : Position) → FlownSoFar p jitter f (xs ++ e ∷ []) Q → outside_in p e ≡ 0
     entry_inside xs (InputAt time topic value) Q flown = refl

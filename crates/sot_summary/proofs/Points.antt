@@ -16,12 +16,14 @@ abbrev width : PlantInfo → ℕ
 width plant = length plant.states.items
 
 -- the states in front of a plant, and those up to it
-front_suc : (plants : List PlantInfo) (i : ℕ) (plant : PlantInfo) → At plants i plant → state_count (take (suc i) plants) ≡ state_count (take i plants) + width plant
+front_suc : (plants : List PlantInfo) (i : ℕ) (plant : PlantInfo) → At plants i plant
+    → state_count (take (suc i) plants) ≡ state_count (take i plants) + width plant
 front_suc [] i plant at = absurd (none-some plant at)
 front_suc (k ∷ ks) zero plant at = (let same = ap width (same_Some k plant at) in omega (arith, same))
 front_suc (k ∷ ks) (suc i) plant at = (let rest = front_suc ks i plant at in omega (arith, rest))
 
-pub front_more : (plants : List PlantInfo) (i : ℕ) (plant : PlantInfo) → At plants i plant → state_count (take (i + 1) plants) ≡ state_count (take i plants) + width plant
+pub front_more : (plants : List PlantInfo) (i : ℕ) (plant : PlantInfo) → At plants i plant
+    → state_count (take (i + 1) plants) ≡ state_count (take i plants) + width plant
 front_more plants i plant at = rw (add-one i) (front_suc plants i plant at)
 
 pub front_inside : (plants : List PlantInfo) (i : ℕ) (plant : PlantInfo) → At plants i plant → state_count (take i plants) + width plant ≤ state_count plants
@@ -50,7 +52,8 @@ few_in p rules states size =
 
 -- the states of a module's plant are as wide as the plant, which has 1 to 4, and as the module's safe region
 module _
-    (p : Tables) (rules : MeetsTableRules p) (m : ℕ) (info : ModuleInfo) (is : At p.modules m info) (states : List ℤ) (plants : List PlantInfo) (own : List ℤ) (size : length states ≡ state_count p.plants)
+    (p : Tables) (rules : MeetsTableRules p) (m : ℕ) (info : ModuleInfo) (is : At p.modules m info) (states : List ℤ) (plants : List PlantInfo) (own : List ℤ)
+    (size : length states ≡ state_count p.plants)
     (same : plants ≡ p.plants) (owned : own ≡ slice_index_or (points_in plants states) info.plant [])
   where
     own_width : (plant : PlantInfo) → At p.plants info.plant plant → length own ≡ width plant

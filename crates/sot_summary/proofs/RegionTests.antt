@@ -29,7 +29,8 @@ within_so (r ∷ rs) [] e = absurd cc
 within_only : (b : List Side) (s : List ℤ) → IsWithin b s → is_within b s ≡ true
 within_only [] [] w = refl
 within_only (r ∷ rs) (x ∷ xs) w =
-    and_from (int_le r.lo x && int_le x r.hi) (is_within rs xs) (and_from (int_le r.lo x) (int_le x r.hi) (le_test r.lo x w.0) (le_test x r.hi w.1)) (within_only rs xs w.2)
+    and_from (int_le r.lo x && int_le x r.hi) (is_within rs xs) (and_from (int_le r.lo x) (int_le x r.hi) (le_test r.lo x w.0) (le_test x r.hi w.1))
+    (within_only rs xs w.2)
 within_only [] (x ∷ xs) w = absurd w
 within_only (r ∷ rs) [] w = absurd w
 
@@ -86,7 +87,8 @@ one_number (y ∷ []) x one at = ap (λ (z : ℤ). z ∷ []) (sym (same_Some y x
 one_number (y ∷ z ∷ s) x one at = absurd (omega (arith, one))
 
 -- a number is in a region of one box of one axis exactly where it is between the box's ends
-pub on_line : (bs : List (List Side)) (b : List Side) (r : Side) (s : List ℤ) (x : ℤ) → length bs ≡ 1 → slice_get bs 0 ≡ Some b → length b ≡ 1 → slice_get b 0 ≡ Some r → length s ≡ 1 → slice_get s 0 ≡ Some x
+pub on_line : (bs : List (List Side)) (b : List Side) (r : Side) (s : List ℤ) (x : ℤ) → length bs ≡ 1 → slice_get bs 0 ≡ Some b → length b ≡ 1
+    → slice_get b 0 ≡ Some r → length s ≡ 1 → slice_get s 0 ≡ Some x
     → (int_le r.lo x && int_le x r.hi) ≡ is_in_region bs s
 on_line bs b r s x one_in_bs at_bs one_in_b at_b one_in_s at_s =
     one_axis b r x one_in_b at_b ∙ ap (is_within b) (one_number s x one_in_s at_s) ∙ one_box bs b s one_in_bs at_bs

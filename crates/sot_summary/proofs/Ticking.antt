@@ -13,10 +13,14 @@ use Rattle.sot_trace.specs.Lines.{ticks_in}
 
 ticks_same : (es : List Logged) → sum_by ticks_in es ≡ ticks_told es
 ticks_same [] = refl
-ticks_same (InputAt time topic value ∷ es) = (let one = sum_by-cons ticks_in (InputAt time topic value) es in let rest = ticks_same es in omega (arith, one, rest))
-ticks_same (FireAt time node draft enabled ∷ es) = (let one = sum_by-cons ticks_in (FireAt time node draft enabled) es in let rest = ticks_same es in omega (arith, one, rest))
-ticks_same (DecideAt time decider mode ∷ es) = (let one = sum_by-cons ticks_in (DecideAt time decider mode) es in let rest = ticks_same es in omega (arith, one, rest))
-ticks_same (TickAt time noise states ∷ es) = (let one = sum_by-cons ticks_in (TickAt time noise states) es in let rest = ticks_same es in omega (arith, one, rest))
+ticks_same (InputAt time topic value ∷ es) =
+    (let one = sum_by-cons ticks_in (InputAt time topic value) es in let rest = ticks_same es in omega (arith, one, rest))
+ticks_same (FireAt time node draft enabled ∷ es) =
+    (let one = sum_by-cons ticks_in (FireAt time node draft enabled) es in let rest = ticks_same es in omega (arith, one, rest))
+ticks_same (DecideAt time decider mode ∷ es) =
+    (let one = sum_by-cons ticks_in (DecideAt time decider mode) es in let rest = ticks_same es in omega (arith, one, rest))
+ticks_same (TickAt time noise states ∷ es) =
+    (let one = sum_by-cons ticks_in (TickAt time noise states) es in let rest = ticks_same es in omega (arith, one, rest))
 
 pub horizon_ticks : (p : Tables) (jitter : ℕ) (f : Plan) (es : List Logged) → FlownBy p jitter f es → sum_by ticks_in es ≡ f.horizon
 horizon_ticks p jitter f es flown = ticks_same es ∙ whole_ticks p jitter f es flown

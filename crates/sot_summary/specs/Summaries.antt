@@ -7,8 +7,9 @@ use Rattle.sot_trace.specs.Lines.{ticks_in, refused_in}
 use Rattle.sot_summary.specs.declared.summary.Summary.{Summary}
 use Rattle.sot_summary.specs.Counted.{firings_in, outside_in, states_sum}
 
--- the modules and nodes of the program, the flight's horizon, and of the history: firings and decisions, ticks, numbers of drafts outside
--- their ranges (as the last line of a trace counts them), ticks after which some plant is outside, and the sum of all states after each tick
+-- the modules and nodes of the program, the flight's horizon, and of the history: firings and
+-- decisions, ticks, numbers of drafts outside their ranges (as the last line of a trace counts
+-- them), ticks after which some plant is outside, and the sum of all states after each tick
 abbrev pub summary_of : Tables → Plan → List Logged → Summary
 summary_of p f entries = record {
   modules = length p.modules;

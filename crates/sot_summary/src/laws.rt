@@ -1,6 +1,7 @@
 //! The laws on summaries.
 
-ghost use Rattle.sot_summary.specs.Laws.{RegionTestsAreExact, WholeFlightsTickToTheHorizon, SafeFlightsStayInside};
+ghost use Rattle.sot_summary.specs.Laws.{RegionTestsAreExact, WholeFlightsTickToTheHorizon};
+ghost use Rattle.sot_summary.specs.Laws.{SafeFlightsStayInside};
 
 /// The test of a point and a region says whether the point is in the region.
 pub fn region_tests_are_exact()
@@ -12,7 +13,8 @@ pub fn whole_flights_tick_to_the_horizon()
     ensures { WholeFlightsTickToTheHorizon }
 {}
 
-/// No tick of a whole history of a flight from inside the safer regions leaves a plant outside its safe region, where every run is safe.
+/// No tick of a whole history of a flight from inside the safer regions leaves a plant outside its
+/// safe region, where every run is safe.
 pub fn safe_flights_stay_inside()
     ensures { SafeFlightsStayInside }
 {}

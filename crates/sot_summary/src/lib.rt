@@ -1,6 +1,7 @@
 //! The summary of a flown history.
 //!
-//! [`board_summary`] counts what happened on a board, and [`summary_text`] is the line that says it.
+//! [`board_summary`] counts what happened on a board, and [`summary_text`] is the line that says
+//! it.
 #![tactic(auto)]
 
 mod count;

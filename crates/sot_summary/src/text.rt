@@ -29,7 +29,8 @@ fn counts_text(
     outside: usize,
     sum: i128,
 ) -> Result<String, AllocError>
-    ensures { IfOk result (λ text. string_bytes text ≡ counts_text firings ticks refused outside sum) }
+    ensures { IfOk result (λ text. string_bytes text
+        ≡ counts_text firings ticks refused outside sum) }
 {
     let text = format!(in alloc;
         " firings {firings} ticks {ticks} refused {refused} outside {outside} sum {sum}\n"
@@ -37,7 +38,8 @@ fn counts_text(
     Ok(text)
 }
 
-/// `soak modules M nodes N horizon H firings F ticks T refused R outside O sum X`, with a line end. The error is want of memory.
+/// `soak modules M nodes N horizon H firings F ticks T refused R outside O sum X`, with a line end.
+/// The error is want of memory.
 pub fn summary_text(alloc: Global, summary: &Summary) -> Result<String, AllocError>
     ensures { IfOk result (λ text. string_bytes text ≡ summary_text summary.now) }
 {

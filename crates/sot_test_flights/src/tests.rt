@@ -1,4 +1,5 @@
-//! Missions that are flown. Expected texts are worked out by hand, or come from an independent program.
+//! Missions that are flown. Expected texts are worked out by hand, or come from an independent
+//! program.
 mod boards;
 mod formats;
 mod readers;

@@ -1,4 +1,5 @@
-//! Flights of a vehicle whose advanced node is flown by a guest. Expected texts and numbers are those of an independent program.
+//! Flights of a vehicle whose advanced node is flown by a guest. Expected texts and numbers are
+//! those of an independent program.
 
 ghost use Rattle.std.specs.Prelude.{◌≡◌, ◌<◌, ◌^◌, vec_len};
 

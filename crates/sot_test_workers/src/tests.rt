@@ -3,22 +3,26 @@
 ghost use Rattle.std.specs.Prelude.{◌≡◌, ◌<◌, ◌^◌, vec_len, IfSome};
 ghost use Rattle.sot_lang.specs.CertRules.{FitsTables};
 ghost use Rattle.sot_flight.specs.Fits.{FitsFlight};
+ghost use Rattle.sot_workers.specs.Flying.{HasNoGuests};
 
 mod crowd;
 mod held;
 mod holder;
 mod many;
+mod ordered;
+mod rung;
 
 use sot_board::Board;
 use sot_compose::check_all;
 use sot_flight::Flight;
+use sot_lang::Typed;
 use sot_node_worker::Controller;
 use sot_ports::Process;
 use sot_report::{Loaded, load};
 use sot_sections::Need;
 use sot_trace::board_text;
 use sot_tube::Accepted;
-use sot_workers::{Flown, NodeList, fly};
+use sot_workers::{Flown, NodeList, fly, fly_alone};
 use std::alloc::Global;
 use std::fmt::Debug;
 use std::process::Abort;
@@ -63,7 +67,7 @@ fn flown<'a, C: Controller + Send, R: Abort + Threads + Wait + Sync>(
     ensures { vec_len guests.new ≡ vec_len guests.old }
 {
     match Board::open(alloc, accepted, flight) {
-        Ok(board) => fly(rt, alloc, board, flight, guests).expect(rt, "memory"),
+        Ok(board) => fly(rt, alloc, board, guests).expect(rt, "memory"),
         Err(_) => panic!(rt; "the flight does not start"),
     }
 }
@@ -88,6 +92,29 @@ fn trace_of<C: Controller + Send, R: Abort + Threads + Wait + Sync>(
     let Flown { board, lists } = flown(rt, alloc, &accepted, flight, guests);
     let text = board_text(alloc, &board).expect(rt, "memory");
     (text, lists)
+}
+
+// A flight that is handed no guest has none.
+fn has_no_guests(p: &Typed, flight: &Flight)
+    requires { FitsFlight p.now 0 flight.now }
+    ensures { HasNoGuests flight.now }
+{}
+
+// The trace of a mission's flight, which has no guests and is flown on this thread alone.
+fn alone(rt: &(impl Abort + Threads + Sync), alloc: Global, text: &str) -> String {
+    let loaded = loaded(rt, alloc, text, 0);
+    let Some(flight) = &loaded.flight else {
+        panic!(rt; "no flight");
+    };
+    has_no_guests(&loaded.program, flight);
+    let Ok(accepted) = check_all(rt, &loaded.program, &loaded.cert) else {
+        panic!(rt; "the mission is refused");
+    };
+    let Ok(mut board) = Board::open(alloc, &accepted, flight) else {
+        panic!(rt; "the flight does not start");
+    };
+    fly_alone(&mut board);
+    board_text(alloc, &board).expect(rt, "memory")
 }
 
 // How many drafts the list of a node has.

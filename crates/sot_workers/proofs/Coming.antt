@@ -13,7 +13,8 @@ each_same k [] = tt
 each_same k (x ∷ xs) = (refl, each_same (suc k) xs)
 
 -- another relation that follows at each place
-pub each_map : {A B : Type 0} (R S : ℕ → A → B → Type 0) (k : ℕ) (xs : List A) (ys : List B) → ((n : ℕ) (x : A) (y : B) → R n x y → S n x y) → EachFrom R k xs ys → EachFrom S k xs ys
+pub each_map : {A B : Type 0} (R S : ℕ → A → B → Type 0) (k : ℕ) (xs : List A) (ys : List B) → ((n : ℕ) (x : A) (y : B) → R n x y → S n x y)
+    → EachFrom R k xs ys → EachFrom S k xs ys
 each_map R S k [] [] go e = tt
 each_map R S k [] (y ∷ ys) go e = absurd e
 each_map R S k (x ∷ xs) [] go e = absurd e
@@ -33,7 +34,8 @@ module _ {A B D : Type 0} (P : ℕ → A → B → Type 0) (Q : ℕ → A → D 
   coming_begins xs ys e = record { first = []; more = xs; all = refl; done_each = tt; rest_each = e }
 
   -- the next one
-  next_of : (k : ℕ) (more : List A) (y : B) (ys : List B) → EachFrom P k more (y ∷ ys) → (x : A) × (rest : List A) × (more ≡ x ∷ rest) × P k x y × EachFrom P (suc k) rest ys
+  next_of : (k : ℕ) (more : List A) (y : B) (ys : List B) → EachFrom P k more (y ∷ ys)
+      → (x : A) × (rest : List A) × (more ≡ x ∷ rest) × P k x y × EachFrom P (suc k) rest ys
   next_of k [] y ys e = absurd e
   next_of k (x ∷ rest) y ys e = (x, rest, refl, e.0, e.1)
 
@@ -44,7 +46,8 @@ module _ {A B D : Type 0} (P : ℕ → A → B → Type 0) (Q : ℕ → A → D 
       (n.0, subst (λ k. P k n.0 y) (sym (each_length Q 0 c.first done c.done_each)) n.3)
 
   -- one more is done
-  pub coming_more : (xs : List A) (done : List D) (y : B) (ys : List B) (d : D) → ((x : A) → P (length done) x y → Q (length done) x d) → AreComing P Q xs done (y ∷ ys) → AreComing P Q xs (done ++ d ∷ []) ys
+  pub coming_more : (xs : List A) (done : List D) (y : B) (ys : List B) (d : D) → ((x : A) → P (length done) x y → Q (length done) x d)
+      → AreComing P Q xs done (y ∷ ys) → AreComing P Q xs (done ++ d ∷ []) ys
   coming_more xs done y ys d go c =
       let n = next_of (length c.first) c.more y ys c.rest_each in
       let same : length done ≡ length c.first = each_length Q 0 c.first done c.done_each in

@@ -76,7 +76,10 @@ pass_send a = pass.the_field_send (Board.the_row a) (Tuple (Accepted.the_row a �
 pub shift_send : (a : NamedLft) (C : RattleType) → IsSend C → IsSend (Shift.the_row a C)
 shift_send a C s =
     recorded_send (Shift.the_field a C).row _ _ (Shift.the_type a C).to_one
-    (struct_send (shape (Shift.the_type a C)) (search sendable, (search sendable, (pass_send a, (search (crosses, sendable) depth 40, (search (s, crosses, sendable) depth 40, tt))))))
+    (struct_send (shape (Shift.the_type a C)) (
+      search sendable,
+      (search sendable, (pass_send a, (search (crosses, sendable) depth 40, (search (s, crosses, sendable) depth 40, tt)))),
+    ))
 
 -- a lock over a board
 pub turn_sync : (a : NamedLft) → IsSync (Turn.the_row (Board.the_row a) (Tuple (Accepted.the_row a ∷ Flight.the_row ∷ [])) (Entry.the_row a) ghosts)

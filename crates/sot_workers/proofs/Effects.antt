@@ -26,13 +26,15 @@ pub input_same : (old new : Standing) (topic : ℕ) (value : List ℤ) (entry : 
 input_same old new topic value entry l = same_instant old new (Input topic value) entry l (ap (λ c. c.time) (stepped old new (Input topic value) entry l).rest)
 
 -- a decision leaves time and inputs, and its module is no longer left
-pub decide_same : (old new : Standing) (m : ℕ) (entry : Logged) → Logs old new (Decide m) entry → IsSameInstant old new × (new.position.inputs ≡ old.position.inputs) × (new.position.at.left_dm ≡ slice_set old.position.at.left_dm m false)
+pub decide_same : (old new : Standing) (m : ℕ) (entry : Logged) → Logs old new (Decide m) entry
+    → IsSameInstant old new × (new.position.inputs ≡ old.position.inputs) × (new.position.at.left_dm ≡ slice_set old.position.at.left_dm m false)
 decide_same old new m entry l =
     let s = stepped old new (Decide m) entry l in
     (same_instant old new (Decide m) entry l (ap (λ c. c.time) s.rest), inputs_are old new (Decide m) entry l, s.left_dm)
 
 -- a tick takes the time one further
-pub tick_time : (old new : Standing) (noise : List (List ℤ)) (entry : Logged) → Logs old new (Tick noise) entry → new.position.at.time ≡ suc old.position.at.time
+pub tick_time : (old new : Standing) (noise : List (List ℤ)) (entry : Logged) → Logs old new (Tick noise) entry
+    → new.position.at.time ≡ suc old.position.at.time
 tick_time old new noise entry l = (stepped old new (Tick noise) entry l).time
 
 pub same_again : (a b c : Standing) → IsSameInstant a b → IsSameInstant b c → IsSameInstant a c

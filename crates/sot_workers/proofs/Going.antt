@@ -21,22 +21,26 @@ pub goes_on_same : (x y : Standing) → IsSameInstant x y → IsPrefix x.entries
 goes_on_same x y same on = record { accepted = same.accepted; plan = same.plan; entries = on }
 
 pub goes_on_again : (x y z : Standing) → GoesOn x y → GoesOn y z → GoesOn x z
-goes_on_again x y z a b = record { accepted = b.accepted ∙ a.accepted; plan = b.plan ∙ a.plan; entries = goes_further x.entries y.entries z.entries a.entries b.entries }
+goes_on_again x y z a b =
+    record { accepted = b.accepted ∙ a.accepted; plan = b.plan ∙ a.plan; entries = goes_further x.entries y.entries z.entries a.entries b.entries }
 
 -- a tick goes on, and adds no firing
 pub tick_goes_on : (old new : Standing) (noise : List (List ℤ)) (entry : Logged) → Logs old new (Tick noise) entry → GoesOn old new
 tick_goes_on old new noise entry l = record { accepted = l.accepted; plan = l.plan; entries = (tick_added old new noise entry l).goes_on }
 
-pub tick_keeps : (old new : Standing) (noise : List (List ℤ)) (entry : Logged) (lists : List NodeList) → Logs old new (Tick noise) entry → KeepsLists old lists → KeepsLists new lists
+pub tick_keeps : (old new : Standing) (noise : List (List ℤ)) (entry : Logged) (lists : List NodeList) → Logs old new (Tick noise) entry → KeepsLists old lists
+    → KeepsLists new lists
 tick_keeps old new noise entry lists l own =
-    keeps_moved old new lists l.accepted l.plan (own_quiet (length old.accepted.program.nodes) old.plan lists old.entries new.entries own (tick_added old new noise entry l))
+    keeps_moved old new lists l.accepted l.plan (own_quiet (length old.accepted.program.nodes) old.plan lists old.entries new.entries own
+    (tick_added old new noise entry l))
 
 -- of the first so many nodes, each that the caller fires has fired as often as its list is long
 abbrev pub AreInStep : Standing → List NodeList → ℕ → Type 0
 AreInStep b lists count = (n : ℕ) (list : NodeList) → n < count → At lists n list → IsOwn b.plan n → length (drafts_of n b.entries) ≡ length list.drafts.items
 
 pub in_step_more :
-    (b : Standing) (lists : List NodeList) (k : ℕ) (here : NodeList) → AreInStep b lists k → At lists k here → (IsOwn b.plan k → length (drafts_of k b.entries) ≡ length here.drafts.items) → AreInStep b lists (k + 1)
+    (b : Standing) (lists : List NodeList) (k : ℕ) (here : NodeList) → AreInStep b lists k → At lists k here
+    → (IsOwn b.plan k → length (drafts_of k b.entries) ≡ length here.drafts.items) → AreInStep b lists (k + 1)
 in_step_more b lists k here before at is n list lt there mine =
     ⊎_elim
     (λ same.
@@ -47,7 +51,8 @@ in_step_more b lists k here before at is n list lt there mine =
     (cases_eq n k)
 
 pub compared :
-    (b : Standing) (lists : List NodeList) (count : ℕ) (seen : List Logged) → AreInStep b lists count → length lists ≡ count → IsPrefix seen b.entries → AreOwnLists (length b.accepted.program.nodes) b.plan lists seen → KeepsLists b lists
+    (b : Standing) (lists : List NodeList) (count : ℕ) (seen : List Logged) → AreInStep b lists count → length lists ≡ count → IsPrefix seen b.entries
+    → AreOwnLists (length b.accepted.program.nodes) b.plan lists seen → KeepsLists b lists
 compared b lists count seen all size on own =
     own_compared (length b.accepted.program.nodes) b.plan lists seen b.entries own on
     (λ n list at mine. all n list (omega (arith, size, slice_get_within lists n list at)) at mine)

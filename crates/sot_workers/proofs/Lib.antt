@@ -8,5 +8,6 @@ pub mod Coming
 pub mod Placing
 pub mod Putting
 pub mod OwnTurns
+pub mod Ordered
 pub mod Going
 pub mod Landing

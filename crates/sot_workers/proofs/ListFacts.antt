@@ -1,5 +1,6 @@
 -- What stands in lists that were changed, and lists of drafts beside a history that goes on.
-use Rattle.std.proofs.Common.{◌≡◌, ◌≢◌, ℕ, zero, suc, ◌+◌, ◌⊎◌, inl, inr, ⊎_elim, ℤ, Option, List, [], ◌∷◌, ◌++◌, length, refl, sym, ap, ◌∙◌, subst, length-append, length-set, arith}
+use Rattle.std.proofs.Common.{◌≡◌, ◌≢◌, ℕ, zero, suc, ◌+◌, ◌⊎◌, inl, inr, ⊎_elim, ℤ, Option, List, [], ◌∷◌, ◌++◌, length, refl, sym, ap, ◌∙◌, subst}
+use Rattle.std.proofs.Common.{length-append, length-set, arith}
 use Rattle.std.specs.Prelude.{slice_set}
 use Rattle.std.proofs.lemmas.Bool.{ne_eqb}
 use Rattle.std.proofs.lemmas.Option.{same_Some, none-some}
@@ -32,7 +33,8 @@ nodes_more k lists list has is = record {
   nodes = λ n l at. ⊎_elim (λ b. has.nodes n l b) (λ e. ap (λ x. x.node) e.1 ∙ (is ∙ (sym has.each ∙ sym e.0))) (last_or_before lists list n l at);
 }
 
-pub nodes_set : (count : ℕ) (lists : List NodeList) (k : ℕ) (old new : NodeList) → HasNodes count lists → At lists k old → new.node ≡ old.node → HasNodes count (slice_set lists k new)
+pub nodes_set : (count : ℕ) (lists : List NodeList) (k : ℕ) (old new : NodeList) → HasNodes count lists → At lists k old → new.node ≡ old.node
+    → HasNodes count (slice_set lists k new)
 nodes_set count lists k old new has there same = record {
   each = length-set lists k new ∙ has.each;
   nodes = λ n l at. ⊎_elim (λ e. ap (λ x. x.node) e.1 ∙ (same ∙ (has.nodes k old there ∙ sym e.0))) (λ b. has.nodes n l b.1) (at_set_cases lists k n new l at);
@@ -40,7 +42,8 @@ nodes_set count lists k old new has there same = record {
 
 -- ---- empty lists
 
-pub empty_more : (k : ℕ) (lists : List NodeList) (list : NodeList) → AreEmpty k lists → list.node ≡ k → list.drafts.items ≡ [] → AreEmpty (k + 1) (lists ++ list ∷ [])
+pub empty_more : (k : ℕ) (lists : List NodeList) (list : NodeList) → AreEmpty k lists → list.node ≡ k → list.drafts.items ≡ []
+    → AreEmpty (k + 1) (lists ++ list ∷ [])
 empty_more k lists list all is none = record {
   nodes = nodes_more k lists list all.nodes is;
   drafts = λ n l at. ⊎_elim (λ b. all.drafts n l b) (λ e. ap (λ x. x.drafts.items) e.1 ∙ none) (last_or_before lists list n l at);
@@ -48,17 +51,21 @@ empty_more k lists list all is none = record {
 
 -- ---- the caller's own lists
 
-pub own_quiet : (count : ℕ) (f : Plan) (lists : List NodeList) (es es' : List Logged) → AreOwnLists count f lists es → AddsNoFiring es es' → AreOwnLists count f lists es'
+pub own_quiet : (count : ℕ) (f : Plan) (lists : List NodeList) (es es' : List Logged) → AreOwnLists count f lists es → AddsNoFiring es es'
+    → AreOwnLists count f lists es'
 own_quiet count f lists es es' own quiet = record { nodes = own.nodes; drafts = λ n list at mine. own.drafts n list at mine ∙ sym (quiet.drafts n) }
 
 pub own_more :
-    (count : ℕ) (f : Plan) (lists : List NodeList) (es es' : List Logged) (k : ℕ) (draft : List (Option ℤ)) (old new : NodeList) → AreOwnLists count f lists es → AddsFiring es k draft es' → IsOwn f k
+    (t count : ℕ) (f : Plan) (lists : List NodeList) (es es' : List Logged) (k : ℕ) (draft : List (Option ℤ)) (old new : NodeList)
+    → AreOwnLists count f lists es
+    → AddsFiring t es k draft es' → IsOwn f k
     → At lists k old → new.node ≡ old.node → new.drafts.items ≡ old.drafts.items ++ draft ∷ [] → AreOwnLists count f (slice_set lists k new) es'
-own_more count f lists es es' k draft old new own fires mine there same more = record {
+own_more t count f lists es es' k draft old new own fires mine there same more = record {
   nodes = nodes_set count lists k old new own.nodes there same;
   drafts = λ n list at its. ⊎_elim
-      (λ e. ap (λ l. l.drafts.items) e.1 ∙ (more ∙ (ap (λ l. l ++ draft ∷ []) (own.drafts k old there mine) ∙ (sym (one_more k es es' draft fires) ∙ ap (λ i. drafts_of i es') (sym e.0)))))
-      (λ b. own.drafts n list b.1 its ∙ sym (no_more n k es es' draft (ne_eqb n k b.0) fires))
+      (λ e. ap (λ l. l.drafts.items) e.1 ∙ (more ∙ (ap (λ l. l ++ draft ∷ []) (own.drafts k old there mine)
+      ∙ (sym (one_more t k es es' draft fires) ∙ ap (λ i. drafts_of i es') (sym e.0)))))
+      (λ b. own.drafts n list b.1 its ∙ sym (no_more t n k es es' draft (ne_eqb n k b.0) fires))
       (at_set_cases lists k n new list at);
 }
 
@@ -74,13 +81,16 @@ own_compared count f lists seen es own goes same = record {
 
 -- ---- beside a board
 
-pub keeps_moved : (old new : Standing) (lists : List NodeList) → new.accepted ≡ old.accepted → new.plan ≡ old.plan → AreOwnLists (length old.accepted.program.nodes) old.plan lists new.entries → KeepsLists new lists
+pub keeps_moved : (old new : Standing) (lists : List NodeList) → new.accepted ≡ old.accepted → new.plan ≡ old.plan
+    → AreOwnLists (length old.accepted.program.nodes) old.plan lists new.entries → KeepsLists new lists
 keeps_moved old new lists accepted plan own =
-    subst (λ a. AreOwnLists (length a.program.nodes) new.plan lists new.entries) (sym accepted) (subst (λ f. AreOwnLists (length old.accepted.program.nodes) f lists new.entries) (sym plan) own)
+    subst (λ a. AreOwnLists (length a.program.nodes) new.plan lists new.entries) (sym accepted)
+    (subst (λ f. AreOwnLists (length old.accepted.program.nodes) f lists new.entries) (sym plan) own)
 
 pub keeps_more :
-    (old new : Standing) (lists : List NodeList) (k : ℕ) (draft : List (Option ℤ)) (was now : NodeList) → KeepsLists old lists → IsSameInstant old new → AddsFiring old.entries k draft new.entries → IsOwn old.plan k
+    (t : ℕ) (old new : Standing) (lists : List NodeList) (k : ℕ) (draft : List (Option ℤ)) (was now : NodeList) → KeepsLists old lists → IsSameInstant old new
+    → AddsFiring t old.entries k draft new.entries → IsOwn old.plan k
     → At lists k was → now.node ≡ was.node → now.drafts.items ≡ was.drafts.items ++ draft ∷ [] → KeepsLists new (slice_set lists k now)
-keeps_more old new lists k draft was now own same fires mine there node more =
+keeps_more t old new lists k draft was now own same fires mine there node more =
     keeps_moved old new (slice_set lists k now) same.accepted same.plan
-    (own_more (length old.accepted.program.nodes) old.plan lists old.entries new.entries k draft was now own fires mine there node more)
+    (own_more t (length old.accepted.program.nodes) old.plan lists old.entries new.entries k draft was now own fires mine there node more)

@@ -17,7 +17,8 @@ flown_end b stands end = (b.position, stands.flown, end)
 
 -- the board that the caller finds goes on from what it has seen, and its lists are those of that
 pub found :
-    (a : Admitted) (f : Plan) (ground : Option (Admitted × Plan)) (seen : List Logged) (lists : List NodeList) (b : Standing) → IsCallers a f ground seen lists → ground ≡ Some (b.accepted, b.plan) → IsPrefix seen b.entries
+    (a : Admitted) (f : Plan) (ground : Option (Admitted × Plan)) (seen : List Logged) (lists : List NodeList) (b : Standing) → IsCallers a f ground seen lists
+    → ground ≡ Some (b.accepted, b.plan) → IsPrefix seen b.entries
     → (s : List Logged) × IsPrefix s b.entries × AreOwnLists (length b.accepted.program.nodes) b.plan lists s
 found a f ground seen lists b callers is on =
     let one : ◌≡◌ {A = Admitted × Plan} (a, f) (b.accepted, b.plan) = same_Some (a, f) (b.accepted, b.plan) (sym callers.ground_is ∙ is) in

@@ -24,7 +24,9 @@ module _ {A B : Type 0} (R : ℕ → A → B → Type 0) where
   pub each_at : (k : ℕ) (xs : List A) (ys : List B) (i : ℕ) (x : A) (y : B) → EachFrom R k xs ys → At xs i x → At ys i y → R (k + i) x y
   each_at k [] ys i x y e a b = absurd (none-some x a)
   each_at k (w ∷ xs) [] i x y e a b = absurd e
-  each_at k (w ∷ xs) (z ∷ ys) zero x y e a b = (let v : w ≡ x = same_Some w x a in let u : z ≡ y = same_Some z y b in subst (λ n. R n x y) (omega arith) (subst (λ t. R k x t) u (subst (λ t. R k t z) v e.0)))
+  each_at k (w ∷ xs) (z ∷ ys) zero x y e a b =
+      (let v : w ≡ x = same_Some w x a in let u : z ≡ y = same_Some z y b in
+      subst (λ n. R n x y) (omega arith) (subst (λ t. R k x t) u (subst (λ t. R k t z) v e.0)))
   each_at k (w ∷ xs) (z ∷ ys) (suc i) x y e a b = subst (λ n. R n x y) (omega arith) (each_at (suc k) xs ys i x y e.1 a b)
 
   -- and at a place of the second
@@ -36,7 +38,8 @@ module _ {A B : Type 0} (R : ℕ → A → B → Type 0) where
   each_there k (w ∷ xs) (z ∷ ys) (suc i) y e b = (let r = each_there (suc k) xs ys i y e.1 b in (r.0, subst (λ n. R n r.0 y) (omega arith) r.1))
 
   -- another at a place of the second list
-  pub each_set : (k : ℕ) (xs : List A) (ys : List B) (i : ℕ) (old new : B) → EachFrom R k xs ys → At ys i old → ((n : ℕ) (x : A) → R n x old → R n x new) → EachFrom R k xs (slice_set ys i new)
+  pub each_set : (k : ℕ) (xs : List A) (ys : List B) (i : ℕ) (old new : B) → EachFrom R k xs ys → At ys i old → ((n : ℕ) (x : A) → R n x old → R n x new)
+      → EachFrom R k xs (slice_set ys i new)
   each_set k [] [] i old new e b go = tt
   each_set k [] (z ∷ ys) i old new e b go = absurd e
   each_set k (w ∷ xs) [] i old new e b go = absurd e

@@ -27,7 +27,8 @@ use Rattle.sot_workers.proofs.ListFacts.{nodes_set, at_set_cases}
 use Rattle.sot_workers.proofs.PairFacts.{either_begins}
 
 -- a list that is emptied among empty ones
-pub empty_set : (count : ℕ) (lists : List NodeList) (k : ℕ) (old new : NodeList) → AreEmpty count lists → At lists k old → new.node ≡ old.node → new.drafts.items ≡ [] → AreEmpty count (slice_set lists k new)
+pub empty_set : (count : ℕ) (lists : List NodeList) (k : ℕ) (old new : NodeList) → AreEmpty count lists → At lists k old → new.node ≡ old.node
+    → new.drafts.items ≡ [] → AreEmpty count (slice_set lists k new)
 empty_set count lists k old new all there same none = record {
   nodes = nodes_set count lists k old new all.nodes there same;
   drafts = λ n list at. ⊎_elim (λ e. ap (λ l. l.drafts.items) e.1 ∙ none) (λ b. all.drafts n list b.1) (at_set_cases lists k n new list at);
@@ -40,16 +41,18 @@ own_begins count f lists all = record { nodes = all.nodes; drafts = λ n list at
 module _ {C : Type 0} (told : C → Option (List Asking)) where
   -- a guest is placed once its shift was started
   pub placed_started :
-      (lock : TableId) (a : Admitted) (f : Plan) (number : ℕ) (guest : C) (began : Shift C) (place : Place C) → IsShiftOf lock a f number guest began → IsStarted told began place
+      (lock : TableId) (a : Admitted) (f : Plan) (number : ℕ) (guest : C) (began : Shift C) (place : Place C) → IsShiftOf lock a f number guest began
+      → IsStarted told began place
       → IsPlaced told lock a f number guest place
   placed_started lock a f number guest began (Stays same) ready started = absurd started
   placed_started lock a f number guest began (Out child) ready started = subst (IsShiftOf lock a f number guest) (sym started) ready
   placed_started lock a f number guest began (Here None) ready started = absurd started
-  placed_started lock a f number guest began (Here (Some now)) ready started = (began, ready, started)
+  placed_started lock a f number guest began (Here (Some now)) ready started = (began, ready, started.on_shift)
 
 -- two whole histories of a flight that are beginnings of one list are the same
 pub whole_same :
-    (a : Admitted) (f : Plan) (one other joined : List Logged) → FlownBy a.program a.cert.jitter f one → FlownBy a.program a.cert.jitter f other → IsPrefix one joined → IsPrefix other joined → other ≡ one
+    (a : Admitted) (f : Plan) (one other joined : List Logged) → FlownBy a.program a.cert.jitter f one → FlownBy a.program a.cert.jitter f other
+    → IsPrefix one joined → IsPrefix other joined → other ≡ one
 whole_same a f one other joined w v p q =
     ⊎_elim
     (λ goes. goes.1 ∙ (ap (λ l. one ++ l) (ends one other w v goes) ∙ append-nil one))
@@ -61,7 +64,8 @@ whole_same a f one other joined w v p q =
 
 module _ {C : Type 0} (told : C → Option (List Asking)) where
   -- a shift of a guest has a guest still
-  pub guest_stays : (Relates : Option (List Asking) → Option (List Asking) → Type 0) (before : C) (was now : Option C) → was ≡ Some before → EachGuest Relates told was now → (guest : C) × (now ≡ Some guest)
+  pub guest_stays : (Relates : Option (List Asking) → Option (List Asking) → Type 0) (before : C) (was now : Option C) → was ≡ Some before
+      → EachGuest Relates told was now → (guest : C) × (now ≡ Some guest)
   guest_stays Relates before None None is each = absurd (none-some before is)
   guest_stays Relates before None (Some after) is each = absurd each
   guest_stays Relates before (Some b) None is each = absurd each
@@ -74,21 +78,26 @@ module _ {C : Type 0} (told : C → Option (List Asking)) where
       guest_stays (Answered at.accepted.program at.accepted.cert.jitter at.plan now.node (pass_seen now.pass)) guest began.guest now.guest is on.guest
 
   -- what is so related of each guest is so of this one
-  guest_relates : (Relates : Option (List Asking) → Option (List Asking) → Type 0) (before after : C) (was now : Option C) → was ≡ Some before → now ≡ Some after → EachGuest Relates told was now → Relates (told before) (told after)
+  guest_relates : (Relates : Option (List Asking) → Option (List Asking) → Type 0) (before after : C) (was now : Option C) → was ≡ Some before
+      → now ≡ Some after → EachGuest Relates told was now → Relates (told before) (told after)
   guest_relates Relates before after was now w n each =
       subst (λ o. EachGuest Relates told (Some before) o) n (subst (λ o. EachGuest Relates told o now) w each)
 
   -- what a shift that is at its end and its caller have seen begins one list, so it ends with the same history, whose drafts and answers it has
   pub done_of :
-      (lock : TableId) (a : Admitted) (f : Plan) (whole : List Logged) (number : ℕ) (guest : C) (began now : Shift C) (seen joined : List Logged) (done : Done C) (list : NodeList) → HasSeenWhole a f whole seen
-      → IsPrefix seen joined → IsPrefix (pass_seen now.pass) joined → IsShiftOf lock a f number guest began → IsOnShift told began now → now.finished ≡ true → now.guest ≡ Some done.guest → done.list ≡ Some list
+      (lock : TableId) (a : Admitted) (f : Plan) (whole : List Logged) (number : ℕ) (guest : C) (began now : Shift C) (seen joined : List Logged)
+      (done : Done C) (list : NodeList) → HasSeenWhole a f whole seen
+      → IsPrefix seen joined → IsPrefix (pass_seen now.pass) joined → IsShiftOf lock a f number guest began → IsOnShift told began now → now.finished ≡ true
+      → now.guest ≡ Some done.guest → done.list ≡ Some list
       → list.node ≡ now.node → list.drafts ≡ now.drafts → IsDone told a f whole number guest done
   done_of lock a f whole number guest began now seen joined done list w p q of on finished has lists node drafts =
       let at = on.at_work in
       let ground : ◌≡◌ {A = Admitted × Plan} (at.accepted, at.plan) (a, f) = same_Some _ _ (sym at.ground ∙ (on.ground ∙ of.ground)) in
-      let flown : FlownBy a.program a.cert.jitter f (pass_seen now.pass) = subst (λ (x : Admitted × Plan). FlownBy x.0.program x.0.cert.jitter x.1 (pass_seen now.pass)) ground (on.finished finished) in
+      let flown : FlownBy a.program a.cert.jitter f (pass_seen now.pass) =
+      subst (λ (x : Admitted × Plan). FlownBy x.0.program x.0.cert.jitter x.1 (pass_seen now.pass)) ground (on.finished finished) in
       let same : pass_seen now.pass ≡ whole = whole_same a f whole (pass_seen now.pass) joined w.0 flown (goes_further whole seen joined w.1 p) q in
-      let answered = guest_relates (Answered at.accepted.program at.accepted.cert.jitter at.plan now.node (pass_seen now.pass)) guest done.guest began.guest now.guest of.carries has on.guest in
+      let answered = guest_relates (Answered at.accepted.program at.accepted.cert.jitter at.plan now.node (pass_seen now.pass)) guest done.guest began.guest
+      now.guest of.carries has on.guest in
       let on_it : Answered a.program a.cert.jitter f now.node (pass_seen now.pass) (told guest) (told done.guest) =
       subst (λ (x : Admitted × Plan). Answered x.0.program x.0.cert.jitter x.1 now.node (pass_seen now.pass) (told guest) (told done.guest)) ground answered in
       let whole_it : Answered a.program a.cert.jitter f list.node whole (told guest) (told done.guest) =
@@ -109,4 +118,5 @@ seen_later a f whole seen later p w = (w.0, goes_further whole seen later w.1 p)
 
 -- what a ground is
 pub ground_same : (ground : Option (Admitted × Plan)) (a b : Admitted) (f g : Plan) → ground ≡ Some (a, f) → ground ≡ Some (b, g) → (a ≡ b) × (f ≡ g)
-ground_same ground a b f g e h = (let s : ◌≡◌ {A = Admitted × Plan} (a, f) (b, g) = same_Some _ _ (sym e ∙ h) in (ap (λ (x : Admitted × Plan). x.0) s, ap (λ (x : Admitted × Plan). x.1) s))
+ground_same ground a b f g e h =
+    (let s : ◌≡◌ {A = Admitted × Plan} (a, f) (b, g) = same_Some _ _ (sym e ∙ h) in (ap (λ (x : Admitted × Plan). x.0) s, ap (λ (x : Admitted × Plan). x.1) s))

@@ -63,14 +63,17 @@ module _ {C : Type 0} (told : C → Option (List Asking)) (a : Admitted) (f : Pl
       subst (λ ys. EachFrom (IsGuestBack told a f history) 0 was ys) (sym none)
       (subst (λ xs. EachFrom (IsGuestBack told a f history) 0 xs []) (sym (each_none (IsDone told a f history) 0 was each)) tt)
 
-  pub lists_first : (count : ℕ) (lists : List NodeList) (was : List C) → EachFrom (IsDone told a f history) 0 was [] → AreOwnLists count f lists history → AreListsBack count f (length was) lists history
+  pub lists_first : (count : ℕ) (lists : List NodeList) (was : List C) → EachFrom (IsDone told a f history) 0 was [] → AreOwnLists count f lists history
+      → AreListsBack count f (length was) lists history
   lists_first count lists was each own =
-      subst (λ (xs : List C). AreListsBack count f (length xs) lists history) (sym (each_none (IsDone told a f history) 0 was each)) (own_back count f lists history own)
+      subst (λ (xs : List C). AreListsBack count f (length xs) lists history) (sym (each_none (IsDone told a f history) 0 was each))
+      (own_back count f lists history own)
 
   -- one guest more is back
   pub guest_more :
       (was : List C) (dones : List (Done C)) (guests : List C) (done : Done C) → EachFrom (IsDone told a f history) 0 was (dones ++ done ∷ [])
-      → ((w : List C) → EachFrom (IsDone told a f history) 0 w dones → EachFrom (IsGuestBack told a f history) 0 w guests) → EachFrom (IsGuestBack told a f history) 0 was (guests ++ done.guest ∷ [])
+      → ((w : List C) → EachFrom (IsDone told a f history) 0 w dones → EachFrom (IsGuestBack told a f history) 0 w guests)
+      → EachFrom (IsGuestBack told a f history) 0 was (guests ++ done.guest ∷ [])
   guest_more was dones guests done each go =
       let l : EndsWith (IsDone told a f history) 0 was dones done = each_last (IsDone told a f history) 0 was dones done each in
       subst (λ xs. EachFrom (IsGuestBack told a f history) 0 xs (guests ++ done.guest ∷ [])) (sym l.is)
@@ -78,7 +81,8 @@ module _ {C : Type 0} (told : C → Option (List Asking)) (a : Admitted) (f : Pl
 
   -- and its list at its node
   list_more :
-      (count number : ℕ) (lists : List NodeList) (was now : C) (list : Option NodeList) → FliesOnce f → AreListsBack count f number lists history → IsBack told a f history number was now list
+      (count number : ℕ) (lists : List NodeList) (was now : C) (list : Option NodeList) → FliesOnce f → AreListsBack count f number lists history
+      → IsBack told a f history number was now list
       → AreListsBack count f (number + 1) (lists_after lists list) history
   list_more count number lists was now None once all back = record {
     nodes = all.nodes;
@@ -104,8 +108,10 @@ module _ {C : Type 0} (told : C → Option (List Asking)) (a : Admitted) (f : Pl
   }
 
   pub lists_more :
-      (count : ℕ) (lists : List NodeList) (was : List C) (dones : List (Done C)) (done : Done C) → EachFrom (IsDone told a f history) 0 was (dones ++ done ∷ []) → FliesOnce f
-      → ((w : List C) → EachFrom (IsDone told a f history) 0 w dones → AreListsBack count f (length w) lists history) → AreListsBack count f (length was) (lists_after lists done.list) history
+      (count : ℕ) (lists : List NodeList) (was : List C) (dones : List (Done C)) (done : Done C) → EachFrom (IsDone told a f history) 0 was (dones ++ done ∷ [])
+      → FliesOnce f
+      → ((w : List C) → EachFrom (IsDone told a f history) 0 w dones → AreListsBack count f (length w) lists history)
+      → AreListsBack count f (length was) (lists_after lists done.list) history
   lists_more count lists was dones done each once go =
       let l : EndsWith (IsDone told a f history) 0 was dones done = each_last (IsDone told a f history) 0 was dones done each in
       let size : length l.front + 1 ≡ length was = omega (arith, ap length l.is, length_push l.front l.last) in

@@ -12,8 +12,10 @@ use Rattle.sot_workers.specs.Lists.{HasNodes}
 use Rattle.sot_workers.specs.Sent.{IsBack}
 
 -- a guest is back from some node, or it stayed
-abbrev pub IsGuestBack : {C : Type 0} → (C → Option (List Asking)) → Admitted → Plan → List Logged → ℕ → C → C → Type 0
-IsGuestBack told a f history number was now = (list : Option NodeList) × IsBack told a f history number was now list
+abbrev pub IsGuestBack : {C : Type 0} → (C → Option (List Asking)) → Admitted → Plan → List Logged
+    → ℕ → C → C → Type 0
+IsGuestBack told a f history number was now =
+    (list : Option NodeList) × IsBack told a f history number was now list
 
 -- no guest flies two nodes
 abbrev pub FliesOnce : Plan → Type 0
@@ -24,8 +26,12 @@ abbrev pub lists_after : List NodeList → Option NodeList → List NodeList
 lists_after lists None = lists
 lists_after lists (Some list) = slice_set lists list.node list
 
--- the lists of the nodes that the caller fires, and of those that the first so many guests fly, are the drafts of their firings
-pub record AreListsBack (count : ℕ) (f : Plan) (guests : ℕ) (lists : List NodeList) (history : List Logged) : Type 0 where
+-- the lists of the nodes that the caller fires, and of those that the first so many guests fly, are
+-- the drafts of their firings
+pub record AreListsBack (count : ℕ) (f : Plan) (guests : ℕ) (lists : List NodeList)
+    (history : List Logged) : Type 0 where
   pub nodes : HasNodes count lists
-  pub own : (n : ℕ) (list : NodeList) → At lists n list → IsOwn f n → list.drafts.items ≡ drafts_of n history
-  pub flown : (n i : ℕ) (list : NodeList) → At lists n list → At f.crews n (Guest i) → i < guests → list.drafts.items ≡ drafts_of n history
+  pub own : (n : ℕ) (list : NodeList) → At lists n list → IsOwn f n
+      → list.drafts.items ≡ drafts_of n history
+  pub flown : (n i : ℕ) (list : NodeList) → At lists n list → At f.crews n (Guest i) → i < guests
+      → list.drafts.items ≡ drafts_of n history

@@ -1,5 +1,6 @@
 -- The work of one instant.
-use Rattle.std.specs.Prelude.{ℕ, ℤ, ◌<◌, ◌≡◌, ◌++◌, ◌∷◌, [], false, Option, List, Bool, slice_index_or}
+use Rattle.std.specs.Prelude.{ℕ, ℤ, ◌<◌, ◌≡◌, ◌++◌, ◌∷◌, [], false, Option, List, Bool}
+use Rattle.std.specs.Prelude.{slice_index_or}
 use Rattle.sot_turn.specs.Prefixes.{IsPrefix}
 use Rattle.sot_world.specs.HistoryEntry.{Logged, FireAt}
 use Rattle.sot_board.specs.Standing.{Standing}
@@ -22,9 +23,9 @@ pub record AddsNoFiring (old new : List Logged) : Type 0 where
   pub goes_on : IsPrefix old new
   pub drafts : (n : ℕ) → drafts_of n new ≡ drafts_of n old
 
--- the history goes on by one firing of the node, with this draft
-abbrev pub AddsFiring : List Logged → ℕ → List (Option ℤ) → List Logged → Type 0
-AddsFiring old n draft new = (time : ℕ) × (enabled : Bool) × (new ≡ old ++ FireAt time n draft enabled ∷ [])
+-- the history goes on by one firing of the node, at this time and with this draft
+abbrev pub AddsFiring : ℕ → List Logged → ℕ → List (Option ℤ) → List Logged → Type 0
+AddsFiring t old n draft new = (enabled : Bool) × (new ≡ old ++ FireAt t n draft enabled ∷ [])
 
 -- nothing is left among the first so many
 abbrev pub NoneLeft : List Bool → ℕ → Type 0

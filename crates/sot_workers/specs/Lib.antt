@@ -1,10 +1,12 @@
 -- what the flying of a flight promises
 pub mod Flying
+pub mod Order
 pub mod Lists
 pub mod Asked
 pub mod Pairs
 pub mod Sent
 pub mod Back
 pub mod Rooms
+pub mod Leaving
 -- what an instant's work promises
 pub mod Instants

@@ -19,9 +19,11 @@ pub record AreLists (count : ℕ) (lists : List NodeList) (entries : List Logged
   pub drafts : (n : ℕ) (list : NodeList) → At lists n list → list.drafts.items ≡ drafts_of n entries
 
 -- the same of each node that the caller fires; of the others nothing is said
-pub record AreOwnLists (count : ℕ) (f : Plan) (lists : List NodeList) (entries : List Logged) : Type 0 where
+pub record AreOwnLists (count : ℕ) (f : Plan) (lists : List NodeList) (entries : List Logged) : Type
+    0 where
   pub nodes : HasNodes count lists
-  pub drafts : (n : ℕ) (list : NodeList) → At lists n list → IsOwn f n → list.drafts.items ≡ drafts_of n entries
+  pub drafts : (n : ℕ) (list : NodeList) → At lists n list → IsOwn f n
+      → list.drafts.items ≡ drafts_of n entries
 
 -- the caller's own lists beside a board
 abbrev pub KeepsLists : Standing → List NodeList → Type 0

@@ -32,8 +32,13 @@ pub(crate) fn put_back<C: Controller>(
     guests: &mut Vec<C>,
 )
     requires room { (guests.old.items ≡ []) × (vec_len dones ≤ vec_capacity guests.old) }
-    ensures guests { (a : Admitted) (f : Plan) (history : List Logged) (was : List C) → EachFrom (IsDone C.told a f history) 0 was dones.items → EachFrom (IsGuestBack C.told a f history) 0 was guests.new.items }
-    ensures lists { (a : Admitted) (f : Plan) (history : List Logged) (was : List C) → EachFrom (IsDone C.told a f history) 0 was dones.items → AreOwnLists (length lists.old.items) f lists.old.items history → FliesOnce f → AreListsBack (length lists.old.items) f (length was) lists.new.items history }
+    ensures guests { (a : Admitted) (f : Plan) (history : List Logged) (was : List C)
+        → EachFrom (IsDone C.told a f history) 0 was dones.items
+        → EachFrom (IsGuestBack C.told a f history) 0 was guests.new.items }
+    ensures lists { (a : Admitted) (f : Plan) (history : List Logged) (was : List C)
+        → EachFrom (IsDone C.told a f history) 0 was dones.items
+        → AreOwnLists (length lists.old.items) f lists.old.items history → FliesOnce f
+        → AreListsBack (length lists.old.items) f (length was) lists.new.items history }
 {
     for done in dones {
         let Done { guest, list } = done;

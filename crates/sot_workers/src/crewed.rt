@@ -1,6 +1,7 @@
 //! A whole flight, with its guests.
 
-ghost use Rattle.std.specs.Prelude.{◌≡◌, ◌<◌, ◌≤◌, ℕ, List, [], length, vec_len, vec_capacity, slice_index_or, IfOk, IfErr, Some};
+ghost use Rattle.std.specs.Prelude.{◌≡◌, ◌<◌, ◌≤◌, ℕ, List, [], length, vec_len, vec_capacity};
+ghost use Rattle.std.specs.Prelude.{slice_index_or, IfOk, IfErr, Some};
 ghost use Rattle.sot_lists.specs.Places.{At};
 ghost use Rattle.sot_tube.specs.Admitted.{Admitted};
 ghost use Rattle.sot_world.specs.HistoryEntry.{Logged};
@@ -13,7 +14,8 @@ ghost use Rattle.sot_workers.specs.Flying.{IsUnnamed};
 ghost use Rattle.sot_workers.specs.Lists.{AreLists};
 ghost use Rattle.sot_workers.specs.Pairs.{EachFrom};
 ghost use Rattle.sot_workers.specs.Rooms.{HasRoom};
-ghost use Rattle.sot_workers.specs.Sent.{HasSeenWhole, AreBack};
+ghost use Rattle.sot_workers.specs.Leaving.{IsLeaving, HasLanded};
+ghost use Rattle.sot_workers.specs.Sent.{HasSeenWhole};
 ghost use Rattle.sot_workers.specs.Asked.{EachAnswered, EachUnnamedStays};
 ghost use Rattle.sot_workers.specs.Back.{IsGuestBack, AreListsBack};
 
@@ -34,14 +36,16 @@ use std::sync::Wait;
 use std::thread;
 use std::thread::{Parker, Scope, Threads};
 
-/// A board at the end of its flight, and for each node, in declared order, the drafts of its firings.
+/// A board at the end of its flight, and for each node, in declared order, the drafts of its
+/// firings.
 #[derive(Drop)]
 pub struct Flown<'a> {
     pub board: Board<'a>,
     pub lists: Vec<NodeList>,
 }
 
-/// What is there once the guests are back: the caller's pass, its lists, and the guests with theirs.
+/// What is there once the guests are back: the caller's pass, its lists, and the guests with
+/// theirs.
 #[derive(Drop)]
 pub(crate) struct Landed<'a, C: Controller> {
     pub(crate) pass: Pass<Board<'a>>,
@@ -56,7 +60,8 @@ pub(crate) struct Leaving<'a, C: Controller> {
     pub(crate) room: Room<'a, C>,
 }
 
-// What is done while threads may run: the guests leave, the flight is flown, and the guests come back.
+// What is done while threads may run: the guests leave, the flight is flown, and the guests come
+// back.
 fn fly_in<'s, 'a: 's, E, C: Controller + Send + 's, R: Threads + Wait + Sync>(
     rt: &'s R,
     alloc: Global,
@@ -67,14 +72,8 @@ fn fly_in<'s, 'a: 's, E, C: Controller + Send + 's, R: Threads + Wait + Sync>(
     flight: &Flight,
     leaving: Leaving<'a, C>,
 ) -> Landed<'a, C>
-    requires lock { pass_lock leaving.pass ≡ lock_of turn.now }
-    requires ground { (a : Admitted) × (pass_ground leaving.pass ≡ Some (a, flight.now)) × (length flight.now.crews ≡ length a.program.nodes) }
-    requires seen { pass_seen leaving.pass ≡ [] }
-    requires room { HasRoom (length flight.now.crews) (vec_len leaving.room.guests) leaving.room }
-    requires bells { vec_len leaving.room.guests ≤ length bells.now }
-    ensures lock { pass_lock result.pass ≡ pass_lock leaving.entry.pass }
-    ensures ground { pass_ground result.pass ≡ pass_ground leaving.entry.pass }
-    ensures back { (a : Admitted) → pass_ground leaving.entry.pass ≡ Some (a, flight.now) → AreBack C.told a flight.now leaving.entry.room.guests.items (pass_seen result.pass) result.lists.items result.dones.items }
+    requires { IsLeaving (lock_of turn.now) flight.now (length bells.now) leaving }
+    ensures { HasLanded C.told flight.now leaving.entry result }
 {
     let Leaving { pass, room } = leaving;
     let Room {
@@ -111,21 +110,15 @@ fn fly_out<'a, C: Controller + Send, R: Threads + Wait + Sync>(
     flight: &Flight,
     leaving: Leaving<'a, C>,
 ) -> Landed<'a, C>
-    requires lock { pass_lock leaving.pass ≡ lock_of turn.now }
-    requires ground { (a : Admitted) × (pass_ground leaving.pass ≡ Some (a, flight.now)) × (length flight.now.crews ≡ length a.program.nodes) }
-    requires seen { pass_seen leaving.pass ≡ [] }
-    requires room { HasRoom (length flight.now.crews) (vec_len leaving.room.guests) leaving.room }
-    requires bells { vec_len leaving.room.guests ≤ length bells.now }
-    ensures lock { pass_lock result.pass ≡ pass_lock leaving.entry.pass }
-    ensures ground { pass_ground result.pass ≡ pass_ground leaving.entry.pass }
-    ensures back { (a : Admitted) → pass_ground leaving.entry.pass ≡ Some (a, flight.now) → AreBack C.told a flight.now leaving.entry.room.guests.items (pass_seen result.pass) result.lists.items result.dones.items }
+    requires { IsLeaving (lock_of turn.now) flight.now (length bells.now) leaving }
+    ensures { HasLanded C.told flight.now leaving.entry result }
 {
     thread::scope(
         thread::scope_env(),
         rt,
         move |scope| -> Landed<'_, C>
-            requires { (pass_lock leaving.pass ≡ lock_of turn.now) × ((a : Admitted) × (pass_ground leaving.pass ≡ Some (a, flight.now)) × (length flight.now.crews ≡ length a.program.nodes)) × (pass_seen leaving.pass ≡ []) × HasRoom (length flight.now.crews) (vec_len leaving.room.guests) leaving.room × (vec_len leaving.room.guests ≤ length bells.now) }
-            ensures { (pass_lock result.pass ≡ pass_lock leaving.entry.pass) × (pass_ground result.pass ≡ pass_ground leaving.entry.pass) × ((a : Admitted) → pass_ground leaving.entry.pass ≡ Some (a, flight.entry.now) → AreBack C.told a flight.entry.now leaving.entry.room.guests.items (pass_seen result.pass) result.lists.items result.dones.items) }
+            requires { IsLeaving (lock_of turn.now) flight.now (length bells.now) leaving }
+            ensures { HasLanded C.told flight.entry.now leaving.entry result }
         { fly_in(rt, alloc, scope, turn, caller, bells, flight, leaving) },
     )
 }
@@ -134,11 +127,13 @@ fn fly_out<'a, C: Controller + Send, R: Threads + Wait + Sync>(
 fn close<'a, R: Wait>(rt: &R, turn: Turn<Board<'a>>, pass: Pass<Board<'a>>) -> Board<'a>
     requires lock { pass_lock pass ≡ lock_of turn }
     ensures ground { pass_ground pass.entry ≡ Some (result.accepted, result.plan) }
-    ensures whole { (a : Admitted) (f : Plan) (whole : List Logged) → pass_ground pass.entry ≡ Some (a, f) → HasSeenWhole a f whole (pass_seen pass.entry) → result.entries ≡ whole }
+    ensures whole { (a : Admitted) (f : Plan) (whole : List Logged)
+        → pass_ground pass.entry ≡ Some (a, f) → HasSeenWhole a f whole (pass_seen pass.entry)
+        → result.entries ≡ whole }
 {
     whole_histories_end();
     let board = turn.close(rt, pass);
-    board.is_standing();
+    board.reveal_invariant();
     board
 }
 
@@ -154,15 +149,19 @@ fn fly_behind<'a, C: Controller + Send, R: Threads + Wait + Sync>(
     guests: &mut Vec<C>,
 ) -> Flown<'a>
     requires lock { pass_lock pass ≡ lock_of turn }
-    requires ground { (a : Admitted) × (pass_ground pass ≡ Some (a, flight.now)) × (length flight.now.crews ≡ length a.program.nodes) }
+    requires ground { (a : Admitted) × (pass_ground pass ≡ Some (a, flight.now))
+        × (length flight.now.crews ≡ length a.program.nodes) }
     requires seen { pass_seen pass ≡ [] }
     requires room { HasRoom (length flight.now.crews) (vec_len room.guests) room }
     requires bells { vec_len room.guests ≤ length bells.now }
     requires back { (guests.old.items ≡ []) × (vec_len room.guests ≤ vec_capacity guests.old) }
     ensures ground { pass_ground pass.entry ≡ Some (result.board.accepted, result.board.plan) }
-    ensures flown { FlownBy result.board.accepted.program result.board.accepted.cert.jitter result.board.plan result.board.entries }
-    ensures guests { EachFrom (IsGuestBack C.told result.board.accepted result.board.plan result.board.entries) 0 room.entry.guests.items guests.new.items }
-    ensures lists { AreListsBack (length result.board.accepted.program.nodes) result.board.plan (length room.entry.guests.items) result.lists.items result.board.entries }
+    ensures flown { FlownBy result.board.accepted.program result.board.accepted.cert.jitter
+        result.board.plan result.board.entries }
+    ensures guests { EachFrom (IsGuestBack C.told result.board.accepted result.board.plan
+        result.board.entries) 0 room.entry.guests.items guests.new.items }
+    ensures lists { AreListsBack (length result.board.accepted.program.nodes) result.board.plan
+        (length room.entry.guests.items) result.lists.items result.board.entries }
 {
     let caller = Parker::new();
     let leaving = Leaving { pass, room };
@@ -172,37 +171,41 @@ fn fly_behind<'a, C: Controller + Send, R: Threads + Wait + Sync>(
         dones,
     } = fly_out(rt, alloc, &turn, &caller, bells, flight, leaving);
     let board = close(rt, turn, pass);
-    board.is_standing();
+    board.reveal_invariant();
     put_back(dones, &mut lists, guests);
     Flown { board, lists }
 }
 
-/// Flies a newly opened board to the end of its flight. Each guest that the flight names drafts for its node, in a thread of its own
-/// where one can be made; the caller does all else, and never waits for a guest before it has to: time goes on while a guest is
-/// asked, as far as the jitter allows.
+/// Flies a newly opened board to the end of its flight. Each guest that the flight names drafts for
+/// its node, in a thread of its own where one can be made; the caller does all else, and never
+/// waits for a guest before it has to: time goes on while a guest is asked, as far as the jitter
+/// allows.
 ///
-/// All memory is taken before the first event. Where there is none, no guest was asked, and the board is dropped. It waits for the
-/// guests, and nobody promises that it returns.
+/// All memory is taken before the first event. Where there is none, no guest was asked, and the
+/// board is dropped. It waits for the guests, and nobody promises that it returns.
 pub fn fly<'a, C: Controller + Send, R: Threads + Wait + Sync>(
     rt: &R,
     alloc: Global,
     board: Board<'a>,
-    flight: &'a Flight,
     guests: &mut Vec<C>,
 ) -> Result<Flown<'a>, AllocError>
-    requires flight { flight.now ≡ board.plan }
     requires opened { board.entries ≡ [] }
-    requires there { (n i : ℕ) → At flight.now.crews n (Guest i) → i < vec_len guests.old }
-    ensures flown { IfOk result (λ r. FlownBy r.board.accepted.program r.board.accepted.cert.jitter r.board.plan r.board.entries) }
+    requires there { (n i : ℕ) → At board.plan.crews n (Guest i) → i < vec_len guests.old }
+    ensures flown { IfOk result (λ r. FlownBy r.board.accepted.program r.board.accepted.cert.jitter
+        r.board.plan r.board.entries) }
     ensures accepted { IfOk result (λ r. r.board.accepted ≡ board.entry.accepted) }
     ensures plan { IfOk result (λ r. r.board.plan ≡ board.entry.plan) }
-    ensures lists { IfOk result (λ r. AreLists (length r.board.accepted.program.nodes) r.lists.items r.board.entries) }
+    ensures lists { IfOk result (λ r. AreLists (length r.board.accepted.program.nodes) r.lists.items
+        r.board.entries) }
     ensures length { vec_len guests.new ≡ vec_len guests.old }
-    ensures told { IfOk result (λ r. EachAnswered C.told r.board.accepted r.board.plan r.board.entries guests.old.items guests.new.items) }
-    ensures unnamed { IfOk result (λ r. EachUnnamedStays r.board.plan guests.old.items guests.new.items) }
+    ensures told { IfOk result (λ r. EachAnswered C.told r.board.accepted r.board.plan
+        r.board.entries guests.old.items guests.new.items) }
+    ensures unnamed { IfOk result (λ r.
+        EachUnnamedStays r.board.plan guests.old.items guests.new.items) }
     ensures memory { IfErr result (λ _. guests.new.items ≡ guests.old.items) }
 {
-    board.is_standing();
+    board.reveal_invariant();
+    let flight = board.flight();
     let mut room = room_for(alloc, board.typed(), flight.horizon(), guests.len())?;
     let bells = bells_for(alloc, guests.len())?;
     let (turn, pass) = Turn::new(alloc, board)?;

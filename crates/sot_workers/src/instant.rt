@@ -6,6 +6,7 @@ ghost use Rattle.sot_board.specs.Flown.{NoInputDue};
 ghost use Rattle.sot_board.specs.Calls.{IsSettled};
 ghost use Rattle.sot_workers.specs.Flying.{HasNoGuests, IsOwn};
 ghost use Rattle.sot_workers.specs.Instants.{IsSameInstant, AddsNoFiring, AddsFiring, NoneLeft};
+ghost use Rattle.sot_workers.specs.Order.{AreInputs, DecideInOrder, FireInOrder, IsInstant, Adds};
 
 use sot_board::{Board, Receipt, is_coded};
 
@@ -13,12 +14,13 @@ use sot_board::{Board, Receipt, is_coded};
 pub(crate) fn take_inputs(board: &mut Board<'_>)
     ensures same { IsSameInstant board.old board.new }
     ensures entries { AddsNoFiring board.old.entries board.new.entries }
+    ensures come { Adds (AreInputs board.old.position.at.time) board.old.entries board.new.entries }
     ensures none { NoInputDue board.new.position }
 {
     'inputs: while board.due_input() {
         board.input();
     }
-    board.is_standing();
+    board.reveal_invariant();
 }
 
 /// The modules that are left to decide do so, in declared order.
@@ -26,7 +28,10 @@ pub(crate) fn decide_all(board: &mut Board<'_>)
     ensures same { IsSameInstant board.old board.new }
     ensures entries { AddsNoFiring board.old.entries board.new.entries }
     ensures inputs { board.new.position.inputs ≡ board.old.position.inputs }
-    ensures none { NoneLeft board.new.position.at.left_dm (length board.new.accepted.program.modules) }
+    ensures decide { Adds (DecideInOrder board.old.position.at.time 0
+        (length board.old.accepted.program.modules)) board.old.entries board.new.entries }
+    ensures none { NoneLeft board.new.position.at.left_dm
+        (length board.new.accepted.program.modules) }
 {
     let count = board.typed().modules.len() as u32;
     for module in 0..count {
@@ -36,7 +41,8 @@ pub(crate) fn decide_all(board: &mut Board<'_>)
     }
 }
 
-/// A node that no guest flies fires: a coded one by its code, an external one with its stated draft.
+/// A node that no guest flies fires: a coded one by its code, an external one with its stated
+/// draft.
 pub(crate) fn fire(board: &mut Board<'_>, node: u32) -> Receipt
     requires own { IsOwn board.old.plan node }
     requires there { node < length board.old.accepted.program.nodes }
@@ -45,7 +51,8 @@ pub(crate) fn fire(board: &mut Board<'_>, node: u32) -> Receipt
     ensures inputs { board.new.position.inputs ≡ board.old.position.inputs }
     ensures left_dm { board.new.position.at.left_dm ≡ board.old.position.at.left_dm }
     ensures left { board.new.position.at.left ≡ slice_set board.old.position.at.left node false }
-    ensures entries { AddsFiring board.old.entries node result.draft board.new.entries }
+    ensures entries { AddsFiring board.old.position.at.time board.old.entries node result.draft
+        board.new.entries }
 {
     if is_coded(board.typed(), node) {
         board.fire(node)
@@ -60,6 +67,8 @@ fn fire_all(board: &mut Board<'_>)
     ensures same { IsSameInstant board.old board.new }
     ensures inputs { board.new.position.inputs ≡ board.old.position.inputs }
     ensures left_dm { board.new.position.at.left_dm ≡ board.old.position.at.left_dm }
+    ensures fire { Adds (FireInOrder board.old.position.at.time 0
+        (length board.old.accepted.program.nodes)) board.old.entries board.new.entries }
     ensures none { NoneLeft board.new.position.at.left (length board.new.accepted.program.nodes) }
 {
     let count = board.typed().nodes.len() as u32;
@@ -70,10 +79,13 @@ fn fire_all(board: &mut Board<'_>)
     }
 }
 
-/// All that is due in this instant: the inputs, then the decisions, then the firings. A tick may come after it, and none comes.
+/// All that is due in this instant: the inputs, then the decisions, then the firings. A tick may
+/// come after it, and none comes.
 pub fn finish_instant(board: &mut Board<'_>)
     requires no_guests { HasNoGuests board.old.plan }
     ensures same { IsSameInstant board.old board.new }
+    ensures order { Adds (IsInstant board.old.accepted.program board.old.position.at.time)
+        board.old.entries board.new.entries }
     ensures settled { IsSettled board.new.accepted.program board.new.position }
 {
     take_inputs(board);

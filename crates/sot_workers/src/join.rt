@@ -18,7 +18,8 @@ use sot_turn::{Pass, Turn};
 use std::sync::Wait;
 use std::thread::Threads;
 
-// A shift takes turns until it has seen the end of the flight. One that came back unflown does all of its work here.
+// A shift takes turns until it has seen the end of the flight. One that came back unflown does all
+// of its work here.
 fn finish<'a, C: Controller, R: Wait>(
     rt: &R,
     turn: &Turn<Board<'a>>,
@@ -26,7 +27,8 @@ fn finish<'a, C: Controller, R: Wait>(
 ) -> Shift<'a, C>
     requires lock { pass_lock shift.pass ≡ lock_of turn.now }
     requires on_shift { (began : Shift C.row.Denot) × IsOnShift C.told began shift }
-    ensures on_shift { (began : _) → IsOnShift C.told began shift.entry → IsOnShift C.told began result }
+    ensures on_shift { (began : _) → IsOnShift C.told began shift.entry
+        → IsOnShift C.told began result }
     ensures finished { result.finished ≡ true }
 {
     let mut shift = shift;
@@ -45,13 +47,16 @@ fn part<'a, C: Controller>(
     pass: Pass<Board<'a>>,
     shift: Shift<'a, C>,
 ) -> (Pass<Board<'a>>, Done<C>)
-    requires lock { (pass_lock pass ≡ lock_of turn.now) × (pass_lock shift.pass ≡ lock_of turn.now) }
+    requires lock { (pass_lock pass ≡ lock_of turn.now)
+        × (pass_lock shift.pass ≡ lock_of turn.now) }
     requires guest { (guest : C) × (shift.guest ≡ Some guest) }
     ensures lock { pass_lock result.0 ≡ pass_lock pass.entry }
     ensures ground { pass_ground result.0 ≡ pass_ground pass.entry }
-    ensures seen { IsPrefix (pass_seen pass.entry) (pass_seen result.0) × IsPrefix (pass_seen shift.entry.pass) (pass_seen result.0) }
+    ensures seen { IsPrefix (pass_seen pass.entry) (pass_seen result.0)
+        × IsPrefix (pass_seen shift.entry.pass) (pass_seen result.0) }
     ensures guest { shift.entry.guest ≡ Some result.1.guest }
-    ensures list { (list : NodeList) × (result.1.list ≡ Some list) × (list.node ≡ shift.entry.node) × (list.drafts ≡ shift.entry.drafts) }
+    ensures list { (list : NodeList) × (result.1.list ≡ Some list) × (list.node ≡ shift.entry.node)
+        × (list.drafts ≡ shift.entry.drafts) }
 {
     let Shift {
         node,
@@ -76,11 +81,16 @@ fn end<'a, C: Controller, R: Wait>(
     shift: Shift<'a, C>,
 ) -> (Pass<Board<'a>>, Done<C>)
     requires lock { pass_lock pass ≡ lock_of turn.now }
-    requires placed { (a : Admitted) × (f : Plan) × (number : ℕ) × (guest : C) × (began : Shift C.row.Denot) × IsShiftOf (lock_of turn.now) a f number guest began × IsOnShift C.told began shift }
+    requires placed { (a : Admitted) × (f : Plan) × (number : ℕ) × (guest : C)
+        × (began : Shift C.row.Denot) × IsShiftOf (lock_of turn.now) a f number guest began
+        × IsOnShift C.told began shift }
     ensures lock { pass_lock result.0 ≡ pass_lock pass.entry }
     ensures ground { pass_ground result.0 ≡ pass_ground pass.entry }
     ensures seen { IsPrefix (pass_seen pass.entry) (pass_seen result.0) }
-    ensures done { (a : Admitted) (f : Plan) (whole : List Logged) (number : ℕ) (guest : C) (began : _) → HasSeenWhole a f whole (pass_seen pass.entry) → IsShiftOf (lock_of turn.now) a f number guest began → IsOnShift C.told began shift.entry → IsDone C.told a f whole number guest result.1 }
+    ensures done { (a : Admitted) (f : Plan) (whole : List Logged) (number : ℕ) (guest : C)
+        (began : _) → HasSeenWhole a f whole (pass_seen pass.entry)
+        → IsShiftOf (lock_of turn.now) a f number guest began → IsOnShift C.told began shift.entry
+        → IsDone C.told a f whole number guest result.1 }
 {
     let shift = finish(rt, turn, shift);
     part(turn, pass, shift)
@@ -93,11 +103,15 @@ fn join_one<'a, C: Controller, R: Threads + Wait>(
     place: Place<'a, C>,
 ) -> (Pass<Board<'a>>, Done<C>)
     requires lock { pass_lock pass ≡ lock_of turn.now }
-    requires placed { (a : Admitted) × (f : Plan) × (number : ℕ) × (guest : C) × IsPlaced C.told (lock_of turn.now) a f number guest place }
+    requires placed { (a : Admitted) × (f : Plan) × (number : ℕ) × (guest : C)
+        × IsPlaced C.told (lock_of turn.now) a f number guest place }
     ensures lock { pass_lock result.0 ≡ pass_lock pass.entry }
     ensures ground { pass_ground result.0 ≡ pass_ground pass.entry }
     ensures seen { IsPrefix (pass_seen pass.entry) (pass_seen result.0) }
-    ensures done { (a : Admitted) (f : Plan) (whole : List Logged) (number : ℕ) (guest : C) → HasSeenWhole a f whole (pass_seen pass.entry) → IsPlaced C.told (lock_of turn.now) a f number guest place.entry → IsDone C.told a f whole number guest result.1 }
+    ensures done { (a : Admitted) (f : Plan) (whole : List Logged) (number : ℕ) (guest : C)
+        → HasSeenWhole a f whole (pass_seen pass.entry)
+        → IsPlaced C.told (lock_of turn.now) a f number guest place.entry
+        → IsDone C.told a f whole number guest result.1 }
 {
     match place {
         Place::Stays(guest) => (pass, Done { guest, list: None }),
@@ -116,12 +130,16 @@ pub(crate) fn join_each<'a, C: Controller, R: Threads + Wait>(
     mut dones: Vec<Done<C>>,
 ) -> (Pass<Board<'a>>, Vec<Done<C>>)
     requires lock { pass_lock pass ≡ lock_of turn.now }
-    requires placed { (a : Admitted) × (f : Plan) × (guests : List C) × EachFrom (IsPlaced C.told (lock_of turn.now) a f) 0 guests places.items }
+    requires placed { (a : Admitted) × (f : Plan) × (guests : List C)
+        × EachFrom (IsPlaced C.told (lock_of turn.now) a f) 0 guests places.items }
     requires room { (dones.items ≡ []) × (vec_len places ≤ vec_capacity dones) }
     ensures lock { pass_lock result.0 ≡ pass_lock pass.entry }
     ensures ground { pass_ground result.0 ≡ pass_ground pass.entry }
     ensures seen { IsPrefix (pass_seen pass.entry) (pass_seen result.0) }
-    ensures done { (a : Admitted) (f : Plan) (whole : List Logged) (guests : List C) → HasSeenWhole a f whole (pass_seen pass.entry) → EachFrom (IsPlaced C.told (lock_of turn.now) a f) 0 guests places.entry.items → EachFrom (IsDone C.told a f whole) 0 guests result.1.items }
+    ensures done { (a : Admitted) (f : Plan) (whole : List Logged) (guests : List C)
+        → HasSeenWhole a f whole (pass_seen pass.entry)
+        → EachFrom (IsPlaced C.told (lock_of turn.now) a f) 0 guests places.entry.items
+        → EachFrom (IsDone C.told a f whole) 0 guests result.1.items }
 {
     let mut pass = pass;
     for place in places {

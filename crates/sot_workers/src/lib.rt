@@ -1,9 +1,11 @@
 //! The flying of a flight, from the start to its horizon.
 //!
-//! [`fly`] takes turns at a board with the guests of the flight, each of which has a thread of its own where one can be made. In its
-//! turns the caller does all else: the inputs, the decisions, the firings of nodes that no guest flies, and the ticks, wherever one may
-//! come. [`fly_alone`] does the same without guests. The clauses of the board say that each of these is a step of the semantics, as the
-//! flight states it; that all of them together are a history of the flight is the clause here, with what became of the guests.
+//! [`fly`] takes turns at a board with the guests of the flight, each of which has a thread of its
+//! own where one can be made. In its turns the caller does all else: the inputs, the decisions, the
+//! firings of nodes that no guest flies, and the ticks, wherever one may come. [`fly_alone`] does
+//! the same without guests. The clauses of the board say that each of these is a step of the
+//! semantics, as the flight states it; that all of them together are a history of the flight is the
+//! clause here, with what became of the guests.
 #![tactic(auto)]
 
 mod back;

@@ -19,7 +19,8 @@ pub struct NodeList {
 }
 
 fn lists_for(alloc: Global, nodes: &[NodeInfo], horizon: u32) -> Result<Vec<NodeList>, AllocError>
-    requires times { (n : ℕ) (node : NodeInfo) → At nodes.now n node → (node.offset < node.period) × (node.period ≤ 1000) }
+    requires times { (n : ℕ) (node : NodeInfo) → At nodes.now n node
+        → (node.offset < node.period) × (node.period ≤ 1000) }
     requires few { length nodes.now ≤ 300 }
     requires horizon { horizon ≤ 100000 }
     ensures { IfOk result (λ lists. AreEmpty (length nodes.now) lists.items) }

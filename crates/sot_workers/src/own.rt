@@ -46,7 +46,7 @@ fn fire_if_own<R: Wait>(rt: &R, board: &mut Board<'_>, lists: &mut Vec<NodeList>
     ensures goes_on { IsPrefix board.old.entries board.new.entries }
     ensures lists { KeepsLists board.new lists.new.items }
 {
-    board.is_standing();
+    board.reveal_invariant();
     if is_own(board.flight(), node) && board.due(node) {
         fire_own(rt, board, lists, node);
     }
@@ -77,7 +77,8 @@ fn work_instant<R: Wait>(rt: &R, board: &mut Board<'_>, lists: &mut Vec<NodeList
     fire_all_own(rt, board, lists);
 }
 
-/// All that the caller does until it has to wait for a guest: the instant, and the tick wherever it may come, and so on.
+/// All that the caller does until it has to wait for a guest: the instant, and the tick wherever it
+/// may come, and so on.
 pub(crate) fn work_on<R: Wait>(rt: &R, board: &mut Board<'_>, lists: &mut Vec<NodeList>)
     requires lists { KeepsLists board.old lists.old.items }
     ensures goes_on { GoesOn board.old board.new }
@@ -94,21 +95,25 @@ pub(crate) fn work_on<R: Wait>(rt: &R, board: &mut Board<'_>, lists: &mut Vec<No
 // Whether a node that the caller fires has fired as often as its list is long.
 fn is_in_step(board: &Board<'_>, list: &NodeList, node: u32) -> bool
     requires { node < length board.now.accepted.program.nodes }
-    ensures { result ≡ true → IsOwn board.now.plan node → length (drafts_of node board.now.entries) ≡ length list.now.drafts.items }
+    ensures { result ≡ true → IsOwn board.now.plan node
+        → length (drafts_of node board.now.entries) ≡ length list.now.drafts.items }
 {
-    board.is_standing();
+    board.reveal_invariant();
     !is_own(board.flight(), node) || board.fired(node) as usize == list.drafts.len()
 }
 
-/// Compares the lists with the board: where a node that the caller fires has fired other than by the caller, it waits without end.
+/// Compares the lists with the board: where a node that the caller fires has fired other than by
+/// the caller, it waits without end.
 pub(crate) fn compare<R: Wait>(rt: &R, board: &Board<'_>, lists: &Vec<NodeList>)
-    ensures { (seen : List Logged) → IsPrefix seen board.now.entries → AreOwnLists (length board.now.accepted.program.nodes) board.now.plan lists.now.items seen → KeepsLists board.now lists.now.items }
+    ensures { (seen : List Logged) → IsPrefix seen board.now.entries
+        → AreOwnLists (length board.now.accepted.program.nodes) board.now.plan lists.now.items seen
+        → KeepsLists board.now lists.now.items }
 {
     let count = board.typed().nodes.len();
     if lists.len() != count {
         stop(rt);
     }
-    board.is_standing();
+    board.reveal_invariant();
     for node in 0..count {
         if !is_in_step(board, &lists[node], node as u32) {
             stop(rt);

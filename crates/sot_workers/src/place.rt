@@ -11,8 +11,8 @@ pub(crate) enum Job<'a, C: Controller> {
     Leaves(Shift<'a, C>),
 }
 
-/// A guest that stays, a shift that runs in a thread, or one that could not be started. Nothing is there only while such a shift
-/// takes a turn.
+/// A guest that stays, a shift that runs in a thread, or one that could not be started. Nothing is
+/// there only while such a shift takes a turn.
 #[derive(Drop)]
 pub(crate) enum Place<'a, C: Controller> {
     Stays(C),

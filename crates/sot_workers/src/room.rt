@@ -13,8 +13,8 @@ use std::alloc::{AllocError, Global};
 use std::sync::atomic::AtomicBool;
 use std::thread::Parker;
 
-/// The memory of a flight but for the lock and the bells: the lists, and room for the guests while they are out and when they come
-/// back.
+/// The memory of a flight but for the lock and the bells: the lists, and room for the guests while
+/// they are out and when they come back.
 #[derive(Drop)]
 pub(crate) struct Room<'a, C: Controller> {
     pub(crate) lists: Vec<NodeList>,
@@ -47,7 +47,8 @@ pub(crate) fn room_for<'a, C: Controller>(
 ) -> Result<Room<'a, C>, AllocError>
     requires { horizon ≤ 100000 }
     ensures room { IfOk result (λ room. HasRoom (length p.now.nodes) count room) }
-    ensures guests { IfOk result (λ room. (room.guests.items ≡ []) × (count ≤ vec_capacity room.guests)) }
+    ensures guests { IfOk result (λ room. (room.guests.items ≡ [])
+        × (count ≤ vec_capacity room.guests)) }
 {
     Ok(Room {
         lists: no_lists(alloc, p, horizon)?,

@@ -22,7 +22,8 @@ use std::mem::replace;
 /// The node that the guest of this number flies, if any.
 pub(crate) fn node_of(flight: &Flight, lists: &Vec<NodeList>, number: usize) -> Option<u32>
     requires { HasNodes (length flight.now.crews) lists.now.items }
-    ensures { MatchOption result (IsUnnamed flight.now number) (λ node. At flight.now.crews node (Guest number)) }
+    ensures { MatchOption result (IsUnnamed flight.now number)
+        (λ node. At flight.now.crews node (Guest number)) }
 {
     for i in 0..lists.len() {
         let node = lists[i].node;
@@ -56,14 +57,16 @@ pub(crate) fn job_of<'a, C: Controller>(
     guest: C,
 ) -> (Pass<Board<'a>>, Job<'a, C>)
     requires lock { pass_lock pass ≡ lock_of turn.now }
-    requires ground { (a : Admitted) × (pass_ground pass ≡ Some (a, flight.now)) × (length flight.now.crews ≡ length a.program.nodes) }
+    requires ground { (a : Admitted) × (pass_ground pass ≡ Some (a, flight.now))
+        × (length flight.now.crews ≡ length a.program.nodes) }
     requires seen { pass_seen pass ≡ [] }
     requires lists { AreEmpty (length flight.now.crews) lists.old.items }
     ensures lock { pass_lock result.0 ≡ pass_lock pass.entry }
     ensures ground { pass_ground result.0 ≡ pass_ground pass.entry }
     ensures seen { pass_seen result.0 ≡ [] }
     ensures lists { AreEmpty (length flight.now.crews) lists.new.items }
-    ensures job { (a : Admitted) → pass_ground pass.entry ≡ Some (a, flight.now) → IsJob (lock_of turn.now) a flight.now number guest result.1 }
+    ensures job { (a : Admitted) → pass_ground pass.entry ≡ Some (a, flight.now)
+        → IsJob (lock_of turn.now) a flight.now number guest result.1 }
 {
     let Some(node) = node_of(flight, lists, number) else {
         return (pass, Job::Stays(guest));

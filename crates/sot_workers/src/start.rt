@@ -4,7 +4,7 @@ ghost use Rattle.std.specs.Prelude.{◌≡◌, ◌<◌, ◌≤◌, ℕ, [], leng
 ghost use Rattle.sot_tube.specs.Admitted.{Admitted};
 ghost use Rattle.sot_flight.specs.Plans.{Plan};
 ghost use Rattle.sot_turn.specs.Passes.{lock_of, pass_lock, pass_ground, pass_seen};
-ghost use Rattle.sot_node_worker.specs.Shifts.{IsReady, IsOnShift};
+ghost use Rattle.sot_node_worker.specs.Shifts.{IsReady, HasWorked};
 ghost use Rattle.sot_workers.specs.Lists.{AreEmpty};
 ghost use Rattle.sot_workers.specs.Pairs.{EachFrom};
 ghost use Rattle.sot_workers.specs.Sent.{IsJob, IsStarted, IsPlaced};
@@ -22,7 +22,8 @@ use std::sync::Wait;
 use std::sync::atomic::{AtomicBool, Ordering};
 use std::thread::{Parker, Scope, Threads};
 
-/// What a worker that runs in a thread hears: whether it is not to begin, and that it is to look at the board again.
+/// What a worker that runs in a thread hears: whether it is not to begin, and that it is to look at
+/// the board again.
 #[derive(Drop)]
 pub(crate) struct Bell {
     pub(crate) flag: AtomicBool,
@@ -46,7 +47,7 @@ fn start<'s, 'a: 's, E, C: Controller + Send + 's, R: Threads + Wait + Sync>(
         promise,
         move || -> Shift<'_, C>
             requires { IsReady (lock_of turn.now) shift }
-            ensures { IsOnShift C.told shift.entry result }
+            ensures { HasWorked C.told shift.entry result }
         { work(rt, turn, &bell.flag, &bell.wake, caller, shift) },
     ) {
         Ok(child) => Place::Out(child),
@@ -66,8 +67,11 @@ fn place<'s, 'a: 's, E, C: Controller + Send + 's, R: Threads + Wait + Sync>(
     bell: &'s Bell,
     job: Job<'a, C>,
 ) -> Place<'a, C>
-    requires { (a : Admitted) × (f : Plan) × (number : ℕ) × (guest : C) × IsJob (lock_of turn.now) a f number guest job }
-    ensures { (a : Admitted) (f : Plan) (number : ℕ) (guest : C) → IsJob (lock_of turn.now) a f number guest job.entry → IsPlaced C.told (lock_of turn.now) a f number guest result }
+    requires { (a : Admitted) × (f : Plan) × (number : ℕ) × (guest : C)
+        × IsJob (lock_of turn.now) a f number guest job }
+    ensures { (a : Admitted) (f : Plan) (number : ℕ) (guest : C)
+        → IsJob (lock_of turn.now) a f number guest job.entry
+        → IsPlaced C.told (lock_of turn.now) a f number guest result }
 {
     match job {
         Job::Stays(guest) => Place::Stays(guest),
@@ -75,7 +79,8 @@ fn place<'s, 'a: 's, E, C: Controller + Send + 's, R: Threads + Wait + Sync>(
     }
 }
 
-/// The guests leave their places: each with a shift, in a thread of its own where one can be made, where the flight names it.
+/// The guests leave their places: each with a shift, in a thread of its own where one can be made,
+/// where the flight names it.
 pub(crate) fn place_each<'s, 'a: 's, E, C: Controller + Send + 's, R: Threads + Wait + Sync>(
     rt: &'s R,
     alloc: Global,
@@ -90,7 +95,8 @@ pub(crate) fn place_each<'s, 'a: 's, E, C: Controller + Send + 's, R: Threads + 
     mut places: Vec<Place<'a, C>>,
 ) -> (Pass<Board<'a>>, Vec<Place<'a, C>>)
     requires lock { pass_lock pass ≡ lock_of turn.now }
-    requires ground { (a : Admitted) × (pass_ground pass ≡ Some (a, flight.now)) × (length flight.now.crews ≡ length a.program.nodes) }
+    requires ground { (a : Admitted) × (pass_ground pass ≡ Some (a, flight.now))
+        × (length flight.now.crews ≡ length a.program.nodes) }
     requires seen { pass_seen pass ≡ [] }
     requires lists { AreEmpty (length flight.now.crews) lists.old.items }
     requires room { (places.items ≡ []) × (vec_len guests ≤ vec_capacity places) }
@@ -99,7 +105,8 @@ pub(crate) fn place_each<'s, 'a: 's, E, C: Controller + Send + 's, R: Threads + 
     ensures ground { pass_ground result.0 ≡ pass_ground pass.entry }
     ensures seen { pass_seen result.0 ≡ [] }
     ensures lists { AreEmpty (length flight.now.crews) lists.new.items }
-    ensures placed { (a : Admitted) → pass_ground pass.entry ≡ Some (a, flight.now) → EachFrom (IsPlaced C.told (lock_of turn.now) a flight.now) 0 guests.items result.1.items }
+    ensures placed { (a : Admitted) → pass_ground pass.entry ≡ Some (a, flight.now)
+        → EachFrom (IsPlaced C.told (lock_of turn.now) a flight.now) 0 guests.items result.1.items }
 {
     let mut pass = pass;
     for guest in guests {

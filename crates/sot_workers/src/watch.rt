@@ -22,12 +22,12 @@ use sot_turn::{Pass, Turn};
 use std::sync::Wait;
 use std::thread::Parker;
 
-// Wakes the workers whose nodes are due, and all of them at the end of the flight. What was woken for a firing is not woken for it
-// again.
+// Wakes the workers whose nodes are due, and all of them at the end of the flight. What was woken
+// for a firing is not woken for it again.
 fn wake_due(board: &Board<'_>, bells: &[Bell], woken: &mut [u32]) {
     let flight = board.flight();
     let finished = board.finished();
-    board.is_standing();
+    board.reveal_invariant();
     for node in 0..board.typed().nodes.len() as u32 {
         if let Some(guest) = flight.guest(node) {
             let number = guest as usize;
@@ -50,15 +50,17 @@ fn work_in_turn<R: Wait>(
     bells: &[Bell],
     woken: &mut [u32],
 ) -> bool
-    requires { (seen : List Logged) × IsPrefix seen board.old.entries × AreOwnLists (length board.old.accepted.program.nodes) board.old.plan lists.old.items seen }
+    requires { (seen : List Logged) × IsPrefix seen board.old.entries
+        × AreOwnLists (length board.old.accepted.program.nodes) board.old.plan lists.old.items seen }
     ensures goes_on { GoesOn board.old board.new }
     ensures lists { KeepsLists board.new lists.new.items }
-    ensures finished { result ≡ true → FlownBy board.new.accepted.program board.new.accepted.cert.jitter board.new.plan board.new.entries }
+    ensures finished { result ≡ true → FlownBy board.new.accepted.program
+        board.new.accepted.cert.jitter board.new.plan board.new.entries }
 {
     compare(rt, board, lists);
     work_on(rt, board, lists);
     wake_due(board, bells, woken);
-    board.is_standing();
+    board.reveal_invariant();
     board.finished()
 }
 
@@ -72,11 +74,15 @@ fn take_own_turn<'a, R: Wait>(
     woken: &mut [u32],
 ) -> (Pass<Board<'a>>, bool)
     requires lock { pass_lock pass ≡ lock_of turn.now }
-    requires callers { (a : Admitted) × (f : Plan) × IsCallers a f (pass_ground pass) (pass_seen pass) lists.old.items }
+    requires callers { (a : Admitted) × (f : Plan)
+        × IsCallers a f (pass_ground pass) (pass_seen pass) lists.old.items }
     ensures lock { pass_lock result.0 ≡ pass_lock pass.entry }
     ensures ground { pass_ground result.0 ≡ pass_ground pass.entry }
-    ensures callers { (a : Admitted) (f : Plan) → pass_ground pass.entry ≡ Some (a, f) → IsCallers a f (pass_ground result.0) (pass_seen result.0) lists.new.items }
-    ensures finished { result.1 ≡ true → (a : Admitted) (f : Plan) → pass_ground pass.entry ≡ Some (a, f) → FlownBy a.program a.cert.jitter f (pass_seen result.0) }
+    ensures callers { (a : Admitted) (f : Plan) → pass_ground pass.entry ≡ Some (a, f)
+        → IsCallers a f (pass_ground result.0) (pass_seen result.0) lists.new.items }
+    ensures finished { result.1 ≡ true → (a : Admitted) (f : Plan)
+        → pass_ground pass.entry ≡ Some (a, f)
+        → FlownBy a.program a.cert.jitter f (pass_seen result.0) }
 {
     let mut held = turn.take(rt, pass);
     let finished = work_in_turn(rt, held.lend(), lists, bells, woken);
@@ -89,8 +95,11 @@ fn turn_here<'a, C: Controller, R: Wait>(
     turn: &Turn<Board<'a>>,
     place: &mut Place<'a, C>,
 ) -> bool
-    requires { (a : Admitted) × (f : Plan) × (number : ℕ) × (guest : C) × IsPlaced C.told (lock_of turn.now) a f number guest place.old }
-    ensures { (a : Admitted) (f : Plan) (number : ℕ) (guest : C) → IsPlaced C.told (lock_of turn.now) a f number guest place.old → IsPlaced C.told (lock_of turn.now) a f number guest place.new }
+    requires { (a : Admitted) × (f : Plan) × (number : ℕ) × (guest : C)
+        × IsPlaced C.told (lock_of turn.now) a f number guest place.old }
+    ensures { (a : Admitted) (f : Plan) (number : ℕ) (guest : C)
+        → IsPlaced C.told (lock_of turn.now) a f number guest place.old
+        → IsPlaced C.told (lock_of turn.now) a f number guest place.new }
 {
     if let Place::Here(shift) = place {
         if let Some(now) = shift.take() {
@@ -107,8 +116,11 @@ fn turn_each<'a, C: Controller, R: Wait>(
     turn: &Turn<Board<'a>>,
     places: &mut Vec<Place<'a, C>>,
 ) -> bool
-    requires { (a : Admitted) × (f : Plan) × (guests : List C) × EachFrom (IsPlaced C.told (lock_of turn.now) a f) 0 guests places.old.items }
-    ensures { (a : Admitted) (f : Plan) (guests : List C) → EachFrom (IsPlaced C.told (lock_of turn.now) a f) 0 guests places.old.items → EachFrom (IsPlaced C.told (lock_of turn.now) a f) 0 guests places.new.items }
+    requires { (a : Admitted) × (f : Plan) × (guests : List C)
+        × EachFrom (IsPlaced C.told (lock_of turn.now) a f) 0 guests places.old.items }
+    ensures { (a : Admitted) (f : Plan) (guests : List C)
+        → EachFrom (IsPlaced C.told (lock_of turn.now) a f) 0 guests places.old.items
+        → EachFrom (IsPlaced C.told (lock_of turn.now) a f) 0 guests places.new.items }
 {
     let mut any = false;
     for i in 0..places.len() {
@@ -131,13 +143,19 @@ pub(crate) fn watch<'a, C: Controller, R: Wait>(
     places: &mut Vec<Place<'a, C>>,
 ) -> Pass<Board<'a>>
     requires lock { pass_lock pass ≡ lock_of turn.now }
-    requires callers { (a : Admitted) × (f : Plan) × IsCallers a f (pass_ground pass) (pass_seen pass) lists.old.items }
-    requires places { (a : Admitted) × (f : Plan) × (guests : List C) × EachFrom (IsPlaced C.told (lock_of turn.now) a f) 0 guests places.old.items }
+    requires callers { (a : Admitted) × (f : Plan)
+        × IsCallers a f (pass_ground pass) (pass_seen pass) lists.old.items }
+    requires places { (a : Admitted) × (f : Plan) × (guests : List C)
+        × EachFrom (IsPlaced C.told (lock_of turn.now) a f) 0 guests places.old.items }
     ensures lock { pass_lock result ≡ pass_lock pass.entry }
     ensures ground { pass_ground result ≡ pass_ground pass.entry }
-    ensures callers { (a : Admitted) (f : Plan) → pass_ground pass.entry ≡ Some (a, f) → IsCallers a f (pass_ground result) (pass_seen result) lists.new.items }
-    ensures finished { (a : Admitted) (f : Plan) → pass_ground pass.entry ≡ Some (a, f) → FlownBy a.program a.cert.jitter f (pass_seen result) }
-    ensures places { (a : Admitted) (f : Plan) (guests : List C) → EachFrom (IsPlaced C.told (lock_of turn.now) a f) 0 guests places.old.items → EachFrom (IsPlaced C.told (lock_of turn.now) a f) 0 guests places.new.items }
+    ensures callers { (a : Admitted) (f : Plan) → pass_ground pass.entry ≡ Some (a, f)
+        → IsCallers a f (pass_ground result) (pass_seen result) lists.new.items }
+    ensures finished { (a : Admitted) (f : Plan) → pass_ground pass.entry ≡ Some (a, f)
+        → FlownBy a.program a.cert.jitter f (pass_seen result) }
+    ensures places { (a : Admitted) (f : Plan) (guests : List C)
+        → EachFrom (IsPlaced C.told (lock_of turn.now) a f) 0 guests places.old.items
+        → EachFrom (IsPlaced C.told (lock_of turn.now) a f) 0 guests places.new.items }
 {
     let mut pass = pass;
     for _ in rt.forever() {

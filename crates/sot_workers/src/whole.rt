@@ -1,26 +1,33 @@
 //! A whole flight.
 
 ghost use Rattle.std.specs.Prelude.{◌≡◌};
+ghost use Rattle.sot_turn.specs.Prefixes.{IsPrefix};
 ghost use Rattle.sot_board.specs.Flown.{FlownBy};
 ghost use Rattle.sot_workers.specs.Flying.{HasNoGuests};
+ghost use Rattle.sot_workers.specs.Order.{FliesInOrder};
 
 use crate::instant::finish_instant;
 use sot_board::Board;
-use sot_flight::Flight;
 
-/// Flies a board to the end of its flight: the horizon, with nothing left to fire or to input. No guest flies a node. It takes no
-/// memory.
-pub fn fly_alone(board: &mut Board<'_>, flight: &Flight)
-    requires flight { flight.now ≡ board.old.plan }
-    requires no_guests { HasNoGuests flight.now }
-    ensures flown { FlownBy board.new.accepted.program board.new.accepted.cert.jitter board.new.plan board.new.entries }
+/// Flies a board to the end of its flight: the horizon, with nothing left to fire or to input. No
+/// guest flies a node. It takes no memory. In each instant the inputs come first, then the modules
+/// decide, and then the nodes fire, each in declared order and all as soon as they are due; then
+/// comes the tick.
+pub fn fly_alone(board: &mut Board<'_>)
+    requires no_guests { HasNoGuests board.old.plan }
+    ensures flown { FlownBy board.new.accepted.program board.new.accepted.cert.jitter board.new.plan
+        board.new.entries }
     ensures accepted { board.new.accepted ≡ board.old.accepted }
     ensures plan { board.new.plan ≡ board.old.plan }
+    ensures goes_on { IsPrefix board.old.entries board.new.entries }
+    ensures order { FliesInOrder board.old board.new }
 {
-    'ticks: while board.time() < flight.horizon() {
+    let horizon = board.flight().horizon();
+    'ticks: while board.time() < horizon {
         finish_instant(board);
+        board.reveal_invariant();
         board.tick();
     }
     finish_instant(board);
-    board.is_standing();
+    board.reveal_invariant();
 }

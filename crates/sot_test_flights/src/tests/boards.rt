@@ -104,7 +104,8 @@ pub(super) fn does_all(board: &mut Board<'_>, flight: &Flight, deeds: &[Deed]) -
     all
 }
 
-// What deeds lead to: whether all of them could be done, whether the flight is at its end, and the text of what happened.
+// What deeds lead to: whether all of them could be done, whether the flight is at its end, and the
+// text of what happened.
 #[derive(Drop)]
 struct Flown {
     done: bool,

@@ -1,9 +1,11 @@
-//! What texts say as flights, and their first faults. The answers are those of an independent reader of the format.
+//! What texts say as flights, and their first faults. The answers are those of an independent
+//! reader of the format.
 use super::*;
 use sot_ports::Process;
 use sot_report::{LoadFail, fault_text};
 
-// The usual flight of the vehicle, and of the relay: a line for each part, with its name and its value.
+// The usual flight of the vehicle, and of the relay: a line for each part, with its name and its
+// value.
 const VEHICLE: &str = r#"crew {"fast":{"drafts":[[2]],"kind":"script"}}
 format 1
 horizon 20
@@ -50,7 +52,8 @@ fn counts(rt: &impl Abort, alloc: Global, loaded: &Loaded<'_>) -> String {
     format!(in alloc; "horizon {horizon} events {events} numbers {numbers}\n").expect(rt, "memory")
 }
 
-// What a mission's flight says: its horizon, its events and its numbers; or the line of the mission's fault.
+// What a mission's flight says: its horizon, its events and its numbers; or the line of the
+// mission's fault.
 fn said(rt: &impl Abort, alloc: Global, mission: &str, flight: &str, guests: u32) -> String {
     let text = with_flight(rt, alloc, mission, flight);
     if text.len() > LONGEST {
@@ -69,7 +72,8 @@ fn says(rt: &impl Abort, alloc: Global, mission: &str, flight: &str, guests: u32
     same(rt, flight, found.as_str().strip_suffix("\n"), Some(want));
 }
 
-// A row of a table has a count of guests, the part that is not the usual one, its value, and what is said.
+// A row of a table has a count of guests, the part that is not the usual one, its value, and what
+// is said.
 fn say_row(rt: &impl Abort, alloc: Global, mission: &str, usual: &str, row: &str) {
     let (varying, want) = cut(rt, row, " => ");
     let (guests, varying) = cut(rt, varying, " ");
@@ -267,7 +271,8 @@ fn a_guest_flies_one_node(rt: HostRuntime) {
     }
 }
 
-// Two plants of four states and one disturbance, so that each tick has ten numbers, whose nodes write nothing.
+// Two plants of four states and one disturbance, so that each tick has ten numbers, whose nodes
+// write nothing.
 const WIDE: &str = "environment topic e: int[0..9] = 0;
 plant p { state a: int, b: int, c: int, d: int; noise w: int[0..0]; next a = a; next b = b; next c = c; next d = d; }
 plant q { state a: int, b: int, c: int, d: int; noise w: int[0..0]; next a = a; next b = b; next c = c; next d = d; }

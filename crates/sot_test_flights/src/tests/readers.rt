@@ -27,7 +27,8 @@ fn push_number(rt: &impl Abort, number: i64, text: &mut String) {
     write!(text, " {number}").expect(rt, "memory");
 }
 
-// The first `width` disturbances of the first plant for the ticks from the first up to the end, tick by tick, each after a space.
+// The first `width` disturbances of the first plant for the ticks from the first up to the end,
+// tick by tick, each after a space.
 fn noises(
     rt: &impl Abort,
     alloc: Global,
@@ -71,7 +72,8 @@ fn push_draft(rt: &impl Abort, draft: &Draft, width: usize, text: &mut String)
     }
 }
 
-// The drafts of the first node in its first `width` slots in so many firings, firing by firing, each after a space.
+// The drafts of the first node in its first `width` slots in so many firings, firing by firing,
+// each after a space.
 fn drafts(
     rt: &impl Abort,
     alloc: Global,
@@ -121,7 +123,8 @@ fn noises_of(
     noises(rt, alloc, &loaded.program, stated, width, first, end)
 }
 
-// The drafts in the first `width` slots for so many firings, as a mission's flight with no guest states them.
+// The drafts in the first `width` slots for so many firings, as a mission's flight with no guest
+// states them.
 fn drafts_of(
     rt: &impl Abort,
     alloc: Global,

@@ -1,4 +1,5 @@
-//! What a node's code gave on a view is committed where the view is current, and on the view of now where it is not.
+//! What a node's code gave on a view is committed where the view is current, and on the view of now
+//! where it is not.
 ghost use Rattle.std.specs.Prelude.{◌≡◌, ◌<◌, true, length};
 ghost use Rattle.sot_board.specs.NodeSorts.{IsCodedNode, IsExternalNode};
 ghost use Rattle.sot_workers.specs.Flying.{HasNoGuests};
@@ -16,7 +17,8 @@ use sot_compose::check_all;
 // What a coded node's code gives on the view of now.
 fn run(board: &Board<'_>, node: u32, view: &View) -> Fired
     requires coded { IsCodedNode board.now.accepted.program node }
-    requires view { IsView board.now.accepted.program board.now.entries board.now.position node view.now }
+    requires view { IsView board.now.accepted.program board.now.entries board.now.position node
+        view.now }
     ensures { IsRunOn board.now.accepted.program view.now result }
 {
     board.reveal_invariant();
@@ -30,7 +32,8 @@ fn run(board: &Board<'_>, node: u32, view: &View) -> Fired
 // The input that is due comes. A view of the board from before it may still be committed.
 fn input(board: &mut Board<'_>, node: u32, view: &View)
     requires due { InputDue board.old.position }
-    requires view { IsView board.old.accepted.program board.old.entries board.old.position node view.now }
+    requires view { IsView board.old.accepted.program board.old.entries board.old.position node
+        view.now }
     ensures accepted { board.new.accepted ≡ board.old.accepted }
     ensures taken { IsTakenFrom board.new view.now }
 {
@@ -39,12 +42,14 @@ fn input(board: &mut Board<'_>, node: u32, view: &View)
     board.input();
 }
 
-// An external node fires as the flight states. A view of the board from before it may still be committed.
+// An external node fires as the flight states. A view of the board from before it may still be
+// committed.
 fn fire_stated(board: &mut Board<'_>, writer: u32, reader: u32, view: &View)
     requires no_guests { HasNoGuests board.old.plan }
     requires external { IsExternalNode board.old.accepted.program writer }
     requires left { is_left board.old.position.at writer ≡ true }
-    requires view { IsView board.old.accepted.program board.old.entries board.old.position reader view.now }
+    requires view { IsView board.old.accepted.program board.old.entries board.old.position reader
+        view.now }
     ensures accepted { board.new.accepted ≡ board.old.accepted }
     ensures taken { IsTakenFrom board.new view.now }
 {
@@ -55,7 +60,8 @@ fn fire_stated(board: &mut Board<'_>, writer: u32, reader: u32, view: &View)
 
 // A view of now may be committed.
 fn is_taken(board: &Board<'_>, node: u32, view: &View)
-    requires view { IsView board.now.accepted.program board.now.entries board.now.position node view.now }
+    requires view { IsView board.now.accepted.program board.now.entries board.now.position node
+        view.now }
     ensures { IsTakenFrom board.now view.now }
 {
     board.reveal_invariant();
@@ -71,8 +77,9 @@ fn first(view: &View) -> Option<i64> {
     }
 }
 
-// What comes of committing a view from before an input: what was seen and drafted on it, what is seen on the view that is answered,
-// and how many entries there are then; and what is drafted on that view, and the receipt.
+// What comes of committing a view from before an input: what was seen and drafted on it, what is
+// seen on the view that is answered, and how many entries there are then; and what is drafted on
+// that view, and the receipt.
 #[derive(Debug, Drop, PartialEq, Eq)]
 struct Late {
     seen: Option<i64>,
@@ -84,7 +91,8 @@ struct Late {
     recorded: Option<i64>,
 }
 
-// A node's code runs on a view, the input comes, the view is committed, and then the one that is answered.
+// A node's code runs on a view, the input comes, the view is committed, and then the one that is
+// answered.
 fn commit_late(board: &mut Board<'_>, node: u32) -> Option<Late>
     requires coded { IsCodedNode board.old.accepted.program node }
     requires there { node < length board.old.accepted.program.nodes }
@@ -202,7 +210,8 @@ const TWO: &str = "{\"drafts\":[[2]],\"kind\":\"script\"}";
 
 const SEVEN: &str = "{\"drafts\":[[7]],\"kind\":\"script\"}";
 
-// What `copy` copies beside the first firing of `fast` with this script, which comes once these deeds are done.
+// What `copy` copies beside the first firing of `fast` with this script, which comes once these
+// deeds are done.
 fn beside(
     rt: &(impl Abort + Threads + Sync),
     alloc: Global,

@@ -1,7 +1,8 @@
 //! Long flights against a guest that drafts two numbers by turns.
 use super::*;
 
-// The states that a trace has behind its ticks: how many, whether all are from -40 to 40, and their sum.
+// The states that a trace has behind its ticks: how many, whether all are from -40 to 40, and their
+// sum.
 #[derive(Debug, Drop, PartialEq, Eq)]
 struct Printed {
     count: u32,
@@ -37,8 +38,8 @@ fn with_trace(rt: &impl Abort, alloc: Global, mission: &str, trace: &str) -> Str
     format!(in alloc; "{mission}%trace\n{trace}").expect(rt, "memory")
 }
 
-// A flight of a thousand ticks whose guest drafts these two by turns: so many drafts are refused, the states have this sum, and what
-// is written is legal.
+// A flight of a thousand ticks whose guest drafts these two by turns: so many drafts are refused,
+// the states have this sum, and what is written is legal.
 fn stays_inside<R: Abort + Threads + Wait + Sync>(
     rt: &R,
     alloc: Global,

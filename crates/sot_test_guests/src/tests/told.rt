@@ -89,7 +89,8 @@ fn drafted(number: Option<i64>) -> Draft {
     draft
 }
 
-// Whether a guest that always drafts one number keeps as many askings as were seen, each at its time, with what was seen and drafted.
+// Whether a guest that always drafts one number keeps as many askings as were seen, each at its
+// time, with what was seen and drafted.
 fn keeps(guest: &Keeper, number: Option<i64>, seen: &[i64]) -> bool {
     let kept = guest.kept.as_slice();
     let mut same = !guest.lost && kept.len() == seen.len();
@@ -106,7 +107,8 @@ fn keeps(guest: &Keeper, number: Option<i64>, seen: &[i64]) -> bool {
     same
 }
 
-// Flies a vehicle whose guest always drafts one number. This is written, and the guest saw these states.
+// Flies a vehicle whose guest always drafts one number. This is written, and the guest saw these
+// states.
 fn flies<R: Abort + Threads + Wait + Sync>(
     rt: &R,
     alloc: Global,

@@ -9,7 +9,8 @@ use std::process::Abort;
 use std::sync::Arc;
 use std::sync::atomic::{AtomicBool, Ordering};
 
-// Two nodes that read and write nothing, the second one due a tick after the first, with a jitter of one; four ticks.
+// Two nodes that read and write nothing, the second one due a tick after the first, with a jitter
+// of one; four ticks.
 const APART: &str = "external one period 4 offset 0 { }
 external two period 4 offset 1 { }
 %certificate
@@ -18,7 +19,19 @@ external two period 4 offset 1 { }
 {\"crew\":{\"one\":{\"kind\":\"guest\",\"index\":0},\"two\":{\"kind\":\"guest\",\"index\":1}},\"format\":1,\"horizon\":4,\"inputs\":[],\"start\":{},\"sway\":{}}
 ";
 
-// The advanced nodes of two modules, which are due in one instant, each flown by a guest; four ticks.
+// Three nodes that read and write nothing, each due a tick after the one before it, with a jitter
+// of one; four ticks.
+const THREE: &str = "external one period 4 offset 0 { }
+external two period 4 offset 1 { }
+external three period 4 offset 2 { }
+%certificate
+{\"format\":2,\"jitter\":1,\"modules\":{}}
+%flight
+{\"crew\":{\"one\":{\"kind\":\"guest\",\"index\":0},\"two\":{\"kind\":\"guest\",\"index\":1},\"three\":{\"kind\":\"guest\",\"index\":2}},\"format\":1,\"horizon\":4,\"inputs\":[],\"start\":{},\"sway\":{}}
+";
+
+// The advanced nodes of two modules, which are due in one instant, each flown by a guest; four
+// ticks.
 const ADVANCED: &str = "plant p { state x: int; next x = x; }
 plant q { state x: int; next x = x; }
 external one period 4 offset 0 { }
@@ -110,4 +123,29 @@ fn time_goes_on_while_a_guest_is_held(rt: HostRuntime) {
     same(&rt, "lists", lists.len(), 2);
     same(&rt, "one", drafts_of(&rt, &lists, 0), 2);
     same(&rt, "two", drafts_of(&rt, &lists, 1), 1);
+}
+
+// The second guest is asked at 1 and held until the third one is called, whose node is due at 2: so
+// a tick comes while it is held.
+#[test]
+fn a_tick_comes_while_a_guest_is_held(rt: HostRuntime) {
+    let alloc = rt.alloc();
+    let met = flag(&rt, alloc);
+    let called = flag(&rt, alloc);
+    let first = Caller {
+        called: flag(&rt, alloc),
+    };
+    let held = holder(&rt, &flag(&rt, alloc), &called, &met);
+    let first: Box<dyn Controller + Send> = Box::new(alloc, first).expect(&rt, "memory");
+    let held: Box<dyn Controller + Send> = Box::new(alloc, held).expect(&rt, "memory");
+    let last: Box<dyn Controller + Send> = Box::new(alloc, Caller { called }).expect(&rt, "memory");
+    let mut guests = Vec::new(alloc);
+    guests.push(first).expect(&rt, "memory");
+    guests.push(held).expect(&rt, "memory");
+    guests.push(last).expect(&rt, "memory");
+    let (_, lists) = trace_of(&rt, alloc, THREE, &mut guests);
+    same(&rt, "met", met.load(Ordering::SeqCst), true);
+    same(&rt, "one", drafts_of(&rt, &lists, 0), 2);
+    same(&rt, "two", drafts_of(&rt, &lists, 1), 1);
+    same(&rt, "three", drafts_of(&rt, &lists, 2), 1);
 }

@@ -30,7 +30,8 @@ fn keeper(alloc: Global, number: i64) -> Keeper {
     Keeper::new(alloc, Some(number), Some(number))
 }
 
-// The asking of a firing has one number, which is the one that was there to see, and the draft of the node's list.
+// The asking of a firing has one number, which is the one that was there to see, and the draft of
+// the node's list.
 fn asked_is(rt: &impl Abort, kept: &[Kept], lists: &[NodeList], firing: usize, seen: i64) {
     let kept = kept.get(firing).expect(rt, "an asking");
     let list = lists.get(0).expect(rt, "a list");
@@ -81,7 +82,8 @@ fn askings_are_those_of_the_firings(rt: HostRuntime) {
     askings_are(&rt, &guests, &lists);
 }
 
-// A node of a row, with the topic that it writes; each but the first reads what the one before it writes.
+// A node of a row, with the topic that it writes; each but the first reads what the one before it
+// writes.
 fn declare(text: &mut String, i: u32) -> Result<(), AllocError> {
     write!(
         text,

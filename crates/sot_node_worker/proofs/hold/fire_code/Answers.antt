@@ -1,6 +1,6 @@
-use Rattle.std.proofs.Common.{◌≡◌, ◌∙◌, ◌∷◌, ◌++◌, [], Some, sym, ap, subst}
-use Rattle.sot_turn.specs.Prefixes.{IsPrefix}
-use Rattle.sot_turn.specs.Passes.{pass_ground, pass_seen, held_value}
+use Rattle.std.proofs.Common.{◌≡◌, ◌∙◌, ◌∷◌, ◌++◌, [], Some, sym, ap, ap₂, subst}
+use Rattle.sot_turn.specs.Prefixes.{IsPrefix, behind}
+use Rattle.sot_turn.specs.Passes.{pass_ground, pass_seen, pass_added, held_value}
 use Rattle.sot_board.specs.Versions.{drafts_of}
 use Rattle.sot_board.specs.Views.{viewed_node}
 use Rattle.sot_board.specs.Commits.{IsRunOn}
@@ -21,14 +21,16 @@ take_in_step-held-requires-clause-drafts g c = c.requires.drafts ∙ ap (λ n. d
 pub commit_run-receipt-requires-clause-there : goal.commit_run-receipt-requires-clause-there
 commit_run-receipt-requires-clause-there g c =
     let b = c.lend.result.now in
-    node_there (pass_ground c.args.pass) (viewed_node c.args.view) b c.requires.there (c.take_in_step-held.ensures.ground_now ∙ ap (λ x. Some (x.accepted, x.plan)) (sym c.lend.ensures.value))
+    node_there (pass_ground c.args.pass) (viewed_node c.args.view) b c.requires.there
+    (c.take_in_step-held.ensures.ground_now ∙ ap (λ x. Some (x.accepted, x.plan)) (sym c.lend.ensures.value))
 
 pub commit_run-receipt-requires-clause-coded : goal.commit_run-receipt-requires-clause-coded
 commit_run-receipt-requires-clause-coded g c =
     let b = c.lend.result.now in
     let seen = c.requires.seen in
     let ground = c.take_in_step-held.ensures.ground_now ∙ ap (λ x. Some (x.accepted, x.plan)) (sym c.lend.ensures.value) in
-    subst (λ t. IsCodedNode t (viewed_node c.args.view)) (seen.1 ∙ same_program (pass_ground c.args.pass) seen.0.board b seen.0.ground_is ground) c.requires.coded
+    subst (λ t. IsCodedNode t (viewed_node c.args.view)) (seen.1 ∙ same_program (pass_ground c.args.pass) seen.0.board b seen.0.ground_is ground)
+    c.requires.coded
 
 pub commit_run-receipt-requires-clause-taken : goal.commit_run-receipt-requires-clause-taken
 commit_run-receipt-requires-clause-taken g c =
@@ -36,14 +38,16 @@ commit_run-receipt-requires-clause-taken g c =
     let known = pass_seen c.args.pass in
     let value = c.lend.ensures.value in
     let ground = c.take_in_step-held.ensures.ground_now ∙ ap (λ x. Some (x.accepted, x.plan)) (sym value) in
-    taken_from (pass_ground c.args.pass) known (viewed_node c.args.view) c.args.view b c.requires.seen.0 ground (subst (λ x. IsPrefix known x.entries) (sym value) c.take_in_step-held.ensures.goes_on)
+    taken_from (pass_ground c.args.pass) known (viewed_node c.args.view) c.args.view b c.requires.seen.0 ground
+    (subst (λ x. IsPrefix known x.entries) (sym value) c.take_in_step-held.ensures.goes_on)
 
 pub commit_run-receipt-requires-clause-ran : goal.commit_run-receipt-requires-clause-ran
 commit_run-receipt-requires-clause-ran g c =
     let b = c.lend.result.now in
     let seen = c.requires.seen in
     let ground = c.take_in_step-held.ensures.ground_now ∙ ap (λ x. Some (x.accepted, x.plan)) (sym c.lend.ensures.value) in
-    subst (λ t. IsRunOn t c.args.view c.run-fired.result) (seen.1 ∙ same_program (pass_ground c.args.pass) seen.0.board b seen.0.ground_is ground) c.run-fired.ensures
+    subst (λ t. IsRunOn t c.args.view c.run-fired.result) (seen.1 ∙ same_program (pass_ground c.args.pass) seen.0.board b seen.0.ground_is ground)
+    c.run-fired.ensures
 
 pub returns-clause-fired : goal.returns-clause-fired
 returns-clause-fired g c =
@@ -53,14 +57,24 @@ returns-clause-fired g c =
     let value = c.lend.ensures.value in
     let draft = c.commit_run-receipt.result.draft in
     let on : IsPrefix known b.entries = subst (λ x. IsPrefix known x.entries) (sym value) c.take_in_step-held.ensures.goes_on in
-    let step : drafts_of n b.entries ≡ drafts_of n known = ap (λ x. drafts_of n x.entries) value ∙ ap (λ k. drafts_of k (held_value c.take_in_step-held.result).entries) (sym c.node.ensures) ∙ c.take_in_step-held.ensures.in_step ∙ c.requires.drafts in
-    (draft, subst (HasFired n draft known) (sym c.give.ensures.seen) (has_fired known b c.commit_run-receipt.new.board n draft on step c.commit_run-receipt.ensures))
+    let step : drafts_of n b.entries ≡ drafts_of n known = ap (λ x. drafts_of n x.entries) value
+    ∙ ap (λ k. drafts_of k (held_value c.take_in_step-held.result).entries) (sym c.node.ensures) ∙ c.take_in_step-held.ensures.in_step
+    ∙ c.requires.drafts in
+    let gave : pass_added c.give.result ≡ pass_added c.args.pass ++ behind b.entries c.commit_run-receipt.new.board.entries =
+    c.give.ensures.added ∙ ap₂ (λ l es. l ++ behind es c.commit_run-receipt.new.board.entries) c.take_in_step-held.ensures.added
+    (c.take_in_step-held.ensures.seen ∙ ap (λ x. x.entries) (sym value)) in (
+      draft,
+      subst (λ es. HasFired n draft known es (pass_added c.args.pass) (pass_added c.give.result)) (sym c.give.ensures.seen)
+          (has_fired known b c.commit_run-receipt.new.board n draft (pass_added c.args.pass) (pass_added c.give.result) on step c.commit_run-receipt.ensures
+          gave),
+    )
 
 pub returns-clause-drafts : goal.returns-clause-drafts
 returns-clause-drafts g c =
     let n = viewed_node c.args.view in
     let b = c.lend.result.now in
     let draft = c.commit_run-receipt.result.draft in
-    let was = ap (λ x. drafts_of n x.entries) c.lend.ensures.value ∙ ap (λ k. drafts_of k (held_value c.take_in_step-held.result).entries) (sym c.node.ensures) ∙ c.take_in_step-held.ensures.in_step in
+    let was = ap (λ x. drafts_of n x.entries) c.lend.ensures.value ∙ ap (λ k. drafts_of k (held_value c.take_in_step-held.result).entries) (sym c.node.ensures)
+    ∙ c.take_in_step-held.ensures.in_step in
     let now = noted b c.commit_run-receipt.new.board n draft c.commit_run-receipt.ensures in
     c.append.ensures ∙ ap (λ l. l ++ draft ∷ []) (sym was) ∙ sym now ∙ ap (drafts_of n) (sym c.give.ensures.seen)

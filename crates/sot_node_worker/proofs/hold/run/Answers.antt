@@ -16,5 +16,6 @@ unreachable-requires c =
     let p = c.args.p.now in
     let v = c.args.view.now in
     let ran = subst (λ n. IsExecution p n (viewed_numbers v) c.locals-locals.result c.run_node.result) c.node.ensures c.run_node.ensures in
-    let ends = (view_runs p v c.requires.coded c.requires.due).1 c.run_node.result (subst (λ l. IsExecution p (viewed_node v) (viewed_numbers v) l c.run_node.result) c.locals-locals.ensures ran) in
+    let ends = (view_runs p v c.requires.coded c.requires.due).1 c.run_node.result
+    (subst (λ l. IsExecution p (viewed_node v) (viewed_numbers v) l c.run_node.result) c.locals-locals.ensures ran) in
     c.in_default.not-Ok ends.0 ends.1

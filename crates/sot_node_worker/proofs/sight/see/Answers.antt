@@ -2,20 +2,20 @@ use Rattle.std.proofs.Common.{◌∙◌, sym, subst}
 use Rattle.sot_board.specs.NodeSorts.{IsCodedNode, IsExternalNode}
 use Rattle.sot_node_worker.proofs.sight.see.Goals as goal
 
-pub returns-then-is_coded : goal.returns-then-is_coded
-returns-then-is_coded c = (
+pub returns-then-is_coded-clause-sight : goal.returns-then-is_coded-clause-sight
+returns-then-is_coded-clause-sight c = (
   c.if-guest.false,
   c.typed-p.ensures,
   subst (λ t. IsCodedNode t c.args.node) c.typed-p.ensures (c.is_coded.ensures.coded c.if-is_coded.true),
   record {
-    standing = c.is_standing.ensures;
+    standing = c.reveal_invariant.ensures;
     left = sym c.due.ensures ∙ c.if-not-due.false;
     view = c.view-then-is_coded.ensures;
   },
 )
 
-pub returns-else-is_coded : goal.returns-else-is_coded
-returns-else-is_coded c = (
+pub returns-else-is_coded-clause-sight : goal.returns-else-is_coded-clause-sight
+returns-else-is_coded-clause-sight c = (
   c.if-guest.false,
   sym c.due.ensures ∙ c.if-not-due.false,
   subst (λ t. IsExternalNode t c.args.node) c.typed-p.ensures (c.is_coded.ensures.external c.if-is_coded.false),

@@ -1,19 +1,25 @@
-use Rattle.std.proofs.Common.{◌∙◌, ℕ, [], Some, refl, sym, ap, subst}
+use Rattle.std.proofs.Common.{◌≡◌, ◌∙◌, ℕ, false, [], Some, refl, sym, ap, subst}
 use Rattle.std.proofs.lemmas.List.{append-nil}
 use Rattle.std.proofs.lemmas.Option.{same_Some}
 use Rattle.sot_flight.specs.Plans.{Plan, Guest}
 use Rattle.sot_lists.specs.Places.{At}
 use Rattle.sot_tube.specs.Admitted.{Admitted}
 use Rattle.sot_turn.specs.Prefixes.{IsPrefix}
-use Rattle.sot_turn.specs.Passes.{pass_ground, pass_seen}
+use Rattle.sot_turn.specs.Passes.{pass_ground, pass_seen, pass_added}
+use Rattle.sot_board.proofs.NothingLeft.{nodes_from}
+use Rattle.sot_node_worker.proofs.Firing.{node_there}
+use Rattle.sot_node_worker.specs.Shifts.{IsOnShift}
+use Rattle.sot_node_worker.specs.Turns.{TakesTurn}
 use Rattle.sot_board.specs.Versions.{drafts_of}
 use Rattle.sot_board.specs.Views.{viewed_node}
 use Rattle.sot_node_worker.specs.Shifts.{HasItsGuest}
 use Rattle.sot_board.specs.NodeSorts.{IsCodedNode}
-use Rattle.sot_node_worker.specs.Holds.{HasNode, IsDueView}
+use Rattle.sot_node_worker.specs.Holds.{HasNode, IsDueView, HasFired}
 use Rattle.sot_node_worker.specs.Turned.{IsQuiet}
 use Rattle.sot_board.proofs.Options.{none_there}
-use Rattle.sot_node_worker.proofs.Arms.{quiet, flown_here, seen_here, seen_program, not_yet, quiet_turn, unasked_turn, asked_turn}
+use Rattle.sot_node_worker.proofs.Arms.{quiet, flown_here, seen_here, seen_program, not_yet, quiet_turn, unasked_turn, asked_turn, nothing_added, same_shift}
+use Rattle.sot_node_worker.proofs.Arms.{turn_rests}
+use Rattle.sot_node_worker.proofs.Arms.{turn_fires, fired_along}
 use Rattle.sot_node_worker.proofs.turns.take_turn.Goals as goal
 
 pub give-requires-clause-goes_on : goal.give-requires-clause-goes_on
@@ -32,18 +38,18 @@ pub fire_code-pass-requires-clause-there : goal.fire_code-pass-requires-clause-t
 fire_code-pass-requires-clause-there g c =
     let at = c.requires.at_work in
     let ground = c.give-pass.ensures.ground ∙ c.take_in_step-held.ensures.ground ∙ at.ground in
-    subst (HasNode (pass_ground c.give-pass.result)) (sym c.in-Runs.ensures.3.view.node) (at.accepted, at.plan, ground, at.there)
+    subst (HasNode (pass_ground c.give-pass.result)) (sym c.in-Runs.ensures.sight.3.view.node) (at.accepted, at.plan, ground, at.there)
 
 pub fire_code-pass-requires-clause-coded : goal.fire_code-pass-requires-clause-coded
 fire_code-pass-requires-clause-coded g c =
-    let runs = c.in-Runs.ensures in
+    let runs = c.in-Runs.ensures.sight in
     subst (IsCodedNode c.in-Runs.p.now) (sym runs.3.view.node) (subst (λ t. IsCodedNode t c.args.shift.node) (sym runs.1) runs.2)
 
 pub fire_code-pass-requires-clause-seen : goal.fire_code-pass-requires-clause-seen
 fire_code-pass-requires-clause-seen g c =
     let v = c.in-Runs.view in
     let b = c.lend.result.now in
-    let runs = c.in-Runs.ensures in
+    let runs = c.in-Runs.ensures.sight in
     let held = c.take_in_step-held.ensures in
     let due = subst (λ n. IsDueView b n v) (sym runs.3.view.node) runs.3 in
     let ground = c.give-pass.ensures.ground ∙ held.ground ∙ held.ground_now ∙ ap (λ x. Some (x.accepted, x.plan)) (sym c.lend.ensures.value) in
@@ -62,64 +68,195 @@ fire_guest-pass-requires-clause-guest g c = λ a f is.
     let known = c.give-pass-in-Asks.ensures.ground ∙ c.take_in_step-held.ensures.ground ∙ at.ground in
     subst (λ (x : Admitted × Plan). (i : ℕ) × At x.1.crews n (Guest i)) (same_Some (at.accepted, at.plan) (a, f) (sym known ∙ is)) has
 
-pub returns-in-Ended : goal.returns-in-Ended
-returns-in-Ended g c = λ began was.
+pub returns-in-Ended-clause-on_shift : goal.returns-in-Ended-clause-on_shift
+returns-in-Ended-clause-on_shift g c = λ began was.
     let old = c.args.shift in
     let b = c.lend.result.now in
     let value = c.lend.ensures.value in
     let held = c.take_in_step-held.ensures in
     let known = pass_seen old.pass in
     let on : IsPrefix known b.entries = subst (λ x. IsPrefix known x.entries) (sym value) held.goes_on in
+    let ground = held.ground_now ∙ ap (λ x. Some (x.accepted, x.plan)) (sym value) in
     let same = ap (λ x. drafts_of old.node x.entries) value ∙ held.in_step ∙ c.requires.at_work.drafts in
     let still = subst (IsQuiet old.node known) (sym c.give.ensures.seen) (quiet old.node known b.entries on same) in
-    let ground = held.ground_now ∙ ap (λ x. Some (x.accepted, x.plan)) (sym value) in
-    quiet_turn g.C.Controller.told began old _ was refl (c.give.ensures.lock ∙ held.lock) (c.give.ensures.ground ∙ held.ground) still refl refl
-    (λ yes. flown_here (pass_ground old.pass) was.at_work.accepted was.at_work.plan b (pass_seen c.give.result) was.at_work.ground ground c.give.ensures.seen c.in-Ended.ensures)
+    let nothing = nothing_added (pass_added old.pass) _ _ _ b.entries c.give.ensures.added held.added (held.seen ∙ ap (λ x. x.entries) (sym value)) in
+    quiet_turn g.C.Controller.told began old _ was refl (c.give.ensures.lock ∙ held.lock) (c.give.ensures.ground ∙ held.ground) still nothing refl refl
+    (λ yes. flown_here (pass_ground old.pass) was.at_work.accepted was.at_work.plan b (pass_seen c.give.result) was.at_work.ground ground c.give.ensures.seen
+    (b.position, c.see.ensures.standing.flown, c.in-Ended.ensures.sight))
 
-pub returns-in-Idle : goal.returns-in-Idle
-returns-in-Idle g c = λ began was.
+pub returns-in-Ended-clause-turn : goal.returns-in-Ended-clause-turn
+returns-in-Ended-clause-turn g c = λ a f is.
     let old = c.args.shift in
     let b = c.lend.result.now in
     let value = c.lend.ensures.value in
     let held = c.take_in_step-held.ensures in
     let known = pass_seen old.pass in
     let on : IsPrefix known b.entries = subst (λ x. IsPrefix known x.entries) (sym value) held.goes_on in
+    let ground = held.ground_now ∙ ap (λ x. Some (x.accepted, x.plan)) (sym value) in
+    let nothing = nothing_added (pass_added old.pass) _ _ _ b.entries c.give.ensures.added held.added (held.seen ∙ ap (λ x. x.entries) (sym value)) in
+    let at = c.requires.at_work in
+    let there = node_there (pass_ground old.pass) old.node b (at.accepted, at.plan, at.ground, at.there) ground in
+    let end = c.in-Ended.ensures.sight in
+    turn_rests a f b old _ c.see.ensures.standing ground on (nodes_from b.accepted.program b.position.at end.nothing old.node there) c.give.ensures.seen nothing
+    ((λ yes. end), (λ at_end. refl)) is
+
+pub returns-in-Idle-clause-on_shift : goal.returns-in-Idle-clause-on_shift
+returns-in-Idle-clause-on_shift g c = λ began was.
+    let old = c.args.shift in
+    let b = c.lend.result.now in
+    let value = c.lend.ensures.value in
+    let held = c.take_in_step-held.ensures in
+    let known = pass_seen old.pass in
+    let on : IsPrefix known b.entries = subst (λ x. IsPrefix known x.entries) (sym value) held.goes_on in
+    let ground = held.ground_now ∙ ap (λ x. Some (x.accepted, x.plan)) (sym value) in
     let same = ap (λ x. drafts_of old.node x.entries) value ∙ held.in_step ∙ c.requires.at_work.drafts in
     let still = subst (IsQuiet old.node known) (sym c.give-in-Idle.ensures.seen) (quiet old.node known b.entries on same) in
-    quiet_turn g.C.Controller.told began old _ was refl (c.give-in-Idle.ensures.lock ∙ held.lock) (c.give-in-Idle.ensures.ground ∙ held.ground) still refl refl not_yet
+    let nothing = nothing_added (pass_added old.pass) _ _ _ b.entries c.give-in-Idle.ensures.added held.added (held.seen ∙ ap (λ x. x.entries) (sym value)) in
+    subst (λ s. IsOnShift g.C.Controller.told began s) (same_shift c.unfinished.result
+    (record { node = old.node; finished = false; pass = c.give-in-Idle.result; drafts = old.drafts; guest = old.guest }) c.unfinished.ensures)
+    (quiet_turn g.C.Controller.told began old _ was refl (c.give-in-Idle.ensures.lock ∙ held.lock) (c.give-in-Idle.ensures.ground ∙ held.ground) still nothing
+    refl refl not_yet)
 
-pub returns-in-Stated : goal.returns-in-Stated
-returns-in-Stated g c = λ began was.
+pub returns-in-Idle-clause-turn : goal.returns-in-Idle-clause-turn
+returns-in-Idle-clause-turn g c = λ a f is.
     let old = c.args.shift in
+    let b = c.lend.result.now in
+    let value = c.lend.ensures.value in
     let held = c.take_in_step-held.ensures in
+    let known = pass_seen old.pass in
+    let on : IsPrefix known b.entries = subst (λ x. IsPrefix known x.entries) (sym value) held.goes_on in
+    let ground = held.ground_now ∙ ap (λ x. Some (x.accepted, x.plan)) (sym value) in
+    let nothing = nothing_added (pass_added old.pass) _ _ _ b.entries c.give-in-Idle.ensures.added held.added (held.seen ∙ ap (λ x. x.entries) (sym value)) in
+    let idle = c.in-Idle.ensures.sight in
+    subst (λ s. TakesTurn a f old s) (same_shift c.unfinished.result
+    (record { node = old.node; finished = false; pass = c.give-in-Idle.result; drafts = old.drafts; guest = old.guest }) c.unfinished.ensures)
+    (turn_rests a f b old _ c.see.ensures.standing ground on idle.0 c.give-in-Idle.ensures.seen nothing (not_yet, (λ at_end. absurd (idle.1 at_end))) is)
+
+pub returns-in-Stated-clause-on_shift : goal.returns-in-Stated-clause-on_shift
+returns-in-Stated-clause-on_shift g c = λ began was.
+    let old = c.args.shift in
+    let b = c.lend.result.now in
+    let value = c.lend.ensures.value in
+    let held = c.take_in_step-held.ensures in
+    let known = pass_seen old.pass in
+    let on : IsPrefix known b.entries = subst (λ x. IsPrefix known x.entries) (sym value) held.goes_on in
+    let ground = held.ground_now ∙ ap (λ x. Some (x.accepted, x.plan)) (sym value) in
+    let same = ap (λ x. drafts_of old.node x.entries) value ∙ held.in_step ∙ c.requires.at_work.drafts in
     let fired = c.fire_stated-pass.ensures in
-    unasked_turn g.C.Controller.told began old _ was refl (fired.lock ∙ held.lock) (fired.ground ∙ held.ground) fired.drafts (none_there old.guest (sym c.is_some.ensures ∙ c.in-Stated.ensures.0)) refl refl
+    let once = fired_along _ _ _ _ b.entries _ _ (pass_added old.pass) _ refl refl held.added fired.fired.1 in
+    subst (λ s. IsOnShift g.C.Controller.told began s) (same_shift c.unfinished-in-Stated.result
+    (record { node = old.node; finished = false; pass = c.fire_stated-pass.result; drafts = c.fire_stated-pass.new.drafts; guest = old.guest })
+    c.unfinished-in-Stated.ensures)
+    (unasked_turn g.C.Controller.told began old _ was refl (fired.lock ∙ held.lock) (fired.ground ∙ held.ground) b.entries fired.fired.0
+    (same ∙ sym c.requires.at_work.drafts) once fired.drafts (none_there old.guest (sym c.is_some.ensures ∙ c.in-Stated.ensures.sight.0)) refl refl)
 
-pub returns-in-Runs : goal.returns-in-Runs
-returns-in-Runs g c = λ began was.
+pub returns-in-Stated-clause-turn : goal.returns-in-Stated-clause-turn
+returns-in-Stated-clause-turn g c = λ a f is.
     let old = c.args.shift in
-    let runs = c.in-Runs.ensures in
+    let b = c.lend.result.now in
+    let value = c.lend.ensures.value in
     let held = c.take_in_step-held.ensures in
+    let known = pass_seen old.pass in
+    let on : IsPrefix known b.entries = subst (λ x. IsPrefix known x.entries) (sym value) held.goes_on in
+    let ground = held.ground_now ∙ ap (λ x. Some (x.accepted, x.plan)) (sym value) in
+    let fired = c.fire_stated-pass.ensures in
+    let once = fired_along _ _ _ _ b.entries _ _ (pass_added old.pass) _ refl refl held.added fired.fired.1 in
+    subst (λ s. TakesTurn a f old s) (same_shift c.unfinished-in-Stated.result
+    (record { node = old.node; finished = false; pass = c.fire_stated-pass.result; drafts = c.fire_stated-pass.new.drafts; guest = old.guest })
+    c.unfinished-in-Stated.ensures)
+    (turn_fires a f b old _ fired.fired.0 c.see.ensures.standing ground on c.in-Stated.ensures.sight.1 once refl is)
+
+pub returns-in-Runs-clause-on_shift : goal.returns-in-Runs-clause-on_shift
+returns-in-Runs-clause-on_shift g c = λ began was.
+    let old = c.args.shift in
+    let b = c.lend.result.now in
+    let value = c.lend.ensures.value in
+    let held = c.take_in_step-held.ensures in
+    let known = pass_seen old.pass in
+    let on : IsPrefix known b.entries = subst (λ x. IsPrefix known x.entries) (sym value) held.goes_on in
+    let ground = held.ground_now ∙ ap (λ x. Some (x.accepted, x.plan)) (sym value) in
+    let same = ap (λ x. drafts_of old.node x.entries) value ∙ held.in_step ∙ c.requires.at_work.drafts in
+    let nothing = nothing_added (pass_added old.pass) _ _ _ b.entries c.give-pass.ensures.added held.added (held.seen ∙ ap (λ x. x.entries) (sym value)) in
+    let runs = c.in-Runs.ensures.sight in
     let gave = c.give-pass.ensures in
     let fired = c.fire_code-pass.ensures in
     let drafts = fired.drafts ∙ ap (λ n. drafts_of n (pass_seen c.fire_code-pass.result)) runs.3.view.node in
-    unasked_turn g.C.Controller.told began old _ was refl (fired.lock ∙ gave.lock ∙ held.lock) (fired.ground ∙ gave.ground ∙ held.ground) drafts (none_there old.guest (sym c.is_some.ensures ∙ runs.0)) refl refl
+    let once = fired_along _ _ _ _ b.entries _ _ (pass_added old.pass) _ runs.3.view.node gave.seen nothing fired.fired.1 in
+    subst (λ s. IsOnShift g.C.Controller.told began s) (same_shift c.unfinished-in-Runs.result
+    (record { node = old.node; finished = false; pass = c.fire_code-pass.result; drafts = c.fire_code-pass.new.drafts; guest = old.guest })
+    c.unfinished-in-Runs.ensures)
+    (unasked_turn g.C.Controller.told began old _ was refl (fired.lock ∙ gave.lock ∙ held.lock) (fired.ground ∙ gave.ground ∙ held.ground) b.entries
+    fired.fired.0 (same ∙ sym c.requires.at_work.drafts) once drafts (none_there old.guest (sym c.is_some.ensures ∙ runs.0)) refl refl)
 
-pub returns-in-Some : goal.returns-in-Some
-returns-in-Some g c = λ began was.
+pub returns-in-Runs-clause-turn : goal.returns-in-Runs-clause-turn
+returns-in-Runs-clause-turn g c = λ a f is.
     let old = c.args.shift in
-    let v = c.in-Asks.view in
     let b = c.lend.result.now in
     let value = c.lend.ensures.value in
     let held = c.take_in_step-held.ensures in
-    let gave = c.give-pass-in-Asks.ensures in
-    let fired = c.fire_guest-pass.ensures in
     let known = pass_seen old.pass in
     let on : IsPrefix known b.entries = subst (λ x. IsPrefix known x.entries) (sym value) held.goes_on in
-    let same = ap (λ x. drafts_of old.node x.entries) value ∙ held.in_step ∙ c.requires.at_work.drafts in
-    let still = subst (IsQuiet old.node known) (sym gave.seen) (quiet old.node known b.entries on same) in
     let ground = held.ground_now ∙ ap (λ x. Some (x.accepted, x.plan)) (sym value) in
+    let nothing = nothing_added (pass_added old.pass) _ _ _ b.entries c.give-pass.ensures.added held.added (held.seen ∙ ap (λ x. x.entries) (sym value)) in
+    let runs = c.in-Runs.ensures.sight in
+    let gave = c.give-pass.ensures in
+    let fired = c.fire_code-pass.ensures in
+    let once = fired_along _ _ _ _ b.entries _ _ (pass_added old.pass) _ runs.3.view.node gave.seen nothing fired.fired.1 in
+    subst (λ s. TakesTurn a f old s) (same_shift c.unfinished-in-Runs.result
+    (record { node = old.node; finished = false; pass = c.fire_code-pass.result; drafts = c.fire_code-pass.new.drafts; guest = old.guest })
+    c.unfinished-in-Runs.ensures)
+    (turn_fires a f b old _ fired.fired.0 c.see.ensures.standing ground on runs.3.left once refl is)
+
+pub returns-in-Some-clause-on_shift : goal.returns-in-Some-clause-on_shift
+returns-in-Some-clause-on_shift g c = λ began was.
+    let old = c.args.shift in
+    let b = c.lend.result.now in
+    let value = c.lend.ensures.value in
+    let held = c.take_in_step-held.ensures in
+    let known = pass_seen old.pass in
+    let on : IsPrefix known b.entries = subst (λ x. IsPrefix known x.entries) (sym value) held.goes_on in
+    let ground = held.ground_now ∙ ap (λ x. Some (x.accepted, x.plan)) (sym value) in
+    let same = ap (λ x. drafts_of old.node x.entries) value ∙ held.in_step ∙ c.requires.at_work.drafts in
+    let v = c.in-Asks.view in
+    let gave = c.give-pass-in-Asks.ensures in
+    let fired = c.fire_guest-pass.ensures in
+    let nothing = nothing_added (pass_added old.pass) _ _ _ b.entries gave.added held.added (held.seen ∙ ap (λ x. x.entries) (sym value)) in
+    let still = subst (IsQuiet old.node known) (sym gave.seen) (quiet old.node known b.entries on same) in
     let then = pass_seen c.give-pass-in-Asks.result in
-    asked_turn g.C.Controller.told began old _ was refl (fired.lock ∙ gave.lock ∙ held.lock) (fired.ground ∙ gave.ground ∙ held.ground)
-    then v c.ask-draft.result c.in-Some.asked c.ask-draft.new.guest still (seen_here (pass_ground old.pass) then old.node v b c.in-Asks.ensures.1 ground gave.seen)
-    (λ a f is. fired.fired a f (gave.ground ∙ held.ground ∙ is)) fired.drafts c.in-Some.is refl c.ask-draft.ensures refl
+    subst (λ s. IsOnShift g.C.Controller.told began s) (same_shift c.unfinished-in-Asks.result
+    (record {
+      node = old.node;
+      finished = false;
+      pass = c.fire_guest-pass.result;
+      drafts = c.fire_guest-pass.new.drafts;
+      guest = Some c.ask-draft.new.guest;
+    }) c.unfinished-in-Asks.ensures)
+    (asked_turn g.C.Controller.told began old _ was refl (fired.lock ∙ gave.lock ∙ held.lock) (fired.ground ∙ gave.ground ∙ held.ground)
+    then v c.ask-draft.result c.in-Some.asked c.ask-draft.new.guest still
+    (seen_here (pass_ground old.pass) then old.node v b c.in-Asks.ensures.sight.1 ground gave.seen)
+    (λ a f is. fired_along _ _ _ _ _ _ _ (pass_added old.pass) _ refl refl nothing (fired.fired a f (gave.ground ∙ held.ground ∙ is))) fired.drafts c.in-Some.is
+    refl c.ask-draft.ensures refl)
+
+pub returns-in-Some-clause-turn : goal.returns-in-Some-clause-turn
+returns-in-Some-clause-turn g c = λ a f is.
+    let old = c.args.shift in
+    let b = c.lend.result.now in
+    let value = c.lend.ensures.value in
+    let held = c.take_in_step-held.ensures in
+    let known = pass_seen old.pass in
+    let on : IsPrefix known b.entries = subst (λ x. IsPrefix known x.entries) (sym value) held.goes_on in
+    let ground = held.ground_now ∙ ap (λ x. Some (x.accepted, x.plan)) (sym value) in
+    let gave = c.give-pass-in-Asks.ensures in
+    let fired = c.fire_guest-pass.ensures in
+    let nothing = nothing_added (pass_added old.pass) _ _ _ b.entries gave.added held.added (held.seen ∙ ap (λ x. x.entries) (sym value)) in
+    let due = c.in-Asks.ensures.sight.1 in
+    let once = fired_along _ _ _ _ b.entries _ _ (pass_added old.pass) _ refl gave.seen nothing (fired.fired a f (gave.ground ∙ held.ground ∙ is)) in
+    subst (λ s. TakesTurn a f old s) (same_shift c.unfinished-in-Asks.result
+    (record {
+      node = old.node;
+      finished = false;
+      pass = c.fire_guest-pass.result;
+      drafts = c.fire_guest-pass.new.drafts;
+      guest = Some c.ask-draft.new.guest;
+    }) c.unfinished-in-Asks.ensures)
+    (turn_fires a f b old _ _ c.see.ensures.standing ground on due.left once refl is)

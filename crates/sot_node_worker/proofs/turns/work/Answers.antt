@@ -1,3 +1,4 @@
+use Rattle.std.proofs.Common.{inl, refl}
 use Rattle.sot_turn.specs.Passes.{lock_of}
 use Rattle.sot_node_worker.proofs.Turning.{ready_on_shift}
 use Rattle.sot_node_worker.proofs.turns.work.Goals as goal
@@ -6,4 +7,7 @@ pub loop-init : goal.loop-init
 loop-init g c = ready_on_shift g.C.Controller.told (lock_of c.args.turn.now) c.args.shift c.requires
 
 pub loop-preserved : goal.loop-preserved
-loop-preserved g c = c.take_turn-shift.ensures c.args.shift c.loop.invariant
+loop-preserved g c = c.take_turn-shift.ensures.on_shift c.args.shift c.loop.invariant
+
+pub returns-then-load : goal.returns-then-load
+returns-then-load g c = record { on_shift = ready_on_shift g.C.Controller.told (lock_of c.args.turn.now) c.args.shift c.requires; ended = inl refl }

@@ -12,13 +12,15 @@ use Rattle.sot_summary.proofs.entry.states_in.Goals as goal
 pub total-requires : goal.total-requires
 total-requires c =
     let rules = subst MeetsTableRules c.p.view_is c.p.invariant in
-    let fits : FitsEntry c.args.p.now (TickAt c.in-Tick.time c.in-Tick.noise.now c.in-Tick.states.now) = subst (λ (e : _). FitsEntry c.args.p.now (entry_of e)) c.in-Tick.is c.requires in
+    let fits : FitsEntry c.args.p.now (TickAt c.in-Tick.time c.in-Tick.noise.now c.in-Tick.states.now) =
+    subst (λ (e : _). FitsEntry c.args.p.now (entry_of e)) c.in-Tick.is c.requires in
     few_in c.args.p.now rules c.in-Tick.states.now fits.1
 
 pub returns-in-Tick-clause-low : goal.returns-in-Tick-clause-low
 returns-in-Tick-clause-low c =
     let rules = subst MeetsTableRules c.p.view_is c.p.invariant in
-    let fits : FitsEntry c.args.p.now (TickAt c.in-Tick.time c.in-Tick.noise.now c.in-Tick.states.now) = subst (λ (e : _). FitsEntry c.args.p.now (entry_of e)) c.in-Tick.is c.requires in
+    let fits : FitsEntry c.args.p.now (TickAt c.in-Tick.time c.in-Tick.noise.now c.in-Tick.states.now) =
+    subst (λ (e : _). FitsEntry c.args.p.now (entry_of e)) c.in-Tick.is c.requires in
     let few = few_in c.args.p.now rules c.in-Tick.states.now fits.1 in
     let fits_sum : SFits w128 c.total.result = search rules in
     let whole = to_z-of_z w128 c.total.result fits_sum in
@@ -28,7 +30,8 @@ returns-in-Tick-clause-low c =
 pub returns-in-Tick-clause-high : goal.returns-in-Tick-clause-high
 returns-in-Tick-clause-high c =
     let rules = subst MeetsTableRules c.p.view_is c.p.invariant in
-    let fits : FitsEntry c.args.p.now (TickAt c.in-Tick.time c.in-Tick.noise.now c.in-Tick.states.now) = subst (λ (e : _). FitsEntry c.args.p.now (entry_of e)) c.in-Tick.is c.requires in
+    let fits : FitsEntry c.args.p.now (TickAt c.in-Tick.time c.in-Tick.noise.now c.in-Tick.states.now) =
+    subst (λ (e : _). FitsEntry c.args.p.now (entry_of e)) c.in-Tick.is c.requires in
     let few = few_in c.args.p.now rules c.in-Tick.states.now fits.1 in
     let fits_sum : SFits w128 c.total.result = search rules in
     let whole = to_z-of_z w128 c.total.result fits_sum in

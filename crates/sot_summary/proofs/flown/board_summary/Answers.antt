@@ -18,7 +18,8 @@ count_entries-counts-requires-clause-fits c =
     let b = c.args.board.now in
     let standing = c.reveal_invariant.ensures in
     let fits = flown_fits b.accepted.program standing.kept.rules b.accepted.cert.jitter b.plan b.entries b.position standing.flown in
-    subst (λ (es : List Logged). FitsHistory c.typed-p.result.now es) (sym c.history.ensures) (subst (λ (p : Tables). FitsHistory p b.entries) (sym c.typed-p.ensures) fits)
+    subst (λ (es : List Logged). FitsHistory c.typed-p.result.now es) (sym c.history.ensures)
+    (subst (λ (p : Tables). FitsHistory p b.entries) (sym c.typed-p.ensures) fits)
 
 pub count_entries-counts-requires-clause-few : goal.count_entries-counts-requires-clause-few
 count_entries-counts-requires-clause-few c =
@@ -32,9 +33,11 @@ returns c =
     let fits : SFits w128 c.count_entries-counts.result.sum = search rules in
     let tables = c.p.view_is ∙ p in
     let modules : c.len.result ≡ length c.args.board.now.accepted.program.modules =
-    (let here : c.len.result ≡ length c.p.inside.modules.items = omega (arith, c.len.ensures, c.p.inside.modules.ok.0) in here ∙ ap (λ (t : Tables). length t.modules) tables) in
+    (let here : c.len.result ≡ length c.p.inside.modules.items = omega (arith, c.len.ensures, c.p.inside.modules.ok.0) in
+    here ∙ ap (λ (t : Tables). length t.modules) tables) in
     let nodes : c.len-2.result ≡ length c.args.board.now.accepted.program.nodes =
-    (let here : c.len-2.result ≡ length c.p.inside.nodes.items = omega (arith, c.len-2.ensures, c.p.inside.nodes.ok.0) in here ∙ ap (λ (t : Tables). length t.nodes) tables) in
+    (let here : c.len-2.result ≡ length c.p.inside.nodes.items = omega (arith, c.len-2.ensures, c.p.inside.nodes.ok.0) in
+    here ∙ ap (λ (t : Tables). length t.nodes) tables) in
     same_summary
     modules
     nodes

@@ -14,7 +14,9 @@ overflow_add-from c =
     let lt : c.loop-i.i < length plants = c.loop-i-test.true in
     let at = slice_get_read plants (length plants) c.loop-i.i c.index-plants-i.result refl lt c.index-plants-i.is in
     let inside = front_inside plants c.loop-i.i c.index-plants-i.result at in
-    let count : c.len-from.result ≡ length c.index-plants-i.result.states.items = (let moved = c.len-from.ensures ∙ ap (λ (x : PlantInfo). vec_len x.states) (sym c.index-plants-i.is) in omega (arith, moved, c.index-plants-i.result.states.ok.0)) in
+    let count : c.len-from.result ≡ length c.index-plants-i.result.states.items =
+    (let moved = c.len-from.ensures ∙ ap (λ (x : PlantInfo). vec_len x.states) (sym c.index-plants-i.is) in
+    omega (arith, moved, c.index-plants-i.result.states.ok.0)) in
     omega (arith, inside, c.loop-i.invariant.front, count, c.requires.few_states)
 
 pub loop-i-preserved : goal.loop-i-preserved
@@ -24,7 +26,9 @@ loop-i-preserved c =
     let lt : c.loop-i.i < length plants = c.loop-i-test.true in
     let at = slice_get_read plants (length plants) c.loop-i.i c.index-plants-i.result refl lt c.index-plants-i.is in
     let more = front_more plants c.loop-i.i c.index-plants-i.result at in
-    let count : c.len-from.result ≡ length c.index-plants-i.result.states.items = (let moved = c.len-from.ensures ∙ ap (λ (x : PlantInfo). vec_len x.states) (sym c.index-plants-i.is) in omega (arith, moved, c.index-plants-i.result.states.ok.0)) in
+    let count : c.len-from.result ≡ length c.index-plants-i.result.states.items =
+    (let moved = c.len-from.ensures ∙ ap (λ (x : PlantInfo). vec_len x.states) (sym c.index-plants-i.is) in
+    omega (arith, moved, c.index-plants-i.result.states.ok.0)) in
     let room : c.loop-i.i < length c.loop-i.fronts = omega (arith, lt, k.size, c.requires.few) in
     record {
       size = length-set c.loop-i.fronts c.loop-i.i c.loop-i.from ∙ k.size;

@@ -25,7 +25,8 @@ is_in_region-requires-clause-width c =
     let lt : c.loop-m.m < length c.p.inside.modules.items = omega (arith, c.loop-m-test.true, c.len-m-end.ensures, c.p.inside.modules.ok.0) in
     let at = read_at _ _ c.loop-m.m _ (ap (λ t. t.modules) tables) (subst (λ l. c.loop-m.m < length l) (ap (λ t. t.modules) tables) lt) c.index-info.ensures in
     let plants = c.deref.ensures.value ∙ ap (λ t. t.plants) tables in
-    module_width c.args.p.now rules c.loop-m.m c.index-info.result.now at c.args.states.now c.deref.result.now c.states_of-at.result.now c.requires.size plants c.states_of-at.ensures
+    module_width c.args.p.now rules c.loop-m.m c.index-info.result.now at c.args.states.now c.deref.result.now c.states_of-at.result.now c.requires.size plants
+    c.states_of-at.ensures
 
 pub is_in_region-requires-clause-some : goal.is_in_region-requires-clause-some
 is_in_region-requires-clause-some c =
@@ -34,7 +35,8 @@ is_in_region-requires-clause-some c =
     let lt : c.loop-m.m < length c.p.inside.modules.items = omega (arith, c.loop-m-test.true, c.len-m-end.ensures, c.p.inside.modules.ok.0) in
     let at = read_at _ _ c.loop-m.m _ (ap (λ t. t.modules) tables) (subst (λ l. c.loop-m.m < length l) (ap (λ t. t.modules) tables) lt) c.index-info.ensures in
     let plants = c.deref.ensures.value ∙ ap (λ t. t.plants) tables in
-    module_some c.args.p.now rules c.loop-m.m c.index-info.result.now at c.args.states.now c.deref.result.now c.states_of-at.result.now c.requires.size plants c.states_of-at.ensures
+    module_some c.args.p.now rules c.loop-m.m c.index-info.result.now at c.args.states.now c.deref.result.now c.states_of-at.result.now c.requires.size plants
+    c.states_of-at.ensures
 
 pub is_in_region-requires-clause-few : goal.is_in_region-requires-clause-few
 is_in_region-requires-clause-few c =
@@ -43,4 +45,5 @@ is_in_region-requires-clause-few c =
     let lt : c.loop-m.m < length c.p.inside.modules.items = omega (arith, c.loop-m-test.true, c.len-m-end.ensures, c.p.inside.modules.ok.0) in
     let at = read_at _ _ c.loop-m.m _ (ap (λ t. t.modules) tables) (subst (λ l. c.loop-m.m < length l) (ap (λ t. t.modules) tables) lt) c.index-info.ensures in
     let plants = c.deref.ensures.value ∙ ap (λ t. t.plants) tables in
-    module_few c.args.p.now rules c.loop-m.m c.index-info.result.now at c.args.states.now c.deref.result.now c.states_of-at.result.now c.requires.size plants c.states_of-at.ensures
+    module_few c.args.p.now rules c.loop-m.m c.index-info.result.now at c.args.states.now c.deref.result.now c.states_of-at.result.now c.requires.size plants
+    c.states_of-at.ensures

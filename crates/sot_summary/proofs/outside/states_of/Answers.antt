@@ -12,7 +12,9 @@ overflow_add-result c =
     let at = slice_get_read plants (length plants) c.args.plant c.index-plants-plant.result refl c.requires.there c.index-plants-plant.is in
     let inside = front_inside plants c.args.plant c.index-plants-plant.result at in
     let front = c.requires.fronts c.args.plant c.requires.there in
-    let count : c.len.result ≡ length c.index-plants-plant.result.states.items = (let moved = c.len.ensures ∙ ap (λ (x : PlantInfo). vec_len x.states) (sym c.index-plants-plant.is) in omega (arith, moved, c.index-plants-plant.result.states.ok.0)) in
+    let count : c.len.result ≡ length c.index-plants-plant.result.states.items =
+    (let moved = c.len.ensures ∙ ap (λ (x : PlantInfo). vec_len x.states) (sym c.index-plants-plant.is) in
+    omega (arith, moved, c.index-plants-plant.result.states.ok.0)) in
     omega (arith, inside, front, count, c.requires.size)
 
 pub offset_bounds-states-from : goal.offset_bounds-states-from
@@ -29,7 +31,9 @@ slice_bounds-result-end c =
     let at = slice_get_read plants (length plants) c.args.plant c.index-plants-plant.result refl c.requires.there c.index-plants-plant.is in
     let inside = front_inside plants c.args.plant c.index-plants-plant.result at in
     let front = c.requires.fronts c.args.plant c.requires.there in
-    let count : c.len.result ≡ length c.index-plants-plant.result.states.items = (let moved = c.len.ensures ∙ ap (λ (x : PlantInfo). vec_len x.states) (sym c.index-plants-plant.is) in omega (arith, moved, c.index-plants-plant.result.states.ok.0)) in
+    let count : c.len.result ≡ length c.index-plants-plant.result.states.items =
+    (let moved = c.len.ensures ∙ ap (λ (x : PlantInfo). vec_len x.states) (sym c.index-plants-plant.is) in
+    omega (arith, moved, c.index-plants-plant.result.states.ok.0)) in
     omega (arith, inside, front, count, c.requires.size)
 
 pub returns : goal.returns
@@ -38,7 +42,9 @@ returns c =
     let from = slice_index_or c.args.fronts.now c.args.plant 0 in
     let at = slice_get_read plants (length plants) c.args.plant c.index-plants-plant.result refl c.requires.there c.index-plants-plant.is in
     let front = c.requires.fronts c.args.plant c.requires.there in
-    let count : c.len.result ≡ length c.index-plants-plant.result.states.items = (let moved = c.len.ensures ∙ ap (λ (x : PlantInfo). vec_len x.states) (sym c.index-plants-plant.is) in omega (arith, moved, c.index-plants-plant.result.states.ok.0)) in
+    let count : c.len.result ≡ length c.index-plants-plant.result.states.items =
+    (let moved = c.len.ensures ∙ ap (λ (x : PlantInfo). vec_len x.states) (sym c.index-plants-plant.is) in
+    omega (arith, moved, c.index-plants-plant.result.states.ok.0)) in
     let size : (from + c.len.result) - from ≡ length c.index-plants-plant.result.states.items = omega (arith, count) in
     ap (λ k. take k (drop from c.args.states.now)) size
     ∙ ap (λ k. take (length c.index-plants-plant.result.states.items) (drop k c.args.states.now)) front

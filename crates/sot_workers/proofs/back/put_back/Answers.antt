@@ -30,7 +30,8 @@ loop-done-preserved g c =
           (guest_more told a f history was so_far c.loop-done.guests.items done each (inv.guests a f history));
       lists = λ a f history was each own once.
           subst (λ (ls : List NodeList). AreListsBack (length c.args.lists.now.items) f (length was) ls history) (sym c.put_list.ensures)
-          (lists_more told a f history (length c.args.lists.now.items) c.loop-done.lists.items was so_far done each once (λ w e. inv.lists a f history w e own once));
+          (lists_more told a f history (length c.args.lists.now.items) c.loop-done.lists.items was so_far done each once
+          (λ w e. inv.lists a f history w e own once));
       count = omega (arith, length_push so_far done, inv.count, pushed.len);
       room = omega (arith, inv.room, pushed.capacity);
     }

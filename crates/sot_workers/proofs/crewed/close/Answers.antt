@@ -7,4 +7,4 @@ pub returns-clause-whole : goal.returns-clause-whole
 returns-clause-whole g c = λ a f whole is seen.
     let b = c.close-board.result in
     let same = ground_same (pass_ground c.args.pass) a b.accepted f b.plan is c.close-board.ensures.ground in
-    whole_is a b.accepted f b.plan whole (pass_seen c.args.pass) b.entries b.position same seen c.close-board.ensures.goes_on c.is_standing.ensures.flown
+    whole_is a b.accepted f b.plan whole (pass_seen c.args.pass) b.entries b.position same seen c.close-board.ensures.goes_on c.reveal_invariant.ensures.flown

@@ -11,18 +11,26 @@ use Rattle.sot_workers.proofs.crewed.fly.Goals as goal
 
 pub fly_behind-requires-clause-ground : goal.fly_behind-requires-clause-ground
 fly_behind-requires-clause-ground g c κs within =
-    let b = c.args.board in
-    (b.accepted, c.in_ok-turn.ensures.ground ∙ ap (λ f. Some (b.accepted, f)) (sym c.requires.flight), ap (λ f. length f.crews) c.requires.flight ∙ c.is_standing.ensures.fits.crews)
+    let b = c.args.board in (
+      b.accepted,
+      c.in_ok-turn.ensures.ground ∙ ap (λ f. Some (b.accepted, f)) (sym c.flight-flight.ensures),
+      ap (λ f. length f.crews) c.flight-flight.ensures
+          ∙ c.reveal_invariant.ensures.fits.crews,
+    )
 
 pub returns-clause-lists : goal.returns-clause-lists
 returns-clause-lists g c =
     let b = c.fly_behind.result.board in
     let guests = c.swap.new.y in
-    let same = ground_same (pass_ground c.in_ok-turn.pass) c.args.board.accepted b.accepted c.args.board.plan b.plan c.in_ok-turn.ensures.ground c.fly_behind.ensures.ground in
-    let plan = c.requires.flight ∙ same.1 in
+    let same = ground_same (pass_ground c.in_ok-turn.pass) c.args.board.accepted b.accepted c.args.board.plan b.plan c.in_ok-turn.ensures.ground
+    c.fly_behind.ensures.ground in
     let there : (n i : ℕ) → At b.plan.crews n (Guest i) → i < length guests.items =
     λ n i at.
-    let old : i < length c.args.guests.now.items = omega (arith, c.requires.there n i (subst (λ f. At f.crews n (Guest i)) (sym plan) at), c.args.guests.now.ok.0) in
+    let old : i < length c.args.guests.now.items = omega (
+      arith,
+      c.requires.there n i (subst (λ f. At f.crews n (Guest i)) (sym same.1) at),
+      c.args.guests.now.ok.0,
+    ) in
     subst (λ v. i < length v.items) (sym c.swap.ensures.y_after) old in
     lists_are (length b.accepted.program.nodes) b.plan (length guests.items) c.fly_behind.result.lists.items b.entries c.fly_behind.ensures.lists there
 
@@ -42,8 +50,9 @@ returns-clause-told g c =
     let now = c.fly_behind.new.guests.items in
     let R = IsGuestBack g.C.Controller.told b.accepted b.plan b.entries in
     let each = subst (λ v. EachFrom R 0 v.items now) c.swap.ensures.y_after c.fly_behind.ensures.guests in
-    let same = ground_same (pass_ground c.in_ok-turn.pass) c.args.board.accepted b.accepted c.args.board.plan b.plan c.in_ok-turn.ensures.ground c.fly_behind.ensures.ground in
-    let once : FliesOnce b.plan = subst FliesOnce same.1 c.is_standing.ensures.fits.guests_once in
+    let same = ground_same (pass_ground c.in_ok-turn.pass) c.args.board.accepted b.accepted c.args.board.plan b.plan c.in_ok-turn.ensures.ground
+    c.fly_behind.ensures.ground in
+    let once : FliesOnce b.plan = subst FliesOnce same.1 c.reveal_invariant.ensures.fits.guests_once in
     each_answered g.C.Controller.told b.accepted b.plan b.entries c.args.guests.now.items now once each
 
 pub returns-clause-unnamed : goal.returns-clause-unnamed

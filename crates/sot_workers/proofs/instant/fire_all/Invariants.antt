@@ -1,5 +1,6 @@
 use Rattle.std.proofs.Common.{◌≡◌, length}
 use Rattle.sot_workers.specs.Instants.{IsSameInstant, NoneLeft}
+use Rattle.sot_workers.specs.Order.{FireInOrder, Adds}
 use Rattle.sot_workers.proofs.instant.fire_all.Given as goal
 
 -- the nodes so far are not left
@@ -8,6 +9,7 @@ invariant-loop-node l = record {
   same : IsSameInstant l.fn.board l.board;
   inputs : l.board.position.inputs ≡ l.fn.board.position.inputs;
   left_dm : l.board.position.at.left_dm ≡ l.fn.board.position.at.left_dm;
+  fire : Adds (FireInOrder l.fn.board.position.at.time 0 l.node) l.fn.board.entries l.board.entries;
   none : NoneLeft l.board.position.at.left l.node;
   count : l.count ≡ length l.fn.board.accepted.program.nodes;
 }

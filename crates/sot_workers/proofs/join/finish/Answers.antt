@@ -8,5 +8,8 @@ pub loop-preserved : goal.loop-preserved
 loop-preserved g c =
     let began = c.requires.on_shift.0 in
     let was = c.loop.invariant.goes_on began c.requires.on_shift.1 in
-    let now = c.take_turn-shift.ensures began was in
-    record { lock = now.lock ∙ (sym was.lock ∙ c.loop.invariant.lock); goes_on = λ before on. c.take_turn-shift.ensures before (c.loop.invariant.goes_on before on) }
+    let now = c.take_turn-shift.ensures.on_shift began was in
+    record {
+      lock = now.lock ∙ (sym was.lock ∙ c.loop.invariant.lock);
+      goes_on = λ before on. c.take_turn-shift.ensures.on_shift before (c.loop.invariant.goes_on before on);
+    }

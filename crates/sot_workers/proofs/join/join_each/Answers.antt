@@ -48,8 +48,10 @@ loop-place-preserved g c =
           let rest = into_iter_items c.next.new.self in
           let coming = subst (λ l. AreComing P Q guests dones l) c.in-Some.ensures.steps.0 (inv.placed a f guests each) in
           let done : (guest : g.row.C.Denot) → P (length dones) guest c.in-Some.place → Q (length dones) guest c.join_one-back.result.1 =
-          λ guest placed whole seen. joined.done a f whole (length dones) guest (seen_later a f whole (pass_seen c.args.pass) (pass_seen c.loop-place.pass) inv.seen seen) placed in
-          subst (λ l. AreComing P Q guests l rest) (sym c.push_reserved.ensures.items) (coming_more P Q guests dones c.in-Some.place rest c.join_one-back.result.1 done coming);
+          λ guest placed whole seen. joined.done a f whole (length dones) guest
+          (seen_later a f whole (pass_seen c.args.pass) (pass_seen c.loop-place.pass) inv.seen seen) placed in
+          subst (λ l. AreComing P Q guests l rest) (sym c.push_reserved.ensures.items)
+          (coming_more P Q guests dones c.in-Some.place rest c.join_one-back.result.1 done coming);
     }
 
 pub returns-clause-done : goal.returns-clause-done

@@ -8,7 +8,7 @@ pub end-requires-clause-placed : goal.end-requires-clause-placed
 end-requires-clause-placed g c =
     let p = c.requires.placed in
     let of = subst (IsPlaced g.C.Controller.told (lock_of c.args.turn.now) p.0 p.1 p.2 p.3) c.in-Out.is p.4 in
-    (p.0, p.1, p.2, p.3, c.in-Out.child.promise.0.value, of, c.join.ensures)
+    (p.0, p.1, p.2, p.3, c.in-Out.child.promise.0.value, of, c.join.ensures.on_shift)
 
 pub end-requires-in-Here-Some-clause-placed : goal.end-requires-in-Here-Some-clause-placed
 end-requires-in-Here-Some-clause-placed g c =
@@ -20,7 +20,7 @@ end-requires-in-Here-Some-clause-placed g c =
 pub returns-in-Out-clause-done : goal.returns-in-Out-clause-done
 returns-in-Out-clause-done g c = λ a f whole number guest seen placed.
     let of = subst (IsPlaced g.C.Controller.told (lock_of c.args.turn.now) a f number guest) c.in-Out.is placed in
-    c.end.ensures.done a f whole number guest c.in-Out.child.promise.0.value seen of c.join.ensures
+    c.end.ensures.done a f whole number guest c.in-Out.child.promise.0.value seen of c.join.ensures.on_shift
 
 pub returns-in-Here-Some-clause-done : goal.returns-in-Here-Some-clause-done
 returns-in-Here-Some-clause-done g c = λ a f whole number guest seen placed.

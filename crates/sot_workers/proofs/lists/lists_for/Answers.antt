@@ -11,7 +11,9 @@ loop-node-preserved c =
     let pushed = c.push_reserved.ensures in
     let one : NodeList = record { node = k; drafts = c.in_ok-drafts.drafts } in
     record {
-      lists = subst (λ (ls : List NodeList). AreEmpty (k + 1) ls) (sym pushed.items) (empty_more k c.loop-node.lists.items one inv.lists refl c.in_ok-drafts.ensures.items);
+      lists =
+          subst (λ (ls : List NodeList). AreEmpty (k + 1) ls) (sym pushed.items)
+          (empty_more k c.loop-node.lists.items one inv.lists refl c.in_ok-drafts.ensures.items);
       count = omega (arith, pushed.len, inv.count);
       room = omega (arith, pushed.capacity, inv.room);
     }

@@ -22,9 +22,17 @@ ticks-preserved g c =
     let work = c.work_instant-in-ticks in
     record {
       goes_on = goes_on_again start old work.new.board c.ticks.invariant.goes_on
-          (goes_on_again old later work.new.board (tick_goes_on old later _ c.tick.ensures.0 c.tick.ensures.1) (goes_on_same later work.new.board work.ensures.same work.ensures.goes_on));
+          (goes_on_again old later work.new.board (tick_goes_on old later _ c.tick.ensures.0 c.tick.ensures.1)
+          (goes_on_same later work.new.board work.ensures.same work.ensures.goes_on));
       lists = work.ensures.lists;
     }
 
 pub ticks-smaller : goal.ticks-smaller
-ticks-smaller g c = omega (arith, tick_time c.ticks.board c.tick.new.self _ c.tick.ensures.0 c.tick.ensures.1, c.work_instant-in-ticks.ensures.same.time, c.time.ensures, c.ticks-test.true)
+ticks-smaller g c =
+    omega (
+      arith,
+      tick_time c.ticks.board c.tick.new.self _ c.tick.ensures.0 c.tick.ensures.1,
+      c.work_instant-in-ticks.ensures.same.time,
+      c.time.ensures,
+      c.ticks-test.true,
+    )

@@ -18,7 +18,15 @@ returns-clause-job g c = λ a is.
     let ground = c.split-pass.ensures.ground.1 ∙ is in
     record {
       ready = record {
-        at_work = record { accepted = a; plan = f; ground = ground; there = there; guest = (c.args.number, crew); drafts = c.take_list.ensures.none ∙ ap (drafts_of c.in-Some.node) (sym seen) };
+        at_work =
+            record {
+              accepted = a;
+              plan = f;
+              ground = ground;
+              there = there;
+              guest = (c.args.number, crew);
+              drafts = c.take_list.ensures.none ∙ ap (drafts_of c.in-Some.node) (sym seen);
+            };
         lock_is = c.split-pass.ensures.lock.1 ∙ c.requires.lock;
         no_drafts = c.take_list.ensures.none;
         unfinished = refl;

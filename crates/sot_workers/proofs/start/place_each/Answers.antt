@@ -52,7 +52,8 @@ loop-guest-preserved g c =
           let number : c.len-number.result ≡ length places = search rules in
           let placed : (guest : g.row.C.Denot) → guest ≡ c.in-Some.guest → Q (length places) guest c.place.result =
           λ guest same. subst (λ x. Q (length places) x c.place.result) (sym same) (subst (λ n. Q n c.in-Some.guest c.place.result) number here) in
-          subst (λ l. AreComing Same Q guests l rest) (sym c.push_reserved.ensures.items) (coming_more Same Q guests places c.in-Some.guest rest c.place.result placed coming);
+          subst (λ l. AreComing Same Q guests l rest) (sym c.push_reserved.ensures.items)
+          (coming_more Same Q guests places c.in-Some.guest rest c.place.result placed coming);
     }
 
 pub returns-clause-placed : goal.returns-clause-placed

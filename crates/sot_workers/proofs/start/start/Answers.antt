@@ -9,7 +9,8 @@ pub spawn_with-requires-send-F : goal.spawn_with-requires-send-F
 spawn_with-requires-send-F g c κs within =
     param_send 2 _
     (arg_send _ no _
-    (closure_send _ _ _ _ _ _ (shr_send _ _ _ c.type_bounds.sync-R) (shr_send _ _ _ (turn_sync _)) (shr_send _ _ _ bell.the_sync) (shr_send _ _ _ parker.the_sync) (shift_send _ _ c.type_bounds.send-C)))
+    (closure_send _ _ _ _ _ _ (shr_send _ _ _ c.type_bounds.sync-R) (shr_send _ _ _ (turn_sync _)) (shr_send _ _ _ bell.the_sync)
+    (shr_send _ _ _ parker.the_sync) (shift_send _ _ c.type_bounds.send-C)))
 
 pub spawn_with-requires-send-T : goal.spawn_with-requires-send-T
 spawn_with-requires-send-T g c κs within = param_send 3 _ (arg_send _ no _ (shift_send _ _ c.type_bounds.send-C))

@@ -11,7 +11,8 @@ turn_here-requires g c =
     let p = c.requires in
     let P = IsPlaced g.C.Controller.told (lock_of c.args.turn.now) p.0 p.1 in
     let places = c.loop-i.places.items in
-    let at : At places c.loop-i.i c.index_mut.result.now = read_at places places c.loop-i.i c.index_mut.result.now refl (search rules) (search (rules, c.index_mut.ensures.value)) in
+    let at : At places c.loop-i.i c.index_mut.result.now = read_at places places c.loop-i.i c.index_mut.result.now refl (search rules)
+    (search (rules, c.index_mut.ensures.value)) in
     let here = each_there P 0 p.2 places c.loop-i.i c.index_mut.result.now (c.loop-i.invariant p.0 p.1 p.2 p.3) at in
     (p.0, p.1, 0 + c.loop-i.i, here.0, here.1)
 
@@ -19,5 +20,7 @@ pub loop-i-preserved : goal.loop-i-preserved
 loop-i-preserved g c = λ a f guests each.
     let P = IsPlaced g.C.Controller.told (lock_of c.args.turn.now) a f in
     let places = c.loop-i.places.items in
-    let at : At places c.loop-i.i c.index_mut.result.now = read_at places places c.loop-i.i c.index_mut.result.now refl (search rules) (search (rules, c.index_mut.ensures.value)) in
-    each_set P 0 guests places c.loop-i.i c.index_mut.result.now c.turn_here.new.place (c.loop-i.invariant a f guests each) at (λ n x. c.turn_here.ensures a f n x)
+    let at : At places c.loop-i.i c.index_mut.result.now = read_at places places c.loop-i.i c.index_mut.result.now refl (search rules)
+    (search (rules, c.index_mut.ensures.value)) in
+    each_set P 0 guests places c.loop-i.i c.index_mut.result.now c.turn_here.new.place (c.loop-i.invariant a f guests each) at
+    (λ n x. c.turn_here.ensures a f n x)

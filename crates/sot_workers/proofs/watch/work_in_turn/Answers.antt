@@ -5,4 +5,4 @@ pub work_on-requires : goal.work_on-requires
 work_on-requires g c = record { lists = c.compare.ensures c.requires.0 c.requires.1 c.requires.2 }
 
 pub returns-clause-finished : goal.returns-clause-finished
-returns-clause-finished g c = λ yes. flown_end c.work_on.new.board c.is_standing.ensures (c.finished.ensures.0 yes)
+returns-clause-finished g c = λ yes. flown_end c.work_on.new.board c.reveal_invariant.ensures (c.finished.ensures.0 yes)
