@@ -15,6 +15,9 @@ JSON_TOKEN = re.compile(r'"(?:[^"\\]|\\.)*"|[^][{},:"\s]+|.', re.S)
 DEEPEST_JSON = 127
 LONGEST_NUMBER = 40
 
+REFUSED = re.compile(r'refused (?P<no>\d+|start)(?: (?P<kind>[A-Z]\w+))?(?: module (?P<module>\w+))?(?: node (?P<node>\w+))?(?: (?:safe|safer))?(?: topic (?P<topic>\w+))?'
+                     r'(?: cell (?P<cell>\d+) tick (?P<tick>\d+))?(?: box \[(?P<box>[^]]*)\])?(?: point \((?P<point>[^)]*)\))?(?: line (?P<line>\d+) column (?P<column>\d+))?')
+
 Scalar = collections.namedtuple('Scalar', 'kind scale lo hi')
 Topic = collections.namedtuple('Topic', 'name outside fields scalars initial')
 Plant = collections.namedtuple('Plant', 'name line states scales inputs noise bounds')
@@ -401,6 +404,34 @@ def string_of(token):
         return json.loads(token.encode('latin-1').decode('utf-8')) if token[:1] == '"' else token
     except ValueError:
         return token
+
+
+# --- answers ----------------------------------------------------------------------------------------------------
+
+def refusal_of(answer):
+    """What a refusal names, by the words of its line: numbers as such, a box as sides, a point as a list. None for another answer."""
+    found = REFUSED.match(answer)
+    if not found or not (found['kind'] or found['no'] == 'start'):
+        return None
+    said = found.groupdict()
+    for name in ('cell', 'tick', 'line', 'column'):
+        said[name] = said[name] and int(said[name])
+    said['point'] = said['point'] and whole_numbers(said['point'])
+    said['box'] = said['box'] and [tuple(whole_numbers(side.replace('..', ' '))) for side in said['box'].split(', ')]
+    return said
+
+
+def whole_numbers(text):
+    return [int(number) for number in re.findall(r'-?\d+', text)]
+
+
+def point_words(plant, point):
+    """A point as people read it: each state variable with its number."""
+    return ', '.join(f'{state} {decimal(number, scale)}' for state, scale, number in zip(plant.states, plant.scales, point))
+
+
+def box_words(plant, box):
+    return ', '.join(f'{state} {decimal(lo, scale)}..{decimal(hi, scale)}' for state, scale, (lo, hi) in zip(plant.states, plant.scales, box))
 
 
 # --- the trace --------------------------------------------------------------------------------------------------
