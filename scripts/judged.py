@@ -16,9 +16,9 @@ class Unjudged(Exception):
         self.status = status
 
 
-def ask(program, command, text):
+def ask(program, command, text, **environment):
     """The status and the text that the program answers. What it says on standard error goes there."""
-    done = subprocess.run([program, command], input=text.encode('latin-1'), stdout=subprocess.PIPE)
+    done = subprocess.run([program, command], input=text.encode('latin-1'), stdout=subprocess.PIPE, env={**os.environ, **environment})
     return done.returncode, done.stdout.decode('latin-1')
 
 

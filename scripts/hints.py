@@ -1,5 +1,5 @@
 #!/usr/bin/env python3
-"""scripts/hints COMMAND STATUS INPUT --answer FILE, or --program FILE: what to do about an answer of `soter`, on standard error.
+"""scripts/hints.py COMMAND STATUS INPUT --answer FILE, or --program FILE: what to do about an answer of `soter`, on standard error.
 
 `./soter` calls it at status 1 and 3. INPUT is the file with what the command read. The answer is taken from a file, or
 asked again of a built program, which is then also asked what `fly` would have written where a trace differs. It says the
