@@ -1,0 +1,55 @@
+"""A mission as `soter` has judged it, for scripts that show it: nothing is shown that it did not check."""
+import os
+import subprocess
+
+import missiontext
+
+TOP = os.path.dirname(os.path.dirname(os.path.abspath(__file__)))
+SOTER = os.path.join(TOP, 'soter')
+
+
+class Unjudged(Exception):
+    """`soter` gives no verdict on this mission, and why."""
+
+    def __init__(self, status, why):
+        super().__init__(why)
+        self.status = status
+
+
+def ask(program, command, text, **environment):
+    """The status and the text that the program answers. What it says on standard error goes there."""
+    done = subprocess.run([program, command], input=text.encode('latin-1'), stdout=subprocess.PIPE, env={**os.environ, **environment})
+    return done.returncode, done.stdout.decode('latin-1')
+
+
+class Judged:
+    """A mission that was accepted, or refused by a condition, a start or a replay.
+
+    `answer` is the first line of what `soter` wrote. `program` are the declarations, read from the canonical text;
+    `cells` the certificate's entries by module. `trace` is what was flown: the whole of it, of a refused replay the
+    lines before the one that is refused, and nothing where nothing was flown.
+    """
+
+    def __init__(self, text, command=None, program=SOTER):
+        sections = missiontext.Sections(text)
+        self.command = command or next((word for word, part in (('replay', 'trace'), ('fly', 'flight')) if sections.has(part)), 'check')
+        self.status, said = ask(program, self.command, text)
+        self.answer = said.split('\n')[0]
+        if self.status not in (0, 1):
+            raise Unjudged(self.status, self.answer)
+        status, self.canonical = ask(program, 'format', sections.parts['program'])
+        if status != 0:
+            raise Unjudged(status, self.canonical)
+        self.program = missiontext.Program(self.canonical)
+        self.cells = missiontext.json_of(sections.parts['certificate'])['modules']
+        self.trace = missiontext.Trace(self.flown(said, sections.parts.get('trace', '')))
+
+    def flown(self, said, lines):
+        if self.command == 'fly' and self.status == 0:
+            return said
+        if self.command == 'replay':
+            refused = self.answer.startswith('refused replay line ')
+            if self.status == 0 or refused:
+                whole = lines.split('\n')
+                return '\n'.join(whole[:int(self.answer.split()[3]) - 1] if refused else whole)
+        return ''
