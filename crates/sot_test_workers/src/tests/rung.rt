@@ -29,12 +29,12 @@ external one period 2 offset 1 { }
 
 // Two nodes with code, one with a script, one that a guest flies, and firings that may be two ticks
 // late.
-const MIXED: &str = "node calm period 1 offset 0 { do { } }
+const MIXED: &str = "node calm period 2 offset 0 { do { } }
 external one period 3 offset 1 { }
 node slow period 5 offset 2 { do { } }
 external two period 4 offset 0 { }
 %certificate
-{\"format\":2,\"jitter\":2,\"modules\":{}}
+{\"format\":2,\"jitter\":1,\"modules\":{}}
 %flight
 {\"crew\":{\"one\":{\"kind\":\"guest\",\"index\":0},\"two\":{\"kind\":\"script\",\"drafts\":[[]]}},\"format\":1,\"horizon\":12,\"inputs\":[],\"start\":{},\"sway\":{}}
 ";
@@ -83,7 +83,7 @@ fn no_ring_is_lost(rt: HostRuntime) {
     for (text, count, wanted) in [
         (FAR, 2, [41, 1].as_slice()),
         (CODED, 1, [7, 3].as_slice()),
-        (MIXED, 1, [13, 4, 3, 4].as_slice()),
+        (MIXED, 1, [7, 4, 3, 4].as_slice()),
         (LONG, 2, [2001, 667, 1001].as_slice()),
     ] {
         fires(&rt, rt.alloc(), text, count, wanted);
