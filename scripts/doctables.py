@@ -106,6 +106,12 @@ class Advice:
                 return row[1:], f'{self.language.path}, {heading}'
         return [], f'{self.language.path}, {heading}'
 
+    def rule(self, name):
+        """The rule of the grammar for a construct, on one line."""
+        with open(os.path.join(TOP, LANGUAGE), encoding='utf-8') as file:
+            found = re.search(rf'^({name} += .*(?:\n +[^ ].*)*)', file.read(), re.M)
+        return ' '.join(found[1].split()) if found else ''
+
     def causes(self):
         """The usual causes of a token that does not fit: cause, example, what stands at the place."""
         return self.language.rows('syntax', 'cause', 'at the place')[2]

@@ -65,7 +65,10 @@ def pixels(number):
 
 
 class Axis:
-    """Whole numbers from lo to hi on pixels from one end to the other. Each number has a width of its own where `cells` says so, half to each side of its point; else the ends are points."""
+    """Whole numbers from lo to hi on pixels from one end to the other.
+
+    Each number has a width of its own where `cells` says so, half to each side of its point; else the ends are points.
+    """
 
     def __init__(self, lo, hi, begin, end, scale=0, cells=True):
         self.lo, self.hi, self.begin, self.end, self.scale, self.half = lo, hi, begin, end, scale, 0.5 if cells else 0
@@ -121,7 +124,8 @@ class Sheet:
         self.parts.append(f'<{name}{attributes_of(attributes)}' + (f'>{inside}</{name}>' if inside else '/>'))
 
     def text(self, x, y, said, style='', anchor='start'):
-        self.parts.append(f'<text{attributes_of({"x": x, "y": y, "class": style, "text-anchor": anchor if anchor != "start" else ""})}>{escape(said)}</text>')
+        anchor = '' if anchor == 'start' else anchor
+        self.parts.append(f'<text{attributes_of({"x": x, "y": y, "class": style, "text-anchor": anchor})}>{escape(said)}</text>')
 
     def whole(self, width, height, title, description):
         head = (f'<svg xmlns="http://www.w3.org/2000/svg" width="{width}" height="{height}" viewBox="0 0 {width} {height}" role="img">\n'

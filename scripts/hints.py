@@ -21,7 +21,12 @@ NEEDED = {'check': ('certificate',), 'fly': ('certificate', 'flight'), 'replay':
 KEYWORDS = set('topic environment int fix bool true false plant state input sees noise next node external period offset reads writes local do publish if then else '
                'repeat module ac sc safe safer none and or not min max abs clamp rescale'.split())
 CLAUSES = {'state', 'input', 'sees', 'noise', 'next', 'period', 'offset', 'reads', 'writes', 'local', 'do', 'ac', 'sc', 'plant', 'safe', 'safer'}
-KEYS = {'format', 'jitter', 'modules', 'closed', 'reach', 'horizon', 'start', 'inputs', 'sway', 'crew', 'at', 'topic', 'value', 'kind', 'values', 'drafts', 'seed', 'stream', 'index'}
+KEYS = set('format jitter modules closed reach horizon start inputs sway crew at topic value kind values drafts seed stream index'.split())
+# the construct that a word begins, by its name in the grammar
+RULES = {'topic': 'topic', 'plant': 'plant', 'noise': 'plant', 'node': 'coded', 'external': 'external', 'period': 'timing', 'module': 'module', 'safe': 'region', 'safer': 'region',
+         'do': 'block', 'publish': 'stmt', 'if': 'stmt', 'repeat': 'stmt', ':=': 'stmt'}
+# words with a name behind them
+NAMED = {'topic', 'plant', 'node', 'external', 'module', 'local', 'publish', 'state', 'noise'}
 COMPARISONS = {'<', '<=', '>', '>=', '==', '!='}
 
 
@@ -126,7 +131,8 @@ def about_leaving(asked, said, kind, how):
     point = f'{tuple_words(said["point"])} is {point_words(plant, said["point"])}, which is not in `safe`'
     if said['tick'] == 0:
         return [f'{kind} cell {said["cell"]}, {box_words(plant, cell)}, is not inside `safe`: {point}']
-    return [f'from {kind} cell {said["cell"]}, {box_words(plant, cell)}, {how}, {plant.name} may be anywhere in {box_words(plant, said["box"])} after {ticks(said["tick"])}: {point}']
+    box = f'{box_words(plant, said["box"])} after {ticks(said["tick"])}'
+    return [f'from {kind} cell {said["cell"]}, {box_words(plant, cell)}, {how}, {plant.name} may be anywhere in {box}: {point}']
 
 
 def about_trap(asked, said, kind):
@@ -253,14 +259,20 @@ def about_place(asked):
     return caret(missiontext.line_of(asked.source, int(line)), int(line), int(column))
 
 
+def tokens_around(asked):
+    """The tokens of the twenty lines in front of a place, which show the clause that it is in, and the ones from it on; and the place."""
+    _, _, _, line, _, column, _ = asked.answer.split()
+    begin = offset_of_line(asked.source, max(1, int(line) - 20))
+    at = offset_of_line(asked.source, int(line)) + int(column) - 1
+    before, after = ([piece[1] for piece in missiontext.TOKEN.finditer(asked.source, *ends) if piece[1]] for ends in ((begin, at), (at, at + 200)))
+    return before, after, at
+
+
 def cause_of(asked):
     """The usual cause of such a token or byte, as docs/LANGUAGE.md tells it, where one fits."""
-    _, _, _, line, _, column, kind = asked.answer.split()
-    source, begin = asked.source, offset_of_line(asked.source, max(1, int(line) - 20))
-    at = offset_of_line(source, int(line)) + int(column) - 1
-    # twenty lines in front are enough to see the clause that the place is in
-    before, after = ([piece[1] for piece in missiontext.TOKEN.finditer(source, *ends) if piece[1]] for ends in ((begin, at), (at, at + 200)))
-    first = source[source.rfind('\n', 0, at) + 1:at].isspace() or source[at - 1:at] in ('', '\n')
+    kind, source = asked.answer.split()[-1], asked.source
+    before, after, at = tokens_around(asked)
+    first = source[source.rfind('\n', 0, at) + 1:at].strip() == ''
     wanted = cause_words(before, after, source[at:at + 12], first) if kind in ('Token', 'BadByte') else ''
     if kind == 'BadByte' and 'bytes' not in wanted:
         return []
@@ -279,7 +291,7 @@ def cause_words(before, after, text, first):
         (not here, 'a closing brace is missing'),
         (here in tuple('?\'"^&!~@$`\\') or (here == '|' and next_one == '|'), 'bytes that the language has not'),
         (here == 'if' and last == 'else', '`else if` of statements'),
-        (here == '/' or (here in '+-*' and last == here) or (last == '/' and here == '/'), 'an operator of another language'),
+        (here == '/' or (here in ('+', '-', '*') and here in (last, next_one)), 'an operator of another language'),
         (here in ('=', ':=', '=='), '`=` for `:=`'),
         (here in COMPARISONS and any(token in COMPARISONS for token in statement), 'comparisons in a chain'),
         (here == '.' or last == '.', 'a point without digits'),
@@ -288,7 +300,7 @@ def cause_words(before, after, text, first):
         (last == 'repeat' or (statement[:1] == ['if'] and 'then' not in statement and here not in ';{}'), 'a statement without braces'),
         (here in ';)' and 'then' in statement and statement.count('then') > statement.count('else'), 'an `if` expression without its `else`'),
         (here in ('(', ',', '[', 'or') and ('int' in before[-5:] or 'fix' in before[-5:] or 'safe' in statement or 'safer' in statement), 'a range or a type in another form'),
-        (here in KEYWORDS and (last in ('topic', 'plant', 'node', 'external', 'module', 'local', 'publish', 'state', 'noise') or (last == ',' and next_one in (':', ',', ';'))), 'a keyword as a name'),
+        (here in KEYWORDS and (last in NAMED or (last == ',' and next_one in (':', ',', ';'))), 'a keyword as a name'),
         (here in CLAUSES and last in (';', '{', '}'), 'clauses in another order'),
         (here in CLAUSES and last.isdigit() and here == 'period', 'clauses in another order'),
         (last not in (';', '{', '}', '') and (first or here == '}' or here in CLAUSES), 'a `;` is missing'),
@@ -353,7 +365,16 @@ def to_do(asked, family, key):
 
 
 def token_to_do(asked, family, key):
-    return cause_of(asked) or to_do(asked, family, key)
+    """The usual cause, or the rule of the grammar that the place is in, with the row."""
+    return cause_of(asked) or rule_of(asked, key) + to_do(asked, family, key)
+
+
+def rule_of(asked, key):
+    """The rule of the last construct that begins before the place."""
+    before = tokens_around(asked)[0]
+    opened = [RULES[token] for token in before if token in RULES]
+    rule = asked.advice.rule(opened[-1]) if key == 'Token' and opened else ''
+    return [f'the grammar there: {rule}'] if rule else []
 
 
 def nothing(asked, family, key):
