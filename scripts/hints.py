@@ -301,8 +301,7 @@ def cause_words(before, after, text, first):
         (here in ';)' and 'then' in statement and statement.count('then') > statement.count('else'), 'an `if` expression without its `else`'),
         (here in ('(', ',', '[', 'or') and ('int' in before[-5:] or 'fix' in before[-5:] or 'safe' in statement or 'safer' in statement), 'a range or a type in another form'),
         (here in KEYWORDS and (last in NAMED or (last == ',' and next_one in (':', ',', ';'))), 'a keyword as a name'),
-        (here in CLAUSES and last in (';', '{', '}'), 'clauses in another order'),
-        (here in CLAUSES and last.isdigit() and here == 'period', 'clauses in another order'),
+        ((here in CLAUSES and last in (';', '{', '}')) or here in ('offset', 'period'), 'clauses in another order'),
         (last not in (';', '{', '}', '') and (first or here == '}' or here in CLAUSES), 'a `;` is missing'),
         (last in ('}', ';') and here in ('topic', 'plant', 'node', 'external', 'module', 'environment'), 'a closing brace is missing'),
     )
