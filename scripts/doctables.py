@@ -10,17 +10,6 @@ TOP = os.path.dirname(os.path.dirname(os.path.abspath(__file__)))
 FORMATS, LANGUAGE = 'docs/FORMATS.md', 'docs/LANGUAGE.md'
 # What to do about what has no such cell in the pages; one that is added there goes first.
 AND_BESIDES = {
-    ('flight', 'WrongShape'): 'compare the value with the tables of kinds: a `sway` is low, high, list or seed, a `crew` script, wild or guest',
-    ('flight', 'OutsideRange'): 'write a whole number inside its bounds: those of the topic or disturbance in the program, a horizon of at most 100,000, a time up to the horizon',
-    ('flight', 'Unknown'): 'compare the names with those of the program: inputs come on environment topics, `sway` is of plants with disturbances, `crew` of external nodes',
-    ('flight', 'Width'): 'write one number for each state variable, disturbance or scalar, in their order',
-    ('flight', 'Empty'): 'give the list an item: the last one stays from then on',
-    ('flight', 'Order'): 'bring the inputs in the order of their times',
-    ('flight', 'NoGuest'): 'give the node a `script` or a `wild` draft: the program `soter` hands in no guest (docs/GUESTS.md says who can)',
-    ('flight', 'GuestTwice'): 'give each node a guest of its own number',
-    ('flight', 'TooManyEvents'): 'shorten the horizon, or give nodes and modules longer periods: a flight has at most 200,000 events',
-    ('flight', 'TooManyNumbers'): 'shorten the horizon: a flight has at most 1,000,000 numbers',
-    ('replay', 'Ended'): 'take out what stands behind the end line',
     ('start', ''): 'start the plant inside `safer`, or let `safer` grow: `accepted` speaks of runs that start there',
 }
 
