@@ -24,7 +24,7 @@ pub fn guarded_modules()
     ensures { GuardedModules }
 {}
 
-/// The cells of rank 0 keep to themselves: there is a greatest such set.
+/// A list of exactly the cells of rank 0 keeps to itself.
 pub fn rank_zero_keeps()
     ensures { RankZeroKeeps }
 {}

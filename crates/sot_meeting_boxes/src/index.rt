@@ -66,7 +66,7 @@ impl BoxIndex {
         boxes[i]
     }
 
-    /// Replaces `found` by the places of the boxes that meet the box, in order.
+    /// Replaces `found` by the places of the boxes that meet the box.
     pub fn put_meeting(&self, b: &BoxN, found: &mut Vec<usize>) -> Result<(), AllocError>
         ensures { OnOk result ((i : ℕ) → Has found.new.items i ↔ MeetsAt self.now b.now i) }
     {
