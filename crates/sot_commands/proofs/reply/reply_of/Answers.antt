@@ -1,4 +1,4 @@
-use Rattle.sot_commands.specs.declared.words.Command.TheVariants.{Check, Format, Certify}
+use Rattle.sot_commands.specs.declared.words.Command.TheVariants.{Check, Replay, Format, Certify}
 use Rattle.sot_commands.proofs.Replies.{replied_as}
 use Rattle.sot_commands.proofs.reply.reply_of.Goals as goal
 
@@ -18,3 +18,8 @@ returns-in-Certify g c =
     replied_as c.args.guests c.args.command Certify c.args.bytes.items c.deref-in-Certify.result.now c.said-in-Certify.result c.certify.result
     c.said-in-Certify.ensures c.in-Certify.is (λ flies. flies) c.deref-in-Certify.ensures.value
     (c.certify.ensures c.args.guests)
+
+pub returns-in-Replay : goal.returns-in-Replay
+returns-in-Replay g c =
+    replied_as c.args.guests c.args.command Replay c.args.bytes.items c.deref-in-Replay.result.now c.said-in-Replay.result c.replay.result
+    c.said-in-Replay.ensures c.in-Replay.is (λ flies. flies) c.deref-in-Replay.ensures.value c.replay.ensures
