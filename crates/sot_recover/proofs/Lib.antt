@@ -1,0 +1,11 @@
+pub mod RegionMore
+pub mod Boxes
+pub mod CellTubes
+pub mod Landings
+pub mod Grounds
+pub mod Surveyed
+pub mod Glue
+pub mod Ranked
+pub mod Reached
+pub mod Whole
+pub mod Chosen
