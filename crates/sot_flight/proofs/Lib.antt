@@ -17,3 +17,6 @@ pub mod RangeLists
 pub mod ReadForms
 pub mod FoundLists
 pub mod FlightFits
+-- a flight with further inputs fits, and how they are merged
+pub mod Relayed
+pub mod Merging

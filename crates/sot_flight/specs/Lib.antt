@@ -8,6 +8,8 @@ pub mod Stated
 pub mod Counts
 pub mod Fits
 pub mod NoiseRules
+-- a flight to which another board sends
+pub mod Relayed
 -- what JSON says as a flight
 pub mod ListForms
 pub mod FlightFormat
