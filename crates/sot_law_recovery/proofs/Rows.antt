@@ -12,7 +12,8 @@ use Rattle.sot_tube.specs.Certified.{IsWellCertified}
 use Rattle.sot_law_recovery.specs.Holds.{Guarded, IsHold, AreHolds, last_of, start_at}
 use Rattle.sot_law_recovery.specs.Ranks.{IsInCells, LandsIn, HasRank}
 use Rattle.sot_law_recovery.specs.Laws.{RanksRecover, RankZeroKeeps, HoldsStaySafe, GuardedModules}
-use Rattle.sot_law_recovery.proofs.Commands.{in_some_box, begun}
+use Rattle.sot_tube.proofs.Certificate.{in_some_box}
+use Rattle.sot_law_recovery.proofs.Commands.{begun}
 use Rattle.sot_law_recovery.proofs.Landing.{points_inside, lands, last_at}
 
 -- one less, or 0

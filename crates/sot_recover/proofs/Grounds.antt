@@ -21,7 +21,7 @@ use Rattle.sot_law_runs.proofs.TubeBoxes.{boxes, unique}
 use Rattle.sot_law_recovery.specs.Holds.{Guarded}
 use Rattle.sot_law_recovery.specs.Ranks.{IsLanding, LandsIn}
 use Rattle.sot_law_recovery.proofs.Rows.{guarded_modules}
-use Rattle.sot_law_recovery.proofs.Commands.{in_some_box}
+use Rattle.sot_tube.proofs.Certificate.{in_some_box}
 use Rattle.sot_law_recovery.proofs.OneRank.{same, lands_same}
 use Rattle.sot_ranking.specs.Sets.{IsSet, with_places, IsMonotone, IsHanging}
 use Rattle.sot_ranking.proofs.Sets.{kept_others, with_flag, with_place, set_below}
