@@ -8,7 +8,7 @@ use Rattle.sot_lang.specs.Tables.{Tables}
 use Rattle.sot_flight.specs.Plans.{StatedInput, Plan}
 use Rattle.sot_flight.specs.Counts.{input_numbers}
 use Rattle.sot_flight.specs.Fits.{FitsInput, FitsFlight}
-use Rattle.sot_flight.specs.Relayed.{Send, put_in, input_of, with_sends, send_numbers, relayed, MayRelay}
+use Rattle.sot_flight.specs.Relayed.{Send, put_in, sent_input, with_sends, send_numbers, relayed, MayRelay}
 
 -- each one by itself, and each at its time
 abbrev Each : (StatedInput → Type 0) → List StatedInput → Type 0
@@ -80,21 +80,21 @@ put_numbers x (y ∷ ys) = by_case (λ l. input_numbers l ≡ length x.value + (
 
 -- all sends
 module _ (topic delay : ℕ) where
-  all_each : (P : StatedInput → Type 0) (sends : List Send) (given : List StatedInput) → ((i : ℕ) (s : Send) → At sends i s → P (input_of topic delay s)) → Each P given → Each P (with_sends topic delay sends given)
+  all_each : (P : StatedInput → Type 0) (sends : List Send) (given : List StatedInput) → ((i : ℕ) (s : Send) → At sends i s → P (sent_input topic delay s)) → Each P given → Each P (with_sends topic delay sends given)
   all_each P [] given new h = h
-  all_each P (s ∷ sends) given new h = all_each P sends (put_in (input_of topic delay s) given) (λ i t at. new (suc i) t at) (put_each P (input_of topic delay s) given (new 0 s refl) h)
+  all_each P (s ∷ sends) given new h = all_each P sends (put_in (sent_input topic delay s) given) (λ i t at. new (suc i) t at) (put_each P (sent_input topic delay s) given (new 0 s refl) h)
 
   all_ordered : (sends : List Send) (given : List StatedInput) → Ordered given → Ordered (with_sends topic delay sends given)
   all_ordered [] given h = h
-  all_ordered (s ∷ sends) given h = all_ordered sends (put_in (input_of topic delay s) given) (put_ordered (input_of topic delay s) given h)
+  all_ordered (s ∷ sends) given h = all_ordered sends (put_in (sent_input topic delay s) given) (put_ordered (sent_input topic delay s) given h)
 
   all_length : (sends : List Send) (given : List StatedInput) → length (with_sends topic delay sends given) ≡ length given + length sends
   all_length [] given = omega arith
-  all_length (s ∷ sends) given = (let x = input_of topic delay s in let h = all_length sends (put_in x given) in let one = put_length x given in omega (arith, h, one))
+  all_length (s ∷ sends) given = (let x = sent_input topic delay s in let h = all_length sends (put_in x given) in let one = put_length x given in omega (arith, h, one))
 
   all_numbers : (sends : List Send) (given : List StatedInput) → input_numbers (with_sends topic delay sends given) ≡ input_numbers given + send_numbers sends
   all_numbers [] given = omega arith
-  all_numbers (s ∷ sends) given = (let x = input_of topic delay s in let h = all_numbers sends (put_in x given) in let one = put_numbers x given in omega (arith, h, one))
+  all_numbers (s ∷ sends) given = (let x = sent_input topic delay s in let h = all_numbers sends (put_in x given) in let one = put_numbers x given in omega (arith, h, one))
 
 -- what is sent to a flight that fits, as it may be sent, leaves it fitting
 pub relayed_fits : (p : Tables) (guests topic delay : ℕ) (sends : List Send) (f : Plan)
@@ -116,3 +116,13 @@ relayed_fits p guests topic delay sends f h may = record {
   numbers = (let a = h.numbers in let b = all_numbers topic delay sends f.inputs in omega (arith, a, b));
   few_numbers = may.few_numbers;
 }
+
+-- two plans with the same parts are one
+pub same_plan : (x y : Plan) → x.horizon ≡ y.horizon → x.start ≡ y.start → x.inputs ≡ y.inputs → x.sways ≡ y.sways → x.crews ≡ y.crews → x.events ≡ y.events
+    → x.numbers ≡ y.numbers → x ≡ y
+same_plan x y horizon start inputs sways crews events numbers =
+    ap (λ h. let q : Plan = record x { horizon = h } in q) horizon ∙ ap (λ s. let q : Plan = record x { horizon = y.horizon; start = s } in q) start
+    ∙ ap (λ l. let q : Plan = record x { horizon = y.horizon; start = y.start; inputs = l } in q) inputs
+    ∙ ap (λ l. let q : Plan = record y { sways = l; crews = x.crews; events = x.events; numbers = x.numbers } in q) sways
+    ∙ ap (λ l. let q : Plan = record y { crews = l; events = x.events; numbers = x.numbers } in q) crews
+    ∙ ap (λ n. let q : Plan = record y { events = n; numbers = x.numbers } in q) events ∙ ap (λ n. let q : Plan = record y { numbers = n } in q) numbers

@@ -19,3 +19,5 @@ pub mod FlightView
 pub mod Laws
 pub mod DrawExamples
 pub mod FlightExamples
+-- between the crate's own functions
+pub mod EarlyInputs

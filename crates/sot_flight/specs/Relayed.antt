@@ -29,14 +29,14 @@ put_in x [] = x ∷ []
 put_in x (y ∷ ys) = if nat_le y.at x.at then y ∷ put_in x ys else x ∷ y ∷ ys
 
 -- a send comes on the topic so many ticks later
-abbrev pub input_of : ℕ → ℕ → Send → StatedInput
-input_of topic delay s = record { at = s.at + delay; topic = topic; value = s.value }
+abbrev pub sent_input : ℕ → ℕ → Send → StatedInput
+sent_input topic delay s = record { at = s.at + delay; topic = topic; value = s.value }
 
 -- the given inputs and these sends, each in turn behind what comes at its time or before
 abbrev pub with_sends : ℕ → ℕ → List Send → List StatedInput → List StatedInput
 with_sends topic delay [] given = given
 with_sends topic delay (s ∷ sends) given =
-    with_sends topic delay sends (put_in (input_of topic delay s) given)
+    with_sends topic delay sends (put_in (sent_input topic delay s) given)
 
 abbrev pub send_numbers : List Send → ℕ
 send_numbers [] = 0

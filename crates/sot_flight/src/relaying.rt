@@ -1,10 +1,9 @@
 //! The inputs of a flight together with what is sent to it, and copies of a flight's parts.
 
-ghost use Rattle.std.specs.Prelude.{◌≡◌, ℕ, suc, ◌+◌, ◌≤◌, ◌++◌, length, map, drop, nat_le};
-ghost use Rattle.std.specs.Prelude.{take_while, IfOk};
+ghost use Rattle.std.specs.Prelude.{◌≡◌, ℕ, suc, ◌+◌, ◌≤◌, [], ◌∷◌, ◌++◌, length, map, drop, IfOk};
 ghost use Rattle.sot_lists.specs.Places.{At};
-ghost use Rattle.sot_flight.specs.declared.sent.Sent.{Sent as Outgoing};
-ghost use Rattle.sot_flight.specs.Relayed.{drafted, send_of, with_sends};
+ghost use Rattle.sot_flight.specs.Relayed.{Send, drafted, send_of, with_sends};
+ghost use Rattle.sot_flight.specs.EarlyInputs.{early};
 ghost use Rattle.sot_flight.specs.FlightView.{input_of, sway_of, crew_of};
 
 use crate::crew::Crew;
@@ -35,9 +34,9 @@ fn copy_until(
 ) -> Result<usize, AllocError>
     requires { from ≤ length given.now.items }
     ensures inputs { IfOk result (λ _. map input_of all.new.items ≡ map input_of all.old.items
-        ++ take_while (λ x. nat_le x.at time) (drop from (map input_of given.now.items))) }
+        ++ early time (drop from (map input_of given.now.items))) }
     ensures place { IfOk result (λ place. place ≡ from
-        + length (take_while (λ x. nat_le x.at time) (drop from (map input_of given.now.items)))) }
+        + length (early time (drop from (map input_of given.now.items)))) }
     ensures bound { IfOk result (λ place. place ≤ length given.now.items) }
 {
     for place in from..given.len() {
@@ -67,15 +66,22 @@ fn copy_rest(
     Ok(())
 }
 
+fn put_number(found: &mut Vec<i64>, slot: Option<i64>) -> Result<(), AllocError>
+    ensures { IfOk result (λ _. found.new.items ≡ found.old.items ++ drafted (slot ∷ [])) }
+{
+    if let Some(number) = slot {
+        found.push(number)?;
+    }
+    Ok(())
+}
+
 fn numbers_of(alloc: Global, draft: &Draft) -> Result<Vec<i64>, AllocError>
     ensures { IfOk result (λ v. v.items ≡ drafted draft.now) }
 {
     draft.has_eight_slots();
     let mut found = Vec::with_capacity(alloc, 8)?;
     for i in 0..8 {
-        if let Some(number) = draft.get(i) {
-            found.push(number)?;
-        }
+        put_number(&mut found, draft.get(i))?;
     }
     Ok(found)
 }
@@ -89,9 +95,10 @@ pub(crate) fn merged(
     sends: &[Sent],
     delay: u32,
 ) -> Result<Vec<Input>, AllocError>
-    requires in_time { (i : ℕ) (s : Outgoing) → At sends.now i s → s.at + delay ≤ 100000 }
-    requires ordered { (i : ℕ) (s t : Outgoing) → At sends.now i s → At sends.now (suc i) t
-        → s.at ≤ t.at }
+    requires in_time { (i : ℕ) (s : Send) → At (map send_of sends.now) i s
+        → s.at + delay ≤ 100000 }
+    requires ordered { (i : ℕ) (s t : Send) → At (map send_of sends.now) i s
+        → At (map send_of sends.now) (suc i) t → s.at ≤ t.at }
     ensures { IfOk result (λ v. map input_of v.items
         ≡ with_sends topic delay (map send_of sends.now) (map input_of given.now.items)) }
 {
@@ -107,13 +114,19 @@ pub(crate) fn merged(
     Ok(all)
 }
 
+fn copy_row<T: Copy>(alloc: Global, row: &Vec<T>) -> Result<Vec<T>, AllocError>
+    ensures { IfOk result (λ v. v.items ≡ row.now.items) }
+{
+    Vec::from_slice(alloc, row)
+}
+
 fn copy_rows<T: Copy>(alloc: Global, rows: &Vec<Vec<T>>) -> Result<Vec<Vec<T>>, AllocError>
     ensures { IfOk result (λ v. map (λ row. row.items) v.items
         ≡ map (λ row. row.items) rows.now.items) }
 {
     let mut found = Vec::with_capacity(alloc, rows.len())?;
     for row in rows.iter() {
-        found.push(Vec::from_slice(alloc, row)?)?;
+        found.push(copy_row(alloc, row)?)?;
     }
     Ok(found)
 }
