@@ -1,0 +1,4 @@
+-- what a history tells
+pub mod Scenes
+-- that it is what the run was
+pub mod Laws
