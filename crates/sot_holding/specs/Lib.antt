@@ -1,0 +1,4 @@
+-- when a formula holds
+pub mod Holding
+-- what is kept of it over moments
+pub mod Standing
