@@ -9,13 +9,13 @@ mod finding;
 mod laid;
 mod laws;
 mod quantity;
-mod read;
 mod reading;
 mod what;
+mod whole;
 mod words;
 
 pub use fail::MonitorFail;
 pub use laws::causes_exclude_each_other;
 pub use quantity::{Comparison, Quantity};
-pub use read::read;
 pub use what::What;
+pub use whole::read;

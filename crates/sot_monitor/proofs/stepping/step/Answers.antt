@@ -4,9 +4,9 @@ use Rattle.std.proofs.lemmas.Bool.{cases_eq}
 use Rattle.std.specs.Prelude.{slice_index_or, slice_set, MatchBool, IsTrue}
 use Rattle.std.proofs.lemmas.Option.{slice_get-get_or}
 use Rattle.sot_lists.proofs.Places.{at_below}
-use Rattle.sot_holding.specs.Standing.{last_of, NowBy, IsLast}
-use Rattle.sot_holding.proofs.Now.{noted_more, part_inside}
-use Rattle.sot_holding.proofs.stepping.step.Goals as goal
+use Rattle.sot_monitor.specs.Standing.{last_of, NowBy, IsLast}
+use Rattle.sot_monitor.proofs.Now.{noted_more, part_inside}
+use Rattle.sot_monitor.proofs.stepping.step.Goals as goal
 
 pub returns-clause-stands : goal.returns-clause-stands
 returns-clause-stands g c = λ Ms size lasts i f part.

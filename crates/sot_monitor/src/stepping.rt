@@ -6,8 +6,8 @@ ghost use Rattle.sot_lists.specs.Places.{At};
 ghost use Rattle.sot_formula.specs.declared.what.What.{What as Is};
 ghost use Rattle.sot_formula.specs.declared.what.What.TheVariants.{Compared as IsCompared};
 ghost use Rattle.sot_formula.specs.Parts.{IsPlaced, ArePlaced};
-ghost use Rattle.sot_holding.specs.Holding.{Compares};
-ghost use Rattle.sot_holding.specs.Standing.{NowBy, StepsOn};
+ghost use Rattle.sot_monitor.specs.Holding.{Compares};
+ghost use Rattle.sot_monitor.specs.Standing.{NowBy, StepsOn};
 
 use crate::looks::Looks;
 use sot_formula::{Comparison, What};

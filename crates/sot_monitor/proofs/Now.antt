@@ -10,9 +10,9 @@ use Rattle.sot_formula.specs.declared.what.What.{What}
 use Rattle.sot_formula.specs.declared.what.What.TheVariants as whats
 use Rattle.sot_formula.specs.Formulas.{Formula, Truth, Compared, Not, And, Or, Once, Since, Within}
 use Rattle.sot_formula.specs.Parts.{IsPart}
-use Rattle.sot_holding.specs.Holding.{Moment, Compares, Holds}
-use Rattle.sot_holding.specs.Standing.{IsLast, NowBy, last_of}
-use Rattle.sot_holding.proofs.Before.{before, at_end, length_end}
+use Rattle.sot_monitor.specs.Holding.{Moment, Compares, Holds}
+use Rattle.sot_monitor.specs.Standing.{IsLast, NowBy, last_of}
+use Rattle.sot_monitor.proofs.Before.{before, at_end, length_end}
 
 -- the last of two moments
 later : (a b : ℕ) → (a < b) ⊎ (b ≤ a)
@@ -32,7 +32,7 @@ module _ (Ms : List Moment) (s : Moment) where
   inside = let e = length_end Ms s in omega (arith, e)
 
   -- a number is that of now exactly where the formula holds now
-  now_is : (f : Formula) (l : ℕ) → IsLast more f l → Holds more f n ↔ (l ≡ suc n)
+  pub now_is : (f : Formula) (l : ℕ) → IsLast more f l → Holds more f n ↔ (l ≡ suc n)
   now_is f zero last = (λ h. absurd (last n inside h), λ e. absurd (omega (arith, e)))
   now_is f (suc l) last =
       (λ h. ⊎_elim

@@ -2,7 +2,7 @@
 use Rattle.std.proofs.Common.{◌≡◌, ℕ, zero, suc, ◌+◌, ◌<◌, ◌≤◌, ◌↔◌, ◌⊎◌, inl, inr, ⊎_elim, List, [], ◌∷◌, ◌++◌, Some, length, refl, sym, ◌∙◌, subst, arith}
 use Rattle.sot_lists.specs.Places.{At}
 use Rattle.sot_formula.specs.Formulas.{Formula, Truth, Compared, Not, And, Or, Once, Since, Within}
-use Rattle.sot_holding.specs.Holding.{Moment, Holds}
+use Rattle.sot_monitor.specs.Holding.{Moment, Holds}
 
 pub at_front : {A : Type 0} (xs ys : List A) (k : ℕ) (x : A) → k < length xs → At (xs ++ ys) k x ↔ At xs k x
 at_front [] ys k x lt = absurd (omega arith)

@@ -6,7 +6,7 @@ use Rattle.sot_formula.specs.declared.what.What.{What}
 use Rattle.sot_formula.specs.declared.what.What.TheVariants as whats
 use Rattle.sot_formula.specs.Formulas.{Formula}
 use Rattle.sot_formula.specs.Parts.{IsPart}
-use Rattle.sot_holding.specs.Holding.{Moment, Compares, Holds}
+use Rattle.sot_monitor.specs.Holding.{Moment, Compares, Holds}
 
 -- one more than the last moment at which it held, or 0
 abbrev pub IsLast : List Moment → Formula → ℕ → Type 0

@@ -2,9 +2,9 @@ use Rattle.std.proofs.Common.{◌≡◌, ℕ, ◌<◌, ◌≤◌, List, [], ◌�
 use Rattle.std.specs.List.{All}
 use Rattle.sot_formula.specs.Formulas.{Formula}
 use Rattle.sot_formula.specs.Parts.{IsPart}
-use Rattle.sot_holding.specs.Holding.{Moment}
-use Rattle.sot_holding.specs.Standing.{IsLast, AreLasts, last_of}
-use Rattle.sot_holding.proofs.stepping.step.Given as goal
+use Rattle.sot_monitor.specs.Holding.{Moment}
+use Rattle.sot_monitor.specs.Standing.{IsLast, AreLasts, last_of}
+use Rattle.sot_monitor.proofs.stepping.step.Given as goal
 
 -- the numbers of the parts before place i are those of one moment more, and the others are as before
 abbrev pub invariant-loop-i : goal.invariant-loop-i

@@ -2,7 +2,7 @@
 
 ghost use Rattle.std.specs.Prelude.{◌≡◌};
 ghost use Rattle.sot_formula.specs.declared.quantity.Quantity.{Quantity as Asked};
-ghost use Rattle.sot_holding.specs.Holding.{Moment};
+ghost use Rattle.sot_monitor.specs.Holding.{Moment};
 
 use sot_formula::Quantity;
 
