@@ -9,16 +9,13 @@ use Rattle.sot_lang.specs.declared.tables.TopicInfo.{TopicInfo}
 use Rattle.sot_lang.specs.Tables.{Tables}
 use Rattle.sot_lang.specs.TableRules.{MeetsTableRules}
 
-is_below : ℕ → ℕ → ℕ
-unfolding is_below
+abbrev is_below : ℕ → ℕ → ℕ
 is_below a n = cond (nat_lt a n) 1 0
 
 below_is : (a n : ℕ) → a < n → is_below a n ≡ 1
-unfolding is_below
 below_is a n lt = (let e : nat_lt a n ≡ true = grind (arith, nat_tests) in ap (λ (b : Bool). cond b 1 0) e)
 
 above_is : (a n : ℕ) → n ≤ a → is_below a n ≡ 0
-unfolding is_below
 above_is a n le = (let e : nat_lt a n ≡ false = grind (arith, nat_tests) in ap (λ (b : Bool). cond b 1 0) e)
 
 one_more : (a m n : ℕ) → m ≤ n → is_below a m ≤ is_below a n

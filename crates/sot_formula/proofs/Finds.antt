@@ -1,5 +1,5 @@
 -- What is found is what is named.
-use Rattle.std.proofs.Common.{◌≡◌, ℕ, zero, suc, ◌+◌, ◌-◌, ◌≤◌, ◌<◌, ◌×◌, Bool, true, false, List, [], ◌∷◌, Some, None, Option, length, take, drop, inl, inr, ⊎_elim, refl, sym, ap, subst, ◌∙◌, arith}
+use Rattle.std.proofs.Common.{◌≡◌, ℕ, zero, suc, ◌+◌, ◌-◌, ◌≤◌, ◌<◌, Bool, true, false, List, [], ◌∷◌, Some, None, Option, length, take, drop, ◌⊎◌, inl, inr, ⊎_elim, refl, sym, ap, subst, ◌∙◌, arith}
 use Rattle.std.specs.Prelude.{slice_get}
 use Rattle.std.specs.List.{position}
 use Rattle.std.specs.Option.{option_map_or, option_map, option_and_then}
@@ -137,7 +137,7 @@ module _ (p : Tables) (rules : MeetsTableRules p) where
       ))))
 
   pub plain_finds : (word : List ℕ) (k scale : ℕ) → IsPlain p word k scale → plain_named p word ≡ Some (record { of = quantities.Scalar k; scale = scale })
-  unfolding (plain_named, found_with)
+  unfolding plain_named found_with
   plain_finds word k scale i =
       let range = in_range k i.info i.topic i.is i.topic_is in
       let one : i.topic.count ≡ 1 = (rules.scalars k i.info i.is).plain i.topic i.topic_is i.plain in
@@ -151,7 +151,7 @@ module _ (p : Tables) (rules : MeetsTableRules p) where
       ∙ ap (λ s. Some (found_with (quantities.Scalar k) s)) (sym i.scale_is)
 
   pub field_found : (word f : List ℕ) (x : Found) → field_named p word f ≡ Some x → (k : ℕ) × IsField p word f k x.scale × (x.of ≡ quantities.Scalar k)
-  unfolding (field_named, field_in)
+  unfolding field_named field_in
   field_found word f x e =
       option_and_then_some _ (place_of (λ (y : TopicInfo). y.name) p.topics word) x e (λ t is next.
       option_and_then_some (λ (y : TopicInfo). field_in p.scalars y.first y.count f) (slice_get p.topics t) x next (λ topic at own.
@@ -178,7 +178,7 @@ module _ (p : Tables) (rules : MeetsTableRules p) where
       ))))
 
   pub field_finds : (word f : List ℕ) (k scale : ℕ) → IsField p word f k scale → field_named p word f ≡ Some (record { of = quantities.Scalar k; scale = scale })
-  unfolding (field_named, field_in, found_with)
+  unfolding field_named field_in found_with
   field_finds word f k scale i =
       let range = in_range k i.info i.topic i.is i.topic_is in
       let n = k - i.topic.first in
@@ -201,7 +201,7 @@ module _ (p : Tables) (rules : MeetsTableRules p) where
       ∙ ap (λ s. Some (found_with (quantities.Scalar k) s)) (sym i.scale_is)
 
   pub variable_found : (word f : List ℕ) (x : Found) → variable_named p word f ≡ Some x → (k v : ℕ) × IsVariable p word f k v x.scale × (x.of ≡ quantities.State k v)
-  unfolding (variable_named, variable_in)
+  unfolding variable_named variable_in
   variable_found word f x e =
       option_and_then_some _ (place_of (λ (y : PlantInfo). y.name) p.plants word) x e (λ k is next.
       option_and_then_some (λ (y : PlantInfo). variable_in y.states.items k f) (slice_get p.plants k) x next (λ plant at own.
@@ -227,7 +227,7 @@ module _ (p : Tables) (rules : MeetsTableRules p) where
       ))))
 
   pub variable_finds : (word f : List ℕ) (k v scale : ℕ) → IsVariable p word f k v scale → variable_named p word f ≡ Some (record { of = quantities.State k v; scale = scale })
-  unfolding (variable_named, variable_in, found_with)
+  unfolding variable_named variable_in found_with
   variable_finds word f k v scale i =
       let place = found (λ (y : StateInfo). bytes_eq y.name f) i.plant.states.items v i.state i.state_is (named_yes i.state.name f i.var_is)
       (λ j y at_y ok. i.first j y at_y (named_is y.name f ok)) in

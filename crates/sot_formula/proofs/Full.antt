@@ -7,10 +7,10 @@ use Rattle.sot_text.specs.Lexeme.{mantissa_of, decimals_of}
 use Rattle.sot_text.specs.Reading.{Lexeme}
 use Rattle.sot_lang.specs.Tables.{Tables}
 use Rattle.sot_expression.specs.Lexemes.{IsSign, IsName, IsNumber, begins, is_sign, is_name, is_number, literal, negative_literal}
-use Rattle.sot_expression.specs.Readers.{Read, ◌>>=◌, one_token, expect, number_at, negative_at, literal_at}
+use Rattle.sot_expression.specs.Readers.{Read, ◌>>=◌, stuck, one_token, expect, number_at, negative_at, literal_at}
 use Rattle.sot_expression.specs.Stream.{first_of}
 use Rattle.sot_expression.proofs.TokenTests.{sign_is, name_is, number_is}
-use Rattle.sot_expression.proofs.ReadSteps.{give}
+use Rattle.sot_expression.proofs.ReadSteps.{give, ok}
 use Rattle.sot_formula.specs.declared.quantity.Comparison.{Comparison}
 use Rattle.sot_formula.specs.declared.quantity.Comparison.TheVariants as comparisons
 use Rattle.sot_formula.specs.declared.what.What.TheVariants as whats
@@ -32,7 +32,7 @@ use Rattle.sot_formula.specs.Reading.{single_at, double_at, within_at, mode_at, 
 use Rattle.sot_formula.proofs.Laying.{found_of, or_less, by_of, lit_of, laid, signs, some_sign, truth_opens, not_opens, and_opens, or_opens, name_opens}
 
 one_read : {A : Type 0} (test : Lexeme → Bool) (view : Lexeme → A) (t : Lexeme) (ts : List Lexeme) → test t ≡ true → one_token test view (t ∷ ts) ≡ Ok (view t, ts)
-one_read test view t ts is = ap (λ b. cond b (Ok (view t, ts)) _) is
+one_read test view t ts is = ap (λ (b : Bool). cond b (ok (view t, ts)) (Err (stuck, t ∷ ts))) is
 
 sign_read : (w : List ℕ) (t : Lexeme) (ts : List Lexeme) → is_sign w t ≡ true → expect (is_sign w) (t ∷ ts) ≡ Ok (t.at, ts)
 sign_read w t ts is = one_read (is_sign w) (λ u. u.at) t ts is
@@ -64,7 +64,7 @@ literal_read (a_negative minus n) ts is =
 
 comparison_full : (found : Option Found) (s : Laid) (by : Lexeme) (z : Literal) (ts : List Lexeme) → IsComparing by → IsLiteral z
     → comparison_at found s (by ∷ literal_spelled z ts) ≡ Ok (compared found (by_of by) (lit_of z) s, ts)
-unfolding (comparison_at, comparing_at)
+unfolding comparison_at comparing_at
 comparison_full found s by z ts is lit =
     let c = some_sign by is in
     let sign = signs c.0 by c.1 in
@@ -85,7 +85,7 @@ ticks_pass n is = ap₂ (λ a b. a && b) zero_is few_is
 ticks_read : (n : Lexeme) (ts : List Lexeme) → AreTicks n → ticks_at (n ∷ ts) ≡ Ok (ticks_of (literal n), ts)
 unfolding ticks_at
 ticks_read n ts is =
-    give (number_read n ts is.number) _ (Ok (ticks_of (literal n), ts)) (ap (λ b. cond b (Ok (ticks_of (literal n), ts)) _) (ticks_pass n is))
+    give (number_read n ts is.number) _ (Ok (ticks_of (literal n), ts)) (ap (λ (b : Bool). cond b (ok (ticks_of (literal n), ts)) (Err (stuck, ts))) (ticks_pass n is))
 
 -- a sign of a comparison begins neither a call nor a field
 no_call : (by : Lexeme) (c : Comparison) → IsSign (sign_text c) by → is_sign (codes "(") by ≡ false
@@ -142,7 +142,7 @@ module _ (p : Tables) (r : ℕ) (inner : Reader) (each : EachPhrase p r inner) w
   -- a word and a parenthesis
   word_opens : (w begin : Lexeme) (s : Laid) (ts : List Lexeme) (y : Read Laid) → IsName w → IsSign (codes "(") begin → called_at p inner (word_of w.text) s (begin ∷ ts) ≡ y
       → opened_at p inner (opening_of w) s (w ∷ begin ∷ ts) ≡ y
-  unfolding (opened_at, behind_name_at)
+  unfolding opened_at behind_name_at
   word_opens w begin s ts y name b e =
       ap (λ o. opened_at p inner o s (w ∷ begin ∷ ts)) (name_opens w name)
       ∙ give (name_read w (begin ∷ ts) name) _ y
@@ -150,7 +150,7 @@ module _ (p : Tables) (r : ℕ) (inner : Reader) (each : EachPhrase p r inner) w
 
   mode_full : (w begin n end by : Lexeme) (z : Literal) (s : Laid) (us : List Lexeme) → IsReference (a_mode w begin n end) → IsComparing by → IsLiteral z
       → opened_at p inner (opening_of w) s (w ∷ begin ∷ n ∷ end ∷ by ∷ literal_spelled z us) ≡ Ok (compared (module_named p n.text) (by_of by) (lit_of z) s, us)
-  unfolding (called_at, mode_compared_at, mode_at)
+  unfolding called_at mode_compared_at mode_at
   mode_full w begin n end by z s us is c l =
       let y : Read Laid = Ok (compared (module_named p n.text) (by_of by) (lit_of z) s, us) in
       let ts : List Lexeme = by ∷ literal_spelled z us in
@@ -164,7 +164,7 @@ module _ (p : Tables) (r : ℕ) (inner : Reader) (each : EachPhrase p r inner) w
 
   plain_full : (n by : Lexeme) (z : Literal) (s : Laid) (us : List Lexeme) → IsName n → IsComparing by → IsLiteral z
       → opened_at p inner (opening_of n) s (n ∷ by ∷ literal_spelled z us) ≡ Ok (compared (plain_named p n.text) (by_of by) (lit_of z) s, us)
-  unfolding (opened_at, behind_name_at, named_at)
+  unfolding opened_at behind_name_at named_at
   plain_full n by z s us name c l =
       let sign = some_sign by c in
       let y : Read Laid = Ok (compared (plain_named p n.text) (by_of by) (lit_of z) s, us) in
@@ -177,7 +177,7 @@ module _ (p : Tables) (r : ℕ) (inner : Reader) (each : EachPhrase p r inner) w
 
   field_full : (n dot f by : Lexeme) (z : Literal) (s : Laid) (us : List Lexeme) → IsReference (a_field n dot f) → IsComparing by → IsLiteral z
       → opened_at p inner (opening_of n) s (n ∷ dot ∷ f ∷ by ∷ literal_spelled z us) ≡ Ok (compared (part_named p n.text f.text) (by_of by) (lit_of z) s, us)
-  unfolding (opened_at, behind_name_at, named_at, part_at)
+  unfolding opened_at behind_name_at named_at part_at
   field_full n dot f by z s us is c l =
       let y : Read Laid = Ok (compared (part_named p n.text f.text) (by_of by) (lit_of z) s, us) in
       let ts : List Lexeme = by ∷ literal_spelled z us in
@@ -199,7 +199,7 @@ module _ (p : Tables) (r : ℕ) (inner : Reader) (each : EachPhrase p r inner) w
 
   phrase_full : (f : Phrase) (s : Laid) (us : List Lexeme) → IsPhrase f → levels_of f ≤ suc r
       → opened_at p inner (opening_from (first_of (spelled f us))) s (spelled f us) ≡ Ok (laid p f s, us)
-  unfolding (opened_at, called_at)
+  unfolding opened_at called_at
   phrase_full (a_truth value t) s us is low = ap (λ o. opened_at p inner o s (t ∷ us)) (truth_opens value t is)
   phrase_full (a_single singles.Not w begin f end) s us is low =
       ap (λ o. opened_at p inner o s (w ∷ begin ∷ spelled f (end ∷ us))) (not_opens w is.0)

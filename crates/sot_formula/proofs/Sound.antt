@@ -211,7 +211,7 @@ module _ (p : Tables) (r : ℕ) (inner : Reader) (only : OnlyPhrases p r inner) 
 
   -- a comparison of a mode
   mode_sound : (w : Lexeme) (s : Laid) (ts : List Lexeme) (x : Got) → IsWord (codes "mode") w → mode_compared_at p s ts ≡ Ok x → IsLaidBy p (suc r) s (w ∷ ts) x
-  unfolding (mode_compared_at, mode_at)
+  unfolding mode_compared_at mode_at
   mode_sound w s ts x word e =
       let a = bind_ok (mode_at p ts) _ x e in
       let b = bind_ok (expect (is_sign (codes "(")) ts) _ a.0 a.1 in
@@ -233,7 +233,7 @@ module _ (p : Tables) (r : ℕ) (inner : Reader) (only : OnlyPhrases p r inner) 
 
   -- a comparison of what a name names
   named_sound : (n : Lexeme) (s : Laid) (ts : List Lexeme) (x : Got) → IsName n → named_at p n s ts ≡ Ok x → IsLaidBy p (suc r) s (n ∷ ts) x
-  unfolding (named_at, part_at)
+  unfolding named_at part_at
   named_sound n s ts x name e =
       chosen_by (begins (is_sign (codes ".")) ts) (part_at p n ts >>= λ r. comparison_at r.0 s r.1) (comparison_at (plain_named p n.text) s ts) x _ e
       (λ point read.

@@ -1,5 +1,6 @@
 -- What a whole text spells.
 use Rattle.std.proofs.Common.{◌≡◌, ℕ, ◌≤◌, ◌<◌, ◌-◌, List, [], ◌∷◌, Bool, true, false, Option, Some, None, Result, Ok, Err, length, inl, inr, ⊎_elim, refl, sym, ap, subst, ◌∙◌, arith}
+use Rattle.std.specs.Prelude.{IfOk, IfErr}
 use Rattle.std.proofs.lemmas.Bool.{false≢true}
 use Rattle.std.proofs.lemmas.Option.{none-some}
 use Rattle.sot_text.specs.declared.token.LexFault.{LexFault}
@@ -18,8 +19,8 @@ use Rattle.sot_formula.specs.Phrases.{Phrase, IsPhrase, IsFormulaText, spelled, 
 use Rattle.sot_formula.specs.Meanings.{Means, HasUnknown, HasOtherScale}
 use Rattle.sot_formula.specs.Parts.{IsPart, ArePlaced, AreThere}
 use Rattle.sot_formula.specs.Reading.{Laid, none_laid, place, formula_at}
-use Rattle.sot_formula.specs.Answers.{IsRead, IsNoFormula, IsUnknown, IsOfOtherScale, Refuses, ReadsAs, CausesExclude, CausesExcludeEachOther}
-use Rattle.sot_formula.specs.Judging.{is_ended, IsAllRead, RefusesAll, ReadsAll, RefusesParts, Judges}
+use Rattle.sot_formula.specs.Answers.{IsRead, IsNoFormula, IsUnknown, IsOfOtherScale, Refuses, CausesExclude, CausesExcludeEachOther}
+use Rattle.sot_formula.specs.Judging.{is_ended, IsAllRead, RefusesAll, RefusesParts}
 use Rattle.sot_formula.proofs.Laying.{laid}
 use Rattle.sot_formula.proofs.Sound.{sound}
 use Rattle.sot_formula.proofs.Full.{full}
@@ -121,6 +122,18 @@ module _ (p : Tables) (rules : MeetsTableRules p) (bytes : List ℕ) (short : le
         known = λ h. false≢true (sym known ∙ ap (λ (x : Laid). x.unknown) t.2 ∙ unknown_kept p rules t.0 none_laid h);
         differs = ⊎_elim (λ no'. absurd (false≢true no')) (λ h. h) (differs_set p rules t.0 none_laid (ap (λ (x : Laid). x.differs) (sym t.2) ∙ e));
       }
+
+  pub ok_reads : {V : Type 0} (items : V → List What) (s : Laid) (r : Result V MonitorFail) → IsAllRead p bytes s
+      → IfOk r (λ v. (s.unknown ≡ false) × (s.differs ≡ false) × (items v ≡ s.whats)) → IfOk r (λ v. IsRead p bytes (items v))
+  ok_reads items s (Ok v) read h = judged_reads s (items v) read h.0 h.1 h.2
+  ok_reads items s (Err e) read h = tt
+
+  pub err_refuses : {V : Type 0} (s : Laid) (r : Result V MonitorFail) → IsAllRead p bytes s → IfErr r (λ fail. RefusesParts s fail) → IfErr r (λ fail. Refuses p bytes fail)
+  err_refuses s (Ok v) read h = tt
+  err_refuses s (Err fails.Form) read h = absurd h
+  err_refuses s (Err fails.Unknown) read h = judged_unknown s read h
+  err_refuses s (Err fails.ScaleDiffers) read h = judged_other s read h.0 h.1
+  err_refuses s (Err fails.Memory) read h = absurd h
 
 -- the causes exclude each other
 pub causes_exclude : CausesExcludeEachOther

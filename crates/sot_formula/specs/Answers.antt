@@ -1,5 +1,5 @@
 -- What `read` answers.
-use Rattle.std.specs.Prelude.{ℕ, ◌-◌, List, Result, Ok, Err, length}
+use Rattle.std.specs.Prelude.{ℕ, ◌-◌, List, length}
 use Rattle.sot_lang.specs.Tables.{Tables}
 use Rattle.sot_lang.specs.TableRules.{MeetsTableRules}
 use Rattle.sot_formula.specs.declared.fail.MonitorFail.{MonitorFail}
@@ -38,16 +38,12 @@ pub record IsOfOtherScale (p : Tables) (bytes : List ℕ) : Type 0 where
   pub known : HasUnknown p phrase → ⊥
   pub differs : HasOtherScale p phrase
 
+-- why there is none; that the causes exclude each other is a law
 abbrev pub Refuses : Tables → List ℕ → MonitorFail → Type 0
 Refuses p bytes fails.Form = IsNoFormula bytes
 Refuses p bytes fails.Unknown = IsUnknown p bytes
 Refuses p bytes fails.ScaleDiffers = IsOfOtherScale p bytes
 Refuses p bytes fails.Memory = Unit {0}
-
--- each cause comes where its words hold; that they exclude each other is a law of its own
-abbrev pub ReadsAs : Tables → List ℕ → Result (_) MonitorFail → Type 0
-ReadsAs p bytes (Ok v) = IsRead p bytes v.items
-ReadsAs p bytes (Err fail) = Refuses p bytes fail
 
 -- where some formula of the text has a meaning, no formula of the text has an unknown reference or
 -- a literal of another scale; and where one has an unknown reference, all have

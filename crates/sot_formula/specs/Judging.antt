@@ -1,12 +1,9 @@
 -- What was read of a whole text.
-use Rattle.std.specs.Prelude.{◌≡◌, ℕ, Bool, true, false, List, [], ◌∷◌, Option, None, Some, Result}
-use Rattle.std.specs.Prelude.{Ok, Err}
+use Rattle.std.specs.Prelude.{◌≡◌, ℕ, Bool, true, false, List, [], ◌∷◌, Option, None, Some, Ok}
 use Rattle.sot_text.specs.Ahead.{Ahead, ahead_from}
 use Rattle.sot_lang.specs.Tables.{Tables}
 use Rattle.sot_formula.specs.declared.fail.MonitorFail.{MonitorFail}
 use Rattle.sot_formula.specs.declared.fail.MonitorFail.TheVariants as fails
-use Rattle.sot_formula.specs.declared.laid.Laid.{Laid as Code}
-use Rattle.sot_formula.specs.LaidView.{laid_in}
 use Rattle.sot_formula.specs.Reading.{Laid, none_laid, formula_at}
 use Rattle.sot_formula.specs.Answers.{IsNoFormula}
 
@@ -30,17 +27,9 @@ RefusesAll bytes fails.Memory = Unit {0}
 RefusesAll bytes fails.Unknown = ⊥
 RefusesAll bytes fails.ScaleDiffers = ⊥
 
-abbrev pub ReadsAll : Tables → List ℕ → Result Laid MonitorFail → Type 0
-ReadsAll p bytes (Ok s) = IsAllRead p bytes s
-ReadsAll p bytes (Err fail) = RefusesAll bytes fail
-
 -- the first cause of two flags
 abbrev pub RefusesParts : Laid → MonitorFail → Type 0
 RefusesParts s fails.Unknown = s.unknown ≡ true
 RefusesParts s fails.ScaleDiffers = (s.unknown ≡ false) × (s.differs ≡ true)
 RefusesParts s fails.Form = ⊥
 RefusesParts s fails.Memory = ⊥
-
-abbrev pub Judges : Laid → Result (_) MonitorFail → Type 0
-Judges s (Ok v) = (s.unknown ≡ false) × (s.differs ≡ false) × (v.items ≡ s.whats)
-Judges s (Err fail) = RefusesParts s fail

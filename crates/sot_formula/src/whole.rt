@@ -1,8 +1,8 @@
 //! Formulas from texts.
 
-ghost use Rattle.std.specs.Prelude.{◌≡◌, ◌≤◌, length};
-ghost use Rattle.sot_formula.specs.Answers.{ReadsAs};
-ghost use Rattle.sot_formula.specs.Judging.{is_ended, ReadsAll, Judges};
+ghost use Rattle.std.specs.Prelude.{◌≡◌, ◌≤◌, false, length, IfOk, IfErr};
+ghost use Rattle.sot_formula.specs.Answers.{IsRead, Refuses};
+ghost use Rattle.sot_formula.specs.Judging.{is_ended, IsAllRead, RefusesAll, RefusesParts};
 
 use crate::fail::MonitorFail;
 use crate::laid::Laid;
@@ -30,7 +30,8 @@ fn is_ended(tokens: &Tokens<'_>) -> bool
 #[tactic(auto, using(crate::proofs::Texts::all_read, crate::proofs::Texts::not_ended, crate::proofs::Texts::none_read))]
 fn all(alloc: Global, p: &Typed, bytes: &[u8]) -> Result<Laid, MonitorFail>
     requires { length bytes.now ≤ 16777216 }
-    ensures { ReadsAll p.now bytes.now result }
+    ensures ok { IfOk result (λ s. IsAllRead p.now bytes.now s) }
+    ensures err { IfErr result (λ fail. RefusesAll bytes.now fail) }
 {
     let mut tokens = Tokens::new(Lexer::new(bytes));
     match formula(p, &mut tokens, Laid::none(alloc), LEVELS) {
@@ -42,13 +43,16 @@ fn all(alloc: Global, p: &Typed, bytes: &[u8]) -> Result<Laid, MonitorFail>
             }
         }
         Err(Fail::Memory) => Err(MonitorFail::Memory),
-        Err(_) => Err(MonitorFail::Form),
+        Err(Fail::Token) => Err(MonitorFail::Form),
+        Err(Fail::Deep) => Err(MonitorFail::Form),
     }
 }
 
 // The parts, if each reference names something and each literal has its scale.
 fn judged(laid: Laid) -> Result<Vec<What>, MonitorFail>
-    ensures { Judges laid result }
+    ensures ok { IfOk result (λ v. (laid.unknown ≡ false) × (laid.differs ≡ false)
+        × (v.items ≡ laid.whats)) }
+    ensures err { IfErr result (λ fail. RefusesParts laid fail) }
 {
     if laid.unknown {
         return Err(MonitorFail::Unknown);
@@ -68,7 +72,8 @@ fn judged(laid: Laid) -> Result<Vec<What>, MonitorFail>
 /// nothing, else `ScaleDiffers` where some literal has another scale than what is named; `Memory`
 /// where there is none.
 pub fn read(alloc: Global, p: &Typed, bytes: &[u8]) -> Result<Vec<What>, MonitorFail>
-    ensures { ReadsAs p.now bytes.now result }
+    ensures ok { IfOk result (λ v. IsRead p.now bytes.now v.items) }
+    ensures err { IfErr result (λ fail. Refuses p.now bytes.now fail) }
 {
     // A look at a field brings what the type keeps.
     let _modules = &p.modules;

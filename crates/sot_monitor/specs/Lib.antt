@@ -3,6 +3,5 @@ pub mod Holding
 -- what a monitor stands for
 pub mod Tracked
 pub mod Tracking
-pub mod Made
 -- what is kept of a formula over moments
 pub mod Standing

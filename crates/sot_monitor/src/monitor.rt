@@ -1,14 +1,14 @@
 //! Monitors.
 
 ghost use Rattle.std.specs.Prelude.{◌≡◌, ℕ, ℤ, List, ◌++◌, ◌∷◌, [], ◌+◌, ◌≤◌, ◌<◌, length, IsTrue};
-ghost use Rattle.std.specs.Prelude.{◌↔◌, IfOk, replicate};
+ghost use Rattle.std.specs.Prelude.{◌↔◌, IfOk, IfErr, replicate};
 ghost use Rattle.sot_lists.specs.Places.{At};
 ghost use Rattle.sot_formula.specs.declared.what.What.TheVariants.{Compared as IsCompared};
 ghost use Rattle.sot_formula.specs.Formulas.{Formula};
 ghost use Rattle.sot_formula.specs.Parts.{ArePlaced};
+ghost use Rattle.sot_formula.specs.Answers.{Refuses};
 ghost use Rattle.sot_monitor.specs.Holding.{Moment, Holds};
-ghost use Rattle.sot_monitor.specs.Tracking.{StandsFor, new_of};
-ghost use Rattle.sot_monitor.specs.Made.{Makes};
+ghost use Rattle.sot_monitor.specs.Tracking.{StandsFor, IsNewOf, new_of};
 
 use crate::looks::Looks;
 use crate::stepping::step;
@@ -66,7 +66,8 @@ impl Monitor {
     /// names nothing, else `ScaleDiffers` where some literal has another scale than what is named;
     /// `Memory` where there is none.
     pub fn read(alloc: Global, p: &Typed, bytes: &[u8]) -> Result<Monitor, MonitorFail>
-        ensures { Makes p.now bytes.now result }
+        ensures ok { IfOk result (λ m. IsNewOf p.now bytes.now m) }
+        ensures err { IfErr result (λ fail. Refuses p.now bytes.now fail) }
     {
         match read(alloc, p, bytes) {
             Ok(whats) => match fresh(alloc, whats) {

@@ -1,0 +1,3 @@
+-- what formulas see of a flight
+pub mod Moments
+pub mod Verdicts
