@@ -1,4 +1,4 @@
--- A moment more changes nothing before it.
+-- Moments more change nothing before them.
 use Rattle.std.proofs.Common.{◌≡◌, ℕ, zero, suc, ◌+◌, ◌<◌, ◌≤◌, ◌↔◌, ◌⊎◌, inl, inr, ⊎_elim, List, [], ◌∷◌, ◌++◌, Some, length, refl, sym, ◌∙◌, subst, arith}
 use Rattle.sot_lists.specs.Places.{At}
 use Rattle.sot_formula.specs.Formulas.{Formula, Truth, Compared, Not, And, Or, Once, Since, Within}
@@ -17,10 +17,10 @@ pub length_end : {A : Type 0} (xs : List A) (x : A) → length (xs ++ x ∷ []) 
 length_end [] x = refl
 length_end (y ∷ xs) x = (let e = length_end xs x in omega (arith, e))
 
-module _ (Ms : List Moment) (s : Moment) where
-  pub before : (f : Formula) (i : ℕ) → i < length Ms → Holds (Ms ++ s ∷ []) f i ↔ Holds Ms f i
+module _ (Ms more : List Moment) where
+  pub before : (f : Formula) (i : ℕ) → i < length Ms → Holds (Ms ++ more) f i ↔ Holds Ms f i
   before (Truth value) i lt = (λ h. h, λ h. h)
-  before (Compared of by number) i lt = (λ h. (h.0, (at_front Ms (s ∷ []) i h.0 lt).0 h.1, h.2), λ h. (h.0, (at_front Ms (s ∷ []) i h.0 lt).1 h.1, h.2))
+  before (Compared of by number) i lt = (λ h. (h.0, (at_front Ms more i h.0 lt).0 h.1, h.2), λ h. (h.0, (at_front Ms more i h.0 lt).1 h.1, h.2))
   before (Not f) i lt = (λ h x. h ((before f i lt).1 x), λ h x. h ((before f i lt).0 x))
   before (And f g) i lt = (λ h. ((before f i lt).0 h.0, (before g i lt).0 h.1), λ h. ((before f i lt).1 h.0, (before g i lt).1 h.1))
   before (Or f g) i lt =

@@ -47,12 +47,12 @@ module _ (Ms : List Moment) (s : Moment) where
 
   pub kept : (f : Formula) (l : ℕ) → IsLast Ms f l → (Holds more f n → ⊥) → IsLast more f l
   kept f zero last none' = λ j lt h. ⊎_elim
-      (λ (early : j < n). last j early ((before Ms s f j early).0 h))
+      (λ (early : j < n). last j early ((before Ms (s ∷ []) f j early).0 h))
       (λ (late : n ≤ j). let e = length_end Ms s in let same : j ≡ n = omega (arith, late, lt, e) in none' (subst (Holds more f) same h))
       (later j n)
   kept f (suc l) last none' =
-      (let e = length_end Ms s in omega (arith, last.0, e), (before Ms s f l last.0).1 last.1, λ j after lt h. ⊎_elim
-      (λ (early : j < n). last.2 j after early ((before Ms s f j early).0 h))
+      (let e = length_end Ms s in omega (arith, last.0, e), (before Ms (s ∷ []) f l last.0).1 last.1, λ j after lt h. ⊎_elim
+      (λ (early : j < n). last.2 j after early ((before Ms (s ∷ []) f j early).0 h))
       (λ (late : n ≤ j). let e = length_end Ms s in let same : j ≡ n = omega (arith, late, lt, e) in none' (subst (Holds more f) same h))
       (later j n))
 
@@ -78,9 +78,9 @@ module _ (Ms : List Moment) (s : Moment) where
         by_number zero last is = absurd (omega (arith, is.0))
         by_number (suc m) last is =
             let h = last.1 in
-            (h.0, omega (arith, h.1, is.1), (before Ms s g h.0 (omega (arith, h.1, last.0))).1 h.2, λ k after le. ⊎_elim
+            (h.0, omega (arith, h.1, is.1), (before Ms (s ∷ []) g h.0 (omega (arith, h.1, last.0))).1 h.2, λ k after le. ⊎_elim
             (λ (lt : m < k). let same : n ≡ k = omega (arith, lt, le, is.1) in subst (Holds more f) same now)
-            (λ (ge : k ≤ m). (before Ms s f k (omega (arith, ge, last.0))).1 (h.3 k after ge))
+            (λ (ge : k ≤ m). (before Ms (s ∷ []) f k (omega (arith, ge, last.0))).1 (h.3 k after ge))
             (later m k))
 
     since_now : (f g : Formula) (lf lg : ℕ) → IsLast Ms (Since f g) own → IsLast more f lf → IsLast more g lg → ((lg ≡ suc n) ⊎ ((lf ≡ suc n) × (0 < own) × (own ≡ n))) ↔ Holds more (Since f g) n
@@ -107,7 +107,7 @@ module _ (Ms : List Moment) (s : Moment) where
             earlier : (k : ℕ) → k ≡ n → h.0 < k → (lg ≡ suc n) ⊎ ((lf ≡ suc n) × (0 < own) × (own ≡ n))
             earlier zero e lt = absurd (omega (arith, lt))
             earlier (suc m) e lt =
-                let there : Holds Ms (Since f g) m = (h.0, omega (arith, lt), (before Ms s g h.0 (omega (arith, lt, e))).0 h.2, λ k after le. (before Ms s f k (omega (arith, le, e))).0 (h.3 k after (omega (arith, le, e)))) in
+                let there : Holds Ms (Since f g) m = (h.0, omega (arith, lt), (before Ms (s ∷ []) g h.0 (omega (arith, lt, e))).0 h.2, λ k after le. (before Ms (s ∷ []) f k (omega (arith, le, e))).0 (h.3 k after (omega (arith, le, e)))) in
                 inr ((now_is f lf last_f).0 (h.3 n (omega (arith, lt, e)) (omega arith)), (own_is m own (sym e) last there).0, (own_is m own (sym e) last there).1)
 
     -- a part holds now where its parts' numbers say so

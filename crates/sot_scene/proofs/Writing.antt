@@ -15,7 +15,8 @@ pub states_from : (plants : List PlantInfo) (i : ℕ) (plant : PlantInfo) → At
 states_from plants i plant at = ap state_count (drop_at plants i plant at)
 
 head_of : {A : Type 0} (d : A) (xs : List A) (k : ℕ) (y : A) (ys : List A) → drop k xs ≡ y ∷ ys → (slice_index_or xs k d ≡ y) × (drop (suc k) xs ≡ ys)
-head_of d [] k y ys e = absurd cc
+head_of d [] zero y ys e = cc
+head_of d [] (suc k) y ys e = cc
 head_of d (x ∷ xs) zero y ys e = (cc, cc)
 head_of d (x ∷ xs) (suc k) y ys e = head_of d xs k y ys e
 

@@ -7,7 +7,10 @@ use Rattle.sot_world.specs.Configurations.{Configuration}
 use Rattle.sot_world.specs.Steps.{Event, Input, Code, Guest, Decide, Tick}
 use Rattle.sot_world.specs.HistoryEntry.{Logged}
 use Rattle.sot_law_flights.specs.Laws.{IsRunOf}
-use Rattle.sot_scene.specs.Scenes.{Scene, scene_of, opening, scene_after, moments}
+use Rattle.sot_world.specs.Opens.{AreStarts}
+use Rattle.sot_trace.specs.Fitting.{FitsEntry}
+use Rattle.sot_scene.specs.Scenes.{Scene, scene_of, opening, after, scene_after, moments}
+use Rattle.sot_scene.specs.Scenes.{IsSceneOf}
 
 -- moment i of a run: the configuration just before the tick at time i, and the last one
 abbrev pub moments_of : Configuration → List Event → List Configuration → List Configuration
@@ -28,3 +31,9 @@ ScenesAreTheRuns =
     → ((i : ℕ) (D : Configuration) → At (run.C ∷ run.Ds) i D
     → scene_of D ≡ scene_after p (opening p start) (take i entries))
     × (map scene_of (moments_of run.C run.events run.Ds) ≡ moments p (opening p start) entries)
+
+-- an opening is a scene of the program, and stays one by each entry that fits
+abbrev pub ScenesKeepTheirSizes : Type 0
+ScenesKeepTheirSizes =
+    (p : Tables) → ((start : List (List ℤ)) → AreStarts p start → IsSceneOf p (opening p start))
+    × ((e : Logged) (s : Scene) → FitsEntry p e → IsSceneOf p s → IsSceneOf p (after p e s))

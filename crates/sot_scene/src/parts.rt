@@ -1,10 +1,10 @@
 //! The parts of a scene, and what entries write into them.
 
-ghost use Rattle.std.specs.Prelude.{◌≡◌, ℕ, ◌+◌, ◌<◌, ◌≤◌, length, map, IfOk};
+ghost use Rattle.std.specs.Prelude.{◌≡◌, ℕ, ◌+◌, ◌<◌, ◌≤◌, ◌&&◌, int_le, length, map, IfOk};
 ghost use Rattle.sot_lists.specs.Places.{At};
 ghost use Rattle.sot_lang.specs.declared.tables.PlantInfo.{PlantInfo};
 ghost use Rattle.sot_lang.specs.Ranges.{range_of};
-ghost use Rattle.sot_world.specs.Configurations.{Sc};
+ghost use Rattle.sot_world.specs.declared.mode.Mode.TheVariants.{Sc};
 ghost use Rattle.sot_world.specs.Changes.{put_drafted};
 ghost use Rattle.sot_world.specs.Steps as steps;
 ghost use Rattle.sot_board.specs.Counts.{state_count};
@@ -58,6 +58,12 @@ fn put_slot(infos: &[ScalarInfo], k: usize, slot: Option<i64>, scalars: &mut [i6
     }
 }
 
+fn is_in(lo: i64, hi: i64, z: i64) -> bool
+    ensures { result ≡ (int_le lo z && int_le z hi) }
+{
+    lo <= z && z <= hi
+}
+
 // A number in its scalar's range replaces the scalar's.
 fn put(infos: &[ScalarInfo], k: usize, z: i64, scalars: &mut [i64])
     requires info { k < length infos.now }
@@ -65,7 +71,7 @@ fn put(infos: &[ScalarInfo], k: usize, z: i64, scalars: &mut [i64])
     ensures { scalars.new ≡ steps.put (range_of infos.now k) k z scalars.old }
 {
     let info = &infos[k];
-    if info.lo <= z && z <= info.hi {
+    if is_in(info.lo, info.hi, z) {
         scalars[k] = z;
     }
 }

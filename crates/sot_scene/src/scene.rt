@@ -1,7 +1,7 @@
 //! Scenes along a history.
 
 ghost use Rattle.std.specs.Prelude.{◌≡◌, ◌<◌, length, [], pos, slice_index_or, IfOk};
-ghost use Rattle.sot_world.specs.Configurations.{Sc};
+ghost use Rattle.sot_world.specs.declared.mode.Mode.TheVariants.{Sc};
 ghost use Rattle.sot_world.specs.Histories.{entry_of};
 ghost use Rattle.sot_trace.specs.Fitting.{FitsEntry};
 ghost use Rattle.sot_scene.specs.Scenes.{opening, after, IsSceneOf};

@@ -1,5 +1,5 @@
 use Rattle.std.proofs.Common.{◌≡◌, map, take}
-use Rattle.sot_world.specs.Configurations.{Sc}
+use Rattle.sot_world.specs.declared.mode.Mode.TheVariants.{Sc}
 use Rattle.sot_scene.proofs.parts.safe_modes.Given as goal
 
 abbrev pub invariant-loop-info : goal.invariant-loop-info
