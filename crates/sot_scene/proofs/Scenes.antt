@@ -25,7 +25,7 @@ use Rattle.sot_scene.specs.Scenes.{Scene, scene_of, opening, after, scene_after,
 use Rattle.sot_scene.specs.Laws.{moments_of, ScenesAreTheRuns}
 use Rattle.sot_scene.proofs.Widths.{moved_width, points_back}
 
-same_scene : (s t : Scene) → s.modes ≡ t.modes → s.scalars ≡ t.scalars → s.points ≡ t.points → s ≡ t
+pub same_scene : (s t : Scene) → s.modes ≡ t.modes → s.scalars ≡ t.scalars → s.points ≡ t.points → s ≡ t
 same_scene s t a b c = ap (λ (x : List Mode). scene x s.scalars s.points) a ∙ ap (λ (x : List ℤ). scene t.modes x s.points) b ∙ ap (λ (x : List (List ℤ)). scene t.modes t.scalars x) c
   where
     scene : List Mode → List ℤ → List (List ℤ) → Scene
