@@ -1,6 +1,7 @@
 -- What a monitor stands for, at first and after a step.
 use Rattle.std.proofs.Common.{◌≡◌, ℕ, zero, suc, ◌+◌, ◌-◌, ◌<◌, ◌≤◌, ◌↔◌, List, [], ◌∷◌, ◌++◌, length, replicate, refl, sym, ap, subst, ◌∙◌, arith}
-use Rattle.std.specs.Prelude.{slice_index_or}
+use Rattle.std.specs.Prelude.{IsTrue, nat_eq}
+use Rattle.std.proofs.lemmas.Bool.Decides.{nat_tests}
 use Rattle.sot_formula.specs.declared.what.What.{What}
 use Rattle.sot_formula.specs.Formulas.{Formula}
 use Rattle.sot_formula.specs.Parts.{IsPart}
@@ -10,7 +11,7 @@ use Rattle.sot_monitor.specs.Tracked.{Tracked}
 use Rattle.sot_monitor.specs.Tracking.{StandsFor, new_of}
 use Rattle.sot_monitor.proofs.Now.{now_is, part_inside}
 
-zero_there : (n i : ℕ) → slice_index_or (replicate n 0) i 0 ≡ 0
+zero_there : (n i : ℕ) → last_of (replicate n 0) i ≡ 0
 zero_there zero i = refl
 zero_there (suc n) zero = refl
 zero_there (suc n) (suc i) = zero_there n i
@@ -47,3 +48,14 @@ module _ (m n : Tracked) (s : Moment) (whats : n.whats ≡ m.whats) (added : n.a
       let is = now_is Ms s f last (steps Ms (sym old.added) old.lasts (length m.whats - 1) f old.whole) in
       let same : n.added ≡ suc (length Ms) = (let e = old.added in omega (arith, added, e)) in
       (λ e. is.1 (e ∙ same), λ h. is.0 h ∙ sym same)
+
+-- a step over equal lists
+pub moved_steps : (ws vs : List What) (as bs new : List ℕ) (k n : ℕ) (s : Moment) → ws ≡ vs → olds ≡ now' → k ≡ n → StepsOn ws olds new k s → StepsOn vs now' new n s
+moved_steps ws vs olds now' new k n s a b e steps =
+    subst (λ i. StepsOn vs now' new i s) e (subst (λ xs. StepsOn vs xs new k s) b (subst (λ us. StepsOn us olds new k s) a steps))
+
+pub eq_yes : (a b : ℕ) → IsTrue (nat_eq a b) → a ≡ b
+eq_yes a b e = grind (arith, nat_tests)
+
+pub eq_is : (a b : ℕ) → a ≡ b → IsTrue (nat_eq a b)
+eq_is a b e = grind (arith, nat_tests)
