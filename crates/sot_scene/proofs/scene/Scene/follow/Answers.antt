@@ -1,5 +1,6 @@
 use Rattle.std.proofs.Common.{◌≡◌, ◌∙◌, ◌+◌, ◌<◌, ◌≤◌, length, refl, sym, ap, ap₂, subst, arith}
 use Rattle.std.specs.Option.{option_map_or}
+use Rattle.std.proofs.lemmas.List.{with_items_is}
 use Rattle.std.proofs.lemmas.Option.{slice_get_within}
 use Rattle.sot_lists.proofs.Places.{at_same, read_at}
 use Rattle.sot_lang.specs.declared.tables.TopicInfo.{TopicInfo}
@@ -35,6 +36,7 @@ returns-in-Input c =
     let at = read_at _ _ c.in-Input.topic _ (ap (λ (t : Tables). t.topics) c.p.view_is) below c.index.ensures in
     let first = ap (λ o. option_map_or (λ (x : TopicInfo). x.first) o 0) at in
     let scalars = c.deref_mut.ensures.value ∙ ap (λ (s : Scene). s.scalars) c.self.view_is in
+    let put = with_items_is c.self.inside.scalars c.write.new.scalars (omega (arith, c.write.auto.scalars, c.deref_mut.ensures.len)) in
     same_scene _ (after p (InputAt c.in-Input.time c.in-Input.topic c.in-Input.value.now) c.args.self.now) (ap (λ (s : Scene). s.modes) c.self.view_is)
-    (c.write.ensures ∙ ap₂ (λ k xs. write_at k c.in-Input.value.now xs) (sym first) scalars) (ap (λ (s : Scene). s.points) c.self.view_is)
+    (put ∙ c.write.ensures ∙ ap₂ (λ k xs. write_at k c.in-Input.value.now xs) (sym first) scalars) (ap (λ (s : Scene). s.points) c.self.view_is)
     ∙ ap (λ e. after p (entry_of e) c.args.self.now) (sym c.in-Input.is)
