@@ -1,14 +1,12 @@
 -- Why a text has no meaning.
-use Rattle.std.proofs.Common.{◌≡◌, ◌≢◌, ℕ, zero, suc, ◌+◌, ◌-◌, ◌≤◌, ◌<◌, ◌==◌, ◌||◌, not, List, [], ◌∷◌, ◌++◌, Bool, true, false, length, Option, Some, None, Ok, inl, inr, ⊎_elim, ◌⊎◌}
-use Rattle.std.proofs.Common.{refl, sym, ap, ap₂, subst, ◌∙◌, arith}
-use Rattle.std.proofs.lemmas.Bool.{false≢true, cases_Bool}
+use Rattle.std.proofs.Common.{◌≡◌, ◌≢◌, ℕ, ◌≤◌, ◌<◌, ◌==◌, ◌||◌, not, Bool, true, false, length, Option, Some, None, inl, inr, ⊎_elim, ◌⊎◌}
+use Rattle.std.proofs.Common.{refl, sym, ap, subst, ◌∙◌, arith}
+use Rattle.std.proofs.lemmas.Bool.{false≢true}
 use Rattle.std.proofs.lemmas.Option.{none-some, same_Some}
-use Rattle.sot_lists.specs.Places.{At}
-use Rattle.sot_text.specs.Reading.{Lexeme}
 use Rattle.sot_lang.specs.Tables.{Tables}
 use Rattle.sot_lang.specs.TableRules.{MeetsTableRules}
 use Rattle.sot_tree.specs.declared.tree.Lit.{Lit}
-use Rattle.sot_expression.specs.Lexemes.{IsSign, literal}
+use Rattle.sot_expression.specs.Lexemes.{literal}
 use Rattle.sot_formula.specs.declared.quantity.Quantity.{Quantity}
 use Rattle.sot_formula.specs.declared.quantity.Comparison.{Comparison}
 use Rattle.sot_formula.specs.declared.what.What.{What}
@@ -18,14 +16,14 @@ use Rattle.sot_formula.specs.declared.words.Single.TheVariants as singles
 use Rattle.sot_formula.specs.declared.words.Double.{Double}
 use Rattle.sot_formula.specs.declared.words.Double.TheVariants as doubles
 use Rattle.sot_formula.specs.declared.finding.Found.{Found}
-use Rattle.sot_formula.specs.Formulas.{Formula, Compared}
-use Rattle.sot_formula.specs.Phrases.{Reference, Literal, Phrase, a_truth, a_single, a_double, a_within, a_comparison, IsPhrase, AreTicks}
-use Rattle.sot_formula.specs.Meanings.{Names, NamesNothing, mantissa, decimals, sign_text, IsCompared, Means, HasUnknown, HasOtherScale}
+use Rattle.sot_formula.specs.Formulas.{Formula}
+use Rattle.sot_formula.specs.Phrases.{Reference, Literal, Phrase, a_truth, a_single, a_double, a_within, a_comparison, IsPhrase}
+use Rattle.sot_formula.specs.Meanings.{Names, NamesNothing, decimals, Means, HasUnknown, HasOtherScale}
 use Rattle.sot_formula.specs.Parts.{IsPlaced, ArePlaced, IsThere, AreThere}
-use Rattle.sot_formula.specs.Words.{comparing_of, single_what, double_what}
+use Rattle.sot_formula.specs.Words.{single_what, double_what}
 use Rattle.sot_formula.specs.Reading.{Laid, place, put, compared, ticks_of}
 use Rattle.sot_formula.proofs.Laying.{found_of, by_of, lit_of, laid}
-use Rattle.sot_formula.proofs.Meant.{at_either, length_last, extends, found_names, names_found, names_there, or_true, differs_true, differs_is, lit_number}
+use Rattle.sot_formula.proofs.Meant.{at_either, extends, found_names, names_found, names_there, or_true, differs_true, differs_is, lit_number}
 
 or_left : (a b : Bool) → a ≡ true → (a || b) ≡ true
 or_left true b e = refl

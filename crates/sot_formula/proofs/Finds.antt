@@ -1,10 +1,10 @@
 -- What is found is what is named.
-use Rattle.std.proofs.Common.{◌≡◌, ℕ, zero, suc, ◌+◌, ◌-◌, ◌≤◌, ◌<◌, Bool, true, false, List, [], ◌∷◌, Some, None, Option, length, take, drop, ◌⊎◌, inl, inr, ⊎_elim, refl, sym, ap, subst, ◌∙◌, arith}
+use Rattle.std.proofs.Common.{◌≡◌, ℕ, zero, suc, ◌+◌, ◌-◌, ◌≤◌, ◌<◌, true, false, List, [], ◌∷◌, Some, None, Option, take, drop, ◌⊎◌, inl, inr, ⊎_elim, refl, sym, ap, subst, ◌∙◌, arith}
 use Rattle.std.specs.Prelude.{slice_get}
 use Rattle.std.specs.List.{position}
 use Rattle.std.specs.Option.{option_map_or, option_map, option_and_then}
 use Rattle.std.specs.Str.{bytes_eq}
-use Rattle.std.proofs.lemmas.Option.{none-some, same_Some, option_and_then_some, slice_get_within}
+use Rattle.std.proofs.lemmas.Option.{none-some, same_Some, option_and_then_some}
 use Rattle.std.proofs.lemmas.Slice.Eq.{bytes_eq-Decides}
 use Rattle.sot_lists.specs.Places.{At}
 use Rattle.sot_lists.proofs.Places.{at_same}
@@ -15,7 +15,6 @@ use Rattle.sot_lang.specs.declared.tables.StateInfo.{StateInfo}
 use Rattle.sot_lang.specs.declared.tables.ModuleInfo.{ModuleInfo}
 use Rattle.sot_lang.specs.Tables.{Tables}
 use Rattle.sot_lang.specs.TableRules.{MeetsTableRules}
-use Rattle.sot_lang.proofs.Topics.{topic_inside}
 use Rattle.sot_formula.specs.declared.quantity.Quantity.{Quantity}
 use Rattle.sot_formula.specs.declared.quantity.Quantity.TheVariants as quantities
 use Rattle.sot_formula.specs.declared.finding.Found.{Found}
@@ -52,6 +51,7 @@ at_slice xs from count i x at = (dropped xs from i (taken (drop from xs) count i
     taken (y ∷ ys) zero k at = absurd (none-some x at)
     taken (y ∷ ys) (suc n) zero at = (at, omega arith)
     taken (y ∷ ys) (suc n) (suc k) at = (let r = taken ys n k at in (r.0, omega (arith, r.1)))
+
     dropped : (ys : List _) (n k : ℕ) → At (drop n ys) k x → At ys (n + k) x
     dropped ys zero k at = (let same : k ≡ 0 + k = omega arith in subst (λ m. At ys m x) same at)
     dropped [] (suc n) k at = absurd (none-some x at)
@@ -68,6 +68,7 @@ slice_at xs from count i x at lt = taken (drop from xs) count i (dropped xs from
     taken (y ∷ ys) zero k at lt = absurd (omega (arith, lt))
     taken (y ∷ ys) (suc n) zero at lt = at
     taken (y ∷ ys) (suc n) (suc k) at lt = taken ys n k at (omega (arith, lt))
+
     dropped : (ys : List _) (n k : ℕ) → At ys (n + k) x → At (drop n ys) k x
     dropped ys zero k at = (let same : 0 + k ≡ k = omega arith in subst (λ m. At ys m x) same at)
     dropped [] (suc n) k at = absurd (none-some x at)

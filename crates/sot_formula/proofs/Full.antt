@@ -1,12 +1,12 @@
 -- Each phrase is read.
-use Rattle.std.proofs.Common.{◌≡◌, ℕ, zero, suc, ◌+◌, ◌≤◌, ◌&&◌, ◌==◌, max, cond, List, [], ◌∷◌, Bool, true, false, pos, codes, Option, Some, None, Ok, Err, refl, sym, ap, ap₂, subst, ◌∙◌, arith}
+use Rattle.std.proofs.Common.{◌≡◌, ℕ, zero, suc, ◌≤◌, ◌&&◌, ◌==◌, cond, List, ◌∷◌, Bool, true, false, pos, codes, Option, Ok, Err, refl, sym, ap, ap₂, ◌∙◌, arith}
 use Rattle.std.specs.Prelude.{int_le}
 use Rattle.std.proofs.lemmas.Int.{clamps}
 use Rattle.std.proofs.lemmas.Bool.Decides.{nat_tests}
 use Rattle.sot_text.specs.Lexeme.{mantissa_of, decimals_of}
 use Rattle.sot_text.specs.Reading.{Lexeme}
 use Rattle.sot_lang.specs.Tables.{Tables}
-use Rattle.sot_expression.specs.Lexemes.{IsSign, IsName, IsNumber, begins, is_sign, is_name, is_number, literal, negative_literal}
+use Rattle.sot_expression.specs.Lexemes.{IsSign, IsName, IsNumber, is_sign, is_name, is_number, literal, negative_literal}
 use Rattle.sot_expression.specs.Readers.{Read, ◌>>=◌, stuck, one_token, expect, number_at, negative_at, literal_at}
 use Rattle.sot_expression.specs.Stream.{first_of}
 use Rattle.sot_expression.proofs.TokenTests.{sign_is, name_is, number_is}
@@ -19,17 +19,14 @@ use Rattle.sot_formula.specs.declared.words.Single.{Single}
 use Rattle.sot_formula.specs.declared.words.Single.TheVariants as singles
 use Rattle.sot_formula.specs.declared.words.Double.{Double}
 use Rattle.sot_formula.specs.declared.words.Double.TheVariants as doubles
-use Rattle.sot_formula.specs.declared.words.Opening.{Opening}
-use Rattle.sot_formula.specs.declared.words.Opening.TheVariants as openings
-use Rattle.sot_formula.specs.declared.words.Word.TheVariants as words
 use Rattle.sot_formula.specs.declared.finding.Found.{Found}
 use Rattle.sot_formula.specs.Phrases.{Reference, a_mode, a_name, a_field, Literal, a_number, a_negative, Phrase, a_truth, a_single, a_double, a_within, a_comparison}
-use Rattle.sot_formula.specs.Phrases.{literal_spelled, spelled, IsWord, IsSingle, IsDouble, IsReference, IsLiteral, IsComparing, AreTicks, IsPhrase, levels_of}
-use Rattle.sot_formula.specs.Words.{comparing_of, opening_of, opening_from, word_of, single_what, double_what}
+use Rattle.sot_formula.specs.Phrases.{literal_spelled, spelled, IsReference, IsLiteral, IsComparing, AreTicks, IsPhrase, levels_of}
+use Rattle.sot_formula.specs.Words.{opening_of, opening_from, word_of, single_what, double_what}
 use Rattle.sot_formula.specs.Finding.{plain_named, part_named, module_named}
 use Rattle.sot_formula.specs.Reading.{Laid, place, put, compared, Reader, name_token, any_token, found_or_stuck, comparing_at, comparison_at, ticks_of, are_ticks, ticks_at}
 use Rattle.sot_formula.specs.Reading.{single_at, double_at, within_at, mode_at, mode_compared_at, part_at, named_at, called_at, behind_name_at, opened_at, formula_at}
-use Rattle.sot_formula.proofs.Laying.{found_of, or_less, by_of, lit_of, laid, signs, some_sign, truth_opens, not_opens, and_opens, or_opens, name_opens}
+use Rattle.sot_formula.proofs.Laying.{or_less, by_of, lit_of, laid, signs, some_sign, truth_opens, not_opens, and_opens, or_opens, name_opens}
 
 one_read : {A : Type 0} (test : Lexeme → Bool) (view : Lexeme → A) (t : Lexeme) (ts : List Lexeme) → test t ≡ true → one_token test view (t ∷ ts) ≡ Ok (view t, ts)
 one_read test view t ts is = ap (λ (b : Bool). cond b (ok (view t, ts)) (Err (stuck, t ∷ ts))) is
@@ -79,6 +76,7 @@ ticks_pass n is = ap₂ (λ a b. a && b) zero_is few_is
   where
     zero_is : (decimals_of n.text == 0) ≡ true
     zero_is = (let e = is.whole in grind (arith, nat_tests))
+
     few_is : int_le (pos (mantissa_of n.text)) (pos 100000) ≡ true
     few_is = (let e = is.few in grind (arith, nat_tests))
 

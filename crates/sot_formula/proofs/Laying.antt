@@ -1,5 +1,5 @@
 -- The parts of a phrase, and the tests on its tokens.
-use Rattle.std.proofs.Common.{◌≡◌, ℕ, ◌≤◌, cond, List, [], ◌∷◌, Bool, true, false, codes, Option, Some, None, inl, inr, refl, sym, ap, subst, ◌∙◌}
+use Rattle.std.proofs.Common.{◌≡◌, ℕ, cond, List, Bool, true, false, codes, Option, Some, None, inl, inr, refl, ap, subst}
 use Rattle.std.specs.Str.{bytes_eq}
 use Rattle.std.proofs.lemmas.Slice.Eq.{bytes_eq-Decides}
 use Rattle.sot_text.specs.Reading.{Lexeme}
@@ -10,9 +10,7 @@ use Rattle.sot_expression.proofs.TokenTests.{sign_ok, keyword_ok, name_ok, sign_
 use Rattle.sot_formula.specs.declared.quantity.Comparison.{Comparison}
 use Rattle.sot_formula.specs.declared.quantity.Comparison.TheVariants as comparisons
 use Rattle.sot_formula.specs.declared.what.What.TheVariants as whats
-use Rattle.sot_formula.specs.declared.words.Single.{Single}
 use Rattle.sot_formula.specs.declared.words.Single.TheVariants as singles
-use Rattle.sot_formula.specs.declared.words.Double.{Double}
 use Rattle.sot_formula.specs.declared.words.Double.TheVariants as doubles
 use Rattle.sot_formula.specs.declared.words.Opening.{Opening}
 use Rattle.sot_formula.specs.declared.words.Opening.TheVariants as openings
@@ -20,7 +18,7 @@ use Rattle.sot_formula.specs.declared.words.Word.{Word}
 use Rattle.sot_formula.specs.declared.words.Word.TheVariants as words
 use Rattle.sot_formula.specs.declared.finding.Found.{Found}
 use Rattle.sot_formula.specs.Phrases.{Reference, a_mode, a_name, a_field, Literal, a_number, a_negative, Phrase, a_truth, a_single, a_double, a_within, a_comparison}
-use Rattle.sot_formula.specs.Phrases.{IsWord, IsSingle, IsDouble, IsTruth, IsComparing}
+use Rattle.sot_formula.specs.Phrases.{IsSingle, IsDouble, IsTruth, IsComparing}
 use Rattle.sot_formula.specs.Meanings.{sign_text}
 use Rattle.sot_formula.specs.Words.{comparing_of, opening_of, word_of, single_what, double_what}
 use Rattle.sot_formula.specs.Finding.{plain_named, part_named, module_named}

@@ -1,19 +1,17 @@
 -- What the parts of a phrase mean.
-use Rattle.std.proofs.Common.{◌≡◌, ◌≢◌, ℕ, zero, suc, ◌+◌, ◌-◌, ◌≤◌, ◌<◌, ◌==◌, ◌||◌, not, List, [], ◌∷◌, ◌++◌, Bool, true, false, length, Option, Some, None, inl, inr, ⊎_elim, ◌⊎◌}
-use Rattle.std.proofs.Common.{refl, sym, ap, ap₂, subst, ◌∙◌, arith, append_assoc, length-append}
+use Rattle.std.proofs.Common.{◌≡◌, ◌≢◌, ℕ, zero, suc, ◌-◌, ◌<◌, ◌==◌, ◌||◌, not, List, [], ◌∷◌, ◌++◌, Bool, true, false, length, Option, Some, None, inl, inr, ⊎_elim, ◌⊎◌}
+use Rattle.std.proofs.Common.{refl, sym, ap, ap₂, subst, ◌∙◌, arith, append_assoc}
 use Rattle.std.proofs.lemmas.Bool.{false≢true, cases_eq}
 use Rattle.std.proofs.lemmas.Bool.Decides.{nat_tests}
 use Rattle.std.proofs.lemmas.Option.{none-some, same_Some, slice_get_within}
 use Rattle.sot_lists.specs.Places.{At}
-use Rattle.sot_lists.proofs.Places.{at_same}
-use Rattle.sot_text.specs.Lexeme.{mantissa_of, decimals_of}
+use Rattle.sot_text.specs.Lexeme.{mantissa_of}
 use Rattle.sot_text.specs.Reading.{Lexeme}
 use Rattle.sot_lang.specs.Tables.{Tables}
 use Rattle.sot_lang.specs.TableRules.{MeetsTableRules}
 use Rattle.sot_tree.specs.declared.tree.Lit.{Lit}
-use Rattle.sot_expression.specs.Lexemes.{IsSign, literal}
+use Rattle.sot_expression.specs.Lexemes.{literal}
 use Rattle.sot_formula.specs.declared.quantity.Quantity.{Quantity}
-use Rattle.sot_formula.specs.declared.quantity.Quantity.TheVariants as quantities
 use Rattle.sot_formula.specs.declared.quantity.Comparison.{Comparison}
 use Rattle.sot_formula.specs.declared.what.What.{What}
 use Rattle.sot_formula.specs.declared.what.What.TheVariants as whats
@@ -21,10 +19,9 @@ use Rattle.sot_formula.specs.declared.words.Single.TheVariants as singles
 use Rattle.sot_formula.specs.declared.words.Double.TheVariants as doubles
 use Rattle.sot_formula.specs.declared.finding.Found.{Found}
 use Rattle.sot_formula.specs.Formulas.{Formula, Truth, Compared, Not, And, Or, Once, Since, Within}
-use Rattle.sot_formula.specs.Phrases.{Reference, a_mode, a_name, a_field, Literal, a_number, a_negative, Phrase, a_truth, a_single, a_double, a_within, a_comparison, IsPhrase, AreTicks}
-use Rattle.sot_formula.specs.Meanings.{Names, NamesNothing, mantissa, decimals, sign_text, IsCompared, Means, HasUnknown, HasOtherScale}
-use Rattle.sot_formula.specs.Parts.{IsPart, IsPlaced, ArePlaced, IsThere, AreThere}
-use Rattle.sot_formula.specs.Words.{comparing_of, single_what, double_what}
+use Rattle.sot_formula.specs.Phrases.{Reference, a_mode, a_name, a_field, Literal, a_number, a_negative, Phrase, a_truth, a_single, a_double, a_within, a_comparison, IsPhrase}
+use Rattle.sot_formula.specs.Meanings.{Names, mantissa, decimals, IsCompared, Means}
+use Rattle.sot_formula.specs.Parts.{IsPart, IsThere}
 use Rattle.sot_formula.specs.Reading.{Laid, place, put, compared, ticks_of}
 use Rattle.sot_formula.proofs.Names.{at_front}
 use Rattle.sot_formula.proofs.Finds.{plain_found, plain_finds, part_found, part_finds_field, part_finds_variable, module_found, module_finds}

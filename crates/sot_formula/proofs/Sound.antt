@@ -1,5 +1,5 @@
 -- What is read is a phrase, and leaves its parts.
-use Rattle.std.proofs.Common.{◌≡◌, ℕ, zero, suc, ◌+◌, ◌≤◌, ◌&&◌, ◌==◌, max, cond, List, [], ◌∷◌, Bool, true, false, pos, codes, Option, Some, None, Ok, Err, refl, sym, ap, ap₂, subst, ◌∙◌, arith}
+use Rattle.std.proofs.Common.{◌≡◌, ℕ, zero, suc, ◌≤◌, ◌&&◌, ◌==◌, List, [], ◌∷◌, Bool, true, false, pos, codes, Option, Some, None, Ok, refl, sym, ap, ap₂, subst, ◌∙◌, arith}
 use Rattle.std.specs.Prelude.{int_le}
 use Rattle.std.proofs.lemmas.Int.{clamps}
 use Rattle.std.proofs.lemmas.Bool.Decides.{nat_tests}
@@ -7,29 +7,27 @@ use Rattle.sot_text.specs.Lexeme.{mantissa_of, decimals_of}
 use Rattle.sot_text.specs.Reading.{Lexeme}
 use Rattle.sot_lang.specs.Tables.{Tables}
 use Rattle.sot_tree.specs.declared.tree.Lit.{Lit}
-use Rattle.sot_expression.specs.Lexemes.{IsSign, IsName, IsNumber, begins, is_sign, is_name, literal, negative_literal}
-use Rattle.sot_expression.specs.Readers.{Read, ◌>>=◌, one_token, expect, number_at, negative_at, literal_at}
+use Rattle.sot_expression.specs.Lexemes.{IsSign, IsName, begins, is_sign, is_name, literal}
+use Rattle.sot_expression.specs.Readers.{◌>>=◌, expect, number_at, negative_at, literal_at}
 use Rattle.sot_expression.specs.Stream.{first_of}
 use Rattle.sot_expression.proofs.TokenTests.{sign_ok, name_ok}
 use Rattle.sot_expression.proofs.ReadSteps.{bind_ok, ok_is, guard_ok, chosen_by, one_token_ok, sign_taken, number_taken, negative_taken}
 use Rattle.sot_formula.specs.declared.quantity.Comparison.{Comparison}
 use Rattle.sot_formula.specs.declared.what.What.TheVariants as whats
 use Rattle.sot_formula.specs.declared.words.Single.{Single}
-use Rattle.sot_formula.specs.declared.words.Single.TheVariants as singles
 use Rattle.sot_formula.specs.declared.words.Double.{Double}
-use Rattle.sot_formula.specs.declared.words.Double.TheVariants as doubles
 use Rattle.sot_formula.specs.declared.words.Opening.{Opening}
 use Rattle.sot_formula.specs.declared.words.Opening.TheVariants as openings
 use Rattle.sot_formula.specs.declared.words.Word.{Word}
 use Rattle.sot_formula.specs.declared.words.Word.TheVariants as words
 use Rattle.sot_formula.specs.declared.finding.Found.{Found}
-use Rattle.sot_formula.specs.Phrases.{Reference, a_mode, a_name, a_field, Literal, a_number, a_negative, Phrase, a_truth, a_single, a_double, a_within, a_comparison}
-use Rattle.sot_formula.specs.Phrases.{literal_spelled, reference_spelled, spelled, IsWord, IsSingle, IsDouble, IsReference, IsLiteral, IsComparing, AreTicks, IsPhrase, levels_of}
+use Rattle.sot_formula.specs.Phrases.{a_mode, a_name, a_field, Literal, a_number, a_negative, Phrase, a_truth, a_single, a_double, a_within, a_comparison}
+use Rattle.sot_formula.specs.Phrases.{literal_spelled, spelled, IsWord, IsSingle, IsDouble, IsLiteral, IsComparing, AreTicks, IsPhrase, levels_of}
 use Rattle.sot_formula.specs.Words.{comparing_of, opening_of, opening_from, word_of, single_what, double_what}
 use Rattle.sot_formula.specs.Finding.{plain_named, part_named, module_named}
 use Rattle.sot_formula.specs.Reading.{Laid, place, put, compared, Reader, name_token, any_token, found_or_stuck, comparing_at, comparison_at, ticks_of, are_ticks, ticks_at}
 use Rattle.sot_formula.specs.Reading.{single_at, double_at, within_at, mode_at, mode_compared_at, part_at, named_at, called_at, behind_name_at, opened_at, formula_at}
-use Rattle.sot_formula.proofs.Laying.{found_of, or_less, by_of, lit_of, laid, IsOpened, opening_tells, IsWordOf, word_tells, signed, compares}
+use Rattle.sot_formula.proofs.Laying.{or_less, by_of, lit_of, laid, IsOpened, opening_tells, IsWordOf, word_tells, signed, compares}
 
 abbrev Got : Type 0
 Got = Laid × List Lexeme

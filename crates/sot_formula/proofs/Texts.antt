@@ -1,10 +1,10 @@
 -- What a whole text spells.
-use Rattle.std.proofs.Common.{◌≡◌, ℕ, ◌≤◌, ◌<◌, ◌-◌, List, [], ◌∷◌, Bool, true, false, Option, Some, None, Result, Ok, Err, length, inl, inr, ⊎_elim, refl, sym, ap, subst, ◌∙◌, arith}
+use Rattle.std.proofs.Common.{◌≡◌, ℕ, ◌≤◌, ◌<◌, ◌-◌, List, [], ◌∷◌, true, false, Option, Some, None, Result, Ok, Err, length, ⊎_elim, refl, sym, ap, subst, ◌∙◌, arith}
 use Rattle.std.specs.Prelude.{IfOk, IfErr}
 use Rattle.std.proofs.lemmas.Bool.{false≢true}
 use Rattle.std.proofs.lemmas.Option.{none-some}
 use Rattle.sot_text.specs.declared.token.LexFault.{LexFault}
-use Rattle.sot_text.specs.Reading.{Lexeme, AllLexes}
+use Rattle.sot_text.specs.Reading.{Lexeme}
 use Rattle.sot_text.specs.Ahead.{Ahead, Comes, ahead_from}
 use Rattle.sot_text.proofs.Aheads.{ahead_comes, comes_unique}
 use Rattle.sot_lang.specs.Tables.{Tables}
@@ -14,17 +14,15 @@ use Rattle.sot_expression.proofs.ReadSteps.{ok_is}
 use Rattle.sot_formula.specs.declared.fail.MonitorFail.{MonitorFail}
 use Rattle.sot_formula.specs.declared.fail.MonitorFail.TheVariants as fails
 use Rattle.sot_formula.specs.declared.what.What.{What}
-use Rattle.sot_formula.specs.Formulas.{Formula}
-use Rattle.sot_formula.specs.Phrases.{Phrase, IsPhrase, IsFormulaText, spelled, levels_of}
-use Rattle.sot_formula.specs.Meanings.{Means, HasUnknown, HasOtherScale}
+use Rattle.sot_formula.specs.Phrases.{Phrase, IsFormulaText, spelled}
 use Rattle.sot_formula.specs.Parts.{IsPart, ArePlaced, AreThere}
-use Rattle.sot_formula.specs.Reading.{Laid, none_laid, place, formula_at}
-use Rattle.sot_formula.specs.Answers.{IsRead, IsNoFormula, IsUnknown, IsOfOtherScale, Refuses, CausesExclude, CausesExcludeEachOther}
-use Rattle.sot_formula.specs.Judging.{is_ended, IsAllRead, RefusesAll, RefusesParts}
+use Rattle.sot_formula.specs.Reading.{Laid, none_laid, formula_at}
+use Rattle.sot_formula.specs.Answers.{IsRead, IsNoFormula, IsUnknown, IsOfOtherScale, Refuses, CausesExcludeEachOther}
+use Rattle.sot_formula.specs.Judging.{is_ended, IsAllRead, RefusesParts}
 use Rattle.sot_formula.proofs.Laying.{laid}
 use Rattle.sot_formula.proofs.Sound.{sound}
 use Rattle.sot_formula.proofs.Full.{full}
-use Rattle.sot_formula.proofs.Meant.{meant, IsMeant}
+use Rattle.sot_formula.proofs.Meant.{meant}
 use Rattle.sot_formula.proofs.Causes.{unknown_set, unknown_kept, differs_set, differs_kept, means_known, means_same, placed, there}
 
 -- the phrase that all of a text was read as

@@ -2,7 +2,7 @@
 -- nothing or some literal has another scale.
 use Rattle.std.specs.Prelude.{ℕ, zero, suc, ◌-◌, List, [], ◌∷◌, ◌++◌, Bool, true, false, ◌==◌, ◌||◌}
 use Rattle.std.specs.Prelude.{◌&&◌, not, int_le, pos, codes, Option, None, Some, Ok, Err, length}
-use Rattle.std.specs.Prelude.{if◌then◌else◌, ℤ, nat_abs}
+use Rattle.std.specs.Prelude.{if◌then◌else◌, nat_abs}
 use Rattle.sot_text.specs.Reading.{Lexeme}
 use Rattle.sot_lang.specs.Tables.{Tables}
 use Rattle.sot_tree.specs.declared.tree.Lit.{Lit}

@@ -1,5 +1,5 @@
 -- What the words of formulas are read as.
-use Rattle.std.specs.Prelude.{ℕ, List, ◌∷◌, [], Bool, true, false, Option, Some, None, codes}
+use Rattle.std.specs.Prelude.{ℕ, List, ◌∷◌, [], true, false, Option, Some, None, codes}
 use Rattle.std.specs.Str.{bytes_eq}
 use Rattle.sot_text.specs.Reading.{Lexeme}
 use Rattle.sot_expression.specs.Lexemes.{is_sign, is_keyword, is_name}

@@ -32,25 +32,33 @@ fn is_named(name: &[u8], word: &[u8]) -> bool
 fn topic_place(topics: &[TopicInfo], word: &[u8]) -> Option<usize>
     ensures { result ≡ place_of (λ (x : Topic). x.name) topics.now word.now }
 {
-    topics.iter().position(|x| is_named(x.name.as_bytes(), word))
+    topics
+        .iter()
+        .position(|x| is_named(x.name.as_bytes(), word))
 }
 
 fn plant_place(plants: &[PlantInfo], word: &[u8]) -> Option<usize>
     ensures { result ≡ place_of (λ (x : Plant). x.name) plants.now word.now }
 {
-    plants.iter().position(|x| is_named(x.name.as_bytes(), word))
+    plants
+        .iter()
+        .position(|x| is_named(x.name.as_bytes(), word))
 }
 
 fn variable_place(states: &[StateInfo], word: &[u8]) -> Option<usize>
     ensures { result ≡ place_of (λ (x : Variable). x.name) states.now word.now }
 {
-    states.iter().position(|x| is_named(x.name.as_bytes(), word))
+    states
+        .iter()
+        .position(|x| is_named(x.name.as_bytes(), word))
 }
 
 fn module_place(modules: &[ModuleInfo], word: &[u8]) -> Option<usize>
     ensures { result ≡ place_of (λ (x : Module). x.name) modules.now word.now }
 {
-    modules.iter().position(|x| is_named(x.name.as_bytes(), word))
+    modules
+        .iter()
+        .position(|x| is_named(x.name.as_bytes(), word))
 }
 
 fn is_field(info: &ScalarInfo, word: &[u8]) -> bool

@@ -286,12 +286,7 @@ fn opened(
 /// `Token` where no formula goes on with the next token, `Deep` where it would nest deeper,
 /// `Memory` where there is none.
 #[cycle(formula)]
-pub fn formula(
-    p: &Typed,
-    tokens: &mut Tokens<'_>,
-    laid: Laid,
-    room: u32,
-) -> Result<Laid, Fail>
+pub fn formula(p: &Typed, tokens: &mut Tokens<'_>, laid: Laid, room: u32) -> Result<Laid, Fail>
     ensures { Gives (λ s. s) result tokens.old tokens.new
         (formula_at p.now room laid tokens.old.tokens) }
 {

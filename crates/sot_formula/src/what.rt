@@ -13,12 +13,24 @@ pub enum What {
         number: i64,
     },
     Not(usize),
-    And { first: usize, second: usize },
-    Or { first: usize, second: usize },
+    And {
+        first: usize,
+        second: usize,
+    },
+    Or {
+        first: usize,
+        second: usize,
+    },
     /// It held at some moment so far.
     Once(usize),
     /// The second held at some moment so far, and the first at each moment since.
-    Since { first: usize, second: usize },
+    Since {
+        first: usize,
+        second: usize,
+    },
     /// It held at most so many ticks ago.
-    Within { ticks: u32, of: usize },
+    Within {
+        ticks: u32,
+        of: usize,
+    },
 }

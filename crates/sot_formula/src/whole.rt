@@ -14,6 +14,7 @@ use sot_text::Lexer;
 use std::alloc::Global;
 
 const MOST_BYTES: usize = 16777216;
+
 const LEVELS: u32 = 64;
 
 // The text ends where its tokens do.

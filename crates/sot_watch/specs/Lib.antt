@@ -1,3 +1,4 @@
 -- what formulas see of a flight
 pub mod Moments
 pub mod Verdicts
+pub mod Laws

@@ -4,8 +4,10 @@
 //! over a history, and answers the first moment at which the formula is false.
 #![tactic(auto)]
 
+mod laws;
 mod over;
 mod seen;
 
+pub use laws::moments_are_the_runs;
 pub use over::watch;
 pub use seen::{AtScene, AtWorld};

@@ -1,17 +1,11 @@
 //! A formula over a history.
 
-ghost use Rattle.std.specs.Prelude.{◌≡◌, ℕ, List, [], ◌≤◌, length, map, IfOk};
-ghost use Rattle.sot_lang.specs.TableRules.{MeetsTableRules};
-ghost use Rattle.sot_world.specs.Configurations.{Configuration};
+ghost use Rattle.std.specs.Prelude.{◌≡◌, [], ◌≤◌, length, IfOk};
 ghost use Rattle.sot_world.specs.Opens.{AreStarts};
 ghost use Rattle.sot_trace.specs.Fitting.{FitsHistory};
-ghost use Rattle.sot_law_flights.specs.Laws.{IsRunOf};
 ghost use Rattle.sot_formula.specs.Formulas.{Formula};
 ghost use Rattle.sot_formula.specs.Parts.{AreThere};
 ghost use Rattle.sot_monitor.specs.Tracking.{StandsFor};
-ghost use Rattle.sot_scene.specs.Scenes.{scene_of};
-ghost use Rattle.sot_scene.specs.Laws.{moments_of};
-ghost use Rattle.sot_watch.specs.Moments.{moment_of};
 ghost use Rattle.sot_watch.specs.Verdicts.{moments_told, IsVerdict};
 
 use crate::seen::AtScene;
@@ -38,11 +32,6 @@ pub fn watch(
     requires new { monitor.added ≡ 0 }
     ensures verdict { (x : Formula) → StandsFor monitor x [] → IfOk result (λ t.
         IsVerdict (moments_told acc.now.program start.now history.now.entries) x t) }
-    ensures runs { (jitter : ℕ) (Q : Configuration)
-        (run : IsRunOf acc.now.program jitter start.now history.now.entries Q)
-        → MeetsTableRules acc.now.program
-        → moments_told acc.now.program start.now history.now.entries
-        ≡ map (λ C. moment_of (scene_of C)) (moments_of run.C run.events run.Ds) }
 {
     let p = acc.typed();
     let mut scene = Scene::open(alloc, p, start)?;

@@ -21,6 +21,7 @@ fn mode_number(mode: Mode) -> i64
 }
 
 /// A world, as it is now.
+#[derive(Clone, Copy)]
 pub struct AtWorld<'w, 'a> {
     pub world: &'w World<'a>,
 }
@@ -41,6 +42,7 @@ impl<'w, 'a> Looks for AtWorld<'w, 'a> {
 }
 
 /// A scene of a program.
+#[derive(Clone, Copy)]
 pub struct AtScene<'s> {
     pub p: &'s Typed,
     pub scene: &'s Scene,

@@ -6,6 +6,7 @@ use std::alloc::Global;
 use std::process::Abort;
 
 // Each quantity has this number.
+#[derive(Clone, Copy)]
 struct Everywhere {
     number: i64,
 }

@@ -1,8 +1,6 @@
-use Rattle.std.proofs.Common.{◌≡◌, ◌-◌, ℕ, suc, refl, sym, ap, subst, ◌∙◌, arith}
+use Rattle.std.proofs.Common.{◌≡◌, ◌-◌, suc, refl, sym, ap, subst, ◌∙◌, arith}
 use Rattle.sot_expression.specs.Readers.{Read}
 use Rattle.sot_expression.specs.Returned.{Tells}
-use Rattle.sot_expression.specs.Stream.{first_of}
-use Rattle.sot_formula.specs.Words.{opening_from}
 use Rattle.sot_formula.specs.Reading.{Laid, opened_at, formula_at}
 use Rattle.sot_formula.proofs.reading.+formula.Goals as goal
 

@@ -1,4 +1,4 @@
-use Rattle.std.proofs.Common.{◌≡◌, refl, sym, ap, ap₂, subst, ◌∙◌}
+use Rattle.std.proofs.Common.{sym, ap, ap₂, subst, ◌∙◌}
 use Rattle.sot_text.specs.Ahead.{ahead_from}
 use Rattle.sot_formula.specs.Reading.{Laid, formula_at}
 use Rattle.sot_expression.specs.declared.fail.Fail.{Fail}

@@ -1,4 +1,4 @@
-use Rattle.std.proofs.Common.{◌≡◌, ◌≤◌, length, subst, arith}
+use Rattle.std.proofs.Common.{◌≤◌, length, subst, arith}
 use Rattle.sot_lang.specs.TableRules.{MeetsTableRules}
 use Rattle.sot_formula.proofs.Texts.{ok_reads, err_refuses}
 use Rattle.sot_formula.proofs.whole.read.Goals as goal
