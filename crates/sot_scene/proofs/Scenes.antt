@@ -1,6 +1,6 @@
 -- The scenes of a history are those of its run.
-use Rattle.std.proofs.Common.{◌≡◌, ℕ, zero, suc, ℤ, Bool, List, [], ◌∷◌, Option, Some, map, take, refl, sym, ap, ap₂, ◌∙◌, subst}
-use Rattle.std.specs.Prelude.{slice_index_or, slice_set}
+use Rattle.std.proofs.Common.{◌≡◌, ℕ, zero, suc, ℤ, Bool, List, [], ◌∷◌, Option, map, take, refl, sym, ap, ap₂, ◌∙◌, subst}
+use Rattle.std.specs.Prelude.{slice_index_or}
 use Rattle.std.specs.Option.{option_map_or}
 use Rattle.std.proofs.lemmas.Option.{same_Some, none-some}
 use Rattle.sot_lists.specs.Places.{At}
@@ -10,7 +10,7 @@ use Rattle.sot_lang.specs.TableRules.{MeetsTableRules}
 use Rattle.sot_lang.specs.Ticks.{joined}
 use Rattle.sot_code.specs.Recorded.{in_slots}
 use Rattle.sot_world.specs.declared.mode.Mode.{Mode}
-use Rattle.sot_world.specs.Configurations.{Configuration, IsOpening, mode_of, locals_of, point_of, commands, seen_points}
+use Rattle.sot_world.specs.Configurations.{Configuration, mode_of, locals_of, point_of, commands, seen_points}
 use Rattle.sot_world.specs.Steps.{Event, Input, Code, Guest, Decide, Tick, Step, Fires, published, write_at, is_enabled}
 use Rattle.sot_world.specs.Runs.{Run}
 use Rattle.sot_world.specs.Outcomes.{Recorded, NodeFired, ModuleDecided, Records}
@@ -18,10 +18,9 @@ use Rattle.sot_world.specs.HistoryEntry.{Logged, InputAt, FireAt, DecideAt, Tick
 use Rattle.sot_world.proofs.Parts.{published_padded}
 use Rattle.sot_world.proofs.Unique.{steps_are_unique}
 use Rattle.sot_trace.specs.Lines.{writes_of}
-use Rattle.sot_summary.specs.Outside.{points_in}
 use Rattle.sot_board.specs.Flown.{Tells}
-use Rattle.sot_law_flights.specs.Laws.{TellOf, IsRunOf}
-use Rattle.sot_scene.specs.Scenes.{Scene, scene_of, opening, after, scene_after, moments, first_of, scalars_after}
+use Rattle.sot_law_flights.specs.Laws.{TellOf}
+use Rattle.sot_scene.specs.Scenes.{Scene, scene_of, opening, after, scene_after, moments, first_of}
 use Rattle.sot_scene.specs.Laws.{moments_of, ScenesAreTheRuns}
 use Rattle.sot_scene.proofs.Widths.{moved_width, points_back}
 

@@ -1,5 +1,5 @@
 -- A scene of a program stays one.
-use Rattle.std.proofs.Common.{◌≡◌, ◌∙◌, ℕ, zero, suc, ◌+◌, ◌≤◌, ◌<◌, ◌&&◌, cond, ℤ, Bool, true, false, List, [], ◌∷◌, Option, Some, None, length, map, take, drop, refl, sym, ap, subst, arith}
+use Rattle.std.proofs.Common.{◌≡◌, ◌∙◌, ℕ, suc, ◌≤◌, ◌&&◌, cond, ℤ, Bool, true, false, List, [], ◌∷◌, Option, Some, None, length, take, drop, refl, ap, arith}
 use Rattle.std.specs.Prelude.{slice_index_or, slice_set, int_le}
 use Rattle.std.proofs.lemmas.List.{length-map, length-set, length-drop, length-take-le}
 use Rattle.sot_lists.specs.Places.{At}
