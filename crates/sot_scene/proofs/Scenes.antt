@@ -100,6 +100,7 @@ module _ (p : Tables) (j : ℕ) (rules : MeetsTableRules p) where
 pub scenes_are_the_runs : ScenesAreTheRuns
 scenes_are_the_runs p jitter start entries Q run rules =
     let o = run.opening in
-    let is : scene_of run.C ≡ opening p start = same_scene (scene_of run.C) (opening p start) o.modes o.scalars o.points in
-    (λ i D at. at_place p jitter rules run.C run.events run.Ds entries (opening p start) run.run run.told is i D at,
-    moments_are p jitter rules run.C run.events run.Ds entries (opening p start) run.run run.told is)
+    let is : scene_of run.C ≡ opening p start = same_scene (scene_of run.C) (opening p start) o.modes o.scalars o.points in (
+      λ i D at. at_place p jitter rules run.C run.events run.Ds entries (opening p start) run.run run.told is i D at,
+      moments_are p jitter rules run.C run.events run.Ds entries (opening p start) run.run run.told is,
+    )
