@@ -1,5 +1,5 @@
 -- Moments more change nothing before them.
-use Rattle.std.proofs.Common.{◌≡◌, ℕ, zero, suc, ◌+◌, ◌<◌, ◌≤◌, ◌↔◌, ◌⊎◌, inl, inr, ⊎_elim, List, [], ◌∷◌, ◌++◌, Some, length, refl, sym, ◌∙◌, subst, arith}
+use Rattle.std.proofs.Common.{◌≡◌, ℕ, zero, suc, ◌<◌, ◌↔◌, inl, inr, ⊎_elim, List, [], ◌∷◌, ◌++◌, length, refl, arith}
 use Rattle.sot_lists.specs.Places.{At}
 use Rattle.sot_formula.specs.Formulas.{Formula, Truth, Compared, Not, And, Or, Once, Since, Within}
 use Rattle.sot_monitor.specs.Holding.{Moment, Holds}
@@ -23,12 +23,14 @@ module _ (Ms more : List Moment) where
   before (Compared of by number) i lt = (λ h. (h.0, (at_front Ms more i h.0 lt).0 h.1, h.2), λ h. (h.0, (at_front Ms more i h.0 lt).1 h.1, h.2))
   before (Not f) i lt = (λ h x. h ((before f i lt).1 x), λ h x. h ((before f i lt).0 x))
   before (And f g) i lt = (λ h. ((before f i lt).0 h.0, (before g i lt).0 h.1), λ h. ((before f i lt).1 h.0, (before g i lt).1 h.1))
-  before (Or f g) i lt =
-      (λ h. ⊎_elim (λ a. inl ((before f i lt).0 a)) (λ b. inr ((before g i lt).0 b)) h,
-      λ h. ⊎_elim (λ a. inl ((before f i lt).1 a)) (λ b. inr ((before g i lt).1 b)) h)
+  before (Or f g) i lt = (
+    λ h. ⊎_elim (λ a. inl ((before f i lt).0 a)) (λ b. inr ((before g i lt).0 b)) h,
+    λ h. ⊎_elim (λ a. inl ((before f i lt).1 a)) (λ b. inr ((before g i lt).1 b)) h,
+  )
   before (Once f) i lt = (λ h. (h.0, h.1, (before f h.0 (omega (arith, lt, h.1))).0 h.2), λ h. (h.0, h.1, (before f h.0 (omega (arith, lt, h.1))).1 h.2))
-  before (Since f g) i lt =
-      (λ h. (h.0, h.1, (before g h.0 (omega (arith, lt, h.1))).0 h.2, λ k after le. (before f k (omega (arith, lt, le))).0 (h.3 k after le)),
-      λ h. (h.0, h.1, (before g h.0 (omega (arith, lt, h.1))).1 h.2, λ k after le. (before f k (omega (arith, lt, le))).1 (h.3 k after le)))
+  before (Since f g) i lt = (
+    λ h. (h.0, h.1, (before g h.0 (omega (arith, lt, h.1))).0 h.2, λ k after le. (before f k (omega (arith, lt, le))).0 (h.3 k after le)),
+    λ h. (h.0, h.1, (before g h.0 (omega (arith, lt, h.1))).1 h.2, λ k after le. (before f k (omega (arith, lt, le))).1 (h.3 k after le)),
+  )
   before (Within ticks f) i lt =
       (λ h. (h.0, h.1, h.2, (before f h.0 (omega (arith, lt, h.1))).0 h.3), λ h. (h.0, h.1, h.2, (before f h.0 (omega (arith, lt, h.1))).1 h.3))

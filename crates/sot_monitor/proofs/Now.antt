@@ -1,6 +1,6 @@
 -- What a part's number says of now, and what it is afterwards.
-use Rattle.std.proofs.Common.{◌≡◌, ◌≢◌, ℕ, zero, suc, ◌+◌, ◌<◌, ◌≤◌, ◌↔◌, ◌⊎◌, inl, inr, ⊎_elim, Bool, true, false, List, [], ◌∷◌, ◌++◌, Some, length, refl, sym, ap, ◌∙◌, subst, arith}
-use Rattle.std.specs.Prelude.{slice_index_or, slice_set, MatchBool, IsTrue}
+use Rattle.std.proofs.Common.{◌≡◌, ℕ, zero, suc, ◌+◌, ◌<◌, ◌≤◌, ◌↔◌, ◌⊎◌, inl, inr, ⊎_elim, Bool, true, false, List, [], ◌∷◌, ◌++◌, length, refl, sym, ap, ◌∙◌, subst, arith}
+use Rattle.std.specs.Prelude.{slice_set, MatchBool, IsTrue}
 use Rattle.std.proofs.lemmas.Bool.{cases_eq, false≢true}
 use Rattle.std.proofs.lemmas.List.{get_or-set_same, get_or-set_other}
 use Rattle.std.proofs.lemmas.Option.{slice_get_within}
@@ -34,12 +34,13 @@ module _ (Ms : List Moment) (s : Moment) where
   -- a number is that of now exactly where the formula holds now
   pub now_is : (f : Formula) (l : ℕ) → IsLast more f l → Holds more f n ↔ (l ≡ suc n)
   now_is f zero last = (λ h. absurd (last n inside h), λ e. absurd (omega (arith, e)))
-  now_is f (suc l) last =
-      (λ h. ⊎_elim
-      (λ (lt : l < n). absurd (last.2 n lt inside h))
-      (λ (ge : n ≤ l). let e = length_end Ms s in omega (arith, ge, last.0, e))
-      (later l n),
-      λ e. (let same : l ≡ n = omega (arith, e) in subst (Holds more f) same last.1))
+  now_is f (suc l) last = (
+    λ h. ⊎_elim
+        (λ (lt : l < n). absurd (last.2 n lt inside h))
+        (λ (ge : n ≤ l). let e = length_end Ms s in omega (arith, ge, last.0, e))
+        (later l n),
+    λ e. (let same : l ≡ n = omega (arith, e) in subst (Holds more f) same last.1),
+  )
 
   -- afterwards
   pub set_now : (f : Formula) → Holds more f n → IsLast more f (suc n)
@@ -50,11 +51,14 @@ module _ (Ms : List Moment) (s : Moment) where
       (λ (early : j < n). last j early ((before Ms (s ∷ []) f j early).0 h))
       (λ (late : n ≤ j). let e = length_end Ms s in let same : j ≡ n = omega (arith, late, lt, e) in none' (subst (Holds more f) same h))
       (later j n)
-  kept f (suc l) last none' =
-      (let e = length_end Ms s in omega (arith, last.0, e), (before Ms (s ∷ []) f l last.0).1 last.1, λ j after lt h. ⊎_elim
-      (λ (early : j < n). last.2 j after early ((before Ms (s ∷ []) f j early).0 h))
-      (λ (late : n ≤ j). let e = length_end Ms s in let same : j ≡ n = omega (arith, late, lt, e) in none' (subst (Holds more f) same h))
-      (later j n))
+  kept f (suc l) last none' = (
+    let e = length_end Ms s in omega (arith, last.0, e),
+    (before Ms (s ∷ []) f l last.0).1 last.1,
+    λ j after lt h. ⊎_elim
+        (λ (early : j < n). last.2 j after early ((before Ms (s ∷ []) f j early).0 h))
+        (λ (late : n ≤ j). let e = length_end Ms s in let same : j ≡ n = omega (arith, late, lt, e) in none' (subst (Holds more f) same h))
+        (later j n),
+  )
 
   module _ (ws : List What) (lasts : List ℕ) (i : ℕ) (own : ℕ) (parts : (k : ℕ) (g : Formula) → k < i → IsPart ws k g → IsLast more g (last_of lasts k)) where
     once_now : (f : Formula) (l : ℕ) → IsLast more f l → (0 < l) ↔ Holds more (Once f) n
@@ -63,12 +67,13 @@ module _ (Ms : List Moment) (s : Moment) where
 
     within_now : (ticks : ℕ) (f : Formula) (l : ℕ) → IsLast more f l → ((0 < l) × (suc n ≤ l + ticks)) ↔ Holds more (Within ticks f) n
     within_now ticks f zero last = (λ h. absurd (omega (arith, h.0)), λ h. (let e = length_end Ms s in absurd (last h.0 (omega (arith, h.1, e)) h.3)))
-    within_now ticks f (suc l) last =
-        (λ h. (l, (let e = length_end Ms s in omega (arith, last.0, e)), omega (arith, h.1), last.1),
-        λ h. ⊎_elim
-        (λ (lt : l < h.0). (let e = length_end Ms s in absurd (last.2 h.0 lt (omega (arith, h.1, e)) h.3)))
-        (λ (ge : h.0 ≤ l). (omega arith, omega (arith, ge, h.2)))
-        (later l h.0))
+    within_now ticks f (suc l) last = (
+      λ h. (l, (let e = length_end Ms s in omega (arith, last.0, e)), omega (arith, h.1), last.1),
+      λ h. ⊎_elim
+          (λ (lt : l < h.0). (let e = length_end Ms s in absurd (last.2 h.0 lt (omega (arith, h.1, e)) h.3)))
+          (λ (ge : h.0 ≤ l). (omega arith, omega (arith, ge, h.2)))
+          (later l h.0),
+    )
 
     -- since held the moment before exactly where its own number is that moment's
     since_before : (f g : Formula) → IsLast Ms (Since f g) own → Holds more f n → ((0 < own) × (own ≡ n)) → Holds more (Since f g) n
@@ -77,11 +82,15 @@ module _ (Ms : List Moment) (s : Moment) where
         by_number : (o : ℕ) → IsLast Ms (Since f g) o → ((0 < o) × (o ≡ n)) → Holds more (Since f g) n
         by_number zero last is = absurd (omega (arith, is.0))
         by_number (suc m) last is =
-            let h = last.1 in
-            (h.0, omega (arith, h.1, is.1), (before Ms (s ∷ []) g h.0 (omega (arith, h.1, last.0))).1 h.2, λ k after le. ⊎_elim
-            (λ (lt : m < k). let same : n ≡ k = omega (arith, lt, le, is.1) in subst (Holds more f) same now)
-            (λ (ge : k ≤ m). (before Ms (s ∷ []) f k (omega (arith, ge, last.0))).1 (h.3 k after ge))
-            (later m k))
+            let h = last.1 in (
+              h.0,
+              omega (arith, h.1, is.1),
+              (before Ms (s ∷ []) g h.0 (omega (arith, h.1, last.0))).1 h.2,
+              λ k after le. ⊎_elim
+                  (λ (lt : m < k). let same : n ≡ k = omega (arith, lt, le, is.1) in subst (Holds more f) same now)
+                  (λ (ge : k ≤ m). (before Ms (s ∷ []) f k (omega (arith, ge, last.0))).1 (h.3 k after ge))
+                  (later m k),
+            )
 
     since_now : (f g : Formula) (lf lg : ℕ) → IsLast Ms (Since f g) own → IsLast more f lf → IsLast more g lg → ((lg ≡ suc n) ⊎ ((lf ≡ suc n) × (0 < own) × (own ≡ n))) ↔ Holds more (Since f g) n
     since_now f g lf lg last last_f last_g = (forth, back)

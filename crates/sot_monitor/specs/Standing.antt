@@ -1,7 +1,6 @@
 -- What is kept of a formula over moments: a number for each of its parts.
-use Rattle.std.specs.Prelude.{ℕ, zero, suc, ℤ, true, List, [], ◌∷◌, ◌++◌, slice_index_or, ◌≡◌, ◌≢◌}
+use Rattle.std.specs.Prelude.{ℕ, zero, suc, true, List, [], ◌∷◌, ◌++◌, slice_index_or, ◌≡◌, ◌≢◌}
 use Rattle.std.specs.Prelude.{◌⊎◌, ◌<◌, ◌≤◌, ◌+◌, length}
-use Rattle.sot_lists.specs.Places.{At}
 use Rattle.sot_formula.specs.declared.what.What.{What}
 use Rattle.sot_formula.specs.declared.what.What.TheVariants as whats
 use Rattle.sot_formula.specs.Formulas.{Formula}

@@ -1,8 +1,7 @@
-use Rattle.std.proofs.Common.{rules, arith, ◌≡◌, ℕ, suc, ◌<◌, ◌≤◌, ◌+◌, ◌++◌, ◌∷◌, [], ◌⊎◌, ⊎_elim, ◌↔◌, length, refl, sym, ap, ◌∙◌, subst}
+use Rattle.std.proofs.Common.{arith, ◌≡◌, suc, ◌<◌, ◌≤◌, ◌+◌, ⊎_elim, ◌↔◌, length, sym, ap, ◌∙◌, subst}
 use Rattle.std.proofs.lemmas.List.{get_or-set_same, get_or-set_other, length-set}
 use Rattle.std.proofs.lemmas.Bool.{cases_eq}
 use Rattle.std.specs.Prelude.{slice_index_or, slice_set, MatchBool, IsTrue}
-use Rattle.std.proofs.lemmas.Option.{slice_get-get_or}
 use Rattle.sot_lists.proofs.Places.{at_below}
 use Rattle.sot_monitor.specs.Standing.{last_of, NowBy, IsLast}
 use Rattle.sot_monitor.proofs.Now.{noted_more, part_inside}
