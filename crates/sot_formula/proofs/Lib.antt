@@ -1,0 +1,9 @@
+pub mod Names
+pub mod Finds
+pub mod Counts
+pub mod Laying
+pub mod Sound
+pub mod Full
+pub mod Meant
+pub mod Causes
+pub mod Texts

@@ -1,0 +1,123 @@
+-- Things of one sort that have one name are one, and what is found in a list.
+use Rattle.std.proofs.Common.{◌≡◌, ℕ, zero, suc, ◌+◌, ◌<◌, ◌≤◌, Bool, true, false, nat_lt, not, cond, List, [], ◌∷◌, ◌++◌, Some, None, length, map, inl, inr}
+use Rattle.std.proofs.Common.{refl, sym, ap, subst, ◌∙◌, arith}
+use Rattle.std.specs.List.{position, position_or_len}
+use Rattle.std.proofs.lemmas.Bool.{cases_Bool, cond-true}
+use Rattle.std.proofs.lemmas.Bool.Decides.{nat_tests}
+use Rattle.std.proofs.lemmas.List.Quantifiers.{position-Some}
+use Rattle.std.proofs.lemmas.Option.{none-some, same_Some, slice_get_within, get_or_from_slice_get}
+use Rattle.sot_lists.specs.Places.{At}
+use Rattle.sot_lists.proofs.Places.{at_below, at_map}
+use Rattle.sot_lang.specs.declared.tables.TopicInfo.{TopicInfo}
+use Rattle.sot_lang.specs.declared.tables.PlantInfo.{PlantInfo}
+use Rattle.sot_lang.specs.declared.tables.ModuleInfo.{ModuleInfo}
+use Rattle.sot_lang.specs.Tables.{Tables}
+use Rattle.sot_lang.specs.TableRules.{MeetsTableRules, declared_names}
+
+pub at_front : {A : Type 0} (xs ys : List A) (k : ℕ) (x : A) → At xs k x → At (xs ++ ys) k x
+at_front [] ys k x at = absurd (none-some x at)
+at_front (y ∷ xs) ys zero x at = at
+at_front (y ∷ xs) ys (suc k) x at = at_front xs ys k x at
+
+at_behind : {A : Type 0} (xs ys : List A) (k : ℕ) (x : A) → At ys k x → At (xs ++ ys) (length xs + k) x
+at_behind [] ys k x at = (let same : k ≡ 0 + k = omega arith in subst (λ n. At ys n x) same at)
+at_behind (y ∷ xs) ys k x at =
+    let step : At (y ∷ (xs ++ ys)) (suc (length xs + k)) x = at_behind xs ys k x at in
+    let same : suc (length xs + k) ≡ length (y ∷ xs) + k = omega arith in
+    subst (λ n. At (y ∷ (xs ++ ys)) n x) same step
+
+module _ (p : Tables) (rules : MeetsTableRules p) where
+  pub topic_same : (s t : ℕ) (x y : TopicInfo) → At p.topics s x → At p.topics t y → x.name ≡ y.name → s ≡ t
+  topic_same s t x y at_x at_y e =
+      let place = λ (k : ℕ) (z : TopicInfo) (at : At p.topics k z).
+      at_front (map (λ a. a.name) p.topics ++ map (λ a. a.name) p.plants ++ map (λ a. a.name) p.nodes) (map (λ a. a.name) p.modules) k z.name
+      (at_front (map (λ a. a.name) p.topics ++ map (λ a. a.name) p.plants) (map (λ a. a.name) p.nodes) k z.name
+      (at_front (map (λ a. a.name) p.topics) (map (λ a. a.name) p.plants) k z.name (at_map (λ (a : TopicInfo). a.name) p.topics k z at))) in
+      rules.names_once s t y.name (subst (λ n. At (declared_names p) s n) e (place s x at_x)) (place t y at_y)
+
+  plant_place : (k : ℕ) (z : PlantInfo) → At p.plants k z → At (declared_names p) (length (map (λ (a : TopicInfo). a.name) p.topics) + k) z.name
+  plant_place k z at =
+      let names : List (List ℕ) = map (λ (a : TopicInfo). a.name) p.topics in
+      at_front (names ++ map (λ a. a.name) p.plants ++ map (λ a. a.name) p.nodes) (map (λ a. a.name) p.modules) (length names + k) z.name
+      (at_front (names ++ map (λ a. a.name) p.plants) (map (λ a. a.name) p.nodes) (length names + k) z.name
+      (at_behind names (map (λ a. a.name) p.plants) k z.name (at_map (λ (a : PlantInfo). a.name) p.plants k z at)))
+
+  pub plant_same : (s t : ℕ) (x y : PlantInfo) → At p.plants s x → At p.plants t y → x.name ≡ y.name → s ≡ t
+  plant_same s t x y at_x at_y e =
+      let n = length (map (λ (a : TopicInfo). a.name) p.topics) in
+      let same : n + s ≡ n + t = rules.names_once (n + s) (n + t) y.name
+      (subst (λ w. At (declared_names p) (n + s) w) e (plant_place s x at_x)) (plant_place t y at_y) in
+      omega (arith, same)
+
+  -- no topic has the name of a plant
+  pub topic_no_plant : (s t : ℕ) (x : TopicInfo) (y : PlantInfo) → At p.topics s x → At p.plants t y → x.name ≡ y.name → ⊥
+  topic_no_plant s t x y at_x at_y e =
+      let names : List (List ℕ) = map (λ (a : TopicInfo). a.name) p.topics in
+      let named = at_map (λ (a : TopicInfo). a.name) p.topics s x at_x in
+      let place = at_front (names ++ map (λ a. a.name) p.plants ++ map (λ a. a.name) p.nodes) (map (λ a. a.name) p.modules) s x.name
+      (at_front (names ++ map (λ a. a.name) p.plants) (map (λ a. a.name) p.nodes) s x.name (at_front names (map (λ a. a.name) p.plants) s x.name named)) in
+      let same : s ≡ length names + t = rules.names_once s (length names + t) y.name (subst (λ w. At (declared_names p) s w) e place) (plant_place t y at_y) in
+      let inside = slice_get_within names s x.name named in
+      omega (arith, same, inside)
+
+  pub module_same : (s t : ℕ) (x y : ModuleInfo) → At p.modules s x → At p.modules t y → x.name ≡ y.name → s ≡ t
+  module_same s t x y at_x at_y e =
+      let before : List (List ℕ) = map (λ a. a.name) p.topics ++ map (λ a. a.name) p.plants ++ map (λ a. a.name) p.nodes in
+      let place = λ (k : ℕ) (z : ModuleInfo) (at : At p.modules k z).
+      at_behind before (map (λ a. a.name) p.modules) k z.name (at_map (λ (a : ModuleInfo). a.name) p.modules k z at) in
+      let same : length before + s ≡ length before + t = rules.names_once (length before + s) (length before + t) y.name
+      (subst (λ n. At (declared_names p) (length before + s) n) e (place s x at_x)) (place t y at_y) in
+      omega (arith, same)
+
+module _ {A : Type 0} (test : A → Bool) where
+  first_place : (xs : List A) (k : ℕ) (x : A) → At xs k x → test x ≡ true → ((j : ℕ) (y : A) → At xs j y → test y ≡ true → k ≤ j) → position_or_len test xs ≡ k
+  first_place [] k x at is once = absurd (none-some x at)
+  first_place (y ∷ ys) zero x at is once =
+      ap (λ b. cond (not b) (1 + position_or_len test ys) 0) (ap test (same_Some y x at) ∙ is)
+  first_place (y ∷ ys) (suc k) x at is once =
+      elim (cases_Bool (test y)) [
+        | inl yes' ↦ (let never : suc k ≤ 0 = once 0 y refl yes' in absurd (omega (arith, never)))
+        | inr no' ↦ ap (λ b. cond (not b) (1 + position_or_len test ys) 0) no'
+            ∙ ap (λ n. 1 + n) (first_place ys k x at is (λ j z at_z named. (let more : suc k ≤ suc j = once (suc j) z at_z named in omega (arith, more))))
+            ∙ omega arith
+      ]
+
+  below_yes : (k n : ℕ) → k < n → nat_lt k n ≡ true
+  below_yes k n lt = grind (arith, nat_tests)
+
+  -- the first thing that passes is found
+  pub found : (xs : List A) (k : ℕ) (x : A) → At xs k x → test x ≡ true → ((j : ℕ) (y : A) → At xs j y → test y ≡ true → k ≤ j) → position test xs ≡ Some k
+  found xs k x at is once =
+      ap (λ n. cond (nat_lt n (length xs)) (Some n) None) (first_place xs k x at is once)
+      ∙ cond-true (nat_lt k (length xs)) _ _ (below_yes k (length xs) (slice_get_within xs k x at))
+
+  -- what is found passes
+  pub found_at : (xs : List A) (k : ℕ) → position test xs ≡ Some k → (x : A) × At xs k x × (test x ≡ true)
+  found_at [] k e = absurd cc
+  found_at (y ∷ ys) k e =
+      let is = position-Some test (y ∷ ys) k y e in
+      let at = at_below (y ∷ ys) k is.0 in
+      (at.0, at.1, sym (ap test (get_or_from_slice_get (y ∷ ys) k at.0 y at.1)) ∙ is.1)
+
+  cond_some : (b : Bool) (n k : ℕ) → cond b (Some n) None ≡ Some k → n ≡ k
+  cond_some true n k e = same_Some n k e
+  cond_some false n k e = absurd (none-some k e)
+
+  earlier : (xs : List A) (j : ℕ) (y : A) → At xs j y → test y ≡ true → position_or_len test xs ≤ j
+  earlier [] j y at ok = absurd (none-some y at)
+  earlier (x ∷ xs) zero y at ok =
+      let e : position_or_len test (x ∷ xs) ≡ 0 = ap (λ b. cond (not b) (1 + position_or_len test xs) 0) (ap test (same_Some x y at) ∙ ok) in
+      omega (arith, e)
+  earlier (x ∷ xs) (suc j) y at ok =
+      elim (cases_Bool (test x)) [
+        | inl yes' ↦ (let e : position_or_len test (x ∷ xs) ≡ 0 = ap (λ b. cond (not b) (1 + position_or_len test xs) 0) yes' in omega (arith, e))
+        | inr no' ↦ (let e : position_or_len test (x ∷ xs) ≡ 1 + position_or_len test xs = ap (λ b. cond (not b) (1 + position_or_len test xs) 0) no' in
+            let rest = earlier xs j y at ok in omega (arith, e, rest))
+      ]
+
+  -- nothing before it does
+  pub found_first : (xs : List A) (k : ℕ) → position test xs ≡ Some k → (j : ℕ) (y : A) → At xs j y → test y ≡ true → k ≤ j
+  found_first xs k e j y at ok =
+      let is = cond_some (nat_lt (position_or_len test xs) (length xs)) (position_or_len test xs) k e in
+      let low = earlier xs j y at ok in
+      omega (arith, is, low)

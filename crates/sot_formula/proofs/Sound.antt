@@ -1,0 +1,308 @@
+-- What is read is a phrase, and leaves its parts.
+use Rattle.std.proofs.Common.{◌≡◌, ℕ, zero, suc, ◌≤◌, ◌&&◌, ◌==◌, List, [], ◌∷◌, Bool, true, false, pos, codes, Option, Some, None, Ok, refl, sym, ap, ap₂, subst, ◌∙◌, arith}
+use Rattle.std.specs.Prelude.{int_le}
+use Rattle.std.proofs.lemmas.Int.{clamps}
+use Rattle.std.proofs.lemmas.Bool.Decides.{nat_tests}
+use Rattle.sot_text.specs.Lexeme.{mantissa_of, decimals_of}
+use Rattle.sot_text.specs.Reading.{Lexeme}
+use Rattle.sot_lang.specs.Tables.{Tables}
+use Rattle.sot_tree.specs.declared.tree.Lit.{Lit}
+use Rattle.sot_expression.specs.Lexemes.{IsSign, IsName, begins, is_sign, is_name, literal}
+use Rattle.sot_expression.specs.Readers.{◌>>=◌, expect, number_at, negative_at, literal_at}
+use Rattle.sot_expression.specs.Stream.{first_of}
+use Rattle.sot_expression.proofs.TokenTests.{sign_ok, name_ok}
+use Rattle.sot_expression.proofs.ReadSteps.{bind_ok, ok_is, guard_ok, chosen_by, one_token_ok, sign_taken, number_taken, negative_taken}
+use Rattle.sot_formula.specs.declared.quantity.Comparison.{Comparison}
+use Rattle.sot_formula.specs.declared.what.What.TheVariants as whats
+use Rattle.sot_formula.specs.declared.words.Single.{Single}
+use Rattle.sot_formula.specs.declared.words.Double.{Double}
+use Rattle.sot_formula.specs.declared.words.Opening.{Opening}
+use Rattle.sot_formula.specs.declared.words.Opening.TheVariants as openings
+use Rattle.sot_formula.specs.declared.words.Word.{Word}
+use Rattle.sot_formula.specs.declared.words.Word.TheVariants as words
+use Rattle.sot_formula.specs.declared.finding.Found.{Found}
+use Rattle.sot_formula.specs.Phrases.{a_mode, a_name, a_field, Literal, a_number, a_negative, Phrase, a_truth, a_single, a_double, a_within, a_comparison}
+use Rattle.sot_formula.specs.Phrases.{literal_spelled, spelled, IsWord, IsSingle, IsDouble, IsLiteral, IsComparing, AreTicks, IsPhrase, levels_of}
+use Rattle.sot_formula.specs.Words.{comparing_of, opening_of, opening_from, word_of, single_what, double_what}
+use Rattle.sot_formula.specs.Finding.{plain_named, part_named, module_named}
+use Rattle.sot_formula.specs.Reading.{Laid, place, put, compared, Reader, name_token, any_token, found_or_stuck, comparing_at, comparison_at, ticks_of, are_ticks, ticks_at}
+use Rattle.sot_formula.specs.Reading.{single_at, double_at, within_at, mode_at, mode_compared_at, part_at, named_at, called_at, behind_name_at, opened_at, formula_at}
+use Rattle.sot_formula.proofs.Laying.{or_less, by_of, lit_of, laid, IsOpened, opening_tells, IsWordOf, word_tells, signed, compares}
+
+abbrev Got : Type 0
+Got = Laid × List Lexeme
+
+abbrev pub IsLaidBy : Tables → ℕ → Laid → List Lexeme → Got → Type 0
+IsLaidBy p room s ts x = (f : Phrase) × IsPhrase f × (ts ≡ spelled f x.1) × (levels_of f ≤ room) × (x.0 ≡ laid p f s)
+
+abbrev pub OnlyPhrases : Tables → ℕ → Reader → Type 0
+OnlyPhrases p room inner = (s : Laid) (ts : List Lexeme) (x : Got) → inner s ts ≡ Ok x → IsLaidBy p room s ts x
+
+both_true : (a b : Bool) → (a && b) ≡ true → (a ≡ true) × (b ≡ true)
+both_true true b e = (refl, e)
+both_true false b e = absurd cc
+
+name_taken : (ts : List Lexeme) (x : Lexeme × List Lexeme) → name_token ts ≡ Ok x → IsName x.0 × (ts ≡ x.0 ∷ x.1)
+name_taken ts x e =
+    let h = one_token_ok is_name (λ t. t) ts x e in
+    (subst IsName (sym h.view_is) (name_ok h.token h.passes), h.tokens ∙ ap (λ t. t ∷ x.1) (sym h.view_is))
+
+-- the sign of a comparison
+comparing_sound : (ts : List Lexeme) (x : Comparison × List Lexeme) → comparing_at ts ≡ Ok x → (t : Lexeme) × (ts ≡ t ∷ x.1) × (comparing_of t ≡ Some x.0)
+unfolding comparing_at
+comparing_sound [] x e = absurd cc
+comparing_sound (t ∷ us) x e = (let r = from (comparing_of t) e in (t, ap (λ vs. t ∷ vs) r.1, r.0))
+  where
+    from : (o : Option Comparison) → (found_or_stuck o (t ∷ us) >>= λ by. any_token by.1 >>= λ u. Ok (by.0, u.1)) ≡ Ok x → (o ≡ Some x.0) × (us ≡ x.1)
+    from None e = absurd cc
+    from (Some c) e = (let is = ok_is (c, us) x e in (ap (λ (z : Comparison × List Lexeme). Some z.0) is, ap (λ (z : Comparison × List Lexeme). z.1) is))
+
+literal_sound : (ts : List Lexeme) (x : Lit × List Lexeme) → literal_at ts ≡ Ok x → (z : Literal) × IsLiteral z × (ts ≡ literal_spelled z x.1) × (x.0 ≡ lit_of z)
+literal_sound [] x e = absurd cc
+literal_sound (t ∷ us) x e =
+    chosen_by (is_sign (codes "-") t) (negative_at t us) (number_at (t ∷ us)) x _ e
+    (λ minus read. (let n = negative_taken t us x read in (a_negative t n.0, (sign_ok (codes "-") t minus, n.2), ap (λ vs. t ∷ vs) n.1, n.3)))
+    (λ other read. (let n = number_taken (t ∷ us) x read in (a_number n.0, n.2, n.1, n.3)))
+
+abbrev IsComparedBy : Option Found → Laid → List Lexeme → Got → Type 0
+IsComparedBy found s ts x =
+    (by : Lexeme) × (z : Literal) × IsComparing by × IsLiteral z × (ts ≡ by ∷ literal_spelled z x.1) × (x.0 ≡ compared found (by_of by) (lit_of z) s)
+
+comparison_sound : (found : Option Found) (s : Laid) (ts : List Lexeme) (x : Got) → comparison_at found s ts ≡ Ok x → IsComparedBy found s ts x
+unfolding comparison_at
+comparison_sound found s ts x e =
+    let b = bind_ok (comparing_at ts) _ x e in
+    let by = comparing_sound ts b.0 b.1 in
+    let c = bind_ok (literal_at b.0.1) _ x b.2 in
+    let z = literal_sound b.0.1 c.0 c.1 in
+    let is = ok_is (compared found b.0.0 c.0.0 s, c.0.1) x c.2 in
+    let sign : by_of by.0 ≡ b.0.0 = ap or_less by.2 in (
+      by.0,
+      z.0,
+      compares b.0.0 by.0 (signed by.0 b.0.0 by.2),
+      z.1,
+      by.1 ∙ ap (λ vs. by.0 ∷ vs) (z.2 ∙ ap (λ (y : Got). literal_spelled z.0 y.1) is),
+      sym (ap (λ (y : Got). y.0) is) ∙ ap (λ l. compared found b.0.0 l s) z.3 ∙ ap (λ c. compared found c (lit_of z.0) s) (sym sign),
+    )
+
+few_ticks : (m d : ℕ) → ((d == 0) && int_le (pos m) (pos 100000)) ≡ true → (d ≡ 0) × (m ≤ 100000)
+few_ticks m d e = (let b = both_true (d == 0) (int_le (pos m) (pos 100000)) e in (grind (arith, nat_tests), grind (arith, nat_tests)))
+
+ticks_sound : (ts : List Lexeme) (x : ℕ × List Lexeme) → ticks_at ts ≡ Ok x → (n : Lexeme) × (ts ≡ n ∷ x.1) × AreTicks n × (x.0 ≡ ticks_of (literal n))
+unfolding ticks_at
+ticks_sound ts x e =
+    let n = bind_ok (number_at ts) _ x e in
+    let t = number_taken ts n.0 n.1 in
+    let g = guard_ok (are_ticks n.0.0) (Ok (ticks_of n.0.0, n.0.1)) _ x n.2 in
+    let is : ◌≡◌ {A = ℕ × List Lexeme} (ticks_of n.0.0, n.0.1) x = ok_is (ticks_of n.0.0, n.0.1) x g.1 in
+    let few = few_ticks (mantissa_of t.0.text) (decimals_of t.0.text) (subst (λ (l : Lit). are_ticks l ≡ true) t.3 g.0) in (
+      t.0,
+      t.1 ∙ ap (λ (z : ℕ × List Lexeme). t.0 ∷ z.1) is,
+      record { number = t.2; whole = few.0; few = few.1 },
+      sym (ap (λ (z : ℕ × List Lexeme). z.0) is) ∙ ap ticks_of t.3,
+    )
+
+module _ (p : Tables) (r : ℕ) (inner : Reader) (only : OnlyPhrases p r inner) where
+  abbrev IsSingleBy : Single → Laid → List Lexeme → Got → Type 0
+  IsSingleBy o s ts x =
+      (begin : Lexeme) × (f : Phrase) × (end : Lexeme) × IsSign (codes "(") begin × IsPhrase f × IsSign (codes ")") end
+      × (ts ≡ begin ∷ spelled f (end ∷ x.1)) × (levels_of f ≤ r) × (x.0 ≡ put (single_what o (place (laid p f s))) (laid p f s))
+
+  single_sound : (o : Single) (s : Laid) (ts : List Lexeme) (x : Got) → single_at o inner s ts ≡ Ok x → IsSingleBy o s ts x
+  unfolding single_at
+  single_sound o s ts x e =
+      let b = bind_ok (expect (is_sign (codes "(")) ts) _ x e in
+      let begin = sign_taken (codes "(") ts b.0 b.1 in
+      let i = bind_ok (inner s b.0.1) _ x b.2 in
+      let f = only s b.0.1 i.0 i.1 in
+      let c = bind_ok (expect (is_sign (codes ")")) i.0.1) _ x i.2 in
+      let end = sign_taken (codes ")") i.0.1 c.0 c.1 in
+      let is = ok_is (put (single_what o (place i.0.0)) i.0.0, c.0.1) x c.2 in (
+        begin.0,
+        f.0,
+        end.0,
+        begin.2,
+        f.1,
+        end.2,
+        begin.1 ∙ ap (λ vs. begin.0 ∷ vs) (f.2 ∙ ap (spelled f.0) (end.1 ∙ ap (λ (y : Got). end.0 ∷ y.1) is)),
+        f.3,
+        sym (ap (λ (y : Got). y.0) is) ∙ ap (λ l. put (single_what o (place l)) l) f.4,
+      )
+
+  abbrev IsDoubleBy : Double → Laid → List Lexeme → Got → Type 0
+  IsDoubleBy o s ts x =
+      (begin : Lexeme) × (f : Phrase) × (comma : Lexeme) × (g : Phrase) × (end : Lexeme)
+      × IsSign (codes "(") begin × IsPhrase f × IsSign (codes ",") comma × IsPhrase g × IsSign (codes ")") end
+      × (ts ≡ begin ∷ spelled f (comma ∷ spelled g (end ∷ x.1))) × (levels_of f ≤ r) × (levels_of g ≤ r)
+      × (x.0 ≡ put (double_what o (place (laid p f s)) (place (laid p g (laid p f s)))) (laid p g (laid p f s)))
+
+  double_sound : (o : Double) (s : Laid) (ts : List Lexeme) (x : Got) → double_at o inner s ts ≡ Ok x → IsDoubleBy o s ts x
+  unfolding double_at
+  double_sound o s ts x e =
+      let b = bind_ok (expect (is_sign (codes "(")) ts) _ x e in
+      let begin = sign_taken (codes "(") ts b.0 b.1 in
+      let i = bind_ok (inner s b.0.1) _ x b.2 in
+      let f = only s b.0.1 i.0 i.1 in
+      let m = bind_ok (expect (is_sign (codes ",")) i.0.1) _ x i.2 in
+      let comma = sign_taken (codes ",") i.0.1 m.0 m.1 in
+      let j = bind_ok (inner i.0.0 m.0.1) _ x m.2 in
+      let g = only i.0.0 m.0.1 j.0 j.1 in
+      let c = bind_ok (expect (is_sign (codes ")")) j.0.1) _ x j.2 in
+      let end = sign_taken (codes ")") j.0.1 c.0 c.1 in
+      let is = ok_is (put (double_what o (place i.0.0) (place j.0.0)) j.0.0, c.0.1) x c.2 in
+      let second : j.0.0 ≡ laid p g.0 (laid p f.0 s) = g.4 ∙ ap (laid p g.0) f.4 in (
+        begin.0,
+        f.0,
+        comma.0,
+        g.0,
+        end.0,
+        begin.2,
+        f.1,
+        comma.2,
+        g.1,
+        end.2,
+        begin.1
+            ∙ ap (λ vs. begin.0 ∷ vs)
+            (f.2 ∙ ap (spelled f.0) (comma.1 ∙ ap (λ vs. comma.0 ∷ vs) (g.2 ∙ ap (spelled g.0) (end.1 ∙ ap (λ (y : Got). end.0 ∷ y.1) is)))),
+        f.3,
+        g.3,
+        sym (ap (λ (y : Got). y.0) is) ∙ ap₂ (λ k l. put (double_what o (place k) (place l)) l) f.4 second,
+      )
+
+  abbrev IsWithinBy : Laid → List Lexeme → Got → Type 0
+  IsWithinBy s ts x =
+      (begin n comma : Lexeme) × (f : Phrase) × (end : Lexeme)
+      × IsSign (codes "(") begin × AreTicks n × IsSign (codes ",") comma × IsPhrase f × IsSign (codes ")") end
+      × (ts ≡ begin ∷ n ∷ comma ∷ spelled f (end ∷ x.1)) × (levels_of f ≤ r)
+      × (x.0 ≡ put (whats.Within (ticks_of (literal n)) (place (laid p f s))) (laid p f s))
+
+  within_sound : (s : Laid) (ts : List Lexeme) (x : Got) → within_at inner s ts ≡ Ok x → IsWithinBy s ts x
+  unfolding within_at
+  within_sound s ts x e =
+      let b = bind_ok (expect (is_sign (codes "(")) ts) _ x e in
+      let begin = sign_taken (codes "(") ts b.0 b.1 in
+      let k = bind_ok (ticks_at b.0.1) _ x b.2 in
+      let n = ticks_sound b.0.1 k.0 k.1 in
+      let m = bind_ok (expect (is_sign (codes ",")) k.0.1) _ x k.2 in
+      let comma = sign_taken (codes ",") k.0.1 m.0 m.1 in
+      let i = bind_ok (inner s m.0.1) _ x m.2 in
+      let f = only s m.0.1 i.0 i.1 in
+      let c = bind_ok (expect (is_sign (codes ")")) i.0.1) _ x i.2 in
+      let end = sign_taken (codes ")") i.0.1 c.0 c.1 in
+      let is = ok_is (put (whats.Within k.0.0 (place i.0.0)) i.0.0, c.0.1) x c.2 in (
+        begin.0,
+        n.0,
+        comma.0,
+        f.0,
+        end.0,
+        begin.2,
+        n.2,
+        comma.2,
+        f.1,
+        end.2,
+        begin.1
+            ∙ ap (λ vs. begin.0 ∷ vs)
+            (n.1 ∙ ap (λ vs. n.0 ∷ vs) (comma.1 ∙ ap (λ vs. comma.0 ∷ vs) (f.2 ∙ ap (spelled f.0) (end.1 ∙ ap (λ (y : Got). end.0 ∷ y.1) is)))),
+        f.3,
+        sym (ap (λ (y : Got). y.0) is) ∙ ap₂ (λ k l. put (whats.Within k (place l)) l) n.3 f.4,
+      )
+
+  -- a comparison of a mode
+  mode_sound : (w : Lexeme) (s : Laid) (ts : List Lexeme) (x : Got) → IsWord (codes "mode") w → mode_compared_at p s ts ≡ Ok x → IsLaidBy p (suc r) s (w ∷ ts) x
+  unfolding mode_compared_at mode_at
+  mode_sound w s ts x word e =
+      let a = bind_ok (mode_at p ts) _ x e in
+      let b = bind_ok (expect (is_sign (codes "(")) ts) _ a.0 a.1 in
+      let begin = sign_taken (codes "(") ts b.0 b.1 in
+      let k = bind_ok (name_token b.0.1) _ a.0 b.2 in
+      let n = name_taken b.0.1 k.0 k.1 in
+      let c = bind_ok (expect (is_sign (codes ")")) k.0.1) _ a.0 k.2 in
+      let end = sign_taken (codes ")") k.0.1 c.0 c.1 in
+      let is : ◌≡◌ {A = Option Found × List Lexeme} (module_named p k.0.0.text, c.0.1) a.0 = ok_is (module_named p k.0.0.text, c.0.1) a.0 c.2 in
+      let h = comparison_sound a.0.0 s a.0.1 x a.2 in (
+        a_comparison (a_mode w begin.0 k.0.0 end.0) h.0 h.1,
+        ((word, begin.2, n.0, end.2), h.2, h.3),
+        ap (λ vs. w ∷ vs)
+            (begin.1 ∙ ap (λ vs. begin.0 ∷ vs)
+            (n.1 ∙ ap (λ vs. k.0.0 ∷ vs) (end.1 ∙ ap (λ (z : Option Found × List Lexeme). end.0 ∷ z.1) is ∙ ap (λ vs. end.0 ∷ vs) h.4))),
+        omega arith,
+        h.5 ∙ ap (λ (o : Option Found). compared o (by_of h.0) (lit_of h.1) s) (sym (ap (λ (z : Option Found × List Lexeme). z.0) is)),
+      )
+
+  -- a comparison of what a name names
+  named_sound : (n : Lexeme) (s : Laid) (ts : List Lexeme) (x : Got) → IsName n → named_at p n s ts ≡ Ok x → IsLaidBy p (suc r) s (n ∷ ts) x
+  unfolding named_at part_at
+  named_sound n s ts x name e =
+      chosen_by (begins (is_sign (codes ".")) ts) (part_at p n ts >>= λ r. comparison_at r.0 s r.1) (comparison_at (plain_named p n.text) s ts) x _ e
+      (λ point read.
+      let a = bind_ok (part_at p n ts) _ x read in
+      let b = bind_ok (expect (is_sign (codes ".")) ts) _ a.0 a.1 in
+      let dot = sign_taken (codes ".") ts b.0 b.1 in
+      let k = bind_ok (name_token b.0.1) _ a.0 b.2 in
+      let f = name_taken b.0.1 k.0 k.1 in
+      let is : ◌≡◌ {A = Option Found × List Lexeme} (part_named p n.text k.0.0.text, k.0.1) a.0 = ok_is (part_named p n.text k.0.0.text, k.0.1) a.0 k.2 in
+      let h = comparison_sound a.0.0 s a.0.1 x a.2 in (
+        a_comparison (a_field n dot.0 k.0.0) h.0 h.1,
+        ((name, dot.2, f.0), h.2, h.3),
+        ap (λ vs. n ∷ vs)
+            (dot.1 ∙ ap (λ vs. dot.0 ∷ vs) (f.1 ∙ ap (λ (z : Option Found × List Lexeme). k.0.0 ∷ z.1) is ∙ ap (λ vs. k.0.0 ∷ vs) h.4)),
+        omega arith,
+        h.5 ∙ ap (λ (o : Option Found). compared o (by_of h.0) (lit_of h.1) s) (sym (ap (λ (z : Option Found × List Lexeme). z.0) is)),
+      ))
+      (λ other read.
+      let h = comparison_sound (plain_named p n.text) s ts x read in
+      (a_comparison (a_name n) h.0 h.1, (name, h.2, h.3), ap (λ vs. n ∷ vs) h.4, omega arith, h.5))
+
+  single_phrase : (o : Single) (w : Lexeme) (s : Laid) (ts : List Lexeme) (x : Got) → IsSingle o w → single_at o inner s ts ≡ Ok x → IsLaidBy p (suc r) s (w ∷ ts) x
+  single_phrase o w s ts x is e =
+      let h = single_sound o s ts x e in
+      (a_single o w h.0 h.1 h.2, (is, h.3, h.4, h.5), ap (λ vs. w ∷ vs) h.6, omega (arith, h.7), h.8)
+
+  double_phrase : (o : Double) (w : Lexeme) (s : Laid) (ts : List Lexeme) (x : Got) → IsDouble o w → double_at o inner s ts ≡ Ok x → IsLaidBy p (suc r) s (w ∷ ts) x
+  double_phrase o w s ts x is e =
+      let h = double_sound o s ts x e in
+      (a_double o w h.0 h.1 h.2 h.3 h.4, (is, h.5, h.6, h.7, h.8, h.9), ap (λ vs. w ∷ vs) h.10, omega (arith, clamps, h.11, h.12), h.13)
+
+  called_sound : (word : Word) (w : Lexeme) (s : Laid) (ts : List Lexeme) (x : Got) → IsName w → IsWordOf w.text word → called_at p inner word s ts ≡ Ok x
+      → IsLaidBy p (suc r) s (w ∷ ts) x
+  unfolding called_at
+  called_sound (words.Single o) w s ts x name is e =
+      single_phrase o w s ts x (subst (λ q. IsSingle q w) (sym is.0) (record { name = name; text_is = is.1 })) e
+  called_sound (words.Double o) w s ts x name is e =
+      double_phrase o w s ts x (subst (λ q. IsDouble q w) (sym is.0) (record { name = name; text_is = is.1 })) e
+  called_sound words.Within w s ts x name is e =
+      let h = within_sound s ts x e in
+      (a_within w h.0 h.1 h.2 h.3 h.4, (record { name = name; text_is = is }, h.5, h.6, h.7, h.8, h.9), ap (λ vs. w ∷ vs) h.10, omega (arith, h.11), h.12)
+  called_sound words.Mode w s ts x name is e = mode_sound w s ts x (record { name = name; text_is = is }) e
+  called_sound words.Other w s ts x name is e = absurd cc
+
+  behind_sound : (w : Lexeme) (s : Laid) (ts : List Lexeme) (x : Got) → IsName w → behind_name_at p inner w s ts ≡ Ok x → IsLaidBy p (suc r) s (w ∷ ts) x
+  unfolding behind_name_at
+  behind_sound w s ts x name e =
+      chosen_by (begins (is_sign (codes "(")) ts) (called_at p inner (word_of w.text) s ts) (named_at p w s ts) x _ e
+      (λ here read. called_sound (word_of w.text) w s ts x name (word_tells w.text) read)
+      (λ other read. named_sound w s ts x name read)
+
+  opened_sound : (o : Opening) (t : Lexeme) (s : Laid) (ts : List Lexeme) (x : Got) → IsOpened t o → opened_at p inner o s (t ∷ ts) ≡ Ok x → IsLaidBy p (suc r) s (t ∷ ts) x
+  unfolding opened_at
+  opened_sound (openings.Truth value) t s ts x is e =
+      let same = ok_is (put (whats.Truth value) s, ts) x e in
+      (a_truth value t, is, ap (λ (y : Got). t ∷ y.1) same, omega arith, sym (ap (λ (y : Got). y.0) same))
+  opened_sound (openings.Single o) t s ts x is e = single_phrase o t s ts x is e
+  opened_sound (openings.Double o) t s ts x is e = double_phrase o t s ts x is e
+  opened_sound openings.Name t s ts x is e =
+      let n = bind_ok (name_token (t ∷ ts)) _ x e in
+      let taken = name_taken (t ∷ ts) n.0 n.1 in
+      let h = behind_sound n.0.0 s n.0.1 x taken.0 n.2 in
+      (h.0, h.1, taken.1 ∙ h.2, h.3, h.4)
+  opened_sound openings.Other t s ts x is e = absurd cc
+
+  first_sound : (s : Laid) (ts : List Lexeme) (x : Got) → opened_at p inner (opening_from (first_of ts)) s ts ≡ Ok x → IsLaidBy p (suc r) s ts x
+  unfolding opened_at
+  first_sound s [] x e = absurd cc
+  first_sound s (t ∷ ts) x e = opened_sound (opening_of t) t s ts x (opening_tells t) e
+
+pub sound : (p : Tables) (room : ℕ) → OnlyPhrases p room (formula_at p room)
+unfolding formula_at
+sound p zero s ts x e = absurd cc
+sound p (suc r) s ts x e = first_sound p r (formula_at p r) (sound p r) s ts x e

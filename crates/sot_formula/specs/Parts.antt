@@ -1,0 +1,51 @@
+-- A formula as the list of its parts, each behind its own parts.
+use Rattle.std.specs.Prelude.{ℕ, List, ◌<◌, ◌≤◌, length}
+use Rattle.sot_lists.specs.Places.{At}
+use Rattle.sot_lang.specs.declared.tables.PlantInfo.{PlantInfo}
+use Rattle.sot_lang.specs.Tables.{Tables}
+use Rattle.sot_formula.specs.declared.quantity.Quantity.{Quantity}
+use Rattle.sot_formula.specs.declared.quantity.Quantity.TheVariants as quantities
+use Rattle.sot_formula.specs.declared.what.What.{What}
+use Rattle.sot_formula.specs.declared.what.What.TheVariants as whats
+use Rattle.sot_formula.specs.Formulas.{Formula, Truth, Compared, Not, And, Or, Once, Since, Within}
+
+-- the part at place i is this formula, by parts that stand before it
+abbrev pub IsPart : List What → ℕ → Formula → Type 0
+IsPart ws i (Truth value) = At ws i (whats.Truth value)
+IsPart ws i (Compared of by number) = At ws i (whats.Compared of by number)
+IsPart ws i (Not f) = (k : ℕ) × At ws i (whats.Not k) × (k < i) × IsPart ws k f
+IsPart ws i (And f g) =
+    (k n : ℕ) × At ws i (whats.And k n) × (k < i) × (n < i) × IsPart ws k f × IsPart ws n g
+IsPart ws i (Or f g) =
+    (k n : ℕ) × At ws i (whats.Or k n) × (k < i) × (n < i) × IsPart ws k f × IsPart ws n g
+IsPart ws i (Once f) = (k : ℕ) × At ws i (whats.Once k) × (k < i) × IsPart ws k f
+IsPart ws i (Since f g) =
+    (k n : ℕ) × At ws i (whats.Since k n) × (k < i) × (n < i) × IsPart ws k f × IsPart ws n g
+IsPart ws i (Within ticks f) = (k : ℕ) × At ws i (whats.Within ticks k) × (k < i) × IsPart ws k f
+
+-- the places of a part's own parts are before it, and no `within` looks back further than a flight
+-- lasts
+abbrev pub IsPlaced : ℕ → What → Type 0
+IsPlaced i (whats.Truth value) = Unit {0}
+IsPlaced i (whats.Compared of by number) = Unit {0}
+IsPlaced i (whats.Not k) = k < i
+IsPlaced i (whats.And k n) = (k < i) × (n < i)
+IsPlaced i (whats.Or k n) = (k < i) × (n < i)
+IsPlaced i (whats.Once k) = k < i
+IsPlaced i (whats.Since k n) = (k < i) × (n < i)
+IsPlaced i (whats.Within ticks k) = (k < i) × (ticks ≤ 100000)
+
+abbrev pub ArePlaced : List What → Type 0
+ArePlaced ws = (i : ℕ) (w : What) → At ws i w → IsPlaced i w
+
+-- a program has this scalar, this state or this module
+abbrev pub IsThere : Tables → Quantity → Type 0
+IsThere p (quantities.Scalar k) = k < length p.scalars
+IsThere p (quantities.State k v) =
+    (plant : PlantInfo) × At p.plants k plant × (v < length plant.states.items)
+IsThere p (quantities.Mode m) = m < length p.modules
+
+-- it has all that these parts compare
+abbrev pub AreThere : Tables → List What → Type 0
+AreThere p ws =
+    (i : ℕ) (q : _) (by : _) (number : _) → At ws i (whats.Compared q by number) → IsThere p q

@@ -1,0 +1,118 @@
+-- The grammar of formulas: what the tokens of a formula are, one case for each production.
+use Rattle.std.specs.Prelude.{ℕ, ◌+◌, max, ◌≡◌, ◌≤◌, ◌⊎◌, List, [], ◌∷◌, Bool, true, false, codes}
+use Rattle.std.specs.Prelude.{length}
+use Rattle.sot_text.specs.Lexeme.{mantissa_of, decimals_of}
+use Rattle.sot_text.specs.Reading.{Lexeme, AllLexes}
+use Rattle.sot_expression.specs.Lexemes.{IsKeyword, IsSign, IsName, IsNumber}
+use Rattle.sot_formula.specs.declared.words.Single.{Single}
+use Rattle.sot_formula.specs.declared.words.Single.TheVariants as singles
+use Rattle.sot_formula.specs.declared.words.Double.{Double}
+use Rattle.sot_formula.specs.declared.words.Double.TheVariants as doubles
+
+-- mode "(" NAME ")", NAME, NAME "." NAME
+pub data Reference : Type 0 where
+  a_mode : (w begin n end : Lexeme) → Reference
+  a_name : (n : Lexeme) → Reference
+  a_field : (n dot f : Lexeme) → Reference
+
+-- ["-"] NUMBER
+pub data Literal : Type 0 where
+  a_number : (n : Lexeme) → Literal
+  a_negative : (minus n : Lexeme) → Literal
+
+pub data Phrase : Type 0 where
+  -- "true", "false"
+  a_truth : (value : Bool) (t : Lexeme) → Phrase
+  -- "not" "(" mon ")", "once" "(" mon ")"
+  a_single : (o : Single) (w begin : Lexeme) (f : Phrase) (end : Lexeme) → Phrase
+  -- "and" "(" mon "," mon ")", "or", "since"
+  a_double : (o : Double) (w begin : Lexeme) (f : Phrase) (comma : Lexeme) (g : Phrase)
+      (end : Lexeme) → Phrase
+  -- "within" "(" NUMBER "," mon ")"
+  a_within : (w begin n comma : Lexeme) (f : Phrase) (end : Lexeme) → Phrase
+  -- ref ("<" | "<=" | ">" | ">=" | "==" | "!=") lit
+  a_comparison : (r : Reference) (by : Lexeme) (z : Literal) → Phrase
+
+-- the tokens, and some behind them
+abbrev pub reference_spelled : Reference → List Lexeme → List Lexeme
+reference_spelled (a_mode w begin n end) ts = w ∷ begin ∷ n ∷ end ∷ ts
+reference_spelled (a_name n) ts = n ∷ ts
+reference_spelled (a_field n dot f) ts = n ∷ dot ∷ f ∷ ts
+
+abbrev pub literal_spelled : Literal → List Lexeme → List Lexeme
+literal_spelled (a_number n) ts = n ∷ ts
+literal_spelled (a_negative minus n) ts = minus ∷ n ∷ ts
+
+abbrev pub spelled : Phrase → List Lexeme → List Lexeme
+spelled (a_truth value t) ts = t ∷ ts
+spelled (a_single o w begin f end) ts = w ∷ begin ∷ spelled f (end ∷ ts)
+spelled (a_double o w begin f comma g end) ts =
+    w ∷ begin ∷ spelled f (comma ∷ spelled g (end ∷ ts))
+spelled (a_within w begin n comma f end) ts = w ∷ begin ∷ n ∷ comma ∷ spelled f (end ∷ ts)
+spelled (a_comparison r by z) ts = reference_spelled r (by ∷ literal_spelled z ts)
+
+-- a name of this text, which has a meaning of its own here
+pub record IsWord (text : List ℕ) (t : Lexeme) : Type 0 where
+  pub name : IsName t
+  pub text_is : t.text ≡ text
+
+abbrev pub IsSingle : Single → Lexeme → Type 0
+IsSingle singles.Not t = IsKeyword (codes "not") t
+IsSingle singles.Once t = IsWord (codes "once") t
+
+abbrev pub IsDouble : Double → Lexeme → Type 0
+IsDouble doubles.And t = IsKeyword (codes "and") t
+IsDouble doubles.Or t = IsKeyword (codes "or") t
+IsDouble doubles.Since t = IsWord (codes "since") t
+
+abbrev pub IsTruth : Bool → Lexeme → Type 0
+IsTruth true t = IsKeyword (codes "true") t
+IsTruth false t = IsKeyword (codes "false") t
+
+abbrev pub IsReference : Reference → Type 0
+IsReference (a_mode w begin n end) =
+    IsWord (codes "mode") w × IsSign (codes "(") begin × IsName n × IsSign (codes ")") end
+IsReference (a_name n) = IsName n
+IsReference (a_field n dot f) = IsName n × IsSign (codes ".") dot × IsName f
+
+abbrev pub IsLiteral : Literal → Type 0
+IsLiteral (a_number n) = IsNumber n
+IsLiteral (a_negative minus n) = IsSign (codes "-") minus × IsNumber n
+
+abbrev pub IsComparing : Lexeme → Type 0
+IsComparing t =
+    IsSign (codes "<") t ⊎ IsSign (codes "<=") t ⊎ IsSign (codes ">") t ⊎ IsSign (codes ">=") t
+    ⊎ IsSign (codes "==") t ⊎ IsSign (codes "!=") t
+
+-- a whole number of ticks, at most 100,000
+pub record AreTicks (n : Lexeme) : Type 0 where
+  pub number : IsNumber n
+  pub whole : decimals_of n.text ≡ 0
+  pub few : mantissa_of n.text ≤ 100000
+
+abbrev pub IsPhrase : Phrase → Type 0
+IsPhrase (a_truth value t) = IsTruth value t
+IsPhrase (a_single o w begin f end) =
+    IsSingle o w × IsSign (codes "(") begin × IsPhrase f × IsSign (codes ")") end
+IsPhrase (a_double o w begin f comma g end) =
+    IsDouble o w × IsSign (codes "(") begin × IsPhrase f × IsSign (codes ",") comma × IsPhrase g
+    × IsSign (codes ")") end
+IsPhrase (a_within w begin n comma f end) =
+    IsWord (codes "within") w × IsSign (codes "(") begin × AreTicks n × IsSign (codes ",") comma
+    × IsPhrase f × IsSign (codes ")") end
+IsPhrase (a_comparison r by z) = IsReference r × IsComparing by × IsLiteral z
+
+-- how deep it nests: a comparison and a truth value are one level
+abbrev pub levels_of : Phrase → ℕ
+levels_of (a_truth value t) = 1
+levels_of (a_single o w begin f end) = 1 + levels_of f
+levels_of (a_double o w begin f comma g end) = 1 + max (levels_of f) (levels_of g)
+levels_of (a_within w begin n comma f end) = 1 + levels_of f
+levels_of (a_comparison r by z) = 1
+
+-- the bytes, at most 16,777,216, are the text of this formula, of at most 64 levels
+pub record IsFormulaText (bytes : List ℕ) (f : Phrase) : Type 0 where
+  pub short : length bytes ≤ 16777216
+  pub phrase : IsPhrase f
+  pub levels : levels_of f ≤ 64
+  pub tokens : AllLexes bytes (spelled f [])

@@ -1,0 +1,175 @@
+-- What tokens spell as a formula, read from the left: its parts, and whether some reference names
+-- nothing or some literal has another scale.
+use Rattle.std.specs.Prelude.{ℕ, zero, suc, ◌-◌, List, [], ◌∷◌, ◌++◌, Bool, true, false, ◌==◌, ◌||◌}
+use Rattle.std.specs.Prelude.{◌&&◌, not, int_le, pos, codes, Option, None, Some, Ok, Err, length}
+use Rattle.std.specs.Prelude.{if◌then◌else◌, nat_abs}
+use Rattle.sot_text.specs.Reading.{Lexeme}
+use Rattle.sot_lang.specs.Tables.{Tables}
+use Rattle.sot_tree.specs.declared.tree.Lit.{Lit}
+use Rattle.sot_expression.specs.Lexemes.{begins, is_sign, is_name}
+use Rattle.sot_expression.specs.Readers.{Read, ◌>>=◌, stuck, deep, one_token, expect, number_at}
+use Rattle.sot_expression.specs.Readers.{literal_at}
+use Rattle.sot_expression.specs.Stream.{first_of}
+use Rattle.sot_formula.specs.declared.quantity.Comparison.{Comparison}
+use Rattle.sot_formula.specs.declared.what.What.{What}
+use Rattle.sot_formula.specs.declared.what.What.TheVariants as whats
+use Rattle.sot_formula.specs.declared.words.Single.{Single}
+use Rattle.sot_formula.specs.declared.words.Double.{Double}
+use Rattle.sot_formula.specs.declared.words.Opening.{Opening}
+use Rattle.sot_formula.specs.declared.words.Opening.TheVariants as openings
+use Rattle.sot_formula.specs.declared.words.Word.{Word}
+use Rattle.sot_formula.specs.declared.words.Word.TheVariants as words
+use Rattle.sot_formula.specs.declared.finding.Found.{Found}
+use Rattle.sot_formula.specs.Words.{comparing_from, opening_from, word_of, single_what, double_what}
+use Rattle.sot_formula.specs.Finding.{plain_named, part_named, module_named}
+
+-- the parts so far, whether some reference named nothing, and whether some literal had another
+-- scale
+pub record Laid : Type 0 where
+  pub whats : List What
+  pub unknown : Bool
+  pub differs : Bool
+
+abbrev pub none_laid : Laid
+none_laid = record { whats = []; unknown = false; differs = false }
+
+-- the place of the last part
+abbrev pub place : Laid → ℕ
+place s = length s.whats - 1
+
+abbrev pub put : What → Laid → Laid
+put w s = record { whats = s.whats ++ w ∷ []; unknown = s.unknown; differs = s.differs }
+
+-- a comparison of what was found, or a part in its place
+abbrev pub compared : Option Found → Comparison → Lit → Laid → Laid
+compared None by z s =
+    record { whats = s.whats ++ whats.Truth false ∷ []; unknown = true; differs = s.differs }
+compared (Some x) by z s = record {
+  whats = s.whats ++ whats.Compared x.of by z.mantissa ∷ [];
+  unknown = s.unknown;
+  differs = s.differs || not (x.scale == z.scale);
+}
+
+-- the next token, if it is a name
+abbrev pub name_token : List Lexeme → Read Lexeme
+name_token ts = one_token is_name (λ t. t) ts
+
+-- the next token, whatever it is
+abbrev pub any_token : List Lexeme → Read Lexeme
+any_token [] = Err (stuck, [])
+any_token (t ∷ ts) = Ok (t, ts)
+
+abbrev pub found_or_stuck : {A : Type 0} → Option A → List Lexeme → Read A
+found_or_stuck None ts = Err (stuck, ts)
+found_or_stuck (Some x) ts = Ok (x, ts)
+
+-- the comparison whose sign comes next
+unfoldable pub comparing_at : List Lexeme → Read Comparison
+comparing_at ts = do
+  by ← found_or_stuck (comparing_from (first_of ts)) ts
+  t ← any_token by.1
+  Ok (by.0, t.1)
+
+-- the sign and the literal behind a reference
+unfoldable pub comparison_at : Option Found → Laid → List Lexeme → Read Laid
+comparison_at found s ts = do
+  by ← comparing_at ts
+  z ← literal_at by.1
+  Ok (compared found by.0 z.0 s, z.1)
+
+-- a whole number of ticks
+abbrev pub ticks_of : Lit → ℕ
+ticks_of n = nat_abs n.mantissa
+
+abbrev pub are_ticks : Lit → Bool
+are_ticks n = n.scale == 0 && int_le n.mantissa (pos 100000)
+
+unfoldable pub ticks_at : List Lexeme → Read ℕ
+ticks_at ts = do
+  n ← number_at ts
+  if are_ticks n.0 then Ok (ticks_of n.0, n.1) else Err (stuck, n.1)
+
+-- what reads a formula
+abbrev pub Reader : Type 0
+Reader = Laid → List Lexeme → Read Laid
+
+-- a part in parentheses
+unfoldable pub single_at : Single → Reader → Reader
+single_at o inner s ts = do
+  begin ← expect (is_sign (codes "(")) ts
+  f ← inner s begin.1
+  end ← expect (is_sign (codes ")")) f.1
+  Ok (put (single_what o (place f.0)) f.0, end.1)
+
+-- two parts
+unfoldable pub double_at : Double → Reader → Reader
+double_at o inner s ts = do
+  begin ← expect (is_sign (codes "(")) ts
+  f ← inner s begin.1
+  comma ← expect (is_sign (codes ",")) f.1
+  g ← inner f.0 comma.1
+  end ← expect (is_sign (codes ")")) g.1
+  Ok (put (double_what o (place f.0) (place g.0)) g.0, end.1)
+
+-- ticks and a part
+unfoldable pub within_at : Reader → Reader
+within_at inner s ts = do
+  begin ← expect (is_sign (codes "(")) ts
+  n ← ticks_at begin.1
+  comma ← expect (is_sign (codes ",")) n.1
+  f ← inner s comma.1
+  end ← expect (is_sign (codes ")")) f.1
+  Ok (put (whats.Within n.0 (place f.0)) f.0, end.1)
+
+-- a module in parentheses
+unfoldable pub mode_at : Tables → List Lexeme → Read (Option Found)
+mode_at p ts = do
+  begin ← expect (is_sign (codes "(")) ts
+  n ← name_token begin.1
+  end ← expect (is_sign (codes ")")) n.1
+  Ok (module_named p n.0.text, end.1)
+
+unfoldable pub mode_compared_at : Tables → Reader
+mode_compared_at p s ts = mode_at p ts >>= λ r. comparison_at r.0 s r.1
+
+-- a point and a name behind a name
+unfoldable pub part_at : Tables → Lexeme → List Lexeme → Read (Option Found)
+part_at p n ts = do
+  dot ← expect (is_sign (codes ".")) ts
+  f ← name_token dot.1
+  Ok (part_named p n.text f.0.text, f.1)
+
+-- a reference that begins with this name, and what it is compared with
+unfoldable pub named_at : Tables → Lexeme → Reader
+named_at p n s ts =
+    if begins (is_sign (codes ".")) ts then (part_at p n ts >>= λ r. comparison_at r.0 s r.1)
+    else comparison_at (plain_named p n.text) s ts
+
+-- what stands in parentheses behind a name
+unfoldable pub called_at : Tables → Reader → Word → Reader
+called_at p inner (words.Single o) s ts = single_at o inner s ts
+called_at p inner (words.Double o) s ts = double_at o inner s ts
+called_at p inner words.Within s ts = within_at inner s ts
+called_at p inner words.Mode s ts = mode_compared_at p s ts
+called_at p inner words.Other s ts = Err (stuck, ts)
+
+unfoldable pub behind_name_at : Tables → Reader → Lexeme → Reader
+behind_name_at p inner n s ts =
+    if begins (is_sign (codes "(")) ts then called_at p inner (word_of n.text) s ts
+    else named_at p n s ts
+
+-- a formula that begins so
+unfoldable pub opened_at : Tables → Reader → Opening → Reader
+opened_at p inner (openings.Truth value) s ts = do
+  t ← any_token ts
+  Ok (put (whats.Truth value) s, t.1)
+opened_at p inner (openings.Single o) s ts = any_token ts >>= λ t. single_at o inner s t.1
+opened_at p inner (openings.Double o) s ts = any_token ts >>= λ t. double_at o inner s t.1
+opened_at p inner openings.Name s ts = name_token ts >>= λ n. behind_name_at p inner n.0 s n.1
+opened_at p inner openings.Other s ts = Err (stuck, ts)
+
+-- a formula of at most so many levels
+unfoldable pub formula_at : Tables → ℕ → Reader
+formula_at p zero s ts = Err (deep, ts)
+formula_at p (suc room) s ts =
+    opened_at p (formula_at p room) (opening_from (first_of ts)) s ts

@@ -1,0 +1,36 @@
+//! Parts of formulas.
+
+use crate::quantity::{Comparison, Quantity};
+
+/// What a part of a formula is, by the places of its own parts, which stand before it.
+#[derive(Clone, Copy)]
+pub enum What {
+    Truth(bool),
+    /// A quantity is compared with a mantissa at its scale.
+    Compared {
+        of: Quantity,
+        by: Comparison,
+        number: i64,
+    },
+    Not(usize),
+    And {
+        first: usize,
+        second: usize,
+    },
+    Or {
+        first: usize,
+        second: usize,
+    },
+    /// It held at some moment so far.
+    Once(usize),
+    /// The second held at some moment so far, and the first at each moment since.
+    Since {
+        first: usize,
+        second: usize,
+    },
+    /// It held at most so many ticks ago.
+    Within {
+        ticks: u32,
+        of: usize,
+    },
+}

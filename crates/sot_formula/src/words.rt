@@ -1,0 +1,162 @@
+//! The words of formulas.
+
+ghost use Rattle.std.specs.Prelude.{◌≡◌};
+ghost use Rattle.std.specs.Str.{bytes_eq};
+ghost use Rattle.sot_text.specs.Reading.{lexeme};
+ghost use Rattle.sot_expression.specs.Lexemes.{is_sign, is_keyword};
+ghost use Rattle.sot_formula.specs.Words.{comparing_of, comparing_from, opening_of, opening_from};
+ghost use Rattle.sot_formula.specs.Words.{word_of, single_what, double_what};
+ghost use Rattle.sot_expression.specs.Stream.{first_of};
+
+use crate::quantity::Comparison;
+use crate::what::What;
+use sot_expression::Tokens;
+use sot_text::{Kind, Token};
+
+/// What has one part in parentheses.
+#[derive(Clone, Copy)]
+pub enum Single {
+    Not,
+    Once,
+}
+
+/// What has two.
+#[derive(Clone, Copy)]
+pub enum Double {
+    And,
+    Or,
+    Since,
+}
+
+/// What a formula begins with.
+#[derive(Clone, Copy)]
+pub enum Opening {
+    Truth(bool),
+    Single(Single),
+    Double(Double),
+    Name,
+    Other,
+}
+
+/// What a name is in front of a parenthesis.
+#[derive(Clone, Copy)]
+pub enum Word {
+    Single(Single),
+    Double(Double),
+    Within,
+    Mode,
+    Other,
+}
+
+fn is_sign(token: &Token<'_>, text: &[u8]) -> bool
+    ensures { result ≡ is_sign text.now (lexeme token.now) }
+{
+    matches!(token.kind, Kind::Sign) && token.text == text
+}
+
+fn is_keyword(token: &Token<'_>, text: &[u8]) -> bool
+    ensures { result ≡ is_keyword text.now (lexeme token.now) }
+{
+    matches!(token.kind, Kind::Keyword) && token.text == text
+}
+
+fn comparing_of(token: &Token<'_>) -> Option<Comparison>
+    ensures { result ≡ comparing_of (lexeme token.now) }
+{
+    if is_sign(token, b"<") {
+        Some(Comparison::Less)
+    } else if is_sign(token, b"<=") {
+        Some(Comparison::LessEqual)
+    } else if is_sign(token, b">") {
+        Some(Comparison::Greater)
+    } else if is_sign(token, b">=") {
+        Some(Comparison::GreaterEqual)
+    } else if is_sign(token, b"==") {
+        Some(Comparison::Equal)
+    } else if is_sign(token, b"!=") {
+        Some(Comparison::NotEqual)
+    } else {
+        None
+    }
+}
+
+/// The comparison whose sign comes next.
+pub fn comparing(tokens: &Tokens<'_>) -> Option<Comparison>
+    ensures { result ≡ comparing_from (first_of tokens.now.tokens) }
+{
+    comparing_of(&tokens.peek()?)
+}
+
+fn opening_of(token: &Token<'_>) -> Opening
+    ensures { result ≡ opening_of (lexeme token.now) }
+{
+    if matches!(token.kind, Kind::Name) {
+        Opening::Name
+    } else if is_keyword(token, b"true") {
+        Opening::Truth(true)
+    } else if is_keyword(token, b"false") {
+        Opening::Truth(false)
+    } else if is_keyword(token, b"not") {
+        Opening::Single(Single::Not)
+    } else if is_keyword(token, b"and") {
+        Opening::Double(Double::And)
+    } else if is_keyword(token, b"or") {
+        Opening::Double(Double::Or)
+    } else {
+        Opening::Other
+    }
+}
+
+/// What the next token begins.
+pub fn next_opening(tokens: &Tokens<'_>) -> Opening
+    ensures { result ≡ opening_from (first_of tokens.now.tokens) }
+{
+    match tokens.peek() {
+        Some(token) => opening_of(&token),
+        None => Opening::Other,
+    }
+}
+
+fn is_same(name: &[u8], word: &[u8]) -> bool
+    ensures { result ≡ bytes_eq name.now word.now }
+{
+    name == word
+}
+
+/// What a name of these bytes is in front of a parenthesis.
+pub fn word_of(name: &[u8]) -> Word
+    ensures { result ≡ word_of name.now }
+{
+    if is_same(name, b"once") {
+        Word::Single(Single::Once)
+    } else if is_same(name, b"since") {
+        Word::Double(Double::Since)
+    } else if is_same(name, b"within") {
+        Word::Within
+    } else if is_same(name, b"mode") {
+        Word::Mode
+    } else {
+        Word::Other
+    }
+}
+
+/// What has the part at this place.
+pub fn single_what(word: Single, place: usize) -> What
+    ensures { result ≡ single_what word place }
+{
+    match word {
+        Single::Not => What::Not(place),
+        Single::Once => What::Once(place),
+    }
+}
+
+/// What has the parts at these places.
+pub fn double_what(word: Double, first: usize, second: usize) -> What
+    ensures { result ≡ double_what word first second }
+{
+    match word {
+        Double::And => What::And { first, second },
+        Double::Or => What::Or { first, second },
+        Double::Since => What::Since { first, second },
+    }
+}

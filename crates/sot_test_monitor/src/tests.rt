@@ -1,0 +1,4 @@
+//! Tests of formulas.
+
+mod reads;
+mod steps;
