@@ -1,5 +1,5 @@
 -- The events of a board's calls, as a flight goes on by them.
-use Rattle.std.proofs.Common.{◌≡◌, ℕ, suc, Bool, ℤ, Option, List, ◌∷◌, refl, sym, ap, ◌∙◌, subst}
+use Rattle.std.proofs.Common.{◌≡◌, ℕ, suc, ℤ, Option, List, ◌∷◌, refl, sym, ap, subst}
 use Rattle.std.specs.Prelude.{slice_set}
 use Rattle.sot_lang.specs.Tables.{Tables}
 use Rattle.sot_lang.specs.Ticks.{joined}

@@ -43,11 +43,16 @@ impl Model for Region {
 
     ghost Value = { BoxList };
 
-    ghost view = { λ r. record { width = r.width; boxes = r.boxes.items; settled = is_some r.index } };
+    ghost view = { λ r. record {
+      width = r.width;
+      boxes = r.boxes.items;
+      settled = is_some r.index;
+    } };
 
     ghost invariant = { λ r. record {
       boxes : All (λ b. (length b ≡ r.width) × AreOrdered b) r.boxes.items;
-      index : MatchOption r.index (Unit {0}) (λ x. IsIndex r.boxes.items x.entries.items x.reaches.items);
+      index : MatchOption r.index (Unit {0})
+          (λ x. IsIndex r.boxes.items x.entries.items x.reaches.items);
     } };
 }
 

@@ -1,7 +1,7 @@
 -- Due times of one period and offset, and how many ticks are left until they are met.
 use Rattle.std.proofs.Common.{◌≡◌, ◌≢◌, ℕ, suc, ◌+◌, ◌-◌, ◌*◌, ◌/◌, ◌%◌, ◌<◌, ◌≤◌, Bool, true, false, ◌⊎◌, ◌↔◌, inl, inr, ⊎_elim, refl, sym, ap, ◌∙◌, arith}
 use Rattle.std.proofs.lemmas.Bool.{cases_lt, cases_eq, false≢true}
-use Rattle.std.proofs.Math.Nat.{mod_self, zero-mod, add-mod_right, mul-add-mod_self_left, mod-lt, div-add-mod, mod-eq_of_lt, mul-mod_right}
+use Rattle.std.proofs.Math.Nat.{zero-mod, mul-add-mod_self_left, mod-lt, div-add-mod, mod-eq_of_lt, mul-mod_right}
 use Rattle.sot_calendar.specs.Due.{IsDue, IsNextDue, IsLastDue, IsDueIn, IsStillDue, IsUntil}
 
 -- the rest of x + e, where e is more than nothing and does not reach the next multiple

@@ -17,7 +17,8 @@ use std::alloc::{AllocError, Global};
 pub fn certificate_json(alloc: Global, p: &Typed, cert: &Cert) -> Result<Vec<u8>, AllocError>
     requires entries { length cert.now.modules.items ≡ length p.now.modules }
     requires no_jitter { cert.now.jitter ≡ 0 }
-    ensures text { IfOk result (λ text. text.items ≡ compact_text (certificate_data p.now cert.now)) }
+    ensures text { IfOk result (λ text.
+        text.items ≡ compact_text (certificate_data p.now cert.now)) }
     ensures reads_back { IfOk result (λ text. json_of text.items
         ≡ Some (certificate_data p.now cert.now)) }
 {

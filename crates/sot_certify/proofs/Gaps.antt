@@ -5,7 +5,7 @@ use Rattle.sot_box.specs.Sides.{Side, IsIn}
 use Rattle.sot_box.specs.Boxes.{IsWithin, IsBefore}
 use Rattle.sot_box.specs.Regions.{IsInRegion, Covers, IsGap}
 use Rattle.sot_box.proofs.Ranges.{all_without_axes, all_by_first}
-use Rattle.sot_world.proofs.Progress.{within_cases, region_cases}
+use Rattle.sot_world.proofs.Progress.{region_cases}
 
 -- the first number from x on, before a bound, of which B holds: of all before it A does
 record First (A B : ℤ → Type 0) (x bound : ℤ) : Type 0 where

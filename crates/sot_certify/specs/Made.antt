@@ -42,8 +42,8 @@ pub record FailsAt (p : Tables) (a : ModuleInfo) (reach : Bool) (point : List â„
   pub found : FindsCells p a reach (Failing cells point)
   pub few : length cells â‰¤ 4096
 
--- the list has a 4,097th cell, before any failing point: `Begun` says that these cells come first, and leaves open what
--- comes behind them
+-- the list has a 4,097th cell, before any failing point: `Begun` says that these cells come first,
+-- and leaves open what comes behind them
 pub record HasTooMany (p : Tables) (a : ModuleInfo) (reach : Bool) : Type 0 where
   pub cells : List (List Side)
   pub found : FindsCells p a reach (Begun cells)

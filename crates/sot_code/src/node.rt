@@ -32,7 +32,8 @@ fn fire(
         ≡ length numbers.old }
     requires locals { length locals.old ≡ length node.now.locals.items }
     requires blank { draft.old ≡ replicate 8 None }
-    ensures { left_by result locals.new draft.new ≡ recorded (execution acts.now (local_ranges node.now) (write_ranges p.now node.now)
+    ensures { left_by result locals.new draft.new
+        ≡ recorded (execution acts.now (local_ranges node.now) (write_ranges p.now node.now)
         (take (length node.now.reads.items) numbers.old)
         (drop (length node.now.reads.items) numbers.old)) }
 {

@@ -83,7 +83,8 @@ fn negation(part: &Term, at: Span, numbers: &[i64]) -> Result<i64, Trap>
 #[cycle(exact)]
 fn denial(part: &Term, numbers: &[i64]) -> Result<i64, Trap>
     requires { HasPlaces (length numbers.now) part.now }
-    ensures { result ≡ then_with (value_of part.now numbers.now) (λ x. Ok (truth (not (is_true x)))) }
+    ensures { result
+        ≡ then_with (value_of part.now numbers.now) (λ x. Ok (truth (not (is_true x)))) }
 {
     Ok(truth_value(!holds(exact(part, numbers)?)))
 }

@@ -8,7 +8,8 @@ use Rattle.sot_commands.specs.declared.words.Command.{Command}
 use Rattle.sot_commands.specs.declared.words.Command.TheVariants.{Check, Fly, Replay, Recover, Format, Certify, Make, Soak}
 use Rattle.sot_commands.specs.Answers.{Accepts, Refutes, Rejects, Replies, given_to, input_limit}
 use Rattle.sot_commands.specs.Steps.{WordAnswer}
-use Rattle.sot_commands.specs.Ends.{Outside, Ends, Written, Takes, Done, IsUsage, IsTooLong, IsAnswer, Decides}
+use Rattle.sot_ports.specs.Outside.{Outside, Written}
+use Rattle.sot_commands.specs.Ends.{Ends, Takes, Done, IsUsage, IsTooLong, IsAnswer, Decides}
 use Rattle.sot_commands.proofs.Unique.{decides_once}
 
 -- a status, and the text that belongs to it

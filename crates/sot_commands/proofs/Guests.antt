@@ -24,7 +24,7 @@ use Rattle.sot_commands.specs.declared.answer.Answer.{Answer}
 use Rattle.sot_commands.specs.declared.telling.Telling.{Telling}
 use Rattle.sot_commands.specs.declared.telling.Telling.TheVariants.{Trace, Summary}
 use Rattle.sot_commands.specs.Steps.{told_text, JudgesFlight, GuestsDid}
-use Rattle.sot_commands.specs.Ends.{Written}
+use Rattle.sot_ports.specs.Outside.{Written}
 use Rattle.sot_commands.specs.Answers.{SpellsFor}
 use Rattle.sot_report.specs.Missions.{Mission}
 use Rattle.sot_sections.specs.declared.mission.Need.TheVariants as needs

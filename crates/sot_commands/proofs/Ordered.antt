@@ -14,7 +14,8 @@ use Rattle.sot_commands.specs.declared.order.FlightOrder.{FlightOrder}
 use Rattle.sot_commands.specs.declared.answer.Answer.{Answer}
 use Rattle.sot_commands.specs.Words.{Asks}
 use Rattle.sot_commands.specs.Answers.{Replies}
-use Rattle.sot_commands.specs.Ends.{Outside, Ends, Written}
+use Rattle.sot_ports.specs.Outside.{Outside, Written}
+use Rattle.sot_commands.specs.Ends.{Ends}
 use Rattle.sot_commands.specs.Guests.{GuestsEnd, Flew, UnnamedStay}
 use Rattle.sot_commands.specs.Steps.{GuestsDid}
 use Rattle.sot_commands.specs.Orders.{Orders, IsOrdered, FliesBytes, FlightEnds, handed_in}

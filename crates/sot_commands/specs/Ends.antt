@@ -1,9 +1,10 @@
 -- How a call of `soter` may end: the status, and what was read and written.
 use Rattle.std.specs.Prelude.{◌≡◌, ◌≢◌, ℕ, ◌+◌, ◌<◌, ◌≤◌, ◌⊎◌, List, [], Option, IfSome, length}
-use Rattle.std.specs.Prelude.{take, String}
-use Rattle.std.specs.Io.KnownBytes.{Appends, Keeps}
+use Rattle.std.specs.Prelude.{String}
+use Rattle.std.specs.Io.KnownBytes.{Keeps}
 use Rattle.std.proofs.Common.{Global}
 use Rattle.sot_ports.specs.Faults.{Rose}
+use Rattle.sot_ports.specs.Outside.{Outside, Writes, WritesPart}
 use Rattle.sot_ports.specs.Whole.{ReadsAll, ReadsCount}
 use Rattle.sot_commands.specs.Texts.{usage_text, long_text}
 use Rattle.sot_commands.specs.declared.words.Command.{Command}
@@ -11,25 +12,6 @@ use Rattle.sot_commands.specs.declared.words.Command.TheVariants.{Check, Fly, Re
 use Rattle.sot_commands.specs.declared.words.Command.TheVariants.{Recover, Certify, Make, Soak}
 use Rattle.sot_commands.specs.Words.{Asks, AsksReader, AsksNone}
 use Rattle.sot_commands.specs.Answers.{Accepts, Refutes, Rejects, Replies, given_to, input_limit}
-
--- what source and sink tell at one moment: the bytes that are still to come, those that were
--- taken, and how often each has failed
-pub record Outside : Type 0 where
-  pub left : Option (List ℕ)
-  pub held : Option (List ℕ)
-  pub read_faults : ℕ
-  pub write_faults : ℕ
-
-abbrev pub outside : Option (List ℕ) → Option (List ℕ) → ℕ → ℕ → Outside
-outside left held read_faults write_faults =
-    record { left = left; held = held; read_faults = read_faults; write_faults = write_faults }
-
--- a text was written without a fault and this is its status, or the sink failed before its end
-abbrev pub Written : Option (List ℕ) → Option (List ℕ) → ℕ → ℕ → ℕ → List ℕ → ℕ → Type 0
-Written held held_after faults faults_after said text status =
-    ((status ≡ said) × (faults_after ≡ faults) × Appends held held_after text)
-    ⊎ ((status ≡ 5) × Rose faults faults_after
-    × ((n : ℕ) × (n < length text) × Appends held held_after (take n text)))
 
 -- what a command takes of a source: all that it has left; and nothing for `make` and `soak`, which
 -- have no input
@@ -66,16 +48,6 @@ IsAnswer guests words before after text =
     Done (Accepts guests) words before after text ⊎ Done (Refutes guests) words before after text
     ⊎ IsUsage words text
     ⊎ Done (Rejects guests) words before after text ⊎ IsTooLong words before after text
-
--- such a text was written, all of it
-abbrev pub Writes : Outside → Outside → (List ℕ → Type 0) → Type 0
-Writes before after Says = (text : List ℕ) × Says text × Appends before.held after.held text
-
--- the front of such a text was written, and not all of it
-abbrev pub WritesPart : Outside → Outside → (List ℕ → Type 0) → Type 0
-WritesPart before after Says =
-    (text : List ℕ) × Says text × ((n : ℕ) × (n < length text)
-    × Appends before.held after.held (take n text))
 
 -- the status that words, bytes and the number of guests alone decide
 abbrev pub Decides : ℕ → List (String Global) → List ℕ → ℕ → Type 0

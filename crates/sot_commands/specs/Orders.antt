@@ -19,7 +19,8 @@ use Rattle.sot_commands.specs.declared.order.Begun.{Begun}
 use Rattle.sot_commands.specs.declared.order.Begun.TheVariants.{Ended, Flight}
 use Rattle.sot_commands.specs.Words.{Asks}
 use Rattle.sot_commands.specs.Answers.{IsTraceOf, IsSummaryOf, FliesWith, DoesNotFly, input_limit}
-use Rattle.sot_commands.specs.Ends.{Takes, Written}
+use Rattle.sot_ports.specs.Outside.{Written}
+use Rattle.sot_commands.specs.Ends.{Takes}
 
 -- of a call that has ended, this holds of its status
 abbrev pub IfEnded : Begun → (Status → Type 0) → Type 0

@@ -9,7 +9,8 @@ ghost use Rattle.sot_commands.specs.declared.words.Command.TheVariants.{Fly as F
 ghost use Rattle.sot_commands.specs.declared.telling.Telling.TheVariants.{Trace};
 ghost use Rattle.sot_commands.specs.Guests.{GuestsEnd};
 ghost use Rattle.sot_commands.specs.Steps.{CommandReply, WordReply, Silence};
-ghost use Rattle.sot_commands.specs.Ends.{Ends, Written, outside};
+ghost use Rattle.sot_ports.specs.Outside.{Written, outside};
+ghost use Rattle.sot_commands.specs.Ends.{Ends};
 ghost use Rattle.sot_commands.specs.Orders.{IsOrdered, FlightEnds, IfEnded, IfFlight};
 
 use crate::answer::{Answer, fixed};

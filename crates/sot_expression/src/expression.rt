@@ -77,7 +77,8 @@ fn number_part(tokens: &mut Tokens<'_>) -> Result<Part, Fail>
 #[inline(always)]
 #[tactic(auto, unfolding(crate::specs::ExpressionReaders::truth_part))]
 fn truth_part(tokens: &mut Tokens<'_>, value: bool) -> Result<Part, Fail>
-    ensures read { Gives part_view result tokens.old tokens.new (truth_part value tokens.old.tokens) }
+    ensures read { Gives part_view result tokens.old tokens.new
+        (truth_part value tokens.old.tokens) }
     ensures leaf { IfOk result (λ p. (p.levels ≡ 1) × (p.bare ≡ false)) }
 {
     let token = any_token(tokens)?;

@@ -38,7 +38,8 @@ module _ (g : Global) where
         numbers = 57;
       })
 
-  -- ---- with an environment topic of a number and a truth value, a plant without disturbances, and another external node
+  -- ---- with an environment topic of a number and a truth value, a plant without disturbances, and
+  -- ---- another external node
 
   abbrev pub env : TopicInfo
   env = record { name = codes "env"; outside = true; first = 1; count = 2 }

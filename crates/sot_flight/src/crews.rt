@@ -39,7 +39,8 @@ fn kind_of(alloc: Global, value: &Value) -> Result<CrewKind, JsonFail>
 
 #[tactic(auto, unfolding(sot_json::specs::Json::at), using(sot_json::proofs::Parts::found_there, sot_json::proofs::Parts::lacking))]
 fn kind_at(alloc: Global, object: &Map<String, Value>) -> Result<CrewKind, JsonFail>
-    ensures { Gives (λ k. k) result (at (codes "kind") crew_kind (members_view object.now.entries)) }
+    ensures { Gives (λ k. k) result
+        (at (codes "kind") crew_kind (members_view object.now.entries)) }
 {
     let value = needed(alloc, object, "kind")?;
     part_of(alloc, "kind", kind_of(alloc, value))
@@ -175,7 +176,8 @@ fn crew_under(
     object: &Map<String, Value>,
 ) -> Result<Crew, JsonFail>
     ensures { Gives crew_of result (at node.now.name
-        (crew_says guests (map crew_of done.now.items) node.now) (members_view object.now.entries)) }
+        (crew_says guests (map crew_of done.now.items) node.now)
+        (members_view object.now.entries)) }
 {
     let name = node.name.as_str();
     let value = needed(alloc, object, name)?;

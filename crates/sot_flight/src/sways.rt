@@ -42,7 +42,8 @@ fn kind_of(alloc: Global, value: &Value) -> Result<SwayKind, JsonFail>
 
 #[tactic(auto, unfolding(sot_json::specs::Json::at), using(sot_json::proofs::Parts::found_there, sot_json::proofs::Parts::lacking))]
 fn kind_at(alloc: Global, object: &Map<String, Value>) -> Result<SwayKind, JsonFail>
-    ensures { Gives (λ k. k) result (at (codes "kind") sway_kind (members_view object.now.entries)) }
+    ensures { Gives (λ k. k) result
+        (at (codes "kind") sway_kind (members_view object.now.entries)) }
 {
     let value = needed(alloc, object, "kind")?;
     part_of(alloc, "kind", kind_of(alloc, value))

@@ -9,7 +9,8 @@ use Rattle.sot_halving.specs.Findings.{Whole, Failing, BisectsEach}
 abbrev pub from_to : ℤ → ℤ → Side
 from_to lo hi = record { lo = lo; hi = hi }
 
--- -3..2 is cut behind -1; of two equal axes the first is cut; a wider second axis goes before the first
+-- -3..2 is cut behind -1; of two equal axes the first is cut; a wider second axis goes before the
+-- first
 abbrev pub CutsAreAsStated : Type 0
 CutsAreAsStated =
     AreHalves (from_to (negsuc 2) (pos 2) ∷ []) (from_to (negsuc 2) (negsuc 0) ∷ [])

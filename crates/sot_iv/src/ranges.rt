@@ -24,7 +24,8 @@ impl Model for Ranges {
 
     ghost view = { λ r. take r.count r.sides };
 
-    ghost invariant = { λ r. (r.count ≤ 80) × (length r.sides ≡ 80) × AreOrdered (take r.count r.sides) };
+    ghost invariant = { λ r. (r.count ≤ 80) × (length r.sides ≡ 80)
+        × AreOrdered (take r.count r.sides) };
 }
 
 impl Ranges {

@@ -1,5 +1,5 @@
-//! What a value has to be that is taken in turns: it stands for a ground, which never changes, and for a list,
-//! which only grows.
+//! What a value has to be that is taken in turns: it stands for a ground, which never changes, and
+//! for a list, which only grows.
 //!
 //! The lock (`sot_turn`) and the values behind it know this trait, and not each other.
 #![tactic(auto)]

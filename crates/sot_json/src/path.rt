@@ -73,7 +73,8 @@ fn push_name(text: &mut String, name: &str) -> Result<(), AllocError>
 }
 
 fn push_escaped(text: &mut String, c: char) -> Result<(), AllocError>
-    ensures { OnOk result (string_bytes text.new ≡ string_bytes text.old ++ escaped (encode_utf8 c)) }
+    ensures { OnOk result
+        (string_bytes text.new ≡ string_bytes text.old ++ escaped (encode_utf8 c)) }
 {
     match c {
         '~' => text.push_str("~0"),

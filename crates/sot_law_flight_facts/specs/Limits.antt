@@ -1,5 +1,5 @@
 -- The limits of a flight's events and numbers, each just reached and passed by one.
-use Rattle.std.specs.Prelude.{◌≡◌, ◌≤◌, ℕ, pos, List, [], ◌∷◌, Ok, Err, replicate}
+use Rattle.std.specs.Prelude.{◌≡◌, ◌≤◌, ℕ, pos, [], ◌∷◌, Ok, Err, replicate}
 use Rattle.std.specs.Global.{Global}
 use Rattle.sot_lang.specs.Tables.{Tables}
 use Rattle.sot_lang.specs.Line.{line, pos_plant}

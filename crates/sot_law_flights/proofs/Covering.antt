@@ -5,7 +5,7 @@ use Rattle.sot_box.specs.Sides.{Side, IsIn}
 use Rattle.sot_box.specs.Boxes.{IsWithin}
 use Rattle.sot_box.specs.Regions.{IsInRegion, Covers}
 use Rattle.sot_box.proofs.Ranges.{all_without_axes, all_by_first}
-use Rattle.sot_world.proofs.Progress.{within_cases, region_cases}
+use Rattle.sot_world.proofs.Progress.{region_cases}
 
 -- it holds, or it does not
 abbrev pub IsSettled : Type 0 → Type 0

@@ -1,13 +1,12 @@
 -- A decision tells its mode, and a firing whether its node is enabled.
-use Rattle.std.proofs.Common.{◌≡◌, ℕ, ℤ, Bool, Option, List, [], ◌∷◌, ◌++◌, refl, sym, ap, ◌∙◌, subst}
+use Rattle.std.proofs.Common.{◌≡◌, ℕ, ℤ, Bool, Option, List, sym, ap, ◌∙◌}
 use Rattle.sot_lang.specs.Tables.{Tables}
 use Rattle.sot_world.specs.Configurations.{Configuration, mode_of}
 use Rattle.sot_world.specs.declared.mode.Mode.{Mode}
 use Rattle.sot_world.specs.Steps.{Event, Input, Code, Guest, Decide, Tick, Step, is_enabled, allowed_by}
 use Rattle.sot_world.specs.Outcomes.{Recorded, ModuleDecided, NodeFired, Records}
-use Rattle.sot_world.specs.HistoryEntry.{Logged, InputAt, FireAt, DecideAt, TickAt}
-use Rattle.sot_flight.specs.Plans.{Plan}
-use Rattle.sot_board.specs.Flown.{Position, Tells, Flies, Leads, FlownSoFar}
+use Rattle.sot_world.specs.HistoryEntry.{FireAt, DecideAt}
+use Rattle.sot_board.specs.Flown.{Tells}
 use Rattle.sot_law_flights.specs.ToldModes.{DecisionsTellModes, FiringsTellWhetherEnabled}
 use Rattle.sot_law_flights.proofs.Told.{led_last}
 

@@ -12,9 +12,8 @@ use Rattle.sot_parser.specs.Declarations.{external_of}
 use Rattle.sot_print.specs.declared.gap.Gap.{Gap}
 use Rattle.sot_print.specs.declared.gap.Gap.TheVariants.{Space}
 use Rattle.sot_print.specs.Words.{Word, keyword, sign, name}
-use Rattle.sot_print.specs.Canonical.{clause, closing, shape_words, start_words, topic_head_words, topic_words, state_words, names_clause, noise_clause}
-use Rattle.sot_print.specs.Canonical.{next_clause, plant_clauses, plant_words, timing_words, local_clause, node_head_words, node_clauses, do_clause, node_words}
-use Rattle.sot_print.specs.Canonical.{region_words, control_clauses, region_clauses, module_words, declaration_words, own_line, declarations_from}
+use Rattle.sot_print.specs.Canonical.{closing, names_clause}
+use Rattle.sot_print.specs.Canonical.{timing_words, local_clause, do_clause, node_words}
 use Rattle.sot_print.specs.Canonical as canonical
 use Rattle.sot_tree.specs.Formed as formed
 use Rattle.sot_law_format.specs.Unplaced.{unplaced_name, unplaced_literal, unplaced_node}

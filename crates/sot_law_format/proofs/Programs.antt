@@ -2,7 +2,7 @@
 use Rattle.std.proofs.Common.{List, [], ◌∷◌, map, Bool, false, refl, ap}
 use Rattle.std.proofs.Math.Nat.{le_refl}
 use Rattle.sot_text.specs.Reading.{Lexeme}
-use Rattle.sot_tree.specs.Trees.{Block, Form, Start, Topic, Next, Local, Plant, Node, Area, Module, Declaration}
+use Rattle.sot_tree.specs.Trees.{Declaration}
 use Rattle.sot_tree.specs.Trees as trees
 use Rattle.sot_parser.specs.Pieces.{each}
 use Rattle.sot_parser.specs.Declarations.{DeclarationForm, a_topic, a_plant, a_coded, an_external, a_module, spelled_declaration, declaration_of}

@@ -4,7 +4,7 @@ use Rattle.std.specs.Prelude.{◌%◌}
 use Rattle.std.proofs.lemmas.Bool.{false≢true}
 use Rattle.std.proofs.Math.Nat.{add-mod_right}
 use Rattle.sot_calendar.specs.Due.{IsDue, IsLastDue}
-use Rattle.sot_calendar.proofs.Clock.{due_gap, last_now, cases_due}
+use Rattle.sot_calendar.proofs.Clock.{due_gap, last_now}
 
 -- d was the due time of the last firing: it is not yet due again, or it is left for the next due time, and not late
 abbrev pub IsBetween : ℕ → ℕ → ℕ → ℕ → ℕ → Bool → Type 0

@@ -1,78 +1,26 @@
--- Commands that are held lie in the intervals of the drafts from a cell (the first lemmas are private in sot_tube/proofs/Certificate).
-use Rattle.std.proofs.Common.{◌≡◌, ℕ, suc, ◌+◌, ◌<◌, ◌≤◌, ℤ, ⊎_elim, List, [], ◌∷◌, Option, Some, None, map, length, refl, sym, ap, ◌∙◌, subst, arith, eqb}
+-- Commands that are held lie in the intervals of the drafts from a cell.
+use Rattle.std.proofs.Common.{◌≡◌, ℕ, ◌+◌, ◌<◌, ◌≤◌, ℤ, ⊎_elim, List, [], ◌∷◌, length, sym, ◌∙◌, subst, arith}
 use Rattle.std.specs.Prelude.{slice_index_or, slice_set}
-use Rattle.std.proofs.lemmas.Bool.{cases_eq, eq-eqb, ne_eqb, cond-true, cond-false}
+use Rattle.std.proofs.lemmas.Bool.{cases_eq}
 use Rattle.std.proofs.lemmas.List.{get_or-set_same, get_or-set_other, length-map}
 use Rattle.std.proofs.lemmas.Option.{slice_get_within, same_Some}
-use Rattle.sot_lists.specs.Places.{At, Has}
 use Rattle.sot_lists.proofs.Places.{at_map}
-use Rattle.sot_box.specs.Sides.{Side, IsIn}
+use Rattle.sot_box.specs.Sides.{Side}
 use Rattle.sot_box.specs.Boxes.{IsWithin}
-use Rattle.sot_box.specs.Regions.{IsInRegion}
-use Rattle.sot_box.proofs.Ranges.{within_read, within_length, within_at}
-use Rattle.sot_lang.specs.declared.tables.Slot.{Slot}
-use Rattle.sot_lang.specs.declared.tables.Slot.TheVariants.{Scalar, State}
-use Rattle.sot_lang.specs.declared.tables.PlantInfo.{PlantInfo}
-use Rattle.sot_lang.specs.declared.tables.NodeInfo.{NodeInfo}
+use Rattle.sot_box.proofs.Ranges.{within_length, within_at}
 use Rattle.sot_lang.specs.declared.cert.Cert.{Cert}
 use Rattle.sot_lang.specs.Tables.{Tables}
 use Rattle.sot_lang.specs.TableRules.{IsTyped}
-use Rattle.sot_lang.specs.Ranges.{range_of, input_ranges, local_ranges, write_ranges, scalar_ranges}
-use Rattle.sot_lang.specs.Readings.{number_at, reading}
-use Rattle.sot_iv.specs.declared.drafted.Drafted.{Drafted}
-use Rattle.sot_iv.specs.declared.drafted.Drafted.TheVariants.{Absent, Maybe, Sure}
+use Rattle.sot_lang.specs.Ranges.{range_of, input_ranges, local_ranges, write_ranges}
+use Rattle.sot_lang.specs.Readings.{reading}
 use Rattle.sot_iv.specs.BodyIntervals.{Intervals}
-use Rattle.sot_iv.specs.NodeIntervals.{interval_at, reading_intervals}
-use Rattle.sot_iv.proofs.BodySound.{IsDrafted, AreDrafted, exec_sound}
-use Rattle.sot_tube.specs.Certified.{sure_interval, command_interval, command_intervals, DraftsFrom}
+use Rattle.sot_iv.specs.NodeIntervals.{reading_intervals}
+use Rattle.sot_iv.proofs.BodySound.{AreDrafted, exec_sound}
+use Rattle.sot_tube.specs.Certified.{command_interval, command_intervals, DraftsFrom}
 use Rattle.sot_lang.specs.Bodies.{Fired}
 use Rattle.sot_tube.specs.WellFormed.{FiresTo, Agrees}
+use Rattle.sot_tube.proofs.Certificate.{within_by, command_lies, reading_within}
 use Rattle.sot_law_recovery.specs.Holds.{Guarded, MayRead, IsHeldPath, IsHold}
-
-pub in_some_box : (bs : List (List Side)) (s : List ℤ) → IsInRegion bs s → (i : ℕ) × (b : List Side) × At bs i b × IsWithin b s
-in_some_box [] s h = absurd h
-in_some_box (b ∷ bs) s h = ⊎_elim (λ w. (0, b, refl, w)) (λ more. let r = in_some_box bs s more in (suc r.0, r.1, r.2, r.3)) h
-
-within_map : {A : Type 0} (f : A → Side) (g : A → ℤ) (xs : List A) → ((x : A) → Has xs x → IsIn (f x) (g x)) → IsWithin (map f xs) (map g xs)
-within_map f g [] h = tt
-within_map f g (x ∷ xs) h = (let i = h x (0, refl) in (i.0, i.1, within_map f g xs (λ y has. h y (suc has.0, has.1))))
-
-within_by : (f : ℕ → Side) (ks : List ℕ) (c : List ℤ) → length c ≡ length ks → ((i k : ℕ) (x : ℤ) → At ks i k → At c i x → IsIn (f k) x) → IsWithin (map f ks) c
-within_by f [] [] e h = tt
-within_by f (k ∷ ks) (x ∷ c) e h = (let i = h 0 k x refl refl in (i.0, i.1, within_by f ks c (omega arith) (λ n l y a b. h (suc n) l y a b)))
-within_by f [] (x ∷ c) e h = absurd (omega arith)
-within_by f (k ∷ ks) [] e h = absurd (omega arith)
-
--- a command that agrees with what is drafted lies in its interval
-command_lies : (p : Tables) (ws : List ℕ) (ds : List Drafted) (os : List (Option ℤ)) (k : ℕ) (x : ℤ) → AreDrafted ds os → IsIn (range_of p.scalars k) x
-    → ((i : ℕ) (z : ℤ) → At ws i k → At os i (Some z) → x ≡ z) → IsIn (command_interval p ws ds k) x
-command_lies p [] ds os k x d i h = i
-command_lies p (w ∷ ws) [] os k x d i h = i
-command_lies p (w ∷ ws) (r ∷ ds) [] k x d i h = absurd d
-command_lies p (w ∷ ws) (r ∷ ds) (o ∷ os) k x d i h =
-    ⊎_elim
-    (λ e. subst (λ q. IsIn q x) (sym (cond-true (eqb w k) (sure_interval (range_of p.scalars k) r) (command_interval p ws ds k) (eq-eqb w k e)))
-    (sure_lies (range_of p.scalars k) r o x d.0 i (λ z at. h 0 z (ap Some e) (ap Some at))))
-    (λ ne. subst (λ q. IsIn q x) (sym (cond-false (eqb w k) (sure_interval (range_of p.scalars k) r) (command_interval p ws ds k) (ne_eqb w k ne)))
-    (command_lies p ws ds os k x d.1 i (λ n z a b. h (suc n) z a b)))
-    (cases_eq w k)
-  where
-    sure_lies : (whole : Side) (r : Drafted) (o : Option ℤ) (x : ℤ) → IsDrafted r o → IsIn whole x → ((z : ℤ) → o ≡ Some z → x ≡ z)
-        → IsIn (sure_interval whole r) x
-    sure_lies whole Absent o x d i h = i
-    sure_lies whole (Maybe r) o x d i h = i
-    sure_lies whole (Sure r) (Some z) x d i h = subst (IsIn r) (sym (h z refl)) d
-    sure_lies whole (Sure r) None x d i h = absurd d
-
--- what a node reads lies in its ranges
-reading_within : (p : Tables) (node : NodeInfo) (boxes : List (List Side)) (scalars : List ℤ) (points : List (List ℤ)) → IsWithin (scalar_ranges p) scalars
-    → ((k v : ℕ) → Has node.reads.items (State k v) → IsWithin (slice_index_or boxes k []) (slice_index_or points k []))
-    → IsWithin (reading_intervals p node boxes) (reading node scalars points)
-reading_within p node boxes scalars points w h = within_map (interval_at p boxes) (number_at scalars points) node.reads.items each
-  where
-    each : (s : Slot) → Has node.reads.items s → IsIn (interval_at p boxes s) (number_at scalars points s)
-    each (Scalar k) has = within_read (scalar_ranges p) scalars k w
-    each (State k v) has = within_read (slice_index_or boxes k []) (slice_index_or points k []) v (h k v has)
 
 -- a hold that may go on
 pub record IsBegun {p : Tables} {cert : Cert} {m : ℕ} (g : Guarded p cert m) (s : List ℤ) (path : List (List ℤ)) : Type 0 where

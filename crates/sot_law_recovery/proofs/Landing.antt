@@ -1,7 +1,7 @@
 -- Where holds from a cell go.
-use Rattle.std.proofs.Common.{◌≡◌, ℕ, zero, suc, ◌+◌, ◌≤◌, ℤ, List, [], ◌∷◌, Some, None, Ok, refl, sym, ◌∙◌, subst, ap, arith, length}
+use Rattle.std.proofs.Common.{◌≡◌, ℕ, zero, suc, ◌+◌, ◌≤◌, ℤ, List, [], ◌∷◌, Ok, refl, sym, subst, arith, length}
 use Rattle.std.proofs.lemmas.Option.{same_Some, none-some}
-use Rattle.sot_lists.specs.Places.{At, Has}
+use Rattle.sot_lists.specs.Places.{At}
 use Rattle.sot_lists.proofs.Places.{at_same}
 use Rattle.sot_box.specs.Sides.{Side}
 use Rattle.sot_box.specs.Boxes.{IsWithin}
@@ -10,14 +10,14 @@ use Rattle.sot_lang.specs.declared.cert.Cert.{Cert}
 use Rattle.sot_lang.specs.Tables.{Tables}
 use Rattle.sot_lang.specs.TableRules.{IsTyped}
 use Rattle.sot_lang.specs.Values.{Outcome}
-use Rattle.sot_lang.specs.Reach.{TicksTo, ComesTo}
+use Rattle.sot_lang.specs.Reach.{ComesTo}
 use Rattle.sot_iv.specs.BodyIntervals.{Intervals}
 use Rattle.sot_tube.specs.Tubes.{TubeInside}
 use Rattle.sot_tube.specs.Certified.{DraftsFrom, command_intervals, IsWellCertified}
 use Rattle.sot_tube.proofs.Tubes.{tube_inside}
 use Rattle.sot_law_runs.proofs.TubeBoxes.{boxes, held}
 use Rattle.sot_law_recovery.specs.Holds.{Guarded, IsHeldPath, last_of}
-use Rattle.sot_law_recovery.specs.Ranks.{StaysSafer, IsLanding, IsInCells, LandsIn}
+use Rattle.sot_law_recovery.specs.Ranks.{IsLanding, IsInCells, LandsIn}
 use Rattle.sot_law_recovery.proofs.Commands.{IsBegun, commands_lie}
 
 ok_same : (a b : List ℤ) → ◌≡◌ {A = Outcome (List ℤ)} (Ok a) (Ok b) → a ≡ b

@@ -1,5 +1,5 @@
 -- A module has one rank at most, or one point.
-use Rattle.std.proofs.Common.{◌≡◌, ℕ, zero, suc, ◌+◌, ◌<◌, ◌≤◌, ℤ, ◌⊎◌, ◌↔◌, inl, inr, ⊎_elim, List, [], ◌∷◌, Some, length, map, refl, sym, ap, ◌∙◌, subst}
+use Rattle.std.proofs.Common.{◌≡◌, ℕ, zero, suc, ◌+◌, ◌<◌, ◌≤◌, ℤ, ◌⊎◌, inl, inr, ⊎_elim, List, [], ◌∷◌, Some, map, refl, sym, ap, ◌∙◌, subst}
 use Rattle.std.proofs.Common.{arith}
 use Rattle.std.specs.Prelude.{slice_index_or}
 use Rattle.std.proofs.lemmas.Option.{same_Some, none-some}
@@ -11,10 +11,6 @@ use Rattle.sot_box.specs.Regions.{IsInRegion, Covers, IsGap, IsFirstGap}
 use Rattle.sot_box.proofs.Laws.{first_gap_unique}
 use Rattle.sot_lang.specs.declared.cert.Cert.{Cert}
 use Rattle.sot_lang.specs.declared.cert.Cells.{Cells}
-use Rattle.sot_lang.specs.declared.act.Act.{Act}
-use Rattle.sot_lang.specs.declared.tables.PlantInfo.{PlantInfo}
-use Rattle.sot_lang.specs.declared.tables.NodeInfo.{NodeInfo}
-use Rattle.sot_lang.specs.declared.tables.ModuleInfo.{ModuleInfo}
 use Rattle.sot_lang.specs.Tables.{Tables}
 use Rattle.sot_lang.specs.SafeRegions.{AreHulls, joined_boxes}
 use Rattle.sot_iv.specs.BodyIntervals.{Intervals}
@@ -22,7 +18,7 @@ use Rattle.sot_tube.specs.Tubes.{TubeInside}
 use Rattle.sot_tube.specs.Certified.{DraftsFrom, command_intervals}
 use Rattle.sot_law_runs.specs.TubeBoxes.{IsBoxAfter}
 use Rattle.sot_law_recovery.specs.Holds.{Guarded}
-use Rattle.sot_law_recovery.specs.Ranks.{StaysSafer, IsLanding, IsInCells, LandsIn, KeepToThemselves, HasRank, Reaches, IsRank, HasNoRank}
+use Rattle.sot_law_recovery.specs.Ranks.{StaysSafer, IsLanding, IsInCells, LandsIn, HasRank, Reaches, IsRank, HasNoRank}
 use Rattle.sot_law_recovery.specs.Laws.{RanksAreOne}
 
 -- two accounts of one module have the same parts

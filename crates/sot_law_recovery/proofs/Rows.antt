@@ -1,9 +1,8 @@
 -- Rows of holds, and ranks.
-use Rattle.std.proofs.Common.{◌≡◌, ℕ, zero, suc, ◌+◌, ◌-◌, ◌≤◌, ℤ, ◌⊎◌, inl, inr, ⊎_elim, List, [], ◌∷◌, Some, None, refl, sym, subst, ap, arith, length}
+use Rattle.std.proofs.Common.{◌≡◌, ℕ, zero, suc, ◌-◌, ◌≤◌, ℤ, inl, inr, List, [], ◌∷◌, sym, subst, arith, length}
 use Rattle.std.proofs.lemmas.Option.{same_Some, none-some}
 use Rattle.sot_lists.specs.Places.{At, Has}
 use Rattle.sot_lists.proofs.Places.{at_same, at_below}
-use Rattle.sot_box.specs.Sides.{Side}
 use Rattle.sot_box.specs.Boxes.{IsWithin}
 use Rattle.sot_box.specs.Regions.{IsInRegion}
 use Rattle.sot_lang.specs.declared.cert.Cert.{Cert}
@@ -11,9 +10,10 @@ use Rattle.sot_lang.specs.Tables.{Tables}
 use Rattle.sot_lang.specs.TableRules.{IsTyped}
 use Rattle.sot_tube.specs.Certified.{IsWellCertified}
 use Rattle.sot_law_recovery.specs.Holds.{Guarded, IsHold, AreHolds, last_of, start_at}
-use Rattle.sot_law_recovery.specs.Ranks.{IsInCells, LandsIn, KeepToThemselves, HasRank}
+use Rattle.sot_law_recovery.specs.Ranks.{IsInCells, LandsIn, HasRank}
 use Rattle.sot_law_recovery.specs.Laws.{RanksRecover, RankZeroKeeps, HoldsStaySafe, GuardedModules}
-use Rattle.sot_law_recovery.proofs.Commands.{in_some_box, begun}
+use Rattle.sot_tube.proofs.Certificate.{in_some_box}
+use Rattle.sot_law_recovery.proofs.Commands.{begun}
 use Rattle.sot_law_recovery.proofs.Landing.{points_inside, lands, last_at}
 
 -- one less, or 0

@@ -1,10 +1,9 @@
 -- Holds in runs.
-use Rattle.std.proofs.Common.{◌≡◌, ℕ, zero, suc, ◌+◌, ◌-◌, ◌≤◌, ℤ, Bool, true, false, ◌⊎◌, inl, inr, ⊎_elim, List, [], ◌∷◌, ◌++◌, append_assoc, Some, None}
+use Rattle.std.proofs.Common.{◌≡◌, ℕ, zero, suc, ◌+◌, ◌-◌, ◌≤◌, ℤ, Bool, true, false, ◌⊎◌, inl, inr, ⊎_elim, List, [], ◌∷◌, ◌++◌, append_assoc}
 use Rattle.std.proofs.Common.{length, drop, refl, sym, ap, ◌∙◌, subst, arith, add-one}
-use Rattle.std.specs.Prelude.{slice_index_or}
 use Rattle.std.proofs.lemmas.Bool.{cases_Bool, eqb-true}
 use Rattle.std.proofs.lemmas.Option.{same_Some, none-some}
-use Rattle.sot_lists.specs.Places.{At, Has}
+use Rattle.sot_lists.specs.Places.{At}
 use Rattle.sot_lists.proofs.Places.{at_same}
 use Rattle.sot_box.specs.Boxes.{IsWithin}
 use Rattle.sot_box.specs.Regions.{IsInRegion}
@@ -15,7 +14,7 @@ use Rattle.sot_tube.specs.Certified.{IsWellCertified}
 use Rattle.sot_tube.specs.WellFormed.{IsWellFormed}
 use Rattle.sot_tube.proofs.Certificate.{certified_well}
 use Rattle.sot_world.specs.declared.mode.Mode.TheVariants.{Ac, Sc}
-use Rattle.sot_world.specs.Configurations.{Configuration, is_left, mode_of, point_of}
+use Rattle.sot_world.specs.Configurations.{Configuration, mode_of, point_of}
 use Rattle.sot_world.specs.Steps.{Event, Input, Code, Guest, Decide, Tick, Step, CodeFires}
 use Rattle.sot_world.specs.Runs.{Run}
 use Rattle.sot_world.specs.Invariant.{KeepsInvariant}
@@ -28,7 +27,7 @@ use Rattle.sot_tube.specs.Certified.{command_intervals}
 use Rattle.sot_law_runs.proofs.TubeBoxes.{boxes}
 use Rattle.sot_law_recovery.specs.Holds.{Guarded, IsHold, last_of}
 use Rattle.sot_law_recovery.specs.Ranks.{IsInCells, HasRank, Reaches}
-use Rattle.sot_law_recovery.specs.RunHolds.{points_after, IsStretch, FiringsAreHolds, TrustsAfter}
+use Rattle.sot_law_recovery.specs.RunHolds.{points_after, FiringsAreHolds, TrustsAfter}
 use Rattle.sot_law_recovery.specs.Laws.{RunsRecover, RunsHold}
 use Rattle.sot_law_recovery.proofs.Commands.{IsBegun, whole}
 use Rattle.sot_law_recovery.proofs.Landing.{points_inside, lands, last_at}

@@ -1,29 +1,26 @@
 -- What a step leaves of a hold that has begun.
-use Rattle.std.proofs.Common.{◌≡◌, ℕ, zero, suc, ◌+◌, ◌<◌, ◌≤◌, ℤ, pos, Bool, true, false, ◌⊎◌, ◌↔◌, inl, inr, ⊎_elim, List, [], ◌∷◌, ◌++◌, Option, Some, None}
-use Rattle.std.proofs.Common.{Ok, length, map, refl, sym, ap, ◌∙◌, subst, arith, eqb}
-use Rattle.std.specs.Prelude.{slice_index_or, slice_set}
-use Rattle.std.proofs.lemmas.Bool.{cases_Bool, cases_eq, false≢true, eqb-false}
+use Rattle.std.proofs.Common.{◌≡◌, ℕ, ◌+◌, ◌<◌, ◌≤◌, ℤ, pos, Bool, true, false, ◌⊎◌, ◌↔◌, inl, inr, ⊎_elim, List, [], ◌∷◌, ◌++◌, Option, Some}
+use Rattle.std.proofs.Common.{Ok, length, refl, sym, ap, ◌∙◌, subst, arith, eqb}
+use Rattle.std.specs.Prelude.{slice_index_or}
+use Rattle.std.proofs.lemmas.Bool.{cases_Bool, eqb-false}
 use Rattle.std.proofs.lemmas.List.{length-append}
-use Rattle.std.proofs.lemmas.Option.{none-some, same_Some}
+use Rattle.std.proofs.lemmas.Option.{same_Some}
 use Rattle.sot_lists.specs.Places.{At, Has}
 use Rattle.sot_lists.proofs.Places.{at_same, at_map, has_cases, map_same}
 use Rattle.sot_box.specs.Sides.{IsIn}
-use Rattle.sot_box.specs.Boxes.{IsWithin}
 use Rattle.sot_box.proofs.Ranges.{within_picked}
 use Rattle.sot_calendar.specs.Due.{IsDue, IsLastDue}
 use Rattle.sot_lang.specs.declared.cert.Cert.{Cert}
 use Rattle.sot_lang.specs.declared.act.Act.{Act}
 use Rattle.sot_lang.specs.declared.tables.NodeInfo.{NodeInfo}
-use Rattle.sot_lang.specs.declared.tables.ModuleInfo.{ModuleInfo}
 use Rattle.sot_lang.specs.Tables.{Tables}
 use Rattle.sot_lang.specs.TableRules.{IsTyped}
-use Rattle.sot_lang.specs.Bodies.{execution}
 use Rattle.sot_lang.specs.Readings.{reading}
-use Rattle.sot_lang.specs.Ranges.{input_ranges, range_of, local_ranges, write_ranges, scalar_ranges}
+use Rattle.sot_lang.specs.Ranges.{range_of, local_ranges, write_ranges, scalar_ranges}
 use Rattle.sot_lang.specs.Reach.{TicksTo}
 use Rattle.sot_lang.proofs.SafeRegions.{are_safe}
 use Rattle.sot_lang.proofs.Executes.{exec_draft}
-use Rattle.sot_tube.specs.WellFormed.{IsWellFormed, FiresTo, Agrees}
+use Rattle.sot_tube.specs.WellFormed.{IsWellFormed, FiresTo}
 use Rattle.sot_tube.specs.Certified.{IsWellCertified}
 use Rattle.sot_tube.proofs.Certificate.{certified_well}
 use Rattle.sot_tube.proofs.ByScalars.{composed_by_scalars}
@@ -35,10 +32,10 @@ use Rattle.sot_world.proofs.Enables.{allowed_true, allowed_false, allows_ac, all
 use Rattle.sot_world.proofs.Modes.{same_module, left_same, left_none}
 use Rattle.sot_world.proofs.Publishes.{publish_other, publish_set}
 use Rattle.sot_world.proofs.Writes.{write_other}
-use Rattle.sot_world.proofs.Safety.{in_safe, all_safe, meets}
+use Rattle.sot_world.proofs.Safety.{all_safe, meets}
 use Rattle.sot_world.proofs.Induction.{step_holds}
 use Rattle.sot_law_runs.specs.Firings.{is_firing}
-use Rattle.sot_law_recovery.specs.Holds.{Guarded, MayRead, IsHeldPath, last_of}
+use Rattle.sot_law_recovery.specs.Holds.{Guarded, IsHeldPath, last_of}
 use Rattle.sot_law_recovery.proofs.Commands.{IsBegun}
 use Rattle.sot_law_recovery.proofs.Between.{IsBetween, clock}
 

@@ -1,6 +1,6 @@
 -- Ranks of closed cells: after how many holds from a cell its plant is in the safer region, as
 -- boxes show it.
-use Rattle.std.specs.Prelude.{ℕ, zero, suc, ℤ, List, ◌≡◌, ◌⊎◌, ◌≤◌, ◌<◌, ◌↔◌, ◌+◌, map}
+use Rattle.std.specs.Prelude.{ℕ, zero, suc, ℤ, List, ◌⊎◌, ◌≤◌, ◌<◌, ◌↔◌, ◌+◌, map}
 use Rattle.std.specs.Prelude.{slice_index_or, []}
 use Rattle.sot_lists.specs.Places.{At, Has}
 use Rattle.sot_box.specs.Sides.{Side}

@@ -1,6 +1,6 @@
 -- Holds in runs.
-use Rattle.std.specs.Prelude.{ℕ, zero, suc, ◌-◌, ℤ, List, [], ◌∷◌, ◌++◌, ◌≡◌, ◌≤◌, ◌+◌, length}
-use Rattle.std.specs.Prelude.{drop, take}
+use Rattle.std.specs.Prelude.{ℕ, ◌-◌, ℤ, List, [], ◌∷◌, ◌++◌, ◌≡◌, ◌≤◌, ◌+◌, length}
+use Rattle.std.specs.Prelude.{drop}
 use Rattle.sot_lists.specs.Places.{At}
 use Rattle.sot_lang.specs.declared.cert.Cert.{Cert}
 use Rattle.sot_lang.specs.Tables.{Tables}

@@ -6,7 +6,6 @@ use Rattle.std.specs.Prelude.{filter, is_none, position, slice_index_or, if◌th
 use Rattle.serde_json.specs.Data.{Data, Members}
 use Rattle.serde_json.specs.Find.{as_object, as_array, as_str}
 use Rattle.sot_box.specs.Sides.{Side}
-use Rattle.sot_lang.specs.declared.tables.TopicInfo.{TopicInfo}
 use Rattle.sot_lang.specs.declared.tables.PlantInfo.{PlantInfo}
 use Rattle.sot_lang.specs.declared.tables.NodeInfo.{NodeInfo}
 use Rattle.sot_lang.specs.Tables.{Tables}
@@ -18,12 +17,12 @@ use Rattle.sot_flight.specs.declared.sway.SwayKind.{SwayKind}
 use Rattle.sot_flight.specs.declared.sway.SwayKind.TheVariants as sway_kinds
 use Rattle.sot_flight.specs.declared.crew.CrewKind.{CrewKind}
 use Rattle.sot_flight.specs.declared.crew.CrewKind.TheVariants as crew_kinds
-use Rattle.sot_flight.specs.Plans.{StatedInput, Plan, Sway, Still, Listed, Crew, Coded, Script}
+use Rattle.sot_flight.specs.Plans.{StatedInput, Sway, Still, Listed, Crew, Coded, Script}
 use Rattle.sot_flight.specs.Counts.{due_count, firing_count, decision_count, events_of, tick_numbers, draft_numbers, input_numbers, numbers_of}
 use Rattle.sot_flight.specs.ListForms.{numbers, numbers_in, rows_in, drafts, for_each_after}
 use Rattle.sot_flight.specs.FlightFormat.{point_at, plant_names, start, time, is_outside, topic, ranges_of_topic, topic_ranges, input, inputs, sway_kind}
 use Rattle.sot_flight.specs.FlightFormat.{sway_as, sway, has_noise, sway_at, sways, crew_kind, crew_as, crew, is_external, crew_at, node_names, crews}
-use Rattle.sot_flight.specs.FlightFormat.{flight_keys, counted, flight, flight_of}
+use Rattle.sot_flight.specs.FlightFormat.{flight_keys, counted, flight}
 use Rattle.sot_typing.specs.Resolved.{PlantTable, NodeTable, ProgramTables, plant_seen, node_seen, tables_seen}
 use Rattle.sot_law_same_tables.specs.Laws.{FlightsAlike}
 use Rattle.sot_law_same_tables.proofs.Seen.{scalars_same, modules_same, plants_seen_same, nodes_seen_same}

@@ -24,7 +24,7 @@ along same fact = subst (λ (F : Type 0). F) same fact
 
 -- two plants that look the same have the same next boxes
 module _ (x y : PlantInfo) (alike : plant_seen x ≡ plant_seen y) where
-  next_alike : (box commands seen : List Side) (o : OrMayTrap (List Side)) → IsNextBox x box commands seen o ≡ IsNextBox y box commands seen o
+  pub next_alike : (box commands seen : List Side) (o : OrMayTrap (List Side)) → IsNextBox x box commands seen o ≡ IsNextBox y box commands seen o
   next_alike box commands seen o =
       let sides : List NoiseInfo → List Side = λ ds. map (λ d. record { lo = d.lo; hi = d.hi }) ds in
       terms_view x.next.items (box ++ commands ++ seen ++ bounds x) o

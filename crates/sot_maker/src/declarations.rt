@@ -25,7 +25,8 @@ fn put_plant(out: &mut String, i: u32) -> Result<(), AllocError>
 {
     write!(
         out,
-        "plant pos{i} {{\n  state x: int;\n  input cmd{i};\n  noise w: int[-1..1];\n  next x = (x + cmd{i}) + w;\n}}\n"
+        "plant pos{i} {{\n  state x: int;\n  input cmd{i};\n  noise w: int[-1..1];\n  \
+         next x = (x + cmd{i}) + w;\n}}\n"
     )
 }
 
@@ -56,7 +57,8 @@ fn put_code(out: &mut String, i: u32) -> Result<(), AllocError>
 {
     write!(
         out,
-        "    publish cmd{i} = if (pos{i}.x > 10) then -2 else (if (pos{i}.x < -10) then 2 else 0);\n"
+        "    publish cmd{i} = if (pos{i}.x > 10) then -2 \
+         else (if (pos{i}.x < -10) then 2 else 0);\n"
     )
 }
 
@@ -75,7 +77,8 @@ fn put_module(out: &mut String, i: u32, offset: u32) -> Result<(), AllocError>
 {
     write!(
         out,
-        "module nav{i} {{\n  ac fast{i};\n  sc slow{i};\n  period 4 offset {offset};\n  plant pos{i};\n  safe [-40..40];\n  safer [-10..10];\n}}\n"
+        "module nav{i} {{\n  ac fast{i};\n  sc slow{i};\n  period 4 offset {offset};\n  \
+         plant pos{i};\n  safe [-40..40];\n  safer [-10..10];\n}}\n"
     )
 }
 

@@ -60,7 +60,8 @@ fn put_sway(out: &mut String, seed: u64, i: u32) -> Result<(), AllocError>
 
 #[tactic(auto, unfolding(crate::specs::Members::member_text))]
 fn put_member(out: &mut String, member: Member, seed: u64, i: u32) -> Result<(), AllocError>
-    ensures { OnOk result (string_bytes out.new ≡ string_bytes out.old ++ member_text member seed i) }
+    ensures { OnOk result
+        (string_bytes out.new ≡ string_bytes out.old ++ member_text member seed i) }
 {
     match member {
         Member::Cells => put_cells(out, i),

@@ -1,14 +1,14 @@
 -- Places of changed, cut and shortened lists; boxes around boxes.
-use Rattle.std.proofs.Common.{◌≡◌, ℕ, zero, suc, ◌+◌, ◌-◌, ◌<◌, ◌≤◌, ◌⊎◌, inl, inr, ⊎_elim, List, [], ◌∷◌, ◌++◌, ◌*◌, Some, length, refl, sym, ap, ◌∙◌, subst}
+use Rattle.std.proofs.Common.{◌≡◌, ℕ, zero, suc, ◌+◌, ◌-◌, ◌<◌, ◌≤◌, ◌⊎◌, inl, inr, ⊎_elim, List, [], ◌∷◌, ◌++◌, ◌*◌, length, refl, sym, ap, subst}
 use Rattle.std.proofs.Common.{arith, take, drop}
 use Rattle.std.specs.Prelude.{ℤ, ◌≤ℤ◌, slice_set}
 use Rattle.std.proofs.lemmas.Option.{same_Some, none-some, slice_get_within}
 use Rattle.std.proofs.lemmas.Int.{ints}
-use Rattle.sot_lists.specs.Places.{At, Has}
+use Rattle.sot_lists.specs.Places.{At}
 use Rattle.sot_lists.proofs.Places.{at_below, at_same}
 use Rattle.sot_box.specs.Sides.{Side}
 use Rattle.sot_meeting_boxes.specs.Meeting.{Meet, IsAround, IsAroundAll}
-use Rattle.sot_meeting_boxes.specs.Blocks.{IsInBlock, AreHullsOf}
+use Rattle.sot_meeting_boxes.specs.Blocks.{AreHullsOf}
 
 pub taken_at : {A : Type 0} (n : ℕ) (xs : List A) (k : ℕ) (x : A) → At (take n xs) k x → At xs k x
 taken_at zero xs k x at = absurd (none-some x at)

@@ -50,7 +50,8 @@ fn a_coded_node(alloc: Global, tokens: &mut Tokens<'_>, room: u32) -> Result<Dec
 #[inline(never)]
 #[tactic(auto, unfolding(crate::specs::DeclarationReaders::an_external_at))]
 fn an_external_node(alloc: Global, tokens: &mut Tokens<'_>) -> Result<Decl, Fail>
-    ensures { Gives declaration_view result tokens.old tokens.new (an_external_at tokens.old.tokens) }
+    ensures { Gives declaration_view result tokens.old tokens.new
+        (an_external_at tokens.old.tokens) }
 {
     let node = external(alloc, tokens)?;
     Ok(Decl::Node(Apart::new(alloc, node)?))

@@ -148,7 +148,8 @@ fn number_const(tokens: &mut Tokens<'_>) -> Result<Const, Fail>
 /// A literal or a truth value.
 #[tactic(auto, unfolding(crate::specs::DeclarationReaders::const_at))]
 pub fn constant(tokens: &mut Tokens<'_>) -> Result<Const, Fail>
-    ensures { Gives (λ constant. constant) result tokens.old tokens.new (const_at tokens.old.tokens) }
+    ensures { Gives (λ constant. constant) result tokens.old tokens.new
+        (const_at tokens.old.tokens) }
 {
     if is_keyword(tokens, b"true") {
         truth(tokens, true, b"true")
@@ -232,7 +233,8 @@ pub fn timing(tokens: &mut Tokens<'_>) -> Result<(Lit, Lit), Fail>
 /// A name behind a keyword.
 #[tactic(auto, unfolding(crate::specs::DeclarationReaders::role_at))]
 pub fn role(alloc: Global, tokens: &mut Tokens<'_>, word: &[u8]) -> Result<Ident, Fail>
-    ensures { Gives (λ name. name) result tokens.old tokens.new (role_at word.now tokens.old.tokens) }
+    ensures { Gives (λ name. name) result tokens.old tokens.new
+        (role_at word.now tokens.old.tokens) }
 {
     expect_keyword(tokens, word)?;
     let name = Held(name(alloc, tokens)?);

@@ -80,7 +80,8 @@ fn answer(alloc: Global, lexer: &Lexer<'_>) -> Result<Program, ParseFail>
 /// Reads a program, from where the lexer stands to the end of its text.
 #[tactic(auto, using(crate::proofs::ProgramTexts::answers_ok, crate::proofs::ProgramTexts::answers_only))]
 pub fn parse(alloc: Global, lexer: &Lexer<'_>) -> Result<Program, ParseFail>
-    ensures ok { IfOk result (λ program. Spells lexer.now.bytes lexer.now.at (program_view program)) }
+    ensures ok { IfOk result (λ program. Spells lexer.now.bytes lexer.now.at
+        (program_view program)) }
     ensures only { IfOk result (λ program. (other : ProgramTree)
         → Spells lexer.now.bytes lexer.now.at other → other ≡ program_view program) }
     ensures syntax { (fault : _) → IsErrOf result (ParseFail.Syntax fault) → (program : ProgramTree)

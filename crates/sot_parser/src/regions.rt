@@ -82,7 +82,8 @@ fn bound(alloc: Global, tokens: &mut Tokens<'_>, word: &[u8]) -> Result<Vec<BoxD
 // The two nodes of a module, the period and the offset of its decisions, and its plant.
 #[tactic(auto, unfolding(crate::specs::DeclarationReaders::pairing_at))]
 fn pairing(alloc: Global, tokens: &mut Tokens<'_>) -> Result<(Ident, Ident, Lit, Lit, Ident), Fail>
-    ensures { Gives (λ pairing. pairing) result tokens.old tokens.new (pairing_at tokens.old.tokens) }
+    ensures { Gives (λ pairing. pairing) result tokens.old tokens.new
+        (pairing_at tokens.old.tokens) }
 {
     let ac = Held(role(alloc, tokens, b"ac")?);
     let sc = Held(role(alloc, tokens, b"sc")?);

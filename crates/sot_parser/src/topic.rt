@@ -90,7 +90,8 @@ fn environment(tokens: &mut Tokens<'_>) -> Result<bool, Fail>
 
 #[tactic(auto, unfolding(crate::specs::DeclarationReaders::outside_at))]
 fn outside(tokens: &mut Tokens<'_>) -> Result<bool, Fail>
-    ensures { Gives (λ outside. outside) result tokens.old tokens.new (outside_at tokens.old.tokens) }
+    ensures { Gives (λ outside. outside) result tokens.old tokens.new
+        (outside_at tokens.old.tokens) }
 {
     if is_keyword(tokens, b"environment") {
         environment(tokens)

@@ -1,5 +1,5 @@
 -- Words laid out one after another.
-use Rattle.std.proofs.Common.{◌≡◌, ℕ, List, [], ◌∷◌, ◌++◌, refl, sym, ap, ◌∙◌, append_assoc}
+use Rattle.std.proofs.Common.{◌≡◌, List, [], ◌∷◌, ◌++◌, refl, sym, ap, ◌∙◌, append_assoc}
 use Rattle.sot_print.specs.Words.{Word, blanks, laid}
 
 pub laid-append : (a b : List Word) → laid (a ++ b) ≡ laid a ++ laid b

@@ -72,7 +72,8 @@ fn is_plain(expr: &Expr) -> bool
 #[cycle(expression)]
 fn push_grouped(out: &mut String, gap: Gap, expr: &Expr) -> Result<(), AllocError>
     ensures { OnOk result (string_bytes out.new
-        ≡ string_bytes out.old ++ laid (grouped_words gap (expression_words (tree_view expr.now)))) }
+        ≡ string_bytes out.old
+        ++ laid (grouped_words gap (expression_words (tree_view expr.now)))) }
 {
     push_word(out, gap, "(")?;
     push_expression(out, Gap::Touching, expr)?;

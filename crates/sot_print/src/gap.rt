@@ -38,7 +38,8 @@ fn push_spaces(out: &mut String, count: usize) -> Result<(), AllocError>
 // knows.
 #[inline(never)]
 fn push_line(out: &mut String, indent: usize) -> Result<(), AllocError>
-    ensures { OnOk result (string_bytes out.new ≡ string_bytes out.old ++ 10 ∷ replicate indent 32) }
+    ensures { OnOk result
+        (string_bytes out.new ≡ string_bytes out.old ++ 10 ∷ replicate indent 32) }
 {
     match indent {
         0 => out.push('\n'),
@@ -81,7 +82,8 @@ fn push_text(out: &mut String, text: &str) -> Result<(), AllocError>
 
 /// A word, with what stands before it.
 pub fn push_word(out: &mut String, gap: Gap, text: &str) -> Result<(), AllocError>
-    ensures { OnOk result (string_bytes out.new ≡ string_bytes out.old ++ (blanks gap ++ text.now)) }
+    ensures { OnOk result
+        (string_bytes out.new ≡ string_bytes out.old ++ (blanks gap ++ text.now)) }
 {
     push_gap(out, gap)?;
     push_text(out, text)

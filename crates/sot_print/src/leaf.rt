@@ -108,7 +108,8 @@ pub fn push_range(out: &mut String, bounds: &Bounds) -> Result<(), AllocError>
 
 /// `fix` with its count of decimals.
 pub fn push_fixed(out: &mut String, scale: Lit) -> Result<(), AllocError>
-    ensures { OnOk result (string_bytes out.new ≡ string_bytes out.old ++ laid (fixed_words scale)) }
+    ensures { OnOk result
+        (string_bytes out.new ≡ string_bytes out.old ++ laid (fixed_words scale)) }
 {
     push_word(out, Gap::Space, "fix")?;
     push_word(out, Gap::Touching, "(")?;

@@ -34,7 +34,8 @@ fn push_whole(out: &mut String, number: u64) -> Result<(), AllocError>
 
 // So many last digits of a number, zeros in front too.
 fn push_decimals(out: &mut String, number: u64, count: u8) -> Result<(), AllocError>
-    ensures { OnOk result (string_bytes out.new ≡ string_bytes out.old ++ last_digits count number) }
+    ensures { OnOk result
+        (string_bytes out.new ≡ string_bytes out.old ++ last_digits count number) }
 {
     if count == 0 {
         return Ok(());

@@ -1,12 +1,11 @@
 -- What stands before each level.
-use Rattle.std.proofs.Common.{◌≡◌, ℕ, zero, suc, ◌+◌, ◌-◌, ◌<◌, ◌≤◌, Bool, true, false, ◌⊎◌, ◌↔◌, inl, inr, ⊎_elim, List, [], ◌∷◌, map, length, refl, sym, ap}
+use Rattle.std.proofs.Common.{◌≡◌, ℕ, zero, suc, ◌+◌, ◌-◌, ◌<◌, ◌≤◌, Bool, true, false, ◌⊎◌, ◌↔◌, inl, inr, ⊎_elim, List, [], ◌∷◌, length, sym}
 use Rattle.std.proofs.Common.{◌∙◌, subst, arith}
-use Rattle.std.specs.Prelude.{slice_index_or, slice_set, MatchBool, nat_le, if◌then◌else◌}
+use Rattle.std.specs.Prelude.{slice_index_or, slice_set, MatchBool, if◌then◌else◌}
 use Rattle.std.proofs.lemmas.Bool.{cases_eq, false≢true, leb-true, le-leb}
-use Rattle.std.proofs.lemmas.List.{get_or-set_same, get_or-set_other}
 use Rattle.sot_ranking.specs.Sets.{IsSet, at_most, IsMonotone, IsHanging, AreRanks}
 use Rattle.sot_ranking.specs.Entered.{MayEnter, RanksAfter}
-use Rattle.sot_ranking.proofs.Sets.{set_none, taken, taken_other, flag_cases, set_below, has_first, has_later, has_split}
+use Rattle.sot_ranking.proofs.Sets.{taken, taken_other, flag_cases, set_below, has_first, has_later, has_split}
 use Rattle.sot_lists.specs.Places.{Has}
 use Rattle.sot_lists.proofs.Places.{has_cases}
 use Rattle.std.proofs.lemmas.Option.{none-some}

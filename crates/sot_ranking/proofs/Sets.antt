@@ -1,14 +1,14 @@
 -- Flags, and lists of places.
-use Rattle.std.proofs.Common.{◌≡◌, ℕ, zero, suc, ◌+◌, ◌*◌, ◌<◌, ◌≤◌, Bool, true, false, ◌⊎◌, ◌↔◌, inl, inr, ⊎_elim, List, [], ◌∷◌, ◌++◌, Some, length, refl}
+use Rattle.std.proofs.Common.{◌≡◌, ℕ, zero, suc, ◌+◌, ◌<◌, ◌≤◌, Bool, true, false, ◌⊎◌, inl, inr, ⊎_elim, List, [], ◌∷◌, ◌++◌, length, refl}
 use Rattle.std.proofs.Common.{sym, ap, ◌∙◌, subst, arith, length-append}
 use Rattle.std.specs.Prelude.{slice_index_or, slice_set}
 use Rattle.std.proofs.lemmas.Bool.{cases_eq, false≢true}
 use Rattle.std.proofs.lemmas.List.{get_or-set_same, get_or-set_other, length-set}
 use Rattle.std.proofs.lemmas.Option.{same_Some, none-some, slice_get_within, get_or_from_slice_get}
 use Rattle.sot_lists.specs.Places.{At, Has}
-use Rattle.sot_lists.proofs.Places.{has_cases, at_below}
-use Rattle.sot_ranking.specs.Sets.{IsSet, with_places, IsMonotone, IsHanging, KeepIn}
-use Rattle.sot_ranking.specs.Thinned.{count, weight, IsThinned}
+use Rattle.sot_lists.proofs.Places.{at_below}
+use Rattle.sot_ranking.specs.Sets.{IsSet, with_places, IsMonotone, IsHanging}
+use Rattle.sot_ranking.specs.Thinned.{count, IsThinned}
 
 pub set_below : (xs : List Bool) (i : ℕ) → IsSet xs i → i < length xs
 set_below [] i e = absurd (false≢true e)

@@ -70,7 +70,8 @@ fn enter(set: &mut [bool], fresh: &[usize], ranks: &mut [u32], rank: u32) -> boo
     ensures set { (i : ℕ) → IsSet set.new i ↔ (IsSet set.old i ⊎ Has fresh.now i) }
     ensures ranks { (i : ℕ) → RanksAfter fresh.now ranks.old ranks.new rank i }
     ensures grown { count set.old ≤ count set.new }
-    ensures some { MatchBool result (count set.old < count set.new) ((i : ℕ) → Has fresh.now i → ⊥) }
+    ensures some { MatchBool result (count set.old < count set.new)
+        ((i : ℕ) → Has fresh.now i → ⊥) }
 {
     for n in 0..fresh.len() {
         enter_one(set, ranks, rank, fresh[n]);

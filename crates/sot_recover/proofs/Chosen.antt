@@ -1,15 +1,15 @@
 -- The cells of rank k at most.
-use Rattle.std.proofs.Common.{◌≡◌, ℕ, zero, suc, ◌+◌, ◌<◌, ◌≤◌, Bool, true, false, ◌⊎◌, inl, inr, ⊎_elim, List, [], ◌∷◌, ◌++◌, Some, map, length, refl, sym, ap}
+use Rattle.std.proofs.Common.{◌≡◌, ℕ, zero, suc, ◌+◌, ◌≤◌, Bool, true, false, ◌⊎◌, ⊎_elim, List, [], ◌∷◌, ◌++◌, Some, map, length, refl, sym, ap}
 use Rattle.std.proofs.Common.{◌∙◌, subst, arith, drop, take}
 use Rattle.std.specs.Prelude.{ℤ, slice_index_or, nat_le, if◌then◌else◌}
 use Rattle.std.proofs.lemmas.Bool.{leb-true, le-leb, false≢true}
 use Rattle.std.proofs.lemmas.List.{append_assoc}
 use Rattle.std.proofs.lemmas.Option.{same_Some, none-some, get_or_from_slice_get}
 use Rattle.sot_lists.specs.Places.{At, Has}
-use Rattle.sot_lists.proofs.Places.{drop_at, at_below}
+use Rattle.sot_lists.proofs.Places.{drop_at}
 use Rattle.sot_box.specs.Sides.{Side}
 use Rattle.sot_box.specs.Boxes.{IsWithin}
-use Rattle.sot_box.specs.Regions.{IsInRegion, Covers, CoversAll, IsFirstGap}
+use Rattle.sot_box.specs.Regions.{IsInRegion, CoversAll}
 use Rattle.sot_law_recovery.proofs.OneRank.{choose}
 use Rattle.sot_recover.specs.Chosen.{places_from, chosen}
 

@@ -1,19 +1,18 @@
 -- Flags and lists of places, and ranks.
-use Rattle.std.proofs.Common.{◌≡◌, ℕ, zero, suc, ◌+◌, ◌<◌, ◌≤◌, Bool, true, false, ◌⊎◌, ◌↔◌, inl, inr, ⊎_elim, List, [], ◌∷◌, Some, map, length, refl, sym, ap}
+use Rattle.std.proofs.Common.{◌≡◌, ℕ, zero, suc, ◌+◌, ◌<◌, ◌≤◌, Bool, true, false, ◌⊎◌, ◌↔◌, inl, inr, ⊎_elim, List, [], ◌∷◌, Some, length, refl, sym, ap}
 use Rattle.std.proofs.Common.{◌∙◌, subst, arith}
-use Rattle.std.specs.Prelude.{slice_index_or, slice_set, ◌++◌}
+use Rattle.std.specs.Prelude.{slice_index_or, slice_set}
 use Rattle.std.proofs.lemmas.Bool.{cases_eq, false≢true}
 use Rattle.std.proofs.lemmas.List.{length-set, get_or-set_other}
 use Rattle.std.proofs.lemmas.Option.{same_Some, none-some, slice_get_within}
 use Rattle.sot_lists.specs.Places.{At, Has}
 use Rattle.sot_box.specs.Sides.{Side}
-use Rattle.sot_box.specs.Boxes.{IsWithin}
 use Rattle.sot_lang.specs.declared.cert.Cert.{Cert}
 use Rattle.sot_lang.specs.Tables.{Tables}
 use Rattle.sot_law_recovery.specs.Holds.{Guarded}
-use Rattle.sot_law_recovery.specs.Ranks.{StaysSafer, IsLanding, IsInCells, LandsIn, KeepToThemselves, HasRank}
+use Rattle.sot_law_recovery.specs.Ranks.{StaysSafer, LandsIn, HasRank}
 use Rattle.sot_ranking.specs.Sets.{IsSet, KeepIn, AreRanks, at_most}
-use Rattle.sot_ranking.proofs.Sets.{set_below, put_there, put_more, kept_others, flag_cases}
+use Rattle.sot_ranking.proofs.Sets.{put_there, kept_others}
 use Rattle.sot_ranking.proofs.Levels.{at_set, set_at}
 use Rattle.sot_recover.specs.Found.{AreRanksOf}
 

@@ -1,9 +1,8 @@
 -- What landing in flagged cells hangs on.
-use Rattle.std.proofs.Common.{◌≡◌, ℕ, zero, suc, ◌+◌, ◌<◌, ◌≤◌, Bool, true, false, ◌⊎◌, ◌↔◌, inl, inr, ⊎_elim, List, [], ◌∷◌, Some, length, refl, sym, ap, ◌∙◌}
+use Rattle.std.proofs.Common.{◌≡◌, ℕ, zero, suc, ◌+◌, ◌<◌, ◌≤◌, Bool, false, ◌⊎◌, ◌↔◌, ⊎_elim, List, [], ◌∷◌, length, sym, ◌∙◌}
 use Rattle.std.proofs.Common.{subst, arith}
-use Rattle.std.specs.Prelude.{ℤ, ◌≤ℤ◌, slice_set, slice_index_or, IsTrue}
+use Rattle.std.specs.Prelude.{ℤ, ◌≤ℤ◌, IsTrue}
 use Rattle.std.proofs.lemmas.Int.{ints}
-use Rattle.std.proofs.lemmas.Bool.{cases_eq}
 use Rattle.std.proofs.lemmas.Option.{same_Some, none-some, slice_get_within}
 use Rattle.sot_lists.specs.Places.{At, Has}
 use Rattle.sot_lists.proofs.Places.{at_same, at_below}
@@ -14,21 +13,21 @@ use Rattle.sot_lang.specs.declared.cert.Cert.{Cert}
 use Rattle.sot_lang.specs.Tables.{Tables}
 use Rattle.sot_lang.specs.SafeRegions.{joined_boxes}
 use Rattle.sot_iv.specs.BodyIntervals.{Intervals}
-use Rattle.sot_tube.specs.Certified.{IsWellCertified, DraftsFrom, command_intervals}
+use Rattle.sot_tube.specs.Certified.{command_intervals}
 use Rattle.sot_tube.proofs.VerdictExact.{drafts_same}
 use Rattle.sot_tube.proofs.Leaving.{hulls_same}
 use Rattle.sot_law_runs.specs.TubeBoxes.{IsBoxAfter}
 use Rattle.sot_law_runs.proofs.TubeBoxes.{boxes, unique}
 use Rattle.sot_law_recovery.specs.Holds.{Guarded}
-use Rattle.sot_law_recovery.specs.Ranks.{IsLanding, IsInCells, LandsIn}
+use Rattle.sot_law_recovery.specs.Ranks.{IsLanding, LandsIn}
 use Rattle.sot_law_recovery.proofs.Rows.{guarded_modules}
-use Rattle.sot_law_recovery.proofs.Commands.{in_some_box}
+use Rattle.sot_tube.proofs.Certificate.{in_some_box}
 use Rattle.sot_law_recovery.proofs.OneRank.{same, lands_same}
 use Rattle.sot_ranking.specs.Sets.{IsSet, with_places, IsMonotone, IsHanging}
 use Rattle.sot_ranking.proofs.Sets.{kept_others, with_flag, with_place, set_below}
 use Rattle.sot_meeting_boxes.specs.Meeting.{Meet}
-use Rattle.sot_recover.specs.Near.{AreOfWidth, IsInChosen, IsNear}
-use Rattle.sot_recover.specs.Grounds.{LandsInSet, MayHang, IsHullOf, AreLandingsCovered, IsGround}
+use Rattle.sot_recover.specs.Near.{AreOfWidth, IsNear}
+use Rattle.sot_recover.specs.Grounds.{LandsInSet, MayHang, AreLandingsCovered, IsGround}
 use Rattle.sot_recover.specs.Surveys.{IsSurveyed}
 
 -- boxes that share a point meet

@@ -1,17 +1,17 @@
 -- The landings of a cell among the boxes of its tube.
-use Rattle.std.proofs.Common.{◌≡◌, ℕ, zero, suc, ◌+◌, ◌-◌, ◌<◌, ◌≤◌, ⊎_elim, List, [], ◌∷◌, Some, Ok, length, refl, sym, ap, ◌∙◌, subst, arith, drop}
+use Rattle.std.proofs.Common.{◌≡◌, ℕ, zero, suc, ◌+◌, ◌-◌, ◌<◌, ◌≤◌, List, [], ◌∷◌, Ok, length, refl, sym, ap, ◌∙◌, subst, arith, drop}
 use Rattle.std.specs.Prelude.{ℤ}
 use Rattle.std.proofs.lemmas.Option.{same_Some, none-some, slice_get_within}
-use Rattle.sot_lists.specs.Places.{At, Has}
-use Rattle.sot_lists.proofs.Places.{at_same, at_below}
+use Rattle.sot_lists.specs.Places.{At}
+use Rattle.sot_lists.proofs.Places.{at_below}
 use Rattle.sot_box.specs.Sides.{Side}
 use Rattle.sot_box.specs.Boxes.{IsWithin}
-use Rattle.sot_box.specs.Regions.{IsInRegion, Covers}
+use Rattle.sot_box.specs.Regions.{Covers}
 use Rattle.sot_lang.specs.declared.cert.Cert.{Cert}
 use Rattle.sot_lang.specs.Tables.{Tables}
-use Rattle.sot_lang.specs.SafeRegions.{AreHulls, joined_boxes}
+use Rattle.sot_lang.specs.SafeRegions.{joined_boxes}
 use Rattle.sot_iv.specs.BodyIntervals.{Intervals}
-use Rattle.sot_tube.specs.Certified.{DraftsFrom, command_intervals}
+use Rattle.sot_tube.specs.Certified.{command_intervals}
 use Rattle.sot_tube.proofs.VerdictExact.{drafts_same}
 use Rattle.sot_tube.proofs.Leaving.{hulls_same}
 use Rattle.sot_law_runs.specs.TubeBoxes.{IsBoxAfter}

@@ -1,15 +1,13 @@
 -- The ranks of the cells of a module, by what shrinking and growing promise.
-use Rattle.std.proofs.Common.{◌≡◌, ℕ, zero, suc, ◌+◌, ◌<◌, ◌≤◌, Bool, true, false, ◌⊎◌, ◌↔◌, inl, inr, ⊎_elim, List, [], ◌∷◌, Some, length, refl, sym, ap, ◌∙◌}
+use Rattle.std.proofs.Common.{◌≡◌, ℕ, ◌<◌, ◌≤◌, Bool, ◌⊎◌, inl, inr, ⊎_elim, List, length, sym, ap, ◌∙◌}
 use Rattle.std.proofs.Common.{subst, arith}
-use Rattle.std.specs.Prelude.{slice_index_or}
 use Rattle.std.proofs.lemmas.Option.{slice_get_within}
-use Rattle.sot_lists.specs.Places.{At, Has}
-use Rattle.sot_lists.proofs.Places.{at_same, at_below}
+use Rattle.sot_lists.specs.Places.{At}
+use Rattle.sot_lists.proofs.Places.{at_below}
 use Rattle.sot_box.specs.Sides.{Side}
 use Rattle.sot_lang.specs.declared.cert.Cert.{Cert}
 use Rattle.sot_lang.specs.Tables.{Tables}
 use Rattle.sot_law_recovery.specs.Holds.{Guarded}
-use Rattle.sot_law_recovery.specs.Ranks.{StaysSafer, LandsIn}
 use Rattle.sot_ranking.specs.Sets.{IsSet, KeepIn, AreRanks, at_most}
 use Rattle.sot_ranking.proofs.Sets.{set_below}
 use Rattle.sot_recover.specs.Grounds.{LandsInSet, IsGround}

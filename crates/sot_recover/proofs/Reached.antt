@@ -1,18 +1,18 @@
 -- Which ranks cover the safe region of a module.
-use Rattle.std.proofs.Common.{◌≡◌, ℕ, zero, suc, ◌+◌, ◌<◌, ◌≤◌, ◌⊎◌, ◌↔◌, inl, inr, ⊎_elim, List, [], ◌∷◌, Some, map, length, refl, sym, ap, ◌∙◌, subst, arith}
+use Rattle.std.proofs.Common.{◌≡◌, ℕ, suc, ◌+◌, ◌<◌, ◌≤◌, ◌⊎◌, inl, inr, ⊎_elim, List, [], ◌∷◌, map, length, refl, sym, subst, arith}
 use Rattle.std.specs.Prelude.{ℤ, slice_index_or}
 use Rattle.std.proofs.lemmas.Option.{slice_get_within, get_or_from_slice_get}
 use Rattle.sot_lists.specs.Places.{At, Has}
 use Rattle.sot_lists.proofs.Places.{at_below}
 use Rattle.sot_box.specs.Sides.{Side}
 use Rattle.sot_box.specs.Boxes.{IsWithin}
-use Rattle.sot_box.specs.Regions.{IsInRegion, Covers, CoversAll, IsFirstGap}
+use Rattle.sot_box.specs.Regions.{IsInRegion, CoversAll, IsFirstGap}
 use Rattle.sot_box.proofs.Laws.{first_gap_uncovered}
 use Rattle.sot_lang.specs.declared.cert.Cert.{Cert}
 use Rattle.sot_lang.specs.Tables.{Tables}
 use Rattle.sot_rta.proofs.CellChecks.{covers_points}
 use Rattle.sot_law_recovery.specs.Holds.{Guarded}
-use Rattle.sot_law_recovery.specs.Ranks.{IsInCells, HasRank, Reaches, IsRank, HasNoRank}
+use Rattle.sot_law_recovery.specs.Ranks.{HasRank, Reaches, IsRank, HasNoRank}
 use Rattle.sot_law_recovery.proofs.OneRank.{choose}
 use Rattle.sot_recover.specs.Chosen.{places_from, IsLeastCover}
 use Rattle.sot_recover.specs.Found.{AreRanksOf}

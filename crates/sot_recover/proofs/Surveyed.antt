@@ -1,5 +1,5 @@
 -- One cell more is surveyed.
-use Rattle.std.proofs.Common.{◌≡◌, ℕ, ◌+◌, ◌<◌, ◌≤◌, Bool, true, false, ◌⊎◌, ◌↔◌, inl, inr, ⊎_elim, List, [], ◌∷◌, ◌++◌, length, refl, sym, ap, ◌∙◌, subst}
+use Rattle.std.proofs.Common.{◌≡◌, ℕ, ◌+◌, ◌<◌, Bool, true, false, ◌⊎◌, ◌↔◌, inl, inr, ⊎_elim, List, [], ◌∷◌, ◌++◌, length, sym, ap, ◌∙◌, subst}
 use Rattle.std.proofs.Common.{arith, length-append}
 use Rattle.std.specs.Prelude.{slice_index_or}
 use Rattle.std.proofs.lemmas.List.{get_or_append_left}
@@ -11,7 +11,6 @@ use Rattle.sot_lang.specs.declared.cert.Cert.{Cert}
 use Rattle.sot_lang.specs.Tables.{Tables}
 use Rattle.sot_law_recovery.specs.Holds.{Guarded}
 use Rattle.sot_law_recovery.specs.Ranks.{StaysSafer}
-use Rattle.sot_ranking.specs.Sets.{IsSet}
 use Rattle.sot_ranking.proofs.Sets.{flag_cases, one_more}
 use Rattle.sot_recover.specs.Grounds.{IsHullOf}
 use Rattle.sot_recover.specs.Surveys.{IsSurveyed}

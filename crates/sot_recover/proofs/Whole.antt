@@ -1,12 +1,11 @@
 -- The rank of a module, from what its cells and their ranks are.
-use Rattle.std.proofs.Common.{◌≡◌, ℕ, zero, suc, ◌+◌, ◌<◌, ◌≤◌, List, [], ◌∷◌, ◌++◌, Some, Ok, Err, length, refl, sym, ap, ◌∙◌, subst, arith, take, drop}
+use Rattle.std.proofs.Common.{◌≡◌, ℕ, ◌+◌, ◌<◌, ◌≤◌, List, [], ◌∷◌, ◌++◌, Ok, Err, length, refl, sym, ap, ◌∙◌, subst, arith, take, drop}
 use Rattle.std.specs.Prelude.{ℤ, Bool, Result, IfOk, IfErr}
 use Rattle.std.proofs.lemmas.Option.{slice_get_within}
-use Rattle.sot_lists.specs.Places.{At, Has}
+use Rattle.sot_lists.specs.Places.{At}
 use Rattle.sot_lists.proofs.Places.{at_same, at_below}
 use Rattle.sot_box.specs.Sides.{Side}
-use Rattle.sot_box.specs.BoxList.{BoxList}
-use Rattle.sot_box.specs.Regions.{CoversAll, IsFirstGap}
+use Rattle.sot_box.specs.Regions.{IsFirstGap}
 use Rattle.sot_lang.specs.declared.cert.Cert.{Cert}
 use Rattle.sot_lang.specs.declared.tables.ModuleInfo.{ModuleInfo}
 use Rattle.sot_lang.specs.Tables.{Tables}
@@ -23,8 +22,6 @@ use Rattle.sot_recover.specs.Chosen.{chosen, IsLeastCover}
 use Rattle.sot_recover.specs.Surveys.{IsSurveyed}
 use Rattle.sot_recover.specs.Found.{AreRanksOf}
 use Rattle.sot_recover.proofs.Reached.{is_rank, no_rank}
-use Rattle.sot_law_recovery.specs.Holds.{IsRecovered}
-use Rattle.sot_law_recovery.specs.RunHolds.{FiringsAreHolds, TrustsAfter}
 
 -- what is written over the whole of a list is what is there
 pub vec_whole : (new old : List ℕ) (len : ℕ) → length new ≡ length old → len ≡ length old → take len (new ++ drop (length new) old) ≡ new

@@ -1,6 +1,6 @@
 -- Between the crate's own functions: the cells of rank k at most, in order.
 use Rattle.std.specs.Prelude.{ℕ, ◌+◌, ◌≡◌, ◌≤◌, ◌<◌, ◌⊎◌, List, [], ◌∷◌, map, nat_le, if◌then◌else◌}
-use Rattle.std.specs.Prelude.{slice_index_or, length}
+use Rattle.std.specs.Prelude.{slice_index_or}
 use Rattle.sot_box.specs.Sides.{Side}
 use Rattle.sot_box.specs.Regions.{CoversAll}
 

@@ -1,5 +1,5 @@
 -- Lines that spell ticks.
-use Rattle.std.proofs.Common.{◌≡◌, ◌∙◌, ◌<◌, ◌≤◌, ℕ, ℤ, List, [], ◌∷◌, ap, sym, subst, arith}
+use Rattle.std.proofs.Common.{◌≡◌, ◌∙◌, ◌<◌, ℕ, ℤ, List, [], ◌∷◌, ap, sym, subst, arith}
 use Rattle.sot_lang.specs.Ticks.{joined}
 use Rattle.sot_world.specs.Steps.{Tick, MayTick}
 use Rattle.sot_world.specs.Events.{IsInBounds}

@@ -20,7 +20,9 @@ use sot_world::{Event, Why};
 fn can_come(board: &Board<'_>, topic: u32, whole: bool, value: &[i64]) -> Result<(), Why>
     requires { (info : TopicInfo) × (all : List ℤ) × At board.now.accepted.program.topics topic info
         × (info.outside ≡ true) × (length all ≡ info.count) × Holds whole value.now all }
-    ensures { (info : TopicInfo) (all : List ℤ) → At board.now.accepted.program.topics topic info → length all ≡ info.count → Holds whole value.now all → MatchResult result
+    ensures { (info : TopicInfo) (all : List ℤ)
+        → At board.now.accepted.program.topics topic info
+        → length all ≡ info.count → Holds whole value.now all → MatchResult result
         (λ _. IsTypedInput board.now.accepted.program topic all)
         (λ why. RefusesInput board.now.accepted.program topic all why) }
 {

@@ -10,6 +10,9 @@ pub mod First
 -- all faults as a list
 pub mod Faults
 -- worked programs
+pub mod ExampleParts
+pub mod FaultyPrograms
+pub mod FaultlessPrograms
 pub mod Examples
 -- what the code keeps in tables
 pub mod NameTables

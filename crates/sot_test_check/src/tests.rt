@@ -1,4 +1,5 @@
-//! What `check` says of texts, through the top call. Expected texts were worked by hand, or come from an independent program.
+//! What `check` says of texts, through the top call. Expected texts were worked by hand, or come
+//! from an independent program.
 mod cells;
 mod composed;
 mod faults;
@@ -16,7 +17,8 @@ use std::sync::Wait;
 use std::test::*;
 use std::thread::Threads;
 
-// A vehicle on a line: what it may have beside its command, what moves it, its nodes and its module, as they stand in its program.
+// A vehicle on a line: what it may have beside its command, what moves it, its nodes and its
+// module, as they stand in its program.
 #[derive(Clone, Copy)]
 struct Vehicle<'a> {
     topics: &'a str,
@@ -101,7 +103,8 @@ node s period 1 offset 0 { do { } }
 module m { ac e; sc s; period 1 offset 0; plant q; safe none; safer none; }
 ";
 
-// The column of a row with this number, from 0, where signs like these stand between columns; nothing where there is none.
+// The column of a row with this number, from 0, where signs like these stand between columns;
+// nothing where there is none.
 fn column<'a>(row: &'a str, signs: &str, number: usize) -> &'a str {
     row.split(signs).nth(number).unwrap_or("")
 }
@@ -166,8 +169,8 @@ fn says(
     assert_eq!(rt; told.as_str(), want.as_str(), "at {row}");
 }
 
-// The same of a vehicle in so many rows: its safe node's period, its safer region, the format, the closed cells (`CLOSED` for those of
-// the running example) and the reach cells.
+// The same of a vehicle in so many rows: its safe node's period, its safer region, the format, the
+// closed cells (`CLOSED` for those of the running example) and the reach cells.
 fn tells_of_cells(
     rt: &(impl Abort + Threads + Wait + Sync),
     alloc: Global,

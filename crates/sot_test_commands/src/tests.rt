@@ -1,4 +1,5 @@
-//! What words ask of texts, through the top call. Expected texts were worked by hand, or come from an independent program.
+//! What words ask of texts, through the top call. Expected texts were worked by hand, or come from
+//! an independent program.
 mod calls;
 mod certify;
 mod devices;
@@ -45,7 +46,8 @@ const CERTIFICATE: &str = "%certificate
 const USAGE: &str =
     "usage: soter check | fly | replay | format | make N SEED | soak N SEED | certify~";
 
-// The column of a row with this number, from 0, where signs like these stand between columns; nothing where there is none.
+// The column of a row with this number, from 0, where signs like these stand between columns;
+// nothing where there is none.
 fn column<'a>(row: &'a str, signs: &str, number: usize) -> &'a str {
     row.split(signs).nth(number).unwrap_or("")
 }
@@ -78,7 +80,8 @@ fn alone<R: Threads + Wait + Sync, S: Source, K: Sink>(
     soter(rt, alloc, words, &mut guests, source, sink, Process::GoesOn)
 }
 
-// The status and the text of these words over a text, and between them the first bytes of what is left of it.
+// The status and the text of these words over a text, and between them the first bytes of what is
+// left of it.
 fn answer(
     rt: &(impl Abort + Threads + Wait + Sync),
     alloc: Global,

@@ -20,12 +20,8 @@
 --     }
 --   }
 --   module nav {
---     ac fast;
---     sc slow;
---     period 2 offset 0;
---     plant arm;
---     safe [-195..300, -14..-14] | [-209..300, -13..-13] | .. | [-300..300, 0..0] | .. | [-300..195, 14..14];
---     safer [-169..169, -2..2];
+--     ac fast; sc slow; period 2 offset 0; plant arm; safe [-195..300, -14..-14] | [-209..300,
+--     -13..-13] | .. | [-300..300, 0..0] | .. | [-300..195, 14..14]; safer [-169..169, -2..2];
 --   }
 use Rattle.std.specs.Prelude.{false, ◌≡◌, ℕ, zero, suc, ◌+◌, ◌-◌, ltb, if◌then◌else◌, ℤ, pos}
 use Rattle.std.specs.Prelude.{negsuc, ◌-ℤ◌, neg_ℤ, None, List, [], ◌∷◌, ◌++◌}

@@ -109,7 +109,8 @@ fn states(alloc: Global) -> Result<Vec<StateInfo>, AllocError>
 }
 
 fn next(alloc: Global) -> Result<Vec<Term>, AllocError>
-    ensures { IfOk result (λ v. (height : Term) × (battery : Term) × IsHeight height × IsBattery battery
+    ensures { IfOk result (λ v. (height : Term) × (battery : Term)
+        × IsHeight height × IsBattery battery
         × (v.items ≡ height ∷ battery ∷ [])) }
 {
     let height = height(alloc)?;
@@ -211,7 +212,8 @@ fn flight(alloc: Global, low: i64) -> Result<ModuleInfo, AllocError>
 
 // The vehicle and the battery.
 fn plants(alloc: Global) -> Result<Vec<PlantInfo>, AllocError>
-    ensures { IfOk result (λ v. (vehicle : PlantInfo) × (cell : PlantInfo) × IsPos IsMove vehicle × IsCell cell
+    ensures { IfOk result (λ v. (vehicle : PlantInfo) × (cell : PlantInfo)
+        × IsPos IsMove vehicle × IsCell cell
         × (v.items ≡ vehicle ∷ cell ∷ [])) }
 {
     let vehicle = moving_plant(alloc)?;
@@ -221,7 +223,8 @@ fn plants(alloc: Global) -> Result<Vec<PlantInfo>, AllocError>
 
 // The nodes of the vehicle, and those of the battery.
 fn nodes(alloc: Global) -> Result<Vec<NodeInfo>, AllocError>
-    ensures { IfOk result (λ v. (fast : NodeInfo) × (slow : NodeInfo) × (up : NodeInfo) × (down : NodeInfo)
+    ensures { IfOk result (λ v. (fast : NodeInfo) × (slow : NodeInfo)
+        × (up : NodeInfo) × (down : NodeInfo)
         × IsFast fast × IsSlow slow × IsUp up × IsDown down
         × (v.items ≡ fast ∷ slow ∷ up ∷ down ∷ [])) }
 {

@@ -1,9 +1,11 @@
-//! Texts that several crates of tests compare with: worked traces, a made mission, and a canonical text.
+//! Texts that several crates of tests compare with: worked traces, a made mission, and a canonical
+//! text.
 //!
 //! They were written by hand or by an independent program, and none is an output of what is tested.
 #![tactic(auto)]
 
-/// The trace of twenty ticks of a vehicle on a line, in which its module switches to the safe node at 12 and back at 20.
+/// The trace of twenty ticks of a vehicle on a line, in which its module switches to the safe node
+/// at 12 and back at 20.
 pub const SWITCHED: &str = "soter trace 1
 start pos 0
 0 decide nav ac
@@ -45,7 +47,8 @@ start pos 0
 end 20 events 36 refused 0
 ";
 
-/// Sixteen ticks, in which the node `fast` is idle in its second, third and fourth firings. What it drafts there counts as refused too.
+/// Sixteen ticks, in which the node `fast` is idle in its second, third and fourth firings. What it
+/// drafts there counts as refused too.
 pub const IDLE: &str = "soter trace 1
 start pos 10
 0 decide nav ac

@@ -62,7 +62,8 @@ fn put_field(out: &mut String, field: &Option<Name>) -> Result<(), AllocError>
 /// The name of a scalar: its topic's, and behind a point its field's, if it has one.
 pub fn put_scalar_name(out: &mut String, p: &Typed, scalar: usize) -> Result<(), AllocError>
     requires { scalar < length p.now.scalars }
-    ensures { OnOk result (string_bytes out.new ≡ string_bytes out.old ++ scalar_name p.now scalar) }
+    ensures { OnOk result
+        (string_bytes out.new ≡ string_bytes out.old ++ scalar_name p.now scalar) }
 {
     let info = &p.scalars[scalar];
     put_name(out, &p.topics[info.topic as usize].name)?;

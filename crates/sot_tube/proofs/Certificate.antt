@@ -30,7 +30,7 @@ use Rattle.sot_box.proofs.Ranges.{within_read, within_length, within_at}
 use Rattle.sot_tube.proofs.Tubes.{tube_inside}
 use Rattle.sot_iv.proofs.BodySound.{IsDrafted, AreDrafted, exec_sound}
 
-in_some_box : (bs : List (List Side)) (s : List ℤ) → IsInRegion bs s → (i : ℕ) × (b : List Side) × At bs i b × IsWithin b s
+pub in_some_box : (bs : List (List Side)) (s : List ℤ) → IsInRegion bs s → (i : ℕ) × (b : List Side) × At bs i b × IsWithin b s
 in_some_box [] s h = absurd h
 in_some_box (b ∷ bs) s h = ⊎_elim (λ w. (0, b, refl, w)) (λ more. let r = in_some_box bs s more in (suc r.0, r.1, r.2, r.3)) h
 
@@ -38,14 +38,14 @@ within_map : {A : Type 0} (f : A → Side) (g : A → ℤ) (xs : List A) → ((x
 within_map f g [] h = tt
 within_map f g (x ∷ xs) h = (let i = h x (0, refl) in (i.0, i.1, within_map f g xs (λ y has. h y (suc has.0, has.1))))
 
-within_by : (f : ℕ → Side) (ks : List ℕ) (c : List ℤ) → length c ≡ length ks → ((i k : ℕ) (x : ℤ) → At ks i k → At c i x → IsIn (f k) x) → IsWithin (map f ks) c
+pub within_by : (f : ℕ → Side) (ks : List ℕ) (c : List ℤ) → length c ≡ length ks → ((i k : ℕ) (x : ℤ) → At ks i k → At c i x → IsIn (f k) x) → IsWithin (map f ks) c
 within_by f [] [] e h = tt
 within_by f (k ∷ ks) (x ∷ c) e h = (let i = h 0 k x refl refl in (i.0, i.1, within_by f ks c (omega arith) (λ n l y a b. h (suc n) l y a b)))
 within_by f [] (x ∷ c) e h = absurd (omega arith)
 within_by f (k ∷ ks) [] e h = absurd (omega arith)
 
 -- a command that agrees with what is drafted lies in its interval
-command_lies : (p : Tables) (ws : List ℕ) (ds : List Drafted) (os : List (Option ℤ)) (k : ℕ) (x : ℤ) → AreDrafted ds os → IsIn (range_of p.scalars k) x
+pub command_lies : (p : Tables) (ws : List ℕ) (ds : List Drafted) (os : List (Option ℤ)) (k : ℕ) (x : ℤ) → AreDrafted ds os → IsIn (range_of p.scalars k) x
     → ((i : ℕ) (z : ℤ) → At ws i k → At os i (Some z) → x ≡ z) → IsIn (command_interval p ws ds k) x
 command_lies p [] ds os k x d i h = i
 command_lies p (w ∷ ws) [] os k x d i h = i
@@ -66,7 +66,7 @@ command_lies p (w ∷ ws) (r ∷ ds) (o ∷ os) k x d i h =
     sure_lies whole (Sure r) None x d i h = absurd d
 
 -- what a node reads lies in its ranges
-reading_within : (p : Tables) (node : NodeInfo) (boxes : List (List Side)) (scalars : List ℤ) (points : List (List ℤ)) → IsWithin (scalar_ranges p) scalars
+pub reading_within : (p : Tables) (node : NodeInfo) (boxes : List (List Side)) (scalars : List ℤ) (points : List (List ℤ)) → IsWithin (scalar_ranges p) scalars
     → ((k v : ℕ) → Has node.reads.items (State k v) → IsWithin (slice_index_or boxes k []) (slice_index_or points k []))
     → IsWithin (reading_intervals p node boxes) (reading node scalars points)
 reading_within p node boxes scalars points w h = within_map (interval_at p boxes) (number_at scalars points) node.reads.items each

@@ -1,10 +1,10 @@
 -- Narrower boxes have narrower tubes, so a point of a reach cell is kept as its cell is.
-use Rattle.std.proofs.Common.{◌≡◌, ℕ, zero, suc, ◌+◌, ◌*◌, ℤ, ◌⊎◌, inl, inr, ⊎_elim, List, [], ◌∷◌, ◌++◌, length, map, refl, subst, arith}
+use Rattle.std.proofs.Common.{ℕ, zero, suc, ◌+◌, ◌*◌, ℤ, ◌⊎◌, ⊎_elim, List, [], ◌∷◌, ◌++◌, length, map, refl, subst, arith}
 use Rattle.std.proofs.lemmas.Int.{ints}
 use Rattle.sot_lists.specs.Places.{At}
 use Rattle.sot_box.specs.Sides.{Side, AreOrdered}
 use Rattle.sot_box.specs.Boxes.{IsWithin, point_box, lows}
-use Rattle.sot_box.specs.Regions.{IsInRegion, Covers}
+use Rattle.sot_box.specs.Regions.{IsInRegion}
 use Rattle.sot_box.proofs.Ranges.{lows_within, within_in_order, within_picked}
 use Rattle.sot_box.proofs.Ordered.{append_ordered}
 use Rattle.sot_lang.specs.declared.cert.Cert.{Cert}
@@ -25,7 +25,7 @@ use Rattle.sot_iv.proofs.Narrow.{le_refl_ℤ}
 use Rattle.sot_iv.proofs.Terms.{terms_are}
 use Rattle.sot_iv.proofs.Plants.{plant_narrow}
 use Rattle.sot_tube.specs.Tubes.{StaysInside, IsNextBox, Keeps}
-use Rattle.sot_tube.specs.Certified.{IsWellCertified, IsReachCell}
+use Rattle.sot_tube.specs.Certified.{IsWellCertified}
 
 ordered_narrower : (rs : List Side) → AreOrdered rs → AreNarrower rs rs
 ordered_narrower [] o = tt

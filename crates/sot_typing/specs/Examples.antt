@@ -10,14 +10,16 @@ use Rattle.sot_tree.specs.Trees.{number, named, binary, rest, negated, denied, c
 use Rattle.sot_tree.specs.Trees.{chosen, no_tree, one_more, assigned, published, branched, repeated}
 use Rattle.sot_tree.specs.Trees.{no_statement, statement, one, fields, one_value, values, a_topic}
 use Rattle.sot_tree.specs.Trees.{a_plant, a_node, a_module, Program}
-use Rattle.sot_rules.specs.Examples.{at, word, decimal, whole, range}
+use Rattle.sot_rules.specs.ExampleParts.{at, word, decimal, whole, range}
 use Rattle.sot_typing.specs.Formulas as to
 use Rattle.sot_typing.specs.Resolved.{ProgramTables}
 
 -- A vehicle on a line, with an advanced and a safe node.
---   topic cmd: int[-2..2] = 0; plant pos { state x: int; input cmd; noise w: int[-1..1]; next x = (x + cmd) + w; } external fast period 4 offset 0 { reads
---   pos; writes cmd; } node slow period 2 offset 0 { reads pos; writes cmd; do { publish cmd = if (pos.x > 10) then -2 else (if (pos.x < -10) then 2 else
---   0); } } module nav { ac fast; sc slow; period 4 offset 0; plant pos; safe [-40..40]; safer [-10..10]; }
+--   topic cmd: int[-2..2] = 0; plant pos { state x: int; input cmd; noise w: int[-1..1]; next x =
+--   (x + cmd) + w; } external fast period 4 offset 0 { reads pos; writes cmd; } node slow period 2
+--   offset 0 { reads pos; writes cmd; do { publish cmd = if (pos.x > 10) then -2 else (if (pos.x <
+--   -10) then 2 else 0); } } module nav { ac fast; sc slow; period 4 offset 0; plant pos; safe
+--   [-40..40]; safer [-10..10]; }
 abbrev pub line : Program
 line = record {
   decls =
@@ -172,12 +174,15 @@ line_tables = record {
 
 -- Records, scales, truth values, things that are used before they are declared, and every sort of
 -- place.
---   module a { ac f; sc s; period 8 offset 3; plant p; safe [0.0..1.0, -3..4] | [2.5..2.5, 0..0]; safer none; } environment topic e: bool = true; topic r:
---   {a: fix(1)[0.0..1.0], b: bool} = {0.5, true}; plant p { state x: fix(1), y: int; input r, t; sees q; noise w: int[0..1]; next x = if r.b then x + r.a
---   else x; next y = min(y + t, q.z) - w; } topic t: int[0..9] = 3; node s period 2 offset 1 { reads p, e, q; writes r, t; local n: int[0..9] = 1; local
---   m: fix(2)[-0.50..0.50] = -0.25; do { if not e and (p.y > n) { n := (n + 1) % 10; } else { m := rescale(-p.x, 2); } publish r.b = e; publish r.a =
---   rescale(m, 1); repeat 2 { publish t = q.z * n; } } } plant q { state z: int; next z = z; } external f period 4 offset 0 { reads q, p; writes r, t; }
---   module b { ac f; sc s; period 4 offset 0; plant q; safe [0..9]; safer [0..1]; }
+--   module a { ac f; sc s; period 8 offset 3; plant p; safe [0.0..1.0, -3..4] | [2.5..2.5, 0..0];
+--   safer none; } environment topic e: bool = true; topic r: {a: fix(1)[0.0..1.0], b: bool} = {0.5,
+--   true}; plant p { state x: fix(1), y: int; input r, t; sees q; noise w: int[0..1]; next x = if
+--   r.b then x + r.a else x; next y = min(y + t, q.z) - w; } topic t: int[0..9] = 3; node s period
+--   2 offset 1 { reads p, e, q; writes r, t; local n: int[0..9] = 1; local m: fix(2)[-0.50..0.50] =
+--   -0.25; do { if not e and (p.y > n) { n := (n + 1) % 10; } else { m := rescale(-p.x, 2); }
+--   publish r.b = e; publish r.a = rescale(m, 1); repeat 2 { publish t = q.z * n; } } } plant q {
+--   state z: int; next z = z; } external f period 4 offset 0 { reads q, p; writes r, t; } module b
+--   { ac f; sc s; period 4 offset 0; plant q; safe [0..9]; safer [0..1]; }
 abbrev pub many : Program
 many = record {
   decls =

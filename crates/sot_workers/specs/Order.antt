@@ -1,7 +1,7 @@
 -- In which order the entries come of a board that is flown alone: instant by instant, and in each
 -- of them the inputs, then the decisions and then the firings, each in declared order; and nothing
 -- is late.
-use Rattle.std.specs.Prelude.{ℕ, zero, suc, ℤ, ◌+◌, ◌≤◌, ◌<◌, ◌≡◌, List, [], ◌∷◌, ◌++◌, length}
+use Rattle.std.specs.Prelude.{ℕ, zero, suc, ℤ, ◌+◌, ◌≤◌, ◌≡◌, List, [], ◌∷◌, ◌++◌, length}
 use Rattle.sot_lang.specs.Tables.{Tables}
 use Rattle.sot_tube.specs.Admitted.{Admitted}
 use Rattle.sot_world.specs.HistoryEntry.{Logged, InputAt, FireAt, DecideAt, TickAt}

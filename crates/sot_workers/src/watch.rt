@@ -51,7 +51,8 @@ fn work_in_turn<R: Wait>(
     woken: &mut [u32],
 ) -> bool
     requires { (seen : List Logged) × IsPrefix seen board.old.entries
-        × AreOwnLists (length board.old.accepted.program.nodes) board.old.plan lists.old.items seen }
+        × AreOwnLists (length board.old.accepted.program.nodes) board.old.plan
+        lists.old.items seen }
     ensures goes_on { GoesOn board.old board.new }
     ensures lists { KeepsLists board.new lists.new.items }
     ensures finished { result ≡ true → FlownBy board.new.accepted.program

@@ -1,6 +1,6 @@
 -- The parts of a history's words.
-use Rattle.std.proofs.Common.{◌≡◌, ◌≢◌, ℕ, ◌+◌, ◌*◌, ◌/◌, ◌%◌, ◌≤◌, ◌<◌, ◌==◌, ℤ, pos, ◌-ℤ◌, ◌+ℤ◌, Bool, true, false, if◌then◌else◌, List, refl, sym, ap, ap₂}
-use Rattle.std.proofs.Common.{◌∙◌, subst, arith}
+use Rattle.std.proofs.Common.{◌≡◌, ℕ, ◌/◌, ◌%◌, ◌<◌, ◌==◌, ℤ, pos, ◌-ℤ◌, Bool, true, false, if◌then◌else◌, List, refl, ap, ap₂}
+use Rattle.std.proofs.Common.{◌∙◌, arith}
 use Rattle.sot_world.specs.declared.mode.Mode.{Mode}
 use Rattle.sot_world.specs.declared.mode.Mode.TheVariants.{Ac, Sc}
 use Rattle.sot_world.specs.HistoryRecords.{One, Decision, Firing, LateDecision, Value, Moves, bit_of, near_word, far_word, flag_in, number_in, record_as}

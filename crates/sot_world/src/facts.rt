@@ -39,7 +39,8 @@ pub fn line_decides()
 /// once, with one slot a scalar.
 pub fn line_fires()
     ensures takes_2 { (g : Global) → Step (line g) 0 decided (Guest 0 (Some (pos 2) ∷ [])) drafted }
-    ensures refuses_7 { (g : Global) → Step (line g) 0 decided (Guest 0 (Some (pos 7) ∷ [])) refused }
+    ensures refuses_7 { (g : Global)
+        → Step (line g) 0 decided (Guest 0 (Some (pos 7) ∷ [])) refused }
     ensures blank { (g : Global) → Step (line g) 0 decided (Guest 0 (None ∷ [])) refused }
     ensures recorded { (g : Global) → Records (line g) decided (Guest 0 (Some (pos 7) ∷ [])) refused
         (NodeFired (Some (pos 7) ∷ []) true) }

@@ -85,7 +85,8 @@ fn next_point(
 pub fn move_all(p: &Typed, scalars: &[i64], points: &[Point], noise: &[i64], next: &mut [Point])
     requires points { ArePoints p.now points.now }
     requires moves { (k : ℕ) (plant : PlantInfo) → At p.now.plants k plant
-        → MayMove p.now k scalars.now points.now (slice_index_or (cut p.now.plants noise.now) k []) }
+        → MayMove p.now k scalars.now points.now
+        (slice_index_or (cut p.now.plants noise.now) k []) }
     requires noise { length noise.now ≡ noise_count p.now.plants }
     requires size { length next.old ≡ length p.now.plants }
     ensures { (k : ℕ) → k < length p.now.plants

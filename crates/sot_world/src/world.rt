@@ -144,8 +144,8 @@ impl<'a> World<'a> {
         })
     }
 
-    /// Does nothing, and tells the proof what the type keeps: the tables are in form, the certificate
-    /// holds, and the configuration satisfies the invariant.
+    /// Does nothing, and tells the proof what the type keeps: the tables are in form, the
+    /// certificate holds, and the configuration satisfies the invariant.
     pub fn reveal_invariant(&self)
         ensures { IsKept self.now.accepted self.now.at }
     {

@@ -1,8 +1,8 @@
 //! The running example with other cells.
 use super::*;
 
-// Each row as `tells_of_cells` wants it. Of two cells that fail the first is told, and neither the nearest to a leave nor the last;
-// a gap comes before cells, and closed cells before reach cells.
+// Each row as `tells_of_cells` wants it. Of two cells that fail the first is told, and neither the
+// nearest to a leave nor the last; a gap comes before cells, and closed cells before reach cells.
 const CELLS: &str = "2 ; [-10..10] ; 1 ; CLOSED ; [[-10,10]] => accepted~modules 1 nodes 2 cells 4~
 2 ; [-10..10] ; 1 ; [[-40,-11]],[[-10,10]],[[11,40]],[[-40,40]],[[-40,41]] ; [[-10,10]] => refused 6 ClosedLeaves module nav cell 3 tick 1 box [-43..43] point (-43)~
 2 ; [-10..10] ; 1 ; [[-40,-11]],[[-10,10]],[[11,40]],[[-40,41]],[[-40,40]] ; [[-10,10]] => refused 6 ClosedLeaves module nav cell 3 tick 0 box [-40..41] point (41)~

@@ -1,5 +1,5 @@
-//! Missions that are put together: what modules and nodes share, regions of many boxes, and code that may trap.
-//! What is said of each comes from an independent program.
+//! Missions that are put together: what modules and nodes share, regions of many boxes, and code
+//! that may trap. What is said of each comes from an independent program.
 use super::*;
 
 // The module of the running example.
@@ -9,7 +9,8 @@ const NAV: &str =
 const FLIGHT: &str =
     "{\"crew\":{\"fast\":{\"drafts\":[[2]],\"kind\":\"script\"}},\"format\":1,\"horizon\":5,\"inputs\":[],\"start\":{\"pos\":[10]},\"sway\":{\"pos\":{\"kind\":\"high\"}}}";
 
-// The running example with more declarations behind its module, and with this text behind its certificate.
+// The running example with more declarations behind its module, and with this text behind its
+// certificate.
 fn with_more(rt: &impl Abort, alloc: Global, more: &str, behind: &str) -> String {
     let program = program(alloc, &LINE).expect(rt, "memory");
     let cert = certificate(alloc, "1", CLOSED, REACH).expect(rt, "memory");
@@ -38,7 +39,8 @@ module two { ac far; sc near; period 4 offset 0; plant pos; safe [-40..40]; safe
 const AGAIN: &str =
     "module two { ac fast; sc slow; period 4 offset 0; plant pos; safe [-40..40]; safer [-10..10]; }\n";
 
-// What stands behind the running example, and what is said. A shared output comes before a shared plant, and a shared node before both.
+// What stands behind the running example, and what is said. A shared output comes before a shared
+// plant, and a shared node before both.
 const SHARED: &str = " => accepted~modules 1 nodes 2 cells 4~
 SPARE => refused 11 SharedOutput topic cmd nodes fast spare~
 TWO => refused 12 SharedPlant plant pos modules nav two~
@@ -87,7 +89,8 @@ const LEVEL_CELLS: &str =
     "[[0,0],[0,1000]],[[1,1],[3,1000]],[[2,2],[6,1000]],[[3,3],[9,1000]],[[4,4],[12,1000]],[[5,5],[15,1000]],
 [[6,6],[18,1000]],[[7,7],[21,1000]],[[8,8],[24,1000]],[[9,9],[27,1000]],[[10,10],[30,1000]]";
 
-// The running example beside the battery, which has this advanced node, and is trusted with at least so much.
+// The running example beside the battery, which has this advanced node, and is trusted with at
+// least so much.
 fn pair(rt: &impl Abort, alloc: Global, advanced: &str, least: &str) -> String {
     let program = program(alloc, &LINE).expect(rt, "memory");
     format!(in alloc;

@@ -13,8 +13,9 @@ module n { ac c; sc d; period 9 offset 0; plant q; safe [0..1]; safer [0..1]; }
 %certificate
 ";
 
-// What stands in a certificate, and what is said. Of two modules at fault the first in declared order is told, in whichever order their
-// entries stand; the jitter is below the periods of modules, and not of nodes alone; the count of a list comes before its items.
+// What stands in a certificate, and what is said. Of two modules at fault the first in declared
+// order is told, in whichever order their entries stand; the jitter is below the periods of
+// modules, and not of nodes alone; the count of a list comes before its items.
 const FAULTS: &str =
     "{\"format\":1,\"modules\":{\"n\":{\"closed\":[[[1,0]]],\"reach\":[]},\"m\":{\"closed\":[[[3,2]]],\"reach\":[]}}} => fault certificate /modules/m/closed/0/0 Empty~
 {\"format\":1,\"modules\":{\"n\":{\"closed\":1,\"reach\":[]},\"m\":{\"closed\":[],\"reach\":[[[3,2]]]}}} => fault certificate /modules/m/reach/0/0 Empty~

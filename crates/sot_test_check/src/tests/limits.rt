@@ -2,8 +2,8 @@
 
 use super::*;
 
-// A limit a line: of what, a program of parts, how often the part at `?` may stand, and what is said then and at once more.
-// Each other part has its count in front; `~` ends a line.
+// A limit a line: of what, a program of parts, how often the part at `?` may stand, and what is
+// said then and at once more. Each other part has its count in front; `~` ends a line.
 const LIMITS: &str =
     "topics => ?*topic t#: int[0..1] = 0;~ => 512 => accepted~modules 0 nodes 0 cells 0~ => fault type line 513 column 7 TooMany~
 nodes => ?*external e# period 1 offset 0 { }~ => 300 => accepted~modules 0 nodes 300 cells 0~ => fault type line 301 column 10 TooMany~

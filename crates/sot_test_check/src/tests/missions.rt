@@ -24,7 +24,8 @@ fn accepts_a_mission_or_tells_the_condition_that_fails(rt: HostRuntime) {
     tells_of_cells(&rt, rt.alloc(), &LINE, CERTIFIED, 14)
 }
 
-// Three cells in turn until there are so many, but at two places one cell that is all of the region.
+// Three cells in turn until there are so many, but at two places one cell that is all of the
+// region.
 fn cells_in_turn(
     rt: &impl Abort,
     alloc: Global,
@@ -94,7 +95,8 @@ fn tells_the_first_of_many_reach_cells_that_fails(rt: HostRuntime) {
     says(&rt, alloc, &text, said, said)
 }
 
-// Programs, and the first rule that each breaks; the last one is that of a plant without a next state.
+// Programs, and the first rule that each breaks; the last one is that of a plant without a next
+// state.
 const RULES: &str =
     "external e period 1 offset 0 {~  writes u;~}~ => fault type line 2 column 10 Unknown~
 topic t: int[0..1] = 0;~topic t: bool = true;~ => fault type line 2 column 7 Twice~

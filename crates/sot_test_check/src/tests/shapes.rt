@@ -1,9 +1,10 @@
 //! The running example with faults of its certificate or its shape, of which the first is told.
 use super::*;
 
-// Further topics, inputs of the plant, what the advanced node writes, the safe node's period, the safer region and a certificate,
-// `LINE` for that of the running example; and what is said. Of two topics the first in declared order is told, in whichever order they
-// are written, and what comes from outside comes before the shape of a module.
+// Further topics, inputs of the plant, what the advanced node writes, the safe node's period, the
+// safer region and a certificate, `LINE` for that of the running example; and what is said. Of two
+// topics the first in declared order is told, in whichever order they are written, and what comes
+// from outside comes before the shape of a module.
 const SHAPES: &str =
     " ; cmd ; cmd ; 5 ; [-10..10] ; {\"format\":1,\"modules\":{}} => refused 15 NoCells module nav~
 topic alt: int[0..1] = 0; ; cmd ; cmd, alt ; 2 ; none ; {\"format\":1,\"modules\":{}} => refused 15 NoCells module nav~

@@ -1,9 +1,9 @@
 //! For how many ticks cells are followed.
 use super::*;
 
-// Each row as `tells_of_cells` wants it. The safe region is one that the held tube of the middle cell leaves at tick 3, and the safer
-// region's tube leaves it at tick 5. In the first row the closed cells pass, where the module's period in place of the node's would be
-// one tick too many.
+// Each row as `tells_of_cells` wants it. The safe region is one that the held tube of the middle
+// cell leaves at tick 3, and the safer region's tube leaves it at tick 5. In the first row the
+// closed cells pass, where the module's period in place of the node's would be one tick too many.
 const HELD: &str =
     "2 ; [0..0] ; 1 ; [[-12,-11]],[[-10,10]],[[11,12]] ; [[0,0]] => refused 8 ReachLeaves module nav cell 0 tick 5 box [-15..15] point (-15)~
 2 ; [0..0] ; 2,\"jitter\":1 ; [[-12,-11]],[[-10,10]],[[11,12]] ; [[0,0]] => refused 6 ClosedLeaves module nav cell 1 tick 3 box [-13..13] point (-13)~

@@ -1,8 +1,9 @@
 //! A plant whose step may trap.
 use super::*;
 
-// A step, closed cells, and what is said. In the second row it traps from the second box on: the first cell is followed for a tick.
-// In the third it cannot trap with the commands that the safe node publishes, and with any it may.
+// A step, closed cells, and what is said. In the second row it traps from the second box on: the
+// first cell is followed for a tick. In the third it cannot trap with the commands that the safe
+// node publishes, and with any it may.
 const STEPS: &str =
     "(x + cmd) + w / x ; [[-40,-11]],[[-10,10]],[[11,40]] => refused 5 ClosedTrap module nav cell 1 tick 0 line 2 column 82~
 (x + cmd) + w / (x - 11) ; [[12,40]],[[-40,-11]],[[-10,10]],[[11,11]] => refused 5 ClosedTrap module nav cell 0 tick 1 line 2 column 82~

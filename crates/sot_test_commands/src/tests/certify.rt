@@ -46,7 +46,8 @@ module nav {
 {\"format\":1,\"modules\":{\"nav\":{\"closed\":[[[-40,-20]],[[-19,0]],[[1,20]],[[21,40]]],\"reach\":[[[-10,10]]]}}}
 ";
 
-// Every point needs a cell of its own: `x - x` is 0 at a point, and below 0 somewhere in the interval over any wider box.
+// Every point needs a cell of its own: `x - x` is 0 at a point, and below 0 somewhere in the
+// interval over any wider box.
 fn points(alloc: Global, safe: &str) -> Result<String, AllocError> {
     format!(in alloc;
         "plant p {{ state x: int; next x = x - x; }}

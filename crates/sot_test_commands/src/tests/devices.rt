@@ -1,5 +1,6 @@
-//! Failing reads, which end with status 4 and nothing written, and failing writes, which end with status 5 and leave what the calls before
-//! took. Expected answers come from an independent program.
+//! Failing reads, which end with status 4 and nothing written, and failing writes, which end with
+//! status 5 and leave what the calls before took. Expected answers come from an independent
+//! program.
 
 ghost use Rattle.std.specs.Prelude.{◌<◌};
 
@@ -47,7 +48,8 @@ struct Failing {
     write: u32,
 }
 
-// The status of a command whose reads and writes move so many bytes at the most, and behind it what its sink holds then.
+// The status of a command whose reads and writes move so many bytes at the most, and behind it what
+// its sink holds then.
 fn ended(
     rt: &(impl Abort + Threads + Wait + Sync),
     alloc: Global,

@@ -33,7 +33,8 @@ module nav { ac fast; sc slow; period 4 offset 0; plant pos; safe [-40..40]; saf
 const ONE_INPUT: &str =
     "%flight\n{\"crew\":{},\"format\":1,\"horizon\":0,\"inputs\":[{\"at\":0,\"topic\":\"e\",\"value\":[5]}],\"start\":{},\"sway\":{}}\n";
 
-// Flights of the vehicle: who flies its advanced node, how long, where it starts and what moves it; and what is said.
+// Flights of the vehicle: who flies its advanced node, how long, where it starts and what moves it;
+// and what is said.
 const FLIGHTS: &str =
     "\"drafts\":[[2]],\"kind\":\"script\" ; 3 ; 0 ; \"kind\":\"seed\",\"seed\":42,\"stream\":54 => 0 soter trace 1~start pos 0~0 decide nav ac~0 tick pos(-1)=-1~1 idle slow cmd=0~1 tick pos(-1)=-2~2 fire fast cmd=2~2 tick pos(1)=1~end 3 events 6 refused 0~
 \"drafts\":[[2]],\"kind\":\"script\" ; 0 ; 0 ; \"kind\":\"low\" => 0 soter trace 1~start pos 0~0 decide nav ac~end 0 events 1 refused 0~

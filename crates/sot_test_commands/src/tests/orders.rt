@@ -1,10 +1,10 @@
-//! `certify` of programs of two modules, of those with two reasons why there is no certificate, and of long lists.
-//! Expected answers come from tables worked by hand and from an independent program.
+//! `certify` of programs of two modules, of those with two reasons why there is no certificate, and
+//! of long lists. Expected answers come from tables worked by hand and from an independent program.
 
 use super::*;
 
-// Two modules of plants that need a cell for each point: the period of the first safe node, the advanced node of the second module, and
-// the regions of both.
+// Two modules of plants that need a cell for each point: the period of the first safe node, the
+// advanced node of the second module, and the regions of both.
 fn two_modules(alloc: Global, row: &str) -> Result<String, AllocError> {
     let (period, second) = (column(row, " ; ", 0), column(row, " ; ", 1));
     let (first, last) = (column(row, " ; ", 2), column(row, " ; ", 3));
@@ -21,8 +21,8 @@ module alpha {{ ac {second}; sc t; period 1 offset 0; plant q; {last} }}
     )
 }
 
-// Of two lists and of two modules the first that fails is told, closed cells before reach cells and a module's before the next one's;
-// what is composed comes before a module's shape.
+// Of two lists and of two modules the first that fails is told, closed cells before reach cells and
+// a module's before the next one's; what is composed comes before a module's shape.
 const ORDERS: &str =
     "1 ; b ; safe [0..1]; safer [0..0]; ; safe [1..2]; safer [2..2]; => 1 refused certify module alpha closed point (1)~
 1 ; b ; safe [0..1]; safer [0..2]; ; safe [1..2]; safer [2..2]; => 1 refused certify module zeta reach point (2)~
@@ -97,7 +97,8 @@ fn the_widest_axis_is_cut(rt: HostRuntime) {
     )
 }
 
-// The safe node holds its command at 0, so one closed cell is enough; under any command only single points keep.
+// The safe node holds its command at 0, so one closed cell is enough; under any command only single
+// points keep.
 fn any_command(alloc: Global, safer: &str) -> Result<String, AllocError> {
     format!(in alloc;
         "topic u: int[0..1] = 0;
@@ -169,7 +170,8 @@ fn both_lists_have_as_many_cells_as_there_may_be(rt: HostRuntime) {
     )
 }
 
-// Position and speed: from 19 at speed 2 the vehicle is at 21 one tick later, and the safe region ends at 20.
+// Position and speed: from 19 at speed 2 the vehicle is at 21 one tick later, and the safe region
+// ends at 20.
 const POSITION_AND_SPEED: &str = "\
 topic u: int[-1..1] = 0;
 plant arm { state x: int, v: int; input u; next x = x + v; next v = v + u; }

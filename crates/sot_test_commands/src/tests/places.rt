@@ -1,4 +1,5 @@
-//! Tests of the places of syntax faults, through the top call. Expected lines were worked by hand from the grammar.
+//! Tests of the places of syntax faults, through the top call. Expected lines were worked by hand
+//! from the grammar.
 
 use super::*;
 

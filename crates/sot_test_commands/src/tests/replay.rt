@@ -66,7 +66,8 @@ fn tells_what_is_wrong_before_the_trace(rt: HostRuntime) {
     answers(&rt, alloc, "replay", &text, no_trace)
 }
 
-// In which order the nodes of an instant fire is left to `fly`; whichever it is, the trace is legal.
+// In which order the nodes of an instant fire is left to `fly`; whichever it is, the trace is
+// legal.
 #[test]
 fn finds_what_was_flown_legal(rt: HostRuntime) {
     let alloc = rt.alloc();

@@ -66,7 +66,8 @@ impl<G: Journal + Drop> Turn<G> {
         ensures ground { pass_ground result ≡ held_ground held.entry }
         ensures seen { pass_seen result ≡ G.entries (held_value held.entry) }
         ensures added { pass_added result ≡
-            held_added held.entry ++ behind (held_seen held.entry) (G.entries (held_value held.entry)) }
+            held_added held.entry
+            ++ behind (held_seen held.entry) (G.entries (held_value held.entry)) }
     {
         let Held {
             served: Served { mut place },

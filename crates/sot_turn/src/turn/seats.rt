@@ -16,7 +16,8 @@ pub(super) fn draw<G: Journal, R: Wait>(rt: &R, top: &Top<G>, place: &mut Place<
     requires place { IsPlaceOf top.now.table_id place.old.table_id }
     requires idle { IsIdle place.old.me.0 }
     ensures same { IsSamePlace place.old place.new }
-    ensures drawn { place.new.me ≡ (record place.old.me.0 { ticket = Some result }, place.old.me.1) }
+    ensures drawn { place.new.me
+        ≡ (record place.old.me.0 { ticket = Some result }, place.old.me.1) }
 {
     let mut next = top.peek(0);
     for _ in rt.forever() {

@@ -1,10 +1,8 @@
-use Rattle.std.proofs.Common.{◌≡◌, ℕ, ◌+◌, ◌<◌, ◌≤◌, ⊎_elim, refl, sym, ap, ◌∙◌, subst, arith, length, List, []}
-use Rattle.std.specs.Prelude.{slice_index_or}
-use Rattle.std.proofs.lemmas.Option.{same_Some, slice_get_within}
+use Rattle.std.proofs.Common.{◌≡◌, ⊎_elim, refl, ap, ◌∙◌, subst, arith, length}
+use Rattle.std.proofs.lemmas.Option.{slice_get_within}
 use Rattle.std.proofs.lemmas.Bool.{cases_eq}
 use Rattle.sot_lists.specs.Places.{At}
 use Rattle.sot_lists.proofs.Places.{at_same, at_below, read_at}
-use Rattle.sot_box.specs.Sides.{Side}
 use Rattle.sot_meeting_boxes.specs.Meeting.{IsAround}
 use Rattle.sot_meeting_boxes.proofs.Sides.{around_on}
 use Rattle.sot_meeting_boxes.proofs.hull.hull_of.Goals as goal

@@ -1,6 +1,5 @@
-use Rattle.std.proofs.Common.{◌≡◌, ℕ, ◌+◌, ◌<◌, ◌≤◌, ⊎_elim, refl, sym, ap, ◌∙◌, subst, arith, length, take, List, rules}
+use Rattle.std.proofs.Common.{◌∙◌, arith, length, rules}
 use Rattle.std.proofs.lemmas.List.{length-set}
-use Rattle.std.proofs.lemmas.Option.{same_Some}
 use Rattle.sot_meeting_boxes.proofs.Sides.{around_more, around_whole}
 use Rattle.sot_meeting_boxes.proofs.hull.widened.Goals as goal
 

@@ -1,6 +1,4 @@
-use Rattle.std.proofs.Common.{◌≡◌, ℕ, ◌+◌, ◌*◌, ◌-◌, ◌<◌, ◌≤◌, ⊎_elim, refl, sym, ap, ◌∙◌, subst, arith, length, List, [], ◌∷◌, ◌++◌, length-append}
-use Rattle.std.proofs.Common.{length-drop, drop, take}
-use Rattle.sot_box.specs.Sides.{Side}
+use Rattle.std.proofs.Common.{◌≡◌, ◌+◌, ◌*◌, ◌-◌, sym, ap, ◌∙◌, subst, arith, length, [], ◌∷◌, length-append}
 use Rattle.sot_meeting_boxes.specs.Blocks.{AreHullsOf}
 use Rattle.sot_meeting_boxes.proofs.Sides.{block_more}
 use Rattle.sot_meeting_boxes.proofs.index.hulls_of.Goals as goal

@@ -1,4 +1,4 @@
-use Rattle.std.proofs.Common.{ℕ, ◌≡◌, ◌<◌, ◌≤◌, ◌*◌, ◌+◌, ◌-◌, length}
+use Rattle.std.proofs.Common.{◌≡◌, ◌<◌, ◌≤◌, ◌*◌, ◌+◌, ◌-◌, length}
 use Rattle.sot_meeting_boxes.specs.Blocks.{AreHullsOf}
 use Rattle.sot_meeting_boxes.proofs.index.hulls_of.Given as goal
 

@@ -1,9 +1,8 @@
-use Rattle.std.proofs.Common.{◌≡◌, ℕ, ◌+◌, ◌*◌, ◌<◌, ◌≤◌, ◌⊎◌, inl, inr, ⊎_elim, refl, sym, ap, ◌∙◌, subst, arith, length, List}
+use Rattle.std.proofs.Common.{◌*◌, ◌<◌, ◌≤◌, ◌⊎◌, inl, inr, ⊎_elim, refl, arith}
 use Rattle.std.proofs.lemmas.Option.{slice_get_within}
 use Rattle.std.proofs.lemmas.Bool.{cases_lt}
-use Rattle.sot_lists.specs.Places.{At, Has}
+use Rattle.sot_lists.specs.Places.{At}
 use Rattle.sot_lists.proofs.Places.{read_at}
-use Rattle.sot_meeting_boxes.specs.Meeting.{MeetsAt}
 use Rattle.sot_meeting_boxes.proofs.index.put_all.Goals as goal
 
 pub put_block_of-requires : goal.put_block_of-requires

@@ -1,8 +1,7 @@
-use Rattle.std.proofs.Common.{◌≡◌, ℕ, ◌+◌, ◌-◌, ◌<◌, ◌≤◌, ◌⊎◌, inl, inr, ⊎_elim, refl, sym, ap, ◌∙◌, subst, arith, length, List, true, false}
+use Rattle.std.proofs.Common.{◌-◌, ◌⊎◌, inl, inr, ⊎_elim, arith, true, false}
 use Rattle.std.proofs.lemmas.Option.{slice_get_within}
 use Rattle.std.proofs.lemmas.Bool.{false≢true}
-use Rattle.sot_lists.specs.Places.{At, Has}
-use Rattle.sot_meeting_boxes.specs.Meeting.{Meet, MeetsAt}
+use Rattle.sot_meeting_boxes.specs.Meeting.{Meet}
 use Rattle.sot_meeting_boxes.proofs.Sides.{meet_around}
 use Rattle.sot_meeting_boxes.proofs.index.put_block_of.Goals as goal
 

@@ -1,4 +1,4 @@
-use Rattle.std.proofs.Common.{◌≡◌, ◌∙◌, ℕ, false, [], Some, refl, sym, ap, subst}
+use Rattle.std.proofs.Common.{◌∙◌, ℕ, false, [], Some, refl, sym, ap, subst}
 use Rattle.std.proofs.lemmas.List.{append-nil}
 use Rattle.std.proofs.lemmas.Option.{same_Some}
 use Rattle.sot_flight.specs.Plans.{Plan, Guest}
@@ -14,7 +14,7 @@ use Rattle.sot_board.specs.Versions.{drafts_of}
 use Rattle.sot_board.specs.Views.{viewed_node}
 use Rattle.sot_node_worker.specs.Shifts.{HasItsGuest}
 use Rattle.sot_board.specs.NodeSorts.{IsCodedNode}
-use Rattle.sot_node_worker.specs.Holds.{HasNode, IsDueView, HasFired}
+use Rattle.sot_node_worker.specs.Holds.{HasNode, IsDueView}
 use Rattle.sot_node_worker.specs.Turned.{IsQuiet}
 use Rattle.sot_board.proofs.Options.{none_there}
 use Rattle.sot_node_worker.proofs.Arms.{quiet, flown_here, seen_here, seen_program, not_yet, quiet_turn, unasked_turn, asked_turn, nothing_added, same_shift}

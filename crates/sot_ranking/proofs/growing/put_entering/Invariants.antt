@@ -1,6 +1,6 @@
 use Rattle.std.proofs.Common.{ℕ, ◌≡◌, ◌<◌, ◌↔◌}
 use Rattle.std.specs.Prelude.{slice_index_or}
-use Rattle.sot_lists.specs.Places.{At, Has}
+use Rattle.sot_lists.specs.Places.{Has}
 use Rattle.sot_ranking.specs.Entered.{MayEnter}
 use Rattle.sot_ranking.proofs.growing.put_entering.Given as goal
 

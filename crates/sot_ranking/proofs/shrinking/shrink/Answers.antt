@@ -1,7 +1,6 @@
-use Rattle.std.proofs.Common.{◌≡◌, ℕ, ◌∷◌, ◌++◌, [], List, refl, sym, ap, ◌∙◌, subst, arith, length, length-append}
+use Rattle.std.proofs.Common.{◌≡◌, ◌∷◌, [], refl, sym, ap, ◌∙◌, subst, arith, length, length-append}
 use Rattle.std.proofs.lemmas.List.{nil_from_length}
-use Rattle.sot_ranking.specs.Sets.{IsSet, with_places}
-use Rattle.sot_ranking.specs.Thinned.{weight}
+use Rattle.sot_ranking.specs.Sets.{with_places}
 use Rattle.sot_ranking.proofs.shrinking.shrink.Goals as goal
 
 pub loop-j-init : goal.loop-j-init

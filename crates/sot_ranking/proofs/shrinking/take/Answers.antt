@@ -1,7 +1,6 @@
-use Rattle.std.proofs.Common.{◌≡◌, ℕ, ⊎_elim, sym, subst, List}
+use Rattle.std.proofs.Common.{⊎_elim, sym, subst}
 use Rattle.sot_lists.specs.Places.{Has}
 use Rattle.sot_lists.proofs.Places.{has_cases}
-use Rattle.sot_ranking.specs.Sets.{IsSet}
 use Rattle.sot_ranking.proofs.Sets.{passed}
 use Rattle.sot_ranking.proofs.shrinking.take.Goals as goal
 

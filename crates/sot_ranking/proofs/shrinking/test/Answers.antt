@@ -1,9 +1,9 @@
-use Rattle.std.proofs.Common.{◌≡◌, ◌++◌, ◌∷◌, [], List, ℕ, Bool, sym, ◌∙◌, subst, true, false, rules, ⊎_elim}
+use Rattle.std.proofs.Common.{sym, ◌∙◌, subst, true, false, rules}
 use Rattle.std.specs.Prelude.{slice_set}
 use Rattle.std.proofs.lemmas.Bool.{false≢true}
 use Rattle.sot_ranking.specs.Sets.{IsSet, with_places}
 use Rattle.sot_ranking.specs.Thinned.{IsThinned}
-use Rattle.sot_ranking.proofs.Sets.{thinned_same, thinned_leave, with_flag, flag_cases}
+use Rattle.sot_ranking.proofs.Sets.{thinned_leave, with_flag}
 use Rattle.sot_ranking.proofs.shrinking.test.Goals as goal
 
 pub returns-then-branch-clause-here : goal.returns-then-branch-clause-here

@@ -1,4 +1,4 @@
-use Rattle.std.proofs.Common.{◌≡◌, ℕ, ◌+◌, ◌<◌, ⊎_elim, refl, sym, ◌∙◌, subst, arith, length, List}
+use Rattle.std.proofs.Common.{◌≡◌, ◌<◌, ⊎_elim, refl, sym, ◌∙◌, subst, arith}
 use Rattle.std.specs.Prelude.{slice_index_or}
 use Rattle.sot_ranking.specs.Sets.{IsSet, with_places}
 use Rattle.sot_ranking.proofs.Sets.{thinned_same, thinned_on, one_more, has_read}

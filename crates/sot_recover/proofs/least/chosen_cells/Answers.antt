@@ -1,9 +1,9 @@
-use Rattle.std.proofs.Common.{◌≡◌, ℕ, ◌+◌, ◌<◌, ◌≤◌, List, [], ◌∷◌, ◌++◌, refl, sym, ap, ◌∙◌, subst, arith, length, map, drop}
+use Rattle.std.proofs.Common.{◌+◌, ◌++◌, sym, ap, ◌∙◌, subst}
 use Rattle.std.specs.Prelude.{slice_index_or}
 use Rattle.std.proofs.lemmas.Option.{get_or_from_slice_get}
 use Rattle.sot_lists.specs.Places.{At}
 use Rattle.sot_lists.proofs.Places.{at_below}
-use Rattle.sot_recover.specs.Chosen.{places_from, chosen}
+use Rattle.sot_recover.specs.Chosen.{chosen}
 use Rattle.sot_recover.proofs.Chosen.{chosen_more, chosen_end}
 use Rattle.sot_recover.proofs.least.chosen_cells.Goals as goal
 

@@ -1,4 +1,4 @@
-use Rattle.std.proofs.Common.{ℕ, ◌≡◌, ◌++◌, List, map, drop, []}
+use Rattle.std.proofs.Common.{◌≡◌, ◌++◌, map, drop, []}
 use Rattle.std.specs.Prelude.{slice_index_or}
 use Rattle.sot_recover.specs.Chosen.{places_from, chosen}
 use Rattle.sot_recover.proofs.least.chosen_cells.Given as goal

@@ -1,4 +1,4 @@
-use Rattle.std.proofs.Common.{◌≡◌, List, inr, refl, subst}
+use Rattle.std.proofs.Common.{List, inr, refl, subst}
 use Rattle.std.specs.Prelude.{MatchOption, Option, ℤ}
 use Rattle.sot_box.specs.Regions.{CoversAll, IsFirstGap}
 use Rattle.sot_box.proofs.Laws.{first_gap_uncovered}

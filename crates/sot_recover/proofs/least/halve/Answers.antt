@@ -1,4 +1,4 @@
-use Rattle.std.proofs.Common.{◌≡◌, ℕ, ◌+◌, ◌-◌, ◌/◌, ◌<◌, ◌≤◌, ⊎_elim, refl, sym, subst, arith, List}
+use Rattle.std.proofs.Common.{ℕ, ◌+◌, ◌-◌, ◌/◌, ◌<◌, ◌≤◌, ⊎_elim, sym, subst, arith}
 use Rattle.sot_box.specs.Regions.{CoversAll}
 use Rattle.sot_recover.specs.Chosen.{chosen}
 use Rattle.sot_recover.proofs.Chosen.{covers_more}

@@ -1,8 +1,7 @@
-use Rattle.std.proofs.Common.{◌≡◌, ℕ, inl, inr, ⊎_elim, List, [], sym, ◌∙◌, subst}
-use Rattle.std.specs.Prelude.{ℤ}
+use Rattle.std.proofs.Common.{inr, ⊎_elim, sym, subst}
 use Rattle.sot_lists.specs.Places.{Has}
 use Rattle.sot_box.specs.Regions.{IsInRegion}
-use Rattle.sot_recover.specs.Near.{IsInChosen, IsNear}
+use Rattle.sot_recover.specs.Near.{IsNear}
 use Rattle.sot_recover.proofs.Grounds.{shared_meet}
 use Rattle.sot_recover.proofs.near.near_cells.Goals as goal
 

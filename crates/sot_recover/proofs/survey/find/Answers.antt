@@ -1,11 +1,10 @@
-use Rattle.std.proofs.Common.{◌≡◌, ℕ, ◌+◌, ◌-◌, ◌<◌, ◌≤◌, List, [], ◌∷◌, length, drop, sym, ap, ◌∙◌, subst, arith, length-drop}
+use Rattle.std.proofs.Common.{◌≡◌, ℕ, ◌+◌, ◌-◌, List, length, drop, sym, ap, ◌∙◌, subst, arith, length-drop}
 use Rattle.sot_lists.specs.Places.{At}
 use Rattle.sot_lists.proofs.Places.{at_same}
 use Rattle.sot_box.specs.Sides.{Side}
 use Rattle.sot_box.specs.Regions.{Covers}
 use Rattle.sot_lang.specs.declared.tables.ModuleInfo.{ModuleInfo}
 use Rattle.sot_lang.specs.OwnerNames.{width_of}
-use Rattle.sot_law_recovery.specs.Holds.{Guarded}
 use Rattle.sot_meeting_boxes.specs.Meeting.{IsAroundAll}
 use Rattle.sot_meeting_boxes.proofs.Sides.{dropped_at}
 use Rattle.sot_recover.proofs.CellTubes.{account, wide_in}

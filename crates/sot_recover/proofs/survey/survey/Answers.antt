@@ -1,4 +1,4 @@
-use Rattle.std.proofs.Common.{◌≡◌, List, sym, subst}
+use Rattle.std.proofs.Common.{List, subst}
 use Rattle.sot_lists.specs.Places.{At}
 use Rattle.sot_box.specs.Sides.{Side}
 use Rattle.sot_recover.proofs.Surveyed.{surveyed_more}

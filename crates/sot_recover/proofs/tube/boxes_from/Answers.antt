@@ -1,4 +1,4 @@
-use Rattle.std.proofs.Common.{◌≡◌, ◌-◌, ◌≤◌, arith, length, drop, take, length-drop}
+use Rattle.std.proofs.Common.{◌-◌, arith, length, drop, length-drop}
 use Rattle.std.proofs.lemmas.List.{take_all}
 use Rattle.sot_recover.proofs.tube.boxes_from.Goals as goal
 

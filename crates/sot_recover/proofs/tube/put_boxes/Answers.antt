@@ -1,4 +1,4 @@
-use Rattle.std.proofs.Common.{◌≡◌, List, Ok, sym, ◌∙◌, subst}
+use Rattle.std.proofs.Common.{List, Ok, subst}
 use Rattle.sot_box.specs.Sides.{Side}
 use Rattle.sot_iv.specs.TermIntervals.{OrMayTrap}
 use Rattle.sot_iv.specs.PlantTicks.{IsBoxOver}

@@ -1,4 +1,4 @@
-use Rattle.std.proofs.Common.{◌≡◌, ◌++◌, ◌∷◌, [], List, ap, ◌∙◌}
+use Rattle.std.proofs.Common.{◌++◌, ◌∷◌, [], ap, ◌∙◌}
 use Rattle.sot_recover.proofs.Chosen.{take_next}
 use Rattle.sot_recover.proofs.within.boxes_of.Goals as goal
 

@@ -1,4 +1,4 @@
-use Rattle.std.proofs.Common.{◌≡◌, ◌<◌, Some, None, refl, sym, ap, ◌∙◌, arith, length}
+use Rattle.std.proofs.Common.{◌<◌, Some, refl, sym, ap, ◌∙◌, arith, length}
 use Rattle.std.proofs.lemmas.Option.{same_Some, none-some}
 use Rattle.sot_lists.proofs.Places.{at_same, read_at}
 use Rattle.sot_lang.specs.declared.cert.Cells.{Cells}

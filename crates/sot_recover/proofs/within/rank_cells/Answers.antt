@@ -1,4 +1,4 @@
-use Rattle.std.proofs.Common.{◌≡◌, List, ◌∙◌}
+use Rattle.std.proofs.Common.{◌∙◌}
 use Rattle.sot_recover.proofs.Grounds.{monotone, hanging, first_lands}
 use Rattle.sot_recover.proofs.Ranked.{ranked}
 use Rattle.sot_recover.proofs.within.rank_cells.Goals as goal

@@ -2,7 +2,6 @@ use Rattle.std.proofs.Common.{◌≡◌, ℕ, List, length, refl, sym, ap, ◌�
 use Rattle.sot_lists.specs.Places.{At}
 use Rattle.sot_box.specs.Sides.{Side}
 use Rattle.sot_box.specs.BoxList.{BoxList}
-use Rattle.sot_law_recovery.specs.Holds.{Guarded}
 use Rattle.sot_recover.specs.Found.{AreRanksOf}
 use Rattle.sot_recover.proofs.CellTubes.{account}
 use Rattle.sot_recover.proofs.Whole.{vec_whole, one_width, few_cells, hulls_one_width}

@@ -1,5 +1,4 @@
-use Rattle.std.proofs.Common.{◌≡◌, ℕ, List, sym, subst}
-use Rattle.std.specs.Prelude.{ℤ, IfOk, IfErr}
+use Rattle.std.specs.Prelude.{IfOk, IfErr}
 use Rattle.sot_law_recovery.specs.Holds.{Guarded, IsRecovered}
 use Rattle.sot_law_recovery.specs.Ranks.{IsRank, HasNoRank}
 use Rattle.sot_law_recovery.specs.RunHolds.{FiringsAreHolds, TrustsAfter}

@@ -1,4 +1,4 @@
-use Rattle.std.proofs.Common.{◌≡◌, ◌∙◌, ◌<◌, ◌≤◌, ℕ, ℤ, List, ap, sym, subst, arith}
+use Rattle.std.proofs.Common.{◌≡◌, ◌∙◌, ◌<◌, ℕ, ℤ, List, ap, sym, subst, arith}
 use Rattle.std.specs.Prelude.{IfOk}
 use Rattle.std.proofs.lemmas.Bool.{both_ways}
 use Rattle.sot_lang.specs.Tables.{Tables}
@@ -9,7 +9,6 @@ use Rattle.sot_world.specs.Steps.{MayTick}
 use Rattle.sot_flight.specs.Plans.{Plan}
 use Rattle.sot_board.proofs.InputsDue.{no_input_due, input_not_due}
 use Rattle.sot_trace_lines.specs.Spelled.{TickLine, IsSpelled}
-use Rattle.sot_replay.specs.declared.fail.LineKind.{LineKind}
 use Rattle.sot_replay.specs.declared.fail.LineKind.TheVariants.{WrongTime, NodesLeft, InputsLeft, TooFar}
 use Rattle.sot_replay.specs.declared.judged.Judged.TheVariants.{Fails}
 use Rattle.sot_replay.specs.Tests.{IsFirstFailing}

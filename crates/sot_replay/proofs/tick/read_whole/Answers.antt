@@ -1,4 +1,4 @@
-use Rattle.std.proofs.Common.{Bool, Option, Some, subst, sym}
+use Rattle.std.proofs.Common.{Bool, Option, subst, sym}
 use Rattle.sot_trace_lines.specs.declared.line.Line.{Line}
 use Rattle.sot_trace_lines.specs.Shown.{Holds, AnswersLine}
 use Rattle.sot_replay.proofs.ReadOn.{tick_read}

@@ -1,7 +1,4 @@
-use Rattle.std.proofs.Common.{◌≡◌, length, refl, sym, ◌∙◌, subst}
-use Rattle.std.proofs.lemmas.Option.{same_Some, slice_get_within}
-use Rattle.sot_lang.specs.declared.tables.ModuleInfo.{ModuleInfo}
-use Rattle.sot_lang.specs.OwnerNames.{width_of}
+use Rattle.std.proofs.Common.{refl}
 use Rattle.sot_rta.proofs.Found.{plant_there}
 use Rattle.sot_rta.proofs.Inputs.{inputs_there}
 use Rattle.sot_rta.proofs.HeldTubes.{is_coded, is_ok, commands}

@@ -1,6 +1,6 @@
 -- Of `faultless_programs_are_as_stated`: its promises.
 use Rattle.std.proofs.Common.{refl}
-use Rattle.sot_rules.specs.Examples.{the_line, the_rest}
+use Rattle.sot_rules.specs.FaultlessPrograms.{the_line, the_rest}
 use Rattle.sot_rules.proofs.FirstFault.{none_is}
 use Rattle.sot_rules.proofs.facts.faultless_programs_are_as_stated.Goals as goal
 

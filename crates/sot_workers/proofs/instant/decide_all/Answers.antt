@@ -1,4 +1,4 @@
-use Rattle.std.proofs.Common.{◌≡◌, ◌+◌, refl, sym, ap, ◌∙◌, subst, arith}
+use Rattle.std.proofs.Common.{◌≡◌, ◌+◌, sym, ◌∙◌, subst, arith}
 use Rattle.sot_world.specs.HistoryEntry.{DecideAt}
 use Rattle.sot_workers.specs.Order.{DecideInOrder, Adds}
 use Rattle.sot_workers.proofs.Ordered.{adds_one, decide_one, decide_later}

@@ -1,5 +1,4 @@
-use Rattle.std.proofs.Common.{◌≡◌, ◌++◌, refl, sym, ap, ◌∙◌, arith}
-use Rattle.sot_lang.specs.Ticks.{joined}
+use Rattle.std.proofs.Common.{◌≡◌, ◌++◌, refl, ap, ◌∙◌, arith}
 use Rattle.sot_workers.proofs.Effects.{tick_time}
 use Rattle.sot_workers.proofs.Histories.{tick_entry}
 use Rattle.sot_workers.proofs.Ordered.{order_here, order_further, order_ends}

@@ -1,4 +1,4 @@
-use Rattle.std.proofs.Common.{rules, ◌∙◌, ◌≡◌, ◌+◌, ◌≤◌, ap, sym, subst, arith, pos, [], ◌∷◌, ◌++◌, length}
+use Rattle.std.proofs.Common.{rules, ◌∙◌, ◌≡◌, ◌+◌, ap, arith, pos, [], ◌∷◌, ◌++◌, length}
 use Rattle.std.proofs.lemmas.List.{length-append}
 use Rattle.sot_world.specs.HistoryRecords.{Firing, logged, entry_in, entry_end, end_of, flags_in, count_there}
 use Rattle.sot_world.proofs.Words.{far_firing}

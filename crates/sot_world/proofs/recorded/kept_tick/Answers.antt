@@ -1,6 +1,5 @@
-use Rattle.std.proofs.Common.{rules, ◌∙◌, ◌≡◌, ap, sym, subst, arith, pos, [], ◌∷◌, ◌++◌, length}
+use Rattle.std.proofs.Common.{rules, ◌∙◌, ◌≡◌, ap, arith, pos, [], ◌∷◌, ◌++◌, length}
 use Rattle.sot_world.specs.HistoryRecords.{Moves, logged, entry_in}
-use Rattle.sot_world.specs.HistoryEntry.{TickAt}
 use Rattle.sot_world.proofs.Words.{far_moves}
 use Rattle.sot_world.proofs.Records.{moves_written}
 use Rattle.sot_world.proofs.recorded.kept_tick.Goals as goal

@@ -1,4 +1,4 @@
-use Rattle.std.proofs.Common.{◌<◌, ◌∷◌, ◌++◌, [], suc, List, length, refl, sym, ap, ◌∙◌, subst, arith}
+use Rattle.std.proofs.Common.{suc, List, refl, sym, subst, arith}
 use Rattle.std.specs.Prelude.{slice_index_or, slice_set}
 use Rattle.std.specs.Vec.{with_items}
 use Rattle.std.proofs.lemmas.List.{with_items_is}

@@ -1,4 +1,4 @@
-use Rattle.std.proofs.Common.{◌≡◌, ℕ, ◌∙◌, subst, List}
+use Rattle.std.proofs.Common.{ℕ, ◌∙◌, subst}
 use Rattle.std.specs.Prelude.{◌↔◌}
 use Rattle.sot_lists.specs.Places.{Has}
 use Rattle.sot_meeting_boxes.specs.Meeting.{MeetsAt}
