@@ -55,8 +55,8 @@ one_entry c m x y a b = same_Some x y (same_Some (Some x) (Some y) (sym a ∙ b)
 
 pub alike : (t u : Tables) (c d : Cert) (m : ℕ) (g : Guarded t c m) (h : Guarded u d m) → LookTheSame t u c d → Alike g h
 alike t u c d m g h s =
-    let info : g.info ≡ h.info = at_same u.modules m g.info h.info (subst (λ (ms : List ModuleInfo). At ms m g.info) (modules_same t u s.tables) g.info_is) h.info_is
-    in
+    let there = subst (λ (ms : List ModuleInfo). At ms m g.info) (modules_same t u s.tables) g.info_is in
+    let info : g.info ≡ h.info = at_same u.modules m g.info h.info there h.info_is in
     let x = plant_back t u s.tables h.info.plant h.plant h.plant_is in
     let plant : g.plant ≡ x.0 = at_same t.plants h.info.plant g.plant x.0 (subst (λ a. At t.plants a.plant g.plant) info g.plant_is) x.1 in
     let v = node_back t u s.tables h.info.sc h.sc h.sc_is in

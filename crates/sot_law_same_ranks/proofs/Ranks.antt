@@ -39,7 +39,8 @@ module _ {t u : Tables} {c d : Cert} {m : ℕ} (g : Guarded t c m) (h : Guarded 
   rank_alike (suc k) i (inr l) = inr (lands_alike (HasRank g k) (HasRank h k) (rank_alike k) i l)
 
 -- the cells of a rank cover the safe region alike
-reaches_alike : {t u : Tables} {c d : Cert} {m : ℕ} (g : Guarded t c m) (h : Guarded u d m) → LookTheSame t u c d → Alike g h → (k : ℕ) → Reaches g k → Reaches h k
+reaches_alike : {t u : Tables} {c d : Cert} {m : ℕ} (g : Guarded t c m) (h : Guarded u d m) → LookTheSame t u c d → Alike g h → (k : ℕ) → Reaches g k
+    → Reaches h k
 reaches_alike g h s a k r p inside =
     in_cells_alike g h s a (HasRank g k) (HasRank h k) (rank_alike g h s a k) p
     (r p (subst (λ (i : ModuleInfo). IsInRegion i.safe.boxes p) (back g h a).info inside))

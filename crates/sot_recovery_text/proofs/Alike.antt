@@ -1,5 +1,6 @@
 -- What is told of tables that look the same.
-use Rattle.std.proofs.Common.{◌≡◌, ℕ, zero, suc, ◌+◌, ◌*◌, ◌<◌, ℤ, List, [], ◌∷◌, ◌++◌, Option, Some, None, length, map, codes, refl, sym, ap, ap₂, ◌∙◌, subst, arith}
+use Rattle.std.proofs.Common.{◌≡◌, ℕ, zero, suc, ◌+◌, ◌*◌, ◌<◌, ℤ, List, [], ◌∷◌, ◌++◌, Option, Some, None, length, map, codes, refl, sym, ap, ap₂, ◌∙◌}
+use Rattle.std.proofs.Common.{subst, arith}
 use Rattle.std.specs.Prelude.{slice_get}
 use Rattle.std.specs.Option.{option_map_or}
 use Rattle.std.specs.Fmt.{decimal}
@@ -30,7 +31,8 @@ period_seen (n ∷ ns) zero = refl
 period_seen (n ∷ ns) (suc k) = period_seen ns k
 
 module _ (t u : Tables) (same : tables_seen t ≡ tables_seen u) where
-  node_period : (k : ℕ) → option_map_or (λ (n : NodeInfo). n.period) (slice_get t.nodes k) 0 ≡ option_map_or (λ (n : NodeInfo). n.period) (slice_get u.nodes k) 0
+  node_period : (k : ℕ)
+      → option_map_or (λ (n : NodeInfo). n.period) (slice_get t.nodes k) 0 ≡ option_map_or (λ (n : NodeInfo). n.period) (slice_get u.nodes k) 0
   node_period k =
       period_seen t.nodes k
       ∙ ap (λ (ns : List NodeTable). option_map_or (λ (n : NodeTable). n.period) (slice_get ns k) 0) (nodes_seen_same t u same)
@@ -45,7 +47,8 @@ module _ (t u : Tables) (same : tables_seen t ≡ tables_seen u) where
   period_same : (m : ℕ) → safe_period t m ≡ safe_period u m
   period_same m =
       of_module (slice_get t.modules m)
-      ∙ ap (λ (ms : List ModuleInfo). option_map_or (λ (a : ModuleInfo). option_map_or (λ (n : NodeInfo). n.period) (slice_get u.nodes a.sc) 0) (slice_get ms m) 0)
+      ∙ ap (λ (ms : List ModuleInfo). option_map_or
+      (λ (a : ModuleInfo). option_map_or (λ (n : NodeInfo). n.period) (slice_get u.nodes a.sc) 0) (slice_get ms m) 0)
       (modules_same t u same)
 
   name_same : (m : ℕ) → module_name t m ≡ module_name u m
