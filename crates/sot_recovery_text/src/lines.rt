@@ -13,6 +13,7 @@ use sot_box::Point;
 use sot_lang::Typed;
 use sot_recover::{RecoverFail, recover_within};
 use sot_report::{put, put_module, put_point};
+use sot_rta::module_at;
 use sot_tube::Accepted;
 use std::alloc::{AllocError, Global};
 
@@ -58,6 +59,8 @@ fn holds_of(alloc: Global, acc: &Accepted<'_>, module: u32) -> Result<u32, Recov
     ensures never { IfErr result (λ f. IfNeverAt f (λ m s. (m ≡ «module»)
         × NeverRecovers acc.now.program acc.now.cert m s)) }
 {
+    // A look at the module brings the rules of the tables.
+    let _info = module_at(acc.typed(), module);
     match recover_within(alloc, acc, module) {
         Ok(holds) => Ok(holds),
         Err(RecoverFail::Never { point }) => Err(RecoveryFail::Never { module, point }),
