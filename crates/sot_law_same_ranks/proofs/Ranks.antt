@@ -22,9 +22,11 @@ module _ {t u : Tables} {c d : Cert} {m : ℕ} (g : Guarded t c m) (h : Guarded 
   in_cells_alike Of Also more p x = (x.0, x.1, more x.0 x.2, cell_alike x.0 x.1 x.3, x.4)
 
   lands_alike : (Of Also : ℕ → Type 0) → ((i : ℕ) → Of i → Also i) → (i : ℕ) → LandsIn g Of i → LandsIn h Also i
-  lands_alike Of Also more i l =
-      (l.0, cell_alike i l.0 l.1,
-      λ box p landing w. in_cells_alike Of Also more p (l.2 box p (landing_alike h g (turned t u c d s) (back g h a) l.0 box landing) w))
+  lands_alike Of Also more i l = (
+    l.0,
+    cell_alike i l.0 l.1,
+    λ box p landing w. in_cells_alike Of Also more p (l.2 box p (landing_alike h g (turned t u c d s) (back g h a) l.0 box landing) w),
+  )
 
   rank_alike : (k i : ℕ) → HasRank g k i → HasRank h k i
   rank_alike zero i r = (

@@ -9,9 +9,11 @@ const BACK: &str = "clamp(0 - pos.x, -2, 2)";
 const DRIFT: &str = "if pos.x > 10 then -2 else if pos.x < -10 then 2 else 0";
 
 // Cells of two states each, up to -11, and on the other side.
-const FAR_WEST: &str = "[[-40,-39]],[[-38,-37]],[[-36,-35]],[[-34,-33]],[[-32,-31]],[[-30,-29]],[[-28,-27]],[[-26,-25]],[[-24,-23]],[[-22,-21]],[[-20,-19]],[[-18,-17]],[[-16,-15]],[[-14,-13]],[[-12,-11]]";
+const FAR_WEST: &str =
+    "[[-40,-39]],[[-38,-37]],[[-36,-35]],[[-34,-33]],[[-32,-31]],[[-30,-29]],[[-28,-27]],[[-26,-25]],[[-24,-23]],[[-22,-21]],[[-20,-19]],[[-18,-17]],[[-16,-15]],[[-14,-13]],[[-12,-11]]";
 
-const FAR_EAST: &str = "[[11,12]],[[13,14]],[[15,16]],[[17,18]],[[19,20]],[[21,22]],[[23,24]],[[25,26]],[[27,28]],[[29,30]],[[31,32]],[[33,34]],[[35,36]],[[37,38]],[[39,40]]";
+const FAR_EAST: &str =
+    "[[11,12]],[[13,14]],[[15,16]],[[17,18]],[[19,20]],[[21,22]],[[23,24]],[[25,26]],[[27,28]],[[29,30]],[[31,32]],[[33,34]],[[35,36]],[[37,38]],[[39,40]]";
 
 // The cells between them.
 const CLOSE: &str = "[[-10,-9]],[[-8,-3]],[[-2,2]],[[3,8]],[[9,10]]";
@@ -76,7 +78,13 @@ fn says_nothing_where_there_is_no_module(rt: HostRuntime) {
     let none = "%certificate~{\"format\":1,\"modules\":{}}";
     let empty = lines_of(alloc, none).expect(&rt, "memory");
     answers(&rt, alloc, "recover", &empty, "0 ");
-    answers(&rt, alloc, "recover", LINE, "3 fault section line 18 Missing~");
+    answers(
+        &rt,
+        alloc,
+        "recover",
+        LINE,
+        "3 fault section line 18 Missing~",
+    );
     let mission = format!(in alloc; "{LINE}{CERTIFICATE}").expect(&rt, "memory");
     let never = "1 refused recover module nav point (-40)~";
     answers(&rt, alloc, "recover", &mission, never)
