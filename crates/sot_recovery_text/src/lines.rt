@@ -1,6 +1,6 @@
 //! The lines of modules that recover, and the line of one that never does.
 
-ghost use Rattle.std.specs.Prelude.{ℕ, ◌×◌, ◌≡◌, ◌++◌, ◌<◌, ◌≤◌, codes, length, IfOk, IfErr, OnOk};
+ghost use Rattle.std.specs.Prelude.{ℕ, ◌≡◌, ◌++◌, ◌<◌, ◌≤◌, codes, length, IfOk, IfErr, OnOk};
 ghost use Rattle.sot_lang.specs.CertRules.{FitsTables};
 ghost use Rattle.sot_report.specs.RefusalTexts.{gap_line};
 ghost use Rattle.sot_recovery_text.specs.Recovery.{Recovers, NeverRecovers, FirstNever};
