@@ -17,16 +17,16 @@ ghost use Rattle.sot_report.specs.FaultTexts.{fault_text};
 ghost use Rattle.sot_report.specs.RefusalTexts.{gap_line, refusal_text};
 ghost use Rattle.sot_report.specs.AcceptedTexts.{accepted_text};
 ghost use Rattle.sot_certified_text.specs.FailTexts.{fail_text};
+ghost use Rattle.sot_recovery_text.specs.Recovery.{IsNeverAt};
 
 use crate::telling::Telling;
 use sot_board::Board;
-use sot_box::Point;
 use sot_certify::CertifyFail;
 use sot_flight::Flight;
 use sot_lang::{Cert, Typed};
 use sot_maker::make;
 use sot_print::print;
-use sot_recovery_text::never_text;
+use sot_recovery_text::{RecoveryFail, never_text};
 use sot_replay::LineKind;
 use sot_report::{Fault, start_text};
 use sot_rta::Refusal;
@@ -191,14 +191,13 @@ pub fn refused_line(alloc: Global, line: u32, kind: LineKind) -> Result<Answer, 
 pub fn unrecovered(
     alloc: Global,
     program: &Typed,
-    module: u32,
-    point: &Point,
+    fail: &RecoveryFail,
 ) -> Result<Answer, AllocError>
     ensures status { IfOk result (λ answer. answer.status ≡ 1) }
-    ensures text { IfOk result (λ answer. answer.text.items
-        ≡ gap_line (codes "recover") program.now «module» point.now) }
+    ensures text { IfOk result (λ answer. IsNeverAt fail.now (λ m s.
+        answer.text.items ≡ gap_line (codes "recover") program.now m s)) }
 {
-    let text = never_text(alloc, program, module, point)?;
+    let text = never_text(alloc, program, fail)?;
     Ok(Answer { status: 1, text })
 }
 

@@ -10,7 +10,7 @@ use crate::answer::{Answer, faulty, refused, unrecovered};
 use sot_compose::check_all;
 use sot_lang::{Cert, Typed};
 use sot_ports::{Process, let_go};
-use sot_recovery_text::{RecoveryFail, recovery_text};
+use sot_recovery_text::recovery_text;
 use sot_report::{LoadFail, load};
 use sot_sections::Need;
 use sot_tube::Accepted;
@@ -25,10 +25,7 @@ fn recover_accepted(alloc: Global, accepted: &Accepted<'_>) -> Result<Answer, Al
 {
     match recovery_text(alloc, accepted) {
         Ok(text) => Ok(Answer { status: 0, text }),
-        Err(RecoveryFail::Never { module, point }) => {
-            unrecovered(alloc, accepted.typed(), module, &point)
-        }
-        Err(RecoveryFail::Memory) => Err(AllocError),
+        Err(fail) => unrecovered(alloc, accepted.typed(), &fail),
     }
 }
 

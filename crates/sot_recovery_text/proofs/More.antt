@@ -17,7 +17,7 @@ use Rattle.sot_recovery_text.specs.declared.fail.RecoveryFail.{RecoveryFail}
 use Rattle.sot_recovery_text.specs.declared.fail.RecoveryFail.TheVariants.{Never, Memory}
 use Rattle.sot_recovery_text.specs.Lines.{recover_line, recover_lines}
 use Rattle.sot_recovery_text.specs.Recovery.{Recovers, NeverRecovers, RecoverSoFar, FirstNever, IfNeverAt}
-use Rattle.sot_recovery_text.specs.Steps.{TellsMore}
+use Rattle.sot_recovery_text.specs.Steps.{TellsMore, told_of}
 
 -- lines of one module more
 lines_more : (t : Tables) (jitter m : ℕ) (ns : List ℕ) (n : ℕ)
@@ -44,7 +44,8 @@ module _ (t : Tables) (cert : Cert) where
   pub so_far_more : (m : ℕ) (was now : List ℕ) → RecoverSoFar t cert m was → TellsMore t cert m was now → RecoverSoFar t cert (m + 1) now
   so_far_more m was now so more =
       let n = more.0 in
-      let last : 0 + length so.ranks ≡ m = so.count in
+      let count = so.count in
+      let last : 0 + length so.ranks ≡ m = omega (arith, count) in
       record {
         ranks = so.ranks ++ n ∷ [];
         count = length-append so.ranks (n ∷ []) ∙ ap (λ k. k + 1) so.count;
@@ -72,6 +73,7 @@ module _ (t : Tables) (cert : Cert) where
   first_of m text Memory so never = tt
 
   -- a module that never recovers
-  pub never_of : (m : ℕ) (g : Guarded t cert m) (f : RecoverFail) (point : List ℤ) → f ≡ one.Never point → IfNever f (λ s. HasNoRank g s)
-      → NeverRecovers t cert m point
-  never_of m g f point is none = record { parts = g; none = subst (λ (e : RecoverFail). IfNever e (λ s. HasNoRank g s)) is none }
+  pub never_of : (m : ℕ) (g : Guarded t cert m) (f : RecoverFail) → IfNever f (λ s. HasNoRank g s)
+      → IfNeverAt (told_of m f) (λ k s. (k ≡ m) × NeverRecovers t cert k s)
+  never_of m g (one.Never point) none = (refl, record { parts = g; none = none })
+  never_of m g one.Memory none = tt

@@ -53,3 +53,8 @@ SomeNever t cert text =
 abbrev pub IfNeverAt : RecoveryFail → (ℕ → List ℤ → Type 0) → Type 0
 IfNeverAt (Never m point) P = P m point
 IfNeverAt Memory P = Unit {0}
+
+-- a module never recovers, and this holds of it and of the point
+abbrev pub IsNeverAt : RecoveryFail → (ℕ → List ℤ → Type 0) → Type 0
+IsNeverAt (Never m point) P = P m point
+IsNeverAt Memory P = ⊥

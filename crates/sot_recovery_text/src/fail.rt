@@ -2,8 +2,10 @@
 
 ghost use Rattle.std.specs.Prelude.{◌≡◌};
 ghost use Rattle.sot_recovery_text.specs.declared.fail.RecoveryFail.TheVariants.{Memory};
+ghost use Rattle.sot_recovery_text.specs.Steps.{told_of};
 
 use sot_box::Point;
+use sot_recover::RecoverFail;
 use std::alloc::AllocError;
 
 /// Why not all modules recover.
@@ -14,6 +16,16 @@ pub enum RecoveryFail {
     Never { module: u32, point: Point },
     /// There was no memory.
     Memory,
+}
+
+/// Why this module does not recover, as said of all modules.
+pub(crate) fn told(module: u32, fail: &RecoverFail) -> RecoveryFail
+    ensures { result ≡ told_of «module» fail.now }
+{
+    match *fail {
+        RecoverFail::Never { point } => RecoveryFail::Never { module, point },
+        RecoverFail::Memory => RecoveryFail::Memory,
+    }
 }
 
 impl From<AllocError> for RecoveryFail {

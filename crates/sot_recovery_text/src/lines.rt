@@ -1,17 +1,17 @@
 //! The lines of modules that recover, and the line of one that never does.
 
-ghost use Rattle.std.specs.Prelude.{ℕ, ◌≡◌, ◌++◌, ◌<◌, ◌≤◌, codes, length, IfOk, IfErr, OnOk};
+ghost use Rattle.std.specs.Prelude.{◌≡◌, ◌++◌, ◌<◌, ◌≤◌, codes, length, IfOk, IfErr, OnOk};
 ghost use Rattle.sot_lang.specs.CertRules.{FitsTables};
 ghost use Rattle.sot_report.specs.RefusalTexts.{gap_line};
 ghost use Rattle.sot_recovery_text.specs.Recovery.{Recovers, NeverRecovers, FirstNever};
-ghost use Rattle.sot_recovery_text.specs.Recovery.{AllRecover, IfNeverAt};
+ghost use Rattle.sot_recovery_text.specs.Recovery.{AllRecover, IfNeverAt, IsNeverAt};
 ghost use Rattle.sot_recovery_text.specs.Lines.{safe_period, recover_line};
 ghost use Rattle.sot_recovery_text.specs.Steps.{TellsMore};
 
-use crate::fail::RecoveryFail;
+use crate::fail::{RecoveryFail, told};
 use sot_box::Point;
 use sot_lang::Typed;
-use sot_recover::{RecoverFail, recover_within};
+use sot_recover::recover_within;
 use sot_report::{put, put_module, put_point};
 use sot_rta::module_at;
 use sot_tube::Accepted;
@@ -63,8 +63,7 @@ fn holds_of(alloc: Global, acc: &Accepted<'_>, module: u32) -> Result<u32, Recov
     let _info = module_at(acc.typed(), module);
     match recover_within(alloc, acc, module) {
         Ok(holds) => Ok(holds),
-        Err(RecoverFail::Never { point }) => Err(RecoveryFail::Never { module, point }),
-        Err(RecoverFail::Memory) => Err(RecoveryFail::Memory),
+        Err(fail) => Err(told(module, &fail)),
     }
 }
 
@@ -102,13 +101,8 @@ pub fn recovery_text(alloc: Global, acc: &Accepted<'_>) -> Result<Vec<u8>, Recov
     Ok(text)
 }
 
-/// `refused recover module NAME point (X1, X2)`.
-pub fn never_text(
-    alloc: Global,
-    p: &Typed,
-    module: u32,
-    point: &Point,
-) -> Result<Vec<u8>, AllocError>
+// `refused recover module NAME point (X1, X2)`.
+fn never_line(alloc: Global, p: &Typed, module: u32, point: &Point) -> Result<Vec<u8>, AllocError>
     ensures { IfOk result (λ text.
         text.items ≡ gap_line (codes "recover") p.now «module» point.now) }
 {
@@ -119,4 +113,16 @@ pub fn never_text(
     put_point(alloc, &mut text, point)?;
     text.push(b'\n')?;
     Ok(text)
+}
+
+/// The line of a module that never recovers, `refused recover module NAME point (X1, X2)`. Where
+/// memory was short there is none, and it is short again.
+pub fn never_text(alloc: Global, p: &Typed, fail: &RecoveryFail) -> Result<Vec<u8>, AllocError>
+    ensures { IfOk result (λ text. IsNeverAt fail.now (λ m s.
+        text.items ≡ gap_line (codes "recover") p.now m s)) }
+{
+    match *fail {
+        RecoveryFail::Never { module, point } => never_line(alloc, p, module, &point),
+        RecoveryFail::Memory => Err(AllocError),
+    }
 }
