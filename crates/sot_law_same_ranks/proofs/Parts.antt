@@ -7,7 +7,6 @@ use Rattle.sot_box.specs.Sides.{Side}
 use Rattle.sot_lang.specs.declared.act.Act.{Act}
 use Rattle.sot_lang.specs.declared.cert.Cells.{Cells}
 use Rattle.sot_lang.specs.declared.cert.Cert.{Cert}
-use Rattle.sot_lang.specs.declared.tables.PlantInfo.{PlantInfo}
 use Rattle.sot_lang.specs.declared.tables.NodeInfo.{NodeInfo}
 use Rattle.sot_lang.specs.declared.tables.ModuleInfo.{ModuleInfo}
 use Rattle.sot_lang.specs.Tables.{Tables}
@@ -18,7 +17,7 @@ use Rattle.sot_iv.specs.BodyIntervals.{Intervals}
 use Rattle.sot_tube.specs.Tubes.{TubeInside}
 use Rattle.sot_tube.specs.Certified.{HasCells, DraftsFrom, command_intervals}
 use Rattle.sot_typing.specs.Formulas.{deeds_view}
-use Rattle.sot_typing.specs.Resolved.{plant_seen, node_seen, tables_seen}
+use Rattle.sot_typing.specs.Resolved.{plant_seen, node_seen}
 use Rattle.sot_law_runs.specs.TubeBoxes.{IsBoxAfter}
 use Rattle.sot_law_same_tables.specs.UnplacedTables.{unplaced_deeds, unplaced_plant_table, unplaced_node_table, unplaced_tables}
 use Rattle.sot_law_same_tables.proofs.Seen.{modules_same, plant_back, node_back}

@@ -1,5 +1,5 @@
 -- Ranks are the same in tables that look the same.
-use Rattle.std.proofs.Common.{◌≡◌, ℕ, zero, suc, ◌<◌, ℤ, ◌⊎◌, inl, inr, List, [], map, subst}
+use Rattle.std.proofs.Common.{ℕ, zero, suc, ℤ, inl, inr, List, [], map, subst}
 use Rattle.std.specs.Prelude.{slice_index_or}
 use Rattle.sot_lists.specs.Places.{At, Has}
 use Rattle.sot_box.specs.Sides.{Side}

@@ -5,7 +5,6 @@ use Rattle.std.specs.Prelude.{slice_get}
 use Rattle.std.specs.Option.{option_map_or}
 use Rattle.std.specs.Fmt.{decimal}
 use Rattle.std.proofs.lemmas.Option.{slice_get_within}
-use Rattle.sot_lists.specs.Places.{At}
 use Rattle.sot_lists.proofs.Places.{at_below, same_list}
 use Rattle.sot_lists.proofs.Numbers.{by_order}
 use Rattle.sot_lang.specs.declared.cert.Cert.{Cert}
