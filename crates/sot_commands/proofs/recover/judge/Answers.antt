@@ -1,4 +1,5 @@
-use Rattle.std.proofs.Common.{subst, IfOk}
+use Rattle.std.proofs.Common.{sym, subst, IfOk}
+use Rattle.sot_lang.specs.CertRules.{FitsTables}
 use Rattle.sot_tube.specs.Admitted.{Admitted}
 use Rattle.sot_rta.specs.Refused.{refusal_view}
 use Rattle.sot_commands.specs.Steps.{SaysRecovery}
@@ -6,7 +7,7 @@ use Rattle.sot_commands.proofs.Recovered.{recovery_result, unrecovered_result}
 use Rattle.sot_commands.proofs.recover.judge.Goals as goal
 
 pub recover_accepted-requires : goal.recover_accepted-requires
-recover_accepted-requires g c = rw c.in-Ok.ensures.answer.0 c.requires
+recover_accepted-requires g c = subst (λ (x : Admitted). FitsTables x.program x.cert) (sym c.in-Ok.ensures.answer.0) c.requires
 
 pub returns-in-Ok : goal.returns-in-Ok
 returns-in-Ok g c =
