@@ -17,7 +17,7 @@ use Rattle.clap.specs.Walk.{Held, Names, Step, Text, Waiting, idle, value, answe
 use Rattle.clap.specs.Simple.{Shape, built, entered, built_leaf, inherited, marked_built, is_simple, names_of, new_shape, subcommand_of, subcommand_rows}
 use Rattle.clap.specs.Simple.{with_leaf_noted}
 use Rattle.clap.specs.Kinds.{Kinds, IsAmong, or_else}
-use Rattle.clap.specs.Faults.{turn_fault, step_fault, stray_fault, walk_fault, level_fault, entered_fault, fault_of}
+use Rattle.clap.specs.Faults.{turn_fault, step_fault, stray_fault, walk_fault, level_fault, entered_fault, fault_of, is_simple_and_free}
 use Rattle.clap.specs.declared.error.kind.ErrorKind.{ErrorKind}
 use Rattle.clap.specs.declared.error.kind.ErrorKind.TheVariants as kind
 use Rattle.clap.proofs.OnLiterals.{clap_on_literals}
@@ -344,6 +344,10 @@ name_found (Some b) = refl
 pub is_simple_program : is_simple program ≡ true
 unfolding clap_on_literals
 is_simple_program = refl
+
+pub is_free_program : is_simple_and_free program ≡ true
+unfolding clap_on_literals
+is_free_program = refl
 
 -- words that `clap` does not take ask for nothing
 pub fault_asks : (k : ErrorKind) (words : List (String Global)) (c : Command) → (k ≡ kind.OutOfMemory) ⊎ IsAmong k (fault_of program (map string_bytes words))

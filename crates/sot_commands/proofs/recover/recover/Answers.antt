@@ -1,4 +1,4 @@
-use Rattle.std.proofs.Common.{arith, subst, IfOk}
+use Rattle.std.proofs.Common.{◌≡◌, arith, subst, IfOk}
 use Rattle.sot_sections.specs.declared.mission.Need.TheVariants as needs
 use Rattle.sot_report.specs.Missions.{HasFault}
 use Rattle.sot_report.specs.Loads.{IfFault}
