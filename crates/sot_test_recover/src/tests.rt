@@ -109,16 +109,23 @@ fn loaded<'t>(rt: &impl Abort, alloc: Global, text: &'t str) -> Loaded<'t>
     }
 }
 
-// A rank, or the first number of a point.
-fn told(rt: &impl Abort, alloc: Global, found: Result<u32, RecoverFail>) -> String {
-    match found {
-        Ok(rank) => format!(in alloc; "{rank}").expect(rt, "memory"),
-        Err(RecoverFail::Never { point }) => {
+// The first number of a point of which no cell takes care.
+fn lost(rt: &impl Abort, alloc: Global, fail: &RecoverFail) -> String {
+    match *fail {
+        RecoverFail::Never { point } => {
             let _axes = point.len();
             let x = point.at(0);
             format!(in alloc; "never, as at {x}").expect(rt, "memory")
         }
-        Err(RecoverFail::Memory) => panic!(rt; "memory"),
+        RecoverFail::Memory => panic!(rt; "memory"),
+    }
+}
+
+// A rank, or why there is none.
+fn told(rt: &impl Abort, alloc: Global, found: Result<u32, RecoverFail>) -> String {
+    match found {
+        Ok(rank) => format!(in alloc; "{rank}").expect(rt, "memory"),
+        Err(fail) => lost(rt, alloc, &fail),
     }
 }
 
