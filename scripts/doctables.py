@@ -10,6 +10,7 @@ TOP = os.path.dirname(os.path.dirname(os.path.abspath(__file__)))
 FORMATS, LANGUAGE = 'docs/FORMATS.md', 'docs/LANGUAGE.md'
 # What to do about what has no such cell in the pages; one that is added there goes first.
 AND_BESIDES = {
+    ('recover', 'recover'): 'make the closed cells smaller, up to a part of `safer` that each hold from it leads back into',
     ('start', ''): 'start the plant inside `safer`, or let `safer` grow: `accepted` speaks of runs that start there',
 }
 
@@ -59,6 +60,7 @@ class Advice:
             'flight': (self.formats, 'Faults of a flight', 'kind', 'comes where'),
             'refused': (self.formats, 'The fifteen refusals', 'no', 'comes where'),
             'replay': (self.formats, 'A trace that is read again', 'kind', 'what it says'),
+            'recover': (self.formats, 'Recovery', 'line', 'what it says'),
             'start': (self.formats, 'The trace', 'kind', 'comes where'),
         }
 

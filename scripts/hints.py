@@ -17,7 +17,7 @@ import missiontext
 from missiontext import NotRead, box_words, decimal, point_words, whole_numbers
 
 WIDTH, SECONDS, LIMIT = 100, 20, 16777216
-NEEDED = {'check': ('certificate',), 'fly': ('certificate', 'flight'), 'replay': ('certificate', 'flight', 'trace')}
+NEEDED = {'check': ('certificate',), 'recover': ('certificate',), 'fly': ('certificate', 'flight'), 'replay': ('certificate', 'flight', 'trace')}
 KEYWORDS = set('topic environment int fix bool true false plant state input sees noise next node external period offset reads writes local do publish if then else '
                'repeat module ac sc safe safer none and or not min max abs clamp rescale'.split())
 CLAUSES = {'state', 'input', 'sees', 'noise', 'next', 'period', 'offset', 'reads', 'writes', 'local', 'do', 'ac', 'sc', 'plant', 'safe', 'safer'}
@@ -198,6 +198,13 @@ def about_certify(asked):
         numbers = asked.answer.partition('point ')[2]
         lines.insert(0, f'{numbers} is {point_words(plant, whole_numbers(numbers))}, a state of `{region}` of {words[3]}')
     return lines
+
+
+def about_recover(asked):
+    """A module without a rank."""
+    words, numbers = asked.answer.split(), asked.answer.partition('point ')[2]
+    plant = asked.plant_of(words[3])
+    return [f'{numbers} is {point_words(plant, whole_numbers(numbers))}, a state of `safe` of {words[3]}']
 
 
 def about_replay(asked):
@@ -385,6 +392,7 @@ FAMILIES = (
     (re.compile(r'refused (\d+)'), 'refused', about_condition, to_do),
     (re.compile(r'refused start()'), 'start', about_start, to_do),
     (re.compile(r'refused certify()'), 'certify', about_certify, nothing),
+    (re.compile(r'refused (recover)'), 'recover', about_recover, to_do),
     (re.compile(r'refused replay line \d+ (\w+)'), 'replay', about_replay, to_do),
     (re.compile(r'fault section line \d+ (\w+)'), 'section', about_section, to_do),
     (re.compile(r'fault syntax line \d+ column \d+ (\w+)'), 'syntax', about_place, token_to_do),

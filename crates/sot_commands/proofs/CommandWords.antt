@@ -17,12 +17,12 @@ use Rattle.clap.specs.Walk.{Held, Names, Step, Text, Waiting, idle, value, answe
 use Rattle.clap.specs.Simple.{Shape, built, entered, built_leaf, inherited, marked_built, is_simple, names_of, new_shape, subcommand_of, subcommand_rows}
 use Rattle.clap.specs.Simple.{with_leaf_noted}
 use Rattle.clap.specs.Kinds.{Kinds, IsAmong, or_else}
-use Rattle.clap.specs.Faults.{turn_fault, step_fault, stray_fault, walk_fault, level_fault, entered_fault, fault_of}
+use Rattle.clap.specs.Faults.{turn_fault, step_fault, stray_fault, walk_fault, level_fault, entered_fault, fault_of, is_simple_and_free}
 use Rattle.clap.specs.declared.error.kind.ErrorKind.{ErrorKind}
 use Rattle.clap.specs.declared.error.kind.ErrorKind.TheVariants as kind
 use Rattle.clap.proofs.OnLiterals.{clap_on_literals}
 use Rattle.sot_commands.specs.declared.words.Command.{Command}
-use Rattle.sot_commands.specs.declared.words.Command.TheVariants.{Check, Fly, Replay, Format, Certify, Make, Soak}
+use Rattle.sot_commands.specs.declared.words.Command.TheVariants.{Check, Fly, Replay, Recover, Format, Certify, Make, Soak}
 use Rattle.sot_commands.specs.declared.words.WordFail.{WordFail}
 use Rattle.sot_commands.specs.declared.words.WordFail.TheVariants.{Form}
 use Rattle.sot_commands.specs.Words.{word_of, numbers_of, AreAsked, IsInForm, Asks, HasNumbers, IsNumbered}
@@ -105,6 +105,13 @@ alone Replay (r ∷ rest) none plain e =
     subst (λ (p : Option (Text × List Text)). entered_fault (built program) p ≡ []) (stops sub_names nothing_held idle 1 false (codes "replay") [] (r ∷ rest))
     below in
     absurd (nothing_behind (sub_shape (codes "replay")) r rest refl parts.0 inner)
+alone Recover (r ∷ rest) none plain e =
+    let parts = or_parts (is_dashed r) (list_any is_dashed rest) plain in
+    let below : entered_fault (built program) (walk [] sub_names nothing_held (codes "recover" ∷ r ∷ rest)).stopped ≡ [] = (neither _ _ (neither _ _ e).1).0 in
+    let inner : entered_fault (built program) (Some (codes "recover", r ∷ rest)) ≡ [] =
+    subst (λ (p : Option (Text × List Text)). entered_fault (built program) p ≡ []) (stops sub_names nothing_held idle 1 false (codes "recover") [] (r ∷ rest))
+    below in
+    absurd (nothing_behind (sub_shape (codes "recover")) r rest refl parts.0 inner)
 alone Format (r ∷ rest) none plain e =
     let parts = or_parts (is_dashed r) (list_any is_dashed rest) plain in
     let below : entered_fault (built program) (walk [] sub_names nothing_held (codes "format" ∷ r ∷ rest)).stopped ≡ [] = (neither _ _ (neither _ _ e).1).0 in
@@ -142,21 +149,25 @@ only (w ∷ rest) plain e =
                 elim (cases_Bool (bytes_eq (codes "replay") w)) [
                   | inl is ↦ (Replay, begins Replay w rest ((bytes_eq-Decides (codes "replay") w).0 is) parts.1 e)
                   | inr no_replay ↦
-                      elim (cases_Bool (bytes_eq (codes "format") w)) [
-                        | inl is ↦ (Format, begins Format w rest ((bytes_eq-Decides (codes "format") w).0 is) parts.1 e)
-                        | inr no_format ↦
-                            elim (cases_Bool (bytes_eq (codes "certify") w)) [
-                              | inl is ↦ (Certify, begins Certify w rest ((bytes_eq-Decides (codes "certify") w).0 is) parts.1 e)
-                              | inr no_certify ↦
-                                  elim (cases_Bool (bytes_eq (codes "make") w)) [
-                                    | inl is ↦ (Make 0 0, begins (Make 0 0) w rest ((bytes_eq-Decides (codes "make") w).0 is) parts.1 e)
-                                    | inr no_make ↦
-                                        elim (cases_Bool (bytes_eq (codes "soak") w)) [
-                                          | inl is ↦ (Soak 0 0, begins (Soak 0 0) w rest ((bytes_eq-Decides (codes "soak") w).0 is) parts.1 e)
-                                          | inr no_soak ↦
-                                              let none : find (answers_to w) sub_names ≡ None =
-                                              rw (no_check, no_fly, no_replay, no_format, no_certify, no_make, no_soak) refl in
-                                              absurd (strays (built program).top sub_names w rest refl parts.0 none (neither _ _ e).0)
+                      elim (cases_Bool (bytes_eq (codes "recover") w)) [
+                        | inl is ↦ (Recover, begins Recover w rest ((bytes_eq-Decides (codes "recover") w).0 is) parts.1 e)
+                        | inr no_recover ↦
+                            elim (cases_Bool (bytes_eq (codes "format") w)) [
+                              | inl is ↦ (Format, begins Format w rest ((bytes_eq-Decides (codes "format") w).0 is) parts.1 e)
+                              | inr no_format ↦
+                                  elim (cases_Bool (bytes_eq (codes "certify") w)) [
+                                    | inl is ↦ (Certify, begins Certify w rest ((bytes_eq-Decides (codes "certify") w).0 is) parts.1 e)
+                                    | inr no_certify ↦
+                                        elim (cases_Bool (bytes_eq (codes "make") w)) [
+                                          | inl is ↦ (Make 0 0, begins (Make 0 0) w rest ((bytes_eq-Decides (codes "make") w).0 is) parts.1 e)
+                                          | inr no_make ↦
+                                              elim (cases_Bool (bytes_eq (codes "soak") w)) [
+                                                | inl is ↦ (Soak 0 0, begins (Soak 0 0) w rest ((bytes_eq-Decides (codes "soak") w).0 is) parts.1 e)
+                                                | inr no_soak ↦
+                                                    let none : find (answers_to w) sub_names ≡ None =
+                                                    rw (no_check, no_fly, no_replay, no_recover, no_format, no_certify, no_make, no_soak) refl in
+                                                    absurd (strays (built program).top sub_names w rest refl parts.0 none (neither _ _ e).0)
+                                              ]
                                         ]
                                   ]
                             ]
@@ -177,6 +188,9 @@ named Fly rest =
 named Replay rest =
     subst (λ (p : Option (Text × List Text)). option_map (λ q. q.0) (entered (built program) p) ≡ Some (codes "replay"))
     (sym (stops sub_names nothing_held idle 1 false (codes "replay") [] rest)) refl
+named Recover rest =
+    subst (λ (p : Option (Text × List Text)). option_map (λ q. q.0) (entered (built program) p) ≡ Some (codes "recover"))
+    (sym (stops sub_names nothing_held idle 1 false (codes "recover") [] rest)) refl
 named Format rest =
     subst (λ (p : Option (Text × List Text)). option_map (λ q. q.0) (entered (built program) p) ≡ Some (codes "format"))
     (sym (stops sub_names nothing_held idle 1 false (codes "format") [] rest)) refl
@@ -205,6 +219,7 @@ unfolding clap_on_literals
 taken Check form = refl
 taken Fly form = refl
 taken Replay form = refl
+taken Recover form = refl
 taken Format form = refl
 taken Certify form = refl
 taken (Make n seed) form =
@@ -231,6 +246,7 @@ no_dash : (c : Command) → IsInForm c → list_any is_dashed (word_of c ∷ map
 no_dash Check form = refl
 no_dash Fly form = refl
 no_dash Replay form = refl
+no_dash Recover form = refl
 no_dash Format form = refl
 no_dash Certify form = refl
 no_dash (Make n seed) form = two_dashless (codes "make") n seed refl form
@@ -255,6 +271,7 @@ unfolding is_bare wants_none
 bare_word Check = refl
 bare_word Fly = refl
 bare_word Replay = refl
+bare_word Recover = refl
 bare_word Format = refl
 bare_word Certify = refl
 bare_word (Make n seed) = refl
@@ -279,6 +296,7 @@ unfolding is_bare
 asked words d rest begins none Check same numbered = (begins ∙ cc (none (both_bare Check d same refl)), tt)
 asked words d rest begins none Fly same numbered = (begins ∙ cc (none (both_bare Fly d same refl)), tt)
 asked words d rest begins none Replay same numbered = (begins ∙ cc (none (both_bare Replay d same refl)), tt)
+asked words d rest begins none Recover same numbered = (begins ∙ cc (none (both_bare Recover d same refl)), tt)
 asked words d rest begins none Format same numbered = (begins ∙ cc (none (both_bare Format d same refl)), tt)
 asked words d rest begins none Certify same numbered = (begins ∙ cc (none (both_bare Certify d same refl)), tt)
 asked words d rest begins none (Make n seed) same (name, is, form) =
@@ -293,6 +311,7 @@ numbered_asks : (words : List (String Global)) (c : Command) → Asks words c �
 numbered_asks words Check asks = tt
 numbered_asks words Fly asks = tt
 numbered_asks words Replay asks = tt
+numbered_asks words Recover asks = tt
 numbered_asks words Format asks = tt
 numbered_asks words Certify asks = tt
 numbered_asks words (Make n seed) (is, form) = (codes "make", is, form)
@@ -326,6 +345,10 @@ pub is_simple_program : is_simple program ≡ true
 unfolding clap_on_literals
 is_simple_program = refl
 
+pub is_free_program : is_simple_and_free program ≡ true
+unfolding clap_on_literals
+is_free_program = refl
+
 -- words that `clap` does not take ask for nothing
 pub fault_asks : (k : ErrorKind) (words : List (String Global)) (c : Command) → (k ≡ kind.OutOfMemory) ⊎ IsAmong k (fault_of program (map string_bytes words))
     → k ≢ kind.OutOfMemory
@@ -340,6 +363,7 @@ pub make_wants : (words : List (String Global)) (c : Command) → codes "make" �
 make_wants words Check e behind = absurd cc
 make_wants words Fly e behind = absurd cc
 make_wants words Replay e behind = absurd cc
+make_wants words Recover e behind = absurd cc
 make_wants words Format e behind = absurd cc
 make_wants words Certify e behind = absurd cc
 make_wants words (Make n seed) e behind = (n, seed, behind)
@@ -350,6 +374,7 @@ pub soak_wants : (words : List (String Global)) (c : Command) → codes "soak" �
 soak_wants words Check e behind = absurd cc
 soak_wants words Fly e behind = absurd cc
 soak_wants words Replay e behind = absurd cc
+soak_wants words Recover e behind = absurd cc
 soak_wants words Format e behind = absurd cc
 soak_wants words Certify e behind = absurd cc
 soak_wants words (Make n seed) e behind = (let first : 115 ≡ 109 = ap (λ (t : Text). get_or t 0 0) e in absurd (omega (arith, first)))

@@ -5,7 +5,7 @@ use Rattle.std.proofs.lemmas.List.{length-append}
 use Rattle.std.specs.Io.KnownBytes.{Appends}
 use Rattle.sot_ports.specs.Faults.{Rose}
 use Rattle.sot_commands.specs.declared.words.Command.{Command}
-use Rattle.sot_commands.specs.declared.words.Command.TheVariants.{Check, Fly, Replay, Format, Certify, Make, Soak}
+use Rattle.sot_commands.specs.declared.words.Command.TheVariants.{Check, Fly, Replay, Recover, Format, Certify, Make, Soak}
 use Rattle.sot_commands.specs.Answers.{Accepts, Refutes, Rejects, Replies, given_to, input_limit}
 use Rattle.sot_commands.specs.Steps.{WordAnswer}
 use Rattle.sot_ports.specs.Outside.{Outside, Written}
@@ -24,6 +24,7 @@ given : (c : Command) (xs : List ℕ) (after : Option (List ℕ)) (bytes : List 
 given Check xs after bytes all = sym all.0
 given Fly xs after bytes all = sym all.0
 given Replay xs after bytes all = sym all.0
+given Recover xs after bytes all = sym all.0
 given Format xs after bytes all = sym all.0
 given Certify xs after bytes all = sym all.0
 given (Make n seed) xs after bytes none = none.0

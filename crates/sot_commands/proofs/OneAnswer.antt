@@ -27,11 +27,12 @@ use Rattle.sot_report.specs.Missions.{Mission, SaysFlight}
 use Rattle.sot_report.specs.RefusalTexts.{refusal_text, start_text}
 use Rattle.sot_certified_text.specs.FailTexts.{fail_text}
 use Rattle.sot_maker.specs.Missions.{mission_text as made_text}
-use Rattle.sot_commands.specs.declared.words.Command.TheVariants.{Check, Fly, Replay, Format, Certify, Make, Soak}
+use Rattle.sot_commands.specs.declared.words.Command.TheVariants.{Check, Fly, Replay, Recover, Format, Certify, Make, Soak}
 use Rattle.sot_commands.specs.ReplayTexts.{legal_text, refused_line_text}
 use Rattle.sot_commands.specs.Answers.{IsRefused, IsOutsideOf, SpellsFor, DoesNotFly}
 use Rattle.sot_commands.specs.Laws.{AcceptedOnce, RefusedOnce, LinesRefusedOnce}
-use Rattle.sot_commands.proofs.Unique.{same_seen, same_flown, sections, seen, said, accepted_refused, traced_moved}
+use Rattle.sot_commands.proofs.Unique.{same_seen, same_flown, sections, seen, said, look_same, accepted_refused, traced_moved}
+use Rattle.sot_recovery_text.proofs.Alike.{told_once}
 use Rattle.sot_commands.proofs.Replayed.{mission_words}
 use Rattle.sot_commands.proofs.OneText.{refusal_text_same, start_text_same, fail_text_same, certificate_line_same, accepted_text_same}
 
@@ -112,6 +113,14 @@ pub refuted_once : RefusedOnce
 refuted_once guests Check bytes text other way (m, x, refused) (n, y, refused') = refused_text needs.Check 0 bytes m n x y text other refused refused'
 refuted_once guests Fly bytes text other way a b = unflown_text guests bytes text other a b
 refuted_once guests Replay bytes text other way a b = absurd way
+refuted_once guests Recover bytes text other way (m, x, inl refused) (n, y, inl refused') =
+    refused_text needs.Check 0 bytes m n x y text other refused refused'
+refuted_once guests Recover bytes text other way (m, x, inl (r, refuses, says)) (n, y, inr (certified, never)) =
+    absurd (accepted_refused needs.Check 0 bytes n m y x r certified refuses)
+refuted_once guests Recover bytes text other way (m, x, inr (certified, never)) (n, y, inl (r, refuses, says)) =
+    absurd (accepted_refused needs.Check 0 bytes m n x y r certified refuses)
+refuted_once guests Recover bytes text other way (m, x, inr (certified, never)) (n, y, inr (certified', never')) =
+    (told_once m.tables n.tables m.cert n.cert text other (look_same needs.Check 0 bytes m n x y)).1 never never'
 refuted_once guests Format bytes text other way a b = absurd a
 refuted_once guests Certify bytes text other way (p, t, spells, resolves, (fail, enough, fails, says))
     (q, u, spells', resolves', (fail', enough', fails', says')) =
@@ -136,6 +145,8 @@ accepted_once guests Replay bytes text other one (m, x, certified, safe, (f, lin
     let same : history ≡ history' = traced_once n.tables n.cert.jitter g lines' history history' y.resolved.rules (mission_words needs.Replay guests bytes n y)
     there traced' in
     says ∙ ap (λ (h : List Logged). legal_text (length h)) same ∙ sym says'
+accepted_once guests Recover bytes text other one (m, x, certified, safe, says) (n, y, certified', safe', says') =
+    (told_once m.tables n.tables m.cert n.cert text other (look_same needs.Check 0 bytes m n x y)).0 says says'
 accepted_once guests Format bytes text other one (p, spells, says) (q, spells', says') =
     says ∙ ap canonical (spells_unique bytes 0 p q spells spells') ∙ sym says'
 accepted_once guests Certify bytes text other one (p, t, spells, resolves, (c, made, fits, says), accepted)

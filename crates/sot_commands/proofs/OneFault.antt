@@ -29,7 +29,7 @@ use Rattle.sot_report.specs.declared.fault.Fault.{Fault}
 use Rattle.sot_report.specs.declared.fault.Fault.TheVariants as faults
 use Rattle.sot_report.specs.Missions.{HasParts, SpellsNone, SpellsTables, FaultsFlight, HasFault}
 use Rattle.sot_report.specs.FaultTexts.{fault_text, syntax_text, type_text, json_text}
-use Rattle.sot_commands.specs.declared.words.Command.TheVariants.{Check, Fly, Replay, Format, Certify, Make, Soak}
+use Rattle.sot_commands.specs.declared.words.Command.TheVariants.{Check, Fly, Replay, Recover, Format, Certify, Make, Soak}
 use Rattle.sot_commands.specs.Answers.{HasProgramFault}
 use Rattle.sot_commands.specs.Laws.{SaysDeep, TellOneRule, RejectedOnce}
 use Rattle.sot_commands.proofs.Unique.{same_parts, same_program, same_seen, same_said}
@@ -195,6 +195,8 @@ rejected_once guests Fly bytes text other (f, has, is) (g, has', is') =
     said_so text other (fault_text f) (fault_text g) is is' (fault_once needs.Fly guests bytes f g has has')
 rejected_once guests Replay bytes text other (f, has, is) (g, has', is') =
     said_so text other (fault_text f) (fault_text g) is is' (fault_once needs.Replay guests bytes f g has has')
+rejected_once guests Recover bytes text other (f, has, is) (g, has', is') =
+    said_so text other (fault_text f) (fault_text g) is is' (fault_once needs.Check 0 bytes f g has has')
 rejected_once guests Format bytes text other (f, none, has, is) (g, none', has', is') =
     said_so text other (syntax_text f) (syntax_text g) is is' (syntax_once bytes (ahead_from bytes 0) f g has has')
 rejected_once guests Certify bytes text other (f, has, is) (g, has', is') =

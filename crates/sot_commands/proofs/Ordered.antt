@@ -7,7 +7,7 @@ use Rattle.std.specs.declared.alloc.AllocError.{AllocError}
 use Rattle.sot_ports.specs.Whole.{ReadsAll}
 use Rattle.sot_node_worker.specs.Askings.{Asking}
 use Rattle.sot_commands.specs.declared.words.Command.{Command}
-use Rattle.sot_commands.specs.declared.words.Command.TheVariants.{Check, Fly, Replay, Format, Certify, Make, Soak}
+use Rattle.sot_commands.specs.declared.words.Command.TheVariants.{Check, Fly, Replay, Recover, Format, Certify, Make, Soak}
 use Rattle.sot_commands.specs.declared.telling.Telling.{Telling}
 use Rattle.sot_commands.specs.declared.telling.Telling.TheVariants.{Trace, Summary}
 use Rattle.sot_commands.specs.declared.order.FlightOrder.{FlightOrder}
@@ -58,6 +58,7 @@ replies_of guests Check bytes mission telling status text orders flies = absurd 
 replies_of guests Fly bytes mission telling status text (is, same) flies =
     subst (λ (b : List ℕ). FliesBytes guests Trace b status text) same (subst (λ (t : Telling). FliesBytes (handed_in t guests) t mission status text) is flies)
 replies_of guests Replay bytes mission telling status text orders flies = absurd orders
+replies_of guests Recover bytes mission telling status text orders flies = absurd orders
 replies_of guests Format bytes mission telling status text orders flies = absurd orders
 replies_of guests Certify bytes mission telling status text orders flies = absurd orders
 replies_of guests (Make n seed) bytes mission telling status text orders flies = absurd orders
@@ -185,6 +186,7 @@ module _ {C : Type 0} (told : C → Option (List Asking)) (words : List (String 
   ordered_guests (Check, asks, (bytes, takes, short, orders)) = absurd orders
   ordered_guests (Fly, asks, (bytes, takes, short, (trace, same))) = flown_guests bytes asks trace same takes
   ordered_guests (Replay, asks, (bytes, takes, short, orders)) = absurd orders
+  ordered_guests (Recover, asks, (bytes, takes, short, orders)) = absurd orders
   ordered_guests (Format, asks, (bytes, takes, short, orders)) = absurd orders
   ordered_guests (Certify, asks, (bytes, takes, short, orders)) = absurd orders
   ordered_guests (Make n seed, asks, (bytes, takes, short, orders)) = absurd orders

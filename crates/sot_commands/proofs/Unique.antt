@@ -38,13 +38,15 @@ use Rattle.sot_law_same_tables.proofs.Certified.{certified_alike}
 use Rattle.sot_law_same_tables.proofs.Seen.{modules_same}
 use Rattle.sot_law_same_tables.proofs.Flights.{flights_alike}
 use Rattle.sot_law_same_certificate.proofs.Certify.{certify_alike}
+use Rattle.sot_law_same_ranks.specs.Laws.{LookTheSame}
+use Rattle.sot_recovery_text.proofs.Alike.{told_once}
 use Rattle.sot_world.specs.Opens.{StartInside, IsFirstOutside}
 use Rattle.sot_report.specs.declared.fault.Fault.{Fault}
 use Rattle.sot_report.specs.declared.fault.Fault.TheVariants as faults
 use Rattle.sot_maker.specs.Missions.{mission_text as made_text}
 use Rattle.sot_report.specs.Missions.{Mission, Resolves, HasParts, SaysFlight, FaultsFlight, HasFault}
 use Rattle.sot_commands.specs.declared.words.Command.{Command}
-use Rattle.sot_commands.specs.declared.words.Command.TheVariants.{Check, Fly, Replay, Format, Certify, Make, Soak}
+use Rattle.sot_commands.specs.declared.words.Command.TheVariants.{Check, Fly, Replay, Recover, Format, Certify, Make, Soak}
 use Rattle.sot_commands.specs.Words.{word_of, numbers_of, Reads, IsInForm, Asks}
 use Rattle.sot_commands.specs.Answers.{IsAccepted, IsRefusedFor, SpellsFor, IsTraceOf, IsSummaryOf, FliesWith, DoesNotFly, HasLines, HasProgramFault, Accepts}
 use Rattle.sot_commands.specs.Answers.{Refutes, Rejects, Replies, given_to}
@@ -98,6 +100,10 @@ module _ (need : Need) (guests : ℕ) (bytes : List ℕ) (m n : Mission) (x : Sp
   said =
       same_ok (cert_of n.tables y.parts.cert) (contents m.cert) (contents n.cert)
       (sym (same_said x.parts y.parts m.tables n.tables sections seen) ∙ x.certified) y.certified
+
+  -- two missions of one text look the same
+  pub look_same : LookTheSame m.tables n.tables m.cert n.cert
+  look_same = record { tables = seen; jitter = ap (λ (c : Contents). c.jitter) said; cells = ap (λ (c : Contents). c.modules) said }
 
   -- a mission that is accepted is not refused
   pub accepted_refused : (r : Refusal) → IsAccepted m → IsRefusedFor n r → ⊥
@@ -195,6 +201,10 @@ not_refuted guests Replay bytes text text' (m, spells, certified, safe, (f, line
 not_refuted guests Replay bytes text text' (m, spells, certified, safe, (f, lines, has, (inside, (history, traced, says))))
     (n, spells', inr (certified', (g, lines', has', inr (inside', (number, kind, refused, says'))))) =
     traced_refused guests bytes m n spells spells' f g lines lines' has has' history traced number kind refused
+not_refuted guests Recover bytes text text' (m, spells, certified, safe, says) (n, spells', inl (r, refuses, says')) =
+    accepted_refused needs.Check 0 bytes m n spells spells' r certified refuses
+not_refuted guests Recover bytes text text' (m, spells, certified, safe, says) (n, spells', inr (certified', says')) =
+    (told_once m.tables n.tables m.cert n.cert text text' (look_same needs.Check 0 bytes m n spells spells')).2 says says'
 not_refuted guests Format bytes text text' a r = r
 not_refuted guests Certify bytes text text' (p, t, spells, resolves, (cert, made, fits, says), accepted)
     (q, u, spells', resolves', (fail, enough, fails, says')) =
@@ -206,6 +216,7 @@ not_rejected : (guests : ℕ) (c : Command) (bytes text text' : List ℕ) → Ac
 not_rejected guests Check bytes text text' (m, spells, certified, safe, says) (f, has, says') = spelled_faulty needs.Check 0 bytes m f spells has
 not_rejected guests Fly bytes text text' (m, spells, certified, safe, flown) (f, has, says') = spelled_faulty needs.Fly guests bytes m f spells has
 not_rejected guests Replay bytes text text' (m, spells, certified, safe, legal) (f, has, says') = spelled_faulty needs.Replay guests bytes m f spells has
+not_rejected guests Recover bytes text text' (m, spells, certified, safe, says) (f, has, says') = spelled_faulty needs.Check 0 bytes m f spells has
 not_rejected guests Format bytes text text' a r = r.1 a.0 a.1
 not_rejected guests Certify bytes text text' (p, t, spells, resolves, has, accepted) (f, fault, says) = program_faulty bytes p t f spells resolves fault
 not_rejected guests (Make n seed) bytes text text' a r = r
@@ -216,6 +227,7 @@ refuted_not_rejected : (guests : ℕ) (c : Command) (bytes text text' : List ℕ
 refuted_not_rejected guests Check bytes text text' (m, spells, refused) (f, has, says') = spelled_faulty needs.Check 0 bytes m f spells has
 refuted_not_rejected guests Fly bytes text text' (m, spells, refused) (f, has, says') = spelled_faulty needs.Fly guests bytes m f spells has
 refuted_not_rejected guests Replay bytes text text' (m, spells, refused) (f, has, says') = spelled_faulty needs.Replay guests bytes m f spells has
+refuted_not_rejected guests Recover bytes text text' (m, spells, refused) (f, has, says') = spelled_faulty needs.Check 0 bytes m f spells has
 refuted_not_rejected guests Format bytes text text' a r = a
 refuted_not_rejected guests Certify bytes text text' (p, t, spells, resolves, has) (f, fault, says) = program_faulty bytes p t f spells resolves fault
 refuted_not_rejected guests (Make n seed) bytes text text' a r = r
@@ -239,6 +251,7 @@ told word [] =
     if bytes_eq word (codes "check") then Check
     else if bytes_eq word (codes "fly") then Fly
     else if bytes_eq word (codes "replay") then Replay
+    else if bytes_eq word (codes "recover") then Recover
     else if bytes_eq word (codes "format") then Format
     else Certify
 told word (n ∷ []) = Check
@@ -249,6 +262,7 @@ unfolding told
 told_words Check = refl
 told_words Fly = refl
 told_words Replay = refl
+told_words Recover = refl
 told_words Format = refl
 told_words Certify = refl
 told_words (Make n seed) = refl
@@ -264,6 +278,7 @@ unfolding AreShort
 short_numbers Check form = tt
 short_numbers Fly form = tt
 short_numbers Replay form = tt
+short_numbers Recover form = tt
 short_numbers Format form = tt
 short_numbers Certify form = tt
 short_numbers (Make n seed) form = (omega arith, (omega arith, tt))
@@ -290,6 +305,7 @@ given_reader : (c : Command) (bytes : List ℕ) → Reads c → given_to c bytes
 given_reader Check bytes reads = refl
 given_reader Fly bytes reads = refl
 given_reader Replay bytes reads = refl
+given_reader Recover bytes reads = refl
 given_reader Format bytes reads = refl
 given_reader Certify bytes reads = refl
 given_reader (Make n seed) bytes reads = absurd reads

@@ -36,6 +36,7 @@ use Rattle.sot_certified_text.specs.CertText.{certificate_line}
 use Rattle.sot_certified_text.specs.Missions.{mission_text}
 use Rattle.sot_certified_text.specs.FailTexts.{fail_text}
 use Rattle.sot_maker.specs.Missions.{mission_text as made_text}
+use Rattle.sot_recovery_text.specs.Recovery.{AllRecover, SomeNever}
 use Rattle.sot_report.specs.declared.fault.Fault.{Fault}
 use Rattle.sot_report.specs.declared.fault.Fault.TheVariants as faults
 use Rattle.sot_report.specs.Missions.{Mission, SpellsMission, SpellsNone, Resolves, HasFault}
@@ -44,7 +45,7 @@ use Rattle.sot_report.specs.RefusalTexts.{refusal_text, start_text}
 use Rattle.sot_report.specs.AcceptedTexts.{accepted_text}
 use Rattle.sot_commands.specs.declared.words.Command.{Command}
 use Rattle.sot_commands.specs.declared.words.Command.TheVariants.{Check, Fly, Replay, Format}
-use Rattle.sot_commands.specs.declared.words.Command.TheVariants.{Certify, Make, Soak}
+use Rattle.sot_commands.specs.declared.words.Command.TheVariants.{Recover, Certify, Make, Soak}
 
 -- the most bytes of an input: 16 MiB
 abbrev pub input_limit : ℕ
@@ -168,12 +169,14 @@ HasProgramFault bytes (faults.Flight fault) = ⊥
 -- status 0. `check`: the bytes spell a mission that is accepted, every run of it is safe, and its
 -- counts are said. `fly`: the bytes spell a mission with a flight, it is accepted, every run of it
 -- is safe, and the text is the trace of that flight. `replay`: they spell one with a flight and a
--- trace, it is accepted, every run of it is safe, and the trace is legal. `format`: the bytes spell
--- a program, and this is its canonical text. `certify`: they spell a program that breaks no rule of
--- typing, the text is its canonical text with the certificate that is made for it, this text spells
--- a mission of the same program that is accepted, and every run of it is safe. `make`: the text is
--- the mission that is made from its two numbers. `soak`: this mission has a flight, it is accepted,
--- every run of it is safe, and the text is the summary of that flight
+-- trace, it is accepted, every run of it is safe, and the trace is legal. `recover`: they spell one
+-- that is accepted, every run of it is safe, and within how many holds each of its modules recovers
+-- is said. `format`: the bytes spell a program, and this is its canonical text. `certify`: they
+-- spell a program that breaks no rule of typing, the text is its canonical text with the
+-- certificate that is made for it, this text spells a mission of the same program that is accepted,
+-- and every run of it is safe. `make`: the text is the mission that is made from its two numbers.
+-- `soak`: this mission has a flight, it is accepted, every run of it is safe, and the text is the
+-- summary of that flight
 abbrev pub Accepts : ℕ → Command → List ℕ → List ℕ → Type 0
 Accepts guests Check bytes text =
     (m : Mission) × SpellsFor needs.Check 0 bytes m × IsAccepted m × IsSafeInEveryRun m
@@ -183,6 +186,9 @@ Accepts guests Replay bytes text =
     (m : Mission) × SpellsFor needs.Replay guests bytes m × IsAccepted m × IsSafeInEveryRun m
     × ((f : Plan) × (lines : List (List ℕ)) × HasLines m f lines
     × IsLegal m.tables m.cert.jitter f lines text)
+Accepts guests Recover bytes text =
+    (m : Mission) × SpellsFor needs.Check 0 bytes m × IsAccepted m × IsSafeInEveryRun m
+    × AllRecover m.tables m.cert text
 Accepts guests Format bytes text = (p : Program) × Spells bytes 0 p × (text ≡ canonical p)
 Accepts guests Certify bytes text =
     (p : Program) × (t : Tables) × Spells bytes 0 p × Resolves p t × IsCertifiedText p t text
@@ -192,9 +198,10 @@ Accepts guests (Soak n seed) bytes text = FliesWith IsSummaryOf 0 (made_text n s
 
 -- status 1. The bytes spell a mission that the checker refuses, and this is said; or, for `fly`, it
 -- is accepted, a plant starts outside its module's safer region, and this is said. `replay`: the
--- same, or its trace is refused at a line, and this is said. `certify`: they spell a program that
--- breaks no rule of typing and has no certificate, and this is why. `make` never ends so. `soak`:
--- as `fly`, of the mission that is made
+-- same, or its trace is refused at a line, and this is said. `recover`: the mission is refused; or
+-- it is accepted, and the first of its modules that has no rank is said with its point. `certify`:
+-- they spell a program that breaks no rule of typing and has no certificate, and this is why.
+-- `make` never ends so. `soak`: as `fly`, of the mission that is made
 abbrev pub Refutes : ℕ → Command → List ℕ → List ℕ → Type 0
 Refutes guests Check bytes text = (m : Mission) × SpellsFor needs.Check 0 bytes m × IsRefused m text
 Refutes guests Fly bytes text = DoesNotFly guests bytes text
@@ -203,14 +210,17 @@ Refutes guests Replay bytes text =
     × (IsRefused m text ⊎ (IsAccepted m
     × ((f : Plan) × (lines : List (List ℕ)) × HasLines m f lines
     × (IsOutsideOf m.tables f text ⊎ IsIllegal m.tables m.cert.jitter f lines text))))
+Refutes guests Recover bytes text =
+    (m : Mission) × SpellsFor needs.Check 0 bytes m
+    × (IsRefused m text ⊎ (IsAccepted m × SomeNever m.tables m.cert text))
 Refutes guests Format bytes text = ⊥
 Refutes guests Certify bytes text =
     (p : Program) × (t : Tables) × Spells bytes 0 p × Resolves p t × IsNotCertified t text
 Refutes guests (Make n seed) bytes text = ⊥
 Refutes guests (Soak n seed) bytes text = DoesNotFly 0 (made_text n seed) text
 
--- status 3. `check`, `fly` and `replay`: the first fault of the bytes is said. `format`: the bytes
--- spell no program, and this is the place from which the grammar does not go on, and why.
+-- status 3. `check`, `fly`, `replay` and `recover`: the first fault of the bytes is said. `format`:
+-- the bytes spell no program, and this is the place from which the grammar does not go on, and why.
 -- `certify`: the first fault of the program's text is said. `make` never ends so. `soak`: the first
 -- fault of the text that is made is said
 abbrev pub Rejects : ℕ → Command → List ℕ → List ℕ → Type 0
@@ -220,6 +230,8 @@ Rejects guests Fly bytes text =
     (f : Fault) × HasFault needs.Fly guests bytes f × (text ≡ fault_text f)
 Rejects guests Replay bytes text =
     (f : Fault) × HasFault needs.Replay guests bytes f × (text ≡ fault_text f)
+Rejects guests Recover bytes text =
+    (f : Fault) × HasFault needs.Check 0 bytes f × (text ≡ fault_text f)
 Rejects guests Format bytes text =
     (fault : Syntax) × SpellsNone bytes × IsFaultOf bytes (ahead_from bytes 0) fault
     × (text ≡ syntax_text fault)
@@ -242,6 +254,7 @@ abbrev pub given_to : Command → List ℕ → List ℕ
 given_to Check bytes = bytes
 given_to Fly bytes = bytes
 given_to Replay bytes = bytes
+given_to Recover bytes = bytes
 given_to Format bytes = bytes
 given_to Certify bytes = bytes
 given_to (Make n seed) bytes = []

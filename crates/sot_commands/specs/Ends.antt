@@ -9,7 +9,7 @@ use Rattle.sot_ports.specs.Whole.{ReadsAll, ReadsCount}
 use Rattle.sot_commands.specs.Texts.{usage_text, long_text}
 use Rattle.sot_commands.specs.declared.words.Command.{Command}
 use Rattle.sot_commands.specs.declared.words.Command.TheVariants.{Check, Fly, Replay, Format}
-use Rattle.sot_commands.specs.declared.words.Command.TheVariants.{Certify, Make, Soak}
+use Rattle.sot_commands.specs.declared.words.Command.TheVariants.{Recover, Certify, Make, Soak}
 use Rattle.sot_commands.specs.Words.{Asks, AsksReader, AsksNone}
 use Rattle.sot_commands.specs.Answers.{Accepts, Refutes, Rejects, Replies, given_to, input_limit}
 
@@ -19,6 +19,7 @@ abbrev pub Takes : Command → Option (List ℕ) → Option (List ℕ) → List 
 Takes Check left after bytes = ReadsAll left after bytes
 Takes Fly left after bytes = ReadsAll left after bytes
 Takes Replay left after bytes = ReadsAll left after bytes
+Takes Recover left after bytes = ReadsAll left after bytes
 Takes Format left after bytes = ReadsAll left after bytes
 Takes Certify left after bytes = ReadsAll left after bytes
 Takes (Make n seed) left after bytes = (bytes ≡ []) × (after ≡ left)

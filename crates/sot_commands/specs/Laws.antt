@@ -10,7 +10,7 @@ use Rattle.sot_sections.specs.declared.mission.Need.TheVariants as needs
 use Rattle.sot_flight.specs.Plans.{Plan}
 use Rattle.sot_commands.specs.declared.words.Command.{Command}
 use Rattle.sot_commands.specs.declared.words.Command.TheVariants.{Check, Fly, Replay, Format}
-use Rattle.sot_commands.specs.declared.words.Command.TheVariants.{Certify, Make, Soak}
+use Rattle.sot_commands.specs.declared.words.Command.TheVariants.{Recover, Certify, Make, Soak}
 use Rattle.sot_commands.specs.Answers.{SpellsFor, IsIllegal, Accepts, Refutes, Rejects}
 
 -- the commands that say one thing of what they accept: all but those that fly, since a flight has
@@ -19,6 +19,7 @@ abbrev pub AcceptsOneWay : Command → Type 0
 AcceptsOneWay Check = Unit {0}
 AcceptsOneWay Fly = ⊥
 AcceptsOneWay Replay = Unit {0}
+AcceptsOneWay Recover = Unit {0}
 AcceptsOneWay Format = Unit {0}
 AcceptsOneWay Certify = Unit {0}
 AcceptsOneWay (Make n seed) = Unit {0}
@@ -35,6 +36,7 @@ abbrev pub IsNoReplay : Command → Type 0
 IsNoReplay Check = Unit {0}
 IsNoReplay Fly = Unit {0}
 IsNoReplay Replay = ⊥
+IsNoReplay Recover = Unit {0}
 IsNoReplay Format = Unit {0}
 IsNoReplay Certify = Unit {0}
 IsNoReplay (Make n seed) = Unit {0}

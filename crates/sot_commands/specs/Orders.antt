@@ -10,7 +10,7 @@ use Rattle.sot_report.specs.Missions.{HasFault}
 use Rattle.sot_report.specs.FaultTexts.{fault_text}
 use Rattle.sot_commands.specs.declared.words.Command.{Command}
 use Rattle.sot_commands.specs.declared.words.Command.TheVariants.{Check, Fly, Replay, Format}
-use Rattle.sot_commands.specs.declared.words.Command.TheVariants.{Certify, Make, Soak}
+use Rattle.sot_commands.specs.declared.words.Command.TheVariants.{Recover, Certify, Make, Soak}
 use Rattle.sot_commands.specs.declared.telling.Telling.{Telling}
 use Rattle.sot_commands.specs.declared.telling.Telling.TheVariants.{Trace, Summary}
 use Rattle.sot_commands.specs.declared.status.Status.{Status}
@@ -39,6 +39,7 @@ abbrev pub Orders : Command → List ℕ → Telling → List ℕ → Type 0
 Orders Check bytes telling mission = ⊥
 Orders Fly bytes telling mission = (telling ≡ Trace) × (mission ≡ bytes)
 Orders Replay bytes telling mission = ⊥
+Orders Recover bytes telling mission = ⊥
 Orders Format bytes telling mission = ⊥
 Orders Certify bytes telling mission = ⊥
 Orders (Make n seed) bytes telling mission = ⊥

@@ -22,6 +22,7 @@ use Rattle.sot_report.specs.AcceptedTexts.{accepted_text}
 use Rattle.sot_report.specs.RefusalTexts.{refusal_text}
 use Rattle.sot_report.specs.FaultTexts.{type_text}
 use Rattle.sot_report.specs.Missions.{Resolves}
+use Rattle.sot_recovery_text.specs.Recovery.{AllRecover, SomeNever}
 use Rattle.sot_rules.specs.declared.fault.TypeFault.{TypeFault}
 use Rattle.sot_rules.specs.First.{IsFirstFault}
 use Rattle.sot_tree.specs.Trees.{Program}
@@ -78,6 +79,19 @@ abbrev pub JudgesReplayed : Tables → Cert → Plan → List (List ℕ) → ℕ
 JudgesReplayed t cert f lines status text =
     (IsWellCertified t cert.jitter cert × EveryRunIsSafe t cert.jitter
     × JudgesLines t cert.jitter f lines status text)
+    ⊎ ((status ≡ 1) × ((r : Refusal) × (verdict t cert.jitter cert).Refuses r
+    × (text ≡ refusal_text t r)))
+
+-- what is said of the recovery of an accepted program's modules
+abbrev pub SaysRecovery : Tables → Cert → ℕ → List ℕ → Type 0
+SaysRecovery t cert status text =
+    ((status ≡ 0) × AllRecover t cert text) ⊎ ((status ≡ 1) × SomeNever t cert text)
+
+-- what is said of it of a program's tables with a certificate
+abbrev pub JudgesRecovery : Tables → Cert → ℕ → List ℕ → Type 0
+JudgesRecovery t cert status text =
+    (IsWellCertified t cert.jitter cert × EveryRunIsSafe t cert.jitter
+    × SaysRecovery t cert status text)
     ⊎ ((status ≡ 1) × ((r : Refusal) × (verdict t cert.jitter cert).Refuses r
     × (text ≡ refusal_text t r)))
 

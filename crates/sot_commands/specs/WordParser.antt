@@ -36,8 +36,9 @@ numbered name =
 -- the commands that read a mission
 abbrev pub missions : App
 missions =
-    with_subcommand (with_subcommand (with_subcommand bare (new_shape (codes "check")))
-    (new_shape (codes "fly"))) (new_shape (codes "replay"))
+    with_subcommand (with_subcommand (with_subcommand (with_subcommand bare
+    (new_shape (codes "check"))) (new_shape (codes "fly"))) (new_shape (codes "replay")))
+    (new_shape (codes "recover"))
 
 -- and those that read a program
 abbrev pub readers : App

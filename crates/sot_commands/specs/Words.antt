@@ -5,13 +5,14 @@ use Rattle.std.specs.String.{string_bytes}
 use Rattle.std.proofs.Common.{Global}
 use Rattle.sot_commands.specs.declared.words.Command.{Command}
 use Rattle.sot_commands.specs.declared.words.Command.TheVariants.{Check, Fly, Replay, Format}
-use Rattle.sot_commands.specs.declared.words.Command.TheVariants.{Certify, Make, Soak}
+use Rattle.sot_commands.specs.declared.words.Command.TheVariants.{Recover, Certify, Make, Soak}
 
 -- the word of a command
 abbrev pub word_of : Command → List ℕ
 word_of Check = codes "check"
 word_of Fly = codes "fly"
 word_of Replay = codes "replay"
+word_of Recover = codes "recover"
 word_of Format = codes "format"
 word_of Certify = codes "certify"
 word_of (Make n seed) = codes "make"
@@ -22,6 +23,7 @@ abbrev pub numbers_of : Command → List ℕ
 numbers_of Check = []
 numbers_of Fly = []
 numbers_of Replay = []
+numbers_of Recover = []
 numbers_of Format = []
 numbers_of Certify = []
 numbers_of (Make n seed) = n ∷ seed ∷ []
@@ -35,6 +37,7 @@ abbrev pub IsInForm : Command → Type 0
 IsInForm Check = Unit {0}
 IsInForm Fly = Unit {0}
 IsInForm Replay = Unit {0}
+IsInForm Recover = Unit {0}
 IsInForm Format = Unit {0}
 IsInForm Certify = Unit {0}
 IsInForm (Make n seed) = AreAsked n seed
@@ -51,6 +54,7 @@ abbrev pub Reads : Command → Type 0
 Reads Check = Unit {0}
 Reads Fly = Unit {0}
 Reads Replay = Unit {0}
+Reads Recover = Unit {0}
 Reads Format = Unit {0}
 Reads Certify = Unit {0}
 Reads (Make n seed) = ⊥
@@ -61,6 +65,7 @@ abbrev pub Flies : Command → Type 0
 Flies Check = ⊥
 Flies Fly = Unit {0}
 Flies Replay = ⊥
+Flies Recover = ⊥
 Flies Format = ⊥
 Flies Certify = ⊥
 Flies (Make n seed) = ⊥
@@ -92,6 +97,7 @@ abbrev pub IsNumbered : List (String Global) → Command → Type 0
 IsNumbered words Check = Unit {0}
 IsNumbered words Fly = Unit {0}
 IsNumbered words Replay = Unit {0}
+IsNumbered words Recover = Unit {0}
 IsNumbered words Format = Unit {0}
 IsNumbered words Certify = Unit {0}
 IsNumbered words (Make n seed) = HasNumbers words n seed

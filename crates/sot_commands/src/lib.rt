@@ -20,6 +20,7 @@ mod input;
 mod laws;
 mod order;
 mod program;
+mod recover;
 mod replay;
 mod reply;
 mod soak;

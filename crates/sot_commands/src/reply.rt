@@ -11,6 +11,7 @@ use crate::certify::certify;
 use crate::check::check;
 use crate::input::INPUT_LIMIT;
 use crate::order::FlightOrder;
+use crate::recover::recover;
 use crate::replay::replay;
 use crate::soak::soak;
 use crate::telling::Telling;
@@ -77,6 +78,7 @@ pub fn reply_of<R: Threads + Sync>(
             telling: Telling::Trace,
         })),
         Command::Replay => said(replay(rt, alloc, guests, &bytes, process)),
+        Command::Recover => said(recover(rt, alloc, &bytes, process)),
         Command::Format => said(format(alloc, &bytes, process)),
         Command::Certify => said(certify(rt, alloc, &bytes, process)),
         Command::Make { n, seed } => said(made(alloc, n, seed)),

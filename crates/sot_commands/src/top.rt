@@ -27,7 +27,7 @@ use std::sync::Wait;
 use std::thread::Threads;
 
 const USAGE: &str =
-    "usage: soter check | fly | replay | format | make N SEED | soak N SEED | certify\n";
+    "usage: soter check | fly | replay | format | make N SEED | soak N SEED | recover | certify\n";
 
 const TOO_LONG: &str = "fault input above 16777216 bytes\n";
 

@@ -17,7 +17,7 @@ use clap::error::ErrorKind;
 use clap::{Arg, ArgAction, ArgMatches, Error};
 use std::alloc::{AllocError, Global};
 
-/// What the words ask the program to do. The first five read a text; the others read nothing.
+/// What the words ask the program to do. The first six read a text; the others read nothing.
 #[derive(Clone, Copy, Debug, PartialEq, Eq)]
 pub enum Command {
     /// Whether a mission is accepted.
@@ -26,6 +26,8 @@ pub enum Command {
     Fly,
     /// Whether the trace that stands behind a mission is one of its flight.
     Replay,
+    /// Within how many holds the modules of a mission recover.
+    Recover,
     /// The canonical text of a program.
     Format,
     /// A program with the certificate that is made for it, as a mission.
@@ -91,10 +93,12 @@ fn missions<'a>(alloc: Global) -> Result<clap::Command<'a>, AllocError>
     let check = clap::Command::new(alloc, "check");
     let fly = clap::Command::new(alloc, "fly");
     let replay = clap::Command::new(alloc, "replay");
+    let recover = clap::Command::new(alloc, "recover");
     bare(alloc)
         .subcommand(check)?
         .subcommand(fly)?
-        .subcommand(replay)
+        .subcommand(replay)?
+        .subcommand(recover)
 }
 
 // And those that read a program.
@@ -187,6 +191,8 @@ fn found(alloc: Global, matches: &ArgMatches<'_>, words: &[String]) -> Result<Co
         Ok(Command::Fly)
     } else if name == "replay" {
         Ok(Command::Replay)
+    } else if name == "recover" {
+        Ok(Command::Recover)
     } else if name == "format" {
         Ok(Command::Format)
     } else if name == "certify" {

@@ -1,4 +1,4 @@
-use Rattle.sot_commands.specs.declared.words.Command.TheVariants.{Check, Replay, Format, Certify}
+use Rattle.sot_commands.specs.declared.words.Command.TheVariants.{Check, Replay, Recover, Format, Certify}
 use Rattle.sot_commands.proofs.Replies.{replied_as}
 use Rattle.sot_commands.proofs.reply.reply_of.Goals as goal
 
@@ -23,3 +23,9 @@ pub returns-in-Replay : goal.returns-in-Replay
 returns-in-Replay g c =
     replied_as c.args.guests c.args.command Replay c.args.bytes.items c.deref-in-Replay.result.now c.said-in-Replay.result c.replay.result
     c.said-in-Replay.ensures c.in-Replay.is (λ flies. flies) c.deref-in-Replay.ensures.value c.replay.ensures
+
+pub returns-in-Recover : goal.returns-in-Recover
+returns-in-Recover g c =
+    replied_as c.args.guests c.args.command Recover c.args.bytes.items c.deref-in-Recover.result.now c.said-in-Recover.result c.recover.result
+    c.said-in-Recover.ensures c.in-Recover.is (λ flies. flies) c.deref-in-Recover.ensures.value
+    (c.recover.ensures c.args.guests)
