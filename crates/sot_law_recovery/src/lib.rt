@@ -2,7 +2,6 @@
 //! runs.
 //!
 //! Nothing here runs: each law is a function with an empty body, whose contract is the law.
-//! No call finds the rank of a module yet.
 #![tactic(auto)]
 
 mod laws;
