@@ -1,0 +1,63 @@
+//! What a monitor looks at.
+
+ghost use Rattle.std.specs.Prelude.{◌≡◌};
+ghost use Rattle.sot_formula.specs.Parts.{IsThere};
+ghost use Rattle.sot_scene.specs.Scenes.{scene_of, IsSceneOf};
+ghost use Rattle.sot_watch.specs.Moments.{number_in, mode_number};
+
+use sot_formula::Quantity;
+use sot_lang::Typed;
+use sot_monitor::Looks;
+use sot_scene::Scene;
+use sot_world::{Mode, World};
+
+fn mode_number(mode: Mode) -> i64
+    ensures { result ≡ mode_number mode }
+{
+    match mode {
+        Mode::Ac => 1,
+        Mode::Sc => 0,
+    }
+}
+
+/// A world, as it is now.
+#[derive(Clone, Copy)]
+pub struct AtWorld<'w, 'a> {
+    pub world: &'w World<'a>,
+}
+
+impl<'w, 'a> Looks for AtWorld<'w, 'a> {
+    ghost moment = { λ s. number_in (scene_of s.world.now.at) };
+
+    ghost has = { λ s q. IsThere s.world.now.accepted.program q };
+
+    fn look(&self, of: Quantity) -> i64 {
+        self.world.reveal_invariant();
+        match of {
+            Quantity::Scalar(k) => self.world.scalar(k),
+            Quantity::State { plant, var } => self.world.state(plant).at(var as usize),
+            Quantity::Mode(m) => mode_number(self.world.mode(m)),
+        }
+    }
+}
+
+/// A scene of a program.
+#[derive(Clone, Copy)]
+pub struct AtScene<'s> {
+    pub p: &'s Typed,
+    pub scene: &'s Scene,
+}
+
+impl<'s> Looks for AtScene<'s> {
+    ghost moment = { λ s. number_in s.scene.now };
+
+    ghost has = { λ s q. IsSceneOf s.p.now s.scene.now × IsThere s.p.now q };
+
+    fn look(&self, of: Quantity) -> i64 {
+        match of {
+            Quantity::Scalar(k) => self.scene.scalar(k),
+            Quantity::State { plant, var } => self.scene.state(plant, var),
+            Quantity::Mode(m) => mode_number(self.scene.mode(m)),
+        }
+    }
+}
