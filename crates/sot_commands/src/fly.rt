@@ -1,7 +1,7 @@
 //! `fly`: the trace of a mission's flight. `soak` does the same on a text that is made, and tells
 //! the flight's summary.
 
-ghost use Rattle.std.specs.Prelude.{◌≡◌, ◌<◌, ◌≤◌, ◌^◌, [], length, vec_len, IfOk};
+ghost use Rattle.std.specs.Prelude.{◌≡◌, ◌<◌, ◌≤◌, ◌^◌, [], length, vec_len, true, IfOk};
 ghost use Rattle.sot_lang.specs.CertRules.{FitsTables};
 ghost use Rattle.sot_world.specs.Opens.{StartInside};
 ghost use Rattle.sot_flight.specs.Fits.{FitsFlight};
@@ -23,7 +23,7 @@ use sot_ports::{Process, let_go};
 use sot_report::{LoadFail, load};
 use sot_sections::Need;
 use sot_tube::Accepted;
-use sot_workers::{fly as fly_to_the_end, fly_alone};
+use sot_workers::{fly as fly_to_the_end, fly_alone, has_workers};
 use sot_world::OpenFail;
 use std::alloc::{AllocError, Global};
 use std::sync::Wait;
@@ -47,7 +47,15 @@ fn fly_unaided(
     told(alloc, telling, board)
 }
 
-// Flies a newly opened board with its guests, and tells what was flown. Where there are no guests,
+// Whether a board is to be flown alone: there are no guests, and nobody gets a thread.
+fn is_alone(board: &Board<'_>, no_guests: bool) -> bool
+    ensures { result ≡ true → no_guests ≡ true }
+{
+    board.reveal_invariant();
+    no_guests && !has_workers(board.typed(), board.flight())
+}
+
+// Flies a newly opened board with its guests, and tells what was flown. Where nobody gets a thread,
 // it takes no lists of drafts.
 fn fly_opened<'a, C: Controller + Send, R: Threads + Wait + Sync>(
     rt: &R,
@@ -71,7 +79,7 @@ fn fly_opened<'a, C: Controller + Send, R: Threads + Wait + Sync>(
         flight.now text guests.old.items guests.new.items)
         guests.old guests.new }
 {
-    if guests.is_empty() {
+    if is_alone(&board, guests.is_empty()) {
         return fly_unaided(alloc, &mut board, flight, telling);
     }
     match fly_to_the_end(rt, alloc, board, guests) {

@@ -1,5 +1,6 @@
 -- Sends that are put among given inputs, in one pass over both.
-use Rattle.std.proofs.Common.{◌≡◌, ℕ, zero, suc, ◌+◌, ◌<◌, ◌≤◌, ℤ, Bool, true, false, List, [], ◌∷◌, ◌++◌, Option, None, Some, length, map, drop, refl, sym, ap, ap₂, ◌∙◌, subst, append_assoc, arith}
+use Rattle.std.proofs.Common.{◌≡◌, ℕ, zero, suc, ◌+◌, ◌<◌, ◌≤◌, ℤ, Bool, true, false, List, [], ◌∷◌, ◌++◌, Option, None, Some, length, map}
+use Rattle.std.proofs.Common.{drop, refl, sym, ap, ap₂, ◌∙◌, subst, append_assoc, arith}
 use Rattle.std.specs.Prelude.{nat_le, if◌then◌else◌}
 use Rattle.std.proofs.lemmas.Bool.{leb-true, le-leb}
 use Rattle.std.proofs.Math.ListN.{drop_of_length-le}
@@ -171,7 +172,8 @@ module _ {A : Type 0} where
   moved_all done ys i total le so_far = sym (append_none done) ∙ ap (λ l. done ++ l) (sym (drop_of_length-le ys le)) ∙ so_far
 
   -- the same, where what is copied stands for the parts
-  pub pushed_more : {X : Type 0} (f : X → A) (done new : List X) (x : X) (ys : List A) (i : ℕ) (y : A) (total : List A) → new ≡ done ++ x ∷ [] → f x ≡ y → At ys i y
+  pub pushed_more : {X : Type 0} (f : X → A) (done new : List X) (x : X) (ys : List A) (i : ℕ) (y : A) (total : List A) → new ≡ done ++ x ∷ [] → f x ≡ y
+      → At ys i y
       → map f done ++ drop i ys ≡ total → map f new ++ drop (i + 1) ys ≡ total
   pushed_more f done new x ys i y total is same at so_far =
       ap (λ l. l ++ drop (i + 1) ys) (ap (map f) is ∙ map-append f done (x ∷ []) ∙ ap (λ z. map f done ++ z ∷ []) same)

@@ -1,5 +1,6 @@
 -- Inputs that are put among others.
-use Rattle.std.proofs.Common.{◌≡◌, ℕ, zero, suc, ◌+◌, ◌<◌, ◌≤◌, ℤ, Bool, true, false, ◌⊎◌, inl, inr, ⊎_elim, List, [], ◌∷◌, Some, length, refl, sym, ap, ◌∙◌, subst, arith}
+use Rattle.std.proofs.Common.{◌≡◌, ℕ, zero, suc, ◌+◌, ◌≤◌, Bool, true, false, ◌⊎◌, inl, inr, ⊎_elim, List, [], ◌∷◌, length}
+use Rattle.std.proofs.Common.{refl, sym, ap, ◌∙◌, subst, arith}
 use Rattle.std.specs.Prelude.{nat_le, if◌then◌else◌}
 use Rattle.std.proofs.lemmas.Bool.{leb-true, le-leb, false≢true}
 use Rattle.std.proofs.lemmas.Option.{same_Some, none-some}
@@ -31,7 +32,8 @@ cons_ordered : (y : StatedInput) (ys : List StatedInput) → ((z : StatedInput) 
 cons_ordered y ys first rest zero a b at_a at_b = subst (λ q. q.at ≤ b.at) (same_Some y a at_a) (first b at_b)
 cons_ordered y ys first rest (suc i) a b at_a at_b = rest i a b at_a at_b
 
-by_case : (P : List StatedInput → Type 0) (x y : StatedInput) (ys : List StatedInput) (b : Bool) → nat_le y.at x.at ≡ b → (b ≡ true → P (y ∷ put_in x ys)) → (b ≡ false → P (x ∷ y ∷ ys)) → P (if b then y ∷ put_in x ys else x ∷ y ∷ ys)
+by_case : (P : List StatedInput → Type 0) (x y : StatedInput) (ys : List StatedInput) (b : Bool) → nat_le y.at x.at ≡ b → (b ≡ true → P (y ∷ put_in x ys))
+    → (b ≡ false → P (x ∷ y ∷ ys)) → P (if b then y ∷ put_in x ys else x ∷ y ∷ ys)
 by_case P x y ys true e one other = one refl
 by_case P x y ys false e one other = other refl
 
@@ -67,7 +69,8 @@ put_ordered : (x : StatedInput) (ys : List StatedInput) → Ordered ys → Order
 put_ordered x [] h = cons_ordered x [] (λ z at. absurd (none-some z at)) h
 put_ordered x (y ∷ ys) h =
     by_case Ordered x y ys (nat_le y.at x.at) refl
-    (λ e. cons_ordered y (put_in x ys) (λ z at. ⊎_elim (λ same. subst (λ q. y.at ≤ q.at) (sym same) (leb-true y.at x.at e)) (λ there. h 0 y z refl there) (first_is x z ys at)) (put_ordered x ys (tail_ordered y ys h)))
+    (λ e. cons_ordered y (put_in x ys) (λ z at. ⊎_elim (λ same. subst (λ q. y.at ≤ q.at) (sym same) (leb-true y.at x.at e)) (λ there. h 0 y z refl there)
+    (first_is x z ys at)) (put_ordered x ys (tail_ordered y ys h)))
     (λ e. cons_ordered x (y ∷ ys) (λ z at. subst (λ q. x.at ≤ q.at) (same_Some y z at) (not_le y.at x.at e)) h)
 
 put_length : (x : StatedInput) (ys : List StatedInput) → length (put_in x ys) ≡ suc (length ys)
@@ -76,13 +79,16 @@ put_length x (y ∷ ys) = by_case (λ l. length l ≡ suc (suc (length ys))) x y
 
 put_numbers : (x : StatedInput) (ys : List StatedInput) → input_numbers (put_in x ys) ≡ length x.value + input_numbers ys
 put_numbers x [] = refl
-put_numbers x (y ∷ ys) = by_case (λ l. input_numbers l ≡ length x.value + (length y.value + input_numbers ys)) x y ys (nat_le y.at x.at) refl (λ e. let h = put_numbers x ys in omega (arith, h)) (λ e. refl)
+put_numbers x (y ∷ ys) = by_case (λ l. input_numbers l ≡ length x.value + (length y.value + input_numbers ys)) x y ys (nat_le y.at x.at) refl
+    (λ e. let h = put_numbers x ys in omega (arith, h)) (λ e. refl)
 
 -- all sends
 module _ (topic delay : ℕ) where
-  all_each : (P : StatedInput → Type 0) (sends : List Send) (given : List StatedInput) → ((i : ℕ) (s : Send) → At sends i s → P (sent_input topic delay s)) → Each P given → Each P (with_sends topic delay sends given)
+  all_each : (P : StatedInput → Type 0) (sends : List Send) (given : List StatedInput) → ((i : ℕ) (s : Send) → At sends i s → P (sent_input topic delay s))
+      → Each P given → Each P (with_sends topic delay sends given)
   all_each P [] given new h = h
-  all_each P (s ∷ sends) given new h = all_each P sends (put_in (sent_input topic delay s) given) (λ i t at. new (suc i) t at) (put_each P (sent_input topic delay s) given (new 0 s refl) h)
+  all_each P (s ∷ sends) given new h = all_each P sends (put_in (sent_input topic delay s) given) (λ i t at. new (suc i) t at)
+      (put_each P (sent_input topic delay s) given (new 0 s refl) h)
 
   all_ordered : (sends : List Send) (given : List StatedInput) → Ordered given → Ordered (with_sends topic delay sends given)
   all_ordered [] given h = h
@@ -90,11 +96,13 @@ module _ (topic delay : ℕ) where
 
   all_length : (sends : List Send) (given : List StatedInput) → length (with_sends topic delay sends given) ≡ length given + length sends
   all_length [] given = omega arith
-  all_length (s ∷ sends) given = (let x = sent_input topic delay s in let h = all_length sends (put_in x given) in let one = put_length x given in omega (arith, h, one))
+  all_length (s ∷ sends) given = (let x = sent_input topic delay s in let h = all_length sends (put_in x given) in let one = put_length x given in omega
+      (arith, h, one))
 
   all_numbers : (sends : List Send) (given : List StatedInput) → input_numbers (with_sends topic delay sends given) ≡ input_numbers given + send_numbers sends
   all_numbers [] given = omega arith
-  all_numbers (s ∷ sends) given = (let x = sent_input topic delay s in let h = all_numbers sends (put_in x given) in let one = put_numbers x given in omega (arith, h, one))
+  all_numbers (s ∷ sends) given = (let x = sent_input topic delay s in let h = all_numbers sends (put_in x given) in let one = put_numbers x given in omega
+      (arith, h, one))
 
 -- what is sent to a flight that fits, as it may be sent, leaves it fitting
 pub relayed_fits : (p : Tables) (guests topic delay : ℕ) (sends : List Send) (f : Plan)
@@ -103,7 +111,15 @@ relayed_fits p guests topic delay sends f h may = record {
   horizon = h.horizon;
   starts = h.starts;
   widths = h.widths;
-  inputs = all_each topic delay (FitsInput p f.horizon) sends f.inputs (λ i s at. record { in_time = may.in_time i s at; topic = may.info; is = may.is; outside = may.outside; size = may.sizes i s at; typed = λ k z there. may.typed i k s z at there }) h.inputs;
+  inputs = all_each topic delay (FitsInput p f.horizon) sends f.inputs (λ i s at. record {
+    in_time = may.in_time i s at;
+    topic = may.info;
+    is = may.is;
+    outside = may.outside;
+    size = may.sizes i s at;
+    typed = λ k z there. may.typed i k s z
+        at there;
+  }) h.inputs;
   ordered = all_ordered topic delay sends f.inputs h.ordered;
   sways = h.sways;
   swayed = h.swayed;

@@ -32,6 +32,13 @@ pub nil_of : {A : Type 0} (xs : List A) → length xs ≡ 0 → xs ≡ []
 nil_of [] e = refl
 nil_of (x ∷ xs) e = absurd (omega arith)
 
+-- a list begins with itself, and with what the list that it begins with begins with
+pub goes_here : {A : Type 0} (xs : List A) → IsPrefix xs xs
+goes_here xs = ([], sym (append-nil xs))
+
+pub goes_further : {A : Type 0} (xs ys zs : List A) → IsPrefix xs ys → IsPrefix ys zs → IsPrefix xs zs
+goes_further xs ys zs p q = (p.0 ++ q.0, q.1 ∙ (ap (λ l. l ++ q.0) p.1 ∙ append_assoc xs p.0 q.0))
+
 -- where a node has fired as often as before, it has not fired in between
 pub none_between : (n : ℕ) (known found : List Logged) (on : IsPrefix known found) → length (drafts_of n found) ≡ length (drafts_of n known)
     → drafts_of n on.0 ≡ []

@@ -15,48 +15,56 @@ ghost use Rattle.sot_board.specs.Commits.{IsTakenFrom, IsRunOn};
 ghost use Rattle.sot_board.specs.NodeSorts.{IsCodedNode, IsExternalNode};
 ghost use Rattle.sot_node_worker.specs.Holds.{HasNode, IsDueView, IsSeen, Appends, HasFired};
 
-use crate::take::{append, stop, take_in_step};
+use crate::bells::Bells;
+use crate::order::ring_next;
+use crate::take::{append, stop, take_in_step, take_next};
 use sot_board::{Board, Commit, Receipt, View};
 use sot_code::{Fired, run_node};
 use sot_lang::{Draft, Typed};
 use sot_turn::{Held, Pass, Turn};
 use std::sync::Wait;
 
-/// A node whose draft the flight states fires in the turn in which it was seen.
+/// A node whose draft the flight states fires with it.
 pub(crate) fn fire_stated<'a, R: Wait>(
     rt: &R,
     turn: &Turn<Board<'a>>,
-    held: Held<'_, Board<'a>>,
+    bells: &Bells,
+    pass: Pass<Board<'a>>,
     node: u32,
     drafts: &mut Vec<Draft>,
 ) -> Pass<Board<'a>>
-    requires lock { held_lock held ≡ lock_of turn.now }
-    requires ground { held_ground held ≡ Some ((held_value held).accepted, (held_value held).plan) }
-    requires seen { held_seen held ≡ (held_value held).entries }
-    requires drafts { drafts_of node (held_value held).entries ≡ drafts.old.items }
-    requires left { is_left (held_value held).position.at node ≡ true }
-    requires external { IsExternalNode (held_value held).accepted.program node }
-    requires no_guest { (i : ℕ) → At (held_value held).plan.crews node (plans.Guest i) → ⊥ }
-    ensures lock { pass_lock result ≡ held_lock held.entry }
-    ensures ground { pass_ground result ≡ held_ground held.entry }
+    requires lock { pass_lock pass ≡ lock_of turn.now }
+    requires there { HasNode (pass_ground pass) node }
+    requires external { (a : _) (f : _) → pass_ground pass ≡ Some (a, f)
+        → IsExternalNode a.program node }
+    requires no_guest { (a : _) (f : _) → pass_ground pass ≡ Some (a, f)
+        → (i : ℕ) → At f.crews node (plans.Guest i) → ⊥ }
+    requires drafts { drafts.old.items ≡ drafts_of node (pass_seen pass) }
+    ensures lock { pass_lock result ≡ pass_lock pass.entry }
+    ensures ground { pass_ground result ≡ pass_ground pass.entry }
     ensures fired { (draft : List (Option ℤ))
-        × HasFired node draft (held_value held.entry).entries (pass_seen result)
-        (held_added held.entry) (pass_added result) }
+        × HasFired node draft (pass_seen pass.entry) (pass_seen result)
+        (pass_added pass.entry) (pass_added result) }
     ensures drafts { drafts.new.items ≡ drafts_of node (pass_seen result) }
 {
-    let mut held = held;
-    let receipt = commit_stated(held.lend(), node);
+    let mut held = take_next(rt, turn, bells, pass, node, drafts);
+    let receipt = commit_stated(rt, held.lend(), bells, node);
     append(rt, drafts, receipt.draft);
     turn.give(held)
 }
 
-fn commit_stated(board: &mut Board<'_>, node: u32) -> Receipt
+fn commit_stated<R: Wait>(rt: &R, board: &mut Board<'_>, bells: &Bells, node: u32) -> Receipt
+    requires there { node < length board.old.accepted.program.nodes }
     requires external { IsExternalNode board.old.accepted.program node }
     requires no_guest { (i : ℕ) → At board.old.plan.crews node (plans.Guest i) → ⊥ }
-    requires left { is_left board.old.position.at node ≡ true }
     ensures { Appends board.old board.new node result.draft }
 {
-    board.commit_stated(node)
+    if !board.due(node) {
+        stop(rt);
+    }
+    let receipt = board.commit_stated(node);
+    ring_next(board, bells);
+    receipt
 }
 
 /// A coded node fires with what its code gives on the view, or on the present numbers where what it
@@ -64,6 +72,7 @@ fn commit_stated(board: &mut Board<'_>, node: u32) -> Receipt
 pub(crate) fn fire_code<'a, R: Wait>(
     rt: &R,
     turn: &Turn<Board<'a>>,
+    bells: &Bells,
     pass: Pass<Board<'a>>,
     p: &Typed,
     view: View,
@@ -83,8 +92,8 @@ pub(crate) fn fire_code<'a, R: Wait>(
     ensures drafts { drafts.new.items ≡ drafts_of (viewed_node view) (pass_seen result) }
 {
     let fired = run(p, &view);
-    let mut held = take_in_step(rt, turn, pass, view.node(), drafts);
-    let receipt = commit_run(rt, held.lend(), view, &fired);
+    let mut held = take_next(rt, turn, bells, pass, view.node(), drafts);
+    let receipt = commit_run(rt, held.lend(), bells, view, &fired);
     append(rt, drafts, receipt.draft);
     turn.give(held)
 }
@@ -104,7 +113,13 @@ fn run(p: &Typed, view: &View) -> Fired
 }
 
 // Commits it, or fires anew where the view is an older one.
-fn commit_run<R: Wait>(rt: &R, board: &mut Board<'_>, view: View, fired: &Fired) -> Receipt
+fn commit_run<R: Wait>(
+    rt: &R,
+    board: &mut Board<'_>,
+    bells: &Bells,
+    view: View,
+    fired: &Fired,
+) -> Receipt
     requires there { viewed_node view < length board.old.accepted.program.nodes }
     requires coded { IsCodedNode board.old.accepted.program (viewed_node view) }
     requires taken { IsTakenFrom board.old view }
@@ -114,6 +129,18 @@ fn commit_run<R: Wait>(rt: &R, board: &mut Board<'_>, view: View, fired: &Fired)
     if !board.due(view.node()) {
         stop(rt);
     }
+    let receipt = commit_or_fire(board, view, fired);
+    ring_next(board, bells);
+    receipt
+}
+
+fn commit_or_fire(board: &mut Board<'_>, view: View, fired: &Fired) -> Receipt
+    requires left { is_left board.old.position.at (viewed_node view) ≡ true }
+    requires coded { IsCodedNode board.old.accepted.program (viewed_node view) }
+    requires taken { IsTakenFrom board.old view }
+    requires ran { IsRunOn board.old.accepted.program view fired.now }
+    ensures { Appends board.old board.new (viewed_node view) result.draft }
+{
     match board.commit_code(view, fired) {
         Commit::Done(receipt) => receipt,
         Commit::Again(_) => board.fire(view.node()),

@@ -6,17 +6,21 @@
 //! of the history. Nobody promises that a turn comes.
 #![tactic(auto)]
 
+mod bells;
 mod controller;
 mod hold;
 mod laws;
+mod order;
 mod promise;
 mod shift;
 mod sight;
 mod take;
 mod turns;
 
+pub use bells::Bells;
 pub use controller::Controller;
 pub use laws::{answers_stay, fits_stay, whole_histories_end};
+pub use order::next_to_fire;
 pub use promise::Works;
 pub use shift::Shift;
 pub use take::stop;

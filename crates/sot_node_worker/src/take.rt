@@ -7,6 +7,8 @@ ghost use Rattle.sot_turn.specs.Passes.{held_lock, held_ground, held_seen, held_
 ghost use Rattle.sot_board.specs.Versions.{drafts_of};
 ghost use Rattle.sot_node_worker.specs.Holds.{HasNode};
 
+use crate::bells::Bells;
+use crate::order::is_next;
 use sot_board::Board;
 use sot_lang::Draft;
 use sot_turn::{Held, Pass, Turn};
@@ -53,6 +55,40 @@ pub(crate) fn take_in_step<'t, 'a, R: Wait>(
         unreachable!()
     }
     held
+}
+
+/// Takes the turn once the node, which no guest flies, is the one that fires next. Where it is not,
+/// it gives the turn back and parks.
+pub(crate) fn take_next<'t, 'a, R: Wait>(
+    rt: &R,
+    turn: &'t Turn<Board<'a>>,
+    bells: &Bells,
+    pass: Pass<Board<'a>>,
+    node: u32,
+    drafts: &Vec<Draft>,
+) -> Held<'t, Board<'a>>
+    requires lock { pass_lock pass ≡ lock_of turn.now }
+    requires there { HasNode (pass_ground pass) node }
+    requires drafts { drafts.now.items ≡ drafts_of node (pass_seen pass) }
+    ensures lock { held_lock result ≡ pass_lock pass.entry }
+    ensures ground { held_ground result ≡ pass_ground pass.entry }
+    ensures ground_now { pass_ground pass.entry
+        ≡ Some ((held_value result).accepted, (held_value result).plan) }
+    ensures seen { held_seen result ≡ (held_value result).entries }
+    ensures goes_on { IsPrefix (pass_seen pass.entry) (held_value result).entries }
+    ensures added { held_added result ≡ pass_added pass.entry }
+    ensures in_step { drafts_of node (held_value result).entries ≡ drafts.now.items }
+{
+    let mut pass = pass;
+    for _ in rt.forever() {
+        let mut held = take_in_step(rt, turn, pass, node, drafts);
+        if is_next(held.lend(), node) {
+            return held;
+        }
+        pass = turn.give(held);
+        bells.park(rt, node);
+    }
+    unreachable!()
 }
 
 /// Notes a draft. Where the list has no room, it waits without end.

@@ -9,6 +9,7 @@ ghost use Rattle.sot_node_worker.specs.Askings.{TellsOneMore, asking};
 ghost use Rattle.sot_node_worker.specs.Shifts.{IsAtWork, IsReady, IsOnShift, HasWorked};
 ghost use Rattle.sot_node_worker.specs.Turns.{TakesTurn};
 
+use crate::bells::Bells;
 use crate::controller::Controller;
 use crate::hold::{fire_code, fire_guest, fire_stated};
 use crate::shift::Shift;
@@ -18,8 +19,6 @@ use sot_board::{Board, View};
 use sot_lang::Draft;
 use sot_turn::Turn;
 use std::sync::Wait;
-use std::sync::atomic::{AtomicBool, Ordering};
-use std::thread::Parker;
 
 // Asks a guest with a view, on a blank draft.
 fn ask<C: Controller>(guest: &mut C, view: &View) -> Draft
@@ -31,13 +30,15 @@ fn ask<C: Controller>(guest: &mut C, view: &View) -> Draft
     draft
 }
 
-/// One turn at the board, in which it is seen what there is to do, and where the node's code is to
-/// run or its guest to be asked, a second turn for the firing. In each turn it goes on only where
-/// the node has fired as often as the shift has drafts, and elsewhere gives the turn back and waits
-/// without end.
+/// One turn at the board, in which it is seen what there is to do, and where the node is left a
+/// second turn for its firing. A guest is asked between the two, once the caller was told that it
+/// is; code is run between the two, and where no guest flies the node, the second turn is taken
+/// once the node is the one that fires next. In each turn it goes on only where the node has fired
+/// as often as the shift has drafts, and elsewhere gives the turn back and waits without end.
 pub fn take_turn<'a, C: Controller, R: Wait>(
     rt: &R,
     turn: &Turn<Board<'a>>,
+    bells: &Bells,
     shift: Shift<'a, C>,
 ) -> Shift<'a, C>
     requires lock { pass_lock shift.pass ≡ lock_of turn.now }
@@ -65,16 +66,19 @@ pub fn take_turn<'a, C: Controller, R: Wait>(
         },
         Sight::Idle => Shift::unfinished(node, turn.give(held), drafts, guest),
         Sight::Stated => {
-            let pass = fire_stated(rt, turn, held, node, &mut drafts);
+            let pass = turn.give(held);
+            let pass = fire_stated(rt, turn, bells, pass, node, &mut drafts);
             Shift::unfinished(node, pass, drafts, guest)
         }
         Sight::Runs(p, view) => {
             let pass = turn.give(held);
-            let pass = fire_code(rt, turn, pass, p, view, &mut drafts);
+            let pass = fire_code(rt, turn, bells, pass, p, view, &mut drafts);
             Shift::unfinished(node, pass, drafts, guest)
         }
         Sight::Asks(view) => {
+            bells.note_asked(node, drafts.len().saturating_add(1));
             let pass = turn.give(held);
+            bells.ring_caller();
             let Some(mut asked) = guest else {
                 unreachable!()
             };
@@ -85,32 +89,32 @@ pub fn take_turn<'a, C: Controller, R: Wait>(
     }
 }
 
-/// Takes turns until the board is finished; where the flag is raised at the beginning, none, and
-/// the shift comes back as it was. After each turn it rings for the caller, and waits until it is
-/// woken. So it is to be woken each time its node has become due, and once the board is finished;
-/// of this no clause speaks.
+/// Takes turns until the board is finished; where it is not to begin, none, and the shift comes back
+/// as it was. Before each turn it parks until it is rung for. So that is to be done each time its
+/// node has become due, and once the board is finished; of this no clause speaks.
 pub fn work<'a, C: Controller, R: Wait>(
     rt: &R,
     turn: &Turn<Board<'a>>,
-    flag: &AtomicBool,
-    wake: &Parker,
-    caller: &Parker,
+    bells: &Bells,
     shift: Shift<'a, C>,
 ) -> Shift<'a, C>
     requires { IsReady (lock_of turn.now) shift }
     ensures { HasWorked C.told shift.entry result }
 {
-    if flag.load(Ordering::SeqCst) {
+    let node = shift.node;
+    if bells.is_refused(node) {
         return shift;
     }
     let mut shift = shift;
     for _ in rt.forever() {
-        shift = take_turn(rt, turn, shift);
-        caller.unpark();
+        bells.park(rt, node);
+        shift = take_turn(rt, turn, bells, shift);
+        if shift.guest.is_some() {
+            bells.ring_caller();
+        }
         if shift.finished {
             return shift;
         }
-        wake.park(rt);
     }
     unreachable!()
 }

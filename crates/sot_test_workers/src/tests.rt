@@ -8,10 +8,12 @@ ghost use Rattle.sot_workers.specs.Flying.{HasNoGuests};
 mod crowd;
 mod held;
 mod holder;
+mod long;
 mod many;
 mod ordered;
 mod rung;
 
+use crate::keeper::Keeper;
 use sot_board::Board;
 use sot_compose::check_all;
 use sot_flight::Flight;
@@ -115,6 +117,13 @@ fn alone(rt: &(impl Abort + Threads + Sync), alloc: Global, text: &str) -> Strin
     };
     fly_alone(&mut board);
     board_text(alloc, &board).expect(rt, "memory")
+}
+
+// The same where the nodes that are worth it have workers in threads.
+fn threads<R: Abort + Threads + Wait + Sync>(rt: &R, alloc: Global, text: &str) -> String {
+    let mut nobody: Vec<Keeper> = Vec::new(alloc);
+    let (trace, _) = trace_of(rt, alloc, text, &mut nobody);
+    trace
 }
 
 // How many drafts the list of a node has.

@@ -86,7 +86,7 @@ pub turn_sync : (a : NamedLft) → IsSync (Turn.the_row (Board.the_row a) (Tuple
 turn_sync a = turn.the_sync (Board.the_row a) (Tuple (Accepted.the_row a ∷ Flight.the_row ∷ [])) (Entry.the_row a) ghosts (board_send a)
 
 -- what a closure has captured
-pub closure_send : (name : Sym) (A B D E F : RattleType) → IsSend A → IsSend B → IsSend D → IsSend E → IsSend F → IsSend (TupleAt name (A ∷ B ∷ D ∷ E ∷ F ∷ []))
-closure_send name A B D E F a b d e f =
-    let all : List RattleType = A ∷ B ∷ D ∷ E ∷ F ∷ [] in
-    recorded_send (field_at name all).row _ _ (type_at name all).to_one (struct_send (shape (type_at name all)) (a, (b, (d, (e, (f, tt))))))
+pub closure_send : (name : Sym) (A B D E : RattleType) → IsSend A → IsSend B → IsSend D → IsSend E → IsSend (TupleAt name (A ∷ B ∷ D ∷ E ∷ []))
+closure_send name A B D E a b d e =
+    let all : List RattleType = A ∷ B ∷ D ∷ E ∷ [] in
+    recorded_send (field_at name all).row _ _ (type_at name all).to_one (struct_send (shape (type_at name all)) (a, (b, (d, (e, tt)))))

@@ -1,5 +1,5 @@
 -- The end of a flight, and what became of its guests.
-use Rattle.std.proofs.Common.{◌≡◌, ℕ, ◌<◌, List, [], ◌++◌, length, Option, None, Some, refl, sym, ap, ◌∙◌, subst, append-nil, arith}
+use Rattle.std.proofs.Common.{◌≡◌, ℕ, ◌<◌, Bool, List, [], ◌++◌, length, Option, None, Some, refl, sym, ap, ◌∙◌, subst, append-nil, arith}
 use Rattle.std.specs.Prelude.{slice_get}
 use Rattle.std.proofs.lemmas.Option.{same_Some, none-some}
 use Rattle.sot_lists.specs.Places.{At}
@@ -16,7 +16,7 @@ use Rattle.sot_node_worker.proofs.Histories.{whole_histories_end}
 use Rattle.sot_workers.specs.declared.lists.NodeList.{NodeList}
 use Rattle.sot_workers.specs.declared.place.Done.{Done}
 use Rattle.sot_workers.specs.Flying.{IsUnnamed}
-use Rattle.sot_workers.specs.Lists.{AreLists, AreOwnLists, AreEmpty}
+use Rattle.sot_workers.specs.Lists.{AreLists, AreOwnLists, AreMine, AreEmpty}
 use Rattle.sot_workers.specs.Pairs.{EachFrom}
 use Rattle.sot_workers.specs.Sent.{IsCallers, HasSeenWhole, IsBack, IsDone, AreBack}
 use Rattle.sot_workers.specs.Asked.{EachAnswered, EachUnnamedStays}
@@ -27,14 +27,14 @@ use Rattle.sot_workers.proofs.Placing.{own_begins}
 
 -- the caller's pass before any entry
 pub callers_begin :
-    (a : Admitted) (f : Plan) (ground : Option (Admitted × Plan)) (seen : List Logged) (lists : List NodeList) → ground ≡ Some (a, f)
+    (a : Admitted) (f : Plan) (away : List Bool) (ground : Option (Admitted × Plan)) (seen : List Logged) (lists : List NodeList) → ground ≡ Some (a, f)
     → length f.crews ≡ length a.program.nodes → seen ≡ [] → AreEmpty (length f.crews) lists
-    → IsCallers a f ground seen lists
-callers_begin a f ground seen lists is count none empty = record {
+    → IsCallers a f away ground seen lists
+callers_begin a f away ground seen lists is count none empty = record {
   ground_is = is;
   own =
-      subst (λ s. AreOwnLists (length a.program.nodes) f lists s) (sym none)
-      (subst (λ n. AreOwnLists n f lists []) count (own_begins (length f.crews) f lists empty));
+      subst (λ s. AreMine (length a.program.nodes) f away lists s) (sym none)
+      (subst (λ n. AreMine n f away lists []) count (own_begins (length f.crews) f away lists empty));
 }
 
 -- what the board has at its end is the whole history that was seen

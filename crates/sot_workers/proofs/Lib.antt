@@ -7,6 +7,7 @@ pub mod Crossing
 pub mod Coming
 pub mod Placing
 pub mod Putting
+pub mod Stations
 pub mod OwnTurns
 pub mod Ordered
 pub mod Going

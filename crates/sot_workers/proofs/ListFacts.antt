@@ -1,5 +1,5 @@
 -- What stands in lists that were changed, and lists of drafts beside a history that goes on.
-use Rattle.std.proofs.Common.{◌≡◌, ◌≢◌, ℕ, zero, suc, ◌+◌, ◌⊎◌, inl, inr, ⊎_elim, ℤ, Option, List, [], ◌∷◌, ◌++◌, length, refl, sym, ap, ◌∙◌, subst}
+use Rattle.std.proofs.Common.{◌≡◌, ◌≢◌, ℕ, zero, suc, ◌+◌, ◌⊎◌, inl, inr, ⊎_elim, ℤ, Bool, Option, List, [], ◌∷◌, ◌++◌, length, refl, sym, ap, ◌∙◌, subst}
 use Rattle.std.proofs.Common.{length-append, length-set, arith}
 use Rattle.std.specs.Prelude.{slice_set}
 use Rattle.std.proofs.lemmas.Bool.{ne_eqb}
@@ -11,9 +11,9 @@ use Rattle.sot_flight.specs.Plans.{Plan}
 use Rattle.sot_board.specs.Standing.{Standing}
 use Rattle.sot_board.specs.Versions.{drafts_of}
 use Rattle.sot_workers.specs.declared.lists.NodeList.{NodeList}
-use Rattle.sot_workers.specs.Flying.{IsOwn}
+use Rattle.sot_workers.specs.Flying.{IsMine}
 use Rattle.sot_workers.specs.Instants.{IsSameInstant, AddsNoFiring, AddsFiring}
-use Rattle.sot_workers.specs.Lists.{HasNodes, AreOwnLists, AreEmpty, KeepsLists}
+use Rattle.sot_workers.specs.Lists.{HasNodes, AreMine, AreEmpty, KeepsLists}
 use Rattle.sot_node_worker.proofs.Firing.{in_step}
 use Rattle.sot_node_worker.proofs.Turning.{last_or_before}
 use Rattle.sot_workers.proofs.Histories.{one_more, no_more}
@@ -51,16 +51,16 @@ empty_more k lists list all is none = record {
 
 -- ---- the caller's own lists
 
-pub own_quiet : (count : ℕ) (f : Plan) (lists : List NodeList) (es es' : List Logged) → AreOwnLists count f lists es → AddsNoFiring es es'
-    → AreOwnLists count f lists es'
-own_quiet count f lists es es' own quiet = record { nodes = own.nodes; drafts = λ n list at mine. own.drafts n list at mine ∙ sym (quiet.drafts n) }
+pub own_quiet : (count : ℕ) (f : Plan) (away : List Bool) (lists : List NodeList) (es es' : List Logged) → AreMine count f away lists es → AddsNoFiring es es'
+    → AreMine count f away lists es'
+own_quiet count f away lists es es' own quiet = record { nodes = own.nodes; drafts = λ n list at mine. own.drafts n list at mine ∙ sym (quiet.drafts n) }
 
 pub own_more :
-    (t count : ℕ) (f : Plan) (lists : List NodeList) (es es' : List Logged) (k : ℕ) (draft : List (Option ℤ)) (old new : NodeList)
-    → AreOwnLists count f lists es
-    → AddsFiring t es k draft es' → IsOwn f k
-    → At lists k old → new.node ≡ old.node → new.drafts.items ≡ old.drafts.items ++ draft ∷ [] → AreOwnLists count f (slice_set lists k new) es'
-own_more t count f lists es es' k draft old new own fires mine there same more = record {
+    (t count : ℕ) (f : Plan) (away : List Bool) (lists : List NodeList) (es es' : List Logged) (k : ℕ) (draft : List (Option ℤ)) (old new : NodeList)
+    → AreMine count f away lists es
+    → AddsFiring t es k draft es' → IsMine f away k
+    → At lists k old → new.node ≡ old.node → new.drafts.items ≡ old.drafts.items ++ draft ∷ [] → AreMine count f away (slice_set lists k new) es'
+own_more t count f away lists es es' k draft old new own fires mine there same more = record {
   nodes = nodes_set count lists k old new own.nodes there same;
   drafts = λ n list at its. ⊎_elim
       (λ e. ap (λ l. l.drafts.items) e.1 ∙ (more ∙ (ap (λ l. l ++ draft ∷ []) (own.drafts k old there mine)
@@ -70,9 +70,9 @@ own_more t count f lists es es' k draft old new own fires mine there same more =
 }
 
 pub own_compared :
-    (count : ℕ) (f : Plan) (lists : List NodeList) (seen es : List Logged) → AreOwnLists count f lists seen → IsPrefix seen es
-    → ((n : ℕ) (list : NodeList) → At lists n list → IsOwn f n → length (drafts_of n es) ≡ length list.drafts.items) → AreOwnLists count f lists es
-own_compared count f lists seen es own goes same = record {
+    (count : ℕ) (f : Plan) (away : List Bool) (lists : List NodeList) (seen es : List Logged) → AreMine count f away lists seen → IsPrefix seen es
+    → ((n : ℕ) (list : NodeList) → At lists n list → IsMine f away n → length (drafts_of n es) ≡ length list.drafts.items) → AreMine count f away lists es
+own_compared count f away lists seen es own goes same = record {
   nodes = own.nodes;
   drafts = λ n list at mine.
       let was = own.drafts n list at mine in
@@ -81,16 +81,16 @@ own_compared count f lists seen es own goes same = record {
 
 -- ---- beside a board
 
-pub keeps_moved : (old new : Standing) (lists : List NodeList) → new.accepted ≡ old.accepted → new.plan ≡ old.plan
-    → AreOwnLists (length old.accepted.program.nodes) old.plan lists new.entries → KeepsLists new lists
-keeps_moved old new lists accepted plan own =
-    subst (λ a. AreOwnLists (length a.program.nodes) new.plan lists new.entries) (sym accepted)
-    (subst (λ f. AreOwnLists (length old.accepted.program.nodes) f lists new.entries) (sym plan) own)
+pub keeps_moved : (old new : Standing) (away : List Bool) (lists : List NodeList) → new.accepted ≡ old.accepted → new.plan ≡ old.plan
+    → AreMine (length old.accepted.program.nodes) old.plan away lists new.entries → KeepsLists new away lists
+keeps_moved old new away lists accepted plan own =
+    subst (λ a. AreMine (length a.program.nodes) new.plan away lists new.entries) (sym accepted)
+    (subst (λ f. AreMine (length old.accepted.program.nodes) f away lists new.entries) (sym plan) own)
 
 pub keeps_more :
-    (t : ℕ) (old new : Standing) (lists : List NodeList) (k : ℕ) (draft : List (Option ℤ)) (was now : NodeList) → KeepsLists old lists → IsSameInstant old new
-    → AddsFiring t old.entries k draft new.entries → IsOwn old.plan k
-    → At lists k was → now.node ≡ was.node → now.drafts.items ≡ was.drafts.items ++ draft ∷ [] → KeepsLists new (slice_set lists k now)
-keeps_more t old new lists k draft was now own same fires mine there node more =
-    keeps_moved old new (slice_set lists k now) same.accepted same.plan
-    (own_more t (length old.accepted.program.nodes) old.plan lists old.entries new.entries k draft was now own fires mine there node more)
+    (t : ℕ) (old new : Standing) (away : List Bool) (lists : List NodeList) (k : ℕ) (draft : List (Option ℤ)) (was now : NodeList) → KeepsLists old away lists → IsSameInstant old new
+    → AddsFiring t old.entries k draft new.entries → IsMine old.plan away k
+    → At lists k was → now.node ≡ was.node → now.drafts.items ≡ was.drafts.items ++ draft ∷ [] → KeepsLists new away (slice_set lists k now)
+keeps_more t old new away lists k draft was now own same fires mine there node more =
+    keeps_moved old new away (slice_set lists k now) same.accepted same.plan
+    (own_more t (length old.accepted.program.nodes) old.plan away lists old.entries new.entries k draft was now own fires mine there node more)

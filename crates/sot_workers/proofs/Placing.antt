@@ -1,5 +1,5 @@
 -- Guests that leave with their shifts, and come back.
-use Rattle.std.proofs.Common.{◌≡◌, ℕ, ⊎_elim, true, List, [], ◌++◌, Option, None, Some, refl, sym, ap, ◌∙◌, subst, append-nil}
+use Rattle.std.proofs.Common.{◌≡◌, ℕ, ⊎_elim, Bool, true, List, [], ◌++◌, Option, None, Some, refl, sym, ap, ◌∙◌, subst, append-nil}
 use Rattle.std.specs.Prelude.{slice_set}
 use Rattle.std.proofs.lemmas.Option.{same_Some, none-some}
 use Rattle.atomic_table.specs.Seated.{TableId}
@@ -20,7 +20,7 @@ use Rattle.sot_workers.specs.declared.lists.NodeList.{NodeList}
 use Rattle.sot_workers.specs.declared.place.Place.{Place}
 use Rattle.sot_workers.specs.declared.place.Place.TheVariants.{Stays, Out, Here}
 use Rattle.sot_workers.specs.declared.place.Done.{Done}
-use Rattle.sot_workers.specs.Lists.{AreOwnLists, AreEmpty}
+use Rattle.sot_workers.specs.Lists.{AreMine, AreEmpty}
 use Rattle.sot_workers.specs.Sent.{HasSeenWhole, IsShiftOf, IsStarted, IsPlaced, IsBack, IsDone}
 use Rattle.sot_workers.proofs.Histories.{goes_further}
 use Rattle.sot_workers.proofs.ListFacts.{nodes_set, at_set_cases}
@@ -35,8 +35,8 @@ empty_set count lists k old new all there same none = record {
 }
 
 -- before any entry, empty lists are the caller's own
-pub own_begins : (count : ℕ) (f : Plan) (lists : List NodeList) → AreEmpty count lists → AreOwnLists count f lists []
-own_begins count f lists all = record { nodes = all.nodes; drafts = λ n list at its. all.drafts n list at }
+pub own_begins : (count : ℕ) (f : Plan) (away : List Bool) (lists : List NodeList) → AreEmpty count lists → AreMine count f away lists []
+own_begins count f away lists all = record { nodes = all.nodes; drafts = λ n list at its. all.drafts n list at }
 
 module _ {C : Type 0} (told : C → Option (List Asking)) where
   -- a guest is placed once its shift was started

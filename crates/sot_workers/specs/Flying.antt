@@ -1,5 +1,5 @@
 -- Flights that are flown without guests.
-use Rattle.std.specs.Prelude.{ℕ}
+use Rattle.std.specs.Prelude.{ℕ, ◌≡◌, Bool, false, List, slice_index_or}
 use Rattle.sot_lists.specs.Places.{At}
 use Rattle.sot_flight.specs.Plans.{Plan, Guest}
 
@@ -7,9 +7,13 @@ use Rattle.sot_flight.specs.Plans.{Plan, Guest}
 abbrev pub HasNoGuests : Plan → Type 0
 HasNoGuests f = (n i : ℕ) → At f.crews n (Guest i) → ⊥
 
--- no guest flies the node, so the caller fires it
+-- no guest flies the node
 abbrev pub IsOwn : Plan → ℕ → Type 0
 IsOwn f n = (i : ℕ) → At f.crews n (Guest i) → ⊥
+
+-- no guest flies the node, and its worker has no thread, so the caller fires it
+abbrev pub IsMine : Plan → List Bool → ℕ → Type 0
+IsMine f away n = IsOwn f n × (slice_index_or away n false ≡ false)
 
 -- no node names the guest of this number
 abbrev pub IsUnnamed : Plan → ℕ → Type 0

@@ -1,5 +1,5 @@
 -- What leaves with the guests of a flight, and what is there once they are back.
-use Rattle.std.specs.Prelude.{ℕ, ◌≤◌, ◌≡◌, List, [], length, vec_len, Option, Some}
+use Rattle.std.specs.Prelude.{◌≡◌, List, [], length, vec_len, Option, Some}
 use Rattle.atomic_table.specs.Seated.{TableId}
 use Rattle.sot_tube.specs.Admitted.{Admitted}
 use Rattle.sot_flight.specs.Plans.{Plan}
@@ -11,15 +11,13 @@ use Rattle.sot_workers.specs.Rooms.{HasRoom}
 use Rattle.sot_workers.specs.Sent.{AreBack}
 
 -- a pass of this lock that knows the flight and a program of which it is, and has seen no entry;
--- and room for the guests, with a bell for each
-pub record IsLeaving {C : Type 0} (table : TableId) (f : Plan) (count : ℕ) (leaving : Leaving C) :
-    Type 0 where
+-- and room for the guests
+pub record IsLeaving {C : Type 0} (table : TableId) (f : Plan) (leaving : Leaving C) : Type 0 where
   pub lock : pass_lock leaving.pass ≡ table
   pub ground : (a : Admitted) × (pass_ground leaving.pass ≡ Some (a, f))
       × (length f.crews ≡ length a.program.nodes)
   pub seen : pass_seen leaving.pass ≡ []
   pub room : HasRoom (length f.crews) (vec_len leaving.room.guests) leaving.room
-  pub bells : vec_len leaving.room.guests ≤ count
 
 -- a pass of the same lock and ground, with all guests back
 pub record HasLanded {C : Type 0} (told : C → Option (List Asking)) (f : Plan) (leaving : Leaving C)

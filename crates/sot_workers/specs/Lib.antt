@@ -5,6 +5,7 @@ pub mod Lists
 pub mod Asked
 pub mod Pairs
 pub mod Sent
+pub mod Stations
 pub mod Back
 pub mod Rooms
 pub mod Leaving

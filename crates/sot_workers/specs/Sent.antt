@@ -1,5 +1,5 @@
 -- Where the guests of a flight are while it is flown, and what became of them.
-use Rattle.std.specs.Prelude.{ℕ, ◌≡◌, List, length, Option, None, Some}
+use Rattle.std.specs.Prelude.{ℕ, ◌≡◌, Bool, List, length, Option, None, Some}
 use Rattle.atomic_table.specs.Seated.{TableId}
 use Rattle.sot_lists.specs.Places.{At}
 use Rattle.sot_tube.specs.Admitted.{Admitted}
@@ -20,15 +20,15 @@ use Rattle.sot_workers.specs.declared.place.Place.{Place}
 use Rattle.sot_workers.specs.declared.place.Place.TheVariants.{Stays, Out, Here}
 use Rattle.sot_workers.specs.declared.place.Done.{Done}
 use Rattle.sot_workers.specs.Flying.{IsUnnamed}
-use Rattle.sot_workers.specs.Lists.{AreOwnLists}
+use Rattle.sot_workers.specs.Lists.{AreOwnLists, AreMine}
 use Rattle.sot_workers.specs.Pairs.{EachFrom}
 
 -- the caller's pass: its ground is this program with its certificate and this flight, which is one
 -- of the program; and its lists are those of what it has seen
-pub record IsCallers (a : Admitted) (f : Plan) (ground : Option (Admitted × Plan))
-    (seen : List Logged) (lists : List NodeList) : Type 0 where
+pub record IsCallers (a : Admitted) (f : Plan) (away : List Bool)
+    (ground : Option (Admitted × Plan)) (seen : List Logged) (lists : List NodeList) : Type 0 where
   pub ground_is : ground ≡ Some (a, f)
-  pub own : AreOwnLists (length a.program.nodes) f lists seen
+  pub own : AreMine (length a.program.nodes) f away lists seen
 
 -- what was seen, or a beginning of it, is a whole history of the flight
 abbrev pub HasSeenWhole : Admitted → Plan → List Logged → List Logged → Type 0

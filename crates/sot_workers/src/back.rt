@@ -13,8 +13,8 @@ use crate::lists::NodeList;
 use crate::place::Done;
 use sot_node_worker::Controller;
 
-// The list of a node comes back to its place.
-fn put_list(lists: &mut Vec<NodeList>, list: Option<NodeList>)
+/// The list of a node comes back to its place.
+pub(crate) fn put_list(lists: &mut Vec<NodeList>, list: Option<NodeList>)
     ensures { lists.new.items ≡ lists_after lists.old.items list }
 {
     if let Some(list) = list {

@@ -23,18 +23,20 @@ use crate::back::put_back;
 use crate::join::join_each;
 use crate::lists::NodeList;
 use crate::place::Done;
-use crate::room::{Room, bells_for, room_for};
-use crate::start::{Bell, place_each};
+use crate::relief::{put_each, relieve_each};
+use crate::room::{Room, room_for};
+use crate::start::place_each;
+use crate::station::station_each;
 use crate::watch::watch;
 use sot_board::Board;
 use sot_flight::Flight;
-use sot_node_worker::{Controller, whole_histories_end};
+use sot_node_worker::{Bells, Controller, whole_histories_end};
 use sot_turn::{Pass, Turn};
 use std::alloc::{AllocError, Global};
 use std::mem::swap;
 use std::sync::Wait;
 use std::thread;
-use std::thread::{Parker, Scope, Threads};
+use std::thread::{Scope, Threads};
 
 /// A board at the end of its flight, and for each node, in declared order, the drafts of its
 /// firings.
@@ -67,36 +69,46 @@ fn fly_in<'s, 'a: 's, E, C: Controller + Send + 's, R: Threads + Wait + Sync>(
     alloc: Global,
     scope: &Scope<'s, E>,
     turn: &'s Turn<Board<'a>>,
-    caller: &'s Parker,
-    bells: &'s [Bell],
+    bells: &'s Bells,
     flight: &Flight,
     leaving: Leaving<'a, C>,
 ) -> Landed<'a, C>
-    requires { IsLeaving (lock_of turn.now) flight.now (length bells.now) leaving }
+    requires { IsLeaving (lock_of turn.now) flight.now leaving }
     ensures { HasLanded C.told flight.now leaving.entry result }
 {
     let Leaving { pass, room } = leaving;
     let Room {
         mut lists,
-        mut woken,
+        mut rung,
+        few,
+        long,
+        stations,
+        away,
+        relieved,
         places,
         dones,
         guests,
     } = room;
     let (pass, mut places) = place_each(
-        rt, alloc, scope, turn, caller, bells, flight, pass, &mut lists, guests, places,
+        rt, alloc, scope, turn, bells, flight, pass, &mut lists, guests, places,
+    );
+    let (pass, stations, away) = station_each(
+        rt, alloc, scope, turn, bells, flight, few, &long, pass, &mut lists, stations, away,
     );
     let pass = watch(
         rt,
         turn,
-        caller,
         bells,
-        woken.as_mut_slice(),
+        away.as_slice(),
+        long.as_slice(),
+        rung.as_mut_slice(),
         pass,
         &mut lists,
         &mut places,
     );
-    let (pass, dones) = join_each(rt, turn, pass, places, dones);
+    let (pass, relieved) = relieve_each(rt, turn, bells, pass, stations, relieved);
+    put_each(relieved, &mut lists);
+    let (pass, dones) = join_each(rt, turn, bells, pass, places, dones);
     Landed { pass, lists, dones }
 }
 
@@ -105,21 +117,20 @@ fn fly_out<'a, C: Controller + Send, R: Threads + Wait + Sync>(
     rt: &R,
     alloc: Global,
     turn: &Turn<Board<'a>>,
-    caller: &Parker,
-    bells: &[Bell],
+    bells: &Bells,
     flight: &Flight,
     leaving: Leaving<'a, C>,
 ) -> Landed<'a, C>
-    requires { IsLeaving (lock_of turn.now) flight.now (length bells.now) leaving }
+    requires { IsLeaving (lock_of turn.now) flight.now leaving }
     ensures { HasLanded C.told flight.now leaving.entry result }
 {
     thread::scope(
         thread::scope_env(),
         rt,
         move |scope| -> Landed<'_, C>
-            requires { IsLeaving (lock_of turn.now) flight.now (length bells.now) leaving }
+            requires { IsLeaving (lock_of turn.now) flight.now leaving }
             ensures { HasLanded C.told flight.entry.now leaving.entry result }
-        { fly_in(rt, alloc, scope, turn, caller, bells, flight, leaving) },
+        { fly_in(rt, alloc, scope, turn, bells, flight, leaving) },
     )
 }
 
@@ -142,7 +153,7 @@ fn fly_behind<'a, C: Controller + Send, R: Threads + Wait + Sync>(
     rt: &R,
     alloc: Global,
     turn: Turn<Board<'a>>,
-    bells: &[Bell],
+    bells: &Bells,
     flight: &Flight,
     pass: Pass<Board<'a>>,
     room: Room<'a, C>,
@@ -153,7 +164,6 @@ fn fly_behind<'a, C: Controller + Send, R: Threads + Wait + Sync>(
         × (length flight.now.crews ≡ length a.program.nodes) }
     requires seen { pass_seen pass ≡ [] }
     requires room { HasRoom (length flight.now.crews) (vec_len room.guests) room }
-    requires bells { vec_len room.guests ≤ length bells.now }
     requires back { (guests.old.items ≡ []) × (vec_len room.guests ≤ vec_capacity guests.old) }
     ensures ground { pass_ground pass.entry ≡ Some (result.board.accepted, result.board.plan) }
     ensures flown { FlownBy result.board.accepted.program result.board.accepted.cert.jitter
@@ -163,13 +173,12 @@ fn fly_behind<'a, C: Controller + Send, R: Threads + Wait + Sync>(
     ensures lists { AreListsBack (length result.board.accepted.program.nodes) result.board.plan
         (length room.entry.guests.items) result.lists.items result.board.entries }
 {
-    let caller = Parker::new();
     let leaving = Leaving { pass, room };
     let Landed {
         pass,
         mut lists,
         dones,
-    } = fly_out(rt, alloc, &turn, &caller, bells, flight, leaving);
+    } = fly_out(rt, alloc, &turn, bells, flight, leaving);
     let board = close(rt, turn, pass);
     board.reveal_invariant();
     put_back(dones, &mut lists, guests);
@@ -177,9 +186,11 @@ fn fly_behind<'a, C: Controller + Send, R: Threads + Wait + Sync>(
 }
 
 /// Flies a newly opened board to the end of its flight. Each guest that the flight names drafts for
-/// its node, in a thread of its own where one can be made; the caller does all else, and never
-/// waits for a guest before it has to: time goes on while a guest is asked, as far as the jitter
-/// allows.
+/// its node, in a thread of its own where one can be made. So does the worker of each other node
+/// that is worth it: its body is long, or the firings of all of them are few. The caller does all
+/// else. It never waits for a guest before it has to: time goes on while a guest is asked, as far
+/// as the jitter allows. The nodes that no guest flies fire as soon as they are due and in declared
+/// order, whoever runs their code.
 ///
 /// All memory is taken before the first event. Where there is none, no guest was asked, and the
 /// board is dropped. It waits for the guests, and nobody promises that it returns.
@@ -206,18 +217,10 @@ pub fn fly<'a, C: Controller + Send, R: Threads + Wait + Sync>(
 {
     board.reveal_invariant();
     let flight = board.flight();
-    let mut room = room_for(alloc, board.typed(), flight.horizon(), guests.len())?;
-    let bells = bells_for(alloc, guests.len())?;
+    let p = board.typed();
+    let mut room = room_for(alloc, p, flight, guests.len())?;
+    let bells = Bells::new(alloc, p.nodes.len())?;
     let (turn, pass) = Turn::new(alloc, board)?;
     swap(guests, &mut room.guests);
-    Ok(fly_behind(
-        rt,
-        alloc,
-        turn,
-        bells.as_slice(),
-        flight,
-        pass,
-        room,
-        guests,
-    ))
+    Ok(fly_behind(rt, alloc, turn, &bells, flight, pass, room, guests))
 }

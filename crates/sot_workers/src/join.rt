@@ -13,16 +13,17 @@ ghost use Rattle.sot_workers.specs.Sent.{IsShiftOf, IsPlaced, IsDone, HasSeenWho
 use crate::lists::NodeList;
 use crate::place::{Done, Place};
 use sot_board::Board;
-use sot_node_worker::{Controller, Shift, take_turn};
+use sot_node_worker::{Bells, Controller, Shift, take_turn};
 use sot_turn::{Pass, Turn};
 use std::sync::Wait;
 use std::thread::Threads;
 
-// A shift takes turns until it has seen the end of the flight. One that came back unflown does all
-// of its work here.
-fn finish<'a, C: Controller, R: Wait>(
+/// A shift takes turns until it has seen the end of the flight. One that came back unflown does all
+/// of its work here.
+pub(crate) fn finish<'a, C: Controller, R: Wait>(
     rt: &R,
     turn: &Turn<Board<'a>>,
+    bells: &Bells,
     shift: Shift<'a, C>,
 ) -> Shift<'a, C>
     requires lock { pass_lock shift.pass ≡ lock_of turn.now }
@@ -36,7 +37,7 @@ fn finish<'a, C: Controller, R: Wait>(
         if shift.finished {
             return shift;
         }
-        shift = take_turn(rt, turn, shift);
+        shift = take_turn(rt, turn, bells, shift);
     }
     unreachable!()
 }
@@ -77,6 +78,7 @@ fn part<'a, C: Controller>(
 fn end<'a, C: Controller, R: Wait>(
     rt: &R,
     turn: &Turn<Board<'a>>,
+    bells: &Bells,
     pass: Pass<Board<'a>>,
     shift: Shift<'a, C>,
 ) -> (Pass<Board<'a>>, Done<C>)
@@ -92,13 +94,14 @@ fn end<'a, C: Controller, R: Wait>(
         → IsShiftOf (lock_of turn.now) a f number guest began → IsOnShift C.told began shift.entry
         → IsDone C.told a f whole number guest result.1 }
 {
-    let shift = finish(rt, turn, shift);
+    let shift = finish(rt, turn, bells, shift);
     part(turn, pass, shift)
 }
 
 fn join_one<'a, C: Controller, R: Threads + Wait>(
     rt: &R,
     turn: &Turn<Board<'a>>,
+    bells: &Bells,
     pass: Pass<Board<'a>>,
     place: Place<'a, C>,
 ) -> (Pass<Board<'a>>, Done<C>)
@@ -115,8 +118,8 @@ fn join_one<'a, C: Controller, R: Threads + Wait>(
 {
     match place {
         Place::Stays(guest) => (pass, Done { guest, list: None }),
-        Place::Out(child) => end(rt, turn, pass, child.join(rt)),
-        Place::Here(Some(shift)) => end(rt, turn, pass, shift),
+        Place::Out(child) => end(rt, turn, bells, pass, child.join(rt)),
+        Place::Here(Some(shift)) => end(rt, turn, bells, pass, shift),
         Place::Here(None) => unreachable!(),
     }
 }
@@ -125,6 +128,7 @@ fn join_one<'a, C: Controller, R: Threads + Wait>(
 pub(crate) fn join_each<'a, C: Controller, R: Threads + Wait>(
     rt: &R,
     turn: &Turn<Board<'a>>,
+    bells: &Bells,
     pass: Pass<Board<'a>>,
     places: Vec<Place<'a, C>>,
     mut dones: Vec<Done<C>>,
@@ -143,7 +147,7 @@ pub(crate) fn join_each<'a, C: Controller, R: Threads + Wait>(
 {
     let mut pass = pass;
     for place in places {
-        let (back, done) = join_one(rt, turn, pass, place);
+        let (back, done) = join_one(rt, turn, bells, pass, place);
         pass = back;
         dones.push_reserved(done);
     }

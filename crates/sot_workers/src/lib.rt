@@ -15,12 +15,16 @@ mod join;
 mod lists;
 mod own;
 mod place;
+mod relief;
 mod room;
+mod rule;
 mod seat;
 mod start;
+mod station;
 mod watch;
 mod whole;
 
 pub use crewed::{Flown, fly};
 pub use lists::NodeList;
+pub use rule::has_workers;
 pub use whole::fly_alone;

@@ -1,113 +1,198 @@
 //! What the caller does on a board while it has the turn.
 
-ghost use Rattle.std.specs.Prelude.{◌≡◌, ◌<◌, ◌↔◌, ℕ, List, length, true, IsTrue};
+ghost use Rattle.std.specs.Prelude.{◌≡◌, ◌<◌, ◌↔◌, ℕ, List, length, true, false, IsTrue};
+ghost use Rattle.std.specs.Prelude.{slice_index_or};
 ghost use Rattle.sot_turn.specs.Prefixes.{IsPrefix};
 ghost use Rattle.sot_world.specs.Configurations.{is_left};
 ghost use Rattle.sot_world.specs.HistoryEntry.{Logged};
 ghost use Rattle.sot_board.specs.Versions.{drafts_of};
-ghost use Rattle.sot_workers.specs.Flying.{IsOwn};
+ghost use Rattle.sot_board.specs.Calls.{MayTickNow};
+ghost use Rattle.sot_workers.specs.Flying.{IsMine};
 ghost use Rattle.sot_workers.specs.Instants.{IsSameInstant, GoesOn};
-ghost use Rattle.sot_workers.specs.Lists.{AreOwnLists, KeepsLists};
+ghost use Rattle.sot_workers.specs.Lists.{AreMine, KeepsLists};
 
 use crate::instant::{decide_all, fire, take_inputs};
 use crate::lists::NodeList;
 use sot_board::Board;
 use sot_flight::Flight;
-use sot_node_worker::stop;
+use sot_node_worker::{Bells, stop};
 use std::sync::Wait;
 
-// Whether no guest flies a node, so that the caller fires it.
-fn is_own(flight: &Flight, node: u32) -> bool
-    requires { node < length flight.now.crews }
-    ensures { IsTrue result ↔ IsOwn flight.now node }
+// Whether a node is noted to have a thread.
+fn is_away(away: &[bool], node: u32) -> bool
+    ensures { result ≡ slice_index_or away.now node false }
 {
-    flight.guest(node).is_none()
+    let place = node as usize;
+    if place < away.len() {
+        away[place]
+    } else {
+        false
+    }
+}
+
+// Whether no guest flies a node, and its worker has no thread, so that the caller fires it.
+fn is_mine(flight: &Flight, away: &[bool], node: u32) -> bool
+    requires { node < length flight.now.crews }
+    ensures { IsTrue result ↔ IsMine flight.now away.now node }
+{
+    flight.guest(node).is_none() && !is_away(away, node)
 }
 
 // A node that the caller fires does so, and its list gets the draft.
-fn fire_own<R: Wait>(rt: &R, board: &mut Board<'_>, lists: &mut Vec<NodeList>, node: u32)
-    requires lists { KeepsLists board.old lists.old.items }
-    requires own { IsOwn board.old.plan node }
+fn fire_own<R: Wait>(
+    rt: &R,
+    board: &mut Board<'_>,
+    away: &[bool],
+    lists: &mut Vec<NodeList>,
+    node: u32,
+)
+    requires lists { KeepsLists board.old away.now lists.old.items }
+    requires mine { IsMine board.old.plan away.now node }
     requires there { node < length board.old.accepted.program.nodes }
     requires left { is_left board.old.position.at node ≡ true }
     ensures same { IsSameInstant board.old board.new }
     ensures goes_on { IsPrefix board.old.entries board.new.entries }
-    ensures lists { KeepsLists board.new lists.new.items }
+    ensures lists { KeepsLists board.new away.now lists.new.items }
 {
     let receipt = fire(board, node);
     lists[node as usize].append(rt, receipt.draft);
 }
 
-// A node that the caller fires does so if it is left.
-fn fire_if_own<R: Wait>(rt: &R, board: &mut Board<'_>, lists: &mut Vec<NodeList>, node: u32)
-    requires lists { KeepsLists board.old lists.old.items }
+// A node that the caller fires does so if it is left. It answers whether the nodes behind it may
+// fire: no worker in a thread is to fire before them.
+fn fire_if_mine<R: Wait>(
+    rt: &R,
+    board: &mut Board<'_>,
+    away: &[bool],
+    lists: &mut Vec<NodeList>,
+    node: u32,
+) -> bool
+    requires lists { KeepsLists board.old away.now lists.old.items }
     requires there { node < length board.old.accepted.program.nodes }
     ensures same { IsSameInstant board.old board.new }
     ensures goes_on { IsPrefix board.old.entries board.new.entries }
-    ensures lists { KeepsLists board.new lists.new.items }
+    ensures lists { KeepsLists board.new away.now lists.new.items }
 {
     board.reveal_invariant();
-    if is_own(board.flight(), node) && board.due(node) {
-        fire_own(rt, board, lists, node);
+    if !board.due(node) {
+        return true;
     }
+    if !is_mine(board.flight(), away, node) {
+        return !is_away(away, node);
+    }
+    fire_own(rt, board, away, lists, node);
+    true
 }
 
-// The nodes that the caller fires and that are left do so, in declared order.
-fn fire_all_own<R: Wait>(rt: &R, board: &mut Board<'_>, lists: &mut Vec<NodeList>)
-    requires lists { KeepsLists board.old lists.old.items }
+// The same where the nodes before it let it, and else nothing.
+fn fire_in_order<R: Wait>(
+    rt: &R,
+    board: &mut Board<'_>,
+    away: &[bool],
+    lists: &mut Vec<NodeList>,
+    node: u32,
+    may: bool,
+) -> bool
+    requires lists { KeepsLists board.old away.now lists.old.items }
+    requires there { node < length board.old.accepted.program.nodes }
     ensures same { IsSameInstant board.old board.new }
     ensures goes_on { IsPrefix board.old.entries board.new.entries }
-    ensures lists { KeepsLists board.new lists.new.items }
+    ensures lists { KeepsLists board.new away.now lists.new.items }
+{
+    if !may {
+        return false;
+    }
+    fire_if_mine(rt, board, away, lists, node)
+}
+
+// The nodes that the caller fires and that are left do so, in declared order, up to one that a
+// worker in a thread is to fire.
+fn fire_all_mine<R: Wait>(rt: &R, board: &mut Board<'_>, away: &[bool], lists: &mut Vec<NodeList>)
+    requires lists { KeepsLists board.old away.now lists.old.items }
+    ensures same { IsSameInstant board.old board.new }
+    ensures goes_on { IsPrefix board.old.entries board.new.entries }
+    ensures lists { KeepsLists board.new away.now lists.new.items }
 {
     let count = board.typed().nodes.len() as u32;
+    let mut may = true;
     for node in 0..count {
-        fire_if_own(rt, board, lists, node);
+        may = fire_in_order(rt, board, away, lists, node, may);
     }
 }
 
 // All that the caller does in an instant: the inputs, then the decisions, then the firings.
-fn work_instant<R: Wait>(rt: &R, board: &mut Board<'_>, lists: &mut Vec<NodeList>)
-    requires lists { KeepsLists board.old lists.old.items }
+fn work_instant<R: Wait>(rt: &R, board: &mut Board<'_>, away: &[bool], lists: &mut Vec<NodeList>)
+    requires lists { KeepsLists board.old away.now lists.old.items }
     ensures same { IsSameInstant board.old board.new }
     ensures goes_on { IsPrefix board.old.entries board.new.entries }
-    ensures lists { KeepsLists board.new lists.new.items }
+    ensures lists { KeepsLists board.new away.now lists.new.items }
 {
     take_inputs(board);
     decide_all(board);
-    fire_all_own(rt, board, lists);
+    fire_all_mine(rt, board, away, lists);
 }
 
-/// All that the caller does until it has to wait for a guest: the instant, and the tick wherever it
-/// may come, and so on.
-pub(crate) fn work_on<R: Wait>(rt: &R, board: &mut Board<'_>, lists: &mut Vec<NodeList>)
-    requires lists { KeepsLists board.old lists.old.items }
+// Whether no tick has to wait for a node: it is not left, or a guest flies it and was asked for
+// this firing.
+fn is_asked(board: &Board<'_>, bells: &Bells, node: u32) -> bool
+    requires { node < length board.now.accepted.program.nodes }
+{
+    board.reveal_invariant();
+    !board.due(node)
+        || (board.flight().guest(node).is_some() && bells.asked(node) > board.fired(node) as usize)
+}
+
+// Whether a tick may come, and waits for no node.
+fn may_go_on(board: &Board<'_>, bells: &Bells) -> bool
+    ensures { IsTrue result → MayTickNow board.now.accepted.program
+        board.now.accepted.cert.jitter board.now.position }
+{
+    for node in 0..board.typed().nodes.len() as u32 {
+        if !is_asked(board, bells, node) {
+            return false;
+        }
+    }
+    board.may_tick()
+}
+
+/// All that the caller does until it has to wait for a worker: the instant, and the tick wherever
+/// it may come, and so on. Before a tick comes, each guest whose node is left is asked.
+pub(crate) fn work_on<R: Wait>(
+    rt: &R,
+    board: &mut Board<'_>,
+    bells: &Bells,
+    away: &[bool],
+    lists: &mut Vec<NodeList>,
+)
+    requires lists { KeepsLists board.old away.now lists.old.items }
     ensures goes_on { GoesOn board.old board.new }
-    ensures lists { KeepsLists board.new lists.new.items }
+    ensures lists { KeepsLists board.new away.now lists.new.items }
 {
     let horizon = board.flight().horizon();
-    work_instant(rt, board, lists);
-    'ticks: while board.time() < horizon && board.may_tick() {
+    work_instant(rt, board, away, lists);
+    'ticks: while board.time() < horizon && may_go_on(board, bells) {
         board.tick();
-        work_instant(rt, board, lists);
+        work_instant(rt, board, away, lists);
     }
 }
 
 // Whether a node that the caller fires has fired as often as its list is long.
-fn is_in_step(board: &Board<'_>, list: &NodeList, node: u32) -> bool
+fn is_in_step(board: &Board<'_>, away: &[bool], list: &NodeList, node: u32) -> bool
     requires { node < length board.now.accepted.program.nodes }
-    ensures { result ≡ true → IsOwn board.now.plan node
+    ensures { result ≡ true → IsMine board.now.plan away.now node
         → length (drafts_of node board.now.entries) ≡ length list.now.drafts.items }
 {
     board.reveal_invariant();
-    !is_own(board.flight(), node) || board.fired(node) as usize == list.drafts.len()
+    !is_mine(board.flight(), away, node) || board.fired(node) as usize == list.drafts.len()
 }
 
 /// Compares the lists with the board: where a node that the caller fires has fired other than by
 /// the caller, it waits without end.
-pub(crate) fn compare<R: Wait>(rt: &R, board: &Board<'_>, lists: &Vec<NodeList>)
+pub(crate) fn compare<R: Wait>(rt: &R, board: &Board<'_>, away: &[bool], lists: &Vec<NodeList>)
     ensures { (seen : List Logged) → IsPrefix seen board.now.entries
-        → AreOwnLists (length board.now.accepted.program.nodes) board.now.plan lists.now.items seen
-        → KeepsLists board.now lists.now.items }
+        → AreMine (length board.now.accepted.program.nodes) board.now.plan away.now lists.now.items
+        seen
+        → KeepsLists board.now away.now lists.now.items }
 {
     let count = board.typed().nodes.len();
     if lists.len() != count {
@@ -115,7 +200,7 @@ pub(crate) fn compare<R: Wait>(rt: &R, board: &Board<'_>, lists: &Vec<NodeList>)
     }
     board.reveal_invariant();
     for node in 0..count {
-        if !is_in_step(board, &lists[node], node as u32) {
+        if !is_in_step(board, away, &lists[node], node as u32) {
             stop(rt);
         }
     }

@@ -1,7 +1,9 @@
-//! Where a guest is while a flight is flown.
+//! Where a guest, and the worker of a node that no guest flies, is while a flight is flown.
 
 use crate::lists::NodeList;
+use sot_board::Board;
 use sot_node_worker::{Controller, Shift, Works};
+use sot_turn::Pass;
 use std::thread::PromisedHandle;
 
 /// A guest that no node names, or the shift with which it is to leave.
@@ -18,6 +20,15 @@ pub(crate) enum Place<'a, C: Controller> {
     Stays(C),
     Out(PromisedHandle<Shift<'a, C>, Works<'a, C>>),
     Here(Option<Shift<'a, C>>),
+}
+
+/// Who fires a node that no guest flies, as the worker of the node: the caller, or a shift that runs
+/// in a thread. Where one could not be started, the caller does, and the pass of the shift stays.
+#[derive(Drop)]
+pub(crate) enum Station<'a, C: Controller> {
+    Caller,
+    Refused(Pass<Board<'a>>),
+    Thread(PromisedHandle<Shift<'a, C>, Works<'a, C>>),
 }
 
 /// A guest that is back, with the list of the node that it has flown, if any.

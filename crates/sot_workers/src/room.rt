@@ -5,54 +5,51 @@ ghost use Rattle.sot_workers.specs.Lists.{AreEmpty};
 ghost use Rattle.sot_workers.specs.Rooms.{HasRoom};
 
 use crate::lists::{NodeList, no_lists};
-use crate::place::{Done, Place};
-use crate::start::Bell;
+use crate::place::{Done, Place, Station};
+use crate::rule::{are_few, long_each};
+use sot_flight::Flight;
 use sot_lang::Typed;
 use sot_node_worker::Controller;
 use std::alloc::{AllocError, Global};
-use std::sync::atomic::AtomicBool;
-use std::thread::Parker;
 
-/// The memory of a flight but for the lock and the bells: the lists, and room for the guests while
-/// they are out and when they come back.
+/// The memory of a flight but for the lock and the bells: the lists, which nodes are worth a
+/// thread, and room for workers and guests while they are out and when they come back.
 #[derive(Drop)]
 pub(crate) struct Room<'a, C: Controller> {
     pub(crate) lists: Vec<NodeList>,
-    pub(crate) woken: Vec<u32>,
+    pub(crate) rung: Vec<u32>,
+    pub(crate) few: bool,
+    pub(crate) long: Vec<bool>,
+    pub(crate) stations: Vec<Station<'a, C>>,
+    pub(crate) away: Vec<bool>,
+    pub(crate) relieved: Vec<Option<NodeList>>,
     pub(crate) places: Vec<Place<'a, C>>,
     pub(crate) dones: Vec<Done<C>>,
     pub(crate) guests: Vec<C>,
 }
 
-/// A bell for each guest.
-pub(crate) fn bells_for(alloc: Global, count: usize) -> Result<Vec<Bell>, AllocError>
-    ensures { IfOk result (λ bells. vec_len bells ≡ count) }
-{
-    let mut bells = Vec::with_capacity(alloc, count)?;
-    for _ in 0..count {
-        bells.push_reserved(Bell {
-            flag: AtomicBool::new(false),
-            wake: Parker::new(),
-        });
-    }
-    Ok(bells)
-}
-
-/// The memory of a flight up to the horizon with so many guests.
+/// The memory of a flight with so many guests.
 pub(crate) fn room_for<'a, C: Controller>(
     alloc: Global,
     p: &Typed,
-    horizon: u32,
+    flight: &Flight,
     count: usize,
 ) -> Result<Room<'a, C>, AllocError>
-    requires { horizon ≤ 100000 }
+    requires crews { length flight.now.crews ≡ length p.now.nodes }
+    requires horizon { flight.now.horizon ≤ 100000 }
     ensures room { IfOk result (λ room. HasRoom (length p.now.nodes) count room) }
     ensures guests { IfOk result (λ room. (room.guests.items ≡ [])
         × (count ≤ vec_capacity room.guests)) }
 {
+    let nodes = p.nodes.len();
     Ok(Room {
-        lists: no_lists(alloc, p, horizon)?,
-        woken: Vec::from_elem(alloc, 0, count)?,
+        lists: no_lists(alloc, p, flight.horizon())?,
+        rung: Vec::from_elem(alloc, 0, nodes)?,
+        few: are_few(p, flight),
+        long: long_each(alloc, p)?,
+        stations: Vec::with_capacity(alloc, nodes)?,
+        away: Vec::with_capacity(alloc, nodes)?,
+        relieved: Vec::with_capacity(alloc, nodes)?,
         places: Vec::with_capacity(alloc, count)?,
         dones: Vec::with_capacity(alloc, count)?,
         guests: Vec::with_capacity(alloc, count)?,

@@ -36,14 +36,23 @@ pub(crate) fn node_of(flight: &Flight, lists: &Vec<NodeList>, number: usize) -> 
     None
 }
 
-// The list of a node leaves its place, and another empty one comes there.
-fn take_list(alloc: Global, lists: &mut Vec<NodeList>, node: u32) -> Vec<Draft>
+/// The list of a node leaves its place, and another empty one comes there.
+pub(crate) fn take_list(alloc: Global, lists: &mut Vec<NodeList>, node: u32) -> Vec<Draft>
     requires lists { AreEmpty (length lists.old.items) lists.old.items }
     requires there { node < length lists.old.items }
     ensures lists { (count : ℕ) → AreEmpty count lists.old.items → AreEmpty count lists.new.items }
     ensures none { result.items ≡ [] }
 {
     replace(&mut lists[node as usize].drafts, Vec::new(alloc))
+}
+
+/// An empty list of a node comes back to its place.
+pub(crate) fn give_list(lists: &mut Vec<NodeList>, node: u32, drafts: Vec<Draft>)
+    requires there { node < length lists.old.items }
+    requires none { drafts.items ≡ [] }
+    ensures lists { (count : ℕ) → AreEmpty count lists.old.items → AreEmpty count lists.new.items }
+{
+    lists[node as usize].drafts = drafts;
 }
 
 /// The guest is given a pass and the list of its node, where it flies one.

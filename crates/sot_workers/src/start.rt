@@ -14,45 +14,36 @@ use crate::place::{Job, Place};
 use crate::seat::job_of;
 use sot_board::Board;
 use sot_flight::Flight;
-use sot_node_worker::{Controller, Shift, Works, work};
+use sot_node_worker::{Bells, Controller, Shift, Works, work};
 use sot_turn::{Pass, Turn};
 use std::alloc::Global;
 use std::snapshot::Snapshot;
 use std::sync::Wait;
-use std::sync::atomic::{AtomicBool, Ordering};
-use std::thread::{Parker, Scope, Threads};
+use std::thread::{Scope, Threads};
 
-/// What a worker that runs in a thread hears: whether it is not to begin, and that it is to look at
-/// the board again.
-#[derive(Drop)]
-pub(crate) struct Bell {
-    pub(crate) flag: AtomicBool,
-    pub(crate) wake: Parker,
-}
-
-// A shift is started, or stays here where no thread can be made for it.
-fn start<'s, 'a: 's, E, C: Controller + Send + 's, R: Threads + Wait + Sync>(
+/// A shift is started, or stays here where no thread can be made for it.
+pub(crate) fn start<'s, 'a: 's, E, C: Controller + Send + 's, R: Threads + Wait + Sync>(
     rt: &'s R,
     scope: &Scope<'s, E>,
     turn: &'s Turn<Board<'a>>,
-    caller: &'s Parker,
-    bell: &'s Bell,
+    bells: &'s Bells,
     shift: Shift<'a, C>,
 ) -> Place<'a, C>
     requires { IsReady (lock_of turn.now) shift }
     ensures { IsStarted C.told shift.entry result }
 {
+    let node = shift.node;
     let promise = Works(Snapshot::of(&shift));
     match scope.spawn_with(
         promise,
         move || -> Shift<'_, C>
             requires { IsReady (lock_of turn.now) shift }
             ensures { HasWorked C.told shift.entry result }
-        { work(rt, turn, &bell.flag, &bell.wake, caller, shift) },
+        { work(rt, turn, bells, shift) },
     ) {
         Ok(child) => Place::Out(child),
         Err(refused) => {
-            bell.flag.store(true, Ordering::SeqCst);
+            bells.refuse(node);
             Place::Here(Some((refused.value)()))
         }
     }
@@ -63,8 +54,7 @@ fn place<'s, 'a: 's, E, C: Controller + Send + 's, R: Threads + Wait + Sync>(
     rt: &'s R,
     scope: &Scope<'s, E>,
     turn: &'s Turn<Board<'a>>,
-    caller: &'s Parker,
-    bell: &'s Bell,
+    bells: &'s Bells,
     job: Job<'a, C>,
 ) -> Place<'a, C>
     requires { (a : Admitted) × (f : Plan) × (number : ℕ) × (guest : C)
@@ -75,7 +65,7 @@ fn place<'s, 'a: 's, E, C: Controller + Send + 's, R: Threads + Wait + Sync>(
 {
     match job {
         Job::Stays(guest) => Place::Stays(guest),
-        Job::Leaves(shift) => start(rt, scope, turn, caller, bell, shift),
+        Job::Leaves(shift) => start(rt, scope, turn, bells, shift),
     }
 }
 
@@ -86,8 +76,7 @@ pub(crate) fn place_each<'s, 'a: 's, E, C: Controller + Send + 's, R: Threads + 
     alloc: Global,
     scope: &Scope<'s, E>,
     turn: &'s Turn<Board<'a>>,
-    caller: &'s Parker,
-    bells: &'s [Bell],
+    bells: &'s Bells,
     flight: &Flight,
     pass: Pass<Board<'a>>,
     lists: &mut Vec<NodeList>,
@@ -100,7 +89,6 @@ pub(crate) fn place_each<'s, 'a: 's, E, C: Controller + Send + 's, R: Threads + 
     requires seen { pass_seen pass ≡ [] }
     requires lists { AreEmpty (length flight.now.crews) lists.old.items }
     requires room { (places.items ≡ []) × (vec_len guests ≤ vec_capacity places) }
-    requires bells { vec_len guests ≤ length bells.now }
     ensures lock { pass_lock result.0 ≡ pass_lock pass.entry }
     ensures ground { pass_ground result.0 ≡ pass_ground pass.entry }
     ensures seen { pass_seen result.0 ≡ [] }
@@ -113,7 +101,7 @@ pub(crate) fn place_each<'s, 'a: 's, E, C: Controller + Send + 's, R: Threads + 
         let number = places.len();
         let (back, job) = job_of(alloc, turn, flight, pass, lists, number, guest);
         pass = back;
-        places.push_reserved(place(rt, scope, turn, caller, &bells[number], job));
+        places.push_reserved(place(rt, scope, turn, bells, job));
     }
     (pass, places)
 }

@@ -8,37 +8,54 @@ ghost use Rattle.sot_turn.specs.Prefixes.{IsPrefix};
 ghost use Rattle.sot_turn.specs.Passes.{lock_of, pass_lock, pass_ground, pass_seen};
 ghost use Rattle.sot_board.specs.Flown.{FlownBy};
 ghost use Rattle.sot_workers.specs.Instants.{GoesOn};
-ghost use Rattle.sot_workers.specs.Lists.{AreOwnLists, KeepsLists};
+ghost use Rattle.sot_workers.specs.Lists.{AreMine, KeepsLists};
 ghost use Rattle.sot_workers.specs.Pairs.{EachFrom};
 ghost use Rattle.sot_workers.specs.Sent.{IsCallers, IsPlaced};
 
 use crate::lists::NodeList;
 use crate::own::{compare, work_on};
 use crate::place::Place;
-use crate::start::Bell;
 use sot_board::Board;
-use sot_node_worker::{Controller, take_turn};
+use sot_node_worker::{Bells, Controller, next_to_fire, take_turn};
 use sot_turn::{Pass, Turn};
 use std::sync::Wait;
-use std::thread::Parker;
 
-// Wakes the workers whose nodes are due, and all of them at the end of the flight. What was woken
-// for a firing is not woken for it again.
-fn wake_due(board: &Board<'_>, bells: &[Bell], woken: &mut [u32]) {
-    let flight = board.flight();
-    let finished = board.finished();
+// Whether the worker of a node, in a thread, is to be rung for: its node is left, a guest flies it
+// or its body is long, and it was not rung for this firing; or a guest flies it, and the flight is
+// at its end.
+fn is_to_ring(board: &Board<'_>, long: &[bool], rung: &mut [u32], node: u32, finished: bool) -> bool
+    requires { node < length board.now.accepted.program.nodes }
+{
     board.reveal_invariant();
+    let place = node as usize;
+    let is_long = place < long.len() && long[place];
+    let is_guest = board.flight().guest(node).is_some();
+    if finished {
+        return is_guest;
+    }
+    if !board.due(node) || !(is_long || is_guest) {
+        return false;
+    }
+    let next = board.fired(node).saturating_add(1);
+    if place >= rung.len() || rung[place] == next {
+        return false;
+    }
+    rung[place] = next;
+    true
+}
+
+// Rings for the workers of guests and of long bodies whose nodes are left, once a firing, for the
+// one whose node fires next, and at the end of the flight for all guests'. For a node of the
+// caller's own nobody hears it.
+fn ring_due(board: &Board<'_>, bells: &Bells, long: &[bool], rung: &mut [u32]) {
+    let finished = board.finished();
     for node in 0..board.typed().nodes.len() as u32 {
-        if let Some(guest) = flight.guest(node) {
-            let number = guest as usize;
-            let next = board.fired(node).saturating_add(1);
-            if number < bells.len() && number < woken.len() {
-                if finished || (board.due(node) && woken[number] != next) {
-                    woken[number] = next;
-                    bells[number].wake.unpark();
-                }
-            }
+        if is_to_ring(board, long, rung, node, finished) {
+            bells.ring(node);
         }
+    }
+    if let Some(node) = next_to_fire(board) {
+        bells.ring(node);
     }
 }
 
@@ -46,21 +63,23 @@ fn wake_due(board: &Board<'_>, bells: &[Bell], woken: &mut [u32]) {
 fn work_in_turn<R: Wait>(
     rt: &R,
     board: &mut Board<'_>,
+    bells: &Bells,
+    away: &[bool],
+    long: &[bool],
+    rung: &mut [u32],
     lists: &mut Vec<NodeList>,
-    bells: &[Bell],
-    woken: &mut [u32],
 ) -> bool
     requires { (seen : List Logged) × IsPrefix seen board.old.entries
-        × AreOwnLists (length board.old.accepted.program.nodes) board.old.plan
-        lists.old.items seen }
+        × AreMine (length board.old.accepted.program.nodes) board.old.plan
+        away.now lists.old.items seen }
     ensures goes_on { GoesOn board.old board.new }
-    ensures lists { KeepsLists board.new lists.new.items }
+    ensures lists { KeepsLists board.new away.now lists.new.items }
     ensures finished { result ≡ true → FlownBy board.new.accepted.program
         board.new.accepted.cert.jitter board.new.plan board.new.entries }
 {
-    compare(rt, board, lists);
-    work_on(rt, board, lists);
-    wake_due(board, bells, woken);
+    compare(rt, board, away, lists);
+    work_on(rt, board, bells, away, lists);
+    ring_due(board, bells, long, rung);
     board.reveal_invariant();
     board.finished()
 }
@@ -70,30 +89,33 @@ fn take_own_turn<'a, R: Wait>(
     rt: &R,
     turn: &Turn<Board<'a>>,
     pass: Pass<Board<'a>>,
+    bells: &Bells,
+    away: &[bool],
+    long: &[bool],
+    rung: &mut [u32],
     lists: &mut Vec<NodeList>,
-    bells: &[Bell],
-    woken: &mut [u32],
 ) -> (Pass<Board<'a>>, bool)
     requires lock { pass_lock pass ≡ lock_of turn.now }
     requires callers { (a : Admitted) × (f : Plan)
-        × IsCallers a f (pass_ground pass) (pass_seen pass) lists.old.items }
+        × IsCallers a f away.now (pass_ground pass) (pass_seen pass) lists.old.items }
     ensures lock { pass_lock result.0 ≡ pass_lock pass.entry }
     ensures ground { pass_ground result.0 ≡ pass_ground pass.entry }
     ensures callers { (a : Admitted) (f : Plan) → pass_ground pass.entry ≡ Some (a, f)
-        → IsCallers a f (pass_ground result.0) (pass_seen result.0) lists.new.items }
+        → IsCallers a f away.now (pass_ground result.0) (pass_seen result.0) lists.new.items }
     ensures finished { result.1 ≡ true → (a : Admitted) (f : Plan)
         → pass_ground pass.entry ≡ Some (a, f)
         → FlownBy a.program a.cert.jitter f (pass_seen result.0) }
 {
     let mut held = turn.take(rt, pass);
-    let finished = work_in_turn(rt, held.lend(), lists, bells, woken);
+    let finished = work_in_turn(rt, held.lend(), bells, away, long, rung, lists);
     (turn.give(held), finished)
 }
 
-// A shift that could not be started takes one turn. It answers whether there was one.
+// A guest's shift that could not be started takes one turn. It answers whether its node has fired.
 fn turn_here<'a, C: Controller, R: Wait>(
     rt: &R,
     turn: &Turn<Board<'a>>,
+    bells: &Bells,
     place: &mut Place<'a, C>,
 ) -> bool
     requires { (a : Admitted) × (f : Plan) × (number : ℕ) × (guest : C)
@@ -104,17 +126,21 @@ fn turn_here<'a, C: Controller, R: Wait>(
 {
     if let Place::Here(shift) = place {
         if let Some(now) = shift.take() {
-            *shift = Some(take_turn(rt, turn, now));
-            return true;
+            let before = now.drafts.len();
+            let later = take_turn(rt, turn, bells, now);
+            let fired = later.drafts.len() > before;
+            *shift = Some(later);
+            return fired;
         }
     }
     false
 }
 
-// Each shift that could not be started takes one turn. It answers whether there was one.
+// Each guest's shift that could not be started takes one turn. It answers whether a node has fired.
 fn turn_each<'a, C: Controller, R: Wait>(
     rt: &R,
     turn: &Turn<Board<'a>>,
+    bells: &Bells,
     places: &mut Vec<Place<'a, C>>,
 ) -> bool
     requires { (a : Admitted) × (f : Plan) × (guests : List C)
@@ -125,33 +151,35 @@ fn turn_each<'a, C: Controller, R: Wait>(
 {
     let mut any = false;
     for i in 0..places.len() {
-        if turn_here(rt, turn, &mut places[i]) {
+        if turn_here(rt, turn, bells, &mut places[i]) {
             any = true;
         }
     }
     any
 }
 
-/// Takes turns, and those of the shifts that could not be started, until the flight is at its end.
+/// Takes turns, and those of guests' shifts that could not be started, until the flight is at its
+/// end. Where none of these has fired, it parks until a worker in a thread rings.
 pub(crate) fn watch<'a, C: Controller, R: Wait>(
     rt: &R,
     turn: &Turn<Board<'a>>,
-    caller: &Parker,
-    bells: &[Bell],
-    woken: &mut [u32],
+    bells: &Bells,
+    away: &[bool],
+    long: &[bool],
+    rung: &mut [u32],
     pass: Pass<Board<'a>>,
     lists: &mut Vec<NodeList>,
     places: &mut Vec<Place<'a, C>>,
 ) -> Pass<Board<'a>>
     requires lock { pass_lock pass ≡ lock_of turn.now }
     requires callers { (a : Admitted) × (f : Plan)
-        × IsCallers a f (pass_ground pass) (pass_seen pass) lists.old.items }
+        × IsCallers a f away.now (pass_ground pass) (pass_seen pass) lists.old.items }
     requires places { (a : Admitted) × (f : Plan) × (guests : List C)
         × EachFrom (IsPlaced C.told (lock_of turn.now) a f) 0 guests places.old.items }
     ensures lock { pass_lock result ≡ pass_lock pass.entry }
     ensures ground { pass_ground result ≡ pass_ground pass.entry }
     ensures callers { (a : Admitted) (f : Plan) → pass_ground pass.entry ≡ Some (a, f)
-        → IsCallers a f (pass_ground result) (pass_seen result) lists.new.items }
+        → IsCallers a f away.now (pass_ground result) (pass_seen result) lists.new.items }
     ensures finished { (a : Admitted) (f : Plan) → pass_ground pass.entry ≡ Some (a, f)
         → FlownBy a.program a.cert.jitter f (pass_seen result) }
     ensures places { (a : Admitted) (f : Plan) (guests : List C)
@@ -160,13 +188,13 @@ pub(crate) fn watch<'a, C: Controller, R: Wait>(
 {
     let mut pass = pass;
     for _ in rt.forever() {
-        let (back, finished) = take_own_turn(rt, turn, pass, lists, bells, woken);
+        let (back, finished) = take_own_turn(rt, turn, pass, bells, away, long, rung, lists);
         pass = back;
         if finished {
             return pass;
         }
-        if !turn_each(rt, turn, places) {
-            caller.park(rt);
+        if !turn_each(rt, turn, bells, places) {
+            bells.park_caller(rt);
         }
     }
     unreachable!()

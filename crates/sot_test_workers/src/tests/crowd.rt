@@ -18,7 +18,7 @@ const NODES: u32 = 300;
 
 const GUESTS: u32 = 20;
 
-const HORIZON: u32 = 2;
+const HORIZON: u32 = 3;
 
 const FLIGHTS: usize = 100;
 

@@ -1,7 +1,7 @@
 //! The order in which a flight's entries come, and that nothing is late: traces of an independent
 //! program.
 
-use super::{alone, same, trace_of};
+use super::{alone, same, threads, trace_of};
 use crate::keeper::Keeper;
 use std::alloc::Global;
 use std::process::Abort;
@@ -143,7 +143,8 @@ fn mission(rt: &impl Abort, alloc: Global, front: &str, crew: &str, end: &str) -
     format!(in alloc; "{front}{crew}{end}").expect(rt, "memory")
 }
 
-// The mission is flown in this order without guests, and with one.
+// The mission is flown in this order by the caller alone, by a worker a node in threads, and with a
+// guest.
 fn flies_in_order<R: Abort + Threads + Wait + Sync>(
     rt: &R,
     alloc: Global,
@@ -153,6 +154,7 @@ fn flies_in_order<R: Abort + Threads + Wait + Sync>(
 ) {
     let text = mission(rt, alloc, front, SCRIPT, end);
     same(rt, "alone", alone(rt, alloc, text.as_str()).as_str(), said);
+    same(rt, "threads", threads(rt, alloc, text.as_str()).as_str(), said);
     let text = mission(rt, alloc, front, GUEST, end);
     let mut guests = Vec::new(alloc);
     guests

@@ -5,13 +5,13 @@ use Rattle.sot_commands.proofs.fly.fly_opened.Goals as goal
 
 pub fly_unaided-requires-clause-no_guests : goal.fly_unaided-requires-clause-no_guests
 fly_unaided-requires-clause-no_guests g c =
-    names_none c.args.board.accepted.program _ c.args.flight.now c.requires.fits (sym c.is_empty.ensures ∙ c.if-is_empty.true)
+    names_none c.args.board.accepted.program _ c.args.flight.now c.requires.fits (sym c.is_empty.ensures ∙ c.is_alone.ensures c.if-is_alone.true)
 
-pub returns-then-is_empty-clause-guests : goal.returns-then-is_empty-clause-guests
-returns-then-is_empty-clause-guests g c =
+pub returns-then-is_alone-clause-guests : goal.returns-then-is_alone-clause-guests
+returns-then-is_alone-clause-guests g c =
     let told = g.C.Controller.told in
     let a = c.args.board.accepted in
-    let none = names_none a.program _ c.args.flight.now c.requires.fits (sym c.is_empty.ensures ∙ c.if-is_empty.true) in
+    let none = names_none a.program _ c.args.flight.now c.requires.fits (sym c.is_empty.ensures ∙ c.is_alone.ensures c.if-is_alone.true) in
     stayed told c.args.telling c.fly_unaided.result _ _ c.args.guests.now (unnamed_same c.args.flight.now c.args.guests.now.items)
     (flew_alone told c.fly_unaided.result c.args.telling a.program a.cert.jitter c.args.flight.now c.args.guests.now.items none c.fly_unaided.ensures)
 

@@ -10,4 +10,5 @@ loop-crew-preserved c =
     let e = c.deref-crew-items.ensures.value in
     let below : i < length c.args.crews.now.items = omega (arith, c.loop-crew-test.true, ap length e) in
     let at = at_map crew_of c.args.crews.now.items i _ (read_at _ _ i c.crew-item.result e below c.crew-item.is) in
-    pushed_more crew_of c.loop-crew.found.items _ c.in_ok-copy_crew.field-0 _ i _ _ c.in_ok-push.ensures.items c.in_ok-copy_crew.ensures at c.loop-crew.invariant
+    pushed_more crew_of c.loop-crew.found.items _ c.in_ok-copy_crew.field-0 _ i _ _ c.in_ok-push.ensures.items c.in_ok-copy_crew.ensures at
+    c.loop-crew.invariant

@@ -9,4 +9,5 @@ loop-row-preserved g c =
     let e = c.deref-row-items.ensures.value in
     let below : i < length c.args.rows.now.items = omega (arith, c.loop-row-test.true, ap length e) in
     let at = at_map (λ r. r.items) c.args.rows.now.items i _ (read_at _ _ i c.row-item.result e below c.row-item.is) in
-    pushed_more (λ r. r.items) c.loop-row.found.items _ c.in_ok-copy_row.field-0 _ i _ _ c.in_ok-push.ensures.items c.in_ok-copy_row.ensures at c.loop-row.invariant
+    pushed_more (λ r. r.items) c.loop-row.found.items _ c.in_ok-copy_row.field-0 _ i _ _ c.in_ok-push.ensures.items c.in_ok-copy_row.ensures at
+    c.loop-row.invariant

@@ -10,4 +10,5 @@ loop-sway-preserved c =
     let e = c.deref-sway-items.ensures.value in
     let below : i < length c.args.sways.now.items = omega (arith, c.loop-sway-test.true, ap length e) in
     let at = at_map sway_of c.args.sways.now.items i _ (read_at _ _ i c.sway-item.result e below c.sway-item.is) in
-    pushed_more sway_of c.loop-sway.found.items _ c.in_ok-copy_sway.field-0 _ i _ _ c.in_ok-push.ensures.items c.in_ok-copy_sway.ensures at c.loop-sway.invariant
+    pushed_more sway_of c.loop-sway.found.items _ c.in_ok-copy_sway.field-0 _ i _ _ c.in_ok-push.ensures.items c.in_ok-copy_sway.ensures at
+    c.loop-sway.invariant

@@ -11,7 +11,9 @@ pub returns-then-input-time-clause-inputs : goal.returns-then-input-time-clause-
 returns-then-input-time-clause-inputs c =
     let given = c.args.given.now in
     let below : c.loop-place.place < length given.items = omega (arith, c.len-place-end.ensures, c.loop-place-test.true, given.ok.0) in
-    let at = at_map input_of given.items c.loop-place.place _ (slice_get_read given.items _ c.loop-place.place c.index-input.result.now refl below c.index-input.ensures) in
+    let at =
+    at_map input_of given.items c.loop-place.place _ (slice_get_read given.items _ c.loop-place.place c.index-input.result.now refl below
+    c.index-input.ensures) in
     let late : c.args.time < c.index-input.result.now.at = omega (arith, c.if-input-time.true) in
     early_done _ c.args.time c.loop-place.place _ _ (early_off c.args.time c.loop-place.place _ _ at late) c.loop-place.invariant.inputs
 
@@ -19,7 +21,9 @@ pub returns-then-input-time-clause-place : goal.returns-then-input-time-clause-p
 returns-then-input-time-clause-place c =
     let given = c.args.given.now in
     let below : c.loop-place.place < length given.items = omega (arith, c.len-place-end.ensures, c.loop-place-test.true, given.ok.0) in
-    let at = at_map input_of given.items c.loop-place.place _ (slice_get_read given.items _ c.loop-place.place c.index-input.result.now refl below c.index-input.ensures) in
+    let at =
+    at_map input_of given.items c.loop-place.place _ (slice_get_read given.items _ c.loop-place.place c.index-input.result.now refl below
+    c.index-input.ensures) in
     let late : c.args.time < c.index-input.result.now.at = omega (arith, c.if-input-time.true) in
     early_count_done c.args.time c.loop-place.place _ _ (early_off c.args.time c.loop-place.place _ _ at late) c.loop-place.invariant.place
 

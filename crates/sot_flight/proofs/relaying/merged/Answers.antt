@@ -1,4 +1,4 @@
-use Rattle.std.proofs.Common.{◌+◌, ◌≤◌, ◌++◌, ◌∷◌, [], length, map, drop, refl, ap, ◌∙◌, arith}
+use Rattle.std.proofs.Common.{◌+◌, ◌≤◌, ◌++◌, ◌∷◌, [], map, drop, refl, ap, ◌∙◌, arith}
 use Rattle.std.proofs.lemmas.Option.{slice_get_read}
 use Rattle.std.proofs.lemmas.List.{map-append}
 use Rattle.sot_lists.proofs.Places.{at_map}
@@ -30,7 +30,8 @@ loop-sent-preserved c =
     record {
       inputs =
           ap (λ l. l ++ with_sends c.args.topic c.args.delay (drop (k + 1) sends) (drop c.in_ok-place.place given)) pushed
-          ∙ sent_more c.args.topic c.args.delay (map input_of c.loop-sent.all.items) given sends k c.loop-sent.place c.in_ok-place.place (send_of sent) (input_of new) _
+          ∙ sent_more c.args.topic c.args.delay (map input_of c.loop-sent.all.items) given sends k c.loop-sent.place c.in_ok-place.place (send_of sent)
+          (input_of new) _
           c.requires.ordered at c.in_ok-place.ensures.place value c.loop-sent.invariant.inputs;
       bound = c.in_ok-place.ensures.bound;
     }

@@ -1,4 +1,4 @@
-use Rattle.std.proofs.Common.{◌+◌, ◌++◌, length, drop, ap, ◌∙◌, arith}
+use Rattle.std.proofs.Common.{◌+◌, ◌++◌, drop, ap, ◌∙◌}
 use Rattle.sot_flight.specs.Relayed.{drafted}
 use Rattle.sot_flight.proofs.Merging.{drafted_more}
 use Rattle.sot_flight.proofs.relaying.numbers_of.Goals as goal

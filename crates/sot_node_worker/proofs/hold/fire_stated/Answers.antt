@@ -1,30 +1,43 @@
-use Rattle.std.proofs.Common.{◌≡◌, ◌∙◌, ◌∷◌, ◌++◌, [], refl, sym, ap, subst}
-use Rattle.std.proofs.lemmas.List.{append-nil}
-use Rattle.sot_turn.specs.Prefixes.{behind}
-use Rattle.sot_turn.specs.Passes.{pass_seen, pass_added, held_added}
+use Rattle.std.proofs.Common.{◌≡◌, ◌∙◌, ◌∷◌, ◌++◌, [], Some, sym, ap, ap₂, subst}
+use Rattle.sot_turn.specs.Prefixes.{IsPrefix, behind}
+use Rattle.sot_turn.specs.Passes.{pass_seen, pass_ground, pass_added}
 use Rattle.sot_board.specs.Versions.{drafts_of}
-use Rattle.sot_board.specs.NodeSorts.{IsExternalNode}
 use Rattle.sot_node_worker.specs.Holds.{HasFired}
-use Rattle.sot_node_worker.proofs.Firing.{has_fired, noted}
+use Rattle.sot_node_worker.proofs.Firing.{has_fired, noted, node_there}
 use Rattle.sot_node_worker.proofs.hold.fire_stated.Goals as goal
 
+pub commit_stated-receipt-requires-clause-there : goal.commit_stated-receipt-requires-clause-there
+commit_stated-receipt-requires-clause-there g c =
+    let b = c.lend.result.now in
+    node_there (pass_ground c.args.pass) c.args.node b c.requires.there
+    (c.take_next-held.ensures.ground_now ∙ ap (λ x. Some (x.accepted, x.plan)) (sym c.lend.ensures.value))
+
 pub commit_stated-receipt-requires-clause-external : goal.commit_stated-receipt-requires-clause-external
-commit_stated-receipt-requires-clause-external g c = subst (λ b. IsExternalNode b.accepted.program c.args.node) (sym c.lend.ensures.value) c.requires.external
+commit_stated-receipt-requires-clause-external g c =
+    let b = c.lend.result.now in
+    c.requires.external b.accepted b.plan (c.take_next-held.ensures.ground_now ∙ ap (λ x. Some (x.accepted, x.plan)) (sym c.lend.ensures.value))
+
+pub commit_stated-receipt-requires-clause-no_guest : goal.commit_stated-receipt-requires-clause-no_guest
+commit_stated-receipt-requires-clause-no_guest g c =
+    let b = c.lend.result.now in
+    c.requires.no_guest b.accepted b.plan (c.take_next-held.ensures.ground_now ∙ ap (λ x. Some (x.accepted, x.plan)) (sym c.lend.ensures.value))
 
 pub returns-clause-fired : goal.returns-clause-fired
 returns-clause-fired g c =
     let n = c.args.node in
     let b = c.lend.result.now in
-    let later = c.commit_stated-receipt.new.board in
+    let known = pass_seen c.args.pass in
+    let value = c.lend.ensures.value in
     let draft = c.commit_stated-receipt.result.draft in
-    let before = held_added c.args.held in
-    let after = pass_added c.give.result in
-    let gave : after ≡ before ++ behind b.entries later.entries = c.give.ensures.added
-    ∙ ap (λ es. before ++ behind es later.entries) (c.requires.seen ∙ ap (λ x. x.entries) (sym c.lend.ensures.value)) in
-    let fired = has_fired b.entries b later n draft before after ([], sym (append-nil b.entries)) refl c.commit_stated-receipt.ensures gave in (
+    let on : IsPrefix known b.entries = subst (λ x. IsPrefix known x.entries) (sym value) c.take_next-held.ensures.goes_on in
+    let step : drafts_of n b.entries ≡ drafts_of n known = ap (λ x. drafts_of n x.entries) value ∙ c.take_next-held.ensures.in_step ∙ c.requires.drafts in
+    let gave : pass_added c.give.result ≡ pass_added c.args.pass ++ behind b.entries c.commit_stated-receipt.new.board.entries =
+    c.give.ensures.added ∙ ap₂ (λ l es. l ++ behind es c.commit_stated-receipt.new.board.entries) c.take_next-held.ensures.added
+    (c.take_next-held.ensures.seen ∙ ap (λ x. x.entries) (sym value)) in (
       draft,
-      subst (λ es. HasFired n draft es (pass_seen c.give.result) before after) (ap (λ x. x.entries) c.lend.ensures.value)
-          (subst (λ es. HasFired n draft b.entries es before after) (sym c.give.ensures.seen) fired),
+      subst (λ es. HasFired n draft known es (pass_added c.args.pass) (pass_added c.give.result)) (sym c.give.ensures.seen)
+          (has_fired known b c.commit_stated-receipt.new.board n draft (pass_added c.args.pass) (pass_added c.give.result) on step
+          c.commit_stated-receipt.ensures gave),
     )
 
 pub returns-clause-drafts : goal.returns-clause-drafts
@@ -32,6 +45,6 @@ returns-clause-drafts g c =
     let n = c.args.node in
     let b = c.lend.result.now in
     let draft = c.commit_stated-receipt.result.draft in
-    let was = ap (λ x. drafts_of n x.entries) c.lend.ensures.value ∙ c.requires.drafts in
+    let was = ap (λ x. drafts_of n x.entries) c.lend.ensures.value ∙ c.take_next-held.ensures.in_step in
     let now = noted b c.commit_stated-receipt.new.board n draft c.commit_stated-receipt.ensures in
     c.append.ensures ∙ ap (λ l. l ++ draft ∷ []) (sym was) ∙ sym now ∙ ap (drafts_of n) (sym c.give.ensures.seen)

@@ -13,7 +13,7 @@ use Rattle.sot_node_worker.specs.Turns.{TakesTurn}
 use Rattle.sot_board.specs.Versions.{drafts_of}
 use Rattle.sot_board.specs.Views.{viewed_node}
 use Rattle.sot_node_worker.specs.Shifts.{HasItsGuest}
-use Rattle.sot_board.specs.NodeSorts.{IsCodedNode}
+use Rattle.sot_board.specs.NodeSorts.{IsCodedNode, IsExternalNode}
 use Rattle.sot_node_worker.specs.Holds.{HasNode, IsDueView}
 use Rattle.sot_node_worker.specs.Turned.{IsQuiet}
 use Rattle.sot_board.proofs.Options.{none_there}
@@ -31,14 +31,39 @@ give-requires-in-Idle-clause-goes_on g c = ([], ap (λ b. b.entries) c.lend.ensu
 pub give-pass-requires-clause-goes_on : goal.give-pass-requires-clause-goes_on
 give-pass-requires-clause-goes_on g c = ([], ap (λ b. b.entries) c.lend.ensures.value ∙ sym c.take_in_step-held.ensures.seen ∙ sym (append-nil _))
 
+pub give-pass-requires-in-Runs-clause-goes_on : goal.give-pass-requires-in-Runs-clause-goes_on
+give-pass-requires-in-Runs-clause-goes_on g c = ([], ap (λ b. b.entries) c.lend.ensures.value ∙ sym c.take_in_step-held.ensures.seen ∙ sym (append-nil _))
+
 pub give-pass-requires-in-Asks-clause-goes_on : goal.give-pass-requires-in-Asks-clause-goes_on
 give-pass-requires-in-Asks-clause-goes_on g c = ([], ap (λ b. b.entries) c.lend.ensures.value ∙ sym c.take_in_step-held.ensures.seen ∙ sym (append-nil _))
+
+pub fire_stated-pass-requires-clause-there : goal.fire_stated-pass-requires-clause-there
+fire_stated-pass-requires-clause-there g c =
+    let at = c.requires.at_work in
+    (at.accepted, at.plan, c.give-pass.ensures.ground ∙ c.take_in_step-held.ensures.ground ∙ at.ground, at.there)
+
+pub fire_stated-pass-requires-clause-external : goal.fire_stated-pass-requires-clause-external
+fire_stated-pass-requires-clause-external g c = λ a f is.
+    let b = c.lend.result.now in
+    let held = c.take_in_step-held.ensures in
+    let known = c.give-pass.ensures.ground ∙ held.ground ∙ held.ground_now ∙ ap (λ x. Some (x.accepted, x.plan)) (sym c.lend.ensures.value) in
+    subst (λ (x : Admitted × Plan). IsExternalNode x.0.program c.args.shift.node) (same_Some (b.accepted, b.plan) (a, f) (sym known ∙ is))
+    c.in-Stated.ensures.sight.2
+
+pub fire_stated-pass-requires-clause-no_guest : goal.fire_stated-pass-requires-clause-no_guest
+fire_stated-pass-requires-clause-no_guest g c = λ a f is.
+    let at = c.requires.at_work in
+    let n = c.args.shift.node in
+    let none = none_there c.args.shift.guest (sym c.is_some.ensures ∙ c.in-Stated.ensures.sight.0) in
+    let has = subst (HasItsGuest at.plan n) none at.guest in
+    let known = c.give-pass.ensures.ground ∙ c.take_in_step-held.ensures.ground ∙ at.ground in
+    subst (λ (x : Admitted × Plan). (i : ℕ) → At x.1.crews n (Guest i) → ⊥) (same_Some (at.accepted, at.plan) (a, f) (sym known ∙ is)) has
 
 pub fire_code-pass-requires-clause-there : goal.fire_code-pass-requires-clause-there
 fire_code-pass-requires-clause-there g c =
     let at = c.requires.at_work in
-    let ground = c.give-pass.ensures.ground ∙ c.take_in_step-held.ensures.ground ∙ at.ground in
-    subst (HasNode (pass_ground c.give-pass.result)) (sym c.in-Runs.ensures.sight.3.view.node) (at.accepted, at.plan, ground, at.there)
+    let ground = c.give-pass-in-Runs.ensures.ground ∙ c.take_in_step-held.ensures.ground ∙ at.ground in
+    subst (HasNode (pass_ground c.give-pass-in-Runs.result)) (sym c.in-Runs.ensures.sight.3.view.node) (at.accepted, at.plan, ground, at.there)
 
 pub fire_code-pass-requires-clause-coded : goal.fire_code-pass-requires-clause-coded
 fire_code-pass-requires-clause-coded g c =
@@ -52,8 +77,8 @@ fire_code-pass-requires-clause-seen g c =
     let runs = c.in-Runs.ensures.sight in
     let held = c.take_in_step-held.ensures in
     let due = subst (λ n. IsDueView b n v) (sym runs.3.view.node) runs.3 in
-    let ground = c.give-pass.ensures.ground ∙ held.ground ∙ held.ground_now ∙ ap (λ x. Some (x.accepted, x.plan)) (sym c.lend.ensures.value) in
-    seen_program (pass_ground c.give-pass.result) (pass_seen c.give-pass.result) (viewed_node v) v b c.in-Runs.p.now due ground c.give-pass.ensures.seen runs.1
+    let ground = c.give-pass-in-Runs.ensures.ground ∙ held.ground ∙ held.ground_now ∙ ap (λ x. Some (x.accepted, x.plan)) (sym c.lend.ensures.value) in
+    seen_program (pass_ground c.give-pass-in-Runs.result) (pass_seen c.give-pass-in-Runs.result) (viewed_node v) v b c.in-Runs.p.now due ground c.give-pass-in-Runs.ensures.seen runs.1
 
 pub fire_guest-pass-requires-clause-there : goal.fire_guest-pass-requires-clause-there
 fire_guest-pass-requires-clause-there g c =
@@ -142,13 +167,16 @@ returns-in-Stated-clause-on_shift g c = λ began was.
     let on : IsPrefix known b.entries = subst (λ x. IsPrefix known x.entries) (sym value) held.goes_on in
     let ground = held.ground_now ∙ ap (λ x. Some (x.accepted, x.plan)) (sym value) in
     let same = ap (λ x. drafts_of old.node x.entries) value ∙ held.in_step ∙ c.requires.at_work.drafts in
+    let nothing = nothing_added (pass_added old.pass) _ _ _ b.entries c.give-pass.ensures.added held.added (held.seen ∙ ap (λ x. x.entries) (sym value)) in
+    let gave = c.give-pass.ensures in
     let fired = c.fire_stated-pass.ensures in
-    let once = fired_along _ _ _ _ b.entries _ _ (pass_added old.pass) _ refl refl held.added fired.fired.1 in
+    let once = fired_along _ _ _ _ b.entries _ _ (pass_added old.pass) _ refl gave.seen nothing fired.fired.1 in
     subst (λ s. IsOnShift g.C.Controller.told began s) (same_shift c.unfinished-in-Stated.result
     (record { node = old.node; finished = false; pass = c.fire_stated-pass.result; drafts = c.fire_stated-pass.new.drafts; guest = old.guest })
     c.unfinished-in-Stated.ensures)
-    (unasked_turn g.C.Controller.told began old _ was refl (fired.lock ∙ held.lock) (fired.ground ∙ held.ground) b.entries fired.fired.0
-    (same ∙ sym c.requires.at_work.drafts) once fired.drafts (none_there old.guest (sym c.is_some.ensures ∙ c.in-Stated.ensures.sight.0)) refl refl)
+    (unasked_turn g.C.Controller.told began old _ was refl (fired.lock ∙ gave.lock ∙ held.lock) (fired.ground ∙ gave.ground ∙ held.ground) b.entries
+    fired.fired.0 (same ∙ sym c.requires.at_work.drafts) once fired.drafts (none_there old.guest (sym c.is_some.ensures ∙ c.in-Stated.ensures.sight.0)) refl
+    refl)
 
 pub returns-in-Stated-clause-turn : goal.returns-in-Stated-clause-turn
 returns-in-Stated-clause-turn g c = λ a f is.
@@ -159,8 +187,10 @@ returns-in-Stated-clause-turn g c = λ a f is.
     let known = pass_seen old.pass in
     let on : IsPrefix known b.entries = subst (λ x. IsPrefix known x.entries) (sym value) held.goes_on in
     let ground = held.ground_now ∙ ap (λ x. Some (x.accepted, x.plan)) (sym value) in
+    let nothing = nothing_added (pass_added old.pass) _ _ _ b.entries c.give-pass.ensures.added held.added (held.seen ∙ ap (λ x. x.entries) (sym value)) in
+    let gave = c.give-pass.ensures in
     let fired = c.fire_stated-pass.ensures in
-    let once = fired_along _ _ _ _ b.entries _ _ (pass_added old.pass) _ refl refl held.added fired.fired.1 in
+    let once = fired_along _ _ _ _ b.entries _ _ (pass_added old.pass) _ refl gave.seen nothing fired.fired.1 in
     subst (λ s. TakesTurn a f old s) (same_shift c.unfinished-in-Stated.result
     (record { node = old.node; finished = false; pass = c.fire_stated-pass.result; drafts = c.fire_stated-pass.new.drafts; guest = old.guest })
     c.unfinished-in-Stated.ensures)
@@ -176,9 +206,9 @@ returns-in-Runs-clause-on_shift g c = λ began was.
     let on : IsPrefix known b.entries = subst (λ x. IsPrefix known x.entries) (sym value) held.goes_on in
     let ground = held.ground_now ∙ ap (λ x. Some (x.accepted, x.plan)) (sym value) in
     let same = ap (λ x. drafts_of old.node x.entries) value ∙ held.in_step ∙ c.requires.at_work.drafts in
-    let nothing = nothing_added (pass_added old.pass) _ _ _ b.entries c.give-pass.ensures.added held.added (held.seen ∙ ap (λ x. x.entries) (sym value)) in
+    let nothing = nothing_added (pass_added old.pass) _ _ _ b.entries c.give-pass-in-Runs.ensures.added held.added (held.seen ∙ ap (λ x. x.entries) (sym value)) in
     let runs = c.in-Runs.ensures.sight in
-    let gave = c.give-pass.ensures in
+    let gave = c.give-pass-in-Runs.ensures in
     let fired = c.fire_code-pass.ensures in
     let drafts = fired.drafts ∙ ap (λ n. drafts_of n (pass_seen c.fire_code-pass.result)) runs.3.view.node in
     let once = fired_along _ _ _ _ b.entries _ _ (pass_added old.pass) _ runs.3.view.node gave.seen nothing fired.fired.1 in
@@ -197,9 +227,9 @@ returns-in-Runs-clause-turn g c = λ a f is.
     let known = pass_seen old.pass in
     let on : IsPrefix known b.entries = subst (λ x. IsPrefix known x.entries) (sym value) held.goes_on in
     let ground = held.ground_now ∙ ap (λ x. Some (x.accepted, x.plan)) (sym value) in
-    let nothing = nothing_added (pass_added old.pass) _ _ _ b.entries c.give-pass.ensures.added held.added (held.seen ∙ ap (λ x. x.entries) (sym value)) in
+    let nothing = nothing_added (pass_added old.pass) _ _ _ b.entries c.give-pass-in-Runs.ensures.added held.added (held.seen ∙ ap (λ x. x.entries) (sym value)) in
     let runs = c.in-Runs.ensures.sight in
-    let gave = c.give-pass.ensures in
+    let gave = c.give-pass-in-Runs.ensures in
     let fired = c.fire_code-pass.ensures in
     let once = fired_along _ _ _ _ b.entries _ _ (pass_added old.pass) _ runs.3.view.node gave.seen nothing fired.fired.1 in
     subst (λ s. TakesTurn a f old s) (same_shift c.unfinished-in-Runs.result

@@ -9,5 +9,5 @@ loop-init g c = ready_on_shift g.C.Controller.told (lock_of c.args.turn.now) c.a
 pub loop-preserved : goal.loop-preserved
 loop-preserved g c = c.take_turn-shift.ensures.on_shift c.args.shift c.loop.invariant
 
-pub returns-then-load : goal.returns-then-load
-returns-then-load g c = record { on_shift = ready_on_shift g.C.Controller.told (lock_of c.args.turn.now) c.args.shift c.requires; ended = inl refl }
+pub returns-then-is_refused : goal.returns-then-is_refused
+returns-then-is_refused g c = record { on_shift = ready_on_shift g.C.Controller.told (lock_of c.args.turn.now) c.args.shift c.requires; ended = inl refl }

@@ -15,7 +15,7 @@ loop-node-preserved g c =
       | else-len-count w ↦ omega (arith, c.args.lists.now.ok.0)
     ] in
     let there : k < length lists = omega (arith, size) in
-    in_step_more b lists k here c.loop-node.invariant (slice_get_read lists (length lists) k here refl there c.index.ensures)
+    in_step_more b c.args.away.now lists k here c.loop-node.invariant (slice_get_read lists (length lists) k here refl there c.index.ensures)
     (elim c.if-not-is_in_step.branch [
       | then-not-is_in_step w ↦ absurd w.stop-then-not-is_in_step.ensures
       | else-not-is_in_step w ↦ c.is_in_step.ensures w.if-not-is_in_step.false
@@ -30,4 +30,4 @@ returns g c = λ seen on own.
       | then-len-count w ↦ absurd w.stop.ensures
       | else-len-count w ↦ omega (arith, c.args.lists.now.ok.0)
     ] in
-    compared b lists k seen c.loop-node.invariant size on own
+    compared b c.args.away.now lists k seen c.loop-node.invariant size on own

@@ -5,7 +5,7 @@ use Rattle.sot_workers.proofs.own.work_on.Goals as goal
 
 pub work_instant-requires-in-ticks : goal.work_instant-requires-in-ticks
 work_instant-requires-in-ticks g c = record {
-  lists = tick_keeps c.ticks.board c.tick.new.self _ c.tick.ensures.0 c.ticks.lists.items c.tick.ensures.1 c.ticks.invariant.lists;
+  lists = tick_keeps c.ticks.board c.tick.new.self _ c.tick.ensures.0 c.args.away.now c.ticks.lists.items c.tick.ensures.1 c.ticks.invariant.lists;
 }
 
 pub ticks-init : goal.ticks-init

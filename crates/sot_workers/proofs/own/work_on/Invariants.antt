@@ -6,7 +6,7 @@ use Rattle.sot_workers.proofs.own.work_on.Given as goal
 abbrev pub invariant-ticks : goal.invariant-ticks
 invariant-ticks g l = record {
   goes_on : GoesOn l.fn.board l.board;
-  lists : KeepsLists l.board l.lists.items;
+  lists : KeepsLists l.board l.away l.lists.items;
 }
 
 -- the ticks that are still to come

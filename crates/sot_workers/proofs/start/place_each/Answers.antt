@@ -26,10 +26,21 @@ job_of-back-requires-clause-ground g c =
     let known = c.requires.ground in
     (known.0, c.loop-guest.invariant.ground ∙ known.1, known.2)
 
-pub place-requires-after_bounds : goal.place-requires-after_bounds
-place-requires-after_bounds g c κs within =
-    let known = c.requires.ground in
-    (known.0, c.args.flight.now, c.len-number.result, c.in-Some.guest, c.job_of-back.ensures.job known.0 (c.loop-guest.invariant.ground ∙ known.1))
+pub place-requires : goal.place-requires
+place-requires g c =
+    let known = c.requires.ground in (
+      c.type_bounds.send-C,
+      (
+        c.type_bounds.sync-R,
+        (
+          known.0,
+          c.args.flight.now,
+          c.len-number.result,
+          c.in-Some.guest,
+          c.job_of-back.ensures.job known.0 (c.loop-guest.invariant.ground ∙ known.1),
+        ),
+      ),
+    )
 
 pub loop-guest-preserved : goal.loop-guest-preserved
 loop-guest-preserved g c =

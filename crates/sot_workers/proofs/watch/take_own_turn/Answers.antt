@@ -11,4 +11,4 @@ work_in_turn-finished-requires g c =
     let known = pass_seen c.args.pass in
     let is = c.take-held.ensures.ground ∙ ap (λ x. Some (x.accepted, x.plan)) (sym c.lend.ensures.value) in
     let on : IsPrefix known b.entries = subst (λ x. IsPrefix known x.entries) (sym c.lend.ensures.value) c.take-held.ensures.goes_on in
-    found own.0 own.1 (pass_ground c.args.pass) known c.args.lists.now.items b own.2 is on
+    found own.0 own.1 c.args.away.now (pass_ground c.args.pass) known c.args.lists.now.items b own.2 is on

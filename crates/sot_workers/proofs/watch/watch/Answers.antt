@@ -12,7 +12,7 @@ loop-init g c = record {
   ground = refl;
   callers = λ a f is.
       let p = c.requires.callers in
-      subst (λ (x : Admitted × Plan). IsCallers x.0 x.1 (pass_ground c.args.pass) (pass_seen c.args.pass) c.args.lists.now.items)
+      subst (λ (x : Admitted × Plan). IsCallers x.0 x.1 c.args.away.now (pass_ground c.args.pass) (pass_seen c.args.pass) c.args.lists.now.items)
       (same_Some (p.0, p.1) (a, f) (sym p.2.ground_is ∙ is)) p.2;
   places = λ a f guests each. each;
 }

@@ -1,7 +1,6 @@
 use Rattle.std.proofs.Common.{◌≡◌, ◌+◌, length, map, sym, ap, ap₂, ◌∙◌, subst, arith}
 use Rattle.sot_flight.specs.Counts.{events_of, numbers_of}
 use Rattle.sot_flight.specs.Fits.{FitsFlight}
-use Rattle.sot_flight.specs.FlightView.{input_of}
 use Rattle.sot_flight.specs.Relayed.{send_of, send_numbers, with_sends}
 use Rattle.sot_flight.proofs.Relayed.{relayed_fits, same_plan}
 use Rattle.sot_flight.proofs.flight.Flight.relay.Goals as goal

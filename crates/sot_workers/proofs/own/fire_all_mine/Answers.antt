@@ -1,7 +1,7 @@
 use Rattle.std.proofs.Common.{refl}
 use Rattle.sot_workers.proofs.Effects.{same_again}
 use Rattle.sot_workers.proofs.Histories.{goes_here, goes_further}
-use Rattle.sot_workers.proofs.own.fire_all_own.Goals as goal
+use Rattle.sot_workers.proofs.own.fire_all_mine.Goals as goal
 
 pub loop-node-init : goal.loop-node-init
 loop-node-init g c = record {
@@ -15,9 +15,9 @@ loop-node-preserved g c =
     let start = c.args.board.now in
     let old = c.loop-node.board in
     let inv = c.loop-node.invariant in
-    let did = c.fire_if_own.ensures in
+    let did = c.fire_in_order-may.ensures in
     record {
-      same = same_again start old c.fire_if_own.new.board inv.same did.same;
-      goes_on = goes_further start.entries old.entries c.fire_if_own.new.board.entries inv.goes_on did.goes_on;
+      same = same_again start old c.fire_in_order-may.new.board inv.same did.same;
+      goes_on = goes_further start.entries old.entries c.fire_in_order-may.new.board.entries inv.goes_on did.goes_on;
       lists = did.lists;
     }

@@ -1,0 +1,50 @@
+//! The order in which the nodes that no guest flies fire in an instant: as declared.
+
+use crate::bells::Bells;
+use sot_board::Board;
+
+// Whether a module is left to decide.
+fn is_undecided(board: &Board<'_>) -> bool {
+    for module in 0..board.typed().modules.len() as u32 {
+        if board.due_dm(module) {
+            return true;
+        }
+    }
+    false
+}
+
+/// The node that fires next: of those that are left and that no guest flies the first one. None
+/// before all inputs that are due have come and all modules have decided.
+pub fn next_to_fire(board: &Board<'_>) -> Option<u32> {
+    if board.due_input() || is_undecided(board) {
+        return None;
+    }
+    let flight = board.flight();
+    board.reveal_invariant();
+    for node in 0..board.typed().nodes.len() as u32 {
+        if board.due(node) && flight.guest(node).is_none() {
+            return Some(node);
+        }
+    }
+    None
+}
+
+/// Whether a node that no guest flies fires next.
+pub(crate) fn is_next(board: &Board<'_>, node: u32) -> bool {
+    next_to_fire(board) == Some(node)
+}
+
+/// Rings for who goes on after a firing: the worker of the node that fires next, where that has a
+/// thread, and else the caller.
+pub(crate) fn ring_next(board: &Board<'_>, bells: &Bells) {
+    match next_to_fire(board) {
+        Some(node) => {
+            if bells.is_out(node) {
+                bells.ring(node);
+            } else {
+                bells.ring_caller();
+            }
+        }
+        None => bells.ring_caller(),
+    }
+}

@@ -1,0 +1,14 @@
+use Rattle.std.proofs.Common.{◌∙◌, ⊎_elim, ap, sym}
+use Rattle.sot_workers.proofs.station.keep.Goals.{then-shift, else-shift}
+use Rattle.sot_workers.proofs.station.keep.Goals as goal
+
+pub give_list-requires-clause-none : goal.give_list-requires-clause-none
+give_list-requires-clause-none g c =
+    let w = c.requires.worked in
+    elim c.if-shift.branch [
+      | then-shift t ↦ absurd t.stop.ensures
+      | else-shift e ↦ ⊎_elim (λ same. ap (λ s. s.drafts.items) same ∙ w.2) (λ yes. let no = sym yes ∙ e.if-shift.false in absurd cc) w.1.ended
+    ]
+
+pub returns-clause-station : goal.returns-clause-station
+returns-clause-station g c = λ lock began ready worked. worked.on_shift.lock ∙ ready.lock_is

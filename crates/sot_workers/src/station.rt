@@ -1,0 +1,186 @@
+//! Starting the workers of nodes that no guest flies.
+
+ghost use Rattle.std.specs.Prelude.{◌≡◌, ◌<◌, ◌≤◌, ℕ, [], length, vec_capacity, true, Some};
+ghost use Rattle.sot_tube.specs.Admitted.{Admitted};
+ghost use Rattle.sot_turn.specs.Passes.{lock_of, pass_lock, pass_ground, pass_seen};
+ghost use Rattle.sot_node_worker.specs.Shifts.{IsReady, HasWorked};
+ghost use Rattle.sot_workers.specs.Flying.{IsOwn};
+ghost use Rattle.sot_workers.specs.Lists.{AreEmpty};
+ghost use Rattle.sot_workers.specs.Pairs.{EachFrom};
+ghost use Rattle.sot_workers.specs.Stations.{IsSent, IsAt, IsStationed, has_thread};
+
+use crate::lists::NodeList;
+use crate::place::{Place, Station};
+use crate::seat::{give_list, take_list};
+use crate::start::start;
+use sot_board::Board;
+use sot_flight::Flight;
+use sot_node_worker::{Bells, Controller, Shift, stop};
+use sot_turn::{Pass, Turn};
+use std::alloc::Global;
+use std::sync::Wait;
+use std::thread::{Scope, Threads};
+
+// A shift that could not be started gives its list back, and leaves its pass. One that worked all
+// the same keeps all, and the caller waits without end.
+fn keep<'a, C: Controller, R: Wait>(
+    rt: &R,
+    lists: &mut Vec<NodeList>,
+    shift: Shift<'a, C>,
+) -> Station<'a, C>
+    requires worked { (began : Shift C.row.Denot) × HasWorked C.told began shift
+        × (began.drafts.items ≡ []) }
+    requires there { shift.node < length lists.old.items }
+    ensures lists { (count : ℕ) → AreEmpty count lists.old.items → AreEmpty count lists.new.items }
+    ensures station { (lock : _) (began : _) → IsReady lock began
+        → HasWorked C.told began shift.entry → IsSent lock began result }
+{
+    if shift.finished {
+        stop(rt);
+    }
+    let Shift {
+        node,
+        finished: _,
+        pass,
+        drafts,
+        guest: _,
+    } = shift;
+    give_list(lists, node, drafts);
+    Station::Refused(pass)
+}
+
+// A shift is started in a thread of its own, or comes back.
+fn send<'s, 'a: 's, E, C: Controller + Send + 's, R: Threads + Wait + Sync>(
+    rt: &'s R,
+    scope: &Scope<'s, E>,
+    turn: &'s Turn<Board<'a>>,
+    bells: &'s Bells,
+    lists: &mut Vec<NodeList>,
+    shift: Shift<'a, C>,
+) -> Station<'a, C>
+    requires ready { IsReady (lock_of turn.now) shift }
+    requires there { shift.node < length lists.old.items }
+    ensures lists { (count : ℕ) → AreEmpty count lists.old.items → AreEmpty count lists.new.items }
+    ensures station { IsSent (lock_of turn.now) shift.entry result }
+{
+    let node = shift.node;
+    match start(rt, scope, turn, bells, shift) {
+        Place::Out(child) => {
+            bells.send_out(node);
+            Station::Thread(child)
+        }
+        Place::Here(Some(back)) => keep(rt, lists, back),
+        Place::Here(None) => unreachable!(),
+        Place::Stays(_) => unreachable!(),
+    }
+}
+
+// Whether a node is to have a worker in a thread: it is worth it, and no guest flies it.
+fn is_to_leave(flight: &Flight, node: u32, worth: bool) -> bool
+    requires { node < length flight.now.crews }
+    ensures { result ≡ true → IsOwn flight.now node }
+{
+    worth && flight.guest(node).is_none()
+}
+
+// The worker of a node is stationed.
+fn station_of<'s, 'a: 's, E, C: Controller + Send + 's, R: Threads + Wait + Sync>(
+    rt: &'s R,
+    alloc: Global,
+    scope: &Scope<'s, E>,
+    turn: &'s Turn<Board<'a>>,
+    bells: &'s Bells,
+    flight: &Flight,
+    pass: Pass<Board<'a>>,
+    lists: &mut Vec<NodeList>,
+    node: u32,
+    worth: bool,
+) -> (Pass<Board<'a>>, Station<'a, C>)
+    requires lock { pass_lock pass ≡ lock_of turn.now }
+    requires ground { (a : Admitted) × (pass_ground pass ≡ Some (a, flight.now))
+        × (length flight.now.crews ≡ length a.program.nodes) }
+    requires seen { pass_seen pass ≡ [] }
+    requires lists { AreEmpty (length flight.now.crews) lists.old.items }
+    requires there { node < length flight.now.crews }
+    ensures lock { pass_lock result.0 ≡ pass_lock pass.entry }
+    ensures ground { pass_ground result.0 ≡ pass_ground pass.entry }
+    ensures seen { pass_seen result.0 ≡ [] }
+    ensures lists { AreEmpty (length flight.now.crews) lists.new.items }
+    ensures station { (a : Admitted) → pass_ground pass.entry ≡ Some (a, flight.now)
+        → IsAt (lock_of turn.now) a flight.now node result.1 }
+{
+    if !is_to_leave(flight, node, worth) {
+        return (pass, Station::Caller);
+    }
+    let (pass, other) = turn.split(pass);
+    let shift = Shift {
+        node,
+        finished: false,
+        pass: other,
+        drafts: take_list(alloc, lists, node),
+        guest: None,
+    };
+    (pass, send(rt, scope, turn, bells, lists, shift))
+}
+
+// Whether the body of a node is noted to be long.
+fn is_long(long: &Vec<bool>, node: usize) -> bool {
+    node < long.len() && long[node]
+}
+
+// Whether the worker has a thread.
+fn is_thread<'a, C: Controller>(station: &Station<'a, C>) -> bool
+    ensures { result ≡ has_thread station.now }
+{
+    match station {
+        Station::Caller => false,
+        Station::Refused(_) => false,
+        Station::Thread(_) => true,
+    }
+}
+
+/// The workers of the nodes that no guest flies are stationed: each that is worth it in a thread of
+/// its own, where one can be made. With each it is noted whether it has one.
+pub(crate) fn station_each<'s, 'a: 's, E, C: Controller + Send + 's, R: Threads + Wait + Sync>(
+    rt: &'s R,
+    alloc: Global,
+    scope: &Scope<'s, E>,
+    turn: &'s Turn<Board<'a>>,
+    bells: &'s Bells,
+    flight: &Flight,
+    few: bool,
+    long: &Vec<bool>,
+    pass: Pass<Board<'a>>,
+    lists: &mut Vec<NodeList>,
+    mut stations: Vec<Station<'a, C>>,
+    mut away: Vec<bool>,
+) -> (Pass<Board<'a>>, Vec<Station<'a, C>>, Vec<bool>)
+    requires lock { pass_lock pass ≡ lock_of turn.now }
+    requires ground { (a : Admitted) × (pass_ground pass ≡ Some (a, flight.now))
+        × (length flight.now.crews ≡ length a.program.nodes) }
+    requires seen { pass_seen pass ≡ [] }
+    requires lists { AreEmpty (length flight.now.crews) lists.old.items }
+    requires stations { (stations.items ≡ []) × (length flight.now.crews ≤ vec_capacity stations) }
+    requires away { (away.items ≡ []) × (length flight.now.crews ≤ vec_capacity away) }
+    ensures lock { pass_lock result.0 ≡ pass_lock pass.entry }
+    ensures ground { pass_ground result.0 ≡ pass_ground pass.entry }
+    ensures seen { pass_seen result.0 ≡ [] }
+    ensures lists { AreEmpty (length flight.now.crews) lists.new.items }
+    ensures count { length result.1.items ≡ length flight.now.crews }
+    ensures stationed { (a : Admitted) → pass_ground pass.entry ≡ Some (a, flight.now)
+        → EachFrom (IsStationed (lock_of turn.now) a flight.now) 0 result.2.items result.1.items }
+{
+    let mut pass = pass;
+    let count = lists.len();
+    for place in 0..count {
+        let node = lists[place].node;
+        let is_worth = few || is_long(long, place);
+        let (back, station) = station_of(
+            rt, alloc, scope, turn, bells, flight, pass, lists, node, is_worth,
+        );
+        pass = back;
+        away.push_reserved(is_thread(&station));
+        stations.push_reserved(station);
+    }
+    (pass, stations, away)
+}
