@@ -157,7 +157,8 @@ module _ (b : Standing) (is : IsStanding b) (front : List (List ℕ)) (tell : Te
                 R,
                 flies,
                 handed_first b.plan e more handed,
-                sym (same_heads (line_of b.accepted.program e) line (map (line_of b.accepted.program) more ++ (last_line b.accepted.program hs ∷ [])) rest left).0,
+                sym (same_heads (line_of b.accepted.program e) line
+                    (map (line_of b.accepted.program) more ++ (last_line b.accepted.program hs ∷ [])) rest left).0,
               )
 
       -- where a test fails they do not

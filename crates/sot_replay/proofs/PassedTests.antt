@@ -70,7 +70,8 @@ module _ (p : Tables) (rules : MeetsTableRules p) (jitter : ℕ) (f : Plan) (P :
     takes_node n node at left whys.NodesLeft failed = failed
     takes_node n node at left whys.OutsideType failed = failed
 
-    takes : (e : Event) (r : Recorded) → Step p jitter P.at e Q.at → Tells P.at e r Q.at entry → (why : Why) → WorldRefuses p jitter P.at (spelled_of p entry) why
+    takes : (e : Event) (r : Recorded) → Step p jitter P.at e Q.at → Tells P.at e r Q.at entry
+        → (why : Why) → WorldRefuses p jitter P.at (spelled_of p entry) why
         → ⊥
     takes (Input topic value) r step is why failed = taken why (subst (λ x. WorldRefuses p jitter P.at (spelled_of p x) why) is failed)
       where
@@ -130,7 +131,8 @@ module _ (b : Standing) (is : IsStanding b) (entry : Logged) (Q : Position) (fli
   where
     pub entry_fits : Fits b.accepted.program (spelled_of b.accepted.program entry)
     entry_fits =
-        fits_of b.accepted.program is.kept.rules b.accepted.cert.jitter b.plan b.position is.kept.holds entry Q flies.event flies.recorded flies.step flies.tells
+        fits_of b.accepted.program is.kept.rules b.accepted.cert.jitter b.plan b.position is.kept.holds
+            entry Q flies.event flies.recorded flies.step flies.tells
 
     world_takes : (why : Why) → WorldRefuses b.accepted.program b.accepted.cert.jitter b.position.at (spelled_of b.accepted.program entry) why → ⊥
     world_takes =

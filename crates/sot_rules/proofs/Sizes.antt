@@ -46,7 +46,8 @@ module _ (size : Ident → ℕ) (limit : ℕ) where
               let f : nat_lt limit (limit - room + n) ≡ false = grind arith in let t : nat_le (limit - room) limit ≡ true = grind arith in cc
 
       -- the sum passes the limit with a size that has no room
-      pub overflows : (a b c : Option TypeFault) → room < n → least a (passes size limit (limit - room) (drop k names)) ≡ c → b ≡ least a (when true i.at TooMany)
+      pub overflows : (a b c : Option TypeFault) → room < n → least a (passes size limit (limit - room) (drop k names)) ≡ c
+          → b ≡ least a (when true i.at TooMany)
           → b ≡ c
       overflows a b c lt2 inv noted =
           let past : now_past limit (limit - room) n ≡ true = passes_now limit room n within lt2 in

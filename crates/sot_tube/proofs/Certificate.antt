@@ -38,7 +38,8 @@ within_map : {A : Type 0} (f : A → Side) (g : A → ℤ) (xs : List A) → ((x
 within_map f g [] h = tt
 within_map f g (x ∷ xs) h = (let i = h x (0, refl) in (i.0, i.1, within_map f g xs (λ y has. h y (suc has.0, has.1))))
 
-pub within_by : (f : ℕ → Side) (ks : List ℕ) (c : List ℤ) → length c ≡ length ks → ((i k : ℕ) (x : ℤ) → At ks i k → At c i x → IsIn (f k) x) → IsWithin (map f ks) c
+pub within_by : (f : ℕ → Side) (ks : List ℕ) (c : List ℤ) → length c ≡ length ks
+    → ((i k : ℕ) (x : ℤ) → At ks i k → At c i x → IsIn (f k) x) → IsWithin (map f ks) c
 within_by f [] [] e h = tt
 within_by f (k ∷ ks) (x ∷ c) e h = (let i = h 0 k x refl refl in (i.0, i.1, within_by f ks c (omega arith) (λ n l y a b. h (suc n) l y a b)))
 within_by f [] (x ∷ c) e h = absurd (omega arith)

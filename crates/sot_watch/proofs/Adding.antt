@@ -1,5 +1,6 @@
 -- One moment more.
-use Rattle.std.proofs.Common.{◌≡◌, ◌∙◌, ℕ, ◌+◌, ◌<◌, ◌≤◌, ◌↔◌, ⊎_elim, Bool, true, false, List, [], ◌∷◌, ◌++◌, length, map, refl, sym, ap, subst, arith, append_assoc}
+use Rattle.std.proofs.Common.{◌≡◌, ◌∙◌, ℕ, ◌+◌, ◌<◌, ◌≤◌, ◌↔◌, ⊎_elim, Bool, true, false, List, [], ◌∷◌, ◌++◌, length, map}
+use Rattle.std.proofs.Common.{refl, sym, ap, subst, arith, append_assoc}
 use Rattle.std.specs.Prelude.{drop, IsTrue, MatchBool}
 use Rattle.std.proofs.lemmas.Bool.{cases_lt}
 use Rattle.sot_lists.specs.Places.{At}
@@ -18,7 +19,8 @@ holds_more : (front : List Moment) (s : Moment) (f : Formula) → AlwaysHolds fr
 holds_more front s f always now i lt =
     ⊎_elim
     (λ (early : i < length front). (before front (s ∷ []) f i early).1 (always i early))
-    (λ (late : length front ≤ i). (let n = length_end front s in let same : length front ≡ i = omega (arith, lt, late, n) in subst (Holds (front ++ s ∷ []) f) same now))
+    (λ (late : length front ≤ i).
+        (let n = length_end front s in let same : length front ≡ i = omega (arith, lt, late, n) in subst (Holds (front ++ s ∷ []) f) same now))
     (cases_lt i (length front))
 
 longer : (xs rest : List Moment) (s : Moment) → length xs < length (xs ++ s ∷ rest)
@@ -45,7 +47,8 @@ by_answer true front rest s f iff always = holds_more front s f always (iff.0 re
 by_answer false front rest s f iff always = fails_here front rest s f always (λ h. absurd (let e = iff.1 h in cc))
 
 -- the moments from an entry on
-with_entry : (p : Tables) (s : Scene) (e : Logged) (es : List Logged) → map number_in (moments p s (e ∷ es)) ≡ seen_before s e ++ map number_in (moments p (after p e s) es)
+with_entry : (p : Tables) (s : Scene) (e : Logged) (es : List Logged) → map number_in (moments p s (e ∷ es))
+    ≡ seen_before s e ++ map number_in (moments p (after p e s) es)
 with_entry p s (TickAt time noise states) es = refl
 with_entry p s (InputAt time topic value) es = refl
 with_entry p s (FireAt time n draft enabled) es = refl

@@ -19,7 +19,8 @@ region_width [] n s each r = absurd r
 region_width (b ∷ bs) n s each (inl w) = within_length b s w ∙ each 0 b refl
 region_width (b ∷ bs) n s each (inr r) = region_width bs n s (λ i c at. each (suc i) c at) r
 
-pub kept_width : (a : Admitted) (C : Configuration) → IsKept a C → (k : ℕ) (plant : PlantInfo) → At a.program.plants k plant → length (point_of C k) ≡ length plant.states.items
+pub kept_width : (a : Admitted) (C : Configuration) → IsKept a C → (k : ℕ) (plant : PlantInfo)
+    → At a.program.plants k plant → length (point_of C k) ≡ length plant.states.items
 kept_width a C kept k plant at =
     let p = a.program in
     let rules = kept.rules in

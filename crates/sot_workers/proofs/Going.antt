@@ -36,7 +36,8 @@ tick_keeps old new noise entry away lists l own =
 
 -- of the first so many nodes, each that the caller fires has fired as often as its list is long
 abbrev pub AreInStep : Standing → List Bool → List NodeList → ℕ → Type 0
-AreInStep b away lists count = (n : ℕ) (list : NodeList) → n < count → At lists n list → IsMine b.plan away n → length (drafts_of n b.entries) ≡ length list.drafts.items
+AreInStep b away lists count = (n : ℕ) (list : NodeList)
+    → n < count → At lists n list → IsMine b.plan away n → length (drafts_of n b.entries) ≡ length list.drafts.items
 
 pub in_step_more :
     (b : Standing) (away : List Bool) (lists : List NodeList) (k : ℕ) (here : NodeList) → AreInStep b away lists k → At lists k here

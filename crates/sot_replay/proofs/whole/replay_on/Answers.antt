@@ -46,8 +46,8 @@ returns-in-None-clause-legal c =
     let two = subst (λ (f : Plan). (lines.to_come ≡ opening_lines b.accepted.program f ++ c.read_opening.new.lines.to_come)
     × (c.read_opening.new.lines.number ≡ lines.number + length (opening_lines b.accepted.program f))) c.flight.ensures one in
     let number : c.read_opening.new.lines.number ≡ 1 + length (opening_lines b.accepted.program b.plan) = omega (arith, two.1, c.requires.none_lent) in
-    all_is_trace b c.follow.new.board c.reveal_invariant.ensures c.requires.none lines.to_come c.read_opening.new.lines.to_come two.0 c.read_opening.new.lines.number
-    number c.follow.new.lines.to_come c.follow.new.lines.number c.in_ok-follow.ensures.ended c.in-None.ensures.0
+    all_is_trace b c.follow.new.board c.reveal_invariant.ensures c.requires.none lines.to_come c.read_opening.new.lines.to_come two.0
+    c.read_opening.new.lines.number number c.follow.new.lines.to_come c.follow.new.lines.number c.in_ok-follow.ensures.ended c.in-None.ensures.0
 
 pub returns-in-Some-clause-refused : goal.returns-in-Some-clause-refused
 returns-in-Some-clause-refused c =
