@@ -2,7 +2,8 @@
 use Rattle.std.proofs.Common.{refl}
 use Rattle.sot_rules.specs.FaultyPrograms.{unknown_name, second_name, other_scale, other_kind, empty_range, outside_start, own_input}
 use Rattle.sot_rules.specs.FaultyPrograms.{nine_fields, wide_range}
-use Rattle.sot_rules.specs.FaultyPrograms.{lone_plant, no_period, no_next, swapped_next, two_at_one, two_places, two_truths, bare_record, hidden_topic, own_name_seen}
+use Rattle.sot_rules.specs.FaultyPrograms.{lone_plant, no_period, no_next, swapped_next, two_at_one, two_places}
+use Rattle.sot_rules.specs.FaultyPrograms.{two_truths, bare_record, hidden_topic, own_name_seen}
 use Rattle.sot_rules.specs.FaultyPrograms.{many_statements, late_offset, wide_box}
 use Rattle.sot_rules.proofs.FirstFault.{first_is, listed}
 use Rattle.sot_rules.proofs.facts.first_faults_are_as_stated.Goals as goal
