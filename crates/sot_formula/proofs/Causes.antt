@@ -59,7 +59,8 @@ module _ (p : Tables) (rules : MeetsTableRules p) where
   unknown_stays (a_within w begin n comma f end) s e = unknown_stays f s e
   unknown_stays (a_comparison r by z) s e = compared_stays (by_of by) (lit_of z) s (found_of p r) e
 
-  compared_nothing : (r : Reference) (c : Comparison) (z : Lit) (s : Laid) (o : Option Found) → found_of p r ≡ o → NamesNothing p r → (compared o c z s).unknown ≡ true
+  compared_nothing : (r : Reference) (c : Comparison) (z : Lit) (s : Laid) (o : Option Found) → found_of p r ≡ o → NamesNothing p r
+      → (compared o c z s).unknown ≡ true
   compared_nothing r c z s None is h = refl
   compared_nothing r c z s (Some x) is h = absurd (h x.of x.scale (found_names p rules r x is))
 
@@ -165,7 +166,8 @@ module _ (p : Tables) (rules : MeetsTableRules p) where
   pub placed : (f : Phrase) (s : Laid) → IsPhrase f → ArePlaced s.whats → ArePlaced (laid p f s).whats
   placed (a_truth value t) s is all = put_placed s (whats.Truth value) all tt
   placed (a_single o w begin f end) s is all =
-      put_placed (laid p f s) (single_what o (place (laid p f s))) (placed f s is.2 all) (single_placed o (place (laid p f s)) (length (laid p f s).whats) (below f s))
+      put_placed (laid p f s) (single_what o (place (laid p f s))) (placed f s is.2 all)
+          (single_placed o (place (laid p f s)) (length (laid p f s).whats) (below f s))
   placed (a_double o w begin f comma g end) s is all =
       let t = laid p f s in
       let u = laid p g t in
@@ -200,7 +202,8 @@ module _ (p : Tables) (rules : MeetsTableRules p) where
   within_there : (n k : ℕ) → IsThereIn (whats.Within n k)
   within_there n k q by number e = absurd cc
 
-  compared_there : (r : Reference) (c : Comparison) (z : Lit) (s : Laid) (o : Option Found) → found_of p r ≡ o → AreThere p s.whats → AreThere p (compared o c z s).whats
+  compared_there : (r : Reference) (c : Comparison) (z : Lit) (s : Laid) (o : Option Found) → found_of p r ≡ o → AreThere p s.whats
+      → AreThere p (compared o c z s).whats
   compared_there r c z s None is all = put_there s (whats.Truth false) all (truth_there false)
   compared_there r c z s (Some x) is all =
       put_there s (whats.Compared x.of c z.mantissa) all

@@ -26,7 +26,8 @@ one_more a m n le =
     (cases_lt a m)
 
 one_most : (a n : ℕ) → is_below a n ≤ 1
-one_most a n = ⊎_elim (λ (lt : a < n). (let e = below_is a n lt in omega (arith, e))) (λ (ge : n ≤ a). (let e = above_is a n ge in omega (arith, e))) (cases_lt a n)
+one_most a n = ⊎_elim (λ (lt : a < n). (let e = below_is a n lt in omega (arith, e))) (λ (ge : n ≤ a). (let e = above_is a n ge in omega (arith, e)))
+    (cases_lt a n)
 
 -- how many topics begin below a place
 abbrev begun : ℕ → List TopicInfo → ℕ

@@ -1,5 +1,6 @@
 -- What is found is what is named.
-use Rattle.std.proofs.Common.{◌≡◌, ℕ, zero, suc, ◌+◌, ◌-◌, ◌≤◌, ◌<◌, true, false, List, [], ◌∷◌, Some, None, Option, take, drop, ◌⊎◌, inl, inr, ⊎_elim, refl, sym, ap, subst, ◌∙◌, arith}
+use Rattle.std.proofs.Common.{◌≡◌, ℕ, zero, suc, ◌+◌, ◌-◌, ◌≤◌, ◌<◌, true, false, List, [], ◌∷◌, Some}
+use Rattle.std.proofs.Common.{None, Option, take, drop, ◌⊎◌, inl, inr, ⊎_elim, refl, sym, ap, subst, ◌∙◌, arith}
 use Rattle.std.specs.Prelude.{slice_get}
 use Rattle.std.specs.List.{position}
 use Rattle.std.specs.Option.{option_map_or, option_map, option_and_then}
@@ -19,7 +20,8 @@ use Rattle.sot_formula.specs.declared.quantity.Quantity.{Quantity}
 use Rattle.sot_formula.specs.declared.quantity.Quantity.TheVariants as quantities
 use Rattle.sot_formula.specs.declared.finding.Found.{Found}
 use Rattle.sot_formula.specs.Meanings.{scale_of, IsPlain, IsField, IsVariable, IsModule}
-use Rattle.sot_formula.specs.Finding.{place_of, is_field, found_scalar, plain_of, plain_in, plain_named, scalars_of, field_in, field_named, found_state, variable_in}
+use Rattle.sot_formula.specs.Finding.{place_of, is_field, found_scalar, plain_of, plain_in}
+use Rattle.sot_formula.specs.Finding.{plain_named, scalars_of, field_in, field_named, found_state, variable_in}
 use Rattle.sot_formula.specs.Finding.{variable_named, or_else, part_named, module_named}
 use Rattle.sot_formula.proofs.Names.{topic_same, plant_same, topic_no_plant, module_same, found, found_at, found_first}
 
@@ -90,24 +92,28 @@ found_with q s = record { of = q; scale = s }
 
 module _ (p : Tables) (rules : MeetsTableRules p) where
   -- where a topic, and where a plant of this name is
-  topic_found : (word : List ℕ) (t : ℕ) (topic : TopicInfo) → At p.topics t topic → topic.name ≡ word → place_of (λ (x : TopicInfo). x.name) p.topics word ≡ Some t
+  topic_found : (word : List ℕ) (t : ℕ) (topic : TopicInfo) → At p.topics t topic → topic.name ≡ word
+      → place_of (λ (x : TopicInfo). x.name) p.topics word ≡ Some t
   topic_found word t topic at is =
       found (λ (y : TopicInfo). bytes_eq y.name word) p.topics t topic at (named_yes topic.name word is)
       (λ j y at_y ok. (let e = topic_same p rules j t y topic at_y at (named_is y.name word ok ∙ sym is) in omega (arith, e)))
 
-  plant_found : (word : List ℕ) (k : ℕ) (plant : PlantInfo) → At p.plants k plant → plant.name ≡ word → place_of (λ (x : PlantInfo). x.name) p.plants word ≡ Some k
+  plant_found : (word : List ℕ) (k : ℕ) (plant : PlantInfo) → At p.plants k plant → plant.name ≡ word
+      → place_of (λ (x : PlantInfo). x.name) p.plants word ≡ Some k
   plant_found word k plant at is =
       found (λ (y : PlantInfo). bytes_eq y.name word) p.plants k plant at (named_yes plant.name word is)
       (λ j y at_y ok. (let e = plant_same p rules j k y plant at_y at (named_is y.name word ok ∙ sym is) in omega (arith, e)))
 
   -- a scalar in a topic's range is the topic's
-  belongs : (t k : ℕ) (topic : TopicInfo) (info : ScalarInfo) → At p.topics t topic → At p.scalars k info → topic.first ≤ k → k < topic.first + topic.count → info.topic ≡ t
+  belongs : (t k : ℕ) (topic : TopicInfo) (info : ScalarInfo) → At p.topics t topic → At p.scalars k info → topic.first ≤ k
+      → k < topic.first + topic.count → info.topic ≡ t
   belongs t k topic info at here low high =
       let mine = rules.typed.topic_scalar t k topic at low high in
       ap (λ (i : ScalarInfo). i.topic) (at_same p.scalars k info mine.0 here mine.1) ∙ mine.2
 
   -- a scalar is in its topic's range
-  in_range : (k : ℕ) (info : ScalarInfo) (topic : TopicInfo) → At p.scalars k info → At p.topics info.topic topic → (topic.first ≤ k) × (k < topic.first + topic.count)
+  in_range : (k : ℕ) (info : ScalarInfo) (topic : TopicInfo) → At p.scalars k info → At p.topics info.topic topic → (topic.first ≤ k)
+      × (k < topic.first + topic.count)
   in_range k info topic here at =
       let own = rules.typed.scalar_topic k info here in
       let one : own.0 ≡ topic = at_same p.topics info.topic own.0 topic own.1 at in
@@ -178,7 +184,8 @@ module _ (p : Tables) (rules : MeetsTableRules p) where
         ap (λ (y : Found). y.of) (sym m.2),
       ))))
 
-  pub field_finds : (word f : List ℕ) (k scale : ℕ) → IsField p word f k scale → field_named p word f ≡ Some (record { of = quantities.Scalar k; scale = scale })
+  pub field_finds : (word f : List ℕ) (k scale : ℕ) → IsField p word f k scale
+      → field_named p word f ≡ Some (record { of = quantities.Scalar k; scale = scale })
   unfolding field_named field_in found_with
   field_finds word f k scale i =
       let range = in_range k i.info i.topic i.is i.topic_is in
@@ -201,7 +208,8 @@ module _ (p : Tables) (rules : MeetsTableRules p) where
       ∙ ap (λ m. Some (found_with (quantities.Scalar m) (scale_of i.info))) place
       ∙ ap (λ s. Some (found_with (quantities.Scalar k) s)) (sym i.scale_is)
 
-  pub variable_found : (word f : List ℕ) (x : Found) → variable_named p word f ≡ Some x → (k v : ℕ) × IsVariable p word f k v x.scale × (x.of ≡ quantities.State k v)
+  pub variable_found : (word f : List ℕ) (x : Found) → variable_named p word f ≡ Some x → (k v : ℕ) × IsVariable p word f k v x.scale
+      × (x.of ≡ quantities.State k v)
   unfolding variable_named variable_in
   variable_found word f x e =
       option_and_then_some _ (place_of (λ (y : PlantInfo). y.name) p.plants word) x e (λ k is next.
@@ -227,12 +235,14 @@ module _ (p : Tables) (rules : MeetsTableRules p) where
         ap (λ (y : Found). y.of) (sym m.2),
       ))))
 
-  pub variable_finds : (word f : List ℕ) (k v scale : ℕ) → IsVariable p word f k v scale → variable_named p word f ≡ Some (record { of = quantities.State k v; scale = scale })
+  pub variable_finds : (word f : List ℕ) (k v scale : ℕ) → IsVariable p word f k v scale
+      → variable_named p word f ≡ Some (record { of = quantities.State k v; scale = scale })
   unfolding variable_named variable_in found_with
   variable_finds word f k v scale i =
       let place = found (λ (y : StateInfo). bytes_eq y.name f) i.plant.states.items v i.state i.state_is (named_yes i.state.name f i.var_is)
       (λ j y at_y ok. i.first j y at_y (named_is y.name f ok)) in
-      ap (option_and_then (λ n. option_and_then (λ (y : PlantInfo). variable_in y.states.items n f) (slice_get p.plants n))) (plant_found word k i.plant i.is i.name_is)
+      ap (option_and_then (λ n. option_and_then (λ (y : PlantInfo). variable_in y.states.items n f) (slice_get p.plants n)))
+          (plant_found word k i.plant i.is i.name_is)
       ∙ ap (option_and_then (λ (y : PlantInfo). variable_in y.states.items k f)) i.is
       ∙ ap (option_and_then (λ n. option_map (found_state k n) (slice_get i.plant.states.items n))) place
       ∙ ap (option_map (found_state k v)) i.state_is
@@ -244,11 +254,13 @@ module _ (p : Tables) (rules : MeetsTableRules p) where
   part_found word f x e =
       ⊎_elim (λ a. inl (field_found word f x a)) (λ b. inr (variable_found word f x b)) (or_case (field_named p word f) (variable_named p word f) x e)
 
-  pub part_finds_field : (word f : List ℕ) (k scale : ℕ) → IsField p word f k scale → part_named p word f ≡ Some (record { of = quantities.Scalar k; scale = scale })
+  pub part_finds_field : (word f : List ℕ) (k scale : ℕ) → IsField p word f k scale
+      → part_named p word f ≡ Some (record { of = quantities.Scalar k; scale = scale })
   unfolding part_named
   part_finds_field word f k scale i = ap (λ o. or_else o (variable_named p word f)) (field_finds word f k scale i)
 
-  pub part_finds_variable : (word f : List ℕ) (k v scale : ℕ) → IsVariable p word f k v scale → part_named p word f ≡ Some (record { of = quantities.State k v; scale = scale })
+  pub part_finds_variable : (word f : List ℕ) (k v scale : ℕ) → IsVariable p word f k v scale
+      → part_named p word f ≡ Some (record { of = quantities.State k v; scale = scale })
   unfolding part_named
   part_finds_variable word f k v scale i =
       or_second (field_named p word f) (variable_named p word f) _
@@ -260,7 +272,8 @@ module _ (p : Tables) (rules : MeetsTableRules p) where
   module_found word x e =
       let m = map_some (λ n. record { of = quantities.Mode n; scale = 0 }) (place_of (λ (y : ModuleInfo). y.name) p.modules word) x e in
       let ok = found_at (λ (y : ModuleInfo). bytes_eq y.name word) p.modules m.0 m.1 in
-      (m.0, record { info = ok.0; is = ok.1; name_is = named_is ok.0.name word ok.2 }, ap (λ (y : Found). y.of) (sym m.2), ap (λ (y : Found). y.scale) (sym m.2))
+      (m.0, record { info = ok.0; is = ok.1; name_is = named_is ok.0.name word ok.2 }, ap (λ (y : Found). y.of) (sym m.2), ap (λ (y : Found). y.scale)
+          (sym m.2))
 
   pub module_finds : (word : List ℕ) (m : ℕ) → IsModule p word m → module_named p word ≡ Some (record { of = quantities.Mode m; scale = 0 })
   unfolding module_named

@@ -1,5 +1,6 @@
 -- Each phrase is read.
-use Rattle.std.proofs.Common.{◌≡◌, ℕ, zero, suc, ◌≤◌, ◌&&◌, ◌==◌, cond, List, ◌∷◌, Bool, true, false, pos, codes, Option, Ok, Err, refl, sym, ap, ap₂, ◌∙◌, arith}
+use Rattle.std.proofs.Common.{◌≡◌, ℕ, zero, suc, ◌≤◌, ◌&&◌, ◌==◌, cond, List, ◌∷◌, Bool, true}
+use Rattle.std.proofs.Common.{false, pos, codes, Option, Ok, Err, refl, sym, ap, ap₂, ◌∙◌, arith}
 use Rattle.std.specs.Prelude.{int_le}
 use Rattle.std.proofs.lemmas.Int.{clamps}
 use Rattle.std.proofs.lemmas.Bool.Decides.{nat_tests}
@@ -20,15 +21,19 @@ use Rattle.sot_formula.specs.declared.words.Single.TheVariants as singles
 use Rattle.sot_formula.specs.declared.words.Double.{Double}
 use Rattle.sot_formula.specs.declared.words.Double.TheVariants as doubles
 use Rattle.sot_formula.specs.declared.finding.Found.{Found}
-use Rattle.sot_formula.specs.Phrases.{Reference, a_mode, a_name, a_field, Literal, a_number, a_negative, Phrase, a_truth, a_single, a_double, a_within, a_comparison}
+use Rattle.sot_formula.specs.Phrases.{Reference, a_mode, a_name, a_field, Literal, a_number}
+use Rattle.sot_formula.specs.Phrases.{a_negative, Phrase, a_truth, a_single, a_double, a_within, a_comparison}
 use Rattle.sot_formula.specs.Phrases.{literal_spelled, spelled, IsReference, IsLiteral, IsComparing, AreTicks, IsPhrase, levels_of}
 use Rattle.sot_formula.specs.Words.{opening_of, opening_from, word_of, single_what, double_what}
 use Rattle.sot_formula.specs.Finding.{plain_named, part_named, module_named}
-use Rattle.sot_formula.specs.Reading.{Laid, place, put, compared, Reader, name_token, any_token, found_or_stuck, comparing_at, comparison_at, ticks_of, are_ticks, ticks_at}
-use Rattle.sot_formula.specs.Reading.{single_at, double_at, within_at, mode_at, mode_compared_at, part_at, named_at, called_at, behind_name_at, opened_at, formula_at}
+use Rattle.sot_formula.specs.Reading.{Laid, place, put, compared, Reader, name_token}
+use Rattle.sot_formula.specs.Reading.{any_token, found_or_stuck, comparing_at, comparison_at, ticks_of, are_ticks, ticks_at}
+use Rattle.sot_formula.specs.Reading.{single_at, double_at, within_at, mode_at, mode_compared_at}
+use Rattle.sot_formula.specs.Reading.{part_at, named_at, called_at, behind_name_at, opened_at, formula_at}
 use Rattle.sot_formula.proofs.Laying.{or_less, by_of, lit_of, laid, signs, some_sign, truth_opens, not_opens, and_opens, or_opens, name_opens}
 
-one_read : {A : Type 0} (test : Lexeme → Bool) (view : Lexeme → A) (t : Lexeme) (ts : List Lexeme) → test t ≡ true → one_token test view (t ∷ ts) ≡ Ok (view t, ts)
+one_read : {A : Type 0} (test : Lexeme → Bool) (view : Lexeme → A) (t : Lexeme) (ts : List Lexeme) → test t ≡ true
+    → one_token test view (t ∷ ts) ≡ Ok (view t, ts)
 one_read test view t ts is = ap (λ (b : Bool). cond b (ok (view t, ts)) (Err (stuck, t ∷ ts))) is
 
 sign_read : (w : List ℕ) (t : Lexeme) (ts : List Lexeme) → is_sign w t ≡ true → expect (is_sign w) (t ∷ ts) ≡ Ok (t.at, ts)
@@ -83,7 +88,8 @@ ticks_pass n is = ap₂ (λ a b. a && b) zero_is few_is
 ticks_read : (n : Lexeme) (ts : List Lexeme) → AreTicks n → ticks_at (n ∷ ts) ≡ Ok (ticks_of (literal n), ts)
 unfolding ticks_at
 ticks_read n ts is =
-    give (number_read n ts is.number) _ (Ok (ticks_of (literal n), ts)) (ap (λ (b : Bool). cond b (ok (ticks_of (literal n), ts)) (Err (stuck, ts))) (ticks_pass n is))
+    give (number_read n ts is.number) _ (Ok (ticks_of (literal n), ts))
+        (ap (λ (b : Bool). cond b (ok (ticks_of (literal n), ts)) (Err (stuck, ts))) (ticks_pass n is))
 
 -- a sign of a comparison begins neither a call nor a field
 no_call : (by : Lexeme) (c : Comparison) → IsSign (sign_text c) by → is_sign (codes "(") by ≡ false
@@ -106,7 +112,8 @@ abbrev pub EachPhrase : Tables → ℕ → Reader → Type 0
 EachPhrase p room inner = (f : Phrase) (s : Laid) (us : List Lexeme) → IsPhrase f → levels_of f ≤ room → inner s (spelled f us) ≡ Ok (laid p f s, us)
 
 module _ (p : Tables) (r : ℕ) (inner : Reader) (each : EachPhrase p r inner) where
-  single_full : (o : Single) (s : Laid) (begin : Lexeme) (f : Phrase) (end : Lexeme) (us : List Lexeme) → IsSign (codes "(") begin → IsPhrase f → IsSign (codes ")") end
+  single_full : (o : Single) (s : Laid) (begin : Lexeme) (f : Phrase) (end : Lexeme) (us : List Lexeme)
+      → IsSign (codes "(") begin → IsPhrase f → IsSign (codes ")") end
       → levels_of f ≤ r → single_at o inner s (begin ∷ spelled f (end ∷ us)) ≡ Ok (put (single_what o (place (laid p f s))) (laid p f s), us)
   unfolding single_at
   single_full o s begin f end us b is e low =
@@ -126,7 +133,8 @@ module _ (p : Tables) (r : ℕ) (inner : Reader) (each : EachPhrase p r inner) w
       (give (sign_read (codes ",") comma (spelled g (end ∷ us)) (comma_is comma c)) _ y
       (give (each g (laid p f s) (end ∷ us) is_g low_g) _ y (give (sign_read (codes ")") end us (close_is end e)) _ y refl))))
 
-  within_full : (s : Laid) (begin n comma : Lexeme) (f : Phrase) (end : Lexeme) (us : List Lexeme) → IsSign (codes "(") begin → AreTicks n → IsSign (codes ",") comma
+  within_full : (s : Laid) (begin n comma : Lexeme) (f : Phrase) (end : Lexeme) (us : List Lexeme)
+      → IsSign (codes "(") begin → AreTicks n → IsSign (codes ",") comma
       → IsPhrase f → IsSign (codes ")") end → levels_of f ≤ r
       → within_at inner s (begin ∷ n ∷ comma ∷ spelled f (end ∷ us)) ≡ Ok (put (whats.Within (ticks_of (literal n)) (place (laid p f s))) (laid p f s), us)
   unfolding within_at
@@ -138,7 +146,8 @@ module _ (p : Tables) (r : ℕ) (inner : Reader) (each : EachPhrase p r inner) w
       (give (each f s (end ∷ us) is low) _ y (give (sign_read (codes ")") end us (close_is end e)) _ y refl))))
 
   -- a word and a parenthesis
-  word_opens : (w begin : Lexeme) (s : Laid) (ts : List Lexeme) (y : Read Laid) → IsName w → IsSign (codes "(") begin → called_at p inner (word_of w.text) s (begin ∷ ts) ≡ y
+  word_opens : (w begin : Lexeme) (s : Laid) (ts : List Lexeme) (y : Read Laid) → IsName w
+      → IsSign (codes "(") begin → called_at p inner (word_of w.text) s (begin ∷ ts) ≡ y
       → opened_at p inner (opening_of w) s (w ∷ begin ∷ ts) ≡ y
   unfolding opened_at behind_name_at
   word_opens w begin s ts y name b e =
@@ -190,7 +199,8 @@ module _ (p : Tables) (r : ℕ) (inner : Reader) (each : EachPhrase p r inner) w
       _ y (comparison_full (part_named p n.text f.text) s by z us c l))
 
   comparison_phrase : (q : Reference) (by : Lexeme) (z : Literal) (s : Laid) (us : List Lexeme) → IsPhrase (a_comparison q by z)
-      → opened_at p inner (opening_from (first_of (spelled (a_comparison q by z) us))) s (spelled (a_comparison q by z) us) ≡ Ok (laid p (a_comparison q by z) s, us)
+      → opened_at p inner (opening_from (first_of (spelled (a_comparison q by z) us))) s (spelled (a_comparison q by z) us)
+          ≡ Ok (laid p (a_comparison q by z) s, us)
   comparison_phrase (a_mode w begin n end) by z s us is = mode_full w begin n end by z s us is.0 is.1 is.2
   comparison_phrase (a_name n) by z s us is = plain_full n by z s us is.0 is.1 is.2
   comparison_phrase (a_field n dot f) by z s us is = field_full n dot f by z s us is.0 is.1 is.2

@@ -17,7 +17,8 @@ use Rattle.sot_formula.specs.declared.words.Opening.TheVariants as openings
 use Rattle.sot_formula.specs.declared.words.Word.{Word}
 use Rattle.sot_formula.specs.declared.words.Word.TheVariants as words
 use Rattle.sot_formula.specs.declared.finding.Found.{Found}
-use Rattle.sot_formula.specs.Phrases.{Reference, a_mode, a_name, a_field, Literal, a_number, a_negative, Phrase, a_truth, a_single, a_double, a_within, a_comparison}
+use Rattle.sot_formula.specs.Phrases.{Reference, a_mode, a_name, a_field, Literal, a_number}
+use Rattle.sot_formula.specs.Phrases.{a_negative, Phrase, a_truth, a_single, a_double, a_within, a_comparison}
 use Rattle.sot_formula.specs.Phrases.{IsSingle, IsDouble, IsTruth, IsComparing}
 use Rattle.sot_formula.specs.Meanings.{sign_text}
 use Rattle.sot_formula.specs.Words.{comparing_of, opening_of, word_of, single_what, double_what}

@@ -1,5 +1,6 @@
 -- What the parts of a phrase mean.
-use Rattle.std.proofs.Common.{◌≡◌, ◌≢◌, ℕ, zero, suc, ◌-◌, ◌<◌, ◌==◌, ◌||◌, not, List, [], ◌∷◌, ◌++◌, Bool, true, false, length, Option, Some, None, inl, inr, ⊎_elim, ◌⊎◌}
+use Rattle.std.proofs.Common.{◌≡◌, ◌≢◌, ℕ, zero, suc, ◌-◌, ◌<◌, ◌==◌, ◌||◌, not, List, []}
+use Rattle.std.proofs.Common.{◌∷◌, ◌++◌, Bool, true, false, length, Option, Some, None, inl, inr, ⊎_elim, ◌⊎◌}
 use Rattle.std.proofs.Common.{refl, sym, ap, ap₂, subst, ◌∙◌, arith, append_assoc}
 use Rattle.std.proofs.lemmas.Bool.{false≢true, cases_eq}
 use Rattle.std.proofs.lemmas.Bool.Decides.{nat_tests}
@@ -19,7 +20,8 @@ use Rattle.sot_formula.specs.declared.words.Single.TheVariants as singles
 use Rattle.sot_formula.specs.declared.words.Double.TheVariants as doubles
 use Rattle.sot_formula.specs.declared.finding.Found.{Found}
 use Rattle.sot_formula.specs.Formulas.{Formula, Truth, Compared, Not, And, Or, Once, Since, Within}
-use Rattle.sot_formula.specs.Phrases.{Reference, a_mode, a_name, a_field, Literal, a_number, a_negative, Phrase, a_truth, a_single, a_double, a_within, a_comparison, IsPhrase}
+use Rattle.sot_formula.specs.Phrases.{Reference, a_mode, a_name, a_field, Literal, a_number, a_negative}
+use Rattle.sot_formula.specs.Phrases.{Phrase, a_truth, a_single, a_double, a_within, a_comparison, IsPhrase}
 use Rattle.sot_formula.specs.Meanings.{Names, mantissa, decimals, IsCompared, Means}
 use Rattle.sot_formula.specs.Parts.{IsPart, IsThere}
 use Rattle.sot_formula.specs.Reading.{Laid, place, put, compared, ticks_of}
@@ -75,7 +77,8 @@ pub extends : (p : Tables) (f : Phrase) (s : Laid) → Extends s (laid p f s)
 extends p (a_truth value t) s = put_extends s _ (whats.Truth value) refl
 extends p (a_single o w begin f end) s = then_extends s (laid p f s) _ (extends p f s) (put_extends (laid p f s) _ _ refl)
 extends p (a_double o w begin f comma g end) s =
-    then_extends s (laid p f s) _ (extends p f s) (then_extends (laid p f s) (laid p g (laid p f s)) _ (extends p g (laid p f s)) (put_extends (laid p g (laid p f s)) _ _ refl))
+    then_extends s (laid p f s) _ (extends p f s) (then_extends (laid p f s) (laid p g (laid p f s)) _ (extends p g (laid p f s))
+        (put_extends (laid p g (laid p f s)) _ _ refl))
 extends p (a_within w begin n comma f end) s = then_extends s (laid p f s) _ (extends p f s) (put_extends (laid p f s) _ _ refl)
 extends p (a_comparison r by z) s = compared_extends (found_of p r) (by_of by) (lit_of z) s
 
@@ -168,9 +171,11 @@ module _ (p : Tables) (rules : MeetsTableRules p) where
       let sign : by_of by ≡ c.0 = ap or_less (signs c.0 by c.1) in (
         Compared x.of c.0 (mantissa z),
         (x.of, c.0, subst (Names p r x.of) scale (found_names p rules r x e), c.1, refl),
-        subst (λ b. At (s.whats ++ whats.Compared x.of (by_of by) (lit_of z).mantissa ∷ []) (place (compared (Some x) (by_of by) (lit_of z) s)) (whats.Compared x.of b (mantissa z)))
+        subst (λ b. At (s.whats ++ whats.Compared x.of (by_of by) (lit_of z).mantissa ∷ []) (place (compared (Some x) (by_of by) (lit_of z) s))
+            (whats.Compared x.of b (mantissa z)))
             sign
-            (subst (λ m. At (s.whats ++ whats.Compared x.of (by_of by) (lit_of z).mantissa ∷ []) (place (compared (Some x) (by_of by) (lit_of z) s)) (whats.Compared x.of (by_of by) m))
+            (subst (λ m. At (s.whats ++ whats.Compared x.of (by_of by) (lit_of z).mantissa ∷ []) (place (compared (Some x) (by_of by) (lit_of z) s))
+                (whats.Compared x.of (by_of by) m))
             (lit_number z).0 (last_put s (whats.Compared x.of (by_of by) (lit_of z).mantissa))),
         known,
         flags.0,

@@ -1,5 +1,6 @@
 -- What is read is a phrase, and leaves its parts.
-use Rattle.std.proofs.Common.{◌≡◌, ℕ, zero, suc, ◌≤◌, ◌&&◌, ◌==◌, List, [], ◌∷◌, Bool, true, false, pos, codes, Option, Some, None, Ok, refl, sym, ap, ap₂, subst, ◌∙◌, arith}
+use Rattle.std.proofs.Common.{◌≡◌, ℕ, zero, suc, ◌≤◌, ◌&&◌, ◌==◌, List, [], ◌∷◌, Bool, true, false}
+use Rattle.std.proofs.Common.{pos, codes, Option, Some, None, Ok, refl, sym, ap, ap₂, subst, ◌∙◌, arith}
 use Rattle.std.specs.Prelude.{int_le}
 use Rattle.std.proofs.lemmas.Int.{clamps}
 use Rattle.std.proofs.lemmas.Bool.Decides.{nat_tests}
@@ -25,8 +26,10 @@ use Rattle.sot_formula.specs.Phrases.{a_mode, a_name, a_field, Literal, a_number
 use Rattle.sot_formula.specs.Phrases.{literal_spelled, spelled, IsWord, IsSingle, IsDouble, IsLiteral, IsComparing, AreTicks, IsPhrase, levels_of}
 use Rattle.sot_formula.specs.Words.{comparing_of, opening_of, opening_from, word_of, single_what, double_what}
 use Rattle.sot_formula.specs.Finding.{plain_named, part_named, module_named}
-use Rattle.sot_formula.specs.Reading.{Laid, place, put, compared, Reader, name_token, any_token, found_or_stuck, comparing_at, comparison_at, ticks_of, are_ticks, ticks_at}
-use Rattle.sot_formula.specs.Reading.{single_at, double_at, within_at, mode_at, mode_compared_at, part_at, named_at, called_at, behind_name_at, opened_at, formula_at}
+use Rattle.sot_formula.specs.Reading.{Laid, place, put, compared, Reader, name_token}
+use Rattle.sot_formula.specs.Reading.{any_token, found_or_stuck, comparing_at, comparison_at, ticks_of, are_ticks, ticks_at}
+use Rattle.sot_formula.specs.Reading.{single_at, double_at, within_at, mode_at, mode_compared_at}
+use Rattle.sot_formula.specs.Reading.{part_at, named_at, called_at, behind_name_at, opened_at, formula_at}
 use Rattle.sot_formula.proofs.Laying.{or_less, by_of, lit_of, laid, IsOpened, opening_tells, IsWordOf, word_tells, signed, compares}
 
 abbrev Got : Type 0
@@ -57,7 +60,8 @@ comparing_sound (t ∷ us) x e = (let r = from (comparing_of t) e in (t, ap (λ 
     from None e = absurd cc
     from (Some c) e = (let is = ok_is (c, us) x e in (ap (λ (z : Comparison × List Lexeme). Some z.0) is, ap (λ (z : Comparison × List Lexeme). z.1) is))
 
-literal_sound : (ts : List Lexeme) (x : Lit × List Lexeme) → literal_at ts ≡ Ok x → (z : Literal) × IsLiteral z × (ts ≡ literal_spelled z x.1) × (x.0 ≡ lit_of z)
+literal_sound : (ts : List Lexeme) (x : Lit × List Lexeme) → literal_at ts ≡ Ok x → (z : Literal) × IsLiteral z × (ts ≡ literal_spelled z x.1)
+    × (x.0 ≡ lit_of z)
 literal_sound [] x e = absurd cc
 literal_sound (t ∷ us) x e =
     chosen_by (is_sign (codes "-") t) (negative_at t us) (number_at (t ∷ us)) x _ e
@@ -253,12 +257,14 @@ module _ (p : Tables) (r : ℕ) (inner : Reader) (only : OnlyPhrases p r inner) 
       let h = comparison_sound (plain_named p n.text) s ts x read in
       (a_comparison (a_name n) h.0 h.1, (name, h.2, h.3), ap (λ vs. n ∷ vs) h.4, omega arith, h.5))
 
-  single_phrase : (o : Single) (w : Lexeme) (s : Laid) (ts : List Lexeme) (x : Got) → IsSingle o w → single_at o inner s ts ≡ Ok x → IsLaidBy p (suc r) s (w ∷ ts) x
+  single_phrase : (o : Single) (w : Lexeme) (s : Laid) (ts : List Lexeme) (x : Got) → IsSingle o w → single_at o inner s ts ≡ Ok x
+      → IsLaidBy p (suc r) s (w ∷ ts) x
   single_phrase o w s ts x is e =
       let h = single_sound o s ts x e in
       (a_single o w h.0 h.1 h.2, (is, h.3, h.4, h.5), ap (λ vs. w ∷ vs) h.6, omega (arith, h.7), h.8)
 
-  double_phrase : (o : Double) (w : Lexeme) (s : Laid) (ts : List Lexeme) (x : Got) → IsDouble o w → double_at o inner s ts ≡ Ok x → IsLaidBy p (suc r) s (w ∷ ts) x
+  double_phrase : (o : Double) (w : Lexeme) (s : Laid) (ts : List Lexeme) (x : Got) → IsDouble o w → double_at o inner s ts ≡ Ok x
+      → IsLaidBy p (suc r) s (w ∷ ts) x
   double_phrase o w s ts x is e =
       let h = double_sound o s ts x e in
       (a_double o w h.0 h.1 h.2 h.3 h.4, (is, h.5, h.6, h.7, h.8, h.9), ap (λ vs. w ∷ vs) h.10, omega (arith, clamps, h.11, h.12), h.13)
@@ -283,7 +289,8 @@ module _ (p : Tables) (r : ℕ) (inner : Reader) (only : OnlyPhrases p r inner) 
       (λ here read. called_sound (word_of w.text) w s ts x name (word_tells w.text) read)
       (λ other read. named_sound w s ts x name read)
 
-  opened_sound : (o : Opening) (t : Lexeme) (s : Laid) (ts : List Lexeme) (x : Got) → IsOpened t o → opened_at p inner o s (t ∷ ts) ≡ Ok x → IsLaidBy p (suc r) s (t ∷ ts) x
+  opened_sound : (o : Opening) (t : Lexeme) (s : Laid) (ts : List Lexeme) (x : Got) → IsOpened t o → opened_at p inner o s (t ∷ ts) ≡ Ok x
+      → IsLaidBy p (suc r) s (t ∷ ts) x
   unfolding opened_at
   opened_sound (openings.Truth value) t s ts x is e =
       let same = ok_is (put (whats.Truth value) s, ts) x e in

@@ -1,5 +1,6 @@
 -- What a whole text spells.
-use Rattle.std.proofs.Common.{◌≡◌, ℕ, ◌≤◌, ◌<◌, ◌-◌, List, [], ◌∷◌, true, false, Option, Some, None, Result, Ok, Err, length, ⊎_elim, refl, sym, ap, subst, ◌∙◌, arith}
+use Rattle.std.proofs.Common.{◌≡◌, ℕ, ◌≤◌, ◌<◌, ◌-◌, List, [], ◌∷◌, true, false, Option, Some}
+use Rattle.std.proofs.Common.{None, Result, Ok, Err, length, ⊎_elim, refl, sym, ap, subst, ◌∙◌, arith}
 use Rattle.std.specs.Prelude.{IfOk, IfErr}
 use Rattle.std.proofs.lemmas.Bool.{false≢true}
 use Rattle.std.proofs.lemmas.Option.{none-some}
@@ -26,11 +27,13 @@ use Rattle.sot_formula.proofs.Meant.{meant}
 use Rattle.sot_formula.proofs.Causes.{unknown_set, unknown_kept, differs_set, differs_kept, means_known, means_same, placed, there}
 
 -- the phrase that all of a text was read as
-pub text_read : (p : Tables) (bytes : List ℕ) (s : Laid) → length bytes ≤ 16777216 → IsAllRead p bytes s → (f : Phrase) × IsFormulaText bytes f × (s ≡ laid p f none_laid)
+pub text_read : (p : Tables) (bytes : List ℕ) (s : Laid) → length bytes ≤ 16777216 → IsAllRead p bytes s → (f : Phrase) × IsFormulaText bytes f
+    × (s ≡ laid p f none_laid)
 text_read p bytes s short read =
     let a : Ahead = ahead_from bytes 0 in
     let f = sound p 64 none_laid a.tokens (s, []) read.0 in
-    let end : a ≡ record { tokens = spelled f.0 []; end = None } = ap (λ ts. record { tokens = ts; end = a.end }) f.2 ∙ ap (λ o. record { tokens = spelled f.0 []; end = o }) read.1 in
+    let end : a ≡ record { tokens = spelled f.0 []; end = None } = ap (λ ts. record { tokens = ts; end = a.end }) f.2
+        ∙ ap (λ o. record { tokens = spelled f.0 []; end = o }) read.1 in
     (f.0, record { short = short; phrase = f.1; levels = f.3; tokens = subst (Comes bytes 0) end (ahead_comes bytes 0) }, f.4)
 
 -- each formula of a text is read
@@ -38,7 +41,8 @@ pub read_text : (p : Tables) (bytes : List ℕ) (f : Phrase) → IsFormulaText b
 read_text p bytes f text =
     let b : Ahead = record { tokens = spelled f []; end = None } in
     let same : ahead_from bytes 0 ≡ b = comes_unique bytes 0 (ahead_from bytes 0) b (ahead_comes bytes 0) text.tokens in
-    subst (λ (a : Ahead). (formula_at p 64 none_laid a.tokens ≡ Ok (laid p f none_laid, [])) × (a.end ≡ None)) (sym same) (full p 64 f none_laid [] text.phrase text.levels, refl)
+    subst (λ (a : Ahead). (formula_at p 64 none_laid a.tokens ≡ Ok (laid p f none_laid, [])) × (a.end ≡ None)) (sym same)
+        (full p 64 f none_laid [] text.phrase text.levels, refl)
 
 abbrev Got : Type 0
 Got = Laid × List Lexeme
@@ -57,20 +61,24 @@ not_ended_is [] None e none over = absurd cc
 not_ended_is [] (Some f) e none over = absurd cc
 not_ended_is (t ∷ ts) end e none over = absurd cc
 
-pub all_read : (p : Tables) (bytes : List ℕ) (before after : Ahead) (s : Laid) → before ≡ ahead_from bytes 0 → formula_at p 64 none_laid before.tokens ≡ Ok (s, after.tokens)
+pub all_read : (p : Tables) (bytes : List ℕ) (before after : Ahead) (s : Laid) → before ≡ ahead_from bytes 0
+    → formula_at p 64 none_laid before.tokens ≡ Ok (s, after.tokens)
     → after.end ≡ before.end → is_ended after ≡ true → IsAllRead p bytes s
 all_read p bytes before after s is read stays over =
     let e = ended_is after.tokens after.end over in
-    subst (λ (a : Ahead). (formula_at p 64 none_laid a.tokens ≡ Ok (s, [])) × (a.end ≡ None)) is (read ∙ ap (λ (ts : List Lexeme). Ok (s, ts)) e.0, sym stays ∙ e.1)
+    subst (λ (a : Ahead). (formula_at p 64 none_laid a.tokens ≡ Ok (s, [])) × (a.end ≡ None)) is
+        (read ∙ ap (λ (ts : List Lexeme). Ok (s, ts)) e.0, sym stays ∙ e.1)
 
-pub not_ended : (p : Tables) (bytes : List ℕ) (before after : Ahead) (s : Laid) → before ≡ ahead_from bytes 0 → formula_at p 64 none_laid before.tokens ≡ Ok (s, after.tokens)
+pub not_ended : (p : Tables) (bytes : List ℕ) (before after : Ahead) (s : Laid) → before ≡ ahead_from bytes 0
+    → formula_at p 64 none_laid before.tokens ≡ Ok (s, after.tokens)
     → after.end ≡ before.end → is_ended after ≡ false → IsNoFormula bytes
 not_ended p bytes before after s is read stays more = λ f text.
     let all = subst (λ (a : Ahead). (formula_at p 64 none_laid a.tokens ≡ Ok (laid p f none_laid, [])) × (a.end ≡ None)) (sym is) (read_text p bytes f text) in
     let same = ok_is (s, after.tokens) (laid p f none_laid, []) (sym read ∙ all.0) in
     not_ended_is after.tokens after.end more (ap (λ (x : Got). x.1) same) (stays ∙ all.1)
 
-pub none_read : (p : Tables) (bytes : List ℕ) (before : Ahead) (f : Fault × List Lexeme) → before ≡ ahead_from bytes 0 → formula_at p 64 none_laid before.tokens ≡ Err f → IsNoFormula bytes
+pub none_read : (p : Tables) (bytes : List ℕ) (before : Ahead) (f : Fault × List Lexeme) → before ≡ ahead_from bytes 0
+    → formula_at p 64 none_laid before.tokens ≡ Err f → IsNoFormula bytes
 none_read p bytes before f is read = λ g text.
     let all = subst (λ (a : Ahead). (formula_at p 64 none_laid a.tokens ≡ Ok (laid p g none_laid, [])) × (a.end ≡ None)) (sym is) (read_text p bytes g text) in
     (let e = sym read ∙ all.0 in absurd cc)
@@ -126,7 +134,8 @@ module _ (p : Tables) (rules : MeetsTableRules p) (bytes : List ℕ) (short : le
   ok_reads items s (Ok v) read h = judged_reads s (items v) read h.0 h.1 h.2
   ok_reads items s (Err e) read h = tt
 
-  pub err_refuses : {V : Type 0} (s : Laid) (r : Result V MonitorFail) → IsAllRead p bytes s → IfErr r (λ fail. RefusesParts s fail) → IfErr r (λ fail. Refuses p bytes fail)
+  pub err_refuses : {V : Type 0} (s : Laid) (r : Result V MonitorFail) → IsAllRead p bytes s → IfErr r (λ fail. RefusesParts s fail)
+      → IfErr r (λ fail. Refuses p bytes fail)
   err_refuses s (Ok v) read h = tt
   err_refuses s (Err fails.Form) read h = absurd h
   err_refuses s (Err fails.Unknown) read h = judged_unknown s read h
@@ -136,7 +145,8 @@ module _ (p : Tables) (rules : MeetsTableRules p) (bytes : List ℕ) (short : le
 -- the causes exclude each other
 pub causes_exclude : CausesExcludeEachOther
 causes_exclude p bytes f g rules text_f text_g =
-    let same : laid p g none_laid ≡ laid p f none_laid = one_laid p bytes (laid p g none_laid) (laid p f none_laid) (read_text p bytes g text_g) (read_text p bytes f text_f) in
+    let same : laid p g none_laid ≡ laid p f none_laid = one_laid p bytes (laid p g none_laid) (laid p f none_laid) (read_text p bytes g text_g)
+        (read_text p bytes f text_f) in
     record {
       known = λ x m h.
           ⊎_elim (λ no'. false≢true no') (means_known p rules f x m)

@@ -50,7 +50,8 @@ module _ (m n : Tracked) (s : Moment) (whats : n.whats ≡ m.whats) (added : n.a
       (λ e. is.1 (e ∙ same), λ h. is.0 h ∙ sym same)
 
 -- a step over equal lists
-pub moved_steps : (ws vs : List What) (olds now' new : List ℕ) (k n : ℕ) (s : Moment) → ws ≡ vs → olds ≡ now' → k ≡ n → StepsOn ws olds new k s → StepsOn vs now' new n s
+pub moved_steps : (ws vs : List What) (olds now' new : List ℕ) (k n : ℕ) (s : Moment) → ws ≡ vs → olds ≡ now' → k ≡ n → StepsOn ws olds new k s
+    → StepsOn vs now' new n s
 moved_steps ws vs olds now' new k n s a b e steps =
     subst (λ i. StepsOn vs now' new i s) e (subst (λ xs. StepsOn vs xs new k s) b (subst (λ us. StepsOn us olds new k s) a steps))
 

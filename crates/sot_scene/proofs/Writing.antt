@@ -19,12 +19,14 @@ head_of d (x ∷ xs) zero y ys e = (cc, cc)
 head_of d (x ∷ xs) (suc k) y ys e = head_of d xs k y ys e
 
 -- a plant's point, and the rest behind it
-pub cut_step : (plants : List PlantInfo) (states rest : List ℤ) (k : ℕ) (plant : PlantInfo) → At plants k plant → drop k (points_in plants states) ≡ points_in (drop k plants) rest
+pub cut_step : (plants : List PlantInfo) (states rest : List ℤ) (k : ℕ) (plant : PlantInfo) → At plants k plant
+    → drop k (points_in plants states) ≡ points_in (drop k plants) rest
     → (slice_index_or (points_in plants states) k [] ≡ take (length plant.states.items) rest)
     × (drop (k + 1) (points_in plants states) ≡ points_in (drop (k + 1) plants) (drop (length plant.states.items) rest))
 cut_step plants states rest k plant at same =
     let e : suc k ≡ k + 1 = omega arith in
-    let parts = head_of [] (points_in plants states) k (take (length plant.states.items) rest) (points_in (drop (k + 1) plants) (drop (length plant.states.items) rest))
+    let parts = head_of [] (points_in plants states) k (take (length plant.states.items) rest)
+        (points_in (drop (k + 1) plants) (drop (length plant.states.items) rest))
     (same ∙ ap (λ ks. points_in ks rest) (drop_at plants k plant at)) in
     (parts.0, ap (λ n. drop n (points_in plants states)) (sym e) ∙ parts.1)
 

@@ -11,6 +11,7 @@ abbrev pub invariant-loop-i : goal.invariant-loop-i
 invariant-loop-i g l = record {
   size : length l.lasts ≡ length l.whats;
   small : All (λ x. x ≤ 100001) l.lasts;
-  done : (Ms : List Moment) → length Ms ≡ l.added → AreLasts l.whats l.initial.lasts Ms → (k : ℕ) (f : Formula) → k < l.i → IsPart l.whats k f → IsLast (Ms ++ g.L.Looks.moment l.now ∷ []) f (last_of l.lasts k);
+  done : (Ms : List Moment) → length Ms ≡ l.added → AreLasts l.whats l.initial.lasts Ms → (k : ℕ) (f : Formula) → k < l.i → IsPart l.whats k f
+      → IsLast (Ms ++ g.L.Looks.moment l.now ∷ []) f (last_of l.lasts k);
   rest : (k : ℕ) → l.i ≤ k → last_of l.lasts k ≡ last_of l.initial.lasts k;
 }
