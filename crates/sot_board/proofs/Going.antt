@@ -217,9 +217,9 @@ module _ (p : Tables) (j : ℕ) (f : Plan) (P Q : Position) (r : Recorded) (entr
           (λ i x at on. subst (λ t. (is_left P.at i ≡ true) ⊎ IsDue x.period x.offset t) step.time ((step.left i x at).0 on)) in
           let modules = left_after (λ x. let r : ℕ × ℕ = (x.period, x.offset) in r) p.modules P.at.time k P.at.left_dm Q.at.left_dm sizes.left_dm
           step.sizes.left_dm
-              (λ i x at on. subst (λ t. (is_left_dm P.at i ≡ true) ⊎ IsDue x.period x.offset t) step.time ((step.left_dm i x at).0 on)) in
+          (λ i x at on. subst (λ t. (is_left_dm P.at i ≡ true) ⊎ IsDue x.period x.offset t) step.time ((step.left_dm i x at).0 on)) in
           let same = same_come (node_times p) (module_times p) k (suc P.at.time) Q.at.time Q.at.left Q.at.left_dm Q.at.left Q.at.left_dm
-              step.time refl refl in (
+          step.time refl refl in (
             k,
             omega (arith, step.time, end),
             omega (arith, nodes, modules, same, ap length inputs),

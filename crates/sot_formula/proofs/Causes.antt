@@ -167,7 +167,7 @@ module _ (p : Tables) (rules : MeetsTableRules p) where
   placed (a_truth value t) s is all = put_placed s (whats.Truth value) all tt
   placed (a_single o w begin f end) s is all =
       put_placed (laid p f s) (single_what o (place (laid p f s))) (placed f s is.2 all)
-          (single_placed o (place (laid p f s)) (length (laid p f s).whats) (below f s))
+      (single_placed o (place (laid p f s)) (length (laid p f s).whats) (below f s))
   placed (a_double o w begin f comma g end) s is all =
       let t = laid p f s in
       let u = laid p g t in

@@ -242,7 +242,7 @@ module _ (p : Tables) (rules : MeetsTableRules p) where
       let place = found (λ (y : StateInfo). bytes_eq y.name f) i.plant.states.items v i.state i.state_is (named_yes i.state.name f i.var_is)
       (λ j y at_y ok. i.first j y at_y (named_is y.name f ok)) in
       ap (option_and_then (λ n. option_and_then (λ (y : PlantInfo). variable_in y.states.items n f) (slice_get p.plants n)))
-          (plant_found word k i.plant i.is i.name_is)
+      (plant_found word k i.plant i.is i.name_is)
       ∙ ap (option_and_then (λ (y : PlantInfo). variable_in y.states.items k f)) i.is
       ∙ ap (option_and_then (λ n. option_map (found_state k n) (slice_get i.plant.states.items n))) place
       ∙ ap (option_map (found_state k v)) i.state_is
@@ -271,9 +271,13 @@ module _ (p : Tables) (rules : MeetsTableRules p) where
   unfolding module_named
   module_found word x e =
       let m = map_some (λ n. record { of = quantities.Mode n; scale = 0 }) (place_of (λ (y : ModuleInfo). y.name) p.modules word) x e in
-      let ok = found_at (λ (y : ModuleInfo). bytes_eq y.name word) p.modules m.0 m.1 in
-      (m.0, record { info = ok.0; is = ok.1; name_is = named_is ok.0.name word ok.2 }, ap (λ (y : Found). y.of) (sym m.2), ap (λ (y : Found). y.scale)
-          (sym m.2))
+      let ok = found_at (λ (y : ModuleInfo). bytes_eq y.name word) p.modules m.0 m.1 in (
+        m.0,
+        record { info = ok.0; is = ok.1; name_is = named_is ok.0.name word ok.2 },
+        ap (λ (y : Found). y.of) (sym m.2),
+        ap (λ (y : Found). y.scale)
+            (sym m.2),
+      )
 
   pub module_finds : (word : List ℕ) (m : ℕ) → IsModule p word m → module_named p word ≡ Some (record { of = quantities.Mode m; scale = 0 })
   unfolding module_named

@@ -89,7 +89,7 @@ ticks_read : (n : Lexeme) (ts : List Lexeme) → AreTicks n → ticks_at (n ∷ 
 unfolding ticks_at
 ticks_read n ts is =
     give (number_read n ts is.number) _ (Ok (ticks_of (literal n), ts))
-        (ap (λ (b : Bool). cond b (ok (ticks_of (literal n), ts)) (Err (stuck, ts))) (ticks_pass n is))
+    (ap (λ (b : Bool). cond b (ok (ticks_of (literal n), ts)) (Err (stuck, ts))) (ticks_pass n is))
 
 -- a sign of a comparison begins neither a call nor a field
 no_call : (by : Lexeme) (c : Comparison) → IsSign (sign_text c) by → is_sign (codes "(") by ≡ false
@@ -200,7 +200,7 @@ module _ (p : Tables) (r : ℕ) (inner : Reader) (each : EachPhrase p r inner) w
 
   comparison_phrase : (q : Reference) (by : Lexeme) (z : Literal) (s : Laid) (us : List Lexeme) → IsPhrase (a_comparison q by z)
       → opened_at p inner (opening_from (first_of (spelled (a_comparison q by z) us))) s (spelled (a_comparison q by z) us)
-          ≡ Ok (laid p (a_comparison q by z) s, us)
+      ≡ Ok (laid p (a_comparison q by z) s, us)
   comparison_phrase (a_mode w begin n end) by z s us is = mode_full w begin n end by z s us is.0 is.1 is.2
   comparison_phrase (a_name n) by z s us is = plain_full n by z s us is.0 is.1 is.2
   comparison_phrase (a_field n dot f) by z s us is = field_full n dot f by z s us is.0 is.1 is.2

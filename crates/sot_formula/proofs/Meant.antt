@@ -78,7 +78,7 @@ extends p (a_truth value t) s = put_extends s _ (whats.Truth value) refl
 extends p (a_single o w begin f end) s = then_extends s (laid p f s) _ (extends p f s) (put_extends (laid p f s) _ _ refl)
 extends p (a_double o w begin f comma g end) s =
     then_extends s (laid p f s) _ (extends p f s) (then_extends (laid p f s) (laid p g (laid p f s)) _ (extends p g (laid p f s))
-        (put_extends (laid p g (laid p f s)) _ _ refl))
+    (put_extends (laid p g (laid p f s)) _ _ refl))
 extends p (a_within w begin n comma f end) s = then_extends s (laid p f s) _ (extends p f s) (put_extends (laid p f s) _ _ refl)
 extends p (a_comparison r by z) s = compared_extends (found_of p r) (by_of by) (lit_of z) s
 
@@ -175,7 +175,7 @@ module _ (p : Tables) (rules : MeetsTableRules p) where
             (whats.Compared x.of b (mantissa z)))
             sign
             (subst (λ m. At (s.whats ++ whats.Compared x.of (by_of by) (lit_of z).mantissa ∷ []) (place (compared (Some x) (by_of by) (lit_of z) s))
-                (whats.Compared x.of (by_of by) m))
+            (whats.Compared x.of (by_of by) m))
             (lit_number z).0 (last_put s (whats.Compared x.of (by_of by) (lit_of z).mantissa))),
         known,
         flags.0,

@@ -33,7 +33,7 @@ text_read p bytes s short read =
     let a : Ahead = ahead_from bytes 0 in
     let f = sound p 64 none_laid a.tokens (s, []) read.0 in
     let end : a ≡ record { tokens = spelled f.0 []; end = None } = ap (λ ts. record { tokens = ts; end = a.end }) f.2
-        ∙ ap (λ o. record { tokens = spelled f.0 []; end = o }) read.1 in
+    ∙ ap (λ o. record { tokens = spelled f.0 []; end = o }) read.1 in
     (f.0, record { short = short; phrase = f.1; levels = f.3; tokens = subst (Comes bytes 0) end (ahead_comes bytes 0) }, f.4)
 
 -- each formula of a text is read
@@ -42,7 +42,7 @@ read_text p bytes f text =
     let b : Ahead = record { tokens = spelled f []; end = None } in
     let same : ahead_from bytes 0 ≡ b = comes_unique bytes 0 (ahead_from bytes 0) b (ahead_comes bytes 0) text.tokens in
     subst (λ (a : Ahead). (formula_at p 64 none_laid a.tokens ≡ Ok (laid p f none_laid, [])) × (a.end ≡ None)) (sym same)
-        (full p 64 f none_laid [] text.phrase text.levels, refl)
+    (full p 64 f none_laid [] text.phrase text.levels, refl)
 
 abbrev Got : Type 0
 Got = Laid × List Lexeme
@@ -67,7 +67,7 @@ pub all_read : (p : Tables) (bytes : List ℕ) (before after : Ahead) (s : Laid)
 all_read p bytes before after s is read stays over =
     let e = ended_is after.tokens after.end over in
     subst (λ (a : Ahead). (formula_at p 64 none_laid a.tokens ≡ Ok (s, [])) × (a.end ≡ None)) is
-        (read ∙ ap (λ (ts : List Lexeme). Ok (s, ts)) e.0, sym stays ∙ e.1)
+    (read ∙ ap (λ (ts : List Lexeme). Ok (s, ts)) e.0, sym stays ∙ e.1)
 
 pub not_ended : (p : Tables) (bytes : List ℕ) (before after : Ahead) (s : Laid) → before ≡ ahead_from bytes 0
     → formula_at p 64 none_laid before.tokens ≡ Ok (s, after.tokens)
@@ -146,7 +146,7 @@ module _ (p : Tables) (rules : MeetsTableRules p) (bytes : List ℕ) (short : le
 pub causes_exclude : CausesExcludeEachOther
 causes_exclude p bytes f g rules text_f text_g =
     let same : laid p g none_laid ≡ laid p f none_laid = one_laid p bytes (laid p g none_laid) (laid p f none_laid) (read_text p bytes g text_g)
-        (read_text p bytes f text_f) in
+    (read_text p bytes f text_f) in
     record {
       known = λ x m h.
           ⊎_elim (λ no'. false≢true no') (means_known p rules f x m)

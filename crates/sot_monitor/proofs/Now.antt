@@ -118,19 +118,29 @@ module _ (Ms : List Moment) (s : Moment) where
             earlier : (k : ℕ) → k ≡ n → h.0 < k → (lg ≡ suc n) ⊎ ((lf ≡ suc n) × (0 < own) × (own ≡ n))
             earlier zero e lt = absurd (omega (arith, lt))
             earlier (suc m) e lt =
-                let there : Holds Ms (Since f g) m =
-                    (h.0, omega (arith, lt), (before Ms (s ∷ []) g h.0 (omega (arith, lt, e))).0 h.2, λ k after le.
-                    (before Ms (s ∷ []) f k (omega (arith, le, e))).0 (h.3 k after (omega (arith, le, e)))) in
-                inr ((now_is f lf last_f).0 (h.3 n (omega (arith, lt, e)) (omega arith)), (own_is m own (sym e) last there).0,
-                    (own_is m own (sym e) last there).1)
+                let there : Holds Ms (Since f g) m = (
+                  h.0,
+                  omega (arith, lt),
+                  (before Ms (s ∷ []) g h.0 (omega (arith, lt, e))).0 h.2,
+                  λ k after le.
+                      (before Ms (s ∷ []) f k (omega (arith, le, e))).0 (h.3 k after (omega (arith, le, e))),
+                ) in
+                inr (
+                  (now_is f lf last_f).0 (h.3 n (omega (arith, lt, e)) (omega arith)),
+                  (own_is m own (sym e) last there).0,
+                  (own_is m own (sym e) last there).1,
+                )
 
     -- a part holds now where its parts' numbers say so
     pub now_by : (w : What) (f : Formula) → At ws i w → IsPart ws i f → IsLast Ms f own → NowBy w own lasts n s ↔ Holds more f n
     now_by w (Truth value) at part last = (let e : w ≡ whats.Truth value = at_same ws i w (whats.Truth value) at part in rw e (λ h. h, λ h. h))
     now_by w (Compared of by number) at part last =
         (let e : w ≡ whats.Compared of by number = at_same ws i w (whats.Compared of by number) at part in
-        rw e (λ h. (s, at_end Ms s, h), λ h. (let same : h.0 ≡ s = at_same more n h.0 s h.1 (at_end Ms s)
-            in subst (λ (x : Moment). Compares by (x of) number) same h.2)))
+        rw e (
+          λ h. (s, at_end Ms s, h),
+          λ h. (let same : h.0 ≡ s = at_same more n h.0 s h.1 (at_end Ms s)
+              in subst (λ (x : Moment). Compares by (x of) number) same h.2),
+        ))
     now_by w (Not f) at part last =
         (let e : w ≡ whats.Not part.0 = at_same ws i w (whats.Not part.0) at part.1 in
         let is = now_is f (last_of lasts part.0) (parts part.0 f part.2 part.3) in
@@ -165,9 +175,9 @@ module _ (Ms : List Moment) (s : Moment) where
       ⊎_elim
       (λ (holds : NowBy w (last_of lasts i) lasts n s × (lasts' ≡ slice_set lasts i (suc n))). ⊎_elim
       (λ (here : k ≡ i). (let e : last_of lasts' k ≡ suc n = ap (λ xs. last_of xs k) holds.1 ∙ ap (λ j. last_of (slice_set lasts i (suc n)) j) here
-          ∙ get_or-set_same lasts i (suc n) 0 room in
+      ∙ get_or-set_same lasts i (suc n) 0 room in
       subst (IsLast more f) (sym e) (set_now f ((now_by ws lasts i (last_of lasts i) done w f at (subst (λ j. IsPart ws j f) here part)
-          (own f (subst (λ j. IsPart ws j f) here part))).0 holds.0))))
+      (own f (subst (λ j. IsPart ws j f) here part))).0 holds.0))))
       (λ (other : k ≡ i → ⊥). (let e : last_of lasts' k ≡ last_of lasts k = ap (λ xs. last_of xs k) holds.1 ∙ get_or-set_other lasts i k (suc n) 0 other in
       subst (IsLast more f) (sym e) (done k f (omega (arith, lt, other)) part)))
       (cases_eq k i))
@@ -175,7 +185,7 @@ module _ (Ms : List Moment) (s : Moment) where
       (λ (here : k ≡ i). (let e : last_of lasts' k ≡ last_of lasts i = ap (λ xs. last_of xs k) misses.1 ∙ ap (last_of lasts) here in
       let part' = subst (λ j. IsPart ws j f) here part in
       subst (IsLast more f) (sym e) (kept f (last_of lasts i) (own f part')
-          (λ h. misses.0 ((now_by ws lasts i (last_of lasts i) done w f at part' (own f part')).1 h)))))
+      (λ h. misses.0 ((now_by ws lasts i (last_of lasts i) done w f at part' (own f part')).1 h)))))
       (λ (other : k ≡ i → ⊥). (let e : last_of lasts' k ≡ last_of lasts k = ap (λ xs. last_of xs k) misses.1 in
       subst (IsLast more f) (sym e) (done k f (omega (arith, lt, other)) part)))
       (cases_eq k i))

@@ -155,7 +155,7 @@ module _ (p : Tables) (cert : Cert) (m : ℕ) where
               let now : IsBoxAfter g.plant commands (joined_boxes is.stays.hulls) cell.0 landing.tick box =
               subst (λ hs. IsBoxAfter g.plant commands (joined_boxes hs) cell.0 landing.tick box) same_hulls
               (subst (λ (f : Intervals). IsBoxAfter g.plant (command_intervals p g.plant g.sc f.draft) (joined_boxes landing.hulls)
-                  cell.0 landing.tick box) fired
+              cell.0 landing.tick box) fired
               landing.is) in
               let one : there.0 ≡ box = unique g.plant commands (joined_boxes is.stays.hulls) cell.0 landing.tick there.0 box there.1 now in
               let safe : IsInRegion g.info.safe.boxes t = there.2 t (subst (λ b. IsWithin b t) (sym one) w) in

@@ -47,9 +47,10 @@ module _ (p : Tables) (cert : Cert) (m : ℕ) (cells hulls : List (List Side)) (
       are' : AreRanks (lands_of g) set ranks
       are' = record {
         zero_are = are.zero_are;
-        next_are = λ k i low lt. (let w = are.next_are k i low lt in
-            (λ e. ⊎_elim (λ x. inl x) (λ y. inr (y g)) (w.0 e),
-                λ h. w.1 (⊎_elim (λ x. inl x) (λ y. inr (for_each_account p cert m g (at_most k ranks) i y)) h)));
+        next_are = λ k i low lt. (let w = are.next_are k i low lt in (
+          λ e. ⊎_elim (λ x. inl x) (λ y. inr (y g)) (w.0 e),
+          λ h. w.1 (⊎_elim (λ x. inl x) (λ y. inr (for_each_account p cert m g (at_most k ranks) i y)) h),
+        ));
         few = are.few;
         last_are = λ i lt l. are.last_are i lt (for_each_account p cert m g (at_most (length ranks) ranks) i l);
       }

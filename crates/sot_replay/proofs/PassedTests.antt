@@ -132,7 +132,7 @@ module _ (b : Standing) (is : IsStanding b) (entry : Logged) (Q : Position) (fli
     pub entry_fits : Fits b.accepted.program (spelled_of b.accepted.program entry)
     entry_fits =
         fits_of b.accepted.program is.kept.rules b.accepted.cert.jitter b.plan b.position is.kept.holds
-            entry Q flies.event flies.recorded flies.step flies.tells
+        entry Q flies.event flies.recorded flies.step flies.tells
 
     world_takes : (why : Why) → WorldRefuses b.accepted.program b.accepted.cert.jitter b.position.at (spelled_of b.accepted.program entry) why → ⊥
     world_takes =

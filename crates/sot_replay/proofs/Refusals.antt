@@ -32,7 +32,7 @@ module _ (b : Standing) (is : IsStanding b) (front : List (List ℕ)) (tell : Te
     -- a test fails
     pub refused_by_test :
         (lines : List (List ℕ)) (line : List ℕ) (more : List (List ℕ)) (number : ℕ) (kind : LineKind) → AreWords b.accepted.program
-            → lines ≡ front ++ line ∷ more
+        → lines ≡ front ++ line ∷ more
         → number ≡ suc (length front)
         → IsFirstFailing b.accepted.program b.accepted.cert.jitter b.plan b.entries b.position line kind
         → IsRefusedAt b.accepted.program b.accepted.cert.jitter b.plan lines number kind

@@ -55,29 +55,29 @@ module _ (p : Tables) (j : ℕ) (rules : MeetsTableRules p) where
       let first : first_of p topic ≡ step.info.first = ap (λ o. option_map_or (λ y. y.first) o 0) step.is in
       subst (λ y. scene_of D ≡ after p y (scene_of C)) (sym told)
       (same_scene (scene_of D) (after p (InputAt C.time topic value) (scene_of C)) (ap (λ y. y.modes) step.rest)
-          (step.scalars ∙ ap (λ k. write_at k value C.scalars) (sym first)) (ap (λ y. y.points) step.rest))
+      (step.scalars ∙ ap (λ k. write_at k value C.scalars) (sym first)) (ap (λ y. y.points) step.rest))
   step_scene C D (Code n) r x step records told =
       let own = steps_are_unique p j C (Code n) D D r (NodeFired step.fired.draft (is_enabled p C n)) step records step
       (record { node = step.node; is = step.is; acts = step.acts; coded = step.coded; fired = step.fired; runs = step.runs; recorded = refl }) in
       let parts = told_parts told.0 step.fired.draft told.1 (is_enabled p C n) r told.2 own.1 in
       subst (λ y. scene_of D ≡ after p y (scene_of C)) (sym (told.3 ∙ ap₂ (λ d o. FireAt C.time n (in_slots d) o) parts.0 parts.1))
-          (fire_scene C D n step.node step.fired.locals step.fired.draft C.time step.is step.fires)
+      (fire_scene C D n step.node step.fired.locals step.fired.draft C.time step.is step.fires)
   step_scene C D (Guest n draft) r x step records told =
       let parts = told_parts told.0 draft told.1 (is_enabled p C n) r told.2 records in
       subst (λ y. scene_of D ≡ after p y (scene_of C)) (sym (told.3 ∙ ap₂ (λ d o. FireAt C.time n (in_slots d) o) parts.0 parts.1))
-          (fire_scene C D n step.node (locals_of C n) draft C.time step.is step.fires)
+      (fire_scene C D n step.node (locals_of C n) draft C.time step.is step.fires)
   step_scene C D (Decide m) r x step records told =
       let mode : told.0 ≡ mode_of D m = told_mode told.0 (mode_of D m) r told.1 records in
       subst (λ y. scene_of D ≡ after p y (scene_of C)) (sym (told.2 ∙ ap (λ z. DecideAt C.time m z) mode))
       (same_scene (scene_of D) (after p (DecideAt C.time m (mode_of D m)) (scene_of C)) step.modes (ap (λ y. y.scalars) step.rest)
-          (ap (λ y. y.points) step.rest))
+      (ap (λ y. y.points) step.rest))
   step_scene C D (Tick noise) r x step records told =
       let back = points_back p.plants D.points step.sizes.points
-          (λ k plant at. moved_width p rules k plant (point_of C k) (commands plant C) (joined (seen_points plant C)) (slice_index_or noise k [])
-          (point_of D k) at (step.moves k plant at)) in
+      (λ k plant at. moved_width p rules k plant (point_of C k) (commands plant C) (joined (seen_points plant C)) (slice_index_or noise k [])
+      (point_of D k) at (step.moves k plant at)) in
       subst (λ y. scene_of D ≡ after p y (scene_of C)) (sym told)
       (same_scene (scene_of D) (after p (TickAt C.time (joined noise) (joined D.points)) (scene_of C)) (ap (λ y. y.modes) step.rest)
-          (ap (λ y. y.scalars) step.rest) (sym back))
+      (ap (λ y. y.scalars) step.rest) (sym back))
 
   -- the scene after some entries
   at_place : (C : Configuration) (es : List Event) (Ds : List Configuration) (xs : List Logged) (s : Scene) → Run p j C es Ds → TellOf p C es Ds xs

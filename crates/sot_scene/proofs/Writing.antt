@@ -26,7 +26,7 @@ pub cut_step : (plants : List PlantInfo) (states rest : List ℤ) (k : ℕ) (pla
 cut_step plants states rest k plant at same =
     let e : suc k ≡ k + 1 = omega arith in
     let parts = head_of [] (points_in plants states) k (take (length plant.states.items) rest)
-        (points_in (drop (k + 1) plants) (drop (length plant.states.items) rest))
+    (points_in (drop (k + 1) plants) (drop (length plant.states.items) rest))
     (same ∙ ap (λ ks. points_in ks rest) (drop_at plants k plant at)) in
     (parts.0, ap (λ n. drop n (points_in plants states)) (sym e) ∙ parts.1)
 

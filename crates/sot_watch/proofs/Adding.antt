@@ -20,7 +20,7 @@ holds_more front s f always now i lt =
     ⊎_elim
     (λ (early : i < length front). (before front (s ∷ []) f i early).1 (always i early))
     (λ (late : length front ≤ i).
-        (let n = length_end front s in let same : length front ≡ i = omega (arith, lt, late, n) in subst (Holds (front ++ s ∷ []) f) same now))
+    (let n = length_end front s in let same : length front ≡ i = omega (arith, lt, late, n) in subst (Holds (front ++ s ∷ []) f) same now))
     (cases_lt i (length front))
 
 longer : (xs rest : List Moment) (s : Moment) → length xs < length (xs ++ s ∷ rest)

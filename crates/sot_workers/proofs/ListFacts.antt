@@ -89,7 +89,7 @@ keeps_moved old new away lists accepted plan own =
 
 pub keeps_more :
     (t : ℕ) (old new : Standing) (away : List Bool) (lists : List NodeList) (k : ℕ) (draft : List (Option ℤ)) (was now : NodeList)
-        → KeepsLists old away lists → IsSameInstant old new
+    → KeepsLists old away lists → IsSameInstant old new
     → AddsFiring t old.entries k draft new.entries → IsMine old.plan away k
     → At lists k was → now.node ≡ was.node → now.drafts.items ≡ was.drafts.items ++ draft ∷ [] → KeepsLists new away (slice_set lists k now)
 keeps_more t old new away lists k draft was now own same fires mine there node more =

@@ -154,7 +154,12 @@ fn flies_in_order<R: Abort + Threads + Wait + Sync>(
 ) {
     let text = mission(rt, alloc, front, SCRIPT, end);
     same(rt, "alone", alone(rt, alloc, text.as_str()).as_str(), said);
-    same(rt, "threads", threads(rt, alloc, text.as_str()).as_str(), said);
+    same(
+        rt,
+        "threads",
+        threads(rt, alloc, text.as_str()).as_str(),
+        said,
+    );
     let text = mission(rt, alloc, front, GUEST, end);
     let mut guests = Vec::new(alloc);
     guests

@@ -22,7 +22,7 @@ field_in-requires-clause-there c =
     let topics = c.deref-2.ensures.value ∙ ap (λ (t : Tables). t.topics) c.p.view_is in
     let found = c.in_ok-topic.ensures.lookup in
     let at : At c.args.p.now.topics c.in_ok-t.t c.in_ok-topic.topic.now = read_at c.deref-2.result.now c.args.p.now.topics c.in_ok-t.t
-        c.in_ok-topic.topic.now topics
+    c.in_ok-topic.topic.now topics
     (subst (λ l. c.in_ok-t.t < length l) topics found.3.0) found.1 in
     let inside = topic_inside c.args.p.now rules c.in_ok-t.t c.in_ok-topic.topic.now at in
     let n = ap length scalars in

@@ -16,5 +16,5 @@ formula-returns t c =
     let room : c.args.room ≡ suc (c.args.room - 1) = omega (arith, c.if-room-eq0.false) in
     let same : formula_at p c.args.room c.args.laid ts ≡ opened_at p (formula_at p (c.args.room - 1)) c.next_opening-opening.result c.args.laid ts =
     ap (λ r. formula_at p r c.args.laid ts) room ∙ ap (λ o. opened_at p (formula_at p (c.args.room - 1)) o c.args.laid ts)
-        (sym c.next_opening-opening.ensures) in
+    (sym c.next_opening-opening.ensures) in
     (subst (λ (r : Read Laid). Tells (λ (s : Laid). s) c.opened.result c.opened.new.tokens.tokens r) (sym same) c.opened.ensures.0, c.opened.ensures.1)

@@ -19,7 +19,7 @@ pub returns-in-Err-Token-clause-err : goal.returns-in-Err-Token-clause-err
 returns-in-Err-Token-clause-err c =
     let p = c.args.p.now in
     let read = subst (λ (e : Fail). Fails e c.formula.new.tokens.tokens (formula_at p 64 c.none.result c.new-tokens.result.tokens))
-        c.in-Err-Token.field-0-is c.in-Err-Token.ensures.0 in
+    c.in-Err-Token.field-0-is c.in-Err-Token.ensures.0 in
     none_read p c.args.bytes.now c.new-tokens.result (stuck, c.formula.new.tokens.tokens)
     (c.new-tokens.ensures ∙ ap₂ ahead_from c.new.ensures.bytes c.new.ensures.at)
     (ap (λ (l : Laid). formula_at p 64 l c.new-tokens.result.tokens) (sym c.none.ensures) ∙ read)
@@ -28,7 +28,7 @@ pub returns-in-Err-Deep-clause-err : goal.returns-in-Err-Deep-clause-err
 returns-in-Err-Deep-clause-err c =
     let p = c.args.p.now in
     let read = subst (λ (e : Fail). Fails e c.formula.new.tokens.tokens (formula_at p 64 c.none.result c.new-tokens.result.tokens))
-        c.in-Err-Deep.field-0-is c.in-Err-Deep.ensures.0 in
+    c.in-Err-Deep.field-0-is c.in-Err-Deep.ensures.0 in
     none_read p c.args.bytes.now c.new-tokens.result (deep, c.formula.new.tokens.tokens)
     (c.new-tokens.ensures ∙ ap₂ ahead_from c.new.ensures.bytes c.new.ensures.at)
     (ap (λ (l : Laid). formula_at p 64 l c.new-tokens.result.tokens) (sym c.none.ensures) ∙ read)

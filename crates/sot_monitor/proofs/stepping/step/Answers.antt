@@ -23,9 +23,9 @@ loop-i-preserved g c =
           (λ (here : k ≡ l.i). (let now : c.args.added + 1 ≤ 100001 = omega (arith, c.requires.few) in let own = l.invariant.small l.i 0 room in
           let few = c.noted.ensures.few now own in
           let e : slice_index_or (slice_set l.lasts l.i x) k d ≡ x = ap (λ j. slice_index_or (slice_set l.lasts l.i x) j d) here
-              ∙ get_or-set_same l.lasts l.i x d room in omega (arith, e, few)))
+          ∙ get_or-set_same l.lasts l.i x d room in omega (arith, e, few)))
           (λ (other : k ≡ l.i → ⊥). (let e = get_or-set_other l.lasts l.i k x d other in let old = l.invariant.small k d
-              (let n = length-set l.lasts l.i x in omega (arith, lt, n)) in omega (arith, e, old)))
+          (let n = length-set l.lasts l.i x in omega (arith, lt, n)) in omega (arith, e, old)))
           (cases_eq k l.i);
       done = λ Ms size lasts k f lt part.
           let what = at_below c.args.whats.now l.i c.loop-i-test.true in
@@ -34,7 +34,7 @@ loop-i-preserved g c =
           (λ f' own. subst (IsLast Ms f') (sym (l.invariant.rest l.i (omega arith))) (lasts l.i f' own))
           (λ j f' before own. l.invariant.done Ms size lasts j f' before own)
           (subst (λ a. IsTrue c.part_holds-holds.result ↔ NowBy what.0 (last_of l.lasts l.i) l.lasts a (g.L.Looks.moment c.args.now.now)) (sym size)
-              (c.part_holds-holds.ensures what.0 what.1))
+          (c.part_holds-holds.ensures what.0 what.1))
           (subst (λ y. MatchBool c.part_holds-holds.result (x ≡ y) (x ≡ last_of l.lasts l.i)) now c.noted.ensures.value)
           k f (omega (arith, lt)) part;
       rest = λ k le. get_or-set_other l.lasts l.i k x 0 (λ e. omega (arith, le, e)) ∙ l.invariant.rest k (omega (arith, le));

@@ -79,7 +79,7 @@ fire_code-pass-requires-clause-seen g c =
     let due = subst (λ n. IsDueView b n v) (sym runs.3.view.node) runs.3 in
     let ground = c.give-pass-in-Runs.ensures.ground ∙ held.ground ∙ held.ground_now ∙ ap (λ x. Some (x.accepted, x.plan)) (sym c.lend.ensures.value) in
     seen_program (pass_ground c.give-pass-in-Runs.result) (pass_seen c.give-pass-in-Runs.result)
-        (viewed_node v) v b c.in-Runs.p.now due ground c.give-pass-in-Runs.ensures.seen runs.1
+    (viewed_node v) v b c.in-Runs.p.now due ground c.give-pass-in-Runs.ensures.seen runs.1
 
 pub fire_guest-pass-requires-clause-there : goal.fire_guest-pass-requires-clause-there
 fire_guest-pass-requires-clause-there g c =
@@ -208,7 +208,7 @@ returns-in-Runs-clause-on_shift g c = λ began was.
     let ground = held.ground_now ∙ ap (λ x. Some (x.accepted, x.plan)) (sym value) in
     let same = ap (λ x. drafts_of old.node x.entries) value ∙ held.in_step ∙ c.requires.at_work.drafts in
     let nothing = nothing_added (pass_added old.pass) _ _ _ b.entries
-        c.give-pass-in-Runs.ensures.added held.added (held.seen ∙ ap (λ x. x.entries) (sym value)) in
+    c.give-pass-in-Runs.ensures.added held.added (held.seen ∙ ap (λ x. x.entries) (sym value)) in
     let runs = c.in-Runs.ensures.sight in
     let gave = c.give-pass-in-Runs.ensures in
     let fired = c.fire_code-pass.ensures in
@@ -230,7 +230,7 @@ returns-in-Runs-clause-turn g c = λ a f is.
     let on : IsPrefix known b.entries = subst (λ x. IsPrefix known x.entries) (sym value) held.goes_on in
     let ground = held.ground_now ∙ ap (λ x. Some (x.accepted, x.plan)) (sym value) in
     let nothing = nothing_added (pass_added old.pass) _ _ _ b.entries
-        c.give-pass-in-Runs.ensures.added held.added (held.seen ∙ ap (λ x. x.entries) (sym value)) in
+    c.give-pass-in-Runs.ensures.added held.added (held.seen ∙ ap (λ x. x.entries) (sym value)) in
     let runs = c.in-Runs.ensures.sight in
     let gave = c.give-pass-in-Runs.ensures in
     let fired = c.fire_code-pass.ensures in

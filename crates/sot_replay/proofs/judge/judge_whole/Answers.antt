@@ -26,4 +26,4 @@ judge_tick-requires-clause-begins c =
     let (s, spelled, (t, noise, states, is, reads, holds)) =
     subst (λ (r : Line). AnswersLine p line c.args.numbers.now.items (Some r)) c.in-Tick.is c.requires.read in
     λ other spells. spelled_ticks p line c.in-Tick.time s c.reveal_invariant.ensures.kept.rules c.requires.words
-        spelled (t, noise, states, is, reads) other spells
+    spelled (t, noise, states, is, reads) other spells

@@ -29,7 +29,7 @@ loop-k-preserved c =
       size = length-set c.loop-k.points k c.in-Some.point ∙ inv.size;
       count =
           (let n = ap length more in let m = length-drop (length plant.states.items) c.loop-k.rest.now in let f = states_from plants k plant at in
-              let i = inv.count in
+          let i = inv.count in
           omega (arith, n, m, f, i));
       parts = step.1 ∙ ap (points_in (drop (k + 1) plants)) (sym more);
       done = set_more [] (λ j x. x ≡ slice_index_or (points_in plants states) j []) c.loop-k.points k c.in-Some.point room point inv.done;
@@ -44,4 +44,4 @@ returns c =
     (λ m x y here there.
     (let lt = slice_get_within c.loop-k.points m x here in
     sym (get_or_from_slice_get c.loop-k.points m x [] here) ∙ inv.done m (omega (arith, lt, inv.size, c.loop-k-test.false))
-        ∙ get_or_from_slice_get all m y [] there))
+    ∙ get_or_from_slice_get all m y [] there))

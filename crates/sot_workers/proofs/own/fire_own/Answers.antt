@@ -11,6 +11,6 @@ returns-clause-lists g c =
     let was = c.index_mut.result.now in
     let there : k < length lists = omega (arith, c.requires.lists.nodes.each, c.requires.there) in
     keeps_more old.position.at.time old c.fire-receipt.new.board
-        c.args.away.now lists k c.fire-receipt.result.draft was c.append.new.self c.requires.lists c.fire-receipt.ensures.same
+    c.args.away.now lists k c.fire-receipt.result.draft was c.append.new.self c.requires.lists c.fire-receipt.ensures.same
     c.fire-receipt.ensures.entries c.requires.mine
     (slice_get_read lists (length lists) k was refl there c.index_mut.ensures.value) c.append.ensures.node c.append.ensures.drafts

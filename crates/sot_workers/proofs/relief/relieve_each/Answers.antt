@@ -30,7 +30,7 @@ relieve-back-requires-clause-stationed g c =
     let Q = IsRelievedIn p.0 p.1 (pass_seen c.args.pass) in
     let each = subst (λ l. EachFrom P 0 p.2 l) (sym c.into_iter-station-iterator.ensures.into_iter_gives.0) p.3 in
     let coming = subst (λ l. AreComing P Q p.2 c.loop-station.relieved.items l) c.in-Some.ensures.steps.0
-        (c.loop-station.invariant.stationed p.0 p.1 p.2 each) in
+    (c.loop-station.invariant.stationed p.0 p.1 p.2 each) in
     let next = coming_next P Q p.2 c.loop-station.relieved.items c.in-Some.station (into_iter_items c.next.new.self) coming in
     (p.0, p.1, length c.loop-station.relieved.items, next.0, next.1)
 

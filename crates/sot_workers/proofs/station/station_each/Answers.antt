@@ -57,9 +57,11 @@ loop-place-preserved g c =
       stationed = λ a is.
           let R = IsStationed (lock_of c.args.turn.now) a c.args.flight.now in
           let number : c.loop-place.place ≡ 0 + length c.loop-place.away.items = omega (arith, inv.same, c.loop-place.away.ok.0) in
-          let here : R c.loop-place.place c.is_thread.result c.station_of-back.result.1 =
-          (c.is_thread.ensures, subst (λ n. IsAt (lock_of c.args.turn.now) a
-              c.args.flight.now n c.station_of-back.result.1) same (did.station a (inv.ground ∙ is))) in
+          let here : R c.loop-place.place c.is_thread.result c.station_of-back.result.1 = (
+            c.is_thread.ensures,
+            subst (λ n. IsAt (lock_of c.args.turn.now) a
+                c.args.flight.now n c.station_of-back.result.1) same (did.station a (inv.ground ∙ is)),
+          ) in
           subst (λ xs. EachFrom R 0 xs c.push_reserved-in-loop-place.new.self.items) (sym one.items)
           (subst (λ ys. EachFrom R 0 (c.loop-place.away.items ++ c.is_thread.result ∷ []) ys) (sym other.items)
           (each_more R 0 c.loop-place.away.items c.loop-place.stations.items c.is_thread.result c.station_of-back.result.1 (inv.stationed a is)

@@ -18,12 +18,16 @@ step-requires-clause-there g c = λ k q by number at.
 pub returns-clause-stands : goal.returns-clause-stands
 returns-clause-stands g c = λ x Ms old.
     let m : Tracked = c.args.self.now in
-    let n : Tracked = record { whats = c.self.inside.whats.items; lasts =
-        (with_items c.self.inside.lasts c.step.new.lasts).items; added = c.self.inside.added + 1 } in
+    let n : Tracked = record {
+      whats = c.self.inside.whats.items;
+      lasts =
+          (with_items c.self.inside.lasts c.step.new.lasts).items;
+      added = c.self.inside.added + 1;
+    } in
     let s = g.L.Looks.moment c.args.now.now in
     let put = with_items_is c.self.inside.lasts c.step.new.lasts (omega (arith, c.step.auto.lasts, c.deref_mut.ensures.len)) in
     let steps = subst (λ (l : List ℕ). StepsOn m.whats m.lasts l m.added s) (sym put)
-        (moved_steps c.deref.result.now m.whats c.deref_mut.result.now m.lasts c.step.new.lasts c.self.inside.added m.added s
+    (moved_steps c.deref.result.now m.whats c.deref_mut.result.now m.lasts c.step.new.lasts c.self.inside.added m.added s
     (c.deref.ensures.value ∙ ap (λ (t : Tracked). t.whats) c.self.view_is) (c.deref_mut.ensures.value ∙ ap (λ (t : Tracked). t.lasts) c.self.view_is)
     (ap (λ (t : Tracked). t.added) c.self.view_is) c.step.ensures.stands) in
     stands_on m n s (ap (λ (t : Tracked). t.whats) c.self.view_is) (ap (λ (t : Tracked). t.added + 1) c.self.view_is) steps x Ms old
@@ -31,13 +35,17 @@ returns-clause-stands g c = λ x Ms old.
 pub returns-clause-holds : goal.returns-clause-holds
 returns-clause-holds g c = λ x Ms old.
     let m : Tracked = c.args.self.now in
-    let n : Tracked = record { whats = c.self.inside.whats.items; lasts =
-        (with_items c.self.inside.lasts c.step.new.lasts).items; added = c.self.inside.added + 1 } in
+    let n : Tracked = record {
+      whats = c.self.inside.whats.items;
+      lasts =
+          (with_items c.self.inside.lasts c.step.new.lasts).items;
+      added = c.self.inside.added + 1;
+    } in
     let s = g.L.Looks.moment c.args.now.now in
     let put = with_items_is c.self.inside.lasts c.step.new.lasts (omega (arith, c.step.auto.lasts, c.deref_mut.ensures.len)) in
     let whats = ap (λ (t : Tracked). t.whats) c.self.view_is in
     let steps = subst (λ (l : List ℕ). StepsOn m.whats m.lasts l m.added s) (sym put)
-        (moved_steps c.deref.result.now m.whats c.deref_mut.result.now m.lasts c.step.new.lasts c.self.inside.added m.added s
+    (moved_steps c.deref.result.now m.whats c.deref_mut.result.now m.lasts c.step.new.lasts c.self.inside.added m.added s
     (c.deref.ensures.value ∙ whats) (c.deref_mut.ensures.value ∙ ap (λ (t : Tracked). t.lasts) c.self.view_is)
     (ap (λ (t : Tracked). t.added) c.self.view_is) c.step.ensures.stands) in
     let iff = holds_on m n s whats (ap (λ (t : Tracked). t.added + 1) c.self.view_is) steps x Ms old in

@@ -20,7 +20,7 @@ write-requires c =
     let p = c.args.p.now in
     let rules = subst MeetsTableRules c.p.view_is c.p.invariant in
     let fits : FitsEntry p (InputAt c.in-Input.time c.in-Input.topic c.in-Input.value.now) = subst
-        (λ (e : _). FitsEntry p (entry_of e)) c.in-Input.is c.requires.entry in
+    (λ (e : _). FitsEntry p (entry_of e)) c.in-Input.is c.requires.entry in
     let below = slice_get_within p.topics c.in-Input.topic fits.0 fits.1 in
     let at = read_at _ _ c.in-Input.topic _ (ap (λ (t : Tables). t.topics) c.p.view_is) below c.index.ensures in
     let same = at_same p.topics c.in-Input.topic c.index.result.now fits.0 at fits.1 in
@@ -33,7 +33,7 @@ pub returns-in-Input : goal.returns-in-Input
 returns-in-Input c =
     let p = c.args.p.now in
     let fits : FitsEntry p (InputAt c.in-Input.time c.in-Input.topic c.in-Input.value.now) = subst
-        (λ (e : _). FitsEntry p (entry_of e)) c.in-Input.is c.requires.entry in
+    (λ (e : _). FitsEntry p (entry_of e)) c.in-Input.is c.requires.entry in
     let below = slice_get_within p.topics c.in-Input.topic fits.0 fits.1 in
     let at = read_at _ _ c.in-Input.topic _ (ap (λ (t : Tables). t.topics) c.p.view_is) below c.index.ensures in
     let first = ap (λ o. option_map_or (λ (x : TopicInfo). x.first) o 0) at in
