@@ -8,8 +8,15 @@ ghost use Rattle.sot_turn.specs.Places.{IsPlaceOf, IsSamePlace, IsIdle, Waits, H
 use crate::turn::rule::{Place, Top};
 use crate::turn::steps::{Announce, Draw, Look, PassOn};
 use sot_journal::Journal;
+use std::hint::spin_loop;
 use std::sync::Wait;
 use std::thread;
+
+// A waiting thread looks so often before it sleeps: most turns are given back within a microsecond.
+const LOOKS: u32 = 100;
+
+// A thread sleeps on the low 32 bits of a word.
+const WORD: u64 = 1 << 32;
 
 /// Draws a ticket. Where all numbers are drawn it draws none, and waits without end.
 pub(super) fn draw<G: Journal, R: Wait>(rt: &R, top: &Top<G>, place: &mut Place<G>) -> u64
@@ -34,6 +41,28 @@ pub(super) fn draw<G: Journal, R: Wait>(rt: &R, top: &Top<G>, place: &mut Place<
     unreachable!()
 }
 
+// Waits a moment, or, after many looks, sleeps until the turn is passed from the ticket served.
+fn rest<G: Journal, R: Wait>(rt: &R, top: &Top<G>, served: u64, looks: u32) -> u32
+    requires { top.now.table_id.words ≡ 3 }
+{
+    if looks < LOOKS {
+        spin_loop();
+        return looks + 1;
+    }
+    top.park(rt, 1, (served % WORD) as u32);
+    looks
+}
+
+// Wakes who sleeps, where a ticket was drawn that waits to be served.
+fn wake<G: Journal>(top: &Top<G>)
+    requires { top.now.table_id.words ≡ 3 }
+{
+    let served = top.peek(1);
+    if top.peek(0) > served {
+        top.wake_all(1);
+    }
+}
+
 /// Waits until the ticket is served, and takes the value out of the slot.
 pub(super) fn serve<G: Journal, R: Wait>(
     rt: &R,
@@ -49,12 +78,13 @@ pub(super) fn serve<G: Journal, R: Wait>(
     ensures ground { place.old.me.0.own_ground ≡ Some (G.ground result) }
     ensures goes_on { IsPrefix place.old.me.0.seen (G.entries result) }
 {
+    let mut looks: u32 = 0;
     for _ in rt.forever() {
         let served = top.load::<Look<G>>(place, 1);
         if served == ticket {
             return top.exchange(place, 0, None).unwrap();
         }
-        thread::yield_now();
+        looks = rest(rt, top, served, looks);
     }
     unreachable!()
 }
@@ -76,4 +106,5 @@ pub(super) fn hand_back<G: Journal + Drop>(top: &Top<G>, place: &mut Place<G>, v
     top.store::<Announce<G>>(place, 2, len);
     top.fetch_add::<PassOn>(place, 1, 1);
     drop(nothing);
+    wake(top);
 }
