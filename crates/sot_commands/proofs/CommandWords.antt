@@ -1,4 +1,4 @@
--- `clap` takes the word of a command: alone, or with two words behind it.
+-- `clap` takes the word of a command: alone, or with one or two words behind it.
 use Rattle.std.proofs.Common.{◌≡◌, ℕ, List, [], ◌∷◌, ◌++◌, Bool, true, false, ◌||◌, inl, inr, Option, Some, None, refl, sym, ap, ◌∙◌, subst, codes, map}
 use Rattle.std.proofs.Common.{append_assoc, ◌==◌, arith, get_or, Global, ◌≢◌, ◌⊎◌, Result, Ok, Err}
 use Rattle.std.specs.Prelude.{option_map, find, fold, if◌then◌else◌, String, IfOk, IsErrOf, Box}
@@ -22,11 +22,12 @@ use Rattle.clap.specs.declared.error.kind.ErrorKind.{ErrorKind}
 use Rattle.clap.specs.declared.error.kind.ErrorKind.TheVariants as kind
 use Rattle.clap.proofs.OnLiterals.{clap_on_literals}
 use Rattle.sot_commands.specs.declared.words.Command.{Command}
-use Rattle.sot_commands.specs.declared.words.Command.TheVariants.{Check, Fly, Replay, Recover, Format, Certify, Make, Soak}
+use Rattle.sot_commands.specs.declared.words.Command.TheVariants.{Check, Fly, Replay, Recover, Watch, Format, Certify, Make, Soak}
 use Rattle.sot_commands.specs.declared.words.WordFail.{WordFail}
 use Rattle.sot_commands.specs.declared.words.WordFail.TheVariants.{Form}
-use Rattle.sot_commands.specs.Words.{word_of, numbers_of, AreAsked, IsInForm, Asks, HasNumbers, IsNumbered}
+use Rattle.sot_commands.specs.Words.{word_of, words_behind, AreAsked, IsInForm, Asks, HasNumbers, HasFormula, IsNumbered}
 use Rattle.sot_commands.specs.WordParser.{is_dashed, numbered, program}
+use Rattle.sot_commands.proofs.OneCommand.{at_text}
 use Rattle.sot_commands.proofs.Decimals.{plain_decimal, dashless}
 
 no_words : fault_of program [] ≡ [] → ⊥
@@ -80,8 +81,8 @@ sub_shape name = built_leaf (inherited (with_leaf_noted (marked_built program.to
 nothing_behind : (s : Shape) (r : Text) (rest : List Text) → s.rules ≡ [] → is_dashed r ≡ false → level_fault s [] nothing_held (r ∷ rest) false [] ≡ [] → ⊥
 nothing_behind s r rest rules plain e = strays s [] r rest rules plain refl (neither _ _ e).0
 
--- behind the word of a command without numbers stands no further word
-alone : (c : Command) (rest : List Text) → numbers_of c ≡ [] → list_any is_dashed rest ≡ false → fault_of program (word_of c ∷ rest) ≡ [] → rest ≡ []
+-- behind the word of a command that has none behind it stands no further word
+alone : (c : Command) (rest : List Text) → words_behind c ≡ [] → list_any is_dashed rest ≡ false → fault_of program (word_of c ∷ rest) ≡ [] → rest ≡ []
 unfolding walked
 alone c [] none plain e = refl
 alone Check (r ∷ rest) none plain e =
@@ -126,17 +127,18 @@ alone Certify (r ∷ rest) none plain e =
     subst (λ (p : Option (Text × List Text)). entered_fault (built program) p ≡ []) (stops sub_names nothing_held idle 1 false (codes "certify") [] (r ∷ rest))
     below in
     absurd (nothing_behind (sub_shape (codes "certify")) r rest refl parts.0 inner)
+alone (Watch formula) (r ∷ rest) none plain e = absurd cc
 alone (Make n seed) (r ∷ rest) none plain e = absurd cc
 alone (Soak n seed) (r ∷ rest) none plain e = absurd cc
 
 begins : (c : Command) (w : Text) (rest : List Text) → word_of c ≡ w → list_any is_dashed rest ≡ false → fault_of program (w ∷ rest) ≡ []
-    → (rest' : List Text) × (w ∷ rest ≡ word_of c ∷ rest') × (numbers_of c ≡ [] → rest' ≡ [])
+    → (rest' : List Text) × (w ∷ rest ≡ word_of c ∷ rest') × (words_behind c ≡ [] → rest' ≡ [])
 begins c w rest is plain e =
     (rest, ap (λ (t : Text). t ∷ rest) (sym is), λ none. alone c rest none plain (subst (λ (t : Text). fault_of program (t ∷ rest) ≡ []) (sym is) e))
 
--- what is taken begins with the word of a command, and is no more where the command has no numbers
+-- what is taken begins with the word of a command, and is no more where the command has no word behind it
 pub only : (words : List Text) → list_any is_dashed words ≡ false → fault_of program words ≡ []
-    → (c : Command) × ((rest : List Text) × (words ≡ word_of c ∷ rest) × (numbers_of c ≡ [] → rest ≡ []))
+    → (c : Command) × ((rest : List Text) × (words ≡ word_of c ∷ rest) × (words_behind c ≡ [] → rest ≡ []))
 only [] plain e = absurd (no_words e)
 only (w ∷ rest) plain e =
     let parts = or_parts (is_dashed w) (list_any is_dashed rest) plain in
@@ -152,21 +154,26 @@ only (w ∷ rest) plain e =
                       elim (cases_Bool (bytes_eq (codes "recover") w)) [
                         | inl is ↦ (Recover, begins Recover w rest ((bytes_eq-Decides (codes "recover") w).0 is) parts.1 e)
                         | inr no_recover ↦
-                            elim (cases_Bool (bytes_eq (codes "format") w)) [
-                              | inl is ↦ (Format, begins Format w rest ((bytes_eq-Decides (codes "format") w).0 is) parts.1 e)
-                              | inr no_format ↦
-                                  elim (cases_Bool (bytes_eq (codes "certify") w)) [
-                                    | inl is ↦ (Certify, begins Certify w rest ((bytes_eq-Decides (codes "certify") w).0 is) parts.1 e)
-                                    | inr no_certify ↦
-                                        elim (cases_Bool (bytes_eq (codes "make") w)) [
-                                          | inl is ↦ (Make 0 0, begins (Make 0 0) w rest ((bytes_eq-Decides (codes "make") w).0 is) parts.1 e)
-                                          | inr no_make ↦
-                                              elim (cases_Bool (bytes_eq (codes "soak") w)) [
-                                                | inl is ↦ (Soak 0 0, begins (Soak 0 0) w rest ((bytes_eq-Decides (codes "soak") w).0 is) parts.1 e)
-                                                | inr no_soak ↦
-                                                    let none : find (answers_to w) sub_names ≡ None =
-                                                    rw (no_check, no_fly, no_replay, no_recover, no_format, no_certify, no_make, no_soak) refl in
-                                                    absurd (strays (built program).top sub_names w rest refl parts.0 none (neither _ _ e).0)
+                            elim (cases_Bool (bytes_eq (codes "watch") w)) [
+                              | inl is ↦ (Watch (at_text []), begins (Watch (at_text [])) w rest ((bytes_eq-Decides (codes "watch") w).0 is) parts.1 e)
+                              | inr no_watch ↦
+                                  elim (cases_Bool (bytes_eq (codes "format") w)) [
+                                    | inl is ↦ (Format, begins Format w rest ((bytes_eq-Decides (codes "format") w).0 is) parts.1 e)
+                                    | inr no_format ↦
+                                        elim (cases_Bool (bytes_eq (codes "certify") w)) [
+                                          | inl is ↦ (Certify, begins Certify w rest ((bytes_eq-Decides (codes "certify") w).0 is) parts.1 e)
+                                          | inr no_certify ↦
+                                              elim (cases_Bool (bytes_eq (codes "make") w)) [
+                                                | inl is ↦ (Make 0 0, begins (Make 0 0) w rest ((bytes_eq-Decides (codes "make") w).0 is) parts.1 e)
+                                                | inr no_make ↦
+                                                    elim (cases_Bool (bytes_eq (codes "soak") w)) [
+                                                      | inl is ↦ (Soak 0 0, begins (Soak 0 0) w rest ((bytes_eq-Decides (codes "soak") w).0 is) parts.1 e)
+                                                      | inr no_soak ↦
+                                                          let none : find (answers_to w) sub_names ≡ None =
+                                                          rw (no_check, no_fly, no_replay, no_recover, no_watch, no_format, no_certify, no_make, no_soak)
+                                                          refl in
+                                                          absurd (strays (built program).top sub_names w rest refl parts.0 none (neither _ _ e).0)
+                                                    ]
                                               ]
                                         ]
                                   ]
@@ -191,6 +198,9 @@ named Replay rest =
 named Recover rest =
     subst (λ (p : Option (Text × List Text)). option_map (λ q. q.0) (entered (built program) p) ≡ Some (codes "recover"))
     (sym (stops sub_names nothing_held idle 1 false (codes "recover") [] rest)) refl
+named (Watch formula) rest =
+    subst (λ (p : Option (Text × List Text)). option_map (λ q. q.0) (entered (built program) p) ≡ Some (codes "watch"))
+    (sym (stops sub_names nothing_held idle 1 false (codes "watch") [] rest)) refl
 named Format rest =
     subst (λ (p : Option (Text × List Text)). option_map (λ q. q.0) (entered (built program) p) ≡ Some (codes "format"))
     (sym (stops sub_names nothing_held idle 1 false (codes "format") [] rest)) refl
@@ -213,13 +223,20 @@ soak_taken : (x y : ℕ) (xs ys : List ℕ) → (x == 45) ≡ false → (y == 45
 unfolding clap_on_literals
 soak_taken x y xs ys p q = rw (p, p, q, q) refl
 
+-- so is one behind `watch`, also an empty one
+watch_taken : (t : Text) → is_dashed t ≡ false → fault_of program (codes "watch" ∷ t ∷ []) ≡ []
+unfolding clap_on_literals
+watch_taken [] p = refl
+watch_taken (x ∷ xs) p = rw (p, p) refl
+
 -- the words that ask for a command are taken
-pub taken : (c : Command) → IsInForm c → fault_of program (word_of c ∷ map decimal (numbers_of c)) ≡ []
+pub taken : (c : Command) → IsInForm c → fault_of program (word_of c ∷ words_behind c) ≡ []
 unfolding clap_on_literals
 taken Check form = refl
 taken Fly form = refl
 taken Replay form = refl
 taken Recover form = refl
+taken (Watch formula) form = watch_taken formula.now form
 taken Format form = refl
 taken Certify form = refl
 taken (Make n seed) form =
@@ -242,11 +259,12 @@ dashed_words (w ∷ words) = ap (λ (b : Bool). is_dashed (string_bytes w) || b)
 two_dashless : (word : Text) (n seed : ℕ) → is_dashed word ≡ false → AreAsked n seed → list_any is_dashed (word ∷ decimal n ∷ decimal seed ∷ []) ≡ false
 two_dashless word n seed plain form = rw (plain, dashless n (omega arith), dashless seed (omega arith)) refl
 
-no_dash : (c : Command) → IsInForm c → list_any is_dashed (word_of c ∷ map decimal (numbers_of c)) ≡ false
+no_dash : (c : Command) → IsInForm c → list_any is_dashed (word_of c ∷ words_behind c) ≡ false
 no_dash Check form = refl
 no_dash Fly form = refl
 no_dash Replay form = refl
 no_dash Recover form = refl
+no_dash (Watch formula) form = rw form refl
 no_dash Format form = refl
 no_dash Certify form = refl
 no_dash (Make n seed) form = two_dashless (codes "make") n seed refl form
@@ -258,60 +276,71 @@ dash_asks words c dash asks =
     let clean : true ≡ false = sym dash ∙ dashed_words words ∙ ap (list_any is_dashed) asks.0 ∙ no_dash c asks.1 in
     absurd cc
 
--- a word says whether numbers stand behind it
-is_bare : List ℕ → Bool
+-- a word says whether words stand behind it
+is_bare : List Text → Bool
 is_bare [] = true
-is_bare (n ∷ ns) = false
+is_bare (t ∷ ts) = false
 
 wants_none : Text → Bool
-wants_none word = if bytes_eq word (codes "make") then false else if bytes_eq word (codes "soak") then false else true
+wants_none word =
+    if bytes_eq word (codes "make") then false
+    else if bytes_eq word (codes "soak") then false
+    else if bytes_eq word (codes "watch") then false
+    else true
 
-bare_word : (c : Command) → is_bare (numbers_of c) ≡ wants_none (word_of c)
+bare_word : (c : Command) → is_bare (words_behind c) ≡ wants_none (word_of c)
 unfolding is_bare wants_none
 bare_word Check = refl
 bare_word Fly = refl
 bare_word Replay = refl
 bare_word Recover = refl
+bare_word (Watch formula) = refl
 bare_word Format = refl
 bare_word Certify = refl
 bare_word (Make n seed) = refl
 bare_word (Soak n seed) = refl
 
-bare_none : (ns : List ℕ) → is_bare ns ≡ true → ns ≡ []
+bare_none : (ts : List Text) → is_bare ts ≡ true → ts ≡ []
 unfolding is_bare
 bare_none [] e = refl
-bare_none (n ∷ ns) e = absurd cc
+bare_none (t ∷ ts) e = absurd cc
 
--- commands of one word have both no numbers
-both_bare : (c d : Command) → word_of c ≡ word_of d → is_bare (numbers_of c) ≡ true → numbers_of d ≡ []
-both_bare c d same e = bare_none (numbers_of d) (bare_word d ∙ ap wants_none (sym same) ∙ sym (bare_word c) ∙ e)
+-- commands of one word have both no word behind it
+both_bare : (c d : Command) → word_of c ≡ word_of d → is_bare (words_behind c) ≡ true → words_behind d ≡ []
+both_bare c d same e = bare_none (words_behind d) (bare_word d ∙ ap wants_none (sym same) ∙ sym (bare_word c) ∙ e)
 
 head_same : (a b : Text) (behind rest : List Text) → a ∷ behind ≡ b ∷ rest → a ≡ b
 head_same a b behind rest e = cc
 
--- a command's word, with its numbers behind the first word
-asked : (words : List (String Global)) (d : Command) (rest : List Text) → map string_bytes words ≡ word_of d ∷ rest → (numbers_of d ≡ [] → rest ≡ [])
+-- a command's word, with what belongs to it behind the first word
+asked : (words : List (String Global)) (d : Command) (rest : List Text) → list_any is_dashed (map string_bytes words) ≡ false
+    → map string_bytes words ≡ word_of d ∷ rest → (words_behind d ≡ [] → rest ≡ [])
     → (c : Command) → word_of c ≡ word_of d → IsNumbered words c → Asks words c
 unfolding is_bare
-asked words d rest begins none Check same numbered = (begins ∙ cc (none (both_bare Check d same refl)), tt)
-asked words d rest begins none Fly same numbered = (begins ∙ cc (none (both_bare Fly d same refl)), tt)
-asked words d rest begins none Replay same numbered = (begins ∙ cc (none (both_bare Replay d same refl)), tt)
-asked words d rest begins none Recover same numbered = (begins ∙ cc (none (both_bare Recover d same refl)), tt)
-asked words d rest begins none Format same numbered = (begins ∙ cc (none (both_bare Format d same refl)), tt)
-asked words d rest begins none Certify same numbered = (begins ∙ cc (none (both_bare Certify d same refl)), tt)
-asked words d rest begins none (Make n seed) same (name, is, form) =
+asked words d rest plain begins none Check same numbered = (begins ∙ cc (none (both_bare Check d same refl)), tt)
+asked words d rest plain begins none Fly same numbered = (begins ∙ cc (none (both_bare Fly d same refl)), tt)
+asked words d rest plain begins none Replay same numbered = (begins ∙ cc (none (both_bare Replay d same refl)), tt)
+asked words d rest plain begins none Recover same numbered = (begins ∙ cc (none (both_bare Recover d same refl)), tt)
+asked words d rest plain begins none (Watch formula) same (name, is) =
+    let first : name ≡ codes "watch" = head_same name (word_of d) _ rest (sym is ∙ begins) ∙ sym same in
+    let behind = or_parts (is_dashed name) (is_dashed formula.now || false) (ap (list_any is_dashed) (sym is) ∙ plain) in
+    (is ∙ ap (λ (t : Text). t ∷ formula.now ∷ []) first, (or_parts (is_dashed formula.now) false behind.1).0)
+asked words d rest plain begins none Format same numbered = (begins ∙ cc (none (both_bare Format d same refl)), tt)
+asked words d rest plain begins none Certify same numbered = (begins ∙ cc (none (both_bare Certify d same refl)), tt)
+asked words d rest plain begins none (Make n seed) same (name, is, form) =
     let first : name ≡ codes "make" = head_same name (word_of d) _ rest (sym is ∙ begins) ∙ sym same in
     (is ∙ ap (λ (t : Text). t ∷ decimal n ∷ decimal seed ∷ []) first, form)
-asked words d rest begins none (Soak n seed) same (name, is, form) =
+asked words d rest plain begins none (Soak n seed) same (name, is, form) =
     let first : name ≡ codes "soak" = head_same name (word_of d) _ rest (sym is ∙ begins) ∙ sym same in
     (is ∙ ap (λ (t : Text). t ∷ decimal n ∷ decimal seed ∷ []) first, form)
 
--- words that ask for a command have its numbers behind the first word
+-- words that ask for a command have its numbers or its formula behind the first word
 numbered_asks : (words : List (String Global)) (c : Command) → Asks words c → IsNumbered words c
 numbered_asks words Check asks = tt
 numbered_asks words Fly asks = tt
 numbered_asks words Replay asks = tt
 numbered_asks words Recover asks = tt
+numbered_asks words (Watch formula) (is, form) = (codes "watch", is)
 numbered_asks words Format asks = tt
 numbered_asks words Certify asks = tt
 numbered_asks words (Make n seed) (is, form) = (codes "make", is, form)
@@ -325,14 +354,14 @@ found_asks words name (Err f) plain free is ok = tt
 found_asks words name (Ok c) plain free is (names, numbered) =
     let one = only (map string_bytes words) (sym (dashed_words words) ∙ plain) free in
     let first : name ≡ Some (word_of one.0) = is ∙ ap (λ (ws : List Text). option_map (λ p. p.0) (subcommand_of program ws)) one.1.1 ∙ named one.0 one.1.0 in
-    asked words one.0 one.1.0 one.1.1 one.1.2 c (same_Some (word_of c) (word_of one.0) (sym names ∙ first)) numbered
+    asked words one.0 one.1.0 (sym (dashed_words words) ∙ plain) one.1.1 one.1.2 c (same_Some (word_of c) (word_of one.0) (sym names ∙ first)) numbered
 
 -- and ask for nothing where nothing was found
 pub lost_asks : (words : List (String Global)) (name : Option Text) → name ≡ option_map (λ p. p.0) (subcommand_of program (map string_bytes words))
     → ((c : Command) → name ≡ Some (word_of c) → ¬ (IsNumbered words c)) → (c : Command) → ¬ (Asks words c)
 lost_asks words name is none c asks =
     let names : name ≡ Some (word_of c) = is ∙ ap (λ (ws : List Text). option_map (λ p. p.0) (subcommand_of program ws)) asks.0
-    ∙ named c (map decimal (numbers_of c)) in
+    ∙ named c (words_behind c) in
     none c names (numbered_asks words c asks)
 
 -- the name of the subcommand that was found
@@ -364,6 +393,7 @@ make_wants words Check e behind = absurd cc
 make_wants words Fly e behind = absurd cc
 make_wants words Replay e behind = absurd cc
 make_wants words Recover e behind = absurd cc
+make_wants words (Watch formula) e behind = absurd cc
 make_wants words Format e behind = absurd cc
 make_wants words Certify e behind = absurd cc
 make_wants words (Make n seed) e behind = (n, seed, behind)
@@ -375,10 +405,23 @@ soak_wants words Check e behind = absurd cc
 soak_wants words Fly e behind = absurd cc
 soak_wants words Replay e behind = absurd cc
 soak_wants words Recover e behind = absurd cc
+soak_wants words (Watch formula) e behind = absurd cc
 soak_wants words Format e behind = absurd cc
 soak_wants words Certify e behind = absurd cc
 soak_wants words (Make n seed) e behind = (let first : 115 ≡ 109 = ap (λ (t : Text). get_or t 0 0) e in absurd (omega (arith, first)))
 soak_wants words (Soak n seed) e behind = (n, seed, behind)
+
+-- and `watch` wants a formula
+pub watch_wants : (words : List (String Global)) (c : Command) → codes "watch" ≡ word_of c → IsNumbered words c → (formula : List ℕ) × HasFormula words formula
+watch_wants words Check e behind = (let first : 119 ≡ 99 = ap (λ (t : Text). get_or t 0 0) e in absurd (omega (arith, first)))
+watch_wants words Fly e behind = absurd cc
+watch_wants words Replay e behind = absurd cc
+watch_wants words Recover e behind = absurd cc
+watch_wants words (Watch formula) e behind = (formula.now, behind)
+watch_wants words Format e behind = absurd cc
+watch_wants words Certify e behind = absurd cc
+watch_wants words (Make n seed) e behind = absurd cc
+watch_wants words (Soak n seed) e behind = absurd cc
 
 -- an error stays one, whatever was wanted
 pub err_again : {T U : Type 0} (f : WordFail) → IsErrOf {T = T} {E = WordFail} (Err f) Form → IsErrOf {T = U} {E = WordFail} (Err f) Form

@@ -5,11 +5,11 @@ use Rattle.std.proofs.lemmas.List.{length-append}
 use Rattle.std.specs.Io.KnownBytes.{Appends}
 use Rattle.sot_ports.specs.Faults.{Rose}
 use Rattle.sot_commands.specs.declared.words.Command.{Command}
-use Rattle.sot_commands.specs.declared.words.Command.TheVariants.{Check, Fly, Replay, Recover, Format, Certify, Make, Soak}
+use Rattle.sot_commands.specs.declared.words.Command.TheVariants.{Check, Fly, Replay, Recover, Watch, Format, Certify, Make, Soak}
 use Rattle.sot_commands.specs.Answers.{Accepts, Refutes, Rejects, Replies, given_to, input_limit}
 use Rattle.sot_commands.specs.Steps.{WordAnswer}
 use Rattle.sot_ports.specs.Outside.{Outside, Written}
-use Rattle.sot_commands.specs.Ends.{Ends, Takes, Done, IsUsage, IsTooLong, IsAnswer, Decides}
+use Rattle.sot_commands.specs.Ends.{Ends, Takes, Done, IsUsage, IsTooLong, IsAnswer, Decides, FliesWatched}
 use Rattle.sot_commands.proofs.Unique.{decides_once}
 
 -- a status, and the text that belongs to it
@@ -25,6 +25,7 @@ given Check xs after bytes all = sym all.0
 given Fly xs after bytes all = sym all.0
 given Replay xs after bytes all = sym all.0
 given Recover xs after bytes all = sym all.0
+given (Watch formula) xs after bytes all = sym all.0
 given Format xs after bytes all = sym all.0
 given Certify xs after bytes all = sym all.0
 given (Make n seed) xs after bytes none = none.0
@@ -44,9 +45,9 @@ decides guests words (Some xs) (Some ys) status text (inl (c, asks, inr (reads, 
     let whole = ap length taken in
     inr (inl (is, (c, reads, asks), omega (arith, whole, length-append bytes ys)))
 
--- it is the one status that words and bytes decide
+-- it is the one status that words and bytes decide, but for a watched flight
 only : (guests : ℕ) (words : List (String Global)) (left : Option (List ℕ)) (status : ℕ) → IfSome left (λ bytes. Decides guests words bytes status)
-    → IfSome left (λ bytes. (s : ℕ) → Decides guests words bytes s → status ≡ s)
+    → IfSome left (λ bytes. (s : ℕ) → Decides guests words bytes s → (status ≡ s) ⊎ ((status ≤ 1) × (s ≤ 1) × FliesWatched guests words bytes))
 only guests words None status one = tt
 only guests words (Some bytes) status one = λ s other. decides_once guests words bytes status s one other
 

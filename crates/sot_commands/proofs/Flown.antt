@@ -1,5 +1,5 @@
 -- What is said of a flight that was flown, or whose start is refused.
-use Rattle.std.proofs.Common.{◌≡◌, ◌∙◌, ap, subst, refl, ℕ, suc, List, [], Option, None, Some, length, Result, Ok, Err, inl, inr}
+use Rattle.std.proofs.Common.{◌≡◌, ◌∙◌, ap, sym, subst, refl, ℕ, suc, List, [], Option, None, Some, length, Result, Ok, Err, inl, inr}
 use Rattle.std.specs.Prelude.{IfOk, slice_index_or}
 use Rattle.std.specs.declared.alloc.AllocError.{AllocError}
 use Rattle.sot_sections.specs.declared.mission.Need.TheVariants as needs
@@ -19,39 +19,54 @@ use Rattle.sot_report.specs.Missions.{Mission, SaysFlight}
 use Rattle.sot_commands.specs.declared.answer.Answer.{Answer}
 use Rattle.sot_commands.specs.Answers.{IsOutsideOf, SpellsFor}
 use Rattle.sot_commands.specs.declared.telling.Telling.{Telling}
-use Rattle.sot_commands.specs.declared.telling.Telling.TheVariants.{Trace, Summary}
-use Rattle.sot_commands.specs.Orders.{IsToldOf}
-use Rattle.sot_commands.specs.Steps.{told_text, JudgesFlight}
+use Rattle.sot_commands.specs.declared.telling.Telling.TheVariants.{Trace, Summary, Verdict}
+use Rattle.sot_commands.specs.Steps.{Tells, JudgesFlight}
 
 -- a safer opening at the flight's points
 pub starts_inside : (t : Tables) (f : Plan) (P : Position) → IsStart t f P → IsSafer t P.at → StartInside t f.start (length t.modules)
 starts_inside t f P start safer = λ k a lt at. subst (λ points. IsInRegion a.safer.boxes (slice_index_or points a.plant [])) start.opening.points (safer k a at)
 
--- what is told of a history of the flight is told of the flight
-told_of : (telling : Telling) (t : Tables) (jitter : ℕ) (f : Plan) (history : List Logged) (text : List ℕ) → StartInside t f.start (length t.modules)
-    → FlownBy t jitter f history
-    → text ≡ told_text telling t f history → IsToldOf telling t jitter f text
-told_of Trace t jitter f history text inside flown said = (inside, (history, flown, said))
-told_of Summary t jitter f history text inside flown said = (inside, (history, flown, said))
+-- a history of the board's flight, by other names for its program and its flight
+pub flown_here : (acc : Admitted) (f : Plan) (b : Standing) → b.accepted ≡ acc → b.plan ≡ f
+    → FlownBy b.accepted.program b.accepted.cert.jitter b.plan b.entries → FlownBy acc.program acc.cert.jitter f b.entries
+flown_here acc f b is plan flown =
+    subst (λ (g : Plan). FlownBy acc.program acc.cert.jitter g b.entries) plan
+    (subst (λ (x : Admitted). FlownBy x.program x.cert.jitter b.plan b.entries) is flown)
 
-pub told_result :
-    (r : Result Answer AllocError) (telling : Telling) (acc : Admitted) (f : Plan) (b : Standing) → b.accepted ≡ acc → b.plan ≡ f
+pub tells_here : (r : Result Answer AllocError) (telling : Telling) (acc given : Admitted) (f : Plan) (b : Standing) → acc ≡ given → b.plan ≡ f
+    → IfOk r (λ a. Tells telling given.program b.plan b.entries a.status a.text.items)
+    → IfOk r (λ a. Tells telling acc.program f b.entries a.status a.text.items)
+tells_here (Ok a) telling acc given f b same plan tells =
+    subst (λ (g : Plan). Tells telling acc.program g b.entries a.status a.text.items) plan
+    (subst (λ (x : Admitted). Tells telling x.program b.plan b.entries a.status a.text.items) (sym same) tells)
+tells_here (Err e) telling acc given f b same plan tells = tt
+
+-- what is told of a history of the flight is told of the flight
+told_of : (telling : Telling) (t : Tables) (jitter : ℕ) (f : Plan) (history : List Logged) (status : ℕ) (text : List ℕ)
+    → StartInside t f.start (length t.modules) → FlownBy t jitter f history
+    → Tells telling t f history status text → JudgesFlight telling t jitter f status text
+told_of Trace t jitter f history status text inside flown (inl (plain, zero, said)) = inl (zero, (inside, (history, flown, said)))
+told_of Trace t jitter f history status text inside flown (inr verdict) = absurd verdict
+told_of Summary t jitter f history status text inside flown (inl (plain, zero, said)) = inl (zero, (inside, (history, flown, said)))
+told_of Summary t jitter f history status text inside flown (inr verdict) = absurd verdict
+told_of (Verdict formula) t jitter f history status text inside flown (inl (plain, zero, said)) = absurd (plain tt)
+told_of (Verdict formula) t jitter f history status text inside flown (inr (x, is, inl (zero, tells))) =
+    inl (zero, (inside, (x, history, is, flown, tells)))
+told_of (Verdict formula) t jitter f history status text inside flown (inr (x, is, inr (one, tells))) =
+    inr (one, inr (inside, (x, history, is, flown, tells)))
+
+pub told_result : (r : Result Answer AllocError) (telling : Telling) (acc : Admitted) (f : Plan) (history : List Logged)
     → StartInside acc.program f.start (length acc.program.modules)
-    → FlownBy b.accepted.program b.accepted.cert.jitter b.plan b.entries → IfOk r (λ a. a.status ≡ 0)
-    → IfOk r (λ a. a.text.items ≡ told_text telling b.accepted.program b.plan b.entries)
+    → FlownBy acc.program acc.cert.jitter f history → IfOk r (λ a. Tells telling acc.program f history a.status a.text.items)
     → IfOk r (λ a. JudgesFlight telling acc.program acc.cert.jitter f a.status a.text.items)
-told_result (Ok a) telling acc f b is plan inside flown status text =
-    let of_program = subst (λ (x : Admitted). FlownBy x.program x.cert.jitter b.plan b.entries) is flown in
-    let of_flight = subst (λ (g : Plan). FlownBy acc.program acc.cert.jitter g b.entries) plan of_program in
-    let said = text ∙ ap (λ (x : Admitted). told_text telling x.program b.plan b.entries) is
-    ∙ ap (λ (g : Plan). told_text telling acc.program g b.entries) plan in
-    inl (status, told_of telling acc.program acc.cert.jitter f b.entries a.text.items inside of_flight said)
-told_result (Err e) telling acc f b is plan inside flown status text = tt
+told_result (Ok a) telling acc f history inside flown tells =
+    told_of telling acc.program acc.cert.jitter f history a.status a.text.items inside flown tells
+told_result (Err e) telling acc f history inside flown tells = tt
 
 pub outside_result : (r : Result Answer AllocError) (telling : Telling) (t : Tables) (jitter : ℕ) (f : Plan) → IfOk r (λ a. a.status ≡ 1)
     → IfOk r (λ a. IsOutsideOf t f a.text.items)
     → IfOk r (λ a. JudgesFlight telling t jitter f a.status a.text.items)
-outside_result (Ok a) telling t jitter f status text = inr (status, text)
+outside_result (Ok a) telling t jitter f status text = inr (status, inl text)
 outside_result (Err e) telling t jitter f status text = tt
 
 -- a mission that is to be flown has a flight

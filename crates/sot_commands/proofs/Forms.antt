@@ -1,6 +1,6 @@
 -- What is said of a text, from what it spells.
 use Rattle.std.proofs.Common.{◌≡◌, ℕ, List, Some, Result, Ok, Err, inl, inr}
-use Rattle.std.specs.Prelude.{IfOk}
+use Rattle.std.specs.Prelude.{IfOk, ◌≢◌}
 use Rattle.std.specs.declared.alloc.AllocError.{AllocError}
 use Rattle.sot_sections.specs.declared.mission.Need.TheVariants as needs
 use Rattle.sot_tree.specs.Trees.{Program}
@@ -23,10 +23,14 @@ use Rattle.sot_report.specs.RefusalTexts.{refusal_text}
 use Rattle.sot_report.specs.AcceptedTexts.{accepted_text}
 use Rattle.sot_commands.specs.declared.answer.Answer.{Answer}
 use Rattle.sot_commands.specs.declared.words.Command.TheVariants.{Check, Format}
-use Rattle.sot_commands.specs.Answers.{SpellsFor, Replies}
+use Rattle.sot_formula.specs.declared.fail.MonitorFail.{MonitorFail}
+use Rattle.sot_formula.specs.declared.fail.MonitorFail.TheVariants as monitor_fails
+use Rattle.sot_commands.specs.WatchTexts.{formula_text}
+use Rattle.sot_commands.specs.Answers.{SpellsFor, IsStopped, Replies}
 use Rattle.sot_commands.specs.declared.telling.Telling.{Telling}
-use Rattle.sot_commands.specs.Orders.{FliesBytes}
-use Rattle.sot_commands.specs.Steps.{Judges, JudgesFlight, JudgesFlown}
+use Rattle.sot_commands.specs.declared.telling.Telling.TheVariants.{Trace, Summary, Verdict}
+use Rattle.sot_commands.specs.Orders.{IsFailedOf, RefusesFlight, IsFaulty, FliesBytes}
+use Rattle.sot_commands.specs.Steps.{Judges, JudgesFlight, JudgesFlown, JudgesWatched, MeansFor, FailsFor}
 
 -- `format`: a text that spells a program has its canonical text said
 pub formatted_result : (guests : ℕ) (r : Result Answer AllocError) (bytes : List ℕ) (program : Program) → Spells bytes 0 program → IfOk r (λ a. a.status ≡ 0)
@@ -87,23 +91,59 @@ pub unflown_result : (r : Result Answer AllocError) (telling : Telling) (t : Tab
 unflown_result (Ok a) telling t c f v refuses status text = inr (status, (v, refuses, text))
 unflown_result (Err e) telling t c f v refuses status text = tt
 
+-- a formula that may watch the flight has a meaning, or a fault
+pub watched_result : (r : Result Answer AllocError) (telling : Telling) (t : Tables) (c : Cert) (f : Plan) → MeansFor telling t
+    → IfOk r (λ a. JudgesFlown telling t c f a.status a.text.items) → IfOk r (λ a. JudgesWatched telling t c f a.status a.text.items)
+watched_result (Ok a) telling t c f means judges = inl (means, judges)
+watched_result (Err e) telling t c f means judges = tt
+
+pub unwatched_result : (r : Result Answer AllocError) (telling : Telling) (t : Tables) (c : Cert) (f : Plan) (fail : MonitorFail) → FailsFor telling t fail
+    → IfOk r (λ a. a.status ≡ 3) → IfOk r (λ a. (fail ≢ monitor_fails.Memory) × (a.text.items ≡ formula_text fail))
+    → IfOk r (λ a. JudgesWatched telling t c f a.status a.text.items)
+unwatched_result (Ok a) telling t c f fail fails status (enough, text) = inr (status, (fail, enough, fails, text))
+unwatched_result (Err e) telling t c f fail fails status text = tt
+
 -- and what is said of these is said of the mission
-flown : (guests : ℕ) (telling : Telling) (bytes text : List ℕ) (status : ℕ) (m : Mission) (f : Plan) → SpellsFor needs.Fly guests bytes m → m.flight ≡ Some f
-    → JudgesFlown telling m.tables m.cert f status text
-    → FliesBytes guests telling bytes status text
-flown guests telling bytes text status m f spells is (inl (certified, safe, inl (zero, says))) = inl (zero, (m, spells, certified, safe, (f, is, says)))
-flown guests telling bytes text status m f spells is (inl (certified, safe, inr (one, outside))) =
-    inr (inl (one, (m, spells, inr (certified, (f, is, outside)))))
-flown guests telling bytes text status m f spells is (inr (one, refused)) = inr (inl (one, (m, spells, inl refused)))
+module _ (guests : ℕ) (bytes text : List ℕ) (m : Mission) (f : Plan) (spells : SpellsFor needs.Fly guests bytes m) (is : m.flight ≡ Some f) where
+  stopped : (telling : Telling) → MeansFor telling m.tables → IsStopped m text → RefusesFlight telling guests bytes text
+  stopped Trace means stop = (m, spells, stop)
+  stopped Summary means stop = (m, spells, stop)
+  stopped (Verdict formula) means stop = inr (m, spells, means, stop)
+
+  failed : (telling : Telling) → IsWellCertified m.tables m.cert.jitter m.cert → EveryRunIsSafe m.tables m.cert.jitter
+      → IsFailedOf telling m.tables m.cert.jitter f text → RefusesFlight telling guests bytes text
+  failed Trace certified safe fails = absurd fails
+  failed Summary certified safe fails = absurd fails
+  failed (Verdict formula) certified safe fails = inl (m, spells, certified, safe, (f, is, fails))
+
+  misread : (telling : Telling) (fail : MonitorFail) → fail ≢ monitor_fails.Memory → FailsFor telling m.tables fail → text ≡ formula_text fail
+      → IsFaulty telling guests bytes text
+  misread Trace fail enough fails said = absurd fails
+  misread Summary fail enough fails said = absurd fails
+  misread (Verdict formula) fail enough fails said = inr (m, spells, (fail, enough, fails, said))
+
+  flown : (telling : Telling) (status : ℕ) → JudgesWatched telling m.tables m.cert f status text → FliesBytes guests telling bytes status text
+  flown telling status (inl (means, inl (certified, safe, inl (zero, says)))) = inl (zero, (m, spells, certified, safe, (f, is, says)))
+  flown telling status (inl (means, inl (certified, safe, inr (one, inl outside)))) =
+      inr (inl (one, stopped telling means (inr (certified, (f, is, outside)))))
+  flown telling status (inl (means, inl (certified, safe, inr (one, inr fails)))) = inr (inl (one, failed telling certified safe fails))
+  flown telling status (inl (means, inr (one, refused))) = inr (inl (one, stopped telling means (inl refused)))
+  flown telling status (inr (three, (fail, enough, fails, said))) = inr (inr (three, misread telling fail enough fails said))
 
 pub flown_result : (guests : ℕ) (r : Result Answer AllocError) (telling : Telling) (bytes : List ℕ) (m : Mission) (f : Plan)
     → SpellsFor needs.Fly guests bytes m → m.flight ≡ Some f
-    → IfOk r (λ a. JudgesFlown telling m.tables m.cert f a.status a.text.items) → IfOk r (λ a. FliesBytes guests telling bytes a.status a.text.items)
-flown_result guests (Ok a) telling bytes m f spells is judges = flown guests telling bytes a.text.items a.status m f spells is judges
+    → IfOk r (λ a. JudgesWatched telling m.tables m.cert f a.status a.text.items) → IfOk r (λ a. FliesBytes guests telling bytes a.status a.text.items)
+flown_result guests (Ok a) telling bytes m f spells is judges = flown guests bytes a.text.items m f spells is telling a.status judges
 flown_result guests (Err e) telling bytes m f spells is judges = tt
+
+unread : (telling : Telling) (guests : ℕ) (bytes text : List ℕ) (fault : Fault) → HasFault needs.Fly guests bytes fault → text ≡ fault_text fault
+    → IsFaulty telling guests bytes text
+unread Trace guests bytes text fault has said = (fault, has, said)
+unread Summary guests bytes text fault has said = (fault, has, said)
+unread (Verdict formula) guests bytes text fault has said = inl (fault, has, said)
 
 pub unread_result : (guests : ℕ) (r : Result Answer AllocError) (telling : Telling) (bytes : List ℕ) (fault : Fault) → HasFault needs.Fly guests bytes fault
     → IfOk r (λ a. a.status ≡ 3)
     → IfOk r (λ a. a.text.items ≡ fault_text fault) → IfOk r (λ a. FliesBytes guests telling bytes a.status a.text.items)
-unread_result guests (Ok a) telling bytes fault has status text = inr (inr (status, (fault, has, text)))
+unread_result guests (Ok a) telling bytes fault has status text = inr (inr (status, unread telling guests bytes a.text.items fault has text))
 unread_result guests (Err e) telling bytes fault has status text = tt

@@ -10,7 +10,7 @@ use Rattle.sot_commands.specs.declared.telling.Telling.{Telling}
 use Rattle.sot_commands.specs.Answers.{SpellsFor}
 use Rattle.sot_commands.specs.Guests.{GuestsFlew, Flew, UnnamedStay}
 use Rattle.sot_commands.specs.Steps.{GuestsDid}
-use Rattle.sot_commands.proofs.Guests.{flew_mission}
+use Rattle.sot_commands.proofs.Guests.{flew_mission, unasked_mission}
 use Rattle.sot_sections.specs.declared.mission.Need.TheVariants as needs
 use Rattle.sot_law_one_trace.proofs.OneHistory.{one_history}
 use Rattle.sot_node_worker.specs.Askings.{Asking}
@@ -30,12 +30,14 @@ pub mission_guests : {C : Type 0} (told : C → Option (List Asking)) (r : Resul
     → GuestsDid told telling r (EachUnnamedStays f before.items after.items) (λ text. GuestsFlew told m.tables m.cert.jitter f text before.items after.items)
     before after
     → GuestsDid told telling r (UnnamedStay guests bytes before.items after.items) (λ text. Flew told guests bytes text before.items after.items) before after
-mission_guests told r telling guests bytes m f before after spells is did = record {
-  count = did.count;
-  go_on = did.go_on;
-  unasked = did.unasked;
-  stay =
-      λ n g spells' is'. subst (λ (h : Plan). EachUnnamedStays h before.items after.items) (flight_same needs.Fly guests bytes m n spells spells' f g is is')
-      did.stay;
-  flew = flew_mission told r telling guests bytes m f before.items after.items spells is did.flew;
-}
+mission_guests told r telling guests bytes m f before after spells is did =
+    let so : (text : List ℕ) → GuestsFlew told m.tables m.cert.jitter f text before.items after.items → Flew told guests bytes text before.items after.items =
+    λ text flew. record { mission = m; spelled = spells; plan = f; flight = is; flew = flew } in record {
+      count = did.count;
+      go_on = did.go_on;
+      unasked = unasked_mission (after ≡ before) r telling _ _ so did.unasked;
+      stay =
+          λ n g spells' is'. subst (λ (h : Plan). EachUnnamedStays h before.items after.items)
+          (flight_same needs.Fly guests bytes m n spells spells' f g is is') did.stay;
+      flew = flew_mission r telling _ _ so did.flew;
+    }

@@ -1,6 +1,6 @@
 -- What becomes of guests.
 use Rattle.std.proofs.Common.{◌≡◌, ◌⊎◌, ⊎_elim, ℕ, zero, suc, List, [], ◌∷◌, Option, None, Some, Result, Ok, Err, inl, inr, refl, sym, ap, ◌∙◌, subst}
-use Rattle.std.proofs.Common.{append-nil, arith, ◌<◌, true}
+use Rattle.std.proofs.Common.{append-nil, arith, ◌+◌, ◌++◌, ◌<◌, true}
 use Rattle.std.specs.Prelude.{IfOk, ◌==◌, ◌≢◌, vec_len}
 use Rattle.std.specs.Global.{Vec}
 use Rattle.std.specs.Io.KnownBytes.{Appends}
@@ -14,6 +14,7 @@ use Rattle.sot_tube.specs.Admitted.{Admitted}
 use Rattle.sot_world.specs.HistoryEntry.{Logged}
 use Rattle.sot_flight.specs.Plans.{Plan, Crew, Coded, Script, Wild, Guest}
 use Rattle.sot_board.specs.Flown.{FlownBy}
+use Rattle.sot_trace.specs.Traces.{trace_text}
 use Rattle.sot_board.specs.Standing.{Standing}
 use Rattle.sot_node_worker.specs.Askings.{Asking}
 use Rattle.sot_node_worker.specs.Answers.{Answered}
@@ -22,13 +23,15 @@ use Rattle.sot_workers.specs.Asked.{EachAnswered, EachUnnamedStays}
 use Rattle.sot_workers.specs.Flying.{HasNoGuests}
 use Rattle.sot_commands.specs.declared.answer.Answer.{Answer}
 use Rattle.sot_commands.specs.declared.telling.Telling.{Telling}
-use Rattle.sot_commands.specs.declared.telling.Telling.TheVariants.{Trace, Summary}
-use Rattle.sot_commands.specs.Steps.{told_text, JudgesFlight, GuestsDid}
+use Rattle.sot_commands.specs.declared.telling.Telling.TheVariants.{Trace, Summary, Verdict}
+use Rattle.sot_commands.specs.WatchTexts.{holds_text, fails_text}
+use Rattle.sot_commands.specs.Steps.{Tells, JudgesFlight, IsBehind, FlewAndTold, GuestsDid}
 use Rattle.sot_ports.specs.Outside.{Written}
 use Rattle.sot_commands.specs.Answers.{SpellsFor}
 use Rattle.sot_report.specs.Missions.{Mission}
 use Rattle.sot_sections.specs.declared.mission.Need.TheVariants as needs
-use Rattle.sot_commands.specs.Guests.{TellsOn, GuestsGoOn, GuestsFlew, Flew, UnnamedStay}
+use Rattle.sot_commands.specs.Guests.{TellsOn, GuestsGoOn, GuestsFlew, UnnamedStay, IsNoTrace}
+use Rattle.sot_commands.proofs.NoTraces.{outside_no_trace}
 
 -- what is told as before is told on
 tells_same : (o : Option (List Asking)) → TellsOn o o
@@ -75,34 +78,79 @@ flew_told told a f history before after answered unnamed i was now at at' =
     (λ none. subst (λ x. TellsOn (told was) (told x)) (sym (unnamed i was now none at at')) (tells_same (told was)))
     (named_or_not f.crews i)
 
--- and flew the flight of their board
-pub flew_result : {C : Type 0} (told : C → Option (List Asking)) (r : Result Answer AllocError) (telling : Telling) (acc : Admitted) (f : Plan) (b : Standing)
-    (before after : List C) → b.accepted ≡ acc → b.plan ≡ f
-    → FlownBy b.accepted.program b.accepted.cert.jitter b.plan b.entries → IfOk r (λ a. a.text.items ≡ told_text telling b.accepted.program b.plan b.entries)
-    → EachAnswered told b.accepted b.plan b.entries before after → EachUnnamedStays b.plan before after
-    → IfOk r (λ a. a.status ≡ 0 → telling ≡ Trace → GuestsFlew told acc.program acc.cert.jitter f a.text.items before after)
-flew_result told (Ok a) Trace acc f b before after is plan flown text answered unnamed = λ zero trace.
-    subst (λ (g : Plan). GuestsFlew told acc.program acc.cert.jitter g a.text.items before after) plan
-    (subst (λ (x : Admitted). GuestsFlew told x.program x.cert.jitter b.plan a.text.items before after) is
-    (record { history = b.entries; flown = flown; text_is = text; answered = answered; unnamed = unnamed }))
-flew_result told (Ok a) Summary acc f b before after is plan flown text answered unnamed = λ zero trace. absurd cc
-flew_result told (Err e) telling acc f b before after is plan flown text answered unnamed = tt
+-- a history that is told, with what stands behind its trace
+module _ (t : Tables) (f : Plan) (history : List Logged) (status : ℕ) (said : List ℕ) where
+  behind_of : (telling : Telling) → telling ≢ Summary → Tells telling t f history status said
+      → (behind : List ℕ) × IsBehind telling status behind × (said ≡ trace_text t f.start history ++ behind)
+  behind_of Trace other (inl (plain, ended, is)) = ([], (ended, refl), is ∙ sym (append-nil (trace_text t f.start history)))
+  behind_of Trace other (inr verdict) = absurd verdict
+  behind_of Summary other tells = absurd (other refl)
+  behind_of (Verdict formula) other (inl (plain, ended, is)) = absurd (plain tt)
+  behind_of (Verdict formula) other (inr (x, means, inl (ended, (always, is)))) = (holds_text (f.horizon + 1), inl (ended, (f.horizon + 1, refl)), is)
+  behind_of (Verdict formula) other (inr (x, means, inr (one, (time, first, is)))) = (fails_text time, inr (one, (time, refl)), is)
+
+  module _ (Fly : List ℕ → Type 0) (fly : (text : List ℕ) → text ≡ trace_text t f.start history → Fly text) where
+    flew_as : (telling : Telling) → telling ≢ Summary → Tells telling t f history status said → FlewAndTold telling status said Fly
+    flew_as telling other tells =
+        (let (behind, stands, is) = behind_of telling other tells in
+        (trace_text t f.start history, behind, stands, is, fly (trace_text t f.start history) refl))
+
+    -- at another status than 0 it is a verdict's
+    unasked_as : {X : Type 0} (telling : Telling) → Tells telling t f history status said → status ≢ 0 → X ⊎ FlewAndTold telling status said Fly
+    unasked_as Trace (inl (plain, ended, is)) more = absurd (more ended)
+    unasked_as Trace (inr verdict) more = absurd verdict
+    unasked_as Summary (inl (plain, ended, is)) more = absurd (more ended)
+    unasked_as Summary (inr verdict) more = absurd verdict
+    unasked_as (Verdict formula) tells more = inr (flew_as (Verdict formula) (λ e. absurd cc) tells)
+
+-- guests that flew, and whose history is told
+pub flew_result : (r : Result Answer AllocError) (telling : Telling) (t : Tables) (f : Plan) (history : List Logged) (Fly : List ℕ → Type 0)
+    → ((text : List ℕ) → text ≡ trace_text t f.start history → Fly text) → IfOk r (λ a. Tells telling t f history a.status a.text.items)
+    → IfOk r (λ a. a.status ≡ 0 → telling ≢ Summary → FlewAndTold telling a.status a.text.items Fly)
+flew_result (Ok a) telling t f history Fly fly tells = λ ended other. flew_as t f history a.status a.text.items Fly fly telling other tells
+flew_result (Err e) telling t f history Fly fly tells = tt
+
+pub unasked_result : (X : Type 0) (r : Result Answer AllocError) (telling : Telling) (t : Tables) (f : Plan) (history : List Logged) (Fly : List ℕ → Type 0)
+    → ((text : List ℕ) → text ≡ trace_text t f.start history → Fly text) → IfOk r (λ a. Tells telling t f history a.status a.text.items)
+    → IfOk r (λ a. a.status ≢ 0 → (X × IsNoTrace a.text.items) ⊎ FlewAndTold telling a.status a.text.items Fly)
+unasked_result X (Ok a) telling t f history Fly fly tells = λ more. unasked_as t f history a.status a.text.items Fly fly telling tells more
+unasked_result X (Err e) telling t f history Fly fly tells = tt
 
 -- a flight that names no guest was flown by none, so all stay as they are
-pub flew_alone : {C : Type 0} (told : C → Option (List Asking)) (r : Result Answer AllocError) (telling : Telling) (t : Tables) (jitter : ℕ) (f : Plan)
-    (guests : List C) → HasNoGuests f
-    → IfOk r (λ a. JudgesFlight telling t jitter f a.status a.text.items)
-    → IfOk r (λ a. a.status ≡ 0 → telling ≡ Trace → GuestsFlew told t jitter f a.text.items guests guests)
-flew_alone told (Ok a) Trace t jitter f guests none (inl (well, (inside, (history, flown, said)))) = λ ended trace. record {
-  history = history;
-  flown = flown;
-  text_is = said;
-  answered = λ n i was now named at at'. absurd (none n i named);
-  unnamed = λ i was now unnamed at at'. at_same guests i now was at' at;
-}
-flew_alone told (Ok a) Trace t jitter f guests none (inr (one, said)) = λ ended trace. absurd (omega (arith, one, ended))
-flew_alone told (Ok a) Summary t jitter f guests none judged = λ ended trace. absurd cc
-flew_alone told (Err e) telling t jitter f guests none judged = tt
+module _ {C : Type 0} (told : C → Option (List Asking)) (t : Tables) (jitter : ℕ) (f : Plan) (guests : List C) (none : HasNoGuests f) where
+  flew_by_none : (history : List Logged) → FlownBy t jitter f history → (text : List ℕ) → text ≡ trace_text t f.start history
+      → GuestsFlew told t jitter f text guests guests
+  flew_by_none history flown text is = record {
+    history = history;
+    flown = flown;
+    text_is = is;
+    answered = λ n i was now named at at'. absurd (none n i named);
+    unnamed = λ i was now unnamed at at'. at_same guests i now was at' at;
+  }
+
+  alone_flew : (telling : Telling) (status : ℕ) (said : List ℕ) → JudgesFlight telling t jitter f status said → status ≡ 0 → telling ≢ Summary
+      → FlewAndTold telling status said (λ text. GuestsFlew told t jitter f text guests guests)
+  alone_flew Trace status said (inl (ended, (inside, (history, flown, is)))) none' other =
+      (said, [], (ended, refl), sym (append-nil said), flew_by_none history flown said is)
+  alone_flew Summary status said judged none' other = absurd (other refl)
+  alone_flew (Verdict formula) status said (inl (ended, (inside, (x, history, means, flown, (always, is))))) none' other = (
+    trace_text t f.start history,
+    holds_text (f.horizon + 1),
+    inl (ended, (f.horizon + 1, refl)),
+    is,
+    flew_by_none history flown (trace_text t f.start history) refl,
+  )
+  alone_flew Trace status said (inr (one, more)) none' other = absurd (omega (arith, one, none'))
+  alone_flew (Verdict formula) status said (inr (one, more)) none' other = absurd (omega (arith, one, none'))
+
+  alone_unasked : {X : Type 0} (telling : Telling) (status : ℕ) (said : List ℕ) → X → JudgesFlight telling t jitter f status said → status ≢ 0
+      → (X × IsNoTrace said) ⊎ FlewAndTold telling status said (λ text. GuestsFlew told t jitter f text guests guests)
+  alone_unasked telling status said x (inl (ended, tells)) more = absurd (more ended)
+  alone_unasked telling status said x (inr (one, inl outside)) more = inl (x, outside_no_trace t f said outside)
+  alone_unasked Trace status said x (inr (one, inr fails)) more = absurd fails
+  alone_unasked Summary status said x (inr (one, inr fails)) more = absurd fails
+  alone_unasked (Verdict formula) status said x (inr (one, inr (inside, (y, history, means, flown, (time, first, is))))) more =
+      inr (trace_text t f.start history, fails_text time, inr (one, (time, refl)), is, flew_by_none history flown (trace_text t f.start history) refl)
 
 -- where there are no guests, a flight that fits names none
 pub names_none : (p : Tables) (count : ℕ) (f : Plan) → FitsFlight p count f → (count == 0) ≡ true → HasNoGuests f
@@ -112,13 +160,26 @@ names_none p count f fits empty n i named =
     absurd (omega (arith, there, none))
 
 -- and that of the mission that the bytes spell
-pub flew_mission : {C : Type 0} (told : C → Option (List Asking)) (r : Result Answer AllocError) (telling : Telling) (guests : ℕ) (bytes : List ℕ) (m : Mission)
-    (f : Plan) (before after : List C) → SpellsFor needs.Fly guests bytes m → m.flight ≡ Some f
-    → IfOk r (λ a. a.status ≡ 0 → telling ≡ Trace → GuestsFlew told m.tables m.cert.jitter f a.text.items before after)
-    → IfOk r (λ a. a.status ≡ 0 → telling ≡ Trace → Flew told guests bytes a.text.items before after)
-flew_mission told (Ok a) telling guests bytes m f before after spells is flew =
-    λ zero trace. record { mission = m; spelled = spells; plan = f; flight = is; flew = flew zero trace }
-flew_mission told (Err e) telling guests bytes m f before after spells is flew = tt
+told_mapped : (telling : Telling) (status : ℕ) (said : List ℕ) (Fly Flies : List ℕ → Type 0) → ((text : List ℕ) → Fly text → Flies text)
+    → FlewAndTold telling status said Fly → FlewAndTold telling status said Flies
+told_mapped telling status said Fly Flies so (text, behind, stands, is, fly) = (text, behind, stands, is, so text fly)
+
+pub flew_mission : (r : Result Answer AllocError) (telling : Telling) (Fly Flies : List ℕ → Type 0) → ((text : List ℕ) → Fly text → Flies text)
+    → IfOk r (λ a. a.status ≡ 0 → telling ≢ Summary → FlewAndTold telling a.status a.text.items Fly)
+    → IfOk r (λ a. a.status ≡ 0 → telling ≢ Summary → FlewAndTold telling a.status a.text.items Flies)
+flew_mission (Ok a) telling Fly Flies so flew = λ zero other. told_mapped telling a.status a.text.items Fly Flies so (flew zero other)
+flew_mission (Err e) telling Fly Flies so flew = tt
+
+unasked_mapped : {X : Type 0} (telling : Telling) (status : ℕ) (said : List ℕ) (Fly Flies : List ℕ → Type 0) → ((text : List ℕ) → Fly text → Flies text)
+    → X ⊎ FlewAndTold telling status said Fly → X ⊎ FlewAndTold telling status said Flies
+unasked_mapped telling status said Fly Flies so (inl x) = inl x
+unasked_mapped telling status said Fly Flies so (inr flew) = inr (told_mapped telling status said Fly Flies so flew)
+
+pub unasked_mission : (X : Type 0) (r : Result Answer AllocError) (telling : Telling) (Fly Flies : List ℕ → Type 0) → ((text : List ℕ) → Fly text → Flies text)
+    → IfOk r (λ a. a.status ≢ 0 → (X × IsNoTrace a.text.items) ⊎ FlewAndTold telling a.status a.text.items Fly)
+    → IfOk r (λ a. a.status ≢ 0 → (X × IsNoTrace a.text.items) ⊎ FlewAndTold telling a.status a.text.items Flies)
+unasked_mission X (Ok a) telling Fly Flies so unasked = λ more. unasked_mapped telling a.status a.text.items Fly Flies so (unasked more)
+unasked_mission X (Err e) telling Fly Flies so unasked = tt
 
 -- guests that nobody asked are as they were
 pub unnamed_same : {C : Type 0} (f : Plan) (guests : List C) → EachUnnamedStays f guests guests
@@ -127,27 +188,56 @@ unnamed_same f guests i was now unnamed at at' = at_same guests i now was at' at
 pub unnamed_stay : {C : Type 0} (count : ℕ) (bytes : List ℕ) (guests : List C) → UnnamedStay count bytes guests guests
 unnamed_stay count bytes guests m f spells is = unnamed_same f guests
 
--- whatever is answered, they stay
-same_unasked : {C : Type 0} (r : Result Answer AllocError) (guests : Vec C) → IfOk r (λ a. a.status ≢ 0 → guests ≡ guests)
-same_unasked (Ok a) guests = λ other. refl
-same_unasked (Err e) guests = tt
+-- of a flight without guests
+alone_results : {C : Type 0} (told : C → Option (List Asking)) (r : Result Answer AllocError) (telling : Telling) (t : Tables) (jitter : ℕ) (f : Plan)
+    (guests : Vec C) → HasNoGuests f
+    → IfOk r (λ a. JudgesFlight telling t jitter f a.status a.text.items)
+    → IfOk r (λ a. a.status ≢ 0 → ((guests ≡ guests) × IsNoTrace a.text.items)
+    ⊎ FlewAndTold telling a.status a.text.items (λ text. GuestsFlew told t jitter f text guests.items guests.items))
+    × IfOk r (λ a. a.status ≡ 0 → telling ≢ Summary
+    → FlewAndTold telling a.status a.text.items (λ text. GuestsFlew told t jitter f text guests.items guests.items))
+alone_results told (Ok a) telling t jitter f guests none judged = (
+  λ more. alone_unasked told t jitter f guests.items none telling a.status a.text.items refl judged more,
+  λ zero other. alone_flew told t jitter f guests.items none telling a.status a.text.items judged zero other,
+)
+alone_results told (Err e) telling t jitter f guests none judged = (tt, tt)
 
-pub stayed : {C : Type 0} (told : C → Option (List Asking)) (telling : Telling) (r : Result Answer AllocError) (Stay : Type 0) (Fly : List ℕ → Type 0)
-    (guests : Vec C) → Stay
-    → IfOk r (λ a. a.status ≡ 0 → telling ≡ Trace → Fly a.text.items) → GuestsDid told telling r Stay Fly guests guests
-stayed told telling r Stay Fly guests stay flew =
-    record { count = refl; go_on = stay_told told guests.items; unasked = same_unasked r guests; stay = stay; flew = flew }
+pub stayed_alone : {C : Type 0} (told : C → Option (List Asking)) (r : Result Answer AllocError) (telling : Telling) (t : Tables) (jitter : ℕ) (f : Plan)
+    (guests : Vec C) → HasNoGuests f
+    → IfOk r (λ a. JudgesFlight telling t jitter f a.status a.text.items)
+    → GuestsDid told telling r (EachUnnamedStays f guests.items guests.items)
+    (λ text. GuestsFlew told t jitter f text guests.items guests.items) guests guests
+stayed_alone told r telling t jitter f guests none judged =
+    let both = alone_results told r telling t jitter f guests none judged in record {
+      count = refl;
+      go_on = stay_told told guests.items;
+      unasked = both.0;
+      stay = unnamed_same f guests.items;
+      flew = both.1;
+    }
+
+-- whatever is answered, they stay
+same_unasked : {C : Type 0} (r : Result Answer AllocError) (telling : Telling) (Fly : List ℕ → Type 0) (guests : Vec C) → IfOk r (λ a. IsNoTrace a.text.items)
+    → IfOk r (λ a. a.status ≢ 0 → ((guests ≡ guests) × IsNoTrace a.text.items) ⊎ FlewAndTold telling a.status a.text.items Fly)
+same_unasked (Ok a) telling Fly guests untraced = λ other. inl (refl, untraced)
+same_unasked (Err e) telling Fly guests untraced = tt
 
 not_flown : (r : Result Answer AllocError) (telling : Telling) (Fly : List ℕ → Type 0) (status : ℕ) → 0 < status → IfOk r (λ a. a.status ≡ status)
-    → IfOk r (λ a. a.status ≡ 0 → telling ≡ Trace → Fly a.text.items)
-not_flown (Ok a) telling Fly status other is = λ zero trace. absurd (omega (arith, is, zero, other))
+    → IfOk r (λ a. a.status ≡ 0 → telling ≢ Summary → FlewAndTold telling a.status a.text.items Fly)
+not_flown (Ok a) telling Fly status other is = λ zero flies. absurd (omega (arith, is, zero, other))
 not_flown (Err e) telling Fly status other is = tt
 
 -- where no flight was flown
 pub unflown : {C : Type 0} (told : C → Option (List Asking)) (telling : Telling) (r : Result Answer AllocError) (Stay : Type 0) (Fly : List ℕ → Type 0)
     (guests : Vec C) (status : ℕ) → Stay → 0 < status
-    → IfOk r (λ a. a.status ≡ status) → GuestsDid told telling r Stay Fly guests guests
-unflown told telling r Stay Fly guests status stay other is = stayed told telling r Stay Fly guests stay (not_flown r telling Fly status other is)
+    → IfOk r (λ a. a.status ≡ status) → IfOk r (λ a. IsNoTrace a.text.items) → GuestsDid told telling r Stay Fly guests guests
+unflown told telling r Stay Fly guests status stay other is untraced = record {
+  count = refl;
+  go_on = stay_told told guests.items;
+  unasked = same_unasked r telling Fly guests untraced;
+  stay = stay;
+  flew = not_flown r telling Fly status other is;
+}
 
 -- where memory ran out before the flight
 pub lacking : {C : Type 0} (told : C → Option (List Asking)) (telling : Telling) (e : AllocError) (f : Plan) (Fly : List ℕ → Type 0) (before after : Vec C)
@@ -161,25 +251,31 @@ lacking told telling e f Fly before after count same = record {
   flew = tt;
 }
 
-zero_unasked : {C : Type 0} (r : Result Answer AllocError) (before after : Vec C) → IfOk r (λ a. a.status ≡ 0) → IfOk r (λ a. a.status ≢ 0 → after ≡ before)
-zero_unasked (Ok a) before after is = λ other. absurd (other is)
-zero_unasked (Err e) before after is = tt
-
 -- where it was flown
+module _ {C : Type 0} (told : C → Option (List Asking)) (t : Tables) (jitter : ℕ) (f : Plan) (history : List Logged) (before after : List C) where
+  flew_history : FlownBy t jitter f history
+      → ((n i : ℕ) (was now : C) → At f.crews n (Guest i) → At before i was → At after i now → Answered t jitter f n history (told was) (told now))
+      → EachUnnamedStays f before after → (text : List ℕ) → text ≡ trace_text t f.start history → GuestsFlew told t jitter f text before after
+  flew_history flown answered unnamed text is =
+      record { history = history; flown = flown; text_is = is; answered = answered; unnamed = unnamed }
+
 pub flown_did : {C : Type 0} (told : C → Option (List Asking)) (r : Result Answer AllocError) (telling : Telling) (acc : Admitted) (f : Plan) (b : Standing)
     (before after : Vec C) → vec_len after ≡ vec_len before → b.accepted ≡ acc → b.plan ≡ f
-    → FlownBy b.accepted.program b.accepted.cert.jitter b.plan b.entries → IfOk r (λ a. a.status ≡ 0)
-    → IfOk r (λ a. a.text.items ≡ told_text telling b.accepted.program b.plan b.entries)
+    → FlownBy acc.program acc.cert.jitter f b.entries → IfOk r (λ a. Tells telling acc.program f b.entries a.status a.text.items)
     → EachAnswered told b.accepted b.plan b.entries before.items after.items → EachUnnamedStays b.plan before.items after.items
     → GuestsDid told telling r (EachUnnamedStays f before.items after.items)
     (λ text. GuestsFlew told acc.program acc.cert.jitter f text before.items after.items) before after
-flown_did told r telling acc f b before after count is plan flown status text answered unnamed = record {
-  count = count;
-  go_on = flew_told told b.accepted b.plan b.entries before.items after.items answered unnamed;
-  unasked = zero_unasked r before after status;
-  stay = subst (λ (g : Plan). EachUnnamedStays g before.items after.items) plan unnamed;
-  flew = flew_result told r telling acc f b before.items after.items is plan flown text answered unnamed;
-}
+flown_did told r telling acc f b before after count is plan flown tells answered unnamed =
+    let stay = subst (λ (g : Plan). EachUnnamedStays g before.items after.items) plan unnamed in
+    let asked = subst (λ (g : Plan). EachAnswered told acc g b.entries before.items after.items) plan
+    (subst (λ (x : Admitted). EachAnswered told x b.plan b.entries before.items after.items) is answered) in
+    let fly = flew_history told acc.program acc.cert.jitter f b.entries before.items after.items flown asked stay in record {
+      count = count;
+      go_on = flew_told told acc f b.entries before.items after.items asked stay;
+      unasked = unasked_result (after ≡ before) r telling acc.program f b.entries _ fly tells;
+      stay = stay;
+      flew = flew_result r telling acc.program f b.entries _ fly tells;
+    }
 
 -- at status 0 all of the text was written, and it is the answer's status
 pub all_written : (held after : Option (List ℕ)) (faults faults_after said : ℕ) (text : List ℕ) (status : ℕ)

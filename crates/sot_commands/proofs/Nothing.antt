@@ -3,7 +3,7 @@ use Rattle.std.proofs.Common.{ℕ, List, [], Option, refl, arith}
 use Rattle.std.proofs.KnownBytes.{Consumes-nil}
 use Rattle.sot_ports.specs.Whole.{ReadsAll, ReadsUpTo}
 use Rattle.sot_commands.specs.declared.words.Command.{Command}
-use Rattle.sot_commands.specs.declared.words.Command.TheVariants.{Check, Fly, Replay, Recover, Format, Certify, Make, Soak}
+use Rattle.sot_commands.specs.declared.words.Command.TheVariants.{Check, Fly, Replay, Recover, Watch, Format, Certify, Make, Soak}
 use Rattle.sot_commands.specs.Words.{Reads}
 use Rattle.sot_commands.specs.Ends.{Takes}
 
@@ -17,6 +17,7 @@ takes_all Check left after bytes reads all = all
 takes_all Fly left after bytes reads all = all
 takes_all Replay left after bytes reads all = all
 takes_all Recover left after bytes reads all = all
+takes_all (Watch formula) left after bytes reads all = all
 takes_all Format left after bytes reads all = all
 takes_all Certify left after bytes reads all = all
 takes_all (Make n seed) left after bytes reads all = absurd reads
@@ -28,6 +29,7 @@ takes_none Check left none = absurd (none tt)
 takes_none Fly left none = absurd (none tt)
 takes_none Replay left none = absurd (none tt)
 takes_none Recover left none = absurd (none tt)
+takes_none (Watch formula) left none = absurd (none tt)
 takes_none Format left none = absurd (none tt)
 takes_none Certify left none = absurd (none tt)
 takes_none (Make n seed) left none = (refl, refl)

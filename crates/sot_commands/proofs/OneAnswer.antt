@@ -27,7 +27,7 @@ use Rattle.sot_report.specs.Missions.{Mission, SaysFlight}
 use Rattle.sot_report.specs.RefusalTexts.{refusal_text, start_text}
 use Rattle.sot_certified_text.specs.FailTexts.{fail_text}
 use Rattle.sot_maker.specs.Missions.{mission_text as made_text}
-use Rattle.sot_commands.specs.declared.words.Command.TheVariants.{Check, Fly, Replay, Recover, Format, Certify, Make, Soak}
+use Rattle.sot_commands.specs.declared.words.Command.TheVariants.{Check, Fly, Replay, Recover, Watch, Format, Certify, Make, Soak}
 use Rattle.sot_commands.specs.ReplayTexts.{legal_text, refused_line_text}
 use Rattle.sot_commands.specs.Answers.{IsRefused, IsOutsideOf, SpellsFor, DoesNotFly}
 use Rattle.sot_commands.specs.Laws.{AcceptedOnce, RefusedOnce, LinesRefusedOnce}
@@ -121,6 +121,7 @@ refuted_once guests Recover bytes text other way (m, x, inr (certified, never)) 
     absurd (accepted_refused needs.Check 0 bytes m n x y r certified refuses)
 refuted_once guests Recover bytes text other way (m, x, inr (certified, never)) (n, y, inr (certified', never')) =
     (told_once m.tables n.tables m.cert n.cert text other (look_same needs.Check 0 bytes m n x y)).1 never never'
+refuted_once guests (Watch formula) bytes text other way a b = absurd way
 refuted_once guests Format bytes text other way a b = absurd a
 refuted_once guests Certify bytes text other way (p, t, spells, resolves, (fail, enough, fails, says))
     (q, u, spells', resolves', (fail', enough', fails', says')) =
@@ -147,6 +148,7 @@ accepted_once guests Replay bytes text other one (m, x, certified, safe, (f, lin
     says ∙ ap (λ (h : List Logged). legal_text (length h)) same ∙ sym says'
 accepted_once guests Recover bytes text other one (m, x, certified, safe, says) (n, y, certified', safe', says') =
     (told_once m.tables n.tables m.cert n.cert text other (look_same needs.Check 0 bytes m n x y)).0 says says'
+accepted_once guests (Watch formula) bytes text other one a b = absurd one
 accepted_once guests Format bytes text other one (p, spells, says) (q, spells', says') =
     says ∙ ap canonical (spells_unique bytes 0 p q spells spells') ∙ sym says'
 accepted_once guests Certify bytes text other one (p, t, spells, resolves, (c, made, fits, says), accepted)

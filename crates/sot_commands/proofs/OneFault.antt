@@ -29,10 +29,12 @@ use Rattle.sot_report.specs.declared.fault.Fault.{Fault}
 use Rattle.sot_report.specs.declared.fault.Fault.TheVariants as faults
 use Rattle.sot_report.specs.Missions.{HasParts, SpellsNone, SpellsTables, FaultsFlight, HasFault}
 use Rattle.sot_report.specs.FaultTexts.{fault_text, syntax_text, type_text, json_text}
-use Rattle.sot_commands.specs.declared.words.Command.TheVariants.{Check, Fly, Replay, Recover, Format, Certify, Make, Soak}
+use Rattle.sot_commands.specs.declared.words.Command.TheVariants.{Check, Fly, Replay, Recover, Watch, Format, Certify, Make, Soak}
 use Rattle.sot_commands.specs.Answers.{HasProgramFault}
 use Rattle.sot_commands.specs.Laws.{SaysDeep, TellOneRule, RejectedOnce}
-use Rattle.sot_commands.proofs.Unique.{same_parts, same_program, same_seen, same_said}
+use Rattle.sot_commands.specs.WatchTexts.{formula_text}
+use Rattle.sot_commands.proofs.FormulasAlike.{one_formula_fault}
+use Rattle.sot_commands.proofs.Unique.{same_parts, same_program, same_seen, same_said, seen, spelled_faulty}
 
 -- two texts that tell one fault, as far as one is told
 abbrev SayOne : List ℕ → List ℕ → Type 0
@@ -197,6 +199,16 @@ rejected_once guests Replay bytes text other (f, has, is) (g, has', is') =
     said_so text other (fault_text f) (fault_text g) is is' (fault_once needs.Replay guests bytes f g has has')
 rejected_once guests Recover bytes text other (f, has, is) (g, has', is') =
     said_so text other (fault_text f) (fault_text g) is is' (fault_once needs.Check 0 bytes f g has has')
+rejected_once guests (Watch formula) bytes text other (inl (f, has, is)) (inl (g, has', is')) =
+    said_so text other (fault_text f) (fault_text g) is is' (fault_once needs.Fly guests bytes f g has has')
+rejected_once guests (Watch formula) bytes text other (inl (f, has, is)) (inr (n, spells, fault)) =
+    absurd (spelled_faulty needs.Fly guests bytes n f spells has)
+rejected_once guests (Watch formula) bytes text other (inr (m, spells, fault)) (inl (g, has', is')) =
+    absurd (spelled_faulty needs.Fly guests bytes m g spells has')
+rejected_once guests (Watch formula) bytes text other (inr (m, spells, (fail, enough, refuses, is))) (inr (n, spells', (fail', enough', refuses', is'))) =
+    let looks = seen needs.Fly guests bytes m n spells spells' in
+    let one = one_formula_fault m.tables n.tables looks spells.resolved.rules formula.now fail fail' enough enough' refuses refuses' in
+    inl (is ∙ ap formula_text one ∙ sym is')
 rejected_once guests Format bytes text other (f, none, has, is) (g, none', has', is') =
     said_so text other (syntax_text f) (syntax_text g) is is' (syntax_once bytes (ahead_from bytes 0) f g has has')
 rejected_once guests Certify bytes text other (f, has, is) (g, has', is') =

@@ -1,10 +1,7 @@
 -- A text decides one status.
-use Rattle.std.proofs.Common.{◌≡◌, ℕ, List, [], ◌∷◌, Option, None, Some, length, Result, Ok, inl, inr, refl, sym, ap, ◌∙◌, subst, arith, codes, Global, ap₂}
-use Rattle.std.proofs.Common.{map, ◌<◌, ◌≤◌, ◌^◌}
-use Rattle.std.specs.Prelude.{if◌then◌else◌, String, slice_index_or}
-use Rattle.std.specs.Str.{bytes_eq}
-use Rattle.std.specs.Fmt.{decimal}
-use Rattle.std.proofs.lemmas.Fmt.{decimal_injective}
+use Rattle.std.proofs.Common.{◌≡◌, ℕ, List, [], Option, None, Some, length, Result, Ok, inl, inr, refl, sym, ap, ◌∙◌, subst, arith, Global}
+use Rattle.std.proofs.Common.{◌<◌, ◌≤◌}
+use Rattle.std.specs.Prelude.{◌⊎◌, String, slice_index_or}
 use Rattle.std.proofs.lemmas.Option.{same_Some, slice_get_within}
 use Rattle.sot_lists.specs.Places.{At}
 use Rattle.sot_box.specs.Regions.{IsInRegion}
@@ -25,7 +22,6 @@ use Rattle.sot_trace_lines.specs.LentLines.{lent_lines}
 use Rattle.sot_replay.specs.GoesOn as goes_on
 use Rattle.sot_replay.specs.Replays.{IsRefusedAt}
 use Rattle.sot_replay.specs.declared.fail.LineKind.{LineKind}
-use Rattle.sot_replay.proofs.BegunTraces.{same_heads}
 use Rattle.sot_replay.proofs.OneAnswer.{traces_are_not_refused}
 use Rattle.sot_commands.proofs.Replayed.{traced_alike}
 use Rattle.sot_flight.specs.FlightFormat.{flight_of}
@@ -46,11 +42,14 @@ use Rattle.sot_report.specs.declared.fault.Fault.TheVariants as faults
 use Rattle.sot_maker.specs.Missions.{mission_text as made_text}
 use Rattle.sot_report.specs.Missions.{Mission, Resolves, HasParts, SaysFlight, FaultsFlight, HasFault}
 use Rattle.sot_commands.specs.declared.words.Command.{Command}
-use Rattle.sot_commands.specs.declared.words.Command.TheVariants.{Check, Fly, Replay, Recover, Format, Certify, Make, Soak}
-use Rattle.sot_commands.specs.Words.{word_of, numbers_of, Reads, IsInForm, Asks}
-use Rattle.sot_commands.specs.Answers.{IsAccepted, IsRefusedFor, SpellsFor, IsTraceOf, IsSummaryOf, FliesWith, DoesNotFly, HasLines, HasProgramFault, Accepts}
-use Rattle.sot_commands.specs.Answers.{Refutes, Rejects, Replies, given_to}
-use Rattle.sot_commands.specs.Ends.{Decides}
+use Rattle.sot_commands.specs.declared.words.Command.TheVariants.{Check, Fly, Replay, Recover, Watch, Format, Certify, Make, Soak}
+use Rattle.sot_commands.specs.Words.{Reads, Asks}
+use Rattle.sot_commands.specs.Answers.{IsAccepted, IsRefusedFor, SpellsFor, IsTraceOf, IsSummaryOf, FliesWith, IsStopped, DoesNotFly, HasLines}
+use Rattle.sot_commands.specs.Answers.{HasProgramFault, IsFlownWatched, Accepts, Refutes, Rejects, Replies, given_to, input_limit}
+use Rattle.sot_commands.specs.Watched.{IsWatchedBy, TellsHolds}
+use Rattle.sot_commands.specs.Ends.{Decides, FliesWatched}
+use Rattle.sot_commands.proofs.FormulasAlike.{meaning_or_fault}
+use Rattle.sot_commands.proofs.OneCommand.{plain, same_command}
 
 -- bytes have one list of sections, and its program's text spells one program
 pub same_ok : {A E : Type 0} (x : Result A E) (a b : A) → x ≡ Ok a → x ≡ Ok b → a ≡ b
@@ -150,7 +149,7 @@ traced_refused guests bytes m n x y f g lines lines' has has' history traced num
     refused
 
 -- bytes that spell a mission have no fault
-spelled_faulty : (need : Need) (guests : ℕ) (bytes : List ℕ) (m : Mission) (f : Fault) → SpellsFor need guests bytes m → HasFault need guests bytes f → ⊥
+pub spelled_faulty : (need : Need) (guests : ℕ) (bytes : List ℕ) (m : Mission) (f : Fault) → SpellsFor need guests bytes m → HasFault need guests bytes f → ⊥
 spelled_faulty need guests bytes m (faults.Section f) x split = (let e = sym x.divided ∙ split in absurd cc)
 spelled_faulty need guests bytes m (faults.Syntax f) x (parts, has, none, is) =
     none m.program (subst (λ (q : Parts). Spells q.program 0 m.program) (same_parts need bytes x.parts parts x.divided has) x.spelled)
@@ -181,15 +180,31 @@ program_faulty bytes p t (faults.Flight f) spells resolves has = has
 abbrev StartsInside : (Tables → ℕ → Plan → List ℕ → Type 0) → Type 0
 StartsInside Says = (t : Tables) (jitter : ℕ) (f : Plan) (text : List ℕ) → Says t jitter f text → StartInside t f.start (length t.modules)
 
-flies_once : (Says : Tables → ℕ → Plan → List ℕ → Type 0) → StartsInside Says → (guests : ℕ) (bytes text text' : List ℕ) → FliesWith Says guests bytes text
-    → DoesNotFly guests bytes text' → ⊥
-flies_once Says starts guests bytes text text' (m, spells, certified, safe, flown) (n, spells', inl (r, refuses, says')) =
+flown_or_stopped : (Says : Tables → ℕ → Plan → List ℕ → Type 0) → StartsInside Says → (guests : ℕ) (bytes text text' : List ℕ) (n : Mission)
+    → SpellsFor needs.Fly guests bytes n → FliesWith Says guests bytes text → IsStopped n text' → ⊥
+flown_or_stopped Says starts guests bytes text text' n spells' (m, spells, certified, safe, flown) (inl (r, refuses, says')) =
     accepted_refused needs.Fly guests bytes m n spells spells' r certified refuses
-flies_once Says starts guests bytes text text' (m, spells, certified, safe, (f, is, says)) (n, spells', inr (certified', (g, is', (k, first, says')))) =
+flown_or_stopped Says starts guests bytes text text' n spells' (m, spells, certified, safe, (f, is, says)) (inr (certified', (g, is', (k, first, says')))) =
     inside_outside needs.Fly guests bytes m n spells spells' f g is is' (starts m.tables m.cert.jitter f text says) k first
 
--- what is accepted is neither refused nor rejected, and what is refused is not rejected
-not_refuted : (guests : ℕ) (c : Command) (bytes text text' : List ℕ) → Accepts guests c bytes text → Refutes guests c bytes text' → ⊥
+flies_once : (Says : Tables → ℕ → Plan → List ℕ → Type 0) → StartsInside Says → (guests : ℕ) (bytes text text' : List ℕ) → FliesWith Says guests bytes text
+    → DoesNotFly guests bytes text' → ⊥
+flies_once Says starts guests bytes text text' flies (n, spells', stopped) = flown_or_stopped Says starts guests bytes text text' n spells' flies stopped
+
+-- a watched flight that is flown, whatever its history comes to
+abbrev Watching : ℕ → Command → List ℕ → Type 0
+Watching guests Check bytes = ⊥
+Watching guests Fly bytes = ⊥
+Watching guests Replay bytes = ⊥
+Watching guests Recover bytes = ⊥
+Watching guests (Watch formula) bytes = IsFlownWatched formula.now guests bytes
+Watching guests Format bytes = ⊥
+Watching guests Certify bytes = ⊥
+Watching guests (Make n seed) bytes = ⊥
+Watching guests (Soak n seed) bytes = ⊥
+
+-- what is accepted is neither refused, but for a watched flight, nor rejected, and what is refused is not rejected
+not_refuted : (guests : ℕ) (c : Command) (bytes text text' : List ℕ) → Accepts guests c bytes text → Refutes guests c bytes text' → Watching guests c bytes
 not_refuted guests Check bytes text text' (m, spells, certified, safe, says) (n, spells', (r, refuses, says')) =
     accepted_refused needs.Check 0 bytes m n spells spells' r certified refuses
 not_refuted guests Fly bytes text text' a r = flies_once IsTraceOf (λ t jitter f x says. says.0) guests bytes text text' a r
@@ -205,6 +220,10 @@ not_refuted guests Recover bytes text text' (m, spells, certified, safe, says) (
     accepted_refused needs.Check 0 bytes m n spells spells' r certified refuses
 not_refuted guests Recover bytes text text' (m, spells, certified, safe, says) (n, spells', inr (certified', says')) =
     (told_once m.tables n.tables m.cert n.cert text text' (look_same needs.Check 0 bytes m n spells spells')).2 says says'
+not_refuted guests (Watch formula) bytes text text' (m, spells, certified, safe, (f, is, (inside, (x, history, means, flown, tells)))) (inl fails) =
+    (m, spells, (x, means), certified, (f, is, inside))
+not_refuted guests (Watch formula) bytes text text' flies (inr (n, spells', means, stopped)) =
+    absurd (flown_or_stopped (IsWatchedBy TellsHolds formula.now) (λ t jitter f x says. says.0) guests bytes text text' n spells' flies stopped)
 not_refuted guests Format bytes text text' a r = r
 not_refuted guests Certify bytes text text' (p, t, spells, resolves, (cert, made, fits, says), accepted)
     (q, u, spells', resolves', (fail, enough, fails, says')) =
@@ -217,6 +236,11 @@ not_rejected guests Check bytes text text' (m, spells, certified, safe, says) (f
 not_rejected guests Fly bytes text text' (m, spells, certified, safe, flown) (f, has, says') = spelled_faulty needs.Fly guests bytes m f spells has
 not_rejected guests Replay bytes text text' (m, spells, certified, safe, legal) (f, has, says') = spelled_faulty needs.Replay guests bytes m f spells has
 not_rejected guests Recover bytes text text' (m, spells, certified, safe, says) (f, has, says') = spelled_faulty needs.Check 0 bytes m f spells has
+not_rejected guests (Watch formula) bytes text text' (m, spells, certified, safe, flown) (inl (f, has, says')) =
+    spelled_faulty needs.Fly guests bytes m f spells has
+not_rejected guests (Watch formula) bytes text text' (m, spells, certified, safe, (f, is, (inside, (x, history, means, flown, tells))))
+    (inr (n, spells', (fail, enough, refuses, says'))) =
+    meaning_or_fault m.tables n.tables (seen needs.Fly guests bytes m n spells spells') spells.resolved.rules formula.now fail enough (x, means) refuses
 not_rejected guests Format bytes text text' a r = r.1 a.0 a.1
 not_rejected guests Certify bytes text text' (p, t, spells, resolves, has, accepted) (f, fault, says) = program_faulty bytes p t f spells resolves fault
 not_rejected guests (Make n seed) bytes text text' a r = r
@@ -228,77 +252,87 @@ refuted_not_rejected guests Check bytes text text' (m, spells, refused) (f, has,
 refuted_not_rejected guests Fly bytes text text' (m, spells, refused) (f, has, says') = spelled_faulty needs.Fly guests bytes m f spells has
 refuted_not_rejected guests Replay bytes text text' (m, spells, refused) (f, has, says') = spelled_faulty needs.Replay guests bytes m f spells has
 refuted_not_rejected guests Recover bytes text text' (m, spells, refused) (f, has, says') = spelled_faulty needs.Check 0 bytes m f spells has
+refuted_not_rejected guests (Watch formula) bytes text text' (inl (m, spells, certified, safe, flown)) (inl (f, has, says')) =
+    spelled_faulty needs.Fly guests bytes m f spells has
+refuted_not_rejected guests (Watch formula) bytes text text' (inr (m, spells, means, stopped)) (inl (f, has, says')) =
+    spelled_faulty needs.Fly guests bytes m f spells has
+refuted_not_rejected guests (Watch formula) bytes text text' (inl (m, spells, certified, safe, (f, is, (inside, (x, history, means, flown, tells)))))
+    (inr (n, spells', (fail, enough, refuses, says'))) =
+    meaning_or_fault m.tables n.tables (seen needs.Fly guests bytes m n spells spells') spells.resolved.rules formula.now fail enough (x, means) refuses
+refuted_not_rejected guests (Watch formula) bytes text text' (inr (m, spells, means, stopped)) (inr (n, spells', (fail, enough, refuses, says'))) =
+    meaning_or_fault m.tables n.tables (seen needs.Fly guests bytes m n spells spells') spells.resolved.rules formula.now fail enough means refuses
 refuted_not_rejected guests Format bytes text text' a r = a
 refuted_not_rejected guests Certify bytes text text' (p, t, spells, resolves, has) (f, fault, says) = program_faulty bytes p t f spells resolves fault
 refuted_not_rejected guests (Make n seed) bytes text text' a r = r
 refuted_not_rejected guests (Soak n seed) bytes text text' (m, spells, refused) (f, has, says') = spelled_faulty needs.Fly 0 (made_text n seed) m f spells has
 
--- a command answers one status
-replies_once : (guests : ℕ) (c : Command) (bytes text text' : List ℕ) (s t : ℕ) → Replies guests c bytes s text → Replies guests c bytes t text' → s ≡ t
-replies_once guests c bytes text text' s t (inl (is, a)) (inl (is', b)) = is ∙ sym is'
-replies_once guests c bytes text text' s t (inl (is, a)) (inr (inl (is', b))) = absurd (not_refuted guests c bytes text text' a b)
+-- of a watched flight that is flown, 0 or 1 is the status, and one command else has one
+abbrev AreOne : ℕ → ℕ → Type 0 → Type 0
+AreOne s t Flown = (s ≡ t) ⊎ ((s ≤ 1) × (t ≤ 1) × Flown)
+
+replies_once : (guests : ℕ) (c : Command) (bytes text text' : List ℕ) (s t : ℕ) → Replies guests c bytes s text → Replies guests c bytes t text'
+    → AreOne s t (Watching guests c bytes)
+replies_once guests c bytes text text' s t (inl (is, a)) (inl (is', b)) = inl (is ∙ sym is')
+replies_once guests c bytes text text' s t (inl (is, a)) (inr (inl (is', b))) =
+    inr (omega (arith, is), omega (arith, is'), not_refuted guests c bytes text text' a b)
 replies_once guests c bytes text text' s t (inl (is, a)) (inr (inr (is', b))) = absurd (not_rejected guests c bytes text text' a b)
-replies_once guests c bytes text text' s t (inr (inl (is, a))) (inl (is', b)) = absurd (not_refuted guests c bytes text' text b a)
-replies_once guests c bytes text text' s t (inr (inl (is, a))) (inr (inl (is', b))) = is ∙ sym is'
+replies_once guests c bytes text text' s t (inr (inl (is, a))) (inl (is', b)) =
+    inr (omega (arith, is), omega (arith, is'), not_refuted guests c bytes text' text b a)
+replies_once guests c bytes text text' s t (inr (inl (is, a))) (inr (inl (is', b))) = inl (is ∙ sym is')
 replies_once guests c bytes text text' s t (inr (inl (is, a))) (inr (inr (is', b))) = absurd (refuted_not_rejected guests c bytes text text' a b)
 replies_once guests c bytes text text' s t (inr (inr (is, a))) (inl (is', b)) = absurd (not_rejected guests c bytes text' text b a)
 replies_once guests c bytes text text' s t (inr (inr (is, a))) (inr (inl (is', b))) = absurd (refuted_not_rejected guests c bytes text' text b a)
-replies_once guests c bytes text text' s t (inr (inr (is, a))) (inr (inr (is', b))) = is ∙ sym is'
+replies_once guests c bytes text text' s t (inr (inr (is, a))) (inr (inr (is', b))) = inl (is ∙ sym is')
 
--- a command is told by its word and its numbers
-told : List ℕ → List ℕ → Command
-told word [] =
-    if bytes_eq word (codes "check") then Check
-    else if bytes_eq word (codes "fly") then Fly
-    else if bytes_eq word (codes "replay") then Replay
-    else if bytes_eq word (codes "recover") then Recover
-    else if bytes_eq word (codes "format") then Format
-    else Certify
-told word (n ∷ []) = Check
-told word (n ∷ seed ∷ more) = if bytes_eq word (codes "make") then Make n seed else Soak n seed
+-- what is replied does not turn on where the text of a formula lies
+abbrev Replying : ℕ → Command → List ℕ → ℕ → List ℕ → Type 0
+Replying guests c bytes t text = Replies guests c (given_to c bytes) t text
 
-told_words : (c : Command) → told (word_of c) (numbers_of c) ≡ c
-unfolding told
-told_words Check = refl
-told_words Fly = refl
-told_words Replay = refl
-told_words Recover = refl
-told_words Format = refl
-told_words Certify = refl
-told_words (Make n seed) = refl
-told_words (Soak n seed) = refl
+replied_plain : (guests : ℕ) (c : Command) (bytes : List ℕ) (t : ℕ) (text : List ℕ) → Replying guests c bytes t text → Replying guests (plain c) bytes t text
+replied_plain guests Check bytes t text x = x
+replied_plain guests Fly bytes t text x = x
+replied_plain guests Replay bytes t text x = x
+replied_plain guests Recover bytes t text x = x
+replied_plain guests (Watch formula) bytes t text x = x
+replied_plain guests Format bytes t text x = x
+replied_plain guests Certify bytes t text x = x
+replied_plain guests (Make n seed) bytes t text x = x
+replied_plain guests (Soak n seed) bytes t text x = x
 
--- the numbers of a command are told by their decimals
-AreShort : List ℕ → Type 0
-AreShort [] = Unit {0}
-AreShort (n ∷ ns) = (n < 2 ^ 64) × AreShort ns
+plain_replied : (guests : ℕ) (c : Command) (bytes : List ℕ) (t : ℕ) (text : List ℕ) → Replying guests (plain c) bytes t text → Replying guests c bytes t text
+plain_replied guests Check bytes t text x = x
+plain_replied guests Fly bytes t text x = x
+plain_replied guests Replay bytes t text x = x
+plain_replied guests Recover bytes t text x = x
+plain_replied guests (Watch formula) bytes t text x = x
+plain_replied guests Format bytes t text x = x
+plain_replied guests Certify bytes t text x = x
+plain_replied guests (Make n seed) bytes t text x = x
+plain_replied guests (Soak n seed) bytes t text x = x
 
-short_numbers : (c : Command) → IsInForm c → AreShort (numbers_of c)
-unfolding AreShort
-short_numbers Check form = tt
-short_numbers Fly form = tt
-short_numbers Replay form = tt
-short_numbers Recover form = tt
-short_numbers Format form = tt
-short_numbers Certify form = tt
-short_numbers (Make n seed) form = (omega arith, (omega arith, tt))
-short_numbers (Soak n seed) form = (omega arith, (omega arith, tt))
+given_plain : (c : Command) (bytes : List ℕ) → given_to c bytes ≡ given_to (plain c) bytes
+given_plain Check bytes = refl
+given_plain Fly bytes = refl
+given_plain Replay bytes = refl
+given_plain Recover bytes = refl
+given_plain (Watch formula) bytes = refl
+given_plain Format bytes = refl
+given_plain Certify bytes = refl
+given_plain (Make n seed) bytes = refl
+given_plain (Soak n seed) bytes = refl
 
-same_numbers : (ms ns : List ℕ) → AreShort ms → AreShort ns → map decimal ms ≡ map decimal ns → ms ≡ ns
-unfolding AreShort
-same_numbers [] [] x y e = refl
-same_numbers [] (n ∷ ns) x y e = absurd cc
-same_numbers (m ∷ ms) [] x y e = absurd cc
-same_numbers (m ∷ ms) (n ∷ ns) (x, xs) (y, ys) e =
-    let both = same_heads (decimal m) (decimal n) (map decimal ms) (map decimal ns) e in
-    ap₂ (λ (k : ℕ) (ks : List ℕ). k ∷ ks) (decimal_injective m n x y both.0) (same_numbers ms ns xs ys both.1)
-
--- words ask for one command
-pub same_command : (words : List (String Global)) (c d : Command) → Asks words c → Asks words d → c ≡ d
-same_command words c d a b =
-    let both = same_heads (word_of c) (word_of d) (map decimal (numbers_of c)) (map decimal (numbers_of d)) (sym a.0 ∙ b.0) in
-    let numbers = same_numbers (numbers_of c) (numbers_of d) (short_numbers c a.1) (short_numbers d b.1) both.1 in
-    sym (told_words c) ∙ ap₂ told both.0 numbers ∙ told_words d
+-- words that ask for a watched flight ask for it
+words_watch : (guests : ℕ) (words : List (String Global)) (c : Command) (bytes : List ℕ) → Asks words c → length (given_to c bytes) ≤ input_limit
+    → Watching guests c (given_to c bytes) → FliesWatched guests words bytes
+words_watch guests words Check bytes asks short flown = absurd flown
+words_watch guests words Fly bytes asks short flown = absurd flown
+words_watch guests words Replay bytes asks short flown = absurd flown
+words_watch guests words Recover bytes asks short flown = absurd flown
+words_watch guests words (Watch formula) bytes asks short flown = (formula, asks, short, flown)
+words_watch guests words Format bytes asks short flown = absurd flown
+words_watch guests words Certify bytes asks short flown = absurd flown
+words_watch guests words (Make n seed) bytes asks short flown = absurd flown
+words_watch guests words (Soak n seed) bytes asks short flown = absurd flown
 
 -- a command that reads works on all bytes
 given_reader : (c : Command) (bytes : List ℕ) → Reads c → given_to c bytes ≡ bytes
@@ -306,6 +340,7 @@ given_reader Check bytes reads = refl
 given_reader Fly bytes reads = refl
 given_reader Replay bytes reads = refl
 given_reader Recover bytes reads = refl
+given_reader (Watch formula) bytes reads = refl
 given_reader Format bytes reads = refl
 given_reader Certify bytes reads = refl
 given_reader (Make n seed) bytes reads = absurd reads
@@ -315,22 +350,30 @@ given_reader (Soak n seed) bytes reads = absurd reads
 never_both : (words : List (String Global)) (bytes : List ℕ) (c d : Command) → Asks words c → Reads d → Asks words d → length (given_to c bytes) ≤ 16777216
     → 16777216 < length bytes → ⊥
 never_both words bytes c d asks reads asks' short long =
-    let same : given_to c bytes ≡ bytes = ap (λ (x : Command). given_to x bytes) (same_command words c d asks asks') ∙ given_reader d bytes reads in
+    let alike : given_to (plain c) bytes ≡ given_to (plain d) bytes = ap (λ (x : Command). given_to x bytes) (same_command words c d asks asks') in
+    let same : given_to c bytes ≡ bytes = given_plain c bytes ∙ alike ∙ sym (given_plain d bytes) ∙ given_reader d bytes reads in
     let size = ap length same in
     omega (arith, short, long, size)
 
--- words and bytes decide one status
-pub decides_once : (guests : ℕ) (words : List (String Global)) (bytes : List ℕ) (s t : ℕ) → Decides guests words bytes s → Decides guests words bytes t → s ≡ t
-decides_once guests words bytes s t (inl (is, other)) (inl (is', other')) = is ∙ sym is'
+-- words and bytes decide one status, but for a watched flight that is flown
+watched_or_one : (guests : ℕ) (words : List (String Global)) (c : Command) (bytes : List ℕ) (s t : ℕ) → Asks words c
+    → length (given_to c bytes) ≤ input_limit → AreOne s t (Watching guests c (given_to c bytes)) → AreOne s t (FliesWatched guests words bytes)
+watched_or_one guests words c bytes s t asks short (inl same) = inl same
+watched_or_one guests words c bytes s t asks short (inr (a, b, flown)) = inr (a, b, words_watch guests words c bytes asks short flown)
+
+pub decides_once : (guests : ℕ) (words : List (String Global)) (bytes : List ℕ) (s t : ℕ) → Decides guests words bytes s → Decides guests words bytes t
+    → (s ≡ t) ⊎ ((s ≤ 1) × (t ≤ 1) × FliesWatched guests words bytes)
+decides_once guests words bytes s t (inl (is, other)) (inl (is', other')) = inl (is ∙ sym is')
 decides_once guests words bytes s t (inl (is, other)) (inr (inl (is', (d, reads, asks), long))) = absurd (other d asks)
 decides_once guests words bytes s t (inl (is, other)) (inr (inr (c, asks, short, replies))) = absurd (other c asks)
 decides_once guests words bytes s t (inr (inl (is, (d, reads, asks), long))) (inl (is', other)) = absurd (other d asks)
-decides_once guests words bytes s t (inr (inl (is, asks, long))) (inr (inl (is', asks', long'))) = is ∙ sym is'
+decides_once guests words bytes s t (inr (inl (is, asks, long))) (inr (inl (is', asks', long'))) = inl (is ∙ sym is')
 decides_once guests words bytes s t (inr (inl (is, (d, reads, asks), long))) (inr (inr (c, asks', short, replies))) =
     absurd (never_both words bytes c d asks' reads asks short long)
 decides_once guests words bytes s t (inr (inr (c, asks, short, replies))) (inl (is', other)) = absurd (other c asks)
 decides_once guests words bytes s t (inr (inr (c, asks, short, replies))) (inr (inl (is', (d, reads, asks'), long))) =
     absurd (never_both words bytes c d asks reads asks' short long)
 decides_once guests words bytes s t (inr (inr (c, asks, short, (text, replies)))) (inr (inr (d, asks', short', (text', replies')))) =
-    replies_once guests c (given_to c bytes) text text' s t replies
-    (subst (λ (x : Command). Replies guests x (given_to x bytes) t text') (same_command words d c asks' asks) replies')
+    let there = plain_replied guests c bytes t text' (subst (λ (x : Command). Replying guests x bytes t text') (same_command words d c asks' asks)
+    (replied_plain guests d bytes t text' replies')) in
+    watched_or_one guests words c bytes s t asks short (replies_once guests c (given_to c bytes) text text' s t replies there)

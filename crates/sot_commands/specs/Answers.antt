@@ -23,7 +23,12 @@ use Rattle.sot_trace_lines.specs.LentLines.{lent_lines}
 use Rattle.sot_replay.specs.GoesOn as goes_on
 use Rattle.sot_replay.specs.Replays.{IsRefusedAt}
 use Rattle.sot_replay.specs.declared.fail.LineKind.{LineKind}
+use Rattle.sot_formula.specs.declared.fail.MonitorFail.{MonitorFail}
+use Rattle.sot_formula.specs.declared.fail.MonitorFail.TheVariants as monitor_fails
+use Rattle.sot_formula.specs.Answers.{Refuses}
 use Rattle.sot_commands.specs.ReplayTexts.{legal_text, refused_line_text}
+use Rattle.sot_commands.specs.WatchTexts.{formula_text}
+use Rattle.sot_commands.specs.Watched.{HasMeaning, TellsHolds, TellsFails, IsWatchedBy}
 use Rattle.sot_lang.specs.Tables.{Tables}
 use Rattle.sot_lang.specs.declared.cert.Cert.{Cert}
 use Rattle.sot_lang.specs.CertRules.{FitsTables}
@@ -45,7 +50,8 @@ use Rattle.sot_report.specs.RefusalTexts.{refusal_text, start_text}
 use Rattle.sot_report.specs.AcceptedTexts.{accepted_text}
 use Rattle.sot_commands.specs.declared.words.Command.{Command}
 use Rattle.sot_commands.specs.declared.words.Command.TheVariants.{Check, Fly, Replay, Format}
-use Rattle.sot_commands.specs.declared.words.Command.TheVariants.{Recover, Certify, Make, Soak}
+use Rattle.sot_commands.specs.declared.words.Command.TheVariants.{Recover, Watch, Certify}
+use Rattle.sot_commands.specs.declared.words.Command.TheVariants.{Make, Soak}
 
 -- the most bytes of an input: 16 MiB
 abbrev pub input_limit : ℕ
@@ -125,13 +131,38 @@ FliesWith Says guests bytes text =
     (m : Mission) × SpellsFor needs.Fly guests bytes m × IsAccepted m × IsSafeInEveryRun m
     × ((f : Plan) × (m.flight ≡ Some f) × Says m.tables m.cert.jitter f text)
 
--- they spell one that the checker refuses, and this is said; or it is accepted, a plant starts
--- outside its module's safer region, and this is said
+-- the checker refuses a mission, and this is said; or it is accepted, a plant starts outside its
+-- module's safer region, and this is said
+abbrev pub IsStopped : Mission → List ℕ → Type 0
+IsStopped m text =
+    IsRefused m text ⊎ (IsAccepted m
+    × ((f : Plan) × (m.flight ≡ Some f) × IsOutsideOf m.tables f text))
+
+-- the bytes spell a mission with a flight that is not flown, and this is said
 abbrev pub DoesNotFly : ℕ → List ℕ → List ℕ → Type 0
 DoesNotFly guests bytes text =
+    (m : Mission) × SpellsFor needs.Fly guests bytes m × IsStopped m text
+
+-- and a formula has a meaning for its program
+abbrev pub DoesNotFlyWatched : List ℕ → ℕ → List ℕ → List ℕ → Type 0
+DoesNotFlyWatched formula guests bytes text =
+    (m : Mission) × SpellsFor needs.Fly guests bytes m × HasMeaning m.tables formula
+    × IsStopped m text
+
+-- they spell a mission with a flight, the formula has no meaning for its program, and this is why
+abbrev pub HasFormulaFault : List ℕ → ℕ → List ℕ → List ℕ → Type 0
+HasFormulaFault formula guests bytes text =
     (m : Mission) × SpellsFor needs.Fly guests bytes m
-    × (IsRefused m text ⊎ (IsAccepted m
-    × ((f : Plan) × (m.flight ≡ Some f) × IsOutsideOf m.tables f text)))
+    × ((fail : MonitorFail) × (fail ≢ monitor_fails.Memory) × Refuses m.tables formula fail
+    × (text ≡ formula_text fail))
+
+-- a mission's flight is flown and watched: it is accepted, the formula has a meaning for its
+-- program, and every plant starts in its module's safer region. Whether the formula holds, its
+-- history decides
+abbrev pub IsFlownWatched : List ℕ → ℕ → List ℕ → Type 0
+IsFlownWatched formula guests bytes =
+    (m : Mission) × SpellsFor needs.Fly guests bytes m × HasMeaning m.tables formula × IsAccepted m
+    × ((f : Plan) × (m.flight ≡ Some f) × StartInside m.tables f.start (length m.tables.modules))
 
 -- a certificate is made for the tables of a program, and the text is the program's canonical text
 -- with this certificate
@@ -171,8 +202,9 @@ HasProgramFault bytes (faults.Flight fault) = ⊥
 -- is safe, and the text is the trace of that flight. `replay`: they spell one with a flight and a
 -- trace, it is accepted, every run of it is safe, and the trace is legal. `recover`: they spell one
 -- that is accepted, every run of it is safe, and within how many holds each of its modules recovers
--- is said. `format`: the bytes spell a program, and this is its canonical text. `certify`: they
--- spell a program that breaks no rule of typing, the text is its canonical text with the
+-- is said. `watch`: as `fly`, and the formula holds at every moment of that flight, which is said
+-- behind the trace. `format`: the bytes spell a program, and this is its canonical text. `certify`:
+-- they spell a program that breaks no rule of typing, the text is its canonical text with the
 -- certificate that is made for it, this text spells a mission of the same program that is accepted,
 -- and every run of it is safe. `make`: the text is the mission that is made from its two numbers.
 -- `soak`: this mission has a flight, it is accepted, every run of it is safe, and the text is the
@@ -189,6 +221,8 @@ Accepts guests Replay bytes text =
 Accepts guests Recover bytes text =
     (m : Mission) × SpellsFor needs.Check 0 bytes m × IsAccepted m × IsSafeInEveryRun m
     × AllRecover m.tables m.cert text
+Accepts guests (Watch formula) bytes text =
+    FliesWith (IsWatchedBy TellsHolds formula.now) guests bytes text
 Accepts guests Format bytes text = (p : Program) × Spells bytes 0 p × (text ≡ canonical p)
 Accepts guests Certify bytes text =
     (p : Program) × (t : Tables) × Spells bytes 0 p × Resolves p t × IsCertifiedText p t text
@@ -199,7 +233,9 @@ Accepts guests (Soak n seed) bytes text = FliesWith IsSummaryOf 0 (made_text n s
 -- status 1. The bytes spell a mission that the checker refuses, and this is said; or, for `fly`, it
 -- is accepted, a plant starts outside its module's safer region, and this is said. `replay`: the
 -- same, or its trace is refused at a line, and this is said. `recover`: the mission is refused; or
--- it is accepted, and the first of its modules that has no rank is said with its point. `certify`:
+-- it is accepted, and the first of its modules that has no rank is said with its point. `watch`: as
+-- `fly`, of a formula that has a meaning for the program; or the mission is flown, and the first
+-- moment at which the formula fails is said behind the trace. `certify`:
 -- they spell a program that breaks no rule of typing and has no certificate, and this is why.
 -- `make` never ends so. `soak`: as `fly`, of the mission that is made
 abbrev pub Refutes : ℕ → Command → List ℕ → List ℕ → Type 0
@@ -213,13 +249,17 @@ Refutes guests Replay bytes text =
 Refutes guests Recover bytes text =
     (m : Mission) × SpellsFor needs.Check 0 bytes m
     × (IsRefused m text ⊎ (IsAccepted m × SomeNever m.tables m.cert text))
+Refutes guests (Watch formula) bytes text =
+    FliesWith (IsWatchedBy TellsFails formula.now) guests bytes text
+    ⊎ DoesNotFlyWatched formula.now guests bytes text
 Refutes guests Format bytes text = ⊥
 Refutes guests Certify bytes text =
     (p : Program) × (t : Tables) × Spells bytes 0 p × Resolves p t × IsNotCertified t text
 Refutes guests (Make n seed) bytes text = ⊥
 Refutes guests (Soak n seed) bytes text = DoesNotFly 0 (made_text n seed) text
 
--- status 3. `check`, `fly`, `replay` and `recover`: the first fault of the bytes is said. `format`:
+-- status 3. `check`, `fly`, `replay` and `recover`: the first fault of the bytes is said. `watch`:
+-- the same, or they have none, and the formula's fault is said. `format`:
 -- the bytes spell no program, and this is the place from which the grammar does not go on, and why.
 -- `certify`: the first fault of the program's text is said. `make` never ends so. `soak`: the first
 -- fault of the text that is made is said
@@ -232,6 +272,9 @@ Rejects guests Replay bytes text =
     (f : Fault) × HasFault needs.Replay guests bytes f × (text ≡ fault_text f)
 Rejects guests Recover bytes text =
     (f : Fault) × HasFault needs.Check 0 bytes f × (text ≡ fault_text f)
+Rejects guests (Watch formula) bytes text =
+    ((f : Fault) × HasFault needs.Fly guests bytes f × (text ≡ fault_text f))
+    ⊎ HasFormulaFault formula.now guests bytes text
 Rejects guests Format bytes text =
     (fault : Syntax) × SpellsNone bytes × IsFaultOf bytes (ahead_from bytes 0) fault
     × (text ≡ syntax_text fault)
@@ -241,7 +284,7 @@ Rejects guests (Soak n seed) bytes text =
     (f : Fault) × HasFault needs.Fly 0 (made_text n seed) f × (text ≡ fault_text f)
 
 -- the command answers these bytes with this status and this text, where so many guests are handed
--- in; but for `fly` and `replay`, which read a flight, their number says nothing
+-- in; but for `fly`, `watch` and `replay`, which read a flight, their number says nothing
 abbrev pub Replies : ℕ → Command → List ℕ → ℕ → List ℕ → Type 0
 Replies guests command bytes status text =
     ((status ≡ 0) × Accepts guests command bytes text)
@@ -255,6 +298,7 @@ given_to Check bytes = bytes
 given_to Fly bytes = bytes
 given_to Replay bytes = bytes
 given_to Recover bytes = bytes
+given_to (Watch formula) bytes = bytes
 given_to Format bytes = bytes
 given_to Certify bytes = bytes
 given_to (Make n seed) bytes = []

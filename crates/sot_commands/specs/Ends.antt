@@ -9,9 +9,11 @@ use Rattle.sot_ports.specs.Whole.{ReadsAll, ReadsCount}
 use Rattle.sot_commands.specs.Texts.{usage_text, long_text}
 use Rattle.sot_commands.specs.declared.words.Command.{Command}
 use Rattle.sot_commands.specs.declared.words.Command.TheVariants.{Check, Fly, Replay, Format}
-use Rattle.sot_commands.specs.declared.words.Command.TheVariants.{Recover, Certify, Make, Soak}
+use Rattle.sot_commands.specs.declared.words.Command.TheVariants.{Recover, Watch, Certify}
+use Rattle.sot_commands.specs.declared.words.Command.TheVariants.{Make, Soak}
 use Rattle.sot_commands.specs.Words.{Asks, AsksReader, AsksNone}
 use Rattle.sot_commands.specs.Answers.{Accepts, Refutes, Rejects, Replies, given_to, input_limit}
+use Rattle.sot_commands.specs.Answers.{IsFlownWatched}
 
 -- what a command takes of a source: all that it has left; and nothing for `make` and `soak`, which
 -- have no input
@@ -20,6 +22,7 @@ Takes Check left after bytes = ReadsAll left after bytes
 Takes Fly left after bytes = ReadsAll left after bytes
 Takes Replay left after bytes = ReadsAll left after bytes
 Takes Recover left after bytes = ReadsAll left after bytes
+Takes (Watch formula) left after bytes = ReadsAll left after bytes
 Takes Format left after bytes = ReadsAll left after bytes
 Takes Certify left after bytes = ReadsAll left after bytes
 Takes (Make n seed) left after bytes = (bytes ≡ []) × (after ≡ left)
@@ -57,6 +60,13 @@ Decides guests words bytes status =
     ⊎ ((command : Command) × Asks words command × (length (given_to command bytes) ≤ input_limit)
     × ((text : List ℕ) × Replies guests command (given_to command bytes) status text))
 
+-- the words ask for a watched flight, and the bytes are those of one that is flown: whether its
+-- formula holds, the history decides, of which there may be several
+abbrev pub FliesWatched : ℕ → List (String Global) → List ℕ → Type 0
+FliesWatched guests words bytes =
+    (formula : _) × Asks words (Watch formula) × (length bytes ≤ input_limit)
+    × IsFlownWatched formula.now guests bytes
+
 -- the end of a call with so many guests, status by status
 pub record Ends (guests : ℕ) (words : List (String Global)) (before after : Outside) (status : ℕ) :
     Type 0 where
@@ -75,7 +85,8 @@ pub record Ends (guests : ℕ) (words : List (String Global)) (before after : Ou
   -- status 6 is want of memory, which may come at any time before the writing
   pub unwritten : (status ≡ 4) ⊎ (status ≡ 6) → Keeps before.held after.held
   -- with no fault and memory enough, it is the status that words, bytes and the number of guests
-  -- decide
+  -- decide; but where a watched flight is flown it is 0 or 1, by the history that is written
   pub decided : (¬ (Rose before.read_faults after.read_faults))
       → (¬ (Rose before.write_faults after.write_faults)) → status ≢ 6
-      → IfSome before.left (λ bytes. (s : ℕ) → Decides guests words bytes s → status ≡ s)
+      → IfSome before.left (λ bytes. (s : ℕ) → Decides guests words bytes s
+      → (status ≡ s) ⊎ ((status ≤ 1) × (s ≤ 1) × FliesWatched guests words bytes))

@@ -1,11 +1,26 @@
 -- Laws on what becomes of guests.
-use Rattle.std.specs.Prelude.{◌≡◌, ℕ, List, Option, Some}
+use Rattle.std.specs.Prelude.{◌≡◌, ◌⊎◌, ℕ, ℤ, List, ◌++◌, Option, Some}
 use Rattle.sot_lists.specs.Places.{At}
 use Rattle.sot_flight.specs.Plans.{Guest}
 use Rattle.sot_node_worker.specs.Askings.{Asking}
 use Rattle.sot_node_worker.specs.Answers.{HasAnswered}
 use Rattle.sot_workers.specs.Flying.{IsUnnamed}
-use Rattle.sot_commands.specs.Guests.{Flew}
+use Rattle.sot_lang.specs.Tables.{Tables}
+use Rattle.sot_world.specs.HistoryEntry.{Logged}
+use Rattle.sot_trace.specs.Traces.{trace_text}
+use Rattle.sot_commands.specs.Guests.{Flew, IsNothing, SaysHolds, SaysFails}
+
+-- what may stand behind a trace
+abbrev pub MayStandBehind : List ℕ → Type 0
+MayStandBehind behind = IsNothing behind ⊎ SaysHolds behind ⊎ SaysFails behind
+
+-- what is written of a history tells where the trace ends, and what stands behind it
+abbrev pub TracesEndOnce : Type 0
+TracesEndOnce =
+    (t u : Tables) (start other_start : List (List ℤ)) (xs ys : List Logged) (behind other : List ℕ)
+    → MayStandBehind behind → MayStandBehind other
+    → trace_text t start xs ++ behind ≡ trace_text u other_start ys ++ other
+    → (trace_text t start xs ≡ trace_text u other_start ys) × (behind ≡ other)
 
 module _ {C : Type 0} (told : C → Option (List Asking)) where
   -- two accounts of one written trace are of one flight and one history: bytes and text decide

@@ -10,7 +10,8 @@ use Rattle.sot_sections.specs.declared.mission.Need.TheVariants as needs
 use Rattle.sot_flight.specs.Plans.{Plan}
 use Rattle.sot_commands.specs.declared.words.Command.{Command}
 use Rattle.sot_commands.specs.declared.words.Command.TheVariants.{Check, Fly, Replay, Format}
-use Rattle.sot_commands.specs.declared.words.Command.TheVariants.{Recover, Certify, Make, Soak}
+use Rattle.sot_commands.specs.declared.words.Command.TheVariants.{Recover, Watch, Certify}
+use Rattle.sot_commands.specs.declared.words.Command.TheVariants.{Make, Soak}
 use Rattle.sot_commands.specs.Answers.{SpellsFor, IsIllegal, Accepts, Refutes, Rejects}
 
 -- the commands that say one thing of what they accept: all but those that fly, since a flight has
@@ -20,6 +21,7 @@ AcceptsOneWay Check = Unit {0}
 AcceptsOneWay Fly = ⊥
 AcceptsOneWay Replay = Unit {0}
 AcceptsOneWay Recover = Unit {0}
+AcceptsOneWay (Watch formula) = ⊥
 AcceptsOneWay Format = Unit {0}
 AcceptsOneWay Certify = Unit {0}
 AcceptsOneWay (Make n seed) = Unit {0}
@@ -31,20 +33,21 @@ AcceptedOnce =
     → Accepts guests command bytes text → Accepts guests command bytes other → text ≡ other
 
 -- bytes are refused with one text: the first condition that fails with its evidence, the start, or
--- why there is no certificate. Of `replay` see below
-abbrev pub IsNoReplay : Command → Type 0
-IsNoReplay Check = Unit {0}
-IsNoReplay Fly = Unit {0}
-IsNoReplay Replay = ⊥
-IsNoReplay Recover = Unit {0}
-IsNoReplay Format = Unit {0}
-IsNoReplay Certify = Unit {0}
-IsNoReplay (Make n seed) = Unit {0}
-IsNoReplay (Soak n seed) = Unit {0}
+-- why there is no certificate. Of `replay` see below; a watched flight has several histories
+abbrev pub RefusesOneWay : Command → Type 0
+RefusesOneWay Check = Unit {0}
+RefusesOneWay Fly = Unit {0}
+RefusesOneWay Replay = ⊥
+RefusesOneWay Recover = Unit {0}
+RefusesOneWay (Watch formula) = ⊥
+RefusesOneWay Format = Unit {0}
+RefusesOneWay Certify = Unit {0}
+RefusesOneWay (Make n seed) = Unit {0}
+RefusesOneWay (Soak n seed) = Unit {0}
 
 abbrev pub RefusedOnce : Type 0
 RefusedOnce =
-    (guests : ℕ) (command : Command) (bytes text other : List ℕ) → IsNoReplay command
+    (guests : ℕ) (command : Command) (bytes text other : List ℕ) → RefusesOneWay command
     → Refutes guests command bytes text → Refutes guests command bytes other → text ≡ other
 
 -- the lines of a trace are refused at one line by one test, of the tables of one mission

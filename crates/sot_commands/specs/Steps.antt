@@ -1,6 +1,6 @@
 -- What the functions below `soter` promise it.
-use Rattle.std.specs.Prelude.{◌≡◌, ◌≢◌, ℕ, ◌+◌, ◌≤◌, ◌⊎◌, List, Option, Result, Ok, Err, IfOk}
-use Rattle.std.specs.Prelude.{length, vec_len, String}
+use Rattle.std.specs.Prelude.{◌≡◌, ◌≢◌, ℕ, ◌+◌, ◌≤◌, ◌⊎◌, List, ◌++◌, Option, Result, Ok, Err, IfOk}
+use Rattle.std.specs.Prelude.{None, Some, length, vec_len, String}
 use Rattle.std.proofs.Common.{Global}
 use Rattle.std.specs.Global.{Vec}
 use Rattle.std.specs.declared.alloc.AllocError.{AllocError}
@@ -28,16 +28,25 @@ use Rattle.sot_rules.specs.First.{IsFirstFault}
 use Rattle.sot_tree.specs.Trees.{Program}
 use Rattle.sot_parser.specs.Programs.{Spells}
 use Rattle.sot_certified_text.specs.ReadAgain.{IsCertificateOf, written}
+use Rattle.sot_formula.specs.Formulas.{Formula}
+use Rattle.sot_formula.specs.Answers.{Refuses}
+use Rattle.sot_formula.specs.declared.fail.MonitorFail.{MonitorFail}
+use Rattle.sot_formula.specs.declared.fail.MonitorFail.TheVariants as monitor_fails
+use Rattle.sot_monitor.specs.Tracked.{Tracked}
+use Rattle.sot_monitor.specs.Tracking.{IsNewOf}
+use Rattle.sot_commands.specs.Watched.{IsFormula, HasMeaning, TellsHolds, TellsFails}
+use Rattle.sot_commands.specs.WatchTexts.{formula_text}
 use Rattle.sot_commands.specs.Texts.{usage_text, long_text}
 use Rattle.sot_commands.specs.Answers.{IsOutsideOf, IsLegal, IsIllegal, IsCertifiedText}
 use Rattle.sot_commands.specs.Answers.{IsNotCertified, SpellsAccepted, Replies, input_limit}
 use Rattle.sot_commands.specs.declared.telling.Telling.{Telling}
-use Rattle.sot_commands.specs.declared.telling.Telling.TheVariants.{Trace, Summary}
+use Rattle.sot_commands.specs.declared.telling.Telling.TheVariants.{Trace, Summary, Verdict}
 use Rattle.sot_commands.specs.declared.words.Command.{Command}
 use Rattle.sot_commands.specs.Words.{Reads, Flies, Asks, AsksReader, AsksFlight, AsksNone}
 use Rattle.sot_commands.specs.Ends.{Takes}
-use Rattle.sot_commands.specs.Orders.{Orders, CommandOrder, IsOrdered, IsToldOf}
-use Rattle.sot_commands.specs.Guests.{GuestsGoOn}
+use Rattle.sot_commands.specs.Orders.{Orders, CommandOrder, IsOrdered, IsToldOf, IsFailedOf}
+use Rattle.sot_commands.specs.Orders.{IsVerdict}
+use Rattle.sot_commands.specs.Guests.{GuestsGoOn, IsNothing, SaysHolds, SaysFails, IsNoTrace}
 use Rattle.sot_commands.specs.declared.answer.Answer.{Answer}
 use Rattle.sot_commands.specs.declared.reply.Reply.{Reply}
 use Rattle.sot_commands.specs.declared.reply.Reply.TheVariants.{Said, Flight}
@@ -50,15 +59,55 @@ Judges t cert status text =
     ⊎ ((status ≡ 1) × ((r : Refusal) × (verdict t cert.jitter cert).Refuses r
     × (text ≡ refusal_text t r)))
 
--- what is told of a history
+-- what is told of a history, but for a formula's verdict
 abbrev pub told_text : Telling → Tables → Plan → List Logged → List ℕ
 told_text Trace t f history = trace_text t f.start history
 told_text Summary t f history = summary_text (summary_of t f history)
+told_text (Verdict formula) t f history = trace_text t f.start history
+
+-- a monitor is a new one of the formula that watches the flight
+abbrev pub Watches : Telling → Tables → Tracked → Type 0
+Watches Trace t monitor = ⊥
+Watches Summary t monitor = ⊥
+Watches (Verdict formula) t monitor = IsNewOf t formula.now monitor
+
+-- what is told of a history that a formula watched
+abbrev pub TellsVerdict : Telling → Tables → Plan → List Logged → ℕ → List ℕ → Type 0
+TellsVerdict Trace t f history status text = ⊥
+TellsVerdict Summary t f history status text = ⊥
+TellsVerdict (Verdict formula) t f history status text =
+    (x : Formula) × IsFormula t formula.now x
+    × (((status ≡ 0) × TellsHolds t f x history text)
+    ⊎ ((status ≡ 1) × TellsFails t f x history text))
+
+-- with a monitor, where a formula watches the flight, and without one else
+abbrev pub IsMonitorFor : Telling → Tables → Option Tracked → Type 0
+IsMonitorFor telling t None = IsVerdict telling → ⊥
+IsMonitorFor telling t (Some monitor) = Watches telling t monitor
+
+-- the formula that watches the flight, if one does, has a meaning for the program
+abbrev pub MeansFor : Telling → Tables → Type 0
+MeansFor Trace t = Unit {0}
+MeansFor Summary t = Unit {0}
+MeansFor (Verdict formula) t = HasMeaning t formula.now
+
+-- a formula was to watch the flight, and this is why it does not
+abbrev pub FailsFor : Telling → Tables → MonitorFail → Type 0
+FailsFor Trace t fail = ⊥
+FailsFor Summary t fail = ⊥
+FailsFor (Verdict formula) t fail = Refuses t formula.now fail
+
+-- what is told of a history, with the verdict where a formula watched it
+abbrev pub Tells : Telling → Tables → Plan → List Logged → ℕ → List ℕ → Type 0
+Tells telling t f history status text =
+    ((IsVerdict telling → ⊥) × (status ≡ 0) × (text ≡ told_text telling t f history))
+    ⊎ TellsVerdict telling t f history status text
 
 -- what is said of an accepted program's flight
 abbrev pub JudgesFlight : Telling → Tables → ℕ → Plan → ℕ → List ℕ → Type 0
 JudgesFlight telling t jitter f status text =
-    ((status ≡ 0) × IsToldOf telling t jitter f text) ⊎ ((status ≡ 1) × IsOutsideOf t f text)
+    ((status ≡ 0) × IsToldOf telling t jitter f text)
+    ⊎ ((status ≡ 1) × (IsOutsideOf t f text ⊎ IsFailedOf telling t jitter f text))
 
 -- what is said of a program's tables with a certificate and a flight
 abbrev pub JudgesFlown : Telling → Tables → Cert → Plan → ℕ → List ℕ → Type 0
@@ -67,6 +116,13 @@ JudgesFlown telling t cert f status text =
     × JudgesFlight telling t cert.jitter f status text)
     ⊎ ((status ≡ 1) × ((r : Refusal) × (verdict t cert.jitter cert).Refuses r
     × (text ≡ refusal_text t r)))
+
+-- and of a formula that may watch it: status 3, where it has no meaning for the program
+abbrev pub JudgesWatched : Telling → Tables → Cert → Plan → ℕ → List ℕ → Type 0
+JudgesWatched telling t cert f status text =
+    ((MeansFor telling t) × JudgesFlown telling t cert f status text)
+    ⊎ ((status ≡ 3) × ((fail : MonitorFail) × (fail ≢ monitor_fails.Memory)
+    × FailsFor telling t fail × (text ≡ formula_text fail)))
 
 -- what is said of the lines of a trace of an accepted program's flight
 abbrev pub JudgesLines : Tables → ℕ → Plan → List (List ℕ) → ℕ → List ℕ → Type 0
@@ -168,14 +224,30 @@ Silence words faults faults_after status =
     ((status ≡ 6) × (faults_after ≡ faults))
     ⊎ ((status ≡ 4) × AsksReader words × Rose faults faults_after)
 
+-- what stands behind the trace of a flight that was flown, by the status
+abbrev pub IsBehind : Telling → ℕ → List ℕ → Type 0
+IsBehind Trace status behind = (status ≡ 0) × IsNothing behind
+IsBehind Summary status behind = ⊥
+IsBehind (Verdict formula) status behind =
+    ((status ≡ 0) × SaysHolds behind) ⊎ ((status ≡ 1) × SaysFails behind)
+
+-- a text is a trace of which this holds, with what stands behind it
+abbrev pub FlewAndTold : Telling → ℕ → List ℕ → (List ℕ → Type 0) → Type 0
+FlewAndTold telling status said Fly =
+    (text : List ℕ) × (behind : List ℕ) × IsBehind telling status behind × (said ≡ text ++ behind)
+    × Fly text
+
 -- What became of the guests of a flight, by what is answered: there are as many, each goes on, and
--- none was asked but for a flight that was flown. `Stay` says who stays whatever is answered, and
--- `Fly` what those did whose trace is told.
+-- none was asked but for a flight that was flown, without which no trace is told. `Stay` says who
+-- stays whatever is answered, and `Fly` what those did whose trace is told.
 pub record GuestsDid {C : Type 0} (told : C → Option (List Asking)) (telling : Telling)
     (answer : Result Answer AllocError) (Stay : Type 0) (Fly : List ℕ → Type 0)
     (before after : Vec C) : Type 0 where
   pub count : vec_len after ≡ vec_len before
   pub go_on : GuestsGoOn told before.items after.items
-  pub unasked : IfOk answer (λ a. a.status ≢ 0 → after ≡ before)
+  pub unasked : IfOk answer (λ a. a.status ≢ 0
+      → ((after ≡ before) × IsNoTrace a.text.items)
+      ⊎ FlewAndTold telling a.status a.text.items Fly)
   pub stay : Stay
-  pub flew : IfOk answer (λ a. a.status ≡ 0 → telling ≡ Trace → Fly a.text.items)
+  pub flew : IfOk answer (λ a. a.status ≡ 0 → telling ≢ Summary
+      → FlewAndTold telling a.status a.text.items Fly)

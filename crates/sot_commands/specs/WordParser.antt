@@ -33,18 +33,22 @@ abbrev pub numbered : List ℕ → Shape
 numbered name =
     record (new_shape name) { rules = one_value (codes "N") ∷ one_value (codes "SEED") ∷ [] }
 
--- the commands that read a mission
+-- a command with a formula behind its word
+abbrev pub watching : Shape
+watching = record (new_shape (codes "watch")) { rules = one_value (codes "FORMULA") ∷ [] }
+
+-- the commands that read a mission alone
 abbrev pub missions : App
 missions =
     with_subcommand (with_subcommand (with_subcommand (with_subcommand bare
     (new_shape (codes "check"))) (new_shape (codes "fly"))) (new_shape (codes "replay")))
     (new_shape (codes "recover"))
 
--- and those that read a program
+-- the one that has a formula besides, and those that read a program
 abbrev pub readers : App
 readers =
-    with_subcommand (with_subcommand missions (new_shape (codes "format")))
-    (new_shape (codes "certify"))
+    with_subcommand (with_subcommand (with_subcommand missions watching)
+    (new_shape (codes "format"))) (new_shape (codes "certify"))
 
 -- and those that read nothing
 abbrev pub program : App

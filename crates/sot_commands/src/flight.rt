@@ -17,12 +17,13 @@ use std::alloc::{AllocError, Global};
 use std::sync::Wait;
 use std::thread::Threads;
 
-/// Flies what was ordered: the flight of a `fly` with these guests, that of a `soak` with none.
+/// Flies what was ordered: the flight of a `fly` or a `watch` with these guests, that of a `soak`
+/// with none.
 pub fn fly_ordered<C: Controller + Send, R: Threads + Wait + Sync>(
     rt: &R,
     alloc: Global,
     guests: &mut Vec<C>,
-    order: &FlightOrder,
+    order: &FlightOrder<'_>,
     process: Process,
 ) -> Result<Answer, AllocError>
     requires few { vec_len guests.old < 2 ^ 32 }
@@ -38,7 +39,6 @@ pub fn fly_ordered<C: Controller + Send, R: Threads + Wait + Sync>(
     ensures alone { order.now.telling ≡ Summary → guests.new ≡ guests.old }
 {
     match order.telling {
-        Telling::Trace => fly(rt, alloc, guests, &order.text, Telling::Trace, process),
         Telling::Summary => {
             let mut nobody: Vec<C> = Vec::new(alloc);
             fly(
@@ -50,5 +50,7 @@ pub fn fly_ordered<C: Controller + Send, R: Threads + Wait + Sync>(
                 process,
             )
         }
+        Telling::Trace => fly(rt, alloc, guests, &order.text, order.telling, process),
+        Telling::Verdict { .. } => fly(rt, alloc, guests, &order.text, order.telling, process),
     }
 }

@@ -1,23 +1,26 @@
-//! `fly`: the trace of a mission's flight. `soak` does the same on a text that is made, and tells
-//! the flight's summary.
+//! `fly`: the trace of a mission's flight. `watch` does the same, and tells behind the trace
+//! whether a formula holds; `soak` does it on a text that is made, and tells the flight's summary.
 
-ghost use Rattle.std.specs.Prelude.{◌≡◌, ◌<◌, ◌≤◌, ◌^◌, [], length, vec_len, true, IfOk};
+ghost use Rattle.std.specs.Prelude.{◌≡◌, ◌<◌, ◌≤◌, ◌^◌, [], length, vec_len, true, IfOk, IfErr};
 ghost use Rattle.sot_lang.specs.CertRules.{FitsTables};
 ghost use Rattle.sot_world.specs.Opens.{StartInside};
 ghost use Rattle.sot_flight.specs.Fits.{FitsFlight};
 ghost use Rattle.sot_workers.specs.Flying.{HasNoGuests};
 ghost use Rattle.sot_workers.specs.Asked.{EachUnnamedStays};
 ghost use Rattle.sot_commands.specs.Answers.{input_limit};
-ghost use Rattle.sot_commands.specs.Steps.{JudgesFlight, JudgesFlown, GuestsDid};
+ghost use Rattle.sot_commands.specs.Steps.{JudgesFlight, JudgesFlown, JudgesWatched, GuestsDid};
+ghost use Rattle.sot_commands.specs.Steps.{IsMonitorFor, FailsFor, Tells};
 ghost use Rattle.sot_commands.specs.Orders.{FliesBytes};
 ghost use Rattle.sot_commands.specs.Guests.{UnnamedStay, GuestsFlew, Flew};
 
-use crate::answer::{Answer, faulty, outside, refused, told};
+use crate::answer::{Answer, faulty, faulty_formula, outside, refused, told, watched};
 use crate::telling::Telling;
 use sot_board::Board;
 use sot_compose::check_all;
 use sot_flight::Flight;
+use sot_formula::MonitorFail;
 use sot_lang::{Cert, Typed};
+use sot_monitor::Monitor;
 use sot_node_worker::Controller;
 use sot_ports::{Process, let_go};
 use sot_report::{LoadFail, load};
@@ -29,22 +32,45 @@ use std::alloc::{AllocError, Global};
 use std::sync::Wait;
 use std::thread::Threads;
 
+// Tells what was flown; with the verdict of a monitor, where one watches it.
+fn tell(
+    alloc: Global,
+    accepted: &Accepted<'_>,
+    board: &Board<'_>,
+    telling: Telling<'_>,
+    monitor: Option<Monitor>,
+) -> Result<Answer, AllocError>
+    requires accepted { board.now.accepted ≡ accepted.now }
+    requires monitor { IsMonitorFor telling accepted.now.program monitor }
+    ensures { IfOk result (λ answer. Tells telling.entry accepted.now.program board.now.plan
+        board.now.entries answer.status answer.text.items) }
+{
+    match monitor {
+        Some(monitor) => watched(alloc, telling, accepted, board, monitor),
+        None => told(alloc, telling, board),
+    }
+}
+
 // Flies a board without guests, and tells what was flown. Only the text takes memory.
 fn fly_unaided(
     alloc: Global,
+    accepted: &Accepted<'_>,
     board: &mut Board<'_>,
     flight: &Flight,
-    telling: Telling,
+    telling: Telling<'_>,
+    monitor: Option<Monitor>,
 ) -> Result<Answer, AllocError>
+    requires accepted { board.old.accepted ≡ accepted.now }
+    requires monitor { IsMonitorFor telling accepted.now.program monitor }
     requires flight { flight.now ≡ board.old.plan }
     requires inside { StartInside board.old.accepted.program flight.now.start
         (length board.old.accepted.program.modules) }
     requires no_guests { HasNoGuests flight.now }
-    ensures { IfOk result (λ answer. JudgesFlight telling board.old.accepted.program
+    ensures { IfOk result (λ answer. JudgesFlight telling.entry board.old.accepted.program
         board.old.accepted.cert.jitter flight.now answer.status answer.text.items) }
 {
     fly_alone(board);
-    told(alloc, telling, board)
+    tell(alloc, accepted, board, telling, monitor)
 }
 
 // Whether a board is to be flown alone: there are no guests, and nobody gets a thread.
@@ -61,29 +87,33 @@ fn fly_opened<'a, C: Controller + Send, R: Threads + Wait + Sync>(
     rt: &R,
     alloc: Global,
     guests: &mut Vec<C>,
+    accepted: &Accepted<'_>,
     mut board: Board<'a>,
     flight: &'a Flight,
-    telling: Telling,
+    telling: Telling<'_>,
+    monitor: Option<Monitor>,
 ) -> Result<Answer, AllocError>
+    requires accepted { board.accepted ≡ accepted.now }
+    requires monitor { IsMonitorFor telling accepted.now.program monitor }
     requires flight { flight.now ≡ board.plan }
     requires opened { board.entries ≡ [] }
     requires inside { StartInside board.accepted.program flight.now.start
         (length board.accepted.program.modules) }
     requires fits { FitsFlight board.accepted.program (vec_len guests.old) flight.now }
     ensures judges { IfOk result (λ answer.
-        JudgesFlight telling board.entry.accepted.program board.entry.accepted.cert.jitter
+        JudgesFlight telling.entry board.entry.accepted.program board.entry.accepted.cert.jitter
         flight.now answer.status answer.text.items) }
-    ensures guests { GuestsDid C.told telling result
+    ensures guests { GuestsDid C.told telling.entry result
         (EachUnnamedStays flight.now guests.old.items guests.new.items)
         (λ text. GuestsFlew C.told board.entry.accepted.program board.entry.accepted.cert.jitter
         flight.now text guests.old.items guests.new.items)
         guests.old guests.new }
 {
     if is_alone(&board, guests.is_empty()) {
-        return fly_unaided(alloc, &mut board, flight, telling);
+        return fly_unaided(alloc, accepted, &mut board, flight, telling, monitor);
     }
     match fly_to_the_end(rt, alloc, board, guests) {
-        Ok(flown) => told(alloc, telling, &flown.board),
+        Ok(flown) => tell(alloc, accepted, &flown.board, telling, monitor),
         Err(_) => Err(AllocError),
     }
 }
@@ -95,20 +125,22 @@ fn fly_accepted<C: Controller + Send, R: Threads + Wait + Sync>(
     guests: &mut Vec<C>,
     accepted: &Accepted<'_>,
     flight: &Flight,
-    telling: Telling,
+    telling: Telling<'_>,
+    monitor: Option<Monitor>,
 ) -> Result<Answer, AllocError>
-    requires { FitsFlight accepted.now.program (vec_len guests.old) flight.now }
+    requires fits { FitsFlight accepted.now.program (vec_len guests.old) flight.now }
+    requires monitor { IsMonitorFor telling accepted.now.program monitor }
     ensures judges { IfOk result (λ answer.
-        JudgesFlight telling accepted.now.program accepted.now.cert.jitter flight.now answer.status
-        answer.text.items) }
-    ensures guests { GuestsDid C.told telling result
+        JudgesFlight telling.entry accepted.now.program accepted.now.cert.jitter flight.now
+        answer.status answer.text.items) }
+    ensures guests { GuestsDid C.told telling.entry result
         (EachUnnamedStays flight.now guests.old.items guests.new.items)
         (λ text. GuestsFlew C.told accepted.now.program accepted.now.cert.jitter flight.now text
         guests.old.items guests.new.items)
         guests.old guests.new }
 {
     match Board::open(alloc, accepted, flight) {
-        Ok(board) => fly_opened(rt, alloc, guests, board, flight, telling),
+        Ok(board) => fly_opened(rt, alloc, guests, accepted, board, flight, telling, monitor),
         Err(OpenFail::NotSafer { module }) => outside(alloc, accepted.typed(), flight, module),
         Err(OpenFail::Memory) => Err(AllocError),
     }
@@ -122,21 +154,71 @@ fn judge<C: Controller + Send, R: Threads + Wait + Sync>(
     program: &Typed,
     cert: &Cert,
     flight: &Flight,
-    telling: Telling,
+    telling: Telling<'_>,
+    monitor: Option<Monitor>,
 ) -> Result<Answer, AllocError>
+    requires monitor { IsMonitorFor telling program.now monitor }
     requires cert { FitsTables program.now cert.now }
     requires flight { FitsFlight program.now (vec_len guests.old) flight.now }
     ensures judges { IfOk result (λ answer.
-        JudgesFlown telling program.now cert.now flight.now answer.status answer.text.items) }
-    ensures guests { GuestsDid C.told telling result
+        JudgesFlown telling.entry program.now cert.now flight.now answer.status answer.text.items) }
+    ensures guests { GuestsDid C.told telling.entry result
         (EachUnnamedStays flight.now guests.old.items guests.new.items)
         (λ text. GuestsFlew C.told program.now cert.now.jitter flight.now text guests.old.items
         guests.new.items)
         guests.old guests.new }
 {
     match check_all(rt, program, cert) {
-        Ok(accepted) => fly_accepted(rt, alloc, guests, &accepted, flight, telling),
+        Ok(accepted) => fly_accepted(rt, alloc, guests, &accepted, flight, telling, monitor),
         Err(refusal) => refused(alloc, program, &refusal),
+    }
+}
+
+// The monitor of the formula that watches the flight, where one does.
+fn monitor_for(
+    alloc: Global,
+    program: &Typed,
+    telling: Telling<'_>,
+) -> Result<Option<Monitor>, MonitorFail>
+    ensures ok { IfOk result (IsMonitorFor telling.entry program.now) }
+    ensures err { IfErr result (FailsFor telling.entry program.now) }
+{
+    match telling {
+        Telling::Trace => Ok(None),
+        Telling::Summary => Ok(None),
+        Telling::Verdict { formula } => {
+            match Monitor::read(alloc, program, formula.as_bytes()) {
+                Ok(monitor) => Ok(Some(monitor)),
+                Err(fail) => Err(fail),
+            }
+        }
+    }
+}
+
+// Flies a mission that was read, where the formula that watches it has a meaning.
+fn fly_loaded<C: Controller + Send, R: Threads + Wait + Sync>(
+    rt: &R,
+    alloc: Global,
+    guests: &mut Vec<C>,
+    program: &Typed,
+    cert: &Cert,
+    flight: &Flight,
+    telling: Telling<'_>,
+) -> Result<Answer, AllocError>
+    requires cert { FitsTables program.now cert.now }
+    requires flight { FitsFlight program.now (vec_len guests.old) flight.now }
+    ensures judges { IfOk result (λ answer.
+        JudgesWatched telling.entry program.now cert.now flight.now answer.status
+        answer.text.items) }
+    ensures guests { GuestsDid C.told telling.entry result
+        (EachUnnamedStays flight.now guests.old.items guests.new.items)
+        (λ text. GuestsFlew C.told program.now cert.now.jitter flight.now text guests.old.items
+        guests.new.items)
+        guests.old guests.new }
+{
+    match monitor_for(alloc, program, telling) {
+        Ok(monitor) => judge(rt, alloc, guests, program, cert, flight, telling, monitor),
+        Err(fail) => faulty_formula(alloc, fail),
     }
 }
 
@@ -147,14 +229,14 @@ pub fn fly<C: Controller + Send, R: Threads + Wait + Sync>(
     alloc: Global,
     guests: &mut Vec<C>,
     bytes: &[u8],
-    telling: Telling,
+    telling: Telling<'_>,
     process: Process,
 ) -> Result<Answer, AllocError>
     requires short { length bytes.now ≤ input_limit }
     requires few { vec_len guests.old < 2 ^ 32 }
     ensures flies { IfOk result (λ answer.
-        FliesBytes (vec_len guests.old) telling bytes.now answer.status answer.text.items) }
-    ensures guests { GuestsDid C.told telling result
+        FliesBytes (vec_len guests.old) telling.entry bytes.now answer.status answer.text.items) }
+    ensures guests { GuestsDid C.told telling.entry result
         (UnnamedStay (vec_len guests.old) bytes.now guests.old.items guests.new.items)
         (λ text. Flew C.told (vec_len guests.old) bytes.now text guests.old.items guests.new.items)
         guests.old guests.new }
@@ -162,7 +244,7 @@ pub fn fly<C: Controller + Send, R: Threads + Wait + Sync>(
     match load(alloc, bytes, Need::Fly, guests.len() as u32, process) {
         Ok(loaded) => match &loaded.flight {
             Some(flight) => {
-                let answer = judge(
+                let answer = fly_loaded(
                     rt,
                     alloc,
                     guests,

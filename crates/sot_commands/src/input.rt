@@ -13,25 +13,29 @@ use std::alloc::Global;
 /// The most bytes of an input: 16 MiB.
 pub const INPUT_LIMIT: usize = 16_777_216;
 
-fn reads(command: Command) -> bool
-    ensures { IsTrue result ↔ Reads command }
+fn reads(command: Command<'_>) -> bool
+    ensures { IsTrue result ↔ Reads command.entry }
 {
     !matches!(command, Command::Make { .. } | Command::Soak { .. })
 }
 
 /// All that the source has left, for a command that reads; and nothing for one that does not.
 #[tactic(auto, using(crate::proofs::Nothing::reads_nothing, crate::proofs::Nothing::takes_all, crate::proofs::Nothing::takes_none))]
-pub fn take<S: Source>(alloc: Global, command: Command, source: &mut S) -> Result<Vec<u8>, ReadFail>
+pub fn take<S: Source>(
+    alloc: Global,
+    command: Command<'_>,
+    source: &mut S,
+) -> Result<Vec<u8>, ReadFail>
     ensures ok { IfOk result (λ bytes.
-        Takes command (S.left source.old) (S.left source.new) bytes.items) }
+        Takes command.entry (S.left source.old) (S.left source.new) bytes.items) }
     ensures within { IfOk result (λ bytes. vec_len bytes ≤ INPUT_LIMIT) }
     ensures fault { IsErrOf result ReadFail.Fault
         → Rose (S.faults source.old) (S.faults source.new) }
     ensures too_long { IsErrOf result ReadFail.TooLong →
         ReadsCount (S.left source.old) (S.left source.new) (INPUT_LIMIT + 1) }
     ensures well { ¬ (IsErrOf result ReadFail.Fault) → S.faults source.new ≡ S.faults source.old }
-    ensures reader { IfErr result (λ _. Reads command) }
-    ensures untouched { ¬ (Reads command) → source.new ≡ source.old }
+    ensures reader { IfErr result (λ _. Reads command.entry) }
+    ensures untouched { ¬ (Reads command.entry) → source.new ≡ source.old }
     ensures no_more { ReadsUpTo (S.left source.old) (S.left source.new) (INPUT_LIMIT + 1) }
 {
     if reads(command) {

@@ -2,7 +2,7 @@
 
 ghost use Rattle.sot_commands.specs.Laws.{AcceptedOnce, RefusedOnce, LinesRefusedOnce};
 ghost use Rattle.sot_commands.specs.Laws.{RejectedOnce};
-ghost use Rattle.sot_commands.specs.GuestLaws.{FlewOnce, NamedAreAsked, OthersStay};
+ghost use Rattle.sot_commands.specs.GuestLaws.{TracesEndOnce, FlewOnce, NamedAreAsked, OthersStay};
 
 use sot_node_worker::Controller;
 
@@ -26,6 +26,11 @@ pub fn lines_refused_once()
 /// and column of a fault of typing.
 pub fn rejected_once()
     ensures { RejectedOnce }
+{}
+
+/// What is written of a flight tells where its trace ends, whatever verdict stands behind it.
+pub fn traces_end_once()
+    ensures { TracesEndOnce }
 {}
 
 /// Whoever tells of the guests of one written trace tells of one history.

@@ -5,16 +5,16 @@ use crate::telling::Telling;
 
 /// A flight that is to be flown: the text of its mission, and what is told of it.
 #[derive(Drop)]
-pub struct FlightOrder {
+pub struct FlightOrder<'w> {
     pub text: Vec<u8>,
-    pub telling: Telling,
+    pub telling: Telling<'w>,
 }
 
 /// What a call has come to that does all that needs no waiting.
 #[derive(Drop)]
-pub enum Begun {
+pub enum Begun<'w> {
     /// It has ended: nothing is left to be done.
     Ended(Status),
     /// A flight is left to be flown, and what is told of it to be written.
-    Flight(FlightOrder),
+    Flight(FlightOrder<'w>),
 }

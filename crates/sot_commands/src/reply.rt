@@ -25,13 +25,13 @@ use std::thread::Threads;
 
 /// An answer, or a flight that is to be flown for one.
 #[derive(Drop)]
-pub enum Reply {
+pub enum Reply<'w> {
     Said(Answer),
-    Flight(FlightOrder),
+    Flight(FlightOrder<'w>),
 }
 
 /// An answer as a reply.
-pub fn said(answer: Result<Answer, AllocError>) -> Result<Reply, AllocError>
+pub fn said<'w>(answer: Result<Answer, AllocError>) -> Result<Reply<'w>, AllocError>
     ensures { result ≡ as_reply answer }
 {
     match answer {
@@ -59,17 +59,17 @@ fn format(alloc: Global, bytes: &[u8], process: Process) -> Result<Answer, Alloc
 
 /// What a command says of the text that it works on, where so many guests are handed in; of one
 /// that flies, the order of the flight. It does not wait.
-pub fn reply_of<R: Threads + Sync>(
+pub fn reply_of<'w, R: Threads + Sync>(
     rt: &R,
     alloc: Global,
-    command: Command,
+    command: Command<'w>,
     guests: u32,
     bytes: Vec<u8>,
     process: Process,
-) -> Result<Reply, AllocError>
+) -> Result<Reply<'w>, AllocError>
     requires form { IsInForm command }
     requires short { vec_len bytes ≤ INPUT_LIMIT }
-    ensures { IfOk result (IsReply guests command bytes.items) }
+    ensures { IfOk result (IsReply guests command.entry bytes.items) }
 {
     match command {
         Command::Check => said(check(rt, alloc, &bytes, process)),
@@ -79,6 +79,10 @@ pub fn reply_of<R: Threads + Sync>(
         })),
         Command::Replay => said(replay(rt, alloc, guests, &bytes, process)),
         Command::Recover => said(recover(rt, alloc, &bytes, process)),
+        Command::Watch { formula } => Ok(Reply::Flight(FlightOrder {
+            text: bytes,
+            telling: Telling::Verdict { formula },
+        })),
         Command::Format => said(format(alloc, &bytes, process)),
         Command::Certify => said(certify(rt, alloc, &bytes, process)),
         Command::Make { n, seed } => said(made(alloc, n, seed)),

@@ -12,7 +12,7 @@ use sot_maker::{made_texts_are_short, make};
 use std::alloc::{AllocError, Global};
 
 /// Makes the mission of two numbers: it is to be flown as `fly` would, with no guests, and counted.
-pub fn soak(alloc: Global, n: u32, seed: u64) -> Result<FlightOrder, AllocError>
+pub fn soak(alloc: Global, n: u32, seed: u64) -> Result<FlightOrder<'static>, AllocError>
     requires { AreAsked n seed }
     ensures order { IfOk result (λ order.
         Orders (SoakCommand n seed) [] order.telling order.text.items) }

@@ -5,13 +5,14 @@ ghost use Rattle.std.specs.Prelude.{IfOk, IfErr, MatchResult};
 ghost use Rattle.sot_ports.specs.Faults.{Rose};
 ghost use Rattle.sot_ports.specs.Whole.{ReadsAll, ReadsUpTo};
 ghost use Rattle.sot_commands.specs.Words.{Reads, IsInForm, Asks, AsksNoReader, AsksFlight};
+ghost use Rattle.sot_commands.specs.Words.{AsksWatch};
 ghost use Rattle.sot_commands.specs.declared.words.Command.TheVariants.{Fly as FlyCommand};
 ghost use Rattle.sot_commands.specs.declared.telling.Telling.TheVariants.{Trace};
 ghost use Rattle.sot_commands.specs.Guests.{GuestsEnd};
 ghost use Rattle.sot_commands.specs.Steps.{CommandReply, WordReply, Silence};
 ghost use Rattle.sot_ports.specs.Outside.{Written, outside};
 ghost use Rattle.sot_commands.specs.Ends.{Ends};
-ghost use Rattle.sot_commands.specs.Orders.{IsOrdered, FlightEnds, IfEnded, IfFlight};
+ghost use Rattle.sot_commands.specs.Orders.{IsOrdered, IsVerdict, FlightEnds, IfEnded, IfFlight};
 
 use crate::answer::{Answer, fixed};
 use crate::flight::fly_ordered;
@@ -26,14 +27,14 @@ use std::alloc::{AllocError, Global};
 use std::sync::Wait;
 use std::thread::Threads;
 
-const USAGE: &str =
-    "usage: soter check | fly | replay | format | make N SEED | soak N SEED | recover | certify\n";
+const USAGE: &str = "usage: soter check | fly | replay | format | make N SEED | soak N SEED \
+    | recover | certify | watch FORMULA\n";
 
 const TOO_LONG: &str = "fault input above 16777216 bytes\n";
 
 // Want of memory has a status of its own, and no text.
-fn or_memory(reply: Result<Reply, AllocError>) -> Result<Reply, Status>
-    ensures { MatchResult result (λ r. reply ≡ Ok r) (λ s. (s.0 ≡ 6) × IsErr reply) }
+fn or_memory<'w>(reply: Result<Reply<'w>, AllocError>) -> Result<Reply<'w>, Status>
+    ensures { MatchResult result (λ r. reply.entry ≡ Ok r) (λ s. (s.0 ≡ 6) × IsErr reply.entry) }
 {
     match reply {
         Ok(reply) => Ok(reply),
@@ -42,21 +43,23 @@ fn or_memory(reply: Result<Reply, AllocError>) -> Result<Reply, Status>
 }
 
 // Does a command on what it takes of the source.
-fn perform<R: Threads + Sync, S: Source>(
+fn perform<'w, R: Threads + Sync, S: Source>(
     rt: &R,
     alloc: Global,
-    command: Command,
+    command: Command<'w>,
     guests: u32,
     source: &mut S,
     process: Process,
-) -> Result<Reply, Status>
+) -> Result<Reply<'w>, Status>
     requires form { IsInForm command }
-    ensures ok { IfOk result (CommandReply guests command (S.left source.old) (S.left source.new)) }
+    ensures ok { IfOk result
+        (CommandReply guests command.entry (S.left source.old) (S.left source.new)) }
     ensures err { IfErr result (λ status.
         ((status.0 ≡ 6) × (S.faults source.new ≡ S.faults source.old))
-        ⊎ ((status.0 ≡ 4) × Reads command × Rose (S.faults source.old) (S.faults source.new))) }
+        ⊎ ((status.0 ≡ 4) × Reads command.entry
+        × Rose (S.faults source.old) (S.faults source.new))) }
     ensures well { IfOk result (λ _. S.faults source.new ≡ S.faults source.old) }
-    ensures untouched { ¬ (Reads command) → source.new ≡ source.old }
+    ensures untouched { ¬ (Reads command.entry) → source.new ≡ source.old }
     ensures no_more { ReadsUpTo (S.left source.old) (S.left source.new) (INPUT_LIMIT + 1) }
 {
     match take(alloc, command, source) {
@@ -69,14 +72,14 @@ fn perform<R: Threads + Sync, S: Source>(
 
 // The reply to the words, before anything is written.
 #[tactic(auto, using(crate::proofs::Nothing::reads_nothing))]
-fn reply_to<R: Threads + Sync, S: Source>(
+fn reply_to<'w, R: Threads + Sync, S: Source>(
     rt: &R,
     alloc: Global,
-    words: &[String],
+    words: &'w [String],
     guests: u32,
     source: &mut S,
     process: Process,
-) -> Result<Reply, Status>
+) -> Result<Reply<'w>, Status>
     ensures ok { IfOk result (WordReply guests words.now (S.left source.old) (S.left source.new)) }
     ensures err { IfErr result (λ status.
         Silence words.now (S.faults source.old) (S.faults source.new) status.0) }
@@ -108,15 +111,15 @@ fn say<K: Sink>(answer: &Answer, sink: &mut K) -> Status
 /// guests are to be handed in with the flight. Its runtime cannot wait, so it returns. Threads of
 /// `rt` check long lists of cells; what is answered does not depend on them. Where the process ends
 /// with this call, what was read is not given back to memory.
-pub fn begin<R: Threads + Sync, S: Source, K: Sink>(
+pub fn begin<'w, R: Threads + Sync, S: Source, K: Sink>(
     rt: &R,
     alloc: Global,
-    words: &[String],
+    words: &'w [String],
     guests: u32,
     source: &mut S,
     sink: &mut K,
     process: Process,
-) -> Begun
+) -> Begun<'w>
     ensures ended { IfEnded result (λ status. Ends guests words.now
         (outside (S.left source.old) (K.held sink.old) (S.faults source.old) (K.faults sink.old))
         (outside (S.left source.new) (K.held sink.new) (S.faults source.new) (K.faults sink.new))
@@ -151,7 +154,7 @@ pub fn fly_to_the_end<C: Controller + Send, R: Threads + Wait + Sync, K: Sink>(
     rt: &R,
     alloc: Global,
     guests: &mut Vec<C>,
-    order: &FlightOrder,
+    order: &FlightOrder<'_>,
     sink: &mut K,
     process: Process,
 ) -> Status
@@ -162,7 +165,8 @@ pub fn fly_to_the_end<C: Controller + Send, R: Threads + Wait + Sync, K: Sink>(
     // Want of memory leaves the sink as it was.
     ensures unwritten { result.0 ≡ 6 → sink.new ≡ sink.old }
     ensures guests { GuestsEnd C.told
-        (order.now.telling ≡ Trace) (λ bytes. bytes ≡ order.now.text.items)
+        (order.now.telling ≡ Trace) (IsVerdict order.now.telling)
+        (λ bytes. bytes ≡ order.now.text.items)
         (K.held sink.old) (K.held sink.new) guests.old guests.new result.0 }
 {
     match fly_ordered(rt, alloc, guests, order, process) {
@@ -195,7 +199,7 @@ pub fn soter<C: Controller + Send, R: Threads + Wait + Sync, S: Source, K: Sink>
     // A call that has nothing to say leaves the sink as it was.
     ensures unwritten { (result.0 ≡ 4) ⊎ (result.0 ≡ 6) → sink.new ≡ sink.old }
     // What became of the guests.
-    ensures guests { GuestsEnd C.told (Asks words.now FlyCommand)
+    ensures guests { GuestsEnd C.told (Asks words.now FlyCommand) (AsksWatch words.now)
         (ReadsAll (S.left source.old) (S.left source.new))
         (K.held sink.old) (K.held sink.new) guests.old guests.new result.0 }
 {

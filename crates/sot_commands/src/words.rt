@@ -1,6 +1,6 @@
 //! The words of a command line.
 
-ghost use Rattle.std.specs.Prelude.{◌≡◌, ◌≢◌, ℕ, ◌≤◌, Some, map, IsOk, IfOk, IsErrOf, IfErr};
+ghost use Rattle.std.specs.Prelude.{◌≡◌, ◌≢◌, ℕ, ◌≤◌, List, Some, map, IsOk, IfOk, IsErrOf, IfErr};
 ghost use Rattle.std.specs.Prelude.{IsTrue, ◌↔◌, false};
 ghost use Rattle.std.specs.List.{list_any};
 ghost use Rattle.std.specs.Fmt.{decimal};
@@ -9,17 +9,17 @@ ghost use Rattle.clap.specs.Words.{app_of, kind_of, subcommand_name_of, FailsBy,
 ghost use Rattle.clap.specs.Words.{fault_of};
 ghost use Rattle.clap.specs.Simple.{shape_of};
 ghost use Rattle.clap.specs.declared.builder.command.Command.TheViews.{out-Command as fields_of};
-ghost use Rattle.sot_commands.specs.Words.{word_of, Asks, HasNumbers, IsNumbered};
-ghost use Rattle.sot_commands.specs.WordParser.{is_dashed, bare, one_value, numbered, missions};
-ghost use Rattle.sot_commands.specs.WordParser.{readers, program};
+ghost use Rattle.sot_commands.specs.Words.{word_of, Asks, HasNumbers, HasFormula, IsNumbered};
+ghost use Rattle.sot_commands.specs.WordParser.{is_dashed, bare, one_value, numbered, watching};
+ghost use Rattle.sot_commands.specs.WordParser.{missions, readers, program};
 
 use clap::error::ErrorKind;
 use clap::{Arg, ArgAction, ArgMatches, Error};
 use std::alloc::{AllocError, Global};
 
-/// What the words ask the program to do. The first six read a text; the others read nothing.
-#[derive(Clone, Copy, Debug, PartialEq, Eq)]
-pub enum Command {
+/// What the words ask the program to do. The first seven read a text; the others read nothing.
+#[derive(Clone, Copy, Debug)]
+pub enum Command<'w> {
     /// Whether a mission is accepted.
     Check,
     /// The trace of a mission's flight.
@@ -28,6 +28,8 @@ pub enum Command {
     Replay,
     /// Within how many holds the modules of a mission recover.
     Recover,
+    /// The trace of a mission's flight, and whether a formula holds at all of its moments.
+    Watch { formula: &'w str },
     /// The canonical text of a program.
     Format,
     /// A program with the certificate that is made for it, as a mission.
@@ -86,7 +88,18 @@ fn numbered<'a>(alloc: Global, name: &'a str) -> Result<clap::Command<'a>, Alloc
     clap::Command::new(alloc, name).arg(n)?.arg(seed)
 }
 
-// The commands that read a mission, as subcommands.
+// The command with a formula behind its word.
+fn watching<'a>(alloc: Global) -> Result<clap::Command<'a>, AllocError>
+    ensures shape { IfOk result (λ command. shape_of command ≡ watching) }
+    ensures local { IfOk result (λ command. (fields_of command).has_globals ≡ false) }
+{
+    let formula = Arg::new(alloc, "FORMULA")
+        .required(true)
+        .action(ArgAction::Set);
+    clap::Command::new(alloc, "watch").arg(formula)
+}
+
+// The commands that read a mission alone, as subcommands.
 fn missions<'a>(alloc: Global) -> Result<clap::Command<'a>, AllocError>
     ensures { IfOk result (λ command. app_of command ≡ missions) }
 {
@@ -101,13 +114,17 @@ fn missions<'a>(alloc: Global) -> Result<clap::Command<'a>, AllocError>
         .subcommand(recover)
 }
 
-// And those that read a program.
+// The one that has a formula besides, and those that read a program.
 fn readers<'a>(alloc: Global) -> Result<clap::Command<'a>, AllocError>
     ensures { IfOk result (λ command. app_of command ≡ readers) }
 {
+    let watch = watching(alloc)?;
     let format = clap::Command::new(alloc, "format");
     let certify = clap::Command::new(alloc, "certify");
-    missions(alloc)?.subcommand(format)?.subcommand(certify)
+    missions(alloc)?
+        .subcommand(watch)?
+        .subcommand(format)?
+        .subcommand(certify)
 }
 
 // And those that read nothing.
@@ -174,8 +191,26 @@ fn numbers(alloc: Global, words: &[String]) -> Result<(u32, u64), WordFail>
     Ok((n as u32, seed))
 }
 
-// The command that `clap` found, with the numbers behind its word.
-fn found(alloc: Global, matches: &ArgMatches<'_>, words: &[String]) -> Result<Command, WordFail>
+// The formula behind the first word.
+fn formula(words: &[String]) -> Result<&str, WordFail>
+    ensures ok { IfOk result (λ formula. HasFormula words.now formula.now) }
+    ensures form { IsErrOf result WordFail.Form → (formula : List ℕ)
+        → ¬ (HasFormula words.now formula) }
+    ensures memory { ¬ (IsErrOf result WordFail.Memory) }
+{
+    if words.len() == 2 {
+        Ok(words[1].as_str())
+    } else {
+        Err(WordFail::Form)
+    }
+}
+
+// The command that `clap` found, with what stands behind its word.
+fn found<'w>(
+    alloc: Global,
+    matches: &ArgMatches<'_>,
+    words: &'w [String],
+) -> Result<Command<'w>, WordFail>
     ensures ok { IfOk result (λ command. (subcommand_name_of matches.now ≡ Some (word_of command))
         × IsNumbered words.now command) }
     ensures form { IsErrOf result WordFail.Form → (command : _)
@@ -193,6 +228,11 @@ fn found(alloc: Global, matches: &ArgMatches<'_>, words: &[String]) -> Result<Co
         Ok(Command::Replay)
     } else if name == "recover" {
         Ok(Command::Recover)
+    } else if name == "watch" {
+        match formula(words) {
+            Ok(formula) => Ok(Command::Watch { formula }),
+            Err(fail) => Err(fail),
+        }
     } else if name == "format" {
         Ok(Command::Format)
     } else if name == "certify" {
@@ -221,9 +261,9 @@ fn reason(error: &Error) -> WordFail
     }
 }
 
-/// The command that the words ask for: its word, and behind it its numbers. A word that begins with
-/// `-` stands in no form, so `clap` is not asked.
-pub fn command_of(alloc: Global, words: &[String]) -> Result<Command, WordFail>
+/// The command that the words ask for: its word, and behind it its numbers or its formula. A word
+/// that begins with `-` stands in no form, so `clap` is not asked.
+pub fn command_of(alloc: Global, words: &[String]) -> Result<Command<'_>, WordFail>
     ensures ok { IfOk result (λ command. Asks words.now command) }
     ensures form { IsErrOf result WordFail.Form → (command : _) → ¬ (Asks words.now command) }
 {

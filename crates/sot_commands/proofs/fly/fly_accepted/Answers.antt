@@ -10,6 +10,7 @@ use Rattle.sot_commands.specs.Steps.{JudgesFlight, GuestsDid}
 use Rattle.sot_commands.specs.Guests.{GuestsFlew}
 use Rattle.sot_commands.proofs.Flown.{starts_inside, outside_result}
 use Rattle.sot_commands.proofs.Guests.{unflown, unnamed_same, lacking}
+use Rattle.sot_commands.proofs.NoTraces.{outside_traces_none}
 use Rattle.sot_commands.proofs.fly.fly_accepted.Goals as goal
 
 pub fly_opened-requires-clause-inside : goal.fly_opened-requires-clause-inside
@@ -20,7 +21,7 @@ fly_opened-requires-clause-inside g c κs within =
 
 pub fly_opened-requires-clause-fits : goal.fly_opened-requires-clause-fits
 fly_opened-requires-clause-fits g c κs within =
-    subst (λ (a : Admitted). FitsFlight a.program (vec_len c.args.guests.now) c.args.flight.now) (sym c.in-Ok.ensures.accepted) c.requires
+    subst (λ (a : Admitted). FitsFlight a.program (vec_len c.args.guests.now) c.args.flight.now) (sym c.in-Ok.ensures.accepted) c.requires.fits
 
 pub returns-in-Ok-clause-judges : goal.returns-in-Ok-clause-judges
 returns-in-Ok-clause-judges g c =
@@ -51,9 +52,9 @@ pub returns-in-Err-NotSafer-clause-guests : goal.returns-in-Err-NotSafer-clause-
 returns-in-Err-NotSafer-clause-guests g c =
     let guests = c.args.guests.now in
     unflown g.C.Controller.told c.args.telling c.outside.result _ _ guests 1 (unnamed_same c.args.flight.now guests.items) (omega arith)
-    c.outside.ensures.status
+    c.outside.ensures.status (outside_traces_none c.outside.result _ c.args.flight.now c.outside.ensures.text)
 
-pub returns-in-Err-Memory-clause-guests : goal.returns-in-Err-Memory-clause-guests
-returns-in-Err-Memory-clause-guests g c =
+pub returns-clause-guests : goal.returns-clause-guests
+returns-clause-guests g c =
     let guests = c.args.guests.now in
     lacking g.C.Controller.told c.args.telling _ c.args.flight.now _ guests guests refl refl

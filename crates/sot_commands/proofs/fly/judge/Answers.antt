@@ -6,6 +6,7 @@ use Rattle.sot_commands.specs.Guests.{GuestsFlew}
 use Rattle.sot_commands.specs.Steps.{JudgesFlight, GuestsDid}
 use Rattle.sot_commands.proofs.Forms.{flight_result, unflown_result}
 use Rattle.sot_commands.proofs.Guests.{unflown, unnamed_same}
+use Rattle.sot_commands.proofs.NoTraces.{refusal_traces_none}
 use Rattle.sot_commands.proofs.fly.judge.Goals as goal
 
 pub returns-in-Ok-clause-judges : goal.returns-in-Ok-clause-judges
@@ -37,3 +38,4 @@ returns-in-Err-clause-guests g c =
     let guests = c.args.guests.now in
     unflown g.C.Controller.told c.args.telling c.refused.result _ _ guests 1 (unnamed_same c.args.flight.now guests.items) (omega arith)
     c.refused.ensures.status
+    (refusal_traces_none c.refused.result c.args.program.now (refusal_view c.in-Err.refusal) c.refused.ensures.text)
