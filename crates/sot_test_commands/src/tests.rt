@@ -45,7 +45,7 @@ const CERTIFICATE: &str = "%certificate
 ";
 
 const USAGE: &str =
-    "usage: soter check | fly | replay | format | make N SEED | soak N SEED | recover | certify~";
+    "usage: soter check | fly | replay | format | make N SEED | soak N SEED | recover | certify | watch FORMULA~";
 
 // The column of a row with this number, from 0, where signs like these stand between columns;
 // nothing where there is none.
