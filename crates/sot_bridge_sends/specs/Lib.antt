@@ -1,0 +1,4 @@
+-- what a history sends
+pub mod Sends
+-- what follows for a bridge
+pub mod Laws
