@@ -1,5 +1,6 @@
 -- What the first place of a byte in a part of a list says of the list.
-use Rattle.std.proofs.Common.{◌≡◌, ◌≢◌, ℕ, ◌+◌, ◌-◌, ◌<◌, ◌≤◌, List, true, false, IsTrue, ◌↔◌, length, take, drop, slice_index, refl, sym, ap, ◌∙◌, arith, length-take-le, length-drop}
+use Rattle.std.proofs.Common.{◌≡◌, ◌≢◌, ℕ, ◌+◌, ◌-◌, ◌<◌, ◌≤◌, List, true, false, IsTrue}
+use Rattle.std.proofs.Common.{◌↔◌, length, take, drop, slice_index, refl, sym, ap, ◌∙◌, arith, length-take-le, length-drop}
 use Rattle.std.proofs.lemmas.List.{get_or-drop, get_or-take}
 use Rattle.std.proofs.lemmas.Bool.Decides.{nat_tests}
 use Rattle.memchr.specs.Find.{Nowhere, Passes, is_byte}
@@ -17,7 +18,8 @@ module _ (byte : ℕ) (bytes : List ℕ) (from to : ℕ) (order : from ≤ to) (
   row_without none = (
     λ _ k low high e.
         let j : from + (k - from) ≡ k = omega arith in
-        let at : slice_index (take (to + 1 - from) (drop from bytes)) (k - from) ≡ byte = part_at bytes from (to + 1) (k - from) (omega arith) ∙ ap (slice_index bytes) j ∙ e in
+        let at : slice_index (take (to + 1 - from) (drop from bytes)) (k - from) ≡ byte = part_at bytes from (to + 1) (k - from) (omega arith)
+        ∙ ap (slice_index bytes) j ∙ e in
         let l = long in
         none (k - from) (omega arith) (omega arith) (grind (arith, nat_tests)),
     λ _. refl,

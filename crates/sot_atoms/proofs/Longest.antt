@@ -56,7 +56,8 @@ module _ (block : List Stretch) (n axis : ℕ) (old new : Stretch) (far : IsLong
         (last k lt);
   }
 
-pub longest_all : (block : List Stretch) (axis n : ℕ) (s : Stretch) → length block ≡ 4 → 4 ≤ n → IsLongestOf block n axis → At block axis s → IsLongest block axis s
+pub longest_all : (block : List Stretch) (axis n : ℕ) (s : Stretch) → length block ≡ 4 → 4 ≤ n → IsLongestOf block n axis → At block axis s
+    → IsLongest block axis s
 longest_all block axis n s four all far at = (at, λ k r ar. far.longest k r s (let w = slice_get_within block k r ar in omega arith) ar at)
 
 -- where the longest stretch has one place, each one has

@@ -1,5 +1,6 @@
 -- The bytes of a block's atoms, row by row.
-use Rattle.std.proofs.Common.{◌≡◌, ◌≢◌, ℕ, ◌+◌, ◌-◌, ◌*◌, ◌<◌, ◌≤◌, ◌⊎◌, inl, inr, ⊎_elim, List, [], ◌∷◌, Bool, IsTrue, ◌↔◌, length, slice_index, refl, sym, ◌∙◌, subst, arith}
+use Rattle.std.proofs.Common.{◌≡◌, ◌≢◌, ℕ, ◌+◌, ◌-◌, ◌*◌, ◌<◌, ◌≤◌, ◌⊎◌, inl, inr, ⊎_elim}
+use Rattle.std.proofs.Common.{List, [], ◌∷◌, Bool, IsTrue, ◌↔◌, length, slice_index, refl, sym, ◌∙◌, subst, arith}
 use Rattle.std.proofs.Common.{not, nat_eq}
 use Rattle.std.proofs.lemmas.Nat.{mul-le}
 use Rattle.std.proofs.lemmas.Bool.Decides.{nat_tests}
@@ -23,7 +24,8 @@ some_atom (x ∷ xs) [] fits = absurd fits
 pub room_behind : (before size a rest n : ℕ) → (before + 1) * (size * rest) ≤ n → a < size → (before * size + a + 1) * rest ≤ n
 room_behind before size a rest n room lt =
     let one : (before + 1) * (size * rest) ≡ (before * size + size) * rest = grind arith in
-    let m : (before * size + a + 1) * rest ≤ (before * size + size) * rest = mul-le (before * size + a + 1) rest (before * size + size) rest (omega arith) (omega arith) in
+    let m : (before * size + a + 1) * rest ≤ (before * size + size) * rest = mul-le (before * size + a + 1) rest (before * size + size) rest
+    (omega arith) (omega arith) in
     omega arith
 
 -- and so the number itself is in range
@@ -34,7 +36,8 @@ room_at before size a rest n room lt some =
     omega arith
 
 module _ (byte : ℕ) (bytes : List ℕ) (before : ℕ) where
-  pub lacks_none : (b : Bool) (sides : List Stretch) → FitsAxes [] sides → (IsTrue b ↔ (slice_index bytes before ≢ byte)) → IsTrue b ↔ Lacks byte bytes [] sides before
+  pub lacks_none : (b : Bool) (sides : List Stretch) → FitsAxes [] sides → (IsTrue b ↔ (slice_index bytes before ≢ byte)) → IsTrue b
+      ↔ Lacks byte bytes [] sides before
   lacks_none b [] fits t = (λ is at inside. none at inside (t.0 is), λ lacks. t.1 (lacks [] tt))
     where
       none : (at : List ℕ) → IsInBlock [] at → slice_index bytes before ≢ byte → slice_index bytes (number_from before [] at) ≢ byte
@@ -59,7 +62,8 @@ module _ (byte : ℕ) (bytes : List ℕ) (before : ℕ) where
         subst (λ n. slice_index bytes n ≢ byte) e (each (k - before * x.size) (omega arith) (omega arith) [] tt)),
   )
     where
-      one : (a : ℕ) (at : List ℕ) → IsInBlock [] at → slice_index bytes (before * x.size + a) ≢ byte → slice_index bytes (number_from (before * x.size + a) [] at) ≢ byte
+      one : (a : ℕ) (at : List ℕ) → IsInBlock [] at → slice_index bytes (before * x.size + a) ≢ byte
+          → slice_index bytes (number_from (before * x.size + a) [] at) ≢ byte
       one a [] inside ne = ne
       one a (c ∷ rest) inside ne = absurd inside
   lacks_row b x r (q ∷ rs) fits t order = absurd fits
@@ -73,7 +77,8 @@ module _ (byte : ℕ) (old mid new : List ℕ) (size from n : ℕ) (inner : List
         (λ (lt : a < n). kept (number_from (before * size + a) inner at) (far.inside a at lo lt inside))
         (λ (e : a ≡ n). subst (λ q. slice_index new (number_from (before * size + q) inner at) ≡ byte) (sym e) (one.inside at inside))
         (last a hi);
-    outside = λ k free. one.outside k (λ at inside. free n at low (omega arith) inside) ∙ far.outside k (λ a at lo hi inside. free a at lo (omega arith) inside);
+    outside = λ k free. one.outside k (λ at inside. free n at low (omega arith) inside)
+        ∙ far.outside k (λ a at lo hi inside. free a at lo (omega arith) inside);
     either = λ k. ⊎_elim
         (λ same. ⊎_elim (λ first. inl (same ∙ first)) (λ was. inr (same ∙ was)) (far.either k))
         (λ is. inr is) (one.either k);
@@ -85,7 +90,8 @@ module _ (byte : ℕ) (old mid new : List ℕ) (size from n : ℕ) (inner : List
       last : (a : ℕ) → a < n + 1 → (a < n) ⊎ (a ≡ n)
       last a hi = grind arith
 
-pub fills_start : (byte : ℕ) (bytes : List ℕ) (size from : ℕ) (inner : List Axis) (within : List Stretch) (before : ℕ) → EachFills byte bytes bytes size from from inner within before
+pub fills_start : (byte : ℕ) (bytes : List ℕ) (size from : ℕ) (inner : List Axis) (within : List Stretch) (before : ℕ)
+    → EachFills byte bytes bytes size from from inner within before
 fills_start byte bytes size from inner within before = record {
   inside = λ a at lo hi inside. absurd (omega arith);
   outside = λ k free. refl;
@@ -119,7 +125,8 @@ module _ (byte : ℕ) (old new : List ℕ) (before : ℕ) where
         (λ (here : (before * x.size + r.from ≤ k) × (k ≤ before * x.size + r.from + (r.to - r.from))). inr (inside k here.0 here.1)) (where_is k);
   })
     where
-      one : (a : ℕ) (at : List ℕ) → IsInBlock [] at → slice_index new (before * x.size + a) ≡ byte → slice_index new (number_from (before * x.size + a) [] at) ≡ byte
+      one : (a : ℕ) (at : List ℕ) → IsInBlock [] at → slice_index new (before * x.size + a) ≡ byte
+          → slice_index new (number_from (before * x.size + a) [] at) ≡ byte
       one a [] within is = is
       one a (c ∷ rest) within is = absurd within
 
@@ -136,7 +143,8 @@ module _ (byte : ℕ) (old new : List ℕ) (before : ℕ) where
   fills_one [] fits inside outside = record {
     inside = one;
     outside = λ k free. outside k (apart k (free [] tt));
-    either = λ k. ⊎_elim (λ away. inl (outside k away)) (λ (e : before ≡ k). inr (subst (λ n. slice_index new n ≡ byte) e (inside before (omega arith) (omega arith)))) (where_is k);
+    either = λ k. ⊎_elim (λ away. inl (outside k away))
+        (λ (e : before ≡ k). inr (subst (λ n. slice_index new n ≡ byte) e (inside before (omega arith) (omega arith)))) (where_is k);
   }
     where
       one : (at : List ℕ) → IsInBlock [] at → slice_index new (number_from before [] at) ≡ byte
@@ -159,12 +167,14 @@ pub lacks_by_none : (byte : ℕ) (bytes : List ℕ) (before : ℕ) (axes : List 
 lacks_by_none byte bytes before [] sides none fits = lacks_none byte bytes before _ sides fits (is_unlike (slice_index bytes before) byte)
 lacks_by_none byte bytes before (x ∷ xs) sides none fits = absurd (omega (arith, none))
 
-module _ (axes : List Axis) (sides : List Stretch) (x : Axis) (xs : List Axis) (r : Stretch) (rs : List Stretch) (axes_are : axes ≡ x ∷ xs) (sides_are : sides ≡ r ∷ rs)
+module _ (axes : List Axis) (sides : List Stretch) (x : Axis) (xs : List Axis) (r : Stretch) (rs : List Stretch) (axes_are : axes ≡ x ∷ xs)
+    (sides_are : sides ≡ r ∷ rs)
     (fits : FitsAxes axes sides) where
   apart : FitsAxes (x ∷ xs) (r ∷ rs)
   apart = subst (λ q. FitsAxes (x ∷ xs) q) sides_are (subst (λ q. FitsAxes q sides) axes_are fits)
 
-  lacks_again : (byte : ℕ) (bytes : List ℕ) (before : ℕ) (b : Bool) → (IsTrue b ↔ Lacks byte bytes (x ∷ xs) (r ∷ rs) before) → IsTrue b ↔ Lacks byte bytes axes sides before
+  lacks_again : (byte : ℕ) (bytes : List ℕ) (before : ℕ) (b : Bool) → (IsTrue b ↔ Lacks byte bytes (x ∷ xs) (r ∷ rs) before) → IsTrue b
+      ↔ Lacks byte bytes axes sides before
   lacks_again byte bytes before b t =
       subst (λ q. IsTrue b ↔ Lacks byte bytes q sides before) (sym axes_are) (subst (λ q. IsTrue b ↔ Lacks byte bytes (x ∷ xs) q before) (sym sides_are) t)
 
@@ -185,7 +195,8 @@ module _ (axes : List Axis) (sides : List Stretch) (x : Axis) (xs : List Axis) (
   fills_again byte old new before f =
       subst (λ q. Fills byte old new q sides before) (sym axes_are) (subst (λ q. Fills byte old new (x ∷ xs) q before) (sym sides_are) f)
 
-  pub fills_by_each : (byte : ℕ) (old new : List ℕ) (before : ℕ) → EachFills byte old new x.size r.from (r.to + 1) xs rs before → Fills byte old new axes sides before
+  pub fills_by_each : (byte : ℕ) (old new : List ℕ) (before : ℕ) → EachFills byte old new x.size r.from (r.to + 1) xs rs before
+      → Fills byte old new axes sides before
   fills_by_each byte old new before each = fills_again byte old new before (fills_whole byte old new before x xs r rs each)
 
   pub fills_by_row : (byte : ℕ) (old new : List ℕ) (before : ℕ) → length xs ≡ 0

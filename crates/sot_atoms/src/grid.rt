@@ -4,7 +4,8 @@ ghost use Rattle.std.specs.Prelude.{◌≡◌, ◌+◌, ◌*◌, ◌<◌, ◌≤
 ghost use Rattle.sot_lists.specs.Places.{At};
 ghost use Rattle.sot_atoms.specs.Places.{IsAxis};
 ghost use Rattle.sot_atoms.specs.Blocks.{FitsAxes, atom_count};
-ghost use Rattle.sot_atoms.specs.Grids.{side_at, LeavesAxis, MeetsPlaces, MeetsAxis, MeetsBlock};
+ghost use Rattle.sot_atoms.specs.Grids.{side_at, LeavesAxis, LeavesHull, MeetsPlaces, MeetsAxis};
+ghost use Rattle.sot_atoms.specs.Grids.{MeetsBlock, IsGridAxis};
 
 use crate::axis::{Axis, cut, numbers_of, one_place, place_of};
 use crate::block::{Block, Stretch};
@@ -192,6 +193,45 @@ fn stretch_on(axis: Axis, numbers: Interval) -> Option<Stretch>
     })
 }
 
+// The places of an axis that an interval meets as far as it is on it; `None` where it is not.
+fn clipped_on(axis: Axis, numbers: Interval) -> Option<Stretch>
+    requires { IsAxis axis }
+{
+    let lo = numbers.lo.max(axis.lo);
+    let hi = numbers.hi.min(axis.hi);
+    if hi < lo {
+        return None;
+    }
+    Some(Stretch {
+        from: place_of(axis, lo),
+        to: place_of(axis, hi),
+    })
+}
+
+// One place.
+fn single(place: usize) -> Stretch {
+    Stretch {
+        from: place,
+        to: place,
+    }
+}
+
+// The axis with a wider grain, where it has more than one place.
+fn coarser_axis(axis: Axis, by: u32) -> Axis
+    requires { IsAxis axis }
+    ensures cut { IsAxis result }
+    ensures side { result.side ≡ axis.side }
+{
+    if axis.size == 1 {
+        return axis;
+    }
+    let numbers = Interval {
+        lo: axis.lo,
+        hi: axis.hi,
+    };
+    cut(axis.side, numbers, axis.shift.saturating_add(by).min(63))
+}
+
 // The numbers of a stretch, as far as the axis has its places.
 fn numbers_in(axis: Axis, side: Stretch) -> Interval
     requires { IsAxis axis }
@@ -227,9 +267,23 @@ impl Grid {
         let b = axis_at(hull, shifts, last, 1);
         let c = axis_at(hull, shifts, last, 2);
         let d = axis_at(hull, shifts, last, 3);
+        Grid::made(hull.len(), last, a, b, c, d)
+    }
+
+    // A grid of these axes, where they have few enough atoms.
+    fn made(width: usize, last: usize, a: Axis, b: Axis, c: Axis, d: Axis) -> Option<Grid>
+        requires some { 0 < width }
+        requires few { width ≤ 4 }
+        requires last { last < width }
+        requires first { IsGridAxis width a }
+        requires second { IsGridAxis width b }
+        requires third { IsGridAxis width c }
+        requires fourth { IsGridAxis width d }
+        ensures { IfSome result (λ g. g.width ≡ width) }
+    {
         let total = few_atoms(a.size, b.size, c.size, d.size)?;
         Some(Grid {
-            width: hull.len(),
+            width,
             last,
             total,
             axes: [a, b, c, d],
@@ -306,13 +360,69 @@ impl Grid {
     /// The atoms that a box meets; `None` where some of it is outside the hull.
     pub fn block(&self, b: &BoxN) -> Option<Block>
         requires { length b.now ≡ self.now.width }
-        ensures { IfSome result (λ q. MeetsBlock self.now.axes b.now q) }
+        ensures { MatchOption result
+            (LeavesHull self.now.axes b.now) (λ q. MeetsBlock self.now.axes b.now q) }
     {
         let first = self.stretch(b, 0)?;
         let second = self.stretch(b, 1)?;
         let third = self.stretch(b, 2)?;
         let fourth = self.stretch(b, 3)?;
         Some(Block::of([first, second, third, fourth]))
+    }
+
+    // The places on axis k that a box meets as far as it is on the axis; `None` where it is not.
+    fn clipped(&self, b: &BoxN, k: usize) -> Option<Stretch>
+        requires width { length b.now ≡ self.now.width }
+        requires below { k < 4 }
+    {
+        let axis = self.axis(k);
+        clipped_on(axis, b.side(axis.side))
+    }
+
+    /// The atoms that a box meets as far as it lies in the hull; `None` where it does not meet it.
+    pub fn clip(&self, b: &BoxN) -> Option<Block>
+        requires { length b.now ≡ self.now.width }
+    {
+        let first = self.clipped(b, 0)?;
+        let second = self.clipped(b, 1)?;
+        let third = self.clipped(b, 2)?;
+        let fourth = self.clipped(b, 3)?;
+        Some(Block::of([first, second, third, fourth]))
+    }
+
+    /// The atom of a number below the number of atoms.
+    pub fn atom(&self, number: usize) -> Block {
+        let fourth = self.axis(3).size;
+        let third = self.axis(2).size;
+        let second = self.axis(1).size;
+        let rows = number / fourth;
+        let sheets = rows / third;
+        let first = sheets / second;
+        Block::of([
+            single(first),
+            single(sheets % second),
+            single(rows % third),
+            single(number % fourth),
+        ])
+    }
+
+    /// A grid of the same hull with a grain that is 2 to `by` times as wide on each axis of more
+    /// than one place. `None` where it has more than 2^25 atoms.
+    pub fn coarser(&self, by: u32) -> Option<Grid>
+        ensures { IfSome result (λ g. g.width ≡ self.now.width) }
+    {
+        let a = coarser_axis(self.axis(0), by);
+        let b = coarser_axis(self.axis(1), by);
+        let c = coarser_axis(self.axis(2), by);
+        let d = coarser_axis(self.axis(3), by);
+        Grid::made(self.width(), self.last(), a, b, c, d)
+    }
+
+    // The side on the last axis.
+    fn last(&self) -> usize
+        ensures { result < self.now.width }
+    {
+        self.last
     }
 
     /// The points of a block; where a stretch goes further than its axis, those on the axis.

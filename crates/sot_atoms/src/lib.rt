@@ -1,5 +1,5 @@
-//! Atoms: the hull of a region cut into small boxes of one grain, and sets of them. Nothing here knows
-//! plants or programs, and only a new set takes memory.
+//! Atoms: the hull of a region cut into small boxes of one grain, and sets of them. Nothing here
+//! knows plants or programs, and only a new set takes memory.
 #![tactic(auto)]
 
 mod axis;

@@ -12,8 +12,8 @@ use memchr::memchr;
 use std::alloc::{AllocError, Global};
 use std::marker::Model;
 
-/// A set of atoms of a grid: a byte for each, in the order in which they are counted, 1 for those in
-/// the set and 0 for the others.
+/// A set of atoms of a grid: a byte for each, in the order in which they are counted, 1 for those
+/// in the set and 0 for the others.
 #[derive(Drop)]
 pub struct AtomSet {
     bytes: Vec<u8>,

@@ -4,4 +4,5 @@ use Rattle.sot_atoms.proofs.block.longest.Goals as goal
 
 pub returns-clause-longest : goal.returns-clause-longest
 returns-clause-longest c =
-    longest_all c.args.block.now c.loop-k.axis c.loop-k.k c.side-side.result c.side-side.ensures.count (omega arith) c.loop-k.invariant c.side-side.ensures.there
+    longest_all c.args.block.now c.loop-k.axis c.loop-k.k c.side-side.result c.side-side.ensures.count
+    (omega arith) c.loop-k.invariant c.side-side.ensures.there

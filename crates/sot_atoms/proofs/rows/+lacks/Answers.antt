@@ -6,14 +6,16 @@ use Rattle.sot_atoms.proofs.rows.+lacks.Goals as goal
 pub each_lacks-overflow_mul-before : goal.each_lacks-overflow_mul-before
 each_lacks-overflow_mul-before t c =
     let some = some_atom c.args.inner.now c.args.within.now c.requires.fits in
-    let lt : c.args.before * c.args.size + c.loop-a.a < length c.args.bytes.now = room_at c.args.before c.args.size c.loop-a.a _ _ c.requires.room (omega arith) some in
+    let lt : c.args.before * c.args.size + c.loop-a.a < length c.args.bytes.now = room_at c.args.before c.args.size c.loop-a.a _ _ c.requires.room
+    (omega arith) some in
     let less : c.args.before * c.args.size < length c.args.bytes.now = omega arith in
     first_of (search rules, omega arith)
 
 pub each_lacks-overflow_add-before : goal.each_lacks-overflow_add-before
 each_lacks-overflow_add-before t c =
     let some = some_atom c.args.inner.now c.args.within.now c.requires.fits in
-    let lt : c.args.before * c.args.size + c.loop-a.a < length c.args.bytes.now = room_at c.args.before c.args.size c.loop-a.a _ _ c.requires.room (omega arith) some in
+    let lt : c.args.before * c.args.size + c.loop-a.a < length c.args.bytes.now = room_at c.args.before c.args.size c.loop-a.a _ _ c.requires.room
+    (omega arith) some in
     first_of (search rules, omega arith)
 
 pub lacks-returns-in_default : goal.lacks-returns-in_default
