@@ -4,3 +4,4 @@ pub mod FirstBytes
 pub mod Longest
 pub mod Members
 pub mod Axes
+pub mod NextMembers

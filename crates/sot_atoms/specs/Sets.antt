@@ -1,6 +1,6 @@
 -- Sets of atoms: a number for each atom of a grid, in the order in which they are counted, which is
 -- 1 for those in the set and 0 for the others.
-use Rattle.std.specs.Prelude.{◌≡◌, ℕ, ◌<◌, List, [], ◌∷◌, length, slice_index, ◌↔◌}
+use Rattle.std.specs.Prelude.{◌≤◌, Option, MatchOption, ◌≡◌, ℕ, ◌<◌, List, [], ◌∷◌, length, slice_index, ◌↔◌}
 use Rattle.sot_atoms.specs.declared.axis.Axis.{Axis}
 use Rattle.sot_atoms.specs.declared.block.Stretch.{Stretch}
 use Rattle.sot_atoms.specs.Blocks.{IsInBlock, FitsAxes, atom_count, number_from}
@@ -43,3 +43,15 @@ pub record IsPut (axes : List Axis) (old new : List ℕ) (block : List Stretch) 
 pub record IsTaken (axes : List Axis) (old new : List ℕ) (block : List Stretch) : Type 0 where
   pub inside : NoMembers axes new block
   pub outside : StayOutside axes old new block
+
+-- n is the number of the first atom in a set, of those from a number on
+pub record IsFirstMember (set : List ℕ) (from n : ℕ) : Type 0 where
+  pub there : n < length set
+  pub behind : from ≤ n
+  pub member : slice_index set n ≡ 1
+  pub first : (k : ℕ) → from ≤ k → k < n → slice_index set k ≡ 1 → ⊥
+
+-- the first one, or none where there is none
+abbrev pub IsNextMember : List ℕ → ℕ → Option ℕ → Type 0
+IsNextMember set from result =
+    MatchOption result ((k : ℕ) → from ≤ k → slice_index set k ≡ 1 → ⊥) (IsFirstMember set from)

@@ -3,7 +3,7 @@
 ghost use Rattle.std.specs.Prelude.{◌≡◌, ◌<◌, ℕ, length, slice_index, IfOk, IfSome, IsTrue, ◌↔◌};
 ghost use Rattle.sot_atoms.specs.Blocks.{atom_count};
 ghost use Rattle.sot_atoms.specs.Rows.{Fills};
-ghost use Rattle.sot_atoms.specs.Sets.{SetFits, AllMembers, NoMembers, IsPut, IsTaken};
+ghost use Rattle.sot_atoms.specs.Sets.{SetFits, AllMembers, NoMembers, IsPut, IsTaken, IsNextMember};
 
 use crate::block::Block;
 use crate::grid::Grid;
@@ -107,13 +107,15 @@ impl AtomSet {
 
     /// The number of the first atom in the set, of those from this number on.
     pub fn next(&self, from: usize) -> Option<usize>
-        ensures { IfSome result (λ n. n < length self.now) }
+        ensures { IsNextMember self.now from result }
     {
         let bytes = &self.bytes;
         if from >= bytes.len() {
             return None;
         }
-        let behind = memchr(1, &bytes[from..])?;
-        Some(from + behind)
+        match memchr(1, &bytes[from..]) {
+            None => None,
+            Some(behind) => Some(from + behind),
+        }
     }
 }
