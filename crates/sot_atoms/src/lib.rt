@@ -1,0 +1,14 @@
+//! Atoms: the hull of a region cut into small boxes of one grain, and sets of them. Nothing here
+//! knows plants or programs, and only a new set takes memory.
+#![tactic(auto)]
+
+mod axis;
+mod block;
+mod grid;
+mod rows;
+mod set;
+
+pub use axis::Axis;
+pub use block::{Block, Halves, Stretch, atoms_in, halves_of};
+pub use grid::{Grid, MOST_ATOMS};
+pub use set::AtomSet;
