@@ -1,15 +1,15 @@
 -- A program with other regions is formed.
-use Rattle.std.proofs.Common.{◌≡◌, ℕ, zero, suc, ◌≤◌, ◌^◌, ℤ, pos, negsuc, ◌≤ℤ◌, nat_abs, List, [], ◌∷◌, length, map, zip, refl, arith}
+use Rattle.std.proofs.Common.{◌≡◌, ℕ, suc, ◌≤◌, ◌^◌, ℤ, pos, negsuc, ◌≤ℤ◌, nat_abs, List, [], ◌∷◌, length, map, zip, refl, arith}
 use Rattle.std.proofs.lemmas.Int.{ints}
 use Rattle.sot_lists.specs.Places.{At}
 use Rattle.sot_box.specs.Sides.{Side, AreOrdered}
 use Rattle.sot_box.specs.BoxList.{BoxList}
 use Rattle.sot_tree.specs.declared.tree.Bounds.{Bounds}
-use Rattle.sot_tree.specs.Trees.{Area, Module, Declaration, a_topic, a_plant, a_node, a_module, Program}
-use Rattle.sot_tree.specs.Formed.{Each, HasItem, IsLiteral, AreBounds, IsArea, IsModule, IsDeclaration}
+use Rattle.sot_tree.specs.Trees.{Area, Module, Declaration, a_topic, a_plant, a_node, a_module}
+use Rattle.sot_tree.specs.Formed.{Each, HasItem, AreBounds, IsArea, IsModule, IsDeclaration}
 use Rattle.sot_region_tree.specs.declared.modules.ModuleRegions.{ModuleRegions}
 use Rattle.sot_region_tree.specs.OtherRegions.{bounds_like, area_like, areas_like, module_with, declaration_with, left_behind, declarations_with}
-use Rattle.sot_law_other_regions.specs.Fitting.{IsShort, IsLike, Fits, FitNext, AreFitting}
+use Rattle.sot_law_other_regions.specs.Fitting.{IsShort, IsLike, Fits, FitsModule, FitNext, AreFitting}
 use Rattle.sot_law_other_regions.specs.Laws.{ProgramsStayFormed}
 
 small : (z : ℤ) → negsuc 999999999999 ≤ℤ z → z ≤ℤ pos 1000000000000 → nat_abs z ≤ 10 ^ 12
@@ -45,7 +45,7 @@ pub areas_formed : (given : List Area) (region : BoxList) → Each IsArea given 
 areas_formed [] region all fits = tt
 areas_formed (a ∷ others) region all fits = all_like a region.boxes all.0 (fits.each a refl)
 
-module_stays : (regions : ModuleRegions) (m : Module) → IsModule m → Fits m.safe regions.safe × Fits m.safe regions.safer → IsModule (module_with regions m)
+module_stays : (regions : ModuleRegions) (m : Module) → IsModule m → FitsModule m regions → IsModule (module_with regions m)
 module_stays regions m is fits = record {
   name = is.name;
   ac = is.ac;
@@ -53,8 +53,8 @@ module_stays regions m is fits = record {
   period = is.period;
   offset = is.offset;
   plant = is.plant;
-  safe = areas_formed m.safe regions.safe is.safe fits.0;
-  safer = areas_formed m.safe regions.safer is.safe fits.1;
+  safe = areas_formed m.safe regions.safe is.safe fits.safe;
+  safer = areas_formed m.safe regions.safer is.safe fits.safer;
 }
 
 declaration_stays : (regions : List ModuleRegions) (d : Declaration) → IsDeclaration d → FitNext regions d → IsDeclaration (declaration_with regions d)

@@ -22,10 +22,10 @@ use Rattle.sot_print.specs.Canonical.{clause, closing, timing_words, region_word
 use Rattle.sot_print.specs.Canonical.{declarations_from, words, canonical}
 use Rattle.sot_print.specs.Layout.{Reads}
 use Rattle.sot_print.proofs.ProgramSits.{canonical_read}
-use Rattle.sot_law_format.specs.Unplaced.{without_places, AreSame}
+use Rattle.sot_law_format.specs.Unplaced.{AreSame}
 use Rattle.sot_law_format.proofs.Takes.{Takes, split, a_keyword, a_sign, a_name, led, onto, all_taken}
 use Rattle.sot_law_format.proofs.Texts.{AreTexts, lexes_texts}
-use Rattle.sot_law_format.proofs.Kept.{Production, Again, Kept, also}
+use Rattle.sot_law_format.proofs.Kept.{Production, Kept, also}
 use Rattle.sot_law_format.proofs.Leaves.{same_name}
 use Rattle.sot_law_format.proofs.Lists.{cons_same, max_nests}
 use Rattle.sot_law_format.proofs.Clauses.{roles, roles_keep, timings, timings_keep}
@@ -33,7 +33,7 @@ use Rattle.sot_law_format.proofs.Modules.{modules}
 use Rattle.sot_law_format.proofs.Programs.{declarations, declarations_keep, programs, programs_keep}
 use Rattle.sot_region_tree.specs.declared.modules.ModuleRegions.{ModuleRegions}
 use Rattle.sot_region_tree.specs.OtherRegions.{areas_like, declaration_with, left_behind, declarations_with, with_regions}
-use Rattle.sot_law_other_regions.specs.Fitting.{Fits, FitNext, AreFitting}
+use Rattle.sot_law_other_regions.specs.Fitting.{FitNext, AreFitting}
 use Rattle.sot_law_other_regions.specs.Laws.{CanonicalTextsAreReadBack}
 use Rattle.sot_law_other_regions.proofs.Formed.{areas_formed, stay_formed}
 use Rattle.sot_law_other_regions.proofs.Written.{Written, bound_written}
@@ -142,8 +142,8 @@ declaration_written (r ∷ later) (an_external n) more texts fits gap ts us h = 
 declaration_written (r ∷ later) (a_module m) more texts fits gap ts us h =
     let own = (declarations_keep (a_module m) more texts).0.holds in
     let given : List Area = (module_of m).safe in
-    let a = module_written m (areas_like given r.safe.boxes) (areas_like given r.safer.boxes) (parts_kept m more texts) (areas_formed given r.safe own.safe fits.0)
-    (areas_formed given r.safer own.safe fits.1) gap ts us h
+    let a = module_written m (areas_like given r.safe.boxes) (areas_like given r.safer.boxes) (parts_kept m more texts) (areas_formed given r.safe own.safe fits.safe)
+    (areas_formed given r.safer own.safe fits.safer) gap ts us h
     in
     record { form = a_module a.form; tokens = a.tokens; same = ap trees.a_module a.same; nests = le_refl 0 }
 

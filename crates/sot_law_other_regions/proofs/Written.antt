@@ -1,5 +1,5 @@
 -- The words of formed regions are tokens of the grammar that mean these regions.
-use Rattle.std.proofs.Common.{◌≡◌, ℕ, zero, suc, ◌≤◌, ◌<◌, ◌^◌, ℤ, pos, negsuc, neg_ℤ, nat_abs, int_lt, false, List, [], ◌∷◌, map, codes, refl, ap, ap₂, ◌∙◌, subst}
+use Rattle.std.proofs.Common.{◌≡◌, ℕ, zero, suc, ◌≤◌, ◌^◌, ℤ, pos, negsuc, neg_ℤ, nat_abs, int_lt, false, List, [], ◌∷◌, map, codes, refl, ap, ap₂, ◌∙◌, subst}
 use Rattle.std.proofs.Common.{arith}
 use Rattle.std.proofs.lemmas.Bool.{cond-false}
 use Rattle.std.proofs.lemmas.Bool.Decides.{nat_tests}
@@ -14,7 +14,7 @@ use Rattle.sot_parser.specs.Pieces.{each, Further, further_of, spelled_further, 
 use Rattle.sot_parser.specs.Declarations.{BoxForm, spelled_box, box_of, spelled_region, no_box, some_boxes}
 use Rattle.sot_print.specs.declared.gap.Gap.{Gap}
 use Rattle.sot_print.specs.declared.gap.Gap.TheVariants.{Touching, Space}
-use Rattle.sot_print.specs.Words.{Word, sign, number}
+use Rattle.sot_print.specs.Words.{Word, sign}
 use Rattle.sot_print.specs.Leaves.{numeral, literal_words, listed, items_from, bounds_words}
 use Rattle.sot_print.specs.Statements.{semicolon}
 use Rattle.sot_print.specs.Canonical.{clause, area_words, areas_from, region_words}
@@ -23,7 +23,7 @@ use Rattle.sot_law_format.specs.Unplaced.{nowhere, unplaced_literal, unplaced_ar
 use Rattle.sot_law_format.proofs.Takes.{Takes, split, a_keyword, a_sign, a_number, led, onto}
 use Rattle.sot_law_format.proofs.Kept.{Production, no_level}
 use Rattle.sot_law_format.proofs.Leaves.{literals, sides}
-use Rattle.sot_law_format.proofs.Lists.{lists, further_items, cons_same}
+use Rattle.sot_law_format.proofs.Lists.{further_items, cons_same}
 use Rattle.sot_law_format.proofs.Regions.{boxes, regions, bounds}
 
 -- these tokens are a form of the production that means this tree

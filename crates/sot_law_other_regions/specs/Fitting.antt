@@ -4,6 +4,7 @@ use Rattle.sot_lists.specs.Places.{At}
 use Rattle.sot_box.specs.Sides.{Side, AreOrdered}
 use Rattle.sot_box.specs.BoxList.{BoxList}
 use Rattle.sot_tree.specs.Trees.{Area, Module, Declaration, a_topic, a_plant, a_node, a_module}
+use Rattle.sot_tree.specs.Formed.{HasItem}
 use Rattle.sot_region_tree.specs.declared.modules.ModuleRegions.{ModuleRegions}
 use Rattle.sot_region_tree.specs.OtherRegions.{left_behind}
 
@@ -24,9 +25,15 @@ pub record Fits (given : List Area) (region : BoxList) : Type 0 where
   pub each : (a : Area) → At given 0 a → (i : ℕ) (box : List Side) → At region.boxes i box
       → IsLike a box
 
--- both regions of a module that takes some
+-- both regions of a module, whose own `safe` has a box
+pub record FitsModule (m : Module) (regions : ModuleRegions) : Type 0 where
+  pub given : HasItem m.safe
+  pub safe : Fits m.safe regions.safe
+  pub safer : Fits m.safe regions.safer
+
+-- the regions that a declaration takes, where it takes some
 abbrev pub FitNext : List ModuleRegions → Declaration → Type 0
-FitNext (regions ∷ later) (a_module m) = Fits m.safe regions.safe × Fits m.safe regions.safer
+FitNext (regions ∷ later) (a_module m) = FitsModule m regions
 FitNext [] d = Unit {0}
 FitNext (regions ∷ later) (a_topic t) = Unit {0}
 FitNext (regions ∷ later) (a_plant q) = Unit {0}

@@ -4,4 +4,8 @@
 
 mod laws;
 
-pub use laws::{canonical_texts_with_regions_are_read_back, programs_with_regions_stay_formed};
+pub use laws::{
+    canonical_texts_with_regions_are_read_back, nothing_but_regions_changes,
+    programs_with_regions_stay_faultless, programs_with_regions_stay_formed,
+    tables_have_the_regions,
+};

@@ -1,5 +1,5 @@
 -- Lists that are made element by element.
-use Rattle.std.proofs.Common.{◌≡◌, ℕ, zero, suc, ◌+◌, ◌<◌, ◌≤◌, List, [], ◌∷◌, ◌++◌, length, take, drop, map, zip, get_or, Some, refl, sym, ap, ap₂, ◌∙◌, arith}
+use Rattle.std.proofs.Common.{◌≡◌, ℕ, zero, suc, ◌+◌, ◌<◌, ◌≤◌, List, [], ◌∷◌, ◌++◌, length, take, drop, map, zip, get_or, Some, sym, ap, ap₂, ◌∙◌, arith}
 use Rattle.std.proofs.Common.{min, subst}
 use Rattle.std.specs.Prelude.{slice_set}
 use Rattle.std.proofs.lemmas.List.{take_more, take_all, length-map}
@@ -8,7 +8,7 @@ use Rattle.std.proofs.lemmas.Option.{none-some, same_Some, slice_get_within, get
 use Rattle.sot_lists.specs.Places.{At}
 use Rattle.sot_tree.specs.declared.tree.BoxDecl.{BoxDecl}
 use Rattle.sot_tree.specs.TreeViews.{area_view}
-use Rattle.sot_tree.specs.Trees.{Area, Declaration}
+use Rattle.sot_tree.specs.Trees.{Declaration}
 use Rattle.sot_box.specs.Sides.{Side}
 use Rattle.sot_region_tree.specs.declared.modules.ModuleRegions.{ModuleRegions}
 use Rattle.sot_region_tree.specs.OtherRegions.{area_like, areas_like, declaration_with, left_behind, declarations_with}

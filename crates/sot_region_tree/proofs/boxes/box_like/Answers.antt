@@ -3,7 +3,6 @@ use Rattle.sot_lists.specs.Places.{At}
 use Rattle.sot_lists.proofs.Places.{at_map, read_at}
 use Rattle.sot_tree.specs.declared.tree.Bounds.{Bounds}
 use Rattle.sot_box.specs.Sides.{Side}
-use Rattle.sot_tree.specs.Trees.{Area}
 use Rattle.sot_region_tree.specs.OtherRegions.{bounds_like}
 use Rattle.sot_region_tree.proofs.Steps.{zip_at, one_more, all_pairs}
 use Rattle.sot_region_tree.proofs.boxes.box_like.Goals as goal
