@@ -10,7 +10,6 @@ use Rattle.sot_box.specs.Sides.{Side, AreOrdered}
 use Rattle.sot_box.specs.BoxList.{BoxList}
 use Rattle.sot_tree.specs.declared.tree.Ident.{Ident}
 use Rattle.sot_tree.specs.declared.tree.Bounds.{Bounds}
-use Rattle.sot_tree.specs.Formed.{HasItem}
 use Rattle.sot_tree.specs.Trees.{Plant, Node, Area, Module, Declaration, a_topic, a_plant, a_node, a_module, Program}
 use Rattle.sot_rules.specs.declared.fault.TypeFault.{TypeFault}
 use Rattle.sot_rules.specs.declared.fault.TypeKind.TheVariants.{Unknown, Twice, ScaleDiffers, KindDiffers, RangeEmpty, ReadsAndWrites, NoModule, NextMissing}
@@ -32,6 +31,7 @@ use Rattle.sot_region_tree.specs.OtherRegions.{bounds_like, area_like, areas_lik
 use Rattle.sot_law_other_regions.specs.Fitting.{IsLike, Fits, FitsModule, FitNext, AreFitting}
 use Rattle.sot_law_other_regions.specs.WithoutRegions.{bare, AreSameButForRegions}
 use Rattle.sot_law_other_regions.specs.Laws.{ProgramsStayFaultless}
+use Rattle.sot_law_other_regions.proofs.Formed.{like_first}
 use Rattle.sot_law_other_regions.proofs.Names.{nothing_else, filter_bare, map_bare, declared_bare, by_bare, told, has_module_same, node_scope_same, plant_scope_same}
 
 -- ---- what is asked of a declaration does not depend on the regions of others
@@ -192,14 +192,14 @@ beyond (x ∷ xs) (suc k) few = beyond xs k (omega (arith, few))
 as_many : (a : Area) (found : List (List Side)) → length (map (λ (b : Area). b.at) (map (area_like a) found)) ≡ length found
 as_many a found = length-map (map (area_like a) found) (λ (b : Area). b.at) ∙ length-map found (area_like a)
 
-region_stays : (width : Option (List Sort)) (given : List Area) (region : BoxList) → HasItem given → Fits given region → region_faults width given ≡ []
+region_stays : (width : Option (List Sort)) (given : List Area) (region : BoxList) → Fits given region → region_faults width given ≡ []
     → region_faults width (areas_like given region.boxes) ≡ []
-region_stays width [] region some fits none = absurd some
-region_stays width (a ∷ others) region some fits none =
+region_stays width [] region fits none = refl
+region_stays width (a ∷ others) region fits none =
     let all = empties (flat_map (area_faults width) (a ∷ others)) (past 256 (map (λ (b : Area). b.at) (a ∷ others))) none in
     let first = empties (area_faults width a) (flat_map (area_faults width) others) all.0 in
     let few : length (map (λ (b : Area). b.at) (map (area_like a) region.boxes)) ≤ 256 = omega (arith, fits.few, as_many a region.boxes) in
-    empty_both (areas_stay width a region.boxes (fits.each a refl) first.0)
+    empty_both (areas_stay width a region.boxes (like_first a others region fits) first.0)
     (ap one_past (beyond (map (λ (b : Area). b.at) (map (area_like a) region.boxes)) 256 few))
 
 -- ---- lists of faults
@@ -238,7 +238,7 @@ module_stays p r m fits none =
                 own.1.1.1.1.1.0,
                 (
                   own.1.1.1.1.1.1.0,
-                  (region_stays width m.safe r.safe fits.given fits.safe given, (region_stays width m.safe r.safer fits.given fits.safer given, tt)),
+                  (region_stays width m.safe r.safe fits.safe given, (region_stays width m.safe r.safer fits.safer given, tt)),
                 ),
               ),
             ),

@@ -1,6 +1,7 @@
 -- A program with other regions is formed.
-use Rattle.std.proofs.Common.{◌≡◌, ℕ, suc, ◌≤◌, ◌^◌, ℤ, pos, negsuc, ◌≤ℤ◌, nat_abs, List, [], ◌∷◌, length, map, zip, refl, arith}
+use Rattle.std.proofs.Common.{◌≡◌, ℕ, suc, ◌≤◌, ◌^◌, ℤ, pos, negsuc, ◌≤ℤ◌, nat_abs, List, [], ◌∷◌, length, map, zip, refl, sym, subst, arith}
 use Rattle.std.proofs.lemmas.Int.{ints}
+use Rattle.std.proofs.lemmas.Option.{same_Some}
 use Rattle.sot_lists.specs.Places.{At}
 use Rattle.sot_box.specs.Sides.{Side, AreOrdered}
 use Rattle.sot_box.specs.BoxList.{BoxList}
@@ -41,9 +42,15 @@ all_like : (a : Area) (found : List (List Side)) → IsArea a → ((i : ℕ) (bo
 all_like a [] is like = tt
 all_like a (box ∷ more) is like = (area_formed a box is (like 0 box refl), all_like a more is (λ i. like (suc i)))
 
+-- each box is like the first given one
+pub like_first : (a : Area) (others : List Area) (region : BoxList) → Fits (a ∷ others) region → (i : ℕ) (box : List Side) → At region.boxes i box → IsLike a box
+like_first a others region fits i box at =
+    let own = fits.each i box at in
+    subst (λ (x : Area). IsLike x box) (sym (same_Some a own.0 own.1)) own.2
+
 pub areas_formed : (given : List Area) (region : BoxList) → Each IsArea given → Fits given region → Each IsArea (areas_like given region.boxes)
 areas_formed [] region all fits = tt
-areas_formed (a ∷ others) region all fits = all_like a region.boxes all.0 (fits.each a refl)
+areas_formed (a ∷ others) region all fits = all_like a region.boxes all.0 (like_first a others region fits)
 
 module_stays : (regions : ModuleRegions) (m : Module) → IsModule m → FitsModule m regions → IsModule (module_with regions m)
 module_stays regions m is fits = record {

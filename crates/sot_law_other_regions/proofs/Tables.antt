@@ -3,12 +3,12 @@ use Rattle.std.proofs.Common.{◌≡◌, ℕ, suc, List, [], ◌∷◌, map, len
 use Rattle.std.proofs.Common.{ap₂, ◌∙◌, arith}
 use Rattle.std.specs.Prelude.{true, nat_abs}
 use Rattle.std.specs.List.{position_or_len}
+use Rattle.std.proofs.lemmas.Option.{none-some}
 use Rattle.sot_lists.specs.Places.{At}
 use Rattle.sot_box.specs.Sides.{Side}
 use Rattle.sot_box.specs.BoxList.{BoxList}
 use Rattle.sot_tree.specs.declared.tree.Ident.{Ident}
 use Rattle.sot_tree.specs.declared.tree.Bounds.{Bounds}
-use Rattle.sot_tree.specs.Formed.{HasItem}
 use Rattle.sot_tree.specs.Trees.{Topic, Plant, Node, Area, Module, Declaration, a_topic, a_plant, a_node, a_module, Program}
 use Rattle.sot_lang.specs.declared.tables.Slot.{Slot}
 use Rattle.sot_lang.specs.declared.tables.Slot.TheVariants.{Scalar as ScalarSlot, State}
@@ -26,6 +26,7 @@ use Rattle.sot_law_other_regions.specs.Fitting.{IsLike, Fits, FitsModule, AreFit
 use Rattle.sot_law_other_regions.specs.WithoutRegions.{bare, AreSameButForRegions}
 use Rattle.sot_law_other_regions.specs.OtherTables.{info_with, infos_with, tables_with}
 use Rattle.sot_law_other_regions.specs.Laws.{TablesHaveTheRegions}
+use Rattle.sot_law_other_regions.proofs.Formed.{like_first}
 use Rattle.sot_law_other_regions.proofs.Names.{nothing_else, filter_bare, by_bare, told, node_scope_same, plant_scope_same}
 
 topic_of_bare : (d : Declaration) → a_topic_of (bare d) ≡ a_topic_of d
@@ -136,10 +137,14 @@ all_with : (a : Area) (found : List (List Side)) → ((i : ℕ) (box : List Side
 all_with a [] like = refl
 all_with a (box ∷ more) like = ap₂ (λ (x : List Side) (xs : List (List Side)). x ∷ xs) (boxes_with a.sides box (like 0 box refl).width) (all_with a more (λ i. like (suc i)))
 
-areas_with : (given : List Area) (region : BoxList) → HasItem given → Fits given region
+none_like : (found : List (List Side)) → ((i : ℕ) (box : List Side) → At found i box → ⊥) → [] ≡ found
+none_like [] none = refl
+none_like (box ∷ more) none = absurd (none 0 box refl)
+
+areas_with : (given : List Area) (region : BoxList) → Fits given region
     → map (λ (x : Area). map side_of x.sides) (areas_like given region.boxes) ≡ region.boxes
-areas_with [] region some fits = absurd some
-areas_with (a ∷ others) region some fits = all_with a region.boxes (fits.each a refl)
+areas_with [] region fits = none_like region.boxes (λ i box at. none-some (fits.each i box at).0 (fits.each i box at).1)
+areas_with (a ∷ others) region fits = all_with a region.boxes (like_first a others region fits)
 
 -- the modules of a tree, with these regions
 abbrev modules_with : List ModuleRegions → List Module → List Module
@@ -208,8 +213,8 @@ module _ (regions : List ModuleRegions) (p : Program) where
     period = nat_abs m.period.mantissa;
     offset = nat_abs m.offset.mantissa;
     plant = plant_place_same p other same m.plant j;
-    safe = record { width = state_count_same p other same m.plant j; boxes = areas_with m.safe r.safe fits.given fits.safe j; settled = true };
-    safer = record { width = state_count_same p other same m.plant j; boxes = areas_with m.safe r.safer fits.given fits.safer j; settled = true };
+    safe = record { width = state_count_same p other same m.plant j; boxes = areas_with m.safe r.safe fits.safe j; settled = true };
+    safer = record { width = state_count_same p other same m.plant j; boxes = areas_with m.safe r.safer fits.safer j; settled = true };
   }
 
   own_infos : (ms : List Module) → map (module_info other) ms ≡ map (module_info p) ms

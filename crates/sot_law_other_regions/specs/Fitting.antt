@@ -4,7 +4,6 @@ use Rattle.sot_lists.specs.Places.{At}
 use Rattle.sot_box.specs.Sides.{Side, AreOrdered}
 use Rattle.sot_box.specs.BoxList.{BoxList}
 use Rattle.sot_tree.specs.Trees.{Area, Module, Declaration, a_topic, a_plant, a_node, a_module}
-use Rattle.sot_tree.specs.Formed.{HasItem}
 use Rattle.sot_region_tree.specs.declared.modules.ModuleRegions.{ModuleRegions}
 use Rattle.sot_region_tree.specs.OtherRegions.{left_behind}
 
@@ -19,15 +18,15 @@ pub record IsLike (given : Area) (box : List Side) : Type 0 where
   pub ordered : AreOrdered box
   pub short : (i : ℕ) (r : Side) → At box i r → IsShort r
 
--- a region for a module: at most 256 boxes, each of them like the first box of its `safe`
+-- a region for a module: at most 256 boxes, each of them like the first box of its `safe`, which
+-- has one where there is one to be like
 pub record Fits (given : List Area) (region : BoxList) : Type 0 where
   pub few : length region.boxes ≤ 256
-  pub each : (a : Area) → At given 0 a → (i : ℕ) (box : List Side) → At region.boxes i box
-      → IsLike a box
+  pub each : (i : ℕ) (box : List Side) → At region.boxes i box
+      → (a : Area) × At given 0 a × IsLike a box
 
--- both regions of a module, whose own `safe` has a box
+-- both regions of a module
 pub record FitsModule (m : Module) (regions : ModuleRegions) : Type 0 where
-  pub given : HasItem m.safe
   pub safe : Fits m.safe regions.safe
   pub safer : Fits m.safe regions.safer
 
