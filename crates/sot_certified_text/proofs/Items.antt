@@ -1,13 +1,13 @@
 -- Lists of values that are made one after another.
-use Rattle.std.proofs.Common.{◌≡◌, ℕ, ◌+◌, ◌≤◌, Vec, Global, List, [], ◌∷◌, ◌++◌, length, take, map, refl, sym, ap, ap₂, ◌∙◌}
+use Rattle.std.proofs.Common.{◌≡◌, ℕ, zero, suc, codes, ◌+◌, ◌≤◌, Vec, Global, List, [], ◌∷◌, ◌++◌, length, take, map, refl, sym, ap, ap₂, ◌∙◌}
 use Rattle.std.proofs.lemmas.List.{take_more, take_all, map-append}
 use Rattle.std.proofs.lemmas.Option.{slice_get_within, get_or_from_slice_get}
-use Rattle.serde_json.specs.Data.{Data, array, item}
+use Rattle.serde_json.specs.Data.{Data, array, item, unsigned, number, object, Members, no_members, member}
 use Rattle.serde_json.specs.View.{view, items_of}
 use Rattle.serde_json.specs.declared.value.Value.{Value, Array}
 use Rattle.serde_json.proofs.Views.{view-Array}
 use Rattle.sot_lists.specs.Places.{At}
-use Rattle.sot_certified_text.specs.CertText.{items_by}
+use Rattle.sot_certified_text.specs.CertText.{items_by, jittered_data}
 
 pub made_items : {A : Type 0} (f : A → Data) (xs : List A) → items_of (map f xs) ≡ items_by f xs
 made_items f [] = refl
@@ -27,3 +27,11 @@ pub whole : {A : Type 0} (f : A → Data) (xs : List A) (v : Vec Value Global) (
     → view (Array v) ≡ array (items_by f xs)
 whole f xs v i le done =
     view-Array v ∙ ap (λ l. array (items_of l)) (done ∙ ap (map f) (take_all i xs le)) ∙ ap array (made_items f xs)
+
+-- a jitter that is not 0
+pub jittered_is : (j : ℕ) (entries : Members) → (j ≡ 0 → ⊥)
+    → jittered_data j entries
+    ≡ object (member (codes "format") (number (unsigned 2))
+    (member (codes "jitter") (number (unsigned j)) (member (codes "modules") (object entries) no_members)))
+jittered_is zero entries some = absurd (some refl)
+jittered_is (suc j) entries some = refl

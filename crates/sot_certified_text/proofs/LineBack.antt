@@ -1,9 +1,9 @@
 -- A certificate's line says that certificate.
-use Rattle.std.proofs.Common.{◌≡◌, ℕ, zero, suc, ℤ, pos, negsuc, ◌≤ℤ◌, Option, None, Some, List, [], ◌∷◌, ◌++◌, codes, refl, subst, arith}
+use Rattle.std.proofs.Common.{◌≡◌, ℕ, zero, suc, ℤ, pos, negsuc, ◌≤ℤ◌, ◌≤◌, Option, None, Some, List, [], ◌∷◌, ◌++◌, codes, refl, subst, arith}
 use Rattle.std.specs.Str.{IsUtf8}
 use Rattle.std.proofs.lemmas.Int.{ints}
 use Rattle.json.proofs.Printed.Utf8.{IsUtf8-are_ascii}
-use Rattle.serde_json.specs.Data.{Data}
+use Rattle.serde_json.specs.Data.{Data, Members}
 use Rattle.serde_json.specs.Find.{of_integer}
 use Rattle.serde_json.specs.Written.{compact_text}
 use Rattle.sot_tree.proofs.Names.{name_utf8}
@@ -15,7 +15,7 @@ use Rattle.sot_lang.specs.declared.cert.Cert.{Cert}
 use Rattle.sot_lang.specs.declared.tables.ModuleInfo.{ModuleInfo}
 use Rattle.sot_lang.specs.Tables.{Tables}
 use Rattle.sot_lang.specs.CertRules.{FitsTables, AreCellsOf}
-use Rattle.sot_certified_text.specs.CertText.{side_data, items_by, cell_data, cells_data, entry_data, entries_data, certificate_data}
+use Rattle.sot_certified_text.specs.CertText.{side_data, items_by, cell_data, cells_data, entry_data, entries_data, jittered_data, data_with_jitter}
 use Rattle.sot_certified_text.specs.ReadBack.{IsShort, AreShort, IsWritable}
 use Rattle.sot_certified_text.specs.Lines.{AreModulesNamed, CertificateLinesReadBack}
 use Rattle.sot_certified_text.proofs.JsonBack.{IsNum, CanWrite, CanWriteItems, CanWriteMembers, AreSorted, put_sorted, put_can_write, json_back}
@@ -60,15 +60,27 @@ entries_written (m ∷ ms) (Some c ∷ os) names own =
       put_sorted m.name (entry_data c) (entries_data ms os) rest.1,
     )
 
-certificate_written : (t : Tables) (cert : Cert) → AreModulesNamed t → FitsTables t cert → IsWritable cert → CanWrite (certificate_data t cert)
+jittered_written : (j : ℕ) (entries : Members) → j ≤ 999 → CanWriteMembers entries × AreSorted entries → CanWrite (jittered_data j entries)
+jittered_written zero entries few all =
+    ((IsUtf8-are_ascii (codes "format") refl, omega arith, (IsUtf8-are_ascii (codes "modules") refl, all, tt)), ((refl, tt), (tt, tt)))
+jittered_written (suc j) entries few all = (
+  (
+    IsUtf8-are_ascii (codes "format") refl,
+    omega arith,
+    (IsUtf8-are_ascii (codes "jitter") refl, omega (arith, few), (IsUtf8-are_ascii (codes "modules") refl, all, tt)),
+  ),
+  ((refl, (refl, tt)), ((refl, tt), (tt, tt))),
+)
+
+certificate_written : (t : Tables) (cert : Cert) → AreModulesNamed t → FitsTables t cert → IsWritable cert → CanWrite (data_with_jitter t cert)
 certificate_written t cert named fits w =
     let entries = entries_written t.modules cert.modules.items (λ i m at. name_utf8 m.name (named i m at))
     (λ i m c at_m at_c. entry_written c (cells_written t m.plant c.closed (fits.closed i m c at_m at_c) (λ j b at. w.closed i j c b at_c at))
     (cells_written t m.plant c.reach (fits.reach i m c at_m at_c) (λ j b at. w.reach i j c b at_c at))) in
-    ((IsUtf8-are_ascii (codes "format") refl, omega arith, (IsUtf8-are_ascii (codes "modules") refl, entries, tt)), ((refl, tt), (tt, tt)))
+    jittered_written cert.jitter (entries_data t.modules cert.modules.items) w.jitter entries
 
 pub line_back : CertificateLinesReadBack
 line_back t cert rules named fits w =
-    let d : Data = certificate_data t cert in
+    let d : Data = data_with_jitter t cert in
     read_back t cert (compact_text d ++ 10 ∷ []) rules fits w
     (json_ends (compact_text d) d (json_back d (certificate_written t cert named fits w) (certificate_flat t cert)))

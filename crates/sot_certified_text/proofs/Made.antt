@@ -1,5 +1,5 @@
 -- Boxes that are halved stay within short sides, so a text can say the certificates that are made.
-use Rattle.std.proofs.Common.{◌≡◌, ℕ, zero, suc, ◌≤◌, ◌^◌, ◌⊎◌, inl, inr, ⊎_elim, ℤ, pos, negsuc, ◌≤ℤ◌, ◌+ℤ◌, Some, List, [], ◌∷◌, ◌++◌, map, nat_abs, refl}
+use Rattle.std.proofs.Common.{◌≡◌, ℕ, zero, suc, ◌≤◌, ◌^◌, ◌⊎◌, inl, inr, ⊎_elim, ℤ, pos, negsuc, ◌≤ℤ◌, ◌+ℤ◌, Some, Ok, List, [], ◌∷◌, ◌++◌, map, nat_abs, refl}
 use Rattle.std.proofs.Common.{sym, subst, arith}
 use Rattle.std.specs.Prelude.{slice_set}
 use Rattle.std.proofs.lemmas.Int.{ints}
@@ -23,11 +23,13 @@ use Rattle.sot_lang.specs.declared.tables.ModuleInfo.{ModuleInfo}
 use Rattle.sot_lang.specs.Tables.{Tables}
 use Rattle.sot_halving.specs.Cuts.{AreHalves}
 use Rattle.sot_halving.specs.Findings.{Finding, Whole, Failing, Begun, followed, BisectsWithin, BisectsEach}
+use Rattle.sot_cert.specs.CertFormat.{cert_of, contents}
 use Rattle.sot_certify.specs.Made.{AreMade}
 use Rattle.sot_certify.specs.Certifying.{IsMadeFor}
 use Rattle.sot_certified_text.specs.ReadBack.{IsShort, AreShort, IsWritable}
 use Rattle.sot_certified_text.specs.Made.{HasShortBoxes, HaveShortRegions, TablesHaveShortRegions, MadeCertificatesAreWritable, CertifiedTextsSay}
-use Rattle.sot_certified_text.proofs.Lines.{texts_divide}
+use Rattle.sot_certified_text.specs.CertText.{line_with_jitter}
+use Rattle.sot_certified_text.proofs.Lines.{texts_divide, without_jitter}
 use Rattle.sot_certified_text.proofs.LineBack.{line_back}
 
 -- ---- halves
@@ -122,7 +124,7 @@ module _ (t : Tables) (cert : Cert) (short : HaveShortRegions t) (made : IsMadeF
 
   writable : IsWritable cert
   writable = record {
-    jitter = made.jitter;
+    jitter = omega (arith, made.jitter);
     closed =
         λ m i cells cell at. (let e = entry_at m cells at in list_short _ e.info.safe cells.closed.boxes (short m e.info e.is).0 e.lists.closed.whole i cell);
     reach =
@@ -175,4 +177,5 @@ regions_short p t formed are =
 pub texts_say : CertifiedTextsSay
 texts_say p t cert formed are rules fits made =
     let known = regions_short p t formed are in
-    (texts_divide p t cert formed, line_back t cert rules known.1 fits (made_writable t cert known.0 made))
+    let line : cert_of t (line_with_jitter t cert) ≡ Ok (contents cert) = line_back t cert rules known.1 fits (made_writable t cert known.0 made) in
+    (texts_divide p t cert formed, subst (λ text. cert_of t text ≡ Ok (contents cert)) (without_jitter t cert made.jitter) line)

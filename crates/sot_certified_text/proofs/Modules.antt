@@ -1,11 +1,15 @@
 -- The modules of a certificate's JSON are those of the certificate.
-use Rattle.std.proofs.Common.{◌≡◌, ℕ, zero, suc, ◌||◌, Bool, false, true, Option, None, Some, Ok, List, [], ◌∷◌, ◌++◌, length, map, codes, bytes_eq, Ordering}
+use Rattle.std.proofs.Common.{◌≡◌, ℕ, zero, suc, ◌≤◌, nat_lt, pos, ◌||◌, Bool, false, true, Option, None, Some, Ok, List, [], ◌∷◌, ◌++◌, length, map, codes, bytes_eq, Ordering}
 use Rattle.std.proofs.Common.{Less, Equal, Greater, nat_cmp, refl, sym, ap, ◌∙◌, subst, arith}
+use Rattle.std.specs.Prelude.{int_le, unsigned_abs}
+use Rattle.std.specs.List.{list_all}
 use Rattle.std.specs.Ordering.{match_ordering}
+use Rattle.std.proofs.lemmas.Int.{ints}
+use Rattle.std.proofs.lemmas.Bool.{lt-ltb}
 use Rattle.std.specs.Cmp.Lexicographic.{slice_cmp}
 use Rattle.std.proofs.lemmas.Option.{none-some, same_Some}
 use Rattle.std.proofs.lemmas.Slice.Eq.{bytes_eq-Decides}
-use Rattle.serde_json.specs.Data.{Data, object, Members, no_members, member, put}
+use Rattle.serde_json.specs.Data.{Data, unsigned, number, object, Members, no_members, member, put}
 use Rattle.serde_json.specs.Find.{get_member}
 use Rattle.serde_json.proofs.Views.{get_member-put, get_member-put_other}
 use Rattle.sot_box.specs.BoxList.{BoxList}
@@ -20,14 +24,14 @@ use Rattle.sot_lang.specs.Tables.{Tables}
 use Rattle.sot_lang.specs.OwnerNames.{width_of}
 use Rattle.sot_lang.specs.TableRules.{MeetsTableRules, AreDistinct}
 use Rattle.sot_lang.specs.CertRules.{FitsTables, AreCellsOf}
-use Rattle.sot_json.specs.declared.fault.JsonKind.TheVariants.{NotJson, Unknown}
+use Rattle.sot_json.specs.declared.fault.JsonKind.TheVariants.{NotJson, Unknown, OutsideRange}
 use Rattle.sot_json.specs.Says.{◌>>=◌, or, unless, part}
-use Rattle.sot_json.specs.Json.{whole, at, some, may, optional, is_among, all_among}
-use Rattle.sot_cert.specs.CertFormat.{cells, entry, entries, names, modules, has_jitter, jitter_in, cert, contents, region_of}
+use Rattle.sot_json.specs.Json.{whole, count, at, some, may, optional, is_among, all_among}
+use Rattle.sot_cert.specs.CertFormat.{cells, entry, entries, names, modules, is_below_periods, jitter, has_jitter, jitter_in, cert, contents, region_of}
 use Rattle.sot_certified_text.proofs.PlainTexts.{both, first_of, second_of}
-use Rattle.sot_certified_text.specs.CertText.{cells_data, entry_data, entries_data, certificate_data}
+use Rattle.sot_certified_text.specs.CertText.{cells_data, entry_data, entries_data, jittered_data, data_with_jitter}
 use Rattle.sot_certified_text.specs.ReadBack.{AreShort, IsWritable, CertificatesReadBack}
-use Rattle.sot_certified_text.proofs.ReadBack.{cells_read}
+use Rattle.sot_certified_text.proofs.ReadBack.{le_test, cells_read}
 
 region_same : (width : ℕ) (r : BoxList) → r.width ≡ width → r.settled ≡ true → region_of width r.boxes ≡ r
 region_same width r w s i = record { width = sym w i; boxes = r.boxes; settled = sym s i }
@@ -129,6 +133,19 @@ entries_among (m ∷ ms) [] ls h = refl
 entries_among (m ∷ ms) (None ∷ os) ls h = entries_among ms os ls (λ i. h (suc i))
 entries_among (m ∷ ms) (Some c ∷ os) ls h = put_among m.name (entry_data c) (entries_data ms os) ls (h 0 m refl) (entries_among ms os ls (λ i. h (suc i)))
 
+-- a jitter
+
+all_pass : {A : Type 0} (test : A → Bool) (xs : List A) → ((i : ℕ) (x : A) → At xs i x → test x ≡ true) → list_all test xs ≡ true
+all_pass test [] h = refl
+all_pass test (x ∷ xs) h = both (test x) (list_all test xs) (h 0 x refl) (all_pass test xs (λ i. h (suc i)))
+
+jitter_read : (p : Tables) (j : ℕ) → j ≤ 999 → is_below_periods p j ≡ true → jitter p (number (unsigned j)) ≡ Ok j
+unfolding jitter count whole
+jitter_read p j few below =
+    ap (λ t. ((unless OutsideRange t >>= λ ok. Ok (pos j)) >>= λ z. Ok (unsigned_abs z)) >>= λ k. unless OutsideRange (is_below_periods p k) >>= λ ok. Ok k)
+    (both (int_le (pos 0) (pos j)) (int_le (pos j) (pos 999)) (le_test (pos 0) (pos j) (omega (arith, ints))) (le_test (pos j) (pos 999) (omega (arith, ints, few))))
+    ∙ ap (λ t. unless OutsideRange t >>= λ ok. Ok j) below
+
 -- names of modules stand once
 
 rest_once : (xs ys : List (List ℕ)) → AreDistinct (xs ++ ys) → AreDistinct ys
@@ -164,11 +181,22 @@ module _ (p : Tables) (rules : MeetsTableRules p) where
         (entries_read p.plants p.modules c.modules.items written fits.entries one_read)
         ∙ ap (λ t. unless Unknown t >>= λ ok. Ok c.modules.items) (entries_among p.modules c.modules.items (names p.modules) (among p.modules))
 
-    cert_read : cert p (certificate_data p c) ≡ Ok (contents c)
+    below_periods : is_below_periods p c.jitter ≡ true
+    below_periods =
+        both (list_all (λ n. nat_lt c.jitter n.period) p.nodes) (list_all (λ m. nat_lt c.jitter m.period) p.modules)
+        (all_pass (λ n. nat_lt c.jitter n.period) p.nodes (λ i n at. lt-ltb c.jitter n.period (fits.node_jitter i n at)))
+        (all_pass (λ m. nat_lt c.jitter m.period) p.modules (λ i m at. lt-ltb c.jitter m.period (fits.module_jitter i m at)))
+
+    cert_from : (j : ℕ) → j ≤ 999 → is_below_periods p j ≡ true → cert p (jittered_data j written) ≡ Ok (record { jitter = j; modules = c.modules.items })
     unfolding cert at has_jitter whole jitter_in
-    cert_read =
-        ap (λ s. part (codes "modules") s >>= λ list. Ok (record { jitter = 0; modules = list })) modules_read
-        ∙ ap (λ j. Ok (record { jitter = j; modules = c.modules.items })) (sym w.jitter)
+    cert_from zero few below = ap (λ s. part (codes "modules") s >>= λ list. Ok (record { jitter = 0; modules = list })) modules_read
+    cert_from (suc j) few below =
+        ap (λ s. part (codes "jitter") s >>= λ k. part (codes "modules") (modules p (object written)) >>= λ list. Ok (record { jitter = k; modules = list }))
+        (jitter_read p (suc j) few below)
+        ∙ ap (λ s. part (codes "modules") s >>= λ list. Ok (record { jitter = suc j; modules = list })) modules_read
+
+    cert_read : cert p (data_with_jitter p c) ≡ Ok (contents c)
+    cert_read = cert_from c.jitter w.jitter below_periods
 
 pub read_back : CertificatesReadBack
 read_back p c bytes rules fits w is = ap (λ o. or NotJson o >>= cert p) is ∙ cert_read p rules c fits w

@@ -19,7 +19,7 @@ use Rattle.sot_certified_text.proofs.PlainTexts.{both}
 use Rattle.sot_certified_text.specs.CertText.{side_data, cell_data, cells_data, items_by}
 use Rattle.sot_certified_text.specs.ReadBack.{IsShort, AreShort}
 
-le_test : (a b : ℤ) → a ≤ℤ b → int_le a b ≡ true
+pub le_test : (a b : ℤ) → a ≤ℤ b → int_le a b ≡ true
 le_test a b h = elim (cases_Bool (int_le a b)) [
   | inl yes' ↦ yes'
   | inr no' ↦ absurd (let lt = le_false a b no' in omega (arith, ints, h, lt))

@@ -1,5 +1,5 @@
 -- The JSON of a certificate has no float, and nests six levels deep at most.
-use Rattle.std.proofs.Common.{◌≡◌, ℕ, suc, ◌≤◌, ℤ, pos, negsuc, false, Option, None, Some, List, [], ◌∷◌, Ordering, Less, Equal, Greater, nat_cmp, refl, arith}
+use Rattle.std.proofs.Common.{◌≡◌, ℕ, zero, suc, ◌≤◌, ℤ, pos, negsuc, false, Option, None, Some, List, [], ◌∷◌, Ordering, Less, Equal, Greater, nat_cmp, refl, arith}
 use Rattle.std.proofs.lemmas.Bool.{or_from, or_parts}
 use Rattle.std.specs.Prelude.{max}
 use Rattle.std.specs.Ordering.{match_ordering}
@@ -12,7 +12,7 @@ use Rattle.sot_lang.specs.declared.cert.Cells.{Cells}
 use Rattle.sot_lang.specs.declared.cert.Cert.{Cert}
 use Rattle.sot_lang.specs.declared.tables.ModuleInfo.{ModuleInfo}
 use Rattle.sot_lang.specs.Tables.{Tables}
-use Rattle.sot_certified_text.specs.CertText.{side_data, cell_data, cells_data, entry_data, entries_data, certificate_data, items_by}
+use Rattle.sot_certified_text.specs.CertText.{side_data, cell_data, cells_data, entry_data, entries_data, jittered_data, data_with_jitter, items_by}
 
 -- numbers
 
@@ -56,8 +56,12 @@ entries_whole (m ∷ ms) [] = refl
 entries_whole (m ∷ ms) (None ∷ entries) = entries_whole ms entries
 entries_whole (m ∷ ms) (Some cells ∷ entries) = put_whole m.name (entry_data cells) (entries_data ms entries) (entry_whole cells) (entries_whole ms entries)
 
-pub certificate_whole : (p : Tables) (cert : Cert) → has_float (certificate_data p cert) ≡ false
-certificate_whole p cert = or_from (members_have_float (entries_data p.modules cert.modules.items)) false (entries_whole p.modules cert.modules.items) refl
+jittered_whole : (j : ℕ) (entries : Members) → members_have_float entries ≡ false → has_float (jittered_data j entries) ≡ false
+jittered_whole zero entries none = or_from (members_have_float entries) false none refl
+jittered_whole (suc j) entries none = or_from (members_have_float entries) false none refl
+
+pub certificate_whole : (p : Tables) (cert : Cert) → has_float (data_with_jitter p cert) ≡ false
+certificate_whole p cert = jittered_whole cert.jitter (entries_data p.modules cert.modules.items) (entries_whole p.modules cert.modules.items)
 
 -- depths
 
@@ -110,9 +114,16 @@ entries_flat (m ∷ ms) [] = omega arith
 entries_flat (m ∷ ms) (None ∷ entries) = entries_flat ms entries
 entries_flat (m ∷ ms) (Some cells ∷ entries) = put_flat m.name (entry_data cells) (entries_data ms entries) 4 (entry_flat cells) (entries_flat ms entries)
 
-pub certificate_flat : (p : Tables) (cert : Cert) → depth (certificate_data p cert) ≤ 127
-certificate_flat p cert =
-    let m = entries_flat p.modules cert.modules.items in
-    let inner = greater (suc (members_depth (entries_data p.modules cert.modules.items))) 0 5 (omega (arith, m)) (omega arith) in
-    let outer = greater 0 (max (suc (members_depth (entries_data p.modules cert.modules.items))) 0) 5 (omega arith) inner in
+jittered_flat : (j : ℕ) (entries : Members) → members_depth entries ≤ 4 → depth (jittered_data j entries) ≤ 127
+jittered_flat zero entries flat =
+    let inner = greater (suc (members_depth entries)) 0 5 (omega (arith, flat)) (omega arith) in
+    let outer = greater 0 (max (suc (members_depth entries)) 0) 5 (omega arith) inner in
     omega (arith, outer)
+jittered_flat (suc j) entries flat =
+    let inner = greater (suc (members_depth entries)) 0 5 (omega (arith, flat)) (omega arith) in
+    let middle = greater 0 (max (suc (members_depth entries)) 0) 5 (omega arith) inner in
+    let outer = greater 0 (max 0 (max (suc (members_depth entries)) 0)) 5 (omega arith) middle in
+    omega (arith, outer)
+
+pub certificate_flat : (p : Tables) (cert : Cert) → depth (data_with_jitter p cert) ≤ 127
+certificate_flat p cert = jittered_flat cert.jitter (entries_data p.modules cert.modules.items) (entries_flat p.modules cert.modules.items)

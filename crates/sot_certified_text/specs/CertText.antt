@@ -1,6 +1,6 @@
--- A certificate as a line of JSON: format 1, with no blank, and the keys of each object in the
--- order of their bytes.
-use Rattle.std.specs.Prelude.{ℕ, List, [], ◌∷◌, ◌++◌, Option, None, Some, codes}
+-- A certificate as a line of JSON with no blank, and the keys of each object in the order of their
+-- bytes: format 1, or format 2 where it has a jitter.
+use Rattle.std.specs.Prelude.{ℕ, zero, suc, List, [], ◌∷◌, ◌++◌, Option, None, Some, codes}
 use Rattle.serde_json.specs.Data.{Data, unsigned, number, array, object, Items, no_items, item}
 use Rattle.serde_json.specs.Data.{Members, no_members, member, put}
 use Rattle.serde_json.specs.Find.{of_integer}
@@ -46,12 +46,29 @@ entries_data [] entries = no_members
 entries_data (m ∷ ms) [] = no_members
 entries_data (m ∷ ms) (entry ∷ entries) = put_data m.name entry (entries_data ms entries)
 
--- the certificate: its format and its modules
+-- a certificate without jitter: its format and its modules
 abbrev pub certificate_data : Tables → Cert → Data
 certificate_data p cert =
     object (member (codes "format") (number (unsigned 1))
     (member (codes "modules") (object (entries_data p.modules cert.modules.items)) no_members))
 
--- its line (LF is 10)
+-- these modules with a jitter, which stands behind the format where it is not 0
+abbrev pub jittered_data : ℕ → Members → Data
+jittered_data zero entries =
+    object (member (codes "format") (number (unsigned 1))
+    (member (codes "modules") (object entries) no_members))
+jittered_data (suc j) entries =
+    object (member (codes "format") (number (unsigned 2))
+    (member (codes "jitter") (number (unsigned (suc j)))
+    (member (codes "modules") (object entries) no_members)))
+
+-- a certificate with its jitter
+abbrev pub data_with_jitter : Tables → Cert → Data
+data_with_jitter p cert = jittered_data cert.jitter (entries_data p.modules cert.modules.items)
+
+-- their lines (LF is 10)
 abbrev pub certificate_line : Tables → Cert → List ℕ
 certificate_line p cert = compact_text (certificate_data p cert) ++ 10 ∷ []
+
+abbrev pub line_with_jitter : Tables → Cert → List ℕ
+line_with_jitter p cert = compact_text (data_with_jitter p cert) ++ 10 ∷ []

@@ -19,17 +19,17 @@ use Rattle.sot_lang.specs.TableRules.{MeetsTableRules}
 use Rattle.sot_lang.specs.CertRules.{FitsTables}
 use Rattle.sot_json.specs.Json.{json_of}
 use Rattle.sot_cert.specs.CertFormat.{cert_of, contents}
-use Rattle.sot_certified_text.specs.CertText.{certificate_line}
+use Rattle.sot_certified_text.specs.CertText.{certificate_line, line_with_jitter}
 use Rattle.sot_certified_text.specs.ReadBack.{IsWritable}
 
 -- a certificate's line is one line, and no section line
 abbrev pub CertificateLinesArePlain : Type 0
 CertificateLinesArePlain =
-    (t : Tables) (cert : Cert) → (lines (certificate_line t cert) ≡ certificate_line t cert ∷ [])
-    × IsPlain (certificate_line t cert)
+    (t : Tables) (cert : Cert) → (lines (line_with_jitter t cert) ≡ line_with_jitter t cert ∷ [])
+    × IsPlain (line_with_jitter t cert)
 
 -- the text of a certified program divides into the program's canonical text and the certificate's
--- line
+-- line, with its jitter or without
 abbrev pub CertifiedTextsDivide : Type 0
 CertifiedTextsDivide =
     (p : Program) (t : Tables) (cert : Cert) → IsFormed p
@@ -37,6 +37,17 @@ CertifiedTextsDivide =
     ≡ Ok (record {
       program = canonical p;
       cert = certificate_line t cert;
+      flight = None;
+      trace = None;
+    })
+
+abbrev pub TextsWithJitterDivide : Type 0
+TextsWithJitterDivide =
+    (p : Program) (t : Tables) (cert : Cert) → IsFormed p
+    → split_of (mission_text (canonical p) (line_with_jitter t cert)) Check
+    ≡ Ok (record {
+      program = canonical p;
+      cert = line_with_jitter t cert;
       flight = None;
       trace = None;
     })
@@ -54,4 +65,4 @@ AreModulesNamed t = (m : ℕ) (info : ModuleInfo) → At t.modules m info → Is
 abbrev pub CertificateLinesReadBack : Type 0
 CertificateLinesReadBack =
     (t : Tables) (cert : Cert) → MeetsTableRules t → AreModulesNamed t → FitsTables t cert
-    → IsWritable cert → cert_of t (certificate_line t cert) ≡ Ok (contents cert)
+    → IsWritable cert → cert_of t (line_with_jitter t cert) ≡ Ok (contents cert)

@@ -2,18 +2,19 @@
 ghost use Rattle.sot_certified_text.specs.ReadBack.{CertificatesReadBack};
 ghost use Rattle.sot_certified_text.specs.Lines.{CertificateLinesArePlain};
 ghost use Rattle.sot_certified_text.specs.Lines.{CertificateLinesReadBack, CertifiedTextsDivide};
+ghost use Rattle.sot_certified_text.specs.Lines.{TextsWithJitterDivide};
 ghost use Rattle.sot_certified_text.specs.Lines.{LineEndsChangeNoJson};
 ghost use Rattle.sot_certified_text.specs.Made.{TablesHaveShortRegions};
 ghost use Rattle.sot_certified_text.specs.Made.{MadeCertificatesAreWritable, CertifiedTextsSay};
 
-/// Bytes that are the JSON of a certificate without jitter say that certificate, where its cells
-/// have short sides and their index.
+/// Bytes that are the JSON of a certificate say that certificate, where its jitter is at most 999,
+/// and its cells have short sides and their index.
 pub fn certificates_read_back()
     ensures { CertificatesReadBack }
 {}
 
-/// The line of a certificate without jitter says that certificate, where its cells have short sides
-/// and their index.
+/// The line of a certificate says that certificate, where its jitter is at most 999, and its cells
+/// have short sides and their index.
 pub fn certificate_lines_read_back()
     ensures { CertificateLinesReadBack }
 {}
@@ -27,6 +28,11 @@ pub fn certificate_lines_are_plain()
 /// the certificate, for each formed program.
 pub fn certified_texts_divide()
     ensures { CertifiedTextsDivide }
+{}
+
+/// So does the text with the certificate's jitter.
+pub fn texts_with_jitter_divide()
+    ensures { TextsWithJitterDivide }
 {}
 
 /// JSON with a line end behind it is the same JSON.

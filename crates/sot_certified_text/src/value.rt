@@ -1,9 +1,10 @@
 //! A certificate as a JSON value.
 
-ghost use Rattle.std.specs.Prelude.{◌≡◌, length, IfOk, OnOk};
+ghost use Rattle.std.specs.Prelude.{◌≡◌, ◌≢◌, length, IfOk, OnOk};
 ghost use Rattle.serde_json.specs.View.{view, members_view};
 ghost use Rattle.sot_certified_text.specs.CertText.{side_data, cell_data, cells_data, entry_data};
-ghost use Rattle.sot_certified_text.specs.CertText.{put_data, entries_data, certificate_data};
+ghost use Rattle.sot_certified_text.specs.CertText.{put_data, entries_data, jittered_data};
+ghost use Rattle.sot_certified_text.specs.CertText.{data_with_jitter};
 
 use serde_json::{Map, Value, json};
 use sot_box::{BoxN, Interval, Region};
@@ -88,14 +89,42 @@ fn entries_value(alloc: Global, p: &Typed, cert: &Cert) -> Result<Map<String, Va
     Ok(map)
 }
 
-/// A certificate without jitter as a JSON value.
-pub fn certificate_value(alloc: Global, p: &Typed, cert: &Cert) -> Result<Value, AllocError>
-    requires { length cert.now.modules.items ≡ length p.now.modules }
-    ensures { IfOk result (λ v. view v ≡ certificate_data p.now cert.now) }
+// These modules, without a jitter.
+fn plain_value(alloc: Global, entries: Map<String, Value>) -> Result<Value, AllocError>
+    ensures { IfOk result (λ v. view v ≡ jittered_data 0 (members_view entries.entries)) }
 {
-    let entries = entries_value(alloc, p, cert)?;
     let mut map = Map::new(alloc);
     map.insert(String::from_str(alloc, "format")?, Value::from(1u64))?;
     map.insert(String::from_str(alloc, "modules")?, Value::Object(entries))?;
     Ok(Value::Object(map))
+}
+
+// These modules, with a jitter.
+#[tactic(auto, using(crate::proofs::Items::jittered_is))]
+fn jittered_value(
+    alloc: Global,
+    jitter: u32,
+    entries: Map<String, Value>,
+) -> Result<Value, AllocError>
+    requires { jitter ≢ 0 }
+    ensures { IfOk result (λ v. view v ≡ jittered_data jitter (members_view entries.entries)) }
+{
+    let mut map = Map::new(alloc);
+    map.insert(String::from_str(alloc, "format")?, Value::from(2u64))?;
+    map.insert(String::from_str(alloc, "jitter")?, Value::from(jitter))?;
+    map.insert(String::from_str(alloc, "modules")?, Value::Object(entries))?;
+    Ok(Value::Object(map))
+}
+
+/// A certificate as a JSON value.
+pub fn certificate_value(alloc: Global, p: &Typed, cert: &Cert) -> Result<Value, AllocError>
+    requires { length cert.now.modules.items ≡ length p.now.modules }
+    ensures { IfOk result (λ v. view v ≡ data_with_jitter p.now cert.now) }
+{
+    let entries = entries_value(alloc, p, cert)?;
+    if cert.jitter == 0 {
+        plain_value(alloc, entries)
+    } else {
+        jittered_value(alloc, cert.jitter, entries)
+    }
 }

@@ -6,6 +6,7 @@ ghost use Rattle.sot_print.specs.Canonical.{canonical};
 ghost use Rattle.sot_json.specs.Json.{json_of};
 ghost use Rattle.sot_certified_text.specs.Missions.{mission_text};
 ghost use Rattle.sot_certified_text.specs.CertText.{certificate_data, certificate_line};
+ghost use Rattle.sot_certified_text.specs.CertText.{data_with_jitter, line_with_jitter};
 
 use crate::line::certificate_line;
 use sot_lang::{Cert, Typed};
@@ -13,9 +14,31 @@ use sot_print::print;
 use sot_tree::Program;
 use std::alloc::{AllocError, Global};
 
-/// The canonical text of a program, the line `%certificate`, and the line of its certificate, which
-/// reads back as its value. The certificate has an entry, or none, for each module of the program,
-/// and no jitter, which its line would not say.
+/// The canonical text of a program, the line `%certificate`, and the line of its certificate with
+/// its jitter, which reads back as its value. The certificate has an entry, or none, for each module
+/// of the program.
+pub fn mission_with_jitter(
+    alloc: Global,
+    program: &Program,
+    p: &Typed,
+    cert: &Cert,
+) -> Result<Vec<u8>, AllocError>
+    requires entries { length cert.now.modules.items ≡ length p.now.modules }
+    ensures text { IfOk result (λ text. text.items
+        ≡ mission_text (canonical (program_view program.now)) (line_with_jitter p.now cert.now)) }
+    ensures reads_back { IfOk result (λ text. json_of (line_with_jitter p.now cert.now)
+        ≡ Some (data_with_jitter p.now cert.now)) }
+{
+    let front = print(alloc, program)?;
+    let line = certificate_line(alloc, p, cert)?;
+    let mut text = Vec::new(alloc);
+    text.extend_from_slice(front.as_bytes())?;
+    text.extend_from_slice(b"%certificate\n")?;
+    text.extend_from_slice(&line)?;
+    Ok(text)
+}
+
+/// The same of a certificate without jitter.
 pub fn mission_text(
     alloc: Global,
     program: &Program,
@@ -29,11 +52,5 @@ pub fn mission_text(
     ensures reads_back { IfOk result (λ text. json_of (certificate_line p.now cert.now)
         ≡ Some (certificate_data p.now cert.now)) }
 {
-    let front = print(alloc, program)?;
-    let line = certificate_line(alloc, p, cert)?;
-    let mut text = Vec::new(alloc);
-    text.extend_from_slice(front.as_bytes())?;
-    text.extend_from_slice(b"%certificate\n")?;
-    text.extend_from_slice(&line)?;
-    Ok(text)
+    mission_with_jitter(alloc, program, p, cert)
 }

@@ -1,0 +1,47 @@
+-- What a program with other regions is.
+use Rattle.std.specs.Prelude.{◌≡◌, ℕ, List}
+use Rattle.sot_tree.specs.Trees.{Program}
+use Rattle.sot_tree.specs.Formed.{IsFormed}
+use Rattle.sot_lang.specs.Tables.{Tables}
+use Rattle.sot_rules.specs.First.{IsFaultless}
+use Rattle.sot_typing.specs.Resolved.{tables_seen, AreTables}
+use Rattle.sot_parser.specs.Programs.{Spells}
+use Rattle.sot_print.specs.Canonical.{canonical}
+use Rattle.sot_law_format.specs.Unplaced.{AreSame}
+use Rattle.sot_region_tree.specs.declared.modules.ModuleRegions.{ModuleRegions}
+use Rattle.sot_region_tree.specs.OtherRegions.{with_regions}
+use Rattle.sot_law_other_regions.specs.Fitting.{AreFitting}
+use Rattle.sot_law_other_regions.specs.WithoutRegions.{AreSameButForRegions}
+use Rattle.sot_law_other_regions.specs.OtherTables.{tables_with}
+
+-- it is formed where the program is
+abbrev pub ProgramsStayFormed : Type 0
+ProgramsStayFormed =
+    (regions : List ModuleRegions) (p : Program) → IsFormed p → AreFitting regions p.decls
+    → IsFormed (with_regions regions p)
+
+-- its canonical text spells the same program, where some text spells the one with its own regions
+abbrev pub CanonicalTextsAreReadBack : Type 0
+CanonicalTextsAreReadBack =
+    (regions : List ModuleRegions) (bytes : List ℕ) (at : ℕ) (p : Program) → Spells bytes at p
+    → AreFitting regions p.decls
+    → (q : Program) × Spells (canonical (with_regions regions p)) 0 q
+    × AreSame (with_regions regions p) q
+
+-- nothing but its regions is another
+abbrev pub NothingElseChanges : Type 0
+NothingElseChanges =
+    (regions : List ModuleRegions) (p : Program) → AreSameButForRegions p (with_regions regions p)
+
+-- programs that are the same but for their regions have the same tables but for these
+abbrev pub TablesHaveTheRegions : Type 0
+TablesHaveTheRegions =
+    (regions : List ModuleRegions) (p : Program) (t u : Tables) → AreFitting regions p.decls
+    → AreTables p t → AreTables (with_regions regions p) u
+    → tables_seen u ≡ tables_with regions (tables_seen t)
+
+-- it breaks no rule of typing where the program breaks none
+abbrev pub ProgramsStayFaultless : Type 0
+ProgramsStayFaultless =
+    (regions : List ModuleRegions) (p : Program) → IsFaultless p → AreFitting regions p.decls
+    → IsFaultless (with_regions regions p)

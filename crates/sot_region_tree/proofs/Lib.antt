@@ -1,0 +1,2 @@
+-- a list that is made element by element
+pub mod Steps

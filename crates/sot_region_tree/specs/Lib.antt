@@ -1,0 +1,2 @@
+-- what the public contract cites
+pub mod OtherRegions
