@@ -1,5 +1,6 @@
 -- A program with other regions breaks no rule of typing.
-use Rattle.std.proofs.Common.{◌≡◌, ℕ, zero, suc, ◌≤◌, nat_lt, ℤ, ◌≤ℤ◌, Bool, true, false, not, ◌&&◌, int_lt, List, [], ◌∷◌, ◌++◌, map, length, zip, Option, Some, None}
+use Rattle.std.proofs.Common.{◌≡◌, ℕ, zero, suc, ◌≤◌, nat_lt, ℤ, ◌≤ℤ◌, Bool, true, false, not}
+use Rattle.std.proofs.Common.{◌&&◌, int_lt, List, [], ◌∷◌, ◌++◌, map, length, zip, Option, Some, None}
 use Rattle.std.proofs.Common.{slice_get, flat_map, refl, ap, ap₂, ◌∙◌, arith}
 use Rattle.std.specs.Prelude.{◌==◌}
 use Rattle.std.proofs.lemmas.Int.{ints}
@@ -32,7 +33,8 @@ use Rattle.sot_law_other_regions.specs.Fitting.{IsLike, Fits, FitsModule, FitNex
 use Rattle.sot_law_other_regions.specs.WithoutRegions.{bare, AreSameButForRegions}
 use Rattle.sot_law_other_regions.specs.Laws.{ProgramsStayFaultless}
 use Rattle.sot_law_other_regions.proofs.Formed.{like_first}
-use Rattle.sot_law_other_regions.proofs.Names.{nothing_else, filter_bare, map_bare, declared_bare, by_bare, told, has_module_same, node_scope_same, plant_scope_same}
+use Rattle.sot_law_other_regions.proofs.Names.{nothing_else, filter_bare, map_bare, declared_bare}
+use Rattle.sot_law_other_regions.proofs.Names.{by_bare, told, has_module_same, node_scope_same, plant_scope_same}
 
 -- ---- what is asked of a declaration does not depend on the regions of others
 

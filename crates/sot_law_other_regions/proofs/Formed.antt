@@ -38,12 +38,14 @@ some_sides (g ∷ gs) (r ∷ rs) some wide = tt
 area_formed : (a : Area) (box : List Side) → IsArea a → IsLike a box → IsArea (area_like a box)
 area_formed a box is like = (some_sides a.sides box is.0 like.width, sides_formed a.sides box is.1 like.ordered like.short)
 
-all_like : (a : Area) (found : List (List Side)) → IsArea a → ((i : ℕ) (box : List Side) → At found i box → IsLike a box) → Each IsArea (map (area_like a) found)
+all_like : (a : Area) (found : List (List Side)) → IsArea a → ((i : ℕ) (box : List Side) → At found i box → IsLike a box)
+    → Each IsArea (map (area_like a) found)
 all_like a [] is like = tt
 all_like a (box ∷ more) is like = (area_formed a box is (like 0 box refl), all_like a more is (λ i. like (suc i)))
 
 -- each box is like the first given one
-pub like_first : (a : Area) (others : List Area) (region : BoxList) → Fits (a ∷ others) region → (i : ℕ) (box : List Side) → At region.boxes i box → IsLike a box
+pub like_first : (a : Area) (others : List Area) (region : BoxList) → Fits (a ∷ others) region → (i : ℕ) (box : List Side) → At region.boxes i box
+    → IsLike a box
 like_first a others region fits i box at =
     let own = fits.each i box at in
     subst (λ (x : Area). IsLike x box) (sym (same_Some a own.0 own.1)) own.2

@@ -10,7 +10,8 @@ use Rattle.sot_tree.specs.Trees.{Area, Module, Declaration, Program}
 use Rattle.sot_tree.specs.Trees as trees
 use Rattle.sot_tree.specs.Formed.{Each, IsArea, IsFormed}
 use Rattle.sot_parser.specs.Pieces.{each, spelled_role, spelled_timing}
-use Rattle.sot_parser.specs.Declarations.{spelled_bound, ModuleForm, spelled_module, module_of, DeclarationForm, a_topic, a_plant, a_coded, an_external, a_module}
+use Rattle.sot_parser.specs.Declarations.{spelled_bound, ModuleForm, spelled_module, module_of, DeclarationForm}
+use Rattle.sot_parser.specs.Declarations.{a_topic, a_plant, a_coded, an_external, a_module}
 use Rattle.sot_parser.specs.Declarations.{spelled_declaration, declaration_of, declaration_levels, most}
 use Rattle.sot_parser.specs.Programs.{spelled_program, program_of, program_levels, Spells}
 use Rattle.sot_print.specs.declared.gap.Gap.{Gap}
@@ -142,14 +143,16 @@ declaration_written (r ∷ later) (an_external n) more texts fits gap ts us h = 
 declaration_written (r ∷ later) (a_module m) more texts fits gap ts us h =
     let own = (declarations_keep (a_module m) more texts).0.holds in
     let given : List Area = (module_of m).safe in
-    let a = module_written m (areas_like given r.safe.boxes) (areas_like given r.safer.boxes) (parts_kept m more texts) (areas_formed given r.safe own.safe fits.safe)
+    let a = module_written m (areas_like given r.safe.boxes) (areas_like given r.safer.boxes) (parts_kept m more texts)
+    (areas_formed given r.safe own.safe fits.safe)
     (areas_formed given r.safer own.safe fits.safer) gap ts us h
     in
     record { form = a_module a.form; tokens = a.tokens; same = ap trees.a_module a.same; nests = le_refl 0 }
 
 -- ---- programs
 
-all_written : (regions : List ModuleRegions) (ds : List DeclarationForm) → AreTexts (each spelled_declaration ds []) → AreFitting regions (map declaration_of ds)
+all_written : (regions : List ModuleRegions) (ds : List DeclarationForm) → AreTexts (each spelled_declaration ds [])
+    → AreFitting regions (map declaration_of ds)
     → (first : Bool) (ts us : List Lexeme) → Takes ts (declarations_from first (declarations_with regions (map declaration_of ds))) us
     → WrittenWithin programs (declarations_with regions (map declaration_of ds)) (most declaration_levels ds) ts us
 all_written regions [] texts fits first ts us h = record { form = []; tokens = h; same = refl; nests = le_refl 0 }

@@ -135,7 +135,8 @@ boxes_with (g ∷ gs) (r ∷ rs) wide = ap (λ (xs : List Side). r ∷ xs) (boxe
 all_with : (a : Area) (found : List (List Side)) → ((i : ℕ) (box : List Side) → At found i box → IsLike a box)
     → map (λ (x : Area). map side_of x.sides) (map (area_like a) found) ≡ found
 all_with a [] like = refl
-all_with a (box ∷ more) like = ap₂ (λ (x : List Side) (xs : List (List Side)). x ∷ xs) (boxes_with a.sides box (like 0 box refl).width) (all_with a more (λ i. like (suc i)))
+all_with a (box ∷ more) like = ap₂ (λ (x : List Side) (xs : List (List Side)). x ∷ xs) (boxes_with a.sides box (like 0 box refl).width)
+    (all_with a more (λ i. like (suc i)))
 
 none_like : (found : List (List Side)) → ((i : ℕ) (box : List Side) → At found i box → ⊥) → [] ≡ found
 none_like [] none = refl

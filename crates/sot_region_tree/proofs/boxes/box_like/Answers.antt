@@ -18,7 +18,8 @@ loop-i-preserved c =
     read_at given given c.loop-i.i c.index.result.now refl (omega (arith, c.loop-i-test.true, c.min-count.ensures, c.len.ensures)) c.index.ensures
     in
     let at : At (map like (zip given found)) c.loop-i.i (bounds_like c.index.result.now c.side.result) =
-    at_map like (zip given found) c.loop-i.i (c.index.result.now, c.side.result) (zip_at given found c.loop-i.i c.index.result.now c.side.result at_given c.side.ensures)
+    at_map like (zip given found) c.loop-i.i (c.index.result.now, c.side.result)
+    (zip_at given found c.loop-i.i c.index.result.now c.side.result at_given c.side.ensures)
     in
     one_more (map like (zip given found)) c.loop-i.i (bounds_like c.index.result.now c.side.result) c.loop-i.sides.items c.push.new.self.items at
     c.loop-i.invariant

@@ -16,7 +16,8 @@ loop-k-preserved c =
     let later = drop c.in_ok-next.next c.args.regions.now in
     let at : At now k (declaration_view c.index_mut.result.now) =
     at_map declaration_view c.loop-k.decls.items k c.index_mut.result.now
-    (read_at c.loop-k.decls.items c.loop-k.decls.items k c.index_mut.result.now refl (omega (arith, c.loop-k.invariant.long, c.len-k-end.ensures)) c.index_mut.ensures.value)
+    (read_at c.loop-k.decls.items c.loop-k.decls.items k c.index_mut.result.now refl
+    (omega (arith, c.loop-k.invariant.long, c.len-k-end.ensures)) c.index_mut.ensures.value)
     in
     record {
       long = length-set c.loop-k.decls.items k c.put_next.new.decl ∙ c.loop-k.invariant.long;
