@@ -1,5 +1,6 @@
 -- The modules of a certificate's JSON are those of the certificate.
-use Rattle.std.proofs.Common.{◌≡◌, ℕ, zero, suc, ◌≤◌, nat_lt, pos, ◌||◌, Bool, false, true, Option, None, Some, Ok, List, [], ◌∷◌, ◌++◌, length, map, codes, bytes_eq, Ordering}
+use Rattle.std.proofs.Common.{◌≡◌, ℕ, zero, suc, ◌≤◌, nat_lt, pos, ◌||◌, Bool, false, true, Option, None, Some, Ok, List, [], ◌∷◌, ◌++◌, length, map}
+use Rattle.std.proofs.Common.{codes, bytes_eq, Ordering}
 use Rattle.std.proofs.Common.{Less, Equal, Greater, nat_cmp, refl, sym, ap, ◌∙◌, subst, arith}
 use Rattle.std.specs.Prelude.{int_le, unsigned_abs}
 use Rattle.std.specs.List.{list_all}
@@ -143,7 +144,8 @@ jitter_read : (p : Tables) (j : ℕ) → j ≤ 999 → is_below_periods p j ≡ 
 unfolding jitter count whole
 jitter_read p j few below =
     ap (λ t. ((unless OutsideRange t >>= λ ok. Ok (pos j)) >>= λ z. Ok (unsigned_abs z)) >>= λ k. unless OutsideRange (is_below_periods p k) >>= λ ok. Ok k)
-    (both (int_le (pos 0) (pos j)) (int_le (pos j) (pos 999)) (le_test (pos 0) (pos j) (omega (arith, ints))) (le_test (pos j) (pos 999) (omega (arith, ints, few))))
+    (both (int_le (pos 0) (pos j)) (int_le (pos j) (pos 999)) (le_test (pos 0) (pos j) (omega (arith, ints)))
+    (le_test (pos j) (pos 999) (omega (arith, ints, few))))
     ∙ ap (λ t. unless OutsideRange t >>= λ ok. Ok j) below
 
 -- names of modules stand once

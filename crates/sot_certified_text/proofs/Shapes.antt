@@ -1,5 +1,6 @@
 -- The JSON of a certificate has no float, and nests six levels deep at most.
-use Rattle.std.proofs.Common.{◌≡◌, ℕ, zero, suc, ◌≤◌, ℤ, pos, negsuc, false, Option, None, Some, List, [], ◌∷◌, Ordering, Less, Equal, Greater, nat_cmp, refl, arith}
+use Rattle.std.proofs.Common.{◌≡◌, ℕ, zero, suc, ◌≤◌, ℤ, pos, negsuc, false, Option, None, Some, List, [], ◌∷◌}
+use Rattle.std.proofs.Common.{Ordering, Less, Equal, Greater, nat_cmp, refl, arith}
 use Rattle.std.proofs.lemmas.Bool.{or_from, or_parts}
 use Rattle.std.specs.Prelude.{max}
 use Rattle.std.specs.Ordering.{match_ordering}
