@@ -2,8 +2,9 @@
 //!
 //! [`certificate_line`] writes a certificate as one line of JSON, which a reader of certificates
 //! reads back; [`mission_with_jitter`] writes the whole mission, and [`mission_text`] that of a
-//! certificate without jitter. [`fail_text`] says why there is none. The laws say that no line of a program's canonical text is a section line, that the
-//! whole divides into its sections, and that it is accepted when it is read again.
+//! certificate without jitter. [`fail_text`] says why there is none. The laws say that no line of a
+//! program's canonical text is a section line, that the whole divides into its sections, and that
+//! it is accepted when it is read again.
 #![tactic(auto)]
 
 mod facts;

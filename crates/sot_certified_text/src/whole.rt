@@ -15,8 +15,8 @@ use sot_tree::Program;
 use std::alloc::{AllocError, Global};
 
 /// The canonical text of a program, the line `%certificate`, and the line of its certificate with
-/// its jitter, which reads back as its value. The certificate has an entry, or none, for each module
-/// of the program.
+/// its jitter, which reads back as its value. The certificate has an entry, or none, for each
+/// module of the program.
 pub fn mission_with_jitter(
     alloc: Global,
     program: &Program,
