@@ -10,6 +10,7 @@ mod places;
 mod recover;
 mod replay;
 mod soak;
+mod watch;
 
 use sot_commands::{Controller, Status, soter};
 use sot_ports::{MemSink, Process, PureSource, Sink, Source};

@@ -143,6 +143,9 @@ soak,2,-1 => Err(Form)
 -h => Err(Form)
 --help => Err(Form)
 check,-x => Err(Form)
+watch => Err(Form)
+watch,-x => Err(Form)
+watch,x,x => Err(Form)
 check,check => Err(Form)
 format,, => Err(Form)
 , => Err(Form)
@@ -158,5 +161,5 @@ fn knows_commands_by_their_words(rt: HostRuntime) {
         let found = format!(in alloc; "{:?}", command_of(alloc, &words)).expect(&rt, "memory");
         assert_eq!(rt; found.as_str(), column(row, " => ", 1), "at {row}");
     }
-    assert_eq!(rt; COMMANDS.lines().count(), 17);
+    assert_eq!(rt; COMMANDS.lines().count(), 20);
 }
