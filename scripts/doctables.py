@@ -11,6 +11,10 @@ FORMATS, LANGUAGE = 'docs/FORMATS.md', 'docs/LANGUAGE.md'
 # What to do about what has no such cell in the pages; one that is added there goes first.
 AND_BESIDES = {
     ('recover', 'recover'): 'make the closed cells smaller, up to a part of `safer` that each hold from it leads back into',
+    ('watch', 'watch'): 'look in the trace at what stands just before the tick of that time, or at its end: the formula is false there for the first time',
+    ('formula', 'Form'): 'write comparisons such as `pos.x <= 22` or `mode(nav) == 1`, joined by `not(..)`, `and(.., ..)`, `or(.., ..)`, `once(..)`, `since(.., ..)` and `within(N, ..)`',
+    ('formula', 'Unknown'): 'name a topic of one number, a field `topic.field`, a state variable `plant.variable` or `mode(module)` of the program',
+    ('formula', 'ScaleDiffers'): 'write the literal with as many decimals as what it is compared with has',
     ('start', ''): 'start the plant inside `safer`, or let `safer` grow: `accepted` speaks of runs that start there',
 }
 
@@ -62,6 +66,8 @@ class Advice:
             'replay': (self.formats, 'A trace that is read again', 'kind', 'what it says'),
             'recover': (self.formats, 'Recovery', 'line', 'what it says'),
             'start': (self.formats, 'The trace', 'kind', 'comes where'),
+            'watch': (self.formats, 'A flight that is watched', 'kind', 'what to do'),
+            'formula': (self.language, 'Formulas', 'kind', 'what to do'),
         }
 
     def value(self, name, wanted):

@@ -1,9 +1,9 @@
 #!/usr/bin/env python3
-"""scripts/hints.py COMMAND STATUS INPUT --answer FILE, or --program FILE: what to do about an answer of `soter`, on standard error.
+"""scripts/hints.py COMMAND STATUS INPUT --answer FILE, or --program FILE [FORMULA]: what to do about an answer of `soter`, on standard error.
 
 `./soter` calls it at status 1 and 3. INPUT is the file with what the command read. The answer is taken from a file, or
-asked again of a built program, which is then also asked what `fly` would have written where a trace differs. It says the
-row of the docs' tables for the refusal or fault, with what the answer leaves out: decimals, lines, cells, carets.
+asked again of a built program, `watch` with its formula, which is then also asked what `fly` would have written where a
+trace differs. It says the row of the docs' tables for the refusal or fault, with what the answer leaves out: decimals, lines, cells, carets.
 It is tested and not proved, and writes nothing to standard output.
 """
 import os
@@ -17,7 +17,7 @@ import missiontext
 from missiontext import NotRead, box_words, decimal, point_words, whole_numbers
 
 WIDTH, SECONDS, LIMIT = 100, 20, 16777216
-NEEDED = {'check': ('certificate',), 'recover': ('certificate',), 'fly': ('certificate', 'flight'), 'replay': ('certificate', 'flight', 'trace')}
+NEEDED = {'check': ('certificate',), 'recover': ('certificate',), 'fly': ('certificate', 'flight'), 'watch': ('certificate', 'flight'), 'replay': ('certificate', 'flight', 'trace')}
 KEYWORDS = set('topic environment int fix bool true false plant state input sees noise next node external period offset reads writes local do publish if then else '
                'repeat module ac sc safe safer none and or not min max abs clamp rescale'.split())
 CLAUSES = {'state', 'input', 'sees', 'noise', 'next', 'period', 'offset', 'reads', 'writes', 'local', 'do', 'ac', 'sc', 'plant', 'safe', 'safer'}
@@ -57,10 +57,10 @@ class Asked:
         return said.split('\n') if status == 0 else []
 
 
-def ask(program, command, text):
+def ask(program, command, text, *formula):
     """The status and the text of a built program."""
     try:
-        done = subprocess.run([program, command], input=text.encode('latin-1'), stdout=subprocess.PIPE, stderr=subprocess.DEVNULL, timeout=SECONDS)
+        done = subprocess.run([program, command, *formula], input=text.encode('latin-1'), stdout=subprocess.PIPE, stderr=subprocess.DEVNULL, timeout=SECONDS)
         return done.returncode, done.stdout.decode('latin-1')
     except (OSError, subprocess.TimeoutExpired):
         return None, ''
@@ -383,7 +383,7 @@ def rule_of(asked, key):
     return [f'the grammar there: {rule}'] if rule else []
 
 
-def nothing(asked, family, key):
+def nothing(*_):
     return []
 
 
@@ -393,6 +393,8 @@ FAMILIES = (
     (re.compile(r'refused start()'), 'start', about_start, to_do),
     (re.compile(r'refused certify()'), 'certify', about_certify, nothing),
     (re.compile(r'refused (recover)'), 'recover', about_recover, to_do),
+    (re.compile(r'refused (watch) time'), 'watch', nothing, to_do),
+    (re.compile(r'fault formula (\w+)'), 'formula', nothing, to_do),
     (re.compile(r'refused replay line \d+ (\w+)'), 'replay', about_replay, to_do),
     (re.compile(r'fault section line \d+ (\w+)'), 'section', about_section, to_do),
     (re.compile(r'fault syntax line \d+ column \d+ (\w+)'), 'syntax', about_place, token_to_do),
@@ -415,22 +417,28 @@ def hint_of(asked):
     return []
 
 
+def line_of(answer):
+    """The line to explain: the first one, or that behind a trace."""
+    lines = answer.split('\n')
+    return lines[-2] if lines[0].startswith('soter trace') and len(lines) > 2 else lines[0]
+
+
 def main(words):
-    if len(words) != 5 or words[3] not in ('--answer', '--program'):
+    if len(words) not in (5, 6) or words[3] not in ('--answer', '--program'):
         sys.exit(__doc__)
-    command, status, path, how, file = words
+    command, status, path, how, file, *formula = words
     with open(path, 'rb') as source:
         text = source.read(LIMIT + 1).decode('latin-1')
     program = file if how == '--program' else None
     if program:
-        again, answer = ask(program, command, text)
+        again, answer = ask(program, command, text, *formula)
         if str(again) != status:
             # the input was another one when it was read, so nothing is said of it
             return
     else:
         with open(file, 'rb') as source:
             answer = source.read(LIMIT).decode('latin-1')
-    for line in hint_of(Asked(command, text, answer.split('\n')[0], program)):
+    for line in hint_of(Asked(command, text, line_of(answer), program)):
         print('soter: ' + line, file=sys.stderr)
 
 
