@@ -1,9 +1,14 @@
 //! What the caller and the workers of a flight tell each other beside the board.
 
 use std::alloc::{AllocError, Global};
+use std::hint::spin_loop;
 use std::sync::Wait;
 use std::sync::atomic::{AtomicBool, AtomicUsize, Ordering};
 use std::thread::Parker;
+
+// A worker that may be the next one looks so often before it parks: the nodes of an instant often
+// come to their end together, and to wake a thread takes longer than such a while.
+const LOOKS: u32 = 1000;
 
 /// What the worker of a node hears and tells: that it is not to begin, that it has a thread, that
 /// it is to look at the board again, and for how many firings its guest was asked.
@@ -21,6 +26,9 @@ struct Bell {
 pub struct Bells {
     nodes: Vec<Bell>,
     caller: Parker,
+    // The place of the node that fires next and whose worker is rung for, behind 0 for none. It
+    // only tells who looks that a ring has come.
+    next: AtomicUsize,
 }
 
 impl Bells {
@@ -38,6 +46,7 @@ impl Bells {
         Ok(Bells {
             nodes,
             caller: Parker::new(),
+            next: AtomicUsize::new(0),
         })
     }
 
@@ -46,6 +55,12 @@ impl Bells {
         if let Some(bell) = self.nodes.get(node as usize) {
             bell.wake.unpark();
         }
+    }
+
+    /// Rings for the worker of the node that fires next.
+    pub fn ring_next(&self, node: u32) {
+        self.ring(node);
+        self.next.store(node as usize + 1, Ordering::SeqCst);
     }
 
     /// Rings for the caller.
@@ -58,6 +73,18 @@ impl Bells {
         if let Some(bell) = self.nodes.get(node as usize) {
             bell.wake.park(rt);
         }
+    }
+
+    /// Looks for a while whether the worker of a node was rung for as the next one, and then parks
+    /// it until it is rung for.
+    pub fn park_next<R: Wait>(&self, rt: &R, node: u32) {
+        for _ in 0..LOOKS {
+            if self.next.load(Ordering::SeqCst) == node as usize + 1 {
+                break;
+            }
+            spin_loop();
+        }
+        self.park(rt, node);
     }
 
     /// Parks the caller until it is rung for.

@@ -40,7 +40,7 @@ pub(crate) fn ring_next(board: &Board<'_>, bells: &Bells) {
     match next_to_fire(board) {
         Some(node) => {
             if bells.is_out(node) {
-                bells.ring(node);
+                bells.ring_next(node);
             } else {
                 bells.ring_caller();
             }

@@ -86,7 +86,7 @@ pub(crate) fn take_next<'t, 'a, R: Wait>(
             return held;
         }
         pass = turn.give(held);
-        bells.park(rt, node);
+        bells.park_next(rt, node);
     }
     unreachable!()
 }

@@ -55,7 +55,7 @@ fn ring_due(board: &Board<'_>, bells: &Bells, long: &[bool], rung: &mut [u32]) {
         }
     }
     if let Some(node) = next_to_fire(board) {
-        bells.ring(node);
+        bells.ring_next(node);
     }
 }
 
