@@ -1,0 +1,21 @@
+//! The tests, by what they test, and what they share. What is wanted was worked by hand.
+
+mod blocks;
+mod grids;
+mod parts;
+mod sets;
+mod trees;
+mod words;
+
+use std::fmt::Debug;
+use std::process::Abort;
+
+/// Ends the test, with what was asked, where the answer is not the one that is wanted.
+fn same<A: Debug + Drop, T: PartialEq + Debug + Drop>(
+    rt: &impl Abort,
+    asked: A,
+    got: T,
+    wanted: T,
+) {
+    assert_eq!(rt; got, wanted, "{asked:?}");
+}
