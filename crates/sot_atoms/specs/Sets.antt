@@ -1,6 +1,7 @@
 -- Sets of atoms: a number for each atom of a grid, in the order in which they are counted, which is
 -- 1 for those in the set and 0 for the others.
-use Rattle.std.specs.Prelude.{◌≤◌, Option, MatchOption, ◌≡◌, ℕ, ◌<◌, List, [], ◌∷◌, length, slice_index, ◌↔◌}
+use Rattle.std.specs.Prelude.{◌≤◌, Option, MatchOption, ◌≡◌, ℕ, ◌<◌, List, [], ◌∷◌, length}
+use Rattle.std.specs.Prelude.{slice_index, ◌↔◌}
 use Rattle.sot_atoms.specs.declared.axis.Axis.{Axis}
 use Rattle.sot_atoms.specs.declared.block.Stretch.{Stretch}
 use Rattle.sot_atoms.specs.Blocks.{IsInBlock, FitsAxes, atom_count, number_from}

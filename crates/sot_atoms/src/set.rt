@@ -3,7 +3,8 @@
 ghost use Rattle.std.specs.Prelude.{◌≡◌, ◌<◌, ℕ, length, slice_index, IfOk, IfSome, IsTrue, ◌↔◌};
 ghost use Rattle.sot_atoms.specs.Blocks.{atom_count};
 ghost use Rattle.sot_atoms.specs.Rows.{Fills};
-ghost use Rattle.sot_atoms.specs.Sets.{SetFits, AllMembers, NoMembers, IsPut, IsTaken, IsNextMember};
+ghost use Rattle.sot_atoms.specs.Sets.{SetFits, AllMembers, NoMembers, IsPut, IsTaken};
+ghost use Rattle.sot_atoms.specs.Sets.{IsNextMember};
 
 use crate::block::Block;
 use crate::grid::Grid;
