@@ -1,0 +1,137 @@
+//! The top call: words and input to one text and a status.
+
+ghost use Rattle.std.specs.Prelude.{◌≡◌, ◌+◌, ◌≤◌, ◌⊎◌, ℕ, List, Ok, IfOk, IfErr, IsErr, IsErrOf};
+ghost use Rattle.std.specs.Prelude.{MatchResult};
+ghost use Rattle.sot_ports.specs.Faults.{Rose};
+ghost use Rattle.sot_bridge_input.specs.Words.{Asks};
+ghost use Rattle.sot_ports.specs.Whole.{ReadsUpTo};
+ghost use Rattle.sot_ports.specs.Outside.{Written, outside};
+ghost use Rattle.sot_bridge.specs.Ends.{Ends, AskNone};
+ghost use Rattle.sot_bridge.specs.Steps.{AskAnswer, WordAnswer, Silence};
+
+use crate::answer::{Answer, fixed};
+use crate::reply::{Ask, reply_of};
+use crate::status::Status;
+use sot_bridge_input::{WordFail, delay_of};
+use sot_ports::{Process, ReadFail, Sink, Source, read_all, write_whole};
+use std::alloc::{AllocError, Global};
+use std::thread::Threads;
+
+/// The most bytes of an input: 16 MiB.
+const INPUT_LIMIT: usize = 16_777_216;
+
+const USAGE: &str = "usage: soter_bridge TOPIC_A TOPIC_B DELAY\n";
+
+const TOO_LONG: &str = "fault input above 16777216 bytes\n";
+
+// Want of memory has a status of its own, and no text.
+fn or_memory(answer: Result<Answer, AllocError>) -> Result<Answer, Status>
+    ensures { MatchResult result (λ r. answer ≡ Ok r) (λ s. (s.0 ≡ 6) × IsErr answer) }
+{
+    match answer {
+        Ok(answer) => Ok(answer),
+        Err(_) => Err(Status(6)),
+    }
+}
+
+// What the words ask for.
+fn asked<'w>(alloc: Global, words: &'w [String]) -> Result<Ask<'w>, WordFail>
+    ensures ok { IfOk result (λ ask. Asks words.now ask.from.now ask.to.now ask.delay) }
+    ensures form { IsErrOf result WordFail.Form → AskNone words.now }
+{
+    let delay = delay_of(alloc, words)?;
+    Ok(Ask {
+        from: words[0].as_str(),
+        to: words[1].as_str(),
+        delay,
+    })
+}
+
+// The answer to what was asked, before anything is written.
+fn perform<R: Threads + Sync, S: Source>(
+    rt: &R,
+    alloc: Global,
+    ask: Ask<'_>,
+    source: &mut S,
+    process: Process,
+) -> Result<Answer, Status>
+    requires delay { ask.delay ≤ 100000 }
+    ensures ok { IfOk result (λ answer. AskAnswer ask.entry.from.now ask.entry.to.now ask.entry.delay
+        (S.left source.old) (S.left source.new) answer.status answer.text.items) }
+    ensures err { IfErr result (λ status.
+        ((status.0 ≡ 6) × (S.faults source.new ≡ S.faults source.old))
+        ⊎ ((status.0 ≡ 4) × Rose (S.faults source.old) (S.faults source.new))) }
+    ensures well { IfOk result (λ _. S.faults source.new ≡ S.faults source.old) }
+    ensures no_more { ReadsUpTo (S.left source.old) (S.left source.new) (INPUT_LIMIT + 1) }
+{
+    match read_all(alloc, source, INPUT_LIMIT) {
+        Ok(bytes) => or_memory(reply_of(rt, alloc, ask, &bytes, process)),
+        Err(ReadFail::Fault) => Err(Status(4)),
+        Err(ReadFail::TooLong) => or_memory(fixed(alloc, 7, TOO_LONG)),
+        Err(ReadFail::Memory) => Err(Status(6)),
+    }
+}
+
+// The answer to the words, before anything is written.
+#[tactic(auto, using(crate::proofs::Endings::reads_nothing))]
+fn answer_to<R: Threads + Sync, S: Source>(
+    rt: &R,
+    alloc: Global,
+    words: &[String],
+    source: &mut S,
+    process: Process,
+) -> Result<Answer, Status>
+    ensures ok { IfOk result (λ answer. WordAnswer words.now (S.left source.old)
+        (S.left source.new) answer.status answer.text.items) }
+    ensures err { IfErr result (λ status.
+        Silence words.now (S.faults source.old) (S.faults source.new) status.0) }
+    ensures well { IfOk result (λ _. S.faults source.new ≡ S.faults source.old) }
+    ensures untouched { AskNone words.now → source.new ≡ source.old }
+    ensures no_more { ReadsUpTo (S.left source.old) (S.left source.new) (INPUT_LIMIT + 1) }
+{
+    match asked(alloc, words) {
+        Ok(ask) => perform(rt, alloc, ask, source, process),
+        Err(WordFail::Form) => or_memory(fixed(alloc, 2, USAGE)),
+        Err(WordFail::Memory) => Err(Status(6)),
+    }
+}
+
+// Writes an answer, and ends with its status.
+fn say<K: Sink>(answer: &Answer, sink: &mut K) -> Status
+    ensures { Written (K.held sink.old) (K.held sink.new) (K.faults sink.old) (K.faults sink.new)
+        answer.now.status answer.now.text.items result.0 }
+{
+    match write_whole(sink, &answer.text) {
+        Ok(()) => Status(answer.status),
+        Err(_) => Status(5),
+    }
+}
+
+/// Does what the words ask, those behind the program's name: reads two missions, flies both with a
+/// bridge between them, and writes one text. No guest is handed in, so it waits for nobody, and
+/// returns. Threads of `rt` check long lists of cells; what is answered does not depend on them.
+/// Where the process ends with this call, what was read is not given back to memory.
+pub fn bridge<R: Threads + Sync, S: Source, K: Sink>(
+    rt: &R,
+    alloc: Global,
+    words: &[String],
+    source: &mut S,
+    sink: &mut K,
+    process: Process,
+) -> Status
+    ensures ends { Ends words.now
+        (outside (S.left source.old) (K.held sink.old) (S.faults source.old) (K.faults sink.old))
+        (outside (S.left source.new) (K.held sink.new) (S.faults source.new) (K.faults sink.new))
+        result.0 }
+    // Whatever the end, at most one byte more than the limit was taken from the source.
+    ensures no_more { ReadsUpTo (S.left source.old) (S.left source.new) (INPUT_LIMIT + 1) }
+    // Words that ask for nothing leave the source as it was.
+    ensures unread { AskNone words.now → source.new ≡ source.old }
+    // A call that has nothing to say leaves the sink as it was.
+    ensures unwritten { (result.0 ≡ 4) ⊎ (result.0 ≡ 6) → sink.new ≡ sink.old }
+{
+    match answer_to(rt, alloc, words, source, process) {
+        Ok(answer) => say(&answer, sink),
+        Err(status) => status,
+    }
+}
