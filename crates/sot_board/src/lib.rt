@@ -32,4 +32,5 @@ pub use journal::HistoryEntry;
 pub use laws::{code_runs_on_inputs, code_runs_on_views, views_stay};
 pub use receipt::Receipt;
 pub use sort::is_coded;
+pub use versions::publishes;
 pub use view::View;

@@ -36,9 +36,9 @@ fn is_published_on(p: &Typed, topic: u32, scalar: u32, slot: Option<i64>) -> boo
     topic_of(p, scalar) == topic && is_published(p, scalar, slot)
 }
 
-// Whether some number of a draft is published on a topic, of the scalars that a node writes from
-// this place on.
-fn publishes(p: &Typed, topic: u32, writes: &[u32], from: usize, draft: &Draft) -> bool
+/// Whether some number of a draft is published on a topic, of the scalars that a node writes from
+/// this place on.
+pub fn publishes(p: &Typed, topic: u32, writes: &[u32], from: usize, draft: &Draft) -> bool
     requires few { length writes.now ≤ 8 }
     requires there { from ≤ length writes.now }
     requires written { (i k : ℕ) → At writes.now i k → k < length p.now.scalars }

@@ -56,7 +56,8 @@ fn perform<R: Threads + Sync, S: Source>(
     process: Process,
 ) -> Result<Answer, Status>
     requires delay { ask.delay ≤ 100000 }
-    ensures ok { IfOk result (λ answer. AskAnswer ask.entry.from.now ask.entry.to.now ask.entry.delay
+    ensures ok { IfOk result (λ answer.
+        AskAnswer ask.entry.from.now ask.entry.to.now ask.entry.delay
         (S.left source.old) (S.left source.new) answer.status answer.text.items) }
     ensures err { IfErr result (λ status.
         ((status.0 ≡ 6) × (S.faults source.new ≡ S.faults source.old))

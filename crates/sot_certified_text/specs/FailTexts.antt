@@ -2,7 +2,8 @@
 use Rattle.std.specs.Prelude.{ℕ, Bool, true, false, List, [], ◌++◌, codes}
 use Rattle.sot_lang.specs.Tables.{Tables}
 use Rattle.sot_rta.specs.Refused.{refusal_view}
-use Rattle.sot_report.specs.Pieces.{line, module_name, point_text}
+use Rattle.sot_lang.specs.Names.{module_name}
+use Rattle.sot_report.specs.Pieces.{line, point_text}
 use Rattle.sot_report.specs.RefusalTexts.{refusal_text}
 use Rattle.sot_certify.specs.declared.fail.CertifyFail.{CertifyFail}
 use Rattle.sot_certify.specs.declared.fail.CertifyFail.TheVariants.{Refused, Point, TooMany, Memory}

@@ -20,7 +20,8 @@ use Rattle.sot_certify.specs.declared.fail.CertifyFail.{CertifyFail}
 use Rattle.sot_certify.specs.declared.fail.CertifyFail.TheVariants.{Refused, Point, TooMany, Memory}
 use Rattle.sot_certified_text.specs.CertText.{entries_data, certificate_line}
 use Rattle.sot_certified_text.specs.FailTexts.{list_word, fail_text}
-use Rattle.sot_report.specs.Pieces.{line, module_name, node_name, topic_name, plant_name, point_text, box_text, place_text, ends_text, trap_word}
+use Rattle.sot_lang.specs.Names.{module_name, node_name, topic_name, plant_name}
+use Rattle.sot_report.specs.Pieces.{line, point_text, box_text, place_text, ends_text, trap_word}
 use Rattle.sot_report.specs.RefusalTexts.{region_word, of_module, cell_text, refusal_text, start_text}
 use Rattle.sot_report.specs.AcceptedTexts.{cell_count, counts_text, accepted_text}
 

@@ -1,6 +1,6 @@
 //! The top calls: words and input to one text and a status.
 
-ghost use Rattle.std.specs.Prelude.{◌≡◌, ◌≢◌, ◌+◌, ◌<◌, ◌≤◌, ◌^◌, ◌⊎◌, Ok, length, vec_len, IsErr};
+ghost use Rattle.std.specs.Prelude.{◌≡◌, ◌+◌, ◌<◌, ◌≤◌, ◌^◌, ◌⊎◌, Ok, length, vec_len, IsErr};
 ghost use Rattle.std.specs.Prelude.{IfOk, IfErr, MatchResult};
 ghost use Rattle.sot_ports.specs.Faults.{Rose};
 ghost use Rattle.sot_ports.specs.Whole.{ReadsAll, ReadsUpTo};

@@ -1,6 +1,6 @@
 //! The words of a command line.
 
-ghost use Rattle.std.specs.Prelude.{◌≡◌, ◌≢◌, ℕ, ◌≤◌, List, Some, map, IsOk, IfOk, IsErrOf, IfErr};
+ghost use Rattle.std.specs.Prelude.{◌≡◌, ◌≢◌, ℕ, ◌≤◌, List, Some, map, IfOk, IsErrOf, IfErr};
 ghost use Rattle.std.specs.Prelude.{IsTrue, ◌↔◌, false};
 ghost use Rattle.std.specs.List.{list_any};
 ghost use Rattle.std.specs.Fmt.{decimal};
@@ -10,7 +10,7 @@ ghost use Rattle.clap.specs.Words.{fault_of};
 ghost use Rattle.clap.specs.Simple.{shape_of};
 ghost use Rattle.clap.specs.declared.builder.command.Command.TheViews.{out-Command as fields_of};
 ghost use Rattle.sot_commands.specs.Words.{word_of, Asks, HasNumbers, HasFormula, IsNumbered};
-ghost use Rattle.sot_commands.specs.WordParser.{is_dashed, bare, one_value, numbered, watching};
+ghost use Rattle.sot_commands.specs.WordParser.{is_dashed, bare, numbered, watching};
 ghost use Rattle.sot_commands.specs.WordParser.{missions, readers, program};
 
 use clap::error::ErrorKind;

@@ -5,6 +5,7 @@ pub mod Ticks
 pub mod Ranges
 pub mod Reach
 pub mod Tables
+pub mod Names
 pub mod OwnerNames
 pub mod TermRules
 pub mod TermPlaces

@@ -14,7 +14,7 @@ use Rattle.sot_world.specs.Events.{noise_count}
 use Rattle.sot_world.specs.HistoryEntry.{Logged, InputAt, FireAt, DecideAt, TickAt}
 use Rattle.sot_board.specs.Counts.{state_count}
 use Rattle.sot_trace.specs.Numbers.{numeral, numbers}
-use Rattle.sot_trace.specs.Names.{node_name}
+use Rattle.sot_lang.specs.Names.{node_name}
 use Rattle.sot_trace.specs.Drafts.{slot_text, draft_text, slot_refused, draft_refused}
 use Rattle.sot_trace.specs.Moves.{moves_text}
 use Rattle.sot_trace.specs.Lines.{line_of, writes_of, header, firing_word, mode_word, start_lines, end_line, ticks_in, refused_in}

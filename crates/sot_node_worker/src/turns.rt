@@ -90,8 +90,8 @@ pub fn take_turn<'a, C: Controller, R: Wait>(
 }
 
 /// Takes turns until the board is finished; where it is not to begin, none, and the shift comes
-/// back as it was. Before each turn it parks until it is rung for. So that is to be done each time its
-/// node has become due, and once the board is finished; of this no clause speaks.
+/// back as it was. Before each turn it parks until it is rung for. So that is to be done each time
+/// its node has become due, and once the board is finished; of this no clause speaks.
 pub fn work<'a, C: Controller, R: Wait>(
     rt: &R,
     turn: &Turn<Board<'a>>,

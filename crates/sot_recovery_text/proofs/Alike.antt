@@ -16,7 +16,8 @@ use Rattle.sot_law_same_tables.proofs.Seen.{modules_same, nodes_seen_same}
 use Rattle.sot_law_same_ranks.specs.Laws.{LookTheSame}
 use Rattle.sot_law_same_ranks.proofs.Parts.{turned}
 use Rattle.sot_law_same_ranks.proofs.Ranks.{one_answer}
-use Rattle.sot_report.specs.Pieces.{line, module_name, point_text}
+use Rattle.sot_lang.specs.Names.{module_name}
+use Rattle.sot_report.specs.Pieces.{line, point_text}
 use Rattle.sot_report.specs.RefusalTexts.{gap_line}
 use Rattle.sot_recovery_text.specs.Lines.{safe_period, recover_line, recover_lines}
 use Rattle.sot_recovery_text.specs.Recovery.{Recovers, NeverRecovers, AllRecover, FirstNever, SomeNever}

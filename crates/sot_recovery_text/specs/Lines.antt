@@ -3,7 +3,8 @@ use Rattle.std.specs.Prelude.{ℕ, ◌+◌, ◌*◌, List, [], ◌∷◌, ◌++�
 use Rattle.std.specs.Option.{option_map_or}
 use Rattle.std.specs.Fmt.{decimal}
 use Rattle.sot_lang.specs.Tables.{Tables}
-use Rattle.sot_report.specs.Pieces.{line, module_name}
+use Rattle.sot_lang.specs.Names.{module_name}
+use Rattle.sot_report.specs.Pieces.{line}
 
 -- the period of a module's safe node
 abbrev pub safe_period : Tables → ℕ → ℕ

@@ -2,7 +2,8 @@
 use Rattle.std.specs.Prelude.{ℕ, List, ◌++◌, codes}
 use Rattle.std.specs.Fmt.{decimal}
 use Rattle.sot_lang.specs.Tables.{Tables}
-use Rattle.sot_report.specs.Pieces.{line, module_name, point_text}
+use Rattle.sot_lang.specs.Names.{module_name}
+use Rattle.sot_report.specs.Pieces.{line, point_text}
 use Rattle.sot_regions_words.specs.declared.refusal.RegionsRefusal.{RegionsRefusal}
 use Rattle.sot_regions_words.specs.declared.refusal.RegionsRefusal.TheVariants.{Jitter, SafeNone}
 use Rattle.sot_regions_words.specs.declared.refusal.RegionsRefusal.TheVariants.{TooMany, SaferNone}

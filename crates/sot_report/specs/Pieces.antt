@@ -1,29 +1,14 @@
--- Pieces of texts: lines, names by their places, numbers, points and boxes.
-use Rattle.std.specs.Prelude.{ℕ, ℤ, List, [], ◌∷◌, ◌++◌, slice_get, codes}
-use Rattle.std.specs.Option.{option_map_or}
+-- Pieces of texts: lines, numbers, points and boxes.
+use Rattle.std.specs.Prelude.{ℕ, ℤ, List, [], ◌∷◌, ◌++◌, codes}
 use Rattle.std.specs.Fmt.{decimal, signed_decimal}
 use Rattle.sot_text.specs.declared.token.Span.{Span}
 use Rattle.sot_box.specs.Sides.{Side}
-use Rattle.sot_lang.specs.Tables.{Tables}
 use Rattle.sot_lang.specs.declared.trap.TrapKind.{TrapKind}
 use Rattle.sot_lang.specs.declared.trap.TrapKind.TheVariants.{ZeroDivisor, Wide, OutsideRange}
 
 -- a text and a line end (LF)
 abbrev pub line : List ℕ → List ℕ
 line text = text ++ 10 ∷ []
-
--- the name of a module, of a node, of a topic and of a plant, by its place
-abbrev pub module_name : Tables → ℕ → List ℕ
-module_name t m = option_map_or (λ x. x.name) (slice_get t.modules m) []
-
-abbrev pub node_name : Tables → ℕ → List ℕ
-node_name t n = option_map_or (λ x. x.name) (slice_get t.nodes n) []
-
-abbrev pub topic_name : Tables → ℕ → List ℕ
-topic_name t k = option_map_or (λ x. x.name) (slice_get t.topics k) []
-
-abbrev pub plant_name : Tables → ℕ → List ℕ
-plant_name t k = option_map_or (λ x. x.name) (slice_get t.plants k) []
 
 -- a comma and a blank before each further item
 abbrev pub further : {A : Type 0} → (A → List ℕ) → List A → List ℕ

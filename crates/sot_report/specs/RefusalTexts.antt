@@ -7,7 +7,8 @@ use Rattle.sot_lang.specs.Tables.{Tables}
 use Rattle.sot_tube.specs.Refusals.{Refusal, Periods, Outputs, EmptyRegion, ClosedGap, ClosedTrap}
 use Rattle.sot_tube.specs.Refusals.{ClosedLeaves, ReachGap, ReachLeaves, ReachTrap, SharedNode}
 use Rattle.sot_tube.specs.Refusals.{SharedOutput, SharedPlant, ForeignInput, CodeMayTrap, NoCells}
-use Rattle.sot_report.specs.Pieces.{line, module_name, node_name, topic_name, plant_name}
+use Rattle.sot_lang.specs.Names.{module_name, node_name, topic_name, plant_name}
+use Rattle.sot_report.specs.Pieces.{line}
 use Rattle.sot_report.specs.Pieces.{point_text, box_text, place_text, ends_text, trap_word}
 
 abbrev pub region_word : Bool → List ℕ

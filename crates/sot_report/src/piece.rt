@@ -2,7 +2,8 @@
 
 ghost use Rattle.std.specs.Prelude.{◌≡◌, ◌++◌, drop, OnOk};
 ghost use Rattle.std.specs.Fmt.{decimal, signed_decimal};
-ghost use Rattle.sot_report.specs.Pieces.{module_name, node_name, topic_name, plant_name, further};
+ghost use Rattle.sot_lang.specs.Names.{module_name, node_name, topic_name, plant_name};
+ghost use Rattle.sot_report.specs.Pieces.{further};
 ghost use Rattle.sot_report.specs.Pieces.{listed, side_text, point_text, box_text, place_text};
 ghost use Rattle.sot_report.specs.Pieces.{ends_text, trap_word};
 

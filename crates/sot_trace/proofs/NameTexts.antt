@@ -19,7 +19,8 @@ use Rattle.sot_lang.specs.Tables.{Tables}
 use Rattle.sot_lang.specs.TableRules.{MeetsTableRules, declared_names}
 use Rattle.sot_lists.specs.Places.{At}
 use Rattle.sot_lists.proofs.Places.{at_map}
-use Rattle.sot_trace.specs.Names.{topic_name, node_name, module_name, field_part, scalar_name}
+use Rattle.sot_lang.specs.Names.{topic_name, node_name, module_name}
+use Rattle.sot_trace.specs.Names.{field_part, scalar_name}
 use Rattle.sot_trace.specs.Words.{IsWord, AreWords}
 use Rattle.sot_trace.proofs.Splits.{AllIn, Stops, both_in, in_wider, cut_same}
 

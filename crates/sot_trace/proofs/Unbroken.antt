@@ -12,7 +12,8 @@ use Rattle.sot_lists.proofs.Places.{at_below}
 use Rattle.sot_world.specs.declared.mode.Mode.{Mode}
 use Rattle.sot_world.specs.declared.mode.Mode.TheVariants.{Ac, Sc}
 use Rattle.sot_world.specs.HistoryEntry.{Logged, InputAt, FireAt, DecideAt, TickAt}
-use Rattle.sot_trace.specs.Names.{topic_name, node_name, module_name, scalar_name}
+use Rattle.sot_lang.specs.Names.{topic_name, node_name, module_name}
+use Rattle.sot_trace.specs.Names.{scalar_name}
 use Rattle.sot_trace.specs.Numbers.{numeral, signed_numeral, numbers}
 use Rattle.sot_trace.specs.Drafts.{is_in_range, mark, slot_text, draft_text}
 use Rattle.sot_trace.specs.Moves.{move_text, moves_text}

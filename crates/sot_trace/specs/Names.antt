@@ -1,16 +1,8 @@
--- The names that a trace prints, by the places of what they name.
+-- The names of scalars that a trace prints, by their places.
 use Rattle.std.specs.Prelude.{ℕ, List, [], ◌++◌, Option, Some, None, slice_get, codes}
 use Rattle.std.specs.Option.{option_map_or}
 use Rattle.sot_lang.specs.Tables.{Tables}
-
-abbrev pub topic_name : Tables → ℕ → List ℕ
-topic_name p t = option_map_or (λ x. x.name) (slice_get p.topics t) []
-
-abbrev pub node_name : Tables → ℕ → List ℕ
-node_name p n = option_map_or (λ x. x.name) (slice_get p.nodes n) []
-
-abbrev pub module_name : Tables → ℕ → List ℕ
-module_name p m = option_map_or (λ x. x.name) (slice_get p.modules m) []
+use Rattle.sot_lang.specs.Names.{topic_name}
 
 -- a point and the name of a field; a topic that is one number has none
 abbrev pub field_part : Option (List ℕ) → List ℕ

@@ -2,7 +2,8 @@
 
 ghost use Rattle.std.specs.Prelude.{◌≡◌, ◌<◌, ◌++◌, length, OnOk};
 ghost use Rattle.std.specs.String.{string_bytes};
-ghost use Rattle.sot_trace.specs.Names.{topic_name, node_name, module_name, field_part};
+ghost use Rattle.sot_lang.specs.Names.{topic_name, node_name, module_name};
+ghost use Rattle.sot_trace.specs.Names.{field_part};
 ghost use Rattle.sot_trace.specs.Names.{scalar_name};
 
 use sot_lang::Typed;

@@ -8,7 +8,8 @@ use Rattle.sot_lists.specs.Places.{At}
 use Rattle.sot_lists.proofs.Places.{drop_at}
 use Rattle.sot_world.specs.HistoryEntry.{Logged, InputAt, FireAt, DecideAt, TickAt}
 use Rattle.sot_trace.specs.Numbers.{numeral, signed_numeral, further, numbers}
-use Rattle.sot_trace.specs.Names.{topic_name, node_name, module_name, scalar_name}
+use Rattle.sot_lang.specs.Names.{topic_name, node_name, module_name}
+use Rattle.sot_trace.specs.Names.{scalar_name}
 use Rattle.sot_trace.specs.Drafts.{is_in_range, mark, slot_text, draft_text}
 use Rattle.sot_trace.specs.Moves.{move_text, moves_text}
 use Rattle.sot_trace.specs.Lines.{writes_of, firing_word, mode_word, line_of}

@@ -15,7 +15,7 @@ use Rattle.sot_lang.specs.declared.tables.ModuleInfo.{ModuleInfo}
 use Rattle.sot_lang.specs.Tables.{Tables}
 use Rattle.sot_world.specs.declared.mode.Mode.{Mode}
 use Rattle.sot_world.specs.declared.mode.Mode.TheVariants.{Ac, Sc}
-use Rattle.sot_trace.specs.Names.{topic_name, node_name, module_name}
+use Rattle.sot_lang.specs.Names.{topic_name, node_name, module_name}
 use Rattle.sot_trace.specs.Numbers.{numeral, numbers}
 use Rattle.sot_trace.specs.Moves.{moves_text}
 use Rattle.sot_trace.specs.Lines.{writes_of, firing_word, mode_word}

@@ -5,7 +5,8 @@ use Rattle.sot_lang.specs.declared.tables.PlantInfo.{PlantInfo}
 use Rattle.sot_lang.specs.Tables.{Tables}
 use Rattle.sot_world.specs.HistoryEntry.{Logged, InputAt, FireAt, DecideAt, TickAt}
 use Rattle.sot_trace.specs.Numbers.{numeral, signed_numeral}
-use Rattle.sot_trace.specs.Names.{topic_name, node_name, module_name, scalar_name}
+use Rattle.sot_lang.specs.Names.{topic_name, node_name, module_name}
+use Rattle.sot_trace.specs.Names.{scalar_name}
 use Rattle.sot_trace.specs.Drafts.{is_in_range, mark}
 use Rattle.sot_trace.specs.Lines.{writes_of, firing_word, mode_word}
 use Rattle.sot_trace_lines.specs.Pieces.{◌>>=◌, behind}

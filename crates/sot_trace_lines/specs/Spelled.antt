@@ -8,7 +8,8 @@ use Rattle.sot_lang.specs.Tables.{Tables}
 use Rattle.sot_world.specs.declared.mode.Mode.{Mode}
 use Rattle.sot_world.specs.Events.{noise_count}
 use Rattle.sot_board.specs.Counts.{state_count}
-use Rattle.sot_trace.specs.Names.{topic_name, node_name, module_name, scalar_name}
+use Rattle.sot_lang.specs.Names.{topic_name, node_name, module_name}
+use Rattle.sot_trace.specs.Names.{scalar_name}
 use Rattle.sot_trace.specs.Numbers.{numeral, signed_numeral, numbers}
 use Rattle.sot_trace.specs.Drafts.{mark}
 use Rattle.sot_trace.specs.Moves.{moves_text}

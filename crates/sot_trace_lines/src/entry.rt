@@ -8,7 +8,7 @@ ghost use Rattle.sot_world.specs.HistoryEntry.{InputAt, FireAt, DecideAt, TickAt
 ghost use Rattle.sot_world.specs.Events.{noise_count};
 ghost use Rattle.sot_board.specs.Counts.{state_count};
 ghost use Rattle.sot_trace.specs.Numbers.{numeral, signed_numeral};
-ghost use Rattle.sot_trace.specs.Names.{topic_name, node_name, module_name};
+ghost use Rattle.sot_lang.specs.Names.{topic_name, node_name, module_name};
 ghost use Rattle.sot_trace.specs.Drafts.{mark};
 ghost use Rattle.sot_trace.specs.Lines.{line_of, writes_of, firing_word, mode_word};
 ghost use Rattle.sot_trace.specs.Fitting.{FitsEntry};

@@ -21,10 +21,10 @@ use Rattle.sot_rules.specs.Fails.{sc_unknown, module_times, plant_unknown, plant
 use Rattle.sot_rules.specs.First.{IsFaultless}
 use Rattle.sot_tree.specs.Formed.{IsFormed, IsDeclaration, HasItem}
 use Rattle.sot_rules.specs.Faults.{declaration_faults, program_lists, faults}
-use Rattle.sot_rules.specs.Lists.{IsPast, are_same, places}
+use Rattle.sot_rules.specs.Lists.{are_same}
 use Rattle.sot_rules.specs.Names.{declared_name, meaning, is_topic, is_plant, is_node}
 use Rattle.sot_rules.specs.Sorts.{state_sort}
-use Rattle.sot_rules.specs.Tests.{form_scalars, form_names, topic_name, plant_name, node_name, module_name, side_sorts}
+use Rattle.sot_rules.specs.Tests.{form_scalars, topic_name, plant_name, node_name, module_name, side_sorts}
 use Rattle.sot_typing.specs.Terms.{sort_scale}
 use Rattle.sot_typing.specs.Resolved.{a_topic_of, a_plant_of, a_node_of, a_module_of, topics, scalar_count, state_count, side_of}
 use Rattle.sot_typing.specs.Parts.{StateFits, FieldFits, LocalFits, FormFits, SideFits, AreaFits}
@@ -40,6 +40,7 @@ use Rattle.sot_typing.proofs.Ranges.{scalar_is}
 use Rattle.sot_typing.proofs.Times.{times_are}
 use Rattle.sot_typing.proofs.Topics.{as_many}
 use Rattle.sot_typing.proofs.PlantFacts.{state_known, few}
+use Rattle.sot_typing.proofs.ScalarFacts.{few_scalars}
 use Rattle.sot_typing.proofs.ModuleFacts.{boxes_are}
 
 -- what holds of each item
@@ -60,10 +61,6 @@ shape_fits (fields fs) none =
     (λ f h. record {
       scale = (scalar_is true f.scalar (λ at k x. none f.scalar at k (h.0, at_map (λ (f : Field). f.scalar) fs h.0 f h.1) x)).scale;
     })
-
-few_scalars : (s : Form) → ((at : Span) → IsPast 8 (places (form_names s)) at → ⊥) → length (form_scalars s) ≤ 8
-few_scalars (one s) none = omega arith
-few_scalars (fields fs) none = (let a = few 8 (λ (f : Field). f.name) fs none in let b = length-map fs (λ (f : Field). f.scalar) in omega arith)
 
 -- regions
 ordered_all : (sides : List Bounds) → AreOrdered (map side_of sides) → All SideFits sides

@@ -47,7 +47,7 @@ some_scalar (one s) f = omega arith
 some_scalar (fields []) f = absurd f.0
 some_scalar (fields (x ∷ fs)) f = omega arith
 
-few_scalars : (s : Form) → ((at : Span) → IsPast 8 (places (form_names s)) at → ⊥) → length (form_scalars s) ≤ 8
+pub few_scalars : (s : Form) → ((at : Span) → IsPast 8 (places (form_names s)) at → ⊥) → length (form_scalars s) ≤ 8
 few_scalars (one s) h = omega arith
 few_scalars (fields fs) h =
     let a = not_past 8 (λ i. i.at) (map (λ (f : Field). f.name) fs) h in

@@ -1,4 +1,5 @@
--- The workers of the nodes that no guest flies, while a flight is flown, and what comes back of them.
+-- The workers of the nodes that no guest flies, while a flight is flown, and what comes back of
+-- them.
 use Rattle.std.specs.Prelude.{ℕ, ◌≡◌, Bool, true, false, List, Option, None, Some}
 use Rattle.atomic_table.specs.Seated.{TableId}
 use Rattle.sot_tube.specs.Admitted.{Admitted}

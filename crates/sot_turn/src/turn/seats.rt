@@ -13,7 +13,7 @@ use std::sync::Wait;
 use std::thread;
 
 // A waiting thread looks so often before it sleeps: most turns are given back within a microsecond.
-const LOOKS: u32 = 100;
+const LOOKS: u32 = 1000;
 
 // A thread sleeps on the low 32 bits of a word.
 const WORD: u64 = 1 << 32;
