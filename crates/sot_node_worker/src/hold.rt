@@ -16,7 +16,7 @@ ghost use Rattle.sot_board.specs.NodeSorts.{IsCodedNode, IsExternalNode};
 ghost use Rattle.sot_node_worker.specs.Holds.{HasNode, IsDueView, IsSeen, Appends, HasFired};
 
 use crate::bells::Bells;
-use crate::order::ring_next;
+use crate::order::{Follower, ring_for, who_follows};
 use crate::take::{append, stop, take_in_step, take_next};
 use sot_board::{Board, Commit, Receipt, View};
 use sot_code::{Fired, run_node};
@@ -48,23 +48,30 @@ pub(crate) fn fire_stated<'a, R: Wait>(
     ensures drafts { drafts.new.items ≡ drafts_of node (pass_seen result) }
 {
     let mut held = take_next(rt, turn, bells, pass, node, drafts);
-    let receipt = commit_stated(rt, held.lend(), bells, node);
+    let (receipt, follower) = commit_stated(rt, held.lend(), bells, node);
     append(rt, drafts, receipt.draft);
-    turn.give(held)
+    let pass = turn.give(held);
+    ring_for(bells, follower);
+    pass
 }
 
-fn commit_stated<R: Wait>(rt: &R, board: &mut Board<'_>, bells: &Bells, node: u32) -> Receipt
+// Commits it, and says who goes on.
+fn commit_stated<R: Wait>(
+    rt: &R,
+    board: &mut Board<'_>,
+    bells: &Bells,
+    node: u32,
+) -> (Receipt, Follower)
     requires there { node < length board.old.accepted.program.nodes }
     requires external { IsExternalNode board.old.accepted.program node }
     requires no_guest { (i : ℕ) → At board.old.plan.crews node (plans.Guest i) → ⊥ }
-    ensures { Appends board.old board.new node result.draft }
+    ensures { Appends board.old board.new node result.0.draft }
 {
     if !board.due(node) {
         stop(rt);
     }
     let receipt = board.commit_stated(node);
-    ring_next(board, bells);
-    receipt
+    (receipt, who_follows(board, bells))
 }
 
 /// A coded node fires with what its code gives on the view, or on the present numbers where what it
@@ -93,9 +100,11 @@ pub(crate) fn fire_code<'a, R: Wait>(
 {
     let fired = run(p, &view);
     let mut held = take_next(rt, turn, bells, pass, view.node(), drafts);
-    let receipt = commit_run(rt, held.lend(), bells, view, &fired);
+    let (receipt, follower) = commit_run(rt, held.lend(), bells, view, &fired);
     append(rt, drafts, receipt.draft);
-    turn.give(held)
+    let pass = turn.give(held);
+    ring_for(bells, follower);
+    pass
 }
 
 // What the code of a view's node gives on it.
@@ -112,26 +121,25 @@ fn run(p: &Typed, view: &View) -> Fired
     fired
 }
 
-// Commits it, or fires anew where the view is an older one.
+// Commits it, or fires anew where the view is an older one, and says who goes on.
 fn commit_run<R: Wait>(
     rt: &R,
     board: &mut Board<'_>,
     bells: &Bells,
     view: View,
     fired: &Fired,
-) -> Receipt
+) -> (Receipt, Follower)
     requires there { viewed_node view < length board.old.accepted.program.nodes }
     requires coded { IsCodedNode board.old.accepted.program (viewed_node view) }
     requires taken { IsTakenFrom board.old view }
     requires ran { IsRunOn board.old.accepted.program view fired.now }
-    ensures { Appends board.old board.new (viewed_node view) result.draft }
+    ensures { Appends board.old board.new (viewed_node view) result.0.draft }
 {
     if !board.due(view.node()) {
         stop(rt);
     }
     let receipt = commit_or_fire(board, view, fired);
-    ring_next(board, bells);
-    receipt
+    (receipt, who_follows(board, bells))
 }
 
 fn commit_or_fire(board: &mut Board<'_>, view: View, fired: &Fired) -> Receipt

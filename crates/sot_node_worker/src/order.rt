@@ -34,17 +34,32 @@ pub(crate) fn is_next(board: &Board<'_>, node: u32) -> bool {
     next_to_fire(board) == Some(node)
 }
 
-/// Rings for who goes on after a firing: the worker of the node that fires next, where that has a
-/// thread, and else the caller.
-pub(crate) fn ring_next(board: &Board<'_>, bells: &Bells) {
+/// Who goes on after a firing: the worker of the node that fires next, where that has a thread, and
+/// else the caller.
+#[derive(Clone, Copy, Debug, PartialEq, Eq)]
+pub(crate) enum Follower {
+    Worker(u32),
+    Caller,
+}
+
+/// Who goes on after a firing.
+pub(crate) fn who_follows(board: &Board<'_>, bells: &Bells) -> Follower {
     match next_to_fire(board) {
         Some(node) => {
             if bells.is_out(node) {
-                bells.ring_next(node);
+                Follower::Worker(node)
             } else {
-                bells.ring_caller();
+                Follower::Caller
             }
         }
-        None => bells.ring_caller(),
+        None => Follower::Caller,
+    }
+}
+
+/// Rings for who goes on. The turn is given back before: who wakes wants it at once.
+pub(crate) fn ring_for(bells: &Bells, follower: Follower) {
+    match follower {
+        Follower::Worker(node) => bells.ring_next(node),
+        Follower::Caller => bells.ring_caller(),
     }
 }

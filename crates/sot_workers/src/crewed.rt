@@ -79,7 +79,7 @@ fn fly_in<'s, 'a: 's, E, C: Controller + Send + 's, R: Threads + Wait + Sync>(
     let Leaving { pass, room } = leaving;
     let Room {
         mut lists,
-        mut rung,
+        mut rings,
         few,
         long,
         stations,
@@ -101,7 +101,7 @@ fn fly_in<'s, 'a: 's, E, C: Controller + Send + 's, R: Threads + Wait + Sync>(
         bells,
         away.as_slice(),
         long.as_slice(),
-        rung.as_mut_slice(),
+        &mut rings,
         pass,
         &mut lists,
         &mut places,

@@ -16,6 +16,7 @@ mod lists;
 mod own;
 mod place;
 mod relief;
+mod rings;
 mod room;
 mod rule;
 mod seat;

@@ -6,6 +6,7 @@ ghost use Rattle.sot_workers.specs.Rooms.{HasRoom};
 
 use crate::lists::{NodeList, no_lists};
 use crate::place::{Done, Place, Station};
+use crate::rings::Rings;
 use crate::rule::{are_few, long_each};
 use sot_flight::Flight;
 use sot_lang::Typed;
@@ -17,7 +18,7 @@ use std::alloc::{AllocError, Global};
 #[derive(Drop)]
 pub(crate) struct Room<'a, C: Controller> {
     pub(crate) lists: Vec<NodeList>,
-    pub(crate) rung: Vec<u32>,
+    pub(crate) rings: Rings,
     pub(crate) few: bool,
     pub(crate) long: Vec<bool>,
     pub(crate) stations: Vec<Station<'a, C>>,
@@ -44,7 +45,7 @@ pub(crate) fn room_for<'a, C: Controller>(
     let nodes = p.nodes.len();
     Ok(Room {
         lists: no_lists(alloc, p, flight.horizon())?,
-        rung: Vec::from_elem(alloc, 0, nodes)?,
+        rings: Rings::new(alloc, nodes)?,
         few: are_few(p, flight),
         long: long_each(alloc, p)?,
         stations: Vec::with_capacity(alloc, nodes)?,

@@ -15,49 +15,11 @@ ghost use Rattle.sot_workers.specs.Sent.{IsCallers, IsPlaced};
 use crate::lists::NodeList;
 use crate::own::{compare, work_on};
 use crate::place::Place;
+use crate::rings::Rings;
 use sot_board::Board;
-use sot_node_worker::{Bells, Controller, next_to_fire, take_turn};
+use sot_node_worker::{Bells, Controller, take_turn};
 use sot_turn::{Pass, Turn};
 use std::sync::Wait;
-
-// Whether the worker of a node, in a thread, is to be rung for: its node is left, a guest flies it
-// or its body is long, and it was not rung for this firing; or a guest flies it, and the flight is
-// at its end.
-fn is_to_ring(board: &Board<'_>, long: &[bool], rung: &mut [u32], node: u32, finished: bool) -> bool
-    requires { node < length board.now.accepted.program.nodes }
-{
-    board.reveal_invariant();
-    let place = node as usize;
-    let is_long = place < long.len() && long[place];
-    let is_guest = board.flight().guest(node).is_some();
-    if finished {
-        return is_guest;
-    }
-    if !board.due(node) || !(is_long || is_guest) {
-        return false;
-    }
-    let next = board.fired(node).saturating_add(1);
-    if place >= rung.len() || rung[place] == next {
-        return false;
-    }
-    rung[place] = next;
-    true
-}
-
-// Rings for the workers of guests and of long bodies whose nodes are left, once a firing, for the
-// one whose node fires next, and at the end of the flight for all guests'. For a node of the
-// caller's own nobody hears it.
-fn ring_due(board: &Board<'_>, bells: &Bells, long: &[bool], rung: &mut [u32]) {
-    let finished = board.finished();
-    for node in 0..board.typed().nodes.len() as u32 {
-        if is_to_ring(board, long, rung, node, finished) {
-            bells.ring(node);
-        }
-    }
-    if let Some(node) = next_to_fire(board) {
-        bells.ring_next(node);
-    }
-}
 
 // All that the caller does in one turn. It answers whether the flight is at its end.
 fn work_in_turn<R: Wait>(
@@ -66,7 +28,7 @@ fn work_in_turn<R: Wait>(
     bells: &Bells,
     away: &[bool],
     long: &[bool],
-    rung: &mut [u32],
+    rings: &mut Rings,
     lists: &mut Vec<NodeList>,
 ) -> bool
     requires { (seen : List Logged) × IsPrefix seen board.old.entries
@@ -79,12 +41,12 @@ fn work_in_turn<R: Wait>(
 {
     compare(rt, board, away, lists);
     work_on(rt, board, bells, away, lists);
-    ring_due(board, bells, long, rung);
+    rings.note(board, long);
     board.reveal_invariant();
     board.finished()
 }
 
-// One turn of the caller. It answers whether the flight is at its end.
+// One turn of the caller, and the rings after it. It answers whether the flight is at its end.
 fn take_own_turn<'a, R: Wait>(
     rt: &R,
     turn: &Turn<Board<'a>>,
@@ -92,7 +54,7 @@ fn take_own_turn<'a, R: Wait>(
     bells: &Bells,
     away: &[bool],
     long: &[bool],
-    rung: &mut [u32],
+    rings: &mut Rings,
     lists: &mut Vec<NodeList>,
 ) -> (Pass<Board<'a>>, bool)
     requires lock { pass_lock pass ≡ lock_of turn.now }
@@ -107,8 +69,10 @@ fn take_own_turn<'a, R: Wait>(
         → FlownBy a.program a.cert.jitter f (pass_seen result.0) }
 {
     let mut held = turn.take(rt, pass);
-    let finished = work_in_turn(rt, held.lend(), bells, away, long, rung, lists);
-    (turn.give(held), finished)
+    let finished = work_in_turn(rt, held.lend(), bells, away, long, rings, lists);
+    let pass = turn.give(held);
+    rings.ring(bells);
+    (pass, finished)
 }
 
 // A guest's shift that could not be started takes one turn. It answers whether its node has fired.
@@ -166,7 +130,7 @@ pub(crate) fn watch<'a, C: Controller, R: Wait>(
     bells: &Bells,
     away: &[bool],
     long: &[bool],
-    rung: &mut [u32],
+    rings: &mut Rings,
     pass: Pass<Board<'a>>,
     lists: &mut Vec<NodeList>,
     places: &mut Vec<Place<'a, C>>,
@@ -188,7 +152,7 @@ pub(crate) fn watch<'a, C: Controller, R: Wait>(
 {
     let mut pass = pass;
     for _ in rt.forever() {
-        let (back, finished) = take_own_turn(rt, turn, pass, bells, away, long, rung, lists);
+        let (back, finished) = take_own_turn(rt, turn, pass, bells, away, long, rings, lists);
         pass = back;
         if finished {
             return pass;

@@ -55,17 +55,17 @@ returns-clause-fired g c =
     let b = c.lend.result.now in
     let known = pass_seen c.args.pass in
     let value = c.lend.ensures.value in
-    let draft = c.commit_run-receipt.result.draft in
+    let draft = c.commit_run-receipt.result.0.draft in
     let on : IsPrefix known b.entries = subst (λ x. IsPrefix known x.entries) (sym value) c.take_next-held.ensures.goes_on in
     let step : drafts_of n b.entries ≡ drafts_of n known = ap (λ x. drafts_of n x.entries) value
     ∙ ap (λ k. drafts_of k (held_value c.take_next-held.result).entries) (sym c.node.ensures) ∙ c.take_next-held.ensures.in_step
     ∙ c.requires.drafts in
-    let gave : pass_added c.give.result ≡ pass_added c.args.pass ++ behind b.entries c.commit_run-receipt.new.board.entries =
-    c.give.ensures.added ∙ ap₂ (λ l es. l ++ behind es c.commit_run-receipt.new.board.entries) c.take_next-held.ensures.added
+    let gave : pass_added c.give-pass.result ≡ pass_added c.args.pass ++ behind b.entries c.commit_run-receipt.new.board.entries =
+    c.give-pass.ensures.added ∙ ap₂ (λ l es. l ++ behind es c.commit_run-receipt.new.board.entries) c.take_next-held.ensures.added
     (c.take_next-held.ensures.seen ∙ ap (λ x. x.entries) (sym value)) in (
       draft,
-      subst (λ es. HasFired n draft known es (pass_added c.args.pass) (pass_added c.give.result)) (sym c.give.ensures.seen)
-          (has_fired known b c.commit_run-receipt.new.board n draft (pass_added c.args.pass) (pass_added c.give.result) on step c.commit_run-receipt.ensures
+      subst (λ es. HasFired n draft known es (pass_added c.args.pass) (pass_added c.give-pass.result)) (sym c.give-pass.ensures.seen)
+          (has_fired known b c.commit_run-receipt.new.board n draft (pass_added c.args.pass) (pass_added c.give-pass.result) on step c.commit_run-receipt.ensures
           gave),
     )
 
@@ -73,8 +73,8 @@ pub returns-clause-drafts : goal.returns-clause-drafts
 returns-clause-drafts g c =
     let n = viewed_node c.args.view in
     let b = c.lend.result.now in
-    let draft = c.commit_run-receipt.result.draft in
+    let draft = c.commit_run-receipt.result.0.draft in
     let was = ap (λ x. drafts_of n x.entries) c.lend.ensures.value ∙ ap (λ k. drafts_of k (held_value c.take_next-held.result).entries) (sym c.node.ensures)
     ∙ c.take_next-held.ensures.in_step in
     let now = noted b c.commit_run-receipt.new.board n draft c.commit_run-receipt.ensures in
-    c.append.ensures ∙ ap (λ l. l ++ draft ∷ []) (sym was) ∙ sym now ∙ ap (drafts_of n) (sym c.give.ensures.seen)
+    c.append.ensures ∙ ap (λ l. l ++ draft ∷ []) (sym was) ∙ sym now ∙ ap (drafts_of n) (sym c.give-pass.ensures.seen)
