@@ -12,6 +12,7 @@ use Rattle.sot_tree.specs.Trees.{Tree, number, binary, rest, negated, denied, ch
 use Rattle.sot_expression.specs.Lexemes.{IsSign, IsNumber, literal, negative_literal}
 use Rattle.sot_parser.specs.Pieces.{LiteralForm, plain, negative, spelled_literal, literal_of}
 use Rattle.sot_expression.specs.Operators.{tier_of_op}
+use Rattle.sot_expression.proofs.FirstTokens.{some_tier}
 use Rattle.sot_expression.specs.Phrases.{Phrase, a_number, a_truth, a_name, a_field, a_group, an_abs, a_pair, a_clamp, a_rescale, a_minus, a_rest, a_join}
 use Rattle.sot_expression.specs.Phrases.{a_not, an_if, spelled, IsOperator, IsPhrase, with_minus, tree_of, is_numeral, levels_of}
 use Rattle.sot_print.specs.declared.gap.Gap.{Gap}
@@ -41,20 +42,6 @@ operator_word Equal t kind text = record { kind = kind; text_is = text }
 operator_word NotEqual t kind text = record { kind = kind; text_is = text }
 operator_word And t kind text = record { kind = kind; text_is = text }
 operator_word Or t kind text = record { kind = kind; text_is = text }
-
-some_tier : (op : Op) → 0 < tier_of_op op
-some_tier Add = omega arith
-some_tier Sub = omega arith
-some_tier Mul = omega arith
-some_tier Div = omega arith
-some_tier Less = omega arith
-some_tier LessEqual = omega arith
-some_tier Greater = omega arith
-some_tier GreaterEqual = omega arith
-some_tier Equal = omega arith
-some_tier NotEqual = omega arith
-some_tier And = omega arith
-some_tier Or = omega arith
 
 join_again : (op : Op) (f : Phrase) (t : Lexeme) (g : Phrase) → KeptPhrase f → KeptPhrase g
     → (gap : Gap) (ts us : List Lexeme) → Takes ts (expression_words (tree_of (a_join op f t g)) gap) us → Rewritten (a_join op f t g) ts us

@@ -22,7 +22,8 @@ use Rattle.sot_board.specs.Flown.{Tells}
 use Rattle.sot_law_flights.specs.Laws.{TellOf}
 use Rattle.sot_scene.specs.Scenes.{Scene, scene_of, opening, after, scene_after, moments, first_of}
 use Rattle.sot_scene.specs.Laws.{moments_of, ScenesAreTheRuns}
-use Rattle.sot_scene.proofs.Widths.{moved_width, points_back}
+use Rattle.sot_summary.proofs.Inside.{points_back}
+use Rattle.sot_scene.proofs.Widths.{moved_width}
 
 pub same_scene : (s t : Scene) → s.modes ≡ t.modes → s.scalars ≡ t.scalars → s.points ≡ t.points → s ≡ t
 same_scene s t a b c = ap (λ (x : List Mode). scene x s.scalars s.points) a ∙ ap (λ (x : List ℤ). scene t.modes x s.points) b

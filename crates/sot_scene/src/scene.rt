@@ -6,11 +6,11 @@ ghost use Rattle.sot_world.specs.Histories.{entry_of};
 ghost use Rattle.sot_trace.specs.Fitting.{FitsEntry};
 ghost use Rattle.sot_scene.specs.Scenes.{opening, after, IsSceneOf};
 
-use crate::parts::{initial_scalars, publish_if, put_points, safe_modes, write};
+use crate::points::put_points;
 use sot_box::Point;
 use sot_lang::Typed;
 use sot_trace::writes_of;
-use sot_world::{Entry, Mode};
+use sot_world::{Entry, Mode, initial_scalars, publish_if, safe_modes, write};
 use std::alloc::{AllocError, Global};
 use std::marker::Model;
 

@@ -36,7 +36,7 @@ region_width (b ∷ bs) n s each (inl w) = within_length b s w ∙ each 0 b refl
 region_width (b ∷ bs) n s each (inr r) = region_width bs n s (λ i c at. each (suc i) c at) r
 
 -- points that were put one after another are cut into the same points
-points_back : (plants : List PlantInfo) (points : List (List ℤ)) → length points ≡ length plants
+pub points_back : (plants : List PlantInfo) (points : List (List ℤ)) → length points ≡ length plants
     → ((k : ℕ) (plant : PlantInfo) → At plants k plant → length (slice_index_or points k []) ≡ length plant.states.items)
     → points_in plants (joined points) ≡ points
 points_back [] [] same each = refl

@@ -33,7 +33,9 @@ pub use facts::{
     disabled_nodes_publish_nothing, line_decides, line_fires, line_is_safe, line_opens,
     line_switches, line_ticks, relay_takes_inputs, some_are_not_safe, twins_step,
 };
+pub use fire::publish_if;
 pub use history::{Entry, History};
+pub use input::write;
 pub use laws::{
     certified_runs_are_safe, firings_publish_what_is_drafted, possible_is_what_has_a_step,
     runs_keep_the_invariant, something_can_happen, steps_are_unique, steps_keep_the_invariant,
@@ -43,4 +45,5 @@ pub use looks::is_in_bounds;
 pub use mode::Mode;
 pub use open_fail::OpenFail;
 pub use outcome::{Firing, Outcome, Why};
+pub use starts::{initial_scalars, safe_modes};
 pub use world::World;

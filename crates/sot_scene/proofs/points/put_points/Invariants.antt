@@ -1,7 +1,7 @@
 use Rattle.std.proofs.Common.{◌≡◌, ℕ, ◌<◌, [], drop, length, slice_index_or}
 use Rattle.sot_board.specs.Counts.{state_count}
 use Rattle.sot_summary.specs.Outside.{points_in}
-use Rattle.sot_scene.proofs.parts.put_points.Given as goal
+use Rattle.sot_scene.proofs.points.put_points.Given as goal
 
 -- the plants before this one have their points, and the rest of the states is for those from here on
 abbrev pub invariant-loop-k : goal.invariant-loop-k

@@ -8,7 +8,7 @@ use Rattle.sot_lang.specs.declared.tables.PlantInfo.{PlantInfo}
 use Rattle.sot_world.proofs.Parts.{set_more}
 use Rattle.sot_summary.specs.Outside.{points_in}
 use Rattle.sot_scene.proofs.Writing.{states_from, cut_step, points_count}
-use Rattle.sot_scene.proofs.parts.put_points.Goals as goal
+use Rattle.sot_scene.proofs.points.put_points.Goals as goal
 
 pub loop-k-preserved : goal.loop-k-preserved
 loop-k-preserved c =
