@@ -6,13 +6,10 @@ use Rattle.std.proofs.Common.{Global}
 use Rattle.sot_ports.specs.Faults.{Rose}
 use Rattle.sot_ports.specs.Outside.{Outside, Writes, WritesPart}
 use Rattle.sot_ports.specs.Whole.{ReadsAll, ReadsCount}
+use Rattle.sot_answers.specs.Texts.{input_limit, long_text}
 use Rattle.sot_bridge_input.specs.Words.{Asks}
 use Rattle.sot_bridge.specs.Answers.{Accepts, Refutes, Rejects, Replies}
-use Rattle.sot_bridge.specs.Texts.{usage_text, long_text}
-
--- the most bytes of an input: 16 MiB
-abbrev pub input_limit : ℕ
-input_limit = 16777216
+use Rattle.sot_bridge.specs.Texts.{usage_text}
 
 -- the words ask for a bridge, or for none
 abbrev pub AskSome : List (String Global) → Type 0

@@ -11,6 +11,7 @@ use Rattle.sot_flight.specs.Plans.{Plan}
 use Rattle.sot_flight.specs.Relayed.{Send, relayed}
 use Rattle.sot_board.specs.Flown.{FlownBy}
 use Rattle.sot_trace.specs.Traces.{trace_text}
+use Rattle.sot_answers.specs.Texts.{input_limit, long_text}
 use Rattle.sot_bridge_input.specs.Words.{Asks}
 use Rattle.sot_bridge_sends.specs.Sends.{sends_of}
 use Rattle.sot_bridge.specs.declared.joining.JoinFault.{JoinFault}
@@ -18,8 +19,8 @@ use Rattle.sot_bridge.specs.declared.joining.JoinFault.TheVariants as kinds
 use Rattle.sot_bridge.specs.Answers.{Side, IsAccepted, Starts, RefusesOne, AreFlown, Replies}
 use Rattle.sot_bridge.specs.Answers.{Joins, DoNotJoin, IsRefused, IsOutside, IsOutsideOf}
 use Rattle.sot_bridge.specs.Answers.{of_a, of_b}
-use Rattle.sot_bridge.specs.Ends.{AskSome, AskNone, input_limit}
-use Rattle.sot_bridge.specs.Texts.{usage_text, long_text, kind_text}
+use Rattle.sot_bridge.specs.Ends.{AskSome, AskNone}
+use Rattle.sot_bridge.specs.Texts.{usage_text, kind_text}
 
 -- the second flight is long enough, and has room for so many sends of so many numbers each
 pub record HasRoom (f g : Plan) (delay most count : ℕ) : Type 0 where

@@ -6,9 +6,6 @@ use Rattle.sot_bridge.specs.declared.joining.JoinFault.TheVariants as kinds
 abbrev pub usage_text : List ℕ
 usage_text = codes "usage: soter_bridge TOPIC_A TOPIC_B DELAY\n"
 
-abbrev pub long_text : List ℕ
-long_text = codes "fault input above 16777216 bytes\n"
-
 -- there is no line `%bridge`
 abbrev pub section_text : List ℕ
 section_text = codes "fault bridge Section\n"

@@ -8,18 +8,12 @@ ghost use Rattle.sot_report.specs.FaultTexts.{fault_text};
 ghost use Rattle.sot_report.specs.RefusalTexts.{refusal_text};
 ghost use Rattle.sot_bridge.specs.Answers.{word_of, IsOutsideOf};
 
+use sot_answers::Answer;
 use sot_flight::Flight;
 use sot_lang::Typed;
 use sot_report::{Fault, start_text};
 use sot_rta::Refusal;
 use std::alloc::{AllocError, Global};
-
-/// A status, and the text that is written with it.
-#[derive(Drop)]
-pub struct Answer {
-    pub status: u8,
-    pub text: Vec<u8>,
-}
 
 /// Which of the two missions a line is about.
 #[derive(Clone, Copy, Debug, PartialEq, Eq)]
@@ -35,17 +29,6 @@ fn word_of(which: Which) -> &'static str
         Which::A => "a ",
         Which::B => "b ",
     }
-}
-
-/// A text that is always the same.
-pub fn fixed(alloc: Global, status: u8, text: &str) -> Result<Answer, AllocError>
-    ensures status { IfOk result (λ answer. answer.status ≡ status) }
-    ensures text { IfOk result (λ answer. answer.text.items ≡ text.now) }
-{
-    Ok(Answer {
-        status,
-        text: Vec::from_slice(alloc, text.as_bytes())?,
-    })
 }
 
 // A line about one of the two.

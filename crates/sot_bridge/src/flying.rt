@@ -15,9 +15,10 @@ ghost use Rattle.sot_bridge.specs.Sides.{side_of, side_with};
 ghost use Rattle.sot_bridge.specs.Steps.{IsFirstFlown, SaysRelayed, SaysSecond};
 ghost use Rattle.sot_bridge.specs.Steps.{JudgesFlights, JudgesSecond, JudgesBoth};
 
-use crate::answer::{Answer, Which, outside, refused};
+use crate::answer::{Which, outside, refused};
 use crate::joining::Joint;
 use crate::side::Side;
+use sot_answers::Answer;
 use sot_board::Board;
 use sot_bridge_sends::board_sends;
 use sot_compose::check_all;

@@ -12,11 +12,10 @@ mod joining;
 mod program;
 mod reply;
 mod side;
-mod status;
 mod top;
 
 pub use joining::JoinFault;
 pub use program::run;
+pub use sot_answers::Status;
 pub use sot_ports::{Process, Sink, Source, StdSink, StdSource};
-pub use status::Status;
 pub use top::bridge;

@@ -1,11 +1,12 @@
 //! The program, over real words, source and sink.
 
 use crate::top::bridge;
+use sot_answers::words_of;
 use sot_ports::{Process, StdSink, StdSource};
 use std::alloc::Global;
 use std::env::Args;
 use std::io;
-use std::io::{ErrorKind, Stdin, Stdout};
+use std::io::{Stdin, Stdout};
 use std::process::ExitCode;
 use std::thread::Threads;
 
@@ -17,19 +18,10 @@ pub fn run<R: Threads + Sync>(
     input: Stdin,
     output: Stdout,
 ) -> ExitCode {
-    let mut words = Vec::new(alloc);
-    match args {
-        Ok(args) => {
-            for word in args.skip(1) {
-                if words.push(word).is_err() {
-                    return ExitCode::from(6);
-                }
-            }
-        }
-        // Words that are no text ask for nothing, so the usage is written.
-        Err(error) if error.kind() == ErrorKind::InvalidData => {}
-        Err(_) => return ExitCode::from(6),
-    }
+    let words = match words_of(alloc, args) {
+        Ok(words) => words,
+        Err(status) => return ExitCode::from(status.0),
+    };
     let mut source = StdSource::new(input);
     let mut sink = StdSink::new(output);
     let status = bridge(rt, alloc, &words, &mut source, &mut sink, Process::Ends);

@@ -3,19 +3,20 @@
 ghost use Rattle.std.specs.Prelude.{◌≡◌, ℕ, ◌≤◌, List, Some, length, IfOk};
 ghost use Rattle.sot_lang.specs.CertRules.{FitsTables};
 ghost use Rattle.sot_flight.specs.Fits.{FitsFlight};
+ghost use Rattle.sot_answers.specs.Texts.{input_limit};
 ghost use Rattle.sot_bridge_input.specs.Halves.{Halves as Divided, halves_of};
 ghost use Rattle.sot_bridge.specs.Answers.{Replies, SpellsSide};
-ghost use Rattle.sot_bridge.specs.Ends.{input_limit};
 ghost use Rattle.sot_bridge.specs.Sides.{side_of};
 ghost use Rattle.sot_bridge.specs.Steps.{RepliesBoth};
 ghost use Rattle.sot_bridge.specs.Texts.{kind_text};
 ghost use Rattle.sot_report.specs.Loads.{LoadsMission};
 ghost use Rattle.sot_sections.specs.declared.mission.Need.TheVariants as needs;
 
-use crate::answer::{Answer, Which, faulty, fixed};
+use crate::answer::{Which, faulty};
 use crate::flying::fly_both;
 use crate::joining::{JoinFault, join};
 use crate::side::Side;
+use sot_answers::{Answer, fixed};
 use sot_bridge_input::divide;
 use sot_ports::{Process, let_go};
 use sot_report::{LoadFail, Loaded, load};

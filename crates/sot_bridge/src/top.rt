@@ -1,38 +1,21 @@
 //! The top call: words and input to one text and a status.
 
-ghost use Rattle.std.specs.Prelude.{◌≡◌, ◌+◌, ◌≤◌, ◌⊎◌, ℕ, List, Ok, IfOk, IfErr, IsErr, IsErrOf};
-ghost use Rattle.std.specs.Prelude.{MatchResult};
+ghost use Rattle.std.specs.Prelude.{◌≡◌, ◌+◌, ◌≤◌, ◌⊎◌, ℕ, List, IfOk, IfErr, IsErrOf};
 ghost use Rattle.sot_ports.specs.Faults.{Rose};
 ghost use Rattle.sot_bridge_input.specs.Words.{Asks};
 ghost use Rattle.sot_ports.specs.Whole.{ReadsUpTo};
-ghost use Rattle.sot_ports.specs.Outside.{Written, outside};
+ghost use Rattle.sot_ports.specs.Outside.{outside};
 ghost use Rattle.sot_bridge.specs.Ends.{Ends, AskNone};
 ghost use Rattle.sot_bridge.specs.Steps.{AskAnswer, WordAnswer, Silence};
 
-use crate::answer::{Answer, fixed};
 use crate::reply::{Ask, reply_of};
-use crate::status::Status;
+use sot_answers::{Answer, INPUT_LIMIT, Status, fixed, or_memory, read_input, say, too_long};
 use sot_bridge_input::{WordFail, delay_of};
-use sot_ports::{Process, ReadFail, Sink, Source, read_all, write_whole};
-use std::alloc::{AllocError, Global};
+use sot_ports::{Process, ReadFail, Sink, Source};
+use std::alloc::Global;
 use std::thread::Threads;
 
-/// The most bytes of an input: 16 MiB.
-const INPUT_LIMIT: usize = 16_777_216;
-
 const USAGE: &str = "usage: soter_bridge TOPIC_A TOPIC_B DELAY\n";
-
-const TOO_LONG: &str = "fault input above 16777216 bytes\n";
-
-// Want of memory has a status of its own, and no text.
-fn or_memory(answer: Result<Answer, AllocError>) -> Result<Answer, Status>
-    ensures { MatchResult result (λ r. answer ≡ Ok r) (λ s. (s.0 ≡ 6) × IsErr answer) }
-{
-    match answer {
-        Ok(answer) => Ok(answer),
-        Err(_) => Err(Status(6)),
-    }
-}
 
 // What the words ask for.
 fn asked<'w>(alloc: Global, words: &'w [String]) -> Result<Ask<'w>, WordFail>
@@ -65,10 +48,10 @@ fn perform<R: Threads + Sync, S: Source>(
     ensures well { IfOk result (λ _. S.faults source.new ≡ S.faults source.old) }
     ensures no_more { ReadsUpTo (S.left source.old) (S.left source.new) (INPUT_LIMIT + 1) }
 {
-    match read_all(alloc, source, INPUT_LIMIT) {
+    match read_input(alloc, source) {
         Ok(bytes) => or_memory(reply_of(rt, alloc, ask, &bytes, process)),
         Err(ReadFail::Fault) => Err(Status(4)),
-        Err(ReadFail::TooLong) => or_memory(fixed(alloc, 7, TOO_LONG)),
+        Err(ReadFail::TooLong) => or_memory(too_long(alloc)),
         Err(ReadFail::Memory) => Err(Status(6)),
     }
 }
@@ -94,17 +77,6 @@ fn answer_to<R: Threads + Sync, S: Source>(
         Ok(ask) => perform(rt, alloc, ask, source, process),
         Err(WordFail::Form) => or_memory(fixed(alloc, 2, USAGE)),
         Err(WordFail::Memory) => Err(Status(6)),
-    }
-}
-
-// Writes an answer, and ends with its status.
-fn say<K: Sink>(answer: &Answer, sink: &mut K) -> Status
-    ensures { Written (K.held sink.old) (K.held sink.new) (K.faults sink.old) (K.faults sink.new)
-        answer.now.status answer.now.text.items result.0 }
-{
-    match write_whole(sink, &answer.text) {
-        Ok(()) => Status(answer.status),
-        Err(_) => Status(5),
     }
 }
 

@@ -4,9 +4,10 @@ use Rattle.std.specs.Prelude.{◌⊎◌, ◌≢◌, String, IfSome}
 use Rattle.std.proofs.lemmas.List.{length-append}
 use Rattle.std.specs.Io.KnownBytes.{Appends}
 use Rattle.sot_ports.specs.Faults.{Rose}
+use Rattle.sot_answers.specs.Texts.{input_limit}
 use Rattle.sot_commands.specs.declared.words.Command.{Command}
 use Rattle.sot_commands.specs.declared.words.Command.TheVariants.{Check, Fly, Replay, Recover, Watch, Format, Certify, Make, Soak}
-use Rattle.sot_commands.specs.Answers.{Accepts, Refutes, Rejects, Replies, given_to, input_limit}
+use Rattle.sot_commands.specs.Answers.{Accepts, Refutes, Rejects, Replies, given_to}
 use Rattle.sot_commands.specs.Steps.{WordAnswer}
 use Rattle.sot_ports.specs.Outside.{Outside, Written}
 use Rattle.sot_commands.specs.Ends.{Ends, Takes, Done, IsUsage, IsTooLong, IsAnswer, Decides, FliesWatched}

@@ -5,7 +5,7 @@ use Rattle.std.specs.declared.alloc.AllocError.{AllocError}
 use Rattle.sot_flight.specs.Plans.{Plan}
 use Rattle.sot_report.specs.Missions.{Mission}
 use Rattle.sot_workers.specs.Asked.{EachUnnamedStays}
-use Rattle.sot_commands.specs.declared.answer.Answer.{Answer}
+use Rattle.sot_answers.specs.declared.answer.Answer.{Answer}
 use Rattle.sot_commands.specs.declared.telling.Telling.{Telling}
 use Rattle.sot_commands.specs.Answers.{SpellsFor}
 use Rattle.sot_commands.specs.Guests.{GuestsFlew, Flew, UnnamedStay}

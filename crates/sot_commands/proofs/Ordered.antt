@@ -11,7 +11,7 @@ use Rattle.sot_commands.specs.declared.words.Command.TheVariants.{Check, Fly, Re
 use Rattle.sot_commands.specs.declared.telling.Telling.{Telling}
 use Rattle.sot_commands.specs.declared.telling.Telling.TheVariants.{Trace, Summary, Verdict}
 use Rattle.sot_commands.specs.declared.order.FlightOrder.{FlightOrder}
-use Rattle.sot_commands.specs.declared.answer.Answer.{Answer}
+use Rattle.sot_answers.specs.declared.answer.Answer.{Answer}
 use Rattle.sot_commands.specs.Words.{Asks, AsksWatch}
 use Rattle.sot_commands.specs.Answers.{Replies}
 use Rattle.sot_ports.specs.Outside.{Outside, Written}

@@ -23,6 +23,7 @@ use Rattle.sot_replay.specs.GoesOn as goes_on
 use Rattle.sot_replay.specs.Replays.{IsRefusedAt}
 use Rattle.sot_replay.specs.declared.fail.LineKind.{LineKind}
 use Rattle.sot_replay.proofs.OneAnswer.{traces_are_not_refused}
+use Rattle.sot_answers.specs.Texts.{input_limit}
 use Rattle.sot_commands.proofs.Replayed.{traced_alike}
 use Rattle.sot_flight.specs.FlightFormat.{flight_of}
 use Rattle.sot_tube.specs.Certified.{IsWellCertified}
@@ -45,7 +46,7 @@ use Rattle.sot_commands.specs.declared.words.Command.{Command}
 use Rattle.sot_commands.specs.declared.words.Command.TheVariants.{Check, Fly, Replay, Recover, Watch, Format, Certify, Make, Soak}
 use Rattle.sot_commands.specs.Words.{Reads, Asks}
 use Rattle.sot_commands.specs.Answers.{IsAccepted, IsRefusedFor, SpellsFor, IsTraceOf, IsSummaryOf, FliesWith, IsStopped, DoesNotFly, HasLines}
-use Rattle.sot_commands.specs.Answers.{HasProgramFault, IsFlownWatched, Accepts, Refutes, Rejects, Replies, given_to, input_limit}
+use Rattle.sot_commands.specs.Answers.{HasProgramFault, IsFlownWatched, Accepts, Refutes, Rejects, Replies, given_to}
 use Rattle.sot_commands.specs.Watched.{IsWatchedBy, TellsHolds}
 use Rattle.sot_commands.specs.Ends.{Decides, FliesWatched}
 use Rattle.sot_commands.proofs.FormulasAlike.{meaning_or_fault}

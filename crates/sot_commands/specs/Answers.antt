@@ -53,10 +53,6 @@ use Rattle.sot_commands.specs.declared.words.Command.TheVariants.{Check, Fly, Re
 use Rattle.sot_commands.specs.declared.words.Command.TheVariants.{Recover, Watch, Certify}
 use Rattle.sot_commands.specs.declared.words.Command.TheVariants.{Make, Soak}
 
--- the most bytes of an input: 16 MiB
-abbrev pub input_limit : ℕ
-input_limit = 16777216
-
 -- a mission is accepted: all fifteen conditions of a certificate hold of its program, its
 -- certificate and the certificate's jitter
 abbrev pub IsAccepted : Mission → Type 0

@@ -6,13 +6,14 @@ use Rattle.std.proofs.Common.{Global}
 use Rattle.sot_ports.specs.Faults.{Rose}
 use Rattle.sot_ports.specs.Outside.{Outside, Writes, WritesPart}
 use Rattle.sot_ports.specs.Whole.{ReadsAll, ReadsCount}
-use Rattle.sot_commands.specs.Texts.{usage_text, long_text}
+use Rattle.sot_answers.specs.Texts.{input_limit, long_text}
+use Rattle.sot_commands.specs.Texts.{usage_text}
 use Rattle.sot_commands.specs.declared.words.Command.{Command}
 use Rattle.sot_commands.specs.declared.words.Command.TheVariants.{Check, Fly, Replay, Format}
 use Rattle.sot_commands.specs.declared.words.Command.TheVariants.{Recover, Watch, Certify}
 use Rattle.sot_commands.specs.declared.words.Command.TheVariants.{Make, Soak}
 use Rattle.sot_commands.specs.Words.{Asks, AsksReader, AsksNone}
-use Rattle.sot_commands.specs.Answers.{Accepts, Refutes, Rejects, Replies, given_to, input_limit}
+use Rattle.sot_commands.specs.Answers.{Accepts, Refutes, Rejects, Replies, given_to}
 use Rattle.sot_commands.specs.Answers.{IsFlownWatched}
 
 -- what a command takes of a source: all that it has left; and nothing for `make` and `soak`, which

@@ -34,11 +34,12 @@ use Rattle.sot_formula.specs.declared.fail.MonitorFail.{MonitorFail}
 use Rattle.sot_formula.specs.declared.fail.MonitorFail.TheVariants as monitor_fails
 use Rattle.sot_monitor.specs.Tracked.{Tracked}
 use Rattle.sot_monitor.specs.Tracking.{IsNewOf}
+use Rattle.sot_answers.specs.Texts.{input_limit, long_text}
 use Rattle.sot_commands.specs.Watched.{IsFormula, HasMeaning, TellsHolds, TellsFails}
 use Rattle.sot_commands.specs.WatchTexts.{formula_text}
-use Rattle.sot_commands.specs.Texts.{usage_text, long_text}
+use Rattle.sot_commands.specs.Texts.{usage_text}
 use Rattle.sot_commands.specs.Answers.{IsOutsideOf, IsLegal, IsIllegal, IsCertifiedText}
-use Rattle.sot_commands.specs.Answers.{IsNotCertified, SpellsAccepted, Replies, input_limit}
+use Rattle.sot_commands.specs.Answers.{IsNotCertified, SpellsAccepted, Replies}
 use Rattle.sot_commands.specs.declared.telling.Telling.{Telling}
 use Rattle.sot_commands.specs.declared.telling.Telling.TheVariants.{Trace, Summary, Verdict}
 use Rattle.sot_commands.specs.declared.words.Command.{Command}
@@ -47,7 +48,7 @@ use Rattle.sot_commands.specs.Ends.{Takes}
 use Rattle.sot_commands.specs.Orders.{Orders, CommandOrder, IsOrdered, IsToldOf, IsFailedOf}
 use Rattle.sot_commands.specs.Orders.{IsVerdict}
 use Rattle.sot_commands.specs.Guests.{GuestsGoOn, IsNothing, SaysHolds, SaysFails, IsNoTrace}
-use Rattle.sot_commands.specs.declared.answer.Answer.{Answer}
+use Rattle.sot_answers.specs.declared.answer.Answer.{Answer}
 use Rattle.sot_commands.specs.declared.reply.Reply.{Reply}
 use Rattle.sot_commands.specs.declared.reply.Reply.TheVariants.{Said, Flight}
 

@@ -5,7 +5,6 @@ ghost use Rattle.std.specs.String.{string_bytes};
 ghost use Rattle.sot_tree.specs.TreeViews.{program_view};
 ghost use Rattle.sot_lang.specs.CertRules.{FitsTables};
 ghost use Rattle.sot_print.specs.Canonical.{canonical};
-ghost use Rattle.sot_rta.specs.Refused.{refusal_view};
 ghost use Rattle.sot_world.specs.Opens.{IsFirstOutside};
 ghost use Rattle.sot_flight.specs.Fits.{FitsFlight};
 ghost use Rattle.sot_commands.specs.ReplayTexts.{legal_text, kind_word, refused_line_text};
@@ -19,13 +18,13 @@ ghost use Rattle.sot_monitor.specs.Tracking.{StandsFor};
 ghost use Rattle.sot_watch.specs.Moments.{moments_told};
 ghost use Rattle.sot_commands.specs.Words.{AreAsked};
 ghost use Rattle.sot_maker.specs.Missions.{mission_text as made_text};
-ghost use Rattle.sot_report.specs.FaultTexts.{fault_text};
-ghost use Rattle.sot_report.specs.RefusalTexts.{gap_line, refusal_text};
+ghost use Rattle.sot_report.specs.RefusalTexts.{gap_line};
 ghost use Rattle.sot_report.specs.AcceptedTexts.{accepted_text};
 ghost use Rattle.sot_certified_text.specs.FailTexts.{fail_text};
 ghost use Rattle.sot_recovery_text.specs.Recovery.{IsNeverAt};
 
 use crate::telling::Telling;
+use sot_answers::{Answer, fixed};
 use sot_board::Board;
 use sot_certify::CertifyFail;
 use sot_flight::Flight;
@@ -36,32 +35,13 @@ use sot_monitor::Monitor;
 use sot_print::print;
 use sot_recovery_text::{RecoveryFail, never_text};
 use sot_replay::LineKind;
-use sot_report::{Fault, start_text};
-use sot_rta::Refusal;
+use sot_report::start_text;
 use sot_summary::{board_summary, summary_text};
 use sot_trace::board_text;
 use sot_tree::Program;
 use sot_tube::Accepted;
 use sot_watch::watch;
 use std::alloc::{AllocError, Global};
-
-/// A status, and the text that is written with it.
-#[derive(Drop)]
-pub struct Answer {
-    pub status: u8,
-    pub text: Vec<u8>,
-}
-
-/// A text that is always the same.
-pub fn fixed(alloc: Global, status: u8, text: &str) -> Result<Answer, AllocError>
-    ensures status { IfOk result (λ answer. answer.status ≡ status) }
-    ensures text { IfOk result (λ answer. answer.text.items ≡ text.now) }
-{
-    Ok(Answer {
-        status,
-        text: Vec::from_slice(alloc, text.as_bytes())?,
-    })
-}
 
 /// Status 0: the canonical text of a program.
 pub fn canonical(alloc: Global, program: &Program) -> Result<Answer, AllocError>
@@ -100,16 +80,6 @@ pub fn accepted(alloc: Global, program: &Typed, cert: &Cert) -> Result<Answer, A
         status: 0,
         text: text.into_bytes(),
     })
-}
-
-/// Status 1: the line of a refusal.
-pub fn refused(alloc: Global, program: &Typed, refusal: &Refusal) -> Result<Answer, AllocError>
-    ensures status { IfOk result (λ answer. answer.status ≡ 1) }
-    ensures text { IfOk result (λ answer. answer.text.items
-        ≡ refusal_text program.now (refusal_view refusal.now)) }
-{
-    let text = sot_report::refusal_text(alloc, program, refusal)?;
-    Ok(Answer { status: 1, text })
 }
 
 // The trace or the summary of what was flown, without a verdict.
@@ -321,16 +291,4 @@ pub fn uncertified(alloc: Global, tables: &Typed, fail: &CertifyFail) -> Result<
 {
     let text = sot_certified_text::fail_text(alloc, tables, fail)?;
     Ok(Answer { status: 1, text })
-}
-
-/// Status 3: the line of a fault.
-pub fn faulty(alloc: Global, fault: &Fault) -> Result<Answer, AllocError>
-    ensures status { IfOk result (λ answer. answer.status ≡ 3) }
-    ensures text { IfOk result (λ answer. answer.text.items ≡ fault_text fault.now) }
-{
-    let text = sot_report::fault_text(alloc, fault)?;
-    Ok(Answer {
-        status: 3,
-        text: text.into_bytes(),
-    })
 }

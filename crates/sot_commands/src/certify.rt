@@ -5,11 +5,13 @@ ghost use Rattle.sot_tree.specs.TreeViews.{program_view};
 ghost use Rattle.sot_lang.specs.CertRules.{FitsTables};
 ghost use Rattle.sot_certify.specs.Certifying.{Certifies};
 ghost use Rattle.sot_report.specs.Missions.{Resolves};
-ghost use Rattle.sot_commands.specs.Answers.{input_limit, SpellsAccepted, Replies};
+ghost use Rattle.sot_answers.specs.Texts.{input_limit};
+ghost use Rattle.sot_commands.specs.Answers.{SpellsAccepted, Replies};
 ghost use Rattle.sot_commands.specs.Steps.{IsSpelled, IsWritten, CertifiesTables, CertifiesTree};
 ghost use Rattle.sot_commands.specs.declared.words.Command.TheVariants.{Certify as CertifyCommand};
 
-use crate::answer::{Answer, faulty, uncertified};
+use crate::answer::uncertified;
+use sot_answers::{Answer, faulty};
 use sot_certified_text::mission_text;
 use sot_certify::{CertifyFail, certify as certificate};
 use sot_compose::check_all;

@@ -2,11 +2,13 @@
 
 ghost use Rattle.std.specs.Prelude.{◌≤◌, ℕ, length, IfOk};
 ghost use Rattle.sot_lang.specs.CertRules.{FitsTables};
-ghost use Rattle.sot_commands.specs.Answers.{input_limit, Replies};
+ghost use Rattle.sot_answers.specs.Texts.{input_limit};
+ghost use Rattle.sot_commands.specs.Answers.{Replies};
 ghost use Rattle.sot_commands.specs.Steps.{Judges};
 ghost use Rattle.sot_commands.specs.declared.words.Command.TheVariants.{Check as CheckCommand};
 
-use crate::answer::{Answer, accepted, faulty, refused};
+use crate::answer::accepted;
+use sot_answers::{Answer, faulty, refused};
 use sot_compose::check_all;
 use sot_lang::{Cert, Typed};
 use sot_ports::{Process, let_go};

@@ -6,11 +6,10 @@ ghost use Rattle.sot_commands.specs.Orders.{FliesBytes, handed_in};
 ghost use Rattle.sot_commands.specs.Steps.{GuestsDid};
 ghost use Rattle.sot_commands.specs.declared.telling.Telling.TheVariants.{Summary};
 
-use crate::answer::Answer;
 use crate::fly::fly;
-use crate::input::INPUT_LIMIT;
 use crate::order::FlightOrder;
 use crate::telling::Telling;
+use sot_answers::{Answer, INPUT_LIMIT};
 use sot_node_worker::Controller;
 use sot_ports::Process;
 use std::alloc::{AllocError, Global};

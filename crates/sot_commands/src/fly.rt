@@ -7,14 +7,15 @@ ghost use Rattle.sot_world.specs.Opens.{StartInside};
 ghost use Rattle.sot_flight.specs.Fits.{FitsFlight};
 ghost use Rattle.sot_workers.specs.Flying.{HasNoGuests};
 ghost use Rattle.sot_workers.specs.Asked.{EachUnnamedStays};
-ghost use Rattle.sot_commands.specs.Answers.{input_limit};
+ghost use Rattle.sot_answers.specs.Texts.{input_limit};
 ghost use Rattle.sot_commands.specs.Steps.{JudgesFlight, JudgesFlown, JudgesWatched, GuestsDid};
 ghost use Rattle.sot_commands.specs.Steps.{IsMonitorFor, FailsFor, Tells};
 ghost use Rattle.sot_commands.specs.Orders.{FliesBytes};
 ghost use Rattle.sot_commands.specs.Guests.{UnnamedStay, GuestsFlew, Flew};
 
-use crate::answer::{Answer, faulty, faulty_formula, outside, refused, told, watched};
+use crate::answer::{faulty_formula, outside, told, watched};
 use crate::telling::Telling;
+use sot_answers::{Answer, faulty, refused};
 use sot_board::Board;
 use sot_compose::check_all;
 use sot_flight::Flight;

@@ -7,11 +7,9 @@ ghost use Rattle.sot_commands.specs.Words.{Reads};
 ghost use Rattle.sot_commands.specs.Ends.{Takes};
 
 use crate::words::Command;
-use sot_ports::{ReadFail, Source, read_all};
+use sot_answers::{INPUT_LIMIT, read_input};
+use sot_ports::{ReadFail, Source};
 use std::alloc::Global;
-
-/// The most bytes of an input: 16 MiB.
-pub const INPUT_LIMIT: usize = 16_777_216;
 
 fn reads(command: Command<'_>) -> bool
     ensures { IsTrue result ↔ Reads command.entry }
@@ -39,7 +37,7 @@ pub fn take<S: Source>(
     ensures no_more { ReadsUpTo (S.left source.old) (S.left source.new) (INPUT_LIMIT + 1) }
 {
     if reads(command) {
-        read_all(alloc, source, INPUT_LIMIT)
+        read_input(alloc, source)
     } else {
         Ok(Vec::new(alloc))
     }

@@ -24,7 +24,6 @@ mod recover;
 mod replay;
 mod reply;
 mod soak;
-mod status;
 mod telling;
 mod top;
 mod words;
@@ -36,9 +35,9 @@ pub use laws::{
 };
 pub use order::{Begun, FlightOrder};
 pub use program::run;
+pub use sot_answers::Status;
 pub use sot_node_worker::Controller;
 pub use sot_ports::{Process, Sink, Source, StdSink, StdSource};
-pub use status::Status;
 pub use telling::Telling;
 pub use top::{begin, fly_to_the_end, soter};
 pub use words::{Command, WordFail, command_of};

@@ -4,6 +4,7 @@ ghost use Rattle.std.specs.Prelude.{None};
 
 use crate::order::Begun;
 use crate::top::{begin, fly_to_the_end};
+use sot_answers::words_of;
 use sot_board::View;
 use sot_lang::Draft;
 use sot_node_worker::Controller;
@@ -11,7 +12,7 @@ use sot_ports::{Process, StdSink, StdSource};
 use std::alloc::Global;
 use std::env::Args;
 use std::io;
-use std::io::{ErrorKind, Stdin, Stdout};
+use std::io::{Stdin, Stdout};
 use std::process::ExitCode;
 use std::sync::Wait;
 use std::thread::Threads;
@@ -36,19 +37,10 @@ pub fn run<R: Threads + Wait + Sync>(
     input: Stdin,
     output: Stdout,
 ) -> ExitCode {
-    let mut words = Vec::new(alloc);
-    match args {
-        Ok(args) => {
-            for word in args.skip(1) {
-                if words.push(word).is_err() {
-                    return ExitCode::from(6);
-                }
-            }
-        }
-        // Words that are no text ask for nothing, so the usage is written.
-        Err(error) if error.kind() == ErrorKind::InvalidData => {}
-        Err(_) => return ExitCode::from(6),
-    }
+    let words = match words_of(alloc, args) {
+        Ok(words) => words,
+        Err(status) => return ExitCode::from(status.0),
+    };
     let mut source = StdSource::new(input);
     let mut sink = StdSink::new(output);
     let mut nobody: Vec<Nobody> = Vec::new(alloc);

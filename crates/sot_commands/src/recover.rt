@@ -2,11 +2,13 @@
 
 ghost use Rattle.std.specs.Prelude.{◌≤◌, ℕ, length, IfOk};
 ghost use Rattle.sot_lang.specs.CertRules.{FitsTables};
-ghost use Rattle.sot_commands.specs.Answers.{input_limit, Replies};
+ghost use Rattle.sot_answers.specs.Texts.{input_limit};
+ghost use Rattle.sot_commands.specs.Answers.{Replies};
 ghost use Rattle.sot_commands.specs.Steps.{SaysRecovery, JudgesRecovery};
 ghost use Rattle.sot_commands.specs.declared.words.Command.TheVariants.{Recover as RecoverCommand};
 
-use crate::answer::{Answer, faulty, refused, unrecovered};
+use crate::answer::unrecovered;
+use sot_answers::{Answer, faulty, refused};
 use sot_compose::check_all;
 use sot_lang::{Cert, Typed};
 use sot_ports::{Process, let_go};

@@ -5,11 +5,13 @@ ghost use Rattle.sot_lang.specs.CertRules.{FitsTables};
 ghost use Rattle.sot_flight.specs.Fits.{FitsFlight};
 ghost use Rattle.sot_trace.specs.Words.{AreWords};
 ghost use Rattle.sot_trace_lines.specs.LentLines.{lent_lines};
-ghost use Rattle.sot_commands.specs.Answers.{input_limit, Replies};
+ghost use Rattle.sot_answers.specs.Texts.{input_limit};
+ghost use Rattle.sot_commands.specs.Answers.{Replies};
 ghost use Rattle.sot_commands.specs.Steps.{JudgesLines, JudgesReplayed};
 ghost use Rattle.sot_commands.specs.declared.words.Command.TheVariants.{Replay as ReplayCommand};
 
-use crate::answer::{Answer, faulty, legal, outside, refused, refused_line};
+use crate::answer::{legal, outside, refused_line};
+use sot_answers::{Answer, faulty, refused};
 use sot_compose::check_all;
 use sot_flight::Flight;
 use sot_lang::{Cert, Typed};

@@ -6,16 +6,16 @@ ghost use Rattle.sot_commands.specs.Answers.{Replies};
 ghost use Rattle.sot_commands.specs.Steps.{IsReply, as_reply};
 ghost use Rattle.sot_commands.specs.declared.words.Command.TheVariants.{Format as FormatCommand};
 
-use crate::answer::{Answer, canonical, faulty, made};
+use crate::answer::{canonical, made};
 use crate::certify::certify;
 use crate::check::check;
-use crate::input::INPUT_LIMIT;
 use crate::order::FlightOrder;
 use crate::recover::recover;
 use crate::replay::replay;
 use crate::soak::soak;
 use crate::telling::Telling;
 use crate::words::Command;
+use sot_answers::{Answer, INPUT_LIMIT, faulty};
 use sot_parser::{ParseFail, parse};
 use sot_ports::{Process, let_go};
 use sot_report::Fault;

@@ -10,27 +10,24 @@ ghost use Rattle.sot_commands.specs.declared.words.Command.TheVariants.{Fly as F
 ghost use Rattle.sot_commands.specs.declared.telling.Telling.TheVariants.{Trace};
 ghost use Rattle.sot_commands.specs.Guests.{GuestsEnd};
 ghost use Rattle.sot_commands.specs.Steps.{CommandReply, WordReply, Silence};
-ghost use Rattle.sot_ports.specs.Outside.{Written, outside};
+ghost use Rattle.sot_ports.specs.Outside.{outside};
 ghost use Rattle.sot_commands.specs.Ends.{Ends};
 ghost use Rattle.sot_commands.specs.Orders.{IsOrdered, IsVerdict, FlightEnds, IfEnded, IfFlight};
 
-use crate::answer::{Answer, fixed};
 use crate::flight::fly_ordered;
-use crate::input::{INPUT_LIMIT, take};
+use crate::input::take;
 use crate::order::{Begun, FlightOrder};
 use crate::reply::{Reply, reply_of, said};
-use crate::status::Status;
 use crate::words::{Command, WordFail, command_of};
+use sot_answers::{Answer, INPUT_LIMIT, Status, fixed, say, too_long};
 use sot_node_worker::Controller;
-use sot_ports::{Process, ReadFail, Sink, Source, write_whole};
+use sot_ports::{Process, ReadFail, Sink, Source};
 use std::alloc::{AllocError, Global};
 use std::sync::Wait;
 use std::thread::Threads;
 
 const USAGE: &str = "usage: soter check | fly | replay | format | make N SEED | soak N SEED \
     | recover | certify | watch FORMULA\n";
-
-const TOO_LONG: &str = "fault input above 16777216 bytes\n";
 
 // Want of memory has a status of its own, and no text.
 fn or_memory<'w>(reply: Result<Reply<'w>, AllocError>) -> Result<Reply<'w>, Status>
@@ -65,7 +62,7 @@ fn perform<'w, R: Threads + Sync, S: Source>(
     match take(alloc, command, source) {
         Ok(bytes) => or_memory(reply_of(rt, alloc, command, guests, bytes, process)),
         Err(ReadFail::Fault) => Err(Status(4)),
-        Err(ReadFail::TooLong) => or_memory(said(fixed(alloc, 7, TOO_LONG))),
+        Err(ReadFail::TooLong) => or_memory(said(too_long(alloc))),
         Err(ReadFail::Memory) => Err(Status(6)),
     }
 }
@@ -91,17 +88,6 @@ fn reply_to<'w, R: Threads + Sync, S: Source>(
         Ok(command) => perform(rt, alloc, command, guests, source, process),
         Err(WordFail::Form) => or_memory(said(fixed(alloc, 2, USAGE))),
         Err(WordFail::Memory) => Err(Status(6)),
-    }
-}
-
-// Writes an answer, and ends with its status.
-fn say<K: Sink>(answer: &Answer, sink: &mut K) -> Status
-    ensures { Written (K.held sink.old) (K.held sink.new) (K.faults sink.old) (K.faults sink.new)
-        answer.now.status answer.now.text.items result.0 }
-{
-    match write_whole(sink, &answer.text) {
-        Ok(()) => Status(answer.status),
-        Err(_) => Status(5),
     }
 }
 

@@ -1,0 +1,25 @@
+//! The words that a program was started with.
+
+use crate::status::Status;
+use std::alloc::Global;
+use std::env::Args;
+use std::io;
+use std::io::ErrorKind;
+
+/// The words behind the program's name; none where they are no text, since such words ask for
+/// nothing. Where there is no memory for them, status 6.
+pub fn words_of(alloc: Global, args: io::Result<Args>) -> Result<Vec<String>, Status> {
+    let mut words = Vec::new(alloc);
+    match args {
+        Ok(args) => {
+            for word in args.skip(1) {
+                if words.push(word).is_err() {
+                    return Err(Status(6));
+                }
+            }
+        }
+        Err(error) if error.kind() == ErrorKind::InvalidData => {}
+        Err(_) => return Err(Status(6)),
+    }
+    Ok(words)
+}
