@@ -75,10 +75,12 @@ impl Rings {
                 self.waiting[place] = false;
             }
         }
-        for place in 0..self.waiting.len() {
+        let nodes = self.waiting.len().min(u32::MAX as usize);
+        for node in 0..nodes as u32 {
+            let place = node as usize;
             if self.waiting[place] {
                 self.waiting[place] = false;
-                bells.ring(place as u32);
+                bells.ring(node);
             }
         }
     }
