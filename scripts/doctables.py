@@ -15,6 +15,12 @@ AND_BESIDES = {
     ('formula', 'Form'): 'write comparisons such as `pos.x <= 22` or `mode(nav) == 1`, joined by `not(..)`, `and(.., ..)`, `or(.., ..)`, `once(..)`, `since(.., ..)` and `within(N, ..)`',
     ('formula', 'Unknown'): 'name a topic of one number, a field `topic.field`, a state variable `plant.variable` or `mode(module)` of the program',
     ('formula', 'ScaleDiffers'): 'write the literal with as many decimals as what it is compared with has',
+    ('bridge', 'Section'): 'put a line `%bridge`, alone, between the two missions',
+    ('bridge', 'Unknown'): 'name a topic that nodes of the first mission may write, and then an `environment topic` of the second',
+    ('bridge', 'Type'): 'declare both with as many numbers, of the same kinds and decimals, and in the second with ranges that hold those of the first',
+    ('bridge', 'Horizon'): 'let the second flight go on to the end of the first and the delay, or longer',
+    ('bridge', 'TooManyEvents'): 'shorten the first flight, let nodes that write the topic fire less often, or take inputs out of the second flight',
+    ('bridge', 'TooManyNumbers'): 'shorten the first flight, let nodes that write the topic fire less often, or give the topic fewer fields',
     ('start', ''): 'start the plant inside `safer`, or let `safer` grow: `accepted` speaks of runs that start there',
 }
 
@@ -67,6 +73,7 @@ class Advice:
             'recover': (self.formats, 'Recovery', 'line', 'what it says'),
             'start': (self.formats, 'The trace', 'kind', 'comes where'),
             'watch': (self.formats, 'A flight that is watched', 'kind', 'what to do'),
+            'bridge': (self.formats, 'Two missions and a bridge', 'written', 'comes exactly where'),
             'formula': (self.language, 'Formulas', 'kind', 'what to do'),
         }
 

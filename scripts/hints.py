@@ -1,10 +1,10 @@
 #!/usr/bin/env python3
-"""scripts/hints.py COMMAND STATUS INPUT --answer FILE, or --program FILE [FORMULA]: what to do about an answer of `soter`, on standard error.
+"""scripts/hints.py STATUS INPUT --answer FILE COMMAND [WORD ..], or --program FILE: what to do about an answer of `soter`, on standard error.
 
 `./soter` calls it at status 1 and 3. INPUT is the file with what the command read. The answer is taken from a file, or
-asked again of a built program, `watch` with its formula, which is then also asked what `fly` would have written where a
-trace differs. It says the row of the docs' tables for the refusal or fault, with what the answer leaves out: decimals, lines, cells, carets.
-It is tested and not proved, and writes nothing to standard output.
+asked again of a built program with the same words, which is then also asked what `fly` would have written where a trace
+differs; of `soter_bridge` behind the word `bridge`. It says the row of the docs' tables for the refusal or fault, with
+what the answer leaves out: decimals, lines, cells, carets. It is tested and not proved, and writes nothing to standard output.
 """
 import os
 import re
@@ -57,10 +57,11 @@ class Asked:
         return said.split('\n') if status == 0 else []
 
 
-def ask(program, command, text, *formula):
+def ask(program, command, text, *words):
     """The status and the text of a built program."""
+    command = [] if command == 'bridge' else [command]
     try:
-        done = subprocess.run([program, command, *formula], input=text.encode('latin-1'), stdout=subprocess.PIPE, stderr=subprocess.DEVNULL, timeout=SECONDS)
+        done = subprocess.run([program, *command, *words], input=text.encode('latin-1'), stdout=subprocess.PIPE, stderr=subprocess.DEVNULL, timeout=SECONDS)
         return done.returncode, done.stdout.decode('latin-1')
     except (OSError, subprocess.TimeoutExpired):
         return None, ''
@@ -361,6 +362,96 @@ def value_to_do(asked, family, key):
     return to_do(asked, family, key)
 
 
+# --- bridges ------------------------------------------------------------------------------------------------------
+
+class Crossed:
+    """Two missions with a bridge between them, and the words: their declarations and flights, as far as they can be read."""
+
+    def __init__(self, halves, words):
+        self.from_name, self.to_name, self.delay = words[0], words[1], int(words[2])
+        sections = [missiontext.Sections(text) for text in (halves.first, halves.second)]
+        self.tables = [missiontext.Program(half.parts['program']) for half in sections]
+        self.horizons = [missiontext.json_of(half.parts['flight'])['horizon'] for half in sections]
+
+    def topics(self):
+        """The topic of the first mission, and that of the second."""
+        return self.tables[0].topics[self.from_name], self.tables[1].topics[self.to_name]
+
+    def sends(self):
+        """How often nodes that write the topic are due, which is how often something is sent at most."""
+        due = [(self.horizons[0] - node.offset) // node.period + 1 for node in self.tables[0].nodes.values()
+               if any(name.split('.')[0] == self.from_name for name in node.writes) and node.offset <= self.horizons[0]]
+        return sum(due)
+
+
+def about_no_bridge(text):
+    """Lines that look like the one that divides two missions, and are not."""
+    near = re.search(r'^[^\n%a-z]*%bridge[^\n]*', text, re.M | re.I)
+    if not near:
+        return ['no line of the input begins with `%bridge`']
+    line = missiontext.place_in(text, near.start())[0]
+    return [f'line {line} is `{shown(near[0].rstrip(chr(13)))[:WIDTH]}`, and has to be `%bridge`, with nothing before or behind it']
+
+
+def about_names(crossed):
+    """Which of the two names is unknown, and which topics there are."""
+    lines = []
+    for name, outside, which, tables in ((crossed.from_name, False, 'first', crossed.tables[0]), (crossed.to_name, True, 'second', crossed.tables[1])):
+        found, sort = tables.topics.get(name), 'environment topics' if outside else 'topics of nodes'
+        there = ', '.join([topic.name for topic in tables.topics.values() if topic.outside == outside][:8]) or 'none'
+        if not found:
+            lines.append(f'the {which} mission has no topic `{shown(name)[:64]}`; its {sort}: {there}')
+        elif found.outside != outside:
+            lines.append(f'`{name}` of the {which} mission is {"no" if outside else "an"} environment topic; its {sort}: {there}')
+    return lines
+
+
+def scalar_words(scalar):
+    if scalar.kind == 'bool':
+        return 'bool'
+    return f'{"int" if scalar.kind == "int" else f"fix({scalar.scale})"}[{decimal(scalar.lo, scalar.scale)}..{decimal(scalar.hi, scalar.scale)}]'
+
+
+def about_topics(crossed):
+    """The first scalars that do not match."""
+    ours, theirs = crossed.topics()
+    if len(ours.scalars) != len(theirs.scalars):
+        return [f'a value of `{ours.name}` has {len(ours.scalars)} numbers, and one of `{theirs.name}` {len(theirs.scalars)}']
+    for number, (one, other) in enumerate(zip(ours.scalars, theirs.scalars), 1):
+        if (one.kind == 'bool', one.scale) != (other.kind == 'bool', other.scale) or one.lo < other.lo or one.hi > other.hi:
+            return [f'number {number} of `{ours.name}` in the first mission is {scalar_words(one)}, and of `{theirs.name}` in the second {scalar_words(other)}']
+    return []
+
+
+def about_horizons(crossed):
+    first, second = crossed.horizons
+    return [f'the first flies {ticks(first)}, what it sends comes {ticks(crossed.delay)} later, and the second flies {ticks(second)}: it needs {first + crossed.delay}']
+
+
+def about_room(crossed):
+    return [f'`{crossed.from_name}` may be sent {crossed.sends()} times, with {len(crossed.topics()[0].scalars)} of its numbers each']
+
+
+CROSSINGS = {'Unknown': about_names, 'Type': about_topics, 'Horizon': about_horizons, 'TooManyEvents': about_room, 'TooManyNumbers': about_room}
+
+
+def bridge_hint(text, words, answer):
+    """The lines to say about an answer of `soter_bridge`: those of `fly` about the one mission, or why the two do not join."""
+    halves, said = missiontext.halves_of(text), re.match(r'([ab]) (.*)', answer)
+    if said and halves:
+        half, where = (halves.first, 'of the first mission') if said[1] == 'a' else (halves.second, f'of the second mission, whose line 1 is line {halves.line} of the input')
+        return [f'{where}:'] + hint_of(Asked('fly', half, said[2], None))
+    said = re.match(r'fault bridge (\w+)', answer)
+    if not said:
+        return []
+    try:
+        lines = CROSSINGS[said[1]](Crossed(halves, words)) if halves else about_no_bridge(text)
+    except (NotRead, LookupError, TypeError, ValueError):
+        lines = []
+    advised, where = doctables.Advice().to_do('bridge', said[1])
+    return lines + [f'what to do: {advised} ({where})']
+
+
 # --- all of them --------------------------------------------------------------------------------------------------
 
 def to_do(asked, family, key):
@@ -424,21 +515,22 @@ def line_of(answer):
 
 
 def main(words):
-    if len(words) not in (5, 6) or words[3] not in ('--answer', '--program'):
+    if len(words) < 5 or words[2] not in ('--answer', '--program'):
         sys.exit(__doc__)
-    command, status, path, how, file, *formula = words
+    status, path, how, file, command, *more = words
     with open(path, 'rb') as source:
         text = source.read(LIMIT + 1).decode('latin-1')
     program = file if how == '--program' else None
     if program:
-        again, answer = ask(program, command, text, *formula)
+        again, answer = ask(program, command, text, *more)
         if str(again) != status:
             # the input was another one when it was read, so nothing is said of it
             return
     else:
         with open(file, 'rb') as source:
             answer = source.read(LIMIT).decode('latin-1')
-    for line in hint_of(Asked(command, text, line_of(answer), program)):
+    said = line_of(answer)
+    for line in bridge_hint(text, more, said) if command == 'bridge' else hint_of(Asked(command, text, said, program)):
         print('soter: ' + line, file=sys.stderr)
 
 

@@ -23,6 +23,7 @@ Topic = collections.namedtuple('Topic', 'name outside fields scalars initial')
 Plant = collections.namedtuple('Plant', 'name line states scales inputs noise bounds')
 Node = collections.namedtuple('Node', 'name line coded period offset reads writes')
 Module = collections.namedtuple('Module', 'name line ac sc period offset plant safe safer')
+Halves = collections.namedtuple('Halves', 'first second line')
 Event = collections.namedtuple('Event', 'line time kind name writes numbers')
 
 
@@ -61,6 +62,18 @@ class Sections:
 
     def has(self, name):
         return name in self.parts
+
+
+def halves_of(text):
+    """What stands before the first line `%bridge` and behind it, and the line at which the second begins; None where there is no such line."""
+    at, line = 0, 1
+    while at < len(text):
+        end = text.find('\n', at)
+        end = len(text) if end < 0 else end
+        if text[at:end] in ('%bridge', '%bridge\r'):
+            return Halves(text[:at], text[end + 1:], line + 1)
+        at, line = end + 1, line + 1
+    return None
 
 
 def line_of(text, number):

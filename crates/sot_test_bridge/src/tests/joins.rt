@@ -76,22 +76,35 @@ fn joins_topics_of_one_kind(rt: HostRuntime) {
     answers(&rt, alloc, "n e 1", &record, &want)
 }
 
-// The first may send at each of its ticks, and the second has no room left for so many events.
+// Two nodes write one topic, each at each tick, which the checker refuses; the second mission takes
+// the topic, and has inputs of its own. A row has the fields, their values, the ticks and the inputs.
+fn crowded(alloc: Global, row: &str) -> Result<String, AllocError> {
+    let (fields, values) = (column(row, " ; ", 0), column(row, " ; ", 1));
+    let horizon = column(row, " ; ", 2).parse::<u32>().unwrap_or(0);
+    let topic = format!(in alloc; "topic t: {{{fields}}} = {{{values}}};\n")?;
+    let a = flight_of(alloc, horizon, "")?;
+    let b = flight_of(alloc, horizon, column(row, " ; ", 3))?;
+    format!(in alloc;
+        "{topic}node one{PUBLISHING}node other{PUBLISHING}{NOTHING}{a}%bridge\nenvironment {topic}{NOTHING}{b}"
+    )
+}
+
+const PUBLISHING: &str = " period 1 offset 0 { writes t; do { publish t.a = 1; } }\n";
+
+// So much as may come over has room to the last event and the last number, and one more has not.
+const ROOM: &str = "a: int[0..9] ; 0 ; 66666 ;  => 1 a refused 11 SharedOutput topic t nodes one other~
+a: int[0..9] ; 0 ; 66666 ; {\"at\":0,\"topic\":\"t\",\"value\":[0]} => 3 fault bridge TooManyEvents~
+a: int[0..9], b: bool, c: bool, d: bool, e: bool, f: bool, g: bool, h: bool ; 0, false, false, false, false, false, false, false ; 62499 ;  => 1 a refused 11 SharedOutput topic t nodes one other~
+a: int[0..9], b: bool, c: bool, d: bool, e: bool, f: bool, g: bool, h: bool ; 0, false, false, false, false, false, false, false ; 62499 ; {\"at\":0,\"topic\":\"t\",\"value\":[0,0,0,0,0,0,0,0]} => 3 fault bridge TooManyNumbers~";
+
 #[test]
 fn looks_for_room_before_it_flies(rt: HostRuntime) {
     let alloc = rt.alloc();
-    let counter = COUNTER
-        .replace(alloc, "period 2", "period 1")
-        .expect(&rt, "memory");
-    let relay = RELAY
-        .replace(alloc, "period 6", "period 2")
-        .expect(&rt, "memory");
-    let a = flight_of(alloc, 60_000, "").expect(&rt, "memory");
-    let b = flight_of(alloc, 100_000, "").expect(&rt, "memory");
-    let text = format!(in alloc; "{counter}{NOTHING}{a}%bridge\n{relay}{NOTHING}{b}").expect(
-        &rt, "memory",
-    );
-    answers(&rt, alloc, "n e 1", &text, "3 fault bridge TooManyEvents~")
+    for row in ROOM.lines() {
+        let text = crowded(alloc, column(row, " => ", 0)).expect(&rt, "memory");
+        answers(&rt, alloc, "t t 0", &text, column(row, " => ", 1));
+    }
+    assert_eq!(rt; ROOM.lines().count(), 4);
 }
 
 #[test]
