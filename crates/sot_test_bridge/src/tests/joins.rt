@@ -92,7 +92,8 @@ fn crowded(alloc: Global, row: &str) -> Result<String, AllocError> {
 const PUBLISHING: &str = " period 1 offset 0 { writes t; do { publish t.a = 1; } }\n";
 
 // So much as may come over has room to the last event and the last number, and one more has not.
-const ROOM: &str = "a: int[0..9] ; 0 ; 66666 ;  => 1 a refused 11 SharedOutput topic t nodes one other~
+const ROOM: &str =
+    "a: int[0..9] ; 0 ; 66666 ;  => 1 a refused 11 SharedOutput topic t nodes one other~
 a: int[0..9] ; 0 ; 66666 ; {\"at\":0,\"topic\":\"t\",\"value\":[0]} => 3 fault bridge TooManyEvents~
 a: int[0..9], b: bool, c: bool, d: bool, e: bool, f: bool, g: bool, h: bool ; 0, false, false, false, false, false, false, false ; 62499 ;  => 1 a refused 11 SharedOutput topic t nodes one other~
 a: int[0..9], b: bool, c: bool, d: bool, e: bool, f: bool, g: bool, h: bool ; 0, false, false, false, false, false, false, false ; 62499 ; {\"at\":0,\"topic\":\"t\",\"value\":[0,0,0,0,0,0,0,0]} => 3 fault bridge TooManyNumbers~";
