@@ -1,8 +1,8 @@
 //! Answers of a program: a status with a text, and how it is written.
 //!
-//! A program takes its words by [`words_of`], reads its input by [`read_input`], comes to an [`Answer`], and writes it by [`say`],
-//! which gives the status. [`faulty`] and [`refused`] are the answers that every program gives to a
-//! text at fault and to a refused mission.
+//! A program takes its words by [`words_of`], reads its input by [`read_input`], comes to an
+//! [`Answer`], and writes it by [`say`], which gives the status. [`faulty`] and [`refused`] are the
+//! answers that every program gives to a text at fault and to a refused mission.
 #![tactic(auto)]
 
 mod answer;

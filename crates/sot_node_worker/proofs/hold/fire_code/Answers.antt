@@ -65,8 +65,8 @@ returns-clause-fired g c =
     (c.take_next-held.ensures.seen ∙ ap (λ x. x.entries) (sym value)) in (
       draft,
       subst (λ es. HasFired n draft known es (pass_added c.args.pass) (pass_added c.give-pass.result)) (sym c.give-pass.ensures.seen)
-          (has_fired known b c.commit_run-receipt.new.board n draft (pass_added c.args.pass) (pass_added c.give-pass.result) on step c.commit_run-receipt.ensures
-          gave),
+          (has_fired known b c.commit_run-receipt.new.board n draft (pass_added c.args.pass) (pass_added c.give-pass.result) on step
+          c.commit_run-receipt.ensures gave),
     )
 
 pub returns-clause-drafts : goal.returns-clause-drafts
