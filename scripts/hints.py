@@ -36,8 +36,8 @@ class Asked:
     def __init__(self, command, text, answer, program):
         self.command, self.answer, self.program = command, answer, program
         self.sections, self.advice, self.kept = missiontext.Sections(text), doctables.Advice(), None
-        # what `format` and `certify` read is a program to its end, whatever begins its lines
-        self.source = text if command in ('format', 'certify') else self.sections.parts['program']
+        # what `format`, `certify` and `regions` read is a program to its end, whatever begins its lines
+        self.source = text if command in ('format', 'certify', 'regions') else self.sections.parts['program']
 
     def tables(self):
         """The declarations of the program."""
@@ -483,6 +483,7 @@ FAMILIES = (
     (re.compile(r'refused (\d+)'), 'refused', about_condition, to_do),
     (re.compile(r'refused start()'), 'start', about_start, to_do),
     (re.compile(r'refused certify()'), 'certify', about_certify, nothing),
+    (re.compile(r'refused regions (?:module \S+ )?(jitter|safe none|safe TooMany|safer none)'), 'regions', nothing, to_do),
     (re.compile(r'refused (recover)'), 'recover', about_recover, to_do),
     (re.compile(r'refused (watch) time'), 'watch', nothing, to_do),
     (re.compile(r'fault formula (\w+)'), 'formula', nothing, to_do),

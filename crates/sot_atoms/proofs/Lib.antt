@@ -5,3 +5,5 @@ pub mod Longest
 pub mod Members
 pub mod Axes
 pub mod NextMembers
+pub mod Points
+pub mod Boxes

@@ -4,7 +4,7 @@ use Rattle.std.proofs.lemmas.Int.{ints}
 use Rattle.std.proofs.lemmas.Nat.{pow_pos, div-add-mod', mul-le, mod_below}
 use Rattle.std.proofs.lemmas.Bool.Decides.{nat_tests}
 use Rattle.sot_atoms.specs.declared.axis.Axis.{Axis}
-use Rattle.sot_atoms.specs.Places.{IsAxis, HoldsNumber, start_of, end_of}
+use Rattle.sot_atoms.specs.Places.{IsAxis, IsTight, HoldsNumber, start_of, end_of}
 
 -- a number is at most the end of a place, where it is before the next place and on the axis
 pub below_end : (axis : Axis) (a : ℕ) (x : ℤ) → (a + 1 < axis.size → x ≤ℤ (start_of axis (a + 1) -ℤ pos 1)) → x ≤ℤ axis.hi → x ≤ℤ end_of axis a
@@ -44,3 +44,12 @@ holds_number axis x off a cut is high at =
       from = omega (arith, ints);
       to = below_end axis a x (λ next. (let e : a ≡ off / 2 ^ axis.shift = omega arith in rw e (omega (arith, ints)))) high;
     }
+
+-- an axis that is cut into as many places as its numbers need is tight
+pub cut_tight : (x : Axis) (off : ℕ) → pos off ≡ x.hi -ℤ x.lo → (x.size ≤ 33554432 → x.size ≡ off / 2 ^ x.shift + 1) → IsTight x
+cut_tight x off is size few =
+    let split = div-add-mod' off (2 ^ x.shift) in
+    let rest : off % 2 ^ x.shift < 2 ^ x.shift = mod_below off (2 ^ x.shift) (pow_pos x.shift) in
+    let e = size few in
+    let s : (off / 2 ^ x.shift + 1) * 2 ^ x.shift ≡ off / 2 ^ x.shift * 2 ^ x.shift + 2 ^ x.shift = grind arith in
+    rw e (omega (arith, ints))

@@ -1,5 +1,6 @@
 -- Axes that are cut into places of one grain, which count from 0.
-use Rattle.std.specs.Prelude.{ℕ, ◌+◌, ◌-◌, ◌*◌, ◌^◌, ◌<◌, nat_lt, ℤ, pos, ◌+ℤ◌, ◌-ℤ◌, ◌≤ℤ◌}
+use Rattle.std.specs.Prelude.{ℕ, ◌+◌, ◌-◌, ◌*◌, ◌^◌, ◌<◌, ◌≤◌, nat_lt, ℤ, pos, ◌+ℤ◌, ◌-ℤ◌}
+use Rattle.std.specs.Prelude.{◌≤ℤ◌, ◌<ℤ◌}
 use Rattle.std.specs.Prelude.{if◌then◌else◌}
 use Rattle.sot_atoms.specs.declared.axis.Axis.{Axis}
 
@@ -23,3 +24,7 @@ pub record IsAxis (axis : Axis) : Type 0 where
   pub some_place : 0 < axis.size
   pub grain : axis.shift < 64
   pub full : start_of axis (axis.size - 1) ≤ℤ axis.hi
+
+-- the last place is no longer than the others, on an axis of few enough places for a grid
+abbrev pub IsTight : Axis → Type 0
+IsTight axis = axis.size ≤ 33554432 → axis.hi <ℤ start_of axis axis.size

@@ -1,7 +1,7 @@
 //! Axes that are cut into places.
 
 ghost use Rattle.std.specs.Prelude.{◌≡◌, ◌<◌, ◌≤◌, ◌*◌, ◌^◌, pos, ◌+ℤ◌, ◌-ℤ◌, ◌≤ℤ◌, ◌<ℤ◌};
-ghost use Rattle.sot_atoms.specs.Places.{IsAxis, HoldsNumber, start_of, end_of};
+ghost use Rattle.sot_atoms.specs.Places.{IsAxis, IsTight, HoldsNumber, start_of, end_of};
 
 use sot_box::Interval;
 
@@ -36,8 +36,8 @@ fn raised(lo: i64, by: usize, hi: i64) -> i64
     sum as i64
 }
 
-// 2 to a number.
-fn grain(shift: u32) -> usize
+/// 2 to a number.
+pub(crate) fn grain(shift: u32) -> usize
     requires { shift < 64 }
     ensures { result ≡ 2 ^ shift }
 {
@@ -99,6 +99,7 @@ pub(crate) fn cut(side: usize, numbers: Interval, shift: u32) -> Axis
     ensures lo { result.lo ≡ numbers.lo }
     ensures hi { result.hi ≡ numbers.hi }
     ensures shift { result.shift ≡ shift }
+    ensures tight { IsTight result }
 {
     let lo = numbers.lo;
     let hi = numbers.hi;
@@ -116,6 +117,8 @@ pub(crate) fn cut(side: usize, numbers: Interval, shift: u32) -> Axis
 pub(crate) fn one_place(numbers: Interval) -> Axis
     ensures cut { IsAxis result }
     ensures side { result.side ≡ 0 }
+    ensures lo { result.lo ≡ numbers.lo }
+    ensures hi { result.hi ≡ numbers.hi }
     ensures one { result.size ≡ 1 }
 {
     Axis {

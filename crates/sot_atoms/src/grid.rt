@@ -1,13 +1,16 @@
 //! Grids: the hull of a region, cut into atoms.
 
-ghost use Rattle.std.specs.Prelude.{◌≡◌, ◌+◌, ◌*◌, ◌<◌, ◌≤◌, length, IfSome, MatchOption};
+ghost use Rattle.std.specs.Prelude.{◌≡◌, ◌+◌, ◌*◌, ◌<◌, ◌≤◌, ◌≤ℤ◌, [], ◌∷◌, length};
+ghost use Rattle.std.specs.Prelude.{IfSome, MatchOption};
 ghost use Rattle.sot_lists.specs.Places.{At};
 ghost use Rattle.sot_atoms.specs.Places.{IsAxis};
 ghost use Rattle.sot_atoms.specs.Blocks.{FitsAxes, atom_count};
 ghost use Rattle.sot_atoms.specs.Grids.{side_at, LeavesAxis, LeavesHull, MeetsPlaces, MeetsAxis};
-ghost use Rattle.sot_atoms.specs.Grids.{MeetsBlock, IsGridAxis};
+ghost use Rattle.sot_atoms.specs.Grids.{MeetsBlock, IsCut, IsGridAxis, IsOff, on_axis, ClipsAxis};
+ghost use Rattle.sot_atoms.specs.Grids.{IsOffHull, ClipsBlock, HasNumbers, IsAreaOf, HasEnds};
+ghost use Rattle.sot_atoms.specs.Grids.{CutsHull, IsGrainOf, IsCoarser, AreNumbersOn};
 
-use crate::axis::{Axis, cut, numbers_of, one_place, place_of};
+use crate::axis::{Axis, cut, grain, numbers_of, one_place, place_of};
 use crate::block::{Block, Stretch};
 use sot_box::{BoxN, Interval};
 use std::marker::Model;
@@ -146,8 +149,8 @@ fn axis_at(hull: &BoxN, shifts: &[u32], last: usize, k: usize) -> Axis
     requires count { length shifts.now ≡ 4 }
     requires last { last < length hull.now }
     requires below { k < 4 }
-    ensures cut { IsAxis result }
-    ensures side { result.side < length hull.now }
+    ensures axis { IsGridAxis (length hull.now) last k result }
+    ensures ends { HasEnds result hull.now }
 {
     let width = hull.len();
     if k + width < 4 {
@@ -179,6 +182,19 @@ fn all_of(size: usize) -> Stretch
     }
 }
 
+// The places that an interval on an axis meets.
+fn places_of(axis: Axis, numbers: Interval) -> Stretch
+    requires cut { IsAxis axis }
+    requires low { axis.lo ≤ℤ numbers.lo }
+    requires high { numbers.hi ≤ℤ axis.hi }
+    ensures { MeetsPlaces axis numbers result }
+{
+    Stretch {
+        from: place_of(axis, numbers.lo),
+        to: place_of(axis, numbers.hi),
+    }
+}
+
 // The places of an axis that an interval meets; `None` where some of it is outside.
 fn stretch_on(axis: Axis, numbers: Interval) -> Option<Stretch>
     requires { IsAxis axis }
@@ -187,25 +203,34 @@ fn stretch_on(axis: Axis, numbers: Interval) -> Option<Stretch>
     if numbers.lo < axis.lo || axis.hi < numbers.hi {
         return None;
     }
-    Some(Stretch {
-        from: place_of(axis, numbers.lo),
-        to: place_of(axis, numbers.hi),
-    })
+    Some(places_of(axis, numbers))
+}
+
+// The numbers of an interval that are on an axis, of which there are some.
+fn part_on(axis: Axis, numbers: Interval) -> Interval
+    requires cut { IsAxis axis }
+    requires low { axis.lo ≤ℤ numbers.hi }
+    requires high { numbers.lo ≤ℤ axis.hi }
+    ensures value { result ≡ on_axis axis numbers }
+    ensures low { axis.lo ≤ℤ result.lo }
+    ensures high { result.hi ≤ℤ axis.hi }
+{
+    let lo = numbers.lo.max(axis.lo);
+    let hi = numbers.hi.min(axis.hi);
+    Interval { lo, hi }
 }
 
 // The places of an axis that an interval meets as far as it is on it; `None` where it is not.
 fn clipped_on(axis: Axis, numbers: Interval) -> Option<Stretch>
     requires { IsAxis axis }
+    ensures { MatchOption result (IsOff axis numbers)
+        (λ r. MeetsPlaces axis (on_axis axis numbers) r) }
 {
-    let lo = numbers.lo.max(axis.lo);
-    let hi = numbers.hi.min(axis.hi);
-    if hi < lo {
+    if numbers.hi < axis.lo || axis.hi < numbers.lo {
         return None;
     }
-    Some(Stretch {
-        from: place_of(axis, lo),
-        to: place_of(axis, hi),
-    })
+    let part = part_on(axis, numbers);
+    Some(places_of(axis, part))
 }
 
 // One place.
@@ -219,8 +244,7 @@ fn single(place: usize) -> Stretch {
 // The axis with a wider grain, where it has more than one place.
 fn coarser_axis(axis: Axis, by: u32) -> Axis
     requires { IsAxis axis }
-    ensures cut { IsAxis result }
-    ensures side { result.side ≡ axis.side }
+    ensures { IsCoarser axis result }
 {
     if axis.size == 1 {
         return axis;
@@ -235,6 +259,7 @@ fn coarser_axis(axis: Axis, by: u32) -> Axis
 // The numbers of a stretch, as far as the axis has its places.
 fn numbers_in(axis: Axis, side: Stretch) -> Interval
     requires { IsAxis axis }
+    ensures { side.from ≤ side.to → side.to < axis.size → HasNumbers axis side result }
 {
     let to = side.to.min(axis.size - 1);
     let from = side.from.min(to);
@@ -247,6 +272,7 @@ impl Grid {
     /// 2^25 atoms.
     pub fn of(hull: &BoxN, many: u64, coarser: u32) -> Option<Grid>
         ensures width { IfSome result (λ g. g.width ≡ length hull.now) }
+        ensures hull { IfSome result (λ g. CutsHull g hull.now) }
     {
         let mut shifts = [0u32; 4];
         narrow(hull, many, &mut shifts);
@@ -262,6 +288,7 @@ impl Grid {
         requires count { length shifts.now ≡ 4 }
         requires last { last < length hull.now }
         ensures width { IfSome result (λ g. g.width ≡ length hull.now) }
+        ensures hull { IfSome result (λ g. CutsHull g hull.now) }
     {
         let a = axis_at(hull, shifts, last, 0);
         let b = axis_at(hull, shifts, last, 1);
@@ -275,11 +302,12 @@ impl Grid {
         requires some { 0 < width }
         requires few { width ≤ 4 }
         requires last { last < width }
-        requires first { IsGridAxis width a }
-        requires second { IsGridAxis width b }
-        requires third { IsGridAxis width c }
-        requires fourth { IsGridAxis width d }
-        ensures { IfSome result (λ g. g.width ≡ width) }
+        requires first { IsGridAxis width last 0 a }
+        requires second { IsGridAxis width last 1 b }
+        requires third { IsGridAxis width last 2 c }
+        requires fourth { IsGridAxis width last 3 d }
+        ensures width { IfSome result (λ g. g.width ≡ width) }
+        ensures axes { IfSome result (λ g. g.axes ≡ a ∷ b ∷ c ∷ d ∷ []) }
     {
         let total = few_atoms(a.size, b.size, c.size, d.size)?;
         Some(Grid {
@@ -303,6 +331,7 @@ impl Grid {
     pub fn axes(&self) -> &[Axis]
         ensures value { result.now ≡ self.now.axes }
         ensures count { length result.now ≡ 4 }
+        ensures cut { IsCut self.now.width self.now.last self.now.axes }
     {
         &self.axes
     }
@@ -331,9 +360,10 @@ impl Grid {
     /// The grain of a side.
     pub fn grain(&self, side: usize) -> usize
         requires { side < self.now.width }
+        ensures { IsGrainOf self.now side result }
     {
         let k = axis_of(self.width, self.last, side);
-        1usize << self.axis(k).shift.min(63)
+        grain(self.axis(k).shift)
     }
 
     // Axis k.
@@ -342,6 +372,7 @@ impl Grid {
         ensures there { At self.now.axes k result }
         ensures cut { IsAxis result }
         ensures side { result.side < self.now.width }
+        ensures axis { IsGridAxis self.now.width self.now.last k result }
     {
         let axes = &self.axes;
         axes[k]
@@ -360,9 +391,13 @@ impl Grid {
     /// The atoms that a box meets; `None` where some of it is outside the hull.
     pub fn block(&self, b: &BoxN) -> Option<Block>
         requires { length b.now ≡ self.now.width }
-        ensures { MatchOption result
+        ensures places { MatchOption result
             (LeavesHull self.now.axes b.now) (λ q. MeetsBlock self.now.axes b.now q) }
+        ensures fits { IfSome result (λ q. FitsAxes self.now.axes q) }
     {
+        // A look at the axes and the box brings how they are made.
+        let _axes = self.axes();
+        let _width = b.len();
         let first = self.stretch(b, 0)?;
         let second = self.stretch(b, 1)?;
         let third = self.stretch(b, 2)?;
@@ -374,6 +409,7 @@ impl Grid {
     fn clipped(&self, b: &BoxN, k: usize) -> Option<Stretch>
         requires width { length b.now ≡ self.now.width }
         requires below { k < 4 }
+        ensures { ClipsAxis self.now.axes b.now k result }
     {
         let axis = self.axis(k);
         clipped_on(axis, b.side(axis.side))
@@ -382,7 +418,13 @@ impl Grid {
     /// The atoms that a box meets as far as it lies in the hull; `None` where it does not meet it.
     pub fn clip(&self, b: &BoxN) -> Option<Block>
         requires { length b.now ≡ self.now.width }
+        ensures places { MatchOption result
+            (IsOffHull self.now.axes b.now) (λ q. ClipsBlock self.now.axes b.now q) }
+        ensures fits { IfSome result (λ q. FitsAxes self.now.axes q) }
     {
+        // A look at the axes and the box brings how they are made.
+        let _axes = self.axes();
+        let _width = b.len();
         let first = self.clipped(b, 0)?;
         let second = self.clipped(b, 1)?;
         let third = self.clipped(b, 2)?;
@@ -420,19 +462,30 @@ impl Grid {
 
     // The side on the last axis.
     fn last(&self) -> usize
-        ensures { result < self.now.width }
+        ensures value { result ≡ self.now.last }
+        ensures there { result < self.now.width }
     {
         self.last
+    }
+
+    // The numbers of a block on a side.
+    fn numbers(&self, block: &Block, side: usize) -> Interval
+        requires { side < self.now.width }
+        ensures { AreNumbersOn self.now block.now side result }
+    {
+        let k = axis_of(self.width, self.last, side);
+        numbers_in(self.axis(k), block.side(k))
     }
 
     /// The points of a block; where a stretch goes further than its axis, those on the axis.
     pub fn area(&self, block: &Block) -> BoxN
         ensures width { length result ≡ self.now.width }
+        ensures numbers { FitsAxes self.now.axes block.now → IsAreaOf self.now block.now result }
+        ensures cut { IsCut self.now.width self.now.last self.now.axes }
     {
         let mut sides = [Interval { lo: 0, hi: 0 }; 4];
         for side in 0..self.width {
-            let k = axis_of(self.width, self.last, side);
-            sides[side] = numbers_in(self.axis(k), block.side(k));
+            sides[side] = self.numbers(block, side);
         }
         BoxN::of(&sides[..self.width]).unwrap()
     }

@@ -136,3 +136,61 @@ fn each_fill(
         fill(byte, bytes, inner, within, before * size + a);
     }
 }
+
+/// How many of these bytes are 1, where all are 0 or 1.
+pub(crate) fn ones(bytes: &[u8]) -> usize {
+    let mut count = 0usize;
+    for byte in bytes {
+        count = count.wrapping_add(*byte as usize);
+    }
+    count
+}
+
+// How many bytes of a row are 1.
+fn row_ones(bytes: &[u8], from: usize, to: usize) -> usize
+    requires order { from ≤ to }
+    requires there { to < length bytes.now }
+{
+    ones(&bytes[from..to + 1])
+}
+
+/// How many atoms of a block have the byte 1. So many atoms come before on the axes before these.
+#[cycle(count)]
+pub(crate) fn count(bytes: &[u8], axes: &[Axis], sides: &[Stretch], before: usize) -> usize
+    requires fits { FitsAxes axes.now sides.now }
+    requires room { (before + 1) * atom_count axes.now ≤ length bytes.now }
+{
+    let Some((axis, inner)) = axes.split_first() else {
+        return bytes[before] as usize;
+    };
+    let Some((side, within)) = sides.split_first() else {
+        return 0;
+    };
+    if inner.is_empty() {
+        let from = before * axis.size + side.from;
+        return row_ones(bytes, from, from + (side.to - side.from));
+    }
+    each_count(bytes, axis.size, *side, inner, within, before)
+}
+
+// The same of a block whose first stretch lies on an axis of so many places.
+#[cycle(count)]
+fn each_count(
+    bytes: &[u8],
+    size: usize,
+    side: Stretch,
+    inner: &[Axis],
+    within: &[Stretch],
+    before: usize,
+) -> usize
+    requires order { side.from ≤ side.to }
+    requires inside { side.to < size }
+    requires fits { FitsAxes inner.now within.now }
+    requires room { (before + 1) * (size * atom_count inner.now) ≤ length bytes.now }
+{
+    let mut found = 0usize;
+    for a in side.from..side.to + 1 {
+        found = found.wrapping_add(count(bytes, inner, within, before * size + a));
+    }
+    found
+}

@@ -8,7 +8,7 @@ ghost use Rattle.sot_atoms.specs.Sets.{IsNextMember};
 
 use crate::block::Block;
 use crate::grid::Grid;
-use crate::rows::{fill, fits, lacks};
+use crate::rows::{count, fill, fits, lacks, ones};
 use memchr::memchr;
 use std::alloc::{AllocError, Global};
 use std::marker::Model;
@@ -118,5 +118,44 @@ impl AtomSet {
             None => None,
             Some(behind) => Some(from + behind),
         }
+    }
+
+    /// The same atoms, in a set of their own.
+    pub fn copied(&self) -> Result<AtomSet, AllocError>
+        ensures { IfOk result (λ s. s ≡ self.now) }
+    {
+        let bytes = self.bytes.clone()?;
+        Ok(AtomSet { bytes })
+    }
+
+    /// How many atoms are in the set.
+    pub fn members(&self) -> usize {
+        ones(&self.bytes)
+    }
+
+    /// How many atoms of a block are in the set; none of a block or a set of another grid.
+    pub fn count(&self, grid: &Grid, block: &Block) -> usize {
+        if !self.is_for(grid, block) {
+            return 0;
+        }
+        count(&self.bytes, grid.axes(), block.sides(), 0)
+    }
+
+    /// The numbers of some atoms in the set, in order: the first one, and after each the one that
+    /// is so many behind it.
+    pub fn spread(&self, alloc: Global, each: usize) -> Result<Vec<usize>, AllocError> {
+        let mut numbers = Vec::new(alloc);
+        let mut skipped = 0;
+        for number in 0..self.bytes.len() {
+            if self.bytes[number] == 0 {
+                continue;
+            }
+            if skipped == 0 {
+                numbers.push(number)?;
+                skipped = each;
+            }
+            skipped = skipped.saturating_sub(1);
+        }
+        Ok(numbers)
     }
 }

@@ -1,0 +1,6 @@
+-- what the public contracts say
+pub mod Following
+pub mod Theorems
+pub mod Alone
+-- between crates that follow tubes
+pub mod Walks

@@ -1,0 +1,6 @@
+use Rattle.sot_shrinking.specs.Asking.{asked_width}
+use Rattle.sot_regions.specs.Searches.{IsBest}
+use Rattle.sot_regions.proofs.asked.coarsen.Given as goal
+
+abbrev pub invariant-loop-times : goal.invariant-loop-times
+invariant-loop-times l = IsBest (asked_width l.ask) l.best

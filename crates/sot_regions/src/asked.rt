@@ -1,0 +1,217 @@
+//! Regions inside one that is given, with coarser and coarser grains.
+
+ghost use Rattle.std.specs.Prelude.{◌≡◌, ◌≤◌, ◌<◌, ℤ, List, length, IfOk, IfErr, IfSome, OnOk};
+ghost use Rattle.sot_shrinking.specs.Asking.{asked_width};
+ghost use Rattle.sot_regions.specs.Shapes.{AreWide, HasShape};
+ghost use Rattle.sot_regions.specs.Searches.{IsSearch, IsBest};
+ghost use Rattle.sot_regions.specs.declared.found.RegionsFail.TheVariants.{SafeNone};
+
+use crate::cells::cells_of;
+use crate::cover::{Adding, Cover, cover_of};
+use crate::found::{Found, RegionsFail};
+use crate::growing::orders;
+use crate::search::{Good, Search};
+use sot_atoms::{AtomSet, Block, Grid, MOST_ATOMS, atoms_in};
+use sot_box::{BoxN, Region};
+use sot_rta::node_at;
+use sot_shrinking::{Ask, atoms_of, greatest};
+use std::alloc::{AllocError, Global};
+
+// More grains than there are until each side is one place.
+const GRAINS: u32 = 64;
+
+// How many ticks of held tubes there may be from all atoms together.
+const MOST_TICKS: u64 = 134_217_728;
+
+// The best regions so far.
+#[derive(Drop)]
+struct Best {
+    // how many atoms of the narrowest grain the safe region has
+    worth: u64,
+    found: Option<Found>,
+    // whether some safe region had no safer one
+    no_safer: bool,
+}
+
+// How many atoms of the narrowest grid the atoms of a set of a coarser one have.
+fn worth_of(grid: &Grid, narrowest: &Grid, set: &AtomSet) -> u64
+    requires { grid.now.width ≡ narrowest.now.width }
+{
+    if grid.total() == narrowest.total() {
+        return set.members() as u64;
+    }
+    let mut worth = 0u64;
+    let mut from = 0;
+    for _atom in 0..set.len() {
+        let Some(number) = set.next(from) else {
+            break;
+        };
+        if let Some(block) = narrowest.block(&grid.area(&grid.atom(number))) {
+            worth = worth.saturating_add(atoms_in(&block));
+        }
+        from = number + 1;
+    }
+    worth
+}
+
+// The points of some blocks.
+fn areas(alloc: Global, grid: &Grid, blocks: &[Block]) -> Result<Vec<BoxN>, AllocError>
+    ensures count { IfOk result (λ v. length v.items ≡ length blocks.now) }
+    ensures wide { IfOk result (λ v. AreWide grid.now.width v.items) }
+{
+    let mut boxes = Vec::new(alloc);
+    for block in blocks {
+        boxes.push(grid.area(block))?;
+    }
+    Ok(boxes)
+}
+
+// The cells and the safer region of a safe region, where there are few cells. The best regions are
+// these where they have a box from which any commands keep.
+fn improve(search: &Search<'_>, safe: &Cover, worth: u64, best: &mut Best) -> Result<(), AllocError>
+    requires search { IsSearch search.now }
+    requires some { 0 < length safe.now.boxes.items }
+    requires few { length safe.now.boxes.items ≤ 256 }
+    requires best { IsBest search.now.grid.now.width best.old }
+    ensures { OnOk result (IsBest search.now.grid.now.width best.new) }
+{
+    let grid = search.grid;
+    let set = &safe.set;
+    let Some(cells) = cells_of(search, set)? else {
+        return Ok(());
+    };
+    let safer = cover_of(search, set, Good::KeepsAny(set), Adding::Plain)?;
+    if safer.boxes.is_empty() {
+        best.no_safer = true;
+        return Ok(());
+    }
+    let found = Found {
+        safe: areas(search.alloc, grid, &safe.boxes)?,
+        safer: areas(search.alloc, grid, &safer.boxes)?,
+        cells: areas(search.alloc, grid, &cells)?,
+    };
+    best.worth = worth;
+    best.found = Some(found);
+    Ok(())
+}
+
+// Looks for regions among the atoms of a closed set. Whether a coarser grain may find better ones.
+fn look(
+    search: &Search<'_>,
+    narrowest: &Grid,
+    set: &AtomSet,
+    best: &mut Best,
+) -> Result<bool, AllocError>
+    requires search { IsSearch search.now }
+    requires narrowest { narrowest.now.width ≡ search.now.grid.now.width }
+    requires best { IsBest search.now.grid.now.width best.old }
+    ensures { OnOk result (IsBest search.now.grid.now.width best.new) }
+{
+    let grid = search.grid;
+    let most = worth_of(grid, narrowest, set);
+    if most <= best.worth {
+        return Ok(false);
+    }
+    let safe = cover_of(search, set, Good::Within(set), Adding::Closed(set))?;
+    let worth = worth_of(grid, narrowest, &safe.set);
+    if best.worth < worth && !safe.boxes.is_empty() {
+        improve(search, &safe, worth, best)?;
+    }
+    Ok(best.worth < most && grid.total() > 1)
+}
+
+/// The greatest closed set of atoms inside a region.
+pub(crate) fn closed_in(
+    alloc: Global,
+    ask: &Ask<'_>,
+    grid: &Grid,
+    given: &Region,
+) -> Result<AtomSet, AllocError>
+    requires grid { grid.now.width ≡ asked_width ask.now }
+    requires given { given.now.width ≡ asked_width ask.now }
+{
+    let mut set = atoms_of(alloc, grid, given)?;
+    greatest(alloc, ask, grid, &mut set)?;
+    Ok(set)
+}
+
+// The most atoms of a grid, by how long held tubes are.
+fn most_atoms(ask: &Ask<'_>) -> u64 {
+    let period = node_at(ask.program(), ask.info().sc).period;
+    let ticks = u64::from(period).saturating_add(u64::from(ask.jitter()));
+    (MOST_ATOMS as u64).min(MOST_TICKS / ticks.max(1))
+}
+
+// Looks with coarser and coarser grains for better regions.
+fn coarsen(
+    alloc: Global,
+    ask: &Ask<'_>,
+    given: &Region,
+    narrowest: &Grid,
+    best: &mut Best,
+) -> Result<(), AllocError>
+    requires narrowest { narrowest.now.width ≡ asked_width ask.now }
+    requires given { given.now.width ≡ asked_width ask.now }
+    requires best { IsBest (asked_width ask.now) best.old }
+    ensures { OnOk result (IsBest (asked_width ask.now) best.new) }
+{
+    let orders = orders(alloc, narrowest.width())?;
+    for times in 1..GRAINS {
+        let Some(grid) = narrowest.coarser(times) else {
+            break;
+        };
+        let set = closed_in(alloc, ask, &grid, given)?;
+        let search = Search {
+            alloc,
+            ask: &*ask,
+            grid: &grid,
+            orders: &orders,
+        };
+        if !look(&search, narrowest, &set, best)? {
+            break;
+        }
+    }
+    Ok(())
+}
+
+/// The grid of a hull with the narrowest grains that have few enough atoms. There is always one.
+pub(crate) fn narrowest_grid(ask: &Ask<'_>, hull: &BoxN) -> Option<Grid>
+    ensures { IfSome result (λ g. g.width ≡ length hull.now) }
+{
+    Grid::of(hull, most_atoms(ask), 0)
+}
+
+/// The best regions inside the given one, of whose atoms on the narrowest grid these are closed.
+pub(crate) fn regions_from(
+    alloc: Global,
+    ask: &Ask<'_>,
+    given: &Region,
+    narrowest: &Grid,
+    set: &AtomSet,
+) -> Result<Found, RegionsFail>
+    requires narrowest { narrowest.now.width ≡ asked_width ask.now }
+    requires given { given.now.width ≡ asked_width ask.now }
+    ensures shape { IfOk result (HasShape (asked_width ask.now)) }
+    ensures fail { IfErr result (λ e. (grain : List ℤ) → e ≡ SafeNone grain → ⊥) }
+{
+    let mut best = Best {
+        worth: 0,
+        found: None,
+        no_safer: false,
+    };
+    let orders = orders(alloc, narrowest.width())?;
+    let search = Search {
+        alloc,
+        ask: &*ask,
+        grid: &*narrowest,
+        orders: &orders,
+    };
+    if look(&search, narrowest, set, &mut best)? {
+        coarsen(alloc, ask, given, narrowest, &mut best)?;
+    }
+    match best.found {
+        Some(found) => Ok(found),
+        None if best.no_safer => Err(RegionsFail::SaferNone),
+        None => Err(RegionsFail::TooMany),
+    }
+}

@@ -1,0 +1,53 @@
+//! The regions of one module of a program.
+
+ghost use Rattle.std.specs.Prelude.{IfOk};
+ghost use Rattle.sot_lists.specs.Places.{At};
+ghost use Rattle.sot_lang.specs.declared.tables.ModuleInfo.{ModuleInfo as AModule};
+ghost use Rattle.sot_lang.specs.OwnerNames.{width_of};
+ghost use Rattle.sot_shrinking.specs.Asking.{MayAsk};
+ghost use Rattle.sot_regions.specs.Shapes.{HasShape};
+
+use crate::asked::{narrowest_grid, regions_from};
+use crate::found::{Found, RegionsFail};
+use crate::narrowing::narrowed;
+use sot_atoms::Grid;
+use sot_box::Point;
+use sot_lang::Typed;
+use sot_rta::module_at;
+use sot_shrinking::{Ask, closed_atoms};
+use std::alloc::Global;
+
+// The grain of each side.
+fn grains(grid: &Grid) -> Point {
+    let mut numbers = [0i64; 4];
+    for side in 0..grid.width() {
+        numbers[side] = i64::try_from(grid.grain(side)).unwrap_or(i64::MAX);
+    }
+    Point::of(&numbers[..grid.width()]).unwrap()
+}
+
+/// Regions and cells for a module of a program, inside its safe region, which is what must never be
+/// left. `jitter` is how many ticks each node may be late.
+pub fn regions_of(alloc: Global, p: &Typed, module: u32, jitter: u32) -> Result<Found, RegionsFail>
+    requires { MayAsk p.now «module» jitter }
+    ensures shape { IfOk result (λ found. (info : AModule) → At p.now.modules «module» info
+        → HasShape (width_of p.now.plants info.plant) found) }
+{
+    let given = &module_at(p, module).safe;
+    let ask = Ask::of(p, module, jitter);
+    let Some(hull) = given.hull() else {
+        return Err(RegionsFail::TooMany);
+    };
+    let Some(narrowest) = narrowest_grid(&ask, &hull) else {
+        return Err(RegionsFail::TooMany);
+    };
+    let set = closed_atoms(alloc, &ask, &narrowest)?;
+    if set.next(0).is_none() {
+        let grain = grains(&narrowest);
+        return Err(RegionsFail::SafeNone { grain });
+    }
+    match regions_from(alloc, &ask, given, &narrowest, &set) {
+        Err(RegionsFail::TooMany) => narrowed(alloc, &ask, given, &hull),
+        first => first,
+    }
+}

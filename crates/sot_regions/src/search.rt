@@ -1,0 +1,152 @@
+//! The best block around an atom: grown in each order of the axes, the one of the greatest worth.
+
+ghost use Rattle.std.specs.Prelude.{◌<◌};
+ghost use Rattle.sot_regions.specs.Searches.{IsSearch};
+
+use crate::growing::{End, Order, added, grown, room};
+use sot_atoms::{AtomSet, Block, Grid, atoms_in};
+use sot_shrinking::{Ask, Held, any_tube, held_tube};
+use std::alloc::{AllocError, Global};
+
+/// In which grid is searched, and whose tubes are asked for.
+#[derive(Clone, Copy)]
+pub(crate) struct Search<'a> {
+    pub(crate) alloc: Global,
+    pub(crate) ask: &'a Ask<'a>,
+    pub(crate) grid: &'a Grid,
+    pub(crate) orders: &'a [Order],
+}
+
+/// What is asked of a block. A smaller block does it too, since its tubes are narrower.
+#[derive(Clone, Copy)]
+pub(crate) enum Good<'a> {
+    /// It lies in the set.
+    Within(&'a AtomSet),
+    /// Its held tube stays in the set.
+    Held(&'a AtomSet),
+    /// It lies in the set, and its held tube stays there.
+    Keeps(&'a AtomSet),
+    /// It lies in the set, and its tube under any commands stays there.
+    KeepsAny(&'a AtomSet),
+}
+
+/// What a block is worth.
+#[derive(Clone, Copy)]
+pub(crate) enum Worth<'a> {
+    /// Its atoms.
+    Atoms,
+    /// Its atoms in the set.
+    In(&'a AtomSet),
+    /// Its atoms that are not in the set.
+    Outside(&'a AtomSet),
+}
+
+/// How many atoms of a block are not in a set.
+pub(crate) fn outside(grid: &Grid, block: &Block, set: &AtomSet) -> u64 {
+    atoms_in(block).saturating_sub(set.count(grid, block) as u64)
+}
+
+fn worth_of(grid: &Grid, block: &Block, worth: Worth<'_>) -> u64 {
+    match worth {
+        Worth::Atoms => atoms_in(block),
+        Worth::In(set) => set.count(grid, block) as u64,
+        Worth::Outside(set) => outside(grid, block, set),
+    }
+}
+
+impl Search<'_> {
+    /// Whether the held tube of a block stays in a set.
+    pub(crate) fn is_held(&self, block: &Block, set: &AtomSet) -> bool
+        requires { IsSearch self.now }
+    {
+        held_tube(self.ask, &self.grid.area(block), self.grid, set) == Held::Inside
+    }
+
+    // Whether the tube of a block under any commands stays in a set.
+    fn is_kept(&self, block: &Block, set: &AtomSet) -> bool
+        requires { IsSearch self.now }
+    {
+        any_tube(self.ask, &self.grid.area(block), self.grid, set) == Held::Inside
+    }
+
+    /// Whether a block is good, all of which but for a part is known to lie in the set.
+    pub(crate) fn is_good(&self, block: &Block, part: &Block, good: Good<'_>) -> bool
+        requires { IsSearch self.now }
+    {
+        match good {
+            Good::Within(set) => set.has_all(self.grid, part),
+            Good::Held(set) => self.is_held(block, set),
+            Good::Keeps(set) => set.has_all(self.grid, part) && self.is_held(block, set),
+            Good::KeepsAny(set) => set.has_all(self.grid, part) && self.is_kept(block, set),
+        }
+    }
+
+    // Moves one end of a block that lies in the set as far as it stays good, inside another one, by
+    // steps that double while they are good, and then halve.
+    fn push(&self, from: &Block, within: &Block, k: usize, end: End, good: Good<'_>) -> Block
+        requires search { IsSearch self.now }
+        requires below { k < 4 }
+    {
+        let mut block = *from;
+        let mut step = 1usize;
+        let mut doubling = true;
+        for _time in 0..128 {
+            if step == 0 {
+                break;
+            }
+            let wider = grown(&block, k, end, step);
+            let part = added(&block, k, end, step);
+            let fits = step <= room(&block, within, k, end);
+            if fits && self.is_good(&wider, &part, good) {
+                block = wider;
+            } else {
+                doubling = false;
+            }
+            step = if doubling {
+                step.saturating_mul(2)
+            } else {
+                step / 2
+            };
+        }
+        block
+    }
+
+    // Moves all ends of a block as far as it stays good, inside another one, axis by axis.
+    fn grow(&self, from: &Block, within: &Block, order: Order, good: Good<'_>) -> Block
+        requires { IsSearch self.now }
+    {
+        let mut block = *from;
+        for i in 0..4 {
+            let k = order.axis(i);
+            block = self.push(&block, within, k, End::Upper, good);
+            block = self.push(&block, within, k, End::Lower, good);
+        }
+        block
+    }
+
+    /// Of the blocks that grow from this one in all orders the first one of the greatest worth.
+    pub(crate) fn best(
+        &self,
+        from: &Block,
+        within: &Block,
+        good: Good<'_>,
+        worth: Worth<'_>,
+    ) -> Block
+        requires { IsSearch self.now }
+    {
+        let mut best = *from;
+        let mut greatest = None;
+        for order in self.orders {
+            let block = self.grow(from, within, *order, good);
+            if block == best && greatest.is_some() {
+                continue;
+            }
+            let found = worth_of(self.grid, &block, worth);
+            if greatest.is_none_or(|most| most < found) {
+                best = block;
+                greatest = Some(found);
+            }
+        }
+        best
+    }
+}

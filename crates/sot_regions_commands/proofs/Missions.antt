@@ -1,0 +1,63 @@
+-- The program with what was found for it, and its certificate.
+use Rattle.std.proofs.Common.{◌≡◌, ◌∙◌, ℕ, ◌≤◌, List, Option, Result, length, refl, sym, ap, subst}
+use Rattle.std.specs.Prelude.{IfOk}
+use Rattle.std.specs.declared.alloc.AllocError.{AllocError}
+use Rattle.sot_sections.specs.declared.mission.Need.TheVariants as needs
+use Rattle.sot_tree.specs.Trees.{Program}
+use Rattle.sot_parser.specs.Programs.{Spells}
+use Rattle.sot_lang.specs.declared.cert.Cells.{Cells}
+use Rattle.sot_lang.specs.declared.cert.Cert.{Cert}
+use Rattle.sot_lang.specs.Tables.{Tables}
+use Rattle.sot_lang.specs.CertRules.{FitsTables}
+use Rattle.sot_tube.specs.Certified.{IsWellCertified}
+use Rattle.sot_tube.specs.Refusals.{Refusal}
+use Rattle.sot_tube.specs.Verdict.{verdict}
+use Rattle.sot_report.specs.Missions.{Mission, Resolves, SpellsMission}
+use Rattle.sot_report.specs.RefusalTexts.{refusal_text}
+use Rattle.sot_certified_text.specs.ReadAgain.{IsCertificateFor, written_with_jitter}
+use Rattle.sot_region_tree.specs.declared.modules.ModuleRegions.{ModuleRegions}
+use Rattle.sot_region_tree.specs.OtherRegions.{with_regions}
+use Rattle.sot_answers.specs.declared.answer.Answer.{Answer}
+use Rattle.sot_regions_commands.specs.AsAsked.{IsLate}
+use Rattle.sot_regions_commands.specs.Answers.{SpellsTyped}
+use Rattle.sot_regions_commands.specs.Steps.{AreTablesOf, AreFindings, AnswersFound}
+use Rattle.sot_regions_commands.proofs.OtherTables.{stay_inside, are_found}
+use Rattle.sot_regions_commands.proofs.Spelled.{other, fits, certificate_for}
+use Rattle.sot_regions_commands.proofs.Forms.{unaccepted_result, mission_result}
+
+module _ (bytes : List ℕ) (t u : Tables) (changed : Program) (regions given : List ModuleRegions) (same : given ≡ regions) (cells : List (Option Cells))
+    (found : AreFindings t regions cells (length t.modules))
+    (typed : (p : Program) → Spells bytes 0 p → (changed ≡ with_regions given p) × Resolves (with_regions given p) u) (cert : Cert)
+    (are : cert.modules.items ≡ cells) (low : cert.jitter ≤ 999) (in_time : ¬ (IsLate t cert.jitter)) where
+  changed_is : (p : Program) → Spells bytes 0 p → changed ≡ with_regions regions p
+  changed_is p spells = (typed p spells).0 ∙ ap (λ (rs : List ModuleRegions). with_regions rs p) same
+
+  resolved : (p : Program) → Spells bytes 0 p → Resolves (with_regions regions p) u
+  resolved p spells = subst (λ (rs : List ModuleRegions). Resolves (with_regions rs p) u) same (typed p spells).1
+
+  pub cert_fits : AreTablesOf bytes t → FitsTables u cert
+  cert_fits (p, spelled) = fits bytes p t regions cells (length t.modules) spelled found u (resolved p spelled.0) cert refl are low in_time
+
+  pub cert_for : AreTablesOf bytes t → IsWellCertified u cert.jitter cert → IsCertificateFor changed u cert
+  cert_for (p, spelled) certified =
+      subst (λ (q : Program). IsCertificateFor q u cert) (sym (changed_is p spelled.0))
+      (certificate_for bytes p t regions cells (length t.modules) spelled found u (resolved p spelled.0) cert refl are low in_time certified)
+
+  pub refused_so : (r : Result Answer AllocError) (p : Program) (refusal : Refusal) → SpellsTyped bytes p t → (verdict u cert.jitter cert).Refuses refusal
+      → IfOk r (λ a. a.status ≡ 1) → IfOk r (λ a. a.text.items ≡ refusal_text u refusal)
+      → IfOk r (λ a. AnswersFound p t cert.jitter a.status a.text.items)
+  refused_so r p refusal spelled refuses status text =
+      let seen = other bytes p t regions cells (length t.modules) spelled found u (resolved p spelled.0) in
+      unaccepted_result r p t u cert.jitter regions cert refusal (are_found regions t u seen cells (length t.modules) found spelled.1.rules refl)
+      (resolved p spelled.0) refl refuses status text
+
+  pub written_so : (r : Result Answer AllocError) (p : Program) → SpellsTyped bytes p t → IsWellCertified u cert.jitter cert
+      → IfOk r (λ a. a.status ≡ 0) → IfOk r (λ a. a.text.items ≡ written_with_jitter changed u cert)
+      → IfOk r (λ a. (m : Mission) × SpellsMission needs.Check 0 a.text.items m)
+      → IfOk r (λ a. AnswersFound p t cert.jitter a.status a.text.items)
+  written_so r p spelled certified status text mission =
+      let seen = other bytes p t regions cells (length t.modules) spelled found u (resolved p spelled.0) in
+      mission_result r p changed t u regions cert (changed_is p spelled.0)
+      (are_found regions t u seen cells (length t.modules) found spelled.1.rules refl)
+      (stay_inside regions t u seen cells (length t.modules) found)
+      (cert_for (p, spelled) certified) status text mission

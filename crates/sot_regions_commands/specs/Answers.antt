@@ -1,0 +1,122 @@
+-- What `soter_regions` answers to a jitter and the bytes of its input.
+use Rattle.std.specs.Prelude.{◌≡◌, ℕ, ◌⊎◌, List}
+use Rattle.sot_lists.specs.Places.{At}
+use Rattle.sot_sections.specs.declared.mission.Need.TheVariants as needs
+use Rattle.sot_tree.specs.Trees.{Program}
+use Rattle.sot_text.specs.Ahead.{ahead_from}
+use Rattle.sot_parser.specs.Programs.{Spells}
+use Rattle.sot_law_fault_place.specs.Places.{IsFaultOf}
+use Rattle.sot_law_format.specs.Unplaced.{AreSame}
+use Rattle.sot_rules.specs.First.{IsFirstFault}
+use Rattle.sot_lang.specs.declared.cert.Cert.{Cert}
+use Rattle.sot_lang.specs.declared.tables.ModuleInfo.{ModuleInfo}
+use Rattle.sot_lang.specs.Tables.{Tables}
+use Rattle.sot_tube.specs.Certified.{IsWellCertified}
+use Rattle.sot_tube.specs.Verdict.{verdict}
+use Rattle.sot_tube.specs.Refusals.{Refusal}
+use Rattle.sot_world.specs.Headline.{EveryRunIsSafe}
+use Rattle.sot_report.specs.declared.fault.Fault.{Fault}
+use Rattle.sot_report.specs.declared.fault.Fault.TheVariants as faults
+use Rattle.sot_report.specs.Missions.{Mission, Resolves, SpellsNone, SpellsMission}
+use Rattle.sot_report.specs.FaultTexts.{fault_text}
+use Rattle.sot_report.specs.RefusalTexts.{refusal_text}
+use Rattle.sot_certified_text.specs.ReadAgain.{written_with_jitter}
+use Rattle.sot_region_tree.specs.declared.modules.ModuleRegions.{ModuleRegions}
+use Rattle.sot_region_tree.specs.OtherRegions.{with_regions}
+use Rattle.sot_regions_words.specs.Lines.{refusal_line}
+use Rattle.sot_regions_words.specs.declared.refusal.RegionsRefusal.{RegionsRefusal}
+use Rattle.sot_regions_words.specs.declared.refusal.RegionsRefusal.TheVariants.{Jitter, SafeNone}
+use Rattle.sot_regions_words.specs.declared.refusal.RegionsRefusal.TheVariants.{TooMany, SaferNone}
+use Rattle.sot_regions_commands.specs.AsAsked.{IsLate, as_asked, IsSearched}
+use Rattle.sot_regions_commands.specs.Findings.{IsInside, AreFound}
+
+-- the safe region of each module of the second tables lies inside that of the first
+abbrev pub StayInside : Tables → Tables → Type 0
+StayInside t u =
+    (k : ℕ) (a b : ModuleInfo) → At t.modules k a → At u.modules k b → IsInside b.safe a.safe
+
+-- the text spells a mission of this program, but for where its parts stand, that has this jitter
+-- and is accepted; every run of it, with firings up to this jitter late, keeps every plant inside
+-- the safe region of its module; and that lies inside the one that was given
+pub record SpellsSafe (p : Program) (t : Tables) (jitter : ℕ) (text : List ℕ) : Type 0 where
+  pub mission : Mission
+  pub spelled : SpellsMission needs.Check 0 text mission
+  pub program : AreSame p mission.program
+  pub jitter_is : mission.cert.jitter ≡ jitter
+  pub accepted : IsWellCertified mission.tables jitter mission.cert
+  pub safe : EveryRunIsSafe mission.tables jitter
+  pub inside : StayInside t mission.tables
+
+-- the text is the mission of the program with regions that were found, which is the program that
+-- was given but for `safe` and `safer` of its modules
+pub record IsMissionOf (p : Program) (t : Tables) (jitter : ℕ) (text : List ℕ) : Type 0 where
+  pub regions : List ModuleRegions
+  pub found : AreFound t regions
+  pub tables : Tables
+  pub cert : Cert
+  pub text_is : text ≡ written_with_jitter (with_regions regions p) tables cert
+  pub spelled : SpellsSafe (with_regions regions p) t jitter text
+
+-- a condition that speaks of no cells fails of the program as it was asked, the first in its
+-- order, and this is said
+abbrev pub IsRefusedAsAsked : Tables → List ℕ → Type 0
+IsRefusedAsAsked t text =
+    (r : Refusal) × (as_asked t).Refuses r × (text ≡ refusal_text t r)
+
+-- a line that names a module of the program
+abbrev pub NamesModule : Tables → RegionsRefusal → Type 0
+NamesModule t (Jitter j) = ⊥
+NamesModule t (SafeNone m grain) = (a : ModuleInfo) × At t.modules m a
+NamesModule t (TooMany m) = (a : ModuleInfo) × At t.modules m a
+NamesModule t (SaferNone m) = (a : ModuleInfo) × At t.modules m a
+
+-- of a module no region was found, and this is said
+abbrev pub IsNotFound : Tables → List ℕ → Type 0
+IsNotFound t text = (r : RegionsRefusal) × NamesModule t r × (text ≡ refusal_line t r)
+
+-- regions were found, and a checker refuses the program with them, for this
+abbrev pub IsRefusedAsFound : Program → Tables → ℕ → List ℕ → Type 0
+IsRefusedAsFound p t jitter text =
+    (regions : List ModuleRegions) × (u : Tables) × (cert : Cert) × AreFound t regions
+    × Resolves (with_regions regions p) u × (cert.jitter ≡ jitter)
+    × ((r : Refusal) × (verdict u cert.jitter cert).Refuses r × (text ≡ refusal_text u r))
+
+-- what is answered to a program that breaks no rule of typing: at status 1 that the jitter is not
+-- below all periods; else the first condition that fails of the program as it was asked; else that
+-- no region was found of a module, or why the program with the found regions is refused. At status
+-- 0 its mission
+abbrev pub Answers : Program → Tables → ℕ → ℕ → List ℕ → Type 0
+Answers p t jitter status text =
+    ((status ≡ 1) × IsLate t jitter × (text ≡ refusal_line t (Jitter jitter)))
+    ⊎ ((status ≡ 1) × (¬ (IsLate t jitter)) × IsRefusedAsAsked t text)
+    ⊎ ((status ≡ 1) × IsSearched t jitter × IsNotFound t text)
+    ⊎ ((status ≡ 1) × IsSearched t jitter × IsRefusedAsFound p t jitter text)
+    ⊎ ((status ≡ 0) × IsSearched t jitter × IsMissionOf p t jitter text)
+
+-- the bytes spell a program that breaks no rule of typing
+abbrev pub SpellsTyped : List ℕ → Program → Tables → Type 0
+SpellsTyped bytes p t = Spells bytes 0 p × Resolves p t
+
+-- the first fault of a program's text: of syntax, else of typing
+abbrev pub HasProgramFault : List ℕ → Fault → Type 0
+HasProgramFault bytes (faults.Section fault) = ⊥
+HasProgramFault bytes (faults.Syntax fault) =
+    SpellsNone bytes × IsFaultOf bytes (ahead_from bytes 0) fault
+HasProgramFault bytes (faults.Typing fault) =
+    (p : Program) × Spells bytes 0 p × IsFirstFault p fault
+HasProgramFault bytes (faults.Cert fault) = ⊥
+HasProgramFault bytes (faults.Flight fault) = ⊥
+
+-- status 0 or 1, of bytes that spell such a program
+abbrev pub AnswersTyped : ℕ → ℕ → List ℕ → List ℕ → Type 0
+AnswersTyped status jitter bytes text =
+    (p : Program) × (t : Tables) × SpellsTyped bytes p t × Answers p t jitter status text
+
+-- status 3: the first fault of the text
+abbrev pub Rejects : ℕ → List ℕ → List ℕ → Type 0
+Rejects jitter bytes text = (f : Fault) × HasProgramFault bytes f × (text ≡ fault_text f)
+
+-- these bytes are answered with this status and this text
+abbrev pub Replies : ℕ → List ℕ → ℕ → List ℕ → Type 0
+Replies jitter bytes status text =
+    AnswersTyped status jitter bytes text ⊎ ((status ≡ 3) × Rejects jitter bytes text)

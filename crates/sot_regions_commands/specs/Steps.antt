@@ -1,0 +1,93 @@
+-- What the functions below `regions` promise it.
+use Rattle.std.specs.Prelude.{◌≡◌, ℕ, ◌+◌, ◌≤◌, ◌⊎◌, List, Option, Some, length, String}
+use Rattle.std.proofs.Common.{Global}
+use Rattle.sot_ports.specs.Faults.{Rose}
+use Rattle.sot_ports.specs.Whole.{ReadsAll, ReadsCount}
+use Rattle.sot_lists.specs.Places.{At}
+use Rattle.sot_tree.specs.Trees.{Program}
+use Rattle.sot_rules.specs.declared.fault.TypeFault.{TypeFault}
+use Rattle.sot_rules.specs.First.{IsFirstFault}
+use Rattle.sot_lang.specs.declared.cert.Cells.{Cells}
+use Rattle.sot_lang.specs.declared.cert.Cert.{Cert}
+use Rattle.sot_lang.specs.declared.tables.ModuleInfo.{ModuleInfo}
+use Rattle.sot_lang.specs.Tables.{Tables}
+use Rattle.sot_report.specs.Missions.{Resolves}
+use Rattle.sot_report.specs.FaultTexts.{type_text}
+use Rattle.sot_certified_text.specs.ReadAgain.{IsCertificateFor, written_with_jitter}
+use Rattle.sot_region_tree.specs.declared.modules.ModuleRegions.{ModuleRegions}
+use Rattle.sot_regions_words.specs.Words.{Asks, AsksNone}
+use Rattle.sot_regions_words.specs.Lines.{usage_text}
+use Rattle.sot_answers.specs.Texts.{input_limit, long_text}
+use Rattle.sot_regions_commands.specs.declared.search.SearchFail.{SearchFail}
+use Rattle.sot_regions_commands.specs.declared.search.SearchFail.TheVariants as fails
+use Rattle.sot_regions_commands.specs.Findings.{IsFinding}
+use Rattle.sot_law_other_regions.specs.Fitting.{AreFitting}
+use Rattle.sot_regions_commands.specs.Answers.{SpellsTyped, IsRefusedAsFound, IsMissionOf}
+use Rattle.sot_regions_commands.specs.Answers.{Answers, IsNotFound, NamesModule, Replies}
+use Rattle.sot_regions_commands.specs.Ends.{AsksSome}
+
+-- some program that the bytes spell has these tables
+abbrev pub AreTablesOf : List ℕ → Tables → Type 0
+AreTablesOf bytes t = (p : Program) × SpellsTyped bytes p t
+
+-- what was found for the first modules of a program, so many
+pub record AreFindings (t : Tables) (regions : List ModuleRegions) (cells : List (Option Cells))
+    (k : ℕ)
+    : Type 0 where
+  pub regions_count : length regions ≡ k
+  pub cells_count : length cells ≡ k
+  pub each : (m : ℕ) (a : ModuleInfo) (r : ModuleRegions) → At t.modules m a → At regions m r
+      → (c : Cells) × At cells m (Some c) × IsFinding a r c
+
+-- what is said of what is read, or of too much
+abbrev pub AskAnswer : ℕ → Option (List ℕ) → Option (List ℕ) → ℕ → List ℕ → Type 0
+AskAnswer jitter left left_after status text =
+    ((bytes : List ℕ) × ReadsAll left left_after bytes × (length bytes ≤ input_limit)
+    × Replies jitter bytes status text)
+    ⊎ ((status ≡ 7) × ReadsCount left left_after (input_limit + 1) × (text ≡ long_text))
+
+-- what is said at the words
+abbrev pub WordAnswer : List (String Global) → Option (List ℕ) → Option (List ℕ) → ℕ → List ℕ
+    → Type 0
+WordAnswer words left left_after status text =
+    ((jitter : ℕ) × Asks words jitter × AskAnswer jitter left left_after status text)
+    ⊎ (AsksNone words × (status ≡ 2) × (text ≡ usage_text))
+
+-- why nothing is said: memory, with no fault of the source, or a source that failed
+abbrev pub Silence : List (String Global) → ℕ → ℕ → ℕ → Type 0
+Silence words faults faults_after status =
+    ((status ≡ 6) × (faults_after ≡ faults))
+    ⊎ ((status ≡ 4) × AsksSome words × Rose faults faults_after)
+
+-- the bytes spell a program that breaks no rule of typing, and whose modules may take these regions
+abbrev pub MayTake : List ℕ → List ModuleRegions → Type 0
+MayTake bytes regions =
+    (p : Program) × (t : Tables) × SpellsTyped bytes p t × AreFitting regions p.decls
+
+-- what is said of a program with regions that were found for all of its modules
+abbrev pub AnswersFound : Program → Tables → ℕ → ℕ → List ℕ → Type 0
+AnswersFound p t jitter status text =
+    ((status ≡ 1) × IsRefusedAsFound p t jitter text)
+    ⊎ ((status ≡ 0) × IsMissionOf p t jitter text)
+
+-- the text was written of a program with a certificate for it
+abbrev pub IsWritten : List ℕ → Type 0
+IsWritten text =
+    (p : Program) × (t : Tables) × (cert : Cert) × IsCertificateFor p t cert
+    × (text ≡ written_with_jitter p t cert)
+
+-- what is said of a program whose regions are searched
+abbrev pub AnswersSearched : Program → Tables → ℕ → ℕ → List ℕ → Type 0
+AnswersSearched p t jitter status text =
+    ((status ≡ 1) × IsNotFound t text) ⊎ AnswersFound p t jitter status text
+
+-- what is said of a program that a text spells
+abbrev pub AnswersTree : Program → ℕ → ℕ → List ℕ → Type 0
+AnswersTree p jitter status text =
+    ((t : Tables) × Resolves p t × Answers p t jitter status text)
+    ⊎ ((status ≡ 3) × ((fault : TypeFault) × IsFirstFault p fault × (text ≡ type_text fault)))
+
+-- why there are no regions: a line that names a module; want of memory may come at any time
+abbrev pub IsNone : Tables → SearchFail → Type 0
+IsNone t (fails.NotFound r) = NamesModule t r
+IsNone t fails.Memory = Unit {0}

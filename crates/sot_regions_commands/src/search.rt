@@ -1,0 +1,174 @@
+//! Regions for all modules of a program.
+
+ghost use Rattle.std.specs.Prelude.{◌≡◌, ◌<◌, ◌≤◌, List, Option, length, IfOk, IfErr};
+ghost use Rattle.sot_lists.specs.Places.{At};
+ghost use Rattle.sot_lang.specs.declared.cert.Cells.{Cells};
+ghost use Rattle.sot_lang.specs.declared.tables.ModuleInfo.{ModuleInfo as Info};
+ghost use Rattle.sot_lang.specs.Tables.{Tables};
+ghost use Rattle.sot_lang.specs.TableRules.{MeetsTableRules};
+ghost use Rattle.sot_traps.specs.Verdict.{HaveSafeBoxes};
+ghost use Rattle.sot_answers.specs.Texts.{input_limit};
+ghost use Rattle.sot_regions_commands.specs.declared.search.SearchFail.TheVariants.{Memory};
+ghost use Rattle.sot_regions_commands.specs.Findings.{IsFinding};
+ghost use Rattle.sot_regions_commands.specs.Steps.{AreTablesOf, AreFindings, IsNone};
+
+use crate::finding::{Finding, finding_of};
+use crate::typed::typed_with;
+use sot_lang::{Cells, Slot, Typed};
+use sot_region_tree::ModuleRegions;
+use sot_regions::{Found, RegionsFail, regions_of};
+use sot_regions_words::RegionsRefusal;
+use sot_rta::{module_at, node_at, plant_at};
+use std::alloc::{AllocError, AllocFailed, Global};
+
+/// A program for which regions are asked: its text, its tables, and the jitter.
+#[derive(Clone, Copy)]
+pub struct Asked<'a> {
+    pub text: &'a [u8],
+    pub tables: &'a Typed,
+    pub jitter: u32,
+}
+
+/// What was found for the modules of a program, in declared order.
+#[derive(Drop)]
+pub struct Findings {
+    pub regions: Vec<ModuleRegions>,
+    pub cells: Vec<Option<Cells>>,
+}
+
+/// Why there are no regions.
+#[derive(Drop)]
+pub enum SearchFail {
+    /// None was found of a module.
+    NotFound(RegionsRefusal),
+    /// Memory ran out.
+    Memory,
+}
+
+impl From<AllocError> for SearchFail {
+    ghost from_gives = { λ _ e. e ≡ Memory };
+
+    fn from(_error: AllocError) -> SearchFail {
+        SearchFail::Memory
+    }
+}
+
+impl<T: Drop> From<AllocFailed<T>> for SearchFail {
+    ghost from_gives = { λ _ e. e ≡ Memory };
+
+    fn from(_error: AllocFailed<T>) -> SearchFail {
+        SearchFail::Memory
+    }
+}
+
+// Whether a module's plant sees none, and its safe node reads no other plant.
+#[tactic(auto, using(sot_rta::proofs::Found::plant_there, sot_rta::proofs::Found::sc_there))]
+fn is_alone(p: &Typed, module: u32) -> bool
+    requires there { «module» < length p.now.modules }
+    requires rules { MeetsTableRules p.now }
+{
+    let info = module_at(p, module);
+    if plant_at(p, info.plant).sees.len() > 0 {
+        return false;
+    }
+    for slot in &node_at(p, info.sc).reads {
+        if let Slot::State { plant, .. } = *slot {
+            if plant != info.plant {
+                return false;
+            }
+        }
+    }
+    true
+}
+
+// Searches regions of a module, where those before it have these. A module that no other plant
+// concerns does not wait for them to be put into the tables.
+fn found_of(
+    alloc: Global,
+    asked: Asked<'_>,
+    before: &[ModuleRegions],
+    module: u32,
+) -> Result<Found, RegionsFail>
+    requires there { «module» < length asked.tables.now.modules }
+    requires short { length asked.text.now ≤ input_limit }
+    requires tables { AreTablesOf asked.text.now asked.tables.now }
+    requires boxes { HaveSafeBoxes asked.tables.now }
+    requires jitter { asked.jitter ≤ 999 }
+    requires found { (cells : List (Option Cells))
+        × AreFindings asked.tables.now before.now cells «module» }
+{
+    if before.len() == 0 || is_alone(asked.tables, module) {
+        return regions_of(alloc, asked.tables, module, asked.jitter);
+    }
+    match typed_with(alloc, asked.text, before) {
+        Ok(typed) => regions_of(alloc, &typed.tables, module, asked.jitter),
+        Err(_) => Err(RegionsFail::Memory),
+    }
+}
+
+// Why there are none, of this module.
+#[tactic(auto, using(crate::proofs::Forms::names_module))]
+fn named(module: u32, fail: RegionsFail) -> SearchFail
+    ensures { (t : Tables) → «module» < length t.modules → IsNone t result }
+{
+    match fail {
+        RegionsFail::SafeNone { grain } => {
+            SearchFail::NotFound(RegionsRefusal::SafeNone { module, grain })
+        }
+        RegionsFail::TooMany => SearchFail::NotFound(RegionsRefusal::TooMany { module }),
+        RegionsFail::SaferNone => SearchFail::NotFound(RegionsRefusal::SaferNone { module }),
+        RegionsFail::Memory => SearchFail::Memory,
+    }
+}
+
+// Regions of a module as lists. Such that are no lists of a program are none.
+#[tactic(auto, using(crate::proofs::Forms::names_module))]
+fn search_one(
+    alloc: Global,
+    asked: Asked<'_>,
+    before: &[ModuleRegions],
+    module: u32,
+) -> Result<Finding, SearchFail>
+    requires there { «module» < length asked.tables.now.modules }
+    requires short { length asked.text.now ≤ input_limit }
+    requires tables { AreTablesOf asked.text.now asked.tables.now }
+    requires boxes { HaveSafeBoxes asked.tables.now }
+    requires jitter { asked.jitter ≤ 999 }
+    requires found { (cells : List (Option Cells))
+        × AreFindings asked.tables.now before.now cells «module» }
+    ensures ok { IfOk result (λ finding. (a : Info)
+        → At asked.entry.tables.now.modules «module» a
+        → IsFinding a finding.regions finding.cells) }
+    ensures err { IfErr result (IsNone asked.entry.tables.now) }
+{
+    match found_of(alloc, asked, before, module) {
+        Err(fail) => Err(named(module, fail)),
+        Ok(found) => match finding_of(alloc, module_at(asked.tables, module), &found)? {
+            Some(finding) => Ok(finding),
+            None => Err(SearchFail::NotFound(RegionsRefusal::TooMany { module })),
+        },
+    }
+}
+
+/// Searches regions for all modules of a program, in declared order.
+pub fn search(alloc: Global, asked: Asked<'_>) -> Result<Findings, SearchFail>
+    requires short { length asked.text.now ≤ input_limit }
+    requires tables { AreTablesOf asked.text.now asked.tables.now }
+    requires boxes { HaveSafeBoxes asked.tables.now }
+    requires jitter { asked.jitter ≤ 999 }
+    ensures ok { IfOk result (λ found. AreFindings asked.entry.tables.now found.regions.items
+        found.cells.items (length asked.entry.tables.now.modules)) }
+    ensures err { IfErr result (IsNone asked.entry.tables.now) }
+{
+    let mut findings = Findings {
+        regions: Vec::new(alloc),
+        cells: Vec::new(alloc),
+    };
+    let tables = asked.tables;
+    for module in 0..tables.modules.len() as u32 {
+        let one = search_one(alloc, asked, &findings.regions, module)?;
+        findings.regions.push(one.regions)?;
+        findings.cells.push(Some(one.cells))?;
+    }
+    Ok(findings)
+}

@@ -1,0 +1,7 @@
+pub mod Extents
+pub mod Followed
+pub mod HeldLeaves
+pub mod Standing
+pub mod Keeping
+pub mod Covering
+pub mod Questions

@@ -1,0 +1,17 @@
+//! The greatest set of atoms of a safe region of each of which the held tube stays in the set.
+#![tactic(auto)]
+
+mod ask;
+mod boxes;
+mod held;
+mod inside;
+mod sweeps;
+mod tiles;
+mod tube;
+
+pub use ask::Ask;
+pub use boxes::held_boxes;
+pub use held::{any_tube, held_tube};
+pub use inside::atoms_of;
+pub use sweeps::{closed_atoms, greatest};
+pub use tube::Held;
