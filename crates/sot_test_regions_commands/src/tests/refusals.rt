@@ -1,0 +1,77 @@
+//! Why there is no mission.
+use super::*;
+
+#[test]
+fn other_words_read_nothing(rt: HostRuntime) {
+    let alloc = rt.alloc();
+    for words in ["01", "1000", "-1", "1 1", "one"] {
+        answers(
+            &rt,
+            alloc,
+            words,
+            "topic",
+            "2 before topic: usage: soter_regions [JITTER]\n",
+        );
+    }
+}
+
+#[test]
+fn programs_at_fault_are_rejected(rt: HostRuntime) {
+    let alloc = rt.alloc();
+    for (text, want) in [
+        (
+            "topic c: int[0..1] = 0",
+            "3 fault syntax line 1 column 23 Token\n",
+        ),
+        (
+            "topic c: int[0..1] = 2;",
+            "3 fault type line 1 column 22 InitOutside\n",
+        ),
+    ] {
+        answers(&rt, alloc, "", text, want);
+    }
+}
+
+#[test]
+fn periods_come_before_conditions(rt: HostRuntime) {
+    let alloc = rt.alloc();
+    for (words, safe, want) in [
+        ("2", "[-40..40]", "1 refused regions jitter 2\n"),
+        ("2", "none", "1 refused regions jitter 2\n"),
+        ("1", "none", "1 refused 3 EmptyRegion module nav safe\n"),
+    ] {
+        let text = on_a_line(alloc, safe, "none").expect(&rt, "memory");
+        answers(&rt, alloc, words, text.as_str(), want);
+    }
+}
+
+// A plant that moves on, whatever is commanded, with this region.
+fn moving(alloc: Global, next: &str, safe: &str) -> Result<String, AllocError> {
+    format!(in alloc;
+        "topic cmd: int[0..1] = 0;
+plant pos {{ state x: int; input cmd; next x = {next}; }}
+external fast period 2 offset 0 {{ reads pos; writes cmd; }}
+node slow period 2 offset 0 {{ reads pos; writes cmd; do {{ publish cmd = 0; }} }}
+module m {{ ac fast; sc slow; period 2 offset 0; plant pos; safe {safe}; safer none; }}"
+    )
+}
+
+#[test]
+fn what_cannot_be_kept_is_refused(rt: HostRuntime) {
+    let alloc = rt.alloc();
+    for (next, safe, want) in [
+        (
+            "x + 1",
+            "[0..1000]",
+            "1 refused regions module m safe none grain (1)\n",
+        ),
+        (
+            "x - x",
+            "[0..9999]",
+            "1 refused regions module m safe TooMany\n",
+        ),
+    ] {
+        let text = moving(alloc, next, safe).expect(&rt, "memory");
+        answers(&rt, alloc, "", text.as_str(), want);
+    }
+}
