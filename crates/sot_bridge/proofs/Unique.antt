@@ -6,7 +6,7 @@ use Rattle.std.specs.Fmt.{decimal}
 use Rattle.std.proofs.lemmas.Fmt.{decimal_injective}
 use Rattle.std.proofs.lemmas.Option.{same_Some}
 use Rattle.sot_lists.specs.Places.{At}
-use Rattle.sot_lists.proofs.Places.{at_same, at_map}
+use Rattle.sot_lists.proofs.Places.{at_same, at_map, at_front}
 use Rattle.sot_lang.specs.declared.tables.TopicInfo.{TopicInfo}
 use Rattle.sot_lang.specs.declared.tables.ScalarInfo.{ScalarInfo}
 use Rattle.sot_lang.specs.declared.tables.PlantInfo.{PlantInfo}
@@ -29,11 +29,6 @@ use Rattle.sot_bridge.specs.Ends.{Decides}
 use Rattle.sot_bridge.proofs.Alike.{Alike, alike, rules_of, accepted_refused, inside_outside, side_faulty}
 
 -- a name tells one topic
-at_front : {A : Type 0} (xs ys : List A) (k : ℕ) (x : A) → At xs k x → At (xs ++ ys) k x
-at_front [] ys k x at = absurd cc
-at_front (y ∷ xs) ys zero x at = at
-at_front (y ∷ xs) ys (suc k) x at = at_front xs ys k x at
-
 name_at : (p : Tables) (name : List ℕ) (outside : Bool) (k : ℕ) → IsNamed p name outside k → At (declared_names p) k name
 name_at p name outside k named =
     let topics : List (List ℕ) = map (λ (x : TopicInfo). x.name) p.topics in

@@ -5,7 +5,7 @@ use Rattle.std.proofs.lemmas.List.{length-append}
 use Rattle.std.proofs.lemmas.Option.{none-some}
 use Rattle.sot_box.specs.Sides.{Side}
 use Rattle.sot_lists.specs.Places.{At}
-use Rattle.sot_lists.proofs.Places.{at_same}
+use Rattle.sot_lists.proofs.Places.{at_same, at_front}
 use Rattle.sot_lang.specs.declared.cert.Cells.{Cells}
 use Rattle.sot_lang.specs.declared.tables.ModuleInfo.{ModuleInfo}
 use Rattle.sot_lang.specs.Tables.{Tables}
@@ -17,11 +17,6 @@ use Rattle.sot_certify.specs.Steps.{AreListsOf, HasNoCells, AreEntriesTo, HasNoE
 
 abbrev Entries : Type 0
 Entries = List (Option Cells)
-
-at_front : (xs : Entries) (x y : Option Cells) (m : ℕ) → At xs m y → At (xs ++ x ∷ []) m y
-at_front [] x y m at = absurd (none-some y at)
-at_front (z ∷ zs) x y zero at = at
-at_front (z ∷ zs) x y (suc m) at = at_front zs x y m at
 
 at_end : (xs : Entries) (x : Option Cells) (m : ℕ) → length xs ≡ m → At (xs ++ x ∷ []) m x
 at_end [] x zero e = refl
@@ -35,7 +30,7 @@ module _ (p : Tables) (entries : Entries) (m : ℕ) (a : ModuleInfo) (at : At p.
     count = (let n = length-append entries (Some cells ∷ []) in let k = before.count in omega (arith, n, k));
     each = λ i b lt at_b.
         ⊎_elim
-        (λ less. let e = before.each i b less at_b in (e.0, at_front entries (Some cells) (Some e.0) i e.1, e.2))
+        (λ less. let e = before.each i b less at_b in (e.0, at_front entries (Some cells ∷ []) i (Some e.0) e.1, e.2))
         (λ ge.
         let same : m ≡ i = omega (arith, lt, ge) in
         let one : a ≡ b = at_same p.modules m a b at (subst (λ k. At p.modules k b) (sym same) at_b) in

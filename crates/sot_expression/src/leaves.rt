@@ -10,7 +10,7 @@ ghost use Rattle.sot_expression.specs.Returned.{Gives};
 
 use crate::fail::Fail;
 use crate::tokens::Tokens;
-use crate::word::is_word;
+use crate::word::{token_is_keyword, token_is_sign};
 use sot_text::{Kind, Span, Token, numeral_of};
 use sot_tree::{Ident, Lit, Name};
 use std::alloc::Global;
@@ -20,7 +20,7 @@ pub fn is_keyword(tokens: &Tokens<'_>, text: &[u8]) -> bool
     ensures { result ≡ begins (is_keyword text.now) tokens.now.tokens }
 {
     match tokens.peek() {
-        Some(token) => matches!(token.kind, Kind::Keyword) && is_word(token.text, text),
+        Some(token) => token_is_keyword(&token, text),
         None => false,
     }
 }
@@ -31,7 +31,7 @@ pub fn is_sign(tokens: &Tokens<'_>, text: &[u8]) -> bool
     ensures { result ≡ begins (is_sign text.now) tokens.now.tokens }
 {
     match tokens.peek() {
-        Some(token) => matches!(token.kind, Kind::Sign) && token.text == text,
+        Some(token) => token_is_sign(&token, text),
         None => false,
     }
 }

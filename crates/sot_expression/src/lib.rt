@@ -24,3 +24,4 @@ pub use leaves::{
     expect_keyword, expect_sign, is_keyword, is_name, is_number, is_sign, literal, name, number,
 };
 pub use tokens::Tokens;
+pub use word::{token_is_keyword, token_is_sign};

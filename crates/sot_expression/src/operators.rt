@@ -7,7 +7,7 @@ ghost use Rattle.sot_expression.specs.Operators.{operator_of, tier_of_op, tier_o
 ghost use Rattle.sot_expression.specs.Operators.{operator_from, opening_of, opening_at};
 
 use crate::tokens::Tokens;
-use crate::word::is_word;
+use crate::word::{token_is_keyword, token_is_sign};
 use sot_text::{Kind, Token};
 use sot_tree::{Func, Op};
 
@@ -33,47 +33,35 @@ pub enum Opening {
     Other,
 }
 
-fn is_sign(token: &Token<'_>, text: &[u8]) -> bool
-    ensures { result ≡ is_sign text.now (lexeme token.now) }
-{
-    matches!(token.kind, Kind::Sign) && token.text == text
-}
-
-fn is_keyword(token: &Token<'_>, text: &[u8]) -> bool
-    ensures { result ≡ is_keyword text.now (lexeme token.now) }
-{
-    matches!(token.kind, Kind::Keyword) && is_word(token.text, text)
-}
-
 #[inline(always)]
 fn operator_of(token: &Token<'_>) -> Option<Infix>
     ensures { result ≡ operator_of (lexeme token.now) }
 {
-    if is_sign(token, b"*") {
+    if token_is_sign(token, b"*") {
         Some(Infix::Joins(Op::Mul))
-    } else if is_sign(token, b"/") {
+    } else if token_is_sign(token, b"/") {
         Some(Infix::Joins(Op::Div))
-    } else if is_sign(token, b"%") {
+    } else if token_is_sign(token, b"%") {
         Some(Infix::Rests)
-    } else if is_sign(token, b"+") {
+    } else if token_is_sign(token, b"+") {
         Some(Infix::Joins(Op::Add))
-    } else if is_sign(token, b"-") {
+    } else if token_is_sign(token, b"-") {
         Some(Infix::Joins(Op::Sub))
-    } else if is_sign(token, b"<") {
+    } else if token_is_sign(token, b"<") {
         Some(Infix::Joins(Op::Less))
-    } else if is_sign(token, b"<=") {
+    } else if token_is_sign(token, b"<=") {
         Some(Infix::Joins(Op::LessEqual))
-    } else if is_sign(token, b">") {
+    } else if token_is_sign(token, b">") {
         Some(Infix::Joins(Op::Greater))
-    } else if is_sign(token, b">=") {
+    } else if token_is_sign(token, b">=") {
         Some(Infix::Joins(Op::GreaterEqual))
-    } else if is_sign(token, b"==") {
+    } else if token_is_sign(token, b"==") {
         Some(Infix::Joins(Op::Equal))
-    } else if is_sign(token, b"!=") {
+    } else if token_is_sign(token, b"!=") {
         Some(Infix::Joins(Op::NotEqual))
-    } else if is_keyword(token, b"and") {
+    } else if token_is_keyword(token, b"and") {
         Some(Infix::Joins(Op::And))
-    } else if is_keyword(token, b"or") {
+    } else if token_is_keyword(token, b"or") {
         Some(Infix::Joins(Op::Or))
     } else {
         None
@@ -122,21 +110,21 @@ fn opening_of(token: &Token<'_>) -> Opening
         Opening::Number
     } else if matches!(token.kind, Kind::Name) {
         Opening::Name
-    } else if is_sign(token, b"(") {
+    } else if token_is_sign(token, b"(") {
         Opening::Group
-    } else if is_keyword(token, b"true") {
+    } else if token_is_keyword(token, b"true") {
         Opening::Truth(true)
-    } else if is_keyword(token, b"false") {
+    } else if token_is_keyword(token, b"false") {
         Opening::Truth(false)
-    } else if is_keyword(token, b"min") {
+    } else if token_is_keyword(token, b"min") {
         Opening::Pair(Func::Min)
-    } else if is_keyword(token, b"max") {
+    } else if token_is_keyword(token, b"max") {
         Opening::Pair(Func::Max)
-    } else if is_keyword(token, b"abs") {
+    } else if token_is_keyword(token, b"abs") {
         Opening::Abs
-    } else if is_keyword(token, b"clamp") {
+    } else if token_is_keyword(token, b"clamp") {
         Opening::Clamp
-    } else if is_keyword(token, b"rescale") {
+    } else if token_is_keyword(token, b"rescale") {
         Opening::Rescale
     } else {
         Opening::Other

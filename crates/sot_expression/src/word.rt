@@ -1,6 +1,10 @@
-//! Keywords, compared.
+//! Keywords and signs, compared.
 ghost use Rattle.std.specs.Prelude.{◌≡◌};
 ghost use Rattle.std.specs.Str.{bytes_eq};
+ghost use Rattle.sot_expression.specs.Lexemes.{is_keyword, is_sign};
+ghost use Rattle.sot_text.specs.Reading.{lexeme};
+
+use sot_text::{Kind, Token};
 
 /// Whether these are the same bytes. Keywords are short: their bytes are compared one by one.
 pub fn is_word(text: &[u8], word: &[u8]) -> bool
@@ -15,4 +19,20 @@ pub fn is_word(text: &[u8], word: &[u8]) -> bool
         }
     }
     true
+}
+
+/// Whether a token is this sign.
+#[inline(always)]
+pub fn token_is_sign(token: &Token<'_>, text: &[u8]) -> bool
+    ensures { result ≡ is_sign text.now (lexeme token.now) }
+{
+    matches!(token.kind, Kind::Sign) && token.text == text
+}
+
+/// Whether a token is this keyword.
+#[inline(always)]
+pub fn token_is_keyword(token: &Token<'_>, text: &[u8]) -> bool
+    ensures { result ≡ is_keyword text.now (lexeme token.now) }
+{
+    matches!(token.kind, Kind::Keyword) && is_word(token.text, text)
 }

@@ -6,6 +6,7 @@ use Rattle.std.proofs.lemmas.Bool.{false≢true, cases_eq}
 use Rattle.std.proofs.lemmas.Bool.Decides.{nat_tests}
 use Rattle.std.proofs.lemmas.Option.{none-some, same_Some, slice_get_within}
 use Rattle.sot_lists.specs.Places.{At}
+use Rattle.sot_lists.proofs.Places.{at_front}
 use Rattle.sot_text.specs.Lexeme.{mantissa_of}
 use Rattle.sot_text.specs.Reading.{Lexeme}
 use Rattle.sot_lang.specs.Tables.{Tables}
@@ -25,7 +26,6 @@ use Rattle.sot_formula.specs.Phrases.{Phrase, a_truth, a_single, a_double, a_wit
 use Rattle.sot_formula.specs.Meanings.{Names, mantissa, decimals, IsCompared, Means}
 use Rattle.sot_formula.specs.Parts.{IsPart, IsThere}
 use Rattle.sot_formula.specs.Reading.{Laid, place, put, compared, ticks_of}
-use Rattle.sot_formula.proofs.Names.{at_front}
 use Rattle.sot_formula.proofs.Finds.{plain_found, plain_finds, part_found, part_finds_field, part_finds_variable, module_found, module_finds}
 use Rattle.sot_formula.proofs.Laying.{found_of, or_less, by_of, lit_of, laid, some_sign, signs}
 

@@ -7,24 +7,12 @@ use Rattle.std.proofs.lemmas.Bool.Decides.{nat_tests}
 use Rattle.std.proofs.lemmas.List.Quantifiers.{position-Some}
 use Rattle.std.proofs.lemmas.Option.{none-some, same_Some, slice_get_within, get_or_from_slice_get}
 use Rattle.sot_lists.specs.Places.{At}
-use Rattle.sot_lists.proofs.Places.{at_below, at_map}
+use Rattle.sot_lists.proofs.Places.{at_below, at_map, at_front, at_behind}
 use Rattle.sot_lang.specs.declared.tables.TopicInfo.{TopicInfo}
 use Rattle.sot_lang.specs.declared.tables.PlantInfo.{PlantInfo}
 use Rattle.sot_lang.specs.declared.tables.ModuleInfo.{ModuleInfo}
 use Rattle.sot_lang.specs.Tables.{Tables}
 use Rattle.sot_lang.specs.TableRules.{MeetsTableRules, declared_names}
-
-pub at_front : {A : Type 0} (xs ys : List A) (k : ℕ) (x : A) → At xs k x → At (xs ++ ys) k x
-at_front [] ys k x at = absurd (none-some x at)
-at_front (y ∷ xs) ys zero x at = at
-at_front (y ∷ xs) ys (suc k) x at = at_front xs ys k x at
-
-at_behind : {A : Type 0} (xs ys : List A) (k : ℕ) (x : A) → At ys k x → At (xs ++ ys) (length xs + k) x
-at_behind [] ys k x at = (let same : k ≡ 0 + k = omega arith in subst (λ n. At ys n x) same at)
-at_behind (y ∷ xs) ys k x at =
-    let step : At (y ∷ (xs ++ ys)) (suc (length xs + k)) x = at_behind xs ys k x at in
-    let same : suc (length xs + k) ≡ length (y ∷ xs) + k = omega arith in
-    subst (λ n. At (y ∷ (xs ++ ys)) n x) same step
 
 module _ (p : Tables) (rules : MeetsTableRules p) where
   pub topic_same : (s t : ℕ) (x y : TopicInfo) → At p.topics s x → At p.topics t y → x.name ≡ y.name → s ≡ t

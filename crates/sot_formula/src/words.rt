@@ -3,14 +3,13 @@
 ghost use Rattle.std.specs.Prelude.{◌≡◌};
 ghost use Rattle.std.specs.Str.{bytes_eq};
 ghost use Rattle.sot_text.specs.Reading.{lexeme};
-ghost use Rattle.sot_expression.specs.Lexemes.{is_sign, is_keyword};
 ghost use Rattle.sot_formula.specs.Words.{comparing_of, comparing_from, opening_of, opening_from};
 ghost use Rattle.sot_formula.specs.Words.{word_of, single_what, double_what};
 ghost use Rattle.sot_expression.specs.Stream.{first_of};
 
 use crate::quantity::Comparison;
 use crate::what::What;
-use sot_expression::Tokens;
+use sot_expression::{Tokens, token_is_keyword, token_is_sign};
 use sot_text::{Kind, Token};
 
 /// What has one part in parentheses.
@@ -48,32 +47,20 @@ pub enum Word {
     Other,
 }
 
-fn is_sign(token: &Token<'_>, text: &[u8]) -> bool
-    ensures { result ≡ is_sign text.now (lexeme token.now) }
-{
-    matches!(token.kind, Kind::Sign) && token.text == text
-}
-
-fn is_keyword(token: &Token<'_>, text: &[u8]) -> bool
-    ensures { result ≡ is_keyword text.now (lexeme token.now) }
-{
-    matches!(token.kind, Kind::Keyword) && token.text == text
-}
-
 fn comparing_of(token: &Token<'_>) -> Option<Comparison>
     ensures { result ≡ comparing_of (lexeme token.now) }
 {
-    if is_sign(token, b"<") {
+    if token_is_sign(token, b"<") {
         Some(Comparison::Less)
-    } else if is_sign(token, b"<=") {
+    } else if token_is_sign(token, b"<=") {
         Some(Comparison::LessEqual)
-    } else if is_sign(token, b">") {
+    } else if token_is_sign(token, b">") {
         Some(Comparison::Greater)
-    } else if is_sign(token, b">=") {
+    } else if token_is_sign(token, b">=") {
         Some(Comparison::GreaterEqual)
-    } else if is_sign(token, b"==") {
+    } else if token_is_sign(token, b"==") {
         Some(Comparison::Equal)
-    } else if is_sign(token, b"!=") {
+    } else if token_is_sign(token, b"!=") {
         Some(Comparison::NotEqual)
     } else {
         None
@@ -92,15 +79,15 @@ fn opening_of(token: &Token<'_>) -> Opening
 {
     if matches!(token.kind, Kind::Name) {
         Opening::Name
-    } else if is_keyword(token, b"true") {
+    } else if token_is_keyword(token, b"true") {
         Opening::Truth(true)
-    } else if is_keyword(token, b"false") {
+    } else if token_is_keyword(token, b"false") {
         Opening::Truth(false)
-    } else if is_keyword(token, b"not") {
+    } else if token_is_keyword(token, b"not") {
         Opening::Single(Single::Not)
-    } else if is_keyword(token, b"and") {
+    } else if token_is_keyword(token, b"and") {
         Opening::Double(Double::And)
-    } else if is_keyword(token, b"or") {
+    } else if token_is_keyword(token, b"or") {
         Opening::Double(Double::Or)
     } else {
         Opening::Other

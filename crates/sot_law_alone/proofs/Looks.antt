@@ -20,7 +20,7 @@ use Rattle.sot_typing.specs.Resolved.{PlantTable, NodeTable, plant_seen, node_se
 use Rattle.sot_law_same_tables.proofs.Bodies.{IsDeedsExecution, execution_view}
 use Rattle.sot_law_same_tables.proofs.Plants.{along, next_alike}
 use Rattle.sot_law_same_tables.proofs.Nodes.{coded_alike}
-use Rattle.sot_held_regions.specs.Alone.{IsAlone, MoveAlike, IsRun, DraftAlike, RunAlike}
+use Rattle.sot_law_held_regions.specs.Alone.{IsAlone, MoveAlike, IsRun, DraftAlike, RunAlike}
 use Rattle.sot_law_alone.specs.Laws.{LookAlike, HaveOnePlant}
 
 -- what looks the same as what stands at a place of the other list

@@ -3,7 +3,7 @@ use Rattle.std.specs.Prelude.{◌≡◌, map}
 use Rattle.sot_lang.specs.declared.tables.ModuleInfo.{ModuleInfo}
 use Rattle.sot_lang.specs.Tables.{Tables}
 use Rattle.sot_typing.specs.Resolved.{plant_seen, node_seen}
-use Rattle.sot_held_regions.specs.Alone.{IsAlone, RunAlike}
+use Rattle.sot_law_held_regions.specs.Alone.{IsAlone, RunAlike}
 
 -- the scalars are the same, and the plants and nodes look the same, place by place
 pub record LookAlike (t u : Tables) : Type 0 where

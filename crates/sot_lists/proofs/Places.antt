@@ -1,5 +1,5 @@
 -- What stands at the places of a list.
-use Rattle.std.proofs.Common.{◌≡◌, ℕ, zero, suc, ◌+◌, ◌<◌, ◌⊎◌, inl, inr, ⊎_elim, List, [], ◌∷◌, Some, subst, map, length, drop, get_or, refl, sym, ap, arith}
+use Rattle.std.proofs.Common.{◌≡◌, ℕ, zero, suc, ◌+◌, ◌<◌, ◌⊎◌, inl, inr, ⊎_elim, List, [], ◌∷◌, ◌++◌, Some, subst, map, length, drop, get_or, refl, sym, ap, arith}
 use Rattle.std.proofs.Common.{add-one, ap₂}
 use Rattle.std.specs.Prelude.{slice_index_or}
 use Rattle.std.proofs.lemmas.Option.{same_Some, none-some, slice_get_read, slice_get_cases, get_or_from_slice_get}
@@ -72,3 +72,23 @@ same_list (x ∷ xs) (y ∷ ys) count each = ap₂ (λ z zs. z ∷ zs) (each 0 x
 -- .. and so are lists of one length where what stands in one stands in the other
 pub same_items : {A : Type 0} (xs ys : List A) → length xs ≡ length ys → ((k : ℕ) (x : A) → At xs k x → At ys k x) → xs ≡ ys
 same_items xs ys count each = same_list xs ys count (λ m x y here there. at_same ys m x y (each m x here) there)
+
+-- what stands in the first of two lists stands there in the two as one list ..
+pub at_front : {A : Type 0} (xs ys : List A) (k : ℕ) (x : A) → At xs k x → At (xs ++ ys) k x
+at_front [] ys k x at = absurd (none-some x at)
+at_front (y ∷ xs) ys zero x at = at
+at_front (y ∷ xs) ys (suc k) x at = at_front xs ys k x at
+
+-- .. and nothing else does at its places
+pub at_in_front : {A : Type 0} (xs ys : List A) (k : ℕ) (x : A) → k < length xs → At (xs ++ ys) k x → At xs k x
+at_in_front [] ys k x lt at = absurd (omega arith)
+at_in_front (y ∷ xs) ys zero x lt at = at
+at_in_front (y ∷ xs) ys (suc k) x lt at = at_in_front xs ys k x (omega arith) at
+
+-- what stands in the second stands as far behind the first
+pub at_behind : {A : Type 0} (xs ys : List A) (k : ℕ) (x : A) → At ys k x → At (xs ++ ys) (length xs + k) x
+at_behind [] ys k x at = (let same : k ≡ 0 + k = omega arith in subst (λ n. At ys n x) same at)
+at_behind (y ∷ xs) ys k x at =
+    let step : At (y ∷ (xs ++ ys)) (suc (length xs + k)) x = at_behind xs ys k x at in
+    let same : suc (length xs + k) ≡ length (y ∷ xs) + k = omega arith in
+    subst (λ n. At (y ∷ (xs ++ ys)) n x) same step

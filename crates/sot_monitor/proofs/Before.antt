@@ -1,13 +1,9 @@
 -- Moments more change nothing before them.
 use Rattle.std.proofs.Common.{◌≡◌, ℕ, zero, suc, ◌<◌, ◌↔◌, inl, inr, ⊎_elim, List, [], ◌∷◌, ◌++◌, length, refl, arith}
 use Rattle.sot_lists.specs.Places.{At}
+use Rattle.sot_lists.proofs.Places.{at_front, at_in_front}
 use Rattle.sot_formula.specs.Formulas.{Formula, Truth, Compared, Not, And, Or, Once, Since, Within}
 use Rattle.sot_monitor.specs.Holding.{Moment, Holds}
-
-pub at_front : {A : Type 0} (xs ys : List A) (k : ℕ) (x : A) → k < length xs → At (xs ++ ys) k x ↔ At xs k x
-at_front [] ys k x lt = absurd (omega arith)
-at_front (y ∷ xs) ys zero x lt = (λ h. h, λ h. h)
-at_front (y ∷ xs) ys (suc k) x lt = at_front xs ys k x (omega arith)
 
 pub at_end : {A : Type 0} (xs : List A) (x : A) → At (xs ++ x ∷ []) (length xs) x
 at_end [] x = refl
@@ -20,7 +16,7 @@ length_end (y ∷ xs) x = (let e = length_end xs x in omega (arith, e))
 module _ (Ms more : List Moment) where
   pub before : (f : Formula) (i : ℕ) → i < length Ms → Holds (Ms ++ more) f i ↔ Holds Ms f i
   before (Truth value) i lt = (λ h. h, λ h. h)
-  before (Compared of by number) i lt = (λ h. (h.0, (at_front Ms more i h.0 lt).0 h.1, h.2), λ h. (h.0, (at_front Ms more i h.0 lt).1 h.1, h.2))
+  before (Compared of by number) i lt = (λ h. (h.0, at_in_front Ms more i h.0 lt h.1, h.2), λ h. (h.0, at_front Ms more i h.0 h.1, h.2))
   before (Not f) i lt = (λ h x. h ((before f i lt).1 x), λ h x. h ((before f i lt).0 x))
   before (And f g) i lt = (λ h. ((before f i lt).0 h.0, (before g i lt).0 h.1), λ h. ((before f i lt).1 h.0, (before g i lt).1 h.1))
   before (Or f g) i lt = (

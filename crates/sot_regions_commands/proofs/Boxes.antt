@@ -20,11 +20,6 @@ last_or (z ∷ zs) x (suc m) y at = by (last_or zs x m y at)
     by (inl before) = inl before
     by (inr (last, same)) = inr (ap suc last, same)
 
-pub at_front : {A : Type 0} (xs ys : List A) (k : ℕ) (x : A) → At xs k x → At (xs ++ ys) k x
-at_front [] ys k x at = absurd (none-some x at)
-at_front (y ∷ xs) ys zero x at = at
-at_front (y ∷ xs) ys (suc k) x at = at_front xs ys k x at
-
 pub at_last : {A : Type 0} (xs : List A) (x : A) → At (xs ++ x ∷ []) (length xs) x
 at_last [] x = refl
 at_last (z ∷ zs) x = at_last zs x

@@ -3,6 +3,7 @@ use Rattle.std.proofs.Common.{◌≡◌, ◌∙◌, ℕ, ◌+◌, ◌⊎◌, inl
 use Rattle.std.proofs.lemmas.List.{length-append}
 use Rattle.std.proofs.lemmas.Option.{none-some}
 use Rattle.sot_lists.specs.Places.{At}
+use Rattle.sot_lists.proofs.Places.{at_front}
 use Rattle.sot_tree.specs.Trees.{Program}
 use Rattle.sot_tree.specs.Formed.{IsFormed}
 use Rattle.sot_parser.specs.Programs.{Spells}
@@ -18,7 +19,7 @@ use Rattle.sot_law_other_regions.proofs.Formed.{stay_formed}
 use Rattle.sot_law_other_regions.proofs.Faultless.{stay_faultless}
 use Rattle.sot_regions_commands.specs.Findings.{IsFinding}
 use Rattle.sot_regions_commands.specs.Steps.{AreFindings, MayTake}
-use Rattle.sot_regions_commands.proofs.Boxes.{last_or, at_front, at_last}
+use Rattle.sot_regions_commands.proofs.Boxes.{last_or, at_last}
 
 -- nothing is found before the first module
 pub none_yet : (t : Tables) → AreFindings t [] [] 0

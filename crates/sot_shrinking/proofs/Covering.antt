@@ -19,7 +19,7 @@ use Rattle.sot_atoms.specs.Grids.{Cut, IsCut, IsAreaOf, HoldsPoint, IsFinest}
 use Rattle.sot_atoms.specs.Sets.{IsAtom, IsMember, SetFits, IsPut}
 use Rattle.sot_atoms.proofs.Points.{fits_length, holds_atom, is_in_block}
 use Rattle.sot_atoms.proofs.Boxes.{area_in, thin, point_is, in_hull}
-use Rattle.sot_held_regions.specs.Following.{HasNoHeldRegion}
+use Rattle.sot_law_held_regions.specs.Following.{HasNoHeldRegion}
 use Rattle.sot_shrinking.specs.Greatest.{IsAmong, HoldsRegion, HasPointsOf, HasPointsIn, HasMembersOf, IsFinestOf, TellsNone, KeepsHeldRegions}
 
 -- a point of the box of one point is that point

@@ -14,12 +14,12 @@ use Rattle.sot_iv.specs.PlantTicks.{MayTickBox, IsBoxAfterTick, ArePlantRanges, 
 use Rattle.sot_iv.specs.Monotony.{AreNarrower}
 use Rattle.sot_tube.proofs.WalkRanges.{after, same, ranges_next}
 use Rattle.sot_atoms.specs.Grids.{Cut}
-use Rattle.sot_held_regions.specs.Following.{LiesAmong, StaysAmong}
+use Rattle.sot_law_held_regions.specs.Following.{LiesAmong, StaysAmong}
 use Rattle.sot_shrinking.specs.Greatest.{IsAmong}
-use Rattle.sot_held_regions.specs.Walks.{SomeTubeStays}
+use Rattle.sot_law_held_regions.specs.Walks.{SomeTubeStays}
 use Rattle.sot_shrinking.specs.declared.tube.Held.{Held}
 use Rattle.sot_shrinking.specs.declared.tube.Held.TheVariants.{Inside, Leaves, Apart}
-use Rattle.sot_held_regions.proofs.Walking.{stays_lies, stays_on, stays_never, some_on, some_never}
+use Rattle.sot_law_held_regions.proofs.Walking.{stays_lies, stays_on, stays_never, some_on, some_never}
 
 -- the tubes of so many ticks from the first box go on from this one, and what was found so far
 pub record FollowedTo (p : Tables) (k : ℕ) (grid : Cut) (set : List ℕ) (first held seen : List Side) (ticks : ℕ) (area names : List Side) (n : ℕ)

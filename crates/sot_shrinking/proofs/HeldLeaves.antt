@@ -28,10 +28,10 @@ use Rattle.sot_tube.specs.Certified.{command_interval, command_intervals, Drafts
 use Rattle.sot_tube.proofs.Leaving.{hulls_same, all_hulls_same}
 use Rattle.sot_rta.specs.Drafts.{IsCellDraft}
 use Rattle.sot_rta.proofs.CommandSides.{padded}
-use Rattle.sot_held_regions.specs.Following.{StaysAmong, HeldStays}
-use Rattle.sot_held_regions.specs.Walks.{SomeTubeStays}
-use Rattle.sot_held_regions.proofs.Commands.{drafts_narrow, commands_narrow}
-use Rattle.sot_held_regions.proofs.Walking.{stays_more, point_narrower}
+use Rattle.sot_law_held_regions.specs.Following.{StaysAmong, HeldStays}
+use Rattle.sot_law_held_regions.specs.Walks.{SomeTubeStays}
+use Rattle.sot_law_held_regions.proofs.Commands.{drafts_narrow, commands_narrow}
+use Rattle.sot_law_held_regions.proofs.Walking.{stays_more, point_narrower}
 
 same_Ok : {A : Type 0} (x y : A) → (let o : OrMayTrap A = Ok x in o) ≡ Ok y → x ≡ y
 same_Ok x y e = cc

@@ -15,7 +15,7 @@ use Rattle.sot_atoms.specs.Grids.{Cut, IsCut, IsAreaOf}
 use Rattle.sot_atoms.specs.Sets.{SetFits, IsTaken}
 use Rattle.sot_atoms.proofs.Points.{fits_length, fits_each, fits_at, holds_atom, is_in_block}
 use Rattle.sot_atoms.proofs.Boxes.{area_in, thin, point_is}
-use Rattle.sot_held_regions.specs.Following.{HeldStays, IsHeldRegion}
+use Rattle.sot_law_held_regions.specs.Following.{HeldStays, IsHeldRegion}
 use Rattle.sot_shrinking.specs.Greatest.{IsAmong, HoldsRegion, KeepsHeldRegions}
 use Rattle.sot_shrinking.specs.declared.tube.Held.{Held}
 use Rattle.sot_shrinking.specs.declared.tube.Held.TheVariants.{Inside, Leaves, Apart}

@@ -16,7 +16,7 @@ use Rattle.sot_iv.specs.SeenHulls.{AreSeenHulls}
 use Rattle.sot_traps.specs.Verdict.{HaveSafeBoxes}
 use Rattle.sot_traps.proofs.SafeHulls.{safe_some}
 use Rattle.sot_iv.specs.PlantTicks.{MayTickBox}
-use Rattle.sot_held_regions.specs.Following.{HeldStays}
+use Rattle.sot_law_held_regions.specs.Following.{HeldStays}
 use Rattle.sot_shrinking.specs.Asking.{MayAsk, Asked, IsAsked, asked_width}
 
 module _ (q : Asked) (rules : MeetsTableRules q.program) (asked : IsAsked q) where

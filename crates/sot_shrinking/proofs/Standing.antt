@@ -10,7 +10,7 @@ use Rattle.sot_atoms.specs.Grids.{Cut, IsCut, LeavesHull, MeetsBlock, IsOffHull,
 use Rattle.sot_atoms.specs.Sets.{IsMember, SetFits, AllMembers, NoMembers}
 use Rattle.sot_atoms.proofs.Points.{fits_length, holds_same}
 use Rattle.sot_atoms.proofs.Boxes.{off_hull, clip_in, leaves_corner, block_point}
-use Rattle.sot_held_regions.specs.Following.{LiesAmong}
+use Rattle.sot_law_held_regions.specs.Following.{LiesAmong}
 use Rattle.sot_shrinking.specs.Greatest.{IsAmong}
 
 module _ (grid : Cut) (cut : IsCut grid.width grid.last grid.axes) (set : List ℕ) (area : List Side) (width : length area ≡ grid.width) where

@@ -8,7 +8,7 @@ use Rattle.sot_atoms.specs.declared.block.Stretch.{Stretch}
 use Rattle.sot_atoms.specs.Blocks.{IsInBlock, atom_count}
 use Rattle.sot_atoms.specs.Grids.{Cut, HoldsPoint, IsFinest, CutsHull}
 use Rattle.sot_atoms.specs.Sets.{IsAtom, IsMember}
-use Rattle.sot_held_regions.specs.Following.{IsHeldRegion, HasNoHeldRegion}
+use Rattle.sot_law_held_regions.specs.Following.{IsHeldRegion, HasNoHeldRegion}
 
 -- a point is in some atom of a set of a grid's atoms
 pub record IsAmong (grid : Cut) (set : List ℕ) (s : List ℤ) : Type 0 where

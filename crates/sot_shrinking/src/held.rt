@@ -3,7 +3,7 @@
 ghost use Rattle.std.specs.Prelude.{◌≡◌, ℤ, List, length};
 ghost use Rattle.sot_box.specs.Boxes.{IsWithin, point_box};
 ghost use Rattle.sot_shrinking.specs.Asking.{asked_width};
-ghost use Rattle.sot_held_regions.specs.Following.{HeldStays};
+ghost use Rattle.sot_law_held_regions.specs.Following.{HeldStays};
 ghost use Rattle.sot_shrinking.specs.Greatest.{IsAmong};
 ghost use Rattle.sot_shrinking.specs.declared.tube.Held.TheVariants.{Leaves, Apart};
 

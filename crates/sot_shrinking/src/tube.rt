@@ -7,9 +7,9 @@ ghost use Rattle.sot_box.specs.Boxes.{IsWithin};
 ghost use Rattle.sot_lang.specs.declared.tables.PlantInfo.{PlantInfo};
 ghost use Rattle.sot_lang.specs.TableRules.{MeetsTableRules};
 ghost use Rattle.sot_iv.specs.PlantTicks.{MayTickBox};
-ghost use Rattle.sot_held_regions.specs.Following.{LiesAmong, StaysAmong};
+ghost use Rattle.sot_law_held_regions.specs.Following.{LiesAmong, StaysAmong};
 ghost use Rattle.sot_shrinking.specs.Greatest.{IsAmong};
-ghost use Rattle.sot_held_regions.specs.Walks.{SomeTubeStays};
+ghost use Rattle.sot_law_held_regions.specs.Walks.{SomeTubeStays};
 ghost use Rattle.sot_shrinking.specs.declared.tube.Held.TheVariants.{Inside, Leaves, Apart};
 
 use sot_atoms::{AtomSet, Grid};

@@ -18,7 +18,7 @@ use Rattle.sot_lang.specs.declared.tables.ModuleInfo.{ModuleInfo}
 use Rattle.sot_lang.specs.Tables.{Tables}
 use Rattle.sot_lang.specs.TableRules.{MeetsTableRules, declared_names}
 use Rattle.sot_lists.specs.Places.{At}
-use Rattle.sot_lists.proofs.Places.{at_map}
+use Rattle.sot_lists.proofs.Places.{at_map, at_front, at_behind}
 use Rattle.sot_lang.specs.Names.{topic_name, node_name, module_name}
 use Rattle.sot_trace.specs.Names.{field_part, scalar_name}
 use Rattle.sot_trace.specs.Words.{IsWord, AreWords}
@@ -49,18 +49,6 @@ word_len_is (b ∷ bs) is =
 -- a name is made of letters, digits and `_`
 pub word_in : (text : List ℕ) → IsWord text → AllIn is_in_word text
 word_in text is = in_from_len is_in_word text (word_len_is text is)
-
-at_front : {A : Type 0} (xs ys : List A) (k : ℕ) (x : A) → At xs k x → At (xs ++ ys) k x
-at_front [] ys k x at = absurd (none-some x at)
-at_front (y ∷ xs) ys zero x at = at
-at_front (y ∷ xs) ys (suc k) x at = at_front xs ys k x at
-
-at_behind : {A : Type 0} (xs ys : List A) (k : ℕ) (x : A) → At ys k x → At (xs ++ ys) (length xs + k) x
-at_behind [] ys k x at = (let same : k ≡ 0 + k = omega arith in subst (λ n. At ys n x) same at)
-at_behind (y ∷ xs) ys k x at =
-    let step : At (y ∷ (xs ++ ys)) (suc (length xs + k)) x = at_behind xs ys k x at in
-    let same : suc (length xs + k) ≡ length (y ∷ xs) + k = omega arith in
-    subst (λ n. At (y ∷ (xs ++ ys)) n x) same step
 
 -- a byte of a scalar's name
 abbrev pub in_name : ℕ → Bool

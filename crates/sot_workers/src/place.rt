@@ -23,7 +23,8 @@ pub(crate) enum Place<'a, C: Controller> {
 }
 
 /// Who fires a node that no guest flies, as the worker of the node: the caller, or a shift that
-/// runs in a thread. Where one could not be started, the caller does, and the pass of the shift stays.
+/// runs in a thread. Where one could not be started, the caller does, and the pass of the shift
+/// stays.
 #[derive(Drop)]
 pub(crate) enum Station<'a, C: Controller> {
     Caller,

@@ -49,9 +49,9 @@ impl Rings {
         true
     }
 
-    /// Notes in a turn for whom to ring after it: for the workers of guests and of long bodies whose
-    /// nodes are left, once a firing, for the one whose node fires next, and at the end of the
-    /// flight for all guests'.
+    /// Notes in a turn for whom to ring after it: for the workers of guests and of long bodies
+    /// whose nodes are left, once a firing, for the one whose node fires next, and at the end of
+    /// the flight for all guests'.
     pub(crate) fn note(&mut self, board: &Board<'_>, long: &[bool]) {
         let finished = board.finished();
         for node in 0..board.typed().nodes.len() as u32 {

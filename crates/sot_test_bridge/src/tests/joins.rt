@@ -76,8 +76,9 @@ fn joins_topics_of_one_kind(rt: HostRuntime) {
     answers(&rt, alloc, "n e 1", &record, &want)
 }
 
-// Two nodes write one topic, each at each tick, which the checker refuses; the second mission takes
-// the topic, and has inputs of its own. A row has the fields, their values, the ticks and the inputs.
+// Two nodes write one topic, each at each tick, which the checker refuses; the second mission
+// takes the topic, and has inputs of its own. A row has the fields, their values, the ticks and
+// the inputs.
 fn crowded(alloc: Global, row: &str) -> Result<String, AllocError> {
     let (fields, values) = (column(row, " ; ", 0), column(row, " ; ", 1));
     let horizon = column(row, " ; ", 2).parse::<u32>().unwrap_or(0);

@@ -1,7 +1,7 @@
 //! What held regions are for: each of these functions does nothing, and its contract is the law.
 
-ghost use Rattle.sot_held_regions.specs.Theorems.{CertifiedRegionsAreHeld};
-ghost use Rattle.sot_held_regions.specs.Alone.{HeldRegionsStayHeld, NoneIsCertified};
+ghost use Rattle.sot_law_held_regions.specs.Theorems.{CertifiedRegionsAreHeld};
+ghost use Rattle.sot_law_held_regions.specs.Alone.{HeldRegionsStayHeld, NoneIsCertified};
 
 /// A region with a certificate is one whose points' held tubes stay in it: with each point it
 /// covers the tube of the point's cell, in which that of the point lies.

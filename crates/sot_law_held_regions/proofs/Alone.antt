@@ -22,8 +22,8 @@ use Rattle.sot_iv.specs.declared.drafted.Drafted.{Drafted}
 use Rattle.sot_traps.specs.Verdict.{HaveSafeBoxes}
 use Rattle.sot_traps.proofs.SafeHulls.{all_hulls}
 use Rattle.sot_tube.specs.Certified.{sure_interval, command_interval, command_intervals, DraftsFrom}
-use Rattle.sot_held_regions.specs.Following.{StaysAmong, HeldStays, IsHeldRegion}
-use Rattle.sot_held_regions.specs.Alone.{IsAlone, MoveAlike, IsRun, DraftAlike, RunAlike}
+use Rattle.sot_law_held_regions.specs.Following.{StaysAmong, HeldStays, IsHeldRegion}
+use Rattle.sot_law_held_regions.specs.Alone.{IsAlone, MoveAlike, IsRun, DraftAlike, RunAlike}
 
 slots_same : (f g : Slot → Side) (xs : List Slot) → ((x : Slot) → Has xs x → f x ≡ g x) → map f xs ≡ map g xs
 slots_same f g [] h = refl

@@ -16,7 +16,7 @@ use Rattle.sot_iv.specs.BodyIntervals.{Intervals, IsExecutionIntervals}
 use Rattle.sot_iv.specs.PlantIntervals.{IsNextBox}
 use Rattle.sot_traps.specs.Verdict.{HaveSafeBoxes}
 use Rattle.sot_tube.specs.Certified.{IsWellCertified}
-use Rattle.sot_held_regions.specs.Following.{IsHeldRegion, HasNoHeldRegion}
+use Rattle.sot_law_held_regions.specs.Following.{IsHeldRegion, HasNoHeldRegion}
 
 -- the module's plant sees none, and its safe node reads the states of no other plant
 pub record IsAlone (p : Tables) (a : ModuleInfo) : Type 0 where

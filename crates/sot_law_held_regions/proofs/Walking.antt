@@ -16,9 +16,9 @@ use Rattle.sot_iv.specs.declared.may_trap.MayTrap.{MayTrap}
 use Rattle.sot_iv.specs.PlantIntervals.{IsNextBox}
 use Rattle.sot_iv.specs.Monotony.{AreNarrower}
 use Rattle.sot_iv.proofs.Plants.{plant_same, plant_narrow}
-use Rattle.sot_held_regions.specs.Following.{LiesAmong, StaysAmong}
-use Rattle.sot_held_regions.specs.Walks.{SomeTubeStays}
-use Rattle.sot_held_regions.proofs.Commands.{narrower_ordered, ordered_narrower}
+use Rattle.sot_law_held_regions.specs.Following.{LiesAmong, StaysAmong}
+use Rattle.sot_law_held_regions.specs.Walks.{SomeTubeStays}
+use Rattle.sot_law_held_regions.proofs.Commands.{narrower_ordered, ordered_narrower}
 
 pub narrower_within : (b c : List Side) (s : List ℤ) → AreNarrower b c → IsWithin b s → IsWithin c s
 narrower_within [] [] s n w = w

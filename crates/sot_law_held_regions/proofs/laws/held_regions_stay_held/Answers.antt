@@ -1,5 +1,5 @@
-use Rattle.sot_held_regions.proofs.Alone.{region_alike}
-use Rattle.sot_held_regions.proofs.laws.held_regions_stay_held.Goals as goal
+use Rattle.sot_law_held_regions.proofs.Alone.{region_alike}
+use Rattle.sot_law_held_regions.proofs.laws.held_regions_stay_held.Goals as goal
 
 pub returns : goal.returns
 returns c p u jitter m k a b region rules rules_u boxes at at_u alike alone held =

@@ -27,9 +27,9 @@ use Rattle.sot_iv.proofs.Plants.{plant_narrow}
 use Rattle.sot_tube.specs.Tubes.{StaysInside, IsNextBox}
 use Rattle.sot_tube.specs.Certified.{IsWellCertified, command_intervals}
 use Rattle.sot_tube.proofs.Certificate.{in_some_box}
-use Rattle.sot_held_regions.specs.Following.{StaysAmong, HeldStays, IsHeldRegion}
-use Rattle.sot_held_regions.proofs.Commands.{narrower_ordered, ordered_narrower, drafts_narrow, commands_narrow}
-use Rattle.sot_held_regions.proofs.Walking.{narrower_within, point_narrower}
+use Rattle.sot_law_held_regions.specs.Following.{StaysAmong, HeldStays, IsHeldRegion}
+use Rattle.sot_law_held_regions.proofs.Commands.{narrower_ordered, ordered_narrower, drafts_narrow, commands_narrow}
+use Rattle.sot_law_held_regions.proofs.Walking.{narrower_within, point_narrower}
 
 module _ (plant : PlantInfo) (held wide seen : List Side) (region : List (List Side)) (n : ℕ) (places : HavePlaces n plant.next.items)
     (commands : AreNarrower held wide) (ordered_seen : AreOrdered seen) (ordered_bounds : AreOrdered (bounds plant)) where

@@ -3,7 +3,7 @@ use Rattle.std.specs.Prelude.{ℕ, ℤ, List}
 use Rattle.sot_lang.specs.declared.tables.PlantInfo.{PlantInfo}
 use Rattle.sot_box.specs.Sides.{Side}
 use Rattle.sot_iv.specs.Monotony.{AreNarrower}
-use Rattle.sot_held_regions.specs.Following.{StaysAmong}
+use Rattle.sot_law_held_regions.specs.Following.{StaysAmong}
 
 -- from some box in this one, with some commands in these, the tube of k ticks stays among the
 -- points

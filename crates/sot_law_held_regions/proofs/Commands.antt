@@ -30,7 +30,7 @@ use Rattle.sot_iv.proofs.Bodies.{execution_is}
 use Rattle.sot_iv.proofs.Plants.{narrow_self}
 use Rattle.sot_tube.specs.Certified.{sure_interval, command_interval, command_intervals, DraftsFrom}
 use Rattle.sot_tube.proofs.Leaving.{all_hulls_same}
-use Rattle.sot_held_regions.proofs.DraftsWithin.{Lies, DraftLies, DraftsLie, execution_lies}
+use Rattle.sot_law_held_regions.proofs.DraftsWithin.{Lies, DraftLies, DraftsLie, execution_lies}
 
 pub narrower_ordered : (rs ss : List Side) → AreNarrower rs ss → AreOrdered rs
 narrower_ordered [] [] n = tt

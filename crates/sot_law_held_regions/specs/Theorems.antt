@@ -6,7 +6,7 @@ use Rattle.sot_lang.specs.declared.tables.ModuleInfo.{ModuleInfo}
 use Rattle.sot_lang.specs.Tables.{Tables}
 use Rattle.sot_lang.specs.TableRules.{MeetsTableRules}
 use Rattle.sot_tube.specs.Certified.{IsWellCertified}
-use Rattle.sot_held_regions.specs.Following.{IsHeldRegion}
+use Rattle.sot_law_held_regions.specs.Following.{IsHeldRegion}
 
 -- the safe region of each module of a program that has a certificate is one whose points' held
 -- tubes stay in it

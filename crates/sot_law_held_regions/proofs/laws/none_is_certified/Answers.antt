@@ -1,6 +1,6 @@
-use Rattle.sot_held_regions.proofs.HeldRegions.{certified_is_held}
-use Rattle.sot_held_regions.proofs.Alone.{region_alike}
-use Rattle.sot_held_regions.proofs.laws.none_is_certified.Goals as goal
+use Rattle.sot_law_held_regions.proofs.HeldRegions.{certified_is_held}
+use Rattle.sot_law_held_regions.proofs.Alone.{region_alike}
+use Rattle.sot_law_held_regions.proofs.laws.none_is_certified.Goals as goal
 
 pub returns : goal.returns
 returns c t u jitter cert m k a b s rules rules_u boxes at at_u alike alone none inside here certified =
