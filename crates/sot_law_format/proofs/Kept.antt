@@ -29,6 +29,19 @@ pub record Kept {G F T : Type 0} (p : Production G F T) (f : F) : Type 0 where
 abbrev pub Keeps : {G F T : Type 0} → Production G F T → Type 0
 Keeps {F = F} p = (f : F) (more : List Lexeme) → AreTexts (p.spelled f more) → Kept p f × AreTexts more
 
+-- these tokens are a form of the production that means this tree
+pub record Written {G F T : Type 0} (p : Production G F T) (t : T) (ts us : List Lexeme) : Type 0 where
+  pub form : F
+  pub tokens : ts ≡ p.spelled form us
+  pub same : p.unplaced (p.tree form) ≡ p.unplaced t
+
+-- the words of a tree are such tokens
+abbrev pub IsWritten : {G F T : Type 0} → Production G F T → G → T → Type 0
+IsWritten p before t = (ts us : List Lexeme) → Takes ts (p.words before t) us → Written p t ts us
+
+pub kept_written : {G F T : Type 0} (p : Production G F T) (f : F) (before : G) → Kept p f → IsWritten p before (p.tree f)
+kept_written p f before kept ts us h = (let a = kept.again before ts us h in record { form = a.form; tokens = a.tokens; same = a.same })
+
 -- for forms that do not nest
 abbrev pub no_level : {F : Type 0} → F → ℕ
 no_level f = 0

@@ -16,7 +16,8 @@ use Rattle.sot_print.specs.Canonical.{clause, closing, timing_words, region_word
 use Rattle.sot_tree.specs.Formed as formed
 use Rattle.sot_law_format.specs.Unplaced.{unplaced_module}
 use Rattle.sot_law_format.proofs.Takes.{Takes, split, a_keyword, a_sign, a_name, led, onto}
-use Rattle.sot_law_format.proofs.Kept.{Production, Again, Kept, Keeps, no_level, also}
+use Rattle.sot_law_format.proofs.Kept.{Production, Again, Kept, Keeps, IsWritten, kept_written, no_level, also}
+use Rattle.sot_law_format.proofs.Texts.{AreTexts}
 use Rattle.sot_law_format.proofs.Leaves.{same_name, name_text}
 use Rattle.sot_law_format.proofs.Clauses.{roles, roles_keep, timings, timings_keep}
 use Rattle.sot_law_format.proofs.Regions.{bounds, bounds_keep}
@@ -28,17 +29,17 @@ abbrev module_with : Ident → Ident → Ident → Lit × Lit → Ident → List
 module_with own ac sc timing plant safe safer =
     record { name = own; ac = ac; sc = sc; period = timing.0; offset = timing.1; plant = plant; safe = safe; safer = safer }
 
-record KeptModule (m : ModuleForm) : Type 0 where
-  ac_kept : Kept (roles (codes "ac")) m.ac
-  sc_kept : Kept (roles (codes "sc")) m.sc
-  timing_kept : Kept timings m.timing
-  plant_kept : Kept (roles (codes "plant")) m.plant
-  safe_kept : Kept (bounds (codes "safe")) m.safe
-  safer_kept : Kept (bounds (codes "safer")) m.safer
+-- the words of each part of a module are tokens of that part
+pub record ArePartsWritten (t : Module) : Type 0 where
+  pub ac : IsWritten (roles (codes "ac")) tt t.ac
+  pub sc : IsWritten (roles (codes "sc")) tt t.sc
+  pub timing : IsWritten timings (Line 2) (t.period, t.offset)
+  pub plant : IsWritten (roles (codes "plant")) tt t.plant
+  pub safe : IsWritten (bounds (codes "safe")) tt t.safe
+  pub safer : IsWritten (bounds (codes "safer")) tt t.safer
 
-module_again : (m : ModuleForm) → KeptModule m → (gap : Gap) (ts us : List Lexeme) → Takes ts (module_words gap (module_of m)) us → Again modules m ts us
-module_again m kept gap ts us h =
-    let t : Module = module_of m in
+pub module_written : (t : Module) → ArePartsWritten t → (gap : Gap) → IsWritten modules gap t
+module_written t parts gap ts us h =
     let of_ac : List Word = clause (codes "ac") (ident_words Space t.ac) in
     let of_sc : List Word = clause (codes "sc") (ident_words Space t.sc) in
     let of_timing : List Word = timing_words (Line 2) t.period t.offset in
@@ -54,13 +55,13 @@ module_again m kept gap ts us h =
     let both = split of_ac of_sc opening.0 timed.0 timed.1 in
     let lower = split (of_plant ++ of_safe) of_safer halves.0 outer.0 halves.2 in
     let lowest = split of_plant of_safe halves.0 lower.0 lower.1 in
-    let a = kept.ac_kept.again tt opening.0 both.0 both.1 in
-    let b = kept.sc_kept.again tt both.0 timed.0 both.2 in
-    let c = kept.timing_kept.again (Line 2) timed.0 control.0 timed.2 in
+    let a = parts.ac opening.0 both.0 both.1 in
+    let b = parts.sc both.0 timed.0 both.2 in
+    let c = parts.timing timed.0 control.0 timed.2 in
     let mark = control.2 in
-    let d = kept.plant_kept.again tt halves.0 lowest.0 lowest.1 in
-    let e = kept.safe_kept.again tt lowest.0 lower.0 lowest.2 in
-    let f = kept.safer_kept.again tt lower.0 outer.0 lower.2 in
+    let d = parts.plant halves.0 lowest.0 lowest.1 in
+    let e = parts.safe lowest.0 lower.0 lowest.2 in
+    let f = parts.safer lower.0 outer.0 lower.2 in
     let last = outer.2 in
     record {
       form = record {
@@ -81,33 +82,67 @@ module_again m kept gap ts us h =
           onto (spelled_role a.form) a.tokens (onto (spelled_role b.form) b.tokens (onto (spelled_timing c.form) c.tokens (led mark.1 (mark.2 ∙ (
           onto (spelled_role d.form) d.tokens (onto (spelled_bound e.form) e.tokens (onto (spelled_bound f.form) f.tokens (led last.1 last.2)))))))))));
       same = also (also (also (also (also (ap₂ module_with (same_name own.1.text) a.same) b.same) c.same) d.same) e.same) f.same;
-      nests = le_refl 0;
     }
 
-pub modules_keep : Keeps modules
-modules_keep m more texts =
-    let after_safe : List Lexeme = spelled_bound m.safer (m.closing.token ∷ more) in
-    let after_plant : List Lexeme = spelled_bound m.safe after_safe in
+-- the parts of a module that are kept
+pub record ControlKept (m : ModuleForm) : Type 0 where
+  pub ac : Kept (roles (codes "ac")) m.ac
+  pub sc : Kept (roles (codes "sc")) m.sc
+  pub timing : Kept timings m.timing
+  pub plant : Kept (roles (codes "plant")) m.plant
+
+pub control_keep : (m : ModuleForm) (more : List Lexeme) → AreTexts (spelled_module m more)
+    → ControlKept m × AreTexts (spelled_bound m.safe (spelled_bound m.safer (m.closing.token ∷ more)))
+control_keep m more texts =
+    let after_plant : List Lexeme = spelled_bound m.safe (spelled_bound m.safer (m.closing.token ∷ more)) in
     let after_timing : List Lexeme = m.semicolon.token ∷ spelled_role m.plant after_plant in
     let a = roles_keep (codes "ac") m.ac (spelled_role m.sc (spelled_timing m.timing after_timing)) texts.1.1.1 in
     let b = roles_keep (codes "sc") m.sc (spelled_timing m.timing after_timing) a.1 in
     let c = timings_keep m.timing after_timing b.1 in
     let d = roles_keep (codes "plant") m.plant after_plant c.1.1 in
-    let e = bounds_keep (codes "safe") m.safe after_safe d.1 in
+    (record { ac = a.0; sc = b.0; timing = c.0; plant = d.0 }, d.1)
+
+-- a module with other regions is written, where these regions are
+pub with_regions_written : (m : ModuleForm) → ControlKept m → (safe safer : List Area)
+    → IsWritten (bounds (codes "safe")) tt safe → IsWritten (bounds (codes "safer")) tt safer
+    → (gap : Gap) → IsWritten modules gap (record (module_of m) { safe = safe; safer = safer })
+with_regions_written m kept safe safer of_safe of_safer =
+    module_written (record (module_of m) { safe = safe; safer = safer }) (record {
+      ac = kept_written (roles (codes "ac")) m.ac tt kept.ac;
+      sc = kept_written (roles (codes "sc")) m.sc tt kept.sc;
+      timing = kept_written timings m.timing (Line 2) kept.timing;
+      plant = kept_written (roles (codes "plant")) m.plant tt kept.plant;
+      safe = of_safe;
+      safer = of_safer;
+    })
+
+module_again : (m : ModuleForm) → ControlKept m → Kept (bounds (codes "safe")) m.safe → Kept (bounds (codes "safer")) m.safer
+    → (gap : Gap) (ts us : List Lexeme) → Takes ts (module_words gap (module_of m)) us → Again modules m ts us
+module_again m kept safe safer gap ts us h =
+    let t : Module = module_of m in
+    let of_safe = kept_written (bounds (codes "safe")) m.safe tt safe in
+    let of_safer = kept_written (bounds (codes "safer")) m.safer tt safer in
+    let w = with_regions_written m kept t.safe t.safer of_safe of_safer gap ts us h in
+    record { form = w.form; tokens = w.tokens; same = w.same; nests = le_refl 0 }
+
+pub modules_keep : Keeps modules
+modules_keep m more texts =
+    let control = control_keep m more texts in
+    let e = bounds_keep (codes "safe") m.safe (spelled_bound m.safer (m.closing.token ∷ more)) control.1 in
     let f = bounds_keep (codes "safer") m.safer (m.closing.token ∷ more) e.1 in (
       record {
         holds =
             record {
               name = name_text m.name.token m.name.is texts.1.0;
-              ac = a.0.holds;
-              sc = b.0.holds;
-              period = c.0.holds.0;
-              offset = c.0.holds.1;
-              plant = d.0.holds;
+              ac = control.0.ac.holds;
+              sc = control.0.sc.holds;
+              period = control.0.timing.holds.0;
+              offset = control.0.timing.holds.1;
+              plant = control.0.plant.holds;
               safe = e.0.holds;
               safer = f.0.holds;
             };
-        again = module_again m (record { ac_kept = a.0; sc_kept = b.0; timing_kept = c.0; plant_kept = d.0; safe_kept = e.0; safer_kept = f.0 });
+        again = module_again m control.0 e.0 f.0;
       },
       f.1.1,
     )

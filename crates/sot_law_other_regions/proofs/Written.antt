@@ -21,16 +21,10 @@ use Rattle.sot_print.specs.Canonical.{clause, area_words, areas_from, region_wor
 use Rattle.sot_print.proofs.NumeralTexts.{IsNumeral, numeral_read}
 use Rattle.sot_law_format.specs.Unplaced.{nowhere, unplaced_literal, unplaced_area}
 use Rattle.sot_law_format.proofs.Takes.{Takes, split, a_keyword, a_sign, a_number, led, onto}
-use Rattle.sot_law_format.proofs.Kept.{Production, no_level}
+use Rattle.sot_law_format.proofs.Kept.{Production, Written, no_level}
 use Rattle.sot_law_format.proofs.Leaves.{literals, sides}
 use Rattle.sot_law_format.proofs.Lists.{further_items, cons_same}
 use Rattle.sot_law_format.proofs.Regions.{boxes, regions, bounds}
-
--- these tokens are a form of the production that means this tree
-pub record Written {G F T : Type 0} (p : Production G F T) (t : T) (ts us : List Lexeme) : Type 0 where
-  pub form : F
-  pub tokens : ts ≡ p.spelled form us
-  pub same : p.unplaced (p.tree form) ≡ p.unplaced t
 
 -- ---- literals
 
