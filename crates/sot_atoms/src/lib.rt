@@ -7,8 +7,10 @@ mod block;
 mod grid;
 mod rows;
 mod set;
+mod sums;
 
 pub use axis::Axis;
 pub use block::{Block, Halves, Stretch, atoms_in, halves_of};
 pub use grid::{Grid, MOST_ATOMS};
 pub use set::AtomSet;
+pub use sums::Sums;

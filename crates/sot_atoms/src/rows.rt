@@ -137,11 +137,23 @@ fn each_fill(
     }
 }
 
+/// So many bytes of 0 or 1 are added up in a byte, many at a time.
+pub(crate) const FEW: usize = 240;
+
+// How many of a few bytes are 1, where all are 0 or 1.
+fn few_ones(bytes: &[u8]) -> u8 {
+    let mut count = 0u8;
+    for byte in bytes {
+        count = count.wrapping_add(*byte);
+    }
+    count
+}
+
 /// How many of these bytes are 1, where all are 0 or 1.
 pub(crate) fn ones(bytes: &[u8]) -> usize {
     let mut count = 0usize;
-    for byte in bytes {
-        count = count.wrapping_add(*byte as usize);
+    for few in bytes.chunks(FEW) {
+        count = count.wrapping_add(few_ones(few) as usize);
     }
     count
 }

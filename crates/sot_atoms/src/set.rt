@@ -8,7 +8,7 @@ ghost use Rattle.sot_atoms.specs.Sets.{IsNextMember};
 
 use crate::block::Block;
 use crate::grid::Grid;
-use crate::rows::{count, fill, fits, lacks, ones};
+use crate::rows::{FEW, count, fill, fits, lacks, ones};
 use memchr::memchr;
 use std::alloc::{AllocError, Global};
 use std::marker::Model;
@@ -38,6 +38,13 @@ impl AtomSet {
     {
         let bytes = vec![in alloc; 0u8; grid.total()]?;
         Ok(AtomSet { bytes })
+    }
+
+    /// The bytes of the atoms.
+    pub(crate) fn bytes(&self) -> &[u8]
+        ensures { result.now ≡ self.now }
+    {
+        &self.bytes
     }
 
     /// How many atoms the grid has.
@@ -146,15 +153,24 @@ impl AtomSet {
     pub fn spread(&self, alloc: Global, each: usize) -> Result<Vec<usize>, AllocError> {
         let mut numbers = Vec::new(alloc);
         let mut skipped = 0;
-        for number in 0..self.bytes.len() {
-            if self.bytes[number] == 0 {
+        let mut number = 0usize;
+        for few in self.bytes.chunks(FEW) {
+            let here = ones(few);
+            if here <= skipped {
+                skipped -= here;
+                number = number.wrapping_add(few.len());
                 continue;
             }
-            if skipped == 0 {
-                numbers.push(number)?;
-                skipped = each;
+            for byte in few {
+                if *byte == 1 {
+                    if skipped == 0 {
+                        numbers.push(number)?;
+                        skipped = each;
+                    }
+                    skipped = skipped.saturating_sub(1);
+                }
+                number = number.wrapping_add(1);
             }
-            skipped = skipped.saturating_sub(1);
         }
         Ok(numbers)
     }

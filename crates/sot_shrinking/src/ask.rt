@@ -4,10 +4,10 @@ ghost use Rattle.std.specs.Prelude.{◌≡◌, ◌<◌, IsTrue, IfSome};
 ghost use Rattle.sot_lists.specs.Places.{At};
 ghost use Rattle.sot_lang.specs.TableRules.{MeetsTableRules};
 ghost use Rattle.sot_traps.specs.Verdict.{HaveSafeBoxes};
-ghost use Rattle.sot_shrinking.specs.Asking.{MayAsk, IsAsked};
+ghost use Rattle.sot_shrinking.specs.Asking.{MayAsk, IsAsked, asked_width};
 
 use sot_iv::{Ranges, seen_hulls};
-use sot_lang::{ModuleInfo, Typed};
+use sot_lang::{ModuleInfo, StateInfo, Typed};
 use sot_rta::{module_at, plant_at};
 use std::marker::Model;
 
@@ -59,6 +59,14 @@ fn have_safe_boxes(program: &Typed) -> bool
     true
 }
 
+/// Whether the tubes of a module may be asked about: it is there, the safe region of each module has
+/// a box, and the jitter is below 1,000.
+pub fn may_ask(program: &Typed, module: u32, jitter: u32) -> bool
+    ensures { IsTrue result → MayAsk program.now «module» jitter }
+{
+    (module as usize) < program.modules.len() && jitter < 1000 && have_safe_boxes(program)
+}
+
 impl<'a> Ask<'a> {
     /// The question about module `module`, as `of`. `None` where the module is not there, the safe
     /// region of some module has no box, or the jitter is not below 1,000.
@@ -67,10 +75,7 @@ impl<'a> Ask<'a> {
         ensures info { IfSome result (λ q. At program.now.modules «module» q.info) }
         ensures jitter { IfSome result (λ q. q.jitter ≡ jitter) }
     {
-        if module as usize >= program.modules.len() || jitter >= 1000 {
-            return None;
-        }
-        if !have_safe_boxes(program) {
+        if !may_ask(program, module, jitter) {
             return None;
         }
         Some(Ask::of(program, module, jitter))
@@ -102,6 +107,16 @@ impl<'a> Ask<'a> {
         ensures asked { IsAsked self.now }
     {
         self.program
+    }
+
+    /// How many state variables the module's plant has.
+    pub fn width(&self) -> usize
+        ensures { result ≡ asked_width self.now }
+    {
+        let p = self.program();
+        let plant = plant_at(p, self.info().plant);
+        let states: &[StateInfo] = &plant.states;
+        states.len()
     }
 
     /// The module.

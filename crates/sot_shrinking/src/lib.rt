@@ -5,13 +5,15 @@ mod ask;
 mod boxes;
 mod held;
 mod inside;
+mod stays;
 mod sweeps;
 mod tiles;
 mod tube;
 
-pub use ask::Ask;
+pub use ask::{Ask, may_ask};
 pub use boxes::held_boxes;
 pub use held::{any_tube, held_tube};
 pub use inside::atoms_of;
+pub use stays::{Among, any_stays, held_stays};
 pub use sweeps::{closed_atoms, greatest};
 pub use tube::Held;

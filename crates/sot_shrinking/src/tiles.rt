@@ -6,7 +6,7 @@ ghost use Rattle.sot_shrinking.specs.Asking.{asked_width};
 
 use crate::ask::Ask;
 use crate::boxes::held_boxes;
-use sot_atoms::{AtomSet, Block, Grid, Stretch, atoms_in};
+use sot_atoms::{AtomSet, Block, Grid, Stretch, Sums, atoms_in};
 use sot_box::BoxN;
 use std::alloc::{AllocError, Global};
 
@@ -80,9 +80,6 @@ pub(crate) fn reaches(alloc: Global, ask: &Ask<'_>, tiles: &Grid) -> Result<Vec<
 // Up to so many tiles are asked one by one.
 const FEW_TILES: u64 = 64;
 
-// Of so many tiles it is not asked which of them lost an atom.
-const MANY_TILES: u64 = 65_536;
-
 /// Whether one of few tiles has lost an atom. Where there are many the next sweep will see it.
 pub(crate) fn is_near(tiles: &Grid, lost: &AtomSet, reach: &Block) -> bool {
     atoms_in(reach) <= FEW_TILES && !lost.has_none(tiles, reach)
@@ -96,9 +93,9 @@ pub(crate) fn stale_after(
     lost: &AtomSet,
 ) -> Result<AtomSet, AllocError> {
     let mut stale = AtomSet::none(alloc, tiles)?;
+    let sums = Sums::of(alloc, tiles, lost)?;
     for number in 0..reaches.len() {
-        let reach = &reaches[number];
-        if atoms_in(reach) >= MANY_TILES || !lost.has_none(tiles, reach) {
+        if sums.count(tiles, &reaches[number]) > 0 {
             stale.put(tiles, &tiles.atom(number));
         }
     }
