@@ -11,7 +11,7 @@ use crate::cover::{Adding, Cover, cover_of};
 use crate::found::{Found, RegionsFail};
 use crate::growing::orders;
 use crate::search::{Good, Search};
-use sot_atoms::{AtomSet, Block, Grid, MOST_ATOMS, atoms_in};
+use sot_atoms::{AtomSet, Block, Grid, MOST_ATOMS, Sums, atoms_in};
 use sot_box::{BoxN, Region};
 use sot_rta::node_at;
 use sot_shrinking::{Ask, atoms_of, greatest};
@@ -77,10 +77,11 @@ fn improve(search: &Search<'_>, safe: &Cover, worth: u64, best: &mut Best) -> Re
 {
     let grid = search.grid;
     let set = &safe.set;
-    let Some(cells) = cells_of(search, set)? else {
+    let sums = Sums::of(search.alloc, grid, set)?;
+    let Some(cells) = cells_of(search, set, &sums)? else {
         return Ok(());
     };
-    let safer = cover_of(search, set, Good::KeepsAny(set), Adding::Plain)?;
+    let safer = cover_of(search, set, Good::KeepsAny(&sums), Adding::Plain)?;
     if safer.boxes.is_empty() {
         best.no_safer = true;
         return Ok(());
@@ -112,7 +113,9 @@ fn look(
     if most <= best.worth {
         return Ok(false);
     }
-    let safe = cover_of(search, set, Good::Within(set), Adding::Closed(set))?;
+    let sums = Sums::of(search.alloc, grid, set)?;
+    let safe = cover_of(search, set, Good::Within(&sums), Adding::Closed(&sums))?;
+    drop(sums);
     let worth = worth_of(grid, narrowest, &safe.set);
     if best.worth < worth && !safe.boxes.is_empty() {
         improve(search, &safe, worth, best)?;

@@ -4,17 +4,18 @@ ghost use Rattle.std.specs.Prelude.{◌≤◌, length, IfOk, IfSome};
 ghost use Rattle.sot_regions.specs.Searches.{IsSearch};
 
 use crate::search::{Good, Search, Worth};
-use sot_atoms::{AtomSet, Block};
+use sot_atoms::{AtomSet, Block, Sums};
 use std::alloc::AllocError;
 
 // The most cells of a list.
 const MOST_CELLS: usize = 4096;
 
-/// Blocks that have all atoms of a region, and whose held tubes stay in it. `None` where there
+/// Blocks that have all atoms of a region, whose sums these are, and whose held tubes stay in it. `None` where there
 /// would be more than 4,096.
 pub(crate) fn cells_of(
     search: &Search<'_>,
     region: &AtomSet,
+    sums: &Sums,
 ) -> Result<Option<Vec<Block>>, AllocError>
     requires { IsSearch search.now }
     ensures { IfOk result (λ found. IfSome found (λ v. length v.items ≤ 4096)) }
@@ -28,12 +29,7 @@ pub(crate) fn cells_of(
             return Ok(Some(cells));
         };
         let worth = Worth::In(&left);
-        let cell = search.best(
-            &grid.atom(number),
-            &grid.whole(),
-            Good::Keeps(region),
-            worth,
-        );
+        let cell = search.best(&grid.atom(number), &grid.whole(), Good::Keeps(sums), worth);
         left.take(grid, &cell);
         cells.push(cell)?;
         from = number;

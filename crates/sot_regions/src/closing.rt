@@ -1,38 +1,52 @@
 //! Boxes that close a region: with them the held tube of each atom stays in it.
 
 ghost use Rattle.std.specs.Prelude.{◌≡◌, ◌≤◌, length, IfOk, OnOk, IsTrue};
-ghost use Rattle.sot_regions.specs.Searches.{IsSearch};
+ghost use Rattle.sot_regions.specs.Searches.{IsSearch, AreWidePoints};
 
 use crate::cover::{Cover, MOST_BOXES};
 use crate::search::{Good, Search, Worth};
 use crate::thin::{region_of, thin};
-use sot_atoms::{AtomSet, Block, halves_of};
+use sot_atoms::{Block, Sums, halves_of};
 use sot_box::{BoxN, Region};
-use sot_shrinking::held_boxes;
+use sot_shrinking::{Among, held_boxes, held_stays};
 use std::alloc::AllocError;
 
 // The most boxes of a region that is being closed.
 const ROOM: usize = 512;
 
+// The points of a cover that is being closed.
+#[derive(Drop)]
+struct Points {
+    before: Region,
+    now: Region,
+}
+
 // Adds a block of the set around a box that the cover does not hold yet. False says that the box
 // leaves the hull, or that there are too many boxes.
 fn cover_box(
     search: &Search<'_>,
+    points: &mut Points,
     cover: &mut Cover,
     area: &BoxN,
-    set: &AtomSet,
+    sums: &Sums,
 ) -> Result<bool, AllocError>
     requires search { IsSearch search.now }
     requires width { length area.now ≡ search.now.grid.now.width }
+    requires points { AreWidePoints search.now.grid.now.width points.old }
+    ensures points { AreWidePoints search.now.grid.now.width points.new }
 {
     let grid = search.grid;
+    if points.now.covers(area) {
+        return Ok(true);
+    }
     let Some(met) = grid.block(area) else {
         return Ok(false);
     };
-    if !cover.set.has_all(grid, &met) {
-        let worth = Worth::Outside(&cover.set);
-        let block = search.best(&met, &grid.whole(), Good::Within(set), worth);
-        cover.add(grid, block)?;
+    let worth = Worth::Outside(&cover.set);
+    let block = search.best(&met, &grid.whole(), Good::Within(sums), worth);
+    cover.add(grid, block)?;
+    if points.now.push(grid.area(&block)).is_err() {
+        return Err(AllocError);
     }
     Ok(cover.boxes.len() <= ROOM)
 }
@@ -41,19 +55,22 @@ fn cover_box(
 // stays in the set. False says that there are too many boxes.
 fn close_atom(
     search: &Search<'_>,
+    points: &mut Points,
     cover: &mut Cover,
     atom: &Block,
     within: &Block,
-    set: &AtomSet,
+    sums: &Sums,
 ) -> Result<bool, AllocError>
-    requires { IsSearch search.now }
+    requires search { IsSearch search.now }
+    requires points { AreWidePoints search.now.grid.now.width points.old }
+    ensures points { AreWidePoints search.now.grid.now.width points.new }
 {
-    let cell = search.best(atom, within, Good::Held(set), Worth::Atoms);
+    let cell = search.best(atom, within, Good::Held(sums), Worth::Atoms);
     let Some(boxes) = held_boxes(search.alloc, search.ask, &search.grid.area(&cell))? else {
         return Ok(false);
     };
     for area in &boxes {
-        if !cover_box(search, cover, area, set)? {
+        if !cover_box(search, points, cover, area, sums)? {
             return Ok(false);
         }
     }
@@ -64,25 +81,37 @@ fn close_atom(
 // that there are too many boxes.
 fn settle(
     search: &Search<'_>,
-    before: &Region,
+    points: &mut Points,
     cover: &mut Cover,
     part: &Block,
     within: &Block,
-    set: &AtomSet,
+    sums: &Sums,
 ) -> Result<bool, AllocError>
     requires search { IsSearch search.now }
-    requires width { before.now.width ≡ search.now.grid.now.width }
+    requires points { AreWidePoints search.now.grid.now.width points.old }
+    ensures points { AreWidePoints search.now.grid.now.width points.new }
 {
-    if before.covers(&search.grid.area(part)) || search.is_held(part, &cover.set) {
+    let area = search.grid.area(part);
+    if points.before.covers(&area) || held_stays(search.ask, &area, Among::Region(&points.now)) {
         return Ok(true);
     }
     let Some(halves) = halves_of(part) else {
-        return close_atom(search, cover, part, within, set);
+        return close_atom(search, points, cover, part, within, sums);
     };
-    if !settle(search, before, cover, &halves.low, within, set)? {
+    if !settle(search, points, cover, &halves.low, within, sums)? {
         return Ok(false);
     }
-    settle(search, before, cover, &halves.high, within, set)
+    settle(search, points, cover, &halves.high, within, sums)
+}
+
+// The points of a cover to which a block is added.
+fn points_of(search: &Search<'_>, cover: &mut Cover, block: Block) -> Result<Points, AllocError>
+    ensures { IfOk result (AreWidePoints search.now.grid.now.width) }
+{
+    let before = region_of(search.alloc, search.grid, &cover.boxes)?;
+    cover.add(search.grid, block)?;
+    let now = region_of(search.alloc, search.grid, &cover.boxes)?;
+    Ok(Points { before, now })
 }
 
 // Adds a block and those that close the region again. False says that there are too many boxes.
@@ -90,20 +119,19 @@ fn close(
     search: &Search<'_>,
     cover: &mut Cover,
     block: Block,
-    set: &AtomSet,
+    sums: &Sums,
 ) -> Result<bool, AllocError>
     requires { IsSearch search.now }
     ensures { IfOk result (λ closed. IsTrue closed → length cover.new.boxes.items ≤ 256) }
 {
-    let before = region_of(search.alloc, search.grid, &cover.boxes)?;
     let first = cover.boxes.len();
-    cover.add(search.grid, block)?;
+    let mut points = points_of(search, cover, block)?;
     for place in first..ROOM + 1 {
         if place >= cover.boxes.len() {
             break;
         }
         let next = cover.boxes[place];
-        if !settle(search, &before, cover, &next, &next, set)? {
+        if !settle(search, &mut points, cover, &next, &next, sums)? {
             return Ok(false);
         }
     }
@@ -117,14 +145,14 @@ pub(crate) fn add_closed(
     search: &Search<'_>,
     cover: &mut Cover,
     block: Block,
-    set: &AtomSet,
+    sums: &Sums,
 ) -> Result<bool, AllocError>
     requires search { IsSearch search.now }
     requires few { length cover.old.boxes.items ≤ 256 }
     ensures { OnOk result (length cover.new.boxes.items ≤ 256) }
 {
     let kept = cover.boxes.clone()?;
-    let closed = close(search, cover, block, set)?;
+    let closed = close(search, cover, block, sums)?;
     if !closed {
         cover.reset(search.grid, kept);
     }

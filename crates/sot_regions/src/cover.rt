@@ -7,7 +7,7 @@ use crate::closing::add_closed;
 use crate::search::{Good, Search};
 use crate::seeds::{Seed, richest, seeds_in};
 use crate::thin::thin;
-use sot_atoms::{AtomSet, Block, Grid};
+use sot_atoms::{AtomSet, Block, Grid, Sums};
 use std::alloc::{AllocError, Global};
 
 /// The most boxes of a region.
@@ -61,8 +61,9 @@ impl Cover {
 pub(crate) enum Adding<'a> {
     /// Nothing.
     Plain,
-    /// That the held tubes of its atoms stay in it, where more boxes in this set may be added.
-    Closed(&'a AtomSet),
+    /// That the held tubes of its atoms stay in it, where more boxes in the set of these sums may be
+    /// added.
+    Closed(&'a Sums),
 }
 
 // Adds a block, and leaves out those that the others cover then.
@@ -90,7 +91,7 @@ fn add(
             add_plain(search, cover, block)?;
             Ok(true)
         }
-        Adding::Closed(set) => add_closed(search, cover, block, set),
+        Adding::Closed(sums) => add_closed(search, cover, block, sums),
     }
 }
 

@@ -30,24 +30,6 @@ pub(crate) fn grown(block: &Block, k: usize, end: End, by: usize) -> Block
     block.with(k, wider)
 }
 
-/// The places by which such a block is longer.
-pub(crate) fn added(block: &Block, k: usize, end: End, by: usize) -> Block
-    requires { k < 4 }
-{
-    let side = block.side(k);
-    let more = match end {
-        End::Upper => Stretch {
-            from: side.to.saturating_add(1),
-            to: side.to.saturating_add(by),
-        },
-        End::Lower => Stretch {
-            from: side.from.saturating_sub(by),
-            to: side.from.saturating_sub(1),
-        },
-    };
-    block.with(k, more)
-}
-
 /// How many places there are behind an end of a block, inside another.
 pub(crate) fn room(block: &Block, within: &Block, k: usize, end: End) -> usize
     requires { k < 4 }

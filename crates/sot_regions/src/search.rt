@@ -3,9 +3,9 @@
 ghost use Rattle.std.specs.Prelude.{◌<◌};
 ghost use Rattle.sot_regions.specs.Searches.{IsSearch};
 
-use crate::growing::{End, Order, added, grown, room};
-use sot_atoms::{AtomSet, Block, Grid, atoms_in};
-use sot_shrinking::{Ask, Held, any_tube, held_tube};
+use crate::growing::{End, Order, grown, room};
+use sot_atoms::{AtomSet, Block, Grid, Sums, atoms_in};
+use sot_shrinking::{Among, Ask, any_stays, held_stays};
 use std::alloc::{AllocError, Global};
 
 /// In which grid is searched, and whose tubes are asked for.
@@ -20,14 +20,14 @@ pub(crate) struct Search<'a> {
 /// What is asked of a block. A smaller block does it too, since its tubes are narrower.
 #[derive(Clone, Copy)]
 pub(crate) enum Good<'a> {
-    /// It lies in the set.
-    Within(&'a AtomSet),
+    /// It lies in the set of these sums.
+    Within(&'a Sums),
     /// Its held tube stays in the set.
-    Held(&'a AtomSet),
+    Held(&'a Sums),
     /// It lies in the set, and its held tube stays there.
-    Keeps(&'a AtomSet),
+    Keeps(&'a Sums),
     /// It lies in the set, and its tube under any commands stays there.
-    KeepsAny(&'a AtomSet),
+    KeepsAny(&'a Sums),
 }
 
 /// What a block is worth.
@@ -55,34 +55,39 @@ fn worth_of(grid: &Grid, block: &Block, worth: Worth<'_>) -> u64 {
 }
 
 impl Search<'_> {
-    /// Whether the held tube of a block stays in a set.
-    pub(crate) fn is_held(&self, block: &Block, set: &AtomSet) -> bool
-        requires { IsSearch self.now }
-    {
-        held_tube(self.ask, &self.grid.area(block), self.grid, set) == Held::Inside
+    // The atoms of a set, which are counted by look-ups.
+    fn among<'s>(&'s self, sums: &'s Sums) -> Among<'s> {
+        Among::Atoms(self.grid, sums)
     }
 
-    // Whether the tube of a block under any commands stays in a set.
-    fn is_kept(&self, block: &Block, set: &AtomSet) -> bool
+    // Whether the held tube of a block stays in the set of these sums.
+    fn stays(&self, block: &Block, sums: &Sums) -> bool
         requires { IsSearch self.now }
     {
-        any_tube(self.ask, &self.grid.area(block), self.grid, set) == Held::Inside
+        held_stays(self.ask, &self.grid.area(block), self.among(sums))
     }
 
-    /// Whether a block is good, all of which but for a part is known to lie in the set.
-    pub(crate) fn is_good(&self, block: &Block, part: &Block, good: Good<'_>) -> bool
+    // Whether the tube of a block under any commands stays there.
+    fn any_stays(&self, block: &Block, sums: &Sums) -> bool
+        requires { IsSearch self.now }
+    {
+        any_stays(self.ask, &self.grid.area(block), self.among(sums))
+    }
+
+    /// Whether a block is good.
+    pub(crate) fn is_good(&self, block: &Block, good: Good<'_>) -> bool
         requires { IsSearch self.now }
     {
         match good {
-            Good::Within(set) => set.has_all(self.grid, part),
-            Good::Held(set) => self.is_held(block, set),
-            Good::Keeps(set) => set.has_all(self.grid, part) && self.is_held(block, set),
-            Good::KeepsAny(set) => set.has_all(self.grid, part) && self.is_kept(block, set),
+            Good::Within(sums) => sums.has_all(self.grid, block),
+            Good::Held(sums) => self.stays(block, sums),
+            Good::Keeps(sums) => sums.has_all(self.grid, block) && self.stays(block, sums),
+            Good::KeepsAny(sums) => sums.has_all(self.grid, block) && self.any_stays(block, sums),
         }
     }
 
-    // Moves one end of a block that lies in the set as far as it stays good, inside another one, by
-    // steps that double while they are good, and then halve.
+    // Moves one end of a block as far as it stays good, inside another one, by steps that double
+    // while they are good, and then halve.
     fn push(&self, from: &Block, within: &Block, k: usize, end: End, good: Good<'_>) -> Block
         requires search { IsSearch self.now }
         requires below { k < 4 }
@@ -95,9 +100,8 @@ impl Search<'_> {
                 break;
             }
             let wider = grown(&block, k, end, step);
-            let part = added(&block, k, end, step);
             let fits = step <= room(&block, within, k, end);
-            if fits && self.is_good(&wider, &part, good) {
+            if fits && self.is_good(&wider, good) {
                 block = wider;
             } else {
                 doubling = false;

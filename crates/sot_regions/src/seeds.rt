@@ -40,7 +40,7 @@ pub(crate) fn seeds_in(
     let mut seeds = Vec::new(search.alloc);
     for number in &left.spread(search.alloc, each)? {
         let atom = grid.atom(*number);
-        if !search.is_good(&atom, &atom, good) {
+        if !search.is_good(&atom, good) {
             continue;
         }
         let block = search.best(&atom, &grid.whole(), good, Worth::In(left));

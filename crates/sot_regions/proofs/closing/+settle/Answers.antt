@@ -5,11 +5,11 @@ use Rattle.sot_regions.proofs.closing.+settle.Goals as goal
 pub settle-requires : goal.settle-requires
 settle-requires t c = (
   let l = low_less c.args.part.now c.in-Some.halves.low c.in-Some.halves.high c.in-Some.ensures in omega (arith, c.decreases),
-  (c.requires.search, c.requires.width),
+  (c.requires.search, c.requires.points),
 )
 
 pub settle-requires-2 : goal.settle-requires-2
 settle-requires-2 t c = (
   let l = high_less c.args.part.now c.in-Some.halves.low c.in-Some.halves.high c.in-Some.ensures in omega (arith, c.decreases),
-  (c.requires.search, c.requires.width),
+  (c.requires.search, c.settle.ensures.points),
 )
