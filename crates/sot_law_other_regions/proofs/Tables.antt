@@ -1,10 +1,11 @@
 -- The tables of a program with other regions.
 use Rattle.std.proofs.Common.{◌≡◌, ℕ, suc, List, [], ◌∷◌, map, length, take, zip, Option, Some, option_map, filter_map, flat_map, sum_by, refl, sym, ap}
-use Rattle.std.proofs.Common.{ap₂, ◌∙◌, arith}
+use Rattle.std.proofs.Common.{ap₂, ◌∙◌, subst, arith}
 use Rattle.std.specs.Prelude.{true, nat_abs}
 use Rattle.std.specs.List.{position_or_len}
 use Rattle.std.proofs.lemmas.Option.{none-some}
 use Rattle.sot_lists.specs.Places.{At}
+use Rattle.sot_lists.proofs.Places.{at_same, at_map}
 use Rattle.sot_box.specs.Sides.{Side}
 use Rattle.sot_box.specs.BoxList.{BoxList}
 use Rattle.sot_tree.specs.declared.tree.Ident.{Ident}
@@ -13,6 +14,7 @@ use Rattle.sot_tree.specs.Trees.{Topic, Plant, Node, Area, Module, Declaration, 
 use Rattle.sot_lang.specs.declared.tables.Slot.{Slot}
 use Rattle.sot_lang.specs.declared.tables.Slot.TheVariants.{Scalar as ScalarSlot, State}
 use Rattle.sot_lang.specs.declared.tables.ModuleInfo.{ModuleInfo}
+use Rattle.sot_lang.specs.Tables.{Tables}
 use Rattle.sot_rules.specs.Names.{meaning}
 use Rattle.sot_rules.specs.Lists.{are_same}
 use Rattle.sot_rules.specs.Tests.{starts}
@@ -20,10 +22,11 @@ use Rattle.sot_typing.specs.Terms.{formula_of, deeds_of}
 use Rattle.sot_typing.specs.Resolved.{a_topic_of, a_plant_of, a_node_of, a_module_of, topics, plants, nodes, modules, topic_place, plant_place, node_place}
 use Rattle.sot_typing.specs.Resolved.{scalar_count, first_scalar, counted_from, scalars_meant, slots_meant, topic_info, field_names, scalar_info, topic_scalars}
 use Rattle.sot_typing.specs.Resolved.{state_info, noise_info, plant_table, local_info, node_table, side_of, state_count, module_info, tables_of}
+use Rattle.sot_typing.specs.Resolved.{ProgramTables, AreTables}
 use Rattle.sot_region_tree.specs.declared.modules.ModuleRegions.{ModuleRegions}
 use Rattle.sot_region_tree.specs.OtherRegions.{bounds_like, area_like, areas_like, module_with, declarations_with, with_regions}
 use Rattle.sot_law_other_regions.specs.Fitting.{IsLike, Fits, FitsModule, AreFitting}
-use Rattle.sot_law_other_regions.specs.WithoutRegions.{bare, AreSameButForRegions}
+use Rattle.sot_law_other_regions.specs.WithoutRegions.{bare_module, bare, AreSameButForRegions}
 use Rattle.sot_law_other_regions.specs.OtherTables.{info_with, infos_with, tables_with}
 use Rattle.sot_law_other_regions.specs.Laws.{TablesHaveTheRegions}
 use Rattle.sot_law_other_regions.proofs.Formed.{like_first}
@@ -46,6 +49,13 @@ node_of_bare (a_topic t) = refl
 node_of_bare (a_plant q) = refl
 node_of_bare (a_node n) = refl
 node_of_bare (a_module m) = refl
+
+modules_bare : (ds : List Declaration) → map bare_module (filter_map a_module_of ds) ≡ filter_map a_module_of (map bare ds)
+modules_bare [] = refl
+modules_bare (a_topic t ∷ ds) = modules_bare ds
+modules_bare (a_plant q ∷ ds) = modules_bare ds
+modules_bare (a_node n ∷ ds) = modules_bare ds
+modules_bare (a_module m ∷ ds) = ap (λ (ms : List Module). bare_module m ∷ ms) (modules_bare ds)
 
 -- what a name stands for, by what it means
 abbrev counted : ℕ → Option Declaration → List ℕ
@@ -77,7 +87,7 @@ module _ (p q : Program) (same : AreSameButForRegions p q) where
   topic_place_same : (i : Ident) → topic_place q i ≡ topic_place p i
   topic_place_same i = ap (position_or_len (λ (t : Topic). are_same i t.name)) topics_same
 
-  plant_place_same : (i : Ident) → plant_place q i ≡ plant_place p i
+  pub plant_place_same : (i : Ident) → plant_place q i ≡ plant_place p i
   plant_place_same i = ap (position_or_len (λ (k : Plant). are_same i k.name)) plants_same
 
   pub node_place_same : (i : Ident) → node_place q i ≡ node_place p i
@@ -123,6 +133,40 @@ module _ (p q : Program) (same : AreSameButForRegions p q) where
     locals = map local_info n.locals;
     body = option_map (deeds_of (node_scope_same p q same n j)) n.body;
   }
+
+  -- the tables of what is no module
+  topic_tables_same : map (topic_info q) (topics q) ≡ map (topic_info p) (topics p)
+  topic_tables_same = λ j. map (λ t. topic_info_same t j) (topics_same j)
+
+  scalar_tables_same : flat_map (topic_scalars q) (topics q) ≡ flat_map (topic_scalars p) (topics p)
+  scalar_tables_same = λ j. flat_map (λ t. topic_scalars_same t j) (topics_same j)
+
+  plant_tables_same : map (plant_table q) (plants q) ≡ map (plant_table p) (plants p)
+  plant_tables_same = λ j. map (λ k. plant_table_same k j) (plants_same j)
+
+  node_tables_same : map (node_table q) (nodes q) ≡ map (node_table p) (nodes p)
+  node_tables_same = λ j. map (λ n. node_table_same n j) (nodes_same j)
+
+  -- so with other modules the tables of the one are those of the other
+  pub with_modules : (t : Tables) → AreTables p t → AreTables q (record t { modules = map (module_info q) (modules q) })
+  unfolding tables_of
+  with_modules t of_p = λ j. record {
+    topics = (ap (λ (s : ProgramTables). s.topics) of_p ∙ sym topic_tables_same) j;
+    scalars = (ap (λ (s : ProgramTables). s.scalars) of_p ∙ sym scalar_tables_same) j;
+    plants = (ap (λ (s : ProgramTables). s.plants) of_p ∙ sym plant_tables_same) j;
+    nodes = (ap (λ (s : ProgramTables). s.nodes) of_p ∙ sym node_tables_same) j;
+    modules = map (module_info q) (modules q);
+  }
+
+  pub bare_modules : map bare_module (modules p) ≡ map bare_module (modules q)
+  bare_modules = modules_bare p.decls ∙ ap (λ (x : Program). filter_map a_module_of x.decls) same ∙ sym (modules_bare q.decls)
+
+  -- modules at one place are the same but for their regions
+  pub bare_at : (m : ℕ) (x y : Module) → At (modules p) m x → At (modules q) m y → bare_module x ≡ bare_module y
+  bare_at m x y at_x at_y =
+      at_same (map bare_module (modules q)) m (bare_module x) (bare_module y)
+      (subst (λ (l : List Module). At l m (bare_module x)) bare_modules (at_map bare_module (modules p) m x at_x))
+      (at_map bare_module (modules q) m y at_y)
 
 -- ---- modules
 
@@ -230,10 +274,10 @@ module _ (regions : List ModuleRegions) (p : Program) where
   tables_are : AreFitting regions p.decls → tables_of other ≡ tables_with regions (tables_of p)
   unfolding tables_of
   tables_are fits = λ j. record {
-    topics = map (λ t. topic_info_same p other same t j) (topics_same p other same j);
-    scalars = flat_map (λ t. topic_scalars_same p other same t j) (topics_same p other same j);
-    plants = map (λ k. plant_table_same p other same k j) (plants_same p other same j);
-    nodes = map (λ n. node_table_same p other same n j) (nodes_same p other same j);
+    topics = topic_tables_same p other same j;
+    scalars = scalar_tables_same p other same j;
+    plants = plant_tables_same p other same j;
+    nodes = node_tables_same p other same j;
     modules =
         (ap (map (module_info other)) (modules_are regions p.decls) ∙ infos_are regions (modules p) (modules_fit regions p.decls fits)) j;
   }
