@@ -1,27 +1,32 @@
 -- Plants and nodes that look the same step and draft alike.
-use Rattle.std.proofs.Common.{◌≡◌, ℕ, List, [], Ok, map, refl, sym, ap, ◌∙◌, subst}
+use Rattle.std.proofs.Common.{◌≡◌, ℕ, List, [], ◌++◌, Ok, map, refl, sym, ap, ◌∙◌, subst}
 use Rattle.std.proofs.lemmas.Option.{same_Some}
 use Rattle.sot_lists.specs.Places.{At, Has}
 use Rattle.sot_lists.proofs.Places.{at_map, at_mapped}
 use Rattle.sot_box.specs.Sides.{Side}
 use Rattle.sot_lang.specs.declared.act.Act.{Act}
 use Rattle.sot_lang.specs.declared.tables.LocalInfo.{LocalInfo}
+use Rattle.sot_lang.specs.declared.tables.NoiseInfo.{NoiseInfo}
 use Rattle.sot_lang.specs.declared.tables.Slot.{Slot}
 use Rattle.sot_lang.specs.declared.tables.Slot.TheVariants.{State}
 use Rattle.sot_lang.specs.declared.tables.PlantInfo.{PlantInfo}
 use Rattle.sot_lang.specs.declared.tables.NodeInfo.{NodeInfo}
 use Rattle.sot_lang.specs.declared.tables.ModuleInfo.{ModuleInfo}
 use Rattle.sot_lang.specs.Tables.{Tables}
-use Rattle.sot_lang.specs.Ranges.{local_ranges}
-use Rattle.sot_lang.specs.TableRules.{IsCoded}
+use Rattle.sot_lang.specs.Ranges.{bounds, local_ranges}
 use Rattle.sot_iv.specs.BodyIntervals.{Intervals}
-use Rattle.sot_typing.specs.Formulas.{deeds_view}
-use Rattle.sot_typing.specs.Resolved.{PlantTable, NodeTable, plant_seen, node_seen}
+use Rattle.sot_iv.specs.PlantIntervals.{IsNextBox}
+use Rattle.sot_typing.specs.Formulas.{formula_view, deeds_view}
+use Rattle.sot_typing.specs.Resolved.{PlantTable, NodeTable}
 use Rattle.sot_law_same_tables.proofs.Bodies.{IsDeedsExecution, execution_view}
-use Rattle.sot_law_same_tables.proofs.Plants.{along, next_alike}
-use Rattle.sot_law_same_tables.proofs.Nodes.{coded_alike}
+use Rattle.sot_law_same_tables.proofs.Plants.{along}
+use Rattle.sot_law_same_tables.proofs.PlacelessSeen.{bare_deeds}
+use Rattle.sot_law_same_tables.proofs.Expressions.{AreViewIntervals, terms_view}
+use Rattle.sot_law_same_tables.proofs.PlacelessExpressions.{views_same}
+use Rattle.sot_law_same_tables.proofs.PlacelessBodies.{execution_same}
+use Rattle.sot_law_same_tables.proofs.PlacelessNodes.{coded_alike}
 use Rattle.sot_law_held_regions.specs.Alone.{IsAlone, MoveAlike, IsRun, DraftAlike, RunAlike}
-use Rattle.sot_law_alone.specs.Laws.{LookAlike, HaveOnePlant}
+use Rattle.sot_law_alone.specs.Laws.{plant_look, node_look, LookAlike, HaveOnePlant}
 
 -- what looks the same as what stands at a place of the other list
 mapped_back : {A B : Type 0} (f : A → B) (xs ys : List A) (k : ℕ) (x y : A) → map f xs ≡ map f ys → At xs k x → At ys k y → f x ≡ f y
@@ -29,26 +34,39 @@ mapped_back {A} {B} f xs ys k x y same ax ay =
     let P : List B → Type 0 = λ l. At l k (f x) in
     same_Some (f x) (f y) (sym (subst P same (at_map f xs k x ax)) ∙ at_map f ys k y ay)
 
-move_alike : (x y : PlantInfo) → plant_seen x ≡ plant_seen y → MoveAlike x y
+-- formulas that look the same have the same intervals
+next_alike : (x y : PlantInfo) → plant_look x ≡ plant_look y → (box commands seen next : List Side) → IsNextBox x box commands seen (Ok next)
+    → IsNextBox y box commands seen (Ok next)
+next_alike x y same box commands seen next h =
+    let ranges : PlantTable → List Side = λ p. box ++ commands ++ seen ++ map (λ (d : NoiseInfo). record { lo = d.lo; hi = d.hi }) p.noise in
+    let rs : List Side = box ++ commands ++ seen ++ bounds x in
+    let ss : List Side = box ++ commands ++ seen ++ bounds y in
+    let placeless = (views_same (map formula_view x.next.items) rs next).0 (along (terms_view x.next.items rs (Ok next)) h) in
+    let other = along (ap (λ (p : PlantTable). AreViewIntervals p.next (ranges p) (Ok next)) same) placeless in
+    along (sym (terms_view y.next.items ss (Ok next))) ((views_same (map formula_view y.next.items) ss next).1 other)
+
+move_alike : (x y : PlantInfo) → plant_look x ≡ plant_look y → MoveAlike x y
 move_alike x y same = record {
   inputs = ap (λ (p : PlantTable). p.inputs) same;
   sees = ap (λ (p : PlantTable). p.sees) same;
-  steps = λ box commands seen next h. along (next_alike x y same box commands seen (Ok next)) h;
+  steps = λ box commands seen next h. next_alike x y same box commands seen next h;
 }
 
-locals_same : (x y : NodeInfo) → node_seen x ≡ node_seen y → local_ranges x ≡ local_ranges y
+locals_same : (x y : NodeInfo) → node_look x ≡ node_look y → local_ranges x ≡ local_ranges y
 locals_same x y same = ap (λ (n : NodeTable). map (λ (l : LocalInfo). record { lo = l.lo; hi = l.hi }) n.locals) same
 
-run_same : (x y : NodeInfo) → node_seen x ≡ node_seen y → (acts us : List Act) → deeds_view us ≡ deeds_view acts → (writes seen : List Side) (f : Intervals)
+run_same : (x y : NodeInfo) → node_look x ≡ node_look y → (acts us : List Act) → bare_deeds us ≡ bare_deeds acts → (writes seen : List Side) (f : Intervals)
     → IsRun x acts writes seen f → IsRun y us writes seen f
 run_same x y same acts us deeds writes seen f h =
     let locals = locals_same x y same in
-    let one = along (execution_view acts (local_ranges x) writes seen (local_ranges x) (Ok f)) h in
-    let two = subst (λ l. IsDeedsExecution (deeds_view acts) l writes seen l (Ok f)) locals one in
-    let three = subst (λ d. IsDeedsExecution d (local_ranges y) writes seen (local_ranges y) (Ok f)) (sym deeds) two in
-    along (sym (execution_view us (local_ranges y) writes seen (local_ranges y) (Ok f))) three
+    let viewed = along (execution_view acts (local_ranges x) writes seen (local_ranges x) (Ok f)) h in
+    let placeless = (execution_same (deeds_view acts) (local_ranges x) writes seen (local_ranges x) f).0 viewed in
+    let moved = subst (λ l. IsDeedsExecution (bare_deeds acts) l writes seen l (Ok f)) locals placeless in
+    let other = subst (λ d. IsDeedsExecution d (local_ranges y) writes seen (local_ranges y) (Ok f)) (sym deeds) moved in
+    let placed = (execution_same (deeds_view us) (local_ranges y) writes seen (local_ranges y) f).1 other in
+    along (sym (execution_view us (local_ranges y) writes seen (local_ranges y) (Ok f))) placed
 
-draft_alike : (x y : NodeInfo) → node_seen x ≡ node_seen y → DraftAlike x y
+draft_alike : (x y : NodeInfo) → node_look x ≡ node_look y → DraftAlike x y
 draft_alike x y same = record {
   period = ap (λ (n : NodeTable). n.period) same;
   reads = ap (λ (n : NodeTable). n.reads) same;
@@ -65,9 +83,9 @@ module _ (t u : Tables) (a b : ModuleInfo) (look : LookAlike t u) (one : HaveOne
     plant = one.0;
     sc = one.1;
     plants = λ x y ax ay. move_alike x y
-        (mapped_back plant_seen t.plants u.plants b.plant x y look.plants (subst (λ n. At t.plants n x) one.0 ax) ay);
+        (mapped_back plant_look t.plants u.plants b.plant x y look.plants (subst (λ n. At t.plants n x) one.0 ax) ay);
     nodes = λ x y ax ay. draft_alike x y
-        (mapped_back node_seen t.nodes u.nodes b.sc x y look.nodes (subst (λ n. At t.nodes n x) one.1 ax) ay);
+        (mapped_back node_look t.nodes u.nodes b.sc x y look.nodes (subst (λ n. At t.nodes n x) one.1 ax) ay);
   }
 
   pub stays_alone : IsAlone t a → IsAlone u b
@@ -81,12 +99,12 @@ module _ (t u : Tables) (a b : ModuleInfo) (look : LookAlike t u) (one : HaveOne
         alone.reads_own back.0 k v (subst (λ n. At t.nodes n back.0) (sym one.1) back.1) mine ∙ one.0;
   }
     where
-      plant_there : (k : ℕ) (y : PlantInfo) → At u.plants k y → (x : PlantInfo) × At t.plants k x × (plant_seen x ≡ plant_seen y)
+      plant_there : (k : ℕ) (y : PlantInfo) → At u.plants k y → (x : PlantInfo) × At t.plants k x × (plant_look x ≡ plant_look y)
       plant_there k y ay =
-          let P : List PlantTable → Type 0 = λ l. At l k (plant_seen y) in
-          at_mapped plant_seen t.plants k (plant_seen y) (subst P (sym look.plants) (at_map plant_seen u.plants k y ay))
+          let P : List PlantTable → Type 0 = λ l. At l k (plant_look y) in
+          at_mapped plant_look t.plants k (plant_look y) (subst P (sym look.plants) (at_map plant_look u.plants k y ay))
 
-      node_there : (n : ℕ) (y : NodeInfo) → At u.nodes n y → (x : NodeInfo) × At t.nodes n x × (node_seen x ≡ node_seen y)
+      node_there : (n : ℕ) (y : NodeInfo) → At u.nodes n y → (x : NodeInfo) × At t.nodes n x × (node_look x ≡ node_look y)
       node_there n y ay =
-          let P : List NodeTable → Type 0 = λ l. At l n (node_seen y) in
-          at_mapped node_seen t.nodes n (node_seen y) (subst P (sym look.nodes) (at_map node_seen u.nodes n y ay))
+          let P : List NodeTable → Type 0 = λ l. At l n (node_look y) in
+          at_mapped node_look t.nodes n (node_look y) (subst P (sym look.nodes) (at_map node_look u.nodes n y ay))

@@ -1,0 +1,2 @@
+-- grains that are told side by side
+pub mod UnitGrains

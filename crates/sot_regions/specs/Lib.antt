@@ -1,4 +1,5 @@
 -- what the public contracts say
 pub mod Shapes
+pub mod Grains
 -- between the crate's own functions
 pub mod Searches

@@ -1,6 +1,7 @@
 //! Regions inside one that is given, with coarser and coarser grains.
 
 ghost use Rattle.std.specs.Prelude.{◌≡◌, ◌≤◌, ◌<◌, ℤ, List, length, IfOk, IfErr, IfSome, OnOk};
+ghost use Rattle.sot_atoms.specs.Grids.{CutsHull};
 ghost use Rattle.sot_shrinking.specs.Asking.{asked_width};
 ghost use Rattle.sot_regions.specs.Shapes.{AreWide, HasShape};
 ghost use Rattle.sot_regions.specs.Searches.{IsSearch, IsBest};
@@ -179,7 +180,8 @@ fn coarsen(
 
 /// The grid of a hull with the narrowest grains that have few enough atoms. There is always one.
 pub(crate) fn narrowest_grid(ask: &Ask<'_>, hull: &BoxN) -> Option<Grid>
-    ensures { IfSome result (λ g. g.width ≡ length hull.now) }
+    ensures width { IfSome result (λ g. g.width ≡ length hull.now) }
+    ensures cuts { IfSome result (λ g. CutsHull g hull.now) }
 {
     Grid::of(hull, most_atoms(ask), 0)
 }

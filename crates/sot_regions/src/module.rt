@@ -1,11 +1,16 @@
 //! The regions of one module of a program.
 
-ghost use Rattle.std.specs.Prelude.{IfOk};
+ghost use Rattle.std.specs.Prelude.{◌≡◌, ◌<◌, ℤ, pos, List, IfOk, IfErr};
 ghost use Rattle.sot_lists.specs.Places.{At};
 ghost use Rattle.sot_lang.specs.declared.tables.ModuleInfo.{ModuleInfo as AModule};
 ghost use Rattle.sot_lang.specs.OwnerNames.{width_of};
 ghost use Rattle.sot_shrinking.specs.Asking.{MayAsk};
+ghost use Rattle.sot_atoms.specs.Grids.{IsFinest};
+ghost use Rattle.sot_law_held_regions.specs.Following.{HasNoHeldRegion};
 ghost use Rattle.sot_regions.specs.Shapes.{HasShape};
+ghost use Rattle.sot_regions.specs.Grains.{IsUnitGrain};
+ghost use Rattle.sot_regions.specs.Searches.{IsFinestOn};
+ghost use Rattle.sot_regions.specs.declared.found.RegionsFail.TheVariants.{SafeNone};
 
 use crate::asked::{narrowest_grid, regions_from};
 use crate::found::{Found, RegionsFail};
@@ -17,11 +22,23 @@ use sot_rta::module_at;
 use sot_shrinking::{Ask, closed_atoms};
 use std::alloc::Global;
 
+// The grain of a side; the greatest number where it is longer.
+fn grain_of(grid: &Grid, side: usize) -> i64
+    requires { side < grid.now.width }
+    ensures { result ≡ pos 1 → IsFinestOn grid.now side }
+{
+    i64::try_from(grid.grain(side)).unwrap_or(i64::MAX)
+}
+
 // The grain of each side.
-fn grains(grid: &Grid) -> Point {
+fn grains(grid: &Grid) -> Point
+    ensures { IsUnitGrain result → IsFinest grid.now }
+{
+    // A look at the axes brings how they are made.
+    let _axes = grid.axes();
     let mut numbers = [0i64; 4];
     for side in 0..grid.width() {
-        numbers[side] = i64::try_from(grid.grain(side)).unwrap_or(i64::MAX);
+        numbers[side] = grain_of(grid, side);
     }
     Point::of(&numbers[..grid.width()]).unwrap()
 }
@@ -32,6 +49,9 @@ pub fn regions_of(alloc: Global, p: &Typed, module: u32, jitter: u32) -> Result<
     requires { MayAsk p.now «module» jitter }
     ensures shape { IfOk result (λ found. (info : AModule) → At p.now.modules «module» info
         → HasShape (width_of p.now.plants info.plant) found) }
+    ensures none { IfErr result (λ e. (grain : List ℤ) (info : AModule) → e ≡ SafeNone grain
+        → IsUnitGrain grain → At p.now.modules «module» info
+        → HasNoHeldRegion p.now jitter info) }
 {
     let given = &module_at(p, module).safe;
     let ask = Ask::of(p, module, jitter);
