@@ -1,5 +1,5 @@
 -- Plants and nodes that look the same step and draft alike.
-use Rattle.std.proofs.Common.{◌≡◌, ℕ, List, [], ◌++◌, Ok, map, refl, sym, ap, ◌∙◌, subst}
+use Rattle.std.proofs.Common.{◌≡◌, ℕ, List, ◌++◌, Ok, map, sym, ap, ◌∙◌, subst}
 use Rattle.std.proofs.lemmas.Option.{same_Some}
 use Rattle.sot_lists.specs.Places.{At, Has}
 use Rattle.sot_lists.proofs.Places.{at_map, at_mapped}

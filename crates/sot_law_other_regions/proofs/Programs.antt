@@ -1,5 +1,5 @@
 -- The canonical text of a program with other regions is read back.
-use Rattle.std.proofs.Common.{◌≡◌, ℕ, ◌≤◌, List, [], ◌∷◌, ◌++◌, map, true, false, Bool, Option, None, codes, refl, sym, ap, ◌∙◌, subst, arith}
+use Rattle.std.proofs.Common.{◌≡◌, ℕ, ◌≤◌, List, [], ◌∷◌, map, true, false, Bool, Option, None, codes, refl, sym, ap, subst, arith}
 use Rattle.std.proofs.Math.Nat.{le_refl}
 use Rattle.sot_text.specs.Reading.{Lexeme}
 use Rattle.sot_text.specs.Ahead.{Ahead, Comes}
