@@ -65,7 +65,8 @@ module _ (p : Tables) (rules : MeetsTableRules p) (k : ℕ) (plant : PlantInfo) 
         are = t.are;
         stays =
             among_inside plant held (joined_boxes t.hulls) region b n
-            (stays_narrower plant held wide (joined_boxes t.hulls) region (length (plant_truths p plant)) places commands seen noise_in_order n b c narrow t.stays);
+            (stays_narrower plant held wide (joined_boxes t.hulls) region (length (plant_truths p plant)) places commands seen noise_in_order n b c narrow
+            t.stays);
       }
 
   module _ (wide : List Side) (region : List (List Side)) (s c : List ℤ) (seen : List (List ℤ)) (n : ℕ) (types : IsWithin wide c)
@@ -84,8 +85,8 @@ module _ (p : Tables) (rules : MeetsTableRules p) (k : ℕ) (plant : PlantInfo) 
         noise_in_order in
         let are = terms_are (length (plant_truths p plant)) plant.next.items names ordered places in
         let next = plant_narrow plant (point_box s) (point_box c) (point_box (joined seen)) (point_box s) wide (joined_boxes t.hulls) t.stays.1.0
-        (lows (bounds plant)) (term_intervals plant.next.items names) (ordered_narrower (point_box s) (point_ordered s)) (point_narrower wide c types) seen_narrow
-        (lows_within (bounds plant) noise_in_order) t.stays.1.1 are in
+        (lows (bounds plant)) (term_intervals plant.next.items names) (ordered_narrower (point_box s) (point_ordered s)) (point_narrower wide c types)
+        seen_narrow (lows_within (bounds plant) noise_in_order) t.stays.1.1 are in
         (next.0, subst (IsNextBox plant (point_box s) (point_box c) (point_box (joined seen))) next.1 are, next.2)
 
     pub has_next : (box : List Side) × IsNextBox plant (point_box s) (point_box c) (point_box (joined seen)) (Ok box)

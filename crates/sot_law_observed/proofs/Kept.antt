@@ -18,7 +18,8 @@ use Rattle.sot_world.proofs.Modes.{same_module}
 use Rattle.sot_world.proofs.Publishes.{publish_other}
 use Rattle.sot_world.proofs.Writes.{write_other}
 
-module _ (p : Tables) (j : ℕ) (typed : IsTyped p) (well : IsWellFormed p j) (m : ℕ) (a : ModuleInfo) (plant : PlantInfo) (sc : NodeInfo) (at_m : At p.modules m a)
+module _ (p : Tables) (j : ℕ) (typed : IsTyped p) (well : IsWellFormed p j) (m : ℕ) (a : ModuleInfo) (plant : PlantInfo) (sc : NodeInfo)
+    (at_m : At p.modules m a)
     (at_p : At p.plants a.plant plant) (at_s : At p.nodes a.sc sc) (C D : Configuration) where
   -- no other enabled node writes an input of the plant, in mode Sc
   own_inputs : (n : ℕ) (node : NodeInfo) (draft : List (Option ℤ)) → At p.nodes n node → mode_of C m ≡ Sc → (a.sc ≡ n → ⊥) → (b : Bool)

@@ -118,8 +118,8 @@ module _ (p : Tables) (cert : Cert) (rules : MeetsTableRules p) (c : IsWellCerti
       let lie = commands_lie g typed box.1 here [] cell.fired cell.drafts goes.hold box.3 in
       let held : IsWithin (command_intervals p plant sc cell.fired.draft) (commands plant D) =
       subst (IsWithin (command_intervals p plant sc cell.fired.draft)) (sym goes.held) lie in
-      tube_narrower p rules a.plant plant at_p (point_box (commands plant D)) (command_intervals p plant sc cell.fired.draft) a.safe.boxes (point_box here) box.1
-      (sc.period + cert.jitter) (point_narrower (command_intervals p plant sc cell.fired.draft) (commands plant D) held) (point_narrower box.1 here box.3)
+      tube_narrower p rules a.plant plant at_p (point_box (commands plant D)) (command_intervals p plant sc cell.fired.draft) a.safe.boxes (point_box here)
+      box.1 (sc.period + cert.jitter) (point_narrower (command_intervals p plant sc cell.fired.draft) (commands plant D) held) (point_narrower box.1 here box.3)
       cell.stays
 
   -- a firing
