@@ -1,0 +1,6 @@
+pub mod Boxes
+pub mod Guards
+pub mod Moves
+pub mod Runs
+pub mod Along
+pub mod Firing

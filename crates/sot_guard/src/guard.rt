@@ -1,0 +1,188 @@
+//! A mission beside plants that are observed.
+
+ghost use Rattle.std.specs.Prelude.{◌≡◌, ◌<◌, ◌≤◌, true, length, IfOk, IfErr, IsErrOf};
+ghost use Rattle.sot_world.specs.Configurations.{is_left, is_left_dm, mode_of, number_of};
+ghost use Rattle.sot_world.specs.Configurations.{point_of, IsOpening, IsSafer};
+ghost use Rattle.sot_world.specs.Opens.{AreStarts, StartInside, IsFirstOutside, IfNotSafer};
+ghost use Rattle.sot_guard.specs.Guarding.{IsGuarding};
+
+use crate::starts::{all_locals, decisions_left, first_not_safer, nodes_left};
+use sot_box::Point;
+use sot_code::Locals;
+use sot_lang::Typed;
+use sot_tube::Accepted;
+use sot_world::{Mode, OpenFail, initial_scalars, safe_modes};
+use std::alloc::{AllocError, Global};
+use std::marker::Model;
+
+mod step;
+
+/// An accepted mission that is decided and fired beside plants that are observed. Its type keeps
+/// that while each plant was observed where its model allows it to be, every module's plant is in
+/// its safe region; and that every module is in mode Sc from the first other observation on.
+#[derive(Drop)]
+pub struct Guard<'a> {
+    accepted: &'a Accepted<'a>,
+    trusted: bool,
+    time: u32,
+    left: Vec<bool>,
+    left_dm: Vec<bool>,
+    modes: Vec<Mode>,
+    scalars: Vec<i64>,
+    locals: Vec<Locals>,
+    points: Vec<Point>,
+}
+
+impl<'a> Model for Guard<'a> {
+    ghost use Rattle.sot_guard.specs.Guarding.{Guarding};
+    ghost use Rattle.sot_lang.specs.contracts.term.Term as term;
+    ghost use Rattle.sot_lang.specs.contracts.act.Act as act;
+    ghost use Rattle.std.specs.Coded.{codes};
+
+    ghost Value = { Guarding };
+
+    ghost coded = { Prim.hlevel (codes, term.the_row.coded, act.the_row.coded) };
+
+    ghost use Rattle.sot_guard.specs.GuardView.{guarding, IsGuard};
+
+    ghost view = { guarding };
+
+    ghost invariant = { IsGuard };
+}
+
+impl<'a> Guard<'a> {
+    /// The opening of a program at these points, one for each plant with a coordinate for each of
+    /// its state variables: time 0, all that is due left, every module in mode Sc. It takes all
+    /// memory that the guard will ever need.
+    ///
+    /// `NotSafer` names the first module whose plant starts outside the module's safer region;
+    /// `Memory` says that there is none, and comes only where every plant starts inside.
+    pub fn begin(
+        alloc: Global,
+        acc: &'a Accepted<'a>,
+        start: &[Point],
+    ) -> Result<Guard<'a>, OpenFail>
+        requires { AreStarts acc.now.program start.now }
+        ensures opening { IfOk result (λ g. IsOpening acc.now.program start.now g.at) }
+        ensures safer { IfOk result (λ g. IsSafer acc.now.program g.at) }
+        ensures trusted { IfOk result (λ g. g.trusted ≡ true) }
+        ensures accepted { IfOk result (λ g. g.accepted ≡ acc.now) }
+        ensures not_safer { IfErr result (λ f.
+            IfNotSafer f (λ m. IsFirstOutside acc.now.program start.now m)) }
+        ensures memory { IsErrOf result OpenFail.Memory
+            → StartInside acc.now.program start.now (length acc.now.program.modules) }
+    {
+        let p = acc.typed();
+        if let Some(module) = first_not_safer(p, start) {
+            return Err(OpenFail::NotSafer { module });
+        }
+        match Guard::at_start(alloc, acc, start) {
+            Ok(guard) => Ok(guard),
+            Err(_) => Err(OpenFail::Memory),
+        }
+    }
+
+    fn at_start(
+        alloc: Global,
+        acc: &'a Accepted<'a>,
+        start: &[Point],
+    ) -> Result<Guard<'a>, AllocError>
+        requires starts { AreStarts acc.now.program start.now }
+        requires inside { StartInside acc.now.program start.now (length acc.now.program.modules) }
+        ensures opening { IfOk result (λ g. IsOpening acc.now.program start.now g.at) }
+        ensures safer { IfOk result (λ g. IsSafer acc.now.program g.at) }
+        ensures trusted { IfOk result (λ g. g.trusted ≡ true) }
+        ensures accepted { IfOk result (λ g. g.accepted ≡ acc.now) }
+    {
+        let p = acc.typed();
+        let left = nodes_left(alloc, &p.nodes)?;
+        let left_dm = decisions_left(alloc, &p.modules)?;
+        let modes = safe_modes(alloc, &p.modules)?;
+        let scalars = initial_scalars(alloc, &p.scalars)?;
+        let locals = all_locals(alloc, &p.nodes)?;
+        let points = Vec::from_slice(alloc, start)?;
+        Ok(Guard {
+            accepted: acc,
+            trusted: true,
+            time: 0,
+            left,
+            left_dm,
+            modes,
+            scalars,
+            locals,
+            points,
+        })
+    }
+
+    /// Does nothing, and tells the proof what the type keeps.
+    pub fn reveal_invariant(&self)
+        ensures { IsGuarding self.now.accepted self.now.trusted self.now.at }
+    {
+        // A look at a field brings what the type keeps.
+        let _time = self.time;
+    }
+
+    /// The program, which lives on where this value does not.
+    pub fn typed(&self) -> &'a Typed
+        ensures { result.now ≡ self.now.accepted.program }
+    {
+        self.accepted.typed()
+    }
+
+    /// Whether no plant was observed outside its model so far.
+    pub fn trusted(&self) -> bool
+        ensures { result ≡ self.now.trusted }
+    {
+        self.trusted
+    }
+
+    /// The count of ticks so far, at most 100,000.
+    pub fn time(&self) -> u32
+        ensures value { result ≡ self.now.at.time }
+        ensures horizon { result ≤ 100000 }
+    {
+        self.time
+    }
+
+    /// Which of a module's nodes is enabled now.
+    pub fn mode(&self, module: u32) -> Mode
+        requires { «module» < length self.now.accepted.program.modules }
+        ensures { result ≡ mode_of self.now.at «module» }
+    {
+        self.modes[module as usize]
+    }
+
+    /// The point at which a plant was observed last, in mantissas at the scales of its state
+    /// variables.
+    pub fn state(&self, plant: u32) -> Point
+        requires { plant < length self.now.accepted.program.plants }
+        ensures { result ≡ point_of self.now.at plant }
+    {
+        self.points[plant as usize]
+    }
+
+    /// The present number of a scalar, a mantissa at its scale: of a plant's input the command that
+    /// is in force.
+    pub fn scalar(&self, scalar: u32) -> i64
+        requires { scalar < length self.now.accepted.program.scalars }
+        ensures { result ≡ number_of self.now.at scalar }
+    {
+        self.scalars[scalar as usize]
+    }
+
+    /// Whether a node is still to fire.
+    pub fn left(&self, node: u32) -> bool
+        requires { node < length self.now.accepted.program.nodes }
+        ensures { result ≡ is_left self.now.at node }
+    {
+        self.left[node as usize]
+    }
+
+    /// Whether a module is still to decide.
+    pub fn left_dm(&self, module: u32) -> bool
+        requires { «module» < length self.now.accepted.program.modules }
+        ensures { result ≡ is_left_dm self.now.at «module» }
+    {
+        self.left_dm[module as usize]
+    }
+}
