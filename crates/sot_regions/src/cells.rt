@@ -10,8 +10,8 @@ use std::alloc::AllocError;
 // The most cells of a list.
 const MOST_CELLS: usize = 4096;
 
-/// Blocks that have all atoms of a region, whose sums these are, and whose held tubes stay in it. `None` where there
-/// would be more than 4,096.
+/// Blocks that have all atoms of a region, whose sums these are, and whose held tubes stay in it.
+/// `None` where there would be more than 4,096.
 pub(crate) fn cells_of(
     search: &Search<'_>,
     region: &AtomSet,

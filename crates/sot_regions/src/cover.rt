@@ -61,8 +61,8 @@ impl Cover {
 pub(crate) enum Adding<'a> {
     /// Nothing.
     Plain,
-    /// That the held tubes of its atoms stay in it, where more boxes in the set of these sums may be
-    /// added.
+    /// That the held tubes of its atoms stay in it, where more boxes in the set of these sums may
+    /// be added.
     Closed(&'a Sums),
 }
 

@@ -59,8 +59,8 @@ fn have_safe_boxes(program: &Typed) -> bool
     true
 }
 
-/// Whether the tubes of a module may be asked about: it is there, the safe region of each module has
-/// a box, and the jitter is below 1,000.
+/// Whether the tubes of a module may be asked about: it is there, the safe region of each module
+/// has a box, and the jitter is below 1,000.
 pub fn may_ask(program: &Typed, module: u32, jitter: u32) -> bool
     ensures { IsTrue result → MayAsk program.now «module» jitter }
 {

@@ -13,6 +13,7 @@ plant_at-plant-requires c =
 
 pub returns : goal.returns
 returns c =
-    ap length c.deref-states.ensures.value ∙ sym (width_at c.program-p.result.now.plants c.info.result.now.plant c.plant_at-plant.result.now c.plant_at-plant.ensures.is)
+    ap length c.deref-states.ensures.value
+    ∙ sym (width_at c.program-p.result.now.plants c.info.result.now.plant c.plant_at-plant.result.now c.plant_at-plant.ensures.is)
     ∙ ap (λ (t : Tables). width_of t.plants c.info.result.now.plant) c.program-p.ensures.value
     ∙ ap (λ (x : ModuleInfo). width_of c.args.self.now.program.plants x.plant) c.info.ensures
