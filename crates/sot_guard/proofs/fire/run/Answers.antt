@@ -31,7 +31,8 @@ returns-in-Ok c = λ node acts at coded.
     let seen = c.of-seen.ensures ∙ ap (map (number_at c.args.scalars.now c.args.points.now)) (c.deref.ensures.value ∙ ap (λ x. x.reads.items) same) in
     let told = c.run_node.ensures node acts at coded in
     ran _ (execution acts (local_ranges node) (write_ranges c.args.p.now node) (reading node c.args.scalars.now c.args.points.now) c.args.locals.now)
-    c.in-Ok.fired (ap (λ s. recorded (execution acts (local_ranges node) (write_ranges c.args.p.now node) s c.args.locals.now)) (sym seen) ∙ sym told ∙ c.in-Ok.is)
+    c.in-Ok.fired
+    (ap (λ s. recorded (execution acts (local_ranges node) (write_ranges c.args.p.now node) s c.args.locals.now)) (sym seen) ∙ sym told ∙ c.in-Ok.is)
 
 pub returns-in-Err : goal.returns-in-Err
 returns-in-Err c = λ node acts at coded.

@@ -125,8 +125,9 @@ invariant_of-self c =
     ↔ ((slice_index_or l m false ≡ true) ⊎ IsDue info.period info.offset (w.time + 1))) c.deref_mut-3.ensures.value
     (c.leave_decisions.ensures.left m info (subst (λ l. At l m info) (sym modules) at))) in
     let told = told_along _ w.trusted _ _ _ _ _ _ c.args.next.now program c.deref.ensures.value c.deref-2.ensures.value c.outside_where-outside.ensures in
-    let all = observed a C (w.time + 1) _ _ c.args.next.now _ sizes sizes_dm points_is next one due due_dm w.trusted c.is_still-self-inside.result c.is_none-inside.result
-    (with_items w.modes c.put_safe_unless.new.modes).items c.outside_where-outside.result g below none c.is_none-inside.ensures
+    let all = observed a C (w.time + 1) _ _ c.args.next.now _ sizes sizes_dm points_is next one due due_dm w.trusted
+    c.is_still-self-inside.result c.is_none-inside.result (with_items w.modes c.put_safe_unless.new.modes).items
+    c.outside_where-outside.result g below none c.is_none-inside.ensures
     c.is_still-self-inside.ensures.same c.is_still-self-inside.ensures.ended
     (λ e. modes_is ∙ c.put_safe_unless.ensures.kept e ∙ c.deref_mut-4.ensures.value)
     (λ e m. ap (λ l. slice_index_or l m Sc) modes_is ∙ c.put_safe_unless.ensures.safe e m)
@@ -204,8 +205,9 @@ returns-clause-told c =
     ↔ ((slice_index_or l m false ≡ true) ⊎ IsDue info.period info.offset (w.time + 1))) c.deref_mut-3.ensures.value
     (c.leave_decisions.ensures.left m info (subst (λ l. At l m info) (sym modules) at))) in
     let told = told_along _ w.trusted _ _ _ _ _ _ c.args.next.now program c.deref.ensures.value c.deref-2.ensures.value c.outside_where-outside.ensures in
-    let all = observed a C (w.time + 1) _ _ c.args.next.now _ sizes sizes_dm points_is next one due due_dm w.trusted c.is_still-self-inside.result c.is_none-inside.result
-    (with_items w.modes c.put_safe_unless.new.modes).items c.outside_where-outside.result g below none c.is_none-inside.ensures
+    let all = observed a C (w.time + 1) _ _ c.args.next.now _ sizes sizes_dm points_is next one due due_dm w.trusted
+    c.is_still-self-inside.result c.is_none-inside.result (with_items w.modes c.put_safe_unless.new.modes).items
+    c.outside_where-outside.result g below none c.is_none-inside.ensures
     c.is_still-self-inside.ensures.same c.is_still-self-inside.ensures.ended
     (λ e. modes_is ∙ c.put_safe_unless.ensures.kept e ∙ c.deref_mut-4.ensures.value)
     (λ e m. ap (λ l. slice_index_or l m Sc) modes_is ∙ c.put_safe_unless.ensures.safe e m)
