@@ -1,9 +1,9 @@
 -- What is said, from what was found.
-use Rattle.std.proofs.Common.{◌≡◌, ◌∙◌, ℕ, ◌<◌, List, Result, Ok, Err, Bool, false, inl, inr, length, ap, subst}
+use Rattle.std.proofs.Common.{◌≡◌, ◌∙◌, ℕ, ◌<◌, ℤ, List, Result, Ok, Err, Bool, false, inl, inr, length, ap, subst}
 use Rattle.std.specs.Prelude.{IfOk, IsTrue, ◌↔◌}
 use Rattle.std.specs.declared.alloc.AllocError.{AllocError}
 use Rattle.sot_lists.specs.Places.{At}
-use Rattle.sot_lists.proofs.Places.{at_below}
+use Rattle.sot_lists.proofs.Places.{at_below, at_same}
 use Rattle.sot_sections.specs.declared.mission.Need.TheVariants as needs
 use Rattle.sot_tree.specs.Trees.{Program}
 use Rattle.sot_parser.specs.Programs.{Spells}
@@ -14,6 +14,9 @@ use Rattle.sot_rules.specs.declared.fault.TypeFault.{TypeFault}
 use Rattle.sot_rules.specs.First.{IsFirstFault}
 use Rattle.sot_lang.specs.declared.cert.Cert.{Cert}
 use Rattle.sot_lang.specs.declared.tables.ModuleInfo.{ModuleInfo}
+use Rattle.sot_lang.specs.declared.tables.NodeInfo.{NodeInfo}
+use Rattle.sot_lang.specs.declared.tables.Slot.{Slot}
+use Rattle.sot_lang.specs.declared.tables.Slot.TheVariants.{State}
 use Rattle.sot_lang.specs.Tables.{Tables}
 use Rattle.sot_tube.specs.Refusals.{Refusal}
 use Rattle.sot_tube.specs.Verdict.{verdict}
@@ -24,14 +27,17 @@ use Rattle.sot_report.specs.RefusalTexts.{refusal_text}
 use Rattle.sot_certified_text.specs.ReadAgain.{IsCertificateFor, written_with_jitter}
 use Rattle.sot_region_tree.specs.declared.modules.ModuleRegions.{ModuleRegions}
 use Rattle.sot_region_tree.specs.OtherRegions.{with_regions}
+use Rattle.sot_law_held_regions.specs.Alone.{IsAlone}
+use Rattle.sot_regions.specs.declared.found.RegionsFail.{RegionsFail}
+use Rattle.sot_regions.specs.declared.found.RegionsFail.TheVariants as causes
 use Rattle.sot_regions_words.specs.Lines.{refusal_line}
 use Rattle.sot_regions_words.specs.declared.refusal.RegionsRefusal.{RegionsRefusal}
-use Rattle.sot_regions_words.specs.declared.refusal.RegionsRefusal.TheVariants.{Jitter}
+use Rattle.sot_regions_words.specs.declared.refusal.RegionsRefusal.TheVariants.{Jitter, SafeNone}
 use Rattle.sot_answers.specs.declared.answer.Answer.{Answer}
 use Rattle.sot_regions_commands.specs.AsAsked.{IsLate, as_asked, IsSearched}
 use Rattle.sot_regions_commands.specs.Findings.{AreFound}
 use Rattle.sot_regions_commands.specs.Answers.{StayInside, SpellsSafe, NamesModule, Answers, Replies}
-use Rattle.sot_regions_commands.specs.Steps.{AnswersFound, AnswersSearched, AnswersTree}
+use Rattle.sot_regions_commands.specs.Steps.{AnswersFound, AnswersSearched, AnswersTree, TellsModule, TellsFail}
 use Rattle.sot_regions_commands.proofs.Spelled.{spells_safe}
 
 -- what is said of the text of a program: `r` is what the call answers
@@ -93,7 +99,7 @@ pub found_result : (r : Result Answer AllocError) (p : Program) (t : Tables) (ji
 found_result (Ok a) p t jitter said = inr said
 found_result (Err e) p t jitter said = tt
 
-pub none_result : (r : Result Answer AllocError) (p : Program) (t : Tables) (jitter : ℕ) (refusal : RegionsRefusal) → NamesModule t refusal
+pub none_result : (r : Result Answer AllocError) (p : Program) (t : Tables) (jitter : ℕ) (refusal : RegionsRefusal) → NamesModule p t jitter refusal
     → IfOk r (λ a. a.status ≡ 1) → IfOk r (λ a. a.text.items ≡ refusal_line t refusal)
     → IfOk r (λ a. AnswersSearched p t jitter a.status a.text.items)
 none_result (Ok a) p t jitter refusal names status text = inl (status, (refusal, names, text))
@@ -128,8 +134,22 @@ mission_result (Ok a) p q t u regions cert same found inside has status text spe
 mission_result (Err e) p q t u regions cert same found inside has status text spelled = tt
 
 -- a line of a module that is there names it
-pub names_module : (t : Tables) (m : ℕ) → m < length t.modules → (a : ModuleInfo) × At t.modules m a
-names_module t m less = at_below t.modules m less
+pub tells_module : (t : Tables) (m : ℕ) → m < length t.modules → (a : ModuleInfo) × At t.modules m a
+tells_module t m less = at_below t.modules m less
+
+-- what is known where nothing is left of its safe region
+pub tells_grain : (t : Tables) (jitter m : ℕ) (grain : List ℤ) (fail : RegionsFail) → m < length t.modules → fail ≡ causes.SafeNone grain
+    → TellsFail t jitter m fail → TellsModule t jitter (SafeNone m grain)
+tells_grain t jitter m grain fail less is tells =
+    let a = at_below t.modules m less in
+    (a.0, a.1, λ unit alone. tells grain a.0 is unit a.1 alone)
+
+-- the safe node of a module that no other plant concerns reads its own plant alone
+pub own_reads : (p : Tables) (m : ℕ) (a info : ModuleInfo) (sc : NodeInfo) (reads : List Slot) → At p.modules m a → At p.modules m info → At p.nodes info.sc sc
+    → reads ≡ sc.reads.items → IsAlone p a → (i k v : ℕ) → At reads i (State k v) → k ≡ info.plant
+own_reads p m a info sc reads at_a at at_sc same alone i k v at_read =
+    let own = subst (λ (x : ModuleInfo). IsAlone p x) (at_same p.modules m a info at_a at) alone in
+    own.reads_own sc k v at_sc (i, subst (λ (l : List Slot). At l i (State k v)) same at_read)
 
 -- a jitter that was found below all periods
 pub in_time_of : (late : Bool) (t : Tables) (jitter : ℕ) → IsTrue late ↔ IsLate t jitter → late ≡ false → ¬ (IsLate t jitter)

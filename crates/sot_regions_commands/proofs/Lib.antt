@@ -9,6 +9,8 @@ pub mod OtherTables
 pub mod Searched
 -- the mission that is written
 pub mod Spelled
+-- modules that have no region
+pub mod NoRegions
 -- how a call ends
 pub mod Unique
 pub mod Endings

@@ -1,4 +1,4 @@
--- Words and bytes decide the status, where regions are not searched.
+-- Words and bytes decide the status, where regions are not searched and where there are none.
 use Rattle.std.proofs.Common.{◌≡◌, ◌∙◌, ℕ, ◌<◌, ◌≤◌, ◌⊎◌, List, [], ◌∷◌, Option, None, Some, inl, inr, length, sym, ap, subst, arith, Global}
 use Rattle.std.specs.Prelude.{String, IfSome}
 use Rattle.std.specs.Fmt.{decimal}
@@ -7,9 +7,10 @@ use Rattle.std.proofs.lemmas.List.{length-append}
 use Rattle.sot_tree.specs.Trees.{Program}
 use Rattle.sot_parser.proofs.ProgramTexts.{spells_unique}
 use Rattle.sot_rules.specs.First.{IsFaultless}
+use Rattle.sot_lists.specs.Places.{At}
 use Rattle.sot_lang.specs.declared.tables.ModuleInfo.{ModuleInfo}
 use Rattle.sot_lang.specs.Tables.{Tables}
-use Rattle.sot_typing.specs.Resolved.{NodeTable, tables_seen, tables_of}
+use Rattle.sot_typing.specs.Resolved.{NodeTable, ProgramTables, tables_seen, tables_of}
 use Rattle.sot_tube.specs.Checks.{and_then, for_each, IsExact}
 use Rattle.sot_tube.specs.Verdict.{composition, periods, outputs, boxes, code}
 use Rattle.sot_tube.proofs.Exact.{and_then_exact, for_each_exact}
@@ -19,12 +20,17 @@ use Rattle.sot_law_same_certificate.proofs.Carried.{Carried, both_carried}
 use Rattle.sot_law_same_certificate.proofs.Conditions.{periods_carried, outputs_carried, modules_carried, nodes_carried, composition_carried}
 use Rattle.sot_report.specs.declared.fault.Fault.{Fault}
 use Rattle.sot_report.specs.declared.fault.Fault.TheVariants as faults
+use Rattle.sot_tube.specs.Certified.{IsWellCertified}
+use Rattle.sot_law_other_regions.specs.WithoutRegions.{AreSameButForRegions}
+use Rattle.sot_law_other_regions.proofs.Names.{nothing_else}
+use Rattle.sot_region_tree.specs.OtherRegions.{with_regions}
 use Rattle.sot_regions_words.specs.Words.{Asks}
 use Rattle.sot_answers.specs.Texts.{input_limit}
 use Rattle.sot_regions_commands.specs.AsAsked.{IsLate, safe_twice, frame_as_asked, as_asked, IsSearched}
-use Rattle.sot_regions_commands.specs.Answers.{SpellsTyped, Answers, AnswersTyped, HasProgramFault, Replies}
-use Rattle.sot_regions_commands.specs.Ends.{IsNotSearched, Decides, AskSearch}
+use Rattle.sot_regions_commands.specs.Answers.{HasOtherRegions, IsMissionOf, SpellsTyped, Answers, AnswersTyped, HasProgramFault, Replies}
+use Rattle.sot_regions_commands.specs.Ends.{IsNotSearched, LacksRegion, Decides, AskSearch}
 use Rattle.sot_regions_commands.specs.Steps.{WordAnswer}
+use Rattle.sot_regions_commands.proofs.NoRegions.{module_there}
 
 heads : {A : Type 0} (x y : A) (xs ys : List A) → x ∷ xs ≡ y ∷ ys → (x ≡ y) × (xs ≡ ys)
 heads x y xs ys e = (cc, cc)
@@ -88,14 +94,6 @@ not_both : (t u : Tables) (jitter : ℕ) → tables_seen t ≡ tables_seen u →
 not_both t u jitter same (inl late) (in_time, passes) = in_time (late_moved t u same jitter late)
 not_both t u jitter same (inr (r, refuses)) (in_time, passes) = (asked_exact u).exclusive r ((asked_carried t u same).refuses r refuses) passes
 
--- where they are not, the status is 1
-one_of : (p : Program) (t : Tables) (jitter status : ℕ) (text : List ℕ) → Answers p t jitter status text → (status ≡ 1) ⊎ IsSearched t jitter
-one_of p t jitter status text (inl x) = inl x.0
-one_of p t jitter status text (inr (inl x)) = inl x.0
-one_of p t jitter status text (inr (inr (inl x))) = inl x.0
-one_of p t jitter status text (inr (inr (inr (inl x)))) = inl x.0
-one_of p t jitter status text (inr (inr (inr (inr x)))) = inr x.1
-
 low_of : (p : Program) (t : Tables) (jitter status : ℕ) (text : List ℕ) → Answers p t jitter status text → status ≤ 1
 low_of p t jitter status text (inl x) = (let is = x.0 in omega (arith, is))
 low_of p t jitter status text (inr (inl x)) = (let is = x.0 in omega (arith, is))
@@ -103,15 +101,42 @@ low_of p t jitter status text (inr (inr (inl x))) = (let is = x.0 in omega (arit
 low_of p t jitter status text (inr (inr (inr (inl x)))) = (let is = x.0 in omega (arith, is))
 low_of p t jitter status text (inr (inr (inr (inr x)))) = (let is = x.0 in omega (arith, is))
 
+-- a mission of a program shows that each of its modules has a region
+found_one : (bytes : List ℕ) (p q : Program) (t u : Tables) (j k : ℕ) (text : List ℕ) → j ≡ k → SpellsTyped bytes p t → SpellsTyped bytes q u
+    → LacksRegion p t k → IsMissionOf q u j text → ⊥
+found_one bytes p q t u j k text same typed typed' (m, a, at, none) found =
+    let safe = found.spelled in
+    let mission = safe.mission in
+    let one : q ≡ p = spells_unique bytes 0 q p typed'.0 typed.0 in
+    let has : HasOtherRegions p mission.program =
+    record {
+      changed = with_regions found.regions q;
+      regions = subst (λ (x : Program). AreSameButForRegions x (with_regions found.regions q)) one (nothing_else found.regions q);
+      places = safe.program;
+    }
+    in
+    let modules : t.modules ≡ u.modules = ap (λ (s : ProgramTables). s.modules) (one_look bytes p q t u typed typed') in
+    let b = module_there p mission.program t mission.tables has typed.1.tables safe.spelled.resolved.tables m a at in
+    none mission.program mission.tables mission.cert a b.0 has safe.spelled.resolved at b.1
+    (safe.inside m a b.0 (subst (λ (l : List ModuleInfo). At l m a) modules at) b.1)
+    (subst (λ (n : ℕ). IsWellCertified mission.tables n mission.cert) same safe.accepted)
+
 -- what is answered to bytes, and what decides
 typed_one : (bytes : List ℕ) (j k status : ℕ) (text : List ℕ) → j ≡ k → AnswersTyped status j bytes text → (p : Program) (t : Tables) → SpellsTyped bytes p t
-    → IsNotSearched t k → status ≡ 1
-typed_one bytes j k status text same (q, u, typed', answers) p t typed unsearched = by (one_of q u j status text answers)
+    → IsNotSearched t k ⊎ LacksRegion p t k → status ≡ 1
+typed_one bytes j k status text same (q, u, typed', answers) p t typed cause = by answers cause
   where
-    by : (status ≡ 1) ⊎ IsSearched u j → status ≡ 1
-    by (inl is) = is
-    by (inr searched) =
-        absurd (not_both t u k (one_look bytes p q t u typed typed') unsearched (subst (λ (n : ℕ). IsSearched u n) same searched))
+    unsearched : IsNotSearched t k → IsSearched u j → ⊥
+    unsearched not searched =
+        not_both t u k (one_look bytes p q t u typed typed') not (subst (λ (n : ℕ). IsSearched u n) same searched)
+
+    by : Answers q u j status text → IsNotSearched t k ⊎ LacksRegion p t k → status ≡ 1
+    by (inl x) cause = x.0
+    by (inr (inl x)) cause = x.0
+    by (inr (inr (inl x))) cause = x.0
+    by (inr (inr (inr (inl x)))) cause = x.0
+    by (inr (inr (inr (inr x)))) (inl not) = absurd (unsearched not x.1)
+    by (inr (inr (inr (inr x)))) (inr lacks) = absurd (found_one bytes p q t u j k text same typed typed' lacks x.2)
 
 -- the cause of a status, in what is answered at the words
 abbrev Cause : List (String Global) → List ℕ → ℕ → Type 0
@@ -152,9 +177,9 @@ module _ (words : List (String Global)) (bytes : List ℕ) where
   one_status status s (inr (inr (j, asks, short, (text, inl (p, t, typed, answers))))) (inr (inr (inl (is', asks', short', (f, has))))) =
       absurd (typed_faulty bytes p t f typed has)
   one_status status s (inr (inr (j, asks, short, (text, inr (is, more))))) (inr (inr (inl (is', asks', short', fault)))) = is ∙ sym is'
-  one_status status s (inr (inr (j, asks, short, (text, inl answers)))) (inr (inr (inr (is', (k, asks', short', (p, t, typed, unsearched)))))) =
-      typed_one bytes j k status text (asks_once words j k asks asks') answers p t typed unsearched ∙ sym is'
-  one_status status s (inr (inr (j, asks, short, (text, inr (is, (f, has, says)))))) (inr (inr (inr (is', (k, asks', short', (p, t, typed, unsearched)))))) =
+  one_status status s (inr (inr (j, asks, short, (text, inl answers)))) (inr (inr (inr (is', (k, asks', short', (p, t, typed, cause)))))) =
+      typed_one bytes j k status text (asks_once words j k asks asks') answers p t typed cause ∙ sym is'
+  one_status status s (inr (inr (j, asks, short, (text, inr (is, (f, has, says)))))) (inr (inr (inr (is', (k, asks', short', (p, t, typed, cause)))))) =
       absurd (typed_faulty bytes p t f typed has)
 
   low_status : (status : ℕ) → Cause words bytes status → AskSearch words bytes → status ≤ 1

@@ -21,6 +21,9 @@ use Rattle.sot_report.specs.Missions.{Mission, Resolves, SpellsNone, SpellsMissi
 use Rattle.sot_report.specs.FaultTexts.{fault_text}
 use Rattle.sot_report.specs.RefusalTexts.{refusal_text}
 use Rattle.sot_certified_text.specs.ReadAgain.{written_with_jitter}
+use Rattle.sot_law_other_regions.specs.WithoutRegions.{AreSameButForRegions}
+use Rattle.sot_law_held_regions.specs.Alone.{IsAlone}
+use Rattle.sot_regions.specs.Grains.{IsUnitGrain}
 use Rattle.sot_region_tree.specs.declared.modules.ModuleRegions.{ModuleRegions}
 use Rattle.sot_region_tree.specs.OtherRegions.{with_regions}
 use Rattle.sot_regions_words.specs.Lines.{refusal_line}
@@ -63,16 +66,35 @@ abbrev pub IsRefusedAsAsked : Tables → List ℕ → Type 0
 IsRefusedAsAsked t text =
     (r : Refusal) × (as_asked t).Refuses r × (text ≡ refusal_text t r)
 
--- a line that names a module of the program
-abbrev pub NamesModule : Tables → RegionsRefusal → Type 0
-NamesModule t (Jitter j) = ⊥
-NamesModule t (SafeNone m grain) = (a : ModuleInfo) × At t.modules m a
-NamesModule t (TooMany m) = (a : ModuleInfo) × At t.modules m a
-NamesModule t (SaferNone m) = (a : ModuleInfo) × At t.modules m a
+-- a program that is another one but for `safe` and `safer` of its modules and for where its parts
+-- stand in a text
+pub record HasOtherRegions (p other : Program) : Type 0 where
+  pub changed : Program
+  pub regions : AreSameButForRegions p changed
+  pub places : AreSame changed other
+
+-- whatever regions the modules of the program have, where that of module m lies inside the one that
+-- was given: no certificate is good at this jitter
+abbrev pub HasNoRegion : Program → Tables → ℕ → ℕ → Type 0
+HasNoRegion p t jitter m =
+    (other : Program) (u : Tables) (cert : Cert) (a b : ModuleInfo) → HasOtherRegions p other
+    → Resolves other u → At t.modules m a → At u.modules m b → IsInside b.safe a.safe
+    → ¬ (IsWellCertified u jitter cert)
+
+-- a line that names a module of the program. Where it says that nothing is left of the module's
+-- safe region at a grain of one unit, of a module that no other plant concerns, it has no region
+abbrev pub NamesModule : Program → Tables → ℕ → RegionsRefusal → Type 0
+NamesModule p t jitter (Jitter j) = ⊥
+NamesModule p t jitter (SafeNone m grain) =
+    (a : ModuleInfo) × At t.modules m a
+    × (IsUnitGrain grain → IsAlone t a → HasNoRegion p t jitter m)
+NamesModule p t jitter (TooMany m) = (a : ModuleInfo) × At t.modules m a
+NamesModule p t jitter (SaferNone m) = (a : ModuleInfo) × At t.modules m a
 
 -- of a module no region was found, and this is said
-abbrev pub IsNotFound : Tables → List ℕ → Type 0
-IsNotFound t text = (r : RegionsRefusal) × NamesModule t r × (text ≡ refusal_line t r)
+abbrev pub IsNotFound : Program → Tables → ℕ → List ℕ → Type 0
+IsNotFound p t jitter text =
+    (r : RegionsRefusal) × NamesModule p t jitter r × (text ≡ refusal_line t r)
 
 -- regions were found, and a checker refuses the program with them, for this
 abbrev pub IsRefusedAsFound : Program → Tables → ℕ → List ℕ → Type 0
@@ -89,7 +111,7 @@ abbrev pub Answers : Program → Tables → ℕ → ℕ → List ℕ → Type 0
 Answers p t jitter status text =
     ((status ≡ 1) × IsLate t jitter × (text ≡ refusal_line t (Jitter jitter)))
     ⊎ ((status ≡ 1) × (¬ (IsLate t jitter)) × IsRefusedAsAsked t text)
-    ⊎ ((status ≡ 1) × IsSearched t jitter × IsNotFound t text)
+    ⊎ ((status ≡ 1) × IsSearched t jitter × IsNotFound p t jitter text)
     ⊎ ((status ≡ 1) × IsSearched t jitter × IsRefusedAsFound p t jitter text)
     ⊎ ((status ≡ 0) × IsSearched t jitter × IsMissionOf p t jitter text)
 

@@ -6,7 +6,9 @@ use Rattle.std.proofs.Common.{Global}
 use Rattle.sot_ports.specs.Faults.{Rose}
 use Rattle.sot_ports.specs.Outside.{Outside, Writes, WritesPart}
 use Rattle.sot_ports.specs.Whole.{ReadsAll, ReadsCount}
+use Rattle.sot_lists.specs.Places.{At}
 use Rattle.sot_tree.specs.Trees.{Program}
+use Rattle.sot_lang.specs.declared.tables.ModuleInfo.{ModuleInfo}
 use Rattle.sot_lang.specs.Tables.{Tables}
 use Rattle.sot_tube.specs.Refusals.{Refusal}
 use Rattle.sot_report.specs.declared.fault.Fault.{Fault}
@@ -15,7 +17,7 @@ use Rattle.sot_regions_words.specs.Lines.{usage_text}
 use Rattle.sot_answers.specs.Texts.{input_limit, long_text}
 use Rattle.sot_regions_commands.specs.AsAsked.{IsLate, as_asked, IsSearched}
 use Rattle.sot_regions_commands.specs.Answers.{SpellsTyped, AnswersTyped, Rejects}
-use Rattle.sot_regions_commands.specs.Answers.{HasProgramFault}
+use Rattle.sot_regions_commands.specs.Answers.{HasProgramFault, HasNoRegion}
 
 -- the words ask for some jitter
 abbrev pub AsksSome : List (String Global) → Type 0
@@ -49,7 +51,13 @@ IsAnswer words before after text =
 abbrev pub IsNotSearched : Tables → ℕ → Type 0
 IsNotSearched t jitter = IsLate t jitter ⊎ ((r : Refusal) × (as_asked t).Refuses r)
 
--- the status that words and bytes alone decide, where regions are not searched
+-- some module of the program has no region
+abbrev pub LacksRegion : Program → Tables → ℕ → Type 0
+LacksRegion p t jitter =
+    (m : ℕ) × (a : ModuleInfo) × At t.modules m a × HasNoRegion p t jitter m
+
+-- the status that words and bytes alone decide: where regions are not searched, and where there are
+-- none
 abbrev pub Decides : List (String Global) → List ℕ → ℕ → Type 0
 Decides words bytes status =
     ((status ≡ 2) × AsksNone words)
@@ -57,7 +65,8 @@ Decides words bytes status =
     ⊎ ((status ≡ 3) × AsksSome words × (length bytes ≤ input_limit)
     × ((f : Fault) × HasProgramFault bytes f))
     ⊎ ((status ≡ 1) × ((jitter : ℕ) × Asks words jitter × (length bytes ≤ input_limit)
-    × ((p : Program) × (t : Tables) × SpellsTyped bytes p t × IsNotSearched t jitter)))
+    × ((p : Program) × (t : Tables) × SpellsTyped bytes p t
+    × (IsNotSearched t jitter ⊎ LacksRegion p t jitter))))
 
 -- words and bytes for which they are
 abbrev pub AskSearch : List (String Global) → List ℕ → Type 0

@@ -1,5 +1,5 @@
 -- What the functions below `regions` promise it.
-use Rattle.std.specs.Prelude.{◌≡◌, ℕ, ◌+◌, ◌≤◌, ◌⊎◌, List, Option, Some, length, String}
+use Rattle.std.specs.Prelude.{◌≡◌, ℕ, ◌+◌, ◌≤◌, ◌⊎◌, ℤ, List, Option, Some, length, String}
 use Rattle.std.proofs.Common.{Global}
 use Rattle.sot_ports.specs.Faults.{Rose}
 use Rattle.sot_ports.specs.Whole.{ReadsAll, ReadsCount}
@@ -15,6 +15,14 @@ use Rattle.sot_report.specs.Missions.{Resolves}
 use Rattle.sot_report.specs.FaultTexts.{type_text}
 use Rattle.sot_certified_text.specs.ReadAgain.{IsCertificateFor, written_with_jitter}
 use Rattle.sot_region_tree.specs.declared.modules.ModuleRegions.{ModuleRegions}
+use Rattle.sot_law_held_regions.specs.Following.{HasNoHeldRegion}
+use Rattle.sot_law_held_regions.specs.Alone.{IsAlone}
+use Rattle.sot_regions.specs.Grains.{IsUnitGrain}
+use Rattle.sot_regions.specs.declared.found.RegionsFail.{RegionsFail}
+use Rattle.sot_regions.specs.declared.found.RegionsFail.TheVariants as causes
+use Rattle.sot_regions_words.specs.declared.refusal.RegionsRefusal.{RegionsRefusal}
+use Rattle.sot_regions_words.specs.declared.refusal.RegionsRefusal.TheVariants.{Jitter, SafeNone}
+use Rattle.sot_regions_words.specs.declared.refusal.RegionsRefusal.TheVariants.{TooMany, SaferNone}
 use Rattle.sot_regions_words.specs.Words.{Asks, AsksNone}
 use Rattle.sot_regions_words.specs.Lines.{usage_text}
 use Rattle.sot_answers.specs.Texts.{input_limit, long_text}
@@ -23,7 +31,7 @@ use Rattle.sot_regions_commands.specs.declared.search.SearchFail.TheVariants as 
 use Rattle.sot_regions_commands.specs.Findings.{IsFinding}
 use Rattle.sot_law_other_regions.specs.Fitting.{AreFitting}
 use Rattle.sot_regions_commands.specs.Answers.{SpellsTyped, IsRefusedAsFound, IsMissionOf}
-use Rattle.sot_regions_commands.specs.Answers.{Answers, IsNotFound, NamesModule, Replies}
+use Rattle.sot_regions_commands.specs.Answers.{Answers, IsNotFound, Replies}
 use Rattle.sot_regions_commands.specs.Ends.{AsksSome}
 
 -- some program that the bytes spell has these tables
@@ -79,7 +87,7 @@ IsWritten text =
 -- what is said of a program whose regions are searched
 abbrev pub AnswersSearched : Program → Tables → ℕ → ℕ → List ℕ → Type 0
 AnswersSearched p t jitter status text =
-    ((status ≡ 1) × IsNotFound t text) ⊎ AnswersFound p t jitter status text
+    ((status ≡ 1) × IsNotFound p t jitter text) ⊎ AnswersFound p t jitter status text
 
 -- what is said of a program that a text spells
 abbrev pub AnswersTree : Program → ℕ → ℕ → List ℕ → Type 0
@@ -87,7 +95,23 @@ AnswersTree p jitter status text =
     ((t : Tables) × Resolves p t × Answers p t jitter status text)
     ⊎ ((status ≡ 3) × ((fault : TypeFault) × IsFirstFault p fault × (text ≡ type_text fault)))
 
--- why there are no regions: a line that names a module; want of memory may come at any time
-abbrev pub IsNone : Tables → SearchFail → Type 0
-IsNone t (fails.NotFound r) = NamesModule t r
-IsNone t fails.Memory = Unit {0}
+-- a line that names a module of the program, with what is known of its held regions
+abbrev pub TellsModule : Tables → ℕ → RegionsRefusal → Type 0
+TellsModule t jitter (Jitter j) = ⊥
+TellsModule t jitter (SafeNone m grain) =
+    (a : ModuleInfo) × At t.modules m a
+    × (IsUnitGrain grain → IsAlone t a → HasNoHeldRegion t jitter a)
+TellsModule t jitter (TooMany m) = (a : ModuleInfo) × At t.modules m a
+TellsModule t jitter (SaferNone m) = (a : ModuleInfo) × At t.modules m a
+
+-- why there are no regions: such a line; want of memory may come at any time
+abbrev pub IsNone : Tables → ℕ → SearchFail → Type 0
+IsNone t jitter (fails.NotFound r) = TellsModule t jitter r
+IsNone t jitter fails.Memory = Unit {0}
+
+-- where nothing is left of a safe region at a grain of one unit, of a module that no other plant
+-- concerns, no held region lies in it
+abbrev pub TellsFail : Tables → ℕ → ℕ → RegionsFail → Type 0
+TellsFail t jitter m fail =
+    (grain : List ℤ) (a : ModuleInfo) → fail ≡ causes.SafeNone grain → IsUnitGrain grain → At t.modules m a
+    → IsAlone t a → HasNoHeldRegion t jitter a

@@ -1,16 +1,18 @@
 //! Regions for all modules of a program.
 
-ghost use Rattle.std.specs.Prelude.{◌≡◌, ◌<◌, ◌≤◌, List, Option, length, IfOk, IfErr};
+ghost use Rattle.std.specs.Prelude.{◌≡◌, ◌<◌, ◌≤◌, ℕ, List, Option, length, IfOk, IfErr, IsTrue};
 ghost use Rattle.sot_lists.specs.Places.{At};
 ghost use Rattle.sot_lang.specs.declared.cert.Cells.{Cells};
 ghost use Rattle.sot_lang.specs.declared.tables.ModuleInfo.{ModuleInfo as Info};
+ghost use Rattle.sot_lang.specs.declared.tables.Slot.TheVariants.{State};
 ghost use Rattle.sot_lang.specs.Tables.{Tables};
 ghost use Rattle.sot_lang.specs.TableRules.{MeetsTableRules};
 ghost use Rattle.sot_traps.specs.Verdict.{HaveSafeBoxes};
 ghost use Rattle.sot_answers.specs.Texts.{input_limit};
 ghost use Rattle.sot_regions_commands.specs.declared.search.SearchFail.TheVariants.{Memory};
+ghost use Rattle.sot_law_held_regions.specs.Alone.{IsAlone};
 ghost use Rattle.sot_regions_commands.specs.Findings.{IsFinding};
-ghost use Rattle.sot_regions_commands.specs.Steps.{AreTablesOf, AreFindings, IsNone};
+ghost use Rattle.sot_regions_commands.specs.Steps.{AreTablesOf, AreFindings, IsNone, TellsFail};
 
 use crate::finding::{Finding, finding_of};
 use crate::typed::typed_with;
@@ -61,24 +63,32 @@ impl<T: Drop> From<AllocFailed<T>> for SearchFail {
     }
 }
 
-// Whether a module's plant sees none, and its safe node reads no other plant.
-#[tactic(auto, using(sot_rta::proofs::Found::plant_there, sot_rta::proofs::Found::sc_there))]
-fn is_alone(p: &Typed, module: u32) -> bool
-    requires there { «module» < length p.now.modules }
-    requires rules { MeetsTableRules p.now }
+// Whether all states among these slots are those of one plant.
+fn are_own(reads: &[Slot], plant: u32) -> bool
+    ensures { ((i k v : ℕ) → At reads.now i (State k v) → k ≡ plant) → IsTrue result }
 {
-    let info = module_at(p, module);
-    if plant_at(p, info.plant).sees.len() > 0 {
-        return false;
-    }
-    for slot in &node_at(p, info.sc).reads {
-        if let Slot::State { plant, .. } = *slot {
-            if plant != info.plant {
+    for i in 0..reads.len() {
+        if let Slot::State { plant: other, .. } = reads[i] {
+            if other != plant {
                 return false;
             }
         }
     }
     true
+}
+
+// Whether a module's plant sees none, and its safe node reads no other plant.
+#[tactic(auto, using(sot_rta::proofs::Found::plant_there, sot_rta::proofs::Found::sc_there))]
+fn is_alone(p: &Typed, module: u32) -> bool
+    requires there { «module» < length p.now.modules }
+    requires rules { MeetsTableRules p.now }
+    ensures { (a : Info) → At p.now.modules «module» a → IsAlone p.now a → IsTrue result }
+{
+    let info = module_at(p, module);
+    if plant_at(p, info.plant).sees.len() > 0 {
+        return false;
+    }
+    are_own(&node_at(p, info.sc).reads, info.plant)
 }
 
 // Searches regions of a module, where those before it have these. A module that no other plant
@@ -96,6 +106,7 @@ fn found_of(
     requires jitter { asked.jitter ≤ 999 }
     requires found { (cells : List (Option Cells))
         × AreFindings asked.tables.now before.now cells «module» }
+    ensures { IfErr result (TellsFail asked.entry.tables.now asked.entry.jitter «module») }
 {
     if before.len() == 0 || is_alone(asked.tables, module) {
         return regions_of(alloc, asked.tables, module, asked.jitter);
@@ -107,9 +118,10 @@ fn found_of(
 }
 
 // Why there are none, of this module.
-#[tactic(auto, using(crate::proofs::Forms::names_module))]
+#[tactic(auto, using(crate::proofs::Forms::tells_module, crate::proofs::Forms::tells_grain))]
 fn named(module: u32, fail: RegionsFail) -> SearchFail
-    ensures { (t : Tables) → «module» < length t.modules → IsNone t result }
+    ensures { (t : Tables) (jitter : ℕ) → «module» < length t.modules
+        → TellsFail t jitter «module» fail → IsNone t jitter result }
 {
     match fail {
         RegionsFail::SafeNone { grain } => {
@@ -122,7 +134,7 @@ fn named(module: u32, fail: RegionsFail) -> SearchFail
 }
 
 // Regions of a module as lists. Such that are no lists of a program are none.
-#[tactic(auto, using(crate::proofs::Forms::names_module))]
+#[tactic(auto, using(crate::proofs::Forms::tells_module))]
 fn search_one(
     alloc: Global,
     asked: Asked<'_>,
@@ -139,7 +151,7 @@ fn search_one(
     ensures ok { IfOk result (λ finding. (a : Info)
         → At asked.entry.tables.now.modules «module» a
         → IsFinding a finding.regions finding.cells) }
-    ensures err { IfErr result (IsNone asked.entry.tables.now) }
+    ensures err { IfErr result (IsNone asked.entry.tables.now asked.entry.jitter) }
 {
     match found_of(alloc, asked, before, module) {
         Err(fail) => Err(named(module, fail)),
@@ -158,7 +170,7 @@ pub fn search(alloc: Global, asked: Asked<'_>) -> Result<Findings, SearchFail>
     requires jitter { asked.jitter ≤ 999 }
     ensures ok { IfOk result (λ found. AreFindings asked.entry.tables.now found.regions.items
         found.cells.items (length asked.entry.tables.now.modules)) }
-    ensures err { IfErr result (IsNone asked.entry.tables.now) }
+    ensures err { IfErr result (IsNone asked.entry.tables.now asked.entry.jitter) }
 {
     let mut findings = Findings {
         regions: Vec::new(alloc),

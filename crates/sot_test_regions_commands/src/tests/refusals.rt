@@ -75,3 +75,65 @@ fn what_cannot_be_kept_is_refused(rt: HostRuntime) {
         answers(&rt, alloc, "", text.as_str(), want);
     }
 }
+
+#[test]
+fn nothing_is_left_of_a_narrow_region(rt: HostRuntime) {
+    let alloc = rt.alloc();
+    for (words, safe, want) in [
+        (
+            "",
+            "[-11..11]",
+            "1 refused regions module nav safe none grain (1)\n",
+        ),
+        ("", "[-12..12]", "1 refused regions module nav safer none\n"),
+        (
+            "1",
+            "[-12..12]",
+            "1 refused regions module nav safe none grain (1)\n",
+        ),
+    ] {
+        let text = on_a_line(alloc, safe, "none").expect(&rt, "memory");
+        answers(&rt, alloc, words, text.as_str(), want);
+    }
+}
+
+// Two modules with plants that move on, whatever is commanded.
+fn moving_both(alloc: Global, one: &str, two: &str) -> Result<String, AllocError> {
+    format!(in alloc;
+        "topic one: int[0..1] = 0;
+topic two: int[0..1] = 0;
+plant pos {{ state x: int; input one; next x = {one}; }}
+plant off {{ state y: int; input two; next y = {two}; }}
+external fast period 2 offset 0 {{ reads pos; writes one; }}
+node slow period 2 offset 0 {{ reads pos; writes one; do {{ publish one = 0; }} }}
+external quick period 2 offset 0 {{ reads off; writes two; }}
+node calm period 2 offset 0 {{ reads off; writes two; do {{ publish two = 0; }} }}
+module m {{ ac fast; sc slow; period 2 offset 0; plant pos; safe [0..9]; safer none; }}
+module n {{ ac quick; sc calm; period 2 offset 0; plant off; safe [0..9]; safer none; }}"
+    )
+}
+
+#[test]
+fn the_first_module_without_regions_is_named(rt: HostRuntime) {
+    let alloc = rt.alloc();
+    for (one, two, want) in [
+        (
+            "min(x + 1, 5)",
+            "y + 1",
+            "1 refused regions module n safe none grain (1)\n",
+        ),
+        (
+            "x + 1",
+            "y + 1",
+            "1 refused regions module m safe none grain (1)\n",
+        ),
+        (
+            "x + 1",
+            "min(y + 1, 5)",
+            "1 refused regions module m safe none grain (1)\n",
+        ),
+    ] {
+        let text = moving_both(alloc, one, two).expect(&rt, "memory");
+        answers(&rt, alloc, "", text.as_str(), want);
+    }
+}

@@ -1,5 +1,15 @@
-use Rattle.std.proofs.Common.{arith}
+use Rattle.std.proofs.Common.{◌≡◌, ℕ, ℤ, List, Result, Ok, Err, arith}
+use Rattle.std.specs.Prelude.{IfErr}
+use Rattle.sot_lists.specs.Places.{At}
 use Rattle.sot_tree.specs.TreeViews.{program_view}
+use Rattle.sot_lang.specs.declared.tables.ModuleInfo.{ModuleInfo}
+use Rattle.sot_lang.specs.Tables.{Tables}
+use Rattle.sot_law_held_regions.specs.Following.{HasNoHeldRegion}
+use Rattle.sot_regions.specs.Grains.{IsUnitGrain}
+use Rattle.sot_regions.specs.declared.found.Found.{Found}
+use Rattle.sot_regions.specs.declared.found.RegionsFail.{RegionsFail}
+use Rattle.sot_regions.specs.declared.found.RegionsFail.TheVariants.{SafeNone}
+use Rattle.sot_regions_commands.specs.Steps.{TellsFail}
 use Rattle.sot_regions_commands.proofs.Spelled.{may_take, taken_boxes, taken_count}
 use Rattle.sot_regions_commands.proofs.search.found_of.Goals as goal
 
@@ -19,3 +29,13 @@ regions_of-requires-in-Ok c =
           c.requires.found.0 c.args.«module» c.requires.found.1 c.in-Ok.ensures c.requires.tables c.requires.boxes;
       below = omega (arith, c.requires.jitter);
     }
+
+-- what is known of each module is known of one that no other plant concerns
+tells_fail : (r : Result Found RegionsFail) (t : Tables) (jitter m : ℕ)
+    → IfErr r (λ e. (grain : List ℤ) (a : ModuleInfo) → e ≡ SafeNone grain → IsUnitGrain grain → At t.modules m a → HasNoHeldRegion t jitter a)
+    → IfErr r (TellsFail t jitter m)
+tells_fail (Ok found) t jitter m none = tt
+tells_fail (Err fail) t jitter m none = λ grain a is unit at alone. none grain a is unit at
+
+pub returns-then-before-eq0 : goal.returns-then-before-eq0
+returns-then-before-eq0 c = tells_fail c.regions_of.result c.args.asked.tables.now c.args.asked.jitter c.args.«module» c.regions_of.ensures.none
