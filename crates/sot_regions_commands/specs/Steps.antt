@@ -113,5 +113,5 @@ IsNone t jitter fails.Memory = Unit {0}
 -- concerns, no held region lies in it
 abbrev pub TellsFail : Tables → ℕ → ℕ → RegionsFail → Type 0
 TellsFail t jitter m fail =
-    (grain : List ℤ) (a : ModuleInfo) → fail ≡ causes.SafeNone grain → IsUnitGrain grain → At t.modules m a
-    → IsAlone t a → HasNoHeldRegion t jitter a
+    (grain : List ℤ) (a : ModuleInfo) → fail ≡ causes.SafeNone grain → IsUnitGrain grain
+    → At t.modules m a → IsAlone t a → HasNoHeldRegion t jitter a
