@@ -137,6 +137,17 @@ fn each_fill(
     }
 }
 
+/// Writes 0 into each byte in whose place another list has a byte that is not 0.
+pub(crate) fn clear(bytes: &mut [u8], others: &[u8])
+    ensures { (k : ℕ) → (slice_index bytes.new k ≡ slice_index bytes.old k)
+        ⊎ (slice_index bytes.new k ≡ 0) }
+{
+    let both = bytes.len().min(others.len());
+    for k in 0..both {
+        bytes[k] = if others[k] == 0 { bytes[k] } else { 0 };
+    }
+}
+
 /// So many bytes of 0 or 1 are added up in a byte, many at a time.
 pub(crate) const FEW: usize = 240;
 

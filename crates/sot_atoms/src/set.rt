@@ -8,7 +8,7 @@ ghost use Rattle.sot_atoms.specs.Sets.{IsNextMember};
 
 use crate::block::Block;
 use crate::grid::Grid;
-use crate::rows::{FEW, count, fill, fits, lacks, ones};
+use crate::rows::{FEW, clear, count, fill, fits, lacks, ones};
 use memchr::memchr;
 use std::alloc::{AllocError, Global};
 use std::marker::Model;
@@ -111,6 +111,14 @@ impl AtomSet {
             → IsTaken grid.now.axes self.old self.new block.now }
     {
         self.write(0, grid, block);
+    }
+
+    /// Takes the atoms of another set of the same grid out of the set.
+    pub fn take_those(&mut self, other: &AtomSet)
+        ensures size { length self.new ≡ length self.old }
+        ensures fewer { (k : ℕ) → slice_index self.new k ≡ 1 → slice_index self.old k ≡ 1 }
+    {
+        clear(&mut self.bytes, &other.bytes);
     }
 
     /// The number of the first atom in the set, of those from this number on.

@@ -69,17 +69,17 @@ fn areas(alloc: Global, grid: &Grid, blocks: &[Block]) -> Result<Vec<BoxN>, Allo
 
 // The cells and the safer region of a safe region, where there are few cells. The best regions are
 // these where they have a box from which any commands keep.
-fn improve(search: &Search<'_>, safe: &Cover, worth: u64, best: &mut Best) -> Result<(), AllocError>
+fn improve(search: &Search<'_>, safe: Cover, worth: u64, best: &mut Best) -> Result<(), AllocError>
     requires search { IsSearch search.now }
-    requires some { 0 < length safe.now.boxes.items }
-    requires few { length safe.now.boxes.items ≤ 256 }
+    requires some { 0 < length safe.boxes.items }
+    requires few { length safe.boxes.items ≤ 256 }
     requires best { IsBest search.now.grid.now.width best.old }
     ensures { OnOk result (IsBest search.now.grid.now.width best.new) }
 {
     let grid = search.grid;
-    let set = &safe.set;
-    let sums = Sums::of(search.alloc, grid, set)?;
-    let Some(cells) = cells_of(search, set, &sums)? else {
+    let Cover { boxes, set } = safe;
+    let sums = Sums::of(search.alloc, grid, &set)?;
+    let Some(cells) = cells_of(search, &set, &sums)? else {
         return Ok(());
     };
     let safer = cover_of(search, set, Good::KeepsAny(&sums), Adding::Plain)?;
@@ -88,7 +88,7 @@ fn improve(search: &Search<'_>, safe: &Cover, worth: u64, best: &mut Best) -> Re
         return Ok(());
     }
     let found = Found {
-        safe: areas(search.alloc, grid, &safe.boxes)?,
+        safe: areas(search.alloc, grid, &boxes)?,
         safer: areas(search.alloc, grid, &safer.boxes)?,
         cells: areas(search.alloc, grid, &cells)?,
     };
@@ -115,11 +115,16 @@ fn look(
         return Ok(false);
     }
     let sums = Sums::of(search.alloc, grid, set)?;
-    let safe = cover_of(search, set, Good::Within(&sums), Adding::Closed(&sums))?;
+    let safe = cover_of(
+        search,
+        set.copied()?,
+        Good::Within(&sums),
+        Adding::Closed(&sums),
+    )?;
     drop(sums);
     let worth = worth_of(grid, narrowest, &safe.set);
     if best.worth < worth && !safe.boxes.is_empty() {
-        improve(search, &safe, worth, best)?;
+        improve(search, safe, worth, best)?;
     }
     Ok(best.worth < most && grid.total() > 1)
 }

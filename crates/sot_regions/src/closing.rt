@@ -1,12 +1,12 @@
 //! Boxes that close a region: with them the held tube of each atom stays in it.
 
-ghost use Rattle.std.specs.Prelude.{◌≡◌, ◌≤◌, length, IfOk, OnOk, IsTrue};
+ghost use Rattle.std.specs.Prelude.{◌≡◌, ◌≤◌, length, IfOk, OnOk};
 ghost use Rattle.sot_regions.specs.Searches.{IsSearch, AreWidePoints};
 
 use crate::cover::{Cover, MOST_BOXES};
 use crate::search::{Good, Search, Worth};
 use crate::thin::{region_of, thin};
-use sot_atoms::{Block, Sums, halves_of};
+use sot_atoms::{AtomSet, Block, Grid, Sums, halves_of};
 use sot_box::{BoxN, Region};
 use sot_shrinking::{Among, held_boxes, held_stays};
 use std::alloc::AllocError;
@@ -122,7 +122,6 @@ fn close(
     sums: &Sums,
 ) -> Result<bool, AllocError>
     requires { IsSearch search.now }
-    ensures { IfOk result (λ closed. IsTrue closed → length cover.new.boxes.items ≤ 256) }
 {
     let first = cover.boxes.len();
     let mut points = points_of(search, cover, block)?;
@@ -135,15 +134,22 @@ fn close(
             return Ok(false);
         }
     }
-    thin(search.alloc, search.grid, &mut cover.boxes)?;
-    Ok(cover.boxes.len() <= MOST_BOXES)
+    Ok(true)
 }
 
-/// Adds a block and those that close the region again. False says that the cover is as it was,
-/// since there would be too many boxes.
+// Takes the atoms of blocks out of those that are left, from this block on.
+fn take_from(grid: &Grid, left: &mut AtomSet, blocks: &[Block], first: usize) {
+    for place in first..blocks.len() {
+        left.take(grid, &blocks[place]);
+    }
+}
+
+/// Adds a block and those that close the region again, and takes their atoms out of those that are
+/// left. False says that all is as it was, since there would be too many boxes.
 pub(crate) fn add_closed(
     search: &Search<'_>,
     cover: &mut Cover,
+    left: &mut AtomSet,
     block: Block,
     sums: &Sums,
 ) -> Result<bool, AllocError>
@@ -151,10 +157,17 @@ pub(crate) fn add_closed(
     requires few { length cover.old.boxes.items ≤ 256 }
     ensures { OnOk result (length cover.new.boxes.items ≤ 256) }
 {
-    let kept = cover.boxes.clone()?;
-    let closed = close(search, cover, block, sums)?;
-    if !closed {
-        cover.reset(search.grid, kept);
+    let before = cover.boxes.clone()?;
+    if !close(search, cover, block, sums)? {
+        cover.reset(before, left);
+        return Ok(false);
     }
-    Ok(closed)
+    let closed = cover.boxes.clone()?;
+    thin(search.alloc, search.grid, &mut cover.boxes)?;
+    if cover.boxes.len() > MOST_BOXES {
+        cover.reset(before, left);
+        return Ok(false);
+    }
+    take_from(search.grid, left, &closed, before.len());
+    Ok(true)
 }

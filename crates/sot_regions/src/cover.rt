@@ -44,14 +44,11 @@ impl Cover {
         Ok(())
     }
 
-    /// Has these blocks alone.
-    pub(crate) fn reset(&mut self, grid: &Grid, boxes: Vec<Block>)
+    /// Has these blocks alone, as before others were added, when these atoms were left out.
+    pub(crate) fn reset(&mut self, boxes: Vec<Block>, left: &AtomSet)
         ensures { self.new.boxes.items ≡ boxes.items }
     {
-        self.set.take(grid, &grid.whole());
-        for block in &boxes {
-            self.set.put(grid, block);
-        }
+        self.set.take_those(left);
         self.boxes = boxes;
     }
 }
@@ -67,11 +64,17 @@ pub(crate) enum Adding<'a> {
 }
 
 // Adds a block, and leaves out those that the others cover then.
-fn add_plain(search: &Search<'_>, cover: &mut Cover, block: Block) -> Result<(), AllocError>
+fn add_plain(
+    search: &Search<'_>,
+    cover: &mut Cover,
+    left: &mut AtomSet,
+    block: Block,
+) -> Result<(), AllocError>
     requires { length cover.old.boxes.items < 256 }
     ensures { OnOk result (length cover.new.boxes.items ≤ 256) }
 {
     cover.add(search.grid, block)?;
+    left.take(search.grid, &block);
     thin(search.alloc, search.grid, &mut cover.boxes)
 }
 
@@ -79,6 +82,7 @@ fn add_plain(search: &Search<'_>, cover: &mut Cover, block: Block) -> Result<(),
 fn add(
     search: &Search<'_>,
     cover: &mut Cover,
+    left: &mut AtomSet,
     block: Block,
     adding: Adding<'_>,
 ) -> Result<bool, AllocError>
@@ -88,10 +92,10 @@ fn add(
 {
     match adding {
         Adding::Plain => {
-            add_plain(search, cover, block)?;
+            add_plain(search, cover, left, block)?;
             Ok(true)
         }
-        Adding::Closed(sums) => add_closed(search, cover, block, sums),
+        Adding::Closed(sums) => add_closed(search, cover, left, block, sums),
     }
 }
 
@@ -100,6 +104,7 @@ fn add(
 fn add_seeds(
     search: &Search<'_>,
     cover: &mut Cover,
+    left: &mut AtomSet,
     seeds: &mut Vec<Seed>,
     adding: Adding<'_>,
 ) -> Result<bool, AllocError>
@@ -117,7 +122,7 @@ fn add_seeds(
             break;
         };
         let seed = seeds.remove(place);
-        if add(search, cover, seed.block, adding)? {
+        if add(search, cover, left, seed.block, adding)? {
             added = true;
             refused = 0;
         } else {
@@ -127,19 +132,10 @@ fn add_seeds(
     Ok(added)
 }
 
-// The atoms of a set that a cover leaves out.
-fn left_of(grid: &Grid, all: &AtomSet, cover: &Cover) -> Result<AtomSet, AllocError> {
-    let mut left = all.copied()?;
-    for block in &cover.boxes {
-        left.take(grid, block);
-    }
-    Ok(left)
-}
-
-/// A cover of a set by at most 256 good blocks, as far as it is found.
+/// A cover of these atoms by at most 256 good blocks, as far as it is found.
 pub(crate) fn cover_of(
     search: &Search<'_>,
-    all: &AtomSet,
+    atoms: AtomSet,
     good: Good<'_>,
     adding: Adding<'_>,
 ) -> Result<Cover, AllocError>
@@ -147,13 +143,13 @@ pub(crate) fn cover_of(
     ensures { IfOk result (λ c. length c.boxes.items ≤ 256) }
 {
     let mut cover = Cover::none(search.alloc, search.grid)?;
+    let mut left = atoms;
     for _turn in 0..TURNS {
         if cover.boxes.len() >= MOST_BOXES {
             break;
         }
-        let left = left_of(search.grid, all, &cover)?;
         let mut seeds = seeds_in(search, &left, good)?;
-        if !add_seeds(search, &mut cover, &mut seeds, adding)? {
+        if !add_seeds(search, &mut cover, &mut left, &mut seeds, adding)? {
             break;
         }
     }
