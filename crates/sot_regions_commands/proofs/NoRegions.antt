@@ -14,14 +14,13 @@ use Rattle.sot_lang.specs.declared.cert.Cert.{Cert}
 use Rattle.sot_lang.specs.declared.tables.ModuleInfo.{ModuleInfo}
 use Rattle.sot_lang.specs.Tables.{Tables}
 use Rattle.sot_lang.specs.TableRules.{MeetsTableRules}
-use Rattle.sot_law_format.specs.Unplaced.{AreSame}
 use Rattle.sot_typing.specs.Resolved.{ProgramTables, modules, plant_place, node_place, module_info, tables_of, AreTables}
 use Rattle.sot_traps.specs.Verdict.{HaveSafeBoxes}
 use Rattle.sot_tube.specs.Certified.{IsWellCertified}
 use Rattle.sot_law_same_tables.specs.UnplacedTables.{AreAlike}
 use Rattle.sot_law_same_tables.proofs.PlacelessSeen.{scalars_same, modules_same, plants_same, nodes_same}
 use Rattle.sot_law_same_tables.proofs.Tables.{tables_alike}
-use Rattle.sot_law_other_regions.specs.WithoutRegions.{bare_module, AreSameButForRegions}
+use Rattle.sot_law_other_regions.specs.WithoutRegions.{bare_module}
 use Rattle.sot_law_other_regions.proofs.Tables.{plant_place_same, node_place_same, with_modules, bare_modules, bare_at}
 use Rattle.sot_law_held_regions.specs.Alone.{IsAlone}
 use Rattle.sot_law_held_regions.specs.Following.{HasNoHeldRegion}
