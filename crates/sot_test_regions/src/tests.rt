@@ -3,7 +3,9 @@
 mod blocks;
 mod grids;
 mod parts;
+mod search;
 mod sets;
+mod shrinking;
 mod trees;
 mod words;
 

@@ -1,7 +1,7 @@
 //! Sets of atoms of three rows of four.
 use super::parts::{block_of, grid_of};
 use super::same;
-use sot_atoms::{AtomSet, Block, Grid};
+use sot_atoms::{AtomSet, Block, Grid, Sums};
 use std::alloc::Global;
 use std::process::Abort;
 
@@ -128,4 +128,66 @@ fn other_grids_change_nothing(rt: HostRuntime) {
     set.put(&grid, &rows((1, 3), (0, 3)));
     set.take(&grid, &rows((0, 0), (0, 4)));
     same(&rt, "members", members(&rt, alloc, &set).as_str(), "0 1 ");
+}
+
+#[test]
+fn members_are_counted(rt: HostRuntime) {
+    let alloc = rt.alloc();
+    let grid = three_by_four(&rt, alloc);
+    // The members are 0, 5, 6, 9 and 10.
+    let mut set = AtomSet::none(alloc, &grid).expect(&rt, "memory");
+    set.put(&grid, &rows((1, 2), (1, 2)));
+    set.put(&grid, &rows((0, 0), (0, 0)));
+    same(&rt, "all", set.members(), 5);
+    let sums = Sums::of(alloc, &grid, &set).expect(&rt, "memory");
+    for (across, along, count, all) in [
+        ((0, 2), (0, 3), 5, false),
+        ((1, 2), (1, 2), 4, true),
+        ((1, 1), (0, 3), 2, false),
+        ((0, 1), (0, 2), 3, false),
+        ((0, 0), (0, 0), 1, true),
+        ((0, 2), (3, 3), 0, false),
+        // blocks that this grid does not have
+        ((1, 3), (1, 2), 0, false),
+        ((2, 1), (1, 2), 0, false),
+    ] {
+        let block = rows(across, along);
+        same(&rt, (across, along), set.count(&grid, &block), count);
+        same(
+            &rt,
+            (across, along),
+            sums.count(&grid, &block),
+            count as u64,
+        );
+        same(&rt, (across, along), sums.has_all(&grid, &block), all);
+    }
+}
+
+// The numbers, each with a blank behind it.
+fn listed(rt: &impl Abort, alloc: Global, numbers: &[usize]) -> String {
+    let mut text = String::new(alloc);
+    for number in numbers {
+        let piece = format!(in alloc; "{number} ").expect(rt, "memory");
+        text.push_str(piece.as_str()).expect(rt, "memory");
+    }
+    text
+}
+
+#[test]
+fn members_are_taken_at_equal_distances(rt: HostRuntime) {
+    let alloc = rt.alloc();
+    let grid = grid_of(&rt, alloc, &[(0, 999)], 1000);
+    let mut set = AtomSet::none(alloc, &grid).expect(&rt, "memory");
+    set.put(&grid, &block_of([(0, 0), (0, 0), (0, 0), (3, 302)]));
+    set.put(&grid, &block_of([(0, 0), (0, 0), (0, 0), (700, 799)]));
+    for (each, want) in [
+        (100, "3 103 203 700 "),
+        (299, "3 302 "),
+        (300, "3 700 "),
+        (301, "3 701 "),
+        (400, "3 "),
+    ] {
+        let numbers = set.spread(alloc, each).expect(&rt, "memory");
+        same(&rt, each, listed(&rt, alloc, &numbers).as_str(), want);
+    }
 }
