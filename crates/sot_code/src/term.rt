@@ -156,8 +156,7 @@ fn quick(term: &Term, numbers: &[i64], trapped: &mut bool) -> i64
     }
 }
 
-// The same, where the expression has parts. What is not an operator or a choice is left to the
-// exact way.
+// The same, where the expression has parts. What is rare is left to the exact way.
 #[cycle(quick)]
 fn quick_compound(term: &Term, numbers: &[i64], trapped: &mut bool) -> i64
     requires { HasPlaces (length numbers.now) term.now }
@@ -183,7 +182,36 @@ fn quick_compound(term: &Term, numbers: &[i64], trapped: &mut bool) -> i64
                 quick(no, numbers, trapped)
             }
         }
+        Term::Call { func, parts, at } => quick_call(*func, parts, *at, numbers, trapped),
         _ => kept(compound(term, numbers), trapped),
+    }
+}
+
+// The result of a function at its parts.
+#[cycle(quick)]
+fn quick_call(func: Func, parts: &Vec<Term>, at: Span, numbers: &[i64], trapped: &mut bool) -> i64
+    requires parts { HavePlaces (length numbers.now) parts.now.items }
+    requires arity { length parts.now.items ≡ arity func }
+    ensures first { trapped.new ≡ false → trapped.old ≡ false }
+    ensures value { trapped.new ≡ false
+        → then_with (values parts.now.items numbers.now) (called func at) ≡ Ok result }
+{
+    match func {
+        Func::Min => {
+            let a = quick(&parts[0], numbers, trapped);
+            let b = quick(&parts[1], numbers, trapped);
+            a.min(b)
+        }
+        Func::Max => {
+            let a = quick(&parts[0], numbers, trapped);
+            let b = quick(&parts[1], numbers, trapped);
+            a.max(b)
+        }
+        Func::Abs => {
+            let a = quick(&parts[0], numbers, trapped);
+            kept(magnitude(at, a), trapped)
+        }
+        Func::Clamp => kept(call(func, parts, at, numbers), trapped),
     }
 }
 

@@ -12,8 +12,8 @@ use sot_box::{BoxN, Interval, Point};
 use sot_iv::Ranges;
 use sot_lang::Typed;
 
-// The box that holds one point alone.
-fn box_at(s: &Point) -> BoxN
+/// The box that holds one point alone.
+pub fn box_at(s: &Point) -> BoxN
     ensures { result ≡ point_box s.now }
 {
     let mut sides = Ranges::none();

@@ -13,7 +13,7 @@ mod walk;
 
 pub use accepted::Accepted;
 pub use facts::{line_is_certified, refusals_are_as_stated, tubes_are_as_stated};
-pub use keep::keeps;
+pub use keep::{box_at, keeps};
 pub use laws::{
     certified_is_well_formed, composed_by_scalars, covered_cells_never_trap, safer_points_are_kept,
     tubes_hold_the_reach, tubes_leave_in_one_way, verdicts_are_exact,

@@ -12,8 +12,8 @@ use crate::answers::Answers;
 use crate::mode::Mode;
 use sot_box::Point;
 
-// The mode of a module whose advanced node is trusted or not.
-fn mode_by(trusted: bool) -> Mode
+/// The mode of a module whose advanced node is trusted or not.
+pub fn mode_by(trusted: bool) -> Mode
     ensures { (result ≡ Ac) ↔ IsTrue trusted }
 {
     if trusted { Mode::Ac } else { Mode::Sc }

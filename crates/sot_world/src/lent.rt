@@ -1,4 +1,4 @@
-//! The numbers that a node reads, lent from a world.
+//! The numbers that a node reads, lent from where they stand.
 
 ghost use Rattle.std.specs.Prelude.{◌≡◌, map};
 ghost use Rattle.sot_lang.specs.Readings.{number_at};
@@ -20,9 +20,9 @@ fn number_in(slot: &Slot, scalars: &[i64], points: &[Point]) -> i64
     }
 }
 
-/// The numbers in a node's read slots, read where they stand.
+/// The numbers in a node's read slots, read where they stand: in these scalars and points.
 #[derive(Drop)]
-pub(crate) struct Lent<'w> {
+pub struct Lent<'w> {
     reads: &'w [Slot],
     scalars: &'w [i64],
     points: &'w [Point],
@@ -41,7 +41,7 @@ impl<'w> Model for Lent<'w> {
 }
 
 impl<'w> Lent<'w> {
-    pub(crate) fn of(reads: &'w [Slot], scalars: &'w [i64], points: &'w [Point]) -> Lent<'w>
+    pub fn of(reads: &'w [Slot], scalars: &'w [i64], points: &'w [Point]) -> Lent<'w>
         requires { AreThere scalars.now points.now reads.now }
         ensures { result ≡ map (number_at scalars.now points.now) reads.now }
     {

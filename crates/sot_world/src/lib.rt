@@ -28,12 +28,13 @@ mod tick;
 mod word;
 mod world;
 
+pub use decide::mode_by;
 pub use event::Event;
 pub use facts::{
     disabled_nodes_publish_nothing, line_decides, line_fires, line_is_safe, line_opens,
     line_switches, line_ticks, relay_takes_inputs, some_are_not_safe, twins_step,
 };
-pub use fire::publish_if;
+pub use fire::{first_slots, publish_if};
 pub use history::{Entry, History};
 pub use input::write;
 pub use laws::{
@@ -41,9 +42,12 @@ pub use laws::{
     runs_keep_the_invariant, something_can_happen, steps_are_unique, steps_keep_the_invariant,
     the_invariant_is_safe, without_jitter,
 };
+pub use lent::Lent;
 pub use looks::is_in_bounds;
 pub use mode::Mode;
 pub use open_fail::OpenFail;
 pub use outcome::{Firing, Outcome, Why};
-pub use starts::{initial_scalars, safe_modes};
+pub use starts::{
+    all_locals, decisions_left, first_outside, initial_scalars, nodes_left, safe_modes,
+};
 pub use world::World;
