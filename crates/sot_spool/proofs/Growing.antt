@@ -87,8 +87,8 @@ given_more a b bytes more gives none is_bytes held faults text (inr was) =
     inr (kept.2, cut_off_more a b held faults text more kept.0 kept.1 was.1)
 
 -- all was handed on, and taken
-pub all_arrives : (a b : Spooling) → Grows a b [] → b.waiting ≡ [] → b.is_well ≡ true → (held : Option (List ℕ)) (faults : ℕ) (text : List ℕ) → IsSpooled held faults a text
-    → Arrives held faults b text
+pub all_arrives : (a b : Spooling) → Grows a b [] → b.waiting ≡ [] → b.is_well ≡ true
+    → (held : Option (List ℕ)) (faults : ℕ) (text : List ℕ) → IsSpooled held faults a text → Arrives held faults b text
 all_arrives a b grows none well held faults text was = arrives (grows held faults text was) where
   arrives : IsSpooled held faults b (text ++ []) → Arrives held faults b text
   arrives (inl now) =

@@ -1,5 +1,6 @@
 -- Why what is put into a spool grows piece by piece.
-use Rattle.std.proofs.Common.{ℕ, List, [], ◌++◌, Option, refl, sym, ◌∙◌, subst, append_assoc, append-nil}
+use Rattle.std.proofs.Common.{ℕ, List, [], ◌++◌, Option, refl, sym, ◌∙◌, subst}
+use Rattle.std.proofs.Common.{append_assoc, append-nil}
 use Rattle.sot_spool.specs.declared.spool.Spool.{Spool}
 use Rattle.sot_spool.specs.Spools.{Spooling, IsSpooled, Grows}
 use Rattle.sot_spool.specs.SpoolViews.{spooling, Puts}
