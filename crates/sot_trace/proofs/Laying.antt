@@ -9,11 +9,6 @@ use Rattle.sot_world.specs.HistoryEntry.{Logged}
 use Rattle.sot_trace.specs.Lines.{line_of, header, start_lines, end_line, ticks_in, refused_in}
 use Rattle.sot_trace.specs.Traces.{text_of, trace_text}
 
--- what is written and what is left stay the same when the next piece is written
-pub piece_more : (before after piece left more whole : List ℕ) → after ≡ before ++ piece → left ≡ piece ++ more → before ++ left ≡ whole → after ++ more ≡ whole
-piece_more before after piece left more whole written next all =
-    ap (λ x. x ++ more) written ∙ append_assoc before piece more ∙ ap (λ x. before ++ x) (sym next) ∙ all
-
 -- the next line, and those behind it
 pub line_more : (p : Tables) (es : List Logged) (i : ℕ) (e : Logged) → At es i e
     → text_of (map (line_of p) (drop i es)) ≡ line_of p e ++ (10 ∷ text_of (map (line_of p) (drop (i + 1) es)))
@@ -28,22 +23,19 @@ text_of-append [] b = refl
 text_of-append (l ∷ a) b = ap (λ x. l ++ (10 ∷ x)) (text_of-append a b) ∙ sym (append_assoc l (10 ∷ text_of a) (text_of b))
 
 -- the first lines, the lines of the entries, and the last line
-pub whole_trace : (p : Tables) (start : List (List ℤ)) (entries : List Logged) (front middle all : List ℕ) (ticks events refused : ℕ)
-    → front ≡ header ++ (10 ∷ text_of (start_lines p.plants start)) → middle ≡ front ++ text_of (map (line_of p) entries)
-    → all ≡ middle ++ (end_line ticks events refused ++ (10 ∷ []))
-    → ticks ≡ sum_by ticks_in entries → events ≡ length entries → refused ≡ sum_by (refused_in p) entries → all ≡ trace_text p start entries
-whole_trace p start entries front middle all ticks events refused is_front is_middle is_all is_ticks is_events is_refused =
+pub whole_trace : (p : Tables) (start : List (List ℤ)) (entries : List Logged) (ticks events refused : ℕ)
+    → ticks ≡ sum_by ticks_in entries → events ≡ length entries → refused ≡ sum_by (refused_in p) entries
+    → ((header ++ (10 ∷ text_of (start_lines p.plants start))) ++ text_of (map (line_of p) entries)) ++ (end_line ticks events refused ++ (10 ∷ []))
+    ≡ trace_text p start entries
+whole_trace p start entries ticks events refused is_ticks is_events is_refused =
     let starts = start_lines p.plants start in
     let lines = map (line_of p) entries in
+    let front = header ++ (10 ∷ text_of starts) in
     let last = λ (t n r : ℕ). text_of (end_line t n r ∷ []) in
     let counted = ap (λ t. last t events refused) is_ticks ∙ ap (λ n. last (sum_by ticks_in entries) n refused) is_events
     ∙ ap (λ r. last (sum_by ticks_in entries) (length entries) r) is_refused in
-    let end = last (sum_by ticks_in entries) (length entries) (sum_by (refused_in p) entries) in
-    is_all
-    ∙ ap (λ x. middle ++ x) counted
-    ∙ ap (λ x. x ++ end) (is_middle ∙ ap (λ x. x ++ text_of lines) is_front)
-    ∙ append_assoc (header ++ (10 ∷ text_of starts)) (text_of lines) end
-    ∙ ap (λ x. header ++ (10 ∷ text_of starts) ++ x) (sym (text_of-append lines
-    (end_line (sum_by ticks_in entries) (length entries) (sum_by (refused_in p) entries) ∷ [])))
-    ∙ ap (λ x. header ++ (10 ∷ x)) (sym (text_of-append starts
-    (lines ++ (end_line (sum_by ticks_in entries) (length entries) (sum_by (refused_in p) entries) ∷ []))))
+    let end = end_line (sum_by ticks_in entries) (length entries) (sum_by (refused_in p) entries) in
+    ap (λ x. (front ++ text_of lines) ++ x) counted
+    ∙ append_assoc front (text_of lines) (text_of (end ∷ []))
+    ∙ ap (λ x. front ++ x) (sym (text_of-append lines (end ∷ [])))
+    ∙ ap (λ x. header ++ (10 ∷ x)) (sym (text_of-append starts (lines ++ (end ∷ []))))

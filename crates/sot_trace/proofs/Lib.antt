@@ -1,3 +1,4 @@
+pub mod Putting
 pub mod Laying
 pub mod Drafts
 pub mod Splits
@@ -14,3 +15,4 @@ pub mod DraftSlots
 pub mod FlownTold
 pub mod Histories
 pub mod Worked
+pub mod Moving

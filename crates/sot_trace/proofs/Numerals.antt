@@ -1,9 +1,7 @@
 -- What the code prints of a number is its text.
-use Rattle.std.proofs.Common.{◌≡◌, ℕ, zero, suc, ℤ, pos, negsuc, ◌+◌, ◌/◌, ◌%◌, ◌<◌, ◌≤◌, ◌^◌, List, [], ◌∷◌, ◌++◌, true, map, Result, Ok, Err, OnOk, refl, sym}
-use Rattle.std.proofs.Common.{ap, ap₂, ◌∙◌, arith, append_assoc}
+use Rattle.std.proofs.Common.{◌≡◌, ℕ, zero, suc, ℤ, pos, negsuc, ◌+◌, ◌/◌, ◌%◌, ◌<◌, ◌≤◌, ◌^◌, List, [], ◌∷◌, ◌++◌, true, map, refl, sym}
+use Rattle.std.proofs.Common.{ap, ap₂, ◌∙◌, arith}
 use Rattle.std.specs.Prelude.{int_le, nat_abs}
-use Rattle.std.specs.Bool.{if◌then◌else◌}
-use Rattle.std.specs.Result.{is_ok}
 use Rattle.std.specs.Fmt.{decimal, signed_decimal}
 use Rattle.std.specs.Int.Digits.{digits_of}
 use Rattle.std.specs.Int.Signed.{mag}
@@ -52,22 +50,3 @@ decimal_is = decimal_by_steps_wide (λ n text. text ≡ numeral n) one_digit las
 pub signed_decimal_is : (z : ℤ) → mag z < 2 ^ 63 → signed_decimal z ≡ signed_numeral z
 signed_decimal_is (pos n) small = decimal_is n (omega arith)
 signed_decimal_is (negsuc n) small = ap (λ x. 45 ∷ x) (decimal_is (suc n) (omega arith))
-
--- what was put is its text by either word
-pub put_so : {A E : Type 0} (r : Result A E) (new old text other : List ℕ) → new ≡ (if is_ok r then old ++ text else old) → text ≡ other
-    → OnOk r (new ≡ old ++ other)
-put_so (Ok x) new old text other is same = is ∙ ap (λ t. old ++ t) same
-put_so (Err e) new old text other is same = tt
-
--- what is put behind what was put
-pub put_same : {A E : Type 0} (r : Result A E) (new old text other : List ℕ) → OnOk r (new ≡ old ++ text) → text ≡ other → OnOk r (new ≡ old ++ other)
-put_same (Ok x) new old text other is same = is ∙ ap (λ t. old ++ t) same
-put_same (Err e) new old text other is same = tt
-
--- the front of a number was put, and its last digit behind it
-pub put_last : {A E : Type 0} (r : Result A E) (new mid old front : List ℕ) (n : ℕ) → 10 ≤ n → OnOk r (new ≡ mid ++ ((48 + n % 10) ∷ [])) → mid ≡ old ++ front
-    → front ≡ numeral (n / 10)
-    → OnOk r (new ≡ old ++ numeral n)
-put_last (Ok x) new mid old front n large is was front_is =
-    is ∙ ap (λ t. t ++ ((48 + n % 10) ∷ [])) was ∙ append_assoc old front ((48 + n % 10) ∷ []) ∙ ap (λ t. old ++ t) (last_digit n front large front_is)
-put_last (Err e) new mid old front n large is was front_is = tt

@@ -1,7 +1,6 @@
 //! Drafts in the line of a firing.
 
-ghost use Rattle.std.specs.Prelude.{◌≡◌, ℕ, ◌+◌, ◌<◌, ◌≤◌, ◌++◌, length, codes, OnOk, IfOk};
-ghost use Rattle.std.specs.String.{string_bytes};
+ghost use Rattle.std.specs.Prelude.{◌≡◌, ℕ, ◌+◌, ◌<◌, ◌≤◌, ◌++◌, length, codes};
 ghost use Rattle.sot_lists.specs.Places.{At};
 ghost use Rattle.sot_trace.specs.Names.{scalar_name};
 ghost use Rattle.sot_trace.specs.Numbers.{signed_numeral};
@@ -11,7 +10,7 @@ ghost use Rattle.sot_trace.specs.Drafts.{draft_refused};
 use crate::name::put_scalar_name;
 use crate::number::put_number;
 use sot_lang::{Draft, Typed};
-use std::alloc::AllocError;
+use sot_spool::Out;
 
 /// Whether a number is in the range of a scalar.
 pub fn is_in_range(p: &Typed, scalar: usize, number: i64) -> bool
@@ -22,60 +21,57 @@ pub fn is_in_range(p: &Typed, scalar: usize, number: i64) -> bool
     info.lo <= number && number <= info.hi
 }
 
-fn put_drafted(
-    out: &mut String,
-    p: &Typed,
-    scalar: usize,
-    number: i64,
-    in_range: bool,
-) -> Result<(), AllocError>
+// Whether a number is in its range.
+fn put_mark<O: Out>(out: &mut O, in_range: bool)
+    ensures { O.puts out.old out.new (mark in_range) }
+{
+    if in_range {
+        out.put_byte(b'=')
+    } else {
+        out.put_byte(b'!')
+    }
+}
+
+fn put_drafted<O: Out>(out: &mut O, p: &Typed, scalar: usize, number: i64, in_range: bool)
     requires { scalar < length p.now.scalars }
-    ensures { OnOk result (string_bytes out.new
-        ≡ string_bytes out.old ++ (codes " "
+    ensures { O.puts out.old out.new ((codes " "
         ++ (scalar_name p.now scalar ++ (mark in_range ++ signed_numeral number)))) }
 {
-    out.push(' ')?;
-    put_scalar_name(out, p, scalar)?;
-    out.push(if in_range { '=' } else { '!' })?;
+    out.put_byte(b' ');
+    put_scalar_name(out, p, scalar);
+    put_mark(out, in_range);
     put_number(out, number)
 }
 
 // One slot of a draft, and 1 for a number outside its scalar's range.
-fn put_slot(out: &mut String, p: &Typed, scalar: usize, slot: Option<i64>) -> Result<u8, AllocError>
+fn put_slot<O: Out>(out: &mut O, p: &Typed, scalar: usize, slot: Option<i64>) -> u8
     requires { scalar < length p.now.scalars }
-    ensures text { OnOk result (string_bytes out.new
-        ≡ string_bytes out.old ++ slot_text p.now scalar slot) }
-    ensures refused { IfOk result (λ refused. refused ≡ slot_refused p.now scalar slot) }
-    ensures few { IfOk result (λ refused. refused ≤ 1) }
+    ensures text { O.puts out.old out.new (slot_text p.now scalar slot) }
+    ensures refused { result ≡ slot_refused p.now scalar slot }
+    ensures few { result ≤ 1 }
 {
     let Some(number) = slot else {
-        return Ok(0);
+        return 0;
     };
     let in_range = is_in_range(p, scalar, number);
-    put_drafted(out, p, scalar, number, in_range)?;
-    Ok(if in_range { 0 } else { 1 })
+    put_drafted(out, p, scalar, number, in_range);
+    if in_range { 0 } else { 1 }
 }
 
 /// The numbers of a draft, each behind its scalar's name, and how many of them are outside their
 /// scalars' ranges.
-pub fn put_draft(
-    out: &mut String,
-    p: &Typed,
-    writes: &[u32],
-    draft: &Draft,
-) -> Result<u8, AllocError>
+pub fn put_draft<O: Out>(out: &mut O, p: &Typed, writes: &[u32], draft: &Draft) -> u8
     requires few { length writes.now ≤ 8 }
     requires written { (i k : ℕ) → At writes.now i k → k < length p.now.scalars }
-    ensures text { OnOk result (string_bytes out.new
-        ≡ string_bytes out.old ++ draft_text p.now writes.now draft.now) }
-    ensures refused { IfOk result (λ refused. refused ≡ draft_refused p.now writes.now draft.now) }
-    ensures few { IfOk result (λ refused. refused ≤ 8) }
+    ensures text { O.puts out.old out.new (draft_text p.now writes.now draft.now) }
+    ensures refused { result ≡ draft_refused p.now writes.now draft.now }
+    ensures few { result ≤ 8 }
 {
     let mut refused = 0;
     for i in 0..writes.len() {
-        refused += put_slot(out, p, writes[i] as usize, draft.get(i))?;
+        refused += put_slot(out, p, writes[i] as usize, draft.get(i));
     }
-    Ok(refused)
+    refused
 }
 
 // 1 for a number outside its scalar's range.

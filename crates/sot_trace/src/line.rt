@@ -1,7 +1,6 @@
 //! The line of an entry.
 
-ghost use Rattle.std.specs.Prelude.{◌≡◌, ℕ, ◌<◌, ◌≤◌, ◌++◌, length, OnOk, IfOk};
-ghost use Rattle.std.specs.String.{string_bytes};
+ghost use Rattle.std.specs.Prelude.{◌≡◌, ℕ, ◌<◌, ◌≤◌, ◌++◌, length};
 ghost use Rattle.sot_lists.specs.Places.{At};
 ghost use Rattle.sot_world.specs.Histories.{entry_of};
 ghost use Rattle.sot_world.specs.HistoryEntry.{InputAt, FireAt, DecideAt, TickAt};
@@ -14,34 +13,28 @@ use crate::moves::put_moves;
 use crate::name::{put_module, put_node, put_topic};
 use crate::number::{put_numbers, put_time};
 use sot_lang::{Draft, Typed};
+use sot_spool::Out;
 use sot_world::{Entry, Mode};
-use std::alloc::AllocError;
 
-fn put_input(
-    out: &mut String,
-    p: &Typed,
-    time: u32,
-    topic: u32,
-    value: &[i64],
-) -> Result<(), AllocError>
-    ensures { OnOk result (string_bytes out.new
-        ≡ string_bytes out.old ++ line_of p.now (InputAt time topic value.now)) }
+/// The line of an input without its line end: its time, its topic, and a number for each scalar.
+pub fn put_input<O: Out>(out: &mut O, p: &Typed, time: u32, topic: u32, value: &[i64])
+    ensures { O.puts out.old out.new (line_of p.now (InputAt time topic value.now)) }
 {
-    put_time(out, time)?;
-    out.push_str(" input ")?;
-    put_topic(out, p, topic)?;
-    out.push('=')?;
+    put_time(out, time);
+    out.put(" input ");
+    put_topic(out, p, topic);
+    out.put_byte(b'=');
     put_numbers(out, value)
 }
 
 // Each word is put by itself, so that its length is known where it is put.
-fn put_firing_word(out: &mut String, enabled: bool) -> Result<(), AllocError>
-    ensures { OnOk result (string_bytes out.new ≡ string_bytes out.old ++ firing_word enabled) }
+fn put_firing_word<O: Out>(out: &mut O, enabled: bool)
+    ensures { O.puts out.old out.new (firing_word enabled) }
 {
     if enabled {
-        out.push_str(" fire ")
+        out.put(" fire ")
     } else {
-        out.push_str(" idle ")
+        out.put(" idle ")
     }
 }
 
@@ -55,82 +48,67 @@ pub fn writes_of(p: &Typed, node: u32) -> &[u32]
     &p.nodes[node as usize].writes
 }
 
-// The line of a firing, and how many of its numbers are outside their ranges.
-fn put_firing(
-    out: &mut String,
+/// The line of a firing without its line end, and how many of its numbers are outside their ranges.
+pub fn put_firing<O: Out>(
+    out: &mut O,
     p: &Typed,
     time: u32,
     node: u32,
     draft: &Draft,
     enabled: bool,
-) -> Result<u8, AllocError>
+) -> u8
     requires { node < length p.now.nodes }
-    ensures text { OnOk result (string_bytes out.new
-        ≡ string_bytes out.old ++ line_of p.now (FireAt time node draft.now enabled)) }
-    ensures refused { IfOk result (λ refused. refused
-        ≡ refused_in p.now (FireAt time node draft.now enabled)) }
-    ensures few { IfOk result (λ refused. refused ≤ 8) }
+    ensures text { O.puts out.old out.new (line_of p.now (FireAt time node draft.now enabled)) }
+    ensures refused { result ≡ refused_in p.now (FireAt time node draft.now enabled) }
+    ensures few { result ≤ 8 }
 {
-    put_time(out, time)?;
-    put_firing_word(out, enabled)?;
-    put_node(out, p, node)?;
+    put_time(out, time);
+    put_firing_word(out, enabled);
+    put_node(out, p, node);
     put_draft(out, p, writes_of(p, node), draft)
 }
 
-fn put_mode(out: &mut String, mode: Mode) -> Result<(), AllocError>
-    ensures { OnOk result (string_bytes out.new ≡ string_bytes out.old ++ mode_word mode) }
+fn put_mode<O: Out>(out: &mut O, mode: Mode)
+    ensures { O.puts out.old out.new (mode_word mode) }
 {
     match mode {
-        Mode::Ac => out.push_str(" ac"),
-        Mode::Sc => out.push_str(" sc"),
+        Mode::Ac => out.put(" ac"),
+        Mode::Sc => out.put(" sc"),
     }
 }
 
-fn put_decision(
-    out: &mut String,
-    p: &Typed,
-    time: u32,
-    decider: u32,
-    mode: Mode,
-) -> Result<(), AllocError>
-    ensures { OnOk result (string_bytes out.new
-        ≡ string_bytes out.old ++ line_of p.now (DecideAt time decider mode)) }
+/// The line of a decision without its line end: its time, its module, and the mode after it.
+pub fn put_decision<O: Out>(out: &mut O, p: &Typed, time: u32, decider: u32, mode: Mode)
+    ensures { O.puts out.old out.new (line_of p.now (DecideAt time decider mode)) }
 {
-    put_time(out, time)?;
-    out.push_str(" decide ")?;
-    put_module(out, p, decider)?;
+    put_time(out, time);
+    out.put(" decide ");
+    put_module(out, p, decider);
     put_mode(out, mode)
 }
 
-fn put_tick(
-    out: &mut String,
-    p: &Typed,
-    time: u32,
-    noise: &[i64],
-    states: &[i64],
-) -> Result<(), AllocError>
+/// The line of a tick without its line end: its time, and all plants' disturbances and states.
+pub fn put_tick<O: Out>(out: &mut O, p: &Typed, time: u32, noise: &[i64], states: &[i64])
     requires { FitsEntry p.now (TickAt time noise.now states.now) }
-    ensures { OnOk result (string_bytes out.new
-        ≡ string_bytes out.old ++ line_of p.now (TickAt time noise.now states.now)) }
+    ensures { O.puts out.old out.new (line_of p.now (TickAt time noise.now states.now)) }
 {
-    put_time(out, time)?;
-    out.push_str(" tick")?;
+    put_time(out, time);
+    out.put(" tick");
     put_moves(out, &p.plants, noise, states)
 }
 
 /// The line of an entry without its line end, and how many of its numbers are outside their ranges.
-pub fn put_line(out: &mut String, p: &Typed, entry: &Entry<'_>) -> Result<u8, AllocError>
+pub fn put_entry<O: Out>(out: &mut O, p: &Typed, entry: &Entry<'_>) -> u8
     requires { FitsEntry p.now (entry_of entry.now) }
-    ensures text { OnOk result (string_bytes out.new
-        ≡ string_bytes out.old ++ line_of p.now (entry_of entry.now)) }
-    ensures refused { IfOk result (λ refused. refused ≡ refused_in p.now (entry_of entry.now)) }
-    ensures few { IfOk result (λ refused. refused ≤ 8) }
+    ensures text { O.puts out.old out.new (line_of p.now (entry_of entry.now)) }
+    ensures refused { result ≡ refused_in p.now (entry_of entry.now) }
+    ensures few { result ≤ 8 }
 {
     // By reference: a draft is large, and mostly fresh.
     match entry {
         Entry::Input { time, topic, value } => {
-            put_input(out, p, *time, *topic, value)?;
-            Ok(0)
+            put_input(out, p, *time, *topic, value);
+            0
         }
         Entry::Fire {
             time,
@@ -139,16 +117,16 @@ pub fn put_line(out: &mut String, p: &Typed, entry: &Entry<'_>) -> Result<u8, Al
             enabled,
         } => put_firing(out, p, *time, *node, draft, *enabled),
         Entry::Decide { time, module, mode } => {
-            put_decision(out, p, *time, *module, *mode)?;
-            Ok(0)
+            put_decision(out, p, *time, *module, *mode);
+            0
         }
         Entry::Tick {
             time,
             noise,
             states,
         } => {
-            put_tick(out, p, *time, noise, states)?;
-            Ok(0)
+            put_tick(out, p, *time, noise, states);
+            0
         }
     }
 }

@@ -1,48 +1,46 @@
 //! Numbers, each put behind what stands there already.
 
-ghost use Rattle.std.specs.Prelude.{◌≡◌, ◌+◌, ◌<◌, ◌≤◌, ◌∷◌, ◌++◌, [], ℕ, pos, negsuc, OnOk};
-ghost use Rattle.std.specs.Prelude.{IfSome, IfNone};
-ghost use Rattle.std.specs.String.{string_bytes};
+ghost use Rattle.std.specs.Prelude.{◌≡◌, ◌+◌, ◌<◌, ◌≤◌, ◌∷◌, [], ℕ, pos, negsuc, IfSome, IfNone};
 ghost use Rattle.sot_trace.specs.Numbers.{numeral, signed_numeral, further, numbers};
 
 use itoa::Buffer;
-use std::alloc::AllocError;
+use sot_spool::Out;
 
 // A digit, by its value.
 #[inline(always)]
-fn put_digit(out: &mut String, value: u32) -> Result<(), AllocError>
+fn put_digit<O: Out>(out: &mut O, value: u32)
     requires { value < 10 }
-    ensures { OnOk result (string_bytes out.new ≡ string_bytes out.old ++ (48 + value) ∷ []) }
+    ensures { O.puts out.old out.new ((48 + value) ∷ []) }
 {
-    out.push(char::from(b'0' + value as u8))
+    out.put_byte(b'0' + value as u8);
 }
 
 #[inline(always)]
-fn put_two(out: &mut String, number: u32) -> Result<(), AllocError>
+fn put_two<O: Out>(out: &mut O, number: u32)
     requires low { 10 ≤ number }
     requires high { number < 100 }
-    ensures { OnOk result (string_bytes out.new ≡ string_bytes out.old ++ numeral number) }
+    ensures { O.puts out.old out.new (numeral number) }
 {
-    put_digit(out, number / 10)?;
-    put_digit(out, number % 10)
+    put_digit(out, number / 10);
+    put_digit(out, number % 10);
 }
 
 #[inline(always)]
-fn put_three(out: &mut String, number: u32) -> Result<(), AllocError>
+fn put_three<O: Out>(out: &mut O, number: u32)
     requires low { 100 ≤ number }
     requires high { number < 1000 }
-    ensures { OnOk result (string_bytes out.new ≡ string_bytes out.old ++ numeral number) }
+    ensures { O.puts out.old out.new (numeral number) }
 {
-    put_two(out, number / 10)?;
-    put_digit(out, number % 10)
+    put_two(out, number / 10);
+    put_digit(out, number % 10);
 }
 
 // A number of up to three digits, digit by digit: what is written digit by digit and then copied at
 // once is waited for.
 #[inline(always)]
-fn put_short(out: &mut String, number: u32) -> Result<(), AllocError>
+fn put_short<O: Out>(out: &mut O, number: u32)
     requires { number < 1000 }
-    ensures { OnOk result (string_bytes out.new ≡ string_bytes out.old ++ numeral number) }
+    ensures { O.puts out.old out.new (numeral number) }
 {
     if number < 10 {
         put_digit(out, number)
@@ -54,20 +52,20 @@ fn put_short(out: &mut String, number: u32) -> Result<(), AllocError>
 }
 
 /// A time or a place in decimal.
-pub fn put_time(out: &mut String, time: u32) -> Result<(), AllocError>
-    ensures { OnOk result (string_bytes out.new ≡ string_bytes out.old ++ numeral time) }
+pub fn put_time<O: Out>(out: &mut O, time: u32)
+    ensures { O.puts out.old out.new (numeral time) }
 {
     if time < 1000 {
         return put_short(out, time);
     }
-    out.push_str(Buffer::new().format(time))
+    out.put(Buffer::new().format(time))
 }
 
 /// A count in decimal.
-pub fn put_count(out: &mut String, count: u128) -> Result<(), AllocError>
-    ensures { OnOk result (string_bytes out.new ≡ string_bytes out.old ++ numeral count) }
+pub fn put_count<O: Out>(out: &mut O, count: u128)
+    ensures { O.puts out.old out.new (numeral count) }
 {
-    out.push_str(Buffer::new().format(count))
+    out.put(Buffer::new().format(count))
 }
 
 /// The digit of a number from 0 to 9, as most numbers are.
@@ -97,23 +95,23 @@ pub fn digit_below(number: i64) -> Option<u8>
 }
 
 // A number that is neither a digit nor one behind a `-`.
-fn put_much(out: &mut String, number: i64) -> Result<(), AllocError>
-    ensures { OnOk result (string_bytes out.new ≡ string_bytes out.old ++ signed_numeral number) }
+fn put_much<O: Out>(out: &mut O, number: i64)
+    ensures { O.puts out.old out.new (signed_numeral number) }
 {
     if 0 <= number && number < 1000 {
         return put_short(out, number as u32);
     }
-    out.push_str(Buffer::new().format(number))
+    out.put(Buffer::new().format(number))
 }
 
 // A number that is not one digit alone.
-fn put_longer(out: &mut String, number: i64) -> Result<(), AllocError>
-    ensures { OnOk result (string_bytes out.new ≡ string_bytes out.old ++ signed_numeral number) }
+fn put_longer<O: Out>(out: &mut O, number: i64)
+    ensures { O.puts out.old out.new (signed_numeral number) }
 {
     match digit_below(number) {
         Some(digit) => {
-            out.push('-')?;
-            out.push(char::from(digit))
+            out.put_byte(b'-');
+            out.put_byte(digit)
         }
         None => put_much(out, number),
     }
@@ -122,33 +120,32 @@ fn put_longer(out: &mut String, number: i64) -> Result<(), AllocError>
 /// A number in decimal, behind a `-` where it is below 0. It is inlined, since most numbers have
 /// one digit.
 #[inline(always)]
-pub fn put_number(out: &mut String, number: i64) -> Result<(), AllocError>
-    ensures { OnOk result (string_bytes out.new ≡ string_bytes out.old ++ signed_numeral number) }
+pub fn put_number<O: Out>(out: &mut O, number: i64)
+    ensures { O.puts out.old out.new (signed_numeral number) }
 {
     match digit(number) {
-        Some(digit) => out.push(char::from(digit)),
+        Some(digit) => out.put_byte(digit),
         None => put_longer(out, number),
     }
 }
 
 // A comma before each number.
-fn put_further(out: &mut String, more: &[i64]) -> Result<(), AllocError>
-    ensures { OnOk result (string_bytes out.new ≡ string_bytes out.old ++ further more.now) }
+fn put_further<O: Out>(out: &mut O, more: &[i64])
+    ensures { O.puts out.old out.new (further more.now) }
 {
     for number in more {
-        out.push(',')?;
-        put_number(out, *number)?;
+        out.put_byte(b',');
+        put_number(out, *number);
     }
-    Ok(())
 }
 
 /// Numbers with a comma between two.
-pub fn put_numbers(out: &mut String, all: &[i64]) -> Result<(), AllocError>
-    ensures { OnOk result (string_bytes out.new ≡ string_bytes out.old ++ numbers all.now) }
+pub fn put_numbers<O: Out>(out: &mut O, all: &[i64])
+    ensures { O.puts out.old out.new (numbers all.now) }
 {
     if all.is_empty() {
-        return Ok(());
+        return;
     }
-    put_number(out, all[0])?;
-    put_further(out, &all[1..])
+    put_number(out, all[0]);
+    put_further(out, &all[1..]);
 }

@@ -1,8 +1,9 @@
-use Rattle.std.proofs.Common.{◌≡◌, ◌++◌, drop}
-use Rattle.std.specs.String.{string_bytes}
+use Rattle.std.proofs.Common.{drop}
 use Rattle.sot_trace.specs.Numbers.{further}
 use Rattle.sot_trace.proofs.number.put_further.Given as goal
 
--- what is written, and then what is left
+-- what puts the rest puts the whole
 abbrev pub invariant-loop-number : goal.invariant-loop-number
-invariant-loop-number l = string_bytes l.out ++ further (drop l.number-index l.more) ≡ string_bytes l.initial.out ++ further l.more
+invariant-loop-number g l =
+    let puts = g.O.Out.puts in
+    (y : _) → puts l.out y (further (drop l.number-index l.more)) → puts l.initial.out y (further l.more)

@@ -1,14 +1,11 @@
-use Rattle.std.proofs.Common.{◌∙◌, ◌++◌, ap, append_assoc, codes}
-use Rattle.std.specs.String.{string_bytes}
+use Rattle.std.proofs.Common.{◌∙◌, ap}
 use Rattle.sot_trace.specs.Lines.{start_lines}
 use Rattle.sot_trace.specs.Traces.{text_of}
+use Rattle.sot_trace.proofs.Putting.{put_so}
 use Rattle.sot_trace.proofs.start.put_front.Goals as goal
 
 pub returns : goal.returns
-returns c =
+returns g c =
     let plants = c.deref.ensures.value ∙ ap (λ t. t.plants) c.p.view_is in
-    let starts = text_of (start_lines c.args.p.now.plants c.args.start.now) in
-    c.in_ok-put_starts.ensures
-    ∙ ap (λ ks. string_bytes c.push_str.new.self ++ text_of (start_lines ks c.args.start.now)) plants
-    ∙ ap (λ x. x ++ starts) c.in_ok-push_str.ensures.bytes
-    ∙ append_assoc (string_bytes c.args.out.now) (codes "soter trace 1\n") starts
+    let starts = put_so g.O.Out.puts _ _ _ _ c.put_starts.ensures (ap (λ ks. text_of (start_lines ks c.args.start.now)) plants) in
+    g.met.O.Out.more _ _ _ _ _ c.put.ensures starts

@@ -1,10 +1,10 @@
-use Rattle.std.proofs.Common.{◌≡◌, ◌++◌, drop}
-use Rattle.std.specs.String.{string_bytes}
+use Rattle.std.proofs.Common.{drop}
 use Rattle.sot_trace.specs.Lines.{start_lines}
 use Rattle.sot_trace.specs.Traces.{text_of}
 use Rattle.sot_trace.proofs.start.put_starts.Given as goal
 
--- what is written, and then what is left
+-- what puts the rest puts the whole
 abbrev pub invariant-loop-i : goal.invariant-loop-i
-invariant-loop-i l =
-    string_bytes l.out ++ text_of (start_lines (drop l.i l.plants) (drop l.i l.start)) ≡ string_bytes l.initial.out ++ text_of (start_lines l.plants l.start)
+invariant-loop-i g l =
+    let puts = g.O.Out.puts in
+    (y : _) → puts l.out y (text_of (start_lines (drop l.i l.plants) (drop l.i l.start))) → puts l.initial.out y (text_of (start_lines l.plants l.start))

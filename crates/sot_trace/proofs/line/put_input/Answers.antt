@@ -1,0 +1,7 @@
+use Rattle.sot_trace.proofs.line.put_input.Goals as goal
+
+pub returns : goal.returns
+returns g c =
+    let more = g.met.O.Out.more in
+    more _ _ _ _ _ c.put_time.ensures (more _ _ _ _ _ c.put.ensures (more _ _ _ _ _ c.put_topic.ensures
+    (more _ _ _ _ _ c.put_byte.ensures c.put_numbers.ensures)))
