@@ -8,7 +8,6 @@ use Rattle.sot_trace_lines.specs.Spelled.{Spelled, InputLine, FireLine, DecideLi
 use Rattle.sot_trace_lines.specs.Spelled.{EndLine}
 use Rattle.sot_trace_lines.specs.Pieces.{◌>>=◌, behind, at_end, row_at}
 use Rattle.sot_trace_lines.specs.Readers.{word_at, place_of, input_at, fire_at, move_front}
-use Rattle.sot_trace_lines.specs.Kept.{Kept}
 use Rattle.sot_robot_lines.specs.declared.said.Said.{Said}
 use Rattle.sot_robot_lines.specs.Sayings.{Saying, StartSaid, InputSaid, DraftSaid, GoSaid, TickSaid}
 use Rattle.sot_robot_lines.specs.Shown.{ShowsSaid}

@@ -6,7 +6,9 @@ ghost use Rattle.sot_lang.specs.declared.tables.PlantInfo.{PlantInfo as Plant};
 ghost use Rattle.sot_robot_lines.specs.Shown.{AnswersSaid};
 ghost use Rattle.sot_robot_lines.specs.Readers.{start_of, start_said_at, input_said_at};
 ghost use Rattle.sot_robot_lines.specs.Readers.{draft_said_at, tick_said_at, go_said_at, said_at};
-ghost use Rattle.sot_robot_lines.specs.Readers.{ShowsReadSaid};
+ghost use Rattle.sot_robot_lines.specs.Readers.{said_input, said_draft, ShowsReadSaid};
+ghost use Rattle.sot_trace_lines.specs.Spelled.{Spelled};
+ghost use Rattle.sot_trace_lines.specs.Shown.{Shows};
 
 use crate::place::{places_at, plant_named, point_at};
 use crate::said::Said;
@@ -52,6 +54,20 @@ fn read_start(p: &Typed, text: &[u8], numbers: &mut Vec<i64>) -> Result<Option<S
     read_point(k, &p.plants[k as usize], rest, numbers)
 }
 
+// An input, as a line of a trace shows it.
+fn input_of(line: Line) -> Option<Said>
+    ensures { (list : List ℤ) (s : Spelled) → Shows line list s
+        → ShowsReadSaid list result (said_input s) }
+{
+    match line {
+        Line::Input { topic, whole, .. } => Some(Said::Input { topic, whole }),
+        Line::Fire { .. } => None,
+        Line::Decide { .. } => None,
+        Line::Tick { .. } => None,
+        Line::End { .. } => None,
+    }
+}
+
 fn read_value(p: &Typed, text: &[u8], numbers: &mut Vec<i64>) -> Result<Option<Said>, AllocError>
     requires { numbers.old.items ≡ [] }
     ensures { IfOk result (λ l.
@@ -59,8 +75,22 @@ fn read_value(p: &Typed, text: &[u8], numbers: &mut Vec<i64>) -> Result<Option<S
 {
     let mut from = 0;
     match read_input(p, Some(0), text, &mut from, numbers)? {
-        Some(Line::Input { topic, whole, .. }) => Ok(Some(Said::Input { topic, whole })),
-        _ => Ok(None),
+        Some(line) => Ok(input_of(line)),
+        None => Ok(None),
+    }
+}
+
+// The draft of a firing, as a line of a trace shows it.
+fn draft_of(line: Line) -> Option<Said>
+    ensures { (list : List ℤ) (s : Spelled) → Shows line list s
+        → ShowsReadSaid list result (said_draft s) }
+{
+    match line {
+        Line::Input { .. } => None,
+        Line::Fire { node, draft, .. } => Some(Said::Draft { node, draft }),
+        Line::Decide { .. } => None,
+        Line::Tick { .. } => None,
+        Line::End { .. } => None,
     }
 }
 
@@ -69,8 +99,8 @@ fn read_draft(p: &Typed, text: &[u8]) -> Option<Said>
 {
     let mut from = 0;
     match read_fire(p, Some(0), text, &mut from) {
-        Some(Line::Fire { node, draft, .. }) => Some(Said::Draft { node, draft }),
-        _ => None,
+        Some(line) => draft_of(line),
+        None => None,
     }
 }
 

@@ -1,5 +1,5 @@
 -- A line is read as what it says, and what it says is read.
-use Rattle.std.proofs.Common.{◌≡◌, ◌⊎◌, ℕ, ℤ, ◌+◌, ◌<◌, Bool, true, false, List, [], ◌∷◌, ◌++◌, Option, Some, None, length, take, drop, codes, inl, inr, refl, sym}
+use Rattle.std.proofs.Common.{◌≡◌, ℕ, ℤ, ◌+◌, Bool, true, false, List, [], ◌∷◌, ◌++◌, Option, Some, None, length, drop, codes, refl, sym}
 use Rattle.std.proofs.Common.{ap, ap₂, subst, ◌∙◌, arith, map, get_or, take-append-drop}
 use Rattle.std.specs.Prelude.{slice_get}
 use Rattle.std.specs.Option.{option_map_or}
@@ -17,12 +17,12 @@ use Rattle.sot_lang.specs.Names.{topic_name, node_name}
 use Rattle.sot_trace.specs.Numbers.{numeral, numbers}
 use Rattle.sot_trace.specs.Lines.{writes_of, firing_word}
 use Rattle.sot_trace.specs.Words.{AreWords}
-use Rattle.sot_trace.proofs.Splits.{AllIn, Stops, cut_same}
+use Rattle.sot_trace.proofs.Splits.{Stops, cut_same}
 use Rattle.sot_trace.proofs.NumberTexts.{numeral_digits}
 use Rattle.sot_trace.proofs.NameTexts.{word_in}
 use Rattle.sot_trace_lines.specs.Spelled.{Spelled, InputLine, FireLine, DecideLine, TickLine, EndLine, IsSpelled, marks_text, spelled_text}
 use Rattle.sot_trace_lines.specs.Pieces.{◌>>=◌, behind, at_end}
-use Rattle.sot_trace_lines.specs.Readers.{word_at, place_of, input_at, fire_at, spelled_at}
+use Rattle.sot_trace_lines.specs.Readers.{word_at, place_of, input_at, fire_at}
 use Rattle.sot_trace_lines.proofs.Pieces.{both, then_next, is_ended, in_front}
 use Rattle.sot_trace_lines.proofs.Places.{found, found_at}
 use Rattle.sot_trace_lines.proofs.SoundLines.{spelled_from}
