@@ -7,7 +7,7 @@ use Rattle.sot_trace_lines.specs.Readers.{move_at, moves_at}
 use Rattle.sot_trace_lines.specs.Kept.{bounded, Kept, put_one, put_all, kept_noise}
 use Rattle.sot_trace_lines.proofs.Pieces.{parts_same}
 
-put_both : (kept : Kept) (a b : List ℤ) → put_all kept (a ++ b) ≡ put_all (put_all kept a) b
+pub put_both : (kept : Kept) (a b : List ℤ) → put_all kept (a ++ b) ≡ put_all (put_all kept a) b
 put_both kept [] b = refl
 put_both kept (z ∷ a) b = put_both (put_one kept (bounded z)) a b
 

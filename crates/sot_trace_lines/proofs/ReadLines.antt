@@ -43,7 +43,7 @@ use Rattle.sot_trace_lines.proofs.ReadMoves.{read_moves}
 use Rattle.sot_trace_lines.proofs.Slots.{read_slots, marks_stop}
 
 -- a name before what is no part of a word
-word_is : (name rest : List ℕ) → AllIn is_in_word name → Stops is_in_word rest → ((word_at (name ++ rest)).0 ≡ name) × ((word_at (name ++ rest)).1 ≡ rest)
+pub word_is : (name rest : List ℕ) → AllIn is_in_word name → Stops is_in_word rest → ((word_at (name ++ rest)).0 ≡ name) × ((word_at (name ++ rest)).1 ≡ rest)
 word_is name rest all stops =
     let len = front_is is_in_word name rest all stops in
     (ap (λ k. take k (name ++ rest)) len ∙ take-append_seam name rest, ap (λ k. drop k (name ++ rest)) len ∙ drop-append_seam name rest)

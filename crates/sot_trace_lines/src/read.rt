@@ -50,7 +50,8 @@ fn read_value(
     }))
 }
 
-fn read_input(
+/// An input at this time, of what stands behind the words `T input`.
+pub fn read_input(
     p: &Typed,
     time: Option<i64>,
     text: &[u8],
@@ -74,8 +75,8 @@ fn drafted(slots: &Slots<'_>) -> Option<Draft>
     if slots.whole { Some(slots.draft) } else { None }
 }
 
-// A firing, enabled or not.
-fn read_fire(p: &Typed, time: Option<i64>, text: &[u8], from: &mut usize) -> Option<Line>
+/// A firing at this time, enabled or not, of what stands behind its word.
+pub fn read_fire(p: &Typed, time: Option<i64>, text: &[u8], from: &mut usize) -> Option<Line>
     ensures { (t : ℕ) (enabled : _) (list : List ℤ) → time ≡ bounded (pos t)
         → ShowsRead list result (fire_at p.now enabled t text.now) }
 {

@@ -1,0 +1,2 @@
+-- line ends in bytes that come piece by piece
+pub mod Ends

@@ -1,0 +1,2 @@
+-- bytes that wait, and what is waited for
+pub mod Waiting

@@ -1,0 +1,19 @@
+use Rattle.std.proofs.Common.{refl, subst}
+use Rattle.sot_trace_lines.specs.Kept.{ShowsRead}
+use Rattle.sot_trace_lines.specs.Readers.{input_at}
+use Rattle.sot_robot_lines.specs.Readers.{said_input}
+use Rattle.sot_robot_lines.proofs.ShownSaid.{taken_on, none_taken}
+use Rattle.sot_robot_lines.proofs.read.read_value.Goals as goal
+
+pub returns-in-Some : goal.returns-in-Some
+returns-in-Some c =
+    let list = c.read_input.new.numbers.items in
+    let o = input_at c.args.p.now 0 c.args.text.now in
+    taken_on said_input list c.in-Some.line c.input_of.result o (subst (λ l. ShowsRead list l o) c.in-Some.is (c.in_ok-line.ensures 0 refl))
+    (λ s shows. c.input_of.ensures list s shows)
+
+pub returns-in-None : goal.returns-in-None
+returns-in-None c =
+    let list = c.read_input.new.numbers.items in
+    let o = input_at c.args.p.now 0 c.args.text.now in
+    none_taken said_input list o (subst (λ l. ShowsRead list l o) c.in-None.is (c.in_ok-line.ensures 0 refl))
