@@ -4,3 +4,5 @@ pub mod Moves
 pub mod Runs
 pub mod Along
 pub mod Firing
+pub mod Instants
+pub mod LineObserved

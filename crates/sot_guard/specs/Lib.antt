@@ -2,6 +2,9 @@
 pub mod Outside
 pub mod Guarding
 pub mod Changes
+pub mod Instants
+pub mod Examples
 -- between the crate's own functions
 pub mod GuardView
 pub mod Running
+pub mod InstantParts

@@ -1,25 +1,17 @@
 //! What a decision gives.
 
-ghost use Rattle.std.specs.Prelude.{◌≡◌, ◌<◌, ℕ, IsTrue, ◌↔◌};
+ghost use Rattle.std.specs.Prelude.{◌<◌, ℕ};
 ghost use Rattle.sot_lists.specs.Places.{At};
 ghost use Rattle.sot_lang.specs.declared.tables.ModuleInfo.{ModuleInfo};
 ghost use Rattle.sot_box.specs.Boxes.{point_box};
 ghost use Rattle.sot_tube.specs.Calls.{MayFollow};
-ghost use Rattle.sot_world.specs.declared.mode.Mode.TheVariants.{Ac};
 ghost use Rattle.sot_world.specs.Changes.{IsNextMode};
 ghost use Rattle.sot_guard.specs.Running.{IsModeWhere};
 
 use sot_box::Point;
 use sot_lang::Typed;
 use sot_tube::keeps;
-use sot_world::Mode;
-
-// The mode of a module whose advanced node is trusted or not.
-fn mode_by(trusted: bool) -> Mode
-    ensures { (result ≡ Ac) ↔ IsTrue trusted }
-{
-    if trusted { Mode::Ac } else { Mode::Sc }
-}
+use sot_world::{Mode, mode_by};
 
 // The mode after a module's decision, from this mode and with its plant at this point.
 fn next_mode(p: &Typed, jitter: u32, module: u32, mode: Mode, s: &Point) -> Mode

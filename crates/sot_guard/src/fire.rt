@@ -1,14 +1,16 @@
 //! What a firing drafts.
 
-ghost use Rattle.std.specs.Prelude.{◌≡◌, ◌-◌, ◌≤◌, ◌<◌, ◌++◌, None, length, take, replicate};
-ghost use Rattle.std.specs.Prelude.{slice_set};
+ghost use Rattle.std.specs.Prelude.{◌≡◌, ◌<◌, length, List, true, false, None};
 ghost use Rattle.sot_lists.specs.Places.{At};
+ghost use Rattle.sot_lang.specs.declared.act.Act.{Act};
+ghost use Rattle.sot_lang.specs.declared.tables.NodeInfo.{NodeInfo};
+ghost use Rattle.sot_lang.specs.TableRules.{IsCoded};
 ghost use Rattle.sot_guard.specs.Running.{MayRunOn, RunsTo};
 
-use crate::lent::Lent;
 use sot_box::Point;
 use sot_code::{Locals, run_node};
 use sot_lang::{Draft, Typed};
+use sot_world::Lent;
 
 /// What the body of a coded node drafts on these numbers, and its new locals. Where the body traps
 /// it drafts nothing, and the locals stay.
@@ -32,27 +34,13 @@ pub(crate) fn run(
     }
 }
 
-// A slot of a draft that is blank there gets what was drafted.
-fn copy_slot(kept: &mut Draft, i: usize, slot: Option<i64>)
-    requires inside { i < 8 }
-    requires blank { At kept.old i None }
-    ensures { kept.new ≡ slice_set kept.old i slot }
+/// Whether a node is coded, and else it is an external one.
+pub(crate) fn is_coded(p: &Typed, node: u32) -> bool
+    requires { node < length p.now.nodes }
+    ensures coded { result ≡ true → (info : NodeInfo) × (acts : List Act) × At p.now.nodes node info
+        × IsCoded info acts }
+    ensures external { result ≡ false → (info : NodeInfo) × At p.now.nodes node info
+        × (info.body ≡ None) }
 {
-    match slot {
-        Some(z) => kept.set(i, z),
-        None => {}
-    }
-}
-
-/// A draft's first slots, with nothing in the others.
-pub(crate) fn first_slots(draft: &Draft, count: usize) -> Draft
-    requires { count ≤ 8 }
-    ensures kept { result ≡ take count draft.now ++ replicate (8 - count) None }
-    ensures there { count ≤ length draft.now }
-{
-    let mut kept = Draft::blank();
-    for i in 0..count {
-        copy_slot(&mut kept, i, draft.get(i));
-    }
-    kept
+    p.nodes[node as usize].body.is_some()
 }

@@ -6,12 +6,14 @@ ghost use Rattle.sot_world.specs.Configurations.{point_of, IsOpening, IsSafer};
 ghost use Rattle.sot_world.specs.Opens.{AreStarts, StartInside, IsFirstOutside, IfNotSafer};
 ghost use Rattle.sot_guard.specs.Guarding.{IsGuarding};
 
-use crate::starts::{all_locals, decisions_left, first_not_safer, nodes_left};
 use sot_box::Point;
 use sot_code::Locals;
 use sot_lang::Typed;
 use sot_tube::Accepted;
-use sot_world::{Mode, OpenFail, initial_scalars, safe_modes};
+use sot_world::{
+    Mode, OpenFail, all_locals, decisions_left, first_outside, initial_scalars, nodes_left,
+    safe_modes,
+};
 use std::alloc::{AllocError, Global};
 use std::marker::Model;
 
@@ -73,7 +75,7 @@ impl<'a> Guard<'a> {
             → StartInside acc.now.program start.now (length acc.now.program.modules) }
     {
         let p = acc.typed();
-        if let Some(module) = first_not_safer(p, start) {
+        if let Some(module) = first_outside(p, start) {
             return Err(OpenFail::NotSafer { module });
         }
         match Guard::at_start(alloc, acc, start) {

@@ -5,12 +5,16 @@
 mod decide;
 mod due;
 mod enabled;
+mod facts;
 mod fire;
 mod guard;
-mod lent;
+mod instant;
 mod outside;
 mod put;
-mod starts;
+mod told;
 
+pub use facts::line_is_observed;
 pub use guard::Guard;
+pub use instant::go;
 pub use outside::{Outside, first_outside};
+pub use told::Told;

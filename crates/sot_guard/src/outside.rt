@@ -14,6 +14,7 @@ ghost use Rattle.sot_guard.specs.Outside.{IsFirstOutside};
 use sot_box::{BoxN, Interval, Point};
 use sot_iv::{Ranges, iv_plant};
 use sot_lang::Typed;
+use sot_tube::box_at;
 
 /// A state variable that is observed outside the least interval of its next value, which is the
 /// first one of the first such plant. Numbers are mantissas at the variable's scale.
@@ -62,15 +63,6 @@ fn put_seen(sees: &[u32], points: &[Point], sides: &mut Ranges)
     for i in 0..sees.len() {
         put_point(&points[sees[i] as usize], sides);
     }
-}
-
-// The box that holds one point alone.
-fn box_at(s: &Point) -> BoxN
-    ensures { result ≡ point_box s.now }
-{
-    let mut sides = Ranges::none();
-    put_point(s, &mut sides);
-    BoxN::of(sides.as_slice()).unwrap()
 }
 
 // The least box of a plant after a tick from these points, with these scalars.

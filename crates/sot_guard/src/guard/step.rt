@@ -19,12 +19,12 @@ use super::Guard;
 use crate::decide::mode_where;
 use crate::due::{leave_decisions, leave_nodes};
 use crate::enabled::is_enabled;
-use crate::fire::{first_slots, run};
+use crate::fire::run;
 use crate::outside::{Outside, outside_where};
 use crate::put::{is_still, put_points, put_safe_unless};
 use sot_box::Point;
 use sot_lang::Draft;
-use sot_world::{Firing, Mode, publish_if, write};
+use sot_world::{Firing, Mode, first_slots, publish_if, write};
 
 impl<'a> Guard<'a> {
     /// A value comes on an environment topic, with a number in range for each of its scalars.
