@@ -1,0 +1,5 @@
+-- what the public contracts say
+pub mod Hearing
+pub mod Conversations
+-- between the crate's own functions
+pub mod SessionView
