@@ -1,0 +1,61 @@
+-- The lines of a decision module that stands beside its plants, each without its line end.
+use Rattle.std.specs.Prelude.{ℕ, ℤ, pos, List, [], ◌∷◌, ◌++◌, slice_get, slice_index_or, codes}
+use Rattle.std.specs.Option.{option_map_or}
+use Rattle.sot_box.specs.Sides.{Side}
+use Rattle.sot_lang.specs.declared.tables.PlantInfo.{PlantInfo}
+use Rattle.sot_lang.specs.Tables.{Tables}
+use Rattle.sot_lang.specs.Names.{plant_name}
+use Rattle.sot_trace.specs.Names.{scalar_name}
+use Rattle.sot_trace.specs.Numbers.{numeral, signed_numeral}
+
+-- ` SCALAR=V`
+abbrev pub held_text : Tables → ℕ → ℤ → List ℕ
+held_text p k z = codes " " ++ (scalar_name p k ++ (codes "=" ++ signed_numeral z))
+
+-- each of these scalars, with the number that it has
+abbrev pub all_held : Tables → List ℕ → List ℤ → List ℕ
+all_held p [] scalars = []
+all_held p (k ∷ ks) scalars =
+    held_text p k (slice_index_or scalars k (pos 0)) ++ all_held p ks scalars
+
+-- the scalars that a plant takes as its inputs, in order
+abbrev pub inputs_of : Tables → ℕ → List ℕ
+inputs_of p n = option_map_or (λ x. x.inputs.items) (slice_get p.plants n) []
+
+-- `T hold PLANT SCALAR=V ..`: the commands that hold a plant
+abbrev pub hold_line : Tables → ℕ → ℕ → List ℤ → List ℕ
+hold_line p time plant scalars =
+    numeral time ++ (codes " hold "
+    ++ (plant_name p plant ++ all_held p (inputs_of p plant) scalars))
+
+-- `T ready`: an instant may begin
+abbrev pub ready_line : ℕ → List ℕ
+ready_line time = numeral time ++ codes " ready"
+
+-- the name of a plant's state variable, and none where nothing stands there
+abbrev pub state_of : PlantInfo → ℕ → List ℕ
+state_of info state = option_map_or (λ s. s.name) (slice_get info.states.items state) []
+
+abbrev pub state_name : Tables → ℕ → ℕ → List ℕ
+state_name p plant state =
+    option_map_or (λ x. state_of x state) (slice_get p.plants plant) []
+
+-- `[LO..HI]`
+abbrev pub ends_text : Side → List ℕ
+ends_text r =
+    codes "[" ++ (signed_numeral r.lo ++ (codes ".." ++ (signed_numeral r.hi ++ codes "]")))
+
+-- ` [LO..HI] observed V`
+abbrev pub observed_text : Side → ℤ → List ℕ
+observed_text r z = codes " " ++ (ends_text r ++ (codes " observed " ++ signed_numeral z))
+
+-- `T outside plant NAME state NAME [LO..HI] observed V`: a state variable is observed outside the
+-- interval in which its plant's model allows it to be
+abbrev pub outside_line : Tables → ℕ → ℕ → ℕ → Side → ℤ → List ℕ
+outside_line p time plant state r z =
+    numeral time ++ (codes " outside plant " ++ (plant_name p plant
+    ++ (codes " state " ++ (state_name p plant state ++ observed_text r z))))
+
+-- `end T events E`
+abbrev pub end_line : ℕ → ℕ → List ℕ
+end_line time events = codes "end " ++ (numeral time ++ (codes " events " ++ numeral events))
