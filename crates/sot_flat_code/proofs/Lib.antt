@@ -1,0 +1,9 @@
+pub mod Words
+pub mod Lines
+pub mod Walks
+pub mod Reckoning
+pub mod Statements
+pub mod Firing
+pub mod Making
+pub mod Carrying
+pub mod Forms
