@@ -23,7 +23,8 @@ module _ (g : Global) where
   only : (command : ℤ) (lo hi z : ℤ) → IsBoxOf (command ∷ []) ((pos 0 ∷ []) ∷ []) 0 (pos_plant g) (side lo hi ∷ [])
       → IsInBox (command ∷ []) ((pos 0 ∷ []) ∷ []) 0 (pos_plant g) (z ∷ []) → z ≤ℤ hi
   only command lo hi z is (box, other, within) =
-      let same : box ≡ side lo hi ∷ [] = (let e = terms_same (pos_plant g).next.items (side (pos 0) (pos 0) ∷ side command command ∷ bounds (pos_plant g)) (Ok box) (Ok (side lo hi ∷ [])) other is in cc) in
+      let sides = side (pos 0) (pos 0) ∷ side command command ∷ bounds (pos_plant g) in
+      let same : box ≡ side lo hi ∷ [] = (let e = terms_same (pos_plant g).next.items sides (Ok box) (Ok (side lo hi ∷ [])) other is in cc) in
       (subst (λ b. IsWithin b (z ∷ [])) same within).1
 
   pub at_3 : LineMayBeAt3 g

@@ -122,5 +122,6 @@ last_at C (D ∷ Ds) = last_at D Ds
 pub safe : TrustedSessionsAreSafe
 safe start h k xs rules certified opening safer hears on =
     let path = (all_goes h k xs hears on).path in
-    let all = observed_runs (program_of h) h.guarding.accepted.cert rules certified start h.guarding.at path.events path.configurations opening safer path.run in
+    let all = observed_runs (program_of h) h.guarding.accepted.cert rules certified start h.guarding.at path.events
+    path.configurations opening safer path.run in
     subst (IsSafeNow (program_of h) (jitter_of h)) path.ends (all (length path.configurations) _ (last_at h.guarding.at path.configurations)).0

@@ -19,7 +19,8 @@ module _ (kept next : Kept) where
       ∙ ap (λ o. kept_row kept (o >>= λ x. Some (row.0, x))) is
       ∙ ap (λ k. Some (k, rest)) same.0
 
-  pub open_ : (r : List ℕ) (o : Option (List ℤ × List ℕ)) → kept_row kept o ≡ Some (next, r) → behind (codes ")") r ≡ None → kept_row kept (o >>= closed_at) ≡ None
+  pub open_ : (r : List ℕ) (o : Option (List ℤ × List ℕ)) → kept_row kept o ≡ Some (next, r) → behind (codes ")") r ≡ None
+      → kept_row kept (o >>= closed_at) ≡ None
   open_ r None e none = refl
   open_ r (Some row) e none =
       let same = parts_same (put_all kept row.0) next row.1 r e in
@@ -57,7 +58,8 @@ none_before kept ks (Some m) e = absurd cc
 pub placed : (ks : List PlantInfo) (i : ℕ) (k : PlantInfo) (kept next : Kept) (text rest : List ℕ) → drop i ks ≡ k ∷ drop (i + 1) ks
     → kept_row kept (place_at k text) ≡ Some (next, rest)
     → kept_row next (places_at (drop (i + 1) ks) rest) ≡ kept_row kept (places_at (drop i ks) text)
-placed ks i k kept next text rest at is = kept_before kept next (drop (i + 1) ks) rest (place_at k text) is ∙ ap (λ l. kept_row kept (places_at l text)) (sym at)
+placed ks i k kept next text rest at is =
+    kept_before kept next (drop (i + 1) ks) rest (place_at k text) is ∙ ap (λ l. kept_row kept (places_at l text)) (sym at)
 
 -- .. or none
 pub unplaced : (ks : List PlantInfo) (i : ℕ) (k : PlantInfo) (kept : Kept) (text : List ℕ) → drop i ks ≡ k ∷ drop (i + 1) ks

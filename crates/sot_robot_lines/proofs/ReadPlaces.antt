@@ -62,7 +62,8 @@ places_opens k ks a c size =
 
 pub places_from : (ks : List PlantInfo) (text : List ℕ) (a : List ℤ) (rest : List ℕ) → places_at ks text ≡ Some (a, rest)
     → (length a ≡ state_count ks) × (text ≡ places_text ks a ++ rest)
-places_from [] text a rest e = (let same = parts_same [] a text rest e in (sym (ap length same.0), same.1 ∙ ap (λ (x : List ℤ). places_text [] x ++ rest) same.0))
+places_from [] text a rest e =
+    (let same = parts_same [] a text rest e in (sym (ap length same.0), same.1 ∙ ap (λ (x : List ℤ). places_text [] x ++ rest) same.0))
 places_from (k ∷ ks) text a rest e =
     let s = both (place_at k text) (λ m. places_at ks m.1 >>= λ n. Some (m.0 ++ n.0, n.1)) (a, rest) e in
     let t = both (places_at ks s.0.1) (λ n. Some (s.0.0 ++ n.0, n.1)) (a, rest) s.2 in

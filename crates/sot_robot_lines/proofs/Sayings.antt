@@ -59,7 +59,8 @@ plant_same p rules s t x y at_x at_y e =
     omega (arith, same)
 
 module _ (p : Tables) where
-  input_is : (text : List ℕ) (s : Saying) (x : Spelled) → IsSpelled p (48 ∷ 32 ∷ (codes "input " ++ text)) x → said_input x ≡ Some s → IsSaid p (codes "input " ++ text) s
+  input_is : (text : List ℕ) (s : Saying) (x : Spelled) → IsSpelled p (48 ∷ 32 ∷ (codes "input " ++ text)) x → said_input x ≡ Some s
+      → IsSaid p (codes "input " ++ text) s
   input_is text s (InputLine t k v) is e =
       let same = at_zero t (32 ∷ (codes "input " ++ text)) (codes " input " ++ (topic_name p k ++ (codes "=" ++ numbers v))) refl refl is.1 in
       subst (IsSaid p (codes "input " ++ text)) (same_Some (InputSaid k v) s e) (is.0, ap (drop 1) same)
@@ -77,7 +78,8 @@ module _ (p : Tables) where
   fire_words true text rest e = ap (drop 6) e
   fire_words false text rest e = (let never : 102 ≡ 105 = ap (λ (l : List ℕ). get_or l 1 0) e in absurd (omega (arith, never)))
 
-  draft_is : (text : List ℕ) (s : Saying) (x : Spelled) → IsSpelled p (48 ∷ (codes " fire " ++ text)) x → said_draft x ≡ Some s → IsSaid p (codes "draft " ++ text) s
+  draft_is : (text : List ℕ) (s : Saying) (x : Spelled) → IsSpelled p (48 ∷ (codes " fire " ++ text)) x → said_draft x ≡ Some s
+      → IsSaid p (codes "draft " ++ text) s
   draft_is text s (InputLine t k v) is e = absurd (none-some s e)
   draft_is text s (FireLine t n enabled slots) is e =
       let rest : List ℕ = node_name p n ++ marks_text p (writes_of p n) slots in

@@ -1,7 +1,7 @@
 -- What the lines of a robot say: where its plants were observed, what came from outside, what its
 -- own controllers draft, and that an instant is over.
-use Rattle.std.specs.Prelude.{ℕ, ◌<◌, ◌≡◌, ℤ, Bool, true, List, [], ◌∷◌, ◌++◌, Option, length, codes}
-use Rattle.std.specs.Prelude.{take, drop, slice_get}
+use Rattle.std.specs.Prelude.{ℕ, ◌<◌, ◌≡◌, ℤ, Bool, true, List, [], ◌∷◌, ◌++◌, Option}
+use Rattle.std.specs.Prelude.{length, codes, take, drop, slice_get}
 use Rattle.std.specs.Option.{option_map_or}
 use Rattle.sot_lists.specs.Places.{At}
 use Rattle.sot_lang.specs.declared.tables.TopicInfo.{TopicInfo}

@@ -31,8 +31,8 @@ loop-module-preserved c =
           record {
             decided =
                 decided_along start new _ first.items w.add.new.told.items _ (m + 1) w.guard-is (ap (λ v. v.items) w.told-is)
-                (decided_more start old new first.items told.items w.add.new.told.items inv.accepted inv.trusted m w.decide-mode.result inv.decided did.step did.mode
-                more.items);
+                (decided_more start old new first.items told.items w.add.new.told.items inv.accepted inv.trusted m w.decide-mode.result
+                inv.decided did.step did.mode more.items);
             accepted = ap (λ (b : Guarding). b.accepted) w.guard-is ∙ did.accepted ∙ inv.accepted;
             trusted = ap (λ (b : Guarding). b.trusted) w.guard-is ∙ did.trusted ∙ inv.trusted;
             len = subst (λ v. vec_len v ≤ vec_len first + (m + 1)) (sym w.told-is) (omega (arith, more.len, inv.len));

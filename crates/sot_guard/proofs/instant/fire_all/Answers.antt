@@ -34,8 +34,8 @@ loop-node-preserved c =
           record {
             fired =
                 fired_along start new _ drafts first.items w.add.new.told.items _ (n + 1) w.guard-is (ap (λ v. v.items) w.told-is)
-                (fired_more start old new first.items told.items w.add.new.told.items inv.accepted inv.trusted drafts n _ w.fire-firing.result inv.fired did.fires
-                (read_or drafts n _ [] lt w.index-drafts-node.is) more.items);
+                (fired_more start old new first.items told.items w.add.new.told.items inv.accepted inv.trusted drafts n _ w.fire-firing.result
+                inv.fired did.fires (read_or drafts n _ [] lt w.index-drafts-node.is) more.items);
             accepted = ap (λ (b : Guarding). b.accepted) w.guard-is ∙ did.accepted ∙ inv.accepted;
             trusted = ap (λ (b : Guarding). b.trusted) w.guard-is ∙ did.trusted ∙ inv.trusted;
             len = subst (λ v. vec_len v ≤ vec_len first + (n + 1)) (sym w.told-is) (omega (arith, more.len, inv.len));

@@ -11,6 +11,7 @@ pub returns : goal.returns
 returns c =
     let point = c.in-Some.point in
     let none : length point.rest.now ≡ 0 = search rules in
-    let kept = ap (λ items. kept_row (items, true) (point_at c.args.plant.now c.args.text.now)) (sym c.requires) ∙ sym (rw c.in-Some.is at c.in_ok-point.ensures) in
+    let kept = ap (λ items. kept_row (items, true) (point_at c.args.plant.now c.args.text.now)) (sym c.requires)
+    ∙ sym (rw c.in-Some.is at c.in_ok-point.ensures) in
     row_shown c.point_at.new.numbers.items point.whole point.rest.now (λ v. StartSaid c.args.k v) (Start c.args.k point.whole)
     (point_at c.args.plant.now c.args.text.now) kept (is_empty point.rest.now none) (λ v holds. (v, refl, holds))

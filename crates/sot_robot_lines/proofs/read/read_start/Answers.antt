@@ -16,7 +16,7 @@ returns c =
     let lt : k < length inside.plants = omega (arith, c.in-Some.ensures.there, ap (λ (p : Tables). length p.plants) c.p.view_is) in
     let named = ap (λ (p : Tables). plant_named p word.name.now) c.p.view_is ∙ sym c.in-Some.ensures.value in
     let same = sym (ap (λ (p : Tables). start_said_at p c.args.text.now) c.p.view_is)
-    ∙ start_is inside k word.name.now word.rest.now c.in-Some-behind.rest.now plant (word_at c.args.text.now) (sym c.word_at-word.ensures) named lt c.index.ensures
-    (sym c.in-Some-behind.ensures)
+    ∙ start_is inside k word.name.now word.rest.now c.in-Some-behind.rest.now plant (word_at c.args.text.now) (sym c.word_at-word.ensures) named lt
+    c.index.ensures (sym c.in-Some-behind.ensures)
     in
     subst (λ (o : Option Saying). IfOk c.read_point.result (λ l. ShowsReadSaid c.read_point.new.numbers.items l o)) (sym same) c.read_point.ensures
