@@ -1,0 +1,7 @@
+-- what the public contracts say
+pub mod Answers
+pub mod Talks
+pub mod Openings
+-- between the crate's own functions
+pub mod DeskView
+pub mod PlacesView
