@@ -2,6 +2,7 @@
 pub mod Answers
 pub mod Talks
 pub mod Openings
+pub mod TalkLaws
 -- between the crate's own functions
 pub mod DeskView
 pub mod PlacesView
