@@ -1,0 +1,8 @@
+-- what the public contracts say
+pub mod Answers
+pub mod Talks
+pub mod Openings
+pub mod TalkLaws
+-- between the crate's own functions
+pub mod DeskView
+pub mod PlacesView

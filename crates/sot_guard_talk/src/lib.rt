@@ -1,0 +1,19 @@
+//! A talk with a robot, line by line.
+//!
+//! An [`Opening`] hears where each plant was observed first. It becomes a [`Talk`], which hears a
+//! line of the robot at a time, and puts the lines that it is answered with.
+#![tactic(auto)]
+
+mod desk;
+mod fill;
+mod laws;
+mod opening;
+mod places;
+mod put;
+mod talk;
+mod unheard;
+
+pub use laws::{trusted_talks_are_observed, trusted_talks_are_safe};
+pub use opening::Opening;
+pub use talk::Talk;
+pub use unheard::{Heard, Unheard};
