@@ -67,7 +67,8 @@ typed_says status jitter bytes text (p, t, typed, answers) = by answers
     by (inr (inl x)) = one x.0
     by (inr (inr (inl x))) = one x.0
     by (inr (inr (inr (inl x)))) = one x.0
-    by (inr (inr (inr (inr x)))) = inl (x.0, (p, t, typed, subst (λ (s : ℕ). Answers p t jitter s text) x.0 answers))
+    by (inr (inr (inr (inr (inl x))))) = one x.0
+    by (inr (inr (inr (inr (inr x))))) = inl (x.0, (p, t, typed, subst (λ (s : ℕ). Answers p t jitter s text) x.0 answers))
 
 -- a status, and the text that belongs to it
 abbrev Says : List (String Global) → Outside → Outside → ℕ → List ℕ → Type 0

@@ -1,6 +1,7 @@
 -- What is said, from what was found.
-use Rattle.std.proofs.Common.{◌≡◌, ◌∙◌, ℕ, ◌<◌, ℤ, List, Result, Ok, Err, Bool, false, inl, inr, length, ap, subst}
+use Rattle.std.proofs.Common.{◌≡◌, ◌∙◌, ℕ, ◌<◌, ◌≤◌, ℤ, List, Result, Ok, Err, Bool, false, inl, inr, length, refl, ap, subst, arith}
 use Rattle.std.specs.Prelude.{IfOk, IsTrue, ◌↔◌}
+use Rattle.std.proofs.lemmas.Option.{slice_get_within}
 use Rattle.std.specs.declared.alloc.AllocError.{AllocError}
 use Rattle.sot_lists.specs.Places.{At}
 use Rattle.sot_lists.proofs.Places.{at_below, at_same}
@@ -33,11 +34,13 @@ use Rattle.sot_regions.specs.declared.found.RegionsFail.TheVariants as causes
 use Rattle.sot_regions_words.specs.Lines.{refusal_line}
 use Rattle.sot_regions_words.specs.declared.refusal.RegionsRefusal.{RegionsRefusal}
 use Rattle.sot_regions_words.specs.declared.refusal.RegionsRefusal.TheVariants.{Jitter, SafeNone}
+use Rattle.sot_regions_words.specs.declared.refusal.RegionsRefusal.TheVariants.{TooMany, SaferNone}
 use Rattle.sot_answers.specs.declared.answer.Answer.{Answer}
 use Rattle.sot_regions_commands.specs.AsAsked.{IsLate, as_asked, IsSearched}
-use Rattle.sot_regions_commands.specs.Findings.{AreFound}
+use Rattle.sot_regions_commands.specs.Findings.{AreFirstFound, AreFound}
+use Rattle.sot_regions_commands.specs.Shown.{verdict_of_some}
 use Rattle.sot_regions_commands.specs.Answers.{StayInside, SpellsSafe, NamesModule, Answers, Replies}
-use Rattle.sot_regions_commands.specs.Steps.{AnswersFound, AnswersSearched, AnswersTree, TellsModule, TellsFail}
+use Rattle.sot_regions_commands.specs.Steps.{AnswersNone, AnswersFound, AnswersSearched, AnswersTree, TellsModule, TellsFail}
 use Rattle.sot_regions_commands.proofs.Spelled.{spells_safe}
 
 -- what is said of the text of a program: `r` is what the call answers
@@ -83,9 +86,10 @@ refused_result (Err e) p t jitter refusal in_time refuses status text = tt
 
 searched_answer : (p : Program) (t : Tables) (jitter status : ℕ) (text : List ℕ) → IsSearched t jitter → AnswersSearched p t jitter status text
     → Answers p t jitter status text
-searched_answer p t jitter status text searched (inl (is, none)) = inr (inr (inl (is, searched, none)))
-searched_answer p t jitter status text searched (inr (inl (is, refused))) = inr (inr (inr (inl (is, searched, refused))))
-searched_answer p t jitter status text searched (inr (inr (is, found))) = inr (inr (inr (inr (is, searched, found))))
+searched_answer p t jitter status text searched (inl (is, inl none)) = inr (inr (inl (is, searched, none)))
+searched_answer p t jitter status text searched (inl (is, inr refused)) = inr (inr (inr (inl (is, searched, refused))))
+searched_answer p t jitter status text searched (inr (inl (is, refused))) = inr (inr (inr (inr (inl (is, searched, refused)))))
+searched_answer p t jitter status text searched (inr (inr (is, found))) = inr (inr (inr (inr (inr (is, searched, found)))))
 
 pub searched_result : (r : Result Answer AllocError) (p : Program) (t : Tables) (jitter : ℕ) → IsSearched t jitter
     → IfOk r (λ a. AnswersSearched p t jitter a.status a.text.items)
@@ -99,11 +103,26 @@ pub found_result : (r : Result Answer AllocError) (p : Program) (t : Tables) (ji
 found_result (Ok a) p t jitter said = inr said
 found_result (Err e) p t jitter said = tt
 
+pub missed_result : (r : Result Answer AllocError) (p : Program) (t : Tables) (jitter : ℕ) → IfOk r (λ a. AnswersNone p t jitter a.status a.text.items)
+    → IfOk r (λ a. AnswersSearched p t jitter a.status a.text.items)
+missed_result (Ok a) p t jitter said = inl said
+missed_result (Err e) p t jitter said = tt
+
+-- of a module of which none was found
 pub none_result : (r : Result Answer AllocError) (p : Program) (t : Tables) (jitter : ℕ) (refusal : RegionsRefusal) → NamesModule p t jitter refusal
     → IfOk r (λ a. a.status ≡ 1) → IfOk r (λ a. a.text.items ≡ refusal_line t refusal)
-    → IfOk r (λ a. AnswersSearched p t jitter a.status a.text.items)
-none_result (Ok a) p t jitter refusal names status text = inl (status, (refusal, names, text))
+    → IfOk r (λ a. AnswersNone p t jitter a.status a.text.items)
+none_result (Ok a) p t jitter refusal names status text = (status, inl (refusal, names, text))
 none_result (Err e) p t jitter refusal names status text = tt
+
+pub before_result : (r : Result Answer AllocError) (p : Program) (t u : Tables) (jitter m : ℕ) (regions : List ModuleRegions) (cert : Cert)
+    (refusal : Refusal) → AreFirstFound t regions m → Resolves (with_regions regions p) u → cert.jitter ≡ jitter
+    → (verdict_of_some u cert.jitter cert).Refuses refusal
+    → IfOk r (λ a. a.status ≡ 1) → IfOk r (λ a. a.text.items ≡ refusal_text u refusal)
+    → IfOk r (λ a. AnswersNone p t jitter a.status a.text.items)
+before_result (Ok a) p t u jitter m regions cert refusal found resolves is refuses status text =
+    (status, inr (m, regions, u, cert, found, resolves, is, (refusal, refuses, text)))
+before_result (Err e) p t u jitter m regions cert refusal found resolves is refuses status text = tt
 
 -- of what was found
 pub unaccepted_result : (r : Result Answer AllocError) (p : Program) (t u : Tables) (jitter : ℕ) (regions : List ModuleRegions) (cert : Cert)
@@ -134,15 +153,15 @@ mission_result (Ok a) p q t u regions cert same found inside has status text spe
 mission_result (Err e) p q t u regions cert same found inside has status text spelled = tt
 
 -- a line of a module that is there names it
-pub tells_module : (t : Tables) (m : ℕ) → m < length t.modules → (a : ModuleInfo) × At t.modules m a
-tells_module t m less = at_below t.modules m less
+pub tells_module : (t : Tables) (m : ℕ) → m < length t.modules → (m ≡ m) × ((a : ModuleInfo) × At t.modules m a)
+tells_module t m less = (refl, at_below t.modules m less)
 
 -- what is known where nothing is left of its safe region
 pub tells_grain : (t : Tables) (jitter m : ℕ) (grain : List ℤ) (fail : RegionsFail) → m < length t.modules → fail ≡ causes.SafeNone grain
-    → TellsFail t jitter m fail → TellsModule t jitter (SafeNone m grain)
+    → TellsFail t jitter m fail → TellsModule t jitter m (SafeNone m grain)
 tells_grain t jitter m grain fail less is tells =
     let a = at_below t.modules m less in
-    (a.0, a.1, λ unit alone. tells grain a.0 is unit a.1 alone)
+    (refl, (a.0, a.1, λ unit alone. tells grain a.0 is unit a.1 alone))
 
 -- the safe node of a module that no other plant concerns reads its own plant alone
 pub own_reads : (p : Tables) (m : ℕ) (a info : ModuleInfo) (sc : NodeInfo) (reads : List Slot) → At p.modules m a → At p.modules m info → At p.nodes info.sc sc
@@ -154,3 +173,14 @@ own_reads p m a info sc reads at_a at at_sc same alone i k v at_read =
 -- a jitter that was found below all periods
 pub in_time_of : (late : Bool) (t : Tables) (jitter : ℕ) → IsTrue late ↔ IsLate t jitter → late ≡ false → ¬ (IsLate t jitter)
 in_time_of late t jitter is early has = (let yes = is.1 has in absurd cc)
+
+-- there are at least as many modules as come before one that is named
+pub told_few : (t : Tables) (jitter m : ℕ) (r : RegionsRefusal) → TellsModule t jitter m r → m ≤ length t.modules
+told_few t jitter m (Jitter j) tells = absurd tells
+told_few t jitter m (SafeNone n grain) (is, (a, at, more)) = (let less = slice_get_within t.modules m a at in omega (arith, less))
+told_few t jitter m (TooMany n) (is, (a, at)) = (let less = slice_get_within t.modules m a at in omega (arith, less))
+told_few t jitter m (SaferNone n) (is, (a, at)) = (let less = slice_get_within t.modules m a at in omega (arith, less))
+
+-- no module comes before the first one
+pub none_before : (n m : ℕ) → n ≡ 0 → n ≡ m → 0 < m → ⊥
+none_before n m empty counted less = absurd (omega arith)

@@ -7,6 +7,7 @@ pub mod Fits
 pub mod OtherTables
 -- module after module
 pub mod Searched
+pub mod Padded
 -- the mission that is written
 pub mod Spelled
 -- modules that have no region

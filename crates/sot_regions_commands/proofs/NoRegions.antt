@@ -1,30 +1,41 @@
--- Where no held region lies in a safe region, no program with other regions has a certificate that shows one there.
-use Rattle.std.proofs.Common.{◌≡◌, ◌∙◌, ℕ, ◌<◌, ℤ, List, [], ◌∷◌, map, length, inl, refl, sym, ap, subst}
+-- Where no held region lies in a safe region, no program with other regions has cells that show one there, and so no certificate.
+use Rattle.std.proofs.Common.{◌≡◌, ◌∙◌, ℕ, ◌+◌, ◌<◌, ℤ, List, [], ◌∷◌, map, length, inl, refl, sym, ap, subst}
 use Rattle.std.specs.Prelude.{◌≢◌}
 use Rattle.std.proofs.lemmas.List.{length-map}
 use Rattle.std.proofs.lemmas.Option.{slice_get_within}
 use Rattle.sot_lists.specs.Places.{At}
 use Rattle.sot_lists.proofs.Places.{at_mapped, at_below, at_same}
 use Rattle.sot_box.specs.Sides.{Side, AreOrdered}
-use Rattle.sot_box.specs.Boxes.{lows}
+use Rattle.sot_box.specs.Boxes.{lows, point_box}
 use Rattle.sot_box.specs.Regions.{IsInRegion}
 use Rattle.sot_box.proofs.Ranges.{lows_within}
 use Rattle.sot_tree.specs.Trees.{Module, Program}
 use Rattle.sot_lang.specs.declared.cert.Cert.{Cert}
 use Rattle.sot_lang.specs.declared.tables.ModuleInfo.{ModuleInfo}
 use Rattle.sot_lang.specs.Tables.{Tables}
-use Rattle.sot_lang.specs.TableRules.{MeetsTableRules}
+use Rattle.sot_lang.specs.declared.act.Act.{Act}
+use Rattle.sot_lang.specs.declared.tables.PlantInfo.{PlantInfo}
+use Rattle.sot_lang.specs.declared.tables.NodeInfo.{NodeInfo}
+use Rattle.sot_lang.specs.TableRules.{MeetsTableRules, IsCoded}
+use Rattle.sot_lang.specs.OwnerNames.{plant_truths}
+use Rattle.sot_lang.specs.SafeRegions.{joined_boxes}
+use Rattle.sot_lang.proofs.Places.{HavePlaces-TermsFit}
+use Rattle.sot_lang.proofs.Owners.{noise_ordered}
+use Rattle.sot_lang.proofs.SafeRegions.{hulls_ordered}
 use Rattle.sot_typing.specs.Resolved.{ProgramTables, modules, plant_place, node_place, module_info, tables_of, AreTables}
 use Rattle.sot_traps.specs.Verdict.{HaveSafeBoxes}
-use Rattle.sot_tube.specs.Certified.{IsWellCertified}
+use Rattle.sot_tube.specs.Certified.{IsWellCertified, command_intervals}
+use Rattle.sot_tube.proofs.Certificate.{in_some_box}
 use Rattle.sot_law_same_tables.specs.UnplacedTables.{AreAlike}
 use Rattle.sot_law_same_tables.proofs.PlacelessSeen.{scalars_same, modules_same, plants_same, nodes_same}
 use Rattle.sot_law_same_tables.proofs.Tables.{tables_alike}
 use Rattle.sot_law_other_regions.specs.WithoutRegions.{bare_module}
 use Rattle.sot_law_other_regions.proofs.Tables.{plant_place_same, node_place_same, with_modules, bare_modules, bare_at}
 use Rattle.sot_law_held_regions.specs.Alone.{IsAlone}
-use Rattle.sot_law_held_regions.specs.Following.{HasNoHeldRegion}
-use Rattle.sot_law_held_regions.proofs.HeldRegions.{certified_is_held}
+use Rattle.sot_law_held_regions.specs.Following.{HeldStays, IsHeldRegion, HasNoHeldRegion}
+use Rattle.sot_law_held_regions.proofs.Commands.{drafts_narrow, commands_narrow}
+use Rattle.sot_law_held_regions.proofs.Walking.{point_narrower}
+use Rattle.sot_law_held_regions.proofs.HeldRegions.{stays_narrower}
 use Rattle.sot_law_held_regions.proofs.Alone.{region_alike}
 use Rattle.sot_law_alone.specs.Laws.{LookAlike, HaveOnePlant}
 use Rattle.sot_law_alone.proofs.Looks.{run_alike, stays_alone}
@@ -33,8 +44,66 @@ use Rattle.sot_regions_words.specs.declared.refusal.RegionsRefusal.TheVariants.{
 use Rattle.sot_report.specs.Missions.{Resolves}
 use Rattle.sot_regions_commands.specs.AsAsked.{IsSearched}
 use Rattle.sot_regions_commands.specs.Findings.{IsInside}
-use Rattle.sot_regions_commands.specs.Answers.{HasOtherRegions, HasNoRegion, NamesModule}
-use Rattle.sot_regions_commands.specs.Steps.{TellsModule}
+use Rattle.sot_regions_commands.specs.Shown.{IsShown, HaveRegions}
+use Rattle.sot_regions_commands.specs.Answers.{HasOtherRegions, HasNoRegion, HasNoCells, IsReached, LeavesNothing, NamesModule}
+use Rattle.sot_regions_commands.specs.Steps.{TellsGrain, TellsModule}
+
+-- a certificate shows the regions of each module of a program that it is good for
+certified_shown : (p : Tables) (jitter : ℕ) (cert : Cert) (m : ℕ) (a : ModuleInfo) → At p.modules m a → IsWellCertified p jitter cert
+    → IsShown p jitter cert m a
+certified_shown p jitter cert m a at certified = (
+  certified.entries m a at,
+  certified.boxes m a at,
+  λ plant at_p sc at_s acts coded cells has. (
+    certified.closed_cover m a cells at has,
+    (
+      (λ i cell at_c. certified.closed_cells m a plant sc acts cells i cell at at_p at_s coded has at_c),
+      (
+        certified.reach_cover m a cells at has,
+        λ i cell at_c. certified.reach_cells m a plant cells i cell at at_p has at_c,
+      ),
+    ),
+  ),
+)
+
+-- a safe region that cells show is held: with each point it has the tube of the point's cell
+module _ (p : Tables) (jitter : ℕ) (cert : Cert) (m : ℕ) (a : ModuleInfo) (rules : MeetsTableRules p) (shown : IsShown p jitter cert m a)
+    (at : At p.modules m a) where
+  shown_is_held : IsHeldRegion p jitter a a.safe.boxes
+  shown_is_held s inside = by_plant (rules.typed.plant_is m a at) (rules.typed.sc_is m a at)
+    where
+      by_plant : (plant : PlantInfo) × At p.plants a.plant plant → (sc : NodeInfo) × (acts : List Act) × At p.nodes a.sc sc × IsCoded sc acts
+          → HeldStays (IsInRegion a.safe.boxes) p jitter a (point_box s)
+      by_plant (plant, at_p) (sc, acts, at_s, coded) =
+          let own = rules.plants a.plant plant at_p in
+          let cells = shown.0 in
+          let checks = shown.2 plant at_p sc at_s acts coded cells.0 cells.1 in
+          let box = in_some_box cells.0.closed.boxes s (checks.0 s inside) in
+          let cell = checks.1.0 box.0 box.1 box.2 in
+          let narrow = point_narrower box.1 s box.3 in
+          let hulls = cell.drafts.hulls in
+          let drafts = drafts_narrow p rules a plant at_p sc at_s acts coded hulls cell.drafts.are (point_box s) box.1 cell.fired narrow cell.drafts in
+          let commands =
+          commands_narrow p rules a plant at_p sc at_s acts coded hulls cell.drafts.are box.1 drafts.0 cell.fired drafts.2 cell.drafts in
+          record {
+            plant = plant;
+            plant_is = at_p;
+            sc = sc;
+            sc_is = at_s;
+            acts = acts;
+            coded = coded;
+            fired = drafts.0;
+            drafts = drafts.1;
+            hulls = cell.stays.hulls;
+            are = cell.stays.are;
+            stays =
+                stays_narrower plant (command_intervals p plant sc drafts.0.draft) (command_intervals p plant sc cell.fired.draft)
+                (joined_boxes cell.stays.hulls) a.safe.boxes (length (plant_truths p plant))
+                (HavePlaces-TermsFit (plant_truths p plant) plant.next.items own.next)
+                commands (hulls_ordered p.modules plant.sees.items cell.stays.hulls cell.stays.are)
+                (noise_ordered plant.noise.items (λ i q at_q. (own.noise_ranges i q at_q).1.0)) (sc.period + jitter) (point_box s) box.1 narrow
+                cell.stays.stays;
+          }
 
 -- a region with a box has a point
 some_point : (boxes : List (List Side)) → boxes ≢ [] → ((i : ℕ) (b : List Side) → At boxes i b → AreOrdered b) → (s : List ℤ) × IsInRegion boxes s
@@ -88,33 +157,48 @@ module _ (p other : Program) (t u : Tables) (has : HasOtherRegions p other) (of_
   module_there m a at = at_below u.modules m (subst (λ (n : ℕ). m < n) counts (slice_get_within t.modules m a at))
 
   module _ (rules_t : MeetsTableRules t) (rules_u : MeetsTableRules u) (boxes : HaveSafeBoxes t) where
-    no_certificate : (jitter m : ℕ) (cert : Cert) (a b : ModuleInfo) → IsAlone t a → HasNoHeldRegion t jitter a → At t.modules m a → At u.modules m b
-        → IsInside b.safe a.safe → IsWellCertified u jitter cert → ⊥
-    no_certificate jitter m cert a b alone none at_a at_b inside certified =
+    no_cells : (jitter m : ℕ) (cert : Cert) (a b : ModuleInfo) → IsAlone t a → HasNoHeldRegion t jitter a → At t.modules m a → At u.modules m b
+        → IsInside b.safe a.safe → IsShown u jitter cert m b → ⊥
+    no_cells jitter m cert a b alone none at_a at_b inside shown =
         let one = one_plant m a b at_a at_b in
         let back : HaveOnePlant b a = (sym one.0, sym one.1) in
-        let point = some_point b.safe.boxes (certified.boxes m b at_b).0 (λ i box at. ((rules_u.modules m b at_b).safe.each i box at).1) in
+        let point = some_point b.safe.boxes shown.1.0 (λ i box at. ((rules_u.modules m b at_b).safe.each i box at).1) in
         none b.safe.boxes point.0
         (region_alike u t rules_u rules_t boxes jitter m m b a at_b at_a (run_alike u t b a looked back) (stays_alone t u a b look one alone)
-        b.safe.boxes (certified_is_held u jitter cert m b rules_u certified at_b))
+        b.safe.boxes (shown_is_held u jitter cert m b rules_u shown at_b))
         inside point.1
 
-pub has_no_region : (p : Program) (t : Tables) (jitter m : ℕ) (a : ModuleInfo) → Resolves p t → HaveSafeBoxes t → At t.modules m a → IsAlone t a
-    → HasNoHeldRegion t jitter a → HasNoRegion p t jitter m
-has_no_region p t jitter m a resolves boxes at_a alone none other u cert x b has resolved at_x at_b inside certified =
-    let same : x ≡ a = at_same t.modules m x a at_x at_a in
-    no_certificate p other t u has resolves.tables resolved.tables resolves.rules resolved.rules boxes jitter m cert a b alone none at_a at_b
-    (subst (λ (y : ModuleInfo). IsInside b.safe y.safe) same inside) certified
+module _ (p : Program) (t : Tables) (jitter m : ℕ) (a : ModuleInfo) (resolves : Resolves p t) (boxes : HaveSafeBoxes t) (at_a : At t.modules m a)
+    (alone : IsAlone t a) (none : HasNoHeldRegion t jitter a) where
+  has_no_cells : HasNoCells p t jitter m
+  has_no_cells other u cert x b has resolved at_x at_b inside shown =
+      let same : x ≡ a = at_same t.modules m x a at_x at_a in
+      no_cells p other t u has resolves.tables resolved.tables resolves.rules resolved.rules boxes jitter m cert a b alone none at_a at_b
+      (subst (λ (y : ModuleInfo). IsInside b.safe y.safe) same inside) shown
+
+  has_no_region : HasNoRegion p t jitter m
+  has_no_region other u cert x b has resolved at_x at_b inside certified =
+      has_no_cells other u cert x b has resolved at_x at_b inside (certified_shown u jitter cert m b at_b certified)
 
 -- where regions are searched each safe region has a box
-searched_boxes : (t : Tables) (jitter : ℕ) → IsSearched t jitter → HaveSafeBoxes t
+pub searched_boxes : (t : Tables) (jitter : ℕ) → IsSearched t jitter → HaveSafeBoxes t
 searched_boxes t jitter searched m a at = (searched.1.1.0 m a at).1.0
 
 -- what is known of a module's held regions is known of its regions
-pub names_module : (p : Program) (t : Tables) (jitter : ℕ) (r : RegionsRefusal) → Resolves p t → IsSearched t jitter → TellsModule t jitter r
-    → NamesModule p t jitter r
-names_module p t jitter (Jitter j) resolves searched tells = tells
-names_module p t jitter (SafeNone m grain) resolves searched (a, at, none) =
-    (a, at, λ unit alone. has_no_region p t jitter m a resolves (searched_boxes t jitter searched) at alone (none unit alone))
-names_module p t jitter (TooMany m) resolves searched tells = tells
-names_module p t jitter (SaferNone m) resolves searched tells = tells
+module _ (p : Program) (t : Tables) (jitter m : ℕ) (resolves : Resolves p t) (searched : IsSearched t jitter)
+    (before : 0 < m → HaveRegions p t jitter m) where
+  leaves_nothing : (grain : List ℤ) → TellsGrain t jitter m grain → LeavesNothing p t jitter m grain
+  leaves_nothing grain (a, at, none) x at_x unit alone =
+      let own : IsAlone t a = subst (λ (y : ModuleInfo). IsAlone t y) (at_same t.modules m x a at_x at) alone in
+      let boxes = searched_boxes t jitter searched in (
+        has_no_cells p t jitter m a resolves boxes at own (none unit own),
+        has_no_region p t jitter m a resolves boxes at own (none unit own),
+      )
+
+  pub names_module : (r : RegionsRefusal) → TellsModule t jitter m r → NamesModule p t jitter r
+  names_module (Jitter j) tells = tells
+  names_module (SafeNone n grain) (is, tells) =
+      subst (λ (k : ℕ). IsReached p t jitter k × LeavesNothing p t jitter k grain) (sym is)
+      (((tells.0, tells.1), before), leaves_nothing grain tells)
+  names_module (TooMany n) (is, tells) = subst (λ (k : ℕ). IsReached p t jitter k) (sym is) (tells, before)
+  names_module (SaferNone n) (is, tells) = subst (λ (k : ℕ). IsReached p t jitter k) (sym is) (tells, before)

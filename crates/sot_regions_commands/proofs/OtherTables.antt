@@ -19,10 +19,13 @@ use Rattle.sot_lang.specs.OwnerNames.{width_of}
 use Rattle.sot_typing.specs.Resolved.{ProgramTables, PlantTable, NodeTable, plant_seen, node_seen, tables_seen}
 use Rattle.sot_typing.proofs.Seen.{of_seen}
 use Rattle.sot_traps.specs.Verdict.{HaveSafeBoxes}
+use Rattle.sot_tube.specs.Checks.{for_each}
+use Rattle.sot_tube.specs.Verdict.{cells_of as cells_check}
 use Rattle.sot_region_tree.specs.declared.modules.ModuleRegions.{ModuleRegions}
 use Rattle.sot_law_other_regions.specs.OtherTables.{info_with, infos_with, tables_with}
 use Rattle.sot_regions_commands.specs.AsAsked.{IsLate}
-use Rattle.sot_regions_commands.specs.Findings.{IsInside, IsList, IsFinding, AreFound}
+use Rattle.sot_regions_commands.specs.Findings.{IsInside, IsList, IsFinding, AreFirstFound}
+use Rattle.sot_regions_commands.specs.Shown.{IsShown}
 use Rattle.sot_regions_commands.specs.Answers.{StayInside}
 use Rattle.sot_regions_commands.specs.Steps.{AreFindings}
 
@@ -36,6 +39,15 @@ other_at rs [] k b at = absurd (none-some b at)
 other_at [] (m ∷ ms) k b at = (b, at, inr refl)
 other_at (r ∷ rs) (m ∷ ms) zero b at = (m, refl, inl (r, refl, sym (same_Some (info_with r m) b at)))
 other_at (r ∷ rs) (m ∷ ms) (suc k) b at = other_at rs ms k b at
+
+-- where regions are found for a place, its module has them
+other_first : (rs : List ModuleRegions) (ms : List ModuleInfo) (k : ℕ) (r : ModuleRegions) (a b : ModuleInfo) → At rs k r → At ms k a
+    → At (infos_with rs ms) k b → b ≡ info_with r a
+other_first [] ms k r a b at_r at_a at_b = absurd (none-some r at_r)
+other_first (x ∷ rs) [] k r a b at_r at_a at_b = absurd (none-some a at_a)
+other_first (x ∷ rs) (m ∷ ms) zero r a b at_r at_a at_b =
+    sym (same_Some (info_with x m) b at_b) ∙ ap (λ (y : ModuleRegions). info_with y m) (same_Some x r at_r) ∙ ap (info_with r) (same_Some m a at_a)
+other_first (x ∷ rs) (m ∷ ms) (suc k) r a b at_r at_a at_b = other_first rs ms k r a b at_r at_a at_b
 
 other_count : (rs : List ModuleRegions) (ms : List ModuleInfo) → length (infos_with rs ms) ≡ length ms
 other_count rs [] = refl
@@ -115,13 +127,13 @@ module _ (regions : List ModuleRegions) (t u : Tables) (other : tables_seen u �
             subst (λ (y : ModuleInfo). IsInside y.safe a.safe) (sym (is ∙ at_same t.modules k x a at_x at_a)) (λ s inside. inside)
 
     -- the lists of cells that were found at a place
-    module _ (rules : MeetsTableRules t) (all : count ≡ length t.modules) where
+    module _ (rules : MeetsTableRules t) (few : count ≤ length t.modules) where
       pub finding_at : (m : ℕ) (c : Cells) → At cells m (Some c) → (a : ModuleInfo) × (r : ModuleRegions) × At t.modules m a × IsFinding a r c
       finding_at m c at =
           let counted = found.cells_count in
           let regions_counted = found.regions_count in
           let less : m < length cells = slice_get_within cells m (Some c) at in
-          let a = at_below t.modules m (omega (arith, less, counted, all)) in
+          let a = at_below t.modules m (omega (arith, less, counted, few)) in
           let r = at_below regions m (omega (arith, less, counted, regions_counted)) in
           let one = found.each m a.0 r.0 a.1 r.1 in
           let same : one.0 ≡ c = same_Some one.0 c (same_Some (Some one.0) (Some c) (sym one.1 ∙ at)) in
@@ -143,32 +155,51 @@ module _ (regions : List ModuleRegions) (t u : Tables) (other : tables_seen u �
             each = λ i box at. (let is = list.each i box at in (is.0 ∙ sym list.width_is, is.1));
           }
 
-      -- a certificate of these cells fits
-      pub cells_fit : (cert : Cert) → cert.modules.items ≡ cells → ¬ (IsLate t cert.jitter) → FitsTables u cert
-      cells_fit cert are in_time = record {
-        entries = ap length are ∙ found.cells_count ∙ all ∙ sym module_count;
+      -- a certificate fits that has some of these cells, and no others
+      pub cells_fit : (cert : Cert) → length cert.modules.items ≡ length t.modules
+          → ((m : ℕ) (c : Cells) → At cert.modules.items m (Some c) → At cells m (Some c)) → ¬ (IsLate t cert.jitter) → FitsTables u cert
+      cells_fit cert counted own in_time = record {
+        entries = counted ∙ sym module_count;
         closed =
             λ m b c at_b at_c.
-            let one = finding_at m c (subst (λ (os : List (Option Cells)). At os m (Some c)) are at_c) in
+            let one = finding_at m c (own m c at_c) in
             cells_of m b one.0 c.closed at_b one.2 one.3.closed;
         reach =
             λ m b c at_b at_c.
-            let one = finding_at m c (subst (λ (os : List (Option Cells)). At os m (Some c)) are at_c) in
+            let one = finding_at m c (own m c at_c) in
             cells_of m b one.0 c.reach at_b one.2 one.3.reach;
         node_jitter = node_in_time cert.jitter in_time;
         module_jitter = module_in_time cert.jitter in_time;
       }
 
       -- and what was found is as is promised
-      pub are_found : AreFound t regions
+      pub are_found : AreFirstFound t regions count
       are_found = record {
-        count = found.regions_count ∙ all;
+        count_is = found.regions_count;
         inside = λ k a r at_a at_r. (found.each k a r at_a at_r).2.inside;
         boxes =
             λ k r at_r.
             let regions_counted = found.regions_count in
             let less = slice_get_within regions k r at_r in
-            let a = at_below t.modules k (omega (arith, less, regions_counted, all)) in
+            let a = at_below t.modules k (omega (arith, less, regions_counted, few)) in
             let one = found.each k a.0 r a.1 at_r in
             (one.2.safe.count, one.2.safer.count);
       }
+
+      -- where a certificate has these cells, and they pass, it shows the regions of each module that has some
+      pub found_shown : (jitter : ℕ) (cert : Cert) → ((m : ℕ) (c : Cells) → At cells m (Some c) → At cert.modules.items m (Some c))
+          → (for_each u.modules (cells_check u jitter cert)).Passes → (k : ℕ) (b : ModuleInfo) → k < count → At u.modules k b → IsShown u jitter cert k b
+      found_shown jitter cert has passes k b less at_b =
+          let regions_counted = found.regions_count in
+          let r = at_below regions k (omega (arith, less, regions_counted)) in
+          let a = module_back k b at_b in
+          let one = found.each k a.0 r.0 a.1 r.1 in
+          let is : b ≡ info_with r.0 a.0 =
+          other_first regions t.modules k r.0 a.0 b r.1 a.1 (subst (λ (ms : List ModuleInfo). At ms k b) modules_are at_b) in (
+            (one.0, has k one.0 one.1),
+            (
+              subst (λ (x : ModuleInfo). x.safe.boxes ≢ []) (sym is) (no_box r.0.safe.boxes one.2.safe.count.0),
+              subst (λ (x : ModuleInfo). x.safer.boxes ≢ []) (sym is) (no_box r.0.safer.boxes one.2.safer.count.0),
+            ),
+            passes k b at_b,
+          )

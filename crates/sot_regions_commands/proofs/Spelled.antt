@@ -1,5 +1,5 @@
 -- The text that is written spells an accepted mission.
-use Rattle.std.proofs.Common.{◌≡◌, ℕ, ◌≤◌, List, Option, Some, length, sym, ap, subst}
+use Rattle.std.proofs.Common.{◌≡◌, ◌∙◌, ℕ, ◌≤◌, List, Option, Some, length, sym, ap, subst, arith}
 use Rattle.sot_lists.specs.Places.{At}
 use Rattle.sot_sections.specs.declared.mission.Need.TheVariants as needs
 use Rattle.sot_tree.specs.Trees.{Program}
@@ -50,15 +50,23 @@ module _ (bytes : List ℕ) (p : Program) (t : Tables) (regions : List ModuleReg
     pub other : tables_seen u ≡ tables_with regions (tables_seen t)
     other = tables_have regions p t u fitting spelled.1.tables resolved.tables
 
+    -- a certificate fits that has some of the cells, and no others
+    pub some_fit : (cert : Cert) → count ≤ length t.modules → length cert.modules.items ≡ length t.modules
+        → ((m : ℕ) (c : Cells) → At cert.modules.items m (Some c) → At cells m (Some c)) → ¬ (IsLate t cert.jitter) → FitsTables u cert
+    some_fit cert few counted own in_time = cells_fit regions t u other cells count found spelled.1.rules few cert counted own in_time
+
     module _ (cert : Cert) (all : count ≡ length t.modules) (are : cert.modules.items ≡ cells) (low : cert.jitter ≤ 999)
         (in_time : ¬ (IsLate t cert.jitter)) where
+      there : (m : ℕ) (c : Cells) → At cert.modules.items m (Some c) → At cells m (Some c)
+      there m c at = subst (λ (os : List (Option Cells)). At os m (Some c)) are at
+
       pub fits : FitsTables u cert
-      fits = cells_fit regions t u other cells count found spelled.1.rules all cert are in_time
+      fits = some_fit cert (omega (arith, all)) (ap length are ∙ found.cells_count ∙ all) there in_time
 
       own : (m : ℕ) (c : Cells) → At cert.modules.items m (Some c)
           → (a : ModuleInfo) × (r : ModuleRegions) × At t.modules m a × IsFinding a r c
       own m c at =
-          finding_at regions t u other cells count found spelled.1.rules all m c (subst (λ (os : List (Option Cells)). At os m (Some c)) are at)
+          finding_at regions t u other cells count found spelled.1.rules (omega (arith, all)) m c (there m c at)
 
       writable : IsWritable cert
       writable = record {

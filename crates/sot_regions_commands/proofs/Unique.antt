@@ -99,7 +99,8 @@ low_of p t jitter status text (inl x) = (let is = x.0 in omega (arith, is))
 low_of p t jitter status text (inr (inl x)) = (let is = x.0 in omega (arith, is))
 low_of p t jitter status text (inr (inr (inl x))) = (let is = x.0 in omega (arith, is))
 low_of p t jitter status text (inr (inr (inr (inl x)))) = (let is = x.0 in omega (arith, is))
-low_of p t jitter status text (inr (inr (inr (inr x)))) = (let is = x.0 in omega (arith, is))
+low_of p t jitter status text (inr (inr (inr (inr (inl x))))) = (let is = x.0 in omega (arith, is))
+low_of p t jitter status text (inr (inr (inr (inr (inr x))))) = (let is = x.0 in omega (arith, is))
 
 -- a mission of a program shows that each of its modules has a region
 found_one : (bytes : List ℕ) (p q : Program) (t u : Tables) (j k : ℕ) (text : List ℕ) → j ≡ k → SpellsTyped bytes p t → SpellsTyped bytes q u
@@ -135,8 +136,9 @@ typed_one bytes j k status text same (q, u, typed', answers) p t typed cause = b
     by (inr (inl x)) cause = x.0
     by (inr (inr (inl x))) cause = x.0
     by (inr (inr (inr (inl x)))) cause = x.0
-    by (inr (inr (inr (inr x)))) (inl not) = absurd (unsearched not x.1)
-    by (inr (inr (inr (inr x)))) (inr lacks) = absurd (found_one bytes p q t u j k text same typed typed' lacks x.2)
+    by (inr (inr (inr (inr (inl x))))) cause = x.0
+    by (inr (inr (inr (inr (inr x))))) (inl not) = absurd (unsearched not x.1)
+    by (inr (inr (inr (inr (inr x))))) (inr lacks) = absurd (found_one bytes p q t u j k text same typed typed' lacks x.2)
 
 -- the cause of a status, in what is answered at the words
 abbrev Cause : List (String Global) → List ℕ → ℕ → Type 0

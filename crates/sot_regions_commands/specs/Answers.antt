@@ -1,5 +1,5 @@
 -- What `soter_regions` answers to a jitter and the bytes of its input.
-use Rattle.std.specs.Prelude.{◌≡◌, ℕ, ◌⊎◌, List}
+use Rattle.std.specs.Prelude.{◌≡◌, ℕ, ◌<◌, ◌⊎◌, ℤ, List}
 use Rattle.sot_lists.specs.Places.{At}
 use Rattle.sot_sections.specs.declared.mission.Need.TheVariants as needs
 use Rattle.sot_tree.specs.Trees.{Program}
@@ -31,7 +31,8 @@ use Rattle.sot_regions_words.specs.declared.refusal.RegionsRefusal.{RegionsRefus
 use Rattle.sot_regions_words.specs.declared.refusal.RegionsRefusal.TheVariants.{Jitter, SafeNone}
 use Rattle.sot_regions_words.specs.declared.refusal.RegionsRefusal.TheVariants.{TooMany, SaferNone}
 use Rattle.sot_regions_commands.specs.AsAsked.{IsLate, as_asked, IsSearched}
-use Rattle.sot_regions_commands.specs.Findings.{IsInside, AreFound}
+use Rattle.sot_regions_commands.specs.Findings.{IsInside, AreFirstFound, AreFound}
+use Rattle.sot_regions_commands.specs.Shown.{IsShown, HaveRegions, verdict_of_some}
 
 -- the safe region of each module of the second tables lies inside that of the first
 abbrev pub StayInside : Tables → Tables → Type 0
@@ -81,20 +82,46 @@ HasNoRegion p t jitter m =
     → Resolves other u → At t.modules m a → At u.modules m b → IsInside b.safe a.safe
     → ¬ (IsWellCertified u jitter cert)
 
--- a line that names a module of the program. Where it says that nothing is left of the module's
--- safe region at a grain of one unit, of a module that no other plant concerns, it has no region
+-- even of module m alone: no cells show its regions
+abbrev pub HasNoCells : Program → Tables → ℕ → ℕ → Type 0
+HasNoCells p t jitter m =
+    (other : Program) (u : Tables) (cert : Cert) (a b : ModuleInfo) → HasOtherRegions p other
+    → Resolves other u → At t.modules m a → At u.modules m b → IsInside b.safe a.safe
+    → ¬ (IsShown u jitter cert m b)
+
+-- module m is there, and the modules before it, where there are some, have regions
+abbrev pub IsReached : Program → Tables → ℕ → ℕ → Type 0
+IsReached p t jitter m =
+    ((a : ModuleInfo) × At t.modules m a) × (0 < m → HaveRegions p t jitter m)
+
+-- nothing is left of the safe region of module m at this grain. Where that is one unit, and no
+-- other plant concerns the module, it has no region
+abbrev pub LeavesNothing : Program → Tables → ℕ → ℕ → List ℤ → Type 0
+LeavesNothing p t jitter m grain =
+    (a : ModuleInfo) → At t.modules m a → IsUnitGrain grain → IsAlone t a
+    → HasNoCells p t jitter m × HasNoRegion p t jitter m
+
+-- a line that names a module of the program: the first one of which no region was found, since
+-- those before it have regions
 abbrev pub NamesModule : Program → Tables → ℕ → RegionsRefusal → Type 0
 NamesModule p t jitter (Jitter j) = ⊥
 NamesModule p t jitter (SafeNone m grain) =
-    (a : ModuleInfo) × At t.modules m a
-    × (IsUnitGrain grain → IsAlone t a → HasNoRegion p t jitter m)
-NamesModule p t jitter (TooMany m) = (a : ModuleInfo) × At t.modules m a
-NamesModule p t jitter (SaferNone m) = (a : ModuleInfo) × At t.modules m a
+    IsReached p t jitter m × LeavesNothing p t jitter m grain
+NamesModule p t jitter (TooMany m) = IsReached p t jitter m
+NamesModule p t jitter (SaferNone m) = IsReached p t jitter m
 
 -- of a module no region was found, and this is said
 abbrev pub IsNotFound : Program → Tables → ℕ → List ℕ → Type 0
 IsNotFound p t jitter text =
     (r : RegionsRefusal) × NamesModule p t jitter r × (text ≡ refusal_line t r)
+
+-- of a module no region was found, and a checker refuses the program with those of the modules
+-- before it, for this
+abbrev pub IsRefusedBefore : Program → Tables → ℕ → List ℕ → Type 0
+IsRefusedBefore p t jitter text =
+    (m : ℕ) × (regions : List ModuleRegions) × (u : Tables) × (cert : Cert)
+    × AreFirstFound t regions m × Resolves (with_regions regions p) u × (cert.jitter ≡ jitter)
+    × ((r : Refusal) × (verdict_of_some u cert.jitter cert).Refuses r × (text ≡ refusal_text u r))
 
 -- regions were found, and a checker refuses the program with them, for this
 abbrev pub IsRefusedAsFound : Program → Tables → ℕ → List ℕ → Type 0
@@ -105,13 +132,14 @@ IsRefusedAsFound p t jitter text =
 
 -- what is answered to a program that breaks no rule of typing: at status 1 that the jitter is not
 -- below all periods; else the first condition that fails of the program as it was asked; else that
--- no region was found of a module, or why the program with the found regions is refused. At status
--- 0 its mission
+-- no region was found of a module, or why the program with the found regions is refused: those of
+-- the modules before such a one, or those of all. At status 0 its mission
 abbrev pub Answers : Program → Tables → ℕ → ℕ → List ℕ → Type 0
 Answers p t jitter status text =
     ((status ≡ 1) × IsLate t jitter × (text ≡ refusal_line t (Jitter jitter)))
     ⊎ ((status ≡ 1) × (¬ (IsLate t jitter)) × IsRefusedAsAsked t text)
     ⊎ ((status ≡ 1) × IsSearched t jitter × IsNotFound p t jitter text)
+    ⊎ ((status ≡ 1) × IsSearched t jitter × IsRefusedBefore p t jitter text)
     ⊎ ((status ≡ 1) × IsSearched t jitter × IsRefusedAsFound p t jitter text)
     ⊎ ((status ≡ 0) × IsSearched t jitter × IsMissionOf p t jitter text)
 

@@ -19,14 +19,18 @@ IsInside found given =
 abbrev pub HasBoxes : ℕ → BoxList → Type 0
 HasBoxes most region = (1 ≤ length region.boxes) × (length region.boxes ≤ most)
 
--- regions for all modules of a program: each `safe` lies inside the given one, and each region has
--- 1 to 256 boxes
-pub record AreFound (t : Tables) (regions : List ModuleRegions) : Type 0 where
-  pub count : length regions ≡ length t.modules
+-- regions for the first modules of a program, so many: each `safe` lies inside the given one, and
+-- each region has 1 to 256 boxes
+pub record AreFirstFound (t : Tables) (regions : List ModuleRegions) (count : ℕ) : Type 0 where
+  pub count_is : length regions ≡ count
   pub inside : (k : ℕ) (a : ModuleInfo) (r : ModuleRegions) → At t.modules k a → At regions k r
       → IsInside r.safe a.safe
   pub boxes : (k : ℕ) (r : ModuleRegions) → At regions k r
       → HasBoxes 256 r.safe × HasBoxes 256 r.safer
+
+-- for all of them
+abbrev pub AreFound : Tables → List ModuleRegions → Type 0
+AreFound t regions = AreFirstFound t regions (length t.modules)
 
 -- boxes of so many axes, with ends from -10^12 to 10^12
 abbrev pub IsBoxFor : ℕ → List Side → Type 0

@@ -4,5 +4,6 @@ pub mod Ends
 pub mod Answers
 pub mod AsAsked
 pub mod Findings
+pub mod Shown
 -- what the functions below it promise
 pub mod Steps

@@ -28,10 +28,12 @@ use Rattle.sot_regions_words.specs.Lines.{usage_text}
 use Rattle.sot_answers.specs.Texts.{input_limit, long_text}
 use Rattle.sot_regions_commands.specs.declared.search.SearchFail.{SearchFail}
 use Rattle.sot_regions_commands.specs.declared.search.SearchFail.TheVariants as fails
+use Rattle.sot_regions_commands.specs.declared.search.Searched.{Searched}
+use Rattle.sot_regions_commands.specs.declared.search.Searched.TheVariants as ends
 use Rattle.sot_regions_commands.specs.Findings.{IsFinding}
 use Rattle.sot_law_other_regions.specs.Fitting.{AreFitting}
 use Rattle.sot_regions_commands.specs.Answers.{SpellsTyped, IsRefusedAsFound, IsMissionOf}
-use Rattle.sot_regions_commands.specs.Answers.{Answers, IsNotFound, Replies}
+use Rattle.sot_regions_commands.specs.Answers.{Answers, IsNotFound, IsRefusedBefore, Replies}
 use Rattle.sot_regions_commands.specs.Ends.{AsksSome}
 
 -- some program that the bytes spell has these tables
@@ -84,10 +86,15 @@ IsWritten text =
     (p : Program) × (t : Tables) × (cert : Cert) × IsCertificateFor p t cert
     × (text ≡ written_with_jitter p t cert)
 
+-- what is said of a program of which some module has none
+abbrev pub AnswersNone : Program → Tables → ℕ → ℕ → List ℕ → Type 0
+AnswersNone p t jitter status text =
+    (status ≡ 1) × (IsNotFound p t jitter text ⊎ IsRefusedBefore p t jitter text)
+
 -- what is said of a program whose regions are searched
 abbrev pub AnswersSearched : Program → Tables → ℕ → ℕ → List ℕ → Type 0
 AnswersSearched p t jitter status text =
-    ((status ≡ 1) × IsNotFound p t jitter text) ⊎ AnswersFound p t jitter status text
+    AnswersNone p t jitter status text ⊎ AnswersFound p t jitter status text
 
 -- what is said of a program that a text spells
 abbrev pub AnswersTree : Program → ℕ → ℕ → List ℕ → Type 0
@@ -95,19 +102,32 @@ AnswersTree p jitter status text =
     ((t : Tables) × Resolves p t × Answers p t jitter status text)
     ⊎ ((status ≡ 3) × ((fault : TypeFault) × IsFirstFault p fault × (text ≡ type_text fault)))
 
--- a line that names a module of the program, with what is known of its held regions
-abbrev pub TellsModule : Tables → ℕ → RegionsRefusal → Type 0
-TellsModule t jitter (Jitter j) = ⊥
-TellsModule t jitter (SafeNone m grain) =
+-- module m is there, and where nothing is left of its safe region at a grain of one unit, and no
+-- other plant concerns it, no held region lies in it
+abbrev pub TellsGrain : Tables → ℕ → ℕ → List ℤ → Type 0
+TellsGrain t jitter m grain =
     (a : ModuleInfo) × At t.modules m a
     × (IsUnitGrain grain → IsAlone t a → HasNoHeldRegion t jitter a)
-TellsModule t jitter (TooMany m) = (a : ModuleInfo) × At t.modules m a
-TellsModule t jitter (SaferNone m) = (a : ModuleInfo) × At t.modules m a
 
--- why there are no regions: such a line; want of memory may come at any time
-abbrev pub IsNone : Tables → ℕ → SearchFail → Type 0
-IsNone t jitter (fails.NotFound r) = TellsModule t jitter r
-IsNone t jitter fails.Memory = Unit {0}
+-- a line that names module m, with what is known of its held regions
+abbrev pub TellsModule : Tables → ℕ → ℕ → RegionsRefusal → Type 0
+TellsModule t jitter m (Jitter j) = ⊥
+TellsModule t jitter m (SafeNone n grain) = (n ≡ m) × TellsGrain t jitter m grain
+TellsModule t jitter m (TooMany n) = (n ≡ m) × ((a : ModuleInfo) × At t.modules m a)
+TellsModule t jitter m (SaferNone n) = (n ≡ m) × ((a : ModuleInfo) × At t.modules m a)
+
+-- why there are no regions of module m: such a line; want of memory may come at any time
+abbrev pub IsNone : Tables → ℕ → ℕ → SearchFail → Type 0
+IsNone t jitter m (fails.NotFound r) = TellsModule t jitter m r
+IsNone t jitter m fails.Memory = Unit {0}
+
+-- what was found for all modules of a program, or for those before one, and why there are none of
+-- that one
+abbrev pub AreSearched : Tables → ℕ → Searched → Type 0
+AreSearched t jitter (ends.All found) =
+    AreFindings t found.regions.items found.cells.items (length t.modules)
+AreSearched t jitter (ends.First before r) =
+    (m : ℕ) × AreFindings t before.regions.items before.cells.items m × TellsModule t jitter m r
 
 -- where nothing is left of a safe region at a grain of one unit, of a module that no other plant
 -- concerns, no held region lies in it
@@ -115,3 +135,10 @@ abbrev pub TellsFail : Tables → ℕ → ℕ → RegionsFail → Type 0
 TellsFail t jitter m fail =
     (grain : List ℤ) (a : ModuleInfo) → fail ≡ causes.SafeNone grain → IsUnitGrain grain
     → At t.modules m a → IsAlone t a → HasNoHeldRegion t jitter a
+
+-- cells for all modules of a program, of which so many are those that were found, and the others
+-- have none
+pub record ArePadded (cells padded : List (Option Cells)) (count : ℕ) : Type 0 where
+  pub count_is : length padded ≡ count
+  pub has : (m : ℕ) (c : Cells) → At cells m (Some c) → At padded m (Some c)
+  pub own : (m : ℕ) (c : Cells) → At padded m (Some c) → At cells m (Some c)

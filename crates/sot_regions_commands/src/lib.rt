@@ -8,6 +8,7 @@
 #![tactic(auto)]
 
 mod as_asked;
+mod before;
 mod finding;
 mod mission;
 mod program;

@@ -4,20 +4,20 @@ ghost use Rattle.std.specs.Prelude.{◌≡◌, ◌≤◌, length, IfOk};
 ghost use Rattle.sot_tree.specs.Trees.{Program as Tree};
 ghost use Rattle.sot_tree.specs.TreeViews.{program_view};
 ghost use Rattle.sot_parser.specs.Programs.{Spells};
-ghost use Rattle.sot_regions_words.specs.Lines.{refusal_line};
 ghost use Rattle.sot_answers.specs.Texts.{input_limit};
 ghost use Rattle.sot_regions_commands.specs.AsAsked.{IsSearched};
 ghost use Rattle.sot_regions_commands.specs.Answers.{SpellsTyped, Answers, Replies};
 ghost use Rattle.sot_regions_commands.specs.Steps.{AreTablesOf, AnswersSearched, AnswersTree};
 
 use crate::as_asked::{check_as_asked, is_late};
+use crate::before::{no_regions, none_of};
 use crate::mission::mission_of;
-use crate::search::{Asked, SearchFail, search};
+use crate::search::{Asked, Searched, search};
 use sot_answers::{Answer, faulty, refused};
 use sot_lang::Typed;
 use sot_parser::{ParseFail, parse};
 use sot_ports::{Process, let_go};
-use sot_regions_words::{RegionsRefusal, refusal_line};
+use sot_regions_words::RegionsRefusal;
 use sot_report::Fault;
 use sot_rules::TypeFail;
 use sot_text::Lexer;
@@ -25,16 +25,6 @@ use sot_tree::Program;
 use sot_typing::resolve;
 use std::alloc::{AllocError, Global};
 use std::thread::Threads;
-
-// Status 1: a line that speaks of regions.
-fn no_regions(alloc: Global, tables: &Typed, refusal: &RegionsRefusal) -> Result<Answer, AllocError>
-    ensures status { IfOk result (λ answer. answer.status ≡ 1) }
-    ensures text { IfOk result (λ answer.
-        answer.text.items ≡ refusal_line tables.now refusal.now) }
-{
-    let text = refusal_line(alloc, tables, refusal)?;
-    Ok(Answer { status: 1, text })
-}
 
 // What is said of a program whose regions are searched.
 fn searched<R: Threads + Sync>(
@@ -50,10 +40,9 @@ fn searched<R: Threads + Sync>(
         (λ answer. AnswersSearched p asked.entry.tables.now asked.entry.jitter answer.status
         answer.text.items) }
 {
-    match search(alloc, asked) {
-        Ok(findings) => mission_of(rt, alloc, asked, findings),
-        Err(SearchFail::NotFound(refusal)) => no_regions(alloc, asked.tables, &refusal),
-        Err(SearchFail::Memory) => Err(AllocError),
+    match search(alloc, asked)? {
+        Searched::All(findings) => mission_of(rt, alloc, asked, findings),
+        Searched::First { before, refusal } => none_of(rt, alloc, asked, before, &refusal),
     }
 }
 

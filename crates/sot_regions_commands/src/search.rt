@@ -13,6 +13,7 @@ ghost use Rattle.sot_regions_commands.specs.declared.search.SearchFail.TheVarian
 ghost use Rattle.sot_law_held_regions.specs.Alone.{IsAlone};
 ghost use Rattle.sot_regions_commands.specs.Findings.{IsFinding};
 ghost use Rattle.sot_regions_commands.specs.Steps.{AreTablesOf, AreFindings, IsNone, TellsFail};
+ghost use Rattle.sot_regions_commands.specs.Steps.{AreSearched};
 
 use crate::finding::{Finding, finding_of};
 use crate::typed::typed_with;
@@ -38,10 +39,22 @@ pub struct Findings {
     pub cells: Vec<Option<Cells>>,
 }
 
-/// Why there are no regions.
+/// What the search came to.
+#[derive(Drop)]
+pub enum Searched {
+    /// What was found for all modules.
+    All(Findings),
+    /// What was found for the modules before one, and why there are no regions of that one.
+    First {
+        before: Findings,
+        refusal: RegionsRefusal,
+    },
+}
+
+/// Why there are no regions of a module.
 #[derive(Drop)]
 pub enum SearchFail {
-    /// None was found of a module.
+    /// None was found.
     NotFound(RegionsRefusal),
     /// Memory ran out.
     Memory,
@@ -121,7 +134,7 @@ fn found_of(
 #[tactic(auto, using(crate::proofs::Forms::tells_module, crate::proofs::Forms::tells_grain))]
 fn named(module: u32, fail: RegionsFail) -> SearchFail
     ensures { (t : Tables) (jitter : ℕ) → «module» < length t.modules
-        → TellsFail t jitter «module» fail → IsNone t jitter result }
+        → TellsFail t jitter «module» fail → IsNone t jitter «module» result }
 {
     match fail {
         RegionsFail::SafeNone { grain } => {
@@ -151,7 +164,7 @@ fn search_one(
     ensures ok { IfOk result (λ finding. (a : Info)
         → At asked.entry.tables.now.modules «module» a
         → IsFinding a finding.regions finding.cells) }
-    ensures err { IfErr result (IsNone asked.entry.tables.now asked.entry.jitter) }
+    ensures err { IfErr result (IsNone asked.entry.tables.now asked.entry.jitter «module») }
 {
     match found_of(alloc, asked, before, module) {
         Err(fail) => Err(named(module, fail)),
@@ -162,15 +175,14 @@ fn search_one(
     }
 }
 
-/// Searches regions for all modules of a program, in declared order.
-pub fn search(alloc: Global, asked: Asked<'_>) -> Result<Findings, SearchFail>
+/// Searches regions for the modules of a program, in declared order, up to the first one of which
+/// none are found.
+pub fn search(alloc: Global, asked: Asked<'_>) -> Result<Searched, AllocError>
     requires short { length asked.text.now ≤ input_limit }
     requires tables { AreTablesOf asked.text.now asked.tables.now }
     requires boxes { HaveSafeBoxes asked.tables.now }
     requires jitter { asked.jitter ≤ 999 }
-    ensures ok { IfOk result (λ found. AreFindings asked.entry.tables.now found.regions.items
-        found.cells.items (length asked.entry.tables.now.modules)) }
-    ensures err { IfErr result (IsNone asked.entry.tables.now asked.entry.jitter) }
+    ensures { IfOk result (AreSearched asked.entry.tables.now asked.entry.jitter) }
 {
     let mut findings = Findings {
         regions: Vec::new(alloc),
@@ -178,9 +190,19 @@ pub fn search(alloc: Global, asked: Asked<'_>) -> Result<Findings, SearchFail>
     };
     let tables = asked.tables;
     for module in 0..tables.modules.len() as u32 {
-        let one = search_one(alloc, asked, &findings.regions, module)?;
-        findings.regions.push(one.regions)?;
-        findings.cells.push(Some(one.cells))?;
+        match search_one(alloc, asked, &findings.regions, module) {
+            Ok(one) => {
+                findings.regions.push(one.regions)?;
+                findings.cells.push(Some(one.cells))?;
+            }
+            Err(SearchFail::NotFound(refusal)) => {
+                return Ok(Searched::First {
+                    before: findings,
+                    refusal,
+                });
+            }
+            Err(SearchFail::Memory) => return Err(AllocError),
+        }
     }
-    Ok(findings)
+    Ok(Searched::All(findings))
 }

@@ -97,19 +97,26 @@ fn nothing_is_left_of_a_narrow_region(rt: HostRuntime) {
     }
 }
 
-// Two modules with plants that move on, whatever is commanded.
-fn moving_both(alloc: Global, one: &str, two: &str) -> Result<String, AllocError> {
+// Two modules with plants that move on, whatever is commanded. The first plant may see the other,
+// and the second one has this region.
+fn moving_both(
+    alloc: Global,
+    sees: &str,
+    one: &str,
+    two: &str,
+    safe: &str,
+) -> Result<String, AllocError> {
     format!(in alloc;
         "topic one: int[0..1] = 0;
 topic two: int[0..1] = 0;
-plant pos {{ state x: int; input one; next x = {one}; }}
+plant pos {{ state x: int; input one; {sees} next x = {one}; }}
 plant off {{ state y: int; input two; next y = {two}; }}
 external fast period 2 offset 0 {{ reads pos; writes one; }}
 node slow period 2 offset 0 {{ reads pos; writes one; do {{ publish one = 0; }} }}
 external quick period 2 offset 0 {{ reads off; writes two; }}
 node calm period 2 offset 0 {{ reads off; writes two; do {{ publish two = 0; }} }}
 module m {{ ac fast; sc slow; period 2 offset 0; plant pos; safe [0..9]; safer none; }}
-module n {{ ac quick; sc calm; period 2 offset 0; plant off; safe [0..9]; safer none; }}"
+module n {{ ac quick; sc calm; period 2 offset 0; plant off; safe {safe}; safer none; }}"
     )
 }
 
@@ -133,7 +140,40 @@ fn the_first_module_without_regions_is_named(rt: HostRuntime) {
             "1 refused regions module m safe none grain (1)\n",
         ),
     ] {
-        let text = moving_both(alloc, one, two).expect(&rt, "memory");
+        let text = moving_both(alloc, "", one, two, "[0..9]").expect(&rt, "memory");
         answers(&rt, alloc, "", text.as_str(), want);
+    }
+}
+
+#[test]
+fn a_module_is_named_behind_one_that_has_regions(rt: HostRuntime) {
+    let alloc = rt.alloc();
+    for (sees, one, two, safe, want) in [
+        (
+            "",
+            "min(x + 1, 5)",
+            "y - y",
+            "[0..9999]",
+            "1 refused regions module n safe TooMany\n",
+        ),
+        (
+            "",
+            "min(x + 1, 5)",
+            "y + two * 9",
+            "[0..9]",
+            "1 refused regions module n safer none\n",
+        ),
+        (
+            "sees off;",
+            "min(off.y, 5)",
+            "y + 1",
+            "[0..9]",
+            "1 refused regions module n safe none grain (1)\n",
+        ),
+    ] {
+        for jitter in ["", "1"] {
+            let text = moving_both(alloc, sees, one, two, safe).expect(&rt, "memory");
+            answers(&rt, alloc, jitter, text.as_str(), want);
+        }
     }
 }
