@@ -6,14 +6,15 @@ use Rattle.std.specs.Fmt.{decimal}
 use Rattle.std.proofs.lemmas.Fmt.{decimal_injective}
 use Rattle.std.proofs.lemmas.Option.{same_Some}
 use Rattle.sot_lists.specs.Places.{At}
-use Rattle.sot_lists.proofs.Places.{at_same, at_map, at_front}
+use Rattle.sot_lists.proofs.Places.{at_same, at_map}
 use Rattle.sot_lang.specs.declared.tables.TopicInfo.{TopicInfo}
 use Rattle.sot_lang.specs.declared.tables.ScalarInfo.{ScalarInfo}
 use Rattle.sot_lang.specs.declared.tables.PlantInfo.{PlantInfo}
 use Rattle.sot_lang.specs.declared.tables.NodeInfo.{NodeInfo}
 use Rattle.sot_lang.specs.declared.tables.ModuleInfo.{ModuleInfo}
 use Rattle.sot_lang.specs.Tables.{Tables}
-use Rattle.sot_lang.specs.TableRules.{MeetsTableRules, declared_names}
+use Rattle.sot_lang.specs.TableRules.{MeetsTableRules}
+use Rattle.sot_lang.proofs.NamesOnce.{topic_same}
 use Rattle.sot_typing.specs.Resolved.{ProgramTables, NodeTable, node_seen, tables_seen}
 use Rattle.sot_law_same_tables.proofs.Seen.{scalars_same, nodes_seen_same}
 use Rattle.sot_flight.specs.Plans.{Plan}
@@ -29,17 +30,9 @@ use Rattle.sot_bridge.specs.Ends.{Decides}
 use Rattle.sot_bridge.proofs.Alike.{Alike, alike, rules_of, accepted_refused, inside_outside, side_faulty}
 
 -- a name tells one topic
-name_at : (p : Tables) (name : List ℕ) (outside : Bool) (k : ℕ) → IsNamed p name outside k → At (declared_names p) k name
-name_at p name outside k named =
-    let topics : List (List ℕ) = map (λ (x : TopicInfo). x.name) p.topics in
-    let plants : List (List ℕ) = map (λ (x : PlantInfo). x.name) p.plants in
-    let nodes : List (List ℕ) = map (λ (x : NodeInfo). x.name) p.nodes in
-    let modules : List (List ℕ) = map (λ (x : ModuleInfo). x.name) p.modules in
-    let here : At topics k name = subst (λ (n : List ℕ). At topics k n) named.2.0 (at_map (λ (x : TopicInfo). x.name) p.topics k named.0 named.1) in
-    at_front (topics ++ plants ++ nodes) modules k name (at_front (topics ++ plants) nodes k name (at_front topics plants k name here))
-
 named_once : (p : Tables) → MeetsTableRules p → (name : List ℕ) (outside : Bool) (k l : ℕ) → IsNamed p name outside k → IsNamed p name outside l → k ≡ l
-named_once p rules name outside k l here there = rules.names_once k l name (name_at p name outside k here) (name_at p name outside l there)
+named_once p rules name outside k l here there =
+    topic_same p rules k l here.0 there.0 here.1 there.1 (here.2.0 ∙ sym there.2.0)
 
 -- tables that look the same have the same topics, and as many sends may come of them
 heads : {A : Type 0} (x y : A) (xs ys : List A) → x ∷ xs ≡ y ∷ ys → (x ≡ y) × (xs ≡ ys)

@@ -23,7 +23,8 @@ use Rattle.sot_lang.specs.declared.tables.PlantInfo.{PlantInfo}
 use Rattle.sot_lang.specs.declared.tables.ModuleInfo.{ModuleInfo}
 use Rattle.sot_lang.specs.Tables.{Tables}
 use Rattle.sot_lang.specs.OwnerNames.{width_of}
-use Rattle.sot_lang.specs.TableRules.{MeetsTableRules, AreDistinct}
+use Rattle.sot_lang.specs.TableRules.{MeetsTableRules}
+use Rattle.sot_lang.proofs.NamesOnce.{module_same}
 use Rattle.sot_lang.specs.CertRules.{FitsTables, AreCellsOf}
 use Rattle.sot_json.specs.declared.fault.JsonKind.TheVariants.{NotJson, Unknown, OutsideRange}
 use Rattle.sot_json.specs.Says.{◌>>=◌, or, unless, part}
@@ -149,18 +150,9 @@ jitter_read p j few below =
     ∙ ap (λ t. unless OutsideRange t >>= λ ok. Ok j) below
 
 -- names of modules stand once
-
-rest_once : (xs ys : List (List ℕ)) → AreDistinct (xs ++ ys) → AreDistinct ys
-rest_once [] ys h = h
-rest_once (x ∷ xs) ys h = rest_once xs ys (λ i j name a b. (let e = h (suc i) (suc j) name a b in omega (arith, e)))
-
 module _ (p : Tables) (rules : MeetsTableRules p) where
   differ : NamesDiffer p.modules
-  differ i j a b at_a at_b e =
-      let once = rest_once (map (λ t. t.name) p.topics ++ map (λ k. k.name) p.plants ++ map (λ n. n.name) p.nodes) (map (λ m. m.name) p.modules)
-      rules.names_once in
-      once i j a.name (at_map (λ (m : ModuleInfo). m.name) p.modules i a at_a)
-      (subst (λ n. At (map (λ (m : ModuleInfo). m.name) p.modules) j n) (sym e) (at_map (λ (m : ModuleInfo). m.name) p.modules j b at_b))
+  differ i j a b at_a at_b e = module_same p rules i j a b at_a at_b e
 
   module _ (c : Cert) (fits : FitsTables p c) (w : IsWritable c) where
     abbrev written : Members

@@ -30,6 +30,7 @@ use Rattle.sot_iv.specs.TrapFree.{IsTrapFree}
 use Rattle.sot_iv.specs.Evaluation.{body_intervals}
 use Rattle.sot_iv.specs.Monotony.{AreNarrower, IsNarrowerDraft, AreNarrowerDrafts}
 use Rattle.sot_iv.proofs.Least.{IsOrdered}
+use Rattle.sot_iv.proofs.NarrowBoxes.{ordered_narrower}
 use Rattle.sot_iv.proofs.Bodies.{execution_is}
 use Rattle.sot_iv.proofs.BodyNarrow.{execution_narrow}
 use Rattle.sot_tube.specs.Composition.{NoSharedPlant}
@@ -44,11 +45,6 @@ ordered_read (r ∷ rs) (suc k) o = ordered_read rs k o.1
 ordered_map : {A : Type 0} (f : A → Side) (xs : List A) → ((x : A) → Has xs x → IsOrdered (f x)) → AreOrdered (map f xs)
 ordered_map f [] h = tt
 ordered_map f (x ∷ xs) h = (h x (0, refl), ordered_map f xs (λ y has. h y (suc has.0, has.1)))
-
-narrow_self : (rs : List Side) → AreOrdered rs → AreNarrower rs rs
-narrow_self [] o = tt
-narrow_self (r ∷ rs) o =
-    (let low : r.lo ≤ℤ r.lo = omega (arith, ints) in let high : r.hi ≤ℤ r.hi = omega (arith, ints) in ((low, o.0, high), narrow_self rs o.1))
 
 -- a command's interval has a number in it, where those of the drafts have
 sure_ordered : (whole : Side) (d e : Drafted) → IsOrdered whole → IsNarrowerDraft d e → IsOrdered (sure_interval whole d)
@@ -130,7 +126,7 @@ module _ (p : Tables) (rules : MeetsTableRules p) (a : ModuleInfo) (plant : Plan
   commands_ordered acts cell fired ordered from =
       let seen = reading_intervals p sc (slice_set from.hulls a.plant cell) in
       let n = execution_narrow acts (local_ranges sc) (write_ranges p sc) seen (local_ranges sc) seen (local_ranges sc) fired (Ok fired)
-      (narrow_self seen (readings_ordered from.hulls cell from.are ordered)) (narrow_self (local_ranges sc) locals_ordered) from.runs from.runs in
+      (ordered_narrower seen (readings_ordered from.hulls cell from.are ordered)) (ordered_narrower (local_ranges sc) locals_ordered) from.runs from.runs in
       let same : n.0 ≡ fired = (let e = n.1 in cc) in
       let drafts = subst (λ (f : Intervals). AreNarrowerDrafts f.draft fired.draft) same n.2.draft in
       ordered_map (command_interval p sc.writes.items fired.draft) plant.inputs.items

@@ -7,6 +7,7 @@ use Rattle.std.proofs.lemmas.Int.{to_z-of_z, ints, fits_signed_mul}
 use Rattle.sot_text.specs.declared.token.Span.{Span}
 use Rattle.sot_lang.specs.declared.trap.TrapKind.TheVariants.{Wide}
 use Rattle.sot_lang.specs.Values.{is_word, word, trap}
+use Rattle.sot_lang.proofs.Words.{fits_is_word, is_word_fits}
 
 pub abs_of_word : (a : ℤ) → FitsSigned w64 a → unsigned_abs a ≤ 2 ^ 63
 abs_of_word (pos n) f = omega (arith, f.sfits)
@@ -21,15 +22,6 @@ widens a f = omega (arith, ints)
 pub product_is : (a b : ℤ) → FitsSigned w64 a → FitsSigned w64 b
     → to_z w128 (of_z w128 (to_z w128 (of_z w128 (to_z w64 (of_z w64 a))) *ℤ to_z w128 (of_z w128 (to_z w64 (of_z w64 b))))) ≡ a *ℤ b
 product_is a b fa fb = rw (widens a fa, widens b fb) (to_z-of_z w128 (a *ℤ b) (product_fits a b fa fb))
-
--- a number is in 64 bits exactly where it fits the type of 64 bits
-pub fits_is_word : (z : ℤ) → FitsSigned w64 z → is_word z ≡ true
-fits_is_word (pos n) f = grind (arith, ints, f.sfits)
-fits_is_word (negsuc n) f = grind (arith, ints, f.sfits)
-
-pub is_word_fits : (z : ℤ) → is_word z ≡ true → FitsSigned w64 z
-is_word_fits (pos n) e = record { sfits = grind (arith, ints, e) }
-is_word_fits (negsuc n) e = record { sfits = grind (arith, ints, e) }
 
 pub word_fits : (at : Span) (z : ℤ) → FitsSigned w64 z → word at z ≡ Ok z
 word_fits at z f = rw (fits_is_word z f) refl

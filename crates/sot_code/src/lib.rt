@@ -17,7 +17,7 @@ mod seen;
 mod term;
 
 pub use fired::Fired;
-pub use gather::{put, put_point};
+pub use gather::{put, put_locals, put_point, put_seen};
 pub use locals::Locals;
 pub use node::{run_node, run_node_over};
 pub use plant::{plant_next, plant_next_over};

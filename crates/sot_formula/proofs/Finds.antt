@@ -23,7 +23,8 @@ use Rattle.sot_formula.specs.Meanings.{scale_of, IsPlain, IsField, IsVariable, I
 use Rattle.sot_formula.specs.Finding.{place_of, is_field, found_scalar, plain_of, plain_in}
 use Rattle.sot_formula.specs.Finding.{plain_named, scalars_of, field_in, field_named, found_state, variable_in}
 use Rattle.sot_formula.specs.Finding.{variable_named, or_else, part_named, module_named}
-use Rattle.sot_formula.proofs.Names.{topic_same, plant_same, topic_no_plant, module_same, found, found_at, found_first}
+use Rattle.sot_lang.proofs.NamesOnce.{topic_same, plant_same, topic_no_plant, module_same}
+use Rattle.sot_formula.proofs.Names.{found, found_at, found_first}
 
 named_yes : (name word : List ℕ) → name ≡ word → bytes_eq name word ≡ true
 named_yes name word e = (bytes_eq-Decides name word).1 e

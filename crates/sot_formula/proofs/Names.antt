@@ -1,4 +1,4 @@
--- Things of one sort that have one name are one, and what is found in a list.
+-- What is found in a list.
 use Rattle.std.proofs.Common.{◌≡◌, ℕ, zero, suc, ◌+◌, ◌<◌, ◌≤◌, Bool, true, false, nat_lt, not, cond, List, [], ◌∷◌, ◌++◌, Some, None, length, map, inl, inr}
 use Rattle.std.proofs.Common.{refl, sym, ap, subst, ◌∙◌, arith}
 use Rattle.std.specs.List.{position, position_or_len}
@@ -7,55 +7,7 @@ use Rattle.std.proofs.lemmas.Bool.Decides.{nat_tests}
 use Rattle.std.proofs.lemmas.List.Quantifiers.{position-Some}
 use Rattle.std.proofs.lemmas.Option.{none-some, same_Some, slice_get_within, get_or_from_slice_get}
 use Rattle.sot_lists.specs.Places.{At}
-use Rattle.sot_lists.proofs.Places.{at_below, at_map, at_front, at_behind}
-use Rattle.sot_lang.specs.declared.tables.TopicInfo.{TopicInfo}
-use Rattle.sot_lang.specs.declared.tables.PlantInfo.{PlantInfo}
-use Rattle.sot_lang.specs.declared.tables.ModuleInfo.{ModuleInfo}
-use Rattle.sot_lang.specs.Tables.{Tables}
-use Rattle.sot_lang.specs.TableRules.{MeetsTableRules, declared_names}
-
-module _ (p : Tables) (rules : MeetsTableRules p) where
-  pub topic_same : (s t : ℕ) (x y : TopicInfo) → At p.topics s x → At p.topics t y → x.name ≡ y.name → s ≡ t
-  topic_same s t x y at_x at_y e =
-      let place = λ (k : ℕ) (z : TopicInfo) (at : At p.topics k z).
-      at_front (map (λ a. a.name) p.topics ++ map (λ a. a.name) p.plants ++ map (λ a. a.name) p.nodes) (map (λ a. a.name) p.modules) k z.name
-      (at_front (map (λ a. a.name) p.topics ++ map (λ a. a.name) p.plants) (map (λ a. a.name) p.nodes) k z.name
-      (at_front (map (λ a. a.name) p.topics) (map (λ a. a.name) p.plants) k z.name (at_map (λ (a : TopicInfo). a.name) p.topics k z at))) in
-      rules.names_once s t y.name (subst (λ n. At (declared_names p) s n) e (place s x at_x)) (place t y at_y)
-
-  plant_place : (k : ℕ) (z : PlantInfo) → At p.plants k z → At (declared_names p) (length (map (λ (a : TopicInfo). a.name) p.topics) + k) z.name
-  plant_place k z at =
-      let names : List (List ℕ) = map (λ (a : TopicInfo). a.name) p.topics in
-      at_front (names ++ map (λ a. a.name) p.plants ++ map (λ a. a.name) p.nodes) (map (λ a. a.name) p.modules) (length names + k) z.name
-      (at_front (names ++ map (λ a. a.name) p.plants) (map (λ a. a.name) p.nodes) (length names + k) z.name
-      (at_behind names (map (λ a. a.name) p.plants) k z.name (at_map (λ (a : PlantInfo). a.name) p.plants k z at)))
-
-  pub plant_same : (s t : ℕ) (x y : PlantInfo) → At p.plants s x → At p.plants t y → x.name ≡ y.name → s ≡ t
-  plant_same s t x y at_x at_y e =
-      let n = length (map (λ (a : TopicInfo). a.name) p.topics) in
-      let same : n + s ≡ n + t = rules.names_once (n + s) (n + t) y.name
-      (subst (λ w. At (declared_names p) (n + s) w) e (plant_place s x at_x)) (plant_place t y at_y) in
-      omega (arith, same)
-
-  -- no topic has the name of a plant
-  pub topic_no_plant : (s t : ℕ) (x : TopicInfo) (y : PlantInfo) → At p.topics s x → At p.plants t y → x.name ≡ y.name → ⊥
-  topic_no_plant s t x y at_x at_y e =
-      let names : List (List ℕ) = map (λ (a : TopicInfo). a.name) p.topics in
-      let named = at_map (λ (a : TopicInfo). a.name) p.topics s x at_x in
-      let place = at_front (names ++ map (λ a. a.name) p.plants ++ map (λ a. a.name) p.nodes) (map (λ a. a.name) p.modules) s x.name
-      (at_front (names ++ map (λ a. a.name) p.plants) (map (λ a. a.name) p.nodes) s x.name (at_front names (map (λ a. a.name) p.plants) s x.name named)) in
-      let same : s ≡ length names + t = rules.names_once s (length names + t) y.name (subst (λ w. At (declared_names p) s w) e place) (plant_place t y at_y) in
-      let inside = slice_get_within names s x.name named in
-      omega (arith, same, inside)
-
-  pub module_same : (s t : ℕ) (x y : ModuleInfo) → At p.modules s x → At p.modules t y → x.name ≡ y.name → s ≡ t
-  module_same s t x y at_x at_y e =
-      let before : List (List ℕ) = map (λ a. a.name) p.topics ++ map (λ a. a.name) p.plants ++ map (λ a. a.name) p.nodes in
-      let place = λ (k : ℕ) (z : ModuleInfo) (at : At p.modules k z).
-      at_behind before (map (λ a. a.name) p.modules) k z.name (at_map (λ (a : ModuleInfo). a.name) p.modules k z at) in
-      let same : length before + s ≡ length before + t = rules.names_once (length before + s) (length before + t) y.name
-      (subst (λ n. At (declared_names p) (length before + s) n) e (place s x at_x)) (place t y at_y) in
-      omega (arith, same)
+use Rattle.sot_lists.proofs.Places.{at_below}
 
 module _ {A : Type 0} (test : A → Bool) where
   first_place : (xs : List A) (k : ℕ) (x : A) → At xs k x → test x ≡ true → ((j : ℕ) (y : A) → At xs j y → test y ≡ true → k ≤ j) → position_or_len test xs ≡ k

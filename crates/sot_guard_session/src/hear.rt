@@ -1,17 +1,16 @@
 //! Whether what is heard names what is there.
 
-ghost use Rattle.std.specs.Prelude.{◌≡◌, ℕ, ◌+◌, ◌≤◌, ℤ, [], length, slice_index_or};
-ghost use Rattle.std.specs.Prelude.{IsTrue, ◌↔◌, int_le, ◌&&◌};
+ghost use Rattle.std.specs.Prelude.{◌≡◌, ℕ, [], length, slice_index_or};
+ghost use Rattle.std.specs.Prelude.{IsTrue, ◌↔◌};
 ghost use Rattle.sot_lists.specs.Places.{At};
-ghost use Rattle.sot_box.specs.Sides.{IsIn};
-ghost use Rattle.sot_lang.specs.Ranges.{range_of};
 ghost use Rattle.sot_lang.specs.declared.tables.PlantInfo.{PlantInfo};
 ghost use Rattle.sot_world.specs.Events.{IsTypedInput};
 ghost use Rattle.sot_world.specs.Changes.{ArePoints};
 ghost use Rattle.sot_guard_session.specs.Hearing.{IsInputOf, IsExternal};
 
 use sot_box::Point;
-use sot_lang::{PlantInfo, ScalarInfo, Typed};
+use sot_lang::{PlantInfo, Typed};
+use sot_world::is_in_type;
 
 /// Whether a topic is one of the environment, and has as many scalars as the value has numbers.
 pub(crate) fn is_input(p: &Typed, topic: u32, value: &[i64]) -> bool
@@ -24,29 +23,6 @@ pub(crate) fn is_input(p: &Typed, topic: u32, value: &[i64]) -> bool
     } else {
         false
     }
-}
-
-// Whether a number is in a range.
-fn is_in(lo: i64, hi: i64, z: i64) -> bool
-    ensures value { result ≡ (int_le lo z && int_le z hi) }
-    ensures inside { IsTrue result ↔ IsIn (record { lo = lo; hi = hi }) z }
-{
-    lo <= z && z <= hi
-}
-
-// Whether each number is in its scalar's range, from the scalar `first` on.
-fn is_in_type(infos: &[ScalarInfo], first: usize, value: &[i64]) -> bool
-    requires { first + length value.now ≤ length infos.now }
-    ensures { IsTrue result ↔ ((i : ℕ) (z : ℤ) → At value.now i z
-        → IsIn (range_of infos.now (first + i)) z) }
-{
-    for i in 0..value.len() {
-        let info = &infos[first + i];
-        if !is_in(info.lo, info.hi, value[i]) {
-            return false;
-        }
-    }
-    true
 }
 
 /// Whether each number of a value is in range.

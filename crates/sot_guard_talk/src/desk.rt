@@ -10,13 +10,14 @@ ghost use Rattle.sot_robot_lines.specs.Sayings.{FitsSaying};
 ghost use Rattle.sot_robot_lines.specs.Shown.{ShowsSaid};
 ghost use Rattle.sot_guard_talk.specs.Talks.{tables_of, draft_of, counted, Answers, RefusesLarge};
 
-use crate::fill::{put_points, put_scalars};
+use crate::fill::put_scalars;
 use crate::put::{put_instant, put_value, put_where_outside};
 use crate::unheard::Heard;
 use sot_box::Point;
 use sot_guard_session::{Misheard, Session, Turn};
 use sot_lang::{Draft, Typed};
 use sot_robot_lines::Said;
+use sot_scene::put_points;
 use sot_spool::Out;
 use std::marker::Model;
 

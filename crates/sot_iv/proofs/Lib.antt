@@ -3,6 +3,7 @@ pub mod BodySound
 pub mod Unique
 pub mod BodyUnique
 pub mod Narrow
+pub mod NarrowBoxes
 pub mod BodyNarrow
 pub mod Plants
 pub mod Wide

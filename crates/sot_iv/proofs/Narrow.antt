@@ -62,7 +62,7 @@ zero_narrow NotEqual x y n m = absurd m
 zero_narrow And x y n m = absurd m
 zero_narrow Or x y n m = absurd m
 
-within_narrow : (rs ss : List Side) (zs : List ℤ) → AreNarrower rs ss → IsWithin rs zs → IsWithin ss zs
+pub within_narrow : (rs ss : List Side) (zs : List ℤ) → AreNarrower rs ss → IsWithin rs zs → IsWithin ss zs
 within_narrow [] [] [] n w = tt
 within_narrow (r ∷ rs) (s ∷ ss) (z ∷ zs) n w = (let i = narrow_in r s z n.0 (w.0, w.1) in (i.0, i.1, within_narrow rs ss zs n.1 w.2))
 within_narrow [] (s ∷ ss) zs n w = absurd n

@@ -6,7 +6,7 @@ use lib.Signed.{mag}
 use Rattle.std.proofs.lemmas.Int.{ints, clamps, to_z-of_z}
 use Rattle.sot_text.specs.declared.token.Span.{Span}
 use Rattle.sot_box.specs.Sides.{Side}
-use Rattle.sot_lang.specs.Values.{is_word}
+use Rattle.sot_lang.proofs.Words.{fits_is_word}
 use Rattle.sot_iv.specs.Ends.{side, fitted, least_of, greatest_of, holds_zero, quotient, quotient_or_trap}
 
 pub wide : (z : ℤ) → mag z < 170141183460469231731687303715884105728 → to_z w128 (of_z w128 z) ≡ z
@@ -50,11 +50,6 @@ greatest_same p q r s p' q' r' s' a b c d = rw (a, b, c, d) refl
 pub quotients_are : (at : Span) (a b : Side) → holds_zero b ≡ false → fitted at (quotient a b) ≡ quotient_or_trap at a b
 unfolding quotient_or_trap
 quotients_are at a b e = rw e refl
-
--- a number that fits the type of 64 bits is in 64 bits
-pub fits_is_word : (z : ℤ) → FitsSigned w64 z → is_word z ≡ true
-fits_is_word (pos n) f = grind (arith, ints, f.sfits)
-fits_is_word (negsuc n) f = grind (arith, ints, f.sfits)
 
 pub held_fits : (at : Span) (r : Side) → FitsSigned w64 r.lo → FitsSigned w64 r.hi → fitted at r ≡ Ok r
 held_fits at r f g = rw (fits_is_word r.lo f, fits_is_word r.hi g) refl

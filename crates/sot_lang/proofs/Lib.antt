@@ -8,4 +8,6 @@ pub mod Places
 pub mod SafeRegions
 pub mod Owners
 pub mod Topics
+pub mod NamesOnce
+pub mod Words
 mod DraftSlots

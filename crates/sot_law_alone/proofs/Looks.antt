@@ -1,28 +1,26 @@
 -- Plants and nodes that look the same step and draft alike.
-use Rattle.std.proofs.Common.{◌≡◌, ℕ, List, ◌++◌, Ok, map, sym, ap, ◌∙◌, subst}
+use Rattle.std.proofs.Common.{◌≡◌, ℕ, List, Ok, map, sym, ap, ◌∙◌, subst}
 use Rattle.std.proofs.lemmas.Option.{same_Some}
 use Rattle.sot_lists.specs.Places.{At, Has}
-use Rattle.sot_lists.proofs.Places.{at_map, at_mapped}
+use Rattle.sot_lists.proofs.Places.{at_map}
 use Rattle.sot_box.specs.Sides.{Side}
 use Rattle.sot_lang.specs.declared.act.Act.{Act}
 use Rattle.sot_lang.specs.declared.tables.LocalInfo.{LocalInfo}
-use Rattle.sot_lang.specs.declared.tables.NoiseInfo.{NoiseInfo}
 use Rattle.sot_lang.specs.declared.tables.Slot.{Slot}
 use Rattle.sot_lang.specs.declared.tables.Slot.TheVariants.{State}
 use Rattle.sot_lang.specs.declared.tables.PlantInfo.{PlantInfo}
 use Rattle.sot_lang.specs.declared.tables.NodeInfo.{NodeInfo}
 use Rattle.sot_lang.specs.declared.tables.ModuleInfo.{ModuleInfo}
 use Rattle.sot_lang.specs.Tables.{Tables}
-use Rattle.sot_lang.specs.Ranges.{bounds, local_ranges}
+use Rattle.sot_lang.specs.Ranges.{local_ranges}
 use Rattle.sot_iv.specs.BodyIntervals.{Intervals}
-use Rattle.sot_iv.specs.PlantIntervals.{IsNextBox}
-use Rattle.sot_typing.specs.Formulas.{formula_view, deeds_view}
+use Rattle.sot_typing.specs.Formulas.{deeds_view}
 use Rattle.sot_typing.specs.Resolved.{PlantTable, NodeTable}
+use Rattle.sot_typing.proofs.Seen.{of_seen}
 use Rattle.sot_law_same_tables.proofs.Bodies.{IsDeedsExecution, execution_view}
 use Rattle.sot_law_same_tables.proofs.Plants.{along}
+use Rattle.sot_law_same_tables.proofs.PlacelessPlants.{next_alike}
 use Rattle.sot_law_same_tables.proofs.PlacelessSeen.{bare_deeds}
-use Rattle.sot_law_same_tables.proofs.Expressions.{AreViewIntervals, terms_view}
-use Rattle.sot_law_same_tables.proofs.PlacelessExpressions.{views_same}
 use Rattle.sot_law_same_tables.proofs.PlacelessBodies.{execution_same}
 use Rattle.sot_law_same_tables.proofs.PlacelessNodes.{coded_alike}
 use Rattle.sot_law_held_regions.specs.Alone.{IsAlone, MoveAlike, IsRun, DraftAlike, RunAlike}
@@ -34,17 +32,7 @@ mapped_back {A} {B} f xs ys k x y same ax ay =
     let P : List B → Type 0 = λ l. At l k (f x) in
     same_Some (f x) (f y) (sym (subst P same (at_map f xs k x ax)) ∙ at_map f ys k y ay)
 
--- formulas that look the same have the same intervals
-next_alike : (x y : PlantInfo) → plant_look x ≡ plant_look y → (box commands seen next : List Side) → IsNextBox x box commands seen (Ok next)
-    → IsNextBox y box commands seen (Ok next)
-next_alike x y same box commands seen next h =
-    let ranges : PlantTable → List Side = λ p. box ++ commands ++ seen ++ map (λ (d : NoiseInfo). record { lo = d.lo; hi = d.hi }) p.noise in
-    let rs : List Side = box ++ commands ++ seen ++ bounds x in
-    let ss : List Side = box ++ commands ++ seen ++ bounds y in
-    let placeless = (views_same (map formula_view x.next.items) rs next).0 (along (terms_view x.next.items rs (Ok next)) h) in
-    let other = along (ap (λ (p : PlantTable). AreViewIntervals p.next (ranges p) (Ok next)) same) placeless in
-    along (sym (terms_view y.next.items ss (Ok next))) ((views_same (map formula_view y.next.items) ss next).1 other)
-
+-- plants that look the same step alike
 move_alike : (x y : PlantInfo) → plant_look x ≡ plant_look y → MoveAlike x y
 move_alike x y same = record {
   inputs = ap (λ (p : PlantTable). p.inputs) same;
@@ -90,21 +78,11 @@ module _ (t u : Tables) (a b : ModuleInfo) (look : LookAlike t u) (one : HaveOne
 
   pub stays_alone : IsAlone t a → IsAlone u b
   stays_alone alone = record {
-    sees_none = λ y ay. let back = plant_there b.plant y ay in
+    sees_none = λ y ay. let back = of_seen plant_look plant_look u.plants t.plants (sym look.plants) b.plant y ay in
         let same = ap (λ (p : PlantTable). p.sees) back.2 in
-        sym same ∙ alone.sees_none back.0 (subst (λ n. At t.plants n back.0) (sym one.0) back.1);
-    reads_own = λ y k v ay has. let back = node_there b.sc y ay in
+        same ∙ alone.sees_none back.0 (subst (λ n. At t.plants n back.0) (sym one.0) back.1);
+    reads_own = λ y k v ay has. let back = of_seen node_look node_look u.nodes t.nodes (sym look.nodes) b.sc y ay in
         let same = ap (λ (n : NodeTable). n.reads) back.2 in
-        let mine : Has back.0.reads.items (State k v) = subst (λ (l : List Slot). Has l (State k v)) (sym same) has in
+        let mine : Has back.0.reads.items (State k v) = subst (λ (l : List Slot). Has l (State k v)) same has in
         alone.reads_own back.0 k v (subst (λ n. At t.nodes n back.0) (sym one.1) back.1) mine ∙ one.0;
   }
-    where
-      plant_there : (k : ℕ) (y : PlantInfo) → At u.plants k y → (x : PlantInfo) × At t.plants k x × (plant_look x ≡ plant_look y)
-      plant_there k y ay =
-          let P : List PlantTable → Type 0 = λ l. At l k (plant_look y) in
-          at_mapped plant_look t.plants k (plant_look y) (subst P (sym look.plants) (at_map plant_look u.plants k y ay))
-
-      node_there : (n : ℕ) (y : NodeInfo) → At u.nodes n y → (x : NodeInfo) × At t.nodes n x × (node_look x ≡ node_look y)
-      node_there n y ay =
-          let P : List NodeTable → Type 0 = λ l. At l n (node_look y) in
-          at_mapped node_look t.nodes n (node_look y) (subst P (sym look.nodes) (at_map node_look u.nodes n y ay))

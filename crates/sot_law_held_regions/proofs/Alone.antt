@@ -4,6 +4,7 @@ use Rattle.std.specs.Prelude.{slice_index_or, slice_set, if◌then◌else◌, �
 use Rattle.std.proofs.lemmas.List.{get_or-set_same}
 use Rattle.std.proofs.lemmas.Option.{slice_get_within}
 use Rattle.sot_lists.specs.Places.{At, Has}
+use Rattle.sot_lists.proofs.Places.{map_same}
 use Rattle.sot_box.specs.Sides.{Side, nought}
 use Rattle.sot_box.specs.Boxes.{point_box}
 use Rattle.sot_box.specs.Regions.{IsInRegion}
@@ -78,12 +79,8 @@ module _ (p u : Tables) (rules : MeetsTableRules p) (rules_u : MeetsTableRules u
               ap (map (command_interval p h.sc.writes.items h.fired.draft)) moves.inputs
               ∙ ap (λ l. map (command_interval p l h.fired.draft) plant.inputs.items) drafts.writes
               ∙ map_same (λ i. command_interval p sc.writes.items h.fired.draft i) (λ i. command_interval u sc.writes.items h.fired.draft i) plant.inputs.items
-              (λ i. one_same sc.writes.items h.fired.draft i)
+              (λ i has. one_same sc.writes.items h.fired.draft i)
             where
-              map_same : (f g : ℕ → Side) (xs : List ℕ) → ((x : ℕ) → f x ≡ g x) → map f xs ≡ map g xs
-              map_same f g [] e = refl
-              map_same f g (x ∷ xs) e = ap₂ (λ y ys. y ∷ ys) (e x) (map_same f g xs e)
-
               one_same : (ws : List ℕ) (ds : List Drafted) (i : ℕ) → command_interval p ws ds i ≡ command_interval u ws ds i
               one_same [] ds i = ap (λ l. range_of l i) alike.scalars
               one_same (w ∷ ws) [] i = ap (λ l. range_of l i) alike.scalars

@@ -25,22 +25,13 @@ use Rattle.sot_iv.specs.Evaluation.{body_intervals}
 use Rattle.sot_iv.specs.NodeIntervals.{interval_at, reading_intervals}
 use Rattle.sot_iv.specs.Monotony.{IsNarrower, AreNarrower, IsNarrowerDraft, AreNarrowerDrafts, IsNarrowerEnd}
 use Rattle.sot_iv.proofs.Narrow.{le_refl_ℤ, narrow_read}
+use Rattle.sot_iv.proofs.NarrowBoxes.{narrower_ordered, ordered_narrower}
 use Rattle.sot_iv.proofs.BodyNarrow.{execution_narrow}
 use Rattle.sot_iv.proofs.Bodies.{execution_is}
 use Rattle.sot_iv.proofs.Plants.{narrow_self}
 use Rattle.sot_tube.specs.Certified.{sure_interval, command_interval, command_intervals, DraftsFrom}
 use Rattle.sot_tube.proofs.Leaving.{all_hulls_same}
 use Rattle.sot_law_held_regions.proofs.DraftsWithin.{Lies, DraftLies, DraftsLie, execution_lies}
-
-pub narrower_ordered : (rs ss : List Side) → AreNarrower rs ss → AreOrdered rs
-narrower_ordered [] [] n = tt
-narrower_ordered (r ∷ rs) (s ∷ ss) n = (n.0.1, narrower_ordered rs ss n.1)
-narrower_ordered [] (s ∷ ss) n = absurd n
-narrower_ordered (r ∷ rs) [] n = absurd n
-
-pub ordered_narrower : (rs : List Side) → AreOrdered rs → AreNarrower rs rs
-ordered_narrower [] o = tt
-ordered_narrower (r ∷ rs) o = ((le_refl_ℤ r.lo, o.0, le_refl_ℤ r.hi), ordered_narrower rs o.1)
 
 -- the interval of one command
 sure_narrow : (whole : Side) (d e : Drafted) → IsNarrower whole whole → IsNarrowerDraft d e → DraftLies e whole

@@ -15,24 +15,11 @@ use Rattle.sot_lang.proofs.Owners.{noise_ordered}
 use Rattle.sot_iv.specs.declared.may_trap.MayTrap.{MayTrap}
 use Rattle.sot_iv.specs.PlantIntervals.{IsNextBox}
 use Rattle.sot_iv.specs.Monotony.{AreNarrower}
+use Rattle.sot_iv.proofs.Narrow.{within_narrow}
+use Rattle.sot_iv.proofs.NarrowBoxes.{narrower_ordered, ordered_narrower}
 use Rattle.sot_iv.proofs.Plants.{plant_same, plant_narrow}
 use Rattle.sot_law_held_regions.specs.Following.{LiesAmong, StaysAmong}
 use Rattle.sot_law_held_regions.specs.Walks.{SomeTubeStays}
-use Rattle.sot_law_held_regions.proofs.Commands.{narrower_ordered, ordered_narrower}
-
-pub narrower_within : (b c : List Side) (s : List ℤ) → AreNarrower b c → IsWithin b s → IsWithin c s
-narrower_within [] [] s n w = w
-narrower_within (r ∷ rs) (q ∷ qs) (z ∷ zs) n w = (omega (arith, ints, n.0.0, w.0), omega (arith, ints, n.0.2, w.1), narrower_within rs qs zs n.1 w.2)
-narrower_within (r ∷ rs) (q ∷ qs) [] n w = absurd w
-narrower_within [] (q ∷ qs) s n w = absurd n
-narrower_within (r ∷ rs) [] s n w = absurd n
-
--- the box of a point that is within another box
-pub point_narrower : (b : List Side) (s : List ℤ) → IsWithin b s → AreNarrower (point_box s) b
-point_narrower [] [] w = tt
-point_narrower (r ∷ rs) (z ∷ zs) w = ((w.0, omega (arith, ints), w.1), point_narrower rs zs w.2)
-point_narrower [] (z ∷ zs) w = absurd w
-point_narrower (r ∷ rs) [] w = absurd w
 
 pub point_within : (s : List ℤ) → IsWithin (point_box s) s
 point_within [] = tt
@@ -90,4 +77,4 @@ module _ (P : List ℤ → Type 0) (plant : PlantInfo) where
       let o = narrower_ordered h.first b h.in_box in
       let s = lows h.first in
       let w = lows_within h.first o in
-      apart s (narrower_within h.first b s h.in_box w) (stays_lies h.held seen h.first k h.stays s w)
+      apart s (within_narrow h.first b s h.in_box w) (stays_lies h.held seen h.first k h.stays s w)

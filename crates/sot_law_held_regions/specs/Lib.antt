@@ -2,5 +2,6 @@
 pub mod Following
 pub mod Theorems
 pub mod Alone
+pub mod Shown
 -- between crates that follow tubes
 pub mod Walks

@@ -25,8 +25,8 @@ use Rattle.sot_iv.proofs.Plants.{plant_narrow}
 use Rattle.sot_tube.specs.Tubes.{StaysInside, TubeInside}
 use Rattle.sot_tube.proofs.Tubes.{within_hulls}
 use Rattle.sot_law_held_regions.specs.Following.{StaysAmong}
-use Rattle.sot_law_held_regions.proofs.Commands.{ordered_narrower}
-use Rattle.sot_law_held_regions.proofs.Walking.{narrower_within, point_narrower}
+use Rattle.sot_iv.proofs.Narrow.{within_narrow}
+use Rattle.sot_iv.proofs.NarrowBoxes.{ordered_narrower, point_narrower}
 use Rattle.sot_law_held_regions.proofs.HeldRegions.{stays_narrower}
 
 -- staying among the points of a region is staying inside it
@@ -101,7 +101,7 @@ module _ (p : Tables) (rules : MeetsTableRules p) (k : ℕ) (plant : PlantInfo) 
         (lows_within (bounds plant) noise_in_order) t.stays.1.1 is in
         let same : next.0 ≡ box = (let e = next.1 in cc) in
         let inside : AreNarrower box t.stays.1.0 = subst (λ q. AreNarrower q t.stays.1.0) same next.2 in
-        let there : IsWithin t.stays.1.0 u = narrower_within box t.stays.1.0 u inside within in
+        let there : IsWithin t.stays.1.0 u = within_narrow box t.stays.1.0 u inside within in
         let rest : TubeInside p plant wide region t.stays.1.0 n = record { hulls = t.hulls; are = t.are; stays = t.stays.1.2 } in
         tube_narrower wide wide region (point_box u) t.stays.1.0 n wide_self (point_narrower t.stays.1.0 u there) rest
       where

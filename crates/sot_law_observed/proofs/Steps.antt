@@ -37,7 +37,7 @@ use Rattle.sot_world.proofs.Safety.{in_safe}
 use Rattle.sot_law_recovery.specs.Holds.{Guarded}
 use Rattle.sot_law_recovery.proofs.Commands.{commands_lie}
 use Rattle.sot_law_recovery.proofs.Stays.{begins}
-use Rattle.sot_law_held_regions.proofs.Walking.{point_narrower}
+use Rattle.sot_iv.proofs.NarrowBoxes.{point_narrower}
 use Rattle.sot_law_observed.specs.Observed.{ObservedStep}
 use Rattle.sot_law_observed.specs.Tubes.{KeepsTubes}
 use Rattle.sot_law_observed.proofs.Follows.{tube_fewer, tube_narrower}

@@ -18,7 +18,7 @@ use Rattle.sot_law_same_tables.proofs.PlacelessSeen.{bare_plant, scalars_same, m
 
 -- two plants that differ in places alone have the same next boxes
 module _ (x y : PlantInfo) (alike : bare_plant x ≡ bare_plant y) where
-  next_alike : (box commands seen after : List Side) → IsNextBox x box commands seen (Ok after) → IsNextBox y box commands seen (Ok after)
+  pub next_alike : (box commands seen after : List Side) → IsNextBox x box commands seen (Ok after) → IsNextBox y box commands seen (Ok after)
   next_alike box commands seen after next =
       let sides : List NoiseInfo → List Side = λ ds. map (λ d. record { lo = d.lo; hi = d.hi }) ds in
       let rs : List Side = box ++ commands ++ seen ++ bounds x in

@@ -33,9 +33,8 @@ use Rattle.sot_law_other_regions.specs.WithoutRegions.{bare_module}
 use Rattle.sot_law_other_regions.proofs.Tables.{plant_place_same, node_place_same, with_modules, bare_modules, bare_at}
 use Rattle.sot_law_held_regions.specs.Alone.{IsAlone}
 use Rattle.sot_law_held_regions.specs.Following.{HeldStays, IsHeldRegion, HasNoHeldRegion}
-use Rattle.sot_law_held_regions.proofs.Commands.{drafts_narrow, commands_narrow}
-use Rattle.sot_law_held_regions.proofs.Walking.{point_narrower}
-use Rattle.sot_law_held_regions.proofs.HeldRegions.{stays_narrower}
+use Rattle.sot_law_held_regions.specs.Shown.{IsShown}
+use Rattle.sot_law_held_regions.proofs.HeldRegions.{certified_shown, shown_is_held}
 use Rattle.sot_law_held_regions.proofs.Alone.{region_alike}
 use Rattle.sot_law_alone.specs.Laws.{LookAlike, HaveOnePlant}
 use Rattle.sot_law_alone.proofs.Looks.{run_alike, stays_alone}
@@ -44,66 +43,9 @@ use Rattle.sot_regions_words.specs.declared.refusal.RegionsRefusal.TheVariants.{
 use Rattle.sot_report.specs.Missions.{Resolves}
 use Rattle.sot_regions_commands.specs.AsAsked.{IsSearched}
 use Rattle.sot_regions_commands.specs.Findings.{IsInside}
-use Rattle.sot_regions_commands.specs.Shown.{IsShown, HaveRegions}
+use Rattle.sot_regions_commands.specs.Shown.{HaveRegions}
 use Rattle.sot_regions_commands.specs.Answers.{HasOtherRegions, HasNoRegion, HasNoCells, IsReached, LeavesNothing, NamesModule}
 use Rattle.sot_regions_commands.specs.Steps.{TellsGrain, TellsModule}
-
--- a certificate shows the regions of each module of a program that it is good for
-certified_shown : (p : Tables) (jitter : ℕ) (cert : Cert) (m : ℕ) (a : ModuleInfo) → At p.modules m a → IsWellCertified p jitter cert
-    → IsShown p jitter cert m a
-certified_shown p jitter cert m a at certified = (
-  certified.entries m a at,
-  certified.boxes m a at,
-  λ plant at_p sc at_s acts coded cells has. (
-    certified.closed_cover m a cells at has,
-    (
-      (λ i cell at_c. certified.closed_cells m a plant sc acts cells i cell at at_p at_s coded has at_c),
-      (
-        certified.reach_cover m a cells at has,
-        λ i cell at_c. certified.reach_cells m a plant cells i cell at at_p has at_c,
-      ),
-    ),
-  ),
-)
-
--- a safe region that cells show is held: with each point it has the tube of the point's cell
-module _ (p : Tables) (jitter : ℕ) (cert : Cert) (m : ℕ) (a : ModuleInfo) (rules : MeetsTableRules p) (shown : IsShown p jitter cert m a)
-    (at : At p.modules m a) where
-  shown_is_held : IsHeldRegion p jitter a a.safe.boxes
-  shown_is_held s inside = by_plant (rules.typed.plant_is m a at) (rules.typed.sc_is m a at)
-    where
-      by_plant : (plant : PlantInfo) × At p.plants a.plant plant → (sc : NodeInfo) × (acts : List Act) × At p.nodes a.sc sc × IsCoded sc acts
-          → HeldStays (IsInRegion a.safe.boxes) p jitter a (point_box s)
-      by_plant (plant, at_p) (sc, acts, at_s, coded) =
-          let own = rules.plants a.plant plant at_p in
-          let cells = shown.0 in
-          let checks = shown.2 plant at_p sc at_s acts coded cells.0 cells.1 in
-          let box = in_some_box cells.0.closed.boxes s (checks.0 s inside) in
-          let cell = checks.1.0 box.0 box.1 box.2 in
-          let narrow = point_narrower box.1 s box.3 in
-          let hulls = cell.drafts.hulls in
-          let drafts = drafts_narrow p rules a plant at_p sc at_s acts coded hulls cell.drafts.are (point_box s) box.1 cell.fired narrow cell.drafts in
-          let commands =
-          commands_narrow p rules a plant at_p sc at_s acts coded hulls cell.drafts.are box.1 drafts.0 cell.fired drafts.2 cell.drafts in
-          record {
-            plant = plant;
-            plant_is = at_p;
-            sc = sc;
-            sc_is = at_s;
-            acts = acts;
-            coded = coded;
-            fired = drafts.0;
-            drafts = drafts.1;
-            hulls = cell.stays.hulls;
-            are = cell.stays.are;
-            stays =
-                stays_narrower plant (command_intervals p plant sc drafts.0.draft) (command_intervals p plant sc cell.fired.draft)
-                (joined_boxes cell.stays.hulls) a.safe.boxes (length (plant_truths p plant))
-                (HavePlaces-TermsFit (plant_truths p plant) plant.next.items own.next)
-                commands (hulls_ordered p.modules plant.sees.items cell.stays.hulls cell.stays.are)
-                (noise_ordered plant.noise.items (λ i q at_q. (own.noise_ranges i q at_q).1.0)) (sc.period + jitter) (point_box s) box.1 narrow
-                cell.stays.stays;
-          }
 
 -- a region with a box has a point
 some_point : (boxes : List (List Side)) → boxes ≢ [] → ((i : ℕ) (b : List Side) → At boxes i b → AreOrdered b) → (s : List ℤ) × IsInRegion boxes s

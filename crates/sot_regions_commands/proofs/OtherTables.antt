@@ -25,7 +25,7 @@ use Rattle.sot_region_tree.specs.declared.modules.ModuleRegions.{ModuleRegions}
 use Rattle.sot_law_other_regions.specs.OtherTables.{info_with, infos_with, tables_with}
 use Rattle.sot_regions_commands.specs.AsAsked.{IsLate}
 use Rattle.sot_regions_commands.specs.Findings.{IsInside, IsList, IsFinding, AreFirstFound}
-use Rattle.sot_regions_commands.specs.Shown.{IsShown}
+use Rattle.sot_law_held_regions.specs.Shown.{IsShown}
 use Rattle.sot_regions_commands.specs.Answers.{StayInside}
 use Rattle.sot_regions_commands.specs.Steps.{AreFindings}
 

@@ -32,7 +32,8 @@ use Rattle.sot_regions_words.specs.declared.refusal.RegionsRefusal.TheVariants.{
 use Rattle.sot_regions_words.specs.declared.refusal.RegionsRefusal.TheVariants.{TooMany, SaferNone}
 use Rattle.sot_regions_commands.specs.AsAsked.{IsLate, as_asked, IsSearched}
 use Rattle.sot_regions_commands.specs.Findings.{IsInside, AreFirstFound, AreFound}
-use Rattle.sot_regions_commands.specs.Shown.{IsShown, HaveRegions, verdict_of_some}
+use Rattle.sot_law_held_regions.specs.Shown.{IsShown}
+use Rattle.sot_regions_commands.specs.Shown.{HaveRegions, verdict_of_some}
 
 -- the safe region of each module of the second tables lies inside that of the first
 abbrev pub StayInside : Tables → Tables → Type 0

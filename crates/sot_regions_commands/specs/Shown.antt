@@ -6,17 +6,12 @@ use Rattle.sot_lang.specs.declared.cert.Cert.{Cert}
 use Rattle.sot_lang.specs.declared.tables.ModuleInfo.{ModuleInfo}
 use Rattle.sot_lang.specs.Tables.{Tables}
 use Rattle.sot_tube.specs.Checks.{Check, and_then, for_each}
-use Rattle.sot_tube.specs.Verdict.{composition, entry, boxes, code, cells_of}
+use Rattle.sot_tube.specs.Verdict.{composition, code, cells_of}
+use Rattle.sot_law_held_regions.specs.Shown.{IsShown}
 use Rattle.sot_report.specs.Missions.{Resolves}
 use Rattle.sot_region_tree.specs.declared.modules.ModuleRegions.{ModuleRegions}
 use Rattle.sot_region_tree.specs.OtherRegions.{with_regions}
 use Rattle.sot_regions_commands.specs.Findings.{AreFirstFound}
-
--- a certificate shows the regions of module m: it has cells for it, both regions have a box, the
--- cells cover them, and each of them keeps the plant inside
-abbrev pub IsShown : Tables → ℕ → Cert → ℕ → ModuleInfo → Type 0
-IsShown p jitter cert m a =
-    (entry cert m).Passes × (boxes m a).Passes × (cells_of p jitter cert m a).Passes
 
 -- the first m modules of a program have regions, each inside the given one: with these, and the
 -- given ones of the modules behind, it is put together well, no coded node may trap, and some

@@ -9,7 +9,7 @@ use Rattle.std.proofs.lemmas.Option.{none-some, same_Some}
 use Rattle.std.proofs.lemmas.List.{append-nil}
 use Rattle.sot_text.specs.Lexeme.{is_in_word}
 use Rattle.sot_lists.specs.Places.{At}
-use Rattle.sot_lists.proofs.Places.{at_front, at_behind, at_map}
+use Rattle.sot_lang.proofs.NamesOnce.{plant_same}
 use Rattle.sot_lang.specs.declared.tables.PlantInfo.{PlantInfo}
 use Rattle.sot_lang.specs.Tables.{Tables}
 use Rattle.sot_lang.specs.TableRules.{MeetsTableRules, declared_names}
@@ -45,18 +45,6 @@ choose word f other P text s one more e = chosen (behind word text) refl e
     chosen : (o : Option (List ℕ)) → behind word text ≡ o → option_map_or f o other ≡ Some s → P text
     chosen None is e = more e
     chosen (Some rest) is e = subst P (sym (in_front word text rest is)) (one rest e)
-
--- things of one name are one plant
-plant_same : (p : Tables) → MeetsTableRules p → (s t : ℕ) (x y : PlantInfo) → At p.plants s x → At p.plants t y → x.name ≡ y.name → s ≡ t
-plant_same p rules s t x y at_x at_y e =
-    let before : List (List ℕ) = map (λ a. a.name) p.topics in
-    let place = λ (k : ℕ) (z : PlantInfo) (at : At p.plants k z).
-    at_front (before ++ map (λ a. a.name) p.plants ++ map (λ a. a.name) p.nodes) (map (λ a. a.name) p.modules) (length before + k) z.name
-    (at_front (before ++ map (λ a. a.name) p.plants) (map (λ a. a.name) p.nodes) (length before + k) z.name
-    (at_behind before (map (λ a. a.name) p.plants) k z.name (at_map (λ (a : PlantInfo). a.name) p.plants k z at))) in
-    let same : length before + s ≡ length before + t = rules.names_once (length before + s) (length before + t) y.name
-    (subst (λ n. At (declared_names p) (length before + s) n) e (place s x at_x)) (place t y at_y) in
-    omega (arith, same)
 
 module _ (p : Tables) where
   input_is : (text : List ℕ) (s : Saying) (x : Spelled) → IsSpelled p (48 ∷ 32 ∷ (codes "input " ++ text)) x → said_input x ≡ Some s

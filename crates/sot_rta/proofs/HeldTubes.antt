@@ -29,14 +29,11 @@ use Rattle.sot_tube.specs.Calls.{AnswersTube}
 use Rattle.sot_tube.proofs.CellsNarrow.{cell_never_traps}
 use Rattle.sot_rta.specs.Drafts.{IsCellDraft}
 use Rattle.sot_rta.specs.Cells.{MayHaveCells, AreHeldCommands, AnswersHeldTube}
+use Rattle.sot_lists.proofs.Places.{map_same}
 use Rattle.sot_rta.proofs.CommandSides.{padded}
 
 same_Ok : (x y : List Drafted) → (let o : OrMayTrap (List Drafted) = Ok x in o) ≡ Ok y → x ≡ y
 same_Ok x y e = cc
-
-map_same : (f g : ℕ → Side) (xs : List ℕ) → ((x : ℕ) → f x ≡ g x) → map f xs ≡ map g xs
-map_same f g [] h = refl
-map_same f g (x ∷ xs) h = ap₂ (λ y ys. y ∷ ys) (h x) (map_same f g xs h)
 
 module _ (p : Tables) (rules : MeetsTableRules p) (may : MayHaveCells p) (m : ℕ) (a : ModuleInfo) (at : At p.modules m a) (plant : PlantInfo)
     (plant_at : At p.plants a.plant plant) (sc : NodeInfo) (sc_at : At p.nodes a.sc sc) where
@@ -77,7 +74,7 @@ module _ (p : Tables) (rules : MeetsTableRules p) (may : MayHaveCells p) (m : �
         held_is ∙ ap (map (command_interval p writes draft)) inputs_are ∙ ap (λ l. map (command_interval p l draft) plant.inputs.items) writes_are
         ∙ ap (λ l. map (command_interval p sc.writes.items l) plant.inputs.items) drafted
         ∙ map_same (command_interval p sc.writes.items (f.0.draft ++ replicate (8 - length f.0.draft) Absent)) (command_interval p sc.writes.items f.0.draft)
-        plant.inputs.items (λ k. padded p k sc.writes.items f.0.draft (8 - length f.0.draft)) in
+        plant.inputs.items (λ k has. padded p k sc.writes.items f.0.draft (8 - length f.0.draft)) in
         let found : Held plant sc is_coded.0 held = (f.0, f.1, equal) in
         subst (λ q. Held q sc' acts held) same_p (subst (λ q. Held plant q acts held) same_s (subst (λ q. Held plant sc q held) body found))
 

@@ -26,19 +26,17 @@ use Rattle.sot_iv.specs.Monotony.{AreNarrower, IsNarrowerEnd}
 use Rattle.sot_iv.proofs.BodyUnique.{execution_same}
 use Rattle.sot_tube.specs.Certified.{command_interval, command_intervals, DraftsFrom}
 use Rattle.sot_tube.proofs.Leaving.{hulls_same, all_hulls_same}
+use Rattle.sot_lists.proofs.Places.{map_same}
+use Rattle.sot_iv.proofs.NarrowBoxes.{point_narrower}
 use Rattle.sot_rta.specs.Drafts.{IsCellDraft}
 use Rattle.sot_rta.proofs.CommandSides.{padded}
 use Rattle.sot_law_held_regions.specs.Following.{StaysAmong, HeldStays}
 use Rattle.sot_law_held_regions.specs.Walks.{SomeTubeStays}
 use Rattle.sot_law_held_regions.proofs.Commands.{drafts_narrow, commands_narrow}
-use Rattle.sot_law_held_regions.proofs.Walking.{stays_more, point_narrower}
+use Rattle.sot_law_held_regions.proofs.Walking.{stays_more}
 
 same_Ok : {A : Type 0} (x y : A) → (let o : OrMayTrap A = Ok x in o) ≡ Ok y → x ≡ y
 same_Ok x y e = cc
-
-map_same : (f g : ℕ → Side) (xs : List ℕ) → ((x : ℕ) → f x ≡ g x) → map f xs ≡ map g xs
-map_same f g [] h = refl
-map_same f g (x ∷ xs) h = ap₂ (λ y ys. y ∷ ys) (h x) (map_same f g xs h)
 
 -- among more points
 pub held_more : (P Q : List ℤ → Type 0) (p : Tables) (jitter : ℕ) (a : ModuleInfo) (box : List Side) → ((s : List ℤ) → P s → Q s) → HeldStays P p jitter a box
@@ -116,7 +114,7 @@ module _ (P : List ℤ → Type 0) (p : Tables) (rules : MeetsTableRules p) (jit
                     ∙ ap (λ l. map (command_interval p sc.writes.items l) plant.inputs.items) same
                     ∙ map_same (command_interval p sc.writes.items (f.draft ++ replicate (8 - length f.draft) Absent))
                     (command_interval p sc.writes.items f.draft)
-                    plant.inputs.items (λ k. padded p k sc.writes.items f.draft (8 - length f.draft)),
+                    plant.inputs.items (λ k has. padded p k sc.writes.items f.draft (8 - length f.draft)),
               )
 
       -- the held tube of the box, and some tube of a point in it

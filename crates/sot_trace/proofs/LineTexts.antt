@@ -24,7 +24,8 @@ use Rattle.sot_trace.specs.Words.{AreWords}
 use Rattle.sot_trace.specs.Telling.{IsDraftOf, IsTold}
 use Rattle.sot_trace.proofs.Splits.{Stops, cut_same}
 use Rattle.sot_trace.proofs.NumberTexts.{in_number, numeral_in, numeral_same, numbers_same}
-use Rattle.sot_trace.proofs.NameTexts.{topic_named, node_named, module_named, topic_in, node_in, module_in, topic_same, node_same, module_same}
+use Rattle.sot_trace.proofs.NameTexts.{topic_named, node_named, module_named, topic_in, node_in, module_in}
+use Rattle.sot_lang.proofs.NamesOnce.{topic_same, node_same, module_same}
 use Rattle.sot_trace.proofs.DraftTexts.{AreThere, AreApart, draft_stops, draft_same}
 use Rattle.sot_trace.proofs.MoveTexts.{moves_same}
 

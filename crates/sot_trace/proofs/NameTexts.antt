@@ -15,9 +15,9 @@ use Rattle.sot_lang.specs.declared.tables.ScalarInfo.{ScalarInfo}
 use Rattle.sot_lang.specs.declared.tables.NodeInfo.{NodeInfo}
 use Rattle.sot_lang.specs.declared.tables.ModuleInfo.{ModuleInfo}
 use Rattle.sot_lang.specs.Tables.{Tables}
-use Rattle.sot_lang.specs.TableRules.{MeetsTableRules, declared_names}
+use Rattle.sot_lang.specs.TableRules.{MeetsTableRules}
 use Rattle.sot_lists.specs.Places.{At}
-use Rattle.sot_lists.proofs.Places.{at_map, at_front, at_behind}
+use Rattle.sot_lang.proofs.NamesOnce.{topic_same}
 use Rattle.sot_lang.specs.Names.{topic_name, node_name, module_name}
 use Rattle.sot_trace.specs.Names.{field_part, scalar_name}
 use Rattle.sot_trace.specs.Words.{IsWord, AreWords}
@@ -80,35 +80,6 @@ field_same None None e = refl
 field_same None (Some g) e = absurd cc
 field_same (Some f) None e = absurd cc
 field_same (Some f) (Some g) e = ap Some (ap (drop 1) e)
-
--- things of one sort that have one name are one thing
-module _ (p : Tables) (rules : MeetsTableRules p) where
-  pub topic_same : (s t : ℕ) (x y : TopicInfo) → At p.topics s x → At p.topics t y → x.name ≡ y.name → s ≡ t
-  topic_same s t x y at_x at_y e =
-      let place = λ (k : ℕ) (z : TopicInfo) (at : At p.topics k z).
-      at_front (map (λ a. a.name) p.topics ++ map (λ a. a.name) p.plants ++ map (λ a. a.name) p.nodes) (map (λ a. a.name) p.modules) k z.name
-      (at_front (map (λ a. a.name) p.topics ++ map (λ a. a.name) p.plants) (map (λ a. a.name) p.nodes) k z.name
-      (at_front (map (λ a. a.name) p.topics) (map (λ a. a.name) p.plants) k z.name (at_map (λ (a : TopicInfo). a.name) p.topics k z at))) in
-      rules.names_once s t y.name (subst (λ n. At (declared_names p) s n) e (place s x at_x)) (place t y at_y)
-
-  pub node_same : (s t : ℕ) (x y : NodeInfo) → At p.nodes s x → At p.nodes t y → x.name ≡ y.name → s ≡ t
-  node_same s t x y at_x at_y e =
-      let before : List (List ℕ) = map (λ a. a.name) p.topics ++ map (λ a. a.name) p.plants in
-      let place = λ (k : ℕ) (z : NodeInfo) (at : At p.nodes k z).
-      at_front (before ++ map (λ a. a.name) p.nodes) (map (λ a. a.name) p.modules) (length before + k) z.name
-      (at_behind before (map (λ a. a.name) p.nodes) k z.name (at_map (λ (a : NodeInfo). a.name) p.nodes k z at)) in
-      let same : length before + s ≡ length before + t = rules.names_once (length before + s) (length before + t) y.name
-      (subst (λ n. At (declared_names p) (length before + s) n) e (place s x at_x)) (place t y at_y) in
-      omega (arith, same)
-
-  pub module_same : (s t : ℕ) (x y : ModuleInfo) → At p.modules s x → At p.modules t y → x.name ≡ y.name → s ≡ t
-  module_same s t x y at_x at_y e =
-      let before : List (List ℕ) = map (λ a. a.name) p.topics ++ map (λ a. a.name) p.plants ++ map (λ a. a.name) p.nodes in
-      let place = λ (k : ℕ) (z : ModuleInfo) (at : At p.modules k z).
-      at_behind before (map (λ a. a.name) p.modules) k z.name (at_map (λ (a : ModuleInfo). a.name) p.modules k z at) in
-      let same : length before + s ≡ length before + t = rules.names_once (length before + s) (length before + t) y.name
-      (subst (λ n. At (declared_names p) (length before + s) n) e (place s x at_x)) (place t y at_y) in
-      omega (arith, same)
 
 module _ (p : Tables) (rules : MeetsTableRules p) (words : AreWords p) where
   pub topic_in : (t : ℕ) (x : TopicInfo) → At p.topics t x → AllIn is_in_word x.name

@@ -28,7 +28,8 @@ use Rattle.sot_trace.specs.Lines.{writes_of, firing_word, mode_word, line_of}
 use Rattle.sot_trace.specs.Words.{AreWords}
 use Rattle.sot_trace.proofs.Splits.{AllIn, Stops}
 use Rattle.sot_trace.proofs.NumberTexts.{numeral_digits, numeral_some}
-use Rattle.sot_trace.proofs.NameTexts.{topic_named, node_named, module_named, topic_in, node_in, module_in, topic_same, node_same, module_same}
+use Rattle.sot_trace.proofs.NameTexts.{topic_named, node_named, module_named, topic_in, node_in, module_in}
+use Rattle.sot_lang.proofs.NamesOnce.{topic_same, node_same, module_same}
 use Rattle.sot_trace.proofs.LineTexts.{there_from, apart_from, mode_stops}
 use Rattle.sot_trace_lines.specs.Pieces.{◌>>=◌, behind, at_end, numeral_at, row_at}
 use Rattle.sot_trace_lines.specs.Spelled.{Spelled, InputLine, FireLine, DecideLine, TickLine, EndLine, marks_text, spelled_text, Fits, IsSpelled}

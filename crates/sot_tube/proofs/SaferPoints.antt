@@ -21,41 +21,18 @@ use Rattle.sot_lang.proofs.Owners.{noise_ordered}
 use Rattle.sot_lang.proofs.SafeRegions.{hulls_ordered}
 use Rattle.sot_iv.specs.Monotony.{AreNarrower}
 use Rattle.sot_iv.specs.Evaluation.{term_intervals}
-use Rattle.sot_iv.proofs.Narrow.{le_refl_ℤ}
+use Rattle.sot_iv.proofs.Narrow.{le_refl_ℤ, within_narrow}
+use Rattle.sot_iv.proofs.NarrowBoxes.{ordered_narrower, narrower_ordered, point_narrower}
 use Rattle.sot_iv.proofs.Terms.{terms_are}
 use Rattle.sot_iv.proofs.Plants.{plant_narrow}
 use Rattle.sot_tube.specs.Tubes.{StaysInside, IsNextBox, Keeps}
 use Rattle.sot_tube.specs.Certified.{IsWellCertified}
 
-ordered_narrower : (rs : List Side) → AreOrdered rs → AreNarrower rs rs
-ordered_narrower [] o = tt
-ordered_narrower (r ∷ rs) o = ((le_refl_ℤ r.lo, o.0, le_refl_ℤ r.hi), ordered_narrower rs o.1)
-
-narrower_ordered : (rs ss : List Side) → AreNarrower rs ss → AreOrdered rs
-narrower_ordered [] [] n = tt
-narrower_ordered (r ∷ rs) (s ∷ ss) n = (n.0.1, narrower_ordered rs ss n.1)
-narrower_ordered [] (s ∷ ss) n = absurd n
-narrower_ordered (r ∷ rs) [] n = absurd n
-
--- the box of a point that is within another box
-point_narrower : (b : List Side) (s : List ℤ) → IsWithin b s → AreNarrower (point_box s) b
-point_narrower [] [] w = tt
-point_narrower (r ∷ rs) (z ∷ zs) w = ((w.0, le_refl_ℤ z, w.1), point_narrower rs zs w.2)
-point_narrower [] (z ∷ zs) w = absurd w
-point_narrower (r ∷ rs) [] w = absurd w
-
-narrower_within : (b c : List Side) (s : List ℤ) → AreNarrower b c → IsWithin b s → IsWithin c s
-narrower_within [] [] s n w = w
-narrower_within (r ∷ rs) (q ∷ qs) (z ∷ zs) n w = (omega (arith, ints, n.0.0, w.0), omega (arith, ints, n.0.2, w.1), narrower_within rs qs zs n.1 w.2)
-narrower_within (r ∷ rs) (q ∷ qs) [] n w = absurd w
-narrower_within [] (q ∷ qs) s n w = absurd n
-narrower_within (r ∷ rs) [] s n w = absurd n
-
 module _ (plant : PlantInfo) (commands seen : List Side) (region : List (List Side)) (n : ℕ) (places : HavePlaces n plant.next.items)
     (ordered_commands : AreOrdered commands) (ordered_seen : AreOrdered seen) (ordered_bounds : AreOrdered (bounds plant)) where
   -- the tube from a narrower box stays inside too
   stays_narrower : (k : ℕ) (b c : List Side) → AreNarrower b c → StaysInside plant commands seen region c k → StaysInside plant commands seen region b k
-  stays_narrower zero b c narrow h = λ s w. h s (narrower_within b c s narrow w)
+  stays_narrower zero b c narrow h = λ s w. h s (within_narrow b c s narrow w)
   stays_narrower (suc k) b c narrow h =
       let names = b ++ commands ++ seen ++ bounds plant in
       let ordered =
@@ -64,7 +41,7 @@ module _ (plant : PlantInfo) (commands seen : List Side) (region : List (List Si
       let are = terms_are n plant.next.items names ordered places in
       let next = plant_narrow plant b commands seen c commands seen h.1.0 (lows (bounds plant)) (term_intervals plant.next.items names)
       narrow (ordered_narrower commands ordered_commands) (ordered_narrower seen ordered_seen) (lows_within (bounds plant) ordered_bounds) h.1.1 are in (
-        (λ s w. h.0 s (narrower_within b c s narrow w)),
+        (λ s w. h.0 s (within_narrow b c s narrow w)),
         (next.0, subst (IsNextBox plant b commands seen) next.1 are, stays_narrower k next.0 h.1.0 next.2 h.1.2),
       )
 

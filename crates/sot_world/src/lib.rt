@@ -43,7 +43,7 @@ pub use laws::{
     the_invariant_is_safe, without_jitter,
 };
 pub use lent::Lent;
-pub use looks::is_in_bounds;
+pub use looks::{is_in, is_in_bounds, is_in_type};
 pub use mode::Mode;
 pub use open_fail::OpenFail;
 pub use outcome::{Firing, Outcome, Why};

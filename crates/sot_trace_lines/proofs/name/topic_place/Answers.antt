@@ -2,7 +2,7 @@ use Rattle.std.proofs.Common.{drop, sym, ap, ◌∙◌}
 use Rattle.std.proofs.lemmas.List.{take_rest}
 use Rattle.sot_lang.specs.declared.tables.TopicInfo.{TopicInfo}
 use Rattle.sot_lang.specs.Tables.{Tables}
-use Rattle.sot_trace.proofs.NameTexts.{topic_same}
+use Rattle.sot_lang.proofs.NamesOnce.{topic_same}
 use Rattle.sot_trace_lines.specs.Readers.{place_of}
 use Rattle.sot_trace_lines.proofs.Places.{found_from}
 use Rattle.sot_trace_lines.proofs.name.topic_place.Goals as goal
