@@ -39,7 +39,7 @@ published_within p false ws draft xs w = w
 
 module _ (p : Tables) (j : ℕ) (typed : IsTyped p) (well : IsWellFormed p j) where
   -- a plant takes none of its inputs from an enabled node other than its module's safe node, in mode Sc
-  other_inputs : (C : Configuration) (n : ℕ) (node : NodeInfo) (draft : List (Option ℤ)) (m : ℕ) (a : ModuleInfo) (plant : PlantInfo) (sc : NodeInfo)
+  pub other_inputs : (C : Configuration) (n : ℕ) (node : NodeInfo) (draft : List (Option ℤ)) (m : ℕ) (a : ModuleInfo) (plant : PlantInfo) (sc : NodeInfo)
       → At p.nodes n node → At p.modules m a → At p.plants a.plant plant → At p.nodes a.sc sc → mode_of C m ≡ Sc → (a.sc ≡ n → ⊥) → (b : Bool)
       → is_enabled p C n ≡ b → (k : ℕ) → Has plant.inputs.items k → slice_index_or (published b p node.writes.items draft C.scalars) k (pos 0) ≡ number_of C k
   other_inputs C n node draft m a plant sc at_n at_m at_p at_s mode ne false e k has = refl
