@@ -28,7 +28,7 @@ hold_line p time plant scalars =
     numeral time ++ (codes " hold "
     ++ (plant_name p plant ++ all_held p (inputs_of p plant) scalars))
 
--- `T ready`: an instant may begin
+-- `T ready`: the instant was gone through, and the tick may come
 abbrev pub ready_line : ℕ → List ℕ
 ready_line time = numeral time ++ codes " ready"
 

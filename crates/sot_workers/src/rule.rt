@@ -14,8 +14,11 @@ const LONG_BODY: u32 = 1000;
 /// So many nodes with long bodies get threads, which run at once.
 const MOST_LONG: u32 = 16;
 
-/// With at most so many firings of nodes that no guest flies, each of these nodes gets a thread.
+/// With at most so many firings of nodes that no guest flies, each of these nodes gets a thread ..
 const FEW_FIRINGS: u32 = 1000;
+
+/// .. where the program has at most so many nodes: starting a thread takes longer than most flights.
+const FEW_NODES: usize = 32;
 
 // How many statements a block has, with loops unrolled.
 #[cycle(weigh)]
@@ -69,12 +72,12 @@ fn is_long(p: &Typed, node: usize) -> bool {
     }
 }
 
-/// Whether the firings of all nodes that no guest flies are few.
+/// Whether there are few nodes, and few firings of those that no guest flies.
 pub(crate) fn are_few(p: &Typed, flight: &Flight) -> bool
     requires crews { length flight.now.crews ≡ length p.now.nodes }
     requires horizon { flight.now.horizon ≤ 100000 }
 {
-    all_firings(p, flight) <= FEW_FIRINGS
+    p.nodes.len() <= FEW_NODES && all_firings(p, flight) <= FEW_FIRINGS
 }
 
 /// Whether some node gets a thread of its own, in a flight in which no guest flies one.
