@@ -1,7 +1,7 @@
 //! The lines of a decision module that stands beside its plants.
 //!
-//! [`put_hold`] puts the commands that a plant is held by, [`put_ready`] that an instant was gone through,
-//! [`put_outside`] that a plant was observed where its model does not allow it to be, and
+//! [`put_hold`] puts the commands that a plant is held by, [`put_ready`] that an instant was gone
+//! through, [`put_outside`] that a plant was observed where its model does not allow it to be, and
 //! [`put_end`] what there was in all. None of them has a line end.
 #![tactic(auto)]
 

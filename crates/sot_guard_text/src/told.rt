@@ -9,7 +9,7 @@ use sot_lang::{PlantInfo, Typed};
 use sot_spool::Out;
 use sot_trace::{put_count, put_name, put_number, put_time};
 
-/// That an instant may begin.
+/// That an instant was gone through: the tick may come.
 pub fn put_ready<O: Out>(out: &mut O, time: u32)
     ensures { O.puts out.old out.new (ready_line time) }
 {
