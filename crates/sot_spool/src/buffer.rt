@@ -8,9 +8,9 @@ use std::marker::Model;
 // How many bytes may wait.
 const ROOM: usize = 65_536;
 
-/// Bytes that wait. Its room never grows.
+/// Bytes that wait. Its room never grows: it is all the memory of a spool.
 #[derive(Drop)]
-pub(crate) struct Buffer {
+pub struct Buffer {
     room: Vec<u8>,
     filled: usize,
 }
@@ -27,7 +27,7 @@ impl Model for Buffer {
 
 impl Buffer {
     /// No bytes yet, with room for 64 KiB.
-    pub(crate) fn new(alloc: Global) -> Result<Buffer, AllocError>
+    pub fn new(alloc: Global) -> Result<Buffer, AllocError>
         ensures { IfOk result (λ buffer. buffer ≡ []) }
     {
         let room = vec![in alloc; 0; ROOM]?;

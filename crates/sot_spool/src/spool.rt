@@ -1,6 +1,6 @@
 //! The buffer before a sink.
 
-ghost use Rattle.std.specs.Prelude.{◌≡◌, [], IfOk};
+ghost use Rattle.std.specs.Prelude.{◌≡◌, []};
 ghost use Rattle.sot_spool.specs.Spools.{Sends, Gives, IsSpooled};
 ghost use Rattle.sot_spool.specs.SpoolViews.{spooling, Puts, EndsAs};
 ghost use Rattle.sot_spool.specs.SpoolLaws.{puts_nothing, puts_more};
@@ -8,7 +8,6 @@ ghost use Rattle.sot_spool.specs.SpoolLaws.{puts_nothing, puts_more};
 use crate::buffer::Buffer;
 use crate::out::Out;
 use sot_ports::{Failed, Sink, write_whole};
-use std::alloc::{AllocError, Global};
 
 /// Texts that go to a sink, in the order in which they are put. Where the sink fails, no more is
 /// handed on to it.
@@ -39,19 +38,20 @@ fn give<K: Sink>(is_well: bool, sink: &mut K, bytes: &[u8]) -> bool
 }
 
 impl<'k, K: Sink> Spool<'k, K> {
-    /// Nothing is put yet. All memory is taken here, before the sink is given anything.
-    pub fn new(alloc: Global, sink: &'k mut K) -> Result<Spool<'k, K>, AllocError>
-        ensures sink { IfOk result (λ s. s.sink.ghost_name ≡ sink.entry.ghost_name) }
-        ensures same { IfOk result (λ s. s.sink.now ≡ sink.old) }
-        ensures new { IfOk result (λ s.
-            IsSpooled (K.held sink.old) (K.faults sink.old) (spooling K.held K.faults s) []) }
+    /// Nothing is put yet: what is put goes to this sink, by way of these bytes, of which none wait.
+    /// No memory is taken here or later, and the sink is given nothing yet.
+    pub fn new(waiting: Buffer, sink: &'k mut K) -> Spool<'k, K>
+        requires { waiting ≡ [] }
+        ensures sink { result.sink.ghost_name ≡ sink.entry.ghost_name }
+        ensures same { result.sink.now ≡ sink.old }
+        ensures new { IsSpooled (K.held sink.old) (K.faults sink.old)
+            (spooling K.held K.faults result) [] }
     {
-        let waiting = Buffer::new(alloc)?;
-        Ok(Spool {
+        Spool {
             sink,
             waiting,
             is_well: true,
-        })
+        }
     }
 
     // Hands on all that waits.
