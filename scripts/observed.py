@@ -12,7 +12,7 @@ sys.dont_write_bytecode = True
 import missiontext
 from meaning import LEAST, MOST, Meaning, Trap, covers
 
-HORIZON, LONGEST = 100000, 30
+HORIZON, LONGEST, TOO_LONG = 100000, 30, 65536
 NAME = r'[A-Za-z_][A-Za-z0-9_]*'
 NUMBER = r'(?:0|-?[1-9][0-9]*)'
 NUMBERS = rf'{NUMBER}(?:,{NUMBER})*'
@@ -296,7 +296,8 @@ def parts_of(text):
     lines = text[found.end():].split('\n')
     if lines[-1] == '':
         lines.pop()
-    return text[:found.start()], [line[:-1] if line.endswith('\r') else line for line in lines]
+    # a line that is too long says nothing, as the empty one
+    return text[:found.start()], ['' if len(line) >= TOO_LONG else line.removesuffix('\r') for line in lines]
 
 
 def guard_of(mission):
