@@ -14,7 +14,7 @@ use Rattle.sot_flat_code.specs.declared.step.Step.{Step, Choice, Turns}
 use Rattle.sot_flat_code.specs.declared.step.Step.TheVariants as step
 use Rattle.sot_flat_code.specs.Instructions.{Runs}
 use Rattle.sot_flat_code.specs.Flows.{State, Flows, FlowAll}
-use Rattle.sot_flat_code.specs.Shapes.{Reckons, Bounds}
+use Rattle.sot_flat_code.specs.Shapes.{Gives, Bounds}
 use Rattle.sot_flat_code.specs.Carries.{name_count, Carries, CarriesOpen, FlowOpen, OneMore}
 use Rattle.sot_flat_code.proofs.Walks.{flow_part, turned}
 use Rattle.sot_flat_code.proofs.Statements.{open_part, leaves_none, leaves_join, leaves_assign, leaves_publish, leaves_if, leaves_repeat}
@@ -61,7 +61,7 @@ module _ (p : Tables) (node : NodeInfo) (stated : List ℤ) where
       (leaves_publish p node stated k place value at info to added o.0 f.0 t lt place_is below is to_is few bounds a.room o.2 o.3 f.2.0 f.2.1)
 
   pub one_if : (cond : Term) (u v : Vec Act) (place : ℕ) (a b : Vec Step) (s0 s1 s2 : List Step) (l0 l1 l2 added : List Instruction)
-      → Reckons (name_count node) stated (name_count node + length stated) cond added place → l1 ≡ l0 ++ added
+      → Gives (name_count node) stated (name_count node + length stated) cond added place → l1 ≡ l0 ++ added
       → ((s t : State) → FlowAll s1 s t → FlowOpen s0 l1 s t) → s2 ≡ s1 ++ Choice place a b ∷ [] → l2 ≡ [] → Carries p node stated a.items u.items
       → Carries p node stated b.items v.items → OneMore p node stated (If cond u v) s0 l0 s2 l2
   one_if cond u v place a b s0 s1 s2 l0 l1 l2 added reckons line_is closes steps_are none first second acts carries s t room opened =

@@ -2,6 +2,7 @@ pub mod Words
 pub mod Lines
 pub mod Walks
 pub mod Reckoning
+pub mod Branching
 pub mod Statements
 pub mod Firing
 pub mod Making

@@ -27,7 +27,7 @@ use Rattle.sot_flat_code.specs.declared.instruction.Instruction.{Instruction}
 use Rattle.sot_flat_code.specs.declared.step.Step.{Step, Choice}
 use Rattle.sot_flat_code.specs.Instructions.{number_at, Runs}
 use Rattle.sot_flat_code.specs.Flows.{State, state, Flows, FlowAll, Rounds}
-use Rattle.sot_flat_code.specs.Shapes.{IsRoom, Reckons, Bounds}
+use Rattle.sot_flat_code.specs.Shapes.{IsRoom, Gives, Bounds}
 use Rattle.sot_flat_code.specs.Carries.{name_count, names_of, fired_of, left_from, Leaves, Carries, FlowOpen}
 use Rattle.sot_flat_code.proofs.Lines.{runs_part}
 use Rattle.sot_flat_code.proofs.Walks.{chosen}
@@ -143,7 +143,7 @@ module _ (p : Tables) (node : NodeInfo) (stated : List ℤ) where
 
   -- the way that is taken
   pub leaves_if : (cond : Term) (u v : Vec Act) (place : ℕ) (a b : Vec Step) (line : List Instruction) (s m t : State)
-      → Reckons (name_count node) stated (name_count node + length stated) cond line place → IsRoom (name_count node) stated s.room
+      → Gives (name_count node) stated (name_count node + length stated) cond line place → IsRoom (name_count node) stated s.room
       → Runs line s.room m.room → m.draft ≡ s.draft → Flows (Choice place a b) m t → Carries p node stated a.items u.items
       → Carries p node stated b.items v.items → Leaves node stated (left_from p node (If cond u v ∷ []) s) s t
   leaves_if cond u v place a b line s m t reckons room runs draft flows first second =

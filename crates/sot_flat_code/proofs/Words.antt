@@ -1,5 +1,5 @@
 -- What is in 64 bits.
-use Rattle.std.proofs.Common.{◌≡◌, ◌≤ℤ◌, ◌-ℤ◌, neg_ℤ, ℤ, pos, negsuc, zero, suc, FitsSigned, w64, ap, ◌∙◌, sym, arith}
+use Rattle.std.proofs.Common.{◌≡◌, ◌≤ℤ◌, ◌-ℤ◌, neg_ℤ, ℤ, pos, negsuc, zero, suc, FitsSigned, w64, ap, ◌∙◌, sym, refl, arith}
 use Rattle.std.proofs.lemmas.Int.{ints}
 use Rattle.std.specs.Prelude.{Ok}
 use Rattle.sot_text.specs.declared.token.Span.{Span}
@@ -17,3 +17,9 @@ pub above : (a b q : ℤ) → pos 1 ≤ℤ b → q ≡ floor_div a b → FitsSig
 above a (pos zero) q h is f at = absurd (omega (arith, ints, h))
 above a (pos (suc b)) q h is f at = ap (λ z. word at z) (sym is) ∙ word_fits at q f
 above a (negsuc b) q h is f at = absurd (omega (arith, ints, h))
+
+-- a quotient by any number but 0
+pub quotient_is : (a b : ℤ) → (b ≡ pos 0 → ⊥) → (at : Span) → quotient at a b ≡ word at (floor_div a b)
+quotient_is a (pos zero) h at = absurd (h refl)
+quotient_is a (pos (suc b)) h at = refl
+quotient_is a (negsuc b) h at = refl

@@ -13,7 +13,7 @@ ghost use Rattle.sot_flat_code.specs.Carries.{Carries, FlowOpen, OneMore};
 use crate::instruction::{Instruction, Make};
 use crate::shape::Shape;
 use crate::step::Step;
-use crate::term::compile;
+use crate::term::compile_all;
 use crate::unfit::Unfit;
 use sot_lang::{Act, NodeInfo, Term, Typed};
 use std::alloc::Global;
@@ -35,11 +35,19 @@ fn put_value(
         × Bounds shape.now.names shape.now.constants.items term.now lo hi to added) }
 {
     let base = shape.names + shape.constants.len();
-    let a = compile(term, shape, base, line)?;
+    let a = compile_all(term, shape, base, line)?;
     let b = shape.place_of(lo)?;
     let c = shape.place_of(hi)?;
+    let counts = shape.place_of(1)?;
     let make = Make::Within;
-    line.push(Instruction { make, to, a, b, c })?;
+    line.push(Instruction {
+        make,
+        to,
+        a,
+        b,
+        c,
+        counts,
+    })?;
     Ok(())
 }
 
@@ -116,7 +124,8 @@ fn append(
             Ok(())
         }
         Act::If { cond, yes, no } => {
-            let place = compile(cond, shape, shape.names + shape.constants.len(), line)?;
+            let base = shape.names + shape.constants.len();
+            let place = compile_all(cond, shape, base, line)?;
             close(alloc, steps, line)?;
             let yes = block(alloc, p, node, shape, yes)?;
             let no = block(alloc, p, node, shape, no)?;

@@ -2,11 +2,13 @@
 
 ghost use Rattle.std.specs.Prelude.{◌≡◌, ◌≤ℤ◌, ◌+ℤ◌, ◌-ℤ◌, ◌*ℤ◌, neg_ℤ, pos, true, false, Ok};
 ghost use Rattle.std.specs.Prelude.{length};
+ghost use Rattle.std.specs.Int.{int_max};
 ghost use Rattle.sot_lang.specs.Values.{word, truth, is_true, quotient, floor_div};
 ghost use Rattle.sot_flat_code.specs.Instructions.{made, Does, Runs};
 ghost use Rattle.sot_flat_code.specs.declared.instruction.Make.TheVariants.{Rest, Within};
 
 use crate::instruction::{Instruction, Make};
+use sot_lang::floor;
 
 // The flag is set, and the number is any.
 fn stop(trapped: &mut bool) -> i64
@@ -64,16 +66,24 @@ fn negate(a: i64, trapped: &mut bool) -> i64
     subtract(0, a, trapped)
 }
 
-// A divisor that is not above 0 is left to the exact way.
+fn absolute(a: i64, trapped: &mut bool) -> i64
+    ensures first { trapped.new ≡ false → trapped.old ≡ false }
+    ensures value { trapped.new ≡ false → (at : _) → word at (int_max a (neg_ℤ a)) ≡ Ok result }
+{
+    fit((a as i128).abs(), trapped)
+}
+
 fn divide(a: i64, b: i64, trapped: &mut bool) -> i64
     ensures first { trapped.new ≡ false → trapped.old ≡ false }
     ensures value { trapped.new ≡ false → (at : _) → quotient at a b ≡ Ok result }
 {
     if b > 0 {
-        floor_above(a, b)
-    } else {
-        stop(trapped)
+        return floor_above(a, b);
     }
+    if b == 0 {
+        return stop(trapped);
+    }
+    fit(floor(a, b), trapped)
 }
 
 // The floor of a quotient by a number above 0, which is in 64 bits.
@@ -132,14 +142,27 @@ fn compute(make: Make, a: i64, b: i64, c: i64, trapped: &mut bool) -> i64
         Make::NotEqual => truth_value(!(a <= b && b <= a)),
         Make::And => truth_value(holds(a) && holds(b)),
         Make::Or => truth_value(holds(a) || holds(b)),
+        Make::Without => truth_value(holds(a) && !holds(b)),
         Make::Min => a.min(b),
         Make::Max => a.max(b),
         Make::Clamp => a.min(c).max(b),
         Make::Neg => negate(a, trapped),
+        Make::Abs => absolute(a, trapped),
         Make::Not => truth_value(!holds(a)),
         Make::Rest => rest(a, b, trapped),
         Make::Select => { if holds(a) { b } else { c } }
         Make::Within => within(a, b, c, trapped),
+    }
+}
+
+// The flag is set by a trap that counts.
+#[inline(always)]
+fn count(stopped: bool, counts: i64, trapped: &mut bool)
+    ensures first { trapped.new ≡ false → trapped.old ≡ false }
+    ensures none { trapped.new ≡ false → is_true counts ≡ true → stopped ≡ false }
+{
+    if stopped && holds(counts) {
+        *trapped = true;
     }
 }
 
@@ -156,10 +179,13 @@ fn act(one: &Instruction, room: &mut [i64], trapped: &mut bool)
         room[one.b as usize],
         room[one.c as usize],
     );
-    room[one.to as usize] = compute(one.make, a, b, c, trapped);
+    let mut stopped = false;
+    let made = compute(one.make, a, b, c, &mut stopped);
+    count(stopped, room[one.counts as usize], trapped);
+    room[one.to as usize] = made;
 }
 
-/// The instructions, one after another, unless one traps: then the flag is set.
+/// The instructions, one after another, unless a trap counts: then the flag is set.
 pub fn run_line(line: &[Instruction], room: &mut [i64], trapped: &mut bool)
     requires { length room.old ≡ 256 }
     ensures first { trapped.new ≡ false → trapped.old ≡ false }

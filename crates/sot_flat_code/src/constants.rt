@@ -3,7 +3,7 @@
 ghost use Rattle.std.specs.Prelude.{◌≡◌, IfOk, IfSome, Some, slice_get};
 ghost use Rattle.sot_lists.specs.Places.{At};
 
-use crate::unfit::Unfit;
+use crate::scaling::scale_change;
 use sot_lang::{Act, NodeInfo, Term, Typed};
 use std::alloc::AllocError;
 
@@ -39,7 +39,10 @@ fn add_term(constants: &mut Vec<i64>, term: &Term) -> Result<(), AllocError> {
         Term::Neg { part, .. } => add_term(constants, part),
         Term::Not { part, .. } => add_term(constants, part),
         Term::Call { parts, .. } => add_terms(constants, parts),
-        Term::Rescale { part, .. } => add_term(constants, part),
+        Term::Rescale { part, from, to, .. } => {
+            add(constants, scale_change(*from, *to).by)?;
+            add_term(constants, part)
+        }
         Term::If { cond, yes, no, .. } => {
             add_term(constants, cond)?;
             add_term(constants, yes)?;

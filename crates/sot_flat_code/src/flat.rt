@@ -50,6 +50,8 @@ impl Flat {
         let info = &p.nodes[node as usize];
         let acts = info.body.as_ref().unwrap();
         let mut constants = Vec::new(alloc);
+        // By this number a trap counts.
+        constants.push(1)?;
         add_acts(&mut constants, acts)?;
         add_ranges(&mut constants, p, info)?;
         let reads = info.reads.len();

@@ -21,11 +21,14 @@ pub enum Make {
     NotEqual,
     And,
     Or,
+    /// Whether a is true and b is not.
+    Without,
     Min,
     Max,
     /// The number nearest to a from b to c, and b where that is above c.
     Clamp,
     Neg,
+    Abs,
     Not,
     /// What is left of a after the multiples of b, which is above 0.
     Rest,
@@ -35,7 +38,8 @@ pub enum Make {
     Within,
 }
 
-/// The number at place `to` becomes what is made of those at a, b and c.
+/// The number at place `to` becomes what is made of those at a, b and c. A trap counts only where
+/// the number at place `counts` is true.
 #[derive(Clone, Copy, Debug, PartialEq, Eq)]
 pub struct Instruction {
     pub make: Make,
@@ -43,6 +47,7 @@ pub struct Instruction {
     pub a: u8,
     pub b: u8,
     pub c: u8,
+    pub counts: u8,
 }
 
 /// What an operator makes of its operands.

@@ -9,6 +9,7 @@ mod flat;
 mod flats;
 mod instruction;
 mod room;
+mod scaling;
 mod shape;
 mod step;
 mod term;

@@ -4,31 +4,7 @@ ghost use Rattle.std.specs.Prelude.{◌≡◌, ◌+◌, ◌++◌, ◌≤◌, len
 ghost use Rattle.sot_flat_code.specs.Shapes.{IsRoom};
 
 use crate::shape::Shape;
-use sot_code::{Locals, Seen, put};
-
-// What a node reads, at the front.
-fn put_seen<V: Seen>(seen: &V, count: usize, room: &mut [i64])
-    requires count { length (V.numbers seen.now) ≡ count }
-    requires room { count ≤ length room.old }
-    ensures front { take count room.new ≡ V.numbers seen.now }
-    ensures size { length room.new ≡ length room.old }
-{
-    for i in 0..count {
-        room[i] = seen.read(i);
-    }
-}
-
-// The locals, behind the first `from` numbers.
-fn put_locals(locals: &Locals, from: usize, room: &mut [i64])
-    requires room { from + length locals.now ≤ length room.old }
-    ensures front { take (from + length locals.now) room.new
-        ≡ take from room.old ++ locals.now }
-    ensures size { length room.new ≡ length room.old }
-{
-    for i in 0..locals.len() {
-        room[from + i] = locals.at(i);
-    }
-}
+use sot_code::{Locals, Seen, put, put_locals, put_seen};
 
 /// The numbers of the names and the numbers that the body states, in their places.
 pub fn fill<V: Seen>(seen: &V, reads: usize, locals: &Locals, shape: &Shape, room: &mut [i64])

@@ -8,7 +8,7 @@ use Rattle.sot_lang.specs.ActRules.{ActsFit}
 use Rattle.sot_lang.proofs.ActRows.{ActFits-If, ActFits-Repeat}
 use Rattle.sot_lang.proofs.Owners.{fits_at, node_places}
 use Rattle.sot_code.proofs.Filling.{read_word}
-use Rattle.sot_flat_code.specs.Shapes.{Reckons, Bounds}
+use Rattle.sot_flat_code.specs.Shapes.{Gives, Bounds}
 use Rattle.sot_flat_code.specs.Carries.{name_count, left_from, Leaves, Carries, CarriesOpen, OneMore}
 use Rattle.sot_flat_code.proofs.Making.{if_ok}
 use Rattle.sot_flat_code.proofs.Carrying.{one_assign, one_publish, one_if, one_repeat, none_carried}
@@ -34,8 +34,8 @@ append-put_value-requires-in-Publish-clause-places t c =
     let f = rw c.in-Publish.is at c.requires.fits in
     node_places c.args.p.now c.args.node.now c.in-Publish.value _ f.1 c.requires.names
 
-pub append-compile-requires-clause-places : goal.append-compile-requires-clause-places
-append-compile-requires-clause-places t c =
+pub append-compile_all-requires-clause-places : goal.append-compile_all-requires-clause-places
+append-compile_all-requires-clause-places t c =
     let f = ActFits-If _ _ _ c.in-If.cond c.in-If.yes c.in-If.no (rw c.in-If.is at c.requires.fits) in
     node_places c.args.p.now c.args.node.now c.in-If.cond _ f.1 c.requires.names
 
@@ -139,15 +139,15 @@ append-returns-in_ok-push-in-If t c =
     let w = c.in_ok-place-in-If.ensures in
     let place = c.in_ok-place-in-If.place in
     let count : c.len-in-If.result ≡ length stated = c.len-in-If.ensures ∙ c.args.shape.now.constants.ok.0 in
-    let based = subst (λ k. Reckons c.args.shape.now.names stated (c.args.shape.now.names + k) c.in-If.cond w.0 place) count w.2 in
-    let reckons = subst (λ n. Reckons n stated (n + length stated) c.in-If.cond w.0 place) (sym c.requires.names) based in
+    let based = subst (λ k. Gives c.args.shape.now.names stated (c.args.shape.now.names + k) c.in-If.cond w.0 place) count w.2 in
+    let reckons = subst (λ n. Gives n stated (n + length stated) c.in-If.cond w.0 place) (sym c.requires.names) based in
     let closes = c.in_ok-close-in-If.ensures in
     let first = subst (Carries p node stated c.in_ok-yes-in-If.yes.items) c.deref.ensures.value c.in_ok-yes-in-If.ensures in
     let second = subst (Carries p node stated c.in_ok-no-in-If.no.items) c.deref-in-If.ensures.value c.in_ok-no-in-If.ensures in
     subst (λ one. OneMore p node stated one c.args.steps.now.items c.args.line.now.items c.push-in-If.new.self.items c.close-in-If.new.line.items)
     (sym c.in-If.is)
     (one_if p node stated c.in-If.cond c.in-If.yes c.in-If.no place c.in_ok-yes-in-If.yes c.in_ok-no-in-If.no c.args.steps.now.items
-    c.close-in-If.new.steps.items c.push-in-If.new.self.items c.args.line.now.items c.compile.new.line.items c.close-in-If.new.line.items w.0 reckons w.1
+    c.close-in-If.new.steps.items c.push-in-If.new.self.items c.args.line.now.items c.compile_all.new.line.items c.close-in-If.new.line.items w.0 reckons w.1
     closes.1 c.in_ok-push-in-If.ensures.items closes.0 first second)
 
 pub append-returns-in_ok-push-in-Repeat : goal.append-returns-in_ok-push-in-Repeat

@@ -16,6 +16,12 @@ returns-in-Div-clause-value c = λ well at.
     let e = rw (read_word c.args.a c.ranges.a, read_word c.args.b c.ranges.b) at (c.divide.ensures.value well at) in
     ap (λ m. made m at c.args.a c.args.b c.args.c) c.in-Div.is ∙ e ∙ ap Ok (sym (to_z-of_z w64 c.divide.result fits))
 
+pub returns-in-Abs-clause-value : goal.returns-in-Abs-clause-value
+returns-in-Abs-clause-value c = λ well at.
+    let fits : SFits w64 c.absolute.result = search rules in
+    let e = rw (read_word c.args.a c.ranges.a) at (c.absolute.ensures.value well at) in
+    ap (λ m. made m at c.args.a c.args.b c.args.c) c.in-Abs.is ∙ e ∙ ap Ok (sym (to_z-of_z w64 c.absolute.result fits))
+
 pub returns-in-Rest-clause-value : goal.returns-in-Rest-clause-value
 returns-in-Rest-clause-value c = λ well at.
     let fits : SFits w64 c.rest.result = search rules in

@@ -10,7 +10,7 @@ returns-clause-names g c =
     let n = c.args.shape.now.names in
     let stated = c.deref.result.now in
     let room = c.put.new.numbers in
-    let before = c.put_locals.new.room in
+    let before = c.put_locals.new.numbers in
     let size : length before ≡ 256 = c.put_locals.ensures.size ∙ c.put_seen.ensures.size ∙ c.requires.size in
     let n_is : length (take n before) ≡ n = length-take-le n before (omega (arith, size, c.requires.few)) in
     let front : take n room ≡ take n before =
@@ -22,7 +22,7 @@ returns-clause-room g c =
     let n = c.args.shape.now.names in
     let stated = c.deref.result.now in
     let room = c.put.new.numbers in
-    let before = c.put_locals.new.room in
+    let before = c.put_locals.new.numbers in
     let size : length before ≡ 256 = c.put_locals.ensures.size ∙ c.put_seen.ensures.size ∙ c.requires.size in
     let n_is : length (take n before) ≡ n = length-take-le n before (omega (arith, size, c.requires.few)) in (
       c.put.ensures.size ∙ size,
