@@ -6,6 +6,7 @@ ghost use Rattle.sot_guard_talk.specs.Openings.{HasAll, TakesStart, IsNoStart};
 
 use crate::places::Places;
 use crate::unheard::Unheard;
+use sot_box::Point;
 use sot_guard_session::Misheard;
 use sot_lang::Typed;
 use sot_robot_lines::read_said;
@@ -58,6 +59,13 @@ impl<'a> Opening<'a> {
         ensures { IsTrue result ↔ HasAll self.now }
     {
         self.places.has_all()
+    }
+
+    /// Where the plants were observed so far, in declared order.
+    pub fn starts(&self) -> &[Point]
+        ensures { result.now ≡ self.now.starts }
+    {
+        self.places.starts()
     }
 
     /// Hears a line of the robot, without its line end: where the next plant in declared order was

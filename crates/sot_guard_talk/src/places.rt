@@ -77,6 +77,13 @@ impl<'a> Places<'a> {
         self.starts.len() == self.accepted.typed().plants.len()
     }
 
+    /// The points so far.
+    pub(crate) fn starts(&self) -> &[Point]
+        ensures { result.now ≡ self.now.starts }
+    {
+        &self.starts
+    }
+
     /// The points.
     pub(crate) fn into_starts(self) -> Vec<Point>
         ensures value { result.items ≡ self.entry.starts }
