@@ -22,7 +22,8 @@ module _ (p : Tables) (j : ℕ) (typed : IsTyped p) (well : IsWellFormed p j) (m
   pub firing_leaves : (n : ℕ) (node : NodeInfo) (locals : List ℤ) (draft : List (Option ℤ)) → At p.nodes n node → mode_of C m ≡ Sc → (a.sc ≡ n → ⊥)
       → Fires p n node locals draft C D → commands plant C ≡ commands plant D
   firing_leaves n node locals draft at_n mode ne f = map_same (number_of C) (number_of D) plant.inputs.items
-      (λ k has. sym (ap (λ xs. slice_index_or xs k (pos 0)) f.scalars ∙ other_inputs p j typed well C n node draft m a plant sc at_n at_m at_p at_s mode ne (is_enabled p C n) refl k has))
+      (λ k has. sym (ap (λ xs. slice_index_or xs k (pos 0)) f.scalars
+      ∙ other_inputs p j typed well C n node draft m a plant sc at_n at_m at_p at_s mode ne (is_enabled p C n) refl k has))
 
   pub input_leaves : (topic : ℕ) (value : List ℤ) → Inputs p topic value C D → commands plant C ≡ commands plant D
   input_leaves topic value s = map_same (number_of C) (number_of D) plant.inputs.items (λ k has.

@@ -17,7 +17,7 @@ const MOST_LONG: u32 = 16;
 /// With at most so many firings of nodes that no guest flies, each of these nodes gets a thread ..
 const FEW_FIRINGS: u32 = 1000;
 
-/// .. where the program has at most so many nodes: starting a thread takes longer than most flights.
+/// .. where the program has at most so many nodes: to start a thread takes long.
 const FEW_NODES: usize = 32;
 
 // How many statements a block has, with loops unrolled.
