@@ -6,12 +6,10 @@ use Rattle.std.specs.Fmt.{decimal}
 use Rattle.std.proofs.lemmas.Fmt.{decimal_injective}
 use Rattle.std.proofs.lemmas.Option.{same_Some}
 use Rattle.sot_lists.specs.Places.{At}
-use Rattle.sot_lists.proofs.Places.{at_same, at_map}
+use Rattle.sot_lists.proofs.Places.{at_same}
 use Rattle.sot_lang.specs.declared.tables.TopicInfo.{TopicInfo}
 use Rattle.sot_lang.specs.declared.tables.ScalarInfo.{ScalarInfo}
-use Rattle.sot_lang.specs.declared.tables.PlantInfo.{PlantInfo}
 use Rattle.sot_lang.specs.declared.tables.NodeInfo.{NodeInfo}
-use Rattle.sot_lang.specs.declared.tables.ModuleInfo.{ModuleInfo}
 use Rattle.sot_lang.specs.Tables.{Tables}
 use Rattle.sot_lang.specs.TableRules.{MeetsTableRules}
 use Rattle.sot_lang.proofs.NamesOnce.{topic_same}

@@ -1,7 +1,7 @@
 -- The commands of a plant stay as they are over each step but a firing of its module's safe node.
 use Rattle.std.proofs.Common.{◌≡◌, ℕ, ℤ, pos, List, Option, refl, sym, ap, ◌∙◌, arith}
 use Rattle.std.specs.Prelude.{slice_index_or}
-use Rattle.sot_lists.specs.Places.{At, Has}
+use Rattle.sot_lists.specs.Places.{At}
 use Rattle.sot_lists.proofs.Places.{map_same}
 use Rattle.sot_lang.specs.declared.tables.PlantInfo.{PlantInfo}
 use Rattle.sot_lang.specs.declared.tables.NodeInfo.{NodeInfo}

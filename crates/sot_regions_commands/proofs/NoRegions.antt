@@ -6,33 +6,23 @@ use Rattle.std.proofs.lemmas.Option.{slice_get_within}
 use Rattle.sot_lists.specs.Places.{At}
 use Rattle.sot_lists.proofs.Places.{at_mapped, at_below, at_same}
 use Rattle.sot_box.specs.Sides.{Side, AreOrdered}
-use Rattle.sot_box.specs.Boxes.{lows, point_box}
+use Rattle.sot_box.specs.Boxes.{lows}
 use Rattle.sot_box.specs.Regions.{IsInRegion}
 use Rattle.sot_box.proofs.Ranges.{lows_within}
 use Rattle.sot_tree.specs.Trees.{Module, Program}
 use Rattle.sot_lang.specs.declared.cert.Cert.{Cert}
 use Rattle.sot_lang.specs.declared.tables.ModuleInfo.{ModuleInfo}
 use Rattle.sot_lang.specs.Tables.{Tables}
-use Rattle.sot_lang.specs.declared.act.Act.{Act}
-use Rattle.sot_lang.specs.declared.tables.PlantInfo.{PlantInfo}
-use Rattle.sot_lang.specs.declared.tables.NodeInfo.{NodeInfo}
-use Rattle.sot_lang.specs.TableRules.{MeetsTableRules, IsCoded}
-use Rattle.sot_lang.specs.OwnerNames.{plant_truths}
-use Rattle.sot_lang.specs.SafeRegions.{joined_boxes}
-use Rattle.sot_lang.proofs.Places.{HavePlaces-TermsFit}
-use Rattle.sot_lang.proofs.Owners.{noise_ordered}
-use Rattle.sot_lang.proofs.SafeRegions.{hulls_ordered}
+use Rattle.sot_lang.specs.TableRules.{MeetsTableRules}
 use Rattle.sot_typing.specs.Resolved.{ProgramTables, modules, plant_place, node_place, module_info, tables_of, AreTables}
 use Rattle.sot_traps.specs.Verdict.{HaveSafeBoxes}
-use Rattle.sot_tube.specs.Certified.{IsWellCertified, command_intervals}
-use Rattle.sot_tube.proofs.Certificate.{in_some_box}
 use Rattle.sot_law_same_tables.specs.UnplacedTables.{AreAlike}
 use Rattle.sot_law_same_tables.proofs.PlacelessSeen.{scalars_same, modules_same, plants_same, nodes_same}
 use Rattle.sot_law_same_tables.proofs.Tables.{tables_alike}
 use Rattle.sot_law_other_regions.specs.WithoutRegions.{bare_module}
 use Rattle.sot_law_other_regions.proofs.Tables.{plant_place_same, node_place_same, with_modules, bare_modules, bare_at}
 use Rattle.sot_law_held_regions.specs.Alone.{IsAlone}
-use Rattle.sot_law_held_regions.specs.Following.{HeldStays, IsHeldRegion, HasNoHeldRegion}
+use Rattle.sot_law_held_regions.specs.Following.{HasNoHeldRegion}
 use Rattle.sot_law_held_regions.specs.Shown.{IsShown}
 use Rattle.sot_law_held_regions.proofs.HeldRegions.{certified_shown, shown_is_held}
 use Rattle.sot_law_held_regions.proofs.Alone.{region_alike}

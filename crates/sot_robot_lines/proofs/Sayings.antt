@@ -1,6 +1,6 @@
 -- A line is read as what it says, and what it says is read.
 use Rattle.std.proofs.Common.{◌≡◌, ℕ, ℤ, ◌+◌, Bool, true, false, List, [], ◌∷◌, ◌++◌, Option, Some, None, length, drop, codes, refl, sym}
-use Rattle.std.proofs.Common.{ap, ap₂, subst, ◌∙◌, arith, map, get_or, take-append-drop}
+use Rattle.std.proofs.Common.{ap, ap₂, subst, ◌∙◌, arith, get_or, take-append-drop}
 use Rattle.std.specs.Prelude.{slice_get}
 use Rattle.std.specs.Option.{option_map_or}
 use Rattle.std.specs.List.{prefix_len}
@@ -12,7 +12,7 @@ use Rattle.sot_lists.specs.Places.{At}
 use Rattle.sot_lang.proofs.NamesOnce.{plant_same}
 use Rattle.sot_lang.specs.declared.tables.PlantInfo.{PlantInfo}
 use Rattle.sot_lang.specs.Tables.{Tables}
-use Rattle.sot_lang.specs.TableRules.{MeetsTableRules, declared_names}
+use Rattle.sot_lang.specs.TableRules.{MeetsTableRules}
 use Rattle.sot_lang.specs.Names.{topic_name, node_name}
 use Rattle.sot_trace.specs.Numbers.{numeral, numbers}
 use Rattle.sot_trace.specs.Lines.{writes_of, firing_word}
