@@ -33,16 +33,14 @@ flown_here acc f b is plan flown =
     subst (λ (g : Plan). FlownBy acc.program acc.cert.jitter g b.entries) plan
     (subst (λ (x : Admitted). FlownBy x.program x.cert.jitter b.plan b.entries) is flown)
 
-pub tells_here : (r : Result Answer AllocError) (telling : Telling) (acc given : Admitted) (f : Plan) (b : Standing) → acc ≡ given → b.plan ≡ f
-    → IfOk r (λ a. Tells telling given.program b.plan b.entries a.status a.text.items)
-    → IfOk r (λ a. Tells telling acc.program f b.entries a.status a.text.items)
-tells_here (Ok a) telling acc given f b same plan tells =
-    subst (λ (g : Plan). Tells telling acc.program g b.entries a.status a.text.items) plan
-    (subst (λ (x : Admitted). Tells telling x.program b.plan b.entries a.status a.text.items) (sym same) tells)
-tells_here (Err e) telling acc given f b same plan tells = tt
+pub tells_here : (telling : Telling) (acc given : Admitted) (f : Plan) (b : Standing) (status : ℕ) (said : List ℕ) → acc ≡ given → b.plan ≡ f
+    → Tells telling given.program b.plan b.entries status said → Tells telling acc.program f b.entries status said
+tells_here telling acc given f b status said same plan tells =
+    subst (λ (g : Plan). Tells telling acc.program g b.entries status said) plan
+    (subst (λ (x : Admitted). Tells telling x.program b.plan b.entries status said) (sym same) tells)
 
 -- what is told of a history of the flight is told of the flight
-told_of : (telling : Telling) (t : Tables) (jitter : ℕ) (f : Plan) (history : List Logged) (status : ℕ) (text : List ℕ)
+pub told_of : (telling : Telling) (t : Tables) (jitter : ℕ) (f : Plan) (history : List Logged) (status : ℕ) (text : List ℕ)
     → StartInside t f.start (length t.modules) → FlownBy t jitter f history
     → Tells telling t f history status text → JudgesFlight telling t jitter f status text
 told_of Trace t jitter f history status text inside flown (inl (plain, zero, said)) = inl (zero, (inside, (history, flown, said)))
@@ -54,14 +52,6 @@ told_of (Verdict formula) t jitter f history status text inside flown (inr (x, i
     inl (zero, (inside, (x, history, is, flown, tells)))
 told_of (Verdict formula) t jitter f history status text inside flown (inr (x, is, inr (one, tells))) =
     inr (one, inr (inside, (x, history, is, flown, tells)))
-
-pub told_result : (r : Result Answer AllocError) (telling : Telling) (acc : Admitted) (f : Plan) (history : List Logged)
-    → StartInside acc.program f.start (length acc.program.modules)
-    → FlownBy acc.program acc.cert.jitter f history → IfOk r (λ a. Tells telling acc.program f history a.status a.text.items)
-    → IfOk r (λ a. JudgesFlight telling acc.program acc.cert.jitter f a.status a.text.items)
-told_result (Ok a) telling acc f history inside flown tells =
-    told_of telling acc.program acc.cert.jitter f history a.status a.text.items inside flown tells
-told_result (Err e) telling acc f history inside flown tells = tt
 
 pub outside_result : (r : Result Answer AllocError) (telling : Telling) (t : Tables) (jitter : ℕ) (f : Plan) → IfOk r (λ a. a.status ≡ 1)
     → IfOk r (λ a. IsOutsideOf t f a.text.items)

@@ -78,25 +78,14 @@ pub faulty_result : (guests : ℕ) (r : Result Answer AllocError) (bytes : List 
 faulty_result guests (Ok a) bytes fault has status text = inr (inr (status, (fault, has, text)))
 faulty_result guests (Err e) bytes fault has status text = tt
 
--- `fly` and `soak`: what is said of an accepted program's flight is said of the program with its certificate, and so is a refusal
-pub flight_result : (r : Result Answer AllocError) (telling : Telling) (t : Tables) (c : Cert) (f : Plan) → IsWellCertified t c.jitter c
-    → EveryRunIsSafe t c.jitter
-    → IfOk r (λ a. JudgesFlight telling t c.jitter f a.status a.text.items) → IfOk r (λ a. JudgesFlown telling t c f a.status a.text.items)
-flight_result (Ok a) telling t c f certified safe judges = inl (certified, safe, judges)
-flight_result (Err e) telling t c f certified safe judges = tt
-
+-- `fly` and `soak`: a refusal is said of the program with its certificate
 pub unflown_result : (r : Result Answer AllocError) (telling : Telling) (t : Tables) (c : Cert) (f : Plan) (v : Refusal) → (verdict t c.jitter c).Refuses v
     → IfOk r (λ a. a.status ≡ 1)
     → IfOk r (λ a. a.text.items ≡ refusal_text t v) → IfOk r (λ a. JudgesFlown telling t c f a.status a.text.items)
 unflown_result (Ok a) telling t c f v refuses status text = inr (status, (v, refuses, text))
 unflown_result (Err e) telling t c f v refuses status text = tt
 
--- a formula that may watch the flight has a meaning, or a fault
-pub watched_result : (r : Result Answer AllocError) (telling : Telling) (t : Tables) (c : Cert) (f : Plan) → MeansFor telling t
-    → IfOk r (λ a. JudgesFlown telling t c f a.status a.text.items) → IfOk r (λ a. JudgesWatched telling t c f a.status a.text.items)
-watched_result (Ok a) telling t c f means judges = inl (means, judges)
-watched_result (Err e) telling t c f means judges = tt
-
+-- a formula that may watch the flight has a fault
 pub unwatched_result : (r : Result Answer AllocError) (telling : Telling) (t : Tables) (c : Cert) (f : Plan) (fail : MonitorFail) → FailsFor telling t fail
     → IfOk r (λ a. a.status ≡ 3) → IfOk r (λ a. (fail ≢ monitor_fails.Memory) × (a.text.items ≡ formula_text fail))
     → IfOk r (λ a. JudgesWatched telling t c f a.status a.text.items)
@@ -122,19 +111,13 @@ module _ (guests : ℕ) (bytes text : List ℕ) (m : Mission) (f : Plan) (spells
   misread Summary fail enough fails said = absurd fails
   misread (Verdict formula) fail enough fails said = inr (m, spells, (fail, enough, fails, said))
 
-  flown : (telling : Telling) (status : ℕ) → JudgesWatched telling m.tables m.cert f status text → FliesBytes guests telling bytes status text
+  pub flown : (telling : Telling) (status : ℕ) → JudgesWatched telling m.tables m.cert f status text → FliesBytes guests telling bytes status text
   flown telling status (inl (means, inl (certified, safe, inl (zero, says)))) = inl (zero, (m, spells, certified, safe, (f, is, says)))
   flown telling status (inl (means, inl (certified, safe, inr (one, inl outside)))) =
       inr (inl (one, stopped telling means (inr (certified, (f, is, outside)))))
   flown telling status (inl (means, inl (certified, safe, inr (one, inr fails)))) = inr (inl (one, failed telling certified safe fails))
   flown telling status (inl (means, inr (one, refused))) = inr (inl (one, stopped telling means (inl refused)))
   flown telling status (inr (three, (fail, enough, fails, said))) = inr (inr (three, misread telling fail enough fails said))
-
-pub flown_result : (guests : ℕ) (r : Result Answer AllocError) (telling : Telling) (bytes : List ℕ) (m : Mission) (f : Plan)
-    → SpellsFor needs.Fly guests bytes m → m.flight ≡ Some f
-    → IfOk r (λ a. JudgesWatched telling m.tables m.cert f a.status a.text.items) → IfOk r (λ a. FliesBytes guests telling bytes a.status a.text.items)
-flown_result guests (Ok a) telling bytes m f spells is judges = flown guests bytes a.text.items m f spells is telling a.status judges
-flown_result guests (Err e) telling bytes m f spells is judges = tt
 
 unread : (telling : Telling) (guests : ℕ) (bytes text : List ℕ) (fault : Fault) → HasFault needs.Fly guests bytes fault → text ≡ fault_text fault
     → IsFaulty telling guests bytes text

@@ -25,7 +25,7 @@ use Rattle.sot_answers.specs.declared.answer.Answer.{Answer}
 use Rattle.sot_commands.specs.declared.telling.Telling.{Telling}
 use Rattle.sot_commands.specs.declared.telling.Telling.TheVariants.{Trace, Summary, Verdict}
 use Rattle.sot_commands.specs.WatchTexts.{holds_text, fails_text}
-use Rattle.sot_commands.specs.Steps.{Tells, JudgesFlight, IsBehind, FlewAndTold, GuestsDid}
+use Rattle.sot_commands.specs.Steps.{Tells, JudgesFlight, IsBehind, FlewAndTold, GuestsStand, GuestsDid}
 use Rattle.sot_ports.specs.Outside.{Written}
 use Rattle.sot_commands.specs.Answers.{SpellsFor}
 use Rattle.sot_report.specs.Missions.{Mission}
@@ -103,19 +103,6 @@ module _ (t : Tables) (f : Plan) (history : List Logged) (status : ℕ) (said : 
     unasked_as Summary (inr verdict) more = absurd verdict
     unasked_as (Verdict formula) tells more = inr (flew_as (Verdict formula) (λ e. absurd cc) tells)
 
--- guests that flew, and whose history is told
-pub flew_result : (r : Result Answer AllocError) (telling : Telling) (t : Tables) (f : Plan) (history : List Logged) (Fly : List ℕ → Type 0)
-    → ((text : List ℕ) → text ≡ trace_text t f.start history → Fly text) → IfOk r (λ a. Tells telling t f history a.status a.text.items)
-    → IfOk r (λ a. a.status ≡ 0 → telling ≢ Summary → FlewAndTold telling a.status a.text.items Fly)
-flew_result (Ok a) telling t f history Fly fly tells = λ ended other. flew_as t f history a.status a.text.items Fly fly telling other tells
-flew_result (Err e) telling t f history Fly fly tells = tt
-
-pub unasked_result : (X : Type 0) (r : Result Answer AllocError) (telling : Telling) (t : Tables) (f : Plan) (history : List Logged) (Fly : List ℕ → Type 0)
-    → ((text : List ℕ) → text ≡ trace_text t f.start history → Fly text) → IfOk r (λ a. Tells telling t f history a.status a.text.items)
-    → IfOk r (λ a. a.status ≢ 0 → (X × IsNoTrace a.text.items) ⊎ FlewAndTold telling a.status a.text.items Fly)
-unasked_result X (Ok a) telling t f history Fly fly tells = λ more. unasked_as t f history a.status a.text.items Fly fly telling tells more
-unasked_result X (Err e) telling t f history Fly fly tells = tt
-
 -- a flight that names no guest was flown by none, so all stay as they are
 module _ {C : Type 0} (told : C → Option (List Asking)) (t : Tables) (jitter : ℕ) (f : Plan) (guests : List C) (none : HasNoGuests f) where
   flew_by_none : (history : List Logged) → FlownBy t jitter f history → (text : List ℕ) → text ≡ trace_text t f.start history
@@ -164,22 +151,17 @@ told_mapped : (telling : Telling) (status : ℕ) (said : List ℕ) (Fly Flies : 
     → FlewAndTold telling status said Fly → FlewAndTold telling status said Flies
 told_mapped telling status said Fly Flies so (text, behind, stands, is, fly) = (text, behind, stands, is, so text fly)
 
-pub flew_mission : (r : Result Answer AllocError) (telling : Telling) (Fly Flies : List ℕ → Type 0) → ((text : List ℕ) → Fly text → Flies text)
-    → IfOk r (λ a. a.status ≡ 0 → telling ≢ Summary → FlewAndTold telling a.status a.text.items Fly)
-    → IfOk r (λ a. a.status ≡ 0 → telling ≢ Summary → FlewAndTold telling a.status a.text.items Flies)
-flew_mission (Ok a) telling Fly Flies so flew = λ zero other. told_mapped telling a.status a.text.items Fly Flies so (flew zero other)
-flew_mission (Err e) telling Fly Flies so flew = tt
-
 unasked_mapped : {X : Type 0} (telling : Telling) (status : ℕ) (said : List ℕ) (Fly Flies : List ℕ → Type 0) → ((text : List ℕ) → Fly text → Flies text)
     → X ⊎ FlewAndTold telling status said Fly → X ⊎ FlewAndTold telling status said Flies
 unasked_mapped telling status said Fly Flies so (inl x) = inl x
 unasked_mapped telling status said Fly Flies so (inr flew) = inr (told_mapped telling status said Fly Flies so flew)
 
-pub unasked_mission : (X : Type 0) (r : Result Answer AllocError) (telling : Telling) (Fly Flies : List ℕ → Type 0) → ((text : List ℕ) → Fly text → Flies text)
-    → IfOk r (λ a. a.status ≢ 0 → (X × IsNoTrace a.text.items) ⊎ FlewAndTold telling a.status a.text.items Fly)
-    → IfOk r (λ a. a.status ≢ 0 → (X × IsNoTrace a.text.items) ⊎ FlewAndTold telling a.status a.text.items Flies)
-unasked_mission X (Ok a) telling Fly Flies so unasked = λ more. unasked_mapped telling a.status a.text.items Fly Flies so (unasked more)
-unasked_mission X (Err e) telling Fly Flies so unasked = tt
+pub did_mapped : {C : Type 0} (telling : Telling) (status : ℕ) (said : List ℕ) (Fly Flies : List ℕ → Type 0) (before after : Vec C)
+    → ((text : List ℕ) → Fly text → Flies text) → GuestsDid telling status said Fly before after → GuestsDid telling status said Flies before after
+did_mapped telling status said Fly Flies before after so did = record {
+  unasked = λ more. unasked_mapped telling status said Fly Flies so (did.unasked more);
+  flew = λ zero other. told_mapped telling status said Fly Flies so (did.flew zero other);
+}
 
 -- guests that nobody asked are as they were
 pub unnamed_same : {C : Type 0} (f : Plan) (guests : List C) → EachUnnamedStays f guests guests
@@ -188,94 +170,62 @@ unnamed_same f guests i was now unnamed at at' = at_same guests i now was at' at
 pub unnamed_stay : {C : Type 0} (count : ℕ) (bytes : List ℕ) (guests : List C) → UnnamedStay count bytes guests guests
 unnamed_stay count bytes guests m f spells is = unnamed_same f guests
 
+pub all_stand : {C : Type 0} (told : C → Option (List Asking)) (Stay : Type 0) (guests : Vec C) → Stay → GuestsStand told Stay guests guests
+all_stand told Stay guests stay = record { count = refl; go_on = stay_told told guests.items; stay = stay }
+
 -- of a flight without guests
-alone_results : {C : Type 0} (told : C → Option (List Asking)) (r : Result Answer AllocError) (telling : Telling) (t : Tables) (jitter : ℕ) (f : Plan)
-    (guests : Vec C) → HasNoGuests f
-    → IfOk r (λ a. JudgesFlight telling t jitter f a.status a.text.items)
-    → IfOk r (λ a. a.status ≢ 0 → ((guests ≡ guests) × IsNoTrace a.text.items)
-    ⊎ FlewAndTold telling a.status a.text.items (λ text. GuestsFlew told t jitter f text guests.items guests.items))
-    × IfOk r (λ a. a.status ≡ 0 → telling ≢ Summary
-    → FlewAndTold telling a.status a.text.items (λ text. GuestsFlew told t jitter f text guests.items guests.items))
-alone_results told (Ok a) telling t jitter f guests none judged = (
-  λ more. alone_unasked told t jitter f guests.items none telling a.status a.text.items refl judged more,
-  λ zero other. alone_flew told t jitter f guests.items none telling a.status a.text.items judged zero other,
-)
-alone_results told (Err e) telling t jitter f guests none judged = (tt, tt)
-
-pub stayed_alone : {C : Type 0} (told : C → Option (List Asking)) (r : Result Answer AllocError) (telling : Telling) (t : Tables) (jitter : ℕ) (f : Plan)
-    (guests : Vec C) → HasNoGuests f
-    → IfOk r (λ a. JudgesFlight telling t jitter f a.status a.text.items)
-    → GuestsDid told telling r (EachUnnamedStays f guests.items guests.items)
-    (λ text. GuestsFlew told t jitter f text guests.items guests.items) guests guests
-stayed_alone told r telling t jitter f guests none judged =
-    let both = alone_results told r telling t jitter f guests none judged in record {
-      count = refl;
-      go_on = stay_told told guests.items;
-      unasked = both.0;
-      stay = unnamed_same f guests.items;
-      flew = both.1;
-    }
-
--- whatever is answered, they stay
-same_unasked : {C : Type 0} (r : Result Answer AllocError) (telling : Telling) (Fly : List ℕ → Type 0) (guests : Vec C) → IfOk r (λ a. IsNoTrace a.text.items)
-    → IfOk r (λ a. a.status ≢ 0 → ((guests ≡ guests) × IsNoTrace a.text.items) ⊎ FlewAndTold telling a.status a.text.items Fly)
-same_unasked (Ok a) telling Fly guests untraced = λ other. inl (refl, untraced)
-same_unasked (Err e) telling Fly guests untraced = tt
-
-not_flown : (r : Result Answer AllocError) (telling : Telling) (Fly : List ℕ → Type 0) (status : ℕ) → 0 < status → IfOk r (λ a. a.status ≡ status)
-    → IfOk r (λ a. a.status ≡ 0 → telling ≢ Summary → FlewAndTold telling a.status a.text.items Fly)
-not_flown (Ok a) telling Fly status other is = λ zero flies. absurd (omega (arith, is, zero, other))
-not_flown (Err e) telling Fly status other is = tt
-
--- where no flight was flown
-pub unflown : {C : Type 0} (told : C → Option (List Asking)) (telling : Telling) (r : Result Answer AllocError) (Stay : Type 0) (Fly : List ℕ → Type 0)
-    (guests : Vec C) (status : ℕ) → Stay → 0 < status
-    → IfOk r (λ a. a.status ≡ status) → IfOk r (λ a. IsNoTrace a.text.items) → GuestsDid told telling r Stay Fly guests guests
-unflown told telling r Stay Fly guests status stay other is untraced = record {
-  count = refl;
-  go_on = stay_told told guests.items;
-  unasked = same_unasked r telling Fly guests untraced;
-  stay = stay;
-  flew = not_flown r telling Fly status other is;
+pub alone_did : {C : Type 0} (told : C → Option (List Asking)) (telling : Telling) (t : Tables) (jitter : ℕ) (f : Plan) (guests : Vec C) → HasNoGuests f
+    → (status : ℕ) (said : List ℕ) → JudgesFlight telling t jitter f status said
+    → GuestsDid telling status said (λ text. GuestsFlew told t jitter f text guests.items guests.items) guests guests
+alone_did told telling t jitter f guests none status said judged = record {
+  unasked = λ more. alone_unasked told t jitter f guests.items none telling status said refl judged more;
+  flew = λ zero other. alone_flew told t jitter f guests.items none telling status said judged zero other;
 }
+
+-- where no flight was flown, they stay whatever is answered
+pub unflown : {C : Type 0} (telling : Telling) (r : Result Answer AllocError) (Fly : List ℕ → Type 0) (guests : Vec C) (status : ℕ) → 0 < status
+    → IfOk r (λ a. a.status ≡ status) → IfOk r (λ a. IsNoTrace a.text.items)
+    → IfOk r (λ a. GuestsDid telling a.status a.text.items Fly guests guests)
+unflown telling (Ok a) Fly guests status other is untraced = record {
+  unasked = λ more. inl (refl, untraced);
+  flew = λ zero flies. absurd (omega (arith, is, zero, other));
+}
+unflown telling (Err e) Fly guests status other is untraced = tt
 
 -- where memory ran out before the flight
-pub lacking : {C : Type 0} (told : C → Option (List Asking)) (telling : Telling) (e : AllocError) (f : Plan) (Fly : List ℕ → Type 0) (before after : Vec C)
-    → vec_len after ≡ vec_len before → after.items ≡ before.items
-    → GuestsDid told telling (Err e) (EachUnnamedStays f before.items after.items) Fly before after
-lacking told telling e f Fly before after count same = record {
+pub lacking : {C : Type 0} (told : C → Option (List Asking)) (f : Plan) (before after : Vec C) → vec_len after ≡ vec_len before → after.items ≡ before.items
+    → GuestsStand told (EachUnnamedStays f before.items after.items) before after
+lacking told f before after count same = record {
   count = count;
   go_on = subst (λ l. GuestsGoOn told before.items l) (sym same) (stay_told told before.items);
-  unasked = tt;
   stay = subst (λ l. EachUnnamedStays f before.items l) (sym same) (unnamed_same f before.items);
-  flew = tt;
 }
 
--- where it was flown
-module _ {C : Type 0} (told : C → Option (List Asking)) (t : Tables) (jitter : ℕ) (f : Plan) (history : List Logged) (before after : List C) where
-  flew_history : FlownBy t jitter f history
-      → ((n i : ℕ) (was now : C) → At f.crews n (Guest i) → At before i was → At after i now → Answered t jitter f n history (told was) (told now))
-      → EachUnnamedStays f before after → (text : List ℕ) → text ≡ trace_text t f.start history → GuestsFlew told t jitter f text before after
-  flew_history flown answered unnamed text is =
-      record { history = history; flown = flown; text_is = is; answered = answered; unnamed = unnamed }
+-- where it was flown, by a history of the board
+module _ {C : Type 0} (told : C → Option (List Asking)) (acc : Admitted) (f : Plan) (b : Standing) (before after : Vec C) (is : b.accepted ≡ acc)
+    (plan : b.plan ≡ f) (answered : EachAnswered told b.accepted b.plan b.entries before.items after.items)
+    (unnamed : EachUnnamedStays b.plan before.items after.items) where
+  stayed : EachUnnamedStays f before.items after.items
+  stayed = subst (λ (g : Plan). EachUnnamedStays g before.items after.items) plan unnamed
 
-pub flown_did : {C : Type 0} (told : C → Option (List Asking)) (r : Result Answer AllocError) (telling : Telling) (acc : Admitted) (f : Plan) (b : Standing)
-    (before after : Vec C) → vec_len after ≡ vec_len before → b.accepted ≡ acc → b.plan ≡ f
-    → FlownBy acc.program acc.cert.jitter f b.entries → IfOk r (λ a. Tells telling acc.program f b.entries a.status a.text.items)
-    → EachAnswered told b.accepted b.plan b.entries before.items after.items → EachUnnamedStays b.plan before.items after.items
-    → GuestsDid told telling r (EachUnnamedStays f before.items after.items)
-    (λ text. GuestsFlew told acc.program acc.cert.jitter f text before.items after.items) before after
-flown_did told r telling acc f b before after count is plan flown tells answered unnamed =
-    let stay = subst (λ (g : Plan). EachUnnamedStays g before.items after.items) plan unnamed in
-    let asked = subst (λ (g : Plan). EachAnswered told acc g b.entries before.items after.items) plan
-    (subst (λ (x : Admitted). EachAnswered told x b.plan b.entries before.items after.items) is answered) in
-    let fly = flew_history told acc.program acc.cert.jitter f b.entries before.items after.items flown asked stay in record {
-      count = count;
-      go_on = flew_told told acc f b.entries before.items after.items asked stay;
-      unasked = unasked_result (after ≡ before) r telling acc.program f b.entries _ fly tells;
-      stay = stay;
-      flew = flew_result r telling acc.program f b.entries _ fly tells;
-    }
+  asked : EachAnswered told acc f b.entries before.items after.items
+  asked =
+      subst (λ (g : Plan). EachAnswered told acc g b.entries before.items after.items) plan
+      (subst (λ (x : Admitted). EachAnswered told x b.plan b.entries before.items after.items) is answered)
+
+  pub flown_stand : vec_len after ≡ vec_len before → GuestsStand told (EachUnnamedStays f before.items after.items) before after
+  flown_stand count = record { count = count; go_on = flew_told told acc f b.entries before.items after.items asked stayed; stay = stayed }
+
+  pub flown_did : FlownBy acc.program acc.cert.jitter f b.entries → (telling : Telling) (status : ℕ) (said : List ℕ)
+      → Tells telling acc.program f b.entries status said
+      → GuestsDid telling status said (λ text. GuestsFlew told acc.program acc.cert.jitter f text before.items after.items) before after
+  flown_did flown telling status said tells =
+      let fly : (text : List ℕ) → text ≡ trace_text acc.program f.start b.entries
+      → GuestsFlew told acc.program acc.cert.jitter f text before.items after.items =
+      λ text text_is. record { history = b.entries; flown = flown; text_is = text_is; answered = asked; unnamed = stayed } in record {
+        unasked = λ more. unasked_as acc.program f b.entries status said _ fly telling tells more;
+        flew = λ zero other. flew_as acc.program f b.entries status said _ fly telling other tells;
+      }
 
 -- at status 0 all of the text was written, and it is the answer's status
 pub all_written : (held after : Option (List ℕ)) (faults faults_after said : ℕ) (text : List ℕ) (status : ℕ)

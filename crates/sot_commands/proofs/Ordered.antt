@@ -1,71 +1,64 @@
 -- From a flight that was ordered to the end of the call.
-use Rattle.std.proofs.Common.{◌≡◌, ℕ, ◌≤◌, List, Option, Result, Ok, Err, inl, inr, refl, sym, ◌∙◌, subst, arith, Global}
-use Rattle.std.specs.Prelude.{◌⊎◌, ◌≢◌, IfOk, String, vec_len}
+use Rattle.std.proofs.Common.{◌≡◌, ℕ, ◌≤◌, List, Option, Some, inl, inr, refl, sym, ◌∙◌, subst, arith, Global}
+use Rattle.std.specs.Prelude.{◌⊎◌, ◌≢◌, String, vec_len}
 use Rattle.std.specs.Global.{Vec}
 use Rattle.std.specs.Io.KnownBytes.{Keeps, Appends}
-use Rattle.std.specs.declared.alloc.AllocError.{AllocError}
 use Rattle.sot_ports.specs.Whole.{ReadsAll}
+use Rattle.sot_flight.specs.Plans.{Plan}
+use Rattle.sot_report.specs.Missions.{Mission}
+use Rattle.sot_sections.specs.declared.mission.Need.TheVariants as needs
 use Rattle.sot_node_worker.specs.Askings.{Asking}
 use Rattle.sot_commands.specs.declared.words.Command.{Command}
 use Rattle.sot_commands.specs.declared.words.Command.TheVariants.{Check, Fly, Replay, Recover, Watch, Format, Certify, Make, Soak}
 use Rattle.sot_commands.specs.declared.telling.Telling.{Telling}
 use Rattle.sot_commands.specs.declared.telling.Telling.TheVariants.{Trace, Summary, Verdict}
 use Rattle.sot_commands.specs.declared.order.FlightOrder.{FlightOrder}
-use Rattle.sot_answers.specs.declared.answer.Answer.{Answer}
 use Rattle.sot_commands.specs.Words.{Asks, AsksWatch}
-use Rattle.sot_commands.specs.Answers.{Replies}
+use Rattle.sot_commands.specs.Answers.{SpellsFor, Replies}
 use Rattle.sot_ports.specs.Outside.{Outside, Written}
 use Rattle.sot_commands.specs.Ends.{Ends}
-use Rattle.sot_commands.specs.Guests.{GuestsEnd, Flew, UnnamedStay, FlewAndWrote, IsNothing, SaysHolds, SaysFails, IsNoTrace, WroteNoTrace}
-use Rattle.sot_commands.specs.Steps.{GuestsDid, IsBehind, FlewAndTold}
+use Rattle.sot_commands.specs.Guests.{GuestsEnd, GuestsFlew, Flew, UnnamedStay, FlewAndWrote, IsNothing, SaysHolds, SaysFails, IsNoTrace, WroteNoTrace}
+use Rattle.sot_commands.specs.Steps.{JudgesWatched, GuestsStand, GuestsDid, IsBehind, FlewAndTold}
 use Rattle.sot_commands.specs.Orders.{Orders, IsOrdered, IsVerdict, FliesBytes, FlightEnds, handed_in}
 use Rattle.sot_commands.proofs.OneCommand.{same_command}
 use Rattle.sot_commands.proofs.Endings.{ends_said}
+use Rattle.sot_commands.proofs.Forms.{flown}
+use Rattle.sot_commands.proofs.GuestLaws.{mission_did}
 use Rattle.sot_commands.proofs.Guests.{stay_told, all_written}
 
--- what is said of the mission of a flight, or of one that is summed, is said of the order
-pub traced : (telling : Telling) (guests : ℕ) (bytes mission : List ℕ) (r : Result Answer AllocError) → (telling ≡ Summary → ⊥) → bytes ≡ mission
-    → IfOk r (λ a. FliesBytes guests telling bytes a.status a.text.items)
-    → IfOk r (λ a. FliesBytes (handed_in telling guests) telling mission a.status a.text.items)
-traced Trace guests bytes mission r other same flies = subst (λ (b : List ℕ). IfOk r (λ a. FliesBytes guests Trace b a.status a.text.items)) same flies
-traced Summary guests bytes mission r other same flies = absurd (other refl)
-traced (Verdict formula) guests bytes mission r other same flies =
-    subst (λ (b : List ℕ). IfOk r (λ a. FliesBytes guests (Verdict formula) b a.status a.text.items)) same flies
+-- what is said of a mission that was read, and what its guests did, is said of its bytes
+pub mission_said : {C : Type 0} (told : C → Option (List Asking)) (guests : ℕ) (bytes : List ℕ) (m : Mission) (f : Plan) (was now : Vec C)
+    → SpellsFor needs.Fly guests bytes m → m.flight ≡ Some f → (telling : Telling) (status : ℕ) (said : List ℕ)
+    → JudgesWatched telling m.tables m.cert f status said
+    × GuestsDid telling status said (λ text. GuestsFlew told m.tables m.cert.jitter f text was.items now.items) was now
+    → FliesBytes guests telling bytes status said × GuestsDid telling status said (λ text. Flew told guests bytes text was.items now.items) was now
+mission_said told guests bytes m f was now spells is telling status said (judged, did) =
+    (flown guests bytes said m f spells is telling status judged, mission_did told guests bytes m f was now spells is telling status said did)
 
-pub summed : (telling : Telling) (guests none : ℕ) (bytes mission : List ℕ) (r : Result Answer AllocError) → telling ≡ Summary → none ≡ 0 → bytes ≡ mission
-    → IfOk r (λ a. FliesBytes none Summary bytes a.status a.text.items)
-    → IfOk r (λ a. FliesBytes (handed_in telling guests) telling mission a.status a.text.items)
-summed telling guests none bytes mission r is nobody same flies =
-    subst (λ (t : Telling). IfOk r (λ a. FliesBytes (handed_in t guests) t mission a.status a.text.items)) (sym is)
-    (subst (λ (n : ℕ). IfOk r (λ a. FliesBytes n Summary mission a.status a.text.items)) nobody
-    (subst (λ (b : List ℕ). IfOk r (λ a. FliesBytes none Summary b a.status a.text.items)) same flies))
+-- what is said of the mission of a flight, or of one that is summed, is said of the order
+pub traced : (telling : Telling) (guests : ℕ) (mission : List ℕ) (status : ℕ) (said : List ℕ) → telling ≢ Summary
+    → FliesBytes guests telling mission status said
+    → FliesBytes (handed_in telling guests) telling mission status said
+traced Trace guests mission status said other flies = flies
+traced Summary guests mission status said other flies = absurd (other refl)
+traced (Verdict formula) guests mission status said other flies = flies
+
+pub summed : (telling : Telling) (guests : ℕ) (mission : List ℕ) (status : ℕ) (said : List ℕ) → telling ≡ Summary → FliesBytes 0 Summary mission status said
+    → FliesBytes (handed_in telling guests) telling mission status said
+summed telling guests mission status said is flies =
+    subst (λ (t : Telling). FliesBytes (handed_in t guests) t mission status said) (sym is) flies
 
 -- a flight that is summed was flown without the guests, and no trace of it is told
-summed_flew : (r : Result Answer AllocError) (telling : Telling) (Did : List ℕ → Type 0) → telling ≡ Summary
-    → IfOk r (λ a. a.status ≡ 0 → telling ≢ Summary → FlewAndTold telling a.status a.text.items Did)
-summed_flew (Ok a) telling Did is = λ zero other. absurd (other is)
-summed_flew (Err e) telling Did is = tt
-
-summed_unasked : {C : Type 0} (r : Result Answer AllocError) (telling : Telling) (Did Does : List ℕ → Type 0) (was now guests : Vec C) → telling ≡ Summary
-    → IfOk r (λ a. a.status ≢ 0 → ((now ≡ was) × IsNoTrace a.text.items) ⊎ FlewAndTold Summary a.status a.text.items Did)
-    → IfOk r (λ a. a.status ≢ 0 → ((guests ≡ guests) × IsNoTrace a.text.items) ⊎ FlewAndTold telling a.status a.text.items Does)
-summed_unasked (Ok a) telling Did Does was now guests is unasked = λ more. inl (refl, by (unasked more))
-  where
-    by : ((now ≡ was) × IsNoTrace a.text.items) ⊎ FlewAndTold Summary a.status a.text.items Did → IsNoTrace a.text.items
-    by (inl (same, untraced)) = untraced
-    by (inr (text, behind, stands, said, did)) = absurd stands
-summed_unasked (Err e) telling Did Does was now guests is unasked = tt
-
-pub summed_did : {C : Type 0} (told : C → Option (List Asking)) (telling : Telling) (r : Result Answer AllocError) (Stay Stays : Type 0)
-    (Did Does : List ℕ → Type 0) (guests was now : Vec C) → telling ≡ Summary → Stay
-    → GuestsDid told Summary r Stays Did was now → GuestsDid told telling r Stay Does guests guests
-summed_did told telling r Stay Stays Did Does guests was now is stay did = record {
-  count = refl;
-  go_on = stay_told told guests.items;
-  unasked = summed_unasked r telling Did Does was now guests is did.unasked;
-  stay = stay;
-  flew = summed_flew r telling Does is;
+pub summed_did : {C : Type 0} (telling : Telling) (status : ℕ) (said : List ℕ) (Did Does : List ℕ → Type 0) (guests was now : Vec C) → telling ≡ Summary
+    → GuestsDid Summary status said Did was now → GuestsDid telling status said Does guests guests
+summed_did telling status said Did Does guests was now is did = record {
+  unasked = λ more. inl (refl, untraced (did.unasked more));
+  flew = λ zero other. absurd (other is);
 }
+  where
+    untraced : ((now ≡ was) × IsNoTrace said) ⊎ FlewAndTold Summary status said Did → IsNoTrace said
+    untraced (inl (same, none)) = none
+    untraced (inr (text, behind, stands, whole, flew)) = absurd stands
 
 -- a command that ordered a flight replies with what is said of it
 replies_of : (guests : ℕ) (c : Command) (bytes mission : List ℕ) (telling : Telling) (status : ℕ) (text : List ℕ) → Orders c bytes telling mission
@@ -84,6 +77,17 @@ replies_of guests Certify bytes mission telling status text orders flies = absur
 replies_of guests (Make n seed) bytes mission telling status text orders flies = absurd orders
 replies_of guests (Soak n seed) bytes mission telling status text (is, same) flies =
     subst (λ (b : List ℕ). FliesBytes 0 Summary b status text) same (subst (λ (t : Telling). FliesBytes (handed_in t guests) t mission status text) is flies)
+
+-- of a flight nothing is said at status 6
+said_some : (guests : ℕ) (telling : Telling) (mission : List ℕ) (said : ℕ) (text : List ℕ) (held after : Option (List ℕ)) (faults faults_after status : ℕ)
+    → FliesBytes guests telling mission said text → Written held after faults faults_after said text status → status ≢ 6
+said_some guests telling mission said text held after faults faults_after status flies (inr (five, rose, part)) six = absurd (omega (arith, five, six))
+said_some guests telling mission said text held after faults faults_after status (inl (zero, flies)) (inl (is, calm, wrote)) six =
+    absurd (omega (arith, zero, is, six))
+said_some guests telling mission said text held after faults faults_after status (inr (inl (one, refuses))) (inl (is, calm, wrote)) six =
+    absurd (omega (arith, one, is, six))
+said_some guests telling mission said text held after faults faults_after status (inr (inr (three, faulty))) (inl (is, calm, wrote)) six =
+    absurd (omega (arith, three, is, six))
 
 -- what is said late is said at a late status, or not written
 pub said_late : (held after : Option (List ℕ)) (faults faults_after said : ℕ) (text : List ℕ) (status : ℕ) → said ≡ 7
@@ -213,39 +217,63 @@ wrote_trace told (Verdict formula) said text mission held held_after was now wro
 pub trace_not_summed : (telling : Telling) → telling ≡ Trace → telling ≢ Summary
 trace_not_summed telling trace summary = (let e = sym trace ∙ summary in absurd cc)
 
-pub said_guests : {C : Type 0} (told : C → Option (List Asking)) (telling : Telling) (a : Answer) (mission : List ℕ) (held held_after : Option (List ℕ))
-    (faults faults_after : ℕ) (was now : Vec C) (status : ℕ)
-    → Written held held_after faults faults_after a.status a.text.items status
-    → GuestsDid told telling (Ok a) (UnnamedStay (vec_len was) mission was.items now.items) (λ text. Flew told (vec_len was) mission text was.items now.items)
-    was now → (telling ≡ Summary → now ≡ was)
+-- what was said was written, or a part of it
+pub said_guests : {C : Type 0} (told : C → Option (List Asking)) (telling : Telling) (said : ℕ) (text mission : List ℕ) (held held_after : Option (List ℕ))
+    (faults faults_after : ℕ) (was now : Vec C) (status : ℕ) → Written held held_after faults faults_after said text status
+    → GuestsDid telling said text (λ x. Flew told (vec_len was) mission x was.items now.items) was now
+    → GuestsStand told (UnnamedStay (vec_len was) mission was.items now.items) was now → (telling ≡ Summary → now ≡ was)
     → GuestsEnd told (telling ≡ Trace) (IsVerdict telling) (λ bytes. bytes ≡ mission) held held_after was now status
-said_guests told telling a mission held held_after faults faults_after was now status written did alone = record {
-  count = did.count;
-  go_on = did.go_on;
+said_guests told telling said text mission held held_after faults faults_after was now status written did stand alone = record {
+  count = stand.count;
+  go_on = stand.go_on;
   stay = stays_but_for_traces telling was now alone;
-  unasked = unasked_said told telling a.status a.text.items mission held held_after was now status faults faults_after did.unasked written;
-  unnamed = inr (mission, refl, did.stay);
+  unasked = unasked_said told telling said text mission held held_after was now status faults faults_after did.unasked written;
+  unnamed = inr (mission, refl, stand.stay);
   flew =
-      λ zero trace. (let wrote = all_written held held_after faults faults_after a.status a.text.items status written zero in
-      wrote_trace told telling a.status a.text.items mission held held_after was now wrote.1 (did.flew wrote.0 (trace_not_summed telling trace)) trace);
+      λ zero trace. (let wrote = all_written held held_after faults faults_after said text status written zero in
+      wrote_trace told telling said text mission held held_after was now wrote.1 (did.flew wrote.0 (trace_not_summed telling trace)) trace);
   watched =
-      λ zero verdict. (let wrote = all_written held held_after faults faults_after a.status a.text.items status written zero in
-      wrote_holds told telling a.status a.text.items mission held held_after was now wrote.1 (did.flew wrote.0 (not_summed telling verdict)) wrote.0 verdict);
-  failed =
-      λ one verdict. failed_said told telling a.status a.text.items mission held held_after was now status faults faults_after did.unasked written one;
+      λ zero verdict. (let wrote = all_written held held_after faults faults_after said text status written zero in
+      wrote_holds told telling said text mission held held_after was now wrote.1 (did.flew wrote.0 (not_summed telling verdict)) wrote.0 verdict);
+  failed = λ one verdict. failed_said told telling said text mission held held_after was now status faults faults_after did.unasked written one;
 }
 
+-- what is said of a flight that was ordered, and of its guests
+abbrev pub FliesAndDid : {C : Type 0} → (C → Option (List Asking)) → Telling → List ℕ → Vec C → Vec C → ℕ → List ℕ → Type 0
+FliesAndDid told telling mission was now said text =
+    FliesBytes (handed_in telling (vec_len was)) telling mission said text
+    × GuestsDid telling said text (λ x. Flew told (vec_len was) mission x was.items now.items) was now
+
+-- how the call ends where this was said of its flight, and written or not
+module _ {C : Type 0} (told : C → Option (List Asking)) (telling : Telling) (mission : List ℕ) (held held_after : Option (List ℕ)) (faults faults_after : ℕ)
+    (was now : Vec C) (said status : ℕ) where
+  -- a text of which this holds, with how it was written
+  abbrev SaidAndWritten : Type 0
+  SaidAndWritten =
+      (text : List ℕ) × FliesAndDid told telling mission was now said text × Written held held_after faults faults_after said text status
+
+  pub flight_ends : SaidAndWritten → FlightEnds (vec_len was) telling mission held held_after faults faults_after status
+  flight_ends (text, (flies, did), written) = inr (said, text, flies, written)
+
+  pub never_six : SaidAndWritten → status ≢ 6
+  never_six (text, (flies, did), written) =
+      said_some (handed_in telling (vec_len was)) telling mission said text held held_after faults faults_after status flies written
+
+  pub flight_guests : GuestsStand told (UnnamedStay (vec_len was) mission was.items now.items) was now → (telling ≡ Summary → now ≡ was) → SaidAndWritten
+      → GuestsEnd told (telling ≡ Trace) (IsVerdict telling) (λ bytes. bytes ≡ mission) held held_after was now status
+  flight_guests stand alone (text, (flies, did), written) =
+      said_guests told telling said text mission held held_after faults faults_after was now status written did stand alone
+
 -- and where memory ran out
-pub silent_guests : {C : Type 0} (told : C → Option (List Asking)) (telling : Telling) (e : AllocError) (mission : List ℕ) (held held_after : Option (List ℕ))
-    (was now : Vec C) (Did : List ℕ → Type 0)
-    → GuestsDid told telling (Err e) (UnnamedStay (vec_len was) mission was.items now.items) Did was now → (telling ≡ Summary → now ≡ was)
+pub silent_guests : {C : Type 0} (told : C → Option (List Asking)) (telling : Telling) (mission : List ℕ) (held held_after : Option (List ℕ)) (was now : Vec C)
+    → GuestsStand told (UnnamedStay (vec_len was) mission was.items now.items) was now → (telling ≡ Summary → now ≡ was)
     → GuestsEnd told (telling ≡ Trace) (IsVerdict telling) (λ bytes. bytes ≡ mission) held held_after was now 6
-silent_guests told telling e mission held held_after was now Did did alone = record {
-  count = did.count;
-  go_on = did.go_on;
+silent_guests told telling mission held held_after was now stand alone = record {
+  count = stand.count;
+  go_on = stand.go_on;
   stay = stays_but_for_traces telling was now alone;
   unasked = λ zero five six. absurd (six refl);
-  unnamed = inr (mission, refl, did.stay);
+  unnamed = inr (mission, refl, stand.stay);
   flew = λ zero trace. absurd (omega (arith, zero));
   watched = λ zero verdict. absurd (omega (arith, zero));
   failed = λ one verdict. absurd (omega (arith, one));

@@ -1,7 +1,6 @@
 -- From what a monitor answers to what is told of the flight that it watched.
-use Rattle.std.proofs.Common.{◌≡◌, ℕ, ◌+◌, ◌≤◌, List, [], ◌++◌, Option, None, Some, Result, Ok, Err, inl, inr, refl, ap, sym, ◌∙◌, subst, arith}
-use Rattle.std.specs.Prelude.{IfOk, sum_by, MatchOption}
-use Rattle.std.specs.declared.alloc.AllocError.{AllocError}
+use Rattle.std.proofs.Common.{◌≡◌, ℕ, ◌+◌, ◌≤◌, List, [], ◌++◌, Option, None, Some, inl, inr, refl, ap, sym, ◌∙◌, subst, arith}
+use Rattle.std.specs.Prelude.{sum_by, MatchOption}
 use Rattle.sot_lang.specs.Tables.{Tables}
 use Rattle.sot_world.specs.Opens.{AreStarts}
 use Rattle.sot_world.specs.HistoryEntry.{Logged}
@@ -18,7 +17,6 @@ use Rattle.sot_monitor.specs.Holding.{AlwaysHolds, FirstFails}
 use Rattle.sot_monitor.specs.Tracked.{Tracked}
 use Rattle.sot_monitor.specs.Tracking.{StandsFor}
 use Rattle.sot_watch.specs.Moments.{moments_told}
-use Rattle.sot_answers.specs.declared.answer.Answer.{Answer}
 use Rattle.sot_commands.specs.declared.telling.Telling.{Telling}
 use Rattle.sot_commands.specs.declared.telling.Telling.TheVariants.{Trace, Summary, Verdict}
 use Rattle.sot_commands.specs.WatchTexts.{holds_text, fails_text}
@@ -56,77 +54,40 @@ means_for (Verdict formula) t None monitor = absurd (monitor tt)
 means_for (Verdict formula) t (Some m) monitor =
     (monitor.formula, record { phrase = monitor.phrase; text = monitor.text; means = monitor.means })
 
--- the formula holds at every moment, or fails first at one
-module _ (telling : Telling) (t : Tables) (f : Plan) (history : List Logged) (m : Tracked) where
-  pub holds_told : (said behind : List ℕ) (status : ℕ) → Watches telling t m
-      → ((x : Formula) → StandsFor m x [] → AlwaysHolds (moments_told t f.start history) x) → status ≡ 0 → behind ≡ holds_text (f.horizon + 1)
-      → said ≡ told_text telling t f history ++ behind → TellsVerdict telling t f history status said
-  holds_told said behind status watches always zero is text = by telling watches text
-    where
-      by : (k : Telling) → Watches k t m → said ≡ told_text k t f history ++ behind → TellsVerdict k t f history status said
-      by Trace w text = absurd w
-      by Summary w text = absurd w
-      by (Verdict formula) w text = (
-        w.formula,
-        record { phrase = w.phrase; text = w.text; means = w.means },
-        inl (zero, (always w.formula w.stands, text ∙ ap (λ (l : List ℕ). trace_text t f.start history ++ l) is)),
-      )
-
-  pub fails_told : (said behind : List ℕ) (status time : ℕ) → Watches telling t m
-      → ((x : Formula) → StandsFor m x [] → FirstFails (moments_told t f.start history) x time) → status ≡ 1 → behind ≡ fails_text time
-      → said ≡ told_text telling t f history ++ behind → TellsVerdict telling t f history status said
-  fails_told said behind status time watches first one is text = by telling watches text
-    where
-      by : (k : Telling) → Watches k t m → said ≡ told_text k t f history ++ behind → TellsVerdict k t f history status said
-      by Trace w text = absurd w
-      by Summary w text = absurd w
-      by (Verdict formula) w text = (
-        w.formula,
-        record { phrase = w.phrase; text = w.text; means = w.means },
-        inr (one, (time, first w.formula w.stands, text ∙ ap (λ (l : List ℕ). trace_text t f.start history ++ l) is)),
-      )
-
--- what a monitor that watched tells, and what is told without one
-pub verdict_told : (r : Result Answer AllocError) (telling : Telling) (t : Tables) (f : Plan) (history : List Logged)
-    → IfOk r (λ a. TellsVerdict telling t f history a.status a.text.items) → IfOk r (λ a. Tells telling t f history a.status a.text.items)
-verdict_told (Ok a) telling t f history tells = inr tells
-verdict_told (Err e) telling t f history tells = tt
-
-pub plainly_told : (r : Result Answer AllocError) (telling : Telling) (t u : Tables) (f : Plan) (history : List Logged) → IsMonitorFor telling t None → u ≡ t
-    → IfOk r (λ a. a.status ≡ 0) → IfOk r (λ a. a.text.items ≡ told_text telling u f history) → IfOk r (λ a. Tells telling t f history a.status a.text.items)
-plainly_told (Ok a) telling t u f history plain same status text = inl (plain, status, text ∙ ap (λ (x : Tables). told_text telling x f history) same)
-plainly_told (Err e) telling t u f history plain same status text = tt
-
--- a trace with the line of a verdict behind it
-module _ (r : Result Answer AllocError) (telling : Telling) (t : Tables) (f : Plan) (history : List Logged) (m : Tracked) (v : Option ℕ) (text line : List ℕ)
-    (watches : Watches telling t m)
+-- the formula holds at every moment, or fails first at one: its line behind the trace tells so
+module _ (telling : Telling) (t : Tables) (f : Plan) (history : List Logged) (m : Tracked) (watches : Watches telling t m) (v : Option ℕ)
     (verdict : (x : Formula) → StandsFor m x []
-    → MatchOption v (AlwaysHolds (moments_told t f.start history) x) (FirstFails (moments_told t f.start history) x))
-    (trace : text ≡ told_text telling t f history) (whole : IfOk r (λ a. a.text.items ≡ text ++ line)) where
+    → MatchOption v (AlwaysHolds (moments_told t f.start history) x) (FirstFails (moments_told t f.start history) x)) where
   abbrev Always : Formula → Option ℕ → Type 0
   Always x o = MatchOption o (AlwaysHolds (moments_told t f.start history) x) (FirstFails (moments_told t f.start history) x)
 
-  abbrev IsWhole : List ℕ → Type 0
-  IsWhole said = said ≡ text ++ line
-
-  pub holds_result : v ≡ None → (moments : ℕ) → moments ≡ f.horizon + 1 → line ≡ holds_text moments → IfOk r (λ a. a.status ≡ 0)
-      → IfOk r (λ a. TellsVerdict telling t f history a.status a.text.items)
-  holds_result none moments many is status = by r status whole
+  pub holds_told : v ≡ None → (line : List ℕ) → line ≡ holds_text (f.horizon + 1)
+      → TellsVerdict telling t f history 0 (trace_text t f.start history ++ line)
+  holds_told none line is = by telling watches
     where
-      by : (s : Result Answer AllocError) → IfOk s (λ a. a.status ≡ 0) → IfOk s (λ a. IsWhole a.text.items)
-          → IfOk s (λ a. TellsVerdict telling t f history a.status a.text.items)
-      by (Ok a) zero said =
-          holds_told telling t f history m a.text.items line a.status watches (λ x stands. subst (Always x) none (verdict x stands)) zero
-          (is ∙ ap holds_text many) (said ∙ ap (λ (l : List ℕ). l ++ line) trace)
-      by (Err e) zero said = tt
+      by : (k : Telling) → Watches k t m → TellsVerdict k t f history 0 (trace_text t f.start history ++ line)
+      by Trace w = absurd w
+      by Summary w = absurd w
+      by (Verdict formula) w = (
+        w.formula,
+        record { phrase = w.phrase; text = w.text; means = w.means },
+        inl (refl, (subst (Always w.formula) none (verdict w.formula w.stands), ap (λ (l : List ℕ). trace_text t f.start history ++ l) is)),
+      )
 
-  pub fails_result : (time : ℕ) → v ≡ Some time → line ≡ fails_text time → IfOk r (λ a. a.status ≡ 1)
-      → IfOk r (λ a. TellsVerdict telling t f history a.status a.text.items)
-  fails_result time some is status = by r status whole
+  pub fails_told : (time : ℕ) → v ≡ Some time → (line : List ℕ) → line ≡ fails_text time
+      → TellsVerdict telling t f history 1 (trace_text t f.start history ++ line)
+  fails_told time some line is = by telling watches
     where
-      by : (s : Result Answer AllocError) → IfOk s (λ a. a.status ≡ 1) → IfOk s (λ a. IsWhole a.text.items)
-          → IfOk s (λ a. TellsVerdict telling t f history a.status a.text.items)
-      by (Ok a) one said =
-          fails_told telling t f history m a.text.items line a.status time watches (λ x stands. subst (Always x) some (verdict x stands)) one is
-          (said ∙ ap (λ (l : List ℕ). l ++ line) trace)
-      by (Err e) one said = tt
+      by : (k : Telling) → Watches k t m → TellsVerdict k t f history 1 (trace_text t f.start history ++ line)
+      by Trace w = absurd w
+      by Summary w = absurd w
+      by (Verdict formula) w = (
+        w.formula,
+        record { phrase = w.phrase; text = w.text; means = w.means },
+        inr (refl, (time, subst (Always w.formula) some (verdict w.formula w.stands), ap (λ (l : List ℕ). trace_text t f.start history ++ l) is)),
+      )
+
+-- what is told without a monitor
+pub plainly_told : (telling : Telling) (t u : Tables) (f : Plan) (history : List Logged) (status : ℕ) (said : List ℕ) → IsMonitorFor telling t None → u ≡ t
+    → (status ≡ 0) × (said ≡ told_text telling u f history) → Tells telling t f history status said
+plainly_told telling t u f history status said plain same (zero, is) = inl (plain, zero, is ∙ ap (λ (x : Tables). told_text telling x f history) same)

@@ -1,5 +1,5 @@
 -- What the functions below `soter` promise it.
-use Rattle.std.specs.Prelude.{◌≡◌, ◌≢◌, ℕ, ◌+◌, ◌≤◌, ◌⊎◌, List, ◌++◌, Option, Result, Ok, Err, IfOk}
+use Rattle.std.specs.Prelude.{◌≡◌, ◌≢◌, ℕ, ◌+◌, ◌≤◌, ◌⊎◌, List, ◌++◌, Option, Result, Ok, Err}
 use Rattle.std.specs.Prelude.{None, Some, length, vec_len, String}
 use Rattle.std.proofs.Common.{Global}
 use Rattle.std.specs.Global.{Vec}
@@ -238,17 +238,26 @@ FlewAndTold telling status said Fly =
     (text : List ℕ) × (behind : List ℕ) × IsBehind telling status behind × (said ≡ text ++ behind)
     × Fly text
 
--- What became of the guests of a flight, by what is answered: there are as many, each goes on, and
--- none was asked but for a flight that was flown, without which no trace is told. `Stay` says who
--- stays whatever is answered, and `Fly` what those did whose trace is told.
-pub record GuestsDid {C : Type 0} (told : C → Option (List Asking)) (telling : Telling)
-    (answer : Result Answer AllocError) (Stay : Type 0) (Fly : List ℕ → Type 0)
+-- What became of the guests of a flight, whatever is answered: there are as many, each goes on, and
+-- `Stay` says who stays as it was.
+pub record GuestsStand {C : Type 0} (told : C → Option (List Asking)) (Stay : Type 0)
     (before after : Vec C) : Type 0 where
   pub count : vec_len after ≡ vec_len before
   pub go_on : GuestsGoOn told before.items after.items
-  pub unasked : IfOk answer (λ a. a.status ≢ 0
-      → ((after ≡ before) × IsNoTrace a.text.items)
-      ⊎ FlewAndTold telling a.status a.text.items Fly)
   pub stay : Stay
-  pub flew : IfOk answer (λ a. a.status ≡ 0 → telling ≢ Summary
-      → FlewAndTold telling a.status a.text.items Fly)
+
+-- And by what is said, with its status: none was asked but for a flight that was flown, without
+-- which no trace is told. `Fly` says what those did whose trace is told.
+pub record GuestsDid {C : Type 0} (telling : Telling) (status : ℕ) (said : List ℕ)
+    (Fly : List ℕ → Type 0) (before after : Vec C) : Type 0 where
+  pub unasked : status ≢ 0
+      → ((after ≡ before) × IsNoTrace said) ⊎ FlewAndTold telling status said Fly
+  pub flew : status ≡ 0 → telling ≢ Summary → FlewAndTold telling status said Fly
+
+-- What was put, and the answer's text behind it, are in all a text of which this holds, with the
+-- answer's status. Where memory ran out nothing was put.
+abbrev pub SaysInAll : {O : Type 0} → (O → O → List ℕ → Type 0) → O → O
+    → Result Answer AllocError → (ℕ → List ℕ → Type 0) → Type 0
+SaysInAll puts before after (Ok answer) Holds =
+    (front : List ℕ) × puts before after front × Holds answer.status (front ++ answer.text.items)
+SaysInAll puts before after (Err fail) Holds = after ≡ before

@@ -1,7 +1,6 @@
 //! Answers: a status with the text that is written with it.
 
-ghost use Rattle.std.specs.Prelude.{◌≡◌, ◌≢◌, ℕ, [], ◌++◌, codes, IfOk, MatchOption};
-ghost use Rattle.std.specs.String.{string_bytes};
+ghost use Rattle.std.specs.Prelude.{◌≡◌, ◌≢◌, ℕ, codes, IfOk};
 ghost use Rattle.sot_tree.specs.TreeViews.{program_view};
 ghost use Rattle.sot_lang.specs.CertRules.{FitsTables};
 ghost use Rattle.sot_print.specs.Canonical.{canonical};
@@ -9,13 +8,7 @@ ghost use Rattle.sot_world.specs.Opens.{IsFirstOutside};
 ghost use Rattle.sot_flight.specs.Fits.{FitsFlight};
 ghost use Rattle.sot_commands.specs.ReplayTexts.{legal_text, kind_word, refused_line_text};
 ghost use Rattle.sot_commands.specs.Answers.{IsOutsideOf};
-ghost use Rattle.sot_commands.specs.Steps.{told_text, Watches, TellsVerdict};
-ghost use Rattle.sot_commands.specs.WatchTexts.{holds_text, fails_text, formula_text};
-ghost use Rattle.sot_formula.specs.Formulas.{Formula};
-ghost use Rattle.sot_formula.specs.Parts.{AreThere};
-ghost use Rattle.sot_monitor.specs.Holding.{AlwaysHolds, FirstFails};
-ghost use Rattle.sot_monitor.specs.Tracking.{StandsFor};
-ghost use Rattle.sot_watch.specs.Moments.{moments_told};
+ghost use Rattle.sot_commands.specs.WatchTexts.{formula_text};
 ghost use Rattle.sot_commands.specs.Words.{AreAsked};
 ghost use Rattle.sot_maker.specs.Missions.{mission_text as made_text};
 ghost use Rattle.sot_report.specs.RefusalTexts.{gap_line};
@@ -23,24 +16,17 @@ ghost use Rattle.sot_report.specs.AcceptedTexts.{accepted_text};
 ghost use Rattle.sot_certified_text.specs.FailTexts.{fail_text};
 ghost use Rattle.sot_recovery_text.specs.Recovery.{IsNeverAt};
 
-use crate::telling::Telling;
 use sot_answers::{Answer, fixed};
-use sot_board::Board;
 use sot_certify::CertifyFail;
 use sot_flight::Flight;
 use sot_formula::MonitorFail;
 use sot_lang::{Cert, Typed};
 use sot_maker::make;
-use sot_monitor::Monitor;
 use sot_print::print;
 use sot_recovery_text::{RecoveryFail, never_text};
 use sot_replay::LineKind;
 use sot_report::start_text;
-use sot_summary::{board_summary, summary_text};
-use sot_trace::board_text;
 use sot_tree::Program;
-use sot_tube::Accepted;
-use sot_watch::watch;
 use std::alloc::{AllocError, Global};
 
 /// Status 0: the canonical text of a program.
@@ -80,108 +66,6 @@ pub fn accepted(alloc: Global, program: &Typed, cert: &Cert) -> Result<Answer, A
         status: 0,
         text: text.into_bytes(),
     })
-}
-
-// The trace or the summary of what was flown, without a verdict.
-fn told_text(alloc: Global, telling: Telling<'_>, board: &Board<'_>) -> Result<String, AllocError>
-    ensures { IfOk result (λ text. string_bytes text
-        ≡ told_text telling.entry board.now.accepted.program board.now.plan board.now.entries) }
-{
-    match telling {
-        Telling::Trace => board_text(alloc, board),
-        Telling::Summary => summary_text(alloc, &board_summary(board)),
-        Telling::Verdict { .. } => board_text(alloc, board),
-    }
-}
-
-/// Status 0: what is told of what was flown.
-pub fn told(alloc: Global, telling: Telling<'_>, board: &Board<'_>) -> Result<Answer, AllocError>
-    ensures status { IfOk result (λ answer. answer.status ≡ 0) }
-    ensures text { IfOk result (λ answer. answer.text.items
-        ≡ told_text telling.entry board.now.accepted.program board.now.plan board.now.entries) }
-{
-    let text = told_text(alloc, telling, board)?;
-    Ok(Answer {
-        status: 0,
-        text: text.into_bytes(),
-    })
-}
-
-// The first moment of what was flown at which a new monitor's formula is false.
-fn first_false(
-    alloc: Global,
-    accepted: &Accepted<'_>,
-    board: &Board<'_>,
-    monitor: Monitor,
-) -> Result<Option<u32>, AllocError>
-    requires accepted { board.now.accepted ≡ accepted.now }
-    requires there { AreThere accepted.now.program monitor.whats }
-    requires new { monitor.added ≡ 0 }
-    ensures { (x : Formula) → StandsFor monitor x [] → IfOk result (λ t. MatchOption t
-        (AlwaysHolds (moments_told accepted.now.program board.now.plan.start board.now.entries) x)
-        (FirstFails (moments_told accepted.now.program board.now.plan.start board.now.entries) x)) }
-{
-    board.reveal_invariant();
-    watch(
-        alloc,
-        accepted,
-        board.flight().start(),
-        board.history(),
-        monitor,
-    )
-}
-
-fn holds_line(alloc: Global, moments: u32) -> Result<String, AllocError>
-    ensures { IfOk result (λ text. string_bytes text ≡ holds_text moments) }
-{
-    format!(in alloc; "watch holds moments {moments}\n")
-}
-
-fn fails_line(alloc: Global, time: u32) -> Result<String, AllocError>
-    ensures { IfOk result (λ text. string_bytes text ≡ fails_text time) }
-{
-    format!(in alloc; "refused watch time {time}\n")
-}
-
-// A text with a line behind it.
-fn with_line(status: u8, mut text: String, line: &str) -> Result<Answer, AllocError>
-    ensures status { IfOk result (λ answer. answer.status ≡ status) }
-    ensures text { IfOk result (λ answer. answer.text.items ≡ string_bytes text ++ line.now) }
-{
-    text.push_str(line)?;
-    Ok(Answer {
-        status,
-        text: text.into_bytes(),
-    })
-}
-
-/// Status 0: the trace of what was flown, and `watch holds moments M` behind it; status 1: the same
-/// with `refused watch time T`.
-pub fn watched(
-    alloc: Global,
-    telling: Telling<'_>,
-    accepted: &Accepted<'_>,
-    board: &Board<'_>,
-    monitor: Monitor,
-) -> Result<Answer, AllocError>
-    requires accepted { board.now.accepted ≡ accepted.now }
-    requires watches { Watches telling accepted.now.program monitor }
-    ensures { IfOk result (λ answer. TellsVerdict telling.entry accepted.now.program board.now.plan
-        board.now.entries answer.status answer.text.items) }
-{
-    board.reveal_invariant();
-    let verdict = first_false(alloc, accepted, board, monitor)?;
-    let text = told_text(alloc, telling, board)?;
-    match verdict {
-        None => {
-            let line = holds_line(alloc, board.flight().horizon() + 1)?;
-            with_line(0, text, &line)
-        }
-        Some(time) => {
-            let line = fails_line(alloc, time)?;
-            with_line(1, text, &line)
-        }
-    }
 }
 
 fn formula_word(fail: MonitorFail) -> &'static str

@@ -8,13 +8,15 @@ ghost use Rattle.sot_flight.specs.Fits.{FitsFlight};
 ghost use Rattle.sot_workers.specs.Flying.{HasNoGuests};
 ghost use Rattle.sot_workers.specs.Asked.{EachUnnamedStays};
 ghost use Rattle.sot_answers.specs.Texts.{input_limit};
-ghost use Rattle.sot_commands.specs.Steps.{JudgesFlight, JudgesFlown, JudgesWatched, GuestsDid};
+ghost use Rattle.sot_commands.specs.Steps.{JudgesFlight, JudgesFlown, JudgesWatched};
+ghost use Rattle.sot_commands.specs.Steps.{GuestsStand, GuestsDid, SaysInAll};
 ghost use Rattle.sot_commands.specs.Steps.{IsMonitorFor, FailsFor, Tells};
 ghost use Rattle.sot_commands.specs.Orders.{FliesBytes};
 ghost use Rattle.sot_commands.specs.Guests.{UnnamedStay, GuestsFlew, Flew};
 
-use crate::answer::{faulty_formula, outside, told, watched};
+use crate::answer::{faulty_formula, outside};
 use crate::telling::Telling;
+use crate::told::{told, watched};
 use sot_answers::{Answer, faulty, refused};
 use sot_board::Board;
 use sot_compose::check_all;
@@ -26,6 +28,7 @@ use sot_node_worker::Controller;
 use sot_ports::{Process, let_go};
 use sot_report::{LoadFail, load};
 use sot_sections::Need;
+use sot_spool::Out;
 use sot_tube::Accepted;
 use sot_workers::{fly as fly_to_the_end, fly_alone, has_workers};
 use sot_world::OpenFail;
@@ -34,8 +37,9 @@ use std::sync::Wait;
 use std::thread::Threads;
 
 // Tells what was flown; with the verdict of a monitor, where one watches it.
-fn tell(
+fn tell<O: Out>(
     alloc: Global,
+    out: &mut O,
     accepted: &Accepted<'_>,
     board: &Board<'_>,
     telling: Telling<'_>,
@@ -43,18 +47,19 @@ fn tell(
 ) -> Result<Answer, AllocError>
     requires accepted { board.now.accepted ≡ accepted.now }
     requires monitor { IsMonitorFor telling accepted.now.program monitor }
-    ensures { IfOk result (λ answer. Tells telling.entry accepted.now.program board.now.plan
-        board.now.entries answer.status answer.text.items) }
+    ensures { SaysInAll O.puts out.old out.new result
+        (Tells telling.entry accepted.now.program board.now.plan board.now.entries) }
 {
     match monitor {
-        Some(monitor) => watched(alloc, telling, accepted, board, monitor),
-        None => told(alloc, telling, board),
+        Some(monitor) => watched(alloc, out, telling, accepted, board, monitor),
+        None => told(alloc, out, telling, board),
     }
 }
 
-// Flies a board without guests, and tells what was flown. Only the text takes memory.
-fn fly_unaided(
+// Flies a board without guests, and tells what was flown. Only what is told takes memory.
+fn fly_unaided<O: Out>(
     alloc: Global,
+    out: &mut O,
     accepted: &Accepted<'_>,
     board: &mut Board<'_>,
     flight: &Flight,
@@ -67,11 +72,11 @@ fn fly_unaided(
     requires inside { StartInside board.old.accepted.program flight.now.start
         (length board.old.accepted.program.modules) }
     requires no_guests { HasNoGuests flight.now }
-    ensures { IfOk result (λ answer. JudgesFlight telling.entry board.old.accepted.program
-        board.old.accepted.cert.jitter flight.now answer.status answer.text.items) }
+    ensures { SaysInAll O.puts out.old out.new result (JudgesFlight telling.entry
+        board.old.accepted.program board.old.accepted.cert.jitter flight.now) }
 {
     fly_alone(board);
-    tell(alloc, accepted, board, telling, monitor)
+    tell(alloc, out, accepted, board, telling, monitor)
 }
 
 // Whether a board is to be flown alone: there are no guests, and nobody gets a thread.
@@ -84,9 +89,10 @@ fn is_alone(board: &Board<'_>, no_guests: bool) -> bool
 
 // Flies a newly opened board with its guests, and tells what was flown. Where nobody gets a thread,
 // it takes no lists of drafts.
-fn fly_opened<'a, C: Controller + Send, R: Threads + Wait + Sync>(
+fn fly_opened<'a, O: Out, C: Controller + Send, R: Threads + Wait + Sync>(
     rt: &R,
     alloc: Global,
+    out: &mut O,
     guests: &mut Vec<C>,
     accepted: &Accepted<'_>,
     mut board: Board<'a>,
@@ -101,28 +107,30 @@ fn fly_opened<'a, C: Controller + Send, R: Threads + Wait + Sync>(
     requires inside { StartInside board.accepted.program flight.now.start
         (length board.accepted.program.modules) }
     requires fits { FitsFlight board.accepted.program (vec_len guests.old) flight.now }
-    ensures judges { IfOk result (λ answer.
+    ensures judges { SaysInAll O.puts out.old out.new result (λ status said.
         JudgesFlight telling.entry board.entry.accepted.program board.entry.accepted.cert.jitter
-        flight.now answer.status answer.text.items) }
-    ensures guests { GuestsDid C.told telling.entry result
-        (EachUnnamedStays flight.now guests.old.items guests.new.items)
+        flight.now status said
+        × GuestsDid telling.entry status said
         (λ text. GuestsFlew C.told board.entry.accepted.program board.entry.accepted.cert.jitter
         flight.now text guests.old.items guests.new.items)
-        guests.old guests.new }
+        guests.old guests.new) }
+    ensures guests { GuestsStand C.told
+        (EachUnnamedStays flight.now guests.old.items guests.new.items) guests.old guests.new }
 {
     if is_alone(&board, guests.is_empty()) {
-        return fly_unaided(alloc, accepted, &mut board, flight, telling, monitor);
+        return fly_unaided(alloc, out, accepted, &mut board, flight, telling, monitor);
     }
     match fly_to_the_end(rt, alloc, board, guests) {
-        Ok(flown) => tell(alloc, accepted, &flown.board, telling, monitor),
+        Ok(flown) => tell(alloc, out, accepted, &flown.board, telling, monitor),
         Err(_) => Err(AllocError),
     }
 }
 
 // Flies an accepted program with its guests, if its plants start inside their safer regions.
-fn fly_accepted<C: Controller + Send, R: Threads + Wait + Sync>(
+fn fly_accepted<O: Out, C: Controller + Send, R: Threads + Wait + Sync>(
     rt: &R,
     alloc: Global,
+    out: &mut O,
     guests: &mut Vec<C>,
     accepted: &Accepted<'_>,
     flight: &Flight,
@@ -131,26 +139,30 @@ fn fly_accepted<C: Controller + Send, R: Threads + Wait + Sync>(
 ) -> Result<Answer, AllocError>
     requires fits { FitsFlight accepted.now.program (vec_len guests.old) flight.now }
     requires monitor { IsMonitorFor telling accepted.now.program monitor }
-    ensures judges { IfOk result (λ answer.
+    ensures judges { SaysInAll O.puts out.old out.new result (λ status said.
         JudgesFlight telling.entry accepted.now.program accepted.now.cert.jitter flight.now
-        answer.status answer.text.items) }
-    ensures guests { GuestsDid C.told telling.entry result
-        (EachUnnamedStays flight.now guests.old.items guests.new.items)
+        status said
+        × GuestsDid telling.entry status said
         (λ text. GuestsFlew C.told accepted.now.program accepted.now.cert.jitter flight.now text
         guests.old.items guests.new.items)
-        guests.old guests.new }
+        guests.old guests.new) }
+    ensures guests { GuestsStand C.told
+        (EachUnnamedStays flight.now guests.old.items guests.new.items) guests.old guests.new }
 {
     match Board::open(alloc, accepted, flight) {
-        Ok(board) => fly_opened(rt, alloc, guests, accepted, board, flight, telling, monitor),
+        Ok(board) => fly_opened(
+            rt, alloc, out, guests, accepted, board, flight, telling, monitor,
+        ),
         Err(OpenFail::NotSafer { module }) => outside(alloc, accepted.typed(), flight, module),
         Err(OpenFail::Memory) => Err(AllocError),
     }
 }
 
 // Checks a program with its certificate, and flies it where it is accepted.
-fn judge<C: Controller + Send, R: Threads + Wait + Sync>(
+fn judge<O: Out, C: Controller + Send, R: Threads + Wait + Sync>(
     rt: &R,
     alloc: Global,
+    out: &mut O,
     guests: &mut Vec<C>,
     program: &Typed,
     cert: &Cert,
@@ -161,16 +173,17 @@ fn judge<C: Controller + Send, R: Threads + Wait + Sync>(
     requires monitor { IsMonitorFor telling program.now monitor }
     requires cert { FitsTables program.now cert.now }
     requires flight { FitsFlight program.now (vec_len guests.old) flight.now }
-    ensures judges { IfOk result (λ answer.
-        JudgesFlown telling.entry program.now cert.now flight.now answer.status answer.text.items) }
-    ensures guests { GuestsDid C.told telling.entry result
-        (EachUnnamedStays flight.now guests.old.items guests.new.items)
+    ensures judges { SaysInAll O.puts out.old out.new result (λ status said.
+        JudgesFlown telling.entry program.now cert.now flight.now status said
+        × GuestsDid telling.entry status said
         (λ text. GuestsFlew C.told program.now cert.now.jitter flight.now text guests.old.items
         guests.new.items)
-        guests.old guests.new }
+        guests.old guests.new) }
+    ensures guests { GuestsStand C.told
+        (EachUnnamedStays flight.now guests.old.items guests.new.items) guests.old guests.new }
 {
     match check_all(rt, program, cert) {
-        Ok(accepted) => fly_accepted(rt, alloc, guests, &accepted, flight, telling, monitor),
+        Ok(accepted) => fly_accepted(rt, alloc, out, guests, &accepted, flight, telling, monitor),
         Err(refusal) => refused(alloc, program, &refusal),
     }
 }
@@ -197,9 +210,10 @@ fn monitor_for(
 }
 
 // Flies a mission that was read, where the formula that watches it has a meaning.
-fn fly_loaded<C: Controller + Send, R: Threads + Wait + Sync>(
+fn fly_loaded<O: Out, C: Controller + Send, R: Threads + Wait + Sync>(
     rt: &R,
     alloc: Global,
+    out: &mut O,
     guests: &mut Vec<C>,
     program: &Typed,
     cert: &Cert,
@@ -208,26 +222,29 @@ fn fly_loaded<C: Controller + Send, R: Threads + Wait + Sync>(
 ) -> Result<Answer, AllocError>
     requires cert { FitsTables program.now cert.now }
     requires flight { FitsFlight program.now (vec_len guests.old) flight.now }
-    ensures judges { IfOk result (λ answer.
-        JudgesWatched telling.entry program.now cert.now flight.now answer.status
-        answer.text.items) }
-    ensures guests { GuestsDid C.told telling.entry result
-        (EachUnnamedStays flight.now guests.old.items guests.new.items)
+    ensures judges { SaysInAll O.puts out.old out.new result (λ status said.
+        JudgesWatched telling.entry program.now cert.now flight.now status said
+        × GuestsDid telling.entry status said
         (λ text. GuestsFlew C.told program.now cert.now.jitter flight.now text guests.old.items
         guests.new.items)
-        guests.old guests.new }
+        guests.old guests.new) }
+    ensures guests { GuestsStand C.told
+        (EachUnnamedStays flight.now guests.old.items guests.new.items) guests.old guests.new }
 {
     match monitor_for(alloc, program, telling) {
-        Ok(monitor) => judge(rt, alloc, guests, program, cert, flight, telling, monitor),
+        Ok(monitor) => judge(
+            rt, alloc, out, guests, program, cert, flight, telling, monitor,
+        ),
         Err(fail) => faulty_formula(alloc, fail),
     }
 }
 
 /// Flies a mission with these guests: reads its sections, its program, its certificate and its
 /// flight, checks it, flies it, and tells what was flown.
-pub fn fly<C: Controller + Send, R: Threads + Wait + Sync>(
+pub fn fly<O: Out, C: Controller + Send, R: Threads + Wait + Sync>(
     rt: &R,
     alloc: Global,
+    out: &mut O,
     guests: &mut Vec<C>,
     bytes: &[u8],
     telling: Telling<'_>,
@@ -235,11 +252,13 @@ pub fn fly<C: Controller + Send, R: Threads + Wait + Sync>(
 ) -> Result<Answer, AllocError>
     requires short { length bytes.now ≤ input_limit }
     requires few { vec_len guests.old < 2 ^ 32 }
-    ensures flies { IfOk result (λ answer.
-        FliesBytes (vec_len guests.old) telling.entry bytes.now answer.status answer.text.items) }
-    ensures guests { GuestsDid C.told telling.entry result
-        (UnnamedStay (vec_len guests.old) bytes.now guests.old.items guests.new.items)
+    ensures flies { SaysInAll O.puts out.old out.new result (λ status said.
+        FliesBytes (vec_len guests.old) telling.entry bytes.now status said
+        × GuestsDid telling.entry status said
         (λ text. Flew C.told (vec_len guests.old) bytes.now text guests.old.items guests.new.items)
+        guests.old guests.new) }
+    ensures guests { GuestsStand C.told
+        (UnnamedStay (vec_len guests.old) bytes.now guests.old.items guests.new.items)
         guests.old guests.new }
 {
     match load(alloc, bytes, Need::Fly, guests.len() as u32, process) {
@@ -248,6 +267,7 @@ pub fn fly<C: Controller + Send, R: Threads + Wait + Sync>(
                 let answer = fly_loaded(
                     rt,
                     alloc,
+                    out,
                     guests,
                     &loaded.program,
                     &loaded.cert,

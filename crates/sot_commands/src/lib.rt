@@ -25,6 +25,7 @@ mod replay;
 mod reply;
 mod soak;
 mod telling;
+mod told;
 mod top;
 mod words;
 

@@ -22,6 +22,7 @@ use crate::words::{Command, WordFail, command_of};
 use sot_answers::{Answer, INPUT_LIMIT, Status, fixed, say, too_long};
 use sot_node_worker::Controller;
 use sot_ports::{Process, ReadFail, Sink, Source};
+use sot_stream::{Stream, room};
 use std::alloc::{AllocError, Global};
 use std::sync::Wait;
 use std::thread::Threads;
@@ -135,7 +136,8 @@ pub fn begin<'w, R: Threads + Sync, S: Source, K: Sink>(
 
 /// Flies what `begin` ordered, and writes what is told of it. The guests, fewer than 2^32, fly the
 /// nodes that the flight of a `fly` names them for; a `soak` is flown without them. It waits for
-/// its turn and for the guests, so it returns only if they do.
+/// its turn and for the guests, so it returns only if they do. A trace is written through a buffer
+/// while it is told, once no more memory is wanted.
 pub fn fly_to_the_end<C: Controller + Send, R: Threads + Wait + Sync, K: Sink>(
     rt: &R,
     alloc: Global,
@@ -155,9 +157,16 @@ pub fn fly_to_the_end<C: Controller + Send, R: Threads + Wait + Sync, K: Sink>(
         (λ bytes. bytes ≡ order.now.text.items)
         (K.held sink.old) (K.held sink.new) guests.old guests.new result.0 }
 {
-    match fly_ordered(rt, alloc, guests, order, process) {
-        Ok(answer) => say(&answer, sink),
-        Err(_) => Status(6),
+    let Ok(mut waiting) = room(alloc) else {
+        return Status(6);
+    };
+    let mut stream = Stream::new(&mut waiting, sink);
+    match fly_ordered(rt, alloc, &mut stream, guests, order, process) {
+        Ok(answer) => match stream.end() {
+            Ok(()) => say(&answer, sink),
+            Err(_fail) => Status(5),
+        },
+        Err(_fail) => Status(6),
     }
 }
 
