@@ -20,5 +20,6 @@ returns-clause-value c = λ well at.
     let fits : FitsSigned w64 q = search rules in
     let wide : FitsSigned w128 c.floor.result = search rules in
     let e = rw (read_word c.args.a c.ranges.a, read_word c.args.b c.ranges.b) at c.floor.ensures in
-    quotient_is c.args.a c.args.b (λ z. c.if-b-eq0.false (ap (of_z w64) z)) at ∙ ap (λ z. word at z) (sym e ∙ sym (to_z-of_z w128 c.floor.result wide)) ∙ c.fit.ensures.value well at
+    quotient_is c.args.a c.args.b (λ z. c.if-b-eq0.false (ap (of_z w64) z)) at
+    ∙ ap (λ z. word at z) (sym e ∙ sym (to_z-of_z w128 c.floor.result wide)) ∙ c.fit.ensures.value well at
     ∙ ap Ok (sym (to_z-of_z w64 q fits))

@@ -30,7 +30,12 @@ compile-returns-in-Number t c =
     let fits : FitsSigned w64 z = search rules in
     let h = rw (read_word z fits) at c.place_of.ensures in
     if_ok c.place_of.result _ _
-    (λ place w. ([], sym (append-nil c.args.line.now.items), states n stated c.args.counts c.args.base c.requires.behind w.0 z place c.args.term.now w.1 w.2 c.in-Number.is))
+    (λ place w. (
+      [],
+      sym (append-nil c.args.line.now.items),
+      states n stated c.args.counts c.args.base c.requires.behind w.0 z place c.args.term.now
+          w.1 w.2 c.in-Number.is,
+    ))
     h
 
 pub compile-returns-in-Place : goal.compile-returns-in-Place
@@ -103,7 +108,8 @@ compile-returns-in_ok-a-in-Neg t c =
     finish c.emit-in-Neg.result base c.args.line.now.items _ c.emit-in-Neg.new.line.items fa.0 _ (λ x place. Reckons n stated g base c.args.term.now x place)
     c.emit-in-Neg.ensures fa.1 (
       omega arith,
-      leads_more n stated g base fa.0 (record { make = Neg; to = base; a = pa; b = pa; c = pa; counts = g }) (λ names ys. value_of l names ≡ Ok (number_at ys pa))
+      leads_more n stated g base fa.0 (record { make = Neg; to = base; a = pa; b = pa; c = pa; counts = g })
+          (λ names ys. value_of l names ≡ Ok (number_at ys pa))
           (λ names z. value_of c.args.term.now names ≡ Ok z) refl refl below (omega (arith, deep)) ra.1
           (λ names ms z told made_is. ap (λ u. value_of u names) c.in-Neg.is ∙ value_of-Neg l c.in-Neg.at names (number_at ms pa) told ∙ made_is c.in-Neg.at),
     )
@@ -124,7 +130,8 @@ compile-returns-in_ok-a-in-Not t c =
     finish c.emit-in-Not.result base c.args.line.now.items _ c.emit-in-Not.new.line.items fa.0 _ (λ x place. Reckons n stated g base c.args.term.now x place)
     c.emit-in-Not.ensures fa.1 (
       omega arith,
-      leads_more n stated g base fa.0 (record { make = Not; to = base; a = pa; b = pa; c = pa; counts = g }) (λ names ys. value_of l names ≡ Ok (number_at ys pa))
+      leads_more n stated g base fa.0 (record { make = Not; to = base; a = pa; b = pa; c = pa; counts = g })
+          (λ names ys. value_of l names ≡ Ok (number_at ys pa))
           (λ names z. value_of c.args.term.now names ≡ Ok z) refl refl below (omega (arith, deep)) ra.1
           (λ names ms z told made_is. ap (λ u. value_of u names) c.in-Not.is ∙ value_of-Not l c.in-Not.at names (number_at ms pa) told ∙ made_is c.in-Not.at),
     )
@@ -191,7 +198,8 @@ compile-returns-else-saturating_sub-gt-LONG t c =
     let rc : Reckons n stated (base + 1 + 2) (base + 1 + 2 + 1) r fc.0 pc = subst (λ k. Reckons n stated (base + 1 + 2) k r fc.0 pc) (plus_four base) rc1 in
     let i = counter n stated g pa And (base + 1) in
     let j = counter n stated g pa Without (base + 1 + 2) in
-    let j_is = fj.1 ∙ ap (λ k. c.compile-in-If-2.new.line.items ++ (record { make = Without; to = k; a = g; b = pa; c = pa; counts = g }) ∷ []) (plus_three base) in
+    let j_is = fj.1 ∙ ap (λ k. c.compile-in-If-2.new.line.items ++ (record { make = Without; to = k; a = g; b = pa; c = pa; counts = g }) ∷ [])
+    (plus_three base) in
     let sides = sides_lead n stated g pa c.in-If.at (base + 1) l r fb.0 fc.0 pb pc (omega (arith, le)) (omega (arith, below)) (omega (arith, fa.2.0))
     (omega (arith, deep)) rb rc in
     let lead = leads_then n stated g base o fa.0 ((i ∷ fb.0) ++ j ∷ fc.0) pa (λ names ys.
@@ -234,7 +242,8 @@ compile-returns-in_ok-b-in-Rescale t c =
     let at = c.in-Rescale.at in
     let scales = rw c.in-Rescale.is at c.requires.places in
     let ra = subst (λ u. Reckons n stated g base u fa.0 pa) c.deref-in-Rescale.ensures fa.2 in
-    finish c.emit-in-Rescale.result base c.args.line.now.items _ c.emit-in-Rescale.new.line.items fa.0 _ (λ x place. Reckons n stated g base c.args.term.now x place)
+    finish c.emit-in-Rescale.result base c.args.line.now.items _ c.emit-in-Rescale.new.line.items fa.0 _
+    (λ x place. Reckons n stated g base c.args.term.now x place)
     c.emit-in-Rescale.ensures fa.1 (
       omega arith,
       leads_more n stated g base fa.0 (record { make = make; to = base; a = pa; b = pb; c = pb; counts = g })
@@ -264,7 +273,8 @@ compile_call-returns-in_ok-a-in-Abs t c =
     finish c.emit-in-Abs.result base c.args.line.now.items _ c.emit-in-Abs.new.line.items fa.0 _
     (λ x place. ReckonsCall n stated g base c.args.func parts x place) c.emit-in-Abs.ensures fa.1 (
       omega arith,
-      leads_more n stated g base fa.0 (record { make = Abs; to = base; a = pa; b = pa; c = pa; counts = g }) (λ names ys. value_of l names ≡ Ok (number_at ys pa))
+      leads_more n stated g base fa.0 (record { make = Abs; to = base; a = pa; b = pa; c = pa; counts = g })
+          (λ names ys. value_of l names ≡ Ok (number_at ys pa))
           (λ names z. (at : Span) → then_with (values parts names) (called c.args.func at) ≡ Ok z) refl refl below (omega (arith, deep)) fa.2.1
           (λ names ms z told made_is at.
           let x = number_at ms pa in
@@ -357,7 +367,8 @@ compile_call-returns-in_ok-c-in-Clamp t c =
     let pc = c.in_ok-c-in-Clamp.c in
     let o = c.index-in-Clamp-3.result.now in
     let third : Reckons n stated g (base + 1 + 1) o fc.0 pc = subst (λ k. Reckons n stated g k o fc.0 pc) (plus_two base) fc.2 in
-    let back = leads_then n stated g (base + 1) r fb.0 fc.0 pb (λ names ys. value_of o names ≡ Ok (number_at ys pc)) (omega (arith, le)) (omega (arith, below)) fb.2 third.1 in
+    let back = leads_then n stated g (base + 1) r fb.0 fc.0 pb (λ names ys. value_of o names ≡ Ok (number_at ys pc)) (omega (arith, le))
+    (omega (arith, below)) fb.2 third.1 in
     let lead = leads_then n stated g base l fa.0 (fb.0 ++ fc.0) pa
     (λ names ys. (value_of r names ≡ Ok (number_at ys pb)) × (value_of o names ≡ Ok (number_at ys pc))) le below fa.2 back in
     finish c.emit-in-Clamp.result base c.args.line.now.items _ c.emit-in-Clamp.new.line.items (fa.0 ++ (fb.0 ++ fc.0)) _
