@@ -43,8 +43,8 @@ Comes left left_after e limit (Observed front) =
 Comes left left_after e limit (Unobserved text) =
     HasNone text.items × (e.ended ≡ true) × IsRead left left_after e limit text.items
 
--- a text whose last line begins at this place: it says it, and what is before it is the front; or it
--- does not
+-- a text whose last line begins at this place: it says it, and what is before it is the front; or
+-- it does not
 abbrev pub IsLastFront : List ℕ → ℕ → Front → Type 0
 IsLastFront text start (Observed front) =
     (is_observed (drop start text) ≡ true) × (front.items ≡ take start text)

@@ -78,8 +78,8 @@ impl Ear {
     }
 
     /// Waits for the next line, of a source that was not seen to end. The source is asked only
-    /// where no whole line waits, and no more often than it takes. An error says that it has failed;
-    /// what came before stays.
+    /// where no whole line waits, and no more often than it takes. An error says that it has
+    /// failed; what came before stays.
     pub fn next<S: Source>(&mut self, source: &mut S) -> Result<Next, Failed>
         requires open { self.old.ended ≡ false }
         ensures reads { Reads (S.left source.old) (S.left source.new) self.old.buffer

@@ -1,6 +1,7 @@
 //! A text up to the line behind which a robot speaks.
 
-ghost use Rattle.std.specs.Prelude.{◌≡◌, ◌≤◌, ℕ, List, false, [], length, take, IfOk, IfErr, IsErrOf};
+ghost use Rattle.std.specs.Prelude.{◌≡◌, ◌≤◌, ℕ, List, false, [], length, take};
+ghost use Rattle.std.specs.Prelude.{IfOk, IfErr, IsErrOf};
 ghost use Rattle.sot_ports.specs.Faults.{Rose};
 ghost use Rattle.sot_guard_front.specs.Reading.{Reads, IfFails};
 ghost use Rattle.sot_guard_front.specs.Fronts.{Comes, IsTooLong, IsLastFront};

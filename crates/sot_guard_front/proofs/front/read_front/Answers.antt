@@ -68,11 +68,12 @@ pieces-preserved g c =
     let other = sym (c.is_observed.ensures ∙ ap is_observed line) ∙ c.if-is_observed.false in
     let end : c.len-start.result ≡ length after.items = c.len-start.ensures ∙ after.ok.0 in
     let all : take c.len-start.result after.items ≡ after.items = take_all c.len-start.result after.items (omega (arith, end)) in
+    let none = none_so_far text adds.piece after.items start within adds.added so_far.whole so_far.none so_far.part (inr adds.is.1) other in
     record {
       reads = reads;
       whole = ap ends_line all ∙ ends_so_far _ _ c.next_piece.new.ear c.args.limit start text adds.piece after.items reads adds.added within
           so_far.whole so_far.none so_far.part short adds.is.1 adds.is.2;
-      none = subst HasNone (sym all) (none_so_far text adds.piece after.items start within adds.added so_far.whole so_far.none so_far.part (inr adds.is.1) other);
+      none = subst HasNone (sym all) none;
       part = ap has_end (drop_of_length-le after.items (omega (arith, end)));
       within = omega (arith, end, after.ok.0);
       short = c.in-Ok.ensures.short;
