@@ -1,6 +1,6 @@
 -- The modules of a certificate's JSON are those of the certificate.
 use Rattle.std.proofs.Common.{◌≡◌, ℕ, zero, suc, ◌≤◌, nat_lt, pos, ◌||◌, Bool, false, true, Option}
-use Rattle.std.proofs.Common.{None, Some, Ok, List, [], ◌∷◌, ◌++◌, length, map, codes, bytes_eq, Ordering}
+use Rattle.std.proofs.Common.{None, Some, Ok, List, [], ◌∷◌, ◌++◌, length, codes, bytes_eq, Ordering}
 use Rattle.std.proofs.Common.{Less, Equal, Greater, nat_cmp, refl, sym, ap, ◌∙◌, subst, arith}
 use Rattle.std.specs.Prelude.{int_le, unsigned_abs}
 use Rattle.std.specs.List.{list_all}
@@ -16,7 +16,6 @@ use Rattle.serde_json.proofs.Views.{get_member-put, get_member-put_other}
 use Rattle.sot_box.specs.BoxList.{BoxList}
 use Rattle.sot_box.specs.Sides.{Side}
 use Rattle.sot_lists.specs.Places.{At}
-use Rattle.sot_lists.proofs.Places.{at_map}
 use Rattle.sot_lang.specs.declared.cert.Cells.{Cells}
 use Rattle.sot_lang.specs.declared.cert.Cert.{Cert}
 use Rattle.sot_lang.specs.declared.tables.PlantInfo.{PlantInfo}

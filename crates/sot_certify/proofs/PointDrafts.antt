@@ -28,7 +28,7 @@ use Rattle.sot_iv.specs.BodyIntervals.{Intervals}
 use Rattle.sot_iv.specs.NodeIntervals.{interval_at, reading_intervals, IsNodeExecution}
 use Rattle.sot_iv.specs.TrapFree.{IsTrapFree}
 use Rattle.sot_iv.specs.Evaluation.{body_intervals}
-use Rattle.sot_iv.specs.Monotony.{AreNarrower, IsNarrowerDraft, AreNarrowerDrafts}
+use Rattle.sot_iv.specs.Monotony.{IsNarrowerDraft, AreNarrowerDrafts}
 use Rattle.sot_iv.proofs.Least.{IsOrdered}
 use Rattle.sot_iv.proofs.NarrowBoxes.{ordered_narrower}
 use Rattle.sot_iv.proofs.Bodies.{execution_is}

@@ -1,5 +1,5 @@
 -- Products of 64-bit words in 128 bits.
-use Rattle.std.proofs.Common.{◌≡◌, ◌^◌, ◌≤◌, ◌*ℤ◌, ℤ, pos, negsuc, FitsSigned, to_z, of_z, true, ⊎_elim, refl, arith, w64}
+use Rattle.std.proofs.Common.{◌≡◌, ◌^◌, ◌≤◌, ◌*ℤ◌, ℤ, pos, negsuc, FitsSigned, to_z, of_z, ⊎_elim, refl, arith, w64}
 use mir.Syntax.{w128}
 use Rattle.std.specs.Prelude.{unsigned_abs, Ok}
 use Rattle.std.proofs.lemmas.Bool.{cases_Bool}

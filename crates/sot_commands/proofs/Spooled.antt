@@ -1,4 +1,4 @@
--- A text that was written through a stream, and one behind it.
+-- A text that was written through a spool, and one behind it.
 use Rattle.std.proofs.Common.{◌≡◌, ℕ, ◌+◌, ◌<◌, List, [], ◌++◌, Option, Ok, inl, inr, length, take, refl, sym, ◌∙◌, subst, arith}
 use Rattle.std.proofs.lemmas.List.{length-append, take-append-le}
 use Rattle.std.proofs.Math.Seq.{take-append-add}
@@ -7,8 +7,8 @@ use Rattle.std.proofs.KnownBytes.{Appends-trans}
 use Rattle.sot_ports.specs.Faults.{Rose}
 use Rattle.sot_ports.specs.Outside.{Written}
 use Rattle.sot_spool.specs.Spools.{IsSpooled, Arrives, ArrivesInPart}
-use Rattle.sot_stream.specs.declared.stream.Stream.{Stream}
-use Rattle.sot_stream.specs.Streams.{streaming, Puts}
+use Rattle.sot_spool.specs.declared.spool.Spool.{Spool}
+use Rattle.sot_spool.specs.SpoolViews.{spooling, Puts}
 use Rattle.sot_answers.specs.declared.answer.Answer.{Answer}
 use Rattle.sot_commands.specs.Steps.{SaysInAll}
 
@@ -37,17 +37,17 @@ cut_before held after faults faults_after said front text rose (n, less, wrote) 
     let long = length-append front text in
     inr (refl, rose, (n, omega (arith, long, less), subst (Appends held after) (sym (take-append-le n front text (omega (arith, less)))) wrote))
 
--- what was put into a new stream over a sink, which has ended, and the answer that was written behind it
-module _ {K : Type 0} (held : K → Option (List ℕ)) (faults : K → ℕ) (sink : K) (new full ended : Stream K) (a : Answer) (P : ℕ → List ℕ → Type 0)
-    (is_new : IsSpooled (held sink) (faults sink) (streaming held faults new) []) (says : SaysInAll (Puts held faults) new full (Ok a) P) where
+-- what was put into a new spool over a sink, which has ended, and the answer that was written behind it
+module _ {K : Type 0} (held : K → Option (List ℕ)) (faults : K → ℕ) (sink : K) (new full ended : Spool K) (a : Answer) (P : ℕ → List ℕ → Type 0)
+    (is_new : IsSpooled (held sink) (faults sink) (spooling held faults new) []) (says : SaysInAll (Puts held faults) new full (Ok a) P) where
   abbrev Wrote : K → ℕ → Type 0
   Wrote last status = (text : List ℕ) × P a.status text × Written (held sink) (held last) (faults sink) (faults last) a.status text status
 
-  pub stream_took : ((h : Option (List ℕ)) (n : ℕ) (text : List ℕ) → IsSpooled h n (streaming held faults full) text
-      → Arrives h n (streaming held faults ended) text)
+  pub spool_took : ((h : Option (List ℕ)) (n : ℕ) (text : List ℕ) → IsSpooled h n (spooling held faults full) text
+      → Arrives h n (spooling held faults ended) text)
       → (last after : K) (status : ℕ) → last ≡ ended.sink.now
       → Written (held last) (held after) (faults last) (faults after) a.status a.text.items status → Wrote after status
-  stream_took ends last after status same written = by says
+  spool_took ends last after status same written = by says
     where
       by : SaysInAll (Puts held faults) new full (Ok a) P → Wrote after status
       by (front, (name, grows), holds) =
@@ -59,10 +59,10 @@ module _ {K : Type 0} (held : K → Option (List ℕ)) (faults : K → ℕ) (sin
                 written,
           )
 
-  pub stream_failed : ((h : Option (List ℕ)) (n : ℕ) (text : List ℕ) → IsSpooled h n (streaming held faults full) text
-      → ArrivesInPart h n (streaming held faults ended) text)
+  pub spool_failed : ((h : Option (List ℕ)) (n : ℕ) (text : List ℕ) → IsSpooled h n (spooling held faults full) text
+      → ArrivesInPart h n (spooling held faults ended) text)
       → (last : K) → last ≡ ended.sink.now → Wrote last 5
-  stream_failed ends last same = by says
+  spool_failed ends last same = by says
     where
       by : SaysInAll (Puts held faults) new full (Ok a) P → Wrote last 5
       by (front, (name, grows), holds) =

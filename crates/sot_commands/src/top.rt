@@ -22,7 +22,7 @@ use crate::words::{Command, WordFail, command_of};
 use sot_answers::{Answer, INPUT_LIMIT, Status, fixed, say, too_long};
 use sot_node_worker::Controller;
 use sot_ports::{Process, ReadFail, Sink, Source};
-use sot_stream::{Stream, room};
+use sot_spool::{Spool, room};
 use std::alloc::{AllocError, Global};
 use std::sync::Wait;
 use std::thread::Threads;
@@ -160,9 +160,9 @@ pub fn fly_to_the_end<C: Controller + Send, R: Threads + Wait + Sync, K: Sink>(
     let Ok(mut waiting) = room(alloc) else {
         return Status(6);
     };
-    let mut stream = Stream::new(&mut waiting, sink);
-    match fly_ordered(rt, alloc, &mut stream, guests, order, process) {
-        Ok(answer) => match stream.end() {
+    let mut spool = Spool::new(&mut waiting, sink);
+    match fly_ordered(rt, alloc, &mut spool, guests, order, process) {
+        Ok(answer) => match spool.end() {
             Ok(()) => say(&answer, sink),
             Err(_fail) => Status(5),
         },

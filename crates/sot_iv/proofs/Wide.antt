@@ -1,5 +1,5 @@
 -- Numbers of 64 bits in 128 bits.
-use Rattle.std.proofs.Common.{◌≡◌, true, false, ◌<◌, ℤ, pos, negsuc, ◌≤ℤ◌, FitsSigned, to_z, of_z, w64, ap, ap₂, sym, subst, ◌∙◌, refl, arith}
+use Rattle.std.proofs.Common.{◌≡◌, false, ◌<◌, ℤ, pos, negsuc, ◌≤ℤ◌, FitsSigned, to_z, of_z, w64, ap, ap₂, sym, subst, ◌∙◌, refl, arith}
 use Rattle.std.specs.Prelude.{Ok}
 use mir.Syntax.{w128}
 use lib.Signed.{mag}

@@ -1,5 +1,5 @@
 -- A module that is alone has the same held tubes in each program that runs alike.
-use Rattle.std.proofs.Common.{◌≡◌, ℕ, zero, suc, ◌+◌, ◌<◌, ℤ, List, [], ◌∷◌, ◌++◌, Ok, map, length, refl, sym, ap, ap₂, ◌∙◌, subst, arith}
+use Rattle.std.proofs.Common.{◌≡◌, ℕ, zero, suc, ◌+◌, ◌<◌, ℤ, List, [], ◌∷◌, ◌++◌, map, length, refl, sym, ap, ap₂, ◌∙◌, subst, arith}
 use Rattle.std.specs.Prelude.{slice_index_or, slice_set, if◌then◌else◌, ◌==◌}
 use Rattle.std.proofs.lemmas.List.{get_or-set_same}
 use Rattle.std.proofs.lemmas.Option.{slice_get_within}
@@ -22,7 +22,7 @@ use Rattle.sot_iv.specs.NodeIntervals.{interval_at, reading_intervals, IsNodeInt
 use Rattle.sot_iv.specs.declared.drafted.Drafted.{Drafted}
 use Rattle.sot_traps.specs.Verdict.{HaveSafeBoxes}
 use Rattle.sot_traps.proofs.SafeHulls.{all_hulls}
-use Rattle.sot_tube.specs.Certified.{sure_interval, command_interval, command_intervals, DraftsFrom}
+use Rattle.sot_tube.specs.Certified.{sure_interval, command_interval, command_intervals}
 use Rattle.sot_law_held_regions.specs.Following.{StaysAmong, HeldStays, IsHeldRegion}
 use Rattle.sot_law_held_regions.specs.Alone.{IsAlone, MoveAlike, IsRun, DraftAlike, RunAlike}
 

@@ -1,11 +1,11 @@
 -- From a narrower box of its plant a safe node drafts what is narrower, and holds narrower commands.
-use Rattle.std.proofs.Common.{◌≡◌, ℕ, zero, suc, ◌+◌, ◌<◌, ℤ, ⊎_elim, List, [], ◌∷◌, Ok, map, length, refl, sym, ap, ◌∙◌, subst, arith, eqb}
+use Rattle.std.proofs.Common.{◌≡◌, ℕ, zero, suc, ◌+◌, ◌<◌, ⊎_elim, List, [], ◌∷◌, Ok, map, length, refl, sym, ◌∙◌, subst, arith, eqb}
 use Rattle.std.specs.Prelude.{slice_index_or, slice_set}
 use Rattle.std.proofs.lemmas.Int.{ints}
 use Rattle.std.proofs.lemmas.Bool.{cases_eq, eq-eqb, ne_eqb, cond-true, cond-false}
 use Rattle.std.proofs.lemmas.List.{get_or-set_same, get_or-set_other}
 use Rattle.std.proofs.lemmas.Option.{slice_get_within}
-use Rattle.sot_box.specs.Sides.{Side, IsIn, AreOrdered, nought}
+use Rattle.sot_box.specs.Sides.{Side, AreOrdered}
 use Rattle.sot_lists.specs.Places.{At, Has}
 use Rattle.sot_lang.specs.declared.act.Act.{Act}
 use Rattle.sot_lang.specs.declared.tables.Slot.{Slot}
@@ -21,17 +21,16 @@ use Rattle.sot_lang.specs.TableRules.{IsTyped, MeetsTableRules, IsCoded}
 use Rattle.sot_iv.specs.declared.drafted.Drafted.{Drafted}
 use Rattle.sot_iv.specs.declared.drafted.Drafted.TheVariants.{Absent, Maybe, Sure}
 use Rattle.sot_iv.specs.BodyIntervals.{Intervals, IsExecutionIntervals}
-use Rattle.sot_iv.specs.Evaluation.{body_intervals}
 use Rattle.sot_iv.specs.NodeIntervals.{interval_at, reading_intervals}
 use Rattle.sot_iv.specs.Monotony.{IsNarrower, AreNarrower, IsNarrowerDraft, AreNarrowerDrafts, IsNarrowerEnd}
-use Rattle.sot_iv.proofs.Narrow.{le_refl_ℤ, narrow_read}
-use Rattle.sot_iv.proofs.NarrowBoxes.{narrower_ordered, ordered_narrower}
+use Rattle.sot_iv.proofs.Narrow.{narrow_read}
+use Rattle.sot_iv.proofs.NarrowBoxes.{narrower_ordered}
 use Rattle.sot_iv.proofs.BodyNarrow.{execution_narrow}
 use Rattle.sot_iv.proofs.Bodies.{execution_is}
 use Rattle.sot_iv.proofs.Plants.{narrow_self}
 use Rattle.sot_tube.specs.Certified.{sure_interval, command_interval, command_intervals, DraftsFrom}
 use Rattle.sot_tube.proofs.Leaving.{all_hulls_same}
-use Rattle.sot_law_held_regions.proofs.DraftsWithin.{Lies, DraftLies, DraftsLie, execution_lies}
+use Rattle.sot_law_held_regions.proofs.DraftsWithin.{DraftLies, DraftsLie, execution_lies}
 
 -- the interval of one command
 sure_narrow : (whole : Side) (d e : Drafted) → IsNarrower whole whole → IsNarrowerDraft d e → DraftLies e whole

@@ -1,14 +1,13 @@
 -- What a body drafts for a scalar lies in the scalar's range.
-use Rattle.std.proofs.Common.{◌≡◌, ℕ, zero, suc, true, false, inl, inr, ⊎_elim, ◌⊎◌, ℤ, List, [], ◌∷◌, ◌++◌, Ok, refl, sym, subst, length, replicate, arith}
+use Rattle.std.proofs.Common.{◌≡◌, ℕ, zero, suc, true, false, ⊎_elim, ◌⊎◌, ℤ, List, [], ◌∷◌, ◌++◌, Ok, sym, subst, length, replicate, arith}
 use Rattle.std.specs.Prelude.{slice_set, int_le, ◌&&◌}
 use Rattle.std.proofs.lemmas.Bool.{cases_Bool, and_parts}
 use Rattle.std.proofs.lemmas.Int.{ints}
 use Rattle.sot_text.specs.declared.token.Span.{Span}
 use Rattle.sot_box.specs.Sides.{Side, IsIn}
-use Rattle.sot_box.proofs.Ranges.{in_range_is}
 use Rattle.sot_lang.specs.declared.act.Act.{Act, Row_of-Act, end_of-Act, more_of-Act}
 use Rattle.sot_lang.specs.declared.act.Act.TheVariants.{Assign, Publish, If', Repeat'}
-use Rattle.sot_iv.specs.TermIntervals.{OrMayTrap, After, Chooses, IsIntervalHull}
+use Rattle.sot_iv.specs.TermIntervals.{OrMayTrap, IsIntervalHull}
 use Rattle.sot_iv.specs.declared.drafted.Drafted.{Drafted}
 use Rattle.sot_iv.specs.declared.drafted.Drafted.TheVariants.{Absent, Maybe, Sure}
 use Rattle.sot_iv.specs.BodyIntervals.{Intervals, IsPut, IsDraftJoin, AreDraftJoins, IsJoin, IsTimes, IsActIntervals, AreActIntervals}

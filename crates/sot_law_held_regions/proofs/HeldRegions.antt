@@ -1,8 +1,8 @@
 -- Regions with a certificate are held.
-use Rattle.std.proofs.Common.{◌≡◌, ℕ, zero, suc, ◌+◌, ℤ, List, [], ◌∷◌, ◌++◌, Ok, length, refl, sym, subst}
+use Rattle.std.proofs.Common.{◌≡◌, ℕ, zero, suc, ◌+◌, List, [], ◌∷◌, ◌++◌, length, subst}
 use Rattle.sot_lists.specs.Places.{At}
 use Rattle.sot_box.specs.Sides.{Side, AreOrdered}
-use Rattle.sot_box.specs.Boxes.{IsWithin, point_box, lows}
+use Rattle.sot_box.specs.Boxes.{point_box, lows}
 use Rattle.sot_box.specs.Regions.{IsInRegion}
 use Rattle.sot_box.proofs.Ranges.{lows_within}
 use Rattle.sot_box.proofs.Ordered.{append_ordered}

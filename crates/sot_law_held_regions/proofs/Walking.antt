@@ -1,17 +1,11 @@
 -- A tube that stays among some points, tick by tick, and one from a narrower box.
-use Rattle.std.proofs.Common.{◌≡◌, ℕ, zero, suc, ◌+◌, ◌-◌, ◌<◌, ℤ, List, [], ◌∷◌, ◌++◌, Ok, Err, length, refl, sym, subst, arith}
+use Rattle.std.proofs.Common.{◌≡◌, ℕ, zero, suc, ◌+◌, ◌-◌, ◌<◌, ℤ, List, [], ◌∷◌, ◌++◌, Ok, Err, subst, arith}
 use Rattle.std.proofs.lemmas.Int.{ints}
 use Rattle.sot_box.specs.Sides.{Side, AreOrdered}
 use Rattle.sot_box.specs.Boxes.{IsWithin, lows, point_box}
 use Rattle.sot_box.proofs.Ranges.{lows_within}
-use Rattle.sot_box.proofs.Ordered.{append_ordered}
-use Rattle.sot_lists.specs.Places.{At}
 use Rattle.sot_lang.specs.declared.tables.PlantInfo.{PlantInfo}
-use Rattle.sot_lang.specs.Tables.{Tables}
-use Rattle.sot_lang.specs.TableRules.{MeetsTableRules}
-use Rattle.sot_lang.specs.TermPlaces.{HavePlaces}
 use Rattle.sot_lang.specs.Ranges.{bounds}
-use Rattle.sot_lang.proofs.Owners.{noise_ordered}
 use Rattle.sot_iv.specs.declared.may_trap.MayTrap.{MayTrap}
 use Rattle.sot_iv.specs.PlantIntervals.{IsNextBox}
 use Rattle.sot_iv.specs.Monotony.{AreNarrower}

@@ -1,5 +1,5 @@
 -- The held tube of a cell that the safe region covers.
-use Rattle.std.proofs.Common.{◌≡◌, ℕ, ◌+◌, List, [], ◌∷◌, ◌++◌, Ok, length, refl, sym, ap, ap₂, ◌∙◌, subst, replicate}
+use Rattle.std.proofs.Common.{◌≡◌, ℕ, ◌+◌, List, [], ◌∷◌, ◌++◌, Ok, length, refl, sym, ap, ◌∙◌, subst, replicate}
 use Rattle.std.specs.Prelude.{map, slice_set, Result, MatchResult, IsOk, ◌-◌}
 use Rattle.std.proofs.lemmas.Option.{same_Some}
 use Rattle.sot_box.specs.Sides.{Side, AreOrdered}

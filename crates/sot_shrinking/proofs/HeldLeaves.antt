@@ -1,5 +1,5 @@
 -- A held tube that stays among some points, as it is followed with the commands that were found.
-use Rattle.std.proofs.Common.{◌≡◌, ℕ, ◌+◌, ◌-◌, ℤ, List, [], ◌∷◌, ◌++◌, Ok, Err, length, refl, sym, ap, ap₂, ◌∙◌, subst, replicate}
+use Rattle.std.proofs.Common.{◌≡◌, ℕ, ◌+◌, ◌-◌, ℤ, List, [], ◌∷◌, ◌++◌, Ok, Err, length, refl, sym, ap, ◌∙◌, subst, replicate}
 use Rattle.std.specs.Prelude.{map, slice_set}
 use Rattle.std.proofs.lemmas.Option.{same_Some}
 use Rattle.sot_box.specs.Sides.{Side}
@@ -13,7 +13,6 @@ use Rattle.sot_lang.specs.Tables.{Tables}
 use Rattle.sot_lang.specs.Ranges.{local_ranges, write_ranges}
 use Rattle.sot_lang.specs.SafeRegions.{AreHulls, AllHulls, joined_boxes}
 use Rattle.sot_lang.specs.TableRules.{MeetsTableRules, IsCoded}
-use Rattle.sot_lang.proofs.Owners.{one_body}
 use Rattle.sot_iv.specs.SeenHulls.{AreSeenHulls}
 use Rattle.sot_iv.specs.declared.may_trap.MayTrap.{MayTrap}
 use Rattle.sot_iv.specs.declared.drafted.Drafted.{Drafted}

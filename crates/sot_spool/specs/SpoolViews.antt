@@ -8,7 +8,7 @@ module _ {K : Type 0} (held : K → Option (List ℕ)) (faults : K → ℕ) wher
   spooling s = record {
     held = held s.sink.now;
     faults = faults s.sink.now;
-    waiting = s.waiting;
+    waiting = s.waiting.now.items;
     is_well = s.is_well;
   }
 

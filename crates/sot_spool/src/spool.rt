@@ -5,8 +5,8 @@ ghost use Rattle.sot_spool.specs.Spools.{Sends, Gives, IsSpooled};
 ghost use Rattle.sot_spool.specs.SpoolViews.{spooling, Puts, EndsAs};
 ghost use Rattle.sot_spool.specs.SpoolLaws.{puts_nothing, puts_more};
 
-use crate::buffer::Buffer;
 use crate::out::Out;
+use crate::room::{waits, waits_byte};
 use sot_ports::{Failed, Sink, write_whole};
 
 /// Texts that go to a sink, in the order in which they are put. Where the sink fails, no more is
@@ -14,7 +14,7 @@ use sot_ports::{Failed, Sink, write_whole};
 #[derive(Drop)]
 pub struct Spool<'k, K: Sink> {
     sink: &'k mut K,
-    waiting: Buffer,
+    waiting: &'k mut Vec<u8>,
     is_well: bool,
 }
 
@@ -38,10 +38,10 @@ fn give<K: Sink>(is_well: bool, sink: &mut K, bytes: &[u8]) -> bool
 }
 
 impl<'k, K: Sink> Spool<'k, K> {
-    /// Nothing is put yet: what is put goes to this sink, by way of these bytes, of which none wait.
-    /// No memory is taken here or later, and the sink is given nothing yet.
-    pub fn new(waiting: Buffer, sink: &'k mut K) -> Spool<'k, K>
-        requires { waiting ≡ [] }
+    /// Nothing is put yet: what is put goes to this sink through these bytes, of which none wait.
+    /// The sink is given nothing here.
+    pub fn new(waiting: &'k mut Vec<u8>, sink: &'k mut K) -> Spool<'k, K>
+        requires { waiting.old.items ≡ [] }
         ensures sink { result.sink.ghost_name ≡ sink.entry.ghost_name }
         ensures same { result.sink.now ≡ sink.old }
         ensures new { IsSpooled (K.held sink.old) (K.faults sink.old)
@@ -57,15 +57,15 @@ impl<'k, K: Sink> Spool<'k, K> {
     // Hands on all that waits.
     fn hand_on(&mut self)
         ensures puts { Puts K.held K.faults self.old self.new [] }
-        ensures empty { self.new.waiting ≡ [] }
+        ensures empty { self.new.waiting.now.items ≡ [] }
     {
-        self.is_well = give(self.is_well, self.sink, self.waiting.bytes());
+        self.is_well = give(self.is_well, self.sink, self.waiting.as_slice());
         self.waiting.clear();
     }
 
     // Hands on bytes, before which nothing waits.
     fn hand_over(&mut self, bytes: &[u8])
-        requires { self.old.waiting ≡ [] }
+        requires { self.old.waiting.now.items ≡ [] }
         ensures { Puts K.held K.faults self.old self.new bytes.now }
     {
         self.is_well = give(self.is_well, self.sink, bytes);
@@ -78,7 +78,7 @@ impl<'k, K: Sink> Spool<'k, K> {
         ensures { Puts K.held K.faults self.old self.new bytes.now }
     {
         self.hand_on();
-        if self.waiting.put(bytes) {
+        if waits(self.waiting, bytes) {
             return;
         }
         self.hand_over(bytes);
@@ -88,7 +88,7 @@ impl<'k, K: Sink> Spool<'k, K> {
     fn put_bytes(&mut self, bytes: &[u8])
         ensures { Puts K.held K.faults self.old self.new bytes.now }
     {
-        if self.waiting.put(bytes) {
+        if waits(self.waiting, bytes) {
             return;
         }
         self.put_far(bytes);
@@ -114,7 +114,7 @@ impl<'k, K: Sink> Out for Spool<'k, K> {
 
     #[inline(always)]
     fn put_byte(&mut self, byte: u8) {
-        if self.waiting.put_byte(byte) {
+        if waits_byte(self.waiting, byte) {
             return;
         }
         self.put_far(&[byte]);

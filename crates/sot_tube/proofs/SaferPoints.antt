@@ -1,6 +1,5 @@
 -- Narrower boxes have narrower tubes, so a point of a reach cell is kept as its cell is.
 use Rattle.std.proofs.Common.{ℕ, zero, suc, ◌+◌, ◌*◌, ℤ, ◌⊎◌, ⊎_elim, List, [], ◌∷◌, ◌++◌, length, map, refl, subst, arith}
-use Rattle.std.proofs.lemmas.Int.{ints}
 use Rattle.sot_lists.specs.Places.{At}
 use Rattle.sot_box.specs.Sides.{Side, AreOrdered}
 use Rattle.sot_box.specs.Boxes.{IsWithin, point_box, lows}
@@ -21,7 +20,7 @@ use Rattle.sot_lang.proofs.Owners.{noise_ordered}
 use Rattle.sot_lang.proofs.SafeRegions.{hulls_ordered}
 use Rattle.sot_iv.specs.Monotony.{AreNarrower}
 use Rattle.sot_iv.specs.Evaluation.{term_intervals}
-use Rattle.sot_iv.proofs.Narrow.{le_refl_ℤ, within_narrow}
+use Rattle.sot_iv.proofs.Narrow.{within_narrow}
 use Rattle.sot_iv.proofs.NarrowBoxes.{ordered_narrower, narrower_ordered, point_narrower}
 use Rattle.sot_iv.proofs.Terms.{terms_are}
 use Rattle.sot_iv.proofs.Plants.{plant_narrow}

@@ -3,9 +3,9 @@ use Rattle.sot_spool.specs.SpoolLaws.{grows_more}
 use Rattle.sot_spool.proofs.Growing.{waits_more, waits_same}
 use Rattle.sot_spool.proofs.spool.Spool.put_bytes.Goals as goal
 
-pub returns-then-put : goal.returns-then-put
-returns-then-put g c = (refl, waits_more _ _ _ _ _ c.args.bytes.now (c.if-put.ensures.put refl))
+pub returns-then-waits : goal.returns-then-waits
+returns-then-waits g c = (refl, waits_more _ _ _ _ _ c.args.bytes.now (c.if-waits.ensures.put refl))
 
 pub returns : goal.returns
 returns g c =
-    (c.put_far.ensures.0, grows_more _ _ _ [] c.args.bytes.now (waits_same _ _ _ _ _ (c.if-put.ensures.full refl)) c.put_far.ensures.1)
+    (c.put_far.ensures.0, grows_more _ _ _ [] c.args.bytes.now (waits_same _ _ _ _ _ (c.if-waits.ensures.full refl)) c.put_far.ensures.1)

@@ -3,9 +3,9 @@ use Rattle.sot_spool.specs.SpoolLaws.{grows_more}
 use Rattle.sot_spool.proofs.Growing.{waits_more, waits_same}
 use Rattle.sot_spool.proofs.spool.SpoolOut.put_byte.Goals as goal
 
-pub returns-then-put_byte : goal.returns-then-put_byte
-returns-then-put_byte g c = (refl, waits_more _ _ _ _ _ (c.args.byte ∷ []) (c.if-put_byte.ensures.put refl))
+pub returns-then-waits_byte : goal.returns-then-waits_byte
+returns-then-waits_byte g c = (refl, waits_more _ _ _ _ _ (c.args.byte ∷ []) (c.if-waits_byte.ensures.put refl))
 
 pub returns : goal.returns
 returns g c =
-    (c.put_far.ensures.0, grows_more _ _ _ [] (c.args.byte ∷ []) (waits_same _ _ _ _ _ (c.if-put_byte.ensures.full refl)) c.put_far.ensures.1)
+    (c.put_far.ensures.0, grows_more _ _ _ [] (c.args.byte ∷ []) (waits_same _ _ _ _ _ (c.if-waits_byte.ensures.full refl)) c.put_far.ensures.1)
