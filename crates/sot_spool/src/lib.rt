@@ -8,11 +8,11 @@
 #![tactic(auto)]
 
 mod out;
-mod room;
 mod scratch;
 mod spool;
+mod waiting;
 
 pub use out::Out;
-pub use room::room;
 pub use scratch::Scratch;
 pub use spool::Spool;
+pub use waiting::room;

@@ -6,7 +6,7 @@ ghost use Rattle.sot_spool.specs.SpoolViews.{spooling, Puts, EndsAs};
 ghost use Rattle.sot_spool.specs.SpoolLaws.{puts_nothing, puts_more};
 
 use crate::out::Out;
-use crate::room::{waits, waits_byte};
+use crate::waiting::{waits, waits_byte};
 use sot_ports::{Failed, Sink, write_whole};
 
 /// Texts that go to a sink, in the order in which they are put. Where the sink fails, no more is
