@@ -74,6 +74,7 @@ class Advice:
             'start': (self.formats, 'The trace', 'kind', 'comes where'),
             'watch': (self.formats, 'A flight that is watched', 'kind', 'what to do'),
             'bridge': (self.formats, 'Two missions and a bridge', 'written', 'comes exactly where'),
+            'observed': (self.formats, 'A talk with a robot', 'kind', 'comes where'),
             'regions': (self.language, 'Choosing regions', 'line', 'what to do'),
             'formula': (self.language, 'Formulas', 'kind', 'what to do'),
         }

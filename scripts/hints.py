@@ -3,8 +3,9 @@
 
 `./soter` calls it at status 1 and 3. INPUT is the file with what the command read. The answer is taken from a file, or
 asked again of a built program with the same words, which is then also asked what `fly` would have written where a trace
-differs; of `soter_bridge` behind the word `bridge`. It says the row of the docs' tables for the refusal or fault, with
-what the answer leaves out: decimals, lines, cells, carets. It is tested and not proved, and writes nothing to standard output.
+differs; of `soter_bridge` behind the word `bridge`; of `soter_guard` behind `guard`, by the last line of its answer
+alone. It says the row of the docs' tables for the refusal or fault, with what the answer leaves out: decimals, lines,
+cells, carets. It is tested and not proved, and writes nothing to standard output.
 """
 import os
 import re
@@ -452,6 +453,21 @@ def bridge_hint(text, words, answer):
     return lines + [f'what to do: {advised} ({where})']
 
 
+# --- talks with a robot -------------------------------------------------------------------------------------------
+
+def guard_hint(status, answer):
+    """The lines to say about the last line of `soter_guard`: what to do, without the text, which is not kept."""
+    if status == '1' and answer.startswith('end '):
+        return ['a plant was observed where its model does not allow it to be: the line `outside` tells the tick, the interval and the number (docs/ROBOT.md, When `outside` comes)']
+    asked = Asked('guard', '', answer, None)
+    for pattern, family, _, _ in FAMILIES:
+        said = pattern.match(answer)
+        if said:
+            alone = ['`./soter check` on the mission alone shows where'] if family not in ('observed', 'start') else []
+            return to_do(asked, family, said[1]) + alone
+    return []
+
+
 # --- all of them --------------------------------------------------------------------------------------------------
 
 def to_do(asked, family, key):
@@ -488,6 +504,7 @@ FAMILIES = (
     (re.compile(r'refused (watch) time'), 'watch', nothing, to_do),
     (re.compile(r'fault formula (\w+)'), 'formula', nothing, to_do),
     (re.compile(r'refused replay line \d+ (\w+)'), 'replay', about_replay, to_do),
+    (re.compile(r'fault observed line \d+ (\w+)'), 'observed', nothing, to_do),
     (re.compile(r'fault section line \d+ (\w+)'), 'section', about_section, to_do),
     (re.compile(r'fault syntax line \d+ column \d+ (\w+)'), 'syntax', about_place, token_to_do),
     (re.compile(r'fault type line \d+ column \d+ (\w+)'), 'type', about_place, to_do),
@@ -531,7 +548,11 @@ def main(words):
         with open(file, 'rb') as source:
             answer = source.read(LIMIT).decode('latin-1')
     said = line_of(answer)
-    for line in bridge_hint(text, more, said) if command == 'bridge' else hint_of(Asked(command, text, said, program)):
+    if command == 'guard':
+        lines = guard_hint(status, said)
+    else:
+        lines = bridge_hint(text, more, said) if command == 'bridge' else hint_of(Asked(command, text, said, program))
+    for line in lines:
         print('soter: ' + line, file=sys.stderr)
 
 

@@ -27,11 +27,14 @@ class Judged:
 
     `answer` is the first line of what `soter` wrote. `program` are the declarations, read from the canonical text;
     `cells` the certificate's entries by module. `trace` is what was flown: the whole of it, of a refused replay the
-    lines before the one that is refused, and nothing where nothing was flown.
+    lines before the one that is refused, and nothing where nothing was flown. Of a mission with a talk behind a line
+    `%observed` the mission is checked, and `talk` is what a robot and `soter_guard` said.
     """
 
     def __init__(self, text, command=None, program=SOTER):
         sections = missiontext.Sections(text)
+        self.talk = missiontext.Talk(sections.parts['observed']) if sections.has('observed') else None
+        text = text if self.talk is None else missiontext.in_front(text, 'observed')
         self.command = command or next((word for word, part in (('replay', 'trace'), ('fly', 'flight')) if sections.has(part)), 'check')
         self.status, said = ask(program, self.command, text)
         self.answer = said.split('\n')[0]
@@ -42,7 +45,7 @@ class Judged:
             raise Unjudged(status, self.canonical)
         self.program = missiontext.Program(self.canonical)
         self.cells = missiontext.json_of(sections.parts['certificate'])['modules']
-        self.trace = missiontext.Trace(self.flown(said, sections.parts.get('trace', '')))
+        self.trace = self.talk or missiontext.Trace(self.flown(said, sections.parts.get('trace', '')))
 
     def flown(self, said, lines):
         if self.command == 'fly' and self.status == 0:

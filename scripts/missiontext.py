@@ -25,6 +25,7 @@ Node = collections.namedtuple('Node', 'name line coded period offset reads write
 Module = collections.namedtuple('Module', 'name line ac sc period offset plant safe safer')
 Halves = collections.namedtuple('Halves', 'first second line')
 Event = collections.namedtuple('Event', 'line time kind name writes numbers')
+Outside = collections.namedtuple('Outside', 'time plant state lo hi value')
 
 
 class NotRead(Exception):
@@ -74,6 +75,12 @@ def halves_of(text):
             return Halves(text[:at], text[end + 1:], line + 1)
         at, line = end + 1, line + 1
     return None
+
+
+def in_front(text, name):
+    """What stands before the first section line of that name."""
+    found = re.search(rf'^%{name}\r?$', text, re.M)
+    return text[:found.start()] if found else text
 
 
 def line_of(text, number):
@@ -469,6 +476,36 @@ class Trace:
         for event in self.events:
             time = max(time, event.time + (event.kind == 'tick'))
         return time
+
+
+class Talk(Trace):
+    """Both sides of a talk with a robot, as `scripts/robot` keeps it: where plants were observed, the events, and who was observed outside.
+
+    It has to be one that `soter_guard` answered. Of a tick the disturbances are not known.
+    """
+
+    def __init__(self, text):
+        self.starts, self.events, self.horizon, self.outside = {}, [], None, None
+        time = 0
+        for number, line in enumerate(text.split('\n'), 1):
+            words = line.rstrip('\r').split(' ')
+            if words[0] == 'start':
+                self.starts.update(places_of(words[1:]))
+            elif words[0] == 'tick':
+                self.events.append(Event(number, time, 'tick', '', [], {plant: (None, states) for plant, states in places_of(words[1:]).items()}))
+                time += 1
+            elif words[0] == 'end':
+                self.horizon = int(words[1])
+            elif words[0].isdigit() and words[1] in ('input', 'decide', 'fire', 'idle'):
+                self.events.append(event_of(number, words))
+            elif words[0].isdigit() and words[1] == 'outside':
+                lo, hi = words[6][1:-1].split('..')
+                self.outside = Outside(int(words[0]), words[3], words[5], int(lo), int(hi), int(words[8]))
+
+
+def places_of(words):
+    """`PLANT(X,..)` of each word."""
+    return {plant: numbers_of(states.rstrip(')')) for plant, _, states in (word.partition('(') for word in words)}
 
 
 def numbers_of(text):

@@ -1,0 +1,345 @@
+#!/usr/bin/env python3
+"""scripts/observed.py < TEXT: what `soter_guard` has to answer to an accepted mission, a line `%observed` and a robot's lines.
+
+It is a second program of the same meaning, in Python, written from docs/LANGUAGE.md, docs/SEMANTICS.md and
+docs/ROBOT.md and not from the program that is proved. It believes the certificate: whether a mission is accepted
+`soter check` tells. Its status is that of the program. `scripts/robot` holds each line of the program beside it.
+"""
+import re
+import sys
+
+sys.dont_write_bytecode = True
+import missiontext
+from meaning import LEAST, MOST, Meaning, Trap, covers
+
+HORIZON, LONGEST, TOO_LONG = 100000, 30, 65536
+NAME = r'[A-Za-z_][A-Za-z0-9_]*'
+NUMBER = r'(?:0|-?[1-9][0-9]*)'
+NUMBERS = rf'{NUMBER}(?:,{NUMBER})*'
+PLACE = re.compile(rf' ({NAME})\(({NUMBERS})\)')
+START = re.compile(rf'start({PLACE.pattern})', re.A)
+INPUT = re.compile(rf'input ({NAME})=({NUMBERS})', re.A)
+DRAFT = re.compile(rf'draft ({NAME})((?: {NAME}(?:\.{NAME})?[=!]{NUMBER})*)', re.A)
+TICK = re.compile(rf'tick((?:{PLACE.pattern})*)', re.A)
+WRITE = re.compile(rf' ({NAME}(?:\.{NAME})?)[=!]({NUMBER})', re.A)
+
+
+class Misheard(Exception):
+    """A line of the robot is at fault, and why."""
+
+
+class Refused(Exception):
+    """A plant starts outside its module's safer region."""
+
+
+def numbers_of(text):
+    return [number_of(number) for number in text.split(',')]
+
+
+def number_of(text):
+    """The number; one of more digits than any of 64 bits counts as one that is too large."""
+    return int(text[:LONGEST])
+
+
+def said_of(meaning, line):
+    """What a line says, by the names of the program; None where it says nothing."""
+    if line == 'go':
+        return ('go',)
+    found = START.fullmatch(line)
+    if found:
+        place = [plant for plant in meaning.plants if plant.name == found[2]]
+        point = numbers_of(found[3])
+        return ('start', found[2], point) if place and len(place[0].states) == len(point) else None
+    found = INPUT.fullmatch(line)
+    if found:
+        topic, value = meaning.declared.topics.get(found[1]), numbers_of(found[2])
+        return ('input', found[1], value) if topic and topic.outside and len(topic.fields) == len(value) else None
+    found = DRAFT.fullmatch(line)
+    if found:
+        return draft_of(meaning, found[1], WRITE.findall(found[2]))
+    found = TICK.fullmatch(line)
+    return tick_of(meaning, PLACE.findall(found[1])) if found else None
+
+
+def draft_of(meaning, name, writes):
+    """A draft: of the scalars that the node writes some, each once and in their order."""
+    node = next((node for node in meaning.nodes if node.name == name), None)
+    if node is None:
+        return None
+    rest = iter(node.writes)
+    if not all(scalar in rest for scalar, _ in writes):
+        return None
+    return 'draft', name, {scalar: number_of(number) for scalar, number in writes}
+
+
+def tick_of(meaning, places):
+    """The states of all plants, in declared order."""
+    points = [numbers_of(numbers) for _, numbers in places]
+    named = [name for name, _ in places] == [plant.name for plant in meaning.plants]
+    return ('tick', points) if named and all(len(point) == len(plant.states) for point, plant in zip(points, meaning.plants)) else None
+
+
+def is_large(numbers):
+    return any(not LEAST <= number <= MOST for number in numbers)
+
+
+class Guard:
+    """A mission beside plants that are observed."""
+
+    def __init__(self, meaning, jitter):
+        self.meaning, self.jitter, self.kept = meaning, jitter, {}
+        self.begin()
+
+    def begin(self):
+        """Before the first plant was observed; what was found of points is kept."""
+        self.time, self.events, self.trusted, self.turn, self.outside = 0, 0, True, 'start', None
+        self.scalars = dict(self.meaning.initial)
+        self.modes = {module.name: 'sc' for module in self.meaning.modules}
+        self.locals = {node.name: dict(node.first) for node in self.meaning.nodes}
+        self.points, self.drafts, self.left = [], {}, set()
+        self.note_due()
+        self.open_up()
+
+    # --- time ---------------------------------------------------------------------------------------------------------
+
+    def note_due(self):
+        for thing in [*self.meaning.nodes, *self.meaning.modules]:
+            if self.time >= thing.offset and (self.time - thing.offset) % thing.period == 0:
+                self.left.add(thing.name)
+
+    def open_up(self):
+        """The talk begins once all plants were observed, where each of them is in its safer region."""
+        if len(self.points) < len(self.meaning.plants):
+            return
+        self.turn = 'instant'
+        for module in self.meaning.modules:
+            point = self.point_of(module.plant)
+            if not is_in(module.safer, point):
+                raise Refused(f'refused start module {module.name} point ({", ".join(map(str, point))})')
+
+    def point_of(self, name):
+        return self.points[[plant.name for plant in self.meaning.plants].index(name)]
+
+    def is_over(self):
+        return self.turn == 'tick' and self.time >= HORIZON
+
+    # --- what is heard ------------------------------------------------------------------------------------------------
+
+    def hear(self, line):
+        """The lines that a line of the robot is answered with."""
+        said = said_of(self.meaning, line)
+        if said is None:
+            raise Misheard('NotALine')
+        kind, *parts = said
+        if self.turn == 'start':
+            return self.start(*parts) if kind == 'start' else misheard('OutOfTurn')
+        if kind == 'start' or (kind == 'tick') != (self.turn == 'tick'):
+            raise Misheard('OutOfTurn')
+        return {'input': self.input, 'draft': self.draft, 'go': self.go, 'tick': self.tick}[kind](*parts)
+
+    def start(self, name, point):
+        if name != self.meaning.plants[len(self.points)].name:
+            raise Misheard('OutOfTurn')
+        if is_large(point):
+            raise Misheard('OutsideType')
+        self.points.append(point)
+        self.open_up()
+        return []
+
+    def input(self, topic, value):
+        names = self.meaning.of_topic[topic]
+        if any(not self.meaning.ranges[name].lo <= number <= self.meaning.ranges[name].hi for name, number in zip(names, value)):
+            raise Misheard('OutsideType')
+        self.scalars.update(zip(names, value))
+        self.events += 1
+        return [f'{self.time} input {topic}={",".join(map(str, value))}']
+
+    def draft(self, name, numbers):
+        node = next(node for node in self.meaning.nodes if node.name == name)
+        if is_large(numbers.values()):
+            raise Misheard('OutsideType')
+        if node.body is not None:
+            raise Misheard('NotALine')
+        if name not in self.left:
+            raise Misheard('NotDue')
+        if name in self.drafts:
+            raise Misheard('AlreadyDrafted')
+        self.drafts[name] = numbers
+        return []
+
+    def go(self):
+        lines = [self.decide(module) for module in self.meaning.modules if module.name in self.left]
+        lines += [self.fire(node) for node in self.meaning.nodes if node.name in self.left]
+        self.events += len(lines)
+        self.left, self.drafts, self.turn = set(), {}, 'tick'
+        for plant in self.meaning.plants:
+            lines.append(f'{self.time} hold {plant.name}' + ''.join(f' {name}={self.scalars[name]}' for name in plant.inputs))
+        return lines + [f'{self.time} ready']
+
+    def tick(self, points):
+        if self.time >= HORIZON:
+            raise Misheard('TooFar')
+        if is_large(number for point in points for number in point):
+            raise Misheard('OutsideType')
+        outside = self.first_outside(points) if self.trusted else None
+        self.time, self.points, self.turn = self.time + 1, points, 'instant'
+        self.events += 1
+        self.note_due()
+        if outside is None:
+            return []
+        plant, state, (lo, hi), number = outside
+        self.trusted, self.outside = False, self.time
+        self.modes = {module.name: 'sc' for module in self.meaning.modules}
+        return [f'{self.time} outside plant {plant} state {state} [{lo}..{hi}] observed {number}']
+
+    # --- what happens -------------------------------------------------------------------------------------------------
+
+    def decide(self, module):
+        mode, point = self.modes[module.name], tuple(self.point_of(module.plant))
+        if self.trusted and mode == 'sc' and is_in(module.safer, point):
+            mode = 'ac'
+        elif self.trusted and mode == 'ac' and not self.keeps(module, point):
+            mode = 'sc'
+        self.modes[module.name] = mode
+        return f'{self.time} decide {module.name} {mode}'
+
+    def fire(self, node):
+        enabled = all(self.modes[module.name] == ('ac' if node.name == module.ac else 'sc')
+                      for module in self.meaning.modules if node.name in (module.ac, module.sc))
+        draft = self.drafts.get(node.name, {}) if node.body is None else self.run(node)
+        words = ''
+        for scalar in node.writes:
+            if scalar in draft:
+                number, of = draft[scalar], self.meaning.ranges[scalar]
+                inside = of.lo <= number <= of.hi
+                words += f' {scalar}{"=" if inside else "!"}{number}'
+                if enabled and inside:
+                    self.scalars[scalar] = number
+        return f'{self.time} {"fire" if enabled else "idle"} {node.name}{words}'
+
+    def run(self, node):
+        """The draft of a coded node; where its body traps, which it may once no model is trusted, nothing, and its locals stay."""
+        names = {name: number for name, number in {**self.scalars, **self.states()}.items() if name in node.reads}
+        try:
+            after, draft = node.body.run({**names, **self.locals[node.name]}, {**self.meaning.ranges, **node.local_ranges})
+        except Trap:
+            return {}
+        self.locals[node.name] = {name: after[name] for name in node.local_ranges}
+        return draft
+
+    def states(self):
+        return {f'{plant.name}.{state}': number for plant, point in zip(self.meaning.plants, self.points) for state, number in zip(plant.states, point)}
+
+    # --- what the models allow ----------------------------------------------------------------------------------------
+
+    def box_of(self, plant, sides):
+        """The least box after a tick, of the plant's states, its inputs and what it sees in these sides, and disturbances in their bounds."""
+        return plant.next_box({**sides, **{name: (bound.lo, bound.hi) for name, bound in zip(plant.noise, plant.bounds)}})
+
+    def boxes(self):
+        """The box in which each plant has to be after the tick, from where it was observed and with the commands in force."""
+        seen = {name: (number, number) for name, number in {**self.scalars, **self.states()}.items()}
+        return [self.box_of(plant, {**seen, **{state: (number, number) for state, number in zip(plant.states, point)}})
+                for plant, point in zip(self.meaning.plants, self.points)]
+
+    def first_outside(self, points):
+        """The first state variable of the first plant outside its interval, with both."""
+        for plant, box, point in zip(self.meaning.plants, self.boxes(), points):
+            for state, (lo, hi), number in zip(plant.states, box, point):
+                if not lo <= number <= hi:
+                    return plant.name, state, (lo, hi), number
+        return None
+
+    def keeps(self, module, point):
+        """Whether the tube of two periods, each longer by the jitter, stays inside the safe region from a point, whatever is commanded."""
+        if (module.name, point) not in self.kept:
+            self.kept[module.name, point] = self.stays(module, point)
+        return self.kept[module.name, point]
+
+    def stays(self, module, point):
+        plant = next(plant for plant in self.meaning.plants if plant.name == module.plant)
+        around = {name: (self.meaning.ranges[name].lo, self.meaning.ranges[name].hi) for name in plant.inputs}
+        for name in plant.sees:
+            around.update(self.hull_of(name))
+        box = [(number, number) for number in point]
+        for _ in range(2 * (module.period + self.jitter)):
+            if not covers(module.safe, box):
+                return False
+            try:
+                box = self.box_of(plant, {**around, **dict(zip(plant.states, box))})
+            except Trap:
+                return False
+        return covers(module.safe, box)
+
+    def hull_of(self, name):
+        """The least box around a plant's safe region, by its states' names."""
+        safe = next(module.safe for module in self.meaning.modules if module.plant == name)
+        plant = self.meaning.declared.plants[name]
+        return {f'{name}.{state}': (min(box[i][0] for box in safe), max(box[i][1] for box in safe)) for i, state in enumerate(plant.states)}
+
+
+def misheard(kind):
+    raise Misheard(kind)
+
+
+def is_in(region, point):
+    return any(all(lo <= number <= hi for (lo, hi), number in zip(box, point)) for box in region)
+
+
+# --- a whole talk ---------------------------------------------------------------------------------------------------
+
+def parts_of(text):
+    """The mission in front of the line `%observed`, and the robot's lines behind it, without their line ends."""
+    found = re.search(r'^%observed\r?(?:\n|\Z)', text, re.M)
+    if not found:
+        raise missiontext.NotRead('there is no line %observed')
+    lines = text[found.end():].split('\n')
+    if lines[-1] == '':
+        lines.pop()
+    # a line that is too long says nothing, as the empty one
+    return text[:found.start()], ['' if len(line) >= TOO_LONG else line.removesuffix('\r') for line in lines]
+
+
+def guard_of(mission):
+    """A guard of an accepted mission, and what `check` answers."""
+    sections = missiontext.Sections(mission)
+    cert = missiontext.json_of(sections.parts['certificate'])
+    meaning = Meaning(sections.parts['program'])
+    cells = sum(len(entry['closed']) + len(entry['reach']) for entry in cert['modules'].values())
+    accepted = ['accepted', f'modules {len(meaning.modules)} nodes {len(meaning.nodes)} cells {cells}']
+    return meaning, cert.get('jitter', 0), accepted
+
+
+def answers(mission, lines):
+    """The status and the lines of the whole answer."""
+    meaning, jitter, said = guard_of(mission)
+    number = 0
+    try:
+        guard = Guard(meaning, jitter)
+        for number, line in enumerate(lines, 1):
+            said += guard.hear(line)
+            if guard.is_over():
+                break
+        if guard.turn == 'start':
+            number += 1
+            raise Misheard('Missing')
+    except Misheard as fault:
+        return 3, said + [f'fault observed line {number} {fault}']
+    except Refused as why:
+        return 1, said + [str(why)]
+    return int(not guard.trusted), said + [f'end {guard.time} events {guard.events}']
+
+
+def main():
+    try:
+        status, said = answers(*parts_of(sys.stdin.buffer.read().decode('latin-1')))
+    except (missiontext.NotRead, KeyError) as why:
+        sys.exit(f'scripts/observed.py: {why}')
+    sys.stdout.write(''.join(line + '\n' for line in said))
+    return status
+
+
+if __name__ == '__main__':
+    if sys.argv[1:]:
+        sys.exit(__doc__)
+    sys.exit(main())
