@@ -7,4 +7,4 @@ pub mod Statements
 pub mod Firing
 pub mod Making
 pub mod Carrying
-pub mod Forms
+pub mod Crossing

@@ -22,6 +22,6 @@ pub record IsFlatOf (p : Tables) (n : ℕ) (flat : Flat) : Type 0 where
   pub few : flat.shape.names + length flat.shape.constants.items ≤ 250
   pub carries : Carries p node flat.shape.constants.items flat.steps.items acts
 
--- each that stands in the list is that of the node at its place
-abbrev pub AreFlatsOf : Tables → List (Option Flat) → Type 0
-AreFlatsOf p forms = (n : ℕ) (flat : Flat) → At forms n (Some flat) → IsFlatOf p n flat
+-- what is kept beside the node at this place: its flat form, or none
+abbrev pub IsFormOf : Tables → ℕ → Option Flat → Type 0
+IsFormOf p n form = (flat : Flat) → form ≡ Some flat → IsFlatOf p n flat

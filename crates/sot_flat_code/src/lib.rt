@@ -6,7 +6,7 @@ mod block;
 mod compute;
 mod constants;
 mod flat;
-mod flats;
+mod form;
 mod instruction;
 mod room;
 mod scaling;
@@ -17,5 +17,5 @@ mod unfit;
 mod walk;
 
 pub use flat::Flat;
-pub use flats::Flats;
+pub use form::form_of;
 pub use unfit::Unfit;

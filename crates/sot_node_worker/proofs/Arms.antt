@@ -65,7 +65,7 @@ same_guests told p j f n old new None still = tt
 same_guests told p j f n old new (Some x) still = inl (still, refl)
 
 module _ {C : Type 0} (told : C → Option (List Asking)) (began old new : Shift C) (was : IsOnShift told began old)
-    (node : new.node ≡ old.node) (lock : pass_lock new.pass ≡ pass_lock old.pass) (ground : pass_ground new.pass ≡ pass_ground old.pass) where
+    (node : new.node ≡ old.node) (form : new.form ≡ old.form) (lock : pass_lock new.pass ≡ pass_lock old.pass) (ground : pass_ground new.pass ≡ pass_ground old.pass) where
   -- nothing was done
   pub quiet_turn :
       IsQuiet old.node (pass_seen old.pass) (pass_seen new.pass) → pass_added new.pass ≡ pass_added old.pass → new.drafts.items ≡ old.drafts.items
@@ -77,6 +77,7 @@ module _ {C : Type 0} (told : C → Option (List Asking)) (began old new : Shift
       let f = was.at_work.plan in
       one_turn_more told began old new was (record {
         node = node;
+        form = form;
         lock = lock;
         ground = ground;
         drafts = drafts ∙ was.at_work.drafts ∙ sym (ap (drafts_of old.node) still.1 ∙ same_drafts old.node (pass_seen old.pass) still.0 still.2);
@@ -100,6 +101,7 @@ module _ {C : Type 0} (told : C → Option (List Asking)) (began old new : Shift
       let R = AnswersOn a.program a.cert.jitter f old.node (pass_seen old.pass) (pass_seen new.pass) in
       one_turn_more told began old new was (record {
         node = node;
+        form = form;
         lock = lock;
         ground = ground;
         drafts = drafts;
@@ -147,6 +149,7 @@ module _ {C : Type 0} (told : C → Option (List Asking)) (began old new : Shift
       }) in
       one_turn_more told began old new was (record {
         node = node;
+        form = form;
         lock = lock;
         ground = ground;
         drafts = drafts;
@@ -171,9 +174,10 @@ fired_along m n draft old old' new added added' after node seen has fired =
 
 -- shifts of the same parts
 pub same_shift :
-    {C : Type 0} (s t : Shift C) → (s.node ≡ t.node) × (s.finished ≡ t.finished) × (s.pass ≡ t.pass) × (s.drafts ≡ t.drafts) × (s.guest ≡ t.guest) → t ≡ s
-same_shift s t (node, finished, pass, drafts, guest) =
-    λ i. record { node = sym node i; finished = sym finished i; pass = sym pass i; drafts = sym drafts i; guest = sym guest i }
+    {C : Type 0} (s t : Shift C) → (s.node ≡ t.node) × (s.finished ≡ t.finished) × (s.pass ≡ t.pass) × (s.drafts ≡ t.drafts) × (s.guest ≡ t.guest) × (s.form ≡ t.form)
+    → t ≡ s
+same_shift s t (node, finished, pass, drafts, guest, form) =
+    λ i. record { node = sym node i; finished = sym finished i; pass = sym pass i; drafts = sym drafts i; guest = sym guest i; form = sym form i }
 
 -- where the list is the one that was found, nothing was added
 pub nothing_added : (before held after seen now : List Logged) → after ≡ held ++ behind seen now → held ≡ before → seen ≡ now → after ≡ before

@@ -4,6 +4,8 @@ use Rattle.std.proofs.lemmas.List.{append_assoc, append-nil, length-append}
 use Rattle.sot_lists.specs.Places.{At}
 use Rattle.sot_lang.specs.Tables.{Tables}
 use Rattle.sot_world.specs.HistoryEntry.{Logged, InputAt, FireAt, DecideAt, TickAt}
+use Rattle.sot_flat_code.specs.declared.flat.Flat.{Flat}
+use Rattle.sot_flat_code.specs.FlatForm.{IsFormOf}
 use Rattle.sot_flight.specs.Plans.{Plan}
 use Rattle.sot_turn.specs.Passes.{pass_seen, pass_added}
 use Rattle.sot_board.specs.Versions.{drafts_of}
@@ -80,6 +82,10 @@ firings_append n (InputAt time topic value ∷ xs) ys one two = absurd one
 firings_append n (DecideAt time m mode ∷ xs) ys one two = absurd one
 firings_append n (TickAt time noise states ∷ xs) ys one two = absurd one
 
+-- the form is still that of the node
+pub form_along : (p : Tables) (m n : ℕ) (was now : Option Flat) → m ≡ n → now ≡ was → IsFormOf p m was → IsFormOf p n now
+form_along p m n was now node same has = subst (λ k. IsFormOf p k now) node (subst (IsFormOf p m) (sym same) has)
+
 -- one more turn of a shift that began
 pub one_turn_more :
     {C : Type 0} (told : C → Option (List Asking)) (began old new : Shift C) (was : IsOnShift told began old)
@@ -98,6 +104,7 @@ one_turn_more told began old new was turned =
             (still_guest (AnswersOn a.program a.cert.jitter f old.node (pass_seen old.pass) (pass_seen new.pass)) told f old.node old.guest new.guest
             turned.guest was.at_work.guest);
         drafts = turned.drafts ∙ ap (λ n. drafts_of n (pass_seen new.pass)) (sym turned.node);
+        form = form_along a.program old.node new.node old.form new.form (sym turned.node) turned.form was.at_work.form;
       };
       node = turned.node ∙ was.node;
       lock = turned.lock ∙ was.lock;

@@ -3,6 +3,7 @@ use Rattle.std.specs.Prelude.{ℕ, ◌<◌, ◌≡◌, ◌⊎◌, true, false, L
 use Rattle.std.specs.Prelude.{None, Some}
 use Rattle.atomic_table.specs.Seated.{TableId}
 use Rattle.sot_lists.specs.Places.{At}
+use Rattle.sot_flat_code.specs.FlatForm.{IsFormOf}
 use Rattle.sot_tube.specs.Admitted.{Admitted}
 use Rattle.sot_flight.specs.Plans.{Plan, Guest}
 use Rattle.sot_turn.specs.Passes.{pass_lock, pass_ground, pass_seen, pass_added}
@@ -19,7 +20,8 @@ HasItsGuest f n None = (i : ℕ) → At f.crews n (Guest i) → ⊥
 HasItsGuest f n (Some guest) = (i : ℕ) × At f.crews n (Guest i)
 
 -- A shift at work: its pass knows a program with its certificate and a flight, of which its node
--- and its guest are, and its drafts are those of the node's firings in what the pass has seen.
+-- and its guest are, its drafts are those of the node's firings in what the pass has seen, and the
+-- flat form, where it has one, is that of its node.
 pub record IsAtWork {C : Type 0} (shift : Shift C) : Type 0 where
   pub accepted : Admitted
   pub plan : Plan
@@ -27,6 +29,7 @@ pub record IsAtWork {C : Type 0} (shift : Shift C) : Type 0 where
   pub there : shift.node < length accepted.program.nodes
   pub guest : HasItsGuest plan shift.node shift.guest
   pub drafts : shift.drafts.items ≡ drafts_of shift.node (pass_seen shift.pass)
+  pub form : IsFormOf accepted.program shift.node shift.form
 
 -- A shift of this lock that may begin: its node has not fired in what its pass has seen.
 pub record IsReady {C : Type 0} (lock : TableId) (shift : Shift C) : Type 0 where

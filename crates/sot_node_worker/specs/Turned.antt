@@ -36,6 +36,7 @@ AnswersOn p jitter f n old new before after =
 pub record IsTurned {C : Type 0} (told : C → Option (List Asking)) (a : Admitted) (f : Plan)
     (old new : Shift C) : Type 0 where
   pub node : new.node ≡ old.node
+  pub form : new.form ≡ old.form
   pub lock : pass_lock new.pass ≡ pass_lock old.pass
   pub ground : pass_ground new.pass ≡ pass_ground old.pass
   pub drafts : new.drafts.items ≡ drafts_of old.node (pass_seen new.pass)

@@ -5,6 +5,7 @@ ghost use Rattle.sot_lists.specs.Places.{At};
 ghost use Rattle.sot_turn.specs.Passes.{lock_of, pass_lock, pass_ground, pass_seen, pass_added};
 ghost use Rattle.sot_turn.specs.Passes.{held_lock, held_ground, held_seen, held_added, held_value};
 ghost use Rattle.sot_code.specs.Recorded.{in_slots};
+ghost use Rattle.sot_flat_code.specs.FlatForm.{IsFlatOf, IsFormOf};
 ghost use Rattle.sot_world.specs.Configurations.{is_left};
 ghost use Rattle.sot_world.specs.Events.{slot_count};
 ghost use Rattle.sot_flight.specs.Plans as plans;
@@ -20,6 +21,7 @@ use crate::order::{Follower, ring_for, who_follows};
 use crate::take::{append, stop, take_in_step, take_next};
 use sot_board::{Board, Commit, Receipt, View};
 use sot_code::{Fired, run_node};
+use sot_flat_code::Flat;
 use sot_lang::{Draft, Typed};
 use sot_turn::{Held, Pass, Turn};
 use std::sync::Wait;
@@ -83,11 +85,13 @@ pub(crate) fn fire_code<'a, R: Wait>(
     pass: Pass<Board<'a>>,
     p: &Typed,
     view: View,
+    form: &Option<Flat>,
     drafts: &mut Vec<Draft>,
 ) -> Pass<Board<'a>>
     requires lock { pass_lock pass ≡ lock_of turn.now }
     requires there { HasNode (pass_ground pass) (viewed_node view) }
     requires coded { IsCodedNode p.now (viewed_node view) }
+    requires form { IsFormOf p.now (viewed_node view) form.now }
     requires seen { (seen : IsSeen (pass_ground pass) (pass_seen pass) (viewed_node view) view)
         × (p.now ≡ seen.board.accepted.program) }
     requires drafts { drafts.old.items ≡ drafts_of (viewed_node view) (pass_seen pass) }
@@ -98,7 +102,7 @@ pub(crate) fn fire_code<'a, R: Wait>(
         (pass_added pass.entry) (pass_added result) }
     ensures drafts { drafts.new.items ≡ drafts_of (viewed_node view) (pass_seen result) }
 {
-    let fired = run(p, &view);
+    let fired = run(p, &view, form);
     let mut held = take_next(rt, turn, bells, pass, view.node(), drafts);
     let (receipt, follower) = commit_run(rt, held.lend(), bells, view, &fired);
     append(rt, drafts, receipt.draft);
@@ -107,8 +111,36 @@ pub(crate) fn fire_code<'a, R: Wait>(
     pass
 }
 
-// What the code of a view's node gives on it.
-fn run(p: &Typed, view: &View) -> Fired
+// What the code of a view's node gives on it, by its flat form where there is one.
+fn run(p: &Typed, view: &View, form: &Option<Flat>) -> Fired
+    requires coded { IsCodedNode p.now (viewed_node view.now) }
+    requires due { (b : Standing) × (p.now ≡ b.accepted.program)
+        × IsDueView b (viewed_node view.now) view.now }
+    requires form { IsFormOf p.now (viewed_node view.now) form.now }
+    ensures { IsRunOn p.now view.now result }
+{
+    match form {
+        Some(flat) => run_flat(p, view, flat),
+        None => run_tree(p, view),
+    }
+}
+
+fn run_flat(p: &Typed, view: &View, flat: &Flat) -> Fired
+    requires coded { IsCodedNode p.now (viewed_node view.now) }
+    requires due { (b : Standing) × (p.now ≡ b.accepted.program)
+        × IsDueView b (viewed_node view.now) view.now }
+    requires flat { IsFlatOf p.now (viewed_node view.now) flat.now }
+    ensures { IsRunOn p.now view.now result }
+{
+    let mut locals = view.locals();
+    let mut draft = Draft::blank();
+    let Ok(()) = flat.run(p, view.node(), view, &mut locals, &mut draft) else {
+        unreachable!()
+    };
+    Fired { locals, draft }
+}
+
+fn run_tree(p: &Typed, view: &View) -> Fired
     requires coded { IsCodedNode p.now (viewed_node view.now) }
     requires due { (b : Standing) × (p.now ≡ b.accepted.program)
         × IsDueView b (viewed_node view.now) view.now }

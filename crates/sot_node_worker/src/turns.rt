@@ -54,6 +54,7 @@ pub fn take_turn<'a, C: Controller, R: Wait>(
         pass,
         mut drafts,
         guest,
+        form,
     } = shift;
     let mut held = take_in_step(rt, turn, pass, node, &drafts);
     match see(held.lend(), node, guest.is_some()) {
@@ -63,17 +64,18 @@ pub fn take_turn<'a, C: Controller, R: Wait>(
             pass: turn.give(held),
             drafts,
             guest,
+            form,
         },
-        Sight::Idle => Shift::unfinished(node, turn.give(held), drafts, guest),
+        Sight::Idle => Shift::unfinished(node, turn.give(held), drafts, guest, form),
         Sight::Stated => {
             let pass = turn.give(held);
             let pass = fire_stated(rt, turn, bells, pass, node, &mut drafts);
-            Shift::unfinished(node, pass, drafts, guest)
+            Shift::unfinished(node, pass, drafts, guest, form)
         }
         Sight::Runs(p, view) => {
             let pass = turn.give(held);
-            let pass = fire_code(rt, turn, bells, pass, p, view, &mut drafts);
-            Shift::unfinished(node, pass, drafts, guest)
+            let pass = fire_code(rt, turn, bells, pass, p, view, &form, &mut drafts);
+            Shift::unfinished(node, pass, drafts, guest, form)
         }
         Sight::Asks(view) => {
             bells.note_asked(node, drafts.len().saturating_add(1));
@@ -84,7 +86,7 @@ pub fn take_turn<'a, C: Controller, R: Wait>(
             };
             let draft = ask(&mut asked, &view);
             let pass = fire_guest(rt, turn, pass, node, draft, &mut drafts);
-            Shift::unfinished(node, pass, drafts, Some(asked))
+            Shift::unfinished(node, pass, drafts, Some(asked), form)
         }
     }
 }

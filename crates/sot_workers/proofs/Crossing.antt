@@ -17,6 +17,7 @@ use Rattle.sot_lang.proofs.tables.ScalarInfo.TheSendSync as scalar
 use Rattle.sot_lang.proofs.tables.Slot.TheSendSync as slot
 use Rattle.sot_lang.proofs.tables.StateInfo.TheSendSync as state
 use Rattle.sot_lang.proofs.tables.TopicInfo.TheSendSync as topic
+use Rattle.sot_flat_code.proofs.Crossing.{flat_send}
 use Rattle.sot_turn.proofs.turn.Pass.TheSendSync as pass
 use Rattle.sot_turn.proofs.turn.Turn.TheSendSync as turn
 use Rattle.sot_lang.specs.contracts.typed.Typed as Typed
@@ -78,7 +79,19 @@ shift_send a C s =
     recorded_send (Shift.the_field a C).row _ _ (Shift.the_type a C).to_one
     (struct_send (shape (Shift.the_type a C)) (
       search sendable,
-      (search sendable, (pass_send a, (search (crosses, sendable) depth 40, (search (s, crosses, sendable) depth 40, tt)))),
+      (
+        search sendable,
+        (
+          pass_send a,
+          (
+            search (crosses, sendable) depth 40,
+            (
+              search (s, crosses, sendable) depth 40,
+              (search (flat_send, crosses, sendable) depth 40, tt),
+            ),
+          ),
+        ),
+      ),
     ))
 
 -- a lock over a board

@@ -2,6 +2,7 @@ pub mod Effects
 pub mod Remaining
 pub mod Histories
 pub mod ListFacts
+pub mod FormFacts
 pub mod PairFacts
 pub mod Crossing
 pub mod Coming

@@ -6,6 +6,7 @@ use Rattle.std.proofs.lemmas.Bool.{cases_eq}
 use Rattle.std.proofs.lemmas.Option.{same_Some}
 use Rattle.atomic_table.specs.Seated.{TableId}
 use Rattle.sot_lists.specs.Places.{At}
+use Rattle.sot_flat_code.specs.FlatForm.{IsFormOf}
 use Rattle.sot_tube.specs.Admitted.{Admitted}
 use Rattle.sot_world.specs.HistoryEntry.{Logged}
 use Rattle.sot_flight.specs.Plans.{Plan}
@@ -34,8 +35,9 @@ module _ {C : Type 0} where
   pub node_shift :
       (lock : TableId) (a : Admitted) (f : Plan) (n : ℕ) (shift : Shift C) → pass_lock shift.pass ≡ lock → pass_ground shift.pass ≡ Some (a, f)
       → shift.node < length a.program.nodes → HasItsGuest f shift.node shift.guest
-      → shift.drafts.items ≡ [] → pass_seen shift.pass ≡ [] → shift.finished ≡ false → shift.node ≡ n → IsNodeShift lock a f n shift
-  node_shift lock a f n shift of ground there guest none seen begins node = record {
+      → shift.drafts.items ≡ [] → pass_seen shift.pass ≡ [] → IsFormOf a.program shift.node shift.form → shift.finished ≡ false → shift.node ≡ n
+      → IsNodeShift lock a f n shift
+  node_shift lock a f n shift of ground there guest none seen form begins node = record {
     ready = record {
       at_work =
           record {
@@ -45,6 +47,7 @@ module _ {C : Type 0} where
             there = there;
             guest = guest;
             drafts = none ∙ ap (drafts_of shift.node) (sym seen);
+            form = form;
           };
       lock_is = of;
       no_drafts = none;

@@ -7,17 +7,20 @@ use Rattle.sot_turn.specs.Passes.{pass_lock, pass_ground, pass_seen}
 use Rattle.sot_node_worker.specs.Askings.{Asking}
 use Rattle.sot_workers.specs.declared.crewed.Leaving.{Leaving}
 use Rattle.sot_workers.specs.declared.crewed.Landed.{Landed}
+use Rattle.sot_workers.specs.Forms.{AreFormsOf}
 use Rattle.sot_workers.specs.Rooms.{HasRoom}
 use Rattle.sot_workers.specs.Sent.{AreBack}
 
 -- a pass of this lock that knows the flight and a program of which it is, and has seen no entry;
--- and room for the guests
+-- room for the guests, and flat forms of the program's bodies
 pub record IsLeaving {C : Type 0} (table : TableId) (f : Plan) (leaving : Leaving C) : Type 0 where
   pub lock : pass_lock leaving.pass ≡ table
   pub ground : (a : Admitted) × (pass_ground leaving.pass ≡ Some (a, f))
       × (length f.crews ≡ length a.program.nodes)
   pub seen : pass_seen leaving.pass ≡ []
   pub room : HasRoom (length f.crews) (vec_len leaving.room.guests) leaving.room
+  pub forms : (a : Admitted) → pass_ground leaving.pass ≡ Some (a, f)
+      → AreFormsOf a.program leaving.room.forms.items
 
 -- a pass of the same lock and ground, with all guests back
 pub record HasLanded {C : Type 0} (told : C → Option (List Asking)) (f : Plan) (leaving : Leaving C)

@@ -7,6 +7,7 @@ pub mod Pairs
 pub mod Sent
 pub mod Stations
 pub mod Back
+pub mod Forms
 pub mod Rooms
 pub mod Leaving
 -- what an instant's work promises

@@ -11,6 +11,7 @@ ghost use Rattle.sot_turn.specs.Passes.{lock_of, pass_lock, pass_ground, pass_se
 ghost use Rattle.sot_board.specs.Flown.{FlownBy};
 ghost use Rattle.sot_node_worker.specs.Answers.{Answered};
 ghost use Rattle.sot_workers.specs.Flying.{IsUnnamed};
+ghost use Rattle.sot_workers.specs.Forms.{AreFormsOf};
 ghost use Rattle.sot_workers.specs.Lists.{AreLists};
 ghost use Rattle.sot_workers.specs.Pairs.{EachFrom};
 ghost use Rattle.sot_workers.specs.Rooms.{HasRoom};
@@ -82,6 +83,7 @@ fn fly_in<'s, 'a: 's, E, C: Controller + Send + 's, R: Threads + Wait + Sync>(
         mut rings,
         few,
         long,
+        forms,
         stations,
         away,
         relieved,
@@ -93,7 +95,7 @@ fn fly_in<'s, 'a: 's, E, C: Controller + Send + 's, R: Threads + Wait + Sync>(
         rt, alloc, scope, turn, bells, flight, pass, &mut lists, guests, places,
     );
     let (pass, stations, away) = station_each(
-        rt, alloc, scope, turn, bells, flight, few, &long, pass, &mut lists, stations, away,
+        rt, alloc, scope, turn, bells, flight, few, &long, pass, &mut lists, forms, stations, away,
     );
     let pass = watch(
         rt,
@@ -164,6 +166,8 @@ fn fly_behind<'a, C: Controller + Send, R: Threads + Wait + Sync>(
         × (length flight.now.crews ≡ length a.program.nodes) }
     requires seen { pass_seen pass ≡ [] }
     requires room { HasRoom (length flight.now.crews) (vec_len room.guests) room }
+    requires forms { (a : Admitted) → pass_ground pass ≡ Some (a, flight.now)
+        → AreFormsOf a.program room.forms.items }
     requires back { (guests.old.items ≡ []) × (vec_len room.guests ≤ vec_capacity guests.old) }
     ensures ground { pass_ground pass.entry ≡ Some (result.board.accepted, result.board.plan) }
     ensures flown { FlownBy result.board.accepted.program result.board.accepted.cert.jitter

@@ -65,6 +65,7 @@ fn part<'a, C: Controller>(
         pass: other,
         drafts,
         guest,
+        form: _,
     } = shift;
     let pass = turn.join(pass, other);
     let list = Some(NodeList { node, drafts });

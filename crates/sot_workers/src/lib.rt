@@ -10,6 +10,7 @@
 
 mod back;
 mod crewed;
+mod forms;
 mod instant;
 mod join;
 mod lists;

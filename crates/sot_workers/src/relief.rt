@@ -43,6 +43,7 @@ fn part<'a, C: Controller>(
         pass: other,
         drafts,
         guest: _,
+        form: _,
     } = shift;
     let pass = turn.join(pass, other);
     (pass, NodeList { node, drafts })

@@ -1,26 +1,31 @@
 //! The memory that a flight takes.
 
 ghost use Rattle.std.specs.Prelude.{◌≡◌, ◌≤◌, [], length, vec_len, vec_capacity, IfOk};
+ghost use Rattle.sot_workers.specs.Forms.{AreFormsOf};
 ghost use Rattle.sot_workers.specs.Lists.{AreEmpty};
 ghost use Rattle.sot_workers.specs.Rooms.{HasRoom};
 
+use crate::forms::forms_for;
 use crate::lists::{NodeList, no_lists};
 use crate::place::{Done, Place, Station};
 use crate::rings::Rings;
 use crate::rule::{are_few, long_each};
+use sot_flat_code::Flat;
 use sot_flight::Flight;
 use sot_lang::Typed;
 use sot_node_worker::Controller;
 use std::alloc::{AllocError, Global};
 
 /// The memory of a flight but for the lock and the bells: the lists, which nodes are worth a
-/// thread, and room for workers and guests while they are out and when they come back.
+/// thread, the flat forms of their bodies, and room for workers and guests while they are out and
+/// when they come back.
 #[derive(Drop)]
 pub(crate) struct Room<'a, C: Controller> {
     pub(crate) lists: Vec<NodeList>,
     pub(crate) rings: Rings,
     pub(crate) few: bool,
     pub(crate) long: Vec<bool>,
+    pub(crate) forms: Vec<Option<Flat>>,
     pub(crate) stations: Vec<Station<'a, C>>,
     pub(crate) away: Vec<bool>,
     pub(crate) relieved: Vec<Option<NodeList>>,
@@ -41,13 +46,18 @@ pub(crate) fn room_for<'a, C: Controller>(
     ensures room { IfOk result (λ room. HasRoom (length p.now.nodes) count room) }
     ensures guests { IfOk result (λ room. (room.guests.items ≡ [])
         × (count ≤ vec_capacity room.guests)) }
+    ensures forms { IfOk result (λ room. AreFormsOf p.now room.forms.items) }
 {
     let nodes = p.nodes.len();
+    let few = are_few(p, flight);
+    let long = long_each(alloc, p)?;
+    let forms = forms_for(alloc, p, flight, few, &long)?;
     Ok(Room {
         lists: no_lists(alloc, p, flight.horizon())?,
         rings: Rings::new(alloc, nodes)?,
-        few: are_few(p, flight),
-        long: long_each(alloc, p)?,
+        few,
+        long,
+        forms,
         stations: Vec::with_capacity(alloc, nodes)?,
         away: Vec::with_capacity(alloc, nodes)?,
         relieved: Vec::with_capacity(alloc, nodes)?,

@@ -2,16 +2,20 @@
 
 ghost use Rattle.std.specs.Prelude.{◌≡◌, ℕ, ◌<◌, [], length, Some, MatchOption};
 ghost use Rattle.sot_lists.specs.Places.{At};
+ghost use Rattle.sot_lang.specs.Tables.{Tables};
+ghost use Rattle.sot_flat_code.specs.FlatForm.{IsFormOf};
 ghost use Rattle.sot_tube.specs.Admitted.{Admitted};
 ghost use Rattle.sot_flight.specs.Plans.{Guest};
 ghost use Rattle.sot_turn.specs.Passes.{lock_of, pass_lock, pass_ground, pass_seen};
 ghost use Rattle.sot_workers.specs.Flying.{IsUnnamed};
+ghost use Rattle.sot_workers.specs.Forms.{AreFormsOf};
 ghost use Rattle.sot_workers.specs.Lists.{HasNodes, AreEmpty};
 ghost use Rattle.sot_workers.specs.Sent.{IsJob};
 
 use crate::lists::NodeList;
 use crate::place::Job;
 use sot_board::Board;
+use sot_flat_code::Flat;
 use sot_flight::Flight;
 use sot_lang::Draft;
 use sot_node_worker::{Controller, Shift};
@@ -55,6 +59,18 @@ pub(crate) fn give_list(lists: &mut Vec<NodeList>, node: u32, drafts: Vec<Draft>
     lists[node as usize].drafts = drafts;
 }
 
+/// The flat form of a node's body, if any, leaves its place.
+pub(crate) fn take_form(forms: &mut Vec<Option<Flat>>, node: u32) -> Option<Flat>
+    ensures stay { (p : Tables) → AreFormsOf p forms.old.items → AreFormsOf p forms.new.items }
+    ensures form { (p : Tables) → AreFormsOf p forms.old.items → IsFormOf p node result }
+{
+    let place = node as usize;
+    if place >= forms.len() {
+        return None;
+    }
+    forms[place].take()
+}
+
 /// The guest is given a pass and the list of its node, where it flies one.
 pub(crate) fn job_of<'a, C: Controller>(
     alloc: Global,
@@ -87,6 +103,7 @@ pub(crate) fn job_of<'a, C: Controller>(
         pass: other,
         drafts: take_list(alloc, lists, node),
         guest: Some(guest),
+        form: None,
     };
     (pass, Job::Leaves(shift))
 }

@@ -1,19 +1,22 @@
 //! Starting the workers of nodes that no guest flies.
 
 ghost use Rattle.std.specs.Prelude.{◌≡◌, ◌<◌, ◌≤◌, ℕ, [], length, vec_capacity, true, Some};
+ghost use Rattle.sot_flat_code.specs.FlatForm.{IsFormOf};
 ghost use Rattle.sot_tube.specs.Admitted.{Admitted};
 ghost use Rattle.sot_turn.specs.Passes.{lock_of, pass_lock, pass_ground, pass_seen};
 ghost use Rattle.sot_node_worker.specs.Shifts.{IsReady, HasWorked};
 ghost use Rattle.sot_workers.specs.Flying.{IsOwn};
+ghost use Rattle.sot_workers.specs.Forms.{AreFormsOf};
 ghost use Rattle.sot_workers.specs.Lists.{AreEmpty};
 ghost use Rattle.sot_workers.specs.Pairs.{EachFrom};
 ghost use Rattle.sot_workers.specs.Stations.{IsSent, IsAt, IsStationed, has_thread};
 
 use crate::lists::NodeList;
 use crate::place::{Place, Station};
-use crate::seat::{give_list, take_list};
+use crate::seat::{give_list, take_form, take_list};
 use crate::start::start;
 use sot_board::Board;
+use sot_flat_code::Flat;
 use sot_flight::Flight;
 use sot_node_worker::{Bells, Controller, Shift, stop};
 use sot_turn::{Pass, Turn};
@@ -44,6 +47,7 @@ fn keep<'a, C: Controller, R: Wait>(
         pass,
         drafts,
         guest: _,
+        form: _,
     } = shift;
     give_list(lists, node, drafts);
     Station::Refused(pass)
@@ -75,8 +79,8 @@ fn send<'s, 'a: 's, E, C: Controller + Send + 's, R: Threads + Wait + Sync>(
     }
 }
 
-// Whether a node is to have a worker in a thread: it is worth it, and no guest flies it.
-fn is_to_leave(flight: &Flight, node: u32, worth: bool) -> bool
+/// Whether a node is to have a worker in a thread: it is worth it, and no guest flies it.
+pub(crate) fn is_to_leave(flight: &Flight, node: u32, worth: bool) -> bool
     requires { node < length flight.now.crews }
     ensures { result ≡ true → IsOwn flight.now node }
 {
@@ -95,6 +99,7 @@ fn station_of<'s, 'a: 's, E, C: Controller + Send + 's, R: Threads + Wait + Sync
     lists: &mut Vec<NodeList>,
     node: u32,
     worth: bool,
+    form: Option<Flat>,
 ) -> (Pass<Board<'a>>, Station<'a, C>)
     requires lock { pass_lock pass ≡ lock_of turn.now }
     requires ground { (a : Admitted) × (pass_ground pass ≡ Some (a, flight.now))
@@ -102,6 +107,8 @@ fn station_of<'s, 'a: 's, E, C: Controller + Send + 's, R: Threads + Wait + Sync
     requires seen { pass_seen pass ≡ [] }
     requires lists { AreEmpty (length flight.now.crews) lists.old.items }
     requires there { node < length flight.now.crews }
+    requires form { (a : Admitted) → pass_ground pass ≡ Some (a, flight.now)
+        → IsFormOf a.program node form }
     ensures lock { pass_lock result.0 ≡ pass_lock pass.entry }
     ensures ground { pass_ground result.0 ≡ pass_ground pass.entry }
     ensures seen { pass_seen result.0 ≡ [] }
@@ -119,12 +126,13 @@ fn station_of<'s, 'a: 's, E, C: Controller + Send + 's, R: Threads + Wait + Sync
         pass: other,
         drafts: take_list(alloc, lists, node),
         guest: None,
+        form,
     };
     (pass, send(rt, scope, turn, bells, lists, shift))
 }
 
-// Whether the body of a node is noted to be long.
-fn is_long(long: &Vec<bool>, node: usize) -> bool {
+/// Whether the body of a node is noted to be long.
+pub(crate) fn is_long(long: &Vec<bool>, node: usize) -> bool {
     node < long.len() && long[node]
 }
 
@@ -152,6 +160,7 @@ pub(crate) fn station_each<'s, 'a: 's, E, C: Controller + Send + 's, R: Threads 
     long: &Vec<bool>,
     pass: Pass<Board<'a>>,
     lists: &mut Vec<NodeList>,
+    mut forms: Vec<Option<Flat>>,
     mut stations: Vec<Station<'a, C>>,
     mut away: Vec<bool>,
 ) -> (Pass<Board<'a>>, Vec<Station<'a, C>>, Vec<bool>)
@@ -160,6 +169,8 @@ pub(crate) fn station_each<'s, 'a: 's, E, C: Controller + Send + 's, R: Threads 
         × (length flight.now.crews ≡ length a.program.nodes) }
     requires seen { pass_seen pass ≡ [] }
     requires lists { AreEmpty (length flight.now.crews) lists.old.items }
+    requires forms { (a : Admitted) → pass_ground pass ≡ Some (a, flight.now)
+        → AreFormsOf a.program forms.items }
     requires stations { (stations.items ≡ []) × (length flight.now.crews ≤ vec_capacity stations) }
     requires away { (away.items ≡ []) × (length flight.now.crews ≤ vec_capacity away) }
     ensures lock { pass_lock result.0 ≡ pass_lock pass.entry }
@@ -175,8 +186,9 @@ pub(crate) fn station_each<'s, 'a: 's, E, C: Controller + Send + 's, R: Threads 
     for place in 0..count {
         let node = lists[place].node;
         let is_worth = few || is_long(long, place);
+        let form = take_form(&mut forms, node);
         let (back, station) = station_of(
-            rt, alloc, scope, turn, bells, flight, pass, lists, node, is_worth,
+            rt, alloc, scope, turn, bells, flight, pass, lists, node, is_worth, form,
         );
         pass = back;
         away.push_reserved(is_thread(&station));

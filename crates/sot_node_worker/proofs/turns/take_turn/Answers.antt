@@ -7,7 +7,9 @@ use Rattle.sot_tube.specs.Admitted.{Admitted}
 use Rattle.sot_turn.specs.Prefixes.{IsPrefix}
 use Rattle.sot_turn.specs.Passes.{pass_ground, pass_seen, pass_added}
 use Rattle.sot_board.proofs.NothingLeft.{nodes_from}
+use Rattle.sot_flat_code.specs.FlatForm.{IsFormOf}
 use Rattle.sot_node_worker.proofs.Firing.{node_there}
+use Rattle.sot_node_worker.proofs.Turning.{form_along}
 use Rattle.sot_node_worker.specs.Shifts.{IsOnShift}
 use Rattle.sot_node_worker.specs.Turns.{TakesTurn}
 use Rattle.sot_board.specs.Versions.{drafts_of}
@@ -81,6 +83,18 @@ fire_code-pass-requires-clause-seen g c =
     seen_program (pass_ground c.give-pass-in-Runs.result) (pass_seen c.give-pass-in-Runs.result)
     (viewed_node v) v b c.in-Runs.p.now due ground c.give-pass-in-Runs.ensures.seen runs.1
 
+pub fire_code-pass-requires-clause-form : goal.fire_code-pass-requires-clause-form
+fire_code-pass-requires-clause-form g c =
+    let at = c.requires.at_work in
+    let old = c.args.shift in
+    let b = c.lend.result.now in
+    let runs = c.in-Runs.ensures.sight in
+    let ground = c.take_in_step-held.ensures.ground_now ∙ ap (λ x. Some (x.accepted, x.plan)) (sym c.lend.ensures.value) in
+    let same = same_Some (at.accepted, at.plan) (b.accepted, b.plan) (sym at.ground ∙ ground) in
+    let program = ap (λ (x : Admitted × Plan). x.0.program) same ∙ sym runs.1 in
+    form_along c.in-Runs.p.now old.node (viewed_node c.in-Runs.view) old.form old.form (sym runs.3.view.node) refl
+    (subst (λ t. IsFormOf t old.node old.form) program at.form)
+
 pub fire_guest-pass-requires-clause-there : goal.fire_guest-pass-requires-clause-there
 fire_guest-pass-requires-clause-there g c =
     let at = c.requires.at_work in
@@ -106,7 +120,7 @@ returns-in-Ended-clause-on_shift g c = λ began was.
     let same = ap (λ x. drafts_of old.node x.entries) value ∙ held.in_step ∙ c.requires.at_work.drafts in
     let still = subst (IsQuiet old.node known) (sym c.give.ensures.seen) (quiet old.node known b.entries on same) in
     let nothing = nothing_added (pass_added old.pass) _ _ _ b.entries c.give.ensures.added held.added (held.seen ∙ ap (λ x. x.entries) (sym value)) in
-    quiet_turn g.C.Controller.told began old _ was refl (c.give.ensures.lock ∙ held.lock) (c.give.ensures.ground ∙ held.ground) still nothing refl refl
+    quiet_turn g.C.Controller.told began old _ was refl refl (c.give.ensures.lock ∙ held.lock) (c.give.ensures.ground ∙ held.ground) still nothing refl refl
     (λ yes. flown_here (pass_ground old.pass) was.at_work.accepted was.at_work.plan b (pass_seen c.give.result) was.at_work.ground ground c.give.ensures.seen
     (b.position, c.see.ensures.standing.flown, c.in-Ended.ensures.sight))
 
@@ -139,8 +153,8 @@ returns-in-Idle-clause-on_shift g c = λ began was.
     let still = subst (IsQuiet old.node known) (sym c.give-in-Idle.ensures.seen) (quiet old.node known b.entries on same) in
     let nothing = nothing_added (pass_added old.pass) _ _ _ b.entries c.give-in-Idle.ensures.added held.added (held.seen ∙ ap (λ x. x.entries) (sym value)) in
     subst (λ s. IsOnShift g.C.Controller.told began s) (same_shift c.unfinished.result
-    (record { node = old.node; finished = false; pass = c.give-in-Idle.result; drafts = old.drafts; guest = old.guest }) c.unfinished.ensures)
-    (quiet_turn g.C.Controller.told began old _ was refl (c.give-in-Idle.ensures.lock ∙ held.lock) (c.give-in-Idle.ensures.ground ∙ held.ground) still nothing
+    (record { node = old.node; finished = false; pass = c.give-in-Idle.result; drafts = old.drafts; guest = old.guest; form = old.form }) c.unfinished.ensures)
+    (quiet_turn g.C.Controller.told began old _ was refl refl (c.give-in-Idle.ensures.lock ∙ held.lock) (c.give-in-Idle.ensures.ground ∙ held.ground) still nothing
     refl refl not_yet)
 
 pub returns-in-Idle-clause-turn : goal.returns-in-Idle-clause-turn
@@ -155,7 +169,7 @@ returns-in-Idle-clause-turn g c = λ a f is.
     let nothing = nothing_added (pass_added old.pass) _ _ _ b.entries c.give-in-Idle.ensures.added held.added (held.seen ∙ ap (λ x. x.entries) (sym value)) in
     let idle = c.in-Idle.ensures.sight in
     subst (λ s. TakesTurn a f old s) (same_shift c.unfinished.result
-    (record { node = old.node; finished = false; pass = c.give-in-Idle.result; drafts = old.drafts; guest = old.guest }) c.unfinished.ensures)
+    (record { node = old.node; finished = false; pass = c.give-in-Idle.result; drafts = old.drafts; guest = old.guest; form = old.form }) c.unfinished.ensures)
     (turn_rests a f b old _ c.see.ensures.standing ground on idle.0 c.give-in-Idle.ensures.seen nothing (not_yet, (λ at_end. absurd (idle.1 at_end))) is)
 
 pub returns-in-Stated-clause-on_shift : goal.returns-in-Stated-clause-on_shift
@@ -173,9 +187,9 @@ returns-in-Stated-clause-on_shift g c = λ began was.
     let fired = c.fire_stated-pass.ensures in
     let once = fired_along _ _ _ _ b.entries _ _ (pass_added old.pass) _ refl gave.seen nothing fired.fired.1 in
     subst (λ s. IsOnShift g.C.Controller.told began s) (same_shift c.unfinished-in-Stated.result
-    (record { node = old.node; finished = false; pass = c.fire_stated-pass.result; drafts = c.fire_stated-pass.new.drafts; guest = old.guest })
+    (record { node = old.node; finished = false; pass = c.fire_stated-pass.result; drafts = c.fire_stated-pass.new.drafts; guest = old.guest; form = old.form })
     c.unfinished-in-Stated.ensures)
-    (unasked_turn g.C.Controller.told began old _ was refl (fired.lock ∙ gave.lock ∙ held.lock) (fired.ground ∙ gave.ground ∙ held.ground) b.entries
+    (unasked_turn g.C.Controller.told began old _ was refl refl (fired.lock ∙ gave.lock ∙ held.lock) (fired.ground ∙ gave.ground ∙ held.ground) b.entries
     fired.fired.0 (same ∙ sym c.requires.at_work.drafts) once fired.drafts (none_there old.guest (sym c.is_some.ensures ∙ c.in-Stated.ensures.sight.0)) refl
     refl)
 
@@ -193,7 +207,7 @@ returns-in-Stated-clause-turn g c = λ a f is.
     let fired = c.fire_stated-pass.ensures in
     let once = fired_along _ _ _ _ b.entries _ _ (pass_added old.pass) _ refl gave.seen nothing fired.fired.1 in
     subst (λ s. TakesTurn a f old s) (same_shift c.unfinished-in-Stated.result
-    (record { node = old.node; finished = false; pass = c.fire_stated-pass.result; drafts = c.fire_stated-pass.new.drafts; guest = old.guest })
+    (record { node = old.node; finished = false; pass = c.fire_stated-pass.result; drafts = c.fire_stated-pass.new.drafts; guest = old.guest; form = old.form })
     c.unfinished-in-Stated.ensures)
     (turn_fires a f b old _ fired.fired.0 c.see.ensures.standing ground on c.in-Stated.ensures.sight.1 once refl is)
 
@@ -215,9 +229,9 @@ returns-in-Runs-clause-on_shift g c = λ began was.
     let drafts = fired.drafts ∙ ap (λ n. drafts_of n (pass_seen c.fire_code-pass.result)) runs.3.view.node in
     let once = fired_along _ _ _ _ b.entries _ _ (pass_added old.pass) _ runs.3.view.node gave.seen nothing fired.fired.1 in
     subst (λ s. IsOnShift g.C.Controller.told began s) (same_shift c.unfinished-in-Runs.result
-    (record { node = old.node; finished = false; pass = c.fire_code-pass.result; drafts = c.fire_code-pass.new.drafts; guest = old.guest })
+    (record { node = old.node; finished = false; pass = c.fire_code-pass.result; drafts = c.fire_code-pass.new.drafts; guest = old.guest; form = old.form })
     c.unfinished-in-Runs.ensures)
-    (unasked_turn g.C.Controller.told began old _ was refl (fired.lock ∙ gave.lock ∙ held.lock) (fired.ground ∙ gave.ground ∙ held.ground) b.entries
+    (unasked_turn g.C.Controller.told began old _ was refl refl (fired.lock ∙ gave.lock ∙ held.lock) (fired.ground ∙ gave.ground ∙ held.ground) b.entries
     fired.fired.0 (same ∙ sym c.requires.at_work.drafts) once drafts (none_there old.guest (sym c.is_some.ensures ∙ runs.0)) refl refl)
 
 pub returns-in-Runs-clause-turn : goal.returns-in-Runs-clause-turn
@@ -236,7 +250,7 @@ returns-in-Runs-clause-turn g c = λ a f is.
     let fired = c.fire_code-pass.ensures in
     let once = fired_along _ _ _ _ b.entries _ _ (pass_added old.pass) _ runs.3.view.node gave.seen nothing fired.fired.1 in
     subst (λ s. TakesTurn a f old s) (same_shift c.unfinished-in-Runs.result
-    (record { node = old.node; finished = false; pass = c.fire_code-pass.result; drafts = c.fire_code-pass.new.drafts; guest = old.guest })
+    (record { node = old.node; finished = false; pass = c.fire_code-pass.result; drafts = c.fire_code-pass.new.drafts; guest = old.guest; form = old.form })
     c.unfinished-in-Runs.ensures)
     (turn_fires a f b old _ fired.fired.0 c.see.ensures.standing ground on runs.3.left once refl is)
 
@@ -263,8 +277,9 @@ returns-in-Some-clause-on_shift g c = λ began was.
       pass = c.fire_guest-pass.result;
       drafts = c.fire_guest-pass.new.drafts;
       guest = Some c.ask-draft.new.guest;
+      form = old.form;
     }) c.unfinished-in-Asks.ensures)
-    (asked_turn g.C.Controller.told began old _ was refl (fired.lock ∙ gave.lock ∙ held.lock) (fired.ground ∙ gave.ground ∙ held.ground)
+    (asked_turn g.C.Controller.told began old _ was refl refl (fired.lock ∙ gave.lock ∙ held.lock) (fired.ground ∙ gave.ground ∙ held.ground)
     then v c.ask-draft.result c.in-Some.asked c.ask-draft.new.guest still
     (seen_here (pass_ground old.pass) then old.node v b c.in-Asks.ensures.sight.1 ground gave.seen)
     (λ a f is. fired_along _ _ _ _ _ _ _ (pass_added old.pass) _ refl refl nothing (fired.fired a f (gave.ground ∙ held.ground ∙ is))) fired.drafts c.in-Some.is
@@ -291,5 +306,6 @@ returns-in-Some-clause-turn g c = λ a f is.
       pass = c.fire_guest-pass.result;
       drafts = c.fire_guest-pass.new.drafts;
       guest = Some c.ask-draft.new.guest;
+      form = old.form;
     }) c.unfinished-in-Asks.ensures)
     (turn_fires a f b old _ _ c.see.ensures.standing ground on due.left once refl is)

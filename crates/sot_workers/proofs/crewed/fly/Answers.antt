@@ -2,6 +2,7 @@ use Rattle.std.proofs.Common.{◌≡◌, ◌∙◌, ◌<◌, ℕ, length, Some, 
 use Rattle.sot_lists.specs.Places.{At}
 use Rattle.sot_flight.specs.Plans.{Guest}
 use Rattle.sot_turn.specs.Passes.{pass_ground}
+use Rattle.sot_workers.specs.Forms.{AreFormsOf}
 use Rattle.sot_workers.specs.Pairs.{EachFrom}
 use Rattle.sot_workers.specs.Back.{IsGuestBack, FliesOnce}
 use Rattle.sot_workers.proofs.PairFacts.{each_length}
@@ -17,6 +18,12 @@ fly_behind-requires-clause-ground g c κs within =
       ap (λ f. length f.crews) c.flight-flight.ensures
           ∙ c.reveal_invariant.ensures.fits.crews,
     )
+
+pub fly_behind-requires-clause-forms : goal.fly_behind-requires-clause-forms
+fly_behind-requires-clause-forms g c κs within = λ a is.
+    let b = c.args.board in
+    let same = ground_same (pass_ground c.in_ok-turn.pass) b.accepted a b.plan _ c.in_ok-turn.ensures.ground is in
+    subst (λ t. AreFormsOf t c.in_ok-room.room.forms.items) (c.typed-p.ensures ∙ ap (λ x. x.program) same.0) c.in_ok-room.ensures.forms
 
 pub returns-clause-lists : goal.returns-clause-lists
 returns-clause-lists g c =

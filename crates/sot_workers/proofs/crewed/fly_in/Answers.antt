@@ -1,4 +1,4 @@
-use Rattle.std.proofs.Common.{◌≡◌, ◌∙◌, ◌≤◌, length, vec_len, vec_capacity, subst, arith}
+use Rattle.std.proofs.Common.{◌≡◌, ◌∙◌, ◌≤◌, length, vec_len, vec_capacity, sym, subst, arith}
 use Rattle.sot_turn.specs.Passes.{lock_of, pass_ground, pass_seen}
 use Rattle.sot_workers.specs.Lists.{AreMine}
 use Rattle.sot_workers.specs.Sent.{IsPlaced}
@@ -9,6 +9,9 @@ use Rattle.sot_workers.proofs.crewed.fly_in.Goals as goal
 
 pub station_each-pass-requires-clause-ground : goal.station_each-pass-requires-clause-ground
 station_each-pass-requires-clause-ground g c κs within = (let known = c.requires.ground in (known.0, c.place_each-pass.ensures.ground ∙ known.1, known.2))
+
+pub station_each-pass-requires-clause-forms : goal.station_each-pass-requires-clause-forms
+station_each-pass-requires-clause-forms g c κs within = λ a is. c.requires.forms a (sym c.place_each-pass.ensures.ground ∙ is)
 
 pub station_each-pass-requires-clause-stations : goal.station_each-pass-requires-clause-stations
 station_each-pass-requires-clause-stations g c κs within = (c.requires.room.no_stations, c.requires.room.stations)

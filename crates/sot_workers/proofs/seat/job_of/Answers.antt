@@ -3,6 +3,7 @@ use Rattle.std.proofs.lemmas.Option.{slice_get_within}
 use Rattle.sot_turn.specs.Passes.{pass_ground}
 use Rattle.sot_flight.specs.Plans.{Guest}
 use Rattle.sot_board.specs.Versions.{drafts_of}
+use Rattle.sot_workers.proofs.FormFacts.{no_form}
 use Rattle.sot_workers.proofs.Placing.{ground_same}
 use Rattle.sot_workers.proofs.seat.job_of.Goals as goal
 
@@ -26,6 +27,7 @@ returns-clause-job g c = λ a is.
               there = there;
               guest = (c.args.number, crew);
               drafts = c.take_list.ensures.none ∙ ap (drafts_of c.in-Some.node) (sym seen);
+              form = no_form a.program c.in-Some.node;
             };
         lock_is = c.split-pass.ensures.lock.1 ∙ c.requires.lock;
         no_drafts = c.take_list.ensures.none;

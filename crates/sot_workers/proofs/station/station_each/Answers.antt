@@ -16,6 +16,7 @@ loop-place-init g c = record {
   same = search rules;
   room = c.requires.stations.1;
   away = c.requires.away.1;
+  forms = c.requires.forms;
   stationed = λ a is.
       let R = IsStationed (lock_of c.args.turn.now) a c.args.flight.now in
       subst (λ xs. EachFrom R 0 xs c.args.stations.items) (sym c.requires.away.0) (subst (λ ys. EachFrom R 0 [] ys) (sym c.requires.stations.0) tt);
@@ -33,6 +34,11 @@ station_of-back-requires-clause-there g c =
     let same : c.index.result.now.node ≡ place =
     all.nodes place c.index.result.now (slice_get_read lists (length lists) place c.index.result.now refl there c.index.ensures) in
     omega (arith, same, there, all.each)
+
+pub station_of-back-requires-clause-form : goal.station_of-back-requires-clause-form
+station_of-back-requires-clause-form g c κs within = λ a is.
+    let inv = c.loop-place.invariant in
+    c.take_form-form.ensures.form a.program (inv.forms a (sym inv.ground ∙ is))
 
 pub loop-place-preserved : goal.loop-place-preserved
 loop-place-preserved g c =
@@ -54,6 +60,7 @@ loop-place-preserved g c =
       same = search rules;
       room = search rules;
       away = search rules;
+      forms = λ a is. c.take_form-form.ensures.stay a.program (inv.forms a is);
       stationed = λ a is.
           let R = IsStationed (lock_of c.args.turn.now) a c.args.flight.now in
           let number : c.loop-place.place ≡ 0 + length c.loop-place.away.items = omega (arith, inv.same, c.loop-place.away.ok.0) in

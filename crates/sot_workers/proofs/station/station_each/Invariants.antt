@@ -1,6 +1,7 @@
 use Rattle.std.proofs.Common.{◌≡◌, ◌≤◌, [], Some, length, vec_len, vec_capacity}
 use Rattle.sot_tube.specs.Admitted.{Admitted}
 use Rattle.sot_turn.specs.Passes.{lock_of, pass_lock, pass_ground, pass_seen}
+use Rattle.sot_workers.specs.Forms.{AreFormsOf}
 use Rattle.sot_workers.specs.Lists.{AreEmpty}
 use Rattle.sot_workers.specs.Pairs.{EachFrom}
 use Rattle.sot_workers.specs.Stations.{IsStationed}
@@ -17,6 +18,7 @@ invariant-loop-place g l = record {
   same : vec_len l.away ≡ l.place;
   room : length l.flight.crews ≤ vec_capacity l.stations;
   away : length l.flight.crews ≤ vec_capacity l.away;
+  forms : (a : Admitted) → pass_ground l.initial.pass ≡ Some (a, l.flight) → AreFormsOf a.program l.forms.items;
   stationed : (a : Admitted) → pass_ground l.initial.pass ≡ Some (a, l.flight)
       → EachFrom (IsStationed (lock_of l.turn) a l.flight) 0 l.away.items l.stations.items;
 }

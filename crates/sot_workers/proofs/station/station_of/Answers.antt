@@ -10,7 +10,7 @@ send-requires-clause-ready g c κs within =
     let there : c.args.node < length known.0.program.nodes = omega (arith, c.requires.there, known.2) in
     (node_shift (lock_of c.args.turn.now) known.0 c.args.flight.now c.args.node _ (c.split-pass.ensures.lock.1 ∙ c.requires.lock)
     (c.split-pass.ensures.ground.1 ∙ known.1) there (c.is_to_leave.ensures c.if-not-is_to_leave.false) c.take_list.ensures.none
-    (c.split-pass.ensures.seen.1 ∙ c.requires.seen) refl refl).ready
+    (c.split-pass.ensures.seen.1 ∙ c.requires.seen) (c.requires.form known.0 known.1) refl refl).ready
 
 pub send-requires-clause-there : goal.send-requires-clause-there
 send-requires-clause-there g c κs within =
@@ -26,5 +26,5 @@ returns-clause-station g c = λ a is.
     sent_at (lock_of c.args.turn.now) a f c.args.node _ c.send.result
     (node_shift (lock_of c.args.turn.now) a f c.args.node _ (c.split-pass.ensures.lock.1 ∙ c.requires.lock)
     (c.split-pass.ensures.ground.1 ∙ is) there (c.is_to_leave.ensures c.if-not-is_to_leave.false) c.take_list.ensures.none
-    (c.split-pass.ensures.seen.1 ∙ c.requires.seen) refl refl)
+    (c.split-pass.ensures.seen.1 ∙ c.requires.seen) (c.requires.form a is) refl refl)
     c.send.ensures.station

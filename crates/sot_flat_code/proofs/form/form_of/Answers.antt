@@ -2,7 +2,7 @@ use Rattle.std.proofs.Common.{◌≡◌, length, get_or, refl, sym, ap, ◌∙�
 use Rattle.std.proofs.lemmas.Option.{slice_get_read}
 use Rattle.sot_lists.specs.Places.{At}
 use Rattle.sot_lang.specs.Tables.{Tables}
-use Rattle.sot_flat_code.proofs.flats.form.Goals as goal
+use Rattle.sot_flat_code.proofs.form.form_of.Goals as goal
 
 pub of-requires : goal.of-requires
 of-requires c =

@@ -2,7 +2,7 @@ use Rattle.std.proofs.Common.{sym, subst}
 use Rattle.sot_code.specs.Recorded.{MayRun, IsExecution}
 use Rattle.sot_board.specs.Views.{viewed_node, viewed_numbers}
 use Rattle.sot_node_worker.proofs.Running.{view_runs}
-use Rattle.sot_node_worker.proofs.hold.run.Goals as goal
+use Rattle.sot_node_worker.proofs.hold.run_tree.Goals as goal
 
 pub run_node-requires : goal.run_node-requires
 run_node-requires c =

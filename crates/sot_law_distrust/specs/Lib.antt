@@ -1,0 +1,4 @@
+-- what a reader has to trust
+pub mod Distrust
+-- worked rows
+pub mod Examples

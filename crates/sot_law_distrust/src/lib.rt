@@ -1,0 +1,11 @@
+//! Laws of a talk whose models are no longer trusted.
+//!
+//! Nothing here runs: each law is a function with an empty body, whose contract is the law.
+#![tactic(auto)]
+
+mod laws;
+
+pub use laws::{
+    distrust_is_for_good, distrusted_instants_are_safe, distrusted_talks_are_in_mode_sc,
+    line_is_distrusted, modes_stay_sc, outside_ends_trust, trust_ends_by_an_outside,
+};
