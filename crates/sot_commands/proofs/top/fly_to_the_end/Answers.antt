@@ -4,7 +4,7 @@ use Rattle.sot_ports.specs.Outside.{Written}
 use Rattle.sot_commands.specs.declared.telling.Telling.TheVariants.{Trace}
 use Rattle.sot_commands.specs.Guests.{GuestsEnd}
 use Rattle.sot_commands.specs.Orders.{FlightEnds, IsVerdict}
-use Rattle.sot_commands.proofs.Spooled.{stream_took, stream_failed}
+use Rattle.sot_commands.proofs.Spooled.{spool_took, spool_failed}
 use Rattle.sot_commands.proofs.Ordered.{FliesAndDid, flight_ends, never_six, flight_guests}
 use Rattle.sot_commands.proofs.top.fly_to_the_end.Goals as goal
 
@@ -22,12 +22,12 @@ returns-in-Ok-end-clause-ends g c =
     let Holds : ℕ → List ℕ → Type 0 = FliesAndDid told order.telling order.text.items was now in
     let after = c.say.new.sink in
     let status : ℕ = c.say.result.0 in
-    let name = c.in-Ok-end.ensures.sink ∙ says.1.0 ∙ c.new-stream.ensures.sink in
+    let name = c.in-Ok-end.ensures.sink ∙ says.1.0 ∙ c.new-spool.ensures.sink in
     let by : (last : g.row.K.Denot) → last ≡ c.end.new.self.sink.now
     → Written (held last) (held after) (faults last) (faults after) answer.status answer.text.items status
     → FlightEnds (vec_len was) order.telling order.text.items (held sink) (held after) (faults sink) (faults after) status =
     λ last same written. flight_ends told order.telling order.text.items (held sink) (held after) (faults sink) (faults after) was now answer.status status
-    (stream_took held faults sink c.new-stream.result c.fly_ordered.new.out c.end.new.self answer Holds c.new-stream.ensures.new says
+    (spool_took held faults sink c.new-spool.result c.fly_ordered.new.out c.end.new.self answer Holds c.new-spool.ensures.new says
     c.in-Ok-end.ensures.ends last
     after status same written) in
     by _ (search rules) c.say.ensures
@@ -46,12 +46,12 @@ returns-in-Ok-end-clause-unwritten g c =
     let Holds : ℕ → List ℕ → Type 0 = FliesAndDid told order.telling order.text.items was now in
     let after = c.say.new.sink in
     let status : ℕ = c.say.result.0 in
-    let name = c.in-Ok-end.ensures.sink ∙ says.1.0 ∙ c.new-stream.ensures.sink in
+    let name = c.in-Ok-end.ensures.sink ∙ says.1.0 ∙ c.new-spool.ensures.sink in
     let by : (last : g.row.K.Denot) → last ≡ c.end.new.self.sink.now
     → Written (held last) (held after) (faults last) (faults after) answer.status answer.text.items status
     → status ≢ 6 =
     λ last same written. never_six told order.telling order.text.items (held sink) (held after) (faults sink) (faults after) was now answer.status status
-    (stream_took held faults sink c.new-stream.result c.fly_ordered.new.out c.end.new.self answer Holds c.new-stream.ensures.new says
+    (spool_took held faults sink c.new-spool.result c.fly_ordered.new.out c.end.new.self answer Holds c.new-spool.ensures.new says
     c.in-Ok-end.ensures.ends last
     after status same written) in
     λ six. absurd (by _ (search rules) c.say.ensures six)
@@ -70,14 +70,14 @@ returns-in-Ok-end-clause-guests g c =
     let Holds : ℕ → List ℕ → Type 0 = FliesAndDid told order.telling order.text.items was now in
     let after = c.say.new.sink in
     let status : ℕ = c.say.result.0 in
-    let name = c.in-Ok-end.ensures.sink ∙ says.1.0 ∙ c.new-stream.ensures.sink in
+    let name = c.in-Ok-end.ensures.sink ∙ says.1.0 ∙ c.new-spool.ensures.sink in
     let by : (last : g.row.K.Denot) → last ≡ c.end.new.self.sink.now
     → Written (held last) (held after) (faults last) (faults after) answer.status answer.text.items status
     → GuestsEnd told (order.telling ≡ Trace) (IsVerdict order.telling) (λ bytes. bytes ≡ order.text.items) (held sink) (held after) was now
     status =
     λ last same written. flight_guests told order.telling order.text.items (held sink) (held after) (faults sink) (faults after) was now answer.status status
     c.in-Ok-fly_ordered.ensures.guests c.in-Ok-fly_ordered.ensures.alone
-    (stream_took held faults sink c.new-stream.result c.fly_ordered.new.out c.end.new.self answer Holds c.new-stream.ensures.new says
+    (spool_took held faults sink c.new-spool.result c.fly_ordered.new.out c.end.new.self answer Holds c.new-spool.ensures.new says
     c.in-Ok-end.ensures.ends last
     after status same written) in
     by _ (search rules) c.say.ensures
@@ -94,11 +94,11 @@ returns-in-Ok-fly_ordered-clause-ends g c =
     let now = c.fly_ordered.new.guests in
     let says = c.in-Ok-fly_ordered.ensures.flies in
     let Holds : ℕ → List ℕ → Type 0 = FliesAndDid told order.telling order.text.items was now in
-    let name = c.in-Err-end.ensures.sink ∙ says.1.0 ∙ c.new-stream.ensures.sink in
+    let name = c.in-Err-end.ensures.sink ∙ says.1.0 ∙ c.new-spool.ensures.sink in
     let by : (last : g.row.K.Denot) → last ≡ c.end.new.self.sink.now
     → FlightEnds (vec_len was) order.telling order.text.items (held sink) (held last) (faults sink) (faults last) 5 =
     λ last same. flight_ends told order.telling order.text.items (held sink) (held last) (faults sink) (faults last) was now answer.status 5
-    (stream_failed held faults sink c.new-stream.result c.fly_ordered.new.out c.end.new.self answer Holds c.new-stream.ensures.new says
+    (spool_failed held faults sink c.new-spool.result c.fly_ordered.new.out c.end.new.self answer Holds c.new-spool.ensures.new says
     c.in-Err-end.ensures.ends
     last same) in
     by _ (search rules)
@@ -115,13 +115,13 @@ returns-in-Ok-fly_ordered-clause-guests g c =
     let now = c.fly_ordered.new.guests in
     let says = c.in-Ok-fly_ordered.ensures.flies in
     let Holds : ℕ → List ℕ → Type 0 = FliesAndDid told order.telling order.text.items was now in
-    let name = c.in-Err-end.ensures.sink ∙ says.1.0 ∙ c.new-stream.ensures.sink in
+    let name = c.in-Err-end.ensures.sink ∙ says.1.0 ∙ c.new-spool.ensures.sink in
     let by : (last : g.row.K.Denot) → last ≡ c.end.new.self.sink.now
     → GuestsEnd told (order.telling ≡ Trace) (IsVerdict order.telling) (λ bytes. bytes ≡ order.text.items) (held sink) (held last) was now
     5 =
     λ last same. flight_guests told order.telling order.text.items (held sink) (held last) (faults sink) (faults last) was now answer.status 5
     c.in-Ok-fly_ordered.ensures.guests c.in-Ok-fly_ordered.ensures.alone
-    (stream_failed held faults sink c.new-stream.result c.fly_ordered.new.out c.end.new.self answer Holds c.new-stream.ensures.new says
+    (spool_failed held faults sink c.new-spool.result c.fly_ordered.new.out c.end.new.self answer Holds c.new-spool.ensures.new says
     c.in-Err-end.ensures.ends
     last same) in
     by _ (search rules)

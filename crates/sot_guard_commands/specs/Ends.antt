@@ -1,0 +1,26 @@
+-- How a call of `guard` may end: the status, and what was read and written.
+use Rattle.std.specs.Prelude.{ℕ, Bool, false, List, [], String}
+use Rattle.std.proofs.Common.{Global}
+use Rattle.sot_ports.specs.Outside.{Outside}
+use Rattle.sot_guard_commands.specs.Moments.{Ears, Mouth, Ended}
+use Rattle.sot_guard_commands.specs.Says.{Says}
+
+abbrev pub ears_at : Outside → List ℕ → Bool → Ears
+ears_at o waiting ended =
+    record { left = o.left; faults = o.read_faults; waiting = waiting; ended = ended }
+
+abbrev pub mouth_at : Outside → Mouth
+mouth_at o = record { held = o.held; faults = o.write_faults }
+
+-- before a call nothing waits; afterwards some bytes may wait that came along and were not judged
+pub record EndsSome (Tells : Ears → ℕ → List ℕ → List ℕ → Type 0) (before after : Outside)
+    (status : ℕ) : Type 0 where
+  pub waiting : List ℕ
+  pub ended : Bool
+  pub is : Ended Tells (ears_at before [] false) (ears_at after waiting ended) (mouth_at before)
+      (mouth_at after) status
+
+-- the end of a call: which bytes came, which text belongs to them, at which status, and how much of
+-- it was written
+abbrev pub Ends : List (String Global) → Outside → Outside → ℕ → Type 0
+Ends words before after status = EndsSome (Says words) before after status

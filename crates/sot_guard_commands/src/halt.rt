@@ -1,0 +1,97 @@
+//! Why nothing more is heard of a robot, and what is said of it.
+
+ghost use Rattle.std.specs.Prelude.{◌≡◌, OnOk};
+ghost use Rattle.std.specs.String.{string_bytes};
+ghost use Rattle.sot_guard_commands.specs.Lines.{misheard_word, at_line};
+ghost use Rattle.sot_guard_commands.specs.Moments.{mouth};
+ghost use Rattle.sot_guard_commands.specs.Tellings.{TellsIf, TellsStop};
+
+use crate::tell::tell_text;
+use sot_answers::Status;
+use sot_guard_session::Misheard;
+use sot_ports::Sink;
+use sot_spool::{Out, Scratch};
+use sot_trace::put_count;
+use std::alloc::AllocError;
+
+/// Why nothing more is heard.
+#[derive(Clone, Copy, Debug, PartialEq, Eq)]
+pub(crate) enum Stop {
+    /// A line says nothing, or may not be said now.
+    Misheard(Misheard),
+    /// The lines end before each plant was observed.
+    Missing,
+    /// The source has failed.
+    Source,
+    /// The sink has failed.
+    Sink,
+    /// There is no memory.
+    Memory,
+}
+
+/// The same, and the number of the line that was heard or waited for.
+#[derive(Clone, Copy, Debug, PartialEq, Eq)]
+pub(crate) struct Halt {
+    pub line: usize,
+    pub stop: Stop,
+}
+
+/// The name of a line's fault.
+pub(crate) fn misheard_word(why: Misheard) -> &'static str
+    ensures { result.now ≡ misheard_word why }
+{
+    match why {
+        Misheard::OutOfTurn => "OutOfTurn",
+        Misheard::NotALine => "NotALine",
+        Misheard::NotDue => "NotDue",
+        Misheard::AlreadyDrafted => "AlreadyDrafted",
+        Misheard::OutsideType => "OutsideType",
+        Misheard::TooFar => "TooFar",
+    }
+}
+
+fn put_fault<O: Out>(out: &mut O, line: usize, word: &str)
+    ensures { O.puts out.old out.new (at_line line word.now) }
+{
+    out.put("fault observed line ");
+    put_count(out, line as u128);
+    out.put_byte(b' ');
+    out.put(word);
+    out.put_byte(b'\n')
+}
+
+/// The line of a fault in place of a text. The error is want of memory.
+pub(crate) fn fault_line(text: &mut String, line: usize, word: &str) -> Result<(), AllocError>
+    ensures { OnOk result (string_bytes text.new ≡ at_line line word.now) }
+{
+    text.clear();
+    let mut scratch = Scratch::new(text);
+    put_fault(&mut scratch, line, word);
+    scratch.end()
+}
+
+// The line of a fault is written, with status 3.
+fn tell_fault<K: Sink>(text: &mut String, line: usize, word: &str, sink: &mut K) -> Status
+    ensures { TellsIf 3 (at_line line word.now) (mouth (K.held sink.old) (K.faults sink.old))
+        (mouth (K.held sink.new) (K.faults sink.new)) result.0 }
+{
+    match fault_line(text, line, word) {
+        Ok(()) => tell_text(text.as_bytes(), 3, sink),
+        Err(_) => Status(6),
+    }
+}
+
+/// Writes why nothing more is heard, in place of a text. Where the sink has failed, nothing more is
+/// given to it.
+pub(crate) fn stopped<K: Sink>(text: &mut String, halt: Halt, sink: &mut K) -> Status
+    ensures { TellsStop halt.stop halt.line (mouth (K.held sink.old) (K.faults sink.old))
+        (mouth (K.held sink.new) (K.faults sink.new)) result.0 }
+{
+    match halt.stop {
+        Stop::Misheard(why) => tell_fault(text, halt.line, misheard_word(why), sink),
+        Stop::Missing => tell_fault(text, halt.line, "Missing", sink),
+        Stop::Source => Status(4),
+        Stop::Sink => Status(5),
+        Stop::Memory => Status(6),
+    }
+}

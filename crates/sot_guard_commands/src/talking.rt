@@ -1,0 +1,137 @@
+//! A robot's talk about an accepted mission.
+
+ghost use Rattle.std.specs.Prelude.{◌≡◌, ◌<◌, ◌-◌, ◌^◌, IfOk, length};
+ghost use Rattle.sot_lang.specs.TableRules.{MeetsTableRules};
+ghost use Rattle.sot_tube.specs.Certified.{IsWellCertified};
+ghost use Rattle.sot_trace.specs.Words.{AreWords};
+ghost use Rattle.sot_world.specs.Opens.{IsFirstOutside};
+ghost use Rattle.sot_guard_talk.specs.Openings.{HasAll};
+ghost use Rattle.sot_guard_front.specs.Reading.{IsSettled};
+ghost use Rattle.sot_guard_commands.specs.Moments.{ears, mouth, Ended};
+ghost use Rattle.sot_guard_commands.specs.Says.{SaysTalk, SaysRobot, IsOutside};
+ghost use Rattle.sot_guard_commands.specs.Beginning.{SaysOpened, SaysIn, SaysFrom};
+
+use crate::halt::stopped;
+use crate::speaker::Speaker;
+use crate::starts::hear_starts;
+use crate::tell::tell;
+use sot_answers::{Answer, Status};
+use sot_box::Point;
+use sot_guard_front::Ear;
+use sot_guard_talk::{Opening, Talk};
+use sot_lang::Typed;
+use sot_ports::{Sink, Source};
+use sot_report::start_text;
+use sot_tube::Accepted;
+use sot_world::OpenFail;
+use std::alloc::{AllocError, Global};
+
+// Room for the answer to a line: each line of it has 2,048 bytes at most, since names have 64 and a
+// node writes eight numbers at most, each behind the names of a topic and of a field.
+fn room_for_answers(p: &Typed) -> usize {
+    let lines = p.modules.len().saturating_add(p.nodes.len());
+    let lines = lines.saturating_add(p.plants.len()).saturating_add(1);
+    lines.saturating_mul(2048)
+}
+
+// Status 1: the line of a plant that was observed first outside this module's safer region.
+fn not_safer(alloc: Global, p: &Typed, starts: &[Point], module: u32) -> Result<Answer, AllocError>
+    requires first { IsFirstOutside p.now starts.now «module» }
+    requires all { length starts.now ≡ length p.now.plants }
+    ensures status { IfOk result (λ answer. answer.status ≡ 1) }
+    ensures text { IfOk result (λ answer. IsOutside p.now starts.now answer.text.items) }
+{
+    let plant = p.modules[module as usize].plant;
+    let text = start_text(alloc, p, module, &starts[plant as usize])?;
+    Ok(Answer { status: 1, text })
+}
+
+// Hears and answers what is said in a talk, of which these were the lines so far.
+fn talk_on<S: Source, K: Sink>(
+    mut speaker: Speaker<'_>,
+    lines: usize,
+    ear: &mut Ear,
+    source: &mut S,
+    sink: &mut K,
+) -> Status
+    requires few { lines < 2 ^ 64 - 1 }
+    requires settled { IsSettled (S.left source.old) ear.old.buffer ear.old.ended }
+    ensures { Ended (SaysFrom ear.old.ended (SaysTalk speaker.entry.talk lines))
+        (ears (S.left source.old) (S.faults source.old) ear.old)
+        (ears (S.left source.new) (S.faults source.new) ear.new)
+        (mouth (K.held sink.old) (K.faults sink.old))
+        (mouth (K.held sink.new) (K.faults sink.new)) result.0 }
+{
+    if ear.has_ended() {
+        return speaker.finish(sink);
+    }
+    match speaker.hear_all(lines + 1, ear, source, sink) {
+        Ok(()) => speaker.finish(sink),
+        Err(halt) => speaker.stop(halt, sink),
+    }
+}
+
+// Begins a talk about plants that were all observed.
+fn begin<S: Source, K: Sink>(
+    alloc: Global,
+    p: &Typed,
+    opening: Opening<'_>,
+    text: String,
+    ear: &mut Ear,
+    source: &mut S,
+    sink: &mut K,
+) -> Status
+    requires program { opening.accepted.program ≡ p.now }
+    requires all { HasAll opening }
+    requires rules { MeetsTableRules p.now }
+    requires certified { IsWellCertified p.now opening.accepted.cert.jitter opening.accepted.cert }
+    requires settled { IsSettled (S.left source.old) ear.old.buffer ear.old.ended }
+    ensures { Ended (SaysFrom ear.old.ended (SaysOpened opening.entry))
+        (ears (S.left source.old) (S.faults source.old) ear.old)
+        (ears (S.left source.new) (S.faults source.new) ear.new)
+        (mouth (K.held sink.old) (K.faults sink.old))
+        (mouth (K.held sink.new) (K.faults sink.new)) result.0 }
+{
+    let starts = match Vec::from_slice(alloc, opening.starts()) {
+        Ok(starts) => starts,
+        Err(_) => return Status(6),
+    };
+    match Talk::begin(alloc, opening) {
+        Ok(talk) => talk_on(Speaker { talk, text }, starts.len(), ear, source, sink),
+        Err(OpenFail::NotSafer { module }) => tell(not_safer(alloc, p, &starts, module), sink),
+        Err(OpenFail::Memory) => Status(6),
+    }
+}
+
+/// Hears where each plant is observed first, and then answers line by line what is said.
+pub(crate) fn converse<S: Source, K: Sink>(
+    alloc: Global,
+    accepted: &Accepted<'_>,
+    ear: &mut Ear,
+    source: &mut S,
+    sink: &mut K,
+) -> Status
+    requires words { AreWords accepted.now.program }
+    requires certified { IsWellCertified accepted.now.program accepted.now.cert.jitter
+        accepted.now.cert }
+    requires settled { IsSettled (S.left source.old) ear.old.buffer ear.old.ended }
+    ensures { Ended (SaysIn (SaysRobot accepted.now))
+        (ears (S.left source.old) (S.faults source.old) ear.old)
+        (ears (S.left source.new) (S.faults source.new) ear.new)
+        (mouth (K.held sink.old) (K.faults sink.old))
+        (mouth (K.held sink.new) (K.faults sink.new)) result.0 }
+{
+    let p = accepted.typed();
+    let mut text = match String::with_capacity(alloc, room_for_answers(p)) {
+        Ok(text) => text,
+        Err(_) => return Status(6),
+    };
+    let mut opening = match Opening::new(alloc, accepted) {
+        Ok(opening) => opening,
+        Err(_) => return Status(6),
+    };
+    match hear_starts(&mut opening, p.plants.len(), ear, source) {
+        Ok(()) => begin(alloc, p, opening, text, ear, source, sink),
+        Err(halt) => stopped(&mut text, halt, sink),
+    }
+}
