@@ -9,7 +9,7 @@ use sot_code::{Locals, Seen, run_node_over};
 use sot_flat_code::{Flat, Unfit};
 use sot_lang::{Draft, Trap, Typed};
 
-// Nodes that read two numbers and a truth value. `sizes` has no flat form.
+// Nodes that read two numbers and a truth value.
 const PROGRAM: &str = "environment topic i:
   {a: int[-2147483648..2147483647], b: int[-2147483648..2147483647], c: bool} = {0, 0, false};
 topic s: {p: int[-2147483648..2147483647], q: int[-99..99], r: int[-2147483648..2147483647],
@@ -70,9 +70,6 @@ node short period 1 offset 0 { reads i; writes s; do {
 %certificate
 {\"format\":1,\"modules\":{}}
 ";
-
-// The node that has no flat form.
-const SIZES: u32 = 5;
 
 // A node by its place, what it reads, and its locals; then what it drafts by slots, and the locals
 // afterwards, or the kind and the place of its trap.
@@ -246,11 +243,6 @@ fn bodies_run_in_flat_form(rt: HostRuntime) {
     for row in ROWS.lines() {
         let (given, want) = halves(row);
         for way in [Way::Walked, Way::Flat] {
-            let want = if way == Way::Flat && number(given, 0) == SIZES {
-                "wide"
-            } else {
-                want
-            };
             let said = said_of(alloc, &loaded.program, way, given).expect(&rt, "memory");
             assert_eq!(rt; said.as_str(), want, "{way:?} at {row}");
         }
