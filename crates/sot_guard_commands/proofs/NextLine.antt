@@ -1,5 +1,6 @@
 -- What becomes of the next line.
-use Rattle.std.proofs.Common.{◌≡◌, ℕ, Bool, true, false, not, List, [], ◌++◌, Option, None, Result, Ok, Err, inl, inr, take, drop, refl, sym, ap, ◌∙◌, take-append-drop, arith}
+use Rattle.std.proofs.Common.{◌≡◌, ℕ, Bool, true, false, not, List, [], ◌++◌, Option, Result}
+use Rattle.std.proofs.Common.{Ok, Err, inl, take, drop, refl, sym, ap, ◌∙◌, take-append-drop, arith}
 use Rattle.std.proofs.Math.ListN.{drop_of_length-le}
 use Rattle.std.specs.String.{string_bytes}
 use Rattle.sot_spool.specs.declared.scratch.Scratch.{Scratch}
@@ -13,10 +14,9 @@ use Rattle.sot_guard_front.specs.declared.ear.Ear.{Ear}
 use Rattle.sot_guard_front.specs.Reading.{Reads, IsLine, ends_line}
 use Rattle.sot_guard_commands.specs.declared.halt.Stop.{Stop}
 use Rattle.sot_guard_commands.specs.declared.halt.Stop.TheVariants as stops
-use Rattle.sot_guard_commands.specs.declared.speaker.Speaker.{Speaker}
 use Rattle.sot_guard_commands.specs.Moments.{Ears, Mouth, Passes, ears}
 use Rattle.sot_guard_commands.specs.Says.{IsAtEnds}
-use Rattle.sot_guard_commands.specs.Hearing.{IsNextLine, IsNoLine, MakesAnswer, AnswersLine, PassesFirst, PassesTaken, StopsFirst}
+use Rattle.sot_guard_commands.specs.Hearing.{PassesFirst, PassesTaken}
 use Rattle.sot_guard_commands.specs.Hearing.{AnswersFirst, HearsOne, StopsNext, AnswersNext}
 
 -- a line is heard, and all of its answer stands in the text
@@ -33,15 +33,6 @@ made t line h u a b hears whole empty = (
   (hears.put.1 whole).1 ∙ ap (λ l. l ++ text_of hears.lines) empty,
 )
 
--- a line is not heard, and nothing is written
-pub unanswered : (t : Talking) (line : List ℕ) (s : Speaker) (x : Mouth) (stop : Stop) → MakesAnswer t line s (Err stop)
-    → AnswersLine t line s.talk x x (Err stop)
-unanswered t line s x (stops.Misheard why) (same, misheard) = (misheard, refl)
-unanswered t line s x stops.Missing never = absurd never
-unanswered t line s x stops.Source never = absurd never
-unanswered t line s x stops.Sink never = absurd never
-unanswered t line s x stops.Memory memory = refl
-
 open_after : (b : Bool) → true ≡ not b → b ≡ false
 open_after true is = absurd cc
 open_after false is = refl
@@ -56,32 +47,6 @@ module _ (left left_after : Option (List ℕ)) (faults faults_after : ℕ) (e m 
 
   abbrev middle : Ears
   middle = ears left_after faults_after m
-
-  module _ (well : faults_after ≡ faults) where
-    -- there is none
-    none_passed : Passes before middle []
-    none_passed = record { reads = reads; well = well }
-
-    pub no_first : (a : Starting) → IsNextLine None left_after m → StopsFirst a before middle stops.Missing
-    no_first a end = (none_passed, end)
-
-    pub no_next : (t : Talking) (x : Mouth) → IsNextLine None left_after m → AnswersNext t t before middle x x (Ok false)
-    no_next t x end = (end, inr (refl, none_passed, refl))
-
-  -- there is none that may be heard, and why
-  pub no_line_first : (a : Starting) (stop : Stop) → IsNoLine stop before middle → StopsFirst a before middle stop
-  no_line_first a (stops.Misheard why) (is, long, well) = inr (none_passed well, is, long)
-  no_line_first a stops.Missing never = absurd never
-  no_line_first a stops.Source rose = (reads, rose)
-  no_line_first a stops.Sink never = absurd never
-  no_line_first a stops.Memory never = absurd never
-
-  pub no_line_next : (t : Talking) (x : Mouth) (stop : Stop) → IsNoLine stop before middle → StopsNext t before middle x x stop
-  no_line_next t x (stops.Misheard why) (is, long, well) = (inr (none_passed well, is, long), refl)
-  no_line_next t x stops.Missing never = absurd never
-  no_line_next t x stops.Source rose = ((reads, rose), refl)
-  no_line_next t x stops.Sink never = absurd never
-  no_line_next t x stops.Memory never = absurd never
 
   -- there is one, of so many bytes, and it is passed
   module _ (f : Ear) (well : faults_after ≡ faults) (len : ℕ) (is_line : IsLine len left_after m) (waiting : f.buffer ≡ drop len m.buffer)

@@ -1,20 +1,19 @@
 -- What was heard so far, line by line.
-use Rattle.std.proofs.Common.{◌≡◌, ℕ, ◌+◌, ◌-◌, ◌^◌, Bool, true, false, List, [], ◌∷◌, ◌++◌, Result, Ok, Err, inl, inr, length, refl, sym, ap, ◌∙◌, subst, append-nil, arith}
-use Rattle.std.specs.Prelude.{◌⊎◌}
+use Rattle.std.proofs.Common.{◌≡◌, ℕ, ◌+◌, Bool, true, false, List, [], ◌∷◌, ◌++◌}
+use Rattle.std.proofs.Common.{Result, Ok, Err, inl, inr, length, refl, sym, ap, ◌∙◌, subst, append-nil, arith}
 use Rattle.std.proofs.lemmas.List.{length-append}
 use Rattle.std.proofs.lemmas.Bool.{cases_Bool}
 use Rattle.sot_trace.specs.Traces.{text_of}
 use Rattle.sot_trace_lines.specs.LentLines.{lent_lines}
 use Rattle.sot_guard_talk.specs.Openings.{Starting, HasAll}
-use Rattle.sot_guard_talk.specs.Talks.{Talking, IsOver}
+use Rattle.sot_guard_talk.specs.Talks.{Talking}
 use Rattle.sot_guard_front.specs.Reading.{IsSettled, ends_line}
 use Rattle.sot_guard_commands.specs.declared.halt.Stop.{Stop}
 use Rattle.sot_guard_commands.specs.declared.halt.Stop.TheVariants.{Missing}
 use Rattle.sot_guard_commands.specs.Conversations.{Starts, Answers}
 use Rattle.sot_guard_commands.specs.Moments.{Ears, Mouth, Passes, Utters}
-use Rattle.sot_guard_commands.specs.Says.{IsAtEnds}
-use Rattle.sot_guard_commands.specs.Hearing.{HearsFirst, StopsFirst, HearsFirsts, HaltsFirsts, HearsOne, HearsNext, HearsLast, StopsNext, HearsAll, HaltsAll}
-use Rattle.sot_guard_commands.proofs.Passing.{passes_nil, passes_trans, utters_nil, utters_trans}
+use Rattle.sot_guard_commands.specs.Hearing.{HearsFirst, StopsFirst, HearsFirsts, HaltsFirsts, HearsOne, HearsNext, HearsLast, HearsAll}
+use Rattle.sot_guard_commands.proofs.Passing.{passes_nil, passes_trans, utters_trans}
 use Rattle.sot_guard_commands.proofs.Answering.{lent_more, ends_both, starts_more, starts_count, starts_same, answers_more}
 
 -- a call that went well was made before the source was seen to end
@@ -105,18 +104,6 @@ pub record SoFar (t u : Talking) (first line : ℕ) (e f : Ears) (x y : Mouth) :
   pub open_ : f.ended ≡ false
   pub line_is : line ≡ first + length (lent_lines passed)
 
-pub none_so_far : (t : Talking) (first : ℕ) (e : Ears) (x : Mouth) → e.ended ≡ false → SoFar t t first first e e x x
-none_so_far t first e x open_ = record {
-  passed = [];
-  text = [];
-  passes = passes_nil e;
-  utters = utters_nil x;
-  answers = (refl, refl);
-  whole = refl;
-  open_ = open_;
-  line_is = omega arith;
-}
-
 module _ (t u : Talking) (first line : ℕ) (e m : Ears) (x z : Mouth) (so_far : SoFar t u first line e m x z) where
   module _ (v : Talking) (f : Ears) (y : Mouth) (one : HearsOne u v m f z y) where
     more_lines : lent_lines (so_far.passed ++ one.passed) ≡ lent_lines so_far.passed ++ one.line ∷ []
@@ -150,17 +137,6 @@ module _ (t u : Talking) (first line : ℕ) (e m : Ears) (x z : Mouth) (so_far :
         omega (arith, size, so_far.line_is, length-append (lent_lines so_far.passed) (next.one.line ∷ [])));
   }
 
-  -- nothing more may come
-  pub all_so_far : IsOver u ⊎ IsAtEnds m ⊎ (line ≡ 2 ^ 64 - 1) → HearsAll t u first e m x z
-  all_so_far over = record {
-    passed = so_far.passed;
-    text = so_far.text;
-    passes = so_far.passes;
-    utters = so_far.utters;
-    answers = so_far.answers;
-    over = elim over [ inl is ↦ inl is | inr (inl end) ↦ inr (inl end) | inr (inr last) ↦ inr (inr (omega (arith, last, so_far.line_is))) ];
-  }
-
   -- the last line is heard, or there is none
   pub last_so_far : (v : Talking) (f : Ears) (y : Mouth) → HearsLast u v m f z y → HearsAll t v first e f x y
   last_so_far v f y (end, inl one) = record {
@@ -179,21 +155,4 @@ module _ (t u : Talking) (first line : ℕ) (e m : Ears) (x z : Mouth) (so_far :
     answers = subst (λ w. Answers t (lent_lines (so_far.passed ++ [])) w so_far.text) (sym same)
         (subst (λ l. Answers t (lent_lines l) u so_far.text) (sym (append-nil so_far.passed)) so_far.answers);
     over = inr (inl end);
-  }
-
-  -- the next one is not heard, or not answered
-  pub halts_so_far : (f : Ears) (y : Mouth) (stop : Stop) → StopsNext u m f z y stop
-      → HaltsAll t first e f x y (record { line = line; stop = stop })
-  halts_so_far f y stop stopped = record {
-    passed = so_far.passed;
-    text = so_far.text;
-    middle = m;
-    mouth = z;
-    last = u;
-    passes = so_far.passes;
-    utters = so_far.utters;
-    answers = so_far.answers;
-    whole = so_far.whole;
-    stops = stopped;
-    line = so_far.line_is;
   }

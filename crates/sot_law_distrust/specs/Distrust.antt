@@ -1,4 +1,4 @@
--- What a talk keeps to where its models are no longer trusted, since a plant was told to be outside.
+-- What a talk keeps to where its models are no longer trusted: a plant was told to be outside.
 use Rattle.std.specs.Prelude.{ℕ, ℤ, Bool, true, false, not, ◌||◌, ◌==◌, ◌≡◌, ◌≢◌, List, [], ◌∷◌}
 use Rattle.std.specs.Prelude.{Some}
 use Rattle.sot_lists.specs.Places.{At}
