@@ -6,7 +6,8 @@ ghost use Rattle.sot_expression.specs.Returned.{Gives};
 ghost use Rattle.sot_formula.specs.Reading.{name_token, any_token, comparing_at, comparison_at};
 ghost use Rattle.sot_formula.specs.Reading.{are_ticks, ticks_of, ticks_at, single_at, double_at};
 ghost use Rattle.sot_formula.specs.Reading.{within_at, mode_at, mode_compared_at, part_at};
-ghost use Rattle.sot_formula.specs.Reading.{named_at, called_at, behind_name_at, opened_at, formula_at};
+ghost use Rattle.sot_formula.specs.Reading.{named_at, called_at, behind_name_at, opened_at};
+ghost use Rattle.sot_formula.specs.Reading.{formula_at};
 
 use crate::finding::{Found, module_named, part_named, plain_named};
 use crate::laid::{Laid, compared, put};

@@ -65,7 +65,8 @@ same_guests told p j f n old new None still = tt
 same_guests told p j f n old new (Some x) still = inl (still, refl)
 
 module _ {C : Type 0} (told : C → Option (List Asking)) (began old new : Shift C) (was : IsOnShift told began old)
-    (node : new.node ≡ old.node) (form : new.form ≡ old.form) (lock : pass_lock new.pass ≡ pass_lock old.pass) (ground : pass_ground new.pass ≡ pass_ground old.pass) where
+    (node : new.node ≡ old.node) (form : new.form ≡ old.form) (lock : pass_lock new.pass ≡ pass_lock old.pass)
+    (ground : pass_ground new.pass ≡ pass_ground old.pass) where
   -- nothing was done
   pub quiet_turn :
       IsQuiet old.node (pass_seen old.pass) (pass_seen new.pass) → pass_added new.pass ≡ pass_added old.pass → new.drafts.items ≡ old.drafts.items
@@ -174,8 +175,8 @@ fired_along m n draft old old' new added added' after node seen has fired =
 
 -- shifts of the same parts
 pub same_shift :
-    {C : Type 0} (s t : Shift C) → (s.node ≡ t.node) × (s.finished ≡ t.finished) × (s.pass ≡ t.pass) × (s.drafts ≡ t.drafts) × (s.guest ≡ t.guest) × (s.form ≡ t.form)
-    → t ≡ s
+    {C : Type 0} (s t : Shift C) → (s.node ≡ t.node) × (s.finished ≡ t.finished) × (s.pass ≡ t.pass) × (s.drafts ≡ t.drafts) × (s.guest ≡ t.guest)
+    × (s.form ≡ t.form) → t ≡ s
 same_shift s t (node, finished, pass, drafts, guest, form) =
     λ i. record { node = sym node i; finished = sym finished i; pass = sym pass i; drafts = sym drafts i; guest = sym guest i; form = sym form i }
 

@@ -100,7 +100,8 @@ the_line = record {
                   (at 376);
             } ∷ []);
         safer = (record
-            { sides = (range (whole 394 (negsuc 9)) (whole 399 (pos 10)) ∷ []); at = (at 393) } ∷ []);
+            { sides = (range (whole 394 (negsuc 9)) (whole 399 (pos 10)) ∷ []); at = (at 393) }
+            ∷ []);
       })
       ∷ [];
 }
@@ -129,7 +130,8 @@ the_rest = record {
         outside = false;
         name = (word 56 (codes "r"));
         shape =
-            fields (record { name = (word 60 (codes "on")); scalar = (BoolScalar (at 64)) } ∷ record {
+            fields (record { name = (word 60 (codes "on")); scalar = (BoolScalar (at 64)) } ∷
+            record {
               name = (word 70 (codes "v"));
               scalar =
                   (Int (range (whole 77 (pos 0)) (whole 80 (pos 9))));
@@ -148,7 +150,8 @@ the_rest = record {
             (record {
               name = (word 140 (codes "w"));
               scalar =
-                  (Fix (whole 147 (pos 1)) (range (decimal 150 (negsuc 0) 1) (decimal 156 (pos 1) 1)));
+                  (Fix (whole 147 (pos 1)) (range (decimal 150 (negsuc 0) 1)
+                  (decimal 156 (pos 1) 1)));
             } ∷
             []);
         next = (record {
@@ -173,7 +176,8 @@ the_rest = record {
             (record {
               name = (word 217 (codes "y"));
               value =
-                  (chosen (binary Greater (named (word 224 (codes "p")) (Some (word 226 (codes "x"))))
+                  (chosen (binary Greater (named (word 224 (codes "p"))
+                  (Some (word 226 (codes "x"))))
                   (number (decimal 230 (pos 5) 1)) (at 228))
                   (called Min (one_more (named (word 243 (codes "y")) None)
                   (one_more (number (whole 246 (pos 3))) no_tree)) (at 239))
@@ -220,7 +224,8 @@ the_rest = record {
             (denied (binary Equal (named (word 456 (codes "n")) None) (number (whole 461 (pos 1)))
             (at 458)) (at 451))) no_statement)
             (statement (published (word 482 (codes "r")) (Some (word 484 (codes "v")))
-            (rescaled (named (word 496 (codes "p")) (Some (word 498 (codes "x")))) (whole 501 (pos 0))
+            (rescaled (named (word 496 (codes "p")) (Some (word 498 (codes "x"))))
+            (whole 501 (pos 0))
             (at 488))) no_statement) (at 420)) no_statement)));
       })
       ∷ a_module (record {
@@ -241,7 +246,8 @@ the_rest = record {
                   (at 567);
             } ∷ []);
         safer = (record
-            { sides = (range (decimal 587 (pos 0) 1) (decimal 592 (pos 5) 1) ∷ []); at = (at 586) } ∷
+            { sides = (range (decimal 587 (pos 0) 1) (decimal 592 (pos 5) 1) ∷ []);
+            at = (at 586) } ∷
             record {
               sides = (range (decimal 600 (pos 5) 1) (decimal 605 (pos 5) 1) ∷ []);
               at = (at 599);

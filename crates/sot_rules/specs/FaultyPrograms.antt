@@ -169,7 +169,8 @@ nine_fields = record {
             { name = (word 83 (codes "i")); scalar = (BoolScalar (at 86)) } ∷ []);
         init =
             values ((Truth true (at 95)) ∷ (Truth true (at 101)) ∷ (Truth true (at 107)) ∷
-            (Truth true (at 113)) ∷ (Truth true (at 119)) ∷ (Truth true (at 125)) ∷ (Truth true (at 131))
+            (Truth true (at 113)) ∷ (Truth true (at 119)) ∷ (Truth true (at 125)) ∷
+            (Truth true (at 131))
             ∷ (Truth true (at 137)) ∷ (Truth true (at 143)) ∷ []) (at 94);
       })
       ∷ [];
@@ -207,7 +208,8 @@ lone_plant = record {
         noise =
             [];
         next =
-            (record { name = (word 30 (codes "x")); value = (named (word 34 (codes "x")) None) } ∷ []);
+            (record { name = (word 30 (codes "x")); value = (named (word 34 (codes "x")) None) }
+            ∷ []);
         end = (at 37);
       })
       ∷ [];
@@ -278,7 +280,8 @@ swapped_next = record {
         sees = [];
         noise = [];
         next =
-            (record { name = (word 38 (codes "y")); value = (named (word 42 (codes "y")) None) } ∷ record
+            (record { name = (word 38 (codes "y")); value = (named (word 42 (codes "y")) None) } ∷
+            record
             { name = (word 50 (codes "x")); value = (named (word 54 (codes "x")) None) } ∷ []);
         end = (at 57);
       })
@@ -457,7 +460,8 @@ own_name_seen = record {
         noise =
             [];
         next =
-            (record { name = (word 38 (codes "p")); value = (named (word 42 (codes "p")) None) } ∷ []);
+            (record { name = (word 38 (codes "p")); value = (named (word 42 (codes "p")) None) }
+            ∷ []);
         end = (at 45);
       })
       ∷ a_module (record {
@@ -542,7 +546,8 @@ wide_box = record {
         noise =
             [];
         next =
-            (record { name = (word 30 (codes "x")); value = (named (word 34 (codes "x")) None) } ∷ []);
+            (record { name = (word 30 (codes "x")); value = (named (word 34 (codes "x")) None) }
+            ∷ []);
         end = (at 37);
       })
       ∷ a_node (record {

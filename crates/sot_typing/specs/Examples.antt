@@ -218,7 +218,8 @@ many = record {
             fields (record {
               name = (word 153 (codes "a"));
               scalar =
-                  (Fix (whole 160 (pos 1)) (range (decimal 163 (pos 0) 1) (decimal 168 (pos 10) 1)));
+                  (Fix (whole 160 (pos 1)) (range (decimal 163 (pos 0) 1)
+                  (decimal 168 (pos 10) 1)));
             } ∷
             record { name = (word 174 (codes "b")); scalar = (BoolScalar (at 177)) } ∷ []);
         init = values ((Number (decimal 186 (pos 5) 1)) ∷ (Truth true (at 191)) ∷ []) (at 185);
@@ -247,7 +248,8 @@ many = record {
               name = (word 315 (codes "y"));
               value =
                   (binary Sub (called Min (one_more
-                  (binary Add (named (word 323 (codes "y")) None) (named (word 327 (codes "t")) None)
+                  (binary Add (named (word 323 (codes "y")) None)
+                  (named (word 327 (codes "t")) None)
                   (at 325)) (one_more (named (word 330 (codes "q")) (Some (word 332 (codes "z"))))
                   no_tree)) (at 319)) (named (word 337 (codes "w")) None) (at 335));
             } ∷ []);
@@ -277,7 +279,8 @@ many = record {
             } ∷ record {
               name = (word 451 (codes "m"));
               scalar =
-                  (Fix (whole 458 (pos 2)) (range (decimal 461 (negsuc 49) 2) (decimal 468 (pos 50) 2)));
+                  (Fix (whole 458 (pos 2)) (range (decimal 461 (negsuc 49) 2)
+                  (decimal 468 (pos 50) 2)));
               init = (Number (decimal 476 (negsuc 24) 2));
             } ∷ []);
         body =
@@ -469,7 +472,8 @@ many_tables = record {
               width = 2;
               boxes = ((record { lo = (pos 0); hi = (pos 10) } ∷ record
                   { lo = (negsuc 2); hi = (pos 4) } ∷ []) ∷
-                  (record { lo = (pos 25); hi = (pos 25) } ∷ record { lo = (pos 0); hi = (pos 0) } ∷ []) ∷ []);
+                  (record { lo = (pos 25); hi = (pos 25) } ∷ record { lo = (pos 0); hi = (pos 0) }
+                  ∷ []) ∷ []);
               settled = true;
             };
         safer = record { width = 2; boxes = []; settled = true };

@@ -1,8 +1,7 @@
 -- Flat forms, one a node, while they are made and taken.
-use Rattle.std.proofs.Common.{◌≡◌, ℕ, ⊎_elim, Option, None, Some, List, [], ◌∷◌, ◌++◌, length, refl, sym, ◌∙◌, subst}
+use Rattle.std.proofs.Common.{◌≡◌, ℕ, ⊎_elim, Option, None, List, [], ◌∷◌, ◌++◌, length, sym, ◌∙◌, subst}
 use Rattle.std.specs.Prelude.{slice_set}
 use Rattle.std.proofs.lemmas.Option.{none-some}
-use Rattle.sot_lists.specs.Places.{At}
 use Rattle.sot_lang.specs.Tables.{Tables}
 use Rattle.sot_flat_code.specs.declared.flat.Flat.{Flat}
 use Rattle.sot_flat_code.specs.FlatForm.{IsFormOf}

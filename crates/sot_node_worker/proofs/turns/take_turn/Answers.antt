@@ -154,8 +154,8 @@ returns-in-Idle-clause-on_shift g c = λ began was.
     let nothing = nothing_added (pass_added old.pass) _ _ _ b.entries c.give-in-Idle.ensures.added held.added (held.seen ∙ ap (λ x. x.entries) (sym value)) in
     subst (λ s. IsOnShift g.C.Controller.told began s) (same_shift c.unfinished.result
     (record { node = old.node; finished = false; pass = c.give-in-Idle.result; drafts = old.drafts; guest = old.guest; form = old.form }) c.unfinished.ensures)
-    (quiet_turn g.C.Controller.told began old _ was refl refl (c.give-in-Idle.ensures.lock ∙ held.lock) (c.give-in-Idle.ensures.ground ∙ held.ground) still nothing
-    refl refl not_yet)
+    (quiet_turn g.C.Controller.told began old _ was refl refl (c.give-in-Idle.ensures.lock ∙ held.lock) (c.give-in-Idle.ensures.ground ∙ held.ground) still
+    nothing refl refl not_yet)
 
 pub returns-in-Idle-clause-turn : goal.returns-in-Idle-clause-turn
 returns-in-Idle-clause-turn g c = λ a f is.

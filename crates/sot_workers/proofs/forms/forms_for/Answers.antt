@@ -1,4 +1,4 @@
-use Rattle.std.proofs.Common.{◌+◌, ◌≡◌, sym, subst, arith, length}
+use Rattle.std.proofs.Common.{◌≡◌, sym, subst, arith, length}
 use Rattle.sot_workers.specs.Forms.{AreFormsOf}
 use Rattle.sot_workers.proofs.FormFacts.{forms_more}
 use Rattle.sot_workers.proofs.forms.forms_for.Goals as goal
