@@ -245,9 +245,10 @@ the_rest = record {
               at =
                   (at 567);
             } ∷ []);
-        safer = (record
-            { sides = (range (decimal 587 (pos 0) 1) (decimal 592 (pos 5) 1) ∷ []);
-            at = (at 586) } ∷
+        safer = (record {
+          sides = (range (decimal 587 (pos 0) 1) (decimal 592 (pos 5) 1) ∷ []);
+          at = (at 586);
+        } ∷
             record {
               sides = (range (decimal 600 (pos 5) 1) (decimal 605 (pos 5) 1) ∷ []);
               at = (at 599);
