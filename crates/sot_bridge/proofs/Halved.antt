@@ -6,20 +6,8 @@ use Rattle.std.specs.Option.{option_map}
 use Rattle.std.proofs.lemmas.Option.{same_Some}
 use Rattle.sot_text.specs.LineEnds.{lines, onto_first}
 use Rattle.sot_bridge_input.specs.declared.halves.Halves.{Halves as Slices}
+use Rattle.sot_bridge_input.proofs.Dividing.{joined_lines}
 use Rattle.sot_bridge_input.specs.Halves.{Halves, halves_seen, is_bridge, joined, behind, halves_in, halves_of}
-
-joined_onto : (b : ℕ) (ls : List (List ℕ)) → joined (onto_first b ls) ≡ b ∷ joined ls
-joined_onto b [] = refl
-joined_onto b (l ∷ ls) = refl
-
--- the lines of a text, one behind another, are the text
-joined_lines : (bs : List ℕ) → joined (lines bs) ≡ bs
-joined_lines [] = refl
-joined_lines (b ∷ bs) = go (b == 10) (joined_lines bs)
-  where
-    go : (e : Bool) → joined (lines bs) ≡ bs → joined (if e then (b ∷ []) ∷ lines bs else onto_first b (lines bs)) ≡ b ∷ bs
-    go true rest = ap (λ l. b ∷ l) rest
-    go false rest = joined_onto b (lines bs) ∙ ap (λ l. b ∷ l) rest
 
 short_in : (ls : List (List ℕ)) (h : Halves) → halves_in ls ≡ Some h → length h.a + length h.b ≤ length (joined ls)
 short_in [] h e = absurd cc

@@ -15,7 +15,7 @@ joined_onto b [] = refl
 joined_onto b (l ∷ ls) = refl
 
 -- the lines of a text, one behind another, are the text
-joined_lines : (bs : List ℕ) → joined (lines bs) ≡ bs
+pub joined_lines : (bs : List ℕ) → joined (lines bs) ≡ bs
 joined_lines [] = refl
 joined_lines (b ∷ bs) = go (b == 10) (joined_lines bs)
   where
