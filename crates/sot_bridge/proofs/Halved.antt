@@ -1,10 +1,10 @@
 -- The two halves of a text are no longer than it.
 use Rattle.std.proofs.Common.{◌≡◌, ℕ, ◌+◌, ◌≤◌, Bool, true, false, List, [], ◌∷◌, ◌++◌, Option, None, Some, length, refl, sym, ap, ◌∙◌, subst, arith}
 use Rattle.std.proofs.Common.{length-append}
-use Rattle.std.specs.Prelude.{◌==◌, if◌then◌else◌}
+use Rattle.std.specs.Prelude.{if◌then◌else◌}
 use Rattle.std.specs.Option.{option_map}
 use Rattle.std.proofs.lemmas.Option.{same_Some}
-use Rattle.sot_text.specs.LineEnds.{lines, onto_first}
+use Rattle.sot_text.specs.LineEnds.{lines}
 use Rattle.sot_bridge_input.specs.declared.halves.Halves.{Halves as Slices}
 use Rattle.sot_bridge_input.proofs.Dividing.{joined_lines}
 use Rattle.sot_bridge_input.specs.Halves.{Halves, halves_seen, is_bridge, joined, behind, halves_in, halves_of}
