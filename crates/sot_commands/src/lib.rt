@@ -37,6 +37,8 @@ pub use laws::{
 pub use order::{Begun, FlightOrder};
 pub use program::run;
 pub use sot_answers::Status;
+pub use sot_board::View;
+pub use sot_lang::Draft;
 pub use sot_node_worker::Controller;
 pub use sot_ports::{Process, Sink, Source, StdSink, StdSource};
 pub use telling::Telling;

@@ -3,8 +3,7 @@
 ghost use Rattle.std.specs.Prelude.{None};
 
 use super::*;
-use sot_board::View;
-use sot_lang::Draft;
+use sot_commands::{Draft, View};
 use sot_test_rows::SWITCHED;
 
 // A node that copies what comes from outside, and nothing to certify.

@@ -3,8 +3,7 @@
 ghost use Rattle.std.specs.Prelude.{None};
 
 use super::*;
-use sot_board::View;
-use sot_lang::Draft;
+use sot_commands::{Draft, View};
 use sot_test_rows::SWITCHED;
 
 // A vehicle on a line, at most one of whose nodes is due in any instant.

@@ -1,6 +1,6 @@
 //! What is written of short flights, and what their guest was asked.
 use super::*;
-use sot_lang::Draft;
+use sot_commands::Draft;
 
 // A number that is outside what may be published.
 const SEVEN: &str = "soter trace 1
