@@ -10,6 +10,7 @@ pub mod ReadLines
 pub mod LentLines
 pub mod Magnitudes
 pub mod KeptRows
+pub mod Room
 pub mod KeptMoves
 pub mod KeptSlots
 pub mod KeptNumbers

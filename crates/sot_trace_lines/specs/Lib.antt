@@ -6,6 +6,8 @@ pub mod Bits
 pub mod Spelled
 -- what is looked at of a spelled line
 pub mod Shown
+-- what room numbers take that are read
+pub mod Room
 -- what the public laws say
 pub mod Laws
 -- what the crate's own functions promise each other: how lines are read from their front, what is

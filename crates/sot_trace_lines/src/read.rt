@@ -1,13 +1,14 @@
 //! A line, read as what it spells.
 
 ghost use Rattle.std.specs.Prelude.{◌≡◌, ℕ, ◌<◌, ℤ, pos, [], List, Option, Some, None};
-ghost use Rattle.std.specs.Prelude.{if◌then◌else◌, is_some, IfOk};
+ghost use Rattle.std.specs.Prelude.{if◌then◌else◌, is_some, IfOk, OnErr, length};
 ghost use Rattle.sot_trace.specs.Lines.{writes_of};
 ghost use Rattle.sot_trace.specs.Words.{AreWords};
 ghost use Rattle.sot_trace_lines.specs.Shown.{AnswersLine};
 ghost use Rattle.sot_trace_lines.specs.Readers.{value_at, input_at, fire_at, mode_of, decide_at};
 ghost use Rattle.sot_trace_lines.specs.Readers.{tick_at, counts_at, event_at, spelled_at};
 ghost use Rattle.sot_trace_lines.specs.Kept.{bounded, ShowsRead};
+ghost use Rattle.sot_trace_lines.specs.Room.{TakesRoom, IsFull};
 
 use crate::line::Line;
 use crate::moves::moves_at;
@@ -28,8 +29,10 @@ fn read_value(
     numbers: &mut Vec<i64>,
 ) -> Result<Option<Line>, AllocError>
     requires { numbers.old.items ≡ [] }
-    ensures { IfOk result (λ l. (t : ℕ) → time ≡ bounded (pos t)
+    ensures read { IfOk result (λ l. (t : ℕ) → time ≡ bounded (pos t)
         → ShowsRead numbers.new.items l (value_at t topic info.now text.now)) }
+    ensures room { TakesRoom info.now.count numbers.old numbers.new }
+    ensures full { OnErr result (IsFull info.now.count numbers.old) }
 {
     if !info.outside {
         return Ok(None);
@@ -59,8 +62,10 @@ pub fn read_input(
     numbers: &mut Vec<i64>,
 ) -> Result<Option<Line>, AllocError>
     requires { numbers.old.items ≡ [] }
-    ensures { IfOk result (λ l. (t : ℕ) → time ≡ bounded (pos t)
+    ensures read { IfOk result (λ l. (t : ℕ) → time ≡ bounded (pos t)
         → ShowsRead numbers.new.items l (input_at p.now t text.now)) }
+    ensures room { TakesRoom (length p.now.scalars) numbers.old numbers.new }
+    ensures full { OnErr result (IsFull (length p.now.scalars) numbers.old) }
 {
     let word = word_at(text);
     let Some(topic) = topic_named(p, word.name, from) else {

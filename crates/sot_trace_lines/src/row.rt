@@ -1,9 +1,10 @@
 //! Rows of numbers, each read from the front of a text.
 
-ghost use Rattle.std.specs.Prelude.{◌≡◌, ℕ, ◌+◌, ◌<◌, ◌≤◌, ◌^◌, length, IfOk};
+ghost use Rattle.std.specs.Prelude.{◌≡◌, ℕ, ◌+◌, ◌<◌, ◌≤◌, ◌^◌, length, IfOk, OnErr};
 ghost use Rattle.std.specs.Option.{option_map};
 ghost use Rattle.sot_trace_lines.specs.Pieces.{further_at, row_at};
 ghost use Rattle.sot_trace_lines.specs.Kept.{put_one, put_all, kept_row, rest_of};
+ghost use Rattle.sot_trace_lines.specs.Room.{TakesRoom, IsFull};
 
 use crate::piece::{behind, number_at};
 use std::alloc::AllocError;
@@ -17,8 +18,10 @@ pub struct Row<'a> {
 
 // Puts a number behind those of the list, and tells whether each so far has 64 bits.
 fn keep(value: Option<i64>, whole: bool, numbers: &mut Vec<i64>) -> Result<bool, AllocError>
-    ensures { IfOk result (λ kept. (numbers.new.items, kept)
+    ensures kept { IfOk result (λ kept. (numbers.new.items, kept)
         ≡ put_one (numbers.old.items, whole) value) }
+    ensures room { TakesRoom 1 numbers.old numbers.new }
+    ensures full { OnErr result (IsFull 1 numbers.old) }
 {
     match value {
         Some(number) => {
@@ -36,8 +39,11 @@ fn further_at<'a>(
     whole: bool,
     numbers: &mut Vec<i64>,
 ) -> Result<Option<Row<'a>>, AllocError>
-    ensures { IfOk result (λ read. option_map (λ r. ((numbers.new.items, r.whole), r.rest.now)) read
+    ensures read { IfOk result (λ read.
+        option_map (λ r. ((numbers.new.items, r.whole), r.rest.now)) read
         ≡ kept_row (numbers.old.items, whole) (further_at count text.now)) }
+    ensures room { TakesRoom count numbers.old numbers.new }
+    ensures full { OnErr result (IsFull count numbers.old) }
 {
     let (_, mut rest) = text.split_at(0);
     let mut whole = whole;
@@ -63,8 +69,11 @@ pub fn row_at<'a>(
     whole: bool,
     numbers: &mut Vec<i64>,
 ) -> Result<Option<Row<'a>>, AllocError>
-    ensures { IfOk result (λ read. option_map (λ r. ((numbers.new.items, r.whole), r.rest.now)) read
+    ensures read { IfOk result (λ read.
+        option_map (λ r. ((numbers.new.items, r.whole), r.rest.now)) read
         ≡ kept_row (numbers.old.items, whole) (row_at count text.now)) }
+    ensures room { TakesRoom count numbers.old numbers.new }
+    ensures full { OnErr result (IsFull count numbers.old) }
 {
     if count == 0 {
         return Ok(Some(Row { whole, rest: text }));
