@@ -1,6 +1,6 @@
 -- What is looked at of a line, from what is kept of its pieces.
 use Rattle.std.proofs.Common.{◌≡◌, ◌≢◌, ℕ, ℤ, Bool, true, List, [], ◌∷◌, Option, Some, None, ◌<◌, length, get_or, codes, refl, sym, ap, subst, ◌∙◌}
-use Rattle.std.specs.Prelude.{Result, Ok, Err, IfOk, slice_get}
+use Rattle.std.specs.Prelude.{slice_get}
 use Rattle.std.proofs.lemmas.Option.{slice_get_read}
 use Rattle.sot_lang.specs.declared.tables.PlantInfo.{PlantInfo}
 use Rattle.sot_lang.specs.Tables.{Tables}
@@ -55,17 +55,12 @@ row_missing kept f None e = refl
 row_missing kept f (Some v) e = absurd cc
 
 -- what is read is the answer
-answers : (p : Tables) (line : List ℕ) (list : List ℤ) (l : Option Said) (o : Option Saying) → MeetsTableRules p → AreWords p → said_at p line ≡ o
+pub answers : (p : Tables) (line : List ℕ) (list : List ℤ) (l : Option Said) (o : Option Saying) → MeetsTableRules p → AreWords p → said_at p line ≡ o
     → ShowsReadSaid list l o → AnswersSaid p line list l
 answers p line list (Some l) (Some s) rules words is shows = (s, said_from p line s is, shows)
 answers p line list None None rules words is shows = λ s said. (let never : None ≡ Some s = sym is ∙ read_saying p rules words line s said in absurd cc)
 answers p line list (Some l) None rules words is shows = absurd shows
 answers p line list None (Some s) rules words is shows = absurd shows
-
-pub answered : {E : Type 0} (p : Tables) (line : List ℕ) (list : List ℤ) (r : Result (Option Said) E) → MeetsTableRules p → AreWords p
-    → IfOk r (λ l. ShowsReadSaid list l (said_at p line)) → IfOk r (λ l. AnswersSaid p line list l)
-answered p line list (Ok l) rules words shows = answers p line list l (said_at p line) rules words refl shows
-answered p line list (Err e) rules words shows = tt
 
 -- what a line of a trace shows, taken on
 pub taken_on : (f : Spelled → Option Saying) (list : List ℤ) (line : Line) (r : Option Said) (o : Option Spelled) → ShowsRead list (Some line) o

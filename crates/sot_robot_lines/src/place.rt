@@ -1,17 +1,20 @@
 //! Plants in their places.
 
-ghost use Rattle.std.specs.Prelude.{◌≡◌, ◌<◌, true, length, IfOk, IfSome};
+ghost use Rattle.std.specs.Prelude.{◌≡◌, ◌<◌, true, length, IfSome};
 ghost use Rattle.std.specs.Option.{option_map};
 ghost use Rattle.std.specs.Str.{bytes_eq};
 ghost use Rattle.sot_lang.specs.TableRules.{MeetsTableRules};
 ghost use Rattle.sot_lang.specs.declared.tables.PlantInfo.{PlantInfo as Plant};
+ghost use Rattle.sot_board.specs.Counts.{state_count};
 ghost use Rattle.sot_trace_lines.specs.Readers.{place_of};
+ghost use Rattle.sot_trace_lines.specs.Pieces.{row_at};
 ghost use Rattle.sot_trace_lines.specs.Kept.{kept_row};
+ghost use Rattle.sot_trace_lines.specs.Room.{TakesRoom};
 ghost use Rattle.sot_robot_lines.specs.Readers.{plant_named, point_at, place_at, places_at};
+ghost use Rattle.sot_robot_lines.specs.Room.{HasRoom};
 
 use sot_lang::{PlantInfo, Typed};
 use sot_trace_lines::{Row, behind, keeps_rules, move_front, row_at};
-use std::alloc::AllocError;
 
 fn is_named(name: &[u8], word: &[u8]) -> bool
     ensures { result ≡ bytes_eq name.now word.now }
@@ -41,6 +44,24 @@ pub fn plant_named(p: &Typed, name: &[u8]) -> Option<u32>
     }
 }
 
+// So many numbers with a comma between two, for which the list has room.
+fn row_within<'a>(
+    count: usize,
+    text: &'a [u8],
+    whole: bool,
+    numbers: &mut Vec<i64>,
+) -> Option<Row<'a>>
+    requires room { HasRoom count numbers.old }
+    ensures read { option_map (λ r. ((numbers.new.items, r.whole), r.rest.now)) result
+        ≡ kept_row (numbers.old.items, whole) (row_at count text.now) }
+    ensures room { TakesRoom count numbers.old numbers.new }
+{
+    match row_at(count, text, whole, numbers) {
+        Ok(read) => read,
+        Err(_) => unreachable!(),
+    }
+}
+
 /// The coordinates of a plant, put behind the numbers of the list as far as they have 64 bits, and
 /// the text behind the `)` behind them.
 pub fn point_at<'a>(
@@ -48,20 +69,22 @@ pub fn point_at<'a>(
     text: &'a [u8],
     whole: bool,
     numbers: &mut Vec<i64>,
-) -> Result<Option<Row<'a>>, AllocError>
-    ensures { IfOk result (λ read. option_map (λ r. ((numbers.new.items, r.whole), r.rest.now)) read
-        ≡ kept_row (numbers.old.items, whole) (point_at plant.now text.now)) }
+) -> Option<Row<'a>>
+    requires room { HasRoom (length plant.now.states.items) numbers.old }
+    ensures read { option_map (λ r. ((numbers.new.items, r.whole), r.rest.now)) result
+        ≡ kept_row (numbers.old.items, whole) (point_at plant.now text.now) }
+    ensures room { TakesRoom (length plant.now.states.items) numbers.old numbers.new }
 {
-    let Some(row) = row_at(plant.states.len(), text, whole, numbers)? else {
-        return Ok(None);
+    let Some(row) = row_within(plant.states.len(), text, whole, numbers) else {
+        return None;
     };
     let Some(rest) = behind(row.rest, b")") else {
-        return Ok(None);
+        return None;
     };
-    Ok(Some(Row {
+    Some(Row {
         whole: row.whole,
         rest,
-    }))
+    })
 }
 
 // The same behind a blank, the plant's name and `(`.
@@ -70,12 +93,14 @@ fn place_at<'a>(
     text: &'a [u8],
     whole: bool,
     numbers: &mut Vec<i64>,
-) -> Result<Option<Row<'a>>, AllocError>
-    ensures { IfOk result (λ read. option_map (λ r. ((numbers.new.items, r.whole), r.rest.now)) read
-        ≡ kept_row (numbers.old.items, whole) (place_at plant.now text.now)) }
+) -> Option<Row<'a>>
+    requires room { HasRoom (length plant.now.states.items) numbers.old }
+    ensures read { option_map (λ r. ((numbers.new.items, r.whole), r.rest.now)) result
+        ≡ kept_row (numbers.old.items, whole) (place_at plant.now text.now) }
+    ensures room { TakesRoom (length plant.now.states.items) numbers.old numbers.new }
 {
     let Some(front) = move_front(plant, text) else {
-        return Ok(None);
+        return None;
     };
     point_at(plant, front, whole, numbers)
 }
@@ -85,18 +110,20 @@ pub fn places_at<'a>(
     plants: &[PlantInfo],
     text: &'a [u8],
     numbers: &mut Vec<i64>,
-) -> Result<Option<Row<'a>>, AllocError>
-    ensures { IfOk result (λ read. option_map (λ r. ((numbers.new.items, r.whole), r.rest.now)) read
-        ≡ kept_row (numbers.old.items, true) (places_at plants.now text.now)) }
+) -> Option<Row<'a>>
+    requires room { HasRoom (state_count plants.now) numbers.old }
+    ensures read { option_map (λ r. ((numbers.new.items, r.whole), r.rest.now)) result
+        ≡ kept_row (numbers.old.items, true) (places_at plants.now text.now) }
+    ensures room { TakesRoom (state_count plants.now) numbers.old numbers.new }
 {
     let (_, mut rest) = text.split_at(0);
     let mut whole = true;
     for plant in plants {
-        let Some(read) = place_at(plant, rest, whole, numbers)? else {
-            return Ok(None);
+        let Some(read) = place_at(plant, rest, whole, numbers) else {
+            return None;
         };
         whole = read.whole;
         rest = read.rest;
     }
-    Ok(Some(Row { whole, rest }))
+    Some(Row { whole, rest })
 }

@@ -1,55 +1,54 @@
 //! A line, read as what a robot says.
 
-ghost use Rattle.std.specs.Prelude.{◌≡◌, ◌<◌, ℕ, ℤ, [], List, length, IfOk};
+ghost use Rattle.std.specs.Prelude.{◌≡◌, ◌<◌, ◌≤◌, ℕ, ℤ, [], List, length, vec_capacity};
 ghost use Rattle.sot_trace.specs.Words.{AreWords};
 ghost use Rattle.sot_lang.specs.declared.tables.PlantInfo.{PlantInfo as Plant};
 ghost use Rattle.sot_robot_lines.specs.Shown.{AnswersSaid};
 ghost use Rattle.sot_robot_lines.specs.Readers.{start_of, start_said_at, input_said_at};
 ghost use Rattle.sot_robot_lines.specs.Readers.{draft_said_at, tick_said_at, go_said_at, said_at};
 ghost use Rattle.sot_robot_lines.specs.Readers.{said_input, said_draft, ShowsReadSaid};
+ghost use Rattle.sot_robot_lines.specs.Room.{said_room, HasRoom};
 ghost use Rattle.sot_trace_lines.specs.Spelled.{Spelled};
 ghost use Rattle.sot_trace_lines.specs.Shown.{Shows};
+ghost use Rattle.sot_trace_lines.specs.Readers.{input_at};
+ghost use Rattle.sot_trace_lines.specs.Kept.{ShowsRead};
 
 use crate::place::{places_at, plant_named, point_at};
 use crate::said::Said;
 use sot_lang::{PlantInfo, Typed};
 use sot_trace_lines::{Line, behind, keeps_rules, read_fire, read_input, word_at};
-use std::alloc::AllocError;
 
 // The first state of a plant, to the end of the line.
-fn read_point(
-    k: u32,
-    plant: &PlantInfo,
-    text: &[u8],
-    numbers: &mut Vec<i64>,
-) -> Result<Option<Said>, AllocError>
-    requires { numbers.old.items ≡ [] }
-    ensures { IfOk result (λ l.
-        ShowsReadSaid numbers.new.items l (start_of k plant.now text.now)) }
+fn read_point(k: u32, plant: &PlantInfo, text: &[u8], numbers: &mut Vec<i64>) -> Option<Said>
+    requires none { numbers.old.items ≡ [] }
+    requires room { HasRoom (length plant.now.states.items) numbers.old }
+    ensures said { ShowsReadSaid numbers.new.items result (start_of k plant.now text.now) }
+    ensures room { vec_capacity numbers.old ≤ vec_capacity numbers.new }
 {
-    let Some(point) = point_at(plant, text, true, numbers)? else {
-        return Ok(None);
+    let Some(point) = point_at(plant, text, true, numbers) else {
+        return None;
     };
     if !point.rest.is_empty() {
-        return Ok(None);
+        return None;
     }
-    Ok(Some(Said::Start {
+    Some(Said::Start {
         plant: k,
         whole: point.whole,
-    }))
+    })
 }
 
-fn read_start(p: &Typed, text: &[u8], numbers: &mut Vec<i64>) -> Result<Option<Said>, AllocError>
-    requires { numbers.old.items ≡ [] }
-    ensures { IfOk result (λ l.
-        ShowsReadSaid numbers.new.items l (start_said_at p.now text.now)) }
+fn read_start(p: &Typed, text: &[u8], numbers: &mut Vec<i64>) -> Option<Said>
+    requires none { numbers.old.items ≡ [] }
+    requires room { HasRoom (said_room p.now) numbers.old }
+    ensures said { ShowsReadSaid numbers.new.items result (start_said_at p.now text.now) }
+    ensures room { vec_capacity numbers.old ≤ vec_capacity numbers.new }
 {
     let word = word_at(text);
     let Some(k) = plant_named(p, word.name) else {
-        return Ok(None);
+        return None;
     };
     let Some(rest) = behind(word.rest, b"(") else {
-        return Ok(None);
+        return None;
     };
     read_point(k, &p.plants[k as usize], rest, numbers)
 }
@@ -68,15 +67,29 @@ fn input_of(line: Line) -> Option<Said>
     }
 }
 
-fn read_value(p: &Typed, text: &[u8], numbers: &mut Vec<i64>) -> Result<Option<Said>, AllocError>
-    requires { numbers.old.items ≡ [] }
-    ensures { IfOk result (λ l.
-        ShowsReadSaid numbers.new.items l (input_said_at p.now text.now)) }
+// An input at time 0, for which the list has room.
+fn input_within(p: &Typed, text: &[u8], numbers: &mut Vec<i64>) -> Option<Line>
+    requires none { numbers.old.items ≡ [] }
+    requires room { HasRoom (said_room p.now) numbers.old }
+    ensures read { ShowsRead numbers.new.items result (input_at p.now 0 text.now) }
+    ensures room { vec_capacity numbers.old ≤ vec_capacity numbers.new }
 {
     let mut from = 0;
-    match read_input(p, Some(0), text, &mut from, numbers)? {
-        Some(line) => Ok(input_of(line)),
-        None => Ok(None),
+    match read_input(p, Some(0), text, &mut from, numbers) {
+        Ok(line) => line,
+        Err(_) => unreachable!(),
+    }
+}
+
+fn read_value(p: &Typed, text: &[u8], numbers: &mut Vec<i64>) -> Option<Said>
+    requires none { numbers.old.items ≡ [] }
+    requires room { HasRoom (said_room p.now) numbers.old }
+    ensures said { ShowsReadSaid numbers.new.items result (input_said_at p.now text.now) }
+    ensures room { vec_capacity numbers.old ≤ vec_capacity numbers.new }
+{
+    match input_within(p, text, numbers) {
+        Some(line) => input_of(line),
+        None => None,
     }
 }
 
@@ -104,18 +117,20 @@ fn read_draft(p: &Typed, text: &[u8]) -> Option<Said>
     }
 }
 
-fn read_states(p: &Typed, text: &[u8], numbers: &mut Vec<i64>) -> Result<Option<Said>, AllocError>
-    requires { numbers.old.items ≡ [] }
-    ensures { IfOk result (λ l.
-        ShowsReadSaid numbers.new.items l (tick_said_at p.now text.now)) }
+fn read_states(p: &Typed, text: &[u8], numbers: &mut Vec<i64>) -> Option<Said>
+    requires none { numbers.old.items ≡ [] }
+    requires room { HasRoom (said_room p.now) numbers.old }
+    ensures said { ShowsReadSaid numbers.new.items result (tick_said_at p.now text.now) }
+    ensures room { vec_capacity numbers.old ≤ vec_capacity numbers.new }
 {
-    let Some(read) = places_at(&p.plants, text, numbers)? else {
-        return Ok(None);
+    keeps_rules(p);
+    let Some(read) = places_at(&p.plants, text, numbers) else {
+        return None;
     };
     if !read.rest.is_empty() {
-        return Ok(None);
+        return None;
     }
-    Ok(Some(Said::Tick { whole: read.whole }))
+    Some(Said::Tick { whole: read.whole })
 }
 
 fn read_go(text: &[u8]) -> Option<Said>
@@ -128,9 +143,11 @@ fn read_go(text: &[u8]) -> Option<Said>
     }
 }
 
-fn read(p: &Typed, line: &[u8], numbers: &mut Vec<i64>) -> Result<Option<Said>, AllocError>
-    requires { numbers.old.items ≡ [] }
-    ensures { IfOk result (λ l. ShowsReadSaid numbers.new.items l (said_at p.now line.now)) }
+fn read(p: &Typed, line: &[u8], numbers: &mut Vec<i64>) -> Option<Said>
+    requires none { numbers.old.items ≡ [] }
+    requires room { HasRoom (said_room p.now) numbers.old }
+    ensures said { ShowsReadSaid numbers.new.items result (said_at p.now line.now) }
+    ensures room { vec_capacity numbers.old ≤ vec_capacity numbers.new }
 {
     if let Some(rest) = behind(line, b"tick") {
         return read_states(p, rest, numbers);
@@ -139,23 +156,25 @@ fn read(p: &Typed, line: &[u8], numbers: &mut Vec<i64>) -> Result<Option<Said>, 
         return read_value(p, rest, numbers);
     }
     if let Some(rest) = behind(line, b"draft ") {
-        return Ok(read_draft(p, rest));
+        return read_draft(p, rest);
     }
     if let Some(rest) = behind(line, b"go") {
-        return Ok(read_go(rest));
+        return read_go(rest);
     }
     if let Some(rest) = behind(line, b"start ") {
         return read_start(p, rest, numbers);
     }
-    Ok(None)
+    None
 }
 
 /// What a robot says in a line, which has no line end; none where it says nothing. The list is
 /// cleared, and then holds the coordinates of a start, the value of an input or the states of a
-/// tick; only it takes memory, beyond the room that it has, and the error is want of it.
-pub fn read_said(p: &Typed, line: &[u8], numbers: &mut Vec<i64>) -> Result<Option<Said>, AllocError>
+/// tick. It has room for them, so that no line takes memory.
+pub fn read_said(p: &Typed, line: &[u8], numbers: &mut Vec<i64>) -> Option<Said>
     requires words { AreWords p.now }
-    ensures { IfOk result (λ l. AnswersSaid p.now line.now numbers.new.items l) }
+    requires room { said_room p.now ≤ vec_capacity numbers.old }
+    ensures said { AnswersSaid p.now line.now numbers.new.items result }
+    ensures room { vec_capacity numbers.old ≤ vec_capacity numbers.new }
 {
     numbers.clear();
     keeps_rules(p);

@@ -7,11 +7,11 @@ use Rattle.sot_robot_lines.specs.Readers.{point_at}
 use Rattle.sot_robot_lines.proofs.ShownSaid.{row_shown}
 use Rattle.sot_robot_lines.proofs.read.read_point.Goals as goal
 
-pub returns : goal.returns
-returns c =
+pub returns-clause-said : goal.returns-clause-said
+returns-clause-said c =
     let point = c.in-Some.point in
     let none : length point.rest.now ≡ 0 = search rules in
-    let kept = ap (λ items. kept_row (items, true) (point_at c.args.plant.now c.args.text.now)) (sym c.requires)
-    ∙ sym (rw c.in-Some.is at c.in_ok-point.ensures) in
+    let kept = ap (λ items. kept_row (items, true) (point_at c.args.plant.now c.args.text.now)) (sym c.requires.none)
+    ∙ sym c.in-Some.ensures.read in
     row_shown c.point_at.new.numbers.items point.whole point.rest.now (λ v. StartSaid c.args.k v) (Start c.args.k point.whole)
     (point_at c.args.plant.now c.args.text.now) kept (is_empty point.rest.now none) (λ v holds. (v, refl, holds))

@@ -1,5 +1,9 @@
-use Rattle.sot_robot_lines.proofs.ShownSaid.{answered}
+use Rattle.std.proofs.Common.{refl}
+use Rattle.sot_robot_lines.specs.Readers.{said_at}
+use Rattle.sot_robot_lines.proofs.ShownSaid.{answers}
 use Rattle.sot_robot_lines.proofs.read.read_said.Goals as goal
 
-pub returns : goal.returns
-returns c = answered c.args.p.now c.args.line.now c.read.new.numbers.items c.read.result c.keeps_rules.ensures c.requires.words c.read.ensures
+pub returns-clause-said : goal.returns-clause-said
+returns-clause-said c =
+    answers c.args.p.now c.args.line.now c.read.new.numbers.items c.read.result (said_at c.args.p.now c.args.line.now) c.keeps_rules.ensures
+    c.requires.words refl c.read.ensures.said

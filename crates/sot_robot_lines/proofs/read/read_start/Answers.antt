@@ -1,4 +1,4 @@
-use Rattle.std.proofs.Common.{◌<◌, length, Option, IfOk, sym, ap, ◌∙◌, subst, arith}
+use Rattle.std.proofs.Common.{◌<◌, length, Option, sym, ap, ◌∙◌, subst, arith}
 use Rattle.sot_lang.specs.Tables.{Tables}
 use Rattle.sot_lang.specs.TypedView.{tables}
 use Rattle.sot_trace_lines.specs.Readers.{word_at}
@@ -7,8 +7,8 @@ use Rattle.sot_robot_lines.specs.Readers.{plant_named, start_said_at, ShowsReadS
 use Rattle.sot_robot_lines.proofs.ShownSaid.{start_is}
 use Rattle.sot_robot_lines.proofs.read.read_start.Goals as goal
 
-pub returns : goal.returns
-returns c =
+pub returns-clause-said : goal.returns-clause-said
+returns-clause-said c =
     let word = c.word_at-word.result in
     let plant = c.index.result.now in
     let k = c.in-Some.k in
@@ -19,4 +19,4 @@ returns c =
     ∙ start_is inside k word.name.now word.rest.now c.in-Some-behind.rest.now plant (word_at c.args.text.now) (sym c.word_at-word.ensures) named lt
     c.index.ensures (sym c.in-Some-behind.ensures)
     in
-    subst (λ (o : Option Saying). IfOk c.read_point.result (λ l. ShowsReadSaid c.read_point.new.numbers.items l o)) (sym same) c.read_point.ensures
+    subst (λ (o : Option Saying). ShowsReadSaid c.read_point.new.numbers.items c.read_point.result o) (sym same) c.read_point.ensures.said

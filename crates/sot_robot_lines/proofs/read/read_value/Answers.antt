@@ -1,19 +1,19 @@
-use Rattle.std.proofs.Common.{refl, subst}
+use Rattle.std.proofs.Common.{subst}
 use Rattle.sot_trace_lines.specs.Kept.{ShowsRead}
 use Rattle.sot_trace_lines.specs.Readers.{input_at}
 use Rattle.sot_robot_lines.specs.Readers.{said_input}
 use Rattle.sot_robot_lines.proofs.ShownSaid.{taken_on, none_taken}
 use Rattle.sot_robot_lines.proofs.read.read_value.Goals as goal
 
-pub returns-in-Some : goal.returns-in-Some
-returns-in-Some c =
-    let list = c.read_input.new.numbers.items in
+pub returns-in-Some-clause-said : goal.returns-in-Some-clause-said
+returns-in-Some-clause-said c =
+    let list = c.input_within.new.numbers.items in
     let o = input_at c.args.p.now 0 c.args.text.now in
-    taken_on said_input list c.in-Some.line c.input_of.result o (subst (λ l. ShowsRead list l o) c.in-Some.is (c.in_ok-line.ensures 0 refl))
+    taken_on said_input list c.in-Some.line c.input_of.result o (subst (λ l. ShowsRead list l o) c.in-Some.is c.input_within.ensures.read)
     (λ s shows. c.input_of.ensures list s shows)
 
-pub returns-in-None : goal.returns-in-None
-returns-in-None c =
-    let list = c.read_input.new.numbers.items in
+pub returns-in-None-clause-said : goal.returns-in-None-clause-said
+returns-in-None-clause-said c =
+    let list = c.input_within.new.numbers.items in
     let o = input_at c.args.p.now 0 c.args.text.now in
-    none_taken said_input list o (subst (λ l. ShowsRead list l o) c.in-None.is (c.in_ok-line.ensures 0 refl))
+    none_taken said_input list o (subst (λ l. ShowsRead list l o) c.in-None.is c.input_within.ensures.read)
