@@ -5,7 +5,7 @@ use Rattle.sot_guard_session.specs.Conversations as said
 use Rattle.sot_guard_session.proofs.Talks.{observed, safe}
 use Rattle.sot_summary.specs.Outside.{points_in}
 use Rattle.sot_robot_lines.specs.Sayings.{Saying, StartSaid, InputSaid, DraftSaid, GoSaid, TickSaid}
-use Rattle.sot_guard_talk.specs.declared.unheard.Heard.{Heard}
+use Rattle.sot_guard_talk.specs.declared.heard.Heard.{Heard}
 use Rattle.sot_guard_talk.specs.Talks.{Talking, tables_of, draft_of, Takes}
 use Rattle.sot_guard_talk.specs.TalkLaws.{HearsLines, TrustedTalksAreObserved, TrustedTalksAreSafe}
 

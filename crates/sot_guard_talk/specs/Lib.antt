@@ -6,3 +6,5 @@ pub mod TalkLaws
 -- between the crate's own functions
 pub mod DeskView
 pub mod PlacesView
+pub mod OpeningView
+pub mod TalkView

@@ -10,8 +10,6 @@ use Rattle.sot_guard_session.specs.declared.misheard.Misheard.TheVariants.{NotAL
 use Rattle.sot_guard_session.specs.declared.misheard.Misheard.TheVariants.{AlreadyDrafted}
 use Rattle.sot_guard_session.specs.declared.misheard.Misheard.TheVariants.{OutsideType}
 use Rattle.sot_robot_lines.specs.Sayings.{Saying, StartSaid, IsSaid}
-use Rattle.sot_guard_talk.specs.declared.unheard.Unheard.{Unheard}
-use Rattle.sot_guard_talk.specs.declared.unheard.Unheard.TheVariants as unheard
 use Rattle.sot_guard_talk.specs.Talks.{HasLarge}
 
 -- an accepted program, and where its first plants were observed
@@ -60,8 +58,7 @@ TakesStart a line b =
     × ((point : List ℤ) × IsNextStart a s point × (b ≡ with_start a point))
 
 -- why a line is not taken
-abbrev pub IsNoStart : Starting → List ℕ → Unheard → Type 0
-IsNoStart a line (unheard.Misheard why) =
+abbrev pub IsNoStart : Starting → List ℕ → Misheard → Type 0
+IsNoStart a line why =
     ((why ≡ NotALine) × ((s : Saying) → IsSaid a.accepted.program line s → ⊥))
     ⊎ ((s : Saying) × IsSaid a.accepted.program line s × RefusesStart a s why)
-IsNoStart a line unheard.Memory = Unit {0}

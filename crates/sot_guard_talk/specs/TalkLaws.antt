@@ -7,7 +7,7 @@ use Rattle.sot_world.specs.Headline.{IsSafeNow}
 use Rattle.sot_guard_session.specs.Hearing.{jitter_of}
 use Rattle.sot_guard_session.specs.Conversations.{IsObserved}
 use Rattle.sot_robot_lines.specs.Sayings.{Saying, IsSaid}
-use Rattle.sot_guard_talk.specs.declared.unheard.Heard.{Heard}
+use Rattle.sot_guard_talk.specs.declared.heard.Heard.{Heard}
 use Rattle.sot_guard_talk.specs.Talks.{Talking, tables_of, Takes}
 
 -- a line is heard, whatever takes its answer

@@ -23,10 +23,8 @@ use Rattle.sot_guard_session.specs.Hearing.{GoesThrough, TakesTick, RefusesInput
 use Rattle.sot_guard_session.specs.Hearing.{RefusesGo, RefusesTick}
 use Rattle.sot_robot_lines.specs.Sayings.{Saying, StartSaid, InputSaid, DraftSaid, GoSaid, TickSaid}
 use Rattle.sot_robot_lines.specs.Sayings.{IsSaid}
-use Rattle.sot_guard_talk.specs.declared.unheard.Heard.{Heard}
-use Rattle.sot_guard_talk.specs.declared.unheard.Heard.TheVariants as heard
-use Rattle.sot_guard_talk.specs.declared.unheard.Unheard.{Unheard}
-use Rattle.sot_guard_talk.specs.declared.unheard.Unheard.TheVariants as unheard
+use Rattle.sot_guard_talk.specs.declared.heard.Heard.{Heard}
+use Rattle.sot_guard_talk.specs.declared.heard.Heard.TheVariants as heard
 use Rattle.sot_guard_talk.specs.Answers.{instant_lines, outside_lines}
 
 -- a session, and how many events there were so far: inputs, decisions, firings and ticks
@@ -120,11 +118,6 @@ abbrev pub Mishears : Talking → List ℕ → Misheard → Type 0
 Mishears t line why =
     ((why ≡ NotALine) × ((s : Saying) → IsSaid (tables_of t) line s → ⊥))
     ⊎ ((s : Saying) × IsSaid (tables_of t) line s × Refuses t.hearing s why)
-
--- why a line is not heard
-abbrev pub IsUnheard : Talking → List ℕ → Unheard → Type 0
-IsUnheard t line (unheard.Misheard why) = Mishears t line why
-IsUnheard t line unheard.Memory = Unit {0}
 
 -- nothing is said any more: the last instant was gone through
 abbrev pub IsOver : Talking → Type 0

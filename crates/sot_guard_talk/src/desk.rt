@@ -11,8 +11,8 @@ ghost use Rattle.sot_robot_lines.specs.Shown.{ShowsSaid};
 ghost use Rattle.sot_guard_talk.specs.Talks.{tables_of, draft_of, counted, Answers, RefusesLarge};
 
 use crate::fill::put_scalars;
+use crate::heard::Heard;
 use crate::put::{put_instant, put_value, put_where_outside};
-use crate::unheard::Heard;
 use sot_box::Point;
 use sot_guard_session::{Misheard, Session, Turn};
 use sot_lang::{Draft, Typed};

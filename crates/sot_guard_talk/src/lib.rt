@@ -6,14 +6,14 @@
 
 mod desk;
 mod fill;
+mod heard;
 mod laws;
 mod opening;
 mod places;
 mod put;
 mod talk;
-mod unheard;
 
+pub use heard::Heard;
 pub use laws::{trusted_talks_are_observed, trusted_talks_are_safe};
 pub use opening::Opening;
 pub use talk::Talk;
-pub use unheard::{Heard, Unheard};

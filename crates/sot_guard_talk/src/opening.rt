@@ -1,24 +1,25 @@
 //! Where a robot's plants are observed first.
 
-ghost use Rattle.std.specs.Prelude.{◌≡◌, ◌↔◌, [], IsTrue, IfOk, IfErr, OnOk, OnErr};
+ghost use Rattle.std.specs.Prelude.{◌≡◌, ◌≤◌, ◌↔◌, [], IsTrue, IfOk, IfErr, OnOk, OnErr};
+ghost use Rattle.std.specs.Prelude.{vec_capacity};
 ghost use Rattle.sot_trace.specs.Words.{AreWords};
-ghost use Rattle.sot_guard_talk.specs.Openings.{HasAll, TakesStart, IsNoStart};
+ghost use Rattle.sot_robot_lines.specs.Room.{said_room};
+ghost use Rattle.sot_guard_talk.specs.Openings.{HasAll, TakesStart, IsNoStart, IsStarting};
 
 use crate::places::Places;
-use crate::unheard::Unheard;
 use sot_box::Point;
 use sot_guard_session::Misheard;
-use sot_lang::Typed;
-use sot_robot_lines::read_said;
+use sot_robot_lines::{numbers_of_lines, read_said};
 use sot_tube::Accepted;
 use std::alloc::{AllocError, Global};
 use std::marker::Model;
 
-/// An accepted mission, and where its first plants were observed.
+/// An accepted mission, and where its first plants were observed, with room for the numbers of any
+/// line.
 #[derive(Drop)]
 pub struct Opening<'a> {
-    pub(crate) places: Places<'a>,
-    pub(crate) numbers: Vec<i64>,
+    places: Places<'a>,
+    numbers: Vec<i64>,
 }
 
 impl<'a> Model for Opening<'a> {
@@ -31,13 +32,20 @@ impl<'a> Model for Opening<'a> {
 
     ghost coded = { Prim.hlevel (codes, term.the_row.coded, act.the_row.coded) };
 
+    ghost use Rattle.sot_guard_talk.specs.OpeningView.{HearsAnyLine};
+
     ghost view = { λ o. o.places };
+
+    ghost invariant = { HearsAnyLine };
 }
 
-// Room for the numbers of each line: four a plant at most, and one a scalar.
-fn room_for_numbers(p: &Typed) -> usize {
-    let states = p.plants.len().saturating_mul(4);
-    states.saturating_add(p.scalars.len())
+/// The lists of an opening, once nothing more is heard of it.
+#[derive(Drop)]
+pub(crate) struct Lists {
+    /// Where the plants were observed.
+    pub(crate) starts: Vec<Point>,
+    /// Room for the numbers of any line.
+    pub(crate) numbers: Vec<i64>,
 }
 
 impl<'a> Opening<'a> {
@@ -49,7 +57,7 @@ impl<'a> Opening<'a> {
     {
         let p = acc.typed();
         let starts = Vec::with_capacity(alloc, p.plants.len())?;
-        let numbers = Vec::with_capacity(alloc, room_for_numbers(p))?;
+        let numbers = numbers_of_lines(alloc, p)?;
         let places = Places::new(acc, starts);
         Ok(Opening { places, numbers })
     }
@@ -61,6 +69,26 @@ impl<'a> Opening<'a> {
         self.places.has_all()
     }
 
+    /// The mission, which lives on where this value does not.
+    pub(crate) fn accepted(&self) -> &'a Accepted<'a>
+        ensures value { result.now ≡ self.now.accepted }
+        ensures words { AreWords result.now.program }
+    {
+        self.places.accepted()
+    }
+
+    /// The lists.
+    pub(crate) fn into_lists(self) -> Lists
+        ensures starts { result.starts.items ≡ self.entry.starts }
+        ensures kept { IsStarting self.entry }
+        ensures room { said_room self.entry.accepted.program ≤ vec_capacity result.numbers }
+    {
+        Lists {
+            numbers: self.numbers,
+            starts: self.places.into_starts(),
+        }
+    }
+
     /// Where the plants were observed so far, in declared order.
     pub fn starts(&self) -> &[Point]
         ensures { result.now ≡ self.now.starts }
@@ -70,19 +98,15 @@ impl<'a> Opening<'a> {
 
     /// Hears a line of the robot, without its line end: where the next plant in declared order was
     /// observed. After an error nothing has changed.
-    pub fn hear(&mut self, line: &[u8]) -> Result<(), Unheard>
+    pub fn hear(&mut self, line: &[u8]) -> Result<(), Misheard>
         ensures heard { OnOk result (TakesStart self.old line.now self.new) }
         ensures same { OnErr result (self.new ≡ self.old) }
         ensures unheard { IfErr result (λ why. IsNoStart self.old line.now why) }
     {
         let p = self.places.accepted().typed();
         match read_said(p, line, &mut self.numbers) {
-            Ok(Some(said)) => match self.places.take(said, &self.numbers) {
-                Ok(()) => Ok(()),
-                Err(why) => Err(Unheard::Misheard(why)),
-            },
-            Ok(None) => Err(Unheard::Misheard(Misheard::NotALine)),
-            Err(_) => Err(Unheard::Memory),
+            Some(said) => self.places.take(said, &self.numbers),
+            None => Err(Misheard::NotALine),
         }
     }
 }

@@ -7,12 +7,12 @@ ghost use Rattle.sot_world.specs.Opens.{IsFirstOutside, IfNotSafer};
 ghost use Rattle.sot_guard_session.specs.Hearing.{NoDrafts};
 ghost use Rattle.sot_guard_session.specs.declared.turn.Turn.TheVariants.{Instant};
 ghost use Rattle.sot_guard_text.specs.Lines.{end_line};
-ghost use Rattle.sot_guard_talk.specs.Talks.{time_of, Hears, IsUnheard, IsOver};
+ghost use Rattle.sot_guard_talk.specs.Talks.{time_of, Hears, Mishears, IsOver};
 ghost use Rattle.sot_guard_talk.specs.Openings.{HasAll};
 
 use crate::desk::Desk;
+use crate::heard::Heard;
 use crate::opening::Opening;
-use crate::unheard::{Heard, Unheard};
 use sot_guard_session::{Misheard, Session, Turn};
 use sot_guard_text::put_end;
 use sot_robot_lines::read_said;
@@ -21,7 +21,8 @@ use sot_world::OpenFail;
 use std::alloc::Global;
 use std::marker::Model;
 
-/// A talk with a robot whose plants were observed first: an instant, a tick, and so on.
+/// A talk with a robot whose plants were observed first: an instant, a tick, and so on. It has room
+/// for the numbers of any line.
 #[derive(Drop)]
 pub struct Talk<'a> {
     desk: Desk<'a>,
@@ -38,7 +39,11 @@ impl<'a> Model for Talk<'a> {
 
     ghost coded = { Prim.hlevel (codes, term.the_row.coded, act.the_row.coded) };
 
+    ghost use Rattle.sot_guard_talk.specs.TalkView.{HearsAnyLine};
+
     ghost view = { λ t. t.desk };
+
+    ghost invariant = { HearsAnyLine };
 }
 
 impl<'a> Talk<'a> {
@@ -59,17 +64,16 @@ impl<'a> Talk<'a> {
         ensures not_safer { IfErr result (λ f. IfNotSafer f (λ m.
             IsFirstOutside opening.entry.accepted.program opening.entry.starts m)) }
     {
-        let acc = opening.places.accepted();
-        let numbers = opening.numbers;
-        let points = opening.places.into_starts();
-        let session = match Session::begin(alloc, acc, &points) {
+        let acc = opening.accepted();
+        let lists = opening.into_lists();
+        let session = match Session::begin(alloc, acc, &lists.starts) {
             Ok(session) => session,
             Err(fail) => return Err(fail),
         };
         match vec![in alloc; 0; acc.typed().scalars.len()] {
             Ok(scalars) => Ok(Talk {
-                desk: Desk::new(session, points, scalars),
-                numbers,
+                desk: Desk::new(session, lists.starts, scalars),
+                numbers: lists.numbers,
             }),
             Err(_) => Err(OpenFail::Memory),
         }
@@ -78,21 +82,17 @@ impl<'a> Talk<'a> {
     /// Hears a line of the robot, without its line end, and puts the lines that it is answered
     /// with, each with a line end (LF). After an error nothing has changed, and nothing was put.
     /// Once the talk [`Talk::is_over`], each line is out of turn, and a tick too far.
-    pub fn hear<O: Out>(&mut self, line: &[u8], out: &mut O) -> Result<Heard, Unheard>
+    pub fn hear<O: Out>(&mut self, line: &[u8], out: &mut O) -> Result<Heard, Misheard>
         ensures heard { IfOk result (λ h.
             Hears self.old line.now h self.new (O.puts out.old out.new)) }
         ensures same { OnErr result (self.new ≡ self.old) }
-        ensures unheard { IfErr result (λ why. IsUnheard self.old line.now why) }
+        ensures unheard { IfErr result (λ why. Mishears self.old line.now why) }
         ensures nothing_put { OnErr result (O.puts out.old out.new []) }
     {
         let p = self.desk.typed();
         match read_said(p, line, &mut self.numbers) {
-            Ok(Some(said)) => match self.desk.take(said, &self.numbers, out) {
-                Ok(heard) => Ok(heard),
-                Err(why) => Err(Unheard::Misheard(why)),
-            },
-            Ok(None) => Err(Unheard::Misheard(Misheard::NotALine)),
-            Err(_) => Err(Unheard::Memory),
+            Some(said) => self.desk.take(said, &self.numbers, out),
+            None => Err(Misheard::NotALine),
         }
     }
 
