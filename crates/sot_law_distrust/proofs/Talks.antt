@@ -9,8 +9,8 @@ use Rattle.sot_guard.specs.Changes.{GoesOn, Withdraws}
 use Rattle.sot_guard.specs.Instants.{AreTold}
 use Rattle.sot_guard_session.specs.Hearing.{Hearing, jitter_of, GoesThrough}
 use Rattle.sot_robot_lines.specs.Sayings.{Saying, StartSaid, InputSaid, DraftSaid, GoSaid, TickSaid}
-use Rattle.sot_guard_talk.specs.declared.unheard.Heard.{Heard}
-use Rattle.sot_guard_talk.specs.declared.unheard.Heard.TheVariants.{Go, Tick}
+use Rattle.sot_guard_talk.specs.declared.heard.Heard.{Heard}
+use Rattle.sot_guard_talk.specs.declared.heard.Heard.TheVariants.{Go, Tick}
 use Rattle.sot_guard_talk.specs.Answers.{outside_lines}
 use Rattle.sot_guard_talk.specs.Talks.{Talking, tables_of, time_of, Takes}
 use Rattle.sot_guard_talk.specs.TalkLaws.{HearsLines}

@@ -12,7 +12,7 @@ use Rattle.sot_guard.specs.declared.outside.Outside.{Outside}
 use Rattle.sot_guard.specs.declared.told.Told.{Told}
 use Rattle.sot_guard.specs.declared.told.Told.TheVariants.{Decided, Fired}
 use Rattle.sot_guard.specs.Outside.{IsFirstOutside}
-use Rattle.sot_guard_talk.specs.declared.unheard.Heard.TheVariants.{Go, Tick}
+use Rattle.sot_guard_talk.specs.declared.heard.Heard.TheVariants.{Go, Tick}
 use Rattle.sot_guard_talk.specs.Answers.{instant_lines, outside_lines}
 use Rattle.sot_guard_talk.specs.Talks.{Talking, tables_of, time_of, scalars_of}
 use Rattle.sot_guard_talk.specs.TalkLaws.{HearsLine, HearsLines}
