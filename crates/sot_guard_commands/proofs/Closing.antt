@@ -14,11 +14,11 @@ use Rattle.sot_guard_commands.specs.declared.halt.Halt.{Halt}
 use Rattle.sot_guard_commands.specs.Lines.{misheard_word, at_line}
 use Rattle.sot_guard_commands.specs.Conversations.{Answers}
 use Rattle.sot_guard_commands.specs.Moments.{Ears, Mouth, Passes, Utters, Ended}
-use Rattle.sot_guard_commands.specs.Says.{IsAtEnds, IsAtFault, IsHeard, SaysTalk, end_status}
+use Rattle.sot_guard_commands.specs.Says.{IsAtEnds, IsAtFault, SaysTalk, end_status}
 use Rattle.sot_guard_commands.specs.Hearing.{HearsAll, HaltsAll, StopsNext}
-use Rattle.sot_guard_commands.specs.Tellings.{Tells, TellsIf, TellsStop, TellsEnd, IsQuiet, last_text}
+use Rattle.sot_guard_commands.specs.Tellings.{Tells, TellsStop, TellsEnd, IsQuiet, last_text}
 use Rattle.sot_guard_commands.specs.Beginning.{SaysFrom}
-use Rattle.sot_guard_commands.proofs.Passing.{passes_nil, passes_trans, utters_nil, written_behind, ended_told}
+use Rattle.sot_guard_commands.proofs.Passing.{passes_nil, passes_trans, utters_nil, utters_same, written_behind, ended_well, ended_told}
 use Rattle.sot_guard_commands.proofs.Answering.{lent_more, answers_more}
 
 one_of_two : (b : Bool) → ◌≢◌ {A = ℕ} (if b then 0 else 1) 4
@@ -41,7 +41,7 @@ module _ (t : Talking) (before : ℕ) (e f : Ears) (x y : Mouth) (status : ℕ) 
   -- the lines were heard, and the last line is told
   pub closed : (u : Talking) (z : Mouth) → (h : HearsAll t u (before + 1) e f x z) → (e.ended ≡ true → h.passed ≡ []) → TellsEnd u z y status
       → Ended (SaysFrom e.ended (SaysTalk t before)) e f x y status
-  closed u z h none (inl told) =
+  closed u z h none told =
       ended_told (SaysFrom e.ended (SaysTalk t before)) e f x y h.passed (h.text ++ last_text u) (end_status u) status h.passes
       (one_of_two u.hearing.guarding.trusted) (
         inl (record {
@@ -55,18 +55,6 @@ module _ (t : Talking) (before : ℕ) (e f : Ears) (x y : Mouth) (status : ℕ) 
         none,
       )
       (written_behind x z y h.text (last_text u) (end_status u) status h.utters told)
-  closed u z h none (inr quiet) =
-      ended_told (SaysFrom e.ended (SaysTalk t before)) e f x y h.passed h.text 6 status h.passes (λ four. absurd (omega arith)) (
-        inr (inr (record {
-          heard = lent_lines h.passed;
-          last = u;
-          answered = h.answers;
-          spoken_are = inl refl;
-          said_is = inr refl;
-        })),
-        none,
-      )
-      (quiet_behind 6 x z y h.text status h.utters quiet)
 
   -- the source had ended before, and the last line is told
   pub closed_at_once : f ≡ e → e.ended ≡ true → IsSettled e.left e.waiting e.ended → TellsEnd t x y status
@@ -94,27 +82,11 @@ module _ (t : Talking) (before : ℕ) (e f : Ears) (x y : Mouth) (status : ℕ) 
     number : line_number ≡ suc (before + length (lent_lines passed))
     number = omega (arith, line_is)
 
-    -- want of memory, or a failed source, behind all answers
-    so_far : (more : List ℕ) → Passes middle f more → IsHeard (lent_lines (passed ++ more)) (lent_lines passed) → IsQuiet 6 z y status → Goal
-    so_far more passes_more heard quiet =
-        ended_told (SaysFrom e.ended (SaysTalk t before)) e f x y (passed ++ more) text 6 status
-        (passes_trans e middle f passed more passes passes_more) (λ four. absurd (omega arith)) (
-          inr (inr (record {
-            heard = lent_lines passed;
-            last = last;
-            answered = answers;
-            spoken_are = heard;
-            said_is = inr refl;
-          })),
-          never,
-        )
-        (quiet_behind 6 x z y text status utters quiet)
-
     -- a line at fault
     at_fault : (why : Misheard) (more : List ℕ) → Passes middle f more
-        → IsAtFault (Mishears last) (lent_lines (passed ++ more)) (lent_lines passed) f why
-        → Tells 3 (at_line line_number (misheard_word why)) z y status → Goal
-    at_fault why more passes_more fault told =
+        → IsAtFault (Mishears last) (lent_lines (passed ++ more)) (lent_lines passed) f why → Utters z z' []
+        → Tells 3 (at_line line_number (misheard_word why)) z' y status → Goal
+    at_fault why more passes_more fault nothing told =
         ended_told (SaysFrom e.ended (SaysTalk t before)) e f x y (passed ++ more) (text ++ at_line line_number (misheard_word why)) 3 status
         (passes_trans e middle f passed more passes passes_more) (λ four. absurd (omega arith)) (
           inr (inl (record {
@@ -129,21 +101,13 @@ module _ (t : Talking) (before : ℕ) (e f : Ears) (x y : Mouth) (status : ℕ) 
           })),
           never,
         )
-        (written_behind x z y text (at_line line_number (misheard_word why)) 3 status utters told)
+        (written_behind x z' y text (at_line line_number (misheard_word why)) 3 status (utters_same x z z' text utters nothing) told)
 
     halted_by : (stop : Stop) → StopsNext last middle f z z' stop → TellsStop stop line_number z' y status → Goal
-    halted_by (stops.Misheard why) (inl (more, line, passes_more, one, faults), same) tells =
-        let lines = lent_more passed more line whole one in
-        elim (subst (λ m. TellsIf 3 (at_line line_number (misheard_word why)) m y status) same tells) [
-          | inl told ↦ at_fault why more passes_more (inl (line, lines, faults)) told
-          | inr quiet ↦ so_far more passes_more (inr (line, lines)) quiet
-        ]
-    halted_by (stops.Misheard why) (inr (passes_none, not_a_line, long), same) tells =
-        let lines = ap lent_lines (append-nil passed) in
-        elim (subst (λ m. TellsIf 3 (at_line line_number (misheard_word why)) m y status) same tells) [
-          | inl told ↦ at_fault why [] passes_none (inr (lines, not_a_line, long)) told
-          | inr quiet ↦ so_far [] passes_none (inl lines) quiet
-        ]
+    halted_by (stops.Misheard why) (inl (more, line, passes_more, one, faults), nothing) tells =
+        at_fault why more passes_more (inl (line, lent_more passed more line whole one, faults)) nothing tells
+    halted_by (stops.Misheard why) (inr (passes_none, not_a_line, long), nothing) tells =
+        at_fault why [] passes_none (inr (ap lent_lines (append-nil passed), not_a_line, long)) nothing tells
     halted_by stops.Missing never_comes tells = absurd never_comes
     halted_by stops.Source ((reads, rose), same) tells = record {
       passed = passed ++ [];
@@ -152,37 +116,31 @@ module _ (t : Talking) (before : ℕ) (e f : Ears) (x y : Mouth) (status : ℕ) 
       reads = reads_trans e.left middle.left f.left e.waiting middle.waiting f.waiting passed [] passes.reads reads;
       says = (
         inr (inr (record {
-          heard = lent_lines passed;
           last = last;
-          answered = answers;
-          spoken_are = inl (ap lent_lines (append-nil passed));
-          said_is = inl refl;
+          answered = subst (λ l. Answers t (lent_lines l) last text) (sym (append-nil passed)) answers;
+          said_is = refl;
         })),
         never,
       );
       written = quiet_behind 4 x z y text status utters (subst (λ m. IsQuiet 4 m y status) same tells);
-      read_well = λ other. absurd (other refl);
+      read_well = λ other. absurd (other tells.0);
       read_fault = λ _. subst (λ n. Rose n f.faults) passes.well rose;
     }
     halted_by stops.Sink (more, line, u, passes_more, one, (h, cuts)) tells =
         let lines = lent_more passed more line whole one in
         let answer = text_of h.answer in
-        let cut : Tells 6 answer z z' 5 = inr (refl, cuts.0, cuts.1) in
-        let all : Tells 6 (text ++ answer) x z' 5 = written_behind x z z' text answer 6 5 utters cut in
-        ended_told (SaysFrom e.ended (SaysTalk t before)) e f x y (passed ++ more) (text ++ answer) 6 status
-        (passes_trans e middle f passed more passes passes_more) (λ four. absurd (omega arith)) (
+        let cut : Tells 4 answer z z' 5 = inr (refl, cuts.0, cuts.1) in
+        let all : Tells 4 (text ++ answer) x z' 5 = written_behind x z z' text answer 4 5 utters cut in
+        ended_well (SaysFrom e.ended (SaysTalk t before)) e f x y (passed ++ more) (text ++ answer) 4 status
+        (passes_trans e middle f passed more passes passes_more) (λ four. absurd (omega (arith, tells.0, four))) (
           inr (inr (record {
-            heard = lent_lines (passed ++ more);
             last = u;
             answered = subst (λ ls. Answers t ls u (text ++ answer)) (sym lines) (answers_more t last u (lent_lines passed) line text answers h);
-            spoken_are = inl refl;
-            said_is = inr refl;
+            said_is = refl;
           })),
           never,
         )
-        (subst (λ m. Tells 6 (text ++ answer) x m status) (sym tells.1) (subst (Tells 6 (text ++ answer) x z') (sym tells.0) all))
-    halted_by stops.Memory ((more, line, passes_more, one), same) tells =
-        so_far more passes_more (inr (line, lent_more passed more line whole one)) (subst (λ m. IsQuiet 6 m y status) same tells)
+        (subst (λ m. Tells 4 (text ++ answer) x m status) (sym tells.1) (subst (Tells 4 (text ++ answer) x z') (sym tells.0) all))
 
   -- a line was not heard, or not answered, and that is told
   pub halted : (open_ : e.ended ≡ false) (z' : Mouth) (halt : Halt) → (h : HaltsAll t (before + 1) e f x z' halt) → TellsStop halt.stop halt.line z' y status

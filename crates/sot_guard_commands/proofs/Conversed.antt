@@ -6,7 +6,6 @@ use Rattle.sot_tube.specs.Certified.{IsWellCertified}
 use Rattle.sot_trace_lines.specs.LentLines.{lent_lines}
 use Rattle.sot_guard_talk.specs.Openings.{Starting}
 use Rattle.sot_guard_commands.specs.declared.halt.Halt.{Halt}
-use Rattle.sot_guard_commands.specs.Conversations.{unopened}
 use Rattle.sot_guard_commands.specs.Moments.{Ears, Mouth, Ended}
 use Rattle.sot_guard_commands.specs.Says.{SaysRobot}
 use Rattle.sot_guard_commands.specs.Hearing.{AnswersFirsts, HaltsFirsts}
@@ -20,14 +19,7 @@ use Rattle.sot_guard_commands.proofs.Results.{silent}
 pub silent_first : (acc : Admitted) (e : Ears) (x : Mouth) → Ended (SaysIn (SaysRobot acc)) e e x x 6
 silent_first acc e x =
     silent (SaysIn (SaysRobot acc)) e x
-    (inr (inr (inr (record {
-      heard = [];
-      opening = unopened acc;
-      started = refl;
-      spoken_are = inl refl;
-      said_is = inr refl;
-      text_is = refl;
-    }))))
+    (inr (inr (inr (inr (inl refl, (refl, refl))))))
 
 module _ (acc : Admitted) (a : Starting) (same : a.accepted ≡ acc) (none : a.starts ≡ []) where
   -- a line does not say where the next plant is observed, and that is told

@@ -18,7 +18,7 @@ use Rattle.sot_guard_commands.specs.Moments.{Ears, Mouth, Passes, Utters, Ended}
 use Rattle.sot_guard_commands.specs.Says.{SaysRobot, SaysMission}
 use Rattle.sot_guard_commands.specs.Tellings.{TellsAnswer}
 use Rattle.sot_guard_commands.specs.Beginning.{SaysIn, SaysAccepted, SaysJudged}
-use Rattle.sot_guard_commands.proofs.Passing.{passes_nil, ended_behind, ended_so, ended_told, ended_quiet}
+use Rattle.sot_guard_commands.proofs.Passing.{passes_nil, ended_behind, ended_so, ended_well, ended_told, ended_quiet}
 
 module _ (e f : Ears) (x y : Mouth) (status : ℕ) where
   -- an answer is told
@@ -55,17 +55,15 @@ module _ (e f : Ears) (x y : Mouth) (status : ℕ) where
 pub greeted_in_part : (acc : Admitted) (e : Ears) (x y : Mouth) (text : List ℕ) (sent : ℕ) → text ≡ accepted_text acc.program acc.cert
     → Rose x.faults y.faults → sent < length text → Appends x.held y.held (take sent text) → Ended (SaysAccepted acc) e e x y 5
 greeted_in_part acc e x y text sent is rose below taken =
-    ended_told (SaysAccepted acc) e e x y [] text 6 5 (passes_nil e) (λ four. absurd (omega arith))
+    ended_well (SaysAccepted acc) e e x y [] text 4 5 (passes_nil e) (λ four. absurd (omega arith))
     (inl (
       [],
       is ∙ sym (append-nil (accepted_text acc.program acc.cert)),
-      inr (inr (inr (record {
-        heard = [];
+      inr (inr (inr (inl (record {
         opening = unopened acc;
         started = refl;
-        spoken_are = inl refl;
-        said_is = inr refl;
+        said_is = refl;
         text_is = refl;
-      }))),
+      })))),
     ))
     (inr (refl, rose, (sent, below, taken)))

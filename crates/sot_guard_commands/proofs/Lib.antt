@@ -1,5 +1,6 @@
 -- what goes over one step after another
 pub mod Passing
+pub mod Spooled
 -- lines that are heard one after another
 pub mod Answering
 pub mod NextLine
@@ -12,3 +13,5 @@ pub mod Conversed
 pub mod Judged
 -- what belongs to single answers
 pub mod Results
+-- why a robot that was answered is answered to the end
+pub mod NeverLater

@@ -2,14 +2,8 @@
 use Rattle.std.proofs.Common.{◌≡◌, ℕ, Bool, true, false, not, List, [], ◌++◌, Option, Result}
 use Rattle.std.proofs.Common.{Ok, Err, inl, take, drop, refl, sym, ap, ◌∙◌, take-append-drop, arith}
 use Rattle.std.proofs.Math.ListN.{drop_of_length-le}
-use Rattle.std.specs.String.{string_bytes}
-use Rattle.sot_spool.specs.declared.scratch.Scratch.{Scratch}
-use Rattle.sot_spool.specs.Scratches.{Keeps}
-use Rattle.sot_trace.specs.Traces.{text_of}
-use Rattle.sot_guard_talk.specs.declared.unheard.Heard.{Heard}
 use Rattle.sot_guard_talk.specs.Openings.{Starting}
-use Rattle.sot_guard_talk.specs.Talks.{Talking, Hears}
-use Rattle.sot_guard_talk.specs.TalkLaws.{HearsLine}
+use Rattle.sot_guard_talk.specs.Talks.{Talking}
 use Rattle.sot_guard_front.specs.declared.ear.Ear.{Ear}
 use Rattle.sot_guard_front.specs.Reading.{Reads, IsLine, ends_line}
 use Rattle.sot_guard_commands.specs.declared.halt.Stop.{Stop}
@@ -18,20 +12,6 @@ use Rattle.sot_guard_commands.specs.Moments.{Ears, Mouth, Passes, ears}
 use Rattle.sot_guard_commands.specs.Says.{IsAtEnds}
 use Rattle.sot_guard_commands.specs.Hearing.{PassesFirst, PassesTaken}
 use Rattle.sot_guard_commands.specs.Hearing.{AnswersFirst, HearsOne, StopsNext, AnswersNext}
-
--- a line is heard, and all of its answer stands in the text
-pub made : (t : Talking) (line : List ℕ) (h : Heard) (u : Talking) (a b : Scratch) → Hears t line h u (Keeps a b) → b.is_whole ≡ true
-    → string_bytes a.text.now ≡ [] → (k : HearsLine t line u) × (string_bytes b.text.now ≡ text_of k.answer)
-made t line h u a b hears whole empty = (
-  record {
-    saying = hears.saying;
-    said = hears.said;
-    heard = h;
-    answer = hears.lines;
-    takes = hears.takes;
-  },
-  (hears.put.1 whole).1 ∙ ap (λ l. l ++ text_of hears.lines) empty,
-)
 
 open_after : (b : Bool) → true ≡ not b → b ≡ false
 open_after true is = absurd cc
@@ -93,7 +73,6 @@ module _ (left left_after : Option (List ℕ)) (faults faults_after : ℕ) (e m 
     first_taken a b (Err stops.Missing) p = absurd p.takes
     first_taken a b (Err stops.Source) p = absurd p.takes
     first_taken a b (Err stops.Sink) p = absurd p.takes
-    first_taken a b (Err stops.Memory) p = (line_bytes, p.line, line_passed, p.is)
 
     module _ (t u : Talking) (x y : Mouth) where
       abbrev one_heard : PassesTaken t u len m f x y (Ok tt) → HearsOne t u before after x y
@@ -119,4 +98,3 @@ module _ (left left_after : Option (List ℕ)) (faults faults_after : ℕ) (e m 
       next_stopped stops.Missing p = absurd p.answers
       next_stopped stops.Source p = absurd p.answers
       next_stopped stops.Sink p = (line_bytes, p.line, u, line_passed, p.is, p.answers)
-      next_stopped stops.Memory p = ((line_bytes, p.line, line_passed, p.is), p.answers)

@@ -5,7 +5,7 @@ use Rattle.sot_ports.specs.Faults.{Rose}
 use Rattle.sot_tube.specs.Admitted.{Admitted}
 use Rattle.sot_trace_lines.specs.LentLines.{lent_lines}
 use Rattle.sot_guard_session.specs.declared.misheard.Misheard.{Misheard}
-use Rattle.sot_guard_talk.specs.Openings.{Starting, HasAll}
+use Rattle.sot_guard_talk.specs.Openings.{Starting, HasAll, IsNoStart}
 use Rattle.sot_guard_front.specs.Reading.{ends_line}
 use Rattle.sot_guard_front.proofs.Pieces.{reads_trans}
 use Rattle.sot_guard_commands.specs.declared.halt.Stop.{Stop}
@@ -14,11 +14,11 @@ use Rattle.sot_guard_commands.specs.declared.halt.Halt.{Halt}
 use Rattle.sot_guard_commands.specs.Lines.{misheard_word, missing_word, at_line}
 use Rattle.sot_guard_commands.specs.Conversations.{unopened, Starts}
 use Rattle.sot_guard_commands.specs.Moments.{Ears, Mouth, Passes, Ended}
-use Rattle.sot_guard_commands.specs.Says.{IsAtFault, IsHeard, IsOutside, SaysTalk, SaysRobot}
-use Rattle.sot_guard_commands.specs.Hearing.{HearsFirsts, HaltsFirsts, StopsFirst, NoStart}
-use Rattle.sot_guard_commands.specs.Tellings.{Tells, TellsStop, IsQuiet}
+use Rattle.sot_guard_commands.specs.Says.{IsAtFault, IsOutside, SaysTalk, SaysRobot}
+use Rattle.sot_guard_commands.specs.Hearing.{HearsFirsts, HaltsFirsts, StopsFirst}
+use Rattle.sot_guard_commands.specs.Tellings.{Tells, TellsStop}
 use Rattle.sot_guard_commands.specs.Beginning.{SaysIn, SaysFrom, SaysOpened}
-use Rattle.sot_guard_commands.proofs.Passing.{passes_trans, utters_nil, ended_behind, ended_told, ended_quiet}
+use Rattle.sot_guard_commands.proofs.Passing.{passes_trans, utters_nil, ended_behind, ended_told}
 use Rattle.sot_guard_commands.proofs.Closing.{quiet_behind}
 use Rattle.sot_guard_commands.proofs.Answering.{lent_behind, lent_more, starts_count, starts_same}
 
@@ -34,23 +34,9 @@ module _ (acc : Admitted) (e f : Ears) (x y : Mouth) (status : ℕ) where
 
   module _ (middle : Ears) (last : Starting) (passed : List ℕ) (line_number : ℕ) (passes : Passes e middle passed)
       (starts : Starts (unopened acc) (lent_lines passed) last) (line_is : line_number ≡ suc (length (lent_lines passed))) where
-    -- want of memory behind some starts
-    quiet : (more : List ℕ) → Passes middle f more → IsHeard (lent_lines (passed ++ more)) (lent_lines passed) → IsQuiet 6 x y status → Goal
-    quiet more passes_more heard is =
-        ended_quiet (SaysIn (SaysRobot acc)) e f x y (passed ++ more) status (passes_trans e middle f passed more passes passes_more)
-        (inr (inr (inr (record {
-          heard = lent_lines passed;
-          opening = last;
-          started = starts;
-          spoken_are = heard;
-          said_is = inr refl;
-          text_is = refl;
-        }))))
-        is
-
     -- a line at fault
     at_fault : (why : Misheard) (more : List ℕ) → Passes middle f more
-        → IsAtFault (NoStart last) (lent_lines (passed ++ more)) (lent_lines passed) f why
+        → IsAtFault (IsNoStart last) (lent_lines (passed ++ more)) (lent_lines passed) f why
         → Tells 3 (at_line line_number (misheard_word why)) x y status → Goal
     at_fault why more passes_more fault told =
         ended_told (SaysIn (SaysRobot acc)) e f x y (passed ++ more) (at_line line_number (misheard_word why)) 3 status
@@ -70,14 +56,11 @@ module _ (acc : Admitted) (e f : Ears) (x y : Mouth) (status : ℕ) where
     stopped_by : (stop : Stop) → (stop ≡ stops.Missing) ⊎ (ends_line passed ≡ true) → StopsFirst last middle f stop → TellsStop stop line_number x y status
         → Goal
     stopped_by (stops.Misheard why) (inl other) stop tells = absurd cc
-    stopped_by (stops.Misheard why) (inr whole) (inl (more, line, passes_more, one, faults)) (inl told) =
+    stopped_by (stops.Misheard why) (inr whole) (inl (more, line, passes_more, one, faults)) told =
         at_fault why more passes_more (inl (line, lent_more passed more line whole one, faults)) told
-    stopped_by (stops.Misheard why) (inr whole) (inl (more, line, passes_more, one, faults)) (inr is) =
-        quiet more passes_more (inr (line, lent_more passed more line whole one)) is
-    stopped_by (stops.Misheard why) (inr whole) (inr (passes_none, not_a_line, long)) (inl told) =
+    stopped_by (stops.Misheard why) (inr whole) (inr (passes_none, not_a_line, long)) told =
         at_fault why [] passes_none (inr (nothing_more, not_a_line, long)) told
-    stopped_by (stops.Misheard why) (inr whole) (inr (passes_none, not_a_line, long)) (inr is) = quiet [] passes_none (inl nothing_more) is
-    stopped_by stops.Missing whole (passes_none, ends) (inl told) =
+    stopped_by stops.Missing whole (passes_none, ends) told =
         ended_told (SaysIn (SaysRobot acc)) e f x y (passed ++ []) (at_line line_number missing_word) 3 status
         (passes_trans e middle f passed [] passes passes_none) (λ four. absurd (omega arith))
         (inr (inr (inl (record {
@@ -88,27 +71,22 @@ module _ (acc : Admitted) (e f : Ears) (x y : Mouth) (status : ℕ) where
           said_is = refl;
         }))))
         told
-    stopped_by stops.Missing whole (passes_none, ends) (inr is) = quiet [] passes_none (inl nothing_more) is
     stopped_by stops.Source whole (reads, rose) tells = record {
       passed = passed ++ [];
       said = 4;
       text = [];
       reads = reads_trans e.left middle.left f.left e.waiting middle.waiting f.waiting passed [] passes.reads reads;
-      says = inr (inr (inr (record {
-        heard = lent_lines passed;
+      says = inr (inr (inr (inl (record {
         opening = last;
-        started = starts;
-        spoken_are = inl nothing_more;
-        said_is = inl refl;
+        started = subst (λ ls. Starts (unopened acc) ls last) (sym nothing_more) starts;
+        said_is = refl;
         text_is = refl;
-      })));
+      }))));
       written = quiet_behind 4 x x y [] status (utters_nil x) tells;
-      read_well = λ other. absurd (other refl);
+      read_well = λ other. absurd (other tells.0);
       read_fault = λ _. subst (λ n. Rose n f.faults) passes.well rose;
     }
     stopped_by stops.Sink whole never_comes tells = absurd never_comes
-    stopped_by stops.Memory (inl other) stop tells = absurd cc
-    stopped_by stops.Memory (inr whole) (more, line, passes_more, one) is = quiet more passes_more (inr (line, lent_more passed more line whole one)) is
 
   -- a line does not say where the next plant is observed, and that is told
   pub stopped_first : (halt : Halt) → HaltsFirsts (unopened acc) e f halt → TellsStop halt.stop halt.line x y status
@@ -156,14 +134,8 @@ module _ (acc : Admitted) (e f : Ears) (x y : Mouth) (status : ℕ) where
           said_is = is;
         }))
     says_robot said bytes text (inr (inr (empty, (is, nothing))), none) =
-        inr (inr (inr (record {
-          heard = lent_lines h.passed;
-          opening = b;
-          started = h.starts;
-          spoken_are = inl (alone bytes none empty);
-          said_is = inr is;
-          text_is = nothing;
-        })))
+        let started = subst (λ ls. Starts (unopened acc) ls b) (sym (alone bytes none empty)) h.starts in
+        inr (inr (inr (inr (inr (b, started, all), (is, nothing)))))
 
     -- what is said behind the starts of all plants
     pub opened : Ended (SaysFrom m.ended (SaysOpened b)) m f x y status → Ended (SaysIn (SaysRobot acc)) e f x y status

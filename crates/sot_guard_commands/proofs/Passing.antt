@@ -1,5 +1,5 @@
 -- What goes over one step after another.
-use Rattle.std.proofs.Common.{ℕ, ◌+◌, List, [], ◌++◌, inl, inr, length, take, refl, sym, ap, ◌∙◌, subst, arith}
+use Rattle.std.proofs.Common.{ℕ, ◌+◌, List, [], ◌++◌, inl, inr, length, take, refl, sym, ap, ◌∙◌, subst, append-nil, arith}
 use Rattle.std.specs.Prelude.{◌≢◌}
 use Rattle.std.proofs.lemmas.List.{length-append}
 use Rattle.std.proofs.Math.Seq.{take-append-add}
@@ -27,6 +27,10 @@ utters_trans x y z s t first second = record {
   taken = Appends-trans x.held y.held z.held s t first.taken second.taken;
   well = second.well ∙ first.well;
 }
+
+-- nothing was written behind a text
+pub utters_same : (x y z : Mouth) (text : List ℕ) → Utters x y text → Utters y z [] → Utters x z text
+utters_same x y z text first nothing = subst (Utters x z) (append-nil text) (utters_trans x y z text [] first nothing)
 
 -- a text was written behind another
 pub written_behind : (x z y : Mouth) (t text : List ℕ) (said status : ℕ) → Utters x z t → Tells said text z y status → Tells said (t ++ text) x y status
@@ -70,10 +74,10 @@ ended_so P Q e f x y status other r = record {
   read_fault = r.read_fault;
 }
 
--- a text is told, and no byte was passed behind so many
-pub ended_told : (P : Ears → ℕ → List ℕ → List ℕ → Type 0) (e f : Ears) (x y : Mouth) (passed text : List ℕ) (said status : ℕ) → Passes e f passed
-    → said ≢ 4 → P f said passed text → Tells said text x y status → Ended P e f x y status
-ended_told P e f x y passed text said status passes other says told = record {
+-- a text is told with another status than 4, and no byte was passed behind so many
+pub ended_well : (P : Ears → ℕ → List ℕ → List ℕ → Type 0) (e f : Ears) (x y : Mouth) (passed text : List ℕ) (said status : ℕ) → Passes e f passed
+    → status ≢ 4 → P f said passed text → Tells said text x y status → Ended P e f x y status
+ended_well P e f x y passed text said status passes other says told = record {
   passed = passed;
   said = said;
   text = text;
@@ -83,6 +87,16 @@ ended_told P e f x y passed text said status passes other says told = record {
   read_well = λ _. passes.well;
   read_fault = λ is. absurd (other is);
 }
+
+told_well : (said : ℕ) (text : List ℕ) (x y : Mouth) (status : ℕ) → said ≢ 4 → Tells said text x y status → status ≢ 4
+told_well said text x y status other (inl (is, well, taken)) = λ four. absurd (other (sym is ∙ four))
+told_well said text x y status other (inr (five, rose, part)) = λ four. absurd (omega (arith, five, four))
+
+-- a text is told that belongs to another status than 4
+pub ended_told : (P : Ears → ℕ → List ℕ → List ℕ → Type 0) (e f : Ears) (x y : Mouth) (passed text : List ℕ) (said status : ℕ) → Passes e f passed
+    → said ≢ 4 → P f said passed text → Tells said text x y status → Ended P e f x y status
+ended_told P e f x y passed text said status passes other says told =
+    ended_well P e f x y passed text said status passes (told_well said text x y status other told) says told
 
 -- nothing is told
 pub ended_quiet : (P : Ears → ℕ → List ℕ → List ℕ → Type 0) (e f : Ears) (x y : Mouth) (passed : List ℕ) (status : ℕ) → Passes e f passed

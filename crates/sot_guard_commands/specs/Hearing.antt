@@ -2,13 +2,11 @@
 use Rattle.std.specs.Prelude.{◌≡◌, ℕ, suc, ◌+◌, ◌-◌, ◌^◌, ◌<◌, ◌⊎◌, Bool, true, false, List, []}
 use Rattle.std.specs.Prelude.{◌∷◌, Option, Some, None, Result, Ok, Err, length, take, drop}
 use Rattle.std.specs.Io.KnownBytes.{Appends, IsAtEnd}
-use Rattle.std.specs.String.{string_bytes}
 use Rattle.sot_ports.specs.Faults.{Rose}
 use Rattle.sot_trace.specs.Traces.{text_of}
 use Rattle.sot_trace_lines.specs.LentLines.{lent_lines}
 use Rattle.sot_guard_session.specs.declared.misheard.Misheard.{Misheard}
 use Rattle.sot_guard_session.specs.declared.misheard.Misheard.TheVariants.{NotALine}
-use Rattle.sot_guard_talk.specs.declared.unheard.Unheard.TheVariants as unheard
 use Rattle.sot_guard_talk.specs.Openings.{Starting, HasAll, TakesStart, IsNoStart}
 use Rattle.sot_guard_talk.specs.Talks.{Talking, Mishears, IsOver}
 use Rattle.sot_guard_talk.specs.TalkLaws.{HearsLine}
@@ -17,7 +15,6 @@ use Rattle.sot_guard_front.specs.Reading.{Reads, IsSettled, IsLine, ends_line}
 use Rattle.sot_guard_commands.specs.declared.halt.Stop.{Stop}
 use Rattle.sot_guard_commands.specs.declared.halt.Stop.TheVariants as stops
 use Rattle.sot_guard_commands.specs.declared.halt.Halt.{Halt}
-use Rattle.sot_guard_commands.specs.declared.speaker.Speaker.{Speaker}
 use Rattle.sot_guard_commands.specs.Conversations.{Starts, Answers}
 use Rattle.sot_guard_commands.specs.Moments.{Ears, Mouth, Passes, Utters}
 use Rattle.sot_guard_commands.specs.Says.{IsAtEnds, IsLong}
@@ -37,17 +34,12 @@ IsNoLine (stops.Misheard why) a b = (why ≡ NotALine) × IsLong b × (b.faults 
 IsNoLine stops.Missing a b = ⊥
 IsNoLine stops.Source a b = Rose a.faults b.faults
 IsNoLine stops.Sink a b = ⊥
-IsNoLine stops.Memory a b = ⊥
 
 -- the line that was passed is at fault, so that this holds; or the next one is too long
 abbrev pub Misses : (List ℕ → Misheard → Type 0) → Ears → Ears → Misheard → Type 0
 Misses Faults a b why =
     ((passed line : List ℕ) × Passes a b passed × IsOneLine passed line × Faults line why)
     ⊎ (Passes a b [] × (why ≡ NotALine) × IsLong b)
-
--- a line was passed
-abbrev pub PassesLine : Ears → Ears → Type 0
-PassesLine a b = (passed line : List ℕ) × Passes a b passed × IsOneLine passed line
 
 -- the source has failed, and nothing was passed
 abbrev pub FailsToRead : Ears → Ears → Type 0
@@ -59,18 +51,13 @@ CutsOff x y text =
     Rose x.faults y.faults
     × ((n : ℕ) × (n < length text) × Appends x.held y.held (take n text))
 
--- why a line does not say where the next plant is observed
-abbrev pub NoStart : Starting → List ℕ → Misheard → Type 0
-NoStart a line why = IsNoStart a line (unheard.Misheard why)
-
 -- a line says where the next plant is observed; or it does not, and why
 abbrev pub TakesFirst : Starting → List ℕ → Starting → Result (Unit {0}) Stop → Type 0
 TakesFirst a line b (Ok ok) = TakesStart a line b
-TakesFirst a line b (Err (stops.Misheard why)) = (b ≡ a) × NoStart a line why
+TakesFirst a line b (Err (stops.Misheard why)) = (b ≡ a) × IsNoStart a line why
 TakesFirst a line b (Err stops.Missing) = ⊥
 TakesFirst a line b (Err stops.Source) = ⊥
 TakesFirst a line b (Err stops.Sink) = ⊥
-TakesFirst a line b (Err stops.Memory) = b ≡ a
 
 -- .. of the first so many bytes that wait
 pub record PassesFirst (a b : Starting) (len : ℕ) (e f : Ear) (result : Result (Unit {0}) Stop)
@@ -93,11 +80,10 @@ pub record HearsFirst (a b : Starting) (e f : Ears) : Type 0 where
 
 -- it does not, and why
 abbrev pub StopsFirst : Starting → Ears → Ears → Stop → Type 0
-StopsFirst a e f (stops.Misheard why) = Misses (NoStart a) e f why
+StopsFirst a e f (stops.Misheard why) = Misses (IsNoStart a) e f why
 StopsFirst a e f stops.Missing = Passes e f [] × IsAtEnds f
 StopsFirst a e f stops.Source = FailsToRead e f
 StopsFirst a e f stops.Sink = ⊥
-StopsFirst a e f stops.Memory = PassesLine e f
 
 abbrev pub AnswersFirst : Starting → Starting → Ears → Ears → Result (Unit {0}) Stop → Type 0
 AnswersFirst a b e f (Ok ok) = HearsFirst a b e f
@@ -126,27 +112,17 @@ abbrev pub AnswersFirsts : Starting → Starting → Ears → Ears → Result (U
 AnswersFirsts a b e f (Ok ok) = HearsFirsts a b e f × HasAll b
 AnswersFirsts a b e f (Err halt) = HaltsFirsts a e f halt
 
--- a line is heard, and the text of its answer made; or not, and why
-abbrev pub MakesAnswer : Talking → List ℕ → Speaker → Result (Unit {0}) Stop → Type 0
-MakesAnswer t line s (Ok ok) =
-    (h : HearsLine t line s.talk) × (string_bytes s.text ≡ text_of h.answer)
-MakesAnswer t line s (Err (stops.Misheard why)) = (s.talk ≡ t) × Mishears t line why
-MakesAnswer t line s (Err stops.Missing) = ⊥
-MakesAnswer t line s (Err stops.Source) = ⊥
-MakesAnswer t line s (Err stops.Sink) = ⊥
-MakesAnswer t line s (Err stops.Memory) = Unit {0}
-
--- .. and written
+-- a line is heard, and answered; or it is not heard, and nothing is written; or the sink has failed
+-- in its answer
 abbrev pub AnswersLine : Talking → List ℕ → Talking → Mouth → Mouth → Result (Unit {0}) Stop
     → Type 0
 AnswersLine t line u x y (Ok ok) =
     (h : HearsLine t line u) × Utters x y (text_of h.answer)
-AnswersLine t line u x y (Err (stops.Misheard why)) = Mishears t line why × (y ≡ x)
+AnswersLine t line u x y (Err (stops.Misheard why)) = Mishears t line why × Utters x y []
 AnswersLine t line u x y (Err stops.Missing) = ⊥
 AnswersLine t line u x y (Err stops.Source) = ⊥
 AnswersLine t line u x y (Err stops.Sink) =
     (h : HearsLine t line u) × CutsOff x y (text_of h.answer)
-AnswersLine t line u x y (Err stops.Memory) = y ≡ x
 
 -- .. of the first so many bytes that wait
 pub record PassesTaken (t u : Talking) (len : ℕ) (e f : Ear) (x y : Mouth)
@@ -179,13 +155,12 @@ HearsLast t u e f x y =
 
 -- the next line is not heard, or not answered, and why
 abbrev pub StopsNext : Talking → Ears → Ears → Mouth → Mouth → Stop → Type 0
-StopsNext t e f x y (stops.Misheard why) = Misses (Mishears t) e f why × (y ≡ x)
+StopsNext t e f x y (stops.Misheard why) = Misses (Mishears t) e f why × Utters x y []
 StopsNext t e f x y stops.Missing = ⊥
 StopsNext t e f x y stops.Source = FailsToRead e f × (y ≡ x)
 StopsNext t e f x y stops.Sink =
     (passed line : List ℕ) × (u : Talking) × Passes e f passed × IsOneLine passed line
     × ((h : HearsLine t line u) × CutsOff x y (text_of h.answer))
-StopsNext t e f x y stops.Memory = PassesLine e f × (y ≡ x)
 
 abbrev pub AnswersNext : Talking → Talking → Ears → Ears → Mouth → Mouth → Result Bool Stop
     → Type 0

@@ -38,7 +38,8 @@ pub record Utters (x y : Mouth) (text : List ℕ) : Type 0 where
 
 -- how a call ends that reads and writes: so many bytes were passed, and with the status `said` this
 -- text belongs to them, by `Says`; all of it was written, and the call ends with this status; or
--- the sink failed before its end, and it ends with 5. A read failed only where `said` is 4
+-- the sink failed before its end, and it ends with 5. A read failed where it ends with 4, and there
+-- alone
 pub record Ended (Says : Ears → ℕ → List ℕ → List ℕ → Type 0) (a b : Ears) (x y : Mouth)
     (status : ℕ) : Type 0 where
   pub passed : List ℕ
@@ -47,5 +48,5 @@ pub record Ended (Says : Ears → ℕ → List ℕ → List ℕ → Type 0) (a b
   pub reads : Reads a.left b.left a.waiting b.waiting passed
   pub says : Says b said passed text
   pub written : Written x.held y.held x.faults y.faults said text status
-  pub read_well : said ≢ 4 → b.faults ≡ a.faults
-  pub read_fault : said ≡ 4 → Rose a.faults b.faults
+  pub read_well : status ≢ 4 → b.faults ≡ a.faults
+  pub read_fault : status ≡ 4 → Rose a.faults b.faults

@@ -28,7 +28,6 @@ use Rattle.sot_line_buffer.specs.Waiting.{longest, has_end}
 use Rattle.sot_guard_session.specs.declared.misheard.Misheard.{Misheard}
 use Rattle.sot_guard_session.specs.declared.misheard.Misheard.TheVariants.{NotALine}
 use Rattle.sot_guard_text.specs.Lines.{end_line}
-use Rattle.sot_guard_talk.specs.declared.unheard.Unheard.TheVariants as unheard
 use Rattle.sot_guard_talk.specs.Openings.{Starting, HasAll, IsNoStart}
 use Rattle.sot_guard_talk.specs.Talks.{Talking, time_of, Mishears, IsOver}
 use Rattle.sot_guard_front.specs.Fronts.{HasNone, IsFront, IsMark, IsTooLong}
@@ -44,11 +43,8 @@ IsAtEnds b = (b.ended ≡ true) × (b.waiting ≡ []) × IsAtEnd b.left
 abbrev pub IsLong : Ears → Type 0
 IsLong b = (has_end b.waiting ≡ false) × (length b.waiting ≡ longest)
 
--- what is spoken are lines that were heard, and perhaps one more
-abbrev pub IsHeard : List (List ℕ) → List (List ℕ) → Type 0
-IsHeard spoken heard = (spoken ≡ heard) ⊎ ((line : List ℕ) × (spoken ≡ heard ++ line ∷ []))
-
--- .. and then a line at fault: this holds of it, or it is longer than a line may be
+-- what is spoken are lines that were heard, and then a line at fault: this holds of it, or it is
+-- longer than a line may be
 abbrev pub IsAtFault : (List ℕ → Misheard → Type 0) → List (List ℕ) → List (List ℕ) → Ears
     → Misheard → Type 0
 IsAtFault Faults spoken heard b why =
@@ -81,14 +77,12 @@ pub record Mistakes (t : Talking) (before : ℕ) (b : Ears) (said : ℕ) (spoken
   pub said_is : said ≡ 3
   pub text_is : text ≡ answers ++ at_line (suc (before + length heard)) (misheard_word why)
 
--- the answers so far: the source has failed, or there is no memory
+-- the answers to all lines so far: the source has failed
 pub record GoesSoFar (t : Talking) (said : ℕ) (spoken : List (List ℕ)) (text : List ℕ) : Type 0
   where
-    pub heard : List (List ℕ)
     pub last : Talking
-    pub answered : Answers t heard last text
-    pub spoken_are : IsHeard spoken heard
-    pub said_is : (said ≡ 4) ⊎ (said ≡ 6)
+    pub answered : Answers t spoken last text
+    pub said_is : said ≡ 4
 
 -- what is said in a talk, of which there were so many lines before
 abbrev pub SaysTalk : Talking → ℕ → Ears → ℕ → List (List ℕ) → List ℕ → Type 0
@@ -132,26 +126,39 @@ pub record MistakesStart (acc : Admitted) (b : Ears) (said : ℕ) (spoken : List
   pub opening : Starting
   pub started : Starts (unopened acc) heard opening
   pub fault : ((why : Misheard)
-      × IsAtFault (λ line y. IsNoStart opening line (unheard.Misheard y)) spoken heard b why
+      × IsAtFault (IsNoStart opening) spoken heard b why
       × (text ≡ at_line (suc (length heard)) (misheard_word why)))
       ⊎ ((spoken ≡ heard) × IsAtEnds b × (text ≡ at_line (suc (length heard)) missing_word))
   pub said_is : said ≡ 3
 
--- nothing so far: the source has failed, or there is no memory
+-- nothing so far: the source has failed
 pub record StartsSoFar (acc : Admitted) (said : ℕ) (spoken : List (List ℕ)) (text : List ℕ)
     : Type 0 where
-  pub heard : List (List ℕ)
   pub opening : Starting
-  pub started : Starts (unopened acc) heard opening
-  pub spoken_are : IsHeard spoken heard
-  pub said_is : (said ≡ 4) ⊎ (said ≡ 6)
+  pub started : Starts (unopened acc) spoken opening
+  pub said_is : said ≡ 4
   pub text_is : text ≡ []
+
+-- there is no memory to say anything
+abbrev pub IsSilent : ℕ → List ℕ → Type 0
+IsSilent said text = (said ≡ 6) × (text ≡ [])
+
+-- no line was heard yet; or each plant was observed, and nothing was heard behind those lines
+abbrev pub IsBefore : Admitted → List (List ℕ) → Type 0
+IsBefore acc spoken =
+    (spoken ≡ [])
+    ⊎ ((opening : Starting) × Starts (unopened acc) spoken opening × HasAll opening)
+
+-- there is no memory for a talk, which does not begin
+abbrev pub NeverBegins : Admitted → ℕ → List (List ℕ) → List ℕ → Type 0
+NeverBegins acc said spoken text = IsBefore acc spoken × IsSilent said text
 
 -- what is said behind the answer to an accepted mission
 abbrev pub SaysRobot : Admitted → Ears → ℕ → List (List ℕ) → List ℕ → Type 0
 SaysRobot acc b said spoken text =
     Talks acc b said spoken text ⊎ RefusesStart acc said spoken text
     ⊎ MistakesStart acc b said spoken text ⊎ StartsSoFar acc said spoken text
+    ⊎ NeverBegins acc said spoken text
 
 -- a mission is accepted, every run of it is safe, that is said first, and then what belongs to what
 -- a robot says
@@ -161,10 +168,6 @@ pub record Accepts (m : Mission) (b : Ears) (said : ℕ) (bytes text : List ℕ)
   pub more : List ℕ
   pub text_is : text ≡ accepted_text m.tables m.cert ++ more
   pub says : SaysRobot (record { program = m.tables; cert = m.cert }) b said (lent_lines bytes) more
-
--- there is no memory to say anything
-abbrev pub IsSilent : ℕ → List ℕ → Type 0
-IsSilent said text = (said ≡ 6) × (text ≡ [])
 
 -- what is said of a front, and of the bytes behind its mark
 abbrev pub SaysMission : List ℕ → Ears → ℕ → List ℕ → List ℕ → Type 0

@@ -1,18 +1,16 @@
 //! Why nothing more is heard of a robot, and what is said of it.
 
-ghost use Rattle.std.specs.Prelude.{◌≡◌, OnOk};
-ghost use Rattle.std.specs.String.{string_bytes};
+ghost use Rattle.std.specs.Prelude.{◌≡◌};
 ghost use Rattle.sot_guard_commands.specs.Lines.{misheard_word, at_line};
 ghost use Rattle.sot_guard_commands.specs.Moments.{mouth};
-ghost use Rattle.sot_guard_commands.specs.Tellings.{TellsIf, TellsStop};
+ghost use Rattle.sot_guard_commands.specs.Tellings.{Tells, TellsStop};
 
-use crate::tell::tell_text;
+use crate::tell::tell_put;
 use sot_answers::Status;
 use sot_guard_session::Misheard;
 use sot_ports::Sink;
-use sot_spool::{Out, Scratch};
+use sot_spool::{Out, Spool};
 use sot_trace::put_count;
-use std::alloc::AllocError;
 
 /// Why nothing more is heard.
 #[derive(Clone, Copy, Debug, PartialEq, Eq)]
@@ -25,8 +23,6 @@ pub(crate) enum Stop {
     Source,
     /// The sink has failed.
     Sink,
-    /// There is no memory.
-    Memory,
 }
 
 /// The same, and the number of the line that was heard or waited for.
@@ -60,38 +56,27 @@ fn put_fault<O: Out>(out: &mut O, line: usize, word: &str)
     out.put_byte(b'\n')
 }
 
-/// The line of a fault in place of a text. The error is want of memory.
-pub(crate) fn fault_line(text: &mut String, line: usize, word: &str) -> Result<(), AllocError>
-    ensures { OnOk result (string_bytes text.new ≡ at_line line word.now) }
-{
-    text.clear();
-    let mut scratch = Scratch::new(text);
-    put_fault(&mut scratch, line, word);
-    scratch.end()
-}
-
 // The line of a fault is written, with status 3.
-fn tell_fault<K: Sink>(text: &mut String, line: usize, word: &str, sink: &mut K) -> Status
-    ensures { TellsIf 3 (at_line line word.now) (mouth (K.held sink.old) (K.faults sink.old))
+fn tell_fault<K: Sink>(waiting: &mut Vec<u8>, line: usize, word: &str, sink: &mut K) -> Status
+    ensures { Tells 3 (at_line line word.now) (mouth (K.held sink.old) (K.faults sink.old))
         (mouth (K.held sink.new) (K.faults sink.new)) result.0 }
 {
-    match fault_line(text, line, word) {
-        Ok(()) => tell_text(text.as_bytes(), 3, sink),
-        Err(_) => Status(6),
-    }
+    waiting.clear();
+    let mut spool = Spool::new(waiting, sink);
+    put_fault(&mut spool, line, word);
+    tell_put(&mut spool, 3)
 }
 
-/// Writes why nothing more is heard, in place of a text. Where the sink has failed, nothing more is
-/// given to it.
-pub(crate) fn stopped<K: Sink>(text: &mut String, halt: Halt, sink: &mut K) -> Status
+/// Writes why nothing more is heard, through bytes whose room is lent. Where the sink has failed,
+/// nothing more is given to it.
+pub(crate) fn stopped<K: Sink>(waiting: &mut Vec<u8>, halt: Halt, sink: &mut K) -> Status
     ensures { TellsStop halt.stop halt.line (mouth (K.held sink.old) (K.faults sink.old))
         (mouth (K.held sink.new) (K.faults sink.new)) result.0 }
 {
     match halt.stop {
-        Stop::Misheard(why) => tell_fault(text, halt.line, misheard_word(why), sink),
-        Stop::Missing => tell_fault(text, halt.line, "Missing", sink),
+        Stop::Misheard(why) => tell_fault(waiting, halt.line, misheard_word(why), sink),
+        Stop::Missing => tell_fault(waiting, halt.line, "Missing", sink),
         Stop::Source => Status(4),
         Stop::Sink => Status(5),
-        Stop::Memory => Status(6),
     }
 }

@@ -3,59 +3,69 @@
 ghost use Rattle.std.specs.Prelude.{◌≡◌, false};
 ghost use Rattle.sot_guard_front.specs.Reading.{IsLine};
 ghost use Rattle.sot_guard_commands.specs.Moments.{ears, mouth};
-ghost use Rattle.sot_guard_commands.specs.Hearing.{MakesAnswer, AnswersLine, PassesTaken};
+ghost use Rattle.sot_guard_commands.specs.Hearing.{AnswersLine, PassesTaken};
 ghost use Rattle.sot_guard_commands.specs.Hearing.{AnswersNext, AnswersAll};
+ghost use Rattle.sot_guard_commands.specs.Says.{end_status};
 ghost use Rattle.sot_guard_commands.specs.Tellings.{TellsStop, TellsEnd};
 
 use crate::halt::{Halt, Stop, stopped};
 use crate::line::{next_line, without_end};
-use crate::tell::tell_text;
+use crate::tell::tell_put;
 use sot_answers::Status;
 use sot_guard_front::Ear;
-use sot_guard_talk::{Talk, Unheard};
-use sot_ports::{Sink, Source, write_whole};
-use sot_spool::Scratch;
+use sot_guard_talk::Talk;
+use sot_ports::{Sink, Source};
+use sot_spool::Spool;
 
-/// A talk, and room for its answers.
+/// A talk, and the bytes through which its answers are written, with all their room.
 #[derive(Drop)]
 pub(crate) struct Speaker<'a> {
     pub talk: Talk<'a>,
-    pub text: String,
+    pub waiting: Vec<u8>,
+}
+
+// Hears a line, and writes its answer through these bytes. Nothing is written of a line that is not
+// heard.
+fn answer<K: Sink>(
+    talk: &mut Talk<'_>,
+    line: &[u8],
+    waiting: &mut Vec<u8>,
+    sink: &mut K,
+) -> Result<(), Stop>
+    ensures { AnswersLine talk.old line.now talk.new (mouth (K.held sink.old) (K.faults sink.old))
+        (mouth (K.held sink.new) (K.faults sink.new)) result }
+{
+    waiting.clear();
+    let mut spool = Spool::new(waiting, sink);
+    match talk.hear(line, &mut spool) {
+        Ok(_) => match spool.end() {
+            Ok(()) => Ok(()),
+            Err(_) => Err(Stop::Sink),
+        },
+        Err(why) => Err(Stop::Misheard(why)),
+    }
+}
+
+// 1 where a plant was told to be outside its model, and else 0.
+fn end_status(talk: &Talk<'_>) -> u8
+    ensures { result ≡ end_status talk.now }
+{
+    if talk.trusted() { 0 } else { 1 }
+}
+
+// Writes the last line through these bytes.
+fn tell_end<K: Sink>(talk: &Talk<'_>, waiting: &mut Vec<u8>, sink: &mut K) -> Status
+    ensures { TellsEnd talk.now (mouth (K.held sink.old) (K.faults sink.old))
+        (mouth (K.held sink.new) (K.faults sink.new)) result.0 }
+{
+    let status = end_status(talk);
+    waiting.clear();
+    let mut spool = Spool::new(waiting, sink);
+    talk.end(&mut spool);
+    tell_put(&mut spool, status)
 }
 
 impl<'a> Speaker<'a> {
-    // Hears a line, and makes the text of its answer.
-    fn hear(&mut self, line: &[u8]) -> Result<(), Stop>
-        ensures { MakesAnswer self.old.talk line.now self.new result }
-    {
-        self.text.clear();
-        let mut scratch = Scratch::new(&mut self.text);
-        match self.talk.hear(line, &mut scratch) {
-            Ok(_) => match scratch.end() {
-                Ok(()) => Ok(()),
-                Err(_) => Err(Stop::Memory),
-            },
-            Err(Unheard::Misheard(why)) => Err(Stop::Misheard(why)),
-            Err(Unheard::Memory) => Err(Stop::Memory),
-        }
-    }
-
-    // Hears a line, and writes its answer.
-    fn answer<K: Sink>(&mut self, line: &[u8], sink: &mut K) -> Result<(), Stop>
-        ensures { AnswersLine self.old.talk line.now self.new.talk
-            (mouth (K.held sink.old) (K.faults sink.old))
-            (mouth (K.held sink.new) (K.faults sink.new)) result }
-    {
-        match self.hear(line) {
-            Ok(()) => {}
-            Err(stop) => return Err(stop),
-        }
-        match write_whole(sink, self.text.as_bytes()) {
-            Ok(()) => Ok(()),
-            Err(_) => Err(Stop::Sink),
-        }
-    }
-
     // The first line that waits is heard, answered and passed.
     fn take<K: Sink>(&mut self, ear: &mut Ear, len: usize, sink: &mut K) -> Result<(), Stop>
         requires { (left : _) × IsLine len left ear.old }
@@ -63,7 +73,8 @@ impl<'a> Speaker<'a> {
             (mouth (K.held sink.old) (K.faults sink.old))
             (mouth (K.held sink.new) (K.faults sink.new)) result }
     {
-        let answered = self.answer(without_end(&ear.bytes()[..len]), sink);
+        let line = without_end(&ear.bytes()[..len]);
+        let answered = answer(&mut self.talk, line, &mut self.waiting, sink);
         ear.pass(len);
         answered
     }
@@ -126,16 +137,7 @@ impl<'a> Speaker<'a> {
         ensures { TellsEnd self.old.talk (mouth (K.held sink.old) (K.faults sink.old))
             (mouth (K.held sink.new) (K.faults sink.new)) result.0 }
     {
-        self.text.clear();
-        let mut scratch = Scratch::new(&mut self.text);
-        self.talk.end(&mut scratch);
-        match scratch.end() {
-            Ok(()) => {
-                let status = if self.talk.trusted() { 0 } else { 1 };
-                tell_text(self.text.as_bytes(), status, sink)
-            }
-            Err(_) => Status(6),
-        }
+        tell_end(&self.talk, &mut self.waiting, sink)
     }
 
     /// Writes why nothing more is heard.
@@ -143,6 +145,6 @@ impl<'a> Speaker<'a> {
         ensures { TellsStop halt.stop halt.line (mouth (K.held sink.old) (K.faults sink.old))
             (mouth (K.held sink.new) (K.faults sink.new)) result.0 }
     {
-        stopped(&mut self.text, halt, sink)
+        stopped(&mut self.waiting, halt, sink)
     }
 }

@@ -8,7 +8,7 @@ ghost use Rattle.sot_guard_commands.specs.Hearing.{PassesFirst, AnswersFirst, An
 use crate::halt::{Halt, Stop};
 use crate::line::{next_line, without_end};
 use sot_guard_front::Ear;
-use sot_guard_talk::{Opening, Unheard};
+use sot_guard_talk::Opening;
 use sot_ports::Source;
 
 // The first line that waits says where the next plant was observed, and is passed.
@@ -20,8 +20,7 @@ fn take_start(opening: &mut Opening<'_>, ear: &mut Ear, len: usize) -> Result<()
     ear.pass(len);
     match heard {
         Ok(()) => Ok(()),
-        Err(Unheard::Misheard(why)) => Err(Stop::Misheard(why)),
-        Err(Unheard::Memory) => Err(Stop::Memory),
+        Err(why) => Err(Stop::Misheard(why)),
     }
 }
 

@@ -22,17 +22,10 @@ use sot_guard_talk::{Opening, Talk};
 use sot_lang::Typed;
 use sot_ports::{Sink, Source};
 use sot_report::start_text;
+use sot_spool::room;
 use sot_tube::Accepted;
 use sot_world::OpenFail;
 use std::alloc::{AllocError, Global};
-
-// Room for the answer to a line: each line of it has 2,048 bytes at most, since names have 64 and a
-// node writes eight numbers at most, each behind the names of a topic and of a field.
-fn room_for_answers(p: &Typed) -> usize {
-    let lines = p.modules.len().saturating_add(p.nodes.len());
-    let lines = lines.saturating_add(p.plants.len()).saturating_add(1);
-    lines.saturating_mul(2048)
-}
 
 // Status 1: the line of a plant that was observed first outside this module's safer region.
 fn not_safer(alloc: Global, p: &Typed, starts: &[Point], module: u32) -> Result<Answer, AllocError>
@@ -76,7 +69,7 @@ fn begin<S: Source, K: Sink>(
     alloc: Global,
     p: &Typed,
     opening: Opening<'_>,
-    text: String,
+    waiting: Vec<u8>,
     ear: &mut Ear,
     source: &mut S,
     sink: &mut K,
@@ -97,13 +90,14 @@ fn begin<S: Source, K: Sink>(
         Err(_) => return Status(6),
     };
     match Talk::begin(alloc, opening) {
-        Ok(talk) => talk_on(Speaker { talk, text }, starts.len(), ear, source, sink),
+        Ok(talk) => talk_on(Speaker { talk, waiting }, starts.len(), ear, source, sink),
         Err(OpenFail::NotSafer { module }) => tell(not_safer(alloc, p, &starts, module), sink),
         Err(OpenFail::Memory) => Status(6),
     }
 }
 
-/// Hears where each plant is observed first, and then answers line by line what is said.
+/// Hears where each plant is observed first, and then answers line by line what is said. The bytes
+/// through which answers are written have all their room before the first line.
 pub(crate) fn converse<S: Source, K: Sink>(
     alloc: Global,
     accepted: &Accepted<'_>,
@@ -122,8 +116,8 @@ pub(crate) fn converse<S: Source, K: Sink>(
         (mouth (K.held sink.new) (K.faults sink.new)) result.0 }
 {
     let p = accepted.typed();
-    let mut text = match String::with_capacity(alloc, room_for_answers(p)) {
-        Ok(text) => text,
+    let mut waiting = match room(alloc) {
+        Ok(waiting) => waiting,
         Err(_) => return Status(6),
     };
     let mut opening = match Opening::new(alloc, accepted) {
@@ -131,7 +125,7 @@ pub(crate) fn converse<S: Source, K: Sink>(
         Err(_) => return Status(6),
     };
     match hear_starts(&mut opening, p.plants.len(), ear, source) {
-        Ok(()) => begin(alloc, p, opening, text, ear, source, sink),
-        Err(halt) => stopped(&mut text, halt, sink),
+        Ok(()) => begin(alloc, p, opening, waiting, ear, source, sink),
+        Err(halt) => stopped(&mut waiting, halt, sink),
     }
 }

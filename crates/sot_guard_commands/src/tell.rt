@@ -1,18 +1,20 @@
 //! How an answer is written.
 
+ghost use Rattle.std.specs.Prelude.{◌≡◌};
 ghost use Rattle.sot_guard_commands.specs.Moments.{mouth};
-ghost use Rattle.sot_guard_commands.specs.Tellings.{Tells, TellsAnswer};
+ghost use Rattle.sot_guard_commands.specs.Tellings.{TellsPut, TellsAnswer};
 
 use sot_answers::{Answer, Status, say};
-use sot_ports::{Sink, write_whole};
+use sot_ports::Sink;
+use sot_spool::Spool;
 use std::alloc::AllocError;
 
-/// Writes a text, and ends with this status, or with 5 where the sink fails.
-pub(crate) fn tell_text<K: Sink>(text: &[u8], status: u8, sink: &mut K) -> Status
-    ensures { Tells status text.now (mouth (K.held sink.old) (K.faults sink.old))
-        (mouth (K.held sink.new) (K.faults sink.new)) result.0 }
+/// Writes what was put into a spool, and ends with this status, or with 5 where the sink fails.
+pub(crate) fn tell_put<K: Sink>(spool: &mut Spool<'_, K>, status: u8) -> Status
+    ensures sink { spool.new.sink.ghost_name ≡ spool.old.sink.ghost_name }
+    ensures put { TellsPut K.held K.faults spool.old spool.new status result.0 }
 {
-    match write_whole(sink, text) {
+    match spool.end() {
         Ok(()) => Status(status),
         Err(_) => Status(5),
     }

@@ -2,7 +2,7 @@
 
 ghost use Rattle.std.specs.Prelude.{◌≡◌, ◌≢◌, [], false};
 ghost use Rattle.sot_ports.specs.Outside.{outside};
-ghost use Rattle.sot_guard_commands.specs.Ends.{Ends, EndsSome};
+ghost use Rattle.sot_guard_commands.specs.Ends.{Ends, EndsSome, AnswersNoLine};
 ghost use Rattle.sot_guard_commands.specs.Says.{SaysAll};
 
 use crate::accepting::{accept, unobserved};
@@ -56,6 +56,10 @@ pub fn guard<R: Threads + Sync, S: Source, K: Sink>(
         (outside (S.left source.old) (K.held sink.old) (S.faults source.old) (K.faults sink.old))
         (outside (S.left source.new) (K.held sink.new) (S.faults source.new) (K.faults sink.new))
         result.0 }
+    // Want of memory ends it before the first line of the robot is answered, or never.
+    ensures memory { result.0 ≡ 6 → AnswersNoLine
+        (outside (S.left source.old) (K.held sink.old) (S.faults source.old) (K.faults sink.old))
+        (outside (S.left source.new) (K.held sink.new) (S.faults source.new) (K.faults sink.new)) }
     // A word leaves the source as it was.
     ensures unread { words.now ≢ [] → source.new ≡ source.old }
 {

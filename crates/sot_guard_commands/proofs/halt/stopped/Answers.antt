@@ -1,7 +1,7 @@
 use Rattle.std.proofs.Common.{sym, subst}
 use Rattle.sot_guard_commands.specs.Lines.{at_line}
 use Rattle.sot_guard_commands.specs.Moments.{mouth}
-use Rattle.sot_guard_commands.specs.Tellings.{TellsIf, TellsStop}
+use Rattle.sot_guard_commands.specs.Tellings.{Tells, TellsStop}
 use Rattle.sot_guard_commands.proofs.halt.stopped.Goals as goal
 
 pub returns-in-Misheard : goal.returns-in-Misheard
@@ -11,4 +11,4 @@ returns-in-Misheard g c =
     let line = c.args.halt.line in
     let status = c.tell_fault.result.0 in
     subst (λ stop. TellsStop stop line before after status) (sym c.in-Misheard.is)
-    (subst (λ word. TellsIf 3 (at_line line word) before after status) c.misheard_word.ensures c.tell_fault.ensures)
+    (subst (λ word. Tells 3 (at_line line word) before after status) c.misheard_word.ensures c.tell_fault.ensures)

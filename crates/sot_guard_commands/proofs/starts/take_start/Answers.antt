@@ -1,6 +1,6 @@
-use Rattle.std.proofs.Common.{◌≡◌, ◌∷◌, [], take, subst, OnOk, OnErr}
+use Rattle.std.proofs.Common.{◌≡◌, ◌∷◌, [], take, subst, OnOk, OnErr, IfErr}
 use Rattle.sot_trace_lines.specs.LentLines.{lent_lines}
-use Rattle.sot_guard_talk.specs.Openings.{TakesStart}
+use Rattle.sot_guard_talk.specs.Openings.{TakesStart, IsNoStart}
 use Rattle.sot_guard_commands.proofs.starts.take_start.Goals as goal
 
 pub returns-in-Ok : goal.returns-in-Ok
@@ -14,13 +14,16 @@ returns-in-Ok c =
       ended = c.pass.ensures.ended;
     }
 
-pub returns-in-Err-Memory : goal.returns-in-Err-Memory
-returns-in-Err-Memory c =
+pub returns-in-Err : goal.returns-in-Err
+returns-in-Err c =
     let line = c.without_end.result.now in
     record {
       line = line;
       is = subst (λ bytes. lent_lines (take c.args.len bytes) ≡ line ∷ []) c.bytes.ensures.value c.without_end.ensures;
-      takes = subst (λ r. OnErr r (c.hear-heard.new.self ≡ c.args.opening.now)) c.in-Err-Memory.is c.hear-heard.ensures.same;
+      takes = (
+        subst (λ r. OnErr r (c.hear-heard.new.self ≡ c.args.opening.now)) c.in-Err.is c.hear-heard.ensures.same,
+        subst (λ r. IfErr r (IsNoStart c.args.opening.now line)) c.in-Err.is c.hear-heard.ensures.unheard,
+      );
       waiting = c.pass.ensures.waiting;
       ended = c.pass.ensures.ended;
     }

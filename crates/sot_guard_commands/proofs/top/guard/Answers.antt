@@ -8,6 +8,7 @@ use Rattle.sot_guard_commands.specs.Says.{Says, SaysAll}
 use Rattle.sot_guard_commands.proofs.Passing.{passes_nil}
 use Rattle.sot_guard_commands.proofs.Judged.{answered}
 use Rattle.sot_guard_commands.proofs.Results.{silent, usage_result, no_word}
+use Rattle.sot_guard_commands.proofs.NeverLater.{never_later}
 use Rattle.sot_guard_commands.proofs.top.guard.Goals as goal
 
 pub returns-then-not-is_empty-clause-ends : goal.returns-then-not-is_empty-clause-ends
@@ -54,3 +55,12 @@ returns-in-Err-clause-ends g c =
       ended = false;
       is = silent SaysAll (ears_at o [] false) (mouth (held c.args.sink.now) (faults c.args.sink.now)) (inr (inr (inr (inr (refl, refl)))));
     })
+
+pub returns-then-not-is_empty-clause-memory : goal.returns-then-not-is_empty-clause-memory
+returns-then-not-is_empty-clause-memory g c six = never_later c.args.words.now _ _ _ (returns-then-not-is_empty-clause-ends g c) six
+
+pub returns-in-Ok-clause-memory : goal.returns-in-Ok-clause-memory
+returns-in-Ok-clause-memory g c six = never_later c.args.words.now _ _ _ (returns-in-Ok-clause-ends g c) six
+
+pub returns-in-Err-clause-memory : goal.returns-in-Err-clause-memory
+returns-in-Err-clause-memory g c six = never_later c.args.words.now _ _ _ (returns-in-Err-clause-ends g c) six

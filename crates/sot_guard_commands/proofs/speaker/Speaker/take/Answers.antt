@@ -4,10 +4,10 @@ use Rattle.sot_guard_commands.proofs.speaker.Speaker.take.Goals as goal
 
 pub returns : goal.returns
 returns g c =
-    let line = c.without_end.result.now in
+    let line = c.without_end-line.result.now in
     record {
       line = line;
-      is = subst (λ bytes. lent_lines (take c.args.len bytes) ≡ line ∷ []) c.bytes.ensures.value c.without_end.ensures;
+      is = subst (λ bytes. lent_lines (take c.args.len bytes) ≡ line ∷ []) c.bytes.ensures.value c.without_end-line.ensures;
       answers = c.answer-answered.ensures;
       waiting = c.pass.ensures.waiting;
       ended = c.pass.ensures.ended;
