@@ -4,7 +4,7 @@ ghost use Rattle.sot_trace.specs.Words.{AreWords};
 
 use super::*;
 use sot_lang::{Draft, Typed};
-use sot_robot_lines::{Said, read_said};
+use sot_robot_lines::{Said, numbers_of_lines, read_said};
 
 // An environment topic and one that nodes write, both records, a topic of one number, a plant of
 // two state variables, and one of one.
@@ -148,9 +148,9 @@ fn push_said(said: Option<Said>, numbers: &[i64], text: &mut String) -> Result<(
 fn said_of(rt: &impl Abort, alloc: Global, p: &Typed, line: &str) -> String
     requires { AreWords p.now }
 {
-    let mut numbers = Vec::new(alloc);
+    let mut numbers = numbers_of_lines(alloc, p).expect(rt, "memory");
     let mut text = String::new(alloc);
-    let said = read_said(p, line.as_bytes(), &mut numbers).expect(rt, "memory");
+    let said = read_said(p, line.as_bytes(), &mut numbers);
     push_said(said, numbers.as_slice(), &mut text).expect(rt, "memory");
     text
 }
@@ -171,4 +171,14 @@ fn lines_say_one_thing_or_nothing(rt: HostRuntime) {
     for row in ROWS.lines() {
         is_said(&rt, alloc, &loaded.program, row);
     }
+}
+
+#[test]
+fn a_list_has_room_for_any_line(rt: HostRuntime) {
+    let alloc = rt.alloc();
+    let loaded = loaded(&rt, alloc, MISSION);
+    let numbers = numbers_of_lines(alloc, &loaded.program).expect(&rt, "memory");
+    assert!(rt; numbers.is_empty());
+    // Two plants, and five scalars: two of the wind, one command and two of the lamp.
+    assert!(rt; numbers.capacity() >= 4 * 2 + 5);
 }

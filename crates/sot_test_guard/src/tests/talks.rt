@@ -5,7 +5,8 @@ ghost use Rattle.sot_trace.specs.Words.{AreWords};
 
 use super::*;
 use sot_compose::check_all;
-use sot_guard_talk::{Opening, Talk, Unheard};
+use sot_guard_session::Misheard;
+use sot_guard_talk::{Opening, Talk};
 use sot_spool::Scratch;
 use sot_tube::Accepted;
 use sot_world::OpenFail;
@@ -407,11 +408,8 @@ fn is_robots(line: &str) -> Option<&str> {
 }
 
 // Adds why a line was not heard.
-fn push_fault(line: usize, why: Unheard, text: &mut String) -> Result<(), AllocError> {
-    match why {
-        Unheard::Misheard(why) => write!(text, "fault {line} {why:?}\n"),
-        Unheard::Memory => Err(AllocError),
-    }
+fn push_fault(line: usize, why: Misheard, text: &mut String) -> Result<(), AllocError> {
+    write!(text, "fault {line} {why:?}\n")
 }
 
 // Hears where a plant was observed first. The answer is whether it was heard.
