@@ -15,13 +15,13 @@ use Rattle.sot_tree.specs.declared.tree.Ident.{Ident}
 use Rattle.sot_tree.specs.Trees.{Declaration}
 use Rattle.sot_rules.specs.declared.fault.TypeKind.TheVariants.{Twice}
 use Rattle.sot_rules.specs.Names.{declared_name}
-use Rattle.sot_rules.specs.SeenNames.{seen_names}
+use Rattle.sot_names.specs.SeenNames.{seen_names}
 use Rattle.sot_rules.specs.Faults.{when, repeats}
-use Rattle.sot_rules.specs.NameTables.{found}
+use Rattle.sot_names.specs.NameTables.{found}
 use Rattle.sot_rules.specs.Indexes.{is_named}
 use Rattle.sot_rules.proofs.Mapped.{map_twice}
 use Rattle.sot_rules.proofs.NameTables.{known, or_false}
-use Rattle.sot_rules.proofs.Repeats.{any_seen}
+use Rattle.sot_names.proofs.SeenNames.{any_seen}
 
 -- keys of which no two are equal have names of which no two are
 apart_names : (k : Bor (List ℕ)) (ks : List (Bor (List ℕ))) → AllByRecursion (λ (y : Bor (List ℕ)). bytes_eq k.now y.now ≡ false) ks

@@ -12,7 +12,7 @@ use Rattle.sot_rules.specs.declared.names.scope.PartTable.{PartTable}
 use Rattle.sot_rules.specs.Scopes.{parts_of}
 use Rattle.sot_rules.specs.Names.{declared_name}
 use Rattle.sot_rules.specs.Tests.{is_plant_of}
-use Rattle.sot_rules.specs.NameTables.{found, entry}
+use Rattle.sot_names.specs.NameTables.{found, entry}
 use Rattle.sot_rules.specs.Indexes.{is_named, is_key, declared_parts, sort_in}
 use Rattle.sot_rules.proofs.NameTables.{or_false, placed, position_push}
 

@@ -28,7 +28,6 @@ pub mod Reached
 -- names in tables and sets
 pub mod Lookups
 pub mod FewNames
-pub mod NameSets
 pub mod NameTables
 pub mod Indexes
 pub mod Distinct

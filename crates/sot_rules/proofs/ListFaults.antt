@@ -20,7 +20,7 @@ use Rattle.sot_rules.specs.declared.fault.TypeKind.TheVariants.{Twice, TooMany, 
 use Rattle.sot_rules.specs.Lists.{are_same, is_among, IsRepeated, IsPast, IsPassedBy}
 use Rattle.sot_rules.specs.Tests.{is_state}
 use Rattle.sot_rules.specs.Faults.{fault, when, repeats, one_past, past, passes, order_faults}
-use Rattle.sot_rules.specs.SeenNames.{with_name}
+use Rattle.sot_names.specs.SeenNames.{with_name}
 use Rattle.sot_rules.proofs.Members.{In, before, after, split, in_when, of_when}
 
 -- the names that were seen are those that stood before

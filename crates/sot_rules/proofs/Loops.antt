@@ -11,10 +11,7 @@ use Rattle.sot_rules.specs.Sorts.{is_truthful, differ_after, given}
 use Rattle.sot_rules.specs.Operands.{with_operand}
 use Rattle.sot_rules.specs.Faults.{least}
 use Rattle.sot_rules.proofs.Least.{least_append}
-
--- the rest of a list, from an item on
-pub rest_is : {X : Type 0} (xs : List X) (i : ℕ) (x : X) → i < length xs → x ≡ get_or xs i x → drop i xs ≡ x ∷ drop (i + 1) xs
-rest_is xs i x lt e = drop_more xs i x lt ∙ ap (λ z. z ∷ drop (i + 1) xs) (sym e)
+pub use Rattle.sot_names.proofs.Steps.{rest_is}
 
 -- an item's faults are noted, and then what is left
 pub step_least : {X : Type 0} (faults : List X → List TypeFault) (one : X → List TypeFault)

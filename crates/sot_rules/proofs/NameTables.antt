@@ -1,4 +1,4 @@
--- A table of names after a name is put into it, and the lists that tables stand for, one item longer.
+-- The lists that tables stand for, one item longer.
 use Rattle.std.proofs.Common.{◌≡◌, ◌∙◌, ℕ, zero, suc, ◌+◌, ◌<◌, ◌≤◌, List, [], ◌∷◌, ◌++◌, length, get_or, take, map, find, Option, Some, None, Bool, true}
 use Rattle.std.proofs.Common.{false, is_some, cond, if◌then◌else◌, not, ◌||◌, ◌==◌, option_map, position, unwrap_or, refl, sym, ap, arith, nat_lt}
 use Rattle.std.specs.Option.{option_or}
@@ -15,31 +15,9 @@ use denote.Ref.{Bor}
 use Rattle.indexmap.specs.IndexMap.{IndexMap}
 use Rattle.sot_rules.specs.declared.expressions.sort.Sort.{Sort}
 use Rattle.sot_rules.specs.Names.{Part}
-use Rattle.sot_rules.specs.NameTables.{found, entry}
+use Rattle.sot_names.specs.NameTables.{found, entry}
 use Rattle.sot_rules.specs.Indexes.{is_key, sort_in}
-
-pub same_by : {a b : List ℕ} → bytes_eq a b ≡ true → a ≡ b
-same_by {a = a} {b = b} h = (bytes_eq-Decides a b).0 h
-
-bytes_eq_sym : (a b : List ℕ) → bytes_eq a b ≡ bytes_eq b a
-bytes_eq_sym a b = nat_list_eq_equiv.symm a b
-
--- a name with the value that it has, or else with a new one
-put_by : {V : Type 0} (old at_key : Option V) (b : Bool) (v : V) → (b ≡ true → at_key ≡ old)
-    → cond b (Some (unwrap_or at_key v)) old ≡ option_or old (if b then Some v else None)
-put_by None at_key true v h = ap (λ o. Some (unwrap_or o v)) (h refl)
-put_by (Some x) at_key true v h = ap (λ o. Some (unwrap_or o v)) (h refl)
-put_by None at_key false v h = refl
-put_by (Some x) at_key false v h = refl
-
-pub put : {V S : Type 0} (m new : IndexMap (Bor (List ℕ)) V S) (key : Bor (List ℕ)) (w v : V) → w ≡ unwrap_or (found m key.now) v
-    → ((q : Bor (List ℕ)) → found new q.now ≡ cond (bytes_eq key.now q.now) (Some w) (found m q.now)) → (n : List ℕ)
-    → found new n ≡ option_or (found m n) (entry key.now v n)
-put m new key w v e h n =
-    h (record key { now = n })
-    ∙ ap (λ x. cond (bytes_eq key.now n) (Some x) (found m n)) e
-    ∙ put_by (found m n) (found m key.now) (bytes_eq key.now n) v (λ s. ap (found m) (same_by s))
-    ∙ ap (λ b. option_or (found m n) (if b then Some v else None)) (bytes_eq_sym key.now n)
+use Rattle.sot_names.proofs.NameTables.{same_by, bytes_eq_sym}
 
 -- one part more
 sort_push : (ps : List Part) (p : Part) (name : List ℕ) → sort_in (ps ++ p ∷ []) name ≡ option_or (sort_in ps name) (entry p.name p.sort name)

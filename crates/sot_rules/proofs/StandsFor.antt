@@ -19,7 +19,8 @@ use Rattle.sot_rules.specs.declared.names.gather.NameList.{NameList}
 use Rattle.sot_rules.specs.declared.names.gather.NameList.TheVariants.{Topics, Plants, Both}
 use Rattle.sot_rules.specs.Names.{field_part, form_parts, state_part, Part, Parts, alone, several, Thing, declared_name, part_reading, parts_reading}
 use Rattle.sot_rules.specs.Names.{thing_reading}
-use Rattle.sot_rules.specs.NameTables.{entry, entries_in, found_in}
+use Rattle.sot_names.specs.NameTables.{entry}
+use Rattle.sot_rules.specs.NameTables.{entries_in, found_in}
 use Rattle.sot_rules.specs.declared.names.scope.Names.{Names}
 use Rattle.sot_rules.specs.Scopes.{names_in, parts_of, kept_parts, things_of, reading_of}
 use Rattle.sot_rules.specs.Indexes.{declared_parts, form_fields, is_named, sort_in}

@@ -10,7 +10,7 @@ use Rattle.sot_rules.specs.declared.expressions.sort.Sort.{Sort}
 use Rattle.sot_rules.specs.declared.names.index.Index.{Index}
 use Rattle.sot_rules.specs.Names.{Part, field_part, state_part, declared_name}
 use Rattle.sot_rules.specs.Tests.{is_plant_of}
-use Rattle.sot_rules.specs.NameTables.{found}
+use Rattle.sot_names.specs.NameTables.{found}
 use Rattle.sot_rules.specs.Scopes.{parts_of}
 
 -- the program that is looked into

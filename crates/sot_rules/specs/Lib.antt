@@ -16,13 +16,10 @@ pub mod FaultlessPrograms
 pub mod Examples
 -- what the code keeps in tables
 pub mod NameTables
-pub mod NameSets
-pub mod NameHashes
 pub mod Indexes
 pub mod Scopes
 pub mod NameLists
 pub mod Alike
-pub mod SeenNames
 pub mod Meanings
 pub mod Kinds
 pub mod Operands

@@ -1,17 +1,9 @@
 -- Names that stand twice, and limits on lists.
 use Rattle.std.specs.Prelude.{◌≡◌, ℕ, ◌+◌, ◌<◌, ◌≤◌, Bool, true, List, map, take, sum_by}
-use Rattle.std.specs.List.{list_any}
-use Rattle.std.specs.Str.{bytes_eq}
 use Rattle.sot_lists.specs.Places.{At}
 use Rattle.sot_text.specs.declared.token.Span.{Span}
 use Rattle.sot_tree.specs.declared.tree.Ident.{Ident}
-
-abbrev pub are_same : Ident → Ident → Bool
-are_same a b = bytes_eq a.name b.name
-
--- whether a name is one of a list
-abbrev pub is_among : Ident → List Ident → Bool
-is_among i names = list_any (are_same i) names
+pub use Rattle.sot_names.specs.Names.{are_same, is_among}
 
 -- here stands a name of the list that stands in it before
 pub record IsRepeated (names : List Ident) (at : Span) : Type 0 where

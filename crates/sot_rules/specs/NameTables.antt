@@ -1,19 +1,10 @@
--- Tables by names, as what they give of each name.
-use Rattle.std.specs.Prelude.{ℕ, List, ◌++◌, Option, Some, None, if◌then◌else◌}
+-- What an owner's names stand for, as the code keeps it.
+use Rattle.std.specs.Prelude.{ℕ, List, ◌++◌, Option}
 use Rattle.std.specs.Map.{lookup}
 use Rattle.std.specs.Str.{bytes_eq}
 use denote.Ref.{Bor}
-use Rattle.indexmap.specs.IndexMap.{IndexMap}
 use Rattle.sot_rules.specs.declared.names.scope.Kept.{Kept}
 use Rattle.sot_rules.specs.declared.names.scope.Things.{Things}
-
--- what a table gives of a name
-abbrev pub found : {V S : Type 0} → IndexMap (Bor (List ℕ)) V S → List ℕ → Option V
-found m name = lookup (λ k. bytes_eq name k.now) m.entries
-
--- what one entry gives of a name
-abbrev pub entry : {V : Type 0} → List ℕ → V → List ℕ → Option V
-entry key value name = if bytes_eq name key then Some value else None
 
 -- an owner's names with what they stand for: the first few, and then the others
 abbrev pub entries_in : Things → List (Bor (List ℕ) × Kept)

@@ -8,15 +8,10 @@ use Rattle.sot_tree.specs.declared.tree.Field.{Field}
 use Rattle.sot_tree.specs.declared.tree.StateDecl.{StateDecl}
 use Rattle.sot_tree.specs.Trees.{Form, one, fields, Topic, Plant, Node, Local, Declaration, a_topic}
 use Rattle.sot_tree.specs.Trees.{a_plant, a_node, a_module, Program}
+pub use Rattle.sot_names.specs.Names.{declared_name}
 use Rattle.sot_rules.specs.declared.expressions.sort.Sort.{Sort}
 use Rattle.sot_rules.specs.declared.expressions.sort.Sort.TheVariants.{Anything}
 use Rattle.sot_rules.specs.Sorts.{scalar_sort, state_sort}
-
-abbrev pub declared_name : Declaration → Ident
-declared_name (a_topic t) = t.name
-declared_name (a_plant q) = q.name
-declared_name (a_node n) = n.name
-declared_name (a_module m) = m.name
 
 -- what a name of the program means: the first declaration of that name
 abbrev pub meaning : Program → Ident → Option Declaration

@@ -1,13 +1,9 @@
 //! Names: what they mean, and which of them an owner may use.
 pub mod behind;
 pub mod gather;
-pub mod hasher;
 pub mod index;
 pub mod meaning;
-pub mod named;
 pub mod owner;
 pub mod repeats;
 pub mod scope;
-pub mod set;
-pub mod table;
 pub mod things;

@@ -11,7 +11,7 @@ ghost use Rattle.sot_rules.specs.Meanings.{size_of};
 use crate::fault::{TypeFault, TypeKind, is_past, note};
 use crate::names::index::Index;
 use crate::names::meaning::size_of;
-use crate::names::named::Named;
+use sot_names::Named;
 use sot_tree::{BoxDecl, Ident};
 
 /// The first item of a list past a limit.

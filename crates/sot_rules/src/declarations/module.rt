@@ -10,7 +10,7 @@ use crate::declarations::region::note_region;
 use crate::fault::{TypeFault, TypeKind, note};
 use crate::names::index::Index;
 use crate::names::meaning::{is_external, is_neither, is_node, is_topic, states_of};
-use crate::names::repeats::are_same;
+use sot_names::are_same;
 use sot_tree::ModuleDecl;
 
 // The two nodes of a module.

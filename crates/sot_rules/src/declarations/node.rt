@@ -4,8 +4,8 @@ ghost use Rattle.sot_tree.specs.TreeViews.{local_view, node_view};
 ghost use Rattle.sot_tree.specs.Trees.{Node};
 ghost use Rattle.sot_rules.specs.Faults.{least, together, read_faults, write_lists, local_lists};
 ghost use Rattle.sot_rules.specs.Faults.{node_lists};
-ghost use Rattle.sot_rules.specs.NameSets.{keys_in};
-ghost use Rattle.sot_rules.specs.SeenNames.{HasNames};
+ghost use Rattle.sot_names.specs.NameSets.{keys_in};
+ghost use Rattle.sot_names.specs.SeenNames.{HasNames};
 ghost use Rattle.sot_rules.specs.Indexes.{program_in, IsIndex};
 ghost use Rattle.sot_rules.specs.Groups.{reads_faults, writes_faults, some_writes_faults};
 ghost use Rattle.sot_rules.specs.Groups.{locals_faults};
@@ -16,13 +16,13 @@ use crate::declarations::limit::{note_passes, note_past};
 use crate::declarations::range::{note_scalar, note_start, note_times};
 use crate::fault::{TypeFault, TypeKind, is_past, note, stands_behind};
 use crate::names::behind::{FRONT, are_names_behind};
-use crate::names::hasher::{NameHasher, NameKey, hasher_beyond_few};
 use crate::names::index::Index;
 use crate::names::meaning::{is_environment, is_neither, is_topic};
-use crate::names::repeats::{add_names, has_name, note_repeated_names, note_repeats, note_seen};
-use crate::names::set::{NameSet, no_name};
-use crate::names::things::FEW;
+use crate::names::repeats::{note_repeated_names, note_repeats, note_seen};
 use crate::statements::body::note_body;
+use sot_names::{
+    FEW, NameHasher, NameKey, NameSet, add_names, has_name, hasher_beyond_few, no_name,
+};
 use sot_text::Span;
 use sot_tree::{Ident, LocalDecl, NodeDecl};
 use std::alloc::{AllocError, Global};

@@ -5,8 +5,8 @@ ghost use Rattle.sot_tree.specs.TreeViews.{plant_view};
 ghost use Rattle.sot_rules.specs.Tests.{state_names};
 ghost use Rattle.sot_rules.specs.Faults.{least, together, scale_faults, input_faults, seen_lists};
 ghost use Rattle.sot_rules.specs.Faults.{noise_lists, plant_lists};
-ghost use Rattle.sot_rules.specs.NameSets.{keys_in};
-ghost use Rattle.sot_rules.specs.SeenNames.{HasNames};
+ghost use Rattle.sot_names.specs.NameSets.{keys_in};
+ghost use Rattle.sot_names.specs.SeenNames.{HasNames};
 ghost use Rattle.sot_rules.specs.Indexes.{program_in, IsIndex};
 ghost use Rattle.sot_rules.specs.Groups.{states_faults, inputs_faults, some_inputs_faults};
 ghost use Rattle.sot_rules.specs.Groups.{sees_faults, disturbances_faults};
@@ -18,12 +18,12 @@ use crate::declarations::range::{note_scalar, scalar_sort};
 use crate::expressions::sort::{is_no_scale, is_truthful};
 use crate::fault::{TypeFault, TypeKind, note, stands_behind};
 use crate::names::behind::{FRONT, are_names_behind};
-use crate::names::hasher::{NameHasher, NameKey, hasher_beyond_few};
 use crate::names::index::Index;
 use crate::names::meaning::{is_neither, is_plant, is_topic};
-use crate::names::repeats::{add_names, are_same, has_name, note_repeated_names, note_repeats};
-use crate::names::set::{NameSet, no_name};
-use crate::names::things::FEW;
+use crate::names::repeats::{note_repeated_names, note_repeats};
+use sot_names::{
+    FEW, NameHasher, NameKey, NameSet, add_names, are_same, has_name, hasher_beyond_few, no_name,
+};
 use sot_tree::{Field, Ident, Lit, PlantDecl, StateDecl};
 use std::alloc::{AllocError, Global};
 

@@ -3,7 +3,7 @@ ghost use Rattle.std.specs.Prelude.{◌≡◌, map};
 ghost use Rattle.sot_rules.specs.Behind.{names_behind};
 
 use crate::fault::is_behind;
-use crate::names::named::Named;
+use sot_names::Named;
 use sot_text::Span;
 
 /// How many items of a list are looked at by themselves at first. Hardly any list without a fault

@@ -8,18 +8,16 @@ ghost use Rattle.sot_rules.specs.Names.{declared_name, field_part, meaning, stat
 ghost use Rattle.sot_rules.specs.Sorts.{state_sort};
 ghost use Rattle.sot_rules.specs.Faults.{repeats};
 ghost use Rattle.sot_rules.specs.Tests.{has_module, is_plant_of};
-ghost use Rattle.sot_rules.specs.NameTables.{found};
+ghost use Rattle.sot_names.specs.NameTables.{found};
 ghost use Rattle.sot_rules.specs.Scopes.{parts_of};
 ghost use Rattle.sot_rules.specs.Indexes.{program_in, is_named, is_key, declared_parts, sort_in};
 ghost use Rattle.sot_rules.specs.Indexes.{Indexes, IsIndex};
 
 use crate::declarations::range::scalar_sort;
 use crate::expressions::sort::{Sort, scale_sort};
-use crate::names::hasher::{NameHasher, NameKey, NameKeys, NameMap, hasher_of};
 use crate::names::scope::PartTable;
-use crate::names::table::add;
-use crate::names::things::FEW;
 use indexmap::{IndexMap, IndexSet};
+use sot_names::{FEW, NameHasher, NameKey, NameKeys, NameMap, add_value, declared_name, hasher_of};
 use sot_tree::{Decl, Field, Ident, Program, Shape, StateDecl};
 use std::alloc::{AllocError, Global};
 
@@ -46,18 +44,6 @@ pub fn state_sort(s: &StateDecl) -> Sort
     }
 }
 
-/// The name of a declaration.
-pub fn declared_name(d: &Decl) -> &Ident
-    ensures { result.now ≡ declared_name (declaration_view d.now) }
-{
-    match d {
-        Decl::Topic(t) => &t.name,
-        Decl::Plant(q) => &q.content().name,
-        Decl::Node(n) => &n.content().name,
-        Decl::Module(m) => &m.content().name,
-    }
-}
-
 // Adds the fields of a record to an empty table.
 fn add_fields<'p>(table: &mut NameMap<'p, Sort>, fields: &'p [Field]) -> Result<(), AllocError>
     requires { (name : List ℕ) → found table.old name ≡ None }
@@ -65,7 +51,7 @@ fn add_fields<'p>(table: &mut NameMap<'p, Sort>, fields: &'p [Field]) -> Result<
         ≡ sort_in (map field_part fields.now) name) }
 {
     for f in fields {
-        add(table, f.name.name.as_bytes(), scalar_sort(f.scalar))?;
+        add_value(table, f.name.name.as_bytes(), scalar_sort(f.scalar))?;
     }
     Ok(())
 }
@@ -105,7 +91,7 @@ fn add_parts<'p>(table: &mut NameMap<'p, Sort>, states: &'p [StateDecl]) -> Resu
         ≡ sort_in (map state_part states.now) name) }
 {
     for s in states {
-        add(table, s.name.name.as_bytes(), state_sort(s))?;
+        add_value(table, s.name.name.as_bytes(), state_sort(s))?;
     }
     Ok(())
 }
@@ -227,7 +213,7 @@ impl<'p> Index<'p> {
         ensures decls { self.new.decls.now ≡ self.old.decls.now }
     {
         let place = self.parts.as_slice().len();
-        add(&mut self.places, declared_name(d).name.as_bytes(), place)?;
+        add_value(&mut self.places, declared_name(d).name.as_bytes(), place)?;
         note_owned(&mut self.owned, d)?;
         let table = part_table(alloc, d)?;
         self.parts.push(table)?;

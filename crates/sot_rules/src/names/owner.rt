@@ -7,10 +7,10 @@ ghost use Rattle.sot_rules.specs.Indexes.{program_in, IsIndex};
 ghost use Rattle.sot_rules.specs.Alike.{Adds, ScopesAlike, StandsFor, tables_in};
 
 use crate::names::gather::{NameList, add_locals, add_named, add_noise, add_states};
-use crate::names::hasher::{NameHasher, NameKey, hasher_beyond_few};
 use crate::names::index::Index;
 use crate::names::scope::{Names, Scope, Things};
-use crate::names::things::{FEW, no_things};
+use crate::names::things::no_things;
+use sot_names::{FEW, NameHasher, NameKey, hasher_beyond_few};
 use sot_tree::{NodeDecl, PlantDecl};
 use std::alloc::{AllocError, Global};
 

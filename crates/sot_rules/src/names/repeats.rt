@@ -1,19 +1,16 @@
-//! Names that stand twice in a list, and sets of names.
+//! Names that stand twice in a list.
 ghost use Rattle.std.specs.Prelude.{◌≡◌, List, ◌++◌, [], map, true, false, IfOk, OnOk};
 ghost use Rattle.std.specs.List.{fold, list_any};
 ghost use Rattle.std.specs.Str.{bytes_eq};
 ghost use Rattle.sot_tree.specs.declared.tree.Ident.{Ident};
 ghost use Rattle.sot_rules.specs.declared.fault.TypeKind.TheVariants.{Twice};
-ghost use Rattle.sot_rules.specs.Lists.{are_same};
 ghost use Rattle.sot_rules.specs.Faults.{least, when, repeats};
-ghost use Rattle.sot_rules.specs.NameSets.{keys_in};
-ghost use Rattle.sot_rules.specs.SeenNames.{seen_names, with_name, HasNames};
+ghost use Rattle.sot_names.specs.NameSets.{keys_in};
+ghost use Rattle.sot_names.specs.SeenNames.{seen_names, with_name};
 
 use crate::fault::{TypeFault, TypeKind, note};
 use crate::names::behind::{FRONT, are_names_behind};
-use crate::names::hasher::hasher_beyond_few;
-use crate::names::named::Named;
-use crate::names::set::{NameSet, contains, insert, no_name};
+use sot_names::{NameSet, Named, hasher_beyond_few, insert_name, no_name};
 use sot_tree::Ident;
 use std::alloc::{AllocError, Global};
 
@@ -30,7 +27,7 @@ pub fn note_repeat<'p>(
     ensures seen { OnOk result
         (seen_names (keys_in seen.new) ≡ with_name (seen_names (keys_in seen.old)) name.now) }
 {
-    let added = insert(seen, name.name.as_bytes())?;
+    let added = insert_name(seen, name.name.as_bytes())?;
     note(first, !added, name.at, TypeKind::Twice);
     Ok(())
 }
@@ -119,29 +116,4 @@ pub fn note_repeated_names(
     ensures { OnOk result (first.new ≡ least first.old (repeats [] names.now)) }
 {
     note_repeats(alloc, names, first)
-}
-
-/// Adds the names of a list to those of a set.
-pub fn add_names<'p, T: Named>(set: &mut NameSet<'p>, items: &'p [T]) -> Result<(), AllocError>
-    ensures { OnOk result ((names : List Ident) → HasNames (keys_in set.old) names
-        → HasNames (keys_in set.new) (names ++ map T.ident items.now)) }
-{
-    for item in items {
-        insert(set, item.ident().name.as_bytes())?;
-    }
-    Ok(())
-}
-
-/// Whether a name is in a set.
-pub fn has_name(set: &NameSet, name: &Ident) -> bool
-    ensures { result ≡ list_any (bytes_eq name.now.name) (seen_names (keys_in set.now)) }
-{
-    contains(set, name.name.as_bytes())
-}
-
-/// Whether two names are the same word.
-pub fn are_same(a: &Ident, b: &Ident) -> bool
-    ensures { result ≡ are_same a.now b.now }
-{
-    a.name.as_bytes() == b.name.as_bytes()
 }

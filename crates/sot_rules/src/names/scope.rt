@@ -8,9 +8,9 @@ ghost use Rattle.sot_rules.specs.Scopes.{reading_of};
 
 use crate::declarations::range::scalar_sort;
 use crate::expressions::sort::Sort;
-use crate::names::hasher::NameMap;
 use crate::names::index::state_sort;
 use crate::names::things::thing_of;
+use sot_names::NameMap;
 use sot_text::Span;
 use sot_tree::{Field, Ident, StateDecl};
 

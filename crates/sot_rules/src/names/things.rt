@@ -6,16 +6,13 @@ ghost use Rattle.std.specs.Prelude.{◌≡◌, ℕ, List, [], OnOk};
 ghost use Rattle.std.specs.Map.{lookup};
 ghost use Rattle.std.specs.Option.{option_or};
 ghost use Rattle.std.specs.Str.{bytes_eq};
-ghost use Rattle.sot_rules.specs.NameTables.{entry, entries_in, found_in};
+ghost use Rattle.sot_names.specs.NameTables.{entry};
+ghost use Rattle.sot_rules.specs.NameTables.{entries_in, found_in};
 
-use crate::names::hasher::NameHasher;
 use crate::names::scope::{Kept, Things};
-use crate::names::table;
 use indexmap::IndexMap;
+use sot_names::{FEW, NameHasher, add_value};
 use std::alloc::{AllocError, Global};
-
-/// How many names of a list are looked at one by one.
-pub const FEW: usize = 8;
 
 /// No names. Those beyond the first few will be hashed so.
 pub fn no_things<'p>(alloc: Global, hasher: NameHasher) -> Things<'p>
@@ -66,6 +63,6 @@ pub fn add<'p>(table: &mut Things<'p>, name: &'p [u8], kept: Kept) -> Result<(),
         table.few.push((name, kept))?;
         return Ok(());
     }
-    table::add(&mut table.many, name, kept)?;
+    add_value(&mut table.many, name, kept)?;
     Ok(())
 }

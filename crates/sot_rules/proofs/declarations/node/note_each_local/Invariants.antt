@@ -4,9 +4,9 @@ use Rattle.std.specs.Prelude.{flat_map}
 use Rattle.sot_tree.specs.Trees.{Node}
 use Rattle.sot_tree.specs.TreeViews.{local_view}
 use Rattle.sot_rules.specs.Faults.{least, together, local_lists}
-use Rattle.sot_rules.specs.SeenNames.{HasNames}
+use Rattle.sot_names.specs.SeenNames.{HasNames}
 use Rattle.sot_rules.proofs.declarations.node.note_each_local.Given as goal
-use Rattle.sot_rules.specs.NameSets.{keys_in}
+use Rattle.sot_names.specs.NameSets.{keys_in}
 
 abbrev pub invariant-loop-l : goal.invariant-loop-l
 invariant-loop-l l =

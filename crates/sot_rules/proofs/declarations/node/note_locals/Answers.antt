@@ -6,10 +6,10 @@ use Rattle.sot_tree.specs.TreeViews.{local_view, node_view}
 use Rattle.sot_rules.specs.Lists.{places}
 use Rattle.sot_rules.specs.Tests.{local_names}
 use Rattle.sot_rules.specs.Faults.{least, together, repeats, past, local_lists}
-use Rattle.sot_rules.specs.SeenNames.{HasNames}
-use Rattle.sot_rules.specs.NameSets.{keys_in}
+use Rattle.sot_names.specs.SeenNames.{HasNames}
+use Rattle.sot_names.specs.NameSets.{keys_in}
 use Rattle.sot_rules.proofs.Mapped.{map_twice}
-use Rattle.sot_rules.proofs.NameSets.{two_held}
+use Rattle.sot_names.proofs.NameSets.{two_held}
 use Rattle.sot_rules.proofs.Sequences.{three_noted}
 use Rattle.sot_rules.proofs.declarations.node.note_locals.Goals as goal
 

@@ -7,9 +7,9 @@ use Rattle.sot_rules.specs.Names.{meaning}
 use Rattle.sot_rules.specs.Tests.{read_size}
 use Rattle.sot_rules.specs.Faults.{least, repeats, passes, read_faults}
 use Rattle.sot_rules.specs.Indexes.{program_in}
-use Rattle.sot_rules.specs.SeenNames.{seen_names}
-use Rattle.sot_rules.specs.NameSets.{keys_in}
-use Rattle.sot_rules.proofs.NameSets.{none_held, more_held, one_held}
+use Rattle.sot_names.specs.SeenNames.{seen_names}
+use Rattle.sot_names.specs.NameSets.{keys_in}
+use Rattle.sot_names.proofs.NameSets.{none_held, more_held, one_held}
 use Rattle.sot_rules.proofs.Sequences.{three_noted}
 use Rattle.sot_rules.proofs.declarations.node.note_reads.Goals as goal
 

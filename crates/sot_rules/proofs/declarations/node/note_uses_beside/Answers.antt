@@ -4,8 +4,8 @@ use Rattle.sot_tree.specs.TreeViews.{node_view}
 use Rattle.sot_rules.specs.Faults.{least}
 use Rattle.sot_rules.specs.Groups.{reads_faults, writes_faults, locals_faults}
 use Rattle.sot_rules.specs.Indexes.{program_in}
-use Rattle.sot_rules.specs.NameSets.{keys_in}
-use Rattle.sot_rules.proofs.NameSets.{listed_held}
+use Rattle.sot_names.specs.NameSets.{keys_in}
+use Rattle.sot_names.proofs.NameSets.{listed_held}
 use Rattle.sot_rules.proofs.Sequences.{three_noted}
 use Rattle.sot_rules.proofs.declarations.node.note_uses_beside.Goals as goal
 

@@ -4,9 +4,9 @@ use Rattle.std.specs.Prelude.{flat_map}
 use Rattle.sot_tree.specs.Trees.{Node}
 use Rattle.sot_rules.specs.Faults.{least, together, write_lists}
 use Rattle.sot_rules.specs.Indexes.{program_in}
-use Rattle.sot_rules.specs.SeenNames.{HasNames}
+use Rattle.sot_names.specs.SeenNames.{HasNames}
 use Rattle.sot_rules.proofs.declarations.node.note_write_names.Given as goal
-use Rattle.sot_rules.specs.NameSets.{keys_in}
+use Rattle.sot_names.specs.NameSets.{keys_in}
 
 abbrev pub invariant-loop-name : goal.invariant-loop-name
 invariant-loop-name l =

@@ -4,9 +4,9 @@ use Rattle.std.specs.Prelude.{flat_map}
 use Rattle.sot_tree.specs.Trees.{Plant}
 use Rattle.sot_rules.specs.Tests.{state_names}
 use Rattle.sot_rules.specs.Faults.{least, together, noise_lists}
-use Rattle.sot_rules.specs.SeenNames.{HasNames}
+use Rattle.sot_names.specs.SeenNames.{HasNames}
 use Rattle.sot_rules.proofs.declarations.plant.note_disturbances.Given as goal
-use Rattle.sot_rules.specs.NameSets.{keys_in}
+use Rattle.sot_names.specs.NameSets.{keys_in}
 
 abbrev pub invariant-loop-f : goal.invariant-loop-f
 invariant-loop-f l =

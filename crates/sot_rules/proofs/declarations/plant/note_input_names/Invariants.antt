@@ -5,9 +5,9 @@ use Rattle.sot_tree.specs.Trees.{Plant}
 use Rattle.sot_rules.specs.Tests.{state_names}
 use Rattle.sot_rules.specs.Faults.{least, input_faults}
 use Rattle.sot_rules.specs.Indexes.{program_in}
-use Rattle.sot_rules.specs.SeenNames.{HasNames}
+use Rattle.sot_names.specs.SeenNames.{HasNames}
 use Rattle.sot_rules.proofs.declarations.plant.note_input_names.Given as goal
-use Rattle.sot_rules.specs.NameSets.{keys_in}
+use Rattle.sot_names.specs.NameSets.{keys_in}
 
 abbrev pub invariant-loop-name : goal.invariant-loop-name
 invariant-loop-name l =

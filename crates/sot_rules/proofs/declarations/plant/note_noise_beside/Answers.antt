@@ -7,9 +7,9 @@ use Rattle.sot_tree.specs.TreeViews.{plant_view}
 use Rattle.sot_rules.specs.Lists.{places}
 use Rattle.sot_rules.specs.Tests.{state_names, noise_names}
 use Rattle.sot_rules.specs.Faults.{least, together, repeats, past, noise_lists}
-use Rattle.sot_rules.specs.SeenNames.{HasNames}
-use Rattle.sot_rules.specs.NameSets.{keys_in}
-use Rattle.sot_rules.proofs.NameSets.{mapped_held, two_held}
+use Rattle.sot_names.specs.SeenNames.{HasNames}
+use Rattle.sot_names.specs.NameSets.{keys_in}
+use Rattle.sot_names.proofs.NameSets.{mapped_held, two_held}
 use Rattle.sot_rules.proofs.Sequences.{three_noted}
 use Rattle.sot_rules.proofs.declarations.plant.note_noise_beside.Goals as goal
 

@@ -5,9 +5,9 @@ use Rattle.sot_tree.specs.TreeViews.{plant_view}
 use Rattle.sot_rules.specs.Faults.{least}
 use Rattle.sot_rules.specs.Groups.{inputs_faults, sees_faults}
 use Rattle.sot_rules.specs.Indexes.{program_in}
-use Rattle.sot_rules.specs.NameSets.{keys_in}
+use Rattle.sot_names.specs.NameSets.{keys_in}
 use Rattle.sot_rules.proofs.Least.{least_append}
-use Rattle.sot_rules.proofs.NameSets.{mapped_held}
+use Rattle.sot_names.proofs.NameSets.{mapped_held}
 use Rattle.sot_rules.proofs.declarations.plant.note_taken_beside.Goals as goal
 
 pub note_inputs-requires-clause-states : goal.note_inputs-requires-clause-states

@@ -5,7 +5,7 @@ use Rattle.std.specs.List.{slice_get}
 use Rattle.std.proofs.lemmas.Option.{slice_get-map, slice_get_read}
 use Rattle.sot_tree.specs.TreeViews.{declaration_view}
 use Rattle.sot_rules.specs.Alike.{kept_of_list, tables_in}
-use Rattle.sot_rules.proofs.NameTables.{same_by}
+use Rattle.sot_names.proofs.NameTables.{same_by}
 use Rattle.sot_rules.proofs.StandsFor.{found_named, parts_at, kept_alike}
 use Rattle.sot_rules.proofs.names.gather.kept.Goals as goal
 

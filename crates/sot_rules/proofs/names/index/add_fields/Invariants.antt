@@ -1,7 +1,7 @@
 -- The loop of `add_fields`: the table gives what the fields so far do.
 use Rattle.std.proofs.Common.{◌≡◌, ℕ, List, map, take}
 use Rattle.sot_rules.specs.Names.{field_part}
-use Rattle.sot_rules.specs.NameTables.{found}
+use Rattle.sot_names.specs.NameTables.{found}
 use Rattle.sot_rules.specs.Indexes.{sort_in}
 use Rattle.sot_rules.proofs.names.index.add_fields.Given as goal
 

@@ -5,5 +5,5 @@ use Rattle.sot_rules.proofs.names.index.add_parts.Goals as goal
 
 pub loop-s-preserved : goal.loop-s-preserved
 loop-s-preserved c =
-    sorts_more state_part c.args.states.now c.loop-s.s-index c.s-item.result c.loop-s.table c.add.new.table _ _
-    c.loop-s-test.true c.s-item.is c.loop-s.invariant c.in_ok-add.ensures c.as_bytes.ensures c.state_sort.ensures
+    sorts_more state_part c.args.states.now c.loop-s.s-index c.s-item.result c.loop-s.table c.add_value.new.table _ _
+    c.loop-s-test.true c.s-item.is c.loop-s.invariant c.in_ok-add_value.ensures c.as_bytes.ensures c.state_sort.ensures

@@ -1,6 +1,6 @@
 -- Of `state_table`: its promise of many parts.
 use Rattle.std.proofs.Common.{◌∙◌, ap, sym}
-use Rattle.sot_rules.specs.NameTables.{found}
+use Rattle.sot_names.specs.NameTables.{found}
 use Rattle.sot_rules.proofs.Lookups.{part_found}
 use Rattle.sot_rules.proofs.names.index.state_table.Goals as goal
 

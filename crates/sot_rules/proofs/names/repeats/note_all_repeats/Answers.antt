@@ -2,7 +2,7 @@
 use Rattle.std.proofs.Common.{◌≡◌, map, subst, ap}
 use Rattle.std.specs.Prelude.{OnOk}
 use Rattle.sot_rules.specs.Faults.{least, repeats}
-use Rattle.sot_rules.specs.SeenNames.{seen_names}
+use Rattle.sot_names.specs.SeenNames.{seen_names}
 use Rattle.sot_rules.proofs.names.repeats.note_all_repeats.Goals as goal
 
 pub returns : goal.returns

@@ -4,9 +4,10 @@ use Rattle.std.specs.List.{list_any}
 use Rattle.std.specs.Str.{bytes_eq}
 use Rattle.sot_rules.specs.declared.fault.TypeKind.TheVariants.{Twice}
 use Rattle.sot_rules.specs.Faults.{least, when}
-use Rattle.sot_rules.specs.SeenNames.{seen_names}
-use Rattle.sot_rules.specs.NameSets.{keys_in}
-use Rattle.sot_rules.proofs.Repeats.{any_seen, seen_insert, noted_by}
+use Rattle.sot_names.specs.SeenNames.{seen_names}
+use Rattle.sot_names.specs.NameSets.{keys_in}
+use Rattle.sot_names.proofs.SeenNames.{any_seen, seen_insert}
+use Rattle.sot_rules.proofs.Repeats.{noted_by}
 use Rattle.sot_rules.proofs.names.repeats.note_repeat.Goals as goal
 
 pub returns-clause-noted : goal.returns-clause-noted

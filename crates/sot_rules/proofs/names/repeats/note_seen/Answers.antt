@@ -1,10 +1,11 @@
 -- Of `note_seen`: that its loop keeps what it says, and its promises.
 use Rattle.std.proofs.Common.{refl, map}
 use Rattle.sot_rules.specs.Faults.{repeats}
-use Rattle.sot_rules.specs.SeenNames.{seen_names, with_name}
-use Rattle.sot_rules.specs.NameSets.{keys_in}
+use Rattle.sot_names.specs.SeenNames.{seen_names, with_name}
+use Rattle.sot_names.specs.NameSets.{keys_in}
 use Rattle.sot_rules.proofs.Loops.{none_left}
-use Rattle.sot_rules.proofs.Repeats.{step_repeats, step_names, names_end}
+use Rattle.sot_rules.proofs.Repeats.{step_repeats}
+use Rattle.sot_names.proofs.Steps.{step_names, names_end}
 use Rattle.sot_rules.proofs.names.repeats.note_seen.Goals as goal
 
 pub loop-item-preserved : goal.loop-item-preserved

@@ -1,9 +1,9 @@
 -- The loop of `note_seen`: what is noted and seen, and then what is left.
 use Rattle.std.proofs.Common.{◌≡◌, map, drop, fold}
 use Rattle.sot_rules.specs.Faults.{least, repeats}
-use Rattle.sot_rules.specs.SeenNames.{seen_names, with_name}
+use Rattle.sot_names.specs.SeenNames.{seen_names, with_name}
 use Rattle.sot_rules.proofs.names.repeats.note_seen.Given as goal
-use Rattle.sot_rules.specs.NameSets.{keys_in}
+use Rattle.sot_names.specs.NameSets.{keys_in}
 
 abbrev pub invariant-loop-item : goal.invariant-loop-item
 invariant-loop-item g l = record {

@@ -1,7 +1,8 @@
 -- Of `variable_sort`: that its loop keeps what it says, and its promises.
 use Rattle.std.proofs.Common.{◌∙◌, Some, ap, refl}
 use Rattle.sot_rules.specs.Names.{state_part}
-use Rattle.sot_rules.proofs.FewNames.{tested, part_next, part_here, no_part}
+use Rattle.sot_names.proofs.FewNames.{tested}
+use Rattle.sot_rules.proofs.FewNames.{part_next, part_here, no_part}
 use Rattle.sot_rules.proofs.names.scope.variable_sort.Goals as goal
 
 pub loop-s-preserved : goal.loop-s-preserved

@@ -10,5 +10,5 @@ returns-then-is_empty c =
 
 pub returns : goal.returns
 returns c =
-    many_more c.args.table.now (record { few = c.args.table.now.few; many = c.add.new.table }) c.args.name.now c.args.kept
-    refl c.in_ok-add.ensures
+    many_more c.args.table.now (record { few = c.args.table.now.few; many = c.add_value.new.table }) c.args.name.now c.args.kept
+    refl c.in_ok-add_value.ensures

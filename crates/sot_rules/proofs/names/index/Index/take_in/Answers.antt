@@ -9,7 +9,7 @@ pub returns-clause-held : goal.returns-clause-held
 returns-clause-held c ds held =
     let d = declaration_view c.args.d.now in
     record {
-      places = places_more ds d c.args.self.now.places c.add.new.table _ _ c.in_ok-add.ensures held.places
+      places = places_more ds d c.args.self.now.places c.add_value.new.table _ _ c.in_ok-add_value.ensures held.places
           (c.as_bytes.ensures ∙ ap (λ (i : Ident). i.name) c.declared_name.ensures)
           (ap length c.as_slice-place.ensures.value ∙ counted _ _ c.args.self.now.parts.items ds (held.parts []));
       owned = owned_more ds d c.args.self.now.owned.keys c.note_owned.new.owned.keys c.in_ok-note_owned.ensures held.owned;
