@@ -2,10 +2,9 @@
 
 ghost use Rattle.std.specs.Prelude.{◌≡◌, codes};
 ghost use Rattle.std.specs.Option.{option_map};
-ghost use Rattle.sot_text.specs.LineEnds.{without_last};
-ghost use Rattle.sot_sections.specs.Sections.{title};
 ghost use Rattle.sot_bridge_input.specs.Halves.{is_bridge, halves_seen, halves_of};
 
+use sot_sections::title;
 use sot_text::line_len;
 
 /// The bytes of the first mission and those of the second.
@@ -13,21 +12,6 @@ use sot_text::line_len;
 pub struct Halves<'a> {
     pub a: &'a [u8],
     pub b: &'a [u8],
-}
-
-fn without_last<'a>(text: &'a [u8], end: u8) -> &'a [u8]
-    ensures { result.now ≡ without_last end text.now }
-{
-    match text {
-        [front @ .., last] if *last == end => front,
-        _ => text,
-    }
-}
-
-fn title(line: &[u8]) -> &[u8]
-    ensures { result.now ≡ title line.now }
-{
-    without_last(without_last(line, b'\n'), b'\r')
 }
 
 fn is_bridge(line: &[u8]) -> bool

@@ -9,4 +9,4 @@ mod facts;
 mod mission;
 
 pub use facts::sections_are_as_stated;
-pub use mission::{Need, SectionFault, SectionKind, Sections, split};
+pub use mission::{Need, SectionFault, SectionKind, Sections, split, title};

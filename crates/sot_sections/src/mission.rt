@@ -69,8 +69,8 @@ fn without_last<'a>(text: &'a [u8], end: u8) -> &'a [u8]
     }
 }
 
-// What a section line says: the line without its line end.
-fn title(line: &[u8]) -> &[u8]
+/// What a section line says: the line without its line end.
+pub fn title(line: &[u8]) -> &[u8]
     ensures { result.now ≡ title line.now }
 {
     without_last(without_last(line, b'\n'), b'\r')
