@@ -79,7 +79,9 @@ pub fn check_codes(p: &Typed) -> Result<(), Refusal>
     Ok(())
 }
 
-fn cells<R: Threads + Sync>(rt: &R, p: &Typed, c: &Cert) -> Result<(), Refusal>
+/// Whether the cells of all modules keep their plants inside, module by module; else why those of the
+/// first that do not. Takes no memory.
+pub fn check_all_cells<R: Threads + Sync>(rt: &R, p: &Typed, c: &Cert) -> Result<(), Refusal>
     requires rules { MeetsTableRules p.now }
     requires fits { FitsTables p.now c.now }
     requires may { MayHaveCells p.now }
@@ -109,7 +111,7 @@ fn checked<R: Threads + Sync>(rt: &R, p: &Typed, c: &Cert) -> Result<(), Refusal
     if let Err(refusal) = check_codes(p) {
         return Err(refusal);
     }
-    cells(rt, p, c)
+    check_all_cells(rt, p, c)
 }
 
 /// Accepts a program with its certificate exactly where all fifteen conditions hold; else refuses

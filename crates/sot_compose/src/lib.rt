@@ -13,5 +13,5 @@ mod ordered;
 mod outputs;
 mod parts;
 
-pub use check::{check_all, check_codes};
+pub use check::{check_all, check_all_cells, check_codes};
 pub use composition::check_composition;

@@ -3,11 +3,7 @@
 ghost use Rattle.std.specs.Prelude.{◌≡◌, ◌≤◌, ◌↔◌, ℕ, length, IfOk, IsTrue};
 ghost use Rattle.sot_tree.specs.Trees.{Program as Tree};
 ghost use Rattle.sot_lang.specs.CertRules.{FitsTables};
-ghost use Rattle.sot_lang.specs.TableRules.{MeetsTableRules};
 ghost use Rattle.sot_traps.specs.Verdict.{HaveSafeBoxes};
-ghost use Rattle.sot_tube.specs.Checks.{for_each};
-ghost use Rattle.sot_tube.specs.Verdict.{cells_of};
-ghost use Rattle.sot_rta.specs.Cells.{MayHaveCells};
 ghost use Rattle.sot_rta.specs.Refused.{Answers};
 ghost use Rattle.sot_regions_words.specs.Lines.{refusal_line};
 ghost use Rattle.sot_answers.specs.Texts.{input_limit};
@@ -20,11 +16,11 @@ ghost use Rattle.sot_regions_commands.specs.Steps.{ArePadded, AnswersNone};
 use crate::search::{Asked, Findings};
 use crate::typed::typed_with;
 use sot_answers::{Answer, refused};
-use sot_compose::{check_codes, check_composition};
+use sot_compose::{check_all_cells, check_codes, check_composition};
 use sot_lang::{Cells, Cert, Typed};
 use sot_region_tree::ModuleRegions;
 use sot_regions_words::{RegionsRefusal, refusal_line};
-use sot_rta::{Refusal, check_cells, module_at};
+use sot_rta::Refusal;
 use std::alloc::{AllocError, Global};
 use std::thread::Threads;
 
@@ -69,23 +65,6 @@ fn padded(cells: Vec<Option<Cells>>, count: usize) -> Result<Vec<Option<Cells>>,
     Ok(all)
 }
 
-// Checks the cells of the modules that have some.
-fn check_found<R: Threads + Sync>(rt: &R, p: &Typed, c: &Cert) -> Result<(), Refusal>
-    requires rules { MeetsTableRules p.now }
-    requires fits { FitsTables p.now c.now }
-    requires may { MayHaveCells p.now }
-    ensures { Answers (for_each p.now.modules (cells_of p.now c.now.jitter c.now)) result }
-{
-    for module in 0..p.modules.len() as u32 {
-        // The proof speaks of the module that stands there.
-        let _info = module_at(p, module);
-        if let Err(refusal) = check_cells(rt, p, module, c) {
-            return Err(refusal);
-        }
-    }
-    Ok(())
-}
-
 // The first condition that fails of a program, where a certificate has cells for some modules.
 fn check_some<R: Threads + Sync>(rt: &R, p: &Typed, c: &Cert) -> Result<(), Refusal>
     requires fits { FitsTables p.now c.now }
@@ -100,7 +79,7 @@ fn check_some<R: Threads + Sync>(rt: &R, p: &Typed, c: &Cert) -> Result<(), Refu
     if let Err(refusal) = check_codes(p) {
         return Err(refusal);
     }
-    check_found(rt, p, c)
+    check_all_cells(rt, p, c)
 }
 
 // The line of a module of which no region was found, behind some of which regions were: a checker

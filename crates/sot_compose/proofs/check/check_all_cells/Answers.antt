@@ -1,7 +1,7 @@
 use Rattle.std.proofs.Common.{rules, arith, ◌≡◌, length}
 use Rattle.sot_tube.specs.Verdict.{cells_of}
 use Rattle.sot_rta.proofs.Loops.{next_passes, all_pass}
-use Rattle.sot_regions_commands.proofs.before.check_found.Goals as goal
+use Rattle.sot_compose.proofs.check.check_all_cells.Goals as goal
 
 pub loop-module-preserved : goal.loop-module-preserved
 loop-module-preserved g c =
