@@ -8,10 +8,10 @@ use Rattle.std.proofs.lemmas.List.{length-append}
 use Rattle.sot_ports.specs.Faults.{Rose}
 use Rattle.sot_ports.specs.Outside.{Outside, Written}
 use Rattle.sot_ports.specs.Whole.{ReadsAll, ReadsUpTo}
-use Rattle.sot_answers.specs.Texts.{input_limit}
+use Rattle.sot_program_answers.specs.Texts.{input_limit}
 use Rattle.sot_bridge_input.specs.Words.{Asks}
-use Rattle.sot_answers.specs.declared.answer.Answer.{Answer}
-use Rattle.sot_answers.specs.declared.status.Status.{Status}
+use Rattle.sot_program_answers.specs.declared.answer.Answer.{Answer}
+use Rattle.sot_program_answers.specs.declared.status.Status.{Status}
 use Rattle.sot_bridge.specs.Answers.{Accepts, Refutes, Rejects, Replies}
 use Rattle.sot_bridge.specs.Ends.{Ends, Done, IsUsage, IsTooLong, IsAnswer, Decides}
 use Rattle.sot_bridge.specs.Steps.{AskAnswer, WordAnswer, Silence}

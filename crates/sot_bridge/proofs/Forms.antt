@@ -30,7 +30,7 @@ use Rattle.sot_report.specs.RefusalTexts.{refusal_text}
 use Rattle.sot_bridge_input.specs.Halves.{Halves, halves_of}
 use Rattle.sot_bridge_sends.specs.Sends.{sends_of}
 use Rattle.sot_bridge_sends.proofs.Relaying.{may_be_relayed}
-use Rattle.sot_answers.specs.declared.answer.Answer.{Answer}
+use Rattle.sot_program_answers.specs.declared.answer.Answer.{Answer}
 use Rattle.sot_bridge.specs.declared.answer.Which.TheVariants.{A, B}
 use Rattle.sot_bridge.specs.declared.joining.JoinFault.{JoinFault}
 use Rattle.sot_bridge.specs.Answers.{Side, SpellsSide, IsAccepted, Starts, IsOutsideOf, Accepts, Joins, DoNotJoin, Replies, word_of}

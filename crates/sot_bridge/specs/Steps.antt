@@ -11,7 +11,7 @@ use Rattle.sot_flight.specs.Plans.{Plan}
 use Rattle.sot_flight.specs.Relayed.{Send, relayed}
 use Rattle.sot_board.specs.Flown.{FlownBy}
 use Rattle.sot_trace.specs.Traces.{trace_text}
-use Rattle.sot_answers.specs.Texts.{input_limit, long_text}
+use Rattle.sot_program_answers.specs.Texts.{input_limit, long_text}
 use Rattle.sot_bridge_input.specs.Words.{Asks}
 use Rattle.sot_bridge_sends.specs.Sends.{sends_of}
 use Rattle.sot_bridge.specs.declared.joining.JoinFault.{JoinFault}

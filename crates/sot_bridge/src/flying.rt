@@ -18,12 +18,12 @@ ghost use Rattle.sot_bridge.specs.Steps.{JudgesFlights, JudgesSecond, JudgesBoth
 use crate::answer::{Which, outside, refused};
 use crate::joining::Joint;
 use crate::side::Side;
-use sot_answers::Answer;
 use sot_board::Board;
 use sot_bridge_sends::board_sends;
 use sot_compose::check_all;
 use sot_flight::{Flight, Sent};
 use sot_lang::Typed;
+use sot_program_answers::Answer;
 use sot_trace::board_text;
 use sot_tube::Accepted;
 use sot_workers::fly_alone;

@@ -1,8 +1,8 @@
 //! The program, over real words, source and sink.
 
 use crate::top::bridge;
-use sot_answers::words_of;
 use sot_ports::{Process, StdSink, StdSource};
+use sot_program_answers::words_of;
 use std::alloc::Global;
 use std::env::Args;
 use std::io;

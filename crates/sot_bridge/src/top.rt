@@ -9,9 +9,11 @@ ghost use Rattle.sot_bridge.specs.Ends.{Ends, AskNone};
 ghost use Rattle.sot_bridge.specs.Steps.{AskAnswer, WordAnswer, Silence};
 
 use crate::reply::{Ask, reply_of};
-use sot_answers::{Answer, INPUT_LIMIT, Status, fixed, or_memory, read_input, say, too_long};
 use sot_bridge_input::{WordFail, delay_of};
 use sot_ports::{Process, ReadFail, Sink, Source};
+use sot_program_answers::{
+    Answer, INPUT_LIMIT, Status, fixed, or_memory, read_input, say, too_long,
+};
 use std::alloc::Global;
 use std::thread::Threads;
 

@@ -14,7 +14,7 @@ use Rattle.sot_flight.specs.Relayed.{Send}
 use Rattle.sot_flight.proofs.DueCounts.{due_count_is}
 use Rattle.sot_board.specs.Versions.{drafts_of, topic_of, is_published, publishes_on}
 use Rattle.sot_trace.specs.Lines.{writes_of}
-use Rattle.sot_scene.specs.Scenes.{scalars_after}
+use Rattle.sot_history_state.specs.Scenes.{scalars_after}
 use Rattle.sot_law_flight_facts.proofs.Firings.{whole}
 use Rattle.sot_bridge_topics.specs.Sends.{has_topic, due_sends}
 use Rattle.sot_bridge_sends.specs.Sends.{value_of, sent_by, sends_from}

@@ -24,7 +24,7 @@ use Rattle.sot_flight.specs.Plans.{Plan}
 use Rattle.sot_flight.specs.Relayed.{Send}
 use Rattle.sot_board.specs.Flown.{Position, Tells, Leads, FlownBy}
 use Rattle.sot_trace.specs.Lines.{writes_of}
-use Rattle.sot_scene.specs.Scenes.{first_of, scalars_after}
+use Rattle.sot_history_state.specs.Scenes.{first_of, scalars_after}
 use Rattle.sot_bridge_sends.specs.Sends.{value_of, time_of, sends_on, sent_by, sends_from, sends_of}
 use Rattle.sot_bridge_sends.specs.Laws.{SendsAreInRange}
 

@@ -5,7 +5,7 @@ use Rattle.sot_lists.proofs.Places.{drop_at}
 use Rattle.sot_lang.specs.Tables.{Tables}
 use Rattle.sot_world.specs.HistoryEntry.{Logged, InputAt, FireAt, DecideAt, TickAt}
 use Rattle.sot_flight.specs.Relayed.{Send}
-use Rattle.sot_scene.specs.Scenes.{Scene, after, scalars_after}
+use Rattle.sot_history_state.specs.Scenes.{Scene, after, scalars_after}
 use Rattle.sot_bridge_sends.specs.Sends.{sent_by, sends_from}
 
 pub after_scalars : (p : Tables) (e : Logged) (s : Scene) → (after p e s).scalars ≡ scalars_after p e s.scalars

@@ -13,7 +13,7 @@ use Rattle.sot_lang.specs.TableRules.{MeetsTableRules}
 use Rattle.sot_lang.proofs.Topics.{topic_inside}
 use Rattle.sot_code.specs.Recorded.{in_slots}
 use Rattle.sot_flight.specs.Relayed.{drafted}
-use Rattle.sot_scene.specs.Scenes.{first_of}
+use Rattle.sot_history_state.specs.Scenes.{first_of}
 use Rattle.sot_bridge_sends.specs.Sends.{value_of}
 
 at_taken : {A : Type 0} (n : ℕ) (xs : List A) (k : ℕ) (x : A) → k < n → At xs k x → At (take n xs) k x

@@ -11,7 +11,7 @@ use Rattle.sot_world.specs.HistoryEntry.{Logged}
 use Rattle.sot_flight.specs.Plans.{Plan}
 use Rattle.sot_flight.specs.Relayed.{Send}
 use Rattle.sot_board.specs.Flown.{Position, Tells, Leads, FlownBy}
-use Rattle.sot_scene.specs.Scenes.{scalars_after}
+use Rattle.sot_history_state.specs.Scenes.{scalars_after}
 use Rattle.sot_bridge_sends.specs.Sends.{value_of, time_of, sends_on, sent_by, sends_from, sends_of}
 use Rattle.sot_bridge_sends.specs.Laws.{SendsAreInOrder}
 

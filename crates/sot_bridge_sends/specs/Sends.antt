@@ -7,7 +7,7 @@ use Rattle.sot_world.specs.HistoryEntry.{Logged, InputAt, FireAt, DecideAt, Tick
 use Rattle.sot_flight.specs.Relayed.{Send}
 use Rattle.sot_board.specs.Versions.{publishes_on}
 use Rattle.sot_trace.specs.Lines.{writes_of}
-use Rattle.sot_scene.specs.Scenes.{first_of, scalars_after}
+use Rattle.sot_history_state.specs.Scenes.{first_of, scalars_after}
 
 -- the value of a topic, where the scalars have these numbers: those of all its scalars, in order
 abbrev pub value_of : Tables → ℕ → List ℤ → List ℤ

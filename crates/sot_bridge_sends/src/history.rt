@@ -5,14 +5,14 @@ ghost use Rattle.sot_world.specs.Opens.{AreStarts};
 ghost use Rattle.sot_world.specs.Histories.{entry_of};
 ghost use Rattle.sot_flight.specs.Relayed.{drafted, send_of};
 ghost use Rattle.sot_trace.specs.Fitting.{FitsEntry, FitsHistory};
-ghost use Rattle.sot_scene.specs.Scenes.{IsSceneOf};
+ghost use Rattle.sot_history_state.specs.Scenes.{IsSceneOf};
 ghost use Rattle.sot_bridge_sends.specs.Sends.{time_of, value_of, sent_by, sends_of};
 
 use crate::publishing::sends_on;
 use sot_box::Point;
 use sot_flight::Sent;
+use sot_history_state::Scene;
 use sot_lang::{Draft, Typed};
-use sot_scene::Scene;
 use sot_world::{Entry, History};
 use std::alloc::{AllocError, Global};
 

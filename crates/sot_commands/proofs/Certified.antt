@@ -28,7 +28,7 @@ use Rattle.sot_certified_text.proofs.Lines.{texts_divide}
 use Rattle.sot_report.specs.declared.fault.Fault.TheVariants as faults
 use Rattle.sot_report.specs.Missions.{Mission, SpellsNone, Resolves, HasFault}
 use Rattle.sot_report.specs.FaultTexts.{type_text, syntax_text}
-use Rattle.sot_answers.specs.declared.answer.Answer.{Answer}
+use Rattle.sot_program_answers.specs.declared.answer.Answer.{Answer}
 use Rattle.sot_commands.specs.declared.words.Command.TheVariants.{Certify}
 use Rattle.sot_commands.specs.Answers.{SpellsFor, IsCertifiedText, IsRefusedFor, SpellsAccepted, SpellsAcceptedOf, Replies}
 use Rattle.sot_commands.specs.Steps.{IsWritten, CertifiesTables, CertifiesTree}

@@ -33,7 +33,7 @@ use Rattle.sot_report.specs.declared.fault.Fault.{Fault}
 use Rattle.sot_report.specs.Missions.{Mission, SaysFlight, HasFault}
 use Rattle.sot_report.specs.FaultTexts.{fault_text}
 use Rattle.sot_report.specs.RefusalTexts.{refusal_text}
-use Rattle.sot_answers.specs.declared.answer.Answer.{Answer}
+use Rattle.sot_program_answers.specs.declared.answer.Answer.{Answer}
 use Rattle.sot_commands.specs.declared.words.Command.TheVariants.{Replay}
 use Rattle.sot_commands.specs.ReplayTexts.{legal_text, refused_line_text}
 use Rattle.sot_commands.specs.Answers.{IsOutsideOf, SpellsFor, Replies}

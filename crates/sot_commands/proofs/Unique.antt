@@ -23,7 +23,7 @@ use Rattle.sot_replay.specs.GoesOn as goes_on
 use Rattle.sot_replay.specs.Replays.{IsRefusedAt}
 use Rattle.sot_replay.specs.declared.fail.LineKind.{LineKind}
 use Rattle.sot_replay.proofs.OneAnswer.{traces_are_not_refused}
-use Rattle.sot_answers.specs.Texts.{input_limit}
+use Rattle.sot_program_answers.specs.Texts.{input_limit}
 use Rattle.sot_commands.proofs.Replayed.{traced_alike}
 use Rattle.sot_flight.specs.FlightFormat.{flight_of}
 use Rattle.sot_tube.specs.Certified.{IsWellCertified}

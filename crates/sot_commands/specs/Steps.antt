@@ -34,7 +34,7 @@ use Rattle.sot_formula.specs.declared.fail.MonitorFail.{MonitorFail}
 use Rattle.sot_formula.specs.declared.fail.MonitorFail.TheVariants as monitor_fails
 use Rattle.sot_monitor.specs.Tracked.{Tracked}
 use Rattle.sot_monitor.specs.Tracking.{IsNewOf}
-use Rattle.sot_answers.specs.Texts.{input_limit, long_text}
+use Rattle.sot_program_answers.specs.Texts.{input_limit, long_text}
 use Rattle.sot_commands.specs.Watched.{IsFormula, HasMeaning, TellsHolds, TellsFails}
 use Rattle.sot_commands.specs.WatchTexts.{formula_text}
 use Rattle.sot_commands.specs.Texts.{usage_text}
@@ -48,7 +48,7 @@ use Rattle.sot_commands.specs.Ends.{Takes}
 use Rattle.sot_commands.specs.Orders.{Orders, CommandOrder, IsOrdered, IsToldOf, IsFailedOf}
 use Rattle.sot_commands.specs.Orders.{IsVerdict}
 use Rattle.sot_commands.specs.Guests.{GuestsGoOn, IsNothing, SaysHolds, SaysFails, IsNoTrace}
-use Rattle.sot_answers.specs.declared.answer.Answer.{Answer}
+use Rattle.sot_program_answers.specs.declared.answer.Answer.{Answer}
 use Rattle.sot_commands.specs.declared.reply.Reply.{Reply}
 use Rattle.sot_commands.specs.declared.reply.Reply.TheVariants.{Said, Flight}
 

@@ -16,13 +16,13 @@ ghost use Rattle.sot_report.specs.AcceptedTexts.{accepted_text};
 ghost use Rattle.sot_certified_text.specs.FailTexts.{fail_text};
 ghost use Rattle.sot_recovery_text.specs.Recovery.{IsNeverAt};
 
-use sot_answers::{Answer, fixed};
 use sot_certify::CertifyFail;
 use sot_flight::Flight;
 use sot_formula::MonitorFail;
 use sot_lang::{Cert, Typed};
 use sot_maker::make;
 use sot_print::print;
+use sot_program_answers::{Answer, fixed};
 use sot_recovery_text::{RecoveryFail, never_text};
 use sot_replay::LineKind;
 use sot_report::start_text;

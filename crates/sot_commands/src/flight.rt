@@ -9,10 +9,10 @@ ghost use Rattle.sot_commands.specs.declared.telling.Telling.TheVariants.{Summar
 use crate::fly::fly;
 use crate::order::FlightOrder;
 use crate::telling::Telling;
-use sot_answers::{Answer, INPUT_LIMIT};
 use sot_node_worker::Controller;
 use sot_ports::Process;
-use sot_spool::Out;
+use sot_program_answers::{Answer, INPUT_LIMIT};
+use sot_text_output::Out;
 use std::alloc::{AllocError, Global};
 use std::sync::Wait;
 use std::thread::Threads;

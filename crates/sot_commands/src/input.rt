@@ -7,8 +7,8 @@ ghost use Rattle.sot_commands.specs.Words.{Reads};
 ghost use Rattle.sot_commands.specs.Ends.{Takes};
 
 use crate::words::Command;
-use sot_answers::{INPUT_LIMIT, read_input};
 use sot_ports::{ReadFail, Source};
+use sot_program_answers::{INPUT_LIMIT, read_input};
 use std::alloc::Global;
 
 fn reads(command: Command<'_>) -> bool

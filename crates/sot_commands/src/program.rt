@@ -4,11 +4,11 @@ ghost use Rattle.std.specs.Prelude.{None};
 
 use crate::order::Begun;
 use crate::top::{begin, fly_to_the_end};
-use sot_answers::words_of;
 use sot_board::View;
 use sot_lang::Draft;
 use sot_node_worker::Controller;
 use sot_ports::{Process, StdSink, StdSource};
+use sot_program_answers::words_of;
 use std::alloc::Global;
 use std::env::Args;
 use std::io;

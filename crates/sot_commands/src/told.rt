@@ -12,11 +12,11 @@ ghost use Rattle.sot_commands.specs.WatchTexts.{holds_text, fails_text};
 ghost use Rattle.sot_commands.specs.Steps.{told_text, Watches, TellsVerdict, SaysInAll};
 
 use crate::telling::Telling;
-use sot_answers::Answer;
 use sot_board::Board;
 use sot_monitor::Monitor;
-use sot_spool::Out;
+use sot_program_answers::Answer;
 use sot_summary::{board_summary, summary_text};
+use sot_text_output::Out;
 use sot_trace::put_board;
 use sot_tube::Accepted;
 use sot_watch::watch;

@@ -7,8 +7,8 @@ use Rattle.sot_trace_lines.specs.LentLines.{without_end, lent_lines}
 use Rattle.sot_guard_talk.specs.Openings.{Starting, TakesStart}
 use Rattle.sot_guard_talk.specs.Talks.{Talking}
 use Rattle.sot_guard_talk.specs.TalkLaws.{HearsLine, HearsLines}
-use Rattle.sot_guard_front.specs.Reading.{ends_line}
-use Rattle.sot_guard_front.proofs.LineTexts.{lines_behind, ends_behind}
+use Rattle.sot_guard_mission_text.specs.Reading.{ends_line}
+use Rattle.sot_guard_mission_text.proofs.LineTexts.{lines_behind, ends_behind}
 use Rattle.sot_guard_commands.specs.Conversations.{Starts, Answers}
 use Rattle.sot_guard_commands.specs.Hearing.{IsOneLine}
 

@@ -12,7 +12,7 @@ use Rattle.sot_tube.specs.Certified.{IsWellCertified}
 use Rattle.sot_world.specs.Headline.{EveryRunIsSafe}
 use Rattle.sot_report.specs.Missions.{Mission, SpellsMission}
 use Rattle.sot_report.specs.AcceptedTexts.{accepted_text}
-use Rattle.sot_answers.specs.declared.answer.Answer.{Answer}
+use Rattle.sot_program_answers.specs.declared.answer.Answer.{Answer}
 use Rattle.sot_guard_commands.specs.Conversations.{unopened}
 use Rattle.sot_guard_commands.specs.Moments.{Ears, Mouth, Passes, Utters, Ended}
 use Rattle.sot_guard_commands.specs.Says.{SaysRobot, SaysMission}

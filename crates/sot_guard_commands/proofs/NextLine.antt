@@ -4,8 +4,8 @@ use Rattle.std.proofs.Common.{Ok, Err, inl, take, drop, refl, sym, ap, ◌∙◌
 use Rattle.std.proofs.Math.ListN.{drop_of_length-le}
 use Rattle.sot_guard_talk.specs.Openings.{Starting}
 use Rattle.sot_guard_talk.specs.Talks.{Talking}
-use Rattle.sot_guard_front.specs.declared.ear.Ear.{Ear}
-use Rattle.sot_guard_front.specs.Reading.{Reads, IsLine, ends_line}
+use Rattle.sot_guard_mission_text.specs.declared.ear.Ear.{Ear}
+use Rattle.sot_guard_mission_text.specs.Reading.{Reads, IsLine, ends_line}
 use Rattle.sot_guard_commands.specs.declared.halt.Stop.{Stop}
 use Rattle.sot_guard_commands.specs.declared.halt.Stop.TheVariants as stops
 use Rattle.sot_guard_commands.specs.Moments.{Ears, Mouth, Passes, ears}

@@ -6,8 +6,8 @@ use Rattle.sot_tube.specs.Admitted.{Admitted}
 use Rattle.sot_trace_lines.specs.LentLines.{lent_lines}
 use Rattle.sot_guard_session.specs.declared.misheard.Misheard.{Misheard}
 use Rattle.sot_guard_talk.specs.Openings.{Starting, HasAll, IsNoStart}
-use Rattle.sot_guard_front.specs.Reading.{ends_line}
-use Rattle.sot_guard_front.proofs.Pieces.{reads_trans}
+use Rattle.sot_guard_mission_text.specs.Reading.{ends_line}
+use Rattle.sot_guard_mission_text.proofs.Pieces.{reads_trans}
 use Rattle.sot_guard_commands.specs.declared.halt.Stop.{Stop}
 use Rattle.sot_guard_commands.specs.declared.halt.Stop.TheVariants as stops
 use Rattle.sot_guard_commands.specs.declared.halt.Halt.{Halt}

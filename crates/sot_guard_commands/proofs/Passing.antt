@@ -6,7 +6,7 @@ use Rattle.std.proofs.Math.Seq.{take-append-add}
 use Rattle.std.proofs.KnownBytes.{Appends-nil, Appends-trans}
 use Rattle.std.specs.Io.KnownBytes.{Appends}
 use Rattle.sot_ports.specs.Faults.{Rose}
-use Rattle.sot_guard_front.proofs.Pieces.{reads_nil, reads_trans}
+use Rattle.sot_guard_mission_text.proofs.Pieces.{reads_nil, reads_trans}
 use Rattle.sot_guard_commands.specs.Moments.{Ears, Mouth, Passes, Utters, Ended}
 use Rattle.sot_guard_commands.specs.Tellings.{Tells, IsQuiet}
 

@@ -21,13 +21,13 @@ use Rattle.sot_law_one_trace.proofs.Named.{names}
 use Rattle.sot_report.specs.Missions.{Mission, SpellsMission, HasFault}
 use Rattle.sot_report.specs.FaultTexts.{fault_text}
 use Rattle.sot_report.specs.RefusalTexts.{refusal_text}
-use Rattle.sot_answers.specs.Texts.{input_limit, long_text}
-use Rattle.sot_answers.specs.declared.answer.Answer.{Answer}
+use Rattle.sot_program_answers.specs.Texts.{input_limit, long_text}
+use Rattle.sot_program_answers.specs.declared.answer.Answer.{Answer}
 use Rattle.sot_guard_talk.specs.Openings.{Starting}
 use Rattle.sot_ports.specs.Faults.{Rose}
 use Rattle.sot_ports.specs.Outside.{Outside}
-use Rattle.sot_guard_front.specs.Fronts.{HasNone, IsFront, IsMark, IsTooLong}
-use Rattle.sot_guard_front.specs.Reading.{Reads}
+use Rattle.sot_guard_mission_text.specs.Fronts.{HasNone, IsFront, IsMark, IsTooLong}
+use Rattle.sot_guard_mission_text.specs.Reading.{Reads}
 use Rattle.sot_guard_commands.specs.Lines.{usage_text}
 use Rattle.sot_guard_commands.specs.Ends.{EndsSome, ears_at, mouth_at}
 use Rattle.sot_guard_commands.specs.Moments.{Ears, Mouth, Passes, Ended}

@@ -7,7 +7,7 @@ use Rattle.sot_trace.specs.Traces.{text_of}
 use Rattle.sot_trace_lines.specs.LentLines.{lent_lines}
 use Rattle.sot_guard_talk.specs.Openings.{Starting, HasAll}
 use Rattle.sot_guard_talk.specs.Talks.{Talking}
-use Rattle.sot_guard_front.specs.Reading.{IsSettled, ends_line}
+use Rattle.sot_guard_mission_text.specs.Reading.{IsSettled, ends_line}
 use Rattle.sot_guard_commands.specs.declared.halt.Stop.{Stop}
 use Rattle.sot_guard_commands.specs.declared.halt.Stop.TheVariants.{Missing}
 use Rattle.sot_guard_commands.specs.Conversations.{Starts, Answers}

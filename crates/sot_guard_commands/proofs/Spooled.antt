@@ -2,9 +2,9 @@
 use Rattle.std.proofs.Common.{◌≡◌, ℕ, List, [], Option, inl, inr, length, sym, ap, subst, arith}
 use Rattle.std.proofs.lemmas.List.{length-append, nil_from_length}
 use Rattle.std.specs.Io.KnownBytes.{Appends}
-use Rattle.sot_spool.specs.declared.spool.Spool.{Spool}
-use Rattle.sot_spool.specs.Spools.{Spooling, IsSpooled, Arrives, ArrivesInPart}
-use Rattle.sot_spool.specs.SpoolViews.{spooling, Puts}
+use Rattle.sot_text_output.specs.declared.spool.Spool.{Spool}
+use Rattle.sot_text_output.specs.Spools.{Spooling, IsSpooled, Arrives, ArrivesInPart}
+use Rattle.sot_text_output.specs.SpoolViews.{spooling, Puts}
 use Rattle.sot_guard_commands.specs.Moments.{Mouth, Utters, mouth}
 use Rattle.sot_guard_commands.specs.Hearing.{CutsOff}
 use Rattle.sot_guard_commands.specs.Tellings.{Tells, TellsPut}

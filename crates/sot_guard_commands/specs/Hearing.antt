@@ -10,8 +10,8 @@ use Rattle.sot_guard_session.specs.declared.misheard.Misheard.TheVariants.{NotAL
 use Rattle.sot_guard_talk.specs.Openings.{Starting, HasAll, TakesStart, IsNoStart}
 use Rattle.sot_guard_talk.specs.Talks.{Talking, Mishears, IsOver}
 use Rattle.sot_guard_talk.specs.TalkLaws.{HearsLine}
-use Rattle.sot_guard_front.specs.declared.ear.Ear.{Ear}
-use Rattle.sot_guard_front.specs.Reading.{Reads, IsSettled, IsLine, ends_line}
+use Rattle.sot_guard_mission_text.specs.declared.ear.Ear.{Ear}
+use Rattle.sot_guard_mission_text.specs.Reading.{Reads, IsSettled, IsLine, ends_line}
 use Rattle.sot_guard_commands.specs.declared.halt.Stop.{Stop}
 use Rattle.sot_guard_commands.specs.declared.halt.Stop.TheVariants as stops
 use Rattle.sot_guard_commands.specs.declared.halt.Halt.{Halt}

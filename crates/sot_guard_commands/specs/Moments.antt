@@ -3,8 +3,8 @@ use Rattle.std.specs.Prelude.{◌≡◌, ◌≢◌, ℕ, Bool, List, Option}
 use Rattle.std.specs.Io.KnownBytes.{Appends}
 use Rattle.sot_ports.specs.Faults.{Rose}
 use Rattle.sot_ports.specs.Outside.{Written}
-use Rattle.sot_guard_front.specs.declared.ear.Ear.{Ear}
-use Rattle.sot_guard_front.specs.Reading.{Reads}
+use Rattle.sot_guard_mission_text.specs.declared.ear.Ear.{Ear}
+use Rattle.sot_guard_mission_text.specs.Reading.{Reads}
 
 -- what source and ear tell: the bytes that are still to come, how often the source has failed,
 -- those that wait, and whether the source was seen to end

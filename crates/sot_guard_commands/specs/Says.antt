@@ -23,14 +23,14 @@ use Rattle.sot_report.specs.Missions.{Mission, SpellsMission, HasFault}
 use Rattle.sot_report.specs.FaultTexts.{fault_text}
 use Rattle.sot_report.specs.RefusalTexts.{refusal_text, start_text}
 use Rattle.sot_report.specs.AcceptedTexts.{accepted_text}
-use Rattle.sot_answers.specs.Texts.{input_limit, long_text}
+use Rattle.sot_program_answers.specs.Texts.{input_limit, long_text}
 use Rattle.sot_line_buffer.specs.Waiting.{longest, has_end}
 use Rattle.sot_guard_session.specs.declared.misheard.Misheard.{Misheard}
 use Rattle.sot_guard_session.specs.declared.misheard.Misheard.TheVariants.{NotALine}
 use Rattle.sot_guard_text.specs.Lines.{end_line}
 use Rattle.sot_guard_talk.specs.Openings.{Starting, HasAll, IsNoStart}
 use Rattle.sot_guard_talk.specs.Talks.{Talking, time_of, Mishears, IsOver}
-use Rattle.sot_guard_front.specs.Fronts.{HasNone, IsFront, IsMark, IsTooLong}
+use Rattle.sot_guard_mission_text.specs.Fronts.{HasNone, IsFront, IsMark, IsTooLong}
 use Rattle.sot_guard_commands.specs.Lines.{usage_text, misheard_word, missing_word, at_line}
 use Rattle.sot_guard_commands.specs.Conversations.{unopened, Starts, Begins, Answers, StaysSafe}
 use Rattle.sot_guard_commands.specs.Moments.{Ears}

@@ -2,13 +2,13 @@
 use Rattle.std.specs.Prelude.{◌≡◌, ℕ, ◌∷◌, [], List, Option, Result, Ok, Err}
 use Rattle.std.specs.declared.alloc.AllocError.{AllocError}
 use Rattle.sot_ports.specs.Outside.{Written}
-use Rattle.sot_spool.specs.declared.spool.Spool.{Spool}
-use Rattle.sot_spool.specs.Spools.{IsSpooled}
-use Rattle.sot_spool.specs.SpoolViews.{spooling}
+use Rattle.sot_text_output.specs.declared.spool.Spool.{Spool}
+use Rattle.sot_text_output.specs.Spools.{IsSpooled}
+use Rattle.sot_text_output.specs.SpoolViews.{spooling}
 use Rattle.sot_trace.specs.Traces.{text_of}
 use Rattle.sot_guard_text.specs.Lines.{end_line}
 use Rattle.sot_guard_talk.specs.Talks.{Talking, time_of}
-use Rattle.sot_answers.specs.declared.answer.Answer.{Answer}
+use Rattle.sot_program_answers.specs.declared.answer.Answer.{Answer}
 use Rattle.sot_guard_commands.specs.declared.halt.Stop.{Stop}
 use Rattle.sot_guard_commands.specs.declared.halt.Stop.TheVariants as stops
 use Rattle.sot_guard_commands.specs.Lines.{misheard_word, missing_word, at_line}

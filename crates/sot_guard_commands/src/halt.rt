@@ -6,10 +6,10 @@ ghost use Rattle.sot_guard_commands.specs.Moments.{mouth};
 ghost use Rattle.sot_guard_commands.specs.Tellings.{Tells, TellsStop};
 
 use crate::tell::tell_put;
-use sot_answers::Status;
 use sot_guard_session::Misheard;
 use sot_ports::Sink;
-use sot_spool::{Out, Spool};
+use sot_program_answers::Status;
+use sot_text_output::{Out, Spool};
 use sot_trace::put_count;
 
 /// Why nothing more is heard.

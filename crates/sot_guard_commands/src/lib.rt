@@ -17,6 +17,6 @@ mod tell;
 mod top;
 
 pub use program::run;
-pub use sot_answers::Status;
 pub use sot_ports::{Process, Sink, Source, StdSink, StdSource};
+pub use sot_program_answers::Status;
 pub use top::guard;

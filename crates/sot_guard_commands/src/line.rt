@@ -3,12 +3,12 @@
 ghost use Rattle.std.specs.Prelude.{◌≡◌, ◌+◌, ◌<◌, ◌^◌, false, [], ◌∷◌, length, IfOk, IfErr, OnOk};
 ghost use Rattle.sot_text.specs.LineEnds.{lines};
 ghost use Rattle.sot_trace_lines.specs.LentLines.{lent_lines};
-ghost use Rattle.sot_guard_front.specs.Reading.{Reads};
+ghost use Rattle.sot_guard_mission_text.specs.Reading.{Reads};
 ghost use Rattle.sot_guard_commands.specs.Moments.{ears};
 ghost use Rattle.sot_guard_commands.specs.Hearing.{IsNextLine, IsNoLine};
 
 use crate::halt::Stop;
-use sot_guard_front::{Ear, Next};
+use sot_guard_mission_text::{Ear, Next};
 use sot_guard_session::Misheard;
 use sot_ports::{Failed, Source};
 use sot_trace_lines::Lines;

@@ -1,7 +1,7 @@
 //! A talk that answers each line as soon as it is heard.
 
 ghost use Rattle.std.specs.Prelude.{◌≡◌, false};
-ghost use Rattle.sot_guard_front.specs.Reading.{IsLine};
+ghost use Rattle.sot_guard_mission_text.specs.Reading.{IsLine};
 ghost use Rattle.sot_guard_commands.specs.Moments.{ears, mouth};
 ghost use Rattle.sot_guard_commands.specs.Hearing.{AnswersLine, PassesTaken};
 ghost use Rattle.sot_guard_commands.specs.Hearing.{AnswersNext, AnswersAll};
@@ -11,11 +11,11 @@ ghost use Rattle.sot_guard_commands.specs.Tellings.{TellsStop, TellsEnd};
 use crate::halt::{Halt, Stop, stopped};
 use crate::line::{next_line, without_end};
 use crate::tell::tell_put;
-use sot_answers::Status;
-use sot_guard_front::Ear;
+use sot_guard_mission_text::Ear;
 use sot_guard_talk::Talk;
 use sot_ports::{Sink, Source};
-use sot_spool::Spool;
+use sot_program_answers::Status;
+use sot_text_output::Spool;
 
 /// A talk, and the bytes through which its answers are written, with all their room.
 #[derive(Drop)]

@@ -1,13 +1,13 @@
 //! Where a robot's plants are observed first.
 
 ghost use Rattle.std.specs.Prelude.{◌≡◌, true, [], length, Err};
-ghost use Rattle.sot_guard_front.specs.Reading.{IsSettled, IsLine};
+ghost use Rattle.sot_guard_mission_text.specs.Reading.{IsSettled, IsLine};
 ghost use Rattle.sot_guard_commands.specs.Moments.{ears};
 ghost use Rattle.sot_guard_commands.specs.Hearing.{PassesFirst, AnswersFirst, AnswersFirsts};
 
 use crate::halt::{Halt, Stop};
 use crate::line::{next_line, without_end};
-use sot_guard_front::Ear;
+use sot_guard_mission_text::Ear;
 use sot_guard_talk::Opening;
 use sot_ports::Source;
 

@@ -4,9 +4,9 @@ ghost use Rattle.std.specs.Prelude.{◌≡◌};
 ghost use Rattle.sot_guard_commands.specs.Moments.{mouth};
 ghost use Rattle.sot_guard_commands.specs.Tellings.{TellsPut, TellsAnswer};
 
-use sot_answers::{Answer, Status, say};
 use sot_ports::Sink;
-use sot_spool::Spool;
+use sot_program_answers::{Answer, Status, say};
+use sot_text_output::Spool;
 use std::alloc::AllocError;
 
 /// Writes what was put into a spool, and ends with this status, or with 5 where the sink fails.

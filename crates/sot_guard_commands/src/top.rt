@@ -7,9 +7,9 @@ ghost use Rattle.sot_guard_commands.specs.Says.{SaysAll};
 
 use crate::accepting::{accept, unobserved};
 use crate::tell::tell;
-use sot_answers::{INPUT_LIMIT, Status, fixed, too_long};
-use sot_guard_front::{Ear, Front, FrontFail, read_front};
+use sot_guard_mission_text::{Ear, Front, FrontFail, read_front};
 use sot_ports::{Process, Sink, Source};
+use sot_program_answers::{INPUT_LIMIT, Status, fixed, too_long};
 use std::alloc::Global;
 use std::thread::Threads;
 

@@ -15,10 +15,10 @@ use crate::heard::Heard;
 use crate::put::{put_instant, put_value, put_where_outside};
 use sot_box::Point;
 use sot_guard_session::{Misheard, Session, Turn};
+use sot_history_state::put_points;
 use sot_lang::{Draft, Typed};
 use sot_robot_lines::Said;
-use sot_scene::put_points;
-use sot_spool::Out;
+use sot_text_output::Out;
 use std::marker::Model;
 
 /// A session, how many events there were, and room for what is put.

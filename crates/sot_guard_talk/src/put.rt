@@ -11,7 +11,7 @@ ghost use Rattle.sot_world.specs.HistoryEntry.{InputAt};
 use sot_guard::{Outside, Told};
 use sot_guard_text::{put_hold, put_outside, put_ready};
 use sot_lang::Typed;
-use sot_spool::Out;
+use sot_text_output::Out;
 use sot_trace::{put_decision, put_firing, put_input};
 
 // What happened, without a line end.

@@ -16,7 +16,7 @@ use crate::opening::Opening;
 use sot_guard_session::{Misheard, Session, Turn};
 use sot_guard_text::put_end;
 use sot_robot_lines::read_said;
-use sot_spool::Out;
+use sot_text_output::Out;
 use sot_world::OpenFail;
 use std::alloc::Global;
 use std::marker::Model;

@@ -5,7 +5,7 @@ ghost use Rattle.sot_lists.specs.Places.{At};
 ghost use Rattle.sot_guard_text.specs.Lines.{held_text, all_held, hold_line};
 
 use sot_lang::Typed;
-use sot_spool::Out;
+use sot_text_output::Out;
 use sot_trace::{put_name, put_number, put_scalar_name, put_time};
 
 fn put_held<O: Out>(out: &mut O, p: &Typed, scalar: usize, number: i64)

@@ -6,7 +6,7 @@ ghost use Rattle.sot_lang.specs.Names.{plant_name};
 
 use sot_box::Interval;
 use sot_lang::{PlantInfo, Typed};
-use sot_spool::Out;
+use sot_text_output::Out;
 use sot_trace::{put_count, put_name, put_number, put_time};
 
 /// That an instant was gone through: the tick may come.

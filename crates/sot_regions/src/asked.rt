@@ -2,7 +2,7 @@
 
 ghost use Rattle.std.specs.Prelude.{◌≡◌, ◌≤◌, ◌<◌, ℤ, List, length, IfOk, IfErr, IfSome, OnOk};
 ghost use Rattle.sot_atoms.specs.Grids.{CutsHull};
-ghost use Rattle.sot_shrinking.specs.Asking.{asked_width};
+ghost use Rattle.sot_closed_atoms.specs.Asking.{asked_width};
 ghost use Rattle.sot_regions.specs.Shapes.{AreWide, HasShape};
 ghost use Rattle.sot_regions.specs.Searches.{IsSearch, IsBest};
 ghost use Rattle.sot_regions.specs.declared.found.RegionsFail.TheVariants.{SafeNone};
@@ -14,8 +14,8 @@ use crate::growing::orders;
 use crate::search::{Good, Search};
 use sot_atoms::{AtomSet, Block, Grid, MOST_ATOMS, Sums, atoms_in};
 use sot_box::{BoxN, Region};
+use sot_closed_atoms::{Ask, atoms_of, greatest};
 use sot_rta::node_at;
-use sot_shrinking::{Ask, atoms_of, greatest};
 use std::alloc::{AllocError, Global};
 
 // More grains than there are until each side is one place.

@@ -4,7 +4,7 @@ ghost use Rattle.std.specs.Prelude.{◌≡◌, ◌<◌, ℤ, pos, List, IfOk, If
 ghost use Rattle.sot_lists.specs.Places.{At};
 ghost use Rattle.sot_lang.specs.declared.tables.ModuleInfo.{ModuleInfo as AModule};
 ghost use Rattle.sot_lang.specs.OwnerNames.{width_of};
-ghost use Rattle.sot_shrinking.specs.Asking.{MayAsk};
+ghost use Rattle.sot_closed_atoms.specs.Asking.{MayAsk};
 ghost use Rattle.sot_atoms.specs.Grids.{IsFinest};
 ghost use Rattle.sot_law_held_regions.specs.Following.{HasNoHeldRegion};
 ghost use Rattle.sot_regions.specs.Shapes.{HasShape};
@@ -17,9 +17,9 @@ use crate::found::{Found, RegionsFail};
 use crate::narrowing::narrowed;
 use sot_atoms::Grid;
 use sot_box::Point;
+use sot_closed_atoms::{Ask, closed_atoms};
 use sot_lang::Typed;
 use sot_rta::module_at;
-use sot_shrinking::{Ask, closed_atoms};
 use std::alloc::Global;
 
 // The grain of a side; the greatest number where it is longer.

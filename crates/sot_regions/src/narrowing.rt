@@ -1,14 +1,14 @@
 //! Less is asked where all that is asked wants too many boxes.
 
 ghost use Rattle.std.specs.Prelude.{◌≡◌, ◌<◌, ℤ, List, length, IfOk, IfErr, IfSome};
-ghost use Rattle.sot_shrinking.specs.Asking.{asked_width};
+ghost use Rattle.sot_closed_atoms.specs.Asking.{asked_width};
 ghost use Rattle.sot_regions.specs.Shapes.{HasShape};
 ghost use Rattle.sot_regions.specs.declared.found.RegionsFail.TheVariants.{SafeNone};
 
 use crate::asked::{closed_in, narrowest_grid, regions_from};
 use crate::found::{Found, RegionsFail};
 use sot_box::{BoxN, Interval, Region};
-use sot_shrinking::Ask;
+use sot_closed_atoms::Ask;
 use std::alloc::{AllocError, Global};
 
 // How far the ends of a side are apart.

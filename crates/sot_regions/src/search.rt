@@ -5,7 +5,7 @@ ghost use Rattle.sot_regions.specs.Searches.{IsSearch};
 
 use crate::growing::{End, Order, grown, room};
 use sot_atoms::{AtomSet, Block, Grid, Sums, atoms_in};
-use sot_shrinking::{Among, Ask, any_stays, held_stays};
+use sot_closed_atoms::{Among, Ask, any_stays, held_stays};
 use std::alloc::{AllocError, Global};
 
 /// In which grid is searched, and whose tubes are asked for.

@@ -9,9 +9,9 @@ use Rattle.sot_ports.specs.Outside.{Outside, Written}
 use Rattle.sot_ports.specs.Whole.{ReadsAll, ReadsUpTo}
 use Rattle.sot_regions_words.specs.Words.{Asks, AsksNone}
 use Rattle.sot_regions_words.specs.Lines.{usage_text}
-use Rattle.sot_answers.specs.Texts.{input_limit}
-use Rattle.sot_answers.specs.declared.answer.Answer.{Answer}
-use Rattle.sot_answers.specs.declared.status.Status.{Status}
+use Rattle.sot_program_answers.specs.Texts.{input_limit}
+use Rattle.sot_program_answers.specs.declared.answer.Answer.{Answer}
+use Rattle.sot_program_answers.specs.declared.status.Status.{Status}
 use Rattle.sot_regions_commands.specs.Answers.{Answers, AnswersTyped, Rejects, Replies}
 use Rattle.sot_regions_commands.specs.Ends.{Ends, Done, IsUsage, IsTooLong, IsAnswer}
 use Rattle.sot_regions_commands.specs.Steps.{AskAnswer, WordAnswer, Silence}

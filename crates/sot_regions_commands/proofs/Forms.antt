@@ -35,7 +35,7 @@ use Rattle.sot_regions_words.specs.Lines.{refusal_line}
 use Rattle.sot_regions_words.specs.declared.refusal.RegionsRefusal.{RegionsRefusal}
 use Rattle.sot_regions_words.specs.declared.refusal.RegionsRefusal.TheVariants.{Jitter, SafeNone}
 use Rattle.sot_regions_words.specs.declared.refusal.RegionsRefusal.TheVariants.{TooMany, SaferNone}
-use Rattle.sot_answers.specs.declared.answer.Answer.{Answer}
+use Rattle.sot_program_answers.specs.declared.answer.Answer.{Answer}
 use Rattle.sot_regions_commands.specs.AsAsked.{IsLate, as_asked, IsSearched}
 use Rattle.sot_regions_commands.specs.Findings.{AreFirstFound, AreFound}
 use Rattle.sot_regions_commands.specs.Shown.{verdict_of_some}

@@ -19,7 +19,7 @@ use Rattle.sot_region_tree.specs.declared.modules.ModuleRegions.{ModuleRegions}
 use Rattle.sot_region_tree.specs.OtherRegions.{with_regions}
 use Rattle.sot_typing.specs.Resolved.{tables_seen}
 use Rattle.sot_law_other_regions.specs.OtherTables.{tables_with}
-use Rattle.sot_answers.specs.declared.answer.Answer.{Answer}
+use Rattle.sot_program_answers.specs.declared.answer.Answer.{Answer}
 use Rattle.sot_regions_commands.specs.AsAsked.{IsLate}
 use Rattle.sot_regions_commands.specs.Answers.{SpellsTyped}
 use Rattle.sot_regions_commands.specs.Shown.{HaveRegions, verdict_of_some}

@@ -26,8 +26,8 @@ use Rattle.sot_law_held_regions.specs.Following.{HasNoHeldRegion}
 use Rattle.sot_law_held_regions.specs.Shown.{IsShown}
 use Rattle.sot_law_held_regions.proofs.HeldRegions.{certified_shown, shown_is_held}
 use Rattle.sot_law_held_regions.proofs.Alone.{region_alike}
-use Rattle.sot_law_alone.specs.Laws.{LookAlike, HaveOnePlant}
-use Rattle.sot_law_alone.proofs.Looks.{run_alike, stays_alone}
+use Rattle.sot_law_same_modules.specs.Laws.{LookAlike, HaveOnePlant}
+use Rattle.sot_law_same_modules.proofs.Looks.{run_alike, stays_alone}
 use Rattle.sot_regions_words.specs.declared.refusal.RegionsRefusal.{RegionsRefusal}
 use Rattle.sot_regions_words.specs.declared.refusal.RegionsRefusal.TheVariants.{Jitter, SafeNone, TooMany, SaferNone}
 use Rattle.sot_report.specs.Missions.{Resolves}

@@ -25,7 +25,7 @@ use Rattle.sot_law_other_regions.specs.WithoutRegions.{AreSameButForRegions}
 use Rattle.sot_law_other_regions.proofs.Names.{nothing_else}
 use Rattle.sot_region_tree.specs.OtherRegions.{with_regions}
 use Rattle.sot_regions_words.specs.Words.{Asks}
-use Rattle.sot_answers.specs.Texts.{input_limit}
+use Rattle.sot_program_answers.specs.Texts.{input_limit}
 use Rattle.sot_regions_commands.specs.AsAsked.{IsLate, safe_twice, frame_as_asked, as_asked, IsSearched}
 use Rattle.sot_regions_commands.specs.Answers.{HasOtherRegions, IsMissionOf, SpellsTyped, Answers, AnswersTyped, HasProgramFault, Replies}
 use Rattle.sot_regions_commands.specs.Ends.{IsNotSearched, LacksRegion, Decides, AskSearch}

@@ -14,7 +14,7 @@ use Rattle.sot_tube.specs.Refusals.{Refusal}
 use Rattle.sot_report.specs.declared.fault.Fault.{Fault}
 use Rattle.sot_regions_words.specs.Words.{Asks, AsksNone}
 use Rattle.sot_regions_words.specs.Lines.{usage_text}
-use Rattle.sot_answers.specs.Texts.{input_limit, long_text}
+use Rattle.sot_program_answers.specs.Texts.{input_limit, long_text}
 use Rattle.sot_regions_commands.specs.AsAsked.{IsLate, as_asked, IsSearched}
 use Rattle.sot_regions_commands.specs.Answers.{SpellsTyped, AnswersTyped, Rejects}
 use Rattle.sot_regions_commands.specs.Answers.{HasProgramFault, HasNoRegion}

@@ -25,7 +25,7 @@ use Rattle.sot_regions_words.specs.declared.refusal.RegionsRefusal.TheVariants.{
 use Rattle.sot_regions_words.specs.declared.refusal.RegionsRefusal.TheVariants.{TooMany, SaferNone}
 use Rattle.sot_regions_words.specs.Words.{Asks, AsksNone}
 use Rattle.sot_regions_words.specs.Lines.{usage_text}
-use Rattle.sot_answers.specs.Texts.{input_limit, long_text}
+use Rattle.sot_program_answers.specs.Texts.{input_limit, long_text}
 use Rattle.sot_regions_commands.specs.declared.search.SearchFail.{SearchFail}
 use Rattle.sot_regions_commands.specs.declared.search.SearchFail.TheVariants as fails
 use Rattle.sot_regions_commands.specs.declared.search.Searched.{Searched}

@@ -18,6 +18,6 @@ mod top;
 mod typed;
 
 pub use program::run;
-pub use sot_answers::Status;
 pub use sot_ports::{Process, Sink, Source, StdSink, StdSource};
+pub use sot_program_answers::Status;
 pub use top::regions;

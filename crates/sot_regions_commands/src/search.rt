@@ -8,7 +8,7 @@ ghost use Rattle.sot_lang.specs.declared.tables.Slot.TheVariants.{State};
 ghost use Rattle.sot_lang.specs.Tables.{Tables};
 ghost use Rattle.sot_lang.specs.TableRules.{MeetsTableRules};
 ghost use Rattle.sot_traps.specs.Verdict.{HaveSafeBoxes};
-ghost use Rattle.sot_answers.specs.Texts.{input_limit};
+ghost use Rattle.sot_program_answers.specs.Texts.{input_limit};
 ghost use Rattle.sot_regions_commands.specs.declared.search.SearchFail.TheVariants.{Memory};
 ghost use Rattle.sot_law_held_regions.specs.Alone.{IsAlone};
 ghost use Rattle.sot_regions_commands.specs.Findings.{IsFinding};

@@ -6,13 +6,13 @@ ghost use Rattle.sot_ports.specs.Whole.{ReadsUpTo};
 ghost use Rattle.sot_ports.specs.Outside.{outside};
 ghost use Rattle.sot_regions_words.specs.Lines.{usage_text};
 ghost use Rattle.sot_regions_words.specs.Words.{AsksNone};
-ghost use Rattle.sot_answers.specs.Texts.{input_limit};
+ghost use Rattle.sot_program_answers.specs.Texts.{input_limit};
 ghost use Rattle.sot_regions_commands.specs.Ends.{Ends};
 ghost use Rattle.sot_regions_commands.specs.Steps.{AskAnswer, WordAnswer, Silence};
 
 use crate::reply::reply_of;
-use sot_answers::{Answer, Status, or_memory, read_input, say, too_long};
 use sot_ports::{Process, ReadFail, Sink, Source};
+use sot_program_answers::{Answer, Status, or_memory, read_input, say, too_long};
 use sot_regions_words::{WordFail, jitter_of};
 use std::alloc::{AllocError, Global};
 use std::thread::Threads;

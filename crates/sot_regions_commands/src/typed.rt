@@ -8,7 +8,7 @@ ghost use Rattle.sot_parser.specs.Programs.{Spells};
 ghost use Rattle.sot_rules.specs.First.{IsFaultless};
 ghost use Rattle.sot_report.specs.Missions.{Resolves};
 ghost use Rattle.sot_region_tree.specs.OtherRegions.{with_regions};
-ghost use Rattle.sot_answers.specs.Texts.{input_limit};
+ghost use Rattle.sot_program_answers.specs.Texts.{input_limit};
 ghost use Rattle.sot_regions_commands.specs.Steps.{MayTake};
 
 use sot_lang::Typed;

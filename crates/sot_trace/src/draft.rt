@@ -10,7 +10,7 @@ ghost use Rattle.sot_trace.specs.Drafts.{draft_refused};
 use crate::name::put_scalar_name;
 use crate::number::put_number;
 use sot_lang::{Draft, Typed};
-use sot_spool::Out;
+use sot_text_output::Out;
 
 /// Whether a number is in the range of a scalar.
 pub fn is_in_range(p: &Typed, scalar: usize, number: i64) -> bool

@@ -4,7 +4,7 @@ ghost use Rattle.sot_trace.specs.Traces.{trace_text};
 
 use crate::text::put_trace;
 use sot_board::Board;
-use sot_spool::Out;
+use sot_text_output::Out;
 
 /// The text of what has happened on a board so far, from the start of its flight.
 pub fn put_board<O: Out>(out: &mut O, board: &Board<'_>)

@@ -13,7 +13,7 @@ use crate::moves::put_moves;
 use crate::name::{put_module, put_node, put_topic};
 use crate::number::{put_numbers, put_time};
 use sot_lang::{Draft, Typed};
-use sot_spool::Out;
+use sot_text_output::Out;
 use sot_world::{Entry, Mode};
 
 /// The line of an input without its line end: its time, its topic, and a number for each scalar.

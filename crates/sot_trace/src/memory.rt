@@ -13,7 +13,7 @@ use crate::text::{put_counts, put_trace};
 use sot_board::Board;
 use sot_box::Point;
 use sot_lang::{PlantInfo, Typed};
-use sot_spool::Scratch;
+use sot_text_output::Scratch;
 use sot_world::History;
 use std::alloc::{AllocError, Global};
 

@@ -8,7 +8,7 @@ ghost use Rattle.sot_board.specs.Counts.{state_count};
 use crate::name::put_name;
 use crate::number::put_numbers;
 use sot_lang::PlantInfo;
-use sot_spool::Out;
+use sot_text_output::Out;
 
 // What stands between the disturbances and the states.
 fn put_result_sign<O: Out>(out: &mut O)

@@ -6,7 +6,7 @@ ghost use Rattle.sot_trace.specs.Names.{field_part};
 ghost use Rattle.sot_trace.specs.Names.{scalar_name};
 
 use sot_lang::Typed;
-use sot_spool::Out;
+use sot_text_output::Out;
 use sot_tree::Name;
 
 /// A name.

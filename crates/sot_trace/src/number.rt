@@ -4,7 +4,7 @@ ghost use Rattle.std.specs.Prelude.{◌≡◌, ◌+◌, ◌<◌, ◌≤◌, ◌�
 ghost use Rattle.sot_trace.specs.Numbers.{numeral, signed_numeral, further, numbers};
 
 use itoa::Buffer;
-use sot_spool::Out;
+use sot_text_output::Out;
 
 // A digit, by its value.
 #[inline(always)]

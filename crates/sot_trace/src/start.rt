@@ -10,7 +10,7 @@ use crate::name::put_name;
 use crate::number::put_number;
 use sot_box::Point;
 use sot_lang::{PlantInfo, Typed};
-use sot_spool::Out;
+use sot_text_output::Out;
 
 // The coordinates after the first, each behind a comma.
 fn put_further_coordinates<O: Out>(out: &mut O, point: &Point)

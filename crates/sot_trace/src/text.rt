@@ -11,7 +11,7 @@ use crate::number::put_count;
 use crate::start::put_front;
 use sot_box::Point;
 use sot_lang::Typed;
-use sot_spool::Out;
+use sot_text_output::Out;
 use sot_world::History;
 
 // What the last line counts beside the entries.

@@ -8,7 +8,7 @@ use Rattle.sot_lists.proofs.Places.{drop_at}
 use Rattle.sot_lang.specs.Tables.{Tables}
 use Rattle.sot_world.specs.HistoryEntry.{Logged, InputAt, FireAt, DecideAt, TickAt}
 use Rattle.sot_formula.specs.Formulas.{Formula}
-use Rattle.sot_scene.specs.Scenes.{Scene, after, moments}
+use Rattle.sot_history_state.specs.Scenes.{Scene, after, moments}
 use Rattle.sot_monitor.specs.Holding.{Moment, Holds, AlwaysHolds, FirstFails}
 use Rattle.sot_monitor.proofs.Before.{before, length_end}
 use Rattle.sot_watch.specs.Moments.{number_in}

@@ -1,8 +1,8 @@
 -- The moments that are told are those of the run.
 use Rattle.std.proofs.Common.{◌≡◌, ◌∙◌, List, [], ◌∷◌, map, refl, sym, ap}
-use Rattle.sot_scene.specs.Scenes.{scene_of}
-use Rattle.sot_scene.specs.Laws.{moments_of}
-use Rattle.sot_scene.proofs.Scenes.{scenes_are_the_runs}
+use Rattle.sot_history_state.specs.Scenes.{scene_of}
+use Rattle.sot_history_state.specs.Laws.{moments_of}
+use Rattle.sot_history_state.proofs.Scenes.{scenes_are_the_runs}
 use Rattle.sot_watch.specs.Moments.{number_in}
 use Rattle.sot_watch.specs.Laws.{MomentsAreTheRuns}
 

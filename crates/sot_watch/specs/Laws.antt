@@ -5,8 +5,8 @@ use Rattle.sot_lang.specs.TableRules.{MeetsTableRules}
 use Rattle.sot_world.specs.Configurations.{Configuration}
 use Rattle.sot_world.specs.HistoryEntry.{Logged}
 use Rattle.sot_law_flights.specs.Laws.{IsRunOf}
-use Rattle.sot_scene.specs.Scenes.{scene_of}
-use Rattle.sot_scene.specs.Laws.{moments_of}
+use Rattle.sot_history_state.specs.Scenes.{scene_of}
+use Rattle.sot_history_state.specs.Laws.{moments_of}
 use Rattle.sot_watch.specs.Moments.{number_in, moments_told}
 
 -- each moment is what the configuration there shows: those just before each tick, and the last one

@@ -7,7 +7,7 @@ use Rattle.sot_world.specs.HistoryEntry.{Logged}
 use Rattle.sot_formula.specs.declared.quantity.Quantity.{Quantity}
 use Rattle.sot_formula.specs.declared.quantity.Quantity.TheVariants as quantities
 use Rattle.sot_monitor.specs.Holding.{Moment}
-use Rattle.sot_scene.specs.Scenes.{Scene, opening, moments}
+use Rattle.sot_history_state.specs.Scenes.{Scene, opening, moments}
 
 -- a mode as a number
 abbrev pub mode_number : Mode → ℤ

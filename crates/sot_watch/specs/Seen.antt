@@ -2,7 +2,7 @@
 use Rattle.std.specs.Prelude.{List, [], ◌∷◌}
 use Rattle.sot_world.specs.HistoryEntry.{Logged, InputAt, FireAt, DecideAt, TickAt}
 use Rattle.sot_monitor.specs.Holding.{Moment}
-use Rattle.sot_scene.specs.Scenes.{Scene}
+use Rattle.sot_history_state.specs.Scenes.{Scene}
 use Rattle.sot_watch.specs.Moments.{number_in}
 
 -- before a tick what is there, and before the others nothing

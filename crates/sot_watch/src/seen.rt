@@ -2,13 +2,13 @@
 
 ghost use Rattle.std.specs.Prelude.{◌≡◌};
 ghost use Rattle.sot_formula.specs.Parts.{IsThere};
-ghost use Rattle.sot_scene.specs.Scenes.{scene_of, IsSceneOf};
+ghost use Rattle.sot_history_state.specs.Scenes.{scene_of, IsSceneOf};
 ghost use Rattle.sot_watch.specs.Moments.{number_in, mode_number};
 
 use sot_formula::Quantity;
+use sot_history_state::Scene;
 use sot_lang::Typed;
 use sot_monitor::Looks;
-use sot_scene::Scene;
 use sot_world::{Mode, World};
 
 fn mode_number(mode: Mode) -> i64

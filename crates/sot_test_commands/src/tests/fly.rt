@@ -4,7 +4,7 @@ ghost use Rattle.std.specs.Prelude.{None};
 
 use super::*;
 use sot_commands::{Draft, View};
-use sot_test_rows::SWITCHED;
+use sot_test_shared_texts::SWITCHED;
 
 // A node that copies what comes from outside, and nothing to certify.
 const RELAY: &str = "environment topic e: int[0..9] = 0;

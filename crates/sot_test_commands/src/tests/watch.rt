@@ -4,7 +4,7 @@ ghost use Rattle.std.specs.Prelude.{None};
 
 use super::*;
 use sot_commands::{Draft, View};
-use sot_test_rows::SWITCHED;
+use sot_test_shared_texts::SWITCHED;
 
 // A vehicle on a line, at most one of whose nodes is due in any instant.
 const VEHICLE: &str = "topic cmd: int[-2..2] = 0;

@@ -2,7 +2,7 @@
 
 use super::*;
 use sot_ports::MemSink;
-use sot_spool::{Out, Spool, room};
+use sot_text_output::{Out, Spool, room};
 
 // The room of the sink, the most bytes of a write, the write that fails (0: none), how many `x` are
 // put first as one text, and what is put behind them, one by one; then whether all came, how many

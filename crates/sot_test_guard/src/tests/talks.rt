@@ -7,7 +7,7 @@ use super::*;
 use sot_compose::check_all;
 use sot_guard_session::Misheard;
 use sot_guard_talk::{Opening, Talk};
-use sot_spool::Scratch;
+use sot_text_output::Scratch;
 use sot_tube::Accepted;
 use sot_world::OpenFail;
 use std::thread::Threads;

@@ -1,9 +1,9 @@
 //! Regions that are searched for. What is wanted was found by another program.
 use super::same;
 use sot_box::BoxN;
+use sot_closed_atoms::may_ask;
 use sot_lang::Typed;
 use sot_regions::{Found, regions_of};
-use sot_shrinking::may_ask;
 use sot_test_missions::{line, pair};
 use std::alloc::Global;
 use std::process::Abort;

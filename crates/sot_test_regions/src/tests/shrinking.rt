@@ -6,12 +6,12 @@ ghost use Rattle.std.specs.Prelude.{◌≡◌, length};
 use super::same;
 use sot_atoms::{AtomSet, Grid, Sums};
 use sot_box::{BoxN, Interval};
-use sot_lang::Typed;
-use sot_parser::parse;
-use sot_shrinking::{
+use sot_closed_atoms::{
     Among, Ask, Held, any_stays, any_tube, atoms_of, closed_atoms, greatest, held_boxes,
     held_stays, held_tube,
 };
+use sot_lang::Typed;
+use sot_parser::parse;
 use sot_test_missions::{drifting_line, line};
 use sot_text::Lexer;
 use sot_typing::resolve;

@@ -1,7 +1,7 @@
 //! Which program a text spells, and where one that spells none goes wrong.
 use super::{cut, same, unescaped};
 use sot_parser::{ParseFail, Syntax, parse};
-use sot_test_rows::LINE_FORMATTED;
+use sot_test_shared_texts::LINE_FORMATTED;
 use sot_text::{LexFault, Lexer};
 use sot_tree::{Decl, Program, Stmt};
 use std::alloc::Global;

@@ -4,8 +4,8 @@ use Rattle.sot_world.specs.HistoryEntry.{Logged}
 use Rattle.sot_world.specs.Histories.{entry_of}
 use Rattle.sot_flight.specs.declared.sent.Sent.{Sent}
 use Rattle.sot_flight.specs.Relayed.{Send, send_of}
-use Rattle.sot_scene.specs.Scenes.{Scene, IsSceneOf}
-use Rattle.sot_scene.proofs.Sizes.{keep_sizes}
+use Rattle.sot_history_state.specs.Scenes.{Scene, IsSceneOf}
+use Rattle.sot_history_state.proofs.Sizes.{keep_sizes}
 use Rattle.sot_bridge_sends.specs.Sends.{sent_by, sends_from, sends_of}
 use Rattle.sot_bridge_sends.proofs.Sending.{sends_step, sent_more}
 use Rattle.sot_bridge_sends.proofs.history.sends.Goals as goal

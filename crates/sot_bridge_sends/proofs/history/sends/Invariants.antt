@@ -1,6 +1,6 @@
 use Rattle.std.proofs.Common.{◌≡◌, ◌++◌, drop, map}
 use Rattle.sot_flight.specs.Relayed.{send_of}
-use Rattle.sot_scene.specs.Scenes.{IsSceneOf}
+use Rattle.sot_history_state.specs.Scenes.{IsSceneOf}
 use Rattle.sot_bridge_sends.specs.Sends.{sends_from, sends_of}
 use Rattle.sot_bridge_sends.proofs.history.sends.Given as goal
 

@@ -1,10 +1,10 @@
 use Rattle.std.proofs.Common.{ℕ, List, [], false, Option, refl, inr, subst, IfOk}
 use Rattle.sot_ports.specs.Faults.{Rose}
 use Rattle.sot_ports.specs.Outside.{outside}
-use Rattle.sot_answers.specs.Texts.{input_limit}
-use Rattle.sot_guard_front.specs.declared.piece.FrontFail.{FrontFail}
-use Rattle.sot_guard_front.specs.Reading.{Reads, IfFails}
-use Rattle.sot_guard_front.specs.Fronts.{Comes, IsTooLong}
+use Rattle.sot_program_answers.specs.Texts.{input_limit}
+use Rattle.sot_guard_mission_text.specs.declared.piece.FrontFail.{FrontFail}
+use Rattle.sot_guard_mission_text.specs.Reading.{Reads, IfFails}
+use Rattle.sot_guard_mission_text.specs.Fronts.{Comes, IsTooLong}
 use Rattle.sot_guard_commands.specs.Ends.{ears_at}
 use Rattle.sot_guard_commands.specs.Moments.{ears, mouth, Ended}
 use Rattle.sot_guard_commands.specs.Says.{SaysMission, SaysAll}

@@ -7,8 +7,8 @@ use Rattle.sot_world.specs.Opens.{AreStarts}
 use Rattle.sot_trace.specs.Fitting.{FitsEntry}
 use Rattle.sot_trace.specs.Lines.{ticks_in}
 use Rattle.sot_trace.proofs.Laying.{count_more}
-use Rattle.sot_scene.specs.Scenes.{Scene, after, moments, IsSceneOf}
-use Rattle.sot_scene.proofs.Sizes.{keep_sizes}
+use Rattle.sot_history_state.specs.Scenes.{Scene, after, moments, IsSceneOf}
+use Rattle.sot_history_state.proofs.Sizes.{keep_sizes}
 use Rattle.sot_monitor.specs.Holding.{Moment, AlwaysHolds}
 use Rattle.sot_watch.specs.Moments.{number_in, moments_told}
 use Rattle.sot_watch.specs.Seen.{seen_before}

@@ -2,7 +2,7 @@ use Rattle.std.proofs.Common.{◌≡◌, ◌+◌, List, [], ◌++◌, drop, map}
 use Rattle.std.specs.Prelude.{sum_by}
 use Rattle.sot_trace.specs.Lines.{ticks_in}
 use Rattle.sot_formula.specs.Formulas.{Formula}
-use Rattle.sot_scene.specs.Scenes.{moments, IsSceneOf}
+use Rattle.sot_history_state.specs.Scenes.{moments, IsSceneOf}
 use Rattle.sot_monitor.specs.Holding.{Moment, AlwaysHolds}
 use Rattle.sot_monitor.specs.Tracking.{StandsFor}
 use Rattle.sot_watch.specs.Moments.{number_in, moments_told}

@@ -3,7 +3,7 @@ use Rattle.std.proofs.lemmas.Int.{to_z-of_z}
 use Rattle.std.proofs.lemmas.Option.{get_or_from_slice_get}
 use Rattle.sot_formula.specs.declared.quantity.Quantity.TheVariants.{State}
 use Rattle.sot_formula.specs.Parts.{IsThere}
-use Rattle.sot_scene.specs.Scenes.{scene_of}
+use Rattle.sot_history_state.specs.Scenes.{scene_of}
 use Rattle.sot_watch.specs.Moments.{number_in}
 use Rattle.sot_watch.proofs.Widths.{kept_width}
 use Rattle.sot_watch.proofs.seen.AtWorldLooks.look.Goals as goal

@@ -1,0 +1,14 @@
+//! Each of these functions does nothing, and its contract is the law.
+
+ghost use Rattle.sot_law_same_modules.specs.Laws.{ModulesRunAlike, ModulesStayAlone};
+
+/// In programs that look the same but for their modules, two modules with the same plant and the
+/// same safe node run alike.
+pub fn modules_run_alike()
+    ensures { ModulesRunAlike }
+{}
+
+/// So one that is alone is so in each of them.
+pub fn modules_stay_alone()
+    ensures { ModulesStayAlone }
+{}
