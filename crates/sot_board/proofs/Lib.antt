@@ -1,4 +1,3 @@
-pub mod Options
 pub mod RoomLemmas
 pub mod Entries
 pub mod Going

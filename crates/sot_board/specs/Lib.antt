@@ -15,8 +15,6 @@ pub mod ReadCounts
 pub mod Views
 -- what committing a view asks and answers
 pub mod Commits
--- nodes with a body, and nodes without one
-pub mod NodeSorts
 -- laws on views
 pub mod Laws
 -- a worked history

@@ -172,7 +172,7 @@ impl<'a> Board<'a> {
     }
 
     /// Whether a node is still to fire.
-    pub fn due(&self, node: u32) -> bool
+    pub fn left(&self, node: u32) -> bool
         requires { node < length self.now.accepted.program.nodes }
         ensures { result ≡ is_left self.now.position.at node }
     {
@@ -180,7 +180,7 @@ impl<'a> Board<'a> {
     }
 
     /// Whether a module is still to decide.
-    pub fn due_dm(&self, module: u32) -> bool
+    pub fn left_dm(&self, module: u32) -> bool
         requires { «module» < length self.now.accepted.program.modules }
         ensures { result ≡ is_left_dm self.now.position.at «module» }
     {

@@ -147,10 +147,9 @@ pub fn clamped(a: i64, l: i64, h: i64) -> i64
     a.min(h).max(l)
 }
 
-// Ten to this power.
-fn power_of_ten(k: u8) -> i64
-    requires { k ≤ 6 }
-    ensures value { result ≡ pos (10 ^ k) }
+/// Ten to this power, where it is at most 6.
+pub fn power_of_ten(k: u8) -> i64
+    ensures value { k ≤ 6 → result ≡ pos (10 ^ k) }
     ensures some { pos 1 ≤ℤ result }
 {
     match k {

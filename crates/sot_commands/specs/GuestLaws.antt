@@ -22,14 +22,14 @@ TracesEndOnce =
     → trace_text t start xs ++ behind ≡ trace_text u other_start ys ++ other
     → (trace_text t start xs ≡ trace_text u other_start ys) × (behind ≡ other)
 
-module _ {C : Type 0} (told : C → Option (List Asking)) where
+module _ {C : Type 0} (asked : C → Option (List Asking)) where
   -- two accounts of one written trace are of one flight and one history: bytes and text decide
   -- which firings the guests answered
   abbrev pub FlewOnce : Type 0
   FlewOnce =
       (guests : ℕ) (bytes text : List ℕ) (before after other_before other_after : List C)
-      (x : Flew told guests bytes text before after)
-      (y : Flew told guests bytes text other_before other_after)
+      (x : Flew asked guests bytes text before after)
+      (y : Flew asked guests bytes text other_before other_after)
       → (x.plan ≡ y.plan) × (x.flew.history ≡ y.flew.history)
 
   -- a guest that flies a node, where it tells its list, has answered the firings of the node in the
@@ -37,13 +37,13 @@ module _ {C : Type 0} (told : C → Option (List Asking)) where
   abbrev pub NamedAreAsked : Type 0
   NamedAreAsked =
       (guests : ℕ) (bytes text : List ℕ) (before after : List C)
-      (x : Flew told guests bytes text before after) (n i : ℕ) (was now : C) (list : List Asking)
-      → At x.plan.crews n (Guest i) → At before i was → At after i now → told now ≡ Some list
-      → HasAnswered x.mission.tables x.mission.cert.jitter x.plan n x.flew.history (told was) list
+      (x : Flew asked guests bytes text before after) (n i : ℕ) (was now : C) (list : List Asking)
+      → At x.plan.crews n (Guest i) → At before i was → At after i now → asked now ≡ Some list
+      → HasAnswered x.mission.tables x.mission.cert.jitter x.plan n x.flew.history (asked was) list
 
   -- one that no node of this flight names is as it was
   abbrev pub OthersStay : Type 0
   OthersStay =
       (guests : ℕ) (bytes text : List ℕ) (before after : List C)
-      (x : Flew told guests bytes text before after) (i : ℕ) (was now : C) → IsUnnamed x.plan i
+      (x : Flew asked guests bytes text before after) (i : ℕ) (was now : C) → IsUnnamed x.plan i
       → At before i was → At after i now → now ≡ was

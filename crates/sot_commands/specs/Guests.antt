@@ -50,11 +50,11 @@ module _ {C : Type 0} where
       (m : Mission) (f : Plan) → SpellsFor needs.Fly guests bytes m → m.flight ≡ Some f
       → EachUnnamedStays f before after
 
-module _ {C : Type 0} (told : C → Option (List Asking)) where
+module _ {C : Type 0} (asked : C → Option (List Asking)) where
   -- each guest that tells its list tells it on
   abbrev pub GuestsGoOn : List C → List C → Type 0
   GuestsGoOn before after =
-      (i : ℕ) (was now : C) → At before i was → At after i now → TellsOn (told was) (told now)
+      (i : ℕ) (was now : C) → At before i was → At after i now → TellsOn (asked was) (asked now)
 
   -- the guests flew this flight, and this text is the trace of its history: each guest that the
   -- flight names, where it still tells its list, was asked once a firing of its node, in the
@@ -65,7 +65,7 @@ module _ {C : Type 0} (told : C → Option (List Asking)) where
     pub flown : FlownBy t jitter f history
     pub text_is : text ≡ trace_text t f.start history
     pub answered : (n i : ℕ) (was now : C) → At f.crews n (Guest i) → At before i was
-        → At after i now → Answered t jitter f n history (told was) (told now)
+        → At after i now → Answered t jitter f n history (asked was) (asked now)
     pub unnamed : EachUnnamedStays f before after
 
   -- the bytes spell a mission with a flight for so many guests, and these flew it

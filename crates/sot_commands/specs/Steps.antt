@@ -240,10 +240,10 @@ FlewAndTold telling status said Fly =
 
 -- What became of the guests of a flight, whatever is answered: there are as many, each goes on, and
 -- `Stay` says who stays as it was.
-pub record GuestsStand {C : Type 0} (told : C → Option (List Asking)) (Stay : Type 0)
+pub record GuestsStand {C : Type 0} (asked : C → Option (List Asking)) (Stay : Type 0)
     (before after : Vec C) : Type 0 where
   pub count : vec_len after ≡ vec_len before
-  pub go_on : GuestsGoOn told before.items after.items
+  pub go_on : GuestsGoOn asked before.items after.items
   pub stay : Stay
 
 -- And by what is said, with its status: none was asked but for a flight that was flown, without

@@ -33,10 +33,10 @@ pub fn fly_ordered<O: Out, C: Controller + Send, R: Threads + Wait + Sync>(
         FliesBytes (handed_in order.now.telling (vec_len guests.old))
         order.now.telling order.now.text.items status said
         × GuestsDid order.now.telling status said
-        (λ text. Flew C.told (vec_len guests.old) order.now.text.items text guests.old.items
+        (λ text. Flew C.asked (vec_len guests.old) order.now.text.items text guests.old.items
         guests.new.items)
         guests.old guests.new) }
-    ensures guests { GuestsStand C.told
+    ensures guests { GuestsStand C.asked
         (UnnamedStay (vec_len guests.old) order.now.text.items guests.old.items guests.new.items)
         guests.old guests.new }
     ensures alone { order.now.telling ≡ Summary → guests.new ≡ guests.old }

@@ -111,10 +111,10 @@ fn fly_opened<'a, O: Out, C: Controller + Send, R: Threads + Wait + Sync>(
         JudgesFlight telling.entry board.entry.accepted.program board.entry.accepted.cert.jitter
         flight.now status said
         × GuestsDid telling.entry status said
-        (λ text. GuestsFlew C.told board.entry.accepted.program board.entry.accepted.cert.jitter
+        (λ text. GuestsFlew C.asked board.entry.accepted.program board.entry.accepted.cert.jitter
         flight.now text guests.old.items guests.new.items)
         guests.old guests.new) }
-    ensures guests { GuestsStand C.told
+    ensures guests { GuestsStand C.asked
         (EachUnnamedStays flight.now guests.old.items guests.new.items) guests.old guests.new }
 {
     if is_alone(&board, guests.is_empty()) {
@@ -143,10 +143,10 @@ fn fly_accepted<O: Out, C: Controller + Send, R: Threads + Wait + Sync>(
         JudgesFlight telling.entry accepted.now.program accepted.now.cert.jitter flight.now
         status said
         × GuestsDid telling.entry status said
-        (λ text. GuestsFlew C.told accepted.now.program accepted.now.cert.jitter flight.now text
+        (λ text. GuestsFlew C.asked accepted.now.program accepted.now.cert.jitter flight.now text
         guests.old.items guests.new.items)
         guests.old guests.new) }
-    ensures guests { GuestsStand C.told
+    ensures guests { GuestsStand C.asked
         (EachUnnamedStays flight.now guests.old.items guests.new.items) guests.old guests.new }
 {
     match Board::open(alloc, accepted, flight) {
@@ -176,10 +176,10 @@ fn judge<O: Out, C: Controller + Send, R: Threads + Wait + Sync>(
     ensures judges { SaysInAll O.puts out.old out.new result (λ status said.
         JudgesFlown telling.entry program.now cert.now flight.now status said
         × GuestsDid telling.entry status said
-        (λ text. GuestsFlew C.told program.now cert.now.jitter flight.now text guests.old.items
+        (λ text. GuestsFlew C.asked program.now cert.now.jitter flight.now text guests.old.items
         guests.new.items)
         guests.old guests.new) }
-    ensures guests { GuestsStand C.told
+    ensures guests { GuestsStand C.asked
         (EachUnnamedStays flight.now guests.old.items guests.new.items) guests.old guests.new }
 {
     match check_all(rt, program, cert) {
@@ -225,10 +225,10 @@ fn fly_loaded<O: Out, C: Controller + Send, R: Threads + Wait + Sync>(
     ensures judges { SaysInAll O.puts out.old out.new result (λ status said.
         JudgesWatched telling.entry program.now cert.now flight.now status said
         × GuestsDid telling.entry status said
-        (λ text. GuestsFlew C.told program.now cert.now.jitter flight.now text guests.old.items
+        (λ text. GuestsFlew C.asked program.now cert.now.jitter flight.now text guests.old.items
         guests.new.items)
         guests.old guests.new) }
-    ensures guests { GuestsStand C.told
+    ensures guests { GuestsStand C.asked
         (EachUnnamedStays flight.now guests.old.items guests.new.items) guests.old guests.new }
 {
     match monitor_for(alloc, program, telling) {
@@ -255,9 +255,9 @@ pub fn fly<O: Out, C: Controller + Send, R: Threads + Wait + Sync>(
     ensures flies { SaysInAll O.puts out.old out.new result (λ status said.
         FliesBytes (vec_len guests.old) telling.entry bytes.now status said
         × GuestsDid telling.entry status said
-        (λ text. Flew C.told (vec_len guests.old) bytes.now text guests.old.items guests.new.items)
+        (λ text. Flew C.asked (vec_len guests.old) bytes.now text guests.old.items guests.new.items)
         guests.old guests.new) }
-    ensures guests { GuestsStand C.told
+    ensures guests { GuestsStand C.asked
         (UnnamedStay (vec_len guests.old) bytes.now guests.old.items guests.new.items)
         guests.old guests.new }
 {

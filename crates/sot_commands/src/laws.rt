@@ -35,16 +35,16 @@ pub fn traces_end_once()
 
 /// Whoever tells of the guests of one written trace tells of one history.
 pub fn flew_once<C: Controller>()
-    ensures { FlewOnce C.told }
+    ensures { FlewOnce C.asked }
 {}
 
 /// A guest that flies a node, where it tells its list, has answered the node's firings in the
 /// history that was written.
 pub fn named_are_asked<C: Controller>()
-    ensures { NamedAreAsked C.told }
+    ensures { NamedAreAsked C.asked }
 {}
 
 /// A guest that no node of the flight names stays as it was.
 pub fn others_stay<C: Controller>()
-    ensures { OthersStay C.told }
+    ensures { OthersStay C.asked }
 {}

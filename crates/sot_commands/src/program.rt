@@ -22,7 +22,7 @@ use std::thread::Threads;
 struct Nobody;
 
 impl Controller for Nobody {
-    ghost told = { λ _. None };
+    ghost asked = { λ _. None };
 
     fn decide(&mut self, _view: &View, _draft: &mut Draft) {}
 }

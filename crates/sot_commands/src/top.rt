@@ -152,7 +152,7 @@ pub fn fly_to_the_end<C: Controller + Send, R: Threads + Wait + Sync, K: Sink>(
         (K.held sink.old) (K.held sink.new) (K.faults sink.old) (K.faults sink.new) result.0 }
     // Want of memory leaves the sink as it was.
     ensures unwritten { result.0 ≡ 6 → sink.new ≡ sink.old }
-    ensures guests { GuestsEnd C.told
+    ensures guests { GuestsEnd C.asked
         (order.now.telling ≡ Trace) (IsVerdict order.now.telling)
         (λ bytes. bytes ≡ order.now.text.items)
         (K.held sink.old) (K.held sink.new) guests.old guests.new result.0 }
@@ -194,7 +194,7 @@ pub fn soter<C: Controller + Send, R: Threads + Wait + Sync, S: Source, K: Sink>
     // A call that has nothing to say leaves the sink as it was.
     ensures unwritten { (result.0 ≡ 4) ⊎ (result.0 ≡ 6) → sink.new ≡ sink.old }
     // What became of the guests.
-    ensures guests { GuestsEnd C.told (Asks words.now FlyCommand) (AsksWatch words.now)
+    ensures guests { GuestsEnd C.asked (Asks words.now FlyCommand) (AsksWatch words.now)
         (ReadsAll (S.left source.old) (S.left source.new))
         (K.held sink.old) (K.held sink.new) guests.old guests.new result.0 }
 {

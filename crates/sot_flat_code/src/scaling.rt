@@ -1,32 +1,17 @@
 //! Changes of scale as instructions.
 
-ghost use Rattle.std.specs.Prelude.{◌≡◌, ◌≤◌, ◌^◌, pos, ◌≤ℤ◌};
+ghost use Rattle.std.specs.Prelude.{◌≡◌, ◌≤◌};
 ghost use Rattle.sot_lang.specs.Values.{rescaled};
 ghost use Rattle.sot_flat_code.specs.Instructions.{made};
 
 use crate::instruction::Make;
+use sot_code::power_of_ten;
 
 /// A product or a quotient by a power of ten.
 #[derive(Clone, Copy)]
 pub struct Scaling {
     pub make: Make,
     pub by: i64,
-}
-
-// Ten to this power, which is at most 6.
-fn power_of_ten(k: u8) -> i64
-    ensures value { k ≤ 6 → result ≡ pos (10 ^ k) }
-    ensures some { pos 1 ≤ℤ result }
-{
-    match k {
-        0 => 1,
-        1 => 10,
-        2 => 100,
-        3 => 1_000,
-        4 => 10_000,
-        5 => 100_000,
-        _ => 1_000_000,
-    }
 }
 
 /// The change from one count of decimals to another.

@@ -1,7 +1,7 @@
 -- An instant, one event more, and both of its halves.
-use Rattle.std.proofs.Common.{◌≡◌, ℕ, suc, ◌+◌, ◌≤◌, ℤ, Bool, true, false, inl, inr, ⊎_elim, List, [], ◌∷◌, ◌++◌, Option, None, Some, Ok, Err, length}
+use Rattle.std.proofs.Common.{◌≡◌, ℕ, suc, ◌+◌, ◌≤◌, ℤ, Bool, true, false, inl, inr, ⊎_elim, List, [], ◌∷◌, ◌++◌, Option, None, Ok, Err, length}
 use Rattle.std.proofs.Common.{refl, sym, ap, ◌∙◌, subst, arith, replicate, append_assoc, append-nil}
-use Rattle.std.specs.Prelude.{slice_index_or, slice_set, is_some, MatchResult}
+use Rattle.std.specs.Prelude.{slice_index_or, slice_set, MatchResult}
 use Rattle.std.proofs.lemmas.Bool.{cases_eq}
 use Rattle.std.proofs.lemmas.Option.{slice_get_within}
 use Rattle.sot_lang.specs.declared.tables.NodeInfo.{NodeInfo}
@@ -22,14 +22,6 @@ use Rattle.sot_guard.specs.Guarding.{Guarding}
 use Rattle.sot_guard.specs.Changes.{DecidesWhere, FiresCode}
 use Rattle.sot_guard.specs.Instants.{FiresNode, Happens, AreTold, DecideInOrder, FireInOrder, AreInOrder}
 use Rattle.sot_guard.specs.InstantParts.{NoneLeft, HasDecided, HasFired}
-
-pub some_there : {A : Type 0} (o : Option A) → is_some o ≡ true → (a : A) × (o ≡ Some a)
-some_there None e = absurd cc
-some_there (Some a) e = (a, refl)
-
-pub none_there : {A : Type 0} (o : Option A) → is_some o ≡ false → o ≡ None
-none_there None e = refl
-none_there (Some a) e = absurd cc
 
 -- one more is no longer left
 none_set : (left : List Bool) (k : ℕ) → NoneLeft left k → NoneLeft (slice_set left k false) (k + 1)

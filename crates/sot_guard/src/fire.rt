@@ -1,10 +1,5 @@
 //! What a firing drafts.
 
-ghost use Rattle.std.specs.Prelude.{◌≡◌, ◌<◌, length, List, true, false, None};
-ghost use Rattle.sot_lists.specs.Places.{At};
-ghost use Rattle.sot_lang.specs.declared.act.Act.{Act};
-ghost use Rattle.sot_lang.specs.declared.tables.NodeInfo.{NodeInfo};
-ghost use Rattle.sot_lang.specs.TableRules.{IsCoded};
 ghost use Rattle.sot_guard.specs.Running.{MayRunOn, RunsTo};
 
 use sot_box::Point;
@@ -32,15 +27,4 @@ pub(crate) fn run(
         }
         Err(_) => Draft::blank(),
     }
-}
-
-/// Whether a node is coded, and else it is an external one.
-pub(crate) fn is_coded(p: &Typed, node: u32) -> bool
-    requires { node < length p.now.nodes }
-    ensures coded { result ≡ true → (info : NodeInfo) × (acts : List Act) × At p.now.nodes node info
-        × IsCoded info acts }
-    ensures external { result ≡ false → (info : NodeInfo) × At p.now.nodes node info
-        × (info.body ≡ None) }
-{
-    p.nodes[node as usize].body.is_some()
 }

@@ -7,11 +7,10 @@ ghost use Rattle.sot_world.specs.Calendar.{NothingLeft};
 ghost use Rattle.sot_guard.specs.Instants.{AreTold, AreInOrder, FiresNode};
 ghost use Rattle.sot_guard.specs.InstantParts.{HasDecided, HasFired};
 
-use crate::fire::is_coded;
 use crate::guard::Guard;
 use crate::told::Told;
 use sot_lang::Draft;
-use sot_world::Firing;
+use sot_world::{Firing, is_coded};
 
 // Tells one thing more, for which there is room.
 fn add(told: &mut Vec<Told>, more: Told)

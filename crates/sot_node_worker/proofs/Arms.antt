@@ -20,7 +20,7 @@ use Rattle.sot_board.specs.Versions.{drafts_of}
 use Rattle.sot_board.specs.Views.{viewed_numbers}
 use Rattle.sot_board.proofs.Entries.{drafts_append}
 use Rattle.sot_node_worker.specs.declared.shift.Shift.{Shift}
-use Rattle.sot_node_worker.specs.Askings.{Asking, asking, TellsOneMore}
+use Rattle.sot_node_worker.specs.Askings.{Asking, asking, AsksOneMore}
 use Rattle.sot_node_worker.specs.Answers.{FitsFiring}
 use Rattle.sot_node_worker.specs.Shifts.{EachGuest, IsOnShift}
 use Rattle.sot_node_worker.specs.Holds.{IsDueView, IsSeen, HasFired}
@@ -59,12 +59,12 @@ pub not_yet : {P : Type 0} → false ≡ true → P
 not_yet both = absurd cc
 
 -- each guest tells what it told
-same_guests : {C : Type 0} (told : C → Option (List Asking)) (p : Tables) (j : ℕ) (f : Plan) (n : ℕ) (old new : List Logged) (guest : Option C)
-    → IsQuiet n old new → EachGuest (AnswersOn p j f n old new) told guest guest
-same_guests told p j f n old new None still = tt
-same_guests told p j f n old new (Some x) still = inl (still, refl)
+same_guests : {C : Type 0} (asked : C → Option (List Asking)) (p : Tables) (j : ℕ) (f : Plan) (n : ℕ) (old new : List Logged) (guest : Option C)
+    → IsQuiet n old new → EachGuest (AnswersOn p j f n old new) asked guest guest
+same_guests asked p j f n old new None still = tt
+same_guests asked p j f n old new (Some x) still = inl (still, refl)
 
-module _ {C : Type 0} (told : C → Option (List Asking)) (began old new : Shift C) (was : IsOnShift told began old)
+module _ {C : Type 0} (asked : C → Option (List Asking)) (began old new : Shift C) (was : IsOnShift asked began old)
     (node : new.node ≡ old.node) (form : new.form ≡ old.form) (lock : pass_lock new.pass ≡ pass_lock old.pass)
     (ground : pass_ground new.pass ≡ pass_ground old.pass) where
   -- nothing was done
@@ -72,11 +72,11 @@ module _ {C : Type 0} (told : C → Option (List Asking)) (began old new : Shift
       IsQuiet old.node (pass_seen old.pass) (pass_seen new.pass) → pass_added new.pass ≡ pass_added old.pass → new.drafts.items ≡ old.drafts.items
       → new.guest ≡ old.guest
       → (new.finished ≡ true → FlownBy was.at_work.accepted.program was.at_work.accepted.cert.jitter was.at_work.plan (pass_seen new.pass))
-      → IsOnShift told began new
+      → IsOnShift asked began new
   quiet_turn still nothing drafts guest finished =
       let a = was.at_work.accepted in
       let f = was.at_work.plan in
-      one_turn_more told began old new was (record {
+      one_turn_more asked began old new was (record {
         node = node;
         form = form;
         lock = lock;
@@ -86,8 +86,8 @@ module _ {C : Type 0} (told : C → Option (List Asking)) (began old new : Shift
         added = nothing ∙ sym (append-nil (pass_added old.pass));
         only_firings = tt;
         all_firings = drafts ∙ sym (append-nil old.drafts.items);
-        guest = subst (λ g. EachGuest (AnswersOn a.program a.cert.jitter f old.node (pass_seen old.pass) (pass_seen new.pass)) told old.guest g) (sym guest)
-            (same_guests told a.program a.cert.jitter f old.node (pass_seen old.pass) (pass_seen new.pass) old.guest still);
+        guest = subst (λ g. EachGuest (AnswersOn a.program a.cert.jitter f old.node (pass_seen old.pass) (pass_seen new.pass)) asked old.guest g) (sym guest)
+            (same_guests asked a.program a.cert.jitter f old.node (pass_seen old.pass) (pass_seen new.pass) old.guest still);
         finished = finished;
       })
 
@@ -95,12 +95,12 @@ module _ {C : Type 0} (told : C → Option (List Asking)) (began old new : Shift
   pub unasked_turn :
       (known : List Logged) (draft : List (Option ℤ)) → drafts_of old.node known ≡ old.drafts.items
       → HasFired old.node draft known (pass_seen new.pass) (pass_added old.pass) (pass_added new.pass)
-      → new.drafts.items ≡ drafts_of old.node (pass_seen new.pass) → old.guest ≡ None → new.guest ≡ old.guest → new.finished ≡ false → IsOnShift told began new
+      → new.drafts.items ≡ drafts_of old.node (pass_seen new.pass) → old.guest ≡ None → new.guest ≡ old.guest → new.finished ≡ false → IsOnShift asked began new
   unasked_turn known draft same fired drafts none guest unfinished =
       let a = was.at_work.accepted in
       let f = was.at_work.plan in
       let R = AnswersOn a.program a.cert.jitter f old.node (pass_seen old.pass) (pass_seen new.pass) in
-      one_turn_more told began old new was (record {
+      one_turn_more asked began old new was (record {
         node = node;
         form = form;
         lock = lock;
@@ -112,7 +112,7 @@ module _ {C : Type 0} (told : C → Option (List Asking)) (began old new : Shift
         all_firings =
             drafts ∙ fired_drafts old.node draft known (pass_seen new.pass) (pass_added old.pass) (pass_added new.pass) fired ∙ ap (λ l. l ++ draft ∷ []) same
             ∙ ap (λ l. old.drafts.items ++ l) (sym (one_more old.node fired.time draft fired.enabled []));
-        guest = subst (λ g. EachGuest R told old.guest g) (sym (guest ∙ none)) (subst (λ g. EachGuest R told g None) (sym none) tt);
+        guest = subst (λ g. EachGuest R asked old.guest g) (sym (guest ∙ none)) (subst (λ g. EachGuest R asked g None) (sym none) tt);
         finished = λ yes. not_yet (sym unfinished ∙ yes);
       })
 
@@ -123,8 +123,8 @@ module _ {C : Type 0} (told : C → Option (List Asking)) (began old new : Shift
       → ((a : Admitted) (f : Plan) → pass_ground old.pass ≡ Some (a, f)
       → HasFired old.node (in_slots (take (slot_count a.program old.node) draft)) known (pass_seen new.pass) (pass_added old.pass) (pass_added new.pass))
       → new.drafts.items ≡ drafts_of old.node (pass_seen new.pass) → old.guest ≡ Some before → new.guest ≡ Some after
-      → TellsOneMore (told before) (told after) (asking (viewed_numbers v) draft)
-      → new.finished ≡ false → IsOnShift told began new
+      → AsksOneMore (asked before) (asked after) (asking (viewed_numbers v) draft)
+      → new.finished ≡ false → IsOnShift asked began new
   asked_turn known v draft before after still seen fires drafts one two tells unfinished =
       let a = was.at_work.accepted in
       let f = was.at_work.plan in
@@ -141,14 +141,14 @@ module _ {C : Type 0} (told : C → Option (List Asking)) (began old new : Shift
       let all : drafts_of n (pass_seen new.pass) ≡ drafts_of n known ++ drafts_of n last = ap (drafts_of n) fired.seen ∙ drafts_append n known last in
       let once : drafts_of n last ≡ slots ∷ [] = one_more n fired.time slots fired.enabled fired.between ∙ ap (λ l. l ++ slots ∷ []) fired.no_other in
       let sizes = ap length all ∙ length-append (drafts_of n known) (drafts_of n last) in
-      let answers : R (told before) (told after) = inr (record {
+      let answers : R (asked before) (asked after) = inr (record {
         one = asking (viewed_numbers v) draft;
-        told = tells;
+        asked = tells;
         goes_on = (still.0 ++ last, on);
         count = omega (arith, sizes, ap length once, ap length same);
         fits = subst (λ k. FitsFiring a.program a.cert.jitter f n (pass_seen new.pass) k (asking (viewed_numbers v) draft)) (ap length same) fits;
       }) in
-      one_turn_more told began old new was (record {
+      one_turn_more asked began old new was (record {
         node = node;
         form = form;
         lock = lock;
@@ -161,7 +161,7 @@ module _ {C : Type 0} (told : C → Option (List Asking)) (began old new : Shift
             drafts ∙ fired_drafts old.node slots known (pass_seen new.pass) (pass_added old.pass) (pass_added new.pass) fired
             ∙ ap (λ l. l ++ slots ∷ []) (same ∙ sym was.at_work.drafts)
             ∙ ap (λ l. old.drafts.items ++ l) (sym (one_more old.node fired.time slots fired.enabled []));
-        guest = subst (λ g. EachGuest R told old.guest g) (sym two) (subst (λ g. EachGuest R told g (Some after)) (sym one) answers);
+        guest = subst (λ g. EachGuest R asked old.guest g) (sym two) (subst (λ g. EachGuest R asked g (Some after)) (sym one) answers);
         finished = λ yes. not_yet (sym unfinished ∙ yes);
       })
 

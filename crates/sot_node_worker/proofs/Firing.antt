@@ -104,10 +104,10 @@ pub guest_draft : (old new : Standing) (n : ℕ) (draft : List (Option ℤ)) (re
 guest_draft old new n draft receipt logged =
     let flies = logged.logs.flies in
     let entry = FireAt old.position.at.time n receipt.draft logged.enabled in
-    let told = subst (λ e. Tells old.position.at e flies.recorded new.position.at entry) logged.logs.event_is flies.tells in
+    let asked = subst (λ e. Tells old.position.at e flies.recorded new.position.at entry) logged.logs.event_is flies.tells in
     let records = subst (λ e. Records old.accepted.program old.position.at e new.position.at flies.recorded) logged.logs.event_is flies.records in
-    let same : told.0 ≡ draft = (let e = sym told.2 ∙ records in cc) in
-    let slots : receipt.draft ≡ in_slots told.0 = (let e = told.3 in cc) in
+    let same : asked.0 ≡ draft = (let e = sym asked.2 ∙ records in cc) in
+    let slots : receipt.draft ≡ in_slots asked.0 = (let e = asked.3 in cc) in
     slots ∙ ap in_slots same
 
 -- a node of a known ground is one of the board's program

@@ -10,7 +10,7 @@ use Rattle.sot_board.specs.declared.view.View.{View}
 use Rattle.sot_board.specs.Standing.{Standing}
 use Rattle.sot_board.specs.Views.{viewed_node, viewed_numbers, viewed_locals}
 use Rattle.sot_board.proofs.ViewLaws.{code_runs_on_views}
-use Rattle.sot_board.specs.NodeSorts.{IsCodedNode}
+use Rattle.sot_world.specs.NodeSorts.{IsCodedNode}
 use Rattle.sot_node_worker.specs.Holds.{IsDueView}
 
 -- it may be run, and gives what it gives

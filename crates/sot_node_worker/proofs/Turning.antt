@@ -29,14 +29,14 @@ module _ (p : Tables) (j : ℕ) (f : Plan) (n : ℕ) (old new : List Logged) (fi
   asked_once : (before after : List Asking) → HasAnswered p j f n old first before → (once : AnswersOnce p j f n old new (Some before) (Some after))
       → HasAnswered p j f n new first after
   asked_once before after was once =
-      let list = once.told.0 in
-      let same : before ≡ list = (let e = once.told.1 in cc) in
+      let list = once.asked.0 in
+      let same : before ≡ list = (let e = once.asked.1 in cc) in
       let known = was.more in
       record {
         first = was.first;
         more = known ++ once.one ∷ [];
         before_is = was.before_is;
-        after_is = once.told.2 ∙ ap (λ l. l ++ once.one ∷ []) (sym same ∙ was.after_is) ∙ append_assoc was.first known (once.one ∷ []);
+        after_is = once.asked.2 ∙ ap (λ l. l ++ once.one ∷ []) (sym same ∙ was.after_is) ∙ append_assoc was.first known (once.one ∷ []);
         count = length-append known (once.one ∷ []) ∙ (let a = was.count in let b = once.count in omega arith);
         fits = λ k one at.
             ⊎_elim
@@ -51,28 +51,28 @@ module _ (p : Tables) (j : ℕ) (f : Plan) (n : ℕ) (old new : List Logged) (fi
       subst (λ o. Answered p j f n new first o) (sym quiet.1)
       (subst (λ es. Answered p j f n es first before) (sym quiet.0.1) (answers_stay p j f n old quiet.0.0 first before quiet.0.2 was))
   answered_on before None was (inr once) = tt
-  answered_on None (Some after) was (inr once) = absurd (let e = once.told.1 in cc)
+  answered_on None (Some after) was (inr once) = absurd (let e = once.asked.1 in cc)
   answered_on (Some before) (Some after) was (inr once) = asked_once before after was once
 
 -- the same of a guest, where there is one
 pub each_answered :
-    {C : Type 0} (told : C → Option (List Asking)) (p : Tables) (j : ℕ) (f : Plan) (n : ℕ) (old new : List Logged) (began was now : Option C)
-    → EachGuest (Answered p j f n old) told began was → EachGuest (AnswersOn p j f n old new) told was now → EachGuest (Answered p j f n new) told began now
-each_answered told p j f n old new None None None a b = tt
-each_answered told p j f n old new (Some x) (Some y) (Some z) a b = answered_on p j f n old new (told x) (told y) (told z) a b
-each_answered told p j f n old new None None (Some z) a b = absurd b
-each_answered told p j f n old new None (Some y) now a b = absurd a
-each_answered told p j f n old new (Some x) None now a b = absurd a
-each_answered told p j f n old new (Some x) (Some y) None a b = absurd b
+    {C : Type 0} (asked : C → Option (List Asking)) (p : Tables) (j : ℕ) (f : Plan) (n : ℕ) (old new : List Logged) (began was now : Option C)
+    → EachGuest (Answered p j f n old) asked began was → EachGuest (AnswersOn p j f n old new) asked was now → EachGuest (Answered p j f n new) asked began now
+each_answered asked p j f n old new None None None a b = tt
+each_answered asked p j f n old new (Some x) (Some y) (Some z) a b = answered_on p j f n old new (asked x) (asked y) (asked z) a b
+each_answered asked p j f n old new None None (Some z) a b = absurd b
+each_answered asked p j f n old new None (Some y) now a b = absurd a
+each_answered asked p j f n old new (Some x) None now a b = absurd a
+each_answered asked p j f n old new (Some x) (Some y) None a b = absurd b
 
 -- there is a guest where there was one
 pub still_guest :
-    {C : Type 0} (R : Option (List Asking) → Option (List Asking) → Type 0) (told : C → Option (List Asking)) (f : Plan) (n : ℕ) (was now : Option C)
-    → EachGuest R told was now → HasItsGuest f n was → HasItsGuest f n now
-still_guest R told f n None None each has = has
-still_guest R told f n (Some x) (Some y) each has = has
-still_guest R told f n None (Some y) each has = absurd each
-still_guest R told f n (Some x) None each has = absurd each
+    {C : Type 0} (R : Option (List Asking) → Option (List Asking) → Type 0) (asked : C → Option (List Asking)) (f : Plan) (n : ℕ) (was now : Option C)
+    → EachGuest R asked was now → HasItsGuest f n was → HasItsGuest f n now
+still_guest R asked f n None None each has = has
+still_guest R asked f n (Some x) (Some y) each has = has
+still_guest R asked f n None (Some y) each has = absurd each
+still_guest R asked f n (Some x) None each has = absurd each
 
 -- firings behind firings
 pub firings_append : (n : ℕ) (xs ys : List Logged) → AreFirings n xs → AreFirings n ys → AreFirings n (xs ++ ys)
@@ -88,9 +88,9 @@ form_along p m n was now node same has = subst (λ k. IsFormOf p k now) node (su
 
 -- one more turn of a shift that began
 pub one_turn_more :
-    {C : Type 0} (told : C → Option (List Asking)) (began old new : Shift C) (was : IsOnShift told began old)
-    → IsTurned told was.at_work.accepted was.at_work.plan old new → IsOnShift told began new
-one_turn_more told began old new was turned =
+    {C : Type 0} (asked : C → Option (List Asking)) (began old new : Shift C) (was : IsOnShift asked began old)
+    → IsTurned asked was.at_work.accepted was.at_work.plan old new → IsOnShift asked began new
+one_turn_more asked began old new was turned =
     let a = was.at_work.accepted in
     let f = was.at_work.plan in
     record {
@@ -101,7 +101,7 @@ one_turn_more told began old new was turned =
         there = subst (λ n. n < length a.program.nodes) (sym turned.node) was.at_work.there;
         guest =
             subst (λ n. HasItsGuest f n new.guest) (sym turned.node)
-            (still_guest (AnswersOn a.program a.cert.jitter f old.node (pass_seen old.pass) (pass_seen new.pass)) told f old.node old.guest new.guest
+            (still_guest (AnswersOn a.program a.cert.jitter f old.node (pass_seen old.pass) (pass_seen new.pass)) asked f old.node old.guest new.guest
             turned.guest was.at_work.guest);
         drafts = turned.drafts ∙ ap (λ n. drafts_of n (pass_seen new.pass)) (sym turned.node);
         form = form_along a.program old.node new.node old.form new.form (sym turned.node) turned.form was.at_work.form;
@@ -118,17 +118,17 @@ one_turn_more told began old new was turned =
           ∙ append_assoc began.drafts.items (drafts_of old.node was.own) (drafts_of old.node turned.own)
           ∙ ap (λ l. began.drafts.items ++ l) (sym (drafts_append old.node was.own turned.own))
           ∙ ap (λ n. began.drafts.items ++ drafts_of n (was.own ++ turned.own)) (sym turned.node);
-      guest = subst (λ n. EachGuest (Answered a.program a.cert.jitter f n (pass_seen new.pass)) told began.guest new.guest) (sym turned.node)
-          (each_answered told a.program a.cert.jitter f old.node (pass_seen old.pass) (pass_seen new.pass) began.guest old.guest new.guest was.guest
+      guest = subst (λ n. EachGuest (Answered a.program a.cert.jitter f n (pass_seen new.pass)) asked began.guest new.guest) (sym turned.node)
+          (each_answered asked a.program a.cert.jitter f old.node (pass_seen old.pass) (pass_seen new.pass) began.guest old.guest new.guest was.guest
           turned.guest);
       finished = turned.finished;
     }
 
 -- nothing is answered yet
-nothing_answered : {C : Type 0} (told : C → Option (List Asking)) (p : Tables) (j : ℕ) (f : Plan) (n : ℕ) (history : List Logged) (guest : Option C)
-    → drafts_of n history ≡ [] → EachGuest (Answered p j f n history) told guest guest
-nothing_answered told p j f n history None none = tt
-nothing_answered told p j f n history (Some x) none = go (told x)
+nothing_answered : {C : Type 0} (asked : C → Option (List Asking)) (p : Tables) (j : ℕ) (f : Plan) (n : ℕ) (history : List Logged) (guest : Option C)
+    → drafts_of n history ≡ [] → EachGuest (Answered p j f n history) asked guest guest
+nothing_answered asked p j f n history None none = tt
+nothing_answered asked p j f n history (Some x) none = go (asked x)
   where
     go : (o : Option (List Asking)) → Answered p j f n history o o
     go None = tt
@@ -142,8 +142,8 @@ nothing_answered told p j f n history (Some x) none = go (told x)
     }
 
 -- a shift that is ready is on shift from itself
-pub ready_on_shift : {C : Type 0} (told : C → Option (List Asking)) (lock : _) (shift : Shift C) → IsReady lock shift → IsOnShift told shift shift
-ready_on_shift told lock shift ready =
+pub ready_on_shift : {C : Type 0} (asked : C → Option (List Asking)) (lock : _) (shift : Shift C) → IsReady lock shift → IsOnShift asked shift shift
+ready_on_shift asked lock shift ready =
     let a = ready.at_work.accepted in
     record {
       at_work = ready.at_work;
@@ -155,7 +155,7 @@ ready_on_shift told lock shift ready =
       only_firings = tt;
       all_firings = sym (append-nil shift.drafts.items);
       guest =
-          nothing_answered told a.program a.cert.jitter ready.at_work.plan shift.node (pass_seen shift.pass) shift.guest
+          nothing_answered asked a.program a.cert.jitter ready.at_work.plan shift.node (pass_seen shift.pass) shift.guest
           (sym ready.at_work.drafts ∙ ready.no_drafts);
       finished = λ yes. absurd (let e = sym yes ∙ ready.unfinished in cc);
     }

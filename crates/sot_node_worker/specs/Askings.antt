@@ -11,7 +11,7 @@ asking values draft = record { values = values; draft = draft }
 
 -- where a list is told after a call, one was told before it, and has grown by exactly this one
 -- asking, at its end
-abbrev pub TellsOneMore : Option (List Asking) → Option (List Asking) → Asking → Type 0
-TellsOneMore before None one = Unit {0}
-TellsOneMore before (Some after) one =
+abbrev pub AsksOneMore : Option (List Asking) → Option (List Asking) → Asking → Type 0
+AsksOneMore before None one = Unit {0}
+AsksOneMore before (Some after) one =
     (list : List Asking) × (before ≡ Some list) × (after ≡ list ++ one ∷ [])

@@ -41,10 +41,10 @@ pub record IsReady {C : Type 0} (lock : TableId) (shift : Shift C) : Type 0 wher
 -- there is a guest exactly where there was one, and what both tell is so related
 abbrev pub EachGuest : {C : Type 0} → (Option (List Asking) → Option (List Asking) → Type 0)
     → (C → Option (List Asking)) → Option C → Option C → Type 0
-EachGuest Relates told None None = Unit {0}
-EachGuest Relates told (Some before) (Some after) = Relates (told before) (told after)
-EachGuest Relates told None (Some after) = ⊥
-EachGuest Relates told (Some before) None = ⊥
+EachGuest Relates asked None None = Unit {0}
+EachGuest Relates asked (Some before) (Some after) = Relates (asked before) (asked after)
+EachGuest Relates asked None (Some after) = ⊥
+EachGuest Relates asked (Some before) None = ⊥
 
 -- each of the entries is a firing of the node
 abbrev pub AreFirings : ℕ → List Logged → Type 0
@@ -58,7 +58,7 @@ AreFirings n (TickAt time noise states ∷ entries) = ⊥
 -- what it has added to the history since are firings of its node, and all that there were; its
 -- guest was asked once a firing of the node in what its pass has seen; and where it is finished,
 -- its pass has seen a whole history of the flight.
-pub record IsOnShift {C : Type 0} (told : C → Option (List Asking)) (began now : Shift C) : Type 0
+pub record IsOnShift {C : Type 0} (asked : C → Option (List Asking)) (began now : Shift C) : Type 0
   where
     pub at_work : IsAtWork now
     pub node : now.node ≡ began.node
@@ -70,13 +70,13 @@ pub record IsOnShift {C : Type 0} (told : C → Option (List Asking)) (began now
     pub all_firings : now.drafts.items ≡ began.drafts.items ++ drafts_of now.node own
     pub guest : EachGuest (Answered at_work.accepted.program at_work.accepted.cert.jitter
         at_work.plan
-        now.node (pass_seen now.pass)) told began.guest now.guest
+        now.node (pass_seen now.pass)) asked began.guest now.guest
     pub finished : now.finished ≡ true
         → FlownBy at_work.accepted.program at_work.accepted.cert.jitter
         at_work.plan (pass_seen now.pass)
 
 -- What became of a shift whose work ended: it has not begun, and is as it was, or it is finished.
-pub record HasWorked {C : Type 0} (told : C → Option (List Asking)) (began now : Shift C) : Type 0
+pub record HasWorked {C : Type 0} (asked : C → Option (List Asking)) (began now : Shift C) : Type 0
   where
-    pub on_shift : IsOnShift told began now
+    pub on_shift : IsOnShift asked began now
     pub ended : (now ≡ began) ⊎ (now.finished ≡ true)

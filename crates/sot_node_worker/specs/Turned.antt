@@ -9,7 +9,7 @@ use Rattle.sot_tube.specs.Admitted.{Admitted}
 use Rattle.sot_board.specs.Flown.{FlownBy}
 use Rattle.sot_board.specs.Versions.{drafts_of}
 use Rattle.sot_node_worker.specs.declared.shift.Shift.{Shift}
-use Rattle.sot_node_worker.specs.Askings.{Asking, TellsOneMore}
+use Rattle.sot_node_worker.specs.Askings.{Asking, AsksOneMore}
 use Rattle.sot_node_worker.specs.Answers.{FitsFiring}
 use Rattle.sot_node_worker.specs.Shifts.{EachGuest, AreFirings}
 
@@ -21,7 +21,7 @@ IsQuiet n old new = (more : List Logged) × (new ≡ old ++ more) × (drafts_of 
 pub record AnswersOnce (p : Tables) (jitter : ℕ) (f : Plan) (n : ℕ) (old new : List Logged)
     (before after : Option (List Asking)) : Type 0 where
   pub one : Asking
-  pub told : TellsOneMore before after one
+  pub asked : AsksOneMore before after one
   pub goes_on : IsPrefix old new
   pub count : length (drafts_of n new) ≡ suc (length (drafts_of n old))
   pub fits : FitsFiring p jitter f n new (length (drafts_of n old)) one
@@ -33,7 +33,7 @@ AnswersOn p jitter f n old new before after =
     (IsQuiet n old new × (after ≡ before)) ⊎ AnswersOnce p jitter f n old new before after
 
 -- a turn of a shift that knows this program and this flight
-pub record IsTurned {C : Type 0} (told : C → Option (List Asking)) (a : Admitted) (f : Plan)
+pub record IsTurned {C : Type 0} (asked : C → Option (List Asking)) (a : Admitted) (f : Plan)
     (old new : Shift C) : Type 0 where
   pub node : new.node ≡ old.node
   pub form : new.form ≡ old.form
@@ -45,5 +45,5 @@ pub record IsTurned {C : Type 0} (told : C → Option (List Asking)) (a : Admitt
   pub only_firings : AreFirings old.node own
   pub all_firings : new.drafts.items ≡ old.drafts.items ++ drafts_of old.node own
   pub guest : EachGuest (AnswersOn a.program a.cert.jitter f old.node (pass_seen old.pass)
-      (pass_seen new.pass)) told old.guest new.guest
+      (pass_seen new.pass)) asked old.guest new.guest
   pub finished : new.finished ≡ true → FlownBy a.program a.cert.jitter f (pass_seen new.pass)

@@ -13,7 +13,7 @@ ghost use Rattle.sot_board.specs.Versions.{drafts_of};
 ghost use Rattle.sot_board.specs.Standing.{Standing};
 ghost use Rattle.sot_board.specs.Views.{viewed_node};
 ghost use Rattle.sot_board.specs.Commits.{IsTakenFrom, IsRunOn};
-ghost use Rattle.sot_board.specs.NodeSorts.{IsCodedNode, IsExternalNode};
+ghost use Rattle.sot_world.specs.NodeSorts.{IsCodedNode, IsExternalNode};
 ghost use Rattle.sot_node_worker.specs.Holds.{HasNode, IsDueView, IsSeen, Appends, HasFired};
 
 use crate::bells::Bells;
@@ -69,7 +69,7 @@ fn commit_stated<R: Wait>(
     requires no_guest { (i : ℕ) → At board.old.plan.crews node (plans.Guest i) → ⊥ }
     ensures { Appends board.old board.new node result.0.draft }
 {
-    if !board.due(node) {
+    if !board.left(node) {
         stop(rt);
     }
     let receipt = board.commit_stated(node);
@@ -167,7 +167,7 @@ fn commit_run<R: Wait>(
     requires ran { IsRunOn board.old.accepted.program view fired.now }
     ensures { Appends board.old board.new (viewed_node view) result.0.draft }
 {
-    if !board.due(view.node()) {
+    if !board.left(view.node()) {
         stop(rt);
     }
     let receipt = commit_or_fire(board, view, fired);
@@ -221,7 +221,7 @@ fn commit_draft<R: Wait>(rt: &R, board: &mut Board<'_>, node: u32, draft: Draft)
     ensures draft { result.draft ≡ in_slots
         (take (slot_count board.old.accepted.program node) draft) }
 {
-    if !board.due(node) {
+    if !board.left(node) {
         stop(rt);
     }
     board.commit_guest(node, draft)

@@ -6,7 +6,7 @@ use sot_board::Board;
 // Whether a module is left to decide.
 fn is_undecided(board: &Board<'_>) -> bool {
     for module in 0..board.typed().modules.len() as u32 {
-        if board.due_dm(module) {
+        if board.left_dm(module) {
             return true;
         }
     }
@@ -22,7 +22,7 @@ pub fn next_to_fire(board: &Board<'_>) -> Option<u32> {
     let flight = board.flight();
     board.reveal_invariant();
     for node in 0..board.typed().nodes.len() as u32 {
-        if board.due(node) && flight.guest(node).is_none() {
+        if board.left(node) && flight.guest(node).is_none() {
             return Some(node);
         }
     }

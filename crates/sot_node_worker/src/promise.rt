@@ -13,5 +13,5 @@ use std::thread::Promise;
 pub struct Works<'a, C: Controller>(pub Snapshot<Shift<'a, C>>);
 
 impl<'a, C: Controller> Promise<Shift<'a, C>> for Works<'a, C> {
-    ghost kept_by = { λ p r. HasWorked C.told p.0.value r };
+    ghost kept_by = { λ p r. HasWorked C.asked p.0.value r };
 }

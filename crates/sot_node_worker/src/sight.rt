@@ -4,11 +4,12 @@ ghost use Rattle.std.specs.Prelude.{◌≡◌, ◌<◌, true, false, length};
 ghost use Rattle.sot_world.specs.Configurations.{is_left};
 ghost use Rattle.sot_board.specs.Flown.{IsEnd};
 ghost use Rattle.sot_board.specs.Standing.{IsStanding};
-ghost use Rattle.sot_board.specs.NodeSorts.{IsCodedNode, IsExternalNode};
+ghost use Rattle.sot_world.specs.NodeSorts.{IsCodedNode, IsExternalNode};
 ghost use Rattle.sot_node_worker.specs.Holds.{IsDueView, MatchSight};
 
-use sot_board::{Board, View, is_coded};
+use sot_board::{Board, View};
 use sot_lang::Typed;
+use sot_world::is_coded;
 
 /// The flight is at its end; the node is not due; it is due and its draft is stated; its code is to
 /// run on this view; or its guest is to be asked with it.
@@ -39,7 +40,7 @@ pub(crate) fn see<'a>(board: &Board<'a>, node: u32, guest: bool) -> Sight<'a>
     if board.finished() {
         return Sight::Ended;
     }
-    if !board.due(node) {
+    if !board.left(node) {
         return Sight::Idle;
     }
     if guest {

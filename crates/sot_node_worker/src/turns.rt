@@ -5,7 +5,7 @@ ghost use Rattle.sot_turn.specs.Passes.{lock_of, pass_lock, pass_ground};
 ghost use Rattle.sot_tube.specs.Admitted.{Admitted};
 ghost use Rattle.sot_flight.specs.Plans.{Plan};
 ghost use Rattle.sot_board.specs.Views.{viewed_numbers};
-ghost use Rattle.sot_node_worker.specs.Askings.{TellsOneMore, asking};
+ghost use Rattle.sot_node_worker.specs.Askings.{AsksOneMore, asking};
 ghost use Rattle.sot_node_worker.specs.Shifts.{IsAtWork, IsReady, IsOnShift, HasWorked};
 ghost use Rattle.sot_node_worker.specs.Turns.{TakesTurn};
 
@@ -22,7 +22,7 @@ use std::sync::Wait;
 
 // Asks a guest with a view, on a blank draft.
 fn ask<C: Controller>(guest: &mut C, view: &View) -> Draft
-    ensures { TellsOneMore (C.told guest.old) (C.told guest.new)
+    ensures { AsksOneMore (C.asked guest.old) (C.asked guest.new)
         (asking (viewed_numbers view.now) result) }
 {
     let mut draft = Draft::blank();
@@ -43,8 +43,8 @@ pub fn take_turn<'a, C: Controller, R: Wait>(
 ) -> Shift<'a, C>
     requires lock { pass_lock shift.pass ≡ lock_of turn.now }
     requires at_work { IsAtWork shift }
-    ensures on_shift { (began : _) → IsOnShift C.told began shift.entry
-        → IsOnShift C.told began result }
+    ensures on_shift { (began : _) → IsOnShift C.asked began shift.entry
+        → IsOnShift C.asked began result }
     ensures turn { (a : Admitted) (f : Plan) → pass_ground shift.entry.pass ≡ Some (a, f)
         → TakesTurn a f shift.entry result }
 {
@@ -101,7 +101,7 @@ pub fn work<'a, C: Controller, R: Wait>(
     shift: Shift<'a, C>,
 ) -> Shift<'a, C>
     requires { IsReady (lock_of turn.now) shift }
-    ensures { HasWorked C.told shift.entry result }
+    ensures { HasWorked C.asked shift.entry result }
 {
     let node = shift.node;
     if bells.is_refused(node) {

@@ -7,7 +7,7 @@ ghost use Rattle.sot_world.specs.Configurations.{is_left};
 ghost use Rattle.sot_world.specs.Events.{RefusesNode};
 ghost use Rattle.sot_flight.specs.Plans as plans;
 ghost use Rattle.sot_trace.specs.Words.{AreWords};
-ghost use Rattle.sot_board.specs.NodeSorts.{IsCodedNode, IsExternalNode};
+ghost use Rattle.sot_world.specs.NodeSorts.{IsCodedNode, IsExternalNode};
 ghost use Rattle.sot_trace_lines.specs.declared.line.Line.TheVariants.{Fire as IsFire};
 ghost use Rattle.sot_replay.specs.Judges.{IsJudged, BeginsAsFiring, FiresAt, SpellsFiringAt};
 
@@ -17,10 +17,10 @@ use crate::judged::{Judged, kind_of};
 use crate::now::is_now;
 use crate::ranges::draft_has_64_bits;
 use crate::read_on::read_on;
-use sot_board::{Board, is_coded};
+use sot_board::Board;
 use sot_lang::Draft;
 use sot_trace_lines::{Line, read_line};
-use sot_world::{Event, Why};
+use sot_world::{Event, Why, is_coded};
 use std::alloc::AllocError;
 
 // Whether a node can fire.

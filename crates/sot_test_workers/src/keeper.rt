@@ -44,7 +44,7 @@ impl Keeper {
 }
 
 impl Controller for Keeper {
-    ghost told = { λ k. told_of k.lost k.kept.items };
+    ghost asked = { λ k. told_of k.lost k.kept.items };
 
     fn decide(&mut self, view: &View, draft: &mut Draft) {
         if let Some(number) = self.number {

@@ -10,7 +10,7 @@ use Rattle.std.proofs.lemmas.List.{append-nil}
 use Rattle.sot_lang.specs.declared.tables.PlantInfo.{PlantInfo}
 use Rattle.sot_lang.specs.Tables.{Tables}
 use Rattle.sot_lists.specs.Places.{At}
-use Rattle.sot_board.proofs.Options.{some_there}
+use Rattle.sot_world.proofs.Options.{some_there}
 use Rattle.sot_trace.specs.Numbers.{numbers}
 use Rattle.sot_trace_lines.specs.Spelled.{IsStartLine}
 use Rattle.sot_trace_lines.specs.Pieces.{◌>>=◌, behind, at_end, row_at}

@@ -51,19 +51,19 @@ whole_is a b f h whole seen entries Q same w p flown =
     goes.1 ∙ (ap (λ l. whole ++ l) more ∙ append-nil whole)
 
 -- what is back beside the board at its end
-pub record AreHome {C : Type 0} (told : C → Option (List Asking)) (b : Standing) (guests : List C) (lists : List NodeList) (dones : List (Done C)) : Type 0
+pub record AreHome {C : Type 0} (asked : C → Option (List Asking)) (b : Standing) (guests : List C) (lists : List NodeList) (dones : List (Done C)) : Type 0
   where
     pub flown : FlownBy b.accepted.program b.accepted.cert.jitter b.plan b.entries
     pub own : AreOwnLists (length lists) b.plan lists b.entries
     pub count : length lists ≡ length b.accepted.program.nodes
-    pub each : EachFrom (IsDone told b.accepted b.plan b.entries) 0 guests dones
+    pub each : EachFrom (IsDone asked b.accepted b.plan b.entries) 0 guests dones
 
-module _ {C : Type 0} (told : C → Option (List Asking)) where
+module _ {C : Type 0} (asked : C → Option (List Asking)) where
   -- what is back is so beside the board whose ground and history they are
   pub are_home :
       (a : Admitted) (f : Plan) (b : Standing) (guests : List C) (seen : List Logged) (lists : List NodeList) (dones : List (Done C))
-      → (a ≡ b.accepted) × (f ≡ b.plan) → (back : AreBack told a f guests seen lists dones)
-      → b.entries ≡ back.whole → AreHome told b guests lists dones
+      → (a ≡ b.accepted) × (f ≡ b.plan) → (back : AreBack asked a f guests seen lists dones)
+      → b.entries ≡ back.whole → AreHome asked b guests lists dones
   are_home a f b guests seen lists dones same back is =
       let move : (P : Admitted → Plan → List Logged → Type 0) → P a f back.whole → P b.accepted b.plan b.entries =
       λ P p. subst (λ x. P x b.plan b.entries) same.0 (subst (λ x. P a x b.entries) same.1 (subst (λ x. P a f x) (sym is) p)) in
@@ -72,40 +72,40 @@ module _ {C : Type 0} (told : C → Option (List Asking)) where
         flown = move (λ x h es. FlownBy x.program x.cert.jitter h es) back.seen_whole.0;
         own = subst (λ n. AreOwnLists n b.plan lists b.entries) (sym own.nodes.each) own;
         count = own.nodes.each;
-        each = move (λ x h es. EachFrom (IsDone told x h es) 0 guests dones) back.each;
+        each = move (λ x h es. EachFrom (IsDone asked x h es) 0 guests dones) back.each;
       }
 
   -- a guest that is back has answered for the node that names it
   answered_by :
       (a : Admitted) (f : Plan) (history : List Logged) (n i : ℕ) (was now : C) → FliesOnce f → At f.crews n (Guest i) → (list : Option NodeList)
-      → IsBack told a f history i was now list
-      → Answered a.program a.cert.jitter f n history (told was) (told now)
+      → IsBack asked a f history i was now list
+      → Answered a.program a.cert.jitter f n history (asked was) (asked now)
   answered_by a f history n i was now once crew None back = absurd (back.1 n crew)
   answered_by a f history n i was now once crew (Some list) back =
-      subst (λ m. Answered a.program a.cert.jitter f m history (told was) (told now)) (once list.node n i back.0 crew) back.2
+      subst (λ m. Answered a.program a.cert.jitter f m history (asked was) (asked now)) (once list.node n i back.0 crew) back.2
 
   -- and one that no node names has stayed
   stays_by : (a : Admitted) (f : Plan) (history : List Logged) (i : ℕ) (was now : C) → IsUnnamed f i → (list : Option NodeList)
-      → IsBack told a f history i was now list → now ≡ was
+      → IsBack asked a f history i was now list → now ≡ was
   stays_by a f history i was now unnamed None back = back.0
   stays_by a f history i was now unnamed (Some list) back = absurd (unnamed list.node back.0)
 
   -- the guest at a place
   back_at :
-      (a : Admitted) (f : Plan) (history : List Logged) (before after : List C) (i : ℕ) (was now : C) → EachFrom (IsGuestBack told a f history) 0 before after
+      (a : Admitted) (f : Plan) (history : List Logged) (before after : List C) (i : ℕ) (was now : C) → EachFrom (IsGuestBack asked a f history) 0 before after
       → At before i was → At after i now
-      → IsGuestBack told a f history i was now
+      → IsGuestBack asked a f history i was now
   back_at a f history before after i was now each b t =
-      subst (λ k. IsGuestBack told a f history k was now) (omega arith) (each_at (IsGuestBack told a f history) 0 before after i was now each b t)
+      subst (λ k. IsGuestBack asked a f history k was now) (omega arith) (each_at (IsGuestBack asked a f history) 0 before after i was now each b t)
 
   -- each guest that is named has answered
   pub each_answered : (a : Admitted) (f : Plan) (history : List Logged) (before after : List C) → FliesOnce f
-      → EachFrom (IsGuestBack told a f history) 0 before after → EachAnswered told a f history before after
+      → EachFrom (IsGuestBack asked a f history) 0 before after → EachAnswered asked a f history before after
   each_answered a f history before after once each n i was now crew b t =
       (let back = back_at a f history before after i was now each b t in answered_by a f history n i was now once crew back.0 back.1)
 
   -- and each other one is the same
-  pub each_stays : (a : Admitted) (f : Plan) (history : List Logged) (before after : List C) → EachFrom (IsGuestBack told a f history) 0 before after
+  pub each_stays : (a : Admitted) (f : Plan) (history : List Logged) (before after : List C) → EachFrom (IsGuestBack asked a f history) 0 before after
       → EachUnnamedStays f before after
   each_stays a f history before after each i was now unnamed b t =
       (let back = back_at a f history before after i was now each b t in stays_by a f history i was now unnamed back.0 back.1)

@@ -132,12 +132,12 @@ order_further start b one two entry noise states accepted plan (k, at, (es, is, 
     (subst (λ (x : Admitted). FlownSoFar x.program x.cert.jitter one.plan one.entries one.position) program stands.flown)) in
     let rests : IsSettledAfter a f (start.entries ++ (es ++ now)) =
     (one.position, flown, subst (λ (x : Admitted). IsSettled x.program one.position) program settled) in
-    let told : entry ≡ last = tick ∙ ap (λ x. TickAt x noise states) same.time in (
+    let asked : entry ≡ last = tick ∙ ap (λ x. TickAt x noise states) same.time in (
       suc k,
       omega (arith, later, same.time, at),
       (
         es ++ (now ++ last ∷ []),
-        entries ∙ ap (λ x. one.entries ++ x ∷ []) told ∙ ap (λ l. l ++ last ∷ []) goes_on ∙ append_assoc start.entries (es ++ now) (last ∷ [])
+        entries ∙ ap (λ x. one.entries ++ x ∷ []) asked ∙ ap (λ l. l ++ last ∷ []) goes_on ∙ append_assoc start.entries (es ++ now) (last ∷ [])
             ∙ ap (λ l. start.entries ++ l) (append_assoc es now (last ∷ [])),
         instants_one a f start.entries start.position.at.time k t es now noise states at instants
             (subst (λ (x : Admitted). IsInstant x.program t now) accepted instant) rests,

@@ -57,32 +57,32 @@ nodes_put count lists one has = record {
 own_back : (count : ℕ) (f : Plan) (lists : List NodeList) (history : List Logged) → AreOwnLists count f lists history → AreListsBack count f 0 lists history
 own_back count f lists history own = record { nodes = own.nodes; own = own.drafts; flown = λ n i list at crew lt. absurd (omega (arith, lt)) }
 
-module _ {C : Type 0} (told : C → Option (List Asking)) (a : Admitted) (f : Plan) (history : List Logged) where
-  pub guests_first : (was guests : List C) → guests ≡ [] → EachFrom (IsDone told a f history) 0 was [] → EachFrom (IsGuestBack told a f history) 0 was guests
+module _ {C : Type 0} (asked : C → Option (List Asking)) (a : Admitted) (f : Plan) (history : List Logged) where
+  pub guests_first : (was guests : List C) → guests ≡ [] → EachFrom (IsDone asked a f history) 0 was [] → EachFrom (IsGuestBack asked a f history) 0 was guests
   guests_first was guests none each =
-      subst (λ ys. EachFrom (IsGuestBack told a f history) 0 was ys) (sym none)
-      (subst (λ xs. EachFrom (IsGuestBack told a f history) 0 xs []) (sym (each_none (IsDone told a f history) 0 was each)) tt)
+      subst (λ ys. EachFrom (IsGuestBack asked a f history) 0 was ys) (sym none)
+      (subst (λ xs. EachFrom (IsGuestBack asked a f history) 0 xs []) (sym (each_none (IsDone asked a f history) 0 was each)) tt)
 
-  pub lists_first : (count : ℕ) (lists : List NodeList) (was : List C) → EachFrom (IsDone told a f history) 0 was [] → AreOwnLists count f lists history
+  pub lists_first : (count : ℕ) (lists : List NodeList) (was : List C) → EachFrom (IsDone asked a f history) 0 was [] → AreOwnLists count f lists history
       → AreListsBack count f (length was) lists history
   lists_first count lists was each own =
-      subst (λ (xs : List C). AreListsBack count f (length xs) lists history) (sym (each_none (IsDone told a f history) 0 was each))
+      subst (λ (xs : List C). AreListsBack count f (length xs) lists history) (sym (each_none (IsDone asked a f history) 0 was each))
       (own_back count f lists history own)
 
   -- one guest more is back
   pub guest_more :
-      (was : List C) (dones : List (Done C)) (guests : List C) (done : Done C) → EachFrom (IsDone told a f history) 0 was (dones ++ done ∷ [])
-      → ((w : List C) → EachFrom (IsDone told a f history) 0 w dones → EachFrom (IsGuestBack told a f history) 0 w guests)
-      → EachFrom (IsGuestBack told a f history) 0 was (guests ++ done.guest ∷ [])
+      (was : List C) (dones : List (Done C)) (guests : List C) (done : Done C) → EachFrom (IsDone asked a f history) 0 was (dones ++ done ∷ [])
+      → ((w : List C) → EachFrom (IsDone asked a f history) 0 w dones → EachFrom (IsGuestBack asked a f history) 0 w guests)
+      → EachFrom (IsGuestBack asked a f history) 0 was (guests ++ done.guest ∷ [])
   guest_more was dones guests done each go =
-      let l : EndsWith (IsDone told a f history) 0 was dones done = each_last (IsDone told a f history) 0 was dones done each in
-      subst (λ xs. EachFrom (IsGuestBack told a f history) 0 xs (guests ++ done.guest ∷ [])) (sym l.is)
-      (each_more (IsGuestBack told a f history) 0 l.front guests l.last done.guest (go l.front l.each) (done.list, l.here))
+      let l : EndsWith (IsDone asked a f history) 0 was dones done = each_last (IsDone asked a f history) 0 was dones done each in
+      subst (λ xs. EachFrom (IsGuestBack asked a f history) 0 xs (guests ++ done.guest ∷ [])) (sym l.is)
+      (each_more (IsGuestBack asked a f history) 0 l.front guests l.last done.guest (go l.front l.each) (done.list, l.here))
 
   -- and its list at its node
   list_more :
       (count number : ℕ) (lists : List NodeList) (was now : C) (list : Option NodeList) → FliesOnce f → AreListsBack count f number lists history
-      → IsBack told a f history number was now list
+      → IsBack asked a f history number was now list
       → AreListsBack count f (number + 1) (lists_after lists list) history
   list_more count number lists was now None once all back = record {
     nodes = all.nodes;
@@ -108,14 +108,15 @@ module _ {C : Type 0} (told : C → Option (List Asking)) (a : Admitted) (f : Pl
   }
 
   pub lists_more :
-      (count : ℕ) (lists : List NodeList) (was : List C) (dones : List (Done C)) (done : Done C) → EachFrom (IsDone told a f history) 0 was (dones ++ done ∷ [])
+      (count : ℕ) (lists : List NodeList) (was : List C) (dones : List (Done C)) (done : Done C)
+      → EachFrom (IsDone asked a f history) 0 was (dones ++ done ∷ [])
       → FliesOnce f
-      → ((w : List C) → EachFrom (IsDone told a f history) 0 w dones → AreListsBack count f (length w) lists history)
+      → ((w : List C) → EachFrom (IsDone asked a f history) 0 w dones → AreListsBack count f (length w) lists history)
       → AreListsBack count f (length was) (lists_after lists done.list) history
   lists_more count lists was dones done each once go =
-      let l : EndsWith (IsDone told a f history) 0 was dones done = each_last (IsDone told a f history) 0 was dones done each in
+      let l : EndsWith (IsDone asked a f history) 0 was dones done = each_last (IsDone asked a f history) 0 was dones done each in
       let size : length l.front + 1 ≡ length was = omega (arith, ap length l.is, length_push l.front l.last) in
       let number : 0 + length l.front ≡ length l.front = omega arith in
-      let here : IsBack told a f history (length l.front) l.last done.guest done.list = subst (λ n. IsDone told a f history n l.last done) number l.here in
+      let here : IsBack asked a f history (length l.front) l.last done.guest done.list = subst (λ n. IsDone asked a f history n l.last done) number l.here in
       subst (λ n. AreListsBack count f n (lists_after lists done.list) history) size
       (list_more count (length l.front) lists l.last done.guest done.list once (go l.front l.each) here)

@@ -66,11 +66,11 @@ module _ {C : Type 0} where
 
   -- what a shift that is at its end and its caller have seen begins one list, so it ends with the same history, whose drafts it has
   pub relieved_of :
-      (told : C → Option (List Asking)) (lock : TableId) (a : Admitted) (f : Plan) (whole : List Logged) (n : ℕ) (began now : Shift C)
+      (asked : C → Option (List Asking)) (lock : TableId) (a : Admitted) (f : Plan) (whole : List Logged) (n : ℕ) (began now : Shift C)
       (seen joined : List Logged) (list : NodeList) → HasSeenWhole a f whole seen
-      → IsPrefix seen joined → IsPrefix (pass_seen now.pass) joined → IsNodeShift lock a f n began → IsOnShift told began now → now.finished ≡ true
+      → IsPrefix seen joined → IsPrefix (pass_seen now.pass) joined → IsNodeShift lock a f n began → IsOnShift asked began now → now.finished ≡ true
       → list.node ≡ now.node → list.drafts ≡ now.drafts → IsRelieved whole n true (Some list)
-  relieved_of told lock a f whole n began now seen joined list w p q of on finished node drafts =
+  relieved_of asked lock a f whole n began now seen joined list w p q of on finished node drafts =
       let at = on.at_work in
       let ground : ◌≡◌ {A = Admitted × Plan} (at.accepted, at.plan) (a, f) = same_Some _ _ (sym at.ground ∙ (on.ground ∙ of.ground)) in
       let flown : FlownBy a.program a.cert.jitter f (pass_seen now.pass) =

@@ -13,9 +13,9 @@ module _ {C : Type 0} where
   -- its node, in order
   abbrev pub EachAnswered : (C → Option (List Asking)) → Admitted → Plan → List Logged → List C
       → List C → Type 0
-  EachAnswered told a f history before after =
+  EachAnswered asked a f history before after =
       (n i : ℕ) (was now : C) → At f.crews n (Guest i) → At before i was → At after i now
-      → Answered a.program a.cert.jitter f n history (told was) (told now)
+      → Answered a.program a.cert.jitter f n history (asked was) (asked now)
 
   -- each guest that the flight does not name is the same
   abbrev pub EachUnnamedStays : Plan → List C → List C → Type 0

@@ -14,8 +14,8 @@ use Rattle.sot_workers.specs.Sent.{IsBack}
 -- a guest is back from some node, or it stayed
 abbrev pub IsGuestBack : {C : Type 0} → (C → Option (List Asking)) → Admitted → Plan → List Logged
     → ℕ → C → C → Type 0
-IsGuestBack told a f history number was now =
-    (list : Option NodeList) × IsBack told a f history number was now list
+IsGuestBack asked a f history number was now =
+    (list : Option NodeList) × IsBack asked a f history number was now list
 
 -- no guest flies two nodes
 abbrev pub FliesOnce : Plan → Type 0

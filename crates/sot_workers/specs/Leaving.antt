@@ -23,10 +23,10 @@ pub record IsLeaving {C : Type 0} (table : TableId) (f : Plan) (leaving : Leavin
       → AreFormsOf a.program leaving.room.forms.items
 
 -- a pass of the same lock and ground, with all guests back
-pub record HasLanded {C : Type 0} (told : C → Option (List Asking)) (f : Plan) (leaving : Leaving C)
-    (landed : Landed C) : Type 0 where
+pub record HasLanded {C : Type 0} (asked : C → Option (List Asking)) (f : Plan)
+    (leaving : Leaving C) (landed : Landed C) : Type 0 where
   pub lock : pass_lock landed.pass ≡ pass_lock leaving.pass
   pub ground : pass_ground landed.pass ≡ pass_ground leaving.pass
   pub back : (a : Admitted) → pass_ground leaving.pass ≡ Some (a, f)
-      → AreBack told a f leaving.room.guests.items (pass_seen landed.pass) landed.lists.items
+      → AreBack asked a f leaving.room.guests.items (pass_seen landed.pass) landed.lists.items
       landed.dones.items

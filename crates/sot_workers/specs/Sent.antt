@@ -48,13 +48,13 @@ module _ {C : Type 0} where
   IsJob lock a f number guest (job.Stays same) = (same ≡ guest) × IsUnnamed f number
   IsJob lock a f number guest (job.Leaves shift) = IsShiftOf lock a f number guest shift
 
-module _ {C : Type 0} (told : C → Option (List Asking)) where
+module _ {C : Type 0} (asked : C → Option (List Asking)) where
   -- a shift that was started, or that came back
   abbrev pub IsStarted : Shift C → Place C → Type 0
   IsStarted began (Stays guest) = ⊥
   IsStarted began (Out child) = child.promise.0.value ≡ began
   IsStarted began (Here None) = ⊥
-  IsStarted began (Here (Some now)) = HasWorked told began now
+  IsStarted began (Here (Some now)) = HasWorked asked began now
 
   -- a guest stays, or is out with a shift that began, or with such a shift here
   abbrev pub IsPlaced : TableId → Admitted → Plan → ℕ → C → Place C → Type 0
@@ -62,7 +62,7 @@ module _ {C : Type 0} (told : C → Option (List Asking)) where
   IsPlaced lock a f number guest (Out child) = IsShiftOf lock a f number guest child.promise.0.value
   IsPlaced lock a f number guest (Here None) = ⊥
   IsPlaced lock a f number guest (Here (Some now)) =
-      (began : Shift C) × IsShiftOf lock a f number guest began × IsOnShift told began now
+      (began : Shift C) × IsShiftOf lock a f number guest began × IsOnShift asked began now
 
   -- a guest is back: from its node, with the node's list, and asked once a firing of the node; or
   -- it stayed, as it was, since no node names it
@@ -70,7 +70,7 @@ module _ {C : Type 0} (told : C → Option (List Asking)) where
   IsBack a f history number was now None = (now ≡ was) × IsUnnamed f number
   IsBack a f history number was now (Some list) =
       At f.crews list.node (Guest number) × (list.drafts.items ≡ drafts_of list.node history)
-      × Answered a.program a.cert.jitter f list.node history (told was) (told now)
+      × Answered a.program a.cert.jitter f list.node history (asked was) (asked now)
 
   abbrev pub IsDone : Admitted → Plan → List Logged → ℕ → C → Done C → Type 0
   IsDone a f history number was done = IsBack a f history number was done.guest done.list

@@ -33,10 +33,10 @@ pub(crate) fn put_back<C: Controller>(
 )
     requires room { (guests.old.items ≡ []) × (vec_len dones ≤ vec_capacity guests.old) }
     ensures guests { (a : Admitted) (f : Plan) (history : List Logged) (was : List C)
-        → EachFrom (IsDone C.told a f history) 0 was dones.items
-        → EachFrom (IsGuestBack C.told a f history) 0 was guests.new.items }
+        → EachFrom (IsDone C.asked a f history) 0 was dones.items
+        → EachFrom (IsGuestBack C.asked a f history) 0 was guests.new.items }
     ensures lists { (a : Admitted) (f : Plan) (history : List Logged) (was : List C)
-        → EachFrom (IsDone C.told a f history) 0 was dones.items
+        → EachFrom (IsDone C.asked a f history) 0 was dones.items
         → AreOwnLists (length lists.old.items) f lists.old.items history → FliesOnce f
         → AreListsBack (length lists.old.items) f (length was) lists.new.items history }
 {

@@ -75,7 +75,7 @@ fn fly_in<'s, 'a: 's, E, C: Controller + Send + 's, R: Threads + Wait + Sync>(
     leaving: Leaving<'a, C>,
 ) -> Landed<'a, C>
     requires { IsLeaving (lock_of turn.now) flight.now leaving }
-    ensures { HasLanded C.told flight.now leaving.entry result }
+    ensures { HasLanded C.asked flight.now leaving.entry result }
 {
     let Leaving { pass, room } = leaving;
     let Room {
@@ -124,14 +124,14 @@ fn fly_out<'a, C: Controller + Send, R: Threads + Wait + Sync>(
     leaving: Leaving<'a, C>,
 ) -> Landed<'a, C>
     requires { IsLeaving (lock_of turn.now) flight.now leaving }
-    ensures { HasLanded C.told flight.now leaving.entry result }
+    ensures { HasLanded C.asked flight.now leaving.entry result }
 {
     thread::scope(
         thread::scope_env(),
         rt,
         move |scope| -> Landed<'_, C>
             requires { IsLeaving (lock_of turn.now) flight.now leaving }
-            ensures { HasLanded C.told flight.entry.now leaving.entry result }
+            ensures { HasLanded C.asked flight.entry.now leaving.entry result }
         { fly_in(rt, alloc, scope, turn, bells, flight, leaving) },
     )
 }
@@ -172,7 +172,7 @@ fn fly_behind<'a, C: Controller + Send, R: Threads + Wait + Sync>(
     ensures ground { pass_ground pass.entry ≡ Some (result.board.accepted, result.board.plan) }
     ensures flown { FlownBy result.board.accepted.program result.board.accepted.cert.jitter
         result.board.plan result.board.entries }
-    ensures guests { EachFrom (IsGuestBack C.told result.board.accepted result.board.plan
+    ensures guests { EachFrom (IsGuestBack C.asked result.board.accepted result.board.plan
         result.board.entries) 0 room.entry.guests.items guests.new.items }
     ensures lists { AreListsBack (length result.board.accepted.program.nodes) result.board.plan
         (length room.entry.guests.items) result.lists.items result.board.entries }
@@ -213,7 +213,7 @@ pub fn fly<'a, C: Controller + Send, R: Threads + Wait + Sync>(
     ensures lists { IfOk result (λ r. AreLists (length r.board.accepted.program.nodes) r.lists.items
         r.board.entries) }
     ensures length { vec_len guests.new ≡ vec_len guests.old }
-    ensures told { IfOk result (λ r. EachAnswered C.told r.board.accepted r.board.plan
+    ensures asked { IfOk result (λ r. EachAnswered C.asked r.board.accepted r.board.plan
         r.board.entries guests.old.items guests.new.items) }
     ensures unnamed { IfOk result (λ r.
         EachUnnamedStays r.board.plan guests.old.items guests.new.items) }

@@ -8,7 +8,8 @@ ghost use Rattle.sot_workers.specs.Flying.{HasNoGuests, IsOwn};
 ghost use Rattle.sot_workers.specs.Instants.{IsSameInstant, AddsNoFiring, AddsFiring, NoneLeft};
 ghost use Rattle.sot_workers.specs.Order.{AreInputs, DecideInOrder, FireInOrder, IsInstant, Adds};
 
-use sot_board::{Board, Receipt, is_coded};
+use sot_board::{Board, Receipt};
+use sot_world::is_coded;
 
 /// The inputs that are due come.
 pub(crate) fn take_inputs(board: &mut Board<'_>)
@@ -35,7 +36,7 @@ pub(crate) fn decide_all(board: &mut Board<'_>)
 {
     let count = board.typed().modules.len() as u32;
     for module in 0..count {
-        if board.due_dm(module) {
+        if board.left_dm(module) {
             board.decide(module);
         }
     }
@@ -73,7 +74,7 @@ fn fire_all(board: &mut Board<'_>)
 {
     let count = board.typed().nodes.len() as u32;
     for node in 0..count {
-        if board.due(node) {
+        if board.left(node) {
             fire(board, node);
         }
     }

@@ -27,9 +27,9 @@ pub(crate) fn finish<'a, C: Controller, R: Wait>(
     shift: Shift<'a, C>,
 ) -> Shift<'a, C>
     requires lock { pass_lock shift.pass ≡ lock_of turn.now }
-    requires on_shift { (began : Shift C.row.Denot) × IsOnShift C.told began shift }
-    ensures on_shift { (began : _) → IsOnShift C.told began shift.entry
-        → IsOnShift C.told began result }
+    requires on_shift { (began : Shift C.row.Denot) × IsOnShift C.asked began shift }
+    ensures on_shift { (began : _) → IsOnShift C.asked began shift.entry
+        → IsOnShift C.asked began result }
     ensures finished { result.finished ≡ true }
 {
     let mut shift = shift;
@@ -86,14 +86,14 @@ fn end<'a, C: Controller, R: Wait>(
     requires lock { pass_lock pass ≡ lock_of turn.now }
     requires placed { (a : Admitted) × (f : Plan) × (number : ℕ) × (guest : C)
         × (began : Shift C.row.Denot) × IsShiftOf (lock_of turn.now) a f number guest began
-        × IsOnShift C.told began shift }
+        × IsOnShift C.asked began shift }
     ensures lock { pass_lock result.0 ≡ pass_lock pass.entry }
     ensures ground { pass_ground result.0 ≡ pass_ground pass.entry }
     ensures seen { IsPrefix (pass_seen pass.entry) (pass_seen result.0) }
     ensures done { (a : Admitted) (f : Plan) (whole : List Logged) (number : ℕ) (guest : C)
         (began : _) → HasSeenWhole a f whole (pass_seen pass.entry)
-        → IsShiftOf (lock_of turn.now) a f number guest began → IsOnShift C.told began shift.entry
-        → IsDone C.told a f whole number guest result.1 }
+        → IsShiftOf (lock_of turn.now) a f number guest began → IsOnShift C.asked began shift.entry
+        → IsDone C.asked a f whole number guest result.1 }
 {
     let shift = finish(rt, turn, bells, shift);
     part(turn, pass, shift)
@@ -108,14 +108,14 @@ fn join_one<'a, C: Controller, R: Threads + Wait>(
 ) -> (Pass<Board<'a>>, Done<C>)
     requires lock { pass_lock pass ≡ lock_of turn.now }
     requires placed { (a : Admitted) × (f : Plan) × (number : ℕ) × (guest : C)
-        × IsPlaced C.told (lock_of turn.now) a f number guest place }
+        × IsPlaced C.asked (lock_of turn.now) a f number guest place }
     ensures lock { pass_lock result.0 ≡ pass_lock pass.entry }
     ensures ground { pass_ground result.0 ≡ pass_ground pass.entry }
     ensures seen { IsPrefix (pass_seen pass.entry) (pass_seen result.0) }
     ensures done { (a : Admitted) (f : Plan) (whole : List Logged) (number : ℕ) (guest : C)
         → HasSeenWhole a f whole (pass_seen pass.entry)
-        → IsPlaced C.told (lock_of turn.now) a f number guest place.entry
-        → IsDone C.told a f whole number guest result.1 }
+        → IsPlaced C.asked (lock_of turn.now) a f number guest place.entry
+        → IsDone C.asked a f whole number guest result.1 }
 {
     match place {
         Place::Stays(guest) => (pass, Done { guest, list: None }),
@@ -136,15 +136,15 @@ pub(crate) fn join_each<'a, C: Controller, R: Threads + Wait>(
 ) -> (Pass<Board<'a>>, Vec<Done<C>>)
     requires lock { pass_lock pass ≡ lock_of turn.now }
     requires placed { (a : Admitted) × (f : Plan) × (guests : List C)
-        × EachFrom (IsPlaced C.told (lock_of turn.now) a f) 0 guests places.items }
+        × EachFrom (IsPlaced C.asked (lock_of turn.now) a f) 0 guests places.items }
     requires room { (dones.items ≡ []) × (vec_len places ≤ vec_capacity dones) }
     ensures lock { pass_lock result.0 ≡ pass_lock pass.entry }
     ensures ground { pass_ground result.0 ≡ pass_ground pass.entry }
     ensures seen { IsPrefix (pass_seen pass.entry) (pass_seen result.0) }
     ensures done { (a : Admitted) (f : Plan) (whole : List Logged) (guests : List C)
         → HasSeenWhole a f whole (pass_seen pass.entry)
-        → EachFrom (IsPlaced C.told (lock_of turn.now) a f) 0 guests places.entry.items
-        → EachFrom (IsDone C.told a f whole) 0 guests result.1.items }
+        → EachFrom (IsPlaced C.asked (lock_of turn.now) a f) 0 guests places.entry.items
+        → EachFrom (IsDone C.asked a f whole) 0 guests result.1.items }
 {
     let mut pass = pass;
     for place in places {

@@ -74,7 +74,7 @@ fn fire_if_mine<R: Wait>(
     ensures lists { KeepsLists board.new away.now lists.new.items }
 {
     board.reveal_invariant();
-    if !board.due(node) {
+    if !board.left(node) {
         return true;
     }
     if !is_mine(board.flight(), away, node) {
@@ -138,7 +138,7 @@ fn is_asked(board: &Board<'_>, bells: &Bells, node: u32) -> bool
     requires { node < length board.now.accepted.program.nodes }
 {
     board.reveal_invariant();
-    !board.due(node)
+    !board.left(node)
         || (board.flight().guest(node).is_some() && bells.asked(node) > board.fired(node) as usize)
 }
 

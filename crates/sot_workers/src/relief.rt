@@ -59,13 +59,13 @@ fn end<'a, C: Controller, R: Wait>(
 ) -> (Pass<Board<'a>>, NodeList)
     requires lock { pass_lock pass ≡ lock_of turn.now }
     requires began { (a : Admitted) × (f : Plan) × (n : ℕ) × (began : Shift C.row.Denot)
-        × IsNodeShift (lock_of turn.now) a f n began × IsOnShift C.told began shift }
+        × IsNodeShift (lock_of turn.now) a f n began × IsOnShift C.asked began shift }
     ensures lock { pass_lock result.0 ≡ pass_lock pass.entry }
     ensures ground { pass_ground result.0 ≡ pass_ground pass.entry }
     ensures seen { IsPrefix (pass_seen pass.entry) (pass_seen result.0) }
     ensures list { (a : Admitted) (f : Plan) (whole : List Logged) (n : ℕ) (began : _)
         → HasSeenWhole a f whole (pass_seen pass.entry)
-        → IsNodeShift (lock_of turn.now) a f n began → IsOnShift C.told began shift.entry
+        → IsNodeShift (lock_of turn.now) a f n began → IsOnShift C.asked began shift.entry
         → IsRelieved whole n true (Some result.1) }
 {
     let shift = finish(rt, turn, bells, shift);

@@ -38,7 +38,7 @@ impl Rings {
         if finished {
             return is_guest;
         }
-        if !board.due(node) || !(is_long || is_guest) {
+        if !board.left(node) || !(is_long || is_guest) {
             return false;
         }
         let firing = board.fired(node).saturating_add(1);

@@ -30,7 +30,7 @@ pub(crate) fn start<'s, 'a: 's, E, C: Controller + Send + 's, R: Threads + Wait 
     shift: Shift<'a, C>,
 ) -> Place<'a, C>
     requires { IsReady (lock_of turn.now) shift }
-    ensures { IsStarted C.told shift.entry result }
+    ensures { IsStarted C.asked shift.entry result }
 {
     let node = shift.node;
     let promise = Works(Snapshot::of(&shift));
@@ -38,7 +38,7 @@ pub(crate) fn start<'s, 'a: 's, E, C: Controller + Send + 's, R: Threads + Wait 
         promise,
         move || -> Shift<'_, C>
             requires { IsReady (lock_of turn.now) shift }
-            ensures { HasWorked C.told shift.entry result }
+            ensures { HasWorked C.asked shift.entry result }
         { work(rt, turn, bells, shift) },
     ) {
         Ok(child) => Place::Out(child),
@@ -61,7 +61,7 @@ fn place<'s, 'a: 's, E, C: Controller + Send + 's, R: Threads + Wait + Sync>(
         × IsJob (lock_of turn.now) a f number guest job }
     ensures { (a : Admitted) (f : Plan) (number : ℕ) (guest : C)
         → IsJob (lock_of turn.now) a f number guest job.entry
-        → IsPlaced C.told (lock_of turn.now) a f number guest result }
+        → IsPlaced C.asked (lock_of turn.now) a f number guest result }
 {
     match job {
         Job::Stays(guest) => Place::Stays(guest),
@@ -94,7 +94,8 @@ pub(crate) fn place_each<'s, 'a: 's, E, C: Controller + Send + 's, R: Threads + 
     ensures seen { pass_seen result.0 ≡ [] }
     ensures lists { AreEmpty (length flight.now.crews) lists.new.items }
     ensures placed { (a : Admitted) → pass_ground pass.entry ≡ Some (a, flight.now)
-        → EachFrom (IsPlaced C.told (lock_of turn.now) a flight.now) 0 guests.items result.1.items }
+        → EachFrom (IsPlaced C.asked (lock_of turn.now) a flight.now) 0 guests.items
+        result.1.items }
 {
     let mut pass = pass;
     for guest in guests {

@@ -31,12 +31,12 @@ fn keep<'a, C: Controller, R: Wait>(
     lists: &mut Vec<NodeList>,
     shift: Shift<'a, C>,
 ) -> Station<'a, C>
-    requires worked { (began : Shift C.row.Denot) × HasWorked C.told began shift
+    requires worked { (began : Shift C.row.Denot) × HasWorked C.asked began shift
         × (began.drafts.items ≡ []) }
     requires there { shift.node < length lists.old.items }
     ensures lists { (count : ℕ) → AreEmpty count lists.old.items → AreEmpty count lists.new.items }
     ensures station { (lock : _) (began : _) → IsReady lock began
-        → HasWorked C.told began shift.entry → IsSent lock began result }
+        → HasWorked C.asked began shift.entry → IsSent lock began result }
 {
     if shift.finished {
         stop(rt);

@@ -83,10 +83,10 @@ fn turn_here<'a, C: Controller, R: Wait>(
     place: &mut Place<'a, C>,
 ) -> bool
     requires { (a : Admitted) × (f : Plan) × (number : ℕ) × (guest : C)
-        × IsPlaced C.told (lock_of turn.now) a f number guest place.old }
+        × IsPlaced C.asked (lock_of turn.now) a f number guest place.old }
     ensures { (a : Admitted) (f : Plan) (number : ℕ) (guest : C)
-        → IsPlaced C.told (lock_of turn.now) a f number guest place.old
-        → IsPlaced C.told (lock_of turn.now) a f number guest place.new }
+        → IsPlaced C.asked (lock_of turn.now) a f number guest place.old
+        → IsPlaced C.asked (lock_of turn.now) a f number guest place.new }
 {
     if let Place::Here(shift) = place {
         if let Some(now) = shift.take() {
@@ -108,10 +108,10 @@ fn turn_each<'a, C: Controller, R: Wait>(
     places: &mut Vec<Place<'a, C>>,
 ) -> bool
     requires { (a : Admitted) × (f : Plan) × (guests : List C)
-        × EachFrom (IsPlaced C.told (lock_of turn.now) a f) 0 guests places.old.items }
+        × EachFrom (IsPlaced C.asked (lock_of turn.now) a f) 0 guests places.old.items }
     ensures { (a : Admitted) (f : Plan) (guests : List C)
-        → EachFrom (IsPlaced C.told (lock_of turn.now) a f) 0 guests places.old.items
-        → EachFrom (IsPlaced C.told (lock_of turn.now) a f) 0 guests places.new.items }
+        → EachFrom (IsPlaced C.asked (lock_of turn.now) a f) 0 guests places.old.items
+        → EachFrom (IsPlaced C.asked (lock_of turn.now) a f) 0 guests places.new.items }
 {
     let mut any = false;
     for i in 0..places.len() {
@@ -139,7 +139,7 @@ pub(crate) fn watch<'a, C: Controller, R: Wait>(
     requires callers { (a : Admitted) × (f : Plan)
         × IsCallers a f away.now (pass_ground pass) (pass_seen pass) lists.old.items }
     requires places { (a : Admitted) × (f : Plan) × (guests : List C)
-        × EachFrom (IsPlaced C.told (lock_of turn.now) a f) 0 guests places.old.items }
+        × EachFrom (IsPlaced C.asked (lock_of turn.now) a f) 0 guests places.old.items }
     ensures lock { pass_lock result ≡ pass_lock pass.entry }
     ensures ground { pass_ground result ≡ pass_ground pass.entry }
     ensures callers { (a : Admitted) (f : Plan) → pass_ground pass.entry ≡ Some (a, f)
@@ -147,8 +147,8 @@ pub(crate) fn watch<'a, C: Controller, R: Wait>(
     ensures finished { (a : Admitted) (f : Plan) → pass_ground pass.entry ≡ Some (a, f)
         → FlownBy a.program a.cert.jitter f (pass_seen result) }
     ensures places { (a : Admitted) (f : Plan) (guests : List C)
-        → EachFrom (IsPlaced C.told (lock_of turn.now) a f) 0 guests places.old.items
-        → EachFrom (IsPlaced C.told (lock_of turn.now) a f) 0 guests places.new.items }
+        → EachFrom (IsPlaced C.asked (lock_of turn.now) a f) 0 guests places.old.items
+        → EachFrom (IsPlaced C.asked (lock_of turn.now) a f) 0 guests places.new.items }
 {
     let mut pass = pass;
     for _ in rt.forever() {

@@ -1,3 +1,4 @@
+pub mod Options
 pub mod Publishes
 pub mod Enables
 pub mod Modes

@@ -24,3 +24,5 @@ pub mod Possible
 pub mod Deadlines
 pub mod Changes
 pub mod StepOutcomes
+-- nodes with a body, and nodes without one
+pub mod NodeSorts

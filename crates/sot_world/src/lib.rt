@@ -23,6 +23,7 @@ mod outcome;
 mod recorded;
 mod role;
 mod schedule;
+mod sort;
 mod starts;
 mod tick;
 mod word;
@@ -47,6 +48,7 @@ pub use looks::{is_in, is_in_bounds, is_in_type};
 pub use mode::Mode;
 pub use open_fail::OpenFail;
 pub use outcome::{Firing, Outcome, Why};
+pub use sort::is_coded;
 pub use starts::{
     all_locals, decisions_left, first_outside, initial_scalars, nodes_left, safe_modes,
 };

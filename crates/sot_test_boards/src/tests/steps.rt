@@ -30,7 +30,7 @@ fn input(board: &mut Board<'_>) -> bool {
 
 // The module decides, if it is left to.
 fn decide(board: &mut Board<'_>) -> bool {
-    if board.typed().modules.len() > 0 && board.due_dm(0) {
+    if board.typed().modules.len() > 0 && board.left_dm(0) {
         return board.decide(0) == Mode::Ac;
     }
     false
@@ -40,7 +40,7 @@ fn decide(board: &mut Board<'_>) -> bool {
 // receipt has the place and the draft.
 fn draft(board: &mut Board<'_>, number: i64) -> bool {
     board.reveal_invariant();
-    if board.typed().nodes.len() == 0 || !board.due(0) {
+    if board.typed().nodes.len() == 0 || !board.left(0) {
         return false;
     }
     let Some(_) = board.flight().guest(0) else {
@@ -113,9 +113,9 @@ fn push_told(board: &Board<'_>, text: &mut String) -> Result<(), AllocError> {
     push_seen(board, 0, text)?;
     push_seen(board, 1, text)?;
     push_if(board.due_input(), " input", text)?;
-    push_if(board.due_dm(0), " decision", text)?;
-    push_if(board.due(0), " fast", text)?;
-    push_if(board.due(1), " slow", text)?;
+    push_if(board.left_dm(0), " decision", text)?;
+    push_if(board.left(0), " fast", text)?;
+    push_if(board.left(1), " slow", text)?;
     push_if(board.settled(), " settled", text)?;
     push_if(board.may_tick(), " may tick", text)?;
     push_if(board.finished(), " finished", text)?;

@@ -90,7 +90,7 @@ struct Stubborn {
 }
 
 impl Controller for Stubborn {
-    ghost told = { λ _. None };
+    ghost asked = { λ _. None };
 
     fn decide(&mut self, _view: &View, draft: &mut Draft) {
         draft.set(0, self.number);

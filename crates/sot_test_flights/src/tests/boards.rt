@@ -4,11 +4,11 @@ ghost use Rattle.sot_world.specs.Configurations.{is_left};
 ghost use Rattle.sot_workers.specs.Flying.{HasNoGuests};
 
 use super::*;
-use sot_board::{Board, is_coded};
+use sot_board::Board;
 use sot_compose::check_all;
 use sot_flight::Flight;
 use sot_trace::board_text;
-use sot_world::Mode;
+use sot_world::{Mode, is_coded};
 
 const HIGH: &str = "{\"kind\":\"high\"}";
 
@@ -18,7 +18,7 @@ const TWO: &str = "{\"drafts\":[[2]],\"kind\":\"script\"}";
 fn decide(board: &mut Board<'_>, module: u32) -> bool
     ensures plan { board.new.plan ≡ board.old.plan }
 {
-    if (module as usize) < board.typed().modules.len() && board.due_dm(module) {
+    if (module as usize) < board.typed().modules.len() && board.left_dm(module) {
         board.decide(module);
         true
     } else {
@@ -45,7 +45,7 @@ fn fire(board: &mut Board<'_>, node: u32) -> bool
     requires no_guests { HasNoGuests board.old.plan }
     ensures plan { board.new.plan ≡ board.old.plan }
 {
-    if (node as usize) < board.typed().nodes.len() && board.due(node) {
+    if (node as usize) < board.typed().nodes.len() && board.left(node) {
         fire_due(board, node);
         true
     } else {

@@ -1,7 +1,7 @@
 //! What a node's code gave on a view is committed where the view is current, and on the view of now
 //! where it is not.
 ghost use Rattle.std.specs.Prelude.{◌≡◌, ◌<◌, true, length};
-ghost use Rattle.sot_board.specs.NodeSorts.{IsCodedNode, IsExternalNode};
+ghost use Rattle.sot_world.specs.NodeSorts.{IsCodedNode, IsExternalNode};
 ghost use Rattle.sot_workers.specs.Flying.{HasNoGuests};
 ghost use Rattle.sot_world.specs.Configurations.{is_left};
 ghost use Rattle.sot_board.specs.Calls.{InputDue};
@@ -10,9 +10,10 @@ ghost use Rattle.sot_board.specs.Views.{IsView};
 
 use super::boards::{Deed, does_all};
 use super::*;
-use sot_board::{Board, Commit, View, code_runs_on_views, is_coded, views_stay};
+use sot_board::{Board, Commit, View, code_runs_on_views, views_stay};
 use sot_code::{Fired, run_node};
 use sot_compose::check_all;
+use sot_world::is_coded;
 
 // What a coded node's code gives on the view of now.
 fn run(board: &Board<'_>, node: u32, view: &View) -> Fired
@@ -101,7 +102,7 @@ fn commit_late(board: &mut Board<'_>, node: u32) -> Option<Late>
     let view = board.view(node);
     let fired = run(board, node, &view);
     input(board, node, &view);
-    if !board.due(node) {
+    if !board.left(node) {
         return None;
     }
     let Commit::Again(again) = board.commit_code(view, &fired) else {
@@ -175,13 +176,13 @@ fn commit_beside(board: &mut Board<'_>, writer: u32, reader: u32) -> Option<Copi
     requires there { writer < length board.old.accepted.program.nodes }
     requires reader_there { reader < length board.old.accepted.program.nodes }
 {
-    if !board.due(writer) {
+    if !board.left(writer) {
         return None;
     }
     let view = board.view(reader);
     let fired = run(board, reader, &view);
     fire_stated(board, writer, reader, &view);
-    if !board.due(reader) {
+    if !board.left(reader) {
         return None;
     }
     match board.commit_code(view, &fired) {

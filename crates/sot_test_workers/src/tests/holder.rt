@@ -21,7 +21,7 @@ pub struct Holder {
 impl Controller for Holder {
     ghost use Rattle.std.specs.Prelude.{None};
 
-    ghost told = { λ _. None };
+    ghost asked = { λ _. None };
 
     fn decide(&mut self, _view: &View, _draft: &mut Draft) {
         self.called.store(true, Ordering::SeqCst);
@@ -43,7 +43,7 @@ pub struct Caller {
 impl Controller for Caller {
     ghost use Rattle.std.specs.Prelude.{None};
 
-    ghost told = { λ _. None };
+    ghost asked = { λ _. None };
 
     fn decide(&mut self, _view: &View, _draft: &mut Draft) {
         self.called.store(true, Ordering::SeqCst);

@@ -11,7 +11,7 @@ use Rattle.sot_commands.proofs.flight.fly_ordered.Goals as goal
 
 pub returns-in-Trace-clause-flies : goal.returns-in-Trace-clause-flies
 returns-in-Trace-clause-flies g c =
-    let told = g.C.Controller.told in
+    let told = g.C.Controller.asked in
     let telling = c.args.order.now.telling in
     let was = c.args.guests.now in
     let now = c.fly-in-Trace.new.guests in
@@ -28,7 +28,7 @@ returns-in-Trace-clause-flies g c =
 
 pub returns-in-Trace-clause-guests : goal.returns-in-Trace-clause-guests
 returns-in-Trace-clause-guests g c =
-    let told = g.C.Controller.told in
+    let told = g.C.Controller.asked in
     let was = c.args.guests.now in
     let now = c.fly-in-Trace.new.guests in
     subst (λ (b : List ℕ). GuestsStand told (UnnamedStay (vec_len was) b was.items now.items) was now) c.deref-in-Trace.ensures.value
@@ -36,7 +36,7 @@ returns-in-Trace-clause-guests g c =
 
 pub returns-in-Verdict-clause-flies : goal.returns-in-Verdict-clause-flies
 returns-in-Verdict-clause-flies g c =
-    let told = g.C.Controller.told in
+    let told = g.C.Controller.asked in
     let telling = c.args.order.now.telling in
     let was = c.args.guests.now in
     let now = c.fly-in-Verdict.new.guests in
@@ -54,7 +54,7 @@ returns-in-Verdict-clause-flies g c =
 
 pub returns-in-Verdict-clause-guests : goal.returns-in-Verdict-clause-guests
 returns-in-Verdict-clause-guests g c =
-    let told = g.C.Controller.told in
+    let told = g.C.Controller.asked in
     let was = c.args.guests.now in
     let now = c.fly-in-Verdict.new.guests in
     subst (λ (b : List ℕ). GuestsStand told (UnnamedStay (vec_len was) b was.items now.items) was now) c.deref-in-Verdict.ensures.value
@@ -62,7 +62,7 @@ returns-in-Verdict-clause-guests g c =
 
 pub returns-in-Summary-clause-flies : goal.returns-in-Summary-clause-flies
 returns-in-Summary-clause-flies g c =
-    let told = g.C.Controller.told in
+    let told = g.C.Controller.asked in
     let telling = c.args.order.now.telling in
     let guests = c.args.guests.now in
     let n = vec_len guests in
@@ -86,4 +86,4 @@ returns-in-Summary-clause-flies g c =
 pub returns-in-Summary-clause-guests : goal.returns-in-Summary-clause-guests
 returns-in-Summary-clause-guests g c =
     let guests = c.args.guests.now in
-    all_stand g.C.Controller.told _ guests (unnamed_stay _ c.args.order.now.text.items guests.items)
+    all_stand g.C.Controller.asked _ guests (unnamed_stay _ c.args.order.now.text.items guests.items)

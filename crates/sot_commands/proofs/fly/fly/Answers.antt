@@ -17,7 +17,7 @@ use Rattle.sot_commands.proofs.fly.fly.Goals as goal
 
 pub returns-in-Some-clause-flies : goal.returns-in-Some-clause-flies
 returns-in-Some-clause-flies g c =
-    let told = g.C.Controller.told in
+    let told = g.C.Controller.asked in
     let telling = c.args.telling in
     let bytes = c.args.bytes.now in
     let out = c.args.out.now in
@@ -34,7 +34,7 @@ returns-in-Some-clause-flies g c =
 
 pub returns-in-Some-clause-guests : goal.returns-in-Some-clause-guests
 returns-in-Some-clause-guests g c =
-    let told = g.C.Controller.told in
+    let told = g.C.Controller.asked in
     let bytes = c.args.bytes.now in
     let was = c.args.guests.now in
     let now = c.fly_loaded-answer.new.guests in
@@ -43,7 +43,7 @@ returns-in-Some-clause-guests g c =
 
 pub returns-in-Err-Fault-clause-flies : goal.returns-in-Err-Fault-clause-flies
 returns-in-Err-Fault-clause-flies g c =
-    let told = g.C.Controller.told in
+    let told = g.C.Controller.asked in
     let telling = c.args.telling in
     let bytes = c.args.bytes.now in
     let out = c.args.out.now in
@@ -62,4 +62,4 @@ returns-in-Err-Fault-clause-flies g c =
 pub returns-in-Err-Fault-clause-guests : goal.returns-in-Err-Fault-clause-guests
 returns-in-Err-Fault-clause-guests g c =
     let guests = c.args.guests.now in
-    all_stand g.C.Controller.told _ guests (unnamed_stay _ c.args.bytes.now guests.items)
+    all_stand g.C.Controller.asked _ guests (unnamed_stay _ c.args.bytes.now guests.items)

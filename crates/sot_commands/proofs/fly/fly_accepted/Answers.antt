@@ -25,7 +25,7 @@ fly_opened-requires-clause-fits g c κs within =
 
 pub returns-in-Ok-clause-judges : goal.returns-in-Ok-clause-judges
 returns-in-Ok-clause-judges g c =
-    let told = g.C.Controller.told in
+    let told = g.C.Controller.asked in
     let telling = c.args.telling in
     let f = c.args.flight.now in
     let was = c.args.guests.now in
@@ -39,7 +39,7 @@ returns-in-Ok-clause-judges g c =
 
 pub returns-in-Err-NotSafer-clause-judges : goal.returns-in-Err-NotSafer-clause-judges
 returns-in-Err-NotSafer-clause-judges g c =
-    let told = g.C.Controller.told in
+    let told = g.C.Controller.asked in
     let telling = c.args.telling in
     let acc = c.args.accepted.now in
     let f = c.args.flight.now in
@@ -55,9 +55,9 @@ returns-in-Err-NotSafer-clause-judges g c =
 pub returns-in-Err-NotSafer-clause-guests : goal.returns-in-Err-NotSafer-clause-guests
 returns-in-Err-NotSafer-clause-guests g c =
     let guests = c.args.guests.now in
-    all_stand g.C.Controller.told _ guests (unnamed_same c.args.flight.now guests.items)
+    all_stand g.C.Controller.asked _ guests (unnamed_same c.args.flight.now guests.items)
 
 pub returns-clause-guests : goal.returns-clause-guests
 returns-clause-guests g c =
     let guests = c.args.guests.now in
-    all_stand g.C.Controller.told _ guests (unnamed_same c.args.flight.now guests.items)
+    all_stand g.C.Controller.asked _ guests (unnamed_same c.args.flight.now guests.items)

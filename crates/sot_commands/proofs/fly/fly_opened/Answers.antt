@@ -12,7 +12,7 @@ fly_unaided-requires-clause-no_guests g c =
 
 pub returns-then-is_alone-clause-judges : goal.returns-then-is_alone-clause-judges
 returns-then-is_alone-clause-judges g c =
-    let told = g.C.Controller.told in
+    let told = g.C.Controller.asked in
     let telling = c.args.telling in
     let a = c.args.board.accepted in
     let f = c.args.flight.now in
@@ -26,14 +26,14 @@ returns-then-is_alone-clause-judges g c =
 pub returns-then-is_alone-clause-guests : goal.returns-then-is_alone-clause-guests
 returns-then-is_alone-clause-guests g c =
     let guests = c.args.guests.now in
-    all_stand g.C.Controller.told _ guests (unnamed_same c.args.flight.now guests.items)
+    all_stand g.C.Controller.asked _ guests (unnamed_same c.args.flight.now guests.items)
 
 pub tell-requires-clause-accepted : goal.tell-requires-clause-accepted
 tell-requires-clause-accepted g c = c.in-Ok.ensures.accepted ∙ c.requires.accepted
 
 pub returns-in-Ok-clause-judges : goal.returns-in-Ok-clause-judges
 returns-in-Ok-clause-judges g c =
-    let told = g.C.Controller.told in
+    let told = g.C.Controller.asked in
     let telling = c.args.telling in
     let ended = c.in-Ok.ensures in
     let acc = c.args.board.accepted in
@@ -56,9 +56,9 @@ pub returns-in-Ok-clause-guests : goal.returns-in-Ok-clause-guests
 returns-in-Ok-clause-guests g c =
     let ended = c.in-Ok.ensures in
     let plan = ended.plan ∙ sym c.requires.flight in
-    flown_stand g.C.Controller.told c.args.board.accepted c.args.flight.now c.in-Ok.flown.board c.args.guests.now c.fly.new.guests ended.accepted plan
+    flown_stand g.C.Controller.asked c.args.board.accepted c.args.flight.now c.in-Ok.flown.board c.args.guests.now c.fly.new.guests ended.accepted plan
     ended.told ended.unnamed ended.length
 
 pub returns-in-Err-clause-guests : goal.returns-in-Err-clause-guests
 returns-in-Err-clause-guests g c =
-    lacking g.C.Controller.told c.args.flight.now c.args.guests.now c.fly.new.guests c.in-Err.ensures.length c.in-Err.ensures.memory
+    lacking g.C.Controller.asked c.args.flight.now c.args.guests.now c.fly.new.guests c.in-Err.ensures.length c.in-Err.ensures.memory

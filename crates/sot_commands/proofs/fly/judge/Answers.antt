@@ -11,7 +11,7 @@ use Rattle.sot_commands.proofs.fly.judge.Goals as goal
 
 pub returns-in-Ok-clause-judges : goal.returns-in-Ok-clause-judges
 returns-in-Ok-clause-judges g c =
-    let told = g.C.Controller.told in
+    let told = g.C.Controller.asked in
     let telling = c.args.telling in
     let p = c.args.program.now in
     let cert = c.args.cert.now in
@@ -29,7 +29,7 @@ returns-in-Ok-clause-judges g c =
 
 pub returns-in-Err-clause-judges : goal.returns-in-Err-clause-judges
 returns-in-Err-clause-judges g c =
-    let told = g.C.Controller.told in
+    let told = g.C.Controller.asked in
     let telling = c.args.telling in
     let p = c.args.program.now in
     let cert = c.args.cert.now in
@@ -46,4 +46,4 @@ returns-in-Err-clause-judges g c =
 pub returns-in-Err-clause-guests : goal.returns-in-Err-clause-guests
 returns-in-Err-clause-guests g c =
     let guests = c.args.guests.now in
-    all_stand g.C.Controller.told _ guests (unnamed_same c.args.flight.now guests.items)
+    all_stand g.C.Controller.asked _ guests (unnamed_same c.args.flight.now guests.items)

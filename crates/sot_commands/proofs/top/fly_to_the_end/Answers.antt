@@ -10,7 +10,7 @@ use Rattle.sot_commands.proofs.top.fly_to_the_end.Goals as goal
 
 pub returns-in-Ok-end-clause-ends : goal.returns-in-Ok-end-clause-ends
 returns-in-Ok-end-clause-ends g c =
-    let told = g.C.Controller.told in
+    let told = g.C.Controller.asked in
     let held = g.K.Sink.held in
     let faults = g.K.Sink.faults in
     let sink = c.args.sink.now in
@@ -34,7 +34,7 @@ returns-in-Ok-end-clause-ends g c =
 
 pub returns-in-Ok-end-clause-unwritten : goal.returns-in-Ok-end-clause-unwritten
 returns-in-Ok-end-clause-unwritten g c =
-    let told = g.C.Controller.told in
+    let told = g.C.Controller.asked in
     let held = g.K.Sink.held in
     let faults = g.K.Sink.faults in
     let sink = c.args.sink.now in
@@ -58,7 +58,7 @@ returns-in-Ok-end-clause-unwritten g c =
 
 pub returns-in-Ok-end-clause-guests : goal.returns-in-Ok-end-clause-guests
 returns-in-Ok-end-clause-guests g c =
-    let told = g.C.Controller.told in
+    let told = g.C.Controller.asked in
     let held = g.K.Sink.held in
     let faults = g.K.Sink.faults in
     let sink = c.args.sink.now in
@@ -84,7 +84,7 @@ returns-in-Ok-end-clause-guests g c =
 
 pub returns-in-Ok-fly_ordered-clause-ends : goal.returns-in-Ok-fly_ordered-clause-ends
 returns-in-Ok-fly_ordered-clause-ends g c =
-    let told = g.C.Controller.told in
+    let told = g.C.Controller.asked in
     let held = g.K.Sink.held in
     let faults = g.K.Sink.faults in
     let sink = c.args.sink.now in
@@ -105,7 +105,7 @@ returns-in-Ok-fly_ordered-clause-ends g c =
 
 pub returns-in-Ok-fly_ordered-clause-guests : goal.returns-in-Ok-fly_ordered-clause-guests
 returns-in-Ok-fly_ordered-clause-guests g c =
-    let told = g.C.Controller.told in
+    let told = g.C.Controller.asked in
     let held = g.K.Sink.held in
     let faults = g.K.Sink.faults in
     let sink = c.args.sink.now in

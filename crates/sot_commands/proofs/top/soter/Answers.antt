@@ -11,7 +11,7 @@ use Rattle.sot_commands.proofs.top.soter.Goals as goal
 
 pub returns-in-Ended-clause-guests : goal.returns-in-Ended-clause-guests
 returns-in-Ended-clause-guests g c =
-    untouched g.C.Controller.told _ _ _ _ _ c.args.guests.now c.in-Ended.status.0
+    untouched g.C.Controller.asked _ _ _ _ _ c.args.guests.now c.in-Ended.status.0
     (λ low asks. (let four : 4 ≤ c.in-Ended.status.0 = c.in-Ended.ensures.leaves (Fly, tt, asks) in absurd (omega (arith, four, low))))
     (λ low (formula, asks). (let four : 4 ≤ c.in-Ended.status.0 = c.in-Ended.ensures.leaves (Watch formula, tt, asks) in
     absurd (omega (arith, four, low))))
@@ -29,7 +29,7 @@ returns-in-Flight-clause-ends g c =
 
 pub returns-in-Flight-clause-guests : goal.returns-in-Flight-clause-guests
 returns-in-Flight-clause-guests g c =
-    let told = g.C.Controller.told in
+    let told = g.C.Controller.asked in
     let held = g.K.Sink.held in
     let order = c.in-Flight.order in
     let end = c.fly_to_the_end in

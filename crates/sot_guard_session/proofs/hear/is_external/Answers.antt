@@ -3,7 +3,7 @@ use Rattle.std.specs.Prelude.{is_some, not}
 use Rattle.std.proofs.lemmas.Bool.{false≢true, not-true}
 use Rattle.std.proofs.lemmas.Option.{slice_get_within}
 use Rattle.sot_lists.proofs.Places.{at_same, read_at}
-use Rattle.sot_guard.proofs.Instants.{none_there}
+use Rattle.sot_world.proofs.Options.{none_there}
 use Rattle.sot_guard_session.proofs.hear.is_external.Goals as goal
 
 pub returns-then-n-len : goal.returns-then-n-len

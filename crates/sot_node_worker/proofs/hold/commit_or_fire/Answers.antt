@@ -1,5 +1,5 @@
 use Rattle.std.proofs.Common.{sym, subst}
-use Rattle.sot_board.specs.NodeSorts.{IsCodedNode}
+use Rattle.sot_world.specs.NodeSorts.{IsCodedNode}
 use Rattle.sot_node_worker.proofs.hold.commit_or_fire.Goals as goal
 
 pub commit_code-requires-clause-ran : goal.commit_code-requires-clause-ran

@@ -4,7 +4,7 @@ use Rattle.sot_turn.specs.Passes.{pass_ground, pass_seen, pass_added, held_value
 use Rattle.sot_board.specs.Versions.{drafts_of}
 use Rattle.sot_board.specs.Views.{viewed_node}
 use Rattle.sot_board.specs.Commits.{IsRunOn}
-use Rattle.sot_board.specs.NodeSorts.{IsCodedNode}
+use Rattle.sot_world.specs.NodeSorts.{IsCodedNode}
 use Rattle.sot_node_worker.specs.Holds.{HasNode, HasFired}
 use Rattle.sot_node_worker.proofs.Firing.{has_fired, noted, node_there, same_program, taken_from}
 use Rattle.sot_node_worker.proofs.hold.fire_code.Goals as goal

@@ -1,4 +1,4 @@
 use Rattle.sot_node_worker.proofs.turns.ask.Goals as goal
 
 pub returns : goal.returns
-returns g c = c.decide.ensures.told
+returns g c = c.decide.ensures.asked

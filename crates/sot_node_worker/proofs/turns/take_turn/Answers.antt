@@ -15,10 +15,10 @@ use Rattle.sot_node_worker.specs.Turns.{TakesTurn}
 use Rattle.sot_board.specs.Versions.{drafts_of}
 use Rattle.sot_board.specs.Views.{viewed_node}
 use Rattle.sot_node_worker.specs.Shifts.{HasItsGuest}
-use Rattle.sot_board.specs.NodeSorts.{IsCodedNode, IsExternalNode}
+use Rattle.sot_world.specs.NodeSorts.{IsCodedNode, IsExternalNode}
 use Rattle.sot_node_worker.specs.Holds.{HasNode, IsDueView}
 use Rattle.sot_node_worker.specs.Turned.{IsQuiet}
-use Rattle.sot_board.proofs.Options.{none_there}
+use Rattle.sot_world.proofs.Options.{none_there}
 use Rattle.sot_node_worker.proofs.Arms.{quiet, flown_here, seen_here, seen_program, not_yet, quiet_turn, unasked_turn, asked_turn, nothing_added, same_shift}
 use Rattle.sot_node_worker.proofs.Arms.{turn_rests}
 use Rattle.sot_node_worker.proofs.Arms.{turn_fires, fired_along}
@@ -120,7 +120,7 @@ returns-in-Ended-clause-on_shift g c = λ began was.
     let same = ap (λ x. drafts_of old.node x.entries) value ∙ held.in_step ∙ c.requires.at_work.drafts in
     let still = subst (IsQuiet old.node known) (sym c.give.ensures.seen) (quiet old.node known b.entries on same) in
     let nothing = nothing_added (pass_added old.pass) _ _ _ b.entries c.give.ensures.added held.added (held.seen ∙ ap (λ x. x.entries) (sym value)) in
-    quiet_turn g.C.Controller.told began old _ was refl refl (c.give.ensures.lock ∙ held.lock) (c.give.ensures.ground ∙ held.ground) still nothing refl refl
+    quiet_turn g.C.Controller.asked began old _ was refl refl (c.give.ensures.lock ∙ held.lock) (c.give.ensures.ground ∙ held.ground) still nothing refl refl
     (λ yes. flown_here (pass_ground old.pass) was.at_work.accepted was.at_work.plan b (pass_seen c.give.result) was.at_work.ground ground c.give.ensures.seen
     (b.position, c.see.ensures.standing.flown, c.in-Ended.ensures.sight))
 
@@ -152,9 +152,9 @@ returns-in-Idle-clause-on_shift g c = λ began was.
     let same = ap (λ x. drafts_of old.node x.entries) value ∙ held.in_step ∙ c.requires.at_work.drafts in
     let still = subst (IsQuiet old.node known) (sym c.give-in-Idle.ensures.seen) (quiet old.node known b.entries on same) in
     let nothing = nothing_added (pass_added old.pass) _ _ _ b.entries c.give-in-Idle.ensures.added held.added (held.seen ∙ ap (λ x. x.entries) (sym value)) in
-    subst (λ s. IsOnShift g.C.Controller.told began s) (same_shift c.unfinished.result
+    subst (λ s. IsOnShift g.C.Controller.asked began s) (same_shift c.unfinished.result
     (record { node = old.node; finished = false; pass = c.give-in-Idle.result; drafts = old.drafts; guest = old.guest; form = old.form }) c.unfinished.ensures)
-    (quiet_turn g.C.Controller.told began old _ was refl refl (c.give-in-Idle.ensures.lock ∙ held.lock) (c.give-in-Idle.ensures.ground ∙ held.ground) still
+    (quiet_turn g.C.Controller.asked began old _ was refl refl (c.give-in-Idle.ensures.lock ∙ held.lock) (c.give-in-Idle.ensures.ground ∙ held.ground) still
     nothing refl refl not_yet)
 
 pub returns-in-Idle-clause-turn : goal.returns-in-Idle-clause-turn
@@ -186,10 +186,10 @@ returns-in-Stated-clause-on_shift g c = λ began was.
     let gave = c.give-pass.ensures in
     let fired = c.fire_stated-pass.ensures in
     let once = fired_along _ _ _ _ b.entries _ _ (pass_added old.pass) _ refl gave.seen nothing fired.fired.1 in
-    subst (λ s. IsOnShift g.C.Controller.told began s) (same_shift c.unfinished-in-Stated.result
+    subst (λ s. IsOnShift g.C.Controller.asked began s) (same_shift c.unfinished-in-Stated.result
     (record { node = old.node; finished = false; pass = c.fire_stated-pass.result; drafts = c.fire_stated-pass.new.drafts; guest = old.guest; form = old.form })
     c.unfinished-in-Stated.ensures)
-    (unasked_turn g.C.Controller.told began old _ was refl refl (fired.lock ∙ gave.lock ∙ held.lock) (fired.ground ∙ gave.ground ∙ held.ground) b.entries
+    (unasked_turn g.C.Controller.asked began old _ was refl refl (fired.lock ∙ gave.lock ∙ held.lock) (fired.ground ∙ gave.ground ∙ held.ground) b.entries
     fired.fired.0 (same ∙ sym c.requires.at_work.drafts) once fired.drafts (none_there old.guest (sym c.is_some.ensures ∙ c.in-Stated.ensures.sight.0)) refl
     refl)
 
@@ -228,10 +228,10 @@ returns-in-Runs-clause-on_shift g c = λ began was.
     let fired = c.fire_code-pass.ensures in
     let drafts = fired.drafts ∙ ap (λ n. drafts_of n (pass_seen c.fire_code-pass.result)) runs.3.view.node in
     let once = fired_along _ _ _ _ b.entries _ _ (pass_added old.pass) _ runs.3.view.node gave.seen nothing fired.fired.1 in
-    subst (λ s. IsOnShift g.C.Controller.told began s) (same_shift c.unfinished-in-Runs.result
+    subst (λ s. IsOnShift g.C.Controller.asked began s) (same_shift c.unfinished-in-Runs.result
     (record { node = old.node; finished = false; pass = c.fire_code-pass.result; drafts = c.fire_code-pass.new.drafts; guest = old.guest; form = old.form })
     c.unfinished-in-Runs.ensures)
-    (unasked_turn g.C.Controller.told began old _ was refl refl (fired.lock ∙ gave.lock ∙ held.lock) (fired.ground ∙ gave.ground ∙ held.ground) b.entries
+    (unasked_turn g.C.Controller.asked began old _ was refl refl (fired.lock ∙ gave.lock ∙ held.lock) (fired.ground ∙ gave.ground ∙ held.ground) b.entries
     fired.fired.0 (same ∙ sym c.requires.at_work.drafts) once drafts (none_there old.guest (sym c.is_some.ensures ∙ runs.0)) refl refl)
 
 pub returns-in-Runs-clause-turn : goal.returns-in-Runs-clause-turn
@@ -270,7 +270,7 @@ returns-in-Some-clause-on_shift g c = λ began was.
     let nothing = nothing_added (pass_added old.pass) _ _ _ b.entries gave.added held.added (held.seen ∙ ap (λ x. x.entries) (sym value)) in
     let still = subst (IsQuiet old.node known) (sym gave.seen) (quiet old.node known b.entries on same) in
     let then = pass_seen c.give-pass-in-Asks.result in
-    subst (λ s. IsOnShift g.C.Controller.told began s) (same_shift c.unfinished-in-Asks.result
+    subst (λ s. IsOnShift g.C.Controller.asked began s) (same_shift c.unfinished-in-Asks.result
     (record {
       node = old.node;
       finished = false;
@@ -279,7 +279,7 @@ returns-in-Some-clause-on_shift g c = λ began was.
       guest = Some c.ask-draft.new.guest;
       form = old.form;
     }) c.unfinished-in-Asks.ensures)
-    (asked_turn g.C.Controller.told began old _ was refl refl (fired.lock ∙ gave.lock ∙ held.lock) (fired.ground ∙ gave.ground ∙ held.ground)
+    (asked_turn g.C.Controller.asked began old _ was refl refl (fired.lock ∙ gave.lock ∙ held.lock) (fired.ground ∙ gave.ground ∙ held.ground)
     then v c.ask-draft.result c.in-Some.asked c.ask-draft.new.guest still
     (seen_here (pass_ground old.pass) then old.node v b c.in-Asks.ensures.sight.1 ground gave.seen)
     (λ a f is. fired_along _ _ _ _ _ _ _ (pass_added old.pass) _ refl refl nothing (fired.fired a f (gave.ground ∙ held.ground ∙ is))) fired.drafts c.in-Some.is

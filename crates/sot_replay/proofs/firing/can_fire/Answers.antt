@@ -4,7 +4,7 @@ use Rattle.sot_lang.specs.Tables.{Tables}
 use Rattle.sot_tube.specs.Admitted.{Admitted}
 use Rattle.sot_world.specs.Configurations.{Configuration, is_left}
 use Rattle.sot_world.specs.Events.{RefusesNode}
-use Rattle.sot_board.specs.NodeSorts.{IsCodedNode, IsExternalNode}
+use Rattle.sot_world.specs.NodeSorts.{IsCodedNode, IsExternalNode}
 use Rattle.sot_replay.proofs.firing.can_fire.Goals as goal
 
 pub can-requires : goal.can-requires

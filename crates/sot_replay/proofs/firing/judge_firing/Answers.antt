@@ -7,7 +7,7 @@ use Rattle.sot_replay.specs.declared.fail.LineKind.{LineKind}
 use Rattle.sot_replay.specs.declared.fail.LineKind.TheVariants.{WrongTime}
 use Rattle.sot_replay.specs.declared.judged.Judged.TheVariants.{Fails}
 use Rattle.sot_replay.specs.Judges.{kind_of, IsReadOn}
-use Rattle.sot_board.specs.NodeSorts.{IsCodedNode, IsExternalNode}
+use Rattle.sot_world.specs.NodeSorts.{IsCodedNode, IsExternalNode}
 use Rattle.sot_replay.proofs.FirstFailing.{wrong_time, refused}
 use Rattle.sot_replay.proofs.ReadOn.{read_fails}
 use Rattle.sot_replay.proofs.firing.judge_firing.Goals as goal

@@ -46,26 +46,26 @@ returns-clause-length g c =
     let b = c.fly_behind.result.board in
     let now = c.fly_behind.new.guests in
     let was = c.args.guests.now in
-    let R = IsGuestBack g.C.Controller.told b.accepted b.plan b.entries in
+    let R = IsGuestBack g.C.Controller.asked b.accepted b.plan b.entries in
     let each = subst (λ v. EachFrom R 0 v.items now.items) c.swap.ensures.y_after c.fly_behind.ensures.guests in
     let same : length now.items ≡ length was.items = each_length R 0 was.items now.items each in
     omega (arith, same, now.ok.0, was.ok.0)
 
-pub returns-clause-told : goal.returns-clause-told
-returns-clause-told g c =
+pub returns-clause-asked : goal.returns-clause-asked
+returns-clause-asked g c =
     let b = c.fly_behind.result.board in
     let now = c.fly_behind.new.guests.items in
-    let R = IsGuestBack g.C.Controller.told b.accepted b.plan b.entries in
+    let R = IsGuestBack g.C.Controller.asked b.accepted b.plan b.entries in
     let each = subst (λ v. EachFrom R 0 v.items now) c.swap.ensures.y_after c.fly_behind.ensures.guests in
     let same = ground_same (pass_ground c.in_ok-turn.pass) c.args.board.accepted b.accepted c.args.board.plan b.plan c.in_ok-turn.ensures.ground
     c.fly_behind.ensures.ground in
     let once : FliesOnce b.plan = subst FliesOnce same.1 c.reveal_invariant.ensures.fits.guests_once in
-    each_answered g.C.Controller.told b.accepted b.plan b.entries c.args.guests.now.items now once each
+    each_answered g.C.Controller.asked b.accepted b.plan b.entries c.args.guests.now.items now once each
 
 pub returns-clause-unnamed : goal.returns-clause-unnamed
 returns-clause-unnamed g c =
     let b = c.fly_behind.result.board in
     let now = c.fly_behind.new.guests.items in
-    let R = IsGuestBack g.C.Controller.told b.accepted b.plan b.entries in
+    let R = IsGuestBack g.C.Controller.asked b.accepted b.plan b.entries in
     let each = subst (λ v. EachFrom R 0 v.items now) c.swap.ensures.y_after c.fly_behind.ensures.guests in
-    each_stays g.C.Controller.told b.accepted b.plan b.entries c.args.guests.now.items now each
+    each_stays g.C.Controller.asked b.accepted b.plan b.entries c.args.guests.now.items now each

@@ -13,7 +13,7 @@ put_back-requires g c =
     let back = c.fly_out-pass.ensures.back known.0 known.1 in
     let guests = c.args.room.guests in
     let dones = c.fly_out-pass.result.dones in
-    let same : length dones.items ≡ length guests.items = each_length (IsDone g.C.Controller.told known.0 c.args.flight.now back.whole) 0 guests.items
+    let same : length dones.items ≡ length guests.items = each_length (IsDone g.C.Controller.asked known.0 c.args.flight.now back.whole) 0 guests.items
     dones.items back.each in
     record { room = (c.requires.back.0, omega (arith, same, c.requires.back.1, dones.ok.0, guests.ok.0)) }
 
@@ -27,7 +27,7 @@ returns-clause-flown g c =
     let ground = landed.ensures.ground ∙ known.1 in
     let same = ground_same (pass_ground landed.result.pass) known.0 b.accepted f b.plan ground c.close-board.ensures.ground in
     let is = c.close-board.ensures.whole known.0 f back.whole ground back.seen_whole in
-    (are_home g.C.Controller.told known.0 f b c.args.room.guests.items (pass_seen landed.result.pass) landed.result.lists.items landed.result.dones.items same
+    (are_home g.C.Controller.asked known.0 f b c.args.room.guests.items (pass_seen landed.result.pass) landed.result.lists.items landed.result.dones.items same
     back is).flown
 
 pub returns-clause-guests : goal.returns-clause-guests
@@ -41,7 +41,7 @@ returns-clause-guests g c =
     let ground = landed.ensures.ground ∙ known.1 in
     let same = ground_same (pass_ground landed.result.pass) known.0 b.accepted f b.plan ground c.close-board.ensures.ground in
     let is = c.close-board.ensures.whole known.0 f back.whole ground back.seen_whole in
-    let home = are_home g.C.Controller.told known.0 f b guests (pass_seen landed.result.pass) landed.result.lists.items landed.result.dones.items same back is
+    let home = are_home g.C.Controller.asked known.0 f b guests (pass_seen landed.result.pass) landed.result.lists.items landed.result.dones.items same back is
     in
     c.put_back.ensures.guests b.accepted b.plan b.entries guests home.each
 
@@ -56,7 +56,7 @@ returns-clause-lists g c =
     let ground = landed.ensures.ground ∙ known.1 in
     let same = ground_same (pass_ground landed.result.pass) known.0 b.accepted f b.plan ground c.close-board.ensures.ground in
     let is = c.close-board.ensures.whole known.0 f back.whole ground back.seen_whole in
-    let home = are_home g.C.Controller.told known.0 f b guests (pass_seen landed.result.pass) landed.result.lists.items landed.result.dones.items same back is
+    let home = are_home g.C.Controller.asked known.0 f b guests (pass_seen landed.result.pass) landed.result.lists.items landed.result.dones.items same back is
     in
     let lists = c.put_back.ensures.lists b.accepted b.plan b.entries guests home.each home.own c.reveal_invariant.ensures.fits.guests_once in
     subst (λ n. AreListsBack n b.plan (length guests) c.put_back.new.lists.items b.entries) home.count lists

@@ -7,7 +7,7 @@ use Rattle.sot_workers.specs.Instants.{IsSameInstant, AddsNoFiring, NoneLeft}
 use Rattle.sot_workers.proofs.Effects.{decide_same, same_again}
 use Rattle.sot_workers.proofs.Histories.{decision_added, none_added_again}
 use Rattle.sot_workers.proofs.Remaining.{none_set, none_more}
-use Rattle.sot_workers.proofs.instant.decide_all.Goals.{then-due_dm, else-due_dm}
+use Rattle.sot_workers.proofs.instant.decide_all.Goals.{then-left_dm, else-left_dm}
 use Rattle.sot_workers.proofs.instant.decide_all.Goals as goal
 
 pub loop-module-preserved : goal.loop-module-preserved
@@ -16,8 +16,8 @@ loop-module-preserved c =
     let old = c.loop-module.board in
     let m = c.loop-module.«module» in
     let inv = c.loop-module.invariant in
-    elim c.if-due_dm.branch [
-      | then-due_dm w ↦
+    elim c.if-left_dm.branch [
+      | then-left_dm w ↦
           let new = w.decide.new.self in
           let logs = w.decide.ensures in
           let did = decide_same old new m _ logs in
@@ -34,7 +34,7 @@ loop-module-preserved c =
                 (subst (λ l. NoneLeft l (m + 1)) (sym did.2) (none_set old.position.at.left_dm m inv.none));
             count = inv.count;
           }
-      | else-due_dm w ↦
+      | else-left_dm w ↦
           record {
             same = subst (λ (b : Standing). IsSameInstant start b) (sym w.board-is) inv.same;
             entries = subst (λ (b : Standing). AddsNoFiring start.entries b.entries) (sym w.board-is) inv.entries;
@@ -42,7 +42,7 @@ loop-module-preserved c =
                 (inv.decide.0, inv.decide.1, decide_later start.position.at.time 0 m (m + 1) inv.decide.0 (omega arith) inv.decide.2);
             inputs = subst (λ (b : Standing). b.position.inputs ≡ start.position.inputs) (sym w.board-is) inv.inputs;
             none = subst (λ (b : Standing). NoneLeft b.position.at.left_dm (m + 1)) (sym w.board-is)
-                (none_more old.position.at.left_dm m inv.none (sym c.due_dm.ensures ∙ w.if-due_dm.false));
+                (none_more old.position.at.left_dm m inv.none (sym c.left_dm.ensures ∙ w.if-left_dm.false));
             count = inv.count;
           }
     ]

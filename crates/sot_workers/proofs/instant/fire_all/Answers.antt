@@ -6,7 +6,7 @@ use Rattle.sot_board.specs.Standing.{Standing}
 use Rattle.sot_workers.specs.Instants.{IsSameInstant, NoneLeft}
 use Rattle.sot_workers.proofs.Effects.{same_again}
 use Rattle.sot_workers.proofs.Remaining.{none_set, none_more}
-use Rattle.sot_workers.proofs.instant.fire_all.Goals.{then-due, else-due}
+use Rattle.sot_workers.proofs.instant.fire_all.Goals.{then-left, else-left}
 use Rattle.sot_workers.proofs.instant.fire_all.Goals as goal
 
 pub loop-node-preserved : goal.loop-node-preserved
@@ -15,8 +15,8 @@ loop-node-preserved c =
     let old = c.loop-node.board in
     let n = c.loop-node.node in
     let inv = c.loop-node.invariant in
-    elim c.if-due.branch [
-      | then-due w ↦
+    elim c.if-left.branch [
+      | then-left w ↦
           let did = w.fire.ensures in
           record {
             same = subst (λ (b : Standing). IsSameInstant start b) (sym w.board-is) (same_again start old w.fire.new.board inv.same did.same);
@@ -30,7 +30,7 @@ loop-node-preserved c =
                 (subst (λ l. NoneLeft l (n + 1)) (sym did.left) (none_set old.position.at.left n inv.none));
             count = inv.count;
           }
-      | else-due w ↦
+      | else-left w ↦
           record {
             same = subst (λ (b : Standing). IsSameInstant start b) (sym w.board-is) inv.same;
             inputs = subst (λ (b : Standing). b.position.inputs ≡ start.position.inputs) (sym w.board-is) inv.inputs;
@@ -38,7 +38,7 @@ loop-node-preserved c =
             fire = subst (λ (b : Standing). Adds (FireInOrder start.position.at.time 0 (n + 1)) start.entries b.entries) (sym w.board-is)
                 (inv.fire.0, inv.fire.1, fire_later start.position.at.time 0 n (n + 1) inv.fire.0 (omega arith) inv.fire.2);
             none = subst (λ (b : Standing). NoneLeft b.position.at.left (n + 1)) (sym w.board-is)
-                (none_more old.position.at.left n inv.none (sym c.due.ensures ∙ w.if-due.false));
+                (none_more old.position.at.left n inv.none (sym c.left.ensures ∙ w.if-left.false));
             count = inv.count;
           }
     ]

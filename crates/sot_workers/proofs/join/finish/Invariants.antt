@@ -6,5 +6,5 @@ use Rattle.sot_workers.proofs.join.finish.Given as goal
 abbrev pub invariant-loop : goal.invariant-loop
 invariant-loop g l = record {
   lock : pass_lock l.shift.pass ≡ lock_of l.turn;
-  goes_on : (began : _) → IsOnShift g.C.Controller.told began l.initial.shift → IsOnShift g.C.Controller.told began l.shift;
+  goes_on : (began : _) → IsOnShift g.C.Controller.asked began l.initial.shift → IsOnShift g.C.Controller.asked began l.shift;
 }

@@ -16,8 +16,8 @@ loop-place-init g c = record {
   seen = goes_here (pass_seen c.args.pass);
   room = search rules;
   placed = λ a f guests each.
-      let P = IsPlaced g.C.Controller.told (lock_of c.args.turn.now) a f in
-      let Q = IsDoneIn g.C.Controller.told a f (pass_seen c.args.pass) in
+      let P = IsPlaced g.C.Controller.asked (lock_of c.args.turn.now) a f in
+      let Q = IsDoneIn g.C.Controller.asked a f (pass_seen c.args.pass) in
       let rest = into_iter_items c.into_iter-place-iterator.result in
       subst (λ l. AreComing P Q guests l rest) (sym c.requires.room.0) (coming_begins P Q guests rest each);
 }
@@ -25,8 +25,8 @@ loop-place-init g c = record {
 pub join_one-back-requires-clause-placed : goal.join_one-back-requires-clause-placed
 join_one-back-requires-clause-placed g c =
     let p = c.requires.placed in
-    let P = IsPlaced g.C.Controller.told (lock_of c.args.turn.now) p.0 p.1 in
-    let Q = IsDoneIn g.C.Controller.told p.0 p.1 (pass_seen c.args.pass) in
+    let P = IsPlaced g.C.Controller.asked (lock_of c.args.turn.now) p.0 p.1 in
+    let Q = IsDoneIn g.C.Controller.asked p.0 p.1 (pass_seen c.args.pass) in
     let each = subst (λ l. EachFrom P 0 p.2 l) (sym c.into_iter-place-iterator.ensures.into_iter_gives.0) p.3 in
     let coming = subst (λ l. AreComing P Q p.2 c.loop-place.dones.items l) c.in-Some.ensures.steps.0 (c.loop-place.invariant.placed p.0 p.1 p.2 each) in
     let next = coming_next P Q p.2 c.loop-place.dones.items c.in-Some.place (into_iter_items c.next.new.self) coming in
@@ -42,8 +42,8 @@ loop-place-preserved g c =
       seen = goes_further (pass_seen c.args.pass) (pass_seen c.loop-place.pass) (pass_seen c.join_one-back.result.0) inv.seen joined.seen;
       room = search rules;
       placed = λ a f guests each.
-          let P = IsPlaced g.C.Controller.told (lock_of c.args.turn.now) a f in
-          let Q = IsDoneIn g.C.Controller.told a f (pass_seen c.args.pass) in
+          let P = IsPlaced g.C.Controller.asked (lock_of c.args.turn.now) a f in
+          let Q = IsDoneIn g.C.Controller.asked a f (pass_seen c.args.pass) in
           let dones = c.loop-place.dones.items in
           let rest = into_iter_items c.next.new.self in
           let coming = subst (λ l. AreComing P Q guests dones l) c.in-Some.ensures.steps.0 (inv.placed a f guests each) in
@@ -56,10 +56,10 @@ loop-place-preserved g c =
 
 pub returns-clause-done : goal.returns-clause-done
 returns-clause-done g c = λ a f whole guests seen each.
-    let P = IsPlaced g.C.Controller.told (lock_of c.args.turn.now) a f in
-    let Q = IsDoneIn g.C.Controller.told a f (pass_seen c.args.pass) in
+    let P = IsPlaced g.C.Controller.asked (lock_of c.args.turn.now) a f in
+    let Q = IsDoneIn g.C.Controller.asked a f (pass_seen c.args.pass) in
     let dones = c.loop-place.dones.items in
     let none : into_iter_items c.loop-place.place-iterator ≡ [] = nil_of _ (search rules) in
     let there = subst (λ l. EachFrom P 0 guests l) (sym c.into_iter-place-iterator.ensures.into_iter_gives.0) each in
     let coming = subst (λ l. AreComing P Q guests dones l) none (c.loop-place.invariant.placed a f guests there) in
-    each_map Q (IsDone g.C.Controller.told a f whole) 0 guests dones (λ n guest done in_each. in_each whole seen) (coming_ends P Q guests dones coming)
+    each_map Q (IsDone g.C.Controller.asked a f whole) 0 guests dones (λ n guest done in_each. in_each whole seen) (coming_ends P Q guests dones coming)

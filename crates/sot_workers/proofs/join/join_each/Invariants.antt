@@ -17,8 +17,8 @@ invariant-loop-place g l = record {
   ground : pass_ground l.pass ≡ pass_ground l.initial.pass;
   seen : IsPrefix (pass_seen l.initial.pass) (pass_seen l.pass);
   room : vec_len l.dones + into_iter_len l.place-iterator ≤ vec_capacity l.dones;
-  placed : (a : Admitted) (f : Plan) (guests : List _) → EachFrom (IsPlaced g.C.Controller.told (lock_of l.turn) a f) 0 guests
+  placed : (a : Admitted) (f : Plan) (guests : List _) → EachFrom (IsPlaced g.C.Controller.asked (lock_of l.turn) a f) 0 guests
       (into_iter_items l.initial.place-iterator)
-      → AreComing (IsPlaced g.C.Controller.told (lock_of l.turn) a f) (IsDoneIn g.C.Controller.told a f (pass_seen l.initial.pass)) guests l.dones.items
+      → AreComing (IsPlaced g.C.Controller.asked (lock_of l.turn) a f) (IsDoneIn g.C.Controller.asked a f (pass_seen l.initial.pass)) guests l.dones.items
       (into_iter_items l.place-iterator);
 }

@@ -17,5 +17,5 @@ part-requires g c =
 pub returns-clause-list : goal.returns-clause-list
 returns-clause-list g c = λ a f whole n began seen_whole of on.
     let part = c.part.ensures in
-    relieved_of g.C.Controller.told (lock_of c.args.turn.now) a f whole n began c.finish-shift.result (pass_seen c.args.pass) (pass_seen c.part.result.0)
+    relieved_of g.C.Controller.asked (lock_of c.args.turn.now) a f whole n began c.finish-shift.result (pass_seen c.args.pass) (pass_seen c.part.result.0)
     c.part.result.1 seen_whole part.seen.0 part.seen.1 of (c.finish-shift.ensures.on_shift began on) c.finish-shift.ensures.finished part.list.0 part.list.1

@@ -7,5 +7,5 @@ use Rattle.sot_workers.proofs.start.place.Goals as goal
 pub returns-in-Leaves : goal.returns-in-Leaves
 returns-in-Leaves g c = λ a f number guest job.
     let lock = lock_of c.args.turn.now in
-    placed_started g.C.Controller.told lock a f number guest c.in-Leaves.shift c.start.result (subst (IsJob lock a f number guest) c.in-Leaves.is job)
+    placed_started g.C.Controller.asked lock a f number guest c.in-Leaves.shift c.start.result (subst (IsJob lock a f number guest) c.in-Leaves.is job)
     c.start.ensures

@@ -17,7 +17,7 @@ loop-guest-init g c = record {
   count = search rules;
   placed = λ a is.
       let guests = into_iter_items c.into_iter-guest-iterator.result in
-      let Q = IsPlaced g.C.Controller.told (lock_of c.args.turn.now) a c.args.flight.now in
+      let Q = IsPlaced g.C.Controller.asked (lock_of c.args.turn.now) a c.args.flight.now in
       subst (λ l. AreComing Same Q guests l guests) (sym c.requires.room.0) (coming_begins Same Q guests guests (each_same 0 guests));
 }
 
@@ -54,7 +54,7 @@ loop-guest-preserved g c =
       room = search rules;
       count = search rules;
       placed = λ a is.
-          let Q = IsPlaced g.C.Controller.told (lock_of c.args.turn.now) a c.args.flight.now in
+          let Q = IsPlaced g.C.Controller.asked (lock_of c.args.turn.now) a c.args.flight.now in
           let guests = into_iter_items c.into_iter-guest-iterator.result in
           let places = c.loop-guest.places.items in
           let rest = into_iter_items c.next.new.self in
@@ -69,7 +69,7 @@ loop-guest-preserved g c =
 
 pub returns-clause-placed : goal.returns-clause-placed
 returns-clause-placed g c = λ a is.
-    let Q = IsPlaced g.C.Controller.told (lock_of c.args.turn.now) a c.args.flight.now in
+    let Q = IsPlaced g.C.Controller.asked (lock_of c.args.turn.now) a c.args.flight.now in
     let guests = into_iter_items c.into_iter-guest-iterator.result in
     let places = c.loop-guest.places.items in
     let none : into_iter_items c.loop-guest.guest-iterator ≡ [] = nil_of _ (search rules) in

@@ -17,6 +17,6 @@ invariant-loop-guest g l = record {
   room : vec_len l.places + into_iter_len l.guest-iterator ≤ vec_capacity l.places;
   count : vec_len l.places + into_iter_len l.guest-iterator ≡ into_iter_len l.initial.guest-iterator;
   placed : (a : Admitted) → pass_ground l.initial.pass ≡ Some (a, l.flight)
-      → AreComing Same (IsPlaced g.C.Controller.told (lock_of l.turn) a l.flight) (into_iter_items l.initial.guest-iterator) l.places.items
+      → AreComing Same (IsPlaced g.C.Controller.asked (lock_of l.turn) a l.flight) (into_iter_items l.initial.guest-iterator) l.places.items
       (into_iter_items l.guest-iterator);
 }

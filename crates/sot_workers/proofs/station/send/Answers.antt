@@ -6,29 +6,29 @@ use Rattle.sot_workers.proofs.station.send.Goals as goal
 
 pub keep-requires-clause-worked : goal.keep-requires-clause-worked
 keep-requires-clause-worked g c =
-    let P = IsStarted g.C.Controller.told c.args.shift in
+    let P = IsStarted g.C.Controller.asked c.args.shift in
     let worked = subst (λ o. P (Here o)) c.in-Here-Some.field-0-is (subst P c.in-Here-Some.is c.start.ensures) in
     (c.args.shift, worked, c.requires.ready.no_drafts)
 
 pub keep-requires-clause-there : goal.keep-requires-clause-there
 keep-requires-clause-there g c =
-    let P = IsStarted g.C.Controller.told c.args.shift in
+    let P = IsStarted g.C.Controller.asked c.args.shift in
     let worked = subst (λ o. P (Here o)) c.in-Here-Some.field-0-is (subst P c.in-Here-Some.is c.start.ensures) in
     omega (arith, worked.on_shift.node, c.requires.there)
 
 pub unreachable-requires : goal.unreachable-requires
 unreachable-requires g c =
-    let P = IsStarted g.C.Controller.told c.args.shift in
+    let P = IsStarted g.C.Controller.asked c.args.shift in
     subst (λ o. P (Here o)) c.in-Here-None.field-0-is (subst P c.in-Here-None.is c.start.ensures)
 
 pub unreachable-requires-in-Stays : goal.unreachable-requires-in-Stays
-unreachable-requires-in-Stays g c = subst (IsStarted g.C.Controller.told c.args.shift) c.in-Stays.is c.start.ensures
+unreachable-requires-in-Stays g c = subst (IsStarted g.C.Controller.asked c.args.shift) c.in-Stays.is c.start.ensures
 
 pub returns-in-Out-clause-station : goal.returns-in-Out-clause-station
-returns-in-Out-clause-station g c = subst (IsStarted g.C.Controller.told c.args.shift) c.in-Out.is c.start.ensures
+returns-in-Out-clause-station g c = subst (IsStarted g.C.Controller.asked c.args.shift) c.in-Out.is c.start.ensures
 
 pub returns-in-Here-Some-clause-station : goal.returns-in-Here-Some-clause-station
 returns-in-Here-Some-clause-station g c =
-    let P = IsStarted g.C.Controller.told c.args.shift in
+    let P = IsStarted g.C.Controller.asked c.args.shift in
     let worked = subst (λ o. P (Here o)) c.in-Here-Some.field-0-is (subst P c.in-Here-Some.is c.start.ensures) in
     c.keep.ensures.station (lock_of c.args.turn.now) c.args.shift c.requires.ready worked

@@ -9,7 +9,7 @@ use Rattle.sot_workers.proofs.watch.turn_each.Goals as goal
 pub turn_here-requires : goal.turn_here-requires
 turn_here-requires g c =
     let p = c.requires in
-    let P = IsPlaced g.C.Controller.told (lock_of c.args.turn.now) p.0 p.1 in
+    let P = IsPlaced g.C.Controller.asked (lock_of c.args.turn.now) p.0 p.1 in
     let places = c.loop-i.places.items in
     let at : At places c.loop-i.i c.index_mut.result.now = read_at places places c.loop-i.i c.index_mut.result.now refl (search rules)
     (search (rules, c.index_mut.ensures.value)) in
@@ -18,7 +18,7 @@ turn_here-requires g c =
 
 pub loop-i-preserved : goal.loop-i-preserved
 loop-i-preserved g c = λ a f guests each.
-    let P = IsPlaced g.C.Controller.told (lock_of c.args.turn.now) a f in
+    let P = IsPlaced g.C.Controller.asked (lock_of c.args.turn.now) a f in
     let places = c.loop-i.places.items in
     let at : At places c.loop-i.i c.index_mut.result.now = read_at places places c.loop-i.i c.index_mut.result.now refl (search rules)
     (search (rules, c.index_mut.ensures.value)) in

@@ -8,5 +8,5 @@ use Rattle.sot_workers.proofs.watch.turn_each.Given as goal
 
 abbrev pub invariant-loop-i : goal.invariant-loop-i
 invariant-loop-i g l =
-    (a : Admitted) (f : Plan) (guests : List _) → EachFrom (IsPlaced g.C.Controller.told (lock_of l.turn) a f) 0 guests l.fn.places.items
-    → EachFrom (IsPlaced g.C.Controller.told (lock_of l.turn) a f) 0 guests l.places.items
+    (a : Admitted) (f : Plan) (guests : List _) → EachFrom (IsPlaced g.C.Controller.asked (lock_of l.turn) a f) 0 guests l.fn.places.items
+    → EachFrom (IsPlaced g.C.Controller.asked (lock_of l.turn) a f) 0 guests l.places.items

@@ -6,7 +6,7 @@ use Rattle.sot_workers.proofs.watch.turn_here.Goals as goal
 
 pub returns-in-Some : goal.returns-in-Some
 returns-in-Some g c = λ a f number guest placed.
-    let P = IsPlaced g.C.Controller.told (lock_of c.args.turn.now) a f number guest in
+    let P = IsPlaced g.C.Controller.asked (lock_of c.args.turn.now) a f number guest in
     let is : c.in-Here.shift ≡ Some c.in-Some.now = sym c.take.ensures.value ∙ c.in-Some.is in
     let of = subst (λ o. P (Here o)) is (subst P c.in-Here.is placed) in
     (of.0, of.1, c.take_turn-later.ensures.on_shift of.0 of.2)

@@ -11,6 +11,6 @@ invariant-loop g l = record {
   lock : pass_lock l.pass ≡ pass_lock l.initial.pass;
   ground : pass_ground l.pass ≡ pass_ground l.initial.pass;
   callers : (a : Admitted) (f : Plan) → pass_ground l.initial.pass ≡ Some (a, f) → IsCallers a f l.away (pass_ground l.pass) (pass_seen l.pass) l.lists.items;
-  places : (a : Admitted) (f : Plan) (guests : List _) → EachFrom (IsPlaced g.C.Controller.told (lock_of l.turn) a f) 0 guests l.fn.places.items
-      → EachFrom (IsPlaced g.C.Controller.told (lock_of l.turn) a f) 0 guests l.places.items;
+  places : (a : Admitted) (f : Plan) (guests : List _) → EachFrom (IsPlaced g.C.Controller.asked (lock_of l.turn) a f) 0 guests l.fn.places.items
+      → EachFrom (IsPlaced g.C.Controller.asked (lock_of l.turn) a f) 0 guests l.places.items;
 }

@@ -1,5 +1,5 @@
 use Rattle.std.proofs.Common.{subst}
-use Rattle.sot_board.specs.NodeSorts.{IsCodedNode, IsExternalNode}
+use Rattle.sot_world.specs.NodeSorts.{IsCodedNode, IsExternalNode}
 use Rattle.sot_test_flights.proofs.tests.boards.fire_due.Goals as goal
 
 pub fire-requires-clause-coded : goal.fire-requires-clause-coded

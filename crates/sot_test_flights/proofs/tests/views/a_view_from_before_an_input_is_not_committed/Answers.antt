@@ -1,5 +1,5 @@
 use Rattle.std.proofs.Common.{subst}
-use Rattle.sot_board.specs.NodeSorts.{IsCodedNode}
+use Rattle.sot_world.specs.NodeSorts.{IsCodedNode}
 use Rattle.sot_test_flights.proofs.tests.views.a_view_from_before_an_input_is_not_committed.Goals as goal
 
 pub commit_late-requires-clause-coded : goal.commit_late-requires-clause-coded

@@ -1,6 +1,6 @@
 use Rattle.std.proofs.Common.{sym, subst, ◌∙◌}
 use Rattle.sot_workers.specs.Flying.{HasNoGuests}
-use Rattle.sot_board.specs.NodeSorts.{IsCodedNode, IsExternalNode}
+use Rattle.sot_world.specs.NodeSorts.{IsCodedNode, IsExternalNode}
 use Rattle.sot_test_flights.proofs.tests.views.beside.Goals as goal
 
 pub commit_beside-requires-clause-no_guests : goal.commit_beside-requires-clause-no_guests

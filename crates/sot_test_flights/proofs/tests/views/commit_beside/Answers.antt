@@ -1,6 +1,6 @@
 use Rattle.std.proofs.Common.{sym, subst}
 use Rattle.sot_tube.specs.Admitted.{Admitted}
-use Rattle.sot_board.specs.NodeSorts.{IsCodedNode}
+use Rattle.sot_world.specs.NodeSorts.{IsCodedNode}
 use Rattle.sot_test_flights.proofs.tests.views.commit_beside.Goals as goal
 
 pub commit_code-requires-clause-coded : goal.commit_code-requires-clause-coded

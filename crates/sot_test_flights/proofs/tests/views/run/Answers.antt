@@ -3,7 +3,7 @@ use Rattle.sot_lang.specs.Tables.{Tables}
 use Rattle.sot_lang.specs.declared.trap.Trap.{Trap}
 use Rattle.sot_code.specs.declared.fired.Fired.{Fired}
 use Rattle.sot_code.specs.Recorded.{MayRun, IsExecution}
-use Rattle.sot_board.specs.NodeSorts.{IsCodedNode}
+use Rattle.sot_world.specs.NodeSorts.{IsCodedNode}
 use Rattle.sot_board.specs.declared.view.View.{View}
 use Rattle.sot_board.specs.Standing.{Standing, IsStanding}
 use Rattle.sot_board.specs.Views.{IsView, viewed_numbers, viewed_locals}

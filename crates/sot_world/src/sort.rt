@@ -1,7 +1,7 @@
 //! Which sort of node stands in a place.
 
 ghost use Rattle.std.specs.Prelude.{◌≡◌, ◌<◌, length, true, false};
-ghost use Rattle.sot_board.specs.NodeSorts.{IsCodedNode, IsExternalNode};
+ghost use Rattle.sot_world.specs.NodeSorts.{IsCodedNode, IsExternalNode};
 
 use sot_lang::Typed;
 

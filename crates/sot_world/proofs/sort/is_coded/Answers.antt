@@ -1,7 +1,7 @@
 use Rattle.std.proofs.Common.{refl, sym, ap, ◌∙◌}
 use Rattle.sot_lists.proofs.Places.{read_at}
-use Rattle.sot_guard.proofs.Instants.{some_there, none_there}
-use Rattle.sot_guard.proofs.fire.is_coded.Goals as goal
+use Rattle.sot_world.proofs.Options.{some_there, none_there}
+use Rattle.sot_world.proofs.sort.is_coded.Goals as goal
 
 pub returns-clause-coded : goal.returns-clause-coded
 returns-clause-coded c = λ yes.
