@@ -48,7 +48,7 @@ TubesOfFailingPointsLeave =
     → FailsAt p a true s
     → AnyTubeInside p plant a.safe.boxes (point_box s) (2 * a.period) → ⊥)
 
--- so of each failing point that may be answered the tube leaves, with no premise but the rules of
+-- of each failing point that may be answered the tube leaves, with no premise but the rules of
 -- tables
 abbrev pub PointsLeave : Type 0
 PointsLeave =

@@ -75,7 +75,8 @@ fn execute_in<V: Seen>(
 // Most nodes have few names, and the room for these is cleared at each firing.
 const FEW_NAMES: usize = 16;
 
-// The same, with room for as many numbers as there are.
+// Executes a body on the numbers that its node reads and its locals, in little room where they are
+// few.
 fn execute<V: Seen>(
     p: &Typed,
     node: &NodeInfo,

@@ -26,9 +26,9 @@ fn exact(term: &Term, numbers: &[i64]) -> Result<i64, Trap>
     }
 }
 
-// The same, where the expression has parts. What has one part has a function of its own, with the
-// room for the part's value. Conditions come here at once, since a condition is hardly ever a
-// number or a name.
+// The value of an expression that is likely to have parts, or the first trap. What has one part
+// has a function of its own, with the room for the part's value. Conditions come here at once,
+// since a condition is hardly ever a number or a name.
 #[cycle(exact)]
 fn compound(term: &Term, numbers: &[i64]) -> Result<i64, Trap>
     requires { HasPlaces (length numbers.now) term.now }
@@ -156,7 +156,8 @@ fn quick(term: &Term, numbers: &[i64], trapped: &mut bool) -> i64
     }
 }
 
-// The same, where the expression has parts. What is rare is left to the exact way.
+// The value of an expression that has parts, unless it traps: then the flag is set. What is rare
+// is left to the exact way.
 #[cycle(quick)]
 fn quick_compound(term: &Term, numbers: &[i64], trapped: &mut bool) -> i64
     requires { HasPlaces (length numbers.now) term.now }

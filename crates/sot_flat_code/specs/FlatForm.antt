@@ -8,8 +8,8 @@ use Rattle.sot_lang.specs.TableRules.{IsCoded}
 use Rattle.sot_flat_code.specs.Carries.{name_count, Carries}
 use Rattle.sot_flat_code.specs.declared.flat.Flat.{Flat}
 
--- it is that of the coded node at this place of the tables: what its steps do is what the body's
--- statements do
+-- a flat form is that of the coded node at this place of the tables: what its steps do is what the
+-- body's statements do
 pub record IsFlatOf (p : Tables) (n : ℕ) (flat : Flat) : Type 0 where
   pub node : NodeInfo
   pub acts : List Act

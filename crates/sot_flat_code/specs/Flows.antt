@@ -30,12 +30,12 @@ abbrev mutual
       × (is_true (number_at s.room place) ≡ false → FlowRow vs s t)
   Flows (Turns' n s1 us) s t = Rounds n (FlowRow us) s t
 
-  -- the steps of a block do, one after another
+  -- the steps of a block lead from one state to another, one after another
   pub FlowRow : {m : _} → Row_of-Step m → State → State → Type 0
   FlowRow end_of-Step s t = t ≡ s
   FlowRow (more_of-Step a rest) s t = (m : State) × Flows a s m × FlowRow rest m t
 
--- so do the steps of a list
+-- the steps of a list lead from one state to another, one after another
 abbrev pub FlowAll : List Step → State → State → Type 0
 FlowAll [] s t = t ≡ s
 FlowAll (a ∷ rest) s t = (m : State) × Flows a s m × FlowAll rest m t

@@ -24,13 +24,13 @@ Leads n stated counts base line Told =
     → (take base ys ≡ take base xs) × (length ys ≡ 256)
     × (is_true (number_at ys counts) ≡ true → Told (take n xs) ys)
 
--- the place then holds the value of the expression
+-- where traps count, the place holds the value of the expression
 abbrev pub Reckons : ℕ → List ℤ → ℕ → ℕ → Term → List Instruction → ℕ → Type 0
 Reckons n stated counts base t line place =
     (place ≤ base)
     × Leads n stated counts base line (λ names ys. value_of t names ≡ Ok (number_at ys place))
 
--- it does so always
+-- the place always holds the value of the expression, which has one
 abbrev pub Gives : ℕ → List ℤ → ℕ → Term → List Instruction → ℕ → Type 0
 Gives n stated base t line place =
     (place ≤ base)
@@ -38,7 +38,7 @@ Gives n stated base t line place =
     → (take base ys ≡ take base xs) × (length ys ≡ 256)
     × (value_of t (take n xs) ≡ Ok (number_at ys place)))
 
--- it then holds what the function gives
+-- where traps count, the place holds what the function gives of its arguments
 abbrev pub ReckonsCall : ℕ → List ℤ → ℕ → ℕ → Func → List Term → List Instruction → ℕ → Type 0
 ReckonsCall n stated counts base f parts line place =
     (place ≤ base)
@@ -46,8 +46,8 @@ ReckonsCall n stated counts base f parts line place =
     (λ names ys.
     (at : Span) → then_with (values parts names) (called f at) ≡ Ok (number_at ys place))
 
--- they put the value of the expression at a place, where it is in the range; beside it they change
--- only places behind all names and stated numbers
+-- the instructions put the value of the expression at a place, where it is in the range; beside it
+-- they change only places behind all names and stated numbers
 abbrev pub Bounds : ℕ → List ℤ → Term → ℤ → ℤ → ℕ → List Instruction → Type 0
 Bounds n stated t lo hi to line =
     (xs ys : List ℤ) → IsRoom n stated xs → Runs line xs ys

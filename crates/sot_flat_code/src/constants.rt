@@ -14,7 +14,7 @@ pub fn find(constants: &[i64], z: i64) -> Option<usize>
     constants.iter().position(|x| *x == z)
 }
 
-// One more number, if it is a new one.
+// Adds a number, if it is a new one.
 fn add(constants: &mut Vec<i64>, z: i64) -> Result<(), AllocError> {
     if find(constants, z).is_none() {
         constants.push(z)?;
@@ -22,7 +22,7 @@ fn add(constants: &mut Vec<i64>, z: i64) -> Result<(), AllocError> {
     Ok(())
 }
 
-// Those of an expression.
+// Adds the numbers that an expression states or is computed with.
 #[cycle(term)]
 fn add_term(constants: &mut Vec<i64>, term: &Term) -> Result<(), AllocError> {
     match term {
@@ -59,7 +59,7 @@ fn add_terms(constants: &mut Vec<i64>, terms: &[Term]) -> Result<(), AllocError>
     Ok(())
 }
 
-/// Those of statements.
+/// Adds the numbers that the expressions of statements state or are computed with.
 #[cycle(act)]
 pub fn add_acts(constants: &mut Vec<i64>, acts: &[Act]) -> Result<(), AllocError> {
     for act in acts {

@@ -63,7 +63,8 @@ pub fn compile_all(
     compile(term, shape, counts, base, line)
 }
 
-// The same where traps count only if the number at the place `counts` is true.
+// Appends instructions for an expression whose traps count only if the number at the place
+// `counts` is true, and answers the place that then holds its value.
 #[cycle(compile)]
 fn compile(
     term: &Term,
@@ -130,7 +131,8 @@ fn compile(
     }
 }
 
-// The same for a call of a function.
+// Appends instructions for a call of a function whose traps count only if the number at the place
+// `counts` is true, and answers the place that then holds its value.
 #[cycle(compile)]
 fn compile_call(
     func: Func,

@@ -88,7 +88,7 @@ abbrev pub IsNodeDue : Tables → ℕ → Configuration → ℕ → Type 0
 IsNodeDue p jitter C n =
     (node : NodeInfo) × At p.nodes n node × IsDueWithin jitter node.period node.offset C.time
 
--- the same of a decision
+-- a decision is due now, or was at most as many ticks ago as the jitter
 abbrev pub IsDecisionDue : Tables → ℕ → Configuration → ℕ → Type 0
 IsDecisionDue p jitter C m =
     (a : ModuleInfo) × At p.modules m a × IsDueWithin jitter a.period a.offset C.time

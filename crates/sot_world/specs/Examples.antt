@@ -210,7 +210,7 @@ module _ (g : Global) where
 abbrev pub opening_at : ℤ → Configuration
 opening_at x = record at_opening { points = (x ∷ []) ∷ [] }
 
--- with nothing left, before and after a tick with the disturbance 1
+-- the drifting vehicle with nothing left, before and after a tick with the disturbance 1
 abbrev pub drift_0 : Configuration
 drift_0 = record at_opening { left = false ∷ false ∷ []; left_dm = false ∷ [] }
 
@@ -258,6 +258,6 @@ twins_at t =
       points = (pos 20 ∷ []) ∷ (pos 3 ∷ []) ∷ [];
     }
 
--- with no decision left
+-- the two plants where no decision is left
 abbrev pub twins_idle : ℕ → Configuration
 twins_idle t = record (twins_at t) { left_dm = false ∷ false ∷ [] }

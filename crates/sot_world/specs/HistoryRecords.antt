@@ -30,11 +30,11 @@ flags_in (suc k) bits = (bits % 2 == 1) ∷ flags_in k (bits / 2)
 abbrev pub count_at : List ℤ → ℕ → ℕ
 count_at numbers at = unsigned_abs (slice_index_or numbers at (pos 0))
 
--- these numbers
+-- the numbers that the count at a place counts, which stand behind it
 abbrev pub counted_at : List ℤ → ℕ → List ℤ
 counted_at numbers at = take (count_at numbers at) (drop (at + 1) numbers)
 
--- where they end
+-- where the numbers end that the count at a place counts
 abbrev pub end_at : List ℤ → ℕ → ℕ
 end_at numbers at = at + 1 + count_at numbers at
 
@@ -82,7 +82,7 @@ time_in word = word / 16 % 262144
 abbrev pub index_in : ℕ → ℕ
 index_in word = word / 4194304 % 1024
 
--- which is counted from the lowest number of 32 bits on
+-- the number in a word, which is counted from the lowest number of 32 bits on
 abbrev pub number_in : ℕ → ℤ
 number_in word = pos (word / 4294967296) -ℤ pos 2147483648
 
@@ -105,7 +105,7 @@ record_as form word =
     else if form == 4 then Value (place_in word)
     else Moves (place_in word)
 
--- .. of the form that it says
+-- a word as a record of the form that it says
 abbrev pub record_in : ℕ → Record
 record_in word = record_as (word % 8) word
 

@@ -27,7 +27,7 @@ pub fn line_opens()
         → IsOpening (line g) ((pos 0 ∷ pos 0 ∷ []) ∷ []) C → ⊥ }
 {}
 
-/// Its module decides for the advanced node from the safer region.
+/// The module of the running example decides for the advanced node from the safer region.
 pub fn line_decides()
     ensures step { (g : Global) → Step (line g) 0 at_opening (Decide 0) decided }
     ensures recorded { (g : Global) → Records (line g) at_opening (Decide 0) decided
