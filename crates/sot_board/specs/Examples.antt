@@ -31,7 +31,7 @@ relay_history = InputAt 0 0 (pos 5 ∷ []) ∷ copies (pos 5) ∷ []
 abbrev pub RelayIsFlown : Type 0
 RelayIsFlown = (g : Global) → FlownBy (relay g) 0 relay_flight relay_history
 
--- .. but not by a firing alone, whatever is drafted
+-- the relay is not flown by a firing alone, whatever is drafted
 abbrev pub NotWithoutInput : Type 0
 NotWithoutInput =
     (g : Global) (slots : List (Option ℤ)) (enabled : Bool)

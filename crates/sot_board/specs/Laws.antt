@@ -33,7 +33,7 @@ CodeRunsOnViews =
     × ((result : Result Fired Trap) → IsExecution b.accepted.program n (viewed_numbers v)
     (viewed_locals v) result → (fired : Fired) × (result ≡ Ok fired))
 
--- .. and so on the present numbers, as they are lent
+-- the code of a coded node may be run on the present numbers, as they are lent, and does not trap
 abbrev pub CodeRunsOnInputs : Type 0
 CodeRunsOnInputs =
     (b : Standing) (n : ℕ) (info : NodeInfo) (acts : List Act) (seen : List ℤ) → IsStanding b

@@ -13,7 +13,8 @@ pub fn code_runs_on_views()
     ensures { CodeRunsOnViews }
 {}
 
-/// Nor does it on the present numbers, as a board lends them, with the locals of now.
+/// The code of a coded node does not trap on the present numbers, as a board lends them, with the
+/// locals of now.
 pub fn code_runs_on_inputs()
     ensures { CodeRunsOnInputs }
 {}

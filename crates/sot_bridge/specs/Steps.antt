@@ -53,7 +53,8 @@ SaysRelayed t jitter f front status text =
     × (text ≡ front ++ trace_text t f.start history)))
     ⊎ ((status ≡ 1) × ((line : List ℕ) × IsOutsideOf t f line × (text ≡ of_b line)))
 
--- the same of its own flight, and of what comes over
+-- what is said of the second mission, whose flight takes what comes over, behind the trace of the
+-- first
 abbrev pub SaysSecond : Tables → ℕ → Plan → ℕ → ℕ → List ℕ → List Send → ℕ → List ℕ → Type 0
 SaysSecond t jitter f l delay front sends status text =
     SaysRelayed t jitter (relayed l delay sends f) front status text

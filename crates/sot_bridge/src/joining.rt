@@ -25,7 +25,7 @@ pub enum JoinFault {
     Horizon,
     /// With all that may be sent the second mission has more than 200,000 events.
     TooManyEvents,
-    /// .. or more than 1,000,000 numbers.
+    /// With all that may be sent the second mission has more than 1,000,000 numbers.
     TooManyNumbers,
 }
 

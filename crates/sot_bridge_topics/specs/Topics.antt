@@ -9,7 +9,7 @@ use Rattle.sot_lang.specs.Tables.{Tables}
 abbrev pub HasName : List ℕ → Bool → TopicInfo → Type 0
 HasName name outside info = (info.name ≡ name) × (info.outside ≡ outside)
 
--- so does topic k of the program
+-- topic k of the program has this name, and is an environment topic or is none
 abbrev pub IsNamed : Tables → List ℕ → Bool → ℕ → Type 0
 IsNamed p name outside k = (info : TopicInfo) × At p.topics k info × HasName name outside info
 

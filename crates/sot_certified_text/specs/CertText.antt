@@ -66,7 +66,7 @@ jittered_data (suc j) entries =
 abbrev pub data_with_jitter : Tables → Cert → Data
 data_with_jitter p cert = jittered_data cert.jitter (entries_data p.modules cert.modules.items)
 
--- their lines (LF is 10)
+-- the line of a certificate without jitter, and with its jitter (LF is 10)
 abbrev pub certificate_line : Tables → Cert → List ℕ
 certificate_line p cert = compact_text (certificate_data p cert) ++ 10 ∷ []
 

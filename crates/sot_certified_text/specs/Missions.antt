@@ -8,7 +8,8 @@ use Rattle.sot_certified_text.specs.Plain.{EndsLine, IsPlain}
 abbrev pub mission_text : List ℕ → List ℕ → List ℕ
 mission_text program cert = program ++ ((codes "%certificate" ++ 10 ∷ []) ++ cert)
 
--- they are the sections of the whole
+-- a program's text and the text of a certificate are the sections of the mission that is made of
+-- them
 abbrev pub CertificatesStandBehind : Type 0
 CertificatesStandBehind =
     (program cert : List ℕ) → EndsLine program → IsPlain program → IsPlain cert

@@ -28,7 +28,7 @@ pub record IsCertificateOf (bytes : List ℕ) (p : Program) (t : Tables) (cert :
   pub made : Certifies t (Ok cert)
   pub fits : FitsTables t cert
 
--- what is written of them
+-- what is written of a program and a certificate without jitter
 abbrev pub written : Program → Tables → Cert → List ℕ
 written p t cert = mission_text (canonical p) (certificate_line t cert)
 
@@ -43,25 +43,25 @@ pub record IsCertificateFor (p : Program) (t : Tables) (cert : Cert) : Type 0 wh
   pub certified : IsWellCertified t cert.jitter cert
   pub writable : IsWritable cert
 
--- one that is made for a program is one
+-- a certificate that is made for a program is a certificate for it
 abbrev pub MadeCertificatesAreForPrograms : Type 0
 MadeCertificatesAreForPrograms =
     (bytes : List ℕ) (p : Program) (t : Tables) (cert : Cert) → IsCertificateOf bytes p t cert
     → IsCertificateFor p t cert
 
--- what is written of them with the certificate's jitter
+-- what is written of a program and a certificate with its jitter
 abbrev pub written_with_jitter : Program → Tables → Cert → List ℕ
 written_with_jitter p t cert = mission_text (canonical p) (line_with_jitter t cert)
 
--- it has no fault
+-- the text of a program with a certificate for it has no fault
 abbrev pub TextsWithJitterHaveNoFault : Type 0
 TextsWithJitterHaveNoFault =
     (p : Program) (t : Tables) (cert : Cert) (guests : ℕ) (fault : Fault)
     → IsCertificateFor p t cert
     → HasFault Check guests (written_with_jitter p t cert) fault → ⊥
 
--- each mission that it spells has the same program, a certificate of the same contents, and so the
--- same jitter, and is well certified
+-- each mission that the text of a program with a certificate for it spells has the same program, a
+-- certificate of the same contents, and so the same jitter, and is well certified
 abbrev pub MissionsWithJitterAreCertified : Type 0
 MissionsWithJitterAreCertified =
     (p : Program) (t : Tables) (cert : Cert) (guests : ℕ) (m : Mission)
@@ -70,7 +70,7 @@ MissionsWithJitterAreCertified =
     → AreSame p m.program × (contents cert ≡ contents m.cert)
     × IsWellCertified m.tables m.cert.jitter m.cert
 
--- so none is refused
+-- no mission is refused that the text of a program with a certificate for it spells
 abbrev pub MissionsWithJitterAreNotRefused : Type 0
 MissionsWithJitterAreNotRefused =
     (p : Program) (t : Tables) (cert : Cert) (guests : ℕ) (m : Mission) (r : Refusal)
@@ -78,14 +78,15 @@ MissionsWithJitterAreNotRefused =
     → SpellsMission Check guests (written_with_jitter p t cert) m
     → (verdict m.tables m.cert.jitter m.cert).Refuses r → ⊥
 
--- the same of the text with a certificate that is made for a program: it has no fault
+-- the text of a program with the certificate that is made for it has no fault
 abbrev pub WrittenTextsHaveNoFault : Type 0
 WrittenTextsHaveNoFault =
     (bytes : List ℕ) (p : Program) (t : Tables) (cert : Cert) (guests : ℕ) (fault : Fault)
     → IsCertificateOf bytes p t cert
     → HasFault Check guests (written p t cert) fault → ⊥
 
--- each mission that it spells is well certified, and has the same program
+-- each mission that the text of a program with the certificate that is made for it spells is well
+-- certified, and has the same program
 abbrev pub WrittenMissionsAreCertified : Type 0
 WrittenMissionsAreCertified =
     (bytes : List ℕ) (p : Program) (t : Tables) (cert : Cert) (guests : ℕ) (m : Mission)
@@ -93,7 +94,7 @@ WrittenMissionsAreCertified =
     → SpellsMission Check guests (written p t cert) m
     → AreSame p m.program × IsWellCertified m.tables m.cert.jitter m.cert
 
--- so none is refused
+-- no mission is refused that the text of a program with the certificate that is made for it spells
 abbrev pub WrittenMissionsAreNotRefused : Type 0
 WrittenMissionsAreNotRefused =
     (bytes : List ℕ) (p : Program) (t : Tables) (cert : Cert) (guests : ℕ) (m : Mission)

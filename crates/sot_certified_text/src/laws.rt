@@ -30,7 +30,8 @@ pub fn certified_texts_divide()
     ensures { CertifiedTextsDivide }
 {}
 
-/// So does the text with the certificate's jitter.
+/// The text of a certified program with its certificate's jitter divides into the canonical text
+/// of the program and the line of the certificate, for each formed program.
 pub fn texts_with_jitter_divide()
     ensures { TextsWithJitterDivide }
 {}

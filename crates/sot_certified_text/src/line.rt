@@ -26,7 +26,8 @@ pub fn certificate_json(alloc: Global, p: &Typed, cert: &Cert) -> Result<Vec<u8>
     Ok(text)
 }
 
-/// The same as a line of its own, which reads back as the same value.
+/// A certificate as a line of its own: JSON with no blank, as `certificate_json` writes it, and a
+/// line end. It reads back as the value that was written.
 #[tactic(auto, using(crate::proofs::JsonEnds::json_ends))]
 pub fn certificate_line(alloc: Global, p: &Typed, cert: &Cert) -> Result<Vec<u8>, AllocError>
     requires entries { length cert.now.modules.items ≡ length p.now.modules }

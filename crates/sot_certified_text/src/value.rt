@@ -89,7 +89,7 @@ fn entries_value(alloc: Global, p: &Typed, cert: &Cert) -> Result<Map<String, Va
     Ok(map)
 }
 
-// These modules, without a jitter.
+// The value of a certificate without jitter, of the entries of its modules.
 fn plain_value(alloc: Global, entries: Map<String, Value>) -> Result<Value, AllocError>
     ensures { IfOk result (λ v. view v ≡ jittered_data 0 (members_view entries.entries)) }
 {
@@ -99,7 +99,7 @@ fn plain_value(alloc: Global, entries: Map<String, Value>) -> Result<Value, Allo
     Ok(Value::Object(map))
 }
 
-// These modules, with a jitter.
+// The value of a certificate with a jitter, of the entries of its modules.
 #[tactic(auto, using(crate::proofs::Items::jittered_is))]
 fn jittered_value(
     alloc: Global,

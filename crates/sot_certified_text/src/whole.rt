@@ -38,7 +38,9 @@ pub fn mission_with_jitter(
     Ok(text)
 }
 
-/// The same of a certificate without jitter.
+/// The canonical text of a program, the line `%certificate`, and the line of its certificate,
+/// which has no jitter and reads back as its value. The certificate has an entry, or none, for
+/// each module of the program.
 pub fn mission_text(
     alloc: Global,
     program: &Program,

@@ -28,7 +28,7 @@ HasPointsOf grid set region =
     IsFinest grid → (s : List ℤ) (at : List ℕ) → IsInRegion region s → length s ≡ grid.width
     → HoldsPoint grid.axes at s → IsMember grid.axes set at
 
--- the same of the atoms of a block
+-- where each atom is one point, each atom of a block that holds a point of a region is in a set
 abbrev pub HasPointsIn : Cut → List ℕ → List (List Side) → List Stretch → Type 0
 HasPointsIn grid set region block =
     IsFinest grid → (s : List ℤ) (at : List ℕ) → IsInRegion region s → length s ≡ grid.width
@@ -47,7 +47,7 @@ pub record IsFinestOf (a : ModuleInfo) (grid : Cut) : Type 0 where
   pub width : length hull ≡ grid.width
   pub finest : IsFinest grid
 
--- where nothing is left on such a grid there is none
+-- where nothing is left on a grid of which each atom is one point there is no held region
 abbrev pub TellsNone : Tables → ℕ → ModuleInfo → Cut → List ℕ → Type 0
 TellsNone p jitter a grid set =
     IsFinestOf a grid → ((k : ℕ) → slice_index set k ≡ 1 → ⊥) → HasNoHeldRegion p jitter a

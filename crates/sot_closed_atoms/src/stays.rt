@@ -106,7 +106,8 @@ pub fn held_stays(ask: &Ask<'_>, area: &BoxN, among: Among<'_>) -> bool
     )
 }
 
-/// The same of the tube of a box under any commands, as `any_tube` says it of a set.
+/// Whether each box after the first of the tube of a box under any commands lies there, and no
+/// step may trap, as `any_tube` says it of a set. Takes no memory.
 pub fn any_stays(ask: &Ask<'_>, area: &BoxN, among: Among<'_>) -> bool
     requires { length area.now ≡ asked_width ask.now }
 {

@@ -139,13 +139,15 @@ abbrev pub DoesNotFly : ℕ → List ℕ → List ℕ → Type 0
 DoesNotFly guests bytes text =
     (m : Mission) × SpellsFor needs.Fly guests bytes m × IsStopped m text
 
--- and a formula has a meaning for its program
+-- the bytes spell a mission with a flight that is not flown, a formula has a meaning for its
+-- program, and this is said
 abbrev pub DoesNotFlyWatched : List ℕ → ℕ → List ℕ → List ℕ → Type 0
 DoesNotFlyWatched formula guests bytes text =
     (m : Mission) × SpellsFor needs.Fly guests bytes m × HasMeaning m.tables formula
     × IsStopped m text
 
--- they spell a mission with a flight, the formula has no meaning for its program, and this is why
+-- the bytes spell a mission with a flight, the formula has no meaning for its program, and this is
+-- why
 abbrev pub HasFormulaFault : List ℕ → ℕ → List ℕ → List ℕ → Type 0
 HasFormulaFault formula guests bytes text =
     (m : Mission) × SpellsFor needs.Fly guests bytes m
@@ -167,7 +169,7 @@ IsCertifiedText p t text =
     (cert : Cert) × Certifies t (Ok cert) × FitsTables t cert
     × (text ≡ mission_text (canonical p) (certificate_line t cert))
 
--- halving gives none, and this is why
+-- halving gives no certificate for the tables of a program, and this is why
 abbrev pub IsNotCertified : Tables → List ℕ → Type 0
 IsNotCertified t text =
     (fail : CertifyFail) × (fail ≢ Memory) × Certifies t (Err fail) × (text ≡ fail_text t fail)
@@ -177,7 +179,8 @@ abbrev pub SpellsAccepted : List ℕ → Type 0
 SpellsAccepted text =
     (m : Mission) × SpellsFor needs.Check 0 text m × IsAccepted m × IsSafeInEveryRun m
 
--- and its program is this one, but for where its parts stand
+-- a text spells a mission that is accepted, every run of it is safe, and its program is this one,
+-- but for where its parts stand
 abbrev pub SpellsAcceptedOf : Program → List ℕ → Type 0
 SpellsAcceptedOf p text =
     (m : Mission) × SpellsFor needs.Check 0 text m × AreSame p m.program × IsAccepted m

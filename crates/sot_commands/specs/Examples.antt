@@ -16,7 +16,8 @@ GrownIsToldOn = TellsOn (Some (one ∷ [])) (Some (one ∷ two ∷ []))
 abbrev pub SilentIsToldOn : Type 0
 SilentIsToldOn = TellsOn (Some (one ∷ [])) None
 
--- and not without it, nor with another one in its place, nor where none was told before
+-- a list of one asking is not told on without it, nor with another one in its place; and no list
+-- is told where none was told before
 abbrev pub LostIsNotToldOn : Type 0
 LostIsNotToldOn = TellsOn (Some (one ∷ [])) (Some []) → ⊥
 

@@ -37,7 +37,7 @@ SaysFails behind = (time : ℕ) × (behind ≡ fails_text time)
 abbrev pub IsNoTrace : List ℕ → Type 0
 IsNoTrace text = (rest : List ℕ) → text ≡ header ++ rest → ⊥
 
--- and this is what was written
+-- a text that does not begin as a trace does was written
 abbrev pub WroteNoTrace : Option (List ℕ) → Option (List ℕ) → Type 0
 WroteNoTrace held held_after =
     (text : List ℕ) × Appends held held_after text × IsNoTrace text
@@ -76,7 +76,7 @@ module _ {C : Type 0} (asked : C → Option (List Asking)) where
     pub flight : mission.flight ≡ Some plan
     pub flew : GuestsFlew mission.tables mission.cert.jitter plan text before after
 
-  -- the same of the bytes of a mission, and what was written is the trace with this behind it
+  -- the guests flew the flight of a mission, and what was written is its trace with this behind it
   abbrev pub FlewAndWrote : ℕ → (List ℕ → Type 0) → (List ℕ → Type 0) → Option (List ℕ)
       → Option (List ℕ) → List C → List C → Type 0
   FlewAndWrote guests IsMission IsBehind held held_after before after =

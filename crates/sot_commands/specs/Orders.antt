@@ -68,7 +68,7 @@ IsToldOf Trace t jitter f text = IsTraceOf t jitter f text
 IsToldOf Summary t jitter f text = IsSummaryOf t jitter f text
 IsToldOf (Verdict formula) t jitter f text = IsWatchedBy TellsHolds formula.now t jitter f text
 
--- of one that was flown, the formula that watches it fails, and this is told
+-- of a flight that was flown, the formula that watches it fails, and this is told
 abbrev pub IsFailedOf : Telling → Tables → ℕ → Plan → List ℕ → Type 0
 IsFailedOf Trace t jitter f text = ⊥
 IsFailedOf Summary t jitter f text = ⊥

@@ -81,7 +81,7 @@ TellsVerdict (Verdict formula) t f history status text =
     × (((status ≡ 0) × TellsHolds t f x history text)
     ⊎ ((status ≡ 1) × TellsFails t f x history text))
 
--- with a monitor, where a formula watches the flight, and without one else
+-- there is a monitor where a formula watches the flight, and none else
 abbrev pub IsMonitorFor : Telling → Tables → Option Tracked → Type 0
 IsMonitorFor telling t None = IsVerdict telling → ⊥
 IsMonitorFor telling t (Some monitor) = Watches telling t monitor
@@ -118,7 +118,8 @@ JudgesFlown telling t cert f status text =
     ⊎ ((status ≡ 1) × ((r : Refusal) × (verdict t cert.jitter cert).Refuses r
     × (text ≡ refusal_text t r)))
 
--- and of a formula that may watch it: status 3, where it has no meaning for the program
+-- what is said of a program's tables with a certificate, a flight and a formula that may watch it:
+-- status 3, where the formula has no meaning for the program
 abbrev pub JudgesWatched : Telling → Tables → Cert → Plan → ℕ → List ℕ → Type 0
 JudgesWatched telling t cert f status text =
     ((MeansFor telling t) × JudgesFlown telling t cert f status text)
@@ -195,7 +196,8 @@ IsReply guests command bytes (Said answer) =
 IsReply guests command bytes (Flight order) =
     Orders command bytes order.telling order.text.items × (length order.text.items ≤ input_limit)
 
--- the same of what it takes of a source; of one that flies it may be said that there is too much
+-- what a command comes to by what it takes of a source; of one that flies it may be said that
+-- there is too much
 abbrev pub CommandReply : ℕ → Command → Option (List ℕ) → Option (List ℕ) → Reply → Type 0
 CommandReply guests command left left_after (Said answer) =
     CommandAnswer guests command left left_after answer.status answer.text.items
@@ -246,8 +248,8 @@ pub record GuestsStand {C : Type 0} (asked : C → Option (List Asking)) (Stay :
   pub go_on : GuestsGoOn asked before.items after.items
   pub stay : Stay
 
--- And by what is said, with its status: none was asked but for a flight that was flown, without
--- which no trace is told. `Fly` says what those did whose trace is told.
+-- What became of the guests by what is said, with its status: none was asked but for a flight that
+-- was flown, without which no trace is told. `Fly` says what those did whose trace is told.
 pub record GuestsDid {C : Type 0} (telling : Telling) (status : ℕ) (said : List ℕ)
     (Fly : List ℕ → Type 0) (before after : Vec C) : Type 0 where
   pub unasked : status ≢ 0

@@ -19,7 +19,7 @@ pub record IsFormula (t : Tables) (bytes : List ℕ) (x : Formula) : Type 0 wher
   pub text : IsFormulaText bytes phrase
   pub means : Means t phrase x
 
--- they are the text of one that has a meaning
+-- the bytes are the text of a formula that has a meaning
 abbrev pub HasMeaning : Tables → List ℕ → Type 0
 HasMeaning t bytes = (x : Formula) × IsFormula t bytes x
 
@@ -30,7 +30,7 @@ TellsHolds t f x history text =
     AlwaysHolds (moments_told t f.start history) x
     × (text ≡ trace_text t f.start history ++ holds_text (f.horizon + 1))
 
--- it does not, and this is said behind the trace with the first moment at which it fails
+-- a formula fails at a moment of a history, and the first such moment is said behind the trace
 abbrev pub TellsFails : Tables → Plan → Formula → List Logged → List ℕ → Type 0
 TellsFails t f x history text =
     (time : ℕ) × FirstFails (moments_told t f.start history) x time

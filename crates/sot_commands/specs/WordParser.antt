@@ -44,13 +44,14 @@ missions =
     (new_shape (codes "check"))) (new_shape (codes "fly"))) (new_shape (codes "replay")))
     (new_shape (codes "recover"))
 
--- the one that has a formula besides, and those that read a program
+-- the commands that read a text: those of `missions`, the one that has a formula besides, and
+-- those that read a program
 abbrev pub readers : App
 readers =
     with_subcommand (with_subcommand (with_subcommand missions watching)
     (new_shape (codes "format"))) (new_shape (codes "certify"))
 
--- and those that read nothing
+-- all commands: those that read a text, and those that read nothing
 abbrev pub program : App
 program =
     with_subcommand (with_subcommand readers (numbered (codes "make"))) (numbered (codes "soak"))

@@ -93,7 +93,7 @@ AsksReader words = (command : Command) × Reads command × Asks words command
 abbrev pub AsksNoReader : List (String Global) → Type 0
 AsksNoReader words = (command : Command) → Reads command → ¬ (Asks words command)
 
--- they ask for no command
+-- the words ask for no command
 abbrev pub AsksNone : List (String Global) → Type 0
 AsksNone words = (command : Command) → ¬ (Asks words command)
 

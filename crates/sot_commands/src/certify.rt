@@ -87,7 +87,7 @@ fn certify_tables<R: Threads + Sync>(
     }
 }
 
-// The same of a program that may break a rule of typing.
+// The certificate of a program, or why there is none; the program may break a rule of typing.
 fn certify_tree<R: Threads + Sync>(
     rt: &R,
     alloc: Global,

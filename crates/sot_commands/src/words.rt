@@ -36,7 +36,7 @@ pub enum Command<'w> {
     Certify,
     /// A mission of so many modules for this seed.
     Make { n: u32, seed: u64 },
-    /// And what is counted of its flight.
+    /// What is counted of the flight of the mission that `Make` makes of the same numbers.
     Soak { n: u32, seed: u64 },
 }
 
@@ -114,7 +114,8 @@ fn missions<'a>(alloc: Global) -> Result<clap::Command<'a>, AllocError>
         .subcommand(recover)
 }
 
-// The one that has a formula besides, and those that read a program.
+// The commands that read a text: those of `missions`, the one that has a formula besides, and
+// those that read a program.
 fn readers<'a>(alloc: Global) -> Result<clap::Command<'a>, AllocError>
     ensures { IfOk result (λ command. app_of command ≡ readers) }
 {
@@ -127,7 +128,7 @@ fn readers<'a>(alloc: Global) -> Result<clap::Command<'a>, AllocError>
         .subcommand(certify)
 }
 
-// And those that read nothing.
+// All commands: those that read a text, and those that read nothing.
 fn program<'a>(alloc: Global) -> Result<clap::Command<'a>, AllocError>
     ensures { IfOk result (λ command. app_of command ≡ program) }
 {

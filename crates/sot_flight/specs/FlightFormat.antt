@@ -76,7 +76,7 @@ topic p d = do
 abbrev pub ranges_of_topic : Tables → TopicInfo → List Side
 ranges_of_topic p topic = take topic.count (drop topic.first (scalar_ranges p))
 
--- .. by the topic's place
+-- the ranges of the scalars of the topic at a place
 abbrev pub topic_ranges : Tables → ℕ → List Side
 topic_ranges p k = slice_index_or (map (ranges_of_topic p) p.topics) k []
 

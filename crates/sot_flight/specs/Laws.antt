@@ -18,7 +18,7 @@ StatedNoiseIsInBounds =
     → FitsFlight p guests f → At p.plants k plant →
     IsWithin (bounds plant) (slice_index_or (stated_noise p f t) k [])
 
--- .. and no others
+-- each tick has disturbances for the plants and for no others
 abbrev pub StatedNoiseIsForPlants : Type 0
 StatedNoiseIsForPlants =
     (p : Tables) (guests : ℕ) (f : Plan) (t : ℕ) → FitsFlight p guests f

@@ -24,7 +24,7 @@ noise_of plant (Listed rows) t = row_at rows t
 noise_of plant (Drawn seed stream) t =
     drawn_from seed stream (t * length plant.noise.items) (bounds plant)
 
--- those of each of these plants
+-- the disturbances of each of these plants for tick t
 abbrev pub noises : List PlantInfo → List Sway → ℕ → List (List ℤ)
 noises [] sways t = []
 noises (plant ∷ plants) [] t = []

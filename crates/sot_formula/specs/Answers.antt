@@ -21,17 +21,18 @@ pub record IsRead (p : Tables) (bytes : List ℕ) (ws : List What) : Type 0 wher
   pub placed : ArePlaced ws
   pub there : AreThere p ws
 
--- they are the text of no formula
+-- the bytes are the text of no formula
 abbrev pub IsNoFormula : List ℕ → Type 0
 IsNoFormula bytes = (f : Phrase) → IsFormulaText bytes f → ⊥
 
--- they are the text of one, and some reference in it names nothing
+-- the bytes are the text of a formula, and some reference in it names nothing
 pub record IsUnknown (p : Tables) (bytes : List ℕ) : Type 0 where
   pub phrase : Phrase
   pub text : IsFormulaText bytes phrase
   pub unknown : HasUnknown p phrase
 
--- each reference names something, and some literal has another scale than that
+-- the bytes are the text of a formula, each reference in it names something, and some literal has
+-- another scale than that
 pub record IsOfOtherScale (p : Tables) (bytes : List ℕ) : Type 0 where
   pub phrase : Phrase
   pub text : IsFormulaText bytes phrase

@@ -45,7 +45,7 @@ IsThere p (quantities.State k v) =
     (plant : PlantInfo) × At p.plants k plant × (v < length plant.states.items)
 IsThere p (quantities.Mode m) = m < length p.modules
 
--- it has all that these parts compare
+-- a program has all that these parts compare
 abbrev pub AreThere : Tables → List What → Type 0
 AreThere p ws =
     (i : ℕ) (q : _) (by : _) (number : _) → At ws i (whats.Compared q by number) → IsThere p q

@@ -10,12 +10,12 @@ abbrev pub LineMayBeAt3 : Global → Type 0
 LineMayBeAt3 g =
     AreInBoxes (line g) (pos 2 ∷ []) ((pos 0 ∷ []) ∷ []) ((pos 3 ∷ []) ∷ []) 1
 
--- observed at 4 it is not
+-- observed at 4 it is not where its model allows it to be
 abbrev pub LineMayNotBeAt4 : Global → Type 0
 LineMayNotBeAt4 g =
     AreInBoxes (line g) (pos 2 ∷ []) ((pos 0 ∷ []) ∷ []) ((pos 4 ∷ []) ∷ []) 1 → ⊥
 
--- .. which is told with the interval and the number
+-- that it is observed at 4 is told with the interval and the number
 abbrev pub LineIsOutsideAt4 : Global → Type 0
 LineIsOutsideAt4 g =
     IsFirstOutside (line g) (pos 2 ∷ []) ((pos 0 ∷ []) ∷ []) ((pos 4 ∷ []) ∷ [])

@@ -52,7 +52,7 @@ DecideInOrder from end [] = from ≤ end
 DecideInOrder from end (Decided m mode ∷ es) = (from ≤ m) × DecideInOrder (suc m) end es
 DecideInOrder from end (Fired n firing ∷ es) = ⊥
 
--- the same of firings
+-- firings, each node at most once and in declared order, from this one on and below that one
 abbrev pub FireInOrder : ℕ → ℕ → List Told → Type 0
 FireInOrder from end [] = from ≤ end
 FireInOrder from end (Decided m mode ∷ es) = ⊥

@@ -29,7 +29,7 @@ pub(crate) fn leave_nodes(nodes: &[NodeInfo], time: u32, left: &mut [bool])
     }
 }
 
-/// The same of decisions.
+/// The decisions that are due at a time are left to be made, beside those that are left already.
 pub(crate) fn leave_decisions(modules: &[ModuleInfo], time: u32, left: &mut [bool])
     requires periods { (m : ℕ) (a : Module) → At modules.now m a
         → (a.offset < a.period) × (a.period ≤ 1000) }

@@ -136,7 +136,8 @@ pub fn first_outside(
     None
 }
 
-/// The same, where models are trusted; and none elsewhere.
+/// The first state variable that is observed outside the least interval of its next value, as
+/// `first_outside` tells it, where models are trusted; none where they are not. Takes no memory.
 pub(crate) fn outside_where(
     trusted: bool,
     p: &Typed,

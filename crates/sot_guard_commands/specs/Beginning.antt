@@ -25,7 +25,7 @@ abbrev pub SaysIn : (Ears → ℕ → List (List ℕ) → List ℕ → Type 0) �
     → Type 0
 SaysIn SaysLines b said bytes text = SaysLines b said (lent_lines bytes) text
 
--- .. of which there are none where the source was seen to end before
+-- what is said of bytes by their lines; there are no bytes where the source was seen to end before
 abbrev pub SaysFrom : Bool → (Ears → ℕ → List (List ℕ) → List ℕ → Type 0) → Ears → ℕ → List ℕ
     → List ℕ → Type 0
 SaysFrom ended SaysLines b said bytes text =

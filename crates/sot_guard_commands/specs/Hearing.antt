@@ -23,7 +23,7 @@ use Rattle.sot_guard_commands.specs.Says.{IsAtEnds, IsLong}
 abbrev pub IsOneLine : List ℕ → List ℕ → Type 0
 IsOneLine passed line = lent_lines passed ≡ line ∷ []
 
--- so long is the next line; or there is none any more
+-- the length of the next line; or there is none any more
 abbrev pub IsNextLine : Option ℕ → Option (List ℕ) → Ear → Type 0
 IsNextLine (Some len) left e = IsLine len left e
 IsNextLine None left e = (e.ended ≡ true) × (e.buffer ≡ []) × IsAtEnd left
@@ -59,7 +59,8 @@ TakesFirst a line b (Err stops.Missing) = ⊥
 TakesFirst a line b (Err stops.Source) = ⊥
 TakesFirst a line b (Err stops.Sink) = ⊥
 
--- .. of the first so many bytes that wait
+-- the line of the first so many bytes that wait says where the next plant is observed; or it does
+-- not, and why
 pub record PassesFirst (a b : Starting) (len : ℕ) (e f : Ear) (result : Result (Unit {0}) Stop)
     : Type 0 where
   pub line : List ℕ
@@ -78,7 +79,7 @@ pub record HearsFirst (a b : Starting) (e f : Ears) : Type 0 where
   pub whole : f.ended ≡ false → ends_line passed ≡ true
   pub settled : IsSettled f.left f.waiting f.ended
 
--- it does not, and why
+-- the next line does not say where the next plant is observed, and why
 abbrev pub StopsFirst : Starting → Ears → Ears → Stop → Type 0
 StopsFirst a e f (stops.Misheard why) = Misses (IsNoStart a) e f why
 StopsFirst a e f stops.Missing = Passes e f [] × IsAtEnds f
@@ -97,7 +98,7 @@ pub record HearsFirsts (a b : Starting) (e f : Ears) : Type 0 where
   pub whole : (f.ended ≡ true) ⊎ (ends_line passed ≡ true)
   pub settled : IsSettled f.left f.waiting f.ended
 
--- .. up to one that does not
+-- lines say where plants are observed first, up to one that does not
 pub record HaltsFirsts (a : Starting) (e f : Ears) (halt : Halt) : Type 0 where
   pub passed : List ℕ
   pub middle : Ears
@@ -124,7 +125,7 @@ AnswersLine t line u x y (Err stops.Source) = ⊥
 AnswersLine t line u x y (Err stops.Sink) =
     (h : HearsLine t line u) × CutsOff x y (text_of h.answer)
 
--- .. of the first so many bytes that wait
+-- the line of the first so many bytes that wait is heard, and answered; or it is not, and why
 pub record PassesTaken (t u : Talking) (len : ℕ) (e f : Ear) (x y : Mouth)
     (result : Result (Unit {0}) Stop) : Type 0 where
   pub line : List ℕ
@@ -177,7 +178,7 @@ pub record HearsAll (t u : Talking) (first : ℕ) (e f : Ears) (x y : Mouth) : T
   pub answers : Answers t (lent_lines passed) u text
   pub over : IsOver u ⊎ IsAtEnds f ⊎ (first + length (lent_lines passed) ≡ 2 ^ 64 - 1)
 
--- .. up to one that is not heard, or not answered
+-- lines are heard and answered, up to one that is not heard, or not answered
 pub record HaltsAll (t : Talking) (first : ℕ) (e f : Ears) (x y : Mouth) (halt : Halt) : Type 0
   where
     pub passed : List ℕ

@@ -219,7 +219,7 @@ SaysAll b said bytes text =
     Divides b said bytes text ⊎ LacksMark b said bytes text ⊎ ComesTooLong b said bytes text
     ⊎ ((said ≡ 4) × (text ≡ [])) ⊎ IsSilent said text
 
--- .. and at a word the usage, and nothing is read
+-- what is said of all that was read; and at a word the usage, where nothing is read
 abbrev pub Says : List (String Global) → Ears → ℕ → List ℕ → List ℕ → Type 0
 Says words b said bytes text =
     ((words ≢ []) × (bytes ≡ []) × (((said ≡ 2) × (text ≡ usage_text)) ⊎ IsSilent said text))

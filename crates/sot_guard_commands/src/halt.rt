@@ -25,7 +25,7 @@ pub(crate) enum Stop {
     Sink,
 }
 
-/// The same, and the number of the line that was heard or waited for.
+/// Why nothing more is heard, and the number of the line that was heard or waited for.
 #[derive(Clone, Copy, Debug, PartialEq, Eq)]
 pub(crate) struct Halt {
     pub line: usize,

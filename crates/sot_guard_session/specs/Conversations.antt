@@ -17,7 +17,7 @@ pub data Heard : Type 0 where
   Go : Heard
   Points : (points : List (List ℤ)) → Heard
 
--- it is taken, and changes this
+-- what the robot says is taken, and changes this
 abbrev pub Hears : Hearing → Heard → Hearing → Type 0
 Hears h (Input topic value) k = TakesInput h topic value k
 Hears h (Draft n draft) k = TakesDraft h n draft k
@@ -47,7 +47,8 @@ TrustedSessionsAreObserved =
     (h k : Hearing) (xs : List Heard) → HearsAll h xs k → k.guarding.trusted ≡ true
     → IsObserved h k
 
--- .. and from a safer opening every plant is observed inside its modules' safe regions
+-- from a safer opening, as long as no plant was told to be outside its model, every plant is
+-- observed inside its modules' safe regions
 abbrev pub TrustedSessionsAreSafe : Type 0
 TrustedSessionsAreSafe =
     (start : List (List ℤ)) (h k : Hearing) (xs : List Heard) → MeetsTableRules (program_of h)

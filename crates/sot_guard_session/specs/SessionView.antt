@@ -13,7 +13,8 @@ hearing s = record {
   told = s.told.items;
 }
 
--- .. and there is room for all that can be told of an instant
+-- what holds of each session: it is one that hears, with room for all that can be told of an
+-- instant
 pub record IsSession (s : Inside) : Type 0 where
   pub hears : IsHearing (hearing s)
   pub room : length s.guard.accepted.program.modules + length s.guard.accepted.program.nodes

@@ -9,7 +9,8 @@ use Rattle.sot_guard_talk.specs.Talks.{Talking}
 abbrev pub talking : Inside → Talking
 talking d = record { hearing = d.session; events = d.events }
 
--- .. and there is a point for each plant and a number for each scalar
+-- what holds of each desk: it has a point for each plant and a number for each scalar, and the
+-- names of its program are words
 pub record IsDesk (d : Inside) : Type 0 where
   pub points : length d.points.items ≡ length (program_of d.session).plants
   pub scalars : length d.scalars.items ≡ length (program_of d.session).scalars

@@ -29,7 +29,8 @@ TrustedTalksAreObserved =
     (t u : Talking) (lines : List (List ℕ)) → HearsLines t lines u
     → u.hearing.guarding.trusted ≡ true → IsObserved t.hearing u.hearing
 
--- .. and from a safer opening every plant is observed inside its modules' safe regions
+-- from a safer opening, as long as no plant was told to be outside its model, every plant is
+-- observed inside its modules' safe regions
 abbrev pub TrustedTalksAreSafe : Type 0
 TrustedTalksAreSafe =
     (start : List (List ℤ)) (t u : Talking) (lines : List (List ℕ)) → MeetsTableRules (tables_of t)

@@ -32,7 +32,7 @@ told_of t = t.hearing.told
 abbrev pub AreAllSc : Talking → Type 0
 AreAllSc t = (m : ℕ) → mode_of t.hearing.guarding.at m ≡ Sc
 
--- .. where the models are not trusted
+-- every module is in mode Sc where the models are not trusted
 abbrev pub AreScInDistrust : Talking → Type 0
 AreScInDistrust t = is_trusted t ≡ false → AreAllSc t
 
@@ -68,7 +68,7 @@ TrustEndsByAnOutside =
     (t u : Talking) (line : List ℕ) (h : HearsLine t line u) → is_trusted t ≡ true
     → is_trusted u ≡ false → (h.heard ≡ Tick) × TellsOutside t u h.answer
 
--- .. and there it ends: every module is in mode Sc from then on
+-- a tick after which a plant is told to be outside ends the trust, and every module is in mode Sc
 abbrev pub OutsideEndsTrust : Type 0
 OutsideEndsTrust =
     (t u : Talking) (line : List ℕ) (h : HearsLine t line u) → h.heard ≡ Tick → h.answer ≢ []

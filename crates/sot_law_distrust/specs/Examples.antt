@@ -14,7 +14,7 @@ use Rattle.sot_guard.specs.declared.told.Told.TheVariants.{Decided, Fired}
 use Rattle.sot_guard.specs.Instants.{Happens}
 use Rattle.sot_law_distrust.specs.Distrust.{put_by_others}
 
--- with its decision made, in this mode
+-- the running example at time 20 and at 8, with its decision made for this mode
 abbrev pub has_decided : Mode → Configuration
 has_decided mode = record (deciding 20 mode (pos 8)) { left_dm = false ∷ [] }
 
@@ -23,12 +23,12 @@ abbrev pub LineLeavesSc : Global → Type 0
 LineLeavesSc g =
     Happens true (line1 g) 0 [] (deciding 20 Sc (pos 8)) (Decided 0 Ac) (has_decided Ac)
 
--- one that does not stays in mode Sc
+-- a guard that does not trust the model stays in mode Sc
 abbrev pub LineStaysSc : Global → Type 0
 LineStaysSc g =
     Happens false (line1 g) 0 [] (deciding 20 Sc (pos 8)) (Decided 0 Sc) (has_decided Sc)
 
--- .. and does nothing else
+-- a guard that does not trust the model does not decide for the advanced node
 abbrev pub LineOnlyStaysSc : Global → Type 0
 LineOnlyStaysSc g =
     (D : Configuration) → Happens false (line1 g) 0 [] (deciding 20 Sc (pos 8)) (Decided 0 Ac) D
@@ -44,7 +44,7 @@ abbrev pub LineKeepsCommand : Global → Type 0
 LineKeepsCommand g =
     put_by_others (line g) (commands_to 0 (pos 2) ∷ []) (pos 1 ∷ []) ≡ pos 1 ∷ []
 
--- .. until the safe node drafts 0
+-- the advanced node drafts 2 and then the safe node 0: the command is 0
 abbrev pub LineHoldsSafeDraft : Global → Type 0
 LineHoldsSafeDraft g =
     put_by_others (line g) (commands_to 0 (pos 2) ∷ commands_to 1 (pos 0) ∷ []) (pos 1 ∷ [])

@@ -36,7 +36,7 @@ ExactPlacesAreOne =
     (bytes : List ℕ) (ahead : Ahead) (fault other : Syntax) → IsFaultOf bytes ahead fault
     → IsFaultOf bytes ahead other → IsExact fault → IsExact other → fault ≡ other
 
--- and where there is such a place, what nests too deep stands before it
+-- where there is a first token with which no text goes on, what nests too deep stands before it
 abbrev pub DeepComesBefore : Type 0
 DeepComesBefore =
     (ahead : Ahead) (wrong token : Lexeme) (w : IsFirstWrong ahead wrong)

@@ -25,7 +25,7 @@ AreTokens (t ∷ ts) = IsToken t × AreTokens ts
 abbrev pub Begins : List Lexeme → Type 0
 Begins ts = (more : List Lexeme) × AreTokens more × IsText (ts ++ more)
 
--- and none does, whatever stands behind them
+-- no text of the grammar begins with these tokens, whatever stands behind them
 abbrev pub BeginsNone : List Lexeme → Type 0
 BeginsNone ts = (more : List Lexeme) → IsText (ts ++ more) → ⊥
 

@@ -18,7 +18,7 @@ line_flight = record {
   numbers = 2;
 }
 
--- the same with no tick
+-- the flight of `line_flight` with no tick
 abbrev pub instant_flight : Plan
 instant_flight = record line_flight { horizon = 0; events = 3; numbers = 0 }
 

@@ -42,7 +42,7 @@ module _ (g : Global) where
         numbers = 200000;
       })
 
-  -- and with one input more they are too many
+  -- 100,000 ticks and 100,001 inputs are too many events
   abbrev pub OneEventTooMany : Type 0
   OneEventTooMany =
       counted one_plant 100000 [] (replicate 100001 bare) [] []
@@ -62,7 +62,7 @@ module _ (g : Global) where
         numbers = 1000000;
       })
 
-  -- and with an input of one number they are too many
+  -- 100,000 ticks of ten numbers and an input of one number are too many numbers
   abbrev pub OneNumberTooMany : Type 0
   OneNumberTooMany =
       counted five_plants 100000 [] (single ∷ []) [] []

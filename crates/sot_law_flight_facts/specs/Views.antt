@@ -51,7 +51,7 @@ first_view =
       versions_there = refl;
     }
 
--- there is such a view
+-- the view from before any entry is one of the relay's node
 abbrev pub FirstViewIsThere : Global → Type 0
 FirstViewIsThere g = IsView (relay g) [] (standing 0 (pos 0) (pos 0)) 0 first_view
 
@@ -61,19 +61,20 @@ InputEndsView g =
     (v : View) → IsView (relay g) [] (standing 0 (pos 0) (pos 0)) 0 v
     → IsCurrent (board g (input (pos 5) ∷ []) (standing 0 (pos 5) (pos 0))) v → ⊥
 
--- .. and one from after it is
+-- a view from after the input of 5 is current
 abbrev pub LaterViewIsCurrent : Global → Type 0
 LaterViewIsCurrent g =
     (v : View) → IsView (relay g) (input (pos 5) ∷ []) (standing 0 (pos 5) (pos 0)) 0 v
     → IsCurrent (board g (input (pos 5) ∷ []) (standing 0 (pos 5) (pos 0))) v
 
--- .. also once a topic that the node does not read was written
+-- a view from after the input of 5 is current also once a topic was written that the node does not
+-- read
 abbrev pub OtherTopicsLeaveView : Global → Type 0
 OtherTopicsLeaveView g =
     (v : View) → IsView (relay g) (input (pos 5) ∷ []) (standing 0 (pos 5) (pos 0)) 0 v
     → IsCurrent (board g (input (pos 5) ∷ copies (pos 5) ∷ []) (standing 0 (pos 5) (pos 5))) v
 
--- .. but not at a later time
+-- a view is not current at a later time
 abbrev pub TimeEndsView : Global → Type 0
 TimeEndsView g =
     (v : View) → IsView (relay g) [] (standing 0 (pos 0) (pos 0)) 0 v

@@ -38,7 +38,7 @@ InputsAreTheFlights =
     × ((Q : Position) → FlownSoFar p jitter f entries Q
     → inputs_told entries ++ Q.inputs ≡ f.inputs)
 
--- it has as many ticks as its time says, and a whole one as many as the horizon
+-- a history so far has as many ticks as its time says, and a whole one as many as the horizon
 abbrev pub TicksAreTheTime : Type 0
 TicksAreTheTime =
     (p : Tables) (jitter : ℕ) (f : Plan) (entries : List Logged)
@@ -53,7 +53,7 @@ TicksAreStated =
     → (i time : ℕ) (noise states : List ℤ) → At entries i (TickAt time noise states)
     → (time < f.horizon) × (noise ≡ joined (stated_noise p f time))
 
--- and tells the states that the plants come to
+-- each tick tells the states that the plants come to
 abbrev pub TicksTellStates : Type 0
 TicksTellStates =
     (p : Tables) (jitter : ℕ) (f : Plan) (entries : List Logged) (time : ℕ) (noise states : List ℤ)

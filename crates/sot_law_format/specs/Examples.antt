@@ -142,8 +142,7 @@ WordsCount =
     × AreOther (sets (binary Add (x nowhere) (x nowhere) nowhere))
     (sets (binary Less (x nowhere) (x nowhere) nowhere))
 
--- so do the order of declarations, whether a topic is the environment's, and whether a node has a
--- body
+-- the order of declarations counts, and whether a topic is the environment's or a node has a body
 abbrev pub DeclarationsCount : Type 0
 DeclarationsCount =
     AreOther (record {
@@ -160,7 +159,7 @@ DeclarationsCount =
     (alone (a_node (node nowhere (Some no_statement))))
     × AreOther (record { decls = [] }) (alone (a_topic (topic nowhere false (codes "x"))))
 
--- and what stands behind `else`, and a negation of a number is not the negative number
+-- what stands behind `else` counts, and a negation of a number is not the negative number
 abbrev pub BranchesCount : Type 0
 BranchesCount =
     AreOther (does (branched (truth true nowhere) no_statement no_statement nowhere))
@@ -170,7 +169,7 @@ BranchesCount =
     × AreOther (sets (x nowhere)) (sets
     (named (ident nowhere (codes "x")) (Some (ident nowhere (codes "x")))))
 
--- but an empty block behind `else` is the same as no `else`
+-- an empty block behind `else` is the same as no `else`
 abbrev pub EmptyElseIsNone : Type 0
 EmptyElseIsNone =
     (word : Keyword (codes "else")) (opening : Sign (codes "{")) (closing : Sign (codes "}"))

@@ -115,7 +115,7 @@ EachAsStated g =
     → EachAnswered (λ guest. guest) (admitted_relay g) asked_flight asked_history (other ∷ was ∷ [])
     (now ∷ None ∷ []))
 
--- and the other one is as it was
+-- of two guests of which the flight names the second one, the first one is as it was
 abbrev pub UnnamedAsStated : Type 0
 UnnamedAsStated =
     (other was new now : ℕ) → EachUnnamedStays asked_flight (other ∷ was ∷ []) (new ∷ now ∷ [])

@@ -38,7 +38,7 @@ AskingsGiveDrafts =
     (before : Option (List Asking)) (after : List Asking)
     → HasAnswered p jitter f n history before after → GrowsBy p n before after (drafts_of n history)
 
--- so the history determines what drafts a list gives that was told before it
+-- the history determines what drafts a list gives that was told before it
 abbrev pub OneHistoryOneListOfDrafts : Type 0
 OneHistoryOneListOfDrafts =
     (p : Tables) (jitter : ℕ) (f : Plan) (n : ℕ) (history : List Logged)

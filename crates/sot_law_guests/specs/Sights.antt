@@ -70,8 +70,8 @@ pub record HasFollowed (p : Tables) (jitter : ℕ) (f : Plan) (n : ℕ) (node : 
   pub seen : (k : ℕ) (one : Asking) → At more k one
       → WereSeenInTime p jitter f n node history k one.values
 
--- so it is of each guest that a flight names, where it still tells its list; here a guest is what
--- it tells
+-- each guest that a flight names, where it still tells its list, has followed the firings of its
+-- node; here a guest is what it tells
 abbrev pub GuestsAreAnswered : Type 0
 GuestsAreAnswered =
     (a : Admitted) (f : Plan) (history : List Logged) (before after : List (Option (List Asking)))

@@ -50,7 +50,8 @@ TubesAreSafe =
     → IsWellCertified p cert.jitter cert → KeepsTubes p cert.jitter C
     → IsSafeNow p cert.jitter C
 
--- .. and each of its plants has a next box where a tick may come
+-- where a configuration of a certified program keeps tubes, each plant has a next box where a tick
+-- may come
 abbrev pub TubesHaveNextBoxes : Type 0
 TubesHaveNextBoxes =
     (p : Tables) (cert : Cert) (C : Configuration) → MeetsTableRules p

@@ -16,7 +16,8 @@ RanksRecover =
     (p : Tables) (cert : Cert) (m : ℕ) (g : Guarded p cert m) (k : ℕ) → IsTyped p
     → IsWellCertified p cert.jitter cert → Reaches g k → IsRecovered g k
 
--- and so in runs, and what lies between two firings of its safe node is a hold
+-- in runs a module of a certified program is recovered within as many holds as its rank, and what
+-- lies between two firings of its safe node is a hold
 abbrev pub RunsRecover : Type 0
 RunsRecover =
     (p : Tables) (cert : Cert) (m : ℕ) (g : Guarded p cert m) (k : ℕ) → IsTyped p

@@ -15,7 +15,7 @@ PointsOpen =
     (p : Tables) (start : List (List ℤ)) → AreStarts p start
     → (C : Configuration) × IsOpening p start C
 
--- and there is one at most
+-- at any points there is one opening at most
 abbrev pub OpeningsAreUnique : Type 0
 OpeningsAreUnique =
     (p : Tables) (start : List (List ℤ)) (C D : Configuration) → IsOpening p start C

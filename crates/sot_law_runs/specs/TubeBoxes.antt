@@ -50,7 +50,8 @@ AnyReachIsInTheBox =
     → IsWithin first s →
     ComesTo p plant (IsWithin (input_ranges p plant)) s j o → IsPointOf box o
 
--- and the same with commands that are held, which lie in the intervals of the tube's commands
+-- with commands that are held, and lie in the intervals of the tube's commands, what a plant can
+-- come to after exactly j ticks from a point of the first box is a point of the box after j ticks
 abbrev pub HeldReachIsInTheBox : Type 0
 HeldReachIsInTheBox =
     (p : Tables) (plant : PlantInfo) (commands : List Side) (hulls : List (List Side))

@@ -45,7 +45,8 @@ CellsAlike =
     → Certifies t (Ok c) → Certifies u (Ok d) → At t.modules m a → HasCells c m x → HasCells d m y
     → (x.closed.boxes ≡ y.closed.boxes) × (x.reach.boxes ≡ y.reach.boxes)
 
--- and where each fits its tables, they have one jitter and the same entries
+-- certificates that are made for tables of one program, and fit them, have one jitter and the same
+-- entries
 abbrev pub EntriesAlike : Type 0
 EntriesAlike =
     (t u : Tables) (c d : Cert) → tables_seen t ≡ tables_seen u → FitsTables t c → FitsTables u d

@@ -14,7 +14,7 @@ HistoriesAlikeSoFar =
     → tables_seen t ≡ tables_seen u
     → FlownSoFar t jitter f entries Q → FlownSoFar u jitter f entries Q
 
--- so a whole history is a whole one
+-- a whole history of a flight is a whole one of it by either of the tables
 abbrev pub HistoriesAlike : Type 0
 HistoriesAlike =
     (t u : Tables) (jitter : ℕ) (f : Plan) (entries : List Logged) → tables_seen t ≡ tables_seen u

@@ -8,7 +8,8 @@ pub fn modules_run_alike()
     ensures { ModulesRunAlike }
 {}
 
-/// So one that is alone is so in each of them.
+/// In programs that look the same but for their modules, of two modules with the same plant and
+/// the same safe node both are alone or none is.
 pub fn modules_stay_alone()
     ensures { ModulesStayAlone }
 {}

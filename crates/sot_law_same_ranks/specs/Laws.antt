@@ -20,7 +20,7 @@ RanksAlike =
     LookTheSame t u c d → ((k : ℕ) → IsRank g k → IsRank h k)
     × ((s : List ℤ) → HasNoRank g s → HasNoRank h s)
 
--- so a module has one rank at most, or none, with one point, whichever of the tables is asked
+-- a module has one rank at most, or none, with one point, whichever of the tables is asked
 abbrev pub OneAnswer : Type 0
 OneAnswer =
     (t u : Tables) (c d : Cert) (m : ℕ) (g : Guarded t c m) (h : Guarded u d m) →

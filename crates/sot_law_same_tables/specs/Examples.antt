@@ -30,7 +30,7 @@ OperandsCount =
     × AreOtherFormulas (sum at) (binary Add (number (pos 1)) (place 0) at)
     × AreOtherFormulas (rescaled (place 0) 1 2 at) (rescaled (place 0) 1 3 at)
 
--- so do the target of a statement, and whether it is a local or a topic
+-- the target of a statement counts, and whether it is a local or a topic
 abbrev pub TargetsCount : Type 0
 TargetsCount =
     (at : Span) → AreOtherDeeds (assigned 2 (sum at) at) (assigned 3 (sum at) at)

@@ -26,7 +26,7 @@ abbrev pub MadeTablesAreTheLine : Type 0
 MadeTablesAreTheLine =
     (g : Global) → plain_tables (tables_of examples.line) ≡ plain_tables (tables_seen (line g))
 
--- so are the worked tables
+-- the worked tables of the running example are its tables
 abbrev pub WorkedTablesAreTheLine : Type 0
 WorkedTablesAreTheLine =
     (g : Global) (p : Tables) → IsLine IsMove p

@@ -142,8 +142,8 @@ fn put_block(
     Ok(())
 }
 
-// The same of the block that begins there, where its hull meets the box; else none of its boxes
-// does.
+// Puts the places of the block that begins at `from` behind those found whose boxes meet the box.
+// Where its hull does not meet the box, none of its boxes does.
 fn put_block_of(
     boxes: &[BoxN],
     from: usize,

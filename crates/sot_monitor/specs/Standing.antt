@@ -20,7 +20,8 @@ last_of lasts k = slice_index_or lasts k 0
 abbrev pub AreLasts : List What → List ℕ → List Moment → Type 0
 AreLasts ws lasts Ms = (i : ℕ) (f : Formula) → IsPart ws i f → IsLast Ms f (last_of lasts i)
 
--- they stay right, if this moment comes behind so many others
+-- numbers of the parts that are right for so many moments stay right, if this moment comes behind
+-- them
 abbrev pub StepsOn : List What → List ℕ → List ℕ → ℕ → Moment → Type 0
 StepsOn ws old new added s =
     (Ms : List Moment) → length Ms ≡ added → AreLasts ws old Ms → AreLasts ws new (Ms ++ s ∷ [])

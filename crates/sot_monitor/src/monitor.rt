@@ -36,7 +36,7 @@ impl Model for Monitor {
     ghost invariant = { IsMonitor };
 }
 
-// So many zeros.
+// So many numbers, each of them 0.
 fn zeros(alloc: Global, count: usize) -> Result<Vec<u32>, AllocError>
     ensures { IfOk result (λ v. v.items ≡ replicate count 0) }
 {

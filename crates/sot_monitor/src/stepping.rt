@@ -53,7 +53,7 @@ fn holds_now<L: Looks>(what: What, i: usize, own: u32, lasts: &[u32], added: u32
     }
 }
 
-// The same of the part at a place.
+// Whether the part at a place holds now.
 fn part_holds<L: Looks>(
     whats: &[What],
     i: usize,

@@ -51,7 +51,8 @@ pub record HasAnswered (p : Tables) (jitter : ℕ) (f : Plan) (n : ℕ) (history
   pub count : length more ≡ length (drafts_of n history)
   pub fits : (k : ℕ) (one : Asking) → At more k one → FitsFiring p jitter f n history k one
 
--- the same where the list is told afterwards; where it is not, nothing
+-- the list of askings has answered a node's firings, where it is told afterwards; where it is not,
+-- nothing is said of it
 abbrev pub Answered : Tables → ℕ → Plan → ℕ → List Logged → Option (List Asking)
     → Option (List Asking) → Type 0
 Answered p jitter f n history before None = Unit {0}

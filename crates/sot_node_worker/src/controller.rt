@@ -20,7 +20,7 @@ pub trait Controller: Drop {
             (asking (viewed_numbers view.now) draft.new) };
 }
 
-/// So guests of several types fly one flight.
+/// A guest in a box, so that guests of several types fly one flight.
 impl Controller for Box<dyn Controller + Send> {
     ghost asked = { λ b. (Controller-box b).asked b.value };
 

@@ -51,7 +51,7 @@ fn boxes_of(alloc: Global, region: &Region) -> Result<Vec<BoxN>, AllocError>
     Ok(boxes)
 }
 
-// So many numbers.
+// So many numbers, each of them 0.
 fn zeros(alloc: Global, size: usize) -> Result<Vec<u32>, AllocError>
     ensures { IfOk result (λ v. length v.items ≡ size) }
 {

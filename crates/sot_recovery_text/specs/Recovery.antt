@@ -22,7 +22,7 @@ pub record Recovers (t : Tables) (cert : Cert) (m n : ℕ) : Type 0 where
   pub holds : FiringsAreHolds parts
   pub trusts : TrustsAfter parts n
 
--- it has no rank: the cells of all ranks leave this point of its safe region out
+-- module m has no rank: the cells of all ranks leave this point of its safe region out
 pub record NeverRecovers (t : Tables) (cert : Cert) (m : ℕ) (point : List ℤ) : Type 0 where
   pub parts : Guarded t cert m
   pub none : HasNoRank parts point

@@ -58,7 +58,8 @@ fn region_of(alloc: Global, width: usize, boxes: &[BoxN]) -> Result<Option<Regio
     Ok(Some(region))
 }
 
-// The same with its index, where they are at most so many, and one at least.
+// The boxes as a region with its index, where there is one at least and at most `most`; none where
+// one of them is not of so many axes, or has too long an end.
 fn list_of(
     alloc: Global,
     width: usize,

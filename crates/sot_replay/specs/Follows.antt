@@ -12,7 +12,7 @@ pub record AreFollowed (lines : List (List ℕ)) (number : ℕ) (left : List (Li
   pub is : lines ≡ told ++ left
   pub next_is : next ≡ number + length told
 
--- the flight has gone on by them
+-- the flight has gone on by the lines that are followed
 pub record HasFollowed (old new : Standing) (lines : List (List ℕ)) (number : ℕ)
     (left : List (List ℕ)) (next : ℕ) : Type 0 where
   pub accepted : new.accepted ≡ old.accepted
@@ -24,7 +24,7 @@ pub record HasFollowed (old new : Standing) (lines : List (List ℕ)) (number : 
       → Tell old.accepted.program old.accepted.cert.jitter old.plan (front ++ told) new.entries
       new.position
 
--- .. to its end, with the last line
+-- the flight has gone on by the lines that are followed, to its end with the last line
 pub record HasEnded (old new : Standing) (lines : List (List ℕ)) (number : ℕ) (left : List (List ℕ))
     (next : ℕ) : Type 0 where
   pub accepted : new.accepted ≡ old.accepted

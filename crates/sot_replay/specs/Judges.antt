@@ -74,17 +74,17 @@ SpellsInput p line time topic whole list =
     (t : ℕ) × (value : List ℤ) × IsSpelled p line (InputLine t topic value) × Reads time (pos t)
     × Holds whole list value
 
--- .. a decision
+-- the line spells a decision, at a time that is known as far as it has 64 bits
 abbrev pub SpellsDecision : Tables → List ℕ → Option ℤ → ℕ → Type 0
 SpellsDecision p line time decider =
     (t : ℕ) × (mode : Mode) × IsSpelled p line (DecideLine t decider mode) × Reads time (pos t)
 
--- .. the end
+-- the line spells the end, with a count of ticks that is known as far as it has 64 bits
 abbrev pub SpellsEnd : Tables → List ℕ → Option ℤ → Type 0
 SpellsEnd p line ticks =
     (h events refused : ℕ) × IsSpelled p line (EndLine h events refused) × Reads ticks (pos h)
 
--- .. a firing at this time
+-- the line spells a firing at this time
 abbrev pub SpellsFiringAt : Tables → ℕ → List ℕ → ℕ → Option (List (Option ℤ)) → Type 0
 SpellsFiringAt p time line node draft =
     (enabled : Bool) × (slots : List (Option (Bool × ℤ)))
@@ -96,23 +96,25 @@ FiresAt p time line node =
     (s : Spelled) → IsSpelled p line s
     → (enabled : Bool) × (slots : List (Option (Bool × ℤ))) × (s ≡ FireLine time node enabled slots)
 
--- .. at a time that is known as far as it has 64 bits
+-- what the line spells, if it spells anything, is a firing of this node, at a time that is known
+-- as far as it has 64 bits
 abbrev pub BeginsAsFiring : Tables → List ℕ → Option ℤ → ℕ → Type 0
 BeginsAsFiring p line time node =
     (node < length p.nodes) × ((s : Spelled) → IsSpelled p line s → BeginsFiring time node s)
 
--- what the line spells, if it spells anything, is a tick at a time that is known so
+-- what the line spells, if it spells anything, is a tick at a time that is known as far as it has
+-- 64 bits
 abbrev pub BeginsAsTick : Tables → List ℕ → Option ℤ → Type 0
 BeginsAsTick p line time = (s : Spelled) → IsSpelled p line s → BeginsTick time s
 
--- .. at any time
+-- what the line spells, if it spells anything, is a tick, at any time
 abbrev pub SpellsTicks : Tables → List ℕ → Type 0
 SpellsTicks p line =
     (s : Spelled) → IsSpelled p line s
     → (t : ℕ) × (noise : List ℤ) × (states : List ℤ) × (s ≡ TickLine t noise states)
 
--- what is read of such a line: nothing where it spells nothing, or whether the list holds its
--- disturbances
+-- what is read of the line of a tick: nothing where it spells nothing, or whether the list holds
+-- its disturbances
 abbrev pub ReadsTick : Tables → List ℕ → List ℤ → Option Bool → Type 0
 ReadsTick p line list None = (s : Spelled) → IsSpelled p line s → ⊥
 ReadsTick p line list (Some whole) =

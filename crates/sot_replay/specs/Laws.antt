@@ -22,8 +22,9 @@ ToldLinesGoOn =
     → Tell b.accepted.program b.accepted.cert.jitter b.plan front b.entries b.position
     → GoesOn b.accepted.program b.accepted.cert.jitter b.plan front
 
--- with a line more they do so exactly where it is the line of an entry with which the flight goes
--- on, or the last line at the flight's end
+-- lines that tell the history of a flight so far, and a line more, begin the trace of a whole one
+-- exactly where that is the line of an entry with which the flight goes on, or the last line at
+-- the flight's end
 abbrev pub NextLinesGoOn : Type 0
 NextLinesGoOn =
     (b : Standing) (front : List (List ℕ)) (line : List ℕ) → IsStanding b
@@ -34,7 +35,8 @@ NextLinesGoOn =
     ⊎ (IsEnd b.accepted.program b.plan b.position
     × (line ≡ last_line b.accepted.program b.entries)))
 
--- with a line for which a test fails they do not
+-- lines that tell the history of a flight so far, and a line for which a test fails, begin no
+-- trace
 abbrev pub FailingLinesStop : Type 0
 FailingLinesStop =
     (b : Standing) (front : List (List ℕ)) (line : List ℕ) (kind : LineKind) → IsStanding b

@@ -8,13 +8,15 @@ pub fn told_lines_go_on()
     ensures { ToldLinesGoOn }
 {}
 
-/// With a line more they do so exactly where it is the line of an entry with which the flight goes
-/// on, or the last line at the flight's end.
+/// Lines that tell the history of a flight so far, and a line more, begin the trace of a whole
+/// history exactly where that is the line of an entry with which the flight goes on, or the last
+/// line at the flight's end.
 pub fn next_lines_go_on()
     ensures { NextLinesGoOn }
 {}
 
-/// With a line for which a test fails they do not.
+/// Lines that tell the history of a flight so far, and a line for which a test fails, begin the
+/// trace of no whole history of it.
 pub fn failing_lines_stop()
     ensures { FailingLinesStop }
 {}

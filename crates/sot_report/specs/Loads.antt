@@ -73,7 +73,8 @@ FailsTree p parts guests (faults.Cert fault) =
 FailsTree p parts guests (faults.Flight fault) =
     (t : Tables) × Resolves p t × FailsTables t parts guests (faults.Flight fault)
 
--- the same of the program that a text spells
+-- what was loaded is what the text of a program and the other sections say; or what is wrong with
+-- them first
 abbrev pub LoadsText : Parts → ℕ → Loaded → Type 0
 LoadsText parts guests l = (p : Program) × Spells parts.program 0 p × LoadsTree p parts guests l
 

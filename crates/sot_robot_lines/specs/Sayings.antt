@@ -45,7 +45,7 @@ said_text p (DraftSaid node slots) =
 said_text p GoSaid = codes "go"
 said_text p (TickSaid states) = codes "tick" ++ places_text p.plants states
 
--- it names what is there and of the right sort, and has as many numbers as this has
+-- a line names what is there and of the right sort, and has as many numbers as this has
 abbrev pub FitsSaying : Tables → Saying → Type 0
 FitsSaying p (StartSaid plant point) =
     (k : PlantInfo) × At p.plants plant k × (length point ≡ length k.states.items)

@@ -87,7 +87,8 @@ pub fn point_at<'a>(
     })
 }
 
-// The same behind a blank, the plant's name and `(`.
+// The coordinates of a plant behind a blank, its name and `(`, put behind the numbers of the list
+// as far as they have 64 bits, and the text behind the `)` behind them.
 fn place_at<'a>(
     plant: &PlantInfo,
     text: &'a [u8],

@@ -61,7 +61,7 @@ AnswersClosedCell p jitter m a i cell result =
     → At p.nodes a.sc sc → IsCoded sc acts
     → Answers (closed_cell p jitter m a plant sc acts i cell) result
 
--- of a reach cell
+-- the answer of a reach cell
 abbrev pub AnswersReachCell : Tables → ℕ → ℕ → ModuleInfo → ℕ → List Side
     → Result (Unit {0}) Refusal → Type 0
 AnswersReachCell p jitter m a i cell result =
@@ -88,7 +88,7 @@ abbrev pub AnswersReachPlace : Tables → ℕ → ℕ → ModuleInfo → List (L
 AnswersReachPlace p jitter m a cells i result =
     (cell : List Side) → At cells i cell → AnswersReachCell p jitter m a i cell result
 
--- of all closed cells, and of all reach cells
+-- the answer of all closed cells, and that of all reach cells
 abbrev pub AnswersClosedCells : Tables → ℕ → ℕ → ModuleInfo → List (List Side)
     → Result (Unit {0}) Refusal → Type 0
 AnswersClosedCells p jitter m a cells result =
@@ -102,7 +102,7 @@ AnswersReachCells p jitter m a cells result =
     (plant : PlantInfo) → At p.plants a.plant plant
     → Answers (for_each cells (reach_cell p jitter m a plant)) result
 
--- of the whole
+-- the answer of all cells of a module
 abbrev pub AnswersCells : Tables → ℕ → ℕ → ModuleInfo → Cells → Result (Unit {0}) Refusal → Type 0
 AnswersCells p jitter m a cells result =
     (plant : PlantInfo) (sc : NodeInfo) (acts : List Act) → At p.plants a.plant plant

@@ -18,14 +18,15 @@ abbrev pub IsCellReading : Tables → ℕ → List Side → Slot → Side → Ty
 IsCellReading p k cell s r =
     (hulls : List (List Side)) → AllHulls p hulls → r ≡ interval_at p (slice_set hulls k cell) s
 
--- the same of some slots
+-- what some slots show, with plant k in a cell and the others in the hulls of their safe regions
 pub record AreCellReadings (p : Tables) (k : ℕ) (cell : List Side) (ss : List Slot) (rs : List Side)
     : Type 0 where
   pub count : length rs ≡ length ss
   pub are : (hulls : List (List Side)) → AllHulls p hulls
       → rs ≡ map (interval_at p (slice_set hulls k cell)) ss
 
--- what the node drafts then, or its first trap
+-- what a node drafts with plant k in a cell and the others in their safe regions, or its first
+-- trap
 abbrev pub IsCellDraft : Tables → ℕ → List Side → NodeInfo → OrMayTrap (List Drafted) → Type 0
 IsCellDraft p k cell node result =
     (acts : List Act) (hulls : List (List Side)) → IsCoded node acts → AllHulls p hulls

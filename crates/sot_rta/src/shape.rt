@@ -78,7 +78,8 @@ pub fn check_regions(module: u32, info: &ModuleInfo) -> Result<(), Refusal>
     Ok(())
 }
 
-// The same of a module that was found.
+// The shape of a module that was found: its entry in the certificate, its periods, its outputs and
+// its regions, in this order. Takes no memory.
 fn shape_of(p: &Typed, module: u32, info: &ModuleInfo, c: &Cert) -> Result<(), Refusal>
     requires is { At p.now.modules «module» info.now }
     requires rules { MeetsTableRules p.now }

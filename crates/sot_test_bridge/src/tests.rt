@@ -29,12 +29,12 @@ topic m: int[0..9] = 0;
 node copy period 6 offset 0 { reads e; writes m; do { publish m = e; } }
 ";
 
-// There is nothing to certify.
+// The certificate of a program without modules.
 const NOTHING: &str = "%certificate
 {\"format\":1,\"modules\":{}}
 ";
 
-// Their traces, where what is counted comes over a tick later.
+// The traces of the counter and the relay, where what is counted comes over a tick later.
 const TRACES: &str = "soter trace 1
 0 fire up n=1
 0 tick

@@ -43,7 +43,7 @@ const LINE: Vehicle<'static> = Vehicle {
     safer: "[-10..10]",
 };
 
-// Its program up to its module.
+// The program of a vehicle up to its module.
 fn program(alloc: Global, vehicle: &Vehicle<'_>) -> Result<String, AllocError> {
     let (topics, inputs, next) = (vehicle.topics, vehicle.inputs, vehicle.next);
     let (writes, slow, period) = (vehicle.writes, vehicle.slow, vehicle.period);
@@ -60,7 +60,7 @@ node slow period {slow} offset 0 {{
     )
 }
 
-// And with its module and this certificate.
+// The mission of a vehicle: its program, its module and this certificate.
 fn mission(rt: &impl Abort, alloc: Global, vehicle: &Vehicle<'_>, cert: &str) -> String {
     let program = program(alloc, vehicle).expect(rt, "memory");
     let (period, safe, safer) = (vehicle.period, vehicle.safe, vehicle.safer);
@@ -169,8 +169,9 @@ fn says(
     assert_eq!(rt; told.as_str(), want.as_str(), "at {row}");
 }
 
-// The same of a vehicle in so many rows: its safe node's period, its safer region, the format, the
-// closed cells (`CLOSED` for those of the running example) and the reach cells.
+// `check` says of a vehicle what each of so many rows tells of its safe node's period, its safer
+// region, the format, the closed cells (`CLOSED` for those of the running example) and the reach
+// cells.
 fn tells_of_cells(
     rt: &(impl Abort + Threads + Wait + Sync),
     alloc: Global,
@@ -197,7 +198,7 @@ fn tells_of_cells(
     assert_eq!(rt; rows.lines().count(), count);
 }
 
-// The same of a program with an empty certificate behind it.
+// `check` says this of a program with an empty certificate behind it.
 fn tells(
     rt: &(impl Abort + Threads + Wait + Sync),
     alloc: Global,
@@ -209,7 +210,8 @@ fn tells(
     says(rt, alloc, &mission, said, row)
 }
 
-// The same of so many programs, one a line.
+// `check` says of each of so many programs, one a line, what stands behind it; each has an empty
+// certificate.
 fn tells_of_programs(
     rt: &(impl Abort + Threads + Wait + Sync),
     alloc: Global,

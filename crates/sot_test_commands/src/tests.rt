@@ -40,7 +40,7 @@ module nav {
 }
 ";
 
-// And a certificate of it.
+// A certificate of the vehicle on a line.
 const CERTIFICATE: &str = "%certificate
 {\"format\":1,\"modules\":{\"nav\":{\"closed\":[[[-40,-11]],[[-10,10]],[[11,40]]],\"reach\":[[[-10,10]]]}}}
 ";

@@ -205,7 +205,7 @@ fn safe(alloc: Global) -> Result<Region, AllocError>
     Ok(region)
 }
 
-// Such places, at a speed of at most 2.
+// The places from `low` to `high`, at a speed of at most 2.
 fn safer(alloc: Global, low: i64, high: i64) -> Result<Region, AllocError>
     requires { low ≤ℤ high }
     ensures { IfOk result (λ r. r ≡ (stops low high).safer) }

@@ -84,7 +84,8 @@ fn at_least_one(alloc: Global) -> Result<Term, AllocError>
     })
 }
 
-/// The same, where `calc` divides by the greater one of the scalar and 1, so that it never traps.
+/// The tables of a mission with one node, `calc`, that divides 10 by the greater one of the scalar
+/// 0 and 1, so that it never traps.
 pub fn divide_by_at_least_one(alloc: Global) -> Result<Typed, AllocError>
     ensures { IfOk result (IsDivide IsAtLeastOne) }
 {

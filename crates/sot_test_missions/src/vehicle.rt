@@ -213,8 +213,8 @@ pub fn line(alloc: Global) -> Result<Typed, AllocError>
     Ok(tables)
 }
 
-/// The same with a vehicle that divides its disturbance by how far it is past 5: there its tick
-/// traps.
+/// The tables of the mission of `line` with a vehicle that divides its disturbance by how far it
+/// is past 5: there its tick traps.
 pub fn drifting_line(alloc: Global) -> Result<Typed, AllocError>
     ensures { IfOk result (IsLine IsDrift) }
 {

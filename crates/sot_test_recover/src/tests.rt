@@ -13,7 +13,7 @@ use std::thread::Threads;
 
 const LONGEST: usize = 16_777_216;
 
-// Each hold takes it up to 2 a tick nearer to its middle cell, without disturbances.
+// A vehicle that each hold takes up to 2 a tick nearer to the middle cell, without disturbances.
 const CALM: &str = "topic cmd: int[-2..2] = 0;
 plant pos { state x: int; input cmd; next x = x + cmd; }
 external fast period 4 offset 0 { reads pos; writes cmd; }
@@ -23,7 +23,7 @@ node slow period 3 offset 0 {
 }
 ";
 
-// The same in a wind, by a safe node that steers towards 0.
+// A vehicle in a wind, with a safe node that steers towards 0.
 const WINDY: &str = "topic cmd: int[-2..2] = 0;
 plant pos { state x: int; input cmd; noise w: int[-1..1]; next x = x + cmd + w; }
 external fast period 4 offset 0 { reads pos; writes cmd; }
@@ -33,7 +33,7 @@ node slow period 2 offset 0 {
 }
 ";
 
-// The same by a safe node that lets it drift up to 10.
+// A vehicle in a wind, with a safe node that lets it drift up to 10.
 const DRIFTING: &str = "topic cmd: int[-2..2] = 0;
 plant pos { state x: int; input cmd; noise w: int[-1..1]; next x = x + cmd + w; }
 external fast period 4 offset 0 { reads pos; writes cmd; }

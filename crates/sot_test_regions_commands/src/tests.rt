@@ -37,7 +37,7 @@ module nav {
   plant pos;
 ";
 
-// The same with these regions.
+// The vehicle on a line, with a module of these regions.
 fn on_a_line(alloc: Global, safe: &str, safer: &str) -> Result<String, AllocError> {
     format!(in alloc; "{LINE}  safe {safe};\n  safer {safer};\n}}\n")
 }
@@ -83,8 +83,8 @@ fn answers(rt: &(impl Abort + Threads + Sync), alloc: Global, words: &str, text:
     assert_eq!(rt; said.as_str(), want, "{words} of {text}");
 }
 
-// The same of a vehicle on a line, whose `safe` is this; the answer is a mission with this `safer`
-// and this line of its certificate.
+// The answer of these words over a vehicle on a line with `safe [-40..40]` is a mission with this
+// `safer` and this line of its certificate.
 fn keeps_line(
     rt: &(impl Abort + Threads + Sync),
     alloc: Global,

@@ -182,7 +182,7 @@ fn halves(alloc: Global) -> Result<Region, AllocError>
     Ok(region)
 }
 
-// Such places, at a speed of at most 2.
+// The places from `low` to `high`, at a speed of at most 2.
 fn slow_places(alloc: Global, low: i64, high: i64) -> Result<Region, AllocError>
     requires { low ≤ℤ high }
     ensures { IfOk result (AreCells 2) }

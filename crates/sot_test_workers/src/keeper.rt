@@ -16,8 +16,8 @@ pub struct Kept {
     pub draft: Draft,
 }
 
-/// It drafts a number in its first slot, or nothing, and the other one the next time. Once it finds
-/// no memory for an asking, it tells nothing.
+/// A guest that drafts a number in its first slot, or nothing, and the other one the next time.
+/// Once it finds no memory for an asking, it tells nothing.
 #[derive(Drop)]
 pub struct Keeper {
     pub number: Option<i64>,

@@ -1,4 +1,4 @@
-//! The same texts in memory.
+//! Lines of traces, and whole traces, in memory.
 
 ghost use Rattle.std.specs.Prelude.{◌≡◌, ◌++◌, [], OnOk, IfOk};
 ghost use Rattle.std.specs.String.{string_bytes};

@@ -39,7 +39,7 @@ marked_text p k None = []
 marked_text p k (Some slot) =
     codes " " ++ (scalar_name p k ++ (mark slot.0 ++ signed_numeral slot.1))
 
--- those of a node's scalars, in order
+-- the marked numbers of a node's scalars, in order
 abbrev pub marks_text : Tables → List ℕ → List (Option (Bool × ℤ)) → List ℕ
 marks_text p [] slots = []
 marks_text p (k ∷ ks) [] = []
@@ -58,7 +58,7 @@ spelled_text p (TickLine time noise states) =
     numeral time ++ (codes " tick" ++ moves_text p.plants noise states)
 spelled_text p (EndLine ticks events refused) = end_line ticks events refused
 
--- it names what is there and of the right sort, and has as many numbers as this has
+-- a line names what is there and of the right sort, and has as many numbers as this has
 abbrev pub Fits : Tables → Spelled → Type 0
 Fits p (InputLine time topic value) =
     (info : TopicInfo) × At p.topics topic info × (info.outside ≡ true)

@@ -19,7 +19,7 @@ abbrev pub IsReading : Tables → Slot → Side → Type 0
 IsReading p (Scalar k) r = r ≡ range_of p.scalars k
 IsReading p (State k v) r = IsHullSide p k v r
 
--- the same of each slot, in order
+-- a range for each slot in order: a scalar's range, or a side of a hull
 abbrev pub AreReadings : Tables → List Slot → List Side → Type 0
 AreReadings p [] [] = Unit {0}
 AreReadings p (s ∷ ss) (r ∷ rs) = IsReading p s r × AreReadings p ss rs

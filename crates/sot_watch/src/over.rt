@@ -39,7 +39,8 @@ fn holds_now(p: &Typed, scene: &Scene, monitor: &mut Monitor) -> bool
     monitor.step(&AtScene { p, scene })
 }
 
-// The same before a tick. Before another entry there is no moment.
+// Adds a scene as the next moment before a tick, and says whether the formula holds then. Before
+// another entry there is no moment.
 fn holds_before(p: &Typed, scene: &Scene, entry: &Entry<'_>, monitor: &mut Monitor) -> bool
     requires scene { IsSceneOf p.now scene.now }
     requires there { AreThere p.now monitor.old.whats }

@@ -13,19 +13,21 @@ pub record HasNodes (count : ℕ) (lists : List NodeList) : Type 0 where
   pub each : length lists ≡ count
   pub nodes : (n : ℕ) (list : NodeList) → At lists n list → list.node ≡ n
 
--- and each is the drafts of its node's firings, in order
+-- one list a node, in declared order, and each is the drafts of its node's firings, in order
 pub record AreLists (count : ℕ) (lists : List NodeList) (entries : List Logged) : Type 0 where
   pub nodes : HasNodes count lists
   pub drafts : (n : ℕ) (list : NodeList) → At lists n list → list.drafts.items ≡ drafts_of n entries
 
--- the same of each node that no guest flies; of the others nothing is said
+-- one list a node, in declared order; that of each node that no guest flies is the drafts of its
+-- firings, and of the others nothing is said
 pub record AreOwnLists (count : ℕ) (f : Plan) (lists : List NodeList) (entries : List Logged) : Type
     0 where
   pub nodes : HasNodes count lists
   pub drafts : (n : ℕ) (list : NodeList) → At lists n list → IsOwn f n
       → list.drafts.items ≡ drafts_of n entries
 
--- the same of each node that the caller fires; of the others nothing is said
+-- one list a node, in declared order; that of each node that the caller fires is the drafts of its
+-- firings, and of the others nothing is said
 pub record AreMine (count : ℕ) (f : Plan) (away : List Bool) (lists : List NodeList)
     (entries : List Logged) : Type 0 where
   pub nodes : HasNodes count lists

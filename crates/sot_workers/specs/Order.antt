@@ -28,7 +28,8 @@ DecideInOrder t from end (InputAt time topic value ∷ entries) = ⊥
 DecideInOrder t from end (FireAt time n draft enabled ∷ entries) = ⊥
 DecideInOrder t from end (TickAt time noise states ∷ entries) = ⊥
 
--- the same of firings
+-- firings of this time, each node at most once and in declared order, from this node on and below
+-- that one
 abbrev pub FireInOrder : ℕ → ℕ → ℕ → List Logged → Type 0
 FireInOrder t from end [] = from ≤ end
 FireInOrder t from end (FireAt time n draft enabled ∷ entries) =

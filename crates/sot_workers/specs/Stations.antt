@@ -38,7 +38,8 @@ module _ {C : Type 0} where
   has_thread (Refused pass) = false
   has_thread (Thread child) = true
 
-  -- the same, where it is noted whether it has one
+  -- the worker of this node has a thread, in which a shift of it began, or it has none; which of
+  -- both is noted
   abbrev pub IsStationed : TableId → Admitted → Plan → ℕ → Bool → Station C → Type 0
   IsStationed lock a f n away station = (away ≡ has_thread station) × IsAt lock a f n station
 

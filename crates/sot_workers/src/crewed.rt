@@ -114,7 +114,8 @@ fn fly_in<'s, 'a: 's, E, C: Controller + Send + 's, R: Threads + Wait + Sync>(
     Landed { pass, lists, dones }
 }
 
-// The same in a scope of its own, so that all threads have ended.
+// The guests leave, the flight is flown, and the guests come back, in a scope of threads of its
+// own: at its end all of them have ended.
 fn fly_out<'a, C: Controller + Send, R: Threads + Wait + Sync>(
     rt: &R,
     alloc: Global,

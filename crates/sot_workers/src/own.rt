@@ -84,7 +84,8 @@ fn fire_if_mine<R: Wait>(
     true
 }
 
-// The same where the nodes before it let it, and else nothing.
+// A node that the caller fires does so if it is left and the nodes before it let it; else nothing
+// is done. It answers whether the nodes behind it may fire.
 fn fire_in_order<R: Wait>(
     rt: &R,
     board: &mut Board<'_>,

@@ -14,10 +14,11 @@ const LONG_BODY: u32 = 1000;
 /// So many nodes with long bodies get threads, which run at once.
 const MOST_LONG: u32 = 16;
 
-/// With at most so many firings of nodes that no guest flies, each of these nodes gets a thread ..
+/// With at most so many firings of nodes that no guest flies, each of these nodes gets a thread,
+/// unless the program has more than `FEW_NODES` nodes.
 const FEW_FIRINGS: u32 = 1000;
 
-/// .. where the program has at most so many nodes: to start a thread takes long.
+/// In a program with more nodes than these not every node gets a thread: to start one takes long.
 const FEW_NODES: usize = 32;
 
 // How many statements a block has, with loops unrolled.
@@ -30,7 +31,7 @@ fn statements(acts: &[Act]) -> u32 {
     count
 }
 
-// The same of one statement, which counts itself.
+// How many statements one statement is, with itself and all that stand in it, loops unrolled.
 #[cycle(weigh)]
 fn weight(act: &Act) -> u32 {
     match act {

@@ -48,7 +48,7 @@ const USUAL: &str = r#"{"crew": {"fast":{"index":0,"kind":"guest"}}
 ,"start": {"pos":[0]}
 ,"sway": {"pos":{"kind":"low"}}"#;
 
-// That flight but for a part of another value; the part `whole` stands for all of it.
+// The usual flight but for a part of another value; the part `whole` stands for all of it.
 fn varied(alloc: Global, part: &str, value: &str) -> Result<String, AllocError> {
     let mut text = String::new(alloc);
     if part == "whole" {

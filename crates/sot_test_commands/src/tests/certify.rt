@@ -15,7 +15,7 @@ module nav {{ ac fast; sc slow; period 4 offset 0; plant pos; safe [-40..40]; sa
     )
 }
 
-// The same in its canonical text, with the certificate that halving gives.
+// The vehicle in its canonical text, with the certificate that halving gives.
 const VEHICLE_CERTIFIED: &str = "topic cmd: int[-2..2] = 0;
 plant pos {
   state x: int;

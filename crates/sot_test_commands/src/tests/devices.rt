@@ -32,7 +32,7 @@ fn text_of(alloc: Global, word: &str) -> Result<String, AllocError> {
     }
 }
 
-// And its answer, with status 0.
+// The answer of a command, with status 0.
 fn answer_of(word: &str) -> &'static str {
     match word {
         "check" => "accepted\nmodules 1 nodes 2 cells 4\n",

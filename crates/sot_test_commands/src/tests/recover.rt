@@ -5,7 +5,7 @@ use super::*;
 // A safe node that brings the vehicle back, against a wind that is weaker than its command.
 const BACK: &str = "clamp(0 - pos.x, -2, 2)";
 
-// One that lets it drift up to 10.
+// A safe node that lets the vehicle drift up to 10.
 const DRIFT: &str = "if pos.x > 10 then -2 else if pos.x < -10 then 2 else 0";
 
 // Cells of two states each, up to -11, and on the other side.

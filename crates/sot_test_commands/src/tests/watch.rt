@@ -55,7 +55,7 @@ fn watched(
     format!(in alloc; "{} {said}", ended.0).expect(rt, "memory")
 }
 
-// The same of a formula that is not kept.
+// The status and the text of `watch` with a formula that is copied first, over a mission.
 fn says(
     rt: &(impl Abort + Threads + Wait + Sync),
     alloc: Global,

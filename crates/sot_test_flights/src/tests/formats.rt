@@ -191,7 +191,7 @@ const WHOLE: &str =
 {} => fault flight /format Missing
 [] => fault flight / WrongShape"#;
 
-// And of the relay's.
+// Whole texts, and what is said of the relay's flight.
 const RELAYED_WHOLE: &str =
     r#"{"crew":{},"format":1,"horizon":3,"inputs":[{"at":1,"topic":"e","value":[5]},{"at":0,"topic":"e","value":[5]}],"start":{},"sway":{}} => fault flight /inputs/1/at Order
 {"crew":{},"format":1,"horizon":3,"inputs":[{"at":3,"topic":"e","value":[5]},{"at":3,"topic":"e","value":[0]}],"start":{},"sway":{}} => horizon 3 events 6 numbers 3"#;

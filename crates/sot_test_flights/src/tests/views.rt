@@ -164,7 +164,7 @@ fn a_view_from_before_an_input_is_not_committed(rt: HostRuntime) {
 enum Copied {
     // The view from before is committed, with this draft.
     Done(Option<i64>),
-    // It is not, and this is what is seen now.
+    // The view is not committed, and this is what is seen now.
     Again(Option<i64>),
 }
 

@@ -70,7 +70,7 @@ module kitchen {
 {\"kitchen\":{\"closed\":[[[200,1800]],[[1801,2500]]],\"reach\":[[[200,2220]]]}}}
 ";
 
-// It is 0.1 degrees colder at 9 than the fan can make it.
+// The oven is 0.1 degrees colder at 9 than the fan can make it.
 const HOT: &str = "> start oven(2150)
 > draft recipe drive.heat=4 drive.fan=1
 > go
@@ -299,7 +299,7 @@ module nav { ac fast; sc slow; period 4 offset 0; plant pos; safe [-40..40]; saf
 {\"nav\":{\"closed\":[[[-40,-1]],[[0,0]],[[1,40]]],\"reach\":[[[-10,10]]]}}}
 ";
 
-// It is lost at 3. At 4 the safe node traps, and the command that is in force stays.
+// The vehicle is lost at 3. At 4 the safe node traps, and the command that is in force stays.
 const LOST: &str = "> start pos(10)
 > draft fast cmd=2
 > go

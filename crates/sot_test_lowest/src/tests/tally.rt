@@ -5,7 +5,8 @@ ghost use Rattle.sot_turn.specs.Prefixes.{IsPrefix};
 use sot_turn::Journal;
 use std::alloc::{AllocError, Global};
 
-/// Its ground is the number that it was made with, and its entries are the numbers added since.
+/// A list of numbers: its ground is the number that it was made with, and its entries are the
+/// numbers added since.
 #[derive(Drop)]
 pub(crate) struct Tally {
     pub(crate) base: u64,

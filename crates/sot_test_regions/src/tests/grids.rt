@@ -107,7 +107,7 @@ fn the_side_with_most_places_comes_last(rt: HostRuntime) {
             axes: [NONE, NONE, (1, 1, 2), (0, 0, 3)],
             total: 6,
         },
-        // and before they were doubled again
+        // counted before the grains were doubled again
         CutRow {
             hull: &[(0, 4), (0, 1), (0, 3)],
             many: 40,
@@ -149,7 +149,7 @@ fn block_in(rt: &impl Abort, grid: &Grid, area: &BoxN) -> Option<Block> {
     grid.block(area)
 }
 
-// The same of the part that lies in the hull.
+// The block of the part of a box that lies in the hull; the box has as many sides as the hull.
 fn clip_in(rt: &impl Abort, grid: &Grid, area: &BoxN) -> Option<Block> {
     if area.len() != grid.width() {
         panic!(rt; "another width");

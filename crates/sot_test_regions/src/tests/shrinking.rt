@@ -29,7 +29,7 @@ module nav { ac fast; sc slow; period 2 offset 0; plant arm;
   safe [-300..300, -40..40]; safer [0..0, 0..0]; }
 ";
 
-// The same, and slower.
+// A double integrator with a disturbance, which is asked to stay in one box of lower speeds.
 const SLOW: &str = "topic u: int[-2..2] = 0;
 plant arm { state x: int, v: int; input u; noise w: int[-1..1];
   next x = x + v; next v = (v + u) + w; }

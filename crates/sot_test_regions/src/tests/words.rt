@@ -76,7 +76,7 @@ fn says(rt: &impl Abort, alloc: Global, p: &Typed, refusal: RegionsRefusal, want
 
 #[test]
 fn refusals_have_their_lines(rt: HostRuntime) {
-    // Its one module is `nav`.
+    // The one module of this mission is `nav`.
     let p = line(rt.alloc()).expect(&rt, "memory");
     for (refusal, want) in [
         (RegionsRefusal::Jitter(2), "refused regions jitter 2\n"),

@@ -49,7 +49,7 @@ module guard {
   plant drone;
 ";
 
-// Its regions, and its certificate.
+// The safe region that is found for the drone, and the line of its certificate.
 const DRONE_SAFE: &str = "[0..10, 10..500] | [0..8, 8..500] | [0..6, 6..500] | [0..4, 4..500] \
     | [0..2, 2..500] | [0..0, 0..500]";
 

@@ -54,7 +54,8 @@ const LATE: [&str; 7] = [
     "end 1 events 4 refused 0",
 ];
 
-// That trace with another line in this place is answered so, where the certificate has this head.
+// The late trace with another line in this place is answered so, where the certificate has this
+// head.
 fn late_is(
     rt: &(impl Abort + Threads + Sync),
     alloc: Global,

@@ -51,7 +51,7 @@ fn flag(rt: &impl Abort, alloc: Global) -> Arc<AtomicBool, Global> {
     Arc::new(alloc, AtomicBool::new(false)).expect(rt, "memory")
 }
 
-// The same flag, once more.
+// One more handle of a flag.
 fn again(rt: &impl Abort, flag: &Arc<AtomicBool, Global>) -> Arc<AtomicBool, Global> {
     Arc::try_clone(flag).expect(rt, "memory")
 }

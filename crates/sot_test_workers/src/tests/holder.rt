@@ -10,7 +10,8 @@ use std::sync::atomic::{AtomicBool, Ordering};
 /// How often it looks whether the other was called, before it gives up.
 const TURNS: u64 = 1_000_000_000;
 
-/// It says that it was called, and answers once the other was, or gives up. It tells nothing.
+/// A guest that says that it was called, and answers once the other was, or gives up. It tells
+/// nothing.
 #[derive(Drop)]
 pub struct Holder {
     pub called: Arc<AtomicBool, Global>,
@@ -34,7 +35,7 @@ impl Controller for Holder {
     }
 }
 
-/// It says that it was called.
+/// A guest that says that it was called. It drafts and tells nothing.
 #[derive(Drop)]
 pub struct Caller {
     pub called: Arc<AtomicBool, Global>,

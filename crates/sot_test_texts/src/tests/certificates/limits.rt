@@ -39,7 +39,8 @@ fn counts(rt: &impl Abort, alloc: Global, p: &Typed, text: &str, wanted: &str) {
     same(rt, wanted, got.as_str(), wanted);
 }
 
-// The same where `nav` has these two lists.
+// What is said of a text in which `nav` has these two lists is the path and kind of its fault, or
+// the count of its cells.
 fn said_of(rt: &impl Abort, alloc: Global, p: &Typed, closed: &str, reach: &str, wanted: &str) {
     let front = r#"{"format":1,"modules":{"nav":{"closed":"#;
     let text = format!(in alloc; "{front}{closed},\"reach\":{reach}}}}}}}").expect(rt, "memory");
