@@ -30,7 +30,7 @@ ends_line [] = true
 ends_line (b ∷ []) = b == 10
 ends_line (b ∷ c ∷ bs) = ends_line (c ∷ bs)
 
--- .. has one line, or none
+-- a text has one line, or none
 abbrev pub IsAtMostALine : List ℕ → Type 0
 IsAtMostALine text = (text ≡ []) ⊎ (lines text ≡ text ∷ [])
 

@@ -11,7 +11,7 @@ pub data Finding : Type 0 where
   Failing : (cells : List (List Side)) (point : List ℤ) → Finding
   Begun : (cells : List (List Side)) → Finding
 
--- the same behind these cells
+-- what is found, with these cells before its own
 abbrev pub behind : List (List Side) → Finding → Finding
 behind cells (Whole more) = Whole (cells ++ more)
 behind cells (Failing more point) = Failing (cells ++ more) point

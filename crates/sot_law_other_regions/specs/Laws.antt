@@ -14,13 +14,14 @@ use Rattle.sot_law_other_regions.specs.Fitting.{AreFitting}
 use Rattle.sot_law_other_regions.specs.WithoutRegions.{AreSameButForRegions}
 use Rattle.sot_law_other_regions.specs.OtherTables.{tables_with}
 
--- it is formed where the program is
+-- a program with other regions is formed where the program itself is
 abbrev pub ProgramsStayFormed : Type 0
 ProgramsStayFormed =
     (regions : List ModuleRegions) (p : Program) → IsFormed p → AreFitting regions p.decls
     → IsFormed (with_regions regions p)
 
--- its canonical text spells the same program, where some text spells the one with its own regions
+-- the canonical text of a program with other regions spells that program, where some text spells
+-- the program with its own regions
 abbrev pub CanonicalTextsAreReadBack : Type 0
 CanonicalTextsAreReadBack =
     (regions : List ModuleRegions) (bytes : List ℕ) (at : ℕ) (p : Program) → Spells bytes at p
@@ -28,7 +29,7 @@ CanonicalTextsAreReadBack =
     → (q : Program) × Spells (canonical (with_regions regions p)) 0 q
     × AreSame (with_regions regions p) q
 
--- nothing but its regions is another
+-- in a program with other regions nothing but the regions is another
 abbrev pub NothingElseChanges : Type 0
 NothingElseChanges =
     (regions : List ModuleRegions) (p : Program) → AreSameButForRegions p (with_regions regions p)
@@ -40,7 +41,7 @@ TablesHaveTheRegions =
     → AreTables p t → AreTables (with_regions regions p) u
     → tables_seen u ≡ tables_with regions (tables_seen t)
 
--- it breaks no rule of typing where the program breaks none
+-- a program with other regions breaks no rule of typing where the program itself breaks none
 abbrev pub ProgramsStayFaultless : Type 0
 ProgramsStayFaultless =
     (regions : List ModuleRegions) (p : Program) → IsFaultless p → AreFitting regions p.decls

@@ -77,7 +77,8 @@ impl Room {
         self.end -= count;
     }
 
-    // So many more bytes, none only at the end of the source.
+    // Reads more bytes behind those that are there, and tells how many came: none only at the end
+    // of the source.
     fn read_more<S: Source>(&mut self, source: &mut S) -> Result<usize, Failed>
         requires { length self.old < longest }
         ensures arrives { IfOk result (λ n.

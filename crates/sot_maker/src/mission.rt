@@ -40,7 +40,7 @@ fn put_certificate(out: &mut String, seed: u64, order: &[u32]) -> Result<(), All
     out.push_str("}")
 }
 
-// Their flight.
+// The flight of the modules of these numbers.
 fn put_flight(out: &mut String, seed: u64, order: &[u32]) -> Result<(), AllocError>
     ensures { OnOk result (string_bytes out.new
         ≡ string_bytes out.old ++ flight_text seed order.now) }

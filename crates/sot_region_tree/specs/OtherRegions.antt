@@ -53,7 +53,7 @@ left_behind (a_topic t) (regions ∷ later) = regions ∷ later
 left_behind (a_plant q) (regions ∷ later) = regions ∷ later
 left_behind (a_node n) (regions ∷ later) = regions ∷ later
 
--- so the modules take them in declared order, and those for which none are left keep their own
+-- the modules take regions in declared order, and those for which none are left keep their own
 abbrev pub declarations_with : List ModuleRegions → List Declaration → List Declaration
 declarations_with regions [] = []
 declarations_with regions (d ∷ ds) =

@@ -29,7 +29,8 @@ fn send<K: Sink>(sink: &mut K, bytes: &[u8]) -> bool
     }
 }
 
-// The same where it took all that came before; else it is given nothing.
+// Gives bytes to a sink that took all that came before, and says whether it took them all; any
+// other is given nothing.
 fn give<K: Sink>(is_well: bool, sink: &mut K, bytes: &[u8]) -> bool
     ensures { Gives is_well (K.held sink.old) (K.faults sink.old) (K.held sink.new)
         (K.faults sink.new) bytes.now result }

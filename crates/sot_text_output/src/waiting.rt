@@ -26,7 +26,7 @@ pub(crate) fn waits(waiting: &mut Vec<u8>, bytes: &[u8]) -> bool
     waiting.extend_from_slice(bytes).is_ok()
 }
 
-/// The same of one byte.
+/// Puts a byte behind those that wait, and says whether there was room for it.
 #[inline(always)]
 pub(crate) fn waits_byte(waiting: &mut Vec<u8>, byte: u8) -> bool
     ensures put { result ≡ true → waiting.new.items ≡ waiting.old.items ++ byte ∷ [] }
