@@ -9,7 +9,7 @@ abbrev pub Lacks : ℕ → List ℕ → List Axis → List Stretch → ℕ → T
 Lacks byte bytes axes sides before =
     (at : List ℕ) → IsInBlock sides at → slice_index bytes (number_from before axes at) ≢ byte
 
--- the same for each place of a stretch on an axis of so many places
+-- at each place of a stretch on an axis of so many places no atom of the block has this byte
 abbrev pub EachLacks : ℕ → List ℕ → ℕ → Stretch → List Axis → List Stretch → ℕ → Type 0
 EachLacks byte bytes size side inner within before =
     (a : ℕ) → side.from ≤ a → a ≤ side.to → Lacks byte bytes inner within (before * size + a)
@@ -23,7 +23,8 @@ pub record Fills (byte : ℕ) (old new : List ℕ) (axes : List Axis) (sides : L
       → number_from before axes at ≢ k) → slice_index new k ≡ slice_index old k
   pub either : (k : ℕ) → (slice_index new k ≡ slice_index old k) ⊎ (slice_index new k ≡ byte)
 
--- the same for each place from `from` up to `end` on an axis of so many places
+-- at each place from `from` up to `end`, on an axis of so many places, the atoms of the block have
+-- this byte now, and all others have what they had
 pub record EachFills (byte : ℕ) (old new : List ℕ) (size from end : ℕ) (inner : List Axis)
     (within : List Stretch) (before : ℕ) : Type 0 where
   pub inside : (a : ℕ) (at : List ℕ) → from ≤ a → a < end → IsInBlock within at

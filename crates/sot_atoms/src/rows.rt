@@ -54,7 +54,8 @@ pub(crate) fn lacks(byte: u8, bytes: &[u8], axes: &[Axis], sides: &[Stretch], be
     each_lacks(byte, bytes, axis.size, *side, inner, within, before)
 }
 
-// The same of a block whose first stretch lies on an axis of so many places.
+// Whether no atom of a block has this byte, where its first stretch lies on an axis of so many
+// places.
 #[cycle(lacks)]
 fn each_lacks(
     byte: u8,
@@ -114,7 +115,7 @@ pub(crate) fn fill(byte: u8, bytes: &mut [u8], axes: &[Axis], sides: &[Stretch],
     each_fill(byte, bytes, axis.size, *side, inner, within, before);
 }
 
-// The same of a block whose first stretch lies on an axis of so many places.
+// Writes this byte for each atom of a block whose first stretch lies on an axis of so many places.
 #[cycle(fill)]
 fn each_fill(
     byte: u8,
@@ -196,7 +197,8 @@ pub(crate) fn count(bytes: &[u8], axes: &[Axis], sides: &[Stretch], before: usiz
     each_count(bytes, axis.size, *side, inner, within, before)
 }
 
-// The same of a block whose first stretch lies on an axis of so many places.
+// How many atoms of a block have the byte 1, where its first stretch lies on an axis of so many
+// places.
 #[cycle(count)]
 fn each_count(
     bytes: &[u8],

@@ -23,7 +23,7 @@ IsName t = t.kind ≡ Name
 abbrev pub IsNumber : Lexeme → Type 0
 IsNumber t = t.kind ≡ Number
 
--- the same as tests
+-- tests: a token is this keyword, this sign, some name, some number
 abbrev pub is_keyword_kind : Kind → Bool
 is_keyword_kind Keyword = true
 is_keyword_kind Name = false

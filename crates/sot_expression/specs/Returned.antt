@@ -6,7 +6,7 @@ use Rattle.sot_expression.specs.declared.fail.Fail.{Fail}
 use Rattle.sot_expression.specs.declared.fail.Fail.TheVariants.{Token, Deep, Memory}
 use Rattle.sot_expression.specs.Readers.{Read, stuck, deep}
 
--- the same fault, at the next token then, unless memory ran out
+-- a function failed as the reader does, at the next token then, unless memory ran out
 abbrev pub Fails : {Y : Type 0} → Fail → List Lexeme → Read Y → Type 0
 Fails Token after read = read ≡ Err (stuck, after)
 Fails Deep after read = read ≡ Err (deep, after)
@@ -17,7 +17,7 @@ abbrev pub Tells : {X Y : Type 0} → (X → Y) → Result X Fail → List Lexem
 Tells view (Ok x) after read = read ≡ Ok (view x, after)
 Tells view (Err e) after read = Fails e after read
 
--- the same, and how the tokens end stays
+-- this was read, these tokens stand behind it, and how the tokens end stays
 abbrev pub Gives : {X Y : Type 0} → (X → Y) → Result X Fail → Ahead → Ahead → Read Y → Type 0
 Gives view result before after read = Tells view result after.tokens read × (after.end ≡ before.end)
 

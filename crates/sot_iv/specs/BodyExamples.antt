@@ -90,6 +90,6 @@ module _ (g : Global) where
       IsNodeIntervals (line g) (slow g) (slow_acts g) ((from_to (negsuc 39) (pos 40) ∷ []) ∷ [])
       (record { locals = []; draft = Sure (from_to (negsuc 1) (pos 2)) ∷ [] })
 
--- the same for every allocator
+-- a fact holds for every allocator
 abbrev pub ForEach : (Global → Type 0) → Type 0
 ForEach fact = (g : Global) → fact g

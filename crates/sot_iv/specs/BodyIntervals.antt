@@ -47,7 +47,7 @@ IsDraftJoin (Maybe a) (Sure b) d = (r : Side) × IsIntervalHull a b r × (d ≡ 
 IsDraftJoin (Sure a) (Maybe b) d = (r : Side) × IsIntervalHull a b r × (d ≡ Maybe r)
 IsDraftJoin (Sure a) (Sure b) d = (r : Side) × IsIntervalHull a b r × (d ≡ Sure r)
 
--- the same of all scalars, place by place
+-- what two branches draft for all scalars is joined place by place
 abbrev pub AreDraftJoins : List Drafted → List Drafted → List Drafted → Type 0
 AreDraftJoins [] [] ds = ds ≡ []
 AreDraftJoins (a ∷ as') (b ∷ bs) (d ∷ ds) = IsDraftJoin a b d × AreDraftJoins as' bs ds

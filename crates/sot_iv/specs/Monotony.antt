@@ -36,7 +36,7 @@ IsNarrowerDraft (Maybe r) Absent = ⊥
 IsNarrowerDraft (Maybe r) (Sure s) = ⊥
 IsNarrowerDraft (Sure r) Absent = ⊥
 
--- the same of all written scalars
+-- of all written scalars the one drafts are narrower than the other ones, place by place
 abbrev pub AreNarrowerDrafts : List Drafted → List Drafted → Type 0
 AreNarrowerDrafts [] [] = Unit {0}
 AreNarrowerDrafts (d ∷ ds) (e ∷ es) = IsNarrowerDraft d e × AreNarrowerDrafts ds es

@@ -25,7 +25,7 @@ IsDrafted (Maybe r) (Some z) = IsIn r z
 IsDrafted (Sure r) None = ⊥
 IsDrafted (Sure r) (Some z) = IsIn r z
 
--- the same of all written scalars
+-- the drafted numbers of all written scalars lie in their intervals, place by place
 abbrev pub AreDrafted : List Drafted → List (Option ℤ) → Type 0
 AreDrafted [] [] = Unit {0}
 AreDrafted (d ∷ ds) (o ∷ os) = IsDrafted d o × AreDrafted ds os

@@ -83,7 +83,7 @@ pub(crate) fn sum_of(at: Span, a: i64, b: i64, c: i64, d: i64) -> Result<Interva
     held(at, lo, hi)
 }
 
-// The same in 128 bits, as the trap shows it.
+// The interval of a sum in 128 bits, as the trap shows it.
 fn wide_sum(at: Span, a: i64, b: i64, c: i64, d: i64) -> Result<Interval, MayTrap>
     requires first { a ≤ℤ b }
     requires second { c ≤ℤ d }

@@ -78,9 +78,9 @@ fn kept(answer: Result<Interval, MayTrap>, trap: &mut MayTrap) -> Option<Interva
     }
 }
 
-// The same, with the trap in a place of its own: each part's result is written and read again, so
-// it is kept small. Numbers and names are answered first, since a function pays at its entry for
-// the room that it needs.
+// The interval of an expression, or none and the trap in its place: each part's result is written
+// and read again, so it is kept small. Numbers and names are answered first, since a function pays
+// at its entry for the room that it needs.
 #[cycle(evaluate)]
 fn evaluate(
     term: &Term,
@@ -98,8 +98,8 @@ fn evaluate(
     }
 }
 
-// The same, with room for the parts of an expression. Conditions come here at once, since a
-// condition is hardly ever a number or a name.
+// The interval of an expression, with room for its parts, or none and the trap in its place.
+// Conditions come here at once, since a condition is hardly ever a number or a name.
 #[cycle(evaluate)]
 fn compound(
     term: &Term,

@@ -58,7 +58,8 @@ pub fn fault_under(alloc: Global, name: &str, fail: JsonFail) -> JsonFail
     }
 }
 
-/// The same for an item of a list, by its place, but for want of memory.
+/// The fault of an item of a list, as it stands from the list, by the item's place, but for want
+/// of memory.
 pub fn fault_under_index(alloc: Global, i: usize, fail: JsonFail) -> JsonFail
     ensures { IsUnder (decimal i) fail result }
 {

@@ -40,7 +40,7 @@ clause_at text item ts = do
   semicolon ← expect (is_sign (codes ";")) items.1
   Ok (items.0, semicolon.1)
 
--- the same, or nothing
+-- a keyword, a list of items, and ";"; or nothing
 unfoldable pub optional_at : {A : Type 0} → List ℕ → (List Lexeme → Read A) → List Lexeme
     → Read (List A)
 optional_at text item ts =

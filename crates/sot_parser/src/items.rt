@@ -71,7 +71,7 @@ pub fn clause<T: Item>(alloc: Global, tokens: &mut Tokens<'_>, word: &[u8]) -> R
     Ok(items)
 }
 
-/// The same, and no item where the clause is left out.
+/// A clause of items behind a keyword, or no item where the clause is left out.
 #[tactic(auto, unfolding(crate::specs::ListReaders::optional_at))]
 pub fn optional<T: Item>(
     alloc: Global,

@@ -78,7 +78,8 @@ fn give(bytes: &[u8], most: usize, buf: &mut [u8]) -> usize
     count
 }
 
-// The same from a place on. No byte comes only where none is left.
+// Copies what fits, from a place on, to the front of a buffer, and at most so many bytes. No byte
+// comes only where none is left.
 fn give_from(bytes: &[u8], at: usize, most: usize, buf: &mut [u8]) -> usize
     requires within { at ≤ length bytes.now }
     requires some { 0 < most }

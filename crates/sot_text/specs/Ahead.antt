@@ -27,7 +27,7 @@ ahead_with more (Ok None) = record { tokens = []; end = None }
 ahead_with more (Ok (Some t)) = push t (more t.to)
 ahead_with more (Err fault) = record { tokens = []; end = Some fault }
 
--- the same as a function; the number bounds how many tokens are taken
+-- what comes from a place on, as a function; the number bounds how many tokens are taken
 unfoldable pub ahead_within : ℕ → List ℕ → ℕ → Ahead
 ahead_within zero bytes at = record { tokens = []; end = None }
 ahead_within (suc n) bytes at = ahead_with (ahead_within n bytes) (next_lexeme bytes at)

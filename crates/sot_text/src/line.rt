@@ -20,7 +20,7 @@ pub fn line_len(bytes: &[u8]) -> usize
 // begin a search.
 const NEAR: usize = 16;
 
-// The same, if the first line ends within the first bytes.
+// The length of the first line with its line end, if it ends within the first `NEAR` bytes.
 #[inline(always)]
 fn near_line_len(bytes: &[u8]) -> Option<usize>
     ensures len { IfSome result (λ len. len ≡ line_len bytes.now) }
@@ -37,7 +37,8 @@ fn near_line_len(bytes: &[u8]) -> Option<usize>
     None
 }
 
-/// The same for a line that is likely to be short, as that of a comment.
+/// How many bytes the first line has, with its line end, for a line that is likely to be short, as
+/// that of a comment.
 #[inline(never)]
 pub(crate) fn short_line_len(bytes: &[u8]) -> usize
     ensures len { result ≡ line_len bytes.now }

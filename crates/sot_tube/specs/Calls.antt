@@ -24,7 +24,8 @@ AnswersTube p m commands box k result =
     → MatchResult result (λ _. TubeInside p plant commands a.safe.boxes box k)
     (λ leave. TubeLeaves p plant commands a.safe.boxes box k leave)
 
--- the same, with commands anywhere in their types
+-- Ok where the tube from a box, with commands anywhere in their types, is inside the module's safe
+-- region, and else how it leaves
 abbrev pub AnswersAnyTube : Tables → ℕ → List Side → ℕ → Result (Unit {0}) Leave → Type 0
 AnswersAnyTube p m box k result =
     (a : ModuleInfo) (plant : PlantInfo) → At p.modules m a → At p.plants a.plant plant

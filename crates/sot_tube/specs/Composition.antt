@@ -48,7 +48,7 @@ pub record IsComposed (p : Tables) : Type 0 where
   pub own_plant : NoSharedPlant p
   pub own_inputs : (m : ℕ) (a : ModuleInfo) → At p.modules m a → NoForeignInput p a
 
--- the same, with scalars in place of topics
+-- the modules of a program can be put together, said with scalars in place of topics
 pub record IsComposedByScalars (p : Tables) : Type 0 where
   pub own_node : NoSharedNode p
   pub own_output : (n n' : ℕ) (a b : NodeInfo) (k : ℕ) → At p.nodes n a → At p.nodes n' b

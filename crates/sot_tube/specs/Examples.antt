@@ -40,7 +40,7 @@ module _ (g : Global) where
   abbrev pub line_with : List (List Side) → Tables
   line_with safer = record (line g) { modules = nav_with safer ∷ [] }
 
-  -- and with another body of its safe node
+  -- the running example with another safer region of its module and another body of its safe node
   abbrev pub line_body : List (List Side) → Option (Vec Act) → Tables
   line_body safer body =
       record (line_with safer) { nodes = fast g ∷ record (slow g) { body = body } ∷ [] }

@@ -34,7 +34,8 @@ pub record TubeLeaves (p : Tables) (plant : PlantInfo) (commands : List Side)
   pub are : AreHulls p.modules plant.sees.items hulls
   pub leaves : Leaves plant commands (joined_boxes hulls) region box 0 k leave
 
--- with commands anywhere in their types
+-- the tube from a box, with commands anywhere in their types, leaves a region in this way, within
+-- so many ticks
 abbrev pub AnyTubeLeaves : Tables → PlantInfo → List (List Side) → List Side → ℕ → Leave → Type 0
 AnyTubeLeaves p plant region box k leave =
     TubeLeaves p plant (input_ranges p plant) region box k leave

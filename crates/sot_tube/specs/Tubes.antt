@@ -27,7 +27,7 @@ pub record TubeInside (p : Tables) (plant : PlantInfo) (commands : List Side)
   pub are : AreHulls p.modules plant.sees.items hulls
   pub stays : StaysInside plant commands (joined_boxes hulls) region box k
 
--- with commands anywhere in their types
+-- the tube from a box, with commands anywhere in their types, is inside a region
 abbrev pub AnyTubeInside : Tables → PlantInfo → List (List Side) → List Side → ℕ → Type 0
 AnyTubeInside p plant region box k = TubeInside p plant (input_ranges p plant) region box k
 

@@ -47,6 +47,6 @@ module _ {Value Ground Entry : Type 0} {journal : Ghosts Value Ground Entry} whe
   abbrev pub held_value : Held Value Ground Entry journal → Value
   held_value held = held.value
 
-  -- the same with another value
+  -- the holder's place with another value
   abbrev pub with_value : Held Value Ground Entry journal → Value → Held Value Ground Entry journal
   with_value held value = record held { value = value }

@@ -65,7 +65,7 @@ abbrev mutual
   row_view end_of-Act = no_deed
   row_view (more_of-Act a more) = deed (deed_view a) (row_view more)
 
--- the same of a list
+-- statements whose targets are places
 abbrev pub deeds_view : List Act → Deeds
 deeds_view [] = no_deed
 deeds_view (a ∷ more) = deed (deed_view a) (deeds_view more)
