@@ -1,12 +1,12 @@
 -- Boxes and blocks of a grid: which atoms a box meets, and which points a block has.
 use Rattle.std.proofs.Common.{◌≡◌, ℕ, zero, suc, ◌+◌, ◌-◌, ◌*◌, ◌/◌, ◌^◌, min, ◌<◌, ◌≤◌, ◌⊎◌, inl, inr, ⊎_elim, List, [], ◌∷◌, length, ℤ, pos, negsuc, ◌+ℤ◌}
-use Rattle.std.proofs.Common.{◌-ℤ◌, ◌≤ℤ◌, ◌<ℤ◌, ltb, eqb, cond, refl, sym, ap, ap₂, ◌∙◌, subst, arith}
+use Rattle.std.proofs.Common.{◌-ℤ◌, ◌≤ℤ◌, ◌<ℤ◌, ltb, eqb, refl, sym, ap, ap₂, ◌∙◌, subst, arith}
 use Rattle.std.specs.Prelude.{slice_index_or, slice_set, take, Option, Some, MatchOption}
-use Rattle.std.specs.Int.{int_max, int_min}
+use Rattle.std.specs.Int.{int_max}
 use Rattle.std.proofs.lemmas.Int.{ints, clamps}
 use Rattle.std.proofs.lemmas.Nat.{mul-le}
 use Rattle.std.proofs.lemmas.List.{get_or-set_same, get_or-set_other}
-use Rattle.std.proofs.lemmas.Bool.{cond-true, cond-false, cases_lt, cases_eq, eq-eqb, ne_eqb}
+use Rattle.std.proofs.lemmas.Bool.{cond-true, cond-false, cases_lt, cases_eq, ne_eqb}
 use Rattle.std.proofs.lemmas.Bool.Decides.{nat_tests}
 use Rattle.std.proofs.lemmas.Option.{same_Some, none-some, get_or_from_slice_get, slice_get_within}
 use Rattle.sot_lists.specs.Places.{At}
@@ -14,15 +14,15 @@ use Rattle.sot_lists.proofs.Places.{at_same, at_below}
 use Rattle.sot_box.specs.Sides.{Side, IsIn, AreOrdered, nought}
 use Rattle.sot_box.specs.Boxes.{IsWithin, lows, highs, point_box}
 use Rattle.sot_box.specs.Sweep.{coordinate}
-use Rattle.sot_box.proofs.Ranges.{within_read, within_length, lows_within}
+use Rattle.sot_box.proofs.Ranges.{within_read, lows_within}
 use Rattle.sot_atoms.specs.declared.axis.Axis.{Axis}
 use Rattle.sot_atoms.specs.declared.block.Stretch.{Stretch}
 use Rattle.sot_atoms.specs.Places.{IsAxis, IsTight, HoldsNumber, start_of, end_of}
 use Rattle.sot_atoms.specs.Blocks.{FitsAxes, IsInBlock, IsOneAtom, atom_count}
-use Rattle.sot_atoms.specs.Grids.{Cut, IsCut, side_at, LeavesHull, MeetsPlaces, MeetsBlock, IsOff, on_axis, IsOffHull, ClipsBlock, HasNumbers, AreNumbersOn}
+use Rattle.sot_atoms.specs.Grids.{Cut, IsCut, side_at, LeavesHull, MeetsPlaces, MeetsBlock, on_axis, IsOffHull, ClipsBlock, HasNumbers, AreNumbersOn}
 use Rattle.sot_atoms.specs.Grids.{IsGrainOf, IsAreaOf, CutsHull, HoldsPoint, IsFinest}
 use Rattle.sot_atoms.proofs.Places.{start_order, below_end, stretch_ordered, holds_number}
-use Rattle.sot_atoms.proofs.Points.{end_is, places_ordered, fits_each, fits_at, fits_length, in_block_each, in_block_at, holds_each, holds_any}
+use Rattle.sot_atoms.proofs.Points.{end_is, places_ordered, fits_each, fits_at, in_block_each, in_block_at, holds_each, holds_any}
 
 -- coordinates of a point in a box, and a point by its coordinates
 pub within_coordinate : (b : List Side) (s : List ℤ) (i : ℕ) (r : Side) → IsWithin b s → At b i r → IsIn r (coordinate s i)

@@ -1,6 +1,6 @@
 -- Atoms and the points that they hold.
-use Rattle.std.proofs.Common.{◌≡◌, ℕ, zero, suc, ◌+◌, ◌-◌, ◌*◌, ◌^◌, ◌<◌, ◌≤◌, ◌⊎◌, inl, inr, ⊎_elim, List, [], ◌∷◌, length, Bool, true, false, ℤ, pos, ◌-ℤ◌}
-use Rattle.std.proofs.Common.{◌≤ℤ◌, ◌<ℤ◌, ltb, cond, refl, sym, subst, arith}
+use Rattle.std.proofs.Common.{◌≡◌, ℕ, zero, suc, ◌+◌, ◌-◌, ◌*◌, ◌^◌, ◌<◌, ◌≤◌, ◌⊎◌, inl, inr, ⊎_elim, List, [], ◌∷◌, length, ℤ, pos, ◌-ℤ◌}
+use Rattle.std.proofs.Common.{◌≤ℤ◌, ◌<ℤ◌, ltb, refl, subst, arith}
 use Rattle.std.proofs.lemmas.Int.{ints}
 use Rattle.std.proofs.lemmas.Bool.{cond-true, cases_lt}
 use Rattle.std.proofs.lemmas.Bool.Decides.{nat_tests}
@@ -9,11 +9,11 @@ use Rattle.sot_lists.specs.Places.{At}
 use Rattle.sot_box.specs.Sweep.{coordinate}
 use Rattle.sot_atoms.specs.declared.axis.Axis.{Axis}
 use Rattle.sot_atoms.specs.declared.block.Stretch.{Stretch}
-use Rattle.sot_atoms.specs.Places.{IsAxis, HoldsNumber, start_of, end_of}
+use Rattle.sot_atoms.specs.Places.{HoldsNumber, start_of, end_of}
 use Rattle.sot_atoms.specs.Blocks.{FitsAxes, IsInBlock}
 use Rattle.sot_atoms.specs.Grids.{HoldsPoint}
 use Rattle.sot_atoms.specs.Sets.{IsAtom}
-use Rattle.sot_atoms.proofs.Places.{start_order, start_apart}
+use Rattle.sot_atoms.proofs.Places.{start_order}
 
 -- a place that is not the last one ends before the next one begins
 pub end_is : (x : Axis) (a : ℕ) → a + 1 < x.size → end_of x a ≡ start_of x (a + 1) -ℤ pos 1

@@ -10,7 +10,7 @@ use Rattle.sot_box.specs.Sweep.{coordinate}
 use Rattle.sot_atoms.specs.declared.axis.Axis.{Axis}
 use Rattle.sot_atoms.specs.declared.block.Stretch.{Stretch}
 use Rattle.sot_atoms.specs.Places.{IsAxis, IsTight, HoldsNumber, start_of, end_of}
-use Rattle.sot_atoms.specs.Blocks.{atom_count, FitsAxes}
+use Rattle.sot_atoms.specs.Blocks.{atom_count}
 
 -- what contracts see of a grid: how many sides the hull has, which of them runs fastest, and how
 -- each axis is cut

@@ -11,7 +11,6 @@ use Rattle.sot_tree.specs.declared.tree.Lit.{Lit}
 use Rattle.sot_tree.specs.Trees.{Tree, number, binary, rest, negated, denied, chosen}
 use Rattle.sot_expression.specs.Lexemes.{IsSign, IsNumber, literal, negative_literal}
 use Rattle.sot_parser.specs.Pieces.{LiteralForm, plain, negative, spelled_literal, literal_of}
-use Rattle.sot_expression.specs.Operators.{tier_of_op}
 use Rattle.sot_expression.proofs.FirstTokens.{some_tier}
 use Rattle.sot_expression.specs.Phrases.{Phrase, a_number, a_truth, a_name, a_field, a_group, an_abs, a_pair, a_clamp, a_rescale, a_minus, a_rest, a_join}
 use Rattle.sot_expression.specs.Phrases.{a_not, an_if, spelled, IsOperator, IsPhrase, with_minus, tree_of, is_numeral, levels_of}

@@ -1,12 +1,10 @@
 -- Names that are looked at one by one, and those of a table behind them.
 use Rattle.std.proofs.Common.{◌≡◌, ◌∙◌, ℕ, ◌+◌, ◌<◌, ◌≤◌, List, [], ◌∷◌, ◌++◌, length, get_or, drop, map, find, cond, Option, Some, None, option_map, Bool}
-use Rattle.std.proofs.Common.{true, false, ◌||◌, if◌then◌else◌, refl, sym, ap, arith, append-nil, append_assoc}
+use Rattle.std.proofs.Common.{true, false, ◌||◌, if◌then◌else◌, refl, sym, ap, arith, append-nil}
 use Rattle.std.specs.Option.{option_or}
-use Rattle.std.specs.List.{list_any}
 use Rattle.std.specs.Map.{lookup}
 use Rattle.std.specs.Str.{bytes_eq}
 use Rattle.std.proofs.lemmas.List.{drop_all}
-use Rattle.std.proofs.lemmas.List.Folds.{list_any-append}
 use denote.Ref.{Bor}
 use Rattle.sot_rules.specs.declared.names.scope.Kept.{Kept}
 use Rattle.sot_rules.specs.declared.names.scope.Things.{Things}

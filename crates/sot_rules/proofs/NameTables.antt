@@ -1,6 +1,6 @@
 -- The lists that tables stand for, one item longer.
 use Rattle.std.proofs.Common.{◌≡◌, ◌∙◌, ℕ, zero, suc, ◌+◌, ◌<◌, ◌≤◌, List, [], ◌∷◌, ◌++◌, length, get_or, take, map, find, Option, Some, None, Bool, true}
-use Rattle.std.proofs.Common.{false, is_some, cond, if◌then◌else◌, not, ◌||◌, ◌==◌, option_map, position, unwrap_or, refl, sym, ap, arith, nat_lt}
+use Rattle.std.proofs.Common.{false, is_some, cond, if◌then◌else◌, not, ◌||◌, ◌==◌, option_map, position, refl, sym, ap, arith, nat_lt}
 use Rattle.std.specs.Option.{option_or}
 use Rattle.std.specs.Str.{bytes_eq}
 use Rattle.std.specs.List.{list_any, position_or_len, slice_get}
@@ -9,8 +9,6 @@ use Rattle.std.proofs.lemmas.List.{length-append, map-append, take_more}
 use Rattle.std.proofs.lemmas.List.Folds.{find_at, list_any-append, position_or_len_push}
 use Rattle.std.proofs.lemmas.List.Sums.{prefix_len-le-length}
 use Rattle.std.proofs.lemmas.Bool.Decides.{nat_tests}
-use Rattle.std.proofs.lemmas.Cmp.{nat_list_eq_equiv}
-use Rattle.std.proofs.lemmas.Slice.Eq.{bytes_eq-Decides}
 use denote.Ref.{Bor}
 use Rattle.indexmap.specs.IndexMap.{IndexMap}
 use Rattle.sot_rules.specs.declared.expressions.sort.Sort.{Sort}

@@ -1,14 +1,13 @@
 -- Names that stand in a list before are noted.
 use Rattle.std.proofs.Common.{◌≡◌, ◌∙◌, ℕ, ◌+◌, ◌<◌, ◌≤◌, List, [], ◌∷◌, ◌++◌, length, get_or, drop, Option, Bool, true, false, not, ◌||◌, if◌then◌else◌, map}
-use Rattle.std.proofs.Common.{fold, refl, sym, ap, arith}
-use Rattle.std.proofs.lemmas.List.{drop_all}
+use Rattle.std.proofs.Common.{refl, sym, ap, arith}
 use Rattle.std.specs.List.{list_any}
 use Rattle.std.specs.Str.{bytes_eq}
 use denote.Ref.{Bor}
 use Rattle.sot_tree.specs.declared.tree.Ident.{Ident}
 use Rattle.sot_rules.specs.declared.fault.TypeFault.{TypeFault}
 use Rattle.sot_rules.specs.declared.fault.TypeKind.TheVariants.{Twice}
-use Rattle.sot_names.specs.SeenNames.{seen_names, with_name}
+use Rattle.sot_names.specs.SeenNames.{with_name}
 use Rattle.sot_rules.specs.Faults.{least, when, repeats}
 use Rattle.sot_rules.proofs.Least.{least_append}
 use Rattle.sot_rules.proofs.Loops.{rest_is}

@@ -1,4 +1,4 @@
-use Rattle.std.proofs.Common.{◌∙◌, arith, length, rules}
+use Rattle.std.proofs.Common.{◌∙◌, arith, rules}
 use Rattle.std.proofs.lemmas.List.{length-set}
 use Rattle.sot_meeting_boxes.proofs.Sides.{around_more, around_whole}
 use Rattle.sot_meeting_boxes.proofs.hull.widened.Goals as goal
