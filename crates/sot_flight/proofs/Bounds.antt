@@ -12,8 +12,9 @@ use Rattle.sot_lang.specs.declared.tables.NodeInfo.{NodeInfo}
 use Rattle.sot_lang.specs.Tables.{Tables}
 use Rattle.sot_lang.specs.Ranges.{bounds, range_of, write_ranges}
 use Rattle.sot_lang.proofs.Owners.{range_at}
-use Rattle.sot_flight.specs.Draws.{word, drawn, drawn_from}
-use Rattle.sot_flight.proofs.Words.{drawn_at, length-drawn_from}
+use Rattle.sot_generator_words.specs.Words.{word}
+use Rattle.sot_flight.specs.Draws.{drawn, drawn_from}
+use Rattle.sot_flight.proofs.Drawn.{drawn_at, length-drawn_from}
 
 module _ (plant : PlantInfo) (i : ℕ) (info : NoiseInfo) (at : At plant.noise.items i info) where
   pub bound_at : At (bounds plant) i (record { lo = info.lo; hi = info.hi })

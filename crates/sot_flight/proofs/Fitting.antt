@@ -22,7 +22,7 @@ use Rattle.sot_flight.specs.Draws.{drawn_from}
 use Rattle.sot_flight.specs.Stated.{row_at, noise_of, noises, stated_noise, draft_of}
 use Rattle.sot_flight.specs.Fits.{FitsSway, FitsCrew, FitsFlight}
 use Rattle.sot_flight.specs.NoiseRules.{HasNarrowNoise}
-use Rattle.sot_flight.proofs.Words.{length-drawn_from, drawn_within}
+use Rattle.sot_flight.proofs.Drawn.{length-drawn_from, drawn_within}
 use Rattle.sot_flight.proofs.Bounds.{length-bounds, length-noise_drawn}
 use Rattle.sot_flight.proofs.Listed.{row_among}
 

@@ -8,9 +8,9 @@ use Rattle.std.proofs.lemmas.Nat.{mul-mod_first, mul-mod_second}
 use native.Mathlib.Nat.{mod-add-mod, add-mod, mod-eq_of_lt}
 use Rattle.rand_pcg.specs.Lcg.{next_state, state_after}
 use Rattle.rand_pcg.specs.Pcg.{multiplier_64}
+use Rattle.sot_generator_words.proofs.Words.{state_more}
 use Rattle.sot_flight.specs.declared.few_words.TheConstants.{JUMPS}
 use Rattle.sot_flight.specs.Jumps.{power, sums, IsJump, IsListed}
-use Rattle.sot_flight.proofs.Words.{state_more}
 
 -- one step more, as a multiplication and an addition
 step_more : (w m p a b s : ℕ) → next_state w m p ((s * a + p * b) % 2 ^ w) ≡ (s * (a * m) + p * (b * m + 1)) % 2 ^ w

@@ -1,5 +1,5 @@
 -- lemmas on stated values, for what flies a flight too
-pub mod Words
+pub mod Drawn
 pub mod Jumps
 pub mod Listed
 pub mod Bounds

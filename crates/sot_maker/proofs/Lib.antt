@@ -1,4 +1,3 @@
-pub mod GeneratorWords
 pub mod Declared
 pub mod Ordered
 pub mod Behind

@@ -4,10 +4,10 @@ use Rattle.std.specs.Fmt.{decimal}
 use Rattle.std.proofs.lemmas.Fmt.{length-decimal-le}
 use Rattle.sot_maker.specs.declared.member.Member.{Member}
 use Rattle.sot_maker.specs.declared.member.Member.TheVariants.{Cells, Crew, Start, Sway}
-use Rattle.sot_maker.specs.Generator.{word, mission_stream}
+use Rattle.sot_generator_words.specs.Words.{word}
 use Rattle.sot_maker.specs.Offsets.{offsets_of}
 use Rattle.sot_maker.specs.Declarations.{topic_text, plant_text, fast_text, code_text, slow_front, slow_text, module_text, declarations_text, declarations_from}
-use Rattle.sot_maker.specs.Declarations.{program_text}
+use Rattle.sot_maker.specs.Declarations.{mission_stream, program_text}
 use Rattle.sot_maker.specs.Members.{cells_text, crew_text, start_text, sway_text, member_text, further, listed, object_text}
 
 -- a decimal of 64 bits has at most 20 digits

@@ -2,7 +2,7 @@
 -- with i.
 use Rattle.std.specs.Prelude.{ℕ, zero, suc, List, [], ◌++◌, codes}
 use Rattle.std.specs.Fmt.{decimal}
-use Rattle.sot_maker.specs.Generator.{word, mission_stream}
+use Rattle.sot_generator_words.specs.Words.{word}
 use Rattle.sot_maker.specs.declared.offsets.Offsets.{Offsets}
 use Rattle.sot_maker.specs.Offsets.{offsets_of}
 
@@ -59,6 +59,10 @@ unfoldable pub declarations_text : ℕ → Offsets → List ℕ
 declarations_text i o =
     topic_text i ++ (plant_text i ++ (fast_text i o.fast
     ++ (slow_text i o.slow ++ module_text i o.decides)))
+
+-- the stream whose words are for missions, one word for each module
+abbrev pub mission_stream : ℕ
+mission_stream = 54
 
 -- the declarations of so many modules, from module i on, each with the offsets that its word stands
 -- for

@@ -1,6 +1,7 @@
 -- Worked offsets, orders and missions, as statements that the functions of `facts` prove.
 use Rattle.std.specs.Prelude.{◌≡◌, ℕ, List, [], ◌∷◌, ◌++◌, codes}
-use Rattle.sot_maker.specs.Generator.{word, mission_stream}
+use Rattle.sot_generator_words.specs.Words.{word}
+use Rattle.sot_maker.specs.Declarations.{mission_stream}
 use Rattle.sot_maker.specs.Offsets.{offsets_of}
 use Rattle.sot_maker.specs.NameOrder.{by_name}
 use Rattle.sot_maker.specs.declared.member.Member.TheVariants.{Cells, Crew, Start, Sway}

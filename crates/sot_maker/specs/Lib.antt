@@ -1,5 +1,4 @@
 -- what the contract of `make` cites, in reading order
-pub mod Generator
 pub mod Offsets
 pub mod Declarations
 pub mod NameOrder

@@ -1,6 +1,6 @@
 use Rattle.std.proofs.Common.{◌≡◌, ap, ◌∙◌, rules}
 use Rattle.rand_pcg.specs.Pcg.{output_xsh_rr}
-use Rattle.sot_flight.proofs.Words.{read_draw}
+use Rattle.sot_flight.proofs.Drawn.{read_draw}
 use Rattle.sot_flight.proofs.draws.draw.Goals as goal
 
 pub returns-clause-value : goal.returns-clause-value

@@ -3,11 +3,11 @@ use Rattle.std.proofs.lemmas.Option.{slice_get_read, slice_get-get_or}
 use Rattle.rand_pcg.specs.Pcg.{output_xsh_rr}
 use Rattle.sot_lists.specs.Places.{At}
 use Rattle.sot_code.proofs.Filling.{read_word}
-use Rattle.sot_flight.specs.Draws.{word}
+use Rattle.sot_generator_words.specs.Words.{word}
 use Rattle.sot_flight.specs.Stated.{noise_of}
 use Rattle.sot_flight.specs.Fits.{FitsSway}
 use Rattle.sot_flight.specs.FlightView.{sway_of}
-use Rattle.sot_flight.proofs.Words.{drawn_read}
+use Rattle.sot_flight.proofs.Drawn.{drawn_read}
 use Rattle.sot_flight.proofs.Bounds.{low_at, high_at, noise_drawn_at}
 use Rattle.sot_flight.proofs.Fitting.{listed_size}
 use Rattle.sot_flight.proofs.noise.noise_at.Goals as goal

@@ -1,8 +1,8 @@
 -- What the loop of `put_program` keeps.
 use Rattle.std.proofs.Common.{◌≡◌, ◌++◌, ◌-◌}
 use Rattle.std.specs.String.{string_bytes}
-use Rattle.sot_maker.specs.Generator.{words_from, mission_stream}
-use Rattle.sot_maker.specs.Declarations.{declarations_from, program_text}
+use Rattle.sot_generator_words.specs.Words.{words_from}
+use Rattle.sot_maker.specs.Declarations.{mission_stream, declarations_from, program_text}
 use Rattle.sot_maker.proofs.declarations.put_program.Given as goal
 
 -- the words that were given; what is written, and then what is left

@@ -11,7 +11,3 @@ words_from seed stream i =
 -- word i, from 0 on, of the generator with this seed on this stream
 abbrev pub word : ℕ → ℕ → ℕ → ℕ
 word seed stream i = output_xsh_rr (words_from seed stream i).state
-
--- the stream whose words are for missions, one word for each module
-abbrev pub mission_stream : ℕ
-mission_stream = 54

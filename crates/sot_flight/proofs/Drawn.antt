@@ -1,31 +1,16 @@
--- The words of a generator, one after another, and the numbers that they stand for.
+-- The numbers that the words of a generator stand for.
 use Rattle.std.proofs.Common.{◌≡◌, ℕ, zero, suc, ◌+◌, ◌<◌, ◌%◌, ℤ, pos, ◌+ℤ◌, ◌-ℤ◌, ◌≤ℤ◌, ◌^◌, List, [], ◌∷◌, length, Some, refl, ap, ◌∙◌, arith}
 use Rattle.std.proofs.Common.{FitsSigned, to_z, of_z, w64, negsuc}
 use mir.Val.{hbits}
 use Rattle.std.specs.Prelude.{unsigned_abs}
 use Rattle.std.proofs.lemmas.Int.{to_z-of_z, to_z_pos, ints}
 use Rattle.std.proofs.lemmas.Option.{none-some, same_Some}
-use Rattle.rand_pcg.specs.Lcg.{Lcg, state_after, next_state, next}
-use Rattle.rand_pcg.specs.Pcg.{multiplier_64}
 use Rattle.sot_lists.specs.Places.{At}
 use Rattle.sot_box.specs.Sides.{Side, IsIn}
 use Rattle.sot_box.specs.Boxes.{IsWithin}
 use Rattle.sot_lang.specs.TableRules.{IsNarrow}
-use Rattle.sot_flight.specs.Draws.{words_from, word, drawn, drawn_from}
-
-pub state_more : (w m increment n state : ℕ) → next_state w m increment (state_after w m increment n state) ≡ state_after w m increment (suc n) state
-unfolding state_after
-state_more w m increment zero state = refl
-state_more w m increment (suc n) state = state_more w m increment n (next_state w m increment state)
-
--- the generator after one word more
-pub words_more : (seed stream i : ℕ) → next 64 multiplier_64 (words_from seed stream i) ≡ words_from seed stream (suc i)
-unfolding state_after
-words_more seed stream i =
-    let g = words_from seed stream 0 in
-    let e = state_more 64 multiplier_64 g.increment i g.state in
-    let at : ℕ → Lcg = λ s. record { state = s; increment = g.increment } in
-    ap at e
+use Rattle.sot_generator_words.specs.Words.{word}
+use Rattle.sot_flight.specs.Draws.{drawn, drawn_from}
 
 -- the number at a place is drawn from the word of that place
 pub drawn_at : (seed stream first : ℕ) (rs : List Side) (i : ℕ) (r : Side) → At rs i r
@@ -73,13 +58,6 @@ read_draw lo hi w low high narrow =
 pub drawn_read : (lo hi z : ℤ) (w v : ℕ) → FitsSigned w64 lo → FitsSigned w64 hi
     → z ≡ drawn (record { lo = to_z w64 (of_z w64 lo); hi = to_z w64 (of_z w64 hi) }) w → w ≡ v → z ≡ drawn (record { lo = lo; hi = hi }) v
 drawn_read lo hi z w v low high is same = (rw (to_z-of_z w64 lo low, to_z-of_z w64 hi high) at is) ∙ ap (drawn (record { lo = lo; hi = hi })) same
-
--- the words after one more, as a loop counts them
-pub words_on : (seed stream given i : ℕ) (words more : Lcg) → words ≡ words_from seed stream (given + i) → more ≡ next 64 multiplier_64 words
-    → more ≡ words_from seed stream (given + (i + 1))
-words_on seed stream given i words more is step =
-    let e : suc (given + i) ≡ given + (i + 1) = omega arith in
-    step ∙ ap (next 64 multiplier_64) is ∙ words_more seed stream (given + i) ∙ ap (words_from seed stream) e
 
 -- the number that a word stands for is in the range
 pub drawn_in : (r : Side) (w : ℕ) → r.lo ≤ℤ r.hi → IsIn r (drawn r w)
