@@ -20,6 +20,7 @@ pub use fired::Fired;
 pub use gather::{put, put_locals, put_point, put_seen};
 pub use locals::Locals;
 pub use node::{run_node, run_node_over};
+pub use numbers::power_of_ten;
 pub use plant::{plant_next, plant_next_over};
 pub use seen::Seen;
 pub use term::value;
