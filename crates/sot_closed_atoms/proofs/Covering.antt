@@ -1,26 +1,23 @@
 -- The atoms that hold points of a region are put into a set, block by block.
-use Rattle.std.proofs.Common.{◌≡◌, ℕ, zero, suc, ◌+◌, ◌-◌, ◌/◌, ◌≤◌, ◌<◌, ◌⊎◌, inl, inr, ⊎_elim, ℤ, List, [], ◌∷◌, Bool, true, false, length, refl, sym, ◌∙◌}
+use Rattle.std.proofs.Common.{◌≡◌, ℕ, zero, suc, ◌+◌, ◌-◌, ◌/◌, ◌≤◌, ◌<◌, ◌⊎◌, inl, inr, ⊎_elim, ℤ, List, [], ◌∷◌, length, refl, sym, ◌∙◌}
 use Rattle.std.proofs.Common.{subst, arith}
 use Rattle.std.proofs.lemmas.Int.{ints}
-use Rattle.std.specs.Prelude.{slice_set, slice_index, IsTrue, ◌↔◌}
+use Rattle.std.specs.Prelude.{slice_set}
 use Rattle.std.proofs.lemmas.Bool.{cases_lt}
 use Rattle.std.proofs.lemmas.Option.{same_Some, none-some}
 use Rattle.sot_lists.specs.Places.{At}
-use Rattle.sot_lists.proofs.Places.{at_below}
 use Rattle.sot_box.specs.Sides.{Side}
 use Rattle.sot_box.specs.Boxes.{IsWithin, point_box}
-use Rattle.sot_box.specs.Regions.{IsInRegion, IsHull, Covers}
+use Rattle.sot_box.specs.Regions.{IsInRegion, Covers}
 use Rattle.sot_box.proofs.Ranges.{within_length}
 use Rattle.sot_lang.specs.declared.tables.ModuleInfo.{ModuleInfo}
 use Rattle.sot_lang.specs.Tables.{Tables}
 use Rattle.sot_atoms.specs.declared.block.Stretch.{Stretch}
 use Rattle.sot_atoms.specs.Blocks.{FitsAxes, IsInBlock, IsOneAtom, AreHalves, atom_count}
-use Rattle.sot_atoms.specs.Grids.{Cut, IsCut, IsAreaOf, HoldsPoint, IsFinest}
-use Rattle.sot_atoms.specs.Sets.{IsAtom, IsMember, SetFits, IsPut}
-use Rattle.sot_atoms.proofs.Points.{fits_length, holds_atom, is_in_block}
+use Rattle.sot_atoms.specs.Grids.{Cut, IsCut, IsAreaOf}
+use Rattle.sot_atoms.proofs.Points.{fits_length, holds_atom}
 use Rattle.sot_atoms.proofs.Boxes.{area_in, thin, point_is, in_hull}
-use Rattle.sot_law_held_regions.specs.Following.{HasNoHeldRegion}
-use Rattle.sot_closed_atoms.specs.Greatest.{IsAmong, HoldsRegion, HasPointsOf, HasPointsIn, HasMembersOf, IsFinestOf, TellsNone, KeepsHeldRegions}
+use Rattle.sot_closed_atoms.specs.Greatest.{HoldsRegion, HasPointsOf, HasPointsIn, HasMembersOf, TellsNone, KeepsHeldRegions}
 
 -- a point of the box of one point is that point
 point_same : (s t : List ℤ) → IsWithin (point_box s) t → t ≡ s
@@ -61,19 +58,6 @@ in_halves block low high at h inside =
     (cases_lt middle a.0)
 
 module _ (grid : Cut) (cut : IsCut grid.width grid.last grid.axes) (region : List (List Side)) where
-  pub members_refl : (set : List ℕ) → HasMembersOf grid set set
-  members_refl set at atom member = member
-
-  module _ (old new : List ℕ) (block : List Stretch) (fits : FitsAxes grid.axes block) (size : length old ≡ atom_count grid.axes) where
-    -- a block that is put as a whole
-    pub put_more : (SetFits grid.axes old block → IsPut grid.axes old new block) → HasMembersOf grid old new
-    put_more put at atom member =
-        let h = put (record { size = size; in_axes = fits }) in
-        ⊎_elim (λ here. h.inside at here) (λ away. (h.outside at atom away).1 member) (is_in_block block at)
-
-    pub put_holds : (SetFits grid.axes old block → IsPut grid.axes old new block) → HasPointsIn grid new region block
-    put_holds put finest s at inside long holds here = (put (record { size = size; in_axes = fits })).inside at here
-
   module _ (set : List ℕ) (block : List Stretch) (fits : FitsAxes grid.axes block) (area : List Side) (width : length area ≡ grid.width)
       (is : IsAreaOf grid block area) where
     four : length block ≡ 4
@@ -96,9 +80,6 @@ module _ (grid : Cut) (cut : IsCut grid.width grid.last grid.axes) (region : Lis
   halves_hold one two block low high h first more second finest s at inside long holds here =
       ⊎_elim (λ l. more at (holds_atom grid.axes at s holds) (first finest s at inside long holds l)) (λ u. second finest s at inside long holds u)
       (in_halves block low high at h here)
-
-  pub members_then : (one two three : List ℕ) → HasMembersOf grid one two → HasMembersOf grid two three → HasMembersOf grid one three
-  members_then one two three f g at atom member = g at atom (f at atom member)
 
 -- nothing left on the finest grid of the safe region's hull: no held region lies in it
 module _ (p : Tables) (jitter : ℕ) (a : ModuleInfo) (grid : Cut) (cut : IsCut grid.width grid.last grid.axes) (old new : List ℕ)

@@ -1,109 +1,95 @@
--- How a tube that is followed beside a set of atoms stands after some ticks.
-use Rattle.std.proofs.Common.{◌≡◌, ℕ, zero, suc, ◌+◌, ◌-◌, ◌<◌, ◌⊎◌, ⊎_elim, ℤ, List, Ok, Err, length, refl, sym, ◌∙◌, subst, arith}
+-- How a walk that is followed beside a set of atoms stands after some ticks.
+use Rattle.std.proofs.Common.{◌≡◌, ℕ, suc, ◌-◌, ◌<◌, ◌⊎◌, ⊎_elim, ℤ, List, Ok, length, sym, ◌∙◌, subst}
 use Rattle.sot_box.specs.Sides.{Side, AreOrdered}
 use Rattle.sot_box.specs.Boxes.{IsWithin}
 use Rattle.sot_lists.specs.Places.{At}
-use Rattle.sot_lists.proofs.Places.{at_same}
 use Rattle.sot_lang.specs.declared.tables.PlantInfo.{PlantInfo}
 use Rattle.sot_lang.specs.Tables.{Tables}
 use Rattle.sot_lang.specs.TableRules.{MeetsTableRules}
-use Rattle.sot_lang.specs.Ranges.{bounds}
 use Rattle.sot_lang.proofs.Owners.{noise_ordered}
-use Rattle.sot_iv.specs.declared.may_trap.MayTrap.{MayTrap}
-use Rattle.sot_iv.specs.PlantTicks.{MayTickBox, IsBoxAfterTick, ArePlantRanges, IsBoxOver}
-use Rattle.sot_iv.specs.Monotony.{AreNarrower}
-use Rattle.sot_tube.proofs.WalkRanges.{after, same, ranges_next}
+use Rattle.sot_iv.specs.PlantIntervals.{IsNextBox}
 use Rattle.sot_atoms.specs.Grids.{Cut}
 use Rattle.sot_law_held_regions.specs.Following.{LiesAmong, StaysAmong}
-use Rattle.sot_closed_atoms.specs.Greatest.{IsAmong}
 use Rattle.sot_law_held_regions.specs.Walks.{SomeTubeStays}
-use Rattle.sot_closed_atoms.specs.declared.tube.Held.{Held}
-use Rattle.sot_closed_atoms.specs.declared.tube.Held.TheVariants.{Inside, Leaves, Apart}
 use Rattle.sot_law_held_regions.proofs.Walking.{stays_lies, stays_on, stays_never, some_on, some_never}
+use Rattle.sot_closed_atoms.specs.Greatest.{IsAmong}
+use Rattle.sot_closed_atoms.specs.Walking.{Walked, GoesBy, GoesTo, MayTrapNext, LeavesSet, IsApartFrom}
+use Rattle.sot_closed_atoms.specs.declared.tube.Held.{Held}
+use Rattle.sot_closed_atoms.specs.declared.tube.Held.TheVariants.{Leaves, Apart}
 
--- the tubes of so many ticks from the first box go on from this one, and what was found so far
-pub record FollowedTo (p : Tables) (k : ℕ) (grid : Cut) (set : List ℕ) (first held seen : List Side) (ticks : ℕ) (area names : List Side) (n : ℕ)
-    (found : Held) : Type 0 where
-  pub step : MayTickBox p k area held seen
-  pub are : ArePlantRanges p k area held seen names
-  pub width : length area ≡ grid.width
-  pub stays : (info : PlantInfo) → At p.plants k info → StaysAmong (IsAmong grid set) info held seen first ticks
-      → StaysAmong (IsAmong grid set) info held seen area (ticks - n)
-  pub some : (info : PlantInfo) → At p.plants k info → SomeTubeStays (IsAmong grid set) info held seen first ticks
-      → SomeTubeStays (IsAmong grid set) info held seen area (ticks - n)
-  pub leaves : found ≡ Leaves → (info : PlantInfo) → At p.plants k info → StaysAmong (IsAmong grid set) info held seen first ticks → ⊥
+-- the tubes along which the walk goes from its first place go on from this one, and what was found so far
+pub record FollowedTo (grid : Cut) (set : List ℕ) (first now : Walked) (n : ℕ) (found : Held) : Type 0 where
+  pub program : now.program ≡ first.program
+  pub plant : now.plant ≡ first.plant
+  pub width : length now.area ≡ grid.width
+  pub goes : (held seen : List Side) → GoesBy first held seen → GoesBy now held seen
+  pub stays : (held seen : List Side) (info : PlantInfo) → GoesBy first held seen → At first.program.plants first.plant info
+      → StaysAmong (IsAmong grid set) info held seen first.area first.ticks → StaysAmong (IsAmong grid set) info held seen now.area (first.ticks - n)
+  pub some : (held seen : List Side) (info : PlantInfo) → GoesBy first held seen → AreOrdered seen → At first.program.plants first.plant info
+      → SomeTubeStays (IsAmong grid set) info held seen first.area first.ticks → SomeTubeStays (IsAmong grid set) info held seen now.area (first.ticks - n)
+  pub leaves : found ≡ Leaves → LeavesSet first grid set
   pub not_apart : found ≡ Apart → ⊥
 
-module _ (p : Tables) (rules : MeetsTableRules p) (k : ℕ) (grid : Cut) (set : List ℕ) (first held seen : List Side) (ordered : AreOrdered seen)
-    (ticks : ℕ) where
+module _ (grid : Cut) (set : List ℕ) (first : Walked) where
   abbrev P : List ℤ → Type 0
   P = IsAmong grid set
 
-  pub followed_start : (names : List Side) → MayTickBox p k first held seen → ArePlantRanges p k first held seen names → length first ≡ grid.width
-      → FollowedTo p k grid set first held seen ticks first names 0 Inside
-  followed_start names step are width = record {
-    step = step;
-    are = are;
-    width = width;
-    stays = λ info at s. let e : ticks ≡ ticks - 0 = omega arith in subst (StaysAmong P info held seen first) e s;
-    some = λ info at s. let e : ticks ≡ ticks - 0 = omega arith in subst (SomeTubeStays P info held seen first) e s;
-    leaves = λ e info at s. cc;
-    not_apart = λ e. cc;
-  }
+  module _ (now : Walked) (rules : MeetsTableRules now.program) (n : ℕ) (found : Held) (sofar : FollowedTo grid set first now n found)
+      (lt : n < first.ticks) where
+    at_now : (info : PlantInfo) → At first.program.plants first.plant info → At now.program.plants now.plant info
+    at_now info at =
+        subst (λ (t : Tables). At t.plants now.plant info) (sym sofar.program) (subst (λ k. At first.program.plants k info) (sym sofar.plant) at)
 
-  module _ (area names : List Side) (n : ℕ) (found : Held) (sofar : FollowedTo p k grid set first held seen ticks area names n found) (lt : n < ticks) where
-    pub trapped : (t : MayTrap) → IsBoxOver p k names (Err t) → (info : PlantInfo) → At p.plants k info → StaysAmong P info held seen first ticks → ⊥
-    trapped t over info at s = stays_never P info held seen area ticks n lt t (after p k area held seen names (Err t) sofar.are over info at)
-        (sofar.stays info at s)
+    pub trapped : MayTrapNext now → LeavesSet first grid set
+    trapped (t, told) held seen info by at s =
+        stays_never P info held seen now.area first.ticks n lt t (told held seen (sofar.goes held seen by) info (at_now info at))
+        (sofar.stays held seen info by at s)
 
-    module _ (next : List Side) (over : IsBoxOver p k names (Ok next)) where
-      pub told : IsBoxAfterTick p k area held seen (Ok next)
-      told = after p k area held seen names (Ok next) sofar.are over
+    module _ (next : List Side) (new : Walked) (to : GoesTo now next new) where
+      told_now : (held seen : List Side) (info : PlantInfo) → GoesBy first held seen → At first.program.plants first.plant info
+          → IsNextBox info now.area held seen (Ok next)
+      told_now held seen info by at = to.told held seen (sofar.goes held seen by) info (at_now info at)
 
-      pub long : length next ≡ length area
-      long = same p k area held seen names next rules sofar.step sofar.are told
+      pub next_width : length next ≡ grid.width
+      next_width = to.width ∙ sofar.width
 
-      stays_next : (info : PlantInfo) → At p.plants k info → StaysAmong P info held seen first ticks → StaysAmong P info held seen next (ticks - suc n)
-      stays_next info at s = stays_on P info held seen area ticks n lt next (told info at) (sofar.stays info at s)
+      stays_next : (held seen : List Side) (info : PlantInfo) → GoesBy first held seen → At first.program.plants first.plant info
+          → StaysAmong P info held seen first.area first.ticks → StaysAmong P info held seen next (first.ticks - suc n)
+      stays_next held seen info by at s =
+          stays_on P info held seen now.area first.ticks n lt next (told_now held seen info by at) (sofar.stays held seen info by at s)
 
-      some_next : (info : PlantInfo) → At p.plants k info → SomeTubeStays P info held seen first ticks → SomeTubeStays P info held seen next (ticks - suc n)
-      some_next info at s =
-          some_on P info held seen area ticks n lt next ordered
-          (noise_ordered info.noise.items (λ i d at_d. ((rules.plants k info at).noise_ranges i d at_d).1.0))
-          (told info at) (sofar.some info at s)
+      some_next : (held seen : List Side) (info : PlantInfo) → GoesBy first held seen → AreOrdered seen → At first.program.plants first.plant info
+          → SomeTubeStays P info held seen first.area first.ticks → SomeTubeStays P info held seen next (first.ticks - suc n)
+      some_next held seen info by ordered at s =
+          some_on P info held seen now.area first.ticks n lt next ordered
+          (noise_ordered info.noise.items (λ i d at_d. ((rules.plants now.plant info (at_now info at)).noise_ranges i d at_d).1.0))
+          (told_now held seen info by at) (sofar.some held seen info by ordered at s)
 
-      pub apart_now : ((s : List ℤ) → IsWithin next s → P s → ⊥) → (info : PlantInfo) → At p.plants k info → SomeTubeStays P info held seen first ticks → ⊥
-      apart_now apart info at s = some_never P info held seen next (ticks - suc n) apart (some_next info at s)
+      pub apart_now : ((s : List ℤ) → IsWithin next s → P s → ⊥) → IsApartFrom first grid set
+      apart_now apart held seen info by ordered at s =
+          some_never P info held seen next (first.ticks - suc n) apart (some_next held seen info by ordered at s)
 
       -- what was found after one more box
       module _ (standing worse : Held) (either : (worse ≡ found) ⊎ (worse ≡ standing)) (leaves : standing ≡ Leaves → LiesAmong P next → ⊥)
           (not_apart : standing ≡ Apart → ⊥) where
-        pub leaves_next : worse ≡ Leaves → (info : PlantInfo) → At p.plants k info → StaysAmong P info held seen first ticks → ⊥
-        leaves_next e info at s =
-            ⊎_elim (λ (w : worse ≡ found). sofar.leaves (sym w ∙ e) info at s)
-            (λ (w : worse ≡ standing). leaves (sym w ∙ e) (stays_lies P info held seen next (ticks - suc n) (stays_next info at s))) either
+        pub leaves_next : worse ≡ Leaves → LeavesSet first grid set
+        leaves_next e held seen info by at s =
+            ⊎_elim (λ (w : worse ≡ found). sofar.leaves (sym w ∙ e) held seen info by at s)
+            (λ (w : worse ≡ standing). leaves (sym w ∙ e) (stays_lies P info held seen next (first.ticks - suc n) (stays_next held seen info by at s))) either
 
         pub not_apart_next : worse ≡ Apart → ⊥
         not_apart_next e = ⊎_elim (λ (w : worse ≡ found). sofar.not_apart (sym w ∙ e)) (λ (w : worse ≡ standing). not_apart (sym w ∙ e)) either
 
-        pub followed_next : (more : List Side) → ArePlantRanges p k next held seen more → (m : ℕ) → m ≡ suc n
-            → FollowedTo p k grid set first held seen ticks next more m worse
-        followed_next more are m is = record {
-          step = record {
-            plant = sofar.step.plant;
-            is = sofar.step.is;
-            states = long ∙ sofar.step.states;
-            inputs = sofar.step.inputs;
-            seen_are = sofar.step.seen_are;
-          };
-          are = are;
-          width = long ∙ sofar.width;
-          stays = λ info at s. subst (λ i. StaysAmong P info held seen next (ticks - i)) (sym is) (stays_next info at s);
-          some = λ info at s. subst (λ i. SomeTubeStays P info held seen next (ticks - i)) (sym is) (some_next info at s);
+        pub followed_next : (m : ℕ) → m ≡ suc n → FollowedTo grid set first new m worse
+        followed_next m is = record {
+          program = to.program ∙ sofar.program;
+          plant = to.plant ∙ sofar.plant;
+          width = subst (λ (b : List Side). length b ≡ grid.width) (sym to.area) next_width;
+          goes = λ held seen by. to.goes held seen (sofar.goes held seen by);
+          stays = λ held seen info by at s. subst (λ b. StaysAmong P info held seen b (first.ticks - m)) (sym to.area)
+              (subst (λ i. StaysAmong P info held seen next (first.ticks - i)) (sym is) (stays_next held seen info by at s));
+          some = λ held seen info by ordered at s. subst (λ b. SomeTubeStays P info held seen b (first.ticks - m)) (sym to.area)
+              (subst (λ i. SomeTubeStays P info held seen next (first.ticks - i)) (sym is) (some_next held seen info by ordered at s));
           leaves = leaves_next;
           not_apart = not_apart_next;
         }
-
-  pub followed_leaves : (area names : List Side) (n : ℕ) (found : Held) → FollowedTo p k grid set first held seen ticks area names n found → found ≡ Leaves
-      → (info : PlantInfo) → At p.plants k info → StaysAmong P info held seen first ticks → ⊥
-  followed_leaves area names n found sofar e info at s = sofar.leaves e info at s

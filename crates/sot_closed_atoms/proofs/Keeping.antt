@@ -15,8 +15,8 @@ use Rattle.sot_atoms.specs.Grids.{Cut, IsCut, IsAreaOf}
 use Rattle.sot_atoms.specs.Sets.{SetFits, IsTaken}
 use Rattle.sot_atoms.proofs.Points.{fits_length, fits_each, fits_at, holds_atom, is_in_block}
 use Rattle.sot_atoms.proofs.Boxes.{area_in, thin, point_is}
-use Rattle.sot_law_held_regions.specs.Following.{HeldStays, IsHeldRegion}
-use Rattle.sot_closed_atoms.specs.Greatest.{IsAmong, HoldsRegion, KeepsHeldRegions}
+use Rattle.sot_law_held_regions.specs.Following.{HeldStays}
+use Rattle.sot_closed_atoms.specs.Greatest.{IsAmong, KeepsHeldRegions}
 use Rattle.sot_closed_atoms.specs.declared.tube.Held.{Held}
 use Rattle.sot_closed_atoms.specs.declared.tube.Held.TheVariants.{Inside, Leaves, Apart}
 use Rattle.sot_closed_atoms.proofs.Extents.{extent, low_less, high_less}
@@ -70,13 +70,6 @@ part_fits axes block low high part fits h either =
     (λ e. subst (FitsAxes axes) (sym e) (high_fits axes block low high fits h)) either
 
 module _ (p : Tables) (jitter : ℕ) (a : ModuleInfo) (grid : Cut) where
-  pub keeps_refl : (set : List ℕ) → KeepsHeldRegions p jitter a grid set set
-  keeps_refl set finest region held holds = holds
-
-  pub keeps_then : (one two three : List ℕ) → KeepsHeldRegions p jitter a grid one two → KeepsHeldRegions p jitter a grid two three
-      → KeepsHeldRegions p jitter a grid one three
-  keeps_then one two three first second finest region held holds = second finest region held (first finest region held holds)
-
   -- a block goes as a whole where its tube is apart from the set, or where it is one atom whose tube leaves it
   pub taken_keeps : (old new : List ℕ) (block : List Stretch) (area : List Side) (found : Held) → IsCut grid.width grid.last grid.axes
       → FitsAxes grid.axes block → length area ≡ grid.width → (FitsAxes grid.axes block → IsAreaOf grid block area)

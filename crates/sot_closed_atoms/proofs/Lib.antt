@@ -1,4 +1,5 @@
 pub mod Extents
+pub mod Walking
 pub mod Followed
 pub mod HeldLeaves
 pub mod Standing

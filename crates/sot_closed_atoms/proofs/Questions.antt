@@ -19,36 +19,6 @@ use Rattle.sot_iv.specs.PlantTicks.{MayTickBox}
 use Rattle.sot_law_held_regions.specs.Following.{HeldStays}
 use Rattle.sot_closed_atoms.specs.Asking.{MayAsk, Asked, IsAsked, asked_width}
 
-module _ (q : Asked) (rules : MeetsTableRules q.program) (asked : IsAsked q) where
-  pub plant_there : q.info.plant < length q.program.plants
-  plant_there = (let h = rules.typed.plant_is asked.m q.info asked.is in slice_get_within q.program.plants q.info.plant h.0 h.1)
-
-  pub sc_there : q.info.sc < length q.program.nodes
-  sc_there = (let h = rules.typed.sc_is asked.m q.info asked.is in slice_get_within q.program.nodes q.info.sc h.0 h.2)
-
-  pub sc_coded : (sc : NodeInfo) → At q.program.nodes q.info.sc sc → (acts : List Act) × IsCoded sc acts
-  sc_coded sc at =
-      let h = rules.typed.sc_is asked.m q.info asked.is in
-      (h.1, subst (λ (x : NodeInfo). IsCoded x h.1) (same_Some h.0 sc (sym h.2 ∙ at)) h.3)
-
-  module _ (plant : PlantInfo) (at : At q.program.plants q.info.plant plant) where
-    pub inputs_there : (inputs : List ℕ) → inputs ≡ plant.inputs.items → (k : ℕ) → Has inputs k → k < length q.program.scalars
-    inputs_there inputs are k has = rules.typed.inputs_are q.info.plant plant k at (subst (λ l. Has l k) are has)
-
-    pub inputs_few : length plant.inputs.items ≤ 8
-    inputs_few = (rules.plants q.info.plant plant at).inputs
-
-    -- a step of the plant from a box of its width
-    pub may_tick : (box held : List Side) → length box ≡ asked_width q → length held ≡ length plant.inputs.items
-        → MayTickBox q.program q.info.plant box held q.seen
-    may_tick box held width inputs = record {
-      plant = plant;
-      is = at;
-      states = width ∙ width_at q.program.plants q.info.plant plant at;
-      inputs = inputs;
-      seen_are = asked.width plant at;
-    }
-
 -- the hulls of the plants that a plant sees
 module _ (p : Tables) (rules : MeetsTableRules p) (k : ℕ) (plant : PlantInfo) (at : At p.plants k plant) (sees : List ℕ) (are : sees ≡ plant.sees.items) where
   pub seen_fit : seen_width p.plants sees ≤ 64
@@ -95,9 +65,6 @@ module _ (q : Asked) (rules : MeetsTableRules q.program) (asked : IsAsked q) (p 
       let h = rules_of.typed.sc_is asked.m a is_of in
       (h.1, subst (λ (x : NodeInfo). IsCoded x h.1) (same_Some h.0 sc (sym h.2 ∙ at)) h.3)
 
-  pub boxes_of : HaveSafeBoxes p
-  boxes_of = subst HaveSafeBoxes (sym p_is) asked.boxes
-
   pub held_of : (P : List ℤ → Type 0) (j : ℕ) → j ≡ q.jitter → (box : List Side) → HeldStays P q.program q.jitter q.info box → HeldStays P p j a box
   held_of P j j_is box h =
       subst (λ (t : Tables). HeldStays P t j a box) (sym p_is)
@@ -111,9 +78,6 @@ module _ (q : Asked) (rules : MeetsTableRules q.program) (asked : IsAsked q) (p 
   module _ (plant : PlantInfo) (at : At p.plants a.plant plant) (seen : List Side) (seen_is : seen ≡ q.seen) where
     there : At q.program.plants q.info.plant plant
     there = subst (λ (t : Tables). At t.plants q.info.plant plant) p_is (subst (λ (x : ModuleInfo). At p.plants x.plant plant) a_is at)
-
-    pub inputs_of : (scalars inputs : List ℕ) → inputs ≡ plant.inputs.items → (k : ℕ) → Has inputs k → k < length p.scalars
-    inputs_of scalars inputs are k has = rules_of.typed.inputs_are a.plant plant k at (subst (λ l. Has l k) are has)
 
     pub hulls_of : AreSeenHulls p.modules plant.sees.items seen
     hulls_of =

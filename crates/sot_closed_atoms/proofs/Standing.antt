@@ -5,7 +5,7 @@ use Rattle.sot_box.specs.Sides.{Side, AreOrdered}
 use Rattle.sot_box.specs.Boxes.{IsWithin, lows}
 use Rattle.sot_box.proofs.Ranges.{lows_within}
 use Rattle.sot_atoms.specs.declared.block.Stretch.{Stretch}
-use Rattle.sot_atoms.specs.Blocks.{FitsAxes, IsInBlock}
+use Rattle.sot_atoms.specs.Blocks.{FitsAxes}
 use Rattle.sot_atoms.specs.Grids.{Cut, IsCut, LeavesHull, MeetsBlock, IsOffHull, ClipsBlock}
 use Rattle.sot_atoms.specs.Sets.{IsMember, SetFits, AllMembers, NoMembers}
 use Rattle.sot_atoms.proofs.Points.{fits_length, holds_same}

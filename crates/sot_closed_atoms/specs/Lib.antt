@@ -1,3 +1,5 @@
 -- what the public contracts say
 pub mod Asking
 pub mod Greatest
+-- what the functions inside the crate promise each other
+pub mod Walking

@@ -9,10 +9,9 @@ ghost use Rattle.sot_closed_atoms.specs.declared.tube.Held.TheVariants.{Leaves, 
 
 use crate::ask::Ask;
 use crate::tube::{Held, follow};
+use crate::walk::Walk;
 use sot_atoms::{AtomSet, Grid};
-use sot_box::{BoxN, Interval};
-use sot_iv::{Ranges, put_types};
-use sot_rta::{cell_draft, node_at, plant_at, put_commands};
+use sot_box::BoxN;
 
 /// How the held tube of a box lies to a set of atoms: with what the safe node surely drafts there,
 /// for the node's period and the jitter. Takes no memory.
@@ -25,27 +24,10 @@ pub fn held_tube(ask: &Ask<'_>, area: &BoxN, grid: &Grid, set: &AtomSet) -> Held
         → HeldStays (IsAmong grid.now set.now) ask.now.program ask.now.jitter ask.now.info
         (point_box s) → ⊥ }
 {
-    let p = ask.program();
-    let info = ask.info();
-    let plant = plant_at(p, info.plant);
-    let sc = node_at(p, info.sc);
-    let Ok(draft) = cell_draft(p, info, sc, area) else {
-        return Held::Leaves;
-    };
-    let mut inline = [Interval { lo: 0, hi: 0 }; 8];
-    let (held, _) = inline.split_at_mut(plant.inputs.len());
-    put_commands(p, &plant.inputs, &sc.writes, &draft, held);
-    let seen = ask.seen().as_slice();
-    follow(
-        p,
-        info.plant,
-        area,
-        held,
-        seen,
-        sc.period + ask.jitter(),
-        grid,
-        set,
-    )
+    match Walk::held(ask, area) {
+        None => Held::Leaves,
+        Some(mut walk) => follow(&mut walk, grid, set),
+    }
 }
 
 /// How the tube of a box lies to a set of atoms with commands anywhere in their types, for two
@@ -54,21 +36,6 @@ pub fn any_tube(ask: &Ask<'_>, area: &BoxN, grid: &Grid, set: &AtomSet) -> Held
     requires width { length area.now ≡ asked_width ask.now }
     requires grid { grid.now.width ≡ asked_width ask.now }
 {
-    let p = ask.program();
-    let info = ask.info();
-    let plant = plant_at(p, info.plant);
-    let mut types = Ranges::none();
-    put_types(&p.scalars, &plant.inputs, &mut types);
-    let seen = ask.seen().as_slice();
-    let ticks = 2 * (info.period + ask.jitter());
-    follow(
-        p,
-        info.plant,
-        area,
-        types.as_slice(),
-        seen,
-        ticks,
-        grid,
-        set,
-    )
+    let mut walk = Walk::any(ask, area);
+    follow(&mut walk, grid, set)
 }

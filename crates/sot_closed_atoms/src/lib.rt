@@ -9,6 +9,7 @@ mod stays;
 mod sweeps;
 mod tiles;
 mod tube;
+mod walk;
 
 pub use ask::{Ask, may_ask};
 pub use boxes::held_boxes;

@@ -1,17 +1,12 @@
 //! Tubes that stay among atoms which are counted by look-ups, or in a region.
 
 ghost use Rattle.std.specs.Prelude.{◌≡◌, length};
-ghost use Rattle.sot_lang.specs.TableRules.{MeetsTableRules};
-ghost use Rattle.sot_iv.specs.PlantTicks.{MayTickBox};
 ghost use Rattle.sot_closed_atoms.specs.Asking.{asked_width};
 
 use crate::ask::Ask;
-use crate::tube::lies_in;
+use crate::walk::Walk;
 use sot_atoms::{Grid, Sums};
-use sot_box::{BoxN, Interval, Region};
-use sot_iv::{Ranges, iv_plant_over, put_front, put_plant_ranges, put_types};
-use sot_lang::Typed;
-use sot_rta::{cell_draft, node_at, plant_at, put_commands};
+use sot_box::{BoxN, Region};
 
 /// Where the boxes of a tube are to lie.
 #[derive(Clone, Copy)]
@@ -45,36 +40,19 @@ fn lies(among: Among<'_>, area: &BoxN) -> bool {
     }
 }
 
-// Whether each box of a plant's tube after the first lies there, and no step may trap, with
-// commands and the states of seen plants in these intervals.
-fn stays(
-    p: &Typed,
-    plant: u32,
-    area: &BoxN,
-    held: &[Interval],
-    seen: &[Interval],
-    ticks: u32,
-    among: Among<'_>,
-) -> bool
-    requires rules { MeetsTableRules p.now }
-    requires step { MayTickBox p.now plant area.now held.now seen.now }
-{
-    let mut at = *area;
-    let mut names = Ranges::none();
-    put_plant_ranges(p, plant, area, held, seen, &mut names);
+// Whether each box of a walk lies there, and no step may trap.
+fn stays(walk: &mut Walk<'_>, among: Among<'_>) -> bool {
+    let ticks = walk.ticks();
     for _tick in 0..ticks {
-        let Ok(next) = iv_plant_over(p, plant, &names) else {
+        let Some(step) = walk.step() else {
             return false;
         };
-        if !lies(among, &next) {
+        if !lies(among, &step.area) {
             return false;
         }
-        if lies_in(&next, &at) {
-            // so do all later boxes lie in this one
+        if step.settled {
             return true;
         }
-        put_front(&next, &mut names);
-        at = next;
     }
     true
 }
@@ -84,26 +62,10 @@ fn stays(
 pub fn held_stays(ask: &Ask<'_>, area: &BoxN, among: Among<'_>) -> bool
     requires { length area.now ≡ asked_width ask.now }
 {
-    let p = ask.program();
-    let info = ask.info();
-    let plant = plant_at(p, info.plant);
-    let sc = node_at(p, info.sc);
-    let Ok(draft) = cell_draft(p, info, sc, area) else {
-        return false;
-    };
-    let mut inline = [Interval { lo: 0, hi: 0 }; 8];
-    let (held, _) = inline.split_at_mut(plant.inputs.len());
-    put_commands(p, &plant.inputs, &sc.writes, &draft, held);
-    let seen = ask.seen().as_slice();
-    stays(
-        p,
-        info.plant,
-        area,
-        held,
-        seen,
-        sc.period + ask.jitter(),
-        among,
-    )
+    match Walk::held(ask, area) {
+        None => false,
+        Some(mut walk) => stays(&mut walk, among),
+    }
 }
 
 /// Whether each box after the first of the tube of a box under any commands lies there, and no
@@ -111,12 +73,6 @@ pub fn held_stays(ask: &Ask<'_>, area: &BoxN, among: Among<'_>) -> bool
 pub fn any_stays(ask: &Ask<'_>, area: &BoxN, among: Among<'_>) -> bool
     requires { length area.now ≡ asked_width ask.now }
 {
-    let p = ask.program();
-    let info = ask.info();
-    let plant = plant_at(p, info.plant);
-    let mut types = Ranges::none();
-    put_types(&p.scalars, &plant.inputs, &mut types);
-    let seen = ask.seen().as_slice();
-    let ticks = 2 * (info.period + ask.jitter());
-    stays(p, info.plant, area, types.as_slice(), seen, ticks, among)
+    let mut walk = Walk::any(ask, area);
+    stays(&mut walk, among)
 }

@@ -1,21 +1,15 @@
 //! A tube, followed box by box, beside a set of atoms.
 
 ghost use Rattle.std.specs.Prelude.{◌≡◌, ◌⊎◌, ℤ, List, IsTrue, length};
-ghost use Rattle.sot_lists.specs.Places.{At};
-ghost use Rattle.sot_box.specs.Sides.{AreOrdered};
 ghost use Rattle.sot_box.specs.Boxes.{IsWithin};
-ghost use Rattle.sot_lang.specs.declared.tables.PlantInfo.{PlantInfo};
-ghost use Rattle.sot_lang.specs.TableRules.{MeetsTableRules};
-ghost use Rattle.sot_iv.specs.PlantTicks.{MayTickBox};
-ghost use Rattle.sot_law_held_regions.specs.Following.{LiesAmong, StaysAmong};
+ghost use Rattle.sot_law_held_regions.specs.Following.{LiesAmong};
 ghost use Rattle.sot_closed_atoms.specs.Greatest.{IsAmong};
-ghost use Rattle.sot_law_held_regions.specs.Walks.{SomeTubeStays};
+ghost use Rattle.sot_closed_atoms.specs.Walking.{LeavesSet, IsApartFrom};
 ghost use Rattle.sot_closed_atoms.specs.declared.tube.Held.TheVariants.{Inside, Leaves, Apart};
 
+use crate::walk::Walk;
 use sot_atoms::{AtomSet, Grid};
-use sot_box::{BoxN, Interval};
-use sot_iv::{Ranges, iv_plant_over, put_front, put_plant_ranges};
-use sot_lang::Typed;
+use sot_box::BoxN;
 
 /// How the tube of a box lies to a set of atoms.
 #[derive(Clone, Copy, PartialEq, Eq, Debug)]
@@ -103,60 +97,26 @@ fn worse(found: Held, standing: Held) -> Held
     }
 }
 
-/// Whether each side of a box lies in that of another.
-pub(crate) fn lies_in(b: &BoxN, other: &BoxN) -> bool
-    requires { length b.now ≡ length other.now }
+/// Follows a walk beside a set of atoms, up to a box from which all later ones lie in it.
+pub(crate) fn follow(walk: &mut Walk<'_>, grid: &Grid, set: &AtomSet) -> Held
+    requires { length walk.old.area ≡ grid.now.width }
+    ensures leaves { result ≡ Leaves → LeavesSet walk.old grid.now set.now }
+    ensures apart { result ≡ Apart → IsApartFrom walk.old grid.now set.now }
 {
-    for i in 0..b.len() {
-        let inner = b.side(i);
-        let outer = other.side(i);
-        if inner.lo < outer.lo || outer.hi < inner.hi {
-            return false;
-        }
-    }
-    true
-}
-
-/// Follows the tube of a plant from a box for so many ticks, with commands and the states of seen
-/// plants in these intervals.
-pub(crate) fn follow(
-    p: &Typed,
-    plant: u32,
-    area: &BoxN,
-    held: &[Interval],
-    seen: &[Interval],
-    ticks: u32,
-    grid: &Grid,
-    set: &AtomSet,
-) -> Held
-    requires rules { MeetsTableRules p.now }
-    requires step { MayTickBox p.now plant area.now held.now seen.now }
-    requires width { length area.now ≡ grid.now.width }
-    requires ordered { AreOrdered seen.now }
-    ensures leaves { result ≡ Leaves → (info : PlantInfo) → At p.now.plants plant info
-        → StaysAmong (IsAmong grid.now set.now) info held.now seen.now area.now ticks → ⊥ }
-    ensures apart { result ≡ Apart → (info : PlantInfo) → At p.now.plants plant info
-        → SomeTubeStays (IsAmong grid.now set.now) info held.now seen.now area.now ticks → ⊥ }
-{
-    let mut at = *area;
-    let mut names = Ranges::none();
-    put_plant_ranges(p, plant, area, held, seen, &mut names);
     let mut found = Held::Inside;
+    let ticks = walk.ticks();
     for _tick in 0..ticks {
-        let Ok(next) = iv_plant_over(p, plant, &names) else {
+        let Some(step) = walk.step() else {
             return Held::Leaves;
         };
-        let standing = standing(grid, set, &next);
+        let standing = standing(grid, set, &step.area);
         if says_apart(standing) {
             return Held::Apart;
         }
         found = worse(found, standing);
-        if lies_in(&next, &at) {
-            // so do all later boxes lie in this one
+        if step.settled {
             return found;
         }
-        put_front(&next, &mut names);
-        at = next;
     }
     found
 }

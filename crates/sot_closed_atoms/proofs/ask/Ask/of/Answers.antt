@@ -1,4 +1,4 @@
-use Rattle.sot_closed_atoms.proofs.Questions.{seen_fit, seen_safe, is_asked}
+use Rattle.sot_closed_atoms.proofs.Questions.{seen_fit, seen_safe}
 use Rattle.sot_rta.proofs.Found.{plant_there}
 use Rattle.sot_closed_atoms.proofs.ask.Ask.of.Goals as goal
 
