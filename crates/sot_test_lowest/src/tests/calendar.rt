@@ -2,8 +2,8 @@
 
 ghost use Rattle.std.specs.Prelude.{◌<◌};
 
+use super::same;
 use sot_calendar::{due, firings, next_due};
-use std::test::*;
 
 /// Walks from the offset by whole periods until `t` is reached.
 fn plain_next(period: u32, offset: u32, t: u32) -> u32
@@ -21,11 +21,11 @@ fn plain_next(period: u32, offset: u32, t: u32) -> u32
 
 #[test]
 fn meets_the_worked_rows(rt: HostRuntime) {
-    let counts = [firings(4, 3, 1000), firings(1, 0, 100000)];
-    assert_eq!(rt; counts, [250, 100001]);
-    let times = [next_due(4, 3, 4), next_due(1000, 999, 100000)];
-    assert_eq!(rt; times, [7, 100999]);
-    assert!(rt; due(1000, 999, 99999));
+    same(&rt, "firings", firings(4, 3, 1000), 250);
+    same(&rt, "firings", firings(1, 0, 100000), 100001);
+    same(&rt, "next", next_due(4, 3, 4), 7);
+    same(&rt, "next", next_due(1000, 999, 100000), 100999);
+    same(&rt, "due", due(1000, 999, 99999), true);
 }
 
 // By how many of the first thirty times the three calls answer otherwise than a walk.
@@ -54,11 +54,7 @@ fn differing(period: u32, offset: u32) -> u32
 fn counts_and_next_times_are_those_of_a_walk(rt: HostRuntime) {
     for period in 1..7 {
         for offset in 0..period {
-            assert_eq!(rt;
-                differing(period, offset),
-                0,
-                "period {period} offset {offset}"
-            );
+            same(&rt, (period, offset), differing(period, offset), 0);
         }
     }
 }

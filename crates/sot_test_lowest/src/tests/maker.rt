@@ -1,8 +1,8 @@
 //! Tests of the made texts against those of an independent program.
 
+use super::same;
 use sot_maker::make;
 use sot_test_shared_texts::TWO_MODULES;
-use std::test::*;
 
 // A number that stands for the bytes of a text, in their order.
 fn sum_of(text: &str) -> u64 {
@@ -14,14 +14,13 @@ fn sum_of(text: &str) -> u64 {
 }
 
 #[test]
-fn makes_the_mission_of_two_modules(rt: HostRuntime) -> Result<(), Fail> {
-    let text = make(rt.alloc(), 2, 42)?;
-    assert_eq!(rt; text.as_str(), TWO_MODULES);
-    Ok(())
+fn makes_the_mission_of_two_modules(rt: HostRuntime) {
+    let text = make(rt.alloc(), 2, 42).expect(&rt, "memory");
+    same(&rt, (2, 42), text.as_str(), TWO_MODULES);
 }
 
 #[test]
-fn makes_missions_of_any_size(rt: HostRuntime) -> Result<(), Fail> {
+fn makes_missions_of_any_size(rt: HostRuntime) {
     for (n, seed, len, sum) in [
         (1, 0, 747, 288350569),
         (2, 42, 1384, 560718810),
@@ -32,9 +31,12 @@ fn makes_missions_of_any_size(rt: HostRuntime) -> Result<(), Fail> {
         (100, 7, 65394, 715018354),
         (100, 1000000000000, 67794, 849978718),
     ] {
-        let text = make(rt.alloc(), n, seed)?;
-        assert_eq!(rt; text.len(), len);
-        assert_eq!(rt; sum_of(text.as_str()), sum);
+        let text = make(rt.alloc(), n, seed).expect(&rt, "memory");
+        same(
+            &rt,
+            (n, seed),
+            (text.len(), sum_of(text.as_str())),
+            (len, sum),
+        );
     }
-    Ok(())
 }

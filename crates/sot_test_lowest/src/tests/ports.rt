@@ -2,104 +2,147 @@
 
 ghost use Rattle.std.specs.Prelude.{◌≤◌, IfOk};
 
+use super::same;
 use sot_ports::*;
 use std::alloc::Global;
 use std::io;
 use std::io::{Read, Write};
 use std::process::Abort;
 
-// The number in a column of a row, from 0.
-fn number(row: &str, place: usize) -> u32 {
-    row.split(' ').nth(place).unwrap_or("").parse().unwrap_or(0)
+/// How five letters are read: the room of a piece, the read that fails (0: none) and the limit; then
+/// what `read_all` gives, and what the next read gives.
+#[derive(Clone, Copy)]
+struct Reading {
+    room: usize,
+    fails: u32,
+    limit: usize,
+    want: &'static str,
 }
 
-// The room of a piece, the read that fails (0: none) and the limit; then what `read_all` gives of
-// five letters, and what the next read gives.
-const READS: &str = "2 0 5 => abcde, then nothing
-9 0 6 => abcde, then nothing
-9 0 4 => TooLong, then nothing
-9 0 3 => TooLong, then e
-2 2 5 => Fault, then cd
-2 4 5 => Fault, then nothing";
-
-// What a read of a row gives.
-fn put_read(rt: &impl Abort, alloc: Global, row: &str, said: &mut String) {
-    let bytes = Vec::from_slice(alloc, b"abcde").expect(rt, "memory");
-    let fails = vec![in alloc; number(row, 1)].expect(rt, "memory");
-    let mut source = MemSource::new(bytes, number(row, 0).max(1) as usize, fails);
-    match read_all(alloc, &mut source, number(row, 2).min(9) as usize) {
-        Ok(all) => said
-            .push_str(str::from_utf8(&all).expect(rt, "memory"))
-            .expect(rt, "memory"),
-        Err(fail) => write!(said, "{fail:?}").expect(rt, "memory"),
+fn read_by(room: usize, fails: u32, limit: usize, want: &'static str) -> Reading {
+    Reading {
+        room,
+        fails,
+        limit,
+        want,
     }
+}
+
+fn put(rt: &impl Abort, said: &mut String, text: &str) {
+    said.push_str(text).expect(rt, "memory");
+}
+
+fn put_bytes(rt: &impl Abort, said: &mut String, bytes: &[u8]) {
+    put(rt, said, str::from_utf8(bytes).expect(rt, "a text"));
+}
+
+/// What the next read gives.
+fn put_next(rt: &impl Abort, source: &mut MemSource, said: &mut String) {
     let mut room = [0; 9];
     match source.read(&mut room) {
-        Ok(0) => said.push_str(", then nothing").expect(rt, "memory"),
-        Ok(count) => write!(
-            said,
-            ", then {}",
-            str::from_utf8(&room[..count]).expect(rt, "memory")
-        )
-        .expect(rt, "memory"),
-        Err(Failed) => said.push_str(", then a fault").expect(rt, "memory"),
+        Ok(0) => put(rt, said, ", then nothing"),
+        Ok(count) => {
+            put(rt, said, ", then ");
+            put_bytes(rt, said, &room[..count]);
+        }
+        Err(Failed) => put(rt, said, ", then a fault"),
     }
+}
+
+/// What a reading gives.
+fn read_as(rt: &impl Abort, alloc: Global, reading: &Reading) -> String {
+    let bytes = Vec::from_slice(alloc, b"abcde").expect(rt, "memory");
+    let fails = vec![in alloc; reading.fails].expect(rt, "memory");
+    let mut source = MemSource::new(bytes, reading.room.max(1), fails);
+    let mut said = match read_all(alloc, &mut source, reading.limit.min(9)) {
+        Ok(all) => String::from_utf8(all).ok().expect(rt, "a text"),
+        Err(fail) => format!(in alloc; "{fail:?}").expect(rt, "memory"),
+    };
+    put_next(rt, &mut source, &mut said);
+    said
 }
 
 #[test]
 fn reads_to_the_end_or_says_why_not(rt: HostRuntime) {
     let alloc = rt.alloc();
-    for row in READS.lines() {
-        let (given, want) = row.split_once(" => ").unwrap_or(("", ""));
-        let mut said = String::new(alloc);
-        put_read(&rt, alloc, given, &mut said);
-        assert_eq!(rt; said.as_str(), want, "at {row}");
+    for row in [
+        read_by(2, 0, 5, "abcde, then nothing"),
+        read_by(9, 0, 6, "abcde, then nothing"),
+        read_by(9, 0, 4, "TooLong, then nothing"),
+        read_by(9, 0, 3, "TooLong, then e"),
+        read_by(2, 2, 5, "Fault, then cd"),
+        read_by(2, 4, 5, "Fault, then nothing"),
+    ] {
+        let said = read_as(&rt, alloc, &row);
+        same(
+            &rt,
+            (row.room, row.fails, row.limit),
+            said.as_str(),
+            row.want,
+        );
     }
     let bytes = Vec::from_slice(alloc, b"abcde").expect(&rt, "memory");
     let all = read_all(alloc, &mut PureSource::new(bytes), 5);
-    assert!(rt; all.is_ok_and(|all| all.as_slice() == b"abcde".as_slice()));
+    same(&rt, "pure", all.ok().as_deref(), Some(b"abcde".as_slice()));
 }
 
-// The room of a sink, that of a piece and the write that fails (0: none); then how a write of five
-// letters ends, and what the sink holds.
-const WRITES: &str = "9 2 0 => whole: abcde
-5 9 0 => whole: abcde
-9 2 2 => 2: ab
-4 3 0 => 4: abcd";
+/// How five letters are written: the room of a sink, that of a piece and the write that fails
+/// (0: none); then how the write ends, and what the sink holds.
+#[derive(Clone, Copy)]
+struct Writing {
+    room: usize,
+    piece: usize,
+    fails: u32,
+    want: &'static str,
+}
 
-// What a write of a row gives.
-fn put_write(rt: &impl Abort, alloc: Global, row: &str, said: &mut String) {
-    let fails = vec![in alloc; number(row, 2)].expect(rt, "memory");
-    let mut sink = MemSink::new(
-        alloc,
-        number(row, 0).min(9) as usize,
-        number(row, 1).max(1) as usize,
+fn write_by(room: usize, piece: usize, fails: u32, want: &'static str) -> Writing {
+    Writing {
+        room,
+        piece,
         fails,
-    )
-    .expect(rt, "memory");
+        want,
+    }
+}
+
+/// What a writing gives.
+fn written_as(rt: &impl Abort, alloc: Global, writing: &Writing) -> String {
+    let fails = vec![in alloc; writing.fails].expect(rt, "memory");
+    let (room, piece) = (writing.room.min(9), writing.piece.max(1));
+    let mut sink = MemSink::new(alloc, room, piece, fails).expect(rt, "memory");
+    let mut said = String::new(alloc);
     match write_whole(&mut sink, b"abcde") {
-        Ok(()) => said.push_str("whole: ").expect(rt, "memory"),
+        Ok(()) => put(rt, &mut said, "whole: "),
         Err(fault) => write!(said, "{}: ", fault.sent).expect(rt, "memory"),
     }
-    said.push_str(str::from_utf8(sink.bytes()).expect(rt, "memory"))
-        .expect(rt, "memory");
+    put_bytes(rt, &mut said, sink.bytes());
+    said
 }
 
 #[test]
 fn writes_whole_or_says_how_much(rt: HostRuntime) {
-    let alloc = rt.alloc();
-    for row in WRITES.lines() {
-        let (given, want) = row.split_once(" => ").unwrap_or(("", ""));
-        let mut said = String::new(alloc);
-        put_write(&rt, alloc, given, &mut said);
-        assert_eq!(rt; said.as_str(), want, "at {row}");
+    for row in [
+        write_by(9, 2, 0, "whole: abcde"),
+        write_by(5, 9, 0, "whole: abcde"),
+        write_by(9, 2, 2, "2: ab"),
+        write_by(4, 3, 0, "4: abcd"),
+    ] {
+        let said = written_as(&rt, rt.alloc(), &row);
+        same(
+            &rt,
+            (row.room, row.piece, row.fails),
+            said.as_str(),
+            row.want,
+        );
     }
 }
 
 #[test]
 fn writes_to_nowhere_and_to_the_standard_output(rt: HostRuntime) {
-    assert!(rt; write_whole(&mut NullSink::new(), b"abcde").is_ok());
-    assert!(rt; write_whole(&mut StdSink::new(rt.stdout()), b"standard output\n").is_ok());
+    let nowhere = write_whole(&mut NullSink::new(), b"abcde");
+    same(&rt, "nowhere", nowhere.is_ok(), true);
+    let out = write_whole(&mut StdSink::new(rt.stdout()), b"standard output\n");
+    same(&rt, "the standard output", out.is_ok(), true);
 }
 
 // An outside of which nothing is known: each call answers by the next letter, `e` with an error,
@@ -148,17 +191,7 @@ impl Write for Script<'_> {
     }
 }
 
-// How an outside answers by turns, and what two counted calls of it say and count. A write that
-// took a byte is flushed, and only such a one.
-const COUNTED: &str = "read oo => Ok(1) Ok(1) 0
-read ze => Ok(0) Err(Failed) 1
-read ee => Err(Failed) Err(Failed) 2
-write ozoz => Ok(1) Ok(1) 0
-write oeoz => Err(Failed) Ok(1) 1
-write zoz => Err(Failed) Ok(1) 1
-write eoz => Err(Failed) Ok(1) 1";
-
-// A counted call of a row.
+/// A counted call.
 fn counted(script: &mut Script<'_>, is_read: bool, faults: &mut u64) -> Result<usize, Failed> {
     if is_read {
         counted_read(script, &mut [0; 3], faults)
@@ -167,20 +200,31 @@ fn counted(script: &mut Script<'_>, is_read: bool, faults: &mut u64) -> Result<u
     }
 }
 
+/// What two counted calls of an outside say that answers by these letters, and what they count.
+fn counted_as(rt: &impl Abort, alloc: Global, is_read: bool, letters: &str) -> String {
+    let mut script = Script {
+        letters: letters.as_bytes(),
+    };
+    let mut faults = 0;
+    let first = counted(&mut script, is_read, &mut faults);
+    let second = counted(&mut script, is_read, &mut faults);
+    format!(in alloc; "{first:?} {second:?} {faults}").expect(rt, "memory")
+}
+
+/// A write that took a byte is flushed, and only such a one.
 #[test]
 fn counts_the_faults_of_the_standard_ends(rt: HostRuntime) {
-    let alloc = rt.alloc();
-    for row in COUNTED.lines() {
-        let (given, want) = row.split_once(" => ").unwrap_or(("", ""));
-        let (call, letters) = given.split_once(' ').unwrap_or(("", ""));
-        let mut script = Script {
-            letters: letters.as_bytes(),
-        };
-        let mut faults = 0;
-        let first = counted(&mut script, call == "read", &mut faults);
-        let second = counted(&mut script, call == "read", &mut faults);
-        let said = format!(in alloc; "{first:?} {second:?} {faults}").expect(&rt, "memory");
-        assert_eq!(rt; said.as_str(), want, "at {row}");
+    for (is_read, letters, want) in [
+        (true, "oo", "Ok(1) Ok(1) 0"),
+        (true, "ze", "Ok(0) Err(Failed) 1"),
+        (true, "ee", "Err(Failed) Err(Failed) 2"),
+        (false, "ozoz", "Ok(1) Ok(1) 0"),
+        (false, "oeoz", "Err(Failed) Ok(1) 1"),
+        (false, "zoz", "Err(Failed) Ok(1) 1"),
+        (false, "eoz", "Err(Failed) Ok(1) 1"),
+    ] {
+        let said = counted_as(&rt, rt.alloc(), is_read, letters);
+        same(&rt, (is_read, letters), said.as_str(), want);
     }
 }
 
@@ -188,6 +232,7 @@ fn counts_the_faults_of_the_standard_ends(rt: HostRuntime) {
 fn counts_no_further_than_there_are_numbers(rt: HostRuntime) {
     let mut script = Script { letters: b"e" };
     let mut last = u64::MAX;
-    assert!(rt; counted_read(&mut script, &mut [0], &mut last).is_err());
-    assert_eq!(rt; last, u64::MAX);
+    let read = counted_read(&mut script, &mut [0], &mut last);
+    same(&rt, "fails", read.is_err(), true);
+    same(&rt, "faults", last, u64::MAX);
 }

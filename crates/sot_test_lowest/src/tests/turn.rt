@@ -3,10 +3,12 @@
 ghost use Rattle.std.specs.Prelude.{◌≡◌};
 ghost use Rattle.sot_turn.specs.Passes.{lock_of, pass_lock, pass_ground};
 
+use super::same;
 use super::tally::Tally;
 use crossbeam_queue::ArrayQueue;
 use sot_turn::{Pass, Turn};
-use std::alloc::AllocError;
+use std::alloc::{AllocError, Global};
+use std::process::Abort;
 use std::sync::Wait;
 use std::test::Fail;
 use std::thread::join;
@@ -35,13 +37,14 @@ fn two_passes_take_turns(rt: HostRuntime) -> Result<(), Fail> {
     added?;
     let mut held = turn.take(&rt, b);
     let tally = held.lend();
-    assert!(rt; tally.numbers.as_slice() == [1].as_slice());
+    same(&rt, "first", tally.numbers.as_slice(), [1].as_slice());
     let added = tally.add(2);
     let b = turn.give(held);
     added?;
     let both = turn.join(a, b);
     let tally = turn.close(&rt, both);
-    assert!(rt; tally.base == 7 && tally.numbers.as_slice() == [1, 2].as_slice());
+    same(&rt, "base", tally.base, 7);
+    same(&rt, "both", tally.numbers.as_slice(), [1, 2].as_slice());
     Ok(())
 }
 
@@ -67,6 +70,28 @@ fn add_many<R: Wait>(
     pass
 }
 
+/// How many of the lengths from 1 to 2,000 were told, where each may be told once.
+fn told_once(
+    rt: &(impl Abort + Wait),
+    alloc: Global,
+    lengths: &ArrayQueue<u64>,
+) -> Result<usize, AllocError> {
+    let mut told = Vec::from_elem(alloc, false, 2001)?;
+    let mut count = 0usize;
+    for _ in 0..2000 {
+        if let Some(length) = lengths.pop(rt) {
+            let place = length as usize;
+            let is_new = length >= 1 && place < told.len() && !told[place];
+            same(rt, length, is_new, true);
+            if place < told.len() {
+                told[place] = true;
+            }
+            count = count.saturating_add(1);
+        }
+    }
+    Ok(count)
+}
+
 #[test]
 fn two_threads_add_each_number_once(rt: HostRuntime) -> Result<(), Fail> {
     let lengths = ArrayQueue::new(rt.alloc(), 2000)?;
@@ -86,18 +111,9 @@ fn two_threads_add_each_number_once(rt: HostRuntime) -> Result<(), Fail> {
     );
     let both = turn.join(a, b);
     let tally = turn.close(&rt, both);
-    assert!(rt; tally.numbers.len() == 2000);
+    same(&rt, "numbers", tally.numbers.len(), 2000);
 
-    // Each length from 1 to 2,000 was told once.
-    let mut told = Vec::from_elem(rt.alloc(), false, 2001)?;
-    for _ in 0..2000 {
-        if let Some(length) = lengths.pop(&rt) {
-            assert!(rt; length >= 1 && length <= 2000);
-            let length = length as usize;
-            assert!(rt; length < told.len() && !told[length]);
-            told[length] = true;
-        }
-    }
-    assert!(rt; told.iter().filter(|x| **x).count() == 2000);
+    let told = told_once(&rt, rt.alloc(), &lengths)?;
+    same(&rt, "lengths that were told", told, 2000);
     Ok(())
 }
