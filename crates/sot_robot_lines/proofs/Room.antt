@@ -1,5 +1,5 @@
 -- The room that the numbers of a line take.
-use Rattle.std.proofs.Common.{ℕ, suc, ◌+◌, ◌*◌, ◌≤◌, ◌<◌, ◌≡◌, List, [], ◌∷◌, length, drop, refl, ap, arith}
+use Rattle.std.proofs.Common.{ℕ, ◌+◌, ◌*◌, ◌≤◌, ◌<◌, ◌≡◌, List, ◌∷◌, length, drop, ap, arith}
 use Rattle.std.specs.Prelude.{ℤ, vec_len, vec_capacity}
 use Rattle.std.specs.Global.{Vec}
 use Rattle.std.proofs.lemmas.Option.{slice_get_within}
@@ -8,17 +8,13 @@ use Rattle.sot_lang.specs.declared.tables.PlantInfo.{PlantInfo}
 use Rattle.sot_lang.specs.Tables.{Tables}
 use Rattle.sot_lang.specs.TableRules.{MeetsTableRules}
 use Rattle.sot_board.specs.Counts.{state_count}
+use Rattle.sot_trace.proofs.StateCounts.{few_states}
 use Rattle.sot_trace_lines.specs.Room.{TakesRoom}
 use Rattle.sot_robot_lines.specs.Room.{said_room, HasRoom}
 
-few_states : (plants : List PlantInfo) → ((k : ℕ) (plant : PlantInfo) → At plants k plant → length plant.states.items ≤ 4)
-    → state_count plants ≤ 4 * length plants
-few_states [] each = omega arith
-few_states (k ∷ ks) each = (let rest = few_states ks (λ i plant at. each (suc i) plant at) in let here = each 0 k refl in omega (arith, rest, here))
-
 -- the states of all plants have room among the numbers of any line
 pub states_fit : (p : Tables) → MeetsTableRules p → state_count p.plants ≤ said_room p
-states_fit p rules = (let few = few_states p.plants (λ k plant at. (rules.plants k plant at).states) in omega (arith, few))
+states_fit p rules = (let few = few_states p rules in omega (arith, few))
 
 -- .. and so have those of one
 pub point_fits : (p : Tables) (k : ℕ) (plant : PlantInfo) → MeetsTableRules p → At p.plants k plant → length plant.states.items ≤ said_room p

@@ -10,6 +10,7 @@ use Rattle.sot_lang.specs.Tables.{Tables}
 use Rattle.sot_lang.specs.TableRules.{MeetsTableRules}
 use Rattle.sot_lang.proofs.Owners.{width_at}
 use Rattle.sot_board.specs.Counts.{state_count}
+use Rattle.sot_trace.proofs.StateCounts.{few_states}
 use Rattle.sot_summary.specs.Outside.{points_in}
 
 abbrev width : PlantInfo → ℕ
@@ -39,16 +40,9 @@ point_at (k ∷ ks) states zero plant at = ap (λ x. take (width x) states) (sam
 point_at (k ∷ ks) states (suc i) plant at =
     point_at ks (drop (width k) states) i plant at ∙ ap (take (width plant)) (drop-drop (state_count (take i ks)) (width k) states)
 
--- plants of at most four states have few
-pub few_states : (plants : List PlantInfo) → ((k : ℕ) (plant : PlantInfo) → At plants k plant → width plant ≤ 4) → state_count plants ≤ 4 * length plants
-few_states [] each = omega arith
-few_states (k ∷ ks) each = (let rest = few_states ks (λ i plant at. each (suc i) plant at) in let here = each 0 k refl in omega (arith, rest, here))
-
 -- a tick has at most 400 states
 pub few_in : (p : Tables) → MeetsTableRules p → (states : List ℤ) → length states ≡ state_count p.plants → length states ≤ 400
-few_in p rules states size =
-    let few = few_states p.plants (λ k plant at. (rules.plants k plant at).states) in
-    omega (arith, few, size, rules.plant_count)
+few_in p rules states size = (let few = few_states p rules in omega (arith, few, size, rules.plant_count))
 
 -- the states of a module's plant are as wide as the plant, which has 1 to 4, and as the module's safe region
 module _

@@ -16,3 +16,4 @@ pub mod FlownTold
 pub mod Histories
 pub mod Worked
 pub mod Moving
+pub mod StateCounts

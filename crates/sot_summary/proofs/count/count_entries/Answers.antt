@@ -7,10 +7,10 @@ use Rattle.sot_world.specs.HistoryEntry.{Logged}
 use Rattle.sot_world.specs.Histories.{entry_of}
 use Rattle.sot_trace.specs.Lines.{ticks_in, refused_in}
 use Rattle.sot_trace.proofs.Laying.{count_more}
+use Rattle.sot_trace.proofs.StateCounts.{few_states}
 use Rattle.sot_summary.specs.Counted.{firings_in, outside_in}
 use Rattle.sot_summary.specs.Fronts.{AreFronts}
 use Rattle.sot_summary.proofs.Counting.{states_more}
-use Rattle.sot_summary.proofs.Points.{few_states}
 use Rattle.sot_summary.proofs.count.count_entries.Goals as goal
 
 pub fronts_of-fronts-requires-clause-few : goal.fronts_of-fronts-requires-clause-few
@@ -25,7 +25,7 @@ fronts_of-fronts-requires-clause-few_states c =
     let tables = c.p.view_is in
     let rules = subst MeetsTableRules tables c.p.invariant in
     let plants = c.deref.ensures.value ∙ ap (λ t. t.plants) tables in
-    let few = few_states c.args.p.now.plants (λ k plant at. (rules.plants k plant at).states) in
+    let few = few_states c.args.p.now rules in
     subst (λ (ks : List PlantInfo). state_count ks ≤ 400) (sym plants) (omega (arith, few, rules.plant_count))
 
 pub outside_in-requires-clause-fronts : goal.outside_in-requires-clause-fronts
