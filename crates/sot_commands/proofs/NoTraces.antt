@@ -5,8 +5,7 @@ use Rattle.std.specs.declared.alloc.AllocError.{AllocError}
 use Rattle.sot_text.specs.declared.token.LexFault.TheVariants.{BadByte, NameLong, LiteralWide}
 use Rattle.sot_parser.specs.declared.syntax.Syntax.TheVariants.{Lex, Token, Deep}
 use Rattle.sot_lang.specs.Tables.{Tables}
-use Rattle.sot_tube.specs.Refusals.{Refusal, Periods, Outputs, EmptyRegion, ClosedGap, ClosedTrap, ClosedLeaves, ReachGap, ReachLeaves, ReachTrap, SharedNode}
-use Rattle.sot_tube.specs.Refusals.{SharedOutput, SharedPlant, ForeignInput, CodeMayTrap, NoCells}
+use Rattle.sot_tube.specs.Refusals.{Refusal}
 use Rattle.sot_flight.specs.Plans.{Plan}
 use Rattle.sot_trace.specs.Lines.{header}
 use Rattle.sot_formula.specs.declared.fail.MonitorFail.{MonitorFail}
@@ -28,21 +27,7 @@ no_trace text other b is head differs rest e =
 
 -- a refusal with `r`
 refusal_head : (t : Tables) (v : Refusal) → get_or (refusal_text t v) 0 0 ≡ 114
-refusal_head t (Periods m n) = refl
-refusal_head t (Outputs m k) = refl
-refusal_head t (EmptyRegion m safer) = refl
-refusal_head t (ClosedGap m point) = refl
-refusal_head t (ClosedTrap m cell tick at) = refl
-refusal_head t (ClosedLeaves m cell tick area point) = refl
-refusal_head t (ReachGap m point) = refl
-refusal_head t (ReachLeaves m cell tick area point) = refl
-refusal_head t (ReachTrap m cell tick at) = refl
-refusal_head t (SharedNode n a b) = refl
-refusal_head t (SharedOutput k a b) = refl
-refusal_head t (SharedPlant k a b) = refl
-refusal_head t (ForeignInput m k) = refl
-refusal_head t (CodeMayTrap n at kind lo hi) = refl
-refusal_head t (NoCells m) = refl
+refusal_head t v = refl
 
 -- and a fault with `f`
 fault_head : (f : Fault) → get_or (fault_text f) 0 0 ≡ 102

@@ -21,8 +21,8 @@ use Rattle.sot_certify.specs.declared.fail.CertifyFail.TheVariants.{Refused, Poi
 use Rattle.sot_certified_text.specs.CertText.{entries_data, certificate_line}
 use Rattle.sot_certified_text.specs.FailTexts.{list_word, fail_text}
 use Rattle.sot_lang.specs.Names.{module_name, node_name, topic_name, plant_name}
-use Rattle.sot_report.specs.Pieces.{line, point_text, box_text, place_text, ends_text, trap_word}
-use Rattle.sot_report.specs.RefusalTexts.{region_word, of_module, cell_text, refusal_text, start_text}
+use Rattle.sot_report.specs.Pieces.{line, point_text, place_text, ends_text, trap_word}
+use Rattle.sot_report.specs.RefusalTexts.{condition_of, in_module, module_text, cell_text, at_point, by_modules, evidence_text, refusal_text, start_text}
 use Rattle.sot_report.specs.AcceptedTexts.{cell_count, counts_text, accepted_text}
 
 module _ (t u : Tables) (same : tables_seen t ≡ tables_seen u) where
@@ -44,38 +44,52 @@ module _ (t u : Tables) (same : tables_seen t ≡ tables_seen u) where
       ∙ ap (λ (ks : List PlantTable). option_map_or (λ (x : PlantTable). x.name) (slice_get ks k) []) (plants_seen_same t u same)
       ∙ sym (looked plant_seen (λ (x : PlantTable). x.name) [] u.plants k)
 
-  of_module_same : (condition : List ℕ) (m : ℕ) → of_module condition t m ≡ of_module condition u m
-  of_module_same condition m = λ i. codes "refused " ++ condition ++ codes " module " ++ module_same m i
+  in_module_same : (m : ℕ) → in_module t m ≡ in_module u m
+  in_module_same m = λ i. codes " module " ++ module_same m i
 
-  gap_same : (condition : List ℕ) (m : ℕ) (point : List ℤ)
-      → line (of_module condition t m ++ codes " point " ++ point_text point) ≡ line (of_module condition u m ++ codes " point " ++ point_text point)
-  gap_same condition m point = λ i. line (of_module_same condition m i ++ codes " point " ++ point_text point)
+  by_modules_same : (a b : ℕ) → by_modules t a b ≡ by_modules u a b
+  by_modules_same a b = λ i. codes " modules " ++ module_same a i ++ codes " " ++ module_same b i
+
+  module_text_same : (r : Refusal) → module_text t r ≡ module_text u r
+  module_text_same (Periods m n) = in_module_same m
+  module_text_same (Outputs m k) = in_module_same m
+  module_text_same (EmptyRegion m safer) = in_module_same m
+  module_text_same (ClosedGap m point) = in_module_same m
+  module_text_same (ClosedTrap m cell tick at) = in_module_same m
+  module_text_same (ClosedLeaves m cell tick area point) = in_module_same m
+  module_text_same (ReachGap m point) = in_module_same m
+  module_text_same (ReachLeaves m cell tick area point) = in_module_same m
+  module_text_same (ReachTrap m cell tick at) = in_module_same m
+  module_text_same (SharedNode n a b) = refl
+  module_text_same (SharedOutput k a b) = refl
+  module_text_same (SharedPlant k a b) = refl
+  module_text_same (ForeignInput m k) = in_module_same m
+  module_text_same (CodeMayTrap n at kind lo hi) = refl
+  module_text_same (NoCells m) = in_module_same m
+
+  evidence_same : (r : Refusal) → evidence_text t r ≡ evidence_text u r
+  evidence_same (Periods m n) = λ i. codes " node " ++ node_same n i
+  evidence_same (Outputs m k) = λ i. codes " topic " ++ topic_same k i
+  evidence_same (EmptyRegion m safer) = refl
+  evidence_same (ClosedGap m point) = refl
+  evidence_same (ClosedTrap m cell tick at) = refl
+  evidence_same (ClosedLeaves m cell tick area point) = refl
+  evidence_same (ReachGap m point) = refl
+  evidence_same (ReachLeaves m cell tick area point) = refl
+  evidence_same (ReachTrap m cell tick at) = refl
+  evidence_same (SharedNode n a b) = λ i. codes " node " ++ node_same n i ++ by_modules_same a b i
+  evidence_same (SharedOutput k a b) = λ i. codes " topic " ++ topic_same k i ++ codes " nodes " ++ node_same a i ++ codes " " ++ node_same b i
+  evidence_same (SharedPlant k a b) = λ i. codes " plant " ++ plant_same k i ++ by_modules_same a b i
+  evidence_same (ForeignInput m k) = λ i. codes " topic " ++ topic_same k i
+  evidence_same (CodeMayTrap n at kind lo hi) =
+      λ i. codes " node " ++ node_same n i ++ codes " " ++ place_text at ++ codes " " ++ trap_word kind ++ ends_text lo hi
+  evidence_same (NoCells m) = refl
 
   pub refusal_text_same : (r : Refusal) → refusal_text t r ≡ refusal_text u r
-  refusal_text_same (Periods m n) = λ i. line (of_module_same (codes "1 Periods") m i ++ codes " node " ++ node_same n i)
-  refusal_text_same (Outputs m k) = λ i. line (of_module_same (codes "2 Outputs") m i ++ codes " topic " ++ topic_same k i)
-  refusal_text_same (EmptyRegion m safer) = λ i. line (of_module_same (codes "3 EmptyRegion") m i ++ codes " " ++ region_word safer)
-  refusal_text_same (ClosedGap m point) = gap_same (codes "4 ClosedGap") m point
-  refusal_text_same (ClosedTrap m cell tick at) = λ i. line (of_module_same (codes "5 ClosedTrap") m i ++ cell_text cell tick ++ place_text at)
-  refusal_text_same (ClosedLeaves m cell tick area point) =
-      λ i. line (of_module_same (codes "6 ClosedLeaves") m i ++ cell_text cell tick ++ codes "box " ++ box_text area ++ codes " point " ++ point_text point)
-  refusal_text_same (ReachGap m point) = gap_same (codes "7 ReachGap") m point
-  refusal_text_same (ReachLeaves m cell tick area point) =
-      λ i. line (of_module_same (codes "8 ReachLeaves") m i ++ cell_text cell tick ++ codes "box " ++ box_text area ++ codes " point " ++ point_text point)
-  refusal_text_same (ReachTrap m cell tick at) = λ i. line (of_module_same (codes "9 ReachTrap") m i ++ cell_text cell tick ++ place_text at)
-  refusal_text_same (SharedNode n a b) =
-      λ i. line (codes "refused " ++ codes "10 SharedNode node " ++ node_same n i ++ codes " modules " ++ module_same a i ++ codes " " ++ module_same b i)
-  refusal_text_same (SharedOutput k a b) =
-      λ i. line (codes "refused " ++ codes "11 SharedOutput topic " ++ topic_same k i ++ codes " nodes " ++ node_same a i ++ codes " " ++ node_same b i)
-  refusal_text_same (SharedPlant k a b) =
-      λ i. line (codes "refused " ++ codes "12 SharedPlant plant " ++ plant_same k i ++ codes " modules " ++ module_same a i ++ codes " " ++ module_same b i)
-  refusal_text_same (ForeignInput m k) = λ i. line (of_module_same (codes "13 ForeignInput") m i ++ codes " topic " ++ topic_same k i)
-  refusal_text_same (CodeMayTrap n at kind lo hi) =
-      λ i. line ((codes "refused 14 CodeMayTrap node " ++ node_same n i ++ codes " " ++ place_text at) ++ codes " " ++ trap_word kind ++ ends_text lo hi)
-  refusal_text_same (NoCells m) = λ i. line (of_module_same (codes "15 NoCells") m i)
+  refusal_text_same r = λ i. line (codes "refused " ++ condition_of r ++ module_text_same r i ++ cell_text r ++ evidence_same r i)
 
   pub start_text_same : (m : ℕ) (point : List ℤ) → start_text t m point ≡ start_text u m point
-  start_text_same m point = gap_same (codes "start") m point
+  start_text_same m point = λ i. line (codes "refused " ++ codes "start" ++ in_module_same m i ++ at_point point)
 
   pub fail_text_same : (f : CertifyFail) → fail_text t f ≡ fail_text u f
   fail_text_same (Refused r) = refusal_text_same (refusal_view r)

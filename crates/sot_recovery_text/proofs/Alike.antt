@@ -17,8 +17,8 @@ use Rattle.sot_law_same_ranks.specs.Laws.{LookTheSame}
 use Rattle.sot_law_same_ranks.proofs.Parts.{turned}
 use Rattle.sot_law_same_ranks.proofs.Ranks.{one_answer}
 use Rattle.sot_lang.specs.Names.{module_name}
-use Rattle.sot_report.specs.Pieces.{line, point_text}
-use Rattle.sot_report.specs.RefusalTexts.{gap_line}
+use Rattle.sot_report.specs.Pieces.{line}
+use Rattle.sot_report.specs.RefusalTexts.{gap_line, at_point}
 use Rattle.sot_recovery_text.specs.Lines.{safe_period, recover_line, recover_lines}
 use Rattle.sot_recovery_text.specs.Recovery.{Recovers, NeverRecovers, AllRecover, FirstNever, SomeNever}
 use Rattle.sot_recovery_text.specs.Laws.{ToldOnce}
@@ -63,7 +63,7 @@ module _ (t u : Tables) (same : tables_seen t ≡ tables_seen u) where
   lines_same i j m (n ∷ ns) is = ap₂ (λ (a b : List ℕ). a ++ b) (line_same i j m n is) (lines_same i j (m + 1) ns is)
 
   gap_same : (m : ℕ) (s : List ℤ) → gap_line (codes "recover") t m s ≡ gap_line (codes "recover") u m s
-  gap_same m s = λ x. line ((codes "refused " ++ codes "recover" ++ codes " module " ++ name_same m x) ++ codes " point " ++ point_text s)
+  gap_same m s = λ x. line (codes "refused " ++ codes "recover" ++ (codes " module " ++ name_same m x) ++ at_point s)
 
 -- one module does not recover by the one and never by the other
 both : (t u : Tables) (c d : Cert) → LookTheSame t u c d → (m n : ℕ) (s : List ℤ) → Recovers t c m n → NeverRecovers u d m s → ⊥
