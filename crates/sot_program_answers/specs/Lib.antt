@@ -1,2 +1,5 @@
 -- what the public contracts say
 pub mod Texts
+pub mod Starts
+-- what the functions below a program's call promise it
+pub mod Steps

@@ -6,8 +6,9 @@ use std::env::Args;
 use std::io;
 use std::io::ErrorKind;
 
-/// The words behind the program's name; none where they are no text, since such words ask for
-/// nothing. Where there is no memory for them, status 6.
+/// The words behind the program's name. Where they are no text, one empty word, which no program
+/// asks for, stands for them: no word at all might ask for something. Where there is no memory for
+/// them, status 6.
 pub fn words_of(alloc: Global, args: io::Result<Args>) -> Result<Vec<String>, Status> {
     let mut words = Vec::new(alloc);
     match args {
@@ -18,7 +19,11 @@ pub fn words_of(alloc: Global, args: io::Result<Args>) -> Result<Vec<String>, St
                 }
             }
         }
-        Err(error) if error.kind() == ErrorKind::InvalidData => {}
+        Err(error) if error.kind() == ErrorKind::InvalidData => {
+            if words.push(String::new(alloc)).is_err() {
+                return Err(Status(6));
+            }
+        }
         Err(_) => return Err(Status(6)),
     }
     Ok(words)
