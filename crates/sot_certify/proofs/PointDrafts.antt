@@ -1,5 +1,5 @@
 -- From a box that its module's safe region covers, a safe node without traps has least intervals of its drafts.
-use Rattle.std.proofs.Common.{◌≡◌, ℕ, zero, suc, ◌<◌, ◌≤ℤ◌, Bool, true, false, ⊎_elim, Ok, List, [], ◌∷◌, map, length, replicate, refl, sym, subst, arith}
+use Rattle.std.proofs.Common.{◌≡◌, ℕ, zero, suc, ◌<◌, Bool, true, false, ⊎_elim, Ok, List, [], ◌∷◌, map, length, replicate, refl, sym, subst, arith}
 use Rattle.std.specs.Prelude.{slice_index_or, slice_set, if◌then◌else◌, ◌==◌}
 use Rattle.std.proofs.lemmas.Int.{ints}
 use Rattle.std.proofs.lemmas.Bool.{cases_eq}

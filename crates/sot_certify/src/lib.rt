@@ -6,7 +6,6 @@
 //! certificate may have.
 #![tactic(auto)]
 
-mod conditions;
 mod fail;
 mod good;
 mod laws;

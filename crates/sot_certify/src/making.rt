@@ -12,9 +12,9 @@ ghost use Rattle.sot_certify.specs.Points.{IfPointLeaves};
 ghost use Rattle.sot_certify.specs.Steps.{AreListsOf, HasNoCells, named, AreEntriesTo};
 ghost use Rattle.sot_certify.specs.Steps.{HasNoEntries};
 
-use crate::conditions::check_without_cells;
 use crate::fail::CertifyFail;
 use crate::listing::{ListFail, list_of};
+use sot_compose::{LookedAt, check_without_cells};
 use sot_lang::{Cells, Cert, ModuleInfo, Typed};
 use sot_rta::module_at;
 use std::alloc::Global;
@@ -90,7 +90,7 @@ pub fn certify(alloc: Global, p: &Typed) -> Result<Cert, CertifyFail>
 {
     // A look at the tables brings their rules, which their type keeps.
     let _modules = p.modules.len();
-    if let Err(refusal) = check_without_cells(p) {
+    if let Err(refusal) = check_without_cells(p, LookedAt::BothRegions) {
         return Err(CertifyFail::Refused(refusal));
     }
     let modules = entries(alloc, p)?;

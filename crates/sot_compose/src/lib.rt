@@ -9,9 +9,13 @@
 mod check;
 mod clash;
 mod composition;
+mod frames;
+mod looked;
 mod ordered;
 mod outputs;
 mod parts;
 
 pub use check::{check_all, check_all_cells, check_codes};
 pub use composition::check_composition;
+pub use frames::check_without_cells;
+pub use looked::LookedAt;
