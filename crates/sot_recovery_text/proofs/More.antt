@@ -17,7 +17,7 @@ use Rattle.sot_recovery_text.specs.declared.fail.RecoveryFail.{RecoveryFail}
 use Rattle.sot_recovery_text.specs.declared.fail.RecoveryFail.TheVariants.{Never, Memory}
 use Rattle.sot_recovery_text.specs.Lines.{recover_line, recover_lines}
 use Rattle.sot_recovery_text.specs.Recovery.{Recovers, NeverRecovers, RecoverSoFar, FirstNever, IfNeverAt}
-use Rattle.sot_recovery_text.specs.Steps.{TellsMore, told_of}
+use Rattle.sot_recovery_text.specs.Steps.{TellsMore, fail_of}
 
 -- lines of one module more
 lines_more : (t : Tables) (jitter m : ℕ) (ns : List ℕ) (n : ℕ)
@@ -74,6 +74,6 @@ module _ (t : Tables) (cert : Cert) where
 
   -- a module that never recovers
   pub never_of : (m : ℕ) (g : Guarded t cert m) (f : RecoverFail) → IfNever f (λ s. HasNoRank g s)
-      → IfNeverAt (told_of m f) (λ k s. (k ≡ m) × NeverRecovers t cert k s)
+      → IfNeverAt (fail_of m f) (λ k s. (k ≡ m) × NeverRecovers t cert k s)
   never_of m g (one.Never point) none = (refl, record { parts = g; none = none })
   never_of m g one.Memory none = tt

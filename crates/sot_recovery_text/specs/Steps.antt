@@ -15,6 +15,6 @@ TellsMore t cert m was now =
     (n : ℕ) × Recovers t cert m n × (now ≡ was ++ recover_line t cert.jitter m n)
 
 -- why module m does not recover, as said of all modules
-abbrev pub told_of : ℕ → RecoverFail → RecoveryFail
-told_of m (one.Never point) = Never m point
-told_of m one.Memory = Memory
+abbrev pub fail_of : ℕ → RecoverFail → RecoveryFail
+fail_of m (one.Never point) = Never m point
+fail_of m one.Memory = Memory

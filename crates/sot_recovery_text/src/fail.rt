@@ -2,7 +2,7 @@
 
 ghost use Rattle.std.specs.Prelude.{◌≡◌};
 ghost use Rattle.sot_recovery_text.specs.declared.fail.RecoveryFail.TheVariants.{Memory};
-ghost use Rattle.sot_recovery_text.specs.Steps.{told_of};
+ghost use Rattle.sot_recovery_text.specs.Steps.{fail_of};
 
 use sot_box::Point;
 use sot_recover::RecoverFail;
@@ -19,8 +19,8 @@ pub enum RecoveryFail {
 }
 
 /// Why this module does not recover, as said of all modules.
-pub(crate) fn told(module: u32, fail: &RecoverFail) -> RecoveryFail
-    ensures { result ≡ told_of «module» fail.now }
+pub(crate) fn fail_of(module: u32, fail: &RecoverFail) -> RecoveryFail
+    ensures { result ≡ fail_of «module» fail.now }
 {
     match *fail {
         RecoverFail::Never { point } => RecoveryFail::Never { module, point },

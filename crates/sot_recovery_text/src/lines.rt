@@ -8,7 +8,7 @@ ghost use Rattle.sot_recovery_text.specs.Recovery.{AllRecover, IfNeverAt, IsNeve
 ghost use Rattle.sot_recovery_text.specs.Lines.{safe_period, recover_line};
 ghost use Rattle.sot_recovery_text.specs.Steps.{TellsMore};
 
-use crate::fail::{RecoveryFail, told};
+use crate::fail::{RecoveryFail, fail_of};
 use sot_box::Point;
 use sot_lang::Typed;
 use sot_recover::recover_within;
@@ -63,7 +63,7 @@ fn holds_of(alloc: Global, acc: &Accepted<'_>, module: u32) -> Result<u32, Recov
     let _info = module_at(acc.typed(), module);
     match recover_within(alloc, acc, module) {
         Ok(holds) => Ok(holds),
-        Err(fail) => Err(told(module, &fail)),
+        Err(fail) => Err(fail_of(module, &fail)),
     }
 }
 

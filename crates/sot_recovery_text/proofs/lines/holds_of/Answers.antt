@@ -21,5 +21,5 @@ returns-in-Err-clause-never c =
     let d = c.args.acc.now.cert in
     let rules = subst MeetsTableRules c.typed.ensures.program c.module_at-info.ensures.rules in
     let g : Guarded p d c.args.«module» = guarded_modules p d c.args.«module» rules.typed c.typed.ensures.certified c.requires.module_is in
-    subst (λ (f : RecoveryFail). IfNeverAt f (λ m s. (m ≡ c.args.«module») × NeverRecovers p d m s)) (sym c.told.ensures)
+    subst (λ (f : RecoveryFail). IfNeverAt f (λ m s. (m ≡ c.args.«module») × NeverRecovers p d m s)) (sym c.fail_of.ensures)
     (never_of p d c.args.«module» g c.in-Err.fail (c.in-Err.ensures.never g))
