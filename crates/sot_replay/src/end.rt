@@ -19,7 +19,7 @@ pub fn judge_end(
     line: &[u8],
     ticks: Option<i64>,
     counts: Counts,
-    scratch: &mut String,
+    printed: &mut String,
 ) -> Result<Judged, AllocError>
     requires spelled { SpellsEnd board.now.accepted.program line.now ticks }
     requires ticks { counts.ticks ≡ sum_by ticks_in board.now.entries }
@@ -40,10 +40,10 @@ pub fn judge_end(
     if board.time() < board.flight().horizon() {
         return Ok(Judged::Fails(LineKind::TooFar));
     }
-    scratch.clear();
+    printed.clear();
     let events = board.history().len();
-    put_end_line(scratch, counts.ticks, events, counts.refused)?;
-    if scratch.as_bytes() == line {
+    put_end_line(printed, counts.ticks, events, counts.refused)?;
+    if printed.as_bytes() == line {
         Ok(Judged::Ends)
     } else {
         Ok(Judged::Fails(LineKind::Differs))

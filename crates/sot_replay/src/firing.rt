@@ -11,6 +11,7 @@ ghost use Rattle.sot_world.specs.NodeSorts.{IsCodedNode, IsExternalNode};
 ghost use Rattle.sot_trace_lines.specs.declared.line.Line.TheVariants.{Fire as IsFire};
 ghost use Rattle.sot_replay.specs.Judges.{IsJudged, BeginsAsFiring, FiresAt, SpellsFiringAt};
 
+use crate::desk::Desk;
 use crate::entry_line::compare;
 use crate::fail::LineKind;
 use crate::judged::{Judged, kind_of};
@@ -19,7 +20,7 @@ use crate::ranges::draft_has_64_bits;
 use crate::read_on::read_on;
 use sot_board::Board;
 use sot_lang::Draft;
-use sot_trace_lines::{Line, read_line};
+use sot_trace_lines::Line;
 use sot_world::{Event, Why, is_coded};
 use std::alloc::AllocError;
 
@@ -43,8 +44,7 @@ fn judge_coded(
     board: &mut Board<'_>,
     line: &[u8],
     node: u32,
-    from: &mut usize,
-    numbers: &mut Vec<i64>,
+    desk: &mut Desk,
 ) -> Result<Judged, AllocError>
     requires words { AreWords board.old.accepted.program }
     requires fires { FiresAt board.old.accepted.program board.old.position.at.time line.now node }
@@ -56,7 +56,7 @@ fn judge_coded(
     let p = board.typed();
     board.fire(node);
     let judged = compare(board, line);
-    read_on(p, line, judged, from, numbers)
+    read_on(p, line, judged, desk)
 }
 
 // A node fires with the draft that the flight states, and the line has to be that of its entry.
@@ -64,8 +64,7 @@ fn judge_stated(
     board: &mut Board<'_>,
     line: &[u8],
     node: u32,
-    from: &mut usize,
-    numbers: &mut Vec<i64>,
+    desk: &mut Desk,
 ) -> Result<Judged, AllocError>
     requires words { AreWords board.old.accepted.program }
     requires fires { FiresAt board.old.accepted.program board.old.position.at.time line.now node }
@@ -78,7 +77,7 @@ fn judge_stated(
     let p = board.typed();
     board.commit_stated(node);
     let judged = compare(board, line);
-    read_on(p, line, judged, from, numbers)
+    read_on(p, line, judged, desk)
 }
 
 // A guest's node fires with the draft of the line, and the line has to be that of its entry. No
@@ -120,8 +119,7 @@ fn judge_guest(
     board: &mut Board<'_>,
     line: &[u8],
     node: u32,
-    from: &mut usize,
-    numbers: &mut Vec<i64>,
+    desk: &mut Desk,
 ) -> Result<Judged, AllocError>
     requires words { AreWords board.old.accepted.program }
     requires fires { FiresAt board.old.accepted.program board.old.position.at.time line.now node }
@@ -129,7 +127,7 @@ fn judge_guest(
     requires left { is_left board.old.position.at node ≡ true }
     ensures { IfOk result (IsJudged board.old board.new line.now) }
 {
-    let Some(read) = read_line(board.typed(), line, from, numbers)? else {
+    let Some(read) = desk.read(board.typed(), line)? else {
         return Ok(Judged::Fails(LineKind::NotALine));
     };
     Ok(judge_draft(board, line, node, draft_of(read)))
@@ -143,8 +141,7 @@ pub fn judge_firing(
     line: &[u8],
     time: Option<i64>,
     node: u32,
-    from: &mut usize,
-    numbers: &mut Vec<i64>,
+    desk: &mut Desk,
 ) -> Result<Judged, AllocError>
     requires words { AreWords board.old.accepted.program }
     requires begins { BeginsAsFiring board.old.accepted.program line.now time node }
@@ -153,16 +150,16 @@ pub fn judge_firing(
     board.reveal_invariant();
     let p = board.typed();
     if !is_now(time, board.time()) {
-        return read_on(p, line, Judged::Fails(LineKind::WrongTime), from, numbers);
+        return read_on(p, line, Judged::Fails(LineKind::WrongTime), desk);
     }
     if let Err(why) = can_fire(board, node) {
-        return read_on(p, line, Judged::Fails(kind_of(why)), from, numbers);
+        return read_on(p, line, Judged::Fails(kind_of(why)), desk);
     }
     if is_coded(p, node) {
-        return judge_coded(board, line, node, from, numbers);
+        return judge_coded(board, line, node, desk);
     }
     match board.flight().guest(node) {
-        Some(_) => judge_guest(board, line, node, from, numbers),
-        None => judge_stated(board, line, node, from, numbers),
+        Some(_) => judge_guest(board, line, node, desk),
+        None => judge_stated(board, line, node, desk),
     }
 }

@@ -6,6 +6,7 @@ ghost use Rattle.sot_replay.specs.Replays.{MatchFail};
 ghost use Rattle.sot_replay.specs.Follows.{HasEnded, AreRefused};
 
 use crate::counts::{Counts, counted};
+use crate::desk::Desk;
 use crate::fail::ReplayFail;
 use crate::judge::judge;
 use crate::judged::Judged;
@@ -17,8 +18,7 @@ use sot_trace_lines::Lines;
 pub fn follow(
     lines: &mut Lines<'_>,
     board: &mut Board<'_>,
-    scratch: &mut String,
-    numbers: &mut Vec<i64>,
+    desk: &mut Desk,
 ) -> Result<(), ReplayFail>
     requires none { board.old.entries ≡ [] }
     requires words { AreWords board.old.accepted.program }
@@ -27,14 +27,13 @@ pub fn follow(
     ensures refused { IfErr result (λ fail.
         MatchFail fail (λ _. ⊥) (AreRefused board.old lines.old.to_come lines.old.number)) }
 {
-    let mut from = 0;
     let mut counts = Counts {
         ticks: 0,
         refused: 0,
     };
     'lines: while let Some((number, line)) = lines.next() {
         board.reveal_invariant();
-        match judge(board, line, &mut from, counts, scratch, numbers) {
+        match judge(board, line, counts, desk) {
             Ok(Judged::Goes(added)) => counts = counted(counts, added),
             Ok(Judged::Ends) => return Ok(()),
             Ok(Judged::Fails(kind)) => return Err(ReplayFail::Line { line: number, kind }),

@@ -8,6 +8,7 @@ ghost use Rattle.sot_replay.specs.Judges.{IsJudged};
 
 use crate::counts::Counts;
 use crate::decision::judge_decision;
+use crate::desk::Desk;
 use crate::end::judge_end;
 use crate::fail::LineKind;
 use crate::firing::judge_firing;
@@ -15,7 +16,7 @@ use crate::input::judge_input;
 use crate::judged::Judged;
 use crate::tick::judge_tick;
 use sot_board::Board;
-use sot_trace_lines::{Front, Line, read_front};
+use sot_trace_lines::{Front, Line};
 use std::alloc::AllocError;
 
 // Judges a line that was read to its end.
@@ -23,13 +24,12 @@ fn judge_whole(
     board: &mut Board<'_>,
     line: &[u8],
     read: Line,
-    from: &mut usize,
     counts: Counts,
-    scratch: &mut String,
-    numbers: &mut Vec<i64>,
+    desk: &mut Desk,
 ) -> Result<Judged, AllocError>
     requires words { AreWords board.old.accepted.program }
-    requires read { AnswersLine board.old.accepted.program line.now numbers.old.items (Some read) }
+    requires read { AnswersLine board.old.accepted.program line.now desk.old.numbers.items
+        (Some read) }
     requires ticks { counts.ticks ≡ sum_by ticks_in board.old.entries }
     requires refused { counts.refused ≡ sum_by (refused_in board.old.accepted.program)
         board.old.entries }
@@ -38,25 +38,22 @@ fn judge_whole(
     board.reveal_invariant();
     match read {
         Line::Input { time, topic, whole } => {
-            Ok(judge_input(board, line, time, topic, whole, numbers))
+            Ok(judge_input(board, line, time, topic, whole, &desk.numbers))
         }
-        Line::Fire { time, node, .. } => judge_firing(board, line, time, node, from, numbers),
+        Line::Fire { time, node, .. } => judge_firing(board, line, time, node, desk),
         Line::Decide { time, module } => Ok(judge_decision(board, line, time, module)),
-        Line::Tick { time, .. } => judge_tick(board, line, time, from, numbers),
-        Line::End { ticks } => judge_end(board, line, ticks, counts, scratch),
+        Line::Tick { time, .. } => judge_tick(board, line, time, desk),
+        Line::End { ticks } => judge_end(board, line, ticks, counts, &mut desk.printed),
     }
 }
 
 /// Judges a line where a flight stands: the first test that it does not pass, or the flight goes on
-/// by it, or it is the last one at the flight's end. What it names is looked for from a place on
-/// first. The counts are those of the history so far.
+/// by it, or it is the last one at the flight's end. The counts are those of the history so far.
 pub fn judge(
     board: &mut Board<'_>,
     line: &[u8],
-    from: &mut usize,
     counts: Counts,
-    scratch: &mut String,
-    numbers: &mut Vec<i64>,
+    desk: &mut Desk,
 ) -> Result<Judged, AllocError>
     requires words { AreWords board.old.accepted.program }
     requires ticks { counts.ticks ≡ sum_by ticks_in board.old.entries }
@@ -64,14 +61,10 @@ pub fn judge(
         board.old.entries }
     ensures { IfOk result (IsJudged board.old board.new line.now) }
 {
-    match read_front(board.typed(), line, from, numbers) {
-        Ok(Some(Front::Firing { time, node })) => {
-            judge_firing(board, line, time, node, from, numbers)
-        }
-        Ok(Some(Front::Tick { time })) => judge_tick(board, line, time, from, numbers),
-        Ok(Some(Front::Whole(read))) => {
-            judge_whole(board, line, read, from, counts, scratch, numbers)
-        }
+    match desk.read_front(board.typed(), line) {
+        Ok(Some(Front::Firing { time, node })) => { judge_firing(board, line, time, node, desk) }
+        Ok(Some(Front::Tick { time })) => judge_tick(board, line, time, desk),
+        Ok(Some(Front::Whole(read))) => { judge_whole(board, line, read, counts, desk) }
         Ok(None) => Ok(Judged::Fails(LineKind::NotALine)),
         Err(error) => Err(error),
     }

@@ -7,6 +7,7 @@
 mod bounds;
 mod counts;
 mod decision;
+mod desk;
 mod end;
 mod entry_line;
 mod facts;

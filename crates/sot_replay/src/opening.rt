@@ -41,7 +41,7 @@ fn opening_kind(
     flight: &Flight,
     place: usize,
     line: &[u8],
-    scratch: &mut String,
+    printed: &mut String,
 ) -> Result<Option<LineKind>, AllocError>
     requires fits { (guests : ℕ) × FitsFlight p.now guests flight.now }
     requires place { place ≤ length p.now.plants }
@@ -49,9 +49,9 @@ fn opening_kind(
         → IfOk result (λ answer. MatchOption answer (line.now ≡ expected)
         (λ kind. (line.now ≡ expected → ⊥) × RefusesOpening p.now place line.now kind)) }
 {
-    scratch.clear();
-    put_opening_line(scratch, p, flight, place)?;
-    if scratch.as_bytes() == line {
+    printed.clear();
+    put_opening_line(printed, p, flight, place)?;
+    if printed.as_bytes() == line {
         return Ok(None);
     }
     if place == 0 {
@@ -69,7 +69,7 @@ pub fn read_opening(
     lines: &mut Lines<'_>,
     p: &Typed,
     flight: &Flight,
-    scratch: &mut String,
+    printed: &mut String,
 ) -> Result<(), ReplayFail>
     requires fits { (guests : ℕ) × FitsFlight p.now guests flight.now }
     ensures read { IfOk result (λ _. (lines.old.to_come
@@ -83,7 +83,7 @@ pub fn read_opening(
         let Some((number, line)) = lines.next() else {
             return Err(missing(lines));
         };
-        match opening_kind(p, flight, place, line, scratch) {
+        match opening_kind(p, flight, place, line, printed) {
             Ok(None) => {}
             Ok(Some(kind)) => return Err(ReplayFail::Line { line: number, kind }),
             Err(_) => return Err(ReplayFail::Memory),

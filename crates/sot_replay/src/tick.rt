@@ -7,6 +7,7 @@ ghost use Rattle.sot_replay.specs.Judges.{IsJudged, BeginsAsTick, SpellsTicks, R
 ghost use Rattle.sot_replay.specs.Judges.{FailsTick};
 
 use crate::bounds::are_possible;
+use crate::desk::Desk;
 use crate::entry_line::compare;
 use crate::fail::LineKind;
 use crate::judged::Judged;
@@ -14,7 +15,7 @@ use crate::now::is_now;
 use crate::read_on::read_on;
 use sot_board::Board;
 use sot_lang::Typed;
-use sot_trace_lines::{Line, read_line};
+use sot_trace_lines::Line;
 use std::alloc::AllocError;
 
 // Whether the list holds all disturbances of a line that was read as a tick's.
@@ -30,17 +31,12 @@ fn is_whole(read: Line) -> bool
 
 // Whether the list holds all disturbances of a line of a tick, once it is read; none where it is
 // spelled as no line.
-fn read_whole(
-    p: &Typed,
-    line: &[u8],
-    from: &mut usize,
-    numbers: &mut Vec<i64>,
-) -> Result<Option<bool>, AllocError>
+fn read_whole(p: &Typed, line: &[u8], desk: &mut Desk) -> Result<Option<bool>, AllocError>
     requires words { AreWords p.now }
     requires ticks { SpellsTicks p.now line.now }
-    ensures { IfOk result (λ whole. ReadsTick p.now line.now numbers.new.items whole) }
+    ensures { IfOk result (λ whole. ReadsTick p.now line.now desk.new.numbers.items whole) }
 {
-    match read_line(p, line, from, numbers) {
+    match desk.read(p, line) {
         Ok(Some(read)) => Ok(Some(is_whole(read))),
         Ok(None) => Ok(None),
         Err(error) => Err(error),
@@ -53,17 +49,16 @@ fn tick_kind(
     p: &Typed,
     line: &[u8],
     kind: LineKind,
-    from: &mut usize,
-    numbers: &mut Vec<i64>,
+    desk: &mut Desk,
 ) -> Result<LineKind, AllocError>
     requires words { AreWords p.now }
     requires ticks { SpellsTicks p.now line.now }
     ensures { IfOk result (λ whole. FailsTick p.now line.now kind whole) }
 {
-    let Some(whole) = read_whole(p, line, from, numbers)? else {
+    let Some(whole) = read_whole(p, line, desk)? else {
         return Ok(LineKind::NotALine);
     };
-    if are_possible(&p.plants, whole, numbers) {
+    if are_possible(&p.plants, whole, &desk.numbers) {
         Ok(kind)
     } else {
         Ok(LineKind::OutsideType)
@@ -76,8 +71,7 @@ pub fn judge_tick(
     board: &mut Board<'_>,
     line: &[u8],
     time: Option<i64>,
-    from: &mut usize,
-    numbers: &mut Vec<i64>,
+    desk: &mut Desk,
 ) -> Result<Judged, AllocError>
     requires words { AreWords board.old.accepted.program }
     requires begins { BeginsAsTick board.old.accepted.program line.now time }
@@ -86,17 +80,17 @@ pub fn judge_tick(
     board.reveal_invariant();
     let p = board.typed();
     if !is_now(time, board.time()) {
-        return read_on(p, line, Judged::Fails(LineKind::WrongTime), from, numbers);
+        return read_on(p, line, Judged::Fails(LineKind::WrongTime), desk);
     }
     if !board.world().may_tick() {
-        return read_on(p, line, Judged::Fails(LineKind::NodesLeft), from, numbers);
+        return read_on(p, line, Judged::Fails(LineKind::NodesLeft), desk);
     }
     if board.due_input() {
-        let kind = tick_kind(p, line, LineKind::InputsLeft, from, numbers)?;
+        let kind = tick_kind(p, line, LineKind::InputsLeft, desk)?;
         return Ok(Judged::Fails(kind));
     }
     if board.time() >= board.flight().horizon() {
-        let kind = tick_kind(p, line, LineKind::TooFar, from, numbers)?;
+        let kind = tick_kind(p, line, LineKind::TooFar, desk)?;
         return Ok(Judged::Fails(kind));
     }
     board.tick();
@@ -104,7 +98,7 @@ pub fn judge_tick(
         Judged::Goes(added) => Ok(Judged::Goes(added)),
         Judged::Ends => Ok(Judged::Ends),
         Judged::Fails(differs) => {
-            let kind = tick_kind(p, line, differs, from, numbers)?;
+            let kind = tick_kind(p, line, differs, desk)?;
             Ok(Judged::Fails(kind))
         }
     }

@@ -8,6 +8,7 @@ ghost use Rattle.sot_trace.specs.Words.{AreWords};
 ghost use Rattle.sot_replay.specs.GoesOn.{IsTraceOf};
 ghost use Rattle.sot_replay.specs.Replays.{IsRefusedAt, MatchFail};
 
+use crate::desk::Desk;
 use crate::fail::{LineKind, ReplayFail};
 use crate::follow::follow;
 use crate::opening::read_opening;
@@ -22,8 +23,7 @@ use std::alloc::Global;
 fn replay_on(
     board: &mut Board<'_>,
     lines: &mut Lines<'_>,
-    scratch: &mut String,
-    numbers: &mut Vec<i64>,
+    desk: &mut Desk,
 ) -> Result<(), ReplayFail>
     requires none { board.old.entries ≡ [] }
     requires words { AreWords board.old.accepted.program }
@@ -35,8 +35,8 @@ fn replay_on(
         board.old.accepted.cert.jitter board.old.plan lines.old.to_come)) }
 {
     board.reveal_invariant();
-    read_opening(lines, board.typed(), board.flight(), scratch)?;
-    follow(lines, board, scratch, numbers)?;
+    read_opening(lines, board.typed(), board.flight(), &mut desk.printed)?;
+    follow(lines, board, desk)?;
     match lines.next() {
         None => Ok(()),
         Some((number, _)) => Err(ReplayFail::Line {
@@ -79,8 +79,7 @@ pub fn replay(
         Err(OpenFail::Memory) => return Err(ReplayFail::Memory),
     };
     let mut lines = lines;
-    let mut scratch = String::new(alloc);
-    let mut numbers = Vec::new(alloc);
-    replay_on(&mut board, &mut lines, &mut scratch, &mut numbers)?;
+    let mut desk = Desk::new(alloc);
+    replay_on(&mut board, &mut lines, &mut desk)?;
     Ok(board.history().len() as u32)
 }

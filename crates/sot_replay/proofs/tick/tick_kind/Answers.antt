@@ -10,7 +10,7 @@ use Rattle.sot_replay.proofs.tick.tick_kind.Goals as goal
 pub are_possible-requires : goal.are_possible-requires
 are_possible-requires c =
     let p = c.args.p.now in
-    let list = c.read_whole.new.numbers.items in
+    let list = c.read_whole.new.desk.numbers.items in
     let whole = c.in-Some.whole in
     let (t, noise, states, spelled, holds) = subst (λ (o : Option Bool). ReadsTick p c.args.line.now list o) c.in-Some.is c.in_ok-whole.ensures in
     let plants : c.deref.result.now ≡ p.plants = c.deref.ensures.value ∙ ap (λ (q : Tables). q.plants) c.p.view_is in
@@ -21,7 +21,7 @@ are_possible-requires c =
 pub returns-then-are_possible : goal.returns-then-are_possible
 returns-then-are_possible c =
     let p = c.args.p.now in
-    let list = c.read_whole.new.numbers.items in
+    let list = c.read_whole.new.desk.numbers.items in
     let whole = c.in-Some.whole in
     let (t, noise, states, spelled, holds) = subst (λ (o : Option Bool). ReadsTick p c.args.line.now list o) c.in-Some.is c.in_ok-whole.ensures in
     let plants : c.deref.result.now ≡ p.plants = c.deref.ensures.value ∙ ap (λ (q : Tables). q.plants) c.p.view_is in
@@ -33,7 +33,7 @@ returns-then-are_possible c =
 pub returns-else-are_possible : goal.returns-else-are_possible
 returns-else-are_possible c =
     let p = c.args.p.now in
-    let list = c.read_whole.new.numbers.items in
+    let list = c.read_whole.new.desk.numbers.items in
     let whole = c.in-Some.whole in
     let (t, noise, states, spelled, holds) = subst (λ (o : Option Bool). ReadsTick p c.args.line.now list o) c.in-Some.is c.in_ok-whole.ensures in
     let plants : c.deref.result.now ≡ p.plants = c.deref.ensures.value ∙ ap (λ (q : Tables). q.plants) c.p.view_is in
