@@ -26,7 +26,9 @@ use Rattle.sot_law_other_regions.proofs.Names.{nothing_else}
 use Rattle.sot_region_tree.specs.OtherRegions.{with_regions}
 use Rattle.sot_regions_words.specs.Words.{Asks}
 use Rattle.sot_program_answers.specs.Texts.{input_limit}
-use Rattle.sot_regions_commands.specs.AsAsked.{IsLate, safe_twice, frame_as_asked, as_asked, IsSearched}
+use Rattle.sot_regions_commands.specs.AsAsked.{IsLate, frame_as_asked, as_asked, IsSearched}
+use Rattle.sot_compose.specs.declared.looked.LookedAt.TheVariants.{SafeAlone}
+use Rattle.sot_compose.specs.Frames.{seen_with}
 use Rattle.sot_regions_commands.specs.Answers.{HasOtherRegions, IsMissionOf, SpellsTyped, Answers, AnswersTyped, HasProgramFault, Replies}
 use Rattle.sot_regions_commands.specs.Ends.{IsNotSearched, LacksRegion, Decides, AskSearch}
 use Rattle.sot_regions_commands.specs.Steps.{WordAnswer}
@@ -65,7 +67,7 @@ module _ (t u : Tables) (same : tables_seen t ≡ tables_seen u) where
 
   frame_carried : (m : ℕ) (a : ModuleInfo) → Carried (frame_as_asked t m a) (frame_as_asked u m a)
   frame_carried m a =
-      both_carried (and_then (periods t m a) (outputs t m a)) (boxes m (safe_twice a)) (and_then (periods u m a) (outputs u m a)) (boxes m (safe_twice a))
+      both_carried (and_then (periods t m a) (outputs t m a)) (boxes m (seen_with SafeAlone a)) (and_then (periods u m a) (outputs u m a)) (boxes m (seen_with SafeAlone a))
       (both_carried (periods t m a) (outputs t m a) (periods u m a) (outputs u m a) (periods_carried t u same m a) (outputs_carried t u same m a))
       (record { passes = λ p. p; refuses = λ r h. h })
 
@@ -80,8 +82,8 @@ module _ (t u : Tables) (same : tables_seen t ≡ tables_seen u) where
 
 frame_exact : (t : Tables) (m : ℕ) (a : ModuleInfo) → IsExact (frame_as_asked t m a)
 frame_exact t m a =
-    and_then_exact (and_then (periods t m a) (outputs t m a)) (boxes m (safe_twice a))
-    (and_then_exact (periods t m a) (outputs t m a) (periods_exact t m a) (outputs_exact t m a)) (boxes_exact m (safe_twice a))
+    and_then_exact (and_then (periods t m a) (outputs t m a)) (boxes m (seen_with SafeAlone a))
+    (and_then_exact (periods t m a) (outputs t m a) (periods_exact t m a) (outputs_exact t m a)) (boxes_exact m (seen_with SafeAlone a))
 
 asked_exact : (t : Tables) → IsExact (as_asked t)
 asked_exact t =

@@ -4,8 +4,9 @@ use Rattle.sot_lists.specs.Places.{At}
 use Rattle.sot_lang.specs.declared.tables.NodeInfo.{NodeInfo}
 use Rattle.sot_lang.specs.declared.tables.ModuleInfo.{ModuleInfo}
 use Rattle.sot_lang.specs.Tables.{Tables}
-use Rattle.sot_tube.specs.Checks.{Check, and_then, for_each}
-use Rattle.sot_tube.specs.Verdict.{composition, periods, outputs, boxes, code}
+use Rattle.sot_tube.specs.Checks.{Check}
+use Rattle.sot_compose.specs.declared.looked.LookedAt.TheVariants.{SafeAlone}
+use Rattle.sot_compose.specs.Frames.{frame, without_cells}
 
 -- a jitter is not below the period of some node, or of some module
 abbrev pub IsNodeLate : Tables → ℕ → Type 0
@@ -17,23 +18,13 @@ IsModuleLate t jitter = (m : ℕ) × (a : ModuleInfo) × At t.modules m a × (a.
 abbrev pub IsLate : Tables → ℕ → Type 0
 IsLate t jitter = IsNodeLate t jitter ⊎ IsModuleLate t jitter
 
--- a module with `safer` read as `safe`
-abbrev pub safe_twice : ModuleInfo → ModuleInfo
-safe_twice a = record a { safer = a.safe }
-
--- the conditions of one module that speak of no cells: short periods, outputs in common, and a
--- region with a box
+-- the conditions of one module, and of a program, that speak of no cells, with `safer` read as
+-- `safe`
 abbrev pub frame_as_asked : Tables → ℕ → ModuleInfo → Check
-frame_as_asked t m a =
-    and_then (and_then (periods t m a) (outputs t m a)) (boxes m (safe_twice a))
+frame_as_asked t m a = frame SafeAlone t m a
 
--- the conditions of a program that speak of no cells, in the order of the verdict, with `safer`
--- read as `safe`: how its modules are put together, then each module, then each coded node. No
--- other condition of these looks at a `safer`
 abbrev pub as_asked : Tables → Check
-as_asked t =
-    and_then (composition t)
-    (and_then (for_each t.modules (frame_as_asked t)) (for_each t.nodes (code t)))
+as_asked t = without_cells SafeAlone t
 
 -- regions are searched: the jitter is below all periods, and these conditions hold
 abbrev pub IsSearched : Tables → ℕ → Type 0

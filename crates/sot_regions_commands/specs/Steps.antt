@@ -1,8 +1,6 @@
 -- What the functions below `regions` promise it.
-use Rattle.std.specs.Prelude.{◌≡◌, ℕ, ◌+◌, ◌≤◌, ◌⊎◌, ℤ, List, Option, Some, length, String}
+use Rattle.std.specs.Prelude.{◌≡◌, ℕ, ◌⊎◌, ℤ, List, Option, Some, length, String}
 use Rattle.std.proofs.Common.{Global}
-use Rattle.sot_ports.specs.Faults.{Rose}
-use Rattle.sot_ports.specs.Whole.{ReadsAll, ReadsCount}
 use Rattle.sot_lists.specs.Places.{At}
 use Rattle.sot_tree.specs.Trees.{Program}
 use Rattle.sot_rules.specs.declared.fault.TypeFault.{TypeFault}
@@ -25,7 +23,7 @@ use Rattle.sot_regions_words.specs.declared.refusal.RegionsRefusal.TheVariants.{
 use Rattle.sot_regions_words.specs.declared.refusal.RegionsRefusal.TheVariants.{TooMany, SaferNone}
 use Rattle.sot_regions_words.specs.Words.{Asks, AsksNone}
 use Rattle.sot_regions_words.specs.Lines.{usage_text}
-use Rattle.sot_program_answers.specs.Texts.{input_limit, long_text}
+use Rattle.sot_program_answers.specs.Steps.{InputAnswer, SilentWhere}
 use Rattle.sot_regions_commands.specs.declared.search.SearchFail.{SearchFail}
 use Rattle.sot_regions_commands.specs.declared.search.SearchFail.TheVariants as fails
 use Rattle.sot_regions_commands.specs.declared.search.Searched.{Searched}
@@ -52,9 +50,7 @@ pub record AreFindings (t : Tables) (regions : List ModuleRegions) (cells : List
 -- what is said of what is read, or of too much
 abbrev pub AskAnswer : ℕ → Option (List ℕ) → Option (List ℕ) → ℕ → List ℕ → Type 0
 AskAnswer jitter left left_after status text =
-    ((bytes : List ℕ) × ReadsAll left left_after bytes × (length bytes ≤ input_limit)
-    × Replies jitter bytes status text)
-    ⊎ ((status ≡ 7) × ReadsCount left left_after (input_limit + 1) × (text ≡ long_text))
+    InputAnswer (Replies jitter) left left_after status text
 
 -- what is said at the words
 abbrev pub WordAnswer : List (String Global) → Option (List ℕ) → Option (List ℕ) → ℕ → List ℕ
@@ -66,8 +62,7 @@ WordAnswer words left left_after status text =
 -- why nothing is said: memory, with no fault of the source, or a source that failed
 abbrev pub Silence : List (String Global) → ℕ → ℕ → ℕ → Type 0
 Silence words faults faults_after status =
-    ((status ≡ 6) × (faults_after ≡ faults))
-    ⊎ ((status ≡ 4) × AsksSome words × Rose faults faults_after)
+    SilentWhere (AsksSome words) faults faults_after status
 
 -- the bytes spell a program that breaks no rule of typing, and whose modules may take these regions
 abbrev pub MayTake : List ℕ → List ModuleRegions → Type 0

@@ -52,7 +52,7 @@ fn usage(alloc: Global) -> Result<Answer, AllocError>
 }
 
 // The answer to the words, before anything is written.
-#[tactic(auto, using(crate::proofs::Endings::reads_nothing))]
+#[tactic(auto, using(sot_program_answers::proofs::Endings::reads_nothing))]
 fn answer_to<R: Threads + Sync, S: Source>(
     rt: &R,
     alloc: Global,

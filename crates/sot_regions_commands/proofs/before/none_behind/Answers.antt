@@ -1,4 +1,4 @@
-use Rattle.std.proofs.Common.{◌≡◌, ℕ, List, length, sym, subst, arith}
+use Rattle.std.proofs.Common.{◌≡◌, ℕ, List, sym, subst, arith}
 use Rattle.sot_tree.specs.TreeViews.{program_view}
 use Rattle.sot_lang.specs.declared.cert.Cert.{Cert}
 use Rattle.sot_parser.specs.Programs.{Spells}

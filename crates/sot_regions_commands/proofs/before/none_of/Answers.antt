@@ -1,4 +1,4 @@
-use Rattle.std.proofs.Common.{◌∙◌, ap, length, List, sym, arith}
+use Rattle.std.proofs.Common.{◌∙◌, ap, length, List, sym}
 use Rattle.sot_region_tree.specs.declared.modules.ModuleRegions.{ModuleRegions}
 use Rattle.sot_regions_commands.proofs.Forms.{none_result, none_before}
 use Rattle.sot_regions_commands.proofs.NoRegions.{names_module}
