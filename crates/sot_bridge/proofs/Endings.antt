@@ -1,40 +1,19 @@
 -- How a call ends, from what was answered and what was written.
-use Rattle.std.proofs.Common.{◌≡◌, ◌∙◌, ℕ, ◌<◌, ◌≤◌, List, [], Option, None, Some, Result, Ok, Err, inl, inr, sym, ap, subst, arith, length, take, Global}
-use Rattle.std.specs.Prelude.{◌⊎◌, ◌≢◌, String, IfOk, IfErr, IfSome, IsErr, MatchResult}
-use Rattle.std.specs.declared.alloc.AllocError.{AllocError}
-use Rattle.std.specs.Io.KnownBytes.{Appends, Keeps}
-use Rattle.std.proofs.KnownBytes.{Consumes-nil}
+use Rattle.std.proofs.Common.{◌≡◌, ℕ, ◌≤◌, List, Option, None, Some, Result, Ok, Err, inl, inr, sym, ap, subst, arith, length, Global}
+use Rattle.std.specs.Prelude.{◌⊎◌, ◌≢◌, String, IfOk, IfErr, IfSome}
+use Rattle.std.specs.Io.KnownBytes.{Keeps}
 use Rattle.std.proofs.lemmas.List.{length-append}
 use Rattle.sot_ports.specs.Faults.{Rose}
 use Rattle.sot_ports.specs.Outside.{Outside, Written}
-use Rattle.sot_ports.specs.Whole.{ReadsAll, ReadsUpTo}
 use Rattle.sot_program_answers.specs.Texts.{input_limit}
 use Rattle.sot_bridge_input.specs.Words.{Asks}
 use Rattle.sot_program_answers.specs.declared.answer.Answer.{Answer}
 use Rattle.sot_program_answers.specs.declared.status.Status.{Status}
+use Rattle.sot_program_answers.proofs.Endings.{Texts, Says, EndsSaying, ends_saying, never_silent, calm_status, ends_unsaid, never_unsaid}
 use Rattle.sot_bridge.specs.Answers.{Accepts, Refutes, Rejects, Replies}
-use Rattle.sot_bridge.specs.Ends.{Ends, Done, IsUsage, IsTooLong, IsAnswer, Decides}
+use Rattle.sot_bridge.specs.Ends.{Ends, AskSome, Done, IsUsage, IsTooLong, Decides}
 use Rattle.sot_bridge.specs.Steps.{AskAnswer, WordAnswer, Silence}
 use Rattle.sot_bridge.proofs.Unique.{only}
-
--- a source that was not read has given no byte
-pub reads_nothing : (left : Option (List ℕ)) (most : ℕ) → ReadsUpTo left left most
-reads_nothing left most = ([], omega arith, Consumes-nil left)
-
--- what is said of all bytes that were read
-pub asked_result : (r : Result Answer Status) (a : Result Answer AllocError) (from to : List ℕ) (delay : ℕ) (left left_after : Option (List ℕ))
-    (seen bytes : List ℕ) → MatchResult r (λ x. a ≡ Ok x) (λ s. (s.0 ≡ 6) × IsErr a) → seen ≡ bytes → length seen ≤ input_limit
-    → ReadsAll left left_after bytes → IfOk a (λ x. Replies from to delay seen x.status x.text.items)
-    → IfOk r (λ x. AskAnswer from to delay left left_after x.status x.text.items)
-asked_result (Ok x) a from to delay left left_after seen bytes is same short all said =
-    let replies = subst (λ (y : Result Answer AllocError). IfOk y (λ z. Replies from to delay seen z.status z.text.items)) is said in
-    inl (
-      bytes,
-      all,
-      subst (λ (b : List ℕ). length b ≤ input_limit) same short,
-      subst (λ (b : List ℕ). Replies from to delay b x.status x.text.items) same replies,
-    )
-asked_result (Err s) a from to delay left left_after seen bytes is same short all said = tt
 
 -- what is said at words that ask for a bridge
 pub word_result : (r : Result Answer Status) (words : List (String Global)) (from to : List ℕ) (delay : ℕ) (left left_after : Option (List ℕ))
@@ -74,16 +53,47 @@ decides words (Some xs) (Some ys) status text (inl (from, to, delay, asks, inr (
     let whole = ap length taken in
     inr (inl (is, (from, to, delay, asks), omega (arith, whole, length-append bytes ys)))
 
--- a status, and the text that belongs to it
-abbrev Says : List (String Global) → Outside → Outside → ℕ → List ℕ → Type 0
-Says words before after status text =
-    ((status ≡ 0) × Done Accepts words before after text) ⊎ ((status ≡ 1) × Done Refutes words before after text)
-    ⊎ ((status ≡ 2) × IsUsage words text) ⊎ ((status ≡ 3) × Done Rejects words before after text)
-    ⊎ ((status ≡ 7) × IsTooLong words before after text)
+-- what is said at each status
+abbrev texts : List (String Global) → Outside → Outside → Texts
+texts words before after = record {
+  accepted = Done Accepts words before after;
+  refused = Done Refutes words before after;
+  usage = IsUsage words;
+  rejected = Done Rejects words before after;
+  too_long = IsTooLong words before after;
+}
+
+module _ (words : List (String Global)) (before after : Outside) where
+  -- with the status that words and bytes decide, it is the end of a call
+  ends : (status : ℕ) → EndsSaying (texts words before after) (AskSome words) before after status
+      → ((¬ (Rose before.read_faults after.read_faults)) → (¬ (Rose before.write_faults after.write_faults)) → status ≢ 6
+      → IfSome before.left (λ bytes. (s : ℕ) → Decides words bytes s → status ≡ s))
+      → Ends words before after status
+  ends status e decided = record {
+    known = e.known;
+    accepted = e.accepted;
+    refused = e.refused;
+    usage = e.usage;
+    rejected = e.rejected;
+    read_fault = e.read_fault;
+    write_fault = e.write_fault;
+    too_long = e.too_long;
+    read_well = e.read_well;
+    wrote_well = e.wrote_well;
+    unwritten = e.unwritten;
+    decided = decided;
+  }
+
+  -- nothing was said
+  pub ends_silent : (status : ℕ) → Silence words before.read_faults after.read_faults status → after.write_faults ≡ before.write_faults
+      → Keeps before.held after.held → Ends words before after status
+  ends_silent status silent wrote keeps =
+      ends status (ends_unsaid (texts words before after) (AskSome words) before after status silent wrote keeps)
+      (λ calm _ enough. absurd (never_unsaid (AskSome words) before.read_faults after.read_faults status silent calm enough))
 
 module _ (words : List (String Global)) (before after : Outside) (text : List ℕ) where
   -- the text belongs to its status
-  says : (status : ℕ) → WordAnswer words before.left after.left status text → Says words before after status text
+  says : (status : ℕ) → WordAnswer words before.left after.left status text → Says (texts words before after) status text
   says status (inl (from, to, delay, asks, inl (bytes, all, short, inl (is, a)))) = inl (is, (from, to, delay, asks, (bytes, all, short, a)))
   says status (inl (from, to, delay, asks, inl (bytes, all, short, inr (inl (is, a))))) = inr (inl (is, (from, to, delay, asks, (bytes, all, short, a))))
   says status (inl (from, to, delay, asks, inl (bytes, all, short, inr (inr (is, a))))) =
@@ -91,140 +101,18 @@ module _ (words : List (String Global)) (before after : Outside) (text : List �
   says status (inl (from, to, delay, asks, inr (is, count, text_is))) = inr (inr (inr (inr (is, ((from, to, delay, asks), count, text_is)))))
   says status (inr (other, is, text_is)) = inr (inr (inl (is, (other, text_is))))
 
-  is_answer : (status : ℕ) → Says words before after status text → IsAnswer words before after text
-  is_answer status (inl s) = inl s.1
-  is_answer status (inr (inl s)) = inr (inl s.1)
-  is_answer status (inr (inr (inl s))) = inr (inr (inl s.1))
-  is_answer status (inr (inr (inr (inl s)))) = inr (inr (inr (inl s.1)))
-  is_answer status (inr (inr (inr (inr s)))) = inr (inr (inr (inr s.1)))
-
-  is_written : (status : ℕ) → Says words before after status text → (status ≢ 4) × (status ≢ 5) × (status ≢ 6) × (status ≤ 7)
-  is_written status (inl (is, a)) = (omega arith, omega arith, omega arith, omega arith)
-  is_written status (inr (inl (is, a))) = (omega arith, omega arith, omega arith, omega arith)
-  is_written status (inr (inr (inl (is, a)))) = (omega arith, omega arith, omega arith, omega arith)
-  is_written status (inr (inr (inr (inl (is, a))))) = (omega arith, omega arith, omega arith, omega arith)
-  is_written status (inr (inr (inr (inr (is, a))))) = (omega arith, omega arith, omega arith, omega arith)
-
-  accepts : (status : ℕ) → Says words before after status text → status ≡ 0 → Done Accepts words before after text
-  accepts status (inl (is, a)) e = a
-  accepts status (inr (inl (is, a))) e = absurd (omega arith)
-  accepts status (inr (inr (inl (is, a)))) e = absurd (omega arith)
-  accepts status (inr (inr (inr (inl (is, a))))) e = absurd (omega arith)
-  accepts status (inr (inr (inr (inr (is, a))))) e = absurd (omega arith)
-
-  refutes : (status : ℕ) → Says words before after status text → status ≡ 1 → Done Refutes words before after text
-  refutes status (inl (is, a)) e = absurd (omega arith)
-  refutes status (inr (inl (is, a))) e = a
-  refutes status (inr (inr (inl (is, a)))) e = absurd (omega arith)
-  refutes status (inr (inr (inr (inl (is, a))))) e = absurd (omega arith)
-  refutes status (inr (inr (inr (inr (is, a))))) e = absurd (omega arith)
-
-  is_usage : (status : ℕ) → Says words before after status text → status ≡ 2 → IsUsage words text
-  is_usage status (inl (is, a)) e = absurd (omega arith)
-  is_usage status (inr (inl (is, a))) e = absurd (omega arith)
-  is_usage status (inr (inr (inl (is, a)))) e = a
-  is_usage status (inr (inr (inr (inl (is, a))))) e = absurd (omega arith)
-  is_usage status (inr (inr (inr (inr (is, a))))) e = absurd (omega arith)
-
-  rejects : (status : ℕ) → Says words before after status text → status ≡ 3 → Done Rejects words before after text
-  rejects status (inl (is, a)) e = absurd (omega arith)
-  rejects status (inr (inl (is, a))) e = absurd (omega arith)
-  rejects status (inr (inr (inl (is, a)))) e = absurd (omega arith)
-  rejects status (inr (inr (inr (inl (is, a))))) e = a
-  rejects status (inr (inr (inr (inr (is, a))))) e = absurd (omega arith)
-
-  is_too_long : (status : ℕ) → Says words before after status text → status ≡ 7 → IsTooLong words before after text
-  is_too_long status (inl (is, a)) e = absurd (omega arith)
-  is_too_long status (inr (inl (is, a))) e = absurd (omega arith)
-  is_too_long status (inr (inr (inl (is, a)))) e = absurd (omega arith)
-  is_too_long status (inr (inr (inr (inl (is, a))))) e = absurd (omega arith)
-  is_too_long status (inr (inr (inr (inr (is, a))))) e = a
-
-  -- all of the text was written
-  ends_whole : (status : ℕ) → WordAnswer words before.left after.left status text → after.read_faults ≡ before.read_faults
-      → after.write_faults ≡ before.write_faults → Appends before.held after.held text → Ends words before after status
-  ends_whole status answer read wrote appended =
-      let said = says status answer in
-      let known : (status ≢ 4) × (status ≢ 5) × (status ≢ 6) × (status ≤ 7) = is_written status said in record {
-        known = known.3;
-        accepted = λ e. (text, accepts status said e, appended);
-        refused = λ e. (text, refutes status said e, appended);
-        usage = λ e. (text, is_usage status said e, appended);
-        rejected = λ e. (text, rejects status said e, appended);
-        read_fault = λ e. absurd (known.0 e);
-        write_fault = λ e. absurd (known.1 e);
-        too_long = λ e. (text, is_too_long status said e, appended);
-        read_well = λ _. read;
-        wrote_well = λ _. wrote;
-        unwritten = elim [ inl four ↦ absurd (known.0 four) | inr six ↦ absurd (known.2 six) ];
-        decided = λ _ _ _. only words before.left status (decides words before.left after.left status text answer);
-      }
-
-  -- the sink failed before its end
-  ends_part : (said status : ℕ) → WordAnswer words before.left after.left said text → after.read_faults ≡ before.read_faults → status ≡ 5
-      → Rose before.write_faults after.write_faults → ((n : ℕ) × (n < length text) × Appends before.held after.held (take n text))
-      → Ends words before after status
-  ends_part said status answer read is rose part = record {
-    known = omega arith;
-    accepted = λ e. absurd (omega arith);
-    refused = λ e. absurd (omega arith);
-    usage = λ e. absurd (omega arith);
-    rejected = λ e. absurd (omega arith);
-    read_fault = λ e. absurd (omega arith);
-    write_fault = λ e. (rose, (text, is_answer said (says said answer), part));
-    too_long = λ e. absurd (omega arith);
-    read_well = λ _. read;
-    wrote_well = λ other. absurd (other is);
-    unwritten = elim [ inl four ↦ absurd (omega arith) | inr six ↦ absurd (omega arith) ];
-    decided = λ _ calm _. absurd (calm rose);
-  }
-
   -- what was answered was written, or its front
   pub ends_said : (said status : ℕ) → WordAnswer words before.left after.left said text → after.read_faults ≡ before.read_faults
       → Written before.held after.held before.write_faults after.write_faults said text status → Ends words before after status
-  ends_said said status answer read (inl (is, wrote, appended)) =
-      ends_whole status (subst (λ (s : ℕ). WordAnswer words before.left after.left s text) (sym is) answer) read wrote appended
-  ends_said said status answer read (inr (is, rose, part)) = ends_part said status answer read is rose part
+  ends_said said status answer read written =
+      ends words before after status
+      (ends_saying (texts words before after) (AskSome words) before after text said status (says said answer) read written)
+      (λ _ calm _. (let is : status ≡ said = calm_status before.held after.held before.write_faults after.write_faults said text status written calm in
+      only words before.left status (decides words before.left after.left status text
+      (subst (λ (s : ℕ). WordAnswer words before.left after.left s text) (sym is) answer))))
 
--- what is said has a status of its own, so that no silence stands for it
-pub is_said : (words : List (String Global)) (before after : Outside) (text : List ℕ) (said status : ℕ)
-    → WordAnswer words before.left after.left said text
-    → Written before.held after.held before.write_faults after.write_faults said text status → (status ≡ 4) ⊎ (status ≡ 6) → ⊥
-is_said words before after text said status answer (inl (is, wrote, appended)) (inl four) =
-    (is_written words before after text said (says words before after text said answer)).0 (sym is ∙ four)
-is_said words before after text said status answer (inl (is, wrote, appended)) (inr six) =
-    (is_written words before after text said (says words before after text said answer)).2 (sym is ∙ six)
-is_said words before after text said status answer (inr (is, rose, part)) (inl four) = absurd (omega (arith, is, four))
-is_said words before after text said status answer (inr (is, rose, part)) (inr six) = absurd (omega (arith, is, six))
-
--- nothing was said
-pub ends_silent : (words : List (String Global)) (before after : Outside) (status : ℕ) → Silence words before.read_faults after.read_faults status
-    → after.write_faults ≡ before.write_faults → Keeps before.held after.held → Ends words before after status
-ends_silent words before after status (inl (is, same)) wrote keeps = record {
-  known = omega (arith, is);
-  accepted = λ e. absurd (omega (arith, is, e));
-  refused = λ e. absurd (omega (arith, is, e));
-  usage = λ e. absurd (omega (arith, is, e));
-  rejected = λ e. absurd (omega (arith, is, e));
-  read_fault = λ e. absurd (omega (arith, is, e));
-  write_fault = λ e. absurd (omega (arith, is, e));
-  too_long = λ e. absurd (omega (arith, is, e));
-  read_well = λ _. same;
-  wrote_well = λ _. wrote;
-  unwritten = λ _. keeps;
-  decided = λ _ _ enough. absurd (enough is);
-}
-ends_silent words before after status (inr (is, asks, rose)) wrote keeps = record {
-  known = omega (arith, is);
-  accepted = λ e. absurd (omega (arith, is, e));
-  refused = λ e. absurd (omega (arith, is, e));
-  usage = λ e. absurd (omega (arith, is, e));
-  rejected = λ e. absurd (omega (arith, is, e));
-  read_fault = λ _. (asks, rose);
-  write_fault = λ e. absurd (omega (arith, is, e));
-  too_long = λ e. absurd (omega (arith, is, e));
-  read_well = λ other. absurd (other is);
-  wrote_well = λ _. wrote;
-  unwritten = λ _. keeps;
-  decided = λ calm _ _. absurd (calm rose);
-}
+  -- what is said has a status of its own, so that no silence stands for it
+  pub is_said : (said status : ℕ) → WordAnswer words before.left after.left said text
+      → Written before.held after.held before.write_faults after.write_faults said text status → (status ≡ 4) ⊎ (status ≡ 6) → ⊥
+  is_said said status answer written =
+      never_silent (texts words before after) before.held after.held before.write_faults after.write_faults text said status (says said answer) written

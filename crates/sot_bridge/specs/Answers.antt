@@ -1,6 +1,6 @@
 -- What a bridge answers to two names, a delay and the bytes of its input.
 use Rattle.std.specs.Prelude.{ℕ, ◌+◌, ◌*◌, ◌≡◌, ◌≤◌, ◌<◌, ◌⊎◌, true, false, List, []}
-use Rattle.std.specs.Prelude.{◌++◌, codes, Some, None, length, slice_index_or}
+use Rattle.std.specs.Prelude.{◌++◌, codes, Some, None, length}
 use Rattle.sot_sections.specs.declared.mission.Need.TheVariants as needs
 use Rattle.sot_lang.specs.Tables.{Tables}
 use Rattle.sot_lang.specs.declared.cert.Cert.{Cert}
@@ -9,7 +9,7 @@ use Rattle.sot_tube.specs.Verdict.{verdict}
 use Rattle.sot_tube.specs.Refusals.{Refusal}
 use Rattle.sot_world.specs.HistoryEntry.{Logged}
 use Rattle.sot_world.specs.Headline.{EveryRunIsSafe}
-use Rattle.sot_world.specs.Opens.{StartInside, IsFirstOutside}
+use Rattle.sot_world.specs.Opens.{StartInside}
 use Rattle.sot_flight.specs.Plans.{Plan}
 use Rattle.sot_flight.specs.Relayed.{relayed}
 use Rattle.sot_board.specs.Flown.{FlownBy}
@@ -17,7 +17,8 @@ use Rattle.sot_trace.specs.Traces.{trace_text}
 use Rattle.sot_report.specs.declared.fault.Fault.{Fault}
 use Rattle.sot_report.specs.Missions.{Mission, SpellsMission, HasFault}
 use Rattle.sot_report.specs.FaultTexts.{fault_text}
-use Rattle.sot_report.specs.RefusalTexts.{refusal_text, start_text}
+use Rattle.sot_report.specs.RefusalTexts.{refusal_text}
+use Rattle.sot_program_answers.specs.Starts.{IsOutsideLine}
 use Rattle.sot_bridge_input.specs.Halves.{Halves, halves_of}
 use Rattle.sot_bridge_topics.specs.Topics.{IsNamed, Match}
 use Rattle.sot_bridge_topics.specs.Sends.{most_sends}
@@ -101,9 +102,7 @@ IsRefused s text =
 
 -- the plant of a module, the first one, starts outside its safer region, and this is said
 abbrev pub IsOutsideOf : Tables → Plan → List ℕ → Type 0
-IsOutsideOf t f text =
-    (m : ℕ) × (first : IsFirstOutside t f.start m)
-    × (text ≡ start_text t m (slice_index_or f.start first.info.plant []))
+IsOutsideOf t f text = IsOutsideLine t f.start text
 
 abbrev pub IsOutside : Side → List ℕ → Type 0
 IsOutside s text = IsOutsideOf s.tables s.plan text

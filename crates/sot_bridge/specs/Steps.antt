@@ -1,8 +1,6 @@
 -- What the functions below `bridge` promise it.
 use Rattle.std.specs.Prelude.{◌≡◌, ℕ, ◌+◌, ◌*◌, ◌<◌, ◌≤◌, ◌⊎◌, ◌++◌, List, Option, length, String}
 use Rattle.std.proofs.Common.{Global}
-use Rattle.sot_ports.specs.Faults.{Rose}
-use Rattle.sot_ports.specs.Whole.{ReadsAll, ReadsCount}
 use Rattle.sot_lang.specs.Tables.{Tables}
 use Rattle.sot_world.specs.Headline.{EveryRunIsSafe}
 use Rattle.sot_world.specs.HistoryEntry.{Logged}
@@ -11,7 +9,7 @@ use Rattle.sot_flight.specs.Plans.{Plan}
 use Rattle.sot_flight.specs.Relayed.{Send, relayed}
 use Rattle.sot_board.specs.Flown.{FlownBy}
 use Rattle.sot_trace.specs.Traces.{trace_text}
-use Rattle.sot_program_answers.specs.Texts.{input_limit, long_text}
+use Rattle.sot_program_answers.specs.Steps.{InputAnswer, SilentWhere}
 use Rattle.sot_bridge_input.specs.Words.{Asks}
 use Rattle.sot_bridge_sends.specs.Sends.{sends_of}
 use Rattle.sot_bridge.specs.declared.joining.JoinFault.{JoinFault}
@@ -90,9 +88,7 @@ RepliesBoth a b from to delay status text =
 abbrev pub AskAnswer : List ℕ → List ℕ → ℕ → Option (List ℕ) → Option (List ℕ) → ℕ → List ℕ
     → Type 0
 AskAnswer from to delay left left_after status text =
-    ((bytes : List ℕ) × ReadsAll left left_after bytes × (length bytes ≤ input_limit)
-    × Replies from to delay bytes status text)
-    ⊎ ((status ≡ 7) × ReadsCount left left_after (input_limit + 1) × (text ≡ long_text))
+    InputAnswer (Replies from to delay) left left_after status text
 
 -- what is said at the words
 abbrev pub WordAnswer : List (String Global) → Option (List ℕ) → Option (List ℕ) → ℕ → List ℕ
@@ -105,5 +101,4 @@ WordAnswer words left left_after status text =
 -- why nothing is said: memory, with no fault of the source, or a source that failed
 abbrev pub Silence : List (String Global) → ℕ → ℕ → ℕ → Type 0
 Silence words faults faults_after status =
-    ((status ≡ 6) × (faults_after ≡ faults))
-    ⊎ ((status ≡ 4) × AskSome words × Rose faults faults_after)
+    SilentWhere (AskSome words) faults faults_after status

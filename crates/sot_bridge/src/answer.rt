@@ -10,8 +10,8 @@ ghost use Rattle.sot_bridge.specs.Answers.{word_of, IsOutsideOf};
 
 use sot_flight::Flight;
 use sot_lang::Typed;
-use sot_program_answers::Answer;
-use sot_report::{Fault, start_text};
+use sot_program_answers::{Answer, outside_line};
+use sot_report::Fault;
 use sot_rta::Refusal;
 use std::alloc::{AllocError, Global};
 
@@ -67,22 +67,6 @@ pub fn refused(
     Ok(Answer { status: 1, text })
 }
 
-// The line of a flight whose start is refused.
-fn outside_line(
-    alloc: Global,
-    program: &Typed,
-    flight: &Flight,
-    module: u32,
-) -> Result<Vec<u8>, AllocError>
-    requires fits { (guests : ℕ) × FitsFlight program.now guests flight.now }
-    requires first { IsFirstOutside program.now flight.now.start «module» }
-    ensures { IfOk result (λ line. IsOutsideOf program.now flight.now line.items) }
-{
-    let plant = program.modules[module as usize].plant;
-    let line = start_text(alloc, program, module, &flight.start()[plant as usize])?;
-    Ok(line)
-}
-
 /// Status 1: the line of a flight whose start is refused, since the plant of this module starts
 /// outside the module's safer region.
 pub fn outside(
@@ -98,7 +82,7 @@ pub fn outside(
     ensures text { IfOk result (λ answer. (line : List ℕ) × IsOutsideOf program.now flight.now line
         × (answer.text.items ≡ word_of which ++ line)) }
 {
-    let line = outside_line(alloc, program, flight, module)?;
+    let line = outside_line(alloc, program, flight.start(), module)?;
     let text = line_of(alloc, which, &line)?;
     Ok(Answer { status: 1, text })
 }

@@ -1,8 +1,8 @@
 //! The program, over real words, source and sink.
 
 use crate::top::bridge;
-use sot_ports::{Process, StdSink, StdSource};
-use sot_program_answers::words_of;
+use sot_ports::Process;
+use sot_program_answers::run_program;
 use std::alloc::Global;
 use std::env::Args;
 use std::io;
@@ -18,12 +18,7 @@ pub fn run<R: Threads + Sync>(
     input: Stdin,
     output: Stdout,
 ) -> ExitCode {
-    let words = match words_of(alloc, args) {
-        Ok(words) => words,
-        Err(status) => return ExitCode::from(status.0),
-    };
-    let mut source = StdSource::new(input);
-    let mut sink = StdSink::new(output);
-    let status = bridge(rt, alloc, &words, &mut source, &mut sink, Process::Ends);
-    ExitCode::from(status.0)
+    run_program(alloc, args, input, output, |words, source, sink| {
+        bridge(rt, alloc, words, source, sink, Process::Ends)
+    })
 }

@@ -59,7 +59,7 @@ fn perform<R: Threads + Sync, S: Source>(
 }
 
 // The answer to the words, before anything is written.
-#[tactic(auto, using(crate::proofs::Endings::reads_nothing))]
+#[tactic(auto, using(sot_program_answers::proofs::Endings::reads_nothing))]
 fn answer_to<R: Threads + Sync, S: Source>(
     rt: &R,
     alloc: Global,

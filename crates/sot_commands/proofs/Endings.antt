@@ -1,24 +1,19 @@
 -- How a call ends, from what was answered and what was written.
-use Rattle.std.proofs.Common.{◌≡◌, ℕ, ◌<◌, ◌≤◌, List, Option, None, Some, inl, inr, sym, ap, subst, arith, length, take, Global}
+use Rattle.std.proofs.Common.{◌≡◌, ℕ, ◌≤◌, List, Option, None, Some, inl, inr, sym, ap, subst, arith, length, Global}
 use Rattle.std.specs.Prelude.{◌⊎◌, ◌≢◌, String, IfSome}
 use Rattle.std.proofs.lemmas.List.{length-append}
-use Rattle.std.specs.Io.KnownBytes.{Appends}
+use Rattle.std.specs.Io.KnownBytes.{Keeps}
 use Rattle.sot_ports.specs.Faults.{Rose}
 use Rattle.sot_program_answers.specs.Texts.{input_limit}
+use Rattle.sot_program_answers.proofs.Endings.{Texts, Says, EndsSaying, ends_saying, calm_status, ends_unsaid, never_unsaid}
 use Rattle.sot_commands.specs.declared.words.Command.{Command}
 use Rattle.sot_commands.specs.declared.words.Command.TheVariants.{Check, Fly, Replay, Recover, Watch, Format, Certify, Make, Soak}
+use Rattle.sot_commands.specs.Words.{AsksReader}
 use Rattle.sot_commands.specs.Answers.{Accepts, Refutes, Rejects, Replies, given_to}
-use Rattle.sot_commands.specs.Steps.{WordAnswer}
+use Rattle.sot_commands.specs.Steps.{WordAnswer, Silence}
 use Rattle.sot_ports.specs.Outside.{Outside, Written}
-use Rattle.sot_commands.specs.Ends.{Ends, Takes, Done, IsUsage, IsTooLong, IsAnswer, Decides, FliesWatched}
+use Rattle.sot_commands.specs.Ends.{Ends, Takes, Done, IsUsage, IsTooLong, Decides, FliesWatched}
 use Rattle.sot_commands.proofs.Unique.{decides_once}
-
--- a status, and the text that belongs to it
-abbrev Says : ℕ → List (String Global) → Outside → Outside → ℕ → List ℕ → Type 0
-Says guests words before after status text =
-    ((status ≡ 0) × Done (Accepts guests) words before after text) ⊎ ((status ≡ 1) × Done (Refutes guests) words before after text)
-    ⊎ ((status ≡ 2) × IsUsage words text) ⊎ ((status ≡ 3) × Done (Rejects guests) words before after text)
-    ⊎ ((status ≡ 7) × IsTooLong words before after text)
 
 -- what a command took of a source is what it works on
 given : (c : Command) (xs : List ℕ) (after : Option (List ℕ)) (bytes : List ℕ) → Takes c (Some xs) after bytes → bytes ≡ given_to c xs
@@ -52,107 +47,59 @@ only : (guests : ℕ) (words : List (String Global)) (left : Option (List ℕ)) 
 only guests words None status one = tt
 only guests words (Some bytes) status one = λ s other. decides_once guests words bytes status s one other
 
+-- what is said at each status
+abbrev texts : ℕ → List (String Global) → Outside → Outside → Texts
+texts guests words before after = record {
+  accepted = Done (Accepts guests) words before after;
+  refused = Done (Refutes guests) words before after;
+  usage = IsUsage words;
+  rejected = Done (Rejects guests) words before after;
+  too_long = IsTooLong words before after;
+}
+
+module _ (guests : ℕ) (words : List (String Global)) (before after : Outside) where
+  -- with the status that words and bytes decide, it is the end of a call
+  ends : (status : ℕ) → EndsSaying (texts guests words before after) (AsksReader words) before after status
+      → ((¬ (Rose before.read_faults after.read_faults)) → (¬ (Rose before.write_faults after.write_faults)) → status ≢ 6
+      → IfSome before.left (λ bytes. (s : ℕ) → Decides guests words bytes s → (status ≡ s) ⊎ ((status ≤ 1) × (s ≤ 1) × FliesWatched guests words bytes)))
+      → Ends guests words before after status
+  ends status e decided = record {
+    known = e.known;
+    accepted = e.accepted;
+    refused = e.refused;
+    usage = e.usage;
+    rejected = e.rejected;
+    read_fault = e.read_fault;
+    write_fault = e.write_fault;
+    too_long = e.too_long;
+    read_well = e.read_well;
+    wrote_well = e.wrote_well;
+    unwritten = e.unwritten;
+    decided = decided;
+  }
+
+  -- nothing was said
+  pub ends_silent : (status : ℕ) → Silence words before.read_faults after.read_faults status → after.write_faults ≡ before.write_faults
+      → Keeps before.held after.held → Ends guests words before after status
+  ends_silent status silent wrote keeps =
+      ends status (ends_unsaid (texts guests words before after) (AsksReader words) before after status silent wrote keeps)
+      (λ calm _ enough. absurd (never_unsaid (AsksReader words) before.read_faults after.read_faults status silent calm enough))
+
 module _ (guests : ℕ) (words : List (String Global)) (before after : Outside) (text : List ℕ) where
   -- the text belongs to its status
-  says : (status : ℕ) → WordAnswer guests words before.left after.left status text → Says guests words before after status text
+  says : (status : ℕ) → WordAnswer guests words before.left after.left status text → Says (texts guests words before after) status text
   says status (inl (c, asks, inl (bytes, all, short, inl (is, a)))) = inl (is, (c, asks, (bytes, all, short, a)))
   says status (inl (c, asks, inl (bytes, all, short, inr (inl (is, a))))) = inr (inl (is, (c, asks, (bytes, all, short, a))))
   says status (inl (c, asks, inl (bytes, all, short, inr (inr (is, a))))) = inr (inr (inr (inl (is, (c, asks, (bytes, all, short, a))))))
   says status (inl (c, asks, inr (reads, is, count, text_is))) = inr (inr (inr (inr (is, ((c, reads, asks), count, text_is)))))
   says status (inr (other, is, text_is)) = inr (inr (inl (is, (other, text_is))))
 
-  is_answer : (status : ℕ) → Says guests words before after status text → IsAnswer guests words before after text
-  is_answer status (inl s) = inl s.1
-  is_answer status (inr (inl s)) = inr (inl s.1)
-  is_answer status (inr (inr (inl s))) = inr (inr (inl s.1))
-  is_answer status (inr (inr (inr (inl s)))) = inr (inr (inr (inl s.1)))
-  is_answer status (inr (inr (inr (inr s)))) = inr (inr (inr (inr s.1)))
-
-  is_written : (status : ℕ) → Says guests words before after status text → (status ≢ 4) × (status ≢ 5) × (status ≢ 6) × (status ≤ 7)
-  is_written status (inl (is, a)) = (omega arith, omega arith, omega arith, omega arith)
-  is_written status (inr (inl (is, a))) = (omega arith, omega arith, omega arith, omega arith)
-  is_written status (inr (inr (inl (is, a)))) = (omega arith, omega arith, omega arith, omega arith)
-  is_written status (inr (inr (inr (inl (is, a))))) = (omega arith, omega arith, omega arith, omega arith)
-  is_written status (inr (inr (inr (inr (is, a))))) = (omega arith, omega arith, omega arith, omega arith)
-
-  accepts : (status : ℕ) → Says guests words before after status text → status ≡ 0 → Done (Accepts guests) words before after text
-  accepts status (inl (is, a)) e = a
-  accepts status (inr (inl (is, a))) e = absurd (omega arith)
-  accepts status (inr (inr (inl (is, a)))) e = absurd (omega arith)
-  accepts status (inr (inr (inr (inl (is, a))))) e = absurd (omega arith)
-  accepts status (inr (inr (inr (inr (is, a))))) e = absurd (omega arith)
-
-  refutes : (status : ℕ) → Says guests words before after status text → status ≡ 1 → Done (Refutes guests) words before after text
-  refutes status (inl (is, a)) e = absurd (omega arith)
-  refutes status (inr (inl (is, a))) e = a
-  refutes status (inr (inr (inl (is, a)))) e = absurd (omega arith)
-  refutes status (inr (inr (inr (inl (is, a))))) e = absurd (omega arith)
-  refutes status (inr (inr (inr (inr (is, a))))) e = absurd (omega arith)
-
-  is_usage : (status : ℕ) → Says guests words before after status text → status ≡ 2 → IsUsage words text
-  is_usage status (inl (is, a)) e = absurd (omega arith)
-  is_usage status (inr (inl (is, a))) e = absurd (omega arith)
-  is_usage status (inr (inr (inl (is, a)))) e = a
-  is_usage status (inr (inr (inr (inl (is, a))))) e = absurd (omega arith)
-  is_usage status (inr (inr (inr (inr (is, a))))) e = absurd (omega arith)
-
-  rejects : (status : ℕ) → Says guests words before after status text → status ≡ 3 → Done (Rejects guests) words before after text
-  rejects status (inl (is, a)) e = absurd (omega arith)
-  rejects status (inr (inl (is, a))) e = absurd (omega arith)
-  rejects status (inr (inr (inl (is, a)))) e = absurd (omega arith)
-  rejects status (inr (inr (inr (inl (is, a))))) e = a
-  rejects status (inr (inr (inr (inr (is, a))))) e = absurd (omega arith)
-
-  is_too_long : (status : ℕ) → Says guests words before after status text → status ≡ 7 → IsTooLong words before after text
-  is_too_long status (inl (is, a)) e = absurd (omega arith)
-  is_too_long status (inr (inl (is, a))) e = absurd (omega arith)
-  is_too_long status (inr (inr (inl (is, a)))) e = absurd (omega arith)
-  is_too_long status (inr (inr (inr (inl (is, a))))) e = absurd (omega arith)
-  is_too_long status (inr (inr (inr (inr (is, a))))) e = a
-
-  -- all of the text was written
-  ends_whole : (status : ℕ) → WordAnswer guests words before.left after.left status text → after.read_faults ≡ before.read_faults
-      → after.write_faults ≡ before.write_faults
-      → Appends before.held after.held text → Ends guests words before after status
-  ends_whole status answer read wrote appended =
-      let said = says status answer in
-      let known : (status ≢ 4) × (status ≢ 5) × (status ≢ 6) × (status ≤ 7) = is_written status said in record {
-        known = known.3;
-        accepted = λ e. (text, accepts status said e, appended);
-        refused = λ e. (text, refutes status said e, appended);
-        usage = λ e. (text, is_usage status said e, appended);
-        rejected = λ e. (text, rejects status said e, appended);
-        read_fault = λ e. absurd (known.0 e);
-        write_fault = λ e. absurd (known.1 e);
-        too_long = λ e. (text, is_too_long status said e, appended);
-        read_well = λ _. read;
-        wrote_well = λ _. wrote;
-        unwritten = elim [ inl four ↦ absurd (known.0 four) | inr six ↦ absurd (known.2 six) ];
-        decided = λ _ _ _. only guests words before.left status (decides guests words before.left after.left status text answer);
-      }
-
-  -- the sink failed before its end
-  ends_part : (said status : ℕ) → WordAnswer guests words before.left after.left said text → after.read_faults ≡ before.read_faults → status ≡ 5
-      → Rose before.write_faults after.write_faults → ((n : ℕ) × (n < length text) × Appends before.held after.held (take n text))
-      → Ends guests words before after status
-  ends_part said status answer read is rose part = record {
-    known = omega arith;
-    accepted = λ e. absurd (omega arith);
-    refused = λ e. absurd (omega arith);
-    usage = λ e. absurd (omega arith);
-    rejected = λ e. absurd (omega arith);
-    read_fault = λ e. absurd (omega arith);
-    write_fault = λ e. (rose, (text, is_answer said (says said answer), part));
-    too_long = λ e. absurd (omega arith);
-    read_well = λ _. read;
-    wrote_well = λ other. absurd (other is);
-    unwritten = elim [ inl four ↦ absurd (omega arith) | inr six ↦ absurd (omega arith) ];
-    decided = λ _ calm _. absurd (calm rose);
-  }
-
   -- what was answered was written, or its front
   pub ends_said : (said status : ℕ) → WordAnswer guests words before.left after.left said text → after.read_faults ≡ before.read_faults
       → Written before.held after.held before.write_faults after.write_faults said text status → Ends guests words before after status
-  ends_said said status answer read (inl (is, wrote, appended)) =
-      ends_whole status (subst (λ (s : ℕ). WordAnswer guests words before.left after.left s text) (sym is) answer) read wrote appended
-  ends_said said status answer read (inr (is, rose, part)) = ends_part said status answer read is rose part
+  ends_said said status answer read written =
+      ends guests words before after status
+      (ends_saying (texts guests words before after) (AsksReader words) before after text said status (says said answer) read written)
+      (λ _ calm _. (let is : status ≡ said = calm_status before.held after.held before.write_faults after.write_faults said text status written calm in
+      only guests words before.left status (decides guests words before.left after.left status text
+      (subst (λ (s : ℕ). WordAnswer guests words before.left after.left s text) (sym is) answer))))

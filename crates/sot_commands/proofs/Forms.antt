@@ -30,7 +30,7 @@ use Rattle.sot_commands.specs.Answers.{SpellsFor, IsStopped, Replies}
 use Rattle.sot_commands.specs.declared.telling.Telling.{Telling}
 use Rattle.sot_commands.specs.declared.telling.Telling.TheVariants.{Trace, Summary, Verdict}
 use Rattle.sot_commands.specs.Orders.{IsFailedOf, RefusesFlight, IsFaulty, FliesBytes}
-use Rattle.sot_commands.specs.Steps.{Judges, JudgesFlight, JudgesFlown, JudgesWatched, MeansFor, FailsFor}
+use Rattle.sot_commands.specs.Steps.{Judges, JudgesFlown, JudgesWatched, MeansFor, FailsFor}
 
 -- `format`: a text that spells a program has its canonical text said
 pub formatted_result : (guests : ℕ) (r : Result Answer AllocError) (bytes : List ℕ) (program : Program) → Spells bytes 0 program → IfOk r (λ a. a.status ≡ 0)

@@ -27,8 +27,6 @@ use Rattle.sot_commands.specs.declared.telling.Telling.TheVariants.{Trace, Summa
 use Rattle.sot_commands.specs.WatchTexts.{holds_text, fails_text}
 use Rattle.sot_commands.specs.Steps.{Tells, JudgesFlight, IsBehind, FlewAndTold, GuestsStand, GuestsDid}
 use Rattle.sot_ports.specs.Outside.{Written}
-use Rattle.sot_commands.specs.Answers.{SpellsFor}
-use Rattle.sot_report.specs.Missions.{Mission}
 use Rattle.sot_sections.specs.declared.mission.Need.TheVariants as needs
 use Rattle.sot_commands.specs.Guests.{TellsOn, GuestsGoOn, GuestsFlew, UnnamedStay, IsNoTrace}
 use Rattle.sot_commands.proofs.NoTraces.{outside_no_trace}

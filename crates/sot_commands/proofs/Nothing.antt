@@ -1,15 +1,10 @@
 -- What is taken of a source: all that it has left, or nothing.
-use Rattle.std.proofs.Common.{ℕ, List, [], Option, refl, arith}
-use Rattle.std.proofs.KnownBytes.{Consumes-nil}
-use Rattle.sot_ports.specs.Whole.{ReadsAll, ReadsUpTo}
+use Rattle.std.proofs.Common.{ℕ, List, [], Option, refl}
+use Rattle.sot_ports.specs.Whole.{ReadsAll}
 use Rattle.sot_commands.specs.declared.words.Command.{Command}
 use Rattle.sot_commands.specs.declared.words.Command.TheVariants.{Check, Fly, Replay, Recover, Watch, Format, Certify, Make, Soak}
 use Rattle.sot_commands.specs.Words.{Reads}
 use Rattle.sot_commands.specs.Ends.{Takes}
-
--- a source that was not read has given no byte
-pub reads_nothing : (left : Option (List ℕ)) (most : ℕ) → ReadsUpTo left left most
-reads_nothing left most = ([], omega arith, Consumes-nil left)
 
 -- a command that reads takes all
 pub takes_all : (c : Command) (left after : Option (List ℕ)) (bytes : List ℕ) → Reads c → ReadsAll left after bytes → Takes c left after bytes

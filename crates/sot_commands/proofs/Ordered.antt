@@ -21,7 +21,7 @@ use Rattle.sot_commands.specs.Guests.{GuestsEnd, GuestsFlew, Flew, UnnamedStay, 
 use Rattle.sot_commands.specs.Steps.{JudgesWatched, GuestsStand, GuestsDid, IsBehind, FlewAndTold}
 use Rattle.sot_commands.specs.Orders.{Orders, IsOrdered, IsVerdict, FliesBytes, FlightEnds, handed_in}
 use Rattle.sot_commands.proofs.OneCommand.{same_command}
-use Rattle.sot_commands.proofs.Endings.{ends_said}
+use Rattle.sot_commands.proofs.Endings.{ends_said, ends_silent}
 use Rattle.sot_commands.proofs.Forms.{flown}
 use Rattle.sot_commands.proofs.GuestLaws.{mission_did}
 use Rattle.sot_commands.proofs.Guests.{stay_told, all_written}
@@ -95,32 +95,13 @@ pub said_late : (held after : Option (List ℕ)) (faults faults_after said : ℕ
 said_late held after faults faults_after said text status late (inl (is, calm, wrote)) = omega (arith, late, is)
 said_late held after faults faults_after said text status late (inr (five, rose, part)) = omega (arith, five)
 
--- memory ran out before anything was said
-ends_lacking : (guests : ℕ) (words : List (String Global)) (before after : Outside) (status : ℕ) → status ≡ 6 → after.read_faults ≡ before.read_faults
-    → after.write_faults ≡ before.write_faults → Keeps before.held after.held
-    → Ends guests words before after status
-ends_lacking guests words before after status six read wrote keeps = record {
-  known = omega (arith, six);
-  accepted = λ e. absurd (omega (arith, six, e));
-  refused = λ e. absurd (omega (arith, six, e));
-  usage = λ e. absurd (omega (arith, six, e));
-  rejected = λ e. absurd (omega (arith, six, e));
-  read_fault = λ e. absurd (omega (arith, six, e));
-  write_fault = λ e. absurd (omega (arith, six, e));
-  too_long = λ e. absurd (omega (arith, six, e));
-  read_well = λ _. read;
-  wrote_well = λ _. wrote;
-  unwritten = λ _. keeps;
-  decided = λ _ _ other. absurd (other six);
-}
-
 -- the call ends as the flight does
 pub ordered_ends : (guests : ℕ) (words : List (String Global)) (before after : Outside) (order : FlightOrder) (status : ℕ)
     → IsOrdered words before.left after.left order → after.read_faults ≡ before.read_faults
     → FlightEnds guests order.telling order.text.items before.held after.held before.write_faults after.write_faults status
     → (status ≡ 6 → Keeps before.held after.held) → Ends guests words before after status
 ordered_ends guests words before after order status ordered read (inl (six, wrote)) keeps =
-    ends_lacking guests words before after status six read wrote (keeps six)
+    ends_silent guests words before after status (inl (six, read)) wrote (keeps six)
 ordered_ends guests words before after order status (c, asks, (bytes, takes, short, orders)) read (inr (said, text, flies, written)) keeps =
     ends_said guests words before after text said status (inl
     (c, asks, inl (bytes, takes, short, replies_of guests c bytes order.text.items order.telling said text orders flies))) read written

@@ -9,13 +9,13 @@ use Rattle.std.proofs.lemmas.List.{reverse-append, reverse-reverse}
 use Rattle.sot_lang.specs.Tables.{Tables}
 use Rattle.sot_world.specs.HistoryEntry.{Logged}
 use Rattle.sot_trace.specs.Numbers.{numeral}
-use Rattle.sot_trace.specs.Lines.{header, start_lines, line_of, end_line, ticks_in, refused_in}
-use Rattle.sot_trace.specs.Traces.{text_of, trace_lines, trace_text, last_line}
+use Rattle.sot_trace.specs.Lines.{header, start_lines, line_of, ticks_in, refused_in}
+use Rattle.sot_trace.specs.Traces.{text_of, trace_text, last_line}
 use Rattle.sot_trace.proofs.Splits.{AllIn, Stops, both_in, in_wider, in_from_test, cut_same}
 use Rattle.sot_trace.proofs.NumberTexts.{numeral_digits}
 use Rattle.std.specs.Char.{is_ascii_digit}
 use Rattle.sot_commands.specs.WatchTexts.{holds_text, fails_text}
-use Rattle.sot_commands.specs.GuestLaws.{MayStandBehind, TracesEndOnce}
+use Rattle.sot_commands.specs.GuestLaws.{TracesEndOnce}
 
 -- a byte inside a line
 abbrev is_inner : ℕ → Bool

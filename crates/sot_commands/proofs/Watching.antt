@@ -1,5 +1,5 @@
 -- From what a monitor answers to what is told of the flight that it watched.
-use Rattle.std.proofs.Common.{◌≡◌, ℕ, ◌+◌, ◌≤◌, List, [], ◌++◌, Option, None, Some, inl, inr, refl, ap, sym, ◌∙◌, subst, arith}
+use Rattle.std.proofs.Common.{◌≡◌, ℕ, ◌+◌, ◌≤◌, List, [], ◌++◌, Option, None, Some, inl, inr, refl, ap, ◌∙◌, subst, arith}
 use Rattle.std.specs.Prelude.{sum_by, MatchOption}
 use Rattle.sot_lang.specs.Tables.{Tables}
 use Rattle.sot_world.specs.Opens.{AreStarts}
@@ -20,8 +20,7 @@ use Rattle.sot_watch.specs.Moments.{moments_told}
 use Rattle.sot_commands.specs.declared.telling.Telling.{Telling}
 use Rattle.sot_commands.specs.declared.telling.Telling.TheVariants.{Trace, Summary, Verdict}
 use Rattle.sot_commands.specs.WatchTexts.{holds_text, fails_text}
-use Rattle.sot_commands.specs.Orders.{IsVerdict}
-use Rattle.sot_commands.specs.Steps.{told_text, Watches, IsMonitorFor, MeansFor, TellsVerdict, Tells}
+use Rattle.sot_commands.specs.Steps.{trace_or_summary, Watches, IsMonitorFor, MeansFor, TellsVerdict, Tells}
 
 -- what a formula that watches a flight asks of the board
 pub board_starts : (b : Standing) → IsStanding b → AreStarts b.accepted.program b.plan.start
@@ -89,5 +88,5 @@ module _ (telling : Telling) (t : Tables) (f : Plan) (history : List Logged) (m 
 
 -- what is told without a monitor
 pub plainly_told : (telling : Telling) (t u : Tables) (f : Plan) (history : List Logged) (status : ℕ) (said : List ℕ) → IsMonitorFor telling t None → u ≡ t
-    → (status ≡ 0) × (said ≡ told_text telling u f history) → Tells telling t f history status said
-plainly_told telling t u f history status said plain same (zero, is) = inl (plain, zero, is ∙ ap (λ (x : Tables). told_text telling x f history) same)
+    → (status ≡ 0) × (said ≡ trace_or_summary telling u f history) → Tells telling t f history status said
+plainly_told telling t u f history status said plain same (zero, is) = inl (plain, zero, is ∙ ap (λ (x : Tables). trace_or_summary telling x f history) same)

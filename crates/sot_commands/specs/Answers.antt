@@ -1,5 +1,5 @@
 -- What is said of a text, by the command that is asked.
-use Rattle.std.specs.Prelude.{◌≡◌, ◌≢◌, ℕ, ◌⊎◌, List, [], Some, Ok, Err, length, slice_index_or}
+use Rattle.std.specs.Prelude.{◌≡◌, ◌≢◌, ℕ, ◌⊎◌, List, [], Some, Ok, Err, length}
 use Rattle.sot_sections.specs.declared.mission.Need.{Need}
 use Rattle.sot_sections.specs.declared.mission.Need.TheVariants as needs
 use Rattle.sot_tree.specs.Trees.{Program}
@@ -13,7 +13,7 @@ use Rattle.sot_tube.specs.Verdict.{verdict}
 use Rattle.sot_tube.specs.Refusals.{Refusal}
 use Rattle.sot_world.specs.Headline.{EveryRunIsSafe}
 use Rattle.sot_world.specs.HistoryEntry.{Logged}
-use Rattle.sot_world.specs.Opens.{StartInside, IsFirstOutside}
+use Rattle.sot_world.specs.Opens.{StartInside}
 use Rattle.sot_flight.specs.Plans.{Plan}
 use Rattle.sot_board.specs.Flown.{FlownBy}
 use Rattle.sot_trace.specs.Traces.{trace_text}
@@ -46,8 +46,9 @@ use Rattle.sot_report.specs.declared.fault.Fault.{Fault}
 use Rattle.sot_report.specs.declared.fault.Fault.TheVariants as faults
 use Rattle.sot_report.specs.Missions.{Mission, SpellsMission, SpellsNone, Resolves, HasFault}
 use Rattle.sot_report.specs.FaultTexts.{fault_text, syntax_text}
-use Rattle.sot_report.specs.RefusalTexts.{refusal_text, start_text}
+use Rattle.sot_report.specs.RefusalTexts.{refusal_text}
 use Rattle.sot_report.specs.AcceptedTexts.{accepted_text}
+use Rattle.sot_program_answers.specs.Starts.{IsOutsideLine}
 use Rattle.sot_commands.specs.declared.words.Command.{Command}
 use Rattle.sot_commands.specs.declared.words.Command.TheVariants.{Check, Fly, Replay, Format}
 use Rattle.sot_commands.specs.declared.words.Command.TheVariants.{Recover, Watch, Certify}
@@ -87,9 +88,7 @@ IsSummaryOf t jitter f text =
 -- a flight's start is refused: the plant of this module, the first one, starts outside the module's
 -- safer region, and this is said
 abbrev pub IsOutsideOf : Tables → Plan → List ℕ → Type 0
-IsOutsideOf t f text =
-    (k : ℕ) × (first : IsFirstOutside t f.start k)
-    × (text ≡ start_text t k (slice_index_or f.start first.info.plant []))
+IsOutsideOf t f text = IsOutsideLine t f.start text
 
 -- lines are legal: every plant starts in its module's safer region, the lines are the trace of a
 -- history of the flight, and its events are counted

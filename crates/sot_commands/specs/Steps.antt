@@ -4,7 +4,6 @@ use Rattle.std.specs.Prelude.{None, Some, length, vec_len, String}
 use Rattle.std.proofs.Common.{Global}
 use Rattle.std.specs.Global.{Vec}
 use Rattle.std.specs.declared.alloc.AllocError.{AllocError}
-use Rattle.sot_ports.specs.Faults.{Rose}
 use Rattle.sot_node_worker.specs.Askings.{Asking}
 use Rattle.sot_ports.specs.Whole.{ReadsCount}
 use Rattle.sot_lang.specs.Tables.{Tables}
@@ -35,6 +34,7 @@ use Rattle.sot_formula.specs.declared.fail.MonitorFail.TheVariants as monitor_fa
 use Rattle.sot_monitor.specs.Tracked.{Tracked}
 use Rattle.sot_monitor.specs.Tracking.{IsNewOf}
 use Rattle.sot_program_answers.specs.Texts.{input_limit, long_text}
+use Rattle.sot_program_answers.specs.Steps.{SilentWhere}
 use Rattle.sot_commands.specs.Watched.{IsFormula, HasMeaning, TellsHolds, TellsFails}
 use Rattle.sot_commands.specs.WatchTexts.{formula_text}
 use Rattle.sot_commands.specs.Texts.{usage_text}
@@ -60,11 +60,11 @@ Judges t cert status text =
     ⊎ ((status ≡ 1) × ((r : Refusal) × (verdict t cert.jitter cert).Refuses r
     × (text ≡ refusal_text t r)))
 
--- what is told of a history, but for a formula's verdict
-abbrev pub told_text : Telling → Tables → Plan → List Logged → List ℕ
-told_text Trace t f history = trace_text t f.start history
-told_text Summary t f history = summary_text (summary_of t f history)
-told_text (Verdict formula) t f history = trace_text t f.start history
+-- the trace of a history, or its summary where that is what is told
+abbrev pub trace_or_summary : Telling → Tables → Plan → List Logged → List ℕ
+trace_or_summary Trace t f history = trace_text t f.start history
+trace_or_summary Summary t f history = summary_text (summary_of t f history)
+trace_or_summary (Verdict formula) t f history = trace_text t f.start history
 
 -- a monitor is a new one of the formula that watches the flight
 abbrev pub Watches : Telling → Tables → Tracked → Type 0
@@ -101,7 +101,7 @@ FailsFor (Verdict formula) t fail = Refuses t formula.now fail
 -- what is told of a history, with the verdict where a formula watched it
 abbrev pub Tells : Telling → Tables → Plan → List Logged → ℕ → List ℕ → Type 0
 Tells telling t f history status text =
-    ((IsVerdict telling → ⊥) × (status ≡ 0) × (text ≡ told_text telling t f history))
+    ((IsVerdict telling → ⊥) × (status ≡ 0) × (text ≡ trace_or_summary telling t f history))
     ⊎ TellsVerdict telling t f history status text
 
 -- what is said of an accepted program's flight
@@ -224,8 +224,7 @@ WordReply guests words left left_after (Flight order) =
 -- why nothing is said: memory, with no fault of the source, or a source that failed
 abbrev pub Silence : List (String Global) → ℕ → ℕ → ℕ → Type 0
 Silence words faults faults_after status =
-    ((status ≡ 6) × (faults_after ≡ faults))
-    ⊎ ((status ≡ 4) × AsksReader words × Rose faults faults_after)
+    SilentWhere (AsksReader words) faults faults_after status
 
 -- what stands behind the trace of a flight that was flown, by the status
 abbrev pub IsBehind : Telling → ℕ → List ℕ → Type 0

@@ -25,7 +25,6 @@ use sot_print::print;
 use sot_program_answers::{Answer, fixed};
 use sot_recovery_text::{RecoveryFail, never_text};
 use sot_replay::LineKind;
-use sot_report::start_text;
 use sot_tree::Program;
 use std::alloc::{AllocError, Global};
 
@@ -106,9 +105,7 @@ pub fn outside(
     ensures status { IfOk result (λ answer. answer.status ≡ 1) }
     ensures text { IfOk result (λ answer. IsOutsideOf program.now flight.now answer.text.items) }
 {
-    let plant = program.modules[module as usize].plant;
-    let text = start_text(alloc, program, module, &flight.start()[plant as usize])?;
-    Ok(Answer { status: 1, text })
+    sot_program_answers::outside(alloc, program, flight.start(), module)
 }
 
 /// Status 0: `legal events E`.

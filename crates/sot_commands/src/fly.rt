@@ -15,8 +15,8 @@ ghost use Rattle.sot_commands.specs.Orders.{FliesBytes};
 ghost use Rattle.sot_commands.specs.Guests.{UnnamedStay, GuestsFlew, Flew};
 
 use crate::answer::{faulty_formula, outside};
+use crate::flight_text::{trace_or_summary, watched};
 use crate::telling::Telling;
-use crate::told::{told, watched};
 use sot_board::Board;
 use sot_compose::check_all;
 use sot_flight::Flight;
@@ -52,7 +52,7 @@ fn tell<O: Out>(
 {
     match monitor {
         Some(monitor) => watched(alloc, out, telling, accepted, board, monitor),
-        None => told(alloc, out, telling, board),
+        None => trace_or_summary(alloc, out, telling, board),
     }
 }
 

@@ -18,7 +18,7 @@ fn reads(command: Command<'_>) -> bool
 }
 
 /// All that the source has left, for a command that reads; and nothing for one that does not.
-#[tactic(auto, using(crate::proofs::Nothing::reads_nothing, crate::proofs::Nothing::takes_all, crate::proofs::Nothing::takes_none))]
+#[tactic(auto, using(sot_program_answers::proofs::Endings::reads_nothing, crate::proofs::Nothing::takes_all, crate::proofs::Nothing::takes_none))]
 pub fn take<S: Source>(
     alloc: Global,
     command: Command<'_>,

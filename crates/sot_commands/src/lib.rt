@@ -15,6 +15,7 @@ mod certify;
 mod check;
 mod facts;
 mod flight;
+mod flight_text;
 mod fly;
 mod input;
 mod laws;
@@ -25,7 +26,6 @@ mod replay;
 mod reply;
 mod soak;
 mod telling;
-mod told;
 mod top;
 mod words;
 

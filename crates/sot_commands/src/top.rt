@@ -69,7 +69,7 @@ fn perform<'w, R: Threads + Sync, S: Source>(
 }
 
 // The reply to the words, before anything is written.
-#[tactic(auto, using(crate::proofs::Nothing::reads_nothing))]
+#[tactic(auto, using(sot_program_answers::proofs::Endings::reads_nothing))]
 fn reply_to<'w, R: Threads + Sync, S: Source>(
     rt: &R,
     alloc: Global,

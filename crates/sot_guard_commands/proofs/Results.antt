@@ -59,13 +59,6 @@ pub faulty_result : (r : Result Answer AllocError) (front : List ℕ) (f : Ears)
 faulty_result (Ok a) front f fault has status text = (three_other a.status status, inr (inr (inl (status, (fault, has, text)))))
 faulty_result (Err e) front f fault has status text = tt
 
--- a module's plant has its point
-pub plant_there : (p : Tables) (starts : List (List ℤ)) (m : ℕ) (a : ModuleInfo) → MeetsTableRules p → length starts ≡ length p.plants → At p.modules m a
-    → a.plant < length starts
-plant_there p starts m a rules all at =
-    let plant = rules.typed.plant_is m a at in
-    omega (arith, slice_get_within p.plants a.plant plant.0 plant.1, all)
-
 -- a plant is observed first outside its module's safer region
 pub outside_result : (r : Result Answer AllocError) (b : Starting) (ended : Bool) (f : Ears) → IfOk r (λ a. a.status ≡ 1)
     → IfOk r (λ a. IsOutside b.accepted.program b.starts a.text.items)

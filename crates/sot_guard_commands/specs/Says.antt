@@ -1,6 +1,6 @@
 -- Which text belongs to which status.
 use Rattle.std.specs.Prelude.{◌≡◌, ◌≢◌, ℕ, suc, ◌+◌, ◌≤◌, ◌⊎◌, ◌^◌, ◌-◌, ℤ, Bool, true, false, List}
-use Rattle.std.specs.Prelude.{[], ◌∷◌, ◌++◌, if◌then◌else◌, length, Ok, Err, slice_index_or, String}
+use Rattle.std.specs.Prelude.{[], ◌∷◌, ◌++◌, if◌then◌else◌, length, Ok, Err, String}
 use Rattle.std.specs.Io.KnownBytes.{IsAtEnd}
 use Rattle.std.proofs.Common.{Global}
 use Rattle.sot_text.specs.LineEnds.{lines}
@@ -14,15 +14,15 @@ use Rattle.sot_tube.specs.Certified.{IsWellCertified}
 use Rattle.sot_tube.specs.Verdict.{verdict}
 use Rattle.sot_tube.specs.Refusals.{Refusal}
 use Rattle.sot_world.specs.Headline.{EveryRunIsSafe}
-use Rattle.sot_world.specs.Opens.{IsFirstOutside}
 use Rattle.sot_trace.specs.Traces.{text_of}
 use Rattle.sot_trace_lines.specs.LentLines.{lent_lines}
 use Rattle.sot_report.specs.declared.fault.Fault.{Fault}
 use Rattle.sot_report.specs.declared.fault.Fault.TheVariants as faults
 use Rattle.sot_report.specs.Missions.{Mission, SpellsMission, HasFault}
 use Rattle.sot_report.specs.FaultTexts.{fault_text}
-use Rattle.sot_report.specs.RefusalTexts.{refusal_text, start_text}
+use Rattle.sot_report.specs.RefusalTexts.{refusal_text}
 use Rattle.sot_report.specs.AcceptedTexts.{accepted_text}
+use Rattle.sot_program_answers.specs.Starts.{IsOutsideLine}
 use Rattle.sot_program_answers.specs.Texts.{input_limit, long_text}
 use Rattle.sot_line_buffer.specs.Waiting.{longest, has_end}
 use Rattle.sot_guard_session.specs.declared.misheard.Misheard.{Misheard}
@@ -105,9 +105,7 @@ pub record Talks (acc : Admitted) (b : Ears) (said : ℕ) (spoken : List (List �
 
 -- the line of the first module whose plant is observed outside the module's safer region
 abbrev pub IsOutside : Tables → List (List ℤ) → List ℕ → Type 0
-IsOutside p starts text =
-    (k : ℕ) × (first : IsFirstOutside p starts k)
-    × (text ≡ start_text p k (slice_index_or starts first.info.plant []))
+IsOutside p starts text = IsOutsideLine p starts text
 
 -- a plant is observed outside its module's safer region
 pub record RefusesStart (acc : Admitted) (said : ℕ) (spoken : List (List ℕ)) (text : List ℕ)

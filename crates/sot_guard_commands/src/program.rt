@@ -1,11 +1,12 @@
 //! The program, over real words, source and sink.
 
 use crate::top::guard;
-use sot_ports::{Process, StdSink, StdSource};
+use sot_ports::Process;
+use sot_program_answers::run_program;
 use std::alloc::Global;
 use std::env::Args;
 use std::io;
-use std::io::{ErrorKind, Stdin, Stdout};
+use std::io::{Stdin, Stdout};
 use std::process::ExitCode;
 use std::thread::Threads;
 
@@ -18,25 +19,7 @@ pub fn run<R: Threads + Sync>(
     input: Stdin,
     output: Stdout,
 ) -> ExitCode {
-    let mut words = Vec::new(alloc);
-    match args {
-        Ok(args) => {
-            for word in args.skip(1) {
-                if words.push(word).is_err() {
-                    return ExitCode::from(6);
-                }
-            }
-        }
-        // Words that are no text are words, and no word is asked for.
-        Err(error) if error.kind() == ErrorKind::InvalidData => {
-            if words.push(String::new(alloc)).is_err() {
-                return ExitCode::from(6);
-            }
-        }
-        Err(_) => return ExitCode::from(6),
-    }
-    let mut source = StdSource::new(input);
-    let mut sink = StdSink::new(output);
-    let status = guard(rt, alloc, &words, &mut source, &mut sink, Process::Ends);
-    ExitCode::from(status.0)
+    run_program(alloc, args, input, output, |words, source, sink| {
+        guard(rt, alloc, words, source, sink, Process::Ends)
+    })
 }

@@ -1,43 +1,28 @@
 //! A robot's talk about an accepted mission.
 
-ghost use Rattle.std.specs.Prelude.{◌≡◌, ◌<◌, ◌-◌, ◌^◌, IfOk, length};
+ghost use Rattle.std.specs.Prelude.{◌≡◌, ◌<◌, ◌-◌, ◌^◌};
 ghost use Rattle.sot_lang.specs.TableRules.{MeetsTableRules};
 ghost use Rattle.sot_tube.specs.Certified.{IsWellCertified};
 ghost use Rattle.sot_trace.specs.Words.{AreWords};
-ghost use Rattle.sot_world.specs.Opens.{IsFirstOutside};
 ghost use Rattle.sot_guard_talk.specs.Openings.{HasAll};
 ghost use Rattle.sot_guard_mission_text.specs.Reading.{IsSettled};
 ghost use Rattle.sot_guard_commands.specs.Moments.{ears, mouth, Ended};
-ghost use Rattle.sot_guard_commands.specs.Says.{SaysTalk, SaysRobot, IsOutside};
+ghost use Rattle.sot_guard_commands.specs.Says.{SaysTalk, SaysRobot};
 ghost use Rattle.sot_guard_commands.specs.Beginning.{SaysOpened, SaysIn, SaysFrom};
 
 use crate::halt::stopped;
 use crate::speaker::Speaker;
 use crate::starts::hear_starts;
 use crate::tell::tell;
-use sot_box::Point;
 use sot_guard_mission_text::Ear;
 use sot_guard_talk::{Opening, Talk};
 use sot_lang::Typed;
 use sot_ports::{Sink, Source};
-use sot_program_answers::{Answer, Status};
-use sot_report::start_text;
+use sot_program_answers::{Status, outside};
 use sot_text_output::room;
 use sot_tube::Accepted;
 use sot_world::OpenFail;
-use std::alloc::{AllocError, Global};
-
-// Status 1: the line of a plant that was observed first outside this module's safer region.
-fn not_safer(alloc: Global, p: &Typed, starts: &[Point], module: u32) -> Result<Answer, AllocError>
-    requires first { IsFirstOutside p.now starts.now «module» }
-    requires all { length starts.now ≡ length p.now.plants }
-    ensures status { IfOk result (λ answer. answer.status ≡ 1) }
-    ensures text { IfOk result (λ answer. IsOutside p.now starts.now answer.text.items) }
-{
-    let plant = p.modules[module as usize].plant;
-    let text = start_text(alloc, p, module, &starts[plant as usize])?;
-    Ok(Answer { status: 1, text })
-}
+use std::alloc::Global;
 
 // Hears and answers what is said in a talk, of which these were the lines so far.
 fn talk_on<S: Source, K: Sink>(
@@ -91,7 +76,7 @@ fn begin<S: Source, K: Sink>(
     };
     match Talk::begin(alloc, opening) {
         Ok(talk) => talk_on(Speaker { talk, waiting }, starts.len(), ear, source, sink),
-        Err(OpenFail::NotSafer { module }) => tell(not_safer(alloc, p, &starts, module), sink),
+        Err(OpenFail::NotSafer { module }) => tell(outside(alloc, p, &starts, module), sink),
         Err(OpenFail::Memory) => Status(6),
     }
 }

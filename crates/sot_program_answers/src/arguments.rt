@@ -9,7 +9,7 @@ use std::io::ErrorKind;
 /// The words behind the program's name. Where they are no text, one empty word, which no program
 /// asks for, stands for them: no word at all might ask for something. Where there is no memory for
 /// them, status 6.
-pub fn words_of(alloc: Global, args: io::Result<Args>) -> Result<Vec<String>, Status> {
+pub(crate) fn words_of(alloc: Global, args: io::Result<Args>) -> Result<Vec<String>, Status> {
     let mut words = Vec::new(alloc);
     match args {
         Ok(args) => {

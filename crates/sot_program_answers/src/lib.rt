@@ -15,7 +15,6 @@ mod saying;
 mod status;
 
 pub use answer::{Answer, faulty, fixed, refused};
-pub use arguments::words_of;
 pub use input::{INPUT_LIMIT, read_input, too_long};
 pub use outside_start::{outside, outside_line};
 pub use program::run_program;

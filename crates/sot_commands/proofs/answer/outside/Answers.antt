@@ -1,33 +1,15 @@
-use Rattle.std.proofs.Common.{◌≡◌, [], sym, ap, ◌∙◌, subst, ◌<◌, length, slice_index_or}
-use Rattle.std.proofs.lemmas.Option.{same_Some, slice_get_within}
-use Rattle.sot_lists.proofs.Places.{read_at}
-use Rattle.sot_lang.specs.TableRules.{MeetsTableRules}
-use Rattle.sot_world.proofs.Starting.{start_there, read_list}
-use Rattle.sot_report.specs.RefusalTexts.{start_text}
+use Rattle.std.proofs.Common.{◌≡◌, ℤ, List, IfOk, sym, ap, ◌∙◌, subst, length}
+use Rattle.sot_world.specs.Opens.{IsFirstOutside}
+use Rattle.sot_program_answers.specs.Starts.{IsOutsideLine}
 use Rattle.sot_commands.proofs.answer.outside.Goals as goal
 
-pub bounds-start-plant : goal.bounds-start-plant
-bounds-start-plant c =
-    let tables = c.program.view_is in
-    let rules = subst MeetsTableRules tables c.program.invariant in
-    let first = c.requires.first in
-    let at = read_at _ _ c.args.module _ (ap (λ t. t.modules) tables) (slice_get_within c.args.program.now.modules c.args.module first.info first.is)
-    c.index.ensures in
-    let there = start_there c.args.program.now c.args.flight.now.start c.args.module c.index.result.now rules
-    (record { each = c.requires.fits.1.starts; widths = c.requires.fits.1.widths }) at in
-    subst (λ s. c.index.result.now.plant < length s) (sym c.start.ensures) there
+pub outside-requires-clause-all : goal.outside-requires-clause-all
+outside-requires-clause-all c = ap length c.start.ensures ∙ c.requires.fits.1.starts
+
+pub outside-requires-clause-first : goal.outside-requires-clause-first
+outside-requires-clause-first c =
+    subst (λ (s : List (List ℤ)). IsFirstOutside c.args.program.now s c.args.module) (sym c.start.ensures) c.requires.first
 
 pub returns-clause-text : goal.returns-clause-text
 returns-clause-text c =
-    let tables = c.program.view_is in
-    let rules = subst MeetsTableRules tables c.program.invariant in
-    let first = c.requires.first in
-    let at = read_at _ _ c.args.module _ (ap (λ t. t.modules) tables) (slice_get_within c.args.program.now.modules c.args.module first.info first.is)
-    c.index.ensures in
-    let there = start_there c.args.program.now c.args.flight.now.start c.args.module c.index.result.now rules
-    (record { each = c.requires.fits.1.starts; widths = c.requires.fits.1.widths }) at in
-    let same : c.index.result.now ≡ first.info = same_Some _ _ (sym at ∙ first.is) in
-    let point = read_list c.start.result.now _ _ (subst (λ s. c.index.result.now.plant < length s) (sym c.start.ensures) there) c.index-start-plant.is in
-    let of_start = ap (λ s. slice_index_or s c.index.result.now.plant []) c.start.ensures in
-    let of_info = ap (λ a. slice_index_or c.args.flight.now.start a.plant []) same in
-    (c.args.module, first, c.in_ok-text.ensures ∙ ap (λ x. start_text c.args.program.now c.args.module x) (point ∙ of_start ∙ of_info))
+    subst (λ (s : List (List ℤ)). IfOk c.outside.result (λ a. IsOutsideLine c.args.program.now s a.text.items)) c.start.ensures c.outside.ensures.text

@@ -49,7 +49,7 @@ returns-in-Ok-clause-judges g c =
     (λ status said tells.
     (let here = tells_here telling acc c.args.accepted.now f b status said c.requires.accepted plan tells in (
       told_of telling acc.program acc.cert.jitter f b.entries status said c.requires.inside flown here,
-      flown_did told acc f b was now ended.accepted plan ended.told ended.unnamed flown telling status said here,
+      flown_did told acc f b was now ended.accepted plan ended.asked ended.unnamed flown telling status said here,
     ))) c.tell.ensures
 
 pub returns-in-Ok-clause-guests : goal.returns-in-Ok-clause-guests
@@ -57,7 +57,7 @@ returns-in-Ok-clause-guests g c =
     let ended = c.in-Ok.ensures in
     let plan = ended.plan ∙ sym c.requires.flight in
     flown_stand g.C.Controller.asked c.args.board.accepted c.args.flight.now c.in-Ok.flown.board c.args.guests.now c.fly.new.guests ended.accepted plan
-    ended.told ended.unnamed ended.length
+    ended.asked ended.unnamed ended.length
 
 pub returns-in-Err-clause-guests : goal.returns-in-Err-clause-guests
 returns-in-Err-clause-guests g c =

@@ -49,11 +49,11 @@ returns-in-Err-NotSafer g c =
     let e = ears (g.S.Source.left c.args.source.now) (g.S.Source.faults c.args.source.now) c.args.ear.now in
     let x = mouth (g.K.Sink.held c.args.sink.now) (g.K.Sink.faults c.args.sink.now) in
     let y = mouth (g.K.Sink.held c.tell.new.sink) (g.K.Sink.faults c.tell.new.sink) in
-    let r = c.not_safer.result in
+    let r = c.outside.result in
     let starts = c.deref.ensures.value ∙ c.in-Ok.ensures.items ∙ c.starts.ensures in
     let text = subst (λ (p : Tables). IfOk r (λ m. IsOutside p a.starts m.text.items)) (sym c.requires.program)
-    (subst (λ (s : List (List ℤ)). IfOk r (λ m. IsOutside c.args.p.now s m.text.items)) starts c.not_safer.ensures.text) in
-    answered e e x y c.tell.result.0 (SaysFrom ended (SaysOpened a)) [] r (passes_nil e) (outside_result r a ended e c.not_safer.ensures.status text)
+    (subst (λ (s : List (List ℤ)). IfOk r (λ m. IsOutside c.args.p.now s m.text.items)) starts c.outside.ensures.text) in
+    answered e e x y c.tell.result.0 (SaysFrom ended (SaysOpened a)) [] r (passes_nil e) (outside_result r a ended e c.outside.ensures.status text)
     (inr (inr (refl, (refl, refl))), λ _. refl) c.tell.ensures
 
 pub returns : goal.returns

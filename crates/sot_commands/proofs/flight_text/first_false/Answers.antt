@@ -1,4 +1,4 @@
-use Rattle.std.proofs.Common.{◌≡◌, ℕ, ℤ, List, [], sym, ap, ◌∙◌, subst, IfOk}
+use Rattle.std.proofs.Common.{◌≡◌, ℤ, List, [], sym, ap, ◌∙◌, subst, IfOk}
 use Rattle.std.specs.Prelude.{◌≤◌, sum_by, MatchOption}
 use Rattle.sot_tube.specs.Admitted.{Admitted}
 use Rattle.sot_world.specs.HistoryEntry.{Logged}
@@ -8,7 +8,7 @@ use Rattle.sot_trace.specs.Lines.{ticks_in}
 use Rattle.sot_monitor.specs.Holding.{AlwaysHolds, FirstFails}
 use Rattle.sot_watch.specs.Moments.{moments_told}
 use Rattle.sot_commands.proofs.Watching.{board_starts, board_fits, board_ticks}
-use Rattle.sot_commands.proofs.told.first_false.Goals as goal
+use Rattle.sot_commands.proofs.flight_text.first_false.Goals as goal
 
 pub watch-requires-clause-starts : goal.watch-requires-clause-starts
 watch-requires-clause-starts c =

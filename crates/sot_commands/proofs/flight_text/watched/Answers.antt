@@ -2,7 +2,7 @@ use Rattle.std.proofs.Common.{◌≡◌, ◌++◌, sym, subst}
 use Rattle.sot_tube.specs.Admitted.{Admitted}
 use Rattle.sot_trace.specs.Traces.{trace_text}
 use Rattle.sot_commands.specs.Steps.{TellsVerdict}
-use Rattle.sot_commands.proofs.told.watched.Goals as goal
+use Rattle.sot_commands.proofs.flight_text.watched.Goals as goal
 
 pub returns : goal.returns
 returns g c =

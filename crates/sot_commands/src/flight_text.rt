@@ -1,4 +1,4 @@
-//! What is told of a flight that was flown: a trace is put, and an answer stands behind it.
+//! The text of a flight that was flown: a trace is put, and an answer stands behind it.
 
 ghost use Rattle.std.specs.Prelude.{◌≡◌, [], ◌++◌, IfOk, MatchOption};
 ghost use Rattle.std.specs.String.{string_bytes};
@@ -9,7 +9,7 @@ ghost use Rattle.sot_monitor.specs.Holding.{AlwaysHolds, FirstFails};
 ghost use Rattle.sot_monitor.specs.Tracking.{StandsFor};
 ghost use Rattle.sot_watch.specs.Moments.{moments_told};
 ghost use Rattle.sot_commands.specs.WatchTexts.{holds_text, fails_text};
-ghost use Rattle.sot_commands.specs.Steps.{told_text, Watches, TellsVerdict, SaysInAll};
+ghost use Rattle.sot_commands.specs.Steps.{trace_or_summary, Watches, TellsVerdict, SaysInAll};
 
 use crate::telling::Telling;
 use sot_board::Board;
@@ -33,15 +33,15 @@ fn with_line(status: u8, line: String) -> Answer
     }
 }
 
-/// Status 0: what is told of what was flown. A trace is put, and the answer has the summary.
-pub fn told<O: Out>(
+/// Status 0: the trace of what was flown, which is put, or its summary, which the answer has.
+pub fn trace_or_summary<O: Out>(
     alloc: Global,
     out: &mut O,
     telling: Telling<'_>,
     board: &Board<'_>,
 ) -> Result<Answer, AllocError>
     ensures { SaysInAll O.puts out.old out.new result (λ status said. (status ≡ 0)
-        × (said ≡ told_text telling.entry board.now.accepted.program board.now.plan
+        × (said ≡ trace_or_summary telling.entry board.now.accepted.program board.now.plan
         board.now.entries)) }
 {
     match telling {
@@ -125,8 +125,8 @@ fn verdict(
     }
 }
 
-/// What was flown, with the verdict of the monitor that watched it. The trace is put, and the
-/// answer has the verdict. Its memory is taken before.
+/// The trace of what was flown, which is put, and the verdict of the monitor that watched it, which
+/// the answer has. Its memory is taken before.
 pub fn watched<O: Out>(
     alloc: Global,
     out: &mut O,
