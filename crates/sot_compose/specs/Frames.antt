@@ -18,7 +18,8 @@ seen_with looked a = record a { safer = safer_of looked a }
 
 -- of one module: short periods, outputs in common, and regions with a box
 abbrev pub frame : LookedAt → Tables → ℕ → ModuleInfo → Check
-frame looked p m a = and_then (and_then (periods p m a) (outputs p m a)) (boxes m (seen_with looked a))
+frame looked p m a =
+    and_then (and_then (periods p m a) (outputs p m a)) (boxes m (seen_with looked a))
 
 -- of a program, in the order of the verdict: how its modules are put together, then each module,
 -- then each coded node. No other condition of these looks at a `safer`

@@ -79,8 +79,8 @@ pub fn check_codes(p: &Typed) -> Result<(), Refusal>
     Ok(())
 }
 
-/// Whether the cells of all modules keep their plants inside, module by module; else why those of the
-/// first that do not. Takes no memory.
+/// Whether the cells of all modules keep their plants inside, module by module; else why those of
+/// the first that do not. Takes no memory.
 pub fn check_all_cells<R: Threads + Sync>(rt: &R, p: &Typed, c: &Cert) -> Result<(), Refusal>
     requires rules { MeetsTableRules p.now }
     requires fits { FitsTables p.now c.now }

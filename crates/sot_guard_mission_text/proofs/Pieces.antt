@@ -14,7 +14,8 @@ use Rattle.sot_guard_mission_text.specs.declared.ear.Next.TheVariants.{Line, End
 use Rattle.sot_guard_mission_text.specs.declared.piece.Piece.{Piece}
 use Rattle.sot_guard_mission_text.specs.declared.piece.FrontFail.{FrontFail}
 use Rattle.sot_guard_mission_text.specs.declared.piece.FrontFail.TheVariants as fails
-use Rattle.sot_guard_mission_text.specs.Reading.{Reads, ends_line, IsAtMostALine, IsLine, IsLast, IsNext, IsPiece, IsSettled, AddsPiece, IfFails, IsPieceTooLong}
+use Rattle.sot_guard_mission_text.specs.Reading.{Reads, ends_line, IsAtMostALine, IsLine, IsLast, IsNext, IsPiece, IsSettled, AddsPiece, IfFails}
+use Rattle.sot_guard_mission_text.specs.Reading.{IsPieceTooLong}
 use Rattle.sot_guard_mission_text.specs.declared.piece.Piece.TheVariants as pieces
 use Rattle.sot_guard_mission_text.specs.declared.front.Front.{Front}
 use Rattle.sot_guard_mission_text.specs.declared.front.Front.TheVariants.{Observed, Unobserved}

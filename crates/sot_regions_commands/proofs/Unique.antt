@@ -67,7 +67,8 @@ module _ (t u : Tables) (same : tables_seen t ≡ tables_seen u) where
 
   frame_carried : (m : ℕ) (a : ModuleInfo) → Carried (frame_as_asked t m a) (frame_as_asked u m a)
   frame_carried m a =
-      both_carried (and_then (periods t m a) (outputs t m a)) (boxes m (seen_with SafeAlone a)) (and_then (periods u m a) (outputs u m a)) (boxes m (seen_with SafeAlone a))
+      both_carried (and_then (periods t m a) (outputs t m a)) (boxes m (seen_with SafeAlone a)) (and_then (periods u m a) (outputs u m a))
+      (boxes m (seen_with SafeAlone a))
       (both_carried (periods t m a) (outputs t m a) (periods u m a) (outputs u m a) (periods_carried t u same m a) (outputs_carried t u same m a))
       (record { passes = λ p. p; refuses = λ r h. h })
 

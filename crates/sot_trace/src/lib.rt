@@ -1,7 +1,7 @@
 //! The text of a history.
 //!
-//! [`put_trace`] puts a history line by line into any [`sot_text_output::Out`], and [`put_board`] that of
-//! a board. The text tells the history: no other history of the same program has it.
+//! [`put_trace`] puts a history line by line into any [`sot_text_output::Out`], and [`put_board`]
+//! that of a board. The text tells the history: no other history of the same program has it.
 //! [`put_plant_start`], [`put_entry`] and [`put_last_line`] put single lines, and [`put_input`],
 //! [`put_firing`], [`put_decision`] and [`put_tick`] those of entries that stand in no history.
 //! [`ticks_in`] and [`refused_in`] say what an entry adds to the last line, and [`put_counts`] puts
