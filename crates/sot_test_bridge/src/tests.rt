@@ -7,8 +7,8 @@ mod joins;
 use sot_bridge::bridge;
 use sot_ports::{MemSink, Process, PureSource, Source};
 use std::alloc::{AllocError, Global};
+use std::fmt::Debug;
 use std::process::Abort;
-use std::test::*;
 use std::thread::Threads;
 
 // A node that counts.
@@ -56,6 +56,16 @@ soter trace 1
 5 input e=3
 end 5 events 9 refused 0
 ";
+
+// Ends the test, with what was asked, where the answer is not the one that is wanted.
+fn same<A: Debug + Drop, T: PartialEq + Debug + Drop>(
+    rt: &impl Abort,
+    asked: A,
+    got: T,
+    wanted: T,
+) {
+    assert_eq!(rt; got, wanted, "{asked:?}");
+}
 
 // The column of a row with this number, from 0, where signs like these stand between columns;
 // nothing where there is none.
@@ -112,5 +122,5 @@ fn answer(rt: &(impl Abort + Threads + Sync), alloc: Global, words: &str, text: 
 fn answers(rt: &(impl Abort + Threads + Sync), alloc: Global, words: &str, text: &str, want: &str) {
     let said = answer(rt, alloc, words, text);
     let want = want.replace(alloc, '~', "\n").expect(rt, "memory");
-    assert_eq!(rt; said.as_str(), want.as_str(), "{words} of {text}");
+    same(rt, (words, text), said.as_str(), want.as_str());
 }

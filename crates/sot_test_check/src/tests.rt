@@ -12,9 +12,9 @@ mod traps;
 use sot_commands::{Controller, soter};
 use sot_ports::{MemSink, Process, PureSource};
 use std::alloc::{AllocError, Global};
+use std::fmt::Debug;
 use std::process::Abort;
 use std::sync::Wait;
-use std::test::*;
 use std::thread::Threads;
 
 // A vehicle on a line: what it may have beside its command, what moves it, its nodes and its
@@ -103,6 +103,16 @@ node s period 1 offset 0 { do { } }
 module m { ac e; sc s; period 1 offset 0; plant q; safe none; safer none; }
 ";
 
+// Ends the test, with what was asked, where the answer is not the one that is wanted.
+fn same<A: Debug + Drop, T: PartialEq + Debug + Drop>(
+    rt: &impl Abort,
+    asked: A,
+    got: T,
+    wanted: T,
+) {
+    assert_eq!(rt; got, wanted, "{asked:?}");
+}
+
 // The column of a row with this number, from 0, where signs like these stand between columns;
 // nothing where there is none.
 fn column<'a>(row: &'a str, signs: &str, number: usize) -> &'a str {
@@ -166,7 +176,7 @@ fn says(
     )
     .expect(rt, "memory");
     let told = answer(rt, alloc, "check", mission);
-    assert_eq!(rt; told.as_str(), want.as_str(), "at {row}");
+    same(rt, row, told.as_str(), want.as_str());
 }
 
 // `check` says of a vehicle what each of so many rows tells of its safe node's period, its safer
@@ -195,7 +205,7 @@ fn tells_of_cells(
         let text = mission(rt, alloc, &vehicle, &cert);
         says(rt, alloc, &text, column(row, " => ", 1), row);
     }
-    assert_eq!(rt; rows.lines().count(), count);
+    same(rt, "rows", rows.lines().count(), count);
 }
 
 // `check` says this of a program with an empty certificate behind it.
@@ -222,5 +232,5 @@ fn tells_of_programs(
         let text = lines_of(alloc, column(row, " => ", 0)).expect(rt, "memory");
         tells(rt, alloc, &text, column(row, " => ", 1), row);
     }
-    assert_eq!(rt; rows.lines().count(), count);
+    same(rt, "rows", rows.lines().count(), count);
 }

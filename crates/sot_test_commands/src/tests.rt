@@ -12,12 +12,14 @@ mod replay;
 mod soak;
 mod watch;
 
-use sot_commands::{Controller, Status, soter};
+ghost use Rattle.std.specs.Prelude.{◌<◌, None};
+
+use sot_commands::{Controller, Draft, Status, View, soter};
 use sot_ports::{MemSink, Process, PureSource, Sink, Source};
 use std::alloc::{AllocError, Global};
+use std::fmt::Debug;
 use std::process::Abort;
 use std::sync::Wait;
-use std::test::*;
 use std::thread::Threads;
 
 // A vehicle on a line.
@@ -82,6 +84,47 @@ fn alone<R: Threads + Wait + Sync, S: Source, K: Sink>(
     soter(rt, alloc, words, &mut guests, source, sink, Process::GoesOn)
 }
 
+// Ends the test, with what was asked, where the answer is not the one that is wanted.
+fn same<A: Debug + Drop, T: PartialEq + Debug + Drop>(
+    rt: &impl Abort,
+    asked: A,
+    got: T,
+    wanted: T,
+) {
+    assert_eq!(rt; got, wanted, "{asked:?}");
+}
+
+// How the words end, and what the sink holds then.
+fn told<S: Source>(
+    rt: &(impl Abort + Threads + Wait + Sync),
+    alloc: Global,
+    words: &[String],
+    source: &mut S,
+    sink: &mut MemSink,
+) -> String {
+    let ended = alone(rt, alloc, words, source, sink);
+    let said = str::from_utf8(sink.bytes()).expect(rt, "a text");
+    format!(in alloc; "{} {said}", ended.0).expect(rt, "memory")
+}
+
+fn source_of(rt: &impl Abort, alloc: Global, text: &str) -> PureSource {
+    PureSource::new(Vec::from_slice(alloc, text.as_bytes()).expect(rt, "memory"))
+}
+
+fn sink_for(rt: &impl Abort, alloc: Global, room: usize) -> MemSink
+    requires { 0 < room }
+{
+    MemSink::new(alloc, room, room, Vec::new(alloc)).expect(rt, "memory")
+}
+
+// The first bytes of what is left.
+fn left_in(rt: &impl Abort, alloc: Global, source: &mut PureSource) -> String {
+    let mut next = [0; 5];
+    let count = source.read(&mut next).unwrap_or(0);
+    let left = str::from_utf8(&next[..count]).expect(rt, "a text");
+    String::from_str(alloc, left).expect(rt, "memory")
+}
+
 // The status and the text of these words over a text, and between them the first bytes of what is
 // left of it.
 fn answer(
@@ -91,21 +134,15 @@ fn answer(
     text: &str,
 ) -> String {
     let owned = words_of(rt, alloc, words);
-    let mut source = PureSource::new(Vec::from_slice(alloc, text.as_bytes()).expect(rt, "memory"));
-    let mut sink = MemSink::new(alloc, 200_000, 200_000, Vec::new(alloc)).expect(rt, "memory");
-    let ended = alone(rt, alloc, &owned, &mut source, &mut sink);
-    let mut answer = format!(in alloc; "{} ", ended.0).expect(rt, "memory");
-    let mut next = [0; 5];
-    if let Ok(count) = source.read(&mut next)
-        && count > 0
-    {
-        let left = str::from_utf8(&next[..count]).expect(rt, "memory");
-        write!(answer, "before {left}: ").expect(rt, "memory");
+    let mut source = source_of(rt, alloc, text);
+    let mut sink = sink_for(rt, alloc, 200_000);
+    let said = told(rt, alloc, &owned, &mut source, &mut sink);
+    let left = left_in(rt, alloc, &mut source);
+    if left.is_empty() {
+        return said;
     }
-    answer
-        .push_str(str::from_utf8(sink.bytes()).expect(rt, "memory"))
-        .expect(rt, "memory");
-    answer
+    let (status, said) = said.split_once(' ').unwrap_or(("", ""));
+    format!(in alloc; "{status} before {left}: {said}").expect(rt, "memory")
 }
 
 // These words over a text have this answer, as `answer` tells it, in which `~` ends a line.
@@ -118,5 +155,61 @@ fn answers(
 ) {
     let said = answer(rt, alloc, words, text);
     let want = lines_of(alloc, want).expect(rt, "memory");
-    assert_eq!(rt; said.as_str(), want.as_str(), "{words} of {text}");
+    same(rt, (words, text), said.as_str(), want.as_str());
+}
+
+// Each of so many lines of words asks for nothing: the usage is told, and nothing is read of a text
+// that begins with `left`.
+fn turns_away(
+    rt: &(impl Abort + Threads + Wait + Sync),
+    alloc: Global,
+    others: &str,
+    count: usize,
+    text: &str,
+    left: &str,
+) {
+    let want = format!(in alloc; "2 before {left}: {USAGE}").expect(rt, "memory");
+    for words in others.lines() {
+        answers(rt, alloc, words, text, &want);
+    }
+    same(rt, "lines", others.lines().count(), count);
+}
+
+// A guest that drafts one number, and tells nothing of its askings.
+#[derive(Drop)]
+struct Stubborn {
+    number: i64,
+}
+
+impl Controller for Stubborn {
+    ghost asked = { λ _. None };
+
+    fn decide(&mut self, _view: &View, draft: &mut Draft) {
+        draft.set(0, self.number);
+    }
+}
+
+// The same words over a text, where this guest is handed in.
+fn guided(
+    rt: &(impl Abort + Threads + Wait + Sync),
+    alloc: Global,
+    words: &[String],
+    text: &str,
+    guest: Stubborn,
+) -> String {
+    let mut guests = Vec::new(alloc);
+    guests.push(guest).expect(rt, "memory");
+    let mut source = source_of(rt, alloc, text);
+    let mut sink = sink_for(rt, alloc, 2000);
+    let ended = soter(
+        rt,
+        alloc,
+        words,
+        &mut guests,
+        &mut source,
+        &mut sink,
+        Process::GoesOn,
+    );
+    let said = str::from_utf8(sink.bytes()).expect(rt, "a text");
+    format!(in alloc; "{} {said}", ended.0).expect(rt, "memory")
 }

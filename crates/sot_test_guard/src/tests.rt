@@ -15,9 +15,20 @@ use sot_ports::Process;
 use sot_report::{Loaded, load};
 use sot_sections::Need;
 use std::alloc::{AllocError, Global};
+use std::fmt::Debug;
 use std::process::Abort;
 
 const LONGEST: usize = 16_777_216;
+
+// Ends the test, with what was asked, where the answer is not the one that is wanted.
+fn same<A: Debug + Drop, T: PartialEq + Debug + Drop>(
+    rt: &impl Abort,
+    asked: A,
+    got: T,
+    wanted: T,
+) {
+    assert_eq!(rt; got, wanted, "{asked:?}");
+}
 
 // What stands in front of a row's arrow, and behind it.
 fn halves(row: &str) -> (&str, &str) {

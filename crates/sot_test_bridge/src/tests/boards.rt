@@ -65,5 +65,5 @@ fn refuses_the_first_and_then_the_second(rt: HostRuntime) {
         let text = heard(alloc, column(row, " => ", 0)).expect(&rt, "memory");
         answers(&rt, alloc, "cmd e 1", &text, column(row, " => ", 1));
     }
-    assert_eq!(rt; REFUSED.lines().count(), 5);
+    same(&rt, "rows", REFUSED.lines().count(), 5);
 }

@@ -55,12 +55,8 @@ fn ends(
 {
     let want = format!(in alloc; "{status} {held}").expect(rt, "memory");
     let said = ended(rt, alloc, piece, failing);
-    let Failing { read, write } = failing;
-    assert_eq!(rt;
-        said.as_str(),
-        want.as_str(),
-        "read {read} and write {write} in pieces of {piece}"
-    );
+    let asked = (failing.read, failing.write, piece);
+    same(rt, asked, said.as_str(), want.as_str());
 }
 
 // How many reads bring so many bytes and the end behind them.

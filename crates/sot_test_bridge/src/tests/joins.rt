@@ -53,7 +53,7 @@ fn joins_a_topic_to_an_environment_topic(rt: HostRuntime) {
             column(row, " => ", 1),
         );
     }
-    assert_eq!(rt; WORDS.lines().count(), 5);
+    same(&rt, "rows", WORDS.lines().count(), 5);
     for words in ["n e", "n e 01", "n e 100001", "n e -1", "n e 1 ", "n e +1"] {
         answers(&rt, alloc, words, &text, USAGE);
     }
@@ -106,7 +106,7 @@ fn looks_for_room_before_it_flies(rt: HostRuntime) {
         let text = crowded(alloc, column(row, " => ", 0)).expect(&rt, "memory");
         answers(&rt, alloc, "t t 0", &text, column(row, " => ", 1));
     }
-    assert_eq!(rt; ROOM.lines().count(), 4);
+    same(&rt, "rows", ROOM.lines().count(), 4);
 }
 
 #[test]

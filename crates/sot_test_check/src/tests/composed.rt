@@ -64,7 +64,7 @@ fn what_is_shared_is_told(rt: HostRuntime) {
         let text = with_more(&rt, alloc, &more, "");
         says(&rt, alloc, &text, column(row, " => ", 1), row);
     }
-    assert_eq!(rt; SHARED.lines().count(), 5);
+    same(&rt, "rows", SHARED.lines().count(), 5);
 }
 
 // A battery that sees the vehicle: it climbs and sinks, and has to keep enough to come down.
@@ -219,5 +219,5 @@ fn code_that_may_trap_is_told_with_its_place_and_range(rt: HostRuntime) {
         let text = calc(alloc, column(row, " => ", 0)).expect(&rt, "memory");
         says(&rt, alloc, &text, column(row, " => ", 1), row);
     }
-    assert_eq!(rt; VALUES.lines().count(), 7);
+    same(&rt, "rows", VALUES.lines().count(), 7);
 }

@@ -35,7 +35,7 @@ fn the_first_fault_of_a_certificate_is_told(rt: HostRuntime) {
         let text = format!(in alloc; "{TWO}{}\n", column(row, " => ", 0)).expect(&rt, "memory");
         says(&rt, alloc, &text, column(row, " => ", 1), row);
     }
-    assert_eq!(rt; FAULTS.lines().count(), 10);
+    same(&rt, "rows", FAULTS.lines().count(), 10);
 }
 
 // `fly` of the running example with this certificate and an empty flight says this.
@@ -43,7 +43,7 @@ fn says_of_flown(rt: &(impl Abort + Threads + Wait + Sync), alloc: Global, cert:
     let mission = mission(rt, alloc, &LINE, cert);
     let text = format!(in alloc; "{mission}%flight\n{{}}\n").expect(rt, "memory");
     let said = answer(rt, alloc, "fly", &text);
-    assert_eq!(rt; said.as_str(), want, "with {cert}");
+    same(rt, cert, said.as_str(), want);
 }
 
 #[test]

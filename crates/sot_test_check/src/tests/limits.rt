@@ -78,7 +78,7 @@ fn counts_up_to_its_limits(rt: HostRuntime) {
         let more = repeated(&rt, alloc, parts, most.saturating_add(1));
         tells(&rt, alloc, &more, column(row, " => ", 4), row);
     }
-    assert_eq!(rt; LIMITS.lines().count(), 14);
+    same(&rt, "rows", LIMITS.lines().count(), 14);
 }
 
 // Programs at the width of a range and at the longest period, and past them.

@@ -136,5 +136,5 @@ fn looks_at_sections_before_syntax_and_at_syntax_before_types(rt: HostRuntime) {
         let text = lines_of(alloc, column(row, " => ", 0)).expect(&rt, "memory");
         says(&rt, alloc, &text, column(row, " => ", 1), row);
     }
-    assert_eq!(rt; TEXTS.lines().count(), 11);
+    same(&rt, "rows", TEXTS.lines().count(), 11);
 }

@@ -49,5 +49,5 @@ fn the_first_fault_of_a_shape_is_told(rt: HostRuntime) {
         let text = shaped(&rt, alloc, column(row, " => ", 0));
         says(&rt, alloc, &text, column(row, " => ", 1), row);
     }
-    assert_eq!(rt; SHAPES.lines().count(), 17);
+    same(&rt, "rows", SHAPES.lines().count(), 17);
 }

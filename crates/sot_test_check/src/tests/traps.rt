@@ -22,5 +22,5 @@ fn a_step_that_may_trap_is_told_with_its_place(rt: HostRuntime) {
         let text = mission(&rt, alloc, &vehicle, &cert);
         says(&rt, alloc, &text, column(row, " => ", 1), row);
     }
-    assert_eq!(rt; STEPS.lines().count(), 3);
+    same(&rt, "rows", STEPS.lines().count(), 3);
 }

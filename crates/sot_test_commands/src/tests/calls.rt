@@ -52,9 +52,7 @@ fn formatted(rt: &(impl Abort + Threads + Wait + Sync), alloc: Global, text: &st
     let bytes = Vec::from_slice(alloc, text.as_bytes()).expect(rt, "memory");
     let mut source = MemSource::new(bytes, 16, Vec::new(alloc));
     let mut sink = MemSink::new(alloc, 1000, 10, Vec::new(alloc)).expect(rt, "memory");
-    let ended = alone(rt, alloc, &words, &mut source, &mut sink);
-    let said = str::from_utf8(sink.bytes()).expect(rt, "memory");
-    format!(in alloc; "{} {said}", ended.0).expect(rt, "memory")
+    told(rt, alloc, &words, &mut source, &mut sink)
 }
 
 #[test]
@@ -64,9 +62,9 @@ fn formats_programs(rt: HostRuntime) {
         let text = lines_of(alloc, column(row, " => ", 0)).expect(&rt, "memory");
         let want = lines_of(alloc, column(row, " => ", 1)).expect(&rt, "memory");
         let said = formatted(&rt, alloc, &text);
-        assert_eq!(rt; said.as_str(), want.as_str(), "at {row}");
+        same(&rt, row, said.as_str(), want.as_str());
     }
-    assert_eq!(rt; SHORT.lines().count(), 8);
+    same(&rt, "rows", SHORT.lines().count(), 8);
 }
 
 // Each of these texts has this canonical one.
@@ -78,7 +76,7 @@ fn has_text(
 ) {
     for text in texts {
         let said = formatted(rt, alloc, text);
-        assert_eq!(rt; said.strip_prefix("0 "), Some(canonical), "at {text}");
+        same(rt, text, said.strip_prefix("0 "), Some(canonical));
     }
 }
 
@@ -99,18 +97,19 @@ fn answer_to_blanks(
 ) -> String {
     let words = words_of(rt, alloc, "check");
     let mut source = PureSource::new(vec![in alloc; b' '; len].expect(rt, "memory"));
-    let mut sink = MemSink::new(alloc, 100, 100, Vec::new(alloc)).expect(rt, "memory");
-    let ended = alone(rt, alloc, &words, &mut source, &mut sink);
-    let said = str::from_utf8(sink.bytes()).expect(rt, "memory");
-    format!(in alloc; "{} {said}", ended.0).expect(rt, "memory")
+    let mut sink = sink_for(rt, alloc, 100);
+    told(rt, alloc, &words, &mut source, &mut sink)
 }
 
 #[test]
 fn reads_sixteen_mebibytes_and_no_more(rt: HostRuntime) {
-    let longest = answer_to_blanks(&rt, rt.alloc(), LIMIT);
-    assert_eq!(rt; longest.as_str(), "3 fault section line 2 Missing\n");
-    let above = answer_to_blanks(&rt, rt.alloc(), LIMIT + 1);
-    assert_eq!(rt; above.as_str(), "7 fault input above 16777216 bytes\n");
+    for (blanks, want) in [
+        (LIMIT, "3 fault section line 2 Missing\n"),
+        (LIMIT + 1, "7 fault input above 16777216 bytes\n"),
+    ] {
+        let said = answer_to_blanks(&rt, rt.alloc(), blanks);
+        same(&rt, blanks, said.as_str(), want);
+    }
 }
 
 // Words that ask for nothing, one list a line.
@@ -123,12 +122,7 @@ checks
 
 #[test]
 fn reads_nothing_at_other_words(rt: HostRuntime) {
-    let alloc = rt.alloc();
-    let want = format!(in alloc; "2 before topic: {USAGE}").expect(&rt, "memory");
-    for words in OTHERS.lines() {
-        answers(&rt, alloc, words, LINE, &want);
-    }
-    assert_eq!(rt; OTHERS.lines().count(), 6);
+    turns_away(&rt, rt.alloc(), OTHERS, 6, LINE, "topic")
 }
 
 // Words, and the command that they are, where they are one.
@@ -159,7 +153,7 @@ fn knows_commands_by_their_words(rt: HostRuntime) {
     for row in COMMANDS.lines() {
         let words = words_of(&rt, alloc, column(row, " => ", 0));
         let found = format!(in alloc; "{:?}", command_of(alloc, &words)).expect(&rt, "memory");
-        assert_eq!(rt; found.as_str(), column(row, " => ", 1), "at {row}");
+        same(&rt, row, found.as_str(), column(row, " => ", 1));
     }
-    assert_eq!(rt; COMMANDS.lines().count(), 20);
+    same(&rt, "rows", COMMANDS.lines().count(), 20);
 }

@@ -99,7 +99,7 @@ fn tells_why_there_is_no_certificate(rt: HostRuntime) {
         let text = program(alloc, column(row, " => ", 0)).expect(&rt, "memory");
         answers(&rt, alloc, "certify", &text, column(row, " => ", 1));
     }
-    assert_eq!(rt; REFUSED.lines().count(), 8);
+    same(&rt, "rows", REFUSED.lines().count(), 8);
 }
 
 #[test]

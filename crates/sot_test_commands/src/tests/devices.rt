@@ -73,9 +73,7 @@ fn ended(
         vec![in alloc; failing.write].expect(rt, "memory"),
     )
     .expect(rt, "memory");
-    let status = alone(rt, alloc, &words, &mut source, &mut sink);
-    let held = str::from_utf8(sink.bytes()).expect(rt, "memory");
-    format!(in alloc; "{} {held}", status.0).expect(rt, "memory")
+    told(rt, alloc, &words, &mut source, &mut sink)
 }
 
 // With such a failure a command ends so: its status, and what its sink holds.
@@ -92,12 +90,8 @@ fn ends(
 {
     let want = format!(in alloc; "{status} {held}").expect(rt, "memory");
     let said = ended(rt, alloc, word, piece, failing);
-    let Failing { read, write } = failing;
-    assert_eq!(rt;
-        said.as_str(),
-        want.as_str(),
-        "{word}, read {read} and write {write} in pieces of {piece}"
-    );
+    let asked = (word, (failing.read, failing.write), piece);
+    same(rt, asked, said.as_str(), want.as_str());
 }
 
 // How many reads bring so many bytes and the end behind them.

@@ -1,9 +1,6 @@
 //! Tests of `fly` on whole missions.
 
-ghost use Rattle.std.specs.Prelude.{None};
-
 use super::*;
-use sot_commands::{Draft, View};
 use sot_test_shared_texts::SWITCHED;
 
 // A node that copies what comes from outside, and nothing to certify.
@@ -56,7 +53,7 @@ fn flies_what_is_accepted_and_starts_inside(rt: HostRuntime) {
         let text = flown(alloc, column(row, " => ", 0)).expect(&rt, "memory");
         answers(&rt, alloc, "fly", &text, column(row, " => ", 1));
     }
-    assert_eq!(rt; FLIGHTS.lines().count(), 4);
+    same(&rt, "rows", FLIGHTS.lines().count(), 4);
     answers(
         &rt,
         alloc,
@@ -83,43 +80,17 @@ fn flies_inputs_and_switches(rt: HostRuntime) {
     )
 }
 
-// A guest that drafts one number, and tells nothing of its askings.
-#[derive(Drop)]
-struct Stubborn {
-    number: i64,
-}
-
-impl Controller for Stubborn {
-    ghost asked = { λ _. None };
-
-    fn decide(&mut self, _view: &View, draft: &mut Draft) {
-        draft.set(0, self.number);
-    }
-}
-
 #[test]
 fn asks_the_guest_that_a_flight_names(rt: HostRuntime) {
     let alloc = rt.alloc();
     let flight = "\"index\":0,\"kind\":\"guest\" ; 3 ; 0 ; \"kind\":\"list\",\"values\":[[0]]";
     let text = flown(alloc, flight).expect(&rt, "memory");
     let words = words_of(&rt, alloc, "fly");
-    let mut guests = Vec::new(alloc);
-    guests.push(Stubborn { number: 7 }).expect(&rt, "memory");
-    let mut source = PureSource::new(text.into_bytes());
-    let mut sink = MemSink::new(alloc, 2000, 2000, Vec::new(alloc)).expect(&rt, "memory");
-    let ended = soter(
+    let said = guided(&rt, alloc, &words, &text, Stubborn { number: 7 });
+    same(
         &rt,
-        alloc,
-        &words,
-        &mut guests,
-        &mut source,
-        &mut sink,
-        Process::GoesOn,
-    );
-    let said = str::from_utf8(sink.bytes()).expect(&rt, "memory");
-    let answer = format!(in alloc; "{} {said}", ended.0).expect(&rt, "memory");
-    assert_eq!(rt;
-        answer.as_str(),
-        "0 soter trace 1\nstart pos 0\n0 decide nav ac\n0 tick pos(0)=0\n1 idle slow cmd=0\n1 tick pos(0)=0\n2 fire fast cmd!7\n2 tick pos(0)=0\nend 3 events 6 refused 1\n"
+        flight,
+        said.as_str(),
+        "0 soter trace 1\nstart pos 0\n0 decide nav ac\n0 tick pos(0)=0\n1 idle slow cmd=0\n1 tick pos(0)=0\n2 fire fast cmd!7\n2 tick pos(0)=0\nend 3 events 6 refused 1\n",
     );
 }

@@ -22,7 +22,7 @@ fn takes_numbers_in_their_bounds(rt: HostRuntime) {
         let said = answer(&rt, alloc, column(row, " => ", 0), "x");
         let made = said.strip_prefix("0 before x: ").unwrap_or("");
         let len = format!(in alloc; "{}", made.len()).expect(&rt, "memory");
-        assert_eq!(rt; len.as_str(), column(row, " => ", 1), "at {row}");
+        same(&rt, row, len.as_str(), column(row, " => ", 1));
     }
 }
 
@@ -49,10 +49,5 @@ fly,1,1
 
 #[test]
 fn turns_other_words_away(rt: HostRuntime) {
-    let alloc = rt.alloc();
-    let want = format!(in alloc; "2 before x: {USAGE}").expect(&rt, "memory");
-    for words in OTHERS.lines() {
-        answers(&rt, alloc, words, "x", &want);
-    }
-    assert_eq!(rt; OTHERS.lines().count(), 19);
+    turns_away(&rt, rt.alloc(), OTHERS, 19, "x", "x")
 }

@@ -36,7 +36,7 @@ fn tells_the_first_of_two_reasons(rt: HostRuntime) {
         let text = two_modules(alloc, column(row, " => ", 0)).expect(&rt, "memory");
         answers(&rt, alloc, "certify", &text, column(row, " => ", 1));
     }
-    assert_eq!(rt; ORDERS.lines().count(), 4);
+    same(&rt, "rows", ORDERS.lines().count(), 4);
 }
 
 // Behind the canonical text of a program `certify` writes these lines.
@@ -159,7 +159,7 @@ fn both_lists_have_as_many_cells_as_there_may_be(rt: HostRuntime) {
     ).expect(&rt, "memory");
     certifies(&rt, alloc, EACH_POINT, &line);
     let said = answer(&rt, alloc, "certify", EACH_POINT);
-    assert_eq!(rt; said.len(), "0 ".len() + 110_530);
+    same(&rt, "bytes", said.len(), "0 ".len() + 110_530);
     let mission = said.strip_prefix("0 ").unwrap_or("");
     answers(
         &rt,

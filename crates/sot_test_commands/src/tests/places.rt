@@ -27,7 +27,7 @@ node copy period 6 offset 0 {
 fn tells_what_nests_too_deep(rt: HostRuntime) {
     let alloc = rt.alloc();
     let said = answer(&rt, alloc, "format", &relay(&rt, alloc, 63));
-    assert!(rt; said.starts_with("0 "), "of 63 denials");
+    same(&rt, "63 denials", said.starts_with("0 "), true);
     let deep = "3 fault syntax line 7 column 269 Deep~";
     answers(&rt, alloc, "format", &relay(&rt, alloc, 64), deep)
 }
@@ -46,7 +46,7 @@ fn tells_the_first_token_that_fits_nowhere(rt: HostRuntime) {
         let text = lines_of(alloc, column(row, " => ", 0)).expect(&rt, "memory");
         answers(&rt, alloc, "check", &text, column(row, " => ", 1));
     }
-    assert_eq!(rt; TOKENS.lines().count(), 5);
+    same(&rt, "rows", TOKENS.lines().count(), 5);
 }
 
 #[test]
@@ -56,7 +56,7 @@ fn rejects_each_beginning_of_a_mission(rt: HostRuntime) {
     let mut beginning = String::new(alloc);
     for letter in text.trim_end().chars() {
         let said = answer(&rt, alloc, "check", &beginning);
-        assert!(rt; said.starts_with("3 "), "of {beginning}");
+        same(&rt, beginning.as_str(), said.starts_with("3 "), true);
         beginning.push(letter).expect(&rt, "memory");
     }
     // The line end at its end may be left out.

@@ -68,7 +68,7 @@ fn says_within_how_many_holds_modules_recover(rt: HostRuntime) {
         let text = vehicle(alloc, body, safer, form, middle).expect(&rt, "memory");
         answers(&rt, alloc, "recover", &text, column(row, " => ", 1));
     }
-    assert_eq!(rt; ROWS.lines().count(), 5);
+    same(&rt, "rows", ROWS.lines().count(), 5);
 }
 
 // Where there is no module there is nothing to say, and a program alone is no mission.

@@ -44,7 +44,7 @@ fn tells_whether_a_trace_is_legal(rt: HostRuntime) {
         );
         answers(&rt, alloc, "replay", &text, column(row, " => ", 2));
     }
-    assert_eq!(rt; TRACES.lines().count(), 5);
+    same(&rt, "rows", TRACES.lines().count(), 5);
 }
 
 #[test]

@@ -22,7 +22,7 @@ fn flies_the_mission_that_is_made_and_counts(rt: HostRuntime) {
             column(row, " => ", 1),
         );
     }
-    assert_eq!(rt; SOAKED.lines().count(), 5);
+    same(&rt, "rows", SOAKED.lines().count(), 5);
 }
 
 // Words that are no count and no seed of a mission, and too many or too few words.
@@ -40,10 +40,5 @@ Soak,1,1";
 
 #[test]
 fn turns_words_away_as_make_does(rt: HostRuntime) {
-    let alloc = rt.alloc();
-    let want = format!(in alloc; "2 before x: {USAGE}").expect(&rt, "memory");
-    for words in OTHERS.lines() {
-        answers(&rt, alloc, words, "x", &want);
-    }
-    assert_eq!(rt; OTHERS.lines().count(), 11);
+    turns_away(&rt, rt.alloc(), OTHERS, 11, "x", "x")
 }

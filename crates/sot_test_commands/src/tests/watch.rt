@@ -1,9 +1,6 @@
 //! Tests of `watch` on whole missions. Expected answers are those of an independent program.
 
-ghost use Rattle.std.specs.Prelude.{None};
-
 use super::*;
-use sot_commands::{Draft, View};
 use sot_test_shared_texts::SWITCHED;
 
 // A vehicle on a line, at most one of whose nodes is due in any instant.
@@ -48,11 +45,9 @@ fn watched(
     text: &str,
 ) -> String {
     let words = words_with(rt, alloc, formula);
-    let mut source = PureSource::new(Vec::from_slice(alloc, text.as_bytes()).expect(rt, "memory"));
-    let mut sink = MemSink::new(alloc, 2000, 2000, Vec::new(alloc)).expect(rt, "memory");
-    let ended = alone(rt, alloc, &words, &mut source, &mut sink);
-    let said = str::from_utf8(sink.bytes()).expect(rt, "memory");
-    format!(in alloc; "{} {said}", ended.0).expect(rt, "memory")
+    let mut source = source_of(rt, alloc, text);
+    let mut sink = sink_for(rt, alloc, 2000);
+    told(rt, alloc, &words, &mut source, &mut sink)
 }
 
 // The status and the text of `watch` with a formula that is copied first, over a mission.
@@ -93,9 +88,9 @@ fn says_whether_a_formula_holds(rt: HostRuntime) {
         let said = says(&rt, alloc, column(row, " => ", 0), &text);
         let (status, line) = (column(row, " => ", 1), column(row, " => ", 2));
         let whole = format!(in alloc; "{status} {SWITCHED}{line}\n").expect(&rt, "memory");
-        assert_eq!(rt; said.as_str(), whole.as_str(), "at {row}");
+        same(&rt, row, said.as_str(), whole.as_str());
     }
-    assert_eq!(rt; HOLDS.lines().count(), 16);
+    same(&rt, "rows", HOLDS.lines().count(), 16);
 }
 
 // Formulas that have no meaning for the vehicle, and why.
@@ -127,9 +122,9 @@ fn says_why_a_formula_has_no_meaning(rt: HostRuntime) {
         let said = says(&rt, alloc, column(row, " => ", 0), &text);
         let kind = column(row, " => ", 1);
         let want = format!(in alloc; "3 fault formula {kind}\n").expect(&rt, "memory");
-        assert_eq!(rt; said.as_str(), want.as_str(), "at {row}");
+        same(&rt, row, said.as_str(), want.as_str());
     }
-    assert_eq!(rt; FAULTS.lines().count(), 19);
+    same(&rt, "rows", FAULTS.lines().count(), 19);
 }
 
 // A text so often behind another.
@@ -152,13 +147,16 @@ fn nested(rt: &impl Abort, alloc: Global, levels: usize) -> String {
 fn formulas_have_64_levels(rt: HostRuntime) {
     let alloc = rt.alloc();
     let text = flown(alloc, SCRIPT, 0, 0).expect(&rt, "memory");
-    let most = watched(&rt, alloc, nested(&rt, alloc, 63), &text);
-    assert_eq!(rt;
-        most.as_str(),
-        "1 soter trace 1\nstart pos 0\n0 decide nav ac\nend 0 events 1 refused 0\nrefused watch time 0\n"
-    );
-    let above = watched(&rt, alloc, nested(&rt, alloc, 64), &text);
-    assert_eq!(rt; above.as_str(), "3 fault formula Form\n");
+    for (levels, want) in [
+        (
+            63,
+            "1 soter trace 1\nstart pos 0\n0 decide nav ac\nend 0 events 1 refused 0\nrefused watch time 0\n",
+        ),
+        (64, "3 fault formula Form\n"),
+    ] {
+        let said = watched(&rt, alloc, nested(&rt, alloc, levels), &text);
+        same(&rt, levels, said.as_str(), want);
+    }
 }
 
 // A formula that holds, with so many blanks behind it.
@@ -173,13 +171,16 @@ fn long(rt: &impl Abort, alloc: Global, blanks: usize) -> String {
 fn formulas_have_sixteen_mebibytes(rt: HostRuntime) {
     let alloc = rt.alloc();
     let text = flown(alloc, SCRIPT, 0, 0).expect(&rt, "memory");
-    let most = watched(&rt, alloc, long(&rt, alloc, 16_777_212), &text);
-    assert_eq!(rt;
-        most.as_str(),
-        "0 soter trace 1\nstart pos 0\n0 decide nav ac\nend 0 events 1 refused 0\nwatch holds moments 1\n"
-    );
-    let above = watched(&rt, alloc, long(&rt, alloc, 16_777_213), &text);
-    assert_eq!(rt; above.as_str(), "3 fault formula Form\n");
+    for (blanks, want) in [
+        (
+            16_777_212,
+            "0 soter trace 1\nstart pos 0\n0 decide nav ac\nend 0 events 1 refused 0\nwatch holds moments 1\n",
+        ),
+        (16_777_213, "3 fault formula Form\n"),
+    ] {
+        let said = watched(&rt, alloc, long(&rt, alloc, blanks), &text);
+        same(&rt, blanks, said.as_str(), want);
+    }
 }
 
 // A fault of the mission comes before one of the formula, and this one before a refusal and a
@@ -208,7 +209,7 @@ fn tells_the_first_of_several_causes(rt: HostRuntime) {
         ),
     ] {
         let said = says(&rt, alloc, formula, text);
-        assert_eq!(rt; said.as_str(), want, "at {formula}");
+        same(&rt, (formula, want), said.as_str(), want);
     }
 }
 
@@ -220,26 +221,7 @@ Watch,true";
 
 #[test]
 fn takes_one_formula_that_does_not_begin_with_a_dash(rt: HostRuntime) {
-    let alloc = rt.alloc();
-    let want = format!(in alloc; "2 before x: {USAGE}").expect(&rt, "memory");
-    for words in OTHERS.lines() {
-        answers(&rt, alloc, words, "x", &want);
-    }
-    assert_eq!(rt; OTHERS.lines().count(), 4);
-}
-
-// A guest that drafts one number, and tells nothing of its askings.
-#[derive(Drop)]
-struct Stubborn {
-    number: i64,
-}
-
-impl Controller for Stubborn {
-    ghost asked = { λ _. None };
-
-    fn decide(&mut self, _view: &View, draft: &mut Draft) {
-        draft.set(0, self.number);
-    }
+    turns_away(&rt, rt.alloc(), OTHERS, 4, "x", "x")
 }
 
 #[test]
@@ -248,23 +230,11 @@ fn asks_the_guest_that_a_flight_names(rt: HostRuntime) {
     let text = flown(alloc, GUEST, 3, 0).expect(&rt, "memory");
     let formula = String::from_str(alloc, "not(once(cmd == 1))").expect(&rt, "memory");
     let words = words_with(&rt, alloc, formula);
-    let mut guests = Vec::new(alloc);
-    guests.push(Stubborn { number: 1 }).expect(&rt, "memory");
-    let mut source = PureSource::new(text.into_bytes());
-    let mut sink = MemSink::new(alloc, 2000, 2000, Vec::new(alloc)).expect(&rt, "memory");
-    let ended = soter(
+    let said = guided(&rt, alloc, &words, &text, Stubborn { number: 1 });
+    same(
         &rt,
-        alloc,
-        &words,
-        &mut guests,
-        &mut source,
-        &mut sink,
-        Process::GoesOn,
-    );
-    let said = str::from_utf8(sink.bytes()).expect(&rt, "memory");
-    let answer = format!(in alloc; "{} {said}", ended.0).expect(&rt, "memory");
-    assert_eq!(rt;
-        answer.as_str(),
-        "1 soter trace 1\nstart pos 0\n0 decide nav ac\n0 tick pos(0)=0\n1 idle slow cmd=0\n1 tick pos(0)=0\n2 fire fast cmd=1\n2 tick pos(0)=1\nend 3 events 6 refused 0\nrefused watch time 2\n"
+        "not(once(cmd == 1))",
+        said.as_str(),
+        "1 soter trace 1\nstart pos 0\n0 decide nav ac\n0 tick pos(0)=0\n1 idle slow cmd=0\n1 tick pos(0)=0\n2 fire fast cmd=1\n2 tick pos(0)=1\nend 3 events 6 refused 0\nrefused watch time 2\n",
     );
 }

@@ -244,7 +244,7 @@ fn bodies_run_in_flat_form(rt: HostRuntime) {
         let (given, want) = halves(row);
         for way in [Way::Walked, Way::Flat] {
             let said = said_of(alloc, &loaded.program, way, given).expect(&rt, "memory");
-            assert_eq!(rt; said.as_str(), want, "{way:?} at {row}");
+            same(&rt, (way, row), said.as_str(), want);
         }
     }
 }

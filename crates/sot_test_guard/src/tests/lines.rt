@@ -100,6 +100,6 @@ fn lines_come_one_by_one(rt: HostRuntime) {
     for row in ROWS.lines() {
         let (given, want) = halves(row);
         let said = said_of(alloc, given).expect(&rt, "memory");
-        assert_eq!(rt; said.as_str(), want, "at {row}");
+        same(&rt, row, said.as_str(), want);
     }
 }

@@ -161,7 +161,7 @@ fn is_said(rt: &impl Abort, alloc: Global, p: &Typed, row: &str)
 {
     let (line, want) = halves(row);
     let said = said_of(rt, alloc, p, line);
-    assert_eq!(rt; said.as_str(), want, "at {row}");
+    same(rt, row, said.as_str(), want);
 }
 
 #[test]
@@ -178,7 +178,7 @@ fn a_list_has_room_for_any_line(rt: HostRuntime) {
     let alloc = rt.alloc();
     let loaded = loaded(&rt, alloc, MISSION);
     let numbers = numbers_of_lines(alloc, &loaded.program).expect(&rt, "memory");
-    assert!(rt; numbers.is_empty());
+    same(&rt, "numbers", numbers.len(), 0);
     // Two plants, and five scalars: two of the wind, one command and two of the lamp.
-    assert!(rt; numbers.capacity() >= 4 * 2 + 5);
+    same(&rt, "room", numbers.capacity() >= 4 * 2 + 5, true);
 }

@@ -66,6 +66,6 @@ fn texts_arrive_or_a_front_of_them(rt: HostRuntime) {
     for row in ROWS.lines() {
         let (given, want) = halves(row);
         let said = said_of(alloc, given).expect(&rt, "memory");
-        assert_eq!(rt; said.as_str(), want, "at {row}");
+        same(&rt, row, said.as_str(), want);
     }
 }

@@ -538,7 +538,7 @@ fn goes(rt: &(impl Abort + Threads + Sync), alloc: Global, mission: &str, log: &
     };
     let lines = lines_of(alloc, log, "").expect(rt, "memory");
     let said = log_of(alloc, &accepted, lines.as_slice()).expect(rt, "memory");
-    assert_eq!(rt; said.as_str(), log);
+    same(rt, "log", said.as_str(), log);
 }
 
 #[test]
@@ -557,7 +557,7 @@ fn ends(rt: &impl Abort, alloc: Global, acc: &Accepted<'_>, row: &str)
     let lines = lines_of(alloc, "", given).expect(rt, "memory");
     let said = log_of(alloc, acc, lines.as_slice()).expect(rt, "memory");
     let last = said.as_str().lines().last().unwrap_or("");
-    assert_eq!(rt; last, want, "at {row}");
+    same(rt, row, last, want);
 }
 
 #[test]
