@@ -5,8 +5,8 @@ use Rattle.sot_box.specs.BoxList.{BoxList}
 use Rattle.sot_lang.specs.declared.tables.ModuleInfo.{ModuleInfo}
 use Rattle.sot_lang.specs.Tables.{Tables}
 use Rattle.sot_lang.specs.Line.{line}
+use Rattle.sot_rules.specs.FaultlessPrograms.{the_line}
 use Rattle.sot_typing.specs.Resolved.{ProgramTables, tables_seen, tables_of}
-use Rattle.sot_typing.specs.Examples as examples
 use Rattle.sot_law_same_tables.specs.UnplacedTables.{unplaced_tables}
 use Rattle.sot_test_missions.specs.Line.{IsMove, IsLine}
 
@@ -24,7 +24,7 @@ plain_tables t = record (unplaced_tables t) { modules = map plain_module t.modul
 -- the tables that are made of the program of the running example are its tables, for any allocator
 abbrev pub MadeTablesAreTheLine : Type 0
 MadeTablesAreTheLine =
-    (g : Global) → plain_tables (tables_of examples.line) ≡ plain_tables (tables_seen (line g))
+    (g : Global) → plain_tables (tables_of the_line) ≡ plain_tables (tables_seen (line g))
 
 -- the worked tables of the running example are its tables
 abbrev pub WorkedTablesAreTheLine : Type 0
